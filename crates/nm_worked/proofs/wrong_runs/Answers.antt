@@ -1,0 +1,78 @@
+-- Each is worked out in the module of its name.
+use Rattle.nm_worked.proofs.CancelledThoughPaired as cancelled_though_paired
+use Rattle.nm_worked.proofs.ClaimedNewest as claimed_newest
+use Rattle.nm_worked.proofs.CountWrong as count_wrong
+use Rattle.nm_worked.proofs.EndedUnderWay as ended_under_way
+use Rattle.nm_worked.proofs.LaterReceive as later_receive
+use Rattle.nm_worked.proofs.LeftBeforeTaken as left_before_taken
+use Rattle.nm_worked.proofs.LeftUntaken as left_untaken
+use Rattle.nm_worked.proofs.MatchedThoughUnclaimed as matched_though_unclaimed
+use Rattle.nm_worked.proofs.NewestBytes as newest_bytes
+use Rattle.nm_worked.proofs.NewestTaken as newest_taken
+use Rattle.nm_worked.proofs.Overtaken as overtaken
+use Rattle.nm_worked.proofs.ReceivedThoughClaimed as received_though_claimed
+use Rattle.nm_worked.proofs.StampRepeated as stamp_repeated
+use Rattle.nm_worked.proofs.StartExtra as start_extra
+use Rattle.nm_worked.proofs.StartMissing as start_missing
+use Rattle.nm_worked.proofs.WaitsThoughDone as waits_though_done
+use Rattle.nm_worked.proofs.WholeUntaken as whole_untaken
+use Rattle.nm_worked.proofs.WithdrawnThoughClaimed as withdrawn_though_claimed
+use Rattle.nm_worked.proofs.WithdrawnThoughTaken as withdrawn_though_taken
+use Rattle.nm_worked.proofs.wrong_runs.Goals as goal
+
+pub returns-clause-not_cancelled_though_paired : goal.returns-clause-not_cancelled_though_paired
+returns-clause-not_cancelled_though_paired c = cancelled_though_paired.wrong
+
+pub returns-clause-not_claimed_newest : goal.returns-clause-not_claimed_newest
+returns-clause-not_claimed_newest c = claimed_newest.wrong
+
+pub returns-clause-not_count_wrong : goal.returns-clause-not_count_wrong
+returns-clause-not_count_wrong c = count_wrong.wrong
+
+pub returns-clause-not_ended_under_way : goal.returns-clause-not_ended_under_way
+returns-clause-not_ended_under_way c = ended_under_way.wrong
+
+pub returns-clause-not_later_receive : goal.returns-clause-not_later_receive
+returns-clause-not_later_receive c = later_receive.wrong
+
+pub returns-clause-not_left_before_taken : goal.returns-clause-not_left_before_taken
+returns-clause-not_left_before_taken c = left_before_taken.wrong
+
+pub returns-clause-not_left_untaken : goal.returns-clause-not_left_untaken
+returns-clause-not_left_untaken c = left_untaken.wrong
+
+pub returns-clause-not_matched_though_unclaimed : goal.returns-clause-not_matched_though_unclaimed
+returns-clause-not_matched_though_unclaimed c = matched_though_unclaimed.wrong
+
+pub returns-clause-not_newest_bytes : goal.returns-clause-not_newest_bytes
+returns-clause-not_newest_bytes c = newest_bytes.wrong
+
+pub returns-clause-not_newest_taken : goal.returns-clause-not_newest_taken
+returns-clause-not_newest_taken c = newest_taken.wrong
+
+pub returns-clause-not_overtaken : goal.returns-clause-not_overtaken
+returns-clause-not_overtaken c = overtaken.wrong
+
+pub returns-clause-not_received_though_claimed : goal.returns-clause-not_received_though_claimed
+returns-clause-not_received_though_claimed c = received_though_claimed.wrong
+
+pub returns-clause-not_stamp_repeated : goal.returns-clause-not_stamp_repeated
+returns-clause-not_stamp_repeated c = stamp_repeated.wrong
+
+pub returns-clause-not_start_extra : goal.returns-clause-not_start_extra
+returns-clause-not_start_extra c = start_extra.wrong
+
+pub returns-clause-not_start_missing : goal.returns-clause-not_start_missing
+returns-clause-not_start_missing c = start_missing.wrong
+
+pub returns-clause-not_waits_though_done : goal.returns-clause-not_waits_though_done
+returns-clause-not_waits_though_done c = waits_though_done.wrong
+
+pub returns-clause-not_whole_untaken : goal.returns-clause-not_whole_untaken
+returns-clause-not_whole_untaken c = whole_untaken.wrong
+
+pub returns-clause-not_withdrawn_though_claimed : goal.returns-clause-not_withdrawn_though_claimed
+returns-clause-not_withdrawn_though_claimed c = withdrawn_though_claimed.wrong
+
+pub returns-clause-not_withdrawn_though_taken : goal.returns-clause-not_withdrawn_though_taken
+returns-clause-not_withdrawn_though_taken c = withdrawn_though_taken.wrong
