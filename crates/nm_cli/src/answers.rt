@@ -1,0 +1,92 @@
+//! What there is to say of the words and the source, and how it is said.
+
+ghost use Rattle.std.specs.Prelude.{◌≡◌, false, IfOk};
+ghost use Rattle.nm_cli.specs.Answers.{fault_text, kind_text, run_of, status_of, text_of};
+
+use nm_report::RunRecord;
+use nm_script::Kind;
+use nm_types::Memory;
+use std::alloc::{AllocError, Global};
+
+/// What there is to say.
+#[derive(Drop)]
+pub enum Answer {
+    /// The words are not taken.
+    Usage,
+    /// The source failed.
+    Unread,
+    /// The bytes are no script.
+    Refused { line: u32, kind: Kind },
+    /// The script ran.
+    Ran(RunRecord),
+}
+
+/// The text of an answer, whole and in memory.
+pub fn text(alloc: Global, answer: &Answer) -> Result<Vec<u8>, Memory>
+    ensures { IfOk result (λ text. text.items ≡ text_of answer.now) }
+{
+    match answer {
+        Answer::Usage => Ok(line(alloc, "usage: nemesis run\n")?),
+        Answer::Unread => Ok(line(alloc, "fault read\n")?),
+        Answer::Refused { line, kind } => Ok(fault(alloc, *line, *kind)?),
+        Answer::Ran(run) => nm_report::text(alloc, run, false),
+    }
+}
+
+/// The status of an answer that was written.
+pub fn status(answer: &Answer) -> u8
+    ensures { result ≡ status_of answer.now }
+{
+    match answer {
+        Answer::Ran(run) => {
+            if run.done {
+                0
+            } else {
+                1
+            }
+        }
+        Answer::Usage => 2,
+        Answer::Refused { .. } => 3,
+        Answer::Unread => 4,
+    }
+}
+
+/// The record of an answer.
+pub fn record(answer: Answer) -> Option<RunRecord>
+    ensures { result ≡ run_of answer }
+{
+    match answer {
+        Answer::Ran(run) => Some(run),
+        _ => None,
+    }
+}
+
+fn line(alloc: Global, text: &str) -> Result<Vec<u8>, AllocError>
+    ensures { IfOk result (λ bytes. bytes.items ≡ text.now) }
+{
+    Vec::from_slice(alloc, text.as_bytes())
+}
+
+fn fault(alloc: Global, line: u32, kind: Kind) -> Result<Vec<u8>, AllocError>
+    ensures { IfOk result (λ bytes. bytes.items ≡ fault_text line kind) }
+{
+    let text = format!(in alloc; "fault script {} {}\n", line, kind_name(kind))?;
+    Ok(text.into_bytes())
+}
+
+fn kind_name(kind: Kind) -> &'static str
+    ensures { result.now ≡ kind_text kind }
+{
+    match kind {
+        Kind::TooLong => "toolong",
+        Kind::NotAscii => "notascii",
+        Kind::Lines => "lines",
+        Kind::First => "first",
+        Kind::Rank => "rank",
+        Kind::Command => "command",
+        Kind::Count => "count",
+        Kind::Number => "number",
+        Kind::Body => "body",
+        Kind::BodyTotal => "bodytotal",
+    }
+}

@@ -1,0 +1,11 @@
+use Rattle.std.proofs.Common.{◌≡◌, ◌++◌, drop, flat_map, string_bytes}
+use Rattle.nm_report.specs.Report.{ran_line}
+use Rattle.nm_report.proofs.reports.push_answers.Given as goal
+
+-- what is written and what is still to write are all
+abbrev pub invariant-loop-k : goal.invariant-loop-k
+invariant-loop-k l =
+    string_bytes l.out
+    ++ flat_map (λ event. ran_line l.rank event.what) (drop l.k l.account.history.events)
+    ≡ string_bytes l.fn.out
+    ++ flat_map (λ event. ran_line l.rank event.what) l.account.history.events

@@ -1,0 +1,15 @@
+-- The record of a run as the lists that quiescence speaks of.
+use Rattle.std.specs.Prelude.{List, map}
+use Rattle.nm_history.specs.Quiescence.{Ended, Packets}
+use Rattle.nm_report.specs.declared.accounts.RankAccount.{RankAccount}
+use Rattle.nm_report.specs.declared.pairs.PairCount.{PairCount}
+
+-- the ends of the ranks
+abbrev pub ends_of : List RankAccount → List Ended
+ends_of ranks =
+    map (λ rank. record { at = rank.at; waits = rank.waits; events = rank.history.events }) ranks
+
+-- the counts of the packets
+abbrev pub packets_of : List PairCount → List Packets
+packets_of pairs =
+    map (λ pair. record { from = pair.from; to = pair.to; count = pair.packets }) pairs

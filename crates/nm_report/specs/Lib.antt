@@ -1,0 +1,6 @@
+pub mod Answers
+pub mod Cells
+pub mod Ends
+pub mod Events
+pub mod Layout
+pub mod Report

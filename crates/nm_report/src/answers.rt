@@ -1,0 +1,41 @@
+//! Answers as text.
+
+ghost use Rattle.std.specs.Prelude.{◌≡◌, ◌++◌, OnOk, string_bytes};
+ghost use Rattle.nm_report.specs.Answers.{answer_words, body_word};
+
+use nm_types::Answer;
+use std::alloc::{AllocError, Global};
+
+/// Writes an answer, but for the bytes of a message.
+pub(crate) fn push_answer(out: &mut String, answer: &Answer) -> Result<(), AllocError>
+    ensures ok { OnOk result
+        (string_bytes out.new ≡ string_bytes out.old ++ answer_words answer.now) }
+{
+    match answer {
+        Answer::Started => out.push_str("started"),
+        Answer::Busy => out.push_str("busy"),
+        Answer::Null => out.push_str("null"),
+        Answer::No => out.push_str("no"),
+        Answer::Nothing => out.push_str("none"),
+        Answer::Sent => out.push_str("sent"),
+        Answer::Got { from, tag, body } => write!(out, "got {from} {tag} {}", body.len()),
+        Answer::Cut { from, tag, len } => write!(out, "cut {from} {tag} {len}"),
+        Answer::Cancelled => out.push_str("cancelled"),
+        Answer::Seen(seen) => write!(out, "seen {} {} {}", seen.from, seen.tag, seen.len),
+        Answer::Done => out.push_str("done"),
+        Answer::Late => out.push_str("late"),
+        Answer::Asked => out.push_str("asked"),
+    }
+}
+
+/// Writes the bytes of a message, where the answer has them.
+pub(crate) fn push_body(alloc: Global, out: &mut String, answer: &Answer) -> Result<(), AllocError>
+    ensures ok { OnOk result (string_bytes out.new ≡ string_bytes out.old ++ body_word answer.now) }
+{
+    if let Answer::Got { body, .. } = answer {
+        let digits = hex::encode(alloc, body.as_slice())?;
+        out.push_str(" x")?;
+        out.push_str(&digits)?;
+    }
+    Ok(())
+}

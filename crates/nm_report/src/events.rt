@@ -1,0 +1,150 @@
+//! Events and counts of packets as the lines of a trace.
+
+ghost use Rattle.std.specs.Prelude.{◌≡◌, ◌++◌, OnOk, string_bytes, flat_map};
+ghost use Rattle.nm_types.specs.Text.{peer_word, tag_word};
+ghost use Rattle.nm_report.specs.Layout.{by_rank};
+ghost use Rattle.nm_report.specs.Events.{how_word, done_word, event_words, event_line};
+ghost use Rattle.nm_report.specs.Events.{event_lines, pair_line};
+
+use crate::answers::push_answer;
+use crate::{PairCount, RankAccount};
+use nm_history::{Event, Happened};
+use nm_types::{How, Peer, Post, TagPick};
+use std::alloc::AllocError;
+
+fn word_of_how(how: How) -> &'static str
+    ensures { result.now ≡ how_word how }
+{
+    match how {
+        How::Eager => "eager",
+        How::Ask => "ask",
+    }
+}
+
+fn done_or_late(done: bool) -> &'static str
+    ensures { result.now ≡ done_word done }
+{
+    if done { "done" } else { "late" }
+}
+
+fn push_peer(out: &mut String, peer: Peer) -> Result<(), AllocError>
+    ensures ok { OnOk result (string_bytes out.new ≡ string_bytes out.old ++ peer_word peer) }
+{
+    match peer {
+        Peer::Any => out.push_str("any"),
+        Peer::One(rank) => write!(out, "{rank}"),
+    }
+}
+
+fn push_tag(out: &mut String, tag: TagPick) -> Result<(), AllocError>
+    ensures ok { OnOk result (string_bytes out.new ≡ string_bytes out.old ++ tag_word tag) }
+{
+    match tag {
+        TagPick::Any => out.push_str("any"),
+        TagPick::One(tag) => write!(out, "{tag}"),
+    }
+}
+
+fn push_post(out: &mut String, post: &Post, line: u32) -> Result<(), AllocError>
+    ensures ok { OnOk result
+        (string_bytes out.new ≡ string_bytes out.old ++ event_words (Happened.Post post.now line)) }
+{
+    write!(out, "post {} ", post.number)?;
+    push_peer(out, post.from)?;
+    out.push_str(" ")?;
+    push_tag(out, post.tag)?;
+    write!(out, " {} {} {line}", post.ctx, post.cap)
+}
+
+/// Writes an event, but for its rank and its stamp.
+fn push_happened(out: &mut String, what: &Happened) -> Result<(), AllocError>
+    ensures ok { OnOk result (string_bytes out.new ≡ string_bytes out.old ++ event_words what.now) }
+{
+    match what {
+        Happened::Send {
+            to,
+            n,
+            tag,
+            ctx,
+            len,
+            how,
+            line,
+        } => {
+            let how = word_of_how(*how);
+            write!(out, "send {to} {n} {tag} {ctx} {len} {how} {line}")
+        }
+        Happened::Post { post, line } => push_post(out, post, *line),
+        Happened::Arrive { a } => {
+            let how = word_of_how(a.env.how);
+            write!(
+                out,
+                "arrive {} {} {} {} {} {how}",
+                a.env.from, a.n, a.env.tag, a.env.ctx, a.env.len
+            )
+        }
+        Happened::Whole { from, n } => write!(out, "whole {from} {n}"),
+        Happened::Out { to, n } => write!(out, "out {to} {n}"),
+        Happened::Cancel { number, done } => {
+            write!(out, "cancel {number} {}", done_or_late(*done))
+        }
+        Happened::Recall { to, n } => write!(out, "recall {to} {n}"),
+        Happened::Withdraw { from, n, done } => {
+            write!(out, "withdraw {from} {n} {}", done_or_late(*done))
+        }
+        Happened::Undone { to, n, done } => write!(out, "undone {to} {n} {}", done_or_late(*done)),
+        Happened::Claim { from, n, line } => write!(out, "claim {from} {n} {line}"),
+        Happened::Match {
+            number,
+            from,
+            n,
+            cap,
+            line,
+        } => write!(out, "match {number} {from} {n} {cap} {line}"),
+        Happened::Ran { line, answer } => {
+            write!(out, "ran {line} ")?;
+            push_answer(out, answer)
+        }
+    }
+}
+
+fn push_event(out: &mut String, rank: usize, event: &Event) -> Result<(), AllocError>
+    ensures ok { OnOk result
+        (string_bytes out.new ≡ string_bytes out.old ++ event_line rank event.now) }
+{
+    write!(out, "@ {rank} {} ", event.stamp)?;
+    push_happened(out, &event.what)?;
+    out.push_str("\n")
+}
+
+/// Writes a line for each event of a rank.
+fn push_events(out: &mut String, rank: usize, account: &RankAccount) -> Result<(), AllocError>
+    ensures ok { OnOk result
+        (string_bytes out.new ≡ string_bytes out.old ++ event_lines rank account.now) }
+{
+    for k in 0..account.history.len() {
+        push_event(out, rank, account.history.get(k).unwrap())?;
+    }
+    Ok(())
+}
+
+/// Writes a line for each event, rank by rank.
+pub(crate) fn push_all_events(out: &mut String, ranks: &[RankAccount]) -> Result<(), AllocError>
+    ensures ok { OnOk result
+        (string_bytes out.new ≡ string_bytes out.old ++ by_rank event_lines ranks.now) }
+{
+    for (rank, account) in ranks.iter().enumerate() {
+        push_events(out, rank, account)?;
+    }
+    Ok(())
+}
+
+/// Writes a line for each count of packets.
+pub(crate) fn push_pairs(out: &mut String, pairs: &[PairCount]) -> Result<(), AllocError>
+    ensures ok { OnOk result
+        (string_bytes out.new ≡ string_bytes out.old ++ flat_map pair_line pairs.now) }
+{
+    for pair in pairs {
+        write!(out, "pair {} {} {}\n", pair.from, pair.to, pair.packets)?;
+    }
+    Ok(())
+}

@@ -1,0 +1,29 @@
+//! The record of a run, and its report as text.
+//!
+//! A `RunRecord` has the history of each rank, how many packets went between each two ranks, and
+//! the account of the cells. A report has a line for each answer, the cells line, and `done` or
+//! `stuck`. A trace has before that a line for each event, and one for each count of packets.
+//!
+//! # What a contract sees
+//! `Accounts` and `Pairs` are lists; all else has public fields. The text is `report_text` of
+//! `specs/Report.antt`, which is built of one definition for each kind of line.
+//! # What is proved
+//! - The lists keep what is put into them, and a refused push changes nothing.
+//! - `text` gives exactly `report_text` of the record and the flag, or it is in want of memory.
+//! # What is only tested
+//! That `push` and `text` succeed with ample memory.
+#![tactic(auto)]
+
+mod accounts;
+mod answers;
+mod events;
+mod pairs;
+mod records;
+mod reports;
+#[cfg(test)]
+mod tests;
+
+pub use accounts::{Accounts, RankAccount};
+pub use pairs::{PairCount, Pairs};
+pub use records::RunRecord;
+pub use reports::text;

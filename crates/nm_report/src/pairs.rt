@@ -1,0 +1,88 @@
+//! How many packets went from rank to rank.
+
+ghost use Rattle.std.specs.Prelude.{◌≡◌, ◌≤◌, ◌↔◌, [], ◌∷◌, ◌++◌, length, IsNone, IsTrue};
+ghost use Rattle.std.specs.Prelude.{OnOk, OnErr, slice_get, option_copied};
+
+use nm_types::Memory;
+use std::alloc::Global;
+use std::marker::Model;
+
+/// How many packets went from one rank to another. Pieces of long messages aren't counted.
+#[derive(Clone, Copy, Debug, PartialEq, Eq)]
+pub struct PairCount {
+    pub from: u8,
+    pub to: u8,
+    pub packets: u64,
+}
+
+/// A list of counts, by sender and then destination. A pair with no packet is left out.
+#[derive(Debug, Drop)]
+pub struct Pairs {
+    items: Vec<PairCount>,
+}
+
+impl Model for Pairs {
+    ghost use Rattle.std.specs.Prelude.{List};
+    ghost use Rattle.nm_report.specs.declared.pairs.PairCount.{PairCount};
+
+    ghost Value = { List PairCount };
+
+    ghost view = { λ a. a.items.items };
+}
+
+impl Pairs {
+    /// The empty list.
+    pub fn new(alloc: Global) -> Self
+        ensures { result ≡ [] }
+    {
+        Pairs {
+            items: Vec::new(alloc),
+        }
+    }
+
+    pub fn from_vec(items: Vec<PairCount>) -> Self
+        ensures { result ≡ items.items }
+    {
+        Pairs { items }
+    }
+
+    pub fn into_vec(self) -> Vec<PairCount>
+        ensures { result.items ≡ self }
+    {
+        self.items
+    }
+
+    /// Puts a count at the end.
+    pub fn push(&mut self, pair: PairCount) -> Result<(), Memory>
+        ensures ok { OnOk result (self.new ≡ self.old ++ pair ∷ []) }
+        ensures err { OnErr result (self.new ≡ self.old) }
+    {
+        self.items.push(pair)?;
+        Ok(())
+    }
+
+    pub fn len(&self) -> usize
+        ensures { result ≡ length self.now }
+    {
+        self.items.len()
+    }
+
+    pub fn is_empty(&self) -> bool
+        ensures { IsTrue result ↔ (self.now ≡ []) }
+    {
+        self.items.is_empty()
+    }
+
+    pub fn get(&self, k: usize) -> Option<&PairCount>
+        ensures value { option_copied result ≡ slice_get self.now k }
+        ensures none { IsNone result ↔ (length self.now ≤ k) }
+    {
+        self.items.get(k)
+    }
+
+    pub fn as_slice(&self) -> &[PairCount]
+        ensures { result.now ≡ self.now }
+    {
+        self.items.as_slice()
+    }
+}

@@ -1,0 +1,104 @@
+//! The report of a run.
+
+ghost use Rattle.std.specs.Prelude.{◌≡◌, ◌++◌, IfOk, OnOk, string_bytes};
+ghost use Rattle.nm_report.specs.Layout.{by_rank};
+ghost use Rattle.nm_report.specs.Report.{answer_line, ran_line, answer_lines, end_line};
+ghost use Rattle.nm_report.specs.Report.{report_text};
+
+use crate::answers::{push_answer, push_body};
+use crate::events::{push_all_events, push_pairs};
+use crate::{RankAccount, RunRecord};
+use nm_history::Happened;
+use nm_types::{Answer, Memory};
+use std::alloc::{AllocError, Global};
+
+/// Writes the line of an answer, but none where a start was taken.
+fn push_answer_line(
+    alloc: Global,
+    out: &mut String,
+    rank: usize,
+    line: u32,
+    answer: &Answer,
+) -> Result<(), AllocError>
+    ensures ok { OnOk result
+        (string_bytes out.new ≡ string_bytes out.old ++ answer_line rank line answer.now) }
+{
+    if let Answer::Started = answer {
+        return Ok(());
+    }
+    write!(out, "{rank} {line} ")?;
+    push_answer(out, answer)?;
+    push_body(alloc, out, answer)?;
+    out.push_str("\n")
+}
+
+/// Writes the line of an event that is an answer.
+fn push_ran(alloc: Global, out: &mut String, rank: usize, what: &Happened) -> Result<(), AllocError>
+    ensures ok { OnOk result (string_bytes out.new ≡ string_bytes out.old ++ ran_line rank what.now) }
+{
+    match what {
+        Happened::Ran { line, answer } => push_answer_line(alloc, out, rank, *line, answer),
+        _ => Ok(()),
+    }
+}
+
+/// Writes the lines of a rank's answers, and then of the command that can't go on.
+fn push_answers(
+    alloc: Global,
+    out: &mut String,
+    rank: usize,
+    account: &RankAccount,
+) -> Result<(), AllocError>
+    ensures ok { OnOk result
+        (string_bytes out.new ≡ string_bytes out.old ++ answer_lines rank account.now) }
+{
+    for k in 0..account.history.len() {
+        push_ran(alloc, out, rank, &account.history.get(k).unwrap().what)?;
+    }
+    match account.waits {
+        Some(line) => write!(out, "{rank} {line} waits\n"),
+        None => Ok(()),
+    }
+}
+
+/// Writes the lines of all answers, rank by rank.
+fn push_all_answers(
+    alloc: Global,
+    out: &mut String,
+    ranks: &[RankAccount],
+) -> Result<(), AllocError>
+    ensures ok { OnOk result
+        (string_bytes out.new ≡ string_bytes out.old ++ by_rank answer_lines ranks.now) }
+{
+    for (rank, account) in ranks.iter().enumerate() {
+        push_answers(alloc, out, rank, account)?;
+    }
+    Ok(())
+}
+
+fn last_line(done: bool) -> &'static str
+    ensures { result.now ≡ end_line done }
+{
+    if done { "done\n" } else { "stuck\n" }
+}
+
+/// The report of a run, each line ended by a line feed.
+///
+/// Rank by rank, each answer has the line `RANK LINE ANSWER` in the order of the events, and a
+/// command that can't go on the line `RANK LINE waits` behind them. Then come `cells TOTAL home
+/// HOME`, and `done` or `stuck`. With `trace` a line for each event and one for each count of
+/// packets come first. The text depends on the record and the flag alone.
+pub fn text(alloc: Global, run: &RunRecord, trace: bool) -> Result<Vec<u8>, Memory>
+    ensures { IfOk result (λ text. text.items ≡ report_text trace run.now) }
+{
+    let mut out = String::new(alloc);
+    if trace {
+        push_all_events(&mut out, run.ranks.as_slice())?;
+        push_pairs(&mut out, run.pairs.as_slice())?;
+    }
+    push_all_answers(alloc, &mut out, run.ranks.as_slice())?;
+    let cells = run.cells;
+    write!(out, "cells {} home {}\n", cells.total, cells.home)?;
+    out.push_str(last_line(run.done))?;
+    Ok(out.into_bytes())
+}

@@ -1,0 +1,4 @@
+pub mod BetweenLemmas
+pub mod PlainLemmas
+pub mod RestLemmas
+pub mod PairsLemmas

@@ -1,0 +1,5 @@
+pub mod Between
+pub mod Cores
+pub mod Lines
+pub mod Pairs
+pub mod Worlds
