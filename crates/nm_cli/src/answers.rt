@@ -38,13 +38,7 @@ pub fn status(answer: &Answer) -> u8
     ensures { result ≡ status_of answer.now }
 {
     match answer {
-        Answer::Ran(run) => {
-            if run.done {
-                0
-            } else {
-                1
-            }
-        }
+        Answer::Ran(run) => { if run.done { 0 } else { 1 } }
         Answer::Usage => 2,
         Answer::Refused { .. } => 3,
         Answer::Unread => 4,

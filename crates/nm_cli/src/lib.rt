@@ -56,6 +56,7 @@ pub struct Ended {
 const MAX_READ: usize = MAX_TEXT as usize + 1;
 
 const SINK_FAILED: u8 = 5;
+
 const WANT_OF_MEMORY: u8 = 6;
 
 fn is_run(words: &[String]) -> bool

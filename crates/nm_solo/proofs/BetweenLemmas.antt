@@ -80,7 +80,7 @@ pub between-send : (i j : ℕ) (ci cj : List Numbered) (hi hj : List Event) (kep
 between-send i j ci cj hi hj kept waiting e s b one next =
     let grown : sends (hi ++ e ∷ []) j ≡ sends hi j ++ s ∷ [] = sends-push hi e j ∙ ap (λ (more : List Sent). sends hi j ++ more) one in
     let flown : flights i ci (hi ++ e ∷ []) j ≡ flights i ci hi j ++ flight_of i ci s ∷ [] =
-        ap (λ (ss : List Sent). map (flight_of i ci) ss) grown ∙ map-append (flight_of i ci) (sends hi j) (s ∷ []) in
+    ap (λ (ss : List Sent). map (flight_of i ci) ss) grown ∙ map-append (flight_of i ci) (sends hi j) (s ∷ []) in
     let long : length (flights i ci hi j) ≡ length (sends hi j) = length-map (sends hi j) (flight_of i ci) in
     let fits : length (arrivals hj i) ≤ length (flights i ci hi j) = subst (λ (n : ℕ). length (arrivals hj i) ≤ n) (sym long) b.few in
     record {

@@ -8,16 +8,9 @@ use Rattle.nm_types.specs.Commands.{commands_of}
 use Rattle.nm_history.specs.declared.events.Event.{Event}
 use Rattle.nm_history.specs.Sends.{Sent, Arrived, sent_of, arrived_of}
 use Rattle.nm_history.specs.Growing.{MaySend, MayReceive}
-use Rattle.nm_solo.specs.Between.{Flight, flight_of, IsBetween}
+use Rattle.nm_solo.specs.Between.{Flight, flight_of, IsBetween, sends_by, arrivals_by}
 use Rattle.nm_solo.specs.Pairs.{ArePairs, HasMore}
 use Rattle.nm_solo.proofs.BetweenLemmas.{between-other_send, between-other_arrival, between-send, between-take}
-
--- the sends to a rank of one event; the arrivals from a rank of one event
-abbrev pub sends_by : Event → ℕ → List Sent
-sends_by e to = filter (λ s. s.to == to) (cons_option (sent_of e.stamp e.what) [])
-
-abbrev pub arrivals_by : Event → ℕ → List Arrived
-arrivals_by e from = filter (λ a. a.arrival.env.from == from) (cons_option (arrived_of e.stamp e.what) [])
 
 -- a rank does something that is no send
 pub pairs-other_send : (lines : List Line) (n r : ℕ) (h h' g : ℕ → List Event) (k : ℕ → ℕ → List (List ℕ)) (w : ℕ → ℕ → List Flight) (e : Event) →
@@ -28,6 +21,7 @@ pairs-other_send lines n r h h' g k w e pairs more none may i j p q = ⊎_elim m
       let Goal : ℕ → Type 0 = λ i. i < n → IsBetween i j (commands_of i lines) (commands_of j lines) (h' i) (g j) (k i j) (w i j) in
       subst Goal (sym is) (λ p. subst (λ (x : List Event). IsBetween r j (commands_of r lines) (commands_of j lines) x (g j) (k r j) (w r j)) (sym more.own)
       (between-other_send r j (commands_of r lines) (commands_of j lines) (h r) (g j) (k r j) (w r j) e (pairs r j p q) (none j) (may j q))) p
+
   others : i ≢ r → IsBetween i j (commands_of i lines) (commands_of j lines) (h' i) (g j) (k i j) (w i j)
   others isnt = subst (λ (x : List Event). IsBetween i j (commands_of i lines) (commands_of j lines) x (g j) (k i j) (w i j)) (sym (more.others i isnt)) (pairs i j p q)
 
@@ -41,6 +35,7 @@ pairs-other_arrival lines n r h g g' k w e pairs more none may i j p q = ⊎_eli
       let Goal : ℕ → Type 0 = λ j. j < n → IsBetween i j (commands_of i lines) (commands_of j lines) (h i) (g' j) (k i j) (w i j) in
       subst Goal (sym is) (λ q. subst (λ (x : List Event). IsBetween i r (commands_of i lines) (commands_of r lines) (h i) x (k i r) (w i r)) (sym more.own)
       (between-other_arrival i r (commands_of i lines) (commands_of r lines) (h i) (g r) (k i r) (w i r) e (pairs i r p q) (none i) (may i p))) q
+
   others : j ≢ r → IsBetween i j (commands_of i lines) (commands_of j lines) (h i) (g' j) (k i j) (w i j)
   others isnt = subst (λ (x : List Event). IsBetween i j (commands_of i lines) (commands_of j lines) (h i) x (k i j) (w i j)) (sym (more.others j isnt)) (pairs i j p q)
 
@@ -54,14 +49,17 @@ pairs-send lines n r to h h' g k w w' e s pairs more one none may grown same els
       let Goal : ℕ → Type 0 = λ j. j < n → IsBetween r j (commands_of r lines) (commands_of j lines) (h r ++ e ∷ []) (g j) (k r j) (w' r j) in
       subst Goal (sym is) (λ q. subst (λ (x : List Flight). IsBetween r to (commands_of r lines) (commands_of to lines) (h r ++ e ∷ []) (g to) (k r to) x) (sym grown)
       (between-send r to (commands_of r lines) (commands_of to lines) (h r) (g to) (k r to) (w r to) e s (pairs r to p q) one (may to q))) q
+
   not_to : r < n → j ≢ to → IsBetween r j (commands_of r lines) (commands_of j lines) (h r ++ e ∷ []) (g j) (k r j) (w' r j)
   not_to p isnt = subst (λ (x : List Flight). IsBetween r j (commands_of r lines) (commands_of j lines) (h r ++ e ∷ []) (g j) (k r j) x) (sym (same j isnt))
       (between-other_send r j (commands_of r lines) (commands_of j lines) (h r) (g j) (k r j) (w r j) e (pairs r j p q) (none j isnt) (may j q))
+
   mine : i ≡ r → IsBetween i j (commands_of i lines) (commands_of j lines) (h' i) (g j) (k i j) (w' i j)
   mine is =
       let Goal : ℕ → Type 0 = λ i. i < n → IsBetween i j (commands_of i lines) (commands_of j lines) (h' i) (g j) (k i j) (w' i j) in
       subst Goal (sym is) (λ p. subst (λ (x : List Event). IsBetween r j (commands_of r lines) (commands_of j lines) x (g j) (k r j) (w' r j)) (sym more.own)
       (⊎_elim (at_to p) (not_to p) (cases_eq j to))) p
+
   others : i ≢ r → IsBetween i j (commands_of i lines) (commands_of j lines) (h' i) (g j) (k i j) (w' i j)
   others isnt = subst (λ (x : List Flight). IsBetween i j (commands_of i lines) (commands_of j lines) (h' i) (g j) (k i j) x) (sym (elsewhere i j isnt))
       (subst (λ (x : List Event). IsBetween i j (commands_of i lines) (commands_of j lines) x (g j) (k i j) (w i j)) (sym (more.others i isnt)) (pairs i j p q))
@@ -81,16 +79,19 @@ pairs-take lines n r from h g g' k k' w w' e a f rest pairs more one none may fi
       (subst (λ (x : List Flight). IsBetween from r (commands_of from lines) (commands_of r lines) (h from) (g r ++ e ∷ []) (k from r ++ f.body ∷ []) x) (sym left)
       (between-take from r (commands_of from lines) (commands_of r lines) (h from) (g r) (k from r) f rest e a
       (subst (λ (x : List Flight). IsBetween from r (commands_of from lines) (commands_of r lines) (h from) (g r) (k from r) x) first (pairs from r p q)) one (may from p)))) p
+
   not_from : r < n → i ≢ from → IsBetween i r (commands_of i lines) (commands_of r lines) (h i) (g r ++ e ∷ []) (k' i r) (w' i r)
   not_from q isnt =
       subst (λ (x : List (List ℕ)). IsBetween i r (commands_of i lines) (commands_of r lines) (h i) (g r ++ e ∷ []) x (w' i r)) (sym (same i isnt).1)
       (subst (λ (x : List Flight). IsBetween i r (commands_of i lines) (commands_of r lines) (h i) (g r ++ e ∷ []) (k i r) x) (sym (same i isnt).0)
       (between-other_arrival i r (commands_of i lines) (commands_of r lines) (h i) (g r) (k i r) (w i r) e (pairs i r p q) (none i isnt) (may i p)))
+
   mine : j ≡ r → IsBetween i j (commands_of i lines) (commands_of j lines) (h i) (g' j) (k' i j) (w' i j)
   mine is =
       let Goal : ℕ → Type 0 = λ j. j < n → IsBetween i j (commands_of i lines) (commands_of j lines) (h i) (g' j) (k' i j) (w' i j) in
       subst Goal (sym is) (λ q. subst (λ (x : List Event). IsBetween i r (commands_of i lines) (commands_of r lines) (h i) x (k' i r) (w' i r)) (sym more.own)
       (⊎_elim (at_from q) (not_from q) (cases_eq i from))) q
+
   others : j ≢ r → IsBetween i j (commands_of i lines) (commands_of j lines) (h i) (g' j) (k' i j) (w' i j)
   others isnt =
       subst (λ (x : List (List ℕ)). IsBetween i j (commands_of i lines) (commands_of j lines) (h i) (g' j) x (w' i j)) (sym (elsewhere i j isnt).1)

@@ -29,6 +29,7 @@ short_of_event : (to stamp : ℕ) (what : Happened) → is_plain what ≡ true �
 short_of_event to stamp (Send to' n tag ctx len how line) plain = by_to (to' == to) where
   s : Sent
   s = record { stamp = stamp; to = to'; n = n; tag = tag; ctx = ctx; len = len; how = how; line = line }
+
   by_to : (b : Bool) → AllByRecursion IsShort (cond b (s ∷ []) [])
   by_to true = (record { eager = not_true (is_ask how) (and_left (not (is_ask how)) (nat_le len MAX_PAYLOAD) plain); fits = and_right (not (is_ask how)) (nat_le len MAX_PAYLOAD) plain }, tt)
   by_to false = tt
@@ -74,8 +75,10 @@ answered_event h what plain = tt
 
 recalls_from : (all h : List Event) → list_all (λ e. is_plain e.what) h ≡ true → AllByRecursion (λ e. IsAnswered all e.what) h
 recalls_from all [] plain = tt
-recalls_from all (e ∷ h) plain = (answered_event all e.what (and_left (is_plain e.what) (list_all (λ e. is_plain e.what) h) plain),
-    recalls_from all h (and_right (is_plain e.what) (list_all (λ e. is_plain e.what) h) plain))
+recalls_from all (e ∷ h) plain = (
+  answered_event all e.what (and_left (is_plain e.what) (list_all (λ e. is_plain e.what) h) plain),
+  recalls_from all h (and_right (is_plain e.what) (list_all (λ e. is_plain e.what) h) plain),
+)
 
 pub plain_recalls : (h : List Event) → list_all (λ e. is_plain e.what) h ≡ true → RecallsAnswered h
 plain_recalls h plain = recalls_from h h plain
@@ -85,6 +88,7 @@ short_packets : (s : Sent) → IsShort s → packets_of_send s ≡ 1
 short_packets s short = rw short.eager (one (le short.fits)) where
   le : nat_le s.len MAX_PAYLOAD ≡ true → s.len ≤ 256
   le h = grind (arith, nat_tests)
+
   one : s.len ≤ 256 → 1 + further_packets s.len ≡ 1
   one h = omega arith
 
@@ -110,9 +114,9 @@ clears_none : (h : List Event) (to : ℕ) → list_all (λ e. is_plain e.what) h
 clears_none h to plain pair of =
     let eager = All-contains IsEager (messages h) pair.arrival (All-from_recursion IsEager (messages h) (plain_messages h plain)) (pair_message h pair of) in
     rw eager (and_false (pair.arrival.env.from == to)) where
-  and_false : (b : Bool) → (b && false) ≡ false
-  and_false true = refl
-  and_false false = refl
+      and_false : (b : Bool) → (b && false) ≡ false
+      and_false true = refl
+      and_false false = refl
 
 -- tests of kinds that a plain history has none of
 recall_none : (to : ℕ) (what : Happened) → is_plain what ≡ true → is_recall_to to what ≡ false
@@ -126,8 +130,10 @@ withdraw_none from what plain = refl
 each_event : (test : Happened → Bool) (h : List Event) → ((what : Happened) → is_plain what ≡ true → test what ≡ false) → list_all (λ e. is_plain e.what) h ≡ true →
     AllByRecursion (λ e. test e.what ≡ false) h
 each_event test [] none plain = tt
-each_event test (e ∷ h) none plain = (none e.what (and_left (is_plain e.what) (list_all (λ e. is_plain e.what) h) plain),
-    each_event test h none (and_right (is_plain e.what) (list_all (λ e. is_plain e.what) h) plain))
+each_event test (e ∷ h) none plain = (
+  none e.what (and_left (is_plain e.what) (list_all (λ e. is_plain e.what) h) plain),
+  each_event test h none (and_right (is_plain e.what) (list_all (λ e. is_plain e.what) h) plain),
+)
 
 -- a plain history calls for one packet for each send
 pub plain_packets : (h : List Event) (to : ℕ) → list_all (λ e. is_plain e.what) h ≡ true → packets_to h to ≡ length (sends h to)
@@ -135,7 +141,7 @@ plain_packets h to plain =
     let sent = sum_of_ones (sends h to) (plain_sends h to plain) in
     let of_receives = recursion_from_All (IsOfReceive h) (matched_pairs h) (matched_pairs_of_receives h) in
     let clears = none_counted (is_clear to) (matched_pairs h)
-        (all_along (IsOfReceive h) (λ pair. is_clear to pair ≡ false) (matched_pairs h) (clears_none h to plain) of_receives) in
+    (all_along (IsOfReceive h) (λ pair. is_clear to pair ≡ false) (matched_pairs h) (clears_none h to plain) of_receives) in
     let recalls = none_counted (λ (e : Event). is_recall_to to e.what) h (each_event (is_recall_to to) h (recall_none to) plain) in
     let withdraws = none_counted (λ (e : Event). is_withdraw_from to e.what) h (each_event (is_withdraw_from to) h (withdraw_none to) plain) in
     omega (arith, sent, clears, recalls, withdraws)

@@ -1,9 +1,11 @@
 -- What holds between two ranks while a script runs: what was sent was taken, or is on its way.
-use Rattle.std.specs.Prelude.{◌≡◌, ℕ, ◌≤◌, List, map, take, drop, length}
+use Rattle.std.specs.Prelude.{◌≡◌, ℕ, ◌≤◌, ◌==◌, List, [], filter, map, take, drop, length}
+use Rattle.std.specs.List.{cons_option}
 use Rattle.nm_types.specs.declared.messages.Arrival.{Arrival}
 use Rattle.nm_types.specs.Commands.{Numbered}
 use Rattle.nm_history.specs.declared.events.Event.{Event}
-use Rattle.nm_history.specs.Sends.{Sent, sends, arrivals, envelope, sent_body}
+use Rattle.nm_history.specs.Sends.{Sent, Arrived, sends, arrivals, envelope, sent_body}
+use Rattle.nm_history.specs.Sends.{sent_of, arrived_of}
 use Rattle.nm_history.specs.Delivery.{AreDelivered}
 
 -- a message on its way: the stamp of its send, what its receiver learns of it, and its body
@@ -24,6 +26,14 @@ flight_of i ci s =
 -- the messages that rank i sent to rank j
 abbrev pub flights : ℕ → List Numbered → List Event → ℕ → List Flight
 flights i ci hi j = map (flight_of i ci) (sends hi j)
+
+-- the sends of an event to a rank
+abbrev pub sends_by : Event → ℕ → List Sent
+sends_by e to = filter (λ s. s.to == to) (cons_option (sent_of e.stamp e.what) [])
+
+-- the arrivals of an event from a rank
+abbrev pub arrivals_by : Event → ℕ → List Arrived
+arrivals_by e from = filter (λ a. a.arrival.env.from == from) (cons_option (arrived_of e.stamp e.what) [])
 
 -- Of the messages that i sent to j, the first ones were taken, whose bodies j keeps, and the others
 -- are on their way. What was taken is delivered.

@@ -125,8 +125,9 @@ impl Actor {
                 if self.names.contains_key(q) {
                     return Ok(Some(Answer::Busy));
                 }
-                let (request, message) =
-                    self.core.start_send(*to, *tag, *ctx, bytes.copy()?, line)?;
+                let (request, message) = self
+                    .core
+                    .start_send(*to, *tag, *ctx, bytes.copy()?, line)?;
                 lists.put(self.core.me, *to, message)?;
                 self.name(*q, request)
             }

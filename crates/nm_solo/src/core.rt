@@ -168,10 +168,7 @@ impl Core {
         } = message;
         self.clock = self.clock.max(stamp);
         self.happen(Happened::Arrive { a: arrival })?;
-        self.happen(Happened::Whole {
-            from,
-            n: arrival.n,
-        })?;
+        self.happen(Happened::Whole { from, n: arrival.n })?;
         self.bodies[from as usize].push(body)?;
         self.give(arrival)
     }
@@ -183,10 +180,12 @@ impl Core {
             Request::Receive { number } => number,
         };
         match self.receives.get(number as usize) {
-            Some(Receive {
-                cap,
-                taken: Some(arrival),
-            }) => self.shown(*cap, arrival),
+            Some(
+                Receive {
+                    cap,
+                    taken: Some(arrival),
+                },
+            ) => self.shown(*cap, arrival),
             _ => Ok(None),
         }
     }

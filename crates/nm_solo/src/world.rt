@@ -122,7 +122,12 @@ impl World {
     }
 
     /// What a run that came to rest has to tell.
-    pub fn into_record(self, alloc: Global, lines: &[Line], shape: Shape) -> Result<RunRecord, Memory>
+    pub fn into_record(
+        self,
+        alloc: Global,
+        lines: &[Line],
+        shape: Shape,
+    ) -> Result<RunRecord, Memory>
         requires world { IsWorld shape.ranks self }
         requires lines { length lines.now < MAX_LINES }
         ensures { IfOk result (λ run. run.shape ≡ shape) }

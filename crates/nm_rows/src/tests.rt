@@ -1,0 +1,101 @@
+use nm_cli::nemesis;
+use nm_outside::{MemorySink, MemorySource, OpenGate};
+use std::alloc::{AllocError, Global};
+use std::test::Fail;
+
+const PLAIN: &[u8] =
+    b"ranks 2\n0: isend 0 1 7 0 x6869\n0: wait 0\n1: irecv 0 0 7 0 16\n1: wait 0\n";
+
+fn words_of(alloc: Global, word: &str) -> Result<Vec<String>, AllocError> {
+    let mut words = Vec::new(alloc);
+    words.push(String::from_str(alloc, word)?)?;
+    Ok(words)
+}
+
+#[test]
+fn scripts_give_their_reports(rt: HostRuntime) -> Result<(), Fail> {
+    let rows: [(&str, &[u8], u8, &[u8]); 12] = [
+        (
+            "run",
+            PLAIN,
+            0,
+            b"0 3 sent\n1 5 got 0 7 2 x6869\ncells 16 home 16\ndone\n",
+        ),
+        ("run", b"ranks 1", 0, b"cells 8 home 8\ndone\n"),
+        ("run", b"ranks 1\n", 0, b"cells 8 home 8\ndone\n"),
+        (
+            "run",
+            b"ranks 2\n1: irecv 0 0 7 0 16\n1: wait 0\n",
+            1,
+            b"1 3 waits\ncells 16 home 16\nstuck\n",
+        ),
+        (
+            "run",
+            b"ranks 1\n0: isend 0 0 0 0 x\n0: irecv 1 0 0 0 0\n0: wait 0\n0: wait 1\n",
+            0,
+            b"0 4 sent\n0 5 got 0 0 0 x\ncells 8 home 8\ndone\n",
+        ),
+        (
+            "run",
+            b"ranks 2\n0: isend 0 1 1 0 xa1\n0: isend 1 1 2 0 xa2\n0: wait 0\n0: wait 1\n\
+            1: irecv 0 0 2 0 8\n1: wait 0\n1: irecv 0 0 1 0 8\n1: wait 0\n",
+            0,
+            b"0 4 sent\n0 5 sent\n1 7 got 0 2 1 xa2\n1 9 got 0 1 1 xa1\ncells 16 home 16\ndone\n",
+        ),
+        (
+            "run",
+            b"ranks 2\n0: isend 0 1 7 0 x01020304\n0: wait 0\n1: irecv 0 0 7 0 3\n1: wait 0\n",
+            0,
+            b"0 3 sent\n1 5 cut 0 7 4\ncells 16 home 16\ndone\n",
+        ),
+        (
+            "run",
+            b"ranks 2\n0: isend 0 1 7 0 x01020304\n0: wait 0\n1: irecv 0 0 7 0 4\n1: wait 0\n",
+            0,
+            b"0 3 sent\n1 5 got 0 7 4 x01020304\ncells 16 home 16\ndone\n",
+        ),
+        (
+            "run",
+            b"ranks 2\n0: wait 9\n0: isend 0 1 7 0 x01\n0: isend 0 1 7 0 x02\n0: wait 0\n",
+            0,
+            b"0 2 null\n0 4 busy\n0 5 sent\ncells 16 home 16\ndone\n",
+        ),
+        ("run", b"", 3, b"fault script 0 command\n"),
+        (
+            "run",
+            b"ranks 2\n0: isend 0 1 7 0 xAB\n",
+            3,
+            b"fault script 0 command\n",
+        ),
+        ("walk", PLAIN, 2, b"usage: nemesis run\n"),
+    ];
+    for (word, script, status, text) in rows {
+        let words = words_of(rt.alloc(), word)?;
+        let mut source = MemorySource::new(script.to_vec(rt.alloc())?, 3, Vec::new(rt.alloc()));
+        let mut sink = MemorySink::new(rt.alloc(), 5, Vec::new(rt.alloc()))?;
+        let ended = nemesis(&rt, rt.alloc(), &words, &mut source, &mut sink, &OpenGate);
+        assert_eq!(rt; ended.status, status);
+        assert_eq!(rt; sink.taken(), text);
+        assert_eq!(rt; ended.run.is_some(), status < 2);
+    }
+    Ok(())
+}
+
+#[test]
+fn failing_ends_are_told(rt: HostRuntime) -> Result<(), Fail> {
+    let words = words_of(rt.alloc(), "run")?;
+    let fails = [3].to_vec(rt.alloc())?;
+    let mut source = MemorySource::new(PLAIN.to_vec(rt.alloc())?, 16, fails);
+    let mut sink = MemorySink::new(rt.alloc(), 100, Vec::new(rt.alloc()))?;
+    let ended = nemesis(&rt, rt.alloc(), &words, &mut source, &mut sink, &OpenGate);
+    assert_eq!(rt; ended.status, 4);
+    assert_eq!(rt; sink.taken(), b"fault read\n".as_slice());
+    assert!(rt; ended.run.is_none());
+    let mut source = MemorySource::new(PLAIN.to_vec(rt.alloc())?, 100, Vec::new(rt.alloc()));
+    let mut sink = MemorySink::new(rt.alloc(), 5, [2].to_vec(rt.alloc())?)?;
+    let ended = nemesis(&rt, rt.alloc(), &words, &mut source, &mut sink, &OpenGate);
+    assert_eq!(rt; ended.status, 5);
+    assert_eq!(rt; sink.taken(), b"0 3 s".as_slice());
+    assert!(rt; ended.run.is_some());
+    Ok(())
+}
