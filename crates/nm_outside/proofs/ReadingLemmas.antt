@@ -4,16 +4,24 @@ use Rattle.std.proofs.Math.Seq.{drop-append_seam, drop-append-add}
 use Rattle.nm_outside.specs.Told.{Moves, ReadSoFar, LosesAtMost}
 
 -- what was read is lost
-pub loses_read : (limit : ℕ) (old new : Option (List ℕ)) (read : List ℕ) → ReadSoFar old new read → length read ≤ limit → LosesAtMost limit old new
+pub loses_read :
+    (limit : ℕ) (old new : Option (List ℕ)) (read : List ℕ)
+    → ReadSoFar old new read → length read ≤ limit
+    → LosesAtMost limit old new
 loses_read limit (Some all) new read w within =
-    let rest : drop (length read) all ≡ w.0 = ap (drop (length read)) w.2 ∙ drop-append_seam read w.0 in
+    let rest : drop (length read) all ≡ w.0 =
+    ap (drop (length read)) w.2 ∙ drop-append_seam read w.0 in
     (length read, within, w.1 ∙ ap Some (sym rest))
 loses_read limit None new read w within = w
 
--- and what one more read moved
-pub loses_piece : (limit n : ℕ) (old mid new : Option (List ℕ)) (read buffer : List ℕ) → ReadSoFar old mid read → Moves mid new buffer n → length read + n ≤ limit → LosesAtMost limit old new
+-- what was read is lost, and what one more read moved
+pub loses_piece :
+    (limit n : ℕ) (old mid new : Option (List ℕ)) (read buffer : List ℕ)
+    → ReadSoFar old mid read → Moves mid new buffer n → length read + n ≤ limit
+    → LosesAtMost limit old new
 loses_piece limit n (Some all) mid new read buffer w moved within =
     let piece : Moves (Some w.0) new buffer n = rw w.1 at moved in
-    let rest : drop (length read + n) all ≡ drop n w.0 = ap (drop (length read + n)) w.2 ∙ drop-append-add read w.0 n in
+    let rest : drop (length read + n) all ≡ drop n w.0 =
+    ap (drop (length read + n)) w.2 ∙ drop-append-add read w.0 n in
     (length read + n, within, piece.2 ∙ ap Some (sym rest))
 loses_piece limit n None mid new read buffer w moved within = rw w at moved

@@ -8,7 +8,8 @@ Rose old new = (old < new) ⊎ (new ≡ 2 ^ 64 - 1)
 
 -- the first n of the bytes went to the buffer's front, and the others are left
 abbrev pub Moves : Option (List ℕ) → Option (List ℕ) → List ℕ → ℕ → Type 0
-Moves (Some old) left buffer n = (n ≤ length old) × (take n buffer ≡ take n old) × (left ≡ Some (drop n old))
+Moves (Some old) left buffer n =
+    (n ≤ length old) × (take n buffer ≡ take n old) × (left ≡ Some (drop n old))
 Moves None left buffer n = left ≡ None
 
 -- the bytes went to the end
@@ -32,4 +33,5 @@ ReadSoFar None left read = left ≡ None
 
 -- the front of the bytes was written, and this is the rest
 abbrev pub WrittenSoFar : Option (List ℕ) → Option (List ℕ) → List ℕ → List ℕ → Type 0
-WrittenSoFar old new bytes rest = (n : ℕ) × (n ≤ length bytes) × (rest ≡ drop n bytes) × Appends old new (take n bytes)
+WrittenSoFar old new bytes rest =
+    (n : ℕ) × (n ≤ length bytes) × (rest ≡ drop n bytes) × Appends old new (take n bytes)

@@ -1,7 +1,7 @@
 //! A source and a sink in memory.
 
-ghost use Rattle.std.specs.Prelude.{◌≡◌, ◌<◌, ◌≤◌, ◌-◌, ◌⊎◌, ◌++◌, ◌↔◌, [], Some, length, take, drop, min};
-ghost use Rattle.std.specs.Prelude.{IsErr, IfOk, OnErr};
+ghost use Rattle.std.specs.Prelude.{◌≡◌, ◌<◌, ◌≤◌, ◌-◌, ◌⊎◌, ◌++◌, ◌↔◌, [], Some, length, take};
+ghost use Rattle.std.specs.Prelude.{drop, min, IsErr, IfOk, OnErr};
 ghost use Rattle.std.specs.List.{Contains};
 ghost use Rattle.nm_outside.specs.Told.{Rose, Moves, Appends};
 ghost use Rattle.nm_outside.specs.Memory.{raised};
@@ -71,7 +71,8 @@ impl Source for MemorySource {
 
     /// Gives as many bytes as the buffer, the step and what is left allow.
     fn read(&mut self, buf: &mut [u8]) -> Result<usize, Failed>
-        ensures moved { IfOk result (λ n. Moves (Some self.old.left) (Some self.new.left) buf.new n) }
+        ensures moved { IfOk result
+            (λ n. Moves (Some self.old.left) (Some self.new.left) buf.new n) }
         ensures end { result ≡ Ok 0 → 0 < length buf.old → self.new.left ≡ [] }
         ensures later { self.old.faults ≤ self.new.faults }
         ensures cause { IsErr result → Rose self.old.faults self.new.faults }

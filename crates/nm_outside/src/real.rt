@@ -1,6 +1,8 @@
 //! A std reader as a source, and a std writer as a sink.
 
-ghost use Rattle.std.specs.Prelude.{None};
+ghost use Rattle.std.specs.Prelude.{◌≡◌, ◌<◌, ◌≤◌, None, IsErr, IfOk, length};
+ghost use Rattle.std.specs.Io.KnownBytes.{ReadConsumes, WriteAppends};
+ghost use Rattle.nm_outside.specs.Told.{Rose};
 
 use crate::{Failed, Sink, Source};
 use std::io::{Read, Write};
@@ -8,12 +10,14 @@ use std::io::{Read, Write};
 /// A std reader. It tells no bytes, and counts the reader's errors.
 #[derive(Drop)]
 pub struct RealSource<R> {
-    reader: R,
-    faults: u64,
+    pub reader: R,
+    pub faults: u64,
 }
 
 impl<R: Read> RealSource<R> {
-    pub fn new(reader: R) -> RealSource<R> {
+    pub fn new(reader: R) -> RealSource<R>
+        ensures { result ≡ record { reader = reader; faults = 0 } }
+    {
         RealSource { reader, faults: 0 }
     }
 }
@@ -23,7 +27,14 @@ impl<R: Read> Source for RealSource<R> {
 
     ghost faults = { λ s. s.faults };
 
-    fn read(&mut self, buf: &mut [u8]) -> Result<usize, Failed> {
+    /// Gives what one read of the reader gives.
+    fn read(&mut self, buf: &mut [u8]) -> Result<usize, Failed>
+        ensures within { IfOk result (λ n. n ≤ length buf.old) }
+        ensures given { ReadConsumes (R.remaining self.old.reader) (R.remaining self.new.reader)
+            result buf.new }
+        ensures later { self.old.faults ≤ self.new.faults }
+        ensures cause { IsErr result → Rose self.old.faults self.new.faults }
+    {
         match self.reader.read(buf) {
             Ok(count) => Ok(count),
             Err(_) => {
@@ -38,12 +49,14 @@ impl<R: Read> Source for RealSource<R> {
 /// some bytes has failed.
 #[derive(Drop)]
 pub struct RealSink<W> {
-    writer: W,
-    faults: u64,
+    pub writer: W,
+    pub faults: u64,
 }
 
 impl<W: Write> RealSink<W> {
-    pub fn new(writer: W) -> RealSink<W> {
+    pub fn new(writer: W) -> RealSink<W>
+        ensures { result ≡ record { writer = writer; faults = 0 } }
+    {
         RealSink { writer, faults: 0 }
     }
 }
@@ -53,7 +66,15 @@ impl<W: Write> Sink for RealSink<W> {
 
     ghost faults = { λ s. s.faults };
 
-    fn write(&mut self, bytes: &[u8]) -> Result<usize, Failed> {
+    /// Takes what one write of the writer takes.
+    fn write(&mut self, bytes: &[u8]) -> Result<usize, Failed>
+        ensures within { IfOk result (λ n. n ≤ length bytes.now) }
+        ensures some { 0 < length bytes.now → IfOk result (λ n. 0 < n) }
+        ensures written { WriteAppends (W.contents self.old.writer) (W.contents self.new.writer)
+            result bytes.now }
+        ensures later { self.old.faults ≤ self.new.faults }
+        ensures cause { IsErr result → Rose self.old.faults self.new.faults }
+    {
         if bytes.is_empty() {
             return Ok(0);
         }

@@ -1,6 +1,7 @@
 //! Where bytes go.
 
-ghost use Rattle.std.specs.Prelude.{◌≡◌, ℕ, ◌<◌, ◌≤◌, List, Option, length, take, IsErr, IfOk, OnErr};
+ghost use Rattle.std.specs.Prelude.{◌≡◌, ℕ, ◌<◌, ◌≤◌, List, Option, length, take, IsErr, IfOk};
+ghost use Rattle.std.specs.Prelude.{OnErr};
 ghost use Rattle.nm_outside.specs.Told.{Rose, Appends};
 
 use crate::Failed;

@@ -6,7 +6,9 @@
 //!
 //! # What a contract sees
 //! `Accounts` and `Pairs` are lists; all else has public fields. The text is `report_text` of
-//! `specs/Report.antt`, which is built of one definition for each kind of line.
+//! `specs/Report.antt`, which is built of one definition for each kind of line. For the crates
+//! above, `specs/Cells.antt` says when all cells are back on their owners' free queues, and
+//! `specs/Ends.antt` gives a record as the lists that quiescence speaks of.
 //! # What is proved
 //! - The lists keep what is put into them, and a refused push changes nothing.
 //! - `text` gives exactly `report_text` of the record and the flag, or it is in want of memory.

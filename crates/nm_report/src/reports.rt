@@ -34,7 +34,8 @@ fn push_answer_line(
 
 /// Writes the line of an event that is an answer.
 fn push_ran(alloc: Global, out: &mut String, rank: usize, what: &Happened) -> Result<(), AllocError>
-    ensures ok { OnOk result (string_bytes out.new ≡ string_bytes out.old ++ ran_line rank what.now) }
+    ensures ok { OnOk result
+        (string_bytes out.new ≡ string_bytes out.old ++ ran_line rank what.now) }
 {
     match what {
         Happened::Ran { line, answer } => push_answer_line(alloc, out, rank, *line, answer),

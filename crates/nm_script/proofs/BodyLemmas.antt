@@ -1,12 +1,12 @@
 -- Bodies as words, both ways.
-use Rattle.std.proofs.Common.{◌≡◌, ℕ, zero, suc, ◌+◌, ◌*◌, ◌/◌, ◌%◌, ◌<◌, ◌≤◌, Bool, true, false, ◌&&◌}
+use Rattle.std.proofs.Common.{◌≡◌, ℕ, zero, suc, ◌+◌, ◌*◌, ◌/◌, ◌%◌, ◌<◌, ◌≤◌, Bool, true, ◌&&◌}
 use Rattle.std.proofs.Common.{List, [], ◌∷◌, length, get_or, Result, Ok, Err, Option, Some, None, cond}
-use Rattle.std.proofs.Common.{refl, sym, ap, ◌∙◌, arith, eqb, leb, ltb, nat_le, nat_lt}
+use Rattle.std.proofs.Common.{refl, sym, ap, ◌∙◌, arith, eqb, ltb, nat_le, nat_lt}
 use Rattle.std.specs.List.{list_all}
-use Rattle.std.proofs.lemmas.Bool.{and_from, and_parts}
+use Rattle.std.proofs.lemmas.Bool.{and_from, and_parts, eqb-true, ltb-true, leb-true, lt-ltb, le-leb}
 use Rattle.std.proofs.lemmas.Bool.Decides.{nat_tests, Decides-below_and, Decides-eqb}
 use Rattle.hex.specs.Hex.{encode_lower, encode_with, lower_digits, decode_of, decode_pairs, pair_value}
-use Rattle.hex.specs.Hex.{value_at, digit_or_error, hex_digit_value, IsBytes, ◌>>=◌}
+use Rattle.hex.specs.Hex.{value_at, digit_or_error, hex_digit_value, IsBytes}
 use Rattle.hex.specs.declared.error.FromHexError.{FromHexError}
 use Rattle.hex.proofs.HexLemmas.{decode_of-encode_lower, decode_of-even, decode_of-ok, length-encode_with}
 use Rattle.nm_types.specs.declared.limits.TheConstants.{MAX_PAYLOAD}
@@ -14,11 +14,10 @@ use Rattle.nm_types.specs.declared.scripts.Body.{Body}
 use Rattle.nm_types.specs.declared.scripts.Body.TheVariants.{Hex, Gen}
 use Rattle.nm_types.specs.Bodies.{body_len}
 use Rattle.nm_types.specs.Text.{body_word}
-use Rattle.nm_script.specs.declared.faults.Kind.{Kind}
 use Rattle.nm_script.specs.declared.faults.Kind.TheVariants as kind
 use Rattle.nm_script.specs.Bodies.{is_lower_digit, hex_body, body_of}
 use Rattle.nm_script.specs.Part.{is_short}
-use Rattle.nm_script.proofs.StepLemmas.{guard_ok, same, below, at_most, tells_below, tells_at_most}
+use Rattle.nm_script.proofs.StepLemmas.{bind_ok, guard_ok}
 
 -- the digit of a value, without the table
 abbrev glyph : ℕ → ℕ
@@ -29,18 +28,15 @@ all_glyphs zero = true
 all_glyphs (suc n) = eqb (get_or lower_digits n 0) (glyph n) && all_glyphs n
 
 table_is : (v : ℕ) → v < 16 → get_or lower_digits v 0 ≡ glyph v
-table_is = (Decides-below_and (λ v. eqb (get_or lower_digits v 0) (glyph v)) (λ v. get_or lower_digits v 0 ≡ glyph v) all_glyphs (λ v. Decides-eqb _ _) refl (λ _. refl) 16).0 refl
+table_is = (Decides-below_and (λ v. eqb (get_or lower_digits v 0) (glyph v))
+    (λ v. get_or lower_digits v 0 ≡ glyph v) all_glyphs (λ v. Decides-eqb _ _) refl (λ _. refl)
+    16).0 refl
 
 glyph_of : (c v : ℕ) → is_lower_digit c ≡ true → hex_digit_value c ≡ Some v → (v < 16) × (glyph v ≡ c)
 glyph_of c v low h = grind (arith, nat_tests)
 
 glyph_lower : (v : ℕ) → v < 16 → is_lower_digit (glyph v) ≡ true
 glyph_lower v h = grind (arith, nat_tests)
-
-bind_ok : {A B : Type 0} (r : Result A FromHexError) (f : A → Result B FromHexError) (y : B)
-    → (r >>= f) ≡ Ok y → (x : A) × (r ≡ Ok x) × (f x ≡ Ok y)
-bind_ok (Ok x) f y h = (x, refl, h)
-bind_ok (Err e) f y h = cc
 
 value_ok : (c i : ℕ) (o : Option ℕ) (v : ℕ) → digit_or_error c i o ≡ Ok v → o ≡ Some v
 value_ok c i (Some w) v h = cc
@@ -78,17 +74,21 @@ all_lower (b ∷ bytes) small =
     let fits : b < 256 = small 0 in
     let high : b / 16 < 16 = omega arith in
     let low : b % 16 < 16 = omega arith in
-    and_from _ _ (rw (table_is (b / 16) high) (glyph_lower (b / 16) high)) (and_from _ _ (rw (table_is (b % 16) low) (glyph_lower (b % 16) low)) (all_lower bytes (λ i. small (suc i))))
+    and_from _ _ (rw (table_is (b / 16) high) (glyph_lower (b / 16) high))
+    (and_from _ _ (rw (table_is (b % 16) low) (glyph_lower (b % 16) low))
+    (all_lower bytes (λ i. small (suc i))))
 
 -- the test of bytes, and the fact
 bytes_pass : (bytes : List ℕ) → IsBytes bytes → list_all (λ b. nat_lt b 256) bytes ≡ true
 bytes_pass [] h = refl
-bytes_pass (b ∷ bytes) h = and_from _ _ (tells_below b 256 (h 0)) (bytes_pass bytes (λ i. h (suc i)))
+bytes_pass (b ∷ bytes) h = and_from _ _ (lt-ltb b 256 (h 0)) (bytes_pass bytes (λ i. h (suc i)))
 
 pub bytes_are : (bytes : List ℕ) → list_all (λ b. nat_lt b 256) bytes ≡ true → IsBytes bytes
 bytes_are [] h i = omega arith
-bytes_are (b ∷ bytes) h zero = below b 256 (and_parts (nat_lt b 256) (list_all (λ b. nat_lt b 256) bytes) h).0
-bytes_are (b ∷ bytes) h (suc i) = bytes_are bytes (and_parts (nat_lt b 256) (list_all (λ b. nat_lt b 256) bytes) h).1 i
+bytes_are (b ∷ bytes) h zero = ltb-true b 256 (and_parts (nat_lt b 256)
+    (list_all (λ b. nat_lt b 256) bytes) h).0
+bytes_are (b ∷ bytes) h (suc i) = bytes_are bytes (and_parts (nat_lt b 256)
+    (list_all (λ b. nat_lt b 256) bytes) h).1 i
 
 hex_body_ok : (r : Result (List ℕ) FromHexError) (body : Body) → hex_body r ≡ Ok body
     → (bytes : List ℕ) × (r ≡ Ok bytes) × (Hex bytes ≡ body)
@@ -96,20 +96,24 @@ hex_body_ok (Ok bytes) body h = (bytes, refl, cc)
 hex_body_ok (Err e) body h = cc
 
 -- a word that is read is a short body's
-pub body_taken : (word : List ℕ) (body : Body) → body_of word ≡ Ok body → (word ≡ body_word body) × (is_short body ≡ true)
+pub body_taken : (word : List ℕ) (body : Body) → body_of word ≡ Ok body
+    → (word ≡ body_word body) × (is_short body ≡ true)
 unfolding body_of
 body_taken [] body h = cc
 body_taken (b ∷ digits) body h =
-    let p = guard_ok (eqb b 120 && (nat_le (length digits) (2 * MAX_PAYLOAD) && list_all is_lower_digit digits)) (hex_body (decode_of digits)) kind.Body body h in
-    let q = and_parts (eqb b 120) (nat_le (length digits) (2 * MAX_PAYLOAD) && list_all is_lower_digit digits) p.0 in
+    let p = guard_ok (eqb b 120 && (nat_le (length digits) (2 * MAX_PAYLOAD) && list_all
+    is_lower_digit digits)) (hex_body (decode_of digits)) kind.Body body h in
+    let q = and_parts (eqb b 120) (nat_le (length digits) (2 * MAX_PAYLOAD) && list_all
+    is_lower_digit digits) p.0 in
     let r = and_parts (nat_le (length digits) (2 * MAX_PAYLOAD)) (list_all is_lower_digit digits) q.1 in
     let d = hex_body_ok (decode_of digits) body p.1 in
     let ok = decode_of-ok digits d.0 d.1 in
     let lower = lower_pairs 0 digits d.0 r.1 (sym (decode_of-even digits ok.0) ∙ d.1) in
-    let few = at_most (length digits) (2 * MAX_PAYLOAD) r.0 in
+    let few = leb-true (length digits) (2 * MAX_PAYLOAD) r.0 in
     let fits : length d.0 ≤ MAX_PAYLOAD = omega (arith, few, ok.2) in
-    let word : b ∷ digits ≡ body_word (Hex d.0) = cc (same b 120 q.0, lower) in
-    let short : is_short (Hex d.0) ≡ true = and_from _ _ (tells_at_most (length d.0) MAX_PAYLOAD fits) (bytes_pass d.0 ok.3) in
+    let word : b ∷ digits ≡ body_word (Hex d.0) = cc (eqb-true b 120 q.0, lower) in
+    let short : is_short (Hex d.0) ≡ true = and_from _ _ (le-leb (length d.0) MAX_PAYLOAD fits)
+    (bytes_pass d.0 ok.3) in
     (word ∙ ap body_word d.2, sym (ap is_short d.2) ∙ short)
 
 -- a short body's word is read
@@ -118,12 +122,15 @@ unfolding body_of
 body_again (Hex bytes) h =
     let p = and_parts (nat_le (length bytes) MAX_PAYLOAD) (list_all (λ b. nat_lt b 256) bytes) h in
     let small = bytes_are bytes p.1 in
-    let few = at_most (length bytes) MAX_PAYLOAD p.0 in
-    let fits : length (encode_lower bytes) ≤ 2 * MAX_PAYLOAD = omega (arith, length-encode_with lower_digits bytes, few) in
-    rw (tells_at_most (length (encode_lower bytes)) (2 * MAX_PAYLOAD) fits, all_lower bytes small) (ap hex_body (decode_of-encode_lower bytes small))
+    let few = leb-true (length bytes) MAX_PAYLOAD p.0 in
+    let fits : length (encode_lower bytes) ≤ 2 * MAX_PAYLOAD = omega
+    (arith, length-encode_with lower_digits bytes, few) in
+    rw (le-leb (length (encode_lower bytes)) (2 * MAX_PAYLOAD) fits, all_lower bytes small)
+    (ap hex_body (decode_of-encode_lower bytes small))
 body_again (Gen n) h = cc
 
 -- and short it is
 pub short_len : (body : Body) → is_short body ≡ true → body_len body ≤ MAX_PAYLOAD
-short_len (Hex bytes) h = at_most (length bytes) MAX_PAYLOAD (and_parts (nat_le (length bytes) MAX_PAYLOAD) (list_all (λ b. nat_lt b 256) bytes) h).0
+short_len (Hex bytes) h = leb-true (length bytes) MAX_PAYLOAD
+    (and_parts (nat_le (length bytes) MAX_PAYLOAD) (list_all (λ b. nat_lt b 256) bytes) h).0
 short_len (Gen n) h = cc

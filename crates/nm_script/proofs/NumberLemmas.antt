@@ -1,15 +1,20 @@
-use Rattle.std.proofs.Common.{◌≡◌, ℕ, zero, suc, ◌+◌, ◌-◌, ◌*◌, ◌<◌, ◌≤◌, ◌^◌, Bool, true, false, not, ◌&&◌, ◌||◌, List, length, get_or, take, cond, nat_lt, Some, None, refl, sym, ap, ◌∙◌, arith, eqb, decimal}
+-- Numbers in decimal: their spellings, and the digits read so far.
+use Rattle.std.proofs.Common.{◌≡◌, ℕ, zero, suc, ◌+◌, ◌-◌, ◌*◌, ◌<◌, ◌≤◌, ◌^◌, Bool, true, false}
+use Rattle.std.proofs.Common.{not, ◌&&◌, ◌||◌, List, length, get_or, take, cond, nat_lt, Some, None}
+use Rattle.std.proofs.Common.{refl, sym, ap, ◌∙◌, arith, eqb, decimal}
 use Rattle.std.specs.Char.{digit_value}
 use Rattle.std.specs.Str.{all_ascii_digits}
 use Rattle.std.specs.Str.Parse.{digits_value, AllDigits}
 use Rattle.std.specs.Int.{IsInRange}
 use Rattle.std.proofs.lemmas.List.{take_all}
 use Rattle.std.proofs.lemmas.Int.Digits.{digits_value_more, digits_more}
-use Rattle.std.proofs.lemmas.Bool.{and_from, and_parts}
+use Rattle.std.proofs.lemmas.Bool.{and_from, and_parts, ltb-true, lt-ltb}
 use Rattle.std.proofs.lemmas.Bool.Decides.{nat_tests}
 use Rattle.std.proofs.lemmas.Option.{cond_some}
-use Rattle.std.proofs.lemmas.Str.Parse.{IsNumeralModel, numerals_by_value, tells_all_ascii_digits, digit_at, digits_value-take-le}
-use Rattle.std.proofs.lemmas.Fmt.{digits_decimal, digits_value-decimal, decimal-digits_value, decimal_nonempty, first_decimal, decimal_digit}
+use Rattle.std.proofs.lemmas.Str.Parse.{IsNumeralModel, numerals_by_value, tells_all_ascii_digits}
+use Rattle.std.proofs.lemmas.Str.Parse.{digit_at, digits_value-take-le}
+use Rattle.std.proofs.lemmas.Fmt.{digits_decimal, digits_value-decimal, decimal-digits_value}
+use Rattle.std.proofs.lemmas.Fmt.{decimal_nonempty, first_decimal, decimal_digit}
 use Rattle.nm_script.specs.Decimal.{is_plain, number_of}
 
 -- std's words for digits and their value
@@ -22,35 +27,34 @@ pub record IsPlain (bs : List ℕ) : Type 0 where
   pub first : get_or bs 0 0 ≡ 48 → length bs ≡ 1
   pub digits : all_ascii_digits bs ≡ true
 
-some_first : (n first : ℕ) → (nat_lt 0 n && (not (eqb first 48) || eqb n 1)) ≡ true → (0 < n) × (first ≡ 48 → n ≡ 1)
+some_first : (n first : ℕ) → (nat_lt 0 n && (not (eqb first 48) || eqb n 1)) ≡ true
+    → (0 < n) × (first ≡ 48 → n ≡ 1)
 some_first n first h = (grind (arith, nat_tests), λ e. grind (arith, nat_tests))
 
-first_some : (n first : ℕ) → 0 < n → (first ≡ 48 → n ≡ 1) → (nat_lt 0 n && (not (eqb first 48) || eqb n 1)) ≡ true
+first_some : (n first : ℕ) → 0 < n → (first ≡ 48 → n ≡ 1)
+    → (nat_lt 0 n && (not (eqb first 48) || eqb n 1)) ≡ true
 first_some n first some one = grind (arith, nat_tests)
 
 pub plain_parts : (bs : List ℕ) → is_plain bs ≡ true → IsPlain bs
 plain_parts bs h =
-    let p = and_parts (nat_lt 0 (length bs) && (not (eqb (get_or bs 0 0) 48) || eqb (length bs) 1)) (all_ascii_digits bs) h in
+    let p = and_parts (nat_lt 0 (length bs) && (not (eqb (get_or bs 0 0) 48) || eqb (length bs) 1))
+    (all_ascii_digits bs) h in
     let q = some_first (length bs) (get_or bs 0 0) p.0 in
     record { some = q.0; first = q.1; digits = p.1 }
 
 pub plain_from : (bs : List ℕ) → IsPlain bs → is_plain bs ≡ true
 plain_from bs p = and_from _ _ (first_some (length bs) (get_or bs 0 0) p.some p.first) p.digits
 
-below_tells : (m n : ℕ) → nat_lt m n ≡ true → m < n
-below_tells m n h = grind (arith, nat_tests)
-
-tells_below : (m n : ℕ) → m < n → nat_lt m n ≡ true
-tells_below m n h = grind (arith, nat_tests)
-
 -- what is taken is a spelling
-pub number_taken : (limit n : ℕ) (bs : List ℕ) → limit ≤ 2 ^ 64 → number_of limit bs ≡ Some n → (n < limit) × (bs ≡ decimal n)
+pub number_taken : (limit n : ℕ) (bs : List ℕ) → limit ≤ 2 ^ 64 → number_of limit bs ≡ Some n
+    → (n < limit) × (bs ≡ decimal n)
 number_taken limit n bs small h =
     let p = cond_some (is_plain bs && nat_lt (digits_value 10 bs) limit) (digits_value 10 bs) n h in
     let q = and_parts (is_plain bs) (nat_lt (digits_value 10 bs) limit) p.0 in
     let r = plain_parts bs q.0 in
-    let below = below_tells (digits_value 10 bs) limit q.1 in
-    let spelled : decimal (digits_value 10 bs) ≡ bs = decimal-digits_value own bs r.digits r.some r.first (omega arith) in
+    let below = ltb-true (digits_value 10 bs) limit q.1 in
+    let spelled : decimal (digits_value 10 bs) ≡ bs = decimal-digits_value own bs r.digits r.some
+    r.first (omega arith) in
     (omega (arith, p.1, below), sym spelled ∙ ap decimal p.1)
 
 first_zero : (n : ℕ) → n < 2 ^ 64 → get_or (decimal n) 0 0 ≡ 48 → length (decimal n) ≡ 1
@@ -65,46 +69,62 @@ pub number_again : (limit n : ℕ) → limit ≤ 2 ^ 64 → n < limit → number
 number_again limit n small h =
     let fits : n < 2 ^ 64 = omega arith in
     let value : digits_value 10 (decimal n) ≡ n = digits_value-decimal own n fits in
-    let plain = plain_from (decimal n) (record { some = decimal_nonempty n fits; first = first_zero n fits; digits = digits_decimal own n fits }) in
+    let plain = plain_from (decimal n) (record {
+      some = decimal_nonempty n fits;
+      first = first_zero
+          n fits;
+      digits = digits_decimal own n fits;
+    }) in
     let below : digits_value 10 (decimal n) < limit = omega arith in
-    chosen _ _ n (and_from _ _ plain (tells_below (digits_value 10 (decimal n)) limit below)) value
+    chosen _ _ n (and_from _ _ plain (lt-ltb (digits_value 10 (decimal n)) limit below)) value
 
 none_unless : (b : Bool) (n : ℕ) → (b ≡ true → ⊥) → cond b (Some n) None ≡ None
 none_unless true n h = absurd (h refl)
 none_unless false n h = refl
 
 -- what is refused
-pub number_refused : (limit : ℕ) (bs : List ℕ) → (IsPlain bs → digits_value 10 bs < limit → ⊥) → number_of limit bs ≡ None
+pub number_refused : (limit : ℕ) (bs : List ℕ) → (IsPlain bs → digits_value 10 bs < limit → ⊥)
+    → number_of limit bs ≡ None
 number_refused limit bs h = none_unless _ _ (λ e.
     let p = and_parts (is_plain bs) (nat_lt (digits_value 10 bs) limit) e in
-    h (plain_parts bs p.0) (below_tells (digits_value 10 bs) limit p.1))
+    h (plain_parts bs p.0) (ltb-true (digits_value 10 bs) limit p.1))
 
 -- a byte that is no digit
-pub no_digit : (limit i : ℕ) (bs : List ℕ) → i < length bs → ¬ (IsInRange 48 57 (get_or bs i 0)) → number_of limit bs ≡ None
-no_digit limit i bs within other = number_refused limit bs (λ p _. other (digit_at bs i (own.to bs p.digits) within))
+pub no_digit : (limit i : ℕ) (bs : List ℕ) → i < length bs → ¬ (IsInRange 48 57 (get_or bs i 0))
+    → number_of limit bs ≡ None
+no_digit limit i bs within other = number_refused limit bs
+    (λ p _. other (digit_at bs i (own.to bs p.digits) within))
 
 -- a front that is too large
-pub too_large : (limit i : ℕ) (bs : List ℕ) → limit ≤ digits_value 10 (take i bs) → number_of limit bs ≡ None
-too_large limit i bs large = number_refused limit bs (λ _ below. omega (arith, digits_value-take-le 10 bs i (omega arith)))
+pub too_large : (limit i : ℕ) (bs : List ℕ) → limit ≤ digits_value 10 (take i bs)
+    → number_of limit bs ≡ None
+too_large limit i bs large = number_refused limit bs
+    (λ _ below. omega (arith, digits_value-take-le 10 bs i (omega arith)))
 
 pub digit_is : (c : ℕ) → IsInRange 48 57 c → digit_value c ≡ c - 48
 digit_is c h = grind (arith, nat_tests)
 
 -- one more digit
-pub one_more : (bs : List ℕ) (i value digit : ℕ) → i < length bs → IsInRange 48 57 (get_or bs i 0) → value ≡ digits_value 10 (take i bs) → digit ≡ get_or bs i 0 - 48 → value * 10 + digit ≡ digits_value 10 (take (i + 1) bs)
+pub one_more : (bs : List ℕ) (i value digit : ℕ) → i < length bs → IsInRange 48 57 (get_or bs i 0)
+    → value ≡ digits_value 10 (take i bs) → digit ≡ get_or bs i 0 - 48
+    → value * 10 + digit ≡ digits_value 10 (take (i + 1) bs)
 one_more bs i value digit within range so_far d =
     let e = digits_value_more 10 bs i within in
     let f = digit_is (get_or bs i 0) range in
     omega (arith, e, f)
 
-pub one_more_digit : (bs : List ℕ) (i : ℕ) → i < length bs → IsInRange 48 57 (get_or bs i 0) → AllDigits 10 (take i bs) → AllDigits 10 (take (i + 1) bs)
-one_more_digit bs i within range digits = digits_more 10 bs i within digits (omega (arith, digit_is (get_or bs i 0) range))
+pub one_more_digit : (bs : List ℕ) (i : ℕ) → i < length bs → IsInRange 48 57 (get_or bs i 0)
+    → AllDigits 10 (take i bs) → AllDigits 10 (take (i + 1) bs)
+one_more_digit bs i within range digits = digits_more 10 bs i within digits
+    (omega (arith, digit_is (get_or bs i 0) range))
 
 -- all of the bytes
-pub number_whole : (limit i value : ℕ) (bs : List ℕ) → length bs ≤ i → 0 < length bs → (get_or bs 0 0 ≡ 48 → length bs ≡ 1) → AllDigits 10 (take i bs) → value ≡ digits_value 10 (take i bs) → value < limit → Some value ≡ number_of limit bs
+pub number_whole : (limit i value : ℕ) (bs : List ℕ) → length bs ≤ i → 0 < length bs
+    → (get_or bs 0 0 ≡ 48 → length bs ≡ 1) → AllDigits 10 (take i bs)
+    → value ≡ digits_value 10 (take i bs) → value < limit → Some value ≡ number_of limit bs
 number_whole limit i value bs past some first digits so_far below =
     let whole : take i bs ≡ bs = take_all i bs past in
     let all : AllDigits 10 bs = rw whole at digits in
     let is : value ≡ digits_value 10 bs = so_far ∙ ap (digits_value 10) whole in
     let plain = plain_from bs (record { some = some; first = first; digits = own.from bs all }) in
-    sym (chosen _ _ value (and_from _ _ plain (tells_below (digits_value 10 bs) limit (omega arith))) (sym is))
+    sym (chosen _ _ value (and_from _ _ plain (lt-ltb (digits_value 10 bs) limit (omega arith))) (sym is))

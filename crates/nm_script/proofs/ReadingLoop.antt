@@ -1,6 +1,6 @@
 -- Reading lines one after the other, as a loop does.
-use Rattle.std.proofs.Common.{◌≡◌, ℕ, ◌+◌, List, [], ◌∷◌, ◌++◌, length, Result, Ok, Err, refl, sym}
-use Rattle.std.proofs.Common.{ap, ◌∙◌, append_assoc, arith}
+use Rattle.std.proofs.Common.{◌≡◌, ℕ, ◌+◌, List, [], ◌∷◌, ◌++◌, Result, Ok, Err, refl, sym}
+use Rattle.std.proofs.Common.{ap, ◌∙◌, append_assoc}
 use Rattle.std.proofs.lemmas.List.{append-nil}
 use Rattle.nm_types.specs.declared.scripts.Line.{Line}
 use Rattle.nm_types.specs.Limits.{sent_len}
@@ -23,10 +23,12 @@ module _ (front : List Line) (ranks k before : ℕ) (line : List ℕ) (lines : L
     (total : Result (List Line) (ℕ × Kind))
     (so_far : with_front front (lines_from ranks k before (line ∷ lines)) ≡ total) where
   pub goes_on : (first : Line) → at_line k (line_at ranks k before line) ≡ Ok first
-      → with_front (front ++ first ∷ []) (lines_from ranks (k + 1) (before + sent_len first.command) lines) ≡ total
+      → with_front (front ++ first ∷ []) (lines_from ranks (k + 1) (before + sent_len first.command)
+      lines) ≡ total
   unfolding lines_from
   goes_on first h =
-      let one : with_front front (lines_from ranks k before (line ∷ lines)) ≡ with_front (front ++ first ∷ []) (lines_from ranks (k + 1) (before + sent_len first.command) lines) =
+      let one : with_front front (lines_from ranks k before (line ∷ lines)) ≡ with_front
+      (front ++ first ∷ []) (lines_from ranks (k + 1) (before + sent_len first.command) lines) =
       rw h (regroup front first (lines_from ranks (k + 1) (before + sent_len first.command) lines)) in
       sym one ∙ so_far
 
@@ -41,7 +43,3 @@ pub is_done : (front : List Line) (ranks k before : ℕ) (total : Result (List L
     → with_front front (lines_from ranks k before []) ≡ total → total ≡ Ok front
 unfolding lines_from
 is_done front ranks k before total so_far = sym so_far ∙ ap Ok (append-nil front)
-
-pub empty_is : (xs : List ℕ) → length xs ≡ 0 → xs ≡ []
-empty_is [] h = refl
-empty_is (x ∷ xs) h = absurd (omega arith)

@@ -1,9 +1,8 @@
 -- Steps that may fail, tests and choices, taken apart.
-use Rattle.std.proofs.Common.{◌≡◌, ℕ, ◌<◌, ◌≤◌, ◌⊎◌, inl, inr, Bool, true, false, ◌&&◌, cond}
-use Rattle.std.proofs.Common.{nat_le, nat_lt, Option, Some, None, Result, Ok, Err, refl, arith, eqb}
+use Rattle.std.proofs.Common.{◌≡◌, ℕ, ◌⊎◌, inl, inr, Bool, true, false, ◌&&◌, cond}
+use Rattle.std.proofs.Common.{Option, Some, None, Result, Ok, Err, refl}
 use Rattle.std.specs.Option.{ok_or}
 use Rattle.std.proofs.lemmas.Bool.{and_from, and_parts}
-use Rattle.std.proofs.lemmas.Bool.Decides.{nat_tests}
 use Rattle.nm_script.specs.declared.faults.Kind.{Kind}
 use Rattle.nm_script.specs.Faults.{◌>>=◌, at_line}
 
@@ -36,27 +35,6 @@ pub at_line_ok : {A : Type 0} (k : ℕ) (r : Result A Kind) (x : A) → at_line 
 at_line_ok k (Ok y) x h = cc
 at_line_ok k (Err e) x h = cc
 
-pub below : (m n : ℕ) → nat_lt m n ≡ true → m < n
-below m n h = grind (arith, nat_tests)
-
-pub from_below : (m n : ℕ) → nat_lt m n ≡ false → n ≤ m
-from_below m n h = grind (arith, nat_tests)
-
-pub tells_below : (m n : ℕ) → m < n → nat_lt m n ≡ true
-tells_below m n h = grind (arith, nat_tests)
-
-pub tells_not_below : (m n : ℕ) → n ≤ m → nat_lt m n ≡ false
-tells_not_below m n h = grind (arith, nat_tests)
-
-pub at_most : (m n : ℕ) → nat_le m n ≡ true → m ≤ n
-at_most m n h = grind (arith, nat_tests)
-
-pub tells_at_most : (m n : ℕ) → m ≤ n → nat_le m n ≡ true
-tells_at_most m n h = grind (arith, nat_tests)
-
-pub same : (m n : ℕ) → eqb m n ≡ true → m ≡ n
-same m n h = grind (arith, nat_tests)
-
 -- five tests in a row
 pub record AreTrue (a b c d e : Bool) : Type 0 where
   pub one : a ≡ true
@@ -75,4 +53,5 @@ five_parts a b c d e h =
 
 pub five_from : (a b c d e : Bool) → AreTrue a b c d e → (a && b && c && d && e) ≡ true
 five_from a b c d e t =
-    and_from (a && b && c && d) e (and_from (a && b && c) d (and_from (a && b) c (and_from a b t.one t.two) t.three) t.four) t.five
+    and_from (a && b && c && d) e (and_from (a && b && c) d
+    (and_from (a && b) c (and_from a b t.one t.two) t.three) t.four) t.five

@@ -47,7 +47,8 @@ lower_solid (c ∷ cs) h =
     and_from _ _ (lower_digit_solid c p.0) (lower_solid cs p.1)
 
 -- the first word, and the others
-split_word : (word bytes : List ℕ) → list_all is_solid word ≡ true → words_of (word ++ 32 ∷ bytes) ≡ word ∷ words_of bytes
+split_word : (word bytes : List ℕ) → list_all is_solid word ≡ true
+    → words_of (word ++ 32 ∷ bytes) ≡ word ∷ words_of bytes
 split_word [] bytes solid = refl
 split_word (b ∷ word) bytes solid =
     let p = and_parts (is_solid b) (list_all is_solid word) solid in
@@ -60,9 +61,11 @@ last_word (b ∷ word) solid =
     rw (solid_no_space b p.0) (rw (last_word word p.1) refl)
 
 -- words that are joined are those of the line
-pub words_again : (word : List ℕ) (words : List (List ℕ)) → Solid (word ∷ words) → words_of (join_with_byte 32 (word ∷ words)) ≡ word ∷ words
+pub words_again : (word : List ℕ) (words : List (List ℕ)) → Solid (word ∷ words)
+    → words_of (join_with_byte 32 (word ∷ words)) ≡ word ∷ words
 words_again word [] solid = last_word word solid.0
-words_again word (next ∷ words) solid = split_word word (join_with_byte 32 (next ∷ words)) solid.0 ∙ ap (λ ws. word ∷ ws) (words_again next words solid.1)
+words_again word (next ∷ words) solid = split_word word (join_with_byte 32 (next ∷ words)) solid.0 ∙
+    ap (λ ws. word ∷ ws) (words_again next words solid.1)
 
 -- and the line is its words
 pub line_is : (line : List ℕ) → join_with_byte 32 (words_of line) ≡ line
@@ -74,7 +77,9 @@ word_printable (b ∷ word) h =
     let p = and_parts (is_solid b) (list_all is_solid word) h in
     and_from _ _ (solid_printable b p.0) (word_printable word p.1)
 
-pub joined_printable : (word : List ℕ) (words : List (List ℕ)) → Solid (word ∷ words) → is_printable (join_with_byte 32 (word ∷ words)) ≡ true
+pub joined_printable : (word : List ℕ) (words : List (List ℕ)) → Solid (word ∷ words)
+    → is_printable (join_with_byte 32 (word ∷ words)) ≡ true
 joined_printable word [] solid = word_printable word solid.0
 joined_printable word (next ∷ words) solid =
-    list_all-append (λ b. nat_le 32 b && nat_le b 126) word (32 ∷ join_with_byte 32 (next ∷ words)) ∙ and_from _ _ (word_printable word solid.0) (joined_printable next words solid.1)
+    list_all-append (λ b. nat_le 32 b && nat_le b 126) word (32 ∷ join_with_byte 32 (next ∷ words))
+    ∙ and_from _ _ (word_printable word solid.0) (joined_printable next words solid.1)

@@ -15,7 +15,6 @@ use Rattle.nm_types.specs.declared.scripts.Command.TheVariants.{Await, Cancel, M
 use Rattle.nm_types.specs.declared.scripts.Line.{Line}
 use Rattle.nm_types.specs.declared.scripts.Script.{Script}
 use Rattle.nm_types.specs.Limits.{IsScriptOf}
-use Rattle.nm_script.specs.declared.faults.Kind.{Kind}
 use Rattle.nm_script.specs.declared.faults.Kind.TheVariants as kind
 use Rattle.nm_script.specs.declared.faults.ScriptFault.{ScriptFault}
 use Rattle.nm_script.specs.declared.faults.ScriptFault.TheVariants as fault
@@ -25,18 +24,20 @@ abbrev pub is_short : Body → Bool
 is_short (Hex bytes) = nat_le (length bytes) MAX_PAYLOAD && list_all (λ b. nat_lt b 256) bytes
 is_short (Gen len) = false
 
+-- a source that is named
 abbrev pub is_named : Peer → Bool
 is_named peer.Any = false
 is_named (peer.One rank) = true
 
-abbrev pub is_one_tag : TagPick → Bool
-is_one_tag pick.Any = false
-is_one_tag (pick.One tag) = true
+-- a tag that is named
+abbrev pub is_named_tag : TagPick → Bool
+is_named_tag pick.Any = false
+is_named_tag (pick.One tag) = true
 
 -- a standard send of a short body, a receive from a named source with a named tag, or a wait
 abbrev pub is_in_part : Command → Bool
 is_in_part (Send q to tag ctx body sync) = not sync && is_short body
-is_in_part (Recv q from tag ctx cap) = is_named from && is_one_tag tag
+is_in_part (Recv q from tag ctx cap) = is_named from && is_named_tag tag
 is_in_part (Wait q) = true
 is_in_part (Test q) = false
 is_in_part (Probe from tag ctx) = false

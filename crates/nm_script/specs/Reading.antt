@@ -1,5 +1,5 @@
 -- Reading a script, line by line: what it gives, or the first fault.
-use Rattle.std.specs.Prelude.{◌≡◌, ℕ, zero, suc, ◌+◌, List, [], ◌∷◌, Option, Some, None}
+use Rattle.std.specs.Prelude.{ℕ, zero, suc, ◌+◌, List, [], ◌∷◌, Option, Some, None}
 use Rattle.std.specs.Prelude.{Result, Ok, Err, nat_lt, if◌then◌else◌, codes}
 use Rattle.std.specs.Str.{bytes_eq}
 use Rattle.nm_types.specs.declared.limits.TheConstants.{MAX_RANKS, MAX_LINES, MAX_BODIES, MAX_TEXT}
@@ -39,7 +39,8 @@ fitting total line =
 unfoldable pub line_at : ℕ → ℕ → ℕ → List ℕ → Result Line Kind
 line_at ranks k total line =
     if is_printable line
-    then (if nat_lt MAX_LINES k then Err kind.Lines else line_of ranks (words_of line) >>= fitting total)
+    then (if nat_lt MAX_LINES k then Err kind.Lines
+    else line_of ranks (words_of line) >>= fitting total)
     else Err kind.NotAscii
 
 -- the lines from line k on
@@ -60,7 +61,8 @@ script_of (first ∷ others) = do
 
 -- the whole text
 unfoldable pub read_of : List ℕ → Result (ℕ × List Line) (ℕ × Kind)
-read_of bytes = if nat_lt MAX_TEXT (text_len bytes) then Err (0, kind.TooLong) else script_of (lines_of bytes)
+read_of bytes =
+    if nat_lt MAX_TEXT (text_len bytes) then Err (0, kind.TooLong) else script_of (lines_of bytes)
 
 -- a script without where it lies in memory
 abbrev pub parts : Script → ℕ × List Line

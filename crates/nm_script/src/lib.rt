@@ -1,7 +1,7 @@
 //! Scripts as text: what a script's bytes spell, or why they spell none.
 //!
-//! The first line of a script is `ranks N`. Each other line is `R: COMMAND ARGUMENTS`, the command of
-//! a rank R below N. The part of the grammar that is read so far:
+//! The first line of a script is `ranks N`, with N from 1 to 64. Each other line is
+//! `R: COMMAND ARGUMENTS`, the command of a rank R below N. The commands that are read so far:
 //!
 //! | command | starts |
 //! |---|---|
@@ -10,7 +10,8 @@
 //! | `wait Q` | nothing, but goes on until the request is complete (section 3.7.3) |
 //!
 //! One space stands between two words, and a line feed at the end of each line, which the last line
-//! may lack. Numbers are decimal without sign or leading zero; the digits of a body are in lower case.
+//! may lack. Numbers are decimal without sign or leading zero, and the hex digits of a body are in
+//! lower case. A line that holds anything else is refused, and with it the whole text.
 //!
 //! # What a contract sees
 //! The text of a script and its limits, which `nm_types` defines (`IsScriptOf`), and which commands

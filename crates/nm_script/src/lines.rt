@@ -6,7 +6,7 @@ ghost use Rattle.nm_script.specs.Lines.{is_printable, lines_of, text_len, words_
 use nm_types::MAX_TEXT;
 use std::alloc::{AllocError, Global};
 
-/// The text is longer than a script may be. A line feed that its last line lacks counts as one byte.
+/// The text is longer than a script may be. A line feed that its last line lacks counts as a byte.
 pub fn is_too_long(bytes: &[u8]) -> bool
     ensures { result ≡ nat_lt MAX_TEXT (text_len bytes.now) }
 {

@@ -1,6 +1,7 @@
 //! The whole text: its length, its first line, and one line after the other.
 
-ghost use Rattle.std.specs.Prelude.{◌≡◌, ◌<◌, ◌^◌, ◌≤◌, ◌+◌, ℕ, List, length, map, IfOk, IfErr, OnOk};
+ghost use Rattle.std.specs.Prelude.{◌≡◌, ◌<◌, ◌^◌, ◌≤◌, ◌+◌, ℕ, List, length, map};
+ghost use Rattle.std.specs.Prelude.{IfOk, IfErr, OnOk};
 ghost use Rattle.nm_types.specs.declared.scripts.Line.{Line};
 ghost use Rattle.nm_types.specs.Limits.{IsScriptOf, sent_len};
 ghost use Rattle.nm_script.specs.Faults.{Gives, GivesAt, at_line, one_refusal};
@@ -167,7 +168,8 @@ fn one_refusal(fault: ScriptFault) -> ScriptFault
 
 /// The script that the bytes spell. The last line may lack its line feed.
 ///
-/// Only a part of the grammar is read so far, and each other text has one refusal: line 0 and
+/// A text has at most `MAX_LINES` lines and `MAX_TEXT` bytes, with the line feed that its last line
+/// lacks. Only a part of the grammar is read so far, and each other text has one refusal: line 0 and
 /// `Kind::Command`. `Memory` says nothing of the bytes.
 pub fn read(alloc: Global, bytes: &[u8]) -> Result<Script, ScriptFault>
     ensures taken { IfOk result

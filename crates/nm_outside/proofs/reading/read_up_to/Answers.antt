@@ -5,7 +5,9 @@ use Rattle.nm_outside.proofs.reading.read_up_to.Goals as goal
 
 pub returns-in_err-count-clause-taken : goal.returns-in_err-count-clause-taken
 returns-in_err-count-clause-taken g c =
-    rw c.in_err-count.ensures.failed (loses_read _ _ _ _ c.loop-buffer.invariant.read (omega (arith, c.loop-buffer.read.ok.0)))
+    let read = c.loop-buffer.read in
+    let fits : length read.items ≤ c.args.limit = omega (arith, read.ok.0) in
+    rw c.in_err-count.ensures.failed (loses_read _ _ _ _ c.loop-buffer.invariant.read fits)
 
 pub returns-then-count-eq0-clause-taken : goal.returns-then-count-eq0-clause-taken
 returns-then-count-eq0-clause-taken g c =
@@ -17,5 +19,7 @@ pub returns-in_err-extend_from_slice-clause-taken :
     goal.returns-in_err-extend_from_slice-clause-taken
 returns-in_err-extend_from_slice-clause-taken g c =
     let read = c.loop-buffer.read in
-    let fits : length read.items + c.in_ok-count.count ≤ c.args.limit = grind (arith, common_steps, read.ok.0, c.in_ok-count.ensures.within) in
+    let within = c.in_ok-count.ensures.within in
+    let fits : length read.items + c.in_ok-count.count ≤ c.args.limit =
+    grind (arith, common_steps, read.ok.0, within) in
     loses_piece _ _ _ _ _ read.items _ c.loop-buffer.invariant.read c.in_ok-count.ensures.moved fits

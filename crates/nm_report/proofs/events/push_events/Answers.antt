@@ -5,7 +5,9 @@ use Rattle.nm_report.proofs.events.push_events.Goals as goal
 
 pub loop-k-preserved : goal.loop-k-preserved
 loop-k-preserved c =
-    let lines = flat_map (event_line c.args.rank) in
+    let line = event_line c.args.rank in
     let event = c.unwrap.result.now in
+    let events = c.args.account.now.history.events in
     let found = sym c.get.ensures.value ∙ ap option_copied c.unwrap.ensures in
-    next_written lines lines (event_line c.args.rank event) c.args.account.now.history.events _ event _ _ _ found refl c.in_ok-push_event.ensures.ok c.loop-k.invariant
+    next_written (flat_map line) (flat_map line) (line event) events _ event _ _ _ found refl
+    c.in_ok-push_event.ensures.ok c.loop-k.invariant

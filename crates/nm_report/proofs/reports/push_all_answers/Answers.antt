@@ -7,7 +7,10 @@ use Rattle.nm_report.proofs.reports.push_all_answers.Goals as goal
 
 pub loop-rank-preserved : goal.loop-rank-preserved
 loop-rank-preserved c =
+    let ranks = c.args.ranks.now in
     let rank = c.loop-rank.rank in
-    let account = c.index-ranks-rank.result in
-    let found = slice_get_read c.args.ranks.now _ rank account refl c.loop-rank-test.true c.index-ranks-rank.is in
-    next_written (from_rank answer_lines rank) (from_rank answer_lines (rank + 1)) (answer_lines rank account) c.args.ranks.now rank account _ _ _ found refl c.in_ok-push_answers.ensures.ok c.loop-rank.invariant
+    let account = c.index-ranks-rank in
+    let found = slice_get_read ranks _ rank account.result refl c.loop-rank-test.true account.is in
+    next_written (from_rank answer_lines rank) (from_rank answer_lines (rank + 1))
+    (answer_lines rank account.result) ranks rank account.result _ _ _ found refl
+    c.in_ok-push_answers.ensures.ok c.loop-rank.invariant

@@ -8,5 +8,7 @@ pub loop-k-preserved : goal.loop-k-preserved
 loop-k-preserved c =
     let line = λ (event : Event). ran_line c.args.rank event.what in
     let event = c.unwrap.result.now in
+    let events = c.args.account.now.history.events in
     let found = sym c.get.ensures.value ∙ ap option_copied c.unwrap.ensures in
-    next_written (flat_map line) (flat_map line) (line event) c.args.account.now.history.events _ event _ _ _ found refl c.in_ok-push_ran.ensures.ok c.loop-k.invariant
+    next_written (flat_map line) (flat_map line) (line event) events _ event _ _ _ found refl
+    c.in_ok-push_ran.ensures.ok c.loop-k.invariant

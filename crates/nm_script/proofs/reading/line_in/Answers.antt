@@ -9,12 +9,12 @@ pub sent_len-requires : goal.sent_len-requires
 sent_len-requires c =
     let line = c.in_ok-line.line in
     let taken = line_taken c.args.ranks _ line (omega arith) c.in_ok-line.ensures in
-    let short : sent_len line.command ≤ MAX_BODY = sent_short line.command taken.part in
+    let short : sent_len line.command ≤ MAX_BODY = sent_short line.command taken.fits.part in
     omega arith
 
 pub overflow_add-total : goal.overflow_add-total
 overflow_add-total c =
     let line = c.in_ok-line.line in
     let taken = line_taken c.args.ranks _ line (omega arith) c.in_ok-line.ensures in
-    let short : sent_len line.command ≤ MAX_BODY = sent_short line.command taken.part in
+    let short : sent_len line.command ≤ MAX_BODY = sent_short line.command taken.fits.part in
     omega (arith, c.sent_len.ensures)

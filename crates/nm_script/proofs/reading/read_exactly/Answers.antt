@@ -7,5 +7,8 @@ pub invariant_of-result : goal.invariant_of-result
 invariant_of-result c =
     let ranks = c.in_ok-ranks.ranks in
     let lines = c.in_ok-lines.lines in
-    let read = read_of_parts c.args.bytes.now c.split_line.result.0.now (lines_of c.split_line.result.1.now) ranks lines (cc (c.is_too_long.ensures, c.if-is_too_long.false)) c.split_line.ensures.lines c.in_ok-ranks.ensures c.in_ok-lines.ensures in
+    let read = read_of_parts c.args.bytes.now c.split_line.result.0.now
+    (lines_of c.split_line.result.1.now) ranks lines
+    (cc (c.is_too_long.ensures, c.if-is_too_long.false)) c.split_line.ensures.lines
+    c.in_ok-ranks.ensures c.in_ok-lines.ensures in
     record { limits = (read_taken c.args.bytes.now ranks lines read).limits }

@@ -1,0 +1,178 @@
+-- What a search finds, and what is left without it.
+use Rattle.std.proofs.Common.{◌≡◌, ℕ, suc, ◌+◌, ◌<◌, Bool, true, false, not, ◌&&◌, ◌||◌}
+use Rattle.std.proofs.Common.{cond, Option, Some, None, List, [], ◌∷◌, length, get_or}
+use Rattle.std.proofs.Common.{refl, sym, ◌∙◌, ap, subst, arith, ltb}
+use Rattle.std.proofs.Math.Bool.{and-false, and-or_distrib_left}
+use Rattle.std.specs.Prelude.{AllPairs}
+use Rattle.std.specs.List.{All, filter, find, list_any, position, position_or_len, remove, slice_get}
+use Rattle.std.proofs.lemmas.Bool.{ltb-true, ltb-false}
+use Rattle.std.proofs.lemmas.List.{get_or_default}
+use Rattle.std.proofs.lemmas.List.Elements.{All-head, All-tail, All-weaker}
+use Rattle.std.proofs.lemmas.List.Quantifiers.{position-Some}
+use Rattle.std.proofs.lemmas.List.Folds.{find_at}
+use Rattle.std.proofs.lemmas.Option.{slice_get_read, slice_get_past}
+use Rattle.nm_history.proofs.OnceLemmas.{find_among}
+use Rattle.nm_match.specs.Queues.{without_first}
+
+place_of_some : {X : Type 0} (p : X → Bool) (xs : List X) (k : ℕ) (b : Bool) →
+    ltb (position_or_len p xs) (length xs) ≡ b → cond b (Some (position_or_len p xs)) None ≡ Some k →
+    (position_or_len p xs ≡ k) × (k < length xs)
+place_of_some p xs k true within h = let same : position_or_len p xs ≡ k = cc in
+    (same, omega (arith, ltb-true (position_or_len p xs) (length xs) within))
+place_of_some p xs k false past h = absurd (grind arith)
+
+without_first_at : {X : Type 0} (x : X) (xs left : List X) (n : ℕ) (b : Bool) → left ≡ remove xs n →
+    cond b xs (x ∷ left) ≡ remove (x ∷ xs) (cond (not b) (1 + n) 0)
+without_first_at x xs left n true e = refl
+without_first_at {X} x xs left n false e = let up : 1 + n ≡ suc n = omega arith in
+    rw up (ap (λ (ys : List X). x ∷ ys) e)
+
+without_first-place : {X : Type 0} (p : X → Bool) (xs : List X) →
+    without_first p xs ≡ remove xs (position_or_len p xs)
+without_first-place p [] = refl
+without_first-place p (x ∷ xs) = without_first_at x xs (without_first p xs) (position_or_len p xs) (p x)
+    (without_first-place p xs)
+
+-- what is found at the first place that passes
+pub find_first : {X : Type 0} (p : X → Bool) (xs : List X) (k : ℕ) (x : X) → position p xs ≡ Some k →
+    x ≡ get_or xs k x → find p xs ≡ Some x
+find_first p xs k x first read =
+    let place = place_of_some p xs k (ltb (position_or_len p xs) (length xs)) refl first in
+    find_at p xs ∙ ap (λ n. slice_get xs n) place.0 ∙ slice_get_read xs (length xs) k x refl place.1 read
+
+pub find_first_at : {X : Type 0} (p : X → Bool) (xs : List X) (k : ℕ) (d : X) → position p xs ≡ Some k →
+    find p xs ≡ Some (get_or xs k d)
+find_first_at p xs k d first =
+    let inside = position-Some p xs k d first in
+    find_first p xs k (get_or xs k d) first (get_or_default xs k d (get_or xs k d) inside.0)
+
+find_nowhere : {X : Type 0} (p : X → Bool) (xs : List X) (b : Bool) →
+    ltb (position_or_len p xs) (length xs) ≡ b → cond b (Some (position_or_len p xs)) None ≡ None →
+    find p xs ≡ None
+find_nowhere p xs true within h = absurd (grind arith)
+find_nowhere p xs false past h = find_at p xs ∙ slice_get_past xs (position_or_len p xs)
+    (ltb-false (position_or_len p xs) (length xs) past)
+
+-- nothing is found where no place passes
+pub find_none : {X : Type 0} (p : X → Bool) (xs : List X) → position p xs ≡ None → find p xs ≡ None
+find_none p xs none = find_nowhere p xs (ltb (position_or_len p xs) (length xs)) refl none
+
+-- what is left without it
+pub without_first-remove : {X : Type 0} (p : X → Bool) (xs : List X) (k : ℕ) → position p xs ≡ Some k →
+    without_first p xs ≡ remove xs k
+without_first-remove {X} p xs k first =
+    without_first-place p xs ∙ ap (λ n. remove xs n)
+    (place_of_some p xs k (ltb (position_or_len p xs) (length xs)) refl first).0
+
+find-filter_at : {X : Type 0} (p : X → Bool) (x : X) (ys : List X) (b : Bool) →
+    find p (cond b (x ∷ ys) ys) ≡ cond (p x && b) (Some x) (find p ys)
+find-filter_at p x ys true = grind arith
+find-filter_at p x ys false = grind arith
+
+-- a search among the elements that pass a test
+pub find-filter : {X : Type 0} (p q : X → Bool) (xs : List X) →
+    find p (filter q xs) ≡ find (λ x. p x && q x) xs
+find-filter p q [] = refl
+find-filter p q (x ∷ xs) = find-filter_at p x (filter q xs) (q x)
+    ∙ ap (λ r. cond (p x && q x) (Some x) r) (find-filter p q xs)
+
+filter-filter_at : {X : Type 0} (p : X → Bool) (x : X) (ys : List X) (b : Bool) →
+    filter p (cond b (x ∷ ys) ys) ≡ cond (b && p x) (x ∷ filter p ys) (filter p ys)
+filter-filter_at p x ys true = refl
+filter-filter_at p x ys false = refl
+
+-- what passes both of two tests
+pub filter-filter : {X : Type 0} (p q : X → Bool) (xs : List X) →
+    filter p (filter q xs) ≡ filter (λ x. q x && p x) xs
+filter-filter p q [] = refl
+filter-filter p q (x ∷ xs) = filter-filter_at p x (filter q xs) (q x)
+    ∙ ap (λ ys. cond (q x && p x) (x ∷ ys) ys) (filter-filter p q xs)
+
+-- where each element passes, a filter keeps all
+pub filter_all : {X : Type 0} (p : X → Bool) (xs : List X) → All (λ x. p x ≡ true) xs → filter p xs ≡ xs
+filter_all p [] each = refl
+filter_all p (x ∷ xs) each = rw (All-head (λ x. p x ≡ true) x xs each)
+    (ap (λ ys. x ∷ ys) (filter_all p xs (All-tail (λ x. p x ≡ true) x xs each)))
+
+none_at : {X : Type 0} (x : X) (o : Option X) (b : Bool) → cond b (Some x) o ≡ None → (b ≡ false) × (o ≡ None)
+none_at x o true h = absurd (grind arith)
+none_at x o false h = (refl, h)
+
+-- where nothing passes, nothing is taken
+pub without_first-none : {X : Type 0} (p : X → Bool) (xs : List X) → find p xs ≡ None →
+    without_first p xs ≡ xs
+without_first-none p [] none = refl
+without_first-none p (x ∷ xs) none =
+    let both = none_at x (find p xs) (p x) none in
+    rw both.0 (ap (λ ys. x ∷ ys) (without_first-none p xs both.1))
+
+-- no two elements are the same
+abbrev pub Apart : {X : Type 0} → (X → X → Bool) → List X → Type 0
+Apart same xs = AllPairs (λ x y. (same x y ≡ false) × (same y x ≡ false)) xs
+
+apart_head : {X : Type 0} (same : X → X → Bool) (x : X) (xs : List X) → Apart same (x ∷ xs) →
+    All (λ y. (same x y ≡ false) × (same y x ≡ false)) xs
+apart_head same x xs apart = λ k d inside. apart 0 (suc k) d (omega arith) (omega arith)
+
+apart_tail : {X : Type 0} (same : X → X → Bool) (x : X) (xs : List X) → Apart same (x ∷ xs) → Apart same xs
+apart_tail same x xs apart = λ i j d below inside. apart (suc i) (suc j) d (omega arith) (omega arith)
+
+taken_at : {X : Type 0} (test : X → Bool) (same : X → X → Bool) (x : X) (xs : List X) (y : X) (b : Bool) →
+    same x x ≡ true → All (λ z. (same x z ≡ false) × (same z x ≡ false)) xs →
+    (find test xs ≡ Some y → without_first test xs ≡ filter (λ z. not (same y z)) xs) →
+    cond b (Some x) (find test xs) ≡ Some y →
+    cond b xs (x ∷ without_first test xs) ≡ filter (λ z. not (same y z)) (x ∷ xs)
+taken_at {X} test same x xs y true itself apart later found =
+    let here : x ≡ y = cc in
+    subst (λ (y : X). xs ≡ filter (λ z. not (same y z)) (x ∷ xs)) here
+    (rw itself (sym (filter_all (λ z. not (same x z)) xs
+    (All-weaker (λ z. (same x z ≡ false) × (same z x ≡ false)) (λ z. not (same x z) ≡ true)
+    (λ z differ. rw differ.0 refl) xs apart))))
+taken_at {X} test same x xs y false itself apart later found =
+    let other = find_among (λ z. (same x z ≡ false) × (same z x ≡ false)) test xs y apart found in
+    rw other.1 (ap (λ (zs : List X). x ∷ zs) (later found))
+
+-- where no two elements are the same, a list without what was found is a list of those that differ from it
+pub without_first-filter : {X : Type 0} (test : X → Bool) (same : X → X → Bool) →
+    ((x : X) → same x x ≡ true) → (xs : List X) (y : X) → Apart same xs → find test xs ≡ Some y →
+    without_first test xs ≡ filter (λ z. not (same y z)) xs
+without_first-filter test same itself [] y apart found = absurd (grind arith)
+without_first-filter test same itself (x ∷ xs) y apart found =
+    taken_at test same x xs y (test x) (itself x) (apart_head same x xs apart)
+    (without_first-filter test same itself xs y (apart_tail same x xs apart)) found
+
+-- where no element is named, all stay
+pub filter_none : {X : Type 0} (named : X → Bool) (xs : List X) → All (λ x. named x ≡ false) xs →
+    filter (λ x. not (named x)) xs ≡ xs
+filter_none named xs none = filter_all (λ x. not (named x)) xs
+    (All-weaker (λ x. named x ≡ false) (λ x. not (named x) ≡ true) (λ x other. rw other refl) xs none)
+
+any_at : {X : Type 0} (p : X → Bool) (x : X) (xs : List X) (b : Bool) →
+    list_any p (cond b (x ∷ xs) xs) ≡ ((b && p x) || list_any p xs)
+any_at p x xs true = refl
+any_at p x xs false = refl
+
+-- whether one of those that pass is named
+pub list_any-filter : {X : Type 0} (p q : X → Bool) (xs : List X) →
+    list_any p (filter q xs) ≡ list_any (λ x. q x && p x) xs
+list_any-filter p q [] = refl
+list_any-filter p q (x ∷ xs) = any_at p x (filter q xs) (q x)
+    ∙ ap (λ b. (q x && p x) || b) (list_any-filter p q xs)
+
+-- two tests that agree
+pub list_any_agree : {X : Type 0} (p q : X → Bool) → ((x : X) → p x ≡ q x) → (xs : List X) →
+    list_any p xs ≡ list_any q xs
+list_any_agree p q agree [] = refl
+list_any_agree p q agree (x ∷ xs) = rw (agree x) (ap (λ b. q x || b) (list_any_agree p q agree xs))
+
+-- a condition beside the test
+pub list_any-and : {X : Type 0} (b : Bool) (p : X → Bool) (xs : List X) →
+    list_any (λ x. b && p x) xs ≡ (b && list_any p xs)
+list_any-and b p [] = sym (and-false b)
+list_any-and b p (x ∷ xs) = rw (list_any-and b p xs) (sym (and-or_distrib_left b (p x) (list_any p xs)))
+
+-- what any two elements have
+pub AllPairs-weaker : {X : Type 0} (R S : X → X → Type 0) → ((x y : X) → R x y → S x y) → (xs : List X) →
+    AllPairs R xs → AllPairs S xs
+AllPairs-weaker R S weaker xs each = λ i j d below inside.
+    weaker (get_or xs i d) (get_or xs j d) (each i j d below inside)

@@ -1,0 +1,418 @@
+-- The queues after each deed.
+use Rattle.std.proofs.Common.{◌≡◌, ◌≢◌, ℕ, ◌==◌, Bool, true, false, not, ◌&&◌, ◌||◌, Some}
+use Rattle.std.proofs.Common.{List, [], ◌∷◌, ◌++◌, refl, sym, ◌∙◌, ap, subst, arith, append-nil}
+use Rattle.std.proofs.Math.Bool.{and-false, and-true, or-false}
+use Rattle.std.specs.List.{filter, find, list_any}
+use Rattle.std.proofs.lemmas.Bool.{false≢true, false_from_ne_true, eqb-true, ne_eqb, or_left, or_right}
+use Rattle.std.proofs.lemmas.Bool.{or_from}
+use Rattle.std.proofs.lemmas.Bool.Decides.{nat_tests}
+use Rattle.std.proofs.lemmas.List.Elements.{All-weaker}
+use Rattle.std.proofs.lemmas.List.Folds.{list_any-append}
+use Rattle.nm_types.specs.declared.messages.Arrival.{Arrival}
+use Rattle.nm_types.specs.declared.messages.Post as post
+use Rattle.nm_history.specs.declared.events.Event.{Event}
+use Rattle.nm_history.specs.declared.plain.Pair.{Pair}
+use Rattle.nm_history.specs.Sends.{messages, posts, message_of}
+use Rattle.nm_history.specs.Selection.{matches}
+use Rattle.nm_history.specs.Happens.{happened, is_cancel, is_claim}
+use Rattle.nm_history.specs.Matching.{is_claimed, is_free, is_of_message, is_of_receive, is_open}
+use Rattle.nm_history.specs.Matching.{pair_of, pair_of_claimed}
+use Rattle.nm_history.proofs.OnceLemmas.{and_left, and_right, eqb_self, find_among, find_passes, posts-push}
+use Rattle.nm_match.specs.declared.deeds.Deed.TheVariants as deed
+use Rattle.nm_match.specs.Deeds.{event_of, is_known_message, is_known_receive, is_message}
+use Rattle.nm_match.specs.Queues.{AreQueues, without_first}
+use Rattle.nm_match.proofs.ListLemmas.{list_any-and, list_any-filter, list_any_agree}
+use Rattle.nm_match.proofs.PushLemmas.{closes, takes, happened-push, is_free-push, is_known_message-push}
+use Rattle.nm_match.proofs.PushLemmas.{is_known_receive-push, is_open-push, messages_known, posts_known}
+use Rattle.nm_match.proofs.QueueLemmas.{cancels_stay, claims_stay, each_posted, each_unexpected}
+use Rattle.nm_match.proofs.QueueLemmas.{free_means, new_free, new_open, open_means, posted_open}
+use Rattle.nm_match.proofs.QueueLemmas.{posted_stay, queues-push, unexpected_free, unexpected_stay}
+use Rattle.nm_match.proofs.QueueLemmas.{without_message, without_receive}
+use Rattle.nm_match.proofs.TurnLemmas.{MayCome, came_later, false_when, known_later, others_message}
+use Rattle.nm_match.proofs.TurnLemmas.{others_number}
+
+-- the pairs that an event makes are of a known receive that is not cancelled, and of a message that came
+record MayPair (h : List Event) (e : Event) (more : List Pair) : Type 0 where
+  pairs_known : (number : ℕ) → list_any (is_of_receive number) more ≡ true →
+      is_known_receive (h ++ e ∷ []) number ≡ true
+  pairs_open : (number : ℕ) → list_any (is_of_receive number) more ≡ true →
+      happened (is_cancel number) (h ++ e ∷ []) ≡ false
+  pairs_came : (from n : ℕ) → list_any (is_of_message from n) more ≡ true →
+      is_known_message (h ++ e ∷ []) from n ≡ true
+
+no_pair : (h : List Event) (e : Event) → MayPair h e []
+no_pair h e = record {
+  pairs_known = λ number made. absurd (false≢true made);
+  pairs_open = λ number made. absurd (false≢true made);
+  pairs_came = λ from n made. absurd (false≢true made);
+}
+
+-- a receive whose number is not known may be posted
+may_post : (h : List Event) (found : List Pair) (p : post.Post) (more : List Pair) →
+    is_known_receive h p.number ≡ false → MayPair h (event_of (deed.Post p)) more →
+    MayCome h found (event_of (deed.Post p)) more
+may_post h found p more new pairs = record {
+  pairs_known = pairs.pairs_known;
+  pairs_open = pairs.pairs_open;
+  cancels_known = λ number made. absurd (false≢true made);
+  cancels_open = λ number made. absurd (false≢true made);
+  pairs_came = pairs.pairs_came;
+  claims_came = λ from n made. absurd (false≢true made);
+  withdrawals_came = λ from n made. absurd (false≢true made);
+  posts_new = λ q made. let same : p ≡ q = cc in subst
+      (λ (q : post.Post). is_known_receive h q.number ≡ false) same new;
+  messages_new = λ a made. absurd (grind arith);
+  receives_kept = λ number made.
+      or_left _ _ (ap (λ (ps : List post.Post). list_any (λ q. q.number == number) ps)
+      (posts-push h (event_of (deed.Post p)))
+      ∙ list_any-append (λ (q : post.Post). q.number == number) (posts h) (p ∷ []) ∙ or_right _ _ made);
+}
+
+-- a message that did not come before may arrive
+may_arrive : (h : List Event) (found : List Pair) (a : Arrival) (more : List Pair) →
+    is_known_message h a.env.from a.n ≡ false → MayPair h (event_of (deed.Arrive a)) more →
+    MayCome h found (event_of (deed.Arrive a)) more
+may_arrive h found a more new pairs = record {
+  pairs_known = pairs.pairs_known;
+  pairs_open = pairs.pairs_open;
+  cancels_known = λ number made. absurd (false≢true made);
+  cancels_open = λ number made. absurd (false≢true made);
+  pairs_came = pairs.pairs_came;
+  claims_came = λ from n made. absurd (false≢true made);
+  withdrawals_came = λ from n made. absurd (false≢true made);
+  posts_new = λ q made. absurd (grind arith);
+  messages_new = λ b made. let same : a ≡ b = cc in
+      subst (λ (b : Arrival). is_known_message h b.env.from b.n ≡ false) same new;
+  receives_kept = λ number made. absurd (false≢true made);
+}
+
+-- a test of one number, which passes, is of that number
+of_number : (P : ℕ → Type 0) (m number : ℕ) → (m == number || false) ≡ true → P m → P number
+of_number P m number made holds = subst P (eqb-true m number (sym (or-false (m == number)) ∙ made)) holds
+
+-- a test of one message, which passes, is of that message
+of_message : (P : ℕ → ℕ → Type 0) (i m from n : ℕ) → ((i == from && m == n) || false) ≡ true → P i m →
+    P from n
+of_message P i m from n made holds =
+    let same = sym (or-false (i == from && m == n)) ∙ made in
+    subst (λ k. P from k) (eqb-true m n (and_right (i == from) (m == n) same))
+    (subst (λ k. P k m) (eqb-true i from (and_left (i == from) (m == n) same)) holds)
+
+-- a message is not another one
+other_message : (a b : Arrival) → (b.env.from ≡ a.env.from → b.n ≢ a.n) →
+    (a.env.from == b.env.from && a.n == b.n) ≡ false
+other_message a b other =
+    false_from_ne_true (a.env.from == b.env.from && a.n == b.n)
+    (λ same. other (sym (eqb-true a.env.from b.env.from
+    (and_left (a.env.from == b.env.from) (a.n == b.n) same)))
+    (sym (eqb-true a.n b.n (and_right (a.env.from == b.env.from) (a.n == b.n) same))))
+
+claim_made : (claimed taken new : Bool) → (new ≡ true → taken ≡ false) →
+    ((claimed && not taken) || (new || false)) ≡ ((claimed || new) && not (taken || false))
+claim_made false taken false untaken = refl
+claim_made false false true untaken = refl
+claim_made false true true untaken = absurd (false≢true (sym (untaken refl)))
+claim_made true false new untaken = refl
+claim_made true true true untaken = absurd (false≢true (sym (untaken refl)))
+claim_made true true false untaken = refl
+
+receive_made : (this claimed taken : Bool) → (not this && (claimed && not taken))
+    ≡ ((claimed || false) && not (taken || (this || false)))
+receive_made true false taken = refl
+receive_made true true true = refl
+receive_made true true false = refl
+receive_made false false taken = refl
+receive_made false true true = refl
+receive_made false true false = refl
+
+-- an entry that is one message and not another
+other_named : (from n i m k l : ℕ) → (not (k == from && l == n) && (k == i && l == m))
+    ≡ (not (from == i && n == m) && (k == i && l == m))
+other_named from n i m k l = grind (arith, nat_tests)
+
+module _ {h : List Event} {found : List Pair} {posted : List post.Post}
+    {unexpected claimed : List Arrival} {cancelled : List ℕ}
+    (queues : AreQueues h found posted unexpected claimed cancelled) where
+  -- a receive that selects no free message is posted
+  pub posted_alone : (p : post.Post) → is_known_receive h p.number ≡ false →
+      AreQueues (h ++ event_of (deed.Post p) ∷ []) (found ++ [])
+      (posted ++ p ∷ []) unexpected claimed cancelled
+  posted_alone p new =
+      let e : Event = event_of (deed.Post p) in
+      let kept : posted ≡ filter (λ q. not (closes e.what [] q.number)) posted ++ [] =
+      posted_stay queues (λ q. closes e.what [] q.number) (λ k d inside. refl) in
+      let open_now : is_open (h ++ e ∷ []) (found ++ []) p ≡ true = is_open-push h e found [] p
+      ∙ (rw (new_open h found p queues.in_turn new) refl) in
+      queues-push queues e [] (posted ++ p ∷ []) unexpected claimed cancelled
+      (may_post h found p [] new (no_pair h e))
+      (rw open_now (ap (λ (ps : List post.Post). ps ++ p ∷ []) (kept ∙ append-nil _)))
+      (unexpected_stay queues (λ a. takes e.what [] a.env.from a.n) (λ k d inside. refl))
+      (λ from n. claims_stay queues from n false (λ made. absurd (false≢true made)))
+      (cancels_stay queues)
+
+  -- a receive is posted, and takes the oldest free message that it selects
+  pub posted_taking : (p : post.Post) (a : Arrival) → is_known_receive h p.number ≡ false →
+      find (λ a. matches p.from p.tag p.ctx a.env) unexpected ≡ Some a →
+      AreQueues (h ++ event_of (deed.Post p) ∷ []) (found ++ pair_of p a ∷ []) posted
+      (without_first (λ a. matches p.from p.tag p.ctx a.env) unexpected) claimed cancelled
+  posted_taking p a new is_first =
+      let e : Event = event_of (deed.Post p) in
+      let more : List Pair = pair_of p a ∷ [] in
+      let test : Arrival → Bool = λ a. matches p.from p.tag p.ctx a.env in
+      let free = find_among (λ a. is_free h found a ≡ true) test unexpected a
+      (unexpected_free queues) is_first in
+      let came = find_among (λ a. is_known_message h a.env.from a.n ≡ true) test unexpected a
+      (each_unexpected queues (λ a. is_known_message h a.env.from a.n ≡ true)
+      (messages_known h)) is_first in
+      let kept : posted ≡ filter (λ q. not (closes e.what more q.number)) posted ++ [] =
+      posted_stay queues (λ q. closes e.what more q.number)
+      (All-weaker (λ (q : post.Post). q.number ≢ p.number)
+      (λ (q : post.Post). closes e.what more q.number ≡ false)
+      (λ (q : post.Post) (other : q.number ≢ p.number).
+      rw (ne_eqb p.number q.number (λ same. other (sym same))) refl) posted
+      (each_posted queues (λ q. q.number ≢ p.number) (others_number h p.number new))) in
+      let closed : is_open (h ++ e ∷ []) (found ++ more) p ≡ false = is_open-push h e found more p
+      ∙ (rw (eqb_self p.number) (and-false (is_open h found p))) in
+      queues-push queues e more posted (without_first test unexpected) claimed cancelled
+      (may_post h found p more new
+      (record {
+        pairs_known = λ number made. is_known_receive-push h e number ∙ or_right _ _ made;
+        pairs_open = λ number made.
+            of_number (λ m. happened (is_cancel m) (h ++ e ∷ []) ≡ false) p.number number made
+            (happened-push (is_cancel p.number) h e
+            ∙ or_from _ _ (false_when _ _ (queues.in_turn.cancelled_known p.number) new) refl);
+        pairs_came = λ from n made. of_message (λ i m. is_known_message (h ++ e ∷ []) i m
+            ≡ true) a.env.from a.n from n made (came_later h e a.env.from a.n came);
+      }))
+      (rw closed kept)
+      (without_message queues test (λ b. takes e.what more b.env.from b.n) a is_first
+      (λ b. or-false _ ∙ or-false _ ∙ or-false _))
+      (λ from n. claims_stay queues from n (list_any (is_of_message from n) more)
+      (λ made. of_message (λ i m. happened (is_claim i m) h ≡ false) a.env.from a.n from n made
+      (free_means h found a.env.from a.n free).1))
+      (cancels_stay queues)
+
+  -- a message that no open receive selects arrives
+  pub arrived_alone : (a : Arrival) → is_known_message h a.env.from a.n ≡ false →
+      AreQueues (h ++ event_of (deed.Arrive a) ∷ []) (found ++ []) posted
+      (unexpected ++ a ∷ []) claimed cancelled
+  arrived_alone a new =
+      let e : Event = event_of (deed.Arrive a) in
+      let kept : unexpected ≡ filter (λ b. not (takes e.what [] b.env.from b.n)) unexpected ++ [] =
+      unexpected_stay queues (λ b. takes e.what [] b.env.from b.n) (λ k d inside. refl) in
+      let free_now : is_free (h ++ e ∷ []) (found ++ []) a ≡ true = is_free-push h e found [] a
+      ∙ (rw (new_free h found a.env.from a.n queues.in_turn new) refl) in
+      queues-push queues e [] posted (unexpected ++ a ∷ []) claimed cancelled
+      (may_arrive h found a [] new (no_pair h e))
+      (posted_stay queues (λ q. closes e.what [] q.number) (λ k d inside. refl))
+      (rw free_now (ap (λ (as' : List Arrival). as' ++ a ∷ []) (kept ∙ append-nil _)))
+      (λ from n. claims_stay queues from n false (λ made. absurd (false≢true made)))
+      (cancels_stay queues)
+
+  -- a message arrives, and goes to the oldest open receive that selects it
+  pub arrived_taking : (a : Arrival) (p : post.Post) → is_known_message h a.env.from a.n ≡ false →
+      find (λ p. matches p.from p.tag p.ctx a.env) posted ≡ Some p →
+      AreQueues (h ++ event_of (deed.Arrive a) ∷ []) (found ++ pair_of p a ∷ [])
+      (without_first (λ p. matches p.from p.tag p.ctx a.env) posted) unexpected claimed cancelled
+  arrived_taking a p new is_first =
+      let e : Event = event_of (deed.Arrive a) in
+      let more : List Pair = pair_of p a ∷ [] in
+      let test : post.Post → Bool = λ p. matches p.from p.tag p.ctx a.env in
+      let open' = find_among (λ p. is_open h found p ≡ true) test posted p (posted_open queues) is_first in
+      let known = find_among (λ p. is_known_receive h p.number ≡ true) test posted p
+      (each_posted queues (λ p. is_known_receive h p.number ≡ true) (posts_known h)) is_first in
+      let kept : unexpected ≡ filter (λ b. not (takes e.what more b.env.from b.n)) unexpected ++ [] =
+      unexpected_stay queues (λ b. takes e.what more b.env.from b.n)
+      (All-weaker (λ (b : Arrival). b.env.from ≡ a.env.from → b.n ≢ a.n)
+      (λ (b : Arrival). takes e.what more b.env.from b.n ≡ false)
+      (λ (b : Arrival) (other : b.env.from ≡ a.env.from → b.n ≢ a.n).
+      rw (other_message a b other) refl) unexpected
+      (each_unexpected queues (λ b. b.env.from ≡ a.env.from → b.n ≢ a.n)
+      (others_message h a.env.from a.n new))) in
+      let taken : is_free (h ++ e ∷ []) (found ++ more) a ≡ false = is_free-push h e found more a
+      ∙ (rw (eqb_self a.env.from, eqb_self a.n) (and-false (is_free h found a))) in
+      queues-push queues e more (without_first test posted) unexpected claimed cancelled
+      (may_arrive h found a more new
+      (record {
+        pairs_known = λ number made. of_number (λ m. is_known_receive (h ++ e ∷ []) m
+            ≡ true) p.number number made (known_later h e p.number known);
+        pairs_open = λ number made.
+            of_number (λ m. happened (is_cancel m) (h ++ e ∷ []) ≡ false) p.number number made
+            (happened-push (is_cancel p.number) h e ∙ or_from _ _ (open_means h found p open').1 refl);
+        pairs_came = λ from n made. is_known_message-push h e from n ∙ or_right _ _ made;
+      }))
+      (without_receive queues test (λ q. closes e.what more q.number) p is_first
+      (λ q. or-false _ ∙ or-false _))
+      (rw taken kept)
+      (λ from n. claims_stay queues from n (list_any (is_of_message from n) more)
+      (λ made. of_message (λ i m. happened (is_claim i m) h ≡ false) a.env.from a.n from n made
+      (false_when _ _ (queues.in_turn.claimed_came a.env.from a.n) new)))
+      (cancels_stay queues)
+
+  -- an open receive is cancelled
+  pub cancelled_one : (number : ℕ) (p : post.Post) → find (λ p. p.number == number) posted ≡ Some p →
+      AreQueues (h ++ event_of (deed.Cancel number) ∷ []) (found ++ [])
+      (without_first (λ p. p.number == number) posted) unexpected claimed (cancelled ++ number ∷ [])
+  cancelled_one number p is_first =
+      let e : Event = event_of (deed.Cancel number) in
+      let test : post.Post → Bool = λ p. p.number == number in
+      let same : p.number ≡ number = eqb-true p.number number (find_passes test posted p is_first) in
+      let open' = find_among (λ p. is_open h found p ≡ true) test posted p (posted_open queues) is_first in
+      let known = find_among (λ p. is_known_receive h p.number ≡ true) test posted p
+      (each_posted queues (λ p. is_known_receive h p.number ≡ true) (posts_known h)) is_first in
+      queues-push queues e [] (without_first test posted) unexpected claimed (cancelled ++ number ∷ [])
+      (record {
+        pairs_known = λ m made. absurd (false≢true made);
+        pairs_open = λ m made. absurd (false≢true made);
+        cancels_known = λ m made. subst (λ k. is_known_receive h k ≡ true)
+            (same ∙ eqb-true number m (and_left (number == m) true made)) known;
+        cancels_open = λ m made. ap (λ (ps : List Pair). list_any (is_of_receive m) ps) (append-nil found)
+            ∙ subst (λ k. list_any (is_of_receive k) found ≡ false)
+            (same ∙ eqb-true number m (and_left (number == m) true made)) (open_means h found p open').0;
+        pairs_came = λ from n made. absurd (false≢true made);
+        claims_came = λ from n made. absurd (false≢true made);
+        withdrawals_came = λ from n made. absurd (false≢true made);
+        posts_new = λ q made. absurd (grind arith);
+        messages_new = λ a made. absurd (grind arith);
+        receives_kept = λ m made. absurd (false≢true made);
+      })
+      (without_receive queues test (λ q. closes e.what [] q.number) p is_first
+      (λ q. and-true (number == q.number) ∙ ap (λ m. m == q.number) (sym same)))
+      (unexpected_stay queues (λ a. takes e.what [] a.env.from a.n) (λ k d inside. refl))
+      (λ from n. claims_stay queues from n false (λ made. absurd (false≢true made)))
+      (λ m. list_any-append (λ k. k == m) cancelled (number ∷ [])
+      ∙ rw (queues.cancelled_receives m) (ap (λ b. happened (is_cancel m) h || b)
+      (or-false (number == m) ∙ sym (and-true (number == m)))))
+
+  -- a free message is withdrawn
+  pub withdrawn_one : (from n : ℕ) (a : Arrival) → find (is_message from n) unexpected ≡ Some a →
+      AreQueues (h ++ event_of (deed.Withdraw from n) ∷ []) (found ++ []) posted
+      (without_first (is_message from n) unexpected) claimed cancelled
+  withdrawn_one from n a is_first =
+      let e : Event = event_of (deed.Withdraw from n) in
+      let passes = find_passes (is_message from n) unexpected a is_first in
+      let same_from : a.env.from ≡ from = eqb-true a.env.from from
+      (and_left (a.env.from == from) (a.n == n) passes) in
+      let same_n : a.n ≡ n = eqb-true a.n n (and_right (a.env.from == from) (a.n == n) passes) in
+      let came = find_among (λ a. is_known_message h a.env.from a.n ≡ true) (is_message from n) unexpected a
+      (each_unexpected queues (λ a. is_known_message h a.env.from a.n ≡ true)
+      (messages_known h)) is_first in
+      queues-push queues e [] posted (without_first (is_message from n) unexpected) claimed cancelled
+      (record {
+        pairs_known = λ m made. absurd (false≢true made);
+        pairs_open = λ m made. absurd (false≢true made);
+        cancels_known = λ m made. absurd (false≢true made);
+        cancels_open = λ m made. absurd (false≢true made);
+        pairs_came = λ i m made. absurd (false≢true made);
+        claims_came = λ i m made. absurd (false≢true made);
+        withdrawals_came = λ i m made.
+            of_message (λ i m. is_known_message h i m ≡ true) from n i m
+            (or_left _ _ (and_left (from == i && n == m) true made))
+            (subst (λ k. is_known_message h from k ≡ true) same_n
+            (subst (λ k. is_known_message h k a.n ≡ true) same_from came));
+        posts_new = λ q made. absurd (grind arith);
+        messages_new = λ b made. absurd (grind arith);
+        receives_kept = λ m made. absurd (false≢true made);
+      })
+      (posted_stay queues (λ q. closes e.what [] q.number) (λ k d inside. refl))
+      (without_message queues (is_message from n) (λ b. takes e.what [] b.env.from b.n) a is_first
+      (λ b. and-true (from == b.env.from && n == b.n) ∙ (rw (same_from, same_n) refl)))
+      (λ i m. claims_stay queues i m false (λ made. absurd (false≢true made)))
+      (cancels_stay queues)
+
+  -- a free message is claimed
+  pub claimed_one : (test : Arrival → Bool) (a : Arrival) → find test unexpected ≡ Some a →
+      AreQueues (h ++ event_of (deed.Claim a.env.from a.n) ∷ []) (found ++ []) posted
+      (without_first test unexpected) (claimed ++ a ∷ []) cancelled
+  claimed_one test a is_first =
+      let e : Event = event_of (deed.Claim a.env.from a.n) in
+      let free = find_among (λ a. is_free h found a ≡ true) test unexpected a
+      (unexpected_free queues) is_first in
+      let came = find_among (λ a. is_known_message h a.env.from a.n ≡ true) test unexpected a
+      (each_unexpected queues (λ a. is_known_message h a.env.from a.n ≡ true)
+      (messages_known h)) is_first in
+      queues-push queues e [] posted (without_first test unexpected) (claimed ++ a ∷ []) cancelled
+      (record {
+        pairs_known = λ m made. absurd (false≢true made);
+        pairs_open = λ m made. absurd (false≢true made);
+        cancels_known = λ m made. absurd (false≢true made);
+        cancels_open = λ m made. absurd (false≢true made);
+        pairs_came = λ i m made. absurd (false≢true made);
+        claims_came = λ i m made. of_message (λ i m. is_known_message h i m ≡ true) a.env.from a.n i m
+            (or_left _ _ made) came;
+        withdrawals_came = λ i m made. absurd (false≢true made);
+        posts_new = λ q made. absurd (grind arith);
+        messages_new = λ b made. absurd (grind arith);
+        receives_kept = λ m made. absurd (false≢true made);
+      })
+      (posted_stay queues (λ q. closes e.what [] q.number) (λ k d inside. refl))
+      (without_message queues test (λ b. takes e.what [] b.env.from b.n) a is_first
+      (λ b. or-false (a.env.from == b.env.from && a.n == b.n)))
+      (λ i m. list_any-append (is_message i m) claimed (a ∷ [])
+      ∙ rw (queues.claimed_messages i m) (claim_made (happened (is_claim i m) h)
+      (list_any (is_of_message i m) found) (a.env.from == i && a.n == m)
+      (λ made. of_message (λ i m. list_any (is_of_message i m) found ≡ false) a.env.from a.n i m
+      (or_left _ _ made) (free_means h found a.env.from a.n free).0)))
+      (cancels_stay queues)
+
+  -- a claimed message is received
+  pub received_one : (number from n : ℕ) (b : Arrival) → is_known_receive h number ≡ false →
+      is_claimed h found from n ≡ true → message_of h from n ≡ Some b →
+      AreQueues (h ++ event_of (deed.Match number from n) ∷ [])
+      (found ++ pair_of_claimed number 0 b ∷ []) posted unexpected
+      (filter (λ a. not (is_message from n a)) claimed) cancelled
+  received_one number from n b new claimed_now is_first =
+      let e : Event = event_of (deed.Match number from n) in
+      let more : List Pair = pair_of_claimed number 0 b ∷ [] in
+      let passes = find_passes (is_message from n) (messages h) b is_first in
+      let same_from : b.env.from ≡ from = eqb-true b.env.from from
+      (and_left (b.env.from == from) (b.n == n) passes) in
+      let same_n : b.n ≡ n = eqb-true b.n n (and_right (b.env.from == from) (b.n == n) passes) in
+      let was_claimed : happened (is_claim from n) h ≡ true =
+      and_left (happened (is_claim from n) h) _ claimed_now in
+      let claimed_b : happened (is_claim b.env.from b.n) h ≡ true =
+      subst (λ k. happened (is_claim b.env.from k) h ≡ true) (sym same_n)
+      (subst (λ k. happened (is_claim k n) h ≡ true) (sym same_from) was_claimed) in
+      let came : is_known_message h b.env.from b.n ≡ true =
+      queues.in_turn.claimed_came b.env.from b.n claimed_b in
+      queues-push queues e more posted unexpected (filter (λ a. not (is_message from n a)) claimed) cancelled
+      (record {
+        pairs_known = λ m made. is_known_receive-push h e m ∙ or_right _ _ made;
+        pairs_open = λ m made. of_number (λ k. happened (is_cancel k) (h ++ e ∷ []) ≡ false) number m made
+            (happened-push (is_cancel number) h e
+            ∙ or_from _ _ (false_when _ _ (queues.in_turn.cancelled_known number) new) refl);
+        cancels_known = λ m made. absurd (false≢true made);
+        cancels_open = λ m made. absurd (false≢true made);
+        pairs_came = λ i m made. of_message (λ i m. is_known_message (h ++ e ∷ []) i m
+            ≡ true) b.env.from b.n i m made (came_later h e b.env.from b.n came);
+        claims_came = λ i m made. absurd (false≢true made);
+        withdrawals_came = λ i m made. absurd (false≢true made);
+        posts_new = λ q made. absurd (grind arith);
+        messages_new = λ a made. absurd (grind arith);
+        receives_kept = λ m made. or_right _ _ (list_any-append (is_of_receive m) found more
+            ∙ or_right _ _ made);
+      })
+      (posted_stay queues (λ q. closes e.what more q.number)
+      (All-weaker (λ (q : post.Post). q.number ≢ number)
+      (λ (q : post.Post). closes e.what more q.number ≡ false)
+      (λ (q : post.Post) (other : q.number ≢ number).
+      rw (ne_eqb number q.number (λ same. other (sym same))) refl) posted
+      (each_posted queues (λ q. q.number ≢ number) (others_number h number new))))
+      (unexpected_stay queues (λ a. takes e.what more a.env.from a.n)
+      (All-weaker (λ (a : Arrival). is_free h found a ≡ true)
+      (λ (a : Arrival). takes e.what more a.env.from a.n ≡ false)
+      (λ (a : Arrival) (free : is_free h found a ≡ true). or-false _ ∙ or-false _
+      ∙ false_from_ne_true _ (λ made. of_message
+      (λ i m. happened (is_claim i m) h ≡ false → ⊥) b.env.from b.n a.env.from a.n made
+      (λ unclaimed. false≢true (sym unclaimed ∙ claimed_b))
+      (free_means h found a.env.from a.n free).1)) unexpected
+      (unexpected_free queues)))
+      (λ i m. list_any-filter (is_message i m) (λ a. not (is_message from n a)) claimed
+      ∙ list_any_agree (λ a. not (is_message from n a) && is_message i m a)
+      (λ a. not (from == i && n == m) && is_message i m a)
+      (λ a. other_named from n i m a.env.from a.n) claimed
+      ∙ list_any-and (not (from == i && n == m)) (is_message i m) claimed
+      ∙ rw (queues.claimed_messages i m, same_from, same_n)
+      (receive_made (from == i && n == m) (happened (is_claim i m) h)
+      (list_any (is_of_message i m) found)))
+      (cancels_stay queues)

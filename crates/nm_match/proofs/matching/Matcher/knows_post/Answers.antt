@@ -1,0 +1,8 @@
+-- A receive is known by its deed.
+use Rattle.std.proofs.Common.{◌∙◌}
+use Rattle.nm_match.proofs.DeedLemmas.{is_known_receive-deeds}
+use Rattle.nm_match.proofs.matching.Matcher.knows_post.Goals as goal
+
+pub returns : goal.returns
+returns c = rw (← c.self.view_is) (rw c.deref.ensures.value at c.has_receive.ensures
+    ∙ is_known_receive-deeds c.self.inside.deeds.items c.args.post)

@@ -1,0 +1,35 @@
+//! Matching: which posted receive an arriving message takes, and which message a new receive
+//! takes.
+//!
+//! MPI 3.1, sections 3.2.4, 3.5 and 3.8. A `Matcher` has the posted receive queue and the
+//! unexpected message queue of one rank, each a plain list in order of age. It knows envelopes
+//! alone: bodies, requests and threads are above.
+//!
+//! # What a contract sees
+//! The list of the deeds so far, oldest first: the receives that were posted, the messages that
+//! arrived, the cancels and withdrawals that were done, the claims, and the receives of claimed
+//! messages. `history_of` turns that list into the history that it stands for, and each answer is
+//! a definition of `nm_history` on that history. The code removes from its queues; the
+//! definitions keep everything and look through the whole history.
+//! # What is proved
+//! - `post`, `arrive`, `probe` and `claim` answer the oldest match, or none where nothing matches
+//!   (clause `oldest`).
+//! - `cancel` answers `false` exactly where the receive is paired, and `withdraw` exactly where
+//!   the message is paired, claimed or withdrawn before (clause `late`).
+//! - `is_claimed`, `knows_post` and `knows_arrival` answer as defined.
+//! - Each deed is kept once (clauses `ok` and `deeds`), and a call that is refused memory has
+//!   changed nothing (clause `err`). `cancel`, `withdraw` and `probe` take no memory.
+//! - `laws` lets a caller that keeps a history of its own speak of that history in place of the
+//!   deeds. To use a law, call it.
+//! # What is only tested
+//! That `post`, `arrive`, `claim` and `take_claimed` succeed with ample memory.
+#![tactic(auto)]
+
+mod deeds;
+pub mod laws;
+mod matching;
+mod posted;
+mod unexpected;
+
+pub use deeds::Deed;
+pub use matching::Matcher;

@@ -1,0 +1,332 @@
+//! The matcher: the posted receive queue and the unexpected message queue of one rank.
+
+ghost use Rattle.std.specs.Prelude.{◌≡◌, ◌++◌, ◌&&◌, false, if◌then◌else◌, not, [], ◌∷◌, IfOk};
+ghost use Rattle.std.specs.Prelude.{IsSome, IsTrue, MatchOption, OnErr, OnOk, option_map};
+ghost use Rattle.std.specs.List.{list_any};
+ghost use Rattle.nm_history.specs.Happens.{happened, is_cancel};
+ghost use Rattle.nm_history.specs.Matching.{first_message, first_receive, is_free_message};
+ghost use Rattle.nm_history.specs.Matching.{is_claimed as is_claimed_lem, is_of_receive};
+ghost use Rattle.nm_history.specs.Matching.{matched_pairs};
+ghost use Rattle.nm_history.specs.Sends.{message_of};
+ghost use Rattle.nm_match.specs.declared.deeds.Deed.TheVariants as deed;
+ghost use Rattle.nm_match.specs.Deeds.{history_of, is_known_message, is_known_receive};
+
+use crate::deeds::{Deed, has_arrival, has_receive};
+use crate::{posted, unexpected};
+use nm_types::{Arrival, Memory, Peer, Post, TagPick};
+use std::alloc::Global;
+use std::marker::Model;
+
+/// The matching of one rank: its posted receive queue and its unexpected message queue.
+///
+/// A receive selects a message where the contexts are equal, and the source and the tag are equal
+/// or any (MPI 3.1, section 3.2.4). Of the messages that a receive selects it takes the one that
+/// came first, and a message goes to the receive that was posted first of those that select it
+/// (section 3.5). A receive is open until it is paired or cancelled. A message is free until it
+/// is paired, claimed or withdrawn.
+///
+/// Receives are known by their numbers, and messages by their sender and their place among the
+/// messages of that sender. Each call looks once through the queue that it is about; `knows_post`
+/// and `knows_arrival` look through all deeds.
+#[derive(Debug, Drop)]
+pub struct Matcher {
+    deeds: Vec<Deed>,
+    posted: Vec<Post>,
+    unexpected: Vec<Arrival>,
+    claimed: Vec<Arrival>,
+    cancelled: Vec<u64>,
+}
+
+impl Model for Matcher {
+    ghost use Rattle.std.specs.Prelude.{List, vec_capacity, vec_len};
+    ghost use Rattle.nm_match.specs.declared.deeds.Deed.{Deed};
+    ghost use Rattle.nm_match.specs.Queues.{AreQueuesOf, HasRoom};
+
+    ghost Value = { List Deed };
+
+    ghost view = { λ m. m.deeds.items };
+
+    ghost invariant = { λ m.
+        AreQueuesOf m.deeds.items m.posted.items m.unexpected.items m.claimed.items
+        m.cancelled.items
+        × HasRoom (vec_len m.deeds) (vec_len m.posted) (vec_len m.unexpected) (vec_len m.cancelled)
+        (vec_capacity m.deeds) (vec_capacity m.cancelled) };
+}
+
+impl Matcher {
+    /// The matcher of a rank where no receive was posted and no message came.
+    pub fn new(alloc: Global) -> Self
+        ensures { result ≡ [] }
+    {
+        Matcher {
+            deeds: Vec::new(alloc),
+            posted: Vec::new(alloc),
+            unexpected: Vec::new(alloc),
+            claimed: Vec::new(alloc),
+            cancelled: Vec::new(alloc),
+        }
+    }
+
+    /// Posts a receive whose number is new, and answers the message that it takes: the oldest
+    /// free one that it selects. Where there is none it joins the posted receive queue.
+    ///
+    /// It makes room for its own deed and for one later cancel of it, so `cancel` takes no memory.
+    pub fn post(&mut self, p: Post) -> Result<Option<Arrival>, Memory>
+        requires is_new { is_known_receive (history_of self.old) p.number ≡ false }
+        ensures oldest { let h = history_of self.old in IfOk result
+            (λ taken. taken ≡ first_message h (matched_pairs h) p.from p.tag p.ctx) }
+        ensures ok { OnOk result (self.new ≡ self.old ++ deed.Post p ∷ []) }
+        ensures err { OnErr result (self.new ≡ self.old) }
+    {
+        self.posted.reserve(1)?;
+        self.deeds
+            .reserve(self.posted.len() + self.unexpected.len() + 2)?;
+        self.cancelled.reserve(self.posted.len() + 1)?;
+        self.deeds.push_reserved(Deed::Post(p));
+        match unexpected::take_oldest(&mut self.unexpected, p.from, p.tag, p.ctx) {
+            Some(a) => Ok(Some(a)),
+            None => {
+                self.posted.push_reserved(p);
+                Ok(None)
+            }
+        }
+    }
+
+    /// Brings a message that is new, and answers the number of the receive that takes it: the
+    /// oldest open one that selects it. Where there is none it joins the unexpected message
+    /// queue.
+    ///
+    /// It makes room for its own deed and for one later withdrawal or claim of it, so `withdraw`
+    /// takes no memory.
+    pub fn arrive(&mut self, a: Arrival) -> Result<Option<u64>, Memory>
+        requires is_new { is_known_message (history_of self.old) a.env.from a.n ≡ false }
+        ensures oldest { let h = history_of self.old in IfOk result
+            (λ taken. taken
+            ≡ option_map (λ p. p.number) (first_receive h (matched_pairs h) a.env)) }
+        ensures ok { OnOk result (self.new ≡ self.old ++ deed.Arrive a ∷ []) }
+        ensures err { OnErr result (self.new ≡ self.old) }
+    {
+        self.unexpected.reserve(1)?;
+        self.deeds
+            .reserve(self.posted.len() + self.unexpected.len() + 2)?;
+        self.deeds.push_reserved(Deed::Arrive(a));
+        match posted::take_oldest(&mut self.posted, &a.env) {
+            Some(p) => Ok(Some(p.number)),
+            None => {
+                self.unexpected.push_reserved(a);
+                Ok(None)
+            }
+        }
+    }
+
+    /// Cancels a known receive (MPI 3.1, section 3.8.4), and answers `false` where it came too
+    /// late: exactly where the receive is paired, posted or of a claimed message. A cancelled
+    /// receive never pairs. A second cancel of it answers `true` again, and is no deed.
+    pub fn cancel(&mut self, post: u64) -> bool
+        requires known { IsTrue (is_known_receive (history_of self.old) post) }
+        ensures late { result
+            ≡ not (list_any (is_of_receive post) (matched_pairs (history_of self.old))) }
+        ensures deeds { self.new
+            ≡ (if result && not (happened (is_cancel post) (history_of self.old))
+            then self.old ++ deed.Cancel post ∷ [] else self.old) }
+    {
+        match posted::take_number(&mut self.posted, post) {
+            Some(_) => {
+                self.cancelled.push_reserved(post);
+                self.deeds.push_reserved(Deed::Cancel { number: post });
+                true
+            }
+            None => self.cancelled.contains(&post),
+        }
+    }
+
+    /// Withdraws a message that came, for its sender's cancel (MPI 3.1, section 3.8.4), and
+    /// answers `false` where it came too late: exactly where the message is paired, claimed or
+    /// withdrawn before.
+    pub fn withdraw(&mut self, from: u8, n: u64) -> bool
+        requires known { IsTrue (is_known_message (history_of self.old) from n) }
+        ensures late { let h = history_of self.old in
+            result ≡ is_free_message h (matched_pairs h) from n }
+        ensures deeds { self.new
+            ≡ (if result then self.old ++ deed.Withdraw from n ∷ [] else self.old) }
+    {
+        match unexpected::take_message(&mut self.unexpected, from, n) {
+            Some(_) => {
+                self.deeds.push_reserved(Deed::Withdraw { from, n });
+                true
+            }
+            None => false,
+        }
+    }
+
+    /// The oldest free message that a receive with this source, tag and context would take (MPI
+    /// 3.1, section 3.8.1). It changes nothing.
+    pub fn probe(&self, from: Peer, tag: TagPick, ctx: u8) -> Option<Arrival>
+        ensures oldest { let h = history_of self.now in
+            result ≡ first_message h (matched_pairs h) from tag ctx }
+    {
+        unexpected::oldest(&self.unexpected, from, tag, ctx)
+    }
+
+    /// A matched probe (MPI 3.1, section 3.8.2): answers the message that `probe` would, and
+    /// claims it. From then on only `take_claimed` can receive it.
+    pub fn claim(&mut self, from: Peer, tag: TagPick, ctx: u8) -> Result<Option<Arrival>, Memory>
+        ensures oldest { let h = history_of self.old in
+            IfOk result (λ taken. taken ≡ first_message h (matched_pairs h) from tag ctx) }
+        ensures ok { IfOk result (λ taken. MatchOption taken (self.new ≡ self.old)
+            (λ a. self.new ≡ self.old ++ deed.Claim a.env.from a.n ∷ [])) }
+        ensures err { OnErr result (self.new ≡ self.old) }
+    {
+        self.claimed.reserve(1)?;
+        match unexpected::take_oldest(&mut self.unexpected, from, tag, ctx) {
+            Some(a) => {
+                self.claimed.push_reserved(a);
+                self.deeds.push_reserved(Deed::Claim {
+                    from: a.env.from,
+                    n: a.n,
+                });
+                Ok(Some(a))
+            }
+            None => Ok(None),
+        }
+    }
+
+    /// Whether a message is claimed and not yet received.
+    pub fn is_claimed(&self, from: u8, n: u64) -> bool
+        ensures value { let h = history_of self.now in
+            result ≡ is_claimed_lem h (matched_pairs h) from n }
+        ensures came { IsTrue result → IsSome (message_of (history_of self.now) from n) }
+    {
+        unexpected::contains_message(&self.claimed, from, n)
+    }
+
+    /// The matched receive of a claimed message (MPI 3.1, section 3.8.3), under a new number.
+    /// Posted and matched receives are numbered together.
+    pub fn take_claimed(&mut self, number: u64, from: u8, n: u64) -> Result<(), Memory>
+        requires claimed { let h = history_of self.old in
+            IsTrue (is_claimed_lem h (matched_pairs h) from n) }
+        requires is_new { is_known_receive (history_of self.old) number ≡ false }
+        ensures ok { OnOk result (self.new ≡ self.old ++ deed.Match number from n ∷ []) }
+        ensures err { OnErr result (self.new ≡ self.old) }
+    {
+        self.deeds
+            .reserve(self.posted.len() + self.unexpected.len() + 1)?;
+        unexpected::drop_message(&mut self.claimed, from, n);
+        self.deeds.push_reserved(Deed::Match { number, from, n });
+        Ok(())
+    }
+
+    /// Whether a receive of this number was posted, or took a claimed message. It looks through
+    /// all deeds.
+    pub fn knows_post(&self, post: u64) -> bool
+        ensures { result ≡ is_known_receive (history_of self.now) post }
+    {
+        has_receive(&self.deeds, post)
+    }
+
+    /// Whether message `n` of a rank came. It looks through all deeds.
+    pub fn knows_arrival(&self, from: u8, n: u64) -> bool
+        ensures { result ≡ is_known_message (history_of self.now) from n }
+    {
+        has_arrival(&self.deeds, from, n)
+    }
+}
+
+#[cfg(test)]
+mod tests {
+    use super::*;
+    use nm_types::{Envelope, How};
+    use std::process::Abort;
+    use std::test::Fail;
+
+    fn posts(
+        rt: &impl Abort,
+        m: &mut Matcher,
+        number: u64,
+        from: Peer,
+        tag: TagPick,
+    ) -> Result<Option<Arrival>, Memory> {
+        assert!(rt; !m.knows_post(number));
+        m.post(Post {
+            number,
+            from,
+            tag,
+            ctx: 0,
+            cap: 8,
+        })
+    }
+
+    fn message(from: u8, n: u64, tag: u16) -> Arrival
+        ensures named { result.n ≡ n }
+        ensures from { result.env.from ≡ from }
+    {
+        Arrival {
+            n,
+            env: Envelope {
+                from,
+                tag,
+                ctx: 0,
+                len: 1,
+                how: How::Eager,
+            },
+        }
+    }
+
+    fn brings(
+        rt: &impl Abort,
+        m: &mut Matcher,
+        from: u8,
+        n: u64,
+        tag: u16,
+    ) -> Result<Option<u64>, Memory> {
+        assert!(rt; !m.knows_arrival(from, n));
+        m.arrive(message(from, n, tag))
+    }
+
+    fn withdraws(rt: &impl Abort, m: &mut Matcher, from: u8, n: u64) -> bool {
+        assert!(rt; m.knows_arrival(from, n));
+        m.withdraw(from, n)
+    }
+
+    fn cancels(rt: &impl Abort, m: &mut Matcher, number: u64) -> bool {
+        assert!(rt; m.knows_post(number));
+        m.cancel(number)
+    }
+
+    #[test]
+    fn the_oldest_receive_and_the_oldest_message_match(rt: HostRuntime) -> Result<(), Fail> {
+        let mut m = Matcher::new(rt.alloc());
+        assert_eq!(rt; posts(&rt, &mut m, 0, Peer::Any, TagPick::Any)?, None);
+        assert_eq!(rt; posts(&rt, &mut m, 1, Peer::One(2), TagPick::One(5))?, None);
+        assert_eq!(rt; brings(&rt, &mut m, 2, 0, 5)?, Some(0));
+        assert_eq!(rt; brings(&rt, &mut m, 2, 1, 5)?, Some(1));
+        assert_eq!(rt; brings(&rt, &mut m, 3, 0, 9)?, None);
+        assert_eq!(rt; m.probe(Peer::Any, TagPick::Any, 0), Some(message(3, 0, 9)));
+        assert!(rt; withdraws(&rt, &mut m, 3, 0));
+        assert!(rt; !withdraws(&rt, &mut m, 3, 0));
+        assert_eq!(rt; m.probe(Peer::Any, TagPick::Any, 0), None);
+        assert!(rt; !cancels(&rt, &mut m, 0));
+        Ok(())
+    }
+
+    #[test]
+    fn a_claimed_message_goes_to_its_matched_receive(rt: HostRuntime) -> Result<(), Fail> {
+        let mut m = Matcher::new(rt.alloc());
+        assert_eq!(rt; brings(&rt, &mut m, 2, 0, 5)?, None);
+        assert_eq!(rt;
+            m.claim(Peer::Any, TagPick::Any, 0)?,
+            Some(message(2, 0, 5))
+        );
+        assert_eq!(rt; m.claim(Peer::Any, TagPick::Any, 0)?, None);
+        assert!(rt; !withdraws(&rt, &mut m, 2, 0));
+        assert_eq!(rt; posts(&rt, &mut m, 0, Peer::Any, TagPick::Any)?, None);
+        assert!(rt; m.is_claimed(2, 0));
+        assert!(rt; !m.knows_post(1));
+        m.take_claimed(1, 2, 0)?;
+        assert!(rt; !m.is_claimed(2, 0));
+        assert!(rt; !cancels(&rt, &mut m, 1));
+        assert!(rt; cancels(&rt, &mut m, 0));
+        assert!(rt; cancels(&rt, &mut m, 0));
+        Ok(())
+    }
+}

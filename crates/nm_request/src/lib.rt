@@ -1,0 +1,168 @@
+//! The live requests of a rank: what a send or a receive that was started is known by.
+//!
+//! MPI 3.1, section 3.7. A request has a key, under which it is kept, and a turn, which counts the
+//! requests that were added before it. Keys are used again, turns are not, so a request that was
+//! freed stays unknown for good.
+//!
+//! # What a contract sees
+//! A map from requests to kinds, the number of requests added so far, and the number of requests
+//! for which there is room.
+//! # What is proved
+//! - `add` gives a request that was never given before, and changes no other (clause `ok`).
+//! - `get` and `free` answer `NoSuch` exactly where the request isn't live (clause `kind`).
+//! - Want of memory leaves everything as it was, and never comes where there is room.
+//! # What is only tested
+//! That `add` and `reserve` succeed with ample memory.
+#![tactic(auto)]
+
+ghost use Rattle.std.specs.Prelude.{◌≡◌, ◌<◌, ◌≤◌, ◌↔◌, None, IsOk, IfOk, OnOk, OnErr, IsTrue};
+ghost use Rattle.std.specs.Option.{ok_or};
+ghost use Rattle.nm_request.specs.declared.Req.{Req};
+ghost use Rattle.nm_request.specs.Requests.{kind_of, AllAreOlder, SameRequests};
+ghost use Rattle.nm_request.specs.Requests.{AddsRequest, FreesRequest};
+
+use nm_types::Memory;
+use slab::Slab;
+use std::alloc::Global;
+use std::marker::Model;
+
+/// How many requests can be added to a `Requests` in all.
+pub const MAX_REQUESTS: u64 = 4611686018427387904;
+
+/// A request: the key under which it is kept, and how many requests were added before it.
+#[derive(Clone, Copy, Debug, PartialEq, Eq)]
+pub struct Req {
+    pub key: usize,
+    pub turn: u64,
+}
+
+/// What a request stands for.
+#[derive(Clone, Copy, Debug, PartialEq, Eq)]
+pub enum Kind {
+    /// The send of message `n` to rank `to`.
+    Send { to: u8, n: u64 },
+    /// The receive with this number.
+    Receive { number: u64 },
+}
+
+/// The request isn't live.
+#[derive(Clone, Copy, Debug, PartialEq, Eq)]
+pub struct NoSuch;
+
+/// The live requests of a rank.
+#[derive(Drop)]
+pub struct Requests {
+    live: Slab<(u64, Kind)>,
+    added: u64,
+}
+
+impl Model for Requests {
+    ghost use Rattle.std.specs.Prelude.{◌-◌, ◌≤◌};
+    ghost use Rattle.slab.specs.Slab.{slab_len};
+    ghost use Rattle.nm_request.specs.Requests.{Live, AllAreOlder};
+    ghost use Rattle.nm_request.specs.declared.TheConstants.{MAX_REQUESTS};
+
+    ghost Value = { Live };
+
+    ghost view = { λ a. record {
+      slots = a.live.slots;
+      added = a.added;
+      spare = a.live.capacity - slab_len a.live;
+    } };
+
+    ghost invariant = { λ a. (a.added ≤ MAX_REQUESTS)
+        × AllAreOlder (record { slots = a.live.slots; added = a.added; spare = 0 }) };
+}
+
+impl Requests {
+    /// No request.
+    pub fn new(alloc: Global) -> Self
+        ensures none { (r : Req) → kind_of result r ≡ None }
+        ensures counted { result.added ≡ 0 }
+    {
+        Requests {
+            live: Slab::new(alloc),
+            added: 0,
+        }
+    }
+
+    /// Whether no request can be added any more.
+    pub fn is_worn(&self) -> bool
+        ensures value { IsTrue result ↔ (self.now.added ≡ MAX_REQUESTS) }
+        ensures limit { self.now.added ≤ MAX_REQUESTS }
+        ensures older { AllAreOlder self.now }
+    {
+        self.added == MAX_REQUESTS
+    }
+
+    /// Makes room for one request more.
+    pub fn reserve(&mut self) -> Result<(), Memory>
+        ensures ok { OnOk result (0 < self.new.spare) }
+        ensures succeeds { 0 < self.old.spare → IsOk result }
+        ensures same { SameRequests self.old self.new }
+        ensures older { AllAreOlder self.new }
+    {
+        self.live.reserve(1)?;
+        Ok(())
+    }
+
+    /// Adds a request. It takes no memory where there is room.
+    pub fn add(&mut self, kind: Kind) -> Result<Req, Memory>
+        requires in_range { self.old.added < MAX_REQUESTS }
+        ensures ok { IfOk result (λ r. AddsRequest self.old self.new r kind) }
+        ensures succeeds { 0 < self.old.spare → IsOk result }
+        ensures err { OnErr result (SameRequests self.old self.new) }
+        ensures older { AllAreOlder self.new }
+    {
+        self.reserve()?;
+        let turn = self.added;
+        let key = self.live.insert_reserved((turn, kind));
+        self.added += 1;
+        Ok(Req { key, turn })
+    }
+
+    /// What a live request stands for.
+    pub fn get(&self, r: Req) -> Result<Kind, NoSuch>
+        ensures kind { result ≡ ok_or (kind_of self.now r) (record {}) }
+        ensures older { AllAreOlder self.now }
+    {
+        match self.live.get(r.key) {
+            Some((turn, kind)) if *turn == r.turn => Ok(*kind),
+            _ => Err(NoSuch),
+        }
+    }
+
+    /// Takes a live request away.
+    pub fn free(&mut self, r: Req) -> Result<Kind, NoSuch>
+        ensures kind { result ≡ ok_or (kind_of self.old r) (record {}) }
+        ensures ok { OnOk result (FreesRequest self.old self.new r) }
+        ensures err { OnErr result (self.new ≡ self.old) }
+        ensures older { AllAreOlder self.new }
+    {
+        let kind = self.get(r)?;
+        self.live.try_remove(r.key);
+        Ok(kind)
+    }
+}
+
+#[cfg(test)]
+mod tests {
+    use super::*;
+    use std::test::Fail;
+
+    #[test]
+    fn a_freed_request_is_unknown(rt: HostRuntime) -> Result<(), Fail> {
+        let mut requests = Requests::new(rt.alloc());
+        requests.reserve()?;
+        let kind = Kind::Receive { number: 3 };
+        let first = requests.add(kind)?;
+        assert_eq!(rt; requests.free(first), Ok(kind));
+        assert_eq!(rt; requests.get(first), Err(NoSuch));
+        assert!(rt; !requests.is_worn());
+        let send = Kind::Send { to: 1, n: 0 };
+        let second = requests.add(send)?;
+        assert_eq!(rt; requests.get(second), Ok(send));
+        assert_eq!(rt; requests.get(first), Err(NoSuch));
+        Ok(())
+    }
+}
