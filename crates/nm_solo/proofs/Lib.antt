@@ -1,4 +1,6 @@
+pub mod ActorLemmas
 pub mod BetweenLemmas
+pub mod CommandLemmas
+pub mod PairsLemmas
 pub mod PlainLemmas
 pub mod RestLemmas
-pub mod PairsLemmas

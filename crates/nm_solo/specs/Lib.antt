@@ -1,3 +1,4 @@
+pub mod Actors
 pub mod Between
 pub mod Cores
 pub mod Lines
