@@ -1,0 +1,4 @@
+pub mod Cutting
+pub mod Joining
+pub mod Senders
+pub mod Streams

@@ -1,0 +1,5 @@
+pub mod Ends
+pub mod Finished
+pub mod Moments
+pub mod Settled
+pub mod Sound

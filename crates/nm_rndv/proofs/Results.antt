@@ -1,0 +1,28 @@
+-- What follows from the variant of an answer.
+use Rattle.std.proofs.Common.{◌≡◌, Result, Ok, Err, Option, Some, None, OnOk, OnErr, IsSome, IfSome}
+use Rattle.std.proofs.Common.{MutBor, refl, subst}
+use Rattle.std.specs.Option.{option_copied_mut}
+
+-- a fact holds of a refusal
+pub on_err : {T E P : Type 0} (r : Result T E) → P → OnErr r P
+on_err (Ok x) p = tt
+on_err (Err e) p = p
+
+-- what is lent is there
+pub lent : {T : Type 0} (o : Option (MutBor T)) (x : T) → option_copied_mut o ≡ Some x → IsSome o
+lent None x h = absurd cc
+lent (Some y) x h = refl
+
+-- a fact holds of a success
+pub on_ok : {T E P : Type 0} (r : Result T E) → P → OnOk r P
+on_ok (Ok x) p = p
+on_ok (Err e) p = tt
+
+-- a fact of a value that may be there
+pub if_some : {X : Type 0} (P : X → Type 0) (o : Option X) → ((x : X) → o ≡ Some x → P x) → IfSome o P
+if_some P None h = tt
+if_some P (Some x) h = h x refl
+
+-- and the same fact of a value that is there
+pub is_there : {X : Type 0} (P : X → Type 0) {o : Option X} {x : X} → o ≡ Some x → IfSome o P → P x
+is_there P e h = subst (λ o. IfSome o P) e h

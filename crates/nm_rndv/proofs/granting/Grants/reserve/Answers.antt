@@ -1,0 +1,28 @@
+use Rattle.std.proofs.Common.{◌<◌, ◌∙◌, ap, arith, length, length-set}
+use Rattle.std.proofs.Math.Seq.{map-set_same}
+use Rattle.nm_rndv.specs.Grants.{FromSender}
+use Rattle.nm_rndv.proofs.SenderLemmas.{room_more, room_all}
+use Rattle.nm_rndv.proofs.granting.Grants.reserve.Goals as goal
+
+pub returns-in_err-reserve-clause-same : goal.returns-in_err-reserve-clause-same
+returns-in_err-reserve-clause-same c =
+    let ss = c.loop-from.self-inside.senders.items in
+    map-set_same (λ (s : FromSender). s.grants) ss c.loop-from.from c.reserve.new.self c.index_mut.result.now
+    (c.reserve.ensures.same ∙ ap (λ (s : FromSender). s.grants) c.index_mut.ensures.value)
+    ∙ c.loop-from.invariant.1
+
+pub loop-from-preserved : goal.loop-from-preserved
+loop-from-preserved c =
+    let ss = c.loop-from.self-inside.senders.items in
+    let within : c.loop-from.from < length ss = omega arith in (
+      length-set ss c.loop-from.from c.reserve.new.self ∙ c.loop-from.invariant.0,
+      map-set_same (λ (s : FromSender). s.grants) ss c.loop-from.from c.reserve.new.self c.index_mut.result.now
+          (c.reserve.ensures.same ∙ ap (λ (s : FromSender). s.grants) c.index_mut.ensures.value)
+          ∙ c.loop-from.invariant.1,
+      room_more ss c.loop-from.from c.reserve.new.self within c.in_ok-reserve.ensures.room c.loop-from.invariant.2,
+    )
+
+pub returns-clause-ready : goal.returns-clause-ready
+returns-clause-ready c =
+    let ss = c.loop-from.self-inside.senders.items in
+    room_all ss (λ k d lt. c.loop-from.invariant.2 k d (omega arith))

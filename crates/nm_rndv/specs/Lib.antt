@@ -1,0 +1,5 @@
+pub mod Cuts
+pub mod Grants
+pub mod Kept
+pub mod Offers
+pub mod Pieces

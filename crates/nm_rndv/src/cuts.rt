@@ -1,0 +1,105 @@
+//! A body that is being sent in pieces.
+
+ghost use Rattle.std.specs.Prelude.{◌≡◌, ◌≤◌};
+ghost use Rattle.nm_types.specs.Bodies.{body_len};
+ghost use Rattle.nm_types.specs.declared.limits.TheConstants.{MAX_BODY};
+ghost use Rattle.nm_rndv.specs.Cuts.{start_of, rest_of, offset_of, next_bytes};
+
+use arrayvec::ArrayVec;
+use nm_types::{Body, Chunk, MAX_PIECE, laws};
+use std::marker::Model;
+
+/// The most bytes of a piece.
+const PIECE: u32 = MAX_PIECE as u32;
+
+/// A body of at most 1,048,576 bytes.
+#[derive(Drop)]
+pub struct LongBody {
+    body: Body,
+}
+
+impl Model for LongBody {
+    ghost use Rattle.std.specs.Prelude.{◌≤◌};
+    ghost use Rattle.nm_types.specs.Bodies.{body_len};
+    ghost use Rattle.nm_types.specs.declared.limits.TheConstants.{MAX_BODY};
+    ghost use Rattle.nm_types.specs.declared.scripts.Body.{Body};
+
+    ghost Value = { Body };
+
+    ghost view = { λ a. a.body };
+
+    ghost invariant = { λ a. body_len a.body ≤ MAX_BODY };
+}
+
+impl LongBody {
+    pub fn new(body: Body) -> Self
+        requires { body_len body ≤ MAX_BODY }
+        ensures { result ≡ body }
+    {
+        LongBody { body }
+    }
+}
+
+/// A body with pieces that are still to be sent, and how many were sent.
+#[derive(Drop)]
+pub struct Leaving {
+    body: Body,
+    popped: u32,
+}
+
+impl Model for Leaving {
+    ghost use Rattle.nm_rndv.specs.Cuts.{Cut, IsCut};
+
+    ghost Value = { Cut };
+
+    ghost view = { λ a. record { body = a.body; popped = a.popped } };
+
+    ghost invariant = { λ a. IsCut a.body a.popped };
+}
+
+impl Leaving {
+    /// The body before its first piece, or `None` where it is empty.
+    pub fn start(body: LongBody) -> Option<Leaving>
+        ensures { result ≡ start_of body }
+    {
+        let LongBody { body } = body;
+        if body.len() == 0 {
+            return None;
+        }
+        Some(Leaving { body, popped: 0 })
+    }
+
+    /// Where in the body the next piece begins.
+    pub fn offset(&self) -> u32
+        ensures { result ≡ offset_of self.now }
+    {
+        PIECE * self.popped
+    }
+
+    /// The bytes of the next piece.
+    pub fn next(&self) -> Chunk
+        ensures { result ≡ next_bytes self.now }
+    {
+        let start = self.offset();
+        let end = self.body.len().min(start + PIECE);
+        let mut bytes = ArrayVec::<u8, 1024>::new();
+        laws::bodies_have_their_length();
+        for k in start..end {
+            bytes.push(self.body.byte(k));
+        }
+        Chunk::of(bytes.as_slice())
+    }
+
+    /// What is left after the next piece, or `None` where that is the last.
+    pub fn pop(self) -> Option<Leaving>
+        ensures { result ≡ rest_of self }
+    {
+        let Leaving { body, popped } = self;
+        let popped = popped + 1;
+        if PIECE * popped < body.len() {
+            Some(Leaving { body, popped })
+        } else {
+            None
+        }
+    }
+}

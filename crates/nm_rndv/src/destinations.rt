@@ -1,0 +1,142 @@
+//! What was asked of one destination, and what was recalled from it.
+
+ghost use Rattle.std.specs.Prelude.{◌≡◌, ℕ, false, Some, None, nat_eq, if◌then◌else◌, IsSome};
+ghost use Rattle.std.specs.Prelude.{OnOk, OnErr};
+ghost use Rattle.std.specs.Option.{option_map_or, option_and_then};
+ghost use Rattle.nm_rndv.specs.Offers.{untold, state_in, recall_in, is_waiting};
+ghost use Rattle.nm_rndv.specs.Offers.{is_leaving as is_leaving_lem, is_out as is_out_lem};
+ghost use Rattle.nm_rndv.specs.Offers.{was_cleared as was_cleared_lem, is_unanswered, next_in};
+ghost use Rattle.nm_rndv.specs.Offers.{with_asked, with_recall, with_step, with_answer};
+ghost use Rattle.nm_rndv.specs.Offers.{after_clearance, after_piece};
+
+use crate::asked::{State, cleared, popped, withdrawn};
+use crate::cuts::LongBody;
+use indexmap::IndexMap;
+use nm_types::{Chunk, Memory};
+use std::alloc::Global;
+use std::marker::Model;
+use std::mem;
+
+/// The messages asked of one destination and those recalled from it, each by its number, in order.
+#[derive(Drop)]
+pub struct Destination {
+    asked: IndexMap<u64, State>,
+    recalls: IndexMap<u64, Option<bool>>,
+}
+
+impl Model for Destination {
+    ghost use Rattle.nm_rndv.specs.Offers.{Destined};
+
+    ghost Value = { Destined };
+
+    ghost view = { λ d. record { asked = d.asked.entries; recalls = d.recalls.entries } };
+}
+
+impl Destination {
+    pub fn new(alloc: Global) -> Self
+        ensures { result ≡ untold }
+    {
+        Destination {
+            asked: IndexMap::new(alloc),
+            recalls: IndexMap::new(alloc),
+        }
+    }
+
+    /// Notes that the receiver was asked to clear a message.
+    pub fn ask(&mut self, n: u64, body: LongBody) -> Result<(), Memory>
+        requires { state_in self.old n ≡ None }
+        ensures ok { OnOk result (self.new ≡ with_asked self.old n body) }
+        ensures states { OnOk result ((q : ℕ) → state_in self.new q
+            ≡ (if nat_eq n q then Some (State.Asked body) else state_in self.old q)) }
+        ensures err { OnErr result (self.new ≡ self.old) }
+    {
+        self.asked.insert(n, State::Asked(body))?;
+        Ok(())
+    }
+
+    /// Whether the message waits for its clearance.
+    pub fn is_asked(&self, n: u64) -> bool
+        ensures { result ≡ option_map_or is_waiting (state_in self.now n) false }
+    {
+        matches!(self.asked.get(&n), Some(State::Asked(_)))
+    }
+
+    /// Whether the message was cleared and is not out.
+    pub fn is_leaving(&self, n: u64) -> bool
+        ensures { result ≡ option_map_or is_leaving_lem (state_in self.now n) false }
+    {
+        matches!(self.asked.get(&n), Some(State::Cleared(_)))
+    }
+
+    /// Whether the message was cleared, also where it is out.
+    pub fn was_cleared(&self, n: u64) -> bool
+        ensures { result ≡ option_map_or was_cleared_lem (state_in self.now n) false }
+    {
+        matches!(self.asked.get(&n), Some(State::Cleared(_) | State::Out))
+    }
+
+    /// Whether the message is out.
+    pub fn is_out(&self, n: u64) -> bool
+        ensures { result ≡ option_map_or is_out_lem (state_in self.now n) false }
+    {
+        matches!(self.asked.get(&n), Some(State::Out))
+    }
+
+    /// Offset and bytes of the message's next piece.
+    pub fn next(&self, n: u64) -> Option<(u32, Chunk)>
+        ensures { result ≡ option_and_then next_in (state_in self.now n) }
+    {
+        match self.asked.get(&n) {
+            Some(State::Cleared(leaving)) => Some((leaving.offset(), leaving.next())),
+            _ => None,
+        }
+    }
+
+    /// Clears a message.
+    pub fn clear(&mut self, n: u64)
+        requires { IsSome (state_in self.old n) }
+        ensures { self.new ≡ with_step self.old n after_clearance }
+    {
+        let state = self.asked.get_mut(&n).unwrap();
+        *state = cleared(mem::replace(state, State::Out));
+    }
+
+    /// Counts one piece more of a message as sent.
+    pub fn pop(&mut self, n: u64)
+        requires { IsSome (state_in self.old n) }
+        ensures { self.new ≡ with_step self.old n after_piece }
+    {
+        let state = self.asked.get_mut(&n).unwrap();
+        *state = popped(mem::replace(state, State::Out));
+    }
+
+    /// Notes that a message was recalled.
+    pub fn recall(&mut self, n: u64) -> Result<(), Memory>
+        requires { recall_in self.old n ≡ None }
+        ensures ok { OnOk result (self.new ≡ with_recall self.old n) }
+        ensures err { OnErr result (self.new ≡ self.old) }
+    {
+        self.recalls.insert(n, None)?;
+        Ok(())
+    }
+
+    /// Whether the message was recalled, and the recall not answered.
+    pub fn is_recalled(&self, n: u64) -> bool
+        ensures { result ≡ option_map_or is_unanswered (recall_in self.now n) false }
+    {
+        matches!(self.recalls.get(&n), Some(None))
+    }
+
+    /// Notes the answer of a recall.
+    pub fn answer(&mut self, n: u64, done: bool)
+        requires { IsSome (recall_in self.old n) }
+        ensures { self.new ≡ with_answer self.old n done }
+    {
+        *self.recalls.get_mut(&n).unwrap() = Some(done);
+        if done {
+            if let Some(state) = self.asked.get_mut(&n) {
+                *state = withdrawn(mem::replace(state, State::Out));
+            }
+        }
+    }
+}

@@ -1,0 +1,151 @@
+//! The receiver's side: what was granted to all senders.
+
+ghost use Rattle.std.specs.Prelude.{◌≡◌, ◌<◌, ◌++◌, [], ◌∷◌, ◌↔◌, true, Some, None, All};
+ghost use Rattle.std.specs.Prelude.{length, slice_set, replicate, IsOk, IsNone, IsTrue, IfOk, OnOk};
+ghost use Rattle.std.specs.Prelude.{OnErr};
+ghost use Rattle.std.specs.Option.{option_and_then};
+ghost use Rattle.nm_rndv.specs.Grants.{fresh, is_unfinished, grant_in, grants_from, expected_in};
+ghost use Rattle.nm_rndv.specs.Grants.{due_in, is_open_in, is_whole_in, taken_in, with_piece};
+ghost use Rattle.nm_rndv.specs.Pieces.{piece_size};
+ghost use Rattle.nm_rndv.specs.Grants.{joined_by, AllWhole, Continues, IsReady};
+
+use crate::senders::Sender;
+use nm_types::{Bytes, Joined, MAX_PIECE, Memory, Piece};
+use std::alloc::Global;
+use std::marker::Model;
+
+/// The messages that a receiver has cleared to be sent, for all senders.
+#[derive(Drop)]
+pub struct Grants {
+    senders: Vec<Sender>,
+}
+
+impl Model for Grants {
+    ghost use Rattle.nm_rndv.specs.Grants.{Granting, seen};
+
+    ghost Value = { Granting };
+
+    ghost view = { λ a. seen a.senders.items };
+}
+
+impl Grants {
+    /// Nothing was granted to any of so many ranks.
+    pub fn new(alloc: Global, ranks: u8) -> Result<Grants, Memory>
+        ensures { IfOk result (λ grants. grants.grants ≡ replicate ranks []) }
+    {
+        let mut senders = Vec::new(alloc);
+        for _rank in 0..ranks {
+            senders.push(Sender::new(alloc))?;
+        }
+        Ok(Grants { senders })
+    }
+
+    /// Makes room for one grant more, of whichever sender. No grant changes.
+    pub fn reserve(&mut self) -> Result<(), Memory>
+        ensures ready { OnOk result (IsReady self.new) }
+        ensures same { self.new.grants ≡ self.old.grants }
+    {
+        for from in 0..self.senders.len() {
+            self.senders[from].reserve()?;
+        }
+        Ok(())
+    }
+
+    /// Clears message `n` of a sender, of this many bytes, to be sent. The answer is whether it is
+    /// whole already, as it is where it has none.
+    pub fn grant(&mut self, from: u8, n: u64, len: u32) -> Result<bool, Memory>
+        requires in_range { from < length self.old.grants }
+        requires is_new { grant_in (grants_from self.old from) n ≡ None }
+        ensures ok { OnOk result (self.new.grants
+            ≡ slice_set self.old.grants from (grants_from self.old from ++ (n, fresh len) ∷ [])) }
+        ensures empty { IfOk result (λ whole. IsTrue whole ↔ (len ≡ 0)) }
+        ensures err { OnErr result (self.new.grants ≡ self.old.grants) }
+        ensures succeeds { IsReady self.old → IsOk result }
+    {
+        self.senders[from as usize].grant(n, len)
+    }
+
+    /// Whether the message was granted and bytes of it are still to come.
+    pub fn is_open(&self, from: u8, n: u64) -> bool
+        requires { from < length self.now.grants }
+        ensures { result ≡ is_open_in (grants_from self.now from) n }
+    {
+        self.senders[from as usize].is_open(n)
+    }
+
+    /// Whether all bytes of the message came and were not taken.
+    pub fn is_whole(&self, from: u8, n: u64) -> bool
+        requires { from < length self.now.grants }
+        ensures { result ≡ is_whole_in (grants_from self.now from) n }
+    {
+        self.senders[from as usize].is_whole(n)
+    }
+
+    /// Message and offset that the next piece of this sender must have.
+    pub fn next_expected(&self, from: u8) -> Option<(u64, u32)>
+        requires { from < length self.now.grants }
+        ensures expected { result ≡ expected_in (grants_from self.now from) }
+        ensures none { IsNone result ↔ AllWhole (grants_from self.now from) }
+    {
+        self.senders[from as usize].expected()
+    }
+
+    /// Whether the piece has as many bytes as the next one of its sender must have.
+    fn has_size(&self, p: &Piece) -> bool
+        requires { p.now.from < length self.now.grants }
+        ensures { IsTrue result
+            ↔ (length p.now.bytes ≡ piece_size (due_in (grants_from self.now p.now.from))) }
+    {
+        let due = self.senders[p.from as usize].due();
+        p.bytes.as_slice().len() == due.min(u32::from(MAX_PIECE)) as usize
+    }
+
+    /// Whether the piece is the one that its sender has to send next.
+    pub fn fits(&self, p: &Piece) -> bool
+        requires { p.now.from < length self.now.grants }
+        ensures { IsTrue result ↔ Continues self.now p.now }
+    {
+        match self.next_expected(p.from) {
+            Some((n, at)) => n == p.n && at == p.at && self.has_size(p),
+            None => false,
+        }
+    }
+
+    /// Puts the bytes of a piece behind those of its message.
+    ///
+    /// The answer is `Whole` where they are its last, and else `Begun` where they are its first.
+    pub fn piece(&mut self, p: &Piece) -> Result<Joined, Memory>
+        requires { Continues self.old p.now }
+        ensures ok { OnOk result (self.new.grants
+            ≡ slice_set self.old.grants p.now.from
+            (with_piece (grants_from self.old p.now.from) p.now.n p.now.bytes)) }
+        ensures joined { IfOk result (λ joined. joined
+            ≡ joined_by (due_in (grants_from self.old p.now.from)) p.now.at (length p.now.bytes)) }
+        ensures err { OnErr result (self.new.grants ≡ self.old.grants) }
+        ensures ready { IsReady self.old → IsReady self.new }
+    {
+        let sender = &mut self.senders[p.from as usize];
+        let due = sender.due();
+        sender.add(p)?;
+        if p.bytes.as_slice().len() == due as usize {
+            Ok(Joined::Whole)
+        } else if p.at == 0 {
+            Ok(Joined::Begun)
+        } else {
+            Ok(Joined::More)
+        }
+    }
+
+    /// The bytes of a whole message, which are gone then.
+    pub fn take(&mut self, from: u8, n: u64) -> Bytes
+        requires in_range { from < length self.old.grants }
+        requires whole { is_whole_in (grants_from self.old from) n ≡ true }
+        ensures bytes { option_and_then (λ g. g.bytes) (grant_in (grants_from self.old from) n)
+            ≡ Some result }
+        ensures gone { self.new.grants
+            ≡ slice_set self.old.grants from (taken_in (grants_from self.old from) n) }
+        ensures ready { IsReady self.old → IsReady self.new }
+    {
+        self.senders[from as usize].take(n)
+    }
+}

@@ -1,0 +1,219 @@
+//! The sender's side: what was asked of all destinations.
+
+ghost use Rattle.std.specs.Prelude.{◌≡◌, ◌<◌, ◌≤◌, ◌↔◌, true, false, None, Some, length};
+ghost use Rattle.std.specs.Prelude.{slice_get, IsNone, IsSome, IfSome, IsTrue, IfOk, OnOk, OnErr};
+ghost use Rattle.std.specs.List.{position_or_len};
+ghost use Rattle.std.specs.Option.{option_map, option_map_or, option_and_then};
+ghost use Rattle.nm_types.specs.Bodies.{body_len};
+ghost use Rattle.nm_types.specs.declared.limits.TheConstants.{MAX_BODY};
+ghost use Rattle.nm_rndv.specs.Offers.{no_offers, destined, state_of, recall_in, leaves};
+ghost use Rattle.nm_rndv.specs.Offers.{cleared_at};
+ghost use Rattle.nm_rndv.specs.Offers.{is_asked as is_asked_lem, is_recalled as is_recalled_lem};
+ghost use Rattle.nm_rndv.specs.Offers.{asked_len, with_destined, with_asked, with_clearance};
+ghost use Rattle.nm_rndv.specs.Offers.{with_popped, with_recall, with_answer, offered};
+ghost use Rattle.nm_rndv.specs.Offers.{first_leaving as first_leaving_lem, next_offered};
+ghost use Rattle.nm_rndv.specs.Offers.{out_by_piece, AllOut};
+
+use crate::cuts::LongBody;
+use crate::destinations::Destination;
+use nm_types::{Body, Memory, Piece};
+use std::alloc::Global;
+use std::marker::Model;
+
+/// The messages that a sender has asked to be cleared, for all destinations, and its recalls.
+#[derive(Drop)]
+pub struct Offers {
+    destinations: Vec<Destination>,
+    order: Vec<(u8, u64)>,
+    first: usize,
+    reserved: usize,
+}
+
+impl Model for Offers {
+    ghost use Rattle.std.specs.Prelude.{vec_capacity};
+    ghost use Rattle.nm_rndv.specs.Kept.{IsKept};
+    ghost use Rattle.nm_rndv.specs.Offers.{Offering};
+
+    ghost Value = { Offering };
+
+    ghost view = { λ a. record { destinations = a.destinations.items; order = a.order.items } };
+
+    ghost invariant = { λ a.
+        IsKept a.destinations.items a.order.items a.first a.reserved (vec_capacity a.order) };
+}
+
+/// The message at this place of the order.
+fn message_at(order: &[(u8, u64)], place: usize) -> Option<(u8, u64)>
+    ensures { result ≡ slice_get order.now place }
+{
+    order.get(place).copied()
+}
+
+/// Whether the message at this place of the order was cleared and is not out.
+fn leaves_at(destinations: &[Destination], order: &[(u8, u64)], place: usize) -> bool
+    ensures { result ≡ option_map_or (leaves destinations.now) (slice_get order.now place) false }
+{
+    match message_at(order, place) {
+        Some((to, n)) => match destinations.get(to as usize) {
+            Some(destination) => destination.is_leaving(n),
+            None => false,
+        },
+        None => false,
+    }
+}
+
+/// The place of the first message that leaves, which is not before this place, or the length of the
+/// order.
+fn first_leaving(destinations: &[Destination], order: &[(u8, u64)], from: usize) -> usize
+    requires { from ≤ position_or_len (leaves destinations.now) order.now }
+    ensures { result ≡ position_or_len (leaves destinations.now) order.now }
+{
+    for place in from..order.len() {
+        if leaves_at(destinations, order, place) {
+            return place;
+        }
+    }
+    order.len()
+}
+
+impl Offers {
+    /// Nothing was asked of any of so many ranks.
+    pub fn new(alloc: Global, ranks: u8) -> Result<Offers, Memory>
+        ensures { IfOk result (λ offers. offers ≡ no_offers ranks) }
+    {
+        let mut destinations = Vec::new(alloc);
+        for _rank in 0..ranks {
+            destinations.push(Destination::new(alloc))?;
+        }
+        Ok(Offers {
+            destinations,
+            order: Vec::new(alloc),
+            first: 0,
+            reserved: 0,
+        })
+    }
+
+    /// Notes that a destination was asked to clear message `n`, and keeps the message's body.
+    ///
+    /// It takes the memory that later calls for this message need, but for its recall.
+    pub fn ask(&mut self, to: u8, n: u64, body: Body) -> Result<(), Memory>
+        requires in_range { to < length self.old.destinations }
+        requires is_new { state_of self.old to n ≡ None }
+        requires short { body_len body ≤ MAX_BODY }
+        ensures ok { OnOk result
+            (self.new ≡ with_destined self.old to (with_asked (destined self.old to) n body)) }
+        ensures err { OnErr result (self.new ≡ self.old) }
+    {
+        self.order.reserve(self.reserved + 1)?;
+        self.destinations[to as usize].ask(n, LongBody::new(body))?;
+        self.reserved += 1;
+        Ok(())
+    }
+
+    /// Whether the message was asked, was not cleared, and was not withdrawn.
+    pub fn is_asked(&self, to: u8, n: u64) -> bool
+        requires { to < length self.now.destinations }
+        ensures { result ≡ is_asked_lem self.now to n }
+    {
+        self.destinations[to as usize].is_asked(n)
+    }
+
+    /// Whether the message was cleared, also where it is out.
+    pub fn was_cleared(&self, to: u8, n: u64) -> bool
+        requires { to < length self.now.destinations }
+        ensures { result ≡ cleared_at self.now.destinations (to, n) }
+    {
+        self.destinations[to as usize].was_cleared(n)
+    }
+
+    /// Clears a message, which goes to the end of the order of clearance. The answer is whether it
+    /// is out at once, as it is where its body is empty.
+    pub fn cleared(&mut self, to: u8, n: u64) -> bool
+        requires in_range { to < length self.old.destinations }
+        requires asked { is_asked_lem self.old to n ≡ true }
+        ensures cleared { self.new ≡ with_clearance self.old to n }
+        ensures empty { IsTrue result ↔ (asked_len self.old to n ≡ 0) }
+    {
+        let destination = &mut self.destinations[to as usize];
+        destination.clear(n);
+        let is_out = destination.is_out(n);
+        self.order.push_reserved((to, n));
+        self.reserved -= 1;
+        self.first = first_leaving(&self.destinations, &self.order, self.first);
+        is_out
+    }
+
+    /// The first message in the order of clearance that is not out.
+    fn front(&self) -> Option<(u8, u64)>
+        ensures first { result ≡ first_leaving_lem self.now }
+        ensures in_range { IfSome result (λ m. m.0 < length self.now.destinations) }
+        ensures leaves { IfSome result (λ m. leaves self.now.destinations m ≡ true) }
+        ensures none { IsNone result → AllOut self.now }
+    {
+        message_at(&self.order, self.first)
+    }
+
+    /// The next piece in the order of clearance, and its destination. Its sender and its number are
+    /// 0: they are its caller's to set.
+    pub fn next_piece(&self) -> Option<(u8, Piece)>
+        ensures next { option_map offered result ≡ next_offered self.now }
+        ensures blank { IfSome result (λ next. (next.1.from ≡ 0) × (next.1.number ≡ 0)) }
+        ensures none { IsNone result ↔ AllOut self.now }
+    {
+        let (to, n) = self.front()?;
+        let (at, bytes) = self.destinations[to as usize].next(n)?;
+        let piece = Piece {
+            from: 0,
+            number: 0,
+            n,
+            at,
+            bytes,
+        };
+        Some((to, piece))
+    }
+
+    /// Counts the next piece as sent. The answer names its message where it was the last one.
+    pub fn pop_piece(&mut self) -> Option<(u8, u64)>
+        requires { IsSome (next_offered self.old) }
+        ensures popped { IfSome (first_leaving_lem self.old)
+            (λ m. self.new ≡ with_popped self.old m) }
+        ensures last { result
+            ≡ option_and_then (out_by_piece self.old) (first_leaving_lem self.old) }
+    {
+        let (to, n) = self.front().unwrap();
+        let destination = &mut self.destinations[to as usize];
+        destination.pop(n);
+        let is_out = destination.is_out(n);
+        self.first = first_leaving(&self.destinations, &self.order, self.first);
+        is_out.then_some((to, n))
+    }
+
+    /// Notes that message `n` was recalled, whether it was sent at once or asked for.
+    pub fn withdraw(&mut self, to: u8, n: u64) -> Result<(), Memory>
+        requires in_range { to < length self.old.destinations }
+        requires is_new { recall_in (destined self.old to) n ≡ None }
+        ensures ok { OnOk result
+            (self.new ≡ with_destined self.old to (with_recall (destined self.old to) n)) }
+        ensures err { OnErr result (self.new ≡ self.old) }
+    {
+        self.destinations[to as usize].recall(n)
+    }
+
+    /// Whether the message was recalled, and the recall was not answered.
+    pub fn is_recalled(&self, to: u8, n: u64) -> bool
+        requires { to < length self.now.destinations }
+        ensures { result ≡ is_recalled_lem self.now to n }
+    {
+        self.destinations[to as usize].is_recalled(n)
+    }
+
+    /// Notes the answer of a recall. Where it was done, an asked message is withdrawn.
+    pub fn withdrawn(&mut self, to: u8, n: u64, done: bool)
+        requires in_range { to < length self.old.destinations }
+        requires recalled { is_recalled_lem self.old to n ≡ true }
+        requires uncleared { done ≡ true → cleared_at self.old.destinations (to, n) ≡ false }
+        ensures { self.new ≡ with_destined self.old to (with_answer (destined self.old to) n done) }
+    {
+        self.destinations[to as usize].answer(n, done);
+    }
+}

@@ -1,0 +1,149 @@
+//! What was granted to one sender.
+
+ghost use Rattle.std.specs.Prelude.{◌≡◌, ◌<◌, ◌≤◌, ◌++◌, [], ◌∷◌, ◌↔◌, true, false, Some, None};
+ghost use Rattle.std.specs.Prelude.{length, slice_get, IsOk, IsTrue, IfOk, OnOk, OnErr};
+ghost use Rattle.std.specs.List.{position_or_len};
+ghost use Rattle.std.specs.Option.{option_map, option_map_or, option_and_then};
+ghost use Rattle.indexmap.specs.IndexMap.{spare};
+ghost use Rattle.nm_rndv.specs.Grants.{fresh, is_unfinished, grant_in, is_open_in, is_whole_in};
+ghost use Rattle.nm_rndv.specs.Grants.{expected_in, due_in, taken_in, with_piece};
+
+use crate::granted::Grant;
+use indexmap::IndexMap;
+use nm_types::{Bytes, Memory, Piece};
+use std::alloc::Global;
+use std::marker::Model;
+
+/// The grants of one sender in order, each by its message's number.
+#[derive(Drop)]
+pub struct Sender {
+    grants: IndexMap<u64, Grant>,
+    first_open: usize,
+}
+
+impl Model for Sender {
+    ghost use Rattle.std.specs.Prelude.{◌≡◌};
+    ghost use Rattle.std.specs.List.{position_or_len};
+    ghost use Rattle.indexmap.specs.IndexMap.{spare};
+    ghost use Rattle.nm_rndv.specs.Grants.{FromSender, is_unfinished};
+
+    ghost Value = { FromSender };
+
+    ghost view = { λ s. record { grants = s.grants.entries; spare = spare s.grants } };
+
+    ghost invariant = { λ s. s.first_open ≡ position_or_len is_unfinished s.grants.entries };
+}
+
+/// Whether the grant at this place is unfinished.
+fn is_open_at(grants: &IndexMap<u64, Grant>, place: usize) -> bool
+    ensures { result ≡ option_map_or is_unfinished (slice_get grants.now.entries place) false }
+{
+    match grants.get_index(place) {
+        Some((_, grant)) => grant.is_open(),
+        None => false,
+    }
+}
+
+/// The place of the first unfinished grant, which is not before this place; or the number of all
+/// grants.
+fn first_open(grants: &IndexMap<u64, Grant>, from: usize) -> usize
+    requires { from ≤ position_or_len is_unfinished grants.now.entries }
+    ensures { result ≡ position_or_len is_unfinished grants.now.entries }
+{
+    for place in from..grants.len() {
+        if is_open_at(grants, place) {
+            return place;
+        }
+    }
+    grants.len()
+}
+
+impl Sender {
+    pub fn new(alloc: Global) -> Self
+        ensures { result.grants ≡ [] }
+    {
+        Sender {
+            grants: IndexMap::new(alloc),
+            first_open: 0,
+        }
+    }
+
+    /// Makes room for one grant more.
+    pub fn reserve(&mut self) -> Result<(), Memory>
+        ensures room { OnOk result (0 < self.new.spare) }
+        ensures same { self.new.grants ≡ self.old.grants }
+        ensures kept { self.old.spare ≤ self.new.spare }
+    {
+        self.grants.reserve(1)?;
+        Ok(())
+    }
+
+    /// Grants a message of this length. The answer is whether it is whole already.
+    pub fn grant(&mut self, n: u64, len: u32) -> Result<bool, Memory>
+        requires { grant_in self.old.grants n ≡ None }
+        ensures ok { OnOk result (self.new.grants ≡ self.old.grants ++ (n, fresh len) ∷ []) }
+        ensures empty { IfOk result (λ whole. IsTrue whole ↔ (len ≡ 0)) }
+        ensures err { OnErr result (self.new.grants ≡ self.old.grants) }
+        ensures succeeds { 0 < self.old.spare → IsOk result }
+    {
+        let alloc = *self.grants.allocator();
+        self.grants.insert(n, Grant::new(alloc, len))?;
+        self.first_open = first_open(&self.grants, self.first_open);
+        Ok(len == 0)
+    }
+
+    /// Whether the message was granted and is not whole.
+    pub fn is_open(&self, n: u64) -> bool
+        ensures { result ≡ is_open_in self.now.grants n }
+    {
+        self.grants.get(&n).is_some_and(|grant| grant.is_open())
+    }
+
+    /// Whether the message is whole and was not taken.
+    pub fn is_whole(&self, n: u64) -> bool
+        ensures { result ≡ is_whole_in self.now.grants n }
+    {
+        self.grants.get(&n).is_some_and(|grant| grant.is_whole())
+    }
+
+    /// Message and offset that the next piece must have.
+    pub fn expected(&self) -> Option<(u64, u32)>
+        ensures { result ≡ expected_in self.now.grants }
+    {
+        let (n, grant) = self.grants.get_index(self.first_open)?;
+        Some((*n, grant.came()))
+    }
+
+    /// How many bytes the first unfinished message still lacks.
+    pub fn due(&self) -> u32
+        ensures { result ≡ due_in self.now.grants }
+    {
+        match self.grants.get_index(self.first_open) {
+            Some((_, grant)) => grant.due(),
+            None => 0,
+        }
+    }
+
+    /// Puts the bytes of a piece behind those of its message.
+    pub fn add(&mut self, p: &Piece) -> Result<(), Memory>
+        requires { option_map (λ at. at.0) (expected_in self.old.grants) ≡ Some p.now.n }
+        ensures ok { OnOk result
+            (self.new.grants ≡ with_piece self.old.grants p.now.n p.now.bytes) }
+        ensures err { OnErr result (self.new.grants ≡ self.old.grants) }
+        ensures room { self.new.spare ≡ self.old.spare }
+    {
+        self.grants.get_mut(&p.n).unwrap().add(p.bytes.as_slice())?;
+        self.first_open = first_open(&self.grants, self.first_open);
+        Ok(())
+    }
+
+    /// The bytes of a whole message.
+    pub fn take(&mut self, n: u64) -> Bytes
+        requires { is_whole_in self.old.grants n ≡ true }
+        ensures bytes { option_and_then (λ g. g.bytes) (grant_in self.old.grants n) ≡ Some result }
+        ensures gone { self.new.grants ≡ taken_in self.old.grants n }
+        ensures room { self.new.spare ≡ self.old.spare }
+    {
+        self.grants.get_mut(&n).unwrap().take()
+    }
+}

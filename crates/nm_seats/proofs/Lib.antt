@@ -1,0 +1,3 @@
+pub mod SpokenLemmas
+pub mod UpdateLemmas
+pub mod WindowLemmas
