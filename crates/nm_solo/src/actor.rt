@@ -2,11 +2,11 @@
 
 ghost use Rattle.std.specs.Prelude.{◌≡◌, ◌+◌, ◌<◌, ◌≤◌, ◌&&◌, vec_len, length, IsTrue, IfOk, IfSome};
 ghost use Rattle.nm_types.specs.declared.limits.TheConstants.{MAX_LINES};
-ghost use Rattle.nm_solo.specs.declared.core.TheConstants.{WORN};
+ghost use Rattle.nm_solo.specs.declared.cores.TheConstants.{WORN};
 ghost use Rattle.nm_solo.specs.Lines.{AreLines, is_runnable};
 ghost use Rattle.nm_types.specs.Limits.{is_in_range};
 
-use crate::core::{Core, Request};
+use crate::cores::{Core, Request};
 use crate::lists::Lists;
 use indexmap::IndexMap;
 use nm_types::{Answer, Body, Command, Line, Memory};

@@ -17,7 +17,7 @@
 #![tactic(auto)]
 
 mod actor;
-mod core;
+mod cores;
 pub mod laws;
 mod lists;
 mod runs;

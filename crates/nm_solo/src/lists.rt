@@ -1,7 +1,7 @@
 //! The messages on their way, in one list for each ordered pair of ranks.
 
 ghost use Rattle.std.specs.Prelude.{◌≡◌, ◌<◌, ◌≤◌, ◌*◌, vec_len, IfOk};
-ghost use Rattle.nm_solo.specs.declared.core.TheConstants.{WORN};
+ghost use Rattle.nm_solo.specs.declared.cores.TheConstants.{WORN};
 
 use nm_types::{Arrival, Bytes, Memory};
 use std::alloc::Global;

@@ -2,7 +2,7 @@
 
 ghost use Rattle.std.specs.Prelude.{◌≡◌, ◌<◌, ◌≤◌, ◌+◌, ◌↔◌, vec_len, length, IsTrue, OnOk, IfOk};
 ghost use Rattle.nm_types.specs.declared.limits.TheConstants.{MAX_STAMP};
-ghost use Rattle.nm_solo.specs.declared.core.TheConstants.{WORN};
+ghost use Rattle.nm_solo.specs.declared.cores.TheConstants.{WORN};
 
 use crate::lists::Message;
 use nm_history::{Event, Happened, History};
