@@ -9,7 +9,7 @@ pub each_along : (P Q : ℕ → Type 0) → ((x : ℕ) → P x → Q x) → (xs 
 each_along P Q f [] h = tt
 each_along P Q f (x ∷ xs) h = (f x h.0, each_along P Q f xs h.1)
 
-each_append : (P : ℕ → Type 0) (xs ys : List ℕ) → Each P xs → Each P ys → Each P (xs ++ ys)
+pub each_append : (P : ℕ → Type 0) (xs ys : List ℕ) → Each P xs → Each P ys → Each P (xs ++ ys)
 each_append P [] ys h k = k
 each_append P (x ∷ xs) ys h k = (h.0, each_append P xs ys h.1 k)
 
@@ -30,7 +30,7 @@ has_split [] ys k h = inr h
 has_split (x ∷ xs) ys k h =
     ⊎_elim (λ e. inl (inl e)) (λ t. ⊎_elim (λ u. inl (inr u)) (λ u. inr u) (has_split xs ys k t)) h
 
-rises_append : (xs : List ℕ) (s : ℕ) → Rises xs → Each (λ k. k < s) xs → Rises (xs ++ s ∷ [])
+pub rises_append : (xs : List ℕ) (s : ℕ) → Rises xs → Each (λ k. k < s) xs → Rises (xs ++ s ∷ [])
 rises_append [] s r e = (tt, tt)
 rises_append (x ∷ xs) s r e = (
   each_append (λ y. x < y) xs (s ∷ []) r.0 (e.0, tt),

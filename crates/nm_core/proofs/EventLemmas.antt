@@ -1,8 +1,9 @@
 -- What a history says, one event after another.
 use Rattle.std.proofs.Common.{◌≡◌, ◌≢◌, ℕ, ◌+◌, ◌<◌, ◌≤◌, ◌==◌, Bool, true, false, ◌||◌, cond, ◌⊎◌, Option, Some, None, List, [], ◌∷◌, ◌++◌, length, refl, sym, ◌∙◌, ap, subst, inl, inr, ⊎_elim, arith, length-append}
-use Rattle.std.specs.List.{filter, cons_option, list_all, list_any}
+use Rattle.std.specs.List.{filter, filter_map, cons_option, list_all, list_any}
 use Rattle.std.proofs.lemmas.Bool.{or_cases}
 use Rattle.std.proofs.lemmas.Bool.Decides.{nat_tests}
+use Rattle.std.proofs.lemmas.List.Elements.{filter-append, filter_map-append}
 use Rattle.std.proofs.lemmas.List.Sums.{fold_push}
 use Rattle.nm_types.specs.declared.messages.Arrival.{Arrival}
 use Rattle.nm_types.specs.declared.messages.How.{How}
@@ -15,7 +16,9 @@ use Rattle.nm_history.specs.Sends.{Arrived, Sent, arrivals, arrived_of, receive_
 use Rattle.nm_history.proofs.DeliveryLemmas.{sends-push}
 use Rattle.nm_history.proofs.OnceLemmas.{arrivals-push, eqb_self, receives-push, and_left, and_right, same_of}
 use Rattle.nm_match.proofs.PushLemmas.{happened-push}
-use Rattle.nm_core.specs.Cores.{at}
+use Rattle.nm_core.specs.declared.requests.Request.{Request}
+use Rattle.nm_core.specs.declared.requests.Request.TheVariants as request
+use Rattle.nm_core.specs.Cores.{IsStarted, at}
 use Rattle.nm_core.specs.Fields.{AreBounded}
 
 pub last_stamp-push : (h : List Event) (e : Event) → last_stamp (h ++ e ∷ []) ≡ e.stamp
@@ -129,3 +132,12 @@ module _ (h : List Event) (stamp : ℕ) where
         let one : sends_at (at stamp what) to ≤ 1 = one_at_most (λ (s : Sent). s.to == to) (sent_of stamp what) in
         rw (length-sends-push h (at stamp what) to, last_stamp-push h (at stamp what)) (omega arith);
   }
+
+-- a request that was started stays so
+pub IsStarted-append : (h more : List Event) (r : Request) → IsStarted h r → IsStarted (h ++ more) r
+IsStarted-append h more (request.Send to n) below =
+    let all = filter_map-append (λ (e : Event). sent_of e.stamp e.what) h more in
+    let parts = filter-append (λ (s : Sent). s.to == to) (filter_map (λ (e : Event). sent_of e.stamp e.what) h) (filter_map (λ (e : Event). sent_of e.stamp e.what) more) in
+    rw (all, parts) (omega (arith, length-append (sends h to) (sends more to)))
+IsStarted-append h more (request.Receive number) below =
+    rw (filter_map-append (λ (e : Event). receive_of e.what) h more) (omega (arith, length-append (receives h) (receives more)))

@@ -23,6 +23,7 @@
 mod cores;
 mod journal;
 mod kept;
+pub mod laws;
 mod messages;
 mod receives;
 mod requests;

@@ -1,0 +1,527 @@
+-- Each kind of step of a consumer keeps the rule, whatever the other ranks did.
+use Rattle.std.proofs.Common.{◌≡◌, ◌≢◌, ℕ, suc, ◌+◌, ◌-◌, ◌*◌, ◌/◌, map, ◌<◌, ◌≤◌, List, [], ◌∷◌}
+use Rattle.std.proofs.Common.{◌++◌, length, set, sym, refl, ap, ◌∙◌, inl, subst, arith, None, Bool}
+use Rattle.std.proofs.Common.{true, false, eqb, length-set}
+use Rattle.std.proofs.lemmas.List.{set-get_or}
+use Rattle.std.specs.Prelude.{slice_index, slice_index_or}
+use mathlib.Core.Option as maybe
+use mathlib.Core.Logic.{dite}
+use native.Mathlib.Decide.{ℕ_discrete}
+use lib.ListN.{get_elem?}
+use prog.Atomic.{either}
+use Rattle.atomic_table.specs.Table.{State, step, Act, keeps, takes, Allows, Valid, carried_after}
+use Rattle.atomic_table.specs.Table.{stepped}
+use Rattle.nm_seats.specs.declared.views.View.{View}
+use Rattle.nm_seats.specs.Spoken.{view}
+use Rattle.nm_seats.proofs.UpdateLemmas.{pick_yes, update_here, update_else}
+use Rattle.nm_seats.specs.Update.{update}
+use Rattle.nm_chain.specs.Chain.{Item, item, held, queued}
+use Rattle.nm_chain.specs.Sequence.{Each, Got, InSequence}
+use Rattle.nm_chain.proofs.SequenceLemmas.{next_by_cell_is_new}
+use Rattle.nm_types.specs.Sizes.{Sizes}
+use Rattle.nm_cells.specs.declared.table.Hand.TheVariants.{Away, Held, Ready, Entering}
+use Rattle.nm_cells.specs.declared.table.Hand.{Hand}
+use Rattle.nm_cells.specs.declared.table.End.{End}
+use Rattle.nm_cells.specs.declared.table.Misses.{Misses}
+use Rattle.nm_cells.specs.declared.table.Entry.{Entry}
+use Rattle.atomic_table.proofs.Lists.{set_again, exchanged}
+use Rattle.nm_cells.specs.Rule.{AllInSequence, BoxesHold, Chain, Knows, Load, NotOf, Place}
+use Rattle.nm_cells.specs.Rule.{QueuesHold, Rule, Shows, Suits, World, fetched, from, hand, loads}
+use Rattle.nm_cells.specs.Rule.{number, sender, sent_to}
+use Rattle.nm_cells.specs.Plays as plays
+use Rattle.nm_cells.proofs.QueueLemmas as queues
+use Rattle.nm_cells.proofs.BoxLemmas as box_laws
+use Rattle.nm_cells.proofs.BoxLemmas.{owner_below}
+use Rattle.nm_cells.proofs.ProducerLemmas.{below_put, knows_else, place_but, hands_but, own, ruled}
+
+module _ (n r : ℕ) (low : r < n) (ends : ℕ → End) (x : End) where
+  receive_of : (b : Bool) (e : Entry) → e.receive ≡ ends r
+      → (plays.with_end b x e).receive ≡ update ends (plays.queue n r b) x r
+  receive_of true e k = sym (update_here ends r x r refl)
+  receive_of false e k = k ∙ sym (update_else ends (n + r) x r (λ z. omega arith))
+
+  free_of : (b : Bool) (e : Entry) → e.free ≡ ends (n + r)
+      → (plays.with_end b x e).free ≡ update ends (plays.queue n r b) x (n + r)
+  free_of true e k = k ∙ sym (update_else ends r x (n + r) (λ z. omega arith))
+  free_of false e k = sym (update_here ends (n + r) x (n + r) refl)
+
+  other_receive : (b : Bool) (t : ℕ) → t < n → t ≢ r → update ends (plays.queue n r b) x t ≡ ends t
+  other_receive true t few ne = update_else ends r x t ne
+  other_receive false t few ne = update_else ends (n + r) x t (λ z. omega arith)
+
+  other_free : (b : Bool) (t : ℕ) → t < n → t ≢ r → update ends (plays.queue n r b) x (n + t) ≡ ends
+      (n + t)
+  other_free true t few ne = update_else ends r x (n + t) (λ z. omega arith)
+  other_free false t few ne = update_else ends (n + r) x (n + t) (λ z. ne (omega arith))
+
+  fits_in : (b : Bool) → plays.queue n r b < 2 * n
+  fits_in true = omega arith
+  fits_in false = omega arith
+
+  own_in : (b : Bool) → plays.queue n r b < n → plays.queue n r b ≡ r
+  own_in true h = refl
+  own_in false h = absurd (omega arith)
+
+-- changes of the entry that leave its other parts alone
+same_rank : (b : Bool) (x : End) (e : Entry) → ((plays.with_end b x e).rank ≡ e.rank)
+    × ((plays.with_end b x e).ranks ≡ e.ranks) × ((plays.with_end b x e).hands ≡ e.hands)
+    × ((plays.with_end b x e).put ≡ e.put) × ((plays.with_end b x e).got ≡ e.got)
+    × ((plays.with_end b x e).each ≡ e.each)
+same_rank true x e = (refl, refl, refl, refl, refl, refl)
+same_rank false x e = (refl, refl, refl, refl, refl, refl)
+
+same_boxes : (b : Bool) (x : End) (e : Entry) → ((plays.with_end b x e).put_box ≡ e.put_box)
+    × ((plays.with_end b x e).got_box ≡ e.got_box) × ((plays.with_end b x e).filling ≡ e.filling)
+    × ((plays.with_end b x e).emptying ≡ e.emptying)
+same_boxes true x e = (refl, refl, refl, refl)
+same_boxes false x e = (refl, refl, refl, refl)
+
+-- the counts of misses are the port's own matter
+knows_missed : (n m r : ℕ) (b : Bool) (f : Misses → Misses) (w : World) (e : Entry)
+    → Knows n m w r e → Knows n m w r (plays.with_missed b f e)
+knows_missed n m r b f w e k = record {
+  rank = k.rank;
+  ranks = k.ranks;
+  per = k.per;
+  long = k.long;
+  hands = k.hands;
+  receive = k.receive;
+  free = k.free;
+  put = k.put;
+  got = k.got;
+  put_box = k.put_box;
+  got_box = k.got_box;
+  outs = k.outs;
+  ins = k.ins;
+  filling = k.filling;
+  emptying = k.emptying;
+}
+
+knows_end : (n m : ℕ) (w : World) (r : ℕ) (e : Entry) → Knows n m w r e → (b : Bool)
+    → plays.end_of b e ≡ w.end (plays.queue n r b)
+knows_end n m w r e k true = k.receive
+knows_end n m w r e k false = k.free
+
+-- a cell in a queue is in no hand
+away_in_queue : (r q : ℕ) (p : Place) (h : Hand) → p ≡ queued q → Shows r p h → h ≡ Away
+away_in_queue r q p Away is s = refl
+away_in_queue r q p Held is s = let z = sym is ∙ s in cc
+away_in_queue r q p (Ready y) is s = let z = sym is ∙ s in cc
+away_in_queue r q p (Entering t u) is s = let z = sym is ∙ s in cc
+
+-- the first cell of a receive queue holds a new packet
+news : (n m : ℕ) (w : World) (e : Entry) → e.rank < n → Knows n m w e.rank e → AllInSequence n w
+    → (b : Bool) (x : Item Load) (xs : Chain) → x.cell < n * m
+    → w.chain (plays.queue n e.rank b) ≡ x ∷ xs → Suits n m (plays.queue n e.rank b) x
+    → plays.HoldsNews b x.cell e x.load
+news n m w e low k t false x xs few is su = tt
+news n m w e low k t true x xs few is su = let i : ℕ = x.cell / m in let y = x.load in
+    let fl = owner_below n m x.cell few in
+    let one : from i (loads (w.chain e.rank)) ≡ y ∷ from i (loads xs) =
+    ap (λ u. from i (loads u)) is ∙ pick_yes (y ∷ from i (loads xs)) (from i (loads xs))
+    (su.0 low) (ℕ_discrete (sender y) (suc i)) in
+    let new = next_by_cell_is_new (sent_to e.rank (w.put_box i) (w.put i)) (number y)
+    (map number (from i (w.got_box e.rank))) (map number (w.waits i e.rank))
+    (map number (from i (w.got e.rank))) (map number (from i (loads xs)))
+    (subst (λ u. InSequence (sent_to e.rank (w.put_box i) (w.put i))
+    (map number (from i (w.got_box e.rank))) (map number (w.waits i e.rank))
+    (map number (from i (w.got e.rank))) (map number u)) one (t i e.rank fl low)) in
+    let as_known : plays.IsNews e i (number y) =
+    subst (λ g. (¬ Got (map number (from i e.got_box)) (map number (from i g)) (number y))
+    × Each (λ j. j < number y) (map number (from i g))) (sym k.got)
+    (subst (λ g. (¬ Got (map number (from i g)) (map number (from i (w.got e.rank))) (number y))
+    × Each (λ j. j < number y) (map number (from i (w.got e.rank)))) (sym k.got_box) new) in
+    subst (λ u. plays.IsNews e (x.cell / u) (number y)) (sym k.per) as_known
+
+module _ (key : Sizes) (slots id : ℕ) (e : Entry) (low : e.rank < key.ranks) (b : Bool) where
+  abbrev q : ℕ
+  q = plays.queue key.ranks e.rank b
+
+  -- the end of a queue changes, and nothing else
+  one_end : (s : State Load (View Entry)) (R : Rule key s)
+      → get_elem? s.views id ≡ maybe.some (view (e ∷ []))
+      → (x : End) (words' : List ℕ) (F : Entry → Entry)
+      → ((w : World) (g : Entry) → Knows key.ranks key.cells w e.rank g
+      → Knows key.ranks key.cells w e.rank (F g))
+      → QueuesHold key.ranks key.cells (record R.world { end = update R.world.end q x }) words'
+      s.homes → BoxesHold key.ranks key.cells R.world words' s.homes
+      → Rule key record {
+        words = words';
+        homes = s.homes;
+        views =
+            set s.views id (view (F (plays.with_end b x e) ∷ []));
+      }
+  one_end s R at x words' F keep laid boxes = let k = own key s R id e at low in let w = R.world in
+      let w' : World = record w { end = update w.end q x } in let f = plays.with_end b x e in
+      let same = same_rank b x e in let boxy = same_boxes b x e in
+      ruled key s R id e at low w' (F f) words' s.homes R.ranked laid boxes R.turns
+      (keep w' f record {
+        rank = same.0 ∙ k.rank;
+        ranks = same.1 ∙ k.ranks;
+        per = same.5 ∙ k.per;
+        long = ap length same.2 ∙ k.long;
+        hands = λ c few. subst (λ hs. Shows e.rank (w.place c) (slice_index_or hs c Away))
+            (sym same.2) (k.hands c few);
+        receive = receive_of key.ranks e.rank low w.end x b e k.receive;
+        free = free_of key.ranks e.rank low w.end x b e k.free;
+        put = same.3 ∙ k.put;
+        got = same.4 ∙ k.got;
+        put_box = boxy.0 ∙ k.put_box;
+        got_box = boxy.1 ∙ k.got_box;
+        outs = ap length boxy.2 ∙ k.outs;
+        ins = ap length boxy.3 ∙ k.ins;
+        filling = λ j few. ap (λ u. slice_index_or u j false) boxy.2 ∙ k.filling j few;
+        emptying = λ i few. ap (λ u. slice_index_or u i None) boxy.3 ∙ k.emptying i few;
+      })
+      (λ r g few ne o. knows_else key.ranks key.cells w w' r g o (λ c. inl refl)
+      (other_receive key.ranks e.rank low w.end x b r few ne)
+      (other_free key.ranks e.rank low w.end x b r few ne) refl refl refl refl refl (λ _. refl))
+
+  -- a load leaves the words
+  loaded : (s : State Load (View Entry)) (i : ℕ) (hs : List (maybe.Option Load))
+      (vs : List (View Entry)) → Rule key record { words = s.words; homes = hs; views = vs }
+      → Rule key record { words = set s.words i (slice_index s.words i); homes = hs; views = vs }
+  loaded s i hs vs R = subst (λ ws. Rule key record { words = ws; homes = hs; views = vs })
+      (sym (set-get_or s.words i 0)) R
+
+  note_kept : (hs : List (ℕ × Load)) → Allows (Rule key) slots id (view (e ∷ []), hs) q (λ k. k)
+      (plays.noted b (step slots q 0 0 maybe.none) (view (e ∷ []), hs))
+  note_kept hs s R long at small = let k = own key s R id e at low in let w = R.world in
+      let found = slice_index s.words q in let x = plays.at_end (plays.end_of b e).shadow found in
+      let laid = subst (λ u. QueuesHold key.ranks key.cells
+      (record w { end = update w.end q (plays.at_end u found) }) s.words s.homes)
+      (ap (λ (z : End). z.shadow) (sym (knows_end key.ranks key.cells w e.rank e k b)))
+      (queues.noted key.ranks key.cells w s.words s.homes R.laid q
+      (fits_in key.ranks e.rank low w.end x b)) in
+      let fit = subst (λ u. found ≤ u) (sym k.long)
+      (queues.head_low key.ranks key.cells w s.words s.homes R.laid q
+      (fits_in key.ranks e.rank low w.end x b)) in
+      dite (ℕ_discrete found 0)
+      (λ none. (
+        view (plays.with_missed b plays.head_miss (plays.with_end b x e) ∷ []),
+        keeps,
+        tt,
+        loaded s q s.homes _ (one_end s R at x s.words (plays.with_missed b plays.head_miss)
+            (knows_missed key.ranks key.cells e.rank b plays.head_miss) laid R.boxes),
+        (
+          fit,
+          (λ _. ap (λ u. (
+            view
+                (plays.with_missed b plays.head_miss
+                (plays.with_end b (plays.at_end (plays.end_of b e).shadow u) e) ∷ []),
+            hs,
+          )) none),
+          (λ some. absurd (omega arith)),
+        ),
+      ))
+      (λ some. (
+        view (plays.with_end b x e ∷ []),
+        keeps,
+        tt,
+        loaded s q s.homes _ (one_end s R at x s.words (λ g. g) (λ _ _ h. h) laid R.boxes),
+        (fit, (λ none. absurd (some none)), (λ _. refl)),
+      ))
+
+  hide_kept : (c : ℕ) (hs : List (ℕ × Load)) → (plays.end_of b e).seen ≡ suc c
+      → Allows (Rule key) slots id (view (e ∷ []), hs) q (λ _. 0)
+      (plays.hid b (step slots q 0 0 maybe.none) (view (e ∷ []), hs))
+  hide_kept c hs seen s R long at small = let k = own key s R id e at low in let w = R.world in
+      let x = plays.at_end (plays.end_of b e).seen 0 in
+      let in_world : (w.end q).seen ≡ suc c =
+      ap (λ (z : End). z.seen) (sym (knows_end key.ranks key.cells w e.rank e k b)) ∙ seen in
+      let laid = subst (λ u. QueuesHold key.ranks key.cells
+      (record w { end = update w.end q (plays.at_end u 0) }) (set s.words q 0) s.homes)
+      (sym seen)
+      (queues.hid key.ranks key.cells w s.words s.homes R.laid q c
+      (fits_in key.ranks e.rank low w.end x b) in_world) in (
+        view (plays.with_end b x e ∷ []),
+        keeps,
+        tt,
+        one_end s R at x (set s.words q 0) (λ g. g) (λ _ _ h. h) laid
+            (box_laws.keep_word key.ranks key.cells w s.words s.homes R.boxes q 0
+            (let f = fits_in key.ranks e.rank low w.end x b in omega arith)),
+        refl,
+      )
+
+  -- the first cell goes into the hand
+  one_taken : (s : State Load (View Entry)) (R : Rule key s)
+      → get_elem? s.views id ≡ maybe.some (view (e ∷ []))
+      → (x : Item Load) (xs : Chain) (shadow : ℕ) (words' : List ℕ) → x.cell < key.ranks * key.cells
+      → R.world.place x.cell ≡ queued q
+      → QueuesHold key.ranks key.cells
+      (queues.after_take key.ranks key.cells R.world s.words s.homes R.laid e.rank q x xs
+      (plays.at_end shadow 0)) words' (set s.homes x.cell maybe.none)
+      → R.world.chain q ≡ x ∷ xs → BoxesHold key.ranks key.cells R.world words'
+      (set s.homes x.cell maybe.none)
+      → Rule key record {
+        words = words';
+        homes = set s.homes x.cell maybe.none;
+        views =
+            set s.views id (view (plays.taken b x.cell x.load shadow e ∷ []));
+      }
+  one_taken s R at x xs shadow words' few was laid is boxes = let k = own key s R id e at low in
+      let w = R.world in let n = key.ranks in let m = key.cells in let y = x.load in
+      let z = plays.at_end shadow 0 in
+      let w' = queues.after_take n key.cells w s.words s.homes R.laid e.rank q x xs z in
+      let f = plays.taken b x.cell y shadow e in let same = same_rank b z e in
+      let boxy = same_boxes b z e in
+      ruled key s R id e at low w' f words' (set s.homes x.cell maybe.none)
+      (below_put n w.place x.cell (held e.rank) low R.ranked) laid boxes
+      (box_laws.turns_less n w R.turns e.rank q x xs is (own_in n e.rank low w.end z b) w' refl refl
+      refl refl refl refl) record {
+        rank = same.0 ∙ k.rank;
+        ranks = same.1 ∙ k.ranks;
+        per = same.5 ∙ k.per;
+        long = length-set (plays.with_end b z e).hands x.cell Held ∙ ap length same.2 ∙ k.long;
+        hands = λ c low'. subst
+            (λ hs. Shows e.rank (w'.place c) (slice_index_or (set hs x.cell Held) c Away))
+            (sym same.2) (hands_but n m w e.rank x.cell (held e.rank) Held e k few refl c low');
+        receive = receive_of n e.rank low w.end z b e k.receive;
+        free = free_of n e.rank low w.end z b e k.free;
+        put = same.3 ∙ k.put;
+        got = ap (λ u. u ++ fetched e.ranks (plays.queue e.ranks e.rank b) y) (same.4 ∙ k.got)
+            ∙ ap (λ j. w.got e.rank ++ fetched j (plays.queue j e.rank b) y) k.ranks
+            ∙ sym (update_here w.got e.rank (w.got e.rank ++ fetched n q y) e.rank refl);
+        put_box = boxy.0 ∙ k.put_box;
+        got_box = boxy.1 ∙ k.got_box;
+        outs = ap length boxy.2 ∙ k.outs;
+        ins = ap length boxy.3 ∙ k.ins;
+        filling = λ j few. ap (λ u. slice_index_or u j false) boxy.2 ∙ k.filling j few;
+        emptying = λ i few. ap (λ u. slice_index_or u i None) boxy.3 ∙ k.emptying i few;
+      }
+      (λ r g few' ne o. knows_else n m w w' r g o
+      (place_but n m w r x.cell (held e.rank) (subst (NotOf r) (sym was) tt) ne)
+      (other_receive n e.rank low w.end z b r few' ne)
+      (other_free n e.rank low w.end z b r few' ne) refl
+      (update_else w.got e.rank (w.got e.rank ++ fetched n q y) r ne) refl refl refl (λ _. refl))
+
+  -- nothing changes
+  stays : (s : State Load (View Entry)) (i : ℕ) → get_elem? s.views id ≡ maybe.some (view (e ∷ []))
+      → Rule key s → Rule key record {
+        words = set s.words i (slice_index s.words i);
+        homes =
+            s.homes;
+        views = set s.views id (view (e ∷ []));
+      }
+  stays s i at R = loaded s i s.homes (set s.views id (view (e ∷ [])))
+      (subst (λ vs. Rule key record { words = s.words; homes = s.homes; views = vs })
+      (sym (set_again s.views id (view (e ∷ [])) at)) R)
+
+  -- nothing changes but what the rule doesn't speak of
+  pub only : (s : State Load (View Entry)) (i : ℕ)
+      → get_elem? s.views id ≡ maybe.some (view (e ∷ [])) → (R : Rule key s) (f : Entry)
+      → Knows key.ranks key.cells R.world e.rank f
+      → Rule key record {
+        words = set s.words i (slice_index s.words i);
+        homes = s.homes;
+        views =
+            set s.views id (view (f ∷ []));
+      }
+  only s i at R f k = loaded s i s.homes (set s.views id (view (f ∷ [])))
+      (ruled key s R id e at low R.world f s.words s.homes R.ranked R.laid R.boxes R.turns k
+      (λ _ _ _ _ o. o))
+
+  module _ (c : ℕ) (hs : List (ℕ × Load)) (shadow : (plays.end_of b e).shadow ≡ suc c) where
+    abbrev me : plays.Knowing
+    me = (view (e ∷ []), hs)
+
+    suited : {w : World} (x : Item Load) → Knows key.ranks key.cells w e.rank e
+        → Suits key.ranks key.cells q x → Suits e.ranks e.each (plays.queue e.ranks e.rank b) x
+    suited x k su = subst (λ u. Suits u e.each (plays.queue u e.rank b) x) (sym k.ranks)
+        (subst (λ u. Suits key.ranks u q x) (sym k.per) su)
+
+    took : (x : Item Load) (found : ℕ) → x.cell ≡ c → x.cell < length e.hands
+        → found ≤ length e.hands → hand e x.cell ≡ Away
+        → Suits e.ranks e.each (plays.queue e.ranks e.rank b) x → plays.HoldsNews b x.cell e x.load
+        → plays.Took b c found me (
+          view (plays.taken b x.cell x.load found e ∷ []),
+          (x.cell, x.load) ∷ hs,
+        )
+    took x found is few fit away suits new = record {
+      low = subst (λ k. k < length e.hands) is few;
+      fits = fit;
+      away = subst (λ k. hand e k ≡ Away) is away;
+      load = x.load;
+      suits = subst (λ k. Suits e.ranks e.each (plays.queue e.ranks e.rank b) (item k x.load)) is
+          suits;
+      news = subst (λ k. plays.HoldsNews b k e x.load) is new;
+      after_is = ap (λ k. (view (plays.taken b k x.load found e ∷ []), (k, x.load) ∷ hs)) is;
+    }
+
+    pass_kept : (f : Entry → Entry) → ((w : World) → Knows key.ranks key.cells w e.rank e
+        → Knows key.ranks key.cells w e.rank (f e))
+        → Allows (Rule key) slots id me (4 * key.ranks + c) (λ k. k)
+        (plays.passed_or f b (step slots (4 * key.ranks + c) 0 0 maybe.none) me)
+    pass_kept f keep s R long at small = let k = own key s R id e at low in let w = R.world in
+        let n = key.ranks in let z = plays.at_end 0 0 in
+        let found = slice_index s.words (4 * n + c) in
+        let shade : (w.end q).shadow ≡ suc c =
+        ap (λ (u : End). u.shadow) (sym (knows_end n key.cells w e.rank e k b)) ∙ shadow in
+        let fit = fits_in n e.rank low w.end z b in let mine = own_in n e.rank low w.end z b in
+        let st = queues.start n key.cells w s.words s.homes R.laid e.rank q c fit mine shade in
+        let su = queues.start_suits n key.cells w s.words s.homes R.laid e.rank q c fit mine shade
+        in
+        let few = queues.start_low n key.cells w s.words s.homes R.laid e.rank q c fit mine shade in
+        dite (ℕ_discrete found 0)
+        (λ none. (
+          view (f e ∷ []),
+          keeps,
+          tt,
+          only s (4 * n + c) at R (f e) (keep w k),
+          ((λ _. refl), (λ some. absurd (omega arith))),
+        ))
+        (λ some. let leads : found ≡ suc (found - 1) = omega arith in (
+          view (plays.taken b st.0.cell st.0.load found e ∷ []),
+          takes st.0.cell st.0.load,
+          queues.at_home n key.cells w s.words s.homes R.laid e.rank q c fit mine shade,
+          loaded s (4 * n + c) (set s.homes st.0.cell maybe.none) _
+              (one_taken s R at st.0 st.1 found s.words few (ap w.place st.3 ∙ st.4)
+              (subst (λ u. QueuesHold n key.cells
+              (queues.after_take n key.cells w s.words s.homes R.laid e.rank q st.0 st.1
+              (plays.at_end u 0)) s.words (set s.homes st.0.cell maybe.none)) (sym leads)
+              (queues.passed n key.cells w s.words s.homes R.laid e.rank q c fit mine shade
+              (found - 1) leads)) st.2
+              (box_laws.keep_slot n key.cells w s.words s.homes R.boxes st.0.cell maybe.none
+              few)),
+          (
+            (λ none. absurd (some none)),
+            (λ _. subst (λ d. plays.Took b d found me (
+              view (plays.taken b st.0.cell st.0.load found e ∷ []),
+              (st.0.cell, st.0.load) ∷ hs,
+            )) (let rs = k.ranks in
+                let t : c ≡ (4 * n + c) - 4 * e.ranks = omega arith in t)
+                (took st.0 found st.3 (subst (λ u. st.0.cell < u) (sym k.long) few)
+                (let nl = queues.next_low n key.cells w s.words s.homes R.laid e.rank q c fit
+                mine shade (found - 1) leads in let kl = k.long in omega arith)
+                (away_in_queue e.rank q (w.place st.0.cell) (hand e st.0.cell)
+                (ap w.place st.3 ∙ st.4) (k.hands st.0.cell few)) (suited st.0 k su)
+                (news n key.cells w e low k R.turns b st.0 st.1 few st.2 su))),
+          ),
+        ))
+
+    drain_kept : Allows (Rule key) slots id me (2 * key.ranks + q) (λ k. either (eqb k (suc c)) 0 k)
+        (plays.drained b (step slots (2 * key.ranks + q) (suc c) 0 maybe.none) me)
+    drain_kept s R long at small = let k = own key s R id e at low in let w = R.world in
+        let n = key.ranks in let z = plays.at_end 0 0 in
+        let found = slice_index s.words (2 * n + q) in
+        let shade : (w.end q).shadow ≡ suc c =
+        ap (λ (u : End). u.shadow) (sym (knows_end n key.cells w e.rank e k b)) ∙ shadow in
+        let fit = fits_in n e.rank low w.end z b in let mine = own_in n e.rank low w.end z b in
+        let st = queues.start n key.cells w s.words s.homes R.laid e.rank q c fit mine shade in
+        let su = queues.start_suits n key.cells w s.words s.homes R.laid e.rank q c fit mine shade
+        in
+        let few = queues.start_low n key.cells w s.words s.homes R.laid e.rank q c fit mine shade in
+        exchanged found (suc c) 0
+        (λ m. (v : View Entry) × (a : Act Load) × Valid s.homes hs a
+        × Rule key (stepped s (2 * n + q) m id hs v a)
+        × plays.drained b (step slots (2 * n + q) (suc c) 0 maybe.none) me found
+        (v, carried_after hs a))
+        (λ last. (
+          view (plays.taken b st.0.cell st.0.load 0 e ∷ []),
+          takes st.0.cell st.0.load,
+          queues.at_home n key.cells w s.words s.homes R.laid e.rank q c fit mine shade,
+          one_taken s R at st.0 [] 0 (set s.words (2 * n + q) 0) few (ap w.place st.3 ∙ st.4)
+              (queues.drained n key.cells w s.words s.homes R.laid e.rank q c fit mine shade last)
+              (queues.sole n key.cells w s.words s.homes R.laid e.rank q c fit mine shade last)
+              (box_laws.keep_both n key.cells w s.words s.homes R.boxes
+              (2 * n + q) st.0.cell 0 maybe.none (omega arith) few),
+          (
+            (λ other. absurd (other last)),
+            (λ _. subst (λ d. plays.Took b d 0 me
+                (view (plays.taken b st.0.cell st.0.load 0 e ∷ []), (st.0.cell, st.0.load) ∷ hs))
+                (let t : c ≡ suc c - 1 = omega arith in t)
+                (took st.0 0 st.3 (subst (λ u. st.0.cell < u) (sym k.long) few) (omega arith)
+                (away_in_queue e.rank q (w.place st.0.cell) (hand e st.0.cell)
+                (ap w.place st.3 ∙ st.4) (k.hands st.0.cell few)) (suited st.0 k su)
+                (news n key.cells w e low k R.turns b st.0 st.1 few st.2 su))),
+          ),
+        ))
+        (λ other. (
+          view (e ∷ []),
+          keeps,
+          tt,
+          stays s (2 * n + q) at R,
+          ((λ _. refl), (λ same. absurd (other same))),
+        ))
+
+-- the same for any seat that speaks for one rank, of a fabric of n ranks
+module _ (key : Sizes) (n slots id : ℕ) (me : plays.Knowing) (alone : plays.Alone me)
+    (ranks : key.ranks ≡ n) (rank : ℕ) (named : (plays.mine me).rank ≡ rank) (low : rank < n)
+    (b : Bool) where
+  here : (plays.mine me).rank < key.ranks
+  here = rw (ranks, named) low
+
+  own_queue : plays.queue n rank b ≡ plays.queue key.ranks (plays.mine me).rank b
+  own_queue = λ i. plays.queue (sym ranks i) (sym named i) b
+
+  pub note_allowed : (word : ℕ) → word ≡ plays.queue n rank b
+      → Allows (Rule key) slots id me word (λ k. k)
+      (plays.noted b (step slots word 0 0 maybe.none) me)
+  note_allowed word is =
+      subst (λ k. Allows (Rule key) slots id me k (λ k. k)
+      (plays.noted b (step slots k 0 0 maybe.none) me)) (sym (is ∙ own_queue))
+      (subst (λ v. Allows (Rule key) slots id (v, me.1)
+      (plays.queue key.ranks (plays.mine me).rank b) (λ k. k)
+      (plays.noted b (step slots (plays.queue key.ranks (plays.mine me).rank b) 0 0 maybe.none)
+      (v, me.1))) (sym alone)
+      (note_kept key slots id (plays.mine me) here b me.1))
+
+  pub hide_allowed : (word : ℕ) → word ≡ plays.queue n rank b
+      → 0 < (plays.end_of b (plays.mine me)).seen → Allows (Rule key) slots id me word (λ _. 0)
+      (plays.hid b (step slots word 0 0 maybe.none) me)
+  hide_allowed word is some =
+      subst (λ k. Allows (Rule key) slots id me k (λ _. 0)
+      (plays.hid b (step slots k 0 0 maybe.none) me)) (sym (is ∙ own_queue))
+      (subst (λ v. Allows (Rule key) slots id (v, me.1)
+      (plays.queue key.ranks (plays.mine me).rank b) (λ _. 0)
+      (plays.hid b (step slots (plays.queue key.ranks (plays.mine me).rank b) 0 0 maybe.none)
+      (v, me.1))) (sym alone)
+      (hide_kept key slots id (plays.mine me) here b ((plays.end_of b (plays.mine me)).seen - 1)
+      me.1 (omega arith)))
+
+  pass_or : (f : Entry → Entry)
+      → ((w : World) → Knows key.ranks key.cells w (plays.mine me).rank (plays.mine me)
+      → Knows key.ranks key.cells w (plays.mine me).rank (f (plays.mine me))) → (c : ℕ)
+      → (plays.end_of b (plays.mine me)).shadow ≡ suc c → Allows (Rule key) slots id me (4 * n + c)
+      (λ k. k) (plays.passed_or f b (step slots (4 * n + c) 0 0 maybe.none) me)
+  pass_or f keep c shadow =
+      subst (λ k. Allows (Rule key) slots id me (4 * k + c) (λ k. k)
+      (plays.passed_or f b (step slots (4 * k + c) 0 0 maybe.none) me)) ranks
+      (subst (λ v. Allows (Rule key) slots id (v, me.1) (4 * key.ranks + c) (λ k. k)
+      (plays.passed_or f b (step slots (4 * key.ranks + c) 0 0 maybe.none) (v, me.1)))
+      (sym alone)
+      (pass_kept key slots id (plays.mine me) here b c me.1 shadow f keep))
+
+  pub pass_allowed : (c : ℕ) → (plays.end_of b (plays.mine me)).shadow ≡ suc c
+      → Allows (Rule key) slots id me (4 * n + c) (λ k. k)
+      (plays.passed b (step slots (4 * n + c) 0 0 maybe.none) me)
+  pass_allowed = pass_or (λ e. e) (λ _ h. h)
+
+  pub reload_allowed : (c : ℕ) → (plays.end_of b (plays.mine me)).shadow ≡ suc c
+      → Allows (Rule key) slots id me (4 * n + c) (λ k. k)
+      (plays.reloaded b (step slots (4 * n + c) 0 0 maybe.none) me)
+  reload_allowed = pass_or (plays.with_missed b plays.link_miss)
+      (λ w h. knows_missed key.ranks key.cells (plays.mine me).rank b plays.link_miss w
+      (plays.mine me) h)
+
+  pub drain_allowed : (word old : ℕ) → word ≡ 2 * n + plays.queue n rank b
+      → (plays.end_of b (plays.mine me)).shadow ≡ old → 0 < old
+      → Allows (Rule key) slots id me word (λ k. either (eqb k old) 0 k)
+      (plays.drained b (step slots word old 0 maybe.none) me)
+  drain_allowed word old is shadow some = let at : word ≡ 2 * key.ranks + plays.queue key.ranks
+      (plays.mine me).rank b = is ∙ (λ i. 2 * sym ranks i + own_queue i) in let c : ℕ = old - 1 in
+      let plus : suc (old - 1) ≡ old = omega arith in
+      subst (λ k. Allows (Rule key) slots id me k (λ k. either (eqb k old) 0 k)
+      (plays.drained b (step slots k old 0 maybe.none) me)) (sym at)
+      (subst (λ v. Allows (Rule key) slots id (v, me.1)
+      (2 * key.ranks + plays.queue key.ranks (plays.mine me).rank b)
+      (λ k. either (eqb k old) 0 k)
+      (plays.drained b (step slots
+      (2 * key.ranks + plays.queue key.ranks (plays.mine me).rank b) old 0 maybe.none)
+      (v, me.1))) (sym alone)
+      (subst (λ d. Allows (Rule key) slots id (view (plays.mine me ∷ []), me.1)
+      (2 * key.ranks + plays.queue key.ranks (plays.mine me).rank b) (λ k. either (eqb k d) 0 k)
+      (plays.drained b (step slots
+      (2 * key.ranks + plays.queue key.ranks (plays.mine me).rank b) d 0 maybe.none)
+      (view (plays.mine me ∷ []), me.1))) plus
+      (drain_kept key slots id (plays.mine me) here b (old - 1) me.1 (shadow ∙ sym plus))))

@@ -1,0 +1,12 @@
+pub mod BoxLemmas
+pub mod BoxStepLemmas
+pub mod CarriedLemmas
+pub mod ClosingLemmas
+pub mod ConsumerLemmas
+pub mod CountedLemmas
+pub mod CountingLemmas
+pub mod HoldingLemmas
+pub mod OpeningLemmas
+pub mod PortLemmas
+pub mod ProducerLemmas
+pub mod QueueLemmas

@@ -1,0 +1,382 @@
+-- What each kind of step does to what a port carries and counts.
+use Rattle.std.proofs.Common.{◌≡◌, ℕ, suc, ◌+◌, ◌*◌, ◌/◌, ◌<◌, ◌≤◌, Bool, true}
+use Rattle.std.proofs.Common.{false, Option, None, List, [], ◌∷◌, ◌++◌, length, map, set, sym}
+use Rattle.std.proofs.Common.{refl, ap, ◌∙◌, subst, arith, length-set, append-nil}
+use Rattle.std.proofs.Math.Logic.{∥∥₁_map, ∥∥₁_elim}
+use Rattle.std.proofs.Props.{props}
+use Rattle.std.specs.Prelude.{remove, slice_index, vec_len, vec_capacity}
+use Rattle.nm_seats.proofs.UpdateLemmas.{update_here}
+use Rattle.nm_cells.proofs.BoxLemmas.{owner_below}
+use native.Mathlib.Decide.{dec_le}
+use Rattle.atomic_table.specs.Table.{rest}
+use Rattle.nm_types.specs.declared.packets.Packet.{Packet}
+use Rattle.nm_seats.specs.Spoken.{view}
+use Rattle.nm_seats.specs.Update.{update}
+use Rattle.nm_cells.specs.declared.peers.Peer.{Peer}
+use Rattle.nm_cells.specs.declared.table.End.{End}
+use Rattle.nm_cells.specs.declared.table.Hand.{Hand}
+use Rattle.nm_cells.specs.declared.table.Hand.TheVariants.{Away, Held, Ready, Entering}
+use Rattle.nm_chain.specs.Chain.{item}
+use Rattle.nm_cells.specs.Rule.{Load, Suits, hand, sender, number, sent_to, posted}
+use Rattle.nm_cells.specs.Plays as plays
+use Rattle.nm_cells.specs.Plays.{Knowing, mine, InHand, with_hand, with_put, Took}
+use Rattle.nm_cells.specs.Carried.{times, slots_with, in_hand, Carries, held_in}
+use Rattle.nm_cells.specs.declared.cell.Queue as cells
+use Rattle.nm_cells.specs.declared.cell.Queue.TheVariants.{Receive, Free}
+use Rattle.nm_cells.specs.declared.port.Port.{Port}
+use Rattle.nm_cells.specs.declared.port.Fabric.{Fabric}
+use Rattle.nm_cells.specs.declared.cell.Cell.{Cell}
+use Rattle.nm_cells.specs.Ports.{Owns, Takes, holding, sent_by, arrivals, queue_of, rank_of_queue}
+use Rattle.nm_cells.specs.Ports.{posted_in, sent_into, HasRoomFor, MayJoin}
+use Rattle.std.proofs.lemmas.List.Sums.{sum_by-set}
+use Rattle.nm_cells.specs.Counted.{CountsFor, counted_after, peer_in, new_peer, all_unpassed}
+use Rattle.nm_cells.specs.Counted.{Counts, with_peer, one_sent, one_arrived}
+use Rattle.nm_cells.proofs.QueueLemmas.{below_yes, below_no}
+use Rattle.nm_cells.proofs.CarriedLemmas.{none_in_hand, within, count_within, hand_changes}
+use Rattle.nm_cells.proofs.CarriedLemmas.{cell_taken, cell_given, in_hand_one, in_hand_below}
+use Rattle.nm_cells.proofs.CarriedLemmas.{first_removed, roomier}
+use Rattle.nm_cells.proofs.CountedLemmas.{packet_sent, packet_arrived, peer_same, number_small}
+use Rattle.nm_cells.proofs.CountedLemmas.{unpassed_small}
+use Rattle.nm_cells.proofs.HoldingLemmas.{held_taken, given_held}
+
+-- what a port carries, by its seat
+abbrev pub CarriesFor : Knowing → List ℕ → ℕ → ℕ → Type 0
+CarriesFor me carried room count = Carries me.1 (mine me).hands (mine me).filling
+    (mine me).emptying carried room count
+
+one_in_hand : (h : Hand) → InHand h → in_hand h ≡ 1
+one_in_hand Away i = absurd i
+one_in_hand Held i = refl
+one_in_hand (Ready y) i = refl
+one_in_hand (Entering q t) i = absurd i
+
+module _ (me after : Knowing) (carried : List ℕ) (room count : ℕ)
+    (h : CarriesFor me carried room count) where
+  -- the link of a cell in hand is cleared
+  pub cleared_carries : (c : ℕ) (y : Load) → after ≡ (
+    view (with_hand c (Ready y) (mine me) ∷ []),
+    me.1,
+  ) → c < length (mine me).hands → InHand (hand (mine me) c)
+      → CarriesFor after carried room count
+  cleared_carries c y is low i = let e = mine me in
+      subst (λ m. CarriesFor m carried room count) (sym is)
+      (hand_changes me.1 e.hands e.filling e.emptying carried room count h c (Ready y) low
+      (sym (in_hand_one (hand e c) i)) count (let one = one_in_hand (hand e c) i in
+      omega arith))
+
+  -- an enqueue is done
+  pub finished_carries : (c q t count' : ℕ) → after ≡ (view (with_hand c Away (mine me) ∷ []), me.1)
+      → c < length (mine me).hands → hand (mine me) c ≡ Entering q t → count' + 1 ≡ count
+      → CarriesFor after carried room count'
+  finished_carries c q t count' is low was less = let e = mine me in
+      subst (λ m. CarriesFor m carried room count') (sym is)
+      (hand_changes me.1 e.hands e.filling e.emptying carried room count h c Away low
+      (sym (ap slots_with was)) count' (let one = ap in_hand was in omega arith))
+
+  -- something is in hand while an enqueue is pending
+  pub some_in_hand : (c q t : ℕ) → c < length (mine me).hands → hand (mine me) c ≡ Entering q t
+      → 0 < count
+  some_in_hand c q t low was = let e = mine me in
+      in_hand_below me.1 e.hands e.filling e.emptying carried room count h c low (ap in_hand was)
+
+  -- a cell is in a queue
+  pub swapped_carries : (c q t : ℕ) (y z : Load) (xs : List (ℕ × Load))
+      → after ≡ (view (with_put xs (with_hand c (Entering q t) (mine me)) ∷ []), rest me.1)
+      → me.1 ≡ (c, y) ∷ rest me.1 → c < length (mine me).hands → hand (mine me) c ≡ Ready z
+      → CarriesFor after (remove carried 0) room count
+  swapped_carries c q t y z xs is front low was = let e = mine me in
+      let split : carried ≡ c ∷ remove carried 0 =
+      first_removed carried c (map (λ x. x.0) (rest me.1)) (sym h.order ∙ ap (map (λ x. x.0)) front)
+      in
+      subst (λ m. CarriesFor m (remove carried 0) room count) (sym is)
+      (cell_given me.1 e.hands e.filling e.emptying carried room count h c (Entering q t) low y
+      (rest me.1) (remove carried 0) front split (ap slots_with was) refl
+      (sym (ap in_hand was)))
+
+  -- and its slot is out no more
+  pub swapped_holds : (c q t : ℕ) (y z : Load) (xs : List (ℕ × Load))
+      → after ≡ (view (with_put xs (with_hand c (Entering q t) (mine me)) ∷ []), rest me.1)
+      → me.1 ≡ (c, y) ∷ rest me.1 → c < length (mine me).hands → hand (mine me) c ≡ Ready z
+      → held_in (length (mine after).hands) after.1 ≡ update
+      (held_in (length (mine me).hands) me.1) c None
+  swapped_holds c q t y z xs is front low was = let e = mine me in
+      ap (λ m. held_in (length (mine m).hands) m.1) is ∙ ap (λ k. held_in k (rest me.1))
+      (length-set e.hands c (Entering q t))
+      ∙ given_held c None y me.1 (rest me.1) front (length e.hands) low
+      (ap (times c) h.order ∙ h.cells c low ∙ ap slots_with was)
+
+  -- the first cell of an own queue is in hand
+  pub took_carries : (b : Bool) (c shadow room' count' : ℕ) → Took b c shadow me after
+      → room ≤ room' → count' ≡ count + 1 → CarriesFor after (c ∷ carried) room' count'
+  took_carries true c shadow room' count' t more less = let e = mine me in
+      subst (λ m. CarriesFor m (c ∷ carried) room' count') (sym t.after_is)
+      (roomier ((c, t.load) ∷ me.1) (set e.hands c Held) e.filling e.emptying
+      (c ∷ carried) room room' count' more
+      (cell_taken me.1 e.hands e.filling e.emptying carried room count h c Held t.low t.load
+      t.away refl refl count' less))
+  took_carries false c shadow room' count' t more less = let e = mine me in
+      subst (λ m. CarriesFor m (c ∷ carried) room' count') (sym t.after_is)
+      (roomier ((c, t.load) ∷ me.1) (set e.hands c Held) e.filling e.emptying
+      (c ∷ carried) room room' count' more
+      (cell_taken me.1 e.hands e.filling e.emptying carried room count h c Held t.low t.load
+      t.away refl refl count' less))
+
+  pub took_holds : (b : Bool) (c shadow : ℕ) → (t : Took b c shadow me after)
+      → held_in (length (mine after).hands) after.1 ≡ update
+      (held_in (length (mine me).hands) me.1) c t.load
+  took_holds true c shadow t = let e = mine me in
+      ap (λ m. held_in (length (mine m).hands) m.1) t.after_is
+      ∙ ap (λ k. held_in k ((c, t.load) ∷ me.1)) (length-set e.hands c Held)
+      ∙ held_taken (length e.hands) c t.load me.1 t.low
+  took_holds false c shadow t = let e = mine me in
+      ap (λ m. held_in (length (mine m).hands) m.1) t.after_is
+      ∙ ap (λ k. held_in k ((c, t.load) ∷ me.1)) (length-set e.hands c Held)
+      ∙ held_taken (length e.hands) c t.load me.1 t.low
+
+module _ (me after : Knowing) (peers : List Peer) (held : Option Packet)
+    (low : (mine me).rank < (mine me).ranks) where
+  pub took_counts : (b : Bool) (c shadow i : ℕ) → i ≡ c / (mine me).each → i < (mine me).ranks
+      → Took b c shadow me after → ∥ CountsFor (mine me) peers held ∥₁
+      → ∥ CountsFor (mine after) (counted_after b i peers) held ∥₁
+  took_counts true c shadow i is li t h = let e = mine me in let y = t.load in
+      ∥∥₁_map h (λ n. subst (λ m. CountsFor (mine m) (with_peer one_arrived i peers) held)
+      (sym t.after_is)
+      (subst (λ g. Counts e.put g e.put_box e.got_box e.box_full e.box_miss e.filling e.emptying
+      e.ranks (with_peer one_arrived i peers) held)
+      (ap (λ u. e.got ++ u) (sym (below_yes (dec_le (suc e.rank) e.ranks) (y ∷ []) [] low)))
+      (subst (λ k. Counts e.put (e.got ++ y ∷ []) e.put_box e.got_box e.box_full e.box_miss
+      e.filling e.emptying e.ranks (with_peer one_arrived k peers) held) (sym is)
+      (packet_arrived e.put e.got e.put_box e.got_box e.box_full e.box_miss e.filling e.emptying
+      e.ranks peers held n (c / e.each) y (subst (λ k. k < e.ranks) is li)
+      (t.suits.0 low) t.news.0 t.news.1))))
+  took_counts false c shadow i is li t h = let e = mine me in let y = t.load in
+      ∥∥₁_map h (λ n. subst (λ m. CountsFor (mine m) peers held) (sym t.after_is)
+      (subst (λ g. Counts e.put g e.put_box e.got_box e.box_full e.box_miss e.filling e.emptying
+      e.ranks peers held) (sym
+      (ap (λ u. e.got ++ u) (below_no (dec_le (suc (e.ranks + e.rank)) e.ranks) (y ∷ []) []
+      (λ l. omega arith)) ∙ append-nil e.got)) n))
+
+-- what an enqueue puts, by the queue's name
+pub posted_is : (n : ℕ) (q : cells.Queue) (y : Load) → rank_of_queue q < n
+    → posted n (queue_of n q) y ≡ posted_in q y
+posted_is n (Receive j) y low = below_yes (dec_le (suc j) n) ((j, y) ∷ []) [] low
+posted_is n (Free j) y low = below_no (dec_le (suc (n + j)) n) ((n + j, y) ∷ []) []
+    (λ l. omega arith)
+
+pub sent_counts : (me after : Knowing) (peers : List Peer) (held : Option Packet) (q : cells.Queue)
+    (y : Load) (c : ℕ) (h : Hand) (hs : List (ℕ × Load))
+    → after ≡ (view (with_put (posted_in q y) (with_hand c h (mine me)) ∷ []), hs)
+    → rank_of_queue q < (mine me).ranks → ∥ CountsFor (mine me) peers held ∥₁
+    → ∥ CountsFor (mine after) (sent_into q peers) held ∥₁
+sent_counts me after peers held (Receive j) y c h hs is low t = let e = mine me in
+    ∥∥₁_map t (λ n. subst (λ m. CountsFor (mine m) (with_peer one_sent j peers) held) (sym is)
+    (packet_sent e.put e.got e.put_box e.got_box e.box_full e.box_miss e.filling e.emptying e.ranks
+    peers held n j y low))
+sent_counts me after peers held (Free j) y c h hs is low t = let e = mine me in
+    ∥∥₁_map t (λ n. subst (λ m. CountsFor (mine m) peers held) (sym is)
+    (subst (λ u. Counts u e.got e.put_box e.got_box e.box_full e.box_miss e.filling e.emptying
+    e.ranks peers held) (sym (append-nil e.put)) n))
+
+-- there is room for a packet of the port's own
+pub room_for : (f : Fabric) (p : Port) (q : cells.Queue) (c : ℕ) (y : Load) → MayJoin f p q c y
+    → (mine p.seat.me).ranks ≡ f.ranks → ∥ CountsFor (mine p.seat.me) p.peers.items p.held ∥₁
+    → HasRoomFor q p.peers.items
+room_for f p (Receive j) c y may same t = (
+  ∥∥₁_elim t (search props) (λ n. let l = n.count in let lj = may.0 in omega arith),
+  ∥∥₁_elim t (search props) (λ n. let o = n.each j (subst (λ k. j < k) (sym same) may.0) in
+      let s = o.sent in let nx = may.3 in let small = number_small y in omega arith),
+)
+room_for f p (Free j) c y may same t = tt
+
+-- what is passed on stays
+pub sent_taken : (q : cells.Queue) (peers : List Peer) → HasRoomFor q peers
+    → ((i : ℕ) → (peer_in (sent_into q peers) i).taken ≡ (peer_in peers i).taken)
+    × (all_unpassed (sent_into q peers) ≡ all_unpassed peers)
+sent_taken (Receive j) peers room = (
+  peer_same (λ (p : Peer). p.taken) one_sent j peers room.0 (λ p. refl),
+  let s = sum_by-set (λ (p : Peer). p.unpassed) peers j (one_sent (peer_in peers j)) new_peer room.0
+      in omega arith,
+)
+sent_taken (Free j) peers room = ((λ i. refl), refl)
+
+-- what may join a queue suits it
+pub may_suits : (f : Fabric) (p : Port) (q : cells.Queue) (c : ℕ) (y : Load) → MayJoin f p q c y
+    → Suits f.ranks f.each (queue_of f.ranks q) (item c y)
+    × (queue_of f.ranks q < f.ranks → (sender y ≡ suc p.rank)
+    × (number y ≡ sent_to (queue_of f.ranks q) (mine p.seat.me).put_box (mine p.seat.me).put))
+may_suits f p (Receive j) c y may = (
+  ((λ l. may.2 ∙ ap suc (sym may.1)), (λ far. let lj = may.0 in absurd (omega arith))),
+  (λ l. (may.2, may.3)),
+)
+may_suits f p (Free j) c y may = (
+  ((λ l. absurd (omega arith)), (λ far. (may.2, ap (λ k. f.ranks + k) may.1))),
+  (λ l. absurd (omega arith)),
+)
+
+pub may_low : (f : Fabric) (p : Port) (q : cells.Queue) (c : ℕ) (y : Load) → MayJoin f p q c y
+    → rank_of_queue q < f.ranks
+may_low f p (Receive j) c y may = may.0
+may_low f p (Free j) c y may = may.0
+
+-- what a consumer loaded is a cell of the fabric, or 0
+pub end_below : (b : Bool) (p : Port)
+    → ((plays.end_of b (mine p.seat.me)).shadow ≤ length (mine p.seat.me).hands)
+    × ((plays.end_of b (mine p.seat.me)).seen ≤ length (mine p.seat.me).hands)
+end_below true p = subst (λ (x : End). (x.shadow ≤ length (mine p.seat.me).hands)
+    × (x.seen ≤ length (mine p.seat.me).hands)) (sym p.ends.0) (p.small.0, p.small.1)
+end_below false p = subst (λ (x : End). (x.shadow ≤ length (mine p.seat.me).hands)
+    × (x.seen ≤ length (mine p.seat.me).hands)) (sym p.ends.1) (p.small.2, p.small.3)
+
+pub shadow_below : (b : Bool) (p : Port) (x : End) → x ≡ plays.end_of b (mine p.seat.me)
+    → x.shadow ≤ length (mine p.seat.me).hands
+shadow_below b p x is = subst (λ (u : End). u.shadow ≤ length (mine p.seat.me).hands) (sym is)
+    (end_below b p).0
+
+-- what is known once a cell of an own queue was taken
+module _ (b : Bool) (f : Fabric) (p : Port) (d c shadow : ℕ) (after : Knowing) (owns : Owns f p)
+    (told : Took b d shadow p.seat.me after) (is_cell : d ≡ c) where
+  abbrev t : Took b c shadow p.seat.me after
+  t = subst (λ k. Took b k shadow p.seat.me after) is_cell told
+
+  cell_low : c < f.ranks * f.each
+  cell_low = subst (λ n. c < n) owns.4 t.low
+
+  owner_low : c / f.each < f.ranks
+  owner_low = owner_below f.ranks f.each c cell_low
+
+  new_carries : (room : ℕ) → vec_capacity p.carried ≤ room
+      → CarriesFor after (c ∷ p.carried.items) room (p.hands + 1)
+  new_carries room more = took_carries p.seat.me after p.carried.items
+      (vec_capacity p.carried) p.hands p.carries b c shadow room (p.hands + 1) t more refl
+
+  pub takes_room : vec_len p.carried < vec_capacity p.carried
+  takes_room = let n = new_carries (vec_capacity p.carried) (omega arith) in let e = mine after in
+      let w = within after.1 e.hands e.filling e.emptying (c ∷ p.carried.items)
+      (vec_capacity p.carried) (p.hands + 1) n in omega arith
+
+  pub takes_carries : (carried : List ℕ) (room hands : ℕ) → carried ≡ c ∷ p.carried.items
+      → vec_capacity p.carried ≤ room → hands ≡ p.hands + 1 → CarriesFor after carried room hands
+  takes_carries carried room hands is more one = subst (λ l. CarriesFor after l room hands) (sym is)
+      (subst (λ k. CarriesFor after (c ∷ p.carried.items) room k) (sym one) (new_carries room more))
+
+  same_lengths : (k : Bool) → Took k c shadow p.seat.me after
+      → (length (mine after).hands ≡ length (mine p.seat.me).hands)
+      × (length (mine after).filling ≡ length (mine p.seat.me).filling)
+      × (length (mine after).emptying ≡ length (mine p.seat.me).emptying)
+      × ((mine after).ranks ≡ (mine p.seat.me).ranks) × ((mine after).each ≡ (mine p.seat.me).each)
+      × ((plays.end_of k (mine after)).shadow ≡ shadow)
+  same_lengths true u = (
+    ap (λ m. length (mine m).hands) u.after_is ∙ length-set (mine p.seat.me).hands c Held,
+    ap (λ m. length (mine m).filling) u.after_is,
+    ap (λ m. length (mine m).emptying) u.after_is,
+    ap (λ m. (mine m).ranks) u.after_is,
+    ap (λ m. (mine m).each) u.after_is,
+    ap (λ m. (mine m).receive.shadow) u.after_is,
+  )
+  same_lengths false u = (
+    ap (λ m. length (mine m).hands) u.after_is ∙ length-set (mine p.seat.me).hands c Held,
+    ap (λ m. length (mine m).filling) u.after_is,
+    ap (λ m. length (mine m).emptying) u.after_is,
+    ap (λ m. (mine m).ranks) u.after_is,
+    ap (λ m. (mine m).each) u.after_is,
+    ap (λ m. (mine m).free.shadow) u.after_is,
+  )
+
+  pub takes_hands : p.hands + 1 ≤ 4294967295
+  takes_hands = let n = new_carries (vec_capacity p.carried) (omega arith) in let e = mine after in
+      let w = count_within after.1 e.hands e.filling e.emptying (c ∷ p.carried.items)
+      (vec_capacity p.carried) (p.hands + 1) n in
+      let l = same_lengths b t in let l₀ = l.0 in let l₁ = l.1 in let l₂ = l.2 in let o₄ = owns.4 in
+      let o₅ = owns.5 in let o₆ = owns.6 in let s₀ = f.small.0 in let s₃ = f.small.3 in
+      omega arith
+
+  pub takes_count : b ≡ true → (c / f.each < length p.peers.items)
+      × ((peer_in p.peers.items (c / f.each)).unpassed < 2305843009213693952)
+  takes_count _ = let e = mine p.seat.me in (
+    ∥∥₁_elim p.counts (search props) (λ n. let l = n.count in let o = owns.2 in
+        let low = owner_low in omega arith),
+    ∥∥₁_elim p.counts (search props) (λ n. let s =
+        unpassed_small e.put e.got e.put_box e.got_box e.box_full e.box_miss e.filling e.emptying
+        e.ranks p.peers.items p.held n (c / f.each)
+        (subst (λ k. c / f.each < k) (sym owns.2) owner_low) in omega arith),
+  )
+
+  own_low : (mine p.seat.me).rank < (mine p.seat.me).ranks
+  own_low = subst (λ k. k < (mine p.seat.me).ranks) (sym p.named)
+      (subst (λ k. p.rank < k) (sym owns.2) owns.1)
+
+  pub takes_counts : (peers : List Peer) → peers ≡ counted_after b (c / f.each) p.peers.items
+      → ∥ CountsFor (mine after) peers p.held ∥₁
+  takes_counts peers is = subst (λ l. ∥ CountsFor (mine after) l p.held ∥₁) (sym is)
+      (took_counts p.seat.me after p.peers.items p.held own_low b c shadow (c / f.each)
+      (ap (λ m. c / m) (sym owns.3)) (subst (λ k. c / f.each < k) (sym owns.2) owner_low) t
+      p.counts)
+
+  taken_same : (k : Bool) (peers : List Peer) → peers ≡ counted_after k (c / f.each) p.peers.items
+      → c / f.each < length p.peers.items
+      → ((i : ℕ) → (peer_in peers i).taken ≡ (peer_in p.peers.items i).taken)
+      × (all_unpassed peers ≡ all_unpassed p.peers.items + arrivals k)
+  taken_same true peers is low = (
+    (λ i. ap (λ l. (peer_in l i).taken) is ∙ peer_same (λ (u : Peer). u.taken) one_arrived
+        (c / f.each) p.peers.items low (λ u. refl) i),
+    ap all_unpassed is ∙ (let s = sum_by-set (λ (u : Peer). u.unpassed) p.peers.items (c / f.each)
+        (one_arrived (peer_in p.peers.items (c / f.each))) new_peer low in omega arith),
+  )
+  taken_same false peers is low = (
+    (λ i. ap (λ l. (peer_in l i).taken) is),
+    ap all_unpassed is ∙ (let z : all_unpassed p.peers.items ≡ all_unpassed p.peers.items + 0 =
+        omega arith in z),
+  )
+
+  -- the cell is in hand
+  pub takes_made : (new : Port) (cell : Cell) → new.seat.me ≡ after → cell.number ≡ c
+      → cell.owner ≡ c / f.each → new.held ≡ p.held
+      → new.peers.items ≡ counted_after b (c / f.each) p.peers.items → Takes b f p new cell
+  takes_made new cell me is owner same peers = let e = mine p.seat.me in let y = t.load in
+      let now : holding new ≡ update (holding p) c y =
+      ap (λ m. held_in (length (mine m).hands) m.1) me
+      ∙ took_holds p.seat.me after p.carried.items (vec_capacity p.carried) p.hands p.carries b
+      c shadow t in
+      let here : holding new cell.number ≡ y = ap (holding new) is ∙ ap (λ h. h c) now
+      ∙ update_here (holding p) c y c refl in
+      let l = same_lengths b t in
+      let low = ∥∥₁_elim p.counts (search props) (λ n. let k = n.count in let o = owns.2 in
+      let ol = owner_low in (let z : c / f.each < length p.peers.items = omega arith in z)) in
+      let u = taken_same b new.peers.items peers low in record {
+        low = subst (λ k. k < f.ranks * f.each) (sym is) cell_low;
+        owner = owner ∙ ap (λ k. k / f.each) (sym is);
+        suits = subst (λ k. Suits f.ranks f.each (plays.queue f.ranks p.rank b)
+            (item k (holding new cell.number))) (sym is)
+            (subst (λ z. Suits f.ranks f.each (plays.queue f.ranks p.rank b) (item c z)) (sym here)
+            (subst (λ r. Suits f.ranks f.each (plays.queue f.ranks r b) (item c y)) p.named
+            (subst (λ m. Suits f.ranks m (plays.queue f.ranks e.rank b) (item c y)) owns.3
+            (subst (λ n. Suits n e.each (plays.queue n e.rank b) (item c y)) owns.2 t.suits))));
+        knows = ap mine me ∙ ap mine t.after_is
+            ∙ (λ i. plays.taken b (sym is i) (sym here i)
+            ((sym l.5 ∙ ap (λ m. (plays.end_of b (mine m)).shadow) (sym me)) i) e);
+        holding = now ∙ (λ i. update (holding p) (sym is i) (sym here i));
+        taken = λ i j. u.0 j i;
+        held = same;
+        unpassed = u.1;
+      }
+
+-- what is counted of a rank
+module _ (p : Port) (j : ℕ) (low : j < (mine p.seat.me).ranks) where
+  pub peer_low : j < length p.peers.items
+  peer_low = ∥∥₁_elim p.counts (search props) (λ n. let l = n.count in omega arith)
+
+  pub peer_sent : (peer_in p.peers.items j).sent ≡ sent_by p j
+  peer_sent = ∥∥₁_elim p.counts (search props) (λ n. (n.each j low).sent)
+
+  pub peer_full : (peer_in p.peers.items j).box_full ≡ slice_index (mine p.seat.me).box_full j
+  peer_full = ∥∥₁_elim p.counts (search props) (λ n. (n.each j low).box_full)
+
+  pub peer_miss : (peer_in p.peers.items j).box_miss ≡ slice_index (mine p.seat.me).box_miss j
+  peer_miss = ∥∥₁_elim p.counts (search props) (λ n. (n.each j low).box_miss)
+
+-- a port with nothing in hand
+pub idle : (p : Port) → p.hands ≡ 0 → (p.seat.me.1 ≡ [])
+    × ((c : ℕ) → c < length (mine p.seat.me).hands → hand (mine p.seat.me) c ≡ Away)
+idle p zeroed = let e = mine p.seat.me in
+    none_in_hand p.seat.me.1 e.hands e.filling e.emptying p.carried.items
+    (vec_capacity p.carried) p.hands p.carries zeroed

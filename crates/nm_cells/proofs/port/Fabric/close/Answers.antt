@@ -1,0 +1,65 @@
+use Rattle.std.proofs.Common.{◌≡◌, ◌<◌, length, map, sym, ap, ◌∙◌, subst, arith}
+use mathlib.Core.Option as maybe
+use lib.ListN.{get_elem?}
+use Rattle.nm_seats.specs.Spoken.{view}
+use Rattle.nm_cells.specs.Rule.{hand}
+use Rattle.nm_cells.specs.AtClose.{AllCame, Prefixed, Settled}
+use Rattle.nm_cells.specs.Ports.{knows}
+use Rattle.nm_cells.specs.ClosedLists.{seen_in}
+use Rattle.nm_cells.proofs.PortLemmas.{idle}
+use Rattle.nm_cells.proofs.ClosingLemmas.{get_mapped, length_mapped, sealed_off}
+use Rattle.nm_cells.proofs.port.Fabric.close.Goals as goal
+
+pub split_seat-requires : goal.split_seat-requires
+split_seat-requires c = let f = c.args.self in let z = f.sizes.0 in let some = c.requires.count.1 in
+    let seat = c.gather-seat in let low : 0 < f.board.shared.table_id.words = omega arith in
+    (seat.ensures.table, low, sealed_off f.board.shared.key seat.result.id seat.result.me.0)
+
+pub settle-cells-requires-clause-all : goal.settle-cells-requires-clause-all
+settle-cells-requires-clause-all c = let items = c.args.ports.items in
+    let whole : c.split_seat.new.seat.me.0 ≡ view (map knows items) =
+    ap (λ m. m.0) c.split_seat.ensures.2 ∙ ap (λ m. m.0) c.gather-seat.ensures.all in
+    let is : c.split_seat.new.seat.me.0.entries ≡ map knows items = ap (λ v. v.entries) whole in (
+      (
+        ap length is ∙ length_mapped knows items ∙ c.requires.count.0,
+        λ k e at. let p = get_mapped knows items k e
+            (subst (λ l. get_elem? l k ≡ maybe.some e) is at) in
+            let ok = c.requires.ports k p.0 p.1 in (
+              ap (λ x. x.rank) (sym p.2) ∙ p.0.named ∙ ok.1,
+              λ d low. ap (λ x. hand x d) (sym p.2)
+                  ∙ (idle p.0 ok.2).1 d (subst (λ n. d < n) (sym ok.0.4) low),
+            ),
+      ),
+      whole ∙ ap view (sym is),
+    )
+
+pub returns-clause-settled : goal.returns-clause-settled
+returns-clause-settled c = let items = c.args.ports.items in
+    let is : c.split_seat.new.seat.me.0.entries ≡ map knows items =
+    ap (λ m. m.0.entries) c.split_seat.ensures.2
+    ∙ ap (λ m. m.0.entries) c.gather-seat.ensures.all in
+    let listed : seen_in c.into_badge-badge.result.views ≡ map knows items =
+    ap seen_in c.into_badge-badge.ensures.2 ∙ ap (λ m. m.0.seen) c.split_seat.ensures.4
+    ∙ ap (λ m. m.0.entries) c.gather-seat.ensures.all in
+    subst (λ es. Settled c.args.self.board.shared.key es c.settle-cells.result.home)
+    (is ∙ sym listed) c.settle-cells.ensures.settled
+
+pub returns-clause-paths : goal.returns-clause-paths
+returns-clause-paths c = let items = c.args.ports.items in
+    let is : c.split_seat.new.seat.me.0.entries ≡ map knows items =
+    ap (λ m. m.0.entries) c.split_seat.ensures.2
+    ∙ ap (λ m. m.0.entries) c.gather-seat.ensures.all in
+    let listed : seen_in c.into_badge-badge.result.views ≡ map knows items =
+    ap seen_in c.into_badge-badge.ensures.2 ∙ ap (λ m. m.0.seen) c.split_seat.ensures.4
+    ∙ ap (λ m. m.0.entries) c.gather-seat.ensures.all in
+    subst (λ es. Prefixed c.args.self.ranks es) (is ∙ sym listed) c.settle-cells.ensures.paths
+
+pub returns-clause-home : goal.returns-clause-home
+returns-clause-home c all = let items = c.args.ports.items in
+    let is : c.split_seat.new.seat.me.0.entries ≡ map knows items =
+    ap (λ m. m.0.entries) c.split_seat.ensures.2
+    ∙ ap (λ m. m.0.entries) c.gather-seat.ensures.all in
+    let listed : seen_in c.into_badge-badge.result.views ≡ map knows items =
+    ap seen_in c.into_badge-badge.ensures.2 ∙ ap (λ m. m.0.seen) c.split_seat.ensures.4
+    ∙ ap (λ m. m.0.entries) c.gather-seat.ensures.all in
+    c.settle-cells.ensures.home (subst (λ es. AllCame c.args.self.ranks es) (listed ∙ sym is) all)

@@ -1,0 +1,33 @@
+use Rattle.std.proofs.Common.{◌≡◌, [], ◌∷◌, ◌+◌, ◌-◌, ◌<◌, sym, ap, ◌∙◌, subst, arith}
+use Rattle.std.specs.Prelude.{vec_capacity}
+use Rattle.nm_seats.specs.Spoken.{view}
+use Rattle.nm_cells.specs.declared.table.Hand.TheVariants.{Away, Entering}
+use Rattle.nm_cells.specs.Plays.{with_hand}
+use Rattle.nm_cells.specs.Ports.{knows}
+use Rattle.nm_cells.proofs.ProducerLemmas.{head_allowed}
+use Rattle.nm_cells.proofs.PortLemmas.{finished_carries, some_in_hand}
+use Rattle.nm_cells.proofs.produce.store_head.Goals as goal
+
+pub store-requires : goal.store-requires
+store-requires g c = let f = c.args.f.now in let p = c.args.port.now in let e = c.args.enqueue in
+    let a = c.requires.awaits in let z = f.sizes.0 in
+    let few = a.0.1 in let low : e.queue < f.board.shared.table_id.words = omega arith in (
+      c.requires.owns.0,
+      low,
+      head_allowed f.board.shared.key f.ranks f.each f.board.shared.table_id.slots p.seat.id
+          p.seat.me p.alone f.shape.0 f.shape.1
+          (subst (λ k. k < f.ranks) (sym p.named) c.requires.owns.1) e.cell a.0.0 e.queue few
+          (a.0.2 ∙ ap (λ t. Entering e.queue t) a.1),
+    )
+
+pub invariant_of-port-clause-carries : goal.invariant_of-port-clause-carries
+invariant_of-port-clause-carries g c = let p = c.args.port.now in let e = c.args.enqueue in
+    let a = c.requires.awaits in
+    let low = subst (λ n. e.cell < n) (sym c.requires.owns.4) a.0.0 in
+    let some = some_in_hand p.seat.me c.store.new.seat.me p.carried.items
+    (vec_capacity p.carried) p.hands p.carries e.cell e.queue e.found low a.0.2 in
+    let one : (e.cell + 1) - 1 ≡ e.cell = omega arith in
+    finished_carries p.seat.me c.store.new.seat.me p.carried.items
+    (vec_capacity p.carried) p.hands p.carries e.cell e.queue e.found (p.hands - 1)
+    (c.store.ensures.2 ∙ ap (λ d. (view (with_hand d Away (knows p) ∷ []), p.seat.me.1)) one)
+    low a.0.2 (omega arith)

@@ -1,0 +1,27 @@
+use Rattle.std.proofs.Common.{◌<◌, None, length, sym, ap, ◌∙◌, subst}
+use Rattle.std.specs.Prelude.{vec_capacity}
+use Rattle.atomic_table.specs.Table.{rest}
+use Rattle.nm_seats.specs.Update.{update}
+use Rattle.nm_cells.specs.Plays.{mine, sole}
+use Rattle.nm_cells.specs.Ports.{knows}
+use Rattle.nm_cells.specs.Carried.{held_in}
+use Rattle.nm_cells.proofs.PortLemmas.{CarriesFor}
+use Rattle.nm_cells.proofs.HoldingLemmas.{exchanged_held, exchanged_carries}
+use Rattle.nm_cells.proofs.slots.take_out.Goals as goal
+
+pub invariant_of-port-clause-carries : goal.invariant_of-port-clause-carries
+invariant_of-port-clause-carries c = let p = c.bring_cell.new.port in let e = knows p in
+    let k = c.args.cell.now.number in
+    subst (λ m. CarriesFor m p.carried.items (vec_capacity p.carried) p.hands)
+    (sym c.exchange-old.ensures.3)
+    (exchanged_carries k None _ p.seat.me.1 (rest p.seat.me.1) c.bring_cell.ensures.front e.hands
+    e.filling e.emptying p.carried.items (vec_capacity p.carried) p.hands p.carries)
+
+pub returns-clause-emptied : goal.returns-clause-emptied
+returns-clause-emptied c = let p = c.bring_cell.new.port in let k = c.args.cell.now.number in
+    let same = ap (λ v. length (sole v.entries).hands) c.bring_cell.ensures.seat.1
+    ∙ c.requires.owns.4 in
+    ap (λ m. held_in (length (mine m).hands) m.1) c.exchange-old.ensures.3
+    ∙ exchanged_held k None _ p.seat.me.1 (rest p.seat.me.1) c.bring_cell.ensures.front
+    (length (knows p).hands) (subst (λ n. k < n) (sym same) c.requires.in_hand.0)
+    ∙ ap (λ u. update u k None) c.bring_cell.ensures.holding

@@ -1,0 +1,129 @@
+-- What a port counts of each rank, and the packet that it holds.
+use Rattle.std.specs.Prelude.{◌≡◌, ℕ, suc, ◌+◌, ◌<◌, ◌≤◌, ◌⊎◌, Option, Some, None, is_some, Bool}
+use Rattle.std.specs.Prelude.{true, false}
+use Rattle.std.specs.Prelude.{List, [], ◌∷◌, length, map}
+use Rattle.std.specs.Prelude.{slice_index, slice_index_or, slice_set, sum_by, ◌-◌}
+use native.Mathlib.Decide.{dec_le}
+use Rattle.nm_types.specs.declared.packets.Packet.{Packet}
+use Rattle.nm_chain.specs.Sequence.{Each, Rises, Got}
+use Rattle.nm_cells.specs.declared.peers.Peer.{Peer}
+use Rattle.nm_cells.specs.declared.table.Entry.{Entry}
+use Rattle.nm_cells.specs.Rule.{Load, put_to, from, number, sent_to, if_below}
+use Rattle.nm_cells.specs.Plays.{raised}
+
+-- a rank of which nothing came and to which nothing went
+abbrev pub new_peer : Peer
+new_peer = record {
+  sent = 0;
+  taken = 0;
+  box_put = 0;
+  box_got = 0;
+  filling = false;
+  emptying = false;
+  unpassed = 0;
+  box_full = 0;
+  box_miss = 0;
+}
+
+-- what is counted of the rank j
+abbrev pub peer_in : List Peer → ℕ → Peer
+peer_in peers j = slice_index_or peers j new_peer
+
+-- how many of these numbers aren't below t
+abbrev pub not_below : ℕ → List ℕ → ℕ
+not_below t [] = 0
+not_below t (k ∷ ks) = if_below (dec_le (suc k) t) 0 1 + not_below t ks
+
+-- the load is one of these
+abbrev pub IsOneOf : Load → List Load → Type 0
+IsOneOf y [] = ⊥
+IsOneOf y (x ∷ xs) = (y ≡ x) ⊎ IsOneOf y xs
+
+-- this came by cell from its sender, of n ranks, and wasn't passed on
+abbrev pub IsUnpassedOf : ℕ → List Load → List Peer → Packet → Type 0
+IsUnpassedOf n got peers p = (p.from < n) × IsOneOf (Some p) (from p.from got)
+    × ((peer_in peers p.from).taken ≤ p.seq)
+
+module _ (put : List (ℕ × Load)) (got : List Load) (put_box : List (ℕ × Load)) (got_box : List Load)
+    (full miss : List ℕ)
+    (filling : List Bool) (emptying : List (Option Load)) where
+  -- What is counted of the rank j is what the lists say. All its packets with numbers below `taken` came,
+  -- and those that came by box are among them
+  pub record CountsOne (j : ℕ) (p : Peer) : Type 0 where
+    pub sent : p.sent ≡ sent_to j put_box put
+    pub box_put : p.box_put ≡ length (put_to j put_box)
+    pub box_got : p.box_got ≡ length (from j got_box)
+    pub box_full : p.box_full ≡ slice_index full j
+    pub box_miss : p.box_miss ≡ slice_index miss j
+    pub is_filling : p.filling ≡ slice_index_or filling j false
+    pub is_emptying : p.emptying ≡ is_some (slice_index_or emptying j None)
+    pub few : p.box_got ≤ p.taken
+    pub in_range : p.taken ≤ 1152921504606846976
+    pub came : (k : ℕ) → k < p.taken → Got (map number (from j got_box)) (map number (from j got)) k
+    pub passed : Each (λ k. k < p.taken) (map number (from j got_box))
+    pub rises : Rises (map number (from j got))
+    pub unpassed : p.unpassed ≡ not_below p.taken (map number (from j got))
+
+  pub record Counts (n : ℕ) (peers : List Peer) (held : Option Packet) : Type 0 where
+    pub count : length peers ≡ n
+    pub fulls : length full ≡ n
+    pub misses : length miss ≡ n
+    pub outs : length filling ≡ n
+    pub ins : length emptying ≡ n
+    pub each : (j : ℕ) → j < n → CountsOne j (peer_in peers j)
+    pub holds : (p : Packet) → held ≡ Some p → IsUnpassedOf n got peers p
+
+-- the same of a rank's entry
+abbrev pub CountsFor : Entry → List Peer → Option Packet → Type 0
+CountsFor e peers held =
+    Counts e.put e.got e.put_box e.got_box e.box_full e.box_miss e.filling e.emptying e.ranks peers
+    held
+
+-- the packets that came by cell and weren't passed on
+abbrev pub all_unpassed : List Peer → ℕ
+all_unpassed peers = sum_by (λ p. p.unpassed) peers
+
+-- the counts of the rank j change
+abbrev pub with_peer : (Peer → Peer) → ℕ → List Peer → List Peer
+with_peer f j peers = slice_set peers j (f (peer_in peers j))
+
+-- one more packet was sent to it by cell
+abbrev pub one_sent : Peer → Peer
+one_sent p = record p { sent = p.sent + 1 }
+
+-- one more packet of it came by cell
+abbrev pub one_arrived : Peer → Peer
+one_arrived p = record p { unpassed = p.unpassed + 1 }
+
+-- one more packet was sent to it by box
+abbrev pub one_boxed : Peer → Peer
+one_boxed p = record p { sent = p.sent + 1; box_put = p.box_put + 1; filling = false }
+
+-- its next box is being filled
+abbrev pub one_opened : Peer → Peer
+one_opened p = record p { filling = true }
+
+-- its next box is being emptied
+abbrev pub one_begun : Peer → Peer
+one_begun p = record p { emptying = true }
+
+-- one more packet of it came by box, and was passed on
+abbrev pub one_unboxed : Peer → Peer
+one_unboxed p = record p { taken = p.taken + 1; box_got = p.box_got + 1; emptying = false }
+
+-- the next box for it was found full
+abbrev pub one_full : Peer → Peer
+one_full p = record p { box_full = raised p.box_full }
+
+-- the next box of it didn't have the awaited number
+abbrev pub one_miss : Peer → Peer
+one_miss p = record p { box_miss = raised p.box_miss }
+
+-- a packet of it that came by cell was passed on
+abbrev pub one_passed : Peer → Peer
+one_passed p = record p { taken = p.taken + 1; unpassed = p.unpassed - 1 }
+
+-- what is counted once a cell of an own queue was taken, from the receive queue with a packet of the rank i
+abbrev pub counted_after : Bool → ℕ → List Peer → List Peer
+counted_after true i peers = with_peer one_arrived i peers
+counted_after false i peers = peers

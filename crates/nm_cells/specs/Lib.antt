@@ -1,0 +1,7 @@
+pub mod AtClose
+pub mod Carried
+pub mod ClosedLists
+pub mod Counted
+pub mod Plays
+pub mod Ports
+pub mod Rule

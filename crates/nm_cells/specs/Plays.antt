@@ -1,0 +1,305 @@
+-- What each kind of step tells the seat that makes it.
+use Rattle.std.specs.Prelude.{map, Option, Some, slice_index, suc, ◌≡◌, ◌≢◌, ℕ, ◌+◌, ◌-◌, ◌*◌, ◌/◌}
+use Rattle.std.specs.Prelude.{Bool, true, false, ◌<◌, ◌≤◌, List, [], ◌∷◌, ◌++◌, length, slice_set}
+use Rattle.std.specs.Prelude.{None}
+use native.Mathlib.Decide.{ℕ_discrete, dec_le}
+use Rattle.atomic_table.specs.Table.{Me, Step, rest}
+use Rattle.nm_seats.specs.declared.views.View.{View}
+use Rattle.nm_seats.specs.Spoken.{view}
+use Rattle.nm_cells.specs.declared.table.Hand.{Hand}
+use Rattle.nm_cells.specs.declared.table.Hand.TheVariants.{Away, Held, Ready, Entering}
+use Rattle.nm_cells.specs.declared.table.End.{End}
+use Rattle.nm_cells.specs.declared.table.Misses.{Misses}
+use Rattle.nm_cells.specs.declared.table.Entry.{Entry}
+use Rattle.nm_chain.specs.Chain.{item}
+use Rattle.nm_chain.specs.Sequence.{Each, Got}
+use Rattle.nm_cells.specs.Rule.{Load, Suits, no_end, no_miss, posted, fetched, hand, filling_of}
+use Rattle.nm_cells.specs.Rule.{emptying_of, from, number, sender, if_below}
+
+abbrev pub Knowing : Type 0
+Knowing = Me Load (View Entry)
+
+-- a rank at the start
+abbrev pub newcomer : ℕ → ℕ → Entry
+newcomer rank ranks = record {
+  rank = rank;
+  ranks = ranks;
+  each = 0;
+  hands = [];
+  receive = no_end;
+  free = no_end;
+  put = [];
+  got = [];
+  put_box = [];
+  got_box = [];
+  filling = [];
+  emptying = [];
+  receive_missed = no_miss;
+  free_missed = no_miss;
+  box_full = [];
+  box_miss = [];
+}
+
+abbrev pub sole : List Entry → Entry
+sole [] = newcomer 0 0
+sole (e ∷ es) = e
+
+-- the entry of a seat that speaks for one rank
+abbrev pub mine : Knowing → Entry
+mine me = sole me.0.entries
+
+abbrev pub Alone : Knowing → Type 0
+Alone me = me.0 ≡ view (mine me ∷ [])
+
+-- what is in the slot that was taken last
+abbrev pub first_load : List (ℕ × Load) → Load
+first_load [] = None
+first_load (x ∷ xs) = x.1
+
+abbrev pub pick : {A : Type 0} {k j : ℕ} → Dec (j ≡ k) → A → A → A
+pick (yes _) y z = y
+pick (no _) y z = z
+
+-- what is in the slot c, of those taken
+abbrev pub load_in : ℕ → List (ℕ × Load) → Load
+load_in c [] = None
+load_in c (x ∷ xs) = pick (ℕ_discrete x.0 c) x.1 (load_in c xs)
+
+abbrev pub with_hand : ℕ → Hand → Entry → Entry
+with_hand c h e = record e { hands = slice_set e.hands c h }
+
+abbrev pub with_put : List (ℕ × Load) → Entry → Entry
+with_put xs e = record e { put = e.put ++ xs }
+
+-- the link of a cell in hand is 0, and the rank knows what the cell holds
+abbrev pub cleared : Step Load → Knowing → ℕ → Knowing → Type 0
+cleared s me found after = let c = s.word - 4 * (mine me).ranks in
+    after ≡ (view (with_hand c (Ready (load_in c me.1)) (mine me) ∷ []), me.1)
+
+-- the cell is at the tail of a queue, where this was found
+abbrev pub swapped : Step Load → Knowing → ℕ → Knowing → Type 0
+swapped s me found after = let n = (mine me).ranks in let q = s.word - 2 * n in
+    (found ≤ length (mine me).hands)
+    × (after ≡ (
+      view (with_put (posted n q (first_load me.1))
+          (with_hand (s.first - 1) (Entering q found) (mine me)) ∷ []),
+      rest me.1,
+    ))
+
+-- the enqueue is finished
+abbrev pub finished : Step Load → Knowing → ℕ → Knowing → Type 0
+finished s me found after = after ≡ (view (with_hand (s.first - 1) Away (mine me) ∷ []), me.1)
+
+abbrev pub InHand : Hand → Type 0
+InHand Away = ⊥
+InHand Held = Unit {0}
+InHand (Ready y) = Unit {0}
+InHand (Entering q t) = ⊥
+
+-- a rank's own queues: the receive queue, or the free queue
+abbrev pub queue : ℕ → ℕ → Bool → ℕ
+queue n r true = r
+queue n r false = n + r
+
+abbrev pub end_of : Bool → Entry → End
+end_of true e = e.receive
+end_of false e = e.free
+
+abbrev pub with_end : Bool → End → Entry → Entry
+with_end true x e = record e { receive = x }
+with_end false x e = record e { free = x }
+
+abbrev pub at_end : ℕ → ℕ → End
+at_end shadow seen = record { shadow = shadow; seen = seen }
+
+abbrev pub with_got : List Load → Entry → Entry
+with_got ys e = record e { got = e.got ++ ys }
+
+-- the cell c, which holds y, is in hand, and the queue's shadow head is this
+abbrev pub taken : Bool → ℕ → Load → ℕ → Entry → Entry
+taken b c y shadow e = with_got (fetched e.ranks (queue e.ranks e.rank b) y)
+    (with_hand c Held (with_end b (at_end shadow 0) e))
+
+-- a count goes up by one, and stands still at the last value of its 64 bits
+abbrev pub raised : ℕ → ℕ
+raised k = if_below (dec_le (suc k) 18446744073709551615) (suc k) k
+
+abbrev pub on : Bool → (Misses → Misses) → Misses → Misses
+on true f x = f x
+on false f x = x
+
+abbrev pub other : Bool → Bool
+other true = false
+other false = true
+
+-- the misses of a queue change
+abbrev pub with_missed : Bool → (Misses → Misses) → Entry → Entry
+with_missed b f e = record e {
+  receive_missed = on b f e.receive_missed;
+  free_missed =
+      on (other b) f e.free_missed;
+}
+
+abbrev pub missed_of : Bool → Entry → Misses
+missed_of true e = e.receive_missed
+missed_of false e = e.free_missed
+
+abbrev pub head_miss : Misses → Misses
+head_miss x = record x { head_empty = raised x.head_empty }
+
+abbrev pub link_miss : Misses → Misses
+link_miss x = record x { link_missing = raised x.link_missing }
+
+-- the head was loaded, and 0 is a miss
+abbrev pub noted : Bool → Step Load → Knowing → ℕ → Knowing → Type 0
+noted b s me found after = (found ≤ length (mine me).hands)
+    × (found ≡ 0 → after ≡ (
+      view
+          (with_missed b head_miss (with_end b (at_end (end_of b (mine me)).shadow 0) (mine me)) ∷
+          []),
+      me.1,
+    ))
+    × (0 < found → after ≡ (
+      view (with_end b (at_end (end_of b (mine me)).shadow found)
+          (mine me) ∷ []),
+      me.1,
+    ))
+
+-- the head is 0, and what was loaded from it is the shadow head
+abbrev pub hid : Bool → Step Load → Knowing → ℕ → Knowing → Type 0
+hid b s me found after =
+    after ≡ (view (with_end b (at_end (end_of b (mine me)).seen 0) (mine me) ∷ []), me.1)
+
+-- the packet with the number k came from the rank i
+abbrev pub Came : Entry → ℕ → ℕ → Type 0
+Came e i k = Got (map number (from i e.got_box)) (map number (from i e.got)) k
+
+-- the packet with the number k of the rank i is new: it did not come, and those that came by cell have smaller numbers
+abbrev pub IsNews : Entry → ℕ → ℕ → Type 0
+IsNews e i k = (¬ Came e i k) × Each (λ j. j < k) (map number (from i e.got))
+
+-- a cell of the receive queue holds a new packet of its owner
+abbrev pub HoldsNews : Bool → ℕ → Entry → Load → Type 0
+HoldsNews true c e y = IsNews e (c / e.each) (number y)
+HoldsNews false c e y = Unit {0}
+
+-- the cell c was in nobody's hand, and is in this one's, with what it holds in its slot
+pub record Took (b : Bool) (c shadow : ℕ) (me after : Knowing) : Type 0 where
+  pub low : c < length (mine me).hands
+  pub fits : shadow ≤ length (mine me).hands
+  pub away : hand (mine me) c ≡ Away
+  pub load : Load
+  pub suits : Suits (mine me).ranks (mine me).each (queue (mine me).ranks (mine me).rank b)
+      (item c load)
+  pub news : HoldsNews b c (mine me) load
+  pub after_is : after ≡ (view (taken b c load shadow (mine me) ∷ []), (c, load) ∷ me.1)
+
+-- the link of the shadow head was loaded: where it leads on, its cell is in hand, and else the entry becomes this
+abbrev pub passed_or : (Entry → Entry) → Bool → Step Load → Knowing → ℕ → Knowing → Type 0
+passed_or f b s me found after = (found ≡ 0 → after ≡ (view (f (mine me) ∷ []), me.1))
+    × (0 < found → Took b (s.word - 4 * (mine me).ranks) found me after)
+
+abbrev pub passed : Bool → Step Load → Knowing → ℕ → Knowing → Type 0
+passed b s me found after = passed_or (λ e. e) b s me found after
+
+-- the same after the tail was found not to be this cell: 0 is a miss
+abbrev pub reloaded : Bool → Step Load → Knowing → ℕ → Knowing → Type 0
+reloaded b s me found after = passed_or (with_missed b link_miss) b s me found after
+
+-- the tail was exchanged for 0 where it was the shadow head, whose cell is then in hand
+abbrev pub drained : Bool → Step Load → Knowing → ℕ → Knowing → Type 0
+drained b s me found after = (found ≢ s.first → after ≡ me)
+    × (found ≡ s.first → Took b (s.first - 1) 0 me after)
+
+abbrev pub with_filling : ℕ → Bool → Entry → Entry
+with_filling j x e = record e { filling = slice_set e.filling j x }
+
+abbrev pub with_emptying : ℕ → Option Load → Entry → Entry
+with_emptying i x e = record e { emptying = slice_set e.emptying i x }
+
+abbrev pub with_put_box : List (ℕ × Load) → Entry → Entry
+with_put_box xs e = record e { put_box = e.put_box ++ xs }
+
+abbrev pub with_got_box : List Load → Entry → Entry
+with_got_box ys e = record e { got_box = e.got_box ++ ys }
+
+abbrev pub with_box_full : ℕ → Entry → Entry
+with_box_full j e = record e {
+  box_full =
+      slice_set e.box_full j (raised (slice_index e.box_full j));
+}
+
+abbrev pub with_box_miss : ℕ → Entry → Entry
+with_box_miss i e = record e {
+  box_miss =
+      slice_set e.box_miss i (raised (slice_index e.box_miss i));
+}
+
+-- all packets of the rank i with smaller numbers came
+abbrev pub AllBelow : Entry → ℕ → ℕ → Type 0
+AllBelow e i a = (k : ℕ) → k < a → Came e i k
+
+-- the packet with the number a is the first one that is missing, and a later one came
+abbrev pub Overdue : Entry → ℕ → ℕ → Type 0
+Overdue e i a = AllBelow e i a × ((k : ℕ) × (a < k) × Came e i k) × ¬ Came e i a
+
+-- the slots in hand once the free box, whose slot is c, is the sender's to fill
+abbrev pub opened : Bool → ℕ → List (ℕ × Load) → List (ℕ × Load)
+opened true c hs = hs
+opened false c hs = (c, None) ∷ hs
+
+-- the flag of the next box for the rank j was loaded
+abbrev pub looked_out : ℕ → Step Load → Knowing → ℕ → Knowing → Type 0
+looked_out j s me found after =
+    (found ≡ 0 → (filling_of (mine after) j ≡ true)
+    × (after ≡ (
+      view (with_filling j true (mine me) ∷ []),
+      opened (filling_of (mine me) j) (s.word - 4 * (mine me).ranks) me.1,
+    )))
+    × (0 < found → after ≡ (view (with_box_full j (mine me) ∷ []), me.1))
+
+-- what the rank is taking
+abbrev pub taking : Option Load → Load
+taking None = None
+taking (Some y) = y
+
+-- the load of the rank i that is being taken
+abbrev pub box_load : ℕ → Entry → Load
+box_load i e = taking (emptying_of e i)
+
+-- the slots in hand once the full box, whose slot is c, is the receiver's to empty
+abbrev pub begun : Option Load → ℕ → Load → List (ℕ × Load) → List (ℕ × Load)
+begun None c y hs = (c, y) ∷ hs
+begun (Some z) c y hs = hs
+
+-- the box of the rank i, whose slot is c, is the receiver's to empty, and has the number a
+abbrev pub Begun : ℕ → ℕ → ℕ → Knowing → Knowing → Type 0
+Begun i a c me after = let y = box_load i (mine after) in (emptying_of (mine after) i ≡ Some y)
+    × (number y ≡ a) × (sender y ≡ suc i)
+    × (after ≡ (
+      view (with_emptying i (Some y) (mine me) ∷ []),
+      begun (emptying_of (mine me) i) c y me.1,
+    ))
+
+-- the flag of the next box of the rank i was loaded, from which the number a is awaited. Where it is overdue it is there
+abbrev pub looked_in : ℕ → ℕ → Step Load → Knowing → ℕ → Knowing → Type 0
+looked_in i a s me found after = (found ≡ suc a → Begun i a (s.word - 4 * (mine me).ranks) me after)
+    × (found ≢ suc a → after ≡ (view (with_box_miss i (mine me) ∷ []), me.1))
+    × (Overdue (mine me) i a → found ≡ suc a)
+
+-- the box for the rank j is full
+abbrev pub boxed : ℕ → Step Load → Knowing → ℕ → Knowing → Type 0
+boxed j s me found after =
+    after ≡ (
+      view (with_put_box ((j, first_load me.1) ∷ []) (with_filling j false (mine me)) ∷ []),
+      rest me.1,
+    )
+
+-- the box of the rank i is empty, and its packet is new
+abbrev pub unboxed : ℕ → Step Load → Knowing → ℕ → Knowing → Type 0
+unboxed i s me found after =
+    (after ≡ (
+      view (with_got_box (box_load i (mine me) ∷ []) (with_emptying i None (mine me)) ∷ []),
+      rest me.1,
+    ))
+    × ¬ Came (mine me) i (number (box_load i (mine me)))

@@ -1,0 +1,158 @@
+-- What a port knows, has in hand and counts, in the words of contracts.
+use Rattle.std.specs.Prelude.{◌≡◌, ℕ, suc, ◌+◌, ◌%◌, ◌*◌, ◌/◌, ◌<◌, ◌≤◌, Bool, true, false}
+use Rattle.std.specs.Prelude.{Some, None, List, [], ◌∷◌, length}
+use Rattle.nm_types.specs.declared.packets.Packet.{Packet}
+use Rattle.nm_chain.specs.Chain.{item}
+use Rattle.nm_seats.specs.Update.{update}
+use Rattle.nm_cells.specs.declared.table.Hand.TheVariants.{Entering}
+use Rattle.nm_cells.specs.declared.table.Entry.{Entry}
+use Rattle.nm_cells.specs.declared.port.Port.{Port}
+use Rattle.nm_cells.specs.declared.port.Fabric.{Fabric}
+use Rattle.nm_cells.specs.declared.cell.Cell.{Cell}
+use Rattle.nm_cells.specs.declared.cell.Pending as pending
+use Rattle.nm_cells.specs.declared.cell.Queue as queues
+use Rattle.nm_cells.specs.declared.cell.Queue.TheVariants.{Receive, Free}
+use Rattle.nm_cells.specs.Rule.{Load, hand, sender, number, sent_to, put_to, from, box_slot}
+use Rattle.nm_cells.specs.Rule.{emptying_of}
+use Rattle.nm_cells.specs.Rule.{Suits, newcomer}
+use Rattle.nm_cells.specs.Plays.{mine, InHand, queue, end_of, taken, box_load}
+use Rattle.nm_cells.specs.Carried.{held_in}
+use Rattle.nm_cells.specs.declared.peers.Peer.{Peer}
+use Rattle.nm_cells.specs.Counted.{peer_in, all_unpassed, IsUnpassedOf, with_peer, one_sent}
+
+-- what the port's seat knows
+abbrev pub knows : Port → Entry
+knows p = mine p.seat.me
+
+-- the port is one of the fabric's
+abbrev pub Owns : Fabric → Port → Type 0
+Owns f p = (p.seat.table_id ≡ f.board.shared.table_id) × (p.rank < f.ranks)
+    × ((knows p).ranks ≡ f.ranks)
+    × ((knows p).each ≡ f.each) × (length (knows p).hands ≡ f.ranks * f.each)
+    × (length (knows p).filling ≡ f.ranks) × (length (knows p).emptying ≡ f.ranks)
+
+-- the slots of the port, the one taken last first
+abbrev pub slots : Port → List (ℕ × Load)
+slots p = p.seat.me.1
+
+-- what a cell in the port's hand holds
+abbrev pub holding : Port → ℕ → Load
+holding p = held_in (length (knows p).hands) (slots p)
+
+-- the packets that the port sent to the rank j
+abbrev pub sent_by : Port → ℕ → ℕ
+sent_by p j = sent_to j (knows p).put_box (knows p).put
+
+-- the packets of the rank i that the port passed on
+abbrev pub taken_by : Port → ℕ → ℕ
+taken_by p i = (peer_in p.peers.items i).taken
+
+-- the packets that the port took from its receive queue and didn't pass on
+abbrev pub unpassed_by : Port → ℕ
+unpassed_by p = all_unpassed p.peers.items
+
+-- this packet is one of them
+abbrev pub IsUnpassed : Port → Packet → Type 0
+IsUnpassed p x = IsUnpassedOf (knows p).ranks (knows p).got p.peers.items x
+
+-- what is passed on, held and not passed on stays
+abbrev pub SameTaken : Port → Port → Type 0
+SameTaken old new = (taken_by new ≡ taken_by old) × (new.held ≡ old.held)
+    × (unpassed_by new ≡ unpassed_by old)
+
+-- the fabric's port of the same rank, which passed on, holds and has to pass on the same packets
+abbrev pub Stays : Fabric → Port → Port → Type 0
+Stays f old new = Owns f new × (new.rank ≡ old.rank) × SameTaken old new
+
+abbrev pub cells_of : Fabric → ℕ
+cells_of f = f.ranks * f.each
+
+-- the cell is in the port's hand
+abbrev pub Has : Fabric → Port → Cell → Type 0
+Has f p c = (c.number < cells_of f) × (c.owner ≡ c.number / f.each)
+    × InHand (hand (knows p) c.number)
+
+-- the queue's number: the receive queues come first
+abbrev pub queue_of : ℕ → queues.Queue → ℕ
+queue_of n (Receive r) = r
+queue_of n (Free r) = n + r
+
+-- the rank whose queue it is
+abbrev pub rank_of_queue : queues.Queue → ℕ
+rank_of_queue (Receive r) = r
+rank_of_queue (Free r) = r
+
+-- it is a receive queue
+abbrev pub is_receive : queues.Queue → Bool
+is_receive (Receive r) = true
+is_receive (Free r) = false
+
+-- the queue is the port's own
+abbrev pub IsOwn : Port → queues.Queue → Type 0
+IsOwn p q = rank_of_queue q ≡ p.rank
+
+-- the port is between the exchange and the last store of this enqueue
+abbrev pub Awaits : Fabric → Port → pending.Pending → Type 0
+Awaits f p e = (e.cell < cells_of f) × (e.queue < 2 * f.ranks)
+    × (hand (knows p) e.cell ≡ Entering e.queue e.found)
+    × (e.found ≤ cells_of f)
+
+-- The cell may go into this queue with what it holds: into a receive queue the port's own cells, with
+-- its next packet for that rank; into a free queue the empty cells of its rank
+abbrev pub MayJoin : Fabric → Port → queues.Queue → ℕ → Load → Type 0
+MayJoin f p (Receive j) c y = (j < f.ranks) × (c / f.each ≡ p.rank) × (sender y ≡ suc p.rank)
+    × (number y ≡ sent_by p j)
+MayJoin f p (Free j) c y = (j < f.ranks) × (c / f.each ≡ j) × (y ≡ None)
+
+-- what is put by an enqueue of this load
+abbrev pub posted_in : queues.Queue → Load → List (ℕ × Load)
+posted_in (Receive j) y = (j, y) ∷ []
+posted_in (Free j) y = []
+
+-- 1 where a dequeue of the queue takes a packet
+abbrev pub arrivals : Bool → ℕ
+arrivals true = 1
+arrivals false = 0
+
+-- The first cell of an own queue is in hand, with what it holds: a packet of its owner, or from the
+-- free queue none
+pub record Takes (b : Bool) (f : Fabric) (old new : Port) (c : Cell) : Type 0 where
+  pub low : c.number < cells_of f
+  pub owner : c.owner ≡ c.number / f.each
+  pub suits : Suits f.ranks f.each (queue f.ranks old.rank b) (item c.number (holding new c.number))
+  pub knows : knows new ≡ taken b c.number (holding new c.number) (end_of b (knows new)).shadow
+      (knows old)
+  pub holding : holding new ≡ update (holding old) c.number (holding new c.number)
+  pub taken : taken_by new ≡ taken_by old
+  pub held : new.held ≡ old.held
+  pub unpassed : unpassed_by new ≡ unpassed_by old + arrivals b
+
+-- the port of the rank k at the start
+abbrev pub IsNew : Fabric → Port → ℕ → Type 0
+IsNew f p k = Owns f p × (p.rank ≡ k) × (knows p ≡ newcomer f.ranks f.each k) × (slots p ≡ [])
+    × (p.hands ≡ 0)
+    × ((i : ℕ) → taken_by p i ≡ 0) × (p.held ≡ None) × (unpassed_by p ≡ 0)
+
+-- the slot of the port's next box for the rank j
+abbrev pub next_out : Fabric → Port → ℕ → ℕ
+next_out f p j = box_slot f.ranks f.each p.rank j (length (put_to j (knows p).put_box) % 4)
+
+-- the slot of the next box of the rank i for the port
+abbrev pub next_in : Fabric → Port → ℕ → ℕ
+next_in f p i = box_slot f.ranks f.each i p.rank (length (from i (knows p).got_box) % 4)
+
+-- the port is taking the packet with the number a from its next box of the rank i
+abbrev pub Empties : Fabric → Port → ℕ → ℕ → Type 0
+Empties f p i a = (emptying_of (knows p) i ≡ Some (box_load i (knows p)))
+    × (number (box_load i (knows p)) ≡ a)
+    × (sender (box_load i (knows p)) ≡ suc i)
+
+-- what is counted once a cell is put into this queue
+abbrev pub sent_into : queues.Queue → List Peer → List Peer
+sent_into (Receive j) peers = with_peer one_sent j peers
+sent_into (Free j) peers = peers
+
+-- there is room to count it
+abbrev pub HasRoomFor : queues.Queue → List Peer → Type 0
+HasRoomFor (Receive j) peers = (j < length peers) × ((peer_in peers j).sent < 1152921504606846976)
+HasRoomFor (Free j) peers = Unit {0}

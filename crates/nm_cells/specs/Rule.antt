@@ -1,0 +1,276 @@
+-- The rule of the fabric.
+-- Of n ranks, the receive queue of the rank r is the queue r, and its free queue is the queue n + r. The words are the heads of all queues, their tails, and the links of all cells.
+use Rattle.std.specs.Prelude.{Bool, false, map, ◌≡◌, ◌≢◌, ℕ, zero, suc, ◌+◌, ◌-◌, ◌*◌, ◌/◌, ◌%◌}
+use Rattle.std.specs.Prelude.{◌<◌, ◌≤◌, List, [], ◌∷◌, ◌++◌, length, slice_index, slice_index_or}
+use Rattle.std.specs.Prelude.{Option, Some, None, replicate}
+use mathlib.Core.Option as maybe
+use native.Mathlib.Decide.{ℕ_discrete, dec_le}
+use lib.ListN.{get_elem?}
+use Rattle.atomic_table.specs.Table.{State}
+use Rattle.nm_seats.specs.declared.views.View.{View}
+use Rattle.nm_seats.specs.Spoken.{view, Spoken}
+use Rattle.nm_chain.specs.Chain as chain
+use Rattle.nm_chain.specs.Sequence.{InSequence}
+use Rattle.nm_seats.specs.Window.{Window}
+use Rattle.nm_types.specs.declared.packets.Packet.{Packet}
+use Rattle.nm_types.specs.Sizes.{Sizes}
+use Rattle.nm_cells.specs.declared.table.Hand.{Hand}
+use Rattle.nm_cells.specs.declared.table.Hand.TheVariants.{Away, Held, Ready, Entering}
+use Rattle.nm_cells.specs.declared.table.End.{End}
+use Rattle.nm_cells.specs.declared.table.Misses.{Misses}
+use Rattle.nm_cells.specs.declared.table.Entry.{Entry}
+
+abbrev pub Load : Type 0
+Load = Option Packet
+
+abbrev pub Place : Type 0
+Place = chain.Place Load
+
+abbrev pub Chain : Type 0
+Chain = List (chain.Item Load)
+
+abbrev pub no_end : End
+no_end = record { shadow = 0; seen = 0 }
+
+abbrev pub no_miss : Misses
+no_miss = record { head_empty = 0; link_missing = 0 }
+
+abbrev pub rank_of : Entry → ℕ
+rank_of e = e.rank
+
+-- what the rank has of the cell c
+abbrev pub hand : Entry → ℕ → Hand
+hand e c = slice_index_or e.hands c Away
+
+-- the rank is filling its next box for the rank j
+abbrev pub filling_of : Entry → ℕ → Bool
+filling_of e j = slice_index_or e.filling j false
+
+-- what the rank is taking from its next box of the rank i
+abbrev pub emptying_of : Entry → ℕ → Option Load
+emptying_of e i = slice_index_or e.emptying i None
+
+-- All that is true of the fabric at a moment, beside the words and slots.
+-- It is where each cell is, the chain of each queue, what its consumer knows, what each rank put and got by cell and by box, and for each ordered pair what waits in its boxes and who is at work on one
+pub record World : Type 0 where
+  pub place : ℕ → Place
+  pub chain : ℕ → Chain
+  pub end : ℕ → End
+  pub put : ℕ → List (ℕ × Load)
+  pub got : ℕ → List Load
+  pub put_box : ℕ → List (ℕ × Load)
+  pub got_box : ℕ → List Load
+  pub waits : ℕ → ℕ → List Load
+  pub filling : ℕ → ℕ → Bool
+  pub emptying : ℕ → ℕ → Option Load
+
+-- the rank r has no part in it
+abbrev pub NotOf : ℕ → Place → Type 0
+NotOf r (chain.held s) = r ≢ s
+NotOf r (chain.ready s y) = r ≢ s
+NotOf r (chain.entering s q t) = r ≢ s
+NotOf r (chain.queued q) = Unit {0}
+
+-- the rank r has this of a cell that is there
+abbrev pub Shows : ℕ → Place → Hand → Type 0
+Shows r p Away = NotOf r p
+Shows r p Held = p ≡ chain.held r
+Shows r p (Ready y) = p ≡ chain.ready r y
+Shows r p (Entering q t) = p ≡ chain.entering r q t
+
+-- a rank that has part in it is one of n
+abbrev pub Below : ℕ → Place → Type 0
+Below n (chain.held r) = r < n
+Below n (chain.ready r y) = r < n
+Below n (chain.entering r q t) = r < n
+Below n (chain.queued q) = Unit {0}
+
+-- the entry of the rank r
+pub record Knows (n each : ℕ) (w : World) (r : ℕ) (e : Entry) : Type 0 where
+  pub rank : e.rank ≡ r
+  pub ranks : e.ranks ≡ n
+  pub per : e.each ≡ each
+  pub long : length e.hands ≡ n * each
+  pub hands : (c : ℕ) → c < n * each → Shows r (w.place c) (hand e c)
+  pub receive : e.receive ≡ w.end r
+  pub free : e.free ≡ w.end (n + r)
+  pub put : e.put ≡ w.put r
+  pub got : e.got ≡ w.got r
+  pub put_box : e.put_box ≡ w.put_box r
+  pub got_box : e.got_box ≡ w.got_box r
+  pub outs : length e.filling ≡ n
+  pub ins : length e.emptying ≡ n
+  pub filling : (j : ℕ) → j < n → filling_of e j ≡ w.filling r j
+  pub emptying : (i : ℕ) → i < n → emptying_of e i ≡ w.emptying i r
+
+abbrev pub pick : {A : Type 0} {k j : ℕ} → Dec (j ≡ k) → A → A → A
+pick (yes _) y z = y
+pick (no _) y z = z
+
+-- what was put for the rank j
+abbrev pub put_to : ℕ → List (ℕ × Load) → List Load
+put_to j [] = []
+put_to j (x ∷ xs) = pick (ℕ_discrete x.0 j) (x.1 ∷ put_to j xs) (put_to j xs)
+
+abbrev pub sender : Load → ℕ
+sender (Some p) = suc p.from
+sender None = 0
+
+-- what is from the rank i
+abbrev pub from : ℕ → List Load → List Load
+from i [] = []
+from i (y ∷ ys) = pick (ℕ_discrete (sender y) (suc i)) (y ∷ from i ys) (from i ys)
+
+-- the number of a packet
+abbrev pub number : Load → ℕ
+number (Some p) = p.seq
+number None = 0
+
+-- what the flag of a box is that holds this packet
+abbrev pub mark : Load → ℕ
+mark y = suc (number y)
+
+-- how many packets went to the rank j, of those put by box and by cell
+abbrev pub sent_to : ℕ → List (ℕ × Load) → List (ℕ × Load) → ℕ
+sent_to j by_box by_cell = length (put_to j by_box) + length (put_to j by_cell)
+
+abbrev pub if_below : {A : Type 0} {j k : ℕ} → Dec (j ≤ k) → A → A → A
+if_below (yes _) y z = y
+if_below (no _) y z = z
+
+-- what a rank puts by an enqueue of this load into the queue q
+abbrev pub posted : ℕ → ℕ → Load → List (ℕ × Load)
+posted n q y = if_below (dec_le (suc q) n) ((q, y) ∷ []) []
+
+-- what a rank gets by a dequeue of this load from the queue q
+abbrev pub fetched : ℕ → ℕ → Load → List Load
+fetched n q y = if_below (dec_le (suc q) n) (y ∷ []) []
+
+abbrev pub loads : Chain → List Load
+loads [] = []
+loads (x ∷ xs) = x.load ∷ loads xs
+
+module _ (n : ℕ) (words : List ℕ) where
+  abbrev pub head : ℕ → ℕ
+  head q = slice_index words q
+
+  abbrev pub tail : ℕ → ℕ
+  tail q = slice_index words (2 * n + q)
+
+  abbrev pub link : ℕ → ℕ
+  link c = slice_index words (4 * n + c)
+
+abbrev pub HasHome : List (maybe.Option Load) → ℕ → Load → Type 0
+HasHome homes c y = get_elem? homes c ≡ maybe.some (maybe.some y)
+
+abbrev pub IsOut : List (maybe.Option Load) → ℕ → Type 0
+IsOut homes c = get_elem? homes c ≡ maybe.some maybe.none
+
+-- The cells of a receive queue hold a packet of their owner. Those of a free queue are its rank's own, and hold none
+abbrev pub Suits : ℕ → ℕ → ℕ → chain.Item Load → Type 0
+Suits n each q x = (q < n → sender x.load ≡ suc (x.cell / each))
+    × (n ≤ q → (x.load ≡ None) × (n + x.cell / each ≡ q))
+
+abbrev pub Fits : ℕ → ℕ → List (maybe.Option Load) → ℕ → chain.Item Load → Type 0
+Fits n each homes q x = (x.cell < n * each) × HasHome homes x.cell x.load × Suits n each q x
+
+-- a cell in a hand: its slot is out, and if it is ready its link is 0
+abbrev pub Handed : ℕ → List ℕ → List (maybe.Option Load) → ℕ → Place → Type 0
+Handed n words homes c (chain.held r) = IsOut homes c
+Handed n words homes c (chain.ready r y) = IsOut homes c × (link n words c ≡ 0)
+Handed n words homes c (chain.entering r q t) = q < 2 * n
+Handed n words homes c (chain.queued q) = q < 2 * n
+
+abbrev pub Queue : ℕ → ℕ → World → List ℕ → List (maybe.Option Load) → ℕ → Type 0
+Queue n each w words homes q = chain.IsChain (Fits n each homes q) w.place (link n words) q
+    (head n words q) (tail n words q) (w.end q).shadow (w.chain q)
+
+pub record QueuesHold (n each : ℕ) (w : World) (words : List ℕ)
+    (homes : List (maybe.Option Load)) : Type 0 where
+  pub long : length words ≡ 4 * n + n * each + 4 * (n * n)
+  pub slots : length homes ≡ n * each + 4 * (n * n)
+  pub queues : (q : ℕ) → q < 2 * n → Queue n each w words homes q
+  -- the head stays what its consumer loaded, until the consumer clears it
+  pub seen : (q : ℕ) → q < 2 * n → 0 < (w.end q).seen → head n words q ≡ (w.end q).seen
+  pub cells : (c : ℕ) → c < n * each → Handed n words homes c (w.place c)
+  -- what the rank i put into the queue of j is what j got, and then what is in the chain
+  pub paths : (i j : ℕ) → i < n → j < n → put_to j (w.put i) ≡ from i (w.got j) ++ from i
+      (loads (w.chain j))
+
+-- the slot of the box k, of the four from the rank i to the rank j. Its flag is the word 4 * n further on
+abbrev pub box_slot : ℕ → ℕ → ℕ → ℕ → ℕ → ℕ
+box_slot n each i j k = n * each + (4 * (i * n + j) + k)
+
+-- the boxes of the fabric
+abbrev pub BoxesHold : ℕ → ℕ → World → List ℕ → List (maybe.Option Load) → Type 0
+BoxesHold n each w words homes = (i j : ℕ) → i < n → j < n
+    → Window 4 None mark (λ y. sender y ≡ suc i)
+    (λ k. slice_index words (4 * n + box_slot n each i j k))
+    (λ k. get_elem? homes (box_slot n each i j k))
+    (w.filling i j) (w.emptying i j) (put_to j (w.put_box i)) (from i (w.got_box j)) (w.waits i j)
+
+-- the numbers of each ordered pair's packets, on both paths
+abbrev pub AllInSequence : ℕ → World → Type 0
+AllInSequence n w = (i j : ℕ) → i < n → j < n → InSequence (sent_to j (w.put_box i) (w.put i))
+    (map number (from i (w.got_box j))) (map number (w.waits i j))
+    (map number (from i (w.got j))) (map number (from i (loads (w.chain j))))
+
+pub record Rule (key : Sizes) (s : State Load (View Entry)) : Type 0 where
+  pub ledger : ℕ → Entry
+  pub world : World
+  pub spoken : Spoken rank_of ledger s.views
+  pub knows : (r : ℕ) → r < key.ranks → Knows key.ranks key.cells world r (ledger r)
+  pub ranked : (c : ℕ) → Below key.ranks (world.place c)
+  pub laid : QueuesHold key.ranks key.cells world s.words s.homes
+  pub boxes : BoxesHold key.ranks key.cells world s.words s.homes
+  pub turns : AllInSequence key.ranks world
+
+-- a rank of n at the start
+abbrev pub newcomer : ℕ → ℕ → ℕ → Entry
+newcomer n each r = record {
+  rank = r;
+  ranks = n;
+  each = each;
+  hands = replicate (n * each) Away;
+  receive = no_end;
+  free = no_end;
+  put = [];
+  got = [];
+  put_box = [];
+  got_box = [];
+  filling = replicate n false;
+  emptying = replicate n None;
+  receive_missed = no_miss;
+  free_missed = no_miss;
+  box_full = replicate n 0;
+  box_miss = replicate n 0;
+}
+
+-- the k ranks from r on
+abbrev pub newcomers : ℕ → ℕ → ℕ → ℕ → List Entry
+newcomers n each r zero = []
+newcomers n each r (suc k) = newcomer n each r ∷ newcomers n each (suc r) k
+
+abbrev pub first_view : Sizes → View Entry
+first_view key = view (newcomers key.ranks key.cells 0 key.ranks)
+
+-- the words at the start: each rank's cells stand in its free queue, in order
+pub record Opens (n each : ℕ) (words : List ℕ) : Type 0 where
+  pub long : length words ≡ 4 * n + n * each + 4 * (n * n)
+  pub receive : (r : ℕ) → r < n → (head n words r ≡ 0) × (tail n words r ≡ 0)
+  pub free : (r : ℕ) → r < n → (head n words (n + r) ≡ suc (r * each))
+      × (tail n words (n + r) ≡ r * each + each)
+  pub links : (r i : ℕ) → r < n → suc i < each
+      → link n words (r * each + i) ≡ suc (r * each + suc i)
+  pub last : (r i : ℕ) → r < n → suc i ≡ each → link n words (r * each + i) ≡ 0
+  pub flags : (k : ℕ) → k < 4 * (n * n) → slice_index words (4 * n + (n * each + k)) ≡ 0
+
+-- the word i at the start
+abbrev pub IsInitial : ℕ → ℕ → ℕ → ℕ → Type 0
+IsInitial n each i w =
+    (i < n → w ≡ 0) × (n ≤ i → i < 2 * n → w ≡ suc ((i - n) * each))
+    × (2 * n ≤ i → i < 3 * n → w ≡ 0) × (3 * n ≤ i → i < 4 * n → w ≡ (i - 3 * n) * each + each)
+    × (4 * n ≤ i → i < 4 * n + n * each → suc (i - 4 * n) % each ≡ 0 → w ≡ 0)
+    × (4 * n ≤ i → i < 4 * n + n * each → suc (i - 4 * n) % each ≢ 0
+    → w ≡ suc (suc (i - 4 * n)))
+    × (4 * n + n * each ≤ i → w ≡ 0)

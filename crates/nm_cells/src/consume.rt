@@ -1,0 +1,406 @@
+//! The kinds of step of a consumer, on its own receive queue or its own free queue.
+//!
+//! Each is written once over `B`, which is `true` for the receive queue, and called by the queue's name.
+
+ghost use Rattle.std.specs.Prelude.{true, false, ◌≡◌, ◌≢◌, ℕ, suc, ◌+◌, ◌-◌, ◌*◌, ◌<◌, ◌≤◌, ◌^◌, ◌∷◌};
+ghost use Rattle.std.specs.Prelude.{◌↔◌, IsTrue, IfSome, IfNone, length};
+ghost use Rattle.nm_cells.specs.Plays.{queue, end_of, with_end, at_end, with_missed};
+ghost use Rattle.nm_cells.specs.Counted.{peer_in, counted_after};
+ghost use Rattle.nm_cells.specs.Plays.{head_miss, link_miss};
+ghost use Rattle.nm_cells.specs.Ports.{Owns, Stays, SameTaken, knows, slots, Takes};
+ghost use Rattle.nm_cells.specs.Ports.{IsOwn, is_receive};
+
+use crate::cell::{Cell, Queue};
+use crate::peers::Peer;
+use crate::port::{Fabric, Port};
+use crate::slots::carry;
+use crate::table::{End, Entry, Misses};
+use crate::tally::{count_arrived, one_more};
+use atomic_table::Play;
+use nm_seats::{Steps, View};
+use nm_types::Packet;
+use std::sync::ledger::Ledger;
+
+struct Notes<const B: bool>;
+
+impl<const B: bool> Play<Option<Packet>, View<Entry>> for Notes<B> {
+    ghost use Rattle.nm_cells.specs.Plays.{noted};
+
+    ghost then = { noted B };
+}
+
+struct Hides<const B: bool>;
+
+impl<const B: bool> Play<Option<Packet>, View<Entry>> for Hides<B> {
+    ghost use Rattle.nm_cells.specs.Plays.{hid};
+
+    ghost then = { hid B };
+}
+
+struct Passes<const B: bool>;
+
+impl<const B: bool> Play<Option<Packet>, View<Entry>> for Passes<B> {
+    ghost use Rattle.nm_cells.specs.Plays.{passed};
+
+    ghost then = { passed B };
+}
+
+struct Reloads<const B: bool>;
+
+impl<const B: bool> Play<Option<Packet>, View<Entry>> for Reloads<B> {
+    ghost use Rattle.nm_cells.specs.Plays.{reloaded};
+
+    ghost then = { reloaded B };
+}
+
+struct Drains<const B: bool>;
+
+impl<const B: bool> Play<Option<Packet>, View<Entry>> for Drains<B> {
+    ghost use Rattle.nm_cells.specs.Plays.{drained};
+
+    ghost then = { drained B };
+}
+
+fn own_queue<const B: bool>(f: &Fabric, port: &Port) -> u64
+    requires { port.now.rank < f.now.ranks }
+    ensures own { result ≡ queue f.now.ranks port.now.rank B }
+    ensures fits { result < 2 * f.now.ranks }
+{
+    let rank = u64::from(port.rank);
+    if B { rank } else { f.ranks + rank }
+}
+
+impl Misses {
+    fn after_head(self) -> Misses
+        ensures { result ≡ head_miss self }
+    {
+        Misses {
+            head_empty: one_more(self.head_empty),
+            link_missing: self.link_missing,
+        }
+    }
+
+    fn after_link(self) -> Misses
+        ensures { result ≡ link_miss self }
+    {
+        Misses {
+            head_empty: self.head_empty,
+            link_missing: one_more(self.link_missing),
+        }
+    }
+}
+
+impl Port {
+    fn end<const B: bool>(&self) -> End
+        ensures { result ≡ end_of B (knows self.now) }
+    {
+        if B { self.receive } else { self.free }
+    }
+}
+
+fn load_head_of<L: Ledger, const B: bool>(f: &Fabric, port: &mut Port, steps: &mut Steps<L>) -> bool
+    requires owns { Owns f.now port.old }
+    ensures stays { Stays f.now port.old port.new }
+    ensures told { IsTrue result ↔ (0 < (end_of B (knows port.new)).seen) }
+    ensures found { result ≡ true → knows port.new ≡ with_end B
+        (at_end (end_of B (knows port.old)).shadow (end_of B (knows port.new)).seen)
+        (knows port.old) }
+    ensures empty { result ≡ false → knows port.new ≡ with_missed B head_miss
+        (with_end B (at_end (end_of B (knows port.old)).shadow 0) (knows port.old)) }
+    ensures slots { slots port.new ≡ slots port.old }
+    ensures cost { steps.new ≡ steps.old + 1 }
+{
+    steps.tick();
+    let word = own_queue::<B>(f, port);
+    let found = f
+        .board
+        .shared
+        .load::<Notes<B>>(&mut port.seat, word as usize);
+    if B {
+        port.receive.seen = found;
+        if found == 0 {
+            port.receive_missed = port.receive_missed.after_head();
+        }
+    } else {
+        port.free.seen = found;
+        if found == 0 {
+            port.free_missed = port.free_missed.after_head();
+        }
+    }
+    found != 0
+}
+
+fn clear_head_of<L: Ledger, const B: bool>(f: &Fabric, port: &mut Port, steps: &mut Steps<L>)
+    requires owns { Owns f.now port.old }
+    requires loaded { 0 < (end_of B (knows port.old)).seen }
+    ensures stays { Stays f.now port.old port.new }
+    ensures hidden { knows port.new
+        ≡ with_end B (at_end (end_of B (knows port.old)).seen 0) (knows port.old) }
+    ensures slots { slots port.new ≡ slots port.old }
+    ensures cost { steps.new ≡ steps.old + 1 }
+{
+    steps.tick();
+    let word = own_queue::<B>(f, port);
+    let shadow = port.end::<B>().seen;
+    f.board
+        .shared
+        .store::<Hides<B>>(&mut port.seat, word as usize, 0);
+    if B {
+        port.receive = End { shadow, seen: 0 };
+    } else {
+        port.free = End { shadow, seen: 0 };
+    }
+}
+
+// A packet came where the cell is of the receive queue.
+fn count_taken<const B: bool>(peers: &mut Vec<Peer>, owner: usize)
+    requires { B ≡ true → (owner < length peers.old.items)
+        × ((peer_in peers.old.items owner).unpassed < 2 ^ 61) }
+    ensures { peers.new.items ≡ counted_after B owner peers.old.items }
+{
+    if B {
+        count_arrived(peers, owner);
+    }
+}
+
+fn load_link_of<L: Ledger, const B: bool>(
+    f: &Fabric,
+    port: &mut Port,
+    steps: &mut Steps<L>,
+) -> Option<Cell>
+    requires owns { Owns f.now port.old }
+    requires first { 0 < (end_of B (knows port.old)).shadow }
+    ensures owns { Owns f.now port.new × (port.new.rank ≡ port.old.rank) }
+    ensures none { IfNone result ((knows port.new ≡ knows port.old)
+        × (slots port.new ≡ slots port.old) × SameTaken port.old port.new) }
+    ensures some { IfSome result (Takes B f.now port.old port.new) }
+    ensures cost { steps.new ≡ steps.old + 1 }
+{
+    steps.tick();
+    let number = port.end::<B>().shadow - 1;
+    let word = 4 * f.ranks + number;
+    let found = f
+        .board
+        .shared
+        .load::<Passes<B>>(&mut port.seat, word as usize);
+    if found == 0 {
+        return None;
+    }
+    let end = End {
+        shadow: found,
+        seen: 0,
+    };
+    let owner = number / f.each;
+    if B {
+        port.receive = end;
+    } else {
+        port.free = end;
+    }
+    count_taken::<B>(&mut port.peers, owner as usize);
+    carry(&mut port.carried, number);
+    port.hands += 1;
+    Some(Cell {
+        number,
+        owner: owner as u8,
+    })
+}
+
+fn reload_link_of<L: Ledger, const B: bool>(
+    f: &Fabric,
+    port: &mut Port,
+    steps: &mut Steps<L>,
+) -> Option<Cell>
+    requires owns { Owns f.now port.old }
+    requires first { 0 < (end_of B (knows port.old)).shadow }
+    ensures owns { Owns f.now port.new × (port.new.rank ≡ port.old.rank) }
+    ensures none { IfNone result ((knows port.new ≡ with_missed B link_miss (knows port.old))
+        × (slots port.new ≡ slots port.old) × SameTaken port.old port.new) }
+    ensures some { IfSome result (Takes B f.now port.old port.new) }
+    ensures cost { steps.new ≡ steps.old + 1 }
+{
+    steps.tick();
+    let number = port.end::<B>().shadow - 1;
+    let word = 4 * f.ranks + number;
+    let found = f
+        .board
+        .shared
+        .load::<Reloads<B>>(&mut port.seat, word as usize);
+    if found == 0 {
+        if B {
+            port.receive_missed = port.receive_missed.after_link();
+        } else {
+            port.free_missed = port.free_missed.after_link();
+        }
+        return None;
+    }
+    let end = End {
+        shadow: found,
+        seen: 0,
+    };
+    let owner = number / f.each;
+    if B {
+        port.receive = end;
+    } else {
+        port.free = end;
+    }
+    count_taken::<B>(&mut port.peers, owner as usize);
+    carry(&mut port.carried, number);
+    port.hands += 1;
+    Some(Cell {
+        number,
+        owner: owner as u8,
+    })
+}
+
+fn drop_tail_of<L: Ledger, const B: bool>(
+    f: &Fabric,
+    port: &mut Port,
+    steps: &mut Steps<L>,
+) -> Option<Cell>
+    requires owns { Owns f.now port.old }
+    requires first { 0 < (end_of B (knows port.old)).shadow }
+    ensures owns { Owns f.now port.new × (port.new.rank ≡ port.old.rank) }
+    ensures none { IfNone result ((knows port.new ≡ knows port.old)
+        × (slots port.new ≡ slots port.old) × SameTaken port.old port.new) }
+    ensures some { IfSome result (Takes B f.now port.old port.new) }
+    ensures cost { steps.new ≡ steps.old + 1 }
+{
+    steps.tick();
+    let shadow = port.end::<B>().shadow;
+    let number = shadow - 1;
+    let word = 2 * f.ranks + own_queue::<B>(f, port);
+    let found = f
+        .board
+        .shared
+        .compare_exchange::<Drains<B>>(&mut port.seat, word as usize, shadow, 0);
+    if found != shadow {
+        return None;
+    }
+    let end = End { shadow: 0, seen: 0 };
+    let owner = number / f.each;
+    if B {
+        port.receive = end;
+    } else {
+        port.free = end;
+    }
+    count_taken::<B>(&mut port.peers, owner as usize);
+    carry(&mut port.carried, number);
+    port.hands += 1;
+    Some(Cell {
+        number,
+        owner: owner as u8,
+    })
+}
+
+/// Loads the head of an own queue, and answers whether it was a cell.
+///
+/// Zero is a miss, which `head_empty` counts. A queue whose head is 0 may still have a cell, whose enqueue is
+/// pending.
+pub fn load_head<L: Ledger>(f: &Fabric, port: &mut Port, q: Queue, steps: &mut Steps<L>) -> bool
+    requires owns { Owns f.now port.old }
+    requires own { IsOwn port.old q }
+    ensures stays { Stays f.now port.old port.new }
+    ensures found { result ≡ true → knows port.new ≡ with_end (is_receive q)
+        (at_end (end_of (is_receive q) (knows port.old)).shadow
+        (end_of (is_receive q) (knows port.new)).seen) (knows port.old)
+        × (0 < (end_of (is_receive q) (knows port.new)).seen) }
+    ensures empty { result ≡ false → knows port.new ≡ with_missed (is_receive q) head_miss
+        (with_end (is_receive q) (at_end (end_of (is_receive q) (knows port.old)).shadow 0)
+        (knows port.old)) }
+    ensures slots { slots port.new ≡ slots port.old }
+    ensures cost { steps.new ≡ steps.old + 1 }
+{
+    match q {
+        Queue::Receive(_) => load_head_of::<L, true>(f, port, steps),
+        Queue::Free(_) => load_head_of::<L, false>(f, port, steps),
+    }
+}
+
+/// Clears the head that was loaded. Its cell is the shadow head from then on.
+pub fn clear_head<L: Ledger>(f: &Fabric, port: &mut Port, q: Queue, steps: &mut Steps<L>)
+    requires owns { Owns f.now port.old }
+    requires own { IsOwn port.old q }
+    requires loaded { 0 < (end_of (is_receive q) (knows port.old)).seen }
+    ensures stays { Stays f.now port.old port.new }
+    ensures hidden { knows port.new ≡ with_end (is_receive q)
+        (at_end (end_of (is_receive q) (knows port.old)).seen 0) (knows port.old) }
+    ensures slots { slots port.new ≡ slots port.old }
+    ensures cost { steps.new ≡ steps.old + 1 }
+{
+    match q {
+        Queue::Receive(_) => clear_head_of::<L, true>(f, port, steps),
+        Queue::Free(_) => clear_head_of::<L, false>(f, port, steps),
+    }
+}
+
+/// Loads the link of the shadow head. Where it has a cell, that one is the next shadow head, and the
+/// first cell is taken.
+pub fn load_link<L: Ledger>(
+    f: &Fabric,
+    port: &mut Port,
+    q: Queue,
+    steps: &mut Steps<L>,
+) -> Option<Cell>
+    requires owns { Owns f.now port.old }
+    requires own { IsOwn port.old q }
+    requires first { 0 < (end_of (is_receive q) (knows port.old)).shadow }
+    ensures owns { Owns f.now port.new × (port.new.rank ≡ port.old.rank) }
+    ensures none { IfNone result ((knows port.new ≡ knows port.old)
+        × (slots port.new ≡ slots port.old) × SameTaken port.old port.new) }
+    ensures some { IfSome result (Takes (is_receive q) f.now port.old port.new) }
+    ensures cost { steps.new ≡ steps.old + 1 }
+{
+    match q {
+        Queue::Receive(_) => load_link_of::<L, true>(f, port, steps),
+        Queue::Free(_) => load_link_of::<L, false>(f, port, steps),
+    }
+}
+
+/// Exchanges the tail for 0 where it is the shadow head, which is then taken and was the last cell.
+///
+/// Else another enqueue has exchanged the tail.
+pub fn drop_tail<L: Ledger>(
+    f: &Fabric,
+    port: &mut Port,
+    q: Queue,
+    steps: &mut Steps<L>,
+) -> Option<Cell>
+    requires owns { Owns f.now port.old }
+    requires own { IsOwn port.old q }
+    requires first { 0 < (end_of (is_receive q) (knows port.old)).shadow }
+    ensures owns { Owns f.now port.new × (port.new.rank ≡ port.old.rank) }
+    ensures none { IfNone result ((knows port.new ≡ knows port.old)
+        × (slots port.new ≡ slots port.old) × SameTaken port.old port.new) }
+    ensures some { IfSome result (Takes (is_receive q) f.now port.old port.new) }
+    ensures cost { steps.new ≡ steps.old + 1 }
+{
+    match q {
+        Queue::Receive(_) => drop_tail_of::<L, true>(f, port, steps),
+        Queue::Free(_) => drop_tail_of::<L, false>(f, port, steps),
+    }
+}
+
+/// Loads the link of the shadow head once more, after the tail was found to be another cell.
+///
+/// Zero is a miss, which `link_missing` counts: that enqueue has still to store the link.
+pub fn reload_link<L: Ledger>(
+    f: &Fabric,
+    port: &mut Port,
+    q: Queue,
+    steps: &mut Steps<L>,
+) -> Option<Cell>
+    requires owns { Owns f.now port.old }
+    requires own { IsOwn port.old q }
+    requires first { 0 < (end_of (is_receive q) (knows port.old)).shadow }
+    ensures owns { Owns f.now port.new × (port.new.rank ≡ port.old.rank) }
+    ensures none { IfNone result ((knows port.new
+        ≡ with_missed (is_receive q) link_miss (knows port.old))
+        × (slots port.new ≡ slots port.old) × SameTaken port.old port.new) }
+    ensures some { IfSome result (Takes (is_receive q) f.now port.old port.new) }
+    ensures cost { steps.new ≡ steps.old + 1 }
+{
+    match q {
+        Queue::Receive(_) => reload_link_of::<L, true>(f, port, steps),
+        Queue::Free(_) => reload_link_of::<L, false>(f, port, steps),
+    }
+}

@@ -1,0 +1,150 @@
+//! What a port tells of itself.
+
+ghost use Rattle.std.specs.Prelude.{◌≡◌, ◌≢◌, ◌<◌, ◌↔◌, ◌^◌, IsTrue, Some, None, option_copied, slice_index};
+ghost use Rattle.nm_cells.specs.Counted.{peer_in, one_passed, with_peer};
+ghost use Rattle.nm_cells.specs.Plays.{end_of, missed_of};
+ghost use Rattle.nm_cells.specs.Ports.{knows, sent_by, taken_by, IsOwn, IsUnpassed, is_receive};
+
+use crate::cell::Queue;
+use crate::peers::Peer;
+use crate::port::Port;
+use crate::tally::count_passed;
+use nm_types::{MAX_PACKETS, Packet};
+
+impl Port {
+    // What is counted of a rank.
+    fn peer(&self, rank: u8) -> Peer
+        requires { rank < (knows self.now).ranks }
+        ensures { result ≡ peer_in self.now.peers.items rank }
+    {
+        self.peers[rank as usize]
+    }
+
+    /// The rank whose port this is.
+    pub fn rank(&self) -> u8
+        ensures { result ≡ self.now.rank }
+    {
+        self.rank
+    }
+
+    /// How many packets were sent to a rank: the number of the next one.
+    pub fn sent(&self, to: u8) -> u64
+        requires { to < (knows self.now).ranks }
+        ensures { result ≡ sent_by self.now to }
+    {
+        self.peer(to).sent
+    }
+
+    /// How many packets of a rank were passed on: the number of the next one.
+    pub fn taken(&self, from: u8) -> u64
+        requires { from < (knows self.now).ranks }
+        ensures { result ≡ taken_by self.now from }
+    {
+        self.peer(from).taken
+    }
+
+    /// Whether one more packet may be sent to a rank: fewer than 2^60 were.
+    pub fn has_room(&self, to: u8) -> bool
+        requires { to < (knows self.now).ranks }
+        ensures { IsTrue result ↔ (sent_by self.now to < 2 ^ 60) }
+    {
+        self.sent(to) < MAX_PACKETS
+    }
+
+    /// How many cells, pending enqueues and boxes at work the port has in hand.
+    pub fn hands(&self) -> u32
+        ensures { result ≡ self.now.hands }
+    {
+        self.hands
+    }
+
+    /// How often the head of an own queue was loaded as 0.
+    pub fn head_empty(&self, q: Queue) -> u64
+        requires { IsOwn self.now q }
+        ensures { result ≡ (missed_of (is_receive q) (knows self.now)).head_empty }
+    {
+        match q {
+            Queue::Receive(_) => self.receive_missed.head_empty,
+            Queue::Free(_) => self.free_missed.head_empty,
+        }
+    }
+
+    /// How often the link of an own queue's first cell was loaded as 0, although it wasn't the last.
+    pub fn link_missing(&self, q: Queue) -> u64
+        requires { IsOwn self.now q }
+        ensures { result ≡ (missed_of (is_receive q) (knows self.now)).link_missing }
+    {
+        match q {
+            Queue::Receive(_) => self.receive_missed.link_missing,
+            Queue::Free(_) => self.free_missed.link_missing,
+        }
+    }
+
+    /// Whether an own queue has a shadow head.
+    pub fn has_shadow(&self, q: Queue) -> bool
+        requires { IsOwn self.now q }
+        ensures { IsTrue result ↔ (0 < (end_of (is_receive q) (knows self.now)).shadow) }
+    {
+        match q {
+            Queue::Receive(_) => self.receive.shadow != 0,
+            Queue::Free(_) => self.free.shadow != 0,
+        }
+    }
+
+    /// How often the next box for a rank was found full.
+    pub fn box_full(&self, to: u8) -> u64
+        requires { to < (knows self.now).ranks }
+        ensures { result ≡ slice_index (knows self.now).box_full to }
+    {
+        self.peer(to).box_full
+    }
+
+    /// How often the next box of a rank didn't have the awaited number.
+    pub fn box_miss(&self, from: u8) -> u64
+        requires { from < (knows self.now).ranks }
+        ensures { result ≡ slice_index (knows self.now).box_miss from }
+    {
+        self.peer(from).box_miss
+    }
+
+    /// The packet that the port holds.
+    pub fn held(&self) -> Option<&Packet>
+        ensures { option_copied result ≡ self.now.held }
+    {
+        self.held.as_ref()
+    }
+
+    /// Holds a packet that came out of turn. Nothing was held.
+    pub fn hold(&mut self, packet: Packet)
+        requires nothing { self.old.held ≡ None }
+        requires unpassed { IsUnpassed self.old packet }
+        ensures held { self.new.held ≡ Some packet }
+        ensures same { (self.new.seat ≡ self.old.seat) × (self.new.rank ≡ self.old.rank)
+            × (self.new.hands ≡ self.old.hands) × (self.new.peers ≡ self.old.peers) }
+    {
+        self.held = Some(packet);
+    }
+
+    /// Gives the packet that was held, or `None` where nothing was.
+    pub fn unhold(&mut self) -> Option<Packet>
+        ensures value { result ≡ self.old.held }
+        ensures nothing { self.new.held ≡ None }
+        ensures same { (self.new.seat ≡ self.old.seat) × (self.new.rank ≡ self.old.rank)
+            × (self.new.hands ≡ self.old.hands) × (self.new.peers ≡ self.old.peers) }
+    {
+        self.held.take()
+    }
+
+    /// Passes a packet on: it came by cell, it isn't held, and it is the next one of its sender.
+    pub fn pass(&mut self, packet: &Packet)
+        requires unpassed { IsUnpassed self.old packet.now }
+        requires not_held { self.old.held ≢ Some packet.now }
+        requires next { packet.now.seq ≡ taken_by self.old packet.now.from }
+        ensures passed { self.new.peers.items
+            ≡ with_peer one_passed packet.now.from self.old.peers.items }
+        ensures same { (self.new.seat ≡ self.old.seat) × (self.new.rank ≡ self.old.rank)
+            × (self.new.hands ≡ self.old.hands) × (self.new.held ≡ self.old.held) }
+    {
+        count_passed(&mut self.peers, packet.from as usize);
+    }
+}

@@ -1,0 +1,52 @@
+//! The shared region of cells, fastboxes and queues, each rank's port of it, and the atomic steps on it.
+//!
+//! Nemesis (Buntinas, Mercier and Gropp 2006): each rank owns some cells. An empty cell stands in its
+//! owner's free queue. To send, the owner fills it and puts it into the receiver's receive queue; the
+//! receiver empties it and puts it back.
+//!
+//! ```text
+//!            free queue of 0          receive queue of 1
+//!   rank 0  <------------------+    +------------------->  rank 1
+//!     | take, fill             |    |                        | take, empty
+//!     +------- cell of 0 ------|----+                        |
+//!                              +------- cell of 0 -----------+
+//! ```
+//!
+//! Each queue is a chain of cells with a head, a tail and links (`nm_chain`). All words are atomic. Each
+//! call but `build` and `close` makes at most one step on one word, and `steps` counts those steps.
+//!
+//! # What a contract sees
+//! What a port's seat knows (`knows`): the lists of packets that it put and got by cell and by box, its
+//! shadow heads, its part in each cell, and its counts of misses. Beside that what each cell in hand
+//! holds (`holding`), and what was sent (`sent_by`) and passed on (`taken_by`).
+//!
+//! # What is proved
+//! - The rule of the shared table holds between any two steps of any ranks: each cell is in one hand or
+//!   in one chain, each chain has its words and links, free chains hold their owners' empty cells, and
+//!   what was put on each way is what was got and what is under way, in order.
+//! - Each kind of step keeps it, and tells what it found (`produce`, `consume`).
+//! - After `close` what each rank got is the beginning of what was put for it, and where all came, every
+//!   cell is in its owner's free queue (clauses `paths`, `settled`, `home`).
+//! - A port's counts are those of its lists; a held packet is one that wasn't passed on.
+#![tactic(auto)]
+
+mod build;
+mod cell;
+mod close;
+mod consume;
+mod counts;
+mod peers;
+mod port;
+mod produce;
+mod slots;
+mod table;
+mod tally;
+
+pub use cell::{Cell, Pending, Queue};
+pub use close::Closed;
+pub use consume::{clear_head, drop_tail, load_head, load_link, reload_link};
+pub use peers::Peer;
+pub use port::{Fabric, Port};
+pub use produce::{clear_link, store_head, store_link, swap_tail};
+pub use slots::{put_in, take_out};
+pub use table::{End, Entry, Hand, Misses};

@@ -1,0 +1,73 @@
+//! The fabric, and the port of a rank.
+
+ghost use Rattle.std.specs.Prelude.{◌≡◌, ℕ, ◌+◌, ◌*◌, ◌<◌, ◌≤◌, length, vec_capacity};
+ghost use Rattle.nm_cells.specs.Plays.{Alone, mine};
+ghost use Rattle.nm_cells.specs.Carried.{Carries};
+ghost use Rattle.nm_cells.specs.Counted.{CountsFor};
+
+use crate::peers::Peer;
+use crate::table::{Board, End, Misses, Place};
+use nm_types::Packet;
+
+/// The cells, boxes and queues that the ranks share.
+#[derive(Drop)]
+pub struct Fabric {
+    pub(crate) board: Board,
+    pub(crate) ranks: u64,
+    /// The cells of each rank.
+    pub(crate) each: u64,
+    pub ghost shape: { (board.shared.key.ranks ≡ ranks) × (board.shared.key.cells ≡ each) },
+    pub ghost sizes: { (board.shared.table_id.words ≡ 4 * ranks + ranks * each + 4 * (ranks * ranks))
+        × (board.shared.table_id.slots ≡ ranks * each + 4 * (ranks * ranks)) },
+    pub ghost small: { (ranks ≤ 64) × (0 < each) × (each ≤ 64) × (ranks * each ≤ 4096) },
+}
+
+/// The token of one rank. It has a seat of the fabric's table, and what its program has to remember of
+/// what the seat knows: the shadow heads, the counts, the slots in hand, and at most one held packet.
+#[derive(Drop)]
+pub struct Port {
+    pub(crate) seat: Place,
+    pub(crate) rank: u8,
+    pub(crate) receive: End,
+    pub(crate) free: End,
+    pub(crate) receive_missed: Misses,
+    pub(crate) free_missed: Misses,
+    /// The slots in hand, the one taken last first.
+    pub(crate) carried: Vec<u64>,
+    /// The cells, pending enqueues and boxes at work in hand.
+    pub(crate) hands: u32,
+    /// What is counted of each rank.
+    pub(crate) peers: Vec<Peer>,
+    pub(crate) held: Option<Packet>,
+    pub ghost alone: { Alone seat.me },
+    pub ghost named: { (mine seat.me).rank ≡ rank },
+    pub ghost ends: { ((mine seat.me).receive ≡ receive) × ((mine seat.me).free ≡ free) },
+    pub ghost missed: { ((mine seat.me).receive_missed ≡ receive_missed)
+        × ((mine seat.me).free_missed ≡ free_missed) },
+    pub ghost small: { (receive.shadow ≤ length (mine seat.me).hands) × (receive.seen ≤ length (mine seat.me).hands)
+        × (free.shadow ≤ length (mine seat.me).hands) × (free.seen ≤ length (mine seat.me).hands) },
+    pub ghost carries: { Carries seat.me.1 (mine seat.me).hands (mine seat.me).filling (mine seat.me).emptying
+        carried.items (vec_capacity carried) hands },
+    pub ghost counts: { ∥ CountsFor (mine seat.me) peers.items held ∥₁ },
+}
+
+impl Port {
+    /// The seat, of a port that is spent.
+    pub(crate) fn into_seat(self) -> Place
+        ensures { result ≡ self.seat }
+    {
+        let Port {
+            seat,
+            rank: _,
+            receive: _,
+            free: _,
+            receive_missed: _,
+            free_missed: _,
+            carried: _,
+            hands: _,
+            peers: _,
+            held: _,
+        } = self;
+        seat
+    }
+}

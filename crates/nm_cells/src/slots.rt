@@ -1,0 +1,91 @@
+//! What a cell in hand holds. No call here makes a step on a word.
+
+ghost use Rattle.std.specs.Prelude.{◌≡◌, ◌+◌, ◌<◌, ◌≤◌, ◌∷◌, ◌++◌, ℕ, Some, None, length, map, take, drop};
+ghost use Rattle.std.specs.Prelude.{slice_index, vec_len, vec_capacity};
+ghost use Rattle.atomic_table.specs.Table.{rest};
+ghost use Rattle.nm_types.specs.declared.packets.Packet.{Packet};
+ghost use Rattle.nm_seats.specs.Update.{update};
+ghost use Rattle.nm_cells.specs.Rule.{hand};
+ghost use Rattle.nm_cells.specs.Plays.{InHand};
+ghost use Rattle.nm_cells.specs.Ports.{Owns, Stays, SameTaken, Has, knows, slots, holding};
+
+use crate::cell::Cell;
+use crate::port::{Fabric, Port};
+use crate::table::Place;
+use nm_types::Packet;
+
+// One more slot is in hand.
+pub(crate) fn carry(carried: &mut Vec<u64>, slot: u64)
+    requires { vec_len carried.old < vec_capacity carried.old }
+    ensures items { carried.new.items ≡ slot ∷ carried.old.items }
+    ensures capacity { vec_capacity carried.old ≤ vec_capacity carried.new }
+{
+    let Ok(()) = carried.insert(0, slot) else {
+        unreachable!()
+    };
+}
+
+// Brings a slot that the seat has taken to the front.
+fn bring(seat: &mut Place, carried: &mut Vec<u64>, slot: u64)
+    requires same { map (λ x. x.0) seat.old.me.1 ≡ carried.old.items }
+    requires there { (k : ℕ) × (k < length carried.old.items) × (slice_index carried.old.items k
+        ≡ slot) }
+    ensures seat { (seat.new.table_id ≡ seat.old.table_id) × (seat.new.id ≡ seat.old.id)
+        × (seat.new.me.0 ≡ seat.old.me.0) }
+    ensures turned { (k : ℕ) × (k < length carried.old.items)
+        × (slice_index carried.old.items k ≡ slot)
+        × (seat.new.me.1 ≡ drop k seat.old.me.1 ++ take k seat.old.me.1)
+        × (carried.new.items ≡ drop k carried.old.items ++ take k carried.old.items) }
+    ensures capacity { vec_capacity carried.new ≡ vec_capacity carried.old }
+{
+    let Some(at) = carried.iter().position(|x| *x == slot) else {
+        unreachable!()
+    };
+    for _i in 0..at {
+        seat.turn();
+    }
+    carried.rotate_left(at);
+}
+
+// Brings the slot of a cell in hand to the front.
+pub(crate) fn bring_cell(port: &mut Port, number: u64)
+    requires low { number < length (knows port.old).hands }
+    requires in_hand { InHand (hand (knows port.old) number) }
+    ensures seat { (port.new.seat.table_id ≡ port.old.seat.table_id)
+        × (port.new.seat.me.0 ≡ port.old.seat.me.0) }
+    ensures same { (port.new.rank ≡ port.old.rank) × (port.new.peers ≡ port.old.peers)
+        × (port.new.held ≡ port.old.held) × (port.new.hands ≡ port.old.hands) }
+    ensures front { slots port.new ≡ (number, holding port.old number) ∷ rest (slots port.new) }
+    ensures holding { holding port.new ≡ holding port.old }
+{
+    bring(&mut port.seat, &mut port.carried, number);
+}
+
+/// Puts a packet into an empty cell in hand.
+pub fn put_in(f: &Fabric, port: &mut Port, cell: &Cell, packet: Packet)
+    requires owns { Owns f.now port.old }
+    requires in_hand { Has f.now port.old cell.now }
+    requires empty { holding port.old cell.now.number ≡ None }
+    ensures stays { Stays f.now port.old port.new × (knows port.new ≡ knows port.old) }
+    ensures filled { holding port.new ≡ update (holding port.old) cell.now.number (Some packet) }
+{
+    bring_cell(port, cell.number);
+    let slot = cell.number as usize;
+    let old = f.board.shared.exchange(&mut port.seat, slot, Some(packet));
+    let None = old else { unreachable!() };
+}
+
+/// Takes the packet out of a cell in hand, which is empty from then on.
+pub fn take_out(f: &Fabric, port: &mut Port, cell: &Cell) -> Packet
+    requires owns { Owns f.now port.old }
+    requires in_hand { Has f.now port.old cell.now }
+    requires full { (p : Packet) × (holding port.old cell.now.number ≡ Some p) }
+    ensures stays { Stays f.now port.old port.new × (knows port.new ≡ knows port.old) }
+    ensures packet { holding port.old cell.now.number ≡ Some result }
+    ensures emptied { holding port.new ≡ update (holding port.old) cell.now.number None }
+{
+    bring_cell(port, cell.number);
+    let slot = cell.number as usize;
+    let old = f.board.shared.exchange(&mut port.seat, slot, None);
+    old.unwrap()
+}

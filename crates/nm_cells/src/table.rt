@@ -1,0 +1,88 @@
+//! The table, and what a seat knows.
+
+ghost use Rattle.std.specs.Prelude.{◌≡◌};
+
+use atomic_table::{Seat, Table, TableRule};
+use nm_seats::View;
+use nm_types::{Packet, Shape};
+use std::alloc::Global;
+use std::collections::LinkedList;
+
+/// What a rank has of one cell. No value of it is made.
+pub enum Hand {
+    Away,
+    Held,
+    /// Its link was cleared when it held this.
+    Ready(Option<Packet>),
+    /// Its enqueue into this queue found this tail.
+    Entering(u64, u64),
+}
+
+/// What the consumer of a queue knows of it.
+#[derive(Clone, Copy)]
+pub struct End {
+    /// 0, or the number of the first cell plus 1.
+    pub shadow: u64,
+    /// 0, or what it last loaded from the head.
+    pub seen: u64,
+}
+
+/// How often a queue had nothing for its consumer. A count stands still at its last value.
+#[derive(Clone, Copy)]
+pub struct Misses {
+    /// The head was loaded as 0.
+    pub head_empty: u64,
+    /// The link was loaded as 0, although the cell was not the last one.
+    pub link_missing: u64,
+}
+
+impl Misses {
+    pub(crate) fn new() -> Misses
+        ensures { result ≡ record { head_empty = 0; link_missing = 0 } }
+    {
+        Misses {
+            head_empty: 0,
+            link_missing: 0,
+        }
+    }
+}
+
+/// What one rank knows. No value of it is made.
+pub struct Entry {
+    pub rank: u64,
+    pub ranks: u64,
+    pub each: u64,
+    pub hands: LinkedList<Hand>,
+    pub receive: End,
+    pub free: End,
+    /// What it put into receive queues, with the rank that each went to.
+    pub put: LinkedList<(u64, Option<Packet>)>,
+    pub got: LinkedList<Option<Packet>>,
+    /// What it put into boxes, with the rank that each went to.
+    pub put_box: LinkedList<(u64, Option<Packet>)>,
+    pub got_box: LinkedList<Option<Packet>>,
+    /// For each rank, whether its next box for it was found free and is not filled since.
+    pub filling: LinkedList<bool>,
+    /// For each rank, what was found in its next box and is not taken since.
+    pub emptying: LinkedList<Option<Option<Packet>>>,
+    pub receive_missed: Misses,
+    pub free_missed: Misses,
+    /// For each rank, how often its next box was found full.
+    pub box_full: LinkedList<u64>,
+    /// For each rank, how often its next box did not have the awaited number.
+    pub box_miss: LinkedList<u64>,
+}
+
+pub struct Linked;
+
+impl TableRule<Option<Packet>, View<Entry>, Shape> for Linked {
+    ghost use Rattle.nm_cells.specs.Rule.{Rule, first_view};
+
+    ghost holds = { Rule };
+
+    ghost first = { first_view };
+}
+
+pub type Board = Table<Option<Packet>, View<Entry>, Shape, Linked, Global>;
+
+pub type Place = Seat<Option<Packet>, View<Entry>>;

@@ -1,0 +1,89 @@
+//! The two moves of a queue.
+
+ghost use Rattle.std.specs.Prelude.{◌≡◌, ◌+◌, ◌<◌, ◌≤◌, ◌++◌, None, IfOk, Err};
+ghost use Rattle.nm_seats.specs.Update.{update};
+ghost use Rattle.nm_queue.specs.declared.moves.Miss.TheVariants.{HeadEmpty, LinkMissing};
+ghost use Rattle.nm_cells.specs.Plays.{end_of, with_end, at_end, with_missed, head_miss, link_miss};
+ghost use Rattle.nm_cells.specs.Ports.{Owns, Stays, SameTaken, knows, slots, holding, Has, MayJoin};
+ghost use Rattle.nm_cells.specs.Ports.{posted_in, IsOwn, is_receive, Takes};
+
+use nm_cells::{
+    Cell, Fabric, Port, Queue, clear_head, clear_link, drop_tail, load_head, load_link,
+    reload_link, store_head, store_link, swap_tail,
+};
+use nm_seats::Steps;
+use std::sync::ledger::Ledger;
+
+/// Why there was no cell to take. A miss is no fault.
+#[derive(Clone, Copy, Debug, PartialEq, Eq, Drop)]
+pub enum Miss {
+    /// The head was loaded as 0.
+    HeadEmpty,
+    /// The first cell isn't the last one, and its link was loaded as 0: an enqueue has exchanged the tail
+    /// and has still to store the link. The cell stays first.
+    LinkMissing,
+}
+
+/// Puts a cell in hand at the end of a queue, in three word steps. It can't be refused.
+pub fn enqueue<L: Ledger>(f: &Fabric, port: &mut Port, q: Queue, cell: Cell, steps: &mut Steps<L>)
+    requires owns { Owns f.now port.old }
+    requires in_hand { Has f.now port.old cell }
+    requires may { MayJoin f.now port.old q cell.number (holding port.old cell.number) }
+    ensures stays { Stays f.now port.old port.new }
+    ensures put { (knows port.new).put
+        ≡ (knows port.old).put ++ posted_in q (holding port.old cell.number) }
+    ensures others { ((knows port.new).receive ≡ (knows port.old).receive)
+        × ((knows port.new).free ≡ (knows port.old).free)
+        × ((knows port.new).got ≡ (knows port.old).got)
+        × ((knows port.new).put_box ≡ (knows port.old).put_box)
+        × ((knows port.new).got_box ≡ (knows port.old).got_box) }
+    ensures given { holding port.new ≡ update (holding port.old) cell.number None }
+    ensures bound { steps.new ≡ steps.old + 3 }
+{
+    clear_link(f, port, &cell, steps);
+    let pending = swap_tail(f, port, q, cell, steps);
+    if pending.is_first() {
+        store_head(f, port, pending, steps);
+    } else {
+        store_link(f, port, pending, steps);
+    }
+}
+
+/// Takes the first cell of an own queue, in at most five word steps.
+pub fn dequeue<L: Ledger>(
+    f: &Fabric,
+    port: &mut Port,
+    q: Queue,
+    steps: &mut Steps<L>,
+) -> Result<Cell, Miss>
+    requires owns { Owns f.now port.old }
+    requires own { IsOwn port.old q }
+    ensures owns { Owns f.now port.new × (port.new.rank ≡ port.old.rank) }
+    ensures took { IfOk result (Takes (is_receive q) f.now port.old port.new) }
+    ensures head_empty { result ≡ Err HeadEmpty → knows port.new
+        ≡ with_missed (is_receive q) head_miss (with_end (is_receive q) (at_end 0 0)
+        (knows port.old)) × (slots port.new ≡ slots port.old) × SameTaken port.old port.new }
+    ensures link_missing { result ≡ Err LinkMissing → knows port.new
+        ≡ with_missed (is_receive q) link_miss (with_end (is_receive q)
+        (end_of (is_receive q) (knows port.new)) (knows port.old))
+        × (0 < (end_of (is_receive q) (knows port.new)).shadow)
+        × (slots port.new ≡ slots port.old) × SameTaken port.old port.new }
+    ensures bound { steps.new ≤ steps.old + 5 }
+{
+    if !port.has_shadow(q) {
+        if !load_head(f, port, q, steps) {
+            return Err(Miss::HeadEmpty);
+        }
+        clear_head(f, port, q, steps);
+    }
+    if let Some(cell) = load_link(f, port, q, steps) {
+        return Ok(cell);
+    }
+    if let Some(cell) = drop_tail(f, port, q, steps) {
+        return Ok(cell);
+    }
+    match reload_link(f, port, q, steps) {
+        Some(cell) => Ok(cell),
+        None => Err(Miss::LinkMissing),
+    }
+}
