@@ -22,7 +22,7 @@ use Rattle.nm_protocol.specs.Known.{Known, Taken, known_by, known_after, learned
 use Rattle.nm_ends.specs.Moments.Cause.{Acted, Took, Drew}
 use Rattle.nm_ends.proofs.Arriving.{known-push}
 use Rattle.nm_ends.proofs.Delivering.{history-push}
-use Rattle.nm_ends.proofs.Basic.{same_number, eq_true, lt_true, lt_false, by-append, by-along}
+use Rattle.nm_protocol.proofs.Basic.{same_number, eq_true, lt_true, lt_false, by-append, by-along}
 use Rattle.nm_protocol.proofs.Growing.{fold-append}
 use Rattle.nm_history.specs.Outgoing.{bare}
 

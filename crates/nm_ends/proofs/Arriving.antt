@@ -22,7 +22,7 @@ use Rattle.nm_protocol.specs.Effects.{happenings, packet_makes, ask_ends, whole_
 use Rattle.nm_protocol.specs.Known.{Known, Taken, known_by, known_after, nothing_known}
 use Rattle.nm_protocol.specs.Pieces.{Pulled, piece_makes, Due, is_due}
 use Rattle.nm_ends.specs.Moments.Cause.{Acted, Took, Drew}
-use Rattle.nm_ends.proofs.Basic.{same_number}
+use Rattle.nm_protocol.proofs.Basic.{same_number}
 use Rattle.nm_protocol.proofs.Growing.{fold-append}
 
 -- an arrival is that of an announced message, and has a greater stamp

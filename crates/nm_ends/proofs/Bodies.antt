@@ -30,18 +30,18 @@ use Rattle.nm_history.proofs.OnceLemmas.{find_passes, find_among}
 use Rattle.nm_protocol.specs.Effects.{happenings}
 use Rattle.nm_protocol.specs.Pieces.{Pulled, Due, count_continued}
 use Rattle.nm_ends.specs.Moments.{Moment, history_of, EachMomentAfter}
-use Rattle.nm_ends.proofs.Basic.{same_number, self_true, and_left, and_right, or_left, or_right, on_test, both}
+use Rattle.nm_protocol.proofs.Basic.{same_number, self_true, and_left, and_right, or_left, or_right, on_test, both}
 use Rattle.nm_ends.proofs.Numbers.{SentBefore, pairs_came, send_at}
 use Rattle.nm_ends.proofs.Granting.{same_sent}
 use Rattle.nm_ends.proofs.Cutting.{Matches}
 use Rattle.nm_ends.proofs.Arriving.{own_none, arrivals_in}
 use Rattle.nm_ends.proofs.Over.{messages-append, Found, found_at}
-use Rattle.nm_ends.proofs.Fresh.{happened-append}
 use Rattle.nm_ends.proofs.Shown.{answer_here, IsCommanded, SendsTo}
-use Rattle.nm_ends.proofs.Got.{OwnMoment}
+use Rattle.nm_ends.proofs.AnswerMoments.{OwnMoment}
 use Rattle.nm_ends.proofs.Recalls.{all_at}
 use Rattle.nm_history.specs.Underway.{is_answer}
 use Rattle.std.proofs.lemmas.List.Folds.{list_any-append}
+use Rattle.nm_protocol.proofs.Sent.{happened-append}
 
 -- the rest of a sound log
 pub sound_rest : (R : List Moment → Moment → Type 0) (before xs ys : List Moment) → EachMomentAfter R before (xs ++ ys) → EachMomentAfter R (before ++ xs) ys

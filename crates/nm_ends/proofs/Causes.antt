@@ -16,7 +16,7 @@ use Rattle.nm_history.specs.Matching.{matched_pairs, new_pair}
 use Rattle.nm_history.specs.Outgoing.{Called, outgoing, packets_by, send_packets, eager_packets, clear_packets, is_clear, bare}
 use Rattle.nm_protocol.specs.Known.{Taken}
 use Rattle.nm_ends.proofs.Streaming.{Carries}
-use Rattle.nm_ends.proofs.Basic.{same_number, by-append, by-along}
+use Rattle.nm_protocol.proofs.Basic.{same_number, by-append, by-along}
 
 -- the event that such a packet to this rank is of, after the events before it
 abbrev pub Origin : ℕ → List Event → Happened → What → Type 0

@@ -16,7 +16,7 @@ use Rattle.nm_history.specs.RankRun.{StampAt}
 use Rattle.nm_history.proofs.MatchingLemmas.{matched_pairs-push}
 use Rattle.nm_protocol.specs.Known.{Taken}
 use Rattle.nm_protocol.specs.Continues.{is_of_stream}
-use Rattle.nm_ends.proofs.Basic.{same_number, and_left, and_right, by-along, by-both, by-append, eq_true}
+use Rattle.nm_protocol.proofs.Basic.{same_number, and_left, and_right, by-along, by-both, by-append, eq_true, by_front}
 use Rattle.nm_ends.proofs.Numbers.{SentAs, SentBefore, messages_sent, pairs_came, send_at}
 use Rattle.nm_ends.proofs.Causes.{Source, HasSource}
 use Rattle.nm_ends.proofs.Ordered.{rise, happened_at}
@@ -26,10 +26,6 @@ use Rattle.nm_ends.proofs.Recalls.{earlier_more}
 use Rattle.nm_ends.proofs.Streams.{StreamContinued, UndoneContinued}
 use Rattle.nm_types.specs.declared.messages.Envelope.{Envelope}
 use Rattle.std.specs.Bool.{OnTrue}
-
-pub by_front : {X : Type 0} (P : X → Type 0) (xs ys : List X) → AllByRecursion P (xs ++ ys) → AllByRecursion P xs × AllByRecursion P ys
-by_front P [] ys each = (tt, each)
-by_front P (x ∷ xs) ys each = let rest = by_front P xs ys each.1 in ((each.0, rest.0), rest.1)
 
 -- the message of a pair that an event makes was sent before that event
 pub pair_sent : (i : ℕ) (ss : List Sent) (h before : List Event) (e : Event) (after : List Event) (pair : Pair) → h ≡ before ++ e ∷ after → AtEach (λ before e. StampAt before e.stamp) h →

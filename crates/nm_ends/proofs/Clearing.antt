@@ -19,7 +19,7 @@ use Rattle.nm_protocol.specs.Known.{Taken, known_by, nothing_known}
 use Rattle.nm_protocol.specs.Continues.{is_of_stream}
 use Rattle.nm_ends.proofs.Streams.{clear_of, cleared_by}
 use Rattle.nm_ends.proofs.Streaming.{Carries}
-use Rattle.nm_ends.proofs.Answers.{send_stream}
+use Rattle.nm_ends.proofs.Clashing.{send_stream}
 use Rattle.nm_ends.proofs.Made.{known_cleared}
 
 -- the numbers of the messages of a rank that were sent by asking and are in these pairs

@@ -19,13 +19,11 @@ use Rattle.nm_history.proofs.AtEachLemmas.{AtEach-split}
 use Rattle.nm_protocol.specs.Effects.{is_empty_send}
 use Rattle.nm_protocol.specs.Clearance.{left_of, pushed_out}
 use Rattle.nm_protocol.specs.Pieces.{Due, due_from, due_of, due_of_all, is_granted}
-use Rattle.nm_ends.proofs.Basic.{same_number, eq_true, lt_true, lt_false}
+use Rattle.nm_protocol.proofs.Basic.{same_number, eq_true, lt_true, lt_false, eq_less}
 use Rattle.nm_ends.proofs.Arriving.{zip-append}
-use Rattle.nm_ends.proofs.Delivering.{sends-append, sends-cons}
-use Rattle.nm_ends.proofs.Fresh.{AtEach-prefix, sent_number}
-use Rattle.nm_ends.proofs.Numbers.{NumberedFrom, any_at, eq_less, sends_numbered}
 use Rattle.nm_ends.proofs.Granting.{PairsSent}
 use Rattle.nm_ends.proofs.Streams.{SenderAt}
+use Rattle.nm_protocol.proofs.Sent.{sends-cons, sends-append, AtEach-prefix, sent_number, NumberedFrom, sends_numbered, any_at}
 
 -- a piece is the due one
 pub record Matches (c : CalledPiece) (due : Due) : Type 0 where

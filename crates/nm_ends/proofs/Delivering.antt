@@ -1,7 +1,6 @@
 -- The messages of one rank arrive at another, all and in order.
 use Rattle.std.proofs.Common.{◌≡◌, ℕ, suc, ◌==◌, Bool, true, false, not, ◌&&◌, ◌||◌, cond, Option, Some, None, List, [], ◌∷◌, ◌++◌, length, map, refl, sym, ◌∙◌, ap, subst, append-nil, append_assoc, length-append, arith}
-use Rattle.std.specs.List.{AllZip, AllByRecursion, filter, filter_map, cons_option, list_any}
-use Rattle.std.proofs.lemmas.List.Elements.{filter_map-append, filter-append}
+use Rattle.std.specs.List.{AllZip, AllByRecursion, filter, cons_option, list_any}
 use Rattle.std.proofs.lemmas.List.Folds.{list_any-append}
 use Rattle.nm_types.specs.Commands.{Numbered}
 use Rattle.nm_types.specs.declared.packets.What.{What}
@@ -26,18 +25,8 @@ use Rattle.nm_protocol.specs.Pieces.{piece_makes, Due, is_due}
 use Rattle.nm_ends.specs.Moments.Cause.{Acted, Took, Drew}
 use Rattle.nm_ends.proofs.Arriving.{ArrivedAs, arrivals_announced, stream_is_right}
 use Rattle.nm_ends.proofs.Streaming.{Between, Carries, InTime, event_goes}
-use Rattle.nm_ends.proofs.Basic.{by-append, or_false}
-use Rattle.nm_ends.proofs.Fresh.{AtEach-prefix, sent_number}
-
-pub filter-cons : {X : Type 0} (p : X → Bool) (o : Option X) (xs : List X) → filter p (cons_option o xs) ≡ filter p (cons_option o []) ++ filter p xs
-filter-cons p None xs = refl
-filter-cons p (Some x) xs = by_test (p x) where
-  by_test : (b : Bool) → cond b (x ∷ filter p xs) (filter p xs) ≡ cond b (x ∷ []) [] ++ filter p xs
-  by_test true = refl
-  by_test false = refl
-
-pub sends-cons : (e : Event) (events : List Event) (j : ℕ) → sends (e ∷ events) j ≡ filter (λ s. s.to == j) (cons_option (sent_of e.stamp e.what) []) ++ sends events j
-sends-cons e events j = filter-cons (λ (s : Sent). s.to == j) (sent_of e.stamp e.what) (filter_map (λ (e : Event). sent_of e.stamp e.what) events)
+use Rattle.nm_protocol.proofs.Basic.{by-append, or_false}
+use Rattle.nm_protocol.proofs.Sent.{sends-cons, AtEach-prefix, sent_number}
 
 recall-push : (before : List Event) (e : Event) (j n : ℕ) → happened (is_recall j n) (before ++ e ∷ []) ≡ (happened (is_recall j n) before || is_recall j n e.what)
 recall-push before e j n = list_any-append (λ (e : Event). is_recall j n e.what) before (e ∷ []) ∙ ap (λ (b : Bool). happened (is_recall j n) before || b) (or_false (is_recall j n e.what))
@@ -113,11 +102,6 @@ no_sends eager bodies before (e ∷ events) none = (by_what e.what none.0, no_se
   by_what : (w : Happened) → IsNoSend w → LogSender eager bodies before e.stamp w
   by_what (Send to n tag ctx len how line) none = absurd none
   by_what w none = tt
-
-pub sends-append : (h more : List Event) (to : ℕ) → sends (h ++ more) to ≡ sends h to ++ sends more to
-sends-append h more to =
-    ap (λ (xs : List Sent). filter (λ s. s.to == to) xs) (filter_map-append (λ (e : Event). sent_of e.stamp e.what) h more)
-    ∙ filter-append (λ (s : Sent). s.to == to) (filter_map (λ (e : Event). sent_of e.stamp e.what) h) (filter_map (λ (e : Event). sent_of e.stamp e.what) more)
 
 own_sends : (eager : ℕ) (bodies : Sent → List ℕ) (commands : List Numbered) (log : List Moment) (h events : List Event) → AtEachAfter (λ h e. OwnEvent eager bodies commands log h e.stamp e.what) h events → AtEachAfter (LogSenderAt eager bodies) h events
 own_sends eager bodies commands log h [] own = tt

@@ -22,15 +22,13 @@ use Rattle.nm_history.specs.Outgoing.{Called, outgoing, packets_by, send_packets
 use Rattle.nm_history.proofs.DeliveryLemmas.{sends-push}
 use Rattle.nm_protocol.specs.Known.{Known, Taken, known_by, known_after, learned, nothing_known}
 use Rattle.nm_protocol.specs.Bytes.{bytes_in, taken_bytes, eager_bytes}
-use Rattle.nm_ends.proofs.Basic.{same_number, eq_true, and_left, and_right, at_true, eq_false, lt_true, or_false}
+use Rattle.nm_protocol.proofs.Basic.{same_number, eq_true, and_left, and_right, at_true, eq_false, lt_true, or_false, by_front, eq_less}
 use Rattle.nm_ends.proofs.Streams.{SenderAt, StreamIsRight, completed, completes}
 use Rattle.nm_ends.proofs.Streaming.{Carries, InTime}
-use Rattle.nm_ends.proofs.Delivering.{sends-cons}
-use Rattle.nm_ends.proofs.Cleared.{by_front}
-use Rattle.nm_ends.proofs.Numbers.{NumberedFrom, eq_less}
 use Rattle.nm_protocol.specs.Continues.{WORN_STAMP, continues_stream, is_of_stream}
 use Rattle.std.proofs.lemmas.Bool.Decides.{nat_tests}
 use Rattle.std.proofs.lemmas.List.Folds.{list_any-append}
+use Rattle.nm_protocol.proofs.Sent.{sends-cons, NumberedFrom}
 
 -- the parts of a body at these places
 abbrev pub joined : ℕ → List ℕ → List ℕ → List ℕ

@@ -3,7 +3,6 @@ use Rattle.std.proofs.Common.{◌≡◌, ℕ, suc, ◌+◌, ◌<◌, ◌==◌, B
 use Rattle.std.specs.Prelude.{IsSomeAnd}
 use Rattle.std.specs.List.{AllPairs, filter, list_any, cons_option}
 use Rattle.std.specs.Option.{option_map_or, option_to_list}
-use Rattle.std.proofs.lemmas.List.Folds.{list_any-append}
 use Rattle.std.proofs.Math.Seq.{get_or-append_seam}
 use Rattle.nm_types.specs.declared.messages.Arrival.{Arrival}
 use Rattle.nm_types.specs.declared.messages.Post as post
@@ -13,33 +12,21 @@ use Rattle.nm_types.specs.Commands.{Numbered, command_at}
 use Rattle.nm_types.specs.Sizes.{Sizes}
 use Rattle.nm_history.specs.declared.events.Event.{Event}
 use Rattle.nm_history.specs.declared.events.Happened.{Happened}
-use Rattle.nm_history.specs.declared.events.Happened.TheVariants.{Send, Post, Arrive, Withdraw, Claim, Match}
+use Rattle.nm_history.specs.declared.events.Happened.TheVariants.{Post, Arrive, Withdraw, Claim, Match}
 use Rattle.nm_history.specs.declared.plain.Pair.{Pair}
 use Rattle.nm_history.specs.AtEach.{AtEach, AtEachAfter}
-use Rattle.nm_history.specs.Sends.{Sent, sends, Arrived, arrivals, messages, message_of}
+use Rattle.nm_history.specs.Sends.{Arrived, arrivals, messages, message_of}
 use Rattle.nm_history.specs.Selection.{matches}
-use Rattle.nm_history.specs.Happens.{happened, is_send, is_arrival, is_claim, is_withdraw, is_same}
+use Rattle.nm_history.specs.Happens.{happened, is_arrival, is_claim, is_withdraw, is_same}
 use Rattle.nm_history.specs.Matching.{matched_pairs, new_pair, first_message, first_receive, is_free, is_free_message, is_of_message, pair_of, pair_of_claimed}
 use Rattle.nm_history.specs.RankRun.{IsRankRun, Always, NumberAt, StartAt, EndAt, ClaimAt, claim_of}
 use Rattle.nm_history.specs.Once.{TwoMessages}
 use Rattle.nm_history.proofs.AtEachLemmas.{AtEach-split, AtEach-from_splits}
 use Rattle.nm_history.proofs.MatchingLemmas.{matched_pairs-push}
-use Rattle.nm_history.proofs.DeliveryLemmas.{sends-push}
 use Rattle.nm_history.proofs.OnceLemmas.{arrivals-push, one_to_one, find_passes, mapped_some}
-use Rattle.nm_ends.proofs.Basic.{same_number, and_left, and_right, or_left, or_false, refuted}
+use Rattle.nm_protocol.proofs.Basic.{same_number, and_left, and_right, or_left, or_false, refuted}
 use Rattle.nm_ends.proofs.Streams.{FreshAt}
-
--- the beginning of a history
-pub after_prefix : (R : List Event → Event → Type 0) (b xs ys : List Event) → AtEachAfter R b (xs ++ ys) → AtEachAfter R b xs
-after_prefix R b [] ys each = tt
-after_prefix R b (x ∷ xs) ys each = (each.0, after_prefix R (b ++ x ∷ []) xs ys each.1)
-
-pub AtEach-prefix : (R : List Event → Event → Type 0) (xs ys : List Event) → AtEach R (xs ++ ys) → AtEach R xs
-unfolding AtEach
-AtEach-prefix R xs ys each = after_prefix R [] xs ys each
-
-pub happened-append : (test : Happened → Bool) (h more : List Event) → happened test (h ++ more) ≡ (happened test h || happened test more)
-happened-append test h more = list_any-append (λ (e : Event). test e.what) h more
+use Rattle.nm_protocol.proofs.Sent.{AtEach-prefix, happened-append}
 
 -- what came before an event had come before the end
 pub came_before : (R : List Event → Happened → Type 0) (p q : Happened → Bool) → ((before : List Event) (w : Happened) → R before w → p w ≡ true → happened q before ≡ true) →
@@ -50,16 +37,6 @@ came_before R p q gives b (e ∷ xs) each found = by_head (p e.what) refl found 
   by_head true is found later = happened-append q b (e ∷ xs) ∙ or_left _ _ (gives b e.what each.0 is)
   by_head false is found later = ap (λ (h : List Event). happened q h) (sym (append_assoc b (e ∷ []) xs)) ∙ later found
 
-pub sends_grow : (h more : List Event) (to : ℕ) → length (sends h to) < length (sends (h ++ more) to) + 1
-sends_grow h [] to = ap_length (append-nil h) where
-  ap_length : {x y : List Event} → x ≡ y → length (sends y to) < length (sends x to) + 1
-  ap_length {x} {y} same = let e : length (sends x to) ≡ length (sends y to) = ap (λ (k : List Event). length (sends k to)) same in omega (arith, e)
-sends_grow h (e ∷ more) to =
-    let step : length (sends (h ++ e ∷ []) to) ≡ length (sends h to) + length (filter (λ s. s.to == to) (cons_option _ [])) = ap (λ (ss : List Sent). length ss) (sends-push h e to) ∙ length-append (sends h to) _ in
-    let later = sends_grow (h ++ e ∷ []) more to in
-    let same : length (sends ((h ++ e ∷ []) ++ more) to) ≡ length (sends (h ++ e ∷ more) to) = ap (λ (k : List Event). length (sends k to)) (append_assoc h (e ∷ []) more) in
-    omega (arith, step, later, same)
-
 pub arrivals_grow : (h more : List Event) (from : ℕ) → length (arrivals h from) < length (arrivals (h ++ more) from) + 1
 arrivals_grow h [] from = ap_length (append-nil h) where
   ap_length : {x y : List Event} → x ≡ y → length (arrivals y from) < length (arrivals x from) + 1
@@ -69,34 +46,6 @@ arrivals_grow h (e ∷ more) from =
     let later = arrivals_grow (h ++ e ∷ []) more from in
     let same : length (arrivals ((h ++ e ∷ []) ++ more) from) ≡ length (arrivals (h ++ e ∷ more) from) = ap (λ (k : List Event). length (arrivals k from)) (append_assoc h (e ∷ []) more) in
     omega (arith, step, later, same)
-
--- a message that was sent has a number below the count of the sends
-pub sent_below : (ranks : ℕ) (b xs : List Event) (to n : ℕ) → AtEachAfter (λ before e. NumberAt ranks before e.what) b xs → happened (is_send to n) xs ≡ true → n < length (sends (b ++ xs) to)
-sent_below ranks b [] to n each found = cc
-sent_below ranks b (e ∷ xs) to n each found =
-    by_what e.what refl each.0 found (λ found. subst (λ (k : List Event). n < length (sends k to)) (append_assoc b (e ∷ []) xs) (sent_below ranks (b ++ e ∷ []) xs to n each.1 found))
-  where
-    here : n ≡ length (sends b to) → length (sends (b ++ e ∷ []) to) ≡ length (sends b to) + 1 → n < length (sends (b ++ e ∷ xs) to)
-    here numbered one =
-        let grown = sends_grow (b ++ e ∷ []) xs to in
-        let same : length (sends ((b ++ e ∷ []) ++ xs) to) ≡ length (sends (b ++ e ∷ xs) to) = ap (λ (k : List Event). length (sends k to)) (append_assoc b (e ∷ []) xs) in
-        omega (arith, numbered, one, grown, same)
-
-    by_what : (w : Happened) → e.what ≡ w → NumberAt ranks b w → (is_send to n w || happened (is_send to n) xs) ≡ true → (happened (is_send to n) xs ≡ true → n < length (sends (b ++ e ∷ xs) to)) → n < length (sends (b ++ e ∷ xs) to)
-    by_what (Send to' n' tag ctx len how line) is numbered found later = by_to (to' == to) refl (n' == n) refl found later where
-      by_to : (x : Bool) → (to' == to) ≡ x → (y : Bool) → (n' == n) ≡ y → ((x && y) || happened (is_send to n) xs) ≡ true → (happened (is_send to n) xs ≡ true → n < length (sends (b ++ e ∷ xs) to)) → n < length (sends (b ++ e ∷ xs) to)
-      by_to true same_to true same_n found later =
-          let to_is : to' ≡ to = same_number to' to same_to in
-          let one : length (sends (b ++ e ∷ []) to) ≡ length (sends b to) + 1 =
-          ap (λ (ss : List Sent). length ss) (sends-push b e to) ∙ length-append (sends b to) _ ∙ rw (is, same_to) refl in
-          here (sym (same_number n' n same_n) ∙ numbered ∙ ap (λ (k : ℕ). length (sends b k)) to_is) one
-      by_to true same_to false same_n found later = later found
-      by_to false same_to y same_n found later = later found
-    by_what w is numbered found later = later found
-
-pub sent_number : (ranks : ℕ) (h : List Event) (to n : ℕ) → Always (NumberAt ranks) h → happened (is_send to n) h ≡ true → n < length (sends h to)
-unfolding AtEach
-sent_number ranks h to n numbers sent = sent_below ranks [] h to n numbers sent
 
 -- a message that came has a number below the count of the arrivals
 pub came_below : (ranks : ℕ) (b xs : List Event) (from n : ℕ) → AtEachAfter (λ before e. NumberAt ranks before e.what) b xs → happened (is_arrival from n) xs ≡ true → n < length (arrivals (b ++ xs) from)

@@ -13,10 +13,11 @@ use Rattle.nm_history.specs.Outgoing.{is_clear}
 use Rattle.nm_protocol.specs.Effects.{is_empty_send}
 use Rattle.nm_protocol.specs.Clearance.{left_of}
 use Rattle.nm_protocol.specs.Pieces.{is_granted}
-use Rattle.nm_ends.proofs.Basic.{same_number, or_left, or_right, by-along}
-use Rattle.nm_ends.proofs.Numbers.{NumberedFrom, SentAs, SentBefore, any_at, messages_sent, at_seam}
+use Rattle.nm_protocol.proofs.Basic.{same_number, or_left, or_right, by-along}
+use Rattle.nm_ends.proofs.Numbers.{SentAs, SentBefore, messages_sent, at_seam}
 use Rattle.nm_ends.proofs.Clearing.{asked_numbers}
 use Rattle.nm_history.specs.Delivery.{is_asked}
+use Rattle.nm_protocol.proofs.Sent.{NumberedFrom, any_at}
 
 -- a stamp that no event of a history passes
 pub last_of : (h : List Event) → (stamp : ℕ) × AllByRecursion (λ e. e.stamp ≤ stamp) h

@@ -23,7 +23,7 @@ use Rattle.nm_protocol.specs.Known.{Known, Taken, known_by, known_after, learned
 use Rattle.nm_protocol.specs.Pieces.{Pulled, piece_makes, Due, is_due}
 use Rattle.nm_ends.specs.Moments.Cause.{Acted, Took, Drew}
 use Rattle.nm_ends.proofs.Delivering.{after_append, history-push}
-use Rattle.nm_ends.proofs.Basic.{at_true, by-append, by-along}
+use Rattle.nm_protocol.proofs.Basic.{at_true, by-append, by-along}
 use Rattle.nm_protocol.proofs.Growing.{fold-append}
 
 -- a packet of this kind came before this stamp

@@ -1,6 +1,6 @@
 -- Sends and arrivals have the numbers of their places, and each arrival its send.
-use Rattle.std.proofs.Common.{◌≡◌, ℕ, zero, suc, ◌+◌, ◌<◌, ◌≤◌, ◌==◌, Bool, true, false, ◌&&◌, ◌||◌, cond, Some, List, [], ◌∷◌, ◌++◌, length, refl, sym, ◌∙◌, ap, subst, append_assoc, length-append, arith}
-use Rattle.std.specs.List.{AllByRecursion, Contains, filter, filter_map, cons_option, slice_get, list_any}
+use Rattle.std.proofs.Common.{◌≡◌, ℕ, zero, suc, ◌+◌, ◌<◌, ◌≤◌, ◌==◌, Bool, true, false, cond, Some, List, [], ◌∷◌, ◌++◌, length, refl, sym, ◌∙◌, ap, subst, append_assoc, length-append, arith}
+use Rattle.std.specs.List.{AllByRecursion, Contains, filter, filter_map, cons_option, slice_get}
 use Rattle.std.proofs.Common.{inl, inr}
 use Rattle.std.proofs.lemmas.List.Elements.{All-contains, All-from_recursion, All-weaker, recursion_from_All}
 use Rattle.nm_types.specs.declared.messages.Arrival.{Arrival}
@@ -9,58 +9,15 @@ use Rattle.nm_history.specs.declared.events.Happened.{Happened}
 use Rattle.nm_history.specs.declared.events.Happened.TheVariants.{Send, Arrive}
 use Rattle.nm_history.specs.declared.plain.Pair.{Pair}
 use Rattle.nm_history.specs.AtEach.{AtEach, AtEachAfter}
-use Rattle.nm_history.specs.Sends.{Sent, sends, sent_of, Arrived, arrivals, arrived_of, arrival_of, messages, envelope}
+use Rattle.nm_history.specs.Sends.{Sent, sends, Arrived, arrivals, arrived_of, arrival_of, messages, envelope}
 use Rattle.nm_history.specs.Delivery.{ArriveInOrder}
 use Rattle.nm_history.specs.Matching.{matched_pairs}
 use Rattle.nm_history.specs.Once.{IsOfReceive}
 use Rattle.nm_history.specs.RankRun.{Always, NumberAt}
-use Rattle.nm_history.proofs.DeliveryLemmas.{sends-push}
 use Rattle.nm_history.proofs.OnceLemmas.{arrivals-push}
 use Rattle.nm_history.proofs.SelectionLemmas.{matched_pairs_of_receives}
-use Rattle.nm_ends.proofs.Basic.{same_number, eq_true, eq_false, or_false}
-use Rattle.nm_ends.proofs.Delivering.{sends-cons, filter-cons, sends-append}
-use Rattle.std.proofs.lemmas.Bool.Decides.{nat_tests}
-use Rattle.std.proofs.lemmas.List.Folds.{list_any-append}
-
--- the elements have the numbers from this one on
-abbrev pub NumberedFrom : {X : Type 0} → (X → ℕ) → ℕ → List X → Type 0
-NumberedFrom f k [] = Unit {0}
-NumberedFrom f k (x ∷ xs) = (f x ≡ k) × NumberedFrom f (k + 1) xs
-
--- an element has the number of its place
-pub numbered_at : {X : Type 0} (f : X → ℕ) (k : ℕ) (xs : List X) (i : ℕ) (x : X) → NumberedFrom f k xs → slice_get xs i ≡ Some x → f x ≡ k + i
-numbered_at f k [] i x numbered found = cc
-numbered_at f k (y ∷ xs) zero x numbered found = let same : y ≡ x = cc in ap f (sym same) ∙ numbered.0 ∙ omega arith
-numbered_at f k (y ∷ xs) (suc i) x numbered found = numbered_at f (k + 1) xs i x numbered.1 found ∙ omega arith
-
--- the next numbers, of an element or of none
-next_numbers : {X : Type 0} (f : X → ℕ) (k : ℕ) (new xs : List X) → NumberedFrom f k new → NumberedFrom f (k + length new) xs → NumberedFrom f k (new ++ xs)
-next_numbers f k [] xs now later = subst (λ (m : ℕ). NumberedFrom f m xs) (omega arith) later
-next_numbers f k (x ∷ new) xs now later = (now.0, next_numbers f (k + 1) new xs now.1 (subst (λ (m : ℕ). NumberedFrom f m xs) (omega arith) later))
-
--- the sends of an event
-abbrev new_sends : ℕ → ℕ → Happened → List Sent
-new_sends j stamp w = filter (λ s. s.to == j) (cons_option (sent_of stamp w) [])
-
-send_number : (ranks j stamp : ℕ) (b : List Event) (w : Happened) → NumberAt ranks b w → NumberedFrom (λ (s : Sent). s.n) (length (sends b j)) (new_sends j stamp w)
-send_number ranks j stamp b (Send to n tag ctx len how line) number = by_to (to == j) refl where
-  by_to : (x : Bool) → (to == j) ≡ x → NumberedFrom (λ (s : Sent). s.n) (length (sends b j)) (cond x (record { stamp = stamp; to = to; n = n; tag = tag; ctx = ctx; len = len; how = how; line = line } ∷ []) [])
-  by_to true test = (number ∙ ap (λ (k : ℕ). length (sends b k)) (same_number to j test), tt)
-  by_to false test = tt
-send_number ranks j stamp b w number = tt
-
-sends_from : (ranks j : ℕ) (b xs : List Event) → AtEachAfter (λ before e. NumberAt ranks before e.what) b xs → NumberedFrom (λ (s : Sent). s.n) (length (sends b j)) (sends xs j)
-sends_from ranks j b [] each = tt
-sends_from ranks j b (e ∷ xs) each =
-    let count : length (sends (b ++ e ∷ []) j) ≡ length (sends b j) + length (new_sends j e.stamp e.what) = ap (λ (ss : List Sent). length ss) (sends-push b e j) ∙ length-append (sends b j) (new_sends j e.stamp e.what) in
-    subst (λ (ss : List Sent). NumberedFrom (λ (s : Sent). s.n) (length (sends b j)) ss) (sym (sends-cons e xs j))
-    (next_numbers (λ (s : Sent). s.n) (length (sends b j)) (new_sends j e.stamp e.what) (sends xs j) (send_number ranks j e.stamp b e.what each.0)
-    (subst (λ (k : ℕ). NumberedFrom (λ (s : Sent). s.n) k (sends xs j)) count (sends_from ranks j (b ++ e ∷ []) xs each.1)))
-
--- the sends to a rank are numbered from 0
-pub sends_numbered : (ranks j : ℕ) (h : List Event) → Always (NumberAt ranks) h → NumberedFrom (λ (s : Sent). s.n) 0 (sends h j)
-unfolding AtEach
-sends_numbered ranks j h numbers = sends_from ranks j [] h numbers
+use Rattle.nm_protocol.proofs.Basic.{same_number, eq_true}
+use Rattle.nm_protocol.proofs.Sent.{filter-cons, sends-cons, NumberedFrom, next_numbers, new_sends, sends_numbered}
 
 -- the arrivals of an event
 abbrev new_arrivals : ℕ → ℕ → Happened → List Arrived
@@ -186,43 +143,3 @@ send_event whole before (e ∷ h) j k s same found =
 -- the send at a place stands in the history
 pub send_at : (h : List Event) (j k : ℕ) (s : Sent) → slice_get (sends h j) k ≡ Some s → SentIn h s × (s.to ≡ j)
 send_at h j k s found = send_event h [] h j k s refl found
-
--- what follows has the following numbers
-pub numbered_rest : {X : Type 0} (f : X → ℕ) (k : ℕ) (xs ys : List X) → NumberedFrom f k (xs ++ ys) → NumberedFrom f (k + length xs) ys
-numbered_rest f k [] ys numbered = subst (λ (m : ℕ). NumberedFrom f m ys) (omega arith) numbered
-numbered_rest f k (x ∷ xs) ys numbered = subst (λ (m : ℕ). NumberedFrom f m ys) (omega arith) (numbered_rest f (k + 1) xs ys numbered.1)
-
--- of numbered elements none has a smaller number
-pub none_below : {X : Type 0} (f : X → ℕ) (p : X → Bool) (k n : ℕ) (xs : List X) → n < k → NumberedFrom f k xs → list_any (λ x. f x == n && p x) xs ≡ false
-none_below f p k n [] lt numbered = refl
-none_below f p k n (x ∷ xs) lt numbered = rw (eq_false (f x) n (omega (arith, numbered.0))) (none_below f p (k + 1) n xs (omega arith) numbered.1)
-
-pub eq_less : (x y : ℕ) → x < y → (x == y) ≡ false
-eq_less x y h = grind (arith, nat_tests)
-
--- of numbered elements one alone has the number of a place
-pub any_at : {X : Type 0} (f : X → ℕ) (p : X → Bool) (k i m : ℕ) (xs : List X) (x : X) → m ≡ k + i → NumberedFrom f k xs → slice_get xs i ≡ Some x → list_any (λ y. f y == m && p y) xs ≡ p x
-any_at f p k i m [] x is numbered found = cc
-any_at f p k zero m (y ∷ xs) x is numbered found =
-    let same : y ≡ x = cc in
-    rw (eq_true (f y) m (omega (arith, numbered.0, is)), none_below f p (k + 1) m xs (omega (arith, is)) numbered.1) (or_false (p y) ∙ ap p same)
-any_at f p k (suc i) m (y ∷ xs) x is numbered found =
-    rw (eq_less (f y) m (omega (arith, numbered.0, is))) (any_at f p (k + 1) i m xs x (omega (arith, is)) numbered.1 found)
-
--- a number that some element has is within their numbers
-pub any_within : {X : Type 0} (f : X → ℕ) (p : X → Bool) (k n : ℕ) (xs : List X) → NumberedFrom f k xs → list_any (λ x. f x == n && p x) xs ≡ true → n < k + length xs
-any_within f p k n [] numbered found = cc
-any_within f p k n (x ∷ xs) numbered found = by_test (f x == n) refl (p x) found (any_within f p (k + 1) n xs numbered.1) where
-  by_test : (b : Bool) → (f x == n) ≡ b → (c : Bool) → ((b && c) || list_any (λ x. f x == n && p x) xs) ≡ true → (list_any (λ x. f x == n && p x) xs ≡ true → n < k + 1 + length xs) → n < k + length (x ∷ xs)
-  by_test true is c found later = let same : f x ≡ n = same_number (f x) n is in omega (arith, same, numbered.0)
-  by_test false is c found later = omega (arith, later found)
-
--- what a rank's sends say of a message that was sent lasts
-pub sent_lasts : (ranks j n : ℕ) (p : Sent → Bool) (whole h more : List Event) → whole ≡ h ++ more → Always (NumberAt ranks) whole → n < length (sends h j) →
-    list_any (λ s. s.n == n && p s) (sends h j) ≡ list_any (λ s. s.n == n && p s) (sends whole j)
-sent_lasts ranks j n p whole h more split numbers early =
-    let grown : sends whole j ≡ sends h j ++ sends more j = ap (λ (k : List Event). sends k j) split ∙ sends-append h more j in
-    let numbered : NumberedFrom (λ (s : Sent). s.n) 0 (sends h j ++ sends more j) = subst (λ (ss : List Sent). NumberedFrom (λ (s : Sent). s.n) 0 ss) grown (sends_numbered ranks j whole numbers) in
-    let none : list_any (λ (s : Sent). s.n == n && p s) (sends more j) ≡ false = none_below (λ (s : Sent). s.n) p (0 + length (sends h j)) n (sends more j) (omega arith) (numbered_rest (λ (s : Sent). s.n) 0 (sends h j) (sends more j) numbered) in
-    sym (ap (λ (ss : List Sent). list_any (λ s. s.n == n && p s) ss) grown ∙ list_any-append (λ (s : Sent). s.n == n && p s) (sends h j) (sends more j)
-    ∙ ap (λ (b : Bool). list_any (λ s. s.n == n && p s) (sends h j) || b) none ∙ or_false (list_any (λ s. s.n == n && p s) (sends h j)))

@@ -1,6 +1,6 @@
 -- What two ranks did in order: withdrawals after their recalls, answers after withdrawals, and
 -- departures after pairs.
-use Rattle.std.proofs.Common.{◌≡◌, ℕ, ◌<◌, ◌==◌, Bool, true, false, ◌&&◌, Option, Some, List, [], ◌∷◌, ◌++◌, refl, sym, ◌∙◌, ap, subst, append_assoc, arith}
+use Rattle.std.proofs.Common.{◌≡◌, ℕ, ◌<◌, ◌==◌, Bool, true, false, ◌&&◌, Option, Some, List, [], ◌∷◌, ◌++◌, refl, ◌∙◌, ap, subst, append_assoc, arith}
 use Rattle.std.specs.Prelude.{nat_lt}
 use Rattle.std.specs.List.{AllByRecursion, list_any}
 use Rattle.std.specs.Option.{option_to_list}
@@ -26,7 +26,7 @@ use Rattle.nm_ends.specs.Moments.{Moment, history_of, taken_from}
 use Rattle.nm_ends.specs.Sound.{AreSound}
 use Rattle.nm_ends.proofs.Causes.{Source, HasSource}
 use Rattle.nm_ends.proofs.Made.{MadeAt, MadeByPacket, packets_made}
-use Rattle.nm_ends.proofs.Basic.{same_number, self_true, lt_true, and_left, and_right, or_true, same_done, on_test, true_is}
+use Rattle.nm_protocol.proofs.Basic.{same_number, self_true, lt_true, and_left, and_right, or_true, same_done, on_test, true_is}
 use Rattle.nm_protocol.proofs.Growing.{fold-append}
 
 -- what happened at an event had happened before every greater stamp
@@ -83,27 +83,32 @@ recalled : (i j : ℕ) (hi : List Event) (before : List Event) (stamp : ℕ) (w 
 recalled i j hi before stamp (Withdraw from n done) made = on_test (from == i) (λ test.
     let came = made (same_number from i test) in
     let source : Source j hi came.taken.packet.stamp (what.Withdraw n) = subst (λ w. Source j hi came.taken.packet.stamp w) came.same came.holds in
-    true_is _ (subst (λ (h : List Event). happened (is_recall j n) (earlier_than stamp h) ≡ true) (sym source.split)
-    (happened_at (is_recall j n) stamp source.before source.event source.after (omega (arith, source.since, came.earlier)) (rw (source.origin, self_true j, self_true n) refl))))
+    true_is _ (ap (λ (h : List Event). happened (is_recall j n) (earlier_than stamp h)) source.split
+    ∙ (happened_at (is_recall j n) stamp source.before source.event source.after (omega (arith, source.since, came.earlier)) (rw (source.origin, self_true j, self_true n) refl))))
 recalled i j hi before stamp w made = tt
 
 answered : (i j : ℕ) (hj : List Event) (before : List Event) (stamp : ℕ) (w : Happened) → MadeByPacket (HasSource i hj) j before stamp w → UndoneAfterWithdraw i j hj stamp w
 answered i j hj before stamp (Undone to n done) made = on_test (to == j) (λ test.
     let came = made (same_number to j test) in
     let source : Source i hj came.taken.packet.stamp (what.Withdrawn n done) = subst (λ w. Source i hj came.taken.packet.stamp w) came.same came.holds in
-    true_is _ (subst (λ (h : List Event). happened (is_withdraw i n done) (earlier_than stamp h) ≡ true) (sym source.split)
-    (happened_at (is_withdraw i n done) stamp source.before source.event source.after (omega (arith, source.since, came.earlier)) (rw (source.origin, self_true i, self_true n, same_done done) refl))))
+    true_is _ (ap (λ (h : List Event). happened (is_withdraw i n done) (earlier_than stamp h)) source.split
+    ∙ (happened_at (is_withdraw i n done) stamp source.before source.event source.after (omega (arith, source.since, came.earlier)) (rw (source.origin, self_true i, self_true n, same_done done) refl))))
 answered i j hj before stamp w made = tt
+
+-- what was cleared was paired before every greater stamp
+source_taken : (i n sent stamp : ℕ) (h : List Event) → AtEach (λ before e. StampAt before e.stamp) h → Source i h sent (what.Clear n) → sent < stamp → is_taken (earlier_than stamp h) i n ≡ true
+source_taken i n sent stamp h stamps source later =
+    let split : h ≡ source.before ++ source.event ∷ source.after = source.split in
+    let pair : Pair = source.origin.0 in
+    ap (λ (h : List Event). is_taken (earlier_than stamp h) i n) split
+    ∙ taken_at i n stamp source.before source.event source.after pair (subst (λ (h : List Event). AtEach (λ before e. StampAt before e.stamp) h) split stamps)
+    (omega (arith, source.since, later)) source.origin.1 (is_cleared i n pair source.origin.2 source.origin.3)
 
 left : (i j : ℕ) (hj : List Event) (before : List Event) (stamp : ℕ) (w : Happened) → AtEach (λ before e. StampAt before e.stamp) hj → MadeByPacket (HasSource i hj) j before stamp w → OutAfterPair i j hj before stamp w
 left i j hj before stamp (Out to n) stamps made = on_test (to == j && is_asked (sends before j) n) (λ test.
     let came = made (same_number to j (and_left (to == j) (is_asked (sends before j) n) test)) (and_right (to == j) (is_asked (sends before j) n) test) in
     let source : Source i hj came.taken.packet.stamp (what.Clear n) = subst (λ w. Source i hj came.taken.packet.stamp w) came.same came.holds in
-    let pair : Pair = source.origin.0 in
-    true_is _ (subst (λ (h : List Event). is_taken (earlier_than stamp h) i n ≡ true) (sym source.split)
-    (taken_at i n stamp source.before source.event source.after pair
-    (subst (λ (h : List Event). AtEach (λ before e. StampAt before e.stamp) h) source.split stamps)
-    (omega (arith, source.since, came.earlier)) source.origin.1 (is_cleared i n pair source.origin.2 source.origin.3))))
+    true_is _ (source_taken i n came.taken.packet.stamp stamp hj stamps source came.earlier))
 left i j hj before stamp w stamps made = tt
 
 -- withdrawals and answers are in order

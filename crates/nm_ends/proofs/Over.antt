@@ -27,12 +27,10 @@ use Rattle.nm_protocol.specs.Known.{Known}
 use Rattle.nm_protocol.specs.Effects.{is_empty_send}
 use Rattle.nm_protocol.specs.Clearance.{to_push, pushed_out}
 use Rattle.nm_protocol.specs.Pieces.{Due, due_from, due_of, due_of_all, is_granted}
-use Rattle.nm_ends.proofs.Basic.{same_number, lt_true, and_left, and_right, or_left, both, at_true, on_test, any_gives, by-along, or_true}
-use Rattle.nm_ends.proofs.Numbers.{NumberedFrom, SentBefore, sends_numbered, sent_lasts}
+use Rattle.nm_protocol.proofs.Basic.{same_number, lt_true, and_left, and_right, or_left, both, at_true, on_test, any_gives, by-along, or_true, by_front}
+use Rattle.nm_ends.proofs.Numbers.{SentBefore}
 use Rattle.nm_ends.proofs.Clearing.{asked_numbers}
 use Rattle.nm_ends.proofs.Granting.{PairsSent, taken_is_asked, out_of_left, filter_has, each_at, send_is, same_sent}
-use Rattle.nm_ends.proofs.Cleared.{by_front}
-use Rattle.nm_ends.proofs.Fresh.{AtEach-prefix, sent_number}
 use Rattle.nm_ends.proofs.Ordered.{is_cleared}
 use Rattle.nm_ends.proofs.Pulling.{LastIsWhole}
 use Rattle.nm_ends.proofs.Causes.{HasSource, Source}
@@ -41,6 +39,7 @@ use Rattle.nm_types.specs.declared.packets.What.{What}
 use Rattle.nm_types.specs.declared.packets.What.TheVariants as what
 use Rattle.std.proofs.lemmas.List.Elements.{filter_map-append}
 use Rattle.std.specs.Option.{option_to_list}
+use Rattle.nm_protocol.proofs.Sent.{AtEach-prefix, sent_number, NumberedFrom, sends_numbered, sent_lasts}
 
 -- a message to this rank that was sent by asking and is paired has left
 pub asked_out : (i n stamp : ℕ) (j : ℕ) (h : List Event) (known : Known) (pairs : List Pair) (s : Sent) → PairsSent i (sends h j) stamp pairs → known.cleared ≡ asked_numbers i pairs → to_push h known j ≡ pushed_out h j →
@@ -152,6 +151,12 @@ still_taken i n h before after split taken =
     let more = matched_pairs-append before after in
     ap (λ (k : List Event). is_taken k i n) split ∙ rw (more.1, list_any-append (is_of_message i n) (matched_pairs before) more.0) (or_left _ _ taken)
 
+-- what was cleared is paired
+cleared_taken : (i n stamp : ℕ) (h : List Event) → Source i h stamp (what.Clear n) → is_taken h i n ≡ true
+cleared_taken i n stamp h source =
+    let pair : Pair = source.origin.0 in
+    taken_by i n h source.before source.event source.after pair source.split source.origin.1 (is_cleared i n pair source.origin.2 source.origin.3)
+
 -- a message that was sent by asking and has left is paired
 pub out_taken : (ranks i j n : ℕ) (hi hj : List Event) (s : Sent) → Always (NumberAt ranks) hi → Always EndAt hi → AtEach (MadeAt (HasSource i hj) j) hi → slice_get (sends hi j) n ≡ Some s → is_ask s.how ≡ true → happened (is_out j n) hi ≡ true → is_taken hj i n ≡ true
 out_taken ranks i j n hi hj s numbers ends made at asked out = by_found (found_at (is_out j n) hi out) where
@@ -166,7 +171,7 @@ out_taken ranks i j n hi hj s numbers ends made at asked out = by_found (found_a
       let asked_b : is_asked (sends b j) m ≡ true = lasts ∙ ap (λ (k : ℕ). is_asked (sends hi j) k) m_n ∙ send_is (sends hi j) (λ (s : Sent). is_ask s.how) n s (sends_numbered ranks j hi numbers) at ∙ asked in
       let came = made to_j asked_b in
       let source : Source i hj came.taken.packet.stamp (what.Clear m) = subst (λ (w : What). Source i hj came.taken.packet.stamp w) came.same came.holds in
-      taken_by i n hj source.before source.event source.after source.origin.0 source.split source.origin.1 (is_cleared i n source.origin.0 source.origin.2 (source.origin.3 ∙ m_n))
+      ap (λ (k : ℕ). is_taken hj i k) (sym m_n) ∙ cleared_taken i m came.taken.packet.stamp hj source
   by_what b e after split w end' made is = cc
 
   by_found : Found (is_out j n) hi → is_taken hj i n ≡ true

@@ -16,11 +16,11 @@ use Rattle.nm_history.specs.Once.{TwoMessages}
 use Rattle.nm_protocol.specs.Continues.{has}
 use Rattle.nm_protocol.specs.Pieces.{Pulled, Due, due_from, due_of, due_of_all, is_granted}
 use Rattle.nm_protocol.specs.Bytes.{piece_bytes, pulled_bytes}
-use Rattle.nm_ends.proofs.Basic.{same_number, self_true, eq_true, lt_false, and_left, and_right, or_left, or_right, or_false, refuted, by-along}
-use Rattle.nm_ends.proofs.Numbers.{NumberedFrom, numbered_at}
+use Rattle.nm_protocol.proofs.Basic.{same_number, self_true, eq_true, lt_false, and_left, and_right, or_left, or_right, or_false, refuted, by-along}
 use Rattle.nm_ends.proofs.Cutting.{Matches, Sized, sized_at, pieces_of_all}
 use Rattle.nm_ends.proofs.EagerBytes.{joined, joined_all}
 use Rattle.nm_ends.proofs.Over.{last_gives}
+use Rattle.nm_protocol.proofs.Sent.{NumberedFrom, numbered_at}
 
 -- the bytes of message n that pieces carry which are called for
 abbrev pub ring_bytes : ℕ → List CalledPiece → List ℕ

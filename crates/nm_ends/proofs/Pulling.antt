@@ -16,11 +16,11 @@ use Rattle.nm_protocol.proofs.Growing.{due_pieces-append, count_continued-push}
 use Rattle.nm_ends.specs.Moments.{Moment, Cause, history_of, pulled_from, pulled_of, EachMomentAfter}
 use Rattle.nm_ends.specs.Moments.Cause.{Acted, Took, Drew}
 use Rattle.nm_ends.specs.Sound.{AreSound, MayHappen, MadeBy}
-use Rattle.nm_ends.proofs.Basic.{same_number, self_true, eq_true, or_left, or_right, by-along, happened_in}
+use Rattle.nm_protocol.proofs.Basic.{same_number, self_true, eq_true, or_left, or_right, by-along, happened_in}
 use Rattle.nm_ends.proofs.Delivering.{history-push}
-use Rattle.nm_ends.proofs.Fresh.{happened-append}
 use Rattle.nm_ends.proofs.Numbers.{at_seam}
 use Rattle.nm_ends.proofs.Cutting.{Matches, get_front}
+use Rattle.nm_protocol.proofs.Sent.{happened-append}
 
 -- the last piece of a message made it whole
 abbrev pub LastIsWhole : ℕ → List Event → Due → Type 0

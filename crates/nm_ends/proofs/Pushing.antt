@@ -11,7 +11,7 @@ use Rattle.nm_history.specs.declared.events.Event.{Event}
 use Rattle.nm_history.specs.declared.events.Happened.{Happened}
 use Rattle.nm_history.specs.declared.events.Happened.TheVariants.{Out}
 use Rattle.nm_history.specs.AtEach.{AtEachAfter}
-use Rattle.nm_history.specs.Sends.{Sent, sends, is_ask}
+use Rattle.nm_history.specs.Sends.{Sent, sends}
 use Rattle.nm_history.specs.Happens.{happened, is_out}
 use Rattle.nm_history.specs.Delivery.{is_asked}
 use Rattle.nm_history.specs.RankRun.{Always, NumberAt, EndAt}
@@ -25,70 +25,13 @@ use Rattle.nm_ends.specs.Moments.{Moment, Cause, history_of, taken_from, taken_o
 use Rattle.nm_ends.specs.Moments.Cause.{Acted, Took, Drew}
 use Rattle.nm_ends.specs.Sound.{AreSound, MayHappen, MadeBy, OwnEvent}
 use Rattle.nm_ends.specs.Ends.{ClearedHaveLeft}
-use Rattle.nm_ends.proofs.Basic.{same_number, self_true, and_left, and_right, or_left, or_right, at_true, by-append, by-along, happened_in}
+use Rattle.nm_protocol.proofs.Basic.{same_number, self_true, and_left, and_right, or_left, or_right, at_true, by-append, by-along, happened_in}
 use Rattle.nm_ends.proofs.Arriving.{known-push}
 use Rattle.nm_ends.proofs.Delivering.{history-push}
-use Rattle.nm_ends.proofs.Fresh.{AtEach-prefix, happened-append, sends_grow, sent_number}
-use Rattle.nm_ends.proofs.Numbers.{any_within, sends_numbered, sent_lasts}
 use Rattle.nm_ends.proofs.Made.{clear_parts, known_cleared}
 use Rattle.nm_ends.proofs.Streams.{clear_of}
-
--- what holds of each event by a split holds of each
-pub by_splits : (P : Event → Type 0) (h before events : List Event) → h ≡ before ++ events → ((b : List Event) (e : Event) (after : List Event) → h ≡ b ++ e ∷ after → P e) → AllByRecursion P events
-by_splits P h before [] same each = tt
-by_splits P h before (e ∷ events) same each = (each before e events same, by_splits P h (before ++ e ∷ []) events (same ∙ sym (append_assoc before (e ∷ []) events)) each)
-
-filter_same : {X : Type 0} (p q : X → Bool) (xs : List X) → AllByRecursion (λ x. p x ≡ q x) xs → filter p xs ≡ filter q xs
-filter_same p q [] each = refl
-filter_same p q (x ∷ xs) each = rw (each.0, filter_same p q xs each.1) refl
-
-filter_map_same : {X Y : Type 0} (f g : X → Option Y) (xs : List X) → AllByRecursion (λ x. f x ≡ g x) xs → filter_map f xs ≡ filter_map g xs
-filter_map_same f g [] each = refl
-filter_map_same f g (x ∷ xs) each = rw (each.0, filter_map_same f g xs each.1) refl
-
--- a rank's whole history, of which these events are the first
-record Whole_of (ranks : ℕ) (whole h : List Event) : Type 0 where
-  more : List Event
-  split : whole ≡ h ++ more
-  numbers : Always (NumberAt ranks) whole
-  ends : Always EndAt whole
-
-early_ends : (ranks : ℕ) (whole h : List Event) → Whole_of ranks whole h → Always EndAt h
-early_ends ranks whole h of' = AtEach-prefix (λ before e. EndAt before e.what) h of'.more (subst (λ (k : List Event). Always EndAt k) of'.split of'.ends)
-
-early_numbers : (ranks : ℕ) (whole h : List Event) → Whole_of ranks whole h → Always (NumberAt ranks) h
-early_numbers ranks whole h of' = AtEach-prefix (λ before e. NumberAt ranks before e.what) h of'.more (subst (λ (k : List Event). Always (NumberAt ranks) k) of'.split of'.numbers)
-
--- what a message that was sent is does not change
-empty_lasts : (ranks j n : ℕ) (whole h : List Event) → Whole_of ranks whole h → n < length (sends h j) → is_empty_send h j n ≡ is_empty_send whole j n
-empty_lasts ranks j n whole h of' early = sent_lasts ranks j n (λ (s : Sent). s.len == 0) whole h of'.more of'.split of'.numbers early
-
-asked_lasts : (ranks j n : ℕ) (whole h : List Event) → Whole_of ranks whole h → n < length (sends h j) → is_asked (sends h j) n ≡ is_asked (sends whole j) n
-asked_lasts ranks j n whole h of' early = sent_lasts ranks j n (λ (s : Sent). is_ask s.how) whole h of'.more of'.split of'.numbers early
-
-asked_early : (ranks j n : ℕ) (h : List Event) → Always (NumberAt ranks) h → is_asked (sends h j) n ≡ true → n < length (sends h j)
-asked_early ranks j n h numbers asked = let within = any_within (λ (s : Sent). s.n) (λ (s : Sent). is_ask s.how) 0 n (sends h j) (sends_numbered ranks j h numbers) asked in omega (arith, within)
-
--- what left is the same by a rank's whole history
-left_lasts : (ranks j : ℕ) (whole h : List Event) → Whole_of ranks whole h → pushed_out h j ≡ filter_map (λ e. left_of whole j e.what) h
-left_lasts ranks j whole h of' =
-    filter_map_same (λ (e : Event). left_of h j e.what) (λ e. left_of whole j e.what) h
-    (by_splits (λ (e : Event). left_of h j e.what ≡ left_of whole j e.what) h [] h refl (λ b e after split.
-    one b e after split e.what (AtEach-split (λ before e. EndAt before e.what) b e after (subst (λ (k : List Event). Always EndAt k) split (early_ends ranks whole h of')))))
-  where
-    one : (b : List Event) (e : Event) (after : List Event) → h ≡ b ++ e ∷ after → (w : Happened) → EndAt b w → left_of h j w ≡ left_of whole j w
-    one b e after split (Out to n) end' = by_to (to == j) refl where
-      by_to : (x : Bool) → (to == j) ≡ x → cond (x && is_asked (sends h j) n && not (is_empty_send h j n)) (Some n) None ≡ cond (x && is_asked (sends whole j) n && not (is_empty_send whole j n)) (Some n) None
-      by_to false test = refl
-      by_to true test =
-          let numbers_b = AtEach-prefix (λ before e. NumberAt ranks before e.what) b (e ∷ after) (subst (λ (k : List Event). Always (NumberAt ranks) k) split (early_numbers ranks whole h of')) in
-          let first : n < length (sends b to) = sent_number ranks b to n numbers_b end'.1 in
-          let to_j : length (sends b to) ≡ length (sends b j) = ap (λ (k : ℕ). length (sends b k)) (same_number to j test) in
-          let grown = sends_grow b (e ∷ after) j in
-          let count : length (sends h j) ≡ length (sends (b ++ e ∷ after) j) = ap (λ (k : List Event). length (sends k j)) split in
-          let early : n < length (sends h j) = omega (arith, first, to_j, grown, count) in
-          rw (asked_lasts ranks j n whole h of' early, empty_lasts ranks j n whole h of' early) refl
-    one b e after split w end' = refl
+use Rattle.nm_protocol.proofs.Sent.{happened-append, sends_grow, sent_number}
+use Rattle.nm_protocol.proofs.Lasting.{filter_same, IsFront, early_numbers, empty_lasts, asked_lasts, asked_early, left_lasts}
 
 -- of the messages that were cleared those with a body leave in their turn, and the others at once
 record Pushes (whole : List Event) (j : ℕ) (h : List Event) (known : Known) : Type 0 where
@@ -142,7 +85,7 @@ turn_push whole j h e known n leaves turn was =
     }
 
 -- an event of the rank's own
-own_push : (ranks eager : ℕ) (bodies : Sent → List ℕ) (commands : List Numbered) (whole : List Event) (j : ℕ) (log : List Moment) (h : List Event) (e : Event) → Whole_of ranks whole h →
+own_push : (ranks eager : ℕ) (bodies : Sent → List ℕ) (commands : List Numbered) (whole : List Event) (j : ℕ) (log : List Moment) (h : List Event) (e : Event) → IsFront ranks whole h →
     OwnEvent eager bodies commands log h e.stamp e.what → EndAt h e.what → Pushes whole j h (known_by (taken_from j log)) → Pushes whole j (h ++ e ∷ []) (known_by (taken_from j log))
 own_push ranks eager bodies commands whole j log h e of' own end' was = by_left (left_of whole j e.what) refl where
   known : Known
@@ -179,14 +122,14 @@ own_push ranks eager bodies commands whole j log h e of' own end' was = by_left 
   by_left None none = none_new none
   by_left (Some n) leaves = turn_push whole j h e known n leaves (in_turn e.what n own end' leaves) was
 
-own_pushes : (ranks eager : ℕ) (bodies : Sent → List ℕ) (commands : List Numbered) (whole : List Event) (j : ℕ) (log : List Moment) (h events : List Event) → Whole_of ranks whole (h ++ events) →
+own_pushes : (ranks eager : ℕ) (bodies : Sent → List ℕ) (commands : List Numbered) (whole : List Event) (j : ℕ) (log : List Moment) (h events : List Event) → IsFront ranks whole (h ++ events) →
     AtEachAfter (λ h e. OwnEvent eager bodies commands log h e.stamp e.what) h events → Pushes whole j h (known_by (taken_from j log)) → Pushes whole j (h ++ events) (known_by (taken_from j log))
 own_pushes ranks eager bodies commands whole j log h [] of' own was = subst (λ (k : List Event). Pushes whole j k (known_by (taken_from j log))) (sym (append-nil h)) was
 own_pushes ranks eager bodies commands whole j log h (e ∷ events) of' own was =
     let split : whole ≡ h ++ (e ∷ events ++ of'.more) = of'.split ∙ append_assoc h (e ∷ events) of'.more in
-    let of_h : Whole_of ranks whole h = record { more = e ∷ events ++ of'.more; split = split; numbers = of'.numbers; ends = of'.ends } in
+    let of_h : IsFront ranks whole h = record { more = e ∷ events ++ of'.more; split = split; numbers = of'.numbers; ends = of'.ends } in
     let end' = AtEach-split (λ before e. EndAt before e.what) h e (events ++ of'.more) (subst (λ (k : List Event). Always EndAt k) split of'.ends) in
-    let of_next : Whole_of ranks whole ((h ++ e ∷ []) ++ events) = record { more = of'.more; split = of'.split ∙ ap (λ (k : List Event). k ++ of'.more) (sym (append_assoc h (e ∷ []) events)); numbers = of'.numbers; ends = of'.ends } in
+    let of_next : IsFront ranks whole ((h ++ e ∷ []) ++ events) = record { more = of'.more; split = of'.split ∙ ap (λ (k : List Event). k ++ of'.more) (sym (append_assoc h (e ∷ []) events)); numbers = of'.numbers; ends = of'.ends } in
     subst (λ (k : List Event). Pushes whole j k (known_by (taken_from j log))) (append_assoc h (e ∷ []) events)
     (own_pushes ranks eager bodies commands whole j log (h ++ e ∷ []) events of_next own.1 (own_push ranks eager bodies commands whole j log h e of_h own.0 end' was))
 
@@ -249,7 +192,7 @@ new_each P j t holds = by_from (t.packet.from == j) refl where
   by_from true test = by_clear (clear_of t) refl (same_number t.packet.from j test)
 
 -- a moment
-cause_push : (ranks eager : ℕ) (bodies : Sent → List ℕ) (commands : List Numbered) (whole : List Event) (j : ℕ) (before : List Moment) (c : Cause) (events : List Event) → Whole_of ranks whole (history_of before ++ events) →
+cause_push : (ranks eager : ℕ) (bodies : Sent → List ℕ) (commands : List Numbered) (whole : List Event) (j : ℕ) (before : List Moment) (c : Cause) (events : List Event) → IsFront ranks whole (history_of before ++ events) →
     MadeBy eager bodies commands before c events → Pushes whole j (history_of before) (known_by (taken_from j before)) → Pushes whole j (history_of before ++ events) (fold known_after (known_by (taken_from j before)) (cons_option (taken_of j c) []))
 cause_push ranks eager bodies commands whole j before Acted events of' made was = own_pushes ranks eager bodies commands whole j before (history_of before) events of' made was
 cause_push ranks eager bodies commands whole j before (Drew d) events of' made was =
@@ -276,7 +219,7 @@ cause_push ranks eager bodies commands whole j before (Took t) events of' made w
     kn : Known
     kn = known_by (taken_from t.packet.from before)
 
-    of_h : Whole_of ranks whole (history_of before)
+    of_h : IsFront ranks whole (history_of before)
     of_h = record { more = events ++ of'.more; split = of'.split ∙ append_assoc (history_of before) events of'.more; numbers = of'.numbers; ends = of'.ends }
 
     early : (n : ℕ) → t.packet.from ≡ j → t.continued ≡ true → t.packet.what ≡ what.Clear n → n < length (sends (history_of before) j)
@@ -296,7 +239,7 @@ log_pushes ranks eager bodies commands whole j before [] sound split numbers end
     subst (λ (k : List Event). Pushes whole j k (known_by (taken_from j before ++ []))) (sym (split ∙ append-nil (history_of before)))
     (subst (λ (ts : List Taken). Pushes whole j (history_of before) (known_by ts)) (sym (append-nil (taken_from j before))) was)
 log_pushes ranks eager bodies commands whole j before (m ∷ log) sound split numbers ends was =
-    let of' : Whole_of ranks whole (history_of before ++ m.events) = record { more = history_of log; split = split ∙ sym (append_assoc (history_of before) m.events (history_of log)); numbers = numbers; ends = ends } in
+    let of' : IsFront ranks whole (history_of before ++ m.events) = record { more = history_of log; split = split ∙ sym (append_assoc (history_of before) m.events (history_of log)); numbers = numbers; ends = ends } in
     let step = cause_push ranks eager bodies commands whole j before m.cause m.events of' sound.0.made was in
     let next : Pushes whole j (history_of (before ++ m ∷ [])) (known_by (taken_from j (before ++ m ∷ []))) =
     subst (λ (h : List Event). Pushes whole j h (known_by (taken_from j (before ++ m ∷ [])))) (sym (history-push before m))

@@ -27,9 +27,9 @@ use Rattle.nm_protocol.specs.Known.{Known, Taken, known_by}
 use Rattle.nm_ends.specs.Moments.Cause.{Acted, Took, Drew}
 use Rattle.nm_ends.proofs.Streaming.{Carries}
 use Rattle.nm_ends.proofs.Causes.{Source, HasSource}
-use Rattle.nm_ends.proofs.Answers.{history_clashes, history_bare, BareCalled}
+use Rattle.nm_ends.proofs.Clashing.{history_clashes, history_bare, BareCalled}
 use Rattle.nm_ends.proofs.Answering.{Goes, Bare, answers_go, asks}
-use Rattle.nm_ends.proofs.Basic.{same_number, self_true, and_left, and_right, or_left, or_right, at_true, by-along, by-both, happened_in, any_gives}
+use Rattle.nm_protocol.proofs.Basic.{same_number, self_true, and_left, and_right, or_left, or_right, at_true, by-along, by-both, happened_in, any_gives}
 
 carried_whats : (i num : ℕ) (called : List Called) (ts : List Taken) → Carries i num called ts → map (λ c. c.what) called ≡ map (λ t. t.packet.what) ts
 carried_whats i num [] [] carries = refl

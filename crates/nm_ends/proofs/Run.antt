@@ -25,14 +25,14 @@ use Rattle.nm_ends.specs.Moments.{history_of}
 use Rattle.nm_ends.specs.Ends.{AreEnds}
 use Rattle.nm_ends.specs.Finished.{Finished, ended_of, AreAllEnds}
 use Rattle.nm_ends.specs.Settled.{AreSettled, RecallAnswered}
-use Rattle.nm_ends.proofs.Basic.{same_number, self_true, and_left, and_right, at_true}
+use Rattle.nm_protocol.proofs.Basic.{same_number, self_true, and_left, and_right, at_true}
 use Rattle.nm_ends.proofs.Over.{Found, found_at}
-use Rattle.nm_ends.proofs.Pushing.{by_splits}
 use Rattle.nm_ends.proofs.Recalls.{all_at}
 use Rattle.nm_ends.proofs.Shown.{IsCommanded, SendsTo, sends_commanded}
 use Rattle.nm_ends.proofs.Settled.{ends_settle}
 use Rattle.nm_history.specs.Delivery.{AreDelivered}
 use Rattle.nm_history.specs.Sends.{arrivals, sends}
+use Rattle.nm_protocol.proofs.Lasting.{by_splits}
 
 -- the commands of a script are in range
 in_range_from : (ranks rank number : ℕ) (lines : List Line) → list_all (λ line. nat_lt line.rank ranks && is_in_range ranks line.command) lines ≡ true → AllByRecursion (λ (c : Numbered). is_in_range ranks c.command ≡ true) (commands_from rank number lines)

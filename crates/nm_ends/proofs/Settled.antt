@@ -19,10 +19,10 @@ use Rattle.nm_ends.proofs.Wholes.{eager_here, eager_over}
 use Rattle.std.proofs.Common.{true}
 use Rattle.nm_ends.proofs.Recalls.{carried_go, undone_go, recall_answered, recalls_all, withdrawal_goes, answer_goes, is_withdrawal, is_answer_to}
 use Rattle.nm_ends.proofs.Delivering.{stream_arrives, sender_at, history-append}
-use Rattle.nm_ends.proofs.Basic.{by-along, eq_true, or_right, same_number}
-use Rattle.nm_ends.proofs.Fresh.{fresh_at, happened-append}
-use Rattle.nm_ends.proofs.Cleared.{ClearContinued, all_continued, clears_go, by_front}
-use Rattle.nm_ends.proofs.Numbers.{SentAs, arrivals_sent, NumberedFrom, SentBefore, pairs_came, sends_numbered}
+use Rattle.nm_protocol.proofs.Basic.{by-along, eq_true, or_right, same_number, by_front}
+use Rattle.nm_ends.proofs.Fresh.{fresh_at}
+use Rattle.nm_ends.proofs.Cleared.{ClearContinued, all_continued, clears_go}
+use Rattle.nm_ends.proofs.Numbers.{SentAs, arrivals_sent, SentBefore, pairs_came}
 use Rattle.nm_ends.proofs.Clearing.{asked_numbers, cleared_are_paired}
 use Rattle.nm_ends.proofs.Cutting.{Matches, Sized, pairs_match, pieces_of_all, ring_is, sends_sized, sized_at}
 use Rattle.nm_ends.proofs.Granting.{PairsSent, all_sent, granted_numbers}
@@ -40,8 +40,8 @@ use Rattle.nm_protocol.specs.Effects.{is_empty_send}
 use Rattle.nm_protocol.specs.Pieces.{due_pieces, granted, Pulled, is_granted}
 use Rattle.nm_ends.proofs.Bodies.{asked_among, message_how, no_front, own_messages, pair_came, shows, whole_once}
 use Rattle.nm_ends.proofs.EagerBytes.{eager_all, eager_body_at}
-use Rattle.nm_ends.proofs.Got.{AnswerIn, OwnMoment, answers_have_moments}
-use Rattle.nm_ends.proofs.Moment.{eager_came, pieces_came, pulled_around}
+use Rattle.nm_ends.proofs.AnswerMoments.{AnswerIn, OwnMoment, answers_have_moments}
+use Rattle.nm_ends.proofs.BytesCame.{eager_came, pieces_came, pulled_around}
 use Rattle.nm_ends.proofs.PieceBytes.{all_bytes, granted_distinct, granted_has, numbers_in, piece_bytes-append, pulled_is_called, ring_bytes}
 use Rattle.nm_ends.proofs.Shown.{sends_commanded}
 use Rattle.nm_ends.specs.Sound.{OwnEvent, bytes_of_message}
@@ -58,6 +58,7 @@ use Rattle.nm_types.specs.declared.messages.Arrival.{Arrival}
 use Rattle.nm_types.specs.declared.messages.Envelope.{Envelope}
 use Rattle.nm_types.specs.declared.scripts.Command.{Command}
 use Rattle.std.specs.Prelude.{IfSome, option_and_then}
+use Rattle.nm_protocol.proofs.Sent.{happened-append, NumberedFrom, sends_numbered}
 
 pub messages_settled : (shape : Sizes) (i j : ℕ) (ci cj : List Numbered) (ati atj : ℕ) (li lj : List Moment) → AreEnds shape i j ci cj ati atj li lj →
     AllByRecursion StreamContinued (taken_from i lj) × ArriveInOrder i (sends (history_of li) j) (arrivals (history_of lj) i) × (length (arrivals (history_of lj) i) ≡ length (sends (history_of li) j)) × (completed nothing_known (taken_from i lj) ≡ eager_numbers (sends (history_of li) j))

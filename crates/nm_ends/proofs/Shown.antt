@@ -21,8 +21,8 @@ use Rattle.nm_history.specs.Answers.{live, answer_of, Message, live_message, is_
 use Rattle.nm_history.specs.Delivery.{asked_pair, pair_of_request}
 use Rattle.nm_history.specs.RankRun.{StartAt, Starts, start_of, starts_since, since_command, since_after, is_start, without_number}
 use Rattle.nm_protocol.proofs.Growing.{fold-append}
-use Rattle.nm_ends.proofs.Cleared.{by_front}
 use Rattle.nm_history.specs.Sends.{sends}
+use Rattle.nm_protocol.proofs.Basic.{by_front}
 
 -- a receive's result that shows a message is of one that is here
 result_here : (h : List Event) (number source tag : ℕ) (body : List ℕ) (pair : Pair) → result_of h (Receiving number) ≡ Some (answer.Got source tag body) → pair_of_receive h number ≡ Some pair → is_here h pair ≡ true

@@ -23,7 +23,7 @@ use Rattle.nm_history.specs.Matching.{matched_pairs, new_pair}
 use Rattle.nm_ends.proofs.Streams.{Announced, announced_as, announced_by, announced, StreamIsRight, completes, completed, Announces, StreamGoes, SenderAt, eager_numbers}
 use Rattle.nm_protocol.specs.Continues.{continues_stream, is_of_stream, WORN_STAMP}
 use Rattle.nm_protocol.specs.Known.{Known, Taken, known_after, learned}
-use Rattle.nm_ends.proofs.Basic.{same_number, eq_true, eq_false, lt_true, le_true, at_true, or_false}
+use Rattle.nm_protocol.proofs.Basic.{same_number, eq_true, eq_false, lt_true, le_true, at_true, or_false}
 
 -- no packet has a stamp past the last
 abbrev pub InTime : List Taken → Type 0

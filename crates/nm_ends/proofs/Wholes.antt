@@ -20,7 +20,7 @@ use Rattle.nm_protocol.specs.Effects.{happenings, packet_makes, ask_ends, whole_
 use Rattle.nm_protocol.specs.Known.{Known, known_by, known_after, nothing_known}
 use Rattle.nm_ends.specs.Moments.Cause.{Acted, Took, Drew}
 use Rattle.nm_ends.proofs.Arriving.{known-push}
-use Rattle.nm_ends.proofs.Basic.{same_number, self_true, both, or_left, or_right, by-along, happened_in}
+use Rattle.nm_protocol.proofs.Basic.{same_number, self_true, both, or_left, or_right, by-along, happened_in}
 
 whole_here : (from n m : ℕ) (b : Bool) (rest : List Happened) → cond b (Some m) None ≡ Some n → list_any (is_whole from n) (whole_if b from m ++ rest) ≡ true
 whole_here from n m false rest is = cc

@@ -48,8 +48,8 @@ pub record IsEnd (shape : Sizes) (commands : List Numbered) (at : ℕ) (log : Li
   pub empty : EmptyAreHere (history_of log)
 
 -- The channel from rank i to rank j is empty: the packets and pieces that j took from i are those
--- that the history of i calls for, each message that j cleared has left i, and no packet has a stamp
--- past the last.
+-- that the history of i calls for, each message that j cleared has left i, and no packet has a
+-- stamp past the last.
 pub record IsChannel (i j : ℕ) (commands : List Numbered) (li lj : List Moment) : Type 0 where
   pub packets :
       AreCalled i 0 (outgoing (sent_body commands) (history_of li) j)

@@ -1,5 +1,5 @@
--- The moments of a rank: its events, with the packets and pieces that it took. No program keeps them:
--- they are what its calls did, one after another.
+-- The moments of a rank: its events, with the packets and pieces that it took. No program keeps
+-- them: they are what its calls did, one after another.
 use Rattle.std.specs.Prelude.{ℕ, ◌+◌, ◌==◌, max, if◌then◌else◌, Option, Some, None, List, [], ◌∷◌}
 use Rattle.std.specs.Prelude.{◌++◌, length, fold, filter_map}
 use Rattle.nm_history.specs.declared.events.Event.{Event}

@@ -10,8 +10,8 @@ use Rattle.nm_types.specs.declared.answers.Answer.TheVariants.{Got}
 use Rattle.nm_types.specs.Commands.{Numbered, command_at}
 use Rattle.nm_history.specs.declared.events.Event.{Event}
 use Rattle.nm_history.specs.declared.events.Happened.{Happened}
-use Rattle.nm_history.specs.declared.events.Happened.TheVariants.{Send, Arrive, Out, Withdraw, Undone}
-use Rattle.nm_history.specs.declared.events.Happened.TheVariants.{Ran}
+use Rattle.nm_history.specs.declared.events.Happened.TheVariants.{Send, Arrive, Out, Withdraw}
+use Rattle.nm_history.specs.declared.events.Happened.TheVariants.{Undone, Ran}
 use Rattle.nm_history.specs.AtEach.{AtEachAfter}
 use Rattle.nm_history.specs.Sends.{Sent, sends, is_ask, message_of}
 use Rattle.nm_history.specs.Delivery.{asked_pair, is_asked}
@@ -40,8 +40,8 @@ pub record IsSendable (eager : ℕ) (bodies : Sent → List ℕ) (s : Sent) : Ty
   pub sized : length (bodies s) ≡ s.len
 
 -- What a rank does by itself after these moments, with these events before: it takes no message in
--- and answers no recall, a send is in range, a message that was sent by asking and has a body leaves
--- in its turn among those that were cleared, and a result shows the bytes that came.
+-- and answers no recall, a send is in range, a message that was sent by asking and has a body
+-- leaves in its turn among those that were cleared, and a result shows the bytes that came.
 abbrev pub OwnEvent :
     ℕ → (Sent → List ℕ) → List Numbered → List Moment → List Event → ℕ → Happened → Type 0
 OwnEvent eager bodies commands log h stamp (Arrive a) = ⊥
@@ -67,8 +67,8 @@ OwnEvent eager bodies commands log h stamp (Ran line (Got source tag body)) =
     (λ pair. body ≡ bytes_of_message log pair.arrival.env.from pair.arrival.n)
 OwnEvent eager bodies commands log h stamp _ = Unit {0}
 
--- The events of a moment, by its cause. A packet continues its stream or is a stray; a piece is taken
--- only where one is due, and continues where it is that one.
+-- The events of a moment, by its cause. A packet continues its stream or is a stray; a piece is
+-- taken only where one is due, and continues where it is that one.
 abbrev pub MadeBy : ℕ → (Sent → List ℕ) → List Numbered → List Moment → Cause → List Event → Type 0
 MadeBy eager bodies commands before Acted events =
     AtEachAfter (λ h e. OwnEvent eager bodies commands before h e.stamp e.what) (history_of before)

@@ -28,7 +28,8 @@ abbrev pub second : List Moment
 second =
     takes (packet 0 0 1 (what.Ask 0 0 1) [] (lit< tt) (lit≤ tt))
     (at 2
-    (Arrive (record { n = 0; env = record { from = 0; tag = 0; ctx = 0; len = 1; how = Ask } })) ∷ [])
+    (Arrive (record { n = 0; env = record { from = 0; tag = 0; ctx = 0; len = 1; how = Ask } }))
+    ∷ [])
     ∷ acts (at 3 (Claim 0 0 4) ∷ [])
     ∷ acts (at 4 (Ran 4 (answer.Seen (record { from = 0; tag = 0; len = 1 }))) ∷ []) ∷ []
 

@@ -51,7 +51,8 @@ abbrev pub receives : ℕ → ℕ → List ℕ → List Moment
 receives stamp place shown =
     takes (packet 0 0 1 (what.Ask 0 0 9) [] (lit< tt) (lit≤ tt))
     (at stamp
-    (Arrive (record { n = 0; env = record { from = 0; tag = 0; ctx = 0; len = 9; how = Ask } })) ∷ [])
+    (Arrive (record { n = 0; env = record { from = 0; tag = 0; ctx = 0; len = 9; how = Ask } }))
+    ∷ [])
     ∷ acts
     (at 3 (Post (record { number = 0; from = peer.Any; tag = pick.Any; ctx = 0; cap = 9 }) 4) ∷ [])
     ∷ acts (at 4 (Ran 4 answer.Started) ∷ [])

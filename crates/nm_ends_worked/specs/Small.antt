@@ -23,7 +23,8 @@ abbrev pub rank_line : ℕ → Command → Line
 rank_line rank command = record { rank = rank; command = command }
 
 -- a packet of rank 0 or 1, with its number, its stamp and its payload
-abbrev pub packet : (from seq stamp : ℕ) → What → List ℕ → seq < MAX_PACKETS → stamp ≤ MAX_STAMP → Packet
+abbrev pub packet :
+    (from seq stamp : ℕ) → What → List ℕ → seq < MAX_PACKETS → stamp ≤ MAX_STAMP → Packet
 packet from seq stamp what payload few early =
     record {
       from = from;

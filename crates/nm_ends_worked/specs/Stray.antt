@@ -14,7 +14,8 @@ use Rattle.nm_ends_worked.specs.Small.{at, packet, acts, takes}
 
 -- a packet that doesn't continue its stream
 abbrev pub strays : Packet → List Event → Moment
-strays p events = record { cause = Took (record { packet = p; continued = false }); events = events }
+strays p events =
+    record { cause = Took (record { packet = p; continued = false }); events = events }
 
 -- the stray makes these happen, and then a command ran
 abbrev pub log : List Event → Moment → List Moment

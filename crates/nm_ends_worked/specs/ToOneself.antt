@@ -32,7 +32,8 @@ only =
     ∷ acts (at 4 (Ran 3 answer.Started) ∷ [])
     ∷ takes (packet 0 0 3 (what.Ask 0 0 1) [] (lit< tt) (lit≤ tt))
     (at 5
-    (Arrive (record { n = 0; env = record { from = 0; tag = 0; ctx = 0; len = 1; how = Ask } })) ∷ [])
+    (Arrive (record { n = 0; env = record { from = 0; tag = 0; ctx = 0; len = 1; how = Ask } }))
+    ∷ [])
     ∷ takes (packet 0 1 5 (what.Clear 0) [] (lit< tt) (lit≤ tt)) []
     ∷ acts (at 6 (Out 0 0) ∷ [])
     ∷ draws (piece 0 0 0 0 (7 ∷ []) (lit< tt)) (at 7 (Whole 0 0) ∷ [])

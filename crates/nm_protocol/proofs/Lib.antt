@@ -1,1 +1,5 @@
+pub mod Basic
 pub mod Growing
+pub mod Agreeing
+pub mod Sent
+pub mod Lasting

@@ -1,4 +1,5 @@
--- A rank's clock. Lamport 1978: each event adds 1, and a packet sets the clock forward to its stamp.
+-- A rank's clock. Lamport 1978: each event adds 1, and a packet sets the clock forward to its
+-- stamp.
 use Rattle.std.specs.Prelude.{◌≡◌, ℕ, ◌+◌, List, [], ◌∷◌}
 use Rattle.nm_history.specs.declared.events.Event.{Event}
 use Rattle.nm_history.specs.declared.events.Happened.{Happened}

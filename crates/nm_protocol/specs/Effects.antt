@@ -36,8 +36,8 @@ next_arrival known from tag ctx len how =
     }
 
 -- What a packet of this rank makes happen first: a message arrives, and one whose last byte came is
--- here; an empty message that was cleared leaves; a message is withdrawn if it is free, or it is too
--- late; a recall has its answer.
+-- here; an empty message that was cleared leaves; a message is withdrawn if it is free, or it is
+-- too late; a recall has its answer.
 abbrev pub packet_makes : Known → List Event → ℕ → What → ℕ → List Happened
 packet_makes known h from (what.Head tag ctx len) size =
     Arrive (next_arrival known from tag ctx len how.Eager) ∷ whole_if (len == size) from known.count

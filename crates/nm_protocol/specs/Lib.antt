@@ -1,3 +1,4 @@
+pub mod Agreement
 pub mod Bytes
 pub mod Clearance
 pub mod Clock

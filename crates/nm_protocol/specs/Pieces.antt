@@ -1,6 +1,8 @@
--- The pieces of long messages that are due, and what a piece makes happen at the rank that takes it.
+-- The pieces of long messages that are due, and what a piece makes happen at the rank that takes
+-- it.
 use Rattle.std.specs.Prelude.{ℕ, zero, suc, ◌+◌, ◌-◌, ◌==◌, Bool, not, ◌&&◌, nat_lt, nat_le, min}
-use Rattle.std.specs.Prelude.{if◌then◌else◌, Option, Some, None, List, [], ◌∷◌, ◌++◌, length, filter}
+use Rattle.std.specs.Prelude.{if◌then◌else◌, Option, Some, None, List, [], ◌∷◌, ◌++◌, length}
+use Rattle.std.specs.Prelude.{filter}
 use Rattle.nm_types.specs.declared.limits.TheConstants.{MAX_PIECE}
 use Rattle.nm_types.specs.declared.packets.Piece.{Piece}
 use Rattle.nm_history.specs.declared.events.Event.{Event}
@@ -66,7 +68,8 @@ count_continued pieces = length (filter (λ d. d.continued) pieces)
 abbrev pub is_due : Piece → Due → Bool
 is_due q due = q.n == due.n && q.at == due.at && length q.bytes == due.size
 
--- what a piece of this rank makes happen where this one is due: the last one makes its message whole
+-- what a piece of this rank makes happen where this one is due: the last one makes its message
+-- whole
 abbrev pub piece_makes : ℕ → Option Due → Piece → List Happened
 piece_makes from None q = []
 piece_makes from (Some due) q = whole_if (is_due q due && due.last) from q.n

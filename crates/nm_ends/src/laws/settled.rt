@@ -21,8 +21,8 @@ pub fn ends_are_settled()
 {}
 
 /// Where this holds of each two ranks of a script, each rank is at its end or waits for what can't
-/// come, and the counts of packets are those that the histories call for, the histories are a run of
-/// the script.
+/// come, and the counts of packets are those that the histories call for, the histories are a run
+/// of the script.
 pub fn ends_make_a_run()
     ensures { (shape : Sizes) (lines : List Line) (ranks : List Finished)
         (packets : List Packets) → IsScript shape.ranks lines → length ranks ≡ shape.ranks →

@@ -2,7 +2,7 @@
 use Rattle.std.proofs.Common.{◌∷◌, []}
 use Rattle.std.proofs.lemmas.List.Elements.{filter_map-append}
 use Rattle.nm_ends.specs.Moments.{Moment, clock_after, pulled_of}
-use Rattle.nm_ends.proofs.Onward.{sound-push}
+use Rattle.nm_ends.proofs.Logs.{sound-push}
 use Rattle.nm_ends.proofs.Arriving.{known-push}
 use Rattle.nm_ends.proofs.Delivering.{history-push}
 use Rattle.nm_ends.proofs.laws.logs.moments_go_on.Goals as goal

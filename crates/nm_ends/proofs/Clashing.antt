@@ -22,7 +22,7 @@ use Rattle.nm_ends.proofs.Streams.{clashes, NoClash, FreshAt}
 use Rattle.nm_protocol.specs.Continues.{is_of_stream}
 use Rattle.nm_ends.proofs.Causes.{Origin, event_calls}
 use Rattle.nm_ends.proofs.Ordered.{is_cleared}
-use Rattle.nm_ends.proofs.Basic.{same_number, self_true, and_left, and_right, or_left, or_true, same_done, refuted, by-append, by-along, all_of}
+use Rattle.nm_protocol.proofs.Basic.{same_number, self_true, and_left, and_right, or_left, or_true, same_done, refuted, by-append, by-along, all_of}
 
 -- what a history shows of an answer that was called for
 abbrev Given : ℕ → List Event → What → Type 0

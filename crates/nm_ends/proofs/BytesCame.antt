@@ -15,14 +15,12 @@ use Rattle.nm_protocol.specs.Bytes.{eager_bytes, piece_bytes}
 use Rattle.nm_ends.specs.Moments.{Moment, Cause, history_of, taken_from, taken_of, pulled_from, pulled_of, EachMomentAfter}
 use Rattle.nm_ends.specs.Moments.Cause.{Acted}
 use Rattle.nm_ends.specs.Sound.{AreSound, MayHappen}
-use Rattle.nm_ends.proofs.Basic.{same_number, eq_true, or_left, or_right, refuted, any_gives, by-along, and_left, and_right}
+use Rattle.nm_protocol.proofs.Basic.{same_number, eq_true, or_left, or_right, refuted, any_gives, by-along, and_left, and_right, by_front}
 use Rattle.nm_ends.proofs.Streams.{StreamIsRight, completed, eager_numbers}
 use Rattle.nm_ends.proofs.Streaming.{InTime}
 use Rattle.nm_ends.proofs.Wholes.{IsHere, log_completes}
 use Rattle.nm_ends.proofs.Arriving.{stream_is_right}
 use Rattle.nm_ends.proofs.Delivering.{history-append}
-use Rattle.nm_ends.proofs.Numbers.{NumberedFrom}
-use Rattle.nm_ends.proofs.Cleared.{by_front}
 use Rattle.nm_ends.proofs.Cutting.{Matches}
 use Rattle.nm_ends.proofs.Pulling.{LastIsWhole, log_pulls}
 use Rattle.nm_ends.proofs.EagerBytes.{eager_so_far}
@@ -30,6 +28,7 @@ use Rattle.nm_ends.proofs.PieceBytes.{ring_bytes, pulled_is_called, ring_bytes-a
 use Rattle.nm_ends.proofs.Bodies.{sound_rest, called_parts, zip_parts, pieces_count}
 use Rattle.nm_types.specs.declared.packets.Piece.{Piece}
 use Rattle.std.proofs.lemmas.List.{map-append}
+use Rattle.nm_protocol.proofs.Sent.{NumberedFrom}
 
 -- a moment of the rank's own takes no packet and no piece
 pub taken_around : (i : ℕ) (before : List Moment) (m : Moment) (after : List Moment) → m.cause ≡ Acted → taken_from i (before ++ m ∷ after) ≡ taken_from i before ++ taken_from i after

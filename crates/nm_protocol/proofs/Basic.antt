@@ -21,6 +21,9 @@ eq_true x y h = grind (arith, nat_tests)
 pub eq_false : (x y : ℕ) → y < x → (x == y) ≡ false
 eq_false x y h = grind (arith, nat_tests)
 
+pub eq_less : (x y : ℕ) → x < y → (x == y) ≡ false
+eq_less x y h = grind (arith, nat_tests)
+
 pub lt_true : (x y : ℕ) → x < y → nat_lt x y ≡ true
 lt_true x y h = grind (arith, nat_tests)
 
@@ -87,6 +90,10 @@ true_is b h = h
 pub by-append : {X : Type 0} (P : X → Type 0) (xs ys : List X) → AllByRecursion P xs → AllByRecursion P ys → AllByRecursion P (xs ++ ys)
 by-append P [] ys first rest = rest
 by-append P (x ∷ xs) ys first rest = (first.0, by-append P xs ys first.1 rest)
+
+pub by_front : {X : Type 0} (P : X → Type 0) (xs ys : List X) → AllByRecursion P (xs ++ ys) → AllByRecursion P xs × AllByRecursion P ys
+by_front P [] ys each = (tt, each)
+by_front P (x ∷ xs) ys each = let rest = by_front P xs ys each.1 in ((each.0, rest.0), rest.1)
 
 pub by-along : {X : Type 0} (P Q : X → Type 0) (xs : List X) → ((x : X) → P x → Q x) → AllByRecursion P xs → AllByRecursion Q xs
 by-along P Q [] f each = tt

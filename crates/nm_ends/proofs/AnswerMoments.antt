@@ -16,7 +16,7 @@ use Rattle.nm_protocol.specs.Pieces.{Pulled, Due, piece_makes, is_due}
 use Rattle.nm_ends.specs.Moments.{Moment, Cause, history_of, taken_from, EachMomentAfter}
 use Rattle.nm_ends.specs.Moments.Cause.{Acted, Took, Drew}
 use Rattle.nm_ends.specs.Sound.{AreSound, MayHappen, MadeBy, OwnEvent}
-use Rattle.nm_ends.proofs.Basic.{by-append}
+use Rattle.nm_protocol.proofs.Basic.{by-append}
 use Rattle.nm_ends.proofs.Delivering.{after_append, history-push}
 
 -- the moment of an event that the rank did by itself
