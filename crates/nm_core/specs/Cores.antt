@@ -1,6 +1,6 @@
 -- What a core did, and what all its histories keep.
 use Rattle.std.specs.Prelude.{◌≡◌, ℕ, ◌<◌, ◌≤◌, Bool, true, false, not, ◌&&◌, nat_le, IsTrue}
-use Rattle.std.specs.Prelude.{IfSome, Option, Some, List, length}
+use Rattle.std.specs.Prelude.{IfSome, Some, List, length}
 use Rattle.std.specs.List.{list_all}
 use Rattle.nm_types.specs.declared.answers.Answer.{Answer}
 use Rattle.nm_types.specs.declared.answers.Answer.TheVariants.{Got}

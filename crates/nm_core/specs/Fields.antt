@@ -1,7 +1,6 @@
 -- How the fields of a core stand for what it did.
-use Rattle.std.specs.Prelude.{◌≡◌, ℕ, ◌<◌, ◌≤◌, Bool, true, IsSomeAnd, Option, Some, List, All}
-use Rattle.std.specs.Prelude.{option_map}
-use Rattle.std.specs.Prelude.{length}
+use Rattle.std.specs.Prelude.{◌≡◌, ℕ, ◌<◌, ◌≤◌, IsTrue, IsSomeAnd, Option, Some, option_map, List}
+use Rattle.std.specs.Prelude.{All, length}
 use Rattle.std.specs.List.{slice_get, slice_index_or}
 use Rattle.nm_types.specs.declared.messages.Arrival.{Arrival}
 use Rattle.nm_history.specs.declared.events.Event.{Event}
@@ -19,8 +18,8 @@ use Rattle.nm_core.specs.Kept.{body_of}
 -- What is here whole came, what has left was sent, and there are no more sends than ticks of the
 -- clock.
 pub record AreBounded (h : List Event) : Type 0 where
-  pub whole : (from n : ℕ) → happened (is_whole from n) h ≡ true → n < length (arrivals h from)
-  pub out : (to n : ℕ) → happened (is_out to n) h ≡ true → n < length (sends h to)
+  pub whole : (from n : ℕ) → IsTrue (happened (is_whole from n) h) → n < length (arrivals h from)
+  pub out : (to n : ℕ) → IsTrue (happened (is_out to n) h) → n < length (sends h to)
   pub few : (to : ℕ) → length (sends h to) ≤ last_stamp h
 
 -- the pair of a receive with this number that took a message
@@ -39,8 +38,8 @@ pub record AreReceives (h : List Event) (rs : List Receive) : Type 0 where
 abbrev pub HasBody : List (List (List ℕ)) → Arrival → Type 0
 HasBody kept a = IsSomeAnd (body_of kept a.env.from a.n) (λ body. length body ≡ a.env.len)
 
--- the counts of the sends by destination, the receives, the kept bodies and the deeds of
--- the matcher stand for what the core did
+-- The counts of the sends by destination, the receives, the kept bodies and the deeds of the
+-- matcher stand for what the core did.
 pub record AreFields (view : CoreView) (sent : List ℕ) (rs : List Receive)
     (deeds : List Deed) : Type 0 where
   pub core : IsCore view

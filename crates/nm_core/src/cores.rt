@@ -1,18 +1,18 @@
 //! One rank: what it sent, what came to it and what it waits for.
 
 ghost use Rattle.std.specs.Prelude.{◌≡◌, ◌<◌, ◌≤◌, ◌+◌, ◌↔◌, [], ◌∷◌, ◌++◌, length, replicate};
-ghost use Rattle.std.specs.Prelude.{max, option_map, slice_set, IfOk, IfSome, IsTrue, OnErr, OnOk};
+ghost use Rattle.std.specs.Prelude.{max, slice_set, IfOk, IsTrue, OnErr, OnOk};
 ghost use Rattle.nm_types.specs.declared.limits.TheConstants.{MAX_PAYLOAD, MAX_STAMP};
 ghost use Rattle.nm_types.specs.declared.messages.How.TheVariants.{Eager};
 ghost use Rattle.nm_history.specs.declared.events.Happened.TheVariants as event;
-ghost use Rattle.nm_history.specs.Answers.{without_bytes};
-ghost use Rattle.nm_history.specs.Completion.{result_of};
 ghost use Rattle.nm_history.specs.RankRun.{last_stamp};
 ghost use Rattle.nm_history.specs.Sends.{arrivals, receives as receives_lem, sends};
 ghost use Rattle.nm_core.specs.declared.messages.TheConstants.{WORN};
 ghost use Rattle.nm_core.specs.declared.requests.Request.TheVariants as request;
-ghost use Rattle.nm_core.specs.Cores.{at, request_of, IsCore, IsStarted, ShowsKept};
+ghost use Rattle.nm_core.specs.Cores.{at, IsCore};
 ghost use Rattle.nm_core.specs.Kept.{bodies_from};
+
+mod results;
 
 use crate::journal::Journal;
 use crate::kept::Kept;
@@ -28,7 +28,7 @@ use std::marker::Model;
 ///
 /// Each call takes constant time but for the matching, which looks through the posted receives or
 /// the messages that no receive took. The body of a message that came stays kept, and is copied
-/// when it is shown. A run that was refused memory ends: then the core is only dropped.
+/// when it is shown. A call that is refused memory has changed nothing.
 #[derive(Debug, Drop)]
 pub struct Core {
     me: u8,
@@ -126,7 +126,8 @@ impl Core {
     }
 
     /// Starts a standard send for the command of a line (MPI 3.1, section 3.4), and answers its
-    /// request and the message on its way. The body fits one packet, and the message leaves at once.
+    /// request and the message on its way. The body fits one packet, and the message leaves at
+    /// once.
     pub fn start_send(
         &mut self,
         to: u8,
@@ -259,6 +260,7 @@ impl Core {
               kept = slice_set self.old.kept from
                   (bodies_from self.old.kept from ++ message.body ∷ []);
             }) }
+        ensures err { OnErr result (self.new ≡ self.old) }
     {
         let Message {
             stamp,
@@ -279,48 +281,15 @@ impl Core {
         Ok(())
     }
 
-    /// The result of a request that was started, or `None` while it isn't complete (MPI 3.1,
-    /// section 3.7.3). A message that is longer than its receive's capacity is cut: its length is
-    /// shown in place of its bytes.
-    pub fn result(&self, request: Request) -> Result<Option<Answer>, Memory>
-        requires { IsStarted self.now.events request }
-        ensures value { IfOk result
-            (λ answer. option_map without_bytes answer
-            ≡ result_of self.now.events (request_of request)) }
-        ensures body { IfOk result (λ answer. IfSome answer (ShowsKept self.now request)) }
-    {
-        let receives = &self.receives;
-        let number = match request {
-            Request::Send { .. } => return Ok(Some(Answer::Sent)),
-            Request::Receive { number } => number,
-        };
-        let receive = receives[number as usize];
-        let Some(arrival) = receive.taken else {
-            return Ok(None);
-        };
-        let env = arrival.env;
-        if receive.cap < env.len {
-            return Ok(Some(Answer::Cut {
-                from: env.from,
-                tag: env.tag,
-                len: env.len,
-            }));
-        }
-        Ok(Some(Answer::Got {
-            from: env.from,
-            tag: env.tag,
-            body: self.kept.get(env.from, arrival.n).copy()?,
-        }))
-    }
-
     /// Records the answer of a line's command.
     pub fn ran(&mut self, line: u32, answer: Answer) -> Result<(), Memory>
         requires { last_stamp self.old.events < MAX_STAMP }
-        ensures { OnOk result (self.new
+        ensures ok { OnOk result (self.new
             ≡ record self.old {
               events = self.old.events
                   ++ at (last_stamp self.old.events + 1) (event.Ran line answer) ∷ [];
             }) }
+        ensures err { OnErr result (self.new ≡ self.old) }
     {
         self.journal.reserve(1)?;
         self.journal.add(Happened::Ran { line, answer });

@@ -12,8 +12,8 @@ use Rattle.nm_match.specs.declared.deeds.Deed.{Deed}
 use Rattle.nm_match.specs.declared.deeds.Deed.TheVariants.{Post, Arrive, Cancel, Withdraw, Claim}
 use Rattle.nm_match.specs.declared.deeds.Deed.TheVariants.{Match}
 
--- what a deed is in a history; the line of a command and the capacity of a matched receive play no
--- part in matching, and are 0
+-- A deed as it happens. The line of its command and the capacity of a matched receive play no part
+-- in matching, and are 0.
 abbrev pub happened_by : Deed → Happened
 happened_by (Post p) = event.Post p 0
 happened_by (Arrive a) = event.Arrive a
@@ -22,7 +22,7 @@ happened_by (Withdraw from n) = event.Withdraw from n true
 happened_by (Claim from n) = event.Claim from n 0
 happened_by (Match number from n) = event.Match number from n 0 0
 
--- so does its stamp
+-- a deed as an event; its stamp plays no part either
 abbrev pub event_of : Deed → Event
 event_of d = record { stamp = 0; what = happened_by d }
 
@@ -53,8 +53,8 @@ abbrev pub is_deed_of_message : ℕ → ℕ → Deed → Bool
 is_deed_of_message from n (Arrive a) = is_message from n a
 is_deed_of_message from n _ = false
 
--- The deeds after an event more of a history. Events that take no part in matching, late cancels and
--- late withdrawals are no deeds, and of the cancels of one receive the first alone is.
+-- The deeds after an event more of a history. Events that take no part in matching, late cancels
+-- and late withdrawals are no deeds, and of the cancels of one receive the first alone is.
 abbrev pub deeds_after : List Deed → Happened → List Deed
 deeds_after deeds (event.Post p line) = deeds ++ Post p ∷ []
 deeds_after deeds (event.Arrive a) = deeds ++ Arrive a ∷ []
@@ -62,7 +62,8 @@ deeds_after deeds (event.Cancel number done) =
     if done && not (happened (is_cancel number) (history_of deeds))
     then deeds ++ Cancel number ∷ []
     else deeds
-deeds_after deeds (event.Withdraw from n done) = if done then deeds ++ Withdraw from n ∷ [] else deeds
+deeds_after deeds (event.Withdraw from n done) =
+    if done then deeds ++ Withdraw from n ∷ [] else deeds
 deeds_after deeds (event.Claim from n line) = deeds ++ Claim from n ∷ []
 deeds_after deeds (event.Match number from n cap line) = deeds ++ Match number from n ∷ []
 deeds_after deeds _ = deeds

@@ -1,6 +1,6 @@
 -- The queues of a matcher, by the history that its deeds stand for.
 use Rattle.std.specs.Prelude.{◌≡◌, ◌≢◌, ℕ, ◌+◌, ◌≤◌, Bool, true, false, ◌==◌, ◌||◌}
-use Rattle.std.specs.Prelude.{if◌then◌else◌, List, [], ◌∷◌, AllPairs, filter}
+use Rattle.std.specs.Prelude.{if◌then◌else◌, List, [], ◌∷◌, AllPairs, IsTrue, filter}
 use Rattle.std.specs.List.{list_any}
 use Rattle.nm_types.specs.declared.messages.Arrival.{Arrival}
 use Rattle.nm_types.specs.declared.messages.Post as post
@@ -32,24 +32,25 @@ pub record IsInTurn (h : List Event) (found : List Pair) : Type 0 where
   pub two_receives : AllPairs TwoReceives (posts h)
   pub two_messages : AllPairs TwoMessages (messages h)
   pub paired_known :
-      (number : ℕ) → list_any (is_of_receive number) found ≡ true → is_known_receive h number ≡ true
+      (number : ℕ) → IsTrue (list_any (is_of_receive number) found)
+      → IsTrue (is_known_receive h number)
   pub cancelled_known :
-      (number : ℕ) → happened (is_cancel number) h ≡ true → is_known_receive h number ≡ true
+      (number : ℕ) → IsTrue (happened (is_cancel number) h) → IsTrue (is_known_receive h number)
   pub taken_came :
-      (from n : ℕ) → list_any (is_of_message from n) found ≡ true
-      → is_known_message h from n ≡ true
+      (from n : ℕ) → IsTrue (list_any (is_of_message from n) found)
+      → IsTrue (is_known_message h from n)
   pub claimed_came :
-      (from n : ℕ) → happened (is_claim from n) h ≡ true → is_known_message h from n ≡ true
+      (from n : ℕ) → IsTrue (happened (is_claim from n) h) → IsTrue (is_known_message h from n)
   pub withdrawn_came :
-      (from n : ℕ) → happened (is_withdraw from n true) h ≡ true
-      → is_known_message h from n ≡ true
+      (from n : ℕ) → IsTrue (happened (is_withdraw from n true) h)
+      → IsTrue (is_known_message h from n)
   pub cancelled_unpaired :
-      (number : ℕ) → happened (is_cancel number) h ≡ true
+      (number : ℕ) → IsTrue (happened (is_cancel number) h)
       → list_any (is_of_receive number) found ≡ false
   pub posted_or_paired :
-      (number : ℕ) → is_known_receive h number ≡ true
-      → (list_any (λ p. p.number == number) (posts h) || list_any (is_of_receive number) found)
-      ≡ true
+      (number : ℕ) → IsTrue (is_known_receive h number)
+      → IsTrue
+      (list_any (λ p. p.number == number) (posts h) || list_any (is_of_receive number) found)
 
 -- The posted receive queue is the open receives and the unexpected message queue the free messages,
 -- both in order of age. Beside them stand the messages that are claimed and not yet received, and

@@ -1,7 +1,7 @@
 //! Laws of the deeds. Each is the contract of a function that does nothing.
 
 ghost use Rattle.std.specs.Prelude.{◌≡◌, ℕ, Bool, false, not, ◌&&◌, if◌then◌else◌, List, [], ◌∷◌};
-ghost use Rattle.std.specs.Prelude.{◌<◌, ◌≤◌, ◌++◌, length, true};
+ghost use Rattle.std.specs.Prelude.{◌<◌, ◌≤◌, ◌++◌, length, IsTrue};
 ghost use Rattle.std.specs.List.{list_any};
 ghost use Rattle.nm_types.specs.declared.messages.Arrival.{Arrival};
 ghost use Rattle.nm_types.specs.declared.messages.Envelope.{Envelope};
@@ -95,12 +95,12 @@ pub fn matching_agrees()
 /// no others: the next number of either is new.
 pub fn numbers_are_known()
     ensures receive { (ranks : ℕ) (h : List Event) (number : ℕ) → number < length (receives h) →
-        Always (NumberAt ranks) h → is_known_receive h number ≡ true }
+        Always (NumberAt ranks) h → IsTrue (is_known_receive h number) }
     ensures new_receive { (ranks : ℕ) (h : List Event) (number : ℕ) →
         length (receives h) ≤ number → Always (NumberAt ranks) h →
         is_known_receive h number ≡ false }
     ensures message { (ranks : ℕ) (h : List Event) (from n : ℕ) → n < length (arrivals h from) →
-        Always (NumberAt ranks) h → is_known_message h from n ≡ true }
+        Always (NumberAt ranks) h → IsTrue (is_known_message h from n) }
     ensures new_message { (ranks : ℕ) (h : List Event) (from n : ℕ) →
         length (arrivals h from) ≤ n → Always (NumberAt ranks) h →
         is_known_message h from n ≡ false }

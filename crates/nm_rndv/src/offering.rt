@@ -24,8 +24,11 @@ use std::marker::Model;
 #[derive(Drop)]
 pub struct Offers {
     destinations: Vec<Destination>,
+    // Every message that was cleared, also those that are out.
     order: Vec<(u8, u64)>,
+    // The place of the first in the order that is not out, so that no look-up walks over the rest.
     first: usize,
+    // How many places of the order are kept free: at least one for each message that waits.
     reserved: usize,
 }
 

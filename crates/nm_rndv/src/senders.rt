@@ -18,6 +18,7 @@ use std::marker::Model;
 #[derive(Drop)]
 pub struct Sender {
     grants: IndexMap<u64, Grant>,
+    // The place of the first that is not whole: an empty message may be whole behind it.
     first_open: usize,
 }
 

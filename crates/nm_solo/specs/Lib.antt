@@ -3,4 +3,5 @@ pub mod Between
 pub mod Cores
 pub mod Lines
 pub mod Pairs
+pub mod Work
 pub mod Worlds

@@ -4,7 +4,9 @@ use Rattle.nm_core.proofs.KeptLemmas.{rows-push}
 use Rattle.nm_core.proofs.kept.Kept.new.Goals as goal
 
 pub loop-preserved : goal.loop-preserved
-loop-preserved c = rw (c.in_ok-push.ensures.items) (rows-push (λ (v : Vec Bytes Global). v.items) c.loop.bodies.items c.loop.counter c.new.result [] c.loop.invariant c.new.ensures.items)
+loop-preserved c = rw (c.in_ok-push.ensures.items)
+    (rows-push (λ (v : Vec Bytes Global). v.items) c.loop.bodies.items c.loop.counter c.new.result []
+    c.loop.invariant c.new.ensures.items)
 
 pub returns : goal.returns
 returns c =
