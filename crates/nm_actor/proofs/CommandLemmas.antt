@@ -1,16 +1,15 @@
 -- A rank's run goes on by one command: its events, and its answer.
-use Rattle.std.proofs.Common.{◌≡◌, ℕ, ◌+◌, ◌<◌, ◌≤◌, ◌==◌, Bool, true, false, ◌&&◌, ◌||◌, cond, Option, Some, None, List, [], ◌∷◌, ◌++◌, length, map, refl, sym, ◌∙◌, ap, subst, append-nil}
+use Rattle.std.proofs.Common.{◌≡◌, ℕ, ◌+◌, ◌<◌, Bool, false, ◌&&◌, Option, Some, None, List, [], ◌∷◌, ◌++◌, map, refl, sym, ◌∙◌, ap, append-nil}
 use Rattle.std.specs.Prelude.{nat_lt, if◌then◌else◌, is_some}
-use Rattle.std.specs.List.{filter, filter_map, cons_option, slice_get}
+use Rattle.std.specs.List.{filter, filter_map, slice_get}
 use Rattle.std.proofs.lemmas.List.Elements.{filter_map-append, filter-append}
 use Rattle.nm_types.specs.declared.messages.How.{How}
-use Rattle.nm_types.specs.declared.messages.How.TheVariants.{Eager, Ask}
+use Rattle.nm_types.specs.declared.messages.How.TheVariants.{Eager}
 use Rattle.nm_types.specs.declared.messages.Peer.{Peer}
 use Rattle.nm_types.specs.declared.messages.TagPick.{TagPick}
 use Rattle.nm_types.specs.declared.answers.Answer.{Answer}
 use Rattle.nm_types.specs.declared.answers.Answer.TheVariants as answer
 use Rattle.nm_types.specs.declared.scripts.Body.{Body}
-use Rattle.nm_types.specs.declared.scripts.Command.{Command}
 use Rattle.nm_types.specs.declared.scripts.Command.TheVariants as command
 use Rattle.nm_types.specs.Bodies.{body_len}
 use Rattle.nm_types.specs.Commands.{Numbered, command_at}
@@ -20,9 +19,9 @@ use Rattle.nm_history.specs.declared.events.Happened.{Happened}
 use Rattle.nm_history.specs.declared.events.Happened.TheVariants.{Send, Post, Out, Ran}
 use Rattle.nm_history.specs.Completion.{Request}
 use Rattle.nm_history.specs.Answers.{answer_of, without_bytes, is_started, is_seen, live}
-use Rattle.nm_history.specs.RankRun.{IsRankRun, NumberAt, EndAt, last_stamp, starts_since, cancels_since, claims_since, since_command, since_after, is_start, is_cancelling, line_of_claim, start_of, how_of, without_number, CancelsFor, is_matched_probe}
+use Rattle.nm_history.specs.RankRun.{IsRankRun, NumberAt, EndAt, last_stamp, starts_since, cancels_since, claims_since, since_command, is_start, is_cancelling, line_of_claim, start_of, how_of, without_number}
 use Rattle.nm_history.specs.Underway.{Underway, MayFollow}
-use Rattle.nm_solo.specs.Actors.{IsOrdinary}
+use Rattle.nm_actor.specs.Actors.{IsOrdinary}
 use Rattle.nm_history.proofs.RankRunLemmas.{since-push, underway-push, underway-answer, rank_run_is_underway, answer_follows}
 
 -- the answer of the next command, after what it did

@@ -1,27 +1,20 @@
 -- A rank's run while one of its commands gives its answer.
-use Rattle.std.proofs.Common.{◌≡◌, ◌≢◌, ℕ, ◌+◌, ◌<◌, ◌≤◌, ◌==◌, zero, suc, Bool, true, false, not, ◌&&◌, ◌||◌, cond, Option, Some, None, List, [], ◌∷◌, ◌++◌, length, map, fold, refl, sym, ◌∙◌, ap, subst, arith, append-nil, IsTrue}
-use Rattle.std.specs.Prelude.{nat_lt, if◌then◌else◌}
-use Rattle.std.specs.List.{filter, filter_map, cons_option, list_all, slice_get}
+use Rattle.std.proofs.Common.{◌≡◌, ℕ, ◌<◌, ◌==◌, Bool, true, false, cond, Option, Some, None, List, [], ◌∷◌, ◌++◌, fold, refl, ◌∙◌, ap, arith, append-nil}
+use Rattle.std.specs.Prelude.{nat_lt}
+use Rattle.std.specs.List.{filter_map, cons_option, list_all, slice_get}
 use Rattle.std.specs.Option.{option_and_then}
-use Rattle.std.proofs.lemmas.List.Elements.{filter_map-append, filter-append}
+use Rattle.std.proofs.lemmas.List.Elements.{filter_map-append}
 use Rattle.std.proofs.lemmas.Bool.Decides.{nat_tests}
-use Rattle.nm_types.specs.declared.answers.Answer.{Answer}
-use Rattle.nm_types.specs.declared.answers.Answer.TheVariants as answer
-use Rattle.nm_types.specs.declared.scripts.Command.{Command}
-use Rattle.nm_types.specs.declared.scripts.Command.TheVariants as command
-use Rattle.nm_types.specs.Commands.{Numbered, command_at}
-use Rattle.nm_types.specs.Sizes.{Sizes}
+use Rattle.nm_types.specs.Commands.{Numbered}
 use Rattle.nm_history.specs.declared.events.Event.{Event}
 use Rattle.nm_history.specs.declared.events.Happened.{Happened}
 use Rattle.nm_history.specs.declared.events.Happened.TheVariants.{Send, Post, Arrive, Whole, Out, Cancel, Recall, Withdraw, Undone, Claim, Match, Ran}
 use Rattle.nm_history.specs.Completion.{Request}
-use Rattle.nm_history.specs.Completion.Request.{Sending, Receiving}
 use Rattle.nm_history.specs.Answers.{request_of, request_at, live, line_of_name, line_after}
 use Rattle.nm_history.specs.Underway.{is_answer}
-use Rattle.nm_history.specs.RankRun.{is_start}
 use Rattle.nm_history.proofs.AnswerLemmas.{line-push, line_kept}
-use Rattle.nm_history.proofs.OnceLemmas.{and_left, and_right, same_of, eqb_self}
-use Rattle.nm_solo.specs.Actors.{line_of, are_below}
+use Rattle.nm_history.proofs.OnceLemmas.{and_left, and_right}
+use Rattle.nm_actor.specs.Actors.{line_of}
 
 below_is : (a b : ℕ) → nat_lt a b ≡ true → a < b
 below_is a b h = grind (arith, nat_tests)
@@ -80,7 +73,7 @@ request_made l h e r below is =
     ap (λ (rs : List Request). slice_get rs 0) (filter_map-append (λ (e : Event). request_of l e.what) h (e ∷ [])
     ∙ ap (λ (rs : List Request). rs ++ cons_option (request_of l e.what) []) (none_requested l h below) ∙ ap (λ (o : Option Request). cons_option o []) is)
 
-request_of_other : (l : ℕ) (h : List Event) (e : Event) → (line_of e.what == l) ≡ false → request_at (h ++ e ∷ []) l ≡ request_at h l
+pub request_of_other : (l : ℕ) (h : List Event) (e : Event) → (line_of e.what == l) ≡ false → request_at (h ++ e ∷ []) l ≡ request_at h l
 request_of_other l h e other =
     ap (λ (rs : List Request). slice_get rs 0) (filter_map-append (λ (e : Event). request_of l e.what) h (e ∷ [])
     ∙ ap (λ (o : Option Request). filter_map (λ (e : Event). request_of l e.what) h ++ cons_option o []) (no_request_other l e.what other) ∙ append-nil _)
