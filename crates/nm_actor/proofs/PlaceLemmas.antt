@@ -63,13 +63,13 @@ found_here me number zero (x ∷ lines) l here mine = let same : x ≡ l = cc in
 found_here me number (suc place) (x ∷ lines) l here mine =
     let sum : (number + 1) + place ≡ number + suc place = omega arith in
     by_rank (x.rank == me) (subst (λ (k : ℕ). find (λ (c : Numbered). c.line == k) (commands_from me (number + 1) lines) ≡ Some (numbered k l)) sum (found_here me (number + 1) place lines l here mine)) where
-  other : (number == number + suc place) ≡ false
-  other = grind (arith, nat_tests)
+      other : (number == number + suc place) ≡ false
+      other = grind (arith, nat_tests)
 
-  by_rank : (b : Bool) → find (λ (c : Numbered). c.line == number + suc place) (commands_from me (number + 1) lines) ≡ Some (numbered (number + suc place) l) →
-      find (λ (c : Numbered). c.line == number + suc place) (cond b (numbered number x ∷ commands_from me (number + 1) lines) (commands_from me (number + 1) lines)) ≡ Some (numbered (number + suc place) l)
-  by_rank true later = rw other later
-  by_rank false later = later
+      by_rank : (b : Bool) → find (λ (c : Numbered). c.line == number + suc place) (commands_from me (number + 1) lines) ≡ Some (numbered (number + suc place) l) →
+          find (λ (c : Numbered). c.line == number + suc place) (cond b (numbered number x ∷ commands_from me (number + 1) lines) (commands_from me (number + 1) lines)) ≡ Some (numbered (number + suc place) l)
+      by_rank true later = rw other later
+      by_rank false later = later
 
 -- a place at which the loop finds a line of the rank
 pub next_here : (lines : List Line) (me next place : ℕ) (x : Line) → place < length lines → x ≡ get_or lines place x → x.rank ≡ me → next ≤ place → NoneBetween lines me next place →

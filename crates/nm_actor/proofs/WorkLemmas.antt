@@ -169,10 +169,13 @@ work_sends shape lines me at next place s1 s2 s3 q to n tag ctx bytes l h names 
 } where
   commands : List Numbered
   commands = commands_of me lines
+
   e1 : Event
   e1 = record { stamp = s1; what = Send to n tag ctx (length bytes) Eager (place + 2) }
+
   e2 : Event
   e2 = record { stamp = s2; what = Out to n }
+
   e3 : Event
   e3 = record { stamp = s3; what = Ran (place + 2) answer.Started }
 
@@ -223,8 +226,10 @@ work_receives shape lines me at next place s1 s2 q number from tag ctx cap l h n
 } where
   commands : List Numbered
   commands = commands_of me lines
+
   e1 : Event
   e1 = record { stamp = s1; what = Post (record { number = number; from = from; tag = tag; ctx = ctx; cap = cap }) (place + 2) }
+
   e2 : Event
   e2 = record { stamp = s2; what = Ran (place + 2) answer.Started }
 
@@ -275,8 +280,10 @@ takes shape lines a core message sized is lawful work =
     (subst (λ (k : CoreView). Working shape lines k.me a.at a.next k.events (named a.names)) (sym is) taken) where
       h : List Event
       h = a.core.events
+
       e1 : Event
       e1 = event_at (max (last_stamp h) message.stamp + 1) (Arrive message.arrival)
+
       e2 : Event
       e2 = event_at (max (last_stamp h) message.stamp + 2) (Whole message.arrival.env.from message.arrival.n)
 

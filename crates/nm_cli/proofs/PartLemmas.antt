@@ -11,7 +11,7 @@ use Rattle.nm_types.specs.declared.scripts.Line.{Line}
 use Rattle.nm_types.specs.Limits.{is_in_range}
 use Rattle.nm_history.proofs.OnceLemmas.{and_left, and_right}
 use Rattle.nm_script.specs.Part.{is_in_part, is_short}
-use Rattle.nm_solo.specs.Lines.{is_runnable, fits_packet}
+use Rattle.nm_actor.specs.Lines.{is_runnable, fits_packet}
 
 both : (a b : Bool) → a ≡ true → b ≡ true → (a && b) ≡ true
 both true b p q = q

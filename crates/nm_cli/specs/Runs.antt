@@ -4,7 +4,10 @@ use Rattle.std.specs.List.{list_all}
 use Rattle.nm_types.specs.declared.scripts.Line.{Line}
 use Rattle.nm_types.specs.Sizes.{Sizes}
 use Rattle.nm_types.specs.Limits.{IsScriptOf}
+use Rattle.nm_history.specs.Run.{IsRunOf}
 use Rattle.nm_script.specs.Part.{is_in_part}
+use Rattle.nm_report.specs.Cells.{AllCellsFree}
+use Rattle.nm_report.specs.Ends.{are_done, ends_of, packets_of}
 use Rattle.nm_report.specs.declared.records.RunRecord.{RunRecord}
 use Rattle.nm_cli.specs.declared.TheConstants.{MAX_READ}
 use Rattle.nm_cli.specs.declared.runs.TheConstants.{CELLS, EAGER}
@@ -21,9 +24,18 @@ shape_for ranks = record { ranks = ranks; cells = CELLS; eager = EAGER }
 abbrev pub AreInPart : List Line → Type 0
 AreInPart lines = IsTrue (list_all (λ line. is_in_part line.command) lines)
 
+-- The record is of one run of a script: each rank ran its own commands, each took from each sender
+-- exactly the messages that it sent, and nothing is under way. All cells are home, and the run is
+-- done exactly where every rank is at its end.
+pub record IsRunOfScript (ranks : ℕ) (lines : List Line) (run : RunRecord) : Type 0 where
+  pub shaped : run.shape ≡ shape_for ranks
+  pub lawful : IsRunOf (shape_for ranks) lines (ends_of run.ranks) (packets_of run.pairs)
+  pub home : AllCellsFree run
+  pub ended : run.done ≡ are_done (ends_of run.ranks)
+
 -- the record is of a run of the script that the bytes spell
 pub record IsRunOfBytes (bytes : List ℕ) (run : RunRecord) : Type 0 where
   pub ranks : ℕ
   pub lines : List Line
   pub spelled : IsScriptOf is_in_part bytes ranks lines
-  pub shaped : run.shape ≡ shape_for ranks
+  pub of_script : IsRunOfScript ranks lines run

@@ -128,6 +128,15 @@ pub fn nemesis<R: Threads + Wait + Sync, S: Source, K: Sink, G: Gate + Sync>(
         IsScriptOf is_in_part (read_of bytes) ranks lines →
         OrFails ((result.status ≡ 0) ⊎ (result.status ≡ 1)) result.status) }
 
+    // Words that are taken, bytes that spell a script, and no fault: then the run's report, whole, or
+    // want of memory.
+    ensures completes { are_taken (map string_bytes words.now) ≡ true → IfSome (S.left source.old)
+        (λ bytes. (ranks : ℕ) (lines : List Line) →
+        IsScriptOf is_in_part (read_of bytes) ranks lines →
+        (Rose (S.faults source.old) (S.faults source.new) → ⊥) →
+        (Rose (K.faults sink.old) (K.faults sink.new) → ⊥) → (result.status ≡ 6)
+        ⊎ IsReported result.status result.run (K.taken sink.old) (K.taken sink.new) bytes) }
+
     // The source failed.
     ensures unread { result.status ≡ 4 → Rose (S.faults source.old) (S.faults source.new)
         × Appends (K.taken sink.old) (K.taken sink.new) unread }

@@ -1,7 +1,7 @@
 //! The run of the script that bytes spell.
 
-ghost use Rattle.std.specs.Prelude.{◌≡◌, IfOk};
-ghost use Rattle.nm_cli.specs.Runs.{AreInPart, shape_for};
+ghost use Rattle.std.specs.Prelude.{IfOk};
+ghost use Rattle.nm_cli.specs.Runs.{AreInPart, IsRunOfScript};
 
 use nm_outside::Gate;
 use nm_report::RunRecord;
@@ -23,7 +23,7 @@ pub fn run_script<R: Wait, G: Gate>(
     gate: &G,
 ) -> Result<RunRecord, Memory>
     requires { AreInPart script.now.lines }
-    ensures { IfOk result (λ run. run.shape ≡ shape_for script.now.ranks) }
+    ensures { IfOk result (IsRunOfScript script.now.ranks script.now.lines) }
 {
     let shape = Shape::new(script.ranks, CELLS, EAGER).unwrap();
     nm_solo::run(rt, alloc, script, shape, gate)

@@ -66,4 +66,12 @@ impl Kept {
     {
         &self.bodies[from as usize][n as usize]
     }
+
+    /// A copy of the body of message `n` of this sender.
+    pub(crate) fn copy(&self, from: u8, n: u64) -> Result<Bytes, Memory>
+        requires { IsSome (body_of self.now.bodies from n) }
+        ensures { IfOk result (λ body. body_of self.now.bodies from n ≡ Some body) }
+    {
+        self.get(from, n).copy()
+    }
 }

@@ -1,5 +1,6 @@
 -- The record of a run as the lists that quiescence speaks of.
-use Rattle.std.specs.Prelude.{List, map}
+use Rattle.std.specs.Prelude.{Bool, is_none, List, map}
+use Rattle.std.specs.List.{list_all}
 use Rattle.nm_history.specs.Quiescence.{Ended, Packets}
 use Rattle.nm_report.specs.declared.accounts.RankAccount.{RankAccount}
 use Rattle.nm_report.specs.declared.pairs.PairCount.{PairCount}
@@ -13,3 +14,7 @@ ends_of ranks =
 abbrev pub packets_of : List PairCount → List Packets
 packets_of pairs =
     map (λ pair. record { from = pair.from; to = pair.to; count = pair.packets }) pairs
+
+-- every rank is at its end
+abbrev pub are_done : List Ended → Bool
+are_done ranks = list_all (λ rank. is_none rank.waits) ranks

@@ -6,6 +6,8 @@ use std::test::Fail;
 const PLAIN: &[u8] =
     b"ranks 2\n0: isend 0 1 7 0 x6869\n0: wait 0\n1: irecv 0 0 7 0 16\n1: wait 0\n";
 
+const WANT_OF_MEMORY: u8 = 6;
+
 fn words_of(alloc: Global, word: &str) -> Result<Vec<String>, AllocError> {
     let mut words = Vec::new(alloc);
     words.push(String::from_str(alloc, word)?)?;
@@ -14,7 +16,7 @@ fn words_of(alloc: Global, word: &str) -> Result<Vec<String>, AllocError> {
 
 #[test]
 fn scripts_give_their_reports(rt: HostRuntime) -> Result<(), Fail> {
-    let rows: [(&str, &[u8], u8, &[u8]); 12] = [
+    let rows: [(&str, &[u8], u8, &[u8]); 13] = [
         (
             "run",
             PLAIN,
@@ -60,6 +62,15 @@ fn scripts_give_their_reports(rt: HostRuntime) -> Result<(), Fail> {
             0,
             b"0 2 null\n0 4 busy\n0 5 sent\ncells 16 home 16\ndone\n",
         ),
+        (
+            "run",
+            b"ranks 3\n0: irecv 0 2 1 0 8\n0: isend 1 1 1 0 x00\n0: wait 1\n0: wait 0\n\
+            1: irecv 0 0 1 0 8\n1: isend 1 2 1 0 x01\n1: wait 1\n1: wait 0\n\
+            2: irecv 0 1 1 0 8\n2: isend 1 0 1 0 x02\n2: wait 1\n2: wait 0\n",
+            0,
+            b"0 4 sent\n0 5 got 2 1 1 x02\n1 8 sent\n1 9 got 0 1 1 x00\n2 12 sent\n\
+            2 13 got 1 1 1 x01\ncells 24 home 24\ndone\n",
+        ),
         ("run", b"", 3, b"fault script 0 command\n"),
         (
             "run",
@@ -74,6 +85,11 @@ fn scripts_give_their_reports(rt: HostRuntime) -> Result<(), Fail> {
         let mut source = MemorySource::new(script.to_vec(rt.alloc())?, 3, Vec::new(rt.alloc()));
         let mut sink = MemorySink::new(rt.alloc(), 5, Vec::new(rt.alloc()))?;
         let ended = nemesis(&rt, rt.alloc(), &words, &mut source, &mut sink, &OpenGate);
+        if ended.status == WANT_OF_MEMORY {
+            assert!(rt; sink.taken().is_empty());
+            assert!(rt; ended.run.is_none());
+            return Err(Fail::new("want of memory"));
+        }
         assert_eq!(rt; ended.status, status);
         assert_eq!(rt; sink.taken(), text);
         assert_eq!(rt; ended.run.is_some(), status < 2);

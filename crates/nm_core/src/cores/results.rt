@@ -39,7 +39,7 @@ impl Core {
         Ok(Some(Answer::Got {
             from: env.from,
             tag: env.tag,
-            body: self.kept.get(env.from, arrival.n).copy()?,
+            body: self.kept.copy(env.from, arrival.n)?,
         }))
     }
 }

@@ -18,8 +18,8 @@ returns-then-lines-place-clause-some c =
     let me = c.loop-place.invariant.0 in (
       c.loop-place-test.true,
       next_here c.args.lines.now c.args.self.now.core.me c.args.self.now.next c.loop-place.place c.index-lines-place.result c.loop-place-test.true c.index-lines-place.is
-      (ap (λ l. l.rank) c.index-lines-place.is ∙ c.if-lines-place.true ∙ me) i.1
-      (subst (λ (k : ℕ). NoneBetween c.args.lines.now k c.args.self.now.next c.loop-place.place) me i.2),
+          (ap (λ l. l.rank) c.index-lines-place.is ∙ c.if-lines-place.true ∙ me) i.1
+          (subst (λ (k : ℕ). NoneBetween c.args.lines.now k c.args.self.now.next c.loop-place.place) me i.2),
     )
 
 pub loop-place-preserved : goal.loop-place-preserved
@@ -28,7 +28,7 @@ loop-place-preserved c =
       i.0,
       omega (arith, i.1),
       none_passed c.args.lines.now c.me-me.result c.args.self.now.next c.loop-place.place c.index-lines-place.result c.loop-place-test.true c.index-lines-place.is
-      (λ same. c.if-lines-place.false (ap (λ l. l.rank) (sym c.index-lines-place.is) ∙ same)) i.2,
+          (λ same. c.if-lines-place.false (ap (λ l. l.rank) (sym c.index-lines-place.is) ∙ same)) i.2,
     )
 
 pub returns-clause-none : goal.returns-clause-none

@@ -1,5 +1,5 @@
 use Rattle.std.specs.Vec.{vec_len}
-use Rattle.std.proofs.Common.{ℕ, List, Some, sym, ◌∙◌, ap, subst}
+use Rattle.std.proofs.Common.{sym, subst}
 use Rattle.nm_core.specs.declared.requests.Request.{Request}
 use Rattle.nm_core.specs.Cores.{CoreView, IsStarted}
 use Rattle.nm_core.proofs.ResultLemmas.{has_body, keeps_body, result_cut, result_got}
@@ -38,8 +38,8 @@ returns-then-receive-env-clause-value c =
     a.matcher c.self.invariant c.in-Receive.number c.index-receive.result.now below
     c.index-receive.ensures c.in-Some.arrival c.in-Some.is c.if-receive-env.true))
 
-pub get-requires : goal.get-requires
-get-requires c =
+pub copy-requires : goal.copy-requires
+copy-requires c =
     let a = c.self.inside in
     let started = subst (λ (v : CoreView). IsStarted v.events c.args.request) (sym c.self.view_is)
     c.requires in
@@ -58,8 +58,7 @@ returns-clause-value c =
     (sym (result_got a.me (vec_len a.sent) a.journal.events a.kept.bodies a.sent.items a.receives.items
     a.matcher c.self.invariant c.in-Receive.number c.index-receive.result.now below
     c.index-receive.ensures c.in-Some.arrival c.in-Some.is c.in_ok-copy.field-0
-    c.if-receive-env.false (c.get.ensures ∙ ap (λ (bytes : List ℕ). Some bytes)
-    (sym c.in_ok-copy.ensures))))
+    c.if-receive-env.false c.in_ok-copy.ensures))
 
 pub returns-clause-body : goal.returns-clause-body
 returns-clause-body c =
@@ -71,4 +70,4 @@ returns-clause-body c =
     (keeps_body a.me (vec_len a.sent) a.journal.events a.kept.bodies a.sent.items a.receives.items
     a.matcher c.self.invariant c.in-Receive.number c.index-receive.result.now below
     c.index-receive.ensures c.in-Some.arrival c.in-Some.is c.in_ok-copy.field-0
-    (c.get.ensures ∙ ap (λ (bytes : List ℕ). Some bytes) (sym c.in_ok-copy.ensures)))
+    c.in_ok-copy.ensures)
