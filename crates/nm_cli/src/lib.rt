@@ -11,6 +11,9 @@
 //! - Status 2 exactly where the words are not taken, and then nothing was read; 3 exactly where the
 //!   bytes spell no script; 0 and 1 exactly where they spell one, with the report of the record
 //!   that is handed out. Each yields to 5 and 6, and those of the bytes to 4 too.
+//! - The record, at 0 and 1 and where its report could not be written: each rank's history is a run
+//!   of its commands, what it took of each sender is what was sent, all ranks are quiescent, all
+//!   cells are at home, and the status is 0 exactly where no rank waits (`IsRunOfBytes`).
 //! - Status 4 and 5 only where the count of faults of the source or the sink rose, and at 5 the
 //!   sink took a front of the text that was due. At 6 nothing was written.
 //! # What is only tested

@@ -1,8 +1,9 @@
-pub mod ActorLemmas
 pub mod BetweenLemmas
-pub mod CommandLemmas
+pub mod ListLemmas
 pub mod PairsLemmas
-pub mod PlaceLemmas
 pub mod PlainLemmas
 pub mod RestLemmas
-pub mod WorkLemmas
+pub mod RunLemmas
+pub mod StepLemmas
+pub mod TurnLemmas
+pub mod WorldLemmas

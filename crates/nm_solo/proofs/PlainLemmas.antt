@@ -1,6 +1,6 @@
 -- Histories of messages of one packet: nothing is asked, cancelled, recalled, withdrawn or claimed.
-use Rattle.std.proofs.Common.{◌≡◌, ℕ, ◌+◌, ◌-◌, ◌*◌, ◌/◌, ◌<◌, ◌≤◌, ◌==◌, zero, suc, Bool, true, false, not, ◌&&◌, cond, Option, Some, None, List, [], ◌∷◌, ◌++◌, length, map, refl, sym, ◌∙◌, ap, subst, arith, IsTrue, ⊎_elim}
-use Rattle.std.specs.Prelude.{nat_le, sum_by, count_by, All, Contains}
+use Rattle.std.proofs.Common.{◌≡◌, ℕ, ◌+◌, ◌≤◌, ◌==◌, Bool, true, false, not, ◌&&◌, cond, List, [], ◌∷◌, ◌++◌, length, refl, ◌∙◌, ap, arith, ⊎_elim}
+use Rattle.std.specs.Prelude.{nat_le, sum_by, count_by, Contains}
 use Rattle.std.specs.List.{filter, filter_map, cons_option, list_all, AllByRecursion}
 use Rattle.std.proofs.lemmas.List.Elements.{filter_map-append, filter-append, All-contains, All-from_recursion, recursion_from_All}
 use Rattle.std.proofs.lemmas.Bool.Decides.{nat_tests}
@@ -9,7 +9,7 @@ use Rattle.nm_types.specs.declared.limits.TheConstants.{MAX_PAYLOAD}
 use Rattle.nm_types.specs.declared.messages.Arrival.{Arrival}
 use Rattle.nm_history.specs.declared.events.Event.{Event}
 use Rattle.nm_history.specs.declared.events.Happened.{Happened}
-use Rattle.nm_history.specs.declared.events.Happened.TheVariants.{Send, Post, Arrive, Whole, Out, Ran, Cancel, Recall, Withdraw, Undone, Claim, Match}
+use Rattle.nm_history.specs.declared.events.Happened.TheVariants.{Send, Arrive, Recall, Withdraw}
 use Rattle.nm_history.specs.Sends.{Sent, sends, messages, sent_of, arrival_of, is_ask}
 use Rattle.nm_history.specs.Outgoing.{packets_of_send, packets_to, is_clear, is_recall_to, is_withdraw_from, further_packets}
 use Rattle.nm_history.specs.Matching.{matched_pairs}
@@ -18,7 +18,8 @@ use Rattle.nm_history.specs.Quiescence.{IsAnswered, RecallsAnswered}
 use Rattle.nm_history.specs.declared.plain.Pair.{Pair}
 use Rattle.nm_history.proofs.OnceLemmas.{and_left, and_right, not_true}
 use Rattle.nm_history.proofs.SelectionLemmas.{matched_pairs_of_receives}
-use Rattle.nm_solo.specs.Cores.{is_plain}
+use Rattle.nm_core.specs.Cores.{is_plain}
+use Rattle.nm_solo.proofs.BetweenLemmas.{all_append}
 
 -- a send that is eager and fits one packet
 pub record IsShort (s : Sent) : Type 0 where
@@ -31,13 +32,16 @@ short_of_event to stamp (Send to' n tag ctx len how line) plain = by_to (to' == 
   s = record { stamp = stamp; to = to'; n = n; tag = tag; ctx = ctx; len = len; how = how; line = line }
 
   by_to : (b : Bool) → AllByRecursion IsShort (cond b (s ∷ []) [])
-  by_to true = (record { eager = not_true (is_ask how) (and_left (not (is_ask how)) (nat_le len MAX_PAYLOAD) plain); fits = and_right (not (is_ask how)) (nat_le len MAX_PAYLOAD) plain }, tt)
+  by_to true = (
+    record {
+      eager = not_true (is_ask how) (and_left (not (is_ask how)) (nat_le len MAX_PAYLOAD) plain);
+      fits = and_right (not (is_ask how))
+          (nat_le len MAX_PAYLOAD) plain;
+    },
+    tt,
+  )
   by_to false = tt
 short_of_event to stamp what plain = tt
-
-all_append : {X : Type 0} (P : X → Type 0) (xs ys : List X) → AllByRecursion P xs → AllByRecursion P ys → AllByRecursion P (xs ++ ys)
-all_append P [] ys p q = q
-all_append P (x ∷ xs) ys p q = (p.0, all_append P xs ys p.1 q)
 
 sends-cons : (e : Event) (h : List Event) (to : ℕ) → sends (e ∷ h) to ≡ filter (λ s. s.to == to) (cons_option (sent_of e.stamp e.what) []) ++ sends h to
 sends-cons e h to =

@@ -1,7 +1,5 @@
-pub mod Actors
 pub mod Between
-pub mod Cores
-pub mod Lines
+pub mod Lists
 pub mod Pairs
-pub mod Work
+pub mod Rest
 pub mod Worlds

@@ -20,3 +20,8 @@ ArePairs lines ranks senders receivers kept waiting =
 pub record HasMore (before after : ℕ → List Event) (rank : ℕ) (e : Event) : Type 0 where
   pub own : after rank ≡ before rank ++ e ∷ []
   pub others : (i : ℕ) → i ≢ rank → after i ≡ before i
+
+-- one rank has these events more, and the others have none
+pub record HasAllMore (before after : ℕ → List Event) (rank : ℕ) (more : List Event) : Type 0 where
+  pub own : after rank ≡ before rank ++ more
+  pub others : (i : ℕ) → i ≢ rank → after i ≡ before i

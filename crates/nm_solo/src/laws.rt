@@ -1,34 +1,16 @@
 //! Laws of the definitions. Each is the contract of a function that does nothing.
 
-ghost use Rattle.std.specs.Prelude.{◌≡◌, ◌≢◌, ℕ, ◌+◌, ◌<◌, Bool, true, false, nat_lt};
-ghost use Rattle.std.specs.Prelude.{Some, None, List, [], ◌∷◌, ◌++◌, length, slice_get};
+ghost use Rattle.std.specs.Prelude.{◌≡◌, ◌≢◌, ℕ, ◌<◌, true, List, [], ◌∷◌, ◌++◌, length};
 ghost use Rattle.std.specs.List.{list_all};
 ghost use Rattle.nm_types.specs.declared.scripts.Line.{Line};
-ghost use Rattle.nm_types.specs.declared.answers.Answer.{Answer};
-ghost use Rattle.nm_types.specs.declared.answers.Answer.TheVariants.{Started};
-ghost use Rattle.nm_types.specs.declared.messages.How.TheVariants.{Eager};
-ghost use Rattle.nm_types.specs.declared.messages.Peer.{Peer};
-ghost use Rattle.nm_types.specs.declared.messages.Post as post;
-ghost use Rattle.nm_types.specs.declared.messages.TagPick.{TagPick};
-ghost use Rattle.nm_types.specs.declared.scripts.Body.{Body};
-ghost use Rattle.nm_types.specs.declared.scripts.Command.TheVariants as command;
-ghost use Rattle.nm_types.specs.Bodies.{body_len};
-ghost use Rattle.nm_types.specs.Commands.{Numbered, command_at, commands_of};
-ghost use Rattle.nm_types.specs.Sizes.{Sizes};
+ghost use Rattle.nm_types.specs.Commands.{Numbered, commands_of};
 ghost use Rattle.nm_history.specs.declared.events.Event.{Event};
-ghost use Rattle.nm_history.specs.declared.events.Happened.TheVariants.{Send, Post, Out, Ran};
-ghost use Rattle.nm_history.specs.Answers.{answer_of, is_started, live, request_at, request_of};
-ghost use Rattle.nm_history.specs.Answers.{without_bytes};
-ghost use Rattle.nm_history.specs.Completion.{Request};
-ghost use Rattle.nm_history.specs.RankRun.{EndAt, IsRankRun, NumberAt, last_stamp};
-ghost use Rattle.nm_history.specs.Underway.{is_answer};
 ghost use Rattle.nm_history.specs.Sends.{Sent, Arrived, sends, arrivals};
 ghost use Rattle.nm_history.specs.Growing.{MaySend, MayReceive};
 ghost use Rattle.nm_history.specs.Quiescence.{EagerOver, AskedOver, RecallsAnswered};
 ghost use Rattle.nm_history.specs.Outgoing.{packets_to};
-ghost use Rattle.nm_solo.specs.Actors.{IsOrdinary, are_below, line_of};
-ghost use Rattle.nm_solo.specs.Between.{Flight, IsBetween, arrivals_by, flight_of, sends_by};
-ghost use Rattle.nm_solo.specs.Cores.{IsCoreRun, is_plain};
+ghost use Rattle.nm_core.specs.Cores.{IsCoreRun, is_plain};
+ghost use Rattle.nm_solo.specs.Between.{Flight, IsBetween, IsOfCommand, arrivals_by, flight_of, sends_by};
 ghost use Rattle.nm_solo.specs.Pairs.{ArePairs, HasMore};
 
 /// What stands between two ranks, while one of them has one event more. A rank's own messages take
@@ -41,7 +23,8 @@ pub fn between_goes_on()
         IsBetween i j ci cj (hi ++ e ∷ []) hj kept waiting }
     ensures sends { (i j : ℕ) (ci cj : List Numbered) (hi hj : List Event)
         (kept : List (List ℕ)) (waiting : List Flight) (e : Event) (s : Sent) →
-        IsBetween i j ci cj hi hj kept waiting → sends_by e j ≡ s ∷ [] → MaySend i j hi hj e →
+        IsBetween i j ci cj hi hj kept waiting → sends_by e j ≡ s ∷ [] → IsOfCommand ci s →
+        MaySend i j hi hj e →
         IsBetween i j ci cj (hi ++ e ∷ []) hj kept (waiting ++ flight_of i ci s ∷ []) }
     ensures receiver { (i j : ℕ) (ci cj : List Numbered) (hi hj : List Event)
         (kept : List (List ℕ)) (waiting : List Flight) (e : Event) →
@@ -66,7 +49,7 @@ pub fn pairs_go_on()
         (kept : ℕ → ℕ → List (List ℕ)) (waiting more : ℕ → ℕ → List Flight) (e : Event)
         (s : Sent) →
         ArePairs lines n h g kept waiting → HasMore h after r e → sends_by e to ≡ s ∷ [] →
-        ((j : ℕ) → j ≢ to → sends_by e j ≡ []) →
+        IsOfCommand (commands_of r lines) s → ((j : ℕ) → j ≢ to → sends_by e j ≡ []) →
         ((j : ℕ) → j < n → MaySend r j (h r) (g j) e) →
         more r to ≡ waiting r to ++ flight_of r (commands_of r lines) s ∷ [] →
         ((j : ℕ) → j ≢ to → more r j ≡ waiting r j) →
@@ -104,61 +87,4 @@ pub fn rest_is_quiescent()
         list_all (λ e. is_plain e.what) h ≡ true → RecallsAnswered h }
     ensures packets { (h : List Event) (to : ℕ) →
         list_all (λ e. is_plain e.what) h ≡ true → packets_to h to ≡ length (sends h to) }
-{}
-
-/// The commands that neither probe nor cancel.
-pub fn sends_receives_and_waits_are_ordinary()
-    ensures send { (q to tag ctx : ℕ) (body : Body) (sync : Bool) →
-        IsOrdinary (command.Send q to tag ctx body sync) }
-    ensures receive { (q : ℕ) (from : Peer) (tag : TagPick) (ctx cap : ℕ) →
-        IsOrdinary (command.Recv q from tag ctx cap) }
-    ensures wait { (q : ℕ) → IsOrdinary (command.Wait q) }
-{}
-
-/// The start of a line that is still to come makes the request of that line, and changes no name
-/// before its command has answered.
-pub fn starts_make_their_requests()
-    ensures made { (line : ℕ) (h : List Event) (e : Event) (r : Request) →
-        are_below line h ≡ true → request_of line e.what ≡ Some r →
-        request_at (h ++ e ∷ []) line ≡ Some r }
-    ensures names { (commands : List Numbered) (h : List Event) (e : Event) (q line : ℕ) →
-        is_answer e.what ≡ false → line_of e.what ≡ line → are_below line h ≡ true →
-        live commands (h ++ e ∷ []) q ≡ live commands h q }
-{}
-
-/// A rank's run goes on by its next command: by an answer alone, by a send that leaves at once, or
-/// by a receive.
-pub fn commands_go_on()
-    ensures answered { (shape : Sizes) (commands : List Numbered) (at stamp : ℕ)
-        (h : List Event) (a : Answer) (n : Numbered) →
-        IsRankRun shape commands at h → slice_get commands at ≡ Some n →
-        command_at commands n.line ≡ Some n.command → IsOrdinary n.command →
-        answer_of commands h n.line n.command ≡ Some (without_bytes a) → is_started a ≡ false →
-        last_stamp h < stamp → IsRankRun shape commands (at + 1)
-        (h ++ record { stamp = stamp; what = Ran n.line a } ∷ []) }
-    ensures sent { (shape : Sizes) (commands : List Numbered)
-        (at line s1 s2 s3 q to n tag ctx : ℕ) (body : Body) (h : List Event) →
-        let c = command.Send q to tag ctx body false in
-        let e1 : Event = record { stamp = s1; what = Send to n tag ctx (body_len body) Eager line } in
-        let e2 : Event = record { stamp = s2; what = Out to n } in
-        IsRankRun shape commands at h →
-        slice_get commands at ≡ Some (record { line = line; command = c }) →
-        command_at commands line ≡ Some c → nat_lt shape.eager (body_len body) ≡ false →
-        live commands ((h ++ e1 ∷ []) ++ e2 ∷ []) q ≡ None →
-        NumberAt shape.ranks h e1.what → EndAt (h ++ e1 ∷ []) e2.what →
-        last_stamp h < s1 → last_stamp (h ++ e1 ∷ []) < s2 →
-        last_stamp ((h ++ e1 ∷ []) ++ e2 ∷ []) < s3 → IsRankRun shape commands (at + 1)
-        (((h ++ e1 ∷ []) ++ e2 ∷ []) ++ record { stamp = s3; what = Ran line Started } ∷ []) }
-    ensures posted { (shape : Sizes) (commands : List Numbered) (at line s1 s2 q number : ℕ)
-        (from : Peer) (tag : TagPick) (ctx cap : ℕ) (h : List Event) →
-        let c = command.Recv q from tag ctx cap in
-        let p : post.Post =
-        record { number = number; from = from; tag = tag; ctx = ctx; cap = cap } in
-        let e1 : Event = record { stamp = s1; what = Post p line } in
-        IsRankRun shape commands at h →
-        slice_get commands at ≡ Some (record { line = line; command = c }) →
-        command_at commands line ≡ Some c → live commands (h ++ e1 ∷ []) q ≡ None →
-        NumberAt shape.ranks h e1.what → last_stamp h < s1 → last_stamp (h ++ e1 ∷ []) < s2 →
-        IsRankRun shape commands (at + 1)
-        ((h ++ e1 ∷ []) ++ record { stamp = s2; what = Ran line Started } ∷ []) }
 {}

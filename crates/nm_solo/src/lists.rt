@@ -1,58 +1,73 @@
 //! The messages on their way, in one list for each ordered pair of ranks.
 
-ghost use Rattle.std.specs.Prelude.{◌≡◌, ◌<◌, ◌≤◌, ◌*◌, vec_len, IfOk};
-ghost use Rattle.nm_solo.specs.declared.cores.TheConstants.{WORN};
+ghost use Rattle.std.specs.Prelude.{◌≡◌, ◌<◌, [], ◌∷◌, ◌++◌, ℕ, drop, length, map, replicate, IfOk};
+ghost use Rattle.std.specs.Prelude.{MatchOption, OnOk};
+ghost use Rattle.std.specs.List.{slice_index_or};
+ghost use Rattle.nm_solo.specs.Lists.{on_way, with_on_way};
 
-use nm_types::{Arrival, Bytes, Memory};
+use nm_core::Message;
+use nm_types::Memory;
 use std::alloc::Global;
 use std::collections::VecDeque;
-
-/// A whole message on its way, with the clock of its sender when it left.
-#[derive(Debug, Drop)]
-pub struct Message {
-    pub stamp: u64,
-    pub arrival: Arrival,
-    pub body: Bytes,
-    pub ghost in_time: { stamp ≤ WORN },
-}
+use std::marker::Model;
 
 /// The messages that were sent and not taken, oldest first, by sender and receiver.
 #[derive(Drop)]
 pub struct Lists {
-    pub ranks: u8,
-    pub lists: Vec<VecDeque<Message>>,
-    pub ghost each_pair: { vec_len lists ≡ ranks * ranks },
+    lists: Vec<Vec<VecDeque<Message>>>,
+}
+
+impl Model for Lists {
+    ghost use Rattle.std.specs.Prelude.{List, map};
+    ghost use Rattle.nm_core.specs.declared.messages.Message.{Message};
+
+    ghost Value = { List (List (List Message)) };
+
+    ghost view = { λ a. map (λ row. map (λ queue. queue.items) row.items) a.lists.items };
 }
 
 impl Lists {
-    /// Empty lists between these ranks.
+    /// Empty lists between so many ranks.
     pub fn new(alloc: Global, ranks: u8) -> Result<Lists, Memory>
-        ensures { IfOk result (λ lists. lists.ranks ≡ ranks) }
+        ensures { IfOk result (λ lists. lists ≡ replicate ranks (replicate ranks [])) }
     {
-        let pairs = ranks as usize * ranks as usize;
         let mut lists = Vec::new(alloc);
-        for _ in 0..pairs {
-            lists.push(VecDeque::new(alloc))?;
+        for _ in 0..ranks {
+            lists.push(row(alloc, ranks)?)?;
         }
-        Ok(Lists { ranks, lists })
+        Ok(Lists { lists })
     }
 
     /// Puts a message behind those from this rank to that one.
     pub fn put(&mut self, from: u8, to: u8, message: Message) -> Result<(), Memory>
-        requires from { from < self.old.ranks }
-        requires to { to < self.old.ranks }
-        ensures { self.new.ranks ≡ self.old.ranks }
+        requires from { from < length self.old }
+        requires to { to < length (slice_index_or self.old from []) }
+        ensures { OnOk result (self.new
+            ≡ with_on_way self.old from to (on_way self.old from to ++ message ∷ [])) }
     {
-        self.lists[from as usize * self.ranks as usize + to as usize].push_back(message)?;
+        self.lists[from as usize][to as usize].push_back(message)?;
         Ok(())
     }
 
-    /// Takes the oldest message from this rank to that one.
+    /// Takes the oldest message from this rank to that one, if there is one.
     pub fn take(&mut self, from: u8, to: u8) -> Option<Message>
-        requires from { from < self.old.ranks }
-        requires to { to < self.old.ranks }
-        ensures { self.new.ranks ≡ self.old.ranks }
+        requires from { from < length self.old }
+        requires to { to < length (slice_index_or self.old from []) }
+        ensures first { MatchOption result ((on_way self.old from to ≡ []) × (self.new ≡ self.old))
+            (λ message. on_way self.old from to ≡ message ∷ drop 1 (on_way self.old from to)) }
+        ensures rest { self.new ≡ with_on_way self.old from to (drop 1 (on_way self.old from to)) }
     {
-        self.lists[from as usize * self.ranks as usize + to as usize].pop_front()
+        self.lists[from as usize][to as usize].pop_front()
     }
+}
+
+// Empty lists to each of so many ranks.
+fn row(alloc: Global, ranks: u8) -> Result<Vec<VecDeque<Message>>, Memory>
+    ensures { IfOk result (λ row. map (λ queue. queue.items) row.items ≡ replicate ranks []) }
+{
+    let mut row = Vec::new(alloc);
+    for _ in 0..ranks {
+        row.push(VecDeque::new(alloc))?;
+    }
+    Ok(row)
 }

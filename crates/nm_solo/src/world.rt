@@ -1,16 +1,16 @@
 //! All ranks of a run, and the messages between them.
 
-ghost use Rattle.std.specs.Prelude.{◌≡◌, ◌<◌, ◌≤◌, vec_len, length, IfOk};
-ghost use Rattle.std.specs.List.{All};
-ghost use Rattle.nm_types.specs.declared.limits.TheConstants.{MAX_LINES};
-ghost use Rattle.nm_solo.specs.Lines.{AreLines};
-ghost use Rattle.nm_solo.specs.Worlds.{IsWorld};
+ghost use Rattle.std.specs.Prelude.{◌≡◌, ◌<◌, ◌≤◌, ℕ, false, [], IfOk};
+ghost use Rattle.nm_types.specs.declared.limits.TheConstants.{MAX_PAYLOAD};
+ghost use Rattle.nm_actor.specs.Lines.{AreLines};
+ghost use Rattle.nm_solo.specs.Lists.{on_way};
+ghost use Rattle.nm_solo.specs.Worlds.{CannotGoOnAt, IsFresh, IsOfSame, IsUnmoved, IsWorld};
+ghost use Rattle.nm_solo.specs.Worlds.{NothingComes, StandsStill};
 
-use crate::actor::Actor;
 use crate::lists::Lists;
+use nm_actor::{Actor, Step};
 use nm_outside::Gate;
-use nm_report::{Accounts, PairCount, Pairs, RankAccount, RunRecord};
-use nm_types::{Account, Line, Memory, Shape};
+use nm_types::{Line, Memory, Shape};
 use std::alloc::Global;
 
 /// How many messages of each sender a rank takes in one turn, and how many commands it runs.
@@ -18,160 +18,166 @@ const TURN: u32 = 64;
 
 /// All ranks at work.
 #[derive(Drop)]
-pub struct World {
+pub struct World<'a> {
+    pub shape: Shape,
+    pub lines: &'a [Line],
     pub actors: Vec<Actor>,
     pub lists: Lists,
 }
 
-impl World {
-    /// So many ranks at their first commands.
-    pub fn new(alloc: Global, ranks: u8) -> Result<World, Memory>
-        ensures { IfOk result (λ world. IsWorld ranks world) }
+impl<'a> World<'a> {
+    /// All ranks at their first commands.
+    pub fn new(alloc: Global, shape: Shape, lines: &'a [Line]) -> Result<World<'a>, Memory>
+        requires eager { MAX_PAYLOAD ≤ shape.eager }
+        requires lines { AreLines shape.ranks lines.now }
+        ensures world { IfOk result IsWorld }
+        ensures shape { IfOk result (λ world. world.shape ≡ shape) }
+        ensures lines { IfOk result (λ world. world.lines.now ≡ lines.now) }
     {
-        let lists = Lists::new(alloc, ranks)?;
         let mut actors = Vec::new(alloc);
-        for me in 0..ranks {
-            actors.push(Actor::new(alloc, ranks, me)?)?;
+        for me in 0..shape.ranks() {
+            actors.push(Actor::new(alloc, shape.ranks(), me)?)?;
         }
-        Ok(World { actors, lists })
+        Ok(World {
+            shape,
+            lines,
+            actors,
+            lists: Lists::new(alloc, shape.ranks())?,
+        })
     }
 
     /// A turn of each rank. It answers whether anything moved.
-    pub fn pass<G: Gate>(&mut self, ranks: u8, lines: &[Line], gate: &G) -> Result<bool, Memory>
-        requires world { IsWorld ranks self.old }
-        requires lines { AreLines ranks lines.now }
-        ensures { IfOk result (λ _. IsWorld ranks self.new) }
+    pub fn pass<G: Gate>(&mut self, gate: &G) -> Result<bool, Memory>
+        requires { IsWorld self.old }
+        ensures world { IfOk result (λ _. IsWorld self.new) }
+        ensures same { IfOk result (λ _. IsOfSame self.old self.new) }
+        ensures still { IfOk result (λ moved. moved ≡ false → (i : ℕ) → i < self.new.shape.ranks →
+            StandsStill self.new i) }
     {
         let mut moved = false;
-        for me in 0..ranks {
+        for me in 0..self.shape.ranks() {
             gate.turn(me);
-            let one = self.turn(ranks, me, lines)?;
+            let one = self.turn(me)?;
             moved = moved | one;
         }
         Ok(moved)
     }
 
-    // Takes what came, and runs commands as long as they can go on.
-    fn turn(&mut self, ranks: u8, me: u8, lines: &[Line]) -> Result<bool, Memory>
-        requires world { IsWorld ranks self.old }
-        requires lines { AreLines ranks lines.now }
-        requires me { me < ranks }
-        ensures { IfOk result (λ _. IsWorld ranks self.new) }
+    // Takes what came, and runs commands as long as they can go on. A rank whose clock is used up
+    // is not at rest.
+    fn turn(&mut self, me: u8) -> Result<bool, Memory>
+        requires world { IsWorld self.old }
+        requires me { me < self.old.shape.ranks }
+        ensures world { IfOk result (λ _. IsWorld self.new) }
+        ensures same { IfOk result (λ _. IsOfSame self.old self.new) }
+        ensures unmoved { IfOk result (λ moved. moved ≡ false → IsUnmoved self.old self.new) }
+        ensures still { IfOk result (λ moved. moved ≡ false → StandsStill self.new me) }
+    {
+        let took = self.take_all(me)?;
+        let ran = self.run_commands(me)?;
+        let worn = self.actors[me as usize].is_worn();
+        Ok(took | ran | worn)
+    }
+
+    // Takes the messages on their way to a rank.
+    fn take_all(&mut self, me: u8) -> Result<bool, Memory>
+        requires world { IsWorld self.old }
+        requires me { me < self.old.shape.ranks }
+        ensures world { IfOk result (λ _. IsWorld self.new) }
+        ensures same { IfOk result (λ _. IsOfSame self.old self.new) }
+        ensures unmoved { IfOk result (λ moved. moved ≡ false → self.new ≡ self.old) }
+        ensures none { IfOk result (λ moved. moved ≡ false → IsFresh self.old me →
+            NothingComes self.old self.old.shape.ranks me) }
     {
         let mut moved = false;
-        for from in 0..ranks {
-            let took = self.take_from(ranks, from, me)?;
+        for from in 0..self.shape.ranks() {
+            let took = self.take_from(from, me)?;
             moved = moved | took;
         }
-        let ran = self.run_commands(ranks, me, lines)?;
-        let worn = self.actors[me as usize].core.is_worn();
-        Ok(moved | ran | worn)
+        Ok(moved)
     }
 
     // Takes the messages on their way from one rank to another.
-    fn take_from(&mut self, ranks: u8, from: u8, me: u8) -> Result<bool, Memory>
-        requires world { IsWorld ranks self.old }
-        requires from { from < ranks }
-        requires me { me < ranks }
-        ensures { IfOk result (λ _. IsWorld ranks self.new) }
+    fn take_from(&mut self, from: u8, me: u8) -> Result<bool, Memory>
+        requires world { IsWorld self.old }
+        requires from { from < self.old.shape.ranks }
+        requires me { me < self.old.shape.ranks }
+        ensures world { IfOk result (λ _. IsWorld self.new) }
+        ensures same { IfOk result (λ _. IsOfSame self.old self.new) }
+        ensures unmoved { IfOk result (λ moved. moved ≡ false → self.new ≡ self.old) }
+        ensures none { IfOk result (λ moved. moved ≡ false → IsFresh self.old me →
+            on_way self.old.lists from me ≡ []) }
     {
-        let mut moved = false;
-        for _ in 0..TURN {
-            if !self.take_one(ranks, from, me)? {
+        if !self.take_one(from, me)? {
+            return Ok(false);
+        }
+        for _ in 1..TURN {
+            if !self.take_one(from, me)? {
                 break;
             }
-            moved = true;
         }
-        Ok(moved)
+        Ok(true)
     }
 
-    fn take_one(&mut self, ranks: u8, from: u8, me: u8) -> Result<bool, Memory>
-        requires world { IsWorld ranks self.old }
-        requires from { from < ranks }
-        requires me { me < ranks }
-        ensures { IfOk result (λ _. IsWorld ranks self.new) }
+    // Takes the oldest message on its way from one rank to another, if there is one.
+    fn take_one(&mut self, from: u8, me: u8) -> Result<bool, Memory>
+        requires world { IsWorld self.old }
+        requires from { from < self.old.shape.ranks }
+        requires me { me < self.old.shape.ranks }
+        ensures world { IfOk result (λ _. IsWorld self.new) }
+        ensures same { IfOk result (λ _. IsOfSame self.old self.new) }
+        ensures unmoved { IfOk result (λ moved. moved ≡ false → self.new ≡ self.old) }
+        ensures none { IfOk result (λ moved. moved ≡ false → IsFresh self.old me →
+            on_way self.old.lists from me ≡ []) }
     {
-        let took = self.actors[me as usize].take_one(from, &mut self.lists)?;
-        Ok(took)
+        if self.actors[me as usize].is_worn() {
+            return Ok(false);
+        }
+        let Some(message) = self.lists.take(from, me) else {
+            return Ok(false);
+        };
+        self.actors[me as usize].take(message)?;
+        Ok(true)
     }
 
-    fn run_commands(&mut self, ranks: u8, me: u8, lines: &[Line]) -> Result<bool, Memory>
-        requires world { IsWorld ranks self.old }
-        requires lines { AreLines ranks lines.now }
-        requires me { me < ranks }
-        ensures { IfOk result (λ _. IsWorld ranks self.new) }
+    // Runs the commands of a rank as long as they can go on.
+    fn run_commands(&mut self, me: u8) -> Result<bool, Memory>
+        requires world { IsWorld self.old }
+        requires me { me < self.old.shape.ranks }
+        ensures world { IfOk result (λ _. IsWorld self.new) }
+        ensures same { IfOk result (λ _. IsOfSame self.old self.new) }
+        ensures unmoved { IfOk result (λ moved. moved ≡ false → IsUnmoved self.old self.new) }
+        ensures stands { IfOk result (λ moved. moved ≡ false → IsFresh self.old me →
+            CannotGoOnAt self.new me) }
     {
-        let mut moved = false;
-        for _ in 0..TURN {
-            if !self.run_next(ranks, me, lines)? {
+        if !self.run_next(me)? {
+            return Ok(false);
+        }
+        for _ in 1..TURN {
+            if !self.run_next(me)? {
                 break;
             }
-            moved = true;
         }
-        Ok(moved)
+        Ok(true)
     }
 
-    fn run_next(&mut self, ranks: u8, me: u8, lines: &[Line]) -> Result<bool, Memory>
-        requires world { IsWorld ranks self.old }
-        requires lines { AreLines ranks lines.now }
-        requires me { me < ranks }
-        ensures { IfOk result (λ _. IsWorld ranks self.new) }
+    // Runs the next command of a rank, if there is one and it can go on.
+    fn run_next(&mut self, me: u8) -> Result<bool, Memory>
+        requires world { IsWorld self.old }
+        requires me { me < self.old.shape.ranks }
+        ensures world { IfOk result (λ _. IsWorld self.new) }
+        ensures same { IfOk result (λ _. IsOfSame self.old self.new) }
+        ensures unmoved { IfOk result (λ moved. moved ≡ false → IsUnmoved self.old self.new) }
+        ensures stands { IfOk result (λ moved. moved ≡ false → IsFresh self.old me →
+            CannotGoOnAt self.new me) }
     {
-        let ran = self.actors[me as usize].run_next(lines, &mut self.lists)?;
-        Ok(ran)
-    }
-
-    /// What a run that came to rest has to tell.
-    pub fn into_record(
-        self,
-        alloc: Global,
-        lines: &[Line],
-        shape: Shape,
-    ) -> Result<RunRecord, Memory>
-        requires world { IsWorld shape.ranks self }
-        requires lines { length lines.now < MAX_LINES }
-        ensures { IfOk result (λ run. run.shape ≡ shape) }
-    {
-        let mut ranks = Accounts::new(alloc);
-        let mut pairs = Pairs::new(alloc);
-        let mut done = true;
-        for actor in self.actors {
-            let waits = actor.waits(lines);
-            done = done & waits.is_none();
-            push_counts(&mut pairs, &actor)?;
-            ranks.push(account(actor, waits))?;
-        }
-        let total = u32::from(shape.ranks()) * u32::from(shape.cells());
-        let cells = Account { total, home: total };
-        Ok(RunRecord {
-            shape,
-            ranks,
-            pairs,
-            cells,
-            done,
-        })
-    }
-}
-
-fn account(actor: Actor, waits: Option<u32>) -> RankAccount {
-    RankAccount {
-        at: actor.at,
-        history: actor.core.into_history(),
-        waits,
-    }
-}
-
-// The packets that a rank sent to each other, where there are some.
-fn push_counts(pairs: &mut Pairs, actor: &Actor) -> Result<(), Memory> {
-    for to in 0..actor.core.ranks() {
-        let packets = actor.core.packets(to);
-        if packets > 0 {
-            pairs.push(PairCount {
-                from: actor.core.me,
-                to,
-                packets,
-            })?;
+        match self.actors[me as usize].run_next(self.lines)? {
+            Step::Waits => Ok(false),
+            Step::Ran => Ok(true),
+            Step::Sent { to, message } => {
+                self.lists.put(me, to, message)?;
+                Ok(true)
+            }
         }
     }
-    Ok(())
 }

@@ -1,6 +1,6 @@
--- A list for each pair so far.
-use Rattle.std.proofs.Common.{◌≡◌, vec_len}
+use Rattle.std.proofs.Common.{◌≡◌, [], map, replicate}
 use Rattle.nm_solo.proofs.lists.Lists.new.Given as goal
 
 abbrev pub invariant-loop : goal.invariant-loop
-invariant-loop l = vec_len l.lists ≡ l.counter
+invariant-loop l =
+    map (λ row. map (λ queue. queue.items) row.items) l.lists.items ≡ replicate l.counter (replicate l.ranks [])
