@@ -1,3 +1,6 @@
+pub mod ListLemmas
+pub mod PairLemmas
 pub mod SpokenLemmas
+pub mod TotalLemmas
 pub mod UpdateLemmas
 pub mod WindowLemmas

@@ -12,7 +12,7 @@ use Rattle.atomic_table.proofs.Lists.{one_turn}
 use Rattle.nm_seats.specs.Window.{Window, slot_full, slot_free}
 
 -- one turn of the ring further
-cycle : (B a : ℕ) → 0 < B → (a + B) % B ≡ a % B
+pub cycle : (B a : ℕ) → 0 < B → (a + B) % B ≡ a % B
 cycle B a some = let q : ℕ = a / B in let r : ℕ = a % B in let is : q * B + r ≡ a =
     div-add-mod' a B in let more : suc q * B ≡ q * B + B = omega (arith, suc-mul q B) in
     ap (λ k. k % B) (let e : a + B ≡ suc q * B + r = omega arith in e) ∙ nat.mod-mul-add (suc q) B r
@@ -28,7 +28,7 @@ module _ {L : Type 0} where
   low_at (x ∷ xs) zero y e = omega arith
   low_at (x ∷ xs) (suc t) y e = let l = low_at xs t y e in omega arith
 
-  at_more : (xs : List L) (x : L) (t : ℕ) (y : L) → get_elem? (xs ++ x ∷ []) t ≡ maybe.some y
+  pub at_more : (xs : List L) (x : L) (t : ℕ) (y : L) → get_elem? (xs ++ x ∷ []) t ≡ maybe.some y
       → (get_elem? xs t ≡ maybe.some y) ⊎ ((t ≡ length xs) × (x ≡ y))
   at_more [] x zero y e = inr (refl, maybe.some-injective x y e)
   at_more [] x (suc t) y e = absurd (maybe.some-ne-none y (sym e))

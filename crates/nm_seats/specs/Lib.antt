@@ -1,3 +1,4 @@
 pub mod Spoken
+pub mod Total
 pub mod Update
 pub mod Window

@@ -6,6 +6,7 @@ ghost use mathlib.Core.Option as maybe;
 ghost use lib.ListN.{get_elem?};
 ghost use Rattle.nm_seats.specs.declared.views.View.{View};
 ghost use Rattle.nm_seats.specs.Spoken.{Spoken, view};
+ghost use Rattle.nm_seats.specs.Total.{total, sign};
 ghost use Rattle.nm_seats.specs.Update.{update};
 ghost use Rattle.nm_seats.specs.Window.{Any, Changes, Window};
 
@@ -69,4 +70,13 @@ pub fn the_first_full_place_is_emptied<L>()
         Changes B flag flag' (length got) 0 →
         Changes B slot slot' (length got) (maybe.some (maybe.some none)) →
         Window B none mark Any flag' slot' filling None put (got ++ y ∷ []) ys }
+{}
+
+/// So many places have a flag that isn't 0 as there are items that wait, whoever is at work.
+pub fn the_full_places_are_those_that_wait<L>()
+    ensures { (B : ℕ) (none : L) (mark : L → ℕ) (flag : ℕ → ℕ)
+        (slot : ℕ → maybe.Option (maybe.Option L)) (filling : Bool) (emptying : Option L)
+        (put got waits : List L) → 0 < B → ((y : L) → 0 < mark y) →
+        Window B none mark Any flag slot filling emptying put got waits →
+        total B (λ k. sign (flag k)) ≡ length waits }
 {}

@@ -24,7 +24,8 @@
 //! - A seat changes the entries of its own ranks alone, and splits and joins move entries as they are
 //!   (`laws`).
 //! - At most B items are under way in a window of B places, they come out in the order in which they
-//!   went in, a full place is never filled and a free one never emptied (`laws`).
+//!   went in, a full place is never filled and a free one never emptied; so many flags aren't 0 as items
+//!   are under way (`laws`).
 #![tactic(auto)]
 
 pub mod laws;

@@ -1,0 +1,322 @@
+-- What each kind of step may tell its seat.
+use Rattle.std.proofs.Common.{◌≡◌, ℕ, ◌*◌, ◌%◌, ◌<◌, true, false, Some}
+use Rattle.std.proofs.Common.{None, List, [], ◌∷◌, length, set, sym, refl, ap, ◌∙◌, subst}
+use Rattle.std.proofs.Common.{arith, length-set}
+use Rattle.std.proofs.lemmas.Nat.{mod_below}
+use Rattle.std.proofs.lemmas.List.{set-get_or}
+use Rattle.std.specs.Prelude.{slice_index}
+use mathlib.Core.Option as maybe
+use mathlib.Core.Logic.{dite}
+use native.Mathlib.Decide.{ℕ_discrete}
+use Rattle.atomic_table.specs.Table.{step, keeps, takes, gives, rest, Allows}
+use Rattle.nm_seats.specs.Spoken.{view}
+use Rattle.nm_seats.proofs.UpdateLemmas.{pick_yes, pick_no}
+use Rattle.nm_types.specs.declared.packets.Piece.{Piece}
+use Rattle.nm_copyring.specs.declared.table.Work.{Work}
+use Rattle.nm_copyring.specs.declared.table.Work.TheVariants.{Idle, Filling, Emptying}
+use Rattle.nm_copyring.specs.declared.table.Lane.{Lane}
+use Rattle.nm_copyring.specs.declared.table.Entry.{Entry}
+use Rattle.nm_copyring.specs.Rule.{Load, lane, is_filling, emptying, Ring, Knows, Rule}
+use Rattle.nm_copyring.specs.Plays as plays
+use Rattle.nm_copyring.specs.Plays.{Knowing, with_work, with_lane, one_pushed, one_pulled, one_full}
+use Rattle.nm_copyring.specs.Plays.{one_empty, next_out, next_in, IsOne}
+use Rattle.nm_copyring.proofs.ListLemmas.{one_place, place_low}
+use Rattle.nm_copyring.proofs.RingLemmas.{lane_else}
+use Rattle.nm_copyring.proofs.RingLemmas.{free_is_home, sender_opens, sender_fills}
+use Rattle.nm_copyring.proofs.RingLemmas.{receiver_opens, receiver_empties}
+use Rattle.nm_copyring.proofs.StepLemmas.{lane_keeps, ring_to, ring_of, only_counts}
+use Rattle.nm_copyring.proofs.StepLemmas.{sender_steps, receiver_steps}
+
+small : (k : ℕ) → k % 4 < 4
+small k = mod_below k 4 (omega arith)
+
+filling_is : (t u : ℕ) → Filling t ≡ Filling u → t ≡ u
+filling_is t u e = cc
+
+emptying_is : (t u : ℕ) (p q : Piece) → Emptying t p ≡ Emptying u q → (t ≡ u) × (p ≡ q)
+emptying_is t u p q e = (cc, cc)
+
+-- what is in the slot that was taken last
+front : List (ℕ × Load) → Load
+front [] = None
+front (x ∷ xs) = x.1
+
+pub same_front : (w : ℕ) (y z : Load) (hs is : List (ℕ × Load)) → (w, y) ∷ hs ≡ (w, z) ∷ is
+    → (y ≡ z) × (hs ≡ is)
+unfolding front
+same_front w y z hs is e = (ap front e, ap rest e)
+
+some_is : (p q : Piece) → Some p ≡ Some q → p ≡ q
+some_is p q e = cc
+
+module _ (slots id : ℕ) (e : Entry) (low : e.rank < e.ranks) (wide : length e.lanes ≡ e.ranks)
+    (deep : slots ≡ 4 * (e.ranks * e.ranks)) (peer : ℕ) (few : peer < e.ranks) where
+  abbrev n : ℕ
+  n = e.ranks
+
+  in_lanes : peer < length e.lanes
+  in_lanes = subst (λ k. peer < k) (sym wide) few
+
+  abbrev here : List (ℕ × Load) → Knowing
+  here hs = (view (e ∷ []), hs)
+
+  abbrev out_at : ℕ
+  out_at = next_out e peer
+
+  abbrev in_at : ℕ
+  in_at = next_in e peer
+
+  known : (w : Work) → Knows n e.rank (with_work w e)
+  known w = (refl, refl, wide)
+
+  known_lane : (f : Lane → Lane) (w : Work) → Knows n e.rank (with_lane f peer (with_work w e))
+  known_lane f w = (refl, refl, length-set e.lanes peer (f (lane e peer)) ∙ wide)
+
+  counts_known : (f : Lane → Lane) → Knows n e.rank (with_lane f peer e)
+  counts_known f = (refl, refl, length-set e.lanes peer (f (lane e peer)) ∙ wide)
+
+  -- the rank is at work on no place, or on none of another peer
+  idle_out : e.work ≡ Idle → (l : ℕ) → is_filling e.work l ≡ false
+  idle_out idle l = ap (λ w. is_filling w l) idle
+
+  idle_in : e.work ≡ Idle → (l : ℕ) → emptying e.work l ≡ None
+  idle_in idle l = ap (λ w. emptying w l) idle
+
+  module _ (hs : List (ℕ × Load)) where
+    -- a load of the flag of the next place for the peer
+    look_out_kept : e.work ≡ Idle
+        → Allows (Rule n) slots id (here hs) out_at (λ u. u)
+        (plays.looked_out (step slots out_at 0 0 maybe.none) (here hs))
+    look_out_kept idle s R long at small_word = dite (ℕ_discrete (slice_index s.words out_at) 0)
+        (λ zeroed. let k : ℕ = length (lane e peer).pushed % 4 in
+        let g = ring_to slots id e low wide deep s R at peer few in
+        let lk = small (length (lane e peer).pushed) in
+        let inside : out_at < length s.homes =
+        (let l = place_low n e.rank peer k low few lk in omega arith) in (
+          view (with_work (Filling peer) e ∷ []),
+          takes out_at None,
+          free_is_home n s.words s.homes e.rank peer e (R.ledger peer) g (idle_out idle peer) zeroed,
+          sender_steps slots id e low wide deep s R at peer k (slice_index s.words out_at)
+              maybe.none few lk (with_work (Filling peer) e) (known (Filling peer))
+              (λ l ne. (
+                pick_no true false (λ x. ne (sym x)) (ℕ_discrete peer l)
+                    ∙ sym (idle_out idle l),
+                refl,
+              ))
+              (λ l. (sym (idle_in idle l), refl))
+              (subst (λ ws. Ring n ws (set s.homes out_at maybe.none) e.rank peer
+              (with_work (Filling peer) e) (R.ledger peer)) (sym (set-get_or s.words out_at 0))
+              (sender_opens n s.words s.homes e.rank peer e (R.ledger peer) g (idle_out idle peer)
+              zeroed inside)),
+          λ j lj same. (
+            (λ _. ap (λ u. here_after u) (only_peer j lj same)),
+            (λ pos. absurd (omega arith)),
+          ),
+        ))
+        (λ full. (
+          view (with_lane one_full peer e ∷ []),
+          keeps,
+          tt,
+          only_counts slots id e low wide deep s R at (with_lane one_full peer e) out_at
+              (counts_known one_full)
+              (λ l. (refl, lane_keeps e peer in_lanes one_full (λ (x : Lane). x.pushed) (λ x. refl) l))
+              (λ l. (refl, lane_keeps e peer in_lanes one_full (λ (x : Lane). x.pulled) (λ x. refl) l)),
+          λ j lj same. (
+            (λ zeroed. absurd (full zeroed)),
+            (λ _. ap (λ u. (view (with_lane one_full u e ∷ []), hs)) (only_peer j lj same)),
+          ),
+        )) where
+          here_after : ℕ → Knowing
+          here_after u = (view (with_work (Filling u) e ∷ []), (out_at, None) ∷ hs)
+
+          only_peer : (j : ℕ) → j < n → out_at ≡ next_out e j → peer ≡ j
+          only_peer j lj same = (one_place n e.rank peer (length (lane e peer).pushed % 4) e.rank j
+              (length (lane e j).pushed % 4) few lj (small (length (lane e peer).pushed))
+              (small (length (lane e j).pushed)) same).1
+
+    -- a load of the flag of the next place of the peer
+    look_in_kept : e.work ≡ Idle
+        → Allows (Rule n) slots id (here hs) in_at (λ u. u)
+        (plays.looked_in (step slots in_at 0 0 maybe.none) (here hs))
+    look_in_kept idle s R long at small_word = dite (ℕ_discrete (slice_index s.words in_at) 0)
+        (λ zeroed. (
+          view (with_lane one_empty peer e ∷ []),
+          keeps,
+          tt,
+          only_counts slots id e low wide deep s R at (with_lane one_empty peer e) in_at
+              (counts_known one_empty)
+              (λ l. (refl, lane_keeps e peer in_lanes one_empty (λ (x : Lane). x.pushed) (λ x. refl) l))
+              (λ l. (refl, lane_keeps e peer in_lanes one_empty (λ (x : Lane). x.pulled) (λ x. refl) l)),
+          λ i li same. (
+            (λ _. ap (λ u. (view (with_lane one_empty u e ∷ []), hs)) (only_peer i li same)),
+            (λ pos. absurd (omega arith)),
+          ),
+        ))
+        (λ full. let k : ℕ = length (lane e peer).pulled % 4 in
+        let g = ring_of slots id e low wide deep s R at peer few in
+        let lk = small (length (lane e peer).pulled) in
+        let inside : in_at < length s.homes =
+        (let l = place_low n peer e.rank k few low lk in omega arith) in
+        let some : 0 < slice_index s.words in_at = omega arith in
+        let found = receiver_opens n s.words s.homes peer e.rank (R.ledger peer) e g (idle_in idle peer)
+        some inside in let q = found.0 in (
+          view (with_work (Emptying peer q) e ∷ []),
+          takes in_at (Some q),
+          found.3,
+          receiver_steps slots id e low wide deep s R at peer k (slice_index s.words in_at)
+              maybe.none few lk (with_work (Emptying peer q) e) (known (Emptying peer q))
+              (λ l. (sym (idle_out idle l), refl))
+              (λ l ne. (
+                pick_no (Some (Some q)) None (λ x. ne (sym x)) (ℕ_discrete peer l)
+                    ∙ sym (idle_in idle l),
+                refl,
+              ))
+              (subst (λ ws. Ring n ws (set s.homes in_at maybe.none) peer e.rank (R.ledger peer)
+              (with_work (Emptying peer q) e)) (sym (set-get_or s.words in_at 0)) found.4),
+          λ i li same. (
+            (λ zeroed. absurd (full zeroed)),
+            (λ _. subst (λ u. plays.Found u in_at (here hs) (here_after q)) (only_peer i li same)
+                (q, found.1, found.2, refl)),
+          ),
+        )) where
+          here_after : Piece → Knowing
+          here_after q = (view (with_work (Emptying peer q) e ∷ []), (in_at, Some q) ∷ hs)
+
+          only_peer : (i : ℕ) → i < n → in_at ≡ next_in e i → peer ≡ i
+          only_peer i li same = (one_place n peer e.rank (length (lane e peer).pulled % 4) i e.rank
+              (length (lane e i).pulled % 4) low low (small (length (lane e peer).pulled))
+              (small (length (lane e i).pulled)) same).0
+
+  module _ (hs : List (ℕ × Load)) (q : Piece) where
+    -- the store of 1
+    fill_kept : e.work ≡ Filling peer → q.from ≡ e.rank → q.number ≡ length (lane e peer).pushed
+        → Allows (Rule n) slots id (here ((out_at, Some q) ∷ hs)) out_at (λ _. 1)
+        (λ _. plays.filled (step slots out_at 1 0 maybe.none) (here ((out_at, Some q) ∷ hs)) 1)
+    fill_kept busy from number s R long at small_word =
+        let k : ℕ = length (lane e peer).pushed % 4 in
+        let g = ring_to slots id e low wide deep s R at peer few in
+        let lk = small (length (lane e peer).pushed) in
+        let l = place_low n e.rank peer k low few lk in let longer = R.long in
+        let f = with_lane (one_pushed q) peer (with_work Idle e) in (
+          view (f ∷ []),
+          gives,
+          tt,
+          sender_steps slots id e low wide deep s R at peer k 1 (maybe.some (Some q)) few lk f
+              (known_lane (one_pushed q) Idle)
+              (λ l ne. (
+                sym (ap (λ w. is_filling w l) busy
+                    ∙ pick_no true false (λ x. ne (sym x)) (ℕ_discrete peer l)),
+                ap (λ (x : Lane). x.pushed) (lane_else (with_work Idle e) peer l (one_pushed q) ne),
+              ))
+              (λ l. (
+                sym (ap (λ w. emptying w l) busy),
+                lane_keeps (with_work Idle e) peer in_lanes
+                    (one_pushed q) (λ (x : Lane). x.pulled) (λ x. refl) l,
+              ))
+              (sender_fills n s.words s.homes e.rank peer e (R.ledger peer) g
+              (ap (λ w. is_filling w peer) busy ∙ pick_yes true false refl (ℕ_discrete peer peer))
+              in_lanes (omega arith) (omega arith) q from number),
+          λ j p is to_j same. let t = same_front out_at (Some q) (Some p) hs is same in
+              let same_piece = some_is q p t.0 in
+              let same_peer = filling_is peer j (sym busy ∙ to_j) in
+              λ i. (
+                view (with_lane (one_pushed (same_piece i)) (same_peer i) (with_work Idle e) ∷ []),
+                t.1 i,
+              ),
+        )
+
+    -- the store of 0
+    empty_kept : e.work ≡ Emptying peer q
+        → Allows (Rule n) slots id (here ((in_at, None) ∷ hs)) in_at (λ _. 0)
+        (λ _. plays.emptied (step slots in_at 0 0 maybe.none) (here ((in_at, None) ∷ hs)) 0)
+    empty_kept busy s R long at small_word =
+        let k : ℕ = length (lane e peer).pulled % 4 in
+        let g = ring_of slots id e low wide deep s R at peer few in
+        let lk = small (length (lane e peer).pulled) in
+        let l = place_low n peer e.rank k few low lk in let longer = R.long in
+        let f = with_lane (one_pulled q) peer (with_work Idle e) in (
+          view (f ∷ []),
+          gives,
+          tt,
+          receiver_steps slots id e low wide deep s R at peer k 0 (maybe.some None) few lk f
+              (known_lane (one_pulled q) Idle)
+              (λ l. (
+                sym (ap (λ w. is_filling w l) busy),
+                lane_keeps (with_work Idle e) peer in_lanes
+                    (one_pulled q) (λ (x : Lane). x.pushed) (λ x. refl) l,
+              ))
+              (λ l ne. (
+                sym (ap (λ w. emptying w l) busy
+                    ∙ pick_no (Some (Some q)) None (λ x. ne (sym x)) (ℕ_discrete peer l)),
+                ap (λ (x : Lane). x.pulled) (lane_else (with_work Idle e) peer l (one_pulled q) ne),
+              ))
+              (receiver_empties n s.words s.homes peer e.rank (R.ledger peer) e g q
+              (ap (λ w. emptying w peer) busy
+              ∙ pick_yes (Some (Some q)) None refl (ℕ_discrete peer peer))
+              in_lanes (omega arith) (omega arith)),
+          λ j p is to_j same. let t = same_front in_at None None hs is same in
+              let both = emptying_is peer j q p (sym busy ∙ to_j) in
+              λ i. (
+                view (with_lane (one_pulled (both.1 i)) (both.0 i) (with_work Idle e) ∷ []),
+                t.1 i,
+              ),
+        )
+
+-- the same of a seat that is known by equations, of m ranks
+module _ (key m slots id : ℕ) (shape : key ≡ m) (deep : slots ≡ 4 * (m * m)) (me : Knowing)
+    (alone : me.0 ≡ view (plays.mine me ∷ [])) (one : IsOne m (plays.mine me)) (peer : ℕ) (few : peer < m)
+    (word : ℕ) where
+  abbrev e : Entry
+  e = plays.mine me
+
+  -- the rule speaks of as many ranks as the entry
+  along : (F : ℕ → Knowing → Type 0) → (e.rank < e.ranks → length e.lanes ≡ e.ranks
+      → slots ≡ 4 * (e.ranks * e.ranks) → peer < e.ranks → F e.ranks (view (e ∷ []), me.1))
+      → F key me
+  along F given = let ranks = one.1 in subst (λ k. F k me) (ranks ∙ sym shape)
+      (subst (λ v. F e.ranks (v, me.1)) (sym alone)
+      (given (subst (λ k. e.rank < k) (sym ranks) one.0) (one.2 ∙ sym ranks)
+      (deep ∙ ap (λ k. 4 * (k * k)) (sym ranks)) (subst (λ k. peer < k) (sym ranks) few)))
+
+  pub look_out_allowed : word ≡ next_out e peer → e.work ≡ Idle
+      → Allows (Rule key) slots id me word (λ u. u)
+      (plays.looked_out (step slots word 0 0 maybe.none) me)
+  look_out_allowed is idle = along (λ k v. Allows (Rule k) slots id v word (λ u. u)
+      (plays.looked_out (step slots word 0 0 maybe.none) v)) (λ l w d f.
+      subst (λ x. Allows (Rule e.ranks) slots id (view (e ∷ []), me.1) x (λ u. u)
+      (plays.looked_out (step slots x 0 0 maybe.none) (view (e ∷ []), me.1))) (sym is)
+      (look_out_kept slots id e l w d peer f me.1 idle))
+
+  pub look_in_allowed : word ≡ next_in e peer → e.work ≡ Idle
+      → Allows (Rule key) slots id me word (λ u. u)
+      (plays.looked_in (step slots word 0 0 maybe.none) me)
+  look_in_allowed is idle = along (λ k v. Allows (Rule k) slots id v word (λ u. u)
+      (plays.looked_in (step slots word 0 0 maybe.none) v)) (λ l w d f.
+      subst (λ x. Allows (Rule e.ranks) slots id (view (e ∷ []), me.1) x (λ u. u)
+      (plays.looked_in (step slots x 0 0 maybe.none) (view (e ∷ []), me.1))) (sym is)
+      (look_in_kept slots id e l w d peer f me.1 idle))
+
+  pub fill_allowed : (q : Piece) (hs : List (ℕ × Load)) → word ≡ next_out e peer
+      → me.1 ≡ (word, Some q) ∷ hs → e.work ≡ Filling peer → q.from ≡ e.rank
+      → q.number ≡ length (lane e peer).pushed
+      → Allows (Rule key) slots id me word (λ _. 1)
+      (λ _. plays.filled (step slots word 1 0 maybe.none) me 1)
+  fill_allowed q hs is has busy from number = along (λ k v. Allows (Rule k) slots id v word (λ _. 1)
+      (λ _. plays.filled (step slots word 1 0 maybe.none) v 1)) (λ l w d f.
+      subst (λ u. Allows (Rule e.ranks) slots id (view (e ∷ []), u) word (λ _. 1)
+      (λ _. plays.filled (step slots word 1 0 maybe.none) (view (e ∷ []), u) 1)) (sym has)
+      (subst (λ x. Allows (Rule e.ranks) slots id (view (e ∷ []), (x, Some q) ∷ hs) x (λ _. 1)
+      (λ _. plays.filled (step slots x 1 0 maybe.none) (view (e ∷ []), (x, Some q) ∷ hs) 1)) (sym is)
+      (fill_kept slots id e l w d peer f hs q busy from number)))
+
+  pub empty_allowed : (q : Piece) (hs : List (ℕ × Load)) → word ≡ next_in e peer
+      → me.1 ≡ (word, None) ∷ hs → e.work ≡ Emptying peer q
+      → Allows (Rule key) slots id me word (λ _. 0)
+      (λ _. plays.emptied (step slots word 0 0 maybe.none) me 0)
+  empty_allowed q hs is has busy = along (λ k v. Allows (Rule k) slots id v word (λ _. 0)
+      (λ _. plays.emptied (step slots word 0 0 maybe.none) v 0)) (λ l w d f.
+      subst (λ u. Allows (Rule e.ranks) slots id (view (e ∷ []), u) word (λ _. 0)
+      (λ _. plays.emptied (step slots word 0 0 maybe.none) (view (e ∷ []), u) 0)) (sym has)
+      (subst (λ x. Allows (Rule e.ranks) slots id (view (e ∷ []), (x, None) ∷ hs) x (λ _. 0)
+      (λ _. plays.emptied (step slots x 0 0 maybe.none) (view (e ∷ []), (x, None) ∷ hs) 0)) (sym is)
+      (empty_kept slots id e l w d peer f hs q busy)))

@@ -1,0 +1,23 @@
+-- What closed rings keep of their ports.
+use Rattle.std.specs.Prelude.{ℕ, List, [], ◌∷◌}
+use Rattle.nm_seats.specs.declared.views.View.{View}
+use Rattle.nm_types.specs.declared.packets.Piece.{Piece}
+use Rattle.nm_copyring.specs.declared.table.Entry.{Entry}
+use Rattle.nm_copyring.specs.declared.close.RingAccount.{RingAccount}
+use Rattle.nm_copyring.specs.AtClose.{pushed_in, pulled_in}
+
+abbrev pub seen_in : List (View Entry) → List Entry
+seen_in [] = []
+seen_in (v ∷ vs) = v.seen
+
+-- what each rank knew at the end, in rank order
+abbrev pub entries : RingAccount → List Entry
+entries a = seen_in a.badge.views
+
+-- what the rank i pushed to the rank j
+abbrev pub pushed_list : RingAccount → ℕ → ℕ → List Piece
+pushed_list a i j = pushed_in (entries a) i j
+
+-- what the rank j pulled from the rank i
+abbrev pub pulled_list : RingAccount → ℕ → ℕ → List Piece
+pulled_list a i j = pulled_in (entries a) i j

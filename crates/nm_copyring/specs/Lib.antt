@@ -1,0 +1,6 @@
+pub mod AtClose
+pub mod ClosedLists
+pub mod Counted
+pub mod Plays
+pub mod Ports
+pub mod Rule

@@ -1,0 +1,34 @@
+-- What a port knows, in the words of contracts.
+use Rattle.std.specs.Prelude.{◌≡◌, ℕ, List}
+use Rattle.nm_types.specs.declared.packets.Piece.{Piece}
+use Rattle.nm_copyring.specs.declared.table.Entry.{Entry}
+use Rattle.nm_copyring.specs.declared.port.Rings.{Rings}
+use Rattle.nm_copyring.specs.declared.port.RingPort.{RingPort}
+use Rattle.nm_copyring.specs.Rule.{lane, newcomer}
+use Rattle.nm_copyring.specs.Plays.{IsOne, mine}
+
+-- what the port's seat knows
+abbrev pub knows : RingPort → Entry
+knows p = mine p.seat.me
+
+-- the pieces that the port pushed to the rank j, and those that it pulled from the rank i
+abbrev pub pushed_to : RingPort → ℕ → List Piece
+pushed_to p j = (lane (knows p) j).pushed
+
+abbrev pub pulled_from : RingPort → ℕ → List Piece
+pulled_from p i = (lane (knows p) i).pulled
+
+-- how often the next place for the rank j was found full, and that of the rank i empty
+abbrev pub full_to : RingPort → ℕ → ℕ
+full_to p j = (lane (knows p) j).full
+
+abbrev pub empty_from : RingPort → ℕ → ℕ
+empty_from p i = (lane (knows p) i).empty
+
+-- the port is one of the rings'
+abbrev pub Owns : Rings → RingPort → Type 0
+Owns r p = (p.seat.table_id ≡ r.board.shared.table_id) × IsOne r.ranks (knows p)
+
+-- the port of the rank k at the start
+abbrev pub IsNew : Rings → RingPort → ℕ → Type 0
+IsNew r p k = Owns r p × (p.rank ≡ k) × (knows p ≡ newcomer r.ranks k)

@@ -1,0 +1,47 @@
+//! The copy ring: pieces of long messages between two ranks, without a queue.
+//!
+//! For each ordered pair of ranks there are four places, which its sender fills in turn and its receiver
+//! empties in turn. Each place has a flag, which is 1 where the place is full, and a slot for one piece.
+//!
+//! ```text
+//!   sender                                                    receiver
+//!     push: flag 0? put the piece in, store 1    pull: flag 1? take the piece, store 0
+//!        |                                                        |
+//!        v        place 0   place 1   place 2   place 3           v
+//!     piece 6    | 4      | 5      | free   | 3      |         piece 3
+//! ```
+//!
+//! The k-th piece of a pair goes through the place k mod 4. A call makes at most two steps, each on one
+//! word, and waits for nobody: where the next place is full, the piece comes back, and where it is
+//! empty, nothing comes. All flags are atomic, and `steps` counts the steps on them.
+//!
+//! # What a contract sees
+//! What a port's seat knows (`knows`): for each rank the list of the pieces that were pushed to it and of
+//! those that were pulled from it, how often its next place was found full, and how often empty.
+//!
+//! # What is proved
+//! - The rule of the shared table holds between any two steps of any ranks: what was pushed to a rank is
+//!   what that rank pulled, and then what is in the full places, by number.
+//! - `push` puts its piece behind those that were pushed, or hands it back where it loaded the flag of the
+//!   next place as 1, and then the count of full places rose. `pull` gives the next piece by number, or
+//!   `None` where it loaded the flag of the next place as 0, and then the count of empty places rose.
+//! - After `close` what each rank pulled from another is the beginning of what was pushed to it, at most
+//!   four pieces are left between the two, and `left` is the number of all that are left.
+#![tactic(auto)]
+
+mod build;
+mod close;
+mod counts;
+mod pieces;
+mod port;
+mod steps;
+mod table;
+mod tallies;
+#[cfg(test)]
+mod tests;
+
+pub use close::RingAccount;
+pub use pieces::{pull, push};
+pub use port::{RingPort, Rings};
+pub use table::{Entry, Lane, Work};
+pub use tallies::Tally;

@@ -1,0 +1,74 @@
+//! Pieces through the rings. A call makes at most two steps, each on the flag of one place.
+
+ghost use Rattle.std.specs.Prelude.{◌≡◌, ◌+◌, ◌<◌, ◌≤◌, length};
+ghost use Rattle.std.specs.Prelude.{IfOk, IfErr, IfSome, IfNone};
+ghost use Rattle.nm_copyring.specs.Plays.{one_empty, one_full, one_pulled, one_pushed, with_lane};
+ghost use Rattle.nm_copyring.specs.Ports.{Owns, knows, pushed_to, pulled_from};
+
+use crate::counts::{count_empty, count_full, count_pulled, count_pushed};
+use crate::port::{RingPort, Rings};
+use crate::steps::{empty_next, fill_next};
+use nm_seats::Steps;
+use nm_types::Piece;
+use std::sync::ledger::Ledger;
+
+/// Pushes a piece to a rank, which may be the port's own. The piece is the next one by number. It comes
+/// back where the flag of its place was loaded as 1: the piece of four numbers before is still there.
+pub fn push<L: Ledger>(
+    r: &Rings,
+    port: &mut RingPort,
+    to: u8,
+    piece: Piece,
+    steps: &mut Steps<L>,
+) -> Result<(), Piece>
+    requires owns { Owns r.now port.old }
+    requires to { to < r.now.ranks }
+    requires next { (piece.from ≡ port.old.rank) × (piece.number ≡ length (pushed_to port.old to)) }
+    ensures owns { Owns r.now port.new × (port.new.rank ≡ port.old.rank) }
+    ensures pushed { IfOk result
+        (λ _. knows port.new ≡ with_lane (one_pushed piece) to (knows port.old)) }
+    ensures refused { IfErr result (λ back. (back ≡ piece)
+        × (knows port.new ≡ with_lane one_full to (knows port.old))) }
+    ensures cost { IfOk result (λ _. steps.new ≡ steps.old + 2)
+        × IfErr result (λ _. steps.new ≡ steps.old + 1) }
+    ensures bound { steps.new ≤ steps.old + 2 }
+{
+    let pushed = fill_next(r, &mut port.seat, to, piece, steps);
+    if pushed.is_ok() {
+        count_pushed(&mut port.tallies, to as usize);
+    } else {
+        count_full(&mut port.tallies, to as usize);
+    }
+    pushed
+}
+
+/// Pulls the next piece by number of a rank, which may be the port's own. There is none where the flag of
+/// its place was loaded as 0.
+pub fn pull<L: Ledger>(
+    r: &Rings,
+    port: &mut RingPort,
+    sender: u8,
+    steps: &mut Steps<L>,
+) -> Option<Piece>
+    requires owns { Owns r.now port.old }
+    requires sender { sender < r.now.ranks }
+    ensures owns { Owns r.now port.new × (port.new.rank ≡ port.old.rank) }
+    ensures next { IfSome result (λ piece. (piece.from ≡ sender)
+        × (piece.number ≡ length (pulled_from port.old sender))) }
+    ensures pulled { IfSome result
+        (λ piece. knows port.new ≡ with_lane (one_pulled piece) sender (knows port.old)) }
+    ensures missed { IfNone result
+        (knows port.new ≡ with_lane one_empty sender (knows port.old)) }
+    ensures cost { IfSome result (λ _. steps.new ≡ steps.old + 2)
+        × IfNone result (steps.new ≡ steps.old + 1) }
+    ensures bound { steps.new ≤ steps.old + 2 }
+{
+    let number = port.pulled(sender);
+    let pulled = empty_next(r, &mut port.seat, port.rank, sender, number, steps);
+    if pulled.is_some() {
+        count_pulled(&mut port.tallies, sender as usize);
+    } else {
+        count_empty(&mut port.tallies, sender as usize);
+    }
+    pulled
+}

@@ -1,0 +1,125 @@
+//! The steps on the flag of a place: a load at each end, the store of 1 and the store of 0.
+
+ghost use Rattle.std.specs.Prelude.{◌≡◌, ◌+◌, ◌*◌, ◌%◌, ◌<◌, length};
+ghost use Rattle.std.specs.Prelude.{IfOk, IfErr, IfSome, IfNone};
+ghost use Rattle.nm_copyring.specs.Rule.{lane, place};
+ghost use Rattle.nm_copyring.specs.Plays.{one_empty, one_full, one_pulled, one_pushed, with_lane};
+ghost use Rattle.nm_copyring.specs.Plays.{IsOne, Rests, knowing, mine};
+
+use crate::port::Rings;
+use crate::table::{Entry, Place};
+use atomic_table::Play;
+use nm_seats::{Steps, View};
+use nm_types::Piece;
+use std::sync::ledger::Ledger;
+
+struct LooksOut;
+
+impl Play<Option<Piece>, View<Entry>> for LooksOut {
+    ghost use Rattle.nm_copyring.specs.Plays.{looked_out};
+
+    ghost then = { looked_out };
+}
+
+struct Fills;
+
+impl Play<Option<Piece>, View<Entry>> for Fills {
+    ghost use Rattle.nm_copyring.specs.Plays.{filled};
+
+    ghost then = { filled };
+}
+
+struct LooksIn;
+
+impl Play<Option<Piece>, View<Entry>> for LooksIn {
+    ghost use Rattle.nm_copyring.specs.Plays.{looked_in};
+
+    ghost then = { looked_in };
+}
+
+struct Empties;
+
+impl Play<Option<Piece>, View<Entry>> for Empties {
+    ghost use Rattle.nm_copyring.specs.Plays.{emptied};
+
+    ghost then = { emptied };
+}
+
+impl Rings {
+    // The place of the piece with this number, from one rank to another.
+    fn place(&self, sender: u8, to: u8, number: u64) -> usize
+        requires { (sender < self.now.ranks) × (to < self.now.ranks) }
+        ensures at { result ≡ place self.now.ranks sender to (number % 4) }
+        ensures low { result < 4 * (self.now.ranks * self.now.ranks) }
+    {
+        (4 * (u64::from(sender) * self.ranks + u64::from(to)) + number % 4) as usize
+    }
+}
+
+/// Puts a piece into the seat's next place for a rank, or hands it back where that place is full.
+pub(crate) fn fill_next<L: Ledger>(
+    r: &Rings,
+    seat: &mut Place,
+    to: u8,
+    piece: Piece,
+    steps: &mut Steps<L>,
+) -> Result<(), Piece>
+    requires table { seat.old.table_id ≡ r.now.board.shared.table_id }
+    requires rests { Rests seat.old.me × IsOne r.now.ranks (mine seat.old.me) }
+    requires to { to < r.now.ranks }
+    requires next { (piece.from ≡ (mine seat.old.me).rank)
+        × (piece.number ≡ length (lane (mine seat.old.me) to).pushed) }
+    ensures same { seat.new.table_id ≡ seat.old.table_id }
+    ensures pushed { IfOk result
+        (λ _. seat.new.me ≡ knowing (with_lane (one_pushed piece) to (mine seat.old.me))) }
+    ensures refused { IfErr result (λ back. (back ≡ piece)
+        × (seat.new.me ≡ knowing (with_lane one_full to (mine seat.old.me)))) }
+    ensures cost { IfOk result (λ _. steps.new ≡ steps.old + 2)
+        × IfErr result (λ _. steps.new ≡ steps.old + 1) }
+{
+    let at = r.place(piece.from, to, piece.number);
+    steps.tick();
+    if r.board.shared.load::<LooksOut>(seat, at) != 0 {
+        return Err(piece);
+    }
+    let free = r.board.shared.exchange(seat, at, Some(piece));
+    let None = free else { unreachable!() };
+    steps.tick();
+    r.board.shared.store::<Fills>(seat, at, 1);
+    Ok(())
+}
+
+/// Takes the piece out of the seat's next place of a rank, or `None` where that place is empty. `number`
+/// is the number of that piece.
+pub(crate) fn empty_next<L: Ledger>(
+    r: &Rings,
+    seat: &mut Place,
+    rank: u8,
+    sender: u8,
+    number: u64,
+    steps: &mut Steps<L>,
+) -> Option<Piece>
+    requires table { seat.old.table_id ≡ r.now.board.shared.table_id }
+    requires rests { Rests seat.old.me × IsOne r.now.ranks (mine seat.old.me) }
+    requires sender { sender < r.now.ranks }
+    requires next { (rank ≡ (mine seat.old.me).rank)
+        × (number ≡ length (lane (mine seat.old.me) sender).pulled) }
+    ensures same { seat.new.table_id ≡ seat.old.table_id }
+    ensures next { IfSome result (λ piece. (piece.from ≡ sender) × (piece.number ≡ number)) }
+    ensures pulled { IfSome result
+        (λ piece. seat.new.me ≡ knowing (with_lane (one_pulled piece) sender (mine seat.old.me))) }
+    ensures missed { IfNone result
+        (seat.new.me ≡ knowing (with_lane one_empty sender (mine seat.old.me))) }
+    ensures cost { IfSome result (λ _. steps.new ≡ steps.old + 2)
+        × IfNone result (steps.new ≡ steps.old + 1) }
+{
+    let at = r.place(sender, rank, number);
+    steps.tick();
+    if r.board.shared.load::<LooksIn>(seat, at) == 0 {
+        return None;
+    }
+    let found = r.board.shared.exchange(seat, at, None);
+    steps.tick();
+    r.board.shared.store::<Empties>(seat, at, 0);
+    found
+}

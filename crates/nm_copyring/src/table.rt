@@ -1,0 +1,49 @@
+//! The table, and what a seat knows.
+
+use atomic_table::{Seat, Table, TableRule};
+use nm_seats::View;
+use nm_types::Piece;
+use std::alloc::Global;
+use std::collections::LinkedList;
+
+/// What a rank is at work on, between the two steps of a call. No value of it is made.
+pub enum Work {
+    Idle,
+    /// Its next place for this rank was found free.
+    Filling(u64),
+    /// Its next place of this rank was found full, with this piece.
+    Emptying(u64, Piece),
+}
+
+/// What a rank pushed to another one, and pulled from it. No value of it is made.
+pub struct Lane {
+    pub pushed: LinkedList<Piece>,
+    pub pulled: LinkedList<Piece>,
+    /// How often the next place for it was found full.
+    pub full: u64,
+    /// How often the next place of it was found empty.
+    pub empty: u64,
+}
+
+/// What one rank knows. No value of it is made.
+pub struct Entry {
+    pub rank: u64,
+    pub ranks: u64,
+    /// One for each rank, its own among them.
+    pub lanes: LinkedList<Lane>,
+    pub work: Work,
+}
+
+pub struct InPlaces;
+
+impl TableRule<Option<Piece>, View<Entry>, u64> for InPlaces {
+    ghost use Rattle.nm_copyring.specs.Rule.{Rule, first_view};
+
+    ghost holds = { Rule };
+
+    ghost first = { first_view };
+}
+
+pub type Board = Table<Option<Piece>, View<Entry>, u64, InPlaces, Global>;
+
+pub type Place = Seat<Option<Piece>, View<Entry>>;
