@@ -34,7 +34,7 @@ owner_below n (suc each) c low =
     (λ near. omega arith)
 
 -- the pair of a place
-one_pair : (n i j k l : ℕ) → j < n → l < n → i * n + j ≡ k * n + l → (i ≡ k) × (j ≡ l)
+pub one_pair : (n i j k l : ℕ) → j < n → l < n → i * n + j ≡ k * n + l → (i ≡ k) × (j ≡ l)
 one_pair n i j k l lj ll e = let same : i ≡ k = sym (div-mul-add i n j lj) ∙ ap (λ x. x / n) e
     ∙ div-mul-add k n l ll in
     (same, let e' : i * n + j ≡ i * n + l = e ∙ ap (λ x. x * n + l) (sym same) in omega arith)

@@ -1,50 +1,29 @@
 -- Each kind of step on a box's flag keeps the rule, whatever the other ranks did.
 use Rattle.std.proofs.Common.{◌≡◌, ◌≢◌, ℕ, suc, ◌+◌, ◌-◌, ◌*◌, ◌%◌, ◌<◌, Bool, true, false, Option}
-use Rattle.std.proofs.Common.{Some, None, List, [], ◌∷◌, ◌++◌, map, length, set, sym, refl, ap, ◌∙◌}
-use Rattle.std.proofs.Common.{inl, subst, arith, length-set, get_or-set_same, get_or-set_other}
-use Rattle.std.proofs.Common.{append-nil, length-append}
-use Rattle.std.proofs.lemmas.Nat.{mod_below}
-use Rattle.std.proofs.lemmas.List.{map-append, set-get_or}
-use Rattle.std.specs.Prelude.{slice_index, slice_index_or}
+use Rattle.std.proofs.Common.{Some, None, List, [], ◌∷◌, length, set, sym, refl, ap, ◌∙◌}
+use Rattle.std.proofs.Common.{subst, arith, get_or-set_same}
+use Rattle.std.proofs.lemmas.List.{set-get_or}
+use Rattle.std.specs.Prelude.{slice_index}
 use mathlib.Core.Option as maybe
 use mathlib.Core.Logic.{dite}
 use native.Mathlib.Decide.{ℕ_discrete}
 use lib.ListN.{get_elem?}
 use Rattle.atomic_table.specs.Table.{State, step, keeps, takes, gives, Act, Allows, Valid}
 use Rattle.atomic_table.specs.Table.{carried_after, stepped}
-use Rattle.atomic_table.proofs.Lists.{set_here, set_else}
 use Rattle.nm_seats.specs.declared.views.View.{View}
 use Rattle.nm_seats.specs.Spoken.{view}
-use Rattle.nm_seats.proofs.UpdateLemmas.{update_here, update_else}
-use Rattle.nm_seats.specs.Update.{update}
-use Rattle.nm_chain.specs.Sequence.{InSequence, Got}
-use Rattle.nm_chain.proofs.SequenceLemmas.{next_by_box_is_new, first_missing, put_by_box}
-use Rattle.nm_chain.proofs.SequenceLemmas.{got_by_box, missing_in_box}
-use Rattle.nm_seats.specs.Window.{Window}
-use Rattle.nm_seats.proofs.WindowLemmas as windows
 use Rattle.nm_types.specs.Sizes.{Sizes}
 use Rattle.nm_cells.specs.declared.table.Entry.{Entry}
-use Rattle.nm_cells.specs.Rule.{Load, World, Knows, put_to, sender, from, number, sent_to, loads}
-use Rattle.nm_cells.specs.Rule.{box_slot, filling_of, emptying_of, AllInSequence, Rule, mark}
+use Rattle.nm_cells.specs.Rule.{Load, put_to, sender, from, number, sent_to}
+use Rattle.nm_cells.specs.Rule.{box_slot, filling_of, emptying_of, Rule}
+use Rattle.nm_cells.specs.NextBox.{BoxesApart}
 use Rattle.nm_cells.specs.Plays as plays
-use Rattle.nm_cells.proofs.QueueLemmas as queues
-use Rattle.nm_cells.proofs.QueueLemmas.{from_append, put_append, pick_yes, pick_no}
-use Rattle.nm_cells.proofs.BoxLemmas as boxes
-use Rattle.nm_cells.proofs.BoxLemmas.{marked, update2, update2_here, update2_else, update2_row}
-use Rattle.nm_cells.proofs.BoxLemmas.{slot_low, turn_along}
-use Rattle.nm_cells.proofs.ProducerLemmas.{knows_else, own, ruled}
+use Rattle.nm_cells.proofs.ProducerLemmas.{own}
+use Rattle.nm_cells.proofs.BoxRuleLemmas as rule
+use Rattle.nm_cells.proofs.BoxApartLemmas.{apart_after}
 
-some_is : (u v : Load) → Some u ≡ Some v → u ≡ v
-some_is u v e = cc
-
--- one entry of a list of lids
-lids_but : {A : Type 0} (xs : List A) (j : ℕ) (x none : A) (g h : ℕ → A) → j < length xs → h j ≡ x
-    → ((l : ℕ) → l ≢ j → h l ≡ g l) → ((l : ℕ) → l < length xs → slice_index_or xs l none ≡ g l)
-    → (l : ℕ) → l < length xs → slice_index_or (set xs j x) l none ≡ h l
-lids_but xs j x none g h low here else old l ll = dite (ℕ_discrete l j)
-    (λ e. ap (λ k. slice_index_or (set xs j x) k none) e ∙ get_or-set_same xs j x none low
-    ∙ sym here ∙ ap h (sym e))
-    (λ ne. get_or-set_other xs j l x none ne ∙ old l ll ∙ sym (else l ne))
+none_some : (y : Load) → None ≡ Some y → ⊥
+none_some y e = cc
 
 module _ (key : Sizes) (slots id : ℕ) (e : Entry) (low : e.rank < key.ranks) (peer : ℕ)
     (few : peer < key.ranks) where
@@ -56,705 +35,13 @@ module _ (key : Sizes) (slots id : ℕ) (e : Entry) (low : e.rank < key.ranks) (
 
   -- the box that the rank fills next for the other, and the one that it empties next of the other
   abbrev out_slot : ℕ
-  out_slot = box_slot n m e.rank peer (length (put_to peer e.put_box) % 4)
+  out_slot = rule.out_slot key slots id e low peer few
 
   abbrev in_slot : ℕ
-  in_slot = box_slot n m peer e.rank (length (from peer e.got_box) % 4)
+  in_slot = rule.in_slot key slots id e low peer few
 
   abbrev here : List (ℕ × Load) → plays.Knowing
   here hs = (view (e ∷ []), hs)
-
-  module _ (s : State Load (View Entry)) (R : Rule key s)
-      (at : get_elem? s.views id ≡ maybe.some (view (e ∷ []))) where
-    abbrev k : Knows n m R.world e.rank e
-    k = own key s R id e at low
-
-    abbrev w : World
-    w = R.world
-
-    -- the boxes to the other rank, and those from it, as the entry has them
-    abbrev OutLane : (ℕ → ℕ) → (ℕ → maybe.Option (maybe.Option Load)) → Bool → List Load → List Load
-        → Type 0
-    OutLane flag slot b puts waits = Window 4 None mark (λ y. sender y ≡ suc e.rank) flag slot b
-        (w.emptying e.rank peer) puts (from e.rank (w.got_box peer)) waits
-
-    abbrev InLane : (ℕ → ℕ) → (ℕ → maybe.Option (maybe.Option Load)) → Option Load → List Load
-        → List Load → Type 0
-    InLane flag slot x gots waits = Window 4 None mark (λ y. sender y ≡ suc peer) flag slot
-        (w.filling peer e.rank) x (put_to e.rank (w.put_box peer)) gots waits
-
-    abbrev out_flag : ℕ → ℕ
-    out_flag t = slice_index s.words (4 * n + box_slot n m e.rank peer t)
-
-    abbrev out_home : ℕ → maybe.Option (maybe.Option Load)
-    out_home t = get_elem? s.homes (box_slot n m e.rank peer t)
-
-    abbrev in_flag : ℕ → ℕ
-    in_flag t = slice_index s.words (4 * n + box_slot n m peer e.rank t)
-
-    abbrev in_home : ℕ → maybe.Option (maybe.Option Load)
-    in_home t = get_elem? s.homes (box_slot n m peer e.rank t)
-
-    out_lane : OutLane out_flag out_home (filling_of e peer) (put_to peer e.put_box)
-        (w.waits e.rank peer)
-    out_lane = subst (λ b. OutLane out_flag out_home b (put_to peer e.put_box)
-        (w.waits e.rank peer)) (sym (k.filling peer few))
-        (subst (λ u. OutLane out_flag out_home (w.filling e.rank peer) (put_to peer u)
-        (w.waits e.rank peer)) (sym k.put_box) (R.boxes e.rank peer low few))
-
-    in_lane : InLane in_flag in_home (emptying_of e peer) (from peer e.got_box)
-        (w.waits peer e.rank)
-    in_lane = subst (λ x. InLane in_flag in_home x (from peer e.got_box) (w.waits peer e.rank))
-        (sym (k.emptying peer few))
-        (subst (λ u. InLane in_flag in_home (w.emptying peer e.rank) (from peer u)
-        (w.waits peer e.rank)) (sym k.got_box) (R.boxes peer e.rank few low))
-
-    -- the entry with another lid or count
-    filling_shown : (b : Bool) (w' : World) → w'.place ≡ w.place → w'.end ≡ w.end → w'.put ≡ w.put
-        → w'.got ≡ w.got → w'.put_box ≡ w.put_box → w'.got_box ≡ w.got_box
-        → w'.emptying ≡ w.emptying → w'.filling e.rank peer ≡ b
-        → ((l : ℕ) → l ≢ peer → w'.filling e.rank l ≡ w.filling e.rank l)
-        → Knows n m w' e.rank (plays.with_filling peer b e)
-    filling_shown b w' ep ee eu eg epb egb em here_is else = record {
-      rank = k.rank;
-      ranks = k.ranks;
-      per = k.per;
-      long = k.long;
-      hands = rw ep k.hands;
-      receive = rw ee k.receive;
-      free = rw ee k.free;
-      put = rw eu k.put;
-      got = rw eg k.got;
-      put_box = rw epb k.put_box;
-      got_box = rw egb k.got_box;
-      outs = length-set e.filling peer b ∙ k.outs;
-      ins = k.ins;
-      filling = λ j lj. let o = k.outs in
-          lids_but e.filling peer b false (w.filling e.rank) (w'.filling e.rank)
-          (omega arith) here_is else (λ l ll. k.filling l (omega arith)) j (omega arith);
-      emptying = rw em k.emptying;
-    }
-
-    emptying_shown : (x : Option Load) (w' : World) → w'.place ≡ w.place → w'.end ≡ w.end
-        → w'.put ≡ w.put → w'.got ≡ w.got → w'.put_box ≡ w.put_box → w'.got_box ≡ w.got_box
-        → w'.filling ≡ w.filling → w'.emptying peer e.rank ≡ x
-        → ((l : ℕ) → l ≢ peer → w'.emptying l e.rank ≡ w.emptying l e.rank)
-        → Knows n m w' e.rank (plays.with_emptying peer x e)
-    emptying_shown x w' ep ee eu eg epb egb ef here_is else = record {
-      rank = k.rank;
-      ranks = k.ranks;
-      per = k.per;
-      long = k.long;
-      hands = rw ep k.hands;
-      receive = rw ee k.receive;
-      free = rw ee k.free;
-      put = rw eu k.put;
-      got = rw eg k.got;
-      put_box = rw epb k.put_box;
-      got_box = rw egb k.got_box;
-      outs = k.outs;
-      ins = length-set e.emptying peer x ∙ k.ins;
-      filling = rw ef k.filling;
-      emptying = λ i li. let o = k.ins in
-          lids_but e.emptying peer x None (λ l. w.emptying l e.rank) (λ l. w'.emptying l e.rank)
-          (omega arith) here_is else (λ l ll. k.emptying l (omega arith)) i (omega arith);
-    }
-
-    -- a load that changes the entry alone
-    only : (i : ℕ) (f : Entry) → Knows n m w e.rank f
-        → Rule key record {
-          words = set s.words i (slice_index s.words i);
-          homes = s.homes;
-          views =
-              set s.views id (view (f ∷ []));
-        }
-    only i f kf = subst (λ ws. Rule key record {
-      words = ws;
-      homes = s.homes;
-      views =
-          set s.views id (view (f ∷ []));
-    }) (sym (set-get_or s.words i 0))
-        (ruled key s R id e at low w f s.words s.homes R.ranked R.laid R.boxes R.turns kf
-        (λ _ _ _ _ o. o))
-
-    full_known : Knows n m w e.rank (plays.with_box_full peer e)
-    full_known = record {
-      rank = k.rank;
-      ranks = k.ranks;
-      per = k.per;
-      long = k.long;
-      hands = k.hands;
-      receive = k.receive;
-      free = k.free;
-      put = k.put;
-      got = k.got;
-      put_box = k.put_box;
-      got_box = k.got_box;
-      outs = k.outs;
-      ins = k.ins;
-      filling = k.filling;
-      emptying = k.emptying;
-    }
-
-    miss_known : Knows n m w e.rank (plays.with_box_miss peer e)
-    miss_known = record {
-      rank = k.rank;
-      ranks = k.ranks;
-      per = k.per;
-      long = k.long;
-      hands = k.hands;
-      receive = k.receive;
-      free = k.free;
-      put = k.put;
-      got = k.got;
-      put_box = k.put_box;
-      got_box = k.got_box;
-      outs = k.outs;
-      ins = k.ins;
-      filling = k.filling;
-      emptying = k.emptying;
-    }
-
-    -- what a change of one box leaves alone
-    words_else : (i j t x c : ℕ) → ((u : ℕ) → u < 4 → c ≢ box_slot n m i j u) → t < 4
-        → slice_index (set s.words (4 * n + box_slot n m i j t) x) (4 * n + c) ≡ slice_index s.words
-        (4 * n + c)
-    words_else i j t x c ne lt = let ne' = ne t lt in
-        get_or-set_other s.words (4 * n + box_slot n m i j t) (4 * n + c) x 0
-        (λ u. ne' (omega arith))
-
-    homes_else : (i j t : ℕ) (z : maybe.Option Load) (c : ℕ)
-        → ((u : ℕ) → u < 4 → c ≢ box_slot n m i j u) → t < 4
-        → get_elem? (set s.homes (box_slot n m i j t) z) c ≡ get_elem? s.homes c
-    homes_else i j t z c ne lt = set_else s.homes (box_slot n m i j t) c z (ne t lt)
-
-    box_homes : (i j t : ℕ) (z : maybe.Option Load) (u : ℕ) → u ≢ t
-        → get_elem? (set s.homes (box_slot n m i j t) z) (box_slot n m i j u) ≡ get_elem? s.homes
-        (box_slot n m i j u)
-    box_homes i j t z u ne = set_else s.homes (box_slot n m i j t) (box_slot n m i j u) z
-        (λ q. ne (omega arith))
-
-    box_words : (i j t x u : ℕ) → u ≢ t → slice_index (set s.words (4 * n + box_slot n m i j t) x)
-        (4 * n + box_slot n m i j u) ≡ slice_index s.words (4 * n + box_slot n m i j u)
-    box_words i j t x u ne = get_or-set_other s.words (4 * n + box_slot n m i j t)
-        (4 * n + box_slot n m i j u) x 0 (λ q. ne (omega arith))
-
-    box_home : (i j t : ℕ) (z : maybe.Option Load) → i < n → j < n → t < 4
-        → get_elem? (set s.homes (box_slot n m i j t) z) (box_slot n m i j t) ≡ maybe.some z
-    box_home i j t z li lj lt = set_here s.homes (box_slot n m i j t) z
-        (let b = (slot_low n m i j t li lj lt).1 in let sl = R.laid.slots in omega arith)
-
-    box_word : (i j t x : ℕ) → i < n → j < n → t < 4
-        → slice_index (set s.words (4 * n + box_slot n m i j t) x) (4 * n + box_slot n m i j t) ≡ x
-    box_word i j t x li lj lt = get_or-set_same s.words (4 * n + box_slot n m i j t) x 0
-        (let b = (slot_low n m i j t li lj lt).1 in let lg = R.laid.long in omega arith)
-
-    in_four : (t : ℕ) → t % 4 < 4
-    in_four t = mod_below t 4 (omega arith)
-
-    out_t : ℕ
-    out_t = length (put_to peer e.put_box) % 4
-
-    in_t : ℕ
-    in_t = length (from peer e.got_box) % 4
-
-    -- the sender takes the slot of a free box
-    abbrev after_open : World
-    after_open = record w { filling = update2 w.filling e.rank peer true }
-
-    open_ruled : filling_of e peer ≡ false → out_flag (length (put_to peer e.put_box) % 4) ≡ 0
-        → Rule key record {
-          words = s.words;
-          homes = set s.homes out_slot maybe.none;
-          views =
-              set s.views id (view (plays.with_filling peer true e ∷ []));
-        }
-    open_ruled shut found = let t = length (put_to peer e.put_box) % 4 in
-        let lt = in_four (length (put_to peer e.put_box)) in
-        let homes' = set s.homes out_slot maybe.none in
-        let lane = subst (λ b. OutLane out_flag out_home b (put_to peer e.put_box)
-        (w.waits e.rank peer)) shut out_lane in
-        let room = windows.room_where_free 4 None mark (λ y. sender y ≡ suc e.rank)
-        (omega arith) marked out_flag out_home (put_to peer e.put_box)
-        (from e.rank (w.got_box peer)) (w.waits e.rank peer) false
-        (w.emptying e.rank peer) lane found in
-        let new = windows.producer_opens 4 None mark (λ y. sender y ≡ suc e.rank)
-        (omega arith) marked out_flag out_home (put_to peer e.put_box)
-        (from e.rank (w.got_box peer)) (w.waits e.rank peer) (w.emptying e.rank peer) lane room
-        (λ u. get_elem? homes' (box_slot n m e.rank peer u))
-        (box_home e.rank peer t maybe.none low few lt)
-        (λ u lu ne. box_homes e.rank peer t maybe.none u ne) in
-        ruled key s R id e at low after_open (plays.with_filling peer true e) s.words homes'
-        R.ranked
-        (queues.elsewhere n m w s.words s.homes R.laid after_open refl refl refl refl refl s.words
-        homes' refl (length-set s.homes out_slot maybe.none) (λ _ _. refl)
-        (λ c lc. set_else s.homes out_slot c maybe.none
-        (let b = (slot_low n m e.rank peer t low few lt).0 in omega arith)))
-        (boxes.one_lane n m w s.words s.homes R.boxes e.rank peer low few after_open s.words homes'
-        (λ i j li lj ne. (update2_else w.filling e.rank peer true i j ne, refl, refl, refl, refl))
-        (λ c ne. (refl, homes_else e.rank peer t maybe.none c ne lt))
-        (subst (λ b. OutLane out_flag (λ u. get_elem? homes' (box_slot n m e.rank peer u)) b
-        (put_to peer (w.put_box e.rank)) (w.waits e.rank peer))
-        (sym (update2_here w.filling e.rank peer true))
-        (subst (λ u. OutLane out_flag (λ u. get_elem? homes' (box_slot n m e.rank peer u)) true
-        (put_to peer u) (w.waits e.rank peer)) k.put_box new)))
-        R.turns
-        (filling_shown true after_open refl refl refl refl refl refl refl
-        (update2_here w.filling e.rank peer true)
-        (λ l ne. update2_else w.filling e.rank peer true e.rank l (λ p. ne p.1)))
-        (λ r g _ ne o. knows_else n m w after_open r g o (λ c. inl refl) refl refl refl refl refl
-        refl (update2_row w.filling e.rank peer true r ne) (λ _. refl))
-
-    free_home : filling_of e peer ≡ false → out_flag (length (put_to peer e.put_box) % 4) ≡ 0
-        → get_elem? s.homes out_slot ≡ maybe.some (maybe.some None)
-    free_home shut found = let lane =
-        subst (λ b. OutLane out_flag out_home b (put_to peer e.put_box) (w.waits e.rank peer)) shut
-        out_lane in
-        windows.free_slot_is_home 4 None mark (λ y. sender y ≡ suc e.rank)
-        (omega arith) marked out_flag out_home (put_to peer e.put_box)
-        (from e.rank (w.got_box peer)) (w.waits e.rank peer) (w.emptying e.rank peer) lane
-        (windows.room_where_free 4 None mark (λ y. sender y ≡ suc e.rank)
-        (omega arith) marked out_flag out_home (put_to peer e.put_box)
-        (from e.rank (w.got_box peer)) (w.waits e.rank peer) false
-        (w.emptying e.rank peer) lane found)
-
-    -- the sender fills the box
-    abbrev after_fill : Load → World
-    after_fill p = record w {
-      put_box =
-          update w.put_box e.rank (w.put_box e.rank ++ (peer, p) ∷ []);
-      filling =
-          update2 w.filling e.rank peer false;
-      waits =
-          update2 w.waits e.rank peer (w.waits e.rank peer ++ p ∷ []);
-    }
-
-    put_here_to : (p : Load)
-        → put_to peer (update w.put_box e.rank (w.put_box e.rank ++ (peer, p) ∷ []) e.rank)
-        ≡ put_to peer (w.put_box e.rank) ++ p ∷ []
-    put_here_to p = ap (put_to peer)
-        (update_here w.put_box e.rank (w.put_box e.rank ++ (peer, p) ∷ []) e.rank refl)
-        ∙ put_append peer (w.put_box e.rank) ((peer, p) ∷ [])
-        ∙ ap (λ u. put_to peer (w.put_box e.rank) ++ u)
-        (pick_yes (ℕ_discrete peer peer) (p ∷ []) [] refl)
-
-    put_else_to : (p : Load) (i j : ℕ) → ¬ ((i ≡ e.rank) × (j ≡ peer))
-        → put_to j (update w.put_box e.rank (w.put_box e.rank ++ (peer, p) ∷ []) i) ≡ put_to j
-        (w.put_box i)
-    put_else_to p i j ne = let many = w.put_box e.rank ++ (peer, p) ∷ [] in
-        dite (ℕ_discrete i e.rank)
-        (λ ei. ap (put_to j) (update_here w.put_box e.rank many i ei)
-        ∙ put_append j (w.put_box e.rank) ((peer, p) ∷ [])
-        ∙ ap (λ u. put_to j (w.put_box e.rank) ++ u)
-        (pick_no (ℕ_discrete peer j) (p ∷ []) [] (λ q. ne (ei, sym q)))
-        ∙ append-nil (put_to j (w.put_box e.rank)) ∙ ap (λ u. put_to j (w.put_box u)) (sym ei))
-        (λ ni. ap (put_to j) (update_else w.put_box e.rank many i ni))
-
-    fill_turns : (p : Load) → number p ≡ sent_to peer e.put_box e.put
-        → AllInSequence n (after_fill p)
-    fill_turns p is i j li lj = let old = R.turns i j li lj in
-        let many = w.put_box e.rank ++ (peer, p) ∷ [] in
-        let waits' = update2 w.waits e.rank peer (w.waits e.rank peer ++ p ∷ []) in
-        let st = sent_to j (w.put_box i) (w.put i) in let gb = map number (from i (w.got_box j)) in
-        let bx = map number (w.waits i j) in let gc = map number (from i (w.got j)) in
-        let ch = map number (from i (loads (w.chain j))) in
-        dite (ℕ_discrete i e.rank)
-        (λ ei. dite (ℕ_discrete j peer)
-        (λ ej. let puts : put_to j (update w.put_box e.rank many i) ≡ put_to j (w.put_box i)
-        ++ p ∷ [] = subst (λ u. put_to j (update w.put_box e.rank many u) ≡ put_to j
-        (w.put_box u) ++ p ∷ []) (sym ei)
-        (subst (λ u. put_to u (update w.put_box e.rank many e.rank) ≡ put_to u
-        (w.put_box e.rank) ++ p ∷ []) (sym ej) (put_here_to p)) in
-        let ws : waits' i j ≡ w.waits i j ++ p ∷ [] =
-        subst (λ u. waits' u j ≡ w.waits u j ++ p ∷ []) (sym ei)
-        (subst (λ u. waits' e.rank u ≡ w.waits e.rank u ++ p ∷ []) (sym ej)
-        (update2_here w.waits e.rank peer (w.waits e.rank peer ++ p ∷ []))) in
-        let next : number p ≡ st = is ∙ ap (λ u. sent_to peer u e.put) k.put_box
-        ∙ ap (sent_to peer (w.put_box e.rank)) k.put
-        ∙ ap (λ u. sent_to u (w.put_box e.rank) (w.put e.rank)) (sym ej)
-        ∙ ap (λ u. sent_to j (w.put_box u) (w.put u)) (sym ei) in
-        turn_along (suc st) (sent_to j (update w.put_box e.rank many i) (w.put i)) gb gb
-        (bx ++ st ∷ []) (map number (waits' i j)) gc gc ch ch
-        (let q = ap length puts in let la = length-append (put_to j (w.put_box i)) (p ∷ []) in
-        omega arith) refl
-        (ap (map number) ws ∙ map-append number (w.waits i j) (p ∷ [])
-        ∙ ap (λ u. bx ++ u ∷ []) next) refl refl (put_by_box st gb bx gc ch old))
-        (λ nj. turn_along st (sent_to j (update w.put_box e.rank many i) (w.put i)) gb gb bx
-        (map number (waits' i j)) gc gc ch ch
-        (ap (λ u. length u + length (put_to j (w.put i))) (put_else_to p i j (λ q. nj q.1)))
-        refl
-        (ap (map number) (update2_else w.waits e.rank peer (w.waits e.rank peer ++ p ∷ []) i j
-        (λ q. nj q.1))) refl refl old))
-        (λ ni. turn_along st (sent_to j (update w.put_box e.rank many i) (w.put i)) gb gb bx
-        (map number (waits' i j)) gc gc ch ch
-        (ap (λ u. length u + length (put_to j (w.put i))) (put_else_to p i j (λ q. ni q.0)))
-        refl
-        (ap (map number) (update2_else w.waits e.rank peer (w.waits e.rank peer ++ p ∷ []) i j
-        (λ q. ni q.0))) refl refl old)
-
-    fill_ruled : (p : Load) → filling_of e peer ≡ true → sender p ≡ suc e.rank
-        → number p ≡ sent_to peer e.put_box e.put
-        → Rule key record {
-          words = set s.words (4 * n + out_slot) (suc (number p));
-          homes =
-              set s.homes out_slot (maybe.some p);
-          views =
-              set s.views id (view (plays.with_put_box ((peer, p) ∷ [])
-              (plays.with_filling peer false e) ∷ []));
-        }
-    fill_ruled p at_work from_here is = let t = length (put_to peer e.put_box) % 4 in
-        let lt = in_four (length (put_to peer e.put_box)) in
-        let words' = set s.words (4 * n + out_slot) (suc (number p)) in
-        let homes' = set s.homes out_slot (maybe.some p) in
-        let w' = after_fill p in
-        let lane = subst (λ b. OutLane out_flag out_home b (put_to peer e.put_box)
-        (w.waits e.rank peer)) at_work out_lane in
-        let flag' : ℕ → ℕ = λ u. slice_index words' (4 * n + box_slot n m e.rank peer u) in
-        let home' : ℕ → maybe.Option (maybe.Option Load) =
-        λ u. get_elem? homes' (box_slot n m e.rank peer u) in
-        let new = windows.producer_fills 4 None mark (λ y. sender y ≡ suc e.rank)
-        (omega arith) marked out_flag out_home (put_to peer e.put_box)
-        (from e.rank (w.got_box peer)) (w.waits e.rank peer)
-        (w.emptying e.rank peer) lane p from_here flag' home'
-        (box_word e.rank peer t (suc (number p)) low few lt)
-        (box_home e.rank peer t (maybe.some p) low few lt)
-        (λ u lu ne. box_words e.rank peer t (suc (number p)) u ne)
-        (λ u lu ne. box_homes e.rank peer t (maybe.some p) u ne) in
-        let shown = filling_shown false (record w { filling = update2 w.filling e.rank peer false })
-        refl refl refl refl refl refl refl (update2_here w.filling e.rank peer false)
-        (λ l ne. update2_else w.filling e.rank peer false e.rank l (λ q. ne q.1)) in
-        let b = slot_low n m e.rank peer t low few lt in
-        ruled key s R id e at low w'
-        (plays.with_put_box ((peer, p) ∷ []) (plays.with_filling peer false e)) words' homes'
-        R.ranked
-        (queues.elsewhere n m w s.words s.homes R.laid w' refl refl refl refl refl words' homes'
-        (length-set s.words (4 * n + out_slot) (suc (number p)))
-        (length-set s.homes out_slot (maybe.some p))
-        (λ c lc. get_or-set_other s.words (4 * n + out_slot) c (suc (number p)) 0 (let b₀ = b.0 in
-        omega arith)) (λ c lc. set_else s.homes out_slot c (maybe.some p) (let b₀ = b.0 in
-        omega arith)))
-        (boxes.one_lane n m w s.words s.homes R.boxes e.rank peer low few w' words' homes'
-        (λ i j li lj ne. (
-          update2_else w.filling e.rank peer false i j ne,
-          refl,
-          put_else_to p i j ne,
-          refl,
-          update2_else w.waits e.rank peer (w.waits e.rank peer ++ p ∷ []) i j ne,
-        ))
-        (λ c ne. (
-          words_else e.rank peer t (suc (number p)) c ne lt,
-          homes_else e.rank peer t (maybe.some p) c ne lt,
-        ))
-        (rw (
-          update2_here w.filling e.rank peer false,
-          put_here_to p,
-          update2_here w.waits e.rank peer (w.waits e.rank peer ++ p ∷ []),
-        )
-        (subst (λ u. OutLane flag' home' false (put_to peer u ++ p ∷ [])
-        (w.waits e.rank peer ++ p ∷ [])) k.put_box new)))
-        (fill_turns p is)
-        record {
-          rank = k.rank;
-          ranks = k.ranks;
-          per = k.per;
-          long = k.long;
-          hands = k.hands;
-          receive = k.receive;
-          free = k.free;
-          put = k.put;
-          got = k.got;
-          put_box = ap (λ u. u ++ (peer, p) ∷ []) k.put_box
-              ∙ sym (update_here w.put_box e.rank (w.put_box e.rank ++ (peer, p) ∷ []) e.rank refl);
-          got_box = k.got_box;
-          outs = shown.outs;
-          ins = k.ins;
-          filling = shown.filling;
-          emptying = k.emptying;
-        }
-        (λ r g _ ne o. knows_else n m w w' r g o (λ c. inl refl) refl refl refl refl
-        (update_else w.put_box e.rank (w.put_box e.rank ++ (peer, p) ∷ []) r ne) refl
-        (update2_row w.filling e.rank peer false r ne) (λ _. refl))
-
-    -- the receiver finds a packet
-    in_starts : (a : ℕ) → in_flag (length (from peer e.got_box) % 4) ≡ suc a → (y : Load)
-        × (ys : List Load) × (w.waits peer e.rank ≡ y ∷ ys) × (number y ≡ a) × (sender y ≡ suc peer)
-    in_starts a found = let some : 0 < in_flag (length (from peer e.got_box) % 4) =
-        omega (arith, found) in
-        let f = windows.first_where_marked 4 None mark (λ y. sender y ≡ suc peer)
-        (omega arith) marked in_flag in_home (put_to e.rank (w.put_box peer))
-        (from peer e.got_box) (w.waits peer e.rank) (w.filling peer e.rank)
-        (emptying_of e peer) in_lane some (w.waits peer e.rank) refl in
-        let same : suc (number f.0) ≡ suc a = sym f.3 ∙ found in (f.0, f.1, f.2, omega arith, f.4)
-
-    -- what the receiver is taking is first in the boxes
-    in_first : (z : Load) → emptying_of e peer ≡ Some z → (ys : List Load)
-        × (w.waits peer e.rank ≡ z ∷ ys)
-        × (in_flag (length (from peer e.got_box) % 4) ≡ suc (number z)) × (sender z ≡ suc peer)
-    in_first z is = let f = in_lane.first z is in (
-      f.0,
-      f.1,
-      windows.first_is_marked 4 None mark (λ y. sender y ≡ suc peer)
-          (omega arith) marked in_flag in_home (put_to e.rank (w.put_box peer))
-          (from peer e.got_box) (w.waits peer e.rank) (w.filling peer e.rank)
-          (emptying_of e peer) in_lane z f.0 f.1,
-      (in_lane.full 0 z (ap (λ l. get_elem? l 0) f.1)).0,
-    )
-
-    full_home : (y : Load) (ys : List Load) → emptying_of e peer ≡ None
-        → w.waits peer e.rank ≡ y ∷ ys → get_elem? s.homes in_slot ≡ maybe.some (maybe.some y)
-    full_home y ys shut is = windows.full_slot_is_home 4 None mark (λ y. sender y ≡ suc peer)
-        (omega arith) marked in_flag in_home (put_to e.rank (w.put_box peer)) (from peer e.got_box)
-        (w.waits peer e.rank) (w.filling peer e.rank)
-        (subst (λ x. InLane in_flag in_home x (from peer e.got_box) (w.waits peer e.rank)) shut
-        in_lane) y ys is
-
-    -- the receiver takes its slot
-    abbrev after_begin : Load → World
-    after_begin y = record w { emptying = update2 w.emptying peer e.rank (Some y) }
-
-    begin_ruled : (y : Load) (ys : List Load) → emptying_of e peer ≡ None
-        → w.waits peer e.rank ≡ y ∷ ys
-        → Rule key record {
-          words = s.words;
-          homes = set s.homes in_slot maybe.none;
-          views =
-              set s.views id (view (plays.with_emptying peer (Some y) e ∷ []));
-        }
-    begin_ruled y ys shut is = let t = length (from peer e.got_box) % 4 in
-        let lt = in_four (length (from peer e.got_box)) in
-        let homes' = set s.homes in_slot maybe.none in let w' = after_begin y in
-        let lane = subst (λ x. InLane in_flag in_home x (from peer e.got_box) (w.waits peer e.rank))
-        shut in_lane in
-        let new = windows.consumer_opens 4 None mark (λ y. sender y ≡ suc peer)
-        (omega arith) marked in_flag in_home (put_to e.rank (w.put_box peer))
-        (from peer e.got_box) (w.waits peer e.rank) (w.filling peer e.rank) lane y ys is
-        (λ u. get_elem? homes' (box_slot n m peer e.rank u))
-        (box_home peer e.rank t maybe.none few low lt)
-        (λ u lu ne. box_homes peer e.rank t maybe.none u ne) in
-        ruled key s R id e at low w' (plays.with_emptying peer (Some y) e) s.words homes' R.ranked
-        (queues.elsewhere n m w s.words s.homes R.laid w' refl refl refl refl refl s.words homes'
-        refl (length-set s.homes in_slot maybe.none) (λ _ _. refl)
-        (λ c lc. set_else s.homes in_slot c maybe.none
-        (let b = (slot_low n m peer e.rank t few low lt).0 in omega arith)))
-        (boxes.one_lane n m w s.words s.homes R.boxes peer e.rank few low w' s.words homes'
-        (λ i j li lj ne. (
-          refl,
-          update2_else w.emptying peer e.rank (Some y) i j ne,
-          refl,
-          refl,
-          refl,
-        )) (λ c ne. (refl, homes_else peer e.rank t maybe.none c ne lt))
-        (rw (update2_here w.emptying peer e.rank (Some y))
-        (subst (λ u. InLane in_flag (λ u. get_elem? homes' (box_slot n m peer e.rank u))
-        (Some y) (from peer u) (w.waits peer e.rank)) k.got_box new)))
-        R.turns
-        (emptying_shown (Some y) w' refl refl refl refl refl refl refl
-        (update2_here w.emptying peer e.rank (Some y))
-        (λ l ne. update2_else w.emptying peer e.rank (Some y) l e.rank (λ q. ne q.0)))
-        (λ r g _ ne o. knows_else n m w w' r g o (λ c. inl refl) refl refl refl refl refl refl refl
-        (λ i. update2_else w.emptying peer e.rank (Some y) i r (λ q. ne q.1)))
-
-    -- the receiver empties the box, where all smaller numbers came
-    abbrev after_empty : Load → List Load → World
-    after_empty y ys = record w {
-      got_box =
-          update w.got_box e.rank (w.got_box e.rank ++ y ∷ []);
-      emptying =
-          update2 w.emptying peer e.rank None;
-      waits = update2 w.waits peer e.rank ys;
-    }
-
-    got_here_from : (y : Load) → sender y ≡ suc peer
-        → from peer (update w.got_box e.rank (w.got_box e.rank ++ y ∷ []) e.rank) ≡ from peer
-        (w.got_box e.rank) ++ y ∷ []
-    got_here_from y is = ap (from peer)
-        (update_here w.got_box e.rank (w.got_box e.rank ++ y ∷ []) e.rank refl)
-        ∙ from_append peer (w.got_box e.rank) (y ∷ []) ∙ ap (λ u. from peer (w.got_box e.rank) ++ u)
-        (pick_yes (ℕ_discrete (sender y) (suc peer)) (y ∷ []) [] is)
-
-    got_else_from : (y : Load) → sender y ≡ suc peer → (i j : ℕ) → ¬ ((i ≡ peer) × (j ≡ e.rank))
-        → from i (update w.got_box e.rank (w.got_box e.rank ++ y ∷ []) j) ≡ from i (w.got_box j)
-    got_else_from y is i j ne = let more = w.got_box e.rank ++ y ∷ [] in dite (ℕ_discrete j e.rank)
-        (λ ej. ap (from i) (update_here w.got_box e.rank more j ej)
-        ∙ from_append i (w.got_box e.rank) (y ∷ []) ∙ ap (λ u. from i (w.got_box e.rank) ++ u)
-        (pick_no (ℕ_discrete (sender y) (suc i)) (y ∷ []) [] (λ q. let same : suc peer ≡ suc i =
-        sym is ∙ q in ne (omega arith, ej)))
-        ∙ append-nil (from i (w.got_box e.rank)) ∙ ap (λ u. from i (w.got_box u)) (sym ej))
-        (λ nj. ap (from i) (update_else w.got_box e.rank more j nj))
-
-    came_all : (a : ℕ) → plays.AllBelow e peer a → (u : ℕ) → u < a
-        → Got (map number (from peer (w.got_box e.rank))) (map number (from peer (w.got e.rank))) u
-    came_all a all u less =
-        subst (λ g. Got (map number (from peer g)) (map number (from peer (w.got e.rank))) u)
-        k.got_box (subst (λ g. Got (map number (from peer e.got_box)) (map number (from peer g)) u)
-        k.got (all u less))
-
-    empty_turns : (y : Load) (ys : List Load) → w.waits peer e.rank ≡ y ∷ ys → sender y ≡ suc peer
-        → plays.AllBelow e peer (number y) → AllInSequence n (after_empty y ys)
-    empty_turns y ys is from_peer all i j li lj = let old = R.turns i j li lj in
-        let more = w.got_box e.rank ++ y ∷ [] in let waits' = update2 w.waits peer e.rank ys in
-        let st = sent_to j (w.put_box i) (w.put i) in let gb = map number (from i (w.got_box j)) in
-        let bx = map number (w.waits i j) in let gc = map number (from i (w.got j)) in
-        let ch = map number (from i (loads (w.chain j))) in
-        let else : ¬ ((i ≡ peer) × (j ≡ e.rank))
-        → InSequence st (map number (from i (update w.got_box e.rank more j)))
-        (map number (waits' i j)) gc ch = λ ne.
-        turn_along st st gb (map number (from i (update w.got_box e.rank more j))) bx
-        (map number (waits' i j)) gc gc ch ch refl
-        (ap (map number) (got_else_from y from_peer i j ne))
-        (ap (map number) (update2_else w.waits peer e.rank ys i j ne)) refl refl old in
-        dite (ℕ_discrete i peer)
-        (λ ei. dite (ℕ_discrete j e.rank)
-        (λ ej. let here_turn : InSequence (sent_to e.rank (w.put_box peer) (w.put peer))
-        (map number (from peer (update w.got_box e.rank more e.rank)))
-        (map number (waits' peer e.rank)) (map number (from peer (w.got e.rank)))
-        (map number (from peer (loads (w.chain e.rank)))) =
-        let s₀ = sent_to e.rank (w.put_box peer) (w.put peer) in
-        let gb₀ = map number (from peer (w.got_box e.rank)) in
-        let gc₀ = map number (from peer (w.got e.rank)) in
-        let ch₀ = map number (from peer (loads (w.chain e.rank))) in
-        turn_along s₀ s₀ (gb₀ ++ number y ∷ [])
-        (map number (from peer (update w.got_box e.rank more e.rank))) (map number ys)
-        (map number (waits' peer e.rank)) gc₀ gc₀ ch₀ ch₀ refl
-        (ap (map number) (got_here_from y from_peer) ∙ map-append number
-        (from peer (w.got_box e.rank)) (y ∷ []))
-        (ap (map number) (update2_here w.waits peer e.rank ys)) refl refl
-        (got_by_box s₀ (number y) gb₀ (map number ys) gc₀ ch₀
-        (subst (λ u. InSequence s₀ gb₀ (map number u) gc₀ ch₀) is (R.turns peer e.rank few low))
-        (came_all (number y) all)) in
-        subst (λ u. InSequence (sent_to j (w.put_box u) (w.put u))
-        (map number (from u (update w.got_box e.rank more j))) (map number (waits' u j))
-        (map number (from u (w.got j))) (map number (from u (loads (w.chain j))))) (sym ei)
-        (subst (λ u. InSequence (sent_to u (w.put_box peer) (w.put peer))
-        (map number (from peer (update w.got_box e.rank more u))) (map number (waits' peer u))
-        (map number (from peer (w.got u))) (map number (from peer (loads (w.chain u)))))
-        (sym ej) here_turn))
-        (λ nj. else (λ q. nj q.1)))
-        (λ ni. else (λ q. ni q.0))
-
-    empty_ruled : (y : Load) → emptying_of e peer ≡ Some y → plays.AllBelow e peer (number y)
-        → Rule key record {
-          words = set s.words (4 * n + in_slot) 0;
-          homes =
-              set s.homes in_slot (maybe.some None);
-          views =
-              set s.views id (view (plays.with_got_box (y ∷ [])
-              (plays.with_emptying peer None e) ∷ []));
-        }
-    empty_ruled y at_work all = let t = length (from peer e.got_box) % 4 in
-        let lt = in_four (length (from peer e.got_box)) in
-        let words' = set s.words (4 * n + in_slot) 0 in
-        let homes' = set s.homes in_slot (maybe.some None) in
-        let f = in_first y at_work in let ys = f.0 in let w' = after_empty y ys in
-        let lane = subst (λ x. InLane in_flag in_home x (from peer e.got_box)
-        (w.waits peer e.rank)) at_work in_lane in
-        let flag' : ℕ → ℕ = λ u. slice_index words' (4 * n + box_slot n m peer e.rank u) in
-        let home' : ℕ → maybe.Option (maybe.Option Load) =
-        λ u. get_elem? homes' (box_slot n m peer e.rank u) in
-        let new = windows.consumer_empties 4 None mark (λ y. sender y ≡ suc peer)
-        (omega arith) marked in_flag in_home (put_to e.rank (w.put_box peer))
-        (from peer e.got_box) (w.waits peer e.rank) (w.filling peer e.rank) y ys lane f.1 flag'
-        home'
-        (box_word peer e.rank t 0 few low lt) (box_home peer e.rank t (maybe.some None) few low lt)
-        (λ u lu ne. box_words peer e.rank t 0 u ne)
-        (λ u lu ne. box_homes peer e.rank t (maybe.some None) u ne) in
-        let shown = emptying_shown None
-        (record w { emptying = update2 w.emptying peer e.rank None }) refl refl refl refl refl
-        refl refl (update2_here w.emptying peer e.rank None)
-        (λ l ne. update2_else w.emptying peer e.rank None l e.rank (λ q. ne q.0)) in
-        let b = slot_low n m peer e.rank t few low lt in
-        ruled key s R id e at low w' (plays.with_got_box (y ∷ []) (plays.with_emptying peer None e))
-        words' homes' R.ranked
-        (queues.elsewhere n m w s.words s.homes R.laid w' refl refl refl refl refl words' homes'
-        (length-set s.words (4 * n + in_slot) 0) (length-set s.homes in_slot (maybe.some None))
-        (λ c lc. get_or-set_other s.words (4 * n + in_slot) c 0 0 (let b₀ = b.0 in omega arith))
-        (λ c lc. set_else s.homes in_slot c (maybe.some None) (let b₀ = b.0 in omega arith)))
-        (boxes.one_lane n m w s.words s.homes R.boxes peer e.rank few low w' words' homes'
-        (λ i j li lj ne. (
-          refl,
-          update2_else w.emptying peer e.rank None i j ne,
-          refl,
-          got_else_from y f.3 i j ne,
-          update2_else w.waits peer e.rank ys i j ne,
-        ))
-        (λ c ne. (
-          words_else peer e.rank t 0 c ne lt,
-          homes_else peer e.rank t (maybe.some None) c ne lt,
-        ))
-        (rw (
-          update2_here w.emptying peer e.rank None,
-          got_here_from y f.3,
-          update2_here w.waits peer e.rank ys,
-        )
-        (subst (λ u. InLane flag' home' None (from peer u ++ y ∷ []) ys) k.got_box new)))
-        (empty_turns y ys f.1 f.3 all)
-        record {
-          rank = k.rank;
-          ranks = k.ranks;
-          per = k.per;
-          long = k.long;
-          hands = k.hands;
-          receive = k.receive;
-          free = k.free;
-          put = k.put;
-          got = k.got;
-          put_box = k.put_box;
-          got_box = ap (λ u. u ++ y ∷ []) k.got_box
-              ∙ sym (update_here w.got_box e.rank (w.got_box e.rank ++ y ∷ []) e.rank refl);
-          outs = k.outs;
-          ins = shown.ins;
-          filling = k.filling;
-          emptying = shown.emptying;
-        }
-        (λ r g _ ne o. knows_else n m w w' r g o (λ c. inl refl) refl refl refl refl refl
-        (update_else w.got_box e.rank (w.got_box e.rank ++ y ∷ []) r ne) refl
-        (λ i. update2_else w.emptying peer e.rank None i r (λ q. ne q.1)))
-
-    -- what the receiver is taking is new
-    not_come : (y : Load) → emptying_of e peer ≡ Some y → ¬ plays.Came e peer (number y)
-    not_come y at_work = let f = in_first y at_work in
-        let st = sent_to e.rank (w.put_box peer) (w.put peer) in
-        let ch = map number (from peer (loads (w.chain e.rank))) in
-        let turn = subst (λ u. InSequence st (map number (from peer (w.got_box e.rank)))
-        (map number u) (map number (from peer (w.got e.rank))) ch) f.1
-        (R.turns peer e.rank few low) in
-        let new = next_by_box_is_new st (number y) (map number (from peer (w.got_box e.rank)))
-        (map number f.0) (map number (from peer (w.got e.rank))) ch turn in
-        subst (λ g. ¬ Got (map number (from peer g)) (map number (from peer e.got)) (number y))
-        (sym k.got_box) (subst (λ g. ¬ Got (map number (from peer (w.got_box e.rank)))
-        (map number (from peer g)) (number y)) (sym k.got) new)
-
-    -- what is overdue has come
-    overdue : (a : ℕ) → plays.Overdue e peer a → (xs : List Load) → w.waits peer e.rank ≡ xs
-        → in_flag (length (from peer e.got_box) % 4) ≡ suc a
-    overdue a o xs is = let turn =
-        subst (λ g. InSequence (sent_to e.rank (w.put_box peer) (w.put peer))
-        (map number (from peer g)) (map number (w.waits peer e.rank))
-        (map number (from peer (w.got e.rank))) (map number (from peer (loads (w.chain e.rank)))))
-        (sym k.got_box) (R.turns peer e.rank few low) in
-        let turn' = subst (λ g. InSequence (sent_to e.rank (w.put_box peer) (w.put peer))
-        (map number (from peer e.got_box)) (map number (w.waits peer e.rank))
-        (map number (from peer g)) (map number (from peer (loads (w.chain e.rank)))))
-        (sym k.got) turn in
-        by_waits xs is (subst (λ u. InSequence (sent_to e.rank (w.put_box peer) (w.put peer))
-        (map number (from peer e.got_box)) (map number u) (map number (from peer e.got))
-        (map number (from peer (loads (w.chain e.rank))))) is turn') where
-          by_waits : (xs : List Load) → w.waits peer e.rank ≡ xs
-              → InSequence (sent_to e.rank (w.put_box peer) (w.put peer))
-              (map number (from peer e.got_box)) (map number xs) (map number (from peer e.got))
-              (map number (from peer (loads (w.chain e.rank))))
-              → in_flag (length (from peer e.got_box) % 4) ≡ suc a
-          by_waits [] is t = absurd (missing_in_box (sent_to e.rank (w.put_box peer) (w.put peer))
-              (map number (from peer e.got_box)) [] (map number (from peer e.got))
-              (map number (from peer (loads (w.chain e.rank)))) t a o.1.0 o.1.1 o.1.2 o.2)
-          by_waits (y ∷ ys) is t = windows.first_is_marked 4 None mark (λ y. sender y ≡ suc peer)
-              (omega arith) marked in_flag in_home (put_to e.rank (w.put_box peer))
-              (from peer e.got_box) (w.waits peer e.rank) (w.filling peer e.rank)
-              (emptying_of e peer) in_lane y ys is
-              ∙ ap suc (first_missing (sent_to e.rank (w.put_box peer) (w.put peer)) a o.1.0
-              (number y) (map number (from peer e.got_box)) (map number ys)
-              (map number (from peer e.got)) (map number (from peer (loads (w.chain e.rank)))) t
-              o.0 o.1.1 o.1.2 o.2)
 
   -- what a step of the seat owes
   abbrev Owed : State Load (View Entry) → ℕ → ℕ → List (ℕ × Load) → (plays.Knowing → Type 0)
@@ -780,7 +67,7 @@ module _ (key : Sizes) (slots id : ℕ) (e : Entry) (low : e.rank < key.ranks) (
         view (plays.with_box_full peer e ∷ []),
         keeps,
         tt,
-        only s R at i (plays.with_box_full peer e) (full_known s R at),
+        rule.only key slots id e low peer few s R at i (plays.with_box_full peer e) (rule.full_known key slots id e low peer few s R at),
         ((λ z. absurd (some z)), (λ _. refl)),
       ))
     where
@@ -799,41 +86,44 @@ module _ (key : Sizes) (slots id : ℕ) (e : Entry) (low : e.rank < key.ranks) (
           × (after ≡ (
             view (plays.with_filling peer true e ∷ []),
             plays.opened (filling_of e peer) c hs,
-          ))) × (0 < slice_index s.words (4 * n + out_slot)
+          )) × BoxesApart (plays.mine after)) × (0 < slice_index s.words (4 * n + out_slot)
           → after ≡ (view (plays.with_box_full peer e ∷ []), hs)))
-      by_lid s R at c at_slot zeroed true is = (
-        view (plays.with_filling peer true e ∷ []),
-        keeps,
-        tt,
-        only s R at (4 * n + out_slot) (plays.with_filling peer true e)
-            (filling_shown s R at true R.world refl refl refl refl refl refl refl
-            (sym ((own key s R id e at low).filling peer few) ∙ is) (λ l ne. refl)),
-        (
-          (λ _. (
-            now_filling s R at,
-            ap (λ b. (view (plays.with_filling peer true e ∷ []), plays.opened b c hs)) (sym is),
-          )),
-          (λ some. absurd (omega arith)),
-        ),
-      )
-      by_lid s R at c at_slot zeroed false is = (
-        view (plays.with_filling peer true e ∷ []),
-        takes out_slot None,
-        free_home s R at is zeroed,
-        loaded s (4 * n + out_slot) (set s.homes out_slot maybe.none)
-            (set s.views id (view (plays.with_filling peer true e ∷ [])))
-            (open_ruled s R at is zeroed),
-        (
-          (λ _. (
-            now_filling s R at,
-            λ i. (
-              view (plays.with_filling peer true e ∷ []),
-              plays.opened (sym is i) (sym at_slot i) hs,
+      by_lid s R at c at_slot zeroed true is = let f = plays.with_filling peer true e in
+          let new = rule.only key slots id e low peer few s R at (4 * n + out_slot) f
+          (rule.filling_shown key slots id e low peer few s R at true R.world refl refl refl refl
+          refl refl refl (sym ((own key s R id e at low).filling peer few) ∙ is) (λ l ne. refl)) in (
+            view (f ∷ []),
+            keeps,
+            tt,
+            new,
+            (
+              (λ _. (
+                now_filling s R at,
+                ap (λ b. (view (f ∷ []), plays.opened b c hs)) (sym is),
+                apart_after key (set s.words (4 * n + out_slot)
+                    (slice_index s.words (4 * n + out_slot))) s.homes s.views id
+                    (view (e ∷ [])) f low at new,
+              )),
+              (λ some. absurd (omega arith)),
             ),
-          )),
-          (λ some. absurd (omega arith)),
-        ),
-      )
+          )
+      by_lid s R at c at_slot zeroed false is = let f = plays.with_filling peer true e in
+          let new = rule.open_ruled key slots id e low peer few s R at is zeroed in (
+            view (f ∷ []),
+            takes out_slot None,
+            rule.free_home key slots id e low peer few s R at is zeroed,
+            loaded s (4 * n + out_slot) (set s.homes out_slot maybe.none)
+                (set s.views id (view (f ∷ []))) new,
+            (
+              (λ _. (
+                now_filling s R at,
+                (λ i. (view (f ∷ []), plays.opened (sym is i) (sym at_slot i) hs)),
+                apart_after key s.words (set s.homes out_slot maybe.none) s.views id
+                    (view (e ∷ [])) f low at new,
+              )),
+              (λ some. absurd (omega arith)),
+            ),
+          )
 
   look_in_kept : (a : ℕ) (hs : List (ℕ × Load))
       → Allows (Rule key) slots id (here hs) (4 * n + in_slot) (λ u. u)
@@ -848,11 +138,11 @@ module _ (key : Sizes) (slots id : ℕ) (e : Entry) (low : e.rank < key.ranks) (
         view (plays.with_box_miss peer e ∷ []),
         keeps,
         tt,
-        only s R at i (plays.with_box_miss peer e) (miss_known s R at),
+        rule.only key slots id e low peer few s R at i (plays.with_box_miss peer e) (rule.miss_known key slots id e low peer few s R at),
         (
           (λ z. absurd (other z)),
           (λ _. refl),
-          (λ o. overdue s R at a o (R.world.waits peer e.rank) refl),
+          (λ o. rule.overdue key slots id e low peer few s R at a o (R.world.waits peer e.rank) refl),
         ),
       ))
     where
@@ -872,50 +162,61 @@ module _ (key : Sizes) (slots id : ℕ) (e : Entry) (low : e.rank < key.ranks) (
           × (slice_index s.words (4 * n + in_slot) ≢ suc a
           → after ≡ (view (plays.with_box_miss peer e ∷ []), hs))
           × (plays.Overdue e peer a → slice_index s.words (4 * n + in_slot) ≡ suc a))
-      by_lid s R at c at_slot hit None is = let st = in_starts s R at a hit in let y = st.0 in
-          let now = taken_now s R at y in
-          let load : plays.box_load peer (plays.with_emptying peer (Some y) e) ≡ y =
-          ap plays.taking now in (
-            view (plays.with_emptying peer (Some y) e ∷ []),
+      by_lid s R at c at_slot hit None is =
+          let st = rule.in_starts key slots id e low peer few s R at a hit in let y = st.0 in
+          let f = plays.with_emptying peer (Some y) e in
+          let now = taken_now s R at y in let load : plays.box_load peer f ≡ y =
+          ap plays.taking now in
+          let new = rule.begin_ruled key slots id e low peer few s R at y st.1 is st.2 in (
+            view (f ∷ []),
             takes in_slot y,
-            full_home s R at y st.1 is st.2,
+            rule.full_home key slots id e low peer few s R at y st.1 is st.2,
             loaded s (4 * n + in_slot) (set s.homes in_slot maybe.none)
-                (set s.views id (view (plays.with_emptying peer (Some y) e ∷ [])))
-                (begin_ruled s R at y st.1 is st.2),
+                (set s.views id (view (f ∷ []))) new,
             (
               (λ _. (
                 now ∙ ap Some (sym load),
                 ap number load ∙ st.3,
                 ap sender load ∙ st.4,
-                λ i. (
+                (λ i. (
                   view (plays.with_emptying peer (Some (sym load i)) e ∷ []),
                   plays.begun (sym is i) (sym at_slot i) (sym load i) hs,
-                ),
+                )),
+                apart_after key s.words (set s.homes in_slot maybe.none) s.views id
+                    (view (e ∷ [])) f low at new,
+                (λ z now_some. absurd (none_some z (sym is ∙ now_some))),
               )),
               (λ other. absurd (other hit)),
               (λ _. hit),
             ),
           )
-      by_lid s R at c at_slot hit (Some z) is = let f = in_first s R at z is in
-          let now = taken_now s R at z in
-          let load : plays.box_load peer (plays.with_emptying peer (Some z) e) ≡ z =
-          ap plays.taking now in let same : suc (number z) ≡ suc a = sym f.2 ∙ hit in (
-            view (plays.with_emptying peer (Some z) e ∷ []),
+      by_lid s R at c at_slot hit (Some z) is =
+          let first = rule.in_first key slots id e low peer few s R at z is in
+          let f = plays.with_emptying peer (Some z) e in
+          let now = taken_now s R at z in let load : plays.box_load peer f ≡ z =
+          ap plays.taking now in let same : suc (number z) ≡ suc a = sym first.2 ∙ hit in
+          let new = rule.only key slots id e low peer few s R at (4 * n + in_slot) f
+          (rule.emptying_shown key slots id e low peer few s R at (Some z) R.world refl refl refl
+          refl refl refl refl (sym ((own key s R id e at low).emptying peer few) ∙ is)
+          (λ l ne. refl)) in (
+            view (f ∷ []),
             keeps,
             tt,
-            only s R at (4 * n + in_slot) (plays.with_emptying peer (Some z) e)
-                (emptying_shown s R at (Some z) R.world refl refl refl refl refl refl refl
-                (sym ((own key s R id e at low).emptying peer few) ∙ is) (λ l ne. refl)),
+            new,
             (
               (λ _. (
                 now ∙ ap Some (sym load),
                 ap number load ∙ (let t : number z ≡ a = omega arith in
                     t),
-                ap sender load ∙ f.3,
-                λ i. (
+                ap sender load ∙ first.3,
+                (λ i. (
                   view (plays.with_emptying peer (Some (sym load i)) e ∷ []),
                   plays.begun (sym is i) c (sym load i) hs,
-                ),
+                )),
+                apart_after key (set s.words (4 * n + in_slot)
+                    (slice_index s.words (4 * n + in_slot))) s.homes s.views id
+                    (view (e ∷ [])) f low at new,
+                (λ u was. sym (rule.some_is z u (sym is ∙ was)) ∙ sym load),
               )),
               (λ other. absurd (other hit)),
               (λ _. hit),
@@ -932,7 +233,7 @@ module _ (key : Sizes) (slots id : ℕ) (e : Entry) (low : e.rank < key.ranks) (
     view (plays.with_put_box ((peer, p) ∷ []) (plays.with_filling peer false e) ∷ []),
     gives,
     tt,
-    fill_ruled s R at p at_work from_here is,
+    rule.fill_ruled key slots id e low peer few s R at p at_work from_here is,
     refl,
   )
 
@@ -945,7 +246,7 @@ module _ (key : Sizes) (slots id : ℕ) (e : Entry) (low : e.rank < key.ranks) (
     view (plays.with_got_box (y ∷ []) (plays.with_emptying peer None e) ∷ []),
     gives,
     tt,
-    empty_ruled s R at y at_work all,
+    rule.empty_ruled key slots id e low peer few s R at y at_work all,
     (
       ap (λ u. (
         view (plays.with_got_box (plays.taking u ∷ [])
@@ -953,7 +254,7 @@ module _ (key : Sizes) (slots id : ℕ) (e : Entry) (low : e.rank < key.ranks) (
         hs,
       )) (sym at_work),
       subst (λ u. ¬ plays.Came e peer (number (plays.taking u))) (sym at_work)
-          (not_come s R at y at_work),
+          (rule.not_come key slots id e low peer few s R at y at_work),
     ),
   )
 

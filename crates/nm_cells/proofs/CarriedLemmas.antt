@@ -268,6 +268,18 @@ module _ (slots : List (ℕ × Load)) (hands : List Hand) (filling : List Bool)
         fits = let l = length-set emptying i None in let f = h.fits in omega arith;
       }
 
+  -- a box at work is counted
+  pub filling_below : (j : ℕ) → j < length filling → slice_index_or filling j false ≡ true
+      → 0 < count
+  filling_below j low was = let z = h.handed in let one : fills (slice_index_or filling j false)
+      ≡ 1 = ap fills was in let s = sum_by-set fills filling j false false low in omega arith
+
+  pub emptying_below : (i : ℕ) (x : Load) → i < length emptying
+      → slice_index_or emptying i None ≡ Some x → 0 < count
+  emptying_below i x low was = let z = h.handed in
+      let one : empties (slice_index_or emptying i None) ≡ 1 = ap empties was in
+      let s = sum_by-set empties emptying i None None low in omega arith
+
   -- nothing is in hand where the count is 0
   pub none_in_hand : count ≡ 0 → (slots ≡ [])
       × ((c : ℕ) → c < length hands → slice_index_or hands c Away ≡ Away)

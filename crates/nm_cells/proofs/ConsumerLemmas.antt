@@ -25,7 +25,7 @@ use Rattle.nm_cells.specs.declared.table.End.{End}
 use Rattle.nm_cells.specs.declared.table.Misses.{Misses}
 use Rattle.nm_cells.specs.declared.table.Entry.{Entry}
 use Rattle.atomic_table.proofs.Lists.{set_again, exchanged}
-use Rattle.nm_cells.specs.Rule.{AllInSequence, BoxesHold, Chain, Knows, Load, NotOf, Place}
+use Rattle.nm_cells.specs.Rule.{AllInSequence, BoxesHold, Chain, Agrees, Load, NotOf, Place}
 use Rattle.nm_cells.specs.Rule.{QueuesHold, Rule, Shows, Suits, World, fetched, from, hand, loads}
 use Rattle.nm_cells.specs.Rule.{number, sender, sent_to}
 use Rattle.nm_cells.specs.Plays as plays
@@ -78,7 +78,7 @@ same_boxes false x e = (refl, refl, refl, refl)
 
 -- the counts of misses are the port's own matter
 knows_missed : (n m r : ℕ) (b : Bool) (f : Misses → Misses) (w : World) (e : Entry)
-    → Knows n m w r e → Knows n m w r (plays.with_missed b f e)
+    → Agrees n m w r e → Agrees n m w r (plays.with_missed b f e)
 knows_missed n m r b f w e k = record {
   rank = k.rank;
   ranks = k.ranks;
@@ -97,7 +97,7 @@ knows_missed n m r b f w e k = record {
   emptying = k.emptying;
 }
 
-knows_end : (n m : ℕ) (w : World) (r : ℕ) (e : Entry) → Knows n m w r e → (b : Bool)
+knows_end : (n m : ℕ) (w : World) (r : ℕ) (e : Entry) → Agrees n m w r e → (b : Bool)
     → plays.end_of b e ≡ w.end (plays.queue n r b)
 knows_end n m w r e k true = k.receive
 knows_end n m w r e k false = k.free
@@ -110,7 +110,7 @@ away_in_queue r q p (Ready y) is s = let z = sym is ∙ s in cc
 away_in_queue r q p (Entering t u) is s = let z = sym is ∙ s in cc
 
 -- the first cell of a receive queue holds a new packet
-news : (n m : ℕ) (w : World) (e : Entry) → e.rank < n → Knows n m w e.rank e → AllInSequence n w
+news : (n m : ℕ) (w : World) (e : Entry) → e.rank < n → Agrees n m w e.rank e → AllInSequence n w
     → (b : Bool) (x : Item Load) (xs : Chain) → x.cell < n * m
     → w.chain (plays.queue n e.rank b) ≡ x ∷ xs → Suits n m (plays.queue n e.rank b) x
     → plays.HoldsNews b x.cell e x.load
@@ -141,8 +141,8 @@ module _ (key : Sizes) (slots id : ℕ) (e : Entry) (low : e.rank < key.ranks) (
   one_end : (s : State Load (View Entry)) (R : Rule key s)
       → get_elem? s.views id ≡ maybe.some (view (e ∷ []))
       → (x : End) (words' : List ℕ) (F : Entry → Entry)
-      → ((w : World) (g : Entry) → Knows key.ranks key.cells w e.rank g
-      → Knows key.ranks key.cells w e.rank (F g))
+      → ((w : World) (g : Entry) → Agrees key.ranks key.cells w e.rank g
+      → Agrees key.ranks key.cells w e.rank (F g))
       → QueuesHold key.ranks key.cells (record R.world { end = update R.world.end q x }) words'
       s.homes → BoxesHold key.ranks key.cells R.world words' s.homes
       → Rule key record {
@@ -185,13 +185,13 @@ module _ (key : Sizes) (slots id : ℕ) (e : Entry) (low : e.rank < key.ranks) (
       (sym (set-get_or s.words i 0)) R
 
   note_kept : (hs : List (ℕ × Load)) → Allows (Rule key) slots id (view (e ∷ []), hs) q (λ k. k)
-      (plays.noted b (step slots q 0 0 maybe.none) (view (e ∷ []), hs))
+      (plays.loaded_head b (step slots q 0 0 maybe.none) (view (e ∷ []), hs))
   note_kept hs s R long at small = let k = own key s R id e at low in let w = R.world in
       let found = slice_index s.words q in let x = plays.at_end (plays.end_of b e).shadow found in
       let laid = subst (λ u. QueuesHold key.ranks key.cells
       (record w { end = update w.end q (plays.at_end u found) }) s.words s.homes)
       (ap (λ (z : End). z.shadow) (sym (knows_end key.ranks key.cells w e.rank e k b)))
-      (queues.noted key.ranks key.cells w s.words s.homes R.laid q
+      (queues.loaded_head key.ranks key.cells w s.words s.homes R.laid q
       (fits_in key.ranks e.rank low w.end x b)) in
       let fit = subst (λ u. found ≤ u) (sym k.long)
       (queues.head_low key.ranks key.cells w s.words s.homes R.laid q
@@ -224,7 +224,7 @@ module _ (key : Sizes) (slots id : ℕ) (e : Entry) (low : e.rank < key.ranks) (
 
   hide_kept : (c : ℕ) (hs : List (ℕ × Load)) → (plays.end_of b e).seen ≡ suc c
       → Allows (Rule key) slots id (view (e ∷ []), hs) q (λ _. 0)
-      (plays.hid b (step slots q 0 0 maybe.none) (view (e ∷ []), hs))
+      (plays.cleared_head b (step slots q 0 0 maybe.none) (view (e ∷ []), hs))
   hide_kept c hs seen s R long at small = let k = own key s R id e at low in let w = R.world in
       let x = plays.at_end (plays.end_of b e).seen 0 in
       let in_world : (w.end q).seen ≡ suc c =
@@ -232,7 +232,7 @@ module _ (key : Sizes) (slots id : ℕ) (e : Entry) (low : e.rank < key.ranks) (
       let laid = subst (λ u. QueuesHold key.ranks key.cells
       (record w { end = update w.end q (plays.at_end u 0) }) (set s.words q 0) s.homes)
       (sym seen)
-      (queues.hid key.ranks key.cells w s.words s.homes R.laid q c
+      (queues.cleared_head key.ranks key.cells w s.words s.homes R.laid q c
       (fits_in key.ranks e.rank low w.end x b) in_world) in (
         view (plays.with_end b x e ∷ []),
         keeps,
@@ -310,7 +310,7 @@ module _ (key : Sizes) (slots id : ℕ) (e : Entry) (low : e.rank < key.ranks) (
   -- nothing changes but what the rule doesn't speak of
   pub only : (s : State Load (View Entry)) (i : ℕ)
       → get_elem? s.views id ≡ maybe.some (view (e ∷ [])) → (R : Rule key s) (f : Entry)
-      → Knows key.ranks key.cells R.world e.rank f
+      → Agrees key.ranks key.cells R.world e.rank f
       → Rule key record {
         words = set s.words i (slice_index s.words i);
         homes = s.homes;
@@ -325,7 +325,7 @@ module _ (key : Sizes) (slots id : ℕ) (e : Entry) (low : e.rank < key.ranks) (
     abbrev me : plays.Knowing
     me = (view (e ∷ []), hs)
 
-    suited : {w : World} (x : Item Load) → Knows key.ranks key.cells w e.rank e
+    suited : {w : World} (x : Item Load) → Agrees key.ranks key.cells w e.rank e
         → Suits key.ranks key.cells q x → Suits e.ranks e.each (plays.queue e.ranks e.rank b) x
     suited x k su = subst (λ u. Suits u e.each (plays.queue u e.rank b) x) (sym k.ranks)
         (subst (λ u. Suits key.ranks u q x) (sym k.per) su)
@@ -348,8 +348,8 @@ module _ (key : Sizes) (slots id : ℕ) (e : Entry) (low : e.rank < key.ranks) (
       after_is = ap (λ k. (view (plays.taken b k x.load found e ∷ []), (k, x.load) ∷ hs)) is;
     }
 
-    pass_kept : (f : Entry → Entry) → ((w : World) → Knows key.ranks key.cells w e.rank e
-        → Knows key.ranks key.cells w e.rank (f e))
+    pass_kept : (f : Entry → Entry) → ((w : World) → Agrees key.ranks key.cells w e.rank e
+        → Agrees key.ranks key.cells w e.rank (f e))
         → Allows (Rule key) slots id me (4 * key.ranks + c) (λ k. k)
         (plays.passed_or f b (step slots (4 * key.ranks + c) 0 0 maybe.none) me)
     pass_kept f keep s R long at small = let k = own key s R id e at low in let w = R.world in
@@ -456,32 +456,32 @@ module _ (key : Sizes) (n slots id : ℕ) (me : plays.Knowing) (alone : plays.Al
 
   pub note_allowed : (word : ℕ) → word ≡ plays.queue n rank b
       → Allows (Rule key) slots id me word (λ k. k)
-      (plays.noted b (step slots word 0 0 maybe.none) me)
+      (plays.loaded_head b (step slots word 0 0 maybe.none) me)
   note_allowed word is =
       subst (λ k. Allows (Rule key) slots id me k (λ k. k)
-      (plays.noted b (step slots k 0 0 maybe.none) me)) (sym (is ∙ own_queue))
+      (plays.loaded_head b (step slots k 0 0 maybe.none) me)) (sym (is ∙ own_queue))
       (subst (λ v. Allows (Rule key) slots id (v, me.1)
       (plays.queue key.ranks (plays.mine me).rank b) (λ k. k)
-      (plays.noted b (step slots (plays.queue key.ranks (plays.mine me).rank b) 0 0 maybe.none)
+      (plays.loaded_head b (step slots (plays.queue key.ranks (plays.mine me).rank b) 0 0 maybe.none)
       (v, me.1))) (sym alone)
       (note_kept key slots id (plays.mine me) here b me.1))
 
   pub hide_allowed : (word : ℕ) → word ≡ plays.queue n rank b
       → 0 < (plays.end_of b (plays.mine me)).seen → Allows (Rule key) slots id me word (λ _. 0)
-      (plays.hid b (step slots word 0 0 maybe.none) me)
+      (plays.cleared_head b (step slots word 0 0 maybe.none) me)
   hide_allowed word is some =
       subst (λ k. Allows (Rule key) slots id me k (λ _. 0)
-      (plays.hid b (step slots k 0 0 maybe.none) me)) (sym (is ∙ own_queue))
+      (plays.cleared_head b (step slots k 0 0 maybe.none) me)) (sym (is ∙ own_queue))
       (subst (λ v. Allows (Rule key) slots id (v, me.1)
       (plays.queue key.ranks (plays.mine me).rank b) (λ _. 0)
-      (plays.hid b (step slots (plays.queue key.ranks (plays.mine me).rank b) 0 0 maybe.none)
+      (plays.cleared_head b (step slots (plays.queue key.ranks (plays.mine me).rank b) 0 0 maybe.none)
       (v, me.1))) (sym alone)
       (hide_kept key slots id (plays.mine me) here b ((plays.end_of b (plays.mine me)).seen - 1)
       me.1 (omega arith)))
 
   pass_or : (f : Entry → Entry)
-      → ((w : World) → Knows key.ranks key.cells w (plays.mine me).rank (plays.mine me)
-      → Knows key.ranks key.cells w (plays.mine me).rank (f (plays.mine me))) → (c : ℕ)
+      → ((w : World) → Agrees key.ranks key.cells w (plays.mine me).rank (plays.mine me)
+      → Agrees key.ranks key.cells w (plays.mine me).rank (f (plays.mine me))) → (c : ℕ)
       → (plays.end_of b (plays.mine me)).shadow ≡ suc c → Allows (Rule key) slots id me (4 * n + c)
       (λ k. k) (plays.passed_or f b (step slots (4 * n + c) 0 0 maybe.none) me)
   pass_or f keep c shadow =

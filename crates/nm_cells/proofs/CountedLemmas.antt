@@ -100,6 +100,10 @@ one_of_append : (y : Load) (xs ys : List Load) → IsOneOf y xs → IsOneOf y (x
 one_of_append y [] ys h = absurd h
 one_of_append y (x ∷ xs) ys h = ⊎_elim (λ e. inl e) (λ k. inr (one_of_append y xs ys k)) h
 
+pub one_of_last : (y : Load) (xs : List Load) → IsOneOf y (xs ++ y ∷ [])
+one_of_last y [] = inl refl
+one_of_last y (x ∷ xs) = inr (one_of_last y xs)
+
 pub one_of_has : (y : Load) (xs : List Load) → IsOneOf y xs → Has (number y) (map number xs)
 one_of_has y [] h = absurd h
 one_of_has y (x ∷ xs) h = ⊎_elim (λ e. inl (ap number e)) (λ k. inr (one_of_has y xs k)) h
@@ -145,17 +149,17 @@ put_here : (j : ℕ) (y : Load) (xs : List (ℕ × Load)) → put_to j (xs ++ (j
 put_here j y xs = put_append j xs ((j, y) ∷ []) ∙ ap (λ u. put_to j xs ++ u)
     (pick_yes (ℕ_discrete j j) (y ∷ []) [] refl)
 
-put_other : (i j : ℕ) (y : Load) (xs : List (ℕ × Load)) → i ≢ j
+pub put_other : (i j : ℕ) (y : Load) (xs : List (ℕ × Load)) → i ≢ j
     → put_to i (xs ++ (j, y) ∷ []) ≡ put_to i xs
 put_other i j y xs ne = put_append i xs ((j, y) ∷ []) ∙ ap (λ u. put_to i xs ++ u)
     (pick_no (ℕ_discrete j i) (y ∷ []) [] (λ e. ne (sym e))) ∙ append-nil (put_to i xs)
 
-from_here : (i : ℕ) (y : Load) (xs : List Load) → sender y ≡ suc i
+pub from_here : (i : ℕ) (y : Load) (xs : List Load) → sender y ≡ suc i
     → from i (xs ++ y ∷ []) ≡ from i xs ++ y ∷ []
 from_here i y xs is = from_append i xs (y ∷ []) ∙ ap (λ u. from i xs ++ u)
     (pick_yes (ℕ_discrete (sender y) (suc i)) (y ∷ []) [] is)
 
-from_other : (i j : ℕ) (y : Load) (xs : List Load) → sender y ≡ suc j → i ≢ j
+pub from_other : (i j : ℕ) (y : Load) (xs : List Load) → sender y ≡ suc j → i ≢ j
     → from i (xs ++ y ∷ []) ≡ from i xs
 from_other i j y xs is ne = from_append i xs (y ∷ []) ∙ ap (λ u. from i xs ++ u)
     (pick_no (ℕ_discrete (sender y) (suc i)) (y ∷ []) [] (λ e. let same : suc j ≡ suc i =
@@ -710,7 +714,7 @@ zeros zero i = refl
 zeros (suc n) zero = refl
 zeros (suc n) (suc i) = zeros n i
 
-lids_new : {A : Type 0} (d : A) (n i : ℕ) → slice_index_or (replicate n d) i d ≡ d
+pub lids_new : {A : Type 0} (d : A) (n i : ℕ) → slice_index_or (replicate n d) i d ≡ d
 lids_new d zero i = refl
 lids_new d (suc n) zero = refl
 lids_new d (suc n) (suc i) = lids_new d n i

@@ -10,7 +10,7 @@ use Rattle.nm_chain.specs.Chain.{Item, IsIn, Has, Each, held, ready, entering, q
 use Rattle.nm_chain.proofs.CountLemmas.{counts}
 use Rattle.nm_cells.specs.declared.table.Hand.TheVariants.{Away}
 use Rattle.nm_cells.specs.declared.table.Entry.{Entry}
-use Rattle.nm_cells.specs.Rule.{Load, Place, hand, World, Below, NotOf, Shows, Knows, Fits, Handed}
+use Rattle.nm_cells.specs.Rule.{Load, Place, hand, World, Below, NotOf, Shows, Agrees, Fits, Handed}
 use Rattle.nm_cells.specs.Rule.{QueuesHold}
 
 -- a place in which no rank has part
@@ -28,7 +28,7 @@ fits_of F P f (x ∷ xs) e c h =
 
 module _ (n each : ℕ) (some : 0 < each) (w : World) (words : List ℕ)
     (homes : List (maybe.Option Load)) (l : QueuesHold n each w words homes) (ledger : ℕ → Entry)
-    (knows : (r : ℕ) → r < n → Knows n each w r (ledger r))
+    (knows : (r : ℕ) → r < n → Agrees n each w r (ledger r))
     (ranked : (c : ℕ) → Below n (w.place c)) (away : (r c : ℕ) → r < n → c < n * each
     → hand (ledger r) c ≡ Away) where
   pub in_queue : (c : ℕ) → c < n * each → (q : ℕ) × (w.place c ≡ queued q) × (q < 2 * n)

@@ -49,10 +49,10 @@ changed_held m c y l k low here else i d = dite (ℕ_discrete d c)
 pub held_here : (m c : ℕ) (l : List (ℕ × Load)) → c < m → held_in m l c ≡ load_in c l
 held_here m c l low = below_yes m c (load_in c l) low (dec_le (suc c) m)
 
-load_first : (c : ℕ) (y : Load) (l : List (ℕ × Load)) → load_in c ((c, y) ∷ l) ≡ y
+pub load_first : (c : ℕ) (y : Load) (l : List (ℕ × Load)) → load_in c ((c, y) ∷ l) ≡ y
 load_first c y l = pick_yes y (load_in c l) refl (ℕ_discrete c c)
 
-load_behind : (c d : ℕ) (y : Load) (l : List (ℕ × Load)) → c ≢ d
+pub load_behind : (c d : ℕ) (y : Load) (l : List (ℕ × Load)) → c ≢ d
     → load_in d ((c, y) ∷ l) ≡ load_in d l
 load_behind c d y l ne = pick_no y (load_in d l) ne (ℕ_discrete c d)
 
@@ -187,6 +187,14 @@ first_at (x ∷ xs) (suc k) c h e = let f = first_of xs (x ∷ []) k c (omega ar
   first_of (x ∷ xs) r zero c h e = (x.1, xs ++ (r ++ []), ap (λ d. (d, x.1) ∷ (xs ++ (r ++ []))) e)
   first_of (x ∷ xs) r (suc k) c h e = let f = first_of xs (r ++ x ∷ []) k c (omega arith) e in
       (f.0, f.1, ap (λ u. drop k xs ++ u) (sym (append_assoc r (x ∷ []) (take k xs))) ∙ f.2)
+
+-- where it stands once, it is first with its load
+pub front_at : (l : List (ℕ × Load)) (k c : ℕ) → k < length l → slice_index (numbers l) k ≡ c
+    → times c (numbers l) ≡ 1 → (left : List (ℕ × Load)) × (turned_by k l ≡ (c, load_in c l) ∷ left)
+front_at l k c low at once = let f = first_at l k c low at in
+    let is : f.0 ≡ load_in c l = sym (load_first c f.0 f.1) ∙ ap (load_in c) (sym f.2)
+    ∙ load_by l c k (omega arith) (omega arith) in
+    (f.1, f.2 ∙ ap (λ y. (c, y) ∷ f.1) is)
 
 -- as the numbers turn with the slots
 numbers_drop : (k : ℕ) (l : List (ℕ × Load)) → numbers (drop k l) ≡ drop k (numbers l)

@@ -1,4 +1,9 @@
+pub mod AtWorkLemmas
+pub mod BoxApartLemmas
+pub mod BoxCallLemmas
 pub mod BoxLemmas
+pub mod BoxPortLemmas
+pub mod BoxRuleLemmas
 pub mod BoxStepLemmas
 pub mod CarriedLemmas
 pub mod ClosingLemmas

@@ -22,7 +22,7 @@ use Rattle.nm_chain.specs.Chain.{queued}
 use Rattle.nm_types.specs.Sizes.{Sizes}
 use Rattle.nm_cells.specs.declared.table.Hand.TheVariants.{Away}
 use Rattle.nm_cells.specs.declared.table.Entry.{Entry}
-use Rattle.nm_cells.specs.Rule.{Load, Place, Chain, no_end, rank_of, World, Below, Knows, head}
+use Rattle.nm_cells.specs.Rule.{Load, Place, Chain, no_end, rank_of, World, Below, Agrees, head}
 use Rattle.nm_cells.specs.Rule.{tail, link, from, loads, number, Fits, HasHome, QueuesHold}
 use Rattle.nm_cells.specs.Rule.{box_slot, BoxesHold, AllInSequence, Rule, newcomer, newcomers}
 use Rattle.nm_cells.specs.Rule.{first_view, Opens, IsInitial}
@@ -207,7 +207,7 @@ module _ (n each : ℕ) (words : List ℕ) (o : Opens n each words) (some : 0 < 
     unfolding world place
     below_all c = tt
 
-    knows : (r : ℕ) → Knows n each world r (newcomer n each r)
+    knows : (r : ℕ) → Agrees n each world r (newcomer n each r)
     unfolding world place
     knows r = record {
       rank = refl;

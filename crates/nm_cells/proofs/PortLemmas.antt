@@ -1,7 +1,8 @@
 -- What each kind of step does to what a port carries and counts.
 use Rattle.std.proofs.Common.{◌≡◌, ℕ, suc, ◌+◌, ◌*◌, ◌/◌, ◌<◌, ◌≤◌, Bool, true}
-use Rattle.std.proofs.Common.{false, Option, None, List, [], ◌∷◌, ◌++◌, length, map, set, sym}
-use Rattle.std.proofs.Common.{refl, ap, ◌∙◌, subst, arith, length-set, append-nil}
+use Rattle.std.proofs.Common.{false, Option, Some, None, List, [], ◌∷◌, ◌++◌, length, map, set, sym}
+use Rattle.std.proofs.Common.{refl, ap, ◌∙◌, subst, arith, length-set, append-nil, IsSome}
+use Rattle.std.proofs.Common.{get_or-set_same}
 use Rattle.std.proofs.Math.Logic.{∥∥₁_map, ∥∥₁_elim}
 use Rattle.std.proofs.Props.{props}
 use Rattle.std.specs.Prelude.{remove, slice_index, vec_len, vec_capacity}
@@ -17,7 +18,7 @@ use Rattle.nm_cells.specs.declared.table.End.{End}
 use Rattle.nm_cells.specs.declared.table.Hand.{Hand}
 use Rattle.nm_cells.specs.declared.table.Hand.TheVariants.{Away, Held, Ready, Entering}
 use Rattle.nm_chain.specs.Chain.{item}
-use Rattle.nm_cells.specs.Rule.{Load, Suits, hand, sender, number, sent_to, posted}
+use Rattle.nm_cells.specs.Rule.{Load, Suits, hand, sender, number, sent_to, posted, put_to, from}
 use Rattle.nm_cells.specs.Plays as plays
 use Rattle.nm_cells.specs.Plays.{Knowing, mine, InHand, with_hand, with_put, Took}
 use Rattle.nm_cells.specs.Carried.{times, slots_with, in_hand, Carries, held_in}
@@ -27,17 +28,23 @@ use Rattle.nm_cells.specs.declared.port.Port.{Port}
 use Rattle.nm_cells.specs.declared.port.Fabric.{Fabric}
 use Rattle.nm_cells.specs.declared.cell.Cell.{Cell}
 use Rattle.nm_cells.specs.Ports.{Owns, Takes, holding, sent_by, arrivals, queue_of, rank_of_queue}
-use Rattle.nm_cells.specs.Ports.{posted_in, sent_into, HasRoomFor, MayJoin}
+use Rattle.nm_cells.specs.Ports.{posted_in, sent_into, HasRoomFor, MayJoin, look_of}
+use Rattle.nm_cells.specs.Looks.{other}
+use Rattle.nm_cells.specs.declared.table.Look.TheVariants.{Fresh}
 use Rattle.std.proofs.lemmas.List.Sums.{sum_by-set}
 use Rattle.nm_cells.specs.Counted.{CountsFor, counted_after, peer_in, new_peer, all_unpassed}
-use Rattle.nm_cells.specs.Counted.{Counts, with_peer, one_sent, one_arrived}
+use Rattle.nm_cells.specs.Counted.{Counts, with_peer, one_sent, one_arrived, IsUnpassedOf, IsOneOf}
+use Rattle.nm_cells.specs.declared.table.Entry.{Entry}
+use mathlib.Core.Logic.{dite}
 use Rattle.nm_cells.proofs.QueueLemmas.{below_yes, below_no}
 use Rattle.nm_cells.proofs.CarriedLemmas.{none_in_hand, within, count_within, hand_changes}
 use Rattle.nm_cells.proofs.CarriedLemmas.{cell_taken, cell_given, in_hand_one, in_hand_below}
 use Rattle.nm_cells.proofs.CarriedLemmas.{first_removed, roomier}
 use Rattle.nm_cells.proofs.CountedLemmas.{packet_sent, packet_arrived, peer_same, number_small}
-use Rattle.nm_cells.proofs.CountedLemmas.{unpassed_small}
+use Rattle.nm_cells.proofs.CountedLemmas.{unpassed_small, from_here, one_of_last}
 use Rattle.nm_cells.proofs.HoldingLemmas.{held_taken, given_held}
+use Rattle.nm_cells.specs.AtWork.{HoldsBoxes}
+use Rattle.nm_cells.proofs.BoxPortLemmas.{boxes_took}
 
 -- what a port carries, by its seat
 abbrev pub CarriesFor : Knowing → List ℕ → ℕ → ℕ → Type 0
@@ -232,6 +239,12 @@ pub shadow_below : (b : Bool) (p : Port) (x : End) → x ≡ plays.end_of b (min
 shadow_below b p x is = subst (λ (u : End). u.shadow ≤ length (mine p.seat.me).hands) (sym is)
     (end_below b p).0
 
+-- a number that didn't come wasn't passed on
+not_before : (e : Entry) (peers : List Peer) (held : Option Packet) → CountsFor e peers held
+    → (i k : ℕ) → i < e.ranks → ¬ plays.Came e i k → (peer_in peers i).taken ≤ k
+not_before e peers held n i k li new = dite (dec_le (suc k) (peer_in peers i).taken)
+    (λ less. absurd (new ((n.each i li).came k less))) (λ far. omega arith)
+
 -- what is known once a cell of an own queue was taken
 module _ (b : Bool) (f : Fabric) (p : Port) (d c shadow : ℕ) (after : Knowing) (owns : Owns f p)
     (told : Took b d shadow p.seat.me after) (is_cell : d ≡ c) where
@@ -305,6 +318,10 @@ module _ (b : Bool) (f : Fabric) (p : Port) (d c shadow : ℕ) (after : Knowing)
   own_low = subst (λ k. k < (mine p.seat.me).ranks) (sym p.named)
       (subst (λ k. p.rank < k) (sym owns.2) owns.1)
 
+  pub takes_boxes : HoldsBoxes (mine after) after.1
+  takes_boxes = boxes_took p.seat.me after b c shadow p.boxes
+      (owns.4 ∙ (λ i. sym owns.2 i * sym owns.3 i)) t
+
   pub takes_counts : (peers : List Peer) → peers ≡ counted_after b (c / f.each) p.peers.items
       → ∥ CountsFor (mine after) peers p.held ∥₁
   takes_counts peers is = subst (λ l. ∥ CountsFor (mine after) l p.held ∥₁) (sym is)
@@ -328,11 +345,68 @@ module _ (b : Bool) (f : Fabric) (p : Port) (d c shadow : ℕ) (after : Knowing)
         omega arith in z),
   )
 
+  held_now : (k : Bool) → Took k c shadow p.seat.me after → hand (mine after) c ≡ Held
+  held_now true u = ap (λ m. hand (mine m) c) u.after_is
+      ∙ get_or-set_same (mine p.seat.me).hands c Held Away u.low
+  held_now false u = ap (λ m. hand (mine m) c) u.after_is
+      ∙ get_or-set_same (mine p.seat.me).hands c Held Away u.low
+
+  some_sent : (y : Load) (i : ℕ) → sender y ≡ suc i → IsSome y
+  some_sent (Some x) i e = refl
+  some_sent None i e = absurd (let z : 0 ≡ suc i = e in omega arith)
+
+  -- what the cell of either queue holds
+  by_receive : (k : Bool) (d : ℕ) → (u : Took k d shadow p.seat.me after) → k ≡ true
+      → sender u.load ≡ suc (d / f.each)
+  by_receive true d u r = u.suits.0 own_low ∙ (λ i. suc (d / owns.3 i))
+  by_receive false d u r = absurd (let z = r in cc)
+
+  by_free : (k : Bool) (d : ℕ) → (u : Took k d shadow p.seat.me after) → k ≡ false
+      → (u.load ≡ None) × (d / f.each ≡ p.rank)
+  by_free false d u r = let e = mine p.seat.me in let s = u.suits.1 (omega arith) in let whose = s.1 in (
+    s.0,
+    (let same : d / e.each ≡ e.rank = omega arith in (λ i. d / sym owns.3 i) ∙ same ∙ p.named),
+  )
+  by_free true d u r = absurd (let z = r in cc)
+
+  -- a packet that was taken from the receive queue is to be passed on
+  by_arrival : (k : Bool) (t : Took k c shadow p.seat.me after) → (peers : List Peer)
+      → peers ≡ counted_after k (c / f.each) p.peers.items → c / f.each < length p.peers.items
+      → (x : Packet) → k ≡ true → t.load ≡ Some x
+      → IsUnpassedOf (mine after).ranks (mine after).got peers x
+  by_arrival false u peers is low x r loaded = absurd (let z = r in cc)
+  by_arrival true u peers is low x r loaded = let e = mine p.seat.me in let y = u.load in
+      let i : ℕ = c / f.each in
+      let whose = by_receive true c u r in let of_x : suc x.from ≡ suc i = ap sender (sym loaded)
+      ∙ whose in let from_x : x.from ≡ i = omega arith in
+      let got_is : (mine after).got ≡ e.got ++ y ∷ [] = ap (λ m. (mine m).got) u.after_is
+      ∙ ap (λ l. e.got ++ l) (below_yes (dec_le (suc e.rank) e.ranks) (y ∷ []) [] own_low) in
+      let ranks_is : (mine after).ranks ≡ f.ranks = (same_lengths true u).3 ∙ owns.2 in
+      let whole : from x.from (mine after).got ≡ from x.from e.got ++ y ∷ [] =
+      ap (from x.from) got_is ∙ from_here x.from y e.got (whose ∙ ap suc (sym from_x)) in
+      let there = subst (λ l. IsOneOf (Some x) l) (sym whole)
+      (subst (λ z. IsOneOf z (from x.from e.got ++ y ∷ [])) loaded
+      (one_of_last y (from x.from e.got))) in
+      let same = (taken_same true peers is low).0 x.from in
+      let late : (peer_in p.peers.items x.from).taken ≤ number y =
+      ∥∥₁_elim p.counts (search props) (λ n. not_before e p.peers.items p.held n x.from
+      (number y) (subst (λ k. x.from < k) (sym owns.2) (subst (λ k. k < f.ranks) (sym from_x)
+      owner_low)) (subst (λ k. ¬ plays.Came e k (number y)) ((λ t. c / owns.3 t) ∙ sym from_x)
+      u.news.0)) in
+      let as_x = ap number loaded in (
+        subst (λ k. k < (mine after).ranks) (sym from_x)
+            (subst (λ k. i < k) (sym ranks_is) owner_low),
+        there,
+        (let z : (peer_in peers x.from).taken ≤ x.seq = omega arith in z),
+      )
+
   -- the cell is in hand
   pub takes_made : (new : Port) (cell : Cell) → new.seat.me ≡ after → cell.number ≡ c
       → cell.owner ≡ c / f.each → new.held ≡ p.held
-      → new.peers.items ≡ counted_after b (c / f.each) p.peers.items → Takes b f p new cell
-  takes_made new cell me is owner same peers = let e = mine p.seat.me in let y = t.load in
+      → new.peers.items ≡ counted_after b (c / f.each) p.peers.items → new.hands ≡ p.hands + 1
+      → look_of b new ≡ Fresh → look_of (other b) new ≡ look_of (other b) p
+      → Takes b f p new cell
+  takes_made new cell me is owner same peers one look others = let e = mine p.seat.me in let y = t.load in
       let now : holding new ≡ update (holding p) c y =
       ap (λ m. held_in (length (mine m).hands) m.1) me
       ∙ took_holds p.seat.me after p.carried.items (vec_capacity p.carried) p.hands p.carries b
@@ -343,14 +417,22 @@ module _ (b : Bool) (f : Fabric) (p : Port) (d c shadow : ℕ) (after : Knowing)
       let low = ∥∥₁_elim p.counts (search props) (λ n. let k = n.count in let o = owns.2 in
       let ol = owner_low in (let z : c / f.each < length p.peers.items = omega arith in z)) in
       let u = taken_same b new.peers.items peers low in record {
-        low = subst (λ k. k < f.ranks * f.each) (sym is) cell_low;
-        owner = owner ∙ ap (λ k. k / f.each) (sym is);
-        suits = subst (λ k. Suits f.ranks f.each (plays.queue f.ranks p.rank b)
-            (item k (holding new cell.number))) (sym is)
-            (subst (λ z. Suits f.ranks f.each (plays.queue f.ranks p.rank b) (item c z)) (sym here)
-            (subst (λ r. Suits f.ranks f.each (plays.queue f.ranks r b) (item c y)) p.named
-            (subst (λ m. Suits f.ranks m (plays.queue f.ranks e.rank b) (item c y)) owns.3
-            (subst (λ n. Suits n e.each (plays.queue n e.rank b) (item c y)) owns.2 t.suits))));
+        has = (
+          subst (λ k. k < f.ranks * f.each) (sym is) cell_low,
+          owner ∙ ap (λ k. k / f.each) (sym is),
+          subst InHand (sym (ap (λ m. hand (mine m) cell.number) me
+              ∙ ap (λ k. hand (mine after) k) is ∙ held_now b t)) tt,
+        );
+        of_rank = subst (λ k. k < f.ranks) (sym owner) owner_low;
+        fresh = ap (hand e) is ∙ t.away;
+        full = λ r. let whose = by_receive b c t r in (
+          ap sender here ∙ whose ∙ ap suc (sym owner),
+          subst IsSome (sym here) (some_sent y (c / f.each) whose),
+        );
+        arrived = λ r x held_is. subst (λ (m : Knowing). IsUnpassedOf (mine m).ranks (mine m).got
+            new.peers.items x) (sym me)
+            (by_arrival b t new.peers.items peers low x r (sym here ∙ held_is));
+        vacant = λ r. let nothing = by_free b c t r in (here ∙ nothing.0, owner ∙ nothing.1);
         knows = ap mine me ∙ ap mine t.after_is
             ∙ (λ i. plays.taken b (sym is i) (sym here i)
             ((sym l.5 ∙ ap (λ m. (plays.end_of b (mine m)).shadow) (sym me)) i) e);
@@ -358,6 +440,9 @@ module _ (b : Bool) (f : Fabric) (p : Port) (d c shadow : ℕ) (after : Knowing)
         taken = λ i j. u.0 j i;
         held = same;
         unpassed = u.1;
+        hands = one;
+        look = look;
+        other_look = others;
       }
 
 -- what is counted of a rank
@@ -367,6 +452,14 @@ module _ (p : Port) (j : ℕ) (low : j < (mine p.seat.me).ranks) where
 
   pub peer_sent : (peer_in p.peers.items j).sent ≡ sent_by p j
   peer_sent = ∥∥₁_elim p.counts (search props) (λ n. (n.each j low).sent)
+
+  pub peer_box_put : (peer_in p.peers.items j).box_put ≡ length
+      (put_to j (mine p.seat.me).put_box)
+  peer_box_put = ∥∥₁_elim p.counts (search props) (λ n. (n.each j low).box_put)
+
+  pub peer_box_got : (peer_in p.peers.items j).box_got ≡ length
+      (from j (mine p.seat.me).got_box)
+  peer_box_got = ∥∥₁_elim p.counts (search props) (λ n. (n.each j low).box_got)
 
   pub peer_full : (peer_in p.peers.items j).box_full ≡ slice_index (mine p.seat.me).box_full j
   peer_full = ∥∥₁_elim p.counts (search props) (λ n. (n.each j low).box_full)

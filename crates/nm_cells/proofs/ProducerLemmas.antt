@@ -18,7 +18,7 @@ use Rattle.nm_types.specs.Sizes.{Sizes}
 use Rattle.nm_cells.specs.declared.table.Hand.{Hand}
 use Rattle.nm_cells.specs.declared.table.Hand.TheVariants.{Away, Held, Ready, Entering}
 use Rattle.nm_cells.specs.declared.table.Entry.{Entry}
-use Rattle.nm_cells.specs.Rule.{Load, Place, hand, rank_of, World, NotOf, Below, Shows, Knows}
+use Rattle.nm_cells.specs.Rule.{Load, Place, hand, rank_of, World, NotOf, Below, Shows, Agrees}
 use Rattle.nm_cells.specs.Rule.{sender, number, sent_to, posted, tail, IsOut, Suits, Handed}
 use Rattle.nm_cells.specs.Rule.{QueuesHold, BoxesHold, AllInSequence, Rule}
 use Rattle.nm_cells.specs.Plays as plays
@@ -60,12 +60,12 @@ below_put n place c p b all d =
 
 module _ (n m : ℕ) (w : World) where
   -- the entry of a rank of which nothing changes
-  pub knows_else : (w' : World) (r : ℕ) (e : Entry) → Knows n m w r e
+  pub knows_else : (w' : World) (r : ℕ) (e : Entry) → Agrees n m w r e
       → ((c : ℕ) → (w'.place c ≡ w.place c) ⊎ (NotOf r (w.place c) × NotOf r (w'.place c)))
       → w'.end r ≡ w.end r → w'.end (n + r) ≡ w.end (n + r) → w'.put r ≡ w.put r
       → w'.got r ≡ w.got r
       → w'.put_box r ≡ w.put_box r → w'.got_box r ≡ w.got_box r → w'.filling r ≡ w.filling r
-      → ((i : ℕ) → w'.emptying i r ≡ w.emptying i r) → Knows n m w' r e
+      → ((i : ℕ) → w'.emptying i r ≡ w.emptying i r) → Agrees n m w' r e
   knows_else w' r e k places ends frees puts gots boxes_put boxes_got outs ins = record {
     rank = k.rank;
     ranks = k.ranks;
@@ -97,7 +97,7 @@ module _ (n m : ℕ) (w : World) where
       (λ ne. inl (update_else w.place c p d ne))
 
   -- the hand of a cell in the entry of its own rank
-  pub hands_but : (r c : ℕ) (p : Place) (h : Hand) (e : Entry) → Knows n m w r e → c < n * m
+  pub hands_but : (r c : ℕ) (p : Place) (h : Hand) (e : Entry) → Agrees n m w r e → c < n * m
       → Shows r p h → (d : ℕ) → d < n * m
       → Shows r (update w.place c p d) (slice_index_or (set e.hands c h) d Away)
   hands_but r c p h e k low s d few = dite (ℕ_discrete d c)
@@ -116,16 +116,16 @@ module _ (key : Sizes) (s : State Load (View Entry)) (R : Rule key s) (id : ℕ)
   abbrev m : ℕ
   m = key.cells
 
-  pub own : Knows n m R.world e.rank e
-  own = subst (Knows n m R.world e.rank) (spoken_of rank_of R.ledger s.views R.spoken id e [] at)
+  pub own : Agrees n m R.world e.rank e
+  own = subst (Agrees n m R.world e.rank) (spoken_of rank_of R.ledger s.views R.spoken id e [] at)
       (R.knows e.rank low)
 
   -- the rule after a step of this seat
   pub ruled : (w' : World) (f : Entry) (words' : List ℕ) (homes' : List (maybe.Option Load))
       → ((c : ℕ) → Below n (w'.place c)) → QueuesHold n key.cells w' words' homes'
-      → BoxesHold n key.cells w' words' homes' → AllInSequence n w' → Knows n m w' e.rank f
-      → ((r : ℕ) (g : Entry) → r < key.ranks → r ≢ e.rank → Knows n m R.world r g
-      → Knows n m w' r g) → Rule key record {
+      → BoxesHold n key.cells w' words' homes' → AllInSequence n w' → Agrees n m w' e.rank f
+      → ((r : ℕ) (g : Entry) → r < key.ranks → r ≢ e.rank → Agrees n m R.world r g
+      → Agrees n m w' r g) → Rule key record {
         words = words';
         homes = homes';
         views =
@@ -136,9 +136,9 @@ module _ (key : Sizes) (s : State Load (View Entry)) (R : Rule key s) (id : ℕ)
     world = w';
     spoken = spoken_steps rank_of R.ledger s.views R.spoken id e f at mine.rank;
     knows = λ r few. dite (ℕ_discrete r e.rank)
-        (λ z. subst (λ k. Knows n m w' k (update R.ledger e.rank f k)) (sym z)
-        (subst (Knows n m w' e.rank) (sym (update_here R.ledger e.rank f e.rank refl)) mine))
-        (λ ne. subst (Knows n m w' r) (sym (update_else R.ledger e.rank f r ne))
+        (λ z. subst (λ k. Agrees n m w' k (update R.ledger e.rank f k)) (sym z)
+        (subst (Agrees n m w' e.rank) (sym (update_here R.ledger e.rank f e.rank refl)) mine))
+        (λ ne. subst (Agrees n m w' r) (sym (update_else R.ledger e.rank f r ne))
         (others r (R.ledger r) few ne (R.knows r few)));
     ranked = ranked;
     laid = laid;

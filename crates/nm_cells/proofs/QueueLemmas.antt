@@ -442,10 +442,10 @@ module _ (n each : ℕ) where
     with_end q e = record w { end = update w.end q e }
 
     -- a consumer notes what it loaded from the head
-    pub noted : (q : ℕ) → q < 2 * n
+    pub loaded_head : (q : ℕ) → q < 2 * n
         → QueuesHold n each (with_end q
         (record { shadow = (w.end q).shadow; seen = head n words q })) words homes
-    noted q few = let e : End = record { shadow = (w.end q).shadow; seen = head n words q } in
+    loaded_head q few = let e : End = record { shadow = (w.end q).shadow; seen = head n words q } in
         let w' = with_end q e in record {
           long = l.long;
           slots = l.slots;
@@ -468,9 +468,9 @@ module _ (n each : ℕ) where
         (λ c k. low_in q c k few)
 
     -- a consumer clears the head that it loaded, whose cell is its shadow head from now on
-    pub hid : (q c : ℕ) → q < 2 * n → (w.end q).seen ≡ suc c
+    pub cleared_head : (q c : ℕ) → q < 2 * n → (w.end q).seen ≡ suc c
         → QueuesHold n each (with_end q (record { shadow = suc c; seen = 0 })) (set words q 0) homes
-    hid q c few loaded = let e : End = record { shadow = suc c; seen = 0 } in
+    cleared_head q c few loaded = let e : End = record { shadow = suc c; seen = 0 } in
         let w' = with_end q e in let words' = set words q 0 in
         let is : head n words q ≡ suc c = l.seen q few (omega arith) ∙ loaded in
         let in_words : q < length words = let long = l.long in omega arith in record {

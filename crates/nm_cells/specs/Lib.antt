@@ -1,7 +1,10 @@
 pub mod AtClose
+pub mod AtWork
 pub mod Carried
 pub mod ClosedLists
 pub mod Counted
+pub mod Looks
+pub mod NextBox
 pub mod Plays
 pub mod Ports
 pub mod Rule

@@ -1,7 +1,7 @@
 -- What each kind of step tells the seat that makes it.
 use Rattle.std.specs.Prelude.{map, Option, Some, slice_index, suc, ◌≡◌, ◌≢◌, ℕ, ◌+◌, ◌-◌, ◌*◌, ◌/◌}
 use Rattle.std.specs.Prelude.{Bool, true, false, ◌<◌, ◌≤◌, List, [], ◌∷◌, ◌++◌, length, slice_set}
-use Rattle.std.specs.Prelude.{None}
+use Rattle.std.specs.Prelude.{None, min}
 use native.Mathlib.Decide.{ℕ_discrete, dec_le}
 use Rattle.atomic_table.specs.Table.{Me, Step, rest}
 use Rattle.nm_seats.specs.declared.views.View.{View}
@@ -15,6 +15,8 @@ use Rattle.nm_chain.specs.Chain.{item}
 use Rattle.nm_chain.specs.Sequence.{Each, Got}
 use Rattle.nm_cells.specs.Rule.{Load, Suits, no_end, no_miss, posted, fetched, hand, filling_of}
 use Rattle.nm_cells.specs.Rule.{emptying_of, from, number, sender, if_below}
+use Rattle.nm_cells.specs.NextBox.{BoxesApart}
+use Rattle.nm_cells.specs.Looks.{other}
 
 abbrev pub Knowing : Type 0
 Knowing = Me Load (View Entry)
@@ -124,13 +126,13 @@ taken b c y shadow e = with_got (fetched e.ranks (queue e.ranks e.rank b) y)
 abbrev pub raised : ℕ → ℕ
 raised k = if_below (dec_le (suc k) 18446744073709551615) (suc k) k
 
+-- the lesser of a number and the last value of 64 bits
+abbrev pub capped : ℕ → ℕ
+capped k = min k 18446744073709551615
+
 abbrev pub on : Bool → (Misses → Misses) → Misses → Misses
 on true f x = f x
 on false f x = x
-
-abbrev pub other : Bool → Bool
-other true = false
-other false = true
 
 -- the misses of a queue change
 abbrev pub with_missed : Bool → (Misses → Misses) → Entry → Entry
@@ -151,8 +153,8 @@ abbrev pub link_miss : Misses → Misses
 link_miss x = record x { link_missing = raised x.link_missing }
 
 -- the head was loaded, and 0 is a miss
-abbrev pub noted : Bool → Step Load → Knowing → ℕ → Knowing → Type 0
-noted b s me found after = (found ≤ length (mine me).hands)
+abbrev pub loaded_head : Bool → Step Load → Knowing → ℕ → Knowing → Type 0
+loaded_head b s me found after = (found ≤ length (mine me).hands)
     × (found ≡ 0 → after ≡ (
       view
           (with_missed b head_miss (with_end b (at_end (end_of b (mine me)).shadow 0) (mine me)) ∷
@@ -166,8 +168,8 @@ noted b s me found after = (found ≤ length (mine me).hands)
     ))
 
 -- the head is 0, and what was loaded from it is the shadow head
-abbrev pub hid : Bool → Step Load → Knowing → ℕ → Knowing → Type 0
-hid b s me found after =
+abbrev pub cleared_head : Bool → Step Load → Knowing → ℕ → Knowing → Type 0
+cleared_head b s me found after =
     after ≡ (view (with_end b (at_end (end_of b (mine me)).seen 0) (mine me) ∷ []), me.1)
 
 -- the packet with the number k came from the rank i
@@ -239,9 +241,13 @@ with_box_miss i e = record e {
 abbrev pub AllBelow : Entry → ℕ → ℕ → Type 0
 AllBelow e i a = (k : ℕ) → k < a → Came e i k
 
--- the packet with the number a is the first one that is missing, and a later one came
+-- a packet of the rank i came before the one with the number a, which has a smaller number
+abbrev pub Overtaken : Entry → ℕ → ℕ → Type 0
+Overtaken e i a = ((k : ℕ) × (a < k) × Came e i k) × ¬ Came e i a
+
+-- and all with smaller numbers than a came
 abbrev pub Overdue : Entry → ℕ → ℕ → Type 0
-Overdue e i a = AllBelow e i a × ((k : ℕ) × (a < k) × Came e i k) × ¬ Came e i a
+Overdue e i a = AllBelow e i a × Overtaken e i a
 
 -- the slots in hand once the free box, whose slot is c, is the sender's to fill
 abbrev pub opened : Bool → ℕ → List (ℕ × Load) → List (ℕ × Load)
@@ -255,7 +261,7 @@ looked_out j s me found after =
     × (after ≡ (
       view (with_filling j true (mine me) ∷ []),
       opened (filling_of (mine me) j) (s.word - 4 * (mine me).ranks) me.1,
-    )))
+    )) × BoxesApart (mine after))
     × (0 < found → after ≡ (view (with_box_full j (mine me) ∷ []), me.1))
 
 -- what the rank is taking
@@ -279,7 +285,7 @@ Begun i a c me after = let y = box_load i (mine after) in (emptying_of (mine aft
     × (after ≡ (
       view (with_emptying i (Some y) (mine me) ∷ []),
       begun (emptying_of (mine me) i) c y me.1,
-    ))
+    )) × BoxesApart (mine after) × ((z : Load) → emptying_of (mine me) i ≡ Some z → z ≡ y)
 
 -- the flag of the next box of the rank i was loaded, from which the number a is awaited. Where it is overdue it is there
 abbrev pub looked_in : ℕ → ℕ → Step Load → Knowing → ℕ → Knowing → Type 0

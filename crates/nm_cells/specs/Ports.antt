@@ -1,10 +1,9 @@
 -- What a port knows, has in hand and counts, in the words of contracts.
-use Rattle.std.specs.Prelude.{◌≡◌, ℕ, suc, ◌+◌, ◌%◌, ◌*◌, ◌/◌, ◌<◌, ◌≤◌, Bool, true, false}
-use Rattle.std.specs.Prelude.{Some, None, List, [], ◌∷◌, length}
+use Rattle.std.specs.Prelude.{◌≡◌, ℕ, suc, ◌+◌, ◌*◌, ◌/◌, ◌<◌, ◌≤◌, Bool, true, false}
+use Rattle.std.specs.Prelude.{Some, None, IsSome, List, [], ◌∷◌, length}
 use Rattle.nm_types.specs.declared.packets.Packet.{Packet}
-use Rattle.nm_chain.specs.Chain.{item}
 use Rattle.nm_seats.specs.Update.{update}
-use Rattle.nm_cells.specs.declared.table.Hand.TheVariants.{Entering}
+use Rattle.nm_cells.specs.declared.table.Hand.TheVariants.{Away, Entering}
 use Rattle.nm_cells.specs.declared.table.Entry.{Entry}
 use Rattle.nm_cells.specs.declared.port.Port.{Port}
 use Rattle.nm_cells.specs.declared.port.Fabric.{Fabric}
@@ -12,10 +11,13 @@ use Rattle.nm_cells.specs.declared.cell.Cell.{Cell}
 use Rattle.nm_cells.specs.declared.cell.Pending as pending
 use Rattle.nm_cells.specs.declared.cell.Queue as queues
 use Rattle.nm_cells.specs.declared.cell.Queue.TheVariants.{Receive, Free}
-use Rattle.nm_cells.specs.Rule.{Load, hand, sender, number, sent_to, put_to, from, box_slot}
+use Rattle.nm_cells.specs.declared.table.Look.{Look}
+use Rattle.nm_cells.specs.declared.table.Look.TheVariants.{Fresh}
+use Rattle.nm_cells.specs.Rule.{Load, hand, sender, number, sent_to}
 use Rattle.nm_cells.specs.Rule.{emptying_of}
-use Rattle.nm_cells.specs.Rule.{Suits, newcomer}
-use Rattle.nm_cells.specs.Plays.{mine, InHand, queue, end_of, taken, box_load}
+use Rattle.nm_cells.specs.Rule.{newcomer}
+use Rattle.nm_cells.specs.Plays.{mine, InHand, end_of, taken, box_load}
+use Rattle.nm_cells.specs.Looks.{look_in, other}
 use Rattle.nm_cells.specs.Carried.{held_in}
 use Rattle.nm_cells.specs.declared.peers.Peer.{Peer}
 use Rattle.nm_cells.specs.Counted.{peer_in, all_unpassed, IsUnpassedOf, with_peer, one_sent}
@@ -60,9 +62,20 @@ abbrev pub SameTaken : Port → Port → Type 0
 SameTaken old new = (taken_by new ≡ taken_by old) × (new.held ≡ old.held)
     × (unpassed_by new ≡ unpassed_by old)
 
--- the fabric's port of the same rank, which passed on, holds and has to pass on the same packets
+-- what the last step on an own queue told of its first cell
+abbrev pub look_of : Bool → Port → Look
+look_of b p = look_in b p.looks
+
+-- The fabric's port of the same rank, which passed on, holds and has to pass on the same packets, and
+-- whose last steps on its queues are the same
 abbrev pub Stays : Fabric → Port → Port → Type 0
-Stays f old new = Owns f new × (new.rank ≡ old.rank) × SameTaken old new
+Stays f old new = Owns f new × (new.rank ≡ old.rank) × SameTaken old new × (new.looks ≡ old.looks)
+
+-- No cell was taken from an own queue, and the step told this of the first one. The cells in hand are
+-- the same and hold the same
+abbrev pub Leaves : Bool → Look → Port → Port → Type 0
+Leaves b look old new = (look_of b new ≡ look) × (look_of (other b) new ≡ look_of (other b) old)
+    × (new.hands ≡ old.hands) × (holding new ≡ holding old) × SameTaken old new
 
 abbrev pub cells_of : Fabric → ℕ
 cells_of f = f.ranks * f.each
@@ -117,15 +130,22 @@ arrivals false = 0
 -- The first cell of an own queue is in hand, with what it holds: a packet of its owner, or from the
 -- free queue none
 pub record Takes (b : Bool) (f : Fabric) (old new : Port) (c : Cell) : Type 0 where
-  pub low : c.number < cells_of f
-  pub owner : c.owner ≡ c.number / f.each
-  pub suits : Suits f.ranks f.each (queue f.ranks old.rank b) (item c.number (holding new c.number))
+  pub has : Has f new c
+  pub of_rank : c.owner < f.ranks
+  pub fresh : hand (knows old) c.number ≡ Away
+  pub full : b ≡ true → (sender (holding new c.number) ≡ suc c.owner)
+      × IsSome (holding new c.number)
+  pub arrived : b ≡ true → (x : Packet) → holding new c.number ≡ Some x → IsUnpassed new x
+  pub vacant : b ≡ false → (holding new c.number ≡ None) × (c.owner ≡ old.rank)
   pub knows : knows new ≡ taken b c.number (holding new c.number) (end_of b (knows new)).shadow
       (knows old)
   pub holding : holding new ≡ update (holding old) c.number (holding new c.number)
   pub taken : taken_by new ≡ taken_by old
   pub held : new.held ≡ old.held
   pub unpassed : unpassed_by new ≡ unpassed_by old + arrivals b
+  pub hands : new.hands ≡ old.hands + 1
+  pub look : look_of b new ≡ Fresh
+  pub other_look : look_of (other b) new ≡ look_of (other b) old
 
 -- the port of the rank k at the start
 abbrev pub IsNew : Fabric → Port → ℕ → Type 0
@@ -133,19 +153,20 @@ IsNew f p k = Owns f p × (p.rank ≡ k) × (knows p ≡ newcomer f.ranks f.each
     × (p.hands ≡ 0)
     × ((i : ℕ) → taken_by p i ≡ 0) × (p.held ≡ None) × (unpassed_by p ≡ 0)
 
--- the slot of the port's next box for the rank j
-abbrev pub next_out : Fabric → Port → ℕ → ℕ
-next_out f p j = box_slot f.ranks f.each p.rank j (length (put_to j (knows p).put_box) % 4)
-
--- the slot of the next box of the rank i for the port
-abbrev pub next_in : Fabric → Port → ℕ → ℕ
-next_in f p i = box_slot f.ranks f.each i p.rank (length (from i (knows p).got_box) % 4)
-
 -- the port is taking the packet with the number a from its next box of the rank i
-abbrev pub Empties : Fabric → Port → ℕ → ℕ → Type 0
-Empties f p i a = (emptying_of (knows p) i ≡ Some (box_load i (knows p)))
+abbrev pub Empties : Port → ℕ → ℕ → Type 0
+Empties p i a = (emptying_of (knows p) i ≡ Some (box_load i (knows p)))
     × (number (box_load i (knows p)) ≡ a)
     × (sender (box_load i (knows p)) ≡ suc i)
+
+-- how many more things are in hand once a box is at work that was, or was not, at work before
+abbrev pub opens : Bool → ℕ
+opens true = 0
+opens false = 1
+
+abbrev pub unless : Bool → List ℕ → List ℕ → List ℕ
+unless true xs ys = ys
+unless false xs ys = xs
 
 -- what is counted once a cell is put into this queue
 abbrev pub sent_into : queues.Queue → List Peer → List Peer

@@ -85,8 +85,8 @@ Below n (chain.ready r y) = r < n
 Below n (chain.entering r q t) = r < n
 Below n (chain.queued q) = Unit {0}
 
--- the entry of the rank r
-pub record Knows (n each : ℕ) (w : World) (r : ℕ) (e : Entry) : Type 0 where
+-- the entry of the rank r has what is so of that rank
+pub record Agrees (n each : ℕ) (w : World) (r : ℕ) (e : Entry) : Type 0 where
   pub rank : e.rank ≡ r
   pub ranks : e.ranks ≡ n
   pub per : e.each ≡ each
@@ -219,7 +219,7 @@ pub record Rule (key : Sizes) (s : State Load (View Entry)) : Type 0 where
   pub ledger : ℕ → Entry
   pub world : World
   pub spoken : Spoken rank_of ledger s.views
-  pub knows : (r : ℕ) → r < key.ranks → Knows key.ranks key.cells world r (ledger r)
+  pub knows : (r : ℕ) → r < key.ranks → Agrees key.ranks key.cells world r (ledger r)
   pub ranked : (c : ℕ) → Below key.ranks (world.place c)
   pub laid : QueuesHold key.ranks key.cells world s.words s.homes
   pub boxes : BoxesHold key.ranks key.cells world s.words s.homes

@@ -8,7 +8,7 @@ ghost use Rattle.nm_cells.specs.Counted.{new_peer};
 
 use crate::peers::Peer;
 use crate::port::{Fabric, Port};
-use crate::table::{Board, End, Misses, Place};
+use crate::table::{Board, End, Looks, Misses, Place};
 use nm_seats::GivesFirst;
 use nm_types::{Memory, Shape};
 use std::alloc::Global;
@@ -64,6 +64,7 @@ fn port_of(alloc: Global, f: &Fabric, rest: &mut Place, rank: u8) -> Result<Port
         rank,
         receive: End { shadow: 0, seen: 0 },
         free: End { shadow: 0, seen: 0 },
+        looks: Looks::new(),
         receive_missed: Misses::new(),
         free_missed: Misses::new(),
         carried,

@@ -7,34 +7,35 @@ ghost use Rattle.std.specs.Prelude.{◌↔◌, IsTrue, IfSome, IfNone, length};
 ghost use Rattle.nm_cells.specs.Plays.{queue, end_of, with_end, at_end, with_missed};
 ghost use Rattle.nm_cells.specs.Counted.{peer_in, counted_after};
 ghost use Rattle.nm_cells.specs.Plays.{head_miss, link_miss};
-ghost use Rattle.nm_cells.specs.Ports.{Owns, Stays, SameTaken, knows, slots, Takes};
+ghost use Rattle.nm_cells.specs.Ports.{Owns, Stays, knows, holding, Takes, Leaves, look_of};
 ghost use Rattle.nm_cells.specs.Ports.{IsOwn, is_receive};
+ghost use Rattle.nm_cells.specs.declared.table.Look.TheVariants.{Fresh, LinkEmpty, TailElsewhere};
 
 use crate::cell::{Cell, Queue};
 use crate::peers::Peer;
 use crate::port::{Fabric, Port};
 use crate::slots::carry;
-use crate::table::{End, Entry, Misses};
+use crate::table::{End, Entry, Look, Misses};
 use crate::tally::{count_arrived, one_more};
 use atomic_table::Play;
 use nm_seats::{Steps, View};
 use nm_types::Packet;
 use std::sync::ledger::Ledger;
 
-struct Notes<const B: bool>;
+struct LoadsHead<const B: bool>;
 
-impl<const B: bool> Play<Option<Packet>, View<Entry>> for Notes<B> {
-    ghost use Rattle.nm_cells.specs.Plays.{noted};
+impl<const B: bool> Play<Option<Packet>, View<Entry>> for LoadsHead<B> {
+    ghost use Rattle.nm_cells.specs.Plays.{loaded_head};
 
-    ghost then = { noted B };
+    ghost then = { loaded_head B };
 }
 
-struct Hides<const B: bool>;
+struct ClearsHead<const B: bool>;
 
-impl<const B: bool> Play<Option<Packet>, View<Entry>> for Hides<B> {
-    ghost use Rattle.nm_cells.specs.Plays.{hid};
+impl<const B: bool> Play<Option<Packet>, View<Entry>> for ClearsHead<B> {
+    ghost use Rattle.nm_cells.specs.Plays.{cleared_head};
 
-    ghost then = { hid B };
+    ghost then = { cleared_head B };
 }
 
 struct Passes<const B: bool>;
@@ -100,14 +101,15 @@ impl Port {
 
 fn load_head_of<L: Ledger, const B: bool>(f: &Fabric, port: &mut Port, steps: &mut Steps<L>) -> bool
     requires owns { Owns f.now port.old }
+    requires no_shadow { (end_of B (knows port.old)).shadow ≡ 0 }
     ensures stays { Stays f.now port.old port.new }
     ensures told { IsTrue result ↔ (0 < (end_of B (knows port.new)).seen) }
     ensures found { result ≡ true → knows port.new ≡ with_end B
-        (at_end (end_of B (knows port.old)).shadow (end_of B (knows port.new)).seen)
+        (at_end 0 (end_of B (knows port.new)).seen)
         (knows port.old) }
     ensures empty { result ≡ false → knows port.new ≡ with_missed B head_miss
-        (with_end B (at_end (end_of B (knows port.old)).shadow 0) (knows port.old)) }
-    ensures slots { slots port.new ≡ slots port.old }
+        (with_end B (at_end 0 0) (knows port.old)) }
+    ensures hands { (port.new.hands ≡ port.old.hands) × (holding port.new ≡ holding port.old) }
     ensures cost { steps.new ≡ steps.old + 1 }
 {
     steps.tick();
@@ -115,7 +117,7 @@ fn load_head_of<L: Ledger, const B: bool>(f: &Fabric, port: &mut Port, steps: &m
     let found = f
         .board
         .shared
-        .load::<Notes<B>>(&mut port.seat, word as usize);
+        .load::<LoadsHead<B>>(&mut port.seat, word as usize);
     if B {
         port.receive.seen = found;
         if found == 0 {
@@ -136,7 +138,7 @@ fn clear_head_of<L: Ledger, const B: bool>(f: &Fabric, port: &mut Port, steps: &
     ensures stays { Stays f.now port.old port.new }
     ensures hidden { knows port.new
         ≡ with_end B (at_end (end_of B (knows port.old)).seen 0) (knows port.old) }
-    ensures slots { slots port.new ≡ slots port.old }
+    ensures hands { (port.new.hands ≡ port.old.hands) × (holding port.new ≡ holding port.old) }
     ensures cost { steps.new ≡ steps.old + 1 }
 {
     steps.tick();
@@ -144,7 +146,7 @@ fn clear_head_of<L: Ledger, const B: bool>(f: &Fabric, port: &mut Port, steps: &
     let shadow = port.end::<B>().seen;
     f.board
         .shared
-        .store::<Hides<B>>(&mut port.seat, word as usize, 0);
+        .store::<ClearsHead<B>>(&mut port.seat, word as usize, 0);
     if B {
         port.receive = End { shadow, seen: 0 };
     } else {
@@ -172,7 +174,7 @@ fn load_link_of<L: Ledger, const B: bool>(
     requires first { 0 < (end_of B (knows port.old)).shadow }
     ensures owns { Owns f.now port.new × (port.new.rank ≡ port.old.rank) }
     ensures none { IfNone result ((knows port.new ≡ knows port.old)
-        × (slots port.new ≡ slots port.old) × SameTaken port.old port.new) }
+        × Leaves B LinkEmpty port.old port.new) }
     ensures some { IfSome result (Takes B f.now port.old port.new) }
     ensures cost { steps.new ≡ steps.old + 1 }
 {
@@ -184,6 +186,7 @@ fn load_link_of<L: Ledger, const B: bool>(
         .shared
         .load::<Passes<B>>(&mut port.seat, word as usize);
     if found == 0 {
+        port.looks.set::<B>(Look::LinkEmpty);
         return None;
     }
     let end = End {
@@ -196,6 +199,7 @@ fn load_link_of<L: Ledger, const B: bool>(
     } else {
         port.free = end;
     }
+    port.looks.set::<B>(Look::Fresh);
     count_taken::<B>(&mut port.peers, owner as usize);
     carry(&mut port.carried, number);
     port.hands += 1;
@@ -212,9 +216,10 @@ fn reload_link_of<L: Ledger, const B: bool>(
 ) -> Option<Cell>
     requires owns { Owns f.now port.old }
     requires first { 0 < (end_of B (knows port.old)).shadow }
+    requires look { look_of B port.old ≡ TailElsewhere }
     ensures owns { Owns f.now port.new × (port.new.rank ≡ port.old.rank) }
     ensures none { IfNone result ((knows port.new ≡ with_missed B link_miss (knows port.old))
-        × (slots port.new ≡ slots port.old) × SameTaken port.old port.new) }
+        × Leaves B LinkEmpty port.old port.new) }
     ensures some { IfSome result (Takes B f.now port.old port.new) }
     ensures cost { steps.new ≡ steps.old + 1 }
 {
@@ -231,6 +236,7 @@ fn reload_link_of<L: Ledger, const B: bool>(
         } else {
             port.free_missed = port.free_missed.after_link();
         }
+        port.looks.set::<B>(Look::LinkEmpty);
         return None;
     }
     let end = End {
@@ -243,6 +249,7 @@ fn reload_link_of<L: Ledger, const B: bool>(
     } else {
         port.free = end;
     }
+    port.looks.set::<B>(Look::Fresh);
     count_taken::<B>(&mut port.peers, owner as usize);
     carry(&mut port.carried, number);
     port.hands += 1;
@@ -259,9 +266,10 @@ fn drop_tail_of<L: Ledger, const B: bool>(
 ) -> Option<Cell>
     requires owns { Owns f.now port.old }
     requires first { 0 < (end_of B (knows port.old)).shadow }
+    requires look { look_of B port.old ≡ LinkEmpty }
     ensures owns { Owns f.now port.new × (port.new.rank ≡ port.old.rank) }
     ensures none { IfNone result ((knows port.new ≡ knows port.old)
-        × (slots port.new ≡ slots port.old) × SameTaken port.old port.new) }
+        × Leaves B TailElsewhere port.old port.new) }
     ensures some { IfSome result (Takes B f.now port.old port.new) }
     ensures cost { steps.new ≡ steps.old + 1 }
 {
@@ -274,6 +282,7 @@ fn drop_tail_of<L: Ledger, const B: bool>(
         .shared
         .compare_exchange::<Drains<B>>(&mut port.seat, word as usize, shadow, 0);
     if found != shadow {
+        port.looks.set::<B>(Look::TailElsewhere);
         return None;
     }
     let end = End { shadow: 0, seen: 0 };
@@ -283,6 +292,7 @@ fn drop_tail_of<L: Ledger, const B: bool>(
     } else {
         port.free = end;
     }
+    port.looks.set::<B>(Look::Fresh);
     count_taken::<B>(&mut port.peers, owner as usize);
     carry(&mut port.carried, number);
     port.hands += 1;
@@ -299,15 +309,14 @@ fn drop_tail_of<L: Ledger, const B: bool>(
 pub fn load_head<L: Ledger>(f: &Fabric, port: &mut Port, q: Queue, steps: &mut Steps<L>) -> bool
     requires owns { Owns f.now port.old }
     requires own { IsOwn port.old q }
+    requires no_shadow { (end_of (is_receive q) (knows port.old)).shadow ≡ 0 }
     ensures stays { Stays f.now port.old port.new }
     ensures found { result ≡ true → knows port.new ≡ with_end (is_receive q)
-        (at_end (end_of (is_receive q) (knows port.old)).shadow
-        (end_of (is_receive q) (knows port.new)).seen) (knows port.old)
+        (at_end 0 (end_of (is_receive q) (knows port.new)).seen) (knows port.old)
         × (0 < (end_of (is_receive q) (knows port.new)).seen) }
     ensures empty { result ≡ false → knows port.new ≡ with_missed (is_receive q) head_miss
-        (with_end (is_receive q) (at_end (end_of (is_receive q) (knows port.old)).shadow 0)
-        (knows port.old)) }
-    ensures slots { slots port.new ≡ slots port.old }
+        (with_end (is_receive q) (at_end 0 0) (knows port.old)) }
+    ensures hands { (port.new.hands ≡ port.old.hands) × (holding port.new ≡ holding port.old) }
     ensures cost { steps.new ≡ steps.old + 1 }
 {
     match q {
@@ -324,7 +333,7 @@ pub fn clear_head<L: Ledger>(f: &Fabric, port: &mut Port, q: Queue, steps: &mut 
     ensures stays { Stays f.now port.old port.new }
     ensures hidden { knows port.new ≡ with_end (is_receive q)
         (at_end (end_of (is_receive q) (knows port.old)).seen 0) (knows port.old) }
-    ensures slots { slots port.new ≡ slots port.old }
+    ensures hands { (port.new.hands ≡ port.old.hands) × (holding port.new ≡ holding port.old) }
     ensures cost { steps.new ≡ steps.old + 1 }
 {
     match q {
@@ -346,7 +355,7 @@ pub fn load_link<L: Ledger>(
     requires first { 0 < (end_of (is_receive q) (knows port.old)).shadow }
     ensures owns { Owns f.now port.new × (port.new.rank ≡ port.old.rank) }
     ensures none { IfNone result ((knows port.new ≡ knows port.old)
-        × (slots port.new ≡ slots port.old) × SameTaken port.old port.new) }
+        × Leaves (is_receive q) LinkEmpty port.old port.new) }
     ensures some { IfSome result (Takes (is_receive q) f.now port.old port.new) }
     ensures cost { steps.new ≡ steps.old + 1 }
 {
@@ -368,9 +377,10 @@ pub fn drop_tail<L: Ledger>(
     requires owns { Owns f.now port.old }
     requires own { IsOwn port.old q }
     requires first { 0 < (end_of (is_receive q) (knows port.old)).shadow }
+    requires look { look_of (is_receive q) port.old ≡ LinkEmpty }
     ensures owns { Owns f.now port.new × (port.new.rank ≡ port.old.rank) }
     ensures none { IfNone result ((knows port.new ≡ knows port.old)
-        × (slots port.new ≡ slots port.old) × SameTaken port.old port.new) }
+        × Leaves (is_receive q) TailElsewhere port.old port.new) }
     ensures some { IfSome result (Takes (is_receive q) f.now port.old port.new) }
     ensures cost { steps.new ≡ steps.old + 1 }
 {
@@ -392,10 +402,11 @@ pub fn reload_link<L: Ledger>(
     requires owns { Owns f.now port.old }
     requires own { IsOwn port.old q }
     requires first { 0 < (end_of (is_receive q) (knows port.old)).shadow }
+    requires look { look_of (is_receive q) port.old ≡ TailElsewhere }
     ensures owns { Owns f.now port.new × (port.new.rank ≡ port.old.rank) }
     ensures none { IfNone result ((knows port.new
         ≡ with_missed (is_receive q) link_miss (knows port.old))
-        × (slots port.new ≡ slots port.old) × SameTaken port.old port.new) }
+        × Leaves (is_receive q) LinkEmpty port.old port.new) }
     ensures some { IfSome result (Takes (is_receive q) f.now port.old port.new) }
     ensures cost { steps.new ≡ steps.old + 1 }
 {

@@ -1,9 +1,10 @@
 //! What a port tells of itself.
 
-ghost use Rattle.std.specs.Prelude.{◌≡◌, ◌≢◌, ◌<◌, ◌↔◌, ◌^◌, IsTrue, Some, None, option_copied, slice_index};
+ghost use Rattle.std.specs.Prelude.{◌≡◌, ◌≢◌, ◌<◌, ◌↔◌, ◌^◌, IsTrue, Some, None, option_copied, slice_index, length};
 ghost use Rattle.nm_cells.specs.Counted.{peer_in, one_passed, with_peer};
-ghost use Rattle.nm_cells.specs.Plays.{end_of, missed_of};
-ghost use Rattle.nm_cells.specs.Ports.{knows, sent_by, taken_by, IsOwn, IsUnpassed, is_receive};
+ghost use Rattle.nm_cells.specs.Rule.{put_to, from as from_rank};
+ghost use Rattle.nm_cells.specs.Plays.{end_of, missed_of, capped};
+ghost use Rattle.nm_cells.specs.Ports.{knows, sent_by, taken_by, unpassed_by, IsOwn, IsUnpassed, is_receive};
 
 use crate::cell::Queue;
 use crate::peers::Peer;
@@ -13,7 +14,7 @@ use nm_types::{MAX_PACKETS, Packet};
 
 impl Port {
     // What is counted of a rank.
-    fn peer(&self, rank: u8) -> Peer
+    pub(crate) fn peer(&self, rank: u8) -> Peer
         requires { rank < (knows self.now).ranks }
         ensures { result ≡ peer_in self.now.peers.items rank }
     {
@@ -43,12 +44,40 @@ impl Port {
         self.peer(from).taken
     }
 
+    /// Of the packets that were sent to a rank, how many went by box.
+    pub fn box_put(&self, to: u8) -> u64
+        requires { to < (knows self.now).ranks }
+        ensures { result ≡ length (put_to to (knows self.now).put_box) }
+    {
+        self.peer(to).box_put
+    }
+
+    /// Of the packets that came from a rank, how many came by box.
+    pub fn box_got(&self, from: u8) -> u64
+        requires { from < (knows self.now).ranks }
+        ensures { result ≡ length (from_rank from (knows self.now).got_box) }
+    {
+        self.peer(from).box_got
+    }
+
     /// Whether one more packet may be sent to a rank: fewer than 2^60 were.
     pub fn has_room(&self, to: u8) -> bool
         requires { to < (knows self.now).ranks }
         ensures { IsTrue result ↔ (sent_by self.now to < 2 ^ 60) }
     {
         self.sent(to) < MAX_PACKETS
+    }
+
+    /// How many packets the port took from its receive queue and didn't pass on. The count stands still
+    /// at its last value.
+    pub fn unpassed(&self) -> u64
+        ensures { result ≡ capped (unpassed_by self.now) }
+    {
+        let mut total: u64 = 0;
+        for i in 0..self.peers.len() {
+            total = total.saturating_add(self.peers[i].unpassed);
+        }
+        total
     }
 
     /// How many cells, pending enqueues and boxes at work the port has in hand.
@@ -120,7 +149,8 @@ impl Port {
         requires unpassed { IsUnpassed self.old packet }
         ensures held { self.new.held ≡ Some packet }
         ensures same { (self.new.seat ≡ self.old.seat) × (self.new.rank ≡ self.old.rank)
-            × (self.new.hands ≡ self.old.hands) × (self.new.peers ≡ self.old.peers) }
+            × (self.new.hands ≡ self.old.hands) × (self.new.peers ≡ self.old.peers)
+            × (self.new.looks ≡ self.old.looks) }
     {
         self.held = Some(packet);
     }
@@ -130,7 +160,8 @@ impl Port {
         ensures value { result ≡ self.old.held }
         ensures nothing { self.new.held ≡ None }
         ensures same { (self.new.seat ≡ self.old.seat) × (self.new.rank ≡ self.old.rank)
-            × (self.new.hands ≡ self.old.hands) × (self.new.peers ≡ self.old.peers) }
+            × (self.new.hands ≡ self.old.hands) × (self.new.peers ≡ self.old.peers)
+            × (self.new.looks ≡ self.old.looks) }
     {
         self.held.take()
     }
@@ -143,7 +174,8 @@ impl Port {
         ensures passed { self.new.peers.items
             ≡ with_peer one_passed packet.now.from self.old.peers.items }
         ensures same { (self.new.seat ≡ self.old.seat) × (self.new.rank ≡ self.old.rank)
-            × (self.new.hands ≡ self.old.hands) × (self.new.held ≡ self.old.held) }
+            × (self.new.hands ≡ self.old.hands) × (self.new.held ≡ self.old.held)
+            × (self.new.looks ≡ self.old.looks) }
     {
         count_passed(&mut self.peers, packet.from as usize);
     }

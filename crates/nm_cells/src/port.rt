@@ -3,10 +3,11 @@
 ghost use Rattle.std.specs.Prelude.{◌≡◌, ℕ, ◌+◌, ◌*◌, ◌<◌, ◌≤◌, length, vec_capacity};
 ghost use Rattle.nm_cells.specs.Plays.{Alone, mine};
 ghost use Rattle.nm_cells.specs.Carried.{Carries};
+ghost use Rattle.nm_cells.specs.AtWork.{HoldsBoxes};
 ghost use Rattle.nm_cells.specs.Counted.{CountsFor};
 
 use crate::peers::Peer;
-use crate::table::{Board, End, Misses, Place};
+use crate::table::{Board, End, Looks, Misses, Place};
 use nm_types::Packet;
 
 /// The cells, boxes and queues that the ranks share.
@@ -30,6 +31,7 @@ pub struct Port {
     pub(crate) rank: u8,
     pub(crate) receive: End,
     pub(crate) free: End,
+    pub(crate) looks: Looks,
     pub(crate) receive_missed: Misses,
     pub(crate) free_missed: Misses,
     /// The slots in hand, the one taken last first.
@@ -48,6 +50,7 @@ pub struct Port {
         × (free.shadow ≤ length (mine seat.me).hands) × (free.seen ≤ length (mine seat.me).hands) },
     pub ghost carries: { Carries seat.me.1 (mine seat.me).hands (mine seat.me).filling (mine seat.me).emptying
         carried.items (vec_capacity carried) hands },
+    pub ghost boxes: { HoldsBoxes (mine seat.me) seat.me.1 },
     pub ghost counts: { ∥ CountsFor (mine seat.me) peers.items held ∥₁ },
 }
 
@@ -61,6 +64,7 @@ impl Port {
             rank: _,
             receive: _,
             free: _,
+            looks: _,
             receive_missed: _,
             free_missed: _,
             carried: _,

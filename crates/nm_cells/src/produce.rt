@@ -5,7 +5,7 @@ ghost use Rattle.nm_seats.specs.Update.{update};
 ghost use Rattle.nm_cells.specs.declared.table.Hand.TheVariants.{Away, Ready, Entering};
 ghost use Rattle.nm_cells.specs.Rule.{hand};
 ghost use Rattle.nm_cells.specs.Plays.{with_hand, with_put};
-ghost use Rattle.nm_cells.specs.Ports.{Owns, Stays, knows, slots, holding, Has, Awaits, MayJoin};
+ghost use Rattle.nm_cells.specs.Ports.{Owns, Stays, knows, holding, Has, Awaits, MayJoin};
 ghost use Rattle.nm_cells.specs.Ports.{queue_of, rank_of_queue, posted_in, sent_into, HasRoomFor};
 
 use crate::cell::{Cell, Pending, Queue};
@@ -74,7 +74,8 @@ pub fn clear_link<L: Ledger>(f: &Fabric, port: &mut Port, cell: &Cell, steps: &m
     ensures stays { Stays f.now port.old port.new }
     ensures ready { knows port.new ≡ with_hand cell.now.number
         (Ready (holding port.old cell.now.number)) (knows port.old) }
-    ensures slots { slots port.new ≡ slots port.old }
+    ensures holding { holding port.new ≡ holding port.old }
+    ensures hands { port.new.hands ≡ port.old.hands }
     ensures cost { steps.new ≡ steps.old + 1 }
 {
     steps.tick();
@@ -104,6 +105,7 @@ pub fn swap_tail<L: Ledger>(
         (with_hand cell.number (Entering (queue_of f.now.ranks q) result.found)
         (knows port.old)) }
     ensures given { holding port.new ≡ update (holding port.old) cell.number None }
+    ensures hands { port.new.hands ≡ port.old.hands }
     ensures cost { steps.new ≡ steps.old + 1 }
 {
     steps.tick();
@@ -130,7 +132,8 @@ pub fn store_head<L: Ledger>(f: &Fabric, port: &mut Port, enqueue: Pending, step
     requires awaits { Awaits f.now port.old enqueue × (enqueue.found ≡ 0) }
     ensures stays { Stays f.now port.old port.new }
     ensures finished { knows port.new ≡ with_hand enqueue.cell Away (knows port.old) }
-    ensures slots { slots port.new ≡ slots port.old }
+    ensures holding { holding port.new ≡ holding port.old }
+    ensures hands { port.new.hands + 1 ≡ port.old.hands }
     ensures cost { steps.new ≡ steps.old + 1 }
 {
     steps.tick();
@@ -151,7 +154,8 @@ pub fn store_link<L: Ledger>(f: &Fabric, port: &mut Port, enqueue: Pending, step
     requires awaits { Awaits f.now port.old enqueue × (0 < enqueue.found) }
     ensures stays { Stays f.now port.old port.new }
     ensures finished { knows port.new ≡ with_hand enqueue.cell Away (knows port.old) }
-    ensures slots { slots port.new ≡ slots port.old }
+    ensures holding { holding port.new ≡ holding port.old }
+    ensures hands { port.new.hands + 1 ≡ port.old.hands }
     ensures cost { steps.new ≡ steps.old + 1 }
 {
     steps.tick();

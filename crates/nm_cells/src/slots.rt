@@ -1,13 +1,13 @@
 //! What a cell in hand holds. No call here makes a step on a word.
 
 ghost use Rattle.std.specs.Prelude.{◌≡◌, ◌+◌, ◌<◌, ◌≤◌, ◌∷◌, ◌++◌, ℕ, Some, None, length, map, take, drop};
-ghost use Rattle.std.specs.Prelude.{slice_index, vec_len, vec_capacity};
+ghost use Rattle.std.specs.Prelude.{IsSome, slice_index, vec_len, vec_capacity};
 ghost use Rattle.atomic_table.specs.Table.{rest};
-ghost use Rattle.nm_types.specs.declared.packets.Packet.{Packet};
 ghost use Rattle.nm_seats.specs.Update.{update};
 ghost use Rattle.nm_cells.specs.Rule.{hand};
-ghost use Rattle.nm_cells.specs.Plays.{InHand};
-ghost use Rattle.nm_cells.specs.Ports.{Owns, Stays, SameTaken, Has, knows, slots, holding};
+ghost use Rattle.nm_cells.specs.Plays.{InHand, load_in};
+ghost use Rattle.nm_cells.specs.Carried.{times};
+ghost use Rattle.nm_cells.specs.Ports.{Owns, Stays, Has, knows, slots, holding};
 
 use crate::cell::Cell;
 use crate::port::{Fabric, Port};
@@ -47,6 +47,20 @@ fn bring(seat: &mut Place, carried: &mut Vec<u64>, slot: u64)
     carried.rotate_left(at);
 }
 
+// Brings a slot that the port has taken once to the front.
+pub(crate) fn bring_slot(port: &mut Port, slot: u64)
+    requires once { times slot (map (λ x. x.0) (slots port.old)) ≡ 1 }
+    ensures seat { (port.new.seat.table_id ≡ port.old.seat.table_id)
+        × (port.new.seat.me.0 ≡ port.old.seat.me.0) }
+    ensures same { (port.new.rank ≡ port.old.rank) × (port.new.peers ≡ port.old.peers)
+        × (port.new.held ≡ port.old.held) × (port.new.hands ≡ port.old.hands)
+        × (port.new.looks ≡ port.old.looks) }
+    ensures front { slots port.new ≡ (slot, load_in slot (slots port.old)) ∷ rest (slots port.new) }
+    ensures holding { holding port.new ≡ holding port.old }
+{
+    bring(&mut port.seat, &mut port.carried, slot);
+}
+
 // Brings the slot of a cell in hand to the front.
 pub(crate) fn bring_cell(port: &mut Port, number: u64)
     requires low { number < length (knows port.old).hands }
@@ -54,11 +68,12 @@ pub(crate) fn bring_cell(port: &mut Port, number: u64)
     ensures seat { (port.new.seat.table_id ≡ port.old.seat.table_id)
         × (port.new.seat.me.0 ≡ port.old.seat.me.0) }
     ensures same { (port.new.rank ≡ port.old.rank) × (port.new.peers ≡ port.old.peers)
-        × (port.new.held ≡ port.old.held) × (port.new.hands ≡ port.old.hands) }
+        × (port.new.held ≡ port.old.held) × (port.new.hands ≡ port.old.hands)
+        × (port.new.looks ≡ port.old.looks) }
     ensures front { slots port.new ≡ (number, holding port.old number) ∷ rest (slots port.new) }
     ensures holding { holding port.new ≡ holding port.old }
 {
-    bring(&mut port.seat, &mut port.carried, number);
+    bring_slot(port, number);
 }
 
 /// Puts a packet into an empty cell in hand.
@@ -67,6 +82,7 @@ pub fn put_in(f: &Fabric, port: &mut Port, cell: &Cell, packet: Packet)
     requires in_hand { Has f.now port.old cell.now }
     requires empty { holding port.old cell.now.number ≡ None }
     ensures stays { Stays f.now port.old port.new × (knows port.new ≡ knows port.old) }
+    ensures hands { port.new.hands ≡ port.old.hands }
     ensures filled { holding port.new ≡ update (holding port.old) cell.now.number (Some packet) }
 {
     bring_cell(port, cell.number);
@@ -79,9 +95,10 @@ pub fn put_in(f: &Fabric, port: &mut Port, cell: &Cell, packet: Packet)
 pub fn take_out(f: &Fabric, port: &mut Port, cell: &Cell) -> Packet
     requires owns { Owns f.now port.old }
     requires in_hand { Has f.now port.old cell.now }
-    requires full { (p : Packet) × (holding port.old cell.now.number ≡ Some p) }
+    requires full { IsSome (holding port.old cell.now.number) }
     ensures stays { Stays f.now port.old port.new × (knows port.new ≡ knows port.old) }
     ensures packet { holding port.old cell.now.number ≡ Some result }
+    ensures hands { port.new.hands ≡ port.old.hands }
     ensures emptied { holding port.new ≡ update (holding port.old) cell.now.number None }
 {
     bring_cell(port, cell.number);

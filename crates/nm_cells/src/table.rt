@@ -1,6 +1,8 @@
 //! The table, and what a seat knows.
 
 ghost use Rattle.std.specs.Prelude.{◌≡◌};
+ghost use Rattle.nm_cells.specs.Looks.{look_in, other};
+ghost use Rattle.nm_cells.specs.declared.table.Look.TheVariants.{Fresh};
 
 use atomic_table::{Seat, Table, TableRule};
 use nm_seats::View;
@@ -25,6 +27,47 @@ pub struct End {
     pub shadow: u64,
     /// 0, or what it last loaded from the head.
     pub seen: u64,
+}
+
+/// What the consumer's last step on a queue told of its first cell.
+#[derive(Clone, Copy)]
+pub enum Look {
+    /// Nothing.
+    Fresh,
+    /// Its link was loaded as 0.
+    LinkEmpty,
+    /// Then the tail was another cell.
+    TailElsewhere,
+}
+
+/// The last steps of a rank on its receive queue and on its free queue.
+#[derive(Clone, Copy)]
+pub struct Looks {
+    pub receive: Look,
+    pub free: Look,
+}
+
+impl Looks {
+    pub(crate) fn new() -> Looks
+        ensures { (result.receive ≡ Fresh) × (result.free ≡ Fresh) }
+    {
+        Looks {
+            receive: Look::Fresh,
+            free: Look::Fresh,
+        }
+    }
+
+    // The last step on the receive queue, or else on the free queue, told this.
+    pub(crate) fn set<const B: bool>(&mut self, look: Look)
+        ensures told { look_in B self.new ≡ look }
+        ensures others { look_in (other B) self.new ≡ look_in (other B) self.old }
+    {
+        if B {
+            self.receive = look;
+        } else {
+            self.free = look;
+        }
+    }
 }
 
 /// How often a queue had nothing for its consumer. A count stands still at its last value.

@@ -21,5 +21,7 @@
 #![tactic(auto)]
 
 mod moves;
+#[cfg(test)]
+mod tests;
 
 pub use moves::{Miss, dequeue, enqueue};

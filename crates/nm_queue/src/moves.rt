@@ -1,10 +1,13 @@
 //! The two moves of a queue.
 
-ghost use Rattle.std.specs.Prelude.{◌≡◌, ◌+◌, ◌<◌, ◌≤◌, ◌++◌, None, IfOk, Err};
+ghost use Rattle.std.specs.Prelude.{◌≡◌, ◌+◌, ◌<◌, ◌≤◌, None, IfOk, Err};
 ghost use Rattle.nm_seats.specs.Update.{update};
 ghost use Rattle.nm_queue.specs.declared.moves.Miss.TheVariants.{HeadEmpty, LinkMissing};
+ghost use Rattle.nm_cells.specs.declared.table.Hand.TheVariants.{Away};
+ghost use Rattle.nm_cells.specs.declared.table.Look.TheVariants.{LinkEmpty};
+ghost use Rattle.nm_cells.specs.Plays.{with_hand, with_put};
 ghost use Rattle.nm_cells.specs.Plays.{end_of, with_end, at_end, with_missed, head_miss, link_miss};
-ghost use Rattle.nm_cells.specs.Ports.{Owns, Stays, SameTaken, knows, slots, holding, Has, MayJoin};
+ghost use Rattle.nm_cells.specs.Ports.{Owns, Stays, Leaves, knows, holding, Has, MayJoin};
 ghost use Rattle.nm_cells.specs.Ports.{posted_in, IsOwn, is_receive, Takes};
 
 use nm_cells::{
@@ -30,13 +33,9 @@ pub fn enqueue<L: Ledger>(f: &Fabric, port: &mut Port, q: Queue, cell: Cell, ste
     requires in_hand { Has f.now port.old cell }
     requires may { MayJoin f.now port.old q cell.number (holding port.old cell.number) }
     ensures stays { Stays f.now port.old port.new }
-    ensures put { (knows port.new).put
-        ≡ (knows port.old).put ++ posted_in q (holding port.old cell.number) }
-    ensures others { ((knows port.new).receive ≡ (knows port.old).receive)
-        × ((knows port.new).free ≡ (knows port.old).free)
-        × ((knows port.new).got ≡ (knows port.old).got)
-        × ((knows port.new).put_box ≡ (knows port.old).put_box)
-        × ((knows port.new).got_box ≡ (knows port.old).got_box) }
+    ensures put { knows port.new ≡ with_put (posted_in q (holding port.old cell.number))
+        (with_hand cell.number Away (knows port.old)) }
+    ensures hands { port.new.hands + 1 ≡ port.old.hands }
     ensures given { holding port.new ≡ update (holding port.old) cell.number None }
     ensures bound { steps.new ≡ steps.old + 3 }
 {
@@ -62,12 +61,16 @@ pub fn dequeue<L: Ledger>(
     ensures took { IfOk result (Takes (is_receive q) f.now port.old port.new) }
     ensures head_empty { result ≡ Err HeadEmpty → knows port.new
         ≡ with_missed (is_receive q) head_miss (with_end (is_receive q) (at_end 0 0)
-        (knows port.old)) × (slots port.new ≡ slots port.old) × SameTaken port.old port.new }
+        (knows port.old)) × Stays f.now port.old port.new × (port.new.hands ≡ port.old.hands)
+        × (holding port.new ≡ holding port.old) × (steps.new ≡ steps.old + 1) }
     ensures link_missing { result ≡ Err LinkMissing → knows port.new
         ≡ with_missed (is_receive q) link_miss (with_end (is_receive q)
         (end_of (is_receive q) (knows port.new)) (knows port.old))
         × (0 < (end_of (is_receive q) (knows port.new)).shadow)
-        × (slots port.new ≡ slots port.old) × SameTaken port.old port.new }
+        × Leaves (is_receive q) LinkEmpty port.old port.new }
+    ensures all_tried { result ≡ Err LinkMissing →
+        ((end_of (is_receive q) (knows port.old)).shadow ≡ 0 → steps.new ≡ steps.old + 5)
+        × (0 < (end_of (is_receive q) (knows port.old)).shadow → steps.new ≡ steps.old + 3) }
     ensures bound { steps.new ≤ steps.old + 5 }
 {
     if !port.has_shadow(q) {

@@ -1,5 +1,9 @@
+use Rattle.std.proofs.Common.{sym, subst}
 use Rattle.std.proofs.Common.{◌<◌, arith}
 use Rattle.nm_cells.proofs.ConsumerLemmas.{hide_allowed}
+use Rattle.nm_cells.specs.AtWork.{HoldsBoxes}
+use Rattle.nm_cells.specs.Plays.{Knowing, mine}
+use Rattle.nm_cells.proofs.BoxPortLemmas.{boxes_end}
 use Rattle.nm_cells.proofs.consume.clear_head_of.Goals as goal
 
 pub store-requires : goal.store-requires
@@ -11,3 +15,13 @@ store-requires g c = let f = c.args.f.now in let p = c.args.port.now in let z = 
       hide_allowed f.board.shared.key f.ranks f.board.shared.table_id.slots p.seat.id p.seat.me
           p.alone f.shape.0 p.rank p.named c.requires.owns.1 _ c.own_queue-word.result w.own some,
     )
+
+pub invariant_of-port-clause-boxes : goal.invariant_of-port-clause-boxes
+invariant_of-port-clause-boxes g c = let p = c.args.port.now in
+    subst (λ (m : Knowing). HoldsBoxes (mine m) m.1) (sym c.store.ensures.2)
+    (boxes_end _ _ (mine p.seat.me) p.seat.me.1 p.boxes)
+
+pub invariant_of-port-else-this-ne0-clause-boxes : goal.invariant_of-port-else-this-ne0-clause-boxes
+invariant_of-port-else-this-ne0-clause-boxes g c = let p = c.args.port.now in
+    subst (λ (m : Knowing). HoldsBoxes (mine m) m.1) (sym c.store.ensures.2)
+    (boxes_end _ _ (mine p.seat.me) p.seat.me.1 p.boxes)

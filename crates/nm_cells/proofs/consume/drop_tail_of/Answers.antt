@@ -3,7 +3,9 @@ use Rattle.std.proofs.Common.{arith}
 use Rattle.std.specs.Prelude.{vec_capacity}
 use Rattle.nm_cells.proofs.ConsumerLemmas.{drain_allowed}
 use Rattle.nm_cells.proofs.PortLemmas.{takes_room, takes_carries, takes_hands}
-use Rattle.nm_cells.proofs.PortLemmas.{takes_count, takes_counts, takes_made}
+use Rattle.nm_cells.proofs.PortLemmas.{takes_boxes, takes_count, takes_counts, takes_made}
+use Rattle.nm_cells.specs.Plays.{Knowing, mine}
+use Rattle.nm_cells.specs.AtWork.{HoldsBoxes}
 use Rattle.nm_cells.proofs.consume.drop_tail_of.Goals as goal
 
 pub compare_exchange-found-requires : goal.compare_exchange-found-requires
@@ -37,6 +39,11 @@ overflow_add-port g c = let f = c.args.f.now in let p = c.args.port.now in
     let most = takes_hands _ f p k k 0 c.compare_exchange-found.new.seat.me c.requires.owns
     (c.compare_exchange-found.ensures.2.1 same) refl in omega arith
 
+pub invariant_of-port-clause-boxes : goal.invariant_of-port-clause-boxes
+invariant_of-port-clause-boxes g c = let p = c.args.port.now in
+    subst (λ (m : Knowing). HoldsBoxes (mine m) m.1)
+    (sym (c.compare_exchange-found.ensures.2.0 c.if-found-shadow.true)) p.boxes
+
 pub invariant_of-port-2-clause-carries : goal.invariant_of-port-2-clause-carries
 invariant_of-port-2-clause-carries g c = let f = c.args.f.now in let p = c.args.port.now in
     let k = c.end-shadow.result.shadow - 1 in let same = c.if-found-shadow.false in
@@ -44,6 +51,12 @@ invariant_of-port-2-clause-carries g c = let f = c.args.f.now in let p = c.args.
     (c.compare_exchange-found.ensures.2.1 same) refl c.carry.new.carried.items
     (vec_capacity c.carry.new.carried)
     (p.hands + 1) c.carry.ensures.items c.carry.ensures.capacity refl
+
+pub invariant_of-port-2-clause-boxes : goal.invariant_of-port-2-clause-boxes
+invariant_of-port-2-clause-boxes g c = let f = c.args.f.now in let p = c.args.port.now in
+    let k = c.end-shadow.result.shadow - 1 in let same = c.if-found-shadow.false in
+    takes_boxes _ f p k k 0 c.compare_exchange-found.new.seat.me c.requires.owns
+    (c.compare_exchange-found.ensures.2.1 same) refl
 
 pub invariant_of-port-2-clause-counts : goal.invariant_of-port-2-clause-counts
 invariant_of-port-2-clause-counts g c = let f = c.args.f.now in let p = c.args.port.now in
@@ -57,4 +70,4 @@ returns-clause-some g c = let f = c.args.f.now in let p = c.args.port.now in
     let k = c.end-shadow.result.shadow - 1 in let same = c.if-found-shadow.false in
     takes_made _ f p k k 0 c.compare_exchange-found.new.seat.me c.requires.owns
     (c.compare_exchange-found.ensures.2.1 same) refl _ _ refl refl refl refl
-    c.count_taken.ensures
+    c.count_taken.ensures refl c.set-2.ensures.told c.set-2.ensures.others

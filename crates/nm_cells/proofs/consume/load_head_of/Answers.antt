@@ -1,5 +1,9 @@
+use Rattle.std.proofs.Common.{sym, subst}
 use Rattle.std.proofs.Common.{◌<◌, arith}
 use Rattle.nm_cells.proofs.ConsumerLemmas.{note_allowed}
+use Rattle.nm_cells.specs.AtWork.{HoldsBoxes}
+use Rattle.nm_cells.specs.Plays.{Knowing, mine}
+use Rattle.nm_cells.proofs.BoxPortLemmas.{boxes_end}
 use Rattle.nm_cells.proofs.consume.load_head_of.Goals as goal
 
 pub load-found-requires : goal.load-found-requires
@@ -11,3 +15,23 @@ load-found-requires g c = let f = c.args.f.now in let p = c.args.port.now in let
       note_allowed f.board.shared.key f.ranks f.board.shared.table_id.slots p.seat.id p.seat.me
           p.alone f.shape.0 p.rank p.named c.requires.owns.1 _ c.own_queue-word.result w.own,
     )
+
+pub invariant_of-port-clause-boxes : goal.invariant_of-port-clause-boxes
+invariant_of-port-clause-boxes g c = let p = c.args.port.now in
+    subst (λ (m : Knowing). HoldsBoxes (mine m) m.1) (sym (c.load-found.ensures.2.1 c.if-found-eq0.true))
+    (boxes_end _ _ (mine p.seat.me) p.seat.me.1 p.boxes)
+
+pub invariant_of-port-else-found-eq0-clause-boxes : goal.invariant_of-port-else-found-eq0-clause-boxes
+invariant_of-port-else-found-eq0-clause-boxes g c = let p = c.args.port.now in
+    subst (λ (m : Knowing). HoldsBoxes (mine m) m.1) (sym (c.load-found.ensures.2.2 (let some = c.if-found-eq0.false in omega arith)))
+    (boxes_end _ _ (mine p.seat.me) p.seat.me.1 p.boxes)
+
+pub invariant_of-port-then-found-eq0-2-clause-boxes : goal.invariant_of-port-then-found-eq0-2-clause-boxes
+invariant_of-port-then-found-eq0-2-clause-boxes g c = let p = c.args.port.now in
+    subst (λ (m : Knowing). HoldsBoxes (mine m) m.1) (sym (c.load-found.ensures.2.1 c.if-found-eq0-2.true))
+    (boxes_end _ _ (mine p.seat.me) p.seat.me.1 p.boxes)
+
+pub invariant_of-port-else-found-eq0-2-clause-boxes : goal.invariant_of-port-else-found-eq0-2-clause-boxes
+invariant_of-port-else-found-eq0-2-clause-boxes g c = let p = c.args.port.now in
+    subst (λ (m : Knowing). HoldsBoxes (mine m) m.1) (sym (c.load-found.ensures.2.2 (let some = c.if-found-eq0-2.false in omega arith)))
+    (boxes_end _ _ (mine p.seat.me) p.seat.me.1 p.boxes)

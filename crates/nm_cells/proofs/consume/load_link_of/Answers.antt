@@ -1,10 +1,13 @@
+use Rattle.std.proofs.Common.{sym, subst}
 use Rattle.std.proofs.Common.{◌≡◌, ◌+◌, ◌-◌, ◌*◌, ◌<◌, refl, ap}
 use Rattle.std.proofs.Common.{arith}
 use Rattle.std.specs.Prelude.{vec_capacity}
 use Rattle.nm_cells.specs.Ports.{knows}
 use Rattle.nm_cells.proofs.ConsumerLemmas.{pass_allowed}
 use Rattle.nm_cells.proofs.PortLemmas.{shadow_below, takes_room, takes_carries, takes_hands}
-use Rattle.nm_cells.proofs.PortLemmas.{takes_count, takes_counts, takes_made}
+use Rattle.nm_cells.proofs.PortLemmas.{takes_boxes, takes_count, takes_counts, takes_made}
+use Rattle.nm_cells.specs.Plays.{Knowing, mine}
+use Rattle.nm_cells.specs.AtWork.{HoldsBoxes}
 use Rattle.nm_cells.proofs.consume.load_link_of.Goals as goal
 
 pub load-found-requires : goal.load-found-requires
@@ -46,6 +49,11 @@ overflow_add-port g c = let f = c.args.f.now in let p = c.args.port.now in
     c.load-found.new.seat.me c.requires.owns (c.load-found.ensures.2.1 (omega arith)) at in
     omega arith
 
+pub invariant_of-port-clause-boxes : goal.invariant_of-port-clause-boxes
+invariant_of-port-clause-boxes g c = let p = c.args.port.now in
+    subst (λ (m : Knowing). HoldsBoxes (mine m) m.1)
+    (sym (c.load-found.ensures.2.0 c.if-found-eq0.true)) p.boxes
+
 pub invariant_of-port-2-clause-carries : goal.invariant_of-port-2-clause-carries
 invariant_of-port-2-clause-carries g c = let f = c.args.f.now in let p = c.args.port.now in
     let k = c.end-number.result.shadow - 1 in let rs = c.requires.owns.2 in
@@ -55,6 +63,14 @@ invariant_of-port-2-clause-carries g c = let f = c.args.f.now in let p = c.args.
     c.load-found.new.seat.me c.requires.owns (c.load-found.ensures.2.1 (omega arith)) at
     c.carry.new.carried.items (vec_capacity c.carry.new.carried)
     (p.hands + 1) c.carry.ensures.items c.carry.ensures.capacity refl
+
+pub invariant_of-port-2-clause-boxes : goal.invariant_of-port-2-clause-boxes
+invariant_of-port-2-clause-boxes g c = let f = c.args.f.now in let p = c.args.port.now in
+    let k = c.end-number.result.shadow - 1 in let rs = c.requires.owns.2 in
+    let at : (4 * f.ranks + k) - 4 * (knows p).ranks ≡ k = omega arith in
+    let some = c.if-found-eq0.false in
+    takes_boxes _ f p ((4 * f.ranks + k) - 4 * (knows p).ranks) k c.load-found.result
+    c.load-found.new.seat.me c.requires.owns (c.load-found.ensures.2.1 (omega arith)) at
 
 pub invariant_of-port-2-clause-counts : goal.invariant_of-port-2-clause-counts
 invariant_of-port-2-clause-counts g c = let f = c.args.f.now in let p = c.args.port.now in
@@ -72,4 +88,4 @@ returns-clause-some g c = let f = c.args.f.now in let p = c.args.port.now in
     let some = c.if-found-eq0.false in
     takes_made _ f p ((4 * f.ranks + k) - 4 * (knows p).ranks) k c.load-found.result
     c.load-found.new.seat.me c.requires.owns (c.load-found.ensures.2.1 (omega arith)) at _ _
-    refl refl refl refl c.count_taken.ensures
+    refl refl refl refl c.count_taken.ensures refl c.set-2.ensures.told c.set-2.ensures.others

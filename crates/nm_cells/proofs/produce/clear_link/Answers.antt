@@ -7,6 +7,8 @@ use Rattle.nm_cells.specs.Ports.{knows}
 use Rattle.nm_cells.proofs.ProducerLemmas.{clear_allowed}
 use Rattle.nm_cells.proofs.HoldingLemmas.{held_here}
 use Rattle.nm_cells.proofs.PortLemmas.{cleared_carries}
+use Rattle.nm_cells.specs.AtWork.{HoldsBoxes}
+use Rattle.nm_cells.specs.Plays as plays
 use Rattle.nm_cells.proofs.produce.clear_link.Goals as goal
 
 pub store-requires : goal.store-requires
@@ -41,3 +43,7 @@ returns-clause-ready g c = let f = c.args.f.now in let p = c.args.port.now in
     ∙ ap (λ y. with_hand k (Ready y) (knows p))
     (sym (held_here (length (knows p).hands) k p.seat.me.1
     (subst (λ n. k < n) (sym c.requires.owns.4) c.requires.in_hand.0)))
+
+pub invariant_of-port-clause-boxes : goal.invariant_of-port-clause-boxes
+invariant_of-port-clause-boxes g c = let p = c.args.port.now in
+    subst (λ (m : plays.Knowing). HoldsBoxes (plays.mine m) m.1) (sym c.store.ensures.2) p.boxes

@@ -7,6 +7,8 @@ use Rattle.nm_cells.specs.Plays.{with_hand}
 use Rattle.nm_cells.specs.Ports.{knows}
 use Rattle.nm_cells.proofs.ProducerLemmas.{link_allowed}
 use Rattle.nm_cells.proofs.PortLemmas.{finished_carries, some_in_hand}
+use Rattle.nm_cells.specs.AtWork.{HoldsBoxes}
+use Rattle.nm_cells.specs.Plays as plays
 use Rattle.nm_cells.proofs.produce.store_link.Goals as goal
 
 pub store-requires : goal.store-requires
@@ -34,3 +36,7 @@ invariant_of-port-clause-carries g c = let p = c.args.port.now in let e = c.args
     (vec_capacity p.carried) p.hands p.carries e.cell e.queue e.found (p.hands - 1)
     (c.store.ensures.2 ∙ ap (λ d. (view (with_hand d Away (knows p) ∷ []), p.seat.me.1)) one)
     low a.0.2 (omega arith)
+
+pub invariant_of-port-clause-boxes : goal.invariant_of-port-clause-boxes
+invariant_of-port-clause-boxes g c = let p = c.args.port.now in
+    subst (λ (m : plays.Knowing). HoldsBoxes (plays.mine m) m.1) (sym c.store.ensures.2) p.boxes

@@ -14,6 +14,9 @@ use Rattle.nm_cells.specs.Counted.{CountsFor, peer_in, all_unpassed}
 use Rattle.nm_cells.proofs.ProducerLemmas.{swap_allowed}
 use Rattle.nm_cells.proofs.PortLemmas.{CarriesFor, swapped_carries, swapped_holds, posted_is}
 use Rattle.nm_cells.proofs.PortLemmas.{sent_counts, room_for, sent_taken, may_suits, may_low}
+use Rattle.nm_cells.specs.AtWork.{HoldsBoxes}
+use Rattle.nm_cells.specs.Plays.{Knowing}
+use Rattle.nm_cells.proofs.BoxPortLemmas.{boxes_popped}
 use Rattle.nm_cells.proofs.produce.swap_tail.Goals as goal
 
 pub swap-found-requires : goal.swap-found-requires
@@ -143,4 +146,16 @@ returns-clause-stays g c = let f = c.args.f.now in let p = c.bring_cell.new.port
         same.2,
         ap all_unpassed c.count_put.ensures ∙ t.1 ∙ ap (λ ps. all_unpassed ps.items) same.1,
       ),
+      same.4,
     )
+
+pub invariant_of-port-clause-boxes : goal.invariant_of-port-clause-boxes
+invariant_of-port-clause-boxes g c = let p = c.bring_cell.new.port in let e = knows p in
+    let k = c.args.cell.number in let o = c.requires.owns in
+    let v = c.bring_cell.ensures.seat.1 in
+    let low = subst (λ x. k < x)
+    ((λ t. sym o.2 t * sym o.3 t) ∙ (λ t. (sole (sym v t).entries).ranks
+    * (sole (sym v t).entries).each)) c.requires.in_hand.0 in
+    subst (λ (m : Knowing). HoldsBoxes (mine m) m.1) (sym c.swap-found.ensures.2.1)
+    (boxes_popped e (rest p.seat.me.1) k (holding c.args.port.now k) low
+    (subst (HoldsBoxes e) c.bring_cell.ensures.front p.boxes))

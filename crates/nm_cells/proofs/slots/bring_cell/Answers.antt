@@ -1,52 +1,18 @@
-use Rattle.std.proofs.Common.{◌∷◌, length, sym, ap, ◌∙◌, subst, arith}
-use Rattle.std.specs.Prelude.{vec_capacity}
-use Rattle.atomic_table.specs.Table.{rest}
-use Rattle.nm_cells.specs.Plays.{sole}
-use Rattle.nm_cells.specs.Ports.{knows}
-use Rattle.nm_cells.specs.Carried.{Carries, held_in}
-use Rattle.nm_cells.specs.Counted.{CountsFor}
+use Rattle.std.proofs.Common.{◌∷◌, length, sym, ap, ◌∙◌}
+use Rattle.nm_cells.specs.Ports.{knows, slots}
+use Rattle.nm_cells.specs.Carried.{times}
 use Rattle.nm_cells.proofs.CarriedLemmas.{in_hand_one}
-use Rattle.nm_cells.proofs.HoldingLemmas.{turned_by, carries_turned, in_front, still_held}
-use Rattle.nm_cells.proofs.HoldingLemmas.{is_carried}
+use Rattle.nm_cells.proofs.HoldingLemmas.{held_here}
+use Rattle.atomic_table.specs.Table.{rest}
 use Rattle.nm_cells.proofs.slots.bring_cell.Goals as goal
 
-pub bring-requires-clause-there : goal.bring-requires-clause-there
-bring-requires-clause-there c = let p = c.args.port.now in let e = knows p in
-    is_carried p.seat.me.1 e.hands e.filling e.emptying p.carried.items
-    (vec_capacity p.carried) p.hands p.carries c.args.number c.requires.low
-    (in_hand_one _ c.requires.in_hand)
-
-pub invariant_of-port-clause-carries : goal.invariant_of-port-clause-carries
-invariant_of-port-clause-carries c = let p = c.args.port.now in let e = knows p in
-    let t = c.bring.ensures.turned in let new = c.bring.new.carried in
-    subst (λ v. Carries c.bring.new.seat.me.1 (sole v.entries).hands (sole v.entries).filling
-    (sole v.entries).emptying new.items (vec_capacity new) p.hands) (sym c.bring.ensures.seat.2)
-    (subst (λ s. Carries s e.hands e.filling e.emptying new.items (vec_capacity new) p.hands)
-    (sym t.3)
-    (subst (λ l. Carries (turned_by t.0 p.seat.me.1) e.hands e.filling e.emptying l
-    (vec_capacity new) p.hands) (sym t.4)
-    (carries_turned p.seat.me.1 e.hands e.filling e.emptying p.carried.items
-    (vec_capacity p.carried) p.hands p.carries t.0 (vec_capacity new) t.1 (let same =
-    c.bring.ensures.capacity in omega arith))))
-
-pub invariant_of-port-clause-counts : goal.invariant_of-port-clause-counts
-invariant_of-port-clause-counts c = let p = c.args.port.now in
-    subst (λ v. ∥ CountsFor (sole v.entries) p.peers.items p.held ∥₁)
-    (sym c.bring.ensures.seat.2) p.counts
+pub bring_slot-requires : goal.bring_slot-requires
+bring_slot-requires c = let p = c.args.port.now in record {
+  once = ap (times c.args.number) p.carries.order ∙ p.carries.cells c.args.number c.requires.low
+      ∙ in_hand_one _ c.requires.in_hand;
+}
 
 pub returns-clause-front : goal.returns-clause-front
-returns-clause-front c = let p = c.args.port.now in let e = knows p in
-    let t = c.bring.ensures.turned in
-    let f = in_front p.seat.me.1 e.hands e.filling e.emptying p.carried.items
-    (vec_capacity p.carried) p.hands p.carries t.0 c.args.number t.1 t.2 c.requires.low in
-    let is = t.3 ∙ f.1 in
-    is ∙ ap (λ l. (c.args.number, held_in (length e.hands) p.seat.me.1 c.args.number) ∷ l)
-    (ap rest (sym is))
-
-pub returns-clause-holding : goal.returns-clause-holding
-returns-clause-holding c = let p = c.args.port.now in let e = knows p in
-    let t = c.bring.ensures.turned in
-    ap (λ v. held_in (length (sole v.entries).hands) c.bring.new.seat.me.1) c.bring.ensures.seat.2
-    ∙ ap (held_in (length e.hands)) t.3
-    ∙ still_held p.seat.me.1 e.hands e.filling e.emptying p.carried.items
-    (vec_capacity p.carried) p.hands p.carries t.0 t.1
+returns-clause-front c = let p = c.args.port.now in c.bring_slot.ensures.front
+    ∙ ap (λ y. (c.args.number, y) ∷ rest (slots c.bring_slot.new.port))
+    (sym (held_here (length (knows p).hands) c.args.number p.seat.me.1 c.requires.low))

@@ -1,8 +1,10 @@
-use Rattle.std.proofs.Common.{◌<◌, None, length, sym, ap, ◌∙◌, subst}
+use Rattle.std.proofs.Common.{◌*◌, ◌<◌, None, length, sym, ap, ◌∙◌, subst}
 use Rattle.std.specs.Prelude.{vec_capacity}
 use Rattle.atomic_table.specs.Table.{rest}
 use Rattle.nm_seats.specs.Update.{update}
-use Rattle.nm_cells.specs.Plays.{mine, sole}
+use Rattle.nm_cells.specs.Plays.{Knowing, mine, sole}
+use Rattle.nm_cells.specs.AtWork.{HoldsBoxes}
+use Rattle.nm_cells.proofs.BoxPortLemmas.{boxes_exchanged}
 use Rattle.nm_cells.specs.Ports.{knows}
 use Rattle.nm_cells.specs.Carried.{held_in}
 use Rattle.nm_cells.proofs.PortLemmas.{CarriesFor}
@@ -16,6 +18,16 @@ invariant_of-port-clause-carries c = let p = c.bring_cell.new.port in let e = kn
     (sym c.exchange-old.ensures.3)
     (exchanged_carries k None _ p.seat.me.1 (rest p.seat.me.1) c.bring_cell.ensures.front e.hands
     e.filling e.emptying p.carried.items (vec_capacity p.carried) p.hands p.carries)
+
+pub invariant_of-port-clause-boxes : goal.invariant_of-port-clause-boxes
+invariant_of-port-clause-boxes c = let p = c.bring_cell.new.port in let e = knows p in
+    let k = c.args.cell.now.number in let o = c.requires.owns in
+    let v = c.bring_cell.ensures.seat.1 in let left = rest p.seat.me.1 in
+    let low = subst (λ x. k < x)
+    ((λ t. sym o.2 t * sym o.3 t) ∙ (λ t. (sole (sym v t).entries).ranks
+    * (sole (sym v t).entries).each)) c.requires.in_hand.0 in
+    subst (λ (m : Knowing). HoldsBoxes (mine m) m.1) (sym c.exchange-old.ensures.3)
+    (boxes_exchanged e left k (None) _ low (subst (HoldsBoxes e) c.bring_cell.ensures.front p.boxes))
 
 pub returns-clause-emptied : goal.returns-clause-emptied
 returns-clause-emptied c = let p = c.bring_cell.new.port in let k = c.args.cell.now.number in

@@ -1,0 +1,383 @@
+use Rattle.std.proofs.Common.{◌≡◌, ℕ, suc, ◌+◌, ◌-◌, ◌*◌, ◌<◌, [], ◌∷◌, Some, None, IsSome, false}
+use Rattle.std.proofs.Common.{length, sym, refl, ap, ◌∙◌, subst, arith, length-set}
+use Rattle.std.specs.Prelude.{vec_capacity}
+use Rattle.atomic_table.specs.Table.{Allows, step, rest}
+use mathlib.Core.Option as maybe
+use Rattle.nm_seats.specs.Spoken.{view}
+use Rattle.nm_seats.specs.Update.{update}
+use Rattle.nm_cells.specs.declared.peers.Peer.{Peer}
+use Rattle.nm_cells.specs.Rule.{Load, Rule, from, emptying_of, sender, number}
+use Rattle.nm_cells.specs.Plays as plays
+use Rattle.nm_cells.specs.Plays.{mine, sole}
+use Rattle.nm_cells.specs.NextBox.{next_box}
+use Rattle.nm_cells.specs.Ports.{knows, taken_by}
+use Rattle.nm_cells.specs.Counted.{peer_in, all_unpassed}
+use Rattle.nm_cells.proofs.PortLemmas.{peer_low, peer_box_got}
+use Rattle.nm_cells.proofs.BoxStepLemmas.{empty_allowed}
+use Rattle.nm_cells.proofs.BoxCallLemmas as calls
+use Rattle.nm_cells.proofs.boxes.empty.Goals as goal
+
+some_one : (y : Load) (j : ℕ) → sender y ≡ suc j → IsSome y
+some_one (Some x) j e = refl
+some_one None j e = absurd (let z : 0 ≡ suc j = e in omega arith)
+
+pub bring_slot-requires : goal.bring_slot-requires
+bring_slot-requires g c =
+    let f = c.args.f.now in let p = c.args.port.now in let o = c.requires.owns in
+    let few = c.requires.peer in let j = c.args.sender in let k = c.requires.taking in
+    let place = ap (λ (u : Peer). u.box_got) c.peer.ensures ∙ peer_box_got p j
+    (calls.few f p o j few) in
+    let at = c.box_at-slot.ensures.at ∙ calls.in_slot_is f p o j few c.peer.result.box_got place in
+    let y : Load = plays.box_load j (knows p) in
+    let there = calls.box_there f p o j few false c.box_at-slot.result at y k.0 in
+    record { once = there.0 }
+
+pub store-requires : goal.store-requires
+store-requires g c =
+    let f = c.args.f.now in let p = c.args.port.now in let o = c.requires.owns in
+    let few = c.requires.peer in let j = c.args.sender in let k = c.requires.taking in
+    let place = ap (λ (u : Peer). u.box_got) c.peer.ensures ∙ peer_box_got p j
+    (calls.few f p o j few) in
+    let at = c.box_at-slot.ensures.at ∙ calls.in_slot_is f p o j few c.peer.result.box_got place in
+    let y : Load = plays.box_load j (knows p) in
+    let there = calls.box_there f p o j few false c.box_at-slot.result at y k.0 in
+    let q = c.bring_slot.new.port in let b = c.bring_slot.ensures in let v = b.seat.1 in
+    let o₂ = calls.brought_owns f p q b.seat.0 v b.same.0 o in
+    let at₂ = at ∙ ap (λ u. next_box (sole u.entries) false j) (sym v) in
+    let was = ap (λ u. emptying_of (sole u.entries) j) v ∙ k.0 in
+    let next : number y ≡ taken_by q j = k.1 ∙ ap (λ ps. (peer_in ps.items j).taken) (sym b.same.1)
+    in let slot = c.box_at-slot.result in let w = plays.load_in slot p.seat.me.1 in
+    let id = f.board.shared.table_id in let z₀ = f.sizes.0 in let low = c.box_at-slot.ensures.low in
+    let word : ℕ = 4 * f.ranks + slot in let inside : word < id.words = omega arith in
+    let none : Load = None in
+    let me : plays.Knowing = (q.seat.me.0, (slot, none) ∷ rest q.seat.me.1) in
+    let all = subst (plays.AllBelow (knows q) j) (sym next) (calls.all_below f q o₂ j few) in (
+      c.exchange-old.ensures.0 ∙ b.seat.0 ∙ o.0,
+      inside,
+      subst (λ m. Allows (Rule f.board.shared.key) id.slots c.exchange-old.new.seat.id m word
+          (λ _. 0) (plays.unboxed g.T.Told.peer (step id.slots word 0 0 maybe.none) m))
+          (sym c.exchange-old.ensures.3)
+          (subst (λ t. Allows (Rule f.board.shared.key) id.slots c.exchange-old.new.seat.id me word
+          (λ _. 0) (plays.unboxed t (step id.slots word 0 0 maybe.none) me)) c.requires.told
+          (empty_allowed f.board.shared.key f.ranks f.each id.slots c.exchange-old.new.seat.id me
+          q.alone f.shape.0 f.shape.1 p.rank (q.named ∙ b.same.0) o.1 j few c.peer.result.box_got
+          word y (rest q.seat.me.1) (ap (λ t. (t, none) ∷ rest q.seat.me.1)
+          c.box_at-slot.ensures.at)
+          (place ∙ ap (λ u. length (from j (sole u.entries).got_box)) (sym v))
+          (ap (λ u. 4 * f.ranks + u) c.box_at-slot.ensures.at) was all)),
+    )
+
+pub count_unboxed-requires-clause-sender : goal.count_unboxed-requires-clause-sender
+count_unboxed-requires-clause-sender g c =
+    let f = c.args.f.now in let p = c.args.port.now in let o = c.requires.owns in
+    let few = c.requires.peer in let j = c.args.sender in let k = c.requires.taking in
+    let place = ap (λ (u : Peer). u.box_got) c.peer.ensures ∙ peer_box_got p j
+    (calls.few f p o j few) in
+    let at = c.box_at-slot.ensures.at ∙ calls.in_slot_is f p o j few c.peer.result.box_got place in
+    let y : Load = plays.box_load j (knows p) in
+    let there = calls.box_there f p o j few false c.box_at-slot.result at y k.0 in
+    let q = c.bring_slot.new.port in let b = c.bring_slot.ensures in let v = b.seat.1 in
+    let o₂ = calls.brought_owns f p q b.seat.0 v b.same.0 o in
+    let at₂ = at ∙ ap (λ u. next_box (sole u.entries) false j) (sym v) in
+    let was = ap (λ u. emptying_of (sole u.entries) j) v ∙ k.0 in
+    let next : number y ≡ taken_by q j = k.1 ∙ ap (λ ps. (peer_in ps.items j).taken) (sym b.same.1)
+    in let slot = c.box_at-slot.result in let w = plays.load_in slot p.seat.me.1 in
+    peer_low q j (calls.few f q o₂ j few)
+
+pub count_unboxed-requires-clause-room : goal.count_unboxed-requires-clause-room
+count_unboxed-requires-clause-room g c =
+    let f = c.args.f.now in let p = c.args.port.now in let o = c.requires.owns in
+    let few = c.requires.peer in let j = c.args.sender in let k = c.requires.taking in
+    let place = ap (λ (u : Peer). u.box_got) c.peer.ensures ∙ peer_box_got p j
+    (calls.few f p o j few) in
+    let at = c.box_at-slot.ensures.at ∙ calls.in_slot_is f p o j few c.peer.result.box_got place in
+    let y : Load = plays.box_load j (knows p) in
+    let there = calls.box_there f p o j few false c.box_at-slot.result at y k.0 in
+    let q = c.bring_slot.new.port in let b = c.bring_slot.ensures in let v = b.seat.1 in
+    let o₂ = calls.brought_owns f p q b.seat.0 v b.same.0 o in
+    let at₂ = at ∙ ap (λ u. next_box (sole u.entries) false j) (sym v) in
+    let was = ap (λ u. emptying_of (sole u.entries) j) v ∙ k.0 in
+    let next : number y ≡ taken_by q j = k.1 ∙ ap (λ ps. (peer_in ps.items j).taken) (sym b.same.1)
+    in let slot = c.box_at-slot.result in let w = plays.load_in slot p.seat.me.1 in
+    (calls.got_room f q o₂ j few y next).0
+
+pub count_unboxed-requires-clause-box_room : goal.count_unboxed-requires-clause-box_room
+count_unboxed-requires-clause-box_room g c =
+    let f = c.args.f.now in let p = c.args.port.now in let o = c.requires.owns in
+    let few = c.requires.peer in let j = c.args.sender in let k = c.requires.taking in
+    let place = ap (λ (u : Peer). u.box_got) c.peer.ensures ∙ peer_box_got p j
+    (calls.few f p o j few) in
+    let at = c.box_at-slot.ensures.at ∙ calls.in_slot_is f p o j few c.peer.result.box_got place in
+    let y : Load = plays.box_load j (knows p) in
+    let there = calls.box_there f p o j few false c.box_at-slot.result at y k.0 in
+    let q = c.bring_slot.new.port in let b = c.bring_slot.ensures in let v = b.seat.1 in
+    let o₂ = calls.brought_owns f p q b.seat.0 v b.same.0 o in
+    let at₂ = at ∙ ap (λ u. next_box (sole u.entries) false j) (sym v) in
+    let was = ap (λ u. emptying_of (sole u.entries) j) v ∙ k.0 in
+    let next : number y ≡ taken_by q j = k.1 ∙ ap (λ ps. (peer_in ps.items j).taken) (sym b.same.1)
+    in let slot = c.box_at-slot.result in let w = plays.load_in slot p.seat.me.1 in
+    (calls.got_room f q o₂ j few y next).1
+
+pub unwrap-requires : goal.unwrap-requires
+unwrap-requires g c =
+    let f = c.args.f.now in let p = c.args.port.now in let o = c.requires.owns in
+    let few = c.requires.peer in let j = c.args.sender in let k = c.requires.taking in
+    let place = ap (λ (u : Peer). u.box_got) c.peer.ensures ∙ peer_box_got p j
+    (calls.few f p o j few) in
+    let at = c.box_at-slot.ensures.at ∙ calls.in_slot_is f p o j few c.peer.result.box_got place in
+    let y : Load = plays.box_load j (knows p) in
+    let there = calls.box_there f p o j few false c.box_at-slot.result at y k.0 in
+    let same = ap plays.first_load (sym c.exchange-old.ensures.2 ∙ c.bring_slot.ensures.front)
+    ∙ there.1 in subst IsSome (sym same) (some_one y j k.2)
+
+pub invariant_of-port-clause-carries : goal.invariant_of-port-clause-carries
+invariant_of-port-clause-carries g c =
+    let f = c.args.f.now in let p = c.args.port.now in let o = c.requires.owns in
+    let few = c.requires.peer in let j = c.args.sender in let k = c.requires.taking in
+    let place = ap (λ (u : Peer). u.box_got) c.peer.ensures ∙ peer_box_got p j
+    (calls.few f p o j few) in
+    let at = c.box_at-slot.ensures.at ∙ calls.in_slot_is f p o j few c.peer.result.box_got place in
+    let y : Load = plays.box_load j (knows p) in
+    let there = calls.box_there f p o j few false c.box_at-slot.result at y k.0 in
+    let q = c.bring_slot.new.port in let b = c.bring_slot.ensures in let v = b.seat.1 in
+    let o₂ = calls.brought_owns f p q b.seat.0 v b.same.0 o in
+    let at₂ = at ∙ ap (λ u. next_box (sole u.entries) false j) (sym v) in
+    let was = ap (λ u. emptying_of (sole u.entries) j) v ∙ k.0 in
+    let next : number y ≡ taken_by q j = k.1 ∙ ap (λ ps. (peer_in ps.items j).taken) (sym b.same.1)
+    in let slot = c.box_at-slot.result in let w = plays.load_in slot p.seat.me.1 in
+    let then = subst (λ t. plays.unboxed t (step f.board.shared.table_id.slots
+    (4 * f.ranks + slot) 0 0 maybe.none) c.exchange-old.new.seat.me 0 c.store.new.seat.me)
+    (sym c.requires.told) c.store.ensures.2 in
+    let load : plays.box_load j (mine c.exchange-old.new.seat.me) ≡ y =
+    ap (λ m. plays.box_load j (mine m)) c.exchange-old.ensures.3
+    ∙ ap (λ u. plays.box_load j (sole u.entries)) v in
+    let is = then.0 ∙ (λ i. (
+      view (plays.with_got_box (load i ∷ [])
+          (plays.with_emptying j None (mine (c.exchange-old.ensures.3 i))) ∷ []),
+      rest (c.exchange-old.ensures.3 i).1,
+    )) in
+    let new = subst (λ (m : plays.Knowing). ¬ plays.Came (mine m) j (number y))
+    c.exchange-old.ensures.3
+    (subst (λ u. ¬ plays.Came (mine c.exchange-old.new.seat.me) j (number u)) load then.1) in
+    let some = calls.emptied_hands f q o₂ j few c.store.new.seat.me slot w b.front y at₂ was is in
+    calls.emptied_carries f q o₂ j few c.store.new.seat.me slot w b.front y at₂ was is c.remove.new.self.items (vec_capacity c.remove.new.self)
+    (q.hands - 1) c.remove.ensures.items c.remove.ensures.capacity
+    (let z : (q.hands - 1) + 1 ≡ q.hands = omega arith in z)
+
+pub invariant_of-port-clause-boxes : goal.invariant_of-port-clause-boxes
+invariant_of-port-clause-boxes g c =
+    let f = c.args.f.now in let p = c.args.port.now in let o = c.requires.owns in
+    let few = c.requires.peer in let j = c.args.sender in let k = c.requires.taking in
+    let place = ap (λ (u : Peer). u.box_got) c.peer.ensures ∙ peer_box_got p j
+    (calls.few f p o j few) in
+    let at = c.box_at-slot.ensures.at ∙ calls.in_slot_is f p o j few c.peer.result.box_got place in
+    let y : Load = plays.box_load j (knows p) in
+    let there = calls.box_there f p o j few false c.box_at-slot.result at y k.0 in
+    let q = c.bring_slot.new.port in let b = c.bring_slot.ensures in let v = b.seat.1 in
+    let o₂ = calls.brought_owns f p q b.seat.0 v b.same.0 o in
+    let at₂ = at ∙ ap (λ u. next_box (sole u.entries) false j) (sym v) in
+    let was = ap (λ u. emptying_of (sole u.entries) j) v ∙ k.0 in
+    let next : number y ≡ taken_by q j = k.1 ∙ ap (λ ps. (peer_in ps.items j).taken) (sym b.same.1)
+    in let slot = c.box_at-slot.result in let w = plays.load_in slot p.seat.me.1 in
+    let then = subst (λ t. plays.unboxed t (step f.board.shared.table_id.slots
+    (4 * f.ranks + slot) 0 0 maybe.none) c.exchange-old.new.seat.me 0 c.store.new.seat.me)
+    (sym c.requires.told) c.store.ensures.2 in
+    let load : plays.box_load j (mine c.exchange-old.new.seat.me) ≡ y =
+    ap (λ m. plays.box_load j (mine m)) c.exchange-old.ensures.3
+    ∙ ap (λ u. plays.box_load j (sole u.entries)) v in
+    let is = then.0 ∙ (λ i. (
+      view (plays.with_got_box (load i ∷ [])
+          (plays.with_emptying j None (mine (c.exchange-old.ensures.3 i))) ∷ []),
+      rest (c.exchange-old.ensures.3 i).1,
+    )) in
+    let new = subst (λ (m : plays.Knowing). ¬ plays.Came (mine m) j (number y))
+    c.exchange-old.ensures.3
+    (subst (λ u. ¬ plays.Came (mine c.exchange-old.new.seat.me) j (number u)) load then.1) in
+    calls.emptied_boxes f q o₂ j few c.store.new.seat.me slot w b.front y at₂ was is k.2
+
+pub invariant_of-port-clause-counts : goal.invariant_of-port-clause-counts
+invariant_of-port-clause-counts g c =
+    let f = c.args.f.now in let p = c.args.port.now in let o = c.requires.owns in
+    let few = c.requires.peer in let j = c.args.sender in let k = c.requires.taking in
+    let place = ap (λ (u : Peer). u.box_got) c.peer.ensures ∙ peer_box_got p j
+    (calls.few f p o j few) in
+    let at = c.box_at-slot.ensures.at ∙ calls.in_slot_is f p o j few c.peer.result.box_got place in
+    let y : Load = plays.box_load j (knows p) in
+    let there = calls.box_there f p o j few false c.box_at-slot.result at y k.0 in
+    let q = c.bring_slot.new.port in let b = c.bring_slot.ensures in let v = b.seat.1 in
+    let o₂ = calls.brought_owns f p q b.seat.0 v b.same.0 o in
+    let at₂ = at ∙ ap (λ u. next_box (sole u.entries) false j) (sym v) in
+    let was = ap (λ u. emptying_of (sole u.entries) j) v ∙ k.0 in
+    let next : number y ≡ taken_by q j = k.1 ∙ ap (λ ps. (peer_in ps.items j).taken) (sym b.same.1)
+    in let slot = c.box_at-slot.result in let w = plays.load_in slot p.seat.me.1 in
+    let then = subst (λ t. plays.unboxed t (step f.board.shared.table_id.slots
+    (4 * f.ranks + slot) 0 0 maybe.none) c.exchange-old.new.seat.me 0 c.store.new.seat.me)
+    (sym c.requires.told) c.store.ensures.2 in
+    let load : plays.box_load j (mine c.exchange-old.new.seat.me) ≡ y =
+    ap (λ m. plays.box_load j (mine m)) c.exchange-old.ensures.3
+    ∙ ap (λ u. plays.box_load j (sole u.entries)) v in
+    let is = then.0 ∙ (λ i. (
+      view (plays.with_got_box (load i ∷ [])
+          (plays.with_emptying j None (mine (c.exchange-old.ensures.3 i))) ∷ []),
+      rest (c.exchange-old.ensures.3 i).1,
+    )) in
+    let new = subst (λ (m : plays.Knowing). ¬ plays.Came (mine m) j (number y))
+    c.exchange-old.ensures.3
+    (subst (λ u. ¬ plays.Came (mine c.exchange-old.new.seat.me) j (number u)) load then.1) in
+    calls.emptied_counts f q o₂ j few c.store.new.seat.me slot w b.front y at₂ was is k.2 next new c.count_unboxed.new.peers.items c.count_unboxed.ensures
+
+pub returns-clause-owns : goal.returns-clause-owns
+returns-clause-owns g c =
+    let f = c.args.f.now in let p = c.args.port.now in let o = c.requires.owns in
+    let few = c.requires.peer in let j = c.args.sender in let k = c.requires.taking in
+    let place = ap (λ (u : Peer). u.box_got) c.peer.ensures ∙ peer_box_got p j
+    (calls.few f p o j few) in
+    let at = c.box_at-slot.ensures.at ∙ calls.in_slot_is f p o j few c.peer.result.box_got place in
+    let y : Load = plays.box_load j (knows p) in
+    let there = calls.box_there f p o j few false c.box_at-slot.result at y k.0 in
+    let q = c.bring_slot.new.port in let b = c.bring_slot.ensures in let v = b.seat.1 in
+    let o₂ = calls.brought_owns f p q b.seat.0 v b.same.0 o in
+    let at₂ = at ∙ ap (λ u. next_box (sole u.entries) false j) (sym v) in
+    let was = ap (λ u. emptying_of (sole u.entries) j) v ∙ k.0 in
+    let next : number y ≡ taken_by q j = k.1 ∙ ap (λ ps. (peer_in ps.items j).taken) (sym b.same.1)
+    in let slot = c.box_at-slot.result in let w = plays.load_in slot p.seat.me.1 in
+    let then = subst (λ t. plays.unboxed t (step f.board.shared.table_id.slots
+    (4 * f.ranks + slot) 0 0 maybe.none) c.exchange-old.new.seat.me 0 c.store.new.seat.me)
+    (sym c.requires.told) c.store.ensures.2 in
+    let load : plays.box_load j (mine c.exchange-old.new.seat.me) ≡ y =
+    ap (λ m. plays.box_load j (mine m)) c.exchange-old.ensures.3
+    ∙ ap (λ u. plays.box_load j (sole u.entries)) v in
+    let is = then.0 ∙ (λ i. (
+      view (plays.with_got_box (load i ∷ [])
+          (plays.with_emptying j None (mine (c.exchange-old.ensures.3 i))) ∷ []),
+      rest (c.exchange-old.ensures.3 i).1,
+    )) in
+    let new = subst (λ (m : plays.Knowing). ¬ plays.Came (mine m) j (number y))
+    c.exchange-old.ensures.3
+    (subst (λ u. ¬ plays.Came (mine c.exchange-old.new.seat.me) j (number u)) load then.1) in (
+      calls.owns_then f q o₂ j few (c.store.ensures.0 ∙ c.exchange-old.ensures.0 ∙ b.seat.0 ∙ o.0)
+          c.store.new.seat.me
+          (ap (λ m. (mine m).ranks) is) (ap (λ m. (mine m).each) is)
+          (ap (λ m. length (mine m).hands) is)
+          (ap (λ m. length (mine m).filling) is)
+          (ap (λ m. length (mine m).emptying) is ∙ length-set (knows q).emptying j None),
+      b.same.0,
+      b.same.4,
+    )
+
+pub returns-clause-packet : goal.returns-clause-packet
+returns-clause-packet g c =
+    let f = c.args.f.now in let p = c.args.port.now in let o = c.requires.owns in
+    let few = c.requires.peer in let j = c.args.sender in let k = c.requires.taking in
+    let place = ap (λ (u : Peer). u.box_got) c.peer.ensures ∙ peer_box_got p j
+    (calls.few f p o j few) in
+    let at = c.box_at-slot.ensures.at ∙ calls.in_slot_is f p o j few c.peer.result.box_got place in
+    let y : Load = plays.box_load j (knows p) in
+    let there = calls.box_there f p o j few false c.box_at-slot.result at y k.0 in
+    let same = ap plays.first_load (sym c.exchange-old.ensures.2 ∙ c.bring_slot.ensures.front)
+    ∙ there.1 in sym c.unwrap.ensures ∙ same
+
+pub returns-clause-got : goal.returns-clause-got
+returns-clause-got g c =
+    let f = c.args.f.now in let p = c.args.port.now in let o = c.requires.owns in
+    let few = c.requires.peer in let j = c.args.sender in let k = c.requires.taking in
+    let place = ap (λ (u : Peer). u.box_got) c.peer.ensures ∙ peer_box_got p j
+    (calls.few f p o j few) in
+    let at = c.box_at-slot.ensures.at ∙ calls.in_slot_is f p o j few c.peer.result.box_got place in
+    let y : Load = plays.box_load j (knows p) in
+    let there = calls.box_there f p o j few false c.box_at-slot.result at y k.0 in
+    let q = c.bring_slot.new.port in let b = c.bring_slot.ensures in let v = b.seat.1 in
+    let o₂ = calls.brought_owns f p q b.seat.0 v b.same.0 o in
+    let at₂ = at ∙ ap (λ u. next_box (sole u.entries) false j) (sym v) in
+    let was = ap (λ u. emptying_of (sole u.entries) j) v ∙ k.0 in
+    let next : number y ≡ taken_by q j = k.1 ∙ ap (λ ps. (peer_in ps.items j).taken) (sym b.same.1)
+    in let slot = c.box_at-slot.result in let w = plays.load_in slot p.seat.me.1 in
+    let then = subst (λ t. plays.unboxed t (step f.board.shared.table_id.slots
+    (4 * f.ranks + slot) 0 0 maybe.none) c.exchange-old.new.seat.me 0 c.store.new.seat.me)
+    (sym c.requires.told) c.store.ensures.2 in
+    let load : plays.box_load j (mine c.exchange-old.new.seat.me) ≡ y =
+    ap (λ m. plays.box_load j (mine m)) c.exchange-old.ensures.3
+    ∙ ap (λ u. plays.box_load j (sole u.entries)) v in
+    let is = then.0 ∙ (λ i. (
+      view (plays.with_got_box (load i ∷ [])
+          (plays.with_emptying j None (mine (c.exchange-old.ensures.3 i))) ∷ []),
+      rest (c.exchange-old.ensures.3 i).1,
+    )) in
+    let new = subst (λ (m : plays.Knowing). ¬ plays.Came (mine m) j (number y))
+    c.exchange-old.ensures.3
+    (subst (λ u. ¬ plays.Came (mine c.exchange-old.new.seat.me) j (number u)) load then.1) in
+    let same = ap plays.first_load (sym c.exchange-old.ensures.2 ∙ c.bring_slot.ensures.front)
+    ∙ there.1 in let packet = sym c.unwrap.ensures ∙ same in
+    ap mine is ∙ (λ i. plays.with_got_box (sym packet i ∷ [])
+    (plays.with_emptying j None (sole (v i).entries)))
+
+pub returns-clause-taken : goal.returns-clause-taken
+returns-clause-taken g c =
+    let f = c.args.f.now in let p = c.args.port.now in let o = c.requires.owns in
+    let few = c.requires.peer in let j = c.args.sender in let k = c.requires.taking in
+    let place = ap (λ (u : Peer). u.box_got) c.peer.ensures ∙ peer_box_got p j
+    (calls.few f p o j few) in
+    let at = c.box_at-slot.ensures.at ∙ calls.in_slot_is f p o j few c.peer.result.box_got place in
+    let y : Load = plays.box_load j (knows p) in
+    let there = calls.box_there f p o j few false c.box_at-slot.result at y k.0 in
+    let q = c.bring_slot.new.port in let b = c.bring_slot.ensures in let v = b.seat.1 in
+    let o₂ = calls.brought_owns f p q b.seat.0 v b.same.0 o in
+    let at₂ = at ∙ ap (λ u. next_box (sole u.entries) false j) (sym v) in
+    let was = ap (λ u. emptying_of (sole u.entries) j) v ∙ k.0 in
+    let next : number y ≡ taken_by q j = k.1 ∙ ap (λ ps. (peer_in ps.items j).taken) (sym b.same.1)
+    in let slot = c.box_at-slot.result in let w = plays.load_in slot p.seat.me.1 in
+    let t = calls.unboxed_taken j q.peers.items (peer_low q j (calls.few f q o₂ j few)) in
+    (λ i u. (ap (λ l. (peer_in l u).taken) c.count_unboxed.ensures ∙ t u) i)
+    ∙ ap (λ ps. update (λ u. (peer_in ps.items u).taken) j ((peer_in ps.items j).taken + 1)) b.same.1
+
+pub returns-clause-others : goal.returns-clause-others
+returns-clause-others g c =
+    let f = c.args.f.now in let p = c.args.port.now in let o = c.requires.owns in
+    let few = c.requires.peer in let j = c.args.sender in let k = c.requires.taking in
+    let place = ap (λ (u : Peer). u.box_got) c.peer.ensures ∙ peer_box_got p j
+    (calls.few f p o j few) in
+    let at = c.box_at-slot.ensures.at ∙ calls.in_slot_is f p o j few c.peer.result.box_got place in
+    let y : Load = plays.box_load j (knows p) in
+    let there = calls.box_there f p o j few false c.box_at-slot.result at y k.0 in
+    let q = c.bring_slot.new.port in let b = c.bring_slot.ensures in let v = b.seat.1 in
+    let o₂ = calls.brought_owns f p q b.seat.0 v b.same.0 o in
+    let at₂ = at ∙ ap (λ u. next_box (sole u.entries) false j) (sym v) in
+    let was = ap (λ u. emptying_of (sole u.entries) j) v ∙ k.0 in
+    let next : number y ≡ taken_by q j = k.1 ∙ ap (λ ps. (peer_in ps.items j).taken) (sym b.same.1)
+    in let slot = c.box_at-slot.result in let w = plays.load_in slot p.seat.me.1 in (
+      b.same.2,
+      ap all_unpassed c.count_unboxed.ensures
+          ∙ calls.unboxed_unpassed j q.peers.items (peer_low q j (calls.few f q o₂ j few))
+          ∙ ap (λ ps. all_unpassed ps.items) b.same.1,
+    )
+
+pub returns-clause-holding : goal.returns-clause-holding
+returns-clause-holding g c =
+    let f = c.args.f.now in let p = c.args.port.now in let o = c.requires.owns in
+    let few = c.requires.peer in let j = c.args.sender in let k = c.requires.taking in
+    let place = ap (λ (u : Peer). u.box_got) c.peer.ensures ∙ peer_box_got p j
+    (calls.few f p o j few) in
+    let at = c.box_at-slot.ensures.at ∙ calls.in_slot_is f p o j few c.peer.result.box_got place in
+    let y : Load = plays.box_load j (knows p) in
+    let there = calls.box_there f p o j few false c.box_at-slot.result at y k.0 in
+    let q = c.bring_slot.new.port in let b = c.bring_slot.ensures in let v = b.seat.1 in
+    let o₂ = calls.brought_owns f p q b.seat.0 v b.same.0 o in
+    let at₂ = at ∙ ap (λ u. next_box (sole u.entries) false j) (sym v) in
+    let was = ap (λ u. emptying_of (sole u.entries) j) v ∙ k.0 in
+    let next : number y ≡ taken_by q j = k.1 ∙ ap (λ ps. (peer_in ps.items j).taken) (sym b.same.1)
+    in let slot = c.box_at-slot.result in let w = plays.load_in slot p.seat.me.1 in
+    let then = subst (λ t. plays.unboxed t (step f.board.shared.table_id.slots
+    (4 * f.ranks + slot) 0 0 maybe.none) c.exchange-old.new.seat.me 0 c.store.new.seat.me)
+    (sym c.requires.told) c.store.ensures.2 in
+    let load : plays.box_load j (mine c.exchange-old.new.seat.me) ≡ y =
+    ap (λ m. plays.box_load j (mine m)) c.exchange-old.ensures.3
+    ∙ ap (λ u. plays.box_load j (sole u.entries)) v in
+    let is = then.0 ∙ (λ i. (
+      view (plays.with_got_box (load i ∷ [])
+          (plays.with_emptying j None (mine (c.exchange-old.ensures.3 i))) ∷ []),
+      rest (c.exchange-old.ensures.3 i).1,
+    )) in
+    let new = subst (λ (m : plays.Knowing). ¬ plays.Came (mine m) j (number y))
+    c.exchange-old.ensures.3
+    (subst (λ u. ¬ plays.Came (mine c.exchange-old.new.seat.me) j (number u)) load then.1) in
+    calls.emptied_holds f q o₂ j few c.store.new.seat.me slot w b.front y at₂ was is ∙ b.holding

@@ -1,0 +1,287 @@
+use Rattle.std.proofs.Common.{◌≡◌, ℕ, suc, ◌+◌, ◌-◌, ◌*◌, ◌<◌, Some, length, sym}
+use Rattle.std.proofs.Common.{refl, ap, ◌∙◌, subst, arith, length-set}
+use Rattle.std.specs.Prelude.{vec_capacity}
+use Rattle.atomic_table.specs.Table.{Allows, step}
+use mathlib.Core.Option as maybe
+use Rattle.nm_cells.specs.declared.peers.Peer.{Peer}
+use Rattle.nm_cells.specs.Rule.{Rule}
+use Rattle.nm_cells.specs.Plays as plays
+use Rattle.nm_cells.specs.Plays.{mine}
+use Rattle.nm_cells.specs.Ports.{knows, taken_by}
+use Rattle.nm_cells.specs.AtWork.{HoldsBoxes}
+use Rattle.nm_cells.specs.Counted.{peer_in, all_unpassed, one_miss, one_begun}
+use Rattle.nm_cells.proofs.PortLemmas.{CarriesFor, peer_low, peer_box_got}
+use Rattle.nm_cells.proofs.BoxStepLemmas.{look_in_allowed}
+use Rattle.nm_cells.proofs.BoxCallLemmas as calls
+use Rattle.nm_cells.proofs.boxes.look_in.Goals as goal
+
+pub load-found-requires : goal.load-found-requires
+load-found-requires g c = let f = c.args.f.now in let p = c.args.port.now in
+    let id = f.board.shared.table_id in let z₀ = f.sizes.0 in let b = c.box_at-slot.ensures in
+    let l = b.low in let few = c.requires.peer in let o = c.requires.owns in
+    let word : ℕ = 4 * f.ranks + c.box_at-slot.result in let low : word < id.words = omega arith in
+    let place = c.peer-peer.result.box_got in let j = c.args.sender in
+    let at = ap (λ (u : Peer). u.box_got) c.peer-peer.ensures ∙ peer_box_got p j
+    (calls.few f p o j few) in (
+      o.0,
+      low,
+      subst (λ t. Allows (Rule f.board.shared.key) id.slots p.seat.id p.seat.me word (λ u. u)
+          (plays.looked_in t g.T.Told.awaited (step id.slots word 0 0 maybe.none) p.seat.me))
+          c.requires.told.0
+          (subst (λ a. Allows (Rule f.board.shared.key) id.slots p.seat.id p.seat.me word (λ u. u)
+          (plays.looked_in j a (step id.slots word 0 0 maybe.none) p.seat.me)) c.requires.told.1
+          (look_in_allowed f.board.shared.key f.ranks f.each id.slots p.seat.id p.seat.me p.alone
+          f.shape.0 f.shape.1 p.rank p.named o.1 j few place word (taken_by p j) at
+          (ap (λ k. 4 * f.ranks + k) b.at))),
+    )
+
+pub overflow_add-peer : goal.overflow_add-peer
+overflow_add-peer g c = let f = c.args.f.now in let p = c.args.port.now in let j = c.args.sender in
+    let same = ap (λ (u : Peer). u.taken) c.peer-peer.ensures in
+    let small = calls.taken_small f p c.requires.owns j c.requires.peer in omega arith
+
+pub count_miss-requires : goal.count_miss-requires
+count_miss-requires g c = let p = c.args.port.now in record {
+  sender = peer_low p c.args.sender (calls.few c.args.f.now p c.requires.owns c.args.sender
+      c.requires.peer);
+}
+
+pub invariant_of-port-clause-carries : goal.invariant_of-port-clause-carries
+invariant_of-port-clause-carries g c =
+    let f = c.args.f.now in let p = c.args.port.now in let o = c.requires.owns in
+    let few = c.requires.peer in let j = c.args.sender in let t = c.requires.told in
+    let then = subst (λ k. plays.looked_in k (taken_by p j) (step f.board.shared.table_id.slots
+    (4 * f.ranks + c.box_at-slot.result) 0 0 maybe.none) p.seat.me c.load-found.result
+    c.load-found.new.seat.me) (sym t.0)
+    (subst (λ a. plays.looked_in g.T.Told.peer a (step f.board.shared.table_id.slots
+    (4 * f.ranks + c.box_at-slot.result) 0 0 maybe.none) p.seat.me c.load-found.result
+    c.load-found.new.seat.me) (sym t.1) c.load-found.ensures.2) in
+    let same = ap (λ (u : Peer). u.taken) c.peer-peer.ensures in
+    let other = c.if-found-peer.true in
+    let is = then.1 (λ hit. other (let z : c.load-found.result ≡ c.peer-peer.result.taken + 1 =
+    omega arith in z)) in
+    subst (λ m. CarriesFor m p.carried.items (vec_capacity p.carried) p.hands) (sym is) p.carries
+
+pub invariant_of-port-clause-boxes : goal.invariant_of-port-clause-boxes
+invariant_of-port-clause-boxes g c =
+    let f = c.args.f.now in let p = c.args.port.now in let o = c.requires.owns in
+    let few = c.requires.peer in let j = c.args.sender in let t = c.requires.told in
+    let then = subst (λ k. plays.looked_in k (taken_by p j) (step f.board.shared.table_id.slots
+    (4 * f.ranks + c.box_at-slot.result) 0 0 maybe.none) p.seat.me c.load-found.result
+    c.load-found.new.seat.me) (sym t.0)
+    (subst (λ a. plays.looked_in g.T.Told.peer a (step f.board.shared.table_id.slots
+    (4 * f.ranks + c.box_at-slot.result) 0 0 maybe.none) p.seat.me c.load-found.result
+    c.load-found.new.seat.me) (sym t.1) c.load-found.ensures.2) in
+    let same = ap (λ (u : Peer). u.taken) c.peer-peer.ensures in
+    let other = c.if-found-peer.true in
+    let is = then.1 (λ hit. other (let z : c.load-found.result ≡ c.peer-peer.result.taken + 1 =
+    omega arith in z)) in
+    subst (λ (m : plays.Knowing). HoldsBoxes (mine m) m.1) (sym is) p.boxes
+
+pub invariant_of-port-clause-counts : goal.invariant_of-port-clause-counts
+invariant_of-port-clause-counts g c =
+    let f = c.args.f.now in let p = c.args.port.now in let o = c.requires.owns in
+    let few = c.requires.peer in let j = c.args.sender in let t = c.requires.told in
+    let then = subst (λ k. plays.looked_in k (taken_by p j) (step f.board.shared.table_id.slots
+    (4 * f.ranks + c.box_at-slot.result) 0 0 maybe.none) p.seat.me c.load-found.result
+    c.load-found.new.seat.me) (sym t.0)
+    (subst (λ a. plays.looked_in g.T.Told.peer a (step f.board.shared.table_id.slots
+    (4 * f.ranks + c.box_at-slot.result) 0 0 maybe.none) p.seat.me c.load-found.result
+    c.load-found.new.seat.me) (sym t.1) c.load-found.ensures.2) in
+    let same = ap (λ (u : Peer). u.taken) c.peer-peer.ensures in
+    let other = c.if-found-peer.true in
+    let is = then.1 (λ hit. other (let z : c.load-found.result ≡ c.peer-peer.result.taken + 1 =
+    omega arith in z)) in
+    calls.miss_counts f p o j few c.load-found.new.seat.me c.box_at-slot.result is
+    c.count_miss.new.peers.items c.count_miss.ensures
+
+pub returns-then-found-peer-clause-stays : goal.returns-then-found-peer-clause-stays
+returns-then-found-peer-clause-stays g c =
+    let f = c.args.f.now in let p = c.args.port.now in let o = c.requires.owns in
+    let few = c.requires.peer in let j = c.args.sender in let t = c.requires.told in
+    let then = subst (λ k. plays.looked_in k (taken_by p j) (step f.board.shared.table_id.slots
+    (4 * f.ranks + c.box_at-slot.result) 0 0 maybe.none) p.seat.me c.load-found.result
+    c.load-found.new.seat.me) (sym t.0)
+    (subst (λ a. plays.looked_in g.T.Told.peer a (step f.board.shared.table_id.slots
+    (4 * f.ranks + c.box_at-slot.result) 0 0 maybe.none) p.seat.me c.load-found.result
+    c.load-found.new.seat.me) (sym t.1) c.load-found.ensures.2) in
+    let same = ap (λ (u : Peer). u.taken) c.peer-peer.ensures in
+    let other = c.if-found-peer.true in
+    let is = then.1 (λ hit. other (let z : c.load-found.result ≡ c.peer-peer.result.taken + 1 =
+    omega arith in z)) in
+    let s = calls.peers_stay one_miss j p.peers.items
+    (peer_low p j (calls.few f p o j few)) (λ u. refl) (λ u. refl) in (
+      calls.owns_then f p o j few (c.load-found.ensures.0 ∙ o.0)
+          c.load-found.new.seat.me
+          (ap (λ m. (mine m).ranks) is) (ap (λ m. (mine m).each) is)
+          (ap (λ m. length (mine m).hands) is) (ap (λ m. length (mine m).filling) is)
+          (ap (λ m. length (mine m).emptying) is),
+      refl,
+      (
+        (λ i k. (ap (λ l. (peer_in l k).taken) c.count_miss.ensures ∙ s.0 k) i),
+        refl,
+        ap all_unpassed c.count_miss.ensures ∙ s.1,
+      ),
+      refl,
+    )
+
+pub returns-then-found-peer-clause-overtaken : goal.returns-then-found-peer-clause-overtaken
+returns-then-found-peer-clause-overtaken g c over =
+    let f = c.args.f.now in let p = c.args.port.now in let o = c.requires.owns in
+    let few = c.requires.peer in let j = c.args.sender in let t = c.requires.told in
+    let then = subst (λ k. plays.looked_in k (taken_by p j) (step f.board.shared.table_id.slots
+    (4 * f.ranks + c.box_at-slot.result) 0 0 maybe.none) p.seat.me c.load-found.result
+    c.load-found.new.seat.me) (sym t.0)
+    (subst (λ a. plays.looked_in g.T.Told.peer a (step f.board.shared.table_id.slots
+    (4 * f.ranks + c.box_at-slot.result) 0 0 maybe.none) p.seat.me c.load-found.result
+    c.load-found.new.seat.me) (sym t.1) c.load-found.ensures.2) in
+    let same = ap (λ (u : Peer). u.taken) c.peer-peer.ensures in
+    let other = c.if-found-peer.true in
+    let hit = calls.when_overtaken f p o j few c.load-found.result then.2 over in
+    absurd (other (let z : c.load-found.result ≡ c.peer-peer.result.taken + 1 = omega arith in z))
+
+pub take_box-requires : goal.take_box-requires
+take_box-requires g c =
+    let f = c.args.f.now in let p = c.args.port.now in let o = c.requires.owns in
+    let few = c.requires.peer in let j = c.args.sender in let t = c.requires.told in
+    let then = subst (λ k. plays.looked_in k (taken_by p j) (step f.board.shared.table_id.slots
+    (4 * f.ranks + c.box_at-slot.result) 0 0 maybe.none) p.seat.me c.load-found.result
+    c.load-found.new.seat.me) (sym t.0)
+    (subst (λ a. plays.looked_in g.T.Told.peer a (step f.board.shared.table_id.slots
+    (4 * f.ranks + c.box_at-slot.result) 0 0 maybe.none) p.seat.me c.load-found.result
+    c.load-found.new.seat.me) (sym t.1) c.load-found.ensures.2) in
+    let same = ap (λ (u : Peer). u.taken) c.peer-peer.ensures in
+    let found = c.if-found-peer.false in
+    let rs = o.2 in let word : ℕ = 4 * f.ranks + c.box_at-slot.result in
+    let back : word - 4 * (knows p).ranks ≡ c.box_at-slot.result = omega arith in
+    let place = ap (λ (u : Peer). u.box_got) c.peer-peer.ensures ∙ peer_box_got p j
+    (calls.few f p o j few) in
+    let at = c.box_at-slot.ensures.at ∙ calls.in_slot_is f p o j few
+    c.peer-peer.result.box_got place in
+    let told = subst (λ k. plays.Begun j (taken_by p j) k p.seat.me c.load-found.new.seat.me) back
+    (then.0 (let z : c.load-found.result ≡ suc (taken_by p j) = omega arith in z)) in
+    let was = sym (calls.is_emptying f p o j few)
+    ∙ sym (ap (λ (u : Peer). u.emptying) c.peer-peer.ensures) in
+    record {
+      room = calls.begun_room f p o j few c.load-found.new.seat.me c.box_at-slot.result (taken_by p j) at told c.peer-peer.result.emptying was;
+    }
+
+pub note_emptying-requires : goal.note_emptying-requires
+note_emptying-requires g c = let p = c.args.port.now in record {
+  sender = peer_low p c.args.sender (calls.few c.args.f.now p c.requires.owns c.args.sender
+      c.requires.peer);
+}
+
+pub invariant_of-port-2-clause-carries : goal.invariant_of-port-2-clause-carries
+invariant_of-port-2-clause-carries g c =
+    let f = c.args.f.now in let p = c.args.port.now in let o = c.requires.owns in
+    let few = c.requires.peer in let j = c.args.sender in let t = c.requires.told in
+    let then = subst (λ k. plays.looked_in k (taken_by p j) (step f.board.shared.table_id.slots
+    (4 * f.ranks + c.box_at-slot.result) 0 0 maybe.none) p.seat.me c.load-found.result
+    c.load-found.new.seat.me) (sym t.0)
+    (subst (λ a. plays.looked_in g.T.Told.peer a (step f.board.shared.table_id.slots
+    (4 * f.ranks + c.box_at-slot.result) 0 0 maybe.none) p.seat.me c.load-found.result
+    c.load-found.new.seat.me) (sym t.1) c.load-found.ensures.2) in
+    let same = ap (λ (u : Peer). u.taken) c.peer-peer.ensures in
+    let found = c.if-found-peer.false in
+    let rs = o.2 in let word : ℕ = 4 * f.ranks + c.box_at-slot.result in
+    let back : word - 4 * (knows p).ranks ≡ c.box_at-slot.result = omega arith in
+    let place = ap (λ (u : Peer). u.box_got) c.peer-peer.ensures ∙ peer_box_got p j
+    (calls.few f p o j few) in
+    let at = c.box_at-slot.ensures.at ∙ calls.in_slot_is f p o j few
+    c.peer-peer.result.box_got place in
+    let told = subst (λ k. plays.Begun j (taken_by p j) k p.seat.me c.load-found.new.seat.me) back
+    (then.0 (let z : c.load-found.result ≡ suc (taken_by p j) = omega arith in z)) in
+    let was = sym (calls.is_emptying f p o j few)
+    ∙ sym (ap (λ (u : Peer). u.emptying) c.peer-peer.ensures) in
+    calls.begun_carries f p o j few c.load-found.new.seat.me c.box_at-slot.result (taken_by p j) at told c.peer-peer.result.emptying was
+    c.take_box.new.carried.items (vec_capacity c.take_box.new.carried) c.take_box.new.hands
+    c.take_box.ensures.items c.take_box.ensures.capacity c.take_box.ensures.hands
+
+pub invariant_of-port-2-clause-boxes : goal.invariant_of-port-2-clause-boxes
+invariant_of-port-2-clause-boxes g c =
+    let f = c.args.f.now in let p = c.args.port.now in let o = c.requires.owns in
+    let few = c.requires.peer in let j = c.args.sender in let t = c.requires.told in
+    let then = subst (λ k. plays.looked_in k (taken_by p j) (step f.board.shared.table_id.slots
+    (4 * f.ranks + c.box_at-slot.result) 0 0 maybe.none) p.seat.me c.load-found.result
+    c.load-found.new.seat.me) (sym t.0)
+    (subst (λ a. plays.looked_in g.T.Told.peer a (step f.board.shared.table_id.slots
+    (4 * f.ranks + c.box_at-slot.result) 0 0 maybe.none) p.seat.me c.load-found.result
+    c.load-found.new.seat.me) (sym t.1) c.load-found.ensures.2) in
+    let same = ap (λ (u : Peer). u.taken) c.peer-peer.ensures in
+    let found = c.if-found-peer.false in
+    let rs = o.2 in let word : ℕ = 4 * f.ranks + c.box_at-slot.result in
+    let back : word - 4 * (knows p).ranks ≡ c.box_at-slot.result = omega arith in
+    let place = ap (λ (u : Peer). u.box_got) c.peer-peer.ensures ∙ peer_box_got p j
+    (calls.few f p o j few) in
+    let at = c.box_at-slot.ensures.at ∙ calls.in_slot_is f p o j few
+    c.peer-peer.result.box_got place in
+    let told = subst (λ k. plays.Begun j (taken_by p j) k p.seat.me c.load-found.new.seat.me) back
+    (then.0 (let z : c.load-found.result ≡ suc (taken_by p j) = omega arith in z)) in
+    let was = sym (calls.is_emptying f p o j few)
+    ∙ sym (ap (λ (u : Peer). u.emptying) c.peer-peer.ensures) in
+    calls.begun_boxes f p o j few c.load-found.new.seat.me c.box_at-slot.result (taken_by p j) at told
+
+pub invariant_of-port-2-clause-counts : goal.invariant_of-port-2-clause-counts
+invariant_of-port-2-clause-counts g c =
+    let f = c.args.f.now in let p = c.args.port.now in let o = c.requires.owns in
+    let few = c.requires.peer in let j = c.args.sender in let t = c.requires.told in
+    let then = subst (λ k. plays.looked_in k (taken_by p j) (step f.board.shared.table_id.slots
+    (4 * f.ranks + c.box_at-slot.result) 0 0 maybe.none) p.seat.me c.load-found.result
+    c.load-found.new.seat.me) (sym t.0)
+    (subst (λ a. plays.looked_in g.T.Told.peer a (step f.board.shared.table_id.slots
+    (4 * f.ranks + c.box_at-slot.result) 0 0 maybe.none) p.seat.me c.load-found.result
+    c.load-found.new.seat.me) (sym t.1) c.load-found.ensures.2) in
+    let same = ap (λ (u : Peer). u.taken) c.peer-peer.ensures in
+    let found = c.if-found-peer.false in
+    let rs = o.2 in let word : ℕ = 4 * f.ranks + c.box_at-slot.result in
+    let back : word - 4 * (knows p).ranks ≡ c.box_at-slot.result = omega arith in
+    let place = ap (λ (u : Peer). u.box_got) c.peer-peer.ensures ∙ peer_box_got p j
+    (calls.few f p o j few) in
+    let at = c.box_at-slot.ensures.at ∙ calls.in_slot_is f p o j few
+    c.peer-peer.result.box_got place in
+    let told = subst (λ k. plays.Begun j (taken_by p j) k p.seat.me c.load-found.new.seat.me) back
+    (then.0 (let z : c.load-found.result ≡ suc (taken_by p j) = omega arith in z)) in
+    let was = sym (calls.is_emptying f p o j few)
+    ∙ sym (ap (λ (u : Peer). u.emptying) c.peer-peer.ensures) in
+    calls.begun_counts f p o j few c.load-found.new.seat.me c.box_at-slot.result (taken_by p j) at told c.note_emptying.new.peers.items
+    c.note_emptying.ensures
+
+pub returns-clause-stays : goal.returns-clause-stays
+returns-clause-stays g c =
+    let f = c.args.f.now in let p = c.args.port.now in let o = c.requires.owns in
+    let few = c.requires.peer in let j = c.args.sender in let t = c.requires.told in
+    let then = subst (λ k. plays.looked_in k (taken_by p j) (step f.board.shared.table_id.slots
+    (4 * f.ranks + c.box_at-slot.result) 0 0 maybe.none) p.seat.me c.load-found.result
+    c.load-found.new.seat.me) (sym t.0)
+    (subst (λ a. plays.looked_in g.T.Told.peer a (step f.board.shared.table_id.slots
+    (4 * f.ranks + c.box_at-slot.result) 0 0 maybe.none) p.seat.me c.load-found.result
+    c.load-found.new.seat.me) (sym t.1) c.load-found.ensures.2) in
+    let same = ap (λ (u : Peer). u.taken) c.peer-peer.ensures in
+    let found = c.if-found-peer.false in
+    let rs = o.2 in let word : ℕ = 4 * f.ranks + c.box_at-slot.result in
+    let back : word - 4 * (knows p).ranks ≡ c.box_at-slot.result = omega arith in
+    let place = ap (λ (u : Peer). u.box_got) c.peer-peer.ensures ∙ peer_box_got p j
+    (calls.few f p o j few) in
+    let at = c.box_at-slot.ensures.at ∙ calls.in_slot_is f p o j few
+    c.peer-peer.result.box_got place in
+    let told = subst (λ k. plays.Begun j (taken_by p j) k p.seat.me c.load-found.new.seat.me) back
+    (then.0 (let z : c.load-found.result ≡ suc (taken_by p j) = omega arith in z)) in
+    let was = sym (calls.is_emptying f p o j few)
+    ∙ sym (ap (λ (u : Peer). u.emptying) c.peer-peer.ensures) in
+    let s = calls.peers_stay one_begun j p.peers.items
+    (peer_low p j (calls.few f p o j few)) (λ u. refl) (λ u. refl) in (
+      calls.owns_then f p o j few (c.load-found.ensures.0 ∙ o.0)
+          c.load-found.new.seat.me
+          (ap (λ m. (mine m).ranks) told.3) (ap (λ m. (mine m).each) told.3)
+          (ap (λ m. length (mine m).hands) told.3) (ap (λ m. length (mine m).filling) told.3)
+          (ap (λ m. length (mine m).emptying) told.3 ∙ length-set (knows p).emptying j
+          (Some (plays.box_load j (mine c.load-found.new.seat.me)))),
+      refl,
+      (
+        (λ i k. (ap (λ l. (peer_in l k).taken) c.note_emptying.ensures ∙ s.0 k) i),
+        refl,
+        ap all_unpassed c.note_emptying.ensures ∙ s.1,
+      ),
+      refl,
+    )

@@ -1,0 +1,340 @@
+//! The kinds of step on a box's flag. There are four boxes for each ordered pair of ranks, and the k-th
+//! packet of the pair that goes by box goes into the box k mod 4.
+//!
+//! A step can't be told a number of its caller's by its operands alone. So each is written once for
+//! numbers that the caller picks, and called by a function that picks its arguments.
+
+ghost use Rattle.std.specs.Prelude.{◌≡◌, ℕ, ◌+◌, ◌*◌, ◌%◌, ◌<◌, ◌≤◌, ◌∷◌, [], Some, None};
+ghost use Rattle.std.specs.Prelude.{true, false, length, is_some, vec_len, vec_capacity};
+ghost use Rattle.nm_types.specs.declared.limits.TheConstants.{MAX_BOX};
+ghost use Rattle.nm_seats.specs.Update.{update};
+ghost use Rattle.nm_cells.specs.Rule.{box_slot, filling_of, emptying_of};
+ghost use Rattle.nm_cells.specs.Plays.{with_filling, with_emptying, with_box_full, with_box_miss};
+ghost use Rattle.nm_cells.specs.Plays.{with_put_box, with_got_box, box_load, Overtaken};
+ghost use Rattle.nm_cells.specs.Ports.{Owns, Stays, knows, holding, sent_by, taken_by};
+ghost use Rattle.nm_cells.specs.Ports.{unpassed_by, Empties, opens, unless};
+
+use crate::port::{Fabric, Port};
+use crate::slots::{bring_slot, carry};
+use crate::table::Entry;
+use crate::tally::{
+    count_boxed, count_full, count_miss, count_unboxed, note_emptying, note_filling,
+};
+use atomic_table::Play;
+use nm_seats::{Steps, View};
+use nm_types::Packet;
+use std::marker::{Brand, PhantomData};
+use std::sync::ledger::Ledger;
+
+/// Numbers that a step is told by its caller.
+pub trait Told {
+    ghost peer: { ℕ };
+
+    ghost awaited: { ℕ };
+}
+
+impl Told for Brand {
+    ghost peer = { 0 };
+
+    ghost awaited = { 0 };
+}
+
+struct LooksOut<T> {
+    told: PhantomData<T>,
+}
+
+impl<T: Told> Play<Option<Packet>, View<Entry>> for LooksOut<T> {
+    ghost use Rattle.nm_cells.specs.Plays.{looked_out};
+
+    ghost then = { looked_out T.peer };
+}
+
+struct LooksIn<T> {
+    told: PhantomData<T>,
+}
+
+impl<T: Told> Play<Option<Packet>, View<Entry>> for LooksIn<T> {
+    ghost use Rattle.nm_cells.specs.Plays.{looked_in};
+
+    ghost then = { looked_in T.peer T.awaited };
+}
+
+struct Fills<T> {
+    told: PhantomData<T>,
+}
+
+impl<T: Told> Play<Option<Packet>, View<Entry>> for Fills<T> {
+    ghost use Rattle.nm_cells.specs.Plays.{boxed};
+
+    ghost then = { boxed T.peer };
+}
+
+struct Vacates<T> {
+    told: PhantomData<T>,
+}
+
+impl<T: Told> Play<Option<Packet>, View<Entry>> for Vacates<T> {
+    ghost use Rattle.nm_cells.specs.Plays.{unboxed};
+
+    ghost then = { unboxed T.peer };
+}
+
+impl Fabric {
+    // The slot of the box at this place of the pair. Its flag is the word 4 * ranks further on.
+    fn box_at(&self, from: u8, to: u8, place: u64) -> u64
+        requires { (from < self.now.ranks) × (to < self.now.ranks) }
+        ensures at { result ≡ box_slot self.now.ranks self.now.each from to (place % 4) }
+        ensures low { result < self.now.ranks * self.now.each + 4 * (self.now.ranks * self.now.ranks) }
+        ensures behind { self.now.ranks * self.now.each ≤ result }
+    {
+        let pair = u64::from(from) * self.ranks + u64::from(to);
+        self.ranks * self.each + (4 * pair + place % 4)
+    }
+}
+
+// The slot of a box is in hand, unless it was already.
+fn take_box(carried: &mut Vec<u64>, hands: &mut u32, slot: u64, at_work: bool)
+    requires room { at_work ≡ false → (vec_len carried.old < vec_capacity carried.old)
+        × (hands.old + 1 ≤ 4294967295) }
+    ensures items { carried.new.items ≡ unless at_work (slot ∷ carried.old.items)
+        carried.old.items }
+    ensures hands { hands.new ≡ hands.old + opens at_work }
+    ensures capacity { vec_capacity carried.old ≤ vec_capacity carried.new }
+{
+    if !at_work {
+        carry(carried, slot);
+        *hands += 1;
+    }
+}
+
+fn look_out<T: Told, L: Ledger>(f: &Fabric, port: &mut Port, to: u8, steps: &mut Steps<L>) -> bool
+    requires owns { Owns f.now port.old }
+    requires peer { to < f.now.ranks }
+    requires told { to ≡ T.peer }
+    ensures stays { Stays f.now port.old port.new }
+    ensures free { result ≡ true → (filling_of (knows port.new) to ≡ true)
+        × (knows port.new ≡ with_filling to true (knows port.old))
+        × (port.new.hands ≡ port.old.hands + opens (filling_of (knows port.old) to)) }
+    ensures full { result ≡ false → (knows port.new ≡ with_box_full to (knows port.old))
+        × (port.new.hands ≡ port.old.hands) }
+    ensures holding { holding port.new ≡ holding port.old }
+    ensures cost { steps.new ≡ steps.old + 1 }
+{
+    steps.tick();
+    let peer = port.peer(to);
+    let slot = f.box_at(port.rank, to, peer.box_put);
+    let word = 4 * f.ranks + slot;
+    let found = f
+        .board
+        .shared
+        .load::<LooksOut<T>>(&mut port.seat, word as usize);
+    if found != 0 {
+        count_full(&mut port.peers, to as usize);
+        return false;
+    }
+    take_box(&mut port.carried, &mut port.hands, slot, peer.filling);
+    note_filling(&mut port.peers, to as usize);
+    true
+}
+
+/// Loads the flag of the port's next box for a rank, and answers whether it was 0.
+///
+/// Then the box is the port's to fill. Else it is full, which `box_full` counts.
+pub fn load_box_out<L: Ledger>(f: &Fabric, port: &mut Port, to: u8, steps: &mut Steps<L>) -> bool
+    requires owns { Owns f.now port.old }
+    requires peer { to < f.now.ranks }
+    ensures stays { Stays f.now port.old port.new }
+    ensures free { result ≡ true → (filling_of (knows port.new) to ≡ true)
+        × (knows port.new ≡ with_filling to true (knows port.old))
+        × (port.new.hands ≡ port.old.hands + opens (filling_of (knows port.old) to)) }
+    ensures full { result ≡ false → (knows port.new ≡ with_box_full to (knows port.old))
+        × (port.new.hands ≡ port.old.hands) }
+    ensures holding { holding port.new ≡ holding port.old }
+    ensures cost { steps.new ≡ steps.old + 1 }
+{
+    look_out::<Brand, L>(f, port, to, steps)
+}
+
+fn look_in<T: Told, L: Ledger>(
+    f: &Fabric,
+    port: &mut Port,
+    sender: u8,
+    steps: &mut Steps<L>,
+) -> bool
+    requires owns { Owns f.now port.old }
+    requires peer { sender < f.now.ranks }
+    requires told { (sender ≡ T.peer) × (taken_by port.old sender ≡ T.awaited) }
+    ensures stays { Stays f.now port.old port.new }
+    ensures found { result ≡ true → Empties port.new sender (taken_by port.old sender)
+        × (knows port.new
+        ≡ with_emptying sender (Some (box_load sender (knows port.new))) (knows port.old))
+        × (port.new.hands ≡ port.old.hands
+        + opens (is_some (emptying_of (knows port.old) sender))) }
+    ensures missed { result ≡ false → (knows port.new ≡ with_box_miss sender (knows port.old))
+        × (port.new.hands ≡ port.old.hands) }
+    ensures overtaken { Overtaken (knows port.old) sender (taken_by port.old sender)
+        → result ≡ true }
+    ensures holding { holding port.new ≡ holding port.old }
+    ensures cost { steps.new ≡ steps.old + 1 }
+{
+    steps.tick();
+    let peer = port.peer(sender);
+    let slot = f.box_at(sender, port.rank, peer.box_got);
+    let word = 4 * f.ranks + slot;
+    let found = f
+        .board
+        .shared
+        .load::<LooksIn<T>>(&mut port.seat, word as usize);
+    if found != peer.taken + 1 {
+        count_miss(&mut port.peers, sender as usize);
+        return false;
+    }
+    take_box(&mut port.carried, &mut port.hands, slot, peer.emptying);
+    note_emptying(&mut port.peers, sender as usize);
+    true
+}
+
+/// Loads the flag of the port's next box of a rank, and answers whether it has the number that the
+/// port awaits from it.
+///
+/// Then the packet is the port's to take. Else this is a miss, which `box_miss` counts. Where the
+/// port got a later packet of that rank and not the awaited one, the awaited one is there.
+pub fn load_box_in<L: Ledger>(f: &Fabric, port: &mut Port, sender: u8, steps: &mut Steps<L>) -> bool
+    requires owns { Owns f.now port.old }
+    requires peer { sender < f.now.ranks }
+    ensures stays { Stays f.now port.old port.new }
+    ensures found { result ≡ true → Empties port.new sender (taken_by port.old sender)
+        × (knows port.new
+        ≡ with_emptying sender (Some (box_load sender (knows port.new))) (knows port.old))
+        × (port.new.hands ≡ port.old.hands
+        + opens (is_some (emptying_of (knows port.old) sender))) }
+    ensures missed { result ≡ false → (knows port.new ≡ with_box_miss sender (knows port.old))
+        × (port.new.hands ≡ port.old.hands) }
+    ensures overtaken { Overtaken (knows port.old) sender (taken_by port.old sender)
+        → result ≡ true }
+    ensures holding { holding port.new ≡ holding port.old }
+    ensures cost { steps.new ≡ steps.old + 1 }
+{
+    look_in::<Brand, L>(f, port, sender, steps)
+}
+
+fn fill<T: Told, L: Ledger>(
+    f: &Fabric,
+    port: &mut Port,
+    to: u8,
+    packet: Packet,
+    steps: &mut Steps<L>,
+)
+    requires owns { Owns f.now port.old }
+    requires peer { to < f.now.ranks }
+    requires free { filling_of (knows port.old) to ≡ true }
+    requires packet { (packet.from ≡ port.old.rank) × (packet.seq ≡ sent_by port.old to) }
+    requires told { to ≡ T.peer }
+    ensures stays { Stays f.now port.old port.new }
+    ensures put { knows port.new
+        ≡ with_put_box ((to, Some packet) ∷ []) (with_filling to false (knows port.old)) }
+    ensures hands { port.new.hands + 1 ≡ port.old.hands }
+    ensures holding { holding port.new ≡ holding port.old }
+    ensures cost { steps.new ≡ steps.old + 1 }
+{
+    steps.tick();
+    let slot = f.box_at(port.rank, to, port.peer(to).box_put);
+    bring_slot(port, slot);
+    let word = 4 * f.ranks + slot;
+    let flag = packet.seq + 1;
+    let old = f
+        .board
+        .shared
+        .exchange(&mut port.seat, slot as usize, Some(packet));
+    let None = old else { unreachable!() };
+    f.board
+        .shared
+        .store::<Fills<T>>(&mut port.seat, word as usize, flag);
+    port.carried.remove(0);
+    port.hands -= 1;
+    count_boxed(&mut port.peers, to as usize);
+}
+
+/// Puts a packet into the port's next box for a rank, which was found free, and stores its number plus
+/// 1 in the flag. The packet is sent.
+pub fn fill_box<L: Ledger>(
+    f: &Fabric,
+    port: &mut Port,
+    to: u8,
+    packet: Packet,
+    steps: &mut Steps<L>,
+)
+    requires owns { Owns f.now port.old }
+    requires peer { to < f.now.ranks }
+    requires free { filling_of (knows port.old) to ≡ true }
+    requires fits { length packet.payload ≤ MAX_BOX }
+    requires packet { (packet.from ≡ port.old.rank) × (packet.seq ≡ sent_by port.old to) }
+    ensures stays { Stays f.now port.old port.new }
+    ensures put { knows port.new
+        ≡ with_put_box ((to, Some packet) ∷ []) (with_filling to false (knows port.old)) }
+    ensures hands { port.new.hands + 1 ≡ port.old.hands }
+    ensures holding { holding port.new ≡ holding port.old }
+    ensures cost { steps.new ≡ steps.old + 1 }
+{
+    fill::<Brand, L>(f, port, to, packet, steps);
+}
+
+fn empty<T: Told, L: Ledger>(
+    f: &Fabric,
+    port: &mut Port,
+    sender: u8,
+    steps: &mut Steps<L>,
+) -> Packet
+    requires owns { Owns f.now port.old }
+    requires peer { sender < f.now.ranks }
+    requires taking { Empties port.old sender (taken_by port.old sender) }
+    requires told { sender ≡ T.peer }
+    ensures owns { Owns f.now port.new × (port.new.rank ≡ port.old.rank)
+        × (port.new.looks ≡ port.old.looks) }
+    ensures packet { Some result ≡ box_load sender (knows port.old) }
+    ensures got { knows port.new
+        ≡ with_got_box (Some result ∷ []) (with_emptying sender None (knows port.old)) }
+    ensures taken { taken_by port.new
+        ≡ update (taken_by port.old) sender (taken_by port.old sender + 1) }
+    ensures others { (port.new.held ≡ port.old.held)
+        × (unpassed_by port.new ≡ unpassed_by port.old) }
+    ensures hands { port.new.hands + 1 ≡ port.old.hands }
+    ensures holding { holding port.new ≡ holding port.old }
+    ensures cost { steps.new ≡ steps.old + 1 }
+{
+    steps.tick();
+    let slot = f.box_at(sender, port.rank, port.peer(sender).box_got);
+    bring_slot(port, slot);
+    let word = 4 * f.ranks + slot;
+    let old = f.board.shared.exchange(&mut port.seat, slot as usize, None);
+    f.board
+        .shared
+        .store::<Vacates<T>>(&mut port.seat, word as usize, 0);
+    port.carried.remove(0);
+    port.hands -= 1;
+    count_unboxed(&mut port.peers, sender as usize);
+    old.unwrap()
+}
+
+/// Takes the packet that was found out of the port's next box of a rank, and stores 0 in the flag. The
+/// packet is the one that the port awaited, and it is passed on.
+pub fn empty_box<L: Ledger>(f: &Fabric, port: &mut Port, sender: u8, steps: &mut Steps<L>) -> Packet
+    requires owns { Owns f.now port.old }
+    requires peer { sender < f.now.ranks }
+    requires taking { Empties port.old sender (taken_by port.old sender) }
+    ensures owns { Owns f.now port.new × (port.new.rank ≡ port.old.rank)
+        × (port.new.looks ≡ port.old.looks) }
+    ensures packet { (Some result ≡ box_load sender (knows port.old))
+        × (result.from ≡ sender) × (result.seq ≡ taken_by port.old sender) }
+    ensures got { knows port.new
+        ≡ with_got_box (Some result ∷ []) (with_emptying sender None (knows port.old)) }
+    ensures taken { taken_by port.new
+        ≡ update (taken_by port.old) sender (taken_by port.old sender + 1) }
+    ensures others { (port.new.held ≡ port.old.held)
+        × (unpassed_by port.new ≡ unpassed_by port.old) }
+    ensures hands { port.new.hands + 1 ≡ port.old.hands }
+    ensures holding { holding port.new ≡ holding port.old }
+    ensures cost { steps.new ≡ steps.old + 1 }
+{
+    empty::<Brand, L>(f, port, sender, steps)
+}
