@@ -1,0 +1,5 @@
+pub mod ContinueLemmas
+pub mod DueLemmas
+pub mod GrantLemmas
+pub mod NumberLemmas
+pub mod PieceLemmas
