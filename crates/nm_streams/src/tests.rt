@@ -1,12 +1,11 @@
-//! Strays, a stream with a packet of each kind, and the pieces of a message.
+//! Strays, and a stream with a packet of each kind.
 
 ghost use Rattle.std.specs.Prelude.{◌≡◌, ◌<◌, ◌≤◌};
 ghost use Rattle.nm_types.specs.declared.limits.TheConstants.{MAX_PACKETS, MAX_PAYLOAD, MAX_STAMP};
 
-use crate::{Made, Stream, pieces};
+use crate::{Made, Stream};
 use nm_history::Happened;
-use nm_rndv::Grants;
-use nm_types::{Chunk, MAX_PACKETS, MAX_PAYLOAD, MAX_STAMP, Packet, Payload, Piece, What};
+use nm_types::{MAX_PACKETS, MAX_PAYLOAD, MAX_STAMP, Packet, Payload, What};
 use std::process::Abort;
 use std::test::Fail;
 
@@ -132,36 +131,5 @@ fn packets_make_things_happen(rt: HostRuntime) -> Result<(), Fail> {
     assert_eq!(rt; stream.missing(), 0);
     let again = packet(What::Withdraw { n: 4 }, 0, 11, 1);
     assert!(rt; !stream.continues(EAGER, &again, false));
-    Ok(())
-}
-
-#[test]
-fn pieces_come_in_order(rt: HostRuntime) -> Result<(), Fail> {
-    let mut grants = Grants::new(rt.alloc(), 1)?;
-    grants.grant(0, 3, 1500)?;
-    let bytes = [7; 1024];
-    for (at, size, continued, made) in [
-        (1024, 476, false, "nothing"),
-        (0, 1023, false, "nothing"),
-        (0, 1024, true, "nothing"),
-        (0, 1024, false, "nothing"),
-        (1024, 476, true, "whole"),
-        (1500, 0, false, "nothing"),
-    ] {
-        assert!(rt; size <= 1024);
-        let piece = Piece {
-            from: 0,
-            number: 0,
-            n: 3,
-            at,
-            bytes: Chunk::of(&bytes[..size]),
-        };
-        assert_eq!(rt; pieces::continues(&grants, &piece), continued, "at {at}");
-        if grants.fits(&piece) {
-            let joined = grants.piece(&piece)?;
-            assert_eq!(rt; name(&pieces::event(&piece, joined)), made, "at {at}");
-        }
-    }
-    assert!(rt; grants.is_whole(0, 3));
     Ok(())
 }

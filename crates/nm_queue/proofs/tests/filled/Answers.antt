@@ -1,4 +1,4 @@
-use Rattle.std.proofs.Common.{rules, ◌≡◌, suc, ◌<◌, Some, sym, refl, ap, ◌∙◌, subst}
+use Rattle.std.proofs.Common.{rules, suc, Some, sym, refl, ap, ◌∙◌, subst}
 use Rattle.nm_seats.proofs.UpdateLemmas.{update_here}
 use Rattle.nm_cells.specs.Rule.{hand, sender, number, sent_to}
 use Rattle.nm_cells.specs.Plays.{InHand}

@@ -1,4 +1,4 @@
-use Rattle.std.proofs.Common.{◌≡◌, ℕ, ◌<◌, sym, ap, ◌∙◌, subst, length, get_or-set_same}
+use Rattle.std.proofs.Common.{◌<◌, sym, ap, ◌∙◌, subst, get_or-set_same}
 use Rattle.nm_cells.specs.declared.table.Hand.TheVariants.{Away, Ready}
 use Rattle.nm_cells.specs.Rule.{hand, sent_to}
 use Rattle.nm_cells.specs.Ports.{knows, holding}

@@ -1,4 +1,4 @@
-use Rattle.std.proofs.Common.{rules, ◌≡◌, ℕ, ◌<◌, ◌≤◌, Some, None, true, length, sym, refl, ap, ◌∙◌, subst}
+use Rattle.std.proofs.Common.{rules, ℕ, ◌<◌, ◌≤◌, Some, None, true, length, sym, refl, ap, ◌∙◌, subst}
 use Rattle.nm_seats.proofs.UpdateLemmas.{update_here}
 use Rattle.nm_types.specs.declared.packets.Packet.{Packet}
 use Rattle.nm_cells.specs.declared.table.Entry.{Entry}
