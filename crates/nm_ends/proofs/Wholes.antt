@@ -13,7 +13,7 @@ use Rattle.nm_history.specs.Sends.{Sent, sends, sent_of, is_ask}
 use Rattle.nm_history.specs.Happens.{happened, is_whole, is_out}
 use Rattle.nm_history.specs.Quiescence.{EagerOver, is_over}
 use Rattle.nm_ends.proofs.Streams.{completes, completed, eager_numbers}
-use Rattle.nm_ends.specs.Ends.{EagerHaveLeft}
+use Rattle.nm_protocol.specs.Rest.{EagerHaveLeft}
 use Rattle.nm_ends.specs.Moments.{Moment, Cause, history_of, taken_from, taken_of, EachMomentAfter}
 use Rattle.nm_ends.specs.Sound.{AreSound, MayHappen, MadeBy}
 use Rattle.nm_protocol.specs.Effects.{happenings, packet_makes, ask_ends, whole_if}

@@ -1,36 +1,19 @@
 -- Both ends of a channel: two ranks with nothing left to send, of which each took what the other's
 -- history calls for.
-use Rattle.std.specs.Prelude.{◌≡◌, ℕ, ◌<◌, ◌==◌, ◌&&◌, not, IsTrue, List, length, map, filter_map}
+use Rattle.std.specs.Prelude.{◌≡◌, ℕ, ◌<◌, List, length, map}
 use Rattle.std.specs.List.{AllByRecursion}
-use Rattle.std.specs.Bool.{OnTrue}
 use Rattle.nm_types.specs.Sizes.{Sizes}
 use Rattle.nm_types.specs.Commands.{Numbered}
 use Rattle.nm_history.specs.declared.events.Event.{Event}
-use Rattle.nm_history.specs.Sends.{sent_of, sent_body, is_ask}
+use Rattle.nm_history.specs.Sends.{sent_body}
 use Rattle.nm_history.specs.Outgoing.{outgoing, ring, AreCalled, AreCalledPieces}
-use Rattle.nm_history.specs.Happens.{happened, is_out, is_whole}
-use Rattle.nm_history.specs.Matching.{matched_pairs}
 use Rattle.nm_history.specs.RankRun.{IsRankRun}
 use Rattle.nm_protocol.specs.Known.{known_by}
 use Rattle.nm_protocol.specs.Continues.{WORN_STAMP}
 use Rattle.nm_protocol.specs.Clearance.{to_push, pushed_out}
+use Rattle.nm_protocol.specs.Rest.{EagerHaveLeft, EmptyAreHere}
 use Rattle.nm_ends.specs.Moments.{Moment, history_of, taken_from, pulled_from}
 use Rattle.nm_ends.specs.Sound.{AreSound}
-
--- each eager message of a history has left
-abbrev pub EagerHaveLeft : List Event → Type 0
-EagerHaveLeft h =
-    AllByRecursion
-    (λ s. OnTrue (not (is_ask s.how)) (IsTrue (happened (is_out s.to s.n) h)))
-    (filter_map (λ e. sent_of e.stamp e.what) h)
-
--- each message of a pair that is empty and was asked for is here
-abbrev pub EmptyAreHere : List Event → Type 0
-EmptyAreHere h =
-    AllByRecursion
-    (λ pair. OnTrue (is_ask pair.arrival.env.how && pair.arrival.env.len == 0)
-    (IsTrue (happened (is_whole pair.arrival.env.from pair.arrival.n) h)))
-    (matched_pairs h)
 
 -- each cleared message with a body that this rank sent has left
 abbrev pub ClearedHaveLeft : List Moment → ℕ → Type 0

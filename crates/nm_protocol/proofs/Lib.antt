@@ -3,3 +3,4 @@ pub mod Growing
 pub mod Agreeing
 pub mod Sent
 pub mod Lasting
+pub mod Right

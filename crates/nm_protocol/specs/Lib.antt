@@ -6,3 +6,5 @@ pub mod Continues
 pub mod Effects
 pub mod Known
 pub mod Pieces
+pub mod Rest
+pub mod Rules

@@ -7,7 +7,7 @@ ghost use Rattle.nm_types.specs.declared.packets.Piece.{Piece};
 ghost use Rattle.nm_history.specs.declared.events.Event.{Event};
 ghost use Rattle.nm_history.specs.declared.events.Happened.{Happened};
 ghost use Rattle.nm_history.specs.Delivery.{is_asked};
-ghost use Rattle.nm_history.specs.RankRun.{Always, EndAt, NumberAt};
+ghost use Rattle.nm_history.specs.RankRun.{Always, EndAt, NumberAt, WholeAt};
 ghost use Rattle.nm_history.specs.Sends.{sends};
 ghost use Rattle.nm_protocol.specs.Agreement.{Agrees, tells};
 ghost use Rattle.nm_protocol.specs.Bytes.{eager_bytes, piece_bytes, pulled_bytes, taken_bytes};
@@ -16,6 +16,7 @@ ghost use Rattle.nm_protocol.specs.Clock.{AreStamped, stamped};
 ghost use Rattle.nm_protocol.specs.Effects.{happenings, is_empty_send, taken_events};
 ghost use Rattle.nm_protocol.specs.Known.{Known, Taken, known_after, known_by, nothing_known};
 ghost use Rattle.nm_protocol.specs.Pieces.{Due, Pulled, count_continued, due_pieces, piece_makes};
+ghost use Rattle.nm_protocol.specs.Rules.{AreRight};
 
 /// What is known of a rank, one packet after another.
 pub fn known_grows()
@@ -96,4 +97,15 @@ pub fn pushed_messages_last()
         Always (NumberAt ranks) (h ++ more) → Always EndAt (h ++ more) →
         pushed_out (h ++ more) to
         ≡ pushed_out h to ++ filter_map (λ e. left_of (h ++ more) to e.what) more }
+{}
+
+/// Events that are right stay so with more of them, and keep each rule of a rank's run that plays no
+/// part in its commands.
+pub fn right_events_go_on()
+    ensures more { (ranks : ℕ) (h events more : List Event) → AreRight ranks h events →
+        AreRight ranks (h ++ events) more → AreRight ranks h (events ++ more) }
+    ensures numbers { (ranks : ℕ) (h : List Event) → AreRight ranks [] h →
+        Always (NumberAt ranks) h }
+    ensures wholes { (ranks : ℕ) (h : List Event) → AreRight ranks [] h → Always WholeAt h }
+    ensures ends { (ranks : ℕ) (h : List Event) → AreRight ranks [] h → Always EndAt h }
 {}

@@ -1,0 +1,15 @@
+-- Each by induction over the events.
+use Rattle.nm_protocol.proofs.Right.{right-append, right-numbers, right-wholes, right-ends}
+use Rattle.nm_protocol.proofs.laws.right_events_go_on.Goals as goal
+
+pub returns-clause-more : goal.returns-clause-more
+returns-clause-more c = right-append
+
+pub returns-clause-numbers : goal.returns-clause-numbers
+returns-clause-numbers c = right-numbers
+
+pub returns-clause-wholes : goal.returns-clause-wholes
+returns-clause-wholes c = right-wholes
+
+pub returns-clause-ends : goal.returns-clause-ends
+returns-clause-ends c = right-ends
