@@ -6,14 +6,14 @@ use Rattle.std.proofs.lemmas.Nat.{mod_below}
 use mathlib.Core.Logic.{dite}
 use native.Mathlib.Decide.{ℕ_discrete}
 use Rattle.nm_seats.proofs.UpdateLemmas.{pick_yes, pick_no}
-use Rattle.nm_cells.specs.declared.table.Entry.{Entry}
-use Rattle.nm_cells.specs.Rule.{Load, put_to, from, box_slot}
-use Rattle.nm_cells.specs.Plays.{load_in}
+use Rattle.nm_table.specs.declared.table.Entry.{Entry}
+use Rattle.nm_table.specs.Rule.{Load, put_to, from, box_slot}
+use Rattle.nm_table.specs.Plays.{load_in}
 use Rattle.nm_cells.specs.Carried.{times, empties}
-use Rattle.nm_cells.specs.NextBox.{next_box, work, BoxesApart}
+use Rattle.nm_table.specs.NextBox.{next_box, work, BoxesApart}
 use Rattle.nm_cells.specs.AtWork.{sum_to, one_at, all_at, Holds}
 use Rattle.nm_cells.proofs.CarriedLemmas.{times_else}
-use Rattle.nm_cells.proofs.BoxLemmas.{one_pair}
+use Rattle.nm_table.proofs.BoxLemmas.{one_pair}
 use Rattle.nm_cells.proofs.HoldingLemmas.{load_first, load_behind, turned_by, times_by, load_by}
 
 abbrev numbers : List (ℕ × Load) → List ℕ

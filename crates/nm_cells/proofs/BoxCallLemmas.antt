@@ -11,15 +11,15 @@ use Rattle.nm_seats.specs.Spoken.{view}
 use Rattle.nm_seats.specs.Update.{update}
 use Rattle.nm_seats.proofs.UpdateLemmas.{update_here, update_else}
 use Rattle.nm_cells.specs.declared.peers.Peer.{Peer}
-use Rattle.nm_cells.specs.declared.table.Entry.{Entry}
+use Rattle.nm_table.specs.declared.table.Entry.{Entry}
 use Rattle.nm_cells.specs.declared.port.Port.{Port}
 use Rattle.nm_cells.specs.declared.port.Fabric.{Fabric}
-use Rattle.nm_cells.specs.Rule.{Load, put_to, from, box_slot, filling_of, emptying_of, sender}
-use Rattle.nm_cells.specs.Rule.{number}
-use Rattle.nm_cells.specs.Plays as plays
-use Rattle.nm_cells.specs.Plays.{Knowing, mine, with_filling, with_emptying, with_box_full}
-use Rattle.nm_cells.specs.Plays.{with_box_miss, with_put_box, with_got_box, opened, begun, Begun}
-use Rattle.nm_cells.specs.NextBox.{next_box, work, BoxesApart}
+use Rattle.nm_table.specs.Rule.{Load, put_to, from, box_slot, filling_of, emptying_of, sender}
+use Rattle.nm_table.specs.Rule.{number}
+use Rattle.nm_table.specs.Plays as plays
+use Rattle.nm_table.specs.Plays.{Knowing, mine, with_filling, with_emptying, with_box_full}
+use Rattle.nm_table.specs.Plays.{with_box_miss, with_put_box, with_got_box, opened, begun, Begun}
+use Rattle.nm_table.specs.NextBox.{next_box, work, BoxesApart}
 use Rattle.nm_cells.specs.AtWork.{HoldsBoxes}
 use Rattle.nm_cells.specs.Carried.{times, held_in}
 use Rattle.nm_cells.specs.Counted.{CountsFor, peer_in, new_peer, all_unpassed, with_peer, one_full}
@@ -155,7 +155,7 @@ module _ (f : Fabric) (p : Port) (owns : Owns f p) (j : ℕ) (lj : j < f.ranks) 
       → box_slot f.ranks f.each j p.rank (place % 4) ≡ next_box e false j
   in_slot_is place at i = box_slot (sym owns.2 i) (sym owns.3 i) j (sym p.named i) (at i % 4)
 
-  far : (b : Bool) → length e.hands ≤ next_box e b j
+  pub far : (b : Bool) → length e.hands ≤ next_box e b j
   far b = subst (λ m. m ≤ next_box e b j) ((λ i. owns.2 i * owns.3 i) ∙ sym owns.4)
       (behind_of e b j few)
 

@@ -5,14 +5,14 @@ use Rattle.std.proofs.Common.{ap, ◌∙◌, subst, get_or-set_same, get_or-set_
 use Rattle.std.specs.Prelude.{slice_index_or}
 use mathlib.Core.Logic.{dite}
 use native.Mathlib.Decide.{ℕ_discrete}
-use Rattle.nm_cells.specs.declared.table.Entry.{Entry}
-use Rattle.nm_cells.specs.declared.table.End.{End}
-use Rattle.nm_cells.specs.Rule.{Load, sender, box_slot, filling_of, emptying_of}
-use Rattle.nm_cells.specs.Rule.{newcomer}
-use Rattle.nm_cells.specs.Plays as plays
-use Rattle.nm_cells.specs.Plays.{Knowing, mine, load_in, Took}
+use Rattle.nm_table.specs.declared.table.Entry.{Entry}
+use Rattle.nm_table.specs.declared.table.Heads.{Heads}
+use Rattle.nm_table.specs.Rule.{Load, sender, box_slot, filling_of, emptying_of}
+use Rattle.nm_table.specs.Rule.{newcomer}
+use Rattle.nm_table.specs.Plays as plays
+use Rattle.nm_table.specs.Plays.{Knowing, mine, load_in, Took}
 use Rattle.nm_cells.specs.Carried.{times}
-use Rattle.nm_cells.specs.NextBox.{to_fill, next_box, work, BoxesApart}
+use Rattle.nm_table.specs.NextBox.{to_fill, next_box, work, BoxesApart}
 use Rattle.nm_cells.specs.AtWork.{one_at, HoldsBoxes}
 use Rattle.nm_cells.proofs.CountedLemmas.{put_other, from_other, lids_new}
 use Rattle.nm_cells.proofs.HoldingLemmas.{turned_by}
@@ -210,10 +210,10 @@ boxes_took me after false c shadow h long t = subst (λ (k : Knowing). HoldsBoxe
     (boxes_pushed (mine me) me.1 h c t.load (subst (λ k. c < k) long t.low))
 
 -- what a consumer knows of a queue changes
-pub boxes_end : (b : Bool) (x : End) (e : Entry) (hs : List (ℕ × Load)) → HoldsBoxes e hs
-    → HoldsBoxes (plays.with_end b x e) hs
-boxes_end true x e hs h = h
-boxes_end false x e hs h = h
+pub boxes_heads : (b : Bool) (x : Heads) (e : Entry) (hs : List (ℕ × Load)) → HoldsBoxes e hs
+    → HoldsBoxes (plays.with_heads b x e) hs
+boxes_heads true x e hs h = h
+boxes_heads false x e hs h = h
 
 -- at the start
 pub boxes_new : (n each r : ℕ) → r < n → HoldsBoxes (newcomer n each r) []

@@ -9,10 +9,10 @@ use Rattle.std.specs.Prelude.{slice_index_or, sum_by, remove}
 use mathlib.Core.Logic.{dite}
 use native.Mathlib.Decide.{ℕ_discrete}
 use Rattle.nm_seats.proofs.UpdateLemmas.{pick_yes, pick_no}
-use Rattle.nm_cells.specs.declared.table.Hand.{Hand}
-use Rattle.nm_cells.specs.declared.table.Hand.TheVariants.{Away, Held, Ready, Entering}
-use Rattle.nm_cells.specs.Rule.{Load}
-use Rattle.nm_cells.specs.Plays.{InHand}
+use Rattle.nm_table.specs.declared.table.Hand.{Hand}
+use Rattle.nm_table.specs.declared.table.Hand.TheVariants.{Away, Loose, Held, Ready, Entering}
+use Rattle.nm_table.specs.Rule.{Load}
+use Rattle.nm_table.specs.Plays.{InHand}
 use Rattle.nm_cells.specs.Carried.{times, slots_with, in_hand, fills, empties, open_boxes, Carries}
 
 pub times_here : (c : ℕ) (xs : List ℕ) → times c (c ∷ xs) ≡ suc (times c xs)
@@ -28,6 +28,7 @@ times_else c d xs ne = let one : ℕ = 1 in let none : ℕ = 0 in
 -- a cell in hand has its slot there
 pub in_hand_one : (h : Hand) → InHand h → slots_with h ≡ 1
 in_hand_one Away i = absurd i
+in_hand_one Loose i = absurd i
 in_hand_one Held i = refl
 in_hand_one (Ready y) i = refl
 in_hand_one (Entering q t) i = absurd i
@@ -40,12 +41,14 @@ sum_below f (x ∷ xs) h = let one = h x in let more = sum_below f xs h in
 
 pub slots_one : (h : Hand) → slots_with h ≤ 1
 slots_one Away = omega arith
+slots_one Loose = omega arith
 slots_one Held = omega arith
 slots_one (Ready y) = omega arith
 slots_one (Entering q t) = omega arith
 
 hand_one : (h : Hand) → in_hand h ≤ 1
 hand_one Away = omega arith
+hand_one Loose = omega arith
 hand_one Held = omega arith
 hand_one (Ready y) = omega arith
 hand_one (Entering q t) = omega arith
@@ -64,6 +67,7 @@ rest_of (x ∷ xs) = xs
 
 one_below : (h : Hand) → slots_with h ≤ in_hand h
 one_below Away = omega arith
+one_below Loose = omega arith
 one_below Held = omega arith
 one_below (Ready y) = omega arith
 one_below (Entering q t) = omega arith
@@ -76,6 +80,7 @@ slots_below_hands (x ∷ xs) = let a = sum_by-cons slots_with x xs in
 
 away_where_none : (h : Hand) → in_hand h ≡ 0 → h ≡ Away
 away_where_none Away e = refl
+away_where_none Loose e = absurd (omega arith)
 away_where_none Held e = absurd (omega arith)
 away_where_none (Ready y) e = absurd (omega arith)
 away_where_none (Entering q t) e = absurd (omega arith)
@@ -159,6 +164,21 @@ module _ (slots : List (ℕ × Load)) (hands : List Hand) (filling : List Bool)
         ap in_hand away in record {
           order = ap (λ l. c ∷ l) h.order;
           cells = cells_but (c ∷ carried) (times_here c carried ∙ ap suc (h.cells c low ∙ was)
+              ∙ sym one) (λ d ne. times_else d c carried ne);
+          counted = let s = slots_set in let z = h.counted in omega arith;
+          handed = let s = hand_set in let z = h.handed in omega arith;
+          fits = fits_set;
+        }
+
+    -- the slot of a loose cell is taken
+    pub cell_picked : (y : Load) → slice_index_or hands c Away ≡ Loose → slots_with new ≡ 1
+        → in_hand new ≡ 1
+        → Carries ((c, y) ∷ slots) (set hands c new) filling emptying (c ∷ carried) room count
+    cell_picked y was one held = let none : slots_with (slice_index_or hands c Away) ≡ 0 =
+        ap slots_with was in let some : in_hand (slice_index_or hands c Away) ≡ 1 = ap in_hand was in
+        record {
+          order = ap (λ l. c ∷ l) h.order;
+          cells = cells_but (c ∷ carried) (times_here c carried ∙ ap suc (h.cells c low ∙ none)
               ∙ sym one) (λ d ne. times_else d c carried ne);
           counted = let s = slots_set in let z = h.counted in omega arith;
           handed = let s = hand_set in let z = h.handed in omega arith;

@@ -18,14 +18,14 @@ use Rattle.nm_chain.specs.Sequence as turn
 use Rattle.nm_chain.proofs.SequenceLemmas.{behind, each_has, has_left, has_right}
 use Rattle.nm_types.specs.Sizes.{Sizes}
 use Rattle.nm_types.specs.declared.packets.Packet.{Packet}
-use Rattle.nm_cells.specs.declared.table.Hand.TheVariants.{Away}
-use Rattle.nm_cells.specs.declared.table.Entry.{Entry}
-use Rattle.nm_cells.specs.Rule.{Load, Chain, hand, rank_of, World, sender, number, from, loads}
-use Rattle.nm_cells.specs.Rule.{sent_to, Fits, QueuesHold, AllInSequence, Rule, put_to}
+use Rattle.nm_table.specs.declared.table.Hand.TheVariants.{Away}
+use Rattle.nm_table.specs.declared.table.Entry.{Entry}
+use Rattle.nm_table.specs.Rule.{Load, Chain, hand, rank_of, World, sender, number, from, loads}
+use Rattle.nm_table.specs.Rule.{sent_to, Fits, QueuesHold, AllInSequence, Rule, put_to}
 use Rattle.nm_cells.specs.AtClose.{Gathered, Prefixed, AllCame, homed, home_count, vacant}
 use Rattle.nm_cells.specs.AtClose.{vacant_at, Settled}
-use Rattle.nm_cells.proofs.QueueLemmas.{pick_yes, pick_no}
-use Rattle.nm_cells.proofs.CountingLemmas.{in_queue}
+use Rattle.nm_table.proofs.QueueLemmas.{pick_yes, pick_no}
+use Rattle.nm_table.proofs.CountingLemmas.{in_queue}
 
 pub merged : (key : Sizes) (id other : ℕ) (v w : View Entry)
     → Joins (Rule key) id v other w (view (w.entries ++ v.entries)) (view [])

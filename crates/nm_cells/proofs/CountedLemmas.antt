@@ -13,13 +13,13 @@ use Rattle.nm_chain.specs.Sequence.{Each, Has, Rises, Got}
 use Rattle.nm_chain.proofs.SequenceLemmas.{each_along, each_append, each_has, rises_append}
 use Rattle.nm_chain.proofs.SequenceLemmas.{has_left, has_right}
 use Rattle.nm_cells.specs.declared.peers.Peer.{Peer}
-use Rattle.nm_cells.specs.Rule.{Load, put_to, from, number, sender, if_below}
-use Rattle.nm_cells.specs.Plays.{raised}
+use Rattle.nm_table.specs.Rule.{Load, put_to, from, number, sender, if_below}
+use Rattle.nm_table.specs.Plays.{raised}
 use Rattle.nm_cells.specs.Counted.{new_peer, peer_in, not_below, IsOneOf, IsUnpassedOf, CountsOne}
 use Rattle.nm_cells.specs.Counted.{Counts, with_peer, one_sent, one_arrived, one_boxed, one_opened}
 use Rattle.nm_cells.specs.Counted.{one_begun, one_unboxed, one_full, one_miss, one_passed}
-use Rattle.nm_cells.proofs.QueueLemmas.{from_append, put_append, pick_yes, pick_no, below_yes}
-use Rattle.nm_cells.proofs.QueueLemmas.{below_no}
+use Rattle.nm_table.proofs.QueueLemmas.{from_append, put_append, pick_yes, pick_no, below_yes}
+use Rattle.nm_table.proofs.QueueLemmas.{below_no}
 
 -- a number of a packet is in range
 pub number_small : (y : Load) → number y < 1152921504606846976
@@ -109,7 +109,7 @@ one_of_has y [] h = absurd h
 one_of_has y (x ∷ xs) h = ⊎_elim (λ e. inl (ap number e)) (λ k. inr (one_of_has y xs k)) h
 
 -- two loads of a rising list with one number are one
-one_number : (y z : Load) (xs : List Load) → Rises (map number xs) → IsOneOf y xs → IsOneOf z xs
+pub one_number : (y z : Load) (xs : List Load) → Rises (map number xs) → IsOneOf y xs → IsOneOf z xs
     → number y ≡ number z → y ≡ z
 one_number y z [] r h k e = absurd h
 one_number y z (x ∷ xs) r h k e = ⊎_elim

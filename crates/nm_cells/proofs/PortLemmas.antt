@@ -7,20 +7,20 @@ use Rattle.std.proofs.Math.Logic.{∥∥₁_map, ∥∥₁_elim}
 use Rattle.std.proofs.Props.{props}
 use Rattle.std.specs.Prelude.{remove, slice_index, vec_len, vec_capacity}
 use Rattle.nm_seats.proofs.UpdateLemmas.{update_here}
-use Rattle.nm_cells.proofs.BoxLemmas.{owner_below}
+use Rattle.nm_table.proofs.BoxLemmas.{owner_below}
 use native.Mathlib.Decide.{dec_le}
 use Rattle.atomic_table.specs.Table.{rest}
 use Rattle.nm_types.specs.declared.packets.Packet.{Packet}
 use Rattle.nm_seats.specs.Spoken.{view}
 use Rattle.nm_seats.specs.Update.{update}
 use Rattle.nm_cells.specs.declared.peers.Peer.{Peer}
-use Rattle.nm_cells.specs.declared.table.End.{End}
-use Rattle.nm_cells.specs.declared.table.Hand.{Hand}
-use Rattle.nm_cells.specs.declared.table.Hand.TheVariants.{Away, Held, Ready, Entering}
+use Rattle.nm_table.specs.declared.table.Heads.{Heads}
+use Rattle.nm_table.specs.declared.table.Hand.{Hand}
+use Rattle.nm_table.specs.declared.table.Hand.TheVariants.{Away, Loose, Held, Ready, Entering}
 use Rattle.nm_chain.specs.Chain.{item}
-use Rattle.nm_cells.specs.Rule.{Load, Suits, hand, sender, number, sent_to, posted, put_to, from}
-use Rattle.nm_cells.specs.Plays as plays
-use Rattle.nm_cells.specs.Plays.{Knowing, mine, InHand, with_hand, with_put, Took}
+use Rattle.nm_table.specs.Rule.{Load, Suits, hand, sender, number, sent_to, posted, put_to, from}
+use Rattle.nm_table.specs.Plays as plays
+use Rattle.nm_table.specs.Plays.{Knowing, mine, InHand, with_hand, with_put, Took}
 use Rattle.nm_cells.specs.Carried.{times, slots_with, in_hand, Carries, held_in}
 use Rattle.nm_cells.specs.declared.cell.Queue as cells
 use Rattle.nm_cells.specs.declared.cell.Queue.TheVariants.{Receive, Free}
@@ -29,14 +29,14 @@ use Rattle.nm_cells.specs.declared.port.Fabric.{Fabric}
 use Rattle.nm_cells.specs.declared.cell.Cell.{Cell}
 use Rattle.nm_cells.specs.Ports.{Owns, Takes, holding, sent_by, arrivals, queue_of, rank_of_queue}
 use Rattle.nm_cells.specs.Ports.{posted_in, sent_into, HasRoomFor, MayJoin, look_of}
-use Rattle.nm_cells.specs.Looks.{other}
-use Rattle.nm_cells.specs.declared.table.Look.TheVariants.{Fresh}
+use Rattle.nm_table.specs.Looks.{other}
+use Rattle.nm_table.specs.declared.table.Look.TheVariants.{Fresh}
 use Rattle.std.proofs.lemmas.List.Sums.{sum_by-set}
 use Rattle.nm_cells.specs.Counted.{CountsFor, counted_after, peer_in, new_peer, all_unpassed}
 use Rattle.nm_cells.specs.Counted.{Counts, with_peer, one_sent, one_arrived, IsUnpassedOf, IsOneOf}
-use Rattle.nm_cells.specs.declared.table.Entry.{Entry}
+use Rattle.nm_table.specs.declared.table.Entry.{Entry}
 use mathlib.Core.Logic.{dite}
-use Rattle.nm_cells.proofs.QueueLemmas.{below_yes, below_no}
+use Rattle.nm_table.proofs.QueueLemmas.{below_yes, below_no}
 use Rattle.nm_cells.proofs.CarriedLemmas.{none_in_hand, within, count_within, hand_changes}
 use Rattle.nm_cells.proofs.CarriedLemmas.{cell_taken, cell_given, in_hand_one, in_hand_below}
 use Rattle.nm_cells.proofs.CarriedLemmas.{first_removed, roomier}
@@ -44,6 +44,8 @@ use Rattle.nm_cells.proofs.CountedLemmas.{packet_sent, packet_arrived, peer_same
 use Rattle.nm_cells.proofs.CountedLemmas.{unpassed_small, from_here, one_of_last}
 use Rattle.nm_cells.proofs.HoldingLemmas.{held_taken, given_held}
 use Rattle.nm_cells.specs.AtWork.{HoldsBoxes}
+use Rattle.nm_cells.specs.LooseCells.{IsAmong, AreKept}
+use Rattle.nm_cells.proofs.LooseLemmas.{away_apart, kept_took}
 use Rattle.nm_cells.proofs.BoxPortLemmas.{boxes_took}
 
 -- what a port carries, by its seat
@@ -53,6 +55,7 @@ CarriesFor me carried room count = Carries me.1 (mine me).hands (mine me).fillin
 
 one_in_hand : (h : Hand) → InHand h → in_hand h ≡ 1
 one_in_hand Away i = absurd i
+one_in_hand Loose i = absurd i
 one_in_hand Held i = refl
 one_in_hand (Ready y) i = refl
 one_in_hand (Entering q t) i = absurd i
@@ -227,16 +230,16 @@ may_low f p (Free j) c y may = may.0
 
 -- what a consumer loaded is a cell of the fabric, or 0
 pub end_below : (b : Bool) (p : Port)
-    → ((plays.end_of b (mine p.seat.me)).shadow ≤ length (mine p.seat.me).hands)
-    × ((plays.end_of b (mine p.seat.me)).seen ≤ length (mine p.seat.me).hands)
-end_below true p = subst (λ (x : End). (x.shadow ≤ length (mine p.seat.me).hands)
+    → ((plays.heads_of b (mine p.seat.me)).shadow ≤ length (mine p.seat.me).hands)
+    × ((plays.heads_of b (mine p.seat.me)).seen ≤ length (mine p.seat.me).hands)
+end_below true p = subst (λ (x : Heads). (x.shadow ≤ length (mine p.seat.me).hands)
     × (x.seen ≤ length (mine p.seat.me).hands)) (sym p.ends.0) (p.small.0, p.small.1)
-end_below false p = subst (λ (x : End). (x.shadow ≤ length (mine p.seat.me).hands)
+end_below false p = subst (λ (x : Heads). (x.shadow ≤ length (mine p.seat.me).hands)
     × (x.seen ≤ length (mine p.seat.me).hands)) (sym p.ends.1) (p.small.2, p.small.3)
 
-pub shadow_below : (b : Bool) (p : Port) (x : End) → x ≡ plays.end_of b (mine p.seat.me)
+pub shadow_below : (b : Bool) (p : Port) (x : Heads) → x ≡ plays.heads_of b (mine p.seat.me)
     → x.shadow ≤ length (mine p.seat.me).hands
-shadow_below b p x is = subst (λ (u : End). u.shadow ≤ length (mine p.seat.me).hands) (sym is)
+shadow_below b p x is = subst (λ (u : Heads). u.shadow ≤ length (mine p.seat.me).hands) (sym is)
     (end_below b p).0
 
 -- a number that didn't come wasn't passed on
@@ -277,7 +280,7 @@ module _ (b : Bool) (f : Fabric) (p : Port) (d c shadow : ℕ) (after : Knowing)
       × (length (mine after).filling ≡ length (mine p.seat.me).filling)
       × (length (mine after).emptying ≡ length (mine p.seat.me).emptying)
       × ((mine after).ranks ≡ (mine p.seat.me).ranks) × ((mine after).each ≡ (mine p.seat.me).each)
-      × ((plays.end_of k (mine after)).shadow ≡ shadow)
+      × ((plays.heads_of k (mine after)).shadow ≡ shadow)
   same_lengths true u = (
     ap (λ m. length (mine m).hands) u.after_is ∙ length-set (mine p.seat.me).hands c Held,
     ap (λ m. length (mine m).filling) u.after_is,
@@ -321,6 +324,9 @@ module _ (b : Bool) (f : Fabric) (p : Port) (d c shadow : ℕ) (after : Knowing)
   pub takes_boxes : HoldsBoxes (mine after) after.1
   takes_boxes = boxes_took p.seat.me after b c shadow p.boxes
       (owns.4 ∙ (λ i. sym owns.2 i * sym owns.3 i)) t
+
+  pub takes_kept : AreKept p.loose (mine after) after.1
+  takes_kept = kept_took p.loose p.seat.me after b c shadow t p.kept
 
   pub takes_counts : (peers : List Peer) → peers ≡ counted_after b (c / f.each) p.peers.items
       → ∥ CountsFor (mine after) peers p.held ∥₁
@@ -405,8 +411,9 @@ module _ (b : Bool) (f : Fabric) (p : Port) (d c shadow : ℕ) (after : Knowing)
       → cell.owner ≡ c / f.each → new.held ≡ p.held
       → new.peers.items ≡ counted_after b (c / f.each) p.peers.items → new.hands ≡ p.hands + 1
       → look_of b new ≡ Fresh → look_of (other b) new ≡ look_of (other b) p
-      → Takes b f p new cell
-  takes_made new cell me is owner same peers one look others = let e = mine p.seat.me in let y = t.load in
+      → new.loose ≡ p.loose → Takes b f p new cell
+  takes_made new cell me is owner same peers one look others spare = let e = mine p.seat.me in
+      let y = t.load in
       let now : holding new ≡ update (holding p) c y =
       ap (λ m. held_in (length (mine m).hands) m.1) me
       ∙ took_holds p.seat.me after p.carried.items (vec_capacity p.carried) p.hands p.carries b
@@ -422,6 +429,8 @@ module _ (b : Bool) (f : Fabric) (p : Port) (d c shadow : ℕ) (after : Knowing)
           owner ∙ ap (λ k. k / f.each) (sym is),
           subst InHand (sym (ap (λ m. hand (mine m) cell.number) me
               ∙ ap (λ k. hand (mine after) k) is ∙ held_now b t)) tt,
+          (λ i. away_apart p.loose e p.seat.me.1 p.kept c t.away
+              (subst (λ x. IsAmong x c) spare (subst (IsAmong new.loose) is i))),
         );
         of_rank = subst (λ k. k < f.ranks) (sym owner) owner_low;
         fresh = ap (hand e) is ∙ t.away;
@@ -435,7 +444,7 @@ module _ (b : Bool) (f : Fabric) (p : Port) (d c shadow : ℕ) (after : Knowing)
         vacant = λ r. let nothing = by_free b c t r in (here ∙ nothing.0, owner ∙ nothing.1);
         knows = ap mine me ∙ ap mine t.after_is
             ∙ (λ i. plays.taken b (sym is i) (sym here i)
-            ((sym l.5 ∙ ap (λ m. (plays.end_of b (mine m)).shadow) (sym me)) i) e);
+            ((sym l.5 ∙ ap (λ m. (plays.heads_of b (mine m)).shadow) (sym me)) i) e);
         holding = now ∙ (λ i. update (holding p) (sym is i) (sym here i));
         taken = λ i j. u.0 j i;
         held = same;
@@ -443,6 +452,7 @@ module _ (b : Bool) (f : Fabric) (p : Port) (d c shadow : ℕ) (after : Knowing)
         hands = one;
         look = look;
         other_look = others;
+        loose = spare;
       }
 
 -- what is counted of a rank

@@ -5,12 +5,12 @@ use native.Mathlib.Decide.{ℕ_discrete}
 use lib.ListN.{get_elem?}
 use Rattle.atomic_table.specs.Table.{State}
 use Rattle.nm_seats.specs.declared.views.View.{View}
-use Rattle.nm_chain.specs.Chain.{Has, held, ready, entering, queued}
+use Rattle.nm_chain.specs.Chain.{Has, loose, held, ready, entering, queued}
 use Rattle.nm_types.specs.Sizes.{Sizes}
-use Rattle.nm_cells.specs.declared.table.Hand.TheVariants.{Away}
-use Rattle.nm_cells.specs.declared.table.Entry.{Entry}
-use Rattle.nm_cells.specs.Rule.{put_to, from, Load, Place, pick, hand, sent_to, Rule}
-use Rattle.nm_cells.specs.Plays.{AllBelow}
+use Rattle.nm_table.specs.declared.table.Hand.TheVariants.{Away}
+use Rattle.nm_table.specs.declared.table.Entry.{Entry}
+use Rattle.nm_table.specs.Rule.{put_to, from, Load, Place, pick, hand, sent_to, Rule}
+use Rattle.nm_table.specs.Plays.{AllBelow}
 
 -- the entry of each rank, in order, of which none has a cell in hand
 abbrev pub Gathered : ℕ → ℕ → List Entry → Type 0
@@ -31,6 +31,7 @@ AllCame n es = (i j : ℕ) (e g : Entry) → i < n → j < n → get_elem? es i 
 
 -- 1 where the cell c is in its owner's free queue, and else 0
 abbrev pub homed : ℕ → ℕ → ℕ → Place → ℕ
+homed n each c (loose r) = 0
 homed n each c (held r) = 0
 homed n each c (ready r y) = 0
 homed n each c (entering r q t) = 0

@@ -3,10 +3,10 @@ use Rattle.std.specs.Prelude.{◌≡◌, ℕ, suc, ◌+◌, ◌<◌, ◌≤◌, 
 use Rattle.std.specs.Prelude.{List, [], ◌∷◌, length, map, sum_by, slice_index_or}
 use native.Mathlib.Decide.{ℕ_discrete, dec_le}
 use Rattle.nm_seats.specs.Update.{pick}
-use Rattle.nm_cells.specs.declared.table.Hand.{Hand}
-use Rattle.nm_cells.specs.declared.table.Hand.TheVariants.{Away, Held, Ready, Entering}
-use Rattle.nm_cells.specs.Rule.{Load, if_below}
-use Rattle.nm_cells.specs.Plays.{load_in}
+use Rattle.nm_table.specs.declared.table.Hand.{Hand}
+use Rattle.nm_table.specs.declared.table.Hand.TheVariants.{Away, Loose, Held, Ready, Entering}
+use Rattle.nm_table.specs.Rule.{Load, if_below}
+use Rattle.nm_table.specs.Plays.{load_in}
 
 -- how often the number k stands among these
 abbrev pub times : ℕ → List ℕ → ℕ
@@ -16,13 +16,15 @@ times k (x ∷ xs) = pick (ℕ_discrete x k) 1 0 + times k xs
 -- 1 where the slot of the cell is with the rank
 abbrev pub slots_with : Hand → ℕ
 slots_with Away = 0
+slots_with Loose = 0
 slots_with Held = 1
 slots_with (Ready y) = 1
 slots_with (Entering q t) = 0
 
--- 1 where the cell, or its pending enqueue, is in the rank's hand
+-- 1 where the cell is loose, or it or its pending enqueue is in the rank's hand
 abbrev pub in_hand : Hand → ℕ
 in_hand Away = 0
+in_hand Loose = 1
 in_hand Held = 1
 in_hand (Ready y) = 1
 in_hand (Entering q t) = 1

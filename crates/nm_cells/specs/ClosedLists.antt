@@ -1,13 +1,30 @@
 -- What a closed fabric keeps of its ports.
-use Rattle.std.specs.Prelude.{List, [], ◌∷◌}
-use Rattle.nm_seats.specs.declared.views.View.{View}
-use Rattle.nm_cells.specs.declared.table.Entry.{Entry}
-use Rattle.nm_cells.specs.declared.close.Closed.{Closed}
-
-abbrev pub seen_in : List (View Entry) → List Entry
-seen_in [] = []
-seen_in (v ∷ vs) = v.seen
+use Rattle.std.specs.Prelude.{◌≡◌, ℕ, ◌<◌, List, length, map}
+use Rattle.nm_types.specs.declared.packets.Packet.{Packet}
+use Rattle.nm_table.specs.declared.table.Entry.{Entry}
+use Rattle.nm_cells.specs.declared.peers.Peer.{Peer}
+use Rattle.nm_cells.specs.declared.closed.Closed.{Closed}
+use Rattle.nm_cells.specs.PathLists.{seen_in, sent_between, taken_between}
 
 -- what each rank knew at the end, in rank order
 abbrev pub entries : Closed → List Entry
 entries c = seen_in c.badge.views
+
+-- what each rank counted at the end, in rank order
+abbrev pub counted : Closed → List (List Peer)
+counted c = map (λ v. v.items) c.counted.items
+
+abbrev pub ranks_of : Closed → ℕ
+ranks_of c = length (entries c)
+
+-- what the rank i sent to the rank j, by number
+abbrev pub sent_list : Closed → ℕ → ℕ → List Packet
+sent_list c i j = sent_between (entries c) i j
+
+-- what the rank j passed on of the rank i, by number
+abbrev pub taken_list : Closed → ℕ → ℕ → List Packet
+taken_list c i j = taken_between (entries c) (counted c) i j
+
+-- of each ordered pair of n ranks, as many packets were passed on as were sent
+abbrev pub AllTaken : ℕ → Closed → Type 0
+AllTaken n c = (i j : ℕ) → i < n → j < n → length (taken_list c i j) ≡ length (sent_list c i j)

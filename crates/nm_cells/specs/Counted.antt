@@ -7,9 +7,9 @@ use native.Mathlib.Decide.{dec_le}
 use Rattle.nm_types.specs.declared.packets.Packet.{Packet}
 use Rattle.nm_chain.specs.Sequence.{Each, Rises, Got}
 use Rattle.nm_cells.specs.declared.peers.Peer.{Peer}
-use Rattle.nm_cells.specs.declared.table.Entry.{Entry}
-use Rattle.nm_cells.specs.Rule.{Load, put_to, from, number, sent_to, if_below}
-use Rattle.nm_cells.specs.Plays.{raised}
+use Rattle.nm_table.specs.declared.table.Entry.{Entry}
+use Rattle.nm_table.specs.Rule.{Load, put_to, from, number, sent_to, if_below}
+use Rattle.nm_table.specs.Plays.{raised}
 
 -- a rank of which nothing came and to which nothing went
 abbrev pub new_peer : Peer

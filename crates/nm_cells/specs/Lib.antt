@@ -3,8 +3,10 @@ pub mod AtWork
 pub mod Carried
 pub mod ClosedLists
 pub mod Counted
-pub mod Looks
-pub mod NextBox
-pub mod Plays
+pub mod LooseCells
+pub mod PathLists
 pub mod Ports
-pub mod Rule
+pub use Rattle.nm_table.specs.Looks
+pub use Rattle.nm_table.specs.NextBox
+pub use Rattle.nm_table.specs.Plays
+pub use Rattle.nm_table.specs.Rule

@@ -1,24 +1,25 @@
 -- What a port knows, has in hand and counts, in the words of contracts.
-use Rattle.std.specs.Prelude.{◌≡◌, ℕ, suc, ◌+◌, ◌*◌, ◌/◌, ◌<◌, ◌≤◌, Bool, true, false}
+use Rattle.std.specs.Prelude.{◌≡◌, ◌≢◌, ℕ, suc, ◌+◌, ◌*◌, ◌/◌, ◌<◌, ◌≤◌, ◌↔◌, Bool, true, false}
 use Rattle.std.specs.Prelude.{Some, None, IsSome, List, [], ◌∷◌, length}
 use Rattle.nm_types.specs.declared.packets.Packet.{Packet}
 use Rattle.nm_seats.specs.Update.{update}
-use Rattle.nm_cells.specs.declared.table.Hand.TheVariants.{Away, Entering}
-use Rattle.nm_cells.specs.declared.table.Entry.{Entry}
+use Rattle.nm_table.specs.declared.table.Hand.TheVariants.{Away, Entering}
+use Rattle.nm_table.specs.declared.table.Entry.{Entry}
 use Rattle.nm_cells.specs.declared.port.Port.{Port}
 use Rattle.nm_cells.specs.declared.port.Fabric.{Fabric}
 use Rattle.nm_cells.specs.declared.cell.Cell.{Cell}
 use Rattle.nm_cells.specs.declared.cell.Pending as pending
 use Rattle.nm_cells.specs.declared.cell.Queue as queues
 use Rattle.nm_cells.specs.declared.cell.Queue.TheVariants.{Receive, Free}
-use Rattle.nm_cells.specs.declared.table.Look.{Look}
-use Rattle.nm_cells.specs.declared.table.Look.TheVariants.{Fresh}
-use Rattle.nm_cells.specs.Rule.{Load, hand, sender, number, sent_to}
-use Rattle.nm_cells.specs.Rule.{emptying_of}
-use Rattle.nm_cells.specs.Rule.{newcomer}
-use Rattle.nm_cells.specs.Plays.{mine, InHand, end_of, taken, box_load}
-use Rattle.nm_cells.specs.Looks.{look_in, other}
+use Rattle.nm_table.specs.declared.table.Look.{Look}
+use Rattle.nm_table.specs.declared.table.Look.TheVariants.{Fresh}
+use Rattle.nm_table.specs.Rule.{Load, hand, sender, number, sent_to}
+use Rattle.nm_table.specs.Rule.{emptying_of}
+use Rattle.nm_table.specs.Rule.{newcomer}
+use Rattle.nm_table.specs.Plays.{mine, InHand, heads_of, taken, box_load}
+use Rattle.nm_table.specs.Looks.{look_in, other}
 use Rattle.nm_cells.specs.Carried.{held_in}
+use Rattle.nm_cells.specs.LooseCells.{IsAmong}
 use Rattle.nm_cells.specs.declared.peers.Peer.{Peer}
 use Rattle.nm_cells.specs.Counted.{peer_in, all_unpassed, IsUnpassedOf, with_peer, one_sent}
 
@@ -66,24 +67,30 @@ SameTaken old new = (taken_by new ≡ taken_by old) × (new.held ≡ old.held)
 abbrev pub look_of : Bool → Port → Look
 look_of b p = look_in b p.looks
 
+-- the cell is one of the port's loose ones
+abbrev pub IsLoose : Port → ℕ → Type 0
+IsLoose p c = IsAmong p.loose c
+
 -- The fabric's port of the same rank, which passed on, holds and has to pass on the same packets, and
--- whose last steps on its queues are the same
+-- whose last steps on its queues and loose cells are the same
 abbrev pub Stays : Fabric → Port → Port → Type 0
 Stays f old new = Owns f new × (new.rank ≡ old.rank) × SameTaken old new × (new.looks ≡ old.looks)
+    × (new.loose ≡ old.loose)
 
 -- No cell was taken from an own queue, and the step told this of the first one. The cells in hand are
 -- the same and hold the same
 abbrev pub Leaves : Bool → Look → Port → Port → Type 0
 Leaves b look old new = (look_of b new ≡ look) × (look_of (other b) new ≡ look_of (other b) old)
     × (new.hands ≡ old.hands) × (holding new ≡ holding old) × SameTaken old new
+    × (new.loose ≡ old.loose)
 
 abbrev pub cells_of : Fabric → ℕ
 cells_of f = f.ranks * f.each
 
--- the cell is in the port's hand
+-- the cell is in the port's hand, and not loose
 abbrev pub Has : Fabric → Port → Cell → Type 0
 Has f p c = (c.number < cells_of f) × (c.owner ≡ c.number / f.each)
-    × InHand (hand (knows p) c.number)
+    × InHand (hand (knows p) c.number) × (¬ IsLoose p c.number)
 
 -- the queue's number: the receive queues come first
 abbrev pub queue_of : ℕ → queues.Queue → ℕ
@@ -137,7 +144,7 @@ pub record Takes (b : Bool) (f : Fabric) (old new : Port) (c : Cell) : Type 0 wh
       × IsSome (holding new c.number)
   pub arrived : b ≡ true → (x : Packet) → holding new c.number ≡ Some x → IsUnpassed new x
   pub vacant : b ≡ false → (holding new c.number ≡ None) × (c.owner ≡ old.rank)
-  pub knows : knows new ≡ taken b c.number (holding new c.number) (end_of b (knows new)).shadow
+  pub knows : knows new ≡ taken b c.number (holding new c.number) (heads_of b (knows new)).shadow
       (knows old)
   pub holding : holding new ≡ update (holding old) c.number (holding new c.number)
   pub taken : taken_by new ≡ taken_by old
@@ -146,12 +153,40 @@ pub record Takes (b : Bool) (f : Fabric) (old new : Port) (c : Cell) : Type 0 wh
   pub hands : new.hands ≡ old.hands + 1
   pub look : look_of b new ≡ Fresh
   pub other_look : look_of (other b) new ≡ look_of (other b) old
+  pub loose : new.loose ≡ old.loose
 
--- the port of the rank k at the start
+-- The port's lowest loose cell is in its hand, empty, and no longer loose; the others are loose still
+pub record Frees (old new : Port) (c : Cell) : Type 0 where
+  pub was : IsLoose old c.number
+  pub lowest : (d : ℕ) → IsLoose old d → c.number ≤ d
+  pub own : c.owner ≡ old.rank
+  pub has : (f : Fabric) → Owns f old → Has f new c
+  pub vacant : holding new c.number ≡ None
+  pub others : (d : ℕ) → IsLoose new d ↔ (IsLoose old d × (d ≢ c.number))
+
+-- the port of the rank k at the start, but for its own cells
+abbrev pub IsFresh : Fabric → Port → ℕ → Type 0
+IsFresh f p k = Owns f p × (p.rank ≡ k)
+    × (knows p ≡ record (newcomer f.ranks f.each k) { hands = (knows p).hands })
+    × ((c : ℕ) → c < cells_of f → c / f.each ≢ k → hand (knows p) c ≡ Away)
+    × ((i : ℕ) → taken_by p i ≡ 0) × (p.held ≡ None) × (unpassed_by p ≡ 0)
+
+-- the port of the rank k at the start, whose own cells are all loose
+abbrev pub IsNewLoose : Fabric → Port → ℕ → Type 0
+IsNewLoose f p k = IsFresh f p k × (p.hands ≡ f.each)
+    × ((c : ℕ) → c < cells_of f → IsLoose p c ↔ (c / f.each ≡ k))
+
+-- the port of the rank k at the start, whose own cells are all in its free queue
 abbrev pub IsNew : Fabric → Port → ℕ → Type 0
 IsNew f p k = Owns f p × (p.rank ≡ k) × (knows p ≡ newcomer f.ranks f.each k) × (slots p ≡ [])
     × (p.hands ≡ 0)
     × ((i : ℕ) → taken_by p i ≡ 0) × (p.held ≡ None) × (unpassed_by p ≡ 0)
+    × ((c : ℕ) → ¬ IsLoose p c)
+
+-- the one or the other
+abbrev pub Begins : Bool → Fabric → Port → ℕ → Type 0
+Begins true f p k = IsNewLoose f p k
+Begins false f p k = IsNew f p k
 
 -- the port is taking the packet with the number a from its next box of the rank i
 abbrev pub Empties : Port → ℕ → ℕ → Type 0

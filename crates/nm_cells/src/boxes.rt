@@ -8,20 +8,20 @@ ghost use Rattle.std.specs.Prelude.{◌≡◌, ℕ, ◌+◌, ◌*◌, ◌%◌, �
 ghost use Rattle.std.specs.Prelude.{true, false, length, is_some, vec_len, vec_capacity};
 ghost use Rattle.nm_types.specs.declared.limits.TheConstants.{MAX_BOX};
 ghost use Rattle.nm_seats.specs.Update.{update};
-ghost use Rattle.nm_cells.specs.Rule.{box_slot, filling_of, emptying_of};
-ghost use Rattle.nm_cells.specs.Plays.{with_filling, with_emptying, with_box_full, with_box_miss};
-ghost use Rattle.nm_cells.specs.Plays.{with_put_box, with_got_box, box_load, Overtaken};
+ghost use Rattle.nm_table.specs.Rule.{box_slot, filling_of, emptying_of};
+ghost use Rattle.nm_table.specs.Plays.{with_filling, with_emptying, with_box_full, with_box_miss};
+ghost use Rattle.nm_table.specs.Plays.{with_put_box, with_got_box, box_load, Overtaken};
 ghost use Rattle.nm_cells.specs.Ports.{Owns, Stays, knows, holding, sent_by, taken_by};
 ghost use Rattle.nm_cells.specs.Ports.{unpassed_by, Empties, opens, unless};
 
 use crate::port::{Fabric, Port};
 use crate::slots::{bring_slot, carry};
-use crate::table::Entry;
 use crate::tally::{
     count_boxed, count_full, count_miss, count_unboxed, note_emptying, note_filling,
 };
 use atomic_table::Play;
 use nm_seats::{Steps, View};
+use nm_table::Entry;
 use nm_types::Packet;
 use std::marker::{Brand, PhantomData};
 use std::sync::ledger::Ledger;
@@ -44,7 +44,7 @@ struct LooksOut<T> {
 }
 
 impl<T: Told> Play<Option<Packet>, View<Entry>> for LooksOut<T> {
-    ghost use Rattle.nm_cells.specs.Plays.{looked_out};
+    ghost use Rattle.nm_table.specs.Plays.{looked_out};
 
     ghost then = { looked_out T.peer };
 }
@@ -54,7 +54,7 @@ struct LooksIn<T> {
 }
 
 impl<T: Told> Play<Option<Packet>, View<Entry>> for LooksIn<T> {
-    ghost use Rattle.nm_cells.specs.Plays.{looked_in};
+    ghost use Rattle.nm_table.specs.Plays.{looked_in};
 
     ghost then = { looked_in T.peer T.awaited };
 }
@@ -64,7 +64,7 @@ struct Fills<T> {
 }
 
 impl<T: Told> Play<Option<Packet>, View<Entry>> for Fills<T> {
-    ghost use Rattle.nm_cells.specs.Plays.{boxed};
+    ghost use Rattle.nm_table.specs.Plays.{boxed};
 
     ghost then = { boxed T.peer };
 }
@@ -74,7 +74,7 @@ struct Vacates<T> {
 }
 
 impl<T: Told> Play<Option<Packet>, View<Entry>> for Vacates<T> {
-    ghost use Rattle.nm_cells.specs.Plays.{unboxed};
+    ghost use Rattle.nm_table.specs.Plays.{unboxed};
 
     ghost then = { unboxed T.peer };
 }
@@ -290,7 +290,7 @@ fn empty<T: Told, L: Ledger>(
     requires taking { Empties port.old sender (taken_by port.old sender) }
     requires told { sender ≡ T.peer }
     ensures owns { Owns f.now port.new × (port.new.rank ≡ port.old.rank)
-        × (port.new.looks ≡ port.old.looks) }
+        × (port.new.looks ≡ port.old.looks) × (port.new.loose ≡ port.old.loose) }
     ensures packet { Some result ≡ box_load sender (knows port.old) }
     ensures got { knows port.new
         ≡ with_got_box (Some result ∷ []) (with_emptying sender None (knows port.old)) }
@@ -323,7 +323,7 @@ pub fn empty_box<L: Ledger>(f: &Fabric, port: &mut Port, sender: u8, steps: &mut
     requires peer { sender < f.now.ranks }
     requires taking { Empties port.old sender (taken_by port.old sender) }
     ensures owns { Owns f.now port.new × (port.new.rank ≡ port.old.rank)
-        × (port.new.looks ≡ port.old.looks) }
+        × (port.new.looks ≡ port.old.looks) × (port.new.loose ≡ port.old.loose) }
     ensures packet { (Some result ≡ box_load sender (knows port.old))
         × (result.from ≡ sender) × (result.seq ≡ taken_by port.old sender) }
     ensures got { knows port.new

@@ -1,38 +1,26 @@
 // A fabric at the start.
-ghost use Rattle.std.specs.Prelude.{◌≡◌, ℕ, suc, ◌+◌, ◌-◌, ◌*◌, ◌<◌, ◌≤◌, [], IfOk, Some, length, slice_get, slice_index, replicate};
+ghost use Rattle.std.specs.Prelude.{◌≡◌, ℕ, suc, ◌+◌, ◌-◌, ◌*◌, ◌/◌, ◌<◌, ◌≤◌, [], IfOk, Some, None};
+ghost use Rattle.std.specs.Prelude.{length, slice_get, replicate};
 ghost use Rattle.nm_cells.specs.declared.port.Port.{Port};
 ghost use Rattle.nm_seats.specs.Spoken.{view};
-ghost use Rattle.nm_cells.specs.Rule.{newcomers, IsInitial};
-ghost use Rattle.nm_cells.specs.Ports.{IsNew};
+ghost use Rattle.nm_table.specs.declared.table.Hand.TheVariants.{Away, Loose};
+ghost use Rattle.nm_table.specs.Rule.{beginners, hand, Opens};
+ghost use Rattle.nm_table.specs.Plays.{with_hand, with_put};
+ghost use Rattle.nm_cells.specs.Ports.{Owns, Stays, Has, knows, holding, cells_of};
+ghost use Rattle.nm_cells.specs.Ports.{IsFresh, IsNew, IsNewLoose, Begins};
 ghost use Rattle.nm_cells.specs.Counted.{new_peer};
 
+use crate::cell::{Cell, Queue};
+use crate::loose::{LooseCells, pick_up};
 use crate::peers::Peer;
 use crate::port::{Fabric, Port};
-use crate::table::{Board, End, Looks, Misses, Place};
-use nm_seats::GivesFirst;
+use crate::produce::{clear_link, store_head, store_link, swap_tail};
+use nm_seats::{GivesFirst, Steps};
+use nm_table::{Board, Heads, Looks, Misses, Place};
 use nm_types::{Memory, Shape};
 use std::alloc::Global;
-
-fn initial_word(ranks: u64, each: u64, i: u64) -> u64
-    requires { (ranks ≤ 64) × (0 < each) × (each ≤ 64)
-        × (i < 4 * ranks + ranks * each + 4 * (ranks * ranks)) }
-    ensures { IsInitial ranks each i result }
-{
-    if i < ranks {
-        0
-    } else if i < 2 * ranks {
-        (i - ranks) * each + 1
-    } else if i < 3 * ranks {
-        0
-    } else if i < 4 * ranks {
-        (i - 3 * ranks) * each + each
-    } else if i < 4 * ranks + ranks * each {
-        let cell = i - 4 * ranks;
-        if (cell + 1) % each == 0 { 0 } else { cell + 2 }
-    } else {
-        0
-    }
-}
+use std::marker::Brand;
+use std::sync::ledger::{Blank, Ledger};
 
 // What is counted of each rank at the start.
 fn new_peers(alloc: Global, ranks: u64) -> Result<Vec<Peer>, Memory>
@@ -46,43 +34,108 @@ fn new_peers(alloc: Global, ranks: u64) -> Result<Vec<Peer>, Memory>
     Ok(peers)
 }
 
-// The port of the lowest rank that `rest` speaks for.
+// The port of the lowest rank that `rest` speaks for. No cell's slot is taken yet.
 fn port_of(alloc: Global, f: &Fabric, rest: &mut Place, rank: u8) -> Result<Port, Memory>
     requires table { (rest.old.table_id ≡ f.now.board.shared.table_id) × (rank < f.now.ranks) }
     requires lowest { rest.old.me
-        ≡ (view (newcomers f.now.ranks f.now.each rank (suc (f.now.ranks - suc rank))), []) }
-    ensures port { IfOk result (λ p. IsNew f.now p rank) }
+        ≡ (view (beginners f.now.ranks f.now.each rank (suc (f.now.ranks - suc rank))), []) }
+    ensures port { IfOk result (λ p. IsFresh f.now p rank × (p.hands ≡ f.now.each)
+        × (p.loose.first ≡ rank * f.now.each) × (p.loose.end ≡ rank * f.now.each)) }
+    ensures untouched { IfOk result (λ p. (c : ℕ) → c < cells_of f.now → c / f.now.each ≡ rank
+        → hand (knows p) c ≡ Loose) }
     ensures rest { IfOk result (λ _. (rest.new.table_id ≡ rest.old.table_id) × (rest.new.me
-        ≡ (view (newcomers f.now.ranks f.now.each (suc rank) (f.now.ranks - suc rank)), []))) }
+        ≡ (view (beginners f.now.ranks f.now.each (suc rank) (f.now.ranks - suc rank)), []))) }
 {
     let room = f.ranks * f.each + 2 * f.ranks;
     let carried = Vec::with_capacity(alloc, room as usize)?;
     let peers = new_peers(alloc, f.ranks)?;
     let seat = f.board.shared.split_seat::<GivesFirst>(rest);
+    let first = u64::from(rank) * f.each;
     Ok(Port {
         seat,
         rank,
-        receive: End { shadow: 0, seen: 0 },
-        free: End { shadow: 0, seen: 0 },
+        receive: Heads { shadow: 0, seen: 0 },
+        free: Heads { shadow: 0, seen: 0 },
         looks: Looks::new(),
         receive_missed: Misses::new(),
         free_missed: Misses::new(),
         carried,
-        hands: 0,
+        hands: f.each as u32,
         peers,
         held: None,
+        loose: LooseCells { first, end: first },
     })
+}
+
+// Takes the slots of all own cells, which are loose from then on.
+fn loosen(f: &Fabric, port: &mut Port)
+    requires fresh { IsFresh f.now port.old port.old.rank × (port.old.hands ≡ f.now.each) }
+    requires first { (port.old.loose.first ≡ port.old.rank * f.now.each)
+        × (port.old.loose.end ≡ port.old.rank * f.now.each) }
+    requires untouched { (c : ℕ) → c < cells_of f.now → c / f.now.each ≡ port.old.rank
+        → hand (knows port.old) c ≡ Loose }
+    ensures { IsNewLoose f.now port.new port.old.rank }
+{
+    for _cell in 0..f.each {
+        pick_up(f, port);
+    }
+}
+
+// Puts an empty cell of the port's own into its free queue.
+fn put_home<L: Ledger>(f: &Fabric, port: &mut Port, cell: Cell, blank: Blank)
+    requires blank { (blank.name ≡ L.name) × (blank.parts ≡ L.parts) × (0 < L.parts) }
+    requires owns { Owns f.now port.old }
+    requires in_hand { Has f.now port.old cell }
+    requires own { cell.number / f.now.each ≡ port.old.rank }
+    requires vacant { holding port.old cell.number ≡ None }
+    ensures stays { Stays f.now port.old port.new }
+    ensures put { knows port.new ≡ with_put [] (with_hand cell.number Away (knows port.old)) }
+    ensures hands { port.new.hands + 1 ≡ port.old.hands }
+{
+    let mut steps = Steps::<L>::new(blank);
+    let own = Queue::Free(port.rank);
+    clear_link(f, port, &cell, &mut steps);
+    let pending = swap_tail(f, port, own, cell, &mut steps);
+    if pending.is_first() {
+        store_head(f, port, pending, &mut steps);
+    } else {
+        store_link(f, port, pending, &mut steps);
+    }
+}
+
+// Puts all loose cells into the port's free queue.
+fn fill_free_queue(f: &Fabric, port: &mut Port)
+    requires { IsNewLoose f.now port.old port.old.rank }
+    ensures { IsNew f.now port.new port.old.rank }
+{
+    while let Some(cell) = port.loose() {
+        put_home::<Brand>(f, port, cell, Blank::new(1));
+    }
+}
+
+// Takes the slots of all own cells, and puts these into the free queue unless they are to be loose.
+fn begin(f: &Fabric, port: &mut Port, loose: bool)
+    requires fresh { IsFresh f.now port.old port.old.rank × (port.old.hands ≡ f.now.each) }
+    requires first { (port.old.loose.first ≡ port.old.rank * f.now.each)
+        × (port.old.loose.end ≡ port.old.rank * f.now.each) }
+    requires untouched { (c : ℕ) → c < cells_of f.now → c / f.now.each ≡ port.old.rank
+        → hand (knows port.old) c ≡ Loose }
+    ensures { Begins loose f.now port.new port.old.rank }
+{
+    loosen(f, port);
+    if !loose {
+        fill_free_queue(f, port);
+    }
 }
 
 fn first_words(alloc: Global, ranks: u64, each: u64) -> Result<Vec<u64>, Memory>
     requires { (ranks ≤ 64) × (0 < each) × (each ≤ 64) }
-    ensures { IfOk result (λ v. (length v.items ≡ 4 * ranks + ranks * each + 4 * (ranks * ranks))
-        × ((i : ℕ) → i < length v.items → IsInitial ranks each i (slice_index v.items i))) }
+    ensures { IfOk result (λ v. Opens ranks each v.items) }
 {
     let count = 4 * ranks + ranks * each + 4 * (ranks * ranks);
     let mut words = Vec::new(alloc);
-    for i in 0..count {
-        words.push(initial_word(ranks, each, i))?;
+    for _i in 0..count {
+        words.push(0)?;
     }
     Ok(words)
 }
@@ -91,26 +144,35 @@ fn first_words(alloc: Global, ranks: u64, each: u64) -> Result<Vec<u64>, Memory>
 fn whole(alloc: Global, shape: &Shape) -> Result<(Fabric, Place), Memory>
     ensures { IfOk result (λ t. (t.0.ranks ≡ shape.now.ranks) × (t.0.each ≡ shape.now.cells)
         × (t.1.table_id ≡ t.0.board.shared.table_id) × (t.1.me
-        ≡ (view (newcomers shape.now.ranks shape.now.cells 0 shape.now.ranks), []))) }
+        ≡ (view (beginners shape.now.ranks shape.now.cells 0 shape.now.ranks), []))) }
 {
     let ranks = u64::from(shape.ranks());
     let each = u64::from(shape.cells());
     let words = first_words(alloc, ranks, each)?;
     let slots = ranks * each + 4 * (ranks * ranks);
+    let counted = Vec::with_capacity(alloc, ranks as usize)?;
     let (board, rest) = Board::vacant(alloc, words.as_slice(), slots as usize, shape)?;
-    Ok((Fabric { board, ranks, each }, rest))
+    let fabric = Fabric {
+        board,
+        ranks,
+        each,
+        counted,
+    };
+    Ok((fabric, rest))
 }
 
-fn ports_of(alloc: Global, f: &Fabric, mut rest: Place) -> Result<Vec<Port>, Memory>
+// The ports of all ranks, whose cells are loose, or else in their free queues.
+fn ports_of(alloc: Global, f: &Fabric, mut rest: Place, loose: bool) -> Result<Vec<Port>, Memory>
     requires { (rest.table_id ≡ f.now.board.shared.table_id) × (rest.me
-        ≡ (view (newcomers f.now.ranks f.now.each 0 f.now.ranks), [])) }
+        ≡ (view (beginners f.now.ranks f.now.each 0 f.now.ranks), [])) }
     ensures count { IfOk result (λ v. length v.items ≡ f.now.ranks) }
     ensures ports { IfOk result (λ v. (k : ℕ) (p : Port) → slice_get v.items k ≡ Some p
-        → IsNew f.now p k) }
+        → Begins loose f.now p k) }
 {
     let mut ports = Vec::new(alloc);
     for rank in 0..f.ranks {
-        let port = port_of(alloc, f, &mut rest, rank as u8)?;
+        let mut port = port_of(alloc, f, &mut rest, rank as u8)?;
+        begin(f, &mut port, loose);
         ports.push(port)?;
     }
     Ok(ports)
@@ -125,7 +187,27 @@ impl Fabric {
             (k : ℕ) (p : Port) → slice_get t.1.items k ≡ Some p → IsNew t.0 p k) }
     {
         let (fabric, rest) = whole(alloc, &shape)?;
-        let ports = ports_of(alloc, &fabric, rest)?;
+        let ports = ports_of(alloc, &fabric, rest, false)?;
         Ok((fabric, ports))
+    }
+
+    /// A fabric whose queues are all empty and whose cells are loose, each with its owner's port. There
+    /// is a port for each rank, in order.
+    pub fn build_loose(alloc: Global, shape: Shape) -> Result<(Fabric, Vec<Port>), Memory>
+        ensures fabric { IfOk result (λ t. (t.0.ranks ≡ shape.ranks) × (t.0.each ≡ shape.cells)
+            × (length t.1.items ≡ shape.ranks)) }
+        ensures ports { IfOk result (λ t.
+            (k : ℕ) (p : Port) → slice_get t.1.items k ≡ Some p → IsNewLoose t.0 p k) }
+    {
+        let (fabric, rest) = whole(alloc, &shape)?;
+        let ports = ports_of(alloc, &fabric, rest, true)?;
+        Ok((fabric, ports))
+    }
+
+    /// How many ranks share it.
+    pub fn ranks(&self) -> u8
+        ensures { result ≡ self.now.ranks }
+    {
+        self.ranks as u8
     }
 }

@@ -1,52 +1,56 @@
 // The end of a fabric.
-ghost use Rattle.std.specs.Prelude.{◌≡◌, ℕ, suc, ◌+◌, ◌*◌, ◌<◌, ◌≤◌, List, [], ◌∷◌, Some, length, map, slice_get};
-ghost use Rattle.atomic_table.specs.Table.{State};
+ghost use Rattle.std.specs.Prelude.{◌≡◌, ℕ, ◌+◌, ◌*◌, ◌<◌, ◌≤◌, [], ◌∷◌, Some, length, map, slice_get};
+ghost use Rattle.std.specs.Prelude.{vec_len, vec_capacity};
 ghost use Rattle.nm_seats.specs.Spoken.{view};
 ghost use Rattle.nm_cells.specs.declared.port.Port.{Port};
-ghost use Rattle.nm_cells.specs.declared.table.Entry.{Entry};
 ghost use Rattle.nm_cells.specs.AtClose.{Gathered, Prefixed, AllCame, Settled};
-ghost use Rattle.nm_cells.specs.Ports.{Owns, knows};
-ghost use Rattle.nm_cells.specs.ClosedLists.{entries};
+ghost use Rattle.nm_cells.specs.Ports.{Owns, knows, sent_by, taken_by};
+ghost use Rattle.nm_cells.specs.PathLists.{Begins};
+ghost use Rattle.nm_cells.specs.ClosedLists.{entries, sent_list, taken_list, AllTaken};
 
+use crate::closed::Closed;
+use crate::peers::Peer;
 use crate::port::{Fabric, Port};
-use crate::table::{Board, Entry, Place};
-use atomic_table::Badge;
-use nm_seats::{Joins, Seals, View};
+use nm_seats::{Joins, Seals};
+use nm_table::{Board, Place};
 use nm_types::Account;
 
-/// A fabric that is closed. It keeps what its ports knew, of which no value is made.
-#[derive(Drop)]
-pub struct Closed {
-    pub(crate) badge: Badge<View<Entry>>,
-    pub(crate) cells: Account,
+// One more port's counts, before those of the others.
+fn count_first(counted: &mut Vec<Vec<Peer>>, peers: Vec<Peer>)
+    requires { vec_len counted.old < vec_capacity counted.old }
+    ensures items { counted.new.items ≡ peers ∷ counted.old.items }
+    ensures capacity { vec_capacity counted.old ≤ vec_capacity counted.new }
+{
+    let Ok(()) = counted.insert(0, peers) else {
+        unreachable!()
+    };
 }
 
-impl Closed {
-    pub fn account(&self) -> Account
-        ensures { result ≡ self.now.cells }
-    {
-        self.cells
-    }
-}
-
-// One seat that speaks for all ranks, in order.
-fn gather(f: &Fabric, mut ports: Vec<Port>) -> Place
-    requires count { (length ports.items ≡ f.now.ranks) × (0 < f.now.ranks) }
-    requires ports { (k : ℕ) (p : Port) → slice_get ports.items k ≡ Some p → Owns f.now p
-        × (p.rank ≡ k) × (p.hands ≡ 0) }
-    ensures table { result.table_id ≡ f.now.board.shared.table_id }
-    ensures all { result.me ≡ (view (map knows ports.items), []) }
+// One seat that speaks for all ranks, and what each port counted, both in rank order.
+fn gather(
+    board: &Board,
+    mut ports: Vec<Port>,
+    mut counted: Vec<Vec<Peer>>,
+) -> (Place, Vec<Vec<Peer>>)
+    requires count { (0 < length ports.items) × (0 < board.now.shared.table_id.words) }
+    requires ports { (k : ℕ) (p : Port) → slice_get ports.items k ≡ Some p
+        → (p.seat.table_id ≡ board.now.shared.table_id) × (p.hands ≡ 0) }
+    requires room { (counted.items ≡ []) × (length ports.items ≤ vec_capacity counted) }
+    ensures table { result.0.table_id ≡ board.now.shared.table_id }
+    ensures all { result.0.me ≡ (view (map knows ports.items), []) }
+    ensures counted { result.1.items ≡ map (λ p. p.peers) ports.items }
 {
     let Some(last) = ports.pop() else {
         unreachable!()
     };
-    let mut seat = last.into_seat();
+    let (mut seat, peers) = last.into_parts();
+    count_first(&mut counted, peers);
     while let Some(port) = ports.pop() {
-        f.board
-            .shared
-            .join_seat::<Joins>(&mut seat, port.into_seat());
+        let (other, peers) = port.into_parts();
+        board.shared.join_seat::<Joins>(&mut seat, other);
+        count_first(&mut counted, peers);
     }
-    seat
+    (seat, counted)
 }
 
 // The cells of the closed table, of which those at home hold nothing.
@@ -85,8 +89,9 @@ fn settle(board: Board, seat: Place, ranks: u64, each: u64) -> Account
 }
 
 impl Fabric {
-    /// Joins all ports of a fabric, in rank order, and accounts for its cells. Where each packet that was
-    /// sent came, every cell is in its owner's free queue.
+    /// Joins all ports of a fabric, in rank order, and accounts for its cells. What each rank passed on of
+    /// another is the beginning of what that one sent to it. Where each packet that was sent was passed
+    /// on, every cell is in its owner's free queue.
     pub fn close(self, ports: Vec<Port>) -> Closed
         requires count { (length ports.items ≡ self.ranks) × (0 < self.ranks) }
         requires ports { (k : ℕ) (p : Port) → slice_get ports.items k ≡ Some p → Owns self p
@@ -97,15 +102,26 @@ impl Fabric {
         ensures paths { Prefixed self.ranks (entries result) }
         ensures home { AllCame self.ranks (entries result) → result.cells.home
             ≡ result.cells.total }
+        ensures counts { (k j : ℕ) (p : Port) → slice_get ports.items k ≡ Some p → j < self.ranks
+            → (length (sent_list result k j) ≡ sent_by p j)
+            × (length (taken_list result j k) ≡ taken_by p j) }
+        ensures prefix { (i j : ℕ) → i < self.ranks → j < self.ranks
+            → Begins (taken_list result i j) (sent_list result i j) }
+        ensures all_taken { AllTaken self.ranks result → result.cells.home ≡ result.cells.total }
     {
-        let mut seat = gather(&self, ports);
-        let badge = self
-            .board
-            .shared
-            .split_seat::<Seals>(&mut seat)
-            .into_badge();
-        let Fabric { board, ranks, each } = self;
+        let Fabric {
+            board,
+            ranks,
+            each,
+            counted,
+        } = self;
+        let (mut seat, counted) = gather(&board, ports, counted);
+        let badge = board.shared.split_seat::<Seals>(&mut seat).into_badge();
         let cells = settle(board, seat, ranks, each);
-        Closed { badge, cells }
+        Closed {
+            badge,
+            cells,
+            counted,
+        }
     }
 }

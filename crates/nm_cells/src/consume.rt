@@ -4,28 +4,28 @@
 
 ghost use Rattle.std.specs.Prelude.{true, false, ◌≡◌, ◌≢◌, ℕ, suc, ◌+◌, ◌-◌, ◌*◌, ◌<◌, ◌≤◌, ◌^◌, ◌∷◌};
 ghost use Rattle.std.specs.Prelude.{◌↔◌, IsTrue, IfSome, IfNone, length};
-ghost use Rattle.nm_cells.specs.Plays.{queue, end_of, with_end, at_end, with_missed};
+ghost use Rattle.nm_table.specs.Plays.{queue, heads_of, with_heads, heads_at, with_missed};
 ghost use Rattle.nm_cells.specs.Counted.{peer_in, counted_after};
-ghost use Rattle.nm_cells.specs.Plays.{head_miss, link_miss};
+ghost use Rattle.nm_table.specs.Plays.{head_miss, link_miss};
 ghost use Rattle.nm_cells.specs.Ports.{Owns, Stays, knows, holding, Takes, Leaves, look_of};
 ghost use Rattle.nm_cells.specs.Ports.{IsOwn, is_receive};
-ghost use Rattle.nm_cells.specs.declared.table.Look.TheVariants.{Fresh, LinkEmpty, TailElsewhere};
+ghost use Rattle.nm_table.specs.declared.table.Look.TheVariants.{Fresh, LinkEmpty, TailElsewhere};
 
 use crate::cell::{Cell, Queue};
 use crate::peers::Peer;
 use crate::port::{Fabric, Port};
 use crate::slots::carry;
-use crate::table::{End, Entry, Look, Misses};
-use crate::tally::{count_arrived, one_more};
+use crate::tally::count_arrived;
 use atomic_table::Play;
 use nm_seats::{Steps, View};
+use nm_table::{Entry, Heads, Look, Misses};
 use nm_types::Packet;
 use std::sync::ledger::Ledger;
 
 struct LoadsHead<const B: bool>;
 
 impl<const B: bool> Play<Option<Packet>, View<Entry>> for LoadsHead<B> {
-    ghost use Rattle.nm_cells.specs.Plays.{loaded_head};
+    ghost use Rattle.nm_table.specs.Plays.{loaded_head};
 
     ghost then = { loaded_head B };
 }
@@ -33,7 +33,7 @@ impl<const B: bool> Play<Option<Packet>, View<Entry>> for LoadsHead<B> {
 struct ClearsHead<const B: bool>;
 
 impl<const B: bool> Play<Option<Packet>, View<Entry>> for ClearsHead<B> {
-    ghost use Rattle.nm_cells.specs.Plays.{cleared_head};
+    ghost use Rattle.nm_table.specs.Plays.{cleared_head};
 
     ghost then = { cleared_head B };
 }
@@ -41,7 +41,7 @@ impl<const B: bool> Play<Option<Packet>, View<Entry>> for ClearsHead<B> {
 struct Passes<const B: bool>;
 
 impl<const B: bool> Play<Option<Packet>, View<Entry>> for Passes<B> {
-    ghost use Rattle.nm_cells.specs.Plays.{passed};
+    ghost use Rattle.nm_table.specs.Plays.{passed};
 
     ghost then = { passed B };
 }
@@ -49,7 +49,7 @@ impl<const B: bool> Play<Option<Packet>, View<Entry>> for Passes<B> {
 struct Reloads<const B: bool>;
 
 impl<const B: bool> Play<Option<Packet>, View<Entry>> for Reloads<B> {
-    ghost use Rattle.nm_cells.specs.Plays.{reloaded};
+    ghost use Rattle.nm_table.specs.Plays.{reloaded};
 
     ghost then = { reloaded B };
 }
@@ -57,7 +57,7 @@ impl<const B: bool> Play<Option<Packet>, View<Entry>> for Reloads<B> {
 struct Drains<const B: bool>;
 
 impl<const B: bool> Play<Option<Packet>, View<Entry>> for Drains<B> {
-    ghost use Rattle.nm_cells.specs.Plays.{drained};
+    ghost use Rattle.nm_table.specs.Plays.{drained};
 
     ghost then = { drained B };
 }
@@ -71,29 +71,9 @@ fn own_queue<const B: bool>(f: &Fabric, port: &Port) -> u64
     if B { rank } else { f.ranks + rank }
 }
 
-impl Misses {
-    fn after_head(self) -> Misses
-        ensures { result ≡ head_miss self }
-    {
-        Misses {
-            head_empty: one_more(self.head_empty),
-            link_missing: self.link_missing,
-        }
-    }
-
-    fn after_link(self) -> Misses
-        ensures { result ≡ link_miss self }
-    {
-        Misses {
-            head_empty: self.head_empty,
-            link_missing: one_more(self.link_missing),
-        }
-    }
-}
-
 impl Port {
-    fn end<const B: bool>(&self) -> End
-        ensures { result ≡ end_of B (knows self.now) }
+    fn heads<const B: bool>(&self) -> Heads
+        ensures { result ≡ heads_of B (knows self.now) }
     {
         if B { self.receive } else { self.free }
     }
@@ -101,14 +81,14 @@ impl Port {
 
 fn load_head_of<L: Ledger, const B: bool>(f: &Fabric, port: &mut Port, steps: &mut Steps<L>) -> bool
     requires owns { Owns f.now port.old }
-    requires no_shadow { (end_of B (knows port.old)).shadow ≡ 0 }
+    requires no_shadow { (heads_of B (knows port.old)).shadow ≡ 0 }
     ensures stays { Stays f.now port.old port.new }
-    ensures told { IsTrue result ↔ (0 < (end_of B (knows port.new)).seen) }
-    ensures found { result ≡ true → knows port.new ≡ with_end B
-        (at_end 0 (end_of B (knows port.new)).seen)
+    ensures told { IsTrue result ↔ (0 < (heads_of B (knows port.new)).seen) }
+    ensures found { result ≡ true → knows port.new ≡ with_heads B
+        (heads_at 0 (heads_of B (knows port.new)).seen)
         (knows port.old) }
     ensures empty { result ≡ false → knows port.new ≡ with_missed B head_miss
-        (with_end B (at_end 0 0) (knows port.old)) }
+        (with_heads B (heads_at 0 0) (knows port.old)) }
     ensures hands { (port.new.hands ≡ port.old.hands) × (holding port.new ≡ holding port.old) }
     ensures cost { steps.new ≡ steps.old + 1 }
 {
@@ -134,23 +114,23 @@ fn load_head_of<L: Ledger, const B: bool>(f: &Fabric, port: &mut Port, steps: &m
 
 fn clear_head_of<L: Ledger, const B: bool>(f: &Fabric, port: &mut Port, steps: &mut Steps<L>)
     requires owns { Owns f.now port.old }
-    requires loaded { 0 < (end_of B (knows port.old)).seen }
+    requires loaded { 0 < (heads_of B (knows port.old)).seen }
     ensures stays { Stays f.now port.old port.new }
     ensures hidden { knows port.new
-        ≡ with_end B (at_end (end_of B (knows port.old)).seen 0) (knows port.old) }
+        ≡ with_heads B (heads_at (heads_of B (knows port.old)).seen 0) (knows port.old) }
     ensures hands { (port.new.hands ≡ port.old.hands) × (holding port.new ≡ holding port.old) }
     ensures cost { steps.new ≡ steps.old + 1 }
 {
     steps.tick();
     let word = own_queue::<B>(f, port);
-    let shadow = port.end::<B>().seen;
+    let shadow = port.heads::<B>().seen;
     f.board
         .shared
         .store::<ClearsHead<B>>(&mut port.seat, word as usize, 0);
     if B {
-        port.receive = End { shadow, seen: 0 };
+        port.receive = Heads { shadow, seen: 0 };
     } else {
-        port.free = End { shadow, seen: 0 };
+        port.free = Heads { shadow, seen: 0 };
     }
 }
 
@@ -171,7 +151,7 @@ fn load_link_of<L: Ledger, const B: bool>(
     steps: &mut Steps<L>,
 ) -> Option<Cell>
     requires owns { Owns f.now port.old }
-    requires first { 0 < (end_of B (knows port.old)).shadow }
+    requires first { 0 < (heads_of B (knows port.old)).shadow }
     ensures owns { Owns f.now port.new × (port.new.rank ≡ port.old.rank) }
     ensures none { IfNone result ((knows port.new ≡ knows port.old)
         × Leaves B LinkEmpty port.old port.new) }
@@ -179,7 +159,7 @@ fn load_link_of<L: Ledger, const B: bool>(
     ensures cost { steps.new ≡ steps.old + 1 }
 {
     steps.tick();
-    let number = port.end::<B>().shadow - 1;
+    let number = port.heads::<B>().shadow - 1;
     let word = 4 * f.ranks + number;
     let found = f
         .board
@@ -189,15 +169,15 @@ fn load_link_of<L: Ledger, const B: bool>(
         port.looks.set::<B>(Look::LinkEmpty);
         return None;
     }
-    let end = End {
+    let heads = Heads {
         shadow: found,
         seen: 0,
     };
     let owner = number / f.each;
     if B {
-        port.receive = end;
+        port.receive = heads;
     } else {
-        port.free = end;
+        port.free = heads;
     }
     port.looks.set::<B>(Look::Fresh);
     count_taken::<B>(&mut port.peers, owner as usize);
@@ -215,7 +195,7 @@ fn reload_link_of<L: Ledger, const B: bool>(
     steps: &mut Steps<L>,
 ) -> Option<Cell>
     requires owns { Owns f.now port.old }
-    requires first { 0 < (end_of B (knows port.old)).shadow }
+    requires first { 0 < (heads_of B (knows port.old)).shadow }
     requires look { look_of B port.old ≡ TailElsewhere }
     ensures owns { Owns f.now port.new × (port.new.rank ≡ port.old.rank) }
     ensures none { IfNone result ((knows port.new ≡ with_missed B link_miss (knows port.old))
@@ -224,7 +204,7 @@ fn reload_link_of<L: Ledger, const B: bool>(
     ensures cost { steps.new ≡ steps.old + 1 }
 {
     steps.tick();
-    let number = port.end::<B>().shadow - 1;
+    let number = port.heads::<B>().shadow - 1;
     let word = 4 * f.ranks + number;
     let found = f
         .board
@@ -239,15 +219,15 @@ fn reload_link_of<L: Ledger, const B: bool>(
         port.looks.set::<B>(Look::LinkEmpty);
         return None;
     }
-    let end = End {
+    let heads = Heads {
         shadow: found,
         seen: 0,
     };
     let owner = number / f.each;
     if B {
-        port.receive = end;
+        port.receive = heads;
     } else {
-        port.free = end;
+        port.free = heads;
     }
     port.looks.set::<B>(Look::Fresh);
     count_taken::<B>(&mut port.peers, owner as usize);
@@ -265,7 +245,7 @@ fn drop_tail_of<L: Ledger, const B: bool>(
     steps: &mut Steps<L>,
 ) -> Option<Cell>
     requires owns { Owns f.now port.old }
-    requires first { 0 < (end_of B (knows port.old)).shadow }
+    requires first { 0 < (heads_of B (knows port.old)).shadow }
     requires look { look_of B port.old ≡ LinkEmpty }
     ensures owns { Owns f.now port.new × (port.new.rank ≡ port.old.rank) }
     ensures none { IfNone result ((knows port.new ≡ knows port.old)
@@ -274,7 +254,7 @@ fn drop_tail_of<L: Ledger, const B: bool>(
     ensures cost { steps.new ≡ steps.old + 1 }
 {
     steps.tick();
-    let shadow = port.end::<B>().shadow;
+    let shadow = port.heads::<B>().shadow;
     let number = shadow - 1;
     let word = 2 * f.ranks + own_queue::<B>(f, port);
     let found = f
@@ -285,12 +265,12 @@ fn drop_tail_of<L: Ledger, const B: bool>(
         port.looks.set::<B>(Look::TailElsewhere);
         return None;
     }
-    let end = End { shadow: 0, seen: 0 };
+    let heads = Heads { shadow: 0, seen: 0 };
     let owner = number / f.each;
     if B {
-        port.receive = end;
+        port.receive = heads;
     } else {
-        port.free = end;
+        port.free = heads;
     }
     port.looks.set::<B>(Look::Fresh);
     count_taken::<B>(&mut port.peers, owner as usize);
@@ -309,13 +289,13 @@ fn drop_tail_of<L: Ledger, const B: bool>(
 pub fn load_head<L: Ledger>(f: &Fabric, port: &mut Port, q: Queue, steps: &mut Steps<L>) -> bool
     requires owns { Owns f.now port.old }
     requires own { IsOwn port.old q }
-    requires no_shadow { (end_of (is_receive q) (knows port.old)).shadow ≡ 0 }
+    requires no_shadow { (heads_of (is_receive q) (knows port.old)).shadow ≡ 0 }
     ensures stays { Stays f.now port.old port.new }
-    ensures found { result ≡ true → knows port.new ≡ with_end (is_receive q)
-        (at_end 0 (end_of (is_receive q) (knows port.new)).seen) (knows port.old)
-        × (0 < (end_of (is_receive q) (knows port.new)).seen) }
+    ensures found { result ≡ true → knows port.new ≡ with_heads (is_receive q)
+        (heads_at 0 (heads_of (is_receive q) (knows port.new)).seen) (knows port.old)
+        × (0 < (heads_of (is_receive q) (knows port.new)).seen) }
     ensures empty { result ≡ false → knows port.new ≡ with_missed (is_receive q) head_miss
-        (with_end (is_receive q) (at_end 0 0) (knows port.old)) }
+        (with_heads (is_receive q) (heads_at 0 0) (knows port.old)) }
     ensures hands { (port.new.hands ≡ port.old.hands) × (holding port.new ≡ holding port.old) }
     ensures cost { steps.new ≡ steps.old + 1 }
 {
@@ -329,10 +309,10 @@ pub fn load_head<L: Ledger>(f: &Fabric, port: &mut Port, q: Queue, steps: &mut S
 pub fn clear_head<L: Ledger>(f: &Fabric, port: &mut Port, q: Queue, steps: &mut Steps<L>)
     requires owns { Owns f.now port.old }
     requires own { IsOwn port.old q }
-    requires loaded { 0 < (end_of (is_receive q) (knows port.old)).seen }
+    requires loaded { 0 < (heads_of (is_receive q) (knows port.old)).seen }
     ensures stays { Stays f.now port.old port.new }
-    ensures hidden { knows port.new ≡ with_end (is_receive q)
-        (at_end (end_of (is_receive q) (knows port.old)).seen 0) (knows port.old) }
+    ensures hidden { knows port.new ≡ with_heads (is_receive q)
+        (heads_at (heads_of (is_receive q) (knows port.old)).seen 0) (knows port.old) }
     ensures hands { (port.new.hands ≡ port.old.hands) × (holding port.new ≡ holding port.old) }
     ensures cost { steps.new ≡ steps.old + 1 }
 {
@@ -352,7 +332,7 @@ pub fn load_link<L: Ledger>(
 ) -> Option<Cell>
     requires owns { Owns f.now port.old }
     requires own { IsOwn port.old q }
-    requires first { 0 < (end_of (is_receive q) (knows port.old)).shadow }
+    requires first { 0 < (heads_of (is_receive q) (knows port.old)).shadow }
     ensures owns { Owns f.now port.new × (port.new.rank ≡ port.old.rank) }
     ensures none { IfNone result ((knows port.new ≡ knows port.old)
         × Leaves (is_receive q) LinkEmpty port.old port.new) }
@@ -376,7 +356,7 @@ pub fn drop_tail<L: Ledger>(
 ) -> Option<Cell>
     requires owns { Owns f.now port.old }
     requires own { IsOwn port.old q }
-    requires first { 0 < (end_of (is_receive q) (knows port.old)).shadow }
+    requires first { 0 < (heads_of (is_receive q) (knows port.old)).shadow }
     requires look { look_of (is_receive q) port.old ≡ LinkEmpty }
     ensures owns { Owns f.now port.new × (port.new.rank ≡ port.old.rank) }
     ensures none { IfNone result ((knows port.new ≡ knows port.old)
@@ -401,7 +381,7 @@ pub fn reload_link<L: Ledger>(
 ) -> Option<Cell>
     requires owns { Owns f.now port.old }
     requires own { IsOwn port.old q }
-    requires first { 0 < (end_of (is_receive q) (knows port.old)).shadow }
+    requires first { 0 < (heads_of (is_receive q) (knows port.old)).shadow }
     requires look { look_of (is_receive q) port.old ≡ TailElsewhere }
     ensures owns { Owns f.now port.new × (port.new.rank ≡ port.old.rank) }
     ensures none { IfNone result ((knows port.new

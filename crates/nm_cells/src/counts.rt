@@ -2,8 +2,8 @@
 
 ghost use Rattle.std.specs.Prelude.{◌≡◌, ◌≢◌, ◌<◌, ◌↔◌, ◌^◌, IsTrue, Some, None, option_copied, slice_index, length};
 ghost use Rattle.nm_cells.specs.Counted.{peer_in, one_passed, with_peer};
-ghost use Rattle.nm_cells.specs.Rule.{put_to, from as from_rank};
-ghost use Rattle.nm_cells.specs.Plays.{end_of, missed_of, capped};
+ghost use Rattle.nm_table.specs.Rule.{put_to, from as from_rank};
+ghost use Rattle.nm_table.specs.Plays.{heads_of, missed_of, capped};
 ghost use Rattle.nm_cells.specs.Ports.{knows, sent_by, taken_by, unpassed_by, IsOwn, IsUnpassed, is_receive};
 
 use crate::cell::Queue;
@@ -80,7 +80,7 @@ impl Port {
         total
     }
 
-    /// How many cells, pending enqueues and boxes at work the port has in hand.
+    /// How many cells, loose ones with them, pending enqueues and boxes at work the port has in hand.
     pub fn hands(&self) -> u32
         ensures { result ≡ self.now.hands }
     {
@@ -112,7 +112,7 @@ impl Port {
     /// Whether an own queue has a shadow head.
     pub fn has_shadow(&self, q: Queue) -> bool
         requires { IsOwn self.now q }
-        ensures { IsTrue result ↔ (0 < (end_of (is_receive q) (knows self.now)).shadow) }
+        ensures { IsTrue result ↔ (0 < (heads_of (is_receive q) (knows self.now)).shadow) }
     {
         match q {
             Queue::Receive(_) => self.receive.shadow != 0,
@@ -150,7 +150,7 @@ impl Port {
         ensures held { self.new.held ≡ Some packet }
         ensures same { (self.new.seat ≡ self.old.seat) × (self.new.rank ≡ self.old.rank)
             × (self.new.hands ≡ self.old.hands) × (self.new.peers ≡ self.old.peers)
-            × (self.new.looks ≡ self.old.looks) }
+            × (self.new.looks ≡ self.old.looks) × (self.new.loose ≡ self.old.loose) }
     {
         self.held = Some(packet);
     }
@@ -161,7 +161,7 @@ impl Port {
         ensures nothing { self.new.held ≡ None }
         ensures same { (self.new.seat ≡ self.old.seat) × (self.new.rank ≡ self.old.rank)
             × (self.new.hands ≡ self.old.hands) × (self.new.peers ≡ self.old.peers)
-            × (self.new.looks ≡ self.old.looks) }
+            × (self.new.looks ≡ self.old.looks) × (self.new.loose ≡ self.old.loose) }
     {
         self.held.take()
     }
@@ -175,7 +175,7 @@ impl Port {
             ≡ with_peer one_passed packet.now.from self.old.peers.items }
         ensures same { (self.new.seat ≡ self.old.seat) × (self.new.rank ≡ self.old.rank)
             × (self.new.hands ≡ self.old.hands) × (self.new.held ≡ self.old.held)
-            × (self.new.looks ≡ self.old.looks) }
+            × (self.new.looks ≡ self.old.looks) × (self.new.loose ≡ self.old.loose) }
     {
         count_passed(&mut self.peers, packet.from as usize);
     }

@@ -1,13 +1,15 @@
 //! The fabric, and the port of a rank.
 
-ghost use Rattle.std.specs.Prelude.{◌≡◌, ℕ, ◌+◌, ◌*◌, ◌<◌, ◌≤◌, length, vec_capacity};
-ghost use Rattle.nm_cells.specs.Plays.{Alone, mine};
+ghost use Rattle.std.specs.Prelude.{◌≡◌, ℕ, ◌+◌, ◌*◌, ◌<◌, ◌≤◌, length, vec_capacity, []};
+ghost use Rattle.nm_table.specs.Plays.{Alone, mine};
 ghost use Rattle.nm_cells.specs.Carried.{Carries};
 ghost use Rattle.nm_cells.specs.AtWork.{HoldsBoxes};
 ghost use Rattle.nm_cells.specs.Counted.{CountsFor};
+ghost use Rattle.nm_cells.specs.LooseCells.{AreKept};
 
+use crate::loose::LooseCells;
 use crate::peers::Peer;
-use crate::table::{Board, End, Looks, Misses, Place};
+use nm_table::{Board, Heads, Looks, Misses, Place};
 use nm_types::Packet;
 
 /// The cells, boxes and queues that the ranks share.
@@ -17,30 +19,35 @@ pub struct Fabric {
     pub(crate) ranks: u64,
     /// The cells of each rank.
     pub(crate) each: u64,
+    /// Room for what each port counted, which is kept when the fabric is closed.
+    pub(crate) counted: Vec<Vec<Peer>>,
     pub ghost shape: { (board.shared.key.ranks ≡ ranks) × (board.shared.key.cells ≡ each) },
     pub ghost sizes: { (board.shared.table_id.words ≡ 4 * ranks + ranks * each + 4 * (ranks * ranks))
         × (board.shared.table_id.slots ≡ ranks * each + 4 * (ranks * ranks)) },
+    pub ghost room: { (counted.items ≡ []) × (ranks ≤ vec_capacity counted) },
     pub ghost small: { (ranks ≤ 64) × (0 < each) × (each ≤ 64) × (ranks * each ≤ 4096) },
 }
 
 /// The token of one rank. It has a seat of the fabric's table, and what its program has to remember of
-/// what the seat knows: the shadow heads, the counts, the slots in hand, and at most one held packet.
+/// what the seat knows: the shadow heads, the counts, the slots in hand, the loose cells, and at most one
+/// held packet.
 #[derive(Drop)]
 pub struct Port {
     pub(crate) seat: Place,
     pub(crate) rank: u8,
-    pub(crate) receive: End,
-    pub(crate) free: End,
+    pub(crate) receive: Heads,
+    pub(crate) free: Heads,
     pub(crate) looks: Looks,
     pub(crate) receive_missed: Misses,
     pub(crate) free_missed: Misses,
     /// The slots in hand, the one taken last first.
     pub(crate) carried: Vec<u64>,
-    /// The cells, pending enqueues and boxes at work in hand.
+    /// The cells, loose ones with them, pending enqueues and boxes at work in hand.
     pub(crate) hands: u32,
     /// What is counted of each rank.
     pub(crate) peers: Vec<Peer>,
     pub(crate) held: Option<Packet>,
+    pub(crate) loose: LooseCells,
     pub ghost alone: { Alone seat.me },
     pub ghost named: { (mine seat.me).rank ≡ rank },
     pub ghost ends: { ((mine seat.me).receive ≡ receive) × ((mine seat.me).free ≡ free) },
@@ -52,12 +59,13 @@ pub struct Port {
         carried.items (vec_capacity carried) hands },
     pub ghost boxes: { HoldsBoxes (mine seat.me) seat.me.1 },
     pub ghost counts: { ∥ CountsFor (mine seat.me) peers.items held ∥₁ },
+    pub ghost kept: { AreKept loose (mine seat.me) seat.me.1 },
 }
 
 impl Port {
-    /// The seat, of a port that is spent.
-    pub(crate) fn into_seat(self) -> Place
-        ensures { result ≡ self.seat }
+    /// The seat and the counts, of a port that is spent.
+    pub(crate) fn into_parts(self) -> (Place, Vec<Peer>)
+        ensures { (result.0 ≡ self.seat) × (result.1 ≡ self.peers) }
     {
         let Port {
             seat,
@@ -69,9 +77,10 @@ impl Port {
             free_missed: _,
             carried: _,
             hands: _,
-            peers: _,
+            peers,
             held: _,
+            loose: _,
         } = self;
-        seat
+        (seat, peers)
     }
 }

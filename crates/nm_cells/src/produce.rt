@@ -2,9 +2,9 @@
 
 ghost use Rattle.std.specs.Prelude.{◌≡◌, suc, ◌+◌, ◌-◌, ◌*◌, ◌<◌, ◌≤◌, ◌^◌, None};
 ghost use Rattle.nm_seats.specs.Update.{update};
-ghost use Rattle.nm_cells.specs.declared.table.Hand.TheVariants.{Away, Ready, Entering};
-ghost use Rattle.nm_cells.specs.Rule.{hand};
-ghost use Rattle.nm_cells.specs.Plays.{with_hand, with_put};
+ghost use Rattle.nm_table.specs.declared.table.Hand.TheVariants.{Away, Ready, Entering};
+ghost use Rattle.nm_table.specs.Rule.{hand};
+ghost use Rattle.nm_table.specs.Plays.{with_hand, with_put};
 ghost use Rattle.nm_cells.specs.Ports.{Owns, Stays, knows, holding, Has, Awaits, MayJoin};
 ghost use Rattle.nm_cells.specs.Ports.{queue_of, rank_of_queue, posted_in, sent_into, HasRoomFor};
 
@@ -12,17 +12,17 @@ use crate::cell::{Cell, Pending, Queue};
 use crate::peers::Peer;
 use crate::port::{Fabric, Port};
 use crate::slots::bring_cell;
-use crate::table::Entry;
 use crate::tally::count_sent;
 use atomic_table::Play;
 use nm_seats::{Steps, View};
+use nm_table::Entry;
 use nm_types::Packet;
 use std::sync::ledger::Ledger;
 
 struct Clears;
 
 impl Play<Option<Packet>, View<Entry>> for Clears {
-    ghost use Rattle.nm_cells.specs.Plays.{cleared};
+    ghost use Rattle.nm_table.specs.Plays.{cleared};
 
     ghost then = { cleared };
 }
@@ -30,7 +30,7 @@ impl Play<Option<Packet>, View<Entry>> for Clears {
 struct Swaps;
 
 impl Play<Option<Packet>, View<Entry>> for Swaps {
-    ghost use Rattle.nm_cells.specs.Plays.{swapped};
+    ghost use Rattle.nm_table.specs.Plays.{swapped};
 
     ghost then = { swapped };
 }
@@ -38,7 +38,7 @@ impl Play<Option<Packet>, View<Entry>> for Swaps {
 struct Finishes;
 
 impl Play<Option<Packet>, View<Entry>> for Finishes {
-    ghost use Rattle.nm_cells.specs.Plays.{finished};
+    ghost use Rattle.nm_table.specs.Plays.{finished};
 
     ghost then = { finished };
 }

@@ -4,14 +4,14 @@ ghost use Rattle.std.specs.Prelude.{◌≡◌, ◌+◌, ◌<◌, ◌≤◌, ◌�
 ghost use Rattle.std.specs.Prelude.{IsSome, slice_index, vec_len, vec_capacity};
 ghost use Rattle.atomic_table.specs.Table.{rest};
 ghost use Rattle.nm_seats.specs.Update.{update};
-ghost use Rattle.nm_cells.specs.Rule.{hand};
-ghost use Rattle.nm_cells.specs.Plays.{InHand, load_in};
+ghost use Rattle.nm_table.specs.Rule.{hand};
+ghost use Rattle.nm_table.specs.Plays.{InHand, load_in};
 ghost use Rattle.nm_cells.specs.Carried.{times};
 ghost use Rattle.nm_cells.specs.Ports.{Owns, Stays, Has, knows, slots, holding};
 
 use crate::cell::Cell;
 use crate::port::{Fabric, Port};
-use crate::table::Place;
+use nm_table::Place;
 use nm_types::Packet;
 
 // One more slot is in hand.
@@ -54,7 +54,7 @@ pub(crate) fn bring_slot(port: &mut Port, slot: u64)
         × (port.new.seat.me.0 ≡ port.old.seat.me.0) }
     ensures same { (port.new.rank ≡ port.old.rank) × (port.new.peers ≡ port.old.peers)
         × (port.new.held ≡ port.old.held) × (port.new.hands ≡ port.old.hands)
-        × (port.new.looks ≡ port.old.looks) }
+        × (port.new.looks ≡ port.old.looks) × (port.new.loose ≡ port.old.loose) }
     ensures front { slots port.new ≡ (slot, load_in slot (slots port.old)) ∷ rest (slots port.new) }
     ensures holding { holding port.new ≡ holding port.old }
 {
@@ -69,7 +69,7 @@ pub(crate) fn bring_cell(port: &mut Port, number: u64)
         × (port.new.seat.me.0 ≡ port.old.seat.me.0) }
     ensures same { (port.new.rank ≡ port.old.rank) × (port.new.peers ≡ port.old.peers)
         × (port.new.held ≡ port.old.held) × (port.new.hands ≡ port.old.hands)
-        × (port.new.looks ≡ port.old.looks) }
+        × (port.new.looks ≡ port.old.looks) × (port.new.loose ≡ port.old.loose) }
     ensures front { slots port.new ≡ (number, holding port.old number) ∷ rest (slots port.new) }
     ensures holding { holding port.new ≡ holding port.old }
 {

@@ -3,16 +3,9 @@
 ghost use Rattle.std.specs.Prelude.{◌≡◌, ◌<◌, ◌^◌, length};
 ghost use Rattle.nm_cells.specs.Counted.{peer_in, with_peer, one_sent, one_arrived, one_boxed};
 ghost use Rattle.nm_cells.specs.Counted.{one_opened, one_begun, one_unboxed, one_full, one_miss, one_passed};
-ghost use Rattle.nm_cells.specs.Plays.{raised};
 
 use crate::peers::Peer;
-
-/// The count plus 1, or where that is no 64-bit number, the count.
-pub(crate) fn one_more(count: u64) -> u64
-    ensures { result ≡ raised count }
-{
-    if count < u64::MAX { count + 1 } else { count }
-}
+use nm_table::one_more;
 
 /// One more packet was sent to a rank by cell.
 pub(crate) fn count_sent(peers: &mut Vec<Peer>, to: usize)

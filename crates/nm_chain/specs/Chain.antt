@@ -11,9 +11,11 @@ pub record Item (L : Type 0) : Type 0 where
   pub cell : ℕ
   pub load : L
 
--- Where a cell is: in the hand of a rank; there with its link cleared, when it held this; in a queue
--- while the enqueue of a rank, which found this tail, is pending; or in a queue with its enqueue done
+-- Where a cell is: loose with a rank, while its slot is at home; in the hand of a rank; there with its
+-- link cleared, when it held this; in a queue while the enqueue of a rank, which found this tail, is
+-- pending; or in a queue with its enqueue done
 pub data Place (L : Type 0) : Type 0 where
+  loose : ℕ → Place L
   held : ℕ → Place L
   ready : ℕ → L → Place L
   entering : ℕ → ℕ → ℕ → Place L
@@ -26,6 +28,7 @@ module _ {L : Type 0} where
 
   -- the place is in the queue q
   abbrev pub IsIn : ℕ → Place L → Type 0
+  IsIn q (loose r) = ⊥
   IsIn q (held r) = ⊥
   IsIn q (ready r y) = ⊥
   IsIn q (entering r p t) = q ≡ p

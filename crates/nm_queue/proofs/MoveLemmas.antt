@@ -1,6 +1,6 @@
 -- What stays of a port's conditions between the steps of a move.
 use Rattle.std.proofs.Common.{◌≡◌, ℕ, zero, suc, List, [], ◌∷◌, set, sym, refl, ap, ◌∙◌}
-use Rattle.nm_cells.specs.Rule.{Load, sender, number}
+use Rattle.nm_table.specs.Rule.{Load, sender, number}
 use Rattle.nm_cells.specs.declared.port.Port.{Port}
 use Rattle.nm_cells.specs.declared.port.Fabric.{Fabric}
 use Rattle.nm_cells.specs.declared.cell.Queue as queues

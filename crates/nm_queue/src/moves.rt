@@ -3,10 +3,10 @@
 ghost use Rattle.std.specs.Prelude.{◌≡◌, ◌+◌, ◌<◌, ◌≤◌, None, IfOk, Err};
 ghost use Rattle.nm_seats.specs.Update.{update};
 ghost use Rattle.nm_queue.specs.declared.moves.Miss.TheVariants.{HeadEmpty, LinkMissing};
-ghost use Rattle.nm_cells.specs.declared.table.Hand.TheVariants.{Away};
-ghost use Rattle.nm_cells.specs.declared.table.Look.TheVariants.{LinkEmpty};
-ghost use Rattle.nm_cells.specs.Plays.{with_hand, with_put};
-ghost use Rattle.nm_cells.specs.Plays.{end_of, with_end, at_end, with_missed, head_miss, link_miss};
+ghost use Rattle.nm_table.specs.declared.table.Hand.TheVariants.{Away};
+ghost use Rattle.nm_table.specs.declared.table.Look.TheVariants.{LinkEmpty};
+ghost use Rattle.nm_table.specs.Plays.{with_hand, with_put};
+ghost use Rattle.nm_table.specs.Plays.{heads_of, with_heads, heads_at, with_missed, head_miss, link_miss};
 ghost use Rattle.nm_cells.specs.Ports.{Owns, Stays, Leaves, knows, holding, Has, MayJoin};
 ghost use Rattle.nm_cells.specs.Ports.{posted_in, IsOwn, is_receive, Takes};
 
@@ -60,17 +60,17 @@ pub fn dequeue<L: Ledger>(
     ensures owns { Owns f.now port.new × (port.new.rank ≡ port.old.rank) }
     ensures took { IfOk result (Takes (is_receive q) f.now port.old port.new) }
     ensures head_empty { result ≡ Err HeadEmpty → knows port.new
-        ≡ with_missed (is_receive q) head_miss (with_end (is_receive q) (at_end 0 0)
+        ≡ with_missed (is_receive q) head_miss (with_heads (is_receive q) (heads_at 0 0)
         (knows port.old)) × Stays f.now port.old port.new × (port.new.hands ≡ port.old.hands)
         × (holding port.new ≡ holding port.old) × (steps.new ≡ steps.old + 1) }
     ensures link_missing { result ≡ Err LinkMissing → knows port.new
-        ≡ with_missed (is_receive q) link_miss (with_end (is_receive q)
-        (end_of (is_receive q) (knows port.new)) (knows port.old))
-        × (0 < (end_of (is_receive q) (knows port.new)).shadow)
+        ≡ with_missed (is_receive q) link_miss (with_heads (is_receive q)
+        (heads_of (is_receive q) (knows port.new)) (knows port.old))
+        × (0 < (heads_of (is_receive q) (knows port.new)).shadow)
         × Leaves (is_receive q) LinkEmpty port.old port.new }
     ensures all_tried { result ≡ Err LinkMissing →
-        ((end_of (is_receive q) (knows port.old)).shadow ≡ 0 → steps.new ≡ steps.old + 5)
-        × (0 < (end_of (is_receive q) (knows port.old)).shadow → steps.new ≡ steps.old + 3) }
+        ((heads_of (is_receive q) (knows port.old)).shadow ≡ 0 → steps.new ≡ steps.old + 5)
+        × (0 < (heads_of (is_receive q) (knows port.old)).shadow → steps.new ≡ steps.old + 3) }
     ensures bound { steps.new ≤ steps.old + 5 }
 {
     if !port.has_shadow(q) {

@@ -1,20 +1,21 @@
 //! Worked calls on a queue, and two threads on one queue.
 
-ghost use Rattle.std.specs.Prelude.{◌≡◌, ℕ, ◌+◌, ◌<◌, ◌^◌, IfSome, IfNone, Some, None};
+ghost use Rattle.std.specs.Prelude.{◌≡◌, ℕ, ◌+◌, ◌<◌, ◌^◌, IfSome, IfNone, IfOk, Some, None};
 ghost use Rattle.std.specs.Prelude.{length, slice_get};
 ghost use Rattle.nm_cells.specs.declared.port.Port.{Port};
 ghost use Rattle.nm_types.specs.declared.limits.TheConstants.{MAX_PACKETS};
 ghost use Rattle.nm_cells.specs.declared.cell.Queue.TheVariants.{Receive};
-ghost use Rattle.nm_cells.specs.Ports.{Owns, Stays, IsNew, Has, Awaits, IsUnpassed, MayJoin};
+ghost use Rattle.nm_cells.specs.Ports.{Owns, Stays, Begins, Has, Awaits, IsUnpassed, MayJoin};
 ghost use Rattle.nm_cells.specs.Ports.{holding, sent_by};
+ghost use Rattle.nm_cells.specs.ClosedLists.{ranks_of};
 
 use crate::{Miss, dequeue, enqueue};
 use nm_cells::{
-    Cell, Fabric, Pending, Port, Queue, clear_link, put_in, store_head, store_link, swap_tail,
-    take_out,
+    Cell, Closed, Fabric, Pending, Port, Queue, clear_link, put_in, store_head, store_link,
+    swap_tail, take_out,
 };
 use nm_seats::Steps;
-use nm_types::{Account, Memory, Packet, Payload, Shape, What};
+use nm_types::{Memory, Packet, Payload, Shape, What};
 use std::alloc::Global;
 use std::marker::Brand;
 use std::sync::ledger::{Blank, Ledger};
@@ -85,6 +86,7 @@ fn half<L: Ledger>(
     ensures stays { Stays f.now port.old port.new }
     ensures pending { Awaits f.now port.new result }
     ensures hands { port.new.hands ≡ port.old.hands }
+    ensures cost { steps.new ≡ steps.old + 2 }
 {
     clear_link(f, port, &cell, steps);
     swap_tail(f, port, q, cell, steps)
@@ -96,6 +98,7 @@ fn rest<L: Ledger>(f: &Fabric, port: &mut Port, pending: Pending, steps: &mut St
     requires awaits { Awaits f.now port.old pending }
     ensures stays { Stays f.now port.old port.new }
     ensures hands { port.new.hands + 1 ≡ port.old.hands }
+    ensures cost { steps.new ≡ steps.old + 1 }
 {
     let first = pending.is_first();
     if first {
@@ -110,7 +113,8 @@ fn rest<L: Ledger>(f: &Fabric, port: &mut Port, pending: Pending, steps: &mut St
 fn pass_next(port: &mut Port, packet: &Packet) -> bool
     requires { IsUnpassed port.old packet.now × (port.old.held ≡ None) }
     ensures { (port.new.seat ≡ port.old.seat) × (port.new.rank ≡ port.old.rank)
-        × (port.new.hands ≡ port.old.hands) × (port.new.held ≡ None) }
+        × (port.new.hands ≡ port.old.hands) × (port.new.held ≡ None)
+        × (port.new.loose ≡ port.old.loose) }
 {
     if packet.seq != port.taken(packet.from) {
         return false;
@@ -169,11 +173,11 @@ fn taker(f: &Fabric, port: Port, count: u64) -> (Port, bool)
     take_all::<Brand>(f, port, count, Blank::new(1))
 }
 
-// The ports of two ranks.
-fn both(f: &Fabric, mut ports: Vec<Port>) -> (Port, Port)
+// The ports of two ranks, whose cells are loose, or else in their free queues.
+fn both(f: &Fabric, mut ports: Vec<Port>, loose: bool) -> (Port, Port)
     requires count { length ports.items ≡ 2 }
-    requires new { (k : ℕ) (p : Port) → slice_get ports.items k ≡ Some p → IsNew f.now p k }
-    ensures { IsNew f.now result.0 0 × IsNew f.now result.1 1 }
+    requires new { (k : ℕ) (p : Port) → slice_get ports.items k ≡ Some p → Begins loose f.now p k }
+    ensures { Begins loose f.now result.0 0 × Begins loose f.now result.1 1 }
 {
     let b = ports.remove(1);
     let a = ports.remove(0);
@@ -181,15 +185,16 @@ fn both(f: &Fabric, mut ports: Vec<Port>) -> (Port, Port)
 }
 
 // Closes the fabric of two ranks.
-fn closed(alloc: Global, fabric: Fabric, a: Port, b: Port) -> Result<Account, Memory>
+fn closed(alloc: Global, fabric: Fabric, a: Port, b: Port) -> Result<Closed, Memory>
     requires first { Owns fabric a × (a.rank ≡ 0) × (a.hands ≡ 0) }
     requires second { Owns fabric b × (b.rank ≡ 1) × (b.hands ≡ 0) }
     requires two { fabric.ranks ≡ 2 }
+    ensures { IfOk result (λ c. ranks_of c ≡ 2) }
 {
     let mut ports = Vec::new(alloc);
     ports.push(a)?;
     ports.push(b)?;
-    Ok(fabric.close(ports).account())
+    Ok(fabric.close(ports))
 }
 
 // Rank 0 sends on one thread while rank 1 takes on another.
@@ -240,13 +245,13 @@ fn slow_send<L: Ledger>(
     Some((tried, first))
 }
 
-// What rank 1 finds before and while rank 0 sends two packets, and after it.
+// What rank 1 finds before and while rank 0 sends two packets, and after it, and what it counts of it.
 fn calls<L: Ledger>(
     f: &Fabric,
     a: &mut Port,
     b: &mut Port,
     blank: Blank,
-) -> Option<([Result<bool, Miss>; 5], [bool; 2])>
+) -> Option<([Result<bool, Miss>; 5], [bool; 2], [u64; 3])>
     requires blank { (blank.name ≡ L.name) × (blank.parts ≡ L.parts) × (0 < L.parts) }
     requires first { Owns f.now a.old × (a.old.rank ≡ 0) × (a.old.hands ≡ 0) × (1 < f.now.ranks) }
     requires second { Owns f.now b.old × (b.old.rank ≡ 1) × (b.old.hands ≡ 0) × (b.old.held ≡ None) }
@@ -255,29 +260,153 @@ fn calls<L: Ledger>(
 {
     let mut steps = Steps::<L>::new(blank);
     let before = take_one(f, b, &mut steps);
+    let once = b.head_empty(Queue::Receive(1));
     let (during, head) = slow_send(f, a, b, &mut steps)?;
+    let twice = b.head_empty(Queue::Receive(1));
     let (between, link) = slow_send(f, a, b, &mut steps)?;
+    let missing = b.link_missing(Queue::Receive(1));
     let one = take_one(f, b, &mut steps);
     let two = take_one(f, b, &mut steps);
-    Some(([before, during, between, one, two], [head, !link]))
+    let tries = [before, during, between, one, two];
+    Some((tries, [head, !link], [once, twice, missing]))
+}
+
+// A loose cell of the port's with its next packet for a rank.
+fn filled_loose(f: &Fabric, port: &mut Port, to: u8) -> Option<Cell>
+    requires owns { Owns f.now port.old × (to < f.now.ranks) }
+    requires room { sent_by port.old to < 2 ^ 60 }
+    ensures owns { Owns f.now port.new × (port.new.rank ≡ port.old.rank) }
+    ensures hands { port.new.hands ≡ port.old.hands }
+    ensures some { IfSome result (λ c. Has f.now port.new c
+        × MayJoin f.now port.new (Receive to) c.number (holding port.new c.number)) }
+{
+    let own = port.rank();
+    let next = packet(own, port.sent(to));
+    let cell = port.loose()?;
+    put_in(f, port, &cell, next);
+    Some(cell)
+}
+
+// Sends a packet in a loose cell, but for the last step.
+fn half_loose<L: Ledger>(
+    f: &Fabric,
+    port: &mut Port,
+    to: u8,
+    steps: &mut Steps<L>,
+) -> Option<Pending>
+    requires owns { Owns f.now port.old × (to < f.now.ranks) }
+    requires room { sent_by port.old to < 2 ^ 60 }
+    ensures owns { Owns f.now port.new × (port.new.rank ≡ port.old.rank) }
+    ensures hands { port.new.hands ≡ port.old.hands }
+    ensures some { IfSome result (λ e. Awaits f.now port.new e × (steps.new ≡ steps.old + 2)) }
+{
+    let cell = filled_loose(f, port, to)?;
+    Some(half(f, port, Queue::Receive(to), cell, steps))
+}
+
+// Sends a packet in a loose cell, and answers whether the queue was empty.
+fn send_loose<L: Ledger>(f: &Fabric, port: &mut Port, to: u8, steps: &mut Steps<L>) -> Option<bool>
+    requires owns { Owns f.now port.old × (to < f.now.ranks) }
+    requires room { sent_by port.old to < 2 ^ 60 }
+    ensures owns { Owns f.now port.new }
+    ensures some { IfSome result (λ _. steps.new ≡ steps.old + 3) }
+{
+    let pending = half_loose(f, port, to, steps)?;
+    Some(rest(f, port, pending, steps))
+}
+
+// What was seen of two packets to one queue.
+#[derive(Clone, Copy)]
+struct Seen {
+    // Whether the queue was empty, for each of the two.
+    firsts: [bool; 2],
+    // What rank 0 had in hand, and had sent to rank 1, before its last step, and what it had after it.
+    hands: u32,
+    sent: u64,
+    hands_after: u32,
+}
+
+// Rank 0 sends a loose cell to rank 1, which sends one to itself before the last step.
+fn race<L: Ledger, M: Ledger>(
+    f: &Fabric,
+    a: &mut Port,
+    b: &mut Port,
+    a_steps: &mut Steps<L>,
+    b_steps: &mut Steps<M>,
+) -> Option<Seen>
+    requires first { Owns f.now a.old × (1 < f.now.ranks) }
+    requires second { Owns f.now b.old }
+    ensures steps { IfSome result (λ _. (a_steps.new ≡ a_steps.old + 3)
+        × (b_steps.new ≡ b_steps.old + 3)) }
+{
+    if !a.has_room(1) || !b.has_room(1) {
+        return None;
+    }
+    let pending = half_loose(f, a, 1, a_steps)?;
+    let hands = a.hands();
+    let sent = a.sent(1);
+    let second = send_loose(f, b, 1, b_steps);
+    let first = rest(f, a, pending, a_steps);
+    Some(Seen {
+        firsts: [first, second?],
+        hands,
+        sent,
+        hands_after: a.hands(),
+    })
+}
+
+// The same with counters of its own.
+fn counted_race<L: Ledger, M: Ledger>(
+    f: &Fabric,
+    a: &mut Port,
+    b: &mut Port,
+    a_blank: Blank,
+    b_blank: Blank,
+) -> Option<Seen>
+    requires blank { (a_blank.name ≡ L.name) × (a_blank.parts ≡ L.parts) × (0 < L.parts) }
+    requires other { (b_blank.name ≡ M.name) × (b_blank.parts ≡ M.parts) × (0 < M.parts) }
+    requires first { Owns f.now a.old × (1 < f.now.ranks) }
+    requires second { Owns f.now b.old }
+{
+    let mut a_steps = Steps::<L>::new(a_blank);
+    let mut b_steps = Steps::<M>::new(b_blank);
+    race(f, a, b, &mut a_steps, &mut b_steps)
+}
+
+#[test]
+fn loose_cells_are_sent(rt: HostRuntime) -> Result<(), Fail> {
+    let shape = Shape::new(2, 2, 0).unwrap();
+    let (fabric, ports) = Fabric::build_loose(rt.alloc(), shape)?;
+    let (mut a, mut b) = both(&fabric, ports, true);
+    assert_eq!(rt; a.hands(), 2);
+    let race = counted_race::<Brand, Brand>(&fabric, &mut a, &mut b, Blank::new(1), Blank::new(1));
+    let Some(seen) = race else {
+        return Err(Fail::new("no cell"));
+    };
+    assert_eq!(rt; seen.firsts, [true, false]);
+    assert_eq!(rt; seen.hands, 2);
+    assert_eq!(rt; seen.sent, 1);
+    assert_eq!(rt; seen.hands_after, 1);
+    Ok(())
 }
 
 #[test]
 fn misses_have_their_causes(rt: HostRuntime) -> Result<(), Fail> {
     let shape = Shape::new(2, 8, 0).unwrap();
     let (fabric, ports) = Fabric::build(rt.alloc(), shape)?;
-    let (mut a, mut b) = both(&fabric, ports);
+    let (mut a, mut b) = both(&fabric, ports, false);
     let seen = calls::<Brand>(&fabric, &mut a, &mut b, Blank::new(1));
-    let (tries, firsts) = seen.unwrap_or(([Ok(false); 5], [false; 2]));
+    let (tries, firsts, counts) = seen.unwrap_or(([Ok(false); 5], [false; 2], [0; 3]));
     assert!(rt; matches!(tries[0], Err(Miss::HeadEmpty)));
     assert!(rt; matches!(tries[1], Err(Miss::HeadEmpty)));
     assert!(rt; matches!(tries[2], Err(Miss::LinkMissing)));
     assert!(rt; matches!(tries[3], Ok(true)));
     assert!(rt; matches!(tries[4], Ok(true)));
     assert_eq!(rt; firsts, [true, true]);
+    assert_eq!(rt; counts, [1, 2, 1]);
     assert_eq!(rt; b.head_empty(Queue::Receive(1)), 2);
     assert_eq!(rt; b.link_missing(Queue::Receive(1)), 1);
-    let account = closed(rt.alloc(), fabric, a, b)?;
+    let account = closed(rt.alloc(), fabric, a, b)?.account();
     assert_eq!(rt; account.total, 16);
     assert_eq!(rt; account.home, 16);
     Ok(())
@@ -288,13 +417,15 @@ fn two_threads_share_a_queue(rt: HostRuntime) -> Result<(), Fail> {
     let count = 5000;
     let shape = Shape::new(2, 4, 0).unwrap();
     let (fabric, ports) = Fabric::build(rt.alloc(), shape)?;
-    let (a, b) = both(&fabric, ports);
+    let (a, b) = both(&fabric, ports, false);
     let (a, (b, in_order)) = send_and_take(&rt, &fabric, a, b, count);
     assert!(rt; in_order);
     assert_eq!(rt; a.sent(1), count);
     assert_eq!(rt; b.taken(0), count);
-    let account = closed(rt.alloc(), fabric, a, b)?;
-    assert_eq!(rt; account.total, 8);
-    assert_eq!(rt; account.home, 8);
+    let after = closed(rt.alloc(), fabric, a, b)?;
+    assert_eq!(rt; after.sent(0, 1), count);
+    assert_eq!(rt; after.taken(0, 1), count);
+    assert_eq!(rt; after.account().total, 8);
+    assert_eq!(rt; after.account().home, 8);
     Ok(())
 }

@@ -1,4 +1,4 @@
-use Rattle.std.proofs.Common.{◌≡◌, ℕ, suc, ◌+◌, ◌-◌, ◌*◌, ◌<◌, [], ◌∷◌, Some, None, IsSome, false}
+use Rattle.std.proofs.Common.{◌≡◌, ℕ, suc, ◌+◌, ◌-◌, ◌*◌, ◌<◌, ◌≤◌, [], ◌∷◌, Some, None, IsSome, false}
 use Rattle.std.proofs.Common.{length, sym, refl, ap, ◌∙◌, subst, arith, length-set}
 use Rattle.std.specs.Prelude.{vec_capacity}
 use Rattle.atomic_table.specs.Table.{Allows, step, rest}
@@ -6,15 +6,17 @@ use mathlib.Core.Option as maybe
 use Rattle.nm_seats.specs.Spoken.{view}
 use Rattle.nm_seats.specs.Update.{update}
 use Rattle.nm_cells.specs.declared.peers.Peer.{Peer}
-use Rattle.nm_cells.specs.Rule.{Load, Rule, from, emptying_of, sender, number}
-use Rattle.nm_cells.specs.Plays as plays
-use Rattle.nm_cells.specs.Plays.{mine, sole}
-use Rattle.nm_cells.specs.NextBox.{next_box}
+use Rattle.nm_table.specs.Rule.{Load, Rule, from, emptying_of, sender, number}
+use Rattle.nm_table.specs.Plays as plays
+use Rattle.nm_table.specs.Plays.{mine, sole}
+use Rattle.nm_table.specs.NextBox.{next_box}
 use Rattle.nm_cells.specs.Ports.{knows, taken_by}
 use Rattle.nm_cells.specs.Counted.{peer_in, all_unpassed}
 use Rattle.nm_cells.proofs.PortLemmas.{peer_low, peer_box_got}
-use Rattle.nm_cells.proofs.BoxStepLemmas.{empty_allowed}
+use Rattle.nm_table.proofs.BoxStepLemmas.{empty_allowed}
 use Rattle.nm_cells.proofs.BoxCallLemmas as calls
+use Rattle.nm_cells.specs.LooseCells.{AreKept}
+use Rattle.nm_cells.proofs.LooseLemmas.{far_apart, kept_pop}
 use Rattle.nm_cells.proofs.boxes.empty.Goals as goal
 
 some_one : (y : Load) (j : ℕ) → sender y ≡ suc j → IsSome y
@@ -263,6 +265,7 @@ returns-clause-owns g c =
           (ap (λ m. length (mine m).emptying) is ∙ length-set (knows q).emptying j None),
       b.same.0,
       b.same.4,
+      b.same.5,
     )
 
 pub returns-clause-packet : goal.returns-clause-packet
@@ -381,3 +384,38 @@ returns-clause-holding g c =
     c.exchange-old.ensures.3
     (subst (λ u. ¬ plays.Came (mine c.exchange-old.new.seat.me) j (number u)) load then.1) in
     calls.emptied_holds f q o₂ j few c.store.new.seat.me slot w b.front y at₂ was is ∙ b.holding
+
+pub invariant_of-port-clause-kept : goal.invariant_of-port-clause-kept
+invariant_of-port-clause-kept g c =
+    let f = c.args.f.now in let p = c.args.port.now in let o = c.requires.owns in
+    let few = c.requires.peer in let j = c.args.sender in let k = c.requires.taking in
+    let place = ap (λ (u : Peer). u.box_got) c.peer.ensures ∙ peer_box_got p j
+    (calls.few f p o j few) in
+    let at = c.box_at-slot.ensures.at ∙ calls.in_slot_is f p o j few c.peer.result.box_got place in
+    let y : Load = plays.box_load j (knows p) in
+    let there = calls.box_there f p o j few false c.box_at-slot.result at y k.0 in
+    let q = c.bring_slot.new.port in let b = c.bring_slot.ensures in let v = b.seat.1 in
+    let o₂ = calls.brought_owns f p q b.seat.0 v b.same.0 o in
+    let at₂ = at ∙ ap (λ u. next_box (sole u.entries) false j) (sym v) in
+    let was = ap (λ u. emptying_of (sole u.entries) j) v ∙ k.0 in
+    let next : number y ≡ taken_by q j = k.1 ∙ ap (λ ps. (peer_in ps.items j).taken) (sym b.same.1)
+    in let slot = c.box_at-slot.result in let w = plays.load_in slot p.seat.me.1 in
+    let then = subst (λ t. plays.unboxed t (step f.board.shared.table_id.slots
+    (4 * f.ranks + slot) 0 0 maybe.none) c.exchange-old.new.seat.me 0 c.store.new.seat.me)
+    (sym c.requires.told) c.store.ensures.2 in
+    let load : plays.box_load j (mine c.exchange-old.new.seat.me) ≡ y =
+    ap (λ m. plays.box_load j (mine m)) c.exchange-old.ensures.3
+    ∙ ap (λ u. plays.box_load j (sole u.entries)) v in
+    let is = then.0 ∙ (λ i. (
+      view (plays.with_got_box (load i ∷ [])
+          (plays.with_emptying j None (mine (c.exchange-old.ensures.3 i))) ∷ []),
+      rest (c.exchange-old.ensures.3 i).1,
+    )) in
+    let new = subst (λ (m : plays.Knowing). ¬ plays.Came (mine m) j (number y))
+    c.exchange-old.ensures.3
+    (subst (λ u. ¬ plays.Came (mine c.exchange-old.new.seat.me) j (number u)) load then.1) in
+    subst (λ (m : plays.Knowing). AreKept q.loose (mine m) m.1) (sym is)
+    (kept_pop q.loose (knows q) (rest q.seat.me.1) slot w
+    (far_apart q.loose (knows q) q.seat.me.1 q.kept slot
+    (subst (λ k. length (knows q).hands ≤ k) (sym at₂) (calls.far f q o₂ j few false)))
+    (subst (AreKept q.loose (knows q)) b.front q.kept))

@@ -1,19 +1,21 @@
-use Rattle.std.proofs.Common.{◌≡◌, ℕ, suc, ◌+◌, ◌-◌, ◌*◌, ◌<◌, [], ◌∷◌, Some, None, true, false}
+use Rattle.std.proofs.Common.{◌≡◌, ℕ, suc, ◌+◌, ◌-◌, ◌*◌, ◌<◌, ◌≤◌, [], ◌∷◌, Some, None, true, false}
 use Rattle.std.proofs.Common.{length, sym, refl, ap, ◌∙◌, subst, arith, length-set}
 use Rattle.std.specs.Prelude.{vec_capacity}
 use Rattle.atomic_table.specs.Table.{Allows, step, rest}
 use mathlib.Core.Option as maybe
 use Rattle.nm_seats.specs.Spoken.{view}
 use Rattle.nm_cells.specs.declared.peers.Peer.{Peer}
-use Rattle.nm_cells.specs.Rule.{Load, Rule, put_to, filling_of, sent_to}
-use Rattle.nm_cells.specs.Plays as plays
-use Rattle.nm_cells.specs.Plays.{mine, sole}
-use Rattle.nm_cells.specs.NextBox.{to_fill, next_box}
+use Rattle.nm_table.specs.Rule.{Load, Rule, put_to, filling_of, sent_to}
+use Rattle.nm_table.specs.Plays as plays
+use Rattle.nm_table.specs.Plays.{mine, sole}
+use Rattle.nm_table.specs.NextBox.{to_fill, next_box}
 use Rattle.nm_cells.specs.Ports.{knows}
 use Rattle.nm_cells.specs.Counted.{peer_in, all_unpassed, one_boxed}
 use Rattle.nm_cells.proofs.PortLemmas.{peer_low, peer_box_put}
-use Rattle.nm_cells.proofs.BoxStepLemmas.{fill_allowed}
+use Rattle.nm_table.proofs.BoxStepLemmas.{fill_allowed}
 use Rattle.nm_cells.proofs.BoxCallLemmas as calls
+use Rattle.nm_cells.specs.LooseCells.{AreKept}
+use Rattle.nm_cells.proofs.LooseLemmas.{far_apart, kept_pop}
 use Rattle.nm_cells.proofs.boxes.fill.Goals as goal
 
 pub bring_slot-requires : goal.bring_slot-requires
@@ -246,6 +248,7 @@ returns-clause-stays g c =
         ap all_unpassed c.count_boxed.ensures ∙ s.1 ∙ ap (λ ps. all_unpassed ps.items) b.same.1,
       ),
       b.same.4,
+      b.same.5,
     )
 
 pub returns-clause-holding : goal.returns-clause-holding
@@ -271,3 +274,31 @@ returns-clause-holding g c =
       rest m.1,
     )) c.exchange-old.ensures.3 in
     calls.filled_holds f q o₂ j few c.store.new.seat.me slot w b.front y at₂ was is ∙ b.holding
+
+pub invariant_of-port-clause-kept : goal.invariant_of-port-clause-kept
+invariant_of-port-clause-kept g c =
+    let f = c.args.f.now in let p = c.args.port.now in let o = c.requires.owns in
+    let few = c.requires.peer in let j = c.args.to in
+    let place = ap (λ (u : Peer). u.box_put) c.peer.ensures ∙ peer_box_put p j
+    (calls.few f p o j few) in
+    let at = c.box_at-slot.ensures.at ∙ calls.out_slot_is f p o j few c.peer.result.box_put place in
+    let none : Load = None in
+    let there = calls.box_there f p o j few true c.box_at-slot.result at none
+    (ap to_fill c.requires.free) in
+    let q = c.bring_slot.new.port in let b = c.bring_slot.ensures in let v = b.seat.1 in
+    let o₂ = calls.brought_owns f p q b.seat.0 v b.same.0 o in
+    let at₂ = at ∙ ap (λ u. next_box (sole u.entries) true j) (sym v) in
+    let was = ap (λ u. filling_of (sole u.entries) j) v ∙ c.requires.free in
+    let slot = c.box_at-slot.result in let w = plays.load_in slot p.seat.me.1 in
+    let y : Load = Some c.args.packet in
+    let is = subst (λ t. plays.boxed t (step f.board.shared.table_id.slots (4 * f.ranks + slot)
+    (c.args.packet.seq + 1) 0 maybe.none) c.exchange-old.new.seat.me 0 c.store.new.seat.me) (sym c.requires.told) c.store.ensures.2 ∙ ap (λ m. (
+      view (plays.with_put_box ((j, plays.first_load m.1) ∷ [])
+          (plays.with_filling j false (mine m)) ∷ []),
+      rest m.1,
+    )) c.exchange-old.ensures.3 in
+    subst (λ (m : plays.Knowing). AreKept q.loose (mine m) m.1) (sym is)
+    (kept_pop q.loose (knows q) (rest q.seat.me.1) slot w
+    (far_apart q.loose (knows q) q.seat.me.1 q.kept slot
+    (subst (λ k. length (knows q).hands ≤ k) (sym at₂) (calls.far f q o₂ j few true)))
+    (subst (AreKept q.loose (knows q)) b.front q.kept))

@@ -1,18 +1,20 @@
-use Rattle.std.proofs.Common.{◌≡◌, ℕ, suc, ◌+◌, ◌-◌, ◌*◌, ◌<◌, Some, length, sym}
+use Rattle.std.proofs.Common.{◌≡◌, ℕ, suc, ◌+◌, ◌-◌, ◌*◌, ◌<◌, ◌≤◌, false, Some, length, sym}
 use Rattle.std.proofs.Common.{refl, ap, ◌∙◌, subst, arith, length-set}
 use Rattle.std.specs.Prelude.{vec_capacity}
 use Rattle.atomic_table.specs.Table.{Allows, step}
 use mathlib.Core.Option as maybe
 use Rattle.nm_cells.specs.declared.peers.Peer.{Peer}
-use Rattle.nm_cells.specs.Rule.{Rule}
-use Rattle.nm_cells.specs.Plays as plays
-use Rattle.nm_cells.specs.Plays.{mine}
+use Rattle.nm_table.specs.Rule.{Rule}
+use Rattle.nm_table.specs.Plays as plays
+use Rattle.nm_table.specs.Plays.{mine}
 use Rattle.nm_cells.specs.Ports.{knows, taken_by}
 use Rattle.nm_cells.specs.AtWork.{HoldsBoxes}
 use Rattle.nm_cells.specs.Counted.{peer_in, all_unpassed, one_miss, one_begun}
 use Rattle.nm_cells.proofs.PortLemmas.{CarriesFor, peer_low, peer_box_got}
-use Rattle.nm_cells.proofs.BoxStepLemmas.{look_in_allowed}
+use Rattle.nm_table.proofs.BoxStepLemmas.{look_in_allowed}
 use Rattle.nm_cells.proofs.BoxCallLemmas as calls
+use Rattle.nm_cells.specs.LooseCells.{AreKept}
+use Rattle.nm_cells.proofs.LooseLemmas.{kept_begun}
 use Rattle.nm_cells.proofs.boxes.look_in.Goals as goal
 
 pub load-found-requires : goal.load-found-requires
@@ -122,6 +124,7 @@ returns-then-found-peer-clause-stays g c =
         refl,
         ap all_unpassed c.count_miss.ensures ∙ s.1,
       ),
+      refl,
       refl,
     )
 
@@ -284,4 +287,46 @@ returns-clause-stays g c =
         ap all_unpassed c.note_emptying.ensures ∙ s.1,
       ),
       refl,
+      refl,
     )
+
+pub invariant_of-port-clause-kept : goal.invariant_of-port-clause-kept
+invariant_of-port-clause-kept g c =
+    let f = c.args.f.now in let p = c.args.port.now in let o = c.requires.owns in
+    let few = c.requires.peer in let j = c.args.sender in let t = c.requires.told in
+    let then = subst (λ k. plays.looked_in k (taken_by p j) (step f.board.shared.table_id.slots
+    (4 * f.ranks + c.box_at-slot.result) 0 0 maybe.none) p.seat.me c.load-found.result
+    c.load-found.new.seat.me) (sym t.0)
+    (subst (λ a. plays.looked_in g.T.Told.peer a (step f.board.shared.table_id.slots
+    (4 * f.ranks + c.box_at-slot.result) 0 0 maybe.none) p.seat.me c.load-found.result
+    c.load-found.new.seat.me) (sym t.1) c.load-found.ensures.2) in
+    let same = ap (λ (u : Peer). u.taken) c.peer-peer.ensures in
+    let other = c.if-found-peer.true in
+    let is = then.1 (λ hit. other (let z : c.load-found.result ≡ c.peer-peer.result.taken + 1 =
+    omega arith in z)) in
+    subst (λ (m : plays.Knowing). AreKept p.loose (mine m) m.1) (sym is) p.kept
+
+pub invariant_of-port-2-clause-kept : goal.invariant_of-port-2-clause-kept
+invariant_of-port-2-clause-kept g c =
+    let f = c.args.f.now in let p = c.args.port.now in let o = c.requires.owns in
+    let few = c.requires.peer in let j = c.args.sender in let t = c.requires.told in
+    let then = subst (λ k. plays.looked_in k (taken_by p j) (step f.board.shared.table_id.slots
+    (4 * f.ranks + c.box_at-slot.result) 0 0 maybe.none) p.seat.me c.load-found.result
+    c.load-found.new.seat.me) (sym t.0)
+    (subst (λ a. plays.looked_in g.T.Told.peer a (step f.board.shared.table_id.slots
+    (4 * f.ranks + c.box_at-slot.result) 0 0 maybe.none) p.seat.me c.load-found.result
+    c.load-found.new.seat.me) (sym t.1) c.load-found.ensures.2) in
+    let same = ap (λ (u : Peer). u.taken) c.peer-peer.ensures in
+    let found = c.if-found-peer.false in
+    let rs = o.2 in let word : ℕ = 4 * f.ranks + c.box_at-slot.result in
+    let back : word - 4 * (knows p).ranks ≡ c.box_at-slot.result = omega arith in
+    let place = ap (λ (u : Peer). u.box_got) c.peer-peer.ensures ∙ peer_box_got p j
+    (calls.few f p o j few) in
+    let at = c.box_at-slot.ensures.at ∙ calls.in_slot_is f p o j few
+    c.peer-peer.result.box_got place in
+    let told = subst (λ k. plays.Begun j (taken_by p j) k p.seat.me c.load-found.new.seat.me) back
+    (then.0 (let z : c.load-found.result ≡ suc (taken_by p j) = omega arith in z)) in
+    let was = sym (calls.is_emptying f p o j few)
+    ∙ sym (ap (λ (u : Peer). u.emptying) c.peer-peer.ensures) in
+    kept_begun p.loose p.seat.me c.load-found.new.seat.me p.kept j c.box_at-slot.result
+    _ _ (subst (λ k. length (knows p).hands ≤ k) (sym at) (calls.far f p o j few false)) told.3

@@ -1,11 +1,11 @@
-use Rattle.std.proofs.Common.{◌≡◌, ℕ, ◌+◌, ◌-◌, ◌*◌, ◌<◌, [], ◌∷◌, true, length, sym, refl, ap, ◌∙◌, subst}
+use Rattle.std.proofs.Common.{◌≡◌, ℕ, ◌+◌, ◌-◌, ◌*◌, ◌<◌, ◌≤◌, [], ◌∷◌, true, length, sym, refl, ap, ◌∙◌, subst}
 use Rattle.std.proofs.Common.{arith, length-set}
 use Rattle.std.specs.Prelude.{vec_capacity}
 use Rattle.atomic_table.specs.Table.{Allows, step}
 use mathlib.Core.Option as maybe
-use Rattle.nm_cells.specs.Rule.{Rule, filling_of}
-use Rattle.nm_cells.specs.Plays as plays
-use Rattle.nm_cells.specs.Plays.{mine}
+use Rattle.nm_table.specs.Rule.{Rule, filling_of}
+use Rattle.nm_table.specs.Plays as plays
+use Rattle.nm_table.specs.Plays.{mine}
 use Rattle.nm_cells.specs.Ports.{knows}
 use Rattle.nm_cells.specs.Counted.{peer_in, all_unpassed, one_full, one_opened}
 use Rattle.nm_cells.specs.declared.peers.Peer.{Peer}
@@ -13,8 +13,10 @@ use Rattle.nm_cells.specs.AtWork.{HoldsBoxes}
 use Rattle.nm_seats.specs.Spoken.{view}
 use Rattle.nm_cells.proofs.PortLemmas.{CarriesFor}
 use Rattle.nm_cells.proofs.PortLemmas.{peer_low, peer_box_put}
-use Rattle.nm_cells.proofs.BoxStepLemmas.{look_out_allowed}
+use Rattle.nm_table.proofs.BoxStepLemmas.{look_out_allowed}
 use Rattle.nm_cells.proofs.BoxCallLemmas as calls
+use Rattle.nm_cells.specs.LooseCells.{AreKept}
+use Rattle.nm_cells.proofs.LooseLemmas.{kept_opened}
 use Rattle.nm_cells.proofs.boxes.look_out.Goals as goal
 
 pub load-found-requires : goal.load-found-requires
@@ -86,6 +88,7 @@ returns-then-found-ne0-clause-stays g c =
         refl,
         ap all_unpassed c.count_full.ensures ∙ t.1,
       ),
+      refl,
       refl,
     )
 
@@ -221,4 +224,39 @@ returns-clause-stays g c =
         ap all_unpassed c.note_filling.ensures ∙ t.1,
       ),
       refl,
+      refl,
     )
+
+pub invariant_of-port-clause-kept : goal.invariant_of-port-clause-kept
+invariant_of-port-clause-kept g c =
+    let f = c.args.f.now in let p = c.args.port.now in let o = c.requires.owns in
+    let few = c.requires.peer in
+    let then = subst (λ t. plays.looked_out t (step f.board.shared.table_id.slots
+    (4 * f.ranks + c.box_at-slot.result) 0 0 maybe.none) p.seat.me c.load-found.result
+    c.load-found.new.seat.me) (sym c.requires.told) c.load-found.ensures.2 in
+    let some = c.if-found-ne0.true in let is = then.1 (omega arith) in
+    subst (λ (m : plays.Knowing). AreKept p.loose (mine m) m.1) (sym is) p.kept
+
+pub invariant_of-port-2-clause-kept : goal.invariant_of-port-2-clause-kept
+invariant_of-port-2-clause-kept g c =
+    let f = c.args.f.now in let p = c.args.port.now in let o = c.requires.owns in
+    let few = c.requires.peer in
+    let then = subst (λ t. plays.looked_out t (step f.board.shared.table_id.slots
+    (4 * f.ranks + c.box_at-slot.result) 0 0 maybe.none) p.seat.me c.load-found.result
+    c.load-found.new.seat.me) (sym c.requires.told) c.load-found.ensures.2 in
+    let none = c.if-found-ne0.false in let free = then.0 (omega arith) in
+    let rs = o.2 in let word : ℕ = 4 * f.ranks + c.box_at-slot.result in
+    let back : word - 4 * (knows p).ranks ≡ c.box_at-slot.result = omega arith in
+    let place = ap (λ (u : Peer). u.box_put) c.peer-peer.ensures ∙ peer_box_put p c.args.to
+    (calls.few f p o c.args.to few) in
+    let at = c.box_at-slot.ensures.at ∙ calls.out_slot_is f p o c.args.to few
+    c.peer-peer.result.box_put place in
+    let is = free.1 ∙ ap (λ k. (
+      view (plays.with_filling c.args.to true (knows p) ∷ []),
+      plays.opened (filling_of (knows p) c.args.to) k p.seat.me.1,
+    )) back in
+    let was = sym (calls.is_filling f p o c.args.to few)
+    ∙ sym (ap (λ (u : Peer). u.filling) c.peer-peer.ensures) in
+    kept_opened p.loose p.seat.me c.load-found.new.seat.me p.kept c.args.to c.box_at-slot.result
+    (filling_of (knows p) c.args.to)
+    (subst (λ k. length (knows p).hands ≤ k) (sym at) (calls.far f p o c.args.to few true)) is

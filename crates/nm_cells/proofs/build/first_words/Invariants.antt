@@ -1,8 +1,7 @@
 use Rattle.std.proofs.Common.{◌≡◌, ℕ, ◌<◌, vec_len}
 use Rattle.std.specs.Prelude.{slice_index}
-use Rattle.nm_cells.specs.Rule.{IsInitial}
 use Rattle.nm_cells.proofs.build.first_words.Given as goal
 
 abbrev pub invariant-loop-i : goal.invariant-loop-i
-invariant-loop-i l = (vec_len l.words ≡ l.i)
-    × ((k : ℕ) → k < l.i → IsInitial l.ranks l.each k (slice_index l.words.items k))
+invariant-loop-i l = (vec_len l.words ≡ l._i)
+    × ((k : ℕ) → k < l._i → slice_index l.words.items k ≡ 0)

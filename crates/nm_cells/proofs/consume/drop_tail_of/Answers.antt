@@ -1,41 +1,42 @@
 use Rattle.std.proofs.Common.{◌+◌, ◌-◌, ◌*◌, ◌<◌, sym, refl, ap, subst}
 use Rattle.std.proofs.Common.{arith}
 use Rattle.std.specs.Prelude.{vec_capacity}
-use Rattle.nm_cells.proofs.ConsumerLemmas.{drain_allowed}
+use Rattle.nm_table.proofs.ConsumerLemmas.{drain_allowed}
 use Rattle.nm_cells.proofs.PortLemmas.{takes_room, takes_carries, takes_hands}
-use Rattle.nm_cells.proofs.PortLemmas.{takes_boxes, takes_count, takes_counts, takes_made}
-use Rattle.nm_cells.specs.Plays.{Knowing, mine}
+use Rattle.nm_cells.proofs.PortLemmas.{takes_boxes, takes_kept, takes_count, takes_counts, takes_made}
+use Rattle.nm_table.specs.Plays.{Knowing, mine}
 use Rattle.nm_cells.specs.AtWork.{HoldsBoxes}
+use Rattle.nm_cells.specs.LooseCells.{AreKept}
 use Rattle.nm_cells.proofs.consume.drop_tail_of.Goals as goal
 
 pub compare_exchange-found-requires : goal.compare_exchange-found-requires
 compare_exchange-found-requires g c = let f = c.args.f.now in let p = c.args.port.now in
-    let z = f.sizes.0 in let is = ap (λ e. e.shadow) c.end-shadow.ensures in
+    let z = f.sizes.0 in let is = ap (λ e. e.shadow) c.heads-shadow.ensures in
     let w = c.own_queue.ensures in let fits = w.fits in
     let low : 2 * f.ranks + c.own_queue.result < f.board.shared.table_id.words = omega arith in (
       c.requires.owns.0,
       low,
       drain_allowed f.board.shared.key f.ranks f.board.shared.table_id.slots p.seat.id p.seat.me
           p.alone f.shape.0 p.rank p.named c.requires.owns.1 _
-          (2 * f.ranks + c.own_queue.result) c.end-shadow.result.shadow
+          (2 * f.ranks + c.own_queue.result) c.heads-shadow.result.shadow
           (ap (λ k. 2 * f.ranks + k) w.own) (sym is) (subst (λ k. 0 < k) (sym is) c.requires.first),
     )
 
 pub count_taken-requires : goal.count_taken-requires
 count_taken-requires g c = let f = c.args.f.now in let p = c.args.port.now in
-    let k = c.end-shadow.result.shadow - 1 in let same = c.if-found-shadow.false in
+    let k = c.heads-shadow.result.shadow - 1 in let same = c.if-found-shadow.false in
     takes_count _ f p k k 0 c.compare_exchange-found.new.seat.me c.requires.owns
     (c.compare_exchange-found.ensures.2.1 same) refl
 
 pub carry-requires : goal.carry-requires
 carry-requires g c = let f = c.args.f.now in let p = c.args.port.now in
-    let k = c.end-shadow.result.shadow - 1 in let same = c.if-found-shadow.false in
+    let k = c.heads-shadow.result.shadow - 1 in let same = c.if-found-shadow.false in
     takes_room _ f p k k 0 c.compare_exchange-found.new.seat.me c.requires.owns
     (c.compare_exchange-found.ensures.2.1 same) refl
 
 pub overflow_add-port : goal.overflow_add-port
 overflow_add-port g c = let f = c.args.f.now in let p = c.args.port.now in
-    let k = c.end-shadow.result.shadow - 1 in let same = c.if-found-shadow.false in
+    let k = c.heads-shadow.result.shadow - 1 in let same = c.if-found-shadow.false in
     let most = takes_hands _ f p k k 0 c.compare_exchange-found.new.seat.me c.requires.owns
     (c.compare_exchange-found.ensures.2.1 same) refl in omega arith
 
@@ -46,7 +47,7 @@ invariant_of-port-clause-boxes g c = let p = c.args.port.now in
 
 pub invariant_of-port-2-clause-carries : goal.invariant_of-port-2-clause-carries
 invariant_of-port-2-clause-carries g c = let f = c.args.f.now in let p = c.args.port.now in
-    let k = c.end-shadow.result.shadow - 1 in let same = c.if-found-shadow.false in
+    let k = c.heads-shadow.result.shadow - 1 in let same = c.if-found-shadow.false in
     takes_carries _ f p k k 0 c.compare_exchange-found.new.seat.me c.requires.owns
     (c.compare_exchange-found.ensures.2.1 same) refl c.carry.new.carried.items
     (vec_capacity c.carry.new.carried)
@@ -54,20 +55,31 @@ invariant_of-port-2-clause-carries g c = let f = c.args.f.now in let p = c.args.
 
 pub invariant_of-port-2-clause-boxes : goal.invariant_of-port-2-clause-boxes
 invariant_of-port-2-clause-boxes g c = let f = c.args.f.now in let p = c.args.port.now in
-    let k = c.end-shadow.result.shadow - 1 in let same = c.if-found-shadow.false in
+    let k = c.heads-shadow.result.shadow - 1 in let same = c.if-found-shadow.false in
     takes_boxes _ f p k k 0 c.compare_exchange-found.new.seat.me c.requires.owns
     (c.compare_exchange-found.ensures.2.1 same) refl
 
 pub invariant_of-port-2-clause-counts : goal.invariant_of-port-2-clause-counts
 invariant_of-port-2-clause-counts g c = let f = c.args.f.now in let p = c.args.port.now in
-    let k = c.end-shadow.result.shadow - 1 in let same = c.if-found-shadow.false in
+    let k = c.heads-shadow.result.shadow - 1 in let same = c.if-found-shadow.false in
     takes_counts _ f p k k 0 c.compare_exchange-found.new.seat.me c.requires.owns
     (c.compare_exchange-found.ensures.2.1 same) refl c.count_taken.new.peers.items
     c.count_taken.ensures
 
 pub returns-clause-some : goal.returns-clause-some
 returns-clause-some g c = let f = c.args.f.now in let p = c.args.port.now in
-    let k = c.end-shadow.result.shadow - 1 in let same = c.if-found-shadow.false in
+    let k = c.heads-shadow.result.shadow - 1 in let same = c.if-found-shadow.false in
     takes_made _ f p k k 0 c.compare_exchange-found.new.seat.me c.requires.owns
     (c.compare_exchange-found.ensures.2.1 same) refl _ _ refl refl refl refl
-    c.count_taken.ensures refl c.set-2.ensures.told c.set-2.ensures.others
+    c.count_taken.ensures refl c.set-2.ensures.told c.set-2.ensures.others refl
+
+pub invariant_of-port-clause-kept : goal.invariant_of-port-clause-kept
+invariant_of-port-clause-kept g c = let p = c.args.port.now in
+    subst (λ (m : Knowing). AreKept p.loose (mine m) m.1)
+    (sym (c.compare_exchange-found.ensures.2.0 c.if-found-shadow.true)) p.kept
+
+pub invariant_of-port-2-clause-kept : goal.invariant_of-port-2-clause-kept
+invariant_of-port-2-clause-kept g c = let f = c.args.f.now in let p = c.args.port.now in
+    let k = c.heads-shadow.result.shadow - 1 in let same = c.if-found-shadow.false in
+    takes_kept _ f p k k 0 c.compare_exchange-found.new.seat.me c.requires.owns
+    (c.compare_exchange-found.ensures.2.1 same) refl

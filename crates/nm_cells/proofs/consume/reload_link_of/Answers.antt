@@ -3,30 +3,31 @@ use Rattle.std.proofs.Common.{◌≡◌, ◌+◌, ◌-◌, ◌*◌, ◌<◌, ref
 use Rattle.std.proofs.Common.{arith}
 use Rattle.std.specs.Prelude.{vec_capacity}
 use Rattle.nm_cells.specs.Ports.{knows}
-use Rattle.nm_cells.proofs.ConsumerLemmas.{reload_allowed}
+use Rattle.nm_table.proofs.ConsumerLemmas.{reload_allowed}
 use Rattle.nm_cells.proofs.PortLemmas.{shadow_below, takes_room, takes_carries, takes_hands}
-use Rattle.nm_cells.proofs.PortLemmas.{takes_boxes, takes_count, takes_counts, takes_made}
-use Rattle.nm_cells.specs.Plays.{Knowing, mine}
+use Rattle.nm_cells.proofs.PortLemmas.{takes_boxes, takes_kept, takes_count, takes_counts, takes_made}
+use Rattle.nm_table.specs.Plays.{Knowing, mine}
 use Rattle.nm_cells.specs.AtWork.{HoldsBoxes}
+use Rattle.nm_cells.specs.LooseCells.{AreKept}
 use Rattle.nm_cells.proofs.consume.reload_link_of.Goals as goal
 
 pub load-found-requires : goal.load-found-requires
 load-found-requires g c = let f = c.args.f.now in let p = c.args.port.now in let z = f.sizes.0 in
-    let is = ap (λ e. e.shadow) c.end-number.ensures in let some = c.requires.first in
-    let fits = shadow_below _ p c.end-number.result c.end-number.ensures in
+    let is = ap (λ e. e.shadow) c.heads-number.ensures in let some = c.requires.first in
+    let fits = shadow_below _ p c.heads-number.result c.heads-number.ensures in
     let most = c.requires.owns.4 in
-    let low : 4 * f.ranks + (c.end-number.result.shadow - 1) < f.board.shared.table_id.words =
+    let low : 4 * f.ranks + (c.heads-number.result.shadow - 1) < f.board.shared.table_id.words =
     omega arith in (
       c.requires.owns.0,
       low,
       reload_allowed f.board.shared.key f.ranks f.board.shared.table_id.slots p.seat.id p.seat.me
-          p.alone f.shape.0 p.rank p.named c.requires.owns.1 _ (c.end-number.result.shadow - 1)
+          p.alone f.shape.0 p.rank p.named c.requires.owns.1 _ (c.heads-number.result.shadow - 1)
           (omega arith),
     )
 
 pub count_taken-requires : goal.count_taken-requires
 count_taken-requires g c = let f = c.args.f.now in let p = c.args.port.now in
-    let k = c.end-number.result.shadow - 1 in let rs = c.requires.owns.2 in
+    let k = c.heads-number.result.shadow - 1 in let rs = c.requires.owns.2 in
     let at : (4 * f.ranks + k) - 4 * (knows p).ranks ≡ k = omega arith in
     let some = c.if-found-eq0.false in
     takes_count _ f p ((4 * f.ranks + k) - 4 * (knows p).ranks) k c.load-found.result
@@ -34,7 +35,7 @@ count_taken-requires g c = let f = c.args.f.now in let p = c.args.port.now in
 
 pub carry-requires : goal.carry-requires
 carry-requires g c = let f = c.args.f.now in let p = c.args.port.now in
-    let k = c.end-number.result.shadow - 1 in let rs = c.requires.owns.2 in
+    let k = c.heads-number.result.shadow - 1 in let rs = c.requires.owns.2 in
     let at : (4 * f.ranks + k) - 4 * (knows p).ranks ≡ k = omega arith in
     let some = c.if-found-eq0.false in
     takes_room _ f p ((4 * f.ranks + k) - 4 * (knows p).ranks) k c.load-found.result
@@ -42,7 +43,7 @@ carry-requires g c = let f = c.args.f.now in let p = c.args.port.now in
 
 pub overflow_add-port : goal.overflow_add-port
 overflow_add-port g c = let f = c.args.f.now in let p = c.args.port.now in
-    let k = c.end-number.result.shadow - 1 in let rs = c.requires.owns.2 in
+    let k = c.heads-number.result.shadow - 1 in let rs = c.requires.owns.2 in
     let at : (4 * f.ranks + k) - 4 * (knows p).ranks ≡ k = omega arith in
     let some = c.if-found-eq0.false in
     let most = takes_hands _ f p ((4 * f.ranks + k) - 4 * (knows p).ranks) k c.load-found.result
@@ -56,7 +57,7 @@ invariant_of-port-clause-boxes g c = let p = c.args.port.now in
 
 pub invariant_of-port-2-clause-carries : goal.invariant_of-port-2-clause-carries
 invariant_of-port-2-clause-carries g c = let f = c.args.f.now in let p = c.args.port.now in
-    let k = c.end-number.result.shadow - 1 in let rs = c.requires.owns.2 in
+    let k = c.heads-number.result.shadow - 1 in let rs = c.requires.owns.2 in
     let at : (4 * f.ranks + k) - 4 * (knows p).ranks ≡ k = omega arith in
     let some = c.if-found-eq0.false in
     takes_carries _ f p ((4 * f.ranks + k) - 4 * (knows p).ranks) k c.load-found.result
@@ -66,7 +67,7 @@ invariant_of-port-2-clause-carries g c = let f = c.args.f.now in let p = c.args.
 
 pub invariant_of-port-2-clause-boxes : goal.invariant_of-port-2-clause-boxes
 invariant_of-port-2-clause-boxes g c = let f = c.args.f.now in let p = c.args.port.now in
-    let k = c.end-number.result.shadow - 1 in let rs = c.requires.owns.2 in
+    let k = c.heads-number.result.shadow - 1 in let rs = c.requires.owns.2 in
     let at : (4 * f.ranks + k) - 4 * (knows p).ranks ≡ k = omega arith in
     let some = c.if-found-eq0.false in
     takes_boxes _ f p ((4 * f.ranks + k) - 4 * (knows p).ranks) k c.load-found.result
@@ -74,7 +75,7 @@ invariant_of-port-2-clause-boxes g c = let f = c.args.f.now in let p = c.args.po
 
 pub invariant_of-port-2-clause-counts : goal.invariant_of-port-2-clause-counts
 invariant_of-port-2-clause-counts g c = let f = c.args.f.now in let p = c.args.port.now in
-    let k = c.end-number.result.shadow - 1 in let rs = c.requires.owns.2 in
+    let k = c.heads-number.result.shadow - 1 in let rs = c.requires.owns.2 in
     let at : (4 * f.ranks + k) - 4 * (knows p).ranks ≡ k = omega arith in
     let some = c.if-found-eq0.false in
     takes_counts _ f p ((4 * f.ranks + k) - 4 * (knows p).ranks) k c.load-found.result
@@ -83,9 +84,22 @@ invariant_of-port-2-clause-counts g c = let f = c.args.f.now in let p = c.args.p
 
 pub returns-clause-some : goal.returns-clause-some
 returns-clause-some g c = let f = c.args.f.now in let p = c.args.port.now in
-    let k = c.end-number.result.shadow - 1 in let rs = c.requires.owns.2 in
+    let k = c.heads-number.result.shadow - 1 in let rs = c.requires.owns.2 in
     let at : (4 * f.ranks + k) - 4 * (knows p).ranks ≡ k = omega arith in
     let some = c.if-found-eq0.false in
     takes_made _ f p ((4 * f.ranks + k) - 4 * (knows p).ranks) k c.load-found.result
     c.load-found.new.seat.me c.requires.owns (c.load-found.ensures.2.1 (omega arith)) at _ _
-    refl refl refl refl c.count_taken.ensures refl c.set-2.ensures.told c.set-2.ensures.others
+    refl refl refl refl c.count_taken.ensures refl c.set-2.ensures.told c.set-2.ensures.others refl
+
+pub invariant_of-port-clause-kept : goal.invariant_of-port-clause-kept
+invariant_of-port-clause-kept g c = let p = c.args.port.now in
+    subst (λ (m : Knowing). AreKept p.loose (mine m) m.1)
+    (sym (c.load-found.ensures.2.0 c.if-found-eq0.true)) p.kept
+
+pub invariant_of-port-2-clause-kept : goal.invariant_of-port-2-clause-kept
+invariant_of-port-2-clause-kept g c = let f = c.args.f.now in let p = c.args.port.now in
+    let k = c.heads-number.result.shadow - 1 in let rs = c.requires.owns.2 in
+    let at : (4 * f.ranks + k) - 4 * (knows p).ranks ≡ k = omega arith in
+    let some = c.if-found-eq0.false in
+    takes_kept _ f p ((4 * f.ranks + k) - 4 * (knows p).ranks) k c.load-found.result
+    c.load-found.new.seat.me c.requires.owns (c.load-found.ensures.2.1 (omega arith)) at

@@ -1,14 +1,16 @@
 use Rattle.std.proofs.Common.{◌≡◌, [], ◌∷◌, ◌+◌, ◌-◌, ◌*◌, ◌<◌, length, sym, ap, ◌∙◌, subst, arith}
 use Rattle.std.specs.Prelude.{vec_capacity}
 use Rattle.nm_seats.specs.Spoken.{view}
-use Rattle.nm_cells.specs.declared.table.Hand.TheVariants.{Ready}
-use Rattle.nm_cells.specs.Plays.{mine, with_hand, load_in}
+use Rattle.nm_table.specs.declared.table.Hand.TheVariants.{Ready}
+use Rattle.nm_table.specs.Plays.{mine, with_hand, load_in}
 use Rattle.nm_cells.specs.Ports.{knows}
-use Rattle.nm_cells.proofs.ProducerLemmas.{clear_allowed}
+use Rattle.nm_table.proofs.ProducerLemmas.{clear_allowed}
 use Rattle.nm_cells.proofs.HoldingLemmas.{held_here}
 use Rattle.nm_cells.proofs.PortLemmas.{cleared_carries}
 use Rattle.nm_cells.specs.AtWork.{HoldsBoxes}
-use Rattle.nm_cells.specs.Plays as plays
+use Rattle.nm_table.specs.Plays as plays
+use Rattle.nm_cells.specs.LooseCells.{IsAmong, AreKept}
+use Rattle.nm_cells.proofs.LooseLemmas.{kept_hand}
 use Rattle.nm_cells.proofs.produce.clear_link.Goals as goal
 
 pub store-requires : goal.store-requires
@@ -47,3 +49,11 @@ returns-clause-ready g c = let f = c.args.f.now in let p = c.args.port.now in
 pub invariant_of-port-clause-boxes : goal.invariant_of-port-clause-boxes
 invariant_of-port-clause-boxes g c = let p = c.args.port.now in
     subst (λ (m : plays.Knowing). HoldsBoxes (plays.mine m) m.1) (sym c.store.ensures.2) p.boxes
+
+pub invariant_of-port-clause-kept : goal.invariant_of-port-clause-kept
+invariant_of-port-clause-kept g c = let f = c.args.f.now in let p = c.args.port.now in
+    let k = c.args.cell.now.number in let rs = c.requires.owns.2 in
+    let is : (4 * f.ranks + k) - 4 * (knows p).ranks ≡ k = omega arith in
+    subst (λ (m : plays.Knowing). AreKept p.loose (mine m) m.1) (sym c.store.ensures.2)
+    (kept_hand p.loose (knows p) p.seat.me.1 p.kept ((4 * f.ranks + k) - 4 * (knows p).ranks) _
+    (subst (λ d. ¬ IsAmong p.loose d) (sym is) c.requires.in_hand.3))

@@ -2,13 +2,15 @@ use Rattle.std.proofs.Common.{◌≡◌, [], ◌∷◌, suc, ◌+◌, ◌-◌, �
 use Rattle.std.proofs.Common.{arith}
 use Rattle.std.specs.Prelude.{vec_capacity}
 use Rattle.nm_seats.specs.Spoken.{view}
-use Rattle.nm_cells.specs.declared.table.Hand.TheVariants.{Away, Entering}
-use Rattle.nm_cells.specs.Plays.{with_hand}
+use Rattle.nm_table.specs.declared.table.Hand.TheVariants.{Away, Entering}
+use Rattle.nm_table.specs.Plays.{with_hand}
 use Rattle.nm_cells.specs.Ports.{knows}
-use Rattle.nm_cells.proofs.ProducerLemmas.{link_allowed}
+use Rattle.nm_table.proofs.ProducerLemmas.{link_allowed}
 use Rattle.nm_cells.proofs.PortLemmas.{finished_carries, some_in_hand}
 use Rattle.nm_cells.specs.AtWork.{HoldsBoxes}
-use Rattle.nm_cells.specs.Plays as plays
+use Rattle.nm_table.specs.Plays as plays
+use Rattle.nm_cells.specs.LooseCells.{IsAmong, AreKept}
+use Rattle.nm_cells.proofs.LooseLemmas.{entering_apart, kept_hand}
 use Rattle.nm_cells.proofs.produce.store_link.Goals as goal
 
 pub store-requires : goal.store-requires
@@ -40,3 +42,12 @@ invariant_of-port-clause-carries g c = let p = c.args.port.now in let e = c.args
 pub invariant_of-port-clause-boxes : goal.invariant_of-port-clause-boxes
 invariant_of-port-clause-boxes g c = let p = c.args.port.now in
     subst (λ (m : plays.Knowing). HoldsBoxes (plays.mine m) m.1) (sym c.store.ensures.2) p.boxes
+
+pub invariant_of-port-clause-kept : goal.invariant_of-port-clause-kept
+invariant_of-port-clause-kept g c = let p = c.args.port.now in let e = c.args.enqueue in
+    let one : (e.cell + 1) - 1 ≡ e.cell = omega arith in
+    subst (λ (m : plays.Knowing). AreKept p.loose (plays.mine m) m.1) (sym c.store.ensures.2)
+    (kept_hand p.loose (knows p) p.seat.me.1 p.kept ((e.cell + 1) - 1) Away
+    (subst (λ d. ¬ IsAmong p.loose d) (sym one)
+    (entering_apart p.loose (knows p) p.seat.me.1 p.kept e.cell e.queue e.found
+    c.requires.awaits.0.2)))

@@ -5,18 +5,20 @@ use Rattle.atomic_table.specs.Table.{rest}
 use Rattle.nm_chain.specs.Chain.{item}
 use Rattle.nm_seats.specs.Spoken.{view}
 use Rattle.nm_seats.specs.Update.{update}
-use Rattle.nm_cells.specs.declared.table.Hand.TheVariants.{Away, Entering}
-use Rattle.nm_cells.specs.Rule.{Suits, sender, number, sent_to, posted}
-use Rattle.nm_cells.specs.Plays.{mine, sole, with_hand, with_put, first_load}
+use Rattle.nm_table.specs.declared.table.Hand.TheVariants.{Away, Entering}
+use Rattle.nm_table.specs.Rule.{Suits, sender, number, sent_to, posted}
+use Rattle.nm_table.specs.Plays.{mine, sole, with_hand, with_put, first_load}
 use Rattle.nm_cells.specs.Ports.{knows, holding, rank_of_queue, posted_in}
 use Rattle.nm_cells.specs.Ports.{HasRoomFor}
 use Rattle.nm_cells.specs.Counted.{CountsFor, peer_in, all_unpassed}
-use Rattle.nm_cells.proofs.ProducerLemmas.{swap_allowed}
+use Rattle.nm_table.proofs.ProducerLemmas.{swap_allowed}
 use Rattle.nm_cells.proofs.PortLemmas.{CarriesFor, swapped_carries, swapped_holds, posted_is}
 use Rattle.nm_cells.proofs.PortLemmas.{sent_counts, room_for, sent_taken, may_suits, may_low}
 use Rattle.nm_cells.specs.AtWork.{HoldsBoxes}
-use Rattle.nm_cells.specs.Plays.{Knowing}
+use Rattle.nm_table.specs.Plays.{Knowing}
 use Rattle.nm_cells.proofs.BoxPortLemmas.{boxes_popped}
+use Rattle.nm_cells.specs.LooseCells.{IsAmong, AreKept}
+use Rattle.nm_cells.proofs.LooseLemmas.{kept_hand, kept_pop}
 use Rattle.nm_cells.proofs.produce.swap_tail.Goals as goal
 
 pub swap-found-requires : goal.swap-found-requires
@@ -147,6 +149,7 @@ returns-clause-stays g c = let f = c.args.f.now in let p = c.bring_cell.new.port
         ap all_unpassed c.count_put.ensures ∙ t.1 ∙ ap (λ ps. all_unpassed ps.items) same.1,
       ),
       same.4,
+      same.5,
     )
 
 pub invariant_of-port-clause-boxes : goal.invariant_of-port-clause-boxes
@@ -159,3 +162,14 @@ invariant_of-port-clause-boxes g c = let p = c.bring_cell.new.port in let e = kn
     subst (λ (m : Knowing). HoldsBoxes (mine m) m.1) (sym c.swap-found.ensures.2.1)
     (boxes_popped e (rest p.seat.me.1) k (holding c.args.port.now k) low
     (subst (HoldsBoxes e) c.bring_cell.ensures.front p.boxes))
+
+pub invariant_of-port-clause-kept : goal.invariant_of-port-clause-kept
+invariant_of-port-clause-kept g c = let p = c.bring_cell.new.port in let e = knows p in
+    let k = c.args.cell.number in let one : (k + 1) - 1 ≡ k = omega arith in
+    let out : ¬ IsAmong p.loose k =
+    subst (λ x. ¬ IsAmong x k) (sym c.bring_cell.ensures.same.5) c.requires.in_hand.3 in
+    subst (λ (m : Knowing). AreKept p.loose (mine m) m.1) (sym c.swap-found.ensures.2.1)
+    (kept_hand p.loose e (rest p.seat.me.1)
+    (kept_pop p.loose e (rest p.seat.me.1) k (holding c.args.port.now k) out
+    (subst (AreKept p.loose e) c.bring_cell.ensures.front p.kept)) ((k + 1) - 1) _
+    (subst (λ d. ¬ IsAmong p.loose d) (sym one) out))

@@ -1,8 +1,8 @@
 use Rattle.std.proofs.Common.{◌∷◌, length, sym, ap, ◌∙◌, subst, arith}
 use Rattle.std.proofs.lemmas.List.{length-map}
-use Rattle.std.specs.Prelude.{slice_index, vec_capacity}
+use Rattle.std.specs.Prelude.{slice_index, slice_index_or, vec_capacity}
 use Rattle.atomic_table.specs.Table.{rest}
-use Rattle.nm_cells.specs.Plays.{sole, load_in}
+use Rattle.nm_table.specs.Plays.{sole, load_in}
 use Rattle.nm_cells.specs.Ports.{knows}
 use Rattle.nm_cells.specs.AtWork.{HoldsBoxes}
 use Rattle.nm_cells.specs.Carried.{Carries, held_in, times}
@@ -10,6 +10,10 @@ use Rattle.nm_cells.specs.Counted.{CountsFor}
 use Rattle.nm_cells.proofs.HoldingLemmas.{turned_by, carries_turned, front_at, still_held}
 use Rattle.nm_cells.proofs.HoldingLemmas.{found_at}
 use Rattle.nm_cells.proofs.BoxPortLemmas.{boxes_turned}
+use Rattle.nm_table.specs.declared.table.Hand.TheVariants.{Away}
+use Rattle.nm_cells.specs.LooseCells.{AreKept}
+use Rattle.nm_cells.proofs.CarriedLemmas.{slots_one}
+use Rattle.nm_cells.proofs.LooseLemmas.{kept_turned}
 use Rattle.nm_cells.proofs.slots.bring_slot.Goals as goal
 
 pub bring-requires-clause-there : goal.bring-requires-clause-there
@@ -59,3 +63,15 @@ returns-clause-holding c = let p = c.args.port.now in let e = knows p in
     ∙ ap (held_in (length e.hands)) t.3
     ∙ still_held p.seat.me.1 e.hands e.filling e.emptying p.carried.items
     (vec_capacity p.carried) p.hands p.carries t.0 t.1
+
+pub invariant_of-port-clause-kept : goal.invariant_of-port-clause-kept
+invariant_of-port-clause-kept c = let p = c.args.port.now in let e = knows p in
+    let t = c.bring.ensures.turned in
+    let long = sym (length-map p.seat.me.1 (λ x. x.0)) ∙ ap length p.carries.order in
+    let low = t.1 in
+    subst (λ v. AreKept p.loose (sole v.entries) c.bring.new.seat.me.1)
+    (sym c.bring.ensures.seat.2)
+    (subst (AreKept p.loose e) (sym t.3)
+    (kept_turned p.loose e p.seat.me.1 p.kept t.0 (omega arith)
+    (λ d ld. let s = ap (times d) p.carries.order ∙ p.carries.cells d ld in
+    let one = slots_one (slice_index_or e.hands d Away) in omega arith)))

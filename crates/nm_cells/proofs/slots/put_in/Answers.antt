@@ -2,13 +2,15 @@ use Rattle.std.proofs.Common.{◌*◌, ◌<◌, Some, length, sym, ap, ◌∙◌
 use Rattle.std.specs.Prelude.{vec_capacity}
 use Rattle.atomic_table.specs.Table.{rest}
 use Rattle.nm_seats.specs.Update.{update}
-use Rattle.nm_cells.specs.Plays.{Knowing, mine, sole}
+use Rattle.nm_table.specs.Plays.{Knowing, mine, sole}
 use Rattle.nm_cells.specs.AtWork.{HoldsBoxes}
 use Rattle.nm_cells.proofs.BoxPortLemmas.{boxes_exchanged}
 use Rattle.nm_cells.specs.Ports.{knows}
 use Rattle.nm_cells.specs.Carried.{held_in}
 use Rattle.nm_cells.proofs.PortLemmas.{CarriesFor}
 use Rattle.nm_cells.proofs.HoldingLemmas.{exchanged_held, exchanged_carries}
+use Rattle.nm_cells.specs.LooseCells.{IsAmong, AreKept}
+use Rattle.nm_cells.proofs.LooseLemmas.{kept_pop, kept_push}
 use Rattle.nm_cells.proofs.slots.put_in.Goals as goal
 
 pub invariant_of-port-clause-carries : goal.invariant_of-port-clause-carries
@@ -39,3 +41,12 @@ returns-clause-filled c = let p = c.bring_cell.new.port in let k = c.args.cell.n
     (rest p.seat.me.1) c.bring_cell.ensures.front (length (knows p).hands)
     (subst (λ n. k < n) (sym same) c.requires.in_hand.0)
     ∙ ap (λ u. update u k (Some c.args.packet)) c.bring_cell.ensures.holding
+
+pub invariant_of-port-clause-kept : goal.invariant_of-port-clause-kept
+invariant_of-port-clause-kept c = let p = c.bring_cell.new.port in let e = knows p in
+    let k = c.args.cell.now.number in let left = rest p.seat.me.1 in
+    let out : ¬ IsAmong p.loose k =
+    subst (λ x. ¬ IsAmong x k) (sym c.bring_cell.ensures.same.5) c.requires.in_hand.3 in
+    subst (λ (m : Knowing). AreKept p.loose (mine m) m.1) (sym c.exchange-old.ensures.3)
+    (kept_push p.loose e left (kept_pop p.loose e left k _ out
+    (subst (AreKept p.loose e) c.bring_cell.ensures.front p.kept)) k (Some c.args.packet) out)

@@ -1,7 +1,7 @@
 use Rattle.std.proofs.Common.{◌<◌, set, sym, ap, ◌∙◌, subst, get_or-set_same}
-use Rattle.nm_cells.specs.declared.table.Hand.TheVariants.{Away, Ready, Entering}
-use Rattle.nm_cells.specs.Rule.{hand, sent_to}
-use Rattle.nm_cells.specs.Plays.{with_hand, with_put}
+use Rattle.nm_table.specs.declared.table.Hand.TheVariants.{Away, Ready, Entering}
+use Rattle.nm_table.specs.Rule.{hand, sent_to}
+use Rattle.nm_table.specs.Plays.{with_hand, with_put}
 use Rattle.nm_cells.specs.Ports.{knows, holding, posted_in, queue_of}
 use Rattle.nm_queue.proofs.MoveLemmas.{set_twice, may_still}
 use Rattle.nm_queue.proofs.moves.enqueue.Goals as goal

@@ -1,7 +1,8 @@
 use Rattle.std.proofs.Common.{rules, suc, Some, sym, refl, ap, ◌∙◌, subst}
 use Rattle.nm_seats.proofs.UpdateLemmas.{update_here}
-use Rattle.nm_cells.specs.Rule.{hand, sender, number, sent_to}
-use Rattle.nm_cells.specs.Plays.{InHand}
+use Rattle.nm_table.specs.Rule.{hand, sender, number, sent_to}
+use Rattle.nm_table.specs.Plays.{InHand}
+use Rattle.nm_cells.specs.LooseCells.{IsAmong}
 use Rattle.nm_cells.specs.Ports.{Takes, holding}
 use Rattle.nm_queue.proofs.tests.filled.Goals as goal
 
@@ -13,7 +14,12 @@ returns-clause-some g c = let f = c.args.f.now in let p = c.dequeue.new.port in
     let here = ap (λ h. h k) c.put_in.ensures.filled
     ∙ update_here (holding p) k (Some c.packet-next.result) k refl in
     let none = took.vacant refl in (
-      (took.has.0, took.has.1, subst (λ e. InHand (hand e k)) (sym still.1) took.has.2),
+      (
+        took.has.0,
+        took.has.1,
+        subst (λ e. InHand (hand e k)) (sym still.1) took.has.2,
+        subst (λ x. ¬ IsAmong x k) (sym still.0.4) took.has.3,
+      ),
       (
         c.requires.owns.1,
         sym took.has.1 ∙ none.1 ∙ sym rank,

@@ -1,6 +1,6 @@
 use Rattle.std.proofs.Common.{◌<◌, sym, ap, ◌∙◌, subst, get_or-set_same}
-use Rattle.nm_cells.specs.declared.table.Hand.TheVariants.{Away, Ready}
-use Rattle.nm_cells.specs.Rule.{hand, sent_to}
+use Rattle.nm_table.specs.declared.table.Hand.TheVariants.{Away, Ready}
+use Rattle.nm_table.specs.Rule.{hand, sent_to}
 use Rattle.nm_cells.specs.Ports.{knows, holding}
 use Rattle.nm_queue.proofs.MoveLemmas.{may_still}
 use Rattle.nm_queue.proofs.tests.half.Goals as goal

@@ -1,19 +1,24 @@
-use Rattle.std.proofs.Common.{◌≡◌, ◌<◌, length, map, sym, ap, ◌∙◌, subst, arith}
+use Rattle.std.proofs.Common.{◌≡◌, ◌<◌, List, length, map, sym, ap, ◌∙◌, subst, arith}
 use mathlib.Core.Option as maybe
 use lib.ListN.{get_elem?}
 use Rattle.nm_seats.specs.Spoken.{view}
-use Rattle.nm_cells.specs.Rule.{hand}
+use Rattle.nm_table.specs.Rule.{hand}
 use Rattle.nm_cells.specs.AtClose.{AllCame, Prefixed, Settled}
 use Rattle.nm_cells.specs.Ports.{knows}
-use Rattle.nm_cells.specs.ClosedLists.{seen_in}
+use Rattle.nm_cells.specs.declared.peers.Peer.{Peer}
+use Rattle.nm_cells.specs.PathLists.{seen_in}
 use Rattle.nm_cells.proofs.PortLemmas.{idle}
 use Rattle.nm_cells.proofs.ClosingLemmas.{get_mapped, length_mapped, sealed_off}
+use Rattle.nm_cells.proofs.TallyLemmas.{counts_of, tallied, counts, prefix, all_came}
 use Rattle.nm_cells.proofs.port.Fabric.close.Goals as goal
 
 pub split_seat-requires : goal.split_seat-requires
 split_seat-requires c = let f = c.args.self in let z = f.sizes.0 in let some = c.requires.count.1 in
-    let seat = c.gather-seat in let low : 0 < f.board.shared.table_id.words = omega arith in
-    (seat.ensures.table, low, sealed_off f.board.shared.key seat.result.id seat.result.me.0)
+    let seat = c.gather-seat in let low : 0 < f.board.shared.table_id.words = omega arith in (
+      seat.ensures.table,
+      low,
+      sealed_off f.board.shared.key seat.result.0.id seat.result.0.me.0,
+    )
 
 pub settle-cells-requires-clause-all : goal.settle-cells-requires-clause-all
 settle-cells-requires-clause-all c = let items = c.args.ports.items in
@@ -63,3 +68,71 @@ returns-clause-home c all = let items = c.args.ports.items in
     ap seen_in c.into_badge-badge.ensures.2 ∙ ap (λ m. m.0.seen) c.split_seat.ensures.4
     ∙ ap (λ m. m.0.entries) c.gather-seat.ensures.all in
     c.settle-cells.ensures.home (subst (λ es. AllCame c.args.self.ranks es) (listed ∙ sym is) all)
+
+pub invariant_of-result : goal.invariant_of-result
+invariant_of-result c = let f = c.args.self in let items = c.args.ports.items in
+    let is : c.split_seat.new.seat.me.0.entries ≡ map knows items =
+    ap (λ m. m.0.entries) c.split_seat.ensures.2
+    ∙ ap (λ m. m.0.entries) c.gather-seat.ensures.all in
+    let es = seen_in c.into_badge-badge.result.views in
+    let ps : List (List Peer) = map (λ v. v.items) c.gather-seat.result.1.items in
+    let listed : es ≡ map knows items =
+    ap seen_in c.into_badge-badge.ensures.2 ∙ ap (λ m. m.0.seen) c.split_seat.ensures.4
+    ∙ ap (λ m. m.0.entries) c.gather-seat.ensures.all in
+    let counted : ps ≡ counts_of items = ap (map (λ v. v.items)) c.gather-seat.ensures.counted in
+    let home = c.settle-cells.result.home in
+    let settled = subst (λ l. Settled f.board.shared.key l home)
+    (is ∙ sym listed) c.settle-cells.ensures.settled in
+    record {
+      tallied = tallied f items c.requires.count.0 c.requires.ports es ps home listed counted
+          settled;
+    }
+
+pub returns-clause-counts : goal.returns-clause-counts
+returns-clause-counts c = let f = c.args.self in let items = c.args.ports.items in
+    let is : c.split_seat.new.seat.me.0.entries ≡ map knows items =
+    ap (λ m. m.0.entries) c.split_seat.ensures.2
+    ∙ ap (λ m. m.0.entries) c.gather-seat.ensures.all in
+    let es = seen_in c.into_badge-badge.result.views in
+    let ps : List (List Peer) = map (λ v. v.items) c.gather-seat.result.1.items in
+    let listed : es ≡ map knows items =
+    ap seen_in c.into_badge-badge.ensures.2 ∙ ap (λ m. m.0.seen) c.split_seat.ensures.4
+    ∙ ap (λ m. m.0.entries) c.gather-seat.ensures.all in
+    let counted : ps ≡ counts_of items = ap (map (λ v. v.items)) c.gather-seat.ensures.counted in
+    let home = c.settle-cells.result.home in
+    let settled = subst (λ l. Settled f.board.shared.key l home)
+    (is ∙ sym listed) c.settle-cells.ensures.settled in
+    counts f items c.requires.count.0 c.requires.ports es ps home listed counted settled
+
+pub returns-clause-prefix : goal.returns-clause-prefix
+returns-clause-prefix c = let f = c.args.self in let items = c.args.ports.items in
+    let is : c.split_seat.new.seat.me.0.entries ≡ map knows items =
+    ap (λ m. m.0.entries) c.split_seat.ensures.2
+    ∙ ap (λ m. m.0.entries) c.gather-seat.ensures.all in
+    let es = seen_in c.into_badge-badge.result.views in
+    let ps : List (List Peer) = map (λ v. v.items) c.gather-seat.result.1.items in
+    let listed : es ≡ map knows items =
+    ap seen_in c.into_badge-badge.ensures.2 ∙ ap (λ m. m.0.seen) c.split_seat.ensures.4
+    ∙ ap (λ m. m.0.entries) c.gather-seat.ensures.all in
+    let counted : ps ≡ counts_of items = ap (map (λ v. v.items)) c.gather-seat.ensures.counted in
+    let home = c.settle-cells.result.home in
+    let settled = subst (λ l. Settled f.board.shared.key l home)
+    (is ∙ sym listed) c.settle-cells.ensures.settled in
+    prefix f items c.requires.count.0 c.requires.ports es ps home listed counted settled
+
+pub returns-clause-all_taken : goal.returns-clause-all_taken
+returns-clause-all_taken c even = let f = c.args.self in let items = c.args.ports.items in
+    let is : c.split_seat.new.seat.me.0.entries ≡ map knows items =
+    ap (λ m. m.0.entries) c.split_seat.ensures.2
+    ∙ ap (λ m. m.0.entries) c.gather-seat.ensures.all in
+    let es = seen_in c.into_badge-badge.result.views in
+    let ps : List (List Peer) = map (λ v. v.items) c.gather-seat.result.1.items in
+    let listed : es ≡ map knows items =
+    ap seen_in c.into_badge-badge.ensures.2 ∙ ap (λ m. m.0.seen) c.split_seat.ensures.4
+    ∙ ap (λ m. m.0.entries) c.gather-seat.ensures.all in
+    let counted : ps ≡ counts_of items = ap (map (λ v. v.items)) c.gather-seat.ensures.counted in
+    let home = c.settle-cells.result.home in
+    let settled = subst (λ l. Settled f.board.shared.key l home)
+    (is ∙ sym listed) c.settle-cells.ensures.settled in
+    c.settle-cells.ensures.home (subst (AllCame f.ranks) (listed ∙ sym is)
+    (all_came f items c.requires.count.0 c.requires.ports es ps home listed counted settled even))

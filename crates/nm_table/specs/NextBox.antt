@@ -1,8 +1,8 @@
 -- The next box of each ordered pair, and the boxes at work, as a rank knows them.
 use Rattle.std.specs.Prelude.{◌≡◌, ◌≢◌, ℕ, ◌%◌, ◌<◌, Bool, true, false, Option, Some, None, List}
 use Rattle.std.specs.Prelude.{length, slice_index_or}
-use Rattle.nm_cells.specs.declared.table.Entry.{Entry}
-use Rattle.nm_cells.specs.Rule.{Load, put_to, from, box_slot}
+use Rattle.nm_table.specs.declared.table.Entry.{Entry}
+use Rattle.nm_table.specs.Rule.{Load, put_to, from, box_slot}
 
 -- what a box that is being filled holds
 abbrev pub to_fill : Bool → Option Load

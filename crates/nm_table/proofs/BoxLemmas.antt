@@ -17,10 +17,10 @@ use Rattle.nm_chain.specs.Sequence.{InSequence}
 use Rattle.nm_chain.proofs.SequenceLemmas.{put_by_cell, got_by_cell}
 use Rattle.nm_seats.specs.Window.{Window}
 use Rattle.nm_seats.proofs.WindowLemmas as windows
-use Rattle.nm_cells.specs.Rule.{Load, Chain, World, put_to, sender, from, number, sent_to, posted}
-use Rattle.nm_cells.specs.Rule.{fetched, loads, box_slot, BoxesHold, AllInSequence, mark}
-use Rattle.nm_cells.proofs.QueueLemmas.{from_append, put_append, loads_append, pick_yes, pick_no}
-use Rattle.nm_cells.proofs.QueueLemmas.{below_yes, below_no, posted_here, posted_else}
+use Rattle.nm_table.specs.Rule.{Load, Chain, World, put_to, sender, from, number, sent_to, posted}
+use Rattle.nm_table.specs.Rule.{fetched, loads, box_slot, BoxesHold, AllInSequence, mark}
+use Rattle.nm_table.proofs.QueueLemmas.{from_append, put_append, loads_append, pick_yes, pick_no}
+use Rattle.nm_table.proofs.QueueLemmas.{below_yes, below_no, posted_here, posted_else}
 
 pub marked : (y : Load) → 0 < mark y
 marked y = omega arith

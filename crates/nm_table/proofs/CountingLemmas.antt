@@ -6,15 +6,16 @@ use Rattle.std.proofs.Math.Nat.{div-mul-le_self, lt-div-mul-add}
 use mathlib.Core.Option as maybe
 use native.Mathlib.Decide.{dec_le}
 use mathlib.Core.Logic.{dite}
-use Rattle.nm_chain.specs.Chain.{Item, IsIn, Has, Each, held, ready, entering, queued}
+use Rattle.nm_chain.specs.Chain.{Item, IsIn, Has, Each, loose, held, ready, entering, queued}
 use Rattle.nm_chain.proofs.CountLemmas.{counts}
-use Rattle.nm_cells.specs.declared.table.Hand.TheVariants.{Away}
-use Rattle.nm_cells.specs.declared.table.Entry.{Entry}
-use Rattle.nm_cells.specs.Rule.{Load, Place, hand, World, Below, NotOf, Shows, Agrees, Fits, Handed}
-use Rattle.nm_cells.specs.Rule.{QueuesHold}
+use Rattle.nm_table.specs.declared.table.Hand.TheVariants.{Away}
+use Rattle.nm_table.specs.declared.table.Entry.{Entry}
+use Rattle.nm_table.specs.Rule.{Load, Place, hand, World, Below, NotOf, Shows, Agrees, Fits, Handed}
+use Rattle.nm_table.specs.Rule.{QueuesHold}
 
 -- a place in which no rank has part
 settled : (n : ℕ) (p : Place) → Below n p → ((r : ℕ) → r < n → NotOf r p) → (q : ℕ) × (p ≡ queued q)
+settled n (loose r) b f = absurd (f r b refl)
 settled n (held r) b f = absurd (f r b refl)
 settled n (ready r y) b f = absurd (f r b refl)
 settled n (entering r q t) b f = absurd (f r b refl)

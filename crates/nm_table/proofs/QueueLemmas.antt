@@ -11,16 +11,17 @@ use Rattle.atomic_table.proofs.Lists.{set_here, set_else}
 use Rattle.nm_seats.proofs.UpdateLemmas.{update_here, update_else}
 use Rattle.nm_seats.specs.Update.{update}
 use Rattle.nm_chain.specs.Chain.{Item, item, IsIn, Each, Has, Begins, last_from, tail_of, IsChain}
-use Rattle.nm_chain.specs.Chain.{held, ready, entering, queued}
+use Rattle.nm_chain.specs.Chain.{loose, held, ready, entering, queued}
 use Rattle.nm_chain.proofs.ChainLemmas.{next_is, chain_elsewhere, tail_swapped, link_stored}
 use Rattle.nm_chain.proofs.ChainLemmas.{head_stored, head_cleared, first_cell, first_taken}
 use Rattle.nm_chain.proofs.ChainLemmas.{tail_dropped}
-use Rattle.nm_cells.specs.declared.table.End.{End}
-use Rattle.nm_cells.specs.Rule.{Load, Place, Chain, World, pick, if_below, put_to, sender, from}
-use Rattle.nm_cells.specs.Rule.{posted, fetched, loads, head, tail, link, HasHome, IsOut, Suits}
-use Rattle.nm_cells.specs.Rule.{Fits, Handed, Queue, QueuesHold}
+use Rattle.nm_table.specs.declared.table.Heads.{Heads}
+use Rattle.nm_table.specs.Rule.{Load, Place, Chain, World, pick, if_below, put_to, sender, from}
+use Rattle.nm_table.specs.Rule.{posted, fetched, loads, head, tail, link, HasHome, IsOut, Suits}
+use Rattle.nm_table.specs.Rule.{Fits, Handed, Queue, QueuesHold}
 
 in_one : (q p : ℕ) (a : Place) → IsIn q a → IsIn p a → q ≡ p
+in_one q p (loose r) h k = absurd h
 in_one q p (held r) h k = absurd h
 in_one q p (ready r y) h k = absurd h
 in_one q p (entering r s t) h k = h ∙ sym k
@@ -90,6 +91,7 @@ moved fits place ln q h t s h' t' s' xs xs' eh et es ex c = record {
 handed_same : (n : ℕ) (words words' : List ℕ) (homes homes' : List (maybe.Option Load)) (c : ℕ)
     (p : Place) → get_elem? homes' c ≡ get_elem? homes c → link n words' c ≡ link n words c
     → Handed n words homes c p → Handed n words' homes' c p
+handed_same n words words' homes homes' c (loose r) e f h = e ∙ h
 handed_same n words words' homes homes' c (held r) e f h = e ∙ h
 handed_same n words words' homes homes' c (ready r y) e f h = (e ∙ h.0, f ∙ h.1)
 handed_same n words words' homes homes' c (entering r q t) e f h = h
@@ -97,6 +99,7 @@ handed_same n words words' homes homes' c (queued q) e f h = h
 
 handed_in : (n : ℕ) (words words' : List ℕ) (homes homes' : List (maybe.Option Load)) (q c : ℕ)
     (p : Place) → IsIn q p → Handed n words homes c p → Handed n words' homes' c p
+handed_in n words words' homes homes' q c (loose r) i h = absurd i
 handed_in n words words' homes homes' q c (held r) i h = absurd i
 handed_in n words words' homes homes' q c (ready r y) i h = absurd i
 handed_in n words words' homes homes' q c (entering r s t) i h = h
@@ -104,6 +107,7 @@ handed_in n words words' homes homes' q c (queued s) i h = h
 
 in_range : (n : ℕ) (words : List ℕ) (homes : List (maybe.Option Load)) (q c : ℕ) (p : Place)
     → IsIn q p → Handed n words homes c p → q < 2 * n
+in_range n words homes q c (loose r) i h = absurd i
 in_range n words homes q c (held r) i h = absurd i
 in_range n words homes q c (ready r y) i h = absurd i
 in_range n words homes q c (entering r s t) i h = subst (λ k. k < 2 * n) (sym i) h
@@ -136,17 +140,17 @@ module _ (n each : ℕ) where
   rests : (w w' : World) (words words' : List ℕ) (homes homes' : List (maybe.Option Load)) (q : ℕ)
       → Queue n each w words homes q
       → head n words' q ≡ head n words q → tail n words' q ≡ tail n words q
-      → (w'.end q).shadow ≡ (w.end q).shadow → w'.chain q ≡ w.chain q
+      → (w'.heads q).shadow ≡ (w.heads q).shadow → w'.chain q ≡ w.chain q
       → ((c : ℕ) → IsIn q (w.place c) → (link n words' c ≡ link n words c)
       × (w'.place c ≡ w.place c)) → ((c : ℕ) → IsIn q (w'.place c) → IsIn q (w.place c))
       → ((c : ℕ) → IsIn q (w.place c) → get_elem? homes' c ≡ get_elem? homes c)
       → Queue n each w' words' homes' q
   rests w w' words words' homes homes' q h eh et es ec same back keep =
       moved (Fits n each homes' q) w'.place (link n words') q (head n words q) (tail n words q)
-      (w.end q).shadow (head n words' q) (tail n words' q) (w'.end q).shadow (w.chain q)
+      (w.heads q).shadow (head n words' q) (tail n words' q) (w'.heads q).shadow (w.chain q)
       (w'.chain q) eh et es ec
       (chain_elsewhere (Fits n each homes q) (Fits n each homes' q) w.place (link n words) q
-      (head n words q) (tail n words q) (w.end q).shadow (w.chain q) h w'.place
+      (head n words q) (tail n words q) (w.heads q).shadow (w.chain q) h w'.place
       (link n words') same back (λ x i f. (f.0, keep x.cell i ∙ f.1, f.2)))
 
   module _ (w : World) (words : List ℕ) (homes : List (maybe.Option Load))
@@ -181,7 +185,7 @@ module _ (n each : ℕ) where
         (else d ne (l.cells d low)))
 
     -- a step behind the links and the cells' slots
-    pub elsewhere : (w' : World) → w'.place ≡ w.place → w'.chain ≡ w.chain → w'.end ≡ w.end
+    pub elsewhere : (w' : World) → w'.place ≡ w.place → w'.chain ≡ w.chain → w'.heads ≡ w.heads
         → w'.put ≡ w.put → w'.got ≡ w.got → (words' : List ℕ) (homes' : List (maybe.Option Load))
         → length words' ≡ length words → length homes' ≡ length homes
         → ((k : ℕ) → k < 4 * n + n * each → slice_index words' k ≡ slice_index words k)
@@ -194,7 +198,7 @@ module _ (n each : ℕ) where
           λ c i. has_fit (Fits n each homes q) (λ d. d < n * each) (λ x f. f.0) (w.chain q)
           (l.queues q few).each c ((l.queues q few).whole c i) in
           rests w w' words words' homes homes' q (l.queues q few) (ew q (omega arith))
-          (ew (2 * n + q) (omega arith)) (ap (λ (g : ℕ → End). (g q).shadow) ee)
+          (ew (2 * n + q) (omega arith)) (ap (λ (g : ℕ → Heads). (g q).shadow) ee)
           (ap (λ (g : ℕ → Chain). g q) ec)
           (λ c i. (
             ew (4 * n + c) (let z = in_q c i in omega arith),
@@ -202,13 +206,32 @@ module _ (n each : ℕ) where
           )) (λ c i. subst (λ (g : ℕ → Place). IsIn q (g c)) ep i)
           (λ c i. eh c (in_q c i));
       seen = λ q few some. ew q (omega arith)
-          ∙ l.seen q few (subst (λ (g : ℕ → End). 0 < (g q).seen) ee some)
-          ∙ ap (λ (g : ℕ → End). (g q).seen) (sym ee);
+          ∙ l.seen q few (subst (λ (g : ℕ → Heads). 0 < (g q).seen) ee some)
+          ∙ ap (λ (g : ℕ → Heads). (g q).seen) (sym ee);
       cells = λ c low. subst (λ (g : ℕ → Place). Handed n words' homes' c (g c)) (sym ep)
           (handed_same n words words' homes homes' c (w.place c) (eh c low)
           (ew (4 * n + c) (omega arith)) (l.cells c low));
       paths = λ i j li lj. rw (eu, eg, ec) (l.paths i j li lj);
     }
+
+    -- the slot of a loose cell is taken
+    pub picked : (r c : ℕ) → c < n * each → ((q : ℕ) → ¬ IsIn q (w.place c))
+        → QueuesHold n each (with_place (update w.place c (held r))) words (set homes c maybe.none)
+    picked r c low never = let homes' = set homes c maybe.none in
+        let in_homes : c < length homes = let long = l.slots in omega arith in record {
+          long = l.long;
+          slots = length-set homes c maybe.none ∙ l.slots;
+          queues = λ q few. rests w (with_place (update w.place c (held r))) words words homes homes' q
+              (l.queues q few) refl refl refl refl
+              (λ d k. (refl, spared q c (held r) (never q) (λ x. x) d k))
+              (was_in q c (held r) (λ x. x))
+              (λ d k. set_else homes c d maybe.none (apart_in q c (never q) d k));
+          seen = l.seen;
+          cells = cells_but c (held r) words homes' (set_here homes c maybe.none in_homes)
+              (λ d ne. handed_same n words words homes homes' d (w.place d)
+              (set_else homes c d maybe.none ne) refl);
+          paths = l.paths;
+        }
 
     -- the link of a cell in hand is cleared
     pub cleared : (r c : ℕ) (y : Load) → c < n * each → IsOut homes c
@@ -243,7 +266,7 @@ module _ (n each : ℕ) where
     headed r c q few low at = let words' = set words q (suc c) in
         let w' = with_place (update w.place c (queued q)) in
         let t = head_stored (Fits n each homes q) w.place (link n words) q (head n words q)
-        (tail n words q) (w.end q).shadow (w.chain q) (l.queues q few) r c at in
+        (tail n words q) (w.heads q).shadow (w.chain q) (l.queues q few) r c at in
         let in_words : q < length words = let long = l.long in omega arith in
         let here = get_or-set_same words q (suc c) 0 in_words in record {
           long = length-set words q (suc c) ∙ l.long;
@@ -251,11 +274,11 @@ module _ (n each : ℕ) where
           queues = λ p few'. dite (ℕ_discrete p q)
               (λ e. subst (Queue n each w' words' homes) (sym e)
               (moved (Fits n each homes q) w'.place (link n words') q (suc c) (tail n words q)
-              (w.end q).shadow (head n words' q) (tail n words' q) (w.end q).shadow (w.chain q)
+              (w.heads q).shadow (head n words' q) (tail n words' q) (w.heads q).shadow (w.chain q)
               (w.chain q)
               here (get_or-set_other words q (2 * n + q) (suc c) 0 (omega arith)) refl refl
               (chain_elsewhere (Fits n each homes q) (Fits n each homes q) w'.place (link n words) q
-              (suc c) (tail n words q) (w.end q).shadow (w.chain q) t.0 w'.place (link n words')
+              (suc c) (tail n words q) (w.heads q).shadow (w.chain q) t.0 w'.place (link n words')
               (λ d k. (get_or-set_other words q (4 * n + d) (suc c) 0 (omega arith), refl))
               (λ d k. k) (λ x i f. f))))
               (λ ne. let out : ¬ IsIn p (w.place c) =
@@ -289,7 +312,7 @@ module _ (n each : ℕ) where
     -- the cell that a pending enqueue found at the tail
     pub found_low : (r c p q : ℕ) → q < 2 * n → w.place c ≡ entering r q (suc p) → p < n * each
     found_low r c p q few at = let t = link_stored (Fits n each homes q) w.place (link n words) q
-        (head n words q) (tail n words q) (w.end q).shadow (w.chain q) (l.queues q few) r c p at in
+        (head n words q) (tail n words q) (w.heads q).shadow (w.chain q) (l.queues q few) r c p at in
         low_in q p ((l.queues q few).whole p t.1) few
 
     -- the link of the cell that was found at the tail is stored
@@ -299,7 +322,7 @@ module _ (n each : ℕ) where
     joined r c p q few low at = let words' = set words (4 * n + p) (suc c) in
         let w' = with_place (update w.place c (queued q)) in
         let t = link_stored (Fits n each homes q) w.place (link n words) q (head n words q)
-        (tail n words q) (w.end q).shadow (w.chain q) (l.queues q few) r c p at in
+        (tail n words q) (w.heads q).shadow (w.chain q) (l.queues q few) r c p at in
         let in_words : 4 * n + p < length words = let long = l.long in
         let z = low_in q p ((l.queues q few).whole p t.1) few in omega arith in
         let here = get_or-set_same words (4 * n + p) (suc c) 0 in_words in record {
@@ -308,13 +331,13 @@ module _ (n each : ℕ) where
           queues = λ k few'. dite (ℕ_discrete k q)
               (λ e. subst (Queue n each w' words' homes) (sym e)
               (moved (Fits n each homes q) w'.place (link n words') q (head n words q)
-              (tail n words q) (w.end q).shadow (head n words' q) (tail n words' q)
-              (w.end q).shadow (w.chain q) (w.chain q)
+              (tail n words q) (w.heads q).shadow (head n words' q) (tail n words' q)
+              (w.heads q).shadow (w.chain q) (w.chain q)
               (get_or-set_other words (4 * n + p) q (suc c) 0 (omega arith))
               (get_or-set_other words (4 * n + p) (2 * n + q) (suc c) 0 (omega arith)) refl refl
               (chain_elsewhere (Fits n each homes q) (Fits n each homes q) w'.place
               (update (link n words) p (suc c)) q (head n words q) (tail n words q)
-              (w.end q).shadow (w.chain q) t.0 w'.place (link n words')
+              (w.heads q).shadow (w.chain q) t.0 w'.place (link n words')
               (λ d i. (
                 dite (ℕ_discrete d p) (λ z. ap (link n words') z ∙ here
                     ∙ sym (update_here (link n words) p (suc c) d z))
@@ -411,15 +434,15 @@ module _ (n each : ℕ) where
           queues = λ k few'. dite (ℕ_discrete k q)
               (λ e. subst (Queue n each w' words' homes') (sym e)
               (moved (Fits n each homes' q) w'.place (link n words') q (head n words q) (suc c)
-              (w.end q).shadow (head n words' q) (tail n words' q) (w.end q).shadow
+              (w.heads q).shadow (head n words' q) (tail n words' q) (w.heads q).shadow
               (w.chain q ++ item c y ∷ []) (w'.chain q)
               (get_or-set_other words (2 * n + q) q (suc c) 0 (omega arith)) here refl
               (update_here w.chain q (w.chain q ++ item c y ∷ []) q refl)
               (chain_elsewhere (Fits n each homes' q) (Fits n each homes' q) w'.place
-              (link n words) q (head n words q) (suc c) (w.end q).shadow
+              (link n words) q (head n words q) (suc c) (w.heads q).shadow
               (w.chain q ++ item c y ∷ [])
               (tail_swapped (Fits n each homes q) (Fits n each homes' q) w.place (link n words) q
-              (head n words q) (tail n words q) (w.end q).shadow (w.chain q)
+              (head n words q) (tail n words q) (w.heads q).shadow (w.chain q)
               (l.queues q few) r c y (never q) mine.1
               (low, set_here homes c (maybe.some y) in_homes, suits)
               (λ x ne f. (f.0, set_else homes c x.cell (maybe.some y) ne ∙ f.1, f.2)))
@@ -438,25 +461,25 @@ module _ (n each : ℕ) where
           paths = paths_more r q (item c y) from_r;
         }
 
-    abbrev pub with_end : ℕ → End → World
-    with_end q e = record w { end = update w.end q e }
+    abbrev pub with_heads : ℕ → Heads → World
+    with_heads q e = record w { heads = update w.heads q e }
 
     -- a consumer notes what it loaded from the head
     pub loaded_head : (q : ℕ) → q < 2 * n
-        → QueuesHold n each (with_end q
-        (record { shadow = (w.end q).shadow; seen = head n words q })) words homes
-    loaded_head q few = let e : End = record { shadow = (w.end q).shadow; seen = head n words q } in
-        let w' = with_end q e in record {
+        → QueuesHold n each (with_heads q
+        (record { shadow = (w.heads q).shadow; seen = head n words q })) words homes
+    loaded_head q few = let e : Heads = record { shadow = (w.heads q).shadow; seen = head n words q } in
+        let w' = with_heads q e in record {
           long = l.long;
           slots = l.slots;
           queues = λ k few'. rests w w' words words homes homes k (l.queues k few') refl refl
-              (dite (ℕ_discrete k q) (λ u. ap (λ (z : End). z.shadow) (update_here w.end q e k u)
-              ∙ ap (λ j. (w.end j).shadow) (sym u))
-              (λ ne. ap (λ (z : End). z.shadow) (update_else w.end q e k ne))) refl
+              (dite (ℕ_discrete k q) (λ u. ap (λ (z : Heads). z.shadow) (update_here w.heads q e k u)
+              ∙ ap (λ j. (w.heads j).shadow) (sym u))
+              (λ ne. ap (λ (z : Heads). z.shadow) (update_else w.heads q e k ne))) refl
               (λ d i. (refl, refl)) (λ d i. i) (λ d i. refl);
           seen = λ k few' some. dite (ℕ_discrete k q)
-              (λ u. ap (head n words) u ∙ ap (λ (z : End). z.seen) (sym (update_here w.end q e k u)))
-              (λ ne. let same = ap (λ (z : End). z.seen) (update_else w.end q e k ne) in
+              (λ u. ap (head n words) u ∙ ap (λ (z : Heads). z.seen) (sym (update_here w.heads q e k u)))
+              (λ ne. let same = ap (λ (z : Heads). z.seen) (update_else w.heads q e k ne) in
               l.seen k few' (subst (λ z. 0 < z) same some) ∙ sym same);
           cells = l.cells;
           paths = l.paths;
@@ -464,14 +487,14 @@ module _ (n each : ℕ) where
 
     pub head_low : (q : ℕ) → q < 2 * n → head n words q ≤ n * each
     head_low q few = let h = l.queues q few in
-        head_fits (n * each) w.place q (head n words q) (w.end q).shadow (w.chain q) h.begins
+        head_fits (n * each) w.place q (head n words q) (w.heads q).shadow (w.chain q) h.begins
         (λ c k. low_in q c k few)
 
     -- a consumer clears the head that it loaded, whose cell is its shadow head from now on
-    pub cleared_head : (q c : ℕ) → q < 2 * n → (w.end q).seen ≡ suc c
-        → QueuesHold n each (with_end q (record { shadow = suc c; seen = 0 })) (set words q 0) homes
-    cleared_head q c few loaded = let e : End = record { shadow = suc c; seen = 0 } in
-        let w' = with_end q e in let words' = set words q 0 in
+    pub cleared_head : (q c : ℕ) → q < 2 * n → (w.heads q).seen ≡ suc c
+        → QueuesHold n each (with_heads q (record { shadow = suc c; seen = 0 })) (set words q 0) homes
+    cleared_head q c few loaded = let e : Heads = record { shadow = suc c; seen = 0 } in
+        let w' = with_heads q e in let words' = set words q 0 in
         let is : head n words q ≡ suc c = l.seen q few (omega arith) ∙ loaded in
         let in_words : q < length words = let long = l.long in omega arith in record {
           long = length-set words q 0 ∙ l.long;
@@ -479,26 +502,26 @@ module _ (n each : ℕ) where
           queues = λ k few'. dite (ℕ_discrete k q)
               (λ u. subst (Queue n each w' words' homes) (sym u)
               (moved (Fits n each homes q) w.place (link n words') q 0 (tail n words q) (suc c)
-              (head n words' q) (tail n words' q) (w'.end q).shadow (w.chain q) (w.chain q)
+              (head n words' q) (tail n words' q) (w'.heads q).shadow (w.chain q) (w.chain q)
               (get_or-set_same words q 0 0 in_words)
               (get_or-set_other words q (2 * n + q) 0 0 (omega arith))
-              (ap (λ (z : End). z.shadow) (update_here w.end q e q refl)) refl
+              (ap (λ (z : Heads). z.shadow) (update_here w.heads q e q refl)) refl
               (chain_elsewhere (Fits n each homes q) (Fits n each homes q) w.place
               (link n words) q 0 (tail n words q) (suc c) (w.chain q)
               (head_cleared (Fits n each homes q) w.place (link n words) q (head n words q)
-              (tail n words q) (w.end q).shadow (w.chain q) (l.queues q few) c is)
+              (tail n words q) (w.heads q).shadow (w.chain q) (l.queues q few) c is)
               w.place (link n words')
               (λ d i. (get_or-set_other words q (4 * n + d) 0 0 (omega arith), refl)) (λ d i. i)
               (λ x i f. f))))
               (λ ne. rests w w' words words' homes homes k (l.queues k few')
               (get_or-set_other words q k 0 0 ne)
               (get_or-set_other words q (2 * n + k) 0 0 (omega arith))
-              (ap (λ (z : End). z.shadow) (update_else w.end q e k ne)) refl
+              (ap (λ (z : Heads). z.shadow) (update_else w.heads q e k ne)) refl
               (λ d i. (get_or-set_other words q (4 * n + d) 0 0 (omega arith), refl)) (λ d i. i)
               (λ d i. refl));
-          seen = λ k few' some. dite (ℕ_discrete k q) (λ u. let z : (update w.end q e k).seen ≡ 0 =
-              ap (λ (y : End). y.seen) (update_here w.end q e k u) in absurd (omega arith))
-              (λ ne. let same = ap (λ (z : End). z.seen) (update_else w.end q e k ne) in
+          seen = λ k few' some. dite (ℕ_discrete k q) (λ u. let z : (update w.heads q e k).seen ≡ 0 =
+              ap (λ (y : Heads). y.seen) (update_here w.heads q e k u) in absurd (omega arith))
+              (λ ne. let same = ap (λ (z : Heads). z.seen) (update_else w.heads q e k ne) in
               get_or-set_other words q k 0 0 ne ∙ l.seen k few' (subst (λ z. 0 < z) same some)
               ∙ sym same);
           cells = λ d low. handed_same n words words' homes homes d (w.place d) refl
@@ -534,17 +557,17 @@ module _ (n each : ℕ) where
         (λ nr. sym (update_else w.got r more j nr))))
 
     -- the rank r takes the first_cell cell of the queue q, whose chain is xs then
-    abbrev pub after_take : ℕ → ℕ → Item Load → Chain → End → World
+    abbrev pub after_take : ℕ → ℕ → Item Load → Chain → Heads → World
     after_take r q x xs e = record w {
       place = update w.place x.cell (held r);
       chain =
           update w.chain q xs;
-      end = update w.end q e;
+      heads = update w.heads q e;
       got =
           update w.got r (w.got r ++ fetched n q x.load);
     }
 
-    took : (r q tl : ℕ) (x : Item Load) (xs xs' : Chain) (e : End) (words' : List ℕ) → q < 2 * n
+    took : (r q tl : ℕ) (x : Item Load) (xs xs' : Chain) (e : Heads) (words' : List ℕ) → q < 2 * n
         → w.chain q ≡ x ∷ xs → (q < n → q ≡ r) → e.seen ≡ 0 → length words' ≡ length words
         → w.place x.cell ≡ queued q → x.cell < n * each → xs' ≡ xs
         → ((k : ℕ) → k < 2 * n → head n words' k ≡ head n words k)
@@ -561,8 +584,8 @@ module _ (n each : ℕ) where
           queues = λ k few'. dite (ℕ_discrete k q)
               (λ u. subst (Queue n each w' words' homes') (sym u)
               (moved (Fits n each homes' q) w'.place (link n words') q (head n words q) tl e.shadow
-              (head n words' q) (tail n words' q) (w'.end q).shadow xs' (w'.chain q)
-              (heads q few) last (ap (λ (z : End). z.shadow) (update_here w.end q e q refl))
+              (head n words' q) (tail n words' q) (w'.heads q).shadow xs' (w'.chain q)
+              (heads q few) last (ap (λ (z : Heads). z.shadow) (update_here w.heads q e q refl))
               (update_here w.chain q xs' q refl)
               (chain_elsewhere (Fits n each homes' q) (Fits n each homes' q) w'.place (link n words) q
               (head n words q) tl e.shadow xs' chained w'.place (link n words')
@@ -570,14 +593,14 @@ module _ (n each : ℕ) where
               (λ ne. let out : ¬ IsIn k (w.place x.cell) =
               λ i. ne (in_one k q (w.place x.cell) i (subst (IsIn q) (sym at) refl)) in
               rests w w' words words' homes homes' k (l.queues k few') (heads k few') (tails k few' ne)
-              (ap (λ (z : End). z.shadow) (update_else w.end q e k ne))
+              (ap (λ (z : Heads). z.shadow) (update_else w.heads q e k ne))
               (update_else w.chain q xs' k ne)
               (λ d i. (links d, spared k x.cell (held r) out (λ z. z) d i))
               (was_in k x.cell (held r) (λ z. z))
               (λ d i. set_else homes x.cell d maybe.none (apart_in k x.cell out d i)));
-          seen = λ k few' some. dite (ℕ_discrete k q) (λ u. let z : (update w.end q e k).seen ≡ 0 =
-              ap (λ (y : End). y.seen) (update_here w.end q e k u) ∙ none_seen in absurd (omega arith))
-              (λ ne. let same = ap (λ (z : End). z.seen) (update_else w.end q e k ne) in
+          seen = λ k few' some. dite (ℕ_discrete k q) (λ u. let z : (update w.heads q e k).seen ≡ 0 =
+              ap (λ (y : Heads). y.seen) (update_here w.heads q e k u) ∙ none_seen in absurd (omega arith))
+              (λ ne. let same = ap (λ (z : Heads). z.seen) (update_else w.heads q e k ne) in
               heads k few' ∙ l.seen k few' (subst (λ z. 0 < z) same some) ∙ sym same);
           cells = cells_but x.cell (held r) words' homes' (set_here homes x.cell maybe.none in_homes)
               (λ d ne. handed_same n words words' homes homes' d (w.place d)
@@ -586,16 +609,16 @@ module _ (n each : ℕ) where
         }
 
     module _ (r q s : ℕ) (few : q < 2 * n) (own : q < n → q ≡ r)
-        (shadow : (w.end q).shadow ≡ suc s) where
+        (shadow : (w.heads q).shadow ≡ suc s) where
       abbrev pub start : (x : Item Load) × (ys : Chain) × (w.chain q ≡ x ∷ ys) × (x.cell ≡ s)
           × (w.place s ≡ queued q) × (head n words q ≡ 0)
       start = first_cell (Fits n each homes q) w.place (link n words) q (head n words q)
-          (tail n words q) (w.end q).shadow (w.chain q) (l.queues q few) s shadow
+          (tail n words q) (w.heads q).shadow (w.chain q) (l.queues q few) s shadow
 
       begun : IsChain (Fits n each homes q) w.place (link n words) q (head n words q)
-          (tail n words q) (w.end q).shadow (start.0 ∷ start.1)
+          (tail n words q) (w.heads q).shadow (start.0 ∷ start.1)
       begun = moved (Fits n each homes q) w.place (link n words) q (head n words q) (tail n words q)
-          (w.end q).shadow (head n words q) (tail n words q) (w.end q).shadow (w.chain q)
+          (w.heads q).shadow (head n words q) (tail n words q) (w.heads q).shadow (w.chain q)
           (start.0 ∷ start.1) refl refl refl (sym start.2) (l.queues q few)
 
       keeps : (y : Item Load) → y.cell ≢ start.0.cell → Fits n each homes q y
@@ -630,7 +653,7 @@ module _ (n each : ℕ) where
           (λ d. refl)
           (first_taken (Fits n each homes q) (Fits n each (set homes start.0.cell maybe.none) q)
           w.place (link n words) q (head n words q) (tail n words q)
-          (w.end q).shadow start.0 start.1 begun r start.5 keeps d
+          (w.heads q).shadow start.0 start.1 begun r start.5 keeps d
           (ap (link n words) start.3 ∙ leads))
 
       -- where the first_cell cell is the tail, it is alone
@@ -638,7 +661,7 @@ module _ (n each : ℕ) where
       sole last = start.2 ∙ ap (λ ys. start.0 ∷ ys)
           (tail_dropped (Fits n each homes q) (Fits n each (set homes start.0.cell maybe.none) q)
           w.place (link n words) q (head n words q) (tail n words q)
-          (w.end q).shadow start.0 start.1 begun r start.5 keeps (last ∙ ap suc (sym start.3))).1
+          (w.heads q).shadow start.0 start.1 begun r start.5 keeps (last ∙ ap suc (sym start.3))).1
 
       -- the first_cell cell is the tail, which becomes 0
       pub drained : tail n words q ≡ suc s
@@ -648,7 +671,7 @@ module _ (n each : ℕ) where
           let in_words : 2 * n + q < length words = let long = l.long in omega arith in
           let t = tail_dropped (Fits n each homes q)
           (Fits n each (set homes start.0.cell maybe.none) q) w.place (link n words) q
-          (head n words q) (tail n words q) (w.end q).shadow start.0 start.1 begun r start.5
+          (head n words q) (tail n words q) (w.heads q).shadow start.0 start.1 begun r start.5
           keeps (last ∙ ap suc (sym start.3)) in
           took r q 0 start.0 start.1 [] (record { shadow = 0; seen = 0 }) words' few start.2 own
           refl (length-set words (2 * n + q) 0) (ap w.place start.3 ∙ start.4) begun.each.0.0

@@ -19,29 +19,29 @@ use Rattle.nm_chain.specs.Chain.{Item, item, held, queued}
 use Rattle.nm_chain.specs.Sequence.{Each, Got, InSequence}
 use Rattle.nm_chain.proofs.SequenceLemmas.{next_by_cell_is_new}
 use Rattle.nm_types.specs.Sizes.{Sizes}
-use Rattle.nm_cells.specs.declared.table.Hand.TheVariants.{Away, Held, Ready, Entering}
-use Rattle.nm_cells.specs.declared.table.Hand.{Hand}
-use Rattle.nm_cells.specs.declared.table.End.{End}
-use Rattle.nm_cells.specs.declared.table.Misses.{Misses}
-use Rattle.nm_cells.specs.declared.table.Entry.{Entry}
+use Rattle.nm_table.specs.declared.table.Hand.TheVariants.{Away, Loose, Held, Ready, Entering}
+use Rattle.nm_table.specs.declared.table.Hand.{Hand}
+use Rattle.nm_table.specs.declared.table.Heads.{Heads}
+use Rattle.nm_table.specs.declared.table.Misses.{Misses}
+use Rattle.nm_table.specs.declared.table.Entry.{Entry}
 use Rattle.atomic_table.proofs.Lists.{set_again, exchanged}
-use Rattle.nm_cells.specs.Rule.{AllInSequence, BoxesHold, Chain, Agrees, Load, NotOf, Place}
-use Rattle.nm_cells.specs.Rule.{QueuesHold, Rule, Shows, Suits, World, fetched, from, hand, loads}
-use Rattle.nm_cells.specs.Rule.{number, sender, sent_to}
-use Rattle.nm_cells.specs.Plays as plays
-use Rattle.nm_cells.proofs.QueueLemmas as queues
-use Rattle.nm_cells.proofs.BoxLemmas as box_laws
-use Rattle.nm_cells.proofs.BoxLemmas.{owner_below}
-use Rattle.nm_cells.proofs.ProducerLemmas.{below_put, knows_else, place_but, hands_but, own, ruled}
+use Rattle.nm_table.specs.Rule.{AllInSequence, BoxesHold, Chain, Agrees, Load, NotOf, Place}
+use Rattle.nm_table.specs.Rule.{QueuesHold, Rule, Shows, Suits, World, fetched, from, hand, loads}
+use Rattle.nm_table.specs.Rule.{number, sender, sent_to}
+use Rattle.nm_table.specs.Plays as plays
+use Rattle.nm_table.proofs.QueueLemmas as queues
+use Rattle.nm_table.proofs.BoxLemmas as box_laws
+use Rattle.nm_table.proofs.BoxLemmas.{owner_below}
+use Rattle.nm_table.proofs.ProducerLemmas.{below_put, knows_else, place_but, hands_but, own, ruled}
 
-module _ (n r : ℕ) (low : r < n) (ends : ℕ → End) (x : End) where
+module _ (n r : ℕ) (low : r < n) (ends : ℕ → Heads) (x : Heads) where
   receive_of : (b : Bool) (e : Entry) → e.receive ≡ ends r
-      → (plays.with_end b x e).receive ≡ update ends (plays.queue n r b) x r
+      → (plays.with_heads b x e).receive ≡ update ends (plays.queue n r b) x r
   receive_of true e k = sym (update_here ends r x r refl)
   receive_of false e k = k ∙ sym (update_else ends (n + r) x r (λ z. omega arith))
 
   free_of : (b : Bool) (e : Entry) → e.free ≡ ends (n + r)
-      → (plays.with_end b x e).free ≡ update ends (plays.queue n r b) x (n + r)
+      → (plays.with_heads b x e).free ≡ update ends (plays.queue n r b) x (n + r)
   free_of true e k = k ∙ sym (update_else ends r x (n + r) (λ z. omega arith))
   free_of false e k = sym (update_here ends (n + r) x (n + r) refl)
 
@@ -63,16 +63,16 @@ module _ (n r : ℕ) (low : r < n) (ends : ℕ → End) (x : End) where
   own_in false h = absurd (omega arith)
 
 -- changes of the entry that leave its other parts alone
-same_rank : (b : Bool) (x : End) (e : Entry) → ((plays.with_end b x e).rank ≡ e.rank)
-    × ((plays.with_end b x e).ranks ≡ e.ranks) × ((plays.with_end b x e).hands ≡ e.hands)
-    × ((plays.with_end b x e).put ≡ e.put) × ((plays.with_end b x e).got ≡ e.got)
-    × ((plays.with_end b x e).each ≡ e.each)
+same_rank : (b : Bool) (x : Heads) (e : Entry) → ((plays.with_heads b x e).rank ≡ e.rank)
+    × ((plays.with_heads b x e).ranks ≡ e.ranks) × ((plays.with_heads b x e).hands ≡ e.hands)
+    × ((plays.with_heads b x e).put ≡ e.put) × ((plays.with_heads b x e).got ≡ e.got)
+    × ((plays.with_heads b x e).each ≡ e.each)
 same_rank true x e = (refl, refl, refl, refl, refl, refl)
 same_rank false x e = (refl, refl, refl, refl, refl, refl)
 
-same_boxes : (b : Bool) (x : End) (e : Entry) → ((plays.with_end b x e).put_box ≡ e.put_box)
-    × ((plays.with_end b x e).got_box ≡ e.got_box) × ((plays.with_end b x e).filling ≡ e.filling)
-    × ((plays.with_end b x e).emptying ≡ e.emptying)
+same_boxes : (b : Bool) (x : Heads) (e : Entry) → ((plays.with_heads b x e).put_box ≡ e.put_box)
+    × ((plays.with_heads b x e).got_box ≡ e.got_box) × ((plays.with_heads b x e).filling ≡ e.filling)
+    × ((plays.with_heads b x e).emptying ≡ e.emptying)
 same_boxes true x e = (refl, refl, refl, refl)
 same_boxes false x e = (refl, refl, refl, refl)
 
@@ -98,13 +98,14 @@ knows_missed n m r b f w e k = record {
 }
 
 knows_end : (n m : ℕ) (w : World) (r : ℕ) (e : Entry) → Agrees n m w r e → (b : Bool)
-    → plays.end_of b e ≡ w.end (plays.queue n r b)
+    → plays.heads_of b e ≡ w.heads (plays.queue n r b)
 knows_end n m w r e k true = k.receive
 knows_end n m w r e k false = k.free
 
 -- a cell in a queue is in no hand
 away_in_queue : (r q : ℕ) (p : Place) (h : Hand) → p ≡ queued q → Shows r p h → h ≡ Away
 away_in_queue r q p Away is s = refl
+away_in_queue r q p Loose is s = let z = sym is ∙ s in cc
 away_in_queue r q p Held is s = let z = sym is ∙ s in cc
 away_in_queue r q p (Ready y) is s = let z = sym is ∙ s in cc
 away_in_queue r q p (Entering t u) is s = let z = sym is ∙ s in cc
@@ -140,19 +141,19 @@ module _ (key : Sizes) (slots id : ℕ) (e : Entry) (low : e.rank < key.ranks) (
   -- the end of a queue changes, and nothing else
   one_end : (s : State Load (View Entry)) (R : Rule key s)
       → get_elem? s.views id ≡ maybe.some (view (e ∷ []))
-      → (x : End) (words' : List ℕ) (F : Entry → Entry)
+      → (x : Heads) (words' : List ℕ) (F : Entry → Entry)
       → ((w : World) (g : Entry) → Agrees key.ranks key.cells w e.rank g
       → Agrees key.ranks key.cells w e.rank (F g))
-      → QueuesHold key.ranks key.cells (record R.world { end = update R.world.end q x }) words'
+      → QueuesHold key.ranks key.cells (record R.world { heads = update R.world.heads q x }) words'
       s.homes → BoxesHold key.ranks key.cells R.world words' s.homes
       → Rule key record {
         words = words';
         homes = s.homes;
         views =
-            set s.views id (view (F (plays.with_end b x e) ∷ []));
+            set s.views id (view (F (plays.with_heads b x e) ∷ []));
       }
   one_end s R at x words' F keep laid boxes = let k = own key s R id e at low in let w = R.world in
-      let w' : World = record w { end = update w.end q x } in let f = plays.with_end b x e in
+      let w' : World = record w { heads = update w.heads q x } in let f = plays.with_heads b x e in
       let same = same_rank b x e in let boxy = same_boxes b x e in
       ruled key s R id e at low w' (F f) words' s.homes R.ranked laid boxes R.turns
       (keep w' f record {
@@ -162,8 +163,8 @@ module _ (key : Sizes) (slots id : ℕ) (e : Entry) (low : e.rank < key.ranks) (
         long = ap length same.2 ∙ k.long;
         hands = λ c few. subst (λ hs. Shows e.rank (w.place c) (slice_index_or hs c Away))
             (sym same.2) (k.hands c few);
-        receive = receive_of key.ranks e.rank low w.end x b e k.receive;
-        free = free_of key.ranks e.rank low w.end x b e k.free;
+        receive = receive_of key.ranks e.rank low w.heads x b e k.receive;
+        free = free_of key.ranks e.rank low w.heads x b e k.free;
         put = same.3 ∙ k.put;
         got = same.4 ∙ k.got;
         put_box = boxy.0 ∙ k.put_box;
@@ -174,8 +175,8 @@ module _ (key : Sizes) (slots id : ℕ) (e : Entry) (low : e.rank < key.ranks) (
         emptying = λ i few. ap (λ u. slice_index_or u i None) boxy.3 ∙ k.emptying i few;
       })
       (λ r g few ne o. knows_else key.ranks key.cells w w' r g o (λ c. inl refl)
-      (other_receive key.ranks e.rank low w.end x b r few ne)
-      (other_free key.ranks e.rank low w.end x b r few ne) refl refl refl refl refl (λ _. refl))
+      (other_receive key.ranks e.rank low w.heads x b r few ne)
+      (other_free key.ranks e.rank low w.heads x b r few ne) refl refl refl refl refl (λ _. refl))
 
   -- a load leaves the words
   loaded : (s : State Load (View Entry)) (i : ℕ) (hs : List (maybe.Option Load))
@@ -187,18 +188,18 @@ module _ (key : Sizes) (slots id : ℕ) (e : Entry) (low : e.rank < key.ranks) (
   note_kept : (hs : List (ℕ × Load)) → Allows (Rule key) slots id (view (e ∷ []), hs) q (λ k. k)
       (plays.loaded_head b (step slots q 0 0 maybe.none) (view (e ∷ []), hs))
   note_kept hs s R long at small = let k = own key s R id e at low in let w = R.world in
-      let found = slice_index s.words q in let x = plays.at_end (plays.end_of b e).shadow found in
+      let found = slice_index s.words q in let x = plays.heads_at (plays.heads_of b e).shadow found in
       let laid = subst (λ u. QueuesHold key.ranks key.cells
-      (record w { end = update w.end q (plays.at_end u found) }) s.words s.homes)
-      (ap (λ (z : End). z.shadow) (sym (knows_end key.ranks key.cells w e.rank e k b)))
+      (record w { heads = update w.heads q (plays.heads_at u found) }) s.words s.homes)
+      (ap (λ (z : Heads). z.shadow) (sym (knows_end key.ranks key.cells w e.rank e k b)))
       (queues.loaded_head key.ranks key.cells w s.words s.homes R.laid q
-      (fits_in key.ranks e.rank low w.end x b)) in
+      (fits_in key.ranks e.rank low w.heads x b)) in
       let fit = subst (λ u. found ≤ u) (sym k.long)
       (queues.head_low key.ranks key.cells w s.words s.homes R.laid q
-      (fits_in key.ranks e.rank low w.end x b)) in
+      (fits_in key.ranks e.rank low w.heads x b)) in
       dite (ℕ_discrete found 0)
       (λ none. (
-        view (plays.with_missed b plays.head_miss (plays.with_end b x e) ∷ []),
+        view (plays.with_missed b plays.head_miss (plays.with_heads b x e) ∷ []),
         keeps,
         tt,
         loaded s q s.homes _ (one_end s R at x s.words (plays.with_missed b plays.head_miss)
@@ -208,38 +209,38 @@ module _ (key : Sizes) (slots id : ℕ) (e : Entry) (low : e.rank < key.ranks) (
           (λ _. ap (λ u. (
             view
                 (plays.with_missed b plays.head_miss
-                (plays.with_end b (plays.at_end (plays.end_of b e).shadow u) e) ∷ []),
+                (plays.with_heads b (plays.heads_at (plays.heads_of b e).shadow u) e) ∷ []),
             hs,
           )) none),
           (λ some. absurd (omega arith)),
         ),
       ))
       (λ some. (
-        view (plays.with_end b x e ∷ []),
+        view (plays.with_heads b x e ∷ []),
         keeps,
         tt,
         loaded s q s.homes _ (one_end s R at x s.words (λ g. g) (λ _ _ h. h) laid R.boxes),
         (fit, (λ none. absurd (some none)), (λ _. refl)),
       ))
 
-  hide_kept : (c : ℕ) (hs : List (ℕ × Load)) → (plays.end_of b e).seen ≡ suc c
+  hide_kept : (c : ℕ) (hs : List (ℕ × Load)) → (plays.heads_of b e).seen ≡ suc c
       → Allows (Rule key) slots id (view (e ∷ []), hs) q (λ _. 0)
       (plays.cleared_head b (step slots q 0 0 maybe.none) (view (e ∷ []), hs))
   hide_kept c hs seen s R long at small = let k = own key s R id e at low in let w = R.world in
-      let x = plays.at_end (plays.end_of b e).seen 0 in
-      let in_world : (w.end q).seen ≡ suc c =
-      ap (λ (z : End). z.seen) (sym (knows_end key.ranks key.cells w e.rank e k b)) ∙ seen in
+      let x = plays.heads_at (plays.heads_of b e).seen 0 in
+      let in_world : (w.heads q).seen ≡ suc c =
+      ap (λ (z : Heads). z.seen) (sym (knows_end key.ranks key.cells w e.rank e k b)) ∙ seen in
       let laid = subst (λ u. QueuesHold key.ranks key.cells
-      (record w { end = update w.end q (plays.at_end u 0) }) (set s.words q 0) s.homes)
+      (record w { heads = update w.heads q (plays.heads_at u 0) }) (set s.words q 0) s.homes)
       (sym seen)
       (queues.cleared_head key.ranks key.cells w s.words s.homes R.laid q c
-      (fits_in key.ranks e.rank low w.end x b) in_world) in (
-        view (plays.with_end b x e ∷ []),
+      (fits_in key.ranks e.rank low w.heads x b) in_world) in (
+        view (plays.with_heads b x e ∷ []),
         keeps,
         tt,
         one_end s R at x (set s.words q 0) (λ g. g) (λ _ _ h. h) laid
             (box_laws.keep_word key.ranks key.cells w s.words s.homes R.boxes q 0
-            (let f = fits_in key.ranks e.rank low w.end x b in omega arith)),
+            (let f = fits_in key.ranks e.rank low w.heads x b in omega arith)),
         refl,
       )
 
@@ -250,7 +251,7 @@ module _ (key : Sizes) (slots id : ℕ) (e : Entry) (low : e.rank < key.ranks) (
       → R.world.place x.cell ≡ queued q
       → QueuesHold key.ranks key.cells
       (queues.after_take key.ranks key.cells R.world s.words s.homes R.laid e.rank q x xs
-      (plays.at_end shadow 0)) words' (set s.homes x.cell maybe.none)
+      (plays.heads_at shadow 0)) words' (set s.homes x.cell maybe.none)
       → R.world.chain q ≡ x ∷ xs → BoxesHold key.ranks key.cells R.world words'
       (set s.homes x.cell maybe.none)
       → Rule key record {
@@ -261,23 +262,23 @@ module _ (key : Sizes) (slots id : ℕ) (e : Entry) (low : e.rank < key.ranks) (
       }
   one_taken s R at x xs shadow words' few was laid is boxes = let k = own key s R id e at low in
       let w = R.world in let n = key.ranks in let m = key.cells in let y = x.load in
-      let z = plays.at_end shadow 0 in
+      let z = plays.heads_at shadow 0 in
       let w' = queues.after_take n key.cells w s.words s.homes R.laid e.rank q x xs z in
       let f = plays.taken b x.cell y shadow e in let same = same_rank b z e in
       let boxy = same_boxes b z e in
       ruled key s R id e at low w' f words' (set s.homes x.cell maybe.none)
       (below_put n w.place x.cell (held e.rank) low R.ranked) laid boxes
-      (box_laws.turns_less n w R.turns e.rank q x xs is (own_in n e.rank low w.end z b) w' refl refl
+      (box_laws.turns_less n w R.turns e.rank q x xs is (own_in n e.rank low w.heads z b) w' refl refl
       refl refl refl refl) record {
         rank = same.0 ∙ k.rank;
         ranks = same.1 ∙ k.ranks;
         per = same.5 ∙ k.per;
-        long = length-set (plays.with_end b z e).hands x.cell Held ∙ ap length same.2 ∙ k.long;
+        long = length-set (plays.with_heads b z e).hands x.cell Held ∙ ap length same.2 ∙ k.long;
         hands = λ c low'. subst
             (λ hs. Shows e.rank (w'.place c) (slice_index_or (set hs x.cell Held) c Away))
             (sym same.2) (hands_but n m w e.rank x.cell (held e.rank) Held e k few refl c low');
-        receive = receive_of n e.rank low w.end z b e k.receive;
-        free = free_of n e.rank low w.end z b e k.free;
+        receive = receive_of n e.rank low w.heads z b e k.receive;
+        free = free_of n e.rank low w.heads z b e k.free;
         put = same.3 ∙ k.put;
         got = ap (λ u. u ++ fetched e.ranks (plays.queue e.ranks e.rank b) y) (same.4 ∙ k.got)
             ∙ ap (λ j. w.got e.rank ++ fetched j (plays.queue j e.rank b) y) k.ranks
@@ -291,8 +292,8 @@ module _ (key : Sizes) (slots id : ℕ) (e : Entry) (low : e.rank < key.ranks) (
       }
       (λ r g few' ne o. knows_else n m w w' r g o
       (place_but n m w r x.cell (held e.rank) (subst (NotOf r) (sym was) tt) ne)
-      (other_receive n e.rank low w.end z b r few' ne)
-      (other_free n e.rank low w.end z b r few' ne) refl
+      (other_receive n e.rank low w.heads z b r few' ne)
+      (other_free n e.rank low w.heads z b r few' ne) refl
       (update_else w.got e.rank (w.got e.rank ++ fetched n q y) r ne) refl refl refl (λ _. refl))
 
   -- nothing changes
@@ -321,7 +322,7 @@ module _ (key : Sizes) (slots id : ℕ) (e : Entry) (low : e.rank < key.ranks) (
       (ruled key s R id e at low R.world f s.words s.homes R.ranked R.laid R.boxes R.turns k
       (λ _ _ _ _ o. o))
 
-  module _ (c : ℕ) (hs : List (ℕ × Load)) (shadow : (plays.end_of b e).shadow ≡ suc c) where
+  module _ (c : ℕ) (hs : List (ℕ × Load)) (shadow : (plays.heads_of b e).shadow ≡ suc c) where
     abbrev me : plays.Knowing
     me = (view (e ∷ []), hs)
 
@@ -353,11 +354,11 @@ module _ (key : Sizes) (slots id : ℕ) (e : Entry) (low : e.rank < key.ranks) (
         → Allows (Rule key) slots id me (4 * key.ranks + c) (λ k. k)
         (plays.passed_or f b (step slots (4 * key.ranks + c) 0 0 maybe.none) me)
     pass_kept f keep s R long at small = let k = own key s R id e at low in let w = R.world in
-        let n = key.ranks in let z = plays.at_end 0 0 in
+        let n = key.ranks in let z = plays.heads_at 0 0 in
         let found = slice_index s.words (4 * n + c) in
-        let shade : (w.end q).shadow ≡ suc c =
-        ap (λ (u : End). u.shadow) (sym (knows_end n key.cells w e.rank e k b)) ∙ shadow in
-        let fit = fits_in n e.rank low w.end z b in let mine = own_in n e.rank low w.end z b in
+        let shade : (w.heads q).shadow ≡ suc c =
+        ap (λ (u : Heads). u.shadow) (sym (knows_end n key.cells w e.rank e k b)) ∙ shadow in
+        let fit = fits_in n e.rank low w.heads z b in let mine = own_in n e.rank low w.heads z b in
         let st = queues.start n key.cells w s.words s.homes R.laid e.rank q c fit mine shade in
         let su = queues.start_suits n key.cells w s.words s.homes R.laid e.rank q c fit mine shade
         in
@@ -378,7 +379,7 @@ module _ (key : Sizes) (slots id : ℕ) (e : Entry) (low : e.rank < key.ranks) (
               (one_taken s R at st.0 st.1 found s.words few (ap w.place st.3 ∙ st.4)
               (subst (λ u. QueuesHold n key.cells
               (queues.after_take n key.cells w s.words s.homes R.laid e.rank q st.0 st.1
-              (plays.at_end u 0)) s.words (set s.homes st.0.cell maybe.none)) (sym leads)
+              (plays.heads_at u 0)) s.words (set s.homes st.0.cell maybe.none)) (sym leads)
               (queues.passed n key.cells w s.words s.homes R.laid e.rank q c fit mine shade
               (found - 1) leads)) st.2
               (box_laws.keep_slot n key.cells w s.words s.homes R.boxes st.0.cell maybe.none
@@ -402,11 +403,11 @@ module _ (key : Sizes) (slots id : ℕ) (e : Entry) (low : e.rank < key.ranks) (
     drain_kept : Allows (Rule key) slots id me (2 * key.ranks + q) (λ k. either (eqb k (suc c)) 0 k)
         (plays.drained b (step slots (2 * key.ranks + q) (suc c) 0 maybe.none) me)
     drain_kept s R long at small = let k = own key s R id e at low in let w = R.world in
-        let n = key.ranks in let z = plays.at_end 0 0 in
+        let n = key.ranks in let z = plays.heads_at 0 0 in
         let found = slice_index s.words (2 * n + q) in
-        let shade : (w.end q).shadow ≡ suc c =
-        ap (λ (u : End). u.shadow) (sym (knows_end n key.cells w e.rank e k b)) ∙ shadow in
-        let fit = fits_in n e.rank low w.end z b in let mine = own_in n e.rank low w.end z b in
+        let shade : (w.heads q).shadow ≡ suc c =
+        ap (λ (u : Heads). u.shadow) (sym (knows_end n key.cells w e.rank e k b)) ∙ shadow in
+        let fit = fits_in n e.rank low w.heads z b in let mine = own_in n e.rank low w.heads z b in
         let st = queues.start n key.cells w s.words s.homes R.laid e.rank q c fit mine shade in
         let su = queues.start_suits n key.cells w s.words s.homes R.laid e.rank q c fit mine shade
         in
@@ -467,7 +468,7 @@ module _ (key : Sizes) (n slots id : ℕ) (me : plays.Knowing) (alone : plays.Al
       (note_kept key slots id (plays.mine me) here b me.1))
 
   pub hide_allowed : (word : ℕ) → word ≡ plays.queue n rank b
-      → 0 < (plays.end_of b (plays.mine me)).seen → Allows (Rule key) slots id me word (λ _. 0)
+      → 0 < (plays.heads_of b (plays.mine me)).seen → Allows (Rule key) slots id me word (λ _. 0)
       (plays.cleared_head b (step slots word 0 0 maybe.none) me)
   hide_allowed word is some =
       subst (λ k. Allows (Rule key) slots id me k (λ _. 0)
@@ -476,13 +477,13 @@ module _ (key : Sizes) (n slots id : ℕ) (me : plays.Knowing) (alone : plays.Al
       (plays.queue key.ranks (plays.mine me).rank b) (λ _. 0)
       (plays.cleared_head b (step slots (plays.queue key.ranks (plays.mine me).rank b) 0 0 maybe.none)
       (v, me.1))) (sym alone)
-      (hide_kept key slots id (plays.mine me) here b ((plays.end_of b (plays.mine me)).seen - 1)
+      (hide_kept key slots id (plays.mine me) here b ((plays.heads_of b (plays.mine me)).seen - 1)
       me.1 (omega arith)))
 
   pass_or : (f : Entry → Entry)
       → ((w : World) → Agrees key.ranks key.cells w (plays.mine me).rank (plays.mine me)
       → Agrees key.ranks key.cells w (plays.mine me).rank (f (plays.mine me))) → (c : ℕ)
-      → (plays.end_of b (plays.mine me)).shadow ≡ suc c → Allows (Rule key) slots id me (4 * n + c)
+      → (plays.heads_of b (plays.mine me)).shadow ≡ suc c → Allows (Rule key) slots id me (4 * n + c)
       (λ k. k) (plays.passed_or f b (step slots (4 * n + c) 0 0 maybe.none) me)
   pass_or f keep c shadow =
       subst (λ k. Allows (Rule key) slots id me (4 * k + c) (λ k. k)
@@ -492,12 +493,12 @@ module _ (key : Sizes) (n slots id : ℕ) (me : plays.Knowing) (alone : plays.Al
       (sym alone)
       (pass_kept key slots id (plays.mine me) here b c me.1 shadow f keep))
 
-  pub pass_allowed : (c : ℕ) → (plays.end_of b (plays.mine me)).shadow ≡ suc c
+  pub pass_allowed : (c : ℕ) → (plays.heads_of b (plays.mine me)).shadow ≡ suc c
       → Allows (Rule key) slots id me (4 * n + c) (λ k. k)
       (plays.passed b (step slots (4 * n + c) 0 0 maybe.none) me)
   pass_allowed = pass_or (λ e. e) (λ _ h. h)
 
-  pub reload_allowed : (c : ℕ) → (plays.end_of b (plays.mine me)).shadow ≡ suc c
+  pub reload_allowed : (c : ℕ) → (plays.heads_of b (plays.mine me)).shadow ≡ suc c
       → Allows (Rule key) slots id me (4 * n + c) (λ k. k)
       (plays.reloaded b (step slots (4 * n + c) 0 0 maybe.none) me)
   reload_allowed = pass_or (plays.with_missed b plays.link_miss)
@@ -505,7 +506,7 @@ module _ (key : Sizes) (n slots id : ℕ) (me : plays.Knowing) (alone : plays.Al
       (plays.mine me) h)
 
   pub drain_allowed : (word old : ℕ) → word ≡ 2 * n + plays.queue n rank b
-      → (plays.end_of b (plays.mine me)).shadow ≡ old → 0 < old
+      → (plays.heads_of b (plays.mine me)).shadow ≡ old → 0 < old
       → Allows (Rule key) slots id me word (λ k. either (eqb k old) 0 k)
       (plays.drained b (step slots word old 0 maybe.none) me)
   drain_allowed word old is shadow some = let at : word ≡ 2 * key.ranks + plays.queue key.ranks

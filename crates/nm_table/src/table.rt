@@ -1,8 +1,9 @@
 //! The table, and what a seat knows.
 
 ghost use Rattle.std.specs.Prelude.{◌≡◌};
-ghost use Rattle.nm_cells.specs.Looks.{look_in, other};
-ghost use Rattle.nm_cells.specs.declared.table.Look.TheVariants.{Fresh};
+ghost use Rattle.nm_table.specs.Looks.{look_in, other};
+ghost use Rattle.nm_table.specs.Plays.{raised, head_miss, link_miss};
+ghost use Rattle.nm_table.specs.declared.table.Look.TheVariants.{Fresh};
 
 use atomic_table::{Seat, Table, TableRule};
 use nm_seats::View;
@@ -13,6 +14,8 @@ use std::collections::LinkedList;
 /// What a rank has of one cell. No value of it is made.
 pub enum Hand {
     Away,
+    /// It is its owner's, stands in no queue, and its slot is at home and empty.
+    Loose,
     Held,
     /// Its link was cleared when it held this.
     Ready(Option<Packet>),
@@ -20,12 +23,12 @@ pub enum Hand {
     Entering(u64, u64),
 }
 
-/// What the consumer of a queue knows of it.
+/// The shadow head and the head of a queue, as its consumer knows them.
 #[derive(Clone, Copy)]
-pub struct End {
+pub struct Heads {
     /// 0, or the number of the first cell plus 1.
     pub shadow: u64,
-    /// 0, or what it last loaded from the head.
+    /// 0, or what was last loaded from the head.
     pub seen: u64,
 }
 
@@ -48,7 +51,8 @@ pub struct Looks {
 }
 
 impl Looks {
-    pub(crate) fn new() -> Looks
+    /// No step was made.
+    pub fn new() -> Looks
         ensures { (result.receive ≡ Fresh) × (result.free ≡ Fresh) }
     {
         Looks {
@@ -57,8 +61,8 @@ impl Looks {
         }
     }
 
-    // The last step on the receive queue, or else on the free queue, told this.
-    pub(crate) fn set<const B: bool>(&mut self, look: Look)
+    /// The last step on the receive queue, or else on the free queue, told this.
+    pub fn set<const B: bool>(&mut self, look: Look)
         ensures told { look_in B self.new ≡ look }
         ensures others { look_in (other B) self.new ≡ look_in (other B) self.old }
     {
@@ -68,6 +72,13 @@ impl Looks {
             self.free = look;
         }
     }
+}
+
+/// The count plus 1, or where that is no 64-bit number, the count.
+pub fn one_more(count: u64) -> u64
+    ensures { result ≡ raised count }
+{
+    if count < u64::MAX { count + 1 } else { count }
 }
 
 /// How often a queue had nothing for its consumer. A count stands still at its last value.
@@ -80,12 +91,33 @@ pub struct Misses {
 }
 
 impl Misses {
-    pub(crate) fn new() -> Misses
+    /// Nothing was missed.
+    pub fn new() -> Misses
         ensures { result ≡ record { head_empty = 0; link_missing = 0 } }
     {
         Misses {
             head_empty: 0,
             link_missing: 0,
+        }
+    }
+
+    /// The head was loaded as 0 once more.
+    pub fn after_head(self) -> Misses
+        ensures { result ≡ head_miss self }
+    {
+        Misses {
+            head_empty: one_more(self.head_empty),
+            link_missing: self.link_missing,
+        }
+    }
+
+    /// The link was loaded as 0 once more, although the cell was not the last one.
+    pub fn after_link(self) -> Misses
+        ensures { result ≡ link_miss self }
+    {
+        Misses {
+            head_empty: self.head_empty,
+            link_missing: one_more(self.link_missing),
         }
     }
 }
@@ -96,8 +128,8 @@ pub struct Entry {
     pub ranks: u64,
     pub each: u64,
     pub hands: LinkedList<Hand>,
-    pub receive: End,
-    pub free: End,
+    pub receive: Heads,
+    pub free: Heads,
     /// What it put into receive queues, with the rank that each went to.
     pub put: LinkedList<(u64, Option<Packet>)>,
     pub got: LinkedList<Option<Packet>>,
@@ -119,7 +151,7 @@ pub struct Entry {
 pub struct Linked;
 
 impl TableRule<Option<Packet>, View<Entry>, Shape> for Linked {
-    ghost use Rattle.nm_cells.specs.Rule.{Rule, first_view};
+    ghost use Rattle.nm_table.specs.Rule.{Rule, first_view};
 
     ghost holds = { Rule };
 

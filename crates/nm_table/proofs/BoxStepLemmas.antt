@@ -13,14 +13,14 @@ use Rattle.atomic_table.specs.Table.{carried_after, stepped}
 use Rattle.nm_seats.specs.declared.views.View.{View}
 use Rattle.nm_seats.specs.Spoken.{view}
 use Rattle.nm_types.specs.Sizes.{Sizes}
-use Rattle.nm_cells.specs.declared.table.Entry.{Entry}
-use Rattle.nm_cells.specs.Rule.{Load, put_to, sender, from, number, sent_to}
-use Rattle.nm_cells.specs.Rule.{box_slot, filling_of, emptying_of, Rule}
-use Rattle.nm_cells.specs.NextBox.{BoxesApart}
-use Rattle.nm_cells.specs.Plays as plays
-use Rattle.nm_cells.proofs.ProducerLemmas.{own}
-use Rattle.nm_cells.proofs.BoxRuleLemmas as rule
-use Rattle.nm_cells.proofs.BoxApartLemmas.{apart_after}
+use Rattle.nm_table.specs.declared.table.Entry.{Entry}
+use Rattle.nm_table.specs.Rule.{Load, put_to, sender, from, number, sent_to}
+use Rattle.nm_table.specs.Rule.{box_slot, filling_of, emptying_of, Rule}
+use Rattle.nm_table.specs.NextBox.{BoxesApart}
+use Rattle.nm_table.specs.Plays as plays
+use Rattle.nm_table.proofs.ProducerLemmas.{own}
+use Rattle.nm_table.proofs.BoxRuleLemmas as rule
+use Rattle.nm_table.proofs.BoxApartLemmas.{apart_after}
 
 none_some : (y : Load) → None ≡ Some y → ⊥
 none_some y e = cc

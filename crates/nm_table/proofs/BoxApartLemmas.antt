@@ -8,11 +8,11 @@ use Rattle.atomic_table.specs.Table.{State}
 use Rattle.nm_seats.specs.declared.views.View.{View}
 use Rattle.nm_seats.specs.Spoken.{view}
 use Rattle.nm_types.specs.Sizes.{Sizes}
-use Rattle.nm_cells.specs.declared.table.Entry.{Entry}
-use Rattle.nm_cells.specs.Rule.{Load, put_to, from, number, box_slot, filling_of, Rule}
-use Rattle.nm_cells.specs.NextBox.{to_fill, BoxesApart}
-use Rattle.nm_cells.proofs.ProducerLemmas.{own}
-use Rattle.nm_cells.proofs.BoxRuleLemmas as rule
+use Rattle.nm_table.specs.declared.table.Entry.{Entry}
+use Rattle.nm_table.specs.Rule.{Load, put_to, from, number, box_slot, filling_of, Rule}
+use Rattle.nm_table.specs.NextBox.{to_fill, BoxesApart}
+use Rattle.nm_table.proofs.ProducerLemmas.{own}
+use Rattle.nm_table.proofs.BoxRuleLemmas as rule
 
 filled_is : (b : Bool) (y : Load) → to_fill b ≡ Some y → b ≡ true
 filled_is true y e = refl

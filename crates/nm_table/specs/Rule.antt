@@ -1,6 +1,6 @@
 -- The rule of the fabric.
 -- Of n ranks, the receive queue of the rank r is the queue r, and its free queue is the queue n + r. The words are the heads of all queues, their tails, and the links of all cells.
-use Rattle.std.specs.Prelude.{Bool, false, map, ◌≡◌, ◌≢◌, ℕ, zero, suc, ◌+◌, ◌-◌, ◌*◌, ◌/◌, ◌%◌}
+use Rattle.std.specs.Prelude.{Bool, false, map, ◌≡◌, ◌≢◌, ℕ, zero, suc, ◌+◌, ◌*◌, ◌/◌}
 use Rattle.std.specs.Prelude.{◌<◌, ◌≤◌, List, [], ◌∷◌, ◌++◌, length, slice_index, slice_index_or}
 use Rattle.std.specs.Prelude.{Option, Some, None, replicate}
 use mathlib.Core.Option as maybe
@@ -14,11 +14,11 @@ use Rattle.nm_chain.specs.Sequence.{InSequence}
 use Rattle.nm_seats.specs.Window.{Window}
 use Rattle.nm_types.specs.declared.packets.Packet.{Packet}
 use Rattle.nm_types.specs.Sizes.{Sizes}
-use Rattle.nm_cells.specs.declared.table.Hand.{Hand}
-use Rattle.nm_cells.specs.declared.table.Hand.TheVariants.{Away, Held, Ready, Entering}
-use Rattle.nm_cells.specs.declared.table.End.{End}
-use Rattle.nm_cells.specs.declared.table.Misses.{Misses}
-use Rattle.nm_cells.specs.declared.table.Entry.{Entry}
+use Rattle.nm_table.specs.declared.table.Hand.{Hand}
+use Rattle.nm_table.specs.declared.table.Hand.TheVariants.{Away, Loose, Held, Ready, Entering}
+use Rattle.nm_table.specs.declared.table.Heads.{Heads}
+use Rattle.nm_table.specs.declared.table.Misses.{Misses}
+use Rattle.nm_table.specs.declared.table.Entry.{Entry}
 
 abbrev pub Load : Type 0
 Load = Option Packet
@@ -29,8 +29,8 @@ Place = chain.Place Load
 abbrev pub Chain : Type 0
 Chain = List (chain.Item Load)
 
-abbrev pub no_end : End
-no_end = record { shadow = 0; seen = 0 }
+abbrev pub no_heads : Heads
+no_heads = record { shadow = 0; seen = 0 }
 
 abbrev pub no_miss : Misses
 no_miss = record { head_empty = 0; link_missing = 0 }
@@ -55,7 +55,7 @@ emptying_of e i = slice_index_or e.emptying i None
 pub record World : Type 0 where
   pub place : ℕ → Place
   pub chain : ℕ → Chain
-  pub end : ℕ → End
+  pub heads : ℕ → Heads
   pub put : ℕ → List (ℕ × Load)
   pub got : ℕ → List Load
   pub put_box : ℕ → List (ℕ × Load)
@@ -66,6 +66,7 @@ pub record World : Type 0 where
 
 -- the rank r has no part in it
 abbrev pub NotOf : ℕ → Place → Type 0
+NotOf r (chain.loose s) = r ≢ s
 NotOf r (chain.held s) = r ≢ s
 NotOf r (chain.ready s y) = r ≢ s
 NotOf r (chain.entering s q t) = r ≢ s
@@ -74,12 +75,14 @@ NotOf r (chain.queued q) = Unit {0}
 -- the rank r has this of a cell that is there
 abbrev pub Shows : ℕ → Place → Hand → Type 0
 Shows r p Away = NotOf r p
+Shows r p Loose = p ≡ chain.loose r
 Shows r p Held = p ≡ chain.held r
 Shows r p (Ready y) = p ≡ chain.ready r y
 Shows r p (Entering q t) = p ≡ chain.entering r q t
 
 -- a rank that has part in it is one of n
 abbrev pub Below : ℕ → Place → Type 0
+Below n (chain.loose r) = r < n
 Below n (chain.held r) = r < n
 Below n (chain.ready r y) = r < n
 Below n (chain.entering r q t) = r < n
@@ -92,8 +95,8 @@ pub record Agrees (n each : ℕ) (w : World) (r : ℕ) (e : Entry) : Type 0 wher
   pub per : e.each ≡ each
   pub long : length e.hands ≡ n * each
   pub hands : (c : ℕ) → c < n * each → Shows r (w.place c) (hand e c)
-  pub receive : e.receive ≡ w.end r
-  pub free : e.free ≡ w.end (n + r)
+  pub receive : e.receive ≡ w.heads r
+  pub free : e.free ≡ w.heads (n + r)
   pub put : e.put ≡ w.put r
   pub got : e.got ≡ w.got r
   pub put_box : e.put_box ≡ w.put_box r
@@ -174,8 +177,9 @@ Suits n each q x = (q < n → sender x.load ≡ suc (x.cell / each))
 abbrev pub Fits : ℕ → ℕ → List (maybe.Option Load) → ℕ → chain.Item Load → Type 0
 Fits n each homes q x = (x.cell < n * each) × HasHome homes x.cell x.load × Suits n each q x
 
--- a cell in a hand: its slot is out, and if it is ready its link is 0
+-- a loose cell's slot is at home and empty; that of a cell in a hand is out, and if it is ready its link is 0
 abbrev pub Handed : ℕ → List ℕ → List (maybe.Option Load) → ℕ → Place → Type 0
+Handed n words homes c (chain.loose r) = HasHome homes c None
 Handed n words homes c (chain.held r) = IsOut homes c
 Handed n words homes c (chain.ready r y) = IsOut homes c × (link n words c ≡ 0)
 Handed n words homes c (chain.entering r q t) = q < 2 * n
@@ -183,7 +187,7 @@ Handed n words homes c (chain.queued q) = q < 2 * n
 
 abbrev pub Queue : ℕ → ℕ → World → List ℕ → List (maybe.Option Load) → ℕ → Type 0
 Queue n each w words homes q = chain.IsChain (Fits n each homes q) w.place (link n words) q
-    (head n words q) (tail n words q) (w.end q).shadow (w.chain q)
+    (head n words q) (tail n words q) (w.heads q).shadow (w.chain q)
 
 pub record QueuesHold (n each : ℕ) (w : World) (words : List ℕ)
     (homes : List (maybe.Option Load)) : Type 0 where
@@ -191,7 +195,7 @@ pub record QueuesHold (n each : ℕ) (w : World) (words : List ℕ)
   pub slots : length homes ≡ n * each + 4 * (n * n)
   pub queues : (q : ℕ) → q < 2 * n → Queue n each w words homes q
   -- the head stays what its consumer loaded, until the consumer clears it
-  pub seen : (q : ℕ) → q < 2 * n → 0 < (w.end q).seen → head n words q ≡ (w.end q).seen
+  pub seen : (q : ℕ) → q < 2 * n → 0 < (w.heads q).seen → head n words q ≡ (w.heads q).seen
   pub cells : (c : ℕ) → c < n * each → Handed n words homes c (w.place c)
   -- what the rank i put into the queue of j is what j got, and then what is in the chain
   pub paths : (i j : ℕ) → i < n → j < n → put_to j (w.put i) ≡ from i (w.got j) ++ from i
@@ -225,15 +229,15 @@ pub record Rule (key : Sizes) (s : State Load (View Entry)) : Type 0 where
   pub boxes : BoxesHold key.ranks key.cells world s.words s.homes
   pub turns : AllInSequence key.ranks world
 
--- a rank of n at the start
+-- a rank of n that has no part in any cell, and of which nothing came and to which nothing went
 abbrev pub newcomer : ℕ → ℕ → ℕ → Entry
 newcomer n each r = record {
   rank = r;
   ranks = n;
   each = each;
   hands = replicate (n * each) Away;
-  receive = no_end;
-  free = no_end;
+  receive = no_heads;
+  free = no_heads;
   put = [];
   got = [];
   put_box = [];
@@ -246,31 +250,24 @@ newcomer n each r = record {
   box_miss = replicate n 0;
 }
 
+-- what the rank r has of the k cells from c on at the start: its own cells are loose
+abbrev pub first_hands : ℕ → ℕ → ℕ → ℕ → List Hand
+first_hands each r c zero = []
+first_hands each r c (suc k) = pick (ℕ_discrete (c / each) r) Loose Away ∷ first_hands each r (suc c) k
+
+-- a rank of n at the start
+abbrev pub beginner : ℕ → ℕ → ℕ → Entry
+beginner n each r = record (newcomer n each r) { hands = first_hands each r 0 (n * each) }
+
 -- the k ranks from r on
-abbrev pub newcomers : ℕ → ℕ → ℕ → ℕ → List Entry
-newcomers n each r zero = []
-newcomers n each r (suc k) = newcomer n each r ∷ newcomers n each (suc r) k
+abbrev pub beginners : ℕ → ℕ → ℕ → ℕ → List Entry
+beginners n each r zero = []
+beginners n each r (suc k) = beginner n each r ∷ beginners n each (suc r) k
 
 abbrev pub first_view : Sizes → View Entry
-first_view key = view (newcomers key.ranks key.cells 0 key.ranks)
+first_view key = view (beginners key.ranks key.cells 0 key.ranks)
 
--- the words at the start: each rank's cells stand in its free queue, in order
-pub record Opens (n each : ℕ) (words : List ℕ) : Type 0 where
-  pub long : length words ≡ 4 * n + n * each + 4 * (n * n)
-  pub receive : (r : ℕ) → r < n → (head n words r ≡ 0) × (tail n words r ≡ 0)
-  pub free : (r : ℕ) → r < n → (head n words (n + r) ≡ suc (r * each))
-      × (tail n words (n + r) ≡ r * each + each)
-  pub links : (r i : ℕ) → r < n → suc i < each
-      → link n words (r * each + i) ≡ suc (r * each + suc i)
-  pub last : (r i : ℕ) → r < n → suc i ≡ each → link n words (r * each + i) ≡ 0
-  pub flags : (k : ℕ) → k < 4 * (n * n) → slice_index words (4 * n + (n * each + k)) ≡ 0
-
--- the word i at the start
-abbrev pub IsInitial : ℕ → ℕ → ℕ → ℕ → Type 0
-IsInitial n each i w =
-    (i < n → w ≡ 0) × (n ≤ i → i < 2 * n → w ≡ suc ((i - n) * each))
-    × (2 * n ≤ i → i < 3 * n → w ≡ 0) × (3 * n ≤ i → i < 4 * n → w ≡ (i - 3 * n) * each + each)
-    × (4 * n ≤ i → i < 4 * n + n * each → suc (i - 4 * n) % each ≡ 0 → w ≡ 0)
-    × (4 * n ≤ i → i < 4 * n + n * each → suc (i - 4 * n) % each ≢ 0
-    → w ≡ suc (suc (i - 4 * n)))
-    × (4 * n + n * each ≤ i → w ≡ 0)
+-- the words at the start: no queue has a cell, and no box is full
+abbrev pub Opens : ℕ → ℕ → List ℕ → Type 0
+Opens n each words = (length words ≡ 4 * n + n * each + 4 * (n * n))
+    × ((i : ℕ) → i < length words → slice_index words i ≡ 0)

@@ -22,16 +22,16 @@ use Rattle.nm_chain.proofs.SequenceLemmas.{got_by_box, missing_in_box}
 use Rattle.nm_seats.specs.Window.{Window}
 use Rattle.nm_seats.proofs.WindowLemmas as windows
 use Rattle.nm_types.specs.Sizes.{Sizes}
-use Rattle.nm_cells.specs.declared.table.Entry.{Entry}
-use Rattle.nm_cells.specs.Rule.{Load, World, Agrees, put_to, sender, from, number, sent_to, loads}
-use Rattle.nm_cells.specs.Rule.{box_slot, filling_of, emptying_of, AllInSequence, Rule, mark}
-use Rattle.nm_cells.specs.Plays as plays
-use Rattle.nm_cells.proofs.QueueLemmas as queues
-use Rattle.nm_cells.proofs.QueueLemmas.{from_append, put_append, pick_yes, pick_no}
-use Rattle.nm_cells.proofs.BoxLemmas as boxes
-use Rattle.nm_cells.proofs.BoxLemmas.{marked, update2, update2_here, update2_else, update2_row}
-use Rattle.nm_cells.proofs.BoxLemmas.{slot_low, turn_along}
-use Rattle.nm_cells.proofs.ProducerLemmas.{knows_else, own, ruled}
+use Rattle.nm_table.specs.declared.table.Entry.{Entry}
+use Rattle.nm_table.specs.Rule.{Load, World, Agrees, put_to, sender, from, number, sent_to, loads}
+use Rattle.nm_table.specs.Rule.{box_slot, filling_of, emptying_of, AllInSequence, Rule, mark}
+use Rattle.nm_table.specs.Plays as plays
+use Rattle.nm_table.proofs.QueueLemmas as queues
+use Rattle.nm_table.proofs.QueueLemmas.{from_append, put_append, pick_yes, pick_no}
+use Rattle.nm_table.proofs.BoxLemmas as boxes
+use Rattle.nm_table.proofs.BoxLemmas.{marked, update2, update2_here, update2_else, update2_row}
+use Rattle.nm_table.proofs.BoxLemmas.{slot_low, turn_along}
+use Rattle.nm_table.proofs.ProducerLemmas.{knows_else, own, ruled}
 
 pub some_is : (u v : Load) → Some u ≡ Some v → u ≡ v
 some_is u v e = cc
@@ -109,7 +109,7 @@ module _ (key : Sizes) (slots id : ℕ) (e : Entry) (low : e.rank < key.ranks) (
         (w.waits peer e.rank)) (sym k.got_box) (R.boxes peer e.rank few low))
 
     -- the entry with another lid or count
-    pub filling_shown : (b : Bool) (w' : World) → w'.place ≡ w.place → w'.end ≡ w.end → w'.put ≡ w.put
+    pub filling_shown : (b : Bool) (w' : World) → w'.place ≡ w.place → w'.heads ≡ w.heads → w'.put ≡ w.put
         → w'.got ≡ w.got → w'.put_box ≡ w.put_box → w'.got_box ≡ w.got_box
         → w'.emptying ≡ w.emptying → w'.filling e.rank peer ≡ b
         → ((l : ℕ) → l ≢ peer → w'.filling e.rank l ≡ w.filling e.rank l)
@@ -134,7 +134,7 @@ module _ (key : Sizes) (slots id : ℕ) (e : Entry) (low : e.rank < key.ranks) (
       emptying = rw em k.emptying;
     }
 
-    pub emptying_shown : (x : Option Load) (w' : World) → w'.place ≡ w.place → w'.end ≡ w.end
+    pub emptying_shown : (x : Option Load) (w' : World) → w'.place ≡ w.place → w'.heads ≡ w.heads
         → w'.put ≡ w.put → w'.got ≡ w.got → w'.put_box ≡ w.put_box → w'.got_box ≡ w.got_box
         → w'.filling ≡ w.filling → w'.emptying peer e.rank ≡ x
         → ((l : ℕ) → l ≢ peer → w'.emptying l e.rank ≡ w.emptying l e.rank)

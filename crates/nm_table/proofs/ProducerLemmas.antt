@@ -1,33 +1,35 @@
 -- Each kind of step keeps the rule, whatever the other ranks did.
-use Rattle.std.proofs.Common.{◌≡◌, ◌≢◌, ℕ, suc, ◌+◌, ◌-◌, ◌*◌, ◌<◌, ◌≤◌, ◌⊎◌, List, [], ◌∷◌, ◌++◌}
+use Rattle.std.proofs.Common.{◌≡◌, ◌≢◌, ℕ, suc, ◌+◌, ◌-◌, ◌*◌, ◌<◌, ◌≤◌, ◌⊎◌, List, [], ◌∷◌, ◌++◌, None}
 use Rattle.std.proofs.Common.{length, set, sym, refl, ap, ◌∙◌, inl, inr, subst, ⊎_elim, arith}
 use Rattle.std.proofs.Common.{length-set, get_or-set_same, get_or-set_other}
-use Rattle.std.specs.Prelude.{slice_index_or}
+use Rattle.std.proofs.lemmas.List.{set-get_or}
+use Rattle.std.specs.Prelude.{slice_index, slice_index_or}
 use mathlib.Core.Option as maybe
 use mathlib.Core.Logic.{dite}
 use native.Mathlib.Decide.{ℕ_discrete}
 use lib.ListN.{get_elem?}
-use Rattle.atomic_table.specs.Table.{State, step, keeps, gives, Allows}
+use Rattle.atomic_table.specs.Table.{State, step, keeps, takes, gives, Allows}
 use Rattle.nm_seats.specs.declared.views.View.{View}
 use Rattle.nm_seats.specs.Spoken.{view}
 use Rattle.nm_seats.specs.Update.{update}
 use Rattle.nm_seats.proofs.UpdateLemmas.{update_here, update_else}
 use Rattle.nm_seats.proofs.SpokenLemmas.{spoken_steps, spoken_of}
-use Rattle.nm_chain.specs.Chain.{item, IsIn, ready, entering, queued}
+use Rattle.nm_chain.specs.Chain.{item, IsIn, loose, held, ready, entering, queued}
 use Rattle.nm_types.specs.Sizes.{Sizes}
-use Rattle.nm_cells.specs.declared.table.Hand.{Hand}
-use Rattle.nm_cells.specs.declared.table.Hand.TheVariants.{Away, Held, Ready, Entering}
-use Rattle.nm_cells.specs.declared.table.Entry.{Entry}
-use Rattle.nm_cells.specs.Rule.{Load, Place, hand, rank_of, World, NotOf, Below, Shows, Agrees}
-use Rattle.nm_cells.specs.Rule.{sender, number, sent_to, posted, tail, IsOut, Suits, Handed}
-use Rattle.nm_cells.specs.Rule.{QueuesHold, BoxesHold, AllInSequence, Rule}
-use Rattle.nm_cells.specs.Plays as plays
-use Rattle.nm_cells.proofs.QueueLemmas as queues
-use Rattle.nm_cells.proofs.BoxLemmas as boxes
+use Rattle.nm_table.specs.declared.table.Hand.{Hand}
+use Rattle.nm_table.specs.declared.table.Hand.TheVariants.{Away, Loose, Held, Ready, Entering}
+use Rattle.nm_table.specs.declared.table.Entry.{Entry}
+use Rattle.nm_table.specs.Rule.{Load, Place, hand, rank_of, World, NotOf, Below, Shows, Agrees}
+use Rattle.nm_table.specs.Rule.{sender, number, sent_to, posted, tail, IsOut, Suits, Handed}
+use Rattle.nm_table.specs.Rule.{QueuesHold, BoxesHold, AllInSequence, Rule}
+use Rattle.nm_table.specs.Plays as plays
+use Rattle.nm_table.proofs.QueueLemmas as queues
+use Rattle.nm_table.proofs.BoxLemmas as boxes
 
 -- a rank sees nothing of what has no part of it
 shown_else : (r : ℕ) (p p' : Place) (h : Hand) → NotOf r p → NotOf r p' → Shows r p h → Shows r p' h
 shown_else r p p' Away n n' s = n'
+shown_else r p p' Loose n n' s = absurd (subst (NotOf r) s n refl)
 shown_else r p p' Held n n' s = absurd (subst (NotOf r) s n refl)
 shown_else r p p' (Ready y) n n' s = absurd (subst (NotOf r) s n refl)
 shown_else r p p' (Entering q t) n n' s = absurd (subst (NotOf r) s n refl)
@@ -35,12 +37,14 @@ shown_else r p p' (Entering q t) n n' s = absurd (subst (NotOf r) s n refl)
 -- what a rank that has a cell in its hand knows of the others
 not_of : (r t : ℕ) (p : Place) (h : Hand) → t ≢ r → plays.InHand h → Shows r p h → NotOf t p
 not_of r t p Away ne i s = absurd i
+not_of r t p Loose ne i s = absurd i
 not_of r t p Held ne i s = subst (NotOf t) (sym s) ne
 not_of r t p (Ready y) ne i s = subst (NotOf t) (sym s) ne
 not_of r t p (Entering q u) ne i s = absurd i
 
 not_in : (r q : ℕ) (p : Place) (h : Hand) → plays.InHand h → Shows r p h → ¬ IsIn q p
 not_in r q p Away i s k = absurd i
+not_in r q p Loose i s k = absurd i
 not_in r q p Held i s k = subst (IsIn q) s k
 not_in r q p (Ready y) i s k = subst (IsIn q) s k
 not_in r q p (Entering u t) i s k = absurd i
@@ -48,6 +52,7 @@ not_in r q p (Entering u t) i s k = absurd i
 is_out : (n r c : ℕ) (words : List ℕ) (homes : List (maybe.Option Load)) (p : Place) (h : Hand)
     → plays.InHand h → Shows r p h → Handed n words homes c p → IsOut homes c
 is_out n r c words homes p Away i s k = absurd i
+is_out n r c words homes p Loose i s k = absurd i
 is_out n r c words homes p Held i s k = subst (Handed n words homes c) s k
 is_out n r c words homes p (Ready y) i s k = (subst (Handed n words homes c) s k).0
 is_out n r c words homes p (Entering q t) i s k = absurd i
@@ -62,7 +67,7 @@ module _ (n m : ℕ) (w : World) where
   -- the entry of a rank of which nothing changes
   pub knows_else : (w' : World) (r : ℕ) (e : Entry) → Agrees n m w r e
       → ((c : ℕ) → (w'.place c ≡ w.place c) ⊎ (NotOf r (w.place c) × NotOf r (w'.place c)))
-      → w'.end r ≡ w.end r → w'.end (n + r) ≡ w.end (n + r) → w'.put r ≡ w.put r
+      → w'.heads r ≡ w.heads r → w'.heads (n + r) ≡ w.heads (n + r) → w'.put r ≡ w.put r
       → w'.got r ≡ w.got r
       → w'.put_box r ≡ w.put_box r → w'.got_box r ≡ w.got_box r → w'.filling r ≡ w.filling r
       → ((i : ℕ) → w'.emptying i r ≡ w.emptying i r) → Agrees n m w' r e
@@ -183,6 +188,30 @@ module _ (key : Sizes) (s : State Load (View Entry)) (R : Rule key s) (id : ℕ)
 
 module _ (key : Sizes) (slots id : ℕ) (e : Entry) (low : e.rank < key.ranks) (c : ℕ)
     (few : c < key.ranks * key.cells) where
+  pick_kept : (hs : List (ℕ × Load)) → hand e c ≡ Loose
+      → Allows (Rule key) slots id (view (e ∷ []), hs) (4 * key.ranks + c) (λ k. k)
+      (plays.picked (step slots (4 * key.ranks + c) 0 0 maybe.none) (view (e ∷ []), hs))
+  pick_kept hs mine s R long at small = let k = own key s R id e at low in let w = R.world in
+      let i = 4 * key.ranks + c in let nothing : Load = None in
+      let shows : w.place c ≡ loose e.rank = subst (Shows e.rank (w.place c)) mine (k.hands c few) in
+      let same : set s.words i (slice_index s.words i) ≡ s.words = set-get_or s.words i 0 in
+      let is : (4 * key.ranks + c) - 4 * e.ranks ≡ c = let rs = k.ranks in omega arith in (
+        view (plays.with_hand c Held e ∷ []),
+        takes c nothing,
+        subst (Handed key.ranks s.words s.homes c) shows (R.laid.cells c few),
+        subst (λ ws. Rule key record {
+          words = ws;
+          homes = set s.homes c maybe.none;
+          views = set s.views id (view (plays.with_hand c Held e ∷ []));
+        }) (sym same)
+            (one_hand key s R id e at low c (held e.rank) Held s.words (set s.homes c maybe.none) few low
+            refl (λ r ne. (subst (NotOf r) (sym shows) ne, ne))
+            (queues.picked key.ranks key.cells w s.words s.homes R.laid e.rank c few
+            (λ q k. subst (IsIn q) shows k))
+            (boxes.keep_slot key.ranks key.cells w s.words s.homes R.boxes c maybe.none few)),
+        ap (λ d. (view (plays.with_hand d Held e ∷ []), (d, nothing) ∷ hs)) (sym is),
+      )
+
   clear_kept : (hs : List (ℕ × Load)) → plays.InHand (hand e c)
       → Allows (Rule key) slots id (view (e ∷ []), hs) (4 * key.ranks + c) (λ _. 0)
       (plays.cleared (step slots (4 * key.ranks + c) 0 0 maybe.none) (view (e ∷ []), hs))
@@ -314,6 +343,16 @@ module _ (key : Sizes) (n each slots id : ℕ) (me : plays.Knowing) (alone : pla
 
   few' : c < key.ranks * key.cells
   few' = rw (ranks, cells) few
+
+  pub pick_allowed : hand (plays.mine me) c ≡ Loose
+      → Allows (Rule key) slots id me (4 * n + c) (λ k. k)
+      (plays.picked (step slots (4 * n + c) 0 0 maybe.none) me)
+  pick_allowed mine =
+      subst (λ k. Allows (Rule key) slots id me (4 * k + c) (λ j. j)
+      (plays.picked (step slots (4 * k + c) 0 0 maybe.none) me)) ranks
+      (subst (λ v. Allows (Rule key) slots id (v, me.1) (4 * key.ranks + c) (λ k. k)
+      (plays.picked (step slots (4 * key.ranks + c) 0 0 maybe.none) (v, me.1))) (sym alone)
+      (pick_kept key slots id (plays.mine me) low' c few' me.1 mine))
 
   pub clear_allowed : plays.InHand (hand (plays.mine me) c)
       → Allows (Rule key) slots id me (4 * n + c) (λ _. 0)

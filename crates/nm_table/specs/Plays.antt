@@ -6,17 +6,17 @@ use native.Mathlib.Decide.{ℕ_discrete, dec_le}
 use Rattle.atomic_table.specs.Table.{Me, Step, rest}
 use Rattle.nm_seats.specs.declared.views.View.{View}
 use Rattle.nm_seats.specs.Spoken.{view}
-use Rattle.nm_cells.specs.declared.table.Hand.{Hand}
-use Rattle.nm_cells.specs.declared.table.Hand.TheVariants.{Away, Held, Ready, Entering}
-use Rattle.nm_cells.specs.declared.table.End.{End}
-use Rattle.nm_cells.specs.declared.table.Misses.{Misses}
-use Rattle.nm_cells.specs.declared.table.Entry.{Entry}
+use Rattle.nm_table.specs.declared.table.Hand.{Hand}
+use Rattle.nm_table.specs.declared.table.Hand.TheVariants.{Away, Loose, Held, Ready, Entering}
+use Rattle.nm_table.specs.declared.table.Heads.{Heads}
+use Rattle.nm_table.specs.declared.table.Misses.{Misses}
+use Rattle.nm_table.specs.declared.table.Entry.{Entry}
 use Rattle.nm_chain.specs.Chain.{item}
 use Rattle.nm_chain.specs.Sequence.{Each, Got}
-use Rattle.nm_cells.specs.Rule.{Load, Suits, no_end, no_miss, posted, fetched, hand, filling_of}
-use Rattle.nm_cells.specs.Rule.{emptying_of, from, number, sender, if_below}
-use Rattle.nm_cells.specs.NextBox.{BoxesApart}
-use Rattle.nm_cells.specs.Looks.{other}
+use Rattle.nm_table.specs.Rule.{Load, Suits, no_heads, no_miss, posted, fetched, hand, filling_of}
+use Rattle.nm_table.specs.Rule.{emptying_of, from, number, sender, if_below}
+use Rattle.nm_table.specs.NextBox.{BoxesApart}
+use Rattle.nm_table.specs.Looks.{other}
 
 abbrev pub Knowing : Type 0
 Knowing = Me Load (View Entry)
@@ -28,8 +28,8 @@ newcomer rank ranks = record {
   ranks = ranks;
   each = 0;
   hands = [];
-  receive = no_end;
-  free = no_end;
+  receive = no_heads;
+  free = no_heads;
   put = [];
   got = [];
   put_box = [];
@@ -73,6 +73,11 @@ with_hand c h e = record e { hands = slice_set e.hands c h }
 abbrev pub with_put : List (ℕ × Load) → Entry → Entry
 with_put xs e = record e { put = e.put ++ xs }
 
+-- a cell that was loose is in hand, and empty
+abbrev pub picked : Step Load → Knowing → ℕ → Knowing → Type 0
+picked s me found after = let c = s.word - 4 * (mine me).ranks in
+    after ≡ (view (with_hand c Held (mine me) ∷ []), (c, None) ∷ me.1)
+
 -- the link of a cell in hand is 0, and the rank knows what the cell holds
 abbrev pub cleared : Step Load → Knowing → ℕ → Knowing → Type 0
 cleared s me found after = let c = s.word - 4 * (mine me).ranks in
@@ -94,6 +99,7 @@ finished s me found after = after ≡ (view (with_hand (s.first - 1) Away (mine 
 
 abbrev pub InHand : Hand → Type 0
 InHand Away = ⊥
+InHand Loose = ⊥
 InHand Held = Unit {0}
 InHand (Ready y) = Unit {0}
 InHand (Entering q t) = ⊥
@@ -103,16 +109,16 @@ abbrev pub queue : ℕ → ℕ → Bool → ℕ
 queue n r true = r
 queue n r false = n + r
 
-abbrev pub end_of : Bool → Entry → End
-end_of true e = e.receive
-end_of false e = e.free
+abbrev pub heads_of : Bool → Entry → Heads
+heads_of true e = e.receive
+heads_of false e = e.free
 
-abbrev pub with_end : Bool → End → Entry → Entry
-with_end true x e = record e { receive = x }
-with_end false x e = record e { free = x }
+abbrev pub with_heads : Bool → Heads → Entry → Entry
+with_heads true x e = record e { receive = x }
+with_heads false x e = record e { free = x }
 
-abbrev pub at_end : ℕ → ℕ → End
-at_end shadow seen = record { shadow = shadow; seen = seen }
+abbrev pub heads_at : ℕ → ℕ → Heads
+heads_at shadow seen = record { shadow = shadow; seen = seen }
 
 abbrev pub with_got : List Load → Entry → Entry
 with_got ys e = record e { got = e.got ++ ys }
@@ -120,7 +126,7 @@ with_got ys e = record e { got = e.got ++ ys }
 -- the cell c, which holds y, is in hand, and the queue's shadow head is this
 abbrev pub taken : Bool → ℕ → Load → ℕ → Entry → Entry
 taken b c y shadow e = with_got (fetched e.ranks (queue e.ranks e.rank b) y)
-    (with_hand c Held (with_end b (at_end shadow 0) e))
+    (with_hand c Held (with_heads b (heads_at shadow 0) e))
 
 -- a count goes up by one, and stands still at the last value of its 64 bits
 abbrev pub raised : ℕ → ℕ
@@ -157,12 +163,12 @@ abbrev pub loaded_head : Bool → Step Load → Knowing → ℕ → Knowing → 
 loaded_head b s me found after = (found ≤ length (mine me).hands)
     × (found ≡ 0 → after ≡ (
       view
-          (with_missed b head_miss (with_end b (at_end (end_of b (mine me)).shadow 0) (mine me)) ∷
+          (with_missed b head_miss (with_heads b (heads_at (heads_of b (mine me)).shadow 0) (mine me)) ∷
           []),
       me.1,
     ))
     × (0 < found → after ≡ (
-      view (with_end b (at_end (end_of b (mine me)).shadow found)
+      view (with_heads b (heads_at (heads_of b (mine me)).shadow found)
           (mine me) ∷ []),
       me.1,
     ))
@@ -170,7 +176,7 @@ loaded_head b s me found after = (found ≤ length (mine me).hands)
 -- the head is 0, and what was loaded from it is the shadow head
 abbrev pub cleared_head : Bool → Step Load → Knowing → ℕ → Knowing → Type 0
 cleared_head b s me found after =
-    after ≡ (view (with_end b (at_end (end_of b (mine me)).seen 0) (mine me) ∷ []), me.1)
+    after ≡ (view (with_heads b (heads_at (heads_of b (mine me)).seen 0) (mine me) ∷ []), me.1)
 
 -- the packet with the number k came from the rank i
 abbrev pub Came : Entry → ℕ → ℕ → Type 0

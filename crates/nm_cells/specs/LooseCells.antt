@@ -1,0 +1,16 @@
+-- The cells of a port that are loose.
+use Rattle.std.specs.Prelude.{◌≡◌, ℕ, ◌/◌, ◌<◌, ◌≤◌, None, List, length}
+use Rattle.nm_table.specs.declared.table.Hand.TheVariants.{Held}
+use Rattle.nm_table.specs.declared.table.Entry.{Entry}
+use Rattle.nm_table.specs.Rule.{Load, hand}
+use Rattle.nm_table.specs.Plays.{load_in}
+use Rattle.nm_cells.specs.declared.loose.LooseCells.{LooseCells}
+
+-- the cell c is one of these
+abbrev pub IsAmong : LooseCells → ℕ → Type 0
+IsAmong x c = (x.first ≤ c) × (c < x.end)
+
+-- each of these is the rank's own, is in its seat's hand, and is empty
+abbrev pub AreKept : LooseCells → Entry → List (ℕ × Load) → Type 0
+AreKept x e slots = (c : ℕ) → IsAmong x c → (c < length e.hands) × (hand e c ≡ Held)
+    × (load_in c slots ≡ None) × (c / e.each ≡ e.rank)

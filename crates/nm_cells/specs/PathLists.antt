@@ -1,0 +1,68 @@
+-- The packets of an ordered pair of ranks, by number, as the ranks know and count them.
+use Rattle.std.specs.Prelude.{◌≡◌, ℕ, zero, suc, ◌<◌, Some, None, List, [], ◌∷◌, ◌++◌, length, slice_index_or}
+use native.Mathlib.Decide.{ℕ_discrete}
+use Rattle.nm_types.specs.declared.packets.Packet.{Packet}
+use Rattle.nm_seats.specs.declared.views.View.{View}
+use Rattle.nm_table.specs.declared.table.Entry.{Entry}
+use Rattle.nm_table.specs.Rule.{Load, put_to, from, sent_to, pick}
+use Rattle.nm_table.specs.Plays.{newcomer}
+use Rattle.nm_cells.specs.declared.peers.Peer.{Peer}
+use Rattle.nm_cells.specs.Counted.{peer_in}
+
+-- the packets among these
+abbrev pub packets : List Load → List Packet
+packets [] = []
+packets (Some p ∷ ys) = p ∷ packets ys
+packets (None ∷ ys) = packets ys
+
+-- those with the number k
+abbrev pub numbered : ℕ → List Packet → List Packet
+numbered k [] = []
+numbered k (p ∷ ps) = pick (ℕ_discrete p.seq k) (p ∷ numbered k ps) (numbered k ps)
+
+-- those with the numbers below s, by number
+abbrev pub by_number : ℕ → List Packet → List Packet
+by_number zero ps = []
+by_number (suc k) ps = by_number k ps ++ numbered k ps
+
+-- what a rank sent to the rank j, by number: it put it by box or by cell
+abbrev pub sent_packets : Entry → ℕ → List Packet
+sent_packets e j = by_number (sent_to j e.put_box e.put)
+    (packets (put_to j e.put_box) ++ packets (put_to j e.put))
+
+-- what a rank got of the rank i by box and by cell with numbers below t, by number
+abbrev pub taken_packets : Entry → ℕ → ℕ → List Packet
+taken_packets e t i = by_number t (packets (from i e.got_box) ++ packets (from i e.got))
+
+-- the one list is the beginning of the other
+abbrev pub Begins : List Packet → List Packet → Type 0
+Begins front whole = (left : List Packet) × (whole ≡ front ++ left)
+
+-- what each rank knew, as a seat keeps it that was made when the table was sealed
+abbrev pub seen_in : List (View Entry) → List Entry
+seen_in [] = []
+seen_in (v ∷ vs) = v.seen
+
+-- what the rank i knew, and what it counted, of these in rank order
+abbrev pub entry_in : List Entry → ℕ → Entry
+entry_in es i = slice_index_or es i (newcomer 0 0)
+
+abbrev pub peers_in : List (List Peer) → ℕ → List Peer
+peers_in ps i = slice_index_or ps i []
+
+-- what the rank i sent to the rank j
+abbrev pub sent_between : List Entry → ℕ → ℕ → List Packet
+sent_between es i j = sent_packets (entry_in es i) j
+
+-- what the rank j passed on of the rank i
+abbrev pub taken_between : List Entry → List (List Peer) → ℕ → ℕ → List Packet
+taken_between es ps i j = taken_packets (entry_in es j) (peer_in (peers_in ps j) i).taken i
+
+-- what n ranks counted are the lengths of these lists
+pub record Tallied (es : List Entry) (ps : List (List Peer)) (n : ℕ) : Type 0 where
+  pub ranks : length ps ≡ n
+  pub wide : (i : ℕ) → i < n → length (peers_in ps i) ≡ n
+  pub sent : (i j : ℕ) → i < n → j < n
+      → (peer_in (peers_in ps i) j).sent ≡ length (sent_between es i j)
+  pub taken : (i j : ℕ) → i < n → j < n
+      → (peer_in (peers_in ps j) i).taken ≡ length (taken_between es ps i j)

@@ -1,0 +1,4 @@
+pub mod Looks
+pub mod NextBox
+pub mod Plays
+pub mod Rule

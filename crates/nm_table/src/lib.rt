@@ -1,0 +1,21 @@
+//! The shared table of cells, fastboxes and queues: what a rank's seat knows of it, and its rule.
+//!
+//! A table (`atomic_table`) has words that change in single atomic steps, slots, and seats. Here the words
+//! are the heads and tails of all queues, the links of all cells and the flags of all fastboxes, and the
+//! slots are those of the cells and fastboxes (Buntinas, Mercier and Gropp 2006).
+//!
+//! # What a contract sees
+//! `Entry` is what one rank knows, of which no value is made. `Rule` is what holds of the words, the
+//! slots and all entries between any two steps of any ranks. For each kind of step there is a play: what
+//! it tells the seat that makes it (`Plays`).
+//!
+//! # What is proved
+//! - The rule holds at the start (`Linked`), and each play keeps it, as the callers of the table show by
+//!   the lemmas of this crate.
+//! - What the last steps on an own queue told is kept by queue (`Looks`), and a count of misses goes up
+//!   by one, and stands still at its last value (`Misses`, `one_more`).
+#![tactic(auto)]
+
+mod table;
+
+pub use table::{Board, Entry, Hand, Heads, Linked, Look, Looks, Misses, Place, one_more};
