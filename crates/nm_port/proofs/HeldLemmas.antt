@@ -1,0 +1,160 @@
+-- A packet that came by cell and wasn't passed on: it is held, it is passed on, or it was overtaken.
+use Rattle.std.proofs.Common.{◌≡◌, ◌≢◌, ℕ, suc, ◌+◌, ◌<◌, ◌≤◌, Option, Some, None}
+use Rattle.std.proofs.Common.{List, [], ◌∷◌, length, map, sym, refl, ap, ◌∙◌, inl, inr, subst}
+use Rattle.std.proofs.Common.{⊎_elim, arith}
+use Rattle.std.proofs.Math.Logic.{∥∥₁_elim}
+use Rattle.std.proofs.Props.{props}
+use Rattle.std.proofs.lemmas.List.Sums.{sum_by-set}
+use mathlib.Core.Logic.{dite}
+use native.Mathlib.Decide.{ℕ_discrete, dec_le}
+use base.Stored.{Coded-set}
+use denote.Struct.Declared.{row}
+use Rattle.std.specs.Coded.{coded_option}
+use Rattle.nm_types.specs.contracts.packets.Packet.{the_type}
+use Rattle.nm_types.specs.declared.packets.Packet.{Packet}
+use Rattle.nm_chain.specs.Sequence.{Has}
+use Rattle.nm_chain.proofs.SequenceLemmas.{each_has}
+use Rattle.nm_seats.specs.Update.{update}
+use Rattle.nm_seats.proofs.UpdateLemmas.{update_here, update_else}
+use Rattle.nm_cells.specs.declared.peers.Peer.{Peer}
+use Rattle.nm_cells.specs.declared.port.Port.{Port}
+use Rattle.nm_table.specs.Rule.{Load, from, number}
+use Rattle.nm_table.specs.Plays.{Overtaken}
+use Rattle.nm_cells.specs.Counted.{new_peer, peer_in, not_below, IsOneOf, with_peer, one_passed}
+use Rattle.nm_cells.specs.Counted.{all_unpassed}
+use Rattle.nm_cells.specs.Ports.{knows, taken_by, unpassed_by, IsUnpassed}
+use Rattle.nm_table.proofs.QueueLemmas.{below_yes, below_no}
+use Rattle.nm_cells.proofs.CountedLemmas.{one_of_has, one_number, some_unpassed, peer_here, peer_else}
+use Rattle.nm_cells.proofs.PortLemmas.{peer_low}
+use Rattle.nm_port.specs.Polls.{count_held, HoldsTheRest, NotOvertaken}
+
+-- one of these loads with the number k
+abbrev WithNumber : ℕ → List Load → Type 0
+WithNumber k xs = (y : Load) × IsOneOf y xs × (number y ≡ k)
+
+with_number : (k : ℕ) (xs : List Load) → Dec (WithNumber k xs)
+with_number k [] = no (λ h. h.1)
+with_number k (x ∷ xs) = dite (ℕ_discrete (number x) k) (λ e. yes (x, inl refl, e))
+    (λ ne. behind ne (with_number k xs)) where
+      behind : number x ≢ k → Dec (WithNumber k xs) → Dec (WithNumber k (x ∷ xs))
+      behind ne (yes h) = yes (h.0, inr h.1, h.2)
+      behind ne (no n) = no (λ h. ⊎_elim (λ e. ne (ap number (sym e) ∙ h.2))
+          (λ k. n (h.0, k, h.2)) h.1)
+
+-- two loads are equal in one way
+load_once : (y z : Load) → IsProp (y ≡ z)
+load_once = Coded-set (coded_option (row the_type).coded)
+
+module _ (p : Port) (x : Packet) (is : p.held ≡ Some x) where
+  abbrev came : List Load
+  came = from x.from (knows p).got
+
+  below : x.from < (knows p).ranks
+  below = ∥∥₁_elim p.counts (search props) (λ n. (n.holds x is).0)
+
+  left : taken_by p x.from ≤ x.seq
+  left = ∥∥₁_elim p.counts (search props) (λ n. (n.holds x is).2)
+
+  is_one : Dec (WithNumber x.seq came) → IsOneOf (Some x) came
+  is_one (yes h) = subst (λ y. IsOneOf y came) (∥∥₁_elim p.counts (load_once h.0 (Some x))
+      (λ n. one_number h.0 (Some x) came (n.each x.from below).rises h.1 (n.holds x is).1 h.2)) h.1
+  is_one (no n) = absurd (∥∥₁_elim p.counts (λ a b. absurd a)
+      (λ c. n (Some x, (c.holds x is).1, refl)))
+
+  -- a packet that is held came by cell and wasn't passed on
+  pub held_unpassed : IsUnpassed p x
+  held_unpassed = (below, is_one (with_number x.seq came), left)
+
+-- how many numbers aren't below t
+not_below_more : (t x : ℕ) (xs : List ℕ) → (t ≤ x → not_below t (x ∷ xs) ≡ suc (not_below t xs))
+    × (not_below t xs ≤ not_below t (x ∷ xs))
+not_below_more t x xs = let one : ℕ = 1 in let none : ℕ = 0 in
+    dite (dec_le (suc x) t)
+    (λ low. let e : not_below t (x ∷ xs) ≡ 0 + not_below t xs =
+    ap (λ u. u + not_below t xs) (below_yes (dec_le (suc x) t) none one low) in
+    ((λ far. absurd (omega arith)), omega arith))
+    (λ far. let e : not_below t (x ∷ xs) ≡ 1 + not_below t xs =
+    ap (λ u. u + not_below t xs) (below_no (dec_le (suc x) t) none one far) in
+    ((λ _. omega arith), omega arith))
+
+one_not_below : (t k : ℕ) (xs : List ℕ) → t ≤ k → Has k xs → 1 ≤ not_below t xs
+one_not_below t k [] far h = absurd h
+one_not_below t k (x ∷ xs) far h = let m = not_below_more t x xs in
+    ⊎_elim (λ e. let s = m.0 (omega arith) in omega arith)
+    (λ r. let s = one_not_below t k xs far r in let l = m.1 in omega arith) h
+
+two_not_below : (t j k : ℕ) (xs : List ℕ) → t ≤ j → t ≤ k → j ≢ k → Has j xs → Has k xs
+    → 2 ≤ not_below t xs
+two_not_below t j k [] fj fk ne hj hk = absurd hj
+two_not_below t j k (x ∷ xs) fj fk ne hj hk = let m = not_below_more t x xs in ⊎_elim
+    (λ e. ⊎_elim (λ u. absurd (ne (e ∙ sym u)))
+    (λ r. let s = m.0 (omega arith) in let o = one_not_below t k xs fk r in omega arith) hk)
+    (λ q. ⊎_elim
+    (λ u. let s = m.0 (omega arith) in let o = one_not_below t j xs fj q in omega arith)
+    (λ r. let s = two_not_below t j k xs fj fk ne q r in let l = m.1 in omega arith) hk) hj
+
+-- what one rank has left is a part of what all have
+one_of_all : (i : ℕ) (peers : List Peer) → i < length peers
+    → (peer_in peers i).unpassed ≤ all_unpassed peers
+one_of_all i peers low = let s = sum_by-set (λ (p : Peer). p.unpassed) peers i new_peer new_peer low
+    in omega arith
+
+module _ (p : Port) (x : Packet) (un : IsUnpassed p x) where
+  -- where it is the one that is left, and not the next one of its sender, it came before that one
+  pub is_overtaken : unpassed_by p ≤ 1 → x.seq ≢ taken_by p x.from
+      → Overtaken (knows p) x.from (taken_by p x.from)
+  is_overtaken few other = let i : ℕ = x.from in let t : ℕ = taken_by p i in
+      let numbers = map number (from i (knows p).got) in
+      let there = one_of_has (Some x) (from i (knows p).got) un.1 in
+      let far = un.2 in (
+        (x.seq, omega (arith, far, other), inr there),
+        λ came. ∥∥₁_elim p.counts (λ a b. absurd a) (λ n. let o = n.each i un.0 in
+            ⊎_elim (λ h. let l = each_has (λ k. k < t)
+            (map number (from i (knows p).got_box)) o.passed t h in omega arith)
+            (λ h. let two = two_not_below t t x.seq numbers (omega arith) far
+            (λ e. other (sym e)) h there in
+            let all = one_of_all i p.peers.items (peer_low p i un.0) in
+            let is = o.unpassed in omega (arith, two, all, is, few)) came),
+      )
+
+  module _ (next : x.seq ≡ taken_by p x.from) where
+    one_left : 0 < (peer_in p.peers.items x.from).unpassed
+    one_left = let e = knows p in ∥∥₁_elim p.counts (search props)
+        (λ n. some_unpassed e.put e.got e.put_box e.got_box e.box_full e.box_miss e.filling
+        e.emptying e.ranks p.peers.items p.held n x un next)
+
+    -- what is counted once it is passed on
+    pub passed_taken : (j : ℕ)
+        → (peer_in (with_peer one_passed x.from p.peers.items) j).taken
+        ≡ update (taken_by p) x.from (taken_by p x.from + 1) j
+    passed_taken j = let i : ℕ = x.from in let peers = p.peers.items in
+        let low = peer_low p i un.0 in dite (ℕ_discrete j i)
+        (λ e. ap (λ k. (peer_in (with_peer one_passed i peers) k).taken) e
+        ∙ ap (λ (u : Peer). u.taken) (peer_here one_passed i peers low)
+        ∙ sym (update_here (taken_by p) i (taken_by p i + 1) j e))
+        (λ ne. ap (λ (u : Peer). u.taken) (peer_else one_passed i j peers ne)
+        ∙ sym (update_else (taken_by p) i (taken_by p i + 1) j ne))
+
+    pub passed_unpassed : all_unpassed (with_peer one_passed x.from p.peers.items) + 1
+        ≡ unpassed_by p
+    passed_unpassed = let i : ℕ = x.from in let peers = p.peers.items in
+        let s = sum_by-set (λ (u : Peer). u.unpassed) peers i (one_passed (peer_in peers i)) new_peer
+        (peer_low p i un.0) in let left = one_left in omega arith
+
+-- Where no sender was overtaken, and no packet is held whose turn has come, none is held
+none_held : (p : Port) → HoldsTheRest p
+    → ((x : Packet) → p.held ≡ Some x → x.seq ≢ taken_by p x.from)
+    → ((i : ℕ) → i < (knows p).ranks → NotOvertaken p i) → p.held ≡ None
+none_held p rest later not = by_held p.held refl where
+  by_held : (h : Option Packet) → p.held ≡ h → p.held ≡ None
+  by_held None is = is
+  by_held (Some x) is = let un = held_unpassed p x is in
+      let one : unpassed_by p ≡ 1 = rest ∙ ap count_held is in
+      absurd (not x.from un.0 (is_overtaken p x un (omega arith) (later x is)))
+
+-- the same, where the looks at the boxes began after a look at the held packet, which changed nothing
+pub none_waits : (p q : Port) → q ≡ p → HoldsTheRest p
+    → ((x : Packet) → p.held ≡ Some x → x.seq ≢ taken_by p x.from)
+    → ((i : ℕ) → i < (knows p).ranks → NotOvertaken q i) → p.held ≡ None
+none_waits p q same rest later not =
+    none_held p rest later (λ i low. subst (λ (r : Port). NotOvertaken r i) same (not i low))

@@ -1,0 +1,3 @@
+pub mod SendLemmas
+pub mod HeldLemmas
+pub mod PollLemmas

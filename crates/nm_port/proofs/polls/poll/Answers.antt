@@ -1,0 +1,77 @@
+use Rattle.std.proofs.Common.{◌<◌, true, refl, ap, ◌∙◌, subst}
+use Rattle.nm_cells.specs.declared.port.Port.{Port}
+use Rattle.nm_table.specs.declared.table.Entry.{Entry}
+use Rattle.nm_cells.specs.Ports.{knows, holding, taken_by, unpassed_by}
+use Rattle.nm_port.specs.Sends.{HadMiss}
+use Rattle.nm_port.specs.Polls.{count_held, IsNext, with_all_missed}
+use Rattle.nm_port.proofs.SendLemmas.{hold_since}
+use Rattle.nm_port.proofs.HeldLemmas.{none_waits}
+use Rattle.nm_port.proofs.PollLemmas.{if_both, if_none, if_some, still_next, last_by_box, way_since}
+use Rattle.nm_port.proofs.PollLemmas.{polled_by, polled_on}
+use Rattle.nm_port.proofs.polls.poll.Goals as goal
+
+pub returns-in-Some-take_first-clause-next : goal.returns-in-Some-take_first-clause-next
+returns-in-Some-take_first-clause-next g c = let f = c.args.f.now in
+    let same = c.in_default.ensures.kept.0 in let new = c.take_first.new.port in
+    let x = c.in-Some-take_first.packet in let took = c.in-Some-take_first.ensures.took in (
+      subst (λ q. IsNext f q new x) same took.0,
+      last_by_box new x (knows c.pass_held.new.port).got_box took.1.0,
+    )
+
+pub returns-in-Some-take_first-clause-holding : goal.returns-in-Some-take_first-clause-holding
+returns-in-Some-take_first-clause-holding g c = λ k in_hand. ap (λ h. h k)
+    (c.take_first.ensures.held.2 ∙ ap holding c.in_default.ensures.kept.0)
+
+pub receive_next-requires-clause-nothing : goal.receive_next-requires-clause-nothing
+receive_next-requires-clause-nothing g c = let f = c.args.f.now in let p = c.args.port.now in
+    let kept = c.in_default.ensures.kept in
+    let missed = c.in_default-take_first.ensures.missed in
+    let none = none_waits p c.pass_held.new.port kept.0 c.requires.rest kept.1
+    (λ i low. missed.4 i (subst (λ n. i < n) c.requires.owns.2 low)) in
+    let held = c.take_first.ensures.held in (
+      held.1 ∙ ap unpassed_by kept.0 ∙ c.requires.rest ∙ ap count_held none,
+      held.0 ∙ ap (λ (q : Port). q.held) kept.0 ∙ none,
+    )
+
+pub returns-clause-next : goal.returns-clause-next
+returns-clause-next g c = let f = c.args.f.now in let p = c.args.port.now in
+    let now = c.take_first.new.port in let new = c.receive_next.new.port in
+    let missed = c.in_default-take_first.ensures.missed in
+    if_both c.receive_next.result (λ y n got. (
+      still_next f p now new y (missed.1 ∙ ap taken_by c.in_default.ensures.kept.0) n.0,
+      got,
+    )) c.receive_next.ensures.next c.receive_next.ensures.got
+
+pub returns-clause-way : goal.returns-clause-way
+returns-clause-way g c = let p = c.args.port.now in let now = c.take_first.new.port in
+    let new = c.receive_next.new.port in let same = c.in_default.ensures.kept.0 in
+    let seen = c.in_default-take_first.ensures.missed.0
+    ∙ ap (λ (q : Port). with_all_missed (knows q)) same in
+    let held = c.take_first.ensures.held.0 ∙ ap (λ (q : Port). q.held) same in
+    if_some c.receive_next.result (λ y n. (
+      way_since p now new (ap (λ (e : Entry). e.got_box) seen) (ap (λ (e : Entry). e.got) seen) y held
+          n.1,
+      polled_on (knows p) (knows now) (knows new) (polled_by (knows p) (knows now) _ seen refl) n.2,
+    )) c.receive_next.ensures.next
+
+pub returns-clause-holding : goal.returns-clause-holding
+returns-clause-holding g c = let p = c.args.port.now in let now = c.take_first.new.port in
+    let same = c.in_default.ensures.kept.0 in
+    let seen = c.in_default-take_first.ensures.missed.0
+    ∙ ap (λ (q : Port). with_all_missed (knows q)) same in
+    hold_since p now c.receive_next.new.port (ap (λ (e : Entry). e.hands) seen)
+    (c.take_first.ensures.held.2 ∙ ap holding same) c.receive_next.ensures.holding
+
+pub returns-clause-none : goal.returns-clause-none
+returns-clause-none g c = let p = c.args.port.now in let new = c.receive_next.new.port in
+    let kept = c.in_default.ensures.kept in
+    let missed = c.in_default-take_first.ensures.missed in
+    let none = none_waits p c.pass_held.new.port kept.0 c.requires.rest kept.1
+    (λ i low. missed.4 i (subst (λ n. i < n) c.requires.owns.2 low)) in
+    let seen = missed.0 ∙ ap (λ (q : Port). with_all_missed (knows q)) kept.0 in
+    if_none c.receive_next.result (λ h. (
+      none,
+      h.1,
+      subst (λ e. HadMiss true e (knows new)) seen h.0,
+      h.2 ∙ missed.1 ∙ ap taken_by kept.0,
+    )) c.receive_next.ensures.none

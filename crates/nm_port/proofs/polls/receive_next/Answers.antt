@@ -1,0 +1,28 @@
+use Rattle.std.proofs.Common.{true, ap, ◌∙◌}
+use Rattle.nm_table.specs.Plays.{heads_of}
+use Rattle.nm_cells.specs.Ports.{knows}
+use Rattle.nm_port.proofs.PollLemmas.{if_both, if_some, still_next, way_of, polled_of, got_of}
+use Rattle.nm_port.proofs.polls.receive_next.Goals as goal
+
+pub returns-clause-next : goal.returns-clause-next
+returns-clause-next g c = let f = c.args.f.now in let old = c.args.port.now in
+    let now = c.receive.new.port in let new = c.pass_or_hold.new.port in
+    let x = c.in_ok-packet.packet in let came = c.in_ok-packet.ensures.came.2 in
+    let end = heads_of true (knows now) in let none = c.requires.nothing.1 in
+    if_both c.pass_or_hold.result (λ y n w. (
+      still_next f old now new y c.receive.ensures.held.1 n,
+      way_of old now new x y end none came w,
+      polled_of old now new x y end none came w,
+    )) c.pass_or_hold.ensures.next c.pass_or_hold.ensures.way
+
+pub returns-clause-got : goal.returns-clause-got
+returns-clause-got g c = let old = c.args.port.now in
+    let now = c.receive.new.port in let new = c.pass_or_hold.new.port in
+    let x = c.in_ok-packet.packet in let came = c.in_ok-packet.ensures.came.2 in
+    let end = heads_of true (knows now) in
+    if_some c.pass_or_hold.result (λ y w. got_of old now new x y end c.requires.nothing.1 came w)
+    c.pass_or_hold.ensures.way
+
+pub returns-clause-holding : goal.returns-clause-holding
+returns-clause-holding g c = λ k in_hand. ap (λ h. h k) c.pass_or_hold.ensures.holding
+    ∙ c.receive.ensures.holding k in_hand

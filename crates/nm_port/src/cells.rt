@@ -1,0 +1,32 @@
+//! The first cell of an own queue.
+
+ghost use Rattle.std.specs.Prelude.{◌≡◌, ◌+◌, ◌≤◌, IfSome, IfNone};
+ghost use Rattle.nm_cells.specs.Ports.{Owns, SameTaken, Takes, knows, holding, IsOwn, is_receive};
+ghost use Rattle.nm_port.specs.Sends.{HadMiss};
+
+use nm_cells::{Cell, Fabric, Port, Queue};
+use nm_queue::dequeue;
+use nm_seats::Steps;
+use std::sync::ledger::Ledger;
+
+// Takes the first cell of an own queue, or none where that one had a miss.
+pub(crate) fn take_cell<L: Ledger>(
+    f: &Fabric,
+    port: &mut Port,
+    q: Queue,
+    steps: &mut Steps<L>,
+) -> Option<Cell>
+    requires owns { Owns f.now port.old }
+    requires own { IsOwn port.old q }
+    ensures owns { Owns f.now port.new × (port.new.rank ≡ port.old.rank) }
+    ensures took { IfSome result (Takes (is_receive q) f.now port.old port.new) }
+    ensures none { IfNone result (HadMiss (is_receive q) (knows port.old) (knows port.new)
+        × SameTaken port.old port.new × (port.new.hands ≡ port.old.hands)
+        × (holding port.new ≡ holding port.old)) }
+    ensures bound { steps.new ≤ steps.old + 5 }
+{
+    match dequeue(f, port, q, steps) {
+        Ok(cell) => Some(cell),
+        Err(_) => None,
+    }
+}

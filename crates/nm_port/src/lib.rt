@@ -1,0 +1,40 @@
+//! A rank's port: sending a packet by box or by cell, and polling for the next packet of any rank.
+//!
+//! The packets of an ordered pair of ranks are numbered, and race on two ways: by box, or by cell.
+//! `poll` merges the two by number. A packet that came by cell before one with a smaller number is
+//! held; then the first one that is missing stands in the pair's next box, so the merge never
+//! stalls.
+//!
+//! ```text
+//!   send   a short packet by box; where that is full, or for a longer one, by an own cell
+//!   poll   the held packet, where its turn has come
+//!          else the awaited packet of the first rank whose next box has it
+//!          else the first packet of the receive queue, where its turn has come; its cell goes home
+//!          else that one is held, and the awaited packet of its sender is in the next box: that
+//! ```
+//!
+//! # What is proved
+//! - `send` answers by which way the packet went, or gives it back with its causes: the box was
+//!   full or too short, and the own free queue had a miss (clauses `by_box`, `by_cell`, `sent`,
+//!   `back`). It takes at most 9 word steps (clause `bound`).
+//! - `poll` gives the packet of its sender whose number is awaited and no other (clauses `next`,
+//!   `way`). It gives none only where nothing was held and nothing is, no next box had the awaited
+//!   number and the receive queue had a miss (clause `none`). It takes at most as many word steps
+//!   as there are ranks, and 10 (clause `bound`).
+//! - Neither takes memory or waits. The cells in hand stay, with what they hold (clause `holding`),
+//!   and so does the number of things in hand, but for a box that the caller had at work (clause
+//!   `hands`).
+#![tactic(auto)]
+
+mod cells;
+mod polls;
+#[cfg(test)]
+mod race;
+mod sends;
+#[cfg(test)]
+mod tests;
+
+pub use nm_cells::{Closed, Fabric, Port};
+pub use nm_types::Path;
+pub use polls::poll;
+pub use sends::send;
