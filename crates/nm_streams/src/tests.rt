@@ -1,11 +1,14 @@
-//! Strays, and a stream with a packet of each kind.
+//! Strays, a stream with a packet of each kind, and the pieces of a message.
 
-ghost use Rattle.std.specs.Prelude.{◌≡◌, ◌<◌, ◌≤◌};
+ghost use Rattle.std.specs.Prelude.{◌≡◌, ◌<◌, ◌≤◌, length};
 ghost use Rattle.nm_types.specs.declared.limits.TheConstants.{MAX_PACKETS, MAX_PAYLOAD, MAX_STAMP};
 
-use crate::{Made, Stream};
+use crate::{Made, Stream, pieces};
 use nm_history::Happened;
-use nm_types::{MAX_PACKETS, MAX_PAYLOAD, MAX_STAMP, Packet, Payload, What};
+use nm_rndv::Grants;
+use nm_types::{
+    Chunk, MAX_PACKETS, MAX_PAYLOAD, MAX_PIECE, MAX_STAMP, Packet, Payload, Piece, What,
+};
 use std::process::Abort;
 use std::test::Fail;
 
@@ -131,5 +134,45 @@ fn packets_make_things_happen(rt: HostRuntime) -> Result<(), Fail> {
     assert_eq!(rt; stream.missing(), 0);
     let again = packet(What::Withdraw { n: 4 }, 0, 11, 1);
     assert!(rt; !stream.continues(EAGER, &again, false));
+    Ok(())
+}
+
+/// Takes so many bytes of message 3 of rank 0 from this place on, and tells what that made happen.
+fn take_piece(
+    rt: &impl Abort,
+    grants: &mut Grants,
+    at: u32,
+    size: usize,
+) -> Result<&'static str, Fail>
+    requires { 0 < length grants.old.grants }
+    ensures { 0 < length grants.new.grants }
+{
+    assert!(rt; size <= MAX_PIECE as usize);
+    let bytes = [7; 1024];
+    let piece = Piece {
+        from: 0,
+        number: 0,
+        n: 3,
+        at,
+        bytes: Chunk::of(&bytes[..size]),
+    };
+    if !pieces::continues(grants, &piece) {
+        return Ok("stray");
+    }
+    assert!(rt; grants.fits(&piece));
+    let joined = grants.piece(&piece)?;
+    Ok(name(&pieces::event(&piece, joined)))
+}
+
+#[test]
+fn pieces_come_in_order(rt: HostRuntime) -> Result<(), Fail> {
+    let mut grants = Grants::new(rt.alloc(), 1)?;
+    grants.grant(0, 3, 1500)?;
+    assert_eq!(rt; take_piece(&rt, &mut grants, 1024, 476)?, "stray");
+    assert_eq!(rt; take_piece(&rt, &mut grants, 0, 1023)?, "stray");
+    assert_eq!(rt; take_piece(&rt, &mut grants, 0, 1024)?, "nothing");
+    assert_eq!(rt; take_piece(&rt, &mut grants, 0, 1024)?, "stray");
+    assert_eq!(rt; take_piece(&rt, &mut grants, 1024, 476)?, "whole");
+    assert_eq!(rt; take_piece(&rt, &mut grants, 1500, 0)?, "stray");
     Ok(())
 }
