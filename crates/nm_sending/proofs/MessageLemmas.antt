@@ -1,0 +1,147 @@
+-- The packets of an eager message.
+use Rattle.std.proofs.Common.{◌≡◌, ℕ, ◌+◌, ◌==◌, Bool, true, false, ◌&&◌, not, cond}
+use Rattle.std.proofs.Common.{List, [], ◌∷◌, ◌++◌, length, map, take, refl, sym, ◌∙◌, ap, subst, arith}
+use Rattle.std.proofs.lemmas.List.{take_all}
+use Rattle.std.proofs.lemmas.List.FromFn.{length-map-range_with_len}
+use Rattle.nm_types.specs.Bodies.{body_len, bytes_of, generated_byte}
+use Rattle.nm_types.specs.declared.scripts.Body.{Body}
+use Rattle.nm_types.specs.declared.scripts.Body.TheVariants.{Hex, Gen}
+use Rattle.nm_types.specs.declared.messages.How.{How}
+use Rattle.nm_types.specs.declared.limits.TheConstants.{MAX_PAYLOAD}
+use Rattle.nm_types.specs.declared.packets.Packet.{Packet}
+use Rattle.nm_types.specs.declared.packets.What.TheVariants as what
+use Rattle.nm_history.specs.declared.events.Event.{Event}
+use Rattle.nm_history.specs.declared.events.Happened.TheVariants.{Send}
+use Rattle.nm_history.specs.Outgoing.{AreCalled, Called, bare, part_at, eager_packets}
+use Rattle.nm_history.specs.Outgoing.{further_packets, packets_by, send_packets}
+use Rattle.nm_history.specs.Sends.{Sent, is_ask}
+use Rattle.nm_eager.specs.Cutting.{Cutting, IsMessageOf, packet_count}
+use Rattle.nm_outbox.specs.Letters.{packets_for}
+use Rattle.nm_outbox.specs.Outboxes.{OutboxView, put_to}
+use Rattle.nm_protocol.proofs.Basic.{eq_true, same_number}
+use Rattle.nm_sending.specs.Departures.{ends_to}
+use Rattle.nm_sending.specs.Sent.{Puts, PutsFirst}
+use Rattle.nm_sending.proofs.EndLemmas.{ends-append}
+use Rattle.nm_sending.proofs.PutLemmas.{for_receiver, ends_receiver}
+
+-- a body has its length
+pub bytes_many : (body : Body) → length (bytes_of body) ≡ body_len body
+bytes_many (Hex bytes) = refl
+bytes_many (Gen len) = length-map-range_with_len generated_byte 0 len
+
+-- how many packets an eager message calls for
+packets_many : (s : Sent) (body : List ℕ) → length (eager_packets s body) ≡ 1 + further_packets s.len
+packets_many s body = omega (
+  arith,
+  length-map-range_with_len {X = Called} (λ k. record {
+    stamp = s.stamp;
+    what = what.More s.n;
+    payload = part_at MAX_PAYLOAD body k;
+  }) 1 (further_packets s.len),
+)
+
+-- all packets of an eager message were put
+module _ (count : ℕ) (cutting : Cutting) (from to n tag ctx stamp : ℕ) (body : Body) (how : How)
+    (old reserved new : OutboxView) (spare : ℕ) (room : reserved ≡ record old { spare = spare })
+    (is : cutting ≡ record { from = from; n = n; tag = tag; ctx = ctx; body = bytes_of body; given = 0 })
+    (all : count ≡ packet_count cutting) (eager : is_ask how ≡ false)
+    (puts : PutsFirst count cutting to n stamp reserved new) where
+  the_send : ℕ → Sent
+  the_send line = record {
+    stamp = stamp;
+    to = to;
+    n = n;
+    tag = tag;
+    ctx = ctx;
+    len = body_len body;
+    how = how;
+    line = line;
+  }
+
+  bytes : cutting.body ≡ bytes_of body
+  bytes = ap (λ (x : Cutting). x.body) is
+
+  carried : (line t : ℕ) → AreCalled old.me (put_to old t)
+      (cond (to == t) (send_packets (the_send line) (bytes_of body)) []) (packets_for t puts.added)
+  unfolding the_send
+  carried line t =
+      subst (λ (ps : List Packet). AreCalled old.me (put_to old t)
+      (cond (to == t) (send_packets (the_send line) (bytes_of body)) []) ps)
+      (sym (for_receiver to puts.added puts.receiver t)) (by_test (to == t) refl)
+    where
+      s : Sent
+      s = record {
+        stamp = stamp;
+        to = to;
+        n = n;
+        tag = tag;
+        ctx = ctx;
+        len = body_len body;
+        how = how;
+        line = line;
+      }
+
+      message : IsMessageOf cutting s
+      message = record {
+        n = sym (ap (λ (x : Cutting). x.n) is);
+        tag = sym (ap (λ (x : Cutting). x.tag) is);
+        ctx = sym (ap (λ (x : Cutting). x.ctx) is);
+        len = sym (bytes_many body) ∙ ap (λ (bs : List ℕ). length bs) (sym bytes);
+      }
+
+      whole : take count (eager_packets s cutting.body) ≡ send_packets s (bytes_of body)
+      whole =
+          take_all count (eager_packets s cutting.body)
+          (let many = packets_many s cutting.body in
+          let len : length cutting.body ≡ body_len body = ap (λ (bs : List ℕ). length bs) bytes
+          ∙ bytes_many body in
+          let further : further_packets (length cutting.body)
+          ≡ further_packets (body_len body) = ap further_packets len in
+          omega (arith, many, all, further))
+          ∙ ap (λ (bs : List ℕ). eager_packets s bs) bytes
+          ∙ sym (ap (λ (b : Bool). cond b (bare stamp (what.Ask tag ctx (body_len body)) ∷ [])
+          (eager_packets s (bytes_of body))) eager)
+
+      put : AreCalled old.me (put_to old to) (send_packets s (bytes_of body)) (map (λ l. l.packet) puts.added)
+      put = subst (λ (cs : List Called). AreCalled old.me (put_to old to) cs
+          (map (λ l. l.packet) puts.added)) whole
+          (subst (λ (o : OutboxView). AreCalled o.me (put_to o to) (take count (eager_packets s cutting.body))
+          (map (λ l. l.packet) puts.added)) room (puts.carried s message (omega arith)))
+
+      by_test : (b : Bool) → (to == t) ≡ b → AreCalled old.me (put_to old t)
+          (cond b (send_packets s (bytes_of body)) []) (cond b (map (λ l. l.packet) puts.added) [])
+      by_test true e = subst (λ (k : ℕ). AreCalled old.me (put_to old k) (send_packets s (bytes_of body))
+          (map (λ l. l.packet) puts.added)) (same_number to t e) put
+      by_test false e = tt
+
+  pub puts_message : (h : List Event) (line : ℕ)
+      → Puts (λ other. packets_by (λ s. bytes_of body) other h stamp
+      (Send to n tag ctx (body_len body) how line)) stamp old new
+  unfolding the_send
+  puts_message h line = record {
+    added = puts.added;
+    letters = ap (λ (o : OutboxView). o.letters) puts.outbox
+        ∙ ap (λ (o : OutboxView). o.letters ++ puts.added) room;
+    carried = carried line;
+    stamps = puts.stamps;
+    popped = ap (λ (o : OutboxView). o.popped) puts.outbox ∙ ap (λ (o : OutboxView). o.popped) room;
+    me = ap (λ (o : OutboxView). o.me) puts.outbox ∙ ap (λ (o : OutboxView). o.me) room;
+  }
+
+  -- and the last one ends it
+  pub ends_message : (t : ℕ) → ends_to t new.letters
+      ≡ ends_to t old.letters ++ cond (to == t && not (is_ask how)) (n ∷ []) []
+  ends_message t =
+      ap (λ (o : OutboxView). ends_to t o.letters) puts.outbox
+      ∙ ap (λ (o : OutboxView). ends_to t (o.letters ++ puts.added)) room
+      ∙ ends-append t old.letters puts.added
+      ∙ ap (λ (ns : List ℕ). ends_to t old.letters ++ ns)
+      (ends_receiver to puts.added puts.receiver t
+      ∙ ap (λ (ns : List ℕ). cond (to == t) ns []) (puts.ends
+      ∙ ap (λ (b : Bool). cond b (n ∷ []) []) (eq_true count (packet_count cutting) all))
+      ∙ by_test (to == t)
+      ∙ ap (λ (b : Bool). cond (to == t && not b) (n ∷ []) []) (sym eager))
+    where
+      by_test : (b : Bool) → cond b (n ∷ []) [] ≡ cond (b && true) (n ∷ []) []
+      by_test true = refl
+      by_test false = refl

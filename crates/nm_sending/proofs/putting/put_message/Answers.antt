@@ -1,0 +1,38 @@
+-- The packets of a message, or the one that asks for it.
+use Rattle.std.proofs.Common.{◌≡◌, ◌+◌, ℕ, length, sym, ◌∙◌, ap}
+use Rattle.nm_history.specs.Outgoing.{further_packets}
+use Rattle.nm_history.specs.Sends.{is_ask}
+use Rattle.nm_eager.specs.Cutting.{Cutting, packet_count}
+use Rattle.nm_sending.proofs.MessageLemmas.{bytes_many, puts_message, ends_message}
+use Rattle.nm_sending.proofs.putting.put_message.Goals as goal
+
+all_packets : (count len : ℕ) (cutting : Cutting) (bytes : ℕ) → count ≡ 1 + further_packets len → len ≡ bytes
+    → length cutting.body ≡ bytes → count ≡ packet_count cutting
+all_packets count len cutting bytes is many body =
+    is ∙ ap (λ (x : ℕ). 1 + further_packets x) (many ∙ sym body)
+
+pub put_packets-requires-clause-all : goal.put_packets-requires-clause-all
+put_packets-requires-clause-all c =
+    all_packets c.packets_of-count.result c.len-len.result c.new-cutter.result _ c.packets_of-count.ensures
+    c.len-len.ensures
+    (ap (λ (x : Cutting). length x.body) c.new-cutter.ensures ∙ bytes_many c.args.body)
+
+pub returns-in_ok-reserve-in-Eager-clause-puts : goal.returns-in_ok-reserve-in-Eager-clause-puts
+returns-in_ok-reserve-in-Eager-clause-puts c =
+    puts_message c.packets_of-count.result c.new-cutter.result c.args.heading.from c.args.heading.to
+    c.args.heading.n c.args.heading.tag c.args.heading.ctx c.args.stamp c.args.body c.args.heading.how
+    c.args.outbox.now c.reserve.new.self c.put_packets.new.outbox _ c.reserve.ensures.same
+    c.new-cutter.ensures
+    (all_packets c.packets_of-count.result c.len-len.result c.new-cutter.result _ c.packets_of-count.ensures
+    c.len-len.ensures (ap (λ (x : Cutting). length x.body) c.new-cutter.ensures ∙ bytes_many c.args.body))
+    (ap is_ask c.in-Eager.is) c.put_packets.ensures
+
+pub returns-in_ok-reserve-in-Eager-clause-ends : goal.returns-in_ok-reserve-in-Eager-clause-ends
+returns-in_ok-reserve-in-Eager-clause-ends c =
+    ends_message c.packets_of-count.result c.new-cutter.result c.args.heading.from c.args.heading.to
+    c.args.heading.n c.args.heading.tag c.args.heading.ctx c.args.stamp c.args.body c.args.heading.how
+    c.args.outbox.now c.reserve.new.self c.put_packets.new.outbox _ c.reserve.ensures.same
+    c.new-cutter.ensures
+    (all_packets c.packets_of-count.result c.len-len.result c.new-cutter.result _ c.packets_of-count.ensures
+    c.len-len.ensures (ap (λ (x : Cutting). length x.body) c.new-cutter.ensures ∙ bytes_many c.args.body))
+    (ap is_ask c.in-Eager.is) c.put_packets.ensures

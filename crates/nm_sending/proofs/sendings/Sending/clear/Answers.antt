@@ -1,0 +1,205 @@
+-- A message that was sent by asking is cleared.
+use Rattle.std.proofs.Common.{◌≡◌, ◌-◌, ◌<◌, ◌∷◌, [], length, refl, sym, ◌∙◌, ap}
+use Rattle.std.proofs.Common.{subst, arith}
+use Rattle.std.proofs.Common.{false, Option}
+use Rattle.std.specs.Option.{option_map_or}
+use Rattle.std.proofs.lemmas.Option.{slice_get_within}
+use Rattle.nm_history.specs.declared.events.Happened.TheVariants.{Out}
+use Rattle.nm_rndv.specs.declared.asked.State.{State}
+use Rattle.nm_rndv.specs.Offers.{is_waiting}
+use Rattle.nm_sending.specs.contracts.sendings.Sending.{the_view}
+use Rattle.nm_sending.specs.Departures.{SendingView}
+use Rattle.nm_sending.specs.Sent.{AreSent, Keeps, MayBeCleared}
+use Rattle.nm_sending.specs.Tables.{AreTables}
+use Rattle.nm_sending.proofs.ClearLemmas.{asks, after-clear, at_once, clear_empty, cleared_view}
+use Rattle.nm_sending.proofs.ClearLemmas.{full-tables, full-kept, empty-tables, empty-kept, empty-counted}
+use Rattle.nm_sending.proofs.TableLemmas.{rows_now, same_departure}
+use Rattle.nm_sending.proofs.sendings.Sending.clear.Goals as goal
+
+pub cleared-is_out-requires-clause-in_range : goal.cleared-is_out-requires-clause-in_range
+cleared-is_out-requires-clause-in_range c =
+    let to = subst (λ (v : SendingView). c.args.to < length v.outbox.popped)
+    (sym c.self.view_is) c.requires.to in
+    omega (arith, to, c.self.invariant.letters, c.self.invariant.offers)
+
+pub cleared-is_out-requires-clause-asked : goal.cleared-is_out-requires-clause-asked
+cleared-is_out-requires-clause-asked c =
+    let a = c.self.inside in
+    let may = subst (λ (v : SendingView). MayBeCleared v c.args.to c.args.n)
+    (sym c.self.view_is) c.requires.may in
+    let ask = asks a.me a.ranks (the_view a) c.self.invariant c.args.to c.args.n may in
+    ap (λ (o : Option State). option_map_or is_waiting o false) ask.state
+
+pub get-requires : goal.get-requires
+get-requires c =
+    let to = subst (λ (v : SendingView). c.args.to < length v.outbox.popped)
+    (sym c.self.view_is) c.requires.to in
+    omega (arith, to, c.self.invariant.letters, c.self.invariant.rows)
+
+pub unwrap-departure-requires : goal.unwrap-departure-requires
+unwrap-departure-requires c =
+    let a = c.self.inside in
+    let may = subst (λ (v : SendingView). MayBeCleared v c.args.to c.args.n)
+    (sym c.self.view_is) c.requires.may in
+    let ask = asks a.me a.ranks (the_view a) c.self.invariant c.args.to c.args.n may in
+    rw (c.get.ensures, ask.there) refl
+
+pub set-requires-clause-to : goal.set-requires-clause-to
+set-requires-clause-to c =
+    let to = subst (λ (v : SendingView). c.args.to < length v.outbox.popped)
+    (sym c.self.view_is) c.requires.to in
+    omega (arith, to, c.self.invariant.letters, c.self.invariant.rows)
+
+pub set-requires-clause-n : goal.set-requires-clause-n
+set-requires-clause-n c =
+    slice_get_within _ _ c.unwrap-departure.result (sym c.get.ensures ∙ c.unwrap-departure.ensures)
+
+pub overflow_sub-self : goal.overflow_sub-self
+overflow_sub-self c =
+    let a = c.self.inside in
+    let to = subst (λ (v : SendingView). c.args.to < length v.outbox.popped)
+    (sym c.self.view_is) c.requires.to in
+    let may = subst (λ (v : SendingView). MayBeCleared v c.args.to c.args.n)
+    (sym c.self.view_is) c.requires.may in
+    let ask = asks a.me a.ranks (the_view a) c.self.invariant c.args.to c.args.n may in
+    let empty = at_once (the_view a) c.args.to c.args.n ask c.cleared-is_out.result
+    c.cleared-is_out.ensures.empty
+    ∙ c.if-is_out.true in
+    let rows = rows_now c.set.new.self.rows a.departures.rows c.args.to c.args.n c.unwrap-departure.result
+    c.left.result ask.departure c.set.ensures c.left.ensures
+    (same_departure (sym c.get.ensures ∙ c.unwrap-departure.ensures) ask.there) in
+    omega (
+      arith,
+      empty-counted a.me a.ranks (the_view a) c.self.invariant c.args.to c.args.n
+          (omega (arith, to, c.self.invariant.letters)) ask c.set.new.self.rows (a.staying - 1) empty rows,
+    )
+
+pub invariant_of-self : goal.invariant_of-self
+invariant_of-self c =
+    let a = c.self.inside in
+    let to = subst (λ (v : SendingView). c.args.to < length v.outbox.popped)
+    (sym c.self.view_is) c.requires.to in
+    let may = subst (λ (v : SendingView). MayBeCleared v c.args.to c.args.n)
+    (sym c.self.view_is) c.requires.may in
+    let ask = asks a.me a.ranks (the_view a) c.self.invariant c.args.to c.args.n may in
+    let empty = at_once (the_view a) c.args.to c.args.n ask c.cleared-is_out.result
+    c.cleared-is_out.ensures.empty
+    ∙ c.if-is_out.true in
+    let rows = rows_now c.set.new.self.rows a.departures.rows c.args.to c.args.n c.unwrap-departure.result
+    c.left.result ask.departure c.set.ensures c.left.ensures
+    (same_departure (sym c.get.ensures ∙ c.unwrap-departure.ensures) ask.there) in
+    let more = empty-counted a.me a.ranks (the_view a) c.self.invariant c.args.to c.args.n
+    (omega (arith, to, c.self.invariant.letters)) ask c.set.new.self.rows (a.staying - 1) empty rows in
+    cleared_view (λ (v : SendingView). AreTables a.me a.ranks v) (the_view a) c.args.to c.args.n
+    c.set.new.self.rows (a.staying - 1) c.cleared-is_out.new.self c.cleared-is_out.ensures.cleared
+    (empty-tables a.me a.ranks (the_view a) c.self.invariant c.args.to c.args.n
+    (omega (arith, to, c.self.invariant.letters)) ask c.set.new.self.rows (a.staying - 1) empty rows
+    (omega (arith, more)))
+
+pub invariant_of-self-else-is_out : goal.invariant_of-self-else-is_out
+invariant_of-self-else-is_out c =
+    let a = c.self.inside in
+    let to = subst (λ (v : SendingView). c.args.to < length v.outbox.popped)
+    (sym c.self.view_is) c.requires.to in
+    let may = subst (λ (v : SendingView). MayBeCleared v c.args.to c.args.n)
+    (sym c.self.view_is) c.requires.may in
+    let ask = asks a.me a.ranks (the_view a) c.self.invariant c.args.to c.args.n may in
+    let full = at_once (the_view a) c.args.to c.args.n ask c.cleared-is_out.result
+    c.cleared-is_out.ensures.empty
+    ∙ c.if-is_out.false in
+    cleared_view (λ (v : SendingView). AreTables a.me a.ranks v) (the_view a) c.args.to c.args.n
+    a.departures.rows a.staying c.cleared-is_out.new.self c.cleared-is_out.ensures.cleared
+    (full-tables a.me a.ranks (the_view a) c.self.invariant c.args.to c.args.n
+    (omega (arith, to, c.self.invariant.letters)) ask a.departures.rows a.staying full refl refl)
+
+pub returns-then-is_out-clause-value : goal.returns-then-is_out-clause-value
+returns-then-is_out-clause-value c =
+    let a = c.self.inside in
+    let to = subst (λ (v : SendingView). c.args.to < length v.outbox.popped)
+    (sym c.self.view_is) c.requires.to in
+    let may = subst (λ (v : SendingView). MayBeCleared v c.args.to c.args.n)
+    (sym c.self.view_is) c.requires.may in
+    let ask = asks a.me a.ranks (the_view a) c.self.invariant c.args.to c.args.n may in
+    λ h was. sym (at_once (the_view a) c.args.to c.args.n ask c.cleared-is_out.result
+    c.cleared-is_out.ensures.empty)
+    ∙ clear_empty a.me a.ranks (the_view a) c.self.invariant c.args.to c.args.n
+    (omega (arith, to, c.self.invariant.letters)) ask a.departures.rows a.staying h
+    (subst (λ (v : SendingView). AreSent v h) (sym c.self.view_is) was)
+
+pub returns-then-is_out-clause-kept : goal.returns-then-is_out-clause-kept
+returns-then-is_out-clause-kept c =
+    let a = c.self.inside in
+    let to = subst (λ (v : SendingView). c.args.to < length v.outbox.popped)
+    (sym c.self.view_is) c.requires.to in
+    let may = subst (λ (v : SendingView). MayBeCleared v c.args.to c.args.n)
+    (sym c.self.view_is) c.requires.may in
+    let ask = asks a.me a.ranks (the_view a) c.self.invariant c.args.to c.args.n may in
+    let empty = at_once (the_view a) c.args.to c.args.n ask c.cleared-is_out.result
+    c.cleared-is_out.ensures.empty
+    ∙ c.if-is_out.true in
+    let rows = rows_now c.set.new.self.rows a.departures.rows c.args.to c.args.n c.unwrap-departure.result
+    c.left.result ask.departure c.set.ensures c.left.ensures
+    (same_departure (sym c.get.ensures ∙ c.unwrap-departure.ensures) ask.there) in
+    let new = after-clear a.me a.ranks (the_view a) c.self.invariant c.args.to c.args.n
+    (omega (arith, to, c.self.invariant.letters)) ask c.set.new.self.rows (a.staying - 1) in
+    rw c.if-is_out.true
+    (cleared_view (λ (v : SendingView). Keeps c.args.self.now v (Out c.args.to c.args.n ∷ [])) (the_view a)
+    c.args.to c.args.n c.set.new.self.rows (a.staying - 1) c.cleared-is_out.new.self
+    c.cleared-is_out.ensures.cleared
+    (subst (λ (v : SendingView). Keeps v new (Out c.args.to c.args.n ∷ [])) c.self.view_is
+    (empty-kept a.me a.ranks (the_view a) c.self.invariant c.args.to c.args.n
+    (omega (arith, to, c.self.invariant.letters)) ask c.set.new.self.rows (a.staying - 1) empty rows)))
+
+pub returns-then-is_out-clause-counted : goal.returns-then-is_out-clause-counted
+returns-then-is_out-clause-counted c =
+    let a = c.self.inside in
+    let to = subst (λ (v : SendingView). c.args.to < length v.outbox.popped)
+    (sym c.self.view_is) c.requires.to in
+    let may = subst (λ (v : SendingView). MayBeCleared v c.args.to c.args.n)
+    (sym c.self.view_is) c.requires.may in
+    let ask = asks a.me a.ranks (the_view a) c.self.invariant c.args.to c.args.n may in
+    let empty = at_once (the_view a) c.args.to c.args.n ask c.cleared-is_out.result
+    c.cleared-is_out.ensures.empty
+    ∙ c.if-is_out.true in
+    let rows = rows_now c.set.new.self.rows a.departures.rows c.args.to c.args.n c.unwrap-departure.result
+    c.left.result ask.departure c.set.ensures c.left.ensures
+    (same_departure (sym c.get.ensures ∙ c.unwrap-departure.ensures) ask.there) in
+    let more = empty-counted a.me a.ranks (the_view a) c.self.invariant c.args.to c.args.n
+    (omega (arith, to, c.self.invariant.letters)) ask c.set.new.self.rows (a.staying - 1) empty rows in
+    let view : c.args.self.now.staying
+    ≡ a.staying = ap (λ (v : SendingView). v.staying) (sym c.self.view_is) in
+    rw c.if-is_out.true (omega (arith, view, more))
+
+pub returns-else-is_out-clause-value : goal.returns-else-is_out-clause-value
+returns-else-is_out-clause-value c =
+    let a = c.self.inside in
+    let to = subst (λ (v : SendingView). c.args.to < length v.outbox.popped)
+    (sym c.self.view_is) c.requires.to in
+    let may = subst (λ (v : SendingView). MayBeCleared v c.args.to c.args.n)
+    (sym c.self.view_is) c.requires.may in
+    let ask = asks a.me a.ranks (the_view a) c.self.invariant c.args.to c.args.n may in
+    λ h was. sym (at_once (the_view a) c.args.to c.args.n ask c.cleared-is_out.result
+    c.cleared-is_out.ensures.empty)
+    ∙ clear_empty a.me a.ranks (the_view a) c.self.invariant c.args.to c.args.n
+    (omega (arith, to, c.self.invariant.letters)) ask a.departures.rows a.staying h
+    (subst (λ (v : SendingView). AreSent v h) (sym c.self.view_is) was)
+
+pub returns-else-is_out-clause-kept : goal.returns-else-is_out-clause-kept
+returns-else-is_out-clause-kept c =
+    let a = c.self.inside in
+    let to = subst (λ (v : SendingView). c.args.to < length v.outbox.popped)
+    (sym c.self.view_is) c.requires.to in
+    let may = subst (λ (v : SendingView). MayBeCleared v c.args.to c.args.n)
+    (sym c.self.view_is) c.requires.may in
+    let ask = asks a.me a.ranks (the_view a) c.self.invariant c.args.to c.args.n may in
+    let full = at_once (the_view a) c.args.to c.args.n ask c.cleared-is_out.result
+    c.cleared-is_out.ensures.empty
+    ∙ c.if-is_out.false in
+    let new = after-clear a.me a.ranks (the_view a) c.self.invariant c.args.to c.args.n
+    (omega (arith, to, c.self.invariant.letters)) ask a.departures.rows a.staying in
+    rw c.if-is_out.false
+    (cleared_view (λ (v : SendingView). Keeps c.args.self.now v []) (the_view a)
+    c.args.to c.args.n a.departures.rows a.staying c.cleared-is_out.new.self c.cleared-is_out.ensures.cleared
+    (subst (λ (v : SendingView). Keeps v new []) c.self.view_is
+    (full-kept a.me a.ranks (the_view a) c.self.invariant c.args.to c.args.n
+    (omega (arith, to, c.self.invariant.letters)) ask a.departures.rows a.staying full refl)))

@@ -1,0 +1,172 @@
+-- The next piece goes, and a message that was sent by asking leaves with its last one.
+use Rattle.std.specs.Prelude.{IsSome}
+use Rattle.std.proofs.Common.{◌≡◌, ◌-◌, ◌∷◌, [], Some, refl, sym, ◌∙◌, ap}
+use Rattle.std.proofs.Common.{subst, arith}
+use Rattle.std.proofs.lemmas.Option.{slice_get_within}
+use Rattle.nm_history.specs.declared.events.Happened.TheVariants.{Out}
+use Rattle.nm_rndv.specs.Offers.{first_leaving, next_offered, with_popped}
+use Rattle.nm_rndv.proofs.Results.{is_there}
+use Rattle.nm_sending.specs.contracts.sendings.Sending.{the_view}
+use Rattle.nm_sending.specs.Departures.{SendingView}
+use Rattle.nm_sending.specs.Sent.{Keeps}
+use Rattle.nm_sending.specs.Tables.{AreTables}
+use Rattle.nm_sending.proofs.LeavingLemmas.{turn_next}
+use Rattle.nm_sending.proofs.PopLemmas.{goes_on, last_of, piece_to, count_raised, popped_view}
+use Rattle.nm_sending.proofs.PopLemmas.{more-tables, more-kept, last-tables, last-kept, last-counted}
+use Rattle.nm_sending.proofs.PopLemmas.{after}
+use Rattle.nm_sending.proofs.TableLemmas.{rows_now, same_departure}
+use Rattle.nm_sending.proofs.sendings.Sending.pop_piece.Goals as goal
+
+pub invariant_of-self : goal.invariant_of-self
+invariant_of-self c =
+    let a = c.self.inside in
+    let there = subst (λ (v : SendingView). IsSome (next_offered v.offers)) (sym c.self.view_is) c.requires in
+    let goes = goes_on a.me a.ranks
+    (the_view a) c.self.invariant there c.pop_piece.result c.pop_piece.ensures.last
+    c.in_err-to.was in
+    let to = piece_to a.offers c.next_piece.result c.unwrap-to.result goes.to goes.n c.unwrap-to.ensures
+    c.next_piece.ensures.next goes.first in
+    popped_view (λ (v : SendingView). AreTables a.me a.ranks v) (the_view a) goes.to goes.n a.departures.rows
+    a.staying c.pop_piece.new.self _ (is_there (λ m. c.pop_piece.new.self ≡ with_popped a.offers m) goes.first
+    c.pop_piece.ensures.popped)
+    (count_raised a.pushed.items c.unwrap-to.result.0 c.index_mut.result.now goes.to to
+    (omega (arith, to, goes.within, c.self.invariant.counts)) c.index_mut.ensures.value)
+    (more-tables a.me a.ranks (the_view a) c.self.invariant goes.to goes.n goes.first goes.lead goes.within
+    a.departures.rows a.staying goes.rest goes.more refl refl)
+
+pub returns-in_err-to-clause-kept : goal.returns-in_err-to-clause-kept
+returns-in_err-to-clause-kept c =
+    let a = c.self.inside in
+    let there = subst (λ (v : SendingView). IsSome (next_offered v.offers)) (sym c.self.view_is) c.requires in
+    let goes = goes_on a.me a.ranks
+    (the_view a) c.self.invariant there c.pop_piece.result c.pop_piece.ensures.last
+    c.in_err-to.was in
+    let to = piece_to a.offers c.next_piece.result c.unwrap-to.result goes.to goes.n c.unwrap-to.ensures
+    c.next_piece.ensures.next goes.first in
+    let new = after a.me a.ranks (the_view a) c.self.invariant goes.to goes.n goes.first goes.lead goes.within
+    a.departures.rows a.staying in
+    rw c.from_residual.ensures
+    (popped_view (λ (v : SendingView). Keeps c.args.self.now v [])
+    (the_view a) goes.to goes.n a.departures.rows
+    a.staying c.pop_piece.new.self _ (is_there (λ m. c.pop_piece.new.self ≡ with_popped a.offers m) goes.first
+    c.pop_piece.ensures.popped)
+    (count_raised a.pushed.items c.unwrap-to.result.0 c.index_mut.result.now goes.to to
+    (omega (arith, to, goes.within, c.self.invariant.counts)) c.index_mut.ensures.value)
+    (subst (λ (v : SendingView). Keeps v new []) c.self.view_is
+    (more-kept a.me a.ranks (the_view a) c.self.invariant goes.to goes.n goes.first goes.lead goes.within
+    a.departures.rows a.staying goes.rest goes.more refl)))
+
+pub get-requires : goal.get-requires
+get-requires c =
+    let a = c.self.inside in
+    let there = subst (λ (v : SendingView). IsSome (next_offered v.offers)) (sym c.self.view_is) c.requires in
+    let last = last_of a.me a.ranks
+    (the_view a) c.self.invariant there c.pop_piece.result c.pop_piece.ensures.last
+    c.in_ok-to.to c.in_ok-to.n c.in_ok-to.was in
+    omega (arith, last.within, c.self.invariant.rows)
+
+pub unwrap-departure-requires : goal.unwrap-departure-requires
+unwrap-departure-requires c =
+    let a = c.self.inside in
+    let there = subst (λ (v : SendingView). IsSome (next_offered v.offers)) (sym c.self.view_is) c.requires in
+    let last = last_of a.me a.ranks
+    (the_view a) c.self.invariant there c.pop_piece.result c.pop_piece.ensures.last
+    c.in_ok-to.to c.in_ok-to.n c.in_ok-to.was in
+    rw (c.get.ensures, last.lead.there) refl
+
+pub set-requires-clause-n : goal.set-requires-clause-n
+set-requires-clause-n c =
+    slice_get_within _ _ c.unwrap-departure.result (sym c.get.ensures ∙ c.unwrap-departure.ensures)
+
+pub overflow_sub-self : goal.overflow_sub-self
+overflow_sub-self c =
+    let a = c.self.inside in
+    let there = subst (λ (v : SendingView). IsSome (next_offered v.offers)) (sym c.self.view_is) c.requires in
+    let last = last_of a.me a.ranks
+    (the_view a) c.self.invariant there c.pop_piece.result c.pop_piece.ensures.last
+    c.in_ok-to.to c.in_ok-to.n c.in_ok-to.was in
+    let rows = rows_now c.set.new.self.rows a.departures.rows c.in_ok-to.to c.in_ok-to.n
+    c.unwrap-departure.result
+    c.left.result last.lead.departure c.set.ensures c.left.ensures
+    (same_departure (sym c.get.ensures ∙ c.unwrap-departure.ensures) last.lead.there) in
+    omega (
+      arith,
+      last-counted a.me a.ranks (the_view a) c.self.invariant c.in_ok-to.to c.in_ok-to.n last.first
+          last.lead last.within c.set.new.self.rows (a.staying - 1) last.none rows,
+    )
+
+pub invariant_of-self-2 : goal.invariant_of-self-2
+invariant_of-self-2 c =
+    let a = c.self.inside in
+    let there = subst (λ (v : SendingView). IsSome (next_offered v.offers)) (sym c.self.view_is) c.requires in
+    let last = last_of a.me a.ranks
+    (the_view a) c.self.invariant there c.pop_piece.result c.pop_piece.ensures.last
+    c.in_ok-to.to c.in_ok-to.n c.in_ok-to.was in
+    let rows = rows_now c.set.new.self.rows a.departures.rows c.in_ok-to.to c.in_ok-to.n
+    c.unwrap-departure.result
+    c.left.result last.lead.departure c.set.ensures c.left.ensures
+    (same_departure (sym c.get.ensures ∙ c.unwrap-departure.ensures) last.lead.there) in
+    let more = last-counted a.me a.ranks (the_view a) c.self.invariant c.in_ok-to.to c.in_ok-to.n last.first
+    last.lead last.within c.set.new.self.rows (a.staying - 1) last.none rows in
+    let to = piece_to a.offers c.next_piece.result c.unwrap-to.result c.in_ok-to.to c.in_ok-to.n
+    c.unwrap-to.ensures c.next_piece.ensures.next last.first in
+    popped_view (λ (v : SendingView). AreTables a.me a.ranks v) (the_view a) c.in_ok-to.to c.in_ok-to.n
+    c.set.new.self.rows (a.staying - 1) c.pop_piece.new.self _
+    (is_there (λ m. c.pop_piece.new.self ≡ with_popped a.offers m) last.first c.pop_piece.ensures.popped)
+    (count_raised a.pushed.items c.unwrap-to.result.0 c.index_mut.result.now c.in_ok-to.to to
+    (omega (arith, to, last.within, c.self.invariant.counts)) c.index_mut.ensures.value)
+    (last-tables a.me a.ranks (the_view a) c.self.invariant c.in_ok-to.to c.in_ok-to.n last.first last.lead
+    last.within c.set.new.self.rows (a.staying - 1) last.none rows (omega (arith, more)))
+
+pub returns-clause-kept : goal.returns-clause-kept
+returns-clause-kept c =
+    let a = c.self.inside in
+    let there = subst (λ (v : SendingView). IsSome (next_offered v.offers)) (sym c.self.view_is) c.requires in
+    let last = last_of a.me a.ranks
+    (the_view a) c.self.invariant there c.pop_piece.result c.pop_piece.ensures.last
+    c.in_ok-to.to c.in_ok-to.n c.in_ok-to.was in
+    let rows = rows_now c.set.new.self.rows a.departures.rows c.in_ok-to.to c.in_ok-to.n
+    c.unwrap-departure.result
+    c.left.result last.lead.departure c.set.ensures c.left.ensures
+    (same_departure (sym c.get.ensures ∙ c.unwrap-departure.ensures) last.lead.there) in
+    let to = piece_to a.offers c.next_piece.result c.unwrap-to.result c.in_ok-to.to c.in_ok-to.n
+    c.unwrap-to.ensures c.next_piece.ensures.next last.first in
+    let new = after a.me a.ranks (the_view a) c.self.invariant c.in_ok-to.to c.in_ok-to.n last.first last.lead
+    last.within c.set.new.self.rows (a.staying - 1) in
+    popped_view (λ (v : SendingView). Keeps c.args.self.now v (Out c.in_ok-to.to c.in_ok-to.n ∷ []))
+    (the_view a)
+    c.in_ok-to.to c.in_ok-to.n c.set.new.self.rows (a.staying - 1) c.pop_piece.new.self _
+    (is_there (λ m. c.pop_piece.new.self ≡ with_popped a.offers m) last.first c.pop_piece.ensures.popped)
+    (count_raised a.pushed.items c.unwrap-to.result.0 c.index_mut.result.now c.in_ok-to.to to
+    (omega (arith, to, last.within, c.self.invariant.counts)) c.index_mut.ensures.value)
+    (subst (λ (v : SendingView). Keeps v new (Out c.in_ok-to.to c.in_ok-to.n ∷ [])) c.self.view_is
+    (last-kept a.me a.ranks (the_view a) c.self.invariant c.in_ok-to.to c.in_ok-to.n last.first last.lead
+    last.within c.set.new.self.rows (a.staying - 1) last.none rows))
+
+pub returns-clause-in_turn : goal.returns-clause-in_turn
+returns-clause-in_turn c =
+    let a = c.self.inside in
+    let there = subst (λ (v : SendingView). IsSome (next_offered v.offers)) (sym c.self.view_is) c.requires in
+    let last = last_of a.me a.ranks
+    (the_view a) c.self.invariant there c.pop_piece.result c.pop_piece.ensures.last
+    c.in_ok-to.to c.in_ok-to.n c.in_ok-to.was in
+    λ h was. turn_next c.args.self.now c.args.self.now h h (λ t. refl) was.in_turn c.in_ok-to.to c.in_ok-to.n
+    (subst (λ (v : SendingView). first_leaving v.offers ≡ Some (c.in_ok-to.to, c.in_ok-to.n)) c.self.view_is
+    last.first)
+
+pub returns-clause-counted : goal.returns-clause-counted
+returns-clause-counted c =
+    let a = c.self.inside in
+    let there = subst (λ (v : SendingView). IsSome (next_offered v.offers)) (sym c.self.view_is) c.requires in
+    let last = last_of a.me a.ranks
+    (the_view a) c.self.invariant there c.pop_piece.result c.pop_piece.ensures.last
+    c.in_ok-to.to c.in_ok-to.n c.in_ok-to.was in
+    let rows = rows_now c.set.new.self.rows a.departures.rows c.in_ok-to.to c.in_ok-to.n
+    c.unwrap-departure.result
+    c.left.result last.lead.departure c.set.ensures c.left.ensures
+    (same_departure (sym c.get.ensures ∙ c.unwrap-departure.ensures) last.lead.there) in
+    let more = last-counted a.me a.ranks (the_view a) c.self.invariant c.in_ok-to.to c.in_ok-to.n last.first
+    last.lead last.within c.set.new.self.rows (a.staying - 1) last.none rows in
+    let view : c.args.self.now.staying
+    ≡ a.staying = ap (λ (v : SendingView). v.staying) (sym c.self.view_is) in
+    omega (arith, view, more)

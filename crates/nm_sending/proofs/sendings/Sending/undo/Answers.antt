@@ -1,0 +1,94 @@
+-- The answer to a recall comes back.
+use Rattle.std.proofs.Common.{◌<◌, ◌∷◌, [], Some, length, refl, sym, ◌∙◌, subst, arith}
+use Rattle.std.proofs.lemmas.Option.{slice_get_within}
+use Rattle.nm_history.specs.declared.events.Happened.TheVariants.{Undone}
+use Rattle.nm_rndv.specs.Offers.{Offering}
+use Rattle.nm_sending.specs.contracts.sendings.Sending.{the_view}
+use Rattle.nm_sending.specs.Departures.{SendingView}
+use Rattle.nm_sending.specs.Sent.{Keeps, MayBeAnswered}
+use Rattle.nm_sending.specs.Tables.{AreTables}
+use Rattle.nm_sending.proofs.TableLemmas.{rows_with, same_departure}
+use Rattle.nm_sending.proofs.UndoLemmas.{is_recall_open, is_open, not_cleared, after-undo}
+use Rattle.nm_sending.proofs.UndoLemmas.{undo-tables, undo-kept}
+use Rattle.nm_sending.proofs.sendings.Sending.undo.Goals as goal
+
+pub withdrawn-requires-clause-in_range : goal.withdrawn-requires-clause-in_range
+withdrawn-requires-clause-in_range c =
+    let to = subst (λ (v : SendingView). c.args.to < length v.outbox.popped)
+    (sym c.self.view_is) c.requires.to in
+    omega (arith, to, c.self.invariant.letters, c.self.invariant.offers)
+
+pub withdrawn-requires-clause-recalled : goal.withdrawn-requires-clause-recalled
+withdrawn-requires-clause-recalled c =
+    let a = c.self.inside in
+    let to = subst (λ (v : SendingView). c.args.to < length v.outbox.popped)
+    (sym c.self.view_is) c.requires.to in
+    let may = subst (λ (v : SendingView). MayBeAnswered v c.args.to c.args.n c.args.done) (sym c.self.view_is)
+    c.requires.may in
+    is_open a.me a.ranks (the_view a) c.self.invariant c.args.to c.args.n
+    (omega (arith, to, c.self.invariant.letters)) c.args.done
+    (is_recall_open (the_view a) c.args.to c.args.n c.args.done may)
+
+pub withdrawn-requires-clause-uncleared : goal.withdrawn-requires-clause-uncleared
+withdrawn-requires-clause-uncleared c =
+    let a = c.self.inside in
+    let to = subst (λ (v : SendingView). c.args.to < length v.outbox.popped)
+    (sym c.self.view_is) c.requires.to in
+    let may = subst (λ (v : SendingView). MayBeAnswered v c.args.to c.args.n c.args.done) (sym c.self.view_is)
+    c.requires.may in
+    not_cleared a.me a.ranks (the_view a) c.self.invariant c.args.to c.args.n
+    (omega (arith, to, c.self.invariant.letters)) c.args.done
+    (is_recall_open (the_view a) c.args.to c.args.n c.args.done may)
+
+pub unwrap-departure-requires : goal.unwrap-departure-requires
+unwrap-departure-requires c =
+    let may = subst (λ (v : SendingView). MayBeAnswered v c.args.to c.args.n c.args.done) (sym c.self.view_is)
+    c.requires.may in
+    rw (c.get.ensures, (is_recall_open (the_view c.self.inside) c.args.to c.args.n c.args.done may).there)
+    refl
+
+pub set-requires-clause-to : goal.set-requires-clause-to
+set-requires-clause-to c =
+    let to = subst (λ (v : SendingView). c.args.to < length v.outbox.popped)
+    (sym c.self.view_is) c.requires.to in
+    omega (arith, to, c.self.invariant.letters, c.self.invariant.rows)
+
+pub set-requires-clause-n : goal.set-requires-clause-n
+set-requires-clause-n c =
+    slice_get_within _ _ c.unwrap-departure.result (sym c.get.ensures ∙ c.unwrap-departure.ensures)
+
+pub invariant_of-self : goal.invariant_of-self
+invariant_of-self c =
+    let a = c.self.inside in
+    let to = subst (λ (v : SendingView). c.args.to < length v.outbox.popped)
+    (sym c.self.view_is) c.requires.to in
+    let may = subst (λ (v : SendingView). MayBeAnswered v c.args.to c.args.n c.args.done) (sym c.self.view_is)
+    c.requires.may in
+    let open' = is_recall_open (the_view a) c.args.to c.args.n c.args.done may in
+    let rows = rows_with (λ x. record x { undone = Some c.args.done }) c.set.new.self.rows a.departures.rows
+    c.args.to c.args.n c.unwrap-departure.result c.answered.result open'.departure c.set.ensures
+    c.answered.ensures (same_departure (sym c.get.ensures ∙ c.unwrap-departure.ensures) open'.there) in
+    subst (λ (o : Offering). AreTables a.me a.ranks
+    (record (the_view a) { offers = o; departures = c.set.new.self.rows })) (sym c.withdrawn.ensures)
+    (undo-tables a.me a.ranks (the_view a) c.self.invariant c.args.to c.args.n
+    (omega (arith, to, c.self.invariant.letters)) c.args.done open' c.set.new.self.rows rows)
+
+pub returns-clause-kept : goal.returns-clause-kept
+returns-clause-kept c =
+    let a = c.self.inside in
+    let to = subst (λ (v : SendingView). c.args.to < length v.outbox.popped)
+    (sym c.self.view_is) c.requires.to in
+    let may = subst (λ (v : SendingView). MayBeAnswered v c.args.to c.args.n c.args.done) (sym c.self.view_is)
+    c.requires.may in
+    let open' = is_recall_open (the_view a) c.args.to c.args.n c.args.done may in
+    let rows = rows_with (λ x. record x { undone = Some c.args.done }) c.set.new.self.rows a.departures.rows
+    c.args.to c.args.n c.unwrap-departure.result c.answered.result open'.departure c.set.ensures
+    c.answered.ensures (same_departure (sym c.get.ensures ∙ c.unwrap-departure.ensures) open'.there) in
+    let new = after-undo a.me a.ranks (the_view a) c.self.invariant c.args.to c.args.n
+    (omega (arith, to, c.self.invariant.letters)) c.args.done open' c.set.new.self.rows rows in
+    let ws = Undone c.args.to c.args.n c.args.done ∷ [] in
+    subst (λ (o : Offering). Keeps c.args.self.now
+    (record (the_view a) { offers = o; departures = c.set.new.self.rows }) ws) (sym c.withdrawn.ensures)
+    (subst (λ (v : SendingView). Keeps v new ws) c.self.view_is
+    (undo-kept a.me a.ranks (the_view a) c.self.invariant c.args.to c.args.n
+    (omega (arith, to, c.self.invariant.letters)) c.args.done open' c.set.new.self.rows rows))

@@ -1,0 +1,15 @@
+-- One empty row for each rank.
+use Rattle.std.proofs.Common.{◌≡◌, ℕ, List, [], Vec, Global, ◌∙◌, ap, arith, replicate}
+use Rattle.nm_sending.specs.declared.departures.Departure.{Departure}
+use Rattle.nm_sending.proofs.RowLemmas.{rows-push}
+use Rattle.nm_sending.proofs.tables.Table.new.Goals as goal
+
+pub loop-preserved : goal.loop-preserved
+loop-preserved c = rw (c.in_ok-push.ensures.items)
+    (rows-push (λ (v : Vec Departure Global). v.items) c.loop.rows.items c.loop.counter c.new.result []
+    c.loop.invariant c.new.ensures.items)
+
+pub returns : goal.returns
+returns c =
+    let all : c.loop.counter ≡ c.args.ranks = omega arith in
+    c.loop.invariant ∙ ap (λ (n : ℕ). let ys : List (List Departure) = replicate n [] in ys) all

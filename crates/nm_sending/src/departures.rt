@@ -1,0 +1,96 @@
+//! What became of a message that was sent.
+
+ghost use Rattle.std.specs.Prelude.{◌≡◌, true, Some};
+ghost use Rattle.nm_history.specs.Sends.{is_ask};
+ghost use Rattle.nm_sending.specs.Departures.{ending_of, fresh, is_over};
+
+use nm_types::{Answer, How};
+
+/// What became of a message that was sent.
+#[derive(Clone, Copy, Debug)]
+pub struct Departure {
+    pub how: How,
+    /// Its length in bytes.
+    pub len: u32,
+    /// Whether it has left.
+    pub out: bool,
+    /// Whether its receiver was asked to withdraw it.
+    pub recalled: bool,
+    /// The answer to that, if it came back: whether the message was withdrawn.
+    pub undone: Option<bool>,
+}
+
+impl Departure {
+    /// A message that was just sent.
+    pub fn new(how: How, len: u32) -> Self
+        ensures { result ≡ fresh how len }
+    {
+        Departure {
+            how,
+            len,
+            out: false,
+            recalled: false,
+            undone: None,
+        }
+    }
+
+    /// Whether it was sent by asking.
+    pub(crate) fn is_asked(&self) -> bool
+        ensures { result ≡ is_ask self.now.how }
+    {
+        self.how == How::Ask
+    }
+
+    /// Whether its send is complete.
+    pub(crate) fn is_complete(&self) -> bool
+        ensures { result ≡ is_over self.now }
+    {
+        if !self.recalled {
+            return self.out;
+        }
+        match self.undone {
+            Some(done) => done || self.out,
+            None => false,
+        }
+    }
+
+    /// What its send ended with, if it is complete.
+    pub(crate) fn ending(&self) -> Option<Answer>
+        ensures { result ≡ ending_of self.now }
+    {
+        if !self.is_complete() {
+            return None;
+        }
+        match self.undone {
+            Some(true) => Some(Answer::Cancelled),
+            _ => Some(Answer::Sent),
+        }
+    }
+
+    /// The message when it has left.
+    pub(crate) fn left(self) -> Self
+        ensures { result ≡ record self { out = true } }
+    {
+        Departure { out: true, ..self }
+    }
+
+    /// The message when its receiver was asked to withdraw it.
+    pub(crate) fn recalled(self) -> Self
+        ensures { result ≡ record self { recalled = true } }
+    {
+        Departure {
+            recalled: true,
+            ..self
+        }
+    }
+
+    /// The message when the answer to its recall came back.
+    pub(crate) fn answered(self, done: bool) -> Self
+        ensures { result ≡ record self { undone = Some done } }
+    {
+        Departure {
+            undone: Some(done),
+            ..self
+        }
+    }
+}

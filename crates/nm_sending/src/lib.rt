@@ -1,0 +1,40 @@
+//! The sending side of a rank: the messages that it sent, by packets and by pieces, and what became
+//! of them.
+//!
+//! A message of at most the eager limit is cut into packets (MPI 3.1, section 3.4). One that is
+//! sent by asking is announced by one packet, waits until its receiver clears it, and is then
+//! pushed in pieces. A message may be recalled (section 3.8.4).
+//!
+//! # What a contract sees
+//! The packets to be sent, the messages that were asked for and the order of their clearances, what
+//! became of each message, the counts of pieces pushed, and the number of messages that have not
+//! left. A relation, `AreSent`, says of which histories these are the messages. Each call says
+//! which events it goes with (`Keeps`), and each answer is the definition's on every history that
+//! stands in the relation.
+//!
+//! # What is proved
+//! - A message calls for its packets, and they are put in order (`send`: `puts`).
+//! - A message leaves once: with the packet that ends it, with its last piece, or with its clearance
+//!   where it is empty (`pop_front`, `pop_piece`, `clear`: `kept`). Where no packet is left, each
+//!   eager message has left (`front`: `left`).
+//! - Pieces are those of the first message that was cleared and has not left, in order
+//!   (`next_piece`: `next`; `pop_piece`: `in_turn`).
+//! - Want of memory changes nothing but room (`send`, `recall`: `err`).
+//! # What is only tested
+//! That calls that take memory succeed with ample memory.
+#![tactic(auto)]
+
+mod departures;
+pub mod laws;
+mod putting;
+mod sendings;
+mod tables;
+#[cfg(test)]
+mod tests;
+
+pub use departures::Departure;
+pub use nm_outbox::Letter;
+pub use sendings::Sending;
+
+/// How many messages a rank sends to another at most.
+pub const MAX_MESSAGES: u64 = 1125899906842624;

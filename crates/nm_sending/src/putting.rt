@@ -1,0 +1,139 @@
+//! How a message's packets are put into the outbox.
+
+ghost use Rattle.std.specs.Prelude.{◌≡◌, ℕ, ◌+◌, ◌-◌, ◌<◌, ◌≤◌, ◌==◌, ◌&&◌, not, [], ◌∷◌, ◌++◌};
+ghost use Rattle.std.specs.Prelude.{if◌then◌else◌, length, None, OnOk, OnErr, List, true};
+ghost use Rattle.nm_types.specs.declared.limits.TheConstants.{MAX_BODY, MAX_EAGER, MAX_PACKETS};
+ghost use Rattle.nm_types.specs.declared.limits.TheConstants.{MAX_STAMP};
+ghost use Rattle.nm_types.specs.Bodies.{body_len, bytes_of};
+ghost use Rattle.nm_history.specs.declared.events.Event.{Event};
+ghost use Rattle.nm_history.specs.declared.events.Happened.TheVariants as event;
+ghost use Rattle.nm_history.specs.Outgoing.{further_packets, packets_by};
+ghost use Rattle.nm_history.specs.Sends.{is_ask};
+ghost use Rattle.nm_eager.specs.Cutting.{packet_count};
+ghost use Rattle.nm_rndv.specs.Offers.{destined, state_of, with_asked, with_destined};
+ghost use Rattle.nm_outbox.specs.Outboxes.{put_to};
+ghost use Rattle.nm_sending.specs.Departures.{ends_to};
+ghost use Rattle.nm_sending.specs.Sent.{Puts, PutsFirst, only_to};
+
+use nm_eager::Cutter;
+use nm_outbox::{Letter, Outbox};
+use nm_rndv::Offers;
+use nm_types::{Body, How, MAX_PAYLOAD, Memory, What};
+
+/// A message, but for its body.
+#[derive(Clone, Copy)]
+pub(crate) struct Heading {
+    pub from: u8,
+    pub to: u8,
+    pub n: u64,
+    pub tag: u16,
+    pub ctx: u8,
+    pub how: How,
+}
+
+/// Puts a packet without bytes. There is room for it.
+pub(crate) fn put_bare(outbox: &mut Outbox, to: u8, stamp: u64, what: What)
+    requires to { to < length outbox.old.popped }
+    requires few { put_to outbox.old to < MAX_PACKETS }
+    requires room { 0 < outbox.old.spare }
+    requires in_time { stamp ≤ MAX_STAMP }
+    ensures puts { (called : ℕ) → called ≤ stamp →
+        Puts (only_to to called what) stamp outbox.old outbox.new }
+    ensures ends { (other : ℕ) →
+        ends_to other outbox.new.letters ≡ ends_to other outbox.old.letters }
+    ensures room { outbox.new.spare ≡ outbox.old.spare - 1 }
+{
+    let packet = outbox.bare(to, stamp, what);
+    outbox.put(Letter {
+        to,
+        packet,
+        ends: None,
+    });
+}
+
+/// How many packets an eager message of this length is cut into.
+fn packets_of(len: u32) -> u32
+    ensures { result ≡ 1 + further_packets len }
+{
+    1 + len.saturating_sub(1) / MAX_PAYLOAD as u32
+}
+
+/// Puts the packets of an eager message, for which there is room. The last one ends it.
+fn put_packets(outbox: &mut Outbox, mut cutter: Cutter, count: u32, heading: Heading, stamp: u64)
+    requires to { heading.to < length outbox.old.popped }
+    requires few { put_to outbox.old heading.to + count ≤ MAX_PACKETS }
+    requires room { count ≤ outbox.old.spare }
+    requires in_time { stamp ≤ MAX_STAMP }
+    requires from { cutter.from ≡ outbox.old.me }
+    requires none { cutter.given ≡ 0 }
+    requires all { count ≡ packet_count cutter }
+    ensures { PutsFirst count cutter heading.to heading.n stamp outbox.old outbox.new }
+{
+    for k in 0..count {
+        let Some(packet) = cutter.next(outbox.next_number(heading.to), stamp) else {
+            return;
+        };
+        let ends = (k + 1 == count).then_some(heading.n);
+        outbox.put(Letter {
+            to: heading.to,
+            packet,
+            ends,
+        });
+    }
+}
+
+/// Puts the packets of a message, or the one that asks for it, whose body is kept then.
+pub(crate) fn put_message(
+    outbox: &mut Outbox,
+    offers: &mut Offers,
+    heading: Heading,
+    body: Body,
+    stamp: u64,
+) -> Result<(), Memory>
+    requires from { heading.from ≡ outbox.old.me }
+    requires to { heading.to < length outbox.old.popped }
+    requires offered { heading.to < length offers.old.destinations }
+    requires is_new { state_of offers.old heading.to heading.n ≡ None }
+    requires few { put_to outbox.old heading.to + 17 ≤ MAX_PACKETS }
+    requires short { body_len body ≤ (if is_ask heading.how then MAX_BODY else MAX_EAGER) }
+    requires in_time { stamp ≤ MAX_STAMP }
+    ensures puts { OnOk result ((h : List Event) (line : ℕ) → Puts
+        (λ other. packets_by (λ s. bytes_of body) other h stamp
+        (event.Send heading.to heading.n heading.tag heading.ctx (body_len body) heading.how line))
+        stamp outbox.old outbox.new) }
+    ensures ends { OnOk result ((other : ℕ) → ends_to other outbox.new.letters
+        ≡ ends_to other outbox.old.letters
+        ++ (if heading.to == other && not (is_ask heading.how) then heading.n ∷ [] else [])) }
+    ensures asked { OnOk result (offers.new
+        ≡ (if is_ask heading.how
+        then with_destined offers.old heading.to
+        (with_asked (destined offers.old heading.to) heading.n body)
+        else offers.old)) }
+    ensures err { OnErr result
+        (outbox.new ≡ record outbox.old { spare = outbox.new.spare }) }
+    ensures unasked { OnErr result (offers.new ≡ offers.old) }
+{
+    let Heading {
+        from,
+        to,
+        n,
+        tag,
+        ctx,
+        how,
+    } = heading;
+    let len = body.len();
+    match how {
+        How::Eager => {
+            let count = packets_of(len);
+            outbox.reserve(count as usize)?;
+            let cutter = Cutter::new(from, n, tag, ctx, body);
+            put_packets(outbox, cutter, count, heading, stamp);
+        }
+        How::Ask => {
+            outbox.reserve(1)?;
+            offers.ask(to, n, body)?;
+            put_bare(outbox, to, stamp, What::Ask { tag, ctx, len });
+        }
+    }
+    Ok(())
+}

@@ -1,0 +1,427 @@
+//! The sending side of a rank.
+
+ghost use Rattle.std.specs.Prelude.{◌≡◌, ◌+◌, ◌-◌, ◌<◌, ◌≤◌, ◌↔◌, ℕ, true, false, Some};
+ghost use Rattle.std.specs.Prelude.{None, List, [], ◌∷◌, if◌then◌else◌, length, filter, not};
+ghost use Rattle.std.specs.Prelude.{replicate, slice_get, slice_set, IfOk, IfSome, IsSome};
+ghost use Rattle.std.specs.Prelude.{IsNone, OnOk, OnErr};
+ghost use Rattle.std.specs.Prelude.{option_copied, option_map, option_and_then};
+ghost use Rattle.nm_types.specs.declared.limits.TheConstants.{MAX_BODY, MAX_EAGER, MAX_PACKETS};
+ghost use Rattle.nm_types.specs.declared.limits.TheConstants.{MAX_STAMP};
+ghost use Rattle.nm_types.specs.declared.packets.What.TheVariants as what;
+ghost use Rattle.nm_types.specs.Bodies.{body_len, bytes_of};
+ghost use Rattle.nm_history.specs.declared.events.Event.{Event};
+ghost use Rattle.nm_history.specs.declared.events.Happened.TheVariants as event;
+ghost use Rattle.nm_history.specs.Completion.{is_complete as is_complete_lem, result_of};
+ghost use Rattle.nm_history.specs.Completion.Request.{Sending as SendingRequest};
+ghost use Rattle.nm_history.specs.Delivery.{is_asked as is_asked_lem};
+ghost use Rattle.nm_history.specs.Happens.{happened, is_recall};
+ghost use Rattle.nm_history.specs.Outgoing.{packets_by};
+ghost use Rattle.nm_history.specs.Sends.{sends, is_ask};
+ghost use Rattle.nm_protocol.specs.Clearance.{pushed_out};
+ghost use Rattle.nm_protocol.specs.Effects.{is_empty_send};
+ghost use Rattle.nm_protocol.specs.Rest.{EagerHaveLeft};
+ghost use Rattle.nm_rndv.specs.Offers.{AllOut, destined, first_leaving, next_offered, no_offers};
+ghost use Rattle.nm_rndv.specs.Offers.{offered, out_by_piece, state_of, with_asked, with_clearance};
+ghost use Rattle.nm_rndv.specs.Offers.{with_destined, with_popped};
+ghost use Rattle.nm_outbox.specs.Outboxes.{popped_to, put_to};
+ghost use Rattle.nm_sending.specs.declared.TheConstants.{MAX_MESSAGES};
+ghost use Rattle.nm_sending.specs.Departures.{departures_to, pushed_to, cleared_to, ended_by};
+ghost use Rattle.nm_sending.specs.Sent.{AreSent, Keeps, Puts, only_to, outs};
+ghost use Rattle.nm_sending.specs.Sent.{MayBeAnswered, MayBeCleared, MayBeRecalled};
+
+use crate::MAX_MESSAGES;
+use crate::departures::Departure;
+use crate::putting::{Heading, put_bare, put_message};
+use crate::tables::Table;
+use nm_outbox::{Letter, Outbox};
+use nm_rndv::Offers;
+use nm_types::{Answer, Body, How, MAX_PACKETS, Memory, Piece, What};
+use std::alloc::Global;
+use std::marker::Model;
+
+/// The messages that a rank sent, to all ranks.
+#[derive(Drop)]
+pub struct Sending {
+    me: u8,
+    ranks: u8,
+    outbox: Outbox,
+    offers: Offers,
+    departures: Table,
+    // by destination
+    pushed: Vec<u64>,
+    // how many messages have not left
+    staying: u64,
+}
+
+impl Model for Sending {
+    ghost use Rattle.nm_sending.specs.Departures.{SendingView};
+    ghost use Rattle.nm_sending.specs.Tables.{AreTables};
+
+    ghost Value = { SendingView };
+
+    ghost view = { λ s.
+        record {
+          outbox = s.outbox;
+          offers = s.offers;
+          departures = s.departures.rows;
+          pushed = s.pushed.items;
+          staying = s.staying;
+        } };
+
+    ghost invariant = { λ s.
+        AreTables s.me s.ranks
+        (record {
+          outbox = s.outbox;
+          offers = s.offers;
+          departures = s.departures.rows;
+          pushed = s.pushed.items;
+          staying = s.staying;
+        }) };
+}
+
+impl Sending {
+    /// Nothing was sent, at one of so many ranks.
+    pub fn new(alloc: Global, ranks: u8, me: u8) -> Result<Sending, Memory>
+        ensures me { IfOk result (λ s. s.outbox.me ≡ me) }
+        ensures letters { IfOk result (λ s. s.outbox.letters ≡ []) }
+        ensures popped { IfOk result (λ s. s.outbox.popped ≡ replicate ranks 0) }
+        ensures none { IfOk result (λ s. AreSent s []) }
+        ensures offers { IfOk result (λ s. s.offers ≡ no_offers ranks) }
+        ensures pushed { IfOk result (λ s. s.pushed ≡ replicate ranks 0) }
+        ensures staying { IfOk result (λ s. s.staying ≡ 0) }
+    {
+        Ok(Sending {
+            me,
+            ranks,
+            outbox: Outbox::new(alloc, ranks, me)?,
+            offers: Offers::new(alloc, ranks)?,
+            departures: Table::new(alloc, ranks)?,
+            pushed: vec![in alloc; 0; ranks as usize]?,
+            staying: 0,
+        })
+    }
+
+    /// How many messages were sent to a rank: the number of the next one.
+    pub fn sent(&self, to: u8) -> u64
+        requires { to < length self.now.outbox.popped }
+        ensures { result ≡ length (departures_to self.now to) }
+    {
+        self.departures.count(to)
+    }
+
+    /// How many packets to a rank were popped.
+    pub fn popped(&self, to: u8) -> u64
+        requires { to < length self.now.outbox.popped }
+        ensures { result ≡ popped_to self.now.outbox to }
+    {
+        self.outbox.popped(to)
+    }
+
+    /// How many pieces to a rank were pushed.
+    pub fn pushed(&self, to: u8) -> u64
+        requires { to < length self.now.outbox.popped }
+        ensures { result ≡ pushed_to self.now to }
+    {
+        self.pushed[to as usize]
+    }
+
+    /// How many messages have not left.
+    pub fn staying(&self) -> u64
+        ensures { result ≡ self.now.staying }
+    {
+        self.staying
+    }
+
+    /// Whether so many messages were sent to this rank, or so many packets put for it, that no more
+    /// can be.
+    fn is_full(&self, to: u8) -> bool
+        requires { to < length self.now.outbox.popped }
+        ensures { (result ≡ false) ↔ ((length (departures_to self.now to) < MAX_MESSAGES)
+            × (put_to self.now.outbox to < MAX_PACKETS - 32)) }
+    {
+        self.departures.count(to) >= MAX_MESSAGES || self.outbox.next_number(to) >= MAX_PACKETS - 32
+    }
+
+    /// Whether so many messages were sent to a rank, or so many packets put for it, that no more
+    /// can be.
+    pub fn is_worn(&self) -> bool
+        ensures { (result ≡ false) ↔ ((to : ℕ) → to < length self.now.outbox.popped →
+            (length (departures_to self.now to) < MAX_MESSAGES)
+            × (put_to self.now.outbox to < MAX_PACKETS - 32)) }
+    {
+        for to in 0..self.ranks {
+            if self.is_full(to) {
+                return true;
+            }
+        }
+        false
+    }
+
+    /// Sends the next message to a rank, with this stamp on its packets, and answers its number.
+    pub fn send(
+        &mut self,
+        to: u8,
+        tag: u16,
+        ctx: u8,
+        body: Body,
+        how: How,
+        stamp: u64,
+    ) -> Result<u64, Memory>
+        requires to { to < length self.old.outbox.popped }
+        requires few { length (departures_to self.old to) < MAX_MESSAGES }
+        requires room { put_to self.old.outbox to + 17 ≤ MAX_PACKETS }
+        requires counted { self.old.staying < MAX_STAMP }
+        requires short { body_len body ≤ (if is_ask how then MAX_BODY else MAX_EAGER) }
+        requires in_time { stamp ≤ MAX_STAMP }
+        ensures number { IfOk result (λ n. n ≡ length (departures_to self.old to)) }
+        ensures puts { IfOk result (λ n. (h : List Event) (line : ℕ) → Puts
+            (λ other. packets_by (λ s. bytes_of body) other h stamp
+            (event.Send to n tag ctx (body_len body) how line))
+            stamp self.old.outbox self.new.outbox) }
+        ensures kept { IfOk result (λ n. (line : ℕ) → Keeps self.old self.new
+            (event.Send to n tag ctx (body_len body) how line ∷ [])) }
+        ensures counted { OnOk result (self.new.staying ≡ self.old.staying + 1) }
+        ensures asked { IfOk result (λ n. self.new.offers
+            ≡ (if is_ask how
+            then with_destined self.old.offers to
+            (with_asked (destined self.old.offers to) n body)
+            else self.old.offers)) }
+        ensures same { OnOk result (self.new.pushed ≡ self.old.pushed) }
+        ensures err { OnErr result (self.new
+            ≡ record self.old {
+              outbox = record self.old.outbox { spare = self.new.outbox.spare };
+            }) }
+    {
+        let n = self.departures.count(to);
+        let len = body.len();
+        let heading = Heading {
+            from: self.me,
+            to,
+            n,
+            tag,
+            ctx,
+            how,
+        };
+        self.departures.reserve(to)?;
+        put_message(&mut self.outbox, &mut self.offers, heading, body, stamp)?;
+        self.departures.push(to, Departure::new(how, len));
+        self.staying += 1;
+        Ok(n)
+    }
+
+    /// Makes room for so many packets more.
+    pub fn reserve(&mut self, letters: usize) -> Result<(), Memory>
+        ensures same { self.new
+            ≡ record self.old {
+              outbox = record self.old.outbox { spare = self.new.outbox.spare };
+            } }
+        ensures kept { self.old.outbox.spare ≤ self.new.outbox.spare }
+        ensures ok { OnOk result (letters ≤ self.new.outbox.spare) }
+    {
+        self.outbox.reserve(letters)
+    }
+
+    /// Puts a packet without bytes: a clearance, or the answer to a recall. There is room for it.
+    pub fn answer(&mut self, to: u8, stamp: u64, what: What)
+        requires to { to < length self.old.outbox.popped }
+        requires few { put_to self.old.outbox to < MAX_PACKETS }
+        requires room { 0 < self.old.outbox.spare }
+        requires in_time { stamp ≤ MAX_STAMP }
+        ensures puts { (called : ℕ) → called ≤ stamp →
+            Puts (only_to to called what) stamp self.old.outbox self.new.outbox }
+        ensures room { self.new.outbox.spare ≡ self.old.outbox.spare - 1 }
+        ensures same { self.new ≡ record self.old { outbox = self.new.outbox } }
+    {
+        put_bare(&mut self.outbox, to, stamp, what);
+    }
+
+    /// Whether message `n` to a rank was sent by asking.
+    pub fn is_asked(&self, to: u8, n: u64) -> bool
+        requires { to < length self.now.outbox.popped }
+        ensures { (h : List Event) → AreSent self.now h → result ≡ is_asked_lem (sends h to) n }
+    {
+        self.departures
+            .get(to, n)
+            .is_some_and(|departure| departure.is_asked())
+    }
+
+    /// Whether message `n` to a rank was recalled.
+    pub fn was_recalled(&self, to: u8, n: u64) -> bool
+        requires { to < length self.now.outbox.popped }
+        ensures { (h : List Event) → AreSent self.now h → result ≡ happened (is_recall to n) h }
+    {
+        self.departures
+            .get(to, n)
+            .is_some_and(|departure| departure.recalled)
+    }
+
+    /// Whether the send is complete (MPI 3.1, section 3.7.3).
+    pub fn is_complete(&self, to: u8, n: u64) -> bool
+        requires { to < length self.now.outbox.popped }
+        ensures { (h : List Event) → AreSent self.now h →
+            result ≡ is_complete_lem h (SendingRequest to n) }
+    {
+        match self.departures.get(to, n) {
+            Some(departure) => departure.is_complete(),
+            None => false,
+        }
+    }
+
+    /// What the send ended with, if it is complete.
+    pub fn ending(&self, to: u8, n: u64) -> Option<Answer>
+        requires { to < length self.now.outbox.popped }
+        ensures { (h : List Event) → AreSent self.now h →
+            result ≡ result_of h (SendingRequest to n) }
+    {
+        self.departures.get(to, n)?.ending()
+    }
+
+    /// Asks the receiver to withdraw a message (MPI 3.1, section 3.8.4), by a packet with this
+    /// stamp. It may be asked once.
+    pub fn recall(&mut self, to: u8, n: u64, stamp: u64) -> Result<(), Memory>
+        requires to { to < length self.old.outbox.popped }
+        requires may { MayBeRecalled self.old to n }
+        requires few { put_to self.old.outbox to < MAX_PACKETS }
+        requires in_time { stamp ≤ MAX_STAMP }
+        ensures puts { OnOk result ((called : ℕ) → called ≤ stamp →
+            Puts (only_to to called (what.Withdraw n)) stamp self.old.outbox self.new.outbox) }
+        ensures kept { OnOk result (Keeps self.old self.new (event.Recall to n ∷ [])) }
+        ensures counted { OnOk result (self.new.staying ≡ self.old.staying) }
+        ensures order { OnOk result (self.new.offers.order ≡ self.old.offers.order) }
+        ensures asked { OnOk result ((other k : ℕ) →
+            state_of self.new.offers other k ≡ state_of self.old.offers other k) }
+        ensures same { OnOk result (self.new.pushed ≡ self.old.pushed) }
+        ensures err { OnErr result (self.new
+            ≡ record self.old {
+              outbox = record self.old.outbox { spare = self.new.outbox.spare };
+            }) }
+    {
+        self.outbox.reserve(1)?;
+        self.offers.withdraw(to, n)?;
+        put_bare(&mut self.outbox, to, stamp, What::Withdraw { n });
+        let departure = self.departures.get(to, n).unwrap();
+        self.departures.set(to, n, departure.recalled());
+        Ok(())
+    }
+
+    /// A receiver cleared a message. The answer is whether it has left by that, as it has where it
+    /// is empty.
+    pub fn clear(&mut self, to: u8, n: u64) -> bool
+        requires to { to < length self.old.outbox.popped }
+        requires may { MayBeCleared self.old to n }
+        ensures value { (h : List Event) → AreSent self.old h → result ≡ is_empty_send h to n }
+        ensures kept { Keeps self.old self.new (if result then event.Out to n ∷ [] else []) }
+        ensures cleared { self.new.offers ≡ with_clearance self.old.offers to n }
+        ensures counted { self.old.staying ≡ self.new.staying + (if result then 1 else 0) }
+        ensures outbox { self.new.outbox ≡ self.old.outbox }
+        ensures same { self.new.pushed ≡ self.old.pushed }
+    {
+        let is_out = self.offers.cleared(to, n);
+        if is_out {
+            let departure = self.departures.get(to, n).unwrap();
+            self.departures.set(to, n, departure.left());
+            self.staying -= 1;
+        }
+        is_out
+    }
+
+    /// A receiver answered a recall: the message was withdrawn, or it was too late.
+    pub fn undo(&mut self, to: u8, n: u64, done: bool)
+        requires to { to < length self.old.outbox.popped }
+        requires may { MayBeAnswered self.old to n done }
+        ensures kept { Keeps self.old self.new (event.Undone to n done ∷ []) }
+        ensures counted { self.new.staying ≡ self.old.staying }
+        ensures order { self.new.offers.order ≡ self.old.offers.order }
+        ensures outbox { self.new.outbox ≡ self.old.outbox }
+        ensures same { self.new.pushed ≡ self.old.pushed }
+    {
+        self.offers.withdrawn(to, n, done);
+        let departure = self.departures.get(to, n).unwrap();
+        self.departures.set(to, n, departure.answered(done));
+    }
+
+    /// The first packet to be sent, if there is one. Where there is none, each eager message has
+    /// left.
+    pub fn front(&self) -> Option<&Letter>
+        ensures value { option_copied result ≡ slice_get self.now.outbox.letters 0 }
+        ensures to { IfSome result (λ letter. letter.now.to < length self.now.outbox.popped) }
+        ensures from { IfSome result (λ letter. letter.now.packet.from ≡ self.now.outbox.me) }
+        ensures number { IfSome result
+            (λ letter. letter.now.packet.seq ≡ popped_to self.now.outbox letter.now.to) }
+        ensures left { IsNone result → (h : List Event) → AreSent self.now h → EagerHaveLeft h }
+    {
+        self.outbox.front()
+    }
+
+    /// Takes the first packet away. Where it was the last one of an eager message, that one has
+    /// left.
+    pub fn pop_front(&mut self) -> Option<(u8, u64)>
+        requires { 0 < length self.old.outbox.letters }
+        ensures last { result ≡ ended_by (slice_get self.old.outbox.letters 0) }
+        ensures popped { IfSome (slice_get self.old.outbox.letters 0) (λ letter.
+            (self.old.outbox.letters ≡ letter ∷ self.new.outbox.letters)
+            × (self.new.outbox
+            ≡ record self.old.outbox {
+              letters = self.new.outbox.letters;
+              popped = slice_set self.old.outbox.popped letter.to
+                  (popped_to self.old.outbox letter.to + 1);
+              spare = self.old.outbox.spare + 1;
+            })) }
+        ensures kept { Keeps self.old self.new (outs result) }
+        ensures counted { self.old.staying ≡ self.new.staying + length (outs result) }
+        ensures offers { self.new.offers ≡ self.old.offers }
+        ensures same { self.new.pushed ≡ self.old.pushed }
+    {
+        let letter = self.outbox.pop_front();
+        let n = letter.ends?;
+        let departure = self.departures.get(letter.to, n).unwrap();
+        self.departures.set(letter.to, n, departure.left());
+        self.staying -= 1;
+        Some((letter.to, n))
+    }
+
+    /// The next piece to be pushed, and its destination, if there is one.
+    pub fn next_piece(&self) -> Option<(u8, Piece)>
+        ensures next { option_map offered result ≡ next_offered self.now.offers }
+        ensures to { IfSome result (λ next. next.0 < length self.now.outbox.popped) }
+        ensures from { IfSome result (λ next. next.1.from ≡ self.now.outbox.me) }
+        ensures number { IfSome result (λ next. next.1.number ≡ pushed_to self.now next.0) }
+        ensures none { IsNone result ↔ AllOut self.now.offers }
+    {
+        let (to, piece) = self.offers.next_piece()?;
+        let Piece { n, at, bytes, .. } = piece;
+        let piece = Piece {
+            from: self.me,
+            number: self.pushed[to as usize],
+            n,
+            at,
+            bytes,
+        };
+        Some((to, piece))
+    }
+
+    /// Counts the next piece as pushed. Where it was its message's last one, that one has left.
+    pub fn pop_piece(&mut self) -> Option<(u8, u64)>
+        requires { IsSome (next_offered self.old.offers) }
+        ensures popped { IfSome (first_leaving self.old.offers)
+            (λ m. self.new.offers ≡ with_popped self.old.offers m) }
+        ensures pushed { IfSome (first_leaving self.old.offers) (λ m. self.new.pushed
+            ≡ slice_set self.old.pushed m.0 (pushed_to self.old m.0 + 1)) }
+        ensures last { result
+            ≡ option_and_then (out_by_piece self.old.offers) (first_leaving self.old.offers) }
+        ensures kept { Keeps self.old self.new (outs result) }
+        ensures in_turn { IfSome result (λ m. (h : List Event) → AreSent self.old h →
+            slice_get (filter (λ n. not (is_empty_send h m.0 n)) (cleared_to self.old m.0))
+            (length (pushed_out h m.0)) ≡ Some m.1) }
+        ensures counted { self.old.staying ≡ self.new.staying + length (outs result) }
+        ensures outbox { self.new.outbox ≡ self.old.outbox }
+    {
+        let (to, _) = self.offers.next_piece().unwrap();
+        self.pushed[to as usize] += 1;
+        let (to, n) = self.offers.pop_piece()?;
+        let departure = self.departures.get(to, n).unwrap();
+        self.departures.set(to, n, departure.left());
+        self.staying -= 1;
+        Some((to, n))
+    }
+}
