@@ -1,0 +1,83 @@
+-- What the tables answer: whether a piece is due, and what became of a receive.
+use Rattle.std.specs.Prelude.{IsSome, IfSome}
+use Rattle.std.proofs.Common.{◌≡◌, ℕ, ◌<◌, ◌≤◌, Bool, false, ◌||◌, is_some, nat_lt, Option, Some, None, List, [], ◌∷◌, zero, suc, length, refl, sym, ◌∙◌, ap}
+use Rattle.std.proofs.Common.{arith, ◌⊎◌, inl, inr}
+use Rattle.std.specs.List.{slice_get}
+use Rattle.std.specs.Option.{option_and_then, option_map, option_map_or}
+use Rattle.std.proofs.lemmas.Bool.{cases_lt, le-ltb, lt-ltb}
+use Rattle.std.proofs.lemmas.Option.{slice_get_within}
+use Rattle.nm_types.specs.declared.messages.Arrival.{Arrival}
+use Rattle.nm_history.specs.declared.events.Event.{Event}
+use Rattle.nm_history.specs.declared.plain.Pair.{Pair}
+use Rattle.nm_history.specs.Completion.{is_complete, is_here, pair_of_receive}
+use Rattle.nm_history.specs.Completion.Request.{Receiving}
+use Rattle.nm_protocol.specs.Pieces.{Due, due_pieces}
+use Rattle.nm_rndv.specs.Grants.{Granted, expected_in, first_unfinished}
+use Rattle.nm_streams.specs.Pieces.{AreDue}
+use Rattle.nm_streams.proofs.DueLemmas.{due-first}
+use Rattle.nm_streams.proofs.PieceLemmas.{due_of_grants-first}
+use Rattle.nm_receiving.specs.declared.receipts.Receipt.{Receipt}
+use Rattle.nm_receiving.specs.declared.receipts.Receive.{Receive}
+use Rattle.nm_receiving.specs.Kept.{IsKept}
+use Rattle.nm_receiving.specs.Receipts.{ReceivingView, pair_with, receipt_of}
+use Rattle.nm_receiving.specs.Received.{AreReceived}
+use Rattle.nm_receiving.proofs.Dues.{pair}
+use Rattle.nm_receiving.proofs.Stood.{is_cancelled_at, is_whole_at}
+
+some_mapped : {X Y : Type 0} (f : X → Y) (o : Option X) → is_some (option_map f o) ≡ is_some o
+some_mapped f None = refl
+some_mapped f (Some x) = refl
+
+slice_get_at : {X : Type 0} (xs : List X) (k : ℕ) → k < length xs → (x : X) × (slice_get xs k ≡ Some x)
+slice_get_at [] k below = absurd (let h : ⊥ = omega arith in h)
+slice_get_at (x ∷ xs) zero below = (x, refl)
+slice_get_at (x ∷ xs) (suc k) below = slice_get_at xs k (omega arith)
+
+some_inside : {X : Type 0} (xs : List X) (k : ℕ) → is_some (slice_get xs k) ≡ nat_lt k (length xs)
+some_inside {X} xs k = by (cases_lt k (length xs)) (slice_get xs k) refl
+  where
+    by : (k < length xs) ⊎ (length xs ≤ k) → (o : Option X) → slice_get xs k ≡ o → is_some (slice_get xs k) ≡ nat_lt k (length xs)
+    by (inl below) None is =
+        let there = slice_get_at xs k below in absurd (let same = there.1 in let h : ⊥ = cc in h)
+    by (inr past) None is = ap (λ (o : Option X). is_some o) is ∙ sym (le-ltb k (length xs) past)
+    by place (Some x) is = ap (λ (o : Option X). is_some o) is ∙ sym (lt-ltb k (length xs) (slice_get_within xs k x is))
+
+-- a piece is due exactly where a grant expects one
+pub due_is : (grants : List (ℕ × Granted)) (h : List Event) (from place : ℕ) → AreDue grants h from place
+    → is_some (expected_in grants) ≡ nat_lt place (length (due_pieces h from))
+due_is grants h from place due =
+    some_mapped _ (first_unfinished grants) ∙ sym (some_mapped _ (first_unfinished grants))
+    ∙ ap (λ (o : Option Due). is_some o) (sym (due_of_grants-first grants) ∙ due-first grants h from place due)
+    ∙ some_inside (due_pieces h from) place
+
+-- what became of a receive
+pub complete_some : (v : ReceivingView) (h : List Event) → AreReceived v h → (number : ℕ) (r : Receive) → slice_get v.receives number ≡ Some r
+    → is_complete h (Receiving number) ≡ (r.cancelled || option_map_or (λ a. is_whole_at (receipt_of v a.env.from a.n)) r.taken false)
+complete_some v h received number r here =
+    ap (λ (b : Bool). b || option_map_or (is_here h) (pair_of_receive h number) false)
+    (sym (received.cancelled number) ∙ ap is_cancelled_at here)
+    ∙ ap (λ (o : Option Pair). r.cancelled || option_map_or (is_here h) o false)
+    (sym (received.pairs number) ∙ ap (λ (o : Option Receive). option_and_then (pair_with number) o) here)
+    ∙ ap (λ (b : Bool). r.cancelled || b) (by r.taken)
+  where
+    by : (o : Option Arrival) → option_map_or (is_here h) (option_map (pair number r.cap) o) false
+        ≡ option_map_or (λ a. is_whole_at (receipt_of v a.env.from a.n)) o false
+    by None = refl
+    by (Some a) = sym (received.whole a.env.from a.n)
+
+pub complete_none : (v : ReceivingView) (h : List Event) → AreReceived v h → (number : ℕ) → slice_get v.receives number ≡ None
+    → is_complete h (Receiving number) ≡ false
+complete_none v h received number none =
+    ap (λ (b : Bool). b || option_map_or (is_here h) (pair_of_receive h number) false)
+    (sym (received.cancelled number) ∙ ap is_cancelled_at none)
+    ∙ ap (λ (o : Option Pair). option_map_or (is_here h) o false)
+    (sym (received.pairs number) ∙ ap (λ (o : Option Receive). option_and_then (pair_with number) o) none)
+
+-- the message that a receive took is here
+pub taken_here : (v : ReceivingView) → IsKept v → (number : ℕ) (r : Receive) → slice_get v.receives number ≡ Some r
+    → IfSome r.taken (λ a. IsSome (receipt_of v a.env.from a.n))
+taken_here v kept number r here = by r.taken refl
+  where
+    by : (o : Option Arrival) → r.taken ≡ o → IfSome o (λ a. IsSome (receipt_of v a.env.from a.n))
+    by None is = tt
+    by (Some a) is = let had = kept.tables.taken number r a here is in ap (λ (o : Option Receipt). is_some o) had.1.0

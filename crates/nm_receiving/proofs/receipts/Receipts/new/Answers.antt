@@ -1,0 +1,14 @@
+use Rattle.std.proofs.Common.{◌≡◌, ℕ, List, [], Vec, Global, ◌∙◌, ap, arith, replicate}
+use Rattle.nm_receiving.specs.declared.receipts.Receipt.{Receipt}
+use Rattle.nm_receiving.proofs.Rows.{rows-push}
+use Rattle.nm_receiving.proofs.receipts.Receipts.new.Goals as goal
+
+pub loop-preserved : goal.loop-preserved
+loop-preserved c = rw (c.in_ok-push.ensures.items)
+    (rows-push (λ (v : Vec Receipt Global). v.items) c.loop.rows.items c.loop.counter c.new.result []
+    c.loop.invariant c.new.ensures.items)
+
+pub returns : goal.returns
+returns c =
+    let all : c.loop.counter ≡ c.args.ranks = omega arith in
+    c.loop.invariant ∙ ap (λ (n : ℕ). let ys : List (List Receipt) = replicate n [] in ys) all

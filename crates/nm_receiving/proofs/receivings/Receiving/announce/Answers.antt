@@ -1,0 +1,191 @@
+use Rattle.std.proofs.Common.{◌≡◌, ◌<◌, ℕ, Bool, true, false, is_some, Option, None, List, [], ◌∷◌, ◌++◌, length, map, refl, sym, ◌∙◌, ap, subst, arith}
+use Rattle.std.specs.Bool.{then_some}
+use Rattle.std.specs.Option.{option_map}
+use Rattle.std.proofs.Math.ListN.{set}
+use Rattle.nm_types.specs.declared.limits.TheConstants.{MAX_PACKETS}
+use Rattle.nm_types.specs.declared.messages.Arrival.{Arrival}
+use Rattle.nm_types.specs.declared.messages.How.TheVariants.{Ask}
+use Rattle.nm_types.specs.declared.messages.Post as post
+use Rattle.nm_types.specs.declared.packets.Packet.{Packet}
+use Rattle.nm_types.specs.declared.packets.What.{What}
+use Rattle.nm_history.specs.Matching.{first_receive, matched_pairs}
+use Rattle.nm_match.specs.Deeds.{history_of, is_known_message}
+use Rattle.nm_match.proofs.StandsLemmas.{first_receive-stands}
+use Rattle.nm_streams.specs.Streams.{is_done_at_once}
+use Rattle.nm_eager.specs.Senders.{Received}
+use Rattle.nm_eager.specs.Streams.{Stream, after, continues, missing, skipped}
+use Rattle.nm_receiving.specs.declared.receipts.Receipt.{Receipt}
+use Rattle.nm_receiving.specs.declared.receipts.Receive.{Receive}
+use Rattle.nm_receiving.specs.Kept.{IsKept}
+use Rattle.nm_receiving.specs.Receipts.{ReceivingView, receipts_from, stream_of}
+use Rattle.nm_receiving.specs.Received.{AreReceived, TakesPacket}
+use Rattle.nm_receiving.specs.Seen.{seen}
+use Rattle.nm_receiving.specs.Steps.{grants_with, rows_from, rows_with, streams_of}
+use Rattle.nm_receiving.proofs.Beginning.{stream_at}
+use Rattle.nm_receiving.proofs.Goings.{next_message}
+use Rattle.nm_receiving.proofs.Joinings.{stream_stepped}
+use Rattle.nm_receiving.proofs.Packets.{ask_finished, ask_grant-came, ask_grant-new, ask_is, ask_view, kept-ask, some_mapped, takes-ask}
+use Rattle.nm_receiving.proofs.Packets.{taken_ended, taker_inside, then_taken}
+use Rattle.nm_receiving.proofs.receivings.Receiving.announce.Goals as goal
+
+pub arrive-requires : goal.arrive-requires
+arrive-requires c =
+    let v = seen c.self.inside in
+    let p : Packet = c.args.p.now in
+    let arr = c.next_arrival-arrival.ensures
+    ∙ ap (λ (w : ReceivingView). let a : Arrival = record { n = length (receipts_from w p.from); env = record { from = p.from; tag = c.args.tag; ctx = c.args.ctx; len = c.args.len; how = Ask } } in a)
+    (sym c.self.view_is) in
+    record {
+      is_new = ap (λ (a : Arrival). is_known_message (history_of c.self.inside.matcher) a.env.from a.n) arr
+          ∙ next_message v c.self.invariant p.from (length (receipts_from v p.from)) refl;
+    }
+
+pub skip-requires-clause-closed : goal.skip-requires-clause-closed
+skip-requires-clause-closed c =
+    let v = seen c.self.inside in
+    let p : Packet = c.args.p.now in
+    let sender = subst (λ (w : ReceivingView). p.from < w.sizes.ranks) (sym c.self.view_is) c.requires.sender in
+    let goes = subst (λ (w : ReceivingView). continues w.sizes.eager (stream_of w p.from).count (missing (stream_of w p.from)) p.what (length p.payload) ≡ true)
+    (sym c.self.view_is) c.requires.continues in
+    ap (λ (s : Stream). missing s) (sym (stream_at c.self.inside.joiner p.from sender))
+    ∙ ask_finished v c.self.invariant p c.args.tag c.args.ctx c.args.len c.requires.ask sender goes None
+
+pub skip-requires-clause-limit : goal.skip-requires-clause-limit
+skip-requires-clause-limit c =
+    let p : Packet = c.args.p.now in
+    let sender = subst (λ (w : ReceivingView). p.from < w.sizes.ranks) (sym c.self.view_is) c.requires.sender in
+    let few = subst (λ (w : ReceivingView). (stream_of w p.from).count < MAX_PACKETS) (sym c.self.view_is) c.requires.few in
+    subst (λ (s : Stream). s.count < MAX_PACKETS) (stream_at c.self.inside.joiner p.from sender) few
+
+pub give-requires : goal.give-requires
+give-requires c =
+    taker_inside (seen c.self.inside) c.self.invariant c.next_arrival-arrival.result c.in_ok-taker.taker c.in_ok-taker.ensures.oldest
+
+pub grant_taken-requires-clause-new : goal.grant_taken-requires-clause-new
+grant_taken-requires-clause-new c =
+    let v : ReceivingView = seen c.self.inside in
+    let p : Packet = c.args.p.now in
+    let sender = subst (λ (w : ReceivingView). p.from < w.sizes.ranks) (sym c.self.view_is) c.requires.sender in
+    let arr = c.next_arrival-arrival.ensures
+    ∙ ap (λ (w : ReceivingView). let a : Arrival = record { n = length (receipts_from w p.from); env = record { from = p.from; tag = c.args.tag; ctx = c.args.ctx; len = c.args.len; how = Ask } } in a)
+    (sym c.self.view_is) in
+    ask_grant-new v c.self.invariant c.is_some.result c.next_arrival-arrival.result c.then_some-taken.result c.then_some-taken.ensures
+    (subst (λ (a : Arrival). a.env.from < length v.receipts) (sym arr) (let n = c.self.invariant.tables.receipts in omega (arith, sender, n)))
+    (subst (λ (a : Arrival). a.n ≡ length (receipts_from v a.env.from)) (sym arr) refl)
+    c.reserve-2.new.self.grants c.reserve-2.ensures.same
+
+pub grant_taken-requires-clause-came : goal.grant_taken-requires-clause-came
+grant_taken-requires-clause-came c =
+    let v : ReceivingView = seen c.self.inside in
+    let p : Packet = c.args.p.now in
+    let sender = subst (λ (w : ReceivingView). p.from < w.sizes.ranks) (sym c.self.view_is) c.requires.sender in
+    let arr = c.next_arrival-arrival.ensures
+    ∙ ap (λ (w : ReceivingView). let a : Arrival = record { n = length (receipts_from w p.from); env = record { from = p.from; tag = c.args.tag; ctx = c.args.ctx; len = c.args.len; how = Ask } } in a)
+    (sym c.self.view_is) in
+    let r : Receipt = record { arrival = c.next_arrival-arrival.result; whole = false } in
+    ask_grant-came v c.self.invariant c.is_some.result c.next_arrival-arrival.result c.then_some-taken.result c.then_some-taken.ensures
+    (subst (λ (a : Arrival). a.env.from < length v.receipts) (sym arr) (let n = c.self.invariant.tables.receipts in omega (arith, sender, n)))
+    (subst (λ (a : Arrival). a.n ≡ length (receipts_from v a.env.from)) (sym arr) refl)
+    c.push.new.self.rows r
+    (c.push.ensures ∙ ap (λ (rows : List (List Receipt)). set rows p.from (rows_from rows p.from ++ r ∷ [])) c.reserve.ensures.rows
+    ∙ ap (λ (i : ℕ). set v.receipts i (rows_from v.receipts i ++ r ∷ [])) (ap (λ (a : Arrival). a.env.from) (sym arr)))
+
+-- the fields afterwards
+abbrev after_view : goal.After-is_some-2 → ReceivingView
+after_view c =
+    record {
+      sizes = c.skip.new.self.sizes;
+      deeds = c.arrive.new.self;
+      streams = streams_of c.skip.new.self;
+      grants = c.grant_taken.new.grants.grants;
+      receipts = c.grant_taken.new.receipts.rows;
+      receives = c.give.new.receives.items;
+      drawn = c.self.inside.drawn.items;
+    }
+
+abbrev taker_post : goal.After-is_some-2 → Option post.Post
+taker_post c =
+    let p : Packet = c.args.p.now in
+    first_receive (history_of c.self.inside.matcher) (matched_pairs (history_of c.self.inside.matcher))
+    (record { from = p.from; tag = c.args.tag; ctx = c.args.ctx; len = c.args.len; how = Ask })
+
+sender_of : (c : goal.After-is_some-2) → c.args.p.now.from < c.self.inside.joiner.sizes.ranks
+sender_of c = subst (λ (w : ReceivingView). c.args.p.now.from < w.sizes.ranks) (sym c.self.view_is) c.requires.sender
+
+goes_of : (c : goal.After-is_some-2) → let p : Packet = c.args.p.now in let v : ReceivingView = seen c.self.inside in
+    continues v.sizes.eager (stream_of v p.from).count (missing (stream_of v p.from)) p.what (length p.payload) ≡ true
+goes_of c = subst (λ (w : ReceivingView). continues w.sizes.eager (stream_of w c.args.p.now.from).count (missing (stream_of w c.args.p.now.from))
+    c.args.p.now.what (length c.args.p.now.payload) ≡ true) (sym c.self.view_is) c.requires.continues
+
+streams_after : (c : goal.After-is_some-2) → let p : Packet = c.args.p.now in
+    streams_of c.skip.new.self ≡ set (streams_of c.self.inside.joiner) p.from (skipped (stream_of (seen c.self.inside) p.from))
+streams_after c =
+    let step = c.skip.ensures.step in
+    stream_stepped c.self.inside.joiner c.skip.new.self c.args.p.now.from (λ s. skipped s) step.sizes (sender_of c) step.changed
+    (λ other differ. ap (λ (r : Received). r.stream) (step.others other differ))
+
+arrival_of : (c : goal.After-is_some-2) → let p : Packet = c.args.p.now in
+    ◌≡◌ {A = Arrival} c.next_arrival-arrival.result
+    (record { n = length (receipts_from (seen c.self.inside) p.from); env = record { from = p.from; tag = c.args.tag; ctx = c.args.ctx; len = c.args.len; how = Ask } })
+arrival_of c =
+    let p : Packet = c.args.p.now in
+    c.next_arrival-arrival.ensures
+    ∙ ap (λ (w : ReceivingView). let a : Arrival = record { n = length (receipts_from w p.from); env = record { from = p.from; tag = c.args.tag; ctx = c.args.ctx; len = c.args.len; how = Ask } } in a)
+    (sym c.self.view_is)
+
+taker_is : (c : goal.After-is_some-2) → c.in_ok-taker.taker ≡ option_map (λ (q : post.Post). q.number) (taker_post c)
+taker_is c =
+    c.in_ok-taker.ensures.oldest
+    ∙ ap (λ (a : Arrival). option_map (λ (q : post.Post). q.number) (first_receive (history_of c.self.inside.matcher) (matched_pairs (history_of c.self.inside.matcher)) a.env))
+    (arrival_of c)
+
+view_is : (c : goal.After-is_some-2) → let v : ReceivingView = seen c.self.inside in let p : Packet = c.args.p.now in
+    ask_view v c.self.invariant p c.args.tag c.args.ctx c.args.len c.requires.ask (sender_of c) (goes_of c) (taker_post c) ≡ after_view c
+view_is c =
+    let v : ReceivingView = seen c.self.inside in
+    let p : Packet = c.args.p.now in
+    let arrival = c.next_arrival-arrival.result in
+    let r : Receipt = record { arrival = arrival; whole = false } in
+    let taken = c.then_some-taken.result in
+    ask_is v c.self.invariant p c.args.tag c.args.ctx c.args.len c.requires.ask (sender_of c) (goes_of c) (taker_post c)
+    arrival c.in_ok-taker.taker taken c.skip.new.self.sizes c.arrive.new.self (streams_of c.skip.new.self) c.grant_taken.new.grants.grants
+    c.grant_taken.new.receipts.rows c.give.new.receives.items (arrival_of c) (taker_is c)
+    (c.then_some-taken.ensures ∙ ap (λ (b : Bool). then_some b arrival) c.is_some.ensures ∙ then_taken c.in_ok-taker.taker arrival)
+    c.skip.ensures.step.sizes c.in_ok-taker.ensures.ok (streams_after c)
+    (c.grant_taken.ensures.grants ∙ ap (λ gs. grants_with gs taken) c.reserve-2.ensures.same)
+    (c.grant_taken.ensures.receipts
+    ∙ ap (λ (rows : List (List Receipt)). rows_with rows taken)
+    (c.push.ensures ∙ ap (λ (rows : List (List Receipt)). set rows p.from (rows_from rows p.from ++ r ∷ [])) c.reserve.ensures.rows))
+    c.give.ensures
+
+pub returns-clause-at_once : goal.returns-clause-at_once
+returns-clause-at_once c = λ h received.
+    let here = subst (λ (v : ReceivingView). AreReceived v h) (sym c.self.view_is) received in
+    c.is_some-2.ensures ∙ ap (λ (o : Option ℕ). is_some o) (taker_is c)
+    ∙ some_mapped (λ (q : post.Post). q.number) (taker_post c)
+    ∙ ap (λ (o : Option post.Post). is_some o) (sym (first_receive-stands c.self.inside.matcher h here.stands
+    (record { from = c.args.p.now.from; tag = c.args.tag; ctx = c.args.ctx; len = c.args.len; how = Ask })))
+    ∙ ap (λ (w : What). is_done_at_once h c.args.p.now.from w) (sym c.requires.ask)
+
+pub invariant_of-self-2 : goal.invariant_of-self-2
+invariant_of-self-2 c =
+    subst (λ (w : ReceivingView). IsKept w) (view_is c)
+    (kept-ask (seen c.self.inside) c.self.invariant c.args.p.now c.args.tag c.args.ctx c.args.len c.requires.ask (sender_of c) (goes_of c) (taker_post c) refl)
+
+pub returns-clause-kept : goal.returns-clause-kept
+returns-clause-kept c =
+    subst (λ (u : ReceivingView). TakesPacket u (after_view c) c.args.p.now) c.self.view_is
+    (subst (λ (w : ReceivingView). TakesPacket (seen c.self.inside) w c.args.p.now) (view_is c)
+    (takes-ask (seen c.self.inside) c.self.invariant c.args.p.now c.args.tag c.args.ctx c.args.len c.requires.ask (sender_of c) (goes_of c) (taker_post c) refl))
+
+pub returns-clause-streams : goal.returns-clause-streams
+returns-clause-streams c =
+    let p : Packet = c.args.p.now in
+    streams_after c ∙ ap (λ (w : ReceivingView). set w.streams p.from (skipped (stream_of w p.from))) c.self.view_is
+    ∙ ap (λ (w : What). set c.args.self.now.streams p.from (after (stream_of c.args.self.now p.from) w p.payload)) (sym c.requires.ask)
+
+pub returns-clause-ended : goal.returns-clause-ended
+returns-clause-ended c =
+    ap (λ (rs : List Receive). map (λ r. r.ended) rs) c.give.ensures
+    ∙ taken_ended c.self.inside.receives.items c.in_ok-taker.taker c.next_arrival-arrival.result
+    ∙ ap (λ (w : ReceivingView). map (λ r. r.ended) w.receives) c.self.view_is

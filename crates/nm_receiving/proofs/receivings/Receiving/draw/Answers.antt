@@ -1,0 +1,110 @@
+use Rattle.std.proofs.Common.{◌≡◌, ◌+◌, ◌<◌, ℕ, false, Option, length, get_or, refl, sym, ◌∙◌, ap, subst, add-zero, arith}
+use Rattle.std.specs.Option.{option_map_or, option_to_list}
+use Rattle.std.proofs.Math.ListN.{set}
+use Rattle.std.proofs.lemmas.List.{get_or_read, set-get_or}
+use Rattle.nm_types.specs.declared.packets.Piece.{Piece}
+use Rattle.nm_protocol.specs.Pieces.{Due, due_pieces, is_due, piece_makes}
+use Rattle.std.specs.List.{slice_get}
+use Rattle.nm_receiving.specs.Kept.{IsKept}
+use Rattle.nm_receiving.specs.Receipts.{ReceivingView, drawn_from}
+use Rattle.nm_receiving.specs.Received.{AreReceived, Keeps}
+use Rattle.nm_receiving.specs.Seen.{seen}
+use Rattle.nm_receiving.proofs.Drawing.{continued_at, drawn_is, drawn_view, due_at, ends_is, keeps-draw, keeps-stray, kept-draw, piece_came}
+use Rattle.nm_receiving.proofs.Drawing.{stray_makes}
+use Rattle.nm_receiving.proofs.receivings.Receiving.draw.Goals as goal
+
+pub returns-then-not-fits-clause-continued : goal.returns-then-not-fits-clause-continued
+returns-then-not-fits-clause-continued c = λ h received.
+    let here = subst (λ (v : ReceivingView). AreReceived v h) (sym c.self.view_is) received in
+    let p : Piece = c.args.p.now in
+    sym c.if-not-fits.true ∙ continued_at (seen c.self.inside) c.self.inside.grants p c.fits.result refl c.fits.ensures h here
+    ∙ ap (λ (v : ReceivingView). option_map_or (is_due p) (slice_get (due_pieces h p.from) (drawn_from v p.from)) false) c.self.view_is
+
+pub returns-then-not-fits-clause-event : goal.returns-then-not-fits-clause-event
+returns-then-not-fits-clause-event c = λ h received.
+    let here = subst (λ (v : ReceivingView). AreReceived v h) (sym c.self.view_is) received in
+    let p : Piece = c.args.p.now in
+    stray_makes p.from (slice_get (due_pieces h p.from) (drawn_from c.args.self.now p.from)) p
+    (sym c.if-not-fits.true ∙ continued_at (seen c.self.inside) c.self.inside.grants p c.fits.result refl c.fits.ensures h here
+    ∙ ap (λ (v : ReceivingView). option_map_or (is_due p) (slice_get (due_pieces h p.from) (drawn_from v p.from)) false) c.self.view_is)
+
+pub returns-then-not-fits-clause-kept : goal.returns-then-not-fits-clause-kept
+returns-then-not-fits-clause-kept c = keeps-stray c.args.self.now
+
+pub returns-then-not-fits-clause-counted : goal.returns-then-not-fits-clause-counted
+returns-then-not-fits-clause-counted c =
+    let from = c.args.p.now.from in
+    let v : ReceivingView = c.args.self.now in
+    sym (ap (λ (k : ℕ). set v.drawn from k) (add-zero (get_or v.drawn from 0)) ∙ set-get_or v.drawn from 0)
+
+pub make_whole_if-requires : goal.make_whole_if-requires
+make_whole_if-requires c =
+    let p : Piece = c.args.p.now in
+    let fits = c.fits.ensures.0 c.if-not-fits.false in
+    let gs = c.self.inside.grants in
+    let sender = subst (λ (w : ReceivingView). p.from < w.sizes.ranks) (sym c.self.view_is) c.requires.sender in
+    piece_came (seen c.self.inside) c.self.invariant gs p refl fits sender c.in_ok-joined.joined c.event-event.result c.in_ok-joined.ensures.joined
+    (c.event-event.ensures gs fits c.in_ok-joined.ensures.joined)
+
+-- the fields afterwards
+sender_of : (c : goal.After-self-1) → c.args.p.now.from < c.self.inside.joiner.sizes.ranks
+sender_of c = subst (λ (w : ReceivingView). c.args.p.now.from < w.sizes.ranks) (sym c.self.view_is) c.requires.sender
+
+abbrev after_view : goal.After-self-1 → ReceivingView
+after_view c =
+    record (seen c.self.inside) {
+      grants = c.piece.new.self.grants;
+      receipts = c.make_whole_if.new.self.rows;
+      drawn = set c.self.inside.drawn.items c.args.p.now.from (c.index_mut.result.now + 1);
+    }
+
+view_is : (c : goal.After-self-1) →
+    drawn_view (seen c.self.inside) c.self.invariant c.self.inside.grants c.args.p.now refl (c.fits.ensures.0 c.if-not-fits.false) (sender_of c)
+    c.in_ok-joined.joined c.event-event.result c.in_ok-joined.ensures.joined
+    (c.event-event.ensures c.self.inside.grants (c.fits.ensures.0 c.if-not-fits.false) c.in_ok-joined.ensures.joined)
+    ≡ after_view c
+view_is c =
+    let p : Piece = c.args.p.now in
+    let fits = c.fits.ensures.0 c.if-not-fits.false in
+    let gs = c.self.inside.grants in
+    let sender = sender_of c in
+    let rows = c.self.invariant.tables.drawn in
+    let inside : p.from < length c.self.inside.drawn.items = omega (arith, sender, rows) in
+    drawn_is (seen c.self.inside) c.self.invariant gs p refl fits sender c.in_ok-joined.joined c.event-event.result c.in_ok-joined.ensures.joined
+    (c.event-event.ensures gs fits c.in_ok-joined.ensures.joined)
+    c.is_some.result c.piece.new.self.grants c.make_whole_if.new.self.rows (set c.self.inside.drawn.items p.from (c.index_mut.result.now + 1))
+    (c.is_some.ensures ∙ ends_is (seen c.self.inside) c.self.invariant gs p refl fits sender c.in_ok-joined.joined c.event-event.result
+    c.in_ok-joined.ensures.joined (c.event-event.ensures gs fits c.in_ok-joined.ensures.joined))
+    c.in_ok-joined.ensures.ok c.make_whole_if.ensures
+    (ap (λ (k : ℕ). set c.self.inside.drawn.items p.from (k + 1))
+    (get_or_read c.self.inside.drawn.items p.from c.index_mut.result.now inside c.index_mut.ensures.value 0))
+
+pub invariant_of-self-2 : goal.invariant_of-self-2
+invariant_of-self-2 c =
+    subst (λ (w : ReceivingView). IsKept w) (view_is c)
+    (kept-draw (seen c.self.inside) c.self.invariant c.self.inside.grants c.args.p.now refl (c.fits.ensures.0 c.if-not-fits.false) (sender_of c)
+    c.in_ok-joined.joined c.event-event.result c.in_ok-joined.ensures.joined
+    (c.event-event.ensures c.self.inside.grants (c.fits.ensures.0 c.if-not-fits.false) c.in_ok-joined.ensures.joined))
+
+pub returns-clause-continued : goal.returns-clause-continued
+returns-clause-continued c = λ h received.
+    let here = subst (λ (v : ReceivingView). AreReceived v h) (sym c.self.view_is) received in
+    let p : Piece = c.args.p.now in
+    sym c.if-not-fits.false ∙ continued_at (seen c.self.inside) c.self.inside.grants p c.fits.result refl c.fits.ensures h here
+    ∙ ap (λ (v : ReceivingView). option_map_or (is_due p) (slice_get (due_pieces h p.from) (drawn_from v p.from)) false) c.self.view_is
+
+pub returns-clause-event : goal.returns-clause-event
+returns-clause-event c = λ h received.
+    let here = subst (λ (v : ReceivingView). AreReceived v h) (sym c.self.view_is) received in
+    let p : Piece = c.args.p.now in
+    c.event-event.ensures c.self.inside.grants (c.fits.ensures.0 c.if-not-fits.false) c.in_ok-joined.ensures.joined
+    ∙ ap (λ (o : Option Due). piece_makes p.from o p) (due_at (seen c.self.inside) h here p.from)
+    ∙ ap (λ (v : ReceivingView). piece_makes p.from (slice_get (due_pieces h p.from) (drawn_from v p.from)) p) c.self.view_is
+
+pub returns-clause-kept : goal.returns-clause-kept
+returns-clause-kept c =
+    subst (λ (u : ReceivingView). Keeps u (after_view c) (option_to_list c.event-event.result)) c.self.view_is
+    (subst (λ (w : ReceivingView). Keeps (seen c.self.inside) w (option_to_list c.event-event.result)) (view_is c)
+    (keeps-draw (seen c.self.inside) c.self.invariant c.self.inside.grants c.args.p.now refl (c.fits.ensures.0 c.if-not-fits.false) (sender_of c)
+    c.in_ok-joined.joined c.event-event.result c.in_ok-joined.ensures.joined
+    (c.event-event.ensures c.self.inside.grants (c.fits.ensures.0 c.if-not-fits.false) c.in_ok-joined.ensures.joined)))

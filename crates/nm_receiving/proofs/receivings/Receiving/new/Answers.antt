@@ -1,0 +1,45 @@
+use Rattle.std.proofs.Common.{◌≡◌, ℕ, List, [], replicate, sym, ◌∙◌, ap}
+use Rattle.nm_types.specs.Sizes.{Sizes}
+use Rattle.nm_rndv.specs.Grants.{Granted}
+use Rattle.nm_receiving.specs.declared.receipts.Receipt.{Receipt}
+use Rattle.nm_receiving.specs.Receipts.{ReceivingView}
+use Rattle.nm_receiving.specs.Steps.{streams_of}
+use Rattle.nm_receiving.proofs.Beginning.{IsEmpty, kept-none, no_streams, none_drawn, received-none, streams_length}
+use Rattle.nm_receiving.proofs.receivings.Receiving.new.Goals as goal
+
+abbrev made : goal.In_ok-vec → ReceivingView
+made c =
+    record {
+      sizes = c.in_ok-new.field-0.sizes;
+      deeds = c.new.result;
+      streams = streams_of c.in_ok-new.field-0;
+      grants = c.in_ok-new-2.field-0.grants;
+      receipts = c.in_ok-new-3.field-0.rows;
+      receives = c.new-5.result.items;
+      drawn = c.in_ok-vec.field-0.items;
+    }
+
+is_empty : (c : goal.In_ok-vec) → IsEmpty (made c)
+is_empty c =
+    let n : ℕ = c.in_ok-new.field-0.sizes.ranks in
+    let ranks : c.ranks-ranks.result ≡ n =
+    c.ranks-ranks.ensures.value ∙ ap (λ (s : Sizes). s.ranks) (sym c.in_ok-new.ensures.shape) in
+    record {
+      deeds = c.new.ensures;
+      streams = no_streams c.in_ok-new.field-0 c.in_ok-new.ensures.empty;
+      streams' = streams_length c.in_ok-new.field-0;
+      grants = c.in_ok-new-2.ensures ∙ ap (λ (k : ℕ). let ys : List (List (ℕ × Granted)) = replicate k [] in ys) ranks;
+      receipts = c.in_ok-new-3.ensures ∙ ap (λ (k : ℕ). let ys : List (List Receipt) = replicate k [] in ys) ranks;
+      receives = c.new-5.ensures.items;
+      drawn = c.in_ok-vec.ensures.items_if_clones_equal (λ y is. is) ∙ ap (λ (k : ℕ). let ys : List ℕ = replicate k 0 in ys) ranks;
+    }
+
+pub invariant_of-result : goal.invariant_of-result
+invariant_of-result c = kept-none (made c) (is_empty c)
+
+pub returns-clause-none : goal.returns-clause-none
+returns-clause-none c = received-none (made c) (is_empty c)
+
+pub returns-clause-nothing : goal.returns-clause-nothing
+returns-clause-nothing c = λ from.
+    let empty = is_empty c in (empty.streams from, none_drawn (made c) empty from)

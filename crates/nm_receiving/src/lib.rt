@@ -1,0 +1,32 @@
+//! What comes to a rank, and its receives.
+//!
+//! MPI 3.1, sections 3.5 (order and matching), 3.7.3 (completion) and 3.8 (probe, matched probe and
+//! cancel). A `Receiving` has the matcher of a rank, the bytes of the messages that come to it in
+//! packets or in pieces, and for each message and each receive what became of it. It knows no history:
+//! its contracts say how it stands to one.
+//!
+//! # What a contract sees
+//! A `ReceivingView`, and the relation `AreReceived` between it and a history: the matcher's deeds, the
+//! messages and the receives are those of the history, and what is due of a sender is what the history
+//! says. A call that changes something says with which events that goes: `Keeps old new happenings` says
+//! that, whatever the history, the new view stands in the relation with the longer one, and that the
+//! events may come there.
+//! # What is proved
+//! - Each answer is the definition's on every history that stands in the relation.
+//! - Each call keeps the relation, with the events that its clause `kept` names.
+//! - `finish` gives the result of the receive, with the bytes that came of its message.
+//! - After want of memory nothing has changed (clause `err`).
+//! # What is only tested
+//! That calls which take memory succeed with ample memory.
+#![tactic(auto)]
+
+mod bytes;
+pub mod laws;
+mod receipts;
+mod receivings;
+mod telling;
+#[cfg(test)]
+mod tests;
+
+pub use receipts::{Receipt, Receive};
+pub use receivings::{Drawn, Receiving, Started};

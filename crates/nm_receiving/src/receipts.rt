@@ -1,0 +1,135 @@
+//! What became of the messages that came, and of the receives.
+
+ghost use Rattle.std.specs.Prelude.{◌≡◌, ◌<◌, [], ◌∷◌, ◌++◌, length, replicate, slice_index, if◌then◌else◌};
+ghost use Rattle.std.specs.Prelude.{slice_set, false, Some, IfOk, IfSome, IsSome, OnOk};
+ghost use Rattle.std.specs.List.{slice_get};
+ghost use Rattle.nm_receiving.specs.Steps.{rows_from, with_whole, with_taken};
+
+use nm_types::{Arrival, Memory};
+use std::alloc::Global;
+use std::marker::Model;
+
+/// A message that came.
+#[derive(Clone, Copy, Debug)]
+pub struct Receipt {
+    pub arrival: Arrival,
+    /// Whether all of it is here.
+    pub whole: bool,
+}
+
+/// A receive that was posted, or that took a claimed message.
+#[derive(Clone, Copy, Debug)]
+pub struct Receive {
+    /// How many bytes it takes at most.
+    pub cap: u32,
+    /// The message that it took, if it took one.
+    pub taken: Option<Arrival>,
+    pub cancelled: bool,
+    /// Whether its result was given, with the bytes of its message.
+    pub ended: bool,
+}
+
+impl Receive {
+    /// A receive of at most so many bytes, and the message that it takes.
+    pub(crate) fn new(cap: u32, taken: Option<Arrival>) -> Self
+        ensures { result
+            ≡ record { cap = cap; taken = taken; cancelled = false; ended = false } }
+    {
+        Receive {
+            cap,
+            taken,
+            cancelled: false,
+            ended: false,
+        }
+    }
+}
+
+/// The messages that came, by sender and number.
+#[derive(Drop)]
+pub(crate) struct Receipts {
+    rows: Vec<Vec<Receipt>>,
+}
+
+impl Model for Receipts {
+    ghost use Rattle.std.specs.Prelude.{◌-◌, map, vec_capacity, vec_len};
+    ghost use Rattle.nm_receiving.specs.Steps.{ReceiptsView};
+
+    ghost Value = { ReceiptsView };
+
+    ghost view = { λ a.
+        record {
+          rows = map (λ v. v.items) a.rows.items;
+          room = map (λ v. vec_capacity v - vec_len v) a.rows.items;
+        } };
+}
+
+impl Receipts {
+    /// No messages, of so many senders.
+    pub(crate) fn new(alloc: Global, ranks: u8) -> Result<Receipts, Memory>
+        ensures { IfOk result (λ receipts. receipts.rows ≡ replicate ranks []) }
+    {
+        let mut rows = Vec::new(alloc);
+        for _ in 0..ranks {
+            rows.push(Vec::new(alloc))?;
+        }
+        Ok(Receipts { rows })
+    }
+
+    /// How many messages came from a sender.
+    pub(crate) fn count(&self, from: u8) -> u64
+        requires { from < length self.now.rows }
+        ensures { result ≡ length (rows_from self.now.rows from) }
+    {
+        self.rows[from as usize].len() as u64
+    }
+
+    /// Makes room for one message more of a sender.
+    pub(crate) fn reserve(&mut self, from: u8) -> Result<(), Memory>
+        requires { from < length self.old.rows }
+        ensures rows { self.new.rows ≡ self.old.rows }
+        ensures ok { OnOk result (0 < slice_index self.new.room from) }
+    {
+        self.rows[from as usize].reserve(1)?;
+        Ok(())
+    }
+
+    /// Adds the next message of a sender. There is room for it.
+    pub(crate) fn push(&mut self, from: u8, receipt: Receipt)
+        requires from { from < length self.old.rows }
+        requires room { 0 < slice_index self.old.room from }
+        ensures { self.new.rows
+            ≡ slice_set self.old.rows from (rows_from self.old.rows from ++ receipt ∷ []) }
+    {
+        self.rows[from as usize].push_reserved(receipt);
+    }
+
+    /// Message `n` of a sender is here whole, where this is true.
+    pub(crate) fn make_whole_if(&mut self, whole: bool, from: u8, n: u64)
+        requires { IsSome (slice_get (rows_from self.old.rows from) n) }
+        ensures { self.new.rows
+            ≡ (if whole then slice_set self.old.rows from (with_whole (rows_from self.old.rows from) n)
+            else self.old.rows) }
+    {
+        if whole {
+            self.rows[from as usize][n as usize].whole = true;
+        }
+    }
+
+    /// Message `n` of a sender.
+    pub(crate) fn get(&self, from: u8, n: u64) -> Receipt
+        requires { IsSome (slice_get (rows_from self.now.rows from) n) }
+        ensures { slice_get (rows_from self.now.rows from) n ≡ Some result }
+    {
+        self.rows[from as usize][n as usize]
+    }
+}
+
+/// The receive of this number takes a message, where there is one.
+pub(crate) fn give(receives: &mut Vec<Receive>, taker: Option<u64>, a: Arrival)
+    requires { IfSome taker (λ number. number < length receives.old.items) }
+    ensures { receives.new.items ≡ with_taken receives.old.items taker a }
+{
+    if let Some(number) = taker {
+        receives[number as usize].taken = Some(a);
+    }
+}

@@ -1,0 +1,501 @@
+//! The receiving side of a rank.
+
+ghost use Rattle.std.specs.Prelude.{◌≡◌, ℕ, ◌+◌, ◌<◌, true, false, not, if◌then◌else◌};
+ghost use Rattle.std.specs.Prelude.{IfOk, IfSome, IsSome, IsNone, IsTrue, MatchOption, OnErr, OnOk};
+ghost use Rattle.std.specs.Prelude.{nat_lt, option_map, option_to_list, List, [], ◌∷◌, ◌++◌, length};
+ghost use Rattle.std.specs.Prelude.{map, slice_set};
+ghost use Rattle.std.specs.List.{list_any, slice_get};
+ghost use Rattle.std.specs.Option.{option_map_or};
+ghost use Rattle.nm_types.specs.declared.limits.TheConstants.{MAX_PACKETS};
+ghost use Rattle.nm_types.specs.declared.packets.What.TheVariants as what;
+ghost use Rattle.nm_history.specs.declared.events.Event.{Event};
+ghost use Rattle.nm_history.specs.declared.events.Happened.TheVariants as event;
+ghost use Rattle.nm_history.specs.Answers.{without_bytes};
+ghost use Rattle.nm_history.specs.Completion.{is_complete as is_complete_lem, result_of};
+ghost use Rattle.nm_history.specs.Completion.Request.{Receiving as ReceivingRequest};
+ghost use Rattle.nm_history.specs.Happens.{happened, is_arrival};
+ghost use Rattle.nm_history.specs.Matching.{first_message, is_claimed as is_claimed_lem};
+ghost use Rattle.nm_history.specs.Matching.{is_free_message, is_of_receive, matched_pairs};
+ghost use Rattle.nm_history.specs.Sends.{message_of};
+ghost use Rattle.nm_protocol.specs.Effects.{happenings};
+ghost use Rattle.nm_protocol.specs.Known.{Known, learned};
+ghost use Rattle.nm_protocol.specs.Pieces.{due_pieces, is_due as is_due_lem, piece_makes};
+ghost use Rattle.nm_eager.specs.Streams.{after, continues, is_kept, missing, nothing_came};
+ghost use Rattle.nm_rndv.specs.Grants.{with_piece};
+ghost use Rattle.nm_streams.specs.Streams.{is_done_at_once};
+ghost use Rattle.nm_receiving.specs.Receipts.{ShowsBytes, drawn_from, granted_to, receipts_from};
+ghost use Rattle.nm_receiving.specs.Receipts.{receipt_of, stream_of, taken_events};
+ghost use Rattle.nm_receiving.specs.Received.{AreReceived, Follows, Keeps, MayBeTaken, TakesPacket};
+ghost use Rattle.nm_receiving.specs.Steps.{with_ended};
+
+use crate::bytes::{grant_taken, shown, take_bytes};
+use crate::receipts::{Receipt, Receipts, Receive, give};
+use crate::telling::packets_tell;
+use nm_eager::Joiner;
+use nm_history::Happened;
+use nm_match::Matcher;
+use nm_rndv::Grants;
+use nm_streams::pieces;
+use nm_types::{
+    Answer, Arrival, Envelope, How, Memory, Packet, Peer, Piece, Post, Shape, TagPick, What,
+};
+use std::alloc::Global;
+use std::marker::Model;
+
+/// What a receive that was started is: its number, and the message that it took, if it took one.
+#[derive(Clone, Copy, Debug)]
+pub struct Started {
+    pub number: u64,
+    pub taken: Option<Arrival>,
+}
+
+/// What a piece did: whether it continued its message, and what that made happen.
+#[derive(Debug, Drop)]
+pub struct Drawn {
+    pub continued: bool,
+    pub event: Option<Happened>,
+}
+
+/// The receiving side of a rank: the messages that come to it, and its receives.
+#[derive(Drop)]
+pub struct Receiving {
+    matcher: Matcher,
+    joiner: Joiner,
+    grants: Grants,
+    receipts: Receipts,
+    // by number
+    receives: Vec<Receive>,
+    // by sender, how many pieces continued
+    drawn: Vec<u64>,
+}
+
+impl Model for Receiving {
+    ghost use Rattle.nm_receiving.specs.Receipts.{ReceivingView};
+
+    ghost Value = { ReceivingView };
+
+    ghost use Rattle.nm_receiving.specs.Kept.{IsKept};
+    ghost use Rattle.nm_receiving.specs.Seen.{seen};
+
+    ghost view = { seen };
+
+    ghost invariant = { λ a. IsKept (seen a) };
+}
+
+impl Receiving {
+    /// Nothing came and nothing was received, in a run of these sizes.
+    pub fn new(alloc: Global, shape: Shape) -> Result<Receiving, Memory>
+        ensures sizes { IfOk result (λ r. r.sizes ≡ shape) }
+        ensures none { IfOk result (λ r. AreReceived r []) }
+        ensures nothing { IfOk result (λ r. (from : ℕ) →
+            (stream_of r from ≡ nothing_came) × (drawn_from r from ≡ 0)) }
+        ensures receives { IfOk result (λ r. r.receives ≡ []) }
+    {
+        let ranks = shape.ranks();
+        Ok(Receiving {
+            matcher: Matcher::new(alloc),
+            joiner: Joiner::new(alloc, shape)?,
+            grants: Grants::new(alloc, ranks)?,
+            receipts: Receipts::new(alloc, ranks)?,
+            receives: Vec::new(alloc),
+            drawn: vec![in alloc; 0; ranks as usize]?,
+        })
+    }
+
+    /// How many messages came from a rank: the number of the next one.
+    pub fn came(&self, from: u8) -> u64
+        requires { from < self.now.sizes.ranks }
+        ensures { result ≡ length (receipts_from self.now from) }
+    {
+        self.receipts.count(from)
+    }
+
+    /// Posts a receive, and answers its number and the message that it takes: the oldest free one that
+    /// it selects (MPI 3.1, sections 3.2.4 and 3.5).
+    pub fn post(&mut self, from: Peer, tag: TagPick, ctx: u8, cap: u32) -> Result<Started, Memory>
+        ensures number { IfOk result (λ s. s.number ≡ length self.old.receives) }
+        ensures taken { IfOk result (λ s. (h : List Event) → AreReceived self.old h →
+            s.taken ≡ first_message h (matched_pairs h) from tag ctx) }
+        ensures sender { IfOk result (λ s.
+            IfSome s.taken (λ a. a.env.from < self.old.sizes.ranks)) }
+        ensures kept { IfOk result (λ s. (line : ℕ) → Keeps self.old self.new
+            (event.Post
+            (record { number = s.number; from = from; tag = tag; ctx = ctx; cap = cap }) line
+            ∷ taken_events s.taken)) }
+        ensures sizes { OnOk result (self.new.sizes ≡ self.old.sizes) }
+        ensures streams { OnOk result (self.new.streams ≡ self.old.streams) }
+        ensures drawn { OnOk result (self.new.drawn ≡ self.old.drawn) }
+        ensures receives { IfOk result (λ s. self.new.receives ≡ self.old.receives
+            ++ record { cap = cap; taken = s.taken; cancelled = false; ended = false } ∷ []) }
+        ensures err { OnErr result (self.new ≡ self.old) }
+    {
+        self.receives.reserve(1)?;
+        self.grants.reserve()?;
+        let number = self.receives.len() as u64;
+        let taken = self.matcher.post(Post {
+            number,
+            from,
+            tag,
+            ctx,
+            cap,
+        })?;
+        self.receives.push_reserved(Receive::new(cap, taken));
+        grant_taken(&mut self.grants, &mut self.receipts, &taken);
+        Ok(Started { number, taken })
+    }
+
+    /// The receive of a claimed message (MPI 3.1, section 3.8.3).
+    pub fn take_claimed(&mut self, from: u8, n: u64, cap: u32) -> Result<Started, Memory>
+        requires { MayBeTaken self.old from n }
+        ensures number { IfOk result (λ s. s.number ≡ length self.old.receives) }
+        ensures taken { IfOk result (λ s. (h : List Event) → AreReceived self.old h →
+            s.taken ≡ message_of h from n) }
+        ensures some { IfOk result (λ s. IsSome s.taken) }
+        ensures sender { IfOk result (λ s.
+            IfSome s.taken (λ a. a.env.from < self.old.sizes.ranks)) }
+        ensures kept { IfOk result (λ s. (line : ℕ) → Keeps self.old self.new
+            (event.Match s.number from n cap line ∷ taken_events s.taken)) }
+        ensures sizes { OnOk result (self.new.sizes ≡ self.old.sizes) }
+        ensures streams { OnOk result (self.new.streams ≡ self.old.streams) }
+        ensures drawn { OnOk result (self.new.drawn ≡ self.old.drawn) }
+        ensures receives { IfOk result (λ s. self.new.receives ≡ self.old.receives
+            ++ record { cap = cap; taken = s.taken; cancelled = false; ended = false } ∷ []) }
+        ensures err { OnErr result (self.new ≡ self.old) }
+    {
+        prove!(self.matcher.is_claimed(from, n));
+        self.receives.reserve(1)?;
+        self.grants.reserve()?;
+        let number = self.receives.len() as u64;
+        let taken = Some(self.receipts.get(from, n).arrival);
+        self.matcher.take_claimed(number, from, n)?;
+        self.receives.push_reserved(Receive::new(cap, taken));
+        grant_taken(&mut self.grants, &mut self.receipts, &taken);
+        Ok(Started { number, taken })
+    }
+
+    /// The message that `probe` shows, which is claimed then (MPI 3.1, section 3.8.2).
+    pub fn claim(&mut self, from: Peer, tag: TagPick, ctx: u8) -> Result<Option<Arrival>, Memory>
+        ensures oldest { IfOk result (λ t. (h : List Event) → AreReceived self.old h →
+            t ≡ first_message h (matched_pairs h) from tag ctx) }
+        ensures kept { IfOk result (λ t. MatchOption t (self.new ≡ self.old)
+            (λ a. (line : ℕ) →
+            Keeps self.old self.new (event.Claim a.env.from a.n line ∷ []))) }
+        ensures same { self.new ≡ record self.old { deeds = self.new.deeds } }
+        ensures err { OnErr result (self.new ≡ self.old) }
+    {
+        self.matcher.claim(from, tag, ctx)
+    }
+
+    /// Whether a message is claimed and not yet received.
+    pub fn is_claimed(&self, from: u8, n: u64) -> bool
+        ensures { (h : List Event) → AreReceived self.now h →
+            result ≡ is_claimed_lem h (matched_pairs h) from n }
+    {
+        self.matcher.is_claimed(from, n)
+    }
+
+    /// The oldest free message that a receive would take (MPI 3.1, section 3.8.1).
+    pub fn probe(&self, from: Peer, tag: TagPick, ctx: u8) -> Option<Arrival>
+        ensures { (h : List Event) → AreReceived self.now h →
+            result ≡ first_message h (matched_pairs h) from tag ctx }
+    {
+        self.matcher.probe(from, tag, ctx)
+    }
+
+    /// Cancels a receive (MPI 3.1, section 3.8.4). The answer is `false` where it is paired.
+    pub fn cancel(&mut self, number: u64) -> bool
+        requires { number < length self.old.receives }
+        ensures late { (h : List Event) → AreReceived self.old h →
+            result ≡ not (list_any (is_of_receive number) (matched_pairs h)) }
+        ensures kept { Keeps self.old self.new (event.Cancel number result ∷ []) }
+        ensures same { self.new
+            ≡ record self.old { deeds = self.new.deeds; receives = self.new.receives } }
+        ensures ended { map (λ r. r.ended) self.new.receives
+            ≡ map (λ r. r.ended) self.old.receives }
+    {
+        let done = self.matcher.cancel(number);
+        if done {
+            self.receives[number as usize].cancelled = true;
+        }
+        done
+    }
+
+    /// Withdraws a message for its sender's recall. The answer is `false` where it is not free.
+    pub fn withdraw(&mut self, from: u8, n: u64) -> bool
+        requires sender { from < self.old.sizes.ranks }
+        requires came { n < length (receipts_from self.old from) }
+        ensures value { (h : List Event) → AreReceived self.old h →
+            result ≡ is_free_message h (matched_pairs h) from n }
+        ensures kept { (h events : List Event) →
+            happenings events ≡ event.Withdraw from n result ∷ [] →
+            AreReceived self.old h → AreReceived self.new (h ++ events) }
+        ensures arrived { (h : List Event) → AreReceived self.old h →
+            IsTrue (happened (is_arrival from n) h) }
+        ensures same { self.new ≡ record self.old { deeds = self.new.deeds } }
+    {
+        self.matcher.withdraw(from, n)
+    }
+
+    /// Takes a packet of a message, which continues its stream: a message begins, goes on, or is
+    /// announced. The answer is whether a receive takes an announced message at once.
+    pub fn take(&mut self, p: &Packet) -> Result<bool, Memory>
+        requires sender { p.now.from < self.old.sizes.ranks }
+        requires kind { is_kept p.now.what ≡ true }
+        requires continues { continues self.old.sizes.eager (stream_of self.old p.now.from).count
+            (missing (stream_of self.old p.now.from)) p.now.what (length p.now.payload) ≡ true }
+        requires few { (stream_of self.old p.now.from).count < MAX_PACKETS }
+        ensures at_once { IfOk result (λ done. (h : List Event) → AreReceived self.old h →
+            done ≡ is_done_at_once h p.now.from p.now.what) }
+        ensures kept { OnOk result (TakesPacket self.old self.new p.now) }
+        ensures streams { OnOk result (self.new.streams ≡ slice_set self.old.streams p.now.from
+            (after (stream_of self.old p.now.from) p.now.what p.now.payload)) }
+        ensures known { OnOk result ((known : Known) →
+            known.count ≡ (stream_of self.old p.now.from).count →
+            known.missing ≡ missing (stream_of self.old p.now.from) →
+            Follows self.new p.now.from
+            (learned known p.now.what (length p.now.payload))) }
+        ensures sizes { OnOk result (self.new.sizes ≡ self.old.sizes) }
+        ensures drawn { OnOk result (self.new.drawn ≡ self.old.drawn) }
+        ensures ended { OnOk result (map (λ r. r.ended) self.new.receives
+            ≡ map (λ r. r.ended) self.old.receives) }
+        ensures err { OnErr result (self.new ≡ self.old) }
+    {
+        packets_tell(&self.joiner, p);
+        match p.what {
+            What::Head { tag, ctx, len } => {
+                self.begin(p, tag, ctx, len)?;
+                Ok(false)
+            }
+            What::More { n } => {
+                self.go_on(p, n)?;
+                Ok(false)
+            }
+            What::Ask { tag, ctx, len } => self.announce(p, tag, ctx, len),
+            _ => Ok(false),
+        }
+    }
+
+    /// The next message of a rank.
+    fn next_arrival(&self, from: u8, tag: u16, ctx: u8, len: u32, how: How) -> Arrival
+        requires { from < self.now.sizes.ranks }
+        ensures { result
+            ≡ record {
+              n = length (receipts_from self.now from);
+              env = record { from = from; tag = tag; ctx = ctx; len = len; how = how };
+            } }
+    {
+        let env = Envelope {
+            from,
+            tag,
+            ctx,
+            len,
+            how,
+        };
+        Arrival {
+            n: self.receipts.count(from),
+            env,
+        }
+    }
+
+    /// An eager message begins.
+    fn begin(&mut self, p: &Packet, tag: u16, ctx: u8, len: u32) -> Result<(), Memory>
+        requires head { p.now.what ≡ what.Head tag ctx len }
+        requires sender { p.now.from < self.old.sizes.ranks }
+        requires continues { continues self.old.sizes.eager (stream_of self.old p.now.from).count
+            (missing (stream_of self.old p.now.from)) p.now.what (length p.now.payload) ≡ true }
+        requires few { (stream_of self.old p.now.from).count < MAX_PACKETS }
+        ensures kept { OnOk result (TakesPacket self.old self.new p.now) }
+        ensures streams { OnOk result (self.new.streams ≡ slice_set self.old.streams p.now.from
+            (after (stream_of self.old p.now.from) p.now.what p.now.payload)) }
+        ensures sizes { OnOk result (self.new.sizes ≡ self.old.sizes) }
+        ensures drawn { OnOk result (self.new.drawn ≡ self.old.drawn) }
+        ensures ended { OnOk result (map (λ r. r.ended) self.new.receives
+            ≡ map (λ r. r.ended) self.old.receives) }
+        ensures err { OnErr result (self.new ≡ self.old) }
+    {
+        prove!(self.joiner.missing(p.from) == 0);
+        let arrival = self.next_arrival(p.from, tag, ctx, len, How::Eager);
+        self.receipts.reserve(p.from)?;
+        self.joiner.reserve(p)?;
+        let taker = self.matcher.arrive(arrival)?;
+        self.joiner.add(p).unwrap();
+        let whole = len as usize == p.payload.as_slice().len();
+        self.receipts.push(p.from, Receipt { arrival, whole });
+        give(&mut self.receives, taker, arrival);
+        Ok(())
+    }
+
+    /// The eager message `n` goes on.
+    fn go_on(&mut self, p: &Packet, n: u64) -> Result<(), Memory>
+        requires more { p.now.what ≡ what.More n }
+        requires sender { p.now.from < self.old.sizes.ranks }
+        requires continues { continues self.old.sizes.eager (stream_of self.old p.now.from).count
+            (missing (stream_of self.old p.now.from)) p.now.what (length p.now.payload) ≡ true }
+        requires few { (stream_of self.old p.now.from).count < MAX_PACKETS }
+        ensures kept { OnOk result (TakesPacket self.old self.new p.now) }
+        ensures streams { OnOk result (self.new.streams ≡ slice_set self.old.streams p.now.from
+            (after (stream_of self.old p.now.from) p.now.what p.now.payload)) }
+        ensures sizes { OnOk result (self.new.sizes ≡ self.old.sizes) }
+        ensures drawn { OnOk result (self.new.drawn ≡ self.old.drawn) }
+        ensures ended { OnOk result (map (λ r. r.ended) self.new.receives
+            ≡ map (λ r. r.ended) self.old.receives) }
+        ensures err { OnErr result (self.new ≡ self.old) }
+    {
+        let last = self.joiner.missing(p.from) as usize == p.payload.as_slice().len();
+        self.joiner.add(p)?;
+        self.receipts.make_whole_if(last, p.from, n);
+        Ok(())
+    }
+
+    /// A message is announced. The answer is whether a receive takes it at once.
+    fn announce(&mut self, p: &Packet, tag: u16, ctx: u8, len: u32) -> Result<bool, Memory>
+        requires ask { p.now.what ≡ what.Ask tag ctx len }
+        requires sender { p.now.from < self.old.sizes.ranks }
+        requires continues { continues self.old.sizes.eager (stream_of self.old p.now.from).count
+            (missing (stream_of self.old p.now.from)) p.now.what (length p.now.payload) ≡ true }
+        requires few { (stream_of self.old p.now.from).count < MAX_PACKETS }
+        ensures at_once { IfOk result (λ done. (h : List Event) → AreReceived self.old h →
+            done ≡ is_done_at_once h p.now.from p.now.what) }
+        ensures kept { OnOk result (TakesPacket self.old self.new p.now) }
+        ensures streams { OnOk result (self.new.streams ≡ slice_set self.old.streams p.now.from
+            (after (stream_of self.old p.now.from) p.now.what p.now.payload)) }
+        ensures sizes { OnOk result (self.new.sizes ≡ self.old.sizes) }
+        ensures drawn { OnOk result (self.new.drawn ≡ self.old.drawn) }
+        ensures ended { OnOk result (map (λ r. r.ended) self.new.receives
+            ≡ map (λ r. r.ended) self.old.receives) }
+        ensures err { OnErr result (self.new ≡ self.old) }
+    {
+        let arrival = self.next_arrival(p.from, tag, ctx, len, How::Ask);
+        self.receipts.reserve(p.from)?;
+        self.grants.reserve()?;
+        let taker = self.matcher.arrive(arrival)?;
+        self.joiner.skip(p.from);
+        self.receipts.push(
+            p.from,
+            Receipt {
+                arrival,
+                whole: false,
+            },
+        );
+        give(&mut self.receives, taker, arrival);
+        let taken = taker.is_some().then_some(arrival);
+        grant_taken(&mut self.grants, &mut self.receipts, &taken);
+        Ok(taker.is_some())
+    }
+
+    /// Whether a piece of a rank is due.
+    pub fn is_due(&self, from: u8) -> bool
+        requires { from < self.now.sizes.ranks }
+        ensures { (h : List Event) → AreReceived self.now h →
+            result ≡ nat_lt (drawn_from self.now from) (length (due_pieces h from)) }
+    {
+        self.grants.next_expected(from).is_some()
+    }
+
+    /// Takes a piece. One that is not the next one that is due changes nothing.
+    pub fn draw(&mut self, p: &Piece) -> Result<Drawn, Memory>
+        requires sender { p.now.from < self.old.sizes.ranks }
+        requires few { drawn_from self.old p.now.from < MAX_PACKETS }
+        ensures continued { IfOk result (λ d. (h : List Event) → AreReceived self.old h →
+            d.continued
+            ≡ option_map_or (is_due_lem p.now)
+            (slice_get (due_pieces h p.now.from) (drawn_from self.old p.now.from)) false) }
+        ensures event { IfOk result (λ d. (h : List Event) → AreReceived self.old h →
+            option_to_list d.event
+            ≡ piece_makes p.now.from
+            (slice_get (due_pieces h p.now.from) (drawn_from self.old p.now.from)) p.now) }
+        ensures kept { IfOk result (λ d.
+            Keeps self.old self.new (option_to_list d.event)) }
+        ensures stray { IfOk result (λ d. d.continued ≡ false → self.new ≡ self.old) }
+        ensures counted { IfOk result (λ d. self.new.drawn ≡ slice_set self.old.drawn p.now.from
+            (drawn_from self.old p.now.from + (if d.continued then 1 else 0))) }
+        ensures same { OnOk result (self.new
+            ≡ record self.old {
+              grants = self.new.grants;
+              receipts = self.new.receipts;
+              drawn = self.new.drawn;
+            }) }
+        ensures bytes { IfOk result (λ d. self.new.grants
+            ≡ (if d.continued
+            then slice_set self.old.grants p.now.from
+            (with_piece (granted_to self.old p.now.from) p.now.n p.now.bytes)
+            else self.old.grants)) }
+        ensures err { OnErr result (self.new ≡ self.old) }
+    {
+        if !self.grants.fits(p) {
+            return Ok(Drawn {
+                continued: false,
+                event: None,
+            });
+        }
+        let joined = self.grants.piece(p)?;
+        let event = pieces::event(p, joined);
+        self.receipts.make_whole_if(event.is_some(), p.from, p.n);
+        self.drawn[p.from as usize] += 1;
+        Ok(Drawn {
+            continued: true,
+            event,
+        })
+    }
+
+    /// Whether the receive is complete (MPI 3.1, section 3.7.3).
+    pub fn is_complete(&self, number: u64) -> bool
+        ensures { (h : List Event) → AreReceived self.now h →
+            result ≡ is_complete_lem h (ReceivingRequest number) }
+    {
+        match self.receives.get(number as usize) {
+            Some(receive) => receive.cancelled || self.has_message(receive),
+            None => false,
+        }
+    }
+
+    /// Whether the receive took a message that is here whole.
+    fn has_message(&self, receive: &Receive) -> bool
+        requires { IfSome receive.now.taken (λ a.
+            IsSome (receipt_of self.now a.env.from a.n)) }
+        ensures { result
+            ≡ option_map_or
+            (λ a. option_map_or (λ r. r.whole) (receipt_of self.now a.env.from a.n) false)
+            receive.now.taken false }
+    {
+        match receive.taken {
+            Some(a) => self.receipts.get(a.env.from, a.n).whole,
+            None => false,
+        }
+    }
+
+    /// What the receive ended with, if it is complete. The bytes that it shows are gone then.
+    pub fn finish(&mut self, number: u64) -> Option<Answer>
+        requires known { number < length self.old.receives }
+        requires live { option_map_or (λ r. r.ended) (slice_get self.old.receives number) false
+            ≡ false }
+        ensures value { (h : List Event) → AreReceived self.old h →
+            option_map without_bytes result ≡ result_of h (ReceivingRequest number) }
+        ensures body { IfSome result (ShowsBytes self.old number) }
+        ensures kept { (h : List Event) → AreReceived self.old h → AreReceived self.new h }
+        ensures none { IsNone result → self.new ≡ self.old }
+        ensures ended { IsSome result → self.new.receives ≡ with_ended self.old.receives number }
+        ensures streams { (from : ℕ) →
+            ((stream_of self.new from).count ≡ (stream_of self.old from).count)
+            × (missing (stream_of self.new from) ≡ missing (stream_of self.old from)) }
+        ensures same { self.new
+            ≡ record self.old {
+              streams = self.new.streams;
+              grants = self.new.grants;
+              receives = self.new.receives;
+            } }
+    {
+        let receive = self.receives[number as usize];
+        if receive.cancelled {
+            self.receives[number as usize].ended = true;
+            return Some(Answer::Cancelled);
+        }
+        let a = receive.taken?;
+        if !self.receipts.get(a.env.from, a.n).whole {
+            return None;
+        }
+        let bytes = take_bytes(&mut self.joiner, &mut self.grants, &a);
+        self.receives[number as usize].ended = true;
+        Some(shown(&a, receive.cap, bytes))
+    }
+}
