@@ -1,0 +1,126 @@
+-- The steps of a packet that continues its stream.
+use Rattle.std.proofs.Common.{◌≡◌, ℕ, ◌+◌, ◌-◌, ◌<◌, ◌≤◌, true, List, ◌++◌, length, refl, sym, ◌∙◌, ap, subst, arith}
+use Rattle.std.specs.Prelude.{map, max, option_to_list, Option, Some, None}
+use Rattle.std.proofs.lemmas.List.{length-map}
+use Rattle.nm_types.specs.Sizes.{Sizes}
+use Rattle.nm_types.specs.declared.limits.TheConstants.{MAX_PACKETS}
+use Rattle.nm_types.specs.declared.packets.Packet.{Packet}
+use Rattle.nm_history.specs.declared.events.Event.{Event}
+use Rattle.nm_history.specs.declared.events.Happened.{Happened}
+use Rattle.nm_protocol.specs.Clock.{stamped}
+use Rattle.nm_protocol.specs.Continues.{continues}
+use Rattle.nm_protocol.specs.Known.{Known}
+use Rattle.nm_journal.specs.Journals.{JournalView}
+use Rattle.nm_outbox.specs.Outboxes.{OutboxView, put_to}
+use Rattle.nm_request.specs.Requests.{Live}
+use Rattle.nm_streams.specs.Streams.{Told}
+use Rattle.nm_sending.specs.Departures.{SendingView}
+use Rattle.nm_sending.specs.Sent.{AreSent}
+use Rattle.nm_receiving.specs.Receipts.{ReceivingView}
+use Rattle.nm_rank.specs.Fields.{AreFields}
+use Rattle.nm_rank.specs.Ranks.{IsFresh, known_from, count_of, seen}
+use Rattle.nm_rank.specs.Takes.{MayBeAccepted}
+use Rattle.nm_rank.proofs.Goes.{sent-outbox}
+use Rattle.nm_rank.proofs.TakeLemmas.{known_of, two-events, at-most-one}
+
+pub may-be-accepted : (me : ℕ) (sizes : Sizes) (j j' : JournalView) (s : SendingView) (r : ReceivingView)
+    (known : List Known) (q : Live) (took pulled : List ℕ) (p : Packet)
+    → AreFields me sizes j' s r known q took pulled → j'.events ≡ j.events
+    → p.from < sizes.ranks → p.seq ≡ count_of took p.from
+    → continues sizes.eager (known_from known p.from) j.events p ≡ true
+    → MayBeAccepted s r p
+may-be-accepted me sizes j j' s r known q took pulled p a same within number cont = record {
+  history = j'.events;
+  known = known_from known p.from;
+  sent = a.history.sent;
+  received = a.history.received;
+  agrees = a.history.agrees p.from within;
+  tells = record {
+    count = a.told.counts p.from within;
+    lacks = a.told.missing p.from within;
+    cleared = a.told.cleared p.from within;
+  };
+  continued = rw (a.peers.shape, same) cont;
+  sender = rw (a.peers.shape) within;
+  receiver = rw (a.peers.to) within;
+  few = let few = a.told.few p.from within in omega (arith, p.seq_in_range);
+}
+
+-- there is a stream for each rank
+pub streams-low : (me : ℕ) (sizes : Sizes) (j : JournalView) (s : SendingView) (r : ReceivingView)
+    (streams : List Told) (q : Live) (took pulled : List ℕ) (from : ℕ)
+    → AreFields me sizes j s r (map known_of streams) q took pulled
+    → from < sizes.ranks → from < length streams
+streams-low me sizes j s r streams q took pulled from a within =
+    let n = a.peers.streams in let m = length-map streams known_of in omega arith
+
+-- as many packets were put as before
+pub few-put : (me : ℕ) (sizes : Sizes) (j : JournalView) (s s' s'' : SendingView) (r : ReceivingView)
+    (known : List Known) (q : Live) (took pulled : List ℕ) (strays to : ℕ)
+    → s' ≡ record s { outbox = record s.outbox { spare = s'.outbox.spare } }
+    → s''.outbox ≡ s'.outbox
+    → IsFresh (seen me sizes j s r known q took pulled strays)
+    → to < sizes.ranks → put_to s''.outbox to < MAX_PACKETS
+few-put me sizes j s s' s'' r known q took pulled strays to es eo fresh within =
+    let few : put_to s.outbox to < MAX_PACKETS - 32 = (fresh.messages to within).1 in
+    let same : put_to s''.outbox to ≡ put_to s.outbox to =
+    ap (λ (o : OutboxView). put_to o to) eo ∙ ap (λ (u : SendingView). put_to u.outbox to) es in
+    omega arith
+
+-- what was sent is the same with more room
+pub sent-room : (s s' : SendingView) (h : List Event)
+    → s' ≡ record s { outbox = record s.outbox { spare = s'.outbox.spare } }
+    → AreSent s h → AreSent s' h
+sent-room s s' h es sent = subst (λ (u : SendingView). AreSent u h) (sym es)
+    (sent-outbox s (record s.outbox { spare = s'.outbox.spare }) h sent)
+
+-- a journal whose clock was set forward
+pub record IsRaised (j j' : JournalView) (start : ℕ) : Type 0 where
+  pub events : j'.events ≡ j.events
+  pub clock : j'.clock ≡ start
+  pub spare : j'.spare ≡ j.spare
+
+pub raised-as : (j j' : JournalView) (stamp : ℕ) → j' ≡ record j { clock = max j.clock stamp }
+    → IsRaised j j' (max j.clock stamp)
+raised-as j j' stamp e = record {
+  events = ap (λ (x : JournalView). x.events) e;
+  clock = ap (λ (x : JournalView). x.clock) e;
+  spare = ap (λ (x : JournalView). x.spare) e;
+}
+
+-- what was noted in two steps after that
+pub noted-twice : (j j' j'' j''' : JournalView) (start : ℕ) (first second : Option Happened)
+    → IsRaised j j' start
+    → j''.events ≡ j'.events ++ stamped j'.clock (option_to_list first)
+    → j''.clock ≡ j'.clock + length (option_to_list first)
+    → j'''.events ≡ j''.events ++ stamped j''.clock (option_to_list second)
+    → j'''.events ≡ j.events ++ stamped start (option_to_list first ++ option_to_list second)
+noted-twice j j' j'' j''' start first second raised e c e' =
+    rw (← raised.events, ← raised.clock)
+    (two-events j'.events j''.events j'''.events j'.clock j''.clock (option_to_list first)
+    (option_to_list second) e c e')
+
+pub noted-clock : (j j' j'' j''' : JournalView) (start : ℕ) (first second : Option Happened)
+    → IsRaised j j' start
+    → j''.clock ≡ j'.clock + length (option_to_list first)
+    → j'''.clock ≡ j''.clock + length (option_to_list second)
+    → j'''.clock ≡ start + length (option_to_list first ++ option_to_list second)
+noted-clock j j' j'' j''' start None None raised c c' = let s = raised.clock in omega arith
+noted-clock j j' j'' j''' start None (Some y) raised c c' = let s = raised.clock in omega arith
+noted-clock j j' j'' j''' start (Some x) None raised c c' = let s = raised.clock in omega arith
+noted-clock j j' j'' j''' start (Some x) (Some y) raised c c' = let s = raised.clock in omega arith
+
+pub noted-later : (j j' j'' j''' : JournalView) (stamp : ℕ) (first second : Option Happened)
+    → IsRaised j j' (max j.clock stamp)
+    → j''.clock ≡ j'.clock + length (option_to_list first)
+    → j'''.clock ≡ j''.clock + length (option_to_list second)
+    → j.clock ≤ j'''.clock
+noted-later j j' j'' j''' stamp first second raised c c' = let s = raised.clock in omega arith
+
+pub noted-room : (j j' j'' j''' : JournalView) (start : ℕ) (first second : Option Happened)
+    → IsRaised j j' start
+    → j'.spare ≤ j''.spare + length (option_to_list first)
+    → j''.spare ≤ j'''.spare + length (option_to_list second)
+    → j.spare ≤ j'''.spare + 2
+noted-room j j' j'' j''' start first second raised room room' =
+    let s = raised.spare in let one = at-most-one first in let two = at-most-one second in omega arith

@@ -1,0 +1,111 @@
+use Rattle.std.proofs.Common.{◌≡◌, ℕ, ◌+◌, ◌≤◌, List, Some, refl, sym, ◌∙◌, ap, subst, arith}
+use Rattle.std.specs.Prelude.{map, IfSome}
+use Rattle.nm_history.specs.Sends.{Sent}
+use Rattle.nm_journal.specs.Journals.{JournalView}
+use Rattle.nm_request.specs.declared.Kind.{Kind}
+use Rattle.nm_request.specs.declared.Kind.TheVariants as kind
+use Rattle.nm_request.specs.Requests.{kind_of}
+use Rattle.nm_sending.specs.Departures.{SendingView}
+use Rattle.nm_sending.specs.Sent.{AreSent}
+use Rattle.nm_rank.specs.Calls.{Happens}
+use Rattle.nm_rank.specs.Ranks.{RankView, seen}
+use Rattle.nm_rank.specs.Requests.{WasSent, cancel_events}
+use Rattle.nm_history.specs.declared.events.Event.{Event}
+use Rattle.nm_rank.proofs.CancelLemmas.{fields-cancel, fields-recall, if-live, recall-puts}
+use Rattle.nm_rank.proofs.PutLemmas.{puts-same}
+use Rattle.nm_rank.proofs.ViewLemmas.{happens-room, same-events}
+use Rattle.nm_rank.proofs.FinishLemmas.{found, was-started}
+use Rattle.nm_rank.proofs.Goes.{sent-outbox}
+use Rattle.nm_rank.proofs.RoomLemmas.{fields-room}
+use Rattle.nm_rank.proofs.ranks.Rank.cancel.Goals as goal
+
+pub cancel_receive-requires-clause-known : goal.cancel_receive-requires-clause-known
+cancel_receive-requires-clause-known c = let a = c.self.inside in
+    let live : kind_of a.requests c.args.r ≡ Some (kind.Receive c.in-Receive.number) =
+    found (kind_of a.requests c.args.r) c.in-Ok.kind _ (sym c.in-Ok.is ∙ c.get.ensures.kind)
+    ∙ ap Some c.in-Receive.is in
+    was-started a.receiving.receives c.in-Receive.number
+    (c.self.invariant.requests.receives c.args.r c.in-Receive.number live)
+
+pub invariant_of-self-in-Receive : goal.invariant_of-self-in-Receive
+invariant_of-self-in-Receive c =
+    let a = c.self.inside in
+    let roomy = fields-room a.me a.shape a.journal c.make_room.new.journal a.sending c.make_room.new.sending
+    a.receiving _ a.requests c.make_room.new.requests a.took.items a.pulled.items
+    c.make_room.ensures.events c.make_room.ensures.kept c.make_room.ensures.letters
+    c.make_room.ensures.requests c.self.invariant in
+    fields-cancel a.me a.shape c.make_room.new.journal c.cancel_receive.new.journal c.make_room.new.sending
+    a.receiving c.cancel_receive.new.receiving _ c.make_room.new.requests a.took.items a.pulled.items
+    c.in-Receive.number roomy
+    (c.cancel_receive.ensures.events c.make_room.new.journal.events roomy.history.received)
+    c.cancel_receive.ensures.clock c.cancel_receive.ensures.room c.in_ok-make_room.ensures.two
+    c.sides_stay.ensures.sent c.cancel_receive.ensures.kept c.cancel_receive.ensures.same.0
+    c.cancel_receive.ensures.same.1
+
+pub recall-requires-clause-sent : goal.recall-requires-clause-sent
+recall-requires-clause-sent c = let a = c.self.inside in
+    let live : kind_of a.requests c.args.r ≡ Some (kind.Send c.in-Send.to c.in-Send.n) =
+    found (kind_of a.requests c.args.r) c.in-Ok.kind _ (sym c.in-Ok.is ∙ c.get.ensures.kind)
+    ∙ ap Some c.in-Send.is in
+    record {
+      history = a.journal.events;
+      messages = subst (λ (s : SendingView). AreSent s a.journal.events) (sym c.make_room.ensures.letters)
+          (sent-outbox a.sending _ a.journal.events c.self.invariant.history.sent);
+      sent = (c.self.invariant.requests.sends c.args.r c.in-Send.to c.in-Send.n live).1;
+    }
+
+pub invariant_of-self-in-Send : goal.invariant_of-self-in-Send
+invariant_of-self-in-Send c =
+    let a = c.self.inside in
+    let roomy = fields-room a.me a.shape a.journal c.make_room.new.journal a.sending c.make_room.new.sending
+    a.receiving _ a.requests c.make_room.new.requests a.took.items a.pulled.items
+    c.make_room.ensures.events c.make_room.ensures.kept c.make_room.ensures.letters
+    c.make_room.ensures.requests c.self.invariant in
+    let h = c.make_room.new.journal.events in
+    let puts = c.in_ok-recall-in-Send.ensures.puts h 0 roomy.history.sent (omega arith) in
+    fields-recall a.me a.shape c.make_room.new.journal c.recall.new.journal c.make_room.new.sending
+    c.recall.new.sending a.receiving _ c.make_room.new.requests a.took.items a.pulled.items
+    c.in-Send.to c.in-Send.n roomy
+    (c.in_ok-recall-in-Send.ensures.events h roomy.history.sent)
+    (c.in_ok-recall-in-Send.ensures.clock h roomy.history.sent)
+    c.recall.ensures.room c.in_ok-make_room.ensures.two c.sides_stay.ensures.received
+    c.in_ok-recall-in-Send.ensures.kept c.in_ok-recall-in-Send.ensures.staying
+    c.in_ok-recall-in-Send.ensures.order puts.me puts.popped
+
+pub returns-in_ok-recall-in-Send-clause-happened : goal.returns-in_ok-recall-in-Send-clause-happened
+returns-in_ok-recall-in-Send-clause-happened c =
+    let a = c.self.inside in
+    let roomy = fields-room a.me a.shape a.journal c.make_room.new.journal a.sending c.make_room.new.sending
+    a.receiving (map (λ s. s.known) a.streams.items) a.requests c.make_room.new.requests a.took.items
+    a.pulled.items
+    c.make_room.ensures.events c.make_room.ensures.kept c.make_room.ensures.letters
+    c.make_room.ensures.requests c.self.invariant in
+    let live : kind_of a.requests c.args.r ≡ Some (kind.Send c.in-Send.to c.in-Send.n) =
+    found (kind_of a.requests c.args.r) c.in-Ok.kind _ (sym c.in-Ok.is ∙ c.get.ensures.kind)
+    ∙ ap Some c.in-Send.is in
+    let h = c.make_room.new.journal.events in
+    let k = c.make_room.new.journal.clock in
+    let to = c.in-Send.to in
+    let n = c.in-Send.n in
+    let clock = c.in_ok-recall-in-Send.ensures.clock h roomy.history.sent in
+    subst (λ (v : RankView). IfSome (kind_of v.requests c.args.r) (λ k. (bodies : Sent → List ℕ) →
+    Happens bodies v.clock (cancel_events v.events k) v
+    (seen a.me a.shape c.recall.new.journal c.recall.new.sending a.receiving
+    (map (λ s. s.known) a.streams.items) c.make_room.new.requests a.took.items a.pulled.items a.strays)))
+    c.self.view_is
+    (if-live (kind_of a.requests c.args.r) (kind.Send to n) _ live
+    (λ bodies. subst (λ (events : List Event). Happens bodies a.journal.clock
+    (cancel_events events (kind.Send to n))
+    (seen a.me a.shape a.journal a.sending a.receiving (map (λ s. s.known) a.streams.items) a.requests
+    a.took.items a.pulled.items a.strays)
+    (seen a.me a.shape c.recall.new.journal c.recall.new.sending a.receiving
+    (map (λ s. s.known) a.streams.items) c.make_room.new.requests a.took.items a.pulled.items a.strays))
+    (same-events a.journal c.make_room.new.journal c.make_room.ensures.events)
+    (happens-room bodies a.me a.shape a.journal c.make_room.new.journal c.recall.new.journal
+    a.sending c.make_room.new.sending c.recall.new.sending a.receiving a.receiving
+    (map (λ s. s.known) a.streams.items) a.requests c.make_room.new.requests a.took.items a.pulled.items
+    a.strays (cancel_events h (kind.Send to n)) c.make_room.ensures.events c.make_room.ensures.letters
+    (c.in_ok-recall-in-Send.ensures.events h roomy.history.sent) clock
+    (recall-puts bodies h k to n c.recall.new.journal.clock c.make_room.new.sending.outbox
+    c.recall.new.sending.outbox clock
+    (λ called below. c.in_ok-recall-in-Send.ensures.puts h called roomy.history.sent below)))))

@@ -1,0 +1,37 @@
+use Rattle.std.proofs.Common.{◌≡◌, ◌<◌, ◌∙◌, sym, subst, ap, ℕ}
+use Rattle.std.specs.Prelude.{map, option_to_list}
+use Rattle.nm_receiving.specs.Receipts.{ReceivingView}
+use Rattle.nm_rank.specs.Fields.{AreFields}
+use Rattle.nm_rank.specs.Ranks.{RankView, count_of}
+use Rattle.nm_rank.proofs.DrawLemmas.{fields-draw}
+use Rattle.nm_rank.proofs.RoomLemmas.{fields-room}
+use Rattle.nm_rank.proofs.ranks.Rank.draw.Goals as goal
+
+pub invariant_of-self-in_err-drawn : goal.invariant_of-self-in_err-drawn
+invariant_of-self-in_err-drawn c = let a = c.self.inside in
+    subst (λ (r : ReceivingView). AreFields a.me a.shape c.make_room.new.journal c.make_room.new.sending r
+    (map (λ s. s.known) a.streams.items) c.make_room.new.requests a.took.items a.pulled.items)
+    (sym c.in_err-drawn.ensures.err)
+    (fields-room a.me a.shape a.journal _ a.sending _ a.receiving _ a.requests _ a.took.items a.pulled.items
+    c.make_room.ensures.events c.make_room.ensures.kept c.make_room.ensures.letters
+    c.make_room.ensures.requests c.self.invariant)
+
+pub invariant_of-self-2 : goal.invariant_of-self-2
+invariant_of-self-2 c =
+    let a = c.self.inside in
+    let roomy = fields-room a.me a.shape a.journal c.make_room.new.journal a.sending c.make_room.new.sending
+    a.receiving _ a.requests c.make_room.new.requests a.took.items a.pulled.items
+    c.make_room.ensures.events c.make_room.ensures.kept c.make_room.ensures.letters
+    c.make_room.ensures.requests c.self.invariant in
+    let within : c.args.p.now.from < a.shape.ranks =
+    subst (λ (v : RankView). c.args.p.now.from < v.sizes.ranks) (sym c.self.view_is) c.requires.sender in
+    let number : c.args.p.now.number ≡ count_of a.pulled.items c.args.p.now.from =
+    subst (λ (v : RankView). c.args.p.now.number ≡ count_of v.pulled c.args.p.now.from) (sym c.self.view_is)
+    c.requires.number in
+    fields-draw a.me a.shape c.make_room.new.journal c.note.new.journal c.make_room.new.sending a.receiving
+    c.draw.new.self _ c.make_room.new.requests a.took.items a.pulled.items c.args.p.now
+    (option_to_list c.in_ok-drawn.drawn.event) c.in_ok-drawn.drawn.continued _ roomy
+    c.note.ensures.events c.note.ensures.clock c.note.ensures.room c.in_ok-make_room.ensures.two
+    (c.in_ok-drawn.ensures.event c.make_room.new.journal.events roomy.history.received)
+    c.in_ok-drawn.ensures.kept c.in_ok-drawn.ensures.same c.in_ok-drawn.ensures.counted within number
+    c.sides_stay.ensures.sent

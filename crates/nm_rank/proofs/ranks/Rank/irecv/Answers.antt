@@ -1,0 +1,121 @@
+use Rattle.std.proofs.Common.{◌≡◌, ℕ, ◌+◌, ◌<◌, List, [], ◌∷◌, ◌++◌, length, refl, sym, ◌∙◌, ap, subst, arith}
+use Rattle.std.specs.Prelude.{map, Option}
+use Rattle.nm_types.specs.declared.messages.Arrival.{Arrival}
+use Rattle.nm_history.specs.declared.events.Happened.TheVariants as event
+use Rattle.nm_history.specs.Matching.{first_message, matched_pairs}
+use Rattle.nm_history.specs.Sends.{receives, Sent}
+use Rattle.nm_request.specs.declared.Kind.TheVariants as kind
+use Rattle.nm_sending.specs.Departures.{SendingView}
+use Rattle.nm_receiving.specs.Receipts.{taken_events}
+use Rattle.nm_protocol.specs.Clock.{stamped}
+use Rattle.nm_rank.specs.Calls.{Starts, called_by, clearance_of}
+use Rattle.nm_rank.specs.Ranks.{RankView, seen}
+use Rattle.nm_rank.proofs.ClearLemmas.{post-calls, starts-receive, starts-as}
+use Rattle.nm_rank.proofs.ReceiveLemmas.{fields-receive}
+use Rattle.nm_rank.proofs.RoomLemmas.{fields-room}
+use Rattle.nm_rank.proofs.ranks.Rank.irecv.Goals as goal
+
+pub invariant_of-self : goal.invariant_of-self
+invariant_of-self c = let a = c.self.inside in
+    fields-room a.me a.shape a.journal _ a.sending _ a.receiving _ a.requests _ a.took.items a.pulled.items
+    c.make_room.ensures.events c.make_room.ensures.kept c.make_room.ensures.letters
+    c.make_room.ensures.requests c.self.invariant
+
+pub invariant_of-self-2 : goal.invariant_of-self-2
+invariant_of-self-2 c =
+    let a = c.self.inside in
+    let roomy = fields-room a.me a.shape a.journal c.make_room.new.journal a.sending c.make_room.new.sending
+    a.receiving _ a.requests c.make_room.new.requests a.took.items a.pulled.items
+    c.make_room.ensures.events c.make_room.ensures.kept c.make_room.ensures.letters
+    c.make_room.ensures.requests c.self.invariant in
+    let puts = c.follow.ensures.puts 0 (omega arith) in
+    fields-receive a.me a.shape c.make_room.new.journal c.add.new.self c.follow.new.journal
+    c.make_room.new.sending c.follow.new.sending a.receiving c.post.new.self _
+    c.make_room.new.requests c.add-2.new.self a.took.items a.pulled.items
+    (event.Post
+    (record {
+      number = c.in_ok-started.started.number;
+      from = c.args.from;
+      tag = c.args.tag;
+      ctx = c.args.ctx;
+      cap = c.args.cap;
+    }) c.args.line)
+    c.in_ok-started.started.taken c.in_ok-started.started.number _ c.unwrap.result roomy
+    c.add.ensures.events c.add.ensures.clock c.add.ensures.room c.follow.ensures.events
+    c.follow.ensures.clock c.follow.ensures.room c.in_ok-make_room.ensures.two c.follow.ensures.same
+    puts.me puts.popped (λ i. refl) refl c.sides_stay.ensures.sent
+    (c.in_ok-started.ensures.kept c.args.line)
+    c.in_ok-started.ensures.sizes c.in_ok-started.ensures.streams c.in_ok-started.ensures.drawn
+    c.in_ok-started.ensures.receives refl c.in_ok-started.ensures.number
+    (rw (c.unwrap.ensures) at c.add-2.ensures.ok)
+
+pub returns-clause-started : goal.returns-clause-started
+returns-clause-started c = λ bodies. (
+    let a = c.self.inside in
+    let h = a.journal.events in
+    let number : c.in_ok-started.started.number ≡ length (receives h) =
+    c.in_ok-started.ensures.number ∙ c.self.invariant.history.received.count in
+    let taken : c.in_ok-started.started.taken
+    ≡ first_message h (matched_pairs h) c.args.from c.args.tag c.args.ctx =
+    c.in_ok-started.ensures.taken h c.self.invariant.history.received in
+    subst (λ (v : RankView). Starts bodies
+    (event.Post
+    (record {
+      number = length (receives v.events);
+      from = c.args.from;
+      tag = c.args.tag;
+      ctx = c.args.ctx;
+      cap = c.args.cap;
+    }) c.args.line
+    ∷ taken_events (first_message v.events (matched_pairs v.events) c.args.from c.args.tag c.args.ctx))
+    (kind.Receive (length (receives v.events))) v
+    (seen a.me a.shape c.follow.new.journal c.follow.new.sending c.post.new.self
+    (map (λ s. s.known) a.streams.items) c.add-2.new.self a.took.items a.pulled.items a.strays)
+    c.unwrap.result) c.self.view_is
+    (starts-as bodies (seen a.me a.shape a.journal a.sending a.receiving
+    (map (λ s. s.known) a.streams.items) a.requests a.took.items a.pulled.items a.strays)
+    (seen a.me a.shape c.follow.new.journal c.follow.new.sending c.post.new.self
+    (map (λ s. s.known) a.streams.items) c.add-2.new.self a.took.items a.pulled.items a.strays)
+    c.unwrap.result
+    (λ n. event.Post
+    (record {
+      number = n;
+      from = c.args.from;
+      tag = c.args.tag;
+      ctx = c.args.ctx;
+      cap = c.args.cap;
+    }) c.args.line) c.in_ok-started.started.number (length (receives h))
+    c.in_ok-started.started.taken
+    (first_message h (matched_pairs h) c.args.from c.args.tag c.args.ctx) number taken
+    (starts-receive bodies a.me a.shape a.journal c.make_room.new.journal c.add.new.self
+    c.follow.new.journal a.sending c.make_room.new.sending c.follow.new.sending a.receiving
+    c.post.new.self (map (λ s. s.known) a.streams.items) a.requests c.make_room.new.requests
+    c.add-2.new.self a.took.items a.pulled.items a.strays c.in_ok-started.started.number
+    (event.Post
+    (record {
+      number = c.in_ok-started.started.number;
+      from = c.args.from;
+      tag = c.args.tag;
+      ctx = c.args.ctx;
+      cap = c.args.cap;
+    }) c.args.line) c.in_ok-started.started.taken c.unwrap.result
+    c.make_room.ensures.events c.make_room.ensures.letters c.make_room.ensures.requests
+    c.add.ensures.events c.add.ensures.clock c.follow.ensures.events c.follow.ensures.clock
+    c.follow.ensures.puts
+    (λ to. subst (λ (t : Option Arrival). called_by bodies to h (stamped a.journal.clock (event.Post
+    (record {
+      number = c.in_ok-started.started.number;
+      from = c.args.from;
+      tag = c.args.tag;
+      ctx = c.args.ctx;
+      cap = c.args.cap;
+    }) c.args.line ∷ taken_events t)) ≡ clearance_of (a.journal.clock + 1) t to) (sym taken)
+    (post-calls bodies h a.journal.clock c.args.line to (record {
+      number = c.in_ok-started.started.number;
+      from = c.args.from;
+      tag = c.args.tag;
+      ctx = c.args.ctx;
+      cap = c.args.cap;
+    })))
+    c.in_ok-started.ensures.streams c.in_ok-started.ensures.drawn
+    (rw (c.unwrap.ensures) at c.add-2.ensures.ok))))

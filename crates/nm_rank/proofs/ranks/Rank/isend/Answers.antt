@@ -1,0 +1,74 @@
+use Rattle.std.proofs.Common.{◌≡◌, ℕ, ◌+◌, ◌<◌, List, [], ◌∷◌, ◌++◌, length, refl, sym, ◌∙◌, ap, subst, append-nil, arith}
+use Rattle.std.specs.Prelude.{map}
+use Rattle.nm_history.specs.declared.events.Happened.TheVariants as event
+use Rattle.nm_sending.specs.Sent.{Keeps}
+use Rattle.nm_types.specs.Bodies.{body_len, bytes_of}
+use Rattle.nm_history.specs.RankRun.{how_of}
+use Rattle.nm_history.specs.Sends.{sends}
+use Rattle.nm_request.specs.declared.Kind.TheVariants as kind
+use Rattle.nm_sending.specs.Departures.{SendingView, departures_to}
+use Rattle.nm_rank.specs.Calls.{Starts}
+use Rattle.nm_rank.specs.Ranks.{RankView, seen}
+use Rattle.nm_rank.proofs.Goes.{length-sent}
+use Rattle.nm_rank.proofs.ViewLemmas.{starts-send}
+use Rattle.nm_rank.proofs.RoomLemmas.{fields-room}
+use Rattle.nm_rank.proofs.SendLemmas.{order-asked, fields-send}
+use Rattle.nm_rank.proofs.ranks.Rank.isend.Goals as goal
+
+pub invariant_of-self : goal.invariant_of-self
+invariant_of-self c = let a = c.self.inside in
+    fields-room a.me a.shape a.journal _ a.sending _ a.receiving _ a.requests _ a.took.items a.pulled.items
+    c.make_room.ensures.events c.make_room.ensures.kept c.make_room.ensures.letters
+    c.make_room.ensures.requests c.self.invariant
+
+pub invariant_of-self-2 : goal.invariant_of-self-2
+invariant_of-self-2 c =
+    let a = c.self.inside in
+    let roomy = fields-room a.me a.shape a.journal c.make_room.new.journal a.sending c.make_room.new.sending
+    a.receiving _ a.requests c.make_room.new.requests a.took.items a.pulled.items
+    c.make_room.ensures.events c.make_room.ensures.kept c.make_room.ensures.letters
+    c.make_room.ensures.requests c.self.invariant in
+    let within : c.args.to < a.shape.ranks =
+    subst (λ (v : RankView). c.args.to < v.sizes.ranks) (sym c.self.view_is) c.requires.to in
+    let kept = subst (λ (l : ℕ). Keeps c.make_room.new.sending c.send.new.self
+    (event.Send c.args.to c.in_ok-n.n c.args.tag c.args.ctx l c.mode-how.result c.args.line ∷ []))
+    (sym c.len-len.ensures) (c.in_ok-n.ensures.kept c.args.line) in
+    let puts = c.in_ok-n.ensures.puts c.make_room.new.journal.events c.args.line in
+    fields-send a.me a.shape c.make_room.new.journal c.add.new.self c.make_room.new.sending c.send.new.self
+    a.receiving _ c.make_room.new.requests c.add-2.new.self a.took.items a.pulled.items c.args.to
+    c.in_ok-n.n c.args.tag c.args.ctx c.len-len.result c.args.line c.mode-how.result c.unwrap.result
+    roomy within c.add.ensures.events c.add.ensures.clock c.add.ensures.room
+    c.in_ok-make_room.ensures.two c.in_ok-n.ensures.counted kept puts.me puts.popped
+    (ap (λ o. o.order) c.in_ok-n.ensures.asked ∙ order-asked _ _ _ _ _)
+    (c.sides_stay.ensures.received a.receiving c.make_room.new.journal.events _ (refl, tt)
+    roomy.history.received)
+    (rw (c.unwrap.ensures) at c.add-2.ensures.ok)
+
+pub returns-clause-started : goal.returns-clause-started
+returns-clause-started c =
+    let a = c.self.inside in
+    let number : c.in_ok-n.n ≡ length (sends a.journal.events c.args.to) =
+    c.in_ok-n.ensures.number
+    ∙ ap (λ (s : SendingView). length (departures_to s c.args.to)) c.make_room.ensures.letters
+    ∙ length-sent a.sending a.journal.events c.self.invariant.history.sent c.args.to in
+    subst (λ (v : RankView). Starts (λ s. bytes_of c.args.body)
+    (event.Send c.args.to (length (sends v.events c.args.to)) c.args.tag c.args.ctx
+    (body_len c.args.body) (how_of v.sizes.eager c.args.sync (body_len c.args.body)) c.args.line ∷ [])
+    (kind.Send c.args.to (length (sends v.events c.args.to))) v
+    (seen a.me a.shape c.add.new.self c.send.new.self a.receiving
+    (map (λ s. s.known) a.streams.items) c.add-2.new.self a.took.items a.pulled.items a.strays)
+    c.unwrap.result) c.self.view_is
+    (starts-send (λ s. bytes_of c.args.body) a.me a.shape a.journal c.make_room.new.journal c.add.new.self
+    a.sending c.make_room.new.sending c.send.new.self a.receiving (map (λ s. s.known) a.streams.items)
+    a.requests c.make_room.new.requests c.add-2.new.self a.took.items a.pulled.items a.strays
+    c.args.to c.in_ok-n.n c.args.tag c.args.ctx c.len-len.result c.args.line
+    (c.clock-stamp.result + 1) c.mode-how.result
+    (how_of a.shape.eager c.args.sync (body_len c.args.body)) c.unwrap.result
+    (length (sends a.journal.events c.args.to)) (body_len c.args.body)
+    c.make_room.ensures.events c.make_room.ensures.letters c.make_room.ensures.requests
+    c.add.ensures.events c.add.ensures.clock (ap (λ k. k + 1) c.clock-stamp.ensures.value)
+    (c.in_ok-n.ensures.puts a.journal.events c.args.line)
+    (rw (c.unwrap.ensures) at c.add-2.ensures.ok) number c.len-len.ensures
+    (c.mode-how.ensures.value
+    ∙ ap (λ (e : ℕ). how_of e c.args.sync c.len-len.result) c.eager.ensures.value
+    ∙ ap (λ (l : ℕ). how_of a.shape.eager c.args.sync l) c.len-len.ensures))

@@ -1,0 +1,5 @@
+pub mod Ranks
+pub mod Calls
+pub mod Fields
+pub mod Requests
+pub mod Takes

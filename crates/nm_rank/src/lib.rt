@@ -1,0 +1,37 @@
+//! The core of one rank: everything that it does, without a thread and without a shared word.
+//!
+//! MPI 3.1, sections 3.4 to 3.8. A `Rank` starts sends and receives, probes and cancels them, and
+//! answers what became of its requests. It takes the packets and pieces of the other ranks, and
+//! gives those that it has for them, one by one.
+//!
+//! # What a contract sees
+//! Its history and clock, its sending and its receiving side (`nm_sending`, `nm_receiving`), what
+//! the packets of each rank tell (`nm_protocol`), its live requests, and the counts of packets,
+//! pieces and strays. Room is not seen.
+//! # What is proved
+//! - Each call says exactly which events it adds, and which packets it puts for each rank: those
+//!   that the events call for (`started`, `happened`, `taken`).
+//! - The history keeps the rules of a rank's run that commands play no part in (`history`:
+//!   `right`).
+//! - `test`, `finish`, `probe` and `cancel` answer as MPI's definitions do on that history.
+//! - A packet or piece that does not continue its stream is counted, and makes nothing happen
+//!   (`taken`).
+//! - After want of memory the rank is as it was (`err`).
+//! # What is only tested
+//! That calls which take memory succeed with ample memory.
+#![tactic(auto)]
+
+mod answers;
+mod leaves;
+mod ranks;
+mod requests;
+mod room;
+mod starts;
+mod stays;
+mod takes;
+#[cfg(test)]
+mod tests;
+
+pub use answers::{CancelFault, Cancelled, FinishFault, State};
+pub use nm_request::{Kind, NoSuch, Req};
+pub use ranks::Rank;

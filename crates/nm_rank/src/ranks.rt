@@ -1,0 +1,165 @@
+//! The core of one rank.
+
+ghost use Rattle.std.specs.Prelude.{◌≡◌, ◌<◌, ◌≤◌, ◌↔◌, ℕ, false, [], length, map, replicate, IfOk};
+ghost use Rattle.nm_types.specs.declared.limits.TheConstants.{MAX_STAMP};
+ghost use Rattle.nm_protocol.specs.Continues.{WORN_STAMP};
+ghost use Rattle.nm_protocol.specs.Known.{nothing_known};
+ghost use Rattle.nm_protocol.specs.Rules.{AreRight};
+ghost use Rattle.nm_outbox.specs.Outboxes.{popped_to};
+ghost use Rattle.nm_sending.specs.Departures.{pushed_to};
+ghost use Rattle.nm_journal.specs.Journals.{IsJournal};
+ghost use Rattle.nm_rank.specs.Ranks.{IsFresh, count_of};
+
+use nm_history::History;
+use nm_journal::Journal;
+use nm_receiving::Receiving;
+use nm_request::Requests;
+use nm_sending::Sending;
+use nm_streams::Stream;
+use nm_types::{MAX_STAMP, Memory, Shape};
+use std::alloc::Global;
+use std::marker::Model;
+
+/// The clock from which on a rank does nothing more.
+const WORN: u64 = MAX_STAMP - 15;
+
+/// The core of one rank: everything that it does, without a thread and without a shared word.
+#[derive(Drop)]
+pub struct Rank {
+    pub(crate) me: u8,
+    pub(crate) shape: Shape,
+    pub(crate) journal: Journal,
+    pub(crate) requests: Requests,
+    pub(crate) sending: Sending,
+    pub(crate) receiving: Receiving,
+    // by rank
+    pub(crate) streams: Vec<Stream>,
+    pub(crate) took: Vec<u64>,
+    pub(crate) pulled: Vec<u64>,
+    pub(crate) strays: u64,
+}
+
+impl Model for Rank {
+    ghost use Rattle.std.specs.Prelude.{map};
+    ghost use Rattle.nm_rank.specs.Ranks.{RankView, seen};
+    ghost use Rattle.nm_rank.specs.Fields.{AreFields};
+
+    ghost Value = { RankView };
+
+    ghost view = { λ r.
+        seen r.me r.shape r.journal r.sending r.receiving (map (λ s. s.known) r.streams.items)
+        r.requests r.took.items r.pulled.items r.strays };
+
+    ghost invariant = { λ r.
+        AreFields r.me r.shape r.journal r.sending r.receiving (map (λ s. s.known) r.streams.items)
+        r.requests r.took.items r.pulled.items };
+}
+
+/// For each rank, that none were counted.
+fn zeros(alloc: Global, ranks: u8) -> Result<Vec<u64>, Memory>
+    ensures { IfOk result (λ counts. counts.items ≡ replicate ranks 0) }
+{
+    Ok(vec![in alloc; 0; ranks as usize]?)
+}
+
+/// For each rank, that nothing came of it.
+fn new_streams(alloc: Global, ranks: u8) -> Result<Vec<Stream>, Memory>
+    ensures { IfOk result (λ streams. map (λ s. s.known) streams.items ≡ replicate ranks nothing_known) }
+{
+    let mut streams = Vec::new(alloc);
+    for _rank in 0..ranks {
+        streams.push(Stream::new(alloc))?;
+    }
+    Ok(streams)
+}
+
+impl Rank {
+    /// A rank at which nothing happened, in a run of these sizes.
+    pub fn new(alloc: Global, shape: Shape, me: u8) -> Result<Rank, Memory>
+        requires { me < shape.ranks }
+        ensures me { IfOk result (λ r. (r.me ≡ me) × (r.sizes ≡ shape)) }
+        ensures events { IfOk result (λ r. (r.events ≡ []) × (r.clock ≡ 0)) }
+        ensures letters { IfOk result (λ r. r.sending.outbox.letters ≡ []) }
+        ensures counts { IfOk result (λ r. (r.took ≡ replicate shape.ranks 0)
+            × (r.pulled ≡ replicate shape.ranks 0) × (r.strays ≡ 0)) }
+        ensures known { IfOk result (λ r. r.known ≡ replicate shape.ranks nothing_known) }
+    {
+        let ranks = shape.ranks();
+        Ok(Rank {
+            me,
+            shape,
+            journal: Journal::new(alloc),
+            requests: Requests::new(alloc),
+            sending: Sending::new(alloc, ranks, me)?,
+            receiving: Receiving::new(alloc, shape)?,
+            streams: new_streams(alloc, ranks)?,
+            took: zeros(alloc, ranks)?,
+            pulled: zeros(alloc, ranks)?,
+            strays: 0,
+        })
+    }
+
+    /// Whether the rank can go on no more: its clock, its requests, or its messages or packets to a
+    /// rank are at their limits.
+    pub fn is_worn(&self) -> bool
+        ensures { (result ≡ false) ↔ IsFresh self.now }
+    {
+        self.journal.clock() >= WORN || self.requests.is_worn() || self.sending.is_worn()
+    }
+
+    /// What happened, oldest first.
+    pub fn history(&self) -> &History
+        ensures events { result.now.events ≡ self.now.events }
+        ensures right { AreRight self.now.sizes.ranks [] self.now.events }
+        ensures stamped { IsJournal self.now.events self.now.clock }
+    {
+        self.journal.history()
+    }
+
+    /// What happened, oldest first, when the rank is used no more.
+    pub fn into_history(self) -> History
+        ensures events { result.events ≡ self.events }
+    {
+        self.journal.into_history()
+    }
+
+    /// How many packets to a rank have left.
+    pub fn popped(&self, to: u8) -> u64
+        requires { to < self.now.sizes.ranks }
+        ensures { result ≡ popped_to self.now.sending.outbox to }
+    {
+        self.sending.popped(to)
+    }
+
+    /// How many packets of a rank were taken.
+    pub fn took(&self, from: u8) -> u64
+        requires { from < self.now.sizes.ranks }
+        ensures { result ≡ count_of self.now.took from }
+    {
+        self.took[from as usize]
+    }
+
+    /// How many pieces to a rank have left.
+    pub fn pushed(&self, to: u8) -> u64
+        requires { to < self.now.sizes.ranks }
+        ensures { result ≡ pushed_to self.now.sending to }
+    {
+        self.sending.pushed(to)
+    }
+
+    /// How many pieces of a rank were taken.
+    pub fn pulled(&self, from: u8) -> u64
+        requires { from < self.now.sizes.ranks }
+        ensures { result ≡ count_of self.now.pulled from }
+    {
+        self.pulled[from as usize]
+    }
+
+    /// How many packets and pieces did not continue their stream. The count stands still at the
+    /// last number of 64 bits.
+    pub fn strays(&self) -> u64
+        ensures { result ≡ self.now.strays }
+    {
+        self.strays
+    }
+}

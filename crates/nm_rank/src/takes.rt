@@ -1,0 +1,208 @@
+//! Packets and pieces that come.
+
+ghost use Rattle.std.specs.Prelude.{◌≡◌, ◌+◌, ◌<◌, ◌≤◌, ℕ, true, List, ◌++◌, length, option_to_list};
+ghost use Rattle.std.specs.Prelude.{IfErr, IfOk, OnErr, OnOk};
+ghost use Rattle.nm_types.specs.declared.limits.TheConstants.{MAX_PACKETS, MAX_STAMP};
+ghost use Rattle.nm_history.specs.declared.events.Event.{Event};
+ghost use Rattle.nm_history.specs.Sends.{Sent};
+ghost use Rattle.nm_protocol.specs.Clock.{stamped};
+ghost use Rattle.nm_protocol.specs.Known.{Known};
+ghost use Rattle.nm_outbox.specs.Outboxes.{put_to};
+ghost use Rattle.nm_streams.specs.Streams.{is_called_for as is_called_for_lem, is_done_at_once};
+ghost use Rattle.nm_sending.specs.Departures.{cleared_to};
+ghost use Rattle.nm_sending.specs.Sent.{AreSent, Puts};
+ghost use Rattle.nm_receiving.specs.Receipts.{stream_of};
+ghost use Rattle.nm_receiving.specs.Received.{AreReceived};
+ghost use Rattle.nm_rank.specs.Calls.{TakesPacket, TakesPiece, strays_after as strays_after_lem, taken_of};
+ghost use Rattle.nm_rank.specs.Ranks.{IsFresh, count_of};
+ghost use Rattle.nm_rank.specs.Takes.{MayBeAccepted, Accepts, reply_of};
+
+use crate::Rank;
+use crate::room::make_room;
+use crate::stays::sides_stay;
+use nm_history::Happened;
+use nm_journal::Journal;
+use nm_receiving::Receiving;
+use nm_sending::Sending;
+use nm_streams::Stream;
+use nm_types::{Memory, Packet, Piece, What};
+
+/// Records what happened, if something did.
+fn note(journal: &mut Journal, event: Option<Happened>)
+    requires room { 0 < journal.old.spare }
+    requires in_time { journal.old.clock < MAX_STAMP }
+    ensures events { journal.new.events
+        ≡ journal.old.events ++ stamped journal.old.clock (option_to_list event) }
+    ensures clock { journal.new.clock ≡ journal.old.clock + length (option_to_list event) }
+    ensures room { journal.old.spare ≤ journal.new.spare + length (option_to_list event) }
+{
+    if let Some(event) = event {
+        journal.add(event);
+    }
+}
+
+/// Whether this rank called for a packet: it clears a message that was sent by asking, or answers a
+/// recall.
+fn is_called_for(sending: &Sending, p: &Packet) -> bool
+    requires { p.now.from < length sending.now.outbox.popped }
+    ensures { (h : List Event) → AreSent sending.now h →
+        result ≡ is_called_for_lem h p.now.from p.now.what }
+{
+    match p.what {
+        What::Clear { n } => sending.is_asked(p.from, n),
+        What::Withdrawn { n, .. } => sending.was_recalled(p.from, n),
+        What::Head { .. } | What::More { .. } | What::Ask { .. } | What::Withdraw { .. } => false,
+    }
+}
+
+/// What a packet that continues its stream does to the messages sent and received. The answer is
+/// whether what it asks for is done at once.
+fn accept(sending: &mut Sending, receiving: &mut Receiving, p: &Packet) -> Result<bool, Memory>
+    requires may { MayBeAccepted sending.old receiving.old p.now }
+    ensures at_once { IfOk result (λ done. (h : List Event) → AreSent sending.old h →
+        AreReceived receiving.old h → done ≡ is_done_at_once h p.now.from p.now.what) }
+    ensures accepts { OnOk result (Accepts p.now sending.old sending.new receiving.old receiving.new) }
+    ensures same { OnErr result (sending.new ≡ sending.old) }
+    ensures err { OnErr result (receiving.new ≡ receiving.old) }
+{
+    sides_stay();
+    match p.what {
+        What::Head { .. } | What::More { .. } | What::Ask { .. } => receiving.take(p),
+        What::Clear { n } => Ok(sending.clear(p.from, n)),
+        What::Withdraw { n } => Ok(receiving.withdraw(p.from, n)),
+        What::Withdrawn { n, done } => {
+            sending.undo(p.from, n, done);
+            Ok(false)
+        }
+    }
+}
+
+/// Puts the answer to a packet: the clearance of an announced message that a receive takes at once,
+/// or the answer to a withdrawal. `n` is the number of the announced message.
+fn reply(sending: &mut Sending, p: &Packet, n: u64, done_at_once: bool, stamp: u64)
+    requires sender { p.now.from < length sending.old.outbox.popped }
+    requires few { put_to sending.old.outbox p.now.from < MAX_PACKETS }
+    requires room { 0 < sending.old.outbox.spare }
+    requires in_time { stamp ≤ MAX_STAMP }
+    ensures puts { (called : ℕ) → called ≤ stamp →
+        Puts (reply_of n p.now.from p.now.what done_at_once called) stamp sending.old.outbox
+        sending.new.outbox }
+    ensures same { sending.new ≡ record sending.old { outbox = sending.new.outbox } }
+{
+    match p.what {
+        What::Ask { .. } if done_at_once => sending.answer(p.from, stamp, What::Clear { n }),
+        What::Withdraw { n } => {
+            let done = done_at_once;
+            sending.answer(p.from, stamp, What::Withdrawn { n, done });
+        }
+        What::Head { .. }
+        | What::More { .. }
+        | What::Ask { .. }
+        | What::Clear { .. }
+        | What::Withdrawn { .. } => {}
+    }
+}
+
+impl Rank {
+    /// Takes the next packet of a rank. The clock is set forward to its stamp first. One that does
+    /// not continue its stream is counted as a stray, and changes nothing else.
+    pub fn take_packet(&mut self, p: Packet) -> Result<(), (Memory, Packet)>
+        requires sender { p.from < self.old.sizes.ranks }
+        requires number { p.seq ≡ count_of self.old.took p.from }
+        requires fresh { IsFresh self.old }
+        ensures taken { OnOk result (TakesPacket p self.old self.new) }
+        ensures err { IfErr result (λ e. (e.1 ≡ p) × (self.new ≡ self.old)) }
+    {
+        match self.take(&p) {
+            Ok(()) => Ok(()),
+            Err(memory) => Err((memory, p)),
+        }
+    }
+
+    /// Takes the next packet of a rank, or leaves everything as it was.
+    fn take(&mut self, p: &Packet) -> Result<(), Memory>
+        requires sender { p.now.from < self.old.sizes.ranks }
+        requires number { p.now.seq ≡ count_of self.old.took p.now.from }
+        requires fresh { IsFresh self.old }
+        ensures taken { OnOk result (TakesPacket p.now self.old self.new) }
+        ensures err { OnErr result (self.new ≡ self.old) }
+    {
+        let called_for = is_called_for(&self.sending, p);
+        let eager = self.shape.eager();
+        if self.streams[p.from as usize].continues(eager, p, called_for) {
+            self.take_next(p)?;
+        } else {
+            self.journal.raise(p.stamp);
+            self.strays = strays_after(false, self.strays);
+            self.took[p.from as usize] = p.seq + 1;
+        }
+        Ok(())
+    }
+
+    /// Takes a packet that continues its stream, or leaves everything as it was.
+    fn take_next(&mut self, p: &Packet) -> Result<(), Memory>
+        requires sender { p.now.from < self.old.sizes.ranks }
+        requires number { p.now.seq ≡ count_of self.old.took p.now.from }
+        requires fresh { IsFresh self.old }
+        requires continues { (taken_of self.old p.now).continued ≡ true }
+        ensures taken { OnOk result (TakesPacket p.now self.old self.new) }
+        ensures err { OnErr result (self.new ≡ self.old) }
+    {
+        make_room(&mut self.journal, &mut self.sending, &mut self.requests)?;
+        let stream = &mut self.streams[p.from as usize];
+        let n = stream.count();
+        stream.reserve(p.what)?;
+        let done_at_once = accept(&mut self.sending, &mut self.receiving, p)?;
+        let made = stream.events(p, done_at_once);
+        stream.learn(p);
+        self.journal.raise(p.stamp);
+        note(&mut self.journal, made.first);
+        note(&mut self.journal, made.second);
+        reply(&mut self.sending, p, n, done_at_once, self.journal.clock());
+        self.took[p.from as usize] = p.seq + 1;
+        Ok(())
+    }
+
+    /// Takes the next piece of a rank. One that is not the next one due is counted as a stray, and
+    /// changes nothing else.
+    pub fn take_piece(&mut self, p: Piece) -> Result<(), (Memory, Piece)>
+        requires sender { p.from < self.old.sizes.ranks }
+        requires number { p.number ≡ count_of self.old.pulled p.from }
+        requires fresh { IsFresh self.old }
+        ensures taken { OnOk result (TakesPiece p self.old self.new) }
+        ensures err { IfErr result (λ e. (e.1 ≡ p) × (self.new ≡ self.old)) }
+    {
+        match self.draw(&p) {
+            Ok(()) => Ok(()),
+            Err(memory) => Err((memory, p)),
+        }
+    }
+
+    /// Takes the next piece of a rank, or leaves everything as it was.
+    fn draw(&mut self, p: &Piece) -> Result<(), Memory>
+        requires sender { p.now.from < self.old.sizes.ranks }
+        requires number { p.now.number ≡ count_of self.old.pulled p.now.from }
+        requires fresh { IsFresh self.old }
+        ensures taken { OnOk result (TakesPiece p.now self.old self.new) }
+        ensures err { OnErr result (self.new ≡ self.old) }
+    {
+        sides_stay();
+        make_room(&mut self.journal, &mut self.sending, &mut self.requests)?;
+        let drawn = self.receiving.draw(p)?;
+        note(&mut self.journal, drawn.event);
+        self.strays = strays_after(drawn.continued, self.strays);
+        self.pulled[p.from as usize] = p.number + 1;
+        Ok(())
+    }
+}
+
+/// The count of strays after what continued or did not.
+fn strays_after(continued: bool, strays: u64) -> u64
+    ensures { result ≡ strays_after_lem continued strays }
+{
+    if continued {
+        strays
+    } else {
+        strays.saturating_add(1)
+    }
+}
