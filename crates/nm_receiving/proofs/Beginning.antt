@@ -64,7 +64,7 @@ module _ (v : ReceivingView) (empty : IsEmpty v) where
   no_receipts : (from : ℕ) → receipts_from v from ≡ []
   no_receipts from = ap (λ (rows : List (List Receipt)). get_or rows from []) empty.receipts ∙ all_same v.sizes.ranks [] from
 
-  no_grants : (from : ℕ) → granted_to v from ≡ []
+  pub no_grants : (from : ℕ) → granted_to v from ≡ []
   no_grants from = ap (λ (rows : List (List (ℕ × Granted))). get_or rows from []) empty.grants ∙ all_same v.sizes.ranks [] from
 
   pub none_drawn : (from : ℕ) → drawn_from v from ≡ 0

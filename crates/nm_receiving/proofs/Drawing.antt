@@ -17,6 +17,7 @@ use Rattle.nm_history.specs.declared.events.Event.{Event}
 use Rattle.nm_history.specs.declared.events.Happened.{Happened}
 use Rattle.nm_history.specs.declared.events.Happened.TheVariants.{Whole}
 use Rattle.nm_history.proofs.SelectionLemmas.{find_contains}
+use Rattle.nm_protocol.specs.Bytes.{pulled_bytes}
 use Rattle.nm_protocol.specs.Effects.{whole_if}
 use Rattle.nm_protocol.specs.Pieces.{Due, due_pieces, is_due, piece_makes}
 use Rattle.nm_protocol.specs.Rules.{AreRight}
@@ -28,9 +29,11 @@ use Rattle.nm_streams.proofs.DueLemmas.{due-first}
 use Rattle.nm_streams.proofs.GrantLemmas.{fits-first, joined-made}
 use Rattle.nm_receiving.specs.declared.receipts.Receipt.{Receipt}
 use Rattle.nm_receiving.specs.Kept.{AreTables, IsKept}
-use Rattle.nm_receiving.specs.Receipts.{ReceivingView, drawn_from, granted_to, receipt_of}
+use Rattle.nm_receiving.specs.Receipts.{AddsBytes, ReceivingView, drawn_from, granted_to, of_asked}
+use Rattle.nm_receiving.specs.Receipts.{receipt_of}
 use Rattle.nm_receiving.specs.Received.{AreReceived, Keeps}
 use Rattle.nm_receiving.specs.Steps.{rows_with_whole}
+use Rattle.nm_receiving.proofs.CameLemmas.{piece-came}
 use Rattle.nm_receiving.proofs.Changing.{keeps-piece}
 use Rattle.nm_receiving.proofs.Events.{same_taken, unstamp-none}
 use Rattle.nm_receiving.proofs.Goings.{goes_on, like-push, names_of}
@@ -196,6 +199,11 @@ module _ (v : ReceivingView) (kept : IsKept v) (gs : Granting) (p : Piece) (same
           tables1 (like-push kept.history x refl refl)
           (piece_may_mark v kept.history p.from p.n p.bytes (set v.drawn p.from (drawn_from v p.from + 1)) found.0 found.1 found.2 kept.tables inside found.3
           (names_of v kept.history kept.received) (full last))))
+
+  -- its bytes are added
+  pub bytes-draw :
+      AddsBytes (of_asked p.from (λ n. pulled_bytes n (record { piece = p; continued = true }))) v drawn_view
+  bytes-draw = piece-came v drawn_view p found.0 found.1 inside refl refl found.3.there found.3.bytes
 
   -- the fields afterwards
   pub drawn_is : (b : Bool) (grants : List (List (ℕ × Granted))) (rows : List (List Receipt)) (drawn : List ℕ) → b ≡ ends

@@ -19,6 +19,7 @@ use Rattle.nm_history.specs.declared.plain.Pair.{Pair}
 use Rattle.nm_history.specs.Answers.{without_bytes as answer_without_bytes}
 use Rattle.nm_history.specs.Completion.{is_here, is_taken, pair_of_receive, result_of, shown}
 use Rattle.nm_history.specs.Completion.Request.{Receiving}
+use Rattle.nm_history.specs.Matching.{is_of_message}
 use Rattle.nm_history.specs.Sends.{is_ask}
 use Rattle.nm_eager.specs.Streams.{Incoming, Stream, message_of, missing, nothing_came, without}
 use Rattle.nm_match.proofs.ListLemmas.{find-filter}
@@ -27,14 +28,17 @@ use Rattle.nm_rndv.proofs.StateLemmas.{equal}
 use Rattle.nm_receiving.specs.declared.receipts.Receipt.{Receipt}
 use Rattle.nm_receiving.specs.declared.receipts.Receive.{Receive}
 use Rattle.nm_receiving.specs.Kept.{AreTables, HasBytes, IsCleared, IsGranted, IsJoined, IsKept}
-use Rattle.nm_receiving.specs.Receipts.{ReceivingView, ShowsBytes, bytes_of, granted_to, pair_at, pair_with, receipt_of, stream_of}
+use Rattle.nm_receiving.specs.Receipts.{ReceivingView, SameOtherBytes, ShowsBytes, bytes_of, came_of}
+use Rattle.nm_receiving.specs.Receipts.{granted_to, pair_at, pair_with, receipt_of, stream_of}
 use Rattle.nm_receiving.specs.Received.{AreReceived}
 use Rattle.nm_receiving.specs.Steps.{IsThere, has_ended, with_ended}
+use Rattle.nm_receiving.proofs.CameLemmas.{came-same, granted_bytes, joined_bytes}
 use Rattle.nm_receiving.proofs.Changing.{keeps-ended, keeps-taken}
 use Rattle.nm_receiving.proofs.Dues.{pair}
 use Rattle.nm_receiving.proofs.Goings.{names_of}
 use Rattle.nm_receiving.proofs.Grants.{all_set, differs, grant_among, grant_set}
-use Rattle.nm_receiving.proofs.Lists.{eqb_other, row-other, row-same, row_inside, slice_get-set_other, slice_get-set_same, some_from, some_parts}
+use Rattle.nm_receiving.proofs.Lists.{eqb_other, eqb_same, row-other, row-same, row_inside}
+use Rattle.nm_receiving.proofs.Lists.{slice_get-set_other, slice_get-set_same, some_from, some_parts}
 use Rattle.nm_receiving.proofs.Stood.{is_cancelled_at, is_whole_at}
 use Rattle.nm_receiving.proofs.Tables.{took}
 use Rattle.nm_receiving.proofs.TablesRest.{later_set, tables-receives, tables-removed}
@@ -97,17 +101,20 @@ shown_is number cap a body len = by (nat_lt cap a.env.len) refl
     by true is = rw is refl
     by false is = rw is (ap (λ (k : ℕ). answer.Got a.env.from a.env.tag (replicate k 0)) len)
 
+pub pair_here : (v : ReceivingView) (number : ℕ) (r : Receive) → slice_get v.receives number ≡ Some r
+    → (a : Arrival) → r.taken ≡ Some a → pair_at v number ≡ Some (pair number r.cap a)
+pair_here v number r here a some =
+    ap (λ (o : Option Receive). option_and_then (pair_with number) o) here
+    ∙ ap (λ (o : Option Arrival). option_map (pair number r.cap) o) some
+
 pub shows_bytes : (v : ReceivingView) (number : ℕ) (r : Receive) → slice_get v.receives number ≡ Some r → (a : Arrival) → r.taken ≡ Some a
     → (cap : ℕ) (body : List ℕ) → bytes_of v a ≡ Some body → ShowsBytes v number (answer_of_bytes a cap body)
 shows_bytes v number r here a some cap body bytes = by (nat_lt cap a.env.len)
   where
-    at_number : pair_at v number ≡ Some (pair number r.cap a)
-    at_number = ap (λ (o : Option Receive). option_and_then (pair_with number) o) here
-        ∙ ap (λ (o : Option Arrival). option_map (pair number r.cap) o) some
-
     by : (b : Bool) → ShowsBytes v number (if b then answer.Cut a.env.from a.env.tag a.env.len else answer.Got a.env.from a.env.tag body)
     by true = tt
-    by false = subst (λ (o : Option Pair). IfSome o (λ q. bytes_of v q.arrival ≡ Some body)) (sym at_number) bytes
+    by false = subst (λ (o : Option Pair). IfSome o (λ q. bytes_of v q.arrival ≡ Some body))
+        (sym (pair_here v number r here a some)) bytes
 
 -- a receive that ended
 pub ended_is : (rs : List Receive) (number : ℕ) (r : Receive) → slice_get rs number ≡ Some r → set rs number (has_ended r) ≡ with_ended rs number
@@ -419,6 +426,34 @@ module _ (v : ReceivingView) (kept : IsKept v) (number : ℕ) (r : Receive) (her
             (view-asked how) (refl, refl)
         by false how = subst (λ (x : ReceivingView). ((stream_of x i).count ≡ (stream_of v i).count) × (missing (stream_of x i) ≡ missing (stream_of v i)))
             (view-eager how) (same_numbers in_streams (left-eager how) i)
+
+    -- the bytes of the other messages are the same
+    came-finished : (b : Arrival) → (b.env.from ≡ from → b.n ≡ a.n → ⊥)
+        → came_of finished_view b ≡ came_of v b
+    came-finished b differ = by (is_ask a.env.how) refl
+      where
+        by : (c : Bool) → is_ask a.env.how ≡ c → came_of finished_view b ≡ came_of v b
+        by true how =
+            subst (λ (x : ReceivingView). came_of x b ≡ came_of v b) (view-asked how)
+            (came-same v (record v1 { grants = set v.grants from (taken_in row a.n) }) b
+            (λ _. ap granted_bytes (still_granted how in_grants b.env.from b.n differ))
+            (λ _. refl))
+        by false how =
+            subst (λ (x : ReceivingView). came_of x b ≡ came_of v b) (view-eager how)
+            (came-same v (record v1 { streams = set v.streams from (without s a.n) }) b
+            (λ _. refl)
+            (λ _. ap joined_bytes (still_joined in_streams (left-eager how) b.env.from b.n differ)))
+
+    pub bytes-finished : SameOtherBytes (pair_at v number) v finished_view
+    bytes-finished b other = came-finished b (λ same same'. true≢false (sym (of_b same same') ∙ other))
+      where
+        of_b : b.env.from ≡ from → b.n ≡ a.n
+            → option_map_or (is_of_message b.env.from b.n) (pair_at v number) false ≡ true
+        of_b same same' =
+            ap (λ (o : Option Pair). option_map_or (is_of_message b.env.from b.n) o false)
+            (pair_here v number r here a some)
+            ∙ ap (λ (x : Bool). x && a.n == b.n) (eqb_same from b.env.from (sym same))
+            ∙ eqb_same a.n b.n (sym same')
 
 -- the sender of a message that a receive took
 pub taken_from : (v : ReceivingView) (kept : IsKept v) (number : ℕ) (r : Receive) → slice_get v.receives number ≡ Some r → (a : Arrival) → r.taken ≡ Some a

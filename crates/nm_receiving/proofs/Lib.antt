@@ -1,6 +1,7 @@
 pub mod Answering
 pub mod Arriving
 pub mod Beginning
+pub mod CameLemmas
 pub mod Cancelling
 pub mod Changing
 pub mod Coming

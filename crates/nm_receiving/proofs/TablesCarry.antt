@@ -43,7 +43,7 @@ has_more n bytes m = by (m.n == n)
     by true = omega (arith, length-append m.bytes bytes)
     by false = omega arith
 
-carried : (n : ℕ) (bytes : List ℕ) (ms : List Incoming) (k : ℕ)
+pub carried : (n : ℕ) (bytes : List ℕ) (ms : List Incoming) (k : ℕ)
     → find (λ m. m.n == k) (map (with_more_bytes n bytes) ms) ≡ option_map (with_more_bytes n bytes) (find (λ m. m.n == k) ms)
 carried n bytes [] k = refl
 carried n bytes (m ∷ ms) k = by (m.n == k) refl (carried n bytes ms k)

@@ -1,5 +1,6 @@
 -- What a packet of a message tells, and what comes of the message.
-use Rattle.std.proofs.Common.{◌≡◌, ℕ, ◌+◌, ◌-◌, ◌<◌, ◌≤◌, true, false, List, length, refl, sym, ◌∙◌, ap, subst, rules, arith}
+use Rattle.std.proofs.Common.{◌≡◌, ℕ, ◌+◌, ◌-◌, ◌<◌, ◌≤◌, true, List, length, sym, ◌∙◌, ap}
+use Rattle.std.proofs.Common.{subst, rules, arith}
 use Rattle.std.specs.Prelude.{min, slice_index_or, slice_set}
 use Rattle.std.proofs.lemmas.List.{get_or-set_same}
 use Rattle.nm_types.specs.declared.limits.TheConstants.{MAX_PAYLOAD}

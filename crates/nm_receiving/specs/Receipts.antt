@@ -1,13 +1,16 @@
 -- What became of the messages that came to a rank, and of its receives.
-use Rattle.std.specs.Prelude.{◌≡◌, ℕ, Bool, Option, Some, None, List, [], option_map}
+use Rattle.std.specs.Prelude.{◌≡◌, ℕ, Bool, false, not, if◌then◌else◌, Option, Some, None, List, []}
+use Rattle.std.specs.Prelude.{◌++◌, option_map}
 use Rattle.std.specs.Prelude.{option_and_then, slice_index_or, ◌==◌, ◌&&◌, IfSome}
 use Rattle.std.specs.List.{slice_get}
+use Rattle.std.specs.Option.{option_map_or}
 use Rattle.nm_types.specs.Sizes.{Sizes}
 use Rattle.nm_types.specs.declared.answers.Answer.{Answer}
 use Rattle.nm_types.specs.declared.answers.Answer.TheVariants.{Got}
 use Rattle.nm_types.specs.declared.messages.Arrival.{Arrival}
 use Rattle.nm_history.specs.declared.events.Happened.{Happened}
 use Rattle.nm_history.specs.declared.plain.Pair.{Pair}
+use Rattle.nm_history.specs.Matching.{is_of_message}
 use Rattle.nm_history.specs.Sends.{is_ask}
 use Rattle.nm_protocol.specs.Effects.{whole_if}
 use Rattle.nm_match.specs.declared.deeds.Deed.{Deed}
@@ -59,6 +62,32 @@ pair_at v number = option_and_then (pair_with number) (slice_get v.receives numb
 -- the bytes of a message that came and were not given yet: those of its packets, or of its pieces
 abbrev pub bytes_of : ReceivingView → Arrival → Option (List ℕ)
 bytes_of v a = bytes_there (stream_of v a.env.from) (granted_to v a.env.from) a
+
+-- the same of a message of which none came yet
+abbrev pub came_of : ReceivingView → Arrival → List ℕ
+came_of v a = option_map_or (λ bytes. bytes) (bytes_of v a) []
+
+-- the bytes of an eager message of this rank, given by its number
+abbrev pub of_eager : ℕ → (ℕ → List ℕ) → Arrival → List ℕ
+of_eager from bytes a = if a.env.from == from && not (is_ask a.env.how) then bytes a.n else []
+
+-- the bytes of a message that this rank sent by asking, given by its number
+abbrev pub of_asked : ℕ → (ℕ → List ℕ) → Arrival → List ℕ
+of_asked from bytes a = if a.env.from == from && is_ask a.env.how then bytes a.n else []
+
+-- to the bytes of each message that came, these were added
+abbrev pub AddsBytes : (Arrival → List ℕ) → ReceivingView → ReceivingView → Type 0
+AddsBytes more old new = (a : Arrival) → came_of new a ≡ came_of old a ++ more a
+
+-- the bytes of each message that came are the same
+abbrev pub SameBytes : ReceivingView → ReceivingView → Type 0
+SameBytes old new = (a : Arrival) → came_of new a ≡ came_of old a
+
+-- the bytes of each message that came are the same, but for that of one pair
+abbrev pub SameOtherBytes : Option Pair → ReceivingView → ReceivingView → Type 0
+SameOtherBytes pair old new =
+    (a : Arrival) → option_map_or (is_of_message a.env.from a.n) pair false ≡ false →
+    came_of new a ≡ came_of old a
 
 -- the message has no bytes and was asked for, so that a receive that takes it has it whole
 abbrev pub is_empty_ask : Arrival → Bool

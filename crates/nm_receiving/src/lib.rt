@@ -14,6 +14,9 @@
 //! # What is proved
 //! - Each answer is the definition's on every history that stands in the relation.
 //! - Each call keeps the relation, with the events that its clause `kept` names.
+//! - Each call says what it adds to the bytes of which message (clause `bytes`): a packet adds its payload
+//!   to the eager message that it begins or continues, a piece that continues adds its bytes to its message,
+//!   and `finish` changes at most those of the message of its receive.
 //! - `finish` gives the result of the receive, with the bytes that came of its message.
 //! - After want of memory nothing has changed (clause `err`).
 //! # What is only tested

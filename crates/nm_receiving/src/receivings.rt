@@ -17,14 +17,15 @@ ghost use Rattle.nm_history.specs.Happens.{happened, is_arrival};
 ghost use Rattle.nm_history.specs.Matching.{first_message, is_claimed as is_claimed_lem};
 ghost use Rattle.nm_history.specs.Matching.{is_free_message, is_of_receive, matched_pairs};
 ghost use Rattle.nm_history.specs.Sends.{message_of};
+ghost use Rattle.nm_protocol.specs.Bytes.{bytes_in, pulled_bytes};
 ghost use Rattle.nm_protocol.specs.Effects.{happenings};
 ghost use Rattle.nm_protocol.specs.Known.{Known, learned};
 ghost use Rattle.nm_protocol.specs.Pieces.{due_pieces, is_due as is_due_lem, piece_makes};
 ghost use Rattle.nm_eager.specs.Streams.{after, continues, is_kept, missing, nothing_came};
-ghost use Rattle.nm_rndv.specs.Grants.{with_piece};
 ghost use Rattle.nm_streams.specs.Streams.{is_done_at_once};
-ghost use Rattle.nm_receiving.specs.Receipts.{ShowsBytes, drawn_from, granted_to, receipts_from};
-ghost use Rattle.nm_receiving.specs.Receipts.{receipt_of, stream_of, taken_events};
+ghost use Rattle.nm_receiving.specs.Receipts.{AddsBytes, SameBytes, SameOtherBytes, ShowsBytes, came_of};
+ghost use Rattle.nm_receiving.specs.Receipts.{drawn_from, of_asked, of_eager, pair_at, receipt_of};
+ghost use Rattle.nm_receiving.specs.Receipts.{receipts_from, stream_of, taken_events};
 ghost use Rattle.nm_receiving.specs.Received.{AreReceived, Follows, Keeps, MayBeTaken, TakesPacket};
 ghost use Rattle.nm_receiving.specs.Steps.{with_ended};
 
@@ -89,7 +90,9 @@ impl Receiving {
         ensures none { IfOk result (λ r. AreReceived r []) }
         ensures nothing { IfOk result (λ r. (from : ℕ) →
             (stream_of r from ≡ nothing_came) × (drawn_from r from ≡ 0)) }
+        ensures bytes { IfOk result (λ r. (a : Arrival) → came_of r a ≡ []) }
         ensures receives { IfOk result (λ r. r.receives ≡ []) }
+        ensures drawn { IfOk result (λ r. length r.drawn ≡ shape.ranks) }
     {
         let ranks = shape.ranks();
         Ok(Receiving {
@@ -124,6 +127,7 @@ impl Receiving {
             ∷ taken_events s.taken)) }
         ensures sizes { OnOk result (self.new.sizes ≡ self.old.sizes) }
         ensures streams { OnOk result (self.new.streams ≡ self.old.streams) }
+        ensures bytes { OnOk result (SameBytes self.old self.new) }
         ensures drawn { OnOk result (self.new.drawn ≡ self.old.drawn) }
         ensures receives { IfOk result (λ s. self.new.receives ≡ self.old.receives
             ++ record { cap = cap; taken = s.taken; cancelled = false; ended = false } ∷ []) }
@@ -157,6 +161,7 @@ impl Receiving {
             (event.Match s.number from n cap line ∷ taken_events s.taken)) }
         ensures sizes { OnOk result (self.new.sizes ≡ self.old.sizes) }
         ensures streams { OnOk result (self.new.streams ≡ self.old.streams) }
+        ensures bytes { OnOk result (SameBytes self.old self.new) }
         ensures drawn { OnOk result (self.new.drawn ≡ self.old.drawn) }
         ensures receives { IfOk result (λ s. self.new.receives ≡ self.old.receives
             ++ record { cap = cap; taken = s.taken; cancelled = false; ended = false } ∷ []) }
@@ -254,6 +259,10 @@ impl Receiving {
             known.missing ≡ missing (stream_of self.old p.now.from) →
             Follows self.new p.now.from
             (learned known p.now.what (length p.now.payload))) }
+        ensures bytes { OnOk result ((known : Known) →
+            known.count ≡ (stream_of self.old p.now.from).count → AddsBytes
+            (of_eager p.now.from (λ n. bytes_in n known p.now.what p.now.payload)) self.old
+            self.new) }
         ensures sizes { OnOk result (self.new.sizes ≡ self.old.sizes) }
         ensures drawn { OnOk result (self.new.drawn ≡ self.old.drawn) }
         ensures ended { OnOk result (map (λ r. r.ended) self.new.receives
@@ -307,6 +316,10 @@ impl Receiving {
         ensures kept { OnOk result (TakesPacket self.old self.new p.now) }
         ensures streams { OnOk result (self.new.streams ≡ slice_set self.old.streams p.now.from
             (after (stream_of self.old p.now.from) p.now.what p.now.payload)) }
+        ensures bytes { OnOk result ((known : Known) →
+            known.count ≡ (stream_of self.old p.now.from).count → AddsBytes
+            (of_eager p.now.from (λ n. bytes_in n known p.now.what p.now.payload)) self.old
+            self.new) }
         ensures sizes { OnOk result (self.new.sizes ≡ self.old.sizes) }
         ensures drawn { OnOk result (self.new.drawn ≡ self.old.drawn) }
         ensures ended { OnOk result (map (λ r. r.ended) self.new.receives
@@ -335,6 +348,10 @@ impl Receiving {
         ensures kept { OnOk result (TakesPacket self.old self.new p.now) }
         ensures streams { OnOk result (self.new.streams ≡ slice_set self.old.streams p.now.from
             (after (stream_of self.old p.now.from) p.now.what p.now.payload)) }
+        ensures bytes { OnOk result ((known : Known) →
+            known.count ≡ (stream_of self.old p.now.from).count → AddsBytes
+            (of_eager p.now.from (λ n. bytes_in n known p.now.what p.now.payload)) self.old
+            self.new) }
         ensures sizes { OnOk result (self.new.sizes ≡ self.old.sizes) }
         ensures drawn { OnOk result (self.new.drawn ≡ self.old.drawn) }
         ensures ended { OnOk result (map (λ r. r.ended) self.new.receives
@@ -359,6 +376,10 @@ impl Receiving {
         ensures kept { OnOk result (TakesPacket self.old self.new p.now) }
         ensures streams { OnOk result (self.new.streams ≡ slice_set self.old.streams p.now.from
             (after (stream_of self.old p.now.from) p.now.what p.now.payload)) }
+        ensures bytes { OnOk result ((known : Known) →
+            known.count ≡ (stream_of self.old p.now.from).count → AddsBytes
+            (of_eager p.now.from (λ n. bytes_in n known p.now.what p.now.payload)) self.old
+            self.new) }
         ensures sizes { OnOk result (self.new.sizes ≡ self.old.sizes) }
         ensures drawn { OnOk result (self.new.drawn ≡ self.old.drawn) }
         ensures ended { OnOk result (map (λ r. r.ended) self.new.receives
@@ -415,11 +436,10 @@ impl Receiving {
               receipts = self.new.receipts;
               drawn = self.new.drawn;
             }) }
-        ensures bytes { IfOk result (λ d. self.new.grants
-            ≡ (if d.continued
-            then slice_set self.old.grants p.now.from
-            (with_piece (granted_to self.old p.now.from) p.now.n p.now.bytes)
-            else self.old.grants)) }
+        ensures bytes { IfOk result (λ d. AddsBytes
+            (of_asked p.now.from
+            (λ n. pulled_bytes n (record { piece = p.now; continued = d.continued }))) self.old
+            self.new) }
         ensures err { OnErr result (self.new ≡ self.old) }
     {
         if !self.grants.fits(p) {
@@ -478,6 +498,7 @@ impl Receiving {
         ensures streams { (from : ℕ) →
             ((stream_of self.new from).count ≡ (stream_of self.old from).count)
             × (missing (stream_of self.new from) ≡ missing (stream_of self.old from)) }
+        ensures bytes { SameOtherBytes (pair_at self.old number) self.old self.new }
         ensures same { self.new
             ≡ record self.old {
               streams = self.new.streams;

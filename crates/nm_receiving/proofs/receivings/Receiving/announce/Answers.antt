@@ -17,7 +17,7 @@ use Rattle.nm_eager.specs.Streams.{Stream, after, continues, missing, skipped}
 use Rattle.nm_receiving.specs.declared.receipts.Receipt.{Receipt}
 use Rattle.nm_receiving.specs.declared.receipts.Receive.{Receive}
 use Rattle.nm_receiving.specs.Kept.{IsKept}
-use Rattle.nm_receiving.specs.Receipts.{ReceivingView, receipts_from, stream_of}
+use Rattle.nm_receiving.specs.Receipts.{AddsBytes, ReceivingView, of_eager, receipts_from, stream_of}
 use Rattle.nm_receiving.specs.Received.{AreReceived, TakesPacket}
 use Rattle.nm_receiving.specs.Seen.{seen}
 use Rattle.nm_receiving.specs.Steps.{grants_with, rows_from, rows_with, streams_of}
@@ -26,6 +26,12 @@ use Rattle.nm_receiving.proofs.Goings.{next_message}
 use Rattle.nm_receiving.proofs.Joinings.{stream_stepped}
 use Rattle.nm_receiving.proofs.Packets.{ask_finished, ask_grant-came, ask_grant-new, ask_is, ask_view, kept-ask, some_mapped, takes-ask}
 use Rattle.nm_receiving.proofs.Packets.{taken_ended, taker_inside, then_taken}
+use Rattle.std.proofs.Common.{get_or}
+use Rattle.std.proofs.lemmas.Bool.{true≢false}
+use Rattle.nm_protocol.specs.Bytes.{bytes_in}
+use Rattle.nm_protocol.specs.Known.{Known}
+use Rattle.nm_eager.specs.Streams.{is_eager}
+use Rattle.nm_receiving.proofs.CameLemmas.{asked_came, granted-came, packet-came}
 use Rattle.nm_receiving.proofs.receivings.Receiving.announce.Goals as goal
 
 pub arrive-requires : goal.arrive-requires
@@ -189,3 +195,18 @@ returns-clause-ended c =
     ap (λ (rs : List Receive). map (λ r. r.ended) rs) c.give.ensures
     ∙ taken_ended c.self.inside.receives.items c.in_ok-taker.taker c.next_arrival-arrival.result
     ∙ ap (λ (w : ReceivingView). map (λ r. r.ended) w.receives) c.self.view_is
+
+pub returns-clause-bytes : goal.returns-clause-bytes
+returns-clause-bytes c =
+    let v : ReceivingView = seen c.self.inside in
+    let p : Packet = c.args.p.now in
+    let taken = c.then_some-taken.result in
+    subst (λ (u : ReceivingView). (known : Known) → known.count ≡ (stream_of u p.from).count
+    → AddsBytes (of_eager p.from (λ n. bytes_in n known p.what p.payload)) u (after_view c)) c.self.view_is
+    (packet-came v (after_view c) c.self.invariant p (sender_of c)
+    (streams_after c
+    ∙ ap (λ (w : What). set v.streams p.from (after (stream_of v p.from) w p.payload)) (sym c.requires.ask))
+    (λ from n. ap (λ gs. asked_came (get_or gs from []) n)
+    (c.grant_taken.ensures.grants ∙ ap (λ gs. grants_with gs taken) c.reserve-2.ensures.same)
+    ∙ granted-came v.grants taken from n)
+    (λ eager. absurd (true≢false (sym eager ∙ ap (λ (w : What). is_eager w) c.requires.ask))) (goes_of c))

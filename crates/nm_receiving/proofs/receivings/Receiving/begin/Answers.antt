@@ -14,7 +14,7 @@ use Rattle.nm_eager.specs.Streams.{IsStream, Stream, after, continues, missing}
 use Rattle.nm_receiving.specs.declared.receipts.Receipt.{Receipt}
 use Rattle.nm_receiving.specs.declared.receipts.Receive.{Receive}
 use Rattle.nm_receiving.specs.Kept.{IsKept}
-use Rattle.nm_receiving.specs.Receipts.{ReceivingView, receipts_from, stream_of}
+use Rattle.nm_receiving.specs.Receipts.{AddsBytes, ReceivingView, of_eager, receipts_from, stream_of}
 use Rattle.nm_receiving.specs.Received.{TakesPacket}
 use Rattle.nm_receiving.specs.Seen.{seen}
 use Rattle.nm_receiving.specs.Steps.{rows_from, streams_of}
@@ -23,6 +23,9 @@ use Rattle.nm_receiving.proofs.Goings.{next_message}
 use Rattle.nm_receiving.proofs.Joinings.{room_same, stream_stepped}
 use Rattle.nm_receiving.proofs.Packets.{finished, head_is, head_view, kept-head, takes-head, taken_ended, taker_inside}
 use Rattle.nm_receiving.proofs.Results.{ok_gives}
+use Rattle.nm_protocol.specs.Bytes.{bytes_in}
+use Rattle.nm_protocol.specs.Known.{Known}
+use Rattle.nm_receiving.proofs.CameLemmas.{packet-came}
 use Rattle.nm_receiving.proofs.receivings.Receiving.begin.Goals as goal
 
 pub prove-unreachable-requires : goal.prove-unreachable-requires
@@ -155,3 +158,14 @@ returns-clause-ended c =
     ap (λ (rs : List Receive). map (λ r. r.ended) rs) c.give.ensures
     ∙ taken_ended c.self.inside.receives.items c.in_ok-taker.taker c.next_arrival-arrival.result
     ∙ ap (λ (w : ReceivingView). map (λ r. r.ended) w.receives) c.self.view_is
+
+pub returns-clause-bytes : goal.returns-clause-bytes
+returns-clause-bytes c =
+    let v : ReceivingView = seen c.self.inside in
+    let p : Packet = c.args.p.now in
+    subst (λ (u : ReceivingView). (known : Known) → known.count ≡ (stream_of u p.from).count
+    → AddsBytes (of_eager p.from (λ n. bytes_in n known p.what p.payload)) u (after_view c)) c.self.view_is
+    (packet-came v (after_view c) c.self.invariant p (sender_of c)
+    (streams_after c)
+    (λ _ _. refl)
+    (λ _. right_of c) (goes_of c))

@@ -1,15 +1,20 @@
-use Rattle.std.proofs.Common.{◌≡◌, ◌+◌, ◌<◌, ℕ, false, Option, length, get_or, refl, sym, ◌∙◌, ap, subst, add-zero, arith}
+use Rattle.std.proofs.Common.{◌≡◌, ◌+◌, ◌<◌, ℕ, true, false, Option, List, length, get_or, refl, sym, ◌∙◌}
+use Rattle.std.proofs.Common.{ap, subst, add-zero, arith}
 use Rattle.std.specs.Option.{option_map_or, option_to_list}
 use Rattle.std.proofs.Math.ListN.{set}
 use Rattle.std.proofs.lemmas.List.{get_or_read, set-get_or}
+use Rattle.nm_types.specs.declared.messages.Arrival.{Arrival}
 use Rattle.nm_types.specs.declared.packets.Piece.{Piece}
+use Rattle.nm_protocol.specs.Bytes.{pulled_bytes}
 use Rattle.nm_protocol.specs.Pieces.{Due, due_pieces, is_due, piece_makes}
 use Rattle.std.specs.List.{slice_get}
 use Rattle.nm_receiving.specs.Kept.{IsKept}
-use Rattle.nm_receiving.specs.Receipts.{ReceivingView, drawn_from}
+use Rattle.nm_receiving.specs.Receipts.{AddsBytes, ReceivingView, drawn_from, of_asked}
 use Rattle.nm_receiving.specs.Received.{AreReceived, Keeps}
 use Rattle.nm_receiving.specs.Seen.{seen}
-use Rattle.nm_receiving.proofs.Drawing.{continued_at, drawn_is, drawn_view, due_at, ends_is, keeps-draw, keeps-stray, kept-draw, piece_came}
+use Rattle.nm_receiving.proofs.CameLemmas.{stray-came}
+use Rattle.nm_receiving.proofs.Drawing.{bytes-draw, continued_at, drawn_is, drawn_view, due_at, ends_is}
+use Rattle.nm_receiving.proofs.Drawing.{keeps-draw, keeps-stray, kept-draw, piece_came}
 use Rattle.nm_receiving.proofs.Drawing.{stray_makes}
 use Rattle.nm_receiving.proofs.receivings.Receiving.draw.Goals as goal
 
@@ -108,3 +113,19 @@ returns-clause-kept c =
     (keeps-draw (seen c.self.inside) c.self.invariant c.self.inside.grants c.args.p.now refl (c.fits.ensures.0 c.if-not-fits.false) (sender_of c)
     c.in_ok-joined.joined c.event-event.result c.in_ok-joined.ensures.joined
     (c.event-event.ensures c.self.inside.grants (c.fits.ensures.0 c.if-not-fits.false) c.in_ok-joined.ensures.joined)))
+
+pub returns-then-not-fits-clause-bytes : goal.returns-then-not-fits-clause-bytes
+returns-then-not-fits-clause-bytes c = stray-came c.args.self.now c.args.p.now
+
+pub returns-clause-bytes : goal.returns-clause-bytes
+returns-clause-bytes c =
+    let p : Piece = c.args.p.now in
+    let gs = c.self.inside.grants in
+    let fits = c.fits.ensures.0 c.if-not-fits.false in
+    let more : Arrival → List ℕ =
+    of_asked p.from (λ n. pulled_bytes n (record { piece = p; continued = true })) in
+    subst (λ (u : ReceivingView). AddsBytes more u (after_view c)) c.self.view_is
+    (subst (λ (w : ReceivingView). AddsBytes more (seen c.self.inside) w) (view_is c)
+    (bytes-draw (seen c.self.inside) c.self.invariant gs p refl fits (sender_of c)
+    c.in_ok-joined.joined c.event-event.result c.in_ok-joined.ensures.joined
+    (c.event-event.ensures gs fits c.in_ok-joined.ensures.joined)))

@@ -18,14 +18,16 @@ use Rattle.nm_eager.specs.Streams.{Stream, missing, without}
 use Rattle.nm_receiving.specs.declared.receipts.Receipt.{Receipt}
 use Rattle.nm_receiving.specs.declared.receipts.Receive.{Receive}
 use Rattle.nm_receiving.specs.Kept.{IsKept}
-use Rattle.nm_receiving.specs.Receipts.{ReceivingView, ShowsBytes, granted_to, stream_of}
+use Rattle.nm_receiving.specs.Receipts.{ReceivingView, SameOtherBytes, ShowsBytes, granted_to, pair_at}
+use Rattle.nm_receiving.specs.Receipts.{stream_of}
 use Rattle.nm_receiving.specs.Received.{AreReceived}
 use Rattle.nm_receiving.specs.Seen.{seen}
 use Rattle.nm_receiving.specs.Steps.{IsThere, bytes_there, has_ended, streams_of, with_ended}
 use Rattle.nm_receiving.proofs.Beginning.{stream_at}
 use Rattle.nm_receiving.proofs.Changing.{keeps-ended}
 use Rattle.nm_receiving.proofs.Dues.{pair}
-use Rattle.nm_receiving.proofs.Finishing.{bytes_there_now, ended_is, kept-ended, kept-finished, received-finished, result_cancelled, taken_from}
+use Rattle.nm_receiving.proofs.Finishing.{bytes-finished, bytes_there_now, ended_is, kept-ended}
+use Rattle.nm_receiving.proofs.Finishing.{kept-finished, received-finished, result_cancelled, taken_from}
 use Rattle.nm_receiving.proofs.Finishing.{result_taken, result_untaken, shown_is, shows_bytes, streams-finished}
 use Rattle.nm_receiving.proofs.Joinings.{stream_stepped}
 use Rattle.nm_receiving.proofs.receivings.Receiving.finish.Goals as goal
@@ -179,6 +181,13 @@ module _ (c : goal.After-shown) where
       c.take_bytes-bytes.new.joiner.sizes (streams_of c.take_bytes-bytes.new.joiner) c.take_bytes-bytes.new.grants.grants
       c.take_bytes-bytes.ensures.joined.sizes streams_are c.take_bytes-bytes.ensures.grants i
 
+  bytes_after : SameOtherBytes (pair_at v number) v (done c.index_mut-2.result.now)
+  bytes_after = subst (λ (r : Receive). SameOtherBytes (pair_at v number) v (done r)) again
+      (bytes-finished v c.self.invariant number r here live a c.in_ok-a.was c.get.result c.get.ensures whole
+      sender left c.take_bytes-bytes.new.joiner.sizes (streams_of c.take_bytes-bytes.new.joiner)
+      c.take_bytes-bytes.new.grants.grants c.take_bytes-bytes.ensures.joined.sizes streams_are
+      c.take_bytes-bytes.ensures.grants)
+
   value_after : (h : List Event) → AreReceived v h → Some (answer_without_bytes c.shown.result) ≡ result_of h (Receiving number)
   value_after h received =
       ap Some (ap (λ (x : Answer). answer_without_bytes x) c.shown.ensures
@@ -214,3 +223,9 @@ returns-clause-streams c = λ i.
     let now : ReceivingView = done c c.index_mut-2.result.now in
     subst (λ (v : ReceivingView). ((stream_of now i).count ≡ (stream_of v i).count) × (missing (stream_of now i) ≡ missing (stream_of v i)))
     c.self.view_is (streams_after c i)
+
+pub returns-clause-bytes : goal.returns-clause-bytes
+returns-clause-bytes c =
+    let now : ReceivingView = done c c.index_mut-2.result.now in
+    subst (λ (v : ReceivingView). SameOtherBytes (pair_at v c.args.number) v now) c.self.view_is
+    (bytes_after c)

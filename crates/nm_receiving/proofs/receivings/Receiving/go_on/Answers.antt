@@ -1,4 +1,4 @@
-use Rattle.std.proofs.Common.{◌≡◌, ◌<◌, ◌==◌, ℕ, true, List, length, sym, ◌∙◌, ap, subst}
+use Rattle.std.proofs.Common.{◌≡◌, ◌<◌, ◌==◌, ℕ, true, List, length, refl, sym, ◌∙◌, ap, subst}
 use Rattle.std.proofs.Math.ListN.{set}
 use Rattle.nm_types.specs.declared.limits.TheConstants.{MAX_PACKETS}
 use Rattle.nm_types.specs.declared.packets.Packet.{Packet}
@@ -6,13 +6,16 @@ use Rattle.nm_types.specs.declared.packets.What.{What}
 use Rattle.nm_eager.specs.Senders.{Received}
 use Rattle.nm_eager.specs.Streams.{IsStream, Stream, after, continues, is_eager, missing}
 use Rattle.nm_receiving.specs.Kept.{IsKept}
-use Rattle.nm_receiving.specs.Receipts.{ReceivingView, stream_of}
+use Rattle.nm_receiving.specs.Receipts.{AddsBytes, ReceivingView, of_eager, stream_of}
 use Rattle.nm_receiving.specs.Received.{TakesPacket}
 use Rattle.nm_receiving.specs.Seen.{seen}
 use Rattle.nm_receiving.specs.Steps.{streams_of}
 use Rattle.nm_receiving.proofs.Beginning.{stream_at}
 use Rattle.nm_receiving.proofs.Joinings.{stream_stepped}
 use Rattle.nm_receiving.proofs.Packets.{kept-more, more_came, more_is, more_view, takes-more}
+use Rattle.nm_protocol.specs.Bytes.{bytes_in}
+use Rattle.nm_protocol.specs.Known.{Known}
+use Rattle.nm_receiving.proofs.CameLemmas.{packet-came}
 use Rattle.nm_receiving.proofs.receivings.Receiving.go_on.Goals as goal
 
 pub add-requires-clause-fits : goal.add-requires-clause-fits
@@ -106,3 +109,14 @@ pub returns-clause-streams : goal.returns-clause-streams
 returns-clause-streams c =
     let p : Packet = c.args.p.now in
     streams_after c ∙ ap (λ (w : ReceivingView). set w.streams p.from (after (stream_of w p.from) p.what p.payload)) c.self.view_is
+
+pub returns-clause-bytes : goal.returns-clause-bytes
+returns-clause-bytes c =
+    let v : ReceivingView = seen c.self.inside in
+    let p : Packet = c.args.p.now in
+    subst (λ (u : ReceivingView). (known : Known) → known.count ≡ (stream_of u p.from).count
+    → AddsBytes (of_eager p.from (λ n. bytes_in n known p.what p.payload)) u (after_view c)) c.self.view_is
+    (packet-came v (after_view c) c.self.invariant p (sender_of c)
+    (streams_after c)
+    (λ _ _. refl)
+    (λ _. right_of c) (goes_of c))

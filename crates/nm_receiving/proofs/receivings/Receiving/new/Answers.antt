@@ -4,7 +4,9 @@ use Rattle.nm_rndv.specs.Grants.{Granted}
 use Rattle.nm_receiving.specs.declared.receipts.Receipt.{Receipt}
 use Rattle.nm_receiving.specs.Receipts.{ReceivingView}
 use Rattle.nm_receiving.specs.Steps.{streams_of}
-use Rattle.nm_receiving.proofs.Beginning.{IsEmpty, kept-none, no_streams, none_drawn, received-none, streams_length}
+use Rattle.nm_receiving.proofs.Beginning.{IsEmpty, kept-none, no_grants, no_streams, none_drawn}
+use Rattle.nm_receiving.proofs.Beginning.{received-none, streams_length}
+use Rattle.nm_receiving.proofs.CameLemmas.{came-none}
 use Rattle.nm_receiving.proofs.receivings.Receiving.new.Goals as goal
 
 abbrev made : goal.In_ok-vec → ReceivingView
@@ -43,3 +45,6 @@ returns-clause-none c = received-none (made c) (is_empty c)
 pub returns-clause-nothing : goal.returns-clause-nothing
 returns-clause-nothing c = λ from.
     let empty = is_empty c in (empty.streams from, none_drawn (made c) empty from)
+
+pub returns-clause-bytes : goal.returns-clause-bytes
+returns-clause-bytes c = let empty = is_empty c in came-none (made c) empty.streams (no_grants (made c) empty)

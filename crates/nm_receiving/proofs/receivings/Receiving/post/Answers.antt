@@ -6,10 +6,11 @@ use Rattle.nm_match.specs.declared.deeds.Deed.TheVariants as deed
 use Rattle.nm_match.proofs.StandsLemmas.{first_message-stands}
 use Rattle.nm_receiving.specs.declared.receipts.Receive.{Receive}
 use Rattle.nm_receiving.specs.Kept.{IsKept}
-use Rattle.nm_receiving.specs.Receipts.{ReceivingView, taken_events}
+use Rattle.nm_receiving.specs.Receipts.{ReceivingView, SameBytes, taken_events}
 use Rattle.nm_receiving.specs.Received.{AreReceived, Keeps}
 use Rattle.nm_receiving.specs.Seen.{seen}
 use Rattle.nm_receiving.specs.Steps.{grants_with}
+use Rattle.nm_receiving.proofs.CameLemmas.{same-granted}
 use Rattle.nm_receiving.proofs.Goings.{next_receive}
 use Rattle.nm_receiving.proofs.Keeping.{keeps-begun}
 use Rattle.nm_receiving.proofs.Starting.{begun_same, is_begin_post, kept-begun, may_begin_with, may_grant-came, may_grant-new, may_grant-sender}
@@ -97,3 +98,17 @@ returns-clause-kept c = λ line.
     } in
     subst (λ (w : ReceivingView). Keeps w v' (event.Post p line ∷ taken_events taken)) c.self.view_is
     (subst (λ (w : ReceivingView). Keeps v w (event.Post p line ∷ taken_events taken)) same keeps)
+
+pub returns-clause-bytes : goal.returns-clause-bytes
+returns-clause-bytes c =
+    let v = seen c.self.inside in
+    let taken = c.in_ok-taken.taken in
+    let v' : ReceivingView = record v {
+      deeds = c.post.new.self;
+      grants = c.grant_taken.new.grants.grants;
+      receipts = c.grant_taken.new.receipts.rows;
+      receives = c.push_reserved.new.self.items;
+    } in
+    subst (λ (w : ReceivingView). SameBytes w v') c.self.view_is
+    (same-granted v v' taken refl
+    (c.grant_taken.ensures.grants ∙ ap (λ gs. grants_with gs taken) c.reserve-2.ensures.same))

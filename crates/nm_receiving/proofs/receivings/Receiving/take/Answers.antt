@@ -1,4 +1,4 @@
-use Rattle.std.proofs.Common.{◌≡◌, ◌<◌, ◌∙◌, length, sym, ap, subst}
+use Rattle.std.proofs.Common.{◌<◌, ◌∙◌, length, sym, ap, subst}
 use Rattle.nm_types.specs.declared.packets.Packet.{Packet}
 use Rattle.nm_eager.specs.Joining.{stream_from}
 use Rattle.nm_receiving.specs.Receipts.{ReceivingView, stream_of}

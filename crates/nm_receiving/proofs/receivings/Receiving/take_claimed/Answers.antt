@@ -7,10 +7,11 @@ use Rattle.nm_match.specs.declared.deeds.Deed.TheVariants as deed
 use Rattle.nm_match.proofs.StandsLemmas.{is_claimed-stands}
 use Rattle.nm_receiving.specs.declared.receipts.Receive.{Receive}
 use Rattle.nm_receiving.specs.Kept.{IsKept}
-use Rattle.nm_receiving.specs.Receipts.{ReceivingView, taken_events}
+use Rattle.nm_receiving.specs.Receipts.{ReceivingView, SameBytes, taken_events}
 use Rattle.nm_receiving.specs.Received.{AreReceived, Keeps}
 use Rattle.nm_receiving.specs.Seen.{seen}
 use Rattle.nm_receiving.specs.Steps.{grants_with}
+use Rattle.nm_receiving.proofs.CameLemmas.{same-granted}
 use Rattle.nm_receiving.proofs.Goings.{next_receive}
 use Rattle.nm_receiving.proofs.Keeping.{keeps-begun}
 use Rattle.nm_receiving.proofs.Starting.{begun_same, claimed_message, claimed_receipt, is_begin_match, kept-begun, match_takeable, may_begin_with}
@@ -114,3 +115,17 @@ returns-clause-kept c = λ line.
     } in
     subst (λ (u : ReceivingView). Keeps u v' (w ∷ taken_events taken)) c.self.view_is
     (subst (λ (u : ReceivingView). Keeps v u (w ∷ taken_events taken)) same keeps)
+
+pub returns-clause-bytes : goal.returns-clause-bytes
+returns-clause-bytes c =
+    let v = seen c.self.inside in
+    let taken : Option Arrival = Some c.get.result.arrival in
+    let v' : ReceivingView = record v {
+      deeds = c.take_claimed.new.self;
+      grants = c.grant_taken.new.grants.grants;
+      receipts = c.grant_taken.new.receipts.rows;
+      receives = c.push_reserved.new.self.items;
+    } in
+    subst (λ (w : ReceivingView). SameBytes w v') c.self.view_is
+    (same-granted v v' taken refl
+    (c.grant_taken.ensures.grants ∙ ap (λ gs. grants_with gs taken) c.reserve-2.ensures.same))
