@@ -23,7 +23,7 @@ use Rattle.nm_sending.specs.declared.departures.Departure.{Departure}
 use Rattle.nm_sending.specs.Departures.{SendingView, row_of, with_departure, departures_to}
 use Rattle.nm_sending.specs.Departures.{departure_of, passes}
 use Rattle.nm_sending.specs.Departures.{cleared_to, ends_to}
-use Rattle.nm_sending.specs.Sent.{Keeps}
+use Rattle.nm_sending.specs.Sent.{AreSent, Keeps}
 use Rattle.nm_sending.specs.Tables.{AreTables, IsOffer, IsOfferBy, waits, waiting_from, recall_of}
 use Rattle.nm_sending.proofs.EventLemmas.{left_none, sends-same, pushed_out-same}
 use Rattle.nm_sending.proofs.LeavingLemmas.{turn-still}
@@ -89,6 +89,13 @@ module _ (me ranks : ℕ) (old : SendingView) (tables : AreTables me ranks old) 
       where
         some_same : {x y : Departure} → Some x ≡ Some y → x ≡ y
         some_same e = cc
+
+    -- it is no message that was sent by asking
+    pub front-eager : (h : List Event) → AreSent old h → is_asked (sends h letter.to) n ≡ false
+    front-eager h was =
+        sym (was.asked letter.to n)
+        ∙ ap (λ (o : Option Departure). passes (λ x. is_ask x.how) o) ended_there
+        ∙ waits_eager first.message first.waiting
 
     module _ (outbox : OutboxView) (rows : List (List Departure)) (staying : ℕ) (d : Departure)
         (there : departure_of old letter.to n ≡ Some d)
@@ -171,9 +178,7 @@ module _ (me ranks : ℕ) (old : SendingView) (tables : AreTables me ranks old) 
 
       pub front-kept : Keeps old after (Out letter.to n ∷ [])
       front-kept = keeps-one old after (Out letter.to n) (λ h stamp was.
-          let asked : is_asked (sends h letter.to) n ≡ false =
-          sym (was.asked letter.to n) ∙ ap (λ (o : Option Departure). passes (λ x. is_ask x.how) o) there
-          ∙ waits_eager d (ended_waits d there) in
+          let asked : is_asked (sends h letter.to) n ≡ false = front-eager h was in
           let e : Event = at stamp (Out letter.to n) in (
             sent-out old after letter.to n d (record d { out = true }) h stamp
                 (change-steps old after letter.to n d (record d { out = true }) front-change)

@@ -1,12 +1,15 @@
--- The packets of an eager message.
+-- The packets of a message.
 use Rattle.std.proofs.Common.{◌≡◌, ℕ, ◌+◌, ◌==◌, Bool, true, false, ◌&&◌, not, cond}
-use Rattle.std.proofs.Common.{List, [], ◌∷◌, ◌++◌, length, map, take, refl, sym, ◌∙◌, ap, subst, arith}
+use Rattle.std.proofs.Common.{Option, Some, None, List, [], ◌∷◌, ◌++◌, length, map, take, refl, sym, ◌∙◌, ap}
+use Rattle.std.proofs.Common.{subst, arith}
+use Rattle.std.specs.List.{filter_map}
 use Rattle.std.proofs.lemmas.List.{take_all}
 use Rattle.std.proofs.lemmas.List.FromFn.{length-map-range_with_len}
 use Rattle.nm_types.specs.Bodies.{body_len, bytes_of, generated_byte}
 use Rattle.nm_types.specs.declared.scripts.Body.{Body}
 use Rattle.nm_types.specs.declared.scripts.Body.TheVariants.{Hex, Gen}
 use Rattle.nm_types.specs.declared.messages.How.{How}
+use Rattle.nm_types.specs.declared.messages.How.TheVariants.{Ask}
 use Rattle.nm_types.specs.declared.limits.TheConstants.{MAX_PAYLOAD}
 use Rattle.nm_types.specs.declared.packets.Packet.{Packet}
 use Rattle.nm_types.specs.declared.packets.What.TheVariants as what
@@ -20,9 +23,9 @@ use Rattle.nm_outbox.specs.Letters.{packets_for}
 use Rattle.nm_outbox.specs.Outboxes.{OutboxView, put_to}
 use Rattle.nm_protocol.proofs.Basic.{eq_true, same_number}
 use Rattle.nm_sending.specs.Departures.{ends_to}
-use Rattle.nm_sending.specs.Sent.{Puts, PutsFirst}
-use Rattle.nm_sending.proofs.EndLemmas.{ends-append}
-use Rattle.nm_sending.proofs.PutLemmas.{for_receiver, ends_receiver}
+use Rattle.nm_sending.specs.Sent.{Puts, PutsFirst, last_ends, only_to}
+use Rattle.nm_sending.proofs.EndLemmas.{ends-append, left_each, left_last}
+use Rattle.nm_sending.proofs.PutLemmas.{for_receiver, ends_receiver, puts-reserved}
 
 -- a body has its length
 pub bytes_many : (body : Body) → length (bytes_of body) ≡ body_len body
@@ -57,6 +60,9 @@ module _ (count : ℕ) (cutting : Cutting) (from to n tag ctx stamp : ℕ) (body
     how = how;
     line = line;
   }
+
+  ends : cond (count == packet_count cutting) (Some n) None ≡ Some n
+  ends = ap (λ (b : Bool). cond b (Some n) None) (eq_true count (packet_count cutting) all)
 
   bytes : cutting.body ≡ bytes_of body
   bytes = ap (λ (x : Cutting). x.body) is
@@ -116,7 +122,7 @@ module _ (count : ℕ) (cutting : Cutting) (from to n tag ctx stamp : ℕ) (body
 
   pub puts_message : (h : List Event) (line : ℕ)
       → Puts (λ other. packets_by (λ s. bytes_of body) other h stamp
-      (Send to n tag ctx (body_len body) how line)) stamp old new
+      (Send to n tag ctx (body_len body) how line)) (cond (is_ask how) None (Some n)) stamp old new
   unfolding the_send
   puts_message h line = record {
     added = puts.added;
@@ -124,11 +130,15 @@ module _ (count : ℕ) (cutting : Cutting) (from to n tag ctx stamp : ℕ) (body
         ∙ ap (λ (o : OutboxView). o.letters ++ puts.added) room;
     carried = carried line;
     stamps = puts.stamps;
+    left = puts.left
+        ∙ ap (λ (o : Option ℕ). last_ends count o)
+        (ends ∙ ap (λ (b : Bool). cond b None (Some n)) (sym eager))
+        ∙ ap (λ (k : ℕ). last_ends k (cond (is_ask how) None (Some n))) (sym puts.many);
     popped = ap (λ (o : OutboxView). o.popped) puts.outbox ∙ ap (λ (o : OutboxView). o.popped) room;
     me = ap (λ (o : OutboxView). o.me) puts.outbox ∙ ap (λ (o : OutboxView). o.me) room;
   }
 
-  -- and the last one ends it
+  -- it leaves with the last one
   pub ends_message : (t : ℕ) → ends_to t new.letters
       ≡ ends_to t old.letters ++ cond (to == t && not (is_ask how)) (n ∷ []) []
   ends_message t =
@@ -137,11 +147,25 @@ module _ (count : ℕ) (cutting : Cutting) (from to n tag ctx stamp : ℕ) (body
       ∙ ends-append t old.letters puts.added
       ∙ ap (λ (ns : List ℕ). ends_to t old.letters ++ ns)
       (ends_receiver to puts.added puts.receiver t
-      ∙ ap (λ (ns : List ℕ). cond (to == t) ns []) (puts.ends
-      ∙ ap (λ (b : Bool). cond b (n ∷ []) []) (eq_true count (packet_count cutting) all))
+      ∙ ap (λ (ns : List ℕ). cond (to == t) ns []) (left_each puts.added
+      ∙ ap (λ (os : List (Option ℕ)). filter_map (λ o. o) os) (puts.left
+      ∙ ap (λ (o : Option ℕ). last_ends count o) ends)
+      ∙ left_last count (Some n) (omega (arith, all)))
       ∙ by_test (to == t)
       ∙ ap (λ (b : Bool). cond (to == t && not b) (n ∷ []) []) (sym eager))
     where
       by_test : (b : Bool) → cond b (n ∷ []) [] ≡ cond (b && true) (n ∷ []) []
       by_test true = refl
       by_test false = refl
+
+-- the packet that asks for a message was put
+pub puts_request : (to n tag ctx stamp len spare : ℕ) (body : Body) (how : How)
+    (old reserved new : OutboxView) → reserved ≡ record old { spare = spare } → len ≡ body_len body → how ≡ Ask
+    → Puts (only_to to stamp (what.Ask tag ctx len)) None stamp reserved new → (h : List Event) (line : ℕ)
+    → Puts (λ other. packets_by (λ s. bytes_of body) other h stamp
+    (Send to n tag ctx (body_len body) how line)) (cond (is_ask how) None (Some n)) stamp old new
+puts_request to n tag ctx stamp len spare body how old reserved new room many asks puts h line =
+    subst (λ (w : How). Puts (λ other. packets_by (λ s. bytes_of body) other h stamp
+    (Send to n tag ctx (body_len body) w line)) (cond (is_ask w) None (Some n)) stamp old new) (sym asks)
+    (subst (λ (k : ℕ). Puts (only_to to stamp (what.Ask tag ctx k)) None stamp old new) many
+    (puts-reserved (only_to to stamp (what.Ask tag ctx len)) None stamp spare old reserved new room puts))

@@ -8,7 +8,7 @@ use Rattle.std.specs.Bool.{then_some}
 use Rattle.std.specs.List.{AllByRecursion, cons_option, filter, filter_map, slice_get}
 use Rattle.std.proofs.lemmas.Bool.Decides.{nat_tests}
 use Rattle.std.proofs.lemmas.List.{length-map, map-append, take_more}
-use Rattle.std.proofs.lemmas.List.Elements.{filter-append, filter_map-append}
+use Rattle.std.proofs.lemmas.List.Elements.{filter-append}
 use Rattle.std.proofs.lemmas.Option.{slice_get_within, get_or_from_slice_get}
 use Rattle.nm_types.specs.declared.messages.How.TheVariants.{Eager}
 use Rattle.nm_types.specs.declared.packets.Packet.{Packet}
@@ -21,24 +21,28 @@ use Rattle.nm_outbox.specs.Letters.{packets_for}
 use Rattle.nm_outbox.specs.Outboxes.{OutboxView, popped_to, put_to}
 use Rattle.nm_protocol.proofs.Basic.{by-append, self_true}
 use Rattle.nm_sending.specs.Departures.{ends_to}
-use Rattle.nm_sending.specs.Sent.{Puts, PutsFirst}
+use Rattle.nm_sending.specs.Sent.{Puts, PutsFirst, last_ends}
+use Rattle.nm_sending.proofs.EndLemmas.{last-more}
 
-puts-room : (called : ℕ → List Called) (stamp spare : ℕ) (old new : OutboxView)
-    → Puts called stamp (record old { spare = spare }) new → Puts called stamp old new
-puts-room called stamp spare old new puts = record {
+puts-room : (called : ℕ → List Called) (ends : Option ℕ) (stamp spare : ℕ) (old new : OutboxView)
+    → Puts called ends stamp (record old { spare = spare }) new → Puts called ends stamp old new
+puts-room called ends stamp spare old new puts = record {
   added = puts.added;
   letters = puts.letters;
   carried = puts.carried;
   stamps = puts.stamps;
+  left = puts.left;
   popped = puts.popped;
   me = puts.me;
 }
 
 -- room that was made before plays no part
-pub puts-reserved : (called : ℕ → List Called) (stamp spare : ℕ) (old reserved new : OutboxView)
-    → reserved ≡ record old { spare = spare } → Puts called stamp reserved new → Puts called stamp old new
-puts-reserved called stamp spare old reserved new same puts =
-    puts-room called stamp spare old new (subst (λ (o : OutboxView). Puts called stamp o new) same puts)
+pub puts-reserved : (called : ℕ → List Called) (ends : Option ℕ) (stamp spare : ℕ)
+    (old reserved new : OutboxView) → reserved ≡ record old { spare = spare }
+    → Puts called ends stamp reserved new → Puts called ends stamp old new
+puts-reserved called ends stamp spare old reserved new same puts =
+    puts-room called ends stamp spare old new
+    (subst (λ (o : OutboxView). Puts called ends stamp o new) same puts)
 
 -- as many packets as are called for
 pub called_length : (from number : ℕ) (list : List Called) (ps : List Packet) → AreCalled from number list ps
@@ -139,11 +143,8 @@ puts_none cutting to n stamp old = record {
   many = refl;
   carried = λ s message later. tt;
   stamps = tt;
-  ends = by_count (packet_count cutting) (omega arith);
+  left = refl;
 }
-  where
-    by_count : (count : ℕ) → 0 < count → [] ≡ cond (0 == count) (n ∷ []) []
-    by_count count some' = let off : (0 == count) ≡ false = grind (arith, nat_tests) in rw off refl
 
 module _ (count : ℕ) (cutting : Cutting) (to n stamp : ℕ) (old cur : OutboxView)
     (puts : PutsFirst count cutting to n stamp old cur) where
@@ -210,19 +211,22 @@ module _ (count : ℕ) (cutting : Cutting) (to n stamp : ℕ) (old cur : OutboxV
         (map (λ l. l.packet) puts.added) (p ∷ [])
         before (from_own, tt)))
 
-    ends : filter_map (λ l. l.ends) (puts.added ++ one ∷ [])
-        ≡ cond (count + 1 == packet_count cutting) (n ∷ []) []
-    ends =
-        filter_map-append (λ (l : Letter). l.ends) puts.added (one ∷ [])
-        ∙ ap (λ (ns : List ℕ). ns ++ cons_option (then_some last n) [])
-        (puts.ends ∙ ap (λ (b : Bool). cond b (n ∷ []) []) (not_yet count (packet_count cutting) below))
-        ∙ by_last last
-        ∙ ap (λ (b : Bool). cond b (n ∷ []) []) is_last
+    left : map (λ l. l.ends) (puts.added ++ one ∷ [])
+        ≡ last_ends (count + 1) (cond (count + 1 == packet_count cutting) (Some n) None)
+    left =
+        map-append (λ (l : Letter). l.ends) puts.added (one ∷ [])
+        ∙ ap (λ (os : List (Option ℕ)). os ++ then_some last n ∷ [])
+        (puts.left
+        ∙ ap (λ (b : Bool). last_ends count (cond b (Some n) None))
+        (not_yet count (packet_count cutting) below))
+        ∙ last-more count (then_some last n)
+        ∙ ap (λ (o : Option ℕ). last_ends (count + 1) o) (by_last last)
+        ∙ ap (λ (b : Bool). last_ends (count + 1) (cond b (Some n) None)) is_last
       where
         not_yet : (x y : ℕ) → x < y → (x == y) ≡ false
         not_yet x y below = grind (arith, nat_tests)
 
-        by_last : (b : Bool) → cons_option (then_some b n) [] ≡ cond b (n ∷ []) []
+        by_last : (b : Bool) → then_some b n ≡ cond b (Some n) None
         by_last true = refl
         by_last false = refl
 
@@ -245,5 +249,5 @@ module _ (count : ℕ) (cutting : Cutting) (to n stamp : ℕ) (old cur : OutboxV
       carried = carried;
       stamps = by-append (λ (l : Letter). l.packet.stamp ≡ stamp) puts.added (one ∷ []) puts.stamps
           (stamped, tt);
-      ends = ends;
+      left = left;
     }

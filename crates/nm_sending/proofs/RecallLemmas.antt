@@ -101,7 +101,7 @@ module _ (me ranks : ℕ) (old : SendingView) (tables : AreTables me ranks old) 
       rows = now;
     }
 
-    pub recall-states : (t k : ℕ) → state_of after-recall.offers t k ≡ state_of old.offers t k
+    recall-states : (t k : ℕ) → state_of after-recall.offers t k ≡ state_of old.offers t k
     recall-states = states-stay old.offers.destinations to inside d'' (λ q. refl)
 
     pub recall-tables : outbox.me ≡ old.outbox.me → length outbox.popped ≡ length old.outbox.popped

@@ -68,11 +68,11 @@ cleared_to v to = map (λ m. m.1) (filter (λ m. m.0 == to) v.offers.order)
 abbrev pub leaving_to : SendingView → ℕ → List ℕ
 leaving_to v to = filter (λ n. leaves v.offers.destinations (to, n)) (cleared_to v to)
 
--- the eager messages to a rank whose last packets are among these letters
+-- the messages to a rank that leave with these letters
 abbrev pub ends_to : ℕ → List Letter → List ℕ
 ends_to to letters = filter_map (λ l. if l.to == to then l.ends else None) letters
 
--- the message whose last packet a letter carries, if it is one's
+-- the message that leaves with a letter, if one does
 abbrev pub ended_by : Option Letter → Option (ℕ × ℕ)
 ended_by letter = option_and_then (λ l. option_map (λ n. (l.to, n)) l.ends) letter
 

@@ -1,7 +1,7 @@
 -- How a rank's sending side stands to its history, and how the two go on. MPI 3.1, 3.4, 3.7.3, 3.8.4.
 use Rattle.std.specs.Prelude.{◌≡◌, ℕ, ◌==◌, ◌&&◌, Bool, true, false, not, List, [], ◌∷◌, ◌++◌}
-use Rattle.std.specs.Prelude.{length, filter, filter_map, map, take, is_some, Option, Some, None}
-use Rattle.std.specs.Prelude.{if◌then◌else◌, ◌-◌, ◌≤◌}
+use Rattle.std.specs.Prelude.{length, filter, map, replicate, take, is_some, Option, Some, None}
+use Rattle.std.specs.Prelude.{zero, suc, if◌then◌else◌, ◌-◌, ◌≤◌}
 use Rattle.std.specs.List.{AllByRecursion, range_with_len}
 use Rattle.nm_types.specs.declared.packets.What.{What}
 use Rattle.nm_history.specs.declared.events.Event.{Event}
@@ -49,17 +49,27 @@ Keeps old new ws =
     (h events : List Event) → happenings events ≡ ws → AreSent old h →
     AreSent new (h ++ events) × ((ranks : ℕ) → AreRight ranks h events)
 
+-- the messages that leave with so many letters: this one, if there is one, with the last, and none with
+-- those before it
+abbrev pub last_ends : ℕ → Option ℕ → List (Option ℕ)
+last_ends zero ends = []
+last_ends (suc before) ends = replicate before None ++ ends ∷ []
+
 -- The letters that were put carry to each rank the packets called for, with the next numbers and with
--- this stamp.
-pub record Puts (called : ℕ → List Called) (stamp : ℕ) (old new : OutboxView) : Type 0 where
+-- this stamp. With the last of them leaves this message, if there is one, and with the others none.
+pub record Puts (called : ℕ → List Called) (ends : Option ℕ) (stamp : ℕ) (old new : OutboxView)
+    : Type 0 where
   pub added : List Letter
   pub letters : new.letters ≡ old.letters ++ added
   pub carried : (to : ℕ) → AreCalled old.me (put_to old to) (called to) (packets_for to added)
   pub stamps : AllByRecursion (λ l. l.packet.stamp ≡ stamp) added
+  pub left : map (λ l. l.ends) added ≡ last_ends (length added) ends
   pub popped : new.popped ≡ old.popped
   pub me : new.me ≡ old.me
 
--- The first so many packets of an eager message were put for its receiver, and the last one ends it.
+-- The first so many packets of an eager message were put for its receiver, with the next numbers and
+-- with this stamp, and took so much room. With the last of all its packets message n leaves, and with
+-- none before that.
 pub record PutsFirst (count : ℕ) (cutting : Cutting) (to n stamp : ℕ) (old new : OutboxView)
     : Type 0 where
   pub added : List Letter
@@ -72,8 +82,9 @@ pub record PutsFirst (count : ℕ) (cutting : Cutting) (to n stamp : ℕ) (old n
       AreCalled old.me (put_to old to) (take count (eager_packets s cutting.body))
       (map (λ l. l.packet) added)
   pub stamps : AllByRecursion (λ l. l.packet.stamp ≡ stamp) added
-  pub ends :
-      filter_map (λ l. l.ends) added ≡ (if count == packet_count cutting then n ∷ [] else [])
+  pub left :
+      map (λ l. l.ends) added
+      ≡ last_ends count (if count == packet_count cutting then Some n else None)
 
 -- the message that left, if one did
 abbrev pub outs : Option (ℕ × ℕ) → List Happened

@@ -13,10 +13,13 @@
 //! stands in the relation.
 //!
 //! # What is proved
-//! - A message calls for its packets, and they are put in order (`send`: `puts`).
-//! - A message leaves once: with the packet that ends it, with its last piece, or with its clearance
-//!   where it is empty (`pop_front`, `pop_piece`, `clear`: `kept`). Where no packet is left, each
-//!   eager message has left (`front`: `left`).
+//! - A message calls for its packets, and they are put in order. An eager one leaves with the last of
+//!   them, and none leaves with any other packet (`send`, `recall`, `answer`: `puts`).
+//! - A message leaves once: with its last packet, with its last piece, or with its clearance where it
+//!   is empty (`pop_front`, `pop_piece`, `clear`: `kept`). Where no packet is left, each eager message
+//!   has left (`front`: `left`).
+//! - A recall and its answer are noted, and change no other message that was asked for (`recall`:
+//!   `recalled`, `undo`: `answered`).
 //! - Pieces are those of the first message that was cleared and has not left, in order
 //!   (`next_piece`: `next`; `pop_piece`: `in_turn`).
 //! - Want of memory changes nothing but room (`send`, `recall`: `err`).

@@ -1,7 +1,7 @@
 //! How a message's packets are put into the outbox.
 
 ghost use Rattle.std.specs.Prelude.{◌≡◌, ℕ, ◌+◌, ◌-◌, ◌<◌, ◌≤◌, ◌==◌, ◌&&◌, not, [], ◌∷◌, ◌++◌};
-ghost use Rattle.std.specs.Prelude.{if◌then◌else◌, length, None, OnOk, OnErr, List, true};
+ghost use Rattle.std.specs.Prelude.{if◌then◌else◌, length, None, Some, OnOk, OnErr, List, true};
 ghost use Rattle.nm_types.specs.declared.limits.TheConstants.{MAX_BODY, MAX_EAGER, MAX_PACKETS};
 ghost use Rattle.nm_types.specs.declared.limits.TheConstants.{MAX_STAMP};
 ghost use Rattle.nm_types.specs.Bodies.{body_len, bytes_of};
@@ -38,7 +38,7 @@ pub(crate) fn put_bare(outbox: &mut Outbox, to: u8, stamp: u64, what: What)
     requires room { 0 < outbox.old.spare }
     requires in_time { stamp ≤ MAX_STAMP }
     ensures puts { (called : ℕ) → called ≤ stamp →
-        Puts (only_to to called what) stamp outbox.old outbox.new }
+        Puts (only_to to called what) None stamp outbox.old outbox.new }
     ensures ends { (other : ℕ) →
         ends_to other outbox.new.letters ≡ ends_to other outbox.old.letters }
     ensures room { outbox.new.spare ≡ outbox.old.spare - 1 }
@@ -58,7 +58,7 @@ fn packets_of(len: u32) -> u32
     1 + len.saturating_sub(1) / MAX_PAYLOAD as u32
 }
 
-/// Puts the packets of an eager message, for which there is room. The last one ends it.
+/// Puts the packets of an eager message, for which there is room. It leaves with the last one.
 fn put_packets(outbox: &mut Outbox, mut cutter: Cutter, count: u32, heading: Heading, stamp: u64)
     requires to { heading.to < length outbox.old.popped }
     requires few { put_to outbox.old heading.to + count ≤ MAX_PACKETS }
@@ -100,7 +100,7 @@ pub(crate) fn put_message(
     ensures puts { OnOk result ((h : List Event) (line : ℕ) → Puts
         (λ other. packets_by (λ s. bytes_of body) other h stamp
         (event.Send heading.to heading.n heading.tag heading.ctx (body_len body) heading.how line))
-        stamp outbox.old outbox.new) }
+        (if is_ask heading.how then None else Some heading.n) stamp outbox.old outbox.new) }
     ensures ends { OnOk result ((other : ℕ) → ends_to other outbox.new.letters
         ≡ ends_to other outbox.old.letters
         ++ (if heading.to == other && not (is_ask heading.how) then heading.n ∷ [] else [])) }

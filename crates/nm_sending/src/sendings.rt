@@ -21,8 +21,8 @@ ghost use Rattle.nm_protocol.specs.Clearance.{pushed_out};
 ghost use Rattle.nm_protocol.specs.Effects.{is_empty_send};
 ghost use Rattle.nm_protocol.specs.Rest.{EagerHaveLeft};
 ghost use Rattle.nm_rndv.specs.Offers.{AllOut, destined, first_leaving, next_offered, no_offers};
-ghost use Rattle.nm_rndv.specs.Offers.{offered, out_by_piece, state_of, with_asked, with_clearance};
-ghost use Rattle.nm_rndv.specs.Offers.{with_destined, with_popped};
+ghost use Rattle.nm_rndv.specs.Offers.{offered, out_by_piece, with_answer, with_asked, with_clearance};
+ghost use Rattle.nm_rndv.specs.Offers.{with_destined, with_popped, with_recall};
 ghost use Rattle.nm_outbox.specs.Outboxes.{popped_to, put_to};
 ghost use Rattle.nm_sending.specs.declared.TheConstants.{MAX_MESSAGES};
 ghost use Rattle.nm_sending.specs.Departures.{departures_to, pushed_to, cleared_to, ended_by};
@@ -177,7 +177,7 @@ impl Sending {
         ensures puts { IfOk result (λ n. (h : List Event) (line : ℕ) → Puts
             (λ other. packets_by (λ s. bytes_of body) other h stamp
             (event.Send to n tag ctx (body_len body) how line))
-            stamp self.old.outbox self.new.outbox) }
+            (if is_ask how then None else Some n) stamp self.old.outbox self.new.outbox) }
         ensures kept { IfOk result (λ n. (line : ℕ) → Keeps self.old self.new
             (event.Send to n tag ctx (body_len body) how line ∷ [])) }
         ensures counted { OnOk result (self.new.staying ≡ self.old.staying + 1) }
@@ -228,7 +228,7 @@ impl Sending {
         requires room { 0 < self.old.outbox.spare }
         requires in_time { stamp ≤ MAX_STAMP }
         ensures puts { (called : ℕ) → called ≤ stamp →
-            Puts (only_to to called what) stamp self.old.outbox self.new.outbox }
+            Puts (only_to to called what) None stamp self.old.outbox self.new.outbox }
         ensures room { self.new.outbox.spare ≡ self.old.outbox.spare - 1 }
         ensures same { self.new ≡ record self.old { outbox = self.new.outbox } }
     {
@@ -284,12 +284,12 @@ impl Sending {
         requires few { put_to self.old.outbox to < MAX_PACKETS }
         requires in_time { stamp ≤ MAX_STAMP }
         ensures puts { OnOk result ((called : ℕ) → called ≤ stamp →
-            Puts (only_to to called (what.Withdraw n)) stamp self.old.outbox self.new.outbox) }
+            Puts (only_to to called (what.Withdraw n)) None stamp self.old.outbox
+            self.new.outbox) }
         ensures kept { OnOk result (Keeps self.old self.new (event.Recall to n ∷ [])) }
         ensures counted { OnOk result (self.new.staying ≡ self.old.staying) }
-        ensures order { OnOk result (self.new.offers.order ≡ self.old.offers.order) }
-        ensures asked { OnOk result ((other k : ℕ) →
-            state_of self.new.offers other k ≡ state_of self.old.offers other k) }
+        ensures recalled { OnOk result (self.new.offers
+            ≡ with_destined self.old.offers to (with_recall (destined self.old.offers to) n)) }
         ensures same { OnOk result (self.new.pushed ≡ self.old.pushed) }
         ensures err { OnErr result (self.new
             ≡ record self.old {
@@ -331,7 +331,8 @@ impl Sending {
         requires may { MayBeAnswered self.old to n done }
         ensures kept { Keeps self.old self.new (event.Undone to n done ∷ []) }
         ensures counted { self.new.staying ≡ self.old.staying }
-        ensures order { self.new.offers.order ≡ self.old.offers.order }
+        ensures answered { self.new.offers
+            ≡ with_destined self.old.offers to (with_answer (destined self.old.offers to) n done) }
         ensures outbox { self.new.outbox ≡ self.old.outbox }
         ensures same { self.new.pushed ≡ self.old.pushed }
     {
@@ -358,6 +359,8 @@ impl Sending {
     pub fn pop_front(&mut self) -> Option<(u8, u64)>
         requires { 0 < length self.old.outbox.letters }
         ensures last { result ≡ ended_by (slice_get self.old.outbox.letters 0) }
+        ensures eager { IfSome result (λ m. (h : List Event) → AreSent self.old h →
+            is_asked_lem (sends h m.0) m.1 ≡ false) }
         ensures popped { IfSome (slice_get self.old.outbox.letters 0) (λ letter.
             (self.old.outbox.letters ≡ letter ∷ self.new.outbox.letters)
             × (self.new.outbox
@@ -409,6 +412,7 @@ impl Sending {
             ≡ slice_set self.old.pushed m.0 (pushed_to self.old m.0 + 1)) }
         ensures last { result
             ≡ option_and_then (out_by_piece self.old.offers) (first_leaving self.old.offers) }
+        ensures to { IfSome result (λ m. m.0 < length self.old.outbox.popped) }
         ensures kept { Keeps self.old self.new (outs result) }
         ensures in_turn { IfSome result (λ m. (h : List Event) → AreSent self.old h →
             slice_get (filter (λ n. not (is_empty_send h m.0 n)) (cleared_to self.old m.0))

@@ -1,9 +1,9 @@
 -- The packets of a message, or the one that asks for it.
-use Rattle.std.proofs.Common.{◌≡◌, ◌+◌, ℕ, length, sym, ◌∙◌, ap}
+use Rattle.std.proofs.Common.{◌≡◌, ◌+◌, ℕ, length, sym, ◌∙◌, ap, arith}
 use Rattle.nm_history.specs.Outgoing.{further_packets}
 use Rattle.nm_history.specs.Sends.{is_ask}
 use Rattle.nm_eager.specs.Cutting.{Cutting, packet_count}
-use Rattle.nm_sending.proofs.MessageLemmas.{bytes_many, puts_message, ends_message}
+use Rattle.nm_sending.proofs.MessageLemmas.{bytes_many, puts_message, ends_message, puts_request}
 use Rattle.nm_sending.proofs.putting.put_message.Goals as goal
 
 all_packets : (count len : ℕ) (cutting : Cutting) (bytes : ℕ) → count ≡ 1 + further_packets len → len ≡ bytes
@@ -36,3 +36,10 @@ returns-in_ok-reserve-in-Eager-clause-ends c =
     (all_packets c.packets_of-count.result c.len-len.result c.new-cutter.result _ c.packets_of-count.ensures
     c.len-len.ensures (ap (λ (x : Cutting). length x.body) c.new-cutter.ensures ∙ bytes_many c.args.body))
     (ap is_ask c.in-Eager.is) c.put_packets.ensures
+
+pub returns-in_ok-ask-in-Ask-clause-puts : goal.returns-in_ok-ask-in-Ask-clause-puts
+returns-in_ok-ask-in-Ask-clause-puts c =
+    puts_request c.args.heading.to c.args.heading.n c.args.heading.tag c.args.heading.ctx c.args.stamp
+    c.len-len.result _ c.args.body c.args.heading.how c.args.outbox.now c.reserve-in-Ask.new.self
+    c.put_bare.new.outbox c.reserve-in-Ask.ensures.same c.len-len.ensures c.in-Ask.is
+    (c.put_bare.ensures.puts c.args.stamp (omega arith))

@@ -13,5 +13,6 @@ pub undo-requires-clause-may : goal.undo-requires-clause-may
 undo-requires-clause-may g c =
     may_answer c.in_ok-sending.sending c.send.new.self 0 c.in_ok-n.n 7 0 5 c.in_ok-sending.ensures.none
     c.in_ok-n.ensures.kept c.recall.new.self c.in_ok-recall.ensures.kept
-    (c.in_ok-recall.ensures.order ∙ ap (λ (o : Offering). o.order) c.in_ok-n.ensures.asked
+    (ap (λ (o : Offering). o.order) c.in_ok-recall.ensures.recalled
+    ∙ ap (λ (o : Offering). o.order) c.in_ok-n.ensures.asked
     ∙ ap (λ (o : Offering). o.order) c.in_ok-sending.ensures.offers)

@@ -1,15 +1,18 @@
 -- The first packet goes, and an eager message leaves with its last one.
-use Rattle.std.proofs.Common.{◌≡◌, ◌-◌, ◌∷◌, [], length, refl, sym, ◌∙◌, ap}
+use Rattle.std.proofs.Common.{◌≡◌, ◌-◌, false, List, ◌∷◌, [], length, refl, sym, ◌∙◌, ap}
 use Rattle.std.proofs.Common.{subst, arith}
 use Rattle.std.proofs.lemmas.List.{length-set}
 use Rattle.std.proofs.lemmas.Option.{slice_get_within}
+use Rattle.nm_history.specs.declared.events.Event.{Event}
 use Rattle.nm_history.specs.declared.events.Happened.TheVariants.{Out}
+use Rattle.nm_history.specs.Delivery.{is_asked}
+use Rattle.nm_history.specs.Sends.{sends}
 use Rattle.nm_outbox.specs.Outboxes.{OutboxView}
 use Rattle.nm_sending.specs.contracts.sendings.Sending.{the_view}
 use Rattle.nm_sending.specs.declared.departures.Departure.{Departure}
 use Rattle.nm_sending.specs.Departures.{SendingView, with_departure}
-use Rattle.nm_sending.specs.Sent.{Keeps}
-use Rattle.nm_sending.proofs.FrontLemmas.{first, ended_there, front-tables, front-kept, front-counted}
+use Rattle.nm_sending.specs.Sent.{AreSent, Keeps}
+use Rattle.nm_sending.proofs.FrontLemmas.{first, front-eager, ended_there, front-tables, front-kept, front-counted}
 use Rattle.nm_sending.proofs.SentLemmas.{keeps-none, sent-outbox}
 use Rattle.nm_sending.proofs.TableLemmas.{row_there}
 use Rattle.nm_sending.proofs.sendings.Sending.pop_front.Goals as goal
@@ -103,3 +106,11 @@ returns-clause-counted c =
     let view : c.args.self.now.staying
     ≡ a.staying = ap (λ (v : SendingView). v.staying) (sym c.self.view_is) in
     omega (arith, view, more)
+
+pub returns-clause-eager : goal.returns-clause-eager
+returns-clause-eager c =
+    let a = c.self.inside in
+    subst (λ (v : SendingView). (h : List Event) → AreSent v h →
+    is_asked (sends h c.pop_front-letter.result.to) c.in_ok-n.n ≡ false) c.self.view_is
+    (front-eager a.me a.ranks (the_view a) c.self.invariant c.pop_front-letter.result
+    c.pop_front-letter.new.self.letters c.pop_front-letter.ensures.first c.in_ok-n.n c.in_ok-n.was)

@@ -1,6 +1,6 @@
 -- The next piece goes, and a message that was sent by asking leaves with its last one.
 use Rattle.std.specs.Prelude.{IsSome}
-use Rattle.std.proofs.Common.{◌≡◌, ◌-◌, ◌∷◌, [], Some, refl, sym, ◌∙◌, ap}
+use Rattle.std.proofs.Common.{◌≡◌, ℕ, ◌-◌, ◌<◌, ◌∷◌, [], length, Some, refl, sym, ◌∙◌, ap}
 use Rattle.std.proofs.Common.{subst, arith}
 use Rattle.std.proofs.lemmas.Option.{slice_get_within}
 use Rattle.nm_history.specs.declared.events.Happened.TheVariants.{Out}
@@ -142,6 +142,16 @@ returns-clause-kept c =
     (subst (λ (v : SendingView). Keeps v new (Out c.in_ok-to.to c.in_ok-to.n ∷ [])) c.self.view_is
     (last-kept a.me a.ranks (the_view a) c.self.invariant c.in_ok-to.to c.in_ok-to.n last.first last.lead
     last.within c.set.new.self.rows (a.staying - 1) last.none rows))
+
+pub returns-clause-to : goal.returns-clause-to
+returns-clause-to c =
+    let a = c.self.inside in
+    let there = subst (λ (v : SendingView). IsSome (next_offered v.offers)) (sym c.self.view_is) c.requires in
+    let last = last_of a.me a.ranks
+    (the_view a) c.self.invariant there c.pop_piece.result c.pop_piece.ensures.last
+    c.in_ok-to.to c.in_ok-to.n c.in_ok-to.was in
+    subst (λ (v : SendingView). c.in_ok-to.to < length v.outbox.popped) c.self.view_is
+    (subst (λ (k : ℕ). c.in_ok-to.to < k) (sym c.self.invariant.letters) last.within)
 
 pub returns-clause-in_turn : goal.returns-clause-in_turn
 returns-clause-in_turn c =

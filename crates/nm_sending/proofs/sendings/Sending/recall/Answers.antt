@@ -1,11 +1,11 @@
 -- The receiver of a message is asked to withdraw it.
 use Rattle.std.proofs.Common.{◌<◌, ◌∷◌, [], length, refl, sym, ◌∙◌, ap}
 use Rattle.std.proofs.Common.{subst, arith}
-use Rattle.std.proofs.Common.{true, ℕ, List}
+use Rattle.std.proofs.Common.{true, ℕ, List, None}
 use Rattle.std.proofs.lemmas.Option.{slice_get_within}
 use Rattle.nm_types.specs.declared.limits.TheConstants.{MAX_PACKETS}
 use Rattle.nm_history.specs.declared.events.Happened.TheVariants.{Recall}
-use Rattle.nm_rndv.specs.Offers.{Offering, state_of}
+use Rattle.nm_rndv.specs.Offers.{Offering, destined, with_destined, with_recall}
 use Rattle.nm_outbox.specs.Outboxes.{OutboxView, put_to}
 use Rattle.nm_sending.specs.contracts.sendings.Sending.{the_view}
 use Rattle.nm_sending.specs.Departures.{SendingView, ends_to}
@@ -13,7 +13,7 @@ use Rattle.nm_sending.specs.Sent.{Keeps, Puts, MayBeRecalled, only_to}
 use Rattle.nm_types.specs.declared.packets.What.TheVariants as what
 use Rattle.nm_sending.specs.Tables.{AreTables}
 use Rattle.nm_sending.proofs.PutLemmas.{puts-reserved}
-use Rattle.nm_sending.proofs.RecallLemmas.{unrecalled, no_recall, after-recall, recall-states}
+use Rattle.nm_sending.proofs.RecallLemmas.{unrecalled, no_recall, after-recall}
 use Rattle.nm_sending.proofs.RecallLemmas.{recall-tables, recall-kept}
 use Rattle.nm_sending.proofs.TableLemmas.{rows_with, same_departure}
 use Rattle.nm_sending.proofs.sendings.Sending.recall.Goals as goal
@@ -86,9 +86,9 @@ invariant_of-self-2 c =
 pub returns-clause-puts : goal.returns-clause-puts
 returns-clause-puts c =
     let a = c.self.inside in
-    λ called before. subst (λ (v : SendingView). Puts (only_to c.args.to called (what.Withdraw c.args.n))
+    λ called before. subst (λ (v : SendingView). Puts (only_to c.args.to called (what.Withdraw c.args.n)) None
     c.args.stamp v.outbox c.put_bare.new.outbox) c.self.view_is
-    (puts-reserved (only_to c.args.to called (what.Withdraw c.args.n)) c.args.stamp _ a.outbox
+    (puts-reserved (only_to c.args.to called (what.Withdraw c.args.n)) None c.args.stamp _ a.outbox
     c.reserve.new.self c.put_bare.new.outbox c.reserve.ensures.same
     (c.put_bare.ensures.puts called before))
 
@@ -116,18 +116,8 @@ returns-clause-kept c =
     (recall-kept a.me a.ranks (the_view a) c.self.invariant c.args.to c.args.n
     (omega (arith, to, c.self.invariant.letters)) un c.put_bare.new.outbox c.set.new.self.rows rows))
 
-pub returns-clause-asked : goal.returns-clause-asked
-returns-clause-asked c =
-    let a = c.self.inside in
-    let to = subst (λ (v : SendingView). c.args.to < length v.outbox.popped)
-    (sym c.self.view_is) c.requires.to in
-    let may = subst (λ (v : SendingView). MayBeRecalled v c.args.to c.args.n)
-    (sym c.self.view_is) c.requires.may in
-    let un = unrecalled (the_view a) c.args.to c.args.n may in
-    let rows = rows_with (λ x. record x { recalled = true }) c.set.new.self.rows a.departures.rows c.args.to
-    c.args.n c.unwrap-departure.result c.recalled.result un.departure c.set.ensures c.recalled.ensures
-    (same_departure (sym c.get.ensures ∙ c.unwrap-departure.ensures) un.there) in
-    λ other k. ap (λ (o : Offering). state_of o other k) c.in_ok-withdraw.ensures.ok
-    ∙ recall-states a.me a.ranks (the_view a) c.self.invariant c.args.to c.args.n
-    (omega (arith, to, c.self.invariant.letters)) un c.put_bare.new.outbox c.set.new.self.rows rows other k
-    ∙ ap (λ (v : SendingView). state_of v.offers other k) c.self.view_is
+pub returns-clause-recalled : goal.returns-clause-recalled
+returns-clause-recalled c =
+    c.in_ok-withdraw.ensures.ok
+    ∙ ap (λ (v : SendingView). with_destined v.offers c.args.to
+    (with_recall (destined v.offers c.args.to) c.args.n)) c.self.view_is

@@ -1,6 +1,6 @@
 -- The next message to a rank.
 use Rattle.std.proofs.Common.{◌≡◌, ◌+◌, ◌<◌, ◌≤◌, ◌∷◌, ◌++◌, [], List, ℕ, true, Bool, cond, length}
-use Rattle.std.proofs.Common.{refl, sym, ◌∙◌, ap}
+use Rattle.std.proofs.Common.{Some, None, refl, sym, ◌∙◌, ap}
 use Rattle.std.proofs.Common.{subst, arith, set}
 use Rattle.nm_types.specs.Bodies.{body_len, bytes_of}
 use Rattle.nm_types.specs.declared.limits.TheConstants.{MAX_BODY, MAX_EAGER}
@@ -62,7 +62,7 @@ returns-clause-puts c =
     λ h line. subst (λ (v : SendingView). Puts
     (λ other. packets_by (λ s. bytes_of c.args.body) other h c.args.stamp
     (Send c.args.to c.count-n.result c.args.tag c.args.ctx (body_len c.args.body) c.args.how line))
-    c.args.stamp
+    (cond (is_ask c.args.how) None (Some c.count-n.result)) c.args.stamp
     v.outbox c.put_message.new.outbox) c.self.view_is (c.in_ok-put_message.ensures.puts h line)
 
 pub returns-clause-kept : goal.returns-clause-kept
