@@ -1,9 +1,8 @@
 -- What a packet that continues its stream does to the messages.
-use Rattle.std.proofs.Common.{◌≡◌, ◌≢◌, ℕ, zero, suc, ◌+◌, ◌<◌, ◌≤◌, Bool, true, false, List, [], ◌∷◌, ◌++◌, length, refl, sym, ◌∙◌, ap, subst, append-nil, arith}
+use Rattle.std.proofs.Common.{◌≡◌, ◌≢◌, ℕ, ◌+◌, Bool, true, false, List, [], ◌∷◌, ◌++◌, length, refl, sym, ◌∙◌, ap, subst, append-nil, arith}
 use Rattle.std.specs.Prelude.{map, filter, not, if◌then◌else◌, ◌==◌, ◌&&◌, ◌||◌, nat_lt, slice_index_or, slice_set, IsTrue, Result, Ok, Err, OnOk}
 use Rattle.std.specs.List.{AllByRecursion}
 use Rattle.std.proofs.lemmas.List.{get_or-set_other}
-use Rattle.nm_types.specs.Sizes.{Sizes}
 use Rattle.nm_types.specs.declared.lists.Memory.{Memory}
 use Rattle.nm_types.specs.declared.packets.Packet.{Packet}
 use Rattle.nm_types.specs.declared.packets.What.{What}
@@ -13,20 +12,22 @@ use Rattle.nm_history.specs.declared.events.Happened.{Happened}
 use Rattle.nm_history.specs.declared.events.Happened.TheVariants as event
 use Rattle.nm_history.specs.Happens.{happened, is_arrival, is_recall, is_undone, is_withdraw}
 use Rattle.nm_history.specs.Matching.{is_free_message, matched_pairs}
-use Rattle.nm_protocol.specs.Agreement.{Agrees}
-use Rattle.nm_protocol.specs.Continues.{continues, has, WORN_STAMP}
+use Rattle.nm_history.specs.Sends.{is_ask}
+use Rattle.nm_protocol.specs.Bytes.{bytes_in}
+use Rattle.nm_protocol.specs.Continues.{has, WORN_STAMP}
 use Rattle.nm_protocol.specs.Effects.{happenings, packet_events, whole_if, is_empty_send}
 use Rattle.nm_protocol.specs.Known.{Known, learned}
 use Rattle.nm_protocol.specs.Rules.{AreRight}
-use Rattle.nm_protocol.proofs.Basic.{and_left, and_right, by-append, self_true, eq_true, same_number, refuted}
+use Rattle.nm_protocol.proofs.Basic.{and_right, by-append, self_true, same_number, refuted}
 use Rattle.nm_eager.specs.Streams.{Stream, missing, nothing_came, is_kept, after}
-use Rattle.nm_rndv.specs.Offers.{Offering, with_clearance}
-use Rattle.nm_sending.specs.Departures.{SendingView, cleared_to}
+use Rattle.nm_rndv.specs.Offers.{Offering, destined, with_answer, with_clearance, with_destined}
+use Rattle.nm_sending.specs.Departures.{SendingView}
 use Rattle.nm_sending.specs.Sent.{AreSent, Keeps, MayBeAnswered, is_of_sending}
-use Rattle.nm_receiving.specs.Receipts.{ReceivingView, stream_of}
+use Rattle.nm_receiving.specs.Receipts.{AddsBytes, ReceivingView, came_of, of_eager, stream_of}
 use Rattle.nm_receiving.specs.Received.{AreReceived, Follows, TakesPacket, is_of_receiving}
+use Rattle.nm_rank.specs.Calls.{offers_by}
 use Rattle.nm_rank.specs.Fields.{endings}
-use Rattle.nm_rank.specs.Takes.{Accepts, MayBeAccepted, Tells}
+use Rattle.nm_rank.specs.Takes.{Accepts, MayBeAccepted}
 use Rattle.nm_rank.proofs.Goes.{cleared_in}
 use Rattle.nm_rank.proofs.LeaveLemmas.{StaysSent, StaysReceived}
 
@@ -81,39 +82,62 @@ kept-cleared known (what.Clear n) size e = not_kept e
 kept-cleared known (what.Withdraw n) size e = not_kept e
 kept-cleared known (what.Withdrawn n done) size e = not_kept e
 
+-- a packet of a message changes nothing of the messages that this rank asked for
+kept-offers : (v : Offering) (from : ℕ) (w : What) → is_kept w ≡ true → v ≡ offers_by v from w
+kept-offers v from (what.Head tag ctx len) e = refl
+kept-offers v from (what.More n) e = refl
+kept-offers v from (what.Ask tag ctx len) e = refl
+kept-offers v from (what.Clear n) e = not_kept e
+kept-offers v from (what.Withdraw n) e = not_kept e
+kept-offers v from (what.Withdrawn n done) e = not_kept e
+
+-- no bytes are added where none are carried
+adds-none : (from : ℕ) (r r' : ReceivingView) → r'.streams ≡ r.streams → r'.grants ≡ r.grants
+    → AddsBytes (of_eager from (λ n. [])) r r'
+adds-none from r r' streams grants a = by_test (a.env.from == from && not (is_ask a.env.how)) where
+  same : came_of r' a ≡ came_of r a
+  same = rw (streams, grants) refl
+
+  by_test : (b : Bool) → came_of r' a ≡ came_of r a ++ (if b then [] else [])
+  by_test true = same ∙ sym (append-nil (came_of r a))
+  by_test false = same ∙ sym (append-nil (came_of r a))
+
 pub accepts-take : (p : Packet) (s : SendingView) (r r' : ReceivingView) → is_kept p.what ≡ true
     → TakesPacket r r' p
     → r'.streams ≡ slice_set r.streams p.from (after (stream_of r p.from) p.what p.payload)
     → ((known : Known) → known.count ≡ (stream_of r p.from).count →
     known.missing ≡ missing (stream_of r p.from) →
     Follows r' p.from (learned known p.what (length p.payload)))
+    → ((known : Known) → known.count ≡ (stream_of r p.from).count →
+    AddsBytes (of_eager p.from (λ n. bytes_in n known p.what p.payload)) r r')
     → r'.sizes ≡ r.sizes → r'.drawn ≡ r.drawn → endings r' ≡ endings r → StaysSent
     → Accepts p s s r r'
-accepts-take p s r r' kept takes streams follows sizes drawn ended stays = record {
+accepts-take p s r r' kept takes streams follows bytes sizes drawn ended stays = record {
   kept = λ h events known agrees t cont is sent received right.
-      (let g = takes h events known t.count t.lacks is received right in (
+      (let g = takes h events known t.told.count t.told.lacks is received right in (
         stays s h events
             (each-as NotSent events (packet_events known h p.from p.what (length p.payload)) is
             (kept-none known h p.from p.what (length p.payload) kept)) sent,
         g.0,
         g.1,
       ));
-  tells = λ h known t cont. (let f = follows known t.count t.lacks in record {
-    count = f.count;
-    lacks = f.lacks;
+  tells = λ h known t cont. (let f = follows known t.told.count t.told.lacks in record {
+    told = f;
     cleared = kept-cleared known p.what (length p.payload) kept ∙ t.cleared;
   });
   others = λ other known ne t. (let same : stream_of r' other ≡ stream_of r other =
       ap (λ (xs : List Stream). slice_index_or xs other nothing_came) streams
       ∙ get_or-set_other r.streams p.from other (after (stream_of r p.from) p.what p.payload) nothing_came ne in
       record {
-        count = t.count ∙ sym (ap (λ (x : Stream). x.count) same);
-        lacks = t.lacks ∙ sym (ap missing same);
+        told = record { count = t.told.count ∙ sym (ap (λ (x : Stream). x.count) same); lacks = t.told.lacks ∙ sym (ap missing same) };
         cleared = t.cleared;
       });
   outbox = refl;
   staying = λ h known sent cont. omega arith;
   fewer = omega arith;
+  offers = kept-offers s.offers p.from p.what kept;
+  pushed = refl;
+  bytes = bytes;
   sizes = sizes;
   drawn = drawn;
   ended = ended;
@@ -149,12 +173,14 @@ pub accepts-ok : (res : Result Bool Memory) (p : Packet) (s : SendingView) (r r'
     → OnOk res ((known : Known) → known.count ≡ (stream_of r p.from).count →
     known.missing ≡ missing (stream_of r p.from) →
     Follows r' p.from (learned known p.what (length p.payload)))
+    → OnOk res ((known : Known) → known.count ≡ (stream_of r p.from).count →
+    AddsBytes (of_eager p.from (λ n. bytes_in n known p.what p.payload)) r r')
     → OnOk res (r'.sizes ≡ r.sizes) → OnOk res (r'.drawn ≡ r.drawn) → OnOk res (endings r' ≡ endings r)
     → StaysSent
     → OnOk res (Accepts p s s r r')
-accepts-ok (Ok b) p s r r' kept takes streams follows sizes drawn ended stays =
-    accepts-take p s r r' kept takes streams follows sizes drawn ended stays
-accepts-ok (Err m) p s r r' kept takes streams follows sizes drawn ended stays = tt
+accepts-ok (Ok b) p s r r' kept takes streams follows bytes sizes drawn ended stays =
+    accepts-take p s r r' kept takes streams follows bytes sizes drawn ended stays
+accepts-ok (Err m) p s r r' kept takes streams follows bytes sizes drawn ended stays = tt
 
 -- what a clearance makes happen
 clear-none : (b : Bool) (from n : ℕ)
@@ -175,10 +201,10 @@ pub accepts-clear : (p : Packet) (n : ℕ) (s s' : SendingView) (r : ReceivingVi
     → ((h : List Event) → AreSent s h → b ≡ is_empty_send h p.from n)
     → Keeps s s' (if b then event.Out p.from n ∷ [] else [])
     → s'.offers ≡ with_clearance s.offers p.from n
-    → s.staying ≡ s'.staying + (if b then 1 else 0) → s'.outbox ≡ s.outbox
+    → s.staying ≡ s'.staying + (if b then 1 else 0) → s'.outbox ≡ s.outbox → s'.pushed ≡ s.pushed
     → StaysReceived
     → Accepts p s s' r r
-accepts-clear p n s s' r b e value kept cleared counted outbox stays =
+accepts-clear p n s s' r b e value kept cleared counted outbox pushed stays =
     let order : s'.offers.order ≡ s.offers.order ++ (p.from, n) ∷ [] =
     ap (λ (o : Offering). o.order) cleared in
     record {
@@ -192,16 +218,14 @@ accepts-clear p n s s' r b e value kept cleared counted outbox stays =
             g.1 r.sizes.ranks,
           ));
       tells = λ h known t cont. rw e (record {
-        count = t.count;
-        lacks = t.lacks;
+        told = record { count = t.told.count; lacks = t.told.lacks };
         cleared = ap (λ (k : List ℕ). k ++ n ∷ []) t.cleared
             ∙ sym (ap (cleared_in p.from) order ∙ cleared-more p.from p.from n s.offers.order
             ∙ ap (λ (x : Bool). cleared_in p.from s.offers.order ++ (if x then n ∷ [] else []))
             (self_true p.from));
       });
       others = λ other known ne t. (record {
-        count = t.count;
-        lacks = t.lacks;
+        told = record { count = t.told.count; lacks = t.told.lacks };
         cleared = t.cleared ∙ sym (ap (cleared_in other) order ∙ cleared-more other p.from n s.offers.order
             ∙ ap (λ (x : Bool). cleared_in other s.offers.order ++ (if x then n ∷ [] else []))
             (unequal p.from other (λ same. ne (sym same)))
@@ -210,6 +234,9 @@ accepts-clear p n s s' r b e value kept cleared counted outbox stays =
       outbox = outbox;
       staying = λ h known sent cont. rw (e, ← value h sent, clear-length b p.from n) (omega arith);
       fewer = omega arith;
+      offers = rw e cleared;
+      pushed = pushed;
+      bytes = λ known count. rw e (adds-none p.from r r refl refl);
       sizes = refl;
       drawn = refl;
       ended = refl;
@@ -297,18 +324,20 @@ accepts-withdraw p n s r r' b e value kept arrived same stays =
                 (value h received),
           ));
       tells = λ h known t cont. rw e (record {
-        count = t.count ∙ sym (ap (λ (xs : List Stream). (slice_index_or xs p.from nothing_came).count) streams);
-        lacks = t.lacks ∙ sym (ap (λ (xs : List Stream). missing (slice_index_or xs p.from nothing_came)) streams);
+        told = record { count = t.told.count ∙ sym (ap (λ (xs : List Stream). (slice_index_or xs p.from nothing_came).count) streams); lacks = t.told.lacks ∙ sym (ap (λ (xs : List Stream). missing (slice_index_or xs p.from nothing_came)) streams) };
         cleared = t.cleared;
       });
       others = λ other known ne t. (record {
-        count = t.count ∙ sym (ap (λ (xs : List Stream). (slice_index_or xs other nothing_came).count) streams);
-        lacks = t.lacks ∙ sym (ap (λ (xs : List Stream). missing (slice_index_or xs other nothing_came)) streams);
+        told = record { count = t.told.count ∙ sym (ap (λ (xs : List Stream). (slice_index_or xs other nothing_came).count) streams); lacks = t.told.lacks ∙ sym (ap (λ (xs : List Stream). missing (slice_index_or xs other nothing_came)) streams) };
         cleared = t.cleared;
       });
       outbox = refl;
       staying = λ h known sent cont. omega arith;
       fewer = omega arith;
+      offers = rw e refl;
+      pushed = refl;
+      bytes = λ known count. rw e (adds-none p.from r r' streams
+          (ap (λ (u : ReceivingView). u.grants) same));
       sizes = ap (λ (u : ReceivingView). u.sizes) same;
       drawn = ap (λ (u : ReceivingView). u.drawn) same;
       ended = ap (λ (u : ReceivingView). endings u) same;
@@ -339,10 +368,12 @@ may-undo s r p n done e m =
 pub accepts-undo : (p : Packet) (n : ℕ) (done : Bool) (s s' : SendingView) (r : ReceivingView)
     → p.what ≡ what.Withdrawn n done
     → Keeps s s' (event.Undone p.from n done ∷ [])
-    → s'.staying ≡ s.staying → s'.offers.order ≡ s.offers.order → s'.outbox ≡ s.outbox
+    → s'.staying ≡ s.staying
+    → s'.offers ≡ with_destined s.offers p.from (with_answer (destined s.offers p.from) n done)
+    → s'.outbox ≡ s.outbox → s'.pushed ≡ s.pushed
     → StaysReceived
     → Accepts p s s' r r
-accepts-undo p n done s s' r e kept counted order outbox stays = record {
+accepts-undo p n done s s' r e kept counted answered outbox pushed stays = record {
   kept = λ h events known agrees t cont is sent received right.
       (let made : happenings events ≡ event.Undone p.from n done ∷ [] = rw e at is in
       let g = kept h events made sent in (
@@ -352,18 +383,19 @@ accepts-undo p n done s s' r e kept counted order outbox stays = record {
         g.1 r.sizes.ranks,
       ));
   tells = λ h known t cont. rw e (record {
-    count = t.count;
-    lacks = t.lacks;
-    cleared = t.cleared ∙ ap (cleared_in p.from) (sym order);
+    told = record { count = t.told.count; lacks = t.told.lacks };
+    cleared = t.cleared ∙ sym (ap (λ (o : Offering). cleared_in p.from o.order) answered);
   });
   others = λ other known ne t. (record {
-    count = t.count;
-    lacks = t.lacks;
-    cleared = t.cleared ∙ ap (cleared_in other) (sym order);
+    told = record { count = t.told.count; lacks = t.told.lacks };
+    cleared = t.cleared ∙ sym (ap (λ (o : Offering). cleared_in other o.order) answered);
   });
   outbox = outbox;
   staying = λ h known sent cont. omega arith;
   fewer = omega arith;
+  offers = rw e answered;
+  pushed = pushed;
+  bytes = λ known count. rw e (adds-none p.from r r refl refl);
   sizes = refl;
   drawn = refl;
   ended = refl;

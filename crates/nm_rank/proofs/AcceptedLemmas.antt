@@ -1,5 +1,5 @@
 -- The steps of a packet that continues its stream.
-use Rattle.std.proofs.Common.{◌≡◌, ℕ, ◌+◌, ◌-◌, ◌<◌, ◌≤◌, true, List, ◌++◌, length, refl, sym, ◌∙◌, ap, subst, arith}
+use Rattle.std.proofs.Common.{◌≡◌, ℕ, ◌+◌, ◌-◌, ◌<◌, ◌≤◌, true, List, ◌++◌, length, sym, ◌∙◌, ap, subst, arith}
 use Rattle.std.specs.Prelude.{map, max, option_to_list, Option, Some, None}
 use Rattle.std.proofs.lemmas.List.{length-map}
 use Rattle.nm_types.specs.Sizes.{Sizes}
@@ -36,8 +36,7 @@ may-be-accepted me sizes j j' s r known q took pulled p a same within number con
   received = a.history.received;
   agrees = a.history.agrees p.from within;
   tells = record {
-    count = a.told.counts p.from within;
-    lacks = a.told.missing p.from within;
+    told = record { count = a.told.counts p.from within; lacks = a.told.missing p.from within };
     cleared = a.told.cleared p.from within;
   };
   continued = rw (a.peers.shape, same) cont;

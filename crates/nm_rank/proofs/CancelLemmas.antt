@@ -1,6 +1,6 @@
 -- A send that is recalled, the first time.
-use Rattle.std.proofs.Common.{◌≡◌, ℕ, ◌+◌, ◌≤◌, Bool, true, false, List, [], ◌∷◌, ◌++◌, length, refl, sym, ◌∙◌, ap, subst, append-nil, arith}
-use Rattle.std.specs.Prelude.{if◌then◌else◌, Option, Some, IfSome}
+use Rattle.std.proofs.Common.{◌≡◌, ℕ, ◌+◌, ◌≤◌, Bool, true, false, List, [], ◌∷◌, ◌++◌, length, refl, sym, ap, subst, append-nil, arith}
+use Rattle.std.specs.Prelude.{if◌then◌else◌, Option, Some, None, IfSome}
 use Rattle.nm_types.specs.declared.packets.What.TheVariants as what
 use Rattle.nm_history.specs.declared.events.Event.{Event}
 use Rattle.nm_history.specs.declared.events.Happened.{Happened}
@@ -30,8 +30,9 @@ use Rattle.nm_outbox.specs.Outboxes.{OutboxView}
 use Rattle.nm_request.specs.declared.Kind.TheVariants as kind
 use Rattle.nm_sending.specs.Departures.{SendingView}
 use Rattle.nm_sending.specs.Sent.{AreSent, Keeps, Puts, only_to}
-use Rattle.nm_rank.specs.Requests.{cancel_events, withdrawal_of}
-use Rattle.nm_rank.proofs.PutLemmas.{puts-none, puts-same}
+use Rattle.nm_rndv.specs.Offers.{Offering, destined, with_destined, with_recall}
+use Rattle.nm_rank.specs.Requests.{cancel_events, offers_cancelled, withdrawal_of}
+use Rattle.nm_rank.proofs.PutLemmas.{puts-same}
 
 -- no events
 none-happened : (events : List Event) → happenings events ≡ [] → events ≡ []
@@ -58,9 +59,9 @@ first s s' to n h events was e a kept = kept h events (rw was at e) a
 
 pub first-puts : (h : List Event) (called to n stamp : ℕ) (o o' : OutboxView)
     → happened (is_recall to n) h ≡ false
-    → Puts (only_to to called (what.Withdraw n)) stamp o o'
-    → Puts (withdrawal_of h called to n) stamp o o'
-first-puts h called to n stamp o o' was p = puts-same _ _ stamp o o' (λ other. rw was refl) p
+    → Puts (only_to to called (what.Withdraw n)) None stamp o o'
+    → Puts (withdrawal_of h called to n) None stamp o o'
+first-puts h called to n stamp o o' was p = puts-same _ _ None stamp o o' (λ other. rw was refl) p
 
 recall-tells : (b : Bool) (to n i : ℕ) → AllByRecursion (λ (w : Happened). tells i w ≡ false)
     (if b then [] else event.Recall to n ∷ [])
@@ -175,18 +176,40 @@ if-live o k P e p = subst (λ (x : Option Kind). IfSome x P) (sym e) p
 recall-puts_by : (bodies : Sent → List ℕ) (h : List Event) (k to n clock : ℕ) (o o' : OutboxView) (b : Bool)
     → happened (is_recall to n) h ≡ b
     → clock ≡ k + length (cancel_events h (kind.Send to n))
-    → ((called : ℕ) → called ≤ clock → Puts (withdrawal_of h called to n) clock o o')
-    → Puts (λ other. called_by bodies other h (stamped k (cancel_events h (kind.Send to n)))) clock o o'
+    → ((called : ℕ) → called ≤ clock → Puts (withdrawal_of h called to n) None clock o o')
+    → Puts (λ other. called_by bodies other h (stamped k (cancel_events h (kind.Send to n)))) None clock o o'
 recall-puts_by bodies h k to n clock o o' true e c p =
-    puts-same _ _ clock o o' (λ other. rw e refl) (p 0 (omega arith))
+    puts-same _ _ None clock o o' (λ other. rw e refl) (p 0 (omega arith))
 recall-puts_by bodies h k to n clock o o' false e c p =
-    puts-same _ _ clock o o' (λ other. sym (recall-calls bodies h k to n other))
+    puts-same _ _ None clock o o' (λ other. sym (recall-calls bodies h k to n other))
     (p (k + 1) (let d : clock ≡ k + 1 = rw e at c in omega arith))
 
 -- what is put where a send is recalled
 pub recall-puts : (bodies : Sent → List ℕ) (h : List Event) (k to n clock : ℕ) (o o' : OutboxView)
     → clock ≡ k + length (cancel_events h (kind.Send to n))
-    → ((called : ℕ) → called ≤ clock → Puts (withdrawal_of h called to n) clock o o')
-    → Puts (λ other. called_by bodies other h (stamped k (cancel_events h (kind.Send to n)))) clock o o'
+    → ((called : ℕ) → called ≤ clock → Puts (withdrawal_of h called to n) None clock o o')
+    → Puts (λ other. called_by bodies other h (stamped k (cancel_events h (kind.Send to n)))) None clock o o'
 recall-puts bodies h k to n clock o o' c p =
     recall-puts_by bodies h k to n clock o o' (happened (is_recall to n) h) refl c p
+
+-- the messages that were sent by asking, where a send was recalled before
+pub again-offers : (h : List Event) (to n : ℕ) (v : Offering) → happened (is_recall to n) h ≡ true
+    → v ≡ offers_cancelled h (kind.Send to n) v
+again-offers h to n v was = rw was refl
+
+-- and where it is recalled now
+pub first-offers : (h : List Event) (to n : ℕ) (v v' : Offering) → happened (is_recall to n) h ≡ false
+    → v' ≡ with_destined v to (with_recall (destined v to) n)
+    → v' ≡ offers_cancelled h (kind.Send to n) v
+first-offers h to n v v' was e = rw was e
+
+-- a cancel leaves the order of the clearances as it was
+pub cancel-order : (h : List Event) (k : Kind) (v v' : Offering) → v' ≡ offers_cancelled h k v
+    → v'.order ≡ v.order
+cancel-order h (kind.Receive number) v v' e = ap (λ (o : Offering). o.order) e
+cancel-order h (kind.Send to n) v v' e = by_answer (happened (is_recall to n) h) e where
+  by_answer : (b : Bool)
+      → v' ≡ (if b then v else with_destined v to (with_recall (destined v to) n))
+      → v'.order ≡ v.order
+  by_answer true e = ap (λ (o : Offering). o.order) e
+  by_answer false e = ap (λ (o : Offering). o.order) e

@@ -1,5 +1,5 @@
 -- The packets that a receive calls for.
-use Rattle.std.proofs.Common.{◌≡◌, ℕ, ◌+◌, ◌≤◌, Bool, true, false, List, [], ◌∷◌, ◌++◌, length, refl, sym, ◌∙◌, ap, subst, append-nil, arith}
+use Rattle.std.proofs.Common.{◌≡◌, ℕ, ◌+◌, ◌≤◌, Bool, true, false, List, [], ◌∷◌, ◌++◌, length, refl, sym, ◌∙◌, subst, append-nil, arith}
 use Rattle.std.specs.Prelude.{if◌then◌else◌, ◌==◌, ◌&&◌, Option, Some, None, option_map}
 use Rattle.std.specs.Option.{option_map_or}
 use Rattle.nm_types.specs.Sizes.{Sizes}
@@ -10,9 +10,8 @@ use Rattle.nm_history.specs.declared.events.Event.{Event}
 use Rattle.nm_history.specs.declared.events.Happened.{Happened}
 use Rattle.nm_history.specs.declared.events.Happened.TheVariants as event
 use Rattle.nm_history.specs.declared.plain.Pair.{Pair}
-use Rattle.nm_history.specs.AtEach.{in_turn_after}
 use Rattle.nm_history.specs.Matching.{first_message, matched_pairs, pair_of, pair_of_claimed}
-use Rattle.nm_history.specs.Outgoing.{Called, packets_by, clear_packets, bare}
+use Rattle.nm_history.specs.Outgoing.{Called, clear_packets, bare}
 use Rattle.nm_history.specs.Sends.{Sent, is_ask, message_of}
 use Rattle.nm_protocol.specs.Clock.{stamped}
 use Rattle.nm_protocol.specs.Effects.{whole_if}
@@ -23,12 +22,12 @@ use Rattle.nm_request.specs.declared.Kind.TheVariants as kind
 use Rattle.nm_request.specs.Requests.{Live, AddsRequest, SameRequests}
 use Rattle.nm_sending.specs.Departures.{SendingView}
 use Rattle.nm_sending.specs.Sent.{Puts}
-use Rattle.nm_receiving.specs.Receipts.{ReceivingView, is_empty_ask, taken_events}
-use Rattle.nm_rank.specs.Calls.{Starts, called_by, clearance_of}
+use Rattle.nm_receiving.specs.Receipts.{ReceivingView, SameBytes, is_empty_ask, taken_events}
+use Rattle.nm_rank.specs.Calls.{Starts, called_by, clearance_of, eager_sent}
 use Rattle.nm_rank.specs.Ranks.{RankView, seen}
-use Rattle.nm_rank.proofs.PutLemmas.{puts-same}
+use Rattle.nm_rank.proofs.PutLemmas.{puts-same, taken-leaves}
 use Rattle.nm_rank.proofs.ReceiveLemmas.{then-events}
-use Rattle.nm_rank.proofs.ViewLemmas.{adds-roomless, puts-roomless, same-events, same-clock, starts}
+use Rattle.nm_rank.proofs.ViewLemmas.{adds-roomless, puts-roomless, same-events, same-clock, same-pushed, starts}
 
 -- a message that is here whole calls for nothing
 pub whole-calls : (bodies : Sent → List ℕ) (to : ℕ) (h : List Event) (b : Bool) (from n c : ℕ)
@@ -36,7 +35,7 @@ pub whole-calls : (bodies : Sent → List ℕ) (to : ℕ) (h : List Event) (b : 
 whole-calls bodies to h true from n c = refl
 whole-calls bodies to h false from n c = refl
 
-swapped : (x y : Bool) (l : List Called)
+pub swapped : (x y : Bool) (l : List Called)
     → (if x && y then l else []) ≡ (if y then (if x then l else []) else [])
 swapped true true l = refl
 swapped true false l = refl
@@ -81,16 +80,18 @@ pub starts-receive : (bodies : Sent → List ℕ) (me : ℕ) (sizes : Sizes) (j 
     → j'''.events ≡ j''.events ++ stamped j''.clock (taken_events t)
     → j'''.clock ≡ j''.clock + length (taken_events t)
     → ((called : ℕ) → called ≤ j'''.clock →
-    Puts (clearance_of called t) j'''.clock s'.outbox s''.outbox)
+    Puts (clearance_of called t) None j'''.clock s'.outbox s''.outbox)
+    → s''.pushed ≡ s'.pushed
+    → ((ws : List Happened) → eager_sent (w ∷ ws) ≡ eager_sent ws)
     → ((to : ℕ) → called_by bodies to j.events (stamped j.clock (w ∷ taken_events t))
     ≡ clearance_of (j.clock + 1) t to)
-    → r'.streams ≡ r.streams → r'.drawn ≡ r.drawn
+    → r'.streams ≡ r.streams → SameBytes r r' → r'.drawn ≡ r.drawn
     → AddsRequest q' q'' x (kind.Receive number)
     → Starts bodies (w ∷ taken_events t) (kind.Receive number)
     (seen me sizes j s r known q took pulled strays)
     (seen me sizes j''' s'' r' known q'' took pulled strays) x
 starts-receive bodies me sizes j j' j'' j''' s s' s'' r r' known q q' q'' took pulled strays number w t x
-    ej es eq e c e' c' puts calls streams drawn adds =
+    ej es eq e c e' c' puts pushed none calls streams bytes drawn adds =
     let h : j'.events ≡ j.events = same-events j j' ej in
     let k : j'.clock ≡ j.clock = same-clock j j' ej in
     let events : j'''.events ≡ j'.events ++ stamped j'.clock (w ∷ taken_events t) =
@@ -100,9 +101,11 @@ starts-receive bodies me sizes j j' j'' j''' s s' s'' r r' known q q' q'' took p
     (record {
       events = rw (← h, ← k) events;
       clock = omega arith;
-      packets = puts-roomless _ j'''.clock s s' s'' es
-          (puts-same _ _ j'''.clock s'.outbox s''.outbox (λ to. sym (calls to))
-          (puts (j.clock + 1) (omega arith)));
+      packets = rw (none (taken_events t), taken-leaves t)
+          (puts-roomless _ None j'''.clock s s' s'' es
+          (puts-same _ _ None j'''.clock s'.outbox s''.outbox (λ to. sym (calls to))
+          (puts (j.clock + 1) (omega arith))));
+      pushed = pushed ∙ same-pushed s s' es;
     })
     (adds-roomless q q' q'' x (kind.Receive number) eq adds)
     (record {
@@ -113,6 +116,7 @@ starts-receive bodies me sizes j j' j'' j''' s s' s'' r r' known q q' q'' took p
       pulled = refl;
       drawn = drawn;
       streams = streams;
+      bytes = bytes;
       strays = refl;
     })
 

@@ -1,6 +1,6 @@
 -- A piece that was taken.
-use Rattle.std.proofs.Common.{◌≡◌, ◌≢◌, ℕ, zero, suc, ◌+◌, ◌<◌, ◌≤◌, Bool, true, false, List, [], ◌∷◌, ◌++◌, length, length-set, refl, sym, ◌∙◌, ap, subst, arith}
-use Rattle.std.specs.Prelude.{map, if◌then◌else◌, slice_index_or, slice_set, ◌&&◌, Option, Some, None}
+use Rattle.std.proofs.Common.{◌≡◌, ℕ, zero, suc, ◌+◌, ◌<◌, ◌≤◌, Bool, true, false, List, [], ◌∷◌, ◌++◌, length, length-set, sym, ◌∙◌, ap, subst, arith}
+use Rattle.std.specs.Prelude.{if◌then◌else◌, slice_index_or, slice_set, ◌&&◌, Option, Some, None}
 use Rattle.std.specs.List.{AllByRecursion}
 use Rattle.std.proofs.lemmas.List.{get_or-set_same, get_or-set_other}
 use mathlib.Core.Logic.{dite}
@@ -8,7 +8,6 @@ use native.Mathlib.Decide.{ℕ_discrete}
 use Rattle.nm_types.specs.Sizes.{Sizes}
 use Rattle.nm_history.specs.declared.events.Event.{Event}
 use Rattle.nm_history.specs.declared.events.Happened.{Happened}
-use Rattle.nm_protocol.specs.Agreement.{Agrees}
 use Rattle.nm_protocol.specs.Clock.{stamped}
 use Rattle.nm_protocol.specs.Known.{Known}
 use Rattle.nm_protocol.specs.Pieces.{Due, is_due, piece_makes}
@@ -21,9 +20,9 @@ use Rattle.nm_eager.specs.Streams.{Stream, missing, nothing_came}
 use Rattle.nm_journal.specs.Journals.{JournalView}
 use Rattle.nm_request.specs.Requests.{Live}
 use Rattle.nm_sending.specs.Departures.{SendingView}
-use Rattle.nm_sending.specs.Sent.{AreSent, is_of_sending}
+use Rattle.nm_sending.specs.Sent.{is_of_sending}
 use Rattle.nm_receiving.specs.Receipts.{ReceivingView, drawn_from}
-use Rattle.nm_receiving.specs.Received.{AreReceived, Keeps}
+use Rattle.nm_receiving.specs.Received.{Keeps}
 use Rattle.nm_rank.specs.Fields.{AreFields, endings}
 use Rattle.nm_rank.specs.Ranks.{known_from, count_of}
 use Rattle.nm_rank.proofs.Goes.{requests-more}

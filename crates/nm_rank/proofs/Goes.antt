@@ -1,6 +1,6 @@
 -- What the fields keep stays true where a rank does something by itself.
-use Rattle.std.proofs.Common.{◌≡◌, ℕ, ◌+◌, ◌<◌, ◌≤◌, Bool, true, false, Some, List, [], ◌∷◌, ◌++◌, length, refl, sym, ◌∙◌, ap, subst, arith}
-use Rattle.std.specs.Prelude.{map, filter, ◌==◌, slice_index_or, ◌||◌}
+use Rattle.std.proofs.Common.{◌≡◌, ℕ, ◌≤◌, Bool, true, false, Some, List, [], ◌++◌, length, refl, sym, ◌∙◌, ap, subst}
+use Rattle.std.specs.Prelude.{map, filter, ◌==◌, slice_index_or}
 use Rattle.std.specs.List.{slice_get, AllByRecursion}
 use Rattle.nm_types.specs.Sizes.{Sizes}
 use Rattle.nm_history.specs.declared.events.Event.{Event}
@@ -9,9 +9,8 @@ use Rattle.std.proofs.lemmas.List.{length-map}
 use Rattle.std.proofs.lemmas.List.FromFn.{length-range_with_len}
 use Rattle.nm_history.specs.Happens.{happened, is_send}
 use Rattle.nm_history.specs.Sends.{sends}
-use Rattle.nm_protocol.specs.Agreement.{Agrees, tells}
+use Rattle.nm_protocol.specs.Agreement.{tells}
 use Rattle.nm_protocol.specs.Clock.{stamped}
-use Rattle.nm_protocol.specs.Effects.{happenings}
 use Rattle.nm_protocol.specs.Known.{Known}
 use Rattle.nm_protocol.specs.Rules.{AreRight}
 use Rattle.nm_protocol.proofs.Agreeing.{agrees-other}
@@ -21,12 +20,10 @@ use Rattle.nm_protocol.proofs.Sent.{happened-append}
 use Rattle.nm_eager.specs.Streams.{missing}
 use Rattle.nm_journal.specs.Journals.{JournalView}
 use Rattle.nm_outbox.specs.Outboxes.{OutboxView}
-use Rattle.nm_request.specs.declared.Req.{Req}
-use Rattle.nm_request.specs.declared.Kind.TheVariants as kind
-use Rattle.nm_request.specs.Requests.{Live, kind_of}
-use Rattle.nm_sending.specs.Departures.{SendingView, cleared_to, departures_to}
+use Rattle.nm_request.specs.Requests.{Live}
+use Rattle.nm_sending.specs.Departures.{SendingView, departures_to}
 use Rattle.nm_sending.specs.Sent.{AreSent}
-use Rattle.nm_receiving.specs.Receipts.{ReceivingView, stream_of, drawn_from}
+use Rattle.nm_receiving.specs.Receipts.{ReceivingView, stream_of}
 use Rattle.nm_receiving.specs.Received.{AreReceived}
 use Rattle.nm_rank.specs.Ranks.{known_from, count_of}
 use Rattle.nm_rank.specs.Fields.{AreFields, IsOf, HasPeers, AreTold, HasRequests, HasRoom, endings}

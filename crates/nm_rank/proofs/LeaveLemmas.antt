@@ -1,6 +1,6 @@
 -- What leaves a rank, what it notes, and what it claims.
-use Rattle.std.proofs.Common.{◌≡◌, ℕ, ◌+◌, ◌<◌, ◌≤◌, Bool, true, false, List, [], ◌∷◌, ◌++◌, length, refl, sym, ◌∙◌, ap, subst, append-nil, length-set, arith}
-use Rattle.std.specs.Prelude.{map, Option, Some, None, IfSome, IsSome, slice_set, slice_index_or}
+use Rattle.std.proofs.Common.{◌≡◌, ℕ, ◌+◌, ◌<◌, ◌≤◌, true, false, List, [], ◌∷◌, ◌++◌, length, refl, sym, ◌∙◌, ap, subst, length-set, arith}
+use Rattle.std.specs.Prelude.{Option, Some, None, IfSome, IsSome, slice_set, slice_index_or}
 use Rattle.std.specs.List.{AllByRecursion, slice_get}
 use Rattle.std.specs.Option.{option_and_then}
 use Rattle.nm_types.specs.Sizes.{Sizes}

@@ -8,6 +8,7 @@ pub mod FinishLemmas
 pub mod Goes
 pub mod LeaveLemmas
 pub mod NewLemmas
+pub mod PieceLemmas
 pub mod PutLemmas
 pub mod RoomLemmas
 pub mod ReceiveLemmas

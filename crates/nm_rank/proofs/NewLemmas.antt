@@ -1,11 +1,10 @@
 -- The fields of a rank at which nothing happened.
-use Rattle.std.proofs.Common.{◌≡◌, ℕ, zero, suc, ◌<◌, ◌≤◌, Some, None, List, [], length, replicate, refl, sym, ◌∙◌, ap, subst, arith}
-use Rattle.std.specs.Prelude.{slice_index_or, map, filter, ◌==◌}
+use Rattle.std.proofs.Common.{◌≡◌, ℕ, zero, suc, ◌<◌, Some, None, List, [], length, replicate, refl, sym, ◌∙◌, ap, arith}
+use Rattle.std.specs.Prelude.{map, filter, ◌==◌}
 use Rattle.nm_types.specs.Sizes.{Sizes}
-use Rattle.nm_protocol.specs.Agreement.{Agrees}
 use Rattle.nm_protocol.specs.Known.{Known, nothing_known}
 use Rattle.nm_protocol.proofs.Agreeing.{agrees-none}
-use Rattle.nm_eager.specs.Streams.{Stream, missing, nothing_came}
+use Rattle.nm_eager.specs.Streams.{nothing_came}
 use Rattle.nm_journal.specs.Journals.{JournalView}
 use Rattle.nm_request.specs.declared.Req.{Req}
 use Rattle.nm_request.specs.declared.Kind.{Kind}

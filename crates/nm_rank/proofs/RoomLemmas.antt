@@ -1,14 +1,12 @@
 -- The fields with more room.
-use Rattle.std.proofs.Common.{◌≡◌, ℕ, ◌+◌, ◌<◌, ◌≤◌, Bool, true, false, Some, List, [], ◌∷◌, ◌++◌, length, refl, sym, ◌∙◌, ap, subst, arith}
+use Rattle.std.proofs.Common.{◌≡◌, ℕ, ◌≤◌, List, sym, subst, arith}
 use Rattle.nm_types.specs.Sizes.{Sizes}
-use Rattle.nm_history.specs.declared.events.Event.{Event}
 use Rattle.nm_protocol.specs.Known.{Known}
 use Rattle.nm_journal.specs.Journals.{JournalView}
-use Rattle.nm_outbox.specs.Outboxes.{OutboxView}
 use Rattle.nm_request.specs.Requests.{Live, SameRequests}
 use Rattle.nm_sending.specs.Departures.{SendingView}
 use Rattle.nm_receiving.specs.Receipts.{ReceivingView}
-use Rattle.nm_rank.specs.Fields.{AreFields, IsOf, HasPeers, AreTold, HasRequests, HasRoom}
+use Rattle.nm_rank.specs.Fields.{AreFields}
 use Rattle.nm_rank.proofs.Goes.{sent-outbox}
 
 -- more room in the outbox

@@ -1,6 +1,6 @@
 -- A send that was started.
-use Rattle.std.proofs.Common.{◌≡◌, ℕ, ◌+◌, ◌<◌, ◌≤◌, Bool, true, false, List, [], ◌∷◌, ◌++◌, length, refl, sym, ◌∙◌, ap, subst, append-nil, arith}
-use Rattle.std.specs.Prelude.{if◌then◌else◌, ◌==◌, ◌||◌, ◌&&◌}
+use Rattle.std.proofs.Common.{◌≡◌, ℕ, ◌+◌, ◌<◌, ◌≤◌, Bool, true, false, List, [], ◌∷◌, ◌++◌, length, refl, ap, arith}
+use Rattle.std.specs.Prelude.{if◌then◌else◌}
 use Rattle.nm_types.specs.Sizes.{Sizes}
 use Rattle.nm_types.specs.declared.messages.How.{How}
 use Rattle.nm_types.specs.declared.scripts.Body.{Body}
@@ -14,16 +14,15 @@ use Rattle.nm_protocol.proofs.Basic.{self_true, or_true}
 use Rattle.nm_protocol.proofs.Growing.{stamped-same}
 use Rattle.nm_protocol.proofs.Sent.{happened-append}
 use Rattle.nm_journal.specs.Journals.{JournalView}
-use Rattle.nm_outbox.specs.Outboxes.{OutboxView}
 use Rattle.nm_request.specs.declared.Req.{Req}
 use Rattle.nm_request.specs.declared.Kind.TheVariants as kind
 use Rattle.nm_request.specs.Requests.{Live, AddsRequest}
 use Rattle.nm_rndv.specs.Offers.{Offering, destined, with_asked, with_destined}
 use Rattle.nm_sending.specs.Departures.{SendingView}
-use Rattle.nm_sending.specs.Sent.{AreSent, Keeps}
+use Rattle.nm_sending.specs.Sent.{Keeps}
 use Rattle.nm_receiving.specs.Receipts.{ReceivingView}
 use Rattle.nm_receiving.specs.Received.{AreReceived}
-use Rattle.nm_rank.specs.Fields.{AreFields, HasRoom}
+use Rattle.nm_rank.specs.Fields.{AreFields}
 use Rattle.nm_rank.proofs.Goes.{acts, requests-more}
 use Rattle.nm_rank.proofs.RequestLemmas.{adds-send}
 

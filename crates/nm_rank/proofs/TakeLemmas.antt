@@ -1,25 +1,21 @@
 -- A packet that was taken and continued its stream.
-use Rattle.std.proofs.Common.{◌≡◌, ◌≢◌, ℕ, zero, suc, ◌+◌, ◌<◌, ◌≤◌, Bool, true, false, List, [], ◌∷◌, ◌++◌, length, length-set, refl, sym, ◌∙◌, ap, subst, append_assoc, append-nil, arith}
-use Rattle.std.specs.Prelude.{map, max, if◌then◌else◌, ◌==◌, ◌&&◌, slice_index_or, slice_set, option_to_list, Option, Some, None, is_some, option_map}
-use Rattle.std.specs.Option.{option_map_or}
+use Rattle.std.proofs.Common.{◌≡◌, ◌≢◌, ℕ, zero, suc, ◌+◌, ◌<◌, ◌≤◌, true, List, [], ◌∷◌, ◌++◌, length, length-set, refl, sym, ◌∙◌, ap, subst, append_assoc, arith}
+use Rattle.std.specs.Prelude.{map, slice_index_or, slice_set, option_to_list, Option, Some, None}
 use Rattle.std.proofs.Math.Seq.{map-set_same}
-use Rattle.std.proofs.lemmas.List.{map-set, get_or-set_same, get_or-set_other}
+use Rattle.std.proofs.lemmas.List.{get_or-set_same, get_or-set_other}
 use mathlib.Core.Logic.{dite}
 use native.Mathlib.Decide.{ℕ_discrete}
 use Rattle.nm_types.specs.Sizes.{Sizes}
-use Rattle.nm_types.specs.declared.messages.Post as post
 use Rattle.nm_types.specs.declared.packets.Packet.{Packet}
 use Rattle.nm_types.specs.declared.packets.What.{What}
 use Rattle.nm_types.specs.declared.packets.What.TheVariants as what
 use Rattle.nm_history.specs.declared.events.Event.{Event}
 use Rattle.nm_history.specs.declared.events.Happened.{Happened}
-use Rattle.nm_history.specs.declared.events.Happened.TheVariants as event
-use Rattle.nm_history.specs.Sends.{Sent}
 use Rattle.nm_protocol.specs.Agreement.{Agrees}
 use Rattle.nm_protocol.specs.Clock.{stamped}
 use Rattle.nm_protocol.specs.Continues.{continues}
-use Rattle.nm_protocol.specs.Effects.{happenings, packet_events, taken_events, whole_if}
-use Rattle.nm_protocol.specs.Known.{Known, Taken, learned, known_after, nothing_known}
+use Rattle.nm_protocol.specs.Effects.{happenings, packet_events}
+use Rattle.nm_protocol.specs.Known.{Known, Taken, learned, nothing_known}
 use Rattle.nm_protocol.specs.Rules.{AreRight}
 use Rattle.nm_protocol.proofs.Agreeing.{agrees-packet, agrees-elsewhere}
 use Rattle.nm_protocol.proofs.Growing.{stamped-same}
@@ -29,9 +25,8 @@ use Rattle.nm_request.specs.Requests.{Live}
 use Rattle.nm_streams.specs.Streams.{Told}
 use Rattle.nm_sending.specs.Departures.{SendingView}
 use Rattle.nm_sending.specs.Sent.{AreSent}
-use Rattle.nm_receiving.specs.Receipts.{ReceivingView, stream_of, drawn_from}
-use Rattle.nm_receiving.specs.Received.{AreReceived}
-use Rattle.nm_rank.specs.Fields.{AreFields, AreTold, endings}
+use Rattle.nm_receiving.specs.Receipts.{ReceivingView}
+use Rattle.nm_rank.specs.Fields.{AreFields}
 use Rattle.nm_rank.specs.Ranks.{known_from, count_of}
 use Rattle.nm_rank.specs.Takes.{Accepts, Tells}
 use Rattle.nm_outbox.specs.Outboxes.{OutboxView}
@@ -82,8 +77,7 @@ known-there known k i x ne = get_or-set_other known k i x nothing_known ne
 tells-order : (known : Known) (i : ℕ) (s s' : SendingView) (r : ReceivingView)
     → s'.offers.order ≡ s.offers.order → Tells known i s r → Tells known i s' r
 tells-order known i s s' r order t = record {
-  count = t.count;
-  lacks = t.lacks;
+  told = record { count = t.told.count; lacks = t.told.lacks };
   cleared = t.cleared ∙ ap (cleared_in i) (sym order);
 }
 
@@ -121,8 +115,7 @@ fields-take me sizes j j' s s' s'' r r' known q took pulled p start ws a within 
     let known' : List Known = slice_set known p.from k' in
     let low : p.from < length known = rw a.peers.streams within in
     let tells : Tells k p.from s r = record {
-      count = a.told.counts p.from within;
-      lacks = a.told.missing p.from within;
+      told = record { count = a.told.counts p.from within; lacks = a.told.missing p.from within };
       cleared = a.told.cleared p.from within;
     } in
     let happened_is : happenings es ≡ packet_events k h p.from p.what (length p.payload) =
@@ -142,8 +135,7 @@ fields-take me sizes j j' s s' s'' r r' known q took pulled p start ws a within 
     (λ ne. rw (known-there known p.from i k' ne)
     (tells-order (known_from known i) i s' s'' r' order
     (acc.others i (known_from known i) ne (record {
-      count = a.told.counts i b;
-      lacks = a.told.missing i b;
+      told = record { count = a.told.counts i b; lacks = a.told.missing i b };
       cleared = a.told.cleared i b;
     })))) in
     record {
@@ -171,8 +163,8 @@ fields-take me sizes j j' s s' s'' r r' known q took pulled p start ws a within 
         pieces = a.peers.pieces;
       };
       told = record {
-        counts = λ i b. (each i b).count;
-        missing = λ i b. (each i b).lacks;
+        counts = λ i b. (each i b).told.count;
+        missing = λ i b. (each i b).told.lacks;
         cleared = λ i b. (each i b).cleared;
         few = λ i b. dite (ℕ_discrete i p.from)
             (λ same. subst (λ (m : ℕ). (known_from known' m).count

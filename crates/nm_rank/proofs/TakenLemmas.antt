@@ -1,6 +1,6 @@
 -- What contracts see of a rank that took a packet.
 use Rattle.std.proofs.Common.{◌≡◌, ℕ, ◌+◌, ◌<◌, ◌≤◌, Bool, true, false, List, [], ◌∷◌, ◌++◌, length, refl, sym, ◌∙◌, ap, subst, append-nil, arith}
-use Rattle.std.specs.Prelude.{map, max, if◌then◌else◌, ◌==◌, ◌&&◌, slice_index_or, slice_set, is_some, Option, Some, None, option_map}
+use Rattle.std.specs.Prelude.{map, max, not, if◌then◌else◌, ◌==◌, ◌&&◌, slice_index_or, slice_set, is_some, Option, Some, None, option_map}
 use Rattle.std.specs.Option.{option_map_or}
 use Rattle.std.proofs.lemmas.List.{map-set, set-get_or}
 use Rattle.nm_types.specs.Sizes.{Sizes}
@@ -14,25 +14,27 @@ use Rattle.nm_history.specs.declared.events.Event.{Event}
 use Rattle.nm_history.specs.declared.events.Happened.{Happened}
 use Rattle.nm_history.specs.declared.events.Happened.TheVariants as event
 use Rattle.nm_history.specs.Matching.{first_receive, matched_pairs, pair_of}
-use Rattle.nm_history.specs.Outgoing.{Called, clear_packets, bare}
+use Rattle.nm_history.specs.Outgoing.{clear_packets, bare}
 use Rattle.nm_history.specs.Sends.{Sent, is_ask}
+use Rattle.nm_protocol.specs.Bytes.{bytes_in}
 use Rattle.nm_protocol.specs.Clock.{stamped}
 use Rattle.nm_protocol.specs.Effects.{packet_events, whole_if, is_empty_send, next_arrival}
 use Rattle.nm_protocol.specs.Known.{Known, learned, nothing_known}
 use Rattle.nm_journal.specs.Journals.{JournalView}
 use Rattle.nm_outbox.specs.Outboxes.{OutboxView}
+use Rattle.nm_rndv.specs.Offers.{Offering}
 use Rattle.nm_request.specs.Requests.{Live, SameRequests}
 use Rattle.nm_streams.specs.Streams.{Told, is_done_at_once}
 use Rattle.nm_sending.specs.Departures.{SendingView}
 use Rattle.nm_sending.specs.Sent.{Puts, only_to}
-use Rattle.nm_receiving.specs.Receipts.{ReceivingView}
-use Rattle.nm_rank.specs.Calls.{Happens, TakesPacket, called_by, strays_after, taken_of}
+use Rattle.nm_receiving.specs.Receipts.{AddsBytes, ReceivingView, came_of, of_eager, stream_of}
+use Rattle.nm_rank.specs.Calls.{TakesPacket, called_by, offers_by, strays_after, taken_of}
 use Rattle.nm_rank.specs.Ranks.{RankView, known_from, count_of, roomless, seen}
 use Rattle.nm_rank.specs.Takes.{reply_of}
-use Rattle.nm_rank.proofs.ClearLemmas.{whole-calls}
-use Rattle.nm_rank.proofs.PutLemmas.{puts-none, puts-same}
+use Rattle.nm_rank.proofs.ClearLemmas.{swapped, whole-calls}
+use Rattle.nm_rank.proofs.PutLemmas.{packet-leaves, puts-none, puts-same}
 use Rattle.nm_rank.proofs.TakeLemmas.{known_of, known-at}
-use Rattle.nm_rank.proofs.ViewLemmas.{puts-roomless, same-events, same-clock}
+use Rattle.nm_rank.proofs.ViewLemmas.{puts-roomless, same-events, same-offers, same-pushed}
 
 -- a rank with more room is seen as the same
 pub seen-room : (me : ℕ) (sizes : Sizes) (j j' : JournalView) (s s' : SendingView) (r : ReceivingView)
@@ -60,26 +62,18 @@ known-set xs k x y z w size low here same goes =
     ∙ ap (λ (u : Known). slice_set (map known_of xs) k u)
     (goes ∙ ap (λ (u : Known). learned u w size) (same ∙ sym (known-at xs k x low here)))
 
-both : (b : Bool) (l : List Called) → (if b && true then l else []) ≡ (if b then l else [])
-both true l = refl
-both false l = refl
-
-neither : (b : Bool) (l : List Called) → (if b && false then l else []) ≡ []
-neither true l = refl
-neither false l = refl
-
 -- what a message calls for where a receive takes it
 pair-calls : (t : Option post.Post) (a : Arrival) (stamp to : ℕ) → a.env.how ≡ how.Ask
     → option_map_or (clear_packets to stamp) (option_map (λ p. pair_of p a) t) []
     ≡ (if is_some t then only_to a.env.from stamp (what.Clear a.n) to else [])
 pair-calls None a stamp to ask = refl
 pair-calls (Some p) a stamp to ask =
-    rw ask (both (a.env.from == to) (bare stamp (what.Clear a.n) ∷ []))
+    rw ask (swapped (a.env.from == to) true (bare stamp (what.Clear a.n) ∷ []))
 
 eager-calls : (t : Option post.Post) (a : Arrival) (stamp to : ℕ) → a.env.how ≡ how.Eager
     → option_map_or (clear_packets to stamp) (option_map (λ p. pair_of p a) t) [] ≡ []
 eager-calls None a stamp to eager = refl
-eager-calls (Some p) a stamp to eager = rw eager (neither (a.env.from == to) (bare stamp (what.Clear a.n) ∷ []))
+eager-calls (Some p) a stamp to eager = rw eager (swapped (a.env.from == to) false (bare stamp (what.Clear a.n) ∷ []))
 
 out-calls : (bodies : Sent → List ℕ) (to : ℕ) (h : List Event) (b : Bool) (from n c : ℕ)
     → called_by bodies to h (stamped c ((if b then event.Out from n ∷ [] else []) ++ [])) ≡ []
@@ -88,8 +82,9 @@ out-calls bodies to h false from n c = refl
 
 whole-end : (bodies : Sent → List ℕ) (to : ℕ) (h : List Event) (b : Bool) (from n c : ℕ)
     → called_by bodies to h (stamped c (whole_if b from n ++ [])) ≡ []
-whole-end bodies to h true from n c = refl
-whole-end bodies to h false from n c = refl
+whole-end bodies to h b from n c =
+    ap (λ (ws : List Happened). called_by bodies to h (stamped c ws)) (append-nil (whole_if b from n))
+    ∙ whole-calls bodies to h b from n c
 
 -- what a packet that continues its stream calls for is its answer
 pub reply-calls : (bodies : Sent → List ℕ) (known : Known) (h : List Event) (from size c to : ℕ)
@@ -123,8 +118,8 @@ reply-calls bodies known h from size c to (what.Withdrawn n done) = refl
 reply-in_time : (known : Known) (h : List Event) (from size start clock n : ℕ) (w : What) (done : Bool)
     (o o' : OutboxView)
     → clock ≡ start + length (packet_events known h from w size)
-    → ((called : ℕ) → called ≤ clock → Puts (reply_of n from w done called) clock o o')
-    → Puts (reply_of n from w done (start + 1)) clock o o'
+    → ((called : ℕ) → called ≤ clock → Puts (reply_of n from w done called) None clock o o')
+    → Puts (reply_of n from w done (start + 1)) None clock o o'
 reply-in_time known h from size start clock n (what.Head tag ctx len) done o o' e puts =
     puts 0 (omega arith)
 reply-in_time known h from size start clock n (what.More m) done o o' e puts = puts 0 (omega arith)
@@ -154,14 +149,19 @@ pub takes-packet : (me : ℕ) (sizes : Sizes) (j j' j'' : JournalView) (s s' s''
     → j''.clock ≡ start + length ws
     → s''.outbox ≡ s'.outbox
     → ((called : ℕ) → called ≤ j''.clock →
-    Puts (reply_of n p.from p.what done called) j''.clock s''.outbox s'''.outbox)
+    Puts (reply_of n p.from p.what done called) None j''.clock s''.outbox s'''.outbox)
+    → s'''.pushed ≡ s'.pushed
+    → s'''.offers ≡ offers_by s'.offers p.from p.what
+    → ((k : Known) → k.count ≡ (stream_of r p.from).count →
+    AddsBytes (of_eager p.from (λ n. bytes_in n k p.what p.payload)) r r')
+    → k.count ≡ (stream_of r p.from).count
     → known' ≡ slice_set known p.from (learned k p.what (length p.payload))
     → p.seq ≡ count_of took p.from
     → r'.drawn ≡ r.drawn
     → TakesPacket p v
     (seen me sizes j'' s''' r' known' q' (slice_set took p.from (p.seq + 1)) pulled strays)
 takes-packet me sizes j j' j'' s s' s'' s''' r r' known known' q q' took pulled strays p ws done n
-    ej es eq cont made at_once count e c outbox puts knows number drawn =
+    ej es eq cont made at_once count e c outbox puts pushed offers bytes counts knows number drawn =
     let h : j'.events ≡ j.events = same-events j j' ej in
     let start = max j.clock p.stamp in
     let k : Known = known_from known p.from in
@@ -172,11 +172,16 @@ takes-packet me sizes j j' j'' s s' s'' s''' r r' known known' q q' took pulled 
       happened = λ bodies. rw cont (record {
         events = rw (← made, ← h) e;
         clock = rw (← made) c;
-        packets = puts-roomless _ j''.clock s s' s''' es
-            (puts-same _ _ j''.clock s'.outbox s'''.outbox
+        packets = rw (packet-leaves k j.events p.from (length p.payload) p.what)
+            (puts-roomless _ None j''.clock s s' s''' es
+            (puts-same _ _ None j''.clock s'.outbox s'''.outbox
             (λ to. sym (reply-calls bodies k j.events p.from (length p.payload) start to p.what))
-            (rw (← outbox, ← count, ← at_once) answer));
+            (rw (← outbox, ← count, ← at_once) answer)));
+        pushed = pushed ∙ same-pushed s s' es;
       });
+      offers = rw cont
+          (offers ∙ ap (λ (v : Offering). offers_by v p.from p.what) (same-offers s s' es));
+      bytes = rw cont (bytes k counts);
       known = rw cont knows;
       took = ap (λ (x : ℕ). slice_set took p.from (x + 1)) number;
       strays = rw cont refl;
@@ -186,6 +191,13 @@ takes-packet me sizes j j' j'' s s' s'' s''' r r' known known' q q' took pulled 
       me = refl;
       sizes = refl;
     }
+
+-- a stray carries nothing
+nothing-of : (from : ℕ) (a : Arrival) → of_eager from (λ n. []) a ≡ []
+nothing-of from a = by_test (a.env.from == from && not (is_ask a.env.how)) where
+  by_test : (b : Bool) → ◌≡◌ {A = List ℕ} (if b then [] else []) []
+  by_test true = refl
+  by_test false = refl
 
 -- what a rank is that took a stray
 pub takes-stray : (me : ℕ) (sizes : Sizes) (j j' : JournalView) (s : SendingView) (r : ReceivingView)
@@ -200,7 +212,11 @@ takes-stray me sizes j j' s r known q took pulled strays strays' p e cont number
     events = ap (λ (x : JournalView). x.events) e ∙ sym (append-nil j.events);
     clock = let c : j'.clock ≡ max j.clock p.stamp = ap (λ (x : JournalView). x.clock) e in omega arith;
     packets = puts-none _ j'.clock (roomless s).outbox (λ to. refl);
+    pushed = refl;
   });
+  offers = rw cont refl;
+  bytes = λ a. rw cont (sym (ap (λ (l : List ℕ). came_of r a ++ l) (nothing-of p.from a)
+      ∙ append-nil (came_of r a)));
   known = rw cont (sym (set-get_or known p.from nothing_known));
   took = ap (λ (x : ℕ). slice_set took p.from (x + 1)) number;
   strays = rw cont more;

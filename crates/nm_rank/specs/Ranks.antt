@@ -1,10 +1,11 @@
 -- What contracts see of the core of one rank.
-use Rattle.std.specs.Prelude.{◌≡◌, ℕ, ◌+◌, ◌-◌, ◌<◌, List, [], length, slice_index_or}
+use Rattle.std.specs.Prelude.{ℕ, ◌-◌, ◌<◌, List, length, slice_index_or}
 use Rattle.nm_types.specs.Sizes.{Sizes}
-use Rattle.nm_types.specs.declared.limits.TheConstants.{MAX_PACKETS, MAX_STAMP}
+use Rattle.nm_types.specs.declared.limits.TheConstants.{MAX_PACKETS}
 use Rattle.nm_history.specs.declared.events.Event.{Event}
 use Rattle.nm_history.specs.Completion.{Request}
 use Rattle.nm_history.specs.Completion.Request.{Sending, Receiving}
+use Rattle.nm_history.specs.Sends.{sends}
 use Rattle.nm_protocol.specs.Continues.{WORN_STAMP}
 use Rattle.nm_protocol.specs.Known.{Known, nothing_known}
 use Rattle.nm_journal.specs.Journals.{JournalView}
@@ -14,7 +15,7 @@ use Rattle.nm_request.specs.declared.Kind.TheVariants as kind
 use Rattle.nm_request.specs.declared.TheConstants.{MAX_REQUESTS}
 use Rattle.nm_outbox.specs.Outboxes.{put_to}
 use Rattle.nm_sending.specs.declared.TheConstants.{MAX_MESSAGES}
-use Rattle.nm_sending.specs.Departures.{SendingView, departures_to}
+use Rattle.nm_sending.specs.Departures.{SendingView}
 use Rattle.nm_receiving.specs.Receipts.{ReceivingView}
 
 -- The rank and the sizes of the run; its history and its clock; what it sends and what it receives;
@@ -75,5 +76,5 @@ pub record IsFresh (v : RankView) : Type 0 where
   pub requests : v.requests.added < MAX_REQUESTS
   pub messages :
       (to : ℕ) → to < v.sizes.ranks →
-      (length (departures_to v.sending to) < MAX_MESSAGES)
+      (length (sends v.events to) < MAX_MESSAGES)
       × (put_to v.sending.outbox to < MAX_PACKETS - 32)

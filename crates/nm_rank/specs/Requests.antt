@@ -1,5 +1,6 @@
 -- What a request ends with, and what a cancel of it does. MPI 3.1, 3.7.3 and 3.8.4.
-use Rattle.std.specs.Prelude.{◌≡◌, ◌≢◌, ℕ, Bool, true, not, None, if◌then◌else◌, Some, IfSome, IsSomeAnd, List, [], ◌∷◌}
+use Rattle.std.specs.Prelude.{◌≡◌, ◌≢◌, ℕ, Bool, true, not, Option, None, if◌then◌else◌, Some, IfSome, IsSomeAnd}
+use Rattle.std.specs.Prelude.{List, [], ◌∷◌, option_and_then}
 use Rattle.std.specs.List.{list_any}
 use Rattle.nm_types.specs.declared.answers.Answer.{Answer}
 use Rattle.nm_types.specs.declared.packets.What.TheVariants as what
@@ -7,6 +8,7 @@ use Rattle.nm_types.specs.declared.answers.Answer.TheVariants.{Got}
 use Rattle.nm_history.specs.declared.events.Event.{Event}
 use Rattle.nm_history.specs.declared.events.Happened.{Happened}
 use Rattle.nm_history.specs.declared.events.Happened.TheVariants.{Cancel, Recall}
+use Rattle.nm_history.specs.declared.plain.Pair.{Pair}
 use Rattle.nm_history.specs.Answers.{without_bytes}
 use Rattle.nm_history.specs.Completion.{result_of}
 use Rattle.nm_history.specs.Delivery.{pair_of_request}
@@ -17,6 +19,7 @@ use Rattle.nm_request.specs.declared.Kind.{Kind}
 use Rattle.nm_request.specs.declared.Kind.TheVariants as kind
 use Rattle.nm_request.specs.declared.Req.{Req}
 use Rattle.nm_request.specs.Requests.{Live, kind_of}
+use Rattle.nm_rndv.specs.Offers.{Offering, destined, with_destined, with_recall}
 use Rattle.nm_sending.specs.Departures.{SendingView}
 use Rattle.nm_sending.specs.Sent.{AreSent, only_to}
 use Rattle.nm_receiving.specs.Receipts.{bytes_of}
@@ -32,6 +35,18 @@ is_paired h number = list_any (is_of_receive number) (matched_pairs h)
 abbrev pub cancel_events : List Event → Kind → List Happened
 cancel_events h (kind.Receive number) = Cancel number (not (is_paired h number)) ∷ []
 cancel_events h (kind.Send to n) = if happened (is_recall to n) h then [] else Recall to n ∷ []
+
+-- the messages that were sent by asking, after a cancel of a request: a message is recalled the
+-- first time
+abbrev pub offers_cancelled : List Event → Kind → Offering → Offering
+offers_cancelled h (kind.Receive number) v = v
+offers_cancelled h (kind.Send to n) v =
+    if happened (is_recall to n) h then v else with_destined v to (with_recall (destined v to) n)
+
+-- the pair of the receive that a request is of, if it took a message
+abbrev pub pair_with : RankView → Req → Option Pair
+pair_with v r =
+    option_and_then (λ k. pair_of_request v.events (request_of k)) (kind_of v.requests r)
 
 -- what a cancel of a request comes to
 abbrev pub cancel_answer : List Event → Kind → Cancelled

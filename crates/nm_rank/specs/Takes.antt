@@ -1,5 +1,5 @@
 -- What a packet that continues its stream does.
-use Rattle.std.specs.Prelude.{◌≡◌, ℕ, ◌+◌, ◌<◌, ◌≤◌, Bool, true, false, if◌then◌else◌, List, [], ◌∷◌, ◌++◌, length}
+use Rattle.std.specs.Prelude.{◌≡◌, ℕ, ◌+◌, ◌<◌, ◌≤◌, Bool, true, if◌then◌else◌, List, [], ◌++◌, length}
 use Rattle.nm_types.specs.declared.limits.TheConstants.{MAX_PACKETS}
 use Rattle.nm_types.specs.declared.packets.Packet.{Packet}
 use Rattle.nm_types.specs.declared.packets.What.{What}
@@ -7,21 +7,21 @@ use Rattle.nm_types.specs.declared.packets.What.TheVariants as what
 use Rattle.nm_history.specs.declared.events.Event.{Event}
 use Rattle.nm_history.specs.Outgoing.{Called}
 use Rattle.nm_protocol.specs.Agreement.{Agrees}
+use Rattle.nm_protocol.specs.Bytes.{bytes_in}
 use Rattle.nm_protocol.specs.Continues.{continues}
 use Rattle.nm_protocol.specs.Effects.{happenings, packet_events}
 use Rattle.nm_protocol.specs.Known.{Known, learned}
 use Rattle.nm_protocol.specs.Rules.{AreRight}
-use Rattle.nm_eager.specs.Streams.{missing}
 use Rattle.nm_sending.specs.Departures.{SendingView, cleared_to}
 use Rattle.nm_sending.specs.Sent.{AreSent, only_to}
-use Rattle.nm_receiving.specs.Receipts.{ReceivingView, stream_of}
-use Rattle.nm_receiving.specs.Received.{AreReceived}
+use Rattle.nm_receiving.specs.Receipts.{AddsBytes, ReceivingView, of_eager, stream_of}
+use Rattle.nm_receiving.specs.Received.{AreReceived, Follows}
+use Rattle.nm_rank.specs.Calls.{offers_by}
 use Rattle.nm_rank.specs.Fields.{endings}
 
 -- what the packets of a rank tell is what came of its messages, and which messages it cleared
 pub record Tells (known : Known) (from : ℕ) (s : SendingView) (r : ReceivingView) : Type 0 where
-  pub count : known.count ≡ (stream_of r from).count
-  pub lacks : known.missing ≡ missing (stream_of r from)
+  pub told : Follows r from known
   pub cleared : known.cleared ≡ cleared_to s from
 
 -- The packet continues its stream, by some history and by what is known of its sender.
@@ -56,6 +56,11 @@ pub record Accepts (p : Packet) (s s' : SendingView) (r r' : ReceivingView) : Ty
       (h : List Event) (known : Known) → AreSent s h → continues r.sizes.eager known h p ≡ true →
       s.staying ≤ s'.staying + length (packet_events known h p.from p.what (length p.payload))
   pub fewer : s'.staying ≤ s.staying
+  pub offers : s'.offers ≡ offers_by s.offers p.from p.what
+  pub pushed : s'.pushed ≡ s.pushed
+  pub bytes :
+      (known : Known) → known.count ≡ (stream_of r p.from).count →
+      AddsBytes (of_eager p.from (λ n. bytes_in n known p.what p.payload)) r r'
   pub sizes : r'.sizes ≡ r.sizes
   pub drawn : r'.drawn ≡ r.drawn
   pub ended : endings r' ≡ endings r

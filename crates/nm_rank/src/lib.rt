@@ -18,7 +18,7 @@
 //!   (`taken`).
 //! - After want of memory the rank is as it was (`err`).
 //! # What is only tested
-//! That calls which take memory succeed with ample memory.
+//! That calls which take memory succeed with ample memory (`nm_rank_rows`).
 #![tactic(auto)]
 
 mod answers;
@@ -29,8 +29,6 @@ mod room;
 mod starts;
 mod stays;
 mod takes;
-#[cfg(test)]
-mod tests;
 
 pub use answers::{CancelFault, Cancelled, FinishFault, State};
 pub use nm_request::{Kind, NoSuch, Req};

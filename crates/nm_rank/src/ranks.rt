@@ -1,12 +1,18 @@
 //! The core of one rank.
 
-ghost use Rattle.std.specs.Prelude.{◌≡◌, ◌<◌, ◌≤◌, ◌↔◌, ℕ, false, [], length, map, replicate, IfOk};
+ghost use Rattle.std.specs.Prelude.{◌≡◌, ◌<◌, ◌≤◌, ◌↔◌, ℕ, false, None, [], length, map, replicate, IfOk};
 ghost use Rattle.nm_types.specs.declared.limits.TheConstants.{MAX_STAMP};
+ghost use Rattle.nm_types.specs.declared.messages.Arrival.{Arrival};
 ghost use Rattle.nm_protocol.specs.Continues.{WORN_STAMP};
 ghost use Rattle.nm_protocol.specs.Known.{nothing_known};
+ghost use Rattle.nm_protocol.specs.Rest.{EmptyAreHere};
 ghost use Rattle.nm_protocol.specs.Rules.{AreRight};
 ghost use Rattle.nm_outbox.specs.Outboxes.{popped_to};
+ghost use Rattle.nm_rndv.specs.Offers.{no_offers};
+ghost use Rattle.nm_request.specs.declared.Req.{Req};
+ghost use Rattle.nm_request.specs.Requests.{kind_of};
 ghost use Rattle.nm_sending.specs.Departures.{pushed_to};
+ghost use Rattle.nm_receiving.specs.Receipts.{came_of, drawn_from};
 ghost use Rattle.nm_journal.specs.Journals.{IsJournal};
 ghost use Rattle.nm_rank.specs.Ranks.{IsFresh, count_of};
 
@@ -79,7 +85,15 @@ impl Rank {
         requires { me < shape.ranks }
         ensures me { IfOk result (λ r. (r.me ≡ me) × (r.sizes ≡ shape)) }
         ensures events { IfOk result (λ r. (r.events ≡ []) × (r.clock ≡ 0)) }
-        ensures letters { IfOk result (λ r. r.sending.outbox.letters ≡ []) }
+        ensures sent { IfOk result (λ r. (r.sending.outbox.me ≡ me)
+            × (r.sending.outbox.letters ≡ [])
+            × (r.sending.outbox.popped ≡ replicate shape.ranks 0)
+            × (r.sending.offers ≡ no_offers shape.ranks)
+            × (r.sending.pushed ≡ replicate shape.ranks 0)) }
+        ensures came { IfOk result (λ r. (from : ℕ) → drawn_from r.receiving from ≡ 0) }
+        ensures drawn { IfOk result (λ r. length r.receiving.drawn ≡ shape.ranks) }
+        ensures bytes { IfOk result (λ r. (a : Arrival) → came_of r.receiving a ≡ []) }
+        ensures requests { IfOk result (λ r. (q : Req) → kind_of r.requests q ≡ None) }
         ensures counts { IfOk result (λ r. (r.took ≡ replicate shape.ranks 0)
             × (r.pulled ≡ replicate shape.ranks 0) × (r.strays ≡ 0)) }
         ensures known { IfOk result (λ r. r.known ≡ replicate shape.ranks nothing_known) }
@@ -107,11 +121,13 @@ impl Rank {
         self.journal.clock() >= WORN || self.requests.is_worn() || self.sending.is_worn()
     }
 
-    /// What happened, oldest first.
+    /// What happened, oldest first. A message that has no bytes, was sent by asking and was taken by a
+    /// receive is here.
     pub fn history(&self) -> &History
         ensures events { result.now.events ≡ self.now.events }
         ensures right { AreRight self.now.sizes.ranks [] self.now.events }
         ensures stamped { IsJournal self.now.events self.now.clock }
+        ensures empty { EmptyAreHere self.now.events }
     {
         self.journal.history()
     }

@@ -22,6 +22,7 @@ ghost use Rattle.nm_request.specs.Requests.{kind_of};
 ghost use Rattle.nm_types.specs.declared.limits.TheConstants.{MAX_PACKETS, MAX_STAMP};
 ghost use Rattle.nm_outbox.specs.Outboxes.{put_to};
 ghost use Rattle.nm_sending.specs.Sent.{AreSent, Puts};
+ghost use Rattle.nm_receiving.specs.Receipts.{SameOtherBytes};
 ghost use Rattle.nm_receiving.specs.Received.{AreReceived};
 ghost use Rattle.nm_rank.specs.declared.answers.CancelFault.TheVariants as cancel_fault;
 ghost use Rattle.nm_rank.specs.declared.answers.Cancelled.TheVariants as cancelled;
@@ -30,7 +31,8 @@ ghost use Rattle.nm_rank.specs.declared.answers.State.TheVariants as state;
 ghost use Rattle.nm_rank.specs.Calls.{Happens, Notes, TakesNone};
 ghost use Rattle.nm_rank.specs.Fields.{endings};
 ghost use Rattle.nm_rank.specs.Ranks.{IsFresh, request_of};
-ghost use Rattle.nm_rank.specs.Requests.{cancel_events, cancel_answer, Gives, IsFreed, WasSent, withdrawal_of};
+ghost use Rattle.nm_rank.specs.Requests.{cancel_events, cancel_answer, offers_cancelled, pair_with};
+ghost use Rattle.nm_rank.specs.Requests.{Gives, IsFreed, WasSent, withdrawal_of};
 
 use crate::room::make_room;
 use crate::stays::sides_stay;
@@ -87,10 +89,12 @@ fn recall(journal: &mut Journal, sending: &mut Sending, to: u8, n: u64) -> Resul
         happenings events ≡ cancel_events h (kind.Send to n) → AreSent sending.old h →
         AreSent sending.new (h ++ events) × ((ranks : ℕ) → AreRight ranks h events)) }
     ensures puts { OnOk result ((h : List Event) (called : ℕ) → AreSent sending.old h →
-        called ≤ journal.new.clock → Puts (withdrawal_of h called to n) journal.new.clock
+        called ≤ journal.new.clock → Puts (withdrawal_of h called to n) None journal.new.clock
         sending.old.outbox sending.new.outbox) }
     ensures staying { OnOk result (sending.new.staying ≡ sending.old.staying) }
-    ensures order { OnOk result (sending.new.offers.order ≡ sending.old.offers.order) }
+    ensures offers { OnOk result ((h : List Event) → AreSent sending.old h → sending.new.offers
+        ≡ offers_cancelled h (kind.Send to n) sending.old.offers) }
+    ensures pushed { OnOk result (sending.new.pushed ≡ sending.old.pushed) }
     ensures same { OnErr result (journal.new ≡ journal.old) }
     ensures err { OnErr result (sending.new
         ≡ record sending.old {
@@ -133,6 +137,7 @@ impl Rank {
             ↔ (result ≡ Err finish_fault.NotComplete)) }
         ensures gives { IfOk result (Gives self.old r) }
         ensures freed { OnOk result (IsFreed self.old.requests self.new.requests r) }
+        ensures bytes { SameOtherBytes (pair_with self.old r) self.old.receiving self.new.receiving }
         ensures same { (self.new.events ≡ self.old.events) × (self.new.clock ≡ self.old.clock)
             × (self.new.sending ≡ self.old.sending) × (self.new.known ≡ self.old.known)
             × (self.new.receiving.drawn ≡ self.old.receiving.drawn)
@@ -188,6 +193,9 @@ impl Rank {
         ensures happened { OnOk result (IfSome (kind_of self.old.requests r)
             (λ k. (bodies : Sent → List ℕ) →
             Happens bodies self.old.clock (cancel_events self.old.events k) self.old self.new)) }
+        ensures offers { OnOk result (IfSome (kind_of self.old.requests r) (λ k.
+            self.new.sending.offers
+            ≡ offers_cancelled self.old.events k self.old.sending.offers)) }
         ensures takes { OnOk result (TakesNone self.old self.new
             × (self.new.requests ≡ self.old.requests)) }
         ensures err { OnErr result (self.new ≡ self.old) }
@@ -208,9 +216,9 @@ impl Rank {
         }
     }
 
-    /// Records the answer of a line's command.
+    /// Records the answer of a line's command. The rank may have become worn by that command.
     pub fn ran(&mut self, line: u32, answer: Answer) -> Result<(), Memory>
-        requires fresh { IsFresh self.old }
+        requires in_time { self.old.clock < MAX_STAMP }
         ensures noted { OnOk result (Notes (event.Ran line answer ∷ []) self.old self.new) }
         ensures takes { OnOk result (TakesNone self.old self.new
             × (self.new.sending ≡ self.old.sending) × (self.new.receiving ≡ self.old.receiving)

@@ -1,6 +1,6 @@
 //! Sends and receives, and matched probes.
 
-ghost use Rattle.std.specs.Prelude.{◌≡◌, ◌+◌, ◌<◌, ◌≤◌, ℕ, List, [], ◌∷◌, ◌++◌, length, if◌then◌else◌, IfOk, IfSome, IsTrue};
+ghost use Rattle.std.specs.Prelude.{◌≡◌, ◌+◌, ◌<◌, ◌≤◌, ℕ, List, [], ◌∷◌, ◌++◌, None, length, if◌then◌else◌, IfOk, IfSome, IsTrue};
 ghost use Rattle.std.specs.Prelude.{MatchOption, OnErr, OnOk};
 ghost use Rattle.nm_types.specs.declared.limits.TheConstants.{MAX_BODY, MAX_EAGER, MAX_PACKETS, MAX_STAMP, MAX_TAG};
 ghost use Rattle.nm_types.specs.Bodies.{body_len, bytes_of};
@@ -11,6 +11,7 @@ ghost use Rattle.nm_history.specs.Sends.{Sent, is_ask, message_of, receives, sen
 ghost use Rattle.nm_request.specs.declared.Kind.TheVariants as kind;
 ghost use Rattle.nm_protocol.specs.Clock.{stamped};
 ghost use Rattle.nm_outbox.specs.Outboxes.{put_to};
+ghost use Rattle.nm_rndv.specs.Offers.{destined, with_asked, with_destined};
 ghost use Rattle.nm_sending.specs.Sent.{Puts};
 ghost use Rattle.nm_receiving.specs.Receipts.{taken_events};
 ghost use Rattle.nm_rank.specs.Calls.{Notes, Starts, TakesNone, clearance_of};
@@ -52,7 +53,7 @@ fn follow(journal: &mut Journal, sending: &mut Sending, taken: Option<Arrival>)
     ensures clock { journal.new.clock ≡ journal.old.clock + length (taken_events taken) }
     ensures room { journal.old.spare ≤ journal.new.spare + length (taken_events taken) }
     ensures puts { (called : ℕ) → called ≤ journal.new.clock → Puts (clearance_of called taken)
-        journal.new.clock sending.old.outbox sending.new.outbox }
+        None journal.new.clock sending.old.outbox sending.new.outbox }
     ensures same { sending.new ≡ record sending.old { outbox = sending.new.outbox } }
 {
     let Some(a) = taken else { return };
@@ -84,10 +85,27 @@ impl Rank {
         requires short { body_len body ≤ MAX_BODY }
         requires fresh { IsFresh self.old }
         ensures started { IfOk result (λ r. let n = length (sends self.old.events to) in
-            Starts (λ s. bytes_of body)
-            (event.Send to n tag ctx (body_len body)
-            (how_of self.old.sizes.eager sync (body_len body)) line ∷ []) (kind.Send to n) self.old
-            self.new r) }
+            let len = body_len body in
+            let how = how_of self.old.sizes.eager sync len in
+            (bodies : Sent → List ℕ) →
+            bodies (record {
+              stamp = self.old.clock + 1;
+              to = to;
+              n = n;
+              tag = tag;
+              ctx = ctx;
+              len = len;
+              how = how;
+              line = line;
+            }) ≡ bytes_of body →
+            Starts bodies (event.Send to n tag ctx len how line ∷ []) (kind.Send to n) self.old self.new
+            r) }
+        ensures offers { OnOk result (let offers = self.old.sending.offers in
+            self.new.sending.offers
+            ≡ (if is_ask (how_of self.old.sizes.eager sync (body_len body))
+            then with_destined offers to
+            (with_asked (destined offers to) (length (sends self.old.events to)) body)
+            else offers)) }
         ensures err { OnErr result (self.new ≡ self.old) }
     {
         let len = body.len();
@@ -126,6 +144,7 @@ impl Rank {
             (record { number = number; from = from; tag = tag; ctx = ctx; cap = cap }) line
             ∷ taken_events (first_message h (matched_pairs h) from tag ctx)) (kind.Receive number)
             self.old self.new r) }
+        ensures offers { OnOk result (self.new.sending.offers ≡ self.old.sending.offers) }
         ensures err { OnErr result (self.new ≡ self.old) }
     {
         sides_stay();
@@ -189,6 +208,7 @@ impl Rank {
             (bodies : Sent → List ℕ) → Starts bodies
             (event.Match number from n cap line ∷ taken_events (message_of self.old.events from n))
             (kind.Receive number) self.old self.new r) }
+        ensures offers { OnOk result (self.new.sending.offers ≡ self.old.sending.offers) }
         ensures err { OnErr result (self.new ≡ self.old) }
     {
         sides_stay();

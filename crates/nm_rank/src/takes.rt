@@ -1,6 +1,6 @@
 //! Packets and pieces that come.
 
-ghost use Rattle.std.specs.Prelude.{◌≡◌, ◌+◌, ◌<◌, ◌≤◌, ℕ, true, List, ◌++◌, length, option_to_list};
+ghost use Rattle.std.specs.Prelude.{◌≡◌, ◌+◌, ◌<◌, ◌≤◌, ℕ, true, None, List, ◌++◌, length, option_to_list};
 ghost use Rattle.std.specs.Prelude.{IfErr, IfOk, OnErr, OnOk};
 ghost use Rattle.nm_types.specs.declared.limits.TheConstants.{MAX_PACKETS, MAX_STAMP};
 ghost use Rattle.nm_history.specs.declared.events.Event.{Event};
@@ -85,8 +85,8 @@ fn reply(sending: &mut Sending, p: &Packet, n: u64, done_at_once: bool, stamp: u
     requires room { 0 < sending.old.outbox.spare }
     requires in_time { stamp ≤ MAX_STAMP }
     ensures puts { (called : ℕ) → called ≤ stamp →
-        Puts (reply_of n p.now.from p.now.what done_at_once called) stamp sending.old.outbox
-        sending.new.outbox }
+        Puts (reply_of n p.now.from p.now.what done_at_once called) None stamp
+        sending.old.outbox sending.new.outbox }
     ensures same { sending.new ≡ record sending.old { outbox = sending.new.outbox } }
 {
     match p.what {

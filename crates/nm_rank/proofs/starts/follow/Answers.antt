@@ -1,6 +1,3 @@
-use Rattle.std.proofs.Common.{arith, ◌≡◌, ◌≤◌, sym, subst, ℕ}
-use Rattle.nm_sending.specs.Sent.{Puts}
-use Rattle.nm_rank.specs.Calls.{clearance_of}
 use Rattle.nm_rank.proofs.PutLemmas.{puts-clearance}
 use Rattle.nm_rank.proofs.starts.follow.Goals as goal
 

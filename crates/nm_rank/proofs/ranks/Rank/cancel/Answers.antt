@@ -1,19 +1,18 @@
-use Rattle.std.proofs.Common.{◌≡◌, ℕ, ◌+◌, ◌≤◌, List, Some, refl, sym, ◌∙◌, ap, subst, arith}
+use Rattle.std.proofs.Common.{◌≡◌, ℕ, List, Some, sym, ◌∙◌, ap, subst, arith}
 use Rattle.std.specs.Prelude.{map, IfSome}
 use Rattle.nm_history.specs.Sends.{Sent}
-use Rattle.nm_journal.specs.Journals.{JournalView}
-use Rattle.nm_request.specs.declared.Kind.{Kind}
 use Rattle.nm_request.specs.declared.Kind.TheVariants as kind
 use Rattle.nm_request.specs.Requests.{kind_of}
 use Rattle.nm_sending.specs.Departures.{SendingView}
 use Rattle.nm_sending.specs.Sent.{AreSent}
 use Rattle.nm_rank.specs.Calls.{Happens}
 use Rattle.nm_rank.specs.Ranks.{RankView, seen}
-use Rattle.nm_rank.specs.Requests.{WasSent, cancel_events}
+use Rattle.nm_rndv.specs.Offers.{Offering}
+use Rattle.nm_rank.specs.Requests.{cancel_events, offers_cancelled}
 use Rattle.nm_history.specs.declared.events.Event.{Event}
-use Rattle.nm_rank.proofs.CancelLemmas.{fields-cancel, fields-recall, if-live, recall-puts}
-use Rattle.nm_rank.proofs.PutLemmas.{puts-same}
-use Rattle.nm_rank.proofs.ViewLemmas.{happens-room, same-events}
+use Rattle.nm_rank.proofs.CancelLemmas.{cancel-order, fields-cancel, fields-recall, if-live, recall-puts}
+use Rattle.nm_rank.proofs.PutLemmas.{cancel-leaves}
+use Rattle.nm_rank.proofs.ViewLemmas.{happens-room, same-events, same-offers}
 use Rattle.nm_rank.proofs.FinishLemmas.{found, was-started}
 use Rattle.nm_rank.proofs.Goes.{sent-outbox}
 use Rattle.nm_rank.proofs.RoomLemmas.{fields-room}
@@ -70,7 +69,9 @@ invariant_of-self-in-Send c =
     (c.in_ok-recall-in-Send.ensures.clock h roomy.history.sent)
     c.recall.ensures.room c.in_ok-make_room.ensures.two c.sides_stay.ensures.received
     c.in_ok-recall-in-Send.ensures.kept c.in_ok-recall-in-Send.ensures.staying
-    c.in_ok-recall-in-Send.ensures.order puts.me puts.popped
+    (cancel-order h (kind.Send c.in-Send.to c.in-Send.n) c.make_room.new.sending.offers
+    c.recall.new.sending.offers (c.in_ok-recall-in-Send.ensures.offers h roomy.history.sent))
+    puts.me puts.popped
 
 pub returns-in_ok-recall-in-Send-clause-happened : goal.returns-in_ok-recall-in-Send-clause-happened
 returns-in_ok-recall-in-Send-clause-happened c =
@@ -105,7 +106,29 @@ returns-in_ok-recall-in-Send-clause-happened c =
     a.sending c.make_room.new.sending c.recall.new.sending a.receiving a.receiving
     (map (λ s. s.known) a.streams.items) a.requests c.make_room.new.requests a.took.items a.pulled.items
     a.strays (cancel_events h (kind.Send to n)) c.make_room.ensures.events c.make_room.ensures.letters
-    (c.in_ok-recall-in-Send.ensures.events h roomy.history.sent) clock
+    (c.in_ok-recall-in-Send.ensures.events h roomy.history.sent) clock (cancel-leaves h (kind.Send to n))
     (recall-puts bodies h k to n c.recall.new.journal.clock c.make_room.new.sending.outbox
     c.recall.new.sending.outbox clock
-    (λ called below. c.in_ok-recall-in-Send.ensures.puts h called roomy.history.sent below)))))
+    (λ called below. c.in_ok-recall-in-Send.ensures.puts h called roomy.history.sent below))
+    c.in_ok-recall-in-Send.ensures.pushed)))
+
+pub returns-in_ok-recall-in-Send-clause-offers : goal.returns-in_ok-recall-in-Send-clause-offers
+returns-in_ok-recall-in-Send-clause-offers c =
+    let a = c.self.inside in
+    let roomy = fields-room a.me a.shape a.journal c.make_room.new.journal a.sending c.make_room.new.sending
+    a.receiving (map (λ s. s.known) a.streams.items) a.requests c.make_room.new.requests a.took.items
+    a.pulled.items
+    c.make_room.ensures.events c.make_room.ensures.kept c.make_room.ensures.letters
+    c.make_room.ensures.requests c.self.invariant in
+    let live : kind_of a.requests c.args.r ≡ Some (kind.Send c.in-Send.to c.in-Send.n) =
+    found (kind_of a.requests c.args.r) c.in-Ok.kind _ (sym c.in-Ok.is ∙ c.get.ensures.kind)
+    ∙ ap Some c.in-Send.is in
+    let h = c.make_room.new.journal.events in
+    let made = c.in_ok-recall-in-Send.ensures.offers h roomy.history.sent
+    ∙ ap (λ (o : Offering). offers_cancelled h (kind.Send c.in-Send.to c.in-Send.n) o)
+    (same-offers a.sending c.make_room.new.sending c.make_room.ensures.letters)
+    ∙ ap (λ (events : List Event). offers_cancelled events (kind.Send c.in-Send.to c.in-Send.n) a.sending.offers)
+    (same-events a.journal c.make_room.new.journal c.make_room.ensures.events) in
+    subst (λ (v : RankView). IfSome (kind_of v.requests c.args.r) (λ k. c.recall.new.sending.offers
+    ≡ offers_cancelled v.events k v.sending.offers)) c.self.view_is
+    (if-live (kind_of a.requests c.args.r) (kind.Send c.in-Send.to c.in-Send.n) _ live made)

@@ -1,4 +1,4 @@
-use Rattle.std.proofs.Common.{◌≡◌, ◌<◌, ◌∙◌, sym, subst, ap, ℕ}
+use Rattle.std.proofs.Common.{◌≡◌, ◌<◌, sym, subst}
 use Rattle.std.specs.Prelude.{map, option_to_list}
 use Rattle.nm_receiving.specs.Receipts.{ReceivingView}
 use Rattle.nm_rank.specs.Fields.{AreFields}

@@ -1,5 +1,4 @@
 use Rattle.std.proofs.Common.{◌≡◌, Some, refl, sym, ◌∙◌, ap, subst}
-use Rattle.std.specs.Prelude.{map}
 use Rattle.nm_request.specs.declared.Kind.TheVariants as kind
 use Rattle.nm_request.specs.Requests.{kind_of, FreesRequest}
 use Rattle.nm_rank.specs.Ranks.{RankView}

@@ -1,8 +1,8 @@
-use Rattle.std.proofs.Common.{◌≡◌, ℕ, ◌+◌, ◌<◌, List, [], ◌∷◌, ◌++◌, length, refl, sym, ◌∙◌, ap, subst, arith}
+use Rattle.std.proofs.Common.{◌≡◌, ◌+◌, ◌∷◌, length, refl, sym, ◌∙◌, ap, subst, arith}
 use Rattle.std.specs.Prelude.{map, Option}
 use Rattle.nm_types.specs.declared.messages.Arrival.{Arrival}
 use Rattle.nm_history.specs.declared.events.Happened.TheVariants as event
-use Rattle.nm_history.specs.Sends.{message_of, receives, Sent}
+use Rattle.nm_history.specs.Sends.{message_of, receives}
 use Rattle.nm_request.specs.declared.Kind.TheVariants as kind
 use Rattle.nm_sending.specs.Departures.{SendingView}
 use Rattle.nm_receiving.specs.Receipts.{taken_events}
@@ -72,9 +72,9 @@ returns-clause-started c = λ bodies. (
     (event.Match c.in_ok-started.started.number c.args.from c.args.n c.args.cap c.args.line) c.in_ok-started.started.taken c.unwrap.result
     c.make_room.ensures.events c.make_room.ensures.letters c.make_room.ensures.requests
     c.add.ensures.events c.add.ensures.clock c.follow.ensures.events c.follow.ensures.clock
-    c.follow.ensures.puts
+    c.follow.ensures.puts (ap (λ (s : SendingView). s.pushed) c.follow.ensures.same) (λ ws. refl)
     (λ to. subst (λ (t : Option Arrival). called_by bodies to h (stamped a.journal.clock (event.Match c.in_ok-started.started.number c.args.from c.args.n c.args.cap c.args.line ∷ taken_events t)) ≡ clearance_of (a.journal.clock + 1) t to) (sym taken)
     (match-calls bodies h a.journal.clock c.in_ok-started.started.number c.args.from c.args.n c.args.cap
     c.args.line to))
-    c.in_ok-started.ensures.streams c.in_ok-started.ensures.drawn
+    c.in_ok-started.ensures.streams c.in_ok-started.ensures.bytes c.in_ok-started.ensures.drawn
     (rw (c.unwrap.ensures) at c.add-2.ensures.ok))))

@@ -1,9 +1,9 @@
-use Rattle.std.proofs.Common.{◌≡◌, ℕ, ◌+◌, ◌<◌, List, [], ◌∷◌, ◌++◌, length, refl, sym, ◌∙◌, ap, subst, arith}
+use Rattle.std.proofs.Common.{◌≡◌, ◌+◌, ◌∷◌, length, refl, sym, ◌∙◌, ap, subst, arith}
 use Rattle.std.specs.Prelude.{map, Option}
 use Rattle.nm_types.specs.declared.messages.Arrival.{Arrival}
 use Rattle.nm_history.specs.declared.events.Happened.TheVariants as event
 use Rattle.nm_history.specs.Matching.{first_message, matched_pairs}
-use Rattle.nm_history.specs.Sends.{receives, Sent}
+use Rattle.nm_history.specs.Sends.{receives}
 use Rattle.nm_request.specs.declared.Kind.TheVariants as kind
 use Rattle.nm_sending.specs.Departures.{SendingView}
 use Rattle.nm_receiving.specs.Receipts.{taken_events}
@@ -101,7 +101,7 @@ returns-clause-started c = λ bodies. (
     }) c.args.line) c.in_ok-started.started.taken c.unwrap.result
     c.make_room.ensures.events c.make_room.ensures.letters c.make_room.ensures.requests
     c.add.ensures.events c.add.ensures.clock c.follow.ensures.events c.follow.ensures.clock
-    c.follow.ensures.puts
+    c.follow.ensures.puts (ap (λ (s : SendingView). s.pushed) c.follow.ensures.same) (λ ws. refl)
     (λ to. subst (λ (t : Option Arrival). called_by bodies to h (stamped a.journal.clock (event.Post
     (record {
       number = c.in_ok-started.started.number;
@@ -117,5 +117,5 @@ returns-clause-started c = λ bodies. (
       ctx = c.args.ctx;
       cap = c.args.cap;
     })))
-    c.in_ok-started.ensures.streams c.in_ok-started.ensures.drawn
+    c.in_ok-started.ensures.streams c.in_ok-started.ensures.bytes c.in_ok-started.ensures.drawn
     (rw (c.unwrap.ensures) at c.add-2.ensures.ok))))

@@ -1,6 +1,4 @@
-use Rattle.std.proofs.Common.{◌≡◌, ◌∙◌, sym, subst, ap, ℕ, replicate}
 use Rattle.std.specs.Prelude.{map}
-use Rattle.nm_protocol.specs.Known.{nothing_known}
 use Rattle.nm_rank.proofs.NewLemmas.{fields-new}
 use Rattle.nm_rank.proofs.ranks.Rank.new.Goals as goal
 

@@ -1,4 +1,4 @@
-use Rattle.std.proofs.Common.{◌≡◌, ◌<◌, length, sym, ap, subst, append-nil, arith, ◌∙◌}
+use Rattle.std.proofs.Common.{length, sym, ap, subst, append-nil, arith}
 use Rattle.std.specs.Prelude.{Some, None, IsSome}
 use Rattle.nm_rank.specs.Ranks.{RankView}
 use Rattle.nm_rndv.specs.Offers.{next_offered}

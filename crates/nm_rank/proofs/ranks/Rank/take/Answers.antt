@@ -1,8 +1,8 @@
-use Rattle.std.proofs.Common.{◌≡◌, ◌<◌, ◌∙◌, ◌+◌, ℕ, false, List, length, sym, ap, subst}
+use Rattle.std.proofs.Common.{◌≡◌, ◌<◌, ◌∙◌, ◌+◌, ℕ, length, sym, ap, subst}
 use Rattle.std.specs.Prelude.{map, slice_set}
 use Rattle.nm_protocol.specs.Continues.{continues}
 use Rattle.nm_protocol.specs.Known.{Known}
-use Rattle.nm_rank.specs.Calls.{TakesPacket, taken_of}
+use Rattle.nm_rank.specs.Calls.{TakesPacket}
 use Rattle.nm_rank.specs.Ranks.{RankView, known_from, count_of, seen}
 use Rattle.nm_rank.proofs.AcceptedLemmas.{streams-low}
 use Rattle.nm_rank.proofs.TakeLemmas.{known-at, known_of}

@@ -1,5 +1,5 @@
-use Rattle.std.proofs.Common.{◌≡◌, ◌<◌, ◌≤◌, ◌∙◌, ◌+◌, ◌++◌, ℕ, true, List, length, sym, ap, subst, refl, rules, arith}
-use Rattle.std.specs.Prelude.{map, max, slice_set, option_to_list}
+use Rattle.std.proofs.Common.{◌≡◌, ◌<◌, ◌≤◌, ◌∙◌, ◌+◌, ◌++◌, ℕ, true, List, length, sym, ap, subst, rules, arith}
+use Rattle.std.specs.Prelude.{None, map, max, slice_set, option_to_list}
 use Rattle.nm_protocol.specs.Continues.{continues}
 use Rattle.nm_protocol.specs.Effects.{packet_events}
 use Rattle.nm_protocol.specs.Known.{Known}
@@ -221,8 +221,11 @@ returns-clause-taken c = let a = c.self.inside in
     first second raised c.note.ensures.clock c.note-2.ensures.clock)
     c.in_ok-done_at_once.ensures.accepts.outbox
     (subst (λ (t : ℕ). (called : ℕ) → called ≤ t →
-    Puts (reply_of c.count-n.result p.from p.what c.in_ok-done_at_once.done_at_once called) t
+    Puts (reply_of c.count-n.result p.from p.what c.in_ok-done_at_once.done_at_once called) None t
     c.accept.new.sending.outbox c.reply.new.sending.outbox) c.clock.ensures.value c.reply.ensures.puts)
+    (ap (λ (s : SendingView). s.pushed) c.reply.ensures.same ∙ c.in_ok-done_at_once.ensures.accepts.pushed)
+    (ap (λ (s : SendingView). s.offers) c.reply.ensures.same ∙ c.in_ok-done_at_once.ensures.accepts.offers)
+    c.in_ok-done_at_once.ensures.accepts.bytes (c.self.invariant.told.counts p.from within)
     (known-set a.streams.items p.from c.index_mut-stream.result.now c.reserve.new.self c.learn.new.self
     p.what (length p.payload) low c.index_mut-stream.ensures.value c.reserve.ensures.same c.learn.ensures)
     number c.in_ok-done_at_once.ensures.accepts.drawn)

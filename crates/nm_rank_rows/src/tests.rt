@@ -3,7 +3,7 @@
 ghost use Rattle.std.specs.Prelude.{◌≡◌, ◌<◌, ◌≤◌, IfOk};
 ghost use Rattle.nm_types.specs.declared.limits.TheConstants.{MAX_BODY, MAX_PAYLOAD, MAX_STAMP};
 
-use crate::{Cancelled, FinishFault, Rank, Req, State};
+use nm_rank::{Cancelled, FinishFault, Rank, Req, State};
 use nm_types::{Answer, Body, MAX_STAMP, Packet, Payload, Peer, Seen, Shape, TagPick, What};
 use std::alloc::Global;
 use std::process::Abort;
@@ -127,7 +127,10 @@ fn send(rt: &impl Abort, rank: &mut Rank, len: u32, sync: bool) -> Result<Req, F
     ensures { rank.new.sizes.ranks ≡ 2 }
 {
     assert!(rt; !rank.is_worn());
-    Ok(rank.isend(1, 7, 0, Body::Gen(len), sync, 2)?)
+    match rank.isend(1, 7, 0, Body::Gen(len), sync, 2) {
+        Ok(r) => Ok(r),
+        Err(memory) => Err(memory.into()),
+    }
 }
 
 /// Starts a receive of any message of at most so many bytes.

@@ -1,6 +1,6 @@
 use Rattle.std.proofs.Common.{◌≡◌, ◌∙◌, ap, []}
 use Rattle.nm_types.specs.Sizes.{Sizes}
-use Rattle.nm_rank.proofs.tests.receive.Goals as goal
+use Rattle.nm_rank_rows.proofs.tests.receive.Goals as goal
 
 -- whatever the bodies of messages are
 pub returns-in-Ok : goal.returns-in-Ok
