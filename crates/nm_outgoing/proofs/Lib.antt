@@ -1,0 +1,12 @@
+pub mod Turns
+pub mod Packets
+pub mod Offers
+pub mod Steps
+pub mod Destinations
+pub mod Pieces
+pub mod Calls
+pub mod Numbered
+pub mod Taken
+pub mod Sending
+pub mod Leaving
+pub mod Pushing
