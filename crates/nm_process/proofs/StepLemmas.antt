@@ -1,0 +1,777 @@
+-- What a process's next command did, and that the process is still at work.
+use Rattle.std.specs.Prelude.{if◌then◌else◌}
+use Rattle.std.proofs.Common.{◌≡◌, ◌⊎◌, ℕ, ◌+◌, ◌==◌, Bool, true, false, not, ◌&&◌, ◌||◌, Option, Some}
+use Rattle.std.proofs.Common.{None, List, [], ◌∷◌, ◌++◌, length, map, refl, sym, ◌∙◌, ap, subst}
+use Rattle.std.proofs.Common.{append_assoc, append-nil, ⊎_elim}
+use Rattle.std.specs.Prelude.{IsSome, is_some, nat_eq, nat_lt, option_map, replicate, unwrap_or}
+use Rattle.std.specs.List.{All, filter, filter_map, find, list_any}
+use Rattle.std.specs.Map.{lookup}
+use Rattle.std.specs.Option.{option_and_then, option_map_or}
+use Rattle.std.proofs.lemmas.List.Elements.{All-cons, All-nil}
+use Rattle.nm_types.specs.declared.answers.Answer.{Answer}
+use Rattle.nm_types.specs.declared.answers.Answer.TheVariants as answer
+use Rattle.nm_types.specs.declared.messages.Arrival.{Arrival}
+use Rattle.nm_types.specs.declared.messages.Peer.{Peer}
+use Rattle.nm_types.specs.declared.messages.TagPick.{TagPick}
+use Rattle.nm_types.specs.declared.scripts.Body.{Body}
+use Rattle.nm_types.specs.declared.scripts.Command.{Command}
+use Rattle.nm_types.specs.declared.scripts.Command.TheVariants as command
+use Rattle.nm_types.specs.declared.scripts.Line.{Line}
+use Rattle.nm_types.specs.Bodies.{body_len, bytes_of}
+use Rattle.nm_types.specs.Commands.{Numbered, commands_of}
+use Rattle.nm_types.specs.Sizes.{Sizes}
+use Rattle.nm_history.specs.declared.events.Event.{Event}
+use Rattle.nm_history.specs.declared.events.Happened.{Happened}
+use Rattle.nm_history.specs.declared.events.Happened.TheVariants.{Send, Post, Cancel, Recall, Claim}
+use Rattle.nm_history.specs.declared.events.Happened.TheVariants.{Match, Ran}
+use Rattle.nm_history.specs.declared.plain.Pair.{Pair}
+use Rattle.nm_history.specs.Answers.{Message, answer_of, arrival_claimed, can_go_on, cancel_answer}
+use Rattle.nm_history.specs.Answers.{claim_at, is_claim_for, is_question_of, is_receive_of, is_result}
+use Rattle.nm_history.specs.Answers.{is_seen, is_start_of, is_started, live, live_message, seen}
+use Rattle.nm_history.specs.Answers.{without_bytes}
+use Rattle.nm_history.specs.Answers as answers
+use Rattle.nm_history.specs.AtEach.{AtEach}
+use Rattle.nm_history.specs.Underway.{is_answer}
+use Rattle.nm_history.specs.Completion.{Request, is_complete, is_here, pair_of_receive, result_of, shown}
+use Rattle.nm_history.specs.Completion.Request.{Sending, Receiving}
+use Rattle.nm_history.specs.Happens.{happened, is_cancel, is_recall, is_undone}
+use Rattle.nm_history.specs.Matching.{first_message, is_of_receive, matched_pairs}
+use Rattle.nm_history.specs.RankRun.{CancelsFor, CancelsOf, how_of, is_cancelling, is_matched_probe}
+use Rattle.nm_history.specs.RankRun.{is_start, line_of_claim, start_of, without_number}
+use Rattle.nm_history.specs.Sends.{Sent, message_of, messages, receives, sends}
+use Rattle.nm_history.proofs.AtEachLemmas.{AtEach-split}
+use Rattle.nm_history.proofs.MatchingLemmas.{matched_pairs-push_other}
+use Rattle.nm_history.proofs.OnceLemmas.{eqb_self, messages-push}
+use Rattle.nm_match.proofs.PushLemmas.{happened-push}
+use Rattle.nm_protocol.specs.Clock.{stamped}
+use Rattle.nm_protocol.specs.Rules.{AreRight, IsRightAt}
+use Rattle.nm_request.specs.declared.Kind.{Kind}
+use Rattle.nm_request.specs.declared.Kind.TheVariants as kind
+use Rattle.nm_rndv.specs.Offers.{Offering}
+use Rattle.nm_receiving.specs.Receipts.{is_empty_ask, taken_events}
+use Rattle.nm_rank.specs.Ranks.{RankView, request_of}
+use Rattle.nm_rank.specs.Requests.{cancel_answer as cancelled, cancel_events}
+use Rattle.nm_process.specs.declared.steps.Step.{Step}
+use Rattle.nm_process.specs.declared.steps.Step.TheVariants.{Waits, Ran as Took}
+use Rattle.nm_process.specs.Names.{handled, message_with, named, request_named}
+use Rattle.nm_process.specs.Places.{IsNext, NoneBetween}
+use Rattle.nm_process.specs.Processes.{ProcessView}
+use Rattle.nm_process.specs.Starts.{HasAnswered, HasAwaited, HasCancelled, HasClaimed, HasEnded}
+use Rattle.nm_process.specs.Starts.{HasFoundNone, HasMatched, HasProbed, HasStarted, HasTried, IsBusy}
+use Rattle.nm_process.specs.Starts.{IsHandleBusy, IsHandleNull, IsNull, KeepsHandles, HasTriedMprobe}
+use Rattle.nm_process.specs.Starts.{HasTriedMrecv, HasTriedReceive, HasTriedSend, HasTriedTest}
+use Rattle.nm_process.specs.Starts.{answer_for, message_probed, offers_sent, sent_now}
+use Rattle.nm_process.specs.Steps.{HasStepped, can_go_on_by, goes_on}
+use Rattle.nm_process.specs.Work.{IsAtWork, line_of}
+use Rattle.nm_process.proofs.DoingLemmas.{MayDo}
+use Rattle.nm_process.proofs.LineLemmas.{claim_made, no_claim_yet}
+use Rattle.nm_process.proofs.MessageLemmas.{first_is_message}
+use Rattle.nm_process.proofs.MidLemmas.{Mid, below_line, claimed_handles, ended_names, found}
+use Rattle.nm_process.proofs.MidLemmas.{kept_handles, kept_names, mid_line, mid_none, mid_other}
+use Rattle.nm_process.proofs.MidLemmas.{mid_start, received_handles, request_start, started_names, works}
+use Rattle.nm_process.proofs.PacketLemmas.{after_parts, are_of_packets, right_numbers, whole_of_packets}
+use Rattle.nm_process.proofs.PlaceLemmas.{next_command, none_is_next}
+
+and_false : (b : Bool) → (b && false) ≡ false
+and_false true = refl
+and_false false = refl
+
+-- the results of requests
+is_result_if : (b c : Bool) (x y : Answer) (a : Answer) → is_result x ≡ true → is_result y ≡ true →
+    (if b then Some (if c then x else y) else None) ≡ Some a → is_result a ≡ true
+is_result_if true true x y a p q is = let same : x ≡ a = cc in ap is_result (sym same) ∙ p
+is_result_if true false x y a p q is = let same : y ≡ a = cc in ap is_result (sym same) ∙ q
+is_result_if false c x y a p q is = cc
+
+shown_is_result : (pair : Pair) → is_result (shown pair) ≡ true
+shown_is_result pair = by_test (nat_lt pair.cap pair.arrival.env.len) where
+  by_test : (b : Bool) → is_result (if b then answer.Cut pair.arrival.env.from pair.arrival.env.tag
+      pair.arrival.env.len else answer.Got pair.arrival.env.from pair.arrival.env.tag
+      (replicate pair.arrival.env.len 0)) ≡ true
+  by_test true = refl
+  by_test false = refl
+
+result_is_result : (h : List Event) (r : Request) (a : Answer) → result_of h r ≡ Some a → is_result a ≡ true
+result_is_result h (Sending to n) a is = is_result_if (is_complete h (Sending to n))
+    (happened (is_undone to n true) h) answer.Cancelled answer.Sent a refl refl is
+result_is_result h (Receiving number) a is = by_cancel (happened (is_cancel number) h) is where
+  by_here : (b : Bool) (pair : Pair) → (if b then Some (shown pair) else None) ≡ Some a → is_result a ≡ true
+  by_here true pair is = let same : shown pair ≡ a = cc in ap is_result (sym same) ∙ shown_is_result pair
+  by_here false pair is = cc
+
+  by_pair : (o : Option Pair) →
+      option_and_then (λ pair. if is_here h pair then Some (shown pair) else None) o ≡ Some a →
+      is_result a ≡ true
+  by_pair None is = cc
+  by_pair (Some pair) is = by_here (is_here h pair) pair is
+
+  by_cancel : (b : Bool) → (if b then Some answer.Cancelled else option_and_then
+      (λ pair. if is_here h pair then Some (shown pair) else None) (pair_of_receive h number)) ≡ Some a →
+      is_result a ≡ true
+  by_cancel true is = let same : answer.Cancelled ≡ a = cc in ap is_result (sym same)
+  by_cancel false is = by_pair (pair_of_receive h number) is
+
+result_same : (a : Answer) → is_result (without_bytes a) ≡ is_result a
+result_same (answer.Got from tag body) = refl
+result_same a = refl
+
+result_not_started : (a : Answer) → is_result a ≡ true → is_started a ≡ false
+result_not_started answer.Started is = cc
+result_not_started a is = refl
+
+-- a request that is not complete has no result
+no_result : (h : List Event) (r : Request) → is_complete h r ≡ false → result_of h r ≡ None
+no_result h (Sending to n) pending = rw pending refl
+no_result h (Receiving number) pending = by_cancel (happened (is_cancel number) h)
+    (pair_of_receive h number) pending where
+      by_here : (b : Bool) (pair : Pair) → b ≡ false → (if b then Some (shown pair) else None) ≡ None
+      by_here true pair pending = cc
+      by_here false pair pending = refl
+
+      by_cancel : (b : Bool) (o : Option Pair) → (b || option_map_or (is_here h) o false) ≡ false →
+          (if b then Some answer.Cancelled else option_and_then
+          (λ pair. if is_here h pair then Some (shown pair) else None) o) ≡ None
+      by_cancel true o pending = cc
+      by_cancel false None pending = refl
+      by_cancel false (Some pair) pending = by_here (is_here h pair) pair pending
+
+taken_of_packets : (o : Option Arrival) → are_of_packets (taken_events o) ≡ true
+taken_of_packets None = refl
+taken_of_packets (Some a) = whole_of_packets (is_empty_ask a) a.env.from a.n
+
+-- how starts are answered
+busy_is : (o : Option Request) → IsSome o → Some (if is_some o then answer.Busy else answer.Started)
+    ≡ Some answer.Busy
+busy_is (Some r) some = refl
+busy_is None some = cc
+
+-- the second last event of a history that is right
+right_at : (ranks : ℕ) (h : List Event) (e f : Event) (k : List Event) → k ≡ (h ++ e ∷ []) ++ f ∷ [] →
+    AreRight ranks [] k → IsRightAt ranks h e.what
+unfolding AtEach
+right_at ranks h e f k is right = AtEach-split (λ h e. IsRightAt ranks h e.what) h e (f ∷ [])
+    (subst (λ (k : List Event). AreRight ranks [] k) (is ∙ append_assoc h (e ∷ []) (f ∷ [])) right)
+
+right_front : (ranks : ℕ) (h : List Event) (e f : Event) (k : List Event) → k ≡ (h ++ e ∷ []) ++ f ∷ [] →
+    AreRight ranks [] k → AreRight ranks [] h
+right_front ranks h e f k is right =
+    (after_parts (λ h e. IsRightAt ranks h e.what) [] h (e ∷ f ∷ [])
+    (subst (λ (k : List Event). AreRight ranks [] k) (is ∙ append_assoc h (e ∷ []) (f ∷ [])) right)).0
+
+module _ (shape : Sizes) (lines : List Line) (a b : ProcessView) (place : ℕ) (l : Line)
+    (work : IsAtWork shape lines a) (is : IsNext lines a.rank.me a.next place l)
+    (at : b.at ≡ a.at + 1) (next : b.next ≡ place + 1) where
+  abbrev commands : List Numbered
+  commands = commands_of a.rank.me lines
+
+  abbrev h : List Event
+  h = a.rank.events
+
+  -- the command has an answer alone
+  alone : (c : Command) (x : Answer) → l.command ≡ c →
+      HasAnswered a (record b { at = a.at; next = a.next }) (place + 2) x →
+      answer_of (commands_of a.rank.me lines) a.rank.events (place + 2) c ≡ Some (without_bytes x) →
+      is_started x ≡ false → CancelsFor (commands_of a.rank.me lines) a.rank.events c →
+      (is_matched_probe c && is_seen x) ≡ false →
+      ((q : ℕ) → (is_question_of q c && is_result x) ≡ false) →
+      ((m : ℕ) → (is_claim_for m c && is_seen x) ≡ false) → IsAtWork shape lines b
+  alone c x same has right not_started off no_claim no_end no_handle =
+      let none = mid_none shape lines a place l work is in
+      works shape lines a place l work is a b c h x [] [] [] same refl refl refl has at next none right
+      (rw not_started refl) off (rw no_claim refl)
+      (kept_names shape lines a place l work is a c h (a.rank.clock + 1) x [] [] [] same none
+      (λ q. ap (λ t. is_start_of q c && t) not_started ∙ and_false (is_start_of q c)) no_end
+      (λ q. refl))
+      (kept_handles shape lines a place l work is b c h (a.rank.clock + 1) x [] [] [] same none no_handle
+      (λ m. ap (λ t. is_receive_of m c && t) not_started ∙ and_false (is_receive_of m c))
+      (λ m. ap (λ (v : ProcessView). handled v m) has.others))
+
+  -- the command started what happened here
+  starts : (Fits : (Sent → List ℕ) → Type 0) (offers : Offering) (w : Happened) (ws : List Happened)
+      (k : Kind) (c : Command) (q : ℕ) (bodies : Sent → List ℕ) → Fits bodies →
+      l.command ≡ c → (p : HasStarted Fits offers (w ∷ ws) k a (record b { at = a.at; next = a.next }) q
+      (place + 2)) →
+      is_answer w ≡ false → line_of w ≡ place + 2 →
+      MayDo shape.eager (commands_of a.rank.me lines) a.rank.events w → are_of_packets ws ≡ true →
+      answers.request_of (place + 2) w ≡ Some (request_of k) →
+      filter is_cancelling (w ∷ []) ≡ [] → filter_map line_of_claim (w ∷ []) ≡ [] →
+      ((k : ℕ) → is_start_of k c ≡ (q == k)) → ((k : ℕ) → is_question_of k c ≡ false) →
+      ((k : ℕ) → is_claim_for k c ≡ false) → is_matched_probe c ≡ false →
+      (Mid shape lines a place (a.rank.events ++ stamped a.rank.clock (w ∷ ws))
+      (filter is_start (w ∷ [])) [] [] →
+      (answer_of (commands_of a.rank.me lines) (a.rank.events ++ stamped a.rank.clock (w ∷ ws))
+      (place + 2) c ≡ Some answer.Started)
+      × (map without_number (filter is_start (w ∷ [])) ≡ start_of shape.eager
+      (commands_of a.rank.me lines) (a.rank.events ++ stamped a.rank.clock (w ∷ ws)) (place + 2) c)
+      × CancelsFor (commands_of a.rank.me lines) (a.rank.events ++ stamped a.rank.clock (w ∷ ws)) c
+      × ((m : ℕ) → handled b m ≡ live_message (commands_of a.rank.me lines)
+      ((a.rank.events ++ stamped a.rank.clock (w ∷ ws)) ++ record {
+        stamp = p.mid.rank.clock + 1;
+        what =
+            Ran (place + 2) answer.Started;
+      } ∷ []) m)) → IsAtWork shape lines b
+  starts Fits offers w ws k c q bodies fits same p none line_is may packets made no_cancel no_claim
+      start_names end_names claim_names no_probe rest =
+      let started = p.begun.starts bodies fits in
+      let h' : List Event = h ++ stamped a.rank.clock (w ∷ ws) in
+      let mid : Mid shape lines a place h' (filter is_start (w ∷ [])) [] [] =
+      subst (λ (cs : List Happened). Mid shape lines a place h' (filter is_start (w ∷ [])) cs []) no_cancel
+      (subst (λ (ls : List ℕ). Mid shape lines a place h' (filter is_start (w ∷ []))
+      (filter is_cancelling (w ∷ [])) ls) no_claim
+      (mid_start shape lines a place l work is a.rank.clock w ws none line_is may packets)) in
+      let r = rest mid in
+      works shape lines a place l work is p.mid b c h' answer.Started (filter is_start (w ∷ [])) [] []
+      same started.takes.me started.takes.sizes started.happened.events p.answered at next mid
+      r.0 r.1 r.2 (rw no_probe refl)
+      (started_names shape lines a place l work is p.mid c h' (p.mid.rank.clock + 1) answer.Started
+      (filter is_start (w ∷ [])) [] [] q (request_of k) same mid refl start_names end_names
+      (request_start shape lines a place l work is a.rank.clock w ws (request_of k) made packets)
+      p.begun.names) r.3
+
+  -- the handles after a start that is of none
+  start_handles : (c : Command) (h' : List Event) (stamp : ℕ) (s cs : List Happened) (ls : List ℕ) →
+      l.command ≡ c → Mid shape lines a place h' s cs ls →
+      ((k : ℕ) → is_claim_for k c ≡ false) → ((k : ℕ) → is_receive_of k c ≡ false) →
+      KeepsHandles a (record b { at = a.at; next = a.next }) →
+      (m : ℕ) → handled b m ≡ live_message (commands_of a.rank.me lines)
+      (h' ++ record { stamp = stamp; what = Ran (place + 2) answer.Started } ∷ []) m
+  start_handles c h' stamp s cs ls same mid claims receives keeps =
+      kept_handles shape lines a place l work is b c h' stamp answer.Started s cs ls same mid
+      (λ m. rw (claims m) refl) (λ m. rw (receives m) refl)
+      (λ m. ap (λ es. option_map message_with (lookup (nat_eq m) es)) keeps.handles)
+
+  -- the request of a name ended
+  ends : (c : Command) (q : ℕ) → l.command ≡ c →
+      (p : HasEnded a (record b { at = a.at; next = a.next }) q (place + 2)) →
+      answer_of (commands_of a.rank.me lines) a.rank.events (place + 2) c ≡ Some
+      (without_bytes p.answer) → CancelsFor (commands_of a.rank.me lines) a.rank.events c →
+      ((k : ℕ) → is_start_of k c ≡ false) → ((k : ℕ) → is_question_of k c ≡ (q == k)) →
+      ((k : ℕ) → is_claim_for k c ≡ false) → is_matched_probe c ≡ false → IsAtWork shape lines b
+  ends c q same p right off start_names end_names claim_names no_probe =
+      let none = mid_none shape lines a place l work is in
+      let e = p.ends in
+      let result : is_result p.answer ≡ true = sym (result_same p.answer)
+      ∙ result_is_result h (request_of e.kind) (without_bytes p.answer) (sym e.gives.result) in
+      let not_started = result_not_started p.answer result in
+      works shape lines a place l work is p.mid b c h p.answer [] [] [] same
+      (ap (λ (v : RankView). v.me) e.same) (ap (λ (v : RankView). v.sizes) e.same)
+      (ap (λ (v : RankView). v.events) e.same)
+      p.answered at next none right (rw not_started refl) off (rw no_probe refl)
+      (ended_names shape lines a place l work is p.mid c h (p.mid.rank.clock + 1) p.answer [] [] [] q same
+      none result start_names end_names e.names)
+      (kept_handles shape lines a place l work is b c h (p.mid.rank.clock + 1) p.answer [] [] [] same none
+      (λ m. rw (claim_names m) refl)
+      (λ m. ap (λ t. is_receive_of m c && t) not_started ∙ and_false (is_receive_of m c))
+      (λ m. ap (λ (v : ProcessView). handled v m) p.answered.others
+      ∙ ap (λ es. option_map message_with (lookup (nat_eq m) es)) e.handles.handles))
+
+  -- a start of a name that is taken
+  busy : (c : Command) (q : ℕ) → l.command ≡ c → IsBusy a (record b { at = a.at; next = a.next }) q
+      (place + 2) →
+      answer_of (commands_of a.rank.me lines) a.rank.events (place + 2) c ≡ Some
+      (if is_some (live (commands_of a.rank.me lines) a.rank.events q) then answer.Busy
+      else answer.Started) →
+      CancelsFor (commands_of a.rank.me lines) a.rank.events c → IsAtWork shape lines b
+  busy c q same p answer_is off =
+      alone c answer.Busy same p.answered
+      (answer_is ∙ ap (λ (o : Option Request). Some (if is_some o then answer.Busy else answer.Started))
+      (sym (work.requests q)) ∙ busy_is (named a q) p.taken)
+      refl off (and_false (is_matched_probe c)) (λ k. and_false (is_question_of k c))
+      (λ k. and_false (is_claim_for k c))
+
+  started_is : (h' : List Event) (s cs : List Happened) (ls : List ℕ) (q : ℕ) →
+      Mid shape lines a place h' s cs ls → named a q ≡ None →
+      Some (if is_some (live (commands_of a.rank.me lines) h' q) then answer.Busy else answer.Started)
+      ≡ Some answer.Started
+  started_is h' s cs ls q mid free =
+      ap (λ (o : Option Request). Some (if is_some o then answer.Busy else answer.Started)) (mid.live_is q
+      ∙ free)
+
+  sends_one : (q to tag ctx : ℕ) (body : Body) (sync : Bool) →
+      l.command ≡ command.Send q to tag ctx body sync →
+      HasTriedSend a (record b { at = a.at; next = a.next }) q to tag ctx body sync (place + 2) →
+      IsAtWork shape lines b
+  sends_one q to tag ctx body sync same tried =
+      ⊎_elim (λ taken. busy c q same taken refl work.cancels.no_others) (λ p. start p.0 p.1) tried where
+        c : Command
+        c = command.Send q to tag ctx body sync
+
+        n : ℕ
+        n = length (sends a.rank.events to)
+
+        w : Happened
+        w = Send to n tag ctx (body_len body) (how_of a.rank.sizes.eager sync (body_len body)) (place + 2)
+
+        start : HasStarted (λ bodies. bodies (sent_now a.rank to tag ctx body sync (place + 2))
+            ≡ bytes_of body) (offers_sent a.rank to body sync) (w ∷ []) (kind.Send to n) a
+            (record b { at = a.at; next = a.next }) q (place + 2) →
+            KeepsHandles a (record b { at = a.at; next = a.next }) → IsAtWork shape lines b
+        start p keeps = starts (λ bodies. bodies (sent_now a.rank to tag ctx body sync (place + 2))
+            ≡ bytes_of body) (offers_sent a.rank to body sync) w [] (kind.Send to n) c q
+            (λ s. bytes_of body) refl
+            same p refl refl (record { starts = tt; cancels = tt; claims = tt }) refl
+            (rw (eqb_self (place + 2)) refl) refl refl (λ k. refl) (λ k. refl) (λ k. refl) refl
+            (λ mid. (
+              started_is (a.rank.events ++ stamped a.rank.clock (w ∷ [])) (w ∷ []) [] [] q mid p.free,
+              ap (λ (z : Sizes). Send to 0 tag ctx (body_len body) (how_of z.eager sync (body_len body))
+                  (place + 2) ∷ []) work.sizes,
+              mid.since.cancels,
+              start_handles c (a.rank.events ++ stamped a.rank.clock (w ∷ [])) (p.mid.rank.clock + 1)
+                  (w ∷ []) [] [] same mid (λ k. refl) (λ k. refl) keeps,
+            ))
+
+  receives_one : (q : ℕ) (from : Peer) (tag : TagPick) (ctx room : ℕ) →
+      l.command ≡ command.Recv q from tag ctx room →
+      HasTriedReceive a (record b { at = a.at; next = a.next }) q from tag ctx room (place + 2) →
+      IsAtWork shape lines b
+  receives_one q from tag ctx room same tried =
+      ⊎_elim (λ taken. busy c q same taken refl work.cancels.no_others) (λ p. start p.0 p.1) tried where
+        c : Command
+        c = command.Recv q from tag ctx room
+
+        number : ℕ
+        number = length (receives a.rank.events)
+
+        w : Happened
+        w = Post (record { number = number; from = from; tag = tag; ctx = ctx; cap = room }) (place + 2)
+
+        ws : List Happened
+        ws = taken_events (first_message a.rank.events (matched_pairs a.rank.events) from tag ctx)
+
+        start : HasStarted (λ bodies. Unit {0}) a.rank.sending.offers (w ∷ ws) (kind.Receive number) a
+            (record b { at = a.at; next = a.next }) q (place + 2) →
+            KeepsHandles a (record b { at = a.at; next = a.next }) → IsAtWork shape lines b
+        start p keeps = starts (λ bodies. Unit {0}) a.rank.sending.offers w ws (kind.Receive number) c q
+            (λ s. []) tt
+            same p refl refl (record { starts = tt; cancels = tt; claims = tt })
+            (taken_of_packets (first_message a.rank.events (matched_pairs a.rank.events) from tag ctx))
+            (rw (eqb_self (place + 2)) refl) refl refl
+            (λ k. refl) (λ k. refl) (λ k. refl) refl
+            (λ mid. (
+              started_is (a.rank.events ++ stamped a.rank.clock (w ∷ ws)) (w ∷ []) [] [] q mid p.free,
+              refl,
+              mid.since.cancels,
+              start_handles c (a.rank.events ++ stamped a.rank.clock (w ∷ ws)) (p.mid.rank.clock + 1)
+                  (w ∷ []) [] [] same mid (λ k. refl) (λ k. refl) keeps,
+            ))
+
+  -- a request that the name doesn't stand for
+  null : (c : Command) (q : ℕ) → l.command ≡ c → IsNull a (record b { at = a.at; next = a.next }) q
+      (place + 2) →
+      (live (commands_of a.rank.me lines) a.rank.events q ≡ None →
+      answer_of (commands_of a.rank.me lines) a.rank.events (place + 2) c ≡ Some answer.Null) →
+      (live (commands_of a.rank.me lines) a.rank.events q ≡ None →
+      CancelsFor (commands_of a.rank.me lines) a.rank.events c) → IsAtWork shape lines b
+  null c q same p right off =
+      let none = sym (work.requests q) ∙ p.free in
+      alone c answer.Null same p.answered (right none) refl (off none) (and_false (is_matched_probe c))
+      (λ k. and_false (is_question_of k c)) (λ k. and_false (is_claim_for k c))
+
+  waits_one : (q : ℕ) → l.command ≡ command.Wait q → IsNull a (record b { at = a.at; next = a.next }) q
+      (place + 2) ⊎ HasEnded a (record b { at = a.at; next = a.next }) q (place + 2) →
+      IsAtWork shape lines b
+  waits_one q same tried = ⊎_elim
+      (λ p. null (command.Wait q) q same p (λ none. rw none refl) (λ none. work.cancels.no_others))
+      (λ p. ends (command.Wait q) q same p
+      (ap (λ (o : Option Request). option_map_or (result_of a.rank.events) o (Some answer.Null))
+      (sym (work.requests q) ∙ p.ends.live) ∙ sym p.ends.gives.result)
+      work.cancels.no_others (λ k. refl) (λ k. refl) (λ k. refl) refl) tried
+
+  tests_one : (q : ℕ) → l.command ≡ command.Test q →
+      HasTriedTest a (record b { at = a.at; next = a.next }) q (place + 2) → IsAtWork shape lines b
+  tests_one q same tried = ⊎_elim
+      (λ p. null (command.Test q) q same p (λ none. rw none refl) (λ none. work.cancels.no_others))
+      (λ rest. ⊎_elim
+      (λ p. ends (command.Test q) q same p
+      (ap (λ (o : Option Request). Some
+      (option_map_or (λ request. unwrap_or (result_of a.rank.events request) answer.No) o
+      answer.Null)) (sym (work.requests q) ∙ p.ends.live)
+      ∙ ap (λ (o : Option Answer). Some (unwrap_or o answer.No)) (sym p.ends.gives.result))
+      work.cancels.no_others (λ k. refl) (λ k. refl) (λ k. refl) refl)
+      (λ p. alone (command.Test q) answer.No same p.answered
+      (ap (λ (o : Option Request). Some
+      (option_map_or (λ request. unwrap_or (result_of a.rank.events request) answer.No) o
+      answer.Null)) (sym (work.requests q) ∙ p.pending.live)
+      ∙ ap (λ (o : Option Answer). Some (unwrap_or o answer.No))
+      (no_result a.rank.events p.pending.request p.pending.pending))
+      refl work.cancels.no_others refl (λ k. and_false (is_question_of k (command.Test q))) (λ k. refl))
+      rest) tried
+
+  probes_one : (from : Peer) (tag : TagPick) (ctx : ℕ) → l.command ≡ command.Probe from tag ctx →
+      HasProbed a (record b { at = a.at; next = a.next }) from tag ctx (place + 2) → IsAtWork shape lines b
+  probes_one from tag ctx same tried = by_message (message_probed a from tag ctx) refl tried where
+    by_message : (o : Option Arrival) → message_probed a from tag ctx ≡ o →
+        HasAnswered a (record b { at = a.at; next = a.next }) (place + 2)
+        (option_map_or seen o answer.Nothing) → IsAtWork shape lines b
+    by_message None is answered = alone (command.Probe from tag ctx) answer.Nothing same answered
+        (rw is refl) refl work.cancels.no_others refl (λ k. refl) (λ k. refl)
+    by_message (Some m) is answered = alone (command.Probe from tag ctx) (seen m) same answered
+        (rw is refl) refl work.cancels.no_others refl (λ k. refl) (λ k. refl)
+
+  awaits_one : (from : Peer) (tag : TagPick) (ctx : ℕ) → l.command ≡ command.Await from tag ctx →
+      HasAwaited a (record b { at = a.at; next = a.next }) from tag ctx (place + 2) → IsAtWork shape lines b
+  awaits_one from tag ctx same p = alone (command.Await from tag ctx) (seen p.message) same p.answered
+      (rw p.first refl) refl work.cancels.no_others refl (λ k. refl) (λ k. refl)
+
+  -- the names of a process of which only the rank changed
+  kept_all : (mid : ProcessView) → mid.rank.requests ≡ a.rank.requests → mid.names ≡ a.names → (q : ℕ) →
+      named mid q ≡ named a q
+  kept_all mid requests names q = ap (λ r. request_named r mid.names q) requests
+      ∙ ap (λ ns. request_named a.rank.requests ns q) names
+
+  -- a cancel of the request of this kind
+  cancels_it : (q : ℕ) (k : Kind) (mid : ProcessView) → l.command ≡ command.Cancel q →
+      AreRight b.rank.sizes.ranks [] b.rank.events → named a q ≡ Some (request_of k) →
+      mid.rank.me ≡ a.rank.me → mid.rank.sizes ≡ a.rank.sizes → mid.rank.requests ≡ a.rank.requests →
+      mid ≡ record a { rank = mid.rank } →
+      mid.rank.events ≡ a.rank.events ++ stamped a.rank.clock (cancel_events a.rank.events k) →
+      HasAnswered mid (record b { at = a.at; next = a.next }) (place + 2)
+      (answer_for (cancelled a.rank.events k)) → IsAtWork shape lines b
+  cancels_it q (kind.Receive number) mid same right known me sizes requests others events has =
+      by_paired (list_any (is_of_receive number) (matched_pairs a.rank.events)) refl has where
+        c : Command
+        c = command.Cancel q
+
+        paired : Bool
+        paired = list_any (is_of_receive number) (matched_pairs a.rank.events)
+
+        e : Event
+        e = record {
+          stamp = a.rank.clock + 1;
+          what =
+              Cancel number (not (list_any (is_of_receive number) (matched_pairs a.rank.events)));
+        }
+
+        pairs : matched_pairs (a.rank.events ++ e ∷ []) ≡ matched_pairs a.rank.events
+        pairs = matched_pairs-push_other a.rank.events e refl
+
+        now : Mid shape lines a place (a.rank.events ++ e ∷ []) [] (e.what ∷ []) []
+        now = mid_other shape lines a place l work is e refl refl refl refl
+            (record { starts = tt; cancels = refl; claims = tt })
+
+        off : CancelsOf (a.rank.events ++ e ∷ []) (live (commands_of a.rank.me lines)
+            (a.rank.events ++ e ∷ []) q)
+        off = subst (λ (o : Option Request). CancelsOf (a.rank.events ++ e ∷ []) o)
+            (sym (now.live_is q ∙ known))
+            (now.since.cancels ∙ ap (λ (ps : List Pair). Cancel number
+            (not (list_any (is_of_receive number) ps)) ∷ []) (sym pairs))
+
+        by_answer : (x : Answer) → HasAnswered mid (record b { at = a.at; next = a.next }) (place + 2) x →
+            cancel_answer (a.rank.events ++ e ∷ []) (Receiving number) ≡ without_bytes x →
+            is_started x ≡ false → IsAtWork shape lines b
+        by_answer x has right not_started =
+            works shape lines a place l work is mid b c (a.rank.events ++ e ∷ []) x []
+            (e.what ∷ []) [] same me sizes events has at next now
+            (ap (λ (o : Option Request). Some (option_map_or (cancel_answer (a.rank.events ++ e ∷ [])) o
+            answer.Null)) (now.live_is q ∙ known) ∙ ap (λ (y : Answer). Some y) right)
+            (rw not_started refl) off refl
+            (kept_names shape lines a place l work is mid c (a.rank.events ++ e ∷ [])
+            (mid.rank.clock + 1) x [] (e.what ∷ []) [] same now (λ k. refl) (λ k. refl)
+            (kept_all mid requests (ap (λ (v : ProcessView). v.names) others)))
+            (kept_handles shape lines a place l work is b c (a.rank.events ++ e ∷ [])
+            (mid.rank.clock + 1) x [] (e.what ∷ []) [] same now (λ k. refl) (λ k. refl)
+            (λ m. ap (λ (v : ProcessView). handled v m) has.others
+            ∙ ap (λ (v : ProcessView). handled v m) others))
+
+        by_paired : (t : Bool) → list_any (is_of_receive number) (matched_pairs a.rank.events) ≡ t →
+            HasAnswered mid (record b { at = a.at; next = a.next }) (place + 2)
+            (answer_for (cancelled a.rank.events (kind.Receive number))) →
+            IsAtWork shape lines b
+        by_paired true is_one has = by_answer answer.Late (rw is_one at has) (rw (pairs, is_one) refl) refl
+        by_paired false none has = by_answer answer.Done (rw none at has) (rw (pairs, none) refl) refl
+  cancels_it q (kind.Send to n) mid same right known me sizes requests others events has =
+      by_recalled (happened (is_recall to n) a.rank.events) refl events where
+        c : Command
+        c = command.Cancel q
+
+        go : (h' : List Event) (cs : List Happened) → mid.rank.events ≡ h' →
+            Mid shape lines a place h' [] cs [] →
+            CancelsOf h' (Some (Sending to n)) → IsAtWork shape lines b
+        go h' cs events now off =
+            works shape lines a place l work is mid b c h' answer.Asked [] cs [] same me sizes events has
+            at next now
+            (ap (λ (o : Option Request). Some (option_map_or (cancel_answer h') o answer.Null))
+            (now.live_is q
+            ∙ known))
+            refl (subst (λ (o : Option Request). CancelsOf h' o) (sym (now.live_is q ∙ known)) off) refl
+            (kept_names shape lines a place l work is mid c h' (mid.rank.clock + 1) answer.Asked [] cs []
+            same
+            now (λ k. refl) (λ k. refl)
+            (kept_all mid requests (ap (λ (v : ProcessView). v.names) others)))
+            (kept_handles shape lines a place l work is b c h' (mid.rank.clock + 1) answer.Asked [] cs []
+            same
+            now (λ k. refl) (λ k. refl)
+            (λ m. ap (λ (v : ProcessView). handled v m) has.others
+            ∙ ap (λ (v : ProcessView). handled v m) others))
+
+        by_recalled : (t : Bool) → happened (is_recall to n) a.rank.events ≡ t →
+            mid.rank.events ≡ a.rank.events ++ stamped a.rank.clock (if t then [] else Recall to n ∷ []) →
+            IsAtWork shape lines b
+        by_recalled true was events = go a.rank.events [] (events ∙ append-nil a.rank.events)
+            (mid_none shape lines a place l work is) (
+              was,
+              subst (λ (cs : List Happened). All (λ what. what ≡ Recall to n) cs)
+                  (sym work.cancels.no_others) (All-nil (λ what. what ≡ Recall to n)),
+            )
+        by_recalled false not_yet events =
+            let e : Event = record { stamp = a.rank.clock + 1; what = Recall to n } in
+            let sent = (right_at b.rank.sizes.ranks a.rank.events e
+            (record { stamp = mid.rank.clock + 1; what = Ran (place + 2) answer.Asked }) b.rank.events
+            (has.noted.events ∙ ap (λ (k : List Event). k ++ record {
+              stamp = mid.rank.clock + 1;
+              what =
+                  Ran (place + 2) answer.Asked;
+            } ∷ []) events) right).cancels in
+            let now = mid_other shape lines a place l work is e refl refl refl refl
+            (record { starts = tt; cancels = sent; claims = tt }) in
+            go (a.rank.events ++ e ∷ []) (Recall to n ∷ []) events now (
+              happened-push (is_recall to n) a.rank.events e ∙ rw (not_yet, eqb_self to, eqb_self n) refl,
+              subst (λ (cs : List Happened). All (λ what. what ≡ Recall to n) cs) (sym now.since.cancels)
+                  (All-cons (λ what. what ≡ Recall to n) (Recall to n) [] refl
+                  (All-nil (λ what. what ≡ Recall to n))),
+            )
+
+  cancels_one : (q : ℕ) → l.command ≡ command.Cancel q → AreRight b.rank.sizes.ranks [] b.rank.events →
+      IsNull a (record b { at = a.at; next = a.next }) q (place + 2)
+      ⊎ HasCancelled a (record b { at = a.at; next = a.next }) q (place + 2) → IsAtWork shape lines b
+  cancels_one q same right tried = ⊎_elim
+      (λ p. null (command.Cancel q) q same p (λ none. rw none refl)
+      (λ none. subst (λ (o : Option Request). CancelsOf a.rank.events o)
+      (sym none) work.cancels.no_others))
+      (λ p. cancels_it q p.kind p.mid same right p.live p.takes.me p.takes.sizes p.requests p.others
+      (p.happened (λ s. [])).events p.answered) tried
+
+  -- a matched probe
+  claims_one : (m : ℕ) (from : Peer) (tag : TagPick) (ctx : ℕ) →
+      l.command ≡ command.Mprobe m from tag ctx → AreRight b.rank.sizes.ranks [] b.rank.events →
+      HasTriedMprobe a (record b { at = a.at; next = a.next }) m from tag ctx (place + 2) →
+      IsAtWork shape lines b
+  claims_one m from tag ctx same right tried = ⊎_elim taken (λ rest. ⊎_elim nothing claims rest) tried where
+    c : Command
+    c = command.Mprobe m from tag ctx
+
+    taken : IsHandleBusy a (record b { at = a.at; next = a.next }) m (place + 2) → IsAtWork shape lines b
+    taken p = alone c answer.Busy same p.answered
+        (by_handle (live_message (commands_of a.rank.me lines) a.rank.events m) (sym (work.handles m))
+        (handled a m) p.taken) refl work.cancels.no_others refl (λ k. refl)
+        (λ k. and_false (is_claim_for k c)) where
+          by_handle : (o : Option Message) → o ≡ handled a m → (i : Option Message) → IsSome (handled a m) →
+              (if is_some o then Some answer.Busy else option_map_or (λ a. Some (seen a))
+              (arrival_claimed a.rank.events (place + 2))
+              (if is_some (message_probed a from tag ctx) then None else Some answer.Nothing))
+              ≡ Some answer.Busy
+          by_handle (Some x) is i some = refl
+          by_handle None is i some =
+              absurd (false_some (subst (λ (o : Option Message). IsSome o) (sym is) some)) where
+                false_some : IsSome {T = Message} None → ⊥
+                false_some some = cc
+
+    nothing : HasFoundNone a (record b { at = a.at; next = a.next }) m from tag ctx (place + 2) →
+        IsAtWork shape lines b
+    nothing p = alone c answer.Nothing same p.answered
+        (rw (
+          sym (work.handles m) ∙ p.free,
+          no_claim_yet (place + 2) a.rank.events
+              (below_line shape lines a place l work is),
+          p.none,
+        ) refl)
+        refl work.cancels.no_others refl (λ k. refl) (λ k. and_false (is_claim_for k c))
+
+    claims : HasClaimed a (record b { at = a.at; next = a.next }) m from tag ctx (place + 2) →
+        IsAtWork shape lines b
+    claims p =
+        let x : Arrival = p.message in
+        let w : Happened = Claim x.env.from x.n (place + 2) in
+        let e : Event = record { stamp = a.rank.clock + 1; what = w } in
+        let f : Event = record { stamp = p.mid.rank.clock + 1; what = Ran (place + 2) (seen x) } in
+        let h' : List Event = a.rank.events ++ e ∷ [] in
+        let may : MayDo shape.eager (commands_of a.rank.me lines) a.rank.events w =
+        record {
+          starts = tt;
+          cancels = tt;
+          claims = rw (found shape lines a place l work is c same)
+              (rw p.first refl);
+        } in
+        let now = mid_line shape lines a place l work is e refl refl may in
+        let numbers = right_numbers b.rank.sizes.ranks a.rank.events
+        (right_front b.rank.sizes.ranks a.rank.events e f b.rank.events (p.answered.noted.events
+        ∙ ap (λ (k : List Event). k ++ f ∷ []) p.claimed.events) right) in
+        let message = first_is_message b.rank.sizes.ranks a.rank.events from tag ctx x numbers p.first in
+        let here : claim_at h' (place + 2) ≡ Some (record { from = x.env.from; n = x.n }) =
+        claim_made (place + 2) a.rank.events e (record { from = x.env.from; n = x.n })
+        (below_line shape lines a place l work is) (rw (eqb_self (place + 2)) refl) in
+        let came : message_of h' x.env.from x.n ≡ Some x =
+        ap (λ (ms : List Arrival). find (λ a. a.env.from == x.env.from && a.n == x.n) ms)
+        (messages-push a.rank.events e ∙ append-nil (messages a.rank.events)) ∙ message in
+        works shape lines a place l work is p.mid b c h' (seen x) [] [] ((place + 2) ∷ []) same p.takes.me
+        p.takes.sizes p.claimed.events p.answered at next now
+        (rw (now.message_is m ∙ p.free, here, came) refl) refl now.since.cancels refl
+        (kept_names shape lines a place l work is p.mid c h' (p.mid.rank.clock + 1) (seen x) [] []
+        ((place + 2) ∷ []) same now (λ k. refl) (λ k. refl) (kept_all p.mid p.requests p.names))
+        (claimed_handles shape lines a place l work is b c h' (p.mid.rank.clock + 1) (seen x) [] []
+        ((place + 2) ∷ []) m (record { from = x.env.from; n = x.n }) same now refl (λ k. refl)
+        (λ k. refl) here
+        (record {
+          own = ap (λ (v : ProcessView). handled v m) p.answered.others ∙ p.handles.own;
+          others = λ k isnt. ap (λ (v : ProcessView). handled v k) p.answered.others
+              ∙ p.handles.others k isnt;
+        }))
+
+  -- a receive of a claimed message
+  matches_one : (q m room : ℕ) → l.command ≡ command.Mrecv q m room →
+      HasTriedMrecv a (record b { at = a.at; next = a.next }) q m room (place + 2) → IsAtWork shape lines b
+  matches_one q m room same tried = ⊎_elim taken (λ rest. ⊎_elim nothing matches rest) tried where
+    c : Command
+    c = command.Mrecv q m room
+
+    taken : IsBusy a (record b { at = a.at; next = a.next }) q (place + 2) → IsAtWork shape lines b
+    taken p = alone c answer.Busy same p.answered
+        (by_name (live (commands_of a.rank.me lines) a.rank.events q) (sym (work.requests q))
+        (if is_some (live_message (commands_of a.rank.me lines) a.rank.events m) then answer.Started
+        else answer.Null) p.taken)
+        refl work.cancels.no_others refl (λ k. refl) (λ k. refl) where
+          by_name : (o : Option Request) → o ≡ named a q → (z : Answer) → IsSome (named a q) →
+              Some (if is_some o then answer.Busy else z) ≡ Some answer.Busy
+          by_name (Some r) is z some = refl
+          by_name None is z some = absurd
+              (false_some (subst (λ (o : Option Request). IsSome o) (sym is) some)) where
+                false_some : IsSome {T = Request} None → ⊥
+                false_some some = cc
+
+    nothing : IsHandleNull a (record b { at = a.at; next = a.next }) q m (place + 2) →
+        IsAtWork shape lines b
+    nothing p = alone c answer.Null same p.answered
+        (rw (sym (work.requests q) ∙ p.name, sym (work.handles m) ∙ p.free) refl) refl
+        work.cancels.no_others refl (λ k. refl) (λ k. refl)
+
+    matches : HasMatched a (record b { at = a.at; next = a.next }) q m room (place + 2) →
+        IsAtWork shape lines b
+    matches p =
+        let x = p.message in
+        let number : ℕ = length (receives a.rank.events) in
+        let w : Happened = Match number x.from x.n room (place + 2) in
+        let ws : List Happened = taken_events (message_of a.rank.events x.from x.n) in
+        let h' : List Event = a.rank.events ++ stamped a.rank.clock (w ∷ ws) in
+        starts (λ bodies. Unit {0}) a.rank.sending.offers w ws (kind.Receive number) c q (λ s. []) tt
+        same p.started refl refl (record { starts = p.claimed; cancels = tt; claims = tt })
+        (taken_of_packets (message_of a.rank.events x.from x.n)) (rw (eqb_self (place + 2)) refl) refl
+        refl
+        (λ k. refl) (λ k. refl) (λ k. refl) refl
+        (λ mid. (
+          rw (mid.live_is q ∙ p.started.free, mid.message_is m ∙ p.held) refl,
+          rw (mid.message_is m ∙ p.held) refl,
+          mid.since.cancels,
+          received_handles shape lines a place l work is b c h' (p.started.mid.rank.clock + 1)
+              answer.Started (w ∷ []) [] [] m same mid refl (λ k. refl) (λ k. refl)
+              (record { own = p.handles.own; others = p.handles.others }),
+        ))
+
+  -- the next command ran
+  pub ran : AreRight b.rank.sizes.ranks [] b.rank.events →
+      HasTried a (record b { at = a.at; next = a.next }) l.command (place + 2) Took → IsAtWork shape lines b
+  ran right tried = by_command l.command refl tried where
+    by_command : (c : Command) → l.command ≡ c → HasTried a (record b { at = a.at; next = a.next }) c
+        (place + 2) Took → IsAtWork shape lines b
+    by_command (command.Send q to tag ctx body sync) same t = sends_one q to tag ctx body sync same t.1
+    by_command (command.Recv q from tag ctx room) same t = receives_one q from tag ctx room same t.1
+    by_command (command.Wait q) same t = waits_one q same t
+    by_command (command.Test q) same t = tests_one q same t.1
+    by_command (command.Probe from tag ctx) same t = probes_one from tag ctx same t.1
+    by_command (command.Await from tag ctx) same t = awaits_one from tag ctx same t
+    by_command (command.Cancel q) same t = cancels_one q same right t.1
+    by_command (command.Mprobe m from tag ctx) same t = claims_one m from tag ctx same right t.1
+    by_command (command.Mrecv q m room) same t = matches_one q m room same t.1
+
+-- the next command can't go on
+waits_not_ran : Waits ≡ Took → ⊥
+waits_not_ran is = cc
+
+pub waited : (shape : Sizes) (lines : List Line) (a b : ProcessView) (place : ℕ) (l : Line) →
+    IsAtWork shape lines a → IsNext lines a.rank.me a.next place l →
+    HasTried a b l.command (place + 2) Waits →
+    goes_on (commands_of a.rank.me lines) a ≡ false
+waited shape lines a b place l work is tried =
+    rw (next_command lines a.rank.me a.next place a.at l is work.counted) (by_command l.command tried) where
+      by_command : (c : Command) → HasTried a b c (place + 2) Waits →
+          can_go_on (commands_of a.rank.me lines) a.rank.events c ≡ false
+      by_command (command.Wait q) t = rw (sym (work.requests q) ∙ t.0.live) t.0.pending
+      by_command (command.Await from tag ctx) t = rw t.0 refl
+      by_command (command.Send q to tag ctx body sync) t = absurd (waits_not_ran t.0)
+      by_command (command.Recv q from tag ctx room) t = absurd (waits_not_ran t.0)
+      by_command (command.Test q) t = absurd (waits_not_ran t.0)
+      by_command (command.Probe from tag ctx) t = absurd (waits_not_ran t.0)
+      by_command (command.Cancel q) t = absurd (waits_not_ran t.0)
+      by_command (command.Mprobe m from tag ctx) t = absurd (waits_not_ran t.0)
+      by_command (command.Mrecv q m room) t = absurd (waits_not_ran t.0)
+
+-- whether a command can go on, by the names and by the history
+by_names : (shape : Sizes) (lines : List Line) (a : ProcessView) (c : Command) → IsAtWork shape lines a →
+    can_go_on_by a c ≡ can_go_on (commands_of a.rank.me lines) a.rank.events c
+by_names shape lines a (command.Wait q) work =
+    ap (λ (o : Option Request). option_map_or (is_complete a.rank.events) o true) (work.requests q)
+by_names shape lines a (command.Await from tag ctx) work = refl
+by_names shape lines a (command.Send q to tag ctx body sync) work = refl
+by_names shape lines a (command.Recv q from tag ctx room) work = refl
+by_names shape lines a (command.Test q) work = refl
+by_names shape lines a (command.Probe from tag ctx) work = refl
+by_names shape lines a (command.Cancel q) work = refl
+by_names shape lines a (command.Mprobe m from tag ctx) work = refl
+by_names shape lines a (command.Mrecv q m room) work = refl
+
+pub next_goes_on : (shape : Sizes) (lines : List Line) (a : ProcessView) (place : ℕ) (l : Line) →
+    IsAtWork shape lines a → IsNext lines a.rank.me a.next place l →
+    can_go_on_by a l.command ≡ goes_on (commands_of a.rank.me lines) a
+next_goes_on shape lines a place l work is = by_names shape lines a l.command work
+    ∙ sym (ap (λ (o : Option Numbered). option_map_or
+    (λ c. can_go_on (commands_of a.rank.me lines) a.rank.events c.command) o false)
+    (next_command lines a.rank.me a.next place a.at l is work.counted))
+
+-- no command is left
+pub none_goes_on : (shape : Sizes) (lines : List Line) (a : ProcessView) → IsAtWork shape lines a →
+    NoneBetween lines a.rank.me a.next (length lines) → goes_on (commands_of a.rank.me lines) a ≡ false
+none_goes_on shape lines a work none =
+    ap (λ (o : Option Numbered). option_map_or
+    (λ c. can_go_on (commands_of a.rank.me lines) a.rank.events c.command) o false)
+    (none_is_next lines a.rank.me a.next a.at none work.counted)
+
+-- a process that ran a command, by its parts
+pub tried_counted : (a v : ProcessView) (c : Command) (line : ℕ) (s : Step) → v.at ≡ a.at →
+    v.next ≡ a.next → HasTried a v c line s → HasTried a (record v { at = a.at; next = a.next }) c line s
+tried_counted a v c line s at next tried =
+    subst (λ (k : ℕ). HasTried a (record v { at = a.at; next = k }) c line s) next
+    (subst (λ (k : ℕ). HasTried a (record v { at = k }) c line s) at tried)
+
+-- what a step that is no waiting came to
+pub stepped : (lines : List Line) (a b : ProcessView) (place : ℕ) (l : Line) (s : Step) →
+    IsNext lines a.rank.me a.next place l → (s ≡ Waits → ⊥) → b.at ≡ a.at + 1 → b.next ≡ place + 1 →
+    HasTried a (record b { at = a.at; next = a.next }) l.command (place + 2) s → HasStepped lines a b s
+stepped lines a b place l Waits is moves at next tried = absurd (moves refl)
+stepped lines a b place l Took is moves at next tried = record {
+  place = place;
+  line = l;
+  is = is;
+  tried =
+      tried;
+  at = at;
+  next = next;
+}
+
+pub ran_step : (shape : Sizes) (lines : List Line) (a b : ProcessView) (place : ℕ) (l : Line) (s : Step) →
+    IsAtWork shape lines a → IsNext lines a.rank.me a.next place l → (s ≡ Waits → ⊥) →
+    b.at ≡ a.at + 1 → b.next ≡ place + 1 → AreRight b.rank.sizes.ranks [] b.rank.events →
+    HasTried a (record b { at = a.at; next = a.next }) l.command (place + 2) s → IsAtWork shape lines b
+ran_step shape lines a b place l Waits work is moves at next right tried = absurd (moves refl)
+ran_step shape lines a b place l Took work is moves at next right tried =
+    ran shape lines a b place l work is at next right tried
+
+-- a process that waits is as it was
+pub waits_same : (a b : ProcessView) (c : Command) (line : ℕ) → HasTried a b c line Waits → b ≡ a
+waits_same a b (command.Wait q) line t = t.1
+waits_same a b (command.Await from tag ctx) line t = t.1
+waits_same a b (command.Send q to tag ctx body sync) line t = absurd (waits_not_ran t.0)
+waits_same a b (command.Recv q from tag ctx room) line t = absurd (waits_not_ran t.0)
+waits_same a b (command.Test q) line t = absurd (waits_not_ran t.0)
+waits_same a b (command.Probe from tag ctx) line t = absurd (waits_not_ran t.0)
+waits_same a b (command.Cancel q) line t = absurd (waits_not_ran t.0)
+waits_same a b (command.Mprobe m from tag ctx) line t = absurd (waits_not_ran t.0)
+waits_same a b (command.Mrecv q m room) line t = absurd (waits_not_ran t.0)

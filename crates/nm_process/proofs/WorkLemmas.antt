@@ -1,0 +1,39 @@
+-- A process at work, one event after another.
+use Rattle.std.proofs.Common.{◌≡◌, ℕ, List, [], refl, sym, subst, arith}
+use Rattle.nm_types.specs.declared.scripts.Line.{Line}
+use Rattle.nm_types.specs.Commands.{Numbered, commands_of}
+use Rattle.nm_types.specs.Sizes.{Sizes}
+use Rattle.nm_history.specs.declared.events.Event.{Event}
+use Rattle.nm_history.specs.AtEach.{AtEach}
+use Rattle.nm_history.specs.RankRun.{Answers, Cancels, Claims, Starts}
+use Rattle.nm_request.specs.declared.Req.{Req}
+use Rattle.nm_rank.specs.Ranks.{RankView}
+use Rattle.nm_process.specs.declared.steps.Handle.{Handle}
+use Rattle.nm_process.specs.Work.{IsAtWork}
+
+-- a process that begins
+pub begins : (shape : Sizes) (lines : List Line) (v : RankView) (names : List (ℕ × Req))
+    (handles : List (ℕ × Handle)) → v.sizes ≡ shape → v.events ≡ [] → names ≡ [] → handles ≡ [] →
+    IsAtWork shape lines (record { rank = v; at = 0; next = 0; names = names; handles = handles })
+unfolding AtEach
+begins shape lines v names handles sizes none no_names no_handles =
+    let commands : List Numbered = commands_of v.me lines in
+    subst (λ (ns : List (ℕ × Req)). IsAtWork shape lines
+    (record { rank = v; at = 0; next = 0; names = ns; handles = handles })) (sym no_names)
+    (subst (λ (hs : List (ℕ × Handle)). IsAtWork shape lines
+    (record { rank = v; at = 0; next = 0; names = []; handles = hs })) (sym no_handles)
+    (let is = none in record {
+      sizes = sizes;
+      answers = subst (λ (h : List Event). Answers commands 0 h) (sym is)
+          (record { few = omega arith; in_order = refl; right = tt });
+      starts = subst (λ (h : List Event). Starts shape.eager commands h) (sym is)
+          (record { made = tt; no_others = refl });
+      cancels = subst (λ (h : List Event). Cancels commands h) (sym is)
+          (record { made = tt; no_others = refl });
+      claims = subst (λ (h : List Event). Claims commands h) (sym is)
+          (record { made = tt; no_others = refl });
+      past = rw is refl;
+      counted = refl;
+      requests = λ q. rw is refl;
+      handles = λ m. rw is refl;
+    }))

@@ -1,0 +1,20 @@
+-- The answer of a command leaves names and handles alone.
+use Rattle.std.proofs.Common.{sym, subst, ◌∙◌, List}
+use Rattle.nm_history.specs.declared.events.Event.{Event}
+use Rattle.nm_request.specs.Requests.{Live}
+use Rattle.nm_process.specs.Names.{AreLive, IsHeld}
+use Rattle.nm_process.proofs.HeldLemmas.{all_held, held_after}
+use Rattle.nm_process.proofs.processes.Process.answer.Goals as goal
+
+pub invariant_of-self-2 : goal.invariant_of-self-2
+invariant_of-self-2 c =
+    let p = c.self.inside in
+    let i = c.self.invariant in
+    let takes = c.in_ok-ran.ensures.takes in (
+      subst (λ (r : Live). AreLive r p.requests.entries) (sym takes.3) i.0,
+      all_held p.rank.events c.ran.new.self.events p.handles.entries
+          (λ x held. subst (λ (h : List Event). IsHeld h x) (sym c.in_ok-ran.ensures.noted.events)
+          (held_after x p.rank.events _ (tt, tt) held)) i.1,
+      i.2 ∙ sym takes.0.me,
+      i.3,
+    )

@@ -1,0 +1,46 @@
+-- A packet comes.
+use Rattle.std.proofs.Common.{[], sym, subst, ◌∙◌}
+use Rattle.std.specs.Prelude.{max}
+use Rattle.nm_rank.specs.Calls.{made_of, taken_of}
+use Rattle.nm_rank.specs.Ranks.{known_from}
+use Rattle.nm_request.specs.Requests.{Live}
+use Rattle.nm_process.specs.Names.{AreLive}
+use Rattle.nm_process.specs.Processes.{ProcessView}
+use Rattle.nm_process.specs.Work.{IsAtWork}
+use Rattle.nm_process.proofs.MidLemmas.{work_packets}
+use Rattle.nm_process.proofs.PacketLemmas.{packet_of_packets, packets_hold_at}
+use Rattle.nm_process.proofs.processes.Process.take_packet.Goals as goal
+
+pub invariant_of-self-2 : goal.invariant_of-self-2
+invariant_of-self-2 c =
+    let p = c.self.inside in
+    let i = c.self.invariant in
+    let v = p.rank in
+    let w = c.take_packet.new.self in
+    let taken = c.in_ok-take_packet.ensures.taken in (
+      subst (λ (r : Live). AreLive r p.requests.entries) (sym taken.requests) i.0,
+      packets_hold_at v w (max v.clock c.args.p.stamp) (made_of v c.args.p) p.handles.entries
+          (taken.happened (λ s. [])).events c.history.ensures.right
+          (packet_of_packets (known_from v.known c.args.p.from) v.events (taken_of v c.args.p)) i.1,
+      i.2 ∙ sym taken.me,
+      i.3,
+    )
+
+pub returns-clause-work : goal.returns-clause-work
+returns-clause-work c shape lines work =
+    let p = c.self.inside in
+    let v = p.rank in
+    let w = c.take_packet.new.self in
+    let taken = c.in_ok-take_packet.ensures.taken in
+    let a : ProcessView = record {
+      rank = v;
+      at = p.at;
+      next = p.next;
+      names =
+          p.requests.entries;
+      handles = p.handles.entries;
+    } in
+    work_packets shape lines a w (max v.clock c.args.p.stamp) (made_of v c.args.p) taken.me taken.sizes
+    taken.requests (taken.happened (λ s. [])).events
+    (packet_of_packets (known_from v.known c.args.p.from) v.events (taken_of v c.args.p))
+    (subst (λ (v : ProcessView). IsAtWork shape lines v) (sym c.self.view_is) work)

@@ -1,0 +1,45 @@
+-- A piece comes.
+use Rattle.std.proofs.Common.{sym, subst, ◌∙◌}
+use Rattle.nm_protocol.specs.Pieces.{piece_makes}
+use Rattle.nm_rank.specs.Calls.{next_due}
+use Rattle.nm_request.specs.Requests.{Live}
+use Rattle.nm_process.specs.Names.{AreLive}
+use Rattle.nm_process.specs.Processes.{ProcessView}
+use Rattle.nm_process.specs.Work.{IsAtWork}
+use Rattle.nm_process.proofs.MidLemmas.{work_packets}
+use Rattle.nm_process.proofs.PacketLemmas.{piece_of_packets, packets_hold_at}
+use Rattle.nm_process.proofs.processes.Process.take_piece.Goals as goal
+
+pub invariant_of-self-2 : goal.invariant_of-self-2
+invariant_of-self-2 c =
+    let p = c.self.inside in
+    let i = c.self.invariant in
+    let v = p.rank in
+    let w = c.take_piece.new.self in
+    let taken = c.in_ok-take_piece.ensures.taken in (
+      subst (λ (r : Live). AreLive r p.requests.entries) (sym taken.requests) i.0,
+      packets_hold_at v w (v.clock) (piece_makes c.args.p.from (next_due v c.args.p.from) c.args.p)
+          p.handles.entries taken.happened.events c.history.ensures.right
+          (piece_of_packets c.args.p.from (next_due v c.args.p.from) c.args.p) i.1,
+      i.2 ∙ sym taken.me,
+      i.3,
+    )
+
+pub returns-clause-work : goal.returns-clause-work
+returns-clause-work c shape lines work =
+    let p = c.self.inside in
+    let v = p.rank in
+    let w = c.take_piece.new.self in
+    let taken = c.in_ok-take_piece.ensures.taken in
+    let a : ProcessView = record {
+      rank = v;
+      at = p.at;
+      next = p.next;
+      names =
+          p.requests.entries;
+      handles = p.handles.entries;
+    } in
+    work_packets shape lines a w (v.clock) (piece_makes c.args.p.from (next_due v c.args.p.from) c.args.p)
+    taken.me taken.sizes taken.requests taken.happened.events
+    (piece_of_packets c.args.p.from (next_due v c.args.p.from) c.args.p)
+    (subst (λ (v : ProcessView). IsAtWork shape lines v) (sym c.self.view_is) work)

@@ -1,0 +1,7 @@
+pub mod Lines
+pub mod Names
+pub mod Places
+pub mod Processes
+pub mod Starts
+pub mod Steps
+pub mod Work

@@ -1,0 +1,16 @@
+-- The place of a rank's next command in a script.
+use Rattle.std.specs.Prelude.{◌≡◌, ℕ, ◌≤◌, ◌==◌, true, Some, List, length, take, slice_get}
+use Rattle.nm_types.specs.declared.scripts.Line.{Line}
+use Rattle.nm_types.specs.Commands.{commands_of}
+
+-- between two places of the script the rank has no command
+abbrev pub NoneBetween : List Line → ℕ → ℕ → ℕ → Type 0
+NoneBetween lines me next place =
+    length (commands_of me (take place lines)) ≡ length (commands_of me (take next lines))
+
+-- the rank's next command stands at this place
+pub record IsNext (lines : List Line) (me next place : ℕ) (l : Line) : Type 0 where
+  pub here : slice_get lines place ≡ Some l
+  pub mine : (l.rank == me) ≡ true
+  pub past : next ≤ place
+  pub first : NoneBetween lines me next place

@@ -1,0 +1,301 @@
+-- What each command does to a process, before the process counts it as run.
+use Rattle.std.specs.Prelude.{◌≡◌, ◌≢◌, ◌⊎◌, ℕ, ◌+◌, Bool, true, false, Option, Some, None, IsSome}
+use Rattle.std.specs.Prelude.{List, [], ◌∷◌, length, if◌then◌else◌}
+use Rattle.std.specs.Option.{option_map_or}
+use Rattle.nm_types.specs.declared.answers.Answer.{Answer}
+use Rattle.nm_types.specs.declared.answers.Answer.TheVariants as answer
+use Rattle.nm_types.specs.declared.messages.Arrival.{Arrival}
+use Rattle.nm_types.specs.declared.messages.Peer.{Peer}
+use Rattle.nm_types.specs.declared.messages.TagPick.{TagPick}
+use Rattle.nm_types.specs.declared.scripts.Body.{Body}
+use Rattle.nm_types.specs.declared.scripts.Command.{Command}
+use Rattle.nm_types.specs.declared.scripts.Command.TheVariants as command
+use Rattle.nm_types.specs.Bodies.{body_len, bytes_of}
+use Rattle.nm_history.specs.declared.events.Happened.{Happened}
+use Rattle.nm_history.specs.declared.events.Happened.TheVariants.{Send, Post, Claim, Match, Ran}
+use Rattle.nm_history.specs.Answers.{Message, seen}
+use Rattle.nm_history.specs.Completion.{Request, is_complete}
+use Rattle.nm_history.specs.Matching.{first_message, is_claimed, matched_pairs}
+use Rattle.nm_history.specs.RankRun.{how_of}
+use Rattle.nm_history.specs.Sends.{Sent, is_ask, message_of, receives, sends}
+use Rattle.nm_request.specs.declared.Kind.{Kind}
+use Rattle.nm_request.specs.declared.Kind.TheVariants as kind
+use Rattle.nm_request.specs.declared.Req.{Req}
+use Rattle.nm_request.specs.Requests.{kind_of}
+use Rattle.nm_rndv.specs.Offers.{Offering, destined, with_asked, with_destined}
+use Rattle.nm_receiving.specs.Receipts.{SameOtherBytes, taken_events}
+use Rattle.nm_rank.specs.declared.answers.Cancelled.{Cancelled}
+use Rattle.nm_rank.specs.declared.answers.Cancelled.TheVariants as cancelled
+use Rattle.nm_rank.specs.Calls.{Happens, Notes, Starts, TakesNone}
+use Rattle.nm_rank.specs.Ranks.{RankView, request_of}
+use Rattle.nm_rank.specs.Requests.{IsFreed, IsResult, cancel_answer, cancel_events, offers_cancelled}
+use Rattle.nm_rank.specs.Requests.{pair_with}
+use Rattle.nm_process.specs.declared.steps.Step.{Step}
+use Rattle.nm_process.specs.declared.steps.Step.TheVariants.{Waits, Ran as Took}
+use Rattle.nm_process.specs.Names.{handled, named}
+use Rattle.nm_process.specs.Processes.{ProcessView}
+
+-- nothing changed but the rank
+abbrev pub KeepsAllBut : ProcessView → ProcessView → Type 0
+KeepsAllBut a b = b ≡ record a { rank = b.rank }
+
+-- the rank recorded the answer of a line's command, and did nothing else
+pub record HasAnswered (a b : ProcessView) (line : ℕ) (x : Answer) : Type 0 where
+  pub noted : Notes (Ran line x ∷ []) a.rank b.rank
+  pub takes : TakesNone a.rank b.rank
+  pub sending : b.rank.sending ≡ a.rank.sending
+  pub receiving : b.rank.receiving ≡ a.rank.receiving
+  pub requests : b.rank.requests ≡ a.rank.requests
+  pub others : KeepsAllBut a b
+
+-- this name stands for this request, or for none, and every other for what it stood for
+pub record SetsName (a b : ProcessView) (q : ℕ) (r : Option Request) : Type 0 where
+  pub own : named b q ≡ r
+  pub others : (k : ℕ) → k ≢ q → named b k ≡ named a k
+
+-- this handle stands for this message, or for none, and every other for what it stood for
+pub record SetsHandle (a b : ProcessView) (m : ℕ) (message : Option Message) : Type 0 where
+  pub own : handled b m ≡ message
+  pub others : (k : ℕ) → k ≢ m → handled b k ≡ handled a k
+
+-- the place is the same, and so is what the handles stand for
+pub record KeepsHandles (a b : ProcessView) : Type 0 where
+  pub place : (b.at ≡ a.at) × (b.next ≡ a.next)
+  pub handles : b.handles ≡ a.handles
+
+-- the rank started what happened here, and the name stands for its request
+pub record HasBegun (Fits : (Sent → List ℕ) → Type 0) (offers : Offering) (ws : List Happened)
+    (kind : Kind) (a b : ProcessView) (q : ℕ) : Type 0 where
+  pub request : Req
+  pub starts :
+      (bodies : Sent → List ℕ) → Fits bodies → Starts bodies ws kind a.rank b.rank request
+  pub asked : b.rank.sending.offers ≡ offers
+  pub names : SetsName a b q (Some (request_of kind))
+  pub place : (b.at ≡ a.at) × (b.next ≡ a.next)
+
+-- a start of a free name, and its answer
+pub record HasStarted (Fits : (Sent → List ℕ) → Type 0) (offers : Offering) (ws : List Happened)
+    (kind : Kind) (a b : ProcessView) (q line : ℕ) : Type 0 where
+  pub free : named a q ≡ None
+  pub mid : ProcessView
+  pub begun : HasBegun Fits offers ws kind a mid q
+  pub answered : HasAnswered mid b line answer.Started
+
+-- a start of a name that stands for a request was answered busy
+pub record IsBusy (a b : ProcessView) (q line : ℕ) : Type 0 where
+  pub taken : IsSome (named a q)
+  pub answered : HasAnswered a b line answer.Busy
+
+-- the name stands for no request
+pub record IsNull (a b : ProcessView) (q line : ℕ) : Type 0 where
+  pub free : named a q ≡ None
+  pub answered : HasAnswered a b line answer.Null
+
+-- the message of a send
+abbrev pub sent_now : RankView → (to tag ctx : ℕ) → Body → Bool → ℕ → Sent
+sent_now v to tag ctx body sync line = record {
+  stamp = v.clock + 1;
+  to = to;
+  n = length (sends v.events to);
+  tag = tag;
+  ctx = ctx;
+  len = body_len body;
+  how = how_of v.sizes.eager sync (body_len body);
+  line = line;
+}
+
+-- the messages that were sent by asking, after a send
+abbrev pub offers_sent : RankView → ℕ → Body → Bool → Offering
+offers_sent v to body sync =
+    let offers = v.sending.offers in
+    if is_ask (how_of v.sizes.eager sync (body_len body))
+    then with_destined offers to (with_asked (destined offers to) (length (sends v.events to)) body)
+    else offers
+
+-- what a send comes to
+abbrev pub HasTriedSend :
+    ProcessView → ProcessView → (q to tag ctx : ℕ) → Body → Bool → ℕ → Type 0
+HasTriedSend a b q to tag ctx body sync line =
+    let v = a.rank in
+    let n = length (sends v.events to) in
+    IsBusy a b q line
+    ⊎ (HasStarted (λ bodies. bodies (sent_now v to tag ctx body sync line) ≡ bytes_of body)
+    (offers_sent v to body sync)
+    (Send to n tag ctx (body_len body) (how_of v.sizes.eager sync (body_len body)) line ∷ [])
+    (kind.Send to n) a b q line) × KeepsHandles a b
+
+-- what a receive comes to
+abbrev pub HasTriedReceive :
+    ProcessView → ProcessView → ℕ → Peer → TagPick → (ctx cap line : ℕ) → Type 0
+HasTriedReceive a b q from tag ctx cap line =
+    let h = a.rank.events in
+    let number = length (receives h) in
+    IsBusy a b q line
+    ⊎ (HasStarted (λ bodies. Unit {0}) a.rank.sending.offers
+    (Post (record { number = number; from = from; tag = tag; ctx = ctx; cap = cap }) line
+    ∷ taken_events (first_message h (matched_pairs h) from tag ctx))
+    (kind.Receive number) a b q line) × KeepsHandles a b
+
+-- the request of a name gave its result, and is no longer live
+pub record Ends (a b : ProcessView) (q : ℕ) (x : Answer) : Type 0 where
+  pub request : Req
+  pub kind : Kind
+  pub is : kind_of a.rank.requests request ≡ Some kind
+  pub live : named a q ≡ Some (request_of kind)
+  pub gives : IsResult a.rank x kind
+  pub freed : IsFreed a.rank.requests b.rank.requests request
+  pub bytes : SameOtherBytes (pair_with a.rank request) a.rank.receiving b.rank.receiving
+  pub drawn : b.rank.receiving.drawn ≡ a.rank.receiving.drawn
+  pub same :
+      b.rank
+      ≡ record a.rank { receiving = b.rank.receiving; requests = b.rank.requests }
+  pub names : SetsName a b q None
+  pub handles : KeepsHandles a b
+
+-- a wait or a test of a request that is complete
+pub record HasEnded (a b : ProcessView) (q line : ℕ) : Type 0 where
+  pub mid : ProcessView
+  pub answer : Answer
+  pub ends : Ends a mid q answer
+  pub answered : HasAnswered mid b line answer
+
+-- the request of a name is not complete
+pub record IsPending (a : ProcessView) (q : ℕ) : Type 0 where
+  pub request : Request
+  pub live : named a q ≡ Some request
+  pub pending : is_complete a.rank.events request ≡ false
+
+-- what a wait comes to
+abbrev pub HasTriedWait : ProcessView → ProcessView → (q line : ℕ) → Step → Type 0
+HasTriedWait a b q line Waits = IsPending a q × (b ≡ a)
+HasTriedWait a b q line Took = IsNull a b q line ⊎ HasEnded a b q line
+
+-- a test of a request that is not complete
+pub record HasNoResult (a b : ProcessView) (q line : ℕ) : Type 0 where
+  pub pending : IsPending a q
+  pub answered : HasAnswered a b line answer.No
+
+-- what a test comes to
+abbrev pub HasTriedTest : ProcessView → ProcessView → (q line : ℕ) → Type 0
+HasTriedTest a b q line = IsNull a b q line ⊎ HasEnded a b q line ⊎ HasNoResult a b q line
+
+-- the message that a probe shows
+abbrev pub message_probed : ProcessView → Peer → TagPick → ℕ → Option Arrival
+message_probed a from tag ctx =
+    first_message a.rank.events (matched_pairs a.rank.events) from tag ctx
+
+-- what a probe comes to
+abbrev pub HasProbed : ProcessView → ProcessView → Peer → TagPick → (ctx line : ℕ) → Type 0
+HasProbed a b from tag ctx line =
+    HasAnswered a b line (option_map_or seen (message_probed a from tag ctx) answer.Nothing)
+
+-- a probe that goes on until there is a message found one
+pub record HasAwaited (a b : ProcessView) (from : Peer) (tag : TagPick) (ctx line : ℕ)
+    : Type 0 where
+  pub message : Arrival
+  pub first : message_probed a from tag ctx ≡ Some message
+  pub answered : HasAnswered a b line (seen message)
+
+-- what it comes to
+abbrev pub HasTriedAwait :
+    ProcessView → ProcessView → Peer → TagPick → (ctx line : ℕ) → Step → Type 0
+HasTriedAwait a b from tag ctx line Waits = (message_probed a from tag ctx ≡ None) × (b ≡ a)
+HasTriedAwait a b from tag ctx line Took = HasAwaited a b from tag ctx line
+
+-- how a cancel is answered
+abbrev pub answer_for : Cancelled → Answer
+answer_for cancelled.Done = answer.Done
+answer_for cancelled.Late = answer.Late
+answer_for cancelled.Asked = answer.Asked
+
+-- a cancel of the request of a name
+pub record HasCancelled (a b : ProcessView) (q line : ℕ) : Type 0 where
+  pub mid : ProcessView
+  pub kind : Kind
+  pub live : named a q ≡ Some (request_of kind)
+  pub happened :
+      (bodies : Sent → List ℕ) →
+      Happens bodies a.rank.clock (cancel_events a.rank.events kind) a.rank mid.rank
+  pub offers :
+      mid.rank.sending.offers ≡ offers_cancelled a.rank.events kind a.rank.sending.offers
+  pub takes : TakesNone a.rank mid.rank
+  pub requests : mid.rank.requests ≡ a.rank.requests
+  pub others : KeepsAllBut a mid
+  pub answered : HasAnswered mid b line (answer_for (cancel_answer a.rank.events kind))
+
+-- a matched probe of a handle that stands for a message was answered busy
+pub record IsHandleBusy (a b : ProcessView) (m line : ℕ) : Type 0 where
+  pub taken : IsSome (handled a m)
+  pub answered : HasAnswered a b line answer.Busy
+
+-- a matched probe found no message
+pub record HasFoundNone (a b : ProcessView) (m : ℕ) (from : Peer) (tag : TagPick) (ctx line : ℕ)
+    : Type 0 where
+  pub free : handled a m ≡ None
+  pub none : message_probed a from tag ctx ≡ None
+  pub answered : HasAnswered a b line answer.Nothing
+
+-- a matched probe claimed a message, for which the handle stands
+pub record HasClaimed (a b : ProcessView) (m : ℕ) (from : Peer) (tag : TagPick) (ctx line : ℕ)
+    : Type 0 where
+  pub free : handled a m ≡ None
+  pub mid : ProcessView
+  pub message : Arrival
+  pub first : message_probed a from tag ctx ≡ Some message
+  pub claimed : Notes (Claim message.env.from message.n line ∷ []) a.rank mid.rank
+  pub takes : TakesNone a.rank mid.rank
+  pub sending : mid.rank.sending ≡ a.rank.sending
+  pub requests : mid.rank.requests ≡ a.rank.requests
+  pub names : mid.names ≡ a.names
+  pub place : (mid.at ≡ a.at) × (mid.next ≡ a.next)
+  pub handles : SetsHandle a mid m (Some (record { from = message.env.from; n = message.n }))
+  pub answered : HasAnswered mid b line (seen message)
+
+-- what a matched probe comes to
+abbrev pub HasTriedMprobe :
+    ProcessView → ProcessView → ℕ → Peer → TagPick → (ctx line : ℕ) → Type 0
+HasTriedMprobe a b m from tag ctx line =
+    IsHandleBusy a b m line ⊎ HasFoundNone a b m from tag ctx line
+    ⊎ HasClaimed a b m from tag ctx line
+
+-- a receive of a handle that stands for no message
+pub record IsHandleNull (a b : ProcessView) (q m line : ℕ) : Type 0 where
+  pub name : named a q ≡ None
+  pub free : handled a m ≡ None
+  pub answered : HasAnswered a b line answer.Null
+
+-- a receive of the message of a handle, which then stands for none
+pub record HasMatched (a b : ProcessView) (q m cap line : ℕ) : Type 0 where
+  pub message : Message
+  pub held : handled a m ≡ Some message
+  pub claimed :
+      is_claimed a.rank.events (matched_pairs a.rank.events) message.from message.n ≡ true
+  pub started :
+      let number = length (receives a.rank.events) in
+      HasStarted (λ bodies. Unit {0}) a.rank.sending.offers
+      (Match number message.from message.n cap line
+      ∷ taken_events (message_of a.rank.events message.from message.n))
+      (kind.Receive number) a b q line
+  pub handles : SetsHandle a b m None
+
+-- what a matched receive comes to
+abbrev pub HasTriedMrecv : ProcessView → ProcessView → (q m cap line : ℕ) → Type 0
+HasTriedMrecv a b q m cap line =
+    IsBusy a b q line ⊎ IsHandleNull a b q m line ⊎ HasMatched a b q m cap line
+
+-- what a command comes to
+abbrev pub HasTried : ProcessView → ProcessView → Command → ℕ → Step → Type 0
+HasTried a b (command.Send q to tag ctx body sync) line step =
+    (step ≡ Took) × HasTriedSend a b q to tag ctx body sync line
+HasTried a b (command.Recv q from tag ctx cap) line step =
+    (step ≡ Took) × HasTriedReceive a b q from tag ctx cap line
+HasTried a b (command.Wait q) line step = HasTriedWait a b q line step
+HasTried a b (command.Test q) line step = (step ≡ Took) × HasTriedTest a b q line
+HasTried a b (command.Probe from tag ctx) line step =
+    (step ≡ Took) × HasProbed a b from tag ctx line
+HasTried a b (command.Await from tag ctx) line step = HasTriedAwait a b from tag ctx line step
+HasTried a b (command.Cancel q) line step =
+    (step ≡ Took) × (IsNull a b q line ⊎ HasCancelled a b q line)
+HasTried a b (command.Mprobe m from tag ctx) line step =
+    (step ≡ Took) × HasTriedMprobe a b m from tag ctx line
+HasTried a b (command.Mrecv q m cap) line step = (step ≡ Took) × HasTriedMrecv a b q m cap line

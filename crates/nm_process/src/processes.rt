@@ -1,0 +1,241 @@
+//! A process: a rank with its commands, and the names of its requests and messages.
+
+ghost use Rattle.std.specs.Prelude.{◌≡◌, ◌<◌, ◌≤◌, ℕ, true, false, None, List, [], length};
+ghost use Rattle.std.specs.Prelude.{replicate, IfOk, IfSome, IfNone};
+ghost use Rattle.std.specs.Prelude.{option_map, slice_get, OnOk};
+ghost use Rattle.nm_types.specs.declared.limits.TheConstants.{MAX_LINES};
+ghost use Rattle.nm_types.specs.declared.messages.Arrival.{Arrival};
+ghost use Rattle.nm_types.specs.declared.scripts.Line.{Line};
+ghost use Rattle.nm_types.specs.Commands.{commands_of};
+ghost use Rattle.nm_types.specs.Limits.{is_in_range};
+ghost use Rattle.nm_types.specs.Sizes.{Sizes};
+ghost use Rattle.nm_protocol.specs.Known.{nothing_known};
+ghost use Rattle.nm_request.specs.declared.Req.{Req};
+ghost use Rattle.nm_request.specs.Requests.{kind_of};
+ghost use Rattle.nm_rndv.specs.Offers.{no_offers};
+ghost use Rattle.nm_receiving.specs.Receipts.{came_of, drawn_from};
+ghost use Rattle.nm_rank.specs.Ranks.{IsFresh};
+ghost use Rattle.nm_process.specs.Lines.{AreLines};
+ghost use Rattle.nm_process.specs.Places.{IsNext, NoneBetween};
+ghost use Rattle.nm_process.specs.Starts.{HasTried};
+ghost use Rattle.nm_process.specs.Steps.{HasStepped, can_go_on_by, goes_on};
+ghost use Rattle.nm_process.specs.Names.{named};
+ghost use Rattle.nm_process.specs.declared.steps.Step.TheVariants as step_is;
+ghost use Rattle.nm_history.specs.Completion.{is_complete};
+ghost use Rattle.std.specs.Option.{option_map_or};
+ghost use Rattle.nm_process.specs.Work.{IsAtWork};
+
+use crate::{Handle, Step};
+use indexmap::IndexMap;
+use nm_rank::{NoSuch, Rank, Req, State};
+use nm_types::{Command, Line, Memory, Shape};
+use std::alloc::Global;
+use std::marker::Model;
+
+/// A process of a run.
+#[derive(Drop)]
+pub struct Process {
+    pub(crate) me: u8,
+    pub(crate) rank: Rank,
+    // by name
+    pub(crate) requests: IndexMap<u16, Req>,
+    // by name of a handle
+    pub(crate) handles: IndexMap<u16, Handle>,
+    // its commands before this place of the script ran
+    pub(crate) next: usize,
+    // how many these are
+    pub(crate) at: u32,
+}
+
+impl Model for Process {
+    ghost use Rattle.std.specs.Prelude.{◌≡◌, ◌≤◌};
+    ghost use Rattle.nm_process.specs.Names.{AreHeld, AreLive};
+    ghost use Rattle.nm_process.specs.Processes.{ProcessView};
+
+    ghost Value = { ProcessView };
+
+    ghost view = { λ p.
+        record {
+          rank = p.rank;
+          at = p.at;
+          next = p.next;
+          names = p.requests.entries;
+          handles = p.handles.entries;
+        } };
+
+    ghost invariant = { λ p.
+        AreLive p.rank.requests p.requests.entries
+        × AreHeld p.rank.events p.handles.entries
+        × (p.me ≡ p.rank.me) × (p.at ≤ p.next) };
+}
+
+impl Process {
+    /// A process at its first command, in a run of these sizes.
+    pub fn new(alloc: Global, shape: Shape, me: u8) -> Result<Process, Memory>
+        requires { me < shape.ranks }
+        ensures me { IfOk result (λ p. (p.rank.me ≡ me) × (p.rank.sizes ≡ shape)) }
+        ensures events { IfOk result (λ p. (p.rank.events ≡ []) × (p.rank.clock ≡ 0)) }
+        ensures sent { IfOk result (λ p. (p.rank.sending.outbox.me ≡ me)
+            × (p.rank.sending.outbox.letters ≡ [])
+            × (p.rank.sending.outbox.popped ≡ replicate shape.ranks 0)
+            × (p.rank.sending.offers ≡ no_offers shape.ranks)
+            × (p.rank.sending.pushed ≡ replicate shape.ranks 0)) }
+        ensures came { IfOk result (λ p. (from : ℕ) → drawn_from p.rank.receiving from ≡ 0) }
+        ensures drawn { IfOk result (λ p. length p.rank.receiving.drawn ≡ shape.ranks) }
+        ensures bytes { IfOk result (λ p. (a : Arrival) → came_of p.rank.receiving a ≡ []) }
+        ensures requests { IfOk result (λ p. (q : Req) → kind_of p.rank.requests q ≡ None) }
+        ensures counts { IfOk result (λ p. (p.rank.took ≡ replicate shape.ranks 0)
+            × (p.rank.pulled ≡ replicate shape.ranks 0) × (p.rank.strays ≡ 0)) }
+        ensures known { IfOk result (λ p. p.rank.known ≡ replicate shape.ranks nothing_known) }
+        ensures begins { IfOk result (λ p. (p.at ≡ 0) × ((lines : List Line) → IsAtWork shape lines p)) }
+    {
+        Ok(Process {
+            me,
+            rank: Rank::new(alloc, shape, me)?,
+            requests: IndexMap::new(alloc),
+            handles: IndexMap::new(alloc),
+            next: 0,
+            at: 0,
+        })
+    }
+
+    /// The rank.
+    pub fn me(&self) -> u8
+        ensures { result ≡ self.now.rank.me }
+    {
+        self.me
+    }
+
+    /// How many of its commands ran.
+    pub fn at(&self) -> u32
+        ensures { result ≡ self.now.at }
+    {
+        self.at
+    }
+
+    /// The line of the next command, if not every command ran.
+    pub fn next_line(&self, lines: &[Line]) -> Option<u32>
+        requires { length lines.now < MAX_LINES }
+        ensures { (shape : Sizes) → IsAtWork shape lines.now self.now → result
+            ≡ option_map (λ c. c.line)
+            (slice_get (commands_of self.now.rank.me lines.now) self.now.at) }
+    {
+        let place = self.next_place(lines)?;
+        Some(place as u32 + 2)
+    }
+
+    // The place of the next command in the script.
+    fn next_place(&self, lines: &[Line]) -> Option<usize>
+        ensures some { IfSome result (λ place. (place < length lines.now)
+            × IfSome (slice_get lines.now place)
+            (IsNext lines.now self.now.rank.me self.now.next place)) }
+        ensures none { IfNone result
+            (NoneBetween lines.now self.now.rank.me self.now.next (length lines.now)) }
+    {
+        let me = self.me;
+        for place in self.next..lines.len() {
+            if lines[place].rank == me {
+                return Some(place);
+            }
+        }
+        None
+    }
+
+    /// Whether there is a next command and it can go on.
+    pub fn can_run(&self, lines: &[Line]) -> bool
+        ensures { (shape : Sizes) → IsAtWork shape lines.now self.now → result
+            ≡ goes_on (commands_of self.now.rank.me lines.now) self.now }
+    {
+        let Some(place) = self.next_place(lines) else {
+            return false;
+        };
+        self.can_go_on(&lines[place].command)
+    }
+
+    // Whether a command can go on.
+    fn can_go_on(&self, command: &Command) -> bool
+        ensures { result ≡ can_go_on_by self.now command.now }
+    {
+        match command {
+            Command::Wait { q } => self.is_ready(*q),
+            Command::Await { from, tag, ctx } => self.rank.probe(*from, *tag, *ctx).is_some(),
+            _ => true,
+        }
+    }
+
+    // Whether the request of this name is complete, or there is none.
+    fn is_ready(&self, q: u16) -> bool
+        ensures { result
+            ≡ option_map_or (is_complete self.now.rank.events) (named self.now q) true }
+    {
+        let Some(request) = self.requests.get(&q).copied() else {
+            return true;
+        };
+        match self.rank.test(request) {
+            Ok(State::Ready) => true,
+            Ok(State::Pending) => false,
+            Err(NoSuch) => unreachable!(),
+        }
+    }
+
+    /// Runs the next command, if there is one and it can go on. A rank that is worn runs none.
+    pub fn run_next(&mut self, lines: &[Line]) -> Result<Step, Memory>
+        requires { AreLines self.old.rank.sizes.ranks lines.now }
+        ensures stepped { IfOk result (HasStepped lines.now self.old self.new) }
+        ensures same { OnOk result ((self.new.rank.me ≡ self.old.rank.me)
+            × (self.new.rank.sizes ≡ self.old.rank.sizes)) }
+        ensures waits { IfOk result (λ step. step ≡ step_is.Waits → IsFresh self.old.rank →
+            (shape : Sizes) → IsAtWork shape lines.now self.old →
+            goes_on (commands_of self.old.rank.me lines.now) self.old ≡ false) }
+        ensures work { OnOk result ((shape : Sizes) → IsAtWork shape lines.now self.old →
+            IsAtWork shape lines.now self.new) }
+    {
+        if self.rank.is_worn() {
+            return Ok(Step::Waits);
+        }
+        let Some(place) = self.next_place(lines) else {
+            return Ok(Step::Waits);
+        };
+        let step = self.run_command(&lines[place].command, place as u32 + 2)?;
+        if let Step::Waits = step {
+            return Ok(Step::Waits);
+        }
+        self.next = place + 1;
+        self.at += 1;
+        self.rank.history();
+        Ok(step)
+    }
+
+    // Runs the command of a line.
+    fn run_command(&mut self, command: &Command, line: u32) -> Result<Step, Memory>
+        requires fresh { IsFresh self.old.rank }
+        requires in_range { is_in_range self.old.rank.sizes.ranks command.now ≡ true }
+        ensures places { (self.new.next ≡ self.old.next) × (self.new.at ≡ self.old.at) }
+        ensures tried { IfOk result (HasTried self.old self.new command.now line) }
+    {
+        match command {
+            Command::Send {
+                q,
+                to,
+                tag,
+                ctx,
+                body,
+                sync,
+            } => self.send(*q, *to, *tag, *ctx, body, *sync, line),
+            Command::Recv {
+                q,
+                from,
+                tag,
+                ctx,
+                cap,
+            } => self.receive(*q, *from, *tag, *ctx, *cap, line),
+            Command::Wait { q } => self.wait(*q, line),
+            Command::Test { q } => self.test(*q, line),
+            Command::Probe { from, tag, ctx } => self.probe(*from, *tag, *ctx, line),
+            Command::Await { from, tag, ctx } => self.await_message(*from, *tag, *ctx, line),
+            Command::Cancel { q } => self.cancel(*q, line),
+            Command::Mprobe { m, from, tag, ctx } => self.claim(*m, *from, *tag, *ctx, line),
+            Command::Mrecv { q, m, cap } => self.receive_claimed(*q, *m, *cap, line),
+        }
+    }
+}
