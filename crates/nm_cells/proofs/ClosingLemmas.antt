@@ -39,6 +39,7 @@ merged key id other v w s R at ne there = record {
   laid = R.laid;
   boxes = R.boxes;
   turns = R.turns;
+  told = R.told;
 }
 
 pub sealed_off : (key : Sizes) (id : ℕ) (v : View Entry) → Splits (Rule key) id v v (sealed v)
@@ -51,6 +52,7 @@ sealed_off key id v s R at = record {
   laid = R.laid;
   boxes = R.boxes;
   turns = R.turns;
+  told = R.told;
 }
 
 -- an entry of a list of which all are so

@@ -7,6 +7,7 @@ pub mod ClosingLemmas
 pub mod CountedLemmas
 pub mod HoldingLemmas
 pub mod LooseLemmas
+pub mod PassLemmas
 pub mod PathListLemmas
 pub mod PortLemmas
 pub mod TallyLemmas

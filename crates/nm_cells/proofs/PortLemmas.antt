@@ -306,6 +306,9 @@ module _ (b : Bool) (f : Fabric) (p : Port) (d c shadow : ℕ) (after : Knowing)
       let o₅ = owns.5 in let o₆ = owns.6 in let s₀ = f.small.0 in let s₃ = f.small.3 in
       omega arith
 
+  pub takes_owner : c / f.each < 256
+  takes_owner = let l = owner_low in let s = f.small.0 in omega arith
+
   pub takes_count : b ≡ true → (c / f.each < length p.peers.items)
       × ((peer_in p.peers.items (c / f.each)).unpassed < 2305843009213693952)
   takes_count _ = let e = mine p.seat.me in (
@@ -375,6 +378,10 @@ module _ (b : Bool) (f : Fabric) (p : Port) (d c shadow : ℕ) (after : Knowing)
   )
   by_free true d u r = absurd (let z = r in cc)
 
+  -- a cell of the free queue is the rank's own
+  pub takes_own : b ≡ false → c / f.each ≡ p.rank
+  takes_own r = (by_free b c t r).1
+
   -- a packet that was taken from the receive queue is to be passed on
   by_arrival : (k : Bool) (t : Took k c shadow p.seat.me after) → (peers : List Peer)
       → peers ≡ counted_after k (c / f.each) p.peers.items → c / f.each < length p.peers.items
@@ -411,8 +418,9 @@ module _ (b : Bool) (f : Fabric) (p : Port) (d c shadow : ℕ) (after : Knowing)
       → cell.owner ≡ c / f.each → new.held ≡ p.held
       → new.peers.items ≡ counted_after b (c / f.each) p.peers.items → new.hands ≡ p.hands + 1
       → look_of b new ≡ Fresh → look_of (other b) new ≡ look_of (other b) p
-      → new.loose ≡ p.loose → Takes b f p new cell
-  takes_made new cell me is owner same peers one look others spare = let e = mine p.seat.me in
+      → new.loose ≡ p.loose
+      → suc c ≡ (plays.heads_of b (mine p.seat.me)).shadow → Takes b f p new cell
+  takes_made new cell me is owner same peers one look others spare first = let e = mine p.seat.me in
       let y = t.load in
       let now : holding new ≡ update (holding p) c y =
       ap (λ m. held_in (length (mine m).hands) m.1) me
@@ -433,6 +441,7 @@ module _ (b : Bool) (f : Fabric) (p : Port) (d c shadow : ℕ) (after : Knowing)
               (subst (λ x. IsAmong x c) spare (subst (IsAmong new.loose) is i))),
         );
         of_rank = subst (λ k. k < f.ranks) (sym owner) owner_low;
+        first = λ _. let z : cell.number + 1 ≡ suc c = omega arith in z ∙ first;
         fresh = ap (hand e) is ∙ t.away;
         full = λ r. let whose = by_receive b c t r in (
           ap sender here ∙ whose ∙ ap suc (sym owner),

@@ -139,6 +139,8 @@ arrivals false = 0
 pub record Takes (b : Bool) (f : Fabric) (old new : Port) (c : Cell) : Type 0 where
   pub has : Has f new c
   pub of_rank : c.owner < f.ranks
+  pub first : 0 < (heads_of b (knows old)).shadow
+      → c.number + 1 ≡ (heads_of b (knows old)).shadow
   pub fresh : hand (knows old) c.number ≡ Away
   pub full : b ≡ true → (sender (holding new c.number) ≡ suc c.owner)
       × IsSome (holding new c.number)

@@ -19,65 +19,11 @@ use crate::slots::{bring_slot, carry};
 use crate::tally::{
     count_boxed, count_full, count_miss, count_unboxed, note_emptying, note_filling,
 };
-use atomic_table::Play;
-use nm_seats::{Steps, View};
-use nm_table::Entry;
+use nm_seats::Steps;
+use nm_table::{Fills, LooksIn, LooksOut, Told, Vacates};
 use nm_types::Packet;
-use std::marker::{Brand, PhantomData};
+use std::marker::Brand;
 use std::sync::ledger::Ledger;
-
-/// Numbers that a step is told by its caller.
-pub trait Told {
-    ghost peer: { ℕ };
-
-    ghost awaited: { ℕ };
-}
-
-impl Told for Brand {
-    ghost peer = { 0 };
-
-    ghost awaited = { 0 };
-}
-
-struct LooksOut<T> {
-    told: PhantomData<T>,
-}
-
-impl<T: Told> Play<Option<Packet>, View<Entry>> for LooksOut<T> {
-    ghost use Rattle.nm_table.specs.Plays.{looked_out};
-
-    ghost then = { looked_out T.peer };
-}
-
-struct LooksIn<T> {
-    told: PhantomData<T>,
-}
-
-impl<T: Told> Play<Option<Packet>, View<Entry>> for LooksIn<T> {
-    ghost use Rattle.nm_table.specs.Plays.{looked_in};
-
-    ghost then = { looked_in T.peer T.awaited };
-}
-
-struct Fills<T> {
-    told: PhantomData<T>,
-}
-
-impl<T: Told> Play<Option<Packet>, View<Entry>> for Fills<T> {
-    ghost use Rattle.nm_table.specs.Plays.{boxed};
-
-    ghost then = { boxed T.peer };
-}
-
-struct Vacates<T> {
-    told: PhantomData<T>,
-}
-
-impl<T: Told> Play<Option<Packet>, View<Entry>> for Vacates<T> {
-    ghost use Rattle.nm_table.specs.Plays.{unboxed};
-
-    ghost then = { unboxed T.peer };
-}
 
 impl Fabric {
     // The slot of the box at this place of the pair. Its flag is the word 4 * ranks further on.

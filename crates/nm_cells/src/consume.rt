@@ -2,9 +2,10 @@
 //!
 //! Each is written once over `B`, which is `true` for the receive queue, and called by the queue's name.
 
-ghost use Rattle.std.specs.Prelude.{true, false, ◌≡◌, ◌≢◌, ℕ, suc, ◌+◌, ◌-◌, ◌*◌, ◌<◌, ◌≤◌, ◌^◌, ◌∷◌};
-ghost use Rattle.std.specs.Prelude.{◌↔◌, IsTrue, IfSome, IfNone, length};
+ghost use Rattle.std.specs.Prelude.{true, false, ◌≡◌, ◌≢◌, ℕ, suc, ◌+◌, ◌-◌, ◌*◌, ◌/◌, ◌<◌, ◌≤◌, ◌^◌, ◌∷◌};
+ghost use Rattle.std.specs.Prelude.{◌↔◌, IsTrue, IfSome, IfNone, length, vec_len, vec_capacity};
 ghost use Rattle.nm_table.specs.Plays.{queue, heads_of, with_heads, heads_at, with_missed};
+ghost use Rattle.nm_table.specs.Plays.{with_look};
 ghost use Rattle.nm_cells.specs.Counted.{peer_in, counted_after};
 ghost use Rattle.nm_table.specs.Plays.{head_miss, link_miss};
 ghost use Rattle.nm_cells.specs.Ports.{Owns, Stays, knows, holding, Takes, Leaves, look_of};
@@ -16,51 +17,9 @@ use crate::peers::Peer;
 use crate::port::{Fabric, Port};
 use crate::slots::carry;
 use crate::tally::count_arrived;
-use atomic_table::Play;
-use nm_seats::{Steps, View};
-use nm_table::{Entry, Heads, Look, Misses};
-use nm_types::Packet;
+use nm_seats::Steps;
+use nm_table::{ClearsHead, Drains, Heads, LoadsHead, Look, Passes, Reloads};
 use std::sync::ledger::Ledger;
-
-struct LoadsHead<const B: bool>;
-
-impl<const B: bool> Play<Option<Packet>, View<Entry>> for LoadsHead<B> {
-    ghost use Rattle.nm_table.specs.Plays.{loaded_head};
-
-    ghost then = { loaded_head B };
-}
-
-struct ClearsHead<const B: bool>;
-
-impl<const B: bool> Play<Option<Packet>, View<Entry>> for ClearsHead<B> {
-    ghost use Rattle.nm_table.specs.Plays.{cleared_head};
-
-    ghost then = { cleared_head B };
-}
-
-struct Passes<const B: bool>;
-
-impl<const B: bool> Play<Option<Packet>, View<Entry>> for Passes<B> {
-    ghost use Rattle.nm_table.specs.Plays.{passed};
-
-    ghost then = { passed B };
-}
-
-struct Reloads<const B: bool>;
-
-impl<const B: bool> Play<Option<Packet>, View<Entry>> for Reloads<B> {
-    ghost use Rattle.nm_table.specs.Plays.{reloaded};
-
-    ghost then = { reloaded B };
-}
-
-struct Drains<const B: bool>;
-
-impl<const B: bool> Play<Option<Packet>, View<Entry>> for Drains<B> {
-    ghost use Rattle.nm_table.specs.Plays.{drained};
-
-    ghost then = { drained B };
-}
 
 fn own_queue<const B: bool>(f: &Fabric, port: &Port) -> u64
     requires { port.now.rank < f.now.ranks }
@@ -145,6 +104,38 @@ fn count_taken<const B: bool>(peers: &mut Vec<Peer>, owner: usize)
     }
 }
 
+// The first cell of a queue is in hand, and a packet came where that is the receive queue. The cells of
+// the free queue are the port's own.
+fn first_taken<const B: bool>(
+    peers: &mut Vec<Peer>,
+    carried: &mut Vec<u64>,
+    hands: &mut u32,
+    number: u64,
+    each: u64,
+    rank: u8,
+) -> Cell
+    requires count { B ≡ true → (number / each < length peers.old.items)
+        × ((peer_in peers.old.items (number / each)).unpassed < 2 ^ 61) }
+    requires room { vec_len carried.old < vec_capacity carried.old }
+    requires few { hands.old + 1 ≤ 4294967295 }
+    requires own { B ≡ false → number / each ≡ rank }
+    requires low { (0 < each) × (number / each < 256) }
+    ensures peers { peers.new.items ≡ counted_after B (number / each) peers.old.items }
+    ensures items { carried.new.items ≡ number ∷ carried.old.items }
+    ensures capacity { vec_capacity carried.old ≤ vec_capacity carried.new }
+    ensures hands { hands.new ≡ hands.old + 1 }
+    ensures cell { (result.number ≡ number) × (result.owner ≡ number / each) }
+{
+    let owner = if B { number / each } else { u64::from(rank) };
+    count_taken::<B>(peers, owner as usize);
+    carry(carried, number);
+    *hands += 1;
+    Cell {
+        number,
+        owner: owner as u8,
+    }
+}
+
 fn load_link_of<L: Ledger, const B: bool>(
     f: &Fabric,
     port: &mut Port,
@@ -153,7 +144,7 @@ fn load_link_of<L: Ledger, const B: bool>(
     requires owns { Owns f.now port.old }
     requires first { 0 < (heads_of B (knows port.old)).shadow }
     ensures owns { Owns f.now port.new × (port.new.rank ≡ port.old.rank) }
-    ensures none { IfNone result ((knows port.new ≡ knows port.old)
+    ensures none { IfNone result ((knows port.new ≡ with_look B LinkEmpty (knows port.old))
         × Leaves B LinkEmpty port.old port.new) }
     ensures some { IfSome result (Takes B f.now port.old port.new) }
     ensures cost { steps.new ≡ steps.old + 1 }
@@ -173,20 +164,20 @@ fn load_link_of<L: Ledger, const B: bool>(
         shadow: found,
         seen: 0,
     };
-    let owner = number / f.each;
     if B {
         port.receive = heads;
     } else {
         port.free = heads;
     }
     port.looks.set::<B>(Look::Fresh);
-    count_taken::<B>(&mut port.peers, owner as usize);
-    carry(&mut port.carried, number);
-    port.hands += 1;
-    Some(Cell {
+    Some(first_taken::<B>(
+        &mut port.peers,
+        &mut port.carried,
+        &mut port.hands,
         number,
-        owner: owner as u8,
-    })
+        f.each,
+        port.rank,
+    ))
 }
 
 fn reload_link_of<L: Ledger, const B: bool>(
@@ -198,7 +189,8 @@ fn reload_link_of<L: Ledger, const B: bool>(
     requires first { 0 < (heads_of B (knows port.old)).shadow }
     requires look { look_of B port.old ≡ TailElsewhere }
     ensures owns { Owns f.now port.new × (port.new.rank ≡ port.old.rank) }
-    ensures none { IfNone result ((knows port.new ≡ with_missed B link_miss (knows port.old))
+    ensures none { IfNone result ((knows port.new
+        ≡ with_look B LinkEmpty (with_missed B link_miss (knows port.old)))
         × Leaves B LinkEmpty port.old port.new) }
     ensures some { IfSome result (Takes B f.now port.old port.new) }
     ensures cost { steps.new ≡ steps.old + 1 }
@@ -223,20 +215,20 @@ fn reload_link_of<L: Ledger, const B: bool>(
         shadow: found,
         seen: 0,
     };
-    let owner = number / f.each;
     if B {
         port.receive = heads;
     } else {
         port.free = heads;
     }
     port.looks.set::<B>(Look::Fresh);
-    count_taken::<B>(&mut port.peers, owner as usize);
-    carry(&mut port.carried, number);
-    port.hands += 1;
-    Some(Cell {
+    Some(first_taken::<B>(
+        &mut port.peers,
+        &mut port.carried,
+        &mut port.hands,
         number,
-        owner: owner as u8,
-    })
+        f.each,
+        port.rank,
+    ))
 }
 
 fn drop_tail_of<L: Ledger, const B: bool>(
@@ -248,7 +240,7 @@ fn drop_tail_of<L: Ledger, const B: bool>(
     requires first { 0 < (heads_of B (knows port.old)).shadow }
     requires look { look_of B port.old ≡ LinkEmpty }
     ensures owns { Owns f.now port.new × (port.new.rank ≡ port.old.rank) }
-    ensures none { IfNone result ((knows port.new ≡ knows port.old)
+    ensures none { IfNone result ((knows port.new ≡ with_look B TailElsewhere (knows port.old))
         × Leaves B TailElsewhere port.old port.new) }
     ensures some { IfSome result (Takes B f.now port.old port.new) }
     ensures cost { steps.new ≡ steps.old + 1 }
@@ -266,20 +258,20 @@ fn drop_tail_of<L: Ledger, const B: bool>(
         return None;
     }
     let heads = Heads { shadow: 0, seen: 0 };
-    let owner = number / f.each;
     if B {
         port.receive = heads;
     } else {
         port.free = heads;
     }
     port.looks.set::<B>(Look::Fresh);
-    count_taken::<B>(&mut port.peers, owner as usize);
-    carry(&mut port.carried, number);
-    port.hands += 1;
-    Some(Cell {
+    Some(first_taken::<B>(
+        &mut port.peers,
+        &mut port.carried,
+        &mut port.hands,
         number,
-        owner: owner as u8,
-    })
+        f.each,
+        port.rank,
+    ))
 }
 
 /// Loads the head of an own queue, and answers whether it was a cell.
@@ -334,7 +326,8 @@ pub fn load_link<L: Ledger>(
     requires own { IsOwn port.old q }
     requires first { 0 < (heads_of (is_receive q) (knows port.old)).shadow }
     ensures owns { Owns f.now port.new × (port.new.rank ≡ port.old.rank) }
-    ensures none { IfNone result ((knows port.new ≡ knows port.old)
+    ensures none { IfNone result ((knows port.new
+        ≡ with_look (is_receive q) LinkEmpty (knows port.old))
         × Leaves (is_receive q) LinkEmpty port.old port.new) }
     ensures some { IfSome result (Takes (is_receive q) f.now port.old port.new) }
     ensures cost { steps.new ≡ steps.old + 1 }
@@ -359,7 +352,8 @@ pub fn drop_tail<L: Ledger>(
     requires first { 0 < (heads_of (is_receive q) (knows port.old)).shadow }
     requires look { look_of (is_receive q) port.old ≡ LinkEmpty }
     ensures owns { Owns f.now port.new × (port.new.rank ≡ port.old.rank) }
-    ensures none { IfNone result ((knows port.new ≡ knows port.old)
+    ensures none { IfNone result ((knows port.new
+        ≡ with_look (is_receive q) TailElsewhere (knows port.old))
         × Leaves (is_receive q) TailElsewhere port.old port.new) }
     ensures some { IfSome result (Takes (is_receive q) f.now port.old port.new) }
     ensures cost { steps.new ≡ steps.old + 1 }
@@ -385,7 +379,8 @@ pub fn reload_link<L: Ledger>(
     requires look { look_of (is_receive q) port.old ≡ TailElsewhere }
     ensures owns { Owns f.now port.new × (port.new.rank ≡ port.old.rank) }
     ensures none { IfNone result ((knows port.new
-        ≡ with_missed (is_receive q) link_miss (knows port.old))
+        ≡ with_look (is_receive q) LinkEmpty (with_missed (is_receive q) link_miss
+        (knows port.old)))
         × Leaves (is_receive q) LinkEmpty port.old port.new) }
     ensures some { IfSome result (Takes (is_receive q) f.now port.old port.new) }
     ensures cost { steps.new ≡ steps.old + 1 }

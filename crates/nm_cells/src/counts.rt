@@ -1,7 +1,8 @@
 //! What a port tells of itself.
 
-ghost use Rattle.std.specs.Prelude.{◌≡◌, ◌≢◌, ◌<◌, ◌↔◌, ◌^◌, IsTrue, Some, None, option_copied, slice_index, length};
-ghost use Rattle.nm_cells.specs.Counted.{peer_in, one_passed, with_peer};
+ghost use Rattle.std.specs.Prelude.{◌≡◌, ◌≢◌, ◌+◌, ◌<◌, ◌↔◌, ◌^◌, IsTrue, Some, None, option_copied, slice_index, length};
+ghost use Rattle.nm_seats.specs.Update.{update};
+ghost use Rattle.nm_cells.specs.Counted.{peer_in};
 ghost use Rattle.nm_table.specs.Rule.{put_to, from as from_rank};
 ghost use Rattle.nm_table.specs.Plays.{heads_of, missed_of, capped};
 ghost use Rattle.nm_cells.specs.Ports.{knows, sent_by, taken_by, unpassed_by, IsOwn, IsUnpassed, is_receive};
@@ -171,8 +172,9 @@ impl Port {
         requires unpassed { IsUnpassed self.old packet.now }
         requires not_held { self.old.held ≢ Some packet.now }
         requires next { packet.now.seq ≡ taken_by self.old packet.now.from }
-        ensures passed { self.new.peers.items
-            ≡ with_peer one_passed packet.now.from self.old.peers.items }
+        ensures taken { taken_by self.new ≡ update (taken_by self.old) packet.now.from
+            (taken_by self.old packet.now.from + 1) }
+        ensures unpassed { unpassed_by self.new + 1 ≡ unpassed_by self.old }
         ensures same { (self.new.seat ≡ self.old.seat) × (self.new.rank ≡ self.old.rank)
             × (self.new.hands ≡ self.old.hands) × (self.new.held ≡ self.old.held)
             × (self.new.looks ≡ self.old.looks) × (self.new.loose ≡ self.old.loose) }

@@ -24,7 +24,8 @@
 //!
 //! # What a contract sees
 //! What a port's seat knows (`knows`): the lists of packets that it put and got by cell and by box, its
-//! shadow heads, its part in each cell, the boxes at work, and its counts of misses. Beside that what
+//! shadow heads, its part in each cell, the boxes at work, its counts of misses, and what its last steps
+//! on its queues told of their first cells (`looks`). Beside that what
 //! each cell in hand holds (`holding`), which cells are loose (`IsLoose`), and what was sent (`sent_by`)
 //! and passed on (`taken_by`). Of a closed fabric, what each rank sent to and passed on of each other, by
 //! number (`sent_list`, `taken_list`).

@@ -10,24 +10,13 @@ ghost use Rattle.nm_cells.specs.Ports.{Owns, SameTaken, knows, cells_of, IsLoose
 use crate::cell::Cell;
 use crate::port::{Fabric, Port};
 use crate::slots::carry;
-use atomic_table::Play;
-use nm_seats::View;
-use nm_table::Entry;
-use nm_types::Packet;
+use nm_table::Picks;
 
 /// The cells with numbers from `first` on and below `end`.
 #[derive(Clone, Copy)]
 pub struct LooseCells {
     pub first: u64,
     pub end: u64,
-}
-
-struct Picks;
-
-impl Play<Option<Packet>, View<Entry>> for Picks {
-    ghost use Rattle.nm_table.specs.Plays.{picked};
-
-    ghost then = { picked };
 }
 
 // Takes the slot of the port's next own cell, which no call has touched yet. It is loose from then on.

@@ -51,6 +51,7 @@ pub struct Port {
     pub ghost alone: { Alone seat.me },
     pub ghost named: { (mine seat.me).rank ≡ rank },
     pub ghost ends: { ((mine seat.me).receive ≡ receive) × ((mine seat.me).free ≡ free) },
+    pub ghost looked: { (mine seat.me).looks ≡ looks },
     pub ghost missed: { ((mine seat.me).receive_missed ≡ receive_missed)
         × ((mine seat.me).free_missed ≡ free_missed) },
     pub ghost small: { (receive.shadow ≤ length (mine seat.me).hands) × (receive.seen ≤ length (mine seat.me).hands)

@@ -13,35 +13,9 @@ use crate::peers::Peer;
 use crate::port::{Fabric, Port};
 use crate::slots::bring_cell;
 use crate::tally::count_sent;
-use atomic_table::Play;
-use nm_seats::{Steps, View};
-use nm_table::Entry;
-use nm_types::Packet;
+use nm_seats::Steps;
+use nm_table::{Clears, Finishes, Swaps};
 use std::sync::ledger::Ledger;
-
-struct Clears;
-
-impl Play<Option<Packet>, View<Entry>> for Clears {
-    ghost use Rattle.nm_table.specs.Plays.{cleared};
-
-    ghost then = { cleared };
-}
-
-struct Swaps;
-
-impl Play<Option<Packet>, View<Entry>> for Swaps {
-    ghost use Rattle.nm_table.specs.Plays.{swapped};
-
-    ghost then = { swapped };
-}
-
-struct Finishes;
-
-impl Play<Option<Packet>, View<Entry>> for Finishes {
-    ghost use Rattle.nm_table.specs.Plays.{finished};
-
-    ghost then = { finished };
-}
 
 impl Fabric {
     // The number of a queue: the receive queues come first.

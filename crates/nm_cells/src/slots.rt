@@ -41,6 +41,9 @@ fn bring(seat: &mut Place, carried: &mut Vec<u64>, slot: u64)
     let Some(at) = carried.iter().position(|x| *x == slot) else {
         unreachable!()
     };
+    if at == 0 {
+        return;
+    }
     for _i in 0..at {
         seat.turn();
     }

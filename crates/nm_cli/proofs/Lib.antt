@@ -1,1 +1,1 @@
-pub mod PartLemmas
+pub mod LineLemmas

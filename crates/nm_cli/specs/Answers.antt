@@ -2,9 +2,11 @@
 use Rattle.std.specs.Prelude.{◌≡◌, ℕ, Bool, true, false, if◌then◌else◌, List, ◌++◌, ◌⊎◌, IfSome}
 use Rattle.std.specs.Prelude.{Option, Some, None, codes, decimal}
 use Rattle.nm_outside.specs.Told.{Rose, Appends}
-use Rattle.nm_script.specs.Part.{Refuses}
+use Rattle.nm_script.specs.Rules.{IsFirstFault}
+use Rattle.nm_script.specs.Spelled.{SpellsNone}
 use Rattle.nm_script.specs.declared.faults.Kind.{Kind}
 use Rattle.nm_script.specs.declared.faults.Kind.TheVariants as kind
+use Rattle.nm_script.specs.declared.faults.ScriptFault.{ScriptFault}
 use Rattle.nm_script.specs.declared.faults.ScriptFault.TheVariants as fault
 use Rattle.nm_report.specs.Report.{report_text}
 use Rattle.nm_report.specs.declared.records.RunRecord.{RunRecord}
@@ -58,6 +60,15 @@ abbrev pub run_of : Answer → Option RunRecord
 run_of (Ran run) = Some run
 run_of _ = None
 
+-- the first fault of the bytes
+unfoldable pub IsTold : List ℕ → ℕ → Kind → Type 0
+IsTold bytes line kind = IsFirstFault bytes line kind
+
+-- a refusal says the first fault of the bytes, which spell no script; want of memory says nothing
+abbrev pub Refuses : List ℕ → ScriptFault → Type 0
+Refuses bytes (fault.Bad line kind) = IsTold bytes line kind × SpellsNone bytes
+Refuses bytes fault.Memory = Unit {0}
+
 -- The answer is right: by whether the words are taken, by the bytes of the source where it tells
 -- them, and by its count of faults before and after.
 abbrev pub IsAnswer : Bool → Option (List ℕ) → ℕ → ℕ → Answer → Type 0
@@ -68,11 +79,11 @@ IsAnswer taken input old new (Refused line kind) =
 IsAnswer taken input old new (Ran run) =
     (taken ≡ true) × IfSome input (λ bytes. IsRunOfBytes (read_of bytes) run)
 
--- the bytes spell no script, and that was said
+-- the bytes spell no script, and their first fault was said
 pub record IsRefused (old new : Option (List ℕ)) (bytes : List ℕ) : Type 0 where
   pub line : ℕ
   pub kind : Kind
-  pub none : Refuses (read_of bytes) (fault.Bad line kind)
+  pub told : Refuses (read_of bytes) (fault.Bad line kind)
   pub said : Appends old new (fault_text line kind)
 
 -- a run of the script was reported

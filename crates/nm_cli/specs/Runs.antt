@@ -1,11 +1,9 @@
 -- The run of the script that bytes spell.
-use Rattle.std.specs.Prelude.{◌≡◌, ℕ, List, take, IsTrue}
-use Rattle.std.specs.List.{list_all}
+use Rattle.std.specs.Prelude.{◌≡◌, ℕ, List, take}
 use Rattle.nm_types.specs.declared.scripts.Line.{Line}
 use Rattle.nm_types.specs.Sizes.{Sizes}
-use Rattle.nm_types.specs.Limits.{IsScriptOf}
 use Rattle.nm_history.specs.Run.{IsRunOf}
-use Rattle.nm_script.specs.Part.{is_in_part}
+use Rattle.nm_script.specs.Spelled.{IsTextOf}
 use Rattle.nm_report.specs.Cells.{AllCellsFree}
 use Rattle.nm_report.specs.Ends.{are_done, ends_of, packets_of}
 use Rattle.nm_report.specs.declared.records.RunRecord.{RunRecord}
@@ -20,10 +18,6 @@ read_of bytes = take MAX_READ bytes
 abbrev pub shape_for : ℕ → Sizes
 shape_for ranks = record { ranks = ranks; cells = CELLS; eager = EAGER }
 
--- each command belongs to the part of the grammar that is read
-abbrev pub AreInPart : List Line → Type 0
-AreInPart lines = IsTrue (list_all (λ line. is_in_part line.command) lines)
-
 -- The record is of one run of a script: each rank ran its own commands, each took from each sender
 -- exactly the messages that it sent, and nothing is under way. All cells are home, and the run is
 -- done exactly where every rank is at its end.
@@ -37,5 +31,5 @@ pub record IsRunOfScript (ranks : ℕ) (lines : List Line) (run : RunRecord) : T
 pub record IsRunOfBytes (bytes : List ℕ) (run : RunRecord) : Type 0 where
   pub ranks : ℕ
   pub lines : List Line
-  pub spelled : IsScriptOf is_in_part bytes ranks lines
+  pub spelled : IsTextOf bytes ranks lines
   pub of_script : IsRunOfScript ranks lines run

@@ -20,13 +20,12 @@
 //! That it succeeds with ample memory.
 #![tactic(auto)]
 
-ghost use Rattle.std.specs.Prelude.{◌≡◌, ℕ, ◌⊎◌, true, false, None, List, map, string_bytes, IfOk, IfSome};
+ghost use Rattle.std.specs.Prelude.{◌≡◌, ℕ, ◌⊎◌, true, false, None, List, map, string_bytes, IfErr, IfOk, IfSome};
 ghost use Rattle.nm_outside.specs.Told.{Rose, Appends, AppendsPart};
 ghost use Rattle.nm_types.specs.declared.scripts.Line.{Line};
-ghost use Rattle.nm_types.specs.Limits.{IsScriptOf};
-ghost use Rattle.nm_script.specs.Part.{SpellsNone, is_in_part};
+ghost use Rattle.nm_script.specs.Spelled.{IsTextOf, SpellsNone};
 ghost use Rattle.nm_cli.specs.declared.answers.Answer.{Answer};
-ghost use Rattle.nm_cli.specs.Answers.{IsAnswer, IsRefused, IsReported, IsStatus, OrFails, OrUnwritten};
+ghost use Rattle.nm_cli.specs.Answers.{IsAnswer, IsRefused, IsReported, IsStatus, OrFails, OrUnwritten, Refuses};
 ghost use Rattle.nm_cli.specs.Answers.{run_of, text_of, unread};
 ghost use Rattle.nm_cli.specs.Runs.{read_of};
 ghost use Rattle.nm_cli.specs.Words.{are_taken, usage};
@@ -38,7 +37,7 @@ use answers::{Answer, record, status, text};
 use nm_outside::{Gate, Sink, Source, Unread, read_up_to, write_all};
 use nm_report::RunRecord;
 use nm_script::ScriptFault;
-use nm_types::{MAX_TEXT, Memory};
+use nm_types::{MAX_TEXT, Memory, Script};
 use runs::run_script;
 use std::alloc::Global;
 use std::sync::Wait;
@@ -71,7 +70,19 @@ fn is_run(words: &[String]) -> bool
     }
 }
 
-fn find_answer<R: Wait, S: Source, G: Gate>(
+// The script that the bytes spell, or their first fault.
+fn read_text(alloc: Global, bytes: &[u8]) -> Result<Script, ScriptFault>
+    ensures taken { IfOk result (λ script. IsTextOf bytes.now script.ranks script.lines) }
+    ensures refused { IfErr result (λ fault. Refuses bytes.now fault) }
+{
+    match nm_script::read(alloc, bytes) {
+        Ok(script) => Ok(script),
+        Err(ScriptFault::Memory) => Err(ScriptFault::Memory),
+        Err(ScriptFault::Bad { line, kind }) => Err(ScriptFault::Bad { line, kind }),
+    }
+}
+
+fn find_answer<R: Threads + Wait + Sync, S: Source, G: Gate + Sync>(
     rt: &R,
     alloc: Global,
     words: &[String],
@@ -90,7 +101,7 @@ fn find_answer<R: Wait, S: Source, G: Gate>(
         Err(Unread::Failed) => return Ok(Answer::Unread),
         Err(Unread::Memory) => return Err(Memory),
     };
-    match nm_script::read(alloc, &bytes) {
+    match read_text(alloc, &bytes) {
         Ok(script) => Ok(Answer::Ran(run_script(rt, alloc, &script, gate)?)),
         Err(ScriptFault::Bad { line, kind }) => Ok(Answer::Refused { line, kind }),
         Err(ScriptFault::Memory) => Err(Memory),
@@ -128,14 +139,14 @@ pub fn nemesis<R: Threads + Wait + Sync, S: Source, K: Sink, G: Gate + Sync>(
         (IsReported result.status result.run (K.taken sink.old) (K.taken sink.new)) }
     ensures reports { are_taken (map string_bytes words.now) ≡ true → IfSome (S.left source.old)
         (λ bytes. (ranks : ℕ) (lines : List Line) →
-        IsScriptOf is_in_part (read_of bytes) ranks lines →
+        IsTextOf (read_of bytes) ranks lines →
         OrFails ((result.status ≡ 0) ⊎ (result.status ≡ 1)) result.status) }
 
     // Words that are taken, bytes that spell a script, and no fault: then the run's report, whole, or
     // want of memory.
     ensures completes { are_taken (map string_bytes words.now) ≡ true → IfSome (S.left source.old)
         (λ bytes. (ranks : ℕ) (lines : List Line) →
-        IsScriptOf is_in_part (read_of bytes) ranks lines →
+        IsTextOf (read_of bytes) ranks lines →
         (Rose (S.faults source.old) (S.faults source.new) → ⊥) →
         (Rose (K.faults sink.old) (K.faults sink.new) → ⊥) → (result.status ≡ 6)
         ⊎ IsReported result.status result.run (K.taken sink.old) (K.taken sink.new) bytes) }

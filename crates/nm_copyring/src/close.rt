@@ -1,10 +1,11 @@
 //! The end of the rings.
 
-ghost use Rattle.std.specs.Prelude.{◌≡◌, ℕ, ◌+◌, ◌*◌, ◌<◌, ◌≤◌, List, [], ◌∷◌, Some, length, map, slice_get};
+ghost use Rattle.std.specs.Prelude.{◌≡◌, ℕ, ◌+◌, ◌*◌, ◌<◌, ◌≤◌, List, [], ◌∷◌, ◌++◌, Some, length, map, slice_get};
 ghost use Rattle.nm_seats.specs.Spoken.{view};
 ghost use Rattle.nm_copyring.specs.declared.port.RingPort.{RingPort};
 ghost use Rattle.nm_copyring.specs.AtClose.{Gathered, Prefixed, not_pulled};
-ghost use Rattle.nm_copyring.specs.ClosedLists.{entries};
+ghost use Rattle.nm_copyring.specs.ClosedLists.{entries, pulled_list, pushed_list};
+ghost use Rattle.nm_types.specs.declared.packets.Piece.{Piece};
 ghost use Rattle.nm_copyring.specs.Ports.{Owns, knows};
 
 use crate::port::{RingPort, Rings};
@@ -77,6 +78,8 @@ impl Rings {
             → Owns self p × (p.rank ≡ k) }
         ensures entries { entries result ≡ map knows ports.items }
         ensures prefix { Prefixed self.ranks (entries result) }
+        ensures lists { (i j : ℕ) → i < self.ranks → j < self.ranks → (left : List Piece)
+            × (pushed_list result i j ≡ pulled_list result i j ++ left) × (length left ≤ 4) }
         ensures left { result.left ≡ not_pulled self.ranks (entries result) }
     {
         let mut seat = gather(&self, ports);

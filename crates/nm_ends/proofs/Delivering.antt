@@ -15,7 +15,8 @@ use Rattle.nm_history.specs.Outgoing.{outgoing, packets_by}
 use Rattle.nm_history.specs.RankRun.{Always, NumberAt, CancelAt}
 use Rattle.nm_history.specs.Delivery.{ArriveInOrder}
 use Rattle.nm_history.proofs.AtEachLemmas.{AtEach-split, AtEach-from_splits}
-use Rattle.nm_history.proofs.DeliveryLemmas.{sends-push}
+use Rattle.nm_history.proofs.DeliveryLemmas.{AtEach-along, sends-push}
+use Rattle.nm_protocol.specs.Rules.{IsRightAt}
 use Rattle.nm_ends.proofs.Streams.{Announced, announced, StreamIsRight, completed, Announces, StreamGoes, SenderAt, eager_numbers, StreamContinued}
 use Rattle.nm_ends.specs.Moments.{Moment, Cause, history_of, taken_from, EachMomentAfter}
 use Rattle.nm_ends.specs.Sound.{AreSound, MayHappen, MadeBy, OwnEvent, IsSendable}
@@ -40,7 +41,7 @@ numbers-append (x ∷ xs) ys = by_test (not (is_ask x.how)) (numbers-append xs y
   by_test false same = same
 
 -- the packets that a history calls for continue, and announce its sends
-all_go : (eager i j : ℕ) (bodies : Sent → List ℕ) (before events : List Event) (num : ℕ) (known : Known) (ts : List Taken) (withdrawn : List ℕ) →
+pub all_go : (eager i j : ℕ) (bodies : Sent → List ℕ) (before events : List Event) (num : ℕ) (known : Known) (ts : List Taken) (withdrawn : List ℕ) →
     AtEachAfter (λ before e. SenderAt eager bodies before e.stamp e.what) before events → Between (length (sends before j)) withdrawn known →
     ((n : ℕ) → list_any (λ m. m == n) withdrawn ≡ happened (is_recall j n) before) →
     Carries i num (in_turn_after (λ before e. packets_by bodies j before e.stamp e.what) before events) ts → InTime ts → StreamIsRight eager known ts → StreamGoes i (sends events j) (eager_numbers (sends events j)) known ts
@@ -168,3 +169,21 @@ sender_at eager ranks bodies commands log sound numbers cancels =
     all_three before stamp (Send to n tag ctx len how line) numbers own number cancel = (number, own)
     all_three before stamp (Recall to n) numbers own number cancel = (sent_number ranks before to n numbers cancel.1, cancel.0)
     all_three before stamp w numbers own number cancel = tt
+
+-- the same by the rules that commands play no part in
+pub sender_right : (eager ranks : ℕ) (bodies : Sent → List ℕ) (commands : List Numbered) (log : List Moment) →
+    AreSound eager bodies commands log → AtEach (λ before e. IsRightAt ranks before e.what) (history_of log) →
+    AtEach (λ before e. SenderAt eager bodies before e.stamp e.what) (history_of log)
+sender_right eager ranks bodies commands log sound right =
+    AtEach-from_splits (λ before e. SenderAt eager bodies before e.stamp e.what) (history_of log) (λ before e after split.
+    let own = AtEach-split (LogSenderAt eager bodies) before e after (subst (λ (h : List Event). AtEach (LogSenderAt eager bodies) h) split (sound_sends eager bodies commands log sound)) in
+    let each = subst (λ (h : List Event). AtEach (λ before e. IsRightAt ranks before e.what) h) split right in
+    let here = AtEach-split (λ before e. IsRightAt ranks before e.what) before e after each in
+    let numbers_before = AtEach-along (λ before e. IsRightAt ranks before e.what) (λ before e. NumberAt ranks before e.what) before
+    (λ b x is. is.numbers) (AtEach-prefix (λ before e. IsRightAt ranks before e.what) before (e ∷ after) each) in
+    all_three before e.stamp e.what numbers_before own here)
+  where
+    all_three : (before : List Event) (stamp : ℕ) (w : Happened) → Always (NumberAt ranks) before → LogSender eager bodies before stamp w → IsRightAt ranks before w → SenderAt eager bodies before stamp w
+    all_three before stamp (Send to n tag ctx len how line) numbers own right = (right.numbers, own)
+    all_three before stamp (Recall to n) numbers own right = (sent_number ranks before to n numbers right.cancels.1, right.cancels.0)
+    all_three before stamp w numbers own right = tt

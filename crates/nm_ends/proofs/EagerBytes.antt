@@ -234,9 +234,9 @@ eager_body_at bodies k (suc i) n (x ∷ ss) s is numbered at eager =
     rw (eq_less x.n n (omega (arith, numbered.0, is))) (eager_body_at bodies (k + 1) i n ss s (omega (arith, is)) numbered.1 at eager)
 
 -- message n is complete by what is known
-record Complete (n : ℕ) (known : Known) : Type 0 where
-  announced : n < known.count
-  finished : n + 1 ≡ known.count → known.missing ≡ 0
+pub record Complete (n : ℕ) (known : Known) : Type 0 where
+  pub announced : n < known.count
+  pub finished : n + 1 ≡ known.count → known.missing ≡ 0
 
 -- a packet of the sender's own messages that continued continues by what is known
 fits : (eager : ℕ) (known : Known) (t : Taken) → t.continued ≡ true → is_of_stream t.packet.what ≡ true → t.packet.stamp < WORN_STAMP →
@@ -244,7 +244,7 @@ fits : (eager : ℕ) (known : Known) (t : Taken) → t.continued ≡ true → is
 fits eager known t goes stream in_time right = sym (at_true _ (rw (stream, lt_true t.packet.stamp WORN_STAMP in_time) refl) right) ∙ goes
 
 -- what a further packet of an eager message finds
-more_found : (eager : ℕ) (known : Known) (m size : ℕ) → continues_stream eager known (what.More m) size ≡ true → (0 < known.missing) × (m + 1 ≡ known.count)
+pub more_found : (eager : ℕ) (known : Known) (m size : ℕ) → continues_stream eager known (what.More m) size ≡ true → (0 < known.missing) × (m + 1 ≡ known.count)
 more_found eager known m size goes =
     let parts = and_left (nat_lt 0 known.missing && m + 1 == known.count) (size == min MAX_PAYLOAD known.missing) goes in
     (passes 0 known.missing (and_left (nat_lt 0 known.missing) (m + 1 == known.count) parts), same_number (m + 1) known.count (and_right (nat_lt 0 known.missing) (m + 1 == known.count) parts))
@@ -253,7 +253,7 @@ more_found eager known m size goes =
     passes x y h = grind (arith, nat_tests)
 
 -- a packet of this kind continues
-abbrev Goes : ℕ → Known → What → ℕ → Type 0
+abbrev pub Goes : ℕ → Known → What → ℕ → Type 0
 Goes eager known w size = is_of_stream w ≡ true → continues_stream eager known w size ≡ true
 
 complete_now : (eager n : ℕ) (known : Known) (w : What) (size : ℕ) → Goes eager known w size → completes known w size ≡ Some n → Complete n (learned known w size)
@@ -267,7 +267,7 @@ complete_now eager n known (what.More m) size goes is = by_test (known.missing =
   by_test false test is = cc
 complete_now eager n known w size goes is = cc
 
-complete_stays : (eager n : ℕ) (known : Known) (w : What) (size : ℕ) → Goes eager known w size → Complete n known → Complete n (learned known w size)
+pub complete_stays : (eager n : ℕ) (known : Known) (w : What) (size : ℕ) → Goes eager known w size → Complete n known → Complete n (learned known w size)
 complete_stays eager n known (what.Head tag ctx len) size goes was = record { announced = omega (arith, was.announced); finished = λ e. absurd (omega (arith, e, was.announced)) }
 complete_stays eager n known (what.Ask tag ctx len) size goes was = record { announced = omega (arith, was.announced); finished = λ e. absurd (omega (arith, e, was.announced)) }
 complete_stays eager n known (what.More m) size goes was = record { announced = was.announced; finished = λ e. let found = more_found eager known m size (goes refl) in absurd (omega (arith, found.0, was.finished e)) }
@@ -327,7 +327,7 @@ completed_is_complete eager n known (t ∷ ts) in_time right found =
             complete_to_end eager n (known_after known t) ts in_time.1 right.1 (subst (λ (k : Known). Complete n k) (sym after) now)
 
 -- no packet carries more of a complete message
-none_after_complete : (eager n : ℕ) (known : Known) (ts : List Taken) → InTime ts → StreamIsRight eager known ts → Complete n known → eager_bytes n known ts ≡ []
+pub none_after_complete : (eager n : ℕ) (known : Known) (ts : List Taken) → InTime ts → StreamIsRight eager known ts → Complete n known → eager_bytes n known ts ≡ []
 none_after_complete eager n known [] in_time right was = refl
 none_after_complete eager n known (t ∷ ts) in_time right was =
     let none : taken_bytes n known t ≡ [] = by_goes t.continued refl in
@@ -345,7 +345,7 @@ completed-append known (t ∷ ts) more = by_option (cond t.continued (completes 
   by_option None same = same
   by_option (Some n) same = ap (λ (ns : List ℕ). n ∷ ns) same
 
-eager_bytes-append : (n : ℕ) (known : Known) (ts more : List Taken) → eager_bytes n known (ts ++ more) ≡ eager_bytes n known ts ++ eager_bytes n (fold known_after known ts) more
+pub eager_bytes-append : (n : ℕ) (known : Known) (ts more : List Taken) → eager_bytes n known (ts ++ more) ≡ eager_bytes n known ts ++ eager_bytes n (fold known_after known ts) more
 eager_bytes-append n known [] more = refl
 eager_bytes-append n known (t ∷ ts) more =
     ap (λ (xs : List ℕ). taken_bytes n known t ++ xs) (eager_bytes-append n (known_after known t) ts more) ∙ sym (append_assoc (taken_bytes n known t) (eager_bytes n (known_after known t) ts) (eager_bytes n (fold known_after (known_after known t) ts) more))

@@ -32,3 +32,5 @@ pub mod Bodies
 -- the law, and from each two ranks to all
 pub mod Settled
 pub mod Run
+pub mod SoFar
+pub mod OverNow

@@ -3,3 +3,4 @@ pub mod Finished
 pub mod Moments
 pub mod Settled
 pub mod Sound
+pub mod SoFar

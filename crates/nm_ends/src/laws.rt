@@ -2,3 +2,4 @@
 
 pub mod logs;
 pub mod settled;
+pub mod so_far;

@@ -6,3 +6,6 @@ pub mod QueueLemmas
 pub mod StandsLemmas
 pub mod StepLemmas
 pub mod TurnLemmas
+pub mod EventLemmas
+pub mod SearchLemmas
+pub mod InTurnLemmas

@@ -20,6 +20,7 @@ ghost use Rattle.nm_match.specs.declared.deeds.Deed.{Deed};
 ghost use Rattle.nm_match.specs.declared.deeds.Deed.TheVariants as deed;
 ghost use Rattle.nm_match.specs.Deeds.{Stands, event_of, history_of, is_known_message};
 ghost use Rattle.nm_match.specs.Deeds.{is_known_receive, is_of_matching};
+ghost use Rattle.nm_match.specs.InTurn.{ArePairedInTurn, ArePlainEvents};
 
 /// The history that deeds stand for, one deed after another.
 pub fn history_grows()
@@ -110,4 +111,12 @@ pub fn numbers_are_known()
 pub fn known_messages_arrived()
     ensures { (h : List Event) (from n : ℕ) →
         is_known_message h from n ≡ happened (is_arrival from n) h }
+{}
+
+/// Where each receive names its source and its tag, no receive is cancelled and no message is withdrawn
+/// or claimed, messages and receives of one source, tag and context pair in turn: the k-th receive
+/// takes the k-th message (MPI 3.1, section 3.5).
+pub fn channels_pair_in_turn()
+    ensures { (ranks : ℕ) (h : List Event) → Always (NumberAt ranks) h → ArePlainEvents h →
+        ArePairedInTurn h }
 {}

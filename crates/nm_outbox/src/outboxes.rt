@@ -65,6 +65,13 @@ impl Outbox {
         self.letters.is_empty()
     }
 
+    /// How many packets there are to send.
+    pub fn len(&self) -> usize
+        ensures { result ≡ length self.now.letters }
+    {
+        self.letters.len()
+    }
+
     /// How many packets to a rank were popped.
     pub fn popped(&self, to: u8) -> u64
         requires { to < length self.now.popped }

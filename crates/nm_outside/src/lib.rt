@@ -28,7 +28,7 @@ mod source;
 mod tests;
 mod writing;
 
-pub use gate::{Gate, OpenGate};
+pub use gate::{Gate, OpenGate, PairGate};
 pub use memory::{MemorySink, MemorySource, SINK_ROOM};
 pub use reading::{Unread, read_up_to};
 pub use real::{RealSink, RealSource};

@@ -4,27 +4,28 @@ use Rattle.std.proofs.Common.{true, is_some, List, [], ◌∷◌, ◌++◌, leng
 use Rattle.std.proofs.Common.{sym, refl, ap, ◌∙◌, inl, inr, subst, arith, set, append-nil, ⊎_elim}
 use Rattle.std.proofs.Math.Logic.{∥∥₁_elim}
 use Rattle.std.proofs.Props.{props}
-use Rattle.std.specs.Prelude.{slice_index, IfSome, IfNone}
+use Rattle.std.specs.Prelude.{slice_index, IfSome, IfNone, IsSome}
 use mathlib.Core.Logic.{dite}
-use native.Mathlib.Decide.{ℕ_discrete}
+use native.Mathlib.Decide.{ℕ_discrete, dec_le}
 use Rattle.nm_types.specs.declared.packets.Packet.{Packet}
 use Rattle.nm_seats.specs.Update.{update}
 use Rattle.nm_table.specs.declared.table.Entry.{Entry}
 use Rattle.nm_table.specs.declared.table.Heads.{Heads}
-use Rattle.nm_table.specs.Plays.{with_got, with_heads}
+use Rattle.nm_table.specs.Plays.{with_got, with_heads, with_look}
+use Rattle.nm_table.specs.declared.table.Look.TheVariants.{Fresh}
 use Rattle.nm_cells.specs.declared.port.Port.{Port}
 use Rattle.nm_cells.specs.declared.port.Fabric.{Fabric}
-use Rattle.nm_table.specs.Rule.{Load, from, emptying_of}
+use Rattle.nm_table.specs.Rule.{Load, from, emptying_of, if_below}
 use Rattle.nm_table.specs.Plays.{mine, raised, with_box_miss, with_emptying, with_got_box, Overtaken}
-use Rattle.nm_cells.specs.Counted.{IsOneOf, peer_in, all_unpassed, with_peer, one_passed}
+use Rattle.nm_cells.specs.Counted.{IsOneOf, peer_in, all_unpassed}
 use Rattle.nm_cells.specs.Carried.{held_in}
 use Rattle.nm_cells.specs.Ports.{Owns, knows, holding, taken_by, unpassed_by, IsUnpassed, opens}
 use Rattle.nm_cells.proofs.BoxCallLemmas.{brought_owns}
 use Rattle.nm_cells.proofs.CountedLemmas.{one_of_last, from_here}
 use Rattle.nm_port.proofs.SendLemmas.{box_hands}
-use Rattle.nm_port.proofs.HeldLemmas.{passed_taken, passed_unpassed}
 use Rattle.nm_port.specs.Polls.{count_held, HoldsTheRest}
-use Rattle.nm_port.specs.Polls.{first_raised, polled, with_all_missed, Missed}
+use Rattle.nm_port.specs.Polls.{first_raised, polled, with_all_missed, with_first_missed, Missed}
+use Rattle.nm_port.specs.Sends.{HadMiss}
 use Rattle.nm_port.specs.Polls.{NotOvertaken, EmptiesNone, IsNext, Came, Way, was_held, by_box}
 use Rattle.nm_port.specs.Polls.{by_cell, before, IsGot}
 
@@ -187,18 +188,15 @@ module _ (p q : Port) (seat : q.seat ≡ p.seat) where
         (ap (λ (e : Entry). e.got) seat_knows) peers_taken u
 
 -- a packet that came by cell is passed on
-module _ (f : Fabric) (p q : Port) (x : Packet) (un : IsUnpassed p x)
-    (next : x.seq ≡ taken_by p x.from)
-    (peers : q.peers.items ≡ with_peer one_passed x.from p.peers.items) where
-  pub passed_next : (knows p).ranks ≡ f.ranks → IsNext f p q x
-  passed_next ranks = record {
-    sender = subst (λ n. x.from < n) ranks un.0;
-    number = next;
-    taken = λ i j. (ap (λ l. (peer_in l j).taken) peers ∙ passed_taken p x un next j) i;
-  }
-
-  pub passed_left : unpassed_by q + 1 ≡ unpassed_by p
-  passed_left = ap (λ l. all_unpassed l + 1) peers ∙ passed_unpassed p x un next
+pub passed_next : (f : Fabric) (p q : Port) (x : Packet) → IsUnpassed p x
+    → x.seq ≡ taken_by p x.from
+    → taken_by q ≡ update (taken_by p) x.from (taken_by p x.from + 1) → (knows p).ranks ≡ f.ranks
+    → IsNext f p q x
+passed_next f p q x un next taken ranks = record {
+  sender = subst (λ n. x.from < n) ranks un.0;
+  number = next;
+  taken = taken;
+}
 
 nothing_is_some : (x : Packet) → None ≡ Some x → ⊥
 nothing_is_some x e = cc
@@ -233,7 +231,8 @@ last_by_cell new x xs is = inr (subst (λ l. IsOneOf (Some x) (from x.from l)) (
 
 -- A packet x came by cell, and then y is passed on: the same, or the next one of its sender by box
 module _ (old now new : Port) (x y : Packet) (end : Heads) (none : old.held ≡ None)
-    (came : knows now ≡ with_got (Some x ∷ []) (with_heads true end (knows old))) where
+    (came : knows now ≡ with_got (Some x ∷ [])
+    (with_look true Fresh (with_heads true end (knows old)))) where
   abbrev InTurn : Type 0
   InTurn = (y ≡ x) × (new.held ≡ None) × (knows new ≡ knows now)
 
@@ -268,3 +267,45 @@ module _ (old now new : Port) (x y : Packet) (end : Heads) (none : old.held ≡ 
       (λ a. subst (λ z. IsGot new z) (sym a.0)
       (last_by_cell new x (knows old).got (ap (λ (e : Entry). e.got) (a.2 ∙ came))))
       (λ b. last_by_box new y (knows now).got_box (ap (λ (e : Entry). e.got_box) b.2)) w
+
+-- no count of misses falls
+raised_up : (k : ℕ) → k ≤ raised k
+raised_up k = by (dec_le (suc k) 18446744073709551615) where
+  by : (d : Dec (suc k ≤ 18446744073709551615)) → k ≤ if_below d (suc k) k
+  by (yes h) = omega arith
+  by (no h) = omega arith
+
+first_later : (k : ℕ) (xs : List ℕ) (i : ℕ) → slice_index xs i ≤ slice_index (first_raised k xs) i
+first_later zero xs i = omega arith
+first_later (suc k) [] i = omega arith
+first_later (suc k) (x ∷ xs) zero = raised_up x
+first_later (suc k) (x ∷ xs) (suc i) = first_later k xs i
+
+pub missed_later : (k i : ℕ) (e e' e'' : Entry) → e' ≡ with_first_missed k e
+    → e''.box_miss ≡ e'.box_miss → slice_index e.box_miss i ≤ slice_index e''.box_miss i
+missed_later k i e e' e'' seen same =
+    subst (λ (xs : List ℕ). slice_index e.box_miss i ≤ slice_index xs i)
+    (sym (same ∙ ap (λ (x : Entry). x.box_miss) seen)) (first_later k e.box_miss i)
+
+pub same_later : (i : ℕ) (e e' e'' : Entry)
+    → slice_index e.box_miss i ≤ slice_index e'.box_miss i → e''.box_miss ≡ e'.box_miss
+    → slice_index e.box_miss i ≤ slice_index e''.box_miss i
+same_later i e e' e'' up same =
+    subst (λ (xs : List ℕ). slice_index e.box_miss i ≤ slice_index xs i) (sym same) up
+
+-- a miss of the receive queue is none of a box
+pub queue_misses : (e e' : Entry) → HadMiss true e e' → e'.box_miss ≡ e.box_miss
+queue_misses e e' = ⊎_elim (λ h. ap (λ (x : Entry). x.box_miss) h) (λ h. ap (λ (x : Entry). x.box_miss) h.1)
+
+-- nor is what came by the receive queue, or behind it by a box
+pub way_misses : (result : Option Packet) (x : Packet) (now new : Port) → IsSome result
+    → IfSome result (λ p. ((p ≡ x) × (new.held ≡ None) × (knows new ≡ knows now))
+    ⊎ ((p.from ≡ x.from) × (new.held ≡ Some x)
+    × (knows new ≡ with_got_box (Some p ∷ []) (with_emptying p.from None (knows now)))))
+    → (knows new).box_miss ≡ (knows now).box_miss
+way_misses None x now new some way = absurd (no None refl some) where
+  no : (o : Option Packet) → o ≡ None → IsSome o → ⊥
+  no (Some p) e some = cc
+  no None e some = cc
+way_misses (Some p) x now new some way = ⊎_elim (λ h. ap (λ (e : Entry). e.box_miss) h.2)
+    (λ h. ap (λ (e : Entry). e.box_miss) h.2) way

@@ -12,7 +12,8 @@ use Rattle.nm_table.specs.declared.table.Entry.{Entry}
 use Rattle.nm_table.specs.Rule.{Load, hand, sent_to, fetched}
 use Rattle.nm_table.specs.declared.table.Heads.{Heads}
 use Rattle.nm_table.specs.Plays.{InHand, with_hand, heads_of, with_heads, heads_at, with_got, with_put}
-use Rattle.nm_table.specs.Plays.{taken, queue, with_box_full}
+use Rattle.nm_table.specs.Plays.{taken, queue, with_box_full, with_look}
+use Rattle.nm_table.specs.declared.table.Look.TheVariants.{Fresh}
 use Rattle.nm_cells.specs.declared.port.Port.{Port}
 use Rattle.nm_cells.specs.Ports.{knows, holding, opens}
 use Rattle.nm_port.specs.Sends.{tried, HadMiss, HoldSame}
@@ -27,15 +28,16 @@ set_away xs k away = ap (set xs k) (sym away) ∙ set-get_or xs k Away
 -- a cell that was taken from an own queue is in no hand again
 pub cell_cycled : (b : Bool) (e : Entry) (k shadow : ℕ) (y : Load) → hand e k ≡ Away
     → with_hand k Away (taken b k y shadow e)
-    ≡ with_got (fetched e.ranks (queue e.ranks e.rank b) y) (with_heads b (heads_at shadow 0) e)
+    ≡ with_got (fetched e.ranks (queue e.ranks e.rank b) y)
+    (with_look b Fresh (with_heads b (heads_at shadow 0) e))
 cell_cycled true e k shadow y away =
     λ i. with_got (fetched e.ranks (queue e.ranks e.rank true) y)
-    (record (with_heads true (heads_at shadow 0) e) {
+    (record (with_look true Fresh (with_heads true (heads_at shadow 0) e)) {
       hands = (set-set e.hands k Held Away ∙ set_away e.hands k away) i;
     })
 cell_cycled false e k shadow y away =
     λ i. with_got (fetched e.ranks (queue e.ranks e.rank false) y)
-    (record (with_heads false (heads_at shadow 0) e) {
+    (record (with_look false Fresh (with_heads false (heads_at shadow 0) e)) {
       hands = (set-set e.hands k Held Away ∙ set_away e.hands k away) i;
     })
 
@@ -66,9 +68,10 @@ nothing_put e = λ i. record e { put = append-nil e.put i }
 module _ (e new : Entry) (k shadow : ℕ) (y : Load) (away : hand e k ≡ Away) where
   pub cell_sent : (xs : List (ℕ × Load))
       → new ≡ with_put xs (with_hand k Away (taken false k y shadow e))
-      → new ≡ with_put xs (with_heads false (heads_of false new) e)
-  cell_sent xs is = let at : Heads → Entry = λ u. with_put xs (with_heads false u e) in
-      let then = with_heads false (heads_at shadow 0) e in
+      → new ≡ with_put xs (with_look false Fresh (with_heads false (heads_of false new) e))
+  cell_sent xs is = let at : Heads → Entry = λ u. with_put xs
+      (with_look false Fresh (with_heads false u e)) in
+      let then = with_look false Fresh (with_heads false (heads_at shadow 0) e) in
       let h : new ≡ at (heads_at shadow 0) =
       is ∙ (λ i. with_put xs (cell_cycled false e k shadow y away i))
       ∙ (λ i. with_put xs (with_got (none_fetched e.ranks e.rank y i) then))
@@ -76,9 +79,10 @@ module _ (e new : Entry) (k shadow : ℕ) (y : Load) (away : hand e k ≡ Away) 
 
   pub cell_received : (z : Load) → y ≡ z → e.rank < e.ranks
       → new ≡ with_put [] (with_hand k Away (taken true k y shadow e))
-      → new ≡ with_got (z ∷ []) (with_heads true (heads_of true new) e)
-  cell_received z same low is = let at : Heads → Entry = λ u. with_got (z ∷ []) (with_heads true u e) in
-      let then = with_heads true (heads_at shadow 0) e in
+      → new ≡ with_got (z ∷ []) (with_look true Fresh (with_heads true (heads_of true new) e))
+  cell_received z same low is = let at : Heads → Entry = λ u. with_got (z ∷ [])
+      (with_look true Fresh (with_heads true u e)) in
+      let then = with_look true Fresh (with_heads true (heads_at shadow 0) e) in
       let h : new ≡ at (heads_at shadow 0) =
       is ∙ (λ i. with_put [] (cell_cycled true e k shadow y away i))
       ∙ (λ i. with_put [] (with_got (one_fetched e.ranks e.rank y low i) then))

@@ -6,7 +6,8 @@ use Rattle.nm_table.specs.declared.table.Entry.{Entry}
 use Rattle.nm_cells.specs.declared.port.Port.{Port}
 use Rattle.nm_table.specs.Rule.{hand, if_below}
 use Rattle.nm_table.specs.Plays.{InHand, with_box_full, heads_of, with_heads, heads_at, with_missed}
-use Rattle.nm_table.specs.Plays.{head_miss, link_miss}
+use Rattle.nm_table.specs.Plays.{head_miss, link_miss, with_look}
+use Rattle.nm_table.specs.declared.table.Look.TheVariants.{LinkEmpty}
 use Rattle.nm_cells.specs.Ports.{knows, holding}
 
 -- a payload of this length was to go to the rank j: where it fits a box, the next one was found full
@@ -18,7 +19,7 @@ tried length j e = if_below (dec_le length MAX_BOX) (with_box_full j e) e
 abbrev pub HadMiss : Bool → Entry → Entry → Type 0
 HadMiss b old new = (new ≡ with_missed b head_miss (with_heads b (heads_at 0 0) old))
     ⊎ ((0 < (heads_of b new).shadow)
-    × (new ≡ with_missed b link_miss (with_heads b (heads_of b new) old)))
+    × (new ≡ with_look b LinkEmpty (with_missed b link_miss (with_heads b (heads_of b new) old))))
 
 -- the cells in the port's hand hold the same
 abbrev pub HoldSame : Port → Port → Type 0

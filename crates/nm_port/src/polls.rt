@@ -1,18 +1,20 @@
 //! Polling for the next packet of any rank.
 
 ghost use Rattle.std.specs.Prelude.{◌≡◌, ◌≢◌, ℕ, ◌+◌, ◌<◌, ◌≤◌, ◌⊎◌, ◌∷◌, [], Some, None, true};
-ghost use Rattle.std.specs.Prelude.{IfSome, IfNone, IsSome};
+ghost use Rattle.std.specs.Prelude.{IfSome, IfNone, IsSome, slice_index};
 ghost use Rattle.nm_types.specs.declared.packets.Packet.{Packet};
 ghost use Rattle.nm_seats.specs.Update.{update};
 ghost use Rattle.nm_table.specs.Rule.{emptying_of};
 ghost use Rattle.nm_table.specs.Plays.{with_emptying, with_got, with_got_box, heads_of, with_heads};
+ghost use Rattle.nm_table.specs.Plays.{with_look};
+ghost use Rattle.nm_table.specs.declared.table.Look.TheVariants.{Fresh};
 ghost use Rattle.nm_cells.specs.Ports.{Owns, knows, taken_by, unpassed_by, IsUnpassed, holding};
 ghost use Rattle.nm_port.specs.Sends.{HadMiss, HoldSame};
 ghost use Rattle.nm_port.specs.Polls.{HoldsTheRest, with_all_missed, NotOvertaken, EmptiesNone};
 ghost use Rattle.nm_port.specs.Polls.{IsNext, Came, Way, IsGot, polled};
 
 use crate::cells::take_cell;
-use nm_cells::{Fabric, Port, Queue, take_out};
+use nm_cells::{Fabric, Port, Queue, empty_box, load_box_in, take_out};
 use nm_fastbox::take;
 use nm_queue::enqueue;
 use nm_seats::Steps;
@@ -55,11 +57,13 @@ fn take_first<L: Ledger>(f: &Fabric, port: &mut Port, steps: &mut Steps<L>) -> O
         × (taken_by port.new ≡ taken_by port.old) × (port.new.hands ≡ port.old.hands)
         × (steps.new ≡ steps.old + f.now.ranks)
         × ((i : ℕ) → i < f.now.ranks → NotOvertaken port.old i)) }
+    ensures later { (i : ℕ) → slice_index (knows port.old).box_miss i
+        ≤ slice_index (knows port.new).box_miss i }
     ensures bound { steps.new ≤ steps.old + (f.now.ranks + 1) }
 {
     for sender in 0..f.ranks() {
-        if let Some(packet) = take(f, port, sender, steps) {
-            return Some(packet);
+        if load_box_in(f, port, sender, steps) {
+            return Some(empty_box(f, port, sender, steps));
         }
     }
     None
@@ -73,8 +77,8 @@ fn receive<L: Ledger>(f: &Fabric, port: &mut Port, steps: &mut Steps<L>) -> Opti
         × (port.new.hands ≡ port.old.hands) }
     ensures came { IfSome result (λ p. IsUnpassed port.new p
         × (unpassed_by port.new ≡ unpassed_by port.old + 1)
-        × (knows port.new ≡ with_got (Some p ∷ []) (with_heads true (heads_of true (knows port.new))
-        (knows port.old)))) }
+        × (knows port.new ≡ with_got (Some p ∷ []) (with_look true Fresh (with_heads true
+        (heads_of true (knows port.new)) (knows port.old))))) }
     ensures none { IfNone result (HadMiss true (knows port.old) (knows port.new)
         × (unpassed_by port.new ≡ unpassed_by port.old)) }
     ensures holding { HoldSame port.old port.new }
@@ -136,6 +140,7 @@ fn receive_next<L: Ledger>(f: &Fabric, port: &mut Port, steps: &mut Steps<L>) ->
     ensures hands { (port.new.hands ≤ port.old.hands)
         × (EmptiesNone port.old → port.new.hands ≡ port.old.hands) }
     ensures holding { HoldSame port.old port.new }
+    ensures misses { (knows port.new).box_miss ≡ (knows port.old).box_miss }
     ensures bound { steps.new ≤ steps.old + 10 }
 {
     let packet = receive(f, port, steps)?;
@@ -162,6 +167,8 @@ pub fn poll<L: Ledger>(f: &Fabric, port: &mut Port, steps: &mut Steps<L>) -> Opt
     ensures hands { (port.new.hands ≤ port.old.hands)
         × (EmptiesNone port.old → port.new.hands ≡ port.old.hands) }
     ensures holding { HoldSame port.old port.new }
+    ensures later { (i : ℕ) → slice_index (knows port.old).box_miss i
+        ≤ slice_index (knows port.new).box_miss i }
     ensures bound { steps.new ≤ steps.old + (f.now.ranks + 10) }
 {
     if let Some(packet) = pass_held(f, port) {

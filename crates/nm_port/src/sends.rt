@@ -7,6 +7,8 @@ ghost use Rattle.nm_types.specs.declared.packets.Path.TheVariants.{Box, Cell};
 ghost use Rattle.nm_seats.specs.Update.{update};
 ghost use Rattle.nm_table.specs.Rule.{filling_of};
 ghost use Rattle.nm_table.specs.Plays.{with_filling, with_put, with_put_box, heads_of, with_heads};
+ghost use Rattle.nm_table.specs.Plays.{with_look};
+ghost use Rattle.nm_table.specs.declared.table.Look.TheVariants.{Fresh};
 ghost use Rattle.nm_cells.specs.Ports.{Owns, SameTaken, knows, sent_by};
 ghost use Rattle.nm_port.specs.Sends.{tried, HadMiss, HoldSame};
 
@@ -32,8 +34,8 @@ fn send_by_cell<L: Ledger>(
     ensures owns { Owns f.now port.new × (port.new.rank ≡ port.old.rank) }
     ensures taken { SameTaken port.old port.new }
     ensures by_cell { result ≡ Ok Cell → knows port.new
-        ≡ with_put ((to, Some packet) ∷ []) (with_heads false (heads_of false (knows port.new))
-        (knows port.old)) }
+        ≡ with_put ((to, Some packet) ∷ []) (with_look false Fresh (with_heads false
+        (heads_of false (knows port.new)) (knows port.old))) }
     ensures never_by_box { result ≢ Ok Box }
     ensures sent { IfOk result (λ _. sent_by port.new
         ≡ update (sent_by port.old) to (sent_by port.old to + 1)) }
@@ -72,8 +74,8 @@ pub fn send<L: Ledger>(
     ensures by_box { result ≡ Ok Box → (length packet.payload ≤ MAX_BOX) × (knows port.new
         ≡ with_put_box ((to, Some packet) ∷ []) (with_filling to false (knows port.old))) }
     ensures by_cell { result ≡ Ok Cell → knows port.new
-        ≡ with_put ((to, Some packet) ∷ []) (with_heads false (heads_of false (knows port.new))
-        (tried (length packet.payload) to (knows port.old))) }
+        ≡ with_put ((to, Some packet) ∷ []) (with_look false Fresh (with_heads false
+        (heads_of false (knows port.new)) (tried (length packet.payload) to (knows port.old)))) }
     ensures sent { IfOk result (λ _. sent_by port.new
         ≡ update (sent_by port.old) to (sent_by port.old to + 1)) }
     ensures back { IfErr result (λ same. (same ≡ packet) × (sent_by port.new ≡ sent_by port.old)

@@ -124,6 +124,16 @@ impl Process {
         Some(place as u32 + 2)
     }
 
+    /// The next command, if not every command ran.
+    pub fn next_command<'a>(&self, lines: &'a [Line]) -> Option<&'a Command>
+        ensures { (shape : Sizes) → IsAtWork shape lines.now self.now →
+            option_map (λ c. c.now) result ≡ option_map (λ c. c.command)
+            (slice_get (commands_of self.now.rank.me lines.now) self.now.at) }
+    {
+        let place = self.next_place(lines)?;
+        Some(&lines[place].command)
+    }
+
     // The place of the next command in the script.
     fn next_place(&self, lines: &[Line]) -> Option<usize>
         ensures some { IfSome result (λ place. (place < length lines.now)

@@ -1,5 +1,16 @@
 -- What stays of a port's conditions between the steps of a move.
-use Rattle.std.proofs.Common.{◌≡◌, ℕ, zero, suc, List, [], ◌∷◌, set, sym, refl, ap, ◌∙◌}
+use Rattle.std.proofs.Common.{◌≡◌, ℕ, zero, suc, ◌+◌, Bool, true, false, List, [], ◌∷◌, set, sym, refl}
+use Rattle.std.proofs.Common.{ap, ◌∙◌, ◌<◌, subst}
+use Rattle.std.specs.Prelude.{slice_index_or}
+use Rattle.nm_seats.specs.Update.{update}
+use Rattle.nm_table.specs.declared.table.Entry.{Entry}
+use Rattle.nm_table.specs.declared.table.Hand.TheVariants.{Away}
+use Rattle.nm_table.specs.declared.table.Heads.{Heads}
+use Rattle.nm_table.specs.declared.table.Look.{Look}
+use Rattle.nm_table.specs.Looks.{look_in, other}
+use Rattle.nm_table.specs.Plays.{taken, heads_of, with_heads, with_look}
+use Rattle.nm_cells.specs.declared.cell.Cell.{Cell}
+use Rattle.nm_cells.specs.Ports.{knows, holding, SameTaken, Stays, Leaves, Takes, look_of, arrivals}
 use Rattle.nm_table.specs.Rule.{Load, sender, number}
 use Rattle.nm_cells.specs.declared.port.Port.{Port}
 use Rattle.nm_cells.specs.declared.port.Fabric.{Fabric}
@@ -22,3 +33,88 @@ may_still f p q (Receive j) c y z rank sent same may = (
   ap number same ∙ may.3 ∙ sym (sent j),
 )
 may_still f p q (Free j) c y z rank sent same may = (may.0, may.1, same ∙ may.2)
+
+-- what a later take tells of the earlier port too: only what was told of the queue's first cell, and its heads, differ
+abbrev pub Unmoved : Bool → Port → Port → Type 0
+Unmoved b old mid = ((knows mid).hands ≡ (knows old).hands) × (mid.rank ≡ old.rank)
+    × ((n : ℕ) (y : Load) (s : ℕ) → taken b n y s (knows mid) ≡ taken b n y s (knows old))
+    × (holding mid ≡ holding old) × SameTaken old mid × (mid.hands ≡ old.hands)
+    × (look_of (other b) mid ≡ look_of (other b) old) × (mid.loose ≡ old.loose)
+    × (0 < (heads_of b (knows old)).shadow
+    → (heads_of b (knows mid)).shadow ≡ (heads_of b (knows old)).shadow)
+
+pub unmoved : (b : Bool) (p : Port) → Unmoved b p p
+unmoved b p = (refl, refl, (λ _ _ _. refl), refl, (refl, refl, refl), refl, refl, refl, (λ _. refl))
+
+pub takes_since : (b : Bool) (f : Fabric) (old mid new : Port) (c : Cell) → Unmoved b old mid
+    → Takes b f mid new c → Takes b f old new c
+takes_since b f old mid new c u t = record {
+  has = t.has;
+  of_rank = t.of_rank;
+  first = λ some. let same = u.8 some in t.first (subst (λ k. 0 < k) (sym same) some) ∙ same;
+  fresh = ap (λ hs. slice_index_or hs c.number Away) (sym u.0) ∙ t.fresh;
+  full = t.full;
+  arrived = t.arrived;
+  vacant = λ e. let v = t.vacant e in (v.0, v.1 ∙ u.1);
+  knows = t.knows ∙ u.2 c.number (holding new c.number) (heads_of b (knows new)).shadow;
+  holding = t.holding ∙ ap (λ h. update h c.number (holding new c.number)) u.3;
+  taken = t.taken ∙ u.4.0;
+  held = t.held ∙ u.4.1;
+  unpassed = t.unpassed ∙ ap (λ k. k + arrivals b) u.4.2;
+  hands = t.hands ∙ ap (λ k. k + 1) u.5;
+  look = t.look;
+  other_look = t.other_look ∙ u.6;
+  loose = t.loose ∙ u.7;
+}
+
+look_lost : (b : Bool) (l : Look) (n : ℕ) (y : Load) (s : ℕ) (e : Entry)
+    → taken b n y s (with_look b l e) ≡ taken b n y s e
+look_lost true l n y s e = refl
+look_lost false l n y s e = refl
+
+heads_lost : (b : Bool) (x : Heads) (n : ℕ) (y : Load) (s : ℕ) (e : Entry)
+    → taken b n y s (with_heads b x e) ≡ taken b n y s e
+heads_lost true x n y s e = refl
+heads_lost false x n y s e = refl
+
+look_heads : (b : Bool) (l : Look) (e : Entry) → heads_of b (with_look b l e) ≡ heads_of b e
+look_heads true l e = refl
+look_heads false l e = refl
+
+hands_same : (b : Bool) (x : Heads) (e : Entry) → (with_heads b x e).hands ≡ e.hands
+hands_same true x e = refl
+hands_same false x e = refl
+
+-- a step told something of the first cell and took none
+pub unmoved_look : (b : Bool) (l : Look) (old mid new : Port) → Unmoved b old mid
+    → knows new ≡ with_look b l (knows mid) → new.rank ≡ mid.rank → Leaves b l mid new
+    → Unmoved b old new
+unmoved_look b l old mid new u is rank v = (
+  ap (λ (e : Entry). e.hands) is ∙ u.0,
+  rank ∙ u.1,
+  (λ n y s. ap (taken b n y s) is ∙ look_lost b l n y s (knows mid) ∙ u.2 n y s),
+  v.3 ∙ u.3,
+  (v.4.0 ∙ u.4.0, v.4.1 ∙ u.4.1, v.4.2 ∙ u.4.2),
+  v.2 ∙ u.5,
+  v.1 ∙ u.6,
+  v.5 ∙ u.7,
+  (λ some. ap (λ (e : Entry). (heads_of b e).shadow) is
+      ∙ ap (λ (x : Heads). x.shadow) (look_heads b l (knows mid)) ∙ u.8 some),
+)
+
+-- a step changed the heads, where there was no shadow head
+pub unmoved_heads : (b : Bool) (x : Heads) (f : Fabric) (old mid new : Port) → Unmoved b old mid
+    → knows new ≡ with_heads b x (knows mid) → Stays f mid new
+    → (new.hands ≡ mid.hands) × (holding new ≡ holding mid)
+    → (0 < (heads_of b (knows old)).shadow → false ≡ true) → Unmoved b old new
+unmoved_heads b x f old mid new u is st h none = (
+  ap (λ (e : Entry). e.hands) is ∙ hands_same b x (knows mid) ∙ u.0,
+  st.1 ∙ u.1,
+  (λ n y s. ap (taken b n y s) is ∙ heads_lost b x n y s (knows mid) ∙ u.2 n y s),
+  h.1 ∙ u.3,
+  (st.2.0 ∙ u.4.0, st.2.1 ∙ u.4.1, st.2.2 ∙ u.4.2),
+  h.0 ∙ u.5,
+  ap (look_in (other b)) st.3 ∙ u.6,
+  st.4 ∙ u.7,
+  (λ some. absurd (let z = none some in cc)),
+)

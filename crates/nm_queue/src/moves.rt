@@ -5,7 +5,7 @@ ghost use Rattle.nm_seats.specs.Update.{update};
 ghost use Rattle.nm_queue.specs.declared.moves.Miss.TheVariants.{HeadEmpty, LinkMissing};
 ghost use Rattle.nm_table.specs.declared.table.Hand.TheVariants.{Away};
 ghost use Rattle.nm_table.specs.declared.table.Look.TheVariants.{LinkEmpty};
-ghost use Rattle.nm_table.specs.Plays.{with_hand, with_put};
+ghost use Rattle.nm_table.specs.Plays.{with_hand, with_look, with_put};
 ghost use Rattle.nm_table.specs.Plays.{heads_of, with_heads, heads_at, with_missed, head_miss, link_miss};
 ghost use Rattle.nm_cells.specs.Ports.{Owns, Stays, Leaves, knows, holding, Has, MayJoin};
 ghost use Rattle.nm_cells.specs.Ports.{posted_in, IsOwn, is_receive, Takes};
@@ -64,10 +64,13 @@ pub fn dequeue<L: Ledger>(
         (knows port.old)) × Stays f.now port.old port.new × (port.new.hands ≡ port.old.hands)
         × (holding port.new ≡ holding port.old) × (steps.new ≡ steps.old + 1) }
     ensures link_missing { result ≡ Err LinkMissing → knows port.new
-        ≡ with_missed (is_receive q) link_miss (with_heads (is_receive q)
-        (heads_of (is_receive q) (knows port.new)) (knows port.old))
+        ≡ with_look (is_receive q) LinkEmpty (with_missed (is_receive q) link_miss
+        (with_heads (is_receive q) (heads_of (is_receive q) (knows port.new)) (knows port.old)))
         × (0 < (heads_of (is_receive q) (knows port.new)).shadow)
         × Leaves (is_receive q) LinkEmpty port.old port.new }
+    ensures still_first { result ≡ Err LinkMissing
+        → 0 < (heads_of (is_receive q) (knows port.old)).shadow
+        → heads_of (is_receive q) (knows port.new) ≡ heads_of (is_receive q) (knows port.old) }
     ensures all_tried { result ≡ Err LinkMissing →
         ((heads_of (is_receive q) (knows port.old)).shadow ≡ 0 → steps.new ≡ steps.old + 5)
         × (0 < (heads_of (is_receive q) (knows port.old)).shadow → steps.new ≡ steps.old + 3) }

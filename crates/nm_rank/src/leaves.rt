@@ -21,6 +21,13 @@ use nm_history::Happened;
 use nm_types::{Packet, Piece};
 
 impl Rank {
+    /// How many packets there are to send.
+    pub fn waiting(&self) -> usize
+        ensures { result ≡ length self.now.sending.outbox.letters }
+    {
+        self.sending.waiting()
+    }
+
     /// The first packet to be sent, with the rank that it goes to, if there is one. Where there is
     /// none, each eager message has left.
     pub fn front(&self) -> Option<(u8, &Packet)>

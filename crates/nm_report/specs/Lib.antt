@@ -4,3 +4,5 @@ pub mod Ends
 pub mod Events
 pub mod Layout
 pub mod Report
+pub mod Lawful
+pub mod Told

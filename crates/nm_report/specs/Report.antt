@@ -1,6 +1,7 @@
 -- The text of a report.
-use Rattle.std.specs.Prelude.{ℕ, Bool, true, false, if◌then◌else◌, Option, Some, None, List, []}
+use Rattle.std.specs.Prelude.{ℕ, Bool, true, false, if◌then◌else◌, Option, Some, None, List, [], ◌∷◌}
 use Rattle.std.specs.Prelude.{codes, decimal, flat_map}
+use Rattle.std.specs.List.{join_with_byte}
 use Rattle.nm_types.specs.declared.answers.Answer.{Answer}
 use Rattle.nm_types.specs.declared.answers.Answer.TheVariants.{Started}
 use Rattle.nm_types.specs.declared.answers.Account.{Account}
@@ -16,7 +17,8 @@ use Rattle.nm_report.specs.Events.{event_lines, pair_line}
 abbrev pub answer_line : ℕ → ℕ → Answer → List ℕ
 answer_line rank line Started = []
 answer_line rank line answer =
-    decimal rank ␣ decimal line ␣ answer_words answer ⧺ body_word answer ⧺ codes "\n"
+    join_with_byte 32 (decimal rank ∷ decimal line ∷ answer_words answer) ⧺ body_word answer
+    ⧺ codes "\n"
 
 -- the line of an event that is an answer
 abbrev pub ran_line : ℕ → Happened → List ℕ

@@ -1,6 +1,7 @@
 //! Answers as text.
 
 ghost use Rattle.std.specs.Prelude.{◌≡◌, ◌++◌, OnOk, string_bytes};
+ghost use Rattle.std.specs.List.{join_with_byte};
 ghost use Rattle.nm_report.specs.Answers.{answer_words, body_word};
 
 use nm_types::Answer;
@@ -9,7 +10,7 @@ use std::alloc::{AllocError, Global};
 /// Writes an answer, but for the bytes of a message.
 pub(crate) fn push_answer(out: &mut String, answer: &Answer) -> Result<(), AllocError>
     ensures ok { OnOk result
-        (string_bytes out.new ≡ string_bytes out.old ++ answer_words answer.now) }
+        (string_bytes out.new ≡ string_bytes out.old ++ join_with_byte 32 (answer_words answer.now)) }
 {
     match answer {
         Answer::Started => out.push_str("started"),

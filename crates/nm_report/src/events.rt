@@ -1,6 +1,7 @@
 //! Events and counts of packets as the lines of a trace.
 
 ghost use Rattle.std.specs.Prelude.{◌≡◌, ◌++◌, OnOk, string_bytes, flat_map};
+ghost use Rattle.std.specs.List.{join_with_byte};
 ghost use Rattle.nm_types.specs.Text.{peer_word, tag_word};
 ghost use Rattle.nm_report.specs.Layout.{by_rank};
 ghost use Rattle.nm_report.specs.Events.{how_word, done_word, event_words, event_line};
@@ -47,7 +48,7 @@ fn push_tag(out: &mut String, tag: TagPick) -> Result<(), AllocError>
 
 fn push_post(out: &mut String, post: &Post, line: u32) -> Result<(), AllocError>
     ensures ok { OnOk result
-        (string_bytes out.new ≡ string_bytes out.old ++ event_words (Happened.Post post.now line)) }
+        (string_bytes out.new ≡ string_bytes out.old ++ join_with_byte 32 (event_words (Happened.Post post.now line))) }
 {
     write!(out, "post {} ", post.number)?;
     push_peer(out, post.from)?;
@@ -58,7 +59,7 @@ fn push_post(out: &mut String, post: &Post, line: u32) -> Result<(), AllocError>
 
 /// Writes an event, but for its rank and its stamp.
 fn push_happened(out: &mut String, what: &Happened) -> Result<(), AllocError>
-    ensures ok { OnOk result (string_bytes out.new ≡ string_bytes out.old ++ event_words what.now) }
+    ensures ok { OnOk result (string_bytes out.new ≡ string_bytes out.old ++ join_with_byte 32 (event_words what.now)) }
 {
     match what {
         Happened::Send {

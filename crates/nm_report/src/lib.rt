@@ -19,6 +19,7 @@
 mod accounts;
 mod answers;
 mod events;
+pub mod laws;
 mod pairs;
 mod records;
 mod reports;

@@ -1,5 +1,5 @@
 use nm_cli::nemesis;
-use nm_outside::{MemorySink, MemorySource, OpenGate};
+use nm_outside::{MemorySink, MemorySource, OpenGate, PairGate};
 use std::alloc::{AllocError, Global};
 use std::test::Fail;
 
@@ -71,12 +71,12 @@ fn scripts_give_their_reports(rt: HostRuntime) -> Result<(), Fail> {
             b"0 4 sent\n0 5 got 2 1 1 x02\n1 8 sent\n1 9 got 0 1 1 x00\n2 12 sent\n\
             2 13 got 1 1 1 x01\ncells 24 home 24\ndone\n",
         ),
-        ("run", b"", 3, b"fault script 0 command\n"),
+        ("run", b"", 3, b"fault script 1 first\n"),
         (
             "run",
             b"ranks 2\n0: isend 0 1 7 0 xAB\n",
             3,
-            b"fault script 0 command\n",
+            b"fault script 2 body\n",
         ),
         ("walk", PLAIN, 2, b"usage: nemesis run\n"),
     ];
@@ -113,5 +113,21 @@ fn failing_ends_are_told(rt: HostRuntime) -> Result<(), Fail> {
     assert_eq!(rt; ended.status, 5);
     assert_eq!(rt; sink.taken(), b"0 3 s".as_slice());
     assert!(rt; ended.run.is_some());
+    Ok(())
+}
+
+#[test]
+fn two_ranks_run_at_once(rt: HostRuntime) -> Result<(), Fail> {
+    let words = words_of(rt.alloc(), "run")?;
+    let mut source = MemorySource::new(PLAIN.to_vec(rt.alloc())?, 100, Vec::new(rt.alloc()));
+    let mut sink = MemorySink::new(rt.alloc(), 100, Vec::new(rt.alloc()))?;
+    let gate = PairGate::new(500_000_000);
+    let ended = nemesis(&rt, rt.alloc(), &words, &mut source, &mut sink, &gate);
+    assert_eq!(rt; ended.status, 0);
+    assert_eq!(rt;
+        sink.taken(),
+        b"0 3 sent\n1 5 got 0 7 2 x6869\ncells 16 home 16\ndone\n".as_slice()
+    );
+    assert!(rt; gate.met());
     Ok(())
 }

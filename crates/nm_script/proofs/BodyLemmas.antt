@@ -1,136 +1,93 @@
 -- Bodies as words, both ways.
-use Rattle.std.proofs.Common.{◌≡◌, ℕ, zero, suc, ◌+◌, ◌*◌, ◌/◌, ◌%◌, ◌<◌, ◌≤◌, Bool, true, ◌&&◌}
-use Rattle.std.proofs.Common.{List, [], ◌∷◌, length, get_or, Result, Ok, Err, Option, Some, None, cond}
-use Rattle.std.proofs.Common.{refl, sym, ap, ◌∙◌, arith, eqb, ltb, nat_le, nat_lt}
+use Rattle.std.proofs.Common.{◌≡◌, ℕ, ◌+◌, ◌*◌, ◌≤◌, inl, inr, true, ◌&&◌}
+use Rattle.std.proofs.Common.{List, [], ◌∷◌, length, Result, Ok, Err, Option, Some, None}
+use Rattle.std.proofs.Common.{refl, sym, ap, ◌∙◌, arith, eqb, nat_le}
 use Rattle.std.specs.List.{list_all}
-use Rattle.std.proofs.lemmas.Bool.{and_from, and_parts, eqb-true, ltb-true, leb-true, lt-ltb, le-leb}
-use Rattle.std.proofs.lemmas.Bool.Decides.{nat_tests, Decides-below_and, Decides-eqb}
-use Rattle.hex.specs.Hex.{encode_lower, encode_with, lower_digits, decode_of, decode_pairs, pair_value}
-use Rattle.hex.specs.Hex.{value_at, digit_or_error, hex_digit_value, IsBytes}
+use Rattle.std.proofs.lemmas.Bool.{and_parts, eqb-true, leb-true, le-leb}
+use Rattle.hex.specs.Hex.{encode_lower, lower_digits, decode_of}
 use Rattle.hex.specs.declared.error.FromHexError.{FromHexError}
 use Rattle.hex.proofs.HexLemmas.{decode_of-encode_lower, decode_of-even, decode_of-ok, length-encode_with}
-use Rattle.nm_types.specs.declared.limits.TheConstants.{MAX_PAYLOAD}
+use Rattle.nm_types.specs.declared.limits.TheConstants.{MAX_BODY}
 use Rattle.nm_types.specs.declared.scripts.Body.{Body}
 use Rattle.nm_types.specs.declared.scripts.Body.TheVariants.{Hex, Gen}
 use Rattle.nm_types.specs.Bodies.{body_len}
 use Rattle.nm_types.specs.Text.{body_word}
 use Rattle.nm_script.specs.declared.faults.Kind.TheVariants as kind
-use Rattle.nm_script.specs.Bodies.{is_lower_digit, hex_body, body_of}
-use Rattle.nm_script.specs.Part.{is_short}
-use Rattle.nm_script.proofs.StepLemmas.{bind_ok, guard_ok}
-
--- the digit of a value, without the table
-abbrev glyph : ℕ → ℕ
-glyph v = cond (ltb v 10) (48 + v) (87 + v)
-
-abbrev all_glyphs : ℕ → Bool
-all_glyphs zero = true
-all_glyphs (suc n) = eqb (get_or lower_digits n 0) (glyph n) && all_glyphs n
-
-table_is : (v : ℕ) → v < 16 → get_or lower_digits v 0 ≡ glyph v
-table_is = (Decides-below_and (λ v. eqb (get_or lower_digits v 0) (glyph v))
-    (λ v. get_or lower_digits v 0 ≡ glyph v) all_glyphs (λ v. Decides-eqb _ _) refl (λ _. refl)
-    16).0 refl
-
-glyph_of : (c v : ℕ) → is_lower_digit c ≡ true → hex_digit_value c ≡ Some v → (v < 16) × (glyph v ≡ c)
-glyph_of c v low h = grind (arith, nat_tests)
-
-glyph_lower : (v : ℕ) → v < 16 → is_lower_digit (glyph v) ≡ true
-glyph_lower v h = grind (arith, nat_tests)
-
-value_ok : (c i : ℕ) (o : Option ℕ) (v : ℕ) → digit_or_error c i o ≡ Ok v → o ≡ Some v
-value_ok c i (Some w) v h = cc
-value_ok c i None v h = cc
-
--- digits in lower case are what the bytes are written as
-lower_pairs : (i : ℕ) (s bytes : List ℕ) → list_all is_lower_digit s ≡ true → decode_pairs i s ≡ Ok bytes
-    → s ≡ encode_lower bytes
-unfolding decode_pairs encode_with
-lower_pairs i [] bytes low h = let e : [] ≡ bytes = cc in rw (← e) refl
-lower_pairs i (d ∷ []) bytes low h = cc
-lower_pairs i (a ∷ b ∷ s) bytes low h =
-    let first = bind_ok (pair_value a b i) _ bytes h in
-    let rest = bind_ok (decode_pairs (i + 2) s) _ bytes first.2 in
-    let high = bind_ok (value_at a i) _ first.0 first.1 in
-    let small = bind_ok (value_at b (i + 1)) _ first.0 high.2 in
-    let la = and_parts (is_lower_digit a) (is_lower_digit b && list_all is_lower_digit s) low in
-    let lb = and_parts (is_lower_digit b) (list_all is_lower_digit s) la.1 in
-    let ga = glyph_of a high.0 la.0 (value_ok a i (hex_digit_value a) high.0 high.1) in
-    let gb = glyph_of b small.0 lb.0 (value_ok b (i + 1) (hex_digit_value b) small.0 small.1) in
-    let byte : first.0 ≡ high.0 * 16 + small.0 = cc (small.2) in
-    let others = lower_pairs (i + 2) s rest.0 lb.1 rest.1 in
-    let whole : first.0 ∷ rest.0 ≡ bytes = cc (rest.2) in
-    let top : first.0 / 16 ≡ high.0 = omega arith in
-    let low_part : first.0 % 16 ≡ small.0 = omega arith in
-    let one : get_or lower_digits (first.0 / 16) 0 ≡ a = rw top (table_is high.0 ga.0 ∙ ga.1) in
-    let two : get_or lower_digits (first.0 % 16) 0 ≡ b = rw low_part (table_is small.0 gb.0 ∙ gb.1) in
-    rw (← whole) (cc (one, two, others))
-
--- what is written has digits in lower case alone
-pub all_lower : (bytes : List ℕ) → IsBytes bytes → list_all is_lower_digit (encode_lower bytes) ≡ true
-unfolding encode_with
-all_lower [] small = refl
-all_lower (b ∷ bytes) small =
-    let fits : b < 256 = small 0 in
-    let high : b / 16 < 16 = omega arith in
-    let low : b % 16 < 16 = omega arith in
-    and_from _ _ (rw (table_is (b / 16) high) (glyph_lower (b / 16) high))
-    (and_from _ _ (rw (table_is (b % 16) low) (glyph_lower (b % 16) low))
-    (all_lower bytes (λ i. small (suc i))))
-
--- the test of bytes, and the fact
-bytes_pass : (bytes : List ℕ) → IsBytes bytes → list_all (λ b. nat_lt b 256) bytes ≡ true
-bytes_pass [] h = refl
-bytes_pass (b ∷ bytes) h = and_from _ _ (lt-ltb b 256 (h 0)) (bytes_pass bytes (λ i. h (suc i)))
-
-pub bytes_are : (bytes : List ℕ) → list_all (λ b. nat_lt b 256) bytes ≡ true → IsBytes bytes
-bytes_are [] h i = omega arith
-bytes_are (b ∷ bytes) h zero = ltb-true b 256 (and_parts (nat_lt b 256)
-    (list_all (λ b. nat_lt b 256) bytes) h).0
-bytes_are (b ∷ bytes) h (suc i) = bytes_are bytes (and_parts (nat_lt b 256)
-    (list_all (λ b. nat_lt b 256) bytes) h).1 i
+use Rattle.nm_script.specs.Bodies.{hex_body, hex_of, generated_body, generated_of, body_of}
+use Rattle.nm_words.specs.Decimal.{number_of}
+use Rattle.nm_words.specs.Digits.{is_lower_digit}
+use Rattle.nm_words.proofs.DigitLemmas.{all_lower, bytes_are, bytes_pass, lower_pairs}
+use Rattle.nm_script.specs.Spelled.{are_bytes}
+use Rattle.nm_words.proofs.NumberLemmas.{number_taken, number_again}
+use Rattle.nm_script.proofs.StepLemmas.{guard_ok}
+use Rattle.nm_words.proofs.StepLemmas.{chosen}
 
 hex_body_ok : (r : Result (List ℕ) FromHexError) (body : Body) → hex_body r ≡ Ok body
     → (bytes : List ℕ) × (r ≡ Ok bytes) × (Hex bytes ≡ body)
 hex_body_ok (Ok bytes) body h = (bytes, refl, cc)
 hex_body_ok (Err e) body h = cc
 
--- a word that is read is a short body's
-pub body_taken : (word : List ℕ) (body : Body) → body_of word ≡ Ok body
-    → (word ≡ body_word body) × (is_short body ≡ true)
-unfolding body_of
-body_taken [] body h = cc
-body_taken (b ∷ digits) body h =
-    let p = guard_ok (eqb b 120 && (nat_le (length digits) (2 * MAX_PAYLOAD) && list_all
-    is_lower_digit digits)) (hex_body (decode_of digits)) kind.Body body h in
-    let q = and_parts (eqb b 120) (nat_le (length digits) (2 * MAX_PAYLOAD) && list_all
-    is_lower_digit digits) p.0 in
-    let r = and_parts (nat_le (length digits) (2 * MAX_PAYLOAD)) (list_all is_lower_digit digits) q.1 in
+generated_ok : (o : Option ℕ) (body : Body) → generated_body o ≡ Ok body
+    → (len : ℕ) × (o ≡ Some len) × (Gen len ≡ body)
+generated_ok (Some len) body h = (len, refl, cc)
+generated_ok None body h = cc
+
+-- the word is the body's, which has bytes and is not too long
+pub record IsBodyWord (word : List ℕ) (body : Body) : Type 0 where
+  pub word_is : word ≡ body_word body
+  pub bytes : are_bytes body ≡ true
+  pub fits : body_len body ≤ MAX_BODY
+
+hex_taken : (digits : List ℕ) (body : Body) → hex_of digits ≡ Ok body → IsBodyWord (120 ∷ digits) body
+unfolding hex_of
+hex_taken digits body h =
+    let p = guard_ok (nat_le (length digits) (2 * MAX_BODY) && list_all is_lower_digit digits)
+    (hex_body (decode_of digits)) kind.Body body h in
+    let r = and_parts (nat_le (length digits) (2 * MAX_BODY)) (list_all is_lower_digit digits) p.0 in
     let d = hex_body_ok (decode_of digits) body p.1 in
     let ok = decode_of-ok digits d.0 d.1 in
     let lower = lower_pairs 0 digits d.0 r.1 (sym (decode_of-even digits ok.0) ∙ d.1) in
-    let few = leb-true (length digits) (2 * MAX_PAYLOAD) r.0 in
-    let fits : length d.0 ≤ MAX_PAYLOAD = omega (arith, few, ok.2) in
-    let word : b ∷ digits ≡ body_word (Hex d.0) = cc (eqb-true b 120 q.0, lower) in
-    let short : is_short (Hex d.0) ≡ true = and_from _ _ (le-leb (length d.0) MAX_PAYLOAD fits)
-    (bytes_pass d.0 ok.3) in
-    (word ∙ ap body_word d.2, sym (ap is_short d.2) ∙ short)
+    let few = leb-true (length digits) (2 * MAX_BODY) r.0 in
+    let made : IsBodyWord (120 ∷ digits) (Hex d.0) = record {
+      word_is = ap (λ ds. 120 ∷ ds) lower;
+      bytes = bytes_pass d.0 ok.3;
+      fits = omega (arith, few, ok.2);
+    } in
+    rw d.2 at made
 
--- a short body's word is read
-pub body_again : (body : Body) → is_short body ≡ true → body_of (body_word body) ≡ Ok body
+generated_taken : (digits : List ℕ) (body : Body) → generated_of digits ≡ Ok body
+    → IsBodyWord (103 ∷ digits) body
+unfolding generated_of
+generated_taken digits body h =
+    let g = generated_ok (number_of (MAX_BODY + 1) digits) body h in
+    let n = number_taken (MAX_BODY + 1) g.0 digits (omega arith) g.1 in
+    let made : IsBodyWord (103 ∷ digits) (Gen g.0) = record {
+      word_is = ap (λ ds. 103 ∷ ds) n.1;
+      bytes = refl;
+      fits = omega (arith, n.0);
+    } in
+    rw g.2 at made
+
+-- a word that is read is a body's
+pub body_taken : (word : List ℕ) (body : Body) → body_of word ≡ Ok body → IsBodyWord word body
 unfolding body_of
-body_again (Hex bytes) h =
-    let p = and_parts (nat_le (length bytes) MAX_PAYLOAD) (list_all (λ b. nat_lt b 256) bytes) h in
-    let small = bytes_are bytes p.1 in
-    let few = leb-true (length bytes) MAX_PAYLOAD p.0 in
-    let fits : length (encode_lower bytes) ≤ 2 * MAX_PAYLOAD = omega
-    (arith, length-encode_with lower_digits bytes, few) in
-    rw (le-leb (length (encode_lower bytes)) (2 * MAX_PAYLOAD) fits, all_lower bytes small)
-    (ap hex_body (decode_of-encode_lower bytes small))
-body_again (Gen n) h = cc
+body_taken [] body h = cc
+body_taken (b ∷ rest) body h =
+    elim (chosen (eqb b 120) (hex_of rest) _ (Ok body) h) [
+      | inl p ↦ rw (eqb-true b 120 p.0) (hex_taken rest body p.1)
+      | inr p ↦
+          let q = guard_ok (eqb b 103) (generated_of rest) kind.Body body p.1 in
+          rw (eqb-true b 103 q.0) (generated_taken rest body q.1)
+    ]
 
--- and short it is
-pub short_len : (body : Body) → is_short body ≡ true → body_len body ≤ MAX_PAYLOAD
-short_len (Hex bytes) h = leb-true (length bytes) MAX_PAYLOAD
-    (and_parts (nat_le (length bytes) MAX_PAYLOAD) (list_all (λ b. nat_lt b 256) bytes) h).0
-short_len (Gen n) h = cc
+-- a body's word is read
+pub body_again : (body : Body) → are_bytes body ≡ true → body_len body ≤ MAX_BODY
+    → body_of (body_word body) ≡ Ok body
+unfolding body_of hex_of generated_of
+body_again (Hex bytes) h few =
+    let small = bytes_are bytes h in
+    let fits : length (encode_lower bytes) ≤ 2 * MAX_BODY = omega
+    (arith, length-encode_with lower_digits bytes, few) in
+    rw (le-leb (length (encode_lower bytes)) (2 * MAX_BODY) fits, all_lower bytes small)
+    (ap hex_body (decode_of-encode_lower bytes small))
+body_again (Gen n) h few = rw (number_again (MAX_BODY + 1) n (omega arith) (omega arith)) refl

@@ -1,18 +1,21 @@
 -- A line's words, both ways.
-use Rattle.std.proofs.Common.{◌≡◌, ℕ, suc, ◌+◌, ◌-◌, ◌<◌, ◌≤◌, ◌^◌, inl, inr, true, false, ◌&&◌}
+use Rattle.std.proofs.Common.{◌≡◌, ℕ, suc, ◌+◌, ◌-◌, ◌<◌, ◌≤◌, ◌^◌, inl, inr, Bool, true, false, ◌&&◌}
 use Rattle.std.proofs.Common.{List, [], ◌∷◌, ◌++◌, length, get_or, take, nat_le, nat_lt, Ok}
 use Rattle.std.proofs.Common.{refl, ap, ◌∙◌, arith, eqb, codes, decimal, length-append}
 use Rattle.std.specs.List.{list_all}
 use Rattle.std.specs.Option.{ok_or}
-use Rattle.std.specs.Str.{bytes_eq}
+use Rattle.std.specs.Str.{all_ascii_digits, bytes_eq}
 use Rattle.std.proofs.lemmas.Bool.{and_from, and_parts, eqb-true, ltb-true, leb-true, lt-ltb, le-leb}
 use Rattle.std.proofs.Math.Seq.{get_or-append_seam, take-append_seam}
+use Rattle.std.proofs.lemmas.Fmt.{digits_decimal}
 use Rattle.std.proofs.lemmas.List.Folds.{list_all-append}
 use Rattle.std.proofs.lemmas.Slice.Eq.{bytes_eq-Decides}
 use Rattle.hex.specs.Hex.{encode_lower}
 use Rattle.nm_types.specs.declared.limits.TheConstants.{MAX_RANKS, MAX_NAME, MAX_TAG, MAX_CONTEXT}
 use Rattle.nm_types.specs.declared.limits.TheConstants.{MAX_CAPACITY, MAX_BODY}
+use Rattle.nm_types.specs.declared.messages.Peer.{Peer}
 use Rattle.nm_types.specs.declared.messages.Peer.TheVariants as peer
+use Rattle.nm_types.specs.declared.messages.TagPick.{TagPick}
 use Rattle.nm_types.specs.declared.messages.TagPick.TheVariants as pick
 use Rattle.nm_types.specs.declared.scripts.Body.{Body}
 use Rattle.nm_types.specs.declared.scripts.Body.TheVariants.{Hex, Gen}
@@ -21,42 +24,33 @@ use Rattle.nm_types.specs.declared.scripts.Command.TheVariants.{Send, Recv, Wait
 use Rattle.nm_types.specs.declared.scripts.Command.TheVariants.{Await, Cancel, Mprobe, Mrecv}
 use Rattle.nm_types.specs.declared.scripts.Line.{Line}
 use Rattle.nm_types.specs.Bodies.{body_len}
-use Rattle.nm_types.specs.Limits.{is_in_range, sent_len}
-use Rattle.nm_types.specs.Text.{body_word, words}
+use Rattle.nm_types.specs.Limits.{is_peer, is_pick, is_in_range, sent_len}
+use Rattle.nm_types.specs.Text.{peer_word, tag_word, body_word, words}
+use Rattle.nm_script.specs.declared.commands.Selection.{Selection}
 use Rattle.nm_script.specs.declared.faults.Kind.TheVariants as kind
+use Rattle.nm_script.specs.declared.keywords.Keyword.{Keyword}
+use Rattle.nm_script.specs.declared.keywords.Keyword.TheVariants as key
 use Rattle.nm_script.specs.Bodies.{body_of}
-use Rattle.nm_script.specs.Commands.{rank_of, argument_of, name_of, send_with, send_of, recv_with, recv_of}
-use Rattle.nm_script.specs.Commands.{wait_of, command_of, line_of}
-use Rattle.nm_script.specs.Decimal.{number_of}
-use Rattle.nm_script.specs.Part.{is_in_part, is_short}
-use Rattle.nm_script.proofs.BodyLemmas.{all_lower, bytes_are, body_taken, body_again, short_len}
-use Rattle.nm_script.proofs.NumberLemmas.{number_taken, number_again}
-use Rattle.nm_script.proofs.StepLemmas.{bind_ok, guard_ok, chosen, found}
-use Rattle.nm_script.proofs.StepLemmas.{five_parts, five_from}
-use Rattle.nm_script.proofs.WordLemmas.{is_solid, Solid, decimal_solid, lower_solid}
+use Rattle.nm_script.specs.Commands.{rank_of, argument_of, name_of, peer_of, pick_of, selection_of}
+use Rattle.nm_script.specs.Commands.{send_with, send_of, recv_with, recv_of, lone_of, probe_of}
+use Rattle.nm_script.specs.Commands.{mprobe_with, mprobe_of, mrecv_with, mrecv_of, arguments_of}
+use Rattle.nm_script.specs.Commands.{command_of, line_of}
+use Rattle.nm_words.specs.Decimal.{number_of}
+use Rattle.nm_script.specs.Faults.{◌>>=◌}
+use Rattle.nm_script.specs.Keywords.{keyword_of, keyword_text}
+use Rattle.nm_script.specs.Spelled.{are_bytes, has_bytes}
+use Rattle.nm_script.proofs.BodyLemmas.{body_taken, body_again}
+use Rattle.nm_words.proofs.DigitLemmas.{all_lower, bytes_are}
+use Rattle.nm_script.proofs.KeywordLemmas.{keyword_taken, keyword_again}
+use Rattle.nm_words.proofs.NumberLemmas.{own, number_taken, number_again}
+use Rattle.nm_script.proofs.StepLemmas.{guard_ok, found, found_in, not_true}
+use Rattle.nm_words.proofs.StepLemmas.{bind_ok, chosen}
+use Rattle.nm_script.proofs.StepLemmas.{three_parts, three_from, four_parts, four_from, five_parts, five_from}
+use Rattle.nm_words.proofs.WordLemmas.{is_solid, Solid, decimal_solid, lower_solid}
 
 -- the words of a line
 abbrev pub line_words : ℕ → Command → List (List ℕ)
 line_words rank c = (decimal rank ++ codes ":") ∷ words c
-
--- a command of the part, by cases
-pub by_part : (P : Command → Type 0)
-    → ((q to tag ctx : ℕ) (body : Body) → is_short body ≡ true → P (Send q to tag ctx body false))
-    → ((q from tag ctx cap : ℕ) → P (Recv q (peer.One from) (pick.One tag) ctx cap)) →
-    ((q : ℕ) → P (Wait q))
-    → (c : Command) → is_in_part c ≡ true → P c
-by_part P send recv wait (Send q to tag ctx body false) h = send q to tag ctx body h
-by_part P send recv wait (Send q to tag ctx body true) h = cc
-by_part P send recv wait (Recv q peer.Any tag ctx cap) h = cc
-by_part P send recv wait (Recv q (peer.One from) pick.Any ctx cap) h = cc
-by_part P send recv wait (Recv q (peer.One from) (pick.One tag) ctx cap) h = recv q from tag ctx cap
-by_part P send recv wait (Wait q) h = wait q
-by_part P send recv wait (Test q) h = cc
-by_part P send recv wait (Probe from tag ctx) h = cc
-by_part P send recv wait (Await from tag ctx) h = cc
-by_part P send recv wait (Cancel q) h = cc
-by_part P send recv wait (Mprobe m from tag ctx) h = cc
-by_part P send recv wait (Mrecv q m cap) h = cc
 
 -- ---- what is spelled is read
 
@@ -73,120 +67,295 @@ front_is xs y =
 some_is : (xs : List ℕ) (y : ℕ) → nat_lt 0 (length (xs ++ y ∷ [])) ≡ true
 some_is xs y = lt-ltb 0 (length (xs ++ y ∷ [])) (omega (arith, length-append xs (y ∷ [])))
 
-rank_again : (ranks r : ℕ) → ranks ≤ MAX_RANKS → r < ranks → rank_of ranks (decimal r ++ 58 ∷ []) ≡ Ok r
+pub rank_again : (ranks r : ℕ) → ranks ≤ MAX_RANKS → r < ranks → rank_of ranks (decimal r ++ 58 ∷ []) ≡ Ok r
 unfolding rank_of
 rank_again ranks r few h =
     rw (last_is (decimal r) 58, front_is (decimal r) 58, number_again ranks r (omega arith) h)
     (rw (some_is (decimal r) 58) refl)
 
-argument_again : (limit n : ℕ) → limit ≤ 2 ^ 64 → n < limit → argument_of limit (decimal n) ≡ Ok n
+pub argument_again : (limit n : ℕ) → limit ≤ 2 ^ 64 → n < limit → argument_of limit (decimal n) ≡ Ok n
 unfolding argument_of
 argument_again limit n small h = rw (number_again limit n small h) refl
 
 -- a word is at most this number
-word_again : (most n : ℕ) → most < 2 ^ 63 → nat_le n most ≡ true → argument_of (most + 1) (decimal n) ≡ Ok n
+pub word_again : (most n : ℕ) → most < 2 ^ 63 → nat_le n most ≡ true → argument_of (most + 1) (decimal n) ≡ Ok n
 word_again most n small h = argument_again (most + 1) n (omega arith) (omega (arith, leb-true n most h))
 
-body_solid : (body : Body) → is_short body ≡ true → list_all is_solid (body_word body) ≡ true
-body_solid (Hex bytes) h =
-    let small = bytes_are bytes (and_parts (nat_le (length bytes) 256) _ h).1 in
-    and_from _ _ refl (lower_solid (encode_lower bytes) (all_lower bytes small))
-body_solid (Gen n) h = cc
+body_solid : (body : Body) → are_bytes body ≡ true → body_len body ≤ MAX_BODY
+    → list_all is_solid (body_word body) ≡ true
+body_solid (Hex bytes) h few =
+    and_from _ _ refl (lower_solid (encode_lower bytes) (all_lower bytes (bytes_are bytes h)))
+body_solid (Gen n) h few = and_from _ _ refl (decimal_solid n (omega arith))
 
 small_solid : (most n : ℕ) → most < 2 ^ 63 → nat_le n most ≡ true → list_all is_solid (decimal n) ≡ true
 small_solid most n small h = decimal_solid n (omega (arith, leb-true n most h))
+
+-- no number is spelled `any`
+not_any : (n : ℕ) → n < 2 ^ 64 → bytes_eq (decimal n) (codes "any") ≡ false
+not_any n h = not_true _ (λ e.
+    let is : decimal n ≡ codes "any" = (bytes_eq-Decides (decimal n) (codes "any")).0 e in
+    let digits : all_ascii_digits (decimal n) ≡ true = digits_decimal own n h in
+    let no : all_ascii_digits (codes "any") ≡ true = rw is at digits in cc (no))
+
+pub peer_again : (ranks : ℕ) (p : Peer) → ranks ≤ MAX_RANKS → is_peer ranks p ≡ true
+    → peer_of ranks (peer_word p) ≡ Ok p
+unfolding peer_of
+peer_again ranks peer.Any few h = refl
+peer_again ranks (peer.One r) few h =
+    let below = ltb-true r ranks h in
+    rw (not_any r (omega arith)) (rw (argument_again ranks r (omega arith) below) refl)
+
+pub pick_again : (p : TagPick) → is_pick p ≡ true → pick_of (tag_word p) ≡ Ok p
+unfolding pick_of
+pick_again pick.Any h = refl
+pick_again (pick.One t) h =
+    let below = leb-true t MAX_TAG h in
+    rw (not_any t (omega arith)) (rw (word_again MAX_TAG t (omega arith) h) refl)
+
+pub selection_again : (ranks : ℕ) (from : Peer) (tag : TagPick) (ctx : ℕ) → ranks ≤ MAX_RANKS
+    → is_peer ranks from ≡ true → is_pick tag ≡ true → nat_le ctx MAX_CONTEXT ≡ true
+    → selection_of ranks (peer_word from) (tag_word tag) (decimal ctx)
+    ≡ Ok (record { from = from; tag = tag; ctx = ctx })
+unfolding selection_of
+selection_again ranks from tag ctx few f t c =
+    rw (peer_again ranks from few f)
+    (rw (pick_again tag t) (rw (word_again MAX_CONTEXT ctx (omega arith) c) refl))
+
+peer_solid : (ranks : ℕ) (p : Peer) → ranks ≤ MAX_RANKS → is_peer ranks p ≡ true
+    → list_all is_solid (peer_word p) ≡ true
+peer_solid ranks peer.Any few h = refl
+peer_solid ranks (peer.One r) few h = decimal_solid r (omega (arith, ltb-true r ranks h))
+
+pick_solid : (p : TagPick) → is_pick p ≡ true → list_all is_solid (tag_word p) ≡ true
+pick_solid pick.Any h = refl
+pick_solid (pick.One t) h = small_solid MAX_TAG t (omega arith) h
 
 -- what is asked of a line, beside its place
 pub record Fits (ranks : ℕ) (line : Line) : Type 0 where
   pub own : line.rank < ranks
   pub range : is_in_range ranks line.command ≡ true
-  pub part : is_in_part line.command ≡ true
+  pub bytes : has_bytes line.command ≡ true
 
-module _ (ranks rank : ℕ) (few : ranks ≤ MAX_RANKS) (own : rank < ranks) where
-  -- the words of a command in range have no space, and are read as that command
-  ReadsBack : Command → Type 0
+-- the name of a command
+abbrev pub keyword_in : Command → Keyword
+keyword_in (Send q to tag ctx body true) = key.Issend
+keyword_in (Send q to tag ctx body false) = key.Isend
+keyword_in (Recv q from tag ctx cap) = key.Irecv
+keyword_in (Wait q) = key.Wait
+keyword_in (Test q) = key.Test
+keyword_in (Probe from tag ctx) = key.Probe
+keyword_in (Await from tag ctx) = key.Await
+keyword_in (Cancel q) = key.Cancel
+keyword_in (Mprobe m from tag ctx) = key.Mprobe
+keyword_in (Mrecv q m cap) = key.Mrecv
+
+-- the words behind it
+abbrev pub arguments_in : Command → List (List ℕ)
+arguments_in (Send q to tag ctx body sync) =
+    decimal q ∷ decimal to ∷ decimal tag ∷ decimal ctx ∷ body_word body ∷ []
+arguments_in (Recv q from tag ctx cap) =
+    decimal q ∷ peer_word from ∷ tag_word tag ∷ decimal ctx ∷ decimal cap ∷ []
+arguments_in (Wait q) = decimal q ∷ []
+arguments_in (Test q) = decimal q ∷ []
+arguments_in (Probe from tag ctx) = peer_word from ∷ tag_word tag ∷ decimal ctx ∷ []
+arguments_in (Await from tag ctx) = peer_word from ∷ tag_word tag ∷ decimal ctx ∷ []
+arguments_in (Cancel q) = decimal q ∷ []
+arguments_in (Mprobe m from tag ctx) =
+    decimal m ∷ peer_word from ∷ tag_word tag ∷ decimal ctx ∷ []
+arguments_in (Mrecv q m cap) = decimal q ∷ decimal m ∷ decimal cap ∷ []
+
+pub words_are : (c : Command) → words c ≡ keyword_text (keyword_in c) ∷ arguments_in c
+words_are (Send q to tag ctx body true) = refl
+words_are (Send q to tag ctx body false) = refl
+words_are (Recv q from tag ctx cap) = refl
+words_are (Wait q) = refl
+words_are (Test q) = refl
+words_are (Probe from tag ctx) = refl
+words_are (Await from tag ctx) = refl
+words_are (Cancel q) = refl
+words_are (Mprobe m from tag ctx) = refl
+words_are (Mrecv q m cap) = refl
+
+keyword_solid : (k : Keyword) → list_all is_solid (keyword_text k) ≡ true
+keyword_solid key.Isend = refl
+keyword_solid key.Issend = refl
+keyword_solid key.Irecv = refl
+keyword_solid key.Wait = refl
+keyword_solid key.Test = refl
+keyword_solid key.Probe = refl
+keyword_solid key.Await = refl
+keyword_solid key.Cancel = refl
+keyword_solid key.Mprobe = refl
+keyword_solid key.Mrecv = refl
+
+module _ (ranks : ℕ) (few : ranks ≤ MAX_RANKS) where
+  -- the arguments of a command in range have no space, and are read as that command
+  pub ReadsBack : Command → Type 0
   ReadsBack c =
-      is_in_range ranks c ≡ true
-      → (line_of ranks (line_words rank c) ≡ Ok (record { rank = rank; command = c })) × Solid (words c)
+      is_in_range ranks c ≡ true → has_bytes c ≡ true
+      → (arguments_of ranks (keyword_in c) (arguments_in c) ≡ Ok c) × Solid (arguments_in c)
 
-  send_again : (q to tag ctx : ℕ) (body : Body) → is_short body ≡ true
-      → ReadsBack (Send q to tag ctx body false)
-  unfolding ReadsBack line_of command_of send_of send_with name_of
-  send_again q to tag ctx body short range =
+  sends : (q to tag ctx : ℕ) (body : Body) (sync : Bool)
+      → is_in_range ranks (Send q to tag ctx body sync) ≡ true → are_bytes body ≡ true
+      → (send_of ranks sync (arguments_in (Send q to tag ctx body sync)) ≡ Ok
+      (Send q to tag ctx body sync)) × Solid (arguments_in (Send q to tag ctx body sync))
+  unfolding send_of send_with name_of
+  sends q to tag ctx body sync range bytes =
       let t = five_parts (nat_le q MAX_NAME) (nat_lt to ranks) (nat_le tag MAX_TAG) (nat_le ctx MAX_CONTEXT)
       (nat_le (body_len body) MAX_BODY) range in
-      let peer : to < ranks = ltb-true to ranks t.two in (
-        rw (rank_again ranks rank few own) (rw (word_again MAX_NAME q (omega arith) t.one)
+      let peer : to < ranks = ltb-true to ranks t.two in
+      let fits : body_len body ≤ MAX_BODY = leb-true (body_len body) MAX_BODY t.five in (
+        rw (word_again MAX_NAME q (omega arith) t.one)
             (rw (argument_again ranks to (omega arith) peer)
             (rw (word_again MAX_TAG tag (omega arith) t.three)
-            (rw (word_again MAX_CONTEXT ctx (omega arith) t.four) (rw (body_again body short) refl))))),
+            (rw (word_again MAX_CONTEXT ctx (omega arith) t.four)
+            (rw (body_again body bytes fits) refl)))),
         (
-          refl,
+          small_solid MAX_NAME q (omega arith) t.one,
           (
-            small_solid MAX_NAME q (omega arith) t.one,
+            decimal_solid to (omega arith),
             (
-              decimal_solid to (omega arith),
+              small_solid MAX_TAG tag (omega arith) t.three,
               (
-                small_solid MAX_TAG tag (omega arith) t.three,
-                (
-                  small_solid MAX_CONTEXT ctx (omega arith) t.four,
-                  (body_solid body short, tt),
-                ),
+                small_solid MAX_CONTEXT ctx (omega arith) t.four,
+                (body_solid body bytes fits, tt),
               ),
             ),
           ),
         ),
       )
 
-  recv_again : (q from tag ctx cap : ℕ) → ReadsBack (Recv q (peer.One from) (pick.One tag) ctx cap)
-  unfolding ReadsBack line_of command_of recv_of recv_with name_of
-  recv_again q from tag ctx cap range =
-      let t = five_parts (nat_le q MAX_NAME) (nat_lt from ranks) (nat_le tag MAX_TAG)
-      (nat_le ctx MAX_CONTEXT) (nat_le cap MAX_CAPACITY) range in
-      let peer : from < ranks = ltb-true from ranks t.two in (
-        rw (rank_again ranks rank few own) (rw (word_again MAX_NAME q (omega arith) t.one)
-            (rw (argument_again ranks from (omega arith) peer)
-            (rw (word_again MAX_TAG tag (omega arith) t.three)
-            (rw (word_again MAX_CONTEXT ctx (omega arith) t.four)
-            (rw (word_again MAX_CAPACITY cap (omega arith) t.five) refl))))),
+  send_again : (q to tag ctx : ℕ) (body : Body) (sync : Bool) → ReadsBack (Send q to tag ctx body sync)
+  unfolding ReadsBack arguments_of
+  send_again q to tag ctx body true range bytes = sends q to tag ctx body true range bytes
+  send_again q to tag ctx body false range bytes = sends q to tag ctx body false range bytes
+
+  recv_again : (q : ℕ) (from : Peer) (tag : TagPick) (ctx cap : ℕ) → ReadsBack (Recv q from tag ctx cap)
+  unfolding ReadsBack arguments_of recv_of recv_with name_of
+  recv_again q from tag ctx cap range bytes =
+      let t = five_parts (nat_le q MAX_NAME) (is_peer ranks from) (is_pick tag)
+      (nat_le ctx MAX_CONTEXT) (nat_le cap MAX_CAPACITY) range in (
+        rw (word_again MAX_NAME q (omega arith) t.one)
+            (rw (selection_again ranks from tag ctx few t.two t.three t.four)
+            (rw (word_again MAX_CAPACITY cap (omega arith) t.five) refl)),
         (
-          refl,
+          small_solid MAX_NAME q (omega arith) t.one,
           (
-            small_solid MAX_NAME q (omega arith) t.one,
+            peer_solid ranks from few t.two,
             (
-              decimal_solid from (omega arith),
+              pick_solid tag t.three,
               (
-                small_solid MAX_TAG tag (omega arith) t.three,
-                (
-                  small_solid MAX_CONTEXT ctx (omega arith) t.four,
-                  (small_solid MAX_CAPACITY cap (omega arith) t.five, tt),
-                ),
+                small_solid MAX_CONTEXT ctx (omega arith) t.four,
+                (small_solid MAX_CAPACITY cap (omega arith) t.five, tt),
               ),
             ),
           ),
         ),
       )
+
+  lone_again : (q : ℕ) → nat_le q MAX_NAME ≡ true → lone_of (decimal q ∷ []) ≡ Ok q
+  unfolding lone_of name_of
+  lone_again q range = word_again MAX_NAME q (omega arith) range
+
+  lone_solid : (q : ℕ) → nat_le q MAX_NAME ≡ true → Solid (decimal q ∷ [])
+  lone_solid q range = (small_solid MAX_NAME q (omega arith) range, tt)
 
   wait_again : (q : ℕ) → ReadsBack (Wait q)
-  unfolding ReadsBack line_of command_of wait_of name_of
-  wait_again q range = (
-    rw (rank_again ranks rank few own) (rw (word_again MAX_NAME q (omega arith) range) refl),
-    (refl, (small_solid MAX_NAME q (omega arith) range, tt)),
-  )
+  unfolding ReadsBack arguments_of
+  wait_again q range bytes = (rw (lone_again q range) refl, lone_solid q range)
+
+  test_again : (q : ℕ) → ReadsBack (Test q)
+  unfolding ReadsBack arguments_of
+  test_again q range bytes = (rw (lone_again q range) refl, lone_solid q range)
+
+  cancel_again : (q : ℕ) → ReadsBack (Cancel q)
+  unfolding ReadsBack arguments_of
+  cancel_again q range bytes = (rw (lone_again q range) refl, lone_solid q range)
+
+  probes : (from : Peer) (tag : TagPick) (ctx : ℕ)
+      → (is_peer ranks from && is_pick tag && nat_le ctx MAX_CONTEXT) ≡ true
+      → (probe_of ranks (peer_word from ∷ tag_word tag ∷ decimal ctx ∷ [])
+      ≡ Ok (record { from = from; tag = tag; ctx = ctx }))
+      × Solid (peer_word from ∷ tag_word tag ∷ decimal ctx ∷ [])
+  unfolding probe_of
+  probes from tag ctx range =
+      let t = three_parts (is_peer ranks from) (is_pick tag) (nat_le ctx MAX_CONTEXT) range in (
+        selection_again ranks from tag ctx few t.0 t.1 t.2,
+        (
+          peer_solid ranks from few t.0,
+          (pick_solid tag t.1, (small_solid MAX_CONTEXT ctx (omega arith) t.2, tt)),
+        ),
+      )
+
+  probe_again : (from : Peer) (tag : TagPick) (ctx : ℕ) → ReadsBack (Probe from tag ctx)
+  unfolding ReadsBack arguments_of
+  probe_again from tag ctx range bytes =
+      let p = probes from tag ctx range in (rw p.0 refl, p.1)
+
+  await_again : (from : Peer) (tag : TagPick) (ctx : ℕ) → ReadsBack (Await from tag ctx)
+  unfolding ReadsBack arguments_of
+  await_again from tag ctx range bytes =
+      let p = probes from tag ctx range in (rw p.0 refl, p.1)
+
+  mprobe_again : (m : ℕ) (from : Peer) (tag : TagPick) (ctx : ℕ) → ReadsBack (Mprobe m from tag ctx)
+  unfolding ReadsBack arguments_of mprobe_of mprobe_with name_of
+  mprobe_again m from tag ctx range bytes =
+      let t = four_parts (nat_le m MAX_NAME) (is_peer ranks from) (is_pick tag) (nat_le ctx MAX_CONTEXT)
+      range in (
+        rw (word_again MAX_NAME m (omega arith) t.0)
+            (rw (selection_again ranks from tag ctx few t.1 t.2 t.3) refl),
+        (
+          small_solid MAX_NAME m (omega arith) t.0,
+          (
+            peer_solid ranks from few t.1,
+            (pick_solid tag t.2, (small_solid MAX_CONTEXT ctx (omega arith) t.3, tt)),
+          ),
+        ),
+      )
+
+  mrecv_again : (q m cap : ℕ) → ReadsBack (Mrecv q m cap)
+  unfolding ReadsBack arguments_of mrecv_of mrecv_with name_of
+  mrecv_again q m cap range bytes =
+      let t = three_parts (nat_le q MAX_NAME) (nat_le m MAX_NAME) (nat_le cap MAX_CAPACITY) range in (
+        rw (word_again MAX_NAME q (omega arith) t.0)
+            (rw (word_again MAX_NAME m (omega arith) t.1)
+            (rw (word_again MAX_CAPACITY cap (omega arith) t.2) refl)),
+        (
+          small_solid MAX_NAME q (omega arith) t.0,
+          (
+            small_solid MAX_NAME m (omega arith) t.1,
+            (small_solid MAX_CAPACITY cap (omega arith) t.2, tt),
+          ),
+        ),
+      )
+
+  pub reads_back : (c : Command) → ReadsBack c
+  reads_back (Send q to tag ctx body sync) = send_again q to tag ctx body sync
+  reads_back (Recv q from tag ctx cap) = recv_again q from tag ctx cap
+  reads_back (Wait q) = wait_again q
+  reads_back (Test q) = test_again q
+  reads_back (Probe from tag ctx) = probe_again from tag ctx
+  reads_back (Await from tag ctx) = await_again from tag ctx
+  reads_back (Cancel q) = cancel_again q
+  reads_back (Mprobe m from tag ctx) = mprobe_again m from tag ctx
+  reads_back (Mrecv q m cap) = mrecv_again q m cap
 
 -- the words of a line have no space, and are read as that line
 pub line_again : (ranks : ℕ) (line : Line) → ranks ≤ MAX_RANKS → Fits ranks line
     → (line_of ranks (line_words line.rank line.command) ≡ Ok line)
     × Solid (line_words line.rank line.command)
-unfolding ReadsBack
+unfolding line_of command_of ReadsBack
 line_again ranks line few fits =
     let r = line.rank in
+    let c = line.command in
     let own = fits.own in
-    let c = by_part (ReadsBack ranks r few own) (send_again ranks r few own) (recv_again ranks r few own)
-    (wait_again ranks r few own) line.command fits.part fits.range in
+    let back = reads_back ranks few c fits.range fits.bytes in
     let first = list_all-append is_solid (decimal r) (58 ∷ [])
-    ∙ and_from _ _ (decimal_solid r (omega arith)) refl in
-    (c.0, (first, c.1))
+    ∙ and_from _ _ (decimal_solid r (omega arith)) refl in (
+      rw (words_are c) (rw (rank_again ranks r few own)
+          (rw (keyword_again (keyword_in c)) (rw back.0 refl))),
+      (first, rw (words_are c) (keyword_solid (keyword_in c), back.1)),
+    )
 
 -- ---- what is read is spelled so
 
@@ -199,7 +368,7 @@ front_and_last (x ∷ y ∷ xs) h =
     let n : length (x ∷ y ∷ xs) - 1 ≡ suc (length (y ∷ xs) - 1) = omega arith in
     rw n (ap (λ t. x ∷ t) (front_and_last (y ∷ xs) (omega arith)))
 
-rank_taken : (ranks r : ℕ) (word : List ℕ) → ranks ≤ 2 ^ 64 → rank_of ranks word ≡ Ok r
+pub rank_taken : (ranks r : ℕ) (word : List ℕ) → ranks ≤ 2 ^ 64 → rank_of ranks word ≡ Ok r
     → (word ≡ decimal r ++ codes ":") × (r < ranks)
 unfolding rank_of
 rank_taken ranks r word small h =
@@ -212,100 +381,169 @@ rank_taken ranks r word small h =
     let parts = front_and_last word (ltb-true 0 (length word) q.0) in
     (cc (parts, number.1, eqb-true last 58 q.1), number.0)
 
-argument_taken : (limit n : ℕ) (word : List ℕ) → limit ≤ 2 ^ 64 → argument_of limit word ≡ Ok n
+pub argument_taken : (limit n : ℕ) (word : List ℕ) → limit ≤ 2 ^ 64 → argument_of limit word ≡ Ok n
     → (n < limit) × (word ≡ decimal n)
 unfolding argument_of
 argument_taken limit n word small h = number_taken limit n word small
     (found (number_of limit word) kind.Number n h)
 
-word_taken : (most n : ℕ) (word : List ℕ) → most < 2 ^ 63 → argument_of (most + 1) word ≡ Ok n
+pub word_taken : (most n : ℕ) (word : List ℕ) → most < 2 ^ 63 → argument_of (most + 1) word ≡ Ok n
     → (nat_le n most ≡ true) × (word ≡ decimal n)
 word_taken most n word small h =
     let a = argument_taken (most + 1) n word (omega arith) h in
     (le-leb n most (omega (arith, a.0)), a.1)
 
--- these words are the command's, which is in range and in the part
-pub record AreWords (ranks : ℕ) (ws : List (List ℕ)) (c : Command) : Type 0 where
-  pub words_are : ws ≡ words c
-  pub range : is_in_range ranks c ≡ true
-  pub part : is_in_part c ≡ true
+pub peer_taken : (ranks : ℕ) (p : Peer) (word : List ℕ) → ranks ≤ 2 ^ 64 → peer_of ranks word ≡ Ok p
+    → (word ≡ peer_word p) × (is_peer ranks p ≡ true)
+unfolding peer_of
+peer_taken ranks p word small h =
+    elim (chosen (bytes_eq word (codes "any")) (Ok peer.Any) _ (Ok p) h) [
+      | inl e ↦
+          let is : peer.Any ≡ p = cc (e.1) in
+          rw (← is) ((bytes_eq-Decides word (codes "any")).0 e.0, refl)
+      | inr e ↦
+          let r = bind_ok (argument_of ranks word) _ p e.1 in
+          let is : peer.One r.0 ≡ p = cc (r.2) in
+          let w = argument_taken ranks r.0 word small r.1 in
+          rw (← is) (w.1, lt-ltb r.0 ranks w.0)
+    ]
 
-send_with_taken : (ranks : ℕ) (c : Command) (name to tag ctx body : List ℕ) → ranks ≤ 2 ^ 64
-    → send_with ranks name to tag ctx body ≡ Ok c
-    → AreWords ranks (codes "isend" ∷ name ∷ to ∷ tag ∷ ctx ∷ body ∷ []) c
+pub pick_taken : (p : TagPick) (word : List ℕ) → pick_of word ≡ Ok p
+    → (word ≡ tag_word p) × (is_pick p ≡ true)
+unfolding pick_of
+pick_taken p word h =
+    elim (chosen (bytes_eq word (codes "any")) (Ok pick.Any) _ (Ok p) h) [
+      | inl e ↦
+          let is : pick.Any ≡ p = cc (e.1) in
+          rw (← is) ((bytes_eq-Decides word (codes "any")).0 e.0, refl)
+      | inr e ↦
+          let r = bind_ok (argument_of (MAX_TAG + 1) word) _ p e.1 in
+          let is : pick.One r.0 ≡ p = cc (r.2) in
+          let w = word_taken MAX_TAG r.0 word (omega arith) r.1 in
+          rw (← is) (w.1, w.0)
+    ]
+
+-- these words are the selection's, which is in range
+record IsSelected (ranks : ℕ) (from tag ctx : List ℕ) (s : Selection) : Type 0 where
+  from_is : from ≡ peer_word s.from
+  tag_is : tag ≡ tag_word s.tag
+  ctx_is : ctx ≡ decimal s.ctx
+  source : is_peer ranks s.from ≡ true
+  pick : is_pick s.tag ≡ true
+  context : nat_le s.ctx MAX_CONTEXT ≡ true
+
+selection_taken : (ranks : ℕ) (s : Selection) (from tag ctx : List ℕ) → ranks ≤ 2 ^ 64
+    → selection_of ranks from tag ctx ≡ Ok s → IsSelected ranks from tag ctx s
+unfolding selection_of
+selection_taken ranks s from tag ctx small h =
+    let f = bind_ok (peer_of ranks from) _ s h in
+    let t = bind_ok (pick_of tag) _ s f.2 in
+    let x = bind_ok (argument_of (MAX_CONTEXT + 1) ctx) _ s t.2 in
+    let is : record { from = f.0; tag = t.0; ctx = x.0 } ≡ s = cc (x.2) in
+    let fw = peer_taken ranks f.0 from small f.1 in
+    let tw = pick_taken t.0 tag t.1 in
+    let xw = word_taken MAX_CONTEXT x.0 ctx (omega arith) x.1 in
+    let made : IsSelected ranks from tag ctx (record { from = f.0; tag = t.0; ctx = x.0 }) = record {
+      from_is = fw.0;
+      tag_is = tw.0;
+      ctx_is = xw.1;
+      source = fw.1;
+      pick = tw.1;
+      context = xw.0;
+    } in
+    rw is at made
+
+-- these words are the command's arguments, and it is in range
+pub record AreArguments (ranks : ℕ) (k : Keyword) (ws : List (List ℕ)) (c : Command) : Type 0 where
+  pub keyword_is : k ≡ keyword_in c
+  pub arguments_are : ws ≡ arguments_in c
+  pub range : is_in_range ranks c ≡ true
+  pub bytes : has_bytes c ≡ true
+
+-- the name of a send
+abbrev send_key : Bool → Keyword
+send_key true = key.Issend
+send_key false = key.Isend
+
+send_named : (sync : Bool) (q to tag ctx : ℕ) (body : Body)
+    → send_key sync ≡ keyword_in (Send q to tag ctx body sync)
+send_named true q to tag ctx body = refl
+send_named false q to tag ctx body = refl
+
+send_with_taken : (ranks : ℕ) (sync : Bool) (c : Command) (name to tag ctx body : List ℕ) → ranks ≤ 2 ^ 64
+    → send_with ranks sync name to tag ctx body ≡ Ok c
+    → AreArguments ranks (send_key sync) (name ∷ to ∷ tag ∷ ctx ∷ body ∷ []) c
 unfolding send_with name_of
-send_with_taken ranks c name to tag ctx body small h =
+send_with_taken ranks sync c name to tag ctx body small h =
     let q = bind_ok (argument_of (MAX_NAME + 1) name) _ c h in
     let r = bind_ok (argument_of ranks to) _ c q.2 in
     let t = bind_ok (argument_of (MAX_TAG + 1) tag) _ c r.2 in
     let x = bind_ok (argument_of (MAX_CONTEXT + 1) ctx) _ c t.2 in
     let b = bind_ok (body_of body) _ c x.2 in
-    let is : Send q.0 r.0 t.0 x.0 b.0 false ≡ c = cc (b.2) in
+    let is : Send q.0 r.0 t.0 x.0 b.0 sync ≡ c = cc (b.2) in
     let qw = word_taken MAX_NAME q.0 name (omega arith) q.1 in
     let rw' = argument_taken ranks r.0 to small r.1 in
     let tw = word_taken MAX_TAG t.0 tag (omega arith) t.1 in
     let xw = word_taken MAX_CONTEXT x.0 ctx (omega arith) x.1 in
     let bw = body_taken body b.0 b.1 in
-    let made : AreWords ranks (codes "isend" ∷ name ∷ to ∷ tag ∷ ctx ∷ body ∷ [])
-    (Send q.0 r.0 t.0 x.0 b.0 false) = record {
-      words_are = ap (λ ws. codes "isend" ∷ ws) (cc (qw.1, rw'.1, tw.1, xw.1, bw.0));
+    let made : AreArguments ranks (send_key sync) (name ∷ to ∷ tag ∷ ctx ∷ body ∷ [])
+    (Send q.0 r.0 t.0 x.0 b.0 sync) = record {
+      keyword_is = send_named sync q.0 r.0 t.0 x.0 b.0;
+      arguments_are = cc (qw.1, rw'.1, tw.1, xw.1, bw.word_is);
       range = five_from (nat_le q.0 MAX_NAME) (nat_lt r.0 ranks) (nat_le t.0 MAX_TAG)
           (nat_le x.0 MAX_CONTEXT) (nat_le (body_len b.0) MAX_BODY) (record {
             one = qw.0;
             two = lt-ltb r.0 ranks rw'.0;
             three = tw.0;
             four = xw.0;
-            five = le-leb (body_len b.0) MAX_BODY (omega (arith, short_len b.0 bw.1));
+            five = le-leb (body_len b.0) MAX_BODY bw.fits;
           });
-      part = bw.1;
+      bytes = bw.bytes;
     } in
     rw is at made
 
-send_taken : (ranks : ℕ) (c : Command) (ws : List (List ℕ)) → ranks ≤ 2 ^ 64
-    → send_of ranks ws ≡ Ok c → AreWords ranks (codes "isend" ∷ ws) c
+send_taken : (ranks : ℕ) (sync : Bool) (c : Command) (ws : List (List ℕ)) → ranks ≤ 2 ^ 64
+    → send_of ranks sync ws ≡ Ok c → AreArguments ranks (send_key sync) ws c
 unfolding send_of
-send_taken ranks c [] small h = cc
-send_taken ranks c (name ∷ []) small h = cc
-send_taken ranks c (name ∷ to ∷ []) small h = cc
-send_taken ranks c (name ∷ to ∷ tag ∷ []) small h = cc
-send_taken ranks c (name ∷ to ∷ tag ∷ ctx ∷ []) small h = cc
-send_taken ranks c (name ∷ to ∷ tag ∷ ctx ∷ body ∷ []) small h = send_with_taken ranks c name to tag
-    ctx body small h
-send_taken ranks c (name ∷ to ∷ tag ∷ ctx ∷ body ∷ x ∷ more) small h = cc
+send_taken ranks sync c [] small h = cc
+send_taken ranks sync c (name ∷ []) small h = cc
+send_taken ranks sync c (name ∷ to ∷ []) small h = cc
+send_taken ranks sync c (name ∷ to ∷ tag ∷ []) small h = cc
+send_taken ranks sync c (name ∷ to ∷ tag ∷ ctx ∷ []) small h = cc
+send_taken ranks sync c (name ∷ to ∷ tag ∷ ctx ∷ body ∷ []) small h = send_with_taken ranks sync c
+    name to tag ctx body small h
+send_taken ranks sync c (name ∷ to ∷ tag ∷ ctx ∷ body ∷ x ∷ more) small h = cc
 
 recv_with_taken : (ranks : ℕ) (c : Command) (name from tag ctx cap : List ℕ) → ranks ≤ 2 ^ 64
     → recv_with ranks name from tag ctx cap ≡ Ok c
-    → AreWords ranks (codes "irecv" ∷ name ∷ from ∷ tag ∷ ctx ∷ cap ∷ []) c
+    → AreArguments ranks key.Irecv (name ∷ from ∷ tag ∷ ctx ∷ cap ∷ []) c
 unfolding recv_with name_of
 recv_with_taken ranks c name from tag ctx cap small h =
     let q = bind_ok (argument_of (MAX_NAME + 1) name) _ c h in
-    let r = bind_ok (argument_of ranks from) _ c q.2 in
-    let t = bind_ok (argument_of (MAX_TAG + 1) tag) _ c r.2 in
-    let x = bind_ok (argument_of (MAX_CONTEXT + 1) ctx) _ c t.2 in
-    let n = bind_ok (argument_of (MAX_CAPACITY + 1) cap) _ c x.2 in
-    let is : Recv q.0 (peer.One r.0) (pick.One t.0) x.0 n.0 ≡ c = cc (n.2) in
+    let s = bind_ok (selection_of ranks from tag ctx) _ c q.2 in
+    let n = bind_ok (argument_of (MAX_CAPACITY + 1) cap) _ c s.2 in
+    let is : Recv q.0 s.0.from s.0.tag s.0.ctx n.0 ≡ c = cc (n.2) in
     let qw = word_taken MAX_NAME q.0 name (omega arith) q.1 in
-    let rw' = argument_taken ranks r.0 from small r.1 in
-    let tw = word_taken MAX_TAG t.0 tag (omega arith) t.1 in
-    let xw = word_taken MAX_CONTEXT x.0 ctx (omega arith) x.1 in
+    let sw = selection_taken ranks s.0 from tag ctx small s.1 in
     let nw = word_taken MAX_CAPACITY n.0 cap (omega arith) n.1 in
-    let made : AreWords ranks (codes "irecv" ∷ name ∷ from ∷ tag ∷ ctx ∷ cap ∷ [])
-    (Recv q.0 (peer.One r.0) (pick.One t.0) x.0 n.0) = record {
-      words_are = ap (λ ws. codes "irecv" ∷ ws) (cc (qw.1, rw'.1, tw.1, xw.1, nw.1));
-      range = five_from (nat_le q.0 MAX_NAME) (nat_lt r.0 ranks) (nat_le t.0 MAX_TAG)
-          (nat_le x.0 MAX_CONTEXT) (nat_le n.0 MAX_CAPACITY) (record {
+    let made : AreArguments ranks key.Irecv (name ∷ from ∷ tag ∷ ctx ∷ cap ∷ [])
+    (Recv q.0 s.0.from s.0.tag s.0.ctx n.0) = record {
+      keyword_is = refl;
+      arguments_are = cc (qw.1, sw.from_is, sw.tag_is, sw.ctx_is, nw.1);
+      range = five_from (nat_le q.0 MAX_NAME) (is_peer ranks s.0.from) (is_pick s.0.tag)
+          (nat_le s.0.ctx MAX_CONTEXT) (nat_le n.0 MAX_CAPACITY) (record {
             one = qw.0;
-            two = lt-ltb r.0 ranks rw'.0;
-            three = tw.0;
-            four = xw.0;
+            two = sw.source;
+            three = sw.pick;
+            four = sw.context;
             five = nw.0;
           });
-      part = refl;
+      bytes = refl;
     } in
     rw is at made
 
 recv_taken : (ranks : ℕ) (c : Command) (ws : List (List ℕ)) → ranks ≤ 2 ^ 64
-    → recv_of ranks ws ≡ Ok c → AreWords ranks (codes "irecv" ∷ ws) c
+    → recv_of ranks ws ≡ Ok c → AreArguments ranks key.Irecv ws c
 unfolding recv_of
 recv_taken ranks c [] small h = cc
 recv_taken ranks c (name ∷ []) small h = cc
@@ -316,32 +554,148 @@ recv_taken ranks c (name ∷ from ∷ tag ∷ ctx ∷ cap ∷ []) small h = recv
     tag ctx cap small h
 recv_taken ranks c (name ∷ from ∷ tag ∷ ctx ∷ cap ∷ x ∷ more) small h = cc
 
-wait_taken : (ranks : ℕ) (c : Command) (ws : List (List ℕ)) → wait_of ws ≡ Ok c
-    → AreWords ranks (codes "wait" ∷ ws) c
-unfolding wait_of name_of
-wait_taken ranks c [] h = cc
-wait_taken ranks c (name ∷ []) h =
-    let q = bind_ok (argument_of (MAX_NAME + 1) name) _ c h in
-    let is : Wait q.0 ≡ c = cc (q.2) in
-    let qw = word_taken MAX_NAME q.0 name (omega arith) q.1 in
-    let made : AreWords ranks (codes "wait" ∷ name ∷ []) (Wait q.0) = record
-    { words_are = ap (λ w. codes "wait" ∷ w ∷ []) qw.1; range = qw.0; part = refl } in
+lone_taken : (q : ℕ) (ws : List (List ℕ)) → lone_of ws ≡ Ok q
+    → (nat_le q MAX_NAME ≡ true) × (ws ≡ decimal q ∷ [])
+unfolding lone_of name_of
+lone_taken q [] h = cc
+lone_taken q (name ∷ []) h =
+    let w = word_taken MAX_NAME q name (omega arith) h in (w.0, ap (λ x. x ∷ []) w.1)
+lone_taken q (name ∷ x ∷ more) h = cc
+
+-- these words are the arguments of a probe with this selection
+record IsProbe (ranks : ℕ) (ws : List (List ℕ)) (s : Selection) : Type 0 where
+  words_are : ws ≡ peer_word s.from ∷ tag_word s.tag ∷ decimal s.ctx ∷ []
+  range : (is_peer ranks s.from && is_pick s.tag && nat_le s.ctx MAX_CONTEXT) ≡ true
+
+probe_taken : (ranks : ℕ) (s : Selection) (ws : List (List ℕ)) → ranks ≤ 2 ^ 64
+    → probe_of ranks ws ≡ Ok s → IsProbe ranks ws s
+unfolding probe_of
+probe_taken ranks s [] small h = cc
+probe_taken ranks s (from ∷ []) small h = cc
+probe_taken ranks s (from ∷ tag ∷ []) small h = cc
+probe_taken ranks s (from ∷ tag ∷ ctx ∷ []) small h =
+    let w = selection_taken ranks s from tag ctx small h in record {
+      words_are = cc (w.from_is, w.tag_is, w.ctx_is);
+      range = three_from (is_peer ranks s.from) (is_pick s.tag) (nat_le s.ctx MAX_CONTEXT) w.source
+          w.pick w.context;
+    }
+probe_taken ranks s (from ∷ tag ∷ ctx ∷ x ∷ more) small h = cc
+
+mprobe_taken : (ranks : ℕ) (c : Command) (ws : List (List ℕ)) → ranks ≤ 2 ^ 64
+    → mprobe_of ranks ws ≡ Ok c → AreArguments ranks key.Mprobe ws c
+unfolding mprobe_of mprobe_with name_of
+mprobe_taken ranks c [] small h = cc
+mprobe_taken ranks c (name ∷ []) small h = cc
+mprobe_taken ranks c (name ∷ from ∷ []) small h = cc
+mprobe_taken ranks c (name ∷ from ∷ tag ∷ []) small h = cc
+mprobe_taken ranks c (name ∷ from ∷ tag ∷ ctx ∷ []) small h =
+    let m = bind_ok (argument_of (MAX_NAME + 1) name) _ c h in
+    let s = bind_ok (selection_of ranks from tag ctx) _ c m.2 in
+    let is : Mprobe m.0 s.0.from s.0.tag s.0.ctx ≡ c = cc (s.2) in
+    let mw = word_taken MAX_NAME m.0 name (omega arith) m.1 in
+    let sw = selection_taken ranks s.0 from tag ctx small s.1 in
+    let made : AreArguments ranks key.Mprobe (name ∷ from ∷ tag ∷ ctx ∷ [])
+    (Mprobe m.0 s.0.from s.0.tag s.0.ctx) = record {
+      keyword_is = refl;
+      arguments_are = cc (mw.1, sw.from_is, sw.tag_is, sw.ctx_is);
+      range = four_from (nat_le m.0 MAX_NAME) (is_peer ranks s.0.from) (is_pick s.0.tag)
+          (nat_le s.0.ctx MAX_CONTEXT) mw.0 sw.source sw.pick sw.context;
+      bytes = refl;
+    } in
     rw is at made
-wait_taken ranks c (name ∷ x ∷ more) h = cc
+mprobe_taken ranks c (name ∷ from ∷ tag ∷ ctx ∷ x ∷ more) small h = cc
+
+mrecv_taken : (ranks : ℕ) (c : Command) (ws : List (List ℕ)) → mrecv_of ws ≡ Ok c
+    → AreArguments ranks key.Mrecv ws c
+unfolding mrecv_of mrecv_with name_of
+mrecv_taken ranks c [] h = cc
+mrecv_taken ranks c (name ∷ []) h = cc
+mrecv_taken ranks c (name ∷ handle ∷ []) h = cc
+mrecv_taken ranks c (name ∷ handle ∷ cap ∷ []) h =
+    let q = bind_ok (argument_of (MAX_NAME + 1) name) _ c h in
+    let m = bind_ok (argument_of (MAX_NAME + 1) handle) _ c q.2 in
+    let n = bind_ok (argument_of (MAX_CAPACITY + 1) cap) _ c m.2 in
+    let is : Mrecv q.0 m.0 n.0 ≡ c = cc (n.2) in
+    let qw = word_taken MAX_NAME q.0 name (omega arith) q.1 in
+    let mw = word_taken MAX_NAME m.0 handle (omega arith) m.1 in
+    let nw = word_taken MAX_CAPACITY n.0 cap (omega arith) n.1 in
+    let made : AreArguments ranks key.Mrecv (name ∷ handle ∷ cap ∷ []) (Mrecv q.0 m.0 n.0) = record {
+      keyword_is = refl;
+      arguments_are = cc (qw.1, mw.1, nw.1);
+      range = three_from (nat_le q.0 MAX_NAME) (nat_le m.0 MAX_NAME) (nat_le n.0 MAX_CAPACITY) qw.0 mw.0
+          nw.0;
+      bytes = refl;
+    } in
+    rw is at made
+mrecv_taken ranks c (name ∷ handle ∷ cap ∷ x ∷ more) h = cc
+
+-- a command about one request
+about_one : (ranks : ℕ) (k : Keyword) (make : ℕ → Command) (c : Command) (ws : List (List ℕ))
+    → ((q : ℕ) → nat_le q MAX_NAME ≡ true → AreArguments ranks k (decimal q ∷ []) (make q))
+    → (lone_of ws >>= λ q. Ok (make q)) ≡ Ok c → AreArguments ranks k ws c
+about_one ranks k make c ws made h =
+    let q = bind_ok (lone_of ws) _ c h in
+    let is : make q.0 ≡ c = cc (q.2) in
+    let w = lone_taken q.0 ws q.1 in
+    let at_it : AreArguments ranks k (decimal q.0 ∷ []) (make q.0) = made q.0 w.0 in
+    rw w.1 (rw is at at_it)
+
+-- a probe
+about_some : (ranks : ℕ) (k : Keyword) (make : Selection → Command) (c : Command) (ws : List (List ℕ))
+    → ranks ≤ 2 ^ 64
+    → ((s : Selection) → (is_peer ranks s.from && is_pick s.tag && nat_le s.ctx MAX_CONTEXT) ≡ true
+    → AreArguments ranks k (peer_word s.from ∷ tag_word s.tag ∷ decimal s.ctx ∷ []) (make s))
+    → (probe_of ranks ws >>= λ s. Ok (make s)) ≡ Ok c → AreArguments ranks k ws c
+about_some ranks k make c ws small made h =
+    let s = bind_ok (probe_of ranks ws) _ c h in
+    let is : make s.0 ≡ c = cc (s.2) in
+    let w = probe_taken ranks s.0 ws small s.1 in
+    let at_it : AreArguments ranks k (peer_word s.0.from ∷ tag_word s.0.tag ∷ decimal s.0.ctx ∷ [])
+    (make s.0) = made s.0 w.range in
+    rw w.words_are (rw is at at_it)
+
+-- arguments that are read are the command's
+pub arguments_taken : (ranks : ℕ) (k : Keyword) (c : Command) (ws : List (List ℕ)) → ranks ≤ 2 ^ 64
+    → arguments_of ranks k ws ≡ Ok c → AreArguments ranks k ws c
+unfolding arguments_of
+arguments_taken ranks key.Isend c ws small h = send_taken ranks false c ws small h
+arguments_taken ranks key.Issend c ws small h = send_taken ranks true c ws small h
+arguments_taken ranks key.Irecv c ws small h = recv_taken ranks c ws small h
+arguments_taken ranks key.Wait c ws small h = about_one ranks key.Wait (λ q. Wait q) c ws
+    (λ q range. record { keyword_is = refl; arguments_are = refl; range = range; bytes = refl }) h
+arguments_taken ranks key.Test c ws small h = about_one ranks key.Test (λ q. Test q) c ws
+    (λ q range. record { keyword_is = refl; arguments_are = refl; range = range; bytes = refl }) h
+arguments_taken ranks key.Probe c ws small h = about_some ranks key.Probe
+    (λ s. Probe s.from s.tag s.ctx) c ws small
+    (λ s range. record { keyword_is = refl; arguments_are = refl; range = range; bytes = refl }) h
+arguments_taken ranks key.Await c ws small h = about_some ranks key.Await
+    (λ s. Await s.from s.tag s.ctx) c ws small
+    (λ s range. record { keyword_is = refl; arguments_are = refl; range = range; bytes = refl }) h
+arguments_taken ranks key.Cancel c ws small h = about_one ranks key.Cancel (λ q. Cancel q) c ws
+    (λ q range. record { keyword_is = refl; arguments_are = refl; range = range; bytes = refl }) h
+arguments_taken ranks key.Mprobe c ws small h = mprobe_taken ranks c ws small h
+arguments_taken ranks key.Mrecv c ws small h = mrecv_taken ranks c ws h
+
+-- these words are the command's, which is in range
+pub record AreWords (ranks : ℕ) (ws : List (List ℕ)) (c : Command) : Type 0 where
+  pub words_are : ws ≡ words c
+  pub range : is_in_range ranks c ≡ true
+  pub bytes : has_bytes c ≡ true
 
 command_taken : (ranks : ℕ) (c : Command) (name : List ℕ) (ws : List (List ℕ)) → ranks ≤ 2 ^ 64
     → command_of ranks name ws ≡ Ok c → AreWords ranks (name ∷ ws) c
 unfolding command_of
 command_taken ranks c name ws small h =
-    elim (chosen (bytes_eq name (codes "isend")) (send_of ranks ws) _ (Ok c) h) [
-      | inl p ↦ rw ((bytes_eq-Decides name (codes "isend")).0 p.0) (send_taken ranks c ws small p.1)
-      | inr p ↦ elim (chosen (bytes_eq name (codes "irecv")) (recv_of ranks ws) _ (Ok c) p.1) [
-        | inl r ↦ rw ((bytes_eq-Decides name (codes "irecv")).0 r.0) (recv_taken ranks c ws small r.1)
-        | inr r ↦
-            let s = guard_ok (bytes_eq name (codes "wait")) (wait_of ws) kind.Command c r.1 in
-            rw ((bytes_eq-Decides name (codes "wait")).0 s.0) (wait_taken ranks c ws s.1)
-      ]
-    ]
+    let k = bind_ok (ok_or (keyword_of name) kind.Command) _ c h in
+    let word : name ≡ keyword_text k.0 = keyword_taken name k.0
+    (found_in (keyword_of name) kind.Command k.0 k.1) in
+    let a = arguments_taken ranks k.0 c ws small k.2 in
+    let same : keyword_text k.0 ≡ keyword_text (keyword_in c) = ap keyword_text a.keyword_is in
+    record {
+      words_are = cc (word, same, a.arguments_are, words_are c);
+      range = a.range;
+      bytes = a.bytes;
+    }
 
 -- these words are the line's, which fits
 pub record AreLineWords (ranks : ℕ) (ws : List (List ℕ)) (line : Line) : Type 0 where
@@ -363,11 +717,20 @@ line_taken ranks (first ∷ name ∷ ws) line small h =
     let made : AreLineWords ranks (first ∷ name ∷ ws) (record { rank = p.0; command = q.0 }) =
     record {
       words_are = cc (r.0, c.words_are);
-      fits = record { own = r.1; range = c.range; part = c.part };
+      fits = record { own = r.1; range = c.range; bytes = c.bytes };
     } in
     rw is at made
 
--- no command of the part has too long a body
-pub sent_short : (c : Command) → is_in_part c ≡ true → sent_len c ≤ MAX_BODY
-sent_short = by_part (λ c. sent_len c ≤ MAX_BODY) (λ q to tag ctx body short. omega
-    (arith, short_len body short)) (λ q from tag ctx cap. omega arith) (λ q. omega arith)
+-- no command in range has too long a body
+pub sent_fits : (ranks : ℕ) (c : Command) → is_in_range ranks c ≡ true → sent_len c ≤ MAX_BODY
+sent_fits ranks (Send q to tag ctx body sync) range = leb-true (body_len body) MAX_BODY
+    (and_parts (nat_le q MAX_NAME && nat_lt to ranks && nat_le tag MAX_TAG && nat_le ctx MAX_CONTEXT)
+    (nat_le (body_len body) MAX_BODY) range).1
+sent_fits ranks (Recv q from tag ctx cap) range = omega arith
+sent_fits ranks (Wait q) range = omega arith
+sent_fits ranks (Test q) range = omega arith
+sent_fits ranks (Probe from tag ctx) range = omega arith
+sent_fits ranks (Await from tag ctx) range = omega arith
+sent_fits ranks (Cancel q) range = omega arith
+sent_fits ranks (Mprobe m from tag ctx) range = omega arith
+sent_fits ranks (Mrecv q m cap) range = omega arith

@@ -1,8 +1,10 @@
 pub mod BodyLemmas
 pub mod CommandLemmas
-pub mod LineLemmas
-pub mod NumberLemmas
+pub mod FaultLemmas
+pub mod FirstFaultLemmas
+pub mod KeywordLemmas
+pub mod LengthLemmas
 pub mod ReadLemmas
 pub mod ReadingLoop
+pub mod RuleLemmas
 pub mod StepLemmas
-pub mod WordLemmas

@@ -2,7 +2,7 @@
 use Rattle.std.proofs.Common.{◌≡◌, ℕ, zero, suc, ◌+◌, ◌<◌, ◌≤◌, inl, inr, true, false, ◌&&◌}
 use Rattle.std.proofs.Common.{List, [], ◌∷◌, ◌++◌, length, map, nat_lt, Option, Some, None, Result}
 use Rattle.std.proofs.Common.{Ok, Err, refl, sym, ap, ◌∙◌, arith, codes, decimal, sum_by}
-use Rattle.std.proofs.Common.{length-append, lit≤, IfOk, IfErr, IsErrAnd, MatchResult}
+use Rattle.std.proofs.Common.{length-append, lit≤, IfOk}
 use Rattle.std.specs.List.{join_with_byte, list_all}
 use Rattle.std.specs.Str.{bytes_eq}
 use Rattle.std.proofs.lemmas.Bool.{and_from, and_parts, ltb-true, ltb-false, lt-ltb, le-ltb}
@@ -12,56 +12,52 @@ use Rattle.std.proofs.lemmas.Slice.Eq.{bytes_eq-Decides}
 use Rattle.nm_types.specs.declared.limits.TheConstants.{MAX_RANKS, MAX_LINES, MAX_BODIES, MAX_TEXT}
 use Rattle.nm_types.specs.declared.scripts.Line.{Line}
 use Rattle.nm_types.specs.declared.scripts.Script.{Script}
-use Rattle.nm_types.specs.Limits.{is_in_range, sent_len, IsScriptOf}
+use Rattle.nm_types.specs.Limits.{is_in_range, sent_len, IsScript}
 use Rattle.nm_types.specs.Text.{words, script_text, SpellsScript}
 use Rattle.nm_script.specs.declared.faults.Kind.TheVariants as kind
 use Rattle.nm_script.specs.declared.faults.ScriptFault.{ScriptFault}
 use Rattle.nm_script.specs.declared.faults.ScriptFault.TheVariants as fault
 use Rattle.nm_script.specs.Commands.{line_of}
-use Rattle.nm_script.specs.Decimal.{number_of}
-use Rattle.nm_script.specs.Faults.{◌>>=◌, at_line, GivesAt, one_refusal}
-use Rattle.nm_script.specs.Lines.{is_printable, lines_of, text_len, words_of}
-use Rattle.nm_script.specs.Part.{is_in_part, Refuses, Takes}
+use Rattle.nm_words.specs.Decimal.{number_of}
+use Rattle.nm_script.specs.Faults.{◌>>=◌, at_line, GivesAt}
+use Rattle.nm_words.specs.Lines.{is_printable, lines_of, text_len, with_feed, words_of}
 use Rattle.nm_script.specs.Reading.{positive, ranks_of, ranks_at, fitting, line_at, lines_from, script_of}
 use Rattle.nm_script.specs.Reading.{read_of, parts}
+use Rattle.nm_script.specs.Rules.{line_text, ranks_text}
+use Rattle.nm_script.specs.Spelled.{has_bytes, IsTextOf, Takes}
 use Rattle.nm_script.proofs.CommandLemmas.{line_words, Fits, line_again, line_taken}
-use Rattle.nm_script.proofs.LineLemmas.{ended_lines, is_some_line, lines_split, lines_fed, text_len-lines}
-use Rattle.nm_script.proofs.LineLemmas.{joined_either}
-use Rattle.nm_script.proofs.NumberLemmas.{number_taken, number_again}
-use Rattle.nm_script.proofs.StepLemmas.{bind_ok, guard_ok, unless_ok, at_line_ok}
-use Rattle.nm_script.proofs.WordLemmas.{Solid, decimal_solid, words_again, line_is, joined_printable}
+use Rattle.nm_words.proofs.LineLemmas.{ended_lines, is_some_line, lines_split, lines_fed, text_len-lines}
+use Rattle.nm_words.proofs.LineLemmas.{joined, joined_either}
+use Rattle.nm_words.proofs.NumberLemmas.{number_taken, number_again}
+use Rattle.nm_script.proofs.StepLemmas.{guard_ok, unless_ok, at_line_ok}
+use Rattle.nm_words.proofs.StepLemmas.{bind_ok}
+use Rattle.nm_words.proofs.WordLemmas.{Solid, decimal_solid, words_again, line_is, joined_printable}
 
 -- the lines of a script's text
-abbrev pub line_text : Line → List ℕ
-line_text line = join_with_byte 32 (line_words line.rank line.command)
-
-abbrev pub first_text : ℕ → List ℕ
-first_text ranks = join_with_byte 32 (codes "ranks" ∷ decimal ranks ∷ [])
-
 abbrev pub script_lines : ℕ → List Line → List (List ℕ)
-script_lines ranks lines = first_text ranks ∷ map line_text lines
+script_lines ranks lines = ranks_text ranks ∷ map line_text lines
 
 ended-script_lines : (ranks : ℕ) (lines : List Line)
     → ended_lines (script_lines ranks lines) ≡ script_text ranks lines
-ended-script_lines ranks lines = ap (λ xs. (first_text ranks ++ 10 ∷ []) ++ xs)
+ended-script_lines ranks lines = ap (λ xs. (ranks_text ranks ++ 10 ∷ []) ++ xs)
     (flat_map-map (λ line. line ++ 10 ∷ []) line_text lines)
 
 -- ---- what is spelled is read
 
-first_solid : (n : ℕ) → n ≤ MAX_RANKS → Solid (codes "ranks" ∷ decimal n ∷ [])
+pub first_solid : (n : ℕ) → n ≤ MAX_RANKS → Solid (codes "ranks" ∷ decimal n ∷ [])
 first_solid n few = (refl, (decimal_solid n (omega arith), tt))
 
 positive_is : (n : ℕ) → 0 < n → positive (Some n) ≡ Ok n
 positive_is zero h = absurd (omega arith)
 positive_is (suc n) h = refl
 
-ranks_again : (n : ℕ) → 0 < n → n ≤ MAX_RANKS → ranks_at (first_text n) ≡ Ok n
+pub ranks_again : (n : ℕ) → 0 < n → n ≤ MAX_RANKS → ranks_at (ranks_text n) ≡ Ok n
 unfolding ranks_at ranks_of
 ranks_again n some few =
     rw (joined_printable _ _ (first_solid n few), words_again _ _ (first_solid n few))
     (rw (number_again (MAX_RANKS + 1) n (omega arith) (omega arith)) (positive_is n some))
 
-line_at_again : (ranks k total : ℕ) (line : Line) → ranks ≤ MAX_RANKS → k ≤ MAX_LINES
+pub line_at_again : (ranks k total : ℕ) (line : Line) → ranks ≤ MAX_RANKS → k ≤ MAX_LINES
     → total + sent_len line.command ≤ MAX_BODIES → Fits ranks line
     → line_at ranks k total (line_text line) ≡ Ok line
 unfolding line_at
@@ -70,18 +66,18 @@ line_at_again ranks k total line few in_lines in_bodies fits =
     rw (joined_printable _ _ back.1, le-ltb MAX_LINES k in_lines, words_again _ _ back.1)
     (rw back.0 (rw (le-ltb MAX_BODIES (total + sent_len line.command) in_bodies) refl))
 
-abbrev AllFit : ℕ → List Line → Type 0
+abbrev pub AllFit : ℕ → List Line → Type 0
 AllFit ranks lines = (list_all (λ line. nat_lt line.rank ranks && is_in_range ranks line.command)
-    lines ≡ true) × (list_all (λ line. is_in_part line.command) lines ≡ true)
+    lines ≡ true) × (list_all (λ line. has_bytes line.command) lines ≡ true)
 
-first_fits : (ranks : ℕ) (line : Line) (lines : List Line) → AllFit ranks (line ∷ lines)
+pub first_fits : (ranks : ℕ) (line : Line) (lines : List Line) → AllFit ranks (line ∷ lines)
     → Fits ranks line × AllFit ranks lines
 first_fits ranks line lines h =
     let p = and_parts (nat_lt line.rank ranks && is_in_range ranks line.command)
     (list_all (λ line. nat_lt line.rank ranks && is_in_range ranks line.command) lines) h.0 in
     let q = and_parts (nat_lt line.rank ranks) (is_in_range ranks line.command) p.0 in
-    let r = and_parts (is_in_part line.command) (list_all (λ line. is_in_part line.command) lines) h.1 in
-    (record { own = ltb-true line.rank ranks q.0; range = q.1; part = r.0 }, (p.1, r.1))
+    let r = and_parts (has_bytes line.command) (list_all (λ line. has_bytes line.command) lines) h.1 in
+    (record { own = ltb-true line.rank ranks q.0; range = q.1; bytes = r.0 }, (p.1, r.1))
 
 lines_from_again : (ranks k total : ℕ) (lines : List Line) → ranks ≤ MAX_RANKS
     → k + length lines ≤ MAX_LINES + 1
@@ -125,10 +121,10 @@ spelled_lines : (bytes : List ℕ) (ranks : ℕ) (lines : List Line) → ranks �
     → AllFit ranks lines → SpellsScript bytes ranks lines
     → (0 < length bytes) × (lines_of bytes ≡ script_lines ranks lines)
 spelled_lines bytes ranks lines few fit spelled =
-    let printable = and_from (is_printable (first_text ranks)) _
+    let printable = and_from (is_printable (ranks_text ranks)) _
     (joined_printable (codes "ranks") (decimal ranks ∷ []) (first_solid ranks few))
     (all_printable ranks lines few fit) in
-    let some = and_from (is_some_line (first_text ranks)) _
+    let some = and_from (is_some_line (ranks_text ranks)) _
     (some_joined (codes "ranks") (decimal ranks ∷ []) (omega arith)) (all_some lines) in
     let text = ended-script_lines ranks lines in
     let long = long_text ranks lines in
@@ -143,9 +139,9 @@ spelled_lines bytes ranks lines few fit spelled =
           (some_byte, lines_fed bytes (script_lines ranks lines) some_byte printable some (e ∙ sym text))
     ]
 
--- bytes that spell a script of the part are read as just that script
+-- bytes that spell a script are read as just that script
 pub read_again : (bytes : List ℕ) (ranks : ℕ) (lines : List Line)
-    → IsScriptOf is_in_part bytes ranks lines → read_of bytes ≡ Ok (ranks, lines)
+    → IsTextOf bytes ranks lines → read_of bytes ≡ Ok (ranks, lines)
 unfolding read_of
 read_again bytes ranks lines is =
     let limits = is.limits in
@@ -180,8 +176,8 @@ ranks_of_taken (name ∷ count ∷ []) n h =
     (ap (λ x. x ∷ count ∷ []) word ∙ ap (λ x. codes "ranks" ∷ x ∷ []) r.1, q.1, omega (arith, r.0))
 ranks_of_taken (name ∷ count ∷ x ∷ more) n h = cc
 
-ranks_taken : (line : List ℕ) (n : ℕ) → ranks_at line ≡ Ok n
-    → (line ≡ first_text n) × (0 < n) × (n ≤ MAX_RANKS)
+pub ranks_taken : (line : List ℕ) (n : ℕ) → ranks_at line ≡ Ok n
+    → (line ≡ ranks_text n) × (0 < n) × (n ≤ MAX_RANKS)
 unfolding ranks_at
 ranks_taken line n h =
     let p = guard_ok (is_printable line) (ranks_of (words_of line)) kind.NotAscii n h in
@@ -189,13 +185,13 @@ ranks_taken line n h =
     (sym (line_is line) ∙ ap (join_with_byte 32) t.0, t.1, t.2)
 
 -- a line that was read at its place
-record IsLineAt (ranks k total : ℕ) (text : List ℕ) (line : Line) : Type 0 where
-  text_is : text ≡ line_text line
-  fits : Fits ranks line
-  in_lines : k ≤ MAX_LINES
-  in_bodies : total + sent_len line.command ≤ MAX_BODIES
+pub record IsLineAt (ranks k total : ℕ) (text : List ℕ) (line : Line) : Type 0 where
+  pub text_is : text ≡ line_text line
+  pub fits : Fits ranks line
+  pub in_lines : k ≤ MAX_LINES
+  pub in_bodies : total + sent_len line.command ≤ MAX_BODIES
 
-line_at_taken : (ranks k total : ℕ) (text : List ℕ) (line : Line) → ranks ≤ MAX_RANKS
+pub line_at_taken : (ranks k total : ℕ) (text : List ℕ) (line : Line) → ranks ≤ MAX_RANKS
     → line_at ranks k total text ≡ Ok line → IsLineAt ranks k total text line
 unfolding line_at
 line_at_taken ranks k total text line few h =
@@ -241,7 +237,7 @@ one_line_more ranks k total text texts line lines here rest =
       texts_are = ap (λ t. t ∷ texts) here.text_is ∙ ap (λ ts. line_text line ∷ ts) rest.texts_are;
       fit = (
         and_from _ _ (and_from _ _ (lt-ltb line.rank ranks fits.own) fits.range) rest.fit.0,
-        and_from _ _ fits.part rest.fit.1,
+        and_from _ _ fits.bytes rest.fit.1,
       );
       in_lines = omega (arith, rest.in_lines);
       in_bodies = omega (arith, rest.in_bodies, sum);
@@ -284,7 +280,7 @@ script_taken (first ∷ texts) ranks lines h =
     ∙ q.1 ∙ ap Ok list in
     let t = lines_from_taken ranks 2 0 texts lines r.2 (lit≤ tt) (lit≤ tt) read in
     record {
-      texts_are = ap (λ x. x ∷ texts) r.0 ∙ ap (λ x. first_text ranks ∷ x) t.texts_are;
+      texts_are = ap (λ x. x ∷ texts) r.0 ∙ ap (λ x. ranks_text ranks ∷ x) t.texts_are;
       some_rank = r.1;
       few_ranks = r.2;
       others = rw t.texts_are at t;
@@ -304,9 +300,9 @@ some_bytes : (bytes : List ℕ) (ranks : ℕ) (lines : List Line)
 some_bytes [] ranks lines h = cc
 some_bytes (b ∷ bytes) ranks lines h = omega arith
 
--- what is read is a script of the part that the bytes spell
+-- what is read is a script that the bytes spell
 pub read_taken : (bytes : List ℕ) (ranks : ℕ) (lines : List Line)
-    → read_of bytes ≡ Ok (ranks, lines) → IsScriptOf is_in_part bytes ranks lines
+    → read_of bytes ≡ Ok (ranks, lines) → IsTextOf bytes ranks lines
 unfolding read_of
 read_taken bytes ranks lines h =
     let p = unless_ok (nat_lt MAX_TEXT (text_len bytes)) (script_of (lines_of bytes))
@@ -332,44 +328,46 @@ read_taken bytes ranks lines h =
       in_part = others.fit.1;
     }
 
--- bytes spell at most one script of the part
+-- bytes spell at most one script
 pub one_script : (bytes : List ℕ) (first second : ℕ) (lines others : List Line)
-    → IsScriptOf is_in_part bytes first lines → IsScriptOf is_in_part bytes second others
+    → IsTextOf bytes first lines → IsTextOf bytes second others
     → (first ≡ second) × (lines ≡ others)
 one_script bytes first second lines others a b =
     let pair : (first, lines) ≡ (second, others) = cc
     (read_again bytes first lines a, read_again bytes second others b) in
     (ap (λ (x : ℕ × List Line). x.0) pair, ap (λ (x : ℕ × List Line). x.1) pair)
 
+-- what was written is read as the same script
+pub written_is_read : (ranks : ℕ) (lines : List Line) → IsScript ranks lines
+    → list_all (λ line. has_bytes line.command) lines ≡ true
+    → read_of (script_text ranks lines) ≡ Ok (ranks, lines)
+written_is_read ranks lines limits bytes = read_again (script_text ranks lines) ranks lines
+    (record { spelled = inl refl; limits = limits; in_part = bytes })
+
+-- what was read is written as the same bytes, with a line feed where there was none
+pub read_is_written : (bytes : List ℕ) (ranks : ℕ) (lines : List Line)
+    → read_of bytes ≡ Ok (ranks, lines) → script_text ranks lines ≡ with_feed bytes
+unfolding read_of
+read_is_written bytes ranks lines h =
+    let p = unless_ok (nat_lt MAX_TEXT (text_len bytes)) (script_of (lines_of bytes))
+    (0, kind.TooLong) (ranks, lines) h in
+    let some = some_bytes bytes ranks lines p.1 in
+    let t = script_taken (lines_of bytes) ranks lines p.1 in
+    sym (ap ended_lines t.texts_are ∙ ended-script_lines ranks lines) ∙ joined bytes some
+
 -- ---- what `read` promises, from what reading gives
 
--- an answer with the one refusal in place of each
-abbrev pub Refused : Result Script ScriptFault → Result Script ScriptFault → Type 0
-Refused r m = MatchResult r (λ script. m ≡ Ok script) (λ e. IsErrAnd m (λ d. d ≡ one_refusal e))
+pub taken_from : (bytes : List ℕ) (r : Result Script ScriptFault) → GivesAt parts r (read_of bytes)
+    → IfOk r (λ script. IsTextOf bytes script.ranks script.lines)
+taken_from bytes (Ok s) gives = read_taken bytes s.ranks s.lines gives
+taken_from bytes (Err e) gives = tt
 
-pub taken_from : (bytes : List ℕ) (r m : Result Script ScriptFault)
-    → GivesAt parts r (read_of bytes) → Refused r m
-    → IfOk m (λ script. IsScriptOf is_in_part bytes script.ranks script.lines)
-taken_from bytes (Ok s) m gives refused = rw refused (read_taken bytes s.ranks s.lines gives)
-taken_from bytes (Err e) (Ok s) gives refused = absurd refused
-taken_from bytes (Err e) (Err d) gives refused = tt
-
-pub refused_from : (bytes : List ℕ) (r m : Result Script ScriptFault)
-    → GivesAt parts r (read_of bytes) → Refused r m → IfErr m (λ e. Refuses bytes e)
-refused_from bytes (Ok s) m gives refused = rw refused tt
-refused_from bytes (Err e) (Ok s) gives refused = tt
-refused_from bytes (Err fault.Memory) (Err d) gives refused = rw refused tt
-refused_from bytes (Err (fault.Bad k e)) (Err d) gives refused = rw refused
-    (refl, refl, λ ranks lines is. cc (read_again bytes ranks lines is, gives))
-
-pub takes_from : (bytes : List ℕ) (r m : Result Script ScriptFault)
-    → GivesAt parts r (read_of bytes) → Refused r m → (ranks : ℕ) (lines : List Line)
-    → IsScriptOf is_in_part bytes ranks lines → Takes m ranks lines
-takes_from bytes (Ok s) m gives refused ranks lines is =
+pub takes_from : (bytes : List ℕ) (r : Result Script ScriptFault) → GivesAt parts r (read_of bytes)
+    → (ranks : ℕ) (lines : List Line) → IsTextOf bytes ranks lines → Takes r ranks lines
+takes_from bytes (Ok s) gives ranks lines is =
     let pair : ◌≡◌ {A = ℕ × List Line} (s.ranks, s.lines) (ranks, lines) = cc
     (read_again bytes ranks lines is, gives) in
-    rw refused (ap (λ (x : ℕ × List Line). x.0) pair, ap (λ (x : ℕ × List Line). x.1) pair)
-takes_from bytes (Err fault.Memory) (Ok s) gives refused ranks lines is = absurd refused
-takes_from bytes (Err fault.Memory) (Err d) gives refused ranks lines is = rw refused tt
-takes_from bytes (Err (fault.Bad k e)) m gives refused ranks lines is = cc
+    (ap (λ (x : ℕ × List Line). x.0) pair, ap (λ (x : ℕ × List Line). x.1) pair)
+takes_from bytes (Err fault.Memory) gives ranks lines is = tt
+takes_from bytes (Err (fault.Bad k e)) gives ranks lines is = cc
     (read_again bytes ranks lines is, gives)

@@ -1,16 +1,21 @@
 -- Steps that may fail, tests and choices, taken apart.
 use Rattle.std.proofs.Common.{◌≡◌, ℕ, ◌⊎◌, inl, inr, Bool, true, false, ◌&&◌, cond}
-use Rattle.std.proofs.Common.{Option, Some, None, Result, Ok, Err, refl}
+use Rattle.std.proofs.Common.{Option, Some, None, Result, Ok, Err, refl, ap}
 use Rattle.std.specs.Option.{ok_or}
 use Rattle.std.proofs.lemmas.Bool.{and_from, and_parts}
 use Rattle.nm_script.specs.declared.faults.Kind.{Kind}
 use Rattle.nm_script.specs.Faults.{◌>>=◌, at_line}
 
--- both steps gave a value
-pub bind_ok : {E A B : Type 0} (r : Result A E) (f : A → Result B E) (y : B) → (r >>= f) ≡ Ok y
-    → (x : A) × (r ≡ Ok x) × (f x ≡ Ok y)
-bind_ok (Ok x) f y h = (x, refl, h)
-bind_ok (Err e) f y h = cc
+-- the first step failed, or the second did
+pub bind_err : {E A B : Type 0} (r : Result A E) (f : A → Result B E) (e : E) → (r >>= f) ≡ Err e
+    → (r ≡ Err e) ⊎ ((x : A) × (r ≡ Ok x) × (f x ≡ Err e))
+bind_err (Ok x) f e h = inr (x, refl, h)
+bind_err (Err d) f e h = inl (let is : d ≡ e = cc in ap Err is)
+
+-- where there is nothing, this is the fault
+pub err_or : {A : Type 0} (o : Option A) (d e : Kind) → ok_or o d ≡ Err e → (o ≡ None) × (e ≡ d)
+err_or (Some x) d e h = cc
+err_or None d e h = (refl, cc)
 
 pub guard_ok : {A E : Type 0} (b : Bool) (x : Result A E) (e : E) (y : A) → cond b x (Err e) ≡ Ok y
     → (b ≡ true) × (x ≡ Ok y)
@@ -22,18 +27,42 @@ pub unless_ok : {A E : Type 0} (b : Bool) (x : Result A E) (e : E) (y : A) → c
 unless_ok true x e y h = cc
 unless_ok false x e y h = (refl, h)
 
-pub chosen : {A : Type 0} (b : Bool) (x y z : A) → cond b x y ≡ z
-    → ((b ≡ true) × (x ≡ z)) ⊎ ((b ≡ false) × (y ≡ z))
-chosen true x y z h = inl (refl, h)
-chosen false x y z h = inr (refl, h)
-
 pub found : (o : Option ℕ) (e : Kind) (n : ℕ) → ok_or o e ≡ Ok n → o ≡ Some n
 found (Some m) e n h = cc
 found None e n h = cc
 
+pub found_in : {A : Type 0} (o : Option A) (e : Kind) (x : A) → ok_or o e ≡ Ok x → o ≡ Some x
+found_in (Some y) e x h = cc
+found_in None e x h = cc
+
 pub at_line_ok : {A : Type 0} (k : ℕ) (r : Result A Kind) (x : A) → at_line k r ≡ Ok x → r ≡ Ok x
 at_line_ok k (Ok y) x h = cc
 at_line_ok k (Err e) x h = cc
+
+pub not_true : (b : Bool) → (b ≡ true → ⊥) → b ≡ false
+not_true true h = absurd (h refl)
+not_true false h = refl
+
+-- three and four tests in a row
+pub three_parts : (a b c : Bool) → (a && b && c) ≡ true → (a ≡ true) × (b ≡ true) × (c ≡ true)
+three_parts a b c h =
+    let p = and_parts (a && b) c h in
+    let q = and_parts a b p.0 in
+    (q.0, q.1, p.1)
+
+pub three_from : (a b c : Bool) → a ≡ true → b ≡ true → c ≡ true → (a && b && c) ≡ true
+three_from a b c x y z = and_from (a && b) c (and_from a b x y) z
+
+pub four_parts : (a b c d : Bool) → (a && b && c && d) ≡ true
+    → (a ≡ true) × (b ≡ true) × (c ≡ true) × (d ≡ true)
+four_parts a b c d h =
+    let p = and_parts (a && b && c) d h in
+    let q = three_parts a b c p.0 in
+    (q.0, q.1, q.2, p.1)
+
+pub four_from : (a b c d : Bool) → a ≡ true → b ≡ true → c ≡ true → d ≡ true
+    → (a && b && c && d) ≡ true
+four_from a b c d x y z w = and_from (a && b && c) d (three_from a b c x y z) w
 
 -- five tests in a row
 pub record AreTrue (a b c d e : Bool) : Type 0 where

@@ -1,7 +1,6 @@
 -- What a function answers, against what reading gives.
 use Rattle.std.specs.Prelude.{◌≡◌, ℕ, Result, Ok, Err}
 use Rattle.nm_script.specs.declared.faults.Kind.{Kind}
-use Rattle.nm_script.specs.declared.faults.Kind.TheVariants as kind
 use Rattle.nm_script.specs.declared.faults.LineFault.{LineFault}
 use Rattle.nm_script.specs.declared.faults.LineFault.TheVariants as line
 use Rattle.nm_script.specs.declared.faults.ScriptFault.{ScriptFault}
@@ -38,8 +37,3 @@ Fails script.Memory read = Unit {0}
 abbrev pub GivesAt : {X A : Type 0} → (X → A) → Result X ScriptFault → Result A (ℕ × Kind) → Type 0
 GivesAt view (Ok x) read = read ≡ Ok (view x)
 GivesAt view (Err e) read = Fails e read
-
--- the fault that stands for each kind, while a part of the grammar is read
-abbrev pub one_refusal : ScriptFault → ScriptFault
-one_refusal (script.Bad k e) = script.Bad 0 kind.Command
-one_refusal script.Memory = script.Memory

@@ -1,7 +1,9 @@
+pub mod Arguments
 pub mod Bodies
 pub mod Commands
-pub mod Decimal
 pub mod Faults
-pub mod Lines
-pub mod Part
+pub mod Keywords
+pub mod Lengths
 pub mod Reading
+pub mod Rules
+pub mod Spelled

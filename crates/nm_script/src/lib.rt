@@ -1,39 +1,58 @@
-//! Scripts as text: what a script's bytes spell, or why they spell none.
+//! Scripts as text: what a script's bytes spell, or why they spell none, and the one text of a
+//! script.
 //!
 //! The first line of a script is `ranks N`, with N from 1 to 64. Each other line is
-//! `R: COMMAND ARGUMENTS`, the command of a rank R below N. The commands that are read so far:
+//! `R: COMMAND ARGUMENTS`, the command of a rank R below N. The commands:
 //!
-//! | command | starts |
+//! | command | what it does |
 //! |---|---|
-//! | `isend Q TO TAG CTX xHEX` | a standard send (MPI 3.1, section 3.7.2) of at most 256 bytes |
-//! | `irecv Q FROM TAG CTX CAP` | a receive from a named source with a named tag |
-//! | `wait Q` | nothing, but goes on until the request is complete (section 3.7.3) |
+//! | `isend Q TO TAG CTX BODY` | starts a standard send (MPI 3.1, section 3.7.2) |
+//! | `issend Q TO TAG CTX BODY` | starts a synchronous send |
+//! | `irecv Q FROM TAGPICK CTX CAP` | starts a receive |
+//! | `wait Q` | goes on until the request is complete (section 3.7.3) |
+//! | `test Q` | asks whether it is complete |
+//! | `probe FROM TAGPICK CTX` | looks for a message (section 3.8.1) |
+//! | `await FROM TAGPICK CTX` | goes on until there is one |
+//! | `cancel Q` | cancels the request (section 3.8.4) |
+//! | `mprobe M FROM TAGPICK CTX` | looks for a message, and takes it out of matching (section 3.8.2) |
+//! | `mrecv Q M CAP` | starts a receive of a handle's message (section 3.8.3) |
 //!
 //! One space stands between two words, and a line feed at the end of each line, which the last line
-//! may lack. Numbers are decimal without sign or leading zero, and the hex digits of a body are in
-//! lower case. A line that holds anything else is refused, and with it the whole text.
+//! may lack. Numbers are decimal without sign or leading zero. A body is `x` and hex digits in lower
+//! case, two a byte, or `g` and how many bytes are generated. A text that has anything else is
+//! refused, with its first fault.
 //!
 //! # What a contract sees
-//! The text of a script and its limits, which `nm_types` defines (`IsScriptOf`), and which commands
-//! are in the part that is read (`is_in_part`).
+//! The text of a script and its limits, which `nm_types` defines (`Spelled`: `IsTextOf`). The rules
+//! of lines, one for each kind of fault, and the first fault of a text (`Rules`: `Keeps`,
+//! `IsFirstFault`), which speak of the words of a line and not of how they are read (`Arguments`).
 //! # What is proved
-//! - What is read is spelled by the bytes, within the limits and in the part (clause `taken`).
+//! - What is read is spelled by the bytes, within the limits (clause `taken`).
 //! - Whatever bytes spell is read as just that, unless memory runs out (clause `takes`).
-//! - Bytes that are refused spell no script of the part (clause `refused`).
-//! - Bytes spell at most one script of the part (`laws`).
+//! - A refusal has the line and the kind of the first fault, and each text with a fault is refused
+//!   with it, unless memory runs out (clauses `fault`, `faults`).
+//! - What is written is the script's one text, and it is spelled by a script within its limits
+//!   (clauses `exact`, `spelled`).
+//! - Bytes spell at most one script; what was written is read as the same script; what was read is
+//!   written as the same bytes, with a line feed where the last line had none; a text keeps every
+//!   rule exactly where it is a command's line at its place (`laws`).
 //! # What is only tested
-//! That `read` succeeds with ample memory.
+//! That `read` and `write` succeed with ample memory.
 #![tactic(auto)]
 
 mod bodies;
 mod commands;
 mod faults;
+mod keywords;
 pub mod laws;
+mod lengths;
 mod lines;
-mod numbers;
 mod reading;
 #[cfg(test)]
 mod tests;
+mod writing;
 
 pub use faults::{Kind, ScriptFault};
+pub use lengths::command_len;
 pub use reading::read;
+pub use writing::write;

@@ -1,19 +1,21 @@
 //! The whole text: its length, its first line, and one line after the other.
 
 ghost use Rattle.std.specs.Prelude.{◌≡◌, ◌<◌, ◌^◌, ◌≤◌, ◌+◌, ℕ, List, length, map};
-ghost use Rattle.std.specs.Prelude.{IfOk, IfErr, OnOk};
+ghost use Rattle.std.specs.Prelude.{IfErr, IfOk, OnOk};
 ghost use Rattle.nm_types.specs.declared.scripts.Line.{Line};
-ghost use Rattle.nm_types.specs.Limits.{IsScriptOf, sent_len};
-ghost use Rattle.nm_script.specs.Faults.{Gives, GivesAt, at_line, one_refusal};
-ghost use Rattle.nm_script.specs.Lines.{lines_of};
+ghost use Rattle.nm_types.specs.Limits.{sent_len};
+ghost use Rattle.nm_script.specs.Faults.{Gives, GivesAt, at_line};
+ghost use Rattle.nm_words.specs.Lines.{lines_of};
 ghost use Rattle.nm_script.specs.Reading.{ranks_of, ranks_at, line_at, lines_from, read_of, parts};
-ghost use Rattle.nm_script.specs.Part.{is_in_part, Refuses, Takes};
+ghost use Rattle.nm_script.specs.declared.faults.Kind.{Kind};
+ghost use Rattle.nm_script.specs.Rules.{IsFault, IsFirstFault, IsRefused};
+ghost use Rattle.nm_script.specs.Spelled.{IsTextOf, Takes};
 
 use crate::commands::line_from;
 use crate::faults::{Kind, LineFault, ScriptFault};
-use crate::lines::{is_printable, is_too_long, split_line, words};
-use crate::numbers::number;
+use crate::lines::is_too_long;
 use nm_types::{Command, Line, Lines, MAX_BODIES, MAX_LINES, MAX_RANKS, Script};
+use nm_words::{is_printable, number, split_line, words};
 use std::alloc::Global;
 
 /// The number of ranks, by the words of the first line.
@@ -24,7 +26,7 @@ fn ranks_from(words: &[&[u8]]) -> Result<u8, Kind>
     match words {
         [name, count] => {
             if *name == b"ranks".as_slice() {
-                match number(count, u32::from(MAX_RANKS) + 1) {
+                match number(count, u64::from(MAX_RANKS) + 1) {
                     None | Some(0) => Err(Kind::First),
                     Some(ranks) => Ok(ranks as u8),
                 }
@@ -153,30 +155,18 @@ fn read_exactly(alloc: Global, bytes: &[u8]) -> Result<Script, ScriptFault>
     Ok(Script { ranks, lines })
 }
 
-/// The one refusal that stands for each kind, while a part of the grammar is read.
-fn one_refusal(fault: ScriptFault) -> ScriptFault
-    ensures { result ≡ one_refusal fault }
-{
-    match fault {
-        ScriptFault::Bad { .. } => ScriptFault::Bad {
-            line: 0,
-            kind: Kind::Command,
-        },
-        ScriptFault::Memory => ScriptFault::Memory,
-    }
-}
-
 /// The script that the bytes spell. The last line may lack its line feed.
 ///
 /// A text has at most `MAX_LINES` lines and `MAX_TEXT` bytes, with the line feed that its last line
-/// lacks. Only a part of the grammar is read so far, and each other text has one refusal: line 0 and
-/// `Kind::Command`. `Memory` says nothing of the bytes.
+/// lacks. `Memory` says nothing of the bytes.
 pub fn read(alloc: Global, bytes: &[u8]) -> Result<Script, ScriptFault>
-    ensures taken { IfOk result
-        (λ script. IsScriptOf is_in_part bytes.now script.ranks script.lines) }
-    ensures refused { IfErr result (λ fault. Refuses bytes.now fault) }
+    ensures taken { IfOk result (λ script. IsTextOf bytes.now script.ranks script.lines) }
     ensures takes { (ranks : ℕ) (lines : List Line) →
-        IsScriptOf is_in_part bytes.now ranks lines → Takes result ranks lines }
+        IsTextOf bytes.now ranks lines → Takes result ranks lines }
+    ensures fault { IfErr result (IsFault bytes.now) }
+    ensures faults { (line : ℕ) (kind : Kind) →
+        IsFirstFault bytes.now line kind → IsRefused result line kind }
+    ensures exact { GivesAt parts result (read_of bytes.now) }
 {
-    read_exactly(alloc, bytes).map_err(one_refusal)
+    read_exactly(alloc, bytes)
 }

@@ -109,6 +109,13 @@ impl Sending {
         self.departures.count(to)
     }
 
+    /// How many packets there are to send.
+    pub fn waiting(&self) -> usize
+        ensures { result ≡ length self.now.outbox.letters }
+    {
+        self.outbox.len()
+    }
+
     /// How many packets to a rank were popped.
     pub fn popped(&self, to: u8) -> u64
         requires { to < length self.now.outbox.popped }

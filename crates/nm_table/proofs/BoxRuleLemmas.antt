@@ -24,14 +24,14 @@ use Rattle.nm_seats.proofs.WindowLemmas as windows
 use Rattle.nm_types.specs.Sizes.{Sizes}
 use Rattle.nm_table.specs.declared.table.Entry.{Entry}
 use Rattle.nm_table.specs.Rule.{Load, World, Agrees, put_to, sender, from, number, sent_to, loads}
-use Rattle.nm_table.specs.Rule.{box_slot, filling_of, emptying_of, AllInSequence, Rule, mark}
+use Rattle.nm_table.specs.Rule.{LooksHold, box_slot, filling_of, emptying_of, AllInSequence, Rule, mark}
 use Rattle.nm_table.specs.Plays as plays
 use Rattle.nm_table.proofs.QueueLemmas as queues
 use Rattle.nm_table.proofs.QueueLemmas.{from_append, put_append, pick_yes, pick_no}
 use Rattle.nm_table.proofs.BoxLemmas as boxes
 use Rattle.nm_table.proofs.BoxLemmas.{marked, update2, update2_here, update2_else, update2_row}
 use Rattle.nm_table.proofs.BoxLemmas.{slot_low, turn_along}
-use Rattle.nm_table.proofs.ProducerLemmas.{knows_else, own, ruled}
+use Rattle.nm_table.proofs.ProducerLemmas.{knows_else, own, own_told, ruled}
 
 pub some_is : (u v : Load) → Some u ≡ Some v → u ≡ v
 some_is u v e = cc
@@ -160,20 +160,20 @@ module _ (key : Sizes) (slots id : ℕ) (e : Entry) (low : e.rank < key.ranks) (
     }
 
     -- a load that changes the entry alone
-    pub only : (i : ℕ) (f : Entry) → Agrees n m w e.rank f
+    pub only : (i : ℕ) (f : Entry) → Agrees n m w e.rank f → LooksHold n s.words e.rank f
         → Rule key record {
           words = set s.words i (slice_index s.words i);
           homes = s.homes;
           views =
               set s.views id (view (f ∷ []));
         }
-    only i f kf = subst (λ ws. Rule key record {
+    only i f kf told = subst (λ ws. Rule key record {
       words = ws;
       homes = s.homes;
       views =
           set s.views id (view (f ∷ []));
     }) (sym (set-get_or s.words i 0))
-        (ruled key s R id e at low w f s.words s.homes R.ranked R.laid R.boxes R.turns kf
+        (ruled key s R id e at low w f s.words s.homes told (λ _ _. refl) R.ranked R.laid R.boxes R.turns kf
         (λ _ _ _ _ o. o))
 
     pub full_known : Agrees n m w e.rank (plays.with_box_full peer e)
@@ -284,7 +284,7 @@ module _ (key : Sizes) (slots id : ℕ) (e : Entry) (low : e.rank < key.ranks) (
         (box_home e.rank peer t maybe.none low few lt)
         (λ u lu ne. box_homes e.rank peer t maybe.none u ne) in
         ruled key s R id e at low after_open (plays.with_filling peer true e) s.words homes'
-        R.ranked
+        (own_told key s R id e at low) (λ _ _. refl) R.ranked
         (queues.elsewhere n m w s.words s.homes R.laid after_open refl refl refl refl refl s.words
         homes' refl (length-set s.homes out_slot maybe.none) (λ _ _. refl)
         (λ c lc. set_else s.homes out_slot c maybe.none
@@ -425,7 +425,8 @@ module _ (key : Sizes) (slots id : ℕ) (e : Entry) (low : e.rank < key.ranks) (
         let b = slot_low n m e.rank peer t low few lt in
         ruled key s R id e at low w'
         (plays.with_put_box ((peer, p) ∷ []) (plays.with_filling peer false e)) words' homes'
-        R.ranked
+        (own_told key s R id e at low) (λ q fits. get_or-set_other s.words (4 * n + out_slot)
+        (2 * n + q) (suc (number p)) 0 (omega arith)) R.ranked
         (queues.elsewhere n m w s.words s.homes R.laid w' refl refl refl refl refl words' homes'
         (length-set s.words (4 * n + out_slot) (suc (number p)))
         (length-set s.homes out_slot (maybe.some p))
@@ -530,7 +531,8 @@ module _ (key : Sizes) (slots id : ℕ) (e : Entry) (low : e.rank < key.ranks) (
         (λ u. get_elem? homes' (box_slot n m peer e.rank u))
         (box_home peer e.rank t maybe.none few low lt)
         (λ u lu ne. box_homes peer e.rank t maybe.none u ne) in
-        ruled key s R id e at low w' (plays.with_emptying peer (Some y) e) s.words homes' R.ranked
+        ruled key s R id e at low w' (plays.with_emptying peer (Some y) e) s.words homes'
+        (own_told key s R id e at low) (λ _ _. refl) R.ranked
         (queues.elsewhere n m w s.words s.homes R.laid w' refl refl refl refl refl s.words homes'
         refl (length-set s.homes in_slot maybe.none) (λ _ _. refl)
         (λ c lc. set_else s.homes in_slot c maybe.none
@@ -663,7 +665,8 @@ module _ (key : Sizes) (slots id : ℕ) (e : Entry) (low : e.rank < key.ranks) (
         (λ l ne. update2_else w.emptying peer e.rank None l e.rank (λ q. ne q.0)) in
         let b = slot_low n m peer e.rank t few low lt in
         ruled key s R id e at low w' (plays.with_got_box (y ∷ []) (plays.with_emptying peer None e))
-        words' homes' R.ranked
+        words' homes' (own_told key s R id e at low) (λ q fits. get_or-set_other s.words
+        (4 * n + in_slot) (2 * n + q) 0 0 (omega arith)) R.ranked
         (queues.elsewhere n m w s.words s.homes R.laid w' refl refl refl refl refl words' homes'
         (length-set s.words (4 * n + in_slot) 0) (length-set s.homes in_slot (maybe.some None))
         (λ c lc. get_or-set_other s.words (4 * n + in_slot) c 0 0 (let b₀ = b.0 in omega arith))

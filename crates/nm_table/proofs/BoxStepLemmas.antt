@@ -18,7 +18,7 @@ use Rattle.nm_table.specs.Rule.{Load, put_to, sender, from, number, sent_to}
 use Rattle.nm_table.specs.Rule.{box_slot, filling_of, emptying_of, Rule}
 use Rattle.nm_table.specs.NextBox.{BoxesApart}
 use Rattle.nm_table.specs.Plays as plays
-use Rattle.nm_table.proofs.ProducerLemmas.{own}
+use Rattle.nm_table.proofs.ProducerLemmas.{own, own_told}
 use Rattle.nm_table.proofs.BoxRuleLemmas as rule
 use Rattle.nm_table.proofs.BoxApartLemmas.{apart_after}
 
@@ -55,6 +55,19 @@ module _ (key : Sizes) (slots id : ℕ) (e : Entry) (low : e.rank < key.ranks) (
   loaded s i hs vs R = subst (λ ws. Rule key record { words = ws; homes = hs; views = vs })
       (sym (set-get_or s.words i 0)) R
 
+  -- the words of their flags
+  out_named : (s : State Load (View Entry)) (R : Rule key s)
+      → get_elem? s.views id ≡ maybe.some (view (e ∷ []))
+      → plays.IsFlag true peer e (4 * n + out_slot)
+  out_named s R at = let k = own key s R id e at low in λ i. 4 * sym k.ranks i + box_slot
+      (sym k.ranks i) (sym k.per i) e.rank peer (length (put_to peer e.put_box) % 4)
+
+  in_named : (s : State Load (View Entry)) (R : Rule key s)
+      → get_elem? s.views id ≡ maybe.some (view (e ∷ []))
+      → plays.IsFlag false peer e (4 * n + in_slot)
+  in_named s R at = let k = own key s R id e at low in λ i. 4 * sym k.ranks i + box_slot
+      (sym k.ranks i) (sym k.per i) peer e.rank (length (from peer e.got_box) % 4)
+
   look_out_kept : (hs : List (ℕ × Load)) → Allows (Rule key) slots id (here hs) (4 * n + out_slot)
       (λ u. u) (plays.looked_out peer (step slots (4 * n + out_slot) 0 0 maybe.none) (here hs))
   look_out_kept hs s R long at small = let ke = own key s R id e at low in
@@ -67,8 +80,9 @@ module _ (key : Sizes) (slots id : ℕ) (e : Entry) (low : e.rank < key.ranks) (
         view (plays.with_box_full peer e ∷ []),
         keeps,
         tt,
-        rule.only key slots id e low peer few s R at i (plays.with_box_full peer e) (rule.full_known key slots id e low peer few s R at),
-        ((λ z. absurd (some z)), (λ _. refl)),
+        rule.only key slots id e low peer few s R at i (plays.with_box_full peer e) (rule.full_known key slots id e low peer few s R at)
+            (own_told key s R id e at low),
+        (out_named s R at, ((λ z. absurd (some z)), (λ _. refl))),
       ))
     where
       now_filling : (s : State Load (View Entry)) (R : Rule key s)
@@ -81,30 +95,34 @@ module _ (key : Sizes) (slots id : ℕ) (e : Entry) (low : e.rank < key.ranks) (
           (at : get_elem? s.views id ≡ maybe.some (view (e ∷ []))) (c : ℕ) → c ≡ out_slot
           → slice_index s.words (4 * n + out_slot) ≡ 0 → (b : Bool) → filling_of e peer ≡ b
           → Owed s (4 * n + out_slot) (slice_index s.words (4 * n + out_slot)) hs
-          (λ after. (slice_index s.words (4 * n + out_slot) ≡ 0
+          (λ after. plays.IsFlag true peer e (4 * n + out_slot)
+          × ((slice_index s.words (4 * n + out_slot) ≡ 0
           → (filling_of (plays.mine after) peer ≡ true)
           × (after ≡ (
             view (plays.with_filling peer true e ∷ []),
             plays.opened (filling_of e peer) c hs,
           )) × BoxesApart (plays.mine after)) × (0 < slice_index s.words (4 * n + out_slot)
-          → after ≡ (view (plays.with_box_full peer e ∷ []), hs)))
+          → after ≡ (view (plays.with_box_full peer e ∷ []), hs))))
       by_lid s R at c at_slot zeroed true is = let f = plays.with_filling peer true e in
           let new = rule.only key slots id e low peer few s R at (4 * n + out_slot) f
           (rule.filling_shown key slots id e low peer few s R at true R.world refl refl refl refl
-          refl refl refl (sym ((own key s R id e at low).filling peer few) ∙ is) (λ l ne. refl)) in (
+          refl refl refl (sym ((own key s R id e at low).filling peer few) ∙ is) (λ l ne. refl)) (own_told key s R id e at low) in (
             view (f ∷ []),
             keeps,
             tt,
             new,
             (
-              (λ _. (
-                now_filling s R at,
-                ap (λ b. (view (f ∷ []), plays.opened b c hs)) (sym is),
-                apart_after key (set s.words (4 * n + out_slot)
-                    (slice_index s.words (4 * n + out_slot))) s.homes s.views id
-                    (view (e ∷ [])) f low at new,
-              )),
-              (λ some. absurd (omega arith)),
+              out_named s R at,
+              (
+                (λ _. (
+                  now_filling s R at,
+                  ap (λ b. (view (f ∷ []), plays.opened b c hs)) (sym is),
+                  apart_after key (set s.words (4 * n + out_slot)
+                      (slice_index s.words (4 * n + out_slot))) s.homes s.views id
+                      (view (e ∷ [])) f low at new,
+                )),
+                (λ some. absurd (omega arith)),
+              ),
             ),
           )
       by_lid s R at c at_slot zeroed false is = let f = plays.with_filling peer true e in
@@ -115,13 +133,16 @@ module _ (key : Sizes) (slots id : ℕ) (e : Entry) (low : e.rank < key.ranks) (
             loaded s (4 * n + out_slot) (set s.homes out_slot maybe.none)
                 (set s.views id (view (f ∷ []))) new,
             (
-              (λ _. (
-                now_filling s R at,
-                (λ i. (view (f ∷ []), plays.opened (sym is i) (sym at_slot i) hs)),
-                apart_after key s.words (set s.homes out_slot maybe.none) s.views id
-                    (view (e ∷ [])) f low at new,
-              )),
-              (λ some. absurd (omega arith)),
+              out_named s R at,
+              (
+                (λ _. (
+                  now_filling s R at,
+                  (λ i. (view (f ∷ []), plays.opened (sym is i) (sym at_slot i) hs)),
+                  apart_after key s.words (set s.homes out_slot maybe.none) s.views id
+                      (view (e ∷ [])) f low at new,
+                )),
+                (λ some. absurd (omega arith)),
+              ),
             ),
           )
 
@@ -138,11 +159,15 @@ module _ (key : Sizes) (slots id : ℕ) (e : Entry) (low : e.rank < key.ranks) (
         view (plays.with_box_miss peer e ∷ []),
         keeps,
         tt,
-        rule.only key slots id e low peer few s R at i (plays.with_box_miss peer e) (rule.miss_known key slots id e low peer few s R at),
+        rule.only key slots id e low peer few s R at i (plays.with_box_miss peer e) (rule.miss_known key slots id e low peer few s R at)
+            (own_told key s R id e at low),
         (
-          (λ z. absurd (other z)),
-          (λ _. refl),
-          (λ o. rule.overdue key slots id e low peer few s R at a o (R.world.waits peer e.rank) refl),
+          in_named s R at,
+          (
+            (λ z. absurd (other z)),
+            (λ _. refl),
+            (λ o. rule.overdue key slots id e low peer few s R at a o (R.world.waits peer e.rank) refl),
+          ),
         ),
       ))
     where
@@ -157,11 +182,12 @@ module _ (key : Sizes) (slots id : ℕ) (e : Entry) (low : e.rank < key.ranks) (
           → slice_index s.words (4 * n + in_slot) ≡ suc a → (x : Option Load)
           → emptying_of e peer ≡ x
           → Owed s (4 * n + in_slot) (slice_index s.words (4 * n + in_slot)) hs
-          (λ after. (slice_index s.words (4 * n + in_slot) ≡ suc a
+          (λ after. plays.IsFlag false peer e (4 * n + in_slot)
+          × ((slice_index s.words (4 * n + in_slot) ≡ suc a
           → plays.Begun peer a c (here hs) after)
           × (slice_index s.words (4 * n + in_slot) ≢ suc a
           → after ≡ (view (plays.with_box_miss peer e ∷ []), hs))
-          × (plays.Overdue e peer a → slice_index s.words (4 * n + in_slot) ≡ suc a))
+          × (plays.Overdue e peer a → slice_index s.words (4 * n + in_slot) ≡ suc a)))
       by_lid s R at c at_slot hit None is =
           let st = rule.in_starts key slots id e low peer few s R at a hit in let y = st.0 in
           let f = plays.with_emptying peer (Some y) e in
@@ -174,20 +200,23 @@ module _ (key : Sizes) (slots id : ℕ) (e : Entry) (low : e.rank < key.ranks) (
             loaded s (4 * n + in_slot) (set s.homes in_slot maybe.none)
                 (set s.views id (view (f ∷ []))) new,
             (
-              (λ _. (
-                now ∙ ap Some (sym load),
-                ap number load ∙ st.3,
-                ap sender load ∙ st.4,
-                (λ i. (
-                  view (plays.with_emptying peer (Some (sym load i)) e ∷ []),
-                  plays.begun (sym is i) (sym at_slot i) (sym load i) hs,
+              in_named s R at,
+              (
+                (λ _. (
+                  now ∙ ap Some (sym load),
+                  ap number load ∙ st.3,
+                  ap sender load ∙ st.4,
+                  (λ i. (
+                    view (plays.with_emptying peer (Some (sym load i)) e ∷ []),
+                    plays.begun (sym is i) (sym at_slot i) (sym load i) hs,
+                  )),
+                  apart_after key s.words (set s.homes in_slot maybe.none) s.views id
+                      (view (e ∷ [])) f low at new,
+                  (λ z now_some. absurd (none_some z (sym is ∙ now_some))),
                 )),
-                apart_after key s.words (set s.homes in_slot maybe.none) s.views id
-                    (view (e ∷ [])) f low at new,
-                (λ z now_some. absurd (none_some z (sym is ∙ now_some))),
-              )),
-              (λ other. absurd (other hit)),
-              (λ _. hit),
+                (λ other. absurd (other hit)),
+                (λ _. hit),
+              ),
             ),
           )
       by_lid s R at c at_slot hit (Some z) is =
@@ -198,28 +227,31 @@ module _ (key : Sizes) (slots id : ℕ) (e : Entry) (low : e.rank < key.ranks) (
           let new = rule.only key slots id e low peer few s R at (4 * n + in_slot) f
           (rule.emptying_shown key slots id e low peer few s R at (Some z) R.world refl refl refl
           refl refl refl refl (sym ((own key s R id e at low).emptying peer few) ∙ is)
-          (λ l ne. refl)) in (
+          (λ l ne. refl)) (own_told key s R id e at low) in (
             view (f ∷ []),
             keeps,
             tt,
             new,
             (
-              (λ _. (
-                now ∙ ap Some (sym load),
-                ap number load ∙ (let t : number z ≡ a = omega arith in
-                    t),
-                ap sender load ∙ first.3,
-                (λ i. (
-                  view (plays.with_emptying peer (Some (sym load i)) e ∷ []),
-                  plays.begun (sym is i) c (sym load i) hs,
+              in_named s R at,
+              (
+                (λ _. (
+                  now ∙ ap Some (sym load),
+                  ap number load ∙ (let t : number z ≡ a = omega arith in
+                      t),
+                  ap sender load ∙ first.3,
+                  (λ i. (
+                    view (plays.with_emptying peer (Some (sym load i)) e ∷ []),
+                    plays.begun (sym is i) c (sym load i) hs,
+                  )),
+                  apart_after key (set s.words (4 * n + in_slot)
+                      (slice_index s.words (4 * n + in_slot))) s.homes s.views id
+                      (view (e ∷ [])) f low at new,
+                  (λ u was. sym (rule.some_is z u (sym is ∙ was)) ∙ sym load),
                 )),
-                apart_after key (set s.words (4 * n + in_slot)
-                    (slice_index s.words (4 * n + in_slot))) s.homes s.views id
-                    (view (e ∷ [])) f low at new,
-                (λ u was. sym (rule.some_is z u (sym is ∙ was)) ∙ sym load),
-              )),
-              (λ other. absurd (other hit)),
-              (λ _. hit),
+                (λ other. absurd (other hit)),
+                (λ _. hit),
+              ),
             ),
           )
 
@@ -234,7 +266,7 @@ module _ (key : Sizes) (slots id : ℕ) (e : Entry) (low : e.rank < key.ranks) (
     gives,
     tt,
     rule.fill_ruled key slots id e low peer few s R at p at_work from_here is,
-    refl,
+    (out_named s R at, refl),
   )
 
   empty_kept : (y : Load) (hs : List (ℕ × Load)) → emptying_of e peer ≡ Some y
@@ -248,13 +280,16 @@ module _ (key : Sizes) (slots id : ℕ) (e : Entry) (low : e.rank < key.ranks) (
     tt,
     rule.empty_ruled key slots id e low peer few s R at y at_work all,
     (
-      ap (λ u. (
-        view (plays.with_got_box (plays.taking u ∷ [])
-            (plays.with_emptying peer None e) ∷ []),
-        hs,
-      )) (sym at_work),
-      subst (λ u. ¬ plays.Came e peer (number (plays.taking u))) (sym at_work)
-          (rule.not_come key slots id e low peer few s R at y at_work),
+      in_named s R at,
+      (
+        ap (λ u. (
+          view (plays.with_got_box (plays.taking u ∷ [])
+              (plays.with_emptying peer None e) ∷ []),
+          hs,
+        )) (sym at_work),
+        subst (λ u. ¬ plays.Came e peer (number (plays.taking u))) (sym at_work)
+            (rule.not_come key slots id e low peer few s R at y at_work),
+      ),
     ),
   )
 

@@ -1,7 +1,7 @@
 -- Each kind of step of a consumer keeps the rule, whatever the other ranks did.
 use Rattle.std.proofs.Common.{◌≡◌, ◌≢◌, ℕ, suc, ◌+◌, ◌-◌, ◌*◌, ◌/◌, map, ◌<◌, ◌≤◌, List, [], ◌∷◌}
 use Rattle.std.proofs.Common.{◌++◌, length, set, sym, refl, ap, ◌∙◌, inl, subst, arith, None, Bool}
-use Rattle.std.proofs.Common.{true, false, eqb, length-set}
+use Rattle.std.proofs.Common.{true, false, eqb, length-set, ⊎_elim, get_or-set_other}
 use Rattle.std.proofs.lemmas.List.{set-get_or}
 use Rattle.std.specs.Prelude.{slice_index, slice_index_or}
 use mathlib.Core.Option as maybe
@@ -15,7 +15,7 @@ use Rattle.nm_seats.specs.declared.views.View.{View}
 use Rattle.nm_seats.specs.Spoken.{view}
 use Rattle.nm_seats.proofs.UpdateLemmas.{pick_yes, update_here, update_else}
 use Rattle.nm_seats.specs.Update.{update}
-use Rattle.nm_chain.specs.Chain.{Item, item, held, queued}
+use Rattle.nm_chain.specs.Chain.{Begins, Item, item, held, queued}
 use Rattle.nm_chain.specs.Sequence.{Each, Got, InSequence}
 use Rattle.nm_chain.proofs.SequenceLemmas.{next_by_cell_is_new}
 use Rattle.nm_types.specs.Sizes.{Sizes}
@@ -24,15 +24,20 @@ use Rattle.nm_table.specs.declared.table.Hand.{Hand}
 use Rattle.nm_table.specs.declared.table.Heads.{Heads}
 use Rattle.nm_table.specs.declared.table.Misses.{Misses}
 use Rattle.nm_table.specs.declared.table.Entry.{Entry}
-use Rattle.atomic_table.proofs.Lists.{set_again, exchanged}
+use Rattle.atomic_table.proofs.Lists.{exchanged}
 use Rattle.nm_table.specs.Rule.{AllInSequence, BoxesHold, Chain, Agrees, Load, NotOf, Place}
 use Rattle.nm_table.specs.Rule.{QueuesHold, Rule, Shows, Suits, World, fetched, from, hand, loads}
 use Rattle.nm_table.specs.Rule.{number, sender, sent_to}
+use Rattle.nm_table.specs.Rule.{LooksHold, tail}
+use Rattle.nm_table.specs.declared.table.Look.{Look}
+use Rattle.nm_table.specs.declared.table.Look.TheVariants.{Fresh, LinkEmpty, TailElsewhere}
+use Rattle.nm_table.specs.Looks.{look_in, StillTold}
 use Rattle.nm_table.specs.Plays as plays
 use Rattle.nm_table.proofs.QueueLemmas as queues
 use Rattle.nm_table.proofs.BoxLemmas as box_laws
 use Rattle.nm_table.proofs.BoxLemmas.{owner_below}
-use Rattle.nm_table.proofs.ProducerLemmas.{below_put, knows_else, place_but, hands_but, own, ruled}
+use Rattle.nm_table.proofs.ProducerLemmas.{below_put, knows_else, place_but, hands_but, own}
+use Rattle.nm_table.proofs.ProducerLemmas.{own_told, ruled, ruled_by, still_told}
 
 module _ (n r : ℕ) (low : r < n) (ends : ℕ → Heads) (x : Heads) where
   receive_of : (b : Bool) (e : Entry) → e.receive ≡ ends r
@@ -58,6 +63,14 @@ module _ (n r : ℕ) (low : r < n) (ends : ℕ → Heads) (x : Heads) where
   fits_in true = omega arith
   fits_in false = omega arith
 
+  own_or : (b : Bool) (t : ℕ) → t < n → t ≢ r → t ≢ plays.queue n r b
+  own_or true t few ne z = ne z
+  own_or false t few ne z = omega arith
+
+  own_or_free : (b : Bool) (t : ℕ) → t < n → t ≢ r → n + t ≢ plays.queue n r b
+  own_or_free true t few ne z = omega arith
+  own_or_free false t few ne z = ne (omega arith)
+
   own_in : (b : Bool) → plays.queue n r b < n → plays.queue n r b ≡ r
   own_in true h = refl
   own_in false h = absurd (omega arith)
@@ -75,6 +88,78 @@ same_boxes : (b : Bool) (x : Heads) (e : Entry) → ((plays.with_heads b x e).pu
     × ((plays.with_heads b x e).emptying ≡ e.emptying)
 same_boxes true x e = (refl, refl, refl, refl)
 same_boxes false x e = (refl, refl, refl, refl)
+
+-- the rule speaks of looks beside what a rank knows
+knows_look : (n m r : ℕ) (b : Bool) (l : Look) (w : World) (e : Entry)
+    → Agrees n m w r e → Agrees n m w r (plays.with_look b l e)
+knows_look n m r b l w e k = record {
+  rank = k.rank;
+  ranks = k.ranks;
+  per = k.per;
+  long = k.long;
+  hands = k.hands;
+  receive = k.receive;
+  free = k.free;
+  put = k.put;
+  got = k.got;
+  put_box = k.put_box;
+  got_box = k.got_box;
+  outs = k.outs;
+  ins = k.ins;
+  filling = k.filling;
+  emptying = k.emptying;
+}
+
+-- a queue whose head has a cell has no shadow head
+no_shadow : (place : ℕ → Place) (q hd shadow : ℕ) (xs : Chain) → Begins place q hd shadow xs
+    → 0 < hd → shadow ≡ 0
+no_shadow place q hd shadow [] b some = b.0
+no_shadow place q hd shadow (x ∷ xs) b some = ⊎_elim (λ t. let z = t.1 in absurd (omega arith))
+    (⊎_elim (λ t. t.0) (λ t. t.0)) b
+
+module _ (n : ℕ) (words : List ℕ) (r : ℕ) (e : Entry) where
+  -- what was told, by queue
+  told_of : LooksHold n words r e → (b : Bool) → StillTold (look_in b e.looks)
+      (plays.heads_of b e).shadow (tail n words (plays.queue n r b))
+  told_of t true = t.0
+  told_of t false = t.1
+
+  -- the same shadow head
+  told_seen : (b : Bool) (seen : ℕ) → LooksHold n words r e → LooksHold n words r
+      (plays.with_heads b (plays.heads_at (plays.heads_of b e).shadow seen) e)
+  told_seen true seen t = t
+  told_seen false seen t = t
+
+  -- another head, where the tail wasn't found elsewhere
+  told_heads : (b : Bool) (x : Heads) → look_in b e.looks ≢ TailElsewhere → LooksHold n words r e
+      → LooksHold n words r (plays.with_heads b x e)
+  told_heads true x ne t = ((λ z. absurd (ne z)), t.1)
+  told_heads false x ne t = (t.0, (λ z. absurd (ne z)))
+
+  -- something else was told than of the tail
+  told_link : (b : Bool) → LooksHold n words r e → LooksHold n words r (plays.with_look b LinkEmpty e)
+  told_link true t = ((λ z. absurd (let z' : LinkEmpty ≡ TailElsewhere = z in cc)), t.1)
+  told_link false t = (t.0, (λ z. absurd (let z' : LinkEmpty ≡ TailElsewhere = z in cc)))
+
+  -- the tail was found elsewhere
+  told_tail : (b : Bool) → 0 < (plays.heads_of b e).shadow
+      → tail n words (plays.queue n r b) ≢ (plays.heads_of b e).shadow → LooksHold n words r e
+      → LooksHold n words r (plays.with_look b TailElsewhere e)
+  told_tail true some ne t = ((λ _. (some, ne)), t.1)
+  told_tail false some ne t = (t.0, (λ _. (some, ne)))
+
+  -- a cell was taken, and nothing was told of the next one
+  told_taken : (words' : List ℕ) (b : Bool) (c : ℕ) (y : Load) (shadow : ℕ) → r < n
+      → ((k : ℕ) → k < 2 * n → k ≢ plays.queue n r b → tail n words' k ≡ tail n words k)
+      → LooksHold n words r e → LooksHold n words' r (plays.taken b c y shadow e)
+  told_taken words' true c y shadow low same t = (
+    (λ z. absurd (let z' : Fresh ≡ TailElsewhere = z in cc)),
+    (λ l. let o = t.1 l in (o.0, (λ z. o.1 (sym (same (n + r) (omega arith) (λ u. omega arith)) ∙ z)))),
+  )
+  told_taken words' false c y shadow low same t = (
+    (λ l. let o = t.0 l in (o.0, (λ z. o.1 (sym (same r (omega arith) (λ u. omega arith)) ∙ z)))),
+    (λ z. absurd (let z' : Fresh ≡ TailElsewhere = z in cc)),
+  )
 
 -- the counts of misses are the port's own matter
 knows_missed : (n m r : ℕ) (b : Bool) (f : Misses → Misses) (w : World) (e : Entry)
@@ -142,6 +227,8 @@ module _ (key : Sizes) (slots id : ℕ) (e : Entry) (low : e.rank < key.ranks) (
   one_end : (s : State Load (View Entry)) (R : Rule key s)
       → get_elem? s.views id ≡ maybe.some (view (e ∷ []))
       → (x : Heads) (words' : List ℕ) (F : Entry → Entry)
+      → LooksHold key.ranks s.words e.rank (F (plays.with_heads b x e))
+      → ((k : ℕ) → k < 2 * key.ranks → tail key.ranks words' k ≡ tail key.ranks s.words k)
       → ((w : World) (g : Entry) → Agrees key.ranks key.cells w e.rank g
       → Agrees key.ranks key.cells w e.rank (F g))
       → QueuesHold key.ranks key.cells (record R.world { heads = update R.world.heads q x }) words'
@@ -152,10 +239,10 @@ module _ (key : Sizes) (slots id : ℕ) (e : Entry) (low : e.rank < key.ranks) (
         views =
             set s.views id (view (F (plays.with_heads b x e) ∷ []));
       }
-  one_end s R at x words' F keep laid boxes = let k = own key s R id e at low in let w = R.world in
+  one_end s R at x words' F told same' keep laid boxes = let k = own key s R id e at low in let w = R.world in
       let w' : World = record w { heads = update w.heads q x } in let f = plays.with_heads b x e in
       let same = same_rank b x e in let boxy = same_boxes b x e in
-      ruled key s R id e at low w' (F f) words' s.homes R.ranked laid boxes R.turns
+      ruled key s R id e at low w' (F f) words' s.homes told same' R.ranked laid boxes R.turns
       (keep w' f record {
         rank = same.0 ∙ k.rank;
         ranks = same.1 ∙ k.ranks;
@@ -197,14 +284,17 @@ module _ (key : Sizes) (slots id : ℕ) (e : Entry) (low : e.rank < key.ranks) (
       let fit = subst (λ u. found ≤ u) (sym k.long)
       (queues.head_low key.ranks key.cells w s.words s.homes R.laid q
       (fits_in key.ranks e.rank low w.heads x b)) in
+      let told = told_seen key.ranks s.words e.rank e b found (own_told key s R id e at low) in
       dite (ℕ_discrete found 0)
       (λ none. (
         view (plays.with_missed b plays.head_miss (plays.with_heads b x e) ∷ []),
         keeps,
         tt,
-        loaded s q s.homes _ (one_end s R at x s.words (plays.with_missed b plays.head_miss)
+        loaded s q s.homes _ (one_end s R at x s.words (plays.with_missed b plays.head_miss) told
+            (λ _ _. refl)
             (knows_missed key.ranks key.cells e.rank b plays.head_miss) laid R.boxes),
         (
+          ap (λ u. plays.queue u e.rank b) (sym k.ranks),
           fit,
           (λ _. ap (λ u. (
             view
@@ -219,8 +309,14 @@ module _ (key : Sizes) (slots id : ℕ) (e : Entry) (low : e.rank < key.ranks) (
         view (plays.with_heads b x e ∷ []),
         keeps,
         tt,
-        loaded s q s.homes _ (one_end s R at x s.words (λ g. g) (λ _ _ h. h) laid R.boxes),
-        (fit, (λ none. absurd (some none)), (λ _. refl)),
+        loaded s q s.homes _ (one_end s R at x s.words (λ g. g) told (λ _ _. refl) (λ _ _ h. h) laid
+            R.boxes),
+        (
+          ap (λ u. plays.queue u e.rank b) (sym k.ranks),
+          fit,
+          (λ none. absurd (some none)),
+          (λ _. refl),
+        ),
       ))
 
   hide_kept : (c : ℕ) (hs : List (ℕ × Load)) → (plays.heads_of b e).seen ≡ suc c
@@ -238,16 +334,28 @@ module _ (key : Sizes) (slots id : ℕ) (e : Entry) (low : e.rank < key.ranks) (
         view (plays.with_heads b x e ∷ []),
         keeps,
         tt,
-        one_end s R at x (set s.words q 0) (λ g. g) (λ _ _ h. h) laid
+        one_end s R at x (set s.words q 0) (λ g. g)
+            (told_heads key.ranks s.words e.rank e b x (λ z. let f = fits_in key.ranks e.rank low w.heads x b in
+            let o = (told_of key.ranks s.words e.rank e (own_told key s R id e at low) b z).0 in
+            let h = R.laid.seen q f (omega arith) in
+            let none = no_shadow w.place q (slice_index s.words q) (w.heads q).shadow (w.chain q)
+            (R.laid.queues q f).begins (omega arith) in
+            let sh = ap (λ (u : Heads). u.shadow) (knows_end key.ranks key.cells w e.rank e k b) in
+            omega arith) (own_told key s R id e at low))
+            (λ p _. get_or-set_other s.words q (2 * key.ranks + p) 0 0
+            (let f = fits_in key.ranks e.rank low w.heads x b in omega arith))
+            (λ _ _ h. h) laid
             (box_laws.keep_word key.ranks key.cells w s.words s.homes R.boxes q 0
             (let f = fits_in key.ranks e.rank low w.heads x b in omega arith)),
-        refl,
+        (ap (λ u. plays.queue u e.rank b) (sym k.ranks), refl),
       )
 
   -- the first cell goes into the hand
   one_taken : (s : State Load (View Entry)) (R : Rule key s)
       → get_elem? s.views id ≡ maybe.some (view (e ∷ []))
-      → (x : Item Load) (xs : Chain) (shadow : ℕ) (words' : List ℕ) → x.cell < key.ranks * key.cells
+      → (x : Item Load) (xs : Chain) (shadow : ℕ) (words' : List ℕ)
+      → ((k : ℕ) → k < 2 * key.ranks → k ≢ q → tail key.ranks words' k ≡ tail key.ranks s.words k)
+      → x.cell < key.ranks * key.cells
       → R.world.place x.cell ≡ queued q
       → QueuesHold key.ranks key.cells
       (queues.after_take key.ranks key.cells R.world s.words s.homes R.laid e.rank q x xs
@@ -260,13 +368,13 @@ module _ (key : Sizes) (slots id : ℕ) (e : Entry) (low : e.rank < key.ranks) (
         views =
             set s.views id (view (plays.taken b x.cell x.load shadow e ∷ []));
       }
-  one_taken s R at x xs shadow words' few was laid is boxes = let k = own key s R id e at low in
+  one_taken s R at x xs shadow words' tails few was laid is boxes = let k = own key s R id e at low in
       let w = R.world in let n = key.ranks in let m = key.cells in let y = x.load in
       let z = plays.heads_at shadow 0 in
       let w' = queues.after_take n key.cells w s.words s.homes R.laid e.rank q x xs z in
       let f = plays.taken b x.cell y shadow e in let same = same_rank b z e in
       let boxy = same_boxes b z e in
-      ruled key s R id e at low w' f words' (set s.homes x.cell maybe.none)
+      ruled_by key s R id e at low w' f words' (set s.homes x.cell maybe.none)
       (below_put n w.place x.cell (held e.rank) low R.ranked) laid boxes
       (box_laws.turns_less n w R.turns e.rank q x xs is (own_in n e.rank low w.heads z b) w' refl refl
       refl refl refl refl) record {
@@ -295,31 +403,24 @@ module _ (key : Sizes) (slots id : ℕ) (e : Entry) (low : e.rank < key.ranks) (
       (other_receive n e.rank low w.heads z b r few' ne)
       (other_free n e.rank low w.heads z b r few' ne) refl
       (update_else w.got e.rank (w.got e.rank ++ fetched n q y) r ne) refl refl refl (λ _. refl))
+      (told_taken n s.words e.rank e words' b x.cell y shadow low tails (own_told key s R id e at low))
+      (λ r g few' ne _ t.
+      still_told n s.words words' r g
+      (tails r (omega arith) (λ u. own_or n e.rank low w.heads z b r few' ne u))
+      (tails (n + r) (omega arith) (λ u. own_or_free n e.rank low w.heads z b r few' ne u)) t)
 
-  -- nothing changes
-  stays : (s : State Load (View Entry)) (i : ℕ) → get_elem? s.views id ≡ maybe.some (view (e ∷ []))
-      → Rule key s → Rule key record {
-        words = set s.words i (slice_index s.words i);
-        homes =
-            s.homes;
-        views = set s.views id (view (e ∷ []));
-      }
-  stays s i at R = loaded s i s.homes (set s.views id (view (e ∷ [])))
-      (subst (λ vs. Rule key record { words = s.words; homes = s.homes; views = vs })
-      (sym (set_again s.views id (view (e ∷ [])) at)) R)
-
-  -- nothing changes but what the rule doesn't speak of
+  -- a load that changes the entry alone
   pub only : (s : State Load (View Entry)) (i : ℕ)
       → get_elem? s.views id ≡ maybe.some (view (e ∷ [])) → (R : Rule key s) (f : Entry)
-      → Agrees key.ranks key.cells R.world e.rank f
+      → Agrees key.ranks key.cells R.world e.rank f → LooksHold key.ranks s.words e.rank f
       → Rule key record {
         words = set s.words i (slice_index s.words i);
         homes = s.homes;
         views =
             set s.views id (view (f ∷ []));
       }
-  only s i at R f k = loaded s i s.homes (set s.views id (view (f ∷ [])))
-      (ruled key s R id e at low R.world f s.words s.homes R.ranked R.laid R.boxes R.turns k
+  only s i at R f k told = loaded s i s.homes (set s.views id (view (f ∷ [])))
+      (ruled key s R id e at low R.world f s.words s.homes told (λ _ _. refl) R.ranked R.laid R.boxes R.turns k
       (λ _ _ _ _ o. o))
 
   module _ (c : ℕ) (hs : List (ℕ × Load)) (shadow : (plays.heads_of b e).shadow ≡ suc c) where
@@ -351,9 +452,10 @@ module _ (key : Sizes) (slots id : ℕ) (e : Entry) (low : e.rank < key.ranks) (
 
     pass_kept : (f : Entry → Entry) → ((w : World) → Agrees key.ranks key.cells w e.rank e
         → Agrees key.ranks key.cells w e.rank (f e))
+        → ((ws : List ℕ) → LooksHold key.ranks ws e.rank e → LooksHold key.ranks ws e.rank (f e))
         → Allows (Rule key) slots id me (4 * key.ranks + c) (λ k. k)
         (plays.passed_or f b (step slots (4 * key.ranks + c) 0 0 maybe.none) me)
-    pass_kept f keep s R long at small = let k = own key s R id e at low in let w = R.world in
+    pass_kept f keep tell s R long at small = let k = own key s R id e at low in let w = R.world in
         let n = key.ranks in let z = plays.heads_at 0 0 in
         let found = slice_index s.words (4 * n + c) in
         let shade : (w.heads q).shadow ≡ suc c =
@@ -363,20 +465,22 @@ module _ (key : Sizes) (slots id : ℕ) (e : Entry) (low : e.rank < key.ranks) (
         let su = queues.start_suits n key.cells w s.words s.homes R.laid e.rank q c fit mine shade
         in
         let few = queues.start_low n key.cells w s.words s.homes R.laid e.rank q c fit mine shade in
+        let named : 4 * n + c ≡ 4 * e.ranks + ((plays.heads_of b e).shadow - 1) =
+        let rs = k.ranks in omega arith in
         dite (ℕ_discrete found 0)
         (λ none. (
           view (f e ∷ []),
           keeps,
           tt,
-          only s (4 * n + c) at R (f e) (keep w k),
-          ((λ _. refl), (λ some. absurd (omega arith))),
+          only s (4 * n + c) at R (f e) (keep w k) (tell s.words (own_told key s R id e at low)),
+          (named, (λ _. refl), (λ some. absurd (omega arith))),
         ))
         (λ some. let leads : found ≡ suc (found - 1) = omega arith in (
           view (plays.taken b st.0.cell st.0.load found e ∷ []),
           takes st.0.cell st.0.load,
           queues.at_home n key.cells w s.words s.homes R.laid e.rank q c fit mine shade,
           loaded s (4 * n + c) (set s.homes st.0.cell maybe.none) _
-              (one_taken s R at st.0 st.1 found s.words few (ap w.place st.3 ∙ st.4)
+              (one_taken s R at st.0 st.1 found s.words (λ _ _ _. refl) few (ap w.place st.3 ∙ st.4)
               (subst (λ u. QueuesHold n key.cells
               (queues.after_take n key.cells w s.words s.homes R.laid e.rank q st.0 st.1
               (plays.heads_at u 0)) s.words (set s.homes st.0.cell maybe.none)) (sym leads)
@@ -385,6 +489,7 @@ module _ (key : Sizes) (slots id : ℕ) (e : Entry) (low : e.rank < key.ranks) (
               (box_laws.keep_slot n key.cells w s.words s.homes R.boxes st.0.cell maybe.none
               few)),
           (
+            named,
             (λ none. absurd (some none)),
             (λ _. subst (λ d. plays.Took b d found me (
               view (plays.taken b st.0.cell st.0.load found e ∷ []),
@@ -421,12 +526,15 @@ module _ (key : Sizes) (slots id : ℕ) (e : Entry) (low : e.rank < key.ranks) (
           view (plays.taken b st.0.cell st.0.load 0 e ∷ []),
           takes st.0.cell st.0.load,
           queues.at_home n key.cells w s.words s.homes R.laid e.rank q c fit mine shade,
-          one_taken s R at st.0 [] 0 (set s.words (2 * n + q) 0) few (ap w.place st.3 ∙ st.4)
+          one_taken s R at st.0 [] 0 (set s.words (2 * n + q) 0)
+              (λ p _ ne. get_or-set_other s.words (2 * n + q) (2 * n + p) 0 0 (omega arith)) few (ap w.place st.3 ∙ st.4)
               (queues.drained n key.cells w s.words s.homes R.laid e.rank q c fit mine shade last)
               (queues.sole n key.cells w s.words s.homes R.laid e.rank q c fit mine shade last)
               (box_laws.keep_both n key.cells w s.words s.homes R.boxes
               (2 * n + q) st.0.cell 0 maybe.none (omega arith) few),
           (
+            ap (λ u. 2 * u + plays.queue u e.rank b) (sym k.ranks),
+            sym shadow,
             (λ other. absurd (other last)),
             (λ _. subst (λ d. plays.Took b d 0 me
                 (view (plays.taken b st.0.cell st.0.load 0 e ∷ []), (st.0.cell, st.0.load) ∷ hs))
@@ -438,11 +546,19 @@ module _ (key : Sizes) (slots id : ℕ) (e : Entry) (low : e.rank < key.ranks) (
           ),
         ))
         (λ other. (
-          view (e ∷ []),
+          view (plays.with_look b TailElsewhere e ∷ []),
           keeps,
           tt,
-          stays s (2 * n + q) at R,
-          ((λ _. refl), (λ same. absurd (other same))),
+          only s (2 * n + q) at R (plays.with_look b TailElsewhere e)
+              (knows_look n key.cells e.rank b TailElsewhere w e k)
+              (told_tail n s.words e.rank e b (omega arith) (λ z. other (z ∙ shadow))
+              (own_told key s R id e at low)),
+          (
+            ap (λ u. 2 * u + plays.queue u e.rank b) (sym k.ranks),
+            sym shadow,
+            (λ _. refl),
+            (λ same. absurd (other same)),
+          ),
         ))
 
 -- the same for any seat that speaks for one rank, of a fabric of n ranks
@@ -482,28 +598,35 @@ module _ (key : Sizes) (n slots id : ℕ) (me : plays.Knowing) (alone : plays.Al
 
   pass_or : (f : Entry → Entry)
       → ((w : World) → Agrees key.ranks key.cells w (plays.mine me).rank (plays.mine me)
-      → Agrees key.ranks key.cells w (plays.mine me).rank (f (plays.mine me))) → (c : ℕ)
+      → Agrees key.ranks key.cells w (plays.mine me).rank (f (plays.mine me)))
+      → ((ws : List ℕ) → LooksHold key.ranks ws (plays.mine me).rank (plays.mine me)
+      → LooksHold key.ranks ws (plays.mine me).rank (f (plays.mine me))) → (c : ℕ)
       → (plays.heads_of b (plays.mine me)).shadow ≡ suc c → Allows (Rule key) slots id me (4 * n + c)
       (λ k. k) (plays.passed_or f b (step slots (4 * n + c) 0 0 maybe.none) me)
-  pass_or f keep c shadow =
+  pass_or f keep tell c shadow =
       subst (λ k. Allows (Rule key) slots id me (4 * k + c) (λ k. k)
       (plays.passed_or f b (step slots (4 * k + c) 0 0 maybe.none) me)) ranks
       (subst (λ v. Allows (Rule key) slots id (v, me.1) (4 * key.ranks + c) (λ k. k)
       (plays.passed_or f b (step slots (4 * key.ranks + c) 0 0 maybe.none) (v, me.1)))
       (sym alone)
-      (pass_kept key slots id (plays.mine me) here b c me.1 shadow f keep))
+      (pass_kept key slots id (plays.mine me) here b c me.1 shadow f keep tell))
 
   pub pass_allowed : (c : ℕ) → (plays.heads_of b (plays.mine me)).shadow ≡ suc c
       → Allows (Rule key) slots id me (4 * n + c) (λ k. k)
       (plays.passed b (step slots (4 * n + c) 0 0 maybe.none) me)
-  pass_allowed = pass_or (λ e. e) (λ _ h. h)
+  pass_allowed = pass_or (plays.with_look b LinkEmpty)
+      (λ w h. knows_look key.ranks key.cells (plays.mine me).rank b LinkEmpty w (plays.mine me) h)
+      (λ ws t. told_link key.ranks ws (plays.mine me).rank (plays.mine me) b t)
 
   pub reload_allowed : (c : ℕ) → (plays.heads_of b (plays.mine me)).shadow ≡ suc c
       → Allows (Rule key) slots id me (4 * n + c) (λ k. k)
       (plays.reloaded b (step slots (4 * n + c) 0 0 maybe.none) me)
-  reload_allowed = pass_or (plays.with_missed b plays.link_miss)
-      (λ w h. knows_missed key.ranks key.cells (plays.mine me).rank b plays.link_miss w
-      (plays.mine me) h)
+  reload_allowed = pass_or (λ e. plays.with_look b LinkEmpty (plays.with_missed b plays.link_miss e))
+      (λ w h. knows_look key.ranks key.cells (plays.mine me).rank b LinkEmpty w
+      (plays.with_missed b plays.link_miss (plays.mine me))
+      (knows_missed key.ranks key.cells (plays.mine me).rank b plays.link_miss w (plays.mine me) h))
+      (λ ws t. told_link key.ranks ws (plays.mine me).rank
+      (plays.with_missed b plays.link_miss (plays.mine me)) b t)
 
   pub drain_allowed : (word old : ℕ) → word ≡ 2 * n + plays.queue n rank b
       → (plays.heads_of b (plays.mine me)).shadow ≡ old → 0 < old

@@ -17,6 +17,7 @@ use Rattle.nm_table.proofs.BoxLemmas.{slot_low, owner_below}
 use Rattle.nm_chain.specs.Chain.{IsIn, loose, queued}
 use Rattle.nm_types.specs.Sizes.{Sizes}
 use Rattle.nm_table.specs.declared.table.Hand.TheVariants.{Away, Loose}
+use Rattle.nm_table.specs.declared.table.Look.TheVariants.{Fresh, TailElsewhere}
 use Rattle.nm_table.specs.declared.table.Entry.{Entry}
 use Rattle.nm_table.specs.Rule.{Load, Place, no_heads, rank_of, World, Below, Agrees, NotOf, Shows}
 use Rattle.nm_table.specs.Rule.{pick, HasHome, Handed, QueuesHold, box_slot, BoxesHold}
@@ -210,6 +211,10 @@ opened key words o = let none : Load = None in let n = key.ranks in
           (long_homes none (key.ranks * key.cells + 4 * (key.ranks * key.ranks)));
       boxes = boxes key.ranks key.cells words o homes vacant;
       turns = turns key.ranks key.cells words o homes vacant;
+      told = λ r low. (
+        (λ z. absurd (let z' : Fresh ≡ TailElsewhere = z in cc)),
+        (λ z. absurd (let z' : Fresh ≡ TailElsewhere = z in cc)),
+      );
     }
 
 -- the seat of the lowest rank is cut off
@@ -227,6 +232,7 @@ parted key id v e es is = subst (λ u. Splits (Rule key) id u (others_of u) (fir
       laid = R.laid;
       boxes = R.boxes;
       turns = R.turns;
+      told = R.told;
     })
 
 pub get_snoc : {A : Type 0} (xs : List A) (x : A) (k : ℕ) (y : A)

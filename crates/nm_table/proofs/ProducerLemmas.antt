@@ -14,14 +14,15 @@ use Rattle.nm_seats.specs.Spoken.{view}
 use Rattle.nm_seats.specs.Update.{update}
 use Rattle.nm_seats.proofs.UpdateLemmas.{update_here, update_else}
 use Rattle.nm_seats.proofs.SpokenLemmas.{spoken_steps, spoken_of}
-use Rattle.nm_chain.specs.Chain.{item, IsIn, loose, held, ready, entering, queued}
+use Rattle.nm_chain.specs.Chain.{Begins, item, IsIn, loose, held, ready, entering, queued}
 use Rattle.nm_types.specs.Sizes.{Sizes}
 use Rattle.nm_table.specs.declared.table.Hand.{Hand}
 use Rattle.nm_table.specs.declared.table.Hand.TheVariants.{Away, Loose, Held, Ready, Entering}
 use Rattle.nm_table.specs.declared.table.Entry.{Entry}
-use Rattle.nm_table.specs.Rule.{Load, Place, hand, rank_of, World, NotOf, Below, Shows, Agrees}
+use Rattle.nm_table.specs.Rule.{Chain, Load, Place, hand, rank_of, World, NotOf, Below, Shows}
+use Rattle.nm_table.specs.Rule.{Agrees}
 use Rattle.nm_table.specs.Rule.{sender, number, sent_to, posted, tail, IsOut, Suits, Handed}
-use Rattle.nm_table.specs.Rule.{QueuesHold, BoxesHold, AllInSequence, Rule}
+use Rattle.nm_table.specs.Rule.{QueuesHold, BoxesHold, AllInSequence, LooksHold, Rule}
 use Rattle.nm_table.specs.Plays as plays
 use Rattle.nm_table.proofs.QueueLemmas as queues
 use Rattle.nm_table.proofs.BoxLemmas as boxes
@@ -62,6 +63,25 @@ pub below_put : (n : ℕ) (place : ℕ → Place) (c : ℕ) (p : Place) → Belo
 below_put n place c p b all d =
     dite (ℕ_discrete d c) (λ e. subst (Below n) (sym (update_here place c p d e)) b)
     (λ ne. subst (Below n) (sym (update_else place c p d ne)) (all d))
+
+-- what a rank was told is still so where the tails of its queues are the same
+pub still_told : (n : ℕ) (words words' : List ℕ) (r : ℕ) (e : Entry)
+    → tail n words' r ≡ tail n words r → tail n words' (n + r) ≡ tail n words (n + r)
+    → LooksHold n words r e → LooksHold n words' r e
+still_told n words words' r e ends frees t = (
+  (λ k. let o = t.0 k in (o.0, (λ z. o.1 (sym ends ∙ z)))),
+  (λ k. let o = t.1 k in (o.0, (λ z. o.1 (sym frees ∙ z)))),
+)
+
+-- the cell of a shadow head is in its queue
+shadow_in : (place : ℕ → Place) (q hd c : ℕ) (xs : Chain) → Begins place q hd (suc c) xs
+    → place c ≡ queued q
+shadow_in place q hd c [] b = let z : suc c ≡ 0 = b.0 in absurd (omega arith)
+shadow_in place q hd c (x ∷ xs) b = ⊎_elim
+    (λ t. let z : suc c ≡ suc x.cell = t.0 in let is : c ≡ x.cell = omega arith in
+    ap place is ∙ t.2)
+    (⊎_elim (λ t. let z : suc c ≡ 0 = t.0 in absurd (omega arith))
+    (λ t. let z : suc c ≡ 0 = t.0 in absurd (omega arith))) b
 
 module _ (n m : ℕ) (w : World) where
   -- the entry of a rank of which nothing changes
@@ -125,18 +145,25 @@ module _ (key : Sizes) (s : State Load (View Entry)) (R : Rule key s) (id : ℕ)
   own = subst (Agrees n m R.world e.rank) (spoken_of rank_of R.ledger s.views R.spoken id e [] at)
       (R.knows e.rank low)
 
+  pub own_told : LooksHold n s.words e.rank e
+  own_told = subst (LooksHold n s.words e.rank)
+      (spoken_of rank_of R.ledger s.views R.spoken id e [] at) (R.told e.rank low)
+
   -- the rule after a step of this seat
-  pub ruled : (w' : World) (f : Entry) (words' : List ℕ) (homes' : List (maybe.Option Load))
+  pub ruled_by : (w' : World) (f : Entry) (words' : List ℕ) (homes' : List (maybe.Option Load))
       → ((c : ℕ) → Below n (w'.place c)) → QueuesHold n key.cells w' words' homes'
       → BoxesHold n key.cells w' words' homes' → AllInSequence n w' → Agrees n m w' e.rank f
       → ((r : ℕ) (g : Entry) → r < key.ranks → r ≢ e.rank → Agrees n m R.world r g
-      → Agrees n m w' r g) → Rule key record {
+      → Agrees n m w' r g) → LooksHold n words' e.rank f
+      → ((r : ℕ) (g : Entry) → r < key.ranks → r ≢ e.rank → Agrees n m R.world r g
+      → LooksHold n s.words r g → LooksHold n words' r g)
+      → Rule key record {
         words = words';
         homes = homes';
         views =
             set s.views id (view (f ∷ []));
       }
-  ruled w' f words' homes' ranked laid boxes turns mine others = record {
+  ruled_by w' f words' homes' ranked laid boxes turns mine others told told_others = record {
     ledger = update R.ledger e.rank f;
     world = w';
     spoken = spoken_steps rank_of R.ledger s.views R.spoken id e f at mine.rank;
@@ -149,11 +176,38 @@ module _ (key : Sizes) (s : State Load (View Entry)) (R : Rule key s) (id : ℕ)
     laid = laid;
     boxes = boxes;
     turns = turns;
+    told = λ r few. dite (ℕ_discrete r e.rank)
+        (λ z. subst (λ k. LooksHold n words' k (update R.ledger e.rank f k)) (sym z)
+        (subst (LooksHold n words' e.rank) (sym (update_here R.ledger e.rank f e.rank refl)) told))
+        (λ ne. subst (LooksHold n words' r) (sym (update_else R.ledger e.rank f r ne))
+        (told_others r (R.ledger r) few ne (R.knows r few) (R.told r few)));
   }
+
+  -- the same where the tails stay
+  pub ruled : (w' : World) (f : Entry) (words' : List ℕ) (homes' : List (maybe.Option Load))
+      → LooksHold n s.words e.rank f
+      → ((q : ℕ) → q < 2 * n → tail n words' q ≡ tail n s.words q)
+      → ((c : ℕ) → Below n (w'.place c)) → QueuesHold n key.cells w' words' homes'
+      → BoxesHold n key.cells w' words' homes' → AllInSequence n w' → Agrees n m w' e.rank f
+      → ((r : ℕ) (g : Entry) → r < key.ranks → r ≢ e.rank → Agrees n m R.world r g
+      → Agrees n m w' r g) → Rule key record {
+        words = words';
+        homes = homes';
+        views =
+            set s.views id (view (f ∷ []));
+      }
+  ruled w' f words' homes' told same ranked laid boxes turns mine others =
+      ruled_by w' f words' homes' ranked laid boxes turns mine others
+      (still_told n s.words words' e.rank f (same e.rank (omega arith))
+      (same (n + e.rank) (omega arith)) told)
+      (λ r g few _ _ o. still_told n s.words words' r g (same r (omega arith))
+      (same (n + r) (omega arith)) o)
 
   -- one cell changes hands, and nothing else
   pub one_hand : (c : ℕ) (p : Place) (h : Hand) (words' : List ℕ)
-      (homes' : List (maybe.Option Load)) → c < key.ranks * key.cells → Below key.ranks p
+      (homes' : List (maybe.Option Load))
+      → ((q : ℕ) → q < 2 * n → tail n words' q ≡ tail n s.words q)
+      → c < key.ranks * key.cells → Below key.ranks p
       → Shows e.rank p h → ((r : ℕ) → r ≢ e.rank → NotOf r (R.world.place c) × NotOf r p)
       → QueuesHold n key.cells (record R.world { place = update R.world.place c p }) words' homes'
       → BoxesHold n key.cells R.world words' homes'
@@ -163,9 +217,9 @@ module _ (key : Sizes) (s : State Load (View Entry)) (R : Rule key s) (id : ℕ)
         views =
             set s.views id (view (plays.with_hand c h e ∷ []));
       }
-  one_hand c p h words' homes' few below shows others laid boxes = let w' =
+  one_hand c p h words' homes' same few below shows others laid boxes = let w' =
       record R.world { place = update R.world.place c p } in
-      ruled w' (plays.with_hand c h e) words' homes'
+      ruled w' (plays.with_hand c h e) words' homes' own_told same
       (below_put key.ranks R.world.place c p below R.ranked) laid boxes R.turns record {
         rank = own.rank;
         ranks = own.ranks;
@@ -204,12 +258,16 @@ module _ (key : Sizes) (slots id : ℕ) (e : Entry) (low : e.rank < key.ranks) (
           homes = set s.homes c maybe.none;
           views = set s.views id (view (plays.with_hand c Held e ∷ []));
         }) (sym same)
-            (one_hand key s R id e at low c (held e.rank) Held s.words (set s.homes c maybe.none) few low
+            (one_hand key s R id e at low c (held e.rank) Held s.words (set s.homes c maybe.none)
+            (λ _ _. refl) few low
             refl (λ r ne. (subst (NotOf r) (sym shows) ne, ne))
             (queues.picked key.ranks key.cells w s.words s.homes R.laid e.rank c few
             (λ q k. subst (IsIn q) shows k))
             (boxes.keep_slot key.ranks key.cells w s.words s.homes R.boxes c maybe.none few)),
-        ap (λ d. (view (plays.with_hand d Held e ∷ []), (d, nothing) ∷ hs)) (sym is),
+        (
+          let rs = k.ranks in let named : i ≡ 4 * e.ranks + (i - 4 * e.ranks) = omega arith in named,
+          ap (λ d. (view (plays.with_hand d Held e ∷ []), (d, nothing) ∷ hs)) (sym is),
+        ),
       )
 
   clear_kept : (hs : List (ℕ × Load)) → plays.InHand (hand e c)
@@ -222,14 +280,20 @@ module _ (key : Sizes) (slots id : ℕ) (e : Entry) (low : e.rank < key.ranks) (
         keeps,
         tt,
         one_hand key s R id e at low c (ready e.rank y) (Ready y)
-            (set s.words (4 * key.ranks + c) 0) s.homes few low refl
+            (set s.words (4 * key.ranks + c) 0) s.homes
+            (λ q fits. get_or-set_other s.words (4 * key.ranks + c) (2 * key.ranks + q) 0 0
+            (omega arith)) few low refl
             (λ r ne. (not_of e.rank r (w.place c) (hand e c) ne inside shows, ne))
             (queues.cleared key.ranks key.cells w s.words s.homes R.laid e.rank c y few
             (is_out key.ranks e.rank c s.words s.homes (w.place c) (hand e c) inside shows
             (R.laid.cells c few)) (λ q. not_in e.rank q (w.place c) (hand e c) inside shows))
             (boxes.keep_word key.ranks key.cells w s.words s.homes R.boxes (4 * key.ranks + c) 0
             (omega arith)),
-        ap (λ d. (view (plays.with_hand d (Ready (plays.load_in d hs)) e ∷ []), hs)) (sym is),
+        (
+          let rs = k.ranks in let i = 4 * key.ranks + c in
+              let named : i ≡ 4 * e.ranks + (i - 4 * e.ranks) = omega arith in named,
+          ap (λ d. (view (plays.with_hand d (Ready (plays.load_in d hs)) e ∷ []), hs)) (sym is),
+        ),
       )
 
   head_kept : (q : ℕ) (hs : List (ℕ × Load)) → q < 2 * key.ranks → hand e c ≡ Entering q 0
@@ -241,12 +305,15 @@ module _ (key : Sizes) (slots id : ℕ) (e : Entry) (low : e.rank < key.ranks) (
         view (plays.with_hand c Away e ∷ []),
         keeps,
         tt,
-        one_hand key s R id e at low c (queued q) Away (set s.words q (suc c)) s.homes few tt tt
+        one_hand key s R id e at low c (queued q) Away (set s.words q (suc c)) s.homes
+            (λ p _. get_or-set_other s.words q (2 * key.ranks + p) (suc c) 0 (omega arith)) few tt tt
             (λ r ne. (subst (NotOf r) (sym shows) ne, tt))
             (queues.headed key.ranks key.cells w s.words s.homes R.laid e.rank c q fits few shows)
             (boxes.keep_word key.ranks key.cells w s.words s.homes R.boxes q (suc c) (omega arith)),
-        (let is : c ≡ suc c - 1 = omega arith in
-            ap (λ d. (view (plays.with_hand d Away e ∷ []), hs)) is),
+        (let is : c ≡ suc c - 1 = omega arith in (
+          ap (plays.end_word e.ranks) (sym mine) ∙ ap (λ d. plays.end_word e.ranks (hand e d)) is,
+          ap (λ d. (view (plays.with_hand d Away e ∷ []), hs)) is,
+        )),
       )
 
   link_kept : (q p : ℕ) (hs : List (ℕ × Load)) → q < 2 * key.ranks → hand e c ≡ Entering q (suc p)
@@ -259,13 +326,43 @@ module _ (key : Sizes) (slots id : ℕ) (e : Entry) (low : e.rank < key.ranks) (
         keeps,
         tt,
         one_hand key s R id e at low c (queued q) Away (set s.words (4 * key.ranks + p) (suc c)) s.homes
-            few tt tt (λ r ne. (subst (NotOf r) (sym shows) ne, tt))
+            (λ t low. get_or-set_other s.words (4 * key.ranks + p) (2 * key.ranks + t) (suc c) 0
+            (omega arith)) few tt tt (λ r ne. (subst (NotOf r) (sym shows) ne, tt))
             (queues.joined key.ranks key.cells w s.words s.homes R.laid e.rank c p q fits few shows)
             (boxes.keep_word key.ranks key.cells w s.words s.homes R.boxes (4 * key.ranks + p) (suc c)
             (let z = queues.found_low key.ranks key.cells w s.words s.homes R.laid e.rank c p q fits
             shows in omega arith)),
-        (let is : c ≡ suc c - 1 = omega arith in
-            ap (λ d. (view (plays.with_hand d Away e ∷ []), hs)) is),
+        (let is : c ≡ suc c - 1 = omega arith in (
+          ap (λ u. 4 * u + p) (sym k.ranks) ∙ ap (plays.end_word e.ranks) (sym mine)
+              ∙ ap (λ d. plays.end_word e.ranks (hand e d)) is,
+          ap (λ d. (view (plays.with_hand d Away e ∷ []), hs)) is,
+        )),
+      )
+
+  -- a tail that is now a cell of the rank's own hand is no shadow head
+  swap_told : (s : State Load (View Entry)) (R : Rule key s) (q : ℕ) (y : Load) → q < 2 * key.ranks
+      → R.world.place c ≡ ready e.rank y → (r : ℕ) (g : Entry) → r < key.ranks
+      → Agrees key.ranks key.cells R.world r g → LooksHold key.ranks s.words r g
+      → LooksHold key.ranks (set s.words (2 * key.ranks + q) (suc c)) r g
+  swap_told s R q y fits shows r g low' k t = let n = key.ranks in
+      let words' = set s.words (2 * n + q) (suc c) in
+      let one : (p shadow : ℕ) → p < 2 * n → shadow ≡ (R.world.heads p).shadow
+      → (0 < shadow) × (tail n s.words p ≢ shadow) → (0 < shadow) × (tail n words' p ≢ shadow) =
+      λ p shadow few_p is o. (
+        o.0,
+        (λ z. dite (ℕ_discrete p q)
+            (λ u. let long = R.laid.long in let at : 2 * n + p ≡ 2 * n + q = omega arith in
+            let now : tail n words' p ≡ suc c = ap (λ j. slice_index words' j) at
+            ∙ get_or-set_same s.words (2 * n + q) (suc c) 0 (omega arith) in
+            let shade : (R.world.heads p).shadow ≡ suc c = sym is ∙ sym z ∙ now in
+            let there = shadow_in R.world.place p (slice_index s.words p) c (R.world.chain p)
+            (subst (λ j. Begins R.world.place p (slice_index s.words p) j (R.world.chain p)) shade
+            (R.laid.queues p few_p).begins) in let no = sym shows ∙ there in cc)
+            (λ ne. o.1 (sym (get_or-set_other s.words (2 * n + q) (2 * n + p) (suc c) 0 (omega arith))
+            ∙ z))),
+      ) in (
+        (λ l. one r g.receive.shadow (omega arith) (ap (λ x. x.shadow) k.receive) (t.0 l)),
+        (λ l. one (n + r) g.free.shadow (omega arith) (ap (λ x. x.shadow) k.free) (t.1 l)),
       )
 
   swap_kept : (q : ℕ) (y : Load) (hs : List (ℕ × Load)) → q < 2 * key.ranks → hand e c ≡ Ready y
@@ -286,7 +383,7 @@ module _ (key : Sizes) (slots id : ℕ) (e : Entry) (low : e.rank < key.ranks) (
         view (f ∷ []),
         gives,
         tt,
-        ruled key s R id e at low w' f (set s.words (2 * key.ranks + q) (suc c))
+        ruled_by key s R id e at low w' f (set s.words (2 * key.ranks + q) (suc c))
             (set s.homes c (maybe.some y)) (below_put key.ranks w.place c p low R.ranked)
             (queues.swapped key.ranks key.cells w s.words s.homes R.laid e.rank q c y fits few shows
             suits (λ l. (from l).0))
@@ -320,8 +417,14 @@ module _ (key : Sizes) (slots id : ℕ) (e : Entry) (low : e.rank < key.ranks) (
             (λ r g _ ne o. knows_else key.ranks key.cells w w' r g o
             (place_but key.ranks key.cells w r c p (subst (NotOf r) (sym shows) ne) ne) refl
             refl (update_else w.put e.rank (w.put e.rank ++ posted key.ranks q y) r ne) refl
-            refl refl refl (λ _. refl)),
+            refl refl refl (λ _. refl))
+            (swap_told s R q y fits shows e.rank e low k (own_told key s R id e at low))
+            (λ r g few' _ o t. swap_told s R q y fits shows r g few' o t),
         (
+          let rs = k.ranks in let i = 2 * key.ranks + q in
+              let named : i ≡ 2 * e.ranks + (i - 2 * e.ranks) = omega arith in named,
+          let rs = k.ranks in let i = 2 * key.ranks + q in
+              let fits' : (i - 2 * e.ranks) < 2 * e.ranks = omega arith in fits',
           subst (λ u. t ≤ u) (sym k.long)
               (queues.tail_low key.ranks key.cells w s.words s.homes R.laid q fits),
           let is : c ≡ suc c - 1 = omega arith in let rs = k.ranks in

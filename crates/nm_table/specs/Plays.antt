@@ -1,5 +1,5 @@
--- What each kind of step tells the seat that makes it.
-use Rattle.std.specs.Prelude.{map, Option, Some, slice_index, suc, ◌≡◌, ◌≢◌, ℕ, ◌+◌, ◌-◌, ◌*◌, ◌/◌}
+-- What each kind of step tells the seat that makes it. Each names its word first.
+use Rattle.std.specs.Prelude.{map, Option, Some, slice_index, zero, suc, ◌≡◌, ◌≢◌, ℕ, ◌+◌, ◌-◌, ◌*◌, ◌/◌}
 use Rattle.std.specs.Prelude.{Bool, true, false, ◌<◌, ◌≤◌, List, [], ◌∷◌, ◌++◌, length, slice_set}
 use Rattle.std.specs.Prelude.{None, min}
 use native.Mathlib.Decide.{ℕ_discrete, dec_le}
@@ -15,8 +15,11 @@ use Rattle.nm_chain.specs.Chain.{item}
 use Rattle.nm_chain.specs.Sequence.{Each, Got}
 use Rattle.nm_table.specs.Rule.{Load, Suits, no_heads, no_miss, posted, fetched, hand, filling_of}
 use Rattle.nm_table.specs.Rule.{emptying_of, from, number, sender, if_below}
-use Rattle.nm_table.specs.NextBox.{BoxesApart}
-use Rattle.nm_table.specs.Looks.{other}
+use Rattle.nm_table.specs.Rule.{head_word, tail_word, link_word, flag_word}
+use Rattle.nm_table.specs.NextBox.{BoxesApart, next_box}
+use Rattle.nm_table.specs.declared.table.Look.{Look}
+use Rattle.nm_table.specs.declared.table.Look.TheVariants.{Fresh, LinkEmpty, TailElsewhere}
+use Rattle.nm_table.specs.Looks.{no_looks, other, set_look}
 
 abbrev pub Knowing : Type 0
 Knowing = Me Load (View Entry)
@@ -36,6 +39,7 @@ newcomer rank ranks = record {
   got_box = [];
   filling = [];
   emptying = [];
+  looks = no_looks;
   receive_missed = no_miss;
   free_missed = no_miss;
   box_full = [];
@@ -75,27 +79,40 @@ with_put xs e = record e { put = e.put ++ xs }
 
 -- a cell that was loose is in hand, and empty
 abbrev pub picked : Step Load → Knowing → ℕ → Knowing → Type 0
-picked s me found after = let c = s.word - 4 * (mine me).ranks in
-    after ≡ (view (with_hand c Held (mine me) ∷ []), (c, None) ∷ me.1)
+picked s me found after = let n = (mine me).ranks in let c = s.word - 4 * n in
+    (s.word ≡ link_word n c)
+    × (after ≡ (view (with_hand c Held (mine me) ∷ []), (c, None) ∷ me.1))
 
 -- the link of a cell in hand is 0, and the rank knows what the cell holds
 abbrev pub cleared : Step Load → Knowing → ℕ → Knowing → Type 0
-cleared s me found after = let c = s.word - 4 * (mine me).ranks in
-    after ≡ (view (with_hand c (Ready (load_in c me.1)) (mine me) ∷ []), me.1)
+cleared s me found after = let n = (mine me).ranks in let c = s.word - 4 * n in
+    (s.word ≡ link_word n c)
+    × (after ≡ (view (with_hand c (Ready (load_in c me.1)) (mine me) ∷ []), me.1))
 
 -- the cell is at the tail of a queue, where this was found
 abbrev pub swapped : Step Load → Knowing → ℕ → Knowing → Type 0
 swapped s me found after = let n = (mine me).ranks in let q = s.word - 2 * n in
-    (found ≤ length (mine me).hands)
+    (s.word ≡ tail_word n q) × (q < 2 * n) × (found ≤ length (mine me).hands)
     × (after ≡ (
       view (with_put (posted n q (first_load me.1))
           (with_hand (s.first - 1) (Entering q found) (mine me)) ∷ []),
       rest me.1,
     ))
 
+-- the word that ends an enqueue: the head where there was no tail, and else the link of the cell at the tail
+abbrev pub end_word : ℕ → Hand → ℕ
+end_word n Away = 0
+end_word n Loose = 0
+end_word n Held = 0
+end_word n (Ready y) = 0
+end_word n (Entering q zero) = head_word q
+end_word n (Entering q (suc c)) = link_word n c
+
 -- the enqueue is finished
 abbrev pub finished : Step Load → Knowing → ℕ → Knowing → Type 0
-finished s me found after = after ≡ (view (with_hand (s.first - 1) Away (mine me) ∷ []), me.1)
+finished s me found after =
+    (s.word ≡ end_word (mine me).ranks (hand (mine me) (s.first - 1)))
+    × (after ≡ (view (with_hand (s.first - 1) Away (mine me) ∷ []), me.1))
 
 abbrev pub InHand : Hand → Type 0
 InHand Away = ⊥
@@ -117,16 +134,20 @@ abbrev pub with_heads : Bool → Heads → Entry → Entry
 with_heads true x e = record e { receive = x }
 with_heads false x e = record e { free = x }
 
+-- the last step on the queue told this
+abbrev pub with_look : Bool → Look → Entry → Entry
+with_look b l e = record e { looks = set_look b l e.looks }
+
 abbrev pub heads_at : ℕ → ℕ → Heads
 heads_at shadow seen = record { shadow = shadow; seen = seen }
 
 abbrev pub with_got : List Load → Entry → Entry
 with_got ys e = record e { got = e.got ++ ys }
 
--- the cell c, which holds y, is in hand, and the queue's shadow head is this
+-- the cell c, which holds y, is in hand, and the queue's shadow head is this, of which nothing was told
 abbrev pub taken : Bool → ℕ → Load → ℕ → Entry → Entry
 taken b c y shadow e = with_got (fetched e.ranks (queue e.ranks e.rank b) y)
-    (with_hand c Held (with_heads b (heads_at shadow 0) e))
+    (with_hand c Held (with_look b Fresh (with_heads b (heads_at shadow 0) e)))
 
 -- a count goes up by one, and stands still at the last value of its 64 bits
 abbrev pub raised : ℕ → ℕ
@@ -158,9 +179,23 @@ head_miss x = record x { head_empty = raised x.head_empty }
 abbrev pub link_miss : Misses → Misses
 link_miss x = record x { link_missing = raised x.link_missing }
 
+-- the word is the head, the tail, or the link of the first cell, of an own queue
+abbrev pub IsHead : Bool → Entry → ℕ → Type 0
+IsHead b e word = word ≡ head_word (queue e.ranks e.rank b)
+
+abbrev pub IsTail : Bool → Entry → ℕ → Type 0
+IsTail b e word = word ≡ tail_word e.ranks (queue e.ranks e.rank b)
+
+abbrev pub IsFirstLink : Bool → Entry → ℕ → Type 0
+IsFirstLink b e word = word ≡ link_word e.ranks ((heads_of b e).shadow - 1)
+
+-- the word is the flag of the next box for the rank j, or else of the next box of the rank j
+abbrev pub IsFlag : Bool → ℕ → Entry → ℕ → Type 0
+IsFlag b j e word = word ≡ flag_word e.ranks (next_box e b j)
+
 -- the head was loaded, and 0 is a miss
 abbrev pub loaded_head : Bool → Step Load → Knowing → ℕ → Knowing → Type 0
-loaded_head b s me found after = (found ≤ length (mine me).hands)
+loaded_head b s me found after = IsHead b (mine me) s.word × (found ≤ length (mine me).hands)
     × (found ≡ 0 → after ≡ (
       view
           (with_missed b head_miss (with_heads b (heads_at (heads_of b (mine me)).shadow 0) (mine me)) ∷
@@ -175,8 +210,8 @@ loaded_head b s me found after = (found ≤ length (mine me).hands)
 
 -- the head is 0, and what was loaded from it is the shadow head
 abbrev pub cleared_head : Bool → Step Load → Knowing → ℕ → Knowing → Type 0
-cleared_head b s me found after =
-    after ≡ (view (with_heads b (heads_at (heads_of b (mine me)).seen 0) (mine me) ∷ []), me.1)
+cleared_head b s me found after = IsHead b (mine me) s.word
+    × (after ≡ (view (with_heads b (heads_at (heads_of b (mine me)).seen 0) (mine me) ∷ []), me.1))
 
 -- the packet with the number k came from the rank i
 abbrev pub Came : Entry → ℕ → ℕ → Type 0
@@ -204,19 +239,24 @@ pub record Took (b : Bool) (c shadow : ℕ) (me after : Knowing) : Type 0 where
 
 -- the link of the shadow head was loaded: where it leads on, its cell is in hand, and else the entry becomes this
 abbrev pub passed_or : (Entry → Entry) → Bool → Step Load → Knowing → ℕ → Knowing → Type 0
-passed_or f b s me found after = (found ≡ 0 → after ≡ (view (f (mine me) ∷ []), me.1))
+passed_or f b s me found after = IsFirstLink b (mine me) s.word
+    × (found ≡ 0 → after ≡ (view (f (mine me) ∷ []), me.1))
     × (0 < found → Took b (s.word - 4 * (mine me).ranks) found me after)
 
+-- a link that was loaded as 0 is what the step told
 abbrev pub passed : Bool → Step Load → Knowing → ℕ → Knowing → Type 0
-passed b s me found after = passed_or (λ e. e) b s me found after
+passed b s me found after = passed_or (with_look b LinkEmpty) b s me found after
 
 -- the same after the tail was found not to be this cell: 0 is a miss
 abbrev pub reloaded : Bool → Step Load → Knowing → ℕ → Knowing → Type 0
-reloaded b s me found after = passed_or (with_missed b link_miss) b s me found after
+reloaded b s me found after =
+    passed_or (λ e. with_look b LinkEmpty (with_missed b link_miss e)) b s me found after
 
--- the tail was exchanged for 0 where it was the shadow head, whose cell is then in hand
+-- the tail was exchanged for 0 where it was the shadow head, whose cell is then in hand. Else the step told that it is elsewhere
 abbrev pub drained : Bool → Step Load → Knowing → ℕ → Knowing → Type 0
-drained b s me found after = (found ≢ s.first → after ≡ me)
+drained b s me found after = IsTail b (mine me) s.word × (s.first ≡ (heads_of b (mine me)).shadow)
+    × (found ≢ s.first
+    → after ≡ (view (with_look b TailElsewhere (mine me) ∷ []), me.1))
     × (found ≡ s.first → Took b (s.first - 1) 0 me after)
 
 abbrev pub with_filling : ℕ → Bool → Entry → Entry
@@ -260,15 +300,19 @@ abbrev pub opened : Bool → ℕ → List (ℕ × Load) → List (ℕ × Load)
 opened true c hs = hs
 opened false c hs = (c, None) ∷ hs
 
--- the flag of the next box for the rank j was loaded
-abbrev pub looked_out : ℕ → Step Load → Knowing → ℕ → Knowing → Type 0
-looked_out j s me found after =
+-- the box is the rank's to fill where 0 was found in the flag of the next box for the rank j, and else is full
+abbrev pub told_out : ℕ → Step Load → Knowing → ℕ → Knowing → Type 0
+told_out j s me found after =
     (found ≡ 0 → (filling_of (mine after) j ≡ true)
     × (after ≡ (
       view (with_filling j true (mine me) ∷ []),
       opened (filling_of (mine me) j) (s.word - 4 * (mine me).ranks) me.1,
     )) × BoxesApart (mine after))
     × (0 < found → after ≡ (view (with_box_full j (mine me) ∷ []), me.1))
+
+-- the flag of the next box for the rank j was loaded
+abbrev pub looked_out : ℕ → Step Load → Knowing → ℕ → Knowing → Type 0
+looked_out j s me found after = IsFlag true j (mine me) s.word × told_out j s me found after
 
 -- what the rank is taking
 abbrev pub taking : Option Load → Load
@@ -293,25 +337,37 @@ Begun i a c me after = let y = box_load i (mine after) in (emptying_of (mine aft
       begun (emptying_of (mine me) i) c y me.1,
     )) × BoxesApart (mine after) × ((z : Load) → emptying_of (mine me) i ≡ Some z → z ≡ y)
 
--- the flag of the next box of the rank i was loaded, from which the number a is awaited. Where it is overdue it is there
-abbrev pub looked_in : ℕ → ℕ → Step Load → Knowing → ℕ → Knowing → Type 0
-looked_in i a s me found after = (found ≡ suc a → Begun i a (s.word - 4 * (mine me).ranks) me after)
+-- the box is the rank's to empty where the flag of the next box of the rank i had the awaited number a. Where that is overdue it is there
+abbrev pub told_in : ℕ → ℕ → Step Load → Knowing → ℕ → Knowing → Type 0
+told_in i a s me found after = (found ≡ suc a → Begun i a (s.word - 4 * (mine me).ranks) me after)
     × (found ≢ suc a → after ≡ (view (with_box_miss i (mine me) ∷ []), me.1))
     × (Overdue (mine me) i a → found ≡ suc a)
 
--- the box for the rank j is full
-abbrev pub boxed : ℕ → Step Load → Knowing → ℕ → Knowing → Type 0
-boxed j s me found after =
+-- the flag of the next box of the rank i was loaded, from which the number a is awaited
+abbrev pub looked_in : ℕ → ℕ → Step Load → Knowing → ℕ → Knowing → Type 0
+looked_in i a s me found after = IsFlag false i (mine me) s.word × told_in i a s me found after
+
+-- the packet in hand is put for the rank j
+abbrev pub put_boxed : ℕ → Knowing → Knowing → Type 0
+put_boxed j me after =
     after ≡ (
       view (with_put_box ((j, first_load me.1) ∷ []) (with_filling j false (mine me)) ∷ []),
       rest me.1,
     )
 
--- the box of the rank i is empty, and its packet is new
-abbrev pub unboxed : ℕ → Step Load → Knowing → ℕ → Knowing → Type 0
-unboxed i s me found after =
+-- the box for the rank j is full
+abbrev pub boxed : ℕ → Step Load → Knowing → ℕ → Knowing → Type 0
+boxed j s me found after = IsFlag true j (mine me) s.word × put_boxed j me after
+
+-- the packet of the rank i is got, and is new
+abbrev pub got_boxed : ℕ → Knowing → Knowing → Type 0
+got_boxed i me after =
     (after ≡ (
       view (with_got_box (box_load i (mine me) ∷ []) (with_emptying i None (mine me)) ∷ []),
       rest me.1,
     ))
     × ¬ Came (mine me) i (number (box_load i (mine me)))
+
+-- the box of the rank i is empty
+abbrev pub unboxed : ℕ → Step Load → Knowing → ℕ → Knowing → Type 0
+unboxed i s me found after = IsFlag false i (mine me) s.word × got_boxed i me after

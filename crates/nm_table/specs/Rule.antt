@@ -1,5 +1,5 @@
 -- The rule of the fabric.
--- Of n ranks, the receive queue of the rank r is the queue r, and its free queue is the queue n + r. The words are the heads of all queues, their tails, and the links of all cells.
+-- Of n ranks, the receive queue of the rank r is the queue r, and its free queue is the queue n + r. The words are the heads of all queues, their tails, the links of all cells, and the flags of all boxes.
 use Rattle.std.specs.Prelude.{Bool, false, map, ◌≡◌, ◌≢◌, ℕ, zero, suc, ◌+◌, ◌*◌, ◌/◌}
 use Rattle.std.specs.Prelude.{◌<◌, ◌≤◌, List, [], ◌∷◌, ◌++◌, length, slice_index, slice_index_or}
 use Rattle.std.specs.Prelude.{Option, Some, None, replicate}
@@ -19,6 +19,7 @@ use Rattle.nm_table.specs.declared.table.Hand.TheVariants.{Away, Loose, Held, Re
 use Rattle.nm_table.specs.declared.table.Heads.{Heads}
 use Rattle.nm_table.specs.declared.table.Misses.{Misses}
 use Rattle.nm_table.specs.declared.table.Entry.{Entry}
+use Rattle.nm_table.specs.Looks.{StillTold, no_looks}
 
 abbrev pub Load : Type 0
 Load = Option Packet
@@ -153,15 +154,32 @@ abbrev pub loads : Chain → List Load
 loads [] = []
 loads (x ∷ xs) = x.load ∷ loads xs
 
+-- the word of the head of the queue q
+abbrev pub head_word : ℕ → ℕ
+head_word q = q
+
+-- of n ranks, the word of the tail of the queue q
+abbrev pub tail_word : ℕ → ℕ → ℕ
+tail_word n q = 2 * n + q
+
+-- of n ranks, the word of the link of the cell c
+abbrev pub link_word : ℕ → ℕ → ℕ
+link_word n c = 4 * n + c
+
+-- of n ranks, the word of the flag of the box whose slot is c
+abbrev pub flag_word : ℕ → ℕ → ℕ
+flag_word n c = 4 * n + c
+
 module _ (n : ℕ) (words : List ℕ) where
+  -- what these words have
   abbrev pub head : ℕ → ℕ
-  head q = slice_index words q
+  head q = slice_index words (head_word q)
 
   abbrev pub tail : ℕ → ℕ
-  tail q = slice_index words (2 * n + q)
+  tail q = slice_index words (tail_word n q)
 
   abbrev pub link : ℕ → ℕ
-  link c = slice_index words (4 * n + c)
+  link c = slice_index words (link_word n c)
 
 abbrev pub HasHome : List (maybe.Option Load) → ℕ → Load → Type 0
 HasHome homes c y = get_elem? homes c ≡ maybe.some (maybe.some y)
@@ -201,7 +219,7 @@ pub record QueuesHold (n each : ℕ) (w : World) (words : List ℕ)
   pub paths : (i j : ℕ) → i < n → j < n → put_to j (w.put i) ≡ from i (w.got j) ++ from i
       (loads (w.chain j))
 
--- the slot of the box k, of the four from the rank i to the rank j. Its flag is the word 4 * n further on
+-- the slot of the box k, of the four from the rank i to the rank j
 abbrev pub box_slot : ℕ → ℕ → ℕ → ℕ → ℕ → ℕ
 box_slot n each i j k = n * each + (4 * (i * n + j) + k)
 
@@ -209,7 +227,7 @@ box_slot n each i j k = n * each + (4 * (i * n + j) + k)
 abbrev pub BoxesHold : ℕ → ℕ → World → List ℕ → List (maybe.Option Load) → Type 0
 BoxesHold n each w words homes = (i j : ℕ) → i < n → j < n
     → Window 4 None mark (λ y. sender y ≡ suc i)
-    (λ k. slice_index words (4 * n + box_slot n each i j k))
+    (λ k. slice_index words (flag_word n (box_slot n each i j k)))
     (λ k. get_elem? homes (box_slot n each i j k))
     (w.filling i j) (w.emptying i j) (put_to j (w.put_box i)) (from i (w.got_box j)) (w.waits i j)
 
@@ -218,6 +236,11 @@ abbrev pub AllInSequence : ℕ → World → Type 0
 AllInSequence n w = (i j : ℕ) → i < n → j < n → InSequence (sent_to j (w.put_box i) (w.put i))
     (map number (from i (w.got_box j))) (map number (w.waits i j))
     (map number (from i (w.got j))) (map number (from i (loads (w.chain j))))
+
+-- what the last steps of the rank r on its queues told of the tails is still so
+abbrev pub LooksHold : ℕ → List ℕ → ℕ → Entry → Type 0
+LooksHold n words r e = StillTold e.looks.receive e.receive.shadow (tail n words r)
+    × StillTold e.looks.free e.free.shadow (tail n words (n + r))
 
 pub record Rule (key : Sizes) (s : State Load (View Entry)) : Type 0 where
   pub ledger : ℕ → Entry
@@ -228,6 +251,7 @@ pub record Rule (key : Sizes) (s : State Load (View Entry)) : Type 0 where
   pub laid : QueuesHold key.ranks key.cells world s.words s.homes
   pub boxes : BoxesHold key.ranks key.cells world s.words s.homes
   pub turns : AllInSequence key.ranks world
+  pub told : (r : ℕ) → r < key.ranks → LooksHold key.ranks s.words r (ledger r)
 
 -- a rank of n that has no part in any cell, and of which nothing came and to which nothing went
 abbrev pub newcomer : ℕ → ℕ → ℕ → Entry
@@ -244,6 +268,7 @@ newcomer n each r = record {
   got_box = [];
   filling = replicate n false;
   emptying = replicate n None;
+  looks = no_looks;
   receive_missed = no_miss;
   free_missed = no_miss;
   box_full = replicate n 0;

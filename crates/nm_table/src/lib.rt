@@ -6,16 +6,23 @@
 //!
 //! # What a contract sees
 //! `Entry` is what one rank knows, of which no value is made. `Rule` is what holds of the words, the
-//! slots and all entries between any two steps of any ranks. For each kind of step there is a play: what
-//! it tells the seat that makes it (`Plays`).
+//! slots and all entries between any two steps of any ranks. For each kind of step (`kinds`) there is a
+//! play: which word it is on, and what it tells the seat that makes it (`Plays`). The layout of the words
+//! is `head_word`, `tail_word`, `link_word` and `flag_word`.
 //!
 //! # What is proved
 //! - The rule holds at the start (`Linked`), and each play keeps it, as the callers of the table show by
 //!   the lemmas of this crate.
-//! - What the last steps on an own queue told is kept by queue (`Looks`), and a count of misses goes up
-//!   by one, and stands still at its last value (`Misses`, `one_more`).
+//! - What the last steps on an own queue told is kept by queue (`Looks`), and stays so whatever the other
+//!   ranks do where the tail was found elsewhere (`Rule.told`).
+//! - A count of misses goes up by one, and stands still at its last value (`Misses`, `one_more`).
 #![tactic(auto)]
 
+mod kinds;
 mod table;
 
+pub use kinds::{
+    Clears, ClearsHead, Drains, Fills, Finishes, LoadsHead, LooksIn, LooksOut, Passes, Picks,
+    Reloads, Swaps, Told, Vacates,
+};
 pub use table::{Board, Entry, Hand, Heads, Linked, Look, Looks, Misses, Place, one_more};

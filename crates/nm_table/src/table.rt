@@ -1,9 +1,8 @@
 //! The table, and what a seat knows.
 
 ghost use Rattle.std.specs.Prelude.{◌≡◌};
-ghost use Rattle.nm_table.specs.Looks.{look_in, other};
+ghost use Rattle.nm_table.specs.Looks.{look_in, no_looks, other, set_look};
 ghost use Rattle.nm_table.specs.Plays.{raised, head_miss, link_miss};
-ghost use Rattle.nm_table.specs.declared.table.Look.TheVariants.{Fresh};
 
 use atomic_table::{Seat, Table, TableRule};
 use nm_seats::View;
@@ -53,7 +52,7 @@ pub struct Looks {
 impl Looks {
     /// No step was made.
     pub fn new() -> Looks
-        ensures { (result.receive ≡ Fresh) × (result.free ≡ Fresh) }
+        ensures { result ≡ no_looks }
     {
         Looks {
             receive: Look::Fresh,
@@ -63,6 +62,7 @@ impl Looks {
 
     /// The last step on the receive queue, or else on the free queue, told this.
     pub fn set<const B: bool>(&mut self, look: Look)
+        ensures all { self.new ≡ set_look B look self.old }
         ensures told { look_in B self.new ≡ look }
         ensures others { look_in (other B) self.new ≡ look_in (other B) self.old }
     {
@@ -140,6 +140,8 @@ pub struct Entry {
     pub filling: LinkedList<bool>,
     /// For each rank, what was found in its next box and is not taken since.
     pub emptying: LinkedList<Option<Option<Packet>>>,
+    /// What its last step on each of its queues told of the first cell.
+    pub looks: Looks,
     pub receive_missed: Misses,
     pub free_missed: Misses,
     /// For each rank, how often its next box was found full.

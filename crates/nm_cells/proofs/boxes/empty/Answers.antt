@@ -147,9 +147,8 @@ invariant_of-port-clause-carries g c =
     let was = ap (λ u. emptying_of (sole u.entries) j) v ∙ k.0 in
     let next : number y ≡ taken_by q j = k.1 ∙ ap (λ ps. (peer_in ps.items j).taken) (sym b.same.1)
     in let slot = c.box_at-slot.result in let w = plays.load_in slot p.seat.me.1 in
-    let then = subst (λ t. plays.unboxed t (step f.board.shared.table_id.slots
-    (4 * f.ranks + slot) 0 0 maybe.none) c.exchange-old.new.seat.me 0 c.store.new.seat.me)
-    (sym c.requires.told) c.store.ensures.2 in
+    let then = subst (λ t. plays.got_boxed t c.exchange-old.new.seat.me c.store.new.seat.me)
+    (sym c.requires.told) c.store.ensures.2.1 in
     let load : plays.box_load j (mine c.exchange-old.new.seat.me) ≡ y =
     ap (λ m. plays.box_load j (mine m)) c.exchange-old.ensures.3
     ∙ ap (λ u. plays.box_load j (sole u.entries)) v in
@@ -181,9 +180,8 @@ invariant_of-port-clause-boxes g c =
     let was = ap (λ u. emptying_of (sole u.entries) j) v ∙ k.0 in
     let next : number y ≡ taken_by q j = k.1 ∙ ap (λ ps. (peer_in ps.items j).taken) (sym b.same.1)
     in let slot = c.box_at-slot.result in let w = plays.load_in slot p.seat.me.1 in
-    let then = subst (λ t. plays.unboxed t (step f.board.shared.table_id.slots
-    (4 * f.ranks + slot) 0 0 maybe.none) c.exchange-old.new.seat.me 0 c.store.new.seat.me)
-    (sym c.requires.told) c.store.ensures.2 in
+    let then = subst (λ t. plays.got_boxed t c.exchange-old.new.seat.me c.store.new.seat.me)
+    (sym c.requires.told) c.store.ensures.2.1 in
     let load : plays.box_load j (mine c.exchange-old.new.seat.me) ≡ y =
     ap (λ m. plays.box_load j (mine m)) c.exchange-old.ensures.3
     ∙ ap (λ u. plays.box_load j (sole u.entries)) v in
@@ -212,9 +210,8 @@ invariant_of-port-clause-counts g c =
     let was = ap (λ u. emptying_of (sole u.entries) j) v ∙ k.0 in
     let next : number y ≡ taken_by q j = k.1 ∙ ap (λ ps. (peer_in ps.items j).taken) (sym b.same.1)
     in let slot = c.box_at-slot.result in let w = plays.load_in slot p.seat.me.1 in
-    let then = subst (λ t. plays.unboxed t (step f.board.shared.table_id.slots
-    (4 * f.ranks + slot) 0 0 maybe.none) c.exchange-old.new.seat.me 0 c.store.new.seat.me)
-    (sym c.requires.told) c.store.ensures.2 in
+    let then = subst (λ t. plays.got_boxed t c.exchange-old.new.seat.me c.store.new.seat.me)
+    (sym c.requires.told) c.store.ensures.2.1 in
     let load : plays.box_load j (mine c.exchange-old.new.seat.me) ≡ y =
     ap (λ m. plays.box_load j (mine m)) c.exchange-old.ensures.3
     ∙ ap (λ u. plays.box_load j (sole u.entries)) v in
@@ -243,9 +240,8 @@ returns-clause-owns g c =
     let was = ap (λ u. emptying_of (sole u.entries) j) v ∙ k.0 in
     let next : number y ≡ taken_by q j = k.1 ∙ ap (λ ps. (peer_in ps.items j).taken) (sym b.same.1)
     in let slot = c.box_at-slot.result in let w = plays.load_in slot p.seat.me.1 in
-    let then = subst (λ t. plays.unboxed t (step f.board.shared.table_id.slots
-    (4 * f.ranks + slot) 0 0 maybe.none) c.exchange-old.new.seat.me 0 c.store.new.seat.me)
-    (sym c.requires.told) c.store.ensures.2 in
+    let then = subst (λ t. plays.got_boxed t c.exchange-old.new.seat.me c.store.new.seat.me)
+    (sym c.requires.told) c.store.ensures.2.1 in
     let load : plays.box_load j (mine c.exchange-old.new.seat.me) ≡ y =
     ap (λ m. plays.box_load j (mine m)) c.exchange-old.ensures.3
     ∙ ap (λ u. plays.box_load j (sole u.entries)) v in
@@ -295,9 +291,8 @@ returns-clause-got g c =
     let was = ap (λ u. emptying_of (sole u.entries) j) v ∙ k.0 in
     let next : number y ≡ taken_by q j = k.1 ∙ ap (λ ps. (peer_in ps.items j).taken) (sym b.same.1)
     in let slot = c.box_at-slot.result in let w = plays.load_in slot p.seat.me.1 in
-    let then = subst (λ t. plays.unboxed t (step f.board.shared.table_id.slots
-    (4 * f.ranks + slot) 0 0 maybe.none) c.exchange-old.new.seat.me 0 c.store.new.seat.me)
-    (sym c.requires.told) c.store.ensures.2 in
+    let then = subst (λ t. plays.got_boxed t c.exchange-old.new.seat.me c.store.new.seat.me)
+    (sym c.requires.told) c.store.ensures.2.1 in
     let load : plays.box_load j (mine c.exchange-old.new.seat.me) ≡ y =
     ap (λ m. plays.box_load j (mine m)) c.exchange-old.ensures.3
     ∙ ap (λ u. plays.box_load j (sole u.entries)) v in
@@ -369,9 +364,8 @@ returns-clause-holding g c =
     let was = ap (λ u. emptying_of (sole u.entries) j) v ∙ k.0 in
     let next : number y ≡ taken_by q j = k.1 ∙ ap (λ ps. (peer_in ps.items j).taken) (sym b.same.1)
     in let slot = c.box_at-slot.result in let w = plays.load_in slot p.seat.me.1 in
-    let then = subst (λ t. plays.unboxed t (step f.board.shared.table_id.slots
-    (4 * f.ranks + slot) 0 0 maybe.none) c.exchange-old.new.seat.me 0 c.store.new.seat.me)
-    (sym c.requires.told) c.store.ensures.2 in
+    let then = subst (λ t. plays.got_boxed t c.exchange-old.new.seat.me c.store.new.seat.me)
+    (sym c.requires.told) c.store.ensures.2.1 in
     let load : plays.box_load j (mine c.exchange-old.new.seat.me) ≡ y =
     ap (λ m. plays.box_load j (mine m)) c.exchange-old.ensures.3
     ∙ ap (λ u. plays.box_load j (sole u.entries)) v in
@@ -400,9 +394,8 @@ invariant_of-port-clause-kept g c =
     let was = ap (λ u. emptying_of (sole u.entries) j) v ∙ k.0 in
     let next : number y ≡ taken_by q j = k.1 ∙ ap (λ ps. (peer_in ps.items j).taken) (sym b.same.1)
     in let slot = c.box_at-slot.result in let w = plays.load_in slot p.seat.me.1 in
-    let then = subst (λ t. plays.unboxed t (step f.board.shared.table_id.slots
-    (4 * f.ranks + slot) 0 0 maybe.none) c.exchange-old.new.seat.me 0 c.store.new.seat.me)
-    (sym c.requires.told) c.store.ensures.2 in
+    let then = subst (λ t. plays.got_boxed t c.exchange-old.new.seat.me c.store.new.seat.me)
+    (sym c.requires.told) c.store.ensures.2.1 in
     let load : plays.box_load j (mine c.exchange-old.new.seat.me) ≡ y =
     ap (λ m. plays.box_load j (mine m)) c.exchange-old.ensures.3
     ∙ ap (λ u. plays.box_load j (sole u.entries)) v in

@@ -151,8 +151,7 @@ invariant_of-port-clause-carries g c =
     let was = ap (λ u. filling_of (sole u.entries) j) v ∙ c.requires.free in
     let slot = c.box_at-slot.result in let w = plays.load_in slot p.seat.me.1 in
     let y : Load = Some c.args.packet in
-    let is = subst (λ t. plays.boxed t (step f.board.shared.table_id.slots (4 * f.ranks + slot)
-    (c.args.packet.seq + 1) 0 maybe.none) c.exchange-old.new.seat.me 0 c.store.new.seat.me) (sym c.requires.told) c.store.ensures.2 ∙ ap (λ m. (
+    let is = subst (λ t. plays.put_boxed t c.exchange-old.new.seat.me c.store.new.seat.me) (sym c.requires.told) c.store.ensures.2.1 ∙ ap (λ m. (
       view (plays.with_put_box ((j, plays.first_load m.1) ∷ [])
           (plays.with_filling j false (mine m)) ∷ []),
       rest m.1,
@@ -178,8 +177,7 @@ invariant_of-port-clause-boxes g c =
     let was = ap (λ u. filling_of (sole u.entries) j) v ∙ c.requires.free in
     let slot = c.box_at-slot.result in let w = plays.load_in slot p.seat.me.1 in
     let y : Load = Some c.args.packet in
-    let is = subst (λ t. plays.boxed t (step f.board.shared.table_id.slots (4 * f.ranks + slot)
-    (c.args.packet.seq + 1) 0 maybe.none) c.exchange-old.new.seat.me 0 c.store.new.seat.me) (sym c.requires.told) c.store.ensures.2 ∙ ap (λ m. (
+    let is = subst (λ t. plays.put_boxed t c.exchange-old.new.seat.me c.store.new.seat.me) (sym c.requires.told) c.store.ensures.2.1 ∙ ap (λ m. (
       view (plays.with_put_box ((j, plays.first_load m.1) ∷ [])
           (plays.with_filling j false (mine m)) ∷ []),
       rest m.1,
@@ -202,8 +200,7 @@ invariant_of-port-clause-counts g c =
     let was = ap (λ u. filling_of (sole u.entries) j) v ∙ c.requires.free in
     let slot = c.box_at-slot.result in let w = plays.load_in slot p.seat.me.1 in
     let y : Load = Some c.args.packet in
-    let is = subst (λ t. plays.boxed t (step f.board.shared.table_id.slots (4 * f.ranks + slot)
-    (c.args.packet.seq + 1) 0 maybe.none) c.exchange-old.new.seat.me 0 c.store.new.seat.me) (sym c.requires.told) c.store.ensures.2 ∙ ap (λ m. (
+    let is = subst (λ t. plays.put_boxed t c.exchange-old.new.seat.me c.store.new.seat.me) (sym c.requires.told) c.store.ensures.2.1 ∙ ap (λ m. (
       view (plays.with_put_box ((j, plays.first_load m.1) ∷ [])
           (plays.with_filling j false (mine m)) ∷ []),
       rest m.1,
@@ -226,8 +223,7 @@ returns-clause-stays g c =
     let was = ap (λ u. filling_of (sole u.entries) j) v ∙ c.requires.free in
     let slot = c.box_at-slot.result in let w = plays.load_in slot p.seat.me.1 in
     let y : Load = Some c.args.packet in
-    let is = subst (λ t. plays.boxed t (step f.board.shared.table_id.slots (4 * f.ranks + slot)
-    (c.args.packet.seq + 1) 0 maybe.none) c.exchange-old.new.seat.me 0 c.store.new.seat.me) (sym c.requires.told) c.store.ensures.2 ∙ ap (λ m. (
+    let is = subst (λ t. plays.put_boxed t c.exchange-old.new.seat.me c.store.new.seat.me) (sym c.requires.told) c.store.ensures.2.1 ∙ ap (λ m. (
       view (plays.with_put_box ((j, plays.first_load m.1) ∷ [])
           (plays.with_filling j false (mine m)) ∷ []),
       rest m.1,
@@ -267,8 +263,7 @@ returns-clause-holding g c =
     let was = ap (λ u. filling_of (sole u.entries) j) v ∙ c.requires.free in
     let slot = c.box_at-slot.result in let w = plays.load_in slot p.seat.me.1 in
     let y : Load = Some c.args.packet in
-    let is = subst (λ t. plays.boxed t (step f.board.shared.table_id.slots (4 * f.ranks + slot)
-    (c.args.packet.seq + 1) 0 maybe.none) c.exchange-old.new.seat.me 0 c.store.new.seat.me) (sym c.requires.told) c.store.ensures.2 ∙ ap (λ m. (
+    let is = subst (λ t. plays.put_boxed t c.exchange-old.new.seat.me c.store.new.seat.me) (sym c.requires.told) c.store.ensures.2.1 ∙ ap (λ m. (
       view (plays.with_put_box ((j, plays.first_load m.1) ∷ [])
           (plays.with_filling j false (mine m)) ∷ []),
       rest m.1,
@@ -291,8 +286,7 @@ invariant_of-port-clause-kept g c =
     let was = ap (λ u. filling_of (sole u.entries) j) v ∙ c.requires.free in
     let slot = c.box_at-slot.result in let w = plays.load_in slot p.seat.me.1 in
     let y : Load = Some c.args.packet in
-    let is = subst (λ t. plays.boxed t (step f.board.shared.table_id.slots (4 * f.ranks + slot)
-    (c.args.packet.seq + 1) 0 maybe.none) c.exchange-old.new.seat.me 0 c.store.new.seat.me) (sym c.requires.told) c.store.ensures.2 ∙ ap (λ m. (
+    let is = subst (λ t. plays.put_boxed t c.exchange-old.new.seat.me c.store.new.seat.me) (sym c.requires.told) c.store.ensures.2.1 ∙ ap (λ m. (
       view (plays.with_put_box ((j, plays.first_load m.1) ∷ [])
           (plays.with_filling j false (mine m)) ∷ []),
       rest m.1,

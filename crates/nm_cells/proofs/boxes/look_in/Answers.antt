@@ -52,12 +52,12 @@ pub invariant_of-port-clause-carries : goal.invariant_of-port-clause-carries
 invariant_of-port-clause-carries g c =
     let f = c.args.f.now in let p = c.args.port.now in let o = c.requires.owns in
     let few = c.requires.peer in let j = c.args.sender in let t = c.requires.told in
-    let then = subst (λ k. plays.looked_in k (taken_by p j) (step f.board.shared.table_id.slots
+    let then = subst (λ k. plays.told_in k (taken_by p j) (step f.board.shared.table_id.slots
     (4 * f.ranks + c.box_at-slot.result) 0 0 maybe.none) p.seat.me c.load-found.result
     c.load-found.new.seat.me) (sym t.0)
-    (subst (λ a. plays.looked_in g.T.Told.peer a (step f.board.shared.table_id.slots
+    (subst (λ a. plays.told_in g.T.Told.peer a (step f.board.shared.table_id.slots
     (4 * f.ranks + c.box_at-slot.result) 0 0 maybe.none) p.seat.me c.load-found.result
-    c.load-found.new.seat.me) (sym t.1) c.load-found.ensures.2) in
+    c.load-found.new.seat.me) (sym t.1) c.load-found.ensures.2.1) in
     let same = ap (λ (u : Peer). u.taken) c.peer-peer.ensures in
     let other = c.if-found-peer.true in
     let is = then.1 (λ hit. other (let z : c.load-found.result ≡ c.peer-peer.result.taken + 1 =
@@ -68,12 +68,12 @@ pub invariant_of-port-clause-boxes : goal.invariant_of-port-clause-boxes
 invariant_of-port-clause-boxes g c =
     let f = c.args.f.now in let p = c.args.port.now in let o = c.requires.owns in
     let few = c.requires.peer in let j = c.args.sender in let t = c.requires.told in
-    let then = subst (λ k. plays.looked_in k (taken_by p j) (step f.board.shared.table_id.slots
+    let then = subst (λ k. plays.told_in k (taken_by p j) (step f.board.shared.table_id.slots
     (4 * f.ranks + c.box_at-slot.result) 0 0 maybe.none) p.seat.me c.load-found.result
     c.load-found.new.seat.me) (sym t.0)
-    (subst (λ a. plays.looked_in g.T.Told.peer a (step f.board.shared.table_id.slots
+    (subst (λ a. plays.told_in g.T.Told.peer a (step f.board.shared.table_id.slots
     (4 * f.ranks + c.box_at-slot.result) 0 0 maybe.none) p.seat.me c.load-found.result
-    c.load-found.new.seat.me) (sym t.1) c.load-found.ensures.2) in
+    c.load-found.new.seat.me) (sym t.1) c.load-found.ensures.2.1) in
     let same = ap (λ (u : Peer). u.taken) c.peer-peer.ensures in
     let other = c.if-found-peer.true in
     let is = then.1 (λ hit. other (let z : c.load-found.result ≡ c.peer-peer.result.taken + 1 =
@@ -84,12 +84,12 @@ pub invariant_of-port-clause-counts : goal.invariant_of-port-clause-counts
 invariant_of-port-clause-counts g c =
     let f = c.args.f.now in let p = c.args.port.now in let o = c.requires.owns in
     let few = c.requires.peer in let j = c.args.sender in let t = c.requires.told in
-    let then = subst (λ k. plays.looked_in k (taken_by p j) (step f.board.shared.table_id.slots
+    let then = subst (λ k. plays.told_in k (taken_by p j) (step f.board.shared.table_id.slots
     (4 * f.ranks + c.box_at-slot.result) 0 0 maybe.none) p.seat.me c.load-found.result
     c.load-found.new.seat.me) (sym t.0)
-    (subst (λ a. plays.looked_in g.T.Told.peer a (step f.board.shared.table_id.slots
+    (subst (λ a. plays.told_in g.T.Told.peer a (step f.board.shared.table_id.slots
     (4 * f.ranks + c.box_at-slot.result) 0 0 maybe.none) p.seat.me c.load-found.result
-    c.load-found.new.seat.me) (sym t.1) c.load-found.ensures.2) in
+    c.load-found.new.seat.me) (sym t.1) c.load-found.ensures.2.1) in
     let same = ap (λ (u : Peer). u.taken) c.peer-peer.ensures in
     let other = c.if-found-peer.true in
     let is = then.1 (λ hit. other (let z : c.load-found.result ≡ c.peer-peer.result.taken + 1 =
@@ -101,12 +101,12 @@ pub returns-then-found-peer-clause-stays : goal.returns-then-found-peer-clause-s
 returns-then-found-peer-clause-stays g c =
     let f = c.args.f.now in let p = c.args.port.now in let o = c.requires.owns in
     let few = c.requires.peer in let j = c.args.sender in let t = c.requires.told in
-    let then = subst (λ k. plays.looked_in k (taken_by p j) (step f.board.shared.table_id.slots
+    let then = subst (λ k. plays.told_in k (taken_by p j) (step f.board.shared.table_id.slots
     (4 * f.ranks + c.box_at-slot.result) 0 0 maybe.none) p.seat.me c.load-found.result
     c.load-found.new.seat.me) (sym t.0)
-    (subst (λ a. plays.looked_in g.T.Told.peer a (step f.board.shared.table_id.slots
+    (subst (λ a. plays.told_in g.T.Told.peer a (step f.board.shared.table_id.slots
     (4 * f.ranks + c.box_at-slot.result) 0 0 maybe.none) p.seat.me c.load-found.result
-    c.load-found.new.seat.me) (sym t.1) c.load-found.ensures.2) in
+    c.load-found.new.seat.me) (sym t.1) c.load-found.ensures.2.1) in
     let same = ap (λ (u : Peer). u.taken) c.peer-peer.ensures in
     let other = c.if-found-peer.true in
     let is = then.1 (λ hit. other (let z : c.load-found.result ≡ c.peer-peer.result.taken + 1 =
@@ -132,12 +132,12 @@ pub returns-then-found-peer-clause-overtaken : goal.returns-then-found-peer-clau
 returns-then-found-peer-clause-overtaken g c over =
     let f = c.args.f.now in let p = c.args.port.now in let o = c.requires.owns in
     let few = c.requires.peer in let j = c.args.sender in let t = c.requires.told in
-    let then = subst (λ k. plays.looked_in k (taken_by p j) (step f.board.shared.table_id.slots
+    let then = subst (λ k. plays.told_in k (taken_by p j) (step f.board.shared.table_id.slots
     (4 * f.ranks + c.box_at-slot.result) 0 0 maybe.none) p.seat.me c.load-found.result
     c.load-found.new.seat.me) (sym t.0)
-    (subst (λ a. plays.looked_in g.T.Told.peer a (step f.board.shared.table_id.slots
+    (subst (λ a. plays.told_in g.T.Told.peer a (step f.board.shared.table_id.slots
     (4 * f.ranks + c.box_at-slot.result) 0 0 maybe.none) p.seat.me c.load-found.result
-    c.load-found.new.seat.me) (sym t.1) c.load-found.ensures.2) in
+    c.load-found.new.seat.me) (sym t.1) c.load-found.ensures.2.1) in
     let same = ap (λ (u : Peer). u.taken) c.peer-peer.ensures in
     let other = c.if-found-peer.true in
     let hit = calls.when_overtaken f p o j few c.load-found.result then.2 over in
@@ -147,12 +147,12 @@ pub take_box-requires : goal.take_box-requires
 take_box-requires g c =
     let f = c.args.f.now in let p = c.args.port.now in let o = c.requires.owns in
     let few = c.requires.peer in let j = c.args.sender in let t = c.requires.told in
-    let then = subst (λ k. plays.looked_in k (taken_by p j) (step f.board.shared.table_id.slots
+    let then = subst (λ k. plays.told_in k (taken_by p j) (step f.board.shared.table_id.slots
     (4 * f.ranks + c.box_at-slot.result) 0 0 maybe.none) p.seat.me c.load-found.result
     c.load-found.new.seat.me) (sym t.0)
-    (subst (λ a. plays.looked_in g.T.Told.peer a (step f.board.shared.table_id.slots
+    (subst (λ a. plays.told_in g.T.Told.peer a (step f.board.shared.table_id.slots
     (4 * f.ranks + c.box_at-slot.result) 0 0 maybe.none) p.seat.me c.load-found.result
-    c.load-found.new.seat.me) (sym t.1) c.load-found.ensures.2) in
+    c.load-found.new.seat.me) (sym t.1) c.load-found.ensures.2.1) in
     let same = ap (λ (u : Peer). u.taken) c.peer-peer.ensures in
     let found = c.if-found-peer.false in
     let rs = o.2 in let word : ℕ = 4 * f.ranks + c.box_at-slot.result in
@@ -179,12 +179,12 @@ pub invariant_of-port-2-clause-carries : goal.invariant_of-port-2-clause-carries
 invariant_of-port-2-clause-carries g c =
     let f = c.args.f.now in let p = c.args.port.now in let o = c.requires.owns in
     let few = c.requires.peer in let j = c.args.sender in let t = c.requires.told in
-    let then = subst (λ k. plays.looked_in k (taken_by p j) (step f.board.shared.table_id.slots
+    let then = subst (λ k. plays.told_in k (taken_by p j) (step f.board.shared.table_id.slots
     (4 * f.ranks + c.box_at-slot.result) 0 0 maybe.none) p.seat.me c.load-found.result
     c.load-found.new.seat.me) (sym t.0)
-    (subst (λ a. plays.looked_in g.T.Told.peer a (step f.board.shared.table_id.slots
+    (subst (λ a. plays.told_in g.T.Told.peer a (step f.board.shared.table_id.slots
     (4 * f.ranks + c.box_at-slot.result) 0 0 maybe.none) p.seat.me c.load-found.result
-    c.load-found.new.seat.me) (sym t.1) c.load-found.ensures.2) in
+    c.load-found.new.seat.me) (sym t.1) c.load-found.ensures.2.1) in
     let same = ap (λ (u : Peer). u.taken) c.peer-peer.ensures in
     let found = c.if-found-peer.false in
     let rs = o.2 in let word : ℕ = 4 * f.ranks + c.box_at-slot.result in
@@ -205,12 +205,12 @@ pub invariant_of-port-2-clause-boxes : goal.invariant_of-port-2-clause-boxes
 invariant_of-port-2-clause-boxes g c =
     let f = c.args.f.now in let p = c.args.port.now in let o = c.requires.owns in
     let few = c.requires.peer in let j = c.args.sender in let t = c.requires.told in
-    let then = subst (λ k. plays.looked_in k (taken_by p j) (step f.board.shared.table_id.slots
+    let then = subst (λ k. plays.told_in k (taken_by p j) (step f.board.shared.table_id.slots
     (4 * f.ranks + c.box_at-slot.result) 0 0 maybe.none) p.seat.me c.load-found.result
     c.load-found.new.seat.me) (sym t.0)
-    (subst (λ a. plays.looked_in g.T.Told.peer a (step f.board.shared.table_id.slots
+    (subst (λ a. plays.told_in g.T.Told.peer a (step f.board.shared.table_id.slots
     (4 * f.ranks + c.box_at-slot.result) 0 0 maybe.none) p.seat.me c.load-found.result
-    c.load-found.new.seat.me) (sym t.1) c.load-found.ensures.2) in
+    c.load-found.new.seat.me) (sym t.1) c.load-found.ensures.2.1) in
     let same = ap (λ (u : Peer). u.taken) c.peer-peer.ensures in
     let found = c.if-found-peer.false in
     let rs = o.2 in let word : ℕ = 4 * f.ranks + c.box_at-slot.result in
@@ -229,12 +229,12 @@ pub invariant_of-port-2-clause-counts : goal.invariant_of-port-2-clause-counts
 invariant_of-port-2-clause-counts g c =
     let f = c.args.f.now in let p = c.args.port.now in let o = c.requires.owns in
     let few = c.requires.peer in let j = c.args.sender in let t = c.requires.told in
-    let then = subst (λ k. plays.looked_in k (taken_by p j) (step f.board.shared.table_id.slots
+    let then = subst (λ k. plays.told_in k (taken_by p j) (step f.board.shared.table_id.slots
     (4 * f.ranks + c.box_at-slot.result) 0 0 maybe.none) p.seat.me c.load-found.result
     c.load-found.new.seat.me) (sym t.0)
-    (subst (λ a. plays.looked_in g.T.Told.peer a (step f.board.shared.table_id.slots
+    (subst (λ a. plays.told_in g.T.Told.peer a (step f.board.shared.table_id.slots
     (4 * f.ranks + c.box_at-slot.result) 0 0 maybe.none) p.seat.me c.load-found.result
-    c.load-found.new.seat.me) (sym t.1) c.load-found.ensures.2) in
+    c.load-found.new.seat.me) (sym t.1) c.load-found.ensures.2.1) in
     let same = ap (λ (u : Peer). u.taken) c.peer-peer.ensures in
     let found = c.if-found-peer.false in
     let rs = o.2 in let word : ℕ = 4 * f.ranks + c.box_at-slot.result in
@@ -254,12 +254,12 @@ pub returns-clause-stays : goal.returns-clause-stays
 returns-clause-stays g c =
     let f = c.args.f.now in let p = c.args.port.now in let o = c.requires.owns in
     let few = c.requires.peer in let j = c.args.sender in let t = c.requires.told in
-    let then = subst (λ k. plays.looked_in k (taken_by p j) (step f.board.shared.table_id.slots
+    let then = subst (λ k. plays.told_in k (taken_by p j) (step f.board.shared.table_id.slots
     (4 * f.ranks + c.box_at-slot.result) 0 0 maybe.none) p.seat.me c.load-found.result
     c.load-found.new.seat.me) (sym t.0)
-    (subst (λ a. plays.looked_in g.T.Told.peer a (step f.board.shared.table_id.slots
+    (subst (λ a. plays.told_in g.T.Told.peer a (step f.board.shared.table_id.slots
     (4 * f.ranks + c.box_at-slot.result) 0 0 maybe.none) p.seat.me c.load-found.result
-    c.load-found.new.seat.me) (sym t.1) c.load-found.ensures.2) in
+    c.load-found.new.seat.me) (sym t.1) c.load-found.ensures.2.1) in
     let same = ap (λ (u : Peer). u.taken) c.peer-peer.ensures in
     let found = c.if-found-peer.false in
     let rs = o.2 in let word : ℕ = 4 * f.ranks + c.box_at-slot.result in
@@ -294,12 +294,12 @@ pub invariant_of-port-clause-kept : goal.invariant_of-port-clause-kept
 invariant_of-port-clause-kept g c =
     let f = c.args.f.now in let p = c.args.port.now in let o = c.requires.owns in
     let few = c.requires.peer in let j = c.args.sender in let t = c.requires.told in
-    let then = subst (λ k. plays.looked_in k (taken_by p j) (step f.board.shared.table_id.slots
+    let then = subst (λ k. plays.told_in k (taken_by p j) (step f.board.shared.table_id.slots
     (4 * f.ranks + c.box_at-slot.result) 0 0 maybe.none) p.seat.me c.load-found.result
     c.load-found.new.seat.me) (sym t.0)
-    (subst (λ a. plays.looked_in g.T.Told.peer a (step f.board.shared.table_id.slots
+    (subst (λ a. plays.told_in g.T.Told.peer a (step f.board.shared.table_id.slots
     (4 * f.ranks + c.box_at-slot.result) 0 0 maybe.none) p.seat.me c.load-found.result
-    c.load-found.new.seat.me) (sym t.1) c.load-found.ensures.2) in
+    c.load-found.new.seat.me) (sym t.1) c.load-found.ensures.2.1) in
     let same = ap (λ (u : Peer). u.taken) c.peer-peer.ensures in
     let other = c.if-found-peer.true in
     let is = then.1 (λ hit. other (let z : c.load-found.result ≡ c.peer-peer.result.taken + 1 =
@@ -310,12 +310,12 @@ pub invariant_of-port-2-clause-kept : goal.invariant_of-port-2-clause-kept
 invariant_of-port-2-clause-kept g c =
     let f = c.args.f.now in let p = c.args.port.now in let o = c.requires.owns in
     let few = c.requires.peer in let j = c.args.sender in let t = c.requires.told in
-    let then = subst (λ k. plays.looked_in k (taken_by p j) (step f.board.shared.table_id.slots
+    let then = subst (λ k. plays.told_in k (taken_by p j) (step f.board.shared.table_id.slots
     (4 * f.ranks + c.box_at-slot.result) 0 0 maybe.none) p.seat.me c.load-found.result
     c.load-found.new.seat.me) (sym t.0)
-    (subst (λ a. plays.looked_in g.T.Told.peer a (step f.board.shared.table_id.slots
+    (subst (λ a. plays.told_in g.T.Told.peer a (step f.board.shared.table_id.slots
     (4 * f.ranks + c.box_at-slot.result) 0 0 maybe.none) p.seat.me c.load-found.result
-    c.load-found.new.seat.me) (sym t.1) c.load-found.ensures.2) in
+    c.load-found.new.seat.me) (sym t.1) c.load-found.ensures.2.1) in
     let same = ap (λ (u : Peer). u.taken) c.peer-peer.ensures in
     let found = c.if-found-peer.false in
     let rs = o.2 in let word : ℕ = 4 * f.ranks + c.box_at-slot.result in

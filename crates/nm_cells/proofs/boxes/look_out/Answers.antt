@@ -40,9 +40,9 @@ pub invariant_of-port-clause-carries : goal.invariant_of-port-clause-carries
 invariant_of-port-clause-carries g c =
     let f = c.args.f.now in let p = c.args.port.now in let o = c.requires.owns in
     let few = c.requires.peer in
-    let then = subst (λ t. plays.looked_out t (step f.board.shared.table_id.slots
+    let then = subst (λ t. plays.told_out t (step f.board.shared.table_id.slots
     (4 * f.ranks + c.box_at-slot.result) 0 0 maybe.none) p.seat.me c.load-found.result
-    c.load-found.new.seat.me) (sym c.requires.told) c.load-found.ensures.2 in
+    c.load-found.new.seat.me) (sym c.requires.told) c.load-found.ensures.2.1 in
     let some = c.if-found-ne0.true in let is = then.1 (omega arith) in
     subst (λ m. CarriesFor m p.carried.items (vec_capacity p.carried) p.hands) (sym is) p.carries
 
@@ -50,9 +50,9 @@ pub invariant_of-port-clause-boxes : goal.invariant_of-port-clause-boxes
 invariant_of-port-clause-boxes g c =
     let f = c.args.f.now in let p = c.args.port.now in let o = c.requires.owns in
     let few = c.requires.peer in
-    let then = subst (λ t. plays.looked_out t (step f.board.shared.table_id.slots
+    let then = subst (λ t. plays.told_out t (step f.board.shared.table_id.slots
     (4 * f.ranks + c.box_at-slot.result) 0 0 maybe.none) p.seat.me c.load-found.result
-    c.load-found.new.seat.me) (sym c.requires.told) c.load-found.ensures.2 in
+    c.load-found.new.seat.me) (sym c.requires.told) c.load-found.ensures.2.1 in
     let some = c.if-found-ne0.true in let is = then.1 (omega arith) in
     subst (λ (m : plays.Knowing). HoldsBoxes (mine m) m.1) (sym is) p.boxes
 
@@ -60,9 +60,9 @@ pub invariant_of-port-clause-counts : goal.invariant_of-port-clause-counts
 invariant_of-port-clause-counts g c =
     let f = c.args.f.now in let p = c.args.port.now in let o = c.requires.owns in
     let few = c.requires.peer in
-    let then = subst (λ t. plays.looked_out t (step f.board.shared.table_id.slots
+    let then = subst (λ t. plays.told_out t (step f.board.shared.table_id.slots
     (4 * f.ranks + c.box_at-slot.result) 0 0 maybe.none) p.seat.me c.load-found.result
-    c.load-found.new.seat.me) (sym c.requires.told) c.load-found.ensures.2 in
+    c.load-found.new.seat.me) (sym c.requires.told) c.load-found.ensures.2.1 in
     let some = c.if-found-ne0.true in let is = then.1 (omega arith) in
     calls.full_counts f p o c.args.to few c.load-found.new.seat.me c.box_at-slot.result is
     c.count_full.new.peers.items c.count_full.ensures
@@ -71,9 +71,9 @@ pub returns-then-found-ne0-clause-stays : goal.returns-then-found-ne0-clause-sta
 returns-then-found-ne0-clause-stays g c =
     let f = c.args.f.now in let p = c.args.port.now in let o = c.requires.owns in
     let few = c.requires.peer in
-    let then = subst (λ t. plays.looked_out t (step f.board.shared.table_id.slots
+    let then = subst (λ t. plays.told_out t (step f.board.shared.table_id.slots
     (4 * f.ranks + c.box_at-slot.result) 0 0 maybe.none) p.seat.me c.load-found.result
-    c.load-found.new.seat.me) (sym c.requires.told) c.load-found.ensures.2 in
+    c.load-found.new.seat.me) (sym c.requires.told) c.load-found.ensures.2.1 in
     let some = c.if-found-ne0.true in let is = then.1 (omega arith) in
     let t = calls.peers_stay one_full c.args.to p.peers.items
     (peer_low p c.args.to (calls.few f p o c.args.to few)) (λ u. refl) (λ u. refl) in (
@@ -96,9 +96,9 @@ pub take_box-requires : goal.take_box-requires
 take_box-requires g c =
     let f = c.args.f.now in let p = c.args.port.now in let o = c.requires.owns in
     let few = c.requires.peer in
-    let then = subst (λ t. plays.looked_out t (step f.board.shared.table_id.slots
+    let then = subst (λ t. plays.told_out t (step f.board.shared.table_id.slots
     (4 * f.ranks + c.box_at-slot.result) 0 0 maybe.none) p.seat.me c.load-found.result
-    c.load-found.new.seat.me) (sym c.requires.told) c.load-found.ensures.2 in
+    c.load-found.new.seat.me) (sym c.requires.told) c.load-found.ensures.2.1 in
     let none = c.if-found-ne0.false in let free = then.0 (omega arith) in
     let rs = o.2 in let word : ℕ = 4 * f.ranks + c.box_at-slot.result in
     let back : word - 4 * (knows p).ranks ≡ c.box_at-slot.result = omega arith in
@@ -125,9 +125,9 @@ pub invariant_of-port-2-clause-carries : goal.invariant_of-port-2-clause-carries
 invariant_of-port-2-clause-carries g c =
     let f = c.args.f.now in let p = c.args.port.now in let o = c.requires.owns in
     let few = c.requires.peer in
-    let then = subst (λ t. plays.looked_out t (step f.board.shared.table_id.slots
+    let then = subst (λ t. plays.told_out t (step f.board.shared.table_id.slots
     (4 * f.ranks + c.box_at-slot.result) 0 0 maybe.none) p.seat.me c.load-found.result
-    c.load-found.new.seat.me) (sym c.requires.told) c.load-found.ensures.2 in
+    c.load-found.new.seat.me) (sym c.requires.told) c.load-found.ensures.2.1 in
     let none = c.if-found-ne0.false in let free = then.0 (omega arith) in
     let rs = o.2 in let word : ℕ = 4 * f.ranks + c.box_at-slot.result in
     let back : word - 4 * (knows p).ranks ≡ c.box_at-slot.result = omega arith in
@@ -149,9 +149,9 @@ pub invariant_of-port-2-clause-boxes : goal.invariant_of-port-2-clause-boxes
 invariant_of-port-2-clause-boxes g c =
     let f = c.args.f.now in let p = c.args.port.now in let o = c.requires.owns in
     let few = c.requires.peer in
-    let then = subst (λ t. plays.looked_out t (step f.board.shared.table_id.slots
+    let then = subst (λ t. plays.told_out t (step f.board.shared.table_id.slots
     (4 * f.ranks + c.box_at-slot.result) 0 0 maybe.none) p.seat.me c.load-found.result
-    c.load-found.new.seat.me) (sym c.requires.told) c.load-found.ensures.2 in
+    c.load-found.new.seat.me) (sym c.requires.told) c.load-found.ensures.2.1 in
     let none = c.if-found-ne0.false in let free = then.0 (omega arith) in
     let rs = o.2 in let word : ℕ = 4 * f.ranks + c.box_at-slot.result in
     let back : word - 4 * (knows p).ranks ≡ c.box_at-slot.result = omega arith in
@@ -171,9 +171,9 @@ pub invariant_of-port-2-clause-counts : goal.invariant_of-port-2-clause-counts
 invariant_of-port-2-clause-counts g c =
     let f = c.args.f.now in let p = c.args.port.now in let o = c.requires.owns in
     let few = c.requires.peer in
-    let then = subst (λ t. plays.looked_out t (step f.board.shared.table_id.slots
+    let then = subst (λ t. plays.told_out t (step f.board.shared.table_id.slots
     (4 * f.ranks + c.box_at-slot.result) 0 0 maybe.none) p.seat.me c.load-found.result
-    c.load-found.new.seat.me) (sym c.requires.told) c.load-found.ensures.2 in
+    c.load-found.new.seat.me) (sym c.requires.told) c.load-found.ensures.2.1 in
     let none = c.if-found-ne0.false in let free = then.0 (omega arith) in
     let rs = o.2 in let word : ℕ = 4 * f.ranks + c.box_at-slot.result in
     let back : word - 4 * (knows p).ranks ≡ c.box_at-slot.result = omega arith in
@@ -193,9 +193,9 @@ pub returns-clause-stays : goal.returns-clause-stays
 returns-clause-stays g c =
     let f = c.args.f.now in let p = c.args.port.now in let o = c.requires.owns in
     let few = c.requires.peer in
-    let then = subst (λ t. plays.looked_out t (step f.board.shared.table_id.slots
+    let then = subst (λ t. plays.told_out t (step f.board.shared.table_id.slots
     (4 * f.ranks + c.box_at-slot.result) 0 0 maybe.none) p.seat.me c.load-found.result
-    c.load-found.new.seat.me) (sym c.requires.told) c.load-found.ensures.2 in
+    c.load-found.new.seat.me) (sym c.requires.told) c.load-found.ensures.2.1 in
     let none = c.if-found-ne0.false in let free = then.0 (omega arith) in
     let rs = o.2 in let word : ℕ = 4 * f.ranks + c.box_at-slot.result in
     let back : word - 4 * (knows p).ranks ≡ c.box_at-slot.result = omega arith in
@@ -231,9 +231,9 @@ pub invariant_of-port-clause-kept : goal.invariant_of-port-clause-kept
 invariant_of-port-clause-kept g c =
     let f = c.args.f.now in let p = c.args.port.now in let o = c.requires.owns in
     let few = c.requires.peer in
-    let then = subst (λ t. plays.looked_out t (step f.board.shared.table_id.slots
+    let then = subst (λ t. plays.told_out t (step f.board.shared.table_id.slots
     (4 * f.ranks + c.box_at-slot.result) 0 0 maybe.none) p.seat.me c.load-found.result
-    c.load-found.new.seat.me) (sym c.requires.told) c.load-found.ensures.2 in
+    c.load-found.new.seat.me) (sym c.requires.told) c.load-found.ensures.2.1 in
     let some = c.if-found-ne0.true in let is = then.1 (omega arith) in
     subst (λ (m : plays.Knowing). AreKept p.loose (mine m) m.1) (sym is) p.kept
 
@@ -241,9 +241,9 @@ pub invariant_of-port-2-clause-kept : goal.invariant_of-port-2-clause-kept
 invariant_of-port-2-clause-kept g c =
     let f = c.args.f.now in let p = c.args.port.now in let o = c.requires.owns in
     let few = c.requires.peer in
-    let then = subst (λ t. plays.looked_out t (step f.board.shared.table_id.slots
+    let then = subst (λ t. plays.told_out t (step f.board.shared.table_id.slots
     (4 * f.ranks + c.box_at-slot.result) 0 0 maybe.none) p.seat.me c.load-found.result
-    c.load-found.new.seat.me) (sym c.requires.told) c.load-found.ensures.2 in
+    c.load-found.new.seat.me) (sym c.requires.told) c.load-found.ensures.2.1 in
     let none = c.if-found-ne0.false in let free = then.0 (omega arith) in
     let rs = o.2 in let word : ℕ = 4 * f.ranks + c.box_at-slot.result in
     let back : word - 4 * (knows p).ranks ≡ c.box_at-slot.result = omega arith in

@@ -20,20 +20,20 @@ store-requires g c = let f = c.args.f.now in let p = c.args.port.now in let z = 
 
 pub invariant_of-port-clause-boxes : goal.invariant_of-port-clause-boxes
 invariant_of-port-clause-boxes g c = let p = c.args.port.now in
-    subst (λ (m : Knowing). HoldsBoxes (mine m) m.1) (sym c.store.ensures.2)
+    subst (λ (m : Knowing). HoldsBoxes (mine m) m.1) (sym c.store.ensures.2.1)
     (boxes_heads _ _ (mine p.seat.me) p.seat.me.1 p.boxes)
 
 pub invariant_of-port-else-this-ne0-clause-boxes : goal.invariant_of-port-else-this-ne0-clause-boxes
 invariant_of-port-else-this-ne0-clause-boxes g c = let p = c.args.port.now in
-    subst (λ (m : Knowing). HoldsBoxes (mine m) m.1) (sym c.store.ensures.2)
+    subst (λ (m : Knowing). HoldsBoxes (mine m) m.1) (sym c.store.ensures.2.1)
     (boxes_heads _ _ (mine p.seat.me) p.seat.me.1 p.boxes)
 
 pub invariant_of-port-clause-kept : goal.invariant_of-port-clause-kept
 invariant_of-port-clause-kept g c = let p = c.args.port.now in
-    subst (λ (m : Knowing). AreKept p.loose (mine m) m.1) (sym c.store.ensures.2)
+    subst (λ (m : Knowing). AreKept p.loose (mine m) m.1) (sym c.store.ensures.2.1)
     (kept_heads p.loose (mine p.seat.me) p.seat.me.1 p.kept _ _)
 
 pub invariant_of-port-else-this-ne0-clause-kept : goal.invariant_of-port-else-this-ne0-clause-kept
 invariant_of-port-else-this-ne0-clause-kept g c = let p = c.args.port.now in
-    subst (λ (m : Knowing). AreKept p.loose (mine m) m.1) (sym c.store.ensures.2)
+    subst (λ (m : Knowing). AreKept p.loose (mine m) m.1) (sym c.store.ensures.2.1)
     (kept_heads p.loose (mine p.seat.me) p.seat.me.1 p.kept _ _)

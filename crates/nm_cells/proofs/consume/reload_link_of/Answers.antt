@@ -6,6 +6,7 @@ use Rattle.nm_cells.specs.Ports.{knows}
 use Rattle.nm_table.proofs.ConsumerLemmas.{reload_allowed}
 use Rattle.nm_cells.proofs.PortLemmas.{shadow_below, takes_room, takes_carries, takes_hands}
 use Rattle.nm_cells.proofs.PortLemmas.{takes_boxes, takes_kept, takes_count, takes_counts, takes_made}
+use Rattle.nm_cells.proofs.PortLemmas.{takes_own, takes_owner}
 use Rattle.nm_table.specs.Plays.{Knowing, mine}
 use Rattle.nm_cells.specs.AtWork.{HoldsBoxes}
 use Rattle.nm_cells.specs.LooseCells.{AreKept}
@@ -25,35 +26,53 @@ load-found-requires g c = let f = c.args.f.now in let p = c.args.port.now in let
           (omega arith),
     )
 
-pub count_taken-requires : goal.count_taken-requires
-count_taken-requires g c = let f = c.args.f.now in let p = c.args.port.now in
+pub first_taken-requires-clause-own : goal.first_taken-requires-clause-own
+first_taken-requires-clause-own g c = let f = c.args.f.now in let p = c.args.port.now in
+    let k = c.heads-number.result.shadow - 1 in let rs = c.requires.owns.2 in
+    let at : (4 * f.ranks + k) - 4 * (knows p).ranks ≡ k = omega arith in
+    let some = c.if-found-eq0.false in
+    takes_own _ f p ((4 * f.ranks + k) - 4 * (knows p).ranks) k c.load-found.result
+    c.load-found.new.seat.me c.requires.owns (c.load-found.ensures.2.2 (omega arith)) at
+
+pub first_taken-requires-clause-count : goal.first_taken-requires-clause-count
+first_taken-requires-clause-count g c = let f = c.args.f.now in let p = c.args.port.now in
     let k = c.heads-number.result.shadow - 1 in let rs = c.requires.owns.2 in
     let at : (4 * f.ranks + k) - 4 * (knows p).ranks ≡ k = omega arith in
     let some = c.if-found-eq0.false in
     takes_count _ f p ((4 * f.ranks + k) - 4 * (knows p).ranks) k c.load-found.result
-    c.load-found.new.seat.me c.requires.owns (c.load-found.ensures.2.1 (omega arith)) at
+    c.load-found.new.seat.me c.requires.owns (c.load-found.ensures.2.2 (omega arith)) at
 
-pub carry-requires : goal.carry-requires
-carry-requires g c = let f = c.args.f.now in let p = c.args.port.now in
+pub first_taken-requires-clause-low : goal.first_taken-requires-clause-low
+first_taken-requires-clause-low g c = let f = c.args.f.now in let p = c.args.port.now in
+    let k = c.heads-number.result.shadow - 1 in let rs = c.requires.owns.2 in
+    let at : (4 * f.ranks + k) - 4 * (knows p).ranks ≡ k = omega arith in
+    let some = c.if-found-eq0.false in let some_each = f.small.1 in (
+      some_each,
+      takes_owner _ f p ((4 * f.ranks + k) - 4 * (knows p).ranks) k c.load-found.result
+          c.load-found.new.seat.me c.requires.owns (c.load-found.ensures.2.2 (omega arith)) at,
+    )
+
+pub first_taken-requires-clause-room : goal.first_taken-requires-clause-room
+first_taken-requires-clause-room g c = let f = c.args.f.now in let p = c.args.port.now in
     let k = c.heads-number.result.shadow - 1 in let rs = c.requires.owns.2 in
     let at : (4 * f.ranks + k) - 4 * (knows p).ranks ≡ k = omega arith in
     let some = c.if-found-eq0.false in
     takes_room _ f p ((4 * f.ranks + k) - 4 * (knows p).ranks) k c.load-found.result
-    c.load-found.new.seat.me c.requires.owns (c.load-found.ensures.2.1 (omega arith)) at
+    c.load-found.new.seat.me c.requires.owns (c.load-found.ensures.2.2 (omega arith)) at
 
-pub overflow_add-port : goal.overflow_add-port
-overflow_add-port g c = let f = c.args.f.now in let p = c.args.port.now in
+pub first_taken-requires-clause-few : goal.first_taken-requires-clause-few
+first_taken-requires-clause-few g c = let f = c.args.f.now in let p = c.args.port.now in
     let k = c.heads-number.result.shadow - 1 in let rs = c.requires.owns.2 in
     let at : (4 * f.ranks + k) - 4 * (knows p).ranks ≡ k = omega arith in
     let some = c.if-found-eq0.false in
     let most = takes_hands _ f p ((4 * f.ranks + k) - 4 * (knows p).ranks) k c.load-found.result
-    c.load-found.new.seat.me c.requires.owns (c.load-found.ensures.2.1 (omega arith)) at in
+    c.load-found.new.seat.me c.requires.owns (c.load-found.ensures.2.2 (omega arith)) at in
     omega arith
 
 pub invariant_of-port-clause-boxes : goal.invariant_of-port-clause-boxes
 invariant_of-port-clause-boxes g c = let p = c.args.port.now in
     subst (λ (m : Knowing). HoldsBoxes (mine m) m.1)
-    (sym (c.load-found.ensures.2.0 c.if-found-eq0.true)) p.boxes
+    (sym (c.load-found.ensures.2.1 c.if-found-eq0.true)) p.boxes
 
 pub invariant_of-port-2-clause-carries : goal.invariant_of-port-2-clause-carries
 invariant_of-port-2-clause-carries g c = let f = c.args.f.now in let p = c.args.port.now in
@@ -61,9 +80,9 @@ invariant_of-port-2-clause-carries g c = let f = c.args.f.now in let p = c.args.
     let at : (4 * f.ranks + k) - 4 * (knows p).ranks ≡ k = omega arith in
     let some = c.if-found-eq0.false in
     takes_carries _ f p ((4 * f.ranks + k) - 4 * (knows p).ranks) k c.load-found.result
-    c.load-found.new.seat.me c.requires.owns (c.load-found.ensures.2.1 (omega arith)) at
-    c.carry.new.carried.items (vec_capacity c.carry.new.carried)
-    (p.hands + 1) c.carry.ensures.items c.carry.ensures.capacity refl
+    c.load-found.new.seat.me c.requires.owns (c.load-found.ensures.2.2 (omega arith)) at
+    c.first_taken.new.carried.items (vec_capacity c.first_taken.new.carried)
+    c.first_taken.new.hands c.first_taken.ensures.items c.first_taken.ensures.capacity c.first_taken.ensures.hands
 
 pub invariant_of-port-2-clause-boxes : goal.invariant_of-port-2-clause-boxes
 invariant_of-port-2-clause-boxes g c = let f = c.args.f.now in let p = c.args.port.now in
@@ -71,7 +90,7 @@ invariant_of-port-2-clause-boxes g c = let f = c.args.f.now in let p = c.args.po
     let at : (4 * f.ranks + k) - 4 * (knows p).ranks ≡ k = omega arith in
     let some = c.if-found-eq0.false in
     takes_boxes _ f p ((4 * f.ranks + k) - 4 * (knows p).ranks) k c.load-found.result
-    c.load-found.new.seat.me c.requires.owns (c.load-found.ensures.2.1 (omega arith)) at
+    c.load-found.new.seat.me c.requires.owns (c.load-found.ensures.2.2 (omega arith)) at
 
 pub invariant_of-port-2-clause-counts : goal.invariant_of-port-2-clause-counts
 invariant_of-port-2-clause-counts g c = let f = c.args.f.now in let p = c.args.port.now in
@@ -79,8 +98,8 @@ invariant_of-port-2-clause-counts g c = let f = c.args.f.now in let p = c.args.p
     let at : (4 * f.ranks + k) - 4 * (knows p).ranks ≡ k = omega arith in
     let some = c.if-found-eq0.false in
     takes_counts _ f p ((4 * f.ranks + k) - 4 * (knows p).ranks) k c.load-found.result
-    c.load-found.new.seat.me c.requires.owns (c.load-found.ensures.2.1 (omega arith)) at
-    c.count_taken.new.peers.items c.count_taken.ensures
+    c.load-found.new.seat.me c.requires.owns (c.load-found.ensures.2.2 (omega arith)) at
+    c.first_taken.new.peers.items c.first_taken.ensures.peers
 
 pub returns-clause-some : goal.returns-clause-some
 returns-clause-some g c = let f = c.args.f.now in let p = c.args.port.now in
@@ -88,13 +107,14 @@ returns-clause-some g c = let f = c.args.f.now in let p = c.args.port.now in
     let at : (4 * f.ranks + k) - 4 * (knows p).ranks ≡ k = omega arith in
     let some = c.if-found-eq0.false in
     takes_made _ f p ((4 * f.ranks + k) - 4 * (knows p).ranks) k c.load-found.result
-    c.load-found.new.seat.me c.requires.owns (c.load-found.ensures.2.1 (omega arith)) at _ _
-    refl refl refl refl c.count_taken.ensures refl c.set-2.ensures.told c.set-2.ensures.others refl
+    c.load-found.new.seat.me c.requires.owns (c.load-found.ensures.2.2 (omega arith)) at _ _
+    refl c.first_taken.ensures.cell.0 c.first_taken.ensures.cell.1 refl c.first_taken.ensures.peers c.first_taken.ensures.hands c.set-2.ensures.told c.set-2.ensures.others refl
+    (let is = ap (λ e. e.shadow) c.heads-number.ensures in let some = c.requires.first in omega arith)
 
 pub invariant_of-port-clause-kept : goal.invariant_of-port-clause-kept
 invariant_of-port-clause-kept g c = let p = c.args.port.now in
     subst (λ (m : Knowing). AreKept p.loose (mine m) m.1)
-    (sym (c.load-found.ensures.2.0 c.if-found-eq0.true)) p.kept
+    (sym (c.load-found.ensures.2.1 c.if-found-eq0.true)) p.kept
 
 pub invariant_of-port-2-clause-kept : goal.invariant_of-port-2-clause-kept
 invariant_of-port-2-clause-kept g c = let f = c.args.f.now in let p = c.args.port.now in
@@ -102,4 +122,4 @@ invariant_of-port-2-clause-kept g c = let f = c.args.f.now in let p = c.args.por
     let at : (4 * f.ranks + k) - 4 * (knows p).ranks ≡ k = omega arith in
     let some = c.if-found-eq0.false in
     takes_kept _ f p ((4 * f.ranks + k) - 4 * (knows p).ranks) k c.load-found.result
-    c.load-found.new.seat.me c.requires.owns (c.load-found.ensures.2.1 (omega arith)) at
+    c.load-found.new.seat.me c.requires.owns (c.load-found.ensures.2.2 (omega arith)) at

@@ -27,7 +27,7 @@ carry-requires c = let f = c.args.f.now in let p = c.args.port.now in let e = kn
     let at : (4 * f.ranks + k) - 4 * e.ranks ≡ k = omega arith in
     let r = picked_room p.seat.me c.load-port.new.seat.me k
     (subst (λ n. k < n) (sym c.requires.owns.4) c.requires.low) c.requires.untouched
-    (c.load-port.ensures.2 ∙ ap (λ d. (view (with_hand d Held e ∷ []), (d, None) ∷ p.seat.me.1)) at)
+    (c.load-port.ensures.2.1 ∙ ap (λ d. (view (with_hand d Held e ∷ []), (d, None) ∷ p.seat.me.1)) at)
     p.carried.items (vec_capacity p.carried) p.hands p.carries in omega arith
 
 pub invariant_of-port-clause-carries : goal.invariant_of-port-clause-carries
@@ -38,7 +38,7 @@ invariant_of-port-clause-carries c = let f = c.args.f.now in let p = c.args.port
     (sym c.carry.ensures.items)
     (picked_carries p.seat.me c.load-port.new.seat.me k
     (subst (λ n. k < n) (sym c.requires.owns.4) c.requires.low) c.requires.untouched
-    (c.load-port.ensures.2 ∙ ap (λ d. (view (with_hand d Held e ∷ []), (d, None) ∷ p.seat.me.1)) at)
+    (c.load-port.ensures.2.1 ∙ ap (λ d. (view (with_hand d Held e ∷ []), (d, None) ∷ p.seat.me.1)) at)
     p.carried.items (vec_capacity p.carried) p.hands p.carries
     (vec_capacity c.carry.new.carried) c.carry.ensures.capacity)
 
@@ -48,7 +48,7 @@ invariant_of-port-clause-boxes c = let f = c.args.f.now in let p = c.args.port.n
     let at : (4 * f.ranks + k) - 4 * e.ranks ≡ k = omega arith in
     picked_boxes p.seat.me c.load-port.new.seat.me k
     (subst (λ n. k < n) (sym o.4) c.requires.low) c.requires.untouched
-    (c.load-port.ensures.2 ∙ ap (λ d. (view (with_hand d Held e ∷ []), (d, None) ∷ p.seat.me.1)) at)
+    (c.load-port.ensures.2.1 ∙ ap (λ d. (view (with_hand d Held e ∷ []), (d, None) ∷ p.seat.me.1)) at)
     p.boxes (o.4 ∙ (λ t. sym o.2 t * sym o.3 t))
 
 pub invariant_of-port-clause-kept : goal.invariant_of-port-clause-kept
@@ -57,5 +57,5 @@ invariant_of-port-clause-kept c = let f = c.args.f.now in let p = c.args.port.no
     let at : (4 * f.ranks + k) - 4 * e.ranks ≡ k = omega arith in
     picked_kept p.seat.me c.load-port.new.seat.me k
     (subst (λ n. k < n) (sym o.4) c.requires.low) c.requires.untouched
-    (c.load-port.ensures.2 ∙ ap (λ d. (view (with_hand d Held e ∷ []), (d, None) ∷ p.seat.me.1)) at)
+    (c.load-port.ensures.2.1 ∙ ap (λ d. (view (with_hand d Held e ∷ []), (d, None) ∷ p.seat.me.1)) at)
     p.loose.first (ap (λ m. k / m) o.3 ∙ c.requires.own ∙ sym p.named) p.kept

@@ -31,7 +31,7 @@ invariant_of-port-clause-carries g c = let f = c.args.f.now in let p = c.args.po
     let is : (4 * f.ranks + k) - 4 * (knows p).ranks ≡ k = omega arith in
     cleared_carries p.seat.me c.store.new.seat.me p.carried.items
     (vec_capacity p.carried) p.hands p.carries k (load_in k p.seat.me.1)
-    (c.store.ensures.2 ∙ ap
+    (c.store.ensures.2.1 ∙ ap
     (λ d. (view (with_hand d (Ready (load_in d p.seat.me.1)) (knows p) ∷ []), p.seat.me.1))
     is)
     (subst (λ n. k < n) (sym c.requires.owns.4) c.requires.in_hand.0) c.requires.in_hand.2
@@ -40,7 +40,7 @@ pub returns-clause-ready : goal.returns-clause-ready
 returns-clause-ready g c = let f = c.args.f.now in let p = c.args.port.now in
     let k = c.args.cell.now.number in let rs = c.requires.owns.2 in
     let is : (4 * f.ranks + k) - 4 * (knows p).ranks ≡ k = omega arith in
-    ap (λ m. mine m) c.store.ensures.2
+    ap (λ m. mine m) c.store.ensures.2.1
     ∙ ap (λ d. with_hand d (Ready (load_in d p.seat.me.1)) (knows p)) is
     ∙ ap (λ y. with_hand k (Ready y) (knows p))
     (sym (held_here (length (knows p).hands) k p.seat.me.1
@@ -48,12 +48,12 @@ returns-clause-ready g c = let f = c.args.f.now in let p = c.args.port.now in
 
 pub invariant_of-port-clause-boxes : goal.invariant_of-port-clause-boxes
 invariant_of-port-clause-boxes g c = let p = c.args.port.now in
-    subst (λ (m : plays.Knowing). HoldsBoxes (plays.mine m) m.1) (sym c.store.ensures.2) p.boxes
+    subst (λ (m : plays.Knowing). HoldsBoxes (plays.mine m) m.1) (sym c.store.ensures.2.1) p.boxes
 
 pub invariant_of-port-clause-kept : goal.invariant_of-port-clause-kept
 invariant_of-port-clause-kept g c = let f = c.args.f.now in let p = c.args.port.now in
     let k = c.args.cell.now.number in let rs = c.requires.owns.2 in
     let is : (4 * f.ranks + k) - 4 * (knows p).ranks ≡ k = omega arith in
-    subst (λ (m : plays.Knowing). AreKept p.loose (mine m) m.1) (sym c.store.ensures.2)
+    subst (λ (m : plays.Knowing). AreKept p.loose (mine m) m.1) (sym c.store.ensures.2.1)
     (kept_hand p.loose (knows p) p.seat.me.1 p.kept ((4 * f.ranks + k) - 4 * (knows p).ranks) _
     (subst (λ d. ¬ IsAmong p.loose d) (sym is) c.requires.in_hand.3))

@@ -33,17 +33,17 @@ invariant_of-port-clause-carries g c = let p = c.args.port.now in let e = c.args
     let one : (e.cell + 1) - 1 ≡ e.cell = omega arith in
     finished_carries p.seat.me c.store.new.seat.me p.carried.items
     (vec_capacity p.carried) p.hands p.carries e.cell e.queue e.found (p.hands - 1)
-    (c.store.ensures.2 ∙ ap (λ d. (view (with_hand d Away (knows p) ∷ []), p.seat.me.1)) one)
+    (c.store.ensures.2.1 ∙ ap (λ d. (view (with_hand d Away (knows p) ∷ []), p.seat.me.1)) one)
     low a.0.2 (omega arith)
 
 pub invariant_of-port-clause-boxes : goal.invariant_of-port-clause-boxes
 invariant_of-port-clause-boxes g c = let p = c.args.port.now in
-    subst (λ (m : plays.Knowing). HoldsBoxes (plays.mine m) m.1) (sym c.store.ensures.2) p.boxes
+    subst (λ (m : plays.Knowing). HoldsBoxes (plays.mine m) m.1) (sym c.store.ensures.2.1) p.boxes
 
 pub invariant_of-port-clause-kept : goal.invariant_of-port-clause-kept
 invariant_of-port-clause-kept g c = let p = c.args.port.now in let e = c.args.enqueue in
     let one : (e.cell + 1) - 1 ≡ e.cell = omega arith in
-    subst (λ (m : plays.Knowing). AreKept p.loose (plays.mine m) m.1) (sym c.store.ensures.2)
+    subst (λ (m : plays.Knowing). AreKept p.loose (plays.mine m) m.1) (sym c.store.ensures.2.1)
     (kept_hand p.loose (knows p) p.seat.me.1 p.kept ((e.cell + 1) - 1) Away
     (subst (λ d. ¬ IsAmong p.loose d) (sym one)
     (entering_apart p.loose (knows p) p.seat.me.1 p.kept e.cell e.queue e.found

@@ -69,7 +69,7 @@ invariant_of-port-clause-carries g c = let p = c.bring_cell.new.port in
     (vec_capacity p.carried) p.hands p.carries k q c.swap-found.result
     (holding c.args.port.now k) (holding c.args.port.now k)
     (posted e.ranks q (first_load p.seat.me.1))
-    (c.swap-found.ensures.2.1
+    (c.swap-found.ensures.2.3
     ∙ ap (λ d. (
       view (with_put (posted e.ranks q (first_load p.seat.me.1))
           (with_hand d (Entering q c.swap-found.result) e) ∷ []),
@@ -92,7 +92,7 @@ invariant_of-port-clause-counts g c = let f = c.args.f.now in let p = c.bring_ce
     subst (λ l. ∥ CountsFor (mine c.swap-found.new.seat.me) l p.held ∥₁) (sym c.count_put.ensures)
     (sent_counts p.seat.me c.swap-found.new.seat.me p.peers.items p.held c.args.q y ((k + 1) - 1)
     (Entering q c.swap-found.result) (rest p.seat.me.1)
-    (c.swap-found.ensures.2.1
+    (c.swap-found.ensures.2.3
     ∙ ap (λ xs. (
       view (with_put xs
           (with_hand ((k + 1) - 1) (Entering q c.swap-found.result) e) ∷ []),
@@ -113,7 +113,7 @@ returns-clause-given g c = let p = c.bring_cell.new.port in let k = c.args.cell.
     (vec_capacity p.carried) p.hands p.carries k q c.swap-found.result
     (holding c.args.port.now k) (holding c.args.port.now k)
     (posted e.ranks q (first_load p.seat.me.1))
-    (c.swap-found.ensures.2.1
+    (c.swap-found.ensures.2.3
     ∙ ap (λ d. (
       view (with_put (posted e.ranks q (first_load p.seat.me.1))
           (with_hand d (Entering q c.swap-found.result) e) ∷ []),
@@ -126,7 +126,7 @@ returns-clause-given g c = let p = c.bring_cell.new.port in let k = c.args.cell.
 pub returns-clause-stays : goal.returns-clause-stays
 returns-clause-stays g c = let f = c.args.f.now in let p = c.bring_cell.new.port in
     let v = c.bring_cell.ensures.seat.1 in let o = c.requires.owns in let e = knows p in
-    let is = c.swap-found.ensures.2.1 in let same = c.bring_cell.ensures.same in
+    let is = c.swap-found.ensures.2.3 in let same = c.bring_cell.ensures.same in
     let k = c.args.cell.number in let room = subst (λ ps. HasRoomFor c.args.q ps.items) (sym same.1)
     (room_for f c.args.port.now c.args.q k (holding c.args.port.now k) c.requires.may o.2
     c.args.port.now.counts) in let t = sent_taken c.args.q p.peers.items room in (
@@ -159,7 +159,7 @@ invariant_of-port-clause-boxes g c = let p = c.bring_cell.new.port in let e = kn
     let low = subst (λ x. k < x)
     ((λ t. sym o.2 t * sym o.3 t) ∙ (λ t. (sole (sym v t).entries).ranks
     * (sole (sym v t).entries).each)) c.requires.in_hand.0 in
-    subst (λ (m : Knowing). HoldsBoxes (mine m) m.1) (sym c.swap-found.ensures.2.1)
+    subst (λ (m : Knowing). HoldsBoxes (mine m) m.1) (sym c.swap-found.ensures.2.3)
     (boxes_popped e (rest p.seat.me.1) k (holding c.args.port.now k) low
     (subst (HoldsBoxes e) c.bring_cell.ensures.front p.boxes))
 
@@ -168,7 +168,7 @@ invariant_of-port-clause-kept g c = let p = c.bring_cell.new.port in let e = kno
     let k = c.args.cell.number in let one : (k + 1) - 1 ≡ k = omega arith in
     let out : ¬ IsAmong p.loose k =
     subst (λ x. ¬ IsAmong x k) (sym c.bring_cell.ensures.same.5) c.requires.in_hand.3 in
-    subst (λ (m : Knowing). AreKept p.loose (mine m) m.1) (sym c.swap-found.ensures.2.1)
+    subst (λ (m : Knowing). AreKept p.loose (mine m) m.1) (sym c.swap-found.ensures.2.3)
     (kept_hand p.loose e (rest p.seat.me.1)
     (kept_pop p.loose e (rest p.seat.me.1) k (holding c.args.port.now k) out
     (subst (AreKept p.loose e) c.bring_cell.ensures.front p.kept)) ((k + 1) - 1) _

@@ -1,11 +1,15 @@
--- The script's limits and its part are what a run on one thread asks for.
-use Rattle.nm_cli.proofs.PartLemmas.{all_run}
+-- The script's limits are what a run asks for.
+use Rattle.std.proofs.Common.{◌≡◌, ℕ, rules, subst, sym}
+use Rattle.nm_process.specs.Lines.{AreLines}
+use Rattle.nm_cli.proofs.LineLemmas.{all_in_range}
 use Rattle.nm_cli.proofs.runs.run_script.Goals as goal
 
 pub run-requires-clause-lines : goal.run-requires-clause-lines
-run-requires-clause-lines g c =
+run-requires-clause-lines g c lifetimes outlive =
     let script = c.args.script.now in
-    record {
+    let same : c.unwrap-shape.result.ranks ≡ script.ranks = search rules in
+    subst (λ (n : ℕ). AreLines n script.lines) (sym same)
+    (record {
       few = script.limits.few_lines;
-      runnable = all_run script.ranks script.lines script.limits.lines_in_range c.requires;
-    }
+      in_range = all_in_range script.ranks script.lines script.limits.lines_in_range;
+    })

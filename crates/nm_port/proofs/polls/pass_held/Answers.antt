@@ -1,10 +1,11 @@
-use Rattle.std.proofs.Common.{◌≡◌, sym, ap, ◌∙◌, subst, arith}
+use Rattle.std.proofs.Common.{◌≡◌, ◌+◌, sym, ap, ◌∙◌, subst, arith}
 use Rattle.nm_types.specs.declared.packets.Packet.{Packet}
-use Rattle.nm_cells.specs.Counted.{with_peer, one_passed}
 use Rattle.nm_cells.specs.Ports.{taken_by, unpassed_by}
 use Rattle.nm_port.specs.Polls.{count_held}
 use Rattle.nm_port.proofs.HeldLemmas.{held_unpassed}
-use Rattle.nm_port.proofs.PollLemmas.{unpassed_there, passed_next, passed_left, one_packet}
+use Rattle.nm_port.proofs.PollLemmas.{unpassed_there, peers_taken, peers_unpassed, passed_next}
+use Rattle.nm_port.proofs.PollLemmas.{one_packet}
+use Rattle.nm_seats.specs.Update.{update}
 use Rattle.nm_port.proofs.polls.pass_held.Goals as goal
 
 pub taken-requires : goal.taken-requires
@@ -24,12 +25,13 @@ returns-clause-passed c = let f = c.args.f.now in let p = c.args.port.now in
     let same = one_packet c.in_ok-held.held.now x (c.in_ok-held.ensures ∙ is) in
     let next = subst (λ (z : Packet). z.seq ≡ taken_by p z.from) same
     (c.if-held-taken.false ∙ c.taken.ensures) in
-    let peers = c.pass.ensures.passed ∙ ap (λ l. with_peer one_passed x.from l.items) s.3 in
-    let left = passed_left f p r x un next peers in
+    let were = peers_taken p c.unhold.new.self s.0 s.3 in
+    let taken = c.pass.ensures.taken ∙ (λ i. update (were i) x.from (were i x.from + 1)) in
+    let left = c.pass.ensures.unpassed ∙ peers_unpassed p c.unhold.new.self s.0 s.3 in
     let one : unpassed_by p ≡ 1 = c.requires.rest ∙ ap count_held is in (
       is,
       t.3 ∙ c.unhold.ensures.nothing,
       un,
-      passed_next f p r x un next peers c.requires.owns.2,
+      passed_next f p r x un next taken c.requires.owns.2,
       omega arith,
     )

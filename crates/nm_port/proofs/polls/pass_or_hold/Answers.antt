@@ -2,19 +2,18 @@ use Rattle.std.proofs.Common.{◌≡◌, ℕ, ◌<◌, sym, ap, ◌∙◌, subst
 use Rattle.nm_cells.specs.Ports.{unpassed_by}
 use Rattle.nm_port.proofs.HeldLemmas.{is_overtaken}
 use Rattle.nm_port.proofs.PollLemmas.{unpassed_there, peers_taken, peers_unpassed, passed_next}
-use Rattle.nm_port.proofs.PollLemmas.{passed_left, rest_none, still_next, next_by, if_some}
+use Rattle.nm_port.proofs.PollLemmas.{rest_none, still_next, next_by, if_some}
 use Rattle.nm_port.proofs.polls.pass_or_hold.Goals as goal
 
 pub returns-then-packet-taken-clause-rest : goal.returns-then-packet-taken-clause-rest
 returns-then-packet-taken-clause-rest g c = let r = c.pass.new.self in
-    let left = passed_left c.args.f.now c.args.port.now r c.args.packet c.requires.packet
-    (c.if-packet-taken.true ∙ c.taken.ensures) c.pass.ensures.passed in
+    let left = c.pass.ensures.unpassed in
     let one = c.requires.alone.0 in
     rest_none r (omega arith) (c.pass.ensures.same.3 ∙ c.requires.alone.1)
 
 pub returns-then-packet-taken-clause-next : goal.returns-then-packet-taken-clause-next
 returns-then-packet-taken-clause-next g c = passed_next c.args.f.now c.args.port.now c.pass.new.self
-    c.args.packet c.requires.packet (c.if-packet-taken.true ∙ c.taken.ensures) c.pass.ensures.passed
+    c.args.packet c.requires.packet (c.if-packet-taken.true ∙ c.taken.ensures) c.pass.ensures.taken
     c.requires.owns.2
 
 pub returns-clause-some : goal.returns-clause-some

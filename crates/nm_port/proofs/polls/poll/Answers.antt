@@ -1,13 +1,14 @@
-use Rattle.std.proofs.Common.{◌<◌, true, refl, ap, ◌∙◌, subst}
+use Rattle.std.proofs.Common.{◌<◌, ◌≤◌, true, refl, ap, ◌∙◌, subst}
 use Rattle.nm_cells.specs.declared.port.Port.{Port}
 use Rattle.nm_table.specs.declared.table.Entry.{Entry}
 use Rattle.nm_cells.specs.Ports.{knows, holding, taken_by, unpassed_by}
+use Rattle.std.specs.Prelude.{slice_index}
 use Rattle.nm_port.specs.Sends.{HadMiss}
 use Rattle.nm_port.specs.Polls.{count_held, IsNext, with_all_missed}
 use Rattle.nm_port.proofs.SendLemmas.{hold_since}
 use Rattle.nm_port.proofs.HeldLemmas.{none_waits}
 use Rattle.nm_port.proofs.PollLemmas.{if_both, if_none, if_some, still_next, last_by_box, way_since}
-use Rattle.nm_port.proofs.PollLemmas.{polled_by, polled_on}
+use Rattle.nm_port.proofs.PollLemmas.{polled_by, polled_on, same_later}
 use Rattle.nm_port.proofs.polls.poll.Goals as goal
 
 pub returns-in-Some-take_first-clause-next : goal.returns-in-Some-take_first-clause-next
@@ -75,3 +76,14 @@ returns-clause-none g c = let p = c.args.port.now in let new = c.receive_next.ne
       subst (λ e. HadMiss true e (knows new)) seen h.0,
       h.2 ∙ missed.1 ∙ ap taken_by kept.0,
     )) c.receive_next.ensures.none
+
+pub returns-in-Some-take_first-clause-later : goal.returns-in-Some-take_first-clause-later
+returns-in-Some-take_first-clause-later g c = let new = c.take_first.new.port in
+    λ i. subst (λ (q : Port). slice_index (knows q).box_miss i ≤ slice_index (knows new).box_miss i)
+    c.in_default.ensures.kept.0 (c.take_first.ensures.later i)
+
+pub returns-clause-later : goal.returns-clause-later
+returns-clause-later g c = let now = c.take_first.new.port in
+    λ i. same_later i (knows c.args.port.now) (knows now) (knows c.receive_next.new.port)
+    (subst (λ (q : Port). slice_index (knows q).box_miss i ≤ slice_index (knows now).box_miss i)
+    c.in_default.ensures.kept.0 (c.take_first.ensures.later i)) c.receive_next.ensures.misses

@@ -1,7 +1,9 @@
 use Rattle.std.proofs.Common.{true, ap, ◌∙◌}
 use Rattle.nm_table.specs.Plays.{heads_of}
 use Rattle.nm_cells.specs.Ports.{knows}
+use Rattle.nm_table.specs.declared.table.Entry.{Entry}
 use Rattle.nm_port.proofs.PollLemmas.{if_both, if_some, still_next, way_of, polled_of, got_of}
+use Rattle.nm_port.proofs.PollLemmas.{queue_misses, way_misses}
 use Rattle.nm_port.proofs.polls.receive_next.Goals as goal
 
 pub returns-clause-next : goal.returns-clause-next
@@ -26,3 +28,13 @@ returns-clause-got g c = let old = c.args.port.now in
 pub returns-clause-holding : goal.returns-clause-holding
 returns-clause-holding g c = λ k in_hand. ap (λ h. h k) c.pass_or_hold.ensures.holding
     ∙ c.receive.ensures.holding k in_hand
+
+pub returns-in_err-packet-clause-misses : goal.returns-in_err-packet-clause-misses
+returns-in_err-packet-clause-misses g c =
+    queue_misses (knows c.args.port.now) (knows c.receive.new.port) c.in_err-packet.ensures.none.0
+
+pub returns-clause-misses : goal.returns-clause-misses
+returns-clause-misses g c =
+    way_misses c.pass_or_hold.result c.in_ok-packet.packet c.receive.new.port c.pass_or_hold.new.port
+    c.pass_or_hold.ensures.some c.pass_or_hold.ensures.way
+    ∙ ap (λ (e : Entry). e.box_miss) c.in_ok-packet.ensures.came.2

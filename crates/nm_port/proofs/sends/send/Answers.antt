@@ -6,7 +6,8 @@ use Rattle.nm_types.specs.declared.packets.Path.{Path}
 use Rattle.nm_types.specs.declared.packets.Path.TheVariants.{Box, Cell}
 use Rattle.nm_seats.specs.Update.{update}
 use Rattle.nm_table.specs.Rule.{sent_to, filling_of}
-use Rattle.nm_table.specs.Plays.{heads_of, with_heads, with_put}
+use Rattle.nm_table.specs.Plays.{heads_of, with_heads, with_look, with_put}
+use Rattle.nm_table.specs.declared.table.Look.TheVariants.{Fresh}
 use Rattle.nm_cells.specs.Ports.{knows, sent_by}
 use Rattle.nm_port.specs.Sends.{HadMiss}
 use Rattle.nm_port.proofs.SendLemmas.{if_ok, if_err, box_hands, hold_since, was_tried}
@@ -30,7 +31,8 @@ returns-then-not-fits_box-clause-by_cell g c = λ e. let x = c.args.packet in
     let same = not_tried (length x.payload) c.args.to (knows c.args.port.now)
     (too_long (length x.payload) c.fits_box.result c.if-not-fits_box.true c.fits_box.ensures.1) in
     c.send_by_cell.ensures.by_cell e
-    ∙ (λ i. with_put ((c.args.to, Some x) ∷ []) (with_heads false (heads_of false (knows s)) (sym same i)))
+    ∙ (λ i. with_put ((c.args.to, Some x) ∷ []) (with_look false Fresh
+    (with_heads false (heads_of false (knows s)) (sym same i))))
 
 pub returns-then-not-fits_box-clause-back : goal.returns-then-not-fits_box-clause-back
 returns-then-not-fits_box-clause-back g c = let x = c.args.packet in
@@ -56,8 +58,8 @@ returns-in-Err-clause-by_cell g c = λ e. let p = c.args.port.now in let to = c.
     let s = c.send_by_cell-in-Err.new.port in
     let tried : n ≤ 64 = search rules in
     c.send_by_cell-in-Err.ensures.by_cell e
-    ∙ (λ i. with_put ((to, Some (full.0 i)) ∷ []) (with_heads false (heads_of false (knows s))
-    ((full.1 ∙ sym (was_tried n to (knows p) tried)) i)))
+    ∙ (λ i. with_put ((to, Some (full.0 i)) ∷ []) (with_look false Fresh (with_heads false
+    (heads_of false (knows s)) ((full.1 ∙ sym (was_tried n to (knows p) tried)) i))))
 
 pub returns-in-Err-clause-sent : goal.returns-in-Err-clause-sent
 returns-in-Err-clause-sent g c = let p = c.args.port.now in let q = c.put.new.port in

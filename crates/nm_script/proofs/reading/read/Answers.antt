@@ -1,15 +1,16 @@
--- Reading with the one refusal keeps what reading gives.
-use Rattle.nm_script.proofs.ReadLemmas.{taken_from, refused_from, takes_from}
+-- What was read is what reading gives.
+use Rattle.nm_script.proofs.FirstFaultLemmas.{fault_from, faults_from}
+use Rattle.nm_script.proofs.ReadLemmas.{taken_from, takes_from}
 use Rattle.nm_script.proofs.reading.read.Goals as goal
 
 pub returns-clause-taken : goal.returns-clause-taken
-returns-clause-taken c = taken_from c.args.bytes.now c.read_exactly.result c.map_err.result
-    c.read_exactly.ensures c.map_err.ensures.cases
-
-pub returns-clause-refused : goal.returns-clause-refused
-returns-clause-refused c = refused_from c.args.bytes.now c.read_exactly.result c.map_err.result
-    c.read_exactly.ensures c.map_err.ensures.cases
+returns-clause-taken c = taken_from c.args.bytes.now c.read_exactly.result c.read_exactly.ensures
 
 pub returns-clause-takes : goal.returns-clause-takes
-returns-clause-takes c = takes_from c.args.bytes.now c.read_exactly.result c.map_err.result
-    c.read_exactly.ensures c.map_err.ensures.cases
+returns-clause-takes c = takes_from c.args.bytes.now c.read_exactly.result c.read_exactly.ensures
+
+pub returns-clause-fault : goal.returns-clause-fault
+returns-clause-fault c = fault_from c.args.bytes.now c.read_exactly.result c.read_exactly.ensures
+
+pub returns-clause-faults : goal.returns-clause-faults
+returns-clause-faults c = faults_from c.args.bytes.now c.read_exactly.result c.read_exactly.ensures

@@ -1,10 +1,10 @@
-use Rattle.std.proofs.Common.{subst, sym, arith}
-use Rattle.std.proofs.Math.Logic.{∥∥₁_map, ∥∥₁_elim}
-use Rattle.std.proofs.Props.{props}
+use Rattle.std.proofs.Common.{◌+◌, ap, ◌∙◌, subst, sym, arith}
+use Rattle.std.proofs.Math.Logic.{∥∥₁_map}
 use Rattle.nm_cells.specs.Ports.{knows}
-use Rattle.nm_cells.specs.Counted.{CountsFor}
-use Rattle.nm_cells.proofs.CountedLemmas.{packet_passed, some_unpassed}
+use Rattle.nm_cells.specs.Counted.{CountsFor, peer_in, all_unpassed}
+use Rattle.nm_cells.proofs.CountedLemmas.{packet_passed}
 use Rattle.nm_cells.proofs.PortLemmas.{peer_low}
+use Rattle.nm_cells.proofs.PassLemmas.{one_left, passed_taken, passed_unpassed}
 use Rattle.nm_cells.proofs.port.Port.pass.Goals as goal
 
 pub count_passed-requires-clause-sender : goal.count_passed-requires-clause-sender
@@ -16,10 +16,8 @@ count_passed-requires-clause-room c = let small = c.args.packet.now.seq_in_range
     let next = c.requires.next in omega arith
 
 pub count_passed-requires-clause-some : goal.count_passed-requires-clause-some
-count_passed-requires-clause-some c = let p = c.args.self.now in let e = knows p in
-    ∥∥₁_elim p.counts (search props)
-    (λ n. some_unpassed e.put e.got e.put_box e.got_box e.box_full e.box_miss e.filling e.emptying
-    e.ranks p.peers.items p.held n c.args.packet.now c.requires.unpassed c.requires.next)
+count_passed-requires-clause-some c =
+    one_left c.args.self.now c.args.packet.now c.requires.unpassed c.requires.next
 
 pub invariant_of-self-clause-counts : goal.invariant_of-self-clause-counts
 invariant_of-self-clause-counts c = let p = c.args.self.now in let e = knows p in
@@ -27,3 +25,11 @@ invariant_of-self-clause-counts c = let p = c.args.self.now in let e = knows p i
     (λ n. packet_passed e.put e.got e.put_box e.got_box e.box_full e.box_miss e.filling e.emptying
     e.ranks p.peers.items p.held n c.args.packet.now c.requires.unpassed c.requires.next
     c.requires.not_held))
+
+pub returns-clause-taken : goal.returns-clause-taken
+returns-clause-taken c = λ i j. (ap (λ l. (peer_in l j).taken) c.count_passed.ensures
+    ∙ passed_taken c.args.self.now c.args.packet.now c.requires.unpassed c.requires.next j) i
+
+pub returns-clause-unpassed : goal.returns-clause-unpassed
+returns-clause-unpassed c = ap (λ l. all_unpassed l + 1) c.count_passed.ensures
+    ∙ passed_unpassed c.args.self.now c.args.packet.now c.requires.unpassed c.requires.next

@@ -51,3 +51,7 @@ returns-clause-left c = let items = c.args.ports.items in
     ap seen_in c.into_badge-badge.ensures.2 ∙ ap (λ m. m.0.seen) c.split_seat.ensures.4
     ∙ ap (λ m. m.0.entries) c.gather-seat.ensures.all in
     c.settle-left.ensures.left ∙ ap (λ es. not_pulled c.args.self.ranks es) (is ∙ sym listed)
+
+-- the same of the lists by name
+pub returns-clause-lists : goal.returns-clause-lists
+returns-clause-lists c = returns-clause-prefix c

@@ -1,3 +1,0 @@
-pub mod Cores
-pub mod Fields
-pub mod Kept

@@ -1,0 +1,5 @@
+pub mod Alone
+pub mod Going
+pub mod Results
+pub mod Turning
+pub mod Whole

@@ -1,0 +1,61 @@
+use Rattle.std.proofs.Common.{◌≡◌, [], ◌∷◌, ℕ, ◌+◌, ◌∙◌, sym, ap, subst, refl, inl, inr, true, false, arith, List, length-append, true≢false}
+use Rattle.std.specs.Prelude.{length, slice_get, Some}
+use Rattle.nm_rank.specs.Ranks.{IsFresh}
+use Rattle.nm_multi.specs.Moves.{IsAlone, MovesFirst}
+use Rattle.nm_multi.proofs.Alone.{Begins, begins, leaves_of, moved_one, moves_of}
+use Rattle.nm_multi.proofs.moving.move_first.Goals as goal
+
+pub pop_front-requires-clause-first : goal.pop_front-requires-clause-first
+pop_front-requires-clause-first c =
+    let t = c.in_default-take_packet.ensures.taken in
+    let put = (t.happened (λ s. [])).packets in
+    let some = c.requires.some in
+    let long = ap (λ (l : List _). length l) put.letters
+    ∙ length-append c.args.rank.now.sending.outbox.letters put.added in
+    omega (arith, long, some)
+
+pub returns-then-not-is_worn-clause-moves : goal.returns-then-not-is_worn-clause-moves
+returns-then-not-is_worn-clause-moves c =
+    let e = c.in-Some.ensures.own in
+    let p = c.pop_front.ensures in
+    let b = begins c.args.rank.now c.take_packet.new.self _ c.in-Some.field-0-0 c.copy-packet.result
+    c.in-Some.first.now c.requires.alone c.requires.fresh (λ none. cc) c.in-Some.ensures.first e.0 e.1
+    c.copy-packet.ensures c.in_default-take_packet.ensures.taken in
+    moves_of c.args.rank.now c.take_packet.new.self c.pop_front.new.self b
+    (inl (
+      c.is_worn.ensures.0 c.if-not-is_worn.true,
+      leaves_of b.letter _ c.take_packet.new.self c.pop_front.new.self b.still p.left p.popped p.same p.takes,
+    ))
+
+pub returns-then-not-is_worn-clause-alone : goal.returns-then-not-is_worn-clause-alone
+returns-then-not-is_worn-clause-alone c =
+    let e = c.in-Some.ensures.own in
+    let p = c.pop_front.ensures in
+    let b = begins c.args.rank.now c.take_packet.new.self _ c.in-Some.field-0-0 c.copy-packet.result
+    c.in-Some.first.now c.requires.alone c.requires.fresh (λ none. cc) c.in-Some.ensures.first e.0 e.1
+    c.copy-packet.ensures c.in_default-take_packet.ensures.taken in
+    moved_one c.args.rank.now c.pop_front.new.self c.requires.alone
+    (moves_of c.args.rank.now c.take_packet.new.self c.pop_front.new.self b
+    (inl (
+      c.is_worn.ensures.0 c.if-not-is_worn.true,
+      leaves_of b.letter _ c.take_packet.new.self c.pop_front.new.self b.still p.left p.popped p.same p.takes,
+    )))
+
+pub returns-else-not-is_worn-clause-moves : goal.returns-else-not-is_worn-clause-moves
+returns-else-not-is_worn-clause-moves c =
+    let e = c.in-Some.ensures.own in
+    let b = begins c.args.rank.now c.take_packet.new.self _ c.in-Some.field-0-0 c.copy-packet.result
+    c.in-Some.first.now c.requires.alone c.requires.fresh (λ none. cc) c.in-Some.ensures.first e.0 e.1
+    c.copy-packet.ensures c.in_default-take_packet.ensures.taken in
+    moves_of c.args.rank.now c.take_packet.new.self c.take_packet.new.self b
+    (inr (λ fresh. absurd (true≢false (sym c.if-not-is_worn.false ∙ c.is_worn.ensures.1 fresh)), refl))
+
+pub returns-else-not-is_worn-clause-alone : goal.returns-else-not-is_worn-clause-alone
+returns-else-not-is_worn-clause-alone c =
+    let e = c.in-Some.ensures.own in
+    let b = begins c.args.rank.now c.take_packet.new.self _ c.in-Some.field-0-0 c.copy-packet.result
+    c.in-Some.first.now c.requires.alone c.requires.fresh (λ none. cc) c.in-Some.ensures.first e.0 e.1
+    c.copy-packet.ensures c.in_default-take_packet.ensures.taken in
+    moved_one c.args.rank.now c.take_packet.new.self c.requires.alone
+    (moves_of c.args.rank.now c.take_packet.new.self c.take_packet.new.self b
+    (inr (λ fresh. absurd (true≢false (sym c.if-not-is_worn.false ∙ c.is_worn.ensures.1 fresh)), refl)))

@@ -1,0 +1,200 @@
+-- What a call does to the one rank, and which logs are legal.
+use Rattle.std.specs.Prelude.{◌≡◌, ◌≢◌, ℕ, ◌+◌, ◌<◌, ◌≤◌, ◌⊎◌, Bool, true, false, if◌then◌else◌, None, Some}
+use Rattle.std.specs.Prelude.{IsSomeAnd, List, [], ◌∷◌, ◌++◌, length, replicate}
+use Rattle.nm_types.specs.declared.answers.Answer.{Answer}
+use Rattle.nm_types.specs.declared.messages.Arrival.{Arrival}
+use Rattle.nm_types.specs.declared.messages.Peer.TheVariants as peer
+use Rattle.nm_types.specs.declared.messages.TagPick.TheVariants as pick
+use Rattle.nm_types.specs.declared.scripts.Body.{Body}
+use Rattle.nm_types.specs.Bodies.{body_len, bytes_of}
+use Rattle.nm_types.specs.Sizes.{Sizes}
+use Rattle.nm_history.specs.declared.events.Happened.TheVariants as event
+use Rattle.nm_history.specs.Completion.{is_complete}
+use Rattle.nm_history.specs.Matching.{first_message, matched_pairs}
+use Rattle.nm_history.specs.RankRun.{how_of}
+use Rattle.nm_history.specs.Sends.{Sent, is_ask, receives, sends}
+use Rattle.nm_protocol.specs.Known.{nothing_known}
+use Rattle.nm_request.specs.declared.Kind.{Kind}
+use Rattle.nm_request.specs.declared.Kind.TheVariants as kind
+use Rattle.nm_request.specs.declared.Req.{Req}
+use Rattle.nm_request.specs.Requests.{kind_of}
+use Rattle.nm_rndv.specs.Offers.{destined, no_offers, with_asked, with_destined}
+use Rattle.nm_receiving.specs.Receipts.{SameOtherBytes, came_of, drawn_from, taken_events}
+use Rattle.nm_rank.specs.declared.answers.Cancelled.{Cancelled}
+use Rattle.nm_rank.specs.declared.answers.State.{State}
+use Rattle.nm_rank.specs.declared.answers.State.TheVariants as state
+use Rattle.nm_rank.specs.Calls.{Happens, Starts, TakesNone}
+use Rattle.nm_rank.specs.Ranks.{IsFresh, RankView, request_of}
+use Rattle.nm_rank.specs.Requests.{Gives, IsFreed, cancel_answer, cancel_events, offers_cancelled, pair_with}
+use Rattle.nm_multi.specs.declared.calls.Call.{Call}
+use Rattle.nm_multi.specs.declared.calls.Call.TheVariants as call
+use Rattle.nm_multi.specs.declared.calls.Entry.{Entry}
+use Rattle.nm_multi.specs.declared.calls.Reply.{Reply}
+use Rattle.nm_multi.specs.declared.calls.Reply.TheVariants as reply
+use Rattle.nm_multi.specs.Moves.{IsAlone, MovesMany}
+
+-- the send that a rank starts with this tag and this body
+abbrev pub sent_by : RankView → ℕ → Body → Sent
+sent_by v tag body =
+    record {
+      stamp = v.clock + 1;
+      to = 0;
+      n = length (sends v.events 0);
+      tag = tag;
+      ctx = 0;
+      len = body_len body;
+      how = how_of v.sizes.eager false (body_len body);
+      line = 0;
+    }
+
+-- A send of this tag and this body to the rank itself is started, as the next one.
+pub record StartsSend (tag : ℕ) (body : Body) (r : Req) (old new : RankView) : Type 0 where
+  pub started :
+      let s = sent_by old tag body in
+      (bodies : Sent → List ℕ) → bodies s ≡ bytes_of body →
+      Starts bodies (event.Send 0 s.n tag 0 s.len s.how 0 ∷ []) (kind.Send 0 s.n) old new r
+  pub offers :
+      let s = sent_by old tag body in
+      new.sending.offers
+      ≡ (if is_ask s.how
+      then with_destined old.sending.offers 0 (with_asked (destined old.sending.offers 0) s.n body)
+      else old.sending.offers)
+
+-- A receive of this tag from the rank itself is started, as the next one.
+pub record StartsReceive (tag cap : ℕ) (r : Req) (old new : RankView) : Type 0 where
+  pub started :
+      let number = length (receives old.events) in
+      let h = old.events in
+      (bodies : Sent → List ℕ) →
+      Starts bodies
+      (event.Post
+      (record {
+        number = number;
+        from = peer.One 0;
+        tag = pick.One tag;
+        ctx = 0;
+        cap = cap;
+      }) 0
+      ∷ taken_events (first_message h (matched_pairs h) (peer.One 0) (pick.One tag) 0))
+      (kind.Receive number) old new r
+  pub offers : new.sending.offers ≡ old.sending.offers
+
+-- The result of a request is taken, which is live no more.
+pub record Ends (r : Req) (answer : Answer) (old new : RankView) : Type 0 where
+  pub gives : Gives old r answer
+  pub freed : IsFreed old.requests new.requests r
+  pub bytes : SameOtherBytes (pair_with old r) old.receiving new.receiving
+  pub drawn : new.receiving.drawn ≡ old.receiving.drawn
+  pub events : new.events ≡ old.events
+  pub clock : new.clock ≡ old.clock
+  pub sending : new.sending ≡ old.sending
+  pub known : new.known ≡ old.known
+  pub took : new.took ≡ old.took
+  pub pulled : new.pulled ≡ old.pulled
+  pub strays : new.strays ≡ old.strays
+  pub me : new.me ≡ old.me
+  pub sizes : new.sizes ≡ old.sizes
+
+-- A request is cancelled, as far as it can be.
+pub record Cancels (r : Req) (answer : Cancelled) (old new : RankView) : Type 0 where
+  pub kind : Kind
+  pub live : kind_of old.requests r ≡ Some kind
+  pub answered : answer ≡ cancel_answer old.events kind
+  pub happened :
+      (bodies : Sent → List ℕ) → Happens bodies old.clock (cancel_events old.events kind) old new
+  pub offers : new.sending.offers ≡ offers_cancelled old.events kind old.sending.offers
+  pub takes : TakesNone old new
+  pub requests : new.requests ≡ old.requests
+
+-- so many packets were moved: all that there were, or those until the rank could go on no more
+abbrev pub MovesAll : ℕ → RankView → RankView → Type 0
+MovesAll k old new =
+    MovesMany k old new × (k ≤ length old.sending.outbox.letters)
+    × ((k ≡ length old.sending.outbox.letters) ⊎ ¬ (IsFresh new))
+
+-- some packets were moved, and not all
+abbrev pub MovesSome : ℕ → RankView → RankView → Type 0
+MovesSome k old new = MovesMany k old new × (0 < k) × (k < length old.sending.outbox.letters)
+
+-- whether a request is complete
+abbrev pub state_of : RankView → Kind → State
+state_of v k =
+    if is_complete v.events (request_of k) then state.Ready else state.Pending
+
+-- a call of a rank that can go on has this reply, and makes the rank so
+abbrev pub GoesOn : Call → Reply → RankView → RankView → Type 0
+GoesOn (call.Isend tag body) (reply.Started r) old new = StartsSend tag body r old new
+GoesOn (call.Irecv tag cap) (reply.Started r) old new = StartsReceive tag cap r old new
+GoesOn call.Pump (reply.Moved k) old new = MovesAll k old new
+GoesOn call.Pump (reply.Short k) old new = MovesSome k old new
+GoesOn (call.Test r) (reply.Is s) old new =
+    IsSomeAnd (kind_of old.requests r) (λ k. s ≡ state_of old k) × (new ≡ old)
+GoesOn (call.Test r) reply.NoSuch old new = (kind_of old.requests r ≡ None) × (new ≡ old)
+GoesOn (call.Finish r) (reply.Ended answer) old new = Ends r answer old new
+GoesOn (call.Finish r) reply.NotComplete old new =
+    IsSomeAnd (kind_of old.requests r) (λ k. is_complete old.events (request_of k) ≡ false)
+    × (new ≡ old)
+GoesOn (call.Finish r) reply.NoSuch old new = (kind_of old.requests r ≡ None) × (new ≡ old)
+GoesOn (call.Cancel r) (reply.Undone answer) old new = Cancels r answer old new
+GoesOn (call.Cancel r) reply.NoSuch old new = (kind_of old.requests r ≡ None) × (new ≡ old)
+GoesOn _ _ old new = ⊥
+
+-- a call has this reply, and makes the rank so: a rank that can go on no more does nothing
+abbrev pub Acts : Call → Reply → RankView → RankView → Type 0
+Acts c reply.Worn old new = ¬ (IsFresh old) × (new ≡ old)
+Acts c r old new = IsFresh old × GoesOn c r old new
+
+-- whether a call was cut short
+abbrev pub is_short : Reply → Bool
+is_short (reply.Short k) = true
+is_short _ = false
+
+-- the one rank, and the calls that were made on it
+pub record DeskView : Type 0 where
+  pub rank : RankView
+  pub log : List Entry
+
+-- One call was made: the log grew by its entry alone, whose reply is the one that the call has.
+pub record Makes (short : Bool) (who : ℕ) (c : Call) (old new : DeskView) : Type 0 where
+  pub reply : Reply
+  pub logged : new.log ≡ old.log ++ record { who = who; call = c; reply = reply } ∷ []
+  pub acts : Acts c reply old.rank new.rank
+  pub is : is_short reply ≡ short
+
+-- a rank at which nothing happened
+pub record IsNew (shape : Sizes) (v : RankView) : Type 0 where
+  pub me : v.me ≡ 0
+  pub sizes : v.sizes ≡ shape
+  pub events : v.events ≡ []
+  pub clock : v.clock ≡ 0
+  pub own : v.sending.outbox.me ≡ 0
+  pub letters : v.sending.outbox.letters ≡ []
+  pub popped : v.sending.outbox.popped ≡ replicate shape.ranks 0
+  pub offers : v.sending.offers ≡ no_offers shape.ranks
+  pub pushed : v.sending.pushed ≡ replicate shape.ranks 0
+  pub came : (from : ℕ) → drawn_from v.receiving from ≡ 0
+  pub drawn : length v.receiving.drawn ≡ shape.ranks
+  pub bytes : (a : Arrival) → came_of v.receiving a ≡ []
+  pub requests : (q : Req) → kind_of v.requests q ≡ None
+  pub took : v.took ≡ replicate shape.ranks 0
+  pub pulled : v.pulled ≡ replicate shape.ranks 0
+  pub strays : v.strays ≡ 0
+  pub known : v.known ≡ replicate shape.ranks nothing_known
+
+-- from one rank these calls, with these replies, lead to another
+abbrev pub Leads : RankView → List Entry → RankView → Type 0
+Leads old [] new = new ≡ old
+Leads old (e ∷ es) new =
+    (next : RankView) × Acts e.call e.reply old next × Leads next es new
+
+-- The log is legal for this shape, and leads to this rank: each reply is the one that the call has,
+-- from a rank on at which nothing happened.
+pub record IsReplay (shape : Sizes) (log : List Entry) (v : RankView) : Type 0 where
+  pub start : RankView
+  pub new : IsNew shape start
+  pub leads : Leads start log v
+
+-- the rank is the only one, and the one to which the log leads
+pub record AreReplayed (v : RankView) (log : List Entry) : Type 0 where
+  pub alone : IsAlone v
+  pub replay : IsReplay v.sizes log v

@@ -1,0 +1,6 @@
+-- Reading gives each script of its text.
+use Rattle.nm_script.proofs.ReadLemmas.{written_is_read}
+use Rattle.nm_script.proofs.laws.written_is_read.Goals as goal
+
+pub returns : goal.returns
+returns c = written_is_read

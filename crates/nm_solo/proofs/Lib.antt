@@ -1,9 +1,0 @@
-pub mod BetweenLemmas
-pub mod ListLemmas
-pub mod PairsLemmas
-pub mod PlainLemmas
-pub mod RestLemmas
-pub mod RunLemmas
-pub mod StepLemmas
-pub mod TurnLemmas
-pub mod WorldLemmas

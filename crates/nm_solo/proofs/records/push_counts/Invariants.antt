@@ -1,7 +1,0 @@
-use Rattle.std.proofs.Common.{◌≡◌, ◌++◌}
-use Rattle.nm_report.specs.Ends.{packets_of}
-use Rattle.nm_solo.specs.Rest.{counts_to}
-use Rattle.nm_solo.proofs.records.push_counts.Given as goal
-
-abbrev pub invariant-loop-to : goal.invariant-loop-to
-invariant-loop-to l = (l.from ≡ l.actor.core.me) × (packets_of l.pairs ≡ packets_of l.fn.pairs ++ counts_to l.to l.actor.core.me l.actor.core.events)

@@ -1,5 +1,0 @@
-use Rattle.nm_solo.specs.Worlds.{IsOfSame, IsWorld}
-use Rattle.nm_solo.proofs.world.World.run_commands.Given as goal
-
-abbrev pub invariant-loop : goal.invariant-loop
-invariant-loop l = IsWorld l.self × IsOfSame l.fn.self l.self

@@ -1,0 +1,2 @@
+-- what stays the same
+pub mod Still

@@ -1,0 +1,5 @@
+pub mod DigitLemmas
+pub mod LineLemmas
+pub mod NumberLemmas
+pub mod StepLemmas
+pub mod WordLemmas

@@ -1,0 +1,47 @@
+-- A run that came to rest.
+use Rattle.std.proofs.Common.{◌≡◌, ℕ, Option, Some, None, List, length, map, refl, sym, ◌∙◌, subst, arith}
+use Rattle.std.specs.Prelude.{IfSome}
+use Rattle.std.specs.List.{slice_get}
+use Rattle.nm_types.specs.declared.scripts.Line.{Line}
+use Rattle.nm_types.specs.Sizes.{Sizes}
+use Rattle.nm_history.specs.Quiescence.{Ended}
+use Rattle.nm_cells.specs.declared.closed.Closed.{Closed}
+use Rattle.nm_cells.specs.declared.port.Fabric.{Fabric}
+use Rattle.nm_cells.specs.ClosedLists.{AllTaken}
+use Rattle.nm_copyring.specs.declared.close.RingAccount.{RingAccount}
+use Rattle.nm_copyring.specs.declared.port.Rings.{Rings}
+use Rattle.nm_world.specs.declared.actors.Actor.{Actor}
+use Rattle.nm_world.specs.Actors.{Stands}
+use Rattle.nm_world.specs.Rest.{EachActor, EndsAt, HasRun, IsCarried, IsClosed, IsStill}
+use Rattle.nm_world.specs.Runs.{AllAgree, AreCarried, InPlace, IsStillAt}
+use Rattle.nm_world.proofs.Chosen.{get_map, get_some}
+use Rattle.nm_world.proofs.Runs.{in_place_at}
+
+pub each_ends : ((lines : List Line) (f : Fabric) (r : Rings) (a : Actor) → Stands lines f r a →
+    IsStill lines a.process → EndsAt a.process.rank.sizes lines f r a.port.rank a) →
+    (shape : Sizes) (lines : List Line) (f : Fabric) (r : Rings) (actors : List Actor) →
+    InPlace shape lines f r 0 actors → EachActor (λ i a. IsStillAt lines a) actors →
+    EachActor (EndsAt shape lines f r) actors
+each_ends law shape lines f r actors place still i = by (slice_get actors i) refl (still i) where
+  by : (o : Option Actor) → slice_get actors i ≡ o → IfSome o (IsStillAt lines) →
+      IfSome o (EndsAt shape lines f r i)
+  by None at is = tt
+  by (Some a) at is =
+      let s = in_place_at shape lines f r 0 i actors a place at in
+      subst (λ (k : ℕ). EndsAt shape lines f r k a) (s.1 ∙ omega arith)
+      (subst (λ (z : Sizes). EndsAt z lines f r a.port.rank a) s.2
+      (law lines f r a s.0 (is s.0.is.standing.work)))
+
+pub all_taken_of : (n : ℕ) (actors : List Actor) (c : Closed) → length actors ≡ n →
+    IsClosed n (map (λ (a : Actor). a.port) actors) c → AllAgree actors → AllTaken n c
+all_taken_of n actors c many closed agree i j low within =
+    let a = get_some actors i (omega (arith, low, many)) in
+    let b = get_some actors j (omega (arith, within, many)) in
+    (closed.counts j i b.0.port (get_map (λ (a : Actor). a.port) actors j b.0 b.1) low).1
+    ∙ sym (agree.pairs i j a.0 b.0 a.1 b.1).0
+    ∙ sym (closed.counts i j a.0.port (get_map (λ (a : Actor). a.port) actors i a.0 a.1) within).0
+
+pub carried_of : (shape : Sizes) (lines : List Line) (actors : List Actor) (c : Closed) (q : RingAccount)
+    (ends : List Ended) → HasRun shape lines actors c q ends → AreCarried shape lines c q ends
+carried_of shape lines actors c q ends run i j e within at =
+    subst (λ (o : Option Ended). IfSome o (IsCarried lines c q i j)) at (run.carried i j within)

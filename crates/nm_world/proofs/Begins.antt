@@ -1,0 +1,52 @@
+-- An actor at its start.
+use Rattle.std.proofs.Common.{◌≡◌, ℕ, ◌<◌, List, sym, ap, ◌∙◌, arith}
+use Rattle.std.proofs.lemmas.List.{get_or-replicate}
+use Rattle.nm_types.specs.declared.scripts.Line.{Line}
+use Rattle.nm_types.specs.Sizes.{Sizes}
+use Rattle.nm_table.specs.declared.table.Entry.{Entry}
+use Rattle.nm_table.specs.Rule.{sent_to}
+use Rattle.nm_cells.specs.declared.port.Fabric.{Fabric}
+use Rattle.nm_cells.specs.declared.port.Port.{Port}
+use Rattle.nm_cells.specs.Ports.{IsNew}
+use Rattle.nm_port.specs.Polls.{count_held}
+use Rattle.nm_copyring.specs.declared.port.RingPort.{RingPort}
+use Rattle.nm_copyring.specs.declared.port.Rings.{Rings}
+use Rattle.nm_copyring.specs.declared.table.Entry as ring_entry
+use Rattle.nm_copyring.specs.declared.table.Lane.{Lane}
+use Rattle.nm_copyring.specs.Rule as ring_rule
+use Rattle.nm_copyring.specs.Ports as ring
+use Rattle.nm_process.specs.Lines.{AreLines}
+use Rattle.nm_process.specs.Processes.{ProcessView}
+use Rattle.nm_standing.specs.Standing.{IsStanding, no_past}
+use Rattle.nm_world.specs.Actors.{Stands}
+use Rattle.nm_world.proofs.Steps.{stands_of}
+
+new_lane_at : (n k i : ℕ) → i < n → ring_rule.lane (ring_rule.newcomer n k) i ≡ ring_rule.new_lane
+new_lane_at n k i within = get_or-replicate n i ring_rule.new_lane ring_rule.new_lane within
+
+pub new_stands : (shape : Sizes) (lines : List Line) (f : Fabric) (r : Rings) (v : ProcessView) (port : Port)
+    (rp : RingPort) → AreLines shape.ranks lines → f.ranks ≡ shape.ranks → r.ranks ≡ shape.ranks →
+    IsNew f port port.rank → ring.IsNew r rp port.rank → v.rank.sizes ≡ shape →
+    IsStanding shape lines port.rank v no_past →
+    Stands lines f r (record { process = v; port = port; ring = rp })
+new_stands shape lines f r v port rp in_range cells rings new fresh sizes standing =
+    stands_of shape lines f r (record { process = v; port = port; ring = rp }) no_past sizes
+    (record {
+      standing = standing;
+      in_range = in_range;
+      cells = new.0;
+      rings = fresh.0;
+      rank = fresh.1;
+      ranks = (cells, rings);
+      hands = new.4;
+      rest = new.7 ∙ sym (ap count_held new.6);
+      sent = λ to within. record {
+        listed = record { each = λ k. tt };
+        many = sym (ap (λ (e : Entry). sent_to to e.put_box e.put) new.2 ∙ omega arith);
+      };
+      taken = λ i within. record { listed = record { each = λ k. tt }; many = sym (new.5 i) };
+      pushed = λ to within. sym (ap (λ (e : ring_entry.Entry). (ring_rule.lane e to).pushed) fresh.2
+          ∙ ap (λ (l : Lane). l.pushed) (new_lane_at r.ranks port.rank to (omega (arith, within, rings))));
+      pulled = λ i within. sym (ap (λ (e : ring_entry.Entry). (ring_rule.lane e i).pulled) fresh.2
+          ∙ ap (λ (l : Lane). l.pulled) (new_lane_at r.ranks port.rank i (omega (arith, within, rings))));
+    })

@@ -1,0 +1,132 @@
+-- Lists of actors by rank.
+use Rattle.std.proofs.Common.{◌≡◌, ℕ, zero, suc, ◌+◌, ◌<◌, ◌&&◌, Bool, true, false, Some, None, List, []}
+use Rattle.std.proofs.Common.{◌∷◌, ◌++◌, length, map, refl, sym, ap, ◌∙◌, subst, arith}
+use Rattle.std.specs.List.{All, AllZip, slice_get}
+use Rattle.std.proofs.lemmas.List.Elements.{All-cons}
+use mathlib.Core.Logic.{dite}
+use native.Mathlib.Decide.{ℕ_discrete}
+use Rattle.nm_types.specs.declared.scripts.Line.{Line}
+use Rattle.nm_types.specs.Sizes.{Sizes}
+use Rattle.nm_cells.specs.declared.port.Fabric.{Fabric}
+use Rattle.nm_cells.specs.declared.port.Port.{Port}
+use Rattle.nm_cells.specs.Ports.{IsNew}
+use Rattle.nm_copyring.specs.declared.port.RingPort.{RingPort}
+use Rattle.nm_copyring.specs.declared.port.Rings.{Rings}
+use Rattle.nm_copyring.specs.Ports as ring
+use Rattle.nm_world.specs.declared.actors.Actor.{Actor}
+use Rattle.nm_world.specs.Actors.{Kept, Seat, Stands, seat_of}
+use Rattle.nm_world.specs.Runs.{AreRanked, InPlace, NewInOrder, PairAgrees}
+use Rattle.nm_world.proofs.Chosen.{same_there}
+
+and_both : (p q : Bool) → (p && q) ≡ true → (p ≡ true) × (q ≡ true)
+and_both true q e = (refl, e)
+and_both false q e = absurd (clash e) where
+  clash : false ≡ true → ⊥
+  clash e = cc
+
+pub both_true : (p q : Bool) → (p && q) ≡ true → (p ≡ true) × (q ≡ true)
+both_true p q e = and_both p q e
+
+-- one more of a row agrees
+pub row_more : (actors : List Actor) (i n : ℕ) (x y : Actor) (all one : Bool) → slice_get actors i ≡ Some x →
+    slice_get actors n ≡ Some y → (one ≡ true → PairAgrees i n x y) →
+    (all ≡ true → (j : ℕ) (a b : Actor) → j < n → slice_get actors i ≡ Some a → slice_get actors j ≡ Some b →
+    PairAgrees i j a b) → (all && one) ≡ true →
+    (j : ℕ) (a b : Actor) → j < n + 1 → slice_get actors i ≡ Some a → slice_get actors j ≡ Some b →
+    PairAgrees i j a b
+row_more actors i n x y all one at to last before both j a b low at_a to_b = dite (ℕ_discrete j n)
+    (λ e.
+    let there : slice_get actors n ≡ Some b = subst (λ k. slice_get actors k ≡ Some b) e to_b in
+    subst (λ k. PairAgrees i k a b) (sym e)
+    (subst (λ (z : Actor). PairAgrees i n z b) (same_there x a at at_a)
+    (subst (λ (z : Actor). PairAgrees i n x z) (same_there y b to there) (last (and_both all one both).1))))
+    (λ ne. before (and_both all one both).0 j a b (omega (arith, low, ne)) at_a to_b)
+
+pub rows_more : (actors : List Actor) (n : ℕ) (all one : Bool) →
+    (one ≡ true → (j : ℕ) (a b : Actor) → slice_get actors n ≡ Some a → slice_get actors j ≡ Some b →
+    PairAgrees n j a b) →
+    (all ≡ true → (i j : ℕ) (a b : Actor) → i < n → slice_get actors i ≡ Some a → slice_get actors j ≡ Some b →
+    PairAgrees i j a b) → (all && one) ≡ true →
+    (i j : ℕ) (a b : Actor) → i < n + 1 → slice_get actors i ≡ Some a → slice_get actors j ≡ Some b →
+    PairAgrees i j a b
+rows_more actors n all one last before both i j a b low at to = dite (ℕ_discrete i n)
+    (λ e. subst (λ k. PairAgrees k j a b) (sym e)
+    (last (and_both all one both).1 j a b (subst (λ k. slice_get actors k ≡ Some a) e at) to))
+    (λ ne. before (and_both all one both).0 i j a b (omega (arith, low, ne)) at to)
+
+module _ (shape : Sizes) (lines : List Line) (f : Fabric) (r : Rings) where
+  pub in_place_stands : (k : ℕ) (actors : List Actor) → InPlace shape lines f r k actors →
+      All (Stands lines f r) actors
+  in_place_stands k [] p = λ i d less. absurd (omega arith)
+  in_place_stands k (a ∷ actors) p = All-cons (Stands lines f r) a actors p.0 (in_place_stands (k + 1) actors p.2)
+
+  pub in_place_kept : (k : ℕ) (us bs : List Actor) → InPlace shape lines f r k us →
+      AllZip (Kept lines f r) us bs → InPlace shape lines f r k bs
+  in_place_kept k [] [] p h = tt
+  in_place_kept k [] (b ∷ bs) p h = absurd h
+  in_place_kept k (a ∷ us) [] p h = absurd h
+  in_place_kept k (a ∷ us) (b ∷ bs) p h =
+      (h.0.stands, h.0.seat ∙ p.1, in_place_kept (k + 1) us bs p.2 h.1)
+
+  pub kept_many : (us bs : List Actor) → AllZip (Kept lines f r) us bs → length bs ≡ length us
+  kept_many [] [] h = refl
+  kept_many [] (b ∷ bs) h = absurd h
+  kept_many (a ∷ us) [] h = absurd h
+  kept_many (a ∷ us) (b ∷ bs) h = ap suc (kept_many us bs h.1)
+
+  pub in_place_at : (k i : ℕ) (actors : List Actor) (a : Actor) → InPlace shape lines f r k actors →
+      slice_get actors i ≡ Some a → Stands lines f r a × (a.port.rank ≡ k + i) × (a.process.rank.sizes ≡ shape)
+  in_place_at k i [] a p at = absurd (none at) where
+    none : None ≡ Some a → ⊥
+    none e = cc
+  in_place_at k zero (b ∷ actors) a p at =
+      let e : b ≡ a = same_there b a refl at in
+      let seat = p.1 in
+      subst (λ (x : Actor). Stands lines f r x × (x.port.rank ≡ k + 0) × (x.process.rank.sizes ≡ shape)) e
+      (p.0, ap (λ (s : Seat). s.rank) seat ∙ omega arith, ap (λ (s : Seat). s.sizes) seat)
+  in_place_at k (suc i) (b ∷ actors) a p at =
+      let h = in_place_at (k + 1) i actors a p.2 at in (h.0, h.1 ∙ omega arith, h.2)
+
+  pub in_place_push : (k : ℕ) (actors : List Actor) (a : Actor) → InPlace shape lines f r k actors →
+      Stands lines f r a → seat_of a ≡ record { rank = k + length actors; sizes = shape } →
+      InPlace shape lines f r k (actors ++ a ∷ [])
+  in_place_push k [] a p s seat =
+      (s, seat ∙ ap (λ (n : ℕ). record { rank = n; sizes = shape }) (omega arith), tt)
+  in_place_push k (b ∷ actors) a p s seat = (
+    p.0,
+    p.1,
+    in_place_push (k + 1) actors a p.2 s
+        (seat ∙ ap (λ (n : ℕ). record { rank = n; sizes = shape }) (omega arith)),
+  )
+
+  pub in_place_ranked : (actors : List Actor) → InPlace shape lines f r 0 actors → AreRanked f.ranks actors
+  in_place_ranked actors p k a at =
+      let s = (in_place_at 0 k actors a p at).0 in
+      (s.is.cells.2, s.is.rings.1.1 ∙ s.is.ranks.1 ∙ sym s.is.ranks.0)
+
+pub new_in_order : (f : Fabric) (r : Rings) (k : ℕ) (ps : List Port) (qs : List RingPort) → length ps ≡ length qs →
+    ((i : ℕ) (p : Port) → slice_get ps i ≡ Some p → IsNew f p (k + i)) →
+    ((i : ℕ) (q : RingPort) → slice_get qs i ≡ Some q → ring.IsNew r q (k + i)) → NewInOrder f r k ps qs
+new_in_order f r k [] [] many one other = tt
+new_in_order f r k [] (q ∷ qs) many one other = absurd (omega (arith, many))
+new_in_order f r k (p ∷ ps) [] many one other = absurd (omega (arith, many))
+new_in_order f r k (p ∷ ps) (q ∷ qs) many one other =
+    let same : k + 0 ≡ k = omega arith in (
+      subst (λ (n : ℕ). IsNew f p n) same (one 0 p refl),
+      subst (λ (n : ℕ). ring.IsNew r q n) same (other 0 q refl),
+      new_in_order f r (k + 1) ps qs (omega (arith, many))
+          (λ i x at. subst (λ (n : ℕ). IsNew f x n) (later i) (one (suc i) x at))
+          (λ i x at. subst (λ (n : ℕ). ring.IsNew r x n) (later i) (other (suc i) x at)),
+    ) where
+      later : (i : ℕ) → k + suc i ≡ (k + 1) + i
+      later i = omega arith
+
+pub get_from_map : {X Y : Type 0} (g : X → Y) (xs : List X) (i : ℕ) (y : Y) → slice_get (map g xs) i ≡ Some y →
+    (x : X) × (slice_get xs i ≡ Some x) × (g x ≡ y)
+get_from_map {Y = Y} g [] i y at = absurd (none at) where
+  none : {y : Y} → None ≡ Some y → ⊥
+  none e = cc
+get_from_map {Y = Y} g (x ∷ xs) zero y at = (x, refl, one at) where
+  one : {a b : Y} → Some a ≡ Some b → a ≡ b
+  one e = cc
+get_from_map g (x ∷ xs) (suc i) y at = get_from_map g xs i y at

@@ -1,0 +1,501 @@
+-- What each step of an actor keeps.
+use Rattle.std.proofs.Common.{◌≡◌, ◌≢◌, ◌⊎◌, ⊎_elim, ℕ, ◌+◌, ◌<◌, ◌≤◌, ◌==◌, Bool, true, false, cond}
+use Rattle.std.proofs.Common.{Some, None, List, [], ◌∷◌, ◌++◌, length, map, refl, sym, ap, ◌∙◌, subst}
+use Rattle.std.proofs.Common.{arith, append-nil, get_or-set_same, get_or-set_other, Ok, Err, Result}
+use Rattle.std.specs.Prelude.{is_err}
+use Rattle.std.specs.List.{cons_option}
+use Rattle.std.proofs.lemmas.Bool.Decides.{nat_tests}
+use Rattle.std.proofs.lemmas.List.{map-append}
+use native.Mathlib.Decide.{dec_le}
+use Rattle.nm_types.specs.declared.limits.TheConstants.{MAX_BOX}
+use Rattle.nm_types.specs.declared.packets.Packet.{Packet}
+use Rattle.nm_types.specs.declared.packets.Path.{Path}
+use Rattle.nm_types.specs.declared.packets.Path.TheVariants.{Box, Cell}
+use Rattle.nm_types.specs.declared.packets.Piece.{Piece}
+use Rattle.nm_types.specs.declared.scripts.Line.{Line}
+use Rattle.nm_types.specs.Sizes.{Sizes}
+use Rattle.nm_history.specs.declared.events.Event.{Event}
+use Rattle.nm_protocol.specs.Known.{Taken}
+use Rattle.nm_protocol.specs.Pieces.{Pulled}
+use Rattle.nm_seats.specs.Update.{update}
+use Rattle.nm_table.specs.declared.table.Entry.{Entry}
+use Rattle.nm_table.specs.declared.table.Heads.{Heads}
+use Rattle.nm_table.specs.Rule.{Load, if_below, from, sent_to}
+use Rattle.nm_table.specs.Plays.{heads_of, with_box_full, with_filling, with_heads, with_put, with_put_box}
+use Rattle.nm_table.specs.Plays.{with_look}
+use Rattle.nm_table.specs.declared.table.Look.TheVariants.{Fresh}
+use Rattle.nm_cells.specs.declared.port.Fabric.{Fabric}
+use Rattle.nm_cells.specs.declared.port.Port.{Port}
+use Rattle.nm_cells.specs.Ports.{Owns, SameTaken, knows, taken_by}
+use Rattle.nm_cells.specs.Counted.{IsOneOf}
+use Rattle.nm_port.specs.Polls.{Came, HoldsTheRest, count_held, IsGot, IsNext, Way, before, by_box, by_cell, polled, was_held}
+use Rattle.nm_port.specs.Polls.{with_all_missed}
+use Rattle.nm_port.specs.Sends.{HadMiss, tried}
+use Rattle.nm_copyring.specs.declared.port.RingPort.{RingPort}
+use Rattle.nm_copyring.specs.declared.port.Rings.{Rings}
+use Rattle.nm_copyring.specs.declared.table.Entry as ring_entry
+use Rattle.nm_copyring.specs.declared.table.Lane.{Lane}
+use Rattle.nm_copyring.specs.Rule.{lane, new_lane}
+use Rattle.nm_copyring.specs.Plays.{one_pulled, one_pushed, with_lane}
+use Rattle.nm_copyring.specs.Ports as ring
+use Rattle.nm_outgoing.specs.Left.{Left, with_packet, with_piece}
+use Rattle.nm_ends.specs.Moments.{Moment, pulled_from, taken_from}
+use Rattle.nm_ends.specs.Moments.Cause.{Acted}
+use Rattle.nm_rank.specs.Calls.{taken_of}
+use Rattle.nm_rank.specs.Ranks.{RankView}
+use Rattle.nm_log.specs.Moments.{drew, pulled, took}
+use Rattle.nm_log.proofs.Shown.{pulled-push, pulled_still, taken-push, taken_still}
+use Rattle.nm_process.specs.Processes.{ProcessView}
+use Rattle.nm_process.specs.Work.{IsAtWork}
+use Rattle.nm_channels.specs.Carried.{HasPassed, HasSent, one_more}
+use Rattle.nm_standing.specs.Standing.{GoesOn, IsOf, IsStanding, Past, with_moment, with_packet_left}
+use Rattle.nm_standing.specs.Standing.{with_piece_left}
+use Rattle.nm_world.specs.declared.actors.Actor.{Actor}
+use Rattle.nm_world.specs.Actors.{IsActor, Kept, Seat, Stands, seat_of}
+
+pub stands_of : (shape : Sizes) (lines : List Line) (f : Fabric) (r : Rings) (a : Actor) (past : Past) →
+    a.process.rank.sizes ≡ shape → IsActor shape lines f r a past → Stands lines f r a
+stands_of shape lines f r a past same is =
+    record { past = past; is = subst (λ (s : Sizes). IsActor s lines f r a past) (sym same) is }
+
+-- the lists that a port's seat has
+pub record SameSent (e e' : Entry) : Type 0 where
+  pub box : e'.put_box ≡ e.put_box
+  pub cell : e'.put ≡ e.put
+
+pub record SameGot (e e' : Entry) : Type 0 where
+  pub box : e'.got_box ≡ e.got_box
+  pub cell : e'.got ≡ e.got
+
+pub sent_same : (e e' : Entry) (to : ℕ) (ps : List Packet) → SameSent e e' → HasSent e to ps → HasSent e' to ps
+sent_same e e' to ps same is =
+    record { listed = rw (same.box, same.cell) is.listed; many = rw (same.box, same.cell) is.many }
+
+pub got_same : (e e' : Entry) (t from : ℕ) (ps : List Packet) → SameGot e e' → HasPassed e t from ps →
+    HasPassed e' t from ps
+got_same e e' t from ps same is =
+    record { listed = rw (same.box, same.cell) is.listed; many = is.many }
+
+-- a try by box, and a miss, leave them as they were
+tried_sent : (len to : ℕ) (e : Entry) → SameSent e (tried len to e)
+tried_sent len to e = by (dec_le len MAX_BOX) where
+  by : (d : Dec (len ≤ MAX_BOX)) → SameSent e (if_below d (with_box_full to e) e)
+  by (yes h) = record { box = refl; cell = refl }
+  by (no h) = record { box = refl; cell = refl }
+
+tried_got : (len to : ℕ) (e : Entry) → SameGot e (tried len to e)
+tried_got len to e = by (dec_le len MAX_BOX) where
+  by : (d : Dec (len ≤ MAX_BOX)) → SameGot e (if_below d (with_box_full to e) e)
+  by (yes h) = record { box = refl; cell = refl }
+  by (no h) = record { box = refl; cell = refl }
+
+missed_sent : (b : Bool) (e e' : Entry) → HadMiss b e e' → SameSent e e'
+missed_sent true e e' miss = ⊎_elim
+    (λ h. record { box = ap (λ (x : Entry). x.put_box) h; cell = ap (λ (x : Entry). x.put) h })
+    (λ h. record { box = ap (λ (x : Entry). x.put_box) h.1; cell = ap (λ (x : Entry). x.put) h.1 }) miss
+missed_sent false e e' miss = ⊎_elim
+    (λ h. record { box = ap (λ (x : Entry). x.put_box) h; cell = ap (λ (x : Entry). x.put) h })
+    (λ h. record { box = ap (λ (x : Entry). x.put_box) h.1; cell = ap (λ (x : Entry). x.put) h.1 }) miss
+
+missed_got : (b : Bool) (e e' : Entry) → HadMiss b e e' → SameGot e e'
+missed_got true e e' miss = ⊎_elim
+    (λ h. record { box = ap (λ (x : Entry). x.got_box) h; cell = ap (λ (x : Entry). x.got) h })
+    (λ h. record { box = ap (λ (x : Entry). x.got_box) h.1; cell = ap (λ (x : Entry). x.got) h.1 }) miss
+missed_got false e e' miss = ⊎_elim
+    (λ h. record { box = ap (λ (x : Entry). x.got_box) h; cell = ap (λ (x : Entry). x.got) h })
+    (λ h. record { box = ap (λ (x : Entry). x.got_box) h.1; cell = ap (λ (x : Entry). x.got) h.1 }) miss
+
+pub back_sent : (len to : ℕ) (e e' : Entry) → HadMiss false (tried len to e) e' → SameSent e e'
+back_sent len to e e' miss =
+    let one = tried_sent len to e in
+    let two = missed_sent false (tried len to e) e' miss in
+    record { box = two.box ∙ one.box; cell = two.cell ∙ one.cell }
+
+pub back_got : (len to : ℕ) (e e' : Entry) → HadMiss false (tried len to e) e' → SameGot e e'
+back_got len to e e' miss =
+    let one = tried_got len to e in
+    let two = missed_got false (tried len to e) e' miss in
+    record { box = two.box ∙ one.box; cell = two.cell ∙ one.cell }
+
+pub none_sent : (e e' : Entry) → HadMiss true (with_all_missed e) e' → SameSent e e'
+none_sent e e' miss =
+    let two = missed_sent true (with_all_missed e) e' miss in record { box = two.box; cell = two.cell }
+
+pub none_got : (e e' : Entry) → HadMiss true (with_all_missed e) e' → SameGot e e'
+none_got e e' miss =
+    let two = missed_got true (with_all_missed e) e' miss in record { box = two.box; cell = two.cell }
+
+-- a port that passed nothing on and sent nothing
+module _ (lines : List Line) (f : Fabric) (r : Rings) (a : Actor) (port : Port) (s : Stands lines f r a)
+    (owns : Owns f port) (rank : port.rank ≡ a.port.rank) (rest : HoldsTheRest port)
+    (hands : port.hands ≤ a.port.hands) (taken : taken_by port ≡ taken_by a.port) where
+  ranked : IsStanding a.process.rank.sizes lines port.rank a.process s.past
+  ranked = subst (λ (k : ℕ). IsStanding a.process.rank.sizes lines k a.process s.past) (sym rank) s.is.standing
+
+  no_hands : port.hands ≡ 0
+  no_hands = let none = s.is.hands in omega (arith, hands, none)
+
+  pub nothing_carried : SameSent (knows a.port) (knows port) → SameGot (knows a.port) (knows port) →
+      Stands lines f r (record a { port = port })
+  nothing_carried sent got =
+      record {
+        past = s.past;
+        is = record {
+          standing = ranked;
+          in_range = s.is.in_range;
+          cells = owns;
+          rings = s.is.rings;
+          rank = s.is.rank ∙ sym rank;
+          ranks = s.is.ranks;
+          hands = no_hands;
+          rest = rest;
+          sent = λ to within. sent_same (knows a.port) (knows port) to (s.past.left to).packets sent
+              (s.is.sent to within);
+          taken = λ from within. subst (λ (n : ℕ → ℕ). HasPassed (knows port) (n from) from
+              (map (λ t. t.packet) (taken_from from s.past.log))) (sym taken)
+              (got_same (knows a.port) (knows port) (taken_by a.port from) from
+              (map (λ t. t.packet) (taken_from from s.past.log)) got (s.is.taken from within));
+          pushed = s.is.pushed;
+          pulled = s.is.pulled;
+        };
+      }
+
+-- a command that ran
+pub run_on : (lines : List Line) (f : Fabric) (r : Rings) (a : Actor) (v : ProcessView)
+    (s : Stands lines f r a) → IsAtWork a.process.rank.sizes lines v →
+    GoesOn a.process.rank.sizes lines a.port.rank v.rank s.past → Stands lines f r (record a { process = v })
+run_on lines f r a v s work on =
+    stands_of a.process.rank.sizes lines f r (record a { process = v }) on.after work.sizes
+    (record {
+      standing = record { work = work; rank = on.is };
+      in_range = s.is.in_range;
+      cells = s.is.cells;
+      rings = s.is.rings;
+      rank = s.is.rank;
+      ranks = s.is.ranks;
+      hands = s.is.hands;
+      rest = s.is.rest;
+      sent = λ to within. subst (λ (l : Left). HasSent (knows a.port) to l.packets)
+          (sym (on.same.left to)) (s.is.sent to within);
+      taken = λ from within. subst (λ (ts : List Taken). HasPassed (knows a.port) (taken_by a.port from) from
+          (map (λ t. t.packet) ts)) (sym (on.same.taken from)) (s.is.taken from within);
+      pushed = λ to within. ap (λ (l : Left). l.pieces) (on.same.left to) ∙ s.is.pushed to within;
+      pulled = λ from within. ap (map (λ (d : Pulled). d.piece)) (on.same.pulled from)
+          ∙ s.is.pulled from within;
+    })
+
+-- a packet that was taken
+took_list : (log : List Moment) (v : RankView) (p : Packet) (i : ℕ) →
+    map (λ (t : Taken). t.packet) (taken_from i (log ++ took v p ∷ []))
+    ≡ one_more p.from i p (map (λ (t : Taken). t.packet) (taken_from i log))
+took_list log v p i =
+    ap (map (λ (t : Taken). t.packet)) (taken-push i log (took v p)) ∙ by (p.from == i) where
+      by : (b : Bool) → map (λ (t : Taken). t.packet) (taken_from i log
+          ++ cons_option (cond b (Some (taken_of v p)) None) [])
+          ≡ cond b (map (λ (t : Taken). t.packet) (taken_from i log) ++ p ∷ [])
+          (map (λ (t : Taken). t.packet) (taken_from i log))
+      by true = map-append (λ (t : Taken). t.packet) (taken_from i log) (taken_of v p ∷ [])
+      by false = ap (map (λ (t : Taken). t.packet)) (append-nil (taken_from i log))
+
+drew_list : (log : List Moment) (v : RankView) (q : Piece) (i : ℕ) →
+    map (λ (d : Pulled). d.piece) (pulled_from i (log ++ drew v q ∷ []))
+    ≡ cond (q.from == i) (map (λ (d : Pulled). d.piece) (pulled_from i log) ++ q ∷ [])
+    (map (λ (d : Pulled). d.piece) (pulled_from i log))
+drew_list log v q i =
+    ap (map (λ (d : Pulled). d.piece)) (pulled-push i log (drew v q)) ∙ by (q.from == i) where
+      by : (b : Bool) → map (λ (d : Pulled). d.piece) (pulled_from i log
+          ++ cons_option (cond b (Some (pulled v q)) None) [])
+          ≡ cond b (map (λ (d : Pulled). d.piece) (pulled_from i log) ++ q ∷ [])
+          (map (λ (d : Pulled). d.piece) (pulled_from i log))
+      by true = map-append (λ (d : Pulled). d.piece) (pulled_from i log) (pulled v q ∷ [])
+      by false = ap (map (λ (d : Pulled). d.piece)) (append-nil (pulled_from i log))
+
+-- the lists that grew by a poll
+came : {old new : Port} {p : Packet} → Way old new p → (boxes : List Load) × (cells : List Load)
+    × Came old new boxes cells
+came (was_held x y z) = ([], [], z)
+came {p = p} (by_box x z) = (Some p ∷ [], [], z)
+came {p = p} (by_cell x y z) = ([], Some p ∷ [], z)
+came {p = p} (before q w x y z) = (Some p ∷ [], Some q ∷ [], z)
+
+abbrev PollCarries : Type 0
+PollCarries = (e e' : Entry) (taken taken' : ℕ → ℕ) (boxes cells : List Load) (i : ℕ) (p : Packet)
+    (ps : List Packet) → e'.got_box ≡ e.got_box ++ boxes → e'.got ≡ e.got ++ cells → p.seq ≡ taken p.from →
+    taken' ≡ update taken p.from (taken p.from + 1) →
+    IsOneOf (Some p) (from p.from e'.got_box) ⊎ IsOneOf (Some p) (from p.from e'.got) →
+    HasPassed e (taken i) i ps → HasPassed e' (taken' i) i (one_more p.from i p ps)
+
+pub take_on : PollCarries → (lines : List Line) (f : Fabric) (r : Rings) (a : Actor) (v : ProcessView)
+    (port : Port) (p : Packet) (s : Stands lines f r a) → Owns f port → port.rank ≡ a.port.rank →
+    HoldsTheRest port → port.hands ≤ a.port.hands → IsNext f a.port port p → IsGot port p →
+    Way a.port port p → knows port ≡ polled (knows port) (knows a.port) →
+    IsAtWork a.process.rank.sizes lines v →
+    IsOf a.process.rank.sizes lines a.port.rank v.rank (with_moment s.past (took a.process.rank p)) →
+    Stands lines f r (record { process = v; port = port; ring = a.ring })
+take_on law lines f r a v port p s owns rank rest hands next got way same work on =
+    let grown = came way in
+    let now = with_moment s.past (took a.process.rank p) in
+    stands_of a.process.rank.sizes lines f r (record { process = v; port = port; ring = a.ring }) now work.sizes
+    (record {
+      standing = subst (λ (k : ℕ). IsStanding a.process.rank.sizes lines k v now) (sym rank)
+          (record { work = work; rank = on });
+      in_range = s.is.in_range;
+      cells = owns;
+      rings = s.is.rings;
+      rank = s.is.rank ∙ sym rank;
+      ranks = s.is.ranks;
+      hands = let none = s.is.hands in omega (arith, hands, none);
+      rest = rest;
+      sent = λ to within. sent_same (knows a.port) (knows port) to (s.past.left to).packets
+          (record { box = ap (λ (e : Entry). e.put_box) same; cell = ap (λ (e : Entry). e.put) same })
+          (s.is.sent to within);
+      taken = λ i within. subst (λ (ps : List Packet). HasPassed (knows port) (taken_by port i) i ps)
+          (sym (took_list s.past.log a.process.rank p i))
+          (law (knows a.port) (knows port) (taken_by a.port) (taken_by port) grown.0 grown.1 i p
+          (map (λ t. t.packet) (taken_from i s.past.log)) grown.2.0 grown.2.1 next.number next.taken got
+          (s.is.taken i within));
+      pushed = s.is.pushed;
+      pulled = λ i within. ap (map (λ (d : Pulled). d.piece))
+          (pulled_still i s.past.log (took a.process.rank p) refl) ∙ s.is.pulled i within;
+    })
+
+-- what a rank has of another one, after a change of one
+lane_here : (e : ring_entry.Entry) (j : ℕ) (g : Lane → Lane) → j < length e.lanes →
+    lane (with_lane g j e) j ≡ g (lane e j)
+lane_here e j g low = get_or-set_same e.lanes j (g (lane e j)) new_lane low
+
+lane_else : (e : ring_entry.Entry) (j k : ℕ) (g : Lane → Lane) → k ≢ j → lane (with_lane g j e) k ≡ lane e k
+lane_else e j k g ne = get_or-set_other e.lanes j k (g (lane e j)) new_lane ne
+
+is_same : (x y : ℕ) → (x == y) ≡ true → x ≡ y
+is_same x y e = grind (arith, nat_tests)
+
+isnt_same : (x y : ℕ) → (x == y) ≡ false → y ≢ x
+isnt_same x y other same = let equal : (x == y) ≡ true = grind (arith, nat_tests) in clash (x == y) other equal where
+  clash : (b : Bool) → b ≡ false → b ≡ true → ⊥
+  clash b one two = cc
+
+pub pull_on : (lines : List Line) (f : Fabric) (r : Rings) (a : Actor) (v : ProcessView)
+    (port : RingPort) (sender : ℕ) (q : Piece) (s : Stands lines f r a) → ring.Owns r port → port.rank ≡ a.ring.rank →
+    sender < r.ranks → q.from ≡ sender →
+    ring.knows port ≡ with_lane (one_pulled q) sender (ring.knows a.ring) →
+    IsAtWork a.process.rank.sizes lines v →
+    IsOf a.process.rank.sizes lines a.port.rank v.rank (with_moment s.past (drew a.process.rank q)) →
+    Stands lines f r (record { process = v; port = a.port; ring = port })
+pull_on lines f r a v port sender q s owns rank within own knew work on =
+    let now = with_moment s.past (drew a.process.rank q) in
+    let wide = s.is.rings.1.2 in
+    stands_of a.process.rank.sizes lines f r (record { process = v; port = a.port; ring = port }) now work.sizes
+    (record {
+      standing = record { work = work; rank = on };
+      in_range = s.is.in_range;
+      cells = s.is.cells;
+      rings = owns;
+      rank = rank ∙ s.is.rank;
+      ranks = s.is.ranks;
+      hands = s.is.hands;
+      rest = s.is.rest;
+      sent = s.is.sent;
+      taken = λ i low. subst (λ (ts : List Taken). HasPassed (knows a.port) (taken_by a.port i) i
+          (map (λ t. t.packet) ts)) (sym (taken_still i s.past.log (drew a.process.rank q) refl))
+          (s.is.taken i low);
+      pushed = λ to low. s.is.pushed to low ∙ sym (ap (λ (e : ring_entry.Entry). (lane e to).pushed) knew
+          ∙ still to (omega (arith, within, wide)));
+      pulled = λ i low. drew_list s.past.log a.process.rank q i ∙ by i low (q.from == i) refl;
+    }) where
+      still : (to : ℕ) → sender < length (ring.knows a.ring).lanes →
+          (lane (with_lane (one_pulled q) sender (ring.knows a.ring)) to).pushed ≡ (lane (ring.knows a.ring) to).pushed
+      still to low = by_place (sender == to) refl where
+        by_place : (b : Bool) → (sender == to) ≡ b →
+            (lane (with_lane (one_pulled q) sender (ring.knows a.ring)) to).pushed ≡ (lane (ring.knows a.ring) to).pushed
+        by_place true e = subst (λ (k : ℕ). (lane (with_lane (one_pulled q) sender (ring.knows a.ring)) k).pushed
+            ≡ (lane (ring.knows a.ring) k).pushed) (is_same sender to e)
+            (ap (λ (l : Lane). l.pushed) (lane_here (ring.knows a.ring) sender (one_pulled q) low))
+        by_place false e = ap (λ (l : Lane). l.pushed)
+            (lane_else (ring.knows a.ring) sender to (one_pulled q) (isnt_same sender to e))
+
+      by : (i : ℕ) → i < a.process.rank.sizes.ranks → (b : Bool) → (q.from == i) ≡ b →
+          cond b (map (λ (d : Pulled). d.piece) (pulled_from i s.past.log) ++ q ∷ [])
+          (map (λ (d : Pulled). d.piece) (pulled_from i s.past.log)) ≡ ring.pulled_from port i
+      by i low true e =
+          let here : sender ≡ i = sym own ∙ is_same q.from i e in
+          let wide = s.is.rings.1.2 in
+          ap (λ (qs : List Piece). qs ++ q ∷ []) (s.is.pulled i low)
+          ∙ sym (ap (λ (x : ring_entry.Entry). (lane x i).pulled) knew
+          ∙ subst (λ (k : ℕ). (lane (with_lane (one_pulled q) sender (ring.knows a.ring)) k).pulled
+          ≡ (lane (ring.knows a.ring) k).pulled ++ q ∷ []) here
+          (ap (λ (l : Lane). l.pulled) (lane_here (ring.knows a.ring) sender (one_pulled q)
+          (omega (arith, within, wide)))))
+      by i low false e =
+          let other : i ≢ sender = λ same. isnt_same q.from i e (same ∙ sym own) in
+          s.is.pulled i low ∙ sym (ap (λ (x : ring_entry.Entry). (lane x i).pulled) knew
+          ∙ ap (λ (l : Lane). l.pulled) (lane_else (ring.knows a.ring) sender i (one_pulled q) other))
+
+-- the lists of a packet that was sent, by either way
+pub data SentBy (e e' : Entry) (to : ℕ) (p : Packet) : Type 0 where
+  a_box : e'.put_box ≡ e.put_box ++ (to, Some p) ∷ [] → e'.put ≡ e.put → SameGot e e' → SentBy e e' to p
+  a_cell : e'.put_box ≡ e.put_box → e'.put ≡ e.put ++ (to, Some p) ∷ [] → SameGot e e' → SentBy e e' to p
+
+cell_put : (len to : ℕ) (p : Packet) (h : Heads) (e e' : Entry) →
+    e' ≡ with_put ((to, Some p) ∷ []) (with_look false Fresh (with_heads false h (tried len to e))) → SentBy e e' to p
+cell_put len to p h e e' is =
+    let one = tried_sent len to e in
+    let two = tried_got len to e in
+    a_cell (ap (λ (x : Entry). x.put_box) is ∙ one.box)
+    (ap (λ (x : Entry). x.put) is ∙ ap (λ xs. xs ++ (to, Some p) ∷ []) one.cell)
+    (record { box = ap (λ (x : Entry). x.got_box) is ∙ two.box; cell = ap (λ (x : Entry). x.got) is ∙ two.cell })
+
+box_put : (to : ℕ) (p : Packet) (e e' : Entry) →
+    e' ≡ with_put_box ((to, Some p) ∷ []) (with_filling to false e) → SentBy e e' to p
+box_put to p e e' is =
+    a_box (ap (λ (x : Entry). x.put_box) is) (ap (λ (x : Entry). x.put) is)
+    (record { box = ap (λ (x : Entry). x.got_box) is; cell = ap (λ (x : Entry). x.got) is })
+
+pub sent_by_way : (result : Result Path Packet) (len to : ℕ) (p : Packet) (e e' : Entry) →
+    is_err result ≡ false →
+    (result ≡ Ok Box → e' ≡ with_put_box ((to, Some p) ∷ []) (with_filling to false e)) →
+    (result ≡ Ok Cell →
+    e' ≡ with_put ((to, Some p) ∷ []) (with_look false Fresh
+    (with_heads false (heads_of false e') (tried len to e)))) →
+    SentBy e e' to p
+sent_by_way (Ok Box) len to p e e' okay box cell = box_put to p e e' (box refl)
+sent_by_way (Ok Cell) len to p e e' okay box cell = cell_put len to p (heads_of false e') e e' (cell refl)
+sent_by_way (Err x) len to p e e' failed box cell = absurd (clash failed) where
+  clash : true ≡ false → ⊥
+  clash e = cc
+
+abbrev SendCarries : Type 0
+SendCarries = (e e' : Entry) (j to : ℕ) (p : Packet) (ps : List Packet) → SentBy e e' to p →
+    p.seq ≡ sent_to to e.put_box e.put → HasSent e j ps → HasSent e' j (one_more to j p ps)
+
+-- from the clauses of the law
+pub send_carries : ((e e' : Entry) (j to : ℕ) (p : Packet) (ps : List Packet) →
+    e'.put_box ≡ e.put_box ++ (to, Some p) ∷ [] → e'.put ≡ e.put → p.seq ≡ sent_to to e.put_box e.put →
+    HasSent e j ps → HasSent e' j (one_more to j p ps)) →
+    ((e e' : Entry) (j to : ℕ) (p : Packet) (ps : List Packet) →
+    e'.put_box ≡ e.put_box → e'.put ≡ e.put ++ (to, Some p) ∷ [] → p.seq ≡ sent_to to e.put_box e.put →
+    HasSent e j ps → HasSent e' j (one_more to j p ps)) → SendCarries
+send_carries box cell e e' j to p ps (a_box x y z) number is = box e e' j to p ps x y number is
+send_carries box cell e e' j to p ps (a_cell x y z) number is = cell e e' j to p ps x y number is
+
+got_by : {e e' : Entry} {to : ℕ} {p : Packet} → SentBy e e' to p → SameGot e e'
+got_by (a_box x y z) = z
+got_by (a_cell x y z) = z
+
+left_packets : (to j : ℕ) (p : Packet) (l : Left) → (with_packet j (to, p) l).packets ≡ one_more to j p l.packets
+left_packets to j p l = by (to == j) where
+  by : (b : Bool) → (cond b (record l { packets = l.packets ++ p ∷ [] }) l).packets ≡ cond b (l.packets ++ p ∷ []) l.packets
+  by true = refl
+  by false = refl
+
+left_pieces : (to j : ℕ) (p : Packet) (l : Left) → (with_packet j (to, p) l).pieces ≡ l.pieces
+left_pieces to j p l = by (to == j) where
+  by : (b : Bool) → (cond b (record l { packets = l.packets ++ p ∷ [] }) l).pieces ≡ l.pieces
+  by true = refl
+  by false = refl
+
+pub send_on : SendCarries → (lines : List Line) (f : Fabric) (r : Rings) (a : Actor) (v : ProcessView)
+    (port : Port) (to : ℕ) (p : Packet) (events : List Event) (s : Stands lines f r a) → Owns f port → port.rank ≡ a.port.rank →
+    SameTaken a.port port → port.hands ≤ a.port.hands → SentBy (knows a.port) (knows port) to p →
+    p.seq ≡ sent_to to (knows a.port).put_box (knows a.port).put →
+    IsAtWork a.process.rank.sizes lines v →
+    IsOf a.process.rank.sizes lines a.port.rank v.rank
+    (with_moment (with_packet_left s.past (to, p)) (record { cause = Acted; events = events })) →
+    Stands lines f r (record { process = v; port = port; ring = a.ring })
+send_on law lines f r a v port to p events s owns rank same hands way number work on =
+    let m : Moment = record { cause = Acted; events = events } in
+    let now = with_moment (with_packet_left s.past (to, p)) m in
+    let got = got_by way in
+    stands_of a.process.rank.sizes lines f r (record { process = v; port = port; ring = a.ring }) now work.sizes
+    (record {
+      standing = subst (λ (k : ℕ). IsStanding a.process.rank.sizes lines k v now) (sym rank)
+          (record { work = work; rank = on });
+      in_range = s.is.in_range;
+      cells = owns;
+      rings = s.is.rings;
+      rank = s.is.rank ∙ sym rank;
+      ranks = s.is.ranks;
+      hands = let none = s.is.hands in omega (arith, hands, none);
+      rest = same.2 ∙ s.is.rest ∙ ap count_held (sym same.1);
+      sent = λ j within. subst (λ (ps : List Packet). HasSent (knows port) j ps)
+          (sym (left_packets to j p (s.past.left j)))
+          (law (knows a.port) (knows port) j to p (s.past.left j).packets way number (s.is.sent j within));
+      taken = λ i within. subst (λ (ts : List Taken). HasPassed (knows port) (taken_by port i) i
+          (map (λ t. t.packet) ts)) (sym (taken_still i s.past.log m refl))
+          (subst (λ (n : ℕ → ℕ). HasPassed (knows port) (n i) i
+          (map (λ t. t.packet) (taken_from i s.past.log))) (sym same.0)
+          (got_same (knows a.port) (knows port) (taken_by a.port i) i
+          (map (λ t. t.packet) (taken_from i s.past.log)) got (s.is.taken i within)));
+      pushed = λ j within. left_pieces to j p (s.past.left j) ∙ s.is.pushed j within;
+      pulled = λ i within. ap (map (λ (d : Pulled). d.piece)) (pulled_still i s.past.log m refl)
+          ∙ s.is.pulled i within;
+    })
+
+piece_packets : (j : ℕ) (piece : ℕ × Piece) (l : Left) → (with_piece j piece l).packets ≡ l.packets
+piece_packets j piece l = by (piece.0 == j) where
+  by : (b : Bool) → (cond b (record l { pieces = l.pieces ++ piece.1 ∷ [] }) l).packets ≡ l.packets
+  by true = refl
+  by false = refl
+
+pub push_on : (lines : List Line) (f : Fabric) (r : Rings) (a : Actor) (v : ProcessView)
+    (port : RingPort) (to : ℕ) (q : Piece) (events : List Event) (s : Stands lines f r a) →
+    ring.Owns r port → port.rank ≡ a.ring.rank → to < r.ranks →
+    ring.knows port ≡ with_lane (one_pushed q) to (ring.knows a.ring) →
+    IsAtWork a.process.rank.sizes lines v →
+    IsOf a.process.rank.sizes lines a.port.rank v.rank
+    (with_moment (with_piece_left s.past (to, q)) (record { cause = Acted; events = events })) →
+    Stands lines f r (record { process = v; port = a.port; ring = port })
+push_on lines f r a v port to q events s owns rank within knew work on =
+    let m : Moment = record { cause = Acted; events = events } in
+    let now = with_moment (with_piece_left s.past (to, q)) m in
+    let wide = s.is.rings.1.2 in
+    stands_of a.process.rank.sizes lines f r (record { process = v; port = a.port; ring = port }) now work.sizes
+    (record {
+      standing = record { work = work; rank = on };
+      in_range = s.is.in_range;
+      cells = s.is.cells;
+      rings = owns;
+      rank = rank ∙ s.is.rank;
+      ranks = s.is.ranks;
+      hands = s.is.hands;
+      rest = s.is.rest;
+      sent = λ j low. subst (λ (ps : List Packet). HasSent (knows a.port) j ps)
+          (sym (piece_packets j (to, q) (s.past.left j))) (s.is.sent j low);
+      taken = λ i low. subst (λ (ts : List Taken). HasPassed (knows a.port) (taken_by a.port i) i
+          (map (λ t. t.packet) ts)) (sym (taken_still i s.past.log m refl)) (s.is.taken i low);
+      pushed = λ j low. by j low (to == j) refl;
+      pulled = λ i low. ap (map (λ (d : Pulled). d.piece)) (pulled_still i s.past.log m refl)
+          ∙ s.is.pulled i low ∙ sym (ap (λ (e : ring_entry.Entry). (lane e i).pulled) knew
+          ∙ still i (omega (arith, within, wide)));
+    }) where
+      still : (i : ℕ) → to < length (ring.knows a.ring).lanes →
+          (lane (with_lane (one_pushed q) to (ring.knows a.ring)) i).pulled ≡ (lane (ring.knows a.ring) i).pulled
+      still i low = by_place (to == i) refl where
+        by_place : (b : Bool) → (to == i) ≡ b →
+            (lane (with_lane (one_pushed q) to (ring.knows a.ring)) i).pulled ≡ (lane (ring.knows a.ring) i).pulled
+        by_place true e = subst (λ (k : ℕ). (lane (with_lane (one_pushed q) to (ring.knows a.ring)) k).pulled
+            ≡ (lane (ring.knows a.ring) k).pulled) (is_same to i e)
+            (ap (λ (l : Lane). l.pulled) (lane_here (ring.knows a.ring) to (one_pushed q) low))
+        by_place false e = ap (λ (l : Lane). l.pulled)
+            (lane_else (ring.knows a.ring) to i (one_pushed q) (isnt_same to i e))
+
+      by : (j : ℕ) → j < a.process.rank.sizes.ranks → (b : Bool) → (to == j) ≡ b →
+          (cond b (record (s.past.left j) { pieces = (s.past.left j).pieces ++ q ∷ [] }) (s.past.left j)).pieces
+          ≡ ring.pushed_to port j
+      by j low true e =
+          let wide = s.is.rings.1.2 in
+          ap (λ (qs : List Piece). qs ++ q ∷ []) (s.is.pushed j low)
+          ∙ sym (ap (λ (x : ring_entry.Entry). (lane x j).pushed) knew
+          ∙ subst (λ (k : ℕ). (lane (with_lane (one_pushed q) to (ring.knows a.ring)) k).pushed
+          ≡ (lane (ring.knows a.ring) k).pushed ++ q ∷ []) (is_same to j e)
+          (ap (λ (l : Lane). l.pushed) (lane_here (ring.knows a.ring) to (one_pushed q)
+          (omega (arith, within, wide)))))
+      by j low false e =
+          s.is.pushed j low ∙ sym (ap (λ (x : ring_entry.Entry). (lane x j).pushed) knew
+          ∙ ap (λ (l : Lane). l.pushed) (lane_else (ring.knows a.ring) to j (one_pushed q) (isnt_same to j e)))
+
+-- whose actor it is
+pub seat_is : (a : Actor) (v : ProcessView) (rank : ℕ) → rank ≡ a.port.rank →
+    v.rank.sizes ≡ a.process.rank.sizes → ◌≡◌ {A = Seat} (record { rank = rank; sizes = v.rank.sizes }) (seat_of a)
+seat_is a v rank one two = ap (λ (k : ℕ). record { rank = k; sizes = v.rank.sizes }) one
+    ∙ ap (λ (s : Sizes). record { rank = a.port.rank; sizes = s }) two

@@ -1,0 +1,10 @@
+use Rattle.std.proofs.Common.{◌≡◌}
+use Rattle.nm_world.specs.Actors.{Kept, did}
+use Rattle.nm_world.proofs.actors.Actor.pull_all.Given as goal
+
+abbrev pub invariant-loop-sender : goal.invariant-loop-sender
+invariant-loop-sender l = record {
+  kept : Kept l.lines l.f l.r l.initial.self l.self;
+  moved : l.moved ≡ did l.f.ranks l.initial.self l.self;
+  end : l.sender-end ≡ l.f.ranks;
+}

@@ -1,0 +1,22 @@
+-- One more row.
+use Rattle.std.proofs.Common.{arith}
+use Rattle.nm_world.proofs.Chosen.{place_below}
+use Rattle.nm_world.proofs.Runs.{rows_more}
+use Rattle.nm_world.proofs.whole.all_agree.Goals as goal
+
+pub loop-i-preserved : goal.loop-i-preserved
+loop-i-preserved c =
+    record {
+      end = c.loop-i.invariant.end;
+      agree = rows_more c.args.actors.now c.loop-i.i c.loop-i.all c.row_agrees-one.result
+          c.row_agrees-one.ensures c.loop-i.invariant.agree;
+    }
+
+pub returns : goal.returns
+returns c all =
+    record {
+      pairs = λ i j a b at to.
+          let below = place_below c.args.actors.now i a at in
+          c.loop-i.invariant.agree all i j a b
+          (omega (arith, below, c.requires.many, c.loop-i.invariant.end, c.loop-i-test.false)) at to;
+    }

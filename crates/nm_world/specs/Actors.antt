@@ -1,0 +1,136 @@
+-- How an actor stands: its process, its ports, and what was.
+use Rattle.std.specs.Prelude.{◌≡◌, ℕ, zero, suc, ◌+◌, ◌<◌, ◌≤◌, Bool, nat_lt, List, [], ◌∷◌, ◌++◌}
+use Rattle.std.specs.Prelude.{length, map, slice_index}
+use Rattle.std.specs.List.{AllZip}
+use Rattle.nm_types.specs.declared.scripts.Line.{Line}
+use Rattle.nm_types.specs.Sizes.{Sizes}
+use Rattle.nm_ends.specs.Moments.{pulled_from as pulled_in, taken_from as taken_in}
+use Rattle.nm_history.specs.declared.events.Event.{Event}
+use Rattle.nm_table.specs.declared.table.Misses.{Misses}
+use Rattle.nm_table.specs.Plays.{missed_of}
+use Rattle.nm_cells.specs.declared.port.Fabric.{Fabric}
+use Rattle.nm_cells.specs.declared.port.Port.{Port}
+use Rattle.nm_cells.specs.Ports.{Owns, knows, sent_by, taken_by}
+use Rattle.nm_port.specs.Polls.{HoldsTheRest}
+use Rattle.nm_copyring.specs.declared.port.RingPort.{RingPort}
+use Rattle.nm_copyring.specs.declared.port.Rings.{Rings}
+use Rattle.nm_copyring.specs.declared.table.Lane.{Lane}
+use Rattle.nm_copyring.specs.Rule.{lane}
+use Rattle.nm_copyring.specs.Ports as ring
+use Rattle.nm_channels.specs.Carried.{HasPassed, HasSent}
+use Rattle.nm_standing.specs.Standing.{IsStanding, Past}
+use Rattle.nm_process.specs.Lines.{AreLines}
+use Rattle.nm_world.specs.declared.actors.Actor.{Actor}
+
+-- An actor's process stands at its place, and its ports carried what was: the packets that left are
+-- those that its port sent, by number, those that its port passed on are those that it took, and so
+-- it is with the pieces.
+pub record IsActor (shape : Sizes) (lines : List Line) (f : Fabric) (r : Rings) (a : Actor)
+    (past : Past) : Type 0 where
+  pub standing : IsStanding shape lines a.port.rank a.process past
+  pub in_range : AreLines shape.ranks lines
+  pub cells : Owns f a.port
+  pub rings : ring.Owns r a.ring
+  pub rank : a.ring.rank ≡ a.port.rank
+  pub ranks : (f.ranks ≡ shape.ranks) × (r.ranks ≡ shape.ranks)
+  pub hands : a.port.hands ≡ 0
+  pub rest : HoldsTheRest a.port
+  pub sent : (to : ℕ) → to < shape.ranks → HasSent (knows a.port) to (past.left to).packets
+  pub taken :
+      (from : ℕ) → from < shape.ranks →
+      HasPassed (knows a.port) (taken_by a.port from) from
+      (map (λ t. t.packet) (taken_in from past.log))
+  pub pushed :
+      (to : ℕ) → to < shape.ranks → (past.left to).pieces ≡ ring.pushed_to a.ring to
+  pub pulled :
+      (from : ℕ) → from < shape.ranks →
+      map (λ d. d.piece) (pulled_in from past.log) ≡ ring.pulled_from a.ring from
+
+-- no count of the misses of a queue falls
+pub record MissesGrow (x y : Misses) : Type 0 where
+  pub head : x.head_empty ≤ y.head_empty
+  pub link : x.link_missing ≤ y.link_missing
+
+-- What a port knows later: nothing that it sent or passed on is lost, and no count of misses falls.
+pub record PortGrows (p q : Port) : Type 0 where
+  pub sent : (j : ℕ) → sent_by p j ≤ sent_by q j
+  pub taken : (i : ℕ) → taken_by p i ≤ taken_by q i
+  pub full : (j : ℕ) → slice_index (knows p).box_full j ≤ slice_index (knows q).box_full j
+  pub missed : (i : ℕ) → slice_index (knows p).box_miss i ≤ slice_index (knows q).box_miss i
+  pub queues : (b : Bool) → MissesGrow (missed_of b (knows p)) (missed_of b (knows q))
+
+-- so it is with what a ring port has of another rank
+pub record LaneGrows (x y : Lane) : Type 0 where
+  pub pushed : length x.pushed ≤ length y.pushed
+  pub pulled : length x.pulled ≤ length y.pulled
+  pub full : x.full ≤ y.full
+  pub empty : x.empty ≤ y.empty
+
+abbrev pub RingGrows : RingPort → RingPort → Type 0
+RingGrows p q = (k : ℕ) → LaneGrows (lane (ring.knows p) k) (lane (ring.knows q) k)
+
+-- and with an actor, whose history goes on
+pub record Grows (a b : Actor) : Type 0 where
+  pub events : (more : List Event) × (b.process.rank.events ≡ a.process.rank.events ++ more)
+  pub port : PortGrows a.port b.port
+  pub ring : RingGrows a.ring b.ring
+
+-- there is what was
+pub record Stands (lines : List Line) (f : Fabric) (r : Rings) (a : Actor) : Type 0 where
+  pub past : Past
+  pub is : IsActor a.process.rank.sizes lines f r a past
+
+-- whose actor it is, and in a run of which sizes
+pub record Seat : Type 0 where
+  pub rank : ℕ
+  pub sizes : Sizes
+
+abbrev pub seat_of : Actor → Seat
+seat_of a = record { rank = a.port.rank; sizes = a.process.rank.sizes }
+
+-- it is the same actor, it stands, and it goes on from where it was
+pub record Kept (lines : List Line) (f : Fabric) (r : Rings) (a b : Actor) : Type 0 where
+  pub stands : Stands lines f r b
+  pub seat : seat_of b ≡ seat_of a
+  pub grows : Grows a b
+
+-- so it is with each of a list
+abbrev pub AllKept : List Line → Fabric → Rings → List Actor → List Actor → Type 0
+AllKept lines f r = AllZip (Kept lines f r)
+
+-- f 0 + f 1 + .., of the first n
+abbrev pub sum_below : ℕ → (ℕ → ℕ) → ℕ
+sum_below zero f = 0
+sum_below (suc n) f = sum_below n f + f n
+
+-- how much an actor has done among n ranks: its events, and what its ports sent, passed on,
+-- pushed and pulled
+abbrev pub done_by : ℕ → Actor → ℕ
+done_by n a =
+    length a.process.rank.events + sum_below n (λ j. sent_by a.port j)
+    + sum_below n (λ i. taken_by a.port i) + sum_below n (λ j. length (ring.pushed_to a.ring j))
+    + sum_below n (λ i. length (ring.pulled_from a.ring i))
+
+-- whether an actor did something between two moments
+abbrev pub did : ℕ → Actor → Actor → Bool
+did n a b = nat_lt (done_by n a) (done_by n b)
+
+-- something grew: the history, or what the ports sent, passed on, pushed or pulled
+pub data Grew (n : ℕ) (a b : Actor) : Type 0 where
+  events : length a.process.rank.events < length b.process.rank.events → Grew n a b
+  sent : (j : ℕ) → j < n → sent_by a.port j < sent_by b.port j → Grew n a b
+  taken : (i : ℕ) → i < n → taken_by a.port i < taken_by b.port i → Grew n a b
+  pushed :
+      (j : ℕ) → j < n → length (ring.pushed_to a.ring j) < length (ring.pushed_to b.ring j) → Grew n a b
+  pulled :
+      (i : ℕ) → i < n → length (ring.pulled_from a.ring i) < length (ring.pulled_from b.ring i) →
+      Grew n a b
+
+-- how much these actors have done
+abbrev pub done_of : ℕ → List Actor → ℕ
+done_of n [] = 0
+done_of n (a ∷ actors) = done_by n a + done_of n actors
+
+-- whether one of them did something between two moments
+abbrev pub did_any : ℕ → List Actor → List Actor → Bool
+did_any n old new = nat_lt (done_of n old) (done_of n new)

@@ -1,0 +1,4 @@
+pub mod Actors
+pub mod Records
+pub mod Rest
+pub mod Runs

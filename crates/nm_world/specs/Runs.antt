@@ -1,0 +1,66 @@
+-- All actors of a run, in their places.
+use Rattle.std.specs.Prelude.{◌≡◌, ℕ, ◌+◌, ◌<◌, List, [], ◌∷◌, length, map, slice_get, Some}
+use Rattle.nm_types.specs.declared.scripts.Line.{Line}
+use Rattle.nm_types.specs.Sizes.{Sizes}
+use Rattle.nm_history.specs.Quiescence.{Ended}
+use Rattle.nm_history.specs.Run.{IsRunOf}
+use Rattle.nm_report.specs.Ends.{ends_of, packets_of}
+use Rattle.nm_report.specs.declared.records.RunRecord.{RunRecord}
+use Rattle.nm_cells.specs.declared.port.Fabric.{Fabric}
+use Rattle.nm_cells.specs.declared.port.Port.{Port}
+use Rattle.nm_cells.specs.declared.closed.Closed.{Closed}
+use Rattle.nm_cells.specs.Ports.{IsNew, knows, sent_by, taken_by}
+use Rattle.nm_copyring.specs.declared.close.RingAccount.{RingAccount}
+use Rattle.nm_copyring.specs.declared.port.RingPort.{RingPort}
+use Rattle.nm_copyring.specs.declared.port.Rings.{Rings}
+use Rattle.nm_copyring.specs.Ports as ring_port
+use Rattle.nm_process.specs.Work.{IsAtWork}
+use Rattle.nm_world.specs.declared.actors.Actor.{Actor}
+use Rattle.nm_world.specs.Actors.{Stands, seat_of}
+use Rattle.nm_world.specs.Rest.{IsCarried, IsStill}
+
+-- the actors stand, and are those of the ranks from k on, in order
+abbrev pub InPlace : Sizes → List Line → Fabric → Rings → ℕ → List Actor → Type 0
+InPlace shape lines f r k [] = Unit {0}
+InPlace shape lines f r k (a ∷ actors) =
+    Stands lines f r a × (seat_of a ≡ record { rank = k; sizes = shape })
+    × InPlace shape lines f r (k + 1) actors
+
+-- an actor that is at work is still
+abbrev pub IsStillAt : List Line → Actor → Type 0
+IsStillAt lines a = IsAtWork a.process.rank.sizes lines a.process → IsStill lines a.process
+
+-- what the one sent, the other took
+abbrev pub PairAgrees : ℕ → ℕ → Actor → Actor → Type 0
+PairAgrees i j a b =
+    (sent_by a.port j ≡ taken_by b.port i)
+    × (length (ring_port.pushed_to a.ring j) ≡ length (ring_port.pulled_from b.ring i))
+
+-- so it is with each two of these
+pub record AllAgree (actors : List Actor) : Type 0 where
+  pub pairs :
+      (i j : ℕ) (a b : Actor) → slice_get actors i ≡ Some a → slice_get actors j ≡ Some b →
+      PairAgrees i j a b
+
+-- what the closed ports carried from each rank to each is what the histories call for
+abbrev pub AreCarried : Sizes → List Line → Closed → RingAccount → List Ended → Type 0
+AreCarried shape lines c q ends =
+    (i j : ℕ) (e : Ended) → j < shape.ranks → slice_get ends i ≡ Some e → IsCarried lines c q i j e
+
+-- the record tells a run of the script, and the closed ports carried what its histories call for
+pub record IsWhole (shape : Sizes) (lines : List Line) (run : RunRecord) (c : Closed) (q : RingAccount)
+    : Type 0 where
+  pub lawful : IsRunOf shape lines (ends_of run.ranks) (packets_of run.pairs)
+  pub carried : AreCarried shape lines c q (ends_of run.ranks)
+
+-- the ports know of so many ranks
+abbrev pub AreRanked : ℕ → List Actor → Type 0
+AreRanked n actors =
+    (k : ℕ) (a : Actor) → slice_get actors k ≡ Some a →
+    ((knows a.port).ranks ≡ n) × ((ring_port.knows a.ring).ranks ≡ n)
+
+-- new ports of the ranks from k on, in order
+abbrev pub NewInOrder : Fabric → Rings → ℕ → List Port → List RingPort → Type 0
+NewInOrder f r k [] [] = Unit {0}
+NewInOrder f r k (p ∷ ps) (q ∷ qs) = IsNew f p k × ring_port.IsNew r q k × NewInOrder f r (k + 1) ps qs
+NewInOrder f r k _ _ = ⊥

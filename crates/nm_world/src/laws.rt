@@ -1,0 +1,42 @@
+//! Laws of the end of a run. Each is the contract of a function that does nothing.
+
+ghost use Rattle.std.specs.Prelude.{◌≡◌, ℕ, List, length, map};
+ghost use Rattle.nm_types.specs.declared.scripts.Line.{Line};
+ghost use Rattle.nm_types.specs.Limits.{IsScript};
+ghost use Rattle.nm_types.specs.Sizes.{Sizes};
+ghost use Rattle.nm_history.specs.Quiescence.{Ended};
+ghost use Rattle.nm_cells.specs.declared.closed.Closed.{Closed};
+ghost use Rattle.nm_cells.specs.declared.port.Fabric.{Fabric};
+ghost use Rattle.nm_copyring.specs.declared.close.RingAccount.{RingAccount};
+ghost use Rattle.nm_copyring.specs.declared.port.Rings.{Rings};
+ghost use Rattle.nm_world.specs.declared.actors.Actor.{Actor};
+ghost use Rattle.nm_world.specs.Actors.{Stands};
+ghost use Rattle.nm_world.specs.Rest.{EachActor, EndsAt, HasRun, IsAllTaken, IsClosed, IsRingClosed};
+ghost use Rattle.nm_world.specs.Rest.{IsStill};
+
+use nm_channels::laws::a_close_carries;
+use nm_outgoing::laws::leaves::all_left;
+use nm_ranks::laws::rest::ranks_at_rest_make_a_run;
+use nm_standing::laws::stands::a_process_is_a_rank;
+
+/// An actor that stands and is still is at its end, or waits for what can't come.
+pub fn a_still_actor_ends()
+    ensures { (lines : List Line) (f : Fabric) (r : Rings) (a : Actor) → Stands lines f r a →
+        IsStill lines a.process → EndsAt a.process.rank.sizes lines f r a.port.rank a }
+{}
+
+/// Where all actors are at rest and all was taken, their histories are a run of the script, and the
+/// closed ports carried what these call for.
+pub fn actors_at_rest_make_a_run()
+    ensures { (shape : Sizes) (lines : List Line) (f : Fabric) (r : Rings) (actors : List Actor)
+        (c : Closed) (q : RingAccount) → IsScript shape.ranks lines →
+        length actors ≡ shape.ranks → EachActor (EndsAt shape lines f r) actors →
+        IsClosed shape.ranks (map (λ a. a.port) actors) c →
+        IsRingClosed shape.ranks (map (λ a. a.ring) actors) q → IsAllTaken actors →
+        (ends : List Ended) × HasRun shape lines actors c q ends }
+{
+    a_close_carries();
+    all_left();
+    ranks_at_rest_make_a_run();
+    a_process_is_a_rank();
+}

@@ -1,0 +1,111 @@
+//! What there is to tell of actors at rest.
+
+ghost use Rattle.std.specs.Prelude.{◌≡◌, ◌<◌, ◌≤◌, [], ◌∷◌, ◌++◌, length, map, IfOk, OnOk};
+ghost use Rattle.nm_types.specs.declared.limits.TheConstants.{MAX_LINES};
+ghost use Rattle.nm_types.specs.Sizes.{Sizes};
+ghost use Rattle.nm_cells.specs.Ports.{knows};
+ghost use Rattle.nm_process.specs.Work.{IsAtWork};
+ghost use Rattle.nm_report.specs.Ends.{are_done, ends_of, packets_of};
+ghost use Rattle.nm_world.specs.Records.{AreToTell, counts_of, counts_to, ended_of};
+
+use crate::Actor;
+use nm_copyring::RingPort;
+use nm_port::Port;
+use nm_process::Process;
+use nm_report::{Accounts, PairCount, Pairs, RankAccount};
+use nm_types::{Line, Memory};
+use std::alloc::Global;
+
+/// The ports of the actors of a run, and what there is to tell of them.
+#[derive(Drop)]
+pub(crate) struct Parts {
+    pub ports: Vec<Port>,
+    pub rings: Vec<RingPort>,
+    pub ranks: Accounts,
+    pub pairs: Pairs,
+    pub done: bool,
+}
+
+// What became of a rank.
+fn account(process: Process, lines: &[Line]) -> RankAccount
+    requires { length lines.now < MAX_LINES }
+    ensures { (shape : Sizes) → IsAtWork shape lines.now process →
+        ends_of (result ∷ []) ≡ ended_of lines.now process ∷ [] }
+{
+    let at = process.at();
+    let waits = process.next_line(lines);
+    RankAccount {
+        at,
+        history: process.into_history(),
+        waits,
+    }
+}
+
+// The packets that a port sent to each of so many ranks, where there are some.
+fn push_counts(pairs: &mut Pairs, ranks: u8, port: &Port) -> Result<(), Memory>
+    requires { ranks ≤ (knows port.now).ranks }
+    ensures { OnOk result (packets_of pairs.new
+        ≡ packets_of pairs.old ++ counts_to ranks port.now) }
+{
+    let from = port.rank();
+    for to in 0..ranks {
+        let packets = port.sent(to);
+        if packets > 0 {
+            pairs.push(PairCount { from, to, packets })?;
+        }
+    }
+    Ok(())
+}
+
+// Puts one more at the end.
+pub(crate) fn add<T: Drop>(list: &mut Vec<T>, x: T) -> Result<(), Memory>
+    ensures { IfOk result (λ _. list.new.items ≡ list.old.items ++ x ∷ []) }
+{
+    match list.push(x) {
+        Ok(()) => Ok(()),
+        Err(_) => Err(Memory),
+    }
+}
+
+/// The parts of actors.
+pub(crate) fn parts_of(
+    alloc: Global,
+    actors: Vec<Actor>,
+    lines: &[Line],
+    ranks: u8,
+) -> Result<Parts, Memory>
+    requires few { length lines.now < MAX_LINES }
+    requires each { AreToTell ranks lines.now actors.items }
+    ensures ports { IfOk result (λ x. x.ports.items ≡ map (λ a. a.port) actors.items) }
+    ensures rings { IfOk result (λ x. x.rings.items ≡ map (λ a. a.ring) actors.items) }
+    ensures ends { IfOk result (λ x. ends_of x.ranks
+        ≡ map (λ a. ended_of lines.now a.process) actors.items) }
+    ensures packets { IfOk result (λ x. packets_of x.pairs ≡ counts_of ranks actors.items) }
+    ensures done { IfOk result (λ x. x.done ≡ are_done (ends_of x.ranks)) }
+{
+    let mut ports = Vec::new(alloc);
+    let mut rings = Vec::new(alloc);
+    let mut accounts = Accounts::new(alloc);
+    let mut pairs = Pairs::new(alloc);
+    let mut done = true;
+    for actor in actors {
+        push_counts(&mut pairs, ranks, &actor.port)?;
+        let Actor {
+            process,
+            port,
+            ring,
+        } = actor;
+        add(&mut ports, port)?;
+        add(&mut rings, ring)?;
+        let account = account(process, lines);
+        done = done & account.waits.is_none();
+        accounts.push(account)?;
+    }
+    Ok(Parts {
+        ports,
+        rings,
+        ranks: accounts,
+        pairs,
+        done,
+    })
+}

@@ -1,0 +1,141 @@
+//! Turns of many actors at once.
+
+ghost use Rattle.std.specs.Prelude.{◌≡◌, ◌<◌, length, IfOk};
+ghost use Rattle.std.specs.List.{All};
+ghost use Rattle.std.specs.Thread.{IsSync};
+ghost use Rattle.nm_world.specs.Actors.{AllKept, Kept, Stands, did, did_any};
+
+use crate::Actor;
+use nm_copyring::Rings;
+use nm_outside::Gate;
+use nm_port::Fabric;
+use nm_types::{Line, Memory};
+use std::sync::atomic::{AtomicU64, Ordering};
+use std::thread::{Threads, join_mut, yield_now};
+
+// What all actors of a round share: how many of them there are, and how many have nothing to do.
+// It is a hint of when to end, and nothing depends on it.
+#[derive(Drop)]
+struct Pace {
+    all: u64,
+    idle: AtomicU64,
+}
+
+impl Pace {
+    // Counts a turn by whether the actor rested before it and whether it moved. It answers whether
+    // no actor has anything to do, and gives way where this one has nothing.
+    fn ends(&self, rested: bool, moved: bool) -> bool {
+        if moved {
+            if rested {
+                self.idle.fetch_sub(1, Ordering::SeqCst);
+            }
+            return false;
+        }
+        if !rested {
+            self.idle.fetch_add(1, Ordering::SeqCst);
+        }
+        if self.idle.load(Ordering::SeqCst) >= self.all {
+            return true;
+        }
+        yield_now();
+        false
+    }
+}
+
+// Turns of one actor, at most so many, until no actor of the round has anything to do.
+fn turns_of<G: Gate>(
+    actor: &mut Actor,
+    lines: &[Line],
+    f: &Fabric,
+    r: &Rings,
+    gate: &G,
+    turns: u32,
+    pace: &Pace,
+) -> Result<bool, Memory>
+    requires stands { Stands lines.now f.now r.now actor.old }
+    ensures kept { IfOk result (λ _. Kept lines.now f.now r.now actor.old actor.new) }
+    ensures moved { IfOk result (λ moved. moved ≡ did f.now.ranks actor.old actor.new) }
+{
+    let mut moved = false;
+    let mut rests = false;
+    for _ in 0..turns {
+        let one = actor.turn(lines, f, r, gate)?;
+        moved = moved | one;
+        if pace.ends(rests, one) {
+            return Ok(moved);
+        }
+        rests = !one;
+    }
+    if !rests {
+        pace.idle.fetch_add(1, Ordering::SeqCst);
+    }
+    Ok(moved)
+}
+
+// Turns of these actors, each in a thread of its own where one can be made.
+fn halves<R: Threads + Sync, G: Gate + Sync>(
+    rt: &R,
+    actors: &mut [Actor],
+    lines: &[Line],
+    f: &Fabric,
+    r: &Rings,
+    gate: &G,
+    turns: u32,
+    pace: &Pace,
+) -> Result<bool, Memory>
+    requires stands { All (Stands lines.now f.now r.now) actors.old }
+    requires turns { 0 < turns }
+    ensures kept { IfOk result (λ _. AllKept lines.now f.now r.now actors.old actors.new) }
+    ensures moved { IfOk result (λ moved. moved ≡ did_any f.now.ranks actors.old actors.new) }
+{
+    if actors.len() == 0 {
+        return Ok(false);
+    }
+    if actors.len() == 1 {
+        return turns_of(&mut actors[0], lines, f, r, gate, turns, pace);
+    }
+    let (front, back) = actors.split_at_mut(actors.len() / 2);
+    let (one, other) = join_mut(
+        rt,
+        &mut || -> Result<bool, Memory>
+            requires { IsSync R.row × All (Stands lines.now f.now r.now) front.now × (0 < turns) }
+            ensures kept { IfOk result (λ _. AllKept lines.entry.now f.entry.now r.entry.now
+                front.entry.now front.exit.now) }
+            ensures moved { IfOk result (λ moved. moved
+                ≡ did_any f.entry.now.ranks front.entry.now front.exit.now) }
+        { halves(rt, front, lines, f, r, gate, turns, pace) },
+        &mut || -> Result<bool, Memory>
+            requires { IsSync R.row × All (Stands lines.now f.now r.now) back.now × (0 < turns) }
+            ensures kept { IfOk result (λ _. AllKept lines.entry.now f.entry.now r.entry.now
+                back.entry.now back.exit.now) }
+            ensures moved { IfOk result (λ moved. moved
+                ≡ did_any f.entry.now.ranks back.entry.now back.exit.now) }
+        { halves(rt, back, lines, f, r, gate, turns, pace) },
+    );
+    let one = one?;
+    let other = other?;
+    Ok(one | other)
+}
+
+/// Turns of all the actors, each in a thread of its own where one can be made, until none of them
+/// has anything to do. Each makes at most so many turns.
+pub fn round<R: Threads + Sync, G: Gate + Sync>(
+    rt: &R,
+    actors: &mut [Actor],
+    lines: &[Line],
+    f: &Fabric,
+    r: &Rings,
+    gate: &G,
+    turns: u32,
+) -> Result<bool, Memory>
+    requires stands { All (Stands lines.now f.now r.now) actors.old }
+    requires turns { 0 < turns }
+    ensures kept { IfOk result (λ _. AllKept lines.now f.now r.now actors.old actors.new) }
+    ensures moved { IfOk result (λ moved. moved ≡ did_any f.now.ranks actors.old actors.new) }
+{
+    let pace = Pace {
+        all: actors.len() as u64,
+        idle: AtomicU64::new(0),
+    };
+    halves(rt, actors, lines, f, r, gate, turns, &pace)
+}

@@ -1,0 +1,267 @@
+//! A run of all ranks, to rest.
+
+ghost use Rattle.std.specs.Prelude.{◌≡◌, ◌<◌, ◌++◌, ℕ, true, [], ◌∷◌, length, map};
+ghost use Rattle.std.specs.Prelude.{slice_get, Some, IfOk};
+ghost use Rattle.nm_types.specs.Limits.{IsScript};
+ghost use Rattle.nm_report.specs.Cells.{AllCellsFree};
+ghost use Rattle.nm_report.specs.Ends.{are_done, ends_of};
+ghost use Rattle.nm_cells.specs.declared.port.Port.{Port};
+ghost use Rattle.nm_cells.specs.Ports.{IsNew, knows};
+ghost use Rattle.nm_copyring.specs.declared.port.RingPort.{RingPort};
+ghost use Rattle.nm_copyring.specs.Ports as ring_port;
+ghost use Rattle.nm_process.specs.Lines.{AreLines};
+ghost use Rattle.nm_world.specs.Actors.{Stands, seat_of};
+ghost use Rattle.nm_world.specs.Rest.{EachActor};
+ghost use Rattle.nm_world.specs.declared.actors.Actor.{Actor};
+ghost use Rattle.nm_world.specs.Runs.{AllAgree, AreRanked, InPlace};
+ghost use Rattle.nm_world.specs.Runs.{IsStillAt, IsWhole, NewInOrder, PairAgrees};
+
+use crate::Actor;
+use crate::laws::{a_still_actor_ends, actors_at_rest_make_a_run};
+use crate::records::{Parts, add, parts_of};
+use crate::rounds::round;
+use nm_copyring::{RingAccount, RingPort, Rings};
+use nm_outside::Gate;
+use nm_port::{Closed, Fabric, Port};
+use nm_process::Process;
+use nm_report::RunRecord;
+use nm_standing::laws::stands::a_process_begins;
+use nm_types::{Line, Memory, Script, Shape};
+use std::alloc::Global;
+use std::sync::Wait;
+use std::thread::Threads;
+
+/// What the closed fabric and the closed rings keep.
+#[derive(Drop)]
+pub struct Ways {
+    pub cells: Closed,
+    pub rings: RingAccount,
+}
+
+/// How many turns each actor of a round makes at most.
+const TURNS: u32 = 4096;
+
+// Whether no actor can move.
+fn are_still(actors: &[Actor], lines: &[Line]) -> bool
+    ensures { result ≡ true → EachActor (λ i a. IsStillAt lines.now a) actors.now }
+{
+    let mut all = true;
+    for i in 0..actors.len() {
+        let moves = actors[i].can_move(lines);
+        all = all & !moves;
+    }
+    all
+}
+
+// Whether what the actor of rank i sent to that of rank j was taken there.
+fn pair_agrees(a: &Actor, b: &Actor, i: u8, j: u8) -> bool
+    requires { (j < (knows a.now.port).ranks) × (i < (knows b.now.port).ranks)
+        × (j < (ring_port.knows a.now.ring).ranks) × (i < (ring_port.knows b.now.ring).ranks) }
+    ensures { result ≡ true → PairAgrees i j a.now b.now }
+{
+    a.port.sent(j) == b.port.taken(i) && a.ring.pushed(j) == b.ring.pulled(i)
+}
+
+// An actor at its first command.
+fn new_actor(
+    alloc: Global,
+    shape: Shape,
+    _lines: &[Line],
+    f: &Fabric,
+    r: &Rings,
+    port: Port,
+    ring: RingPort,
+) -> Result<Actor, Memory>
+    requires lines { AreLines shape.ranks _lines.now }
+    requires sizes { (f.now.ranks ≡ shape.ranks) × (r.now.ranks ≡ shape.ranks) }
+    requires port { IsNew f.now port port.rank }
+    requires ring { ring_port.IsNew r.now ring port.rank }
+    ensures stands { IfOk result (λ a. Stands _lines.now f.now r.now a) }
+    ensures seat { IfOk result (λ a. seat_of a ≡ record { rank = port.rank; sizes = shape }) }
+{
+    let process = Process::new(alloc, shape, port.rank())?;
+    a_process_begins();
+    Ok(Actor {
+        process,
+        port,
+        ring,
+    })
+}
+
+// Whether what the actor of rank i sent to each was taken there.
+fn row_agrees(actors: &[Actor], f: &Fabric, i: u8) -> bool
+    requires many { (length actors.now ≡ f.now.ranks) × (i < f.now.ranks) }
+    requires ranked { AreRanked f.now.ranks actors.now }
+    ensures { result ≡ true → (j : ℕ) (a b : Actor) → slice_get actors.now i ≡ Some a →
+        slice_get actors.now j ≡ Some b → PairAgrees i j a b }
+{
+    let mut all = true;
+    for j in 0..f.ranks() {
+        let one = pair_agrees(&actors[i as usize], &actors[j as usize], i, j);
+        all = all & one;
+    }
+    all
+}
+
+// Whether what each actor sent to each was taken there.
+fn all_agree(actors: &[Actor], f: &Fabric) -> bool
+    requires many { length actors.now ≡ f.now.ranks }
+    requires ranked { AreRanked f.now.ranks actors.now }
+    ensures { result ≡ true → AllAgree actors.now }
+{
+    let mut all = true;
+    for i in 0..f.ranks() {
+        let one = row_agrees(actors, f, i);
+        all = all & one;
+    }
+    all
+}
+
+// Rounds until rest.
+fn settle<R: Threads + Wait + Sync, G: Gate + Sync>(
+    rt: &R,
+    actors: &mut [Actor],
+    _shape: Shape,
+    lines: &[Line],
+    f: &Fabric,
+    r: &Rings,
+    gate: &G,
+) -> Result<(), Memory>
+    requires place { InPlace _shape lines.now f.now r.now 0 actors.old }
+    requires many { length actors.old ≡ f.now.ranks }
+    ensures place { IfOk result (λ _. InPlace _shape lines.now f.now r.now 0 actors.new) }
+    ensures many { IfOk result (λ _. length actors.new ≡ f.now.ranks) }
+    ensures still { IfOk result (λ _. EachActor (λ i a. IsStillAt lines.now a) actors.new) }
+    ensures agree { IfOk result (λ _. AllAgree actors.new) }
+{
+    for _ in rt.forever() {
+        round(rt, actors, lines, f, r, gate, TURNS)?;
+        let still = are_still(actors, lines);
+        let agree = all_agree(actors, f);
+        if still & agree {
+            return Ok(());
+        }
+    }
+    unreachable!()
+}
+
+// The same of a list of actors.
+fn settle_all<R: Threads + Wait + Sync, G: Gate + Sync>(
+    rt: &R,
+    actors: &mut Vec<Actor>,
+    shape: Shape,
+    lines: &[Line],
+    f: &Fabric,
+    r: &Rings,
+    gate: &G,
+) -> Result<(), Memory>
+    requires place { InPlace shape lines.now f.now r.now 0 actors.old.items }
+    requires many { length actors.old.items ≡ f.now.ranks }
+    ensures place { IfOk result (λ _. InPlace shape lines.now f.now r.now 0 actors.new.items) }
+    ensures many { IfOk result (λ _. length actors.new.items ≡ f.now.ranks) }
+    ensures still { IfOk result (λ _. EachActor (λ i a. IsStillAt lines.now a) actors.new.items) }
+    ensures agree { IfOk result (λ _. AllAgree actors.new.items) }
+{
+    settle(rt, actors.as_mut_slice(), shape, lines, f, r, gate)?;
+    Ok(())
+}
+
+// An actor for each rank.
+fn cast(
+    alloc: Global,
+    shape: Shape,
+    lines: &[Line],
+    f: &Fabric,
+    r: &Rings,
+    ports: Vec<Port>,
+    rings: Vec<RingPort>,
+) -> Result<Vec<Actor>, Memory>
+    requires lines { AreLines shape.ranks lines.now }
+    requires sizes { (f.now.ranks ≡ shape.ranks) × (r.now.ranks ≡ shape.ranks) }
+    requires ports { NewInOrder f.now r.now 0 ports.items rings.items }
+    ensures place { IfOk result (λ v. InPlace shape lines.now f.now r.now 0 v.items) }
+    ensures many { IfOk result (λ v. length v.items ≡ length ports.items) }
+{
+    let mut actors = Vec::new(alloc);
+    let mut rings = rings.into_iter();
+    for port in ports {
+        let Some(ring) = rings.next() else {
+            unreachable!()
+        };
+        let actor = new_actor(alloc, shape, lines, f, r, port, ring)?;
+        add(&mut actors, actor)?;
+    }
+    Ok(actors)
+}
+
+// Runs lines.
+fn run_lines<R: Threads + Wait + Sync, G: Gate + Sync>(
+    rt: &R,
+    alloc: Global,
+    shape: Shape,
+    lines: &[Line],
+    gate: &G,
+) -> Result<(RunRecord, Ways), Memory>
+    requires script { IsScript shape.ranks lines.now }
+    requires lines { AreLines shape.ranks lines.now }
+    ensures shaped { IfOk result (λ x. x.0.shape ≡ shape) }
+    ensures run { IfOk result (λ x. IsWhole shape lines.now x.0 x.1.cells x.1.rings) }
+    ensures home { IfOk result (λ x. AllCellsFree x.0) }
+    ensures account { IfOk result (λ x. x.0.cells ≡ x.1.cells.cells) }
+    ensures done { IfOk result (λ x. x.0.done ≡ are_done (ends_of x.0.ranks)) }
+{
+    let (fabric, ports) = Fabric::build(alloc, shape)?;
+    let (rings, ring_ports) = Rings::build(alloc, shape)?;
+    let mut actors = cast(alloc, shape, lines, &fabric, &rings, ports, ring_ports)?;
+    settle_all(rt, &mut actors, shape, lines, &fabric, &rings, gate)?;
+    let parts = parts_of(alloc, actors, lines, fabric.ranks())?;
+    let Parts {
+        ports,
+        rings: ring_ports,
+        ranks,
+        pairs,
+        done,
+    } = parts;
+    a_still_actor_ends();
+    actors_at_rest_make_a_run();
+    let closed = fabric.close(ports);
+    let rings = rings.close(ring_ports);
+    let cells = closed.account();
+    let record = RunRecord {
+        shape,
+        ranks,
+        pairs,
+        cells,
+        done,
+    };
+    Ok((
+        record,
+        Ways {
+            cells: closed,
+            rings,
+        },
+    ))
+}
+
+/// Runs a script, each rank in a thread of its own where one can be made, until it is at rest.
+///
+/// It calls `gate.turn(rank)` before each turn of a rank. The record tells a lawful run that is at
+/// rest, what went from rank to rank is what its histories call for, all cells are home, and `done`
+/// tells whether no rank waits.
+pub fn run<R: Threads + Wait + Sync, G: Gate + Sync>(
+    rt: &R,
+    alloc: Global,
+    script: &Script,
+    shape: Shape,
+    gate: &G,
+) -> Result<(RunRecord, Ways), Memory>
+    requires ranks { shape.ranks ≡ script.now.ranks }
+    requires lines { AreLines shape.ranks script.now.lines }
+    ensures shaped { IfOk result (λ x. x.0.shape ≡ shape) }
+    ensures run { IfOk result (λ x. IsWhole shape script.now.lines x.0 x.1.cells x.1.rings) }
+    ensures home { IfOk result (λ x. AllCellsFree x.0) }
+    ensures account { IfOk result (λ x. x.0.cells ≡ x.1.cells.cells) }
+    ensures done { IfOk result (λ x. x.0.done ≡ are_done (ends_of x.0.ranks)) }
+{
+    run_lines(rt, alloc, shape, script.lines.as_slice(), gate)
+}
