@@ -1,6 +1,10 @@
+pub mod BestLemmas
+pub mod BucketLemmas
 pub mod DeedLemmas
+pub mod HeldLemmas
 pub mod ListLemmas
 pub mod NumberLemmas
+pub mod OldestLemmas
 pub mod PushLemmas
 pub mod QueueLemmas
 pub mod StandsLemmas

@@ -1,3 +1,6 @@
+pub mod Buckets
 pub mod Deeds
+pub mod Held
+pub mod Picks
 pub mod Queues
 pub mod InTurn

@@ -2,14 +2,14 @@
 //! takes.
 //!
 //! MPI 3.1, sections 3.2.4, 3.5 and 3.8. A `Matcher` has the posted receive queue and the
-//! unexpected message queue of one rank, each a plain list in order of age. It knows envelopes
-//! alone: bodies, requests and threads are above.
+//! unexpected message queue of one rank. Each is kept in buckets by source, tag and context, in
+//! order of age. It knows envelopes alone: bodies, requests and threads are above.
 //!
 //! # What a contract sees
 //! The list of the deeds so far, oldest first: the receives that were posted, the messages that
 //! arrived, the cancels and withdrawals that were done, the claims, and the receives of claimed
 //! messages. `history_of` turns that list into the history that it stands for, and each answer is
-//! a definition of `nm_history` on that history. The code removes from its queues; the
+//! a definition of `nm_history` on that history. The code removes from its buckets; the
 //! definitions keep everything and look through the whole history.
 //! # What is proved
 //! - `post`, `arrive`, `probe` and `claim` answer the oldest match, or none where nothing matches
@@ -25,9 +25,11 @@
 //! That `post`, `arrive`, `claim` and `take_claimed` succeed with ample memory.
 #![tactic(auto)]
 
+mod buckets;
 mod deeds;
 pub mod laws;
 mod matching;
+mod picks;
 mod posted;
 mod unexpected;
 

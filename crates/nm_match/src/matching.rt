@@ -11,7 +11,9 @@ ghost use Rattle.nm_history.specs.Sends.{message_of};
 ghost use Rattle.nm_match.specs.declared.deeds.Deed.TheVariants as deed;
 ghost use Rattle.nm_match.specs.Deeds.{history_of, is_known_message, is_known_receive};
 
+use crate::buckets::Buckets;
 use crate::deeds::{Deed, has_arrival, has_receive};
+use crate::picks::{of_arrival, of_post};
 use crate::{posted, unexpected};
 use nm_types::{Arrival, Memory, Peer, Post, TagPick};
 use std::alloc::Global;
@@ -26,13 +28,16 @@ use std::marker::Model;
 /// is paired, claimed or withdrawn.
 ///
 /// Receives are known by their numbers, and messages by their sender and their place among the
-/// messages of that sender. Each call looks once through the queue that it is about; `knows_post`
-/// and `knows_arrival` look through all deeds.
+/// messages of that sender. What waits is in buckets by source, tag and context, and has an order
+/// number, which grows with age: an arrival looks at the four buckets of receives that can select
+/// it, a source and a tag that are named at one bucket of messages, and a wildcard at the first
+/// message of each bucket. `cancel` and `withdraw` look through their queue; `knows_post` and
+/// `knows_arrival` look through all deeds.
 #[derive(Debug, Drop)]
 pub struct Matcher {
     deeds: Vec<Deed>,
-    posted: Vec<Post>,
-    unexpected: Vec<Arrival>,
+    posted: Buckets<Post>,
+    unexpected: Buckets<Arrival>,
     claimed: Vec<Arrival>,
     cancelled: Vec<u64>,
 }
@@ -40,16 +45,17 @@ pub struct Matcher {
 impl Model for Matcher {
     ghost use Rattle.std.specs.Prelude.{List, vec_capacity, vec_len};
     ghost use Rattle.nm_match.specs.declared.deeds.Deed.{Deed};
-    ghost use Rattle.nm_match.specs.Queues.{AreQueuesOf, HasRoom};
+    ghost use Rattle.nm_match.specs.Held.{AreHeld};
+    ghost use Rattle.nm_match.specs.Queues.{HasRoom};
 
     ghost Value = { List Deed };
 
     ghost view = { λ m. m.deeds.items };
 
     ghost invariant = { λ m.
-        AreQueuesOf m.deeds.items m.posted.items m.unexpected.items m.claimed.items
-        m.cancelled.items
-        × HasRoom (vec_len m.deeds) (vec_len m.posted) (vec_len m.unexpected) (vec_len m.cancelled)
+        AreHeld m.deeds.items m.posted.map m.posted.len m.unexpected.map m.unexpected.len
+        m.claimed.items m.cancelled.items
+        × HasRoom (vec_len m.deeds) m.posted.len m.unexpected.len (vec_len m.cancelled)
         (vec_capacity m.deeds) (vec_capacity m.cancelled) };
 }
 
@@ -60,8 +66,8 @@ impl Matcher {
     {
         Matcher {
             deeds: Vec::new(alloc),
-            posted: Vec::new(alloc),
-            unexpected: Vec::new(alloc),
+            posted: Buckets::new(alloc),
+            unexpected: Buckets::new(alloc),
             claimed: Vec::new(alloc),
             cancelled: Vec::new(alloc),
         }
@@ -78,15 +84,17 @@ impl Matcher {
         ensures ok { OnOk result (self.new ≡ self.old ++ deed.Post p ∷ []) }
         ensures err { OnErr result (self.new ≡ self.old) }
     {
-        self.posted.reserve(1)?;
         self.deeds
-            .reserve(self.posted.len() + self.unexpected.len() + 2)?;
-        self.cancelled.reserve(self.posted.len() + 1)?;
-        self.deeds.push_reserved(Deed::Post(p));
+            .reserve(self.posted.len + self.unexpected.len + 2)?;
+        self.cancelled.reserve(self.posted.len + 1)?;
         match unexpected::take_oldest(&mut self.unexpected, p.from, p.tag, p.ctx) {
-            Some(a) => Ok(Some(a)),
+            Some(a) => {
+                self.deeds.push_reserved(Deed::Post(p));
+                Ok(Some(a))
+            }
             None => {
-                self.posted.push_reserved(p);
+                self.posted.put(of_post(&p), self.deeds.len(), p)?;
+                self.deeds.push_reserved(Deed::Post(p));
                 Ok(None)
             }
         }
@@ -106,14 +114,16 @@ impl Matcher {
         ensures ok { OnOk result (self.new ≡ self.old ++ deed.Arrive a ∷ []) }
         ensures err { OnErr result (self.new ≡ self.old) }
     {
-        self.unexpected.reserve(1)?;
         self.deeds
-            .reserve(self.posted.len() + self.unexpected.len() + 2)?;
-        self.deeds.push_reserved(Deed::Arrive(a));
+            .reserve(self.posted.len + self.unexpected.len + 2)?;
         match posted::take_oldest(&mut self.posted, &a.env) {
-            Some(p) => Ok(Some(p.number)),
+            Some(p) => {
+                self.deeds.push_reserved(Deed::Arrive(a));
+                Ok(Some(p.number))
+            }
             None => {
-                self.unexpected.push_reserved(a);
+                self.unexpected.put(of_arrival(&a), self.deeds.len(), a)?;
+                self.deeds.push_reserved(Deed::Arrive(a));
                 Ok(None)
             }
         }
@@ -130,13 +140,12 @@ impl Matcher {
             ≡ (if result && not (happened (is_cancel post) (history_of self.old))
             then self.old ++ deed.Cancel post ∷ [] else self.old) }
     {
-        match posted::take_number(&mut self.posted, post) {
-            Some(_) => {
-                self.cancelled.push_reserved(post);
-                self.deeds.push_reserved(Deed::Cancel { number: post });
-                true
-            }
-            None => self.cancelled.contains(&post),
+        if posted::take_number(&mut self.posted, post) {
+            self.cancelled.push_reserved(post);
+            self.deeds.push_reserved(Deed::Cancel { number: post });
+            true
+        } else {
+            self.cancelled.contains(&post)
         }
     }
 
@@ -150,13 +159,11 @@ impl Matcher {
         ensures deeds { self.new
             ≡ (if result then self.old ++ deed.Withdraw from n ∷ [] else self.old) }
     {
-        match unexpected::take_message(&mut self.unexpected, from, n) {
-            Some(_) => {
-                self.deeds.push_reserved(Deed::Withdraw { from, n });
-                true
-            }
-            None => false,
+        let was_free = unexpected::take_message(&mut self.unexpected, from, n);
+        if was_free {
+            self.deeds.push_reserved(Deed::Withdraw { from, n });
         }
+        was_free
     }
 
     /// The oldest free message that a receive with this source, tag and context would take (MPI
@@ -210,7 +217,7 @@ impl Matcher {
         ensures err { OnErr result (self.new ≡ self.old) }
     {
         self.deeds
-            .reserve(self.posted.len() + self.unexpected.len() + 1)?;
+            .reserve(self.posted.len + self.unexpected.len + 1)?;
         unexpected::drop_message(&mut self.claimed, from, n);
         self.deeds.push_reserved(Deed::Match { number, from, n });
         Ok(())
@@ -306,6 +313,26 @@ mod tests {
         assert!(rt; !withdraws(&rt, &mut m, 3, 0));
         assert_eq!(rt; m.probe(Peer::Any, TagPick::Any, 0), None);
         assert!(rt; !cancels(&rt, &mut m, 0));
+        Ok(())
+    }
+
+    fn rising(rt: &impl Abort, m: &mut Matcher) -> Result<(), Fail> {
+        for k in 0..4096u16 {
+            let posted = posts(rt, m, u64::from(k), Peer::Any, TagPick::One(k))?;
+            assert_eq!(rt; posted, None);
+        }
+        Ok(())
+    }
+
+    #[test]
+    fn each_of_many_tags_finds_its_own(rt: HostRuntime) -> Result<(), Fail> {
+        let mut m = Matcher::new(rt.alloc());
+        rising(&rt, &mut m)?;
+        for k in 0..4096u16 {
+            let tag = 4095 - k;
+            let taken = brings(&rt, &mut m, 1, u64::from(k), tag)?;
+            assert_eq!(rt; taken, Some(u64::from(tag)));
+        }
         Ok(())
     }
 

@@ -1,32 +1,24 @@
--- What stands at the first place that passes is what a search finds.
-use Rattle.std.proofs.Common.{◌∙◌, ◌==◌, Bool, sym}
+-- The one of this name leaves its bucket.
+use Rattle.std.proofs.Common.{ap, sym, is_some, ◌==◌}
 use Rattle.nm_types.specs.declared.messages.Post.{Post}
-use Rattle.nm_match.proofs.ListLemmas.{find_first, find_none, without_first-none, without_first-remove}
+use Rattle.nm_match.specs.Queues.{TwoReceives}
+use Rattle.nm_match.proofs.BucketLemmas.{nowhere, one_taken}
+use Rattle.nm_match.proofs.ListLemmas.{without_first-none}
+use Rattle.nm_match.proofs.OldestLemmas.{posts_apart}
 use Rattle.nm_match.proofs.posted.take_number.Goals as goal
 
-pub returns-in_err-place-clause-oldest : goal.returns-in_err-place-clause-oldest
-returns-in_err-place-clause-oldest c =
-    let test : Post → Bool = λ p. p.number == c.args.number in
-    let nowhere = rw c.deref.ensures.value at c.in_err-place.ensures in
-    c.from_residual.ensures ∙ sym (find_none test c.args.posted.now.items (sym nowhere))
+pub returns-in-Some-clause-found : goal.returns-in-Some-clause-found
+returns-in-Some-clause-found c = λ items next two is. sym (ap is_some (one_taken is c.take.new.self.map c.take.new.self.len (λ (x : Post). x.number == c.args.number) TwoReceives (posts_apart c.args.number) two
+    c.in-Some.key c.in-Some.place c.in-Some.ensures.place c.take.ensures.own c.take.ensures.others c.take.ensures.len).0.1)
 
-pub returns-in_err-place-clause-others : goal.returns-in_err-place-clause-others
-returns-in_err-place-clause-others c =
-    let test : Post → Bool = λ p. p.number == c.args.number in
-    let items = c.args.posted.now.items in
-    let nowhere = rw c.deref.ensures.value at c.in_err-place.ensures in
-    sym (without_first-none test items (find_none test items (sym nowhere)))
+pub returns-in-Some-clause-others : goal.returns-in-Some-clause-others
+returns-in-Some-clause-others c = λ items next two is. (one_taken is c.take.new.self.map c.take.new.self.len (λ (x : Post). x.number == c.args.number) TwoReceives (posts_apart c.args.number) two
+    c.in-Some.key c.in-Some.place c.in-Some.ensures.place c.take.ensures.own c.take.ensures.others c.take.ensures.len).1
 
-pub returns-clause-oldest : goal.returns-clause-oldest
-returns-clause-oldest c =
-    let test : Post → Bool = λ p. p.number == c.args.number in
-    let items = c.args.posted.now.items in
-    let first = rw c.deref.ensures.value at c.in_ok-place.ensures in
-    sym (find_first test items c.in_ok-place.place c.remove.result (sym first) c.remove.ensures.value)
+pub returns-in-None-clause-found : goal.returns-in-None-clause-found
+returns-in-None-clause-found c = λ items next two is. sym (ap is_some
+    (nowhere is (λ (x : Post). x.number == c.args.number) c.in-None.ensures.nowhere))
 
-pub returns-clause-others : goal.returns-clause-others
-returns-clause-others c =
-    let test : Post → Bool = λ p. p.number == c.args.number in
-    let items = c.args.posted.now.items in
-    let first = rw c.deref.ensures.value at c.in_ok-place.ensures in
-    c.remove.ensures.items ∙ sym (without_first-remove test items c.in_ok-place.place (sym first))
+pub returns-in-None-clause-others : goal.returns-in-None-clause-others
+returns-in-None-clause-others c = λ items next two is. rw (without_first-none (λ (x : Post). x.number == c.args.number) items
+    (nowhere is (λ (x : Post). x.number == c.args.number) c.in-None.ensures.nowhere)) is

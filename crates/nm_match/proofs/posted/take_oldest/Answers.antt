@@ -1,33 +1,30 @@
--- What stands at the first place that passes is what a search finds.
-use Rattle.std.proofs.Common.{◌∙◌, Bool, sym}
+-- The oldest under the four keys is at the front of its bucket.
+use Rattle.std.proofs.Common.{◌∙◌, Bool, Some, None, sym}
 use Rattle.nm_types.specs.declared.messages.Post.{Post}
 use Rattle.nm_history.specs.Selection.{matches}
-use Rattle.nm_match.proofs.ListLemmas.{find_first, find_none, without_first-none, without_first-remove}
+use Rattle.nm_match.specs.declared.picks.Picks.{Picks}
+use Rattle.nm_match.proofs.BucketLemmas.{front_taken}
+use Rattle.nm_match.proofs.ListLemmas.{without_first-none}
+use Rattle.nm_match.proofs.OldestLemmas.{oldest_found, posted_found}
 use Rattle.nm_match.proofs.posted.take_oldest.Goals as goal
 
-pub returns-in_err-place-clause-oldest : goal.returns-in_err-place-clause-oldest
-returns-in_err-place-clause-oldest c =
-    let test : Post → Bool = λ p. matches p.from p.tag p.ctx c.args.env.now in
-    let nowhere = rw c.deref.ensures.value at c.in_err-place.ensures in
-    c.from_residual.ensures ∙ sym (find_none test c.args.posted.now.items (sym nowhere))
+pub returns-in_err-p-clause-oldest : goal.returns-in_err-p-clause-oldest
+returns-in_err-p-clause-oldest c = λ posts next is.
+    c.from_residual.ensures ∙ posted_found is c.args.env.now None c.in_err-p.ensures
 
-pub returns-in_err-place-clause-others : goal.returns-in_err-place-clause-others
-returns-in_err-place-clause-others c =
-    let test : Post → Bool = λ p. matches p.from p.tag p.ctx c.args.env.now in
-    let items = c.args.posted.now.items in
-    let nowhere = rw c.deref.ensures.value at c.in_err-place.ensures in
-    sym (without_first-none test items (find_none test items (sym nowhere)))
+pub returns-in_err-p-clause-others : goal.returns-in_err-p-clause-others
+returns-in_err-p-clause-others c = λ posts next is.
+    rw (without_first-none (λ (p : Post). matches p.from p.tag p.ctx c.args.env.now) posts
+    (sym (posted_found is c.args.env.now None c.in_err-p.ensures))) is
 
 pub returns-clause-oldest : goal.returns-clause-oldest
-returns-clause-oldest c =
-    let test : Post → Bool = λ p. matches p.from p.tag p.ctx c.args.env.now in
-    let items = c.args.posted.now.items in
-    let first = rw c.deref.ensures.value at c.in_ok-place.ensures in
-    sym (find_first test items c.in_ok-place.place c.remove.result (sym first) c.remove.ensures.value)
+returns-clause-oldest c = λ posts next is.
+    posted_found is c.args.env.now (Some (c.in_ok-p.field-0-0, c.in_ok-p.p)) c.in_ok-p.ensures
 
 pub returns-clause-others : goal.returns-clause-others
-returns-clause-others c =
-    let test : Post → Bool = λ p. matches p.from p.tag p.ctx c.args.env.now in
-    let items = c.args.posted.now.items in
-    let first = rw c.deref.ensures.value at c.in_ok-place.ensures in
-    c.remove.ensures.items ∙ sym (without_first-remove test items c.in_ok-place.place (sym first))
+returns-clause-others c = λ posts next is.
+    let g : Picks → Bool = λ k. matches k.from k.tag k.ctx c.args.env.now in
+    let own = rw c.of_post.ensures at c.take.ensures.own in
+    let others = rw c.of_post.ensures at c.take.ensures.others in
+    front_taken is c.take.new.self.map c.take.new.self.len g (c.in_ok-p.field-0-0, c.in_ok-p.p)
+    (sym (c.in_ok-p.ensures ∙ oldest_found is.are c.args.env.now)) own others c.take.ensures.len

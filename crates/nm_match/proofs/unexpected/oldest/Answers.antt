@@ -1,18 +1,14 @@
--- What stands at the first place that passes is what a search finds.
-use Rattle.std.proofs.Common.{◌∙◌, sym}
-use Rattle.nm_types.specs.declared.messages.Arrival.{Arrival}
-use Rattle.nm_history.specs.Selection.{matches}
-use Rattle.nm_match.proofs.ListLemmas.{find_first_at, find_none}
+-- What is found, without its number.
+use Rattle.std.proofs.Common.{◌∙◌, Some, None}
+use Rattle.nm_match.proofs.OldestLemmas.{arrival_found}
 use Rattle.nm_match.proofs.unexpected.oldest.Goals as goal
 
-pub returns-in_err-place : goal.returns-in_err-place
-returns-in_err-place c =
-    c.from_residual.ensures ∙ sym (find_none (λ (a : Arrival).
-    matches c.args.from c.args.tag c.args.ctx a.env) c.args.unexpected.now (sym c.in_err-place.ensures))
+pub returns-in_err-a : goal.returns-in_err-a
+returns-in_err-a c = λ arrivals next is.
+    c.from_residual.ensures ∙ arrival_found is c.args.from c.args.tag c.args.ctx None
+    (c.in_err-a.ensures is.queue next is.are)
 
 pub returns : goal.returns
-returns c = sym
-    (find_first_at
-    (λ (a : Arrival).
-    matches c.args.from c.args.tag c.args.ctx a.env) c.args.unexpected.now c.in_ok-place.place _
-    (sym c.in_ok-place.ensures))
+returns c = λ arrivals next is.
+    arrival_found is c.args.from c.args.tag c.args.ctx (Some (c.in_ok-a.field-0-0, c.in_ok-a.a))
+    (c.in_ok-a.ensures is.queue next is.are)

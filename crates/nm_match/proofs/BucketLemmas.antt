@@ -1,0 +1,508 @@
+-- A queue in buckets: what is found in it, and what is left after each change.
+use Rattle.std.proofs.Common.{◌≡◌, ℕ, suc, ◌+◌, ◌-◌, ◌<◌, ◌≤◌, ◌==◌, Bool, true, false, ◌&&◌, ◌||◌}
+use Rattle.std.proofs.Common.{cond, Option, Some, None, List, [], ◌∷◌, ◌++◌, length, map}
+use Rattle.std.proofs.Common.{refl, sym, ◌∙◌, ap, subst, append-nil, arith, slice_get, get_or}
+use Rattle.std.proofs.lemmas.List.{length-map, get_or-map}
+use Rattle.std.specs.Prelude.{nat_le, AllPairs}
+use Rattle.std.specs.List.{All, filter, find, position, remove}
+use Rattle.std.specs.Option.{option_map, option_map_or}
+use Rattle.std.specs.Map.{lookup}
+use Rattle.std.specs.declared.collections.VecDeque.{VecDeque}
+use Rattle.std.proofs.lemmas.Bool.{false≢true, false_from_ne_true}
+use Rattle.std.proofs.lemmas.Bool.Decides.{nat_tests}
+use Rattle.std.proofs.lemmas.List.Elements.{All-head, All-tail, All-cons, All-push, All-weaker}
+use Rattle.std.proofs.lemmas.List.Elements.{filter-append}
+use Rattle.indexmap.specs.IndexMap.{IndexMap}
+use Rattle.nm_history.proofs.OnceLemmas.{and_left, and_right, find_among, find_passes}
+use Rattle.nm_types.specs.declared.messages.Peer.{Peer}
+use Rattle.nm_types.specs.declared.messages.Peer.TheVariants as peer
+use Rattle.nm_types.specs.declared.messages.TagPick.{TagPick}
+use Rattle.nm_types.specs.declared.messages.TagPick.TheVariants as tag
+use Rattle.nm_match.specs.declared.picks.Picks.{Picks}
+use Rattle.nm_match.specs.Buckets.{AreBuckets, IsQueue, LacksAt, Rising, bucket_of, earlier_of}
+use Rattle.nm_match.specs.Picks.{same_peer, same_picks, same_tag}
+use Rattle.nm_match.specs.Queues.{without_first}
+use Rattle.nm_match.proofs.ListLemmas.{find-filter, find_first_at, find_none, without_first-remove}
+
+same_peer-true : (a b : Peer) → same_peer a b ≡ true → a ≡ b
+same_peer-true peer.Any peer.Any h = refl
+same_peer-true (peer.One a) (peer.One b) h = let e : a ≡ b = grind (arith, nat_tests) in ap peer.One e
+same_peer-true peer.Any (peer.One b) h = absurd (false≢true h)
+same_peer-true (peer.One a) peer.Any h = absurd (false≢true h)
+
+same_tag-true : (a b : TagPick) → same_tag a b ≡ true → a ≡ b
+same_tag-true tag.Any tag.Any h = refl
+same_tag-true (tag.One a) (tag.One b) h = let e : a ≡ b = grind (arith, nat_tests) in ap tag.One e
+same_tag-true tag.Any (tag.One b) h = absurd (false≢true h)
+same_tag-true (tag.One a) tag.Any h = absurd (false≢true h)
+
+same_peer-self : (a : Peer) → same_peer a a ≡ true
+same_peer-self peer.Any = refl
+same_peer-self (peer.One a) = grind (arith, nat_tests)
+
+same_tag-self : (a : TagPick) → same_tag a a ≡ true
+same_tag-self tag.Any = refl
+same_tag-self (tag.One a) = grind (arith, nat_tests)
+
+three : (x y z : Bool) → (x && y && z) ≡ true → (x ≡ true) × (y ≡ true) × (z ≡ true)
+three true true true h = (refl, refl, refl)
+three false y z h = absurd (false≢true h)
+three true false z h = absurd (false≢true h)
+three true true false h = absurd (false≢true h)
+
+-- two keys that are the same are equal
+pub same_picks-true : (a b : Picks) → same_picks a b ≡ true → a ≡ b
+same_picks-true a b h =
+    let all = three (same_peer a.from b.from) (same_tag a.tag b.tag) (a.ctx == b.ctx) h in
+    let from : a.from ≡ b.from = same_peer-true a.from b.from all.0 in
+    let t : a.tag ≡ b.tag = same_tag-true a.tag b.tag all.1 in
+    let ctx : a.ctx ≡ b.ctx = let e = all.2 in grind (arith, nat_tests) in
+    λ i. record { from = from i; tag = t i; ctx = ctx i }
+
+-- each key is the same as itself
+pub same_picks-self : (a : Picks) → same_picks a a ≡ true
+same_picks-self a =
+    let ctx : (a.ctx == a.ctx) ≡ true = grind (arith, nat_tests) in
+    rw (same_peer-self a.from, same_tag-self a.tag) ctx
+
+-- keys that are not the same are not the same the other way round
+pub same_picks-flip : (a b : Picks) → same_picks a b ≡ false → same_picks b a ≡ false
+same_picks-flip a b apart = false_from_ne_true (same_picks b a) (λ same.
+    false≢true (sym apart ∙ subst (λ (c : Picks). same_picks c b ≡ true) (same_picks-true b a same)
+    (same_picks-self b)))
+
+module _ {X : Type 0} (p q : X → Bool) where
+  gone_here_at : (y : X) (ys : List X) (x : X) (b c : Bool) → p y ≡ b → q y ≡ c → q x ≡ true →
+      cond b (Some y) (find p ys) ≡ Some x →
+      (find p ys ≡ Some x → filter q (without_first p ys) ≡ without_first p (filter q ys)) →
+      filter q (cond b ys (y ∷ without_first p ys)) ≡ without_first p (cond c (y ∷ filter q ys) (filter q ys))
+  gone_here_at y ys x true true py qy qx found later = rw py refl
+  gone_here_at y ys x true false py qy qx found later =
+      let same : y ≡ x = cc in absurd (false≢true (sym qy ∙ ap q same ∙ qx))
+  gone_here_at y ys x false true py qy qx found later = rw (py, qy) (ap (λ (zs : List X). y ∷ zs) (later found))
+  gone_here_at y ys x false false py qy qx found later = rw qy (later found)
+
+  -- the first that passes leaves what it belongs to
+  pub gone_here : (xs : List X) (x : X) → find p xs ≡ Some x → q x ≡ true →
+      filter q (without_first p xs) ≡ without_first p (filter q xs)
+  gone_here [] x found qx = refl
+  gone_here (y ∷ ys) x found qx = gone_here_at y ys x (p y) (q y) refl refl qx found
+      (λ later. gone_here ys x later qx)
+
+  gone_there_at : (y : X) (ys : List X) (x : X) (b c : Bool) → p y ≡ b → q y ≡ c → q x ≡ false →
+      cond b (Some y) (find p ys) ≡ Some x →
+      (find p ys ≡ Some x → filter q (without_first p ys) ≡ filter q ys) →
+      filter q (cond b ys (y ∷ without_first p ys)) ≡ cond c (y ∷ filter q ys) (filter q ys)
+  gone_there_at y ys x true true py qy qx found later =
+      let same : y ≡ x = cc in absurd (false≢true (sym qx ∙ sym (ap q same) ∙ qy))
+  gone_there_at y ys x true false py qy qx found later = refl
+  gone_there_at y ys x false true py qy qx found later = rw qy (ap (λ (zs : List X). y ∷ zs) (later found))
+  gone_there_at y ys x false false py qy qx found later = rw qy (later found)
+
+  -- and nothing else
+  pub gone_there : (xs : List X) (x : X) → find p xs ≡ Some x → q x ≡ false →
+      filter q (without_first p xs) ≡ filter q xs
+  gone_there [] x found qx = refl
+  gone_there (y ∷ ys) x found qx = gone_there_at y ys x (p y) (q y) refl refl qx found
+      (λ later. gone_there ys x later qx)
+
+module _ {X : Type 0} (p : X → Bool) where
+  length_at : (y : X) (ys : List X) (x : X) (b : Bool) → cond b (Some y) (find p ys) ≡ Some x →
+      (find p ys ≡ Some x → length (without_first p ys) + 1 ≡ length ys) →
+      length (cond b ys (y ∷ without_first p ys)) + 1 ≡ length (y ∷ ys)
+  length_at y ys x true found later = omega arith
+  length_at y ys x false found later = let e = later found in omega (arith, e)
+
+  -- one less is left
+  pub length-without_first : (xs : List X) (x : X) → find p xs ≡ Some x →
+      length (without_first p xs) + 1 ≡ length xs
+  length-without_first [] x found = absurd (grind arith)
+  length-without_first (y ∷ ys) x found = length_at y ys x (p y) found (length-without_first ys x)
+
+  All_at : (P : X → Type 0) (y : X) (ys : List X) (b : Bool) → P y → All P ys →
+      All P (without_first p ys) → All P (cond b ys (y ∷ without_first p ys))
+  All_at P y ys true here all rest = all
+  All_at P y ys false here all rest = All-cons P y (without_first p ys) here rest
+
+  -- what holds of all holds of those that are left
+  pub All-without_first : (P : X → Type 0) (xs : List X) → All P xs → All P (without_first p xs)
+  All-without_first P [] all = all
+  All-without_first P (y ∷ ys) all = All_at P y ys (p y) (All-head P y ys all) (All-tail P y ys all)
+      (All-without_first P ys (All-tail P y ys all))
+
+module _ {X : Type 0} (p : ℕ × X → Bool) where
+  rising_at : (y : ℕ × X) (ys : List (ℕ × X)) (b : Bool) → Rising (y ∷ ys) →
+      Rising (without_first p ys) → Rising (cond b ys (y ∷ without_first p ys))
+  rising_at y ys true was rest = was.1
+  rising_at y ys false was rest = (All-without_first p (λ (z : ℕ × X). y.0 < z.0) ys was.0, rest)
+
+  -- and their numbers rise
+  pub Rising-without_first : (xs : List (ℕ × X)) → Rising xs → Rising (without_first p xs)
+  Rising-without_first [] was = was
+  Rising-without_first (y ∷ ys) was = rising_at y ys (p y) was (Rising-without_first ys was.1)
+
+-- a number past all others goes last
+pub Rising-push : {X : Type 0} (xs : List (ℕ × X)) (n : ℕ) (x : X) → Rising xs →
+    All (λ (y : ℕ × X). y.0 < n) xs → Rising (xs ++ (n, x) ∷ [])
+Rising-push {X} [] n x was below = ((λ k d inside. absurd (omega arith)), was)
+Rising-push {X} (y ∷ ys) n x was below = (
+  All-push (λ (z : ℕ × X). y.0 < z.0) ys (n, x) was.0 (All-head (λ (z : ℕ × X). z.0 < n) y ys below),
+  Rising-push ys n x was.1 (All-tail (λ (z : ℕ × X). z.0 < n) y ys below),
+)
+
+module _ {X Y : Type 0} (f : X → Y) (test : Y → Bool) where
+  map_at : (x : X) (xs ys : List X) (zs : List Y) (b : Bool) → map f ys ≡ zs →
+      map f (cond b xs (x ∷ ys)) ≡ cond b (map f xs) (f x ∷ zs)
+  map_at x xs ys zs true same = refl
+  map_at x xs ys zs false same = ap (λ (l : List Y). f x ∷ l) same
+
+  -- the things that are left, without their numbers
+  pub map-without_first : (xs : List X) → map f (without_first (λ x. test (f x)) xs) ≡ without_first test (map f xs)
+  map-without_first [] = refl
+  map-without_first (x ∷ xs) = map_at x xs (without_first (λ x. test (f x)) xs)
+      (without_first test (map f xs)) (test (f x)) (map-without_first xs)
+
+  found_at : (x : X) (o : Option X) (r : Option Y) (b : Bool) → option_map f o ≡ r →
+      option_map f (cond b (Some x) o) ≡ cond b (Some (f x)) r
+  found_at x o r true same = refl
+  found_at x o r false same = same
+
+  -- the thing that is found, without its number
+  pub find-map : (xs : List X) → option_map f (find (λ x. test (f x)) xs) ≡ find test (map f xs)
+  find-map [] = refl
+  find-map (x ∷ xs) = found_at x (find (λ x. test (f x)) xs) (find test (map f xs)) (test (f x)) (find-map xs)
+
+map_push : {X Y : Type 0} (f : X → Y) (xs : List X) (x : X) → map f (xs ++ x ∷ []) ≡ map f xs ++ f x ∷ []
+map_push f [] x = refl
+map_push {X} {Y} f (y ∷ ys) x = ap (λ (l : List Y). f y ∷ l) (map_push f ys x)
+
+length_push : {X : Type 0} (xs : List X) (x : X) → length (xs ++ x ∷ []) ≡ length xs + 1
+length_push [] x = refl
+length_push (y ∷ ys) x = let e = length_push ys x in omega (arith, e)
+
+module _ {X A S : Type 0} {key : X → Picks} {queue : List (ℕ × X)} {next : ℕ}
+    {m : IndexMap Picks (VecDeque (ℕ × X) A) S} {count : ℕ} (are : AreBuckets key queue next m count)
+    (m' : IndexMap Picks (VecDeque (ℕ × X) A) S) (count' : ℕ) where
+  taken_bucket : (test : ℕ × X → Bool) (x : ℕ × X) → find test queue ≡ Some x →
+      bucket_of m' (key x.1) ≡ without_first test (bucket_of m (key x.1)) →
+      ((k : Picks) → same_picks (key x.1) k ≡ false → bucket_of m' k ≡ bucket_of m k) →
+      (k : Picks) (b : Bool) → same_picks (key x.1) k ≡ b →
+      bucket_of m' k ≡ filter (λ (y : ℕ × X). same_picks k (key y.1)) (without_first test queue)
+  taken_bucket test x found own others k true same =
+      subst (λ (k : Picks). bucket_of m' k
+      ≡ filter (λ (y : ℕ × X). same_picks k (key y.1)) (without_first test queue))
+      (same_picks-true (key x.1) k same)
+      (own ∙ ap (λ (l : List (ℕ × X)). without_first test l) (are.bucket (key x.1))
+      ∙ sym (gone_here test (λ (y : ℕ × X). same_picks (key x.1) (key y.1)) queue x found
+      (same_picks-self (key x.1))))
+  taken_bucket test x found own others k false apart =
+      others k apart ∙ are.bucket k
+      ∙ sym (gone_there test (λ (y : ℕ × X). same_picks k (key y.1)) queue x found
+      (same_picks-flip (key x.1) k apart))
+
+  -- after the first that passes was taken from its bucket
+  pub taken : (test : ℕ × X → Bool) (x : ℕ × X) → find test queue ≡ Some x →
+      bucket_of m' (key x.1) ≡ without_first test (bucket_of m (key x.1)) →
+      ((k : Picks) → same_picks (key x.1) k ≡ false → bucket_of m' k ≡ bucket_of m k) →
+      count' ≡ count - 1 → AreBuckets key (without_first test queue) next m' count'
+  taken test x found own others less = record {
+    bucket = λ k. taken_bucket test x found own others k (same_picks (key x.1) k) refl;
+    len = let left = length-without_first test queue x found in
+        let was = are.len in omega (arith, left, was, less);
+    below = All-without_first test (λ (y : ℕ × X). y.0 < next) queue are.below;
+    rising = Rising-without_first test queue are.rising;
+  }
+
+  put_bucket : (item : X) →
+      bucket_of m' (key item) ≡ bucket_of m (key item) ++ (next, item) ∷ [] →
+      ((k : Picks) → same_picks (key item) k ≡ false → bucket_of m' k ≡ bucket_of m k) →
+      (k : Picks) (b : Bool) → same_picks (key item) k ≡ b →
+      bucket_of m' k ≡ filter (λ (y : ℕ × X). same_picks k (key y.1)) (queue ++ (next, item) ∷ [])
+  put_bucket item own others k true same =
+      subst (λ (k : Picks). bucket_of m' k
+      ≡ filter (λ (y : ℕ × X). same_picks k (key y.1)) (queue ++ (next, item) ∷ []))
+      (same_picks-true (key item) k same)
+      (own ∙ ap (λ (l : List (ℕ × X)). l ++ (next, item) ∷ []) (are.bucket (key item))
+      ∙ sym (filter-append (λ (y : ℕ × X). same_picks (key item) (key y.1)) queue ((next, item) ∷ [])
+      ∙ rw (same_picks-self (key item)) refl))
+  put_bucket item own others k false apart =
+      others k apart ∙ are.bucket k
+      ∙ sym (filter-append (λ (y : ℕ × X). same_picks k (key y.1)) queue ((next, item) ∷ [])
+      ∙ rw (same_picks-flip (key item) k apart)
+      (append-nil (filter (λ (y : ℕ × X). same_picks k (key y.1)) queue)))
+
+  -- after a thing was put last in its bucket
+  pub put_last : (item : X) (later : ℕ) → next < later →
+      bucket_of m' (key item) ≡ bucket_of m (key item) ++ (next, item) ∷ [] →
+      ((k : Picks) → same_picks (key item) k ≡ false → bucket_of m' k ≡ bucket_of m k) →
+      count' ≡ count + 1 → AreBuckets key (queue ++ (next, item) ∷ []) later m' count'
+  put_last item later before own others more = record {
+    bucket = λ k. put_bucket item own others k (same_picks (key item) k) refl;
+    len = let was = are.len in let grown = length_push queue (next, item) in omega (arith, was, grown, more);
+    below = All-push (λ (y : ℕ × X). y.0 < later) queue (next, item)
+        (All-weaker (λ (y : ℕ × X). y.0 < next) (λ (y : ℕ × X). y.0 < later)
+        (λ y below. omega (arith, below, before)) queue are.below) before;
+    rising = Rising-push queue next item are.rising are.below;
+  }
+
+  -- where no bucket changed
+  pub kept : (later : ℕ) → next ≤ later → ((k : Picks) → bucket_of m' k ≡ bucket_of m k) → count' ≡ count →
+      AreBuckets key queue later m' count'
+  kept later after same len = record {
+    bucket = λ k. same k ∙ are.bucket k;
+    len = len ∙ are.len;
+    below = All-weaker (λ (y : ℕ × X). y.0 < next) (λ (y : ℕ × X). y.0 < later)
+        (λ y below. omega (arith, below, after)) queue are.below;
+    rising = are.rising;
+  }
+
+le_self : (n : ℕ) → nat_le n n ≡ true
+le_self n = grind (arith, nat_tests)
+
+le_below : (m n : ℕ) → m < n → nat_le m n ≡ true
+le_below m n h = grind (arith, nat_tests)
+
+not_le_above : (m n : ℕ) → m < n → nat_le n m ≡ false
+not_le_above m n h = grind (arith, nat_tests)
+
+first_of : {X : Type 0} (x : ℕ × X) (o : Option (ℕ × X)) → ((y : ℕ × X) → o ≡ Some y → x.0 < y.0) →
+    earlier_of (Some x) o ≡ Some x
+first_of x None later = refl
+first_of x (Some y) later = rw (le_below x.0 y.0 (later y refl)) refl
+
+last_of : {X : Type 0} (x : ℕ × X) (o : Option (ℕ × X)) → ((y : ℕ × X) → o ≡ Some y → x.0 < y.0) →
+    earlier_of o (Some x) ≡ Some x
+last_of x None later = refl
+last_of x (Some y) later = rw (not_le_above x.0 y.0 (later y refl)) refl
+
+either_at : {X : Type 0} (x : ℕ × X) (o u both : Option (ℕ × X)) (p q : Bool) →
+    ((y : ℕ × X) → o ≡ Some y → x.0 < y.0) → ((y : ℕ × X) → u ≡ Some y → x.0 < y.0) → both ≡ earlier_of o u →
+    cond (p || q) (Some x) both ≡ earlier_of (cond p (Some x) o) (cond q (Some x) u)
+either_at x o u both true true of_o of_u same = rw (le_self x.0) refl
+either_at x o u both true false of_o of_u same = sym (first_of x u of_u)
+either_at x o u both false true of_o of_u same = sym (last_of x o of_o)
+either_at x o u both false false of_o of_u same = same
+
+-- the first that passes one of two tests is the earlier_of of the first ones of both
+pub find_either : {X : Type 0} (p q : ℕ × X → Bool) (xs : List (ℕ × X)) → Rising xs →
+    find (λ x. p x || q x) xs ≡ earlier_of (find p xs) (find q xs)
+find_either p q [] rising = refl
+find_either {X} p q (x ∷ xs) rising =
+    either_at x (find p xs) (find q xs) (find (λ x. p x || q x) xs) (p x) (q x)
+    (λ y found. find_among (λ (y : ℕ × X). x.0 < y.0) p xs y rising.0 found)
+    (λ y found. find_among (λ (y : ℕ × X). x.0 < y.0) q xs y rising.0 found)
+    (find_either p q xs rising.1)
+
+front_at : {X : Type 0} (x : X) (kept : List X) (o : Option X) (b : Bool) → slice_get kept 0 ≡ o →
+    slice_get (cond b (x ∷ kept) kept) 0 ≡ cond b (Some x) o
+front_at x kept o true same = refl
+front_at x kept o false same = same
+
+-- a bucket's first entry is the first one of its key
+pub front_is_found : {X : Type 0} (p : X → Bool) (xs : List X) → slice_get (filter p xs) 0 ≡ find p xs
+front_is_found p [] = refl
+front_is_found p (x ∷ xs) = front_at x (filter p xs) (find p xs) (p x) (front_is_found p xs)
+
+-- where nothing passes nothing is found
+pub find_never : {X : Type 0} (p : X → Bool) (xs : List X) → ((x : X) → p x ≡ false) → find p xs ≡ None
+find_never p [] never = refl
+find_never p (x ∷ xs) never = rw (never x) (find_never p xs never)
+
+-- two tests that agree find the same
+pub find_same : {X : Type 0} (p q : X → Bool) (xs : List X) → ((x : X) → p x ≡ q x) → find p xs ≡ find q xs
+find_same p q [] same = refl
+find_same {X} p q (x ∷ xs) same = rw (same x) (ap (λ (o : Option X). cond (q x) (Some x) o) (find_same p q xs same))
+
+pairs_head : {X : Type 0} (R : X → X → Type 0) (x : X) (xs : List X) → AllPairs R (x ∷ xs) → All (λ y. R x y) xs
+pairs_head R x xs two = λ k d inside. two 0 (suc k) d (omega arith) (omega arith)
+
+pairs_tail : {X : Type 0} (R : X → X → Type 0) (x : X) (xs : List X) → AllPairs R (x ∷ xs) → AllPairs R xs
+pairs_tail R x xs two = λ i j d below inside. two (suc i) (suc j) d (omega arith) (omega arith)
+
+pairs_unmap : {X Y : Type 0} (R : Y → Y → Type 0) (f : X → Y) (xs : List X) → AllPairs R (map f xs) →
+    AllPairs (λ x y. R (f x) (f y)) xs
+pairs_unmap {X} {Y} R f xs two = λ i j d below inside.
+    let len = length-map xs f in
+    subst (λ (y : Y). R (f (get_or xs i d)) y) (get_or-map f xs j d (f d) inside)
+    (subst (λ (y : Y). R y (get_or (map f xs) j (f d))) (get_or-map f xs i d (f d) (omega (arith, inside, below)))
+    (two i j (f d) below (omega (arith, inside, len))))
+
+found_in : {X : Type 0} (p : X → Bool) (xs : List X) (k : ℕ) → position p xs ≡ Some k → (x : X)
+    × (find p xs ≡ Some x)
+found_in p [] k first = absurd (grind arith)
+found_in p (x ∷ xs) k first = (get_or (x ∷ xs) k x, find_first_at p (x ∷ xs) k x first)
+
+-- the first that passes is the first of those that have what it has
+kept_found : {X : Type 0} (p q : X → Bool) (xs : List X) (x : X) → find p xs ≡ Some x → q x ≡ true →
+    find p (filter q xs) ≡ Some x
+kept_found p q [] x found has = found
+kept_found {X} p q (y ∷ ys) x found has =
+    at (λ later. kept_found p q ys x later has) (p y) (q y) refl refl found
+  where
+    at : (find p ys ≡ Some x → find p (filter q ys) ≡ Some x) → (b c : Bool) → p y ≡ b → q y ≡ c →
+        cond b (Some y) (find p ys) ≡ Some x →
+        find p (cond c (y ∷ filter q ys) (filter q ys)) ≡ Some x
+    at later true true py qy found = rw py found
+    at later true false py qy found = let same : y ≡ x = cc in absurd (false≢true (sym qy ∙ ap q same ∙ has))
+    at later false true py qy found = rw py (later found)
+    at later false false py qy found = later found
+
+-- the first place of a list whose elements all pass
+pub remove_front : {X : Type 0} (has test : X → Bool) → ((x : X) → has x ≡ true → test x ≡ true) → (xs : List X) →
+    remove (filter has xs) 0 ≡ without_first test (filter has xs)
+remove_front has test passes [] = refl
+remove_front {X} has test passes (x ∷ xs) = at (remove_front has test passes xs) (has x) refl
+  where
+    at : remove (filter has xs) 0 ≡ without_first test (filter has xs) → (b : Bool) → has x ≡ b → remove (cond b (x ∷ filter has xs) (filter has xs)) 0
+        ≡ without_first test (cond b (x ∷ filter has xs) (filter has xs))
+    at later true here = rw (passes x here) refl
+    at later false other = later
+
+-- where one at most passes, one that passes is the first
+pub find_one : {X : Type 0} (R : X → X → Type 0) (test has : X → Bool) →
+    ((x y : X) → R x y → test x ≡ true → test y ≡ true → ⊥) → (xs : List X) → AllPairs R xs → (x : X) →
+    find (λ y. test y && has y) xs ≡ Some x → find test xs ≡ Some x
+find_one R test has apart [] two x found = found
+find_one {X} R test has apart (y ∷ ys) two x found =
+    at (find_one R test has apart ys (pairs_tail R y ys two) x) (test y) (has y) refl found
+  where
+    at : (find (λ y. test y && has y) ys ≡ Some x → find test ys ≡ Some x) → (b c : Bool) → test y ≡ b →
+        cond (b && c) (Some y) (find (λ y. test y && has y) ys) ≡ Some x →
+        cond b (Some y) (find test ys) ≡ Some x
+    at later true true passes found = found
+    at later true false passes found = absurd (apart y x
+        (find_among (λ (z : X). R y z) (λ (z : X). test z && has z) ys x (pairs_head R y ys two) found) passes
+        (and_left (test x) (has x) (find_passes (λ (z : X). test z && has z) ys x found)))
+    at later false c passes found = later found
+
+module _ {X A S : Type 0} {key : X → Picks} {items : List X} {next : ℕ}
+    {m : IndexMap Picks (VecDeque (ℕ × X) A) S} {count : ℕ} (is : IsQueue key items next m count)
+    (m' : IndexMap Picks (VecDeque (ℕ × X) A) S) (count' : ℕ) where
+  -- after the oldest whose key passes was taken from the front of its bucket
+  pub front_taken : (g : Picks → Bool) (x : ℕ × X) → find (λ (y : ℕ × X). g (key y.1)) is.queue ≡ Some x →
+      bucket_of m' (key x.1) ≡ remove (bucket_of m (key x.1)) 0 →
+      ((k : Picks) → same_picks (key x.1) k ≡ false → bucket_of m' k ≡ bucket_of m k) →
+      count' ≡ count - 1 → IsQueue key (without_first (λ (y : X). g (key y)) items) next m' count'
+  front_taken g x found own others less =
+      let test : ℕ × X → Bool = λ y. g (key y.1) in
+      let has : ℕ × X → Bool = λ y. same_picks (key x.1) (key y.1) in
+      record {
+        queue = without_first test is.queue;
+        are = taken is.are m' count' test x found
+            (own ∙ ap (λ (l : List (ℕ × X)). remove l 0) (is.are.bucket (key x.1))
+            ∙ remove_front has test (λ y same. ap g (sym (same_picks-true (key x.1) (key y.1) same))
+            ∙ find_passes test is.queue x found) is.queue
+            ∙ ap (λ (l : List (ℕ × X)). without_first test l) (sym (is.are.bucket (key x.1)))) others less;
+        same = map-without_first (λ (y : ℕ × X). y.1) (λ (y : X). g (key y)) is.queue
+            ∙ ap (λ (l : List X). without_first (λ (y : X). g (key y)) l) is.same;
+      }
+
+  -- after one with a name of its own was taken from the middle of a bucket
+  pub one_taken : (named : X → Bool) (R : X → X → Type 0) →
+      ((x y : X) → R x y → named x ≡ true → named y ≡ true → ⊥) → AllPairs R items →
+      (k : Picks) (place : ℕ) → position (λ (y : ℕ × X). named y.1) (bucket_of m k) ≡ Some place →
+      bucket_of m' k ≡ remove (bucket_of m k) place →
+      ((l : Picks) → same_picks k l ≡ false → bucket_of m' l ≡ bucket_of m l) →
+      count' ≡ count - 1 →
+      ((x : X) × (find named items ≡ Some x)) × IsQueue key (without_first named items) next m' count'
+  one_taken named R apart two k place first own others less =
+      let test : ℕ × X → Bool = λ y. named y.1 in
+      let has : ℕ × X → Bool = λ y. same_picks k (key y.1) in
+      let inside = found_in test (bucket_of m k) place first in
+      let x : ℕ × X = inside.0 in
+      let among : find (λ y. test y && has y) is.queue ≡ Some x =
+      sym (find-filter test has is.queue) ∙ ap (λ (l : List (ℕ × X)). find test l) (sym (is.are.bucket k))
+      ∙ inside.1 in
+      let pairs : AllPairs (λ (y z : ℕ × X). R y.1 z.1) is.queue =
+      pairs_unmap R (λ (y : ℕ × X). y.1) is.queue (subst (λ (l : List X). AllPairs R l) (sym is.same) two) in
+      let found : find test is.queue ≡ Some x =
+      find_one (λ (y z : ℕ × X). R y.1 z.1) test has (λ y z r. apart y.1 z.1 r) is.queue pairs x among in
+      let is_key : k ≡ key x.1 = same_picks-true k (key x.1)
+      (and_right (test x) (has x) (find_passes (λ y. test y && has y) is.queue x among)) in (
+        (
+          x.1,
+          sym (ap (λ (l : List X). find named l) is.same) ∙ sym (find-map (λ (y : ℕ × X). y.1) named is.queue)
+              ∙ ap (λ (o : Option (ℕ × X)). option_map (λ (y : ℕ × X). y.1) o) found,
+        ),
+        record {
+          queue = without_first test is.queue;
+          are = taken is.are m' count' test x found
+              (subst (λ (k : Picks). bucket_of m' k ≡ without_first test (bucket_of m k)) is_key
+              (own ∙ sym (without_first-remove test (bucket_of m k) place first)))
+              (subst (λ (k : Picks). (l : Picks) → same_picks k l ≡ false → bucket_of m' l ≡ bucket_of m l)
+              is_key others) less;
+          same = map-without_first (λ (y : ℕ × X). y.1) named is.queue
+              ∙ ap (λ (l : List X). without_first named l) is.same;
+        },
+      )
+
+  -- after a thing was put last in its bucket
+  pub queue_put : (item : X) (later : ℕ) → next < later →
+      bucket_of m' (key item) ≡ bucket_of m (key item) ++ (next, item) ∷ [] →
+      ((k : Picks) → same_picks (key item) k ≡ false → bucket_of m' k ≡ bucket_of m k) →
+      count' ≡ count + 1 → IsQueue key (items ++ item ∷ []) later m' count'
+  queue_put item later before own others more = record {
+    queue = is.queue ++ (next, item) ∷ [];
+    are = put_last is.are m' count' item later before own others more;
+    same = map_push (λ (y : ℕ × X). y.1) is.queue (next, item) ∙ ap (λ (l : List X). l ++ item ∷ []) is.same;
+  }
+
+  -- where no bucket changed
+  pub queue_kept : (later : ℕ) → next ≤ later → ((k : Picks) → bucket_of m' k ≡ bucket_of m k) →
+      count' ≡ count → IsQueue key items later m' count'
+  queue_kept later after same len = record {
+    queue = is.queue;
+    are = kept is.are m' count' later after same len;
+    same = is.same;
+  }
+
+module _ {X A S : Type 0} {key : X → Picks} {items : List X} {next : ℕ}
+    {m : IndexMap Picks (VecDeque (ℕ × X) A) S} {count : ℕ} (is : IsQueue key items next m count) where
+  -- what no bucket has is not in the queue
+  pub nowhere : (named : X → Bool) →
+      ((k : Picks) → position (λ (y : ℕ × X). named y.1) (bucket_of m k) ≡ None) → find named items ≡ None
+  nowhere named never =
+      let test : ℕ × X → Bool = λ y. named y.1 in
+      sym (ap (λ (l : List X). find named l) is.same) ∙ sym (find-map (λ (y : ℕ × X). y.1) named is.queue)
+      ∙ ap (λ (o : Option (ℕ × X)). option_map (λ (y : ℕ × X). y.1) o) (at (find test is.queue) refl)
+    where
+      at : (o : Option (ℕ × X)) → find (λ (y : ℕ × X). named y.1) is.queue ≡ o →
+          find (λ (y : ℕ × X). named y.1) is.queue ≡ None
+      at None none = none
+      at (Some x) found = absurd (grind (
+        arith,
+        kept_found (λ (y : ℕ × X). named y.1)
+            (λ (y : ℕ × X). same_picks (key x.1) (key y.1)) is.queue x found (same_picks-self (key x.1)),
+        find_none (λ (y : ℕ × X). named y.1) (bucket_of m (key x.1)) (never (key x.1)),
+        is.are.bucket (key x.1),
+      ))
+
+  -- the number of what waits
+  pub queue_len : count ≡ length items
+  queue_len = is.are.len ∙ sym (length-map is.queue (λ (y : ℕ × X). y.1))
+      ∙ ap (λ (l : List X). length l) is.same
+
+-- what holds of the earlier places and of this one holds of the places up to this one
+pub up_to : (P : ℕ → Type 0) (n : ℕ) → ((k : ℕ) → k < n → P k) → P n → (k : ℕ) → k < n + 1 → P k
+up_to P n before here k below = at (k == n) refl
+  where
+    at : (b : Bool) → (k == n) ≡ b → P k
+    at true same = let e : n ≡ k = grind (arith, nat_tests) in subst P e here
+    at false other = before k (grind (arith, nat_tests))
+
+lacks_all : {X A : Type 0} (test : X → Bool) (t : Picks → Bool) (es : List (Picks × VecDeque X A)) →
+    ((i : ℕ) → i < length es →
+    option_map_or (λ (e : Picks × VecDeque X A). position test e.1.items) (slice_get es i) None ≡ None) →
+    position test (option_map_or (λ (b : VecDeque X A). b.items) (lookup t es) []) ≡ None
+lacks_all test t [] all = refl
+lacks_all {X} {A} test t (e ∷ es) all = at (lacks_all test t es (λ i below. all (suc i) (omega (arith, below)))) (t e.0)
+  where
+    at : position test (option_map_or (λ (b : VecDeque X A). b.items) (lookup t es) []) ≡ None → (b : Bool) →
+        position test (option_map_or (λ (b : VecDeque X A). b.items) (cond b (Some e.1) (lookup t es)) []) ≡ None
+    at later true = all 0 (omega arith)
+    at later false = later
+
+-- where each place lacks it, so does each bucket
+pub lacks_everywhere : {X A S : Type 0} (test : X → Bool) (m : IndexMap Picks (VecDeque X A) S) →
+    ((i : ℕ) → i < length m.entries → LacksAt test m i) → (k : Picks) → position test (bucket_of m k) ≡ None
+lacks_everywhere test m all k = lacks_all test (same_picks k) m.entries all

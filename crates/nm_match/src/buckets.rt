@@ -1,0 +1,126 @@
+//! Buckets of what waits: one for each key, each in order of age.
+
+ghost use Rattle.std.specs.Prelude.{◌≡◌, ◌+◌, ◌-◌, ◌<◌, ◌^◌, ◌++◌, false, [], ◌∷◌, IsTrue, OnOk, OnErr};
+ghost use Rattle.std.specs.Prelude.{slice_get, remove};
+ghost use Rattle.nm_match.specs.declared.picks.Picks as picks;
+ghost use Rattle.nm_match.specs.Buckets.{bucket_of, earlier_of};
+ghost use Rattle.nm_match.specs.Picks.{same_picks};
+
+use crate::picks::Picks;
+use indexmap::IndexMap;
+use nm_types::Memory;
+use std::alloc::Global;
+use std::collections::VecDeque;
+
+/// What waits, in a bucket for each key. Each entry has an order number, which grows with age.
+#[derive(Debug, Drop)]
+pub struct Buckets<T> {
+    pub map: IndexMap<Picks, VecDeque<(usize, T)>>,
+    pub len: usize,
+}
+
+/// The entry with the smaller order number.
+pub(crate) fn earlier<T: Copy>(a: Option<(usize, T)>, b: Option<(usize, T)>) -> Option<(usize, T)>
+    ensures { result ≡ earlier_of a b }
+{
+    match (a, b) {
+        (Some(x), Some(y)) => Some(if x.0 <= y.0 { x } else { y }),
+        (Some(x), None) => Some(x),
+        (None, b) => b,
+    }
+}
+
+/// Puts an entry last in the bucket of its key, which may be a new one.
+fn add<T: Copy>(
+    map: &mut IndexMap<Picks, VecDeque<(usize, T)>>,
+    key: Picks,
+    entry: (usize, T),
+) -> Result<(), Memory>
+    ensures own { OnOk result (bucket_of map.new key ≡ bucket_of map.old key ++ entry ∷ []) }
+    ensures others { (k : picks.Picks) → same_picks key k ≡ false →
+        bucket_of map.new k ≡ bucket_of map.old k }
+    ensures err { OnErr result (bucket_of map.new key ≡ bucket_of map.old key) }
+{
+    match map.get_mut(&key) {
+        Some(bucket) => {
+            bucket.push_back(entry)?;
+            Ok(())
+        }
+        None => {
+            let mut bucket = VecDeque::new(*map.allocator());
+            bucket.push_back(entry)?;
+            map.insert(key, bucket)?;
+            Ok(())
+        }
+    }
+}
+
+/// Takes the entry at this place of a bucket, and answers whether the bucket is empty now.
+fn drop_at<T: Copy>(
+    map: &mut IndexMap<Picks, VecDeque<(usize, T)>>,
+    key: Picks,
+    place: usize,
+) -> bool
+    ensures own { bucket_of map.new key ≡ remove (bucket_of map.old key) place }
+    ensures others { (k : picks.Picks) → same_picks key k ≡ false →
+        bucket_of map.new k ≡ bucket_of map.old k }
+    ensures emptied { IsTrue result → bucket_of map.new key ≡ [] }
+{
+    match map.get_mut(&key) {
+        Some(bucket) => {
+            let _ = bucket.remove(place);
+            bucket.is_empty()
+        }
+        None => false,
+    }
+}
+
+impl<T: Copy> Buckets<T> {
+    /// Buckets where nothing waits.
+    pub(crate) fn new(alloc: Global) -> Self
+        ensures none { (k : picks.Picks) → bucket_of result.map k ≡ [] }
+        ensures len { result.len ≡ 0 }
+    {
+        Buckets {
+            map: IndexMap::new(alloc),
+            len: 0,
+        }
+    }
+
+    /// The oldest entry under a key.
+    pub(crate) fn front(&self, key: Picks) -> Option<(usize, T)>
+        ensures { result ≡ slice_get (bucket_of self.now.map key) 0 }
+    {
+        self.map.get(&key)?.front().copied()
+    }
+
+    /// Puts an entry last in the bucket of its key.
+    pub(crate) fn put(&mut self, key: Picks, order: usize, item: T) -> Result<(), Memory>
+        requires { self.old.len < 2 ^ 63 }
+        ensures own { OnOk result (bucket_of self.new.map key
+            ≡ bucket_of self.old.map key ++ (order, item) ∷ []) }
+        ensures others { (k : picks.Picks) → same_picks key k ≡ false →
+            bucket_of self.new.map k ≡ bucket_of self.old.map k }
+        ensures err { OnErr result (bucket_of self.new.map key ≡ bucket_of self.old.map key) }
+        ensures len { OnOk result (self.new.len ≡ self.old.len + 1) }
+        ensures err_len { OnErr result (self.new.len ≡ self.old.len) }
+    {
+        add(&mut self.map, key, (order, item))?;
+        self.len += 1;
+        Ok(())
+    }
+
+    /// Takes the entry at this place of a bucket, and an emptied bucket with it.
+    pub(crate) fn take(&mut self, key: Picks, place: usize)
+        ensures own { bucket_of self.new.map key ≡ remove (bucket_of self.old.map key) place }
+        ensures others { (k : picks.Picks) → same_picks key k ≡ false →
+            bucket_of self.new.map k ≡ bucket_of self.old.map k }
+        ensures len { self.new.len ≡ self.old.len - 1 }
+    {
+        let emptied = drop_at(&mut self.map, key, place);
+        self.len = self.len.saturating_sub(1);
+        if emptied {
+            let _ = self.map.swap_remove(&key);
+        }
+    }
+}
