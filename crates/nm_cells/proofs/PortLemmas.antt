@@ -28,9 +28,7 @@ use Rattle.nm_cells.specs.declared.port.Port.{Port}
 use Rattle.nm_cells.specs.declared.port.Fabric.{Fabric}
 use Rattle.nm_cells.specs.declared.cell.Cell.{Cell}
 use Rattle.nm_cells.specs.Ports.{Owns, Takes, holding, sent_by, arrivals, queue_of, rank_of_queue}
-use Rattle.nm_cells.specs.Ports.{posted_in, sent_into, HasRoomFor, MayJoin, look_of}
-use Rattle.nm_table.specs.Looks.{other}
-use Rattle.nm_table.specs.declared.table.Look.TheVariants.{Fresh}
+use Rattle.nm_cells.specs.Ports.{posted_in, sent_into, HasRoomFor, MayJoin}
 use Rattle.std.proofs.lemmas.List.Sums.{sum_by-set}
 use Rattle.nm_cells.specs.Counted.{CountsFor, counted_after, peer_in, new_peer, all_unpassed}
 use Rattle.nm_cells.specs.Counted.{Counts, with_peer, one_sent, one_arrived, IsUnpassedOf, IsOneOf}
@@ -298,6 +296,9 @@ module _ (b : Bool) (f : Fabric) (p : Port) (d c shadow : ℕ) (after : Knowing)
     ap (λ m. (mine m).free.shadow) u.after_is,
   )
 
+  pub takes_shadow : (plays.heads_of b (mine after)).shadow ≡ shadow
+  takes_shadow = (same_lengths b t).5
+
   pub takes_hands : p.hands + 1 ≤ 4294967295
   takes_hands = let n = new_carries (vec_capacity p.carried) (omega arith) in let e = mine after in
       let w = count_within after.1 e.hands e.filling e.emptying (c ∷ p.carried.items)
@@ -417,10 +418,9 @@ module _ (b : Bool) (f : Fabric) (p : Port) (d c shadow : ℕ) (after : Knowing)
   pub takes_made : (new : Port) (cell : Cell) → new.seat.me ≡ after → cell.number ≡ c
       → cell.owner ≡ c / f.each → new.held ≡ p.held
       → new.peers.items ≡ counted_after b (c / f.each) p.peers.items → new.hands ≡ p.hands + 1
-      → look_of b new ≡ Fresh → look_of (other b) new ≡ look_of (other b) p
       → new.loose ≡ p.loose
       → suc c ≡ (plays.heads_of b (mine p.seat.me)).shadow → Takes b f p new cell
-  takes_made new cell me is owner same peers one look others spare first = let e = mine p.seat.me in
+  takes_made new cell me is owner same peers one spare first = let e = mine p.seat.me in
       let y = t.load in
       let now : holding new ≡ update (holding p) c y =
       ap (λ m. held_in (length (mine m).hands) m.1) me
@@ -459,8 +459,6 @@ module _ (b : Bool) (f : Fabric) (p : Port) (d c shadow : ℕ) (after : Knowing)
         held = same;
         unpassed = u.1;
         hands = one;
-        look = look;
-        other_look = others;
         loose = spare;
       }
 

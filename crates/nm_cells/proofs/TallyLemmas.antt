@@ -62,7 +62,7 @@ module _ (key : Sizes) (es : List Entry) (home : ℕ) (S : Settled key es home) 
 
   waits_are : map number (w.waits i j) ≡ numbers bx
   waits_are = sym (full_numbers (w.waits i j) (λ t y at.
-      let z : sender y ≡ suc i = ((R.boxes i j li lj).full t y at).0 in omega arith))
+      let z : sender y ≡ suc i = ((R.boxes i j li lj).full t y at).0.0 in omega arith))
 
   turn : InSequence (sent_to j e.put_box e.put) (numbers gb) (numbers bx) (numbers gc) (numbers ch)
   turn = let b = ap (λ l. map number (from i l)) got_box_is ∙ sym (from_numbers i g.got_box) in

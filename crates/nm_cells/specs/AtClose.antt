@@ -50,6 +50,7 @@ Settled key es home = (s : State Load (View Entry))
     × (q < 2 * key.ranks) × Has c (R.world.chain q))
     × (home ≡ home_count key.ranks key.cells R.world.place (key.ranks * key.cells)))
 
+-- 1 where the slot is at home and empty
 abbrev pub vacant_at : maybe.Option Load → ℕ
 vacant_at maybe.none = 0
 vacant_at (maybe.some None) = 1

@@ -31,6 +31,7 @@ pub record Holds (n m : ℕ) (box : Bool → ℕ → ℕ) (x : Bool → ℕ → 
   pub loaded : (b : Bool) (j : ℕ) → j < n → (y : Load) → x b j ≡ Some y
       → load_in (box b j) slots ≡ y
 
+-- the same of a rank's entry, whose boxes at work are apart
 abbrev pub HoldsBoxes : Entry → List (ℕ × Load) → Type 0
 HoldsBoxes e slots = (e.rank < e.ranks)
     × Holds e.ranks (e.ranks * e.each) (next_box e) (work e) slots × BoxesApart e

@@ -14,6 +14,7 @@ entries c = seen_in c.badge.views
 abbrev pub counted : Closed → List (List Peer)
 counted c = map (λ v. v.items) c.counted.items
 
+-- how many ranks there were
 abbrev pub ranks_of : Closed → ℕ
 ranks_of c = length (entries c)
 

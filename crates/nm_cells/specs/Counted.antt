@@ -4,6 +4,7 @@ use Rattle.std.specs.Prelude.{true, false}
 use Rattle.std.specs.Prelude.{List, [], ◌∷◌, length, map}
 use Rattle.std.specs.Prelude.{slice_index, slice_index_or, slice_set, sum_by, ◌-◌}
 use native.Mathlib.Decide.{dec_le}
+use Rattle.nm_types.specs.declared.limits.TheConstants.{MAX_PACKETS}
 use Rattle.nm_types.specs.declared.packets.Packet.{Packet}
 use Rattle.nm_chain.specs.Sequence.{Each, Rises, Got}
 use Rattle.nm_cells.specs.declared.peers.Peer.{Peer}
@@ -58,12 +59,13 @@ module _ (put : List (ℕ × Load)) (got : List Load) (put_box : List (ℕ × Lo
     pub is_filling : p.filling ≡ slice_index_or filling j false
     pub is_emptying : p.emptying ≡ is_some (slice_index_or emptying j None)
     pub few : p.box_got ≤ p.taken
-    pub in_range : p.taken ≤ 1152921504606846976
+    pub in_range : p.taken ≤ MAX_PACKETS
     pub came : (k : ℕ) → k < p.taken → Got (map number (from j got_box)) (map number (from j got)) k
     pub passed : Each (λ k. k < p.taken) (map number (from j got_box))
     pub rises : Rises (map number (from j got))
     pub unpassed : p.unpassed ≡ not_below p.taken (map number (from j got))
 
+  -- What is counted of all n ranks is what the lists say, and a packet that is held came by cell and was not passed on
   pub record Counts (n : ℕ) (peers : List Peer) (held : Option Packet) : Type 0 where
     pub count : length peers ≡ n
     pub fulls : length full ≡ n

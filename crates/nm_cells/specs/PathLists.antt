@@ -43,10 +43,11 @@ abbrev pub seen_in : List (View Entry) → List Entry
 seen_in [] = []
 seen_in (v ∷ vs) = v.seen
 
--- what the rank i knew, and what it counted, of these in rank order
+-- what the rank i knew, of these in rank order
 abbrev pub entry_in : List Entry → ℕ → Entry
 entry_in es i = slice_index_or es i (newcomer 0 0)
 
+-- what the rank i counted of each rank
 abbrev pub peers_in : List (List Peer) → ℕ → List Peer
 peers_in ps i = slice_index_or ps i []
 

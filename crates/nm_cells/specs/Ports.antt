@@ -1,6 +1,7 @@
 -- What a port knows, has in hand and counts, in the words of contracts.
 use Rattle.std.specs.Prelude.{◌≡◌, ◌≢◌, ℕ, suc, ◌+◌, ◌*◌, ◌/◌, ◌<◌, ◌≤◌, ◌↔◌, Bool, true, false}
 use Rattle.std.specs.Prelude.{Some, None, IsSome, List, [], ◌∷◌, length}
+use Rattle.nm_types.specs.declared.limits.TheConstants.{MAX_PACKETS}
 use Rattle.nm_types.specs.declared.packets.Packet.{Packet}
 use Rattle.nm_seats.specs.Update.{update}
 use Rattle.nm_table.specs.declared.table.Hand.TheVariants.{Away, Entering}
@@ -12,12 +13,11 @@ use Rattle.nm_cells.specs.declared.cell.Pending as pending
 use Rattle.nm_cells.specs.declared.cell.Queue as queues
 use Rattle.nm_cells.specs.declared.cell.Queue.TheVariants.{Receive, Free}
 use Rattle.nm_table.specs.declared.table.Look.{Look}
-use Rattle.nm_table.specs.declared.table.Look.TheVariants.{Fresh}
 use Rattle.nm_table.specs.Rule.{Load, hand, sender, number, sent_to}
 use Rattle.nm_table.specs.Rule.{emptying_of}
 use Rattle.nm_table.specs.Rule.{newcomer}
 use Rattle.nm_table.specs.Plays.{mine, InHand, heads_of, taken, box_load}
-use Rattle.nm_table.specs.Looks.{look_in, other}
+use Rattle.nm_table.specs.Looks.{look_in}
 use Rattle.nm_cells.specs.Carried.{held_in}
 use Rattle.nm_cells.specs.LooseCells.{IsAmong}
 use Rattle.nm_cells.specs.declared.peers.Peer.{Peer}
@@ -63,27 +63,27 @@ abbrev pub SameTaken : Port → Port → Type 0
 SameTaken old new = (taken_by new ≡ taken_by old) × (new.held ≡ old.held)
     × (unpassed_by new ≡ unpassed_by old)
 
--- what the last step on an own queue told of its first cell
+-- what the last steps on an own queue told of its first cell
 abbrev pub look_of : Bool → Port → Look
-look_of b p = look_in b p.looks
+look_of b p = look_in b (knows p).looks
 
 -- the cell is one of the port's loose ones
 abbrev pub IsLoose : Port → ℕ → Type 0
 IsLoose p c = IsAmong p.loose c
 
 -- The fabric's port of the same rank, which passed on, holds and has to pass on the same packets, and
--- whose last steps on its queues and loose cells are the same
+-- whose loose cells are the same
 abbrev pub Stays : Fabric → Port → Port → Type 0
-Stays f old new = Owns f new × (new.rank ≡ old.rank) × SameTaken old new × (new.looks ≡ old.looks)
-    × (new.loose ≡ old.loose)
+Stays f old new = Owns f new × (new.rank ≡ old.rank) × SameTaken old new × (new.loose ≡ old.loose)
 
--- No cell was taken from an own queue, and the step told this of the first one. The cells in hand are
--- the same and hold the same
-abbrev pub Leaves : Bool → Look → Port → Port → Type 0
-Leaves b look old new = (look_of b new ≡ look) × (look_of (other b) new ≡ look_of (other b) old)
-    × (new.hands ≡ old.hands) × (holding new ≡ holding old) × SameTaken old new
-    × (new.loose ≡ old.loose)
+-- No cell was taken from an own queue: the cells in hand are the same and hold the same
+pub record Leaves (old new : Port) : Type 0 where
+  pub hands : new.hands ≡ old.hands
+  pub holding : holding new ≡ holding old
+  pub taken : SameTaken old new
+  pub loose : new.loose ≡ old.loose
 
+-- how many cells the fabric has
 abbrev pub cells_of : Fabric → ℕ
 cells_of f = f.ranks * f.each
 
@@ -153,8 +153,6 @@ pub record Takes (b : Bool) (f : Fabric) (old new : Port) (c : Cell) : Type 0 wh
   pub held : new.held ≡ old.held
   pub unpassed : unpassed_by new ≡ unpassed_by old + arrivals b
   pub hands : new.hands ≡ old.hands + 1
-  pub look : look_of b new ≡ Fresh
-  pub other_look : look_of (other b) new ≡ look_of (other b) old
   pub loose : new.loose ≡ old.loose
 
 -- The port's lowest loose cell is in its hand, empty, and no longer loose; the others are loose still
@@ -201,6 +199,7 @@ abbrev pub opens : Bool → ℕ
 opens true = 0
 opens false = 1
 
+-- the one list, or where it is so the other
 abbrev pub unless : Bool → List ℕ → List ℕ → List ℕ
 unless true xs ys = ys
 unless false xs ys = xs
@@ -212,5 +211,5 @@ sent_into (Free j) peers = peers
 
 -- there is room to count it
 abbrev pub HasRoomFor : queues.Queue → List Peer → Type 0
-HasRoomFor (Receive j) peers = (j < length peers) × ((peer_in peers j).sent < 1152921504606846976)
+HasRoomFor (Receive j) peers = (j < length peers) × ((peer_in peers j).sent < MAX_PACKETS)
 HasRoomFor (Free j) peers = Unit {0}

@@ -20,13 +20,13 @@ use crate::tally::{
     count_boxed, count_full, count_miss, count_unboxed, note_emptying, note_filling,
 };
 use nm_seats::Steps;
-use nm_table::{Fills, LooksIn, LooksOut, Told, Vacates};
+use nm_table::{Fills, LooksIn, LooksOut, Told, Vacates, flag_word};
 use nm_types::Packet;
 use std::marker::Brand;
 use std::sync::ledger::Ledger;
 
 impl Fabric {
-    // The slot of the box at this place of the pair. Its flag is the word 4 * ranks further on.
+    // The slot of the box at this place of the pair.
     fn box_at(&self, from: u8, to: u8, place: u64) -> u64
         requires { (from < self.now.ranks) × (to < self.now.ranks) }
         ensures at { result ≡ box_slot self.now.ranks self.now.each from to (place % 4) }
@@ -69,7 +69,7 @@ fn look_out<T: Told, L: Ledger>(f: &Fabric, port: &mut Port, to: u8, steps: &mut
     steps.tick();
     let peer = port.peer(to);
     let slot = f.box_at(port.rank, to, peer.box_put);
-    let word = 4 * f.ranks + slot;
+    let word = flag_word(f.ranks, slot);
     let found = f
         .board
         .shared
@@ -126,7 +126,7 @@ fn look_in<T: Told, L: Ledger>(
     steps.tick();
     let peer = port.peer(sender);
     let slot = f.box_at(sender, port.rank, peer.box_got);
-    let word = 4 * f.ranks + slot;
+    let word = flag_word(f.ranks, slot);
     let found = f
         .board
         .shared
@@ -174,6 +174,7 @@ fn fill<T: Told, L: Ledger>(
     requires owns { Owns f.now port.old }
     requires peer { to < f.now.ranks }
     requires free { filling_of (knows port.old) to ≡ true }
+    requires fits { length packet.payload ≤ MAX_BOX }
     requires packet { (packet.from ≡ port.old.rank) × (packet.seq ≡ sent_by port.old to) }
     requires told { to ≡ T.peer }
     ensures stays { Stays f.now port.old port.new }
@@ -186,7 +187,7 @@ fn fill<T: Told, L: Ledger>(
     steps.tick();
     let slot = f.box_at(port.rank, to, port.peer(to).box_put);
     bring_slot(port, slot);
-    let word = 4 * f.ranks + slot;
+    let word = flag_word(f.ranks, slot);
     let flag = packet.seq + 1;
     let old = f
         .board
@@ -236,7 +237,7 @@ fn empty<T: Told, L: Ledger>(
     requires taking { Empties port.old sender (taken_by port.old sender) }
     requires told { sender ≡ T.peer }
     ensures owns { Owns f.now port.new × (port.new.rank ≡ port.old.rank)
-        × (port.new.looks ≡ port.old.looks) × (port.new.loose ≡ port.old.loose) }
+        × (port.new.loose ≡ port.old.loose) }
     ensures packet { Some result ≡ box_load sender (knows port.old) }
     ensures got { knows port.new
         ≡ with_got_box (Some result ∷ []) (with_emptying sender None (knows port.old)) }
@@ -251,7 +252,7 @@ fn empty<T: Told, L: Ledger>(
     steps.tick();
     let slot = f.box_at(sender, port.rank, port.peer(sender).box_got);
     bring_slot(port, slot);
-    let word = 4 * f.ranks + slot;
+    let word = flag_word(f.ranks, slot);
     let old = f.board.shared.exchange(&mut port.seat, slot as usize, None);
     f.board
         .shared
@@ -269,7 +270,7 @@ pub fn empty_box<L: Ledger>(f: &Fabric, port: &mut Port, sender: u8, steps: &mut
     requires peer { sender < f.now.ranks }
     requires taking { Empties port.old sender (taken_by port.old sender) }
     ensures owns { Owns f.now port.new × (port.new.rank ≡ port.old.rank)
-        × (port.new.looks ≡ port.old.looks) × (port.new.loose ≡ port.old.loose) }
+        × (port.new.loose ≡ port.old.loose) }
     ensures packet { (Some result ≡ box_load sender (knows port.old))
         × (result.from ≡ sender) × (result.seq ≡ taken_by port.old sender) }
     ensures got { knows port.new

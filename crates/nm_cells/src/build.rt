@@ -16,7 +16,7 @@ use crate::peers::Peer;
 use crate::port::{Fabric, Port};
 use crate::produce::{clear_link, store_head, store_link, swap_tail};
 use nm_seats::{GivesFirst, Steps};
-use nm_table::{Board, Heads, Looks, Misses, Place};
+use nm_table::{Board, Heads, Misses, Place};
 use nm_types::{Memory, Shape};
 use std::alloc::Global;
 use std::marker::Brand;
@@ -56,7 +56,6 @@ fn port_of(alloc: Global, f: &Fabric, rest: &mut Place, rank: u8) -> Result<Port
         rank,
         receive: Heads { shadow: 0, seen: 0 },
         free: Heads { shadow: 0, seen: 0 },
-        looks: Looks::new(),
         receive_missed: Misses::new(),
         free_missed: Misses::new(),
         carried,

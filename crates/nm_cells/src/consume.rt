@@ -5,12 +5,13 @@
 ghost use Rattle.std.specs.Prelude.{true, false, ◌≡◌, ◌≢◌, ℕ, suc, ◌+◌, ◌-◌, ◌*◌, ◌/◌, ◌<◌, ◌≤◌, ◌^◌, ◌∷◌};
 ghost use Rattle.std.specs.Prelude.{◌↔◌, IsTrue, IfSome, IfNone, length, vec_len, vec_capacity};
 ghost use Rattle.nm_table.specs.Plays.{queue, heads_of, with_heads, heads_at, with_missed};
-ghost use Rattle.nm_table.specs.Plays.{with_look};
+ghost use Rattle.nm_table.specs.Plays.{with_look, with_link_empty};
+ghost use Rattle.nm_table.specs.Looks.{IsLinkEmpty};
 ghost use Rattle.nm_cells.specs.Counted.{peer_in, counted_after};
 ghost use Rattle.nm_table.specs.Plays.{head_miss, link_miss};
 ghost use Rattle.nm_cells.specs.Ports.{Owns, Stays, knows, holding, Takes, Leaves, look_of};
 ghost use Rattle.nm_cells.specs.Ports.{IsOwn, is_receive};
-ghost use Rattle.nm_table.specs.declared.table.Look.TheVariants.{Fresh, LinkEmpty, TailElsewhere};
+ghost use Rattle.nm_table.specs.declared.table.Look.TheVariants.{LinkEmpty, TailElsewhere};
 
 use crate::cell::{Cell, Queue};
 use crate::peers::Peer;
@@ -18,7 +19,9 @@ use crate::port::{Fabric, Port};
 use crate::slots::carry;
 use crate::tally::count_arrived;
 use nm_seats::Steps;
-use nm_table::{ClearsHead, Drains, Heads, LoadsHead, Look, Passes, Reloads};
+use nm_table::{
+    ClearsHead, Drains, Heads, LoadsHead, Passes, Reloads, head_word, link_word, tail_word,
+};
 use std::sync::ledger::Ledger;
 
 fn own_queue<const B: bool>(f: &Fabric, port: &Port) -> u64
@@ -52,7 +55,7 @@ fn load_head_of<L: Ledger, const B: bool>(f: &Fabric, port: &mut Port, steps: &m
     ensures cost { steps.new ≡ steps.old + 1 }
 {
     steps.tick();
-    let word = own_queue::<B>(f, port);
+    let word = head_word(own_queue::<B>(f, port));
     let found = f
         .board
         .shared
@@ -81,7 +84,7 @@ fn clear_head_of<L: Ledger, const B: bool>(f: &Fabric, port: &mut Port, steps: &
     ensures cost { steps.new ≡ steps.old + 1 }
 {
     steps.tick();
-    let word = own_queue::<B>(f, port);
+    let word = head_word(own_queue::<B>(f, port));
     let shadow = port.heads::<B>().seen;
     f.board
         .shared
@@ -144,20 +147,20 @@ fn load_link_of<L: Ledger, const B: bool>(
     requires owns { Owns f.now port.old }
     requires first { 0 < (heads_of B (knows port.old)).shadow }
     ensures owns { Owns f.now port.new × (port.new.rank ≡ port.old.rank) }
-    ensures none { IfNone result ((knows port.new ≡ with_look B LinkEmpty (knows port.old))
-        × Leaves B LinkEmpty port.old port.new) }
+    ensures none { IfNone result ((knows port.new ≡ with_link_empty B (knows port.old))
+        × Leaves port.old port.new) }
     ensures some { IfSome result (Takes B f.now port.old port.new) }
+    ensures next { IfSome result (λ _. 0 < (heads_of B (knows port.new)).shadow) }
     ensures cost { steps.new ≡ steps.old + 1 }
 {
     steps.tick();
     let number = port.heads::<B>().shadow - 1;
-    let word = 4 * f.ranks + number;
+    let word = link_word(f.ranks, number);
     let found = f
         .board
         .shared
         .load::<Passes<B>>(&mut port.seat, word as usize);
     if found == 0 {
-        port.looks.set::<B>(Look::LinkEmpty);
         return None;
     }
     let heads = Heads {
@@ -169,7 +172,6 @@ fn load_link_of<L: Ledger, const B: bool>(
     } else {
         port.free = heads;
     }
-    port.looks.set::<B>(Look::Fresh);
     Some(first_taken::<B>(
         &mut port.peers,
         &mut port.carried,
@@ -190,14 +192,15 @@ fn reload_link_of<L: Ledger, const B: bool>(
     requires look { look_of B port.old ≡ TailElsewhere }
     ensures owns { Owns f.now port.new × (port.new.rank ≡ port.old.rank) }
     ensures none { IfNone result ((knows port.new
-        ≡ with_look B LinkEmpty (with_missed B link_miss (knows port.old)))
-        × Leaves B LinkEmpty port.old port.new) }
+        ≡ with_look B (LinkEmpty 0) (with_missed B link_miss (knows port.old)))
+        × Leaves port.old port.new) }
     ensures some { IfSome result (Takes B f.now port.old port.new) }
+    ensures next { IfSome result (λ _. 0 < (heads_of B (knows port.new)).shadow) }
     ensures cost { steps.new ≡ steps.old + 1 }
 {
     steps.tick();
     let number = port.heads::<B>().shadow - 1;
-    let word = 4 * f.ranks + number;
+    let word = link_word(f.ranks, number);
     let found = f
         .board
         .shared
@@ -208,7 +211,6 @@ fn reload_link_of<L: Ledger, const B: bool>(
         } else {
             port.free_missed = port.free_missed.after_link();
         }
-        port.looks.set::<B>(Look::LinkEmpty);
         return None;
     }
     let heads = Heads {
@@ -220,7 +222,6 @@ fn reload_link_of<L: Ledger, const B: bool>(
     } else {
         port.free = heads;
     }
-    port.looks.set::<B>(Look::Fresh);
     Some(first_taken::<B>(
         &mut port.peers,
         &mut port.carried,
@@ -238,23 +239,23 @@ fn drop_tail_of<L: Ledger, const B: bool>(
 ) -> Option<Cell>
     requires owns { Owns f.now port.old }
     requires first { 0 < (heads_of B (knows port.old)).shadow }
-    requires look { look_of B port.old ≡ LinkEmpty }
+    requires look { IsLinkEmpty (look_of B port.old) }
     ensures owns { Owns f.now port.new × (port.new.rank ≡ port.old.rank) }
     ensures none { IfNone result ((knows port.new ≡ with_look B TailElsewhere (knows port.old))
-        × Leaves B TailElsewhere port.old port.new) }
+        × Leaves port.old port.new) }
     ensures some { IfSome result (Takes B f.now port.old port.new) }
+    ensures next { IfSome result (λ _. (heads_of B (knows port.new)).shadow ≡ 0) }
     ensures cost { steps.new ≡ steps.old + 1 }
 {
     steps.tick();
     let shadow = port.heads::<B>().shadow;
     let number = shadow - 1;
-    let word = 2 * f.ranks + own_queue::<B>(f, port);
+    let word = tail_word(f.ranks, own_queue::<B>(f, port));
     let found = f
         .board
         .shared
         .compare_exchange::<Drains<B>>(&mut port.seat, word as usize, shadow, 0);
     if found != shadow {
-        port.looks.set::<B>(Look::TailElsewhere);
         return None;
     }
     let heads = Heads { shadow: 0, seen: 0 };
@@ -263,7 +264,6 @@ fn drop_tail_of<L: Ledger, const B: bool>(
     } else {
         port.free = heads;
     }
-    port.looks.set::<B>(Look::Fresh);
     Some(first_taken::<B>(
         &mut port.peers,
         &mut port.carried,
@@ -327,9 +327,10 @@ pub fn load_link<L: Ledger>(
     requires first { 0 < (heads_of (is_receive q) (knows port.old)).shadow }
     ensures owns { Owns f.now port.new × (port.new.rank ≡ port.old.rank) }
     ensures none { IfNone result ((knows port.new
-        ≡ with_look (is_receive q) LinkEmpty (knows port.old))
-        × Leaves (is_receive q) LinkEmpty port.old port.new) }
+        ≡ with_link_empty (is_receive q) (knows port.old))
+        × Leaves port.old port.new) }
     ensures some { IfSome result (Takes (is_receive q) f.now port.old port.new) }
+    ensures next { IfSome result (λ _. 0 < (heads_of (is_receive q) (knows port.new)).shadow) }
     ensures cost { steps.new ≡ steps.old + 1 }
 {
     match q {
@@ -350,12 +351,13 @@ pub fn drop_tail<L: Ledger>(
     requires owns { Owns f.now port.old }
     requires own { IsOwn port.old q }
     requires first { 0 < (heads_of (is_receive q) (knows port.old)).shadow }
-    requires look { look_of (is_receive q) port.old ≡ LinkEmpty }
+    requires look { IsLinkEmpty (look_of (is_receive q) port.old) }
     ensures owns { Owns f.now port.new × (port.new.rank ≡ port.old.rank) }
     ensures none { IfNone result ((knows port.new
         ≡ with_look (is_receive q) TailElsewhere (knows port.old))
-        × Leaves (is_receive q) TailElsewhere port.old port.new) }
+        × Leaves port.old port.new) }
     ensures some { IfSome result (Takes (is_receive q) f.now port.old port.new) }
+    ensures next { IfSome result (λ _. (heads_of (is_receive q) (knows port.new)).shadow ≡ 0) }
     ensures cost { steps.new ≡ steps.old + 1 }
 {
     match q {
@@ -379,10 +381,11 @@ pub fn reload_link<L: Ledger>(
     requires look { look_of (is_receive q) port.old ≡ TailElsewhere }
     ensures owns { Owns f.now port.new × (port.new.rank ≡ port.old.rank) }
     ensures none { IfNone result ((knows port.new
-        ≡ with_look (is_receive q) LinkEmpty (with_missed (is_receive q) link_miss
+        ≡ with_look (is_receive q) (LinkEmpty 0) (with_missed (is_receive q) link_miss
         (knows port.old)))
-        × Leaves (is_receive q) LinkEmpty port.old port.new) }
+        × Leaves port.old port.new) }
     ensures some { IfSome result (Takes (is_receive q) f.now port.old port.new) }
+    ensures next { IfSome result (λ _. 0 < (heads_of (is_receive q) (knows port.new)).shadow) }
     ensures cost { steps.new ≡ steps.old + 1 }
 {
     match q {

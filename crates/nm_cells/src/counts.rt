@@ -151,7 +151,7 @@ impl Port {
         ensures held { self.new.held ≡ Some packet }
         ensures same { (self.new.seat ≡ self.old.seat) × (self.new.rank ≡ self.old.rank)
             × (self.new.hands ≡ self.old.hands) × (self.new.peers ≡ self.old.peers)
-            × (self.new.looks ≡ self.old.looks) × (self.new.loose ≡ self.old.loose) }
+            × (self.new.loose ≡ self.old.loose) }
     {
         self.held = Some(packet);
     }
@@ -162,7 +162,7 @@ impl Port {
         ensures nothing { self.new.held ≡ None }
         ensures same { (self.new.seat ≡ self.old.seat) × (self.new.rank ≡ self.old.rank)
             × (self.new.hands ≡ self.old.hands) × (self.new.peers ≡ self.old.peers)
-            × (self.new.looks ≡ self.old.looks) × (self.new.loose ≡ self.old.loose) }
+            × (self.new.loose ≡ self.old.loose) }
     {
         self.held.take()
     }
@@ -177,7 +177,7 @@ impl Port {
         ensures unpassed { unpassed_by self.new + 1 ≡ unpassed_by self.old }
         ensures same { (self.new.seat ≡ self.old.seat) × (self.new.rank ≡ self.old.rank)
             × (self.new.hands ≡ self.old.hands) × (self.new.held ≡ self.old.held)
-            × (self.new.looks ≡ self.old.looks) × (self.new.loose ≡ self.old.loose) }
+            × (self.new.loose ≡ self.old.loose) }
     {
         count_passed(&mut self.peers, packet.from as usize);
     }

@@ -10,7 +10,7 @@ ghost use Rattle.nm_cells.specs.Ports.{Owns, SameTaken, knows, cells_of, IsLoose
 use crate::cell::Cell;
 use crate::port::{Fabric, Port};
 use crate::slots::carry;
-use nm_table::Picks;
+use nm_table::{Picks, link_word};
 
 /// The cells with numbers from `first` on and below `end`.
 #[derive(Clone, Copy)]
@@ -33,7 +33,7 @@ pub(crate) fn pick_up(f: &Fabric, port: &mut Port)
     ensures hands { port.new.hands ≡ port.old.hands }
 {
     let cell = port.loose.end;
-    let word = 4 * f.ranks + cell;
+    let word = link_word(f.ranks, cell);
     f.board.shared.load::<Picks>(&mut port.seat, word as usize);
     carry(&mut port.carried, cell);
     port.loose.end += 1;
@@ -48,7 +48,7 @@ impl Port {
         ensures left { IfNone result (self.new.loose ≡ self.old.loose) }
         ensures same { (self.new.seat ≡ self.old.seat) × (self.new.rank ≡ self.old.rank)
             × (self.new.hands ≡ self.old.hands) × (self.new.peers ≡ self.old.peers)
-            × (self.new.held ≡ self.old.held) × (self.new.looks ≡ self.old.looks) }
+            × (self.new.held ≡ self.old.held) }
     {
         let LooseCells { first, end } = self.loose;
         if end <= first {

@@ -9,7 +9,7 @@ ghost use Rattle.nm_cells.specs.LooseCells.{AreKept};
 
 use crate::loose::LooseCells;
 use crate::peers::Peer;
-use nm_table::{Board, Heads, Looks, Misses, Place};
+use nm_table::{Board, Heads, Misses, Place};
 use nm_types::Packet;
 
 /// The cells, boxes and queues that the ranks share.
@@ -37,7 +37,6 @@ pub struct Port {
     pub(crate) rank: u8,
     pub(crate) receive: Heads,
     pub(crate) free: Heads,
-    pub(crate) looks: Looks,
     pub(crate) receive_missed: Misses,
     pub(crate) free_missed: Misses,
     /// The slots in hand, the one taken last first.
@@ -51,7 +50,6 @@ pub struct Port {
     pub ghost alone: { Alone seat.me },
     pub ghost named: { (mine seat.me).rank ≡ rank },
     pub ghost ends: { ((mine seat.me).receive ≡ receive) × ((mine seat.me).free ≡ free) },
-    pub ghost looked: { (mine seat.me).looks ≡ looks },
     pub ghost missed: { ((mine seat.me).receive_missed ≡ receive_missed)
         × ((mine seat.me).free_missed ≡ free_missed) },
     pub ghost small: { (receive.shadow ≤ length (mine seat.me).hands) × (receive.seen ≤ length (mine seat.me).hands)
@@ -73,7 +71,6 @@ impl Port {
             rank: _,
             receive: _,
             free: _,
-            looks: _,
             receive_missed: _,
             free_missed: _,
             carried: _,

@@ -14,7 +14,7 @@ use crate::port::{Fabric, Port};
 use crate::slots::bring_cell;
 use crate::tally::count_sent;
 use nm_seats::Steps;
-use nm_table::{Clears, Finishes, Swaps};
+use nm_table::{Clears, Finishes, Swaps, head_word, link_word, tail_word};
 use std::sync::ledger::Ledger;
 
 impl Fabric {
@@ -53,7 +53,7 @@ pub fn clear_link<L: Ledger>(f: &Fabric, port: &mut Port, cell: &Cell, steps: &m
     ensures cost { steps.new ≡ steps.old + 1 }
 {
     steps.tick();
-    let word = 4 * f.ranks + cell.number;
+    let word = link_word(f.ranks, cell.number);
     f.board
         .shared
         .store::<Clears>(&mut port.seat, word as usize, 0);
@@ -86,7 +86,7 @@ pub fn swap_tail<L: Ledger>(
     let Cell { number, owner: _ } = cell;
     bring_cell(port, number);
     let queue = f.number_of(q);
-    let word = 2 * f.ranks + queue;
+    let word = tail_word(f.ranks, queue);
     let found = f
         .board
         .shared
@@ -116,9 +116,10 @@ pub fn store_head<L: Ledger>(f: &Fabric, port: &mut Port, enqueue: Pending, step
         queue,
         found: _,
     } = enqueue;
+    let word = head_word(queue);
     f.board
         .shared
-        .store::<Finishes>(&mut port.seat, queue as usize, cell + 1);
+        .store::<Finishes>(&mut port.seat, word as usize, cell + 1);
     port.hands -= 1;
 }
 
@@ -138,7 +139,7 @@ pub fn store_link<L: Ledger>(f: &Fabric, port: &mut Port, enqueue: Pending, step
         queue: _,
         found,
     } = enqueue;
-    let word = 4 * f.ranks + (found - 1);
+    let word = link_word(f.ranks, found - 1);
     f.board
         .shared
         .store::<Finishes>(&mut port.seat, word as usize, cell + 1);

@@ -57,7 +57,7 @@ pub(crate) fn bring_slot(port: &mut Port, slot: u64)
         × (port.new.seat.me.0 ≡ port.old.seat.me.0) }
     ensures same { (port.new.rank ≡ port.old.rank) × (port.new.peers ≡ port.old.peers)
         × (port.new.held ≡ port.old.held) × (port.new.hands ≡ port.old.hands)
-        × (port.new.looks ≡ port.old.looks) × (port.new.loose ≡ port.old.loose) }
+        × (port.new.loose ≡ port.old.loose) }
     ensures front { slots port.new ≡ (slot, load_in slot (slots port.old)) ∷ rest (slots port.new) }
     ensures holding { holding port.new ≡ holding port.old }
 {
@@ -72,7 +72,7 @@ pub(crate) fn bring_cell(port: &mut Port, number: u64)
         × (port.new.seat.me.0 ≡ port.old.seat.me.0) }
     ensures same { (port.new.rank ≡ port.old.rank) × (port.new.peers ≡ port.old.peers)
         × (port.new.held ≡ port.old.held) × (port.new.hands ≡ port.old.hands)
-        × (port.new.looks ≡ port.old.looks) × (port.new.loose ≡ port.old.loose) }
+        × (port.new.loose ≡ port.old.loose) }
     ensures front { slots port.new ≡ (number, holding port.old number) ∷ rest (slots port.new) }
     ensures holding { holding port.new ≡ holding port.old }
 {

@@ -12,6 +12,7 @@ abbrev pub Gathered : ℕ → List Entry → Type 0
 Gathered n es = (length es ≡ n)
     × ((k : ℕ) (e : Entry) → get_elem? es k ≡ maybe.some e → e.rank ≡ k)
 
+-- the entry of the rank r
 abbrev pub entry : List Entry → ℕ → Entry
 entry es r = slice_index_or es r (newcomer 0 0)
 

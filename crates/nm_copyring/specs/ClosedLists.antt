@@ -6,6 +6,7 @@ use Rattle.nm_copyring.specs.declared.table.Entry.{Entry}
 use Rattle.nm_copyring.specs.declared.close.RingAccount.{RingAccount}
 use Rattle.nm_copyring.specs.AtClose.{pushed_in, pulled_in}
 
+-- what each rank knew, as a seat keeps it that was made when the table was sealed
 abbrev pub seen_in : List (View Entry) → List Entry
 seen_in [] = []
 seen_in (v ∷ vs) = v.seen

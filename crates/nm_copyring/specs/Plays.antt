@@ -10,9 +10,11 @@ use Rattle.nm_copyring.specs.declared.table.Lane.{Lane}
 use Rattle.nm_copyring.specs.declared.table.Entry.{Entry}
 use Rattle.nm_copyring.specs.Rule.{Load, lane, newcomer, place}
 
+-- what a seat knows: its view, and the slots that it has taken with what they hold
 abbrev pub Knowing : Type 0
 Knowing = Me Load (View Entry)
 
+-- the entry of a view that has one
 abbrev pub sole : List Entry → Entry
 sole [] = newcomer 0 0
 sole (e ∷ es) = e
@@ -33,6 +35,7 @@ Rests me = (me ≡ knowing (mine me)) × ((mine me).work ≡ Idle)
 abbrev pub IsOne : ℕ → Entry → Type 0
 IsOne n e = (e.rank < n) × (e.ranks ≡ n) × (length e.lanes ≡ n)
 
+-- the rank is at work on this
 abbrev pub with_work : Work → Entry → Entry
 with_work w e = record e { work = w }
 
@@ -56,10 +59,11 @@ one_full l = record l { full = suc l.full }
 abbrev pub one_empty : Lane → Lane
 one_empty l = record l { empty = suc l.empty }
 
--- the next place of the rank for the rank j, and of the rank i for the rank
+-- the next place of the rank for the rank j
 abbrev pub next_out : Entry → ℕ → ℕ
 next_out e j = place e.ranks e.rank j (length (lane e j).pushed % 4)
 
+-- the next place of the rank i for the rank
 abbrev pub next_in : Entry → ℕ → ℕ
 next_in e i = place e.ranks i e.rank (length (lane e i).pulled % 4)
 

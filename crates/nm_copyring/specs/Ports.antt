@@ -11,17 +11,19 @@ use Rattle.nm_copyring.specs.Plays.{IsOne, mine}
 abbrev pub knows : RingPort → Entry
 knows p = mine p.seat.me
 
--- the pieces that the port pushed to the rank j, and those that it pulled from the rank i
+-- the pieces that the port pushed to the rank j
 abbrev pub pushed_to : RingPort → ℕ → List Piece
 pushed_to p j = (lane (knows p) j).pushed
 
+-- the pieces that the port pulled from the rank i
 abbrev pub pulled_from : RingPort → ℕ → List Piece
 pulled_from p i = (lane (knows p) i).pulled
 
--- how often the next place for the rank j was found full, and that of the rank i empty
+-- how often the next place for the rank j was found full
 abbrev pub full_to : RingPort → ℕ → ℕ
 full_to p j = (lane (knows p) j).full
 
+-- how often the next place of the rank i was found empty
 abbrev pub empty_from : RingPort → ℕ → ℕ
 empty_from p i = (lane (knows p) i).empty
 

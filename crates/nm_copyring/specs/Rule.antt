@@ -17,12 +17,15 @@ use Rattle.nm_copyring.specs.declared.table.Work.TheVariants.{Idle, Filling, Emp
 use Rattle.nm_copyring.specs.declared.table.Lane.{Lane}
 use Rattle.nm_copyring.specs.declared.table.Entry.{Entry}
 
+-- what a slot holds: a piece, or nothing
 abbrev pub Load : Type 0
 Load = Option Piece
 
+-- the rank that an entry is of
 abbrev pub rank_of : Entry → ℕ
 rank_of e = e.rank
 
+-- nothing was pushed or pulled
 abbrev pub new_lane : Lane
 new_lane = record { pushed = []; pulled = []; full = 0; empty = 0 }
 
@@ -46,6 +49,7 @@ emptying (Emptying t p) i = pick (ℕ_discrete t i) (Some (Some p)) None
 abbrev pub mark : Load → ℕ
 mark y = 1
 
+-- the k-th of the four places from the rank i to the rank j
 abbrev pub place : ℕ → ℕ → ℕ → ℕ → ℕ
 place n i j k = 4 * (i * n + j) + k
 
@@ -67,6 +71,8 @@ pub record Ring (n : ℕ) (words : List ℕ) (homes : List (maybe.Option Load)) 
 abbrev pub Knows : ℕ → ℕ → Entry → Type 0
 Knows n r e = (e.rank ≡ r) × (e.ranks ≡ n) × (length e.lanes ≡ n)
 
+-- What holds between any two steps of any ranks: each entry stands in one view, and the places of each
+-- pair are a window of its pieces
 pub record Rule (n : ℕ) (s : State Load (View Entry)) : Type 0 where
   pub ledger : ℕ → Entry
   pub spoken : Spoken rank_of ledger s.views
@@ -83,5 +89,6 @@ abbrev pub newcomers : ℕ → ℕ → ℕ → List Entry
 newcomers n r zero = []
 newcomers n r (suc k) = newcomer n r ∷ newcomers n (suc r) k
 
+-- the view of the first seat, which speaks for all ranks
 abbrev pub first_view : ℕ → View Entry
 first_view n = view (newcomers n 0 n)

@@ -64,11 +64,14 @@ pub fn pull<L: Ledger>(
     ensures bound { steps.new ≤ steps.old + 2 }
 {
     let number = port.pulled(sender);
-    let pulled = empty_next(r, &mut port.seat, port.rank, sender, number, steps);
-    if pulled.is_some() {
-        count_pulled(&mut port.tallies, sender as usize);
-    } else {
-        count_empty(&mut port.tallies, sender as usize);
+    match empty_next(r, &mut port.seat, port.rank, sender, number, steps) {
+        Some(piece) => {
+            count_pulled(&mut port.tallies, sender as usize);
+            Some(piece)
+        }
+        None => {
+            count_empty(&mut port.tallies, sender as usize);
+            None
+        }
     }
-    pulled
 }

@@ -59,7 +59,7 @@ pub fn take<L: Ledger>(
     requires owns { Owns f.now port.old }
     requires peer { sender < f.now.ranks }
     ensures owns { Owns f.now port.new × (port.new.rank ≡ port.old.rank)
-        × (port.new.looks ≡ port.old.looks) × (holding port.new ≡ holding port.old) }
+        × (port.new.loose ≡ port.old.loose) × (holding port.new ≡ holding port.old) }
     ensures others { (port.new.held ≡ port.old.held)
         × (unpassed_by port.new ≡ unpassed_by port.old) }
     ensures took { IfSome result (λ p. (p.from ≡ sender) × (p.seq ≡ taken_by port.old sender)

@@ -14,6 +14,15 @@ use std::marker::Brand;
 use std::sync::ledger::{Blank, Ledger};
 use std::test::Fail;
 
+// The bytes of the packet with this number, of which each tells the packet and its own place.
+fn bytes_of(number: u64) -> [u8; 10] {
+    let mut bytes = [0; 10];
+    for k in 0..10 {
+        bytes[k] = ((number % 251 + k as u64) % 251) as u8;
+    }
+    bytes
+}
+
 // A packet of ten bytes.
 fn packet(from: u8, seq: u64) -> Packet
     requires { seq < MAX_PACKETS }
@@ -24,7 +33,7 @@ fn packet(from: u8, seq: u64) -> Packet
         seq,
         stamp: 0,
         what: What::More { n: 0 },
-        payload: Payload::of(&[7; 10]),
+        payload: Payload::of(&bytes_of(seq)),
     }
 }
 
@@ -41,13 +50,17 @@ fn put_next<L: Ledger>(f: &Fabric, port: &mut Port, steps: &mut Steps<L>) -> boo
     put(f, port, 1, next, steps).is_ok()
 }
 
-// The number of the packet that rank 1 takes out of a box of rank 0.
+// The number of the packet that rank 1 takes out of a box of rank 0, where it has its bytes.
 fn take_next<L: Ledger>(f: &Fabric, port: &mut Port, steps: &mut Steps<L>) -> Option<u64>
     requires { Owns f.now port.old × (port.old.rank ≡ 1) × (port.old.hands ≡ 0) }
     ensures { Owns f.now port.new × (port.new.rank ≡ 1) × (port.new.hands ≡ 0) }
 {
     let packet = take(f, port, 0, steps)?;
-    Some(packet.seq)
+    if packet.payload.as_slice() == bytes_of(packet.seq).as_slice() {
+        Some(packet.seq)
+    } else {
+        Some(u64::MAX)
+    }
 }
 
 // Rank 0 puts five packets, of which rank 1 takes one before the fifth is put again, and then the

@@ -64,8 +64,8 @@ misses_long p = ∥∥₁_elim p.counts (search props) (λ n. n.misses)
 pub missed_next : (k : ℕ) (old now new : Port) → Missed k old now → k < (knows old).ranks
     → knows new ≡ with_box_miss k (knows now) → new.rank ≡ now.rank → new.held ≡ now.held
     → unpassed_by new ≡ unpassed_by now → holding new ≡ holding now → taken_by new ≡ taken_by now
-    → new.hands ≡ now.hands → NotOvertaken now k → Missed (suc k) old new
-missed_next k old now new m low is rank held unpassed holds taken hands not =
+    → new.hands ≡ now.hands → new.loose ≡ now.loose → NotOvertaken now k → Missed (suc k) old new
+missed_next k old now new m low is rank held unpassed holds taken hands loose not =
     let xs = (knows old).box_miss in let long = misses_long old in record {
       rank = rank ∙ m.rank;
       held = held ∙ m.held;
@@ -75,6 +75,7 @@ missed_next k old now new m low is rank held unpassed holds taken hands not =
           ∙ (λ i. record (knows old) { box_miss = raised_next k xs (omega arith) i });
       taken = taken ∙ m.taken;
       hands = hands ∙ m.hands;
+      loose = loose ∙ m.loose;
       not = λ i less o. by_last i o less;
     } where
       here : ¬ Overtaken (knows old) k (taken_by old k)

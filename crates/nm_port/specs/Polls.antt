@@ -29,6 +29,7 @@ first_raised zero xs = xs
 first_raised (suc k) [] = []
 first_raised (suc k) (x ∷ xs) = raised x ∷ first_raised k xs
 
+-- the next boxes of the first k ranks were found so
 abbrev pub with_first_missed : ℕ → Entry → Entry
 with_first_missed k e = record e { box_miss = first_raised k e.box_miss }
 
@@ -45,6 +46,7 @@ pub record Missed (k : ℕ) (old now : Port) : Type 0 where
   pub seen : knows now ≡ with_first_missed k (knows old)
   pub taken : taken_by now ≡ taken_by old
   pub hands : now.hands ≡ old.hands
+  pub loose : now.loose ≡ old.loose
   pub not : (i : ℕ) → i < k → NotOvertaken old i
 
 -- no box is being emptied

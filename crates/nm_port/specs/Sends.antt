@@ -19,7 +19,7 @@ tried length j e = if_below (dec_le length MAX_BOX) (with_box_full j e) e
 abbrev pub HadMiss : Bool → Entry → Entry → Type 0
 HadMiss b old new = (new ≡ with_missed b head_miss (with_heads b (heads_at 0 0) old))
     ⊎ ((0 < (heads_of b new).shadow)
-    × (new ≡ with_look b LinkEmpty (with_missed b link_miss (with_heads b (heads_of b new) old))))
+    × (new ≡ with_look b (LinkEmpty 0) (with_missed b link_miss (with_heads b (heads_of b new) old))))
 
 -- the cells in the port's hand hold the same
 abbrev pub HoldSame : Port → Port → Type 0

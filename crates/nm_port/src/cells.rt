@@ -22,7 +22,7 @@ pub(crate) fn take_cell<L: Ledger>(
     ensures took { IfSome result (Takes (is_receive q) f.now port.old port.new) }
     ensures none { IfNone result (HadMiss (is_receive q) (knows port.old) (knows port.new)
         × SameTaken port.old port.new × (port.new.hands ≡ port.old.hands)
-        × (holding port.new ≡ holding port.old)) }
+        × (holding port.new ≡ holding port.old) × (port.new.loose ≡ port.old.loose)) }
     ensures bound { steps.new ≤ steps.old + 5 }
 {
     match dequeue(f, port, q, steps) {

@@ -26,7 +26,7 @@ fn pass_held(f: &Fabric, port: &mut Port) -> Option<Packet>
     requires owns { Owns f.now port.old }
     requires rest { HoldsTheRest port.old }
     ensures same { (port.new.seat ≡ port.old.seat) × (port.new.rank ≡ port.old.rank)
-        × (port.new.hands ≡ port.old.hands) }
+        × (port.new.hands ≡ port.old.hands) × (port.new.loose ≡ port.old.loose) }
     ensures passed { IfSome result (λ p. (port.old.held ≡ Some p) × (port.new.held ≡ None)
         × IsUnpassed port.old p × IsNext f.now port.old port.new p
         × (unpassed_by port.new ≡ 0)) }
@@ -46,6 +46,7 @@ fn pass_held(f: &Fabric, port: &mut Port) -> Option<Packet>
 fn take_first<L: Ledger>(f: &Fabric, port: &mut Port, steps: &mut Steps<L>) -> Option<Packet>
     requires owns { Owns f.now port.old }
     ensures owns { Owns f.now port.new × (port.new.rank ≡ port.old.rank) }
+    ensures loose { port.new.loose ≡ port.old.loose }
     ensures held { (port.new.held ≡ port.old.held)
         × (unpassed_by port.new ≡ unpassed_by port.old) × (holding port.new ≡ holding port.old) }
     ensures took { IfSome result (λ p. IsNext f.now port.old port.new p
@@ -73,6 +74,7 @@ fn take_first<L: Ledger>(f: &Fabric, port: &mut Port, steps: &mut Steps<L>) -> O
 fn receive<L: Ledger>(f: &Fabric, port: &mut Port, steps: &mut Steps<L>) -> Option<Packet>
     requires owns { Owns f.now port.old }
     ensures owns { Owns f.now port.new × (port.new.rank ≡ port.old.rank) }
+    ensures loose { port.new.loose ≡ port.old.loose }
     ensures held { (port.new.held ≡ port.old.held) × (taken_by port.new ≡ taken_by port.old)
         × (port.new.hands ≡ port.old.hands) }
     ensures came { IfSome result (λ p. IsUnpassed port.new p
@@ -104,6 +106,7 @@ fn pass_or_hold<L: Ledger>(
     requires packet { IsUnpassed port.old packet }
     requires alone { (unpassed_by port.old ≡ 1) × (port.old.held ≡ None) }
     ensures owns { Owns f.now port.new × (port.new.rank ≡ port.old.rank) }
+    ensures loose { port.new.loose ≡ port.old.loose }
     ensures rest { HoldsTheRest port.new }
     ensures some { IsSome result }
     ensures next { IfSome result (IsNext f.now port.old port.new) }
@@ -131,6 +134,7 @@ fn receive_next<L: Ledger>(f: &Fabric, port: &mut Port, steps: &mut Steps<L>) ->
     requires owns { Owns f.now port.old }
     requires nothing { (unpassed_by port.old ≡ 0) × (port.old.held ≡ None) }
     ensures owns { Owns f.now port.new × (port.new.rank ≡ port.old.rank) }
+    ensures loose { port.new.loose ≡ port.old.loose }
     ensures rest { HoldsTheRest port.new }
     ensures next { IfSome result (λ p. IsNext f.now port.old port.new p × Way port.old port.new p
         × (knows port.new ≡ polled (knows port.new) (knows port.old))) }
@@ -157,6 +161,7 @@ pub fn poll<L: Ledger>(f: &Fabric, port: &mut Port, steps: &mut Steps<L>) -> Opt
     requires owns { Owns f.now port.old }
     requires rest { HoldsTheRest port.old }
     ensures owns { Owns f.now port.new × (port.new.rank ≡ port.old.rank) }
+    ensures loose { port.new.loose ≡ port.old.loose }
     ensures rest { HoldsTheRest port.new }
     ensures next { IfSome result (λ p. IsNext f.now port.old port.new p × IsGot port.new p) }
     ensures way { IfSome result (λ p. Way port.old port.new p

@@ -19,7 +19,7 @@ use std::thread::{Threads, for_each_mut};
 const RANKS: u8 = 4;
 
 /// How many packets each rank sends to each.
-const COUNT: u64 = 500;
+const COUNT: u64 = 120;
 
 // How many bytes a packet with this number carries. At least every second packet fits a box.
 fn size_of(number: u64) -> usize
@@ -29,10 +29,13 @@ fn size_of(number: u64) -> usize
     (number % sizes) as usize
 }
 
-// The bytes of a packet are its first so many of these.
+// The bytes of a packet are its first so many of these. Each tells the packet and its own place.
 fn bytes_of(from: u8, to: u8, number: u64) -> [u8; 256] {
-    let byte = (number % 251) as u8 ^ from ^ to.reverse_bits();
-    [byte; 256]
+    let mut bytes = [0; 256];
+    for k in 0..256 {
+        bytes[k] = ((number % 251 + k as u64) % 251) as u8 ^ from ^ to.reverse_bits();
+    }
+    bytes
 }
 
 fn packet(from: u8, to: u8, seq: u64) -> Packet
@@ -153,7 +156,7 @@ fn all_came(after: &Closed) -> bool
 
 #[test]
 fn packets_on_threads_are_all_taken_in_order(rt: HostRuntime) -> Result<(), Fail> {
-    for cells in [1, 2, 8] {
+    for cells in [1, 8] {
         let shape = Shape::new(RANKS, cells, 0).unwrap();
         let (fabric, mut ports) = Fabric::build(rt.alloc(), shape)?;
         let wrong = AtomicU64::new(0);

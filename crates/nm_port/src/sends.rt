@@ -33,6 +33,7 @@ fn send_by_cell<L: Ledger>(
     requires packet { (packet.from ≡ port.old.rank) × (packet.seq ≡ sent_by port.old to) }
     ensures owns { Owns f.now port.new × (port.new.rank ≡ port.old.rank) }
     ensures taken { SameTaken port.old port.new }
+    ensures loose { port.new.loose ≡ port.old.loose }
     ensures by_cell { result ≡ Ok Cell → knows port.new
         ≡ with_put ((to, Some packet) ∷ []) (with_look false Fresh (with_heads false
         (heads_of false (knows port.new)) (knows port.old))) }
@@ -71,6 +72,7 @@ pub fn send<L: Ledger>(
     requires packet { (packet.from ≡ port.old.rank) × (packet.seq ≡ sent_by port.old to) }
     ensures owns { Owns f.now port.new × (port.new.rank ≡ port.old.rank) }
     ensures taken { SameTaken port.old port.new }
+    ensures loose { port.new.loose ≡ port.old.loose }
     ensures by_box { result ≡ Ok Box → (length packet.payload ≤ MAX_BOX) × (knows port.new
         ≡ with_put_box ((to, Some packet) ∷ []) (with_filling to false (knows port.old))) }
     ensures by_cell { result ≡ Ok Cell → knows port.new

@@ -16,6 +16,15 @@ use std::marker::Brand;
 use std::sync::ledger::{Blank, Ledger};
 use std::test::Fail;
 
+// The bytes of the packet with this number, of which each tells the packet and its own place.
+fn bytes_of(number: u64) -> [u8; 10] {
+    let mut bytes = [0; 10];
+    for k in 0..10 {
+        bytes[k] = ((number % 251 + k as u64) % 251) as u8;
+    }
+    bytes
+}
+
 // A packet of ten bytes.
 fn packet(from: u8, seq: u64) -> Packet
     requires { seq < MAX_PACKETS }
@@ -26,7 +35,7 @@ fn packet(from: u8, seq: u64) -> Packet
         seq,
         stamp: 0,
         what: What::More { n: 0 },
-        payload: Payload::of(&[7; 10]),
+        payload: Payload::of(&bytes_of(seq)),
     }
 }
 
@@ -44,7 +53,7 @@ fn send_next<L: Ledger>(f: &Fabric, port: &mut Port, steps: &mut Steps<L>) -> Op
     send(f, port, 1, next, steps).ok()
 }
 
-// The number of the packet that rank 1 polls.
+// The number of the packet that rank 1 polls, where it has its bytes.
 fn poll_next<L: Ledger>(f: &Fabric, port: &mut Port, steps: &mut Steps<L>) -> Option<u64>
     requires two { f.now.ranks ≡ 2 }
     requires first { Owns f.now port.old × (port.old.rank ≡ 1) × (port.old.hands ≡ 0) }
@@ -54,7 +63,11 @@ fn poll_next<L: Ledger>(f: &Fabric, port: &mut Port, steps: &mut Steps<L>) -> Op
     ensures bound { steps.new ≤ steps.old + 12 }
 {
     let packet = poll(f, port, steps)?;
-    Some(packet.seq)
+    if packet.payload.as_slice() == bytes_of(packet.seq).as_slice() {
+        Some(packet.seq)
+    } else {
+        Some(u64::MAX)
+    }
 }
 
 // Rank 1 takes the first packet out of its receive queue and holds it. Its cell is sent home.
@@ -198,5 +211,15 @@ fn a_long_hold_ends_in_order(rt: HostRuntime) -> Result<(), Fail> {
     assert_eq!(rt; polled, awaited);
     let account = closed(rt.alloc(), fabric, a, b)?;
     assert_eq!(rt; (account.total, account.home), (16, 16));
+    Ok(())
+}
+
+#[test]
+fn sixty_four_ranks_have_ports(rt: HostRuntime) -> Result<(), Fail> {
+    let shape = Shape::new(64, 1, 0).unwrap();
+    let (fabric, ports) = Fabric::build(rt.alloc(), shape)?;
+    assert_eq!(rt; (fabric.ranks(), ports.len()), (64, 64));
+    let account = fabric.close(ports).account();
+    assert_eq!(rt; (account.total, account.home), (64, 64));
     Ok(())
 }

@@ -7,10 +7,9 @@ use Rattle.nm_table.specs.declared.table.Entry.{Entry}
 use Rattle.nm_table.specs.declared.table.Hand.TheVariants.{Away}
 use Rattle.nm_table.specs.declared.table.Heads.{Heads}
 use Rattle.nm_table.specs.declared.table.Look.{Look}
-use Rattle.nm_table.specs.Looks.{look_in, other}
 use Rattle.nm_table.specs.Plays.{taken, heads_of, with_heads, with_look}
 use Rattle.nm_cells.specs.declared.cell.Cell.{Cell}
-use Rattle.nm_cells.specs.Ports.{knows, holding, SameTaken, Stays, Leaves, Takes, look_of, arrivals}
+use Rattle.nm_cells.specs.Ports.{knows, holding, SameTaken, Stays, Leaves, Takes, arrivals}
 use Rattle.nm_table.specs.Rule.{Load, sender, number}
 use Rattle.nm_cells.specs.declared.port.Port.{Port}
 use Rattle.nm_cells.specs.declared.port.Fabric.{Fabric}
@@ -35,36 +34,46 @@ may_still f p q (Receive j) c y z rank sent same may = (
 may_still f p q (Free j) c y z rank sent same may = (may.0, may.1, same ∙ may.2)
 
 -- what a later take tells of the earlier port too: only what was told of the queue's first cell, and its heads, differ
-abbrev pub Unmoved : Bool → Port → Port → Type 0
-Unmoved b old mid = ((knows mid).hands ≡ (knows old).hands) × (mid.rank ≡ old.rank)
-    × ((n : ℕ) (y : Load) (s : ℕ) → taken b n y s (knows mid) ≡ taken b n y s (knows old))
-    × (holding mid ≡ holding old) × SameTaken old mid × (mid.hands ≡ old.hands)
-    × (look_of (other b) mid ≡ look_of (other b) old) × (mid.loose ≡ old.loose)
-    × (0 < (heads_of b (knows old)).shadow
-    → (heads_of b (knows mid)).shadow ≡ (heads_of b (knows old)).shadow)
+pub record Unmoved (b : Bool) (old mid : Port) : Type 0 where
+  pub cells : (knows mid).hands ≡ (knows old).hands
+  pub rank : mid.rank ≡ old.rank
+  pub takes : (n : ℕ) (y : Load) (s : ℕ) → taken b n y s (knows mid) ≡ taken b n y s (knows old)
+  pub holds : holding mid ≡ holding old
+  pub same : SameTaken old mid
+  pub hands : mid.hands ≡ old.hands
+  pub loose : mid.loose ≡ old.loose
+  pub first : 0 < (heads_of b (knows old)).shadow
+      → (heads_of b (knows mid)).shadow ≡ (heads_of b (knows old)).shadow
 
 pub unmoved : (b : Bool) (p : Port) → Unmoved b p p
-unmoved b p = (refl, refl, (λ _ _ _. refl), refl, (refl, refl, refl), refl, refl, refl, (λ _. refl))
+unmoved b p = record {
+  cells = refl;
+  rank = refl;
+  takes = λ _ _ _. refl;
+  holds = refl;
+  same = (refl, refl, refl);
+  hands = refl;
+  loose = refl;
+  first = λ _. refl;
+}
 
 pub takes_since : (b : Bool) (f : Fabric) (old mid new : Port) (c : Cell) → Unmoved b old mid
     → Takes b f mid new c → Takes b f old new c
 takes_since b f old mid new c u t = record {
   has = t.has;
   of_rank = t.of_rank;
-  first = λ some. let same = u.8 some in t.first (subst (λ k. 0 < k) (sym same) some) ∙ same;
-  fresh = ap (λ hs. slice_index_or hs c.number Away) (sym u.0) ∙ t.fresh;
+  first = λ some. let same = u.first some in t.first (subst (λ k. 0 < k) (sym same) some) ∙ same;
+  fresh = ap (λ hs. slice_index_or hs c.number Away) (sym u.cells) ∙ t.fresh;
   full = t.full;
   arrived = t.arrived;
-  vacant = λ e. let v = t.vacant e in (v.0, v.1 ∙ u.1);
-  knows = t.knows ∙ u.2 c.number (holding new c.number) (heads_of b (knows new)).shadow;
-  holding = t.holding ∙ ap (λ h. update h c.number (holding new c.number)) u.3;
-  taken = t.taken ∙ u.4.0;
-  held = t.held ∙ u.4.1;
-  unpassed = t.unpassed ∙ ap (λ k. k + arrivals b) u.4.2;
-  hands = t.hands ∙ ap (λ k. k + 1) u.5;
-  look = t.look;
-  other_look = t.other_look ∙ u.6;
-  loose = t.loose ∙ u.7;
+  vacant = λ e. let v = t.vacant e in (v.0, v.1 ∙ u.rank);
+  knows = t.knows ∙ u.takes c.number (holding new c.number) (heads_of b (knows new)).shadow;
+  holding = t.holding ∙ ap (λ h. update h c.number (holding new c.number)) u.holds;
+  taken = t.taken ∙ u.same.0;
+  held = t.held ∙ u.same.1;
+  unpassed = t.unpassed ∙ ap (λ k. k + arrivals b) u.same.2;
+  hands = t.hands ∙ ap (λ k. k + 1) u.hands;
+  loose = t.loose ∙ u.loose;
 }
 
 look_lost : (b : Bool) (l : Look) (n : ℕ) (y : Load) (s : ℕ) (e : Entry)
@@ -87,34 +96,32 @@ hands_same false x e = refl
 
 -- a step told something of the first cell and took none
 pub unmoved_look : (b : Bool) (l : Look) (old mid new : Port) → Unmoved b old mid
-    → knows new ≡ with_look b l (knows mid) → new.rank ≡ mid.rank → Leaves b l mid new
+    → knows new ≡ with_look b l (knows mid) → new.rank ≡ mid.rank → Leaves mid new
     → Unmoved b old new
-unmoved_look b l old mid new u is rank v = (
-  ap (λ (e : Entry). e.hands) is ∙ u.0,
-  rank ∙ u.1,
-  (λ n y s. ap (taken b n y s) is ∙ look_lost b l n y s (knows mid) ∙ u.2 n y s),
-  v.3 ∙ u.3,
-  (v.4.0 ∙ u.4.0, v.4.1 ∙ u.4.1, v.4.2 ∙ u.4.2),
-  v.2 ∙ u.5,
-  v.1 ∙ u.6,
-  v.5 ∙ u.7,
-  (λ some. ap (λ (e : Entry). (heads_of b e).shadow) is
-      ∙ ap (λ (x : Heads). x.shadow) (look_heads b l (knows mid)) ∙ u.8 some),
-)
+unmoved_look b l old mid new u is rank v = record {
+  cells = ap (λ (e : Entry). e.hands) is ∙ u.cells;
+  rank = rank ∙ u.rank;
+  takes = λ n y s. ap (taken b n y s) is ∙ look_lost b l n y s (knows mid) ∙ u.takes n y s;
+  holds = v.holding ∙ u.holds;
+  same = (v.taken.0 ∙ u.same.0, v.taken.1 ∙ u.same.1, v.taken.2 ∙ u.same.2);
+  hands = v.hands ∙ u.hands;
+  loose = v.loose ∙ u.loose;
+  first = λ some. ap (λ (e : Entry). (heads_of b e).shadow) is
+      ∙ ap (λ (x : Heads). x.shadow) (look_heads b l (knows mid)) ∙ u.first some;
+}
 
 -- a step changed the heads, where there was no shadow head
 pub unmoved_heads : (b : Bool) (x : Heads) (f : Fabric) (old mid new : Port) → Unmoved b old mid
     → knows new ≡ with_heads b x (knows mid) → Stays f mid new
     → (new.hands ≡ mid.hands) × (holding new ≡ holding mid)
     → (0 < (heads_of b (knows old)).shadow → false ≡ true) → Unmoved b old new
-unmoved_heads b x f old mid new u is st h none = (
-  ap (λ (e : Entry). e.hands) is ∙ hands_same b x (knows mid) ∙ u.0,
-  st.1 ∙ u.1,
-  (λ n y s. ap (taken b n y s) is ∙ heads_lost b x n y s (knows mid) ∙ u.2 n y s),
-  h.1 ∙ u.3,
-  (st.2.0 ∙ u.4.0, st.2.1 ∙ u.4.1, st.2.2 ∙ u.4.2),
-  h.0 ∙ u.5,
-  ap (look_in (other b)) st.3 ∙ u.6,
-  st.4 ∙ u.7,
-  (λ some. absurd (let z = none some in cc)),
-)
+unmoved_heads b x f old mid new u is st h none = record {
+  cells = ap (λ (e : Entry). e.hands) is ∙ hands_same b x (knows mid) ∙ u.cells;
+  rank = st.1 ∙ u.rank;
+  takes = λ n y s. ap (taken b n y s) is ∙ heads_lost b x n y s (knows mid) ∙ u.takes n y s;
+  holds = h.1 ∙ u.holds;
+  same = (st.2.0 ∙ u.same.0, st.2.1 ∙ u.same.1, st.2.2 ∙ u.same.2);
+  hands = h.0 ∙ u.hands;
+  loose = st.3 ∙ u.loose;
+  first = λ some. absurd (let z = none some in cc);
+}

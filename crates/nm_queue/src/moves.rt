@@ -1,6 +1,6 @@
 //! The two moves of a queue.
 
-ghost use Rattle.std.specs.Prelude.{◌≡◌, ◌+◌, ◌<◌, ◌≤◌, None, IfOk, Err};
+ghost use Rattle.std.specs.Prelude.{◌≡◌, ◌+◌, ◌<◌, ◌≤◌, ◌⊎◌, None, IfOk, Err};
 ghost use Rattle.nm_seats.specs.Update.{update};
 ghost use Rattle.nm_queue.specs.declared.moves.Miss.TheVariants.{HeadEmpty, LinkMissing};
 ghost use Rattle.nm_table.specs.declared.table.Hand.TheVariants.{Away};
@@ -49,6 +49,9 @@ pub fn enqueue<L: Ledger>(f: &Fabric, port: &mut Port, q: Queue, cell: Cell, ste
 }
 
 /// Takes the first cell of an own queue, in at most five word steps.
+///
+/// Where there is no shadow head, two steps find it: the head is loaded and cleared. Then the last cell
+/// is taken in two more steps, and another one in one, or in three where its link was stored late.
 pub fn dequeue<L: Ledger>(
     f: &Fabric,
     port: &mut Port,
@@ -59,15 +62,23 @@ pub fn dequeue<L: Ledger>(
     requires own { IsOwn port.old q }
     ensures owns { Owns f.now port.new × (port.new.rank ≡ port.old.rank) }
     ensures took { IfOk result (Takes (is_receive q) f.now port.old port.new) }
+    ensures took_last { IfOk result (λ _. (heads_of (is_receive q) (knows port.new)).shadow ≡ 0 →
+        ((heads_of (is_receive q) (knows port.old)).shadow ≡ 0 → steps.new ≡ steps.old + 4)
+        × (0 < (heads_of (is_receive q) (knows port.old)).shadow → steps.new ≡ steps.old + 2)) }
+    ensures took_other { IfOk result (λ _. 0 < (heads_of (is_receive q) (knows port.new)).shadow →
+        ((heads_of (is_receive q) (knows port.old)).shadow ≡ 0
+        → (steps.new ≡ steps.old + 3) ⊎ (steps.new ≡ steps.old + 5))
+        × (0 < (heads_of (is_receive q) (knows port.old)).shadow
+        → (steps.new ≡ steps.old + 1) ⊎ (steps.new ≡ steps.old + 3))) }
     ensures head_empty { result ≡ Err HeadEmpty → knows port.new
         ≡ with_missed (is_receive q) head_miss (with_heads (is_receive q) (heads_at 0 0)
         (knows port.old)) × Stays f.now port.old port.new × (port.new.hands ≡ port.old.hands)
         × (holding port.new ≡ holding port.old) × (steps.new ≡ steps.old + 1) }
     ensures link_missing { result ≡ Err LinkMissing → knows port.new
-        ≡ with_look (is_receive q) LinkEmpty (with_missed (is_receive q) link_miss
+        ≡ with_look (is_receive q) (LinkEmpty 0) (with_missed (is_receive q) link_miss
         (with_heads (is_receive q) (heads_of (is_receive q) (knows port.new)) (knows port.old)))
         × (0 < (heads_of (is_receive q) (knows port.new)).shadow)
-        × Leaves (is_receive q) LinkEmpty port.old port.new }
+        × Leaves port.old port.new }
     ensures still_first { result ≡ Err LinkMissing
         → 0 < (heads_of (is_receive q) (knows port.old)).shadow
         → heads_of (is_receive q) (knows port.new) ≡ heads_of (is_receive q) (knows port.old) }

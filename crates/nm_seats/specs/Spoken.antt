@@ -5,6 +5,7 @@ use lib.ListN.{get_elem?}
 use Rattle.nm_seats.specs.declared.views.View.{View}
 
 module _ {E : Type 0} where
+  -- the view with these entries, that was made at no sealing
   abbrev pub view : List E → View E
   view es = record { entries = es; seen = [] }
 
@@ -12,21 +13,25 @@ module _ {E : Type 0} where
   abbrev pub sealed : View E → View E
   sealed v = record { entries = []; seen = v.entries }
 
+  -- the first entry alone
   abbrev pub first_in : List E → List E
   first_in [] = []
   first_in (e ∷ es) = e ∷ []
 
+  -- the entries but the first
   abbrev pub others_in : List E → List E
   others_in [] = []
   others_in (e ∷ es) = es
 
-  -- the view with the first entry alone, and the view without it
+  -- the view with the first entry alone
   abbrev pub first_of : View E → View E
   first_of v = view (first_in v.entries)
 
+  -- the view without its first entry
   abbrev pub others_of : View E → View E
   others_of v = view (others_in v.entries)
 
+  -- P holds of each entry
   abbrev pub Each : (E → Type 0) → List E → Type 0
   Each P [] = Unit {0}
   Each P (e ∷ es) = P e × Each P es
@@ -41,6 +46,7 @@ module _ {E : Type 0} where
     abbrev pub IsOf : (ℕ → E) → (ℕ → ℕ) → ℕ → E → Type 0
     IsOf ledger seat_of j e = (seat_of (rank e) ≡ j) × (ledger (rank e) ≡ e)
 
+    -- each entry of a view is of a rank that its seat alone speaks for, and is what the ledger has
     pub record Spoken (ledger : ℕ → E) (views : List (View E)) : Type 0 where
       pub seat_of : ℕ → ℕ
       pub each : (j : ℕ) (v : View E) → get_elem? views j ≡ some v

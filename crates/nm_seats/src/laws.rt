@@ -8,7 +8,12 @@ ghost use Rattle.nm_seats.specs.declared.views.View.{View};
 ghost use Rattle.nm_seats.specs.Spoken.{Spoken, view};
 ghost use Rattle.nm_seats.specs.Total.{total, sign};
 ghost use Rattle.nm_seats.specs.Update.{update};
-ghost use Rattle.nm_seats.specs.Window.{Any, Changes, Window};
+ghost use Rattle.nm_seats.specs.Window.{Changes, Window};
+
+/// What each item of a window has to be.
+pub trait Fits<L> {
+    ghost fits: { L → Type 0 };
+}
 
 /// A seat that speaks for one rank may change the entry of that rank, and the entry that a seat has
 /// for a rank is the one in the ledger.
@@ -37,46 +42,46 @@ pub fn entries_move_between_seats<E>()
 {}
 
 /// Where the flag of the next place is 0, the window has room for one more item. The producer that
-/// took the slot of that place stores the item and its mark, and the item is behind the others.
-pub fn the_next_free_place_is_filled<L>()
+/// took the slot of that place stores an item that fits and its mark, and it is behind the others.
+pub fn the_next_free_place_is_filled<L, F: Fits<L>>()
     ensures room { (B : ℕ) (none : L) (mark : L → ℕ) (flag : ℕ → ℕ)
         (slot : ℕ → maybe.Option (maybe.Option L)) (filling : Bool) (emptying : Option L)
         (put got waits : List L) → 0 < B → ((y : L) → 0 < mark y) →
-        Window B none mark Any flag slot filling emptying put got waits →
+        Window B none mark F.fits flag slot filling emptying put got waits →
         flag (length put % B) ≡ 0 → length waits < B }
     ensures filled { (B : ℕ) (none y : L) (mark : L → ℕ) (flag flag' : ℕ → ℕ)
         (slot slot' : ℕ → maybe.Option (maybe.Option L)) (emptying : Option L)
-        (put got waits : List L) → 0 < B → ((y : L) → 0 < mark y) →
-        Window B none mark Any flag slot true emptying put got waits →
+        (put got waits : List L) → 0 < B → ((y : L) → 0 < mark y) → F.fits y →
+        Window B none mark F.fits flag slot true emptying put got waits →
         Changes B flag flag' (length put) (mark y) →
         Changes B slot slot' (length put) (maybe.some (maybe.some y)) →
-        Window B none mark Any flag' slot' false emptying
+        Window B none mark F.fits flag' slot' false emptying
         (put ++ y ∷ []) got (waits ++ y ∷ []) }
 {}
 
-/// Where the flag of the next place isn't 0, it is the mark of the first item that waits. The
+/// Where the flag of the next place isn't 0, it is the mark of the first item that waits, which fits. The
 /// consumer that took the slot of that place clears the flag, and has got that item.
-pub fn the_first_full_place_is_emptied<L>()
+pub fn the_first_full_place_is_emptied<L, F: Fits<L>>()
     ensures found { (B : ℕ) (none : L) (mark : L → ℕ) (flag : ℕ → ℕ)
         (slot : ℕ → maybe.Option (maybe.Option L)) (filling : Bool) (emptying : Option L)
         (put got waits : List L) → 0 < B → ((y : L) → 0 < mark y) →
-        Window B none mark Any flag slot filling emptying put got waits →
+        Window B none mark F.fits flag slot filling emptying put got waits →
         0 < flag (length got % B) →
-        (y : L) × (ys : List L) × (waits ≡ y ∷ ys) × (flag (length got % B) ≡ mark y) }
+        (y : L) × (ys : List L) × (waits ≡ y ∷ ys) × (flag (length got % B) ≡ mark y) × F.fits y }
     ensures emptied { (B : ℕ) (none y : L) (mark : L → ℕ) (flag flag' : ℕ → ℕ)
         (slot slot' : ℕ → maybe.Option (maybe.Option L)) (filling : Bool)
         (put got ys : List L) → 0 < B → ((y : L) → 0 < mark y) →
-        Window B none mark Any flag slot filling (Some y) put got (y ∷ ys) →
+        Window B none mark F.fits flag slot filling (Some y) put got (y ∷ ys) →
         Changes B flag flag' (length got) 0 →
         Changes B slot slot' (length got) (maybe.some (maybe.some none)) →
-        Window B none mark Any flag' slot' filling None put (got ++ y ∷ []) ys }
+        Window B none mark F.fits flag' slot' filling None put (got ++ y ∷ []) ys }
 {}
 
 /// So many places have a flag that isn't 0 as there are items that wait, whoever is at work.
-pub fn the_full_places_are_those_that_wait<L>()
+pub fn the_full_places_are_those_that_wait<L, F: Fits<L>>()
     ensures { (B : ℕ) (none : L) (mark : L → ℕ) (flag : ℕ → ℕ)
         (slot : ℕ → maybe.Option (maybe.Option L)) (filling : Bool) (emptying : Option L)
         (put got waits : List L) → 0 < B → ((y : L) → 0 < mark y) →
-        Window B none mark Any flag slot filling emptying put got waits →
+        Window B none mark F.fits flag slot filling emptying put got waits →
         total B (λ k. sign (flag k)) ≡ length waits }
 {}

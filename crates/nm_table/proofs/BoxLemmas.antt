@@ -17,6 +17,7 @@ use Rattle.nm_chain.specs.Sequence.{InSequence}
 use Rattle.nm_chain.proofs.SequenceLemmas.{put_by_cell, got_by_cell}
 use Rattle.nm_seats.specs.Window.{Window}
 use Rattle.nm_seats.proofs.WindowLemmas as windows
+use Rattle.nm_table.specs.Rule.{GoesByBox}
 use Rattle.nm_table.specs.Rule.{Load, Chain, World, put_to, sender, from, number, sent_to, posted}
 use Rattle.nm_table.specs.Rule.{fetched, loads, box_slot, BoxesHold, AllInSequence, mark}
 use Rattle.nm_table.proofs.QueueLemmas.{from_append, put_append, loads_append, pick_yes, pick_no}
@@ -78,7 +79,7 @@ module _ (n each : ℕ) (w : World) (words : List ℕ) (homes : List (maybe.Opti
       → ((k : ℕ) → 4 * n + n * each ≤ k → slice_index words' k ≡ slice_index words k)
       → ((k : ℕ) → n * each ≤ k → get_elem? homes' k ≡ get_elem? homes k)
       → BoxesHold n each w words' homes'
-  keep words' homes' ew eh i j li lj = windows.window_elsewhere 4 None mark (λ y. sender y ≡ suc i)
+  keep words' homes' ew eh i j li lj = windows.window_elsewhere 4 None mark (GoesByBox i)
       (omega arith) marked (λ k. slice_index words (4 * n + box_slot n each i j k))
       (λ k. get_elem? homes (box_slot n each i j k)) (put_to j (w.put_box i)) (from i (w.got_box j))
       (w.waits i j)
@@ -113,7 +114,7 @@ module _ (n each : ℕ) (w : World) (words : List ℕ) (homes : List (maybe.Opti
       → ((c : ℕ) → ((k : ℕ) → k < 4 → c ≢ box_slot n each i j k)
       → (slice_index words' (4 * n + c) ≡ slice_index words (4 * n + c))
       × (get_elem? homes' c ≡ get_elem? homes c))
-      → Window 4 None mark (λ y. sender y ≡ suc i)
+      → Window 4 None mark (GoesByBox i)
       (λ k. slice_index words' (4 * n + box_slot n each i j k))
       (λ k. get_elem? homes' (box_slot n each i j k)) (w'.filling i j) (w'.emptying i j)
       (put_to j (w'.put_box i)) (from i (w'.got_box j)) (w'.waits i j)
@@ -121,11 +122,11 @@ module _ (n each : ℕ) (w : World) (words : List ℕ) (homes : List (maybe.Opti
   one_lane i j li lj w' words' homes' others apart here k l lk ll =
       dite (ℕ_discrete (k * n + l) (i * n + j))
       (λ e. let p = one_pair n k l i j ll lj e in
-      subst (λ u. Window 4 None mark (λ y. sender y ≡ suc u)
+      subst (λ u. Window 4 None mark (GoesByBox u)
       (λ t. slice_index words' (4 * n + box_slot n each u l t))
       (λ t. get_elem? homes' (box_slot n each u l t)) (w'.filling u l) (w'.emptying u l)
       (put_to l (w'.put_box u)) (from u (w'.got_box l)) (w'.waits u l)) (sym p.0)
-      (subst (λ u. Window 4 None mark (λ y. sender y ≡ suc i)
+      (subst (λ u. Window 4 None mark (GoesByBox i)
       (λ t. slice_index words' (4 * n + box_slot n each i u t))
       (λ t. get_elem? homes' (box_slot n each i u t)) (w'.filling i u) (w'.emptying i u)
       (put_to u (w'.put_box i)) (from i (w'.got_box u)) (w'.waits i u)) (sym p.1) here))
@@ -135,7 +136,7 @@ module _ (n each : ℕ) (w : World) (words : List ℕ) (homes : List (maybe.Opti
       (4 * n + box_slot n each k l t))
       × (get_elem? homes' (box_slot n each k l t) ≡ get_elem? homes (box_slot n each k l t)) =
       λ t lt. apart (box_slot n each k l t) (λ u lu. λ e. ne (omega arith)) in
-      rw (o.0, o.1, o.2, o.3, o.4) (windows.window_elsewhere 4 None mark (λ y. sender y ≡ suc k)
+      rw (o.0, o.1, o.2, o.3, o.4) (windows.window_elsewhere 4 None mark (GoesByBox k)
       (omega arith) marked (λ t. slice_index words (4 * n + box_slot n each k l t))
       (λ t. get_elem? homes (box_slot n each k l t)) (put_to l (w.put_box k))
       (from k (w.got_box l)) (w.waits k l) (w.filling k l) (w.emptying k l) (b k l lk ll)

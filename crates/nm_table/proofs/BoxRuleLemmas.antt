@@ -1,5 +1,5 @@
 -- What each kind of step on a box's flag makes of the words, slots and entries, and that it keeps the rule.
-use Rattle.std.proofs.Common.{◌≡◌, ◌≢◌, ℕ, suc, ◌+◌, ◌*◌, ◌%◌, ◌<◌, Bool, true, false, Option}
+use Rattle.std.proofs.Common.{◌≡◌, ◌≢◌, ℕ, suc, ◌+◌, ◌*◌, ◌%◌, ◌<◌, ◌≤◌, Bool, true, false, Option}
 use Rattle.std.proofs.Common.{Some, None, List, [], ◌∷◌, ◌++◌, map, length, set, sym, refl, ap, ◌∙◌}
 use Rattle.std.proofs.Common.{inl, subst, arith, length-set, get_or-set_same, get_or-set_other}
 use Rattle.std.proofs.Common.{append-nil, length-append}
@@ -23,6 +23,8 @@ use Rattle.nm_seats.specs.Window.{Window}
 use Rattle.nm_seats.proofs.WindowLemmas as windows
 use Rattle.nm_types.specs.Sizes.{Sizes}
 use Rattle.nm_table.specs.declared.table.Entry.{Entry}
+use Rattle.nm_types.specs.declared.limits.TheConstants.{MAX_BOX}
+use Rattle.nm_table.specs.Rule.{GoesByBox, size}
 use Rattle.nm_table.specs.Rule.{Load, World, Agrees, put_to, sender, from, number, sent_to, loads}
 use Rattle.nm_table.specs.Rule.{LooksHold, box_slot, filling_of, emptying_of, AllInSequence, Rule, mark}
 use Rattle.nm_table.specs.Plays as plays
@@ -74,12 +76,12 @@ module _ (key : Sizes) (slots id : ℕ) (e : Entry) (low : e.rank < key.ranks) (
     -- the boxes to the other rank, and those from it, as the entry has them
     abbrev pub OutLane : (ℕ → ℕ) → (ℕ → maybe.Option (maybe.Option Load)) → Bool → List Load → List Load
         → Type 0
-    OutLane flag slot b puts waits = Window 4 None mark (λ y. sender y ≡ suc e.rank) flag slot b
+    OutLane flag slot b puts waits = Window 4 None mark (GoesByBox e.rank) flag slot b
         (w.emptying e.rank peer) puts (from e.rank (w.got_box peer)) waits
 
     abbrev pub InLane : (ℕ → ℕ) → (ℕ → maybe.Option (maybe.Option Load)) → Option Load → List Load
         → List Load → Type 0
-    InLane flag slot x gots waits = Window 4 None mark (λ y. sender y ≡ suc peer) flag slot
+    InLane flag slot x gots waits = Window 4 None mark (GoesByBox peer) flag slot
         (w.filling peer e.rank) x (put_to e.rank (w.put_box peer)) gots waits
 
     abbrev pub out_flag : ℕ → ℕ
@@ -273,11 +275,11 @@ module _ (key : Sizes) (slots id : ℕ) (e : Entry) (low : e.rank < key.ranks) (
         let homes' = set s.homes out_slot maybe.none in
         let lane = subst (λ b. OutLane out_flag out_home b (put_to peer e.put_box)
         (w.waits e.rank peer)) shut out_lane in
-        let room = windows.room_where_free 4 None mark (λ y. sender y ≡ suc e.rank)
+        let room = windows.room_where_free 4 None mark (GoesByBox e.rank)
         (omega arith) marked out_flag out_home (put_to peer e.put_box)
         (from e.rank (w.got_box peer)) (w.waits e.rank peer) false
         (w.emptying e.rank peer) lane found in
-        let new = windows.producer_opens 4 None mark (λ y. sender y ≡ suc e.rank)
+        let new = windows.producer_opens 4 None mark (GoesByBox e.rank)
         (omega arith) marked out_flag out_home (put_to peer e.put_box)
         (from e.rank (w.got_box peer)) (w.waits e.rank peer) (w.emptying e.rank peer) lane room
         (λ u. get_elem? homes' (box_slot n m e.rank peer u))
@@ -309,10 +311,10 @@ module _ (key : Sizes) (slots id : ℕ) (e : Entry) (low : e.rank < key.ranks) (
     free_home shut found = let lane =
         subst (λ b. OutLane out_flag out_home b (put_to peer e.put_box) (w.waits e.rank peer)) shut
         out_lane in
-        windows.free_slot_is_home 4 None mark (λ y. sender y ≡ suc e.rank)
+        windows.free_slot_is_home 4 None mark (GoesByBox e.rank)
         (omega arith) marked out_flag out_home (put_to peer e.put_box)
         (from e.rank (w.got_box peer)) (w.waits e.rank peer) (w.emptying e.rank peer) lane
-        (windows.room_where_free 4 None mark (λ y. sender y ≡ suc e.rank)
+        (windows.room_where_free 4 None mark (GoesByBox e.rank)
         (omega arith) marked out_flag out_home (put_to peer e.put_box)
         (from e.rank (w.got_box peer)) (w.waits e.rank peer) false
         (w.emptying e.rank peer) lane found)
@@ -392,6 +394,7 @@ module _ (key : Sizes) (slots id : ℕ) (e : Entry) (low : e.rank < key.ranks) (
         (λ q. ni q.0))) refl refl old)
 
     pub fill_ruled : (p : Load) → filling_of e peer ≡ true → sender p ≡ suc e.rank
+        → size p ≤ MAX_BOX
         → number p ≡ sent_to peer e.put_box e.put
         → Rule key record {
           words = set s.words (4 * n + out_slot) (suc (number p));
@@ -401,7 +404,7 @@ module _ (key : Sizes) (slots id : ℕ) (e : Entry) (low : e.rank < key.ranks) (
               set s.views id (view (plays.with_put_box ((peer, p) ∷ [])
               (plays.with_filling peer false e) ∷ []));
         }
-    fill_ruled p at_work from_here is = let t = length (put_to peer e.put_box) % 4 in
+    fill_ruled p at_work from_here short is = let t = length (put_to peer e.put_box) % 4 in
         let lt = in_four (length (put_to peer e.put_box)) in
         let words' = set s.words (4 * n + out_slot) (suc (number p)) in
         let homes' = set s.homes out_slot (maybe.some p) in
@@ -411,10 +414,10 @@ module _ (key : Sizes) (slots id : ℕ) (e : Entry) (low : e.rank < key.ranks) (
         let flag' : ℕ → ℕ = λ u. slice_index words' (4 * n + box_slot n m e.rank peer u) in
         let home' : ℕ → maybe.Option (maybe.Option Load) =
         λ u. get_elem? homes' (box_slot n m e.rank peer u) in
-        let new = windows.producer_fills 4 None mark (λ y. sender y ≡ suc e.rank)
+        let new = windows.producer_fills 4 None mark (GoesByBox e.rank)
         (omega arith) marked out_flag out_home (put_to peer e.put_box)
         (from e.rank (w.got_box peer)) (w.waits e.rank peer)
-        (w.emptying e.rank peer) lane p from_here flag' home'
+        (w.emptying e.rank peer) lane p (from_here, short) flag' home'
         (box_word e.rank peer t (suc (number p)) low few lt)
         (box_home e.rank peer t (maybe.some p) low few lt)
         (λ u lu ne. box_words e.rank peer t (suc (number p)) u ne)
@@ -480,11 +483,11 @@ module _ (key : Sizes) (slots id : ℕ) (e : Entry) (low : e.rank < key.ranks) (
         × (ys : List Load) × (w.waits peer e.rank ≡ y ∷ ys) × (number y ≡ a) × (sender y ≡ suc peer)
     in_starts a found = let some : 0 < in_flag (length (from peer e.got_box) % 4) =
         omega (arith, found) in
-        let f = windows.first_where_marked 4 None mark (λ y. sender y ≡ suc peer)
+        let f = windows.first_where_marked 4 None mark (GoesByBox peer)
         (omega arith) marked in_flag in_home (put_to e.rank (w.put_box peer))
         (from peer e.got_box) (w.waits peer e.rank) (w.filling peer e.rank)
         (emptying_of e peer) in_lane some (w.waits peer e.rank) refl in
-        let same : suc (number f.0) ≡ suc a = sym f.3 ∙ found in (f.0, f.1, f.2, omega arith, f.4)
+        let same : suc (number f.0) ≡ suc a = sym f.3 ∙ found in (f.0, f.1, f.2, omega arith, f.4.0)
 
     -- what the receiver is taking is first in the boxes
     pub in_first : (z : Load) → emptying_of e peer ≡ Some z → (ys : List Load)
@@ -493,16 +496,16 @@ module _ (key : Sizes) (slots id : ℕ) (e : Entry) (low : e.rank < key.ranks) (
     in_first z is = let f = in_lane.first z is in (
       f.0,
       f.1,
-      windows.first_is_marked 4 None mark (λ y. sender y ≡ suc peer)
+      windows.first_is_marked 4 None mark (GoesByBox peer)
           (omega arith) marked in_flag in_home (put_to e.rank (w.put_box peer))
           (from peer e.got_box) (w.waits peer e.rank) (w.filling peer e.rank)
           (emptying_of e peer) in_lane z f.0 f.1,
-      (in_lane.full 0 z (ap (λ l. get_elem? l 0) f.1)).0,
+      (in_lane.full 0 z (ap (λ l. get_elem? l 0) f.1)).0.0,
     )
 
     pub full_home : (y : Load) (ys : List Load) → emptying_of e peer ≡ None
         → w.waits peer e.rank ≡ y ∷ ys → get_elem? s.homes in_slot ≡ maybe.some (maybe.some y)
-    full_home y ys shut is = windows.full_slot_is_home 4 None mark (λ y. sender y ≡ suc peer)
+    full_home y ys shut is = windows.full_slot_is_home 4 None mark (GoesByBox peer)
         (omega arith) marked in_flag in_home (put_to e.rank (w.put_box peer)) (from peer e.got_box)
         (w.waits peer e.rank) (w.filling peer e.rank)
         (subst (λ x. InLane in_flag in_home x (from peer e.got_box) (w.waits peer e.rank)) shut
@@ -525,7 +528,7 @@ module _ (key : Sizes) (slots id : ℕ) (e : Entry) (low : e.rank < key.ranks) (
         let homes' = set s.homes in_slot maybe.none in let w' = after_begin y in
         let lane = subst (λ x. InLane in_flag in_home x (from peer e.got_box) (w.waits peer e.rank))
         shut in_lane in
-        let new = windows.consumer_opens 4 None mark (λ y. sender y ≡ suc peer)
+        let new = windows.consumer_opens 4 None mark (GoesByBox peer)
         (omega arith) marked in_flag in_home (put_to e.rank (w.put_box peer))
         (from peer e.got_box) (w.waits peer e.rank) (w.filling peer e.rank) lane y ys is
         (λ u. get_elem? homes' (box_slot n m peer e.rank u))
@@ -652,7 +655,7 @@ module _ (key : Sizes) (slots id : ℕ) (e : Entry) (low : e.rank < key.ranks) (
         let flag' : ℕ → ℕ = λ u. slice_index words' (4 * n + box_slot n m peer e.rank u) in
         let home' : ℕ → maybe.Option (maybe.Option Load) =
         λ u. get_elem? homes' (box_slot n m peer e.rank u) in
-        let new = windows.consumer_empties 4 None mark (λ y. sender y ≡ suc peer)
+        let new = windows.consumer_empties 4 None mark (GoesByBox peer)
         (omega arith) marked in_flag in_home (put_to e.rank (w.put_box peer))
         (from peer e.got_box) (w.waits peer e.rank) (w.filling peer e.rank) y ys lane f.1 flag'
         home'
@@ -749,7 +752,7 @@ module _ (key : Sizes) (slots id : ℕ) (e : Entry) (low : e.rank < key.ranks) (
           by_waits [] is t = absurd (missing_in_box (sent_to e.rank (w.put_box peer) (w.put peer))
               (map number (from peer e.got_box)) [] (map number (from peer e.got))
               (map number (from peer (loads (w.chain e.rank)))) t a o.1.0.0 o.1.0.1 o.1.0.2 o.1.1)
-          by_waits (y ∷ ys) is t = windows.first_is_marked 4 None mark (λ y. sender y ≡ suc peer)
+          by_waits (y ∷ ys) is t = windows.first_is_marked 4 None mark (GoesByBox peer)
               (omega arith) marked in_flag in_home (put_to e.rank (w.put_box peer))
               (from peer e.got_box) (w.waits peer e.rank) (w.filling peer e.rank)
               (emptying_of e peer) in_lane y ys is

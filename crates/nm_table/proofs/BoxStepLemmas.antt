@@ -1,5 +1,5 @@
 -- Each kind of step on a box's flag keeps the rule, whatever the other ranks did.
-use Rattle.std.proofs.Common.{◌≡◌, ◌≢◌, ℕ, suc, ◌+◌, ◌-◌, ◌*◌, ◌%◌, ◌<◌, Bool, true, false, Option}
+use Rattle.std.proofs.Common.{◌≡◌, ◌≢◌, ℕ, suc, ◌+◌, ◌-◌, ◌*◌, ◌%◌, ◌<◌, ◌≤◌, Bool, true, false, Option}
 use Rattle.std.proofs.Common.{Some, None, List, [], ◌∷◌, length, set, sym, refl, ap, ◌∙◌}
 use Rattle.std.proofs.Common.{subst, arith, get_or-set_same}
 use Rattle.std.proofs.lemmas.List.{set-get_or}
@@ -14,6 +14,8 @@ use Rattle.nm_seats.specs.declared.views.View.{View}
 use Rattle.nm_seats.specs.Spoken.{view}
 use Rattle.nm_types.specs.Sizes.{Sizes}
 use Rattle.nm_table.specs.declared.table.Entry.{Entry}
+use Rattle.nm_types.specs.declared.limits.TheConstants.{MAX_BOX}
+use Rattle.nm_table.specs.Rule.{size}
 use Rattle.nm_table.specs.Rule.{Load, put_to, sender, from, number, sent_to}
 use Rattle.nm_table.specs.Rule.{box_slot, filling_of, emptying_of, Rule}
 use Rattle.nm_table.specs.NextBox.{BoxesApart}
@@ -256,16 +258,17 @@ module _ (key : Sizes) (slots id : ℕ) (e : Entry) (low : e.rank < key.ranks) (
           )
 
   fill_kept : (p : Load) (hs : List (ℕ × Load)) → filling_of e peer ≡ true → sender p ≡ suc e.rank
+      → size p ≤ MAX_BOX
       → number p ≡ sent_to peer e.put_box e.put
       → Allows (Rule key) slots id (here ((out_slot, p) ∷ hs)) (4 * n + out_slot)
       (λ _. suc (number p))
       (plays.boxed peer (step slots (4 * n + out_slot) (suc (number p)) 0 maybe.none)
       (here ((out_slot, p) ∷ hs)))
-  fill_kept p hs at_work from_here is s R long at small = (
+  fill_kept p hs at_work from_here short is s R long at small = (
     view (plays.with_put_box ((peer, p) ∷ []) (plays.with_filling peer false e) ∷ []),
     gives,
     tt,
-    rule.fill_ruled key slots id e low peer few s R at p at_work from_here is,
+    rule.fill_ruled key slots id e low peer few s R at p at_work from_here short is,
     (out_named s R at, refl),
   )
 
@@ -352,11 +355,11 @@ module _ (key : Sizes) (n each slots id : ℕ) (me : plays.Knowing) (alone : pla
       → me.1 ≡ (box_slot n each rank peer (place % 4), p) ∷ hs → x ≡ suc (number p)
       → place ≡ length (put_to peer (plays.mine me).put_box)
       → word ≡ 4 * n + box_slot n each rank peer (place % 4)
-      → filling_of (plays.mine me) peer ≡ true → sender p ≡ suc rank
+      → filling_of (plays.mine me) peer ≡ true → sender p ≡ suc rank → size p ≤ MAX_BOX
       → number p ≡ sent_to peer (plays.mine me).put_box (plays.mine me).put
       → Allows (Rule key) slots id me word (λ _. x)
       (plays.boxed peer (step slots word x 0 maybe.none) me)
-  fill_allowed p x hs has value at is at_work from_here next = let there =
+  fill_allowed p x hs has value at is at_work from_here short next = let there =
       4 * key.ranks + out_slot key slots id (plays.mine me) own_low peer peer_low in
       let same : me ≡ (
         view (plays.mine me ∷ []),
@@ -370,7 +373,7 @@ module _ (key : Sizes) (n each slots id : ℕ) (me : plays.Knowing) (alone : pla
       (subst (λ m. Allows (Rule key) slots id m there (λ _. suc (number p))
       (plays.boxed peer (step slots there (suc (number p)) 0 maybe.none) m)) (sym same)
       (fill_kept key slots id (plays.mine me) own_low peer peer_low p hs at_work
-      (from_here ∙ ap suc (sym named)) next)))
+      (from_here ∙ ap suc (sym named)) short next)))
 
   pub empty_allowed : (y : Load) (hs : List (ℕ × Load))
       → me.1 ≡ (box_slot n each peer rank (place % 4), None) ∷ hs

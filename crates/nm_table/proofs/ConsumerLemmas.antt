@@ -31,7 +31,7 @@ use Rattle.nm_table.specs.Rule.{number, sender, sent_to}
 use Rattle.nm_table.specs.Rule.{LooksHold, tail}
 use Rattle.nm_table.specs.declared.table.Look.{Look}
 use Rattle.nm_table.specs.declared.table.Look.TheVariants.{Fresh, LinkEmpty, TailElsewhere}
-use Rattle.nm_table.specs.Looks.{look_in, StillTold}
+use Rattle.nm_table.specs.Looks.{link_empty, look_in, StillTold}
 use Rattle.nm_table.specs.Plays as plays
 use Rattle.nm_table.proofs.QueueLemmas as queues
 use Rattle.nm_table.proofs.BoxLemmas as box_laws
@@ -110,6 +110,12 @@ knows_look n m r b l w e k = record {
   emptying = k.emptying;
 }
 
+-- a link that was loaded as 0 tells nothing of the tail
+empty_here : (l : Look) → link_empty l ≢ TailElsewhere
+empty_here Fresh z = let z' : LinkEmpty 0 ≡ TailElsewhere = z in cc
+empty_here (LinkEmpty k) z = let z' : LinkEmpty (suc k) ≡ TailElsewhere = z in cc
+empty_here TailElsewhere z = let z' : LinkEmpty 0 ≡ TailElsewhere = z in cc
+
 -- a queue whose head has a cell has no shadow head
 no_shadow : (place : ℕ → Place) (q hd shadow : ℕ) (xs : Chain) → Begins place q hd shadow xs
     → 0 < hd → shadow ≡ 0
@@ -137,9 +143,10 @@ module _ (n : ℕ) (words : List ℕ) (r : ℕ) (e : Entry) where
   told_heads false x ne t = (t.0, (λ z. absurd (ne z)))
 
   -- something else was told than of the tail
-  told_link : (b : Bool) → LooksHold n words r e → LooksHold n words r (plays.with_look b LinkEmpty e)
-  told_link true t = ((λ z. absurd (let z' : LinkEmpty ≡ TailElsewhere = z in cc)), t.1)
-  told_link false t = (t.0, (λ z. absurd (let z' : LinkEmpty ≡ TailElsewhere = z in cc)))
+  told_link : (b : Bool) (l : Look) → l ≢ TailElsewhere → LooksHold n words r e
+      → LooksHold n words r (plays.with_look b l e)
+  told_link true l ne t = ((λ z. absurd (ne z)), t.1)
+  told_link false l ne t = (t.0, (λ z. absurd (ne z)))
 
   -- the tail was found elsewhere
   told_tail : (b : Bool) → 0 < (plays.heads_of b e).shadow
@@ -614,19 +621,23 @@ module _ (key : Sizes) (n slots id : ℕ) (me : plays.Knowing) (alone : plays.Al
   pub pass_allowed : (c : ℕ) → (plays.heads_of b (plays.mine me)).shadow ≡ suc c
       → Allows (Rule key) slots id me (4 * n + c) (λ k. k)
       (plays.passed b (step slots (4 * n + c) 0 0 maybe.none) me)
-  pass_allowed = pass_or (plays.with_look b LinkEmpty)
-      (λ w h. knows_look key.ranks key.cells (plays.mine me).rank b LinkEmpty w (plays.mine me) h)
-      (λ ws t. told_link key.ranks ws (plays.mine me).rank (plays.mine me) b t)
+  pass_allowed = let l = link_empty (look_in b (plays.mine me).looks) in
+      pass_or (plays.with_link_empty b)
+      (λ w h. knows_look key.ranks key.cells (plays.mine me).rank b l w (plays.mine me) h)
+      (λ ws t. told_link key.ranks ws (plays.mine me).rank (plays.mine me) b l
+      (empty_here (look_in b (plays.mine me).looks)) t)
 
   pub reload_allowed : (c : ℕ) → (plays.heads_of b (plays.mine me)).shadow ≡ suc c
       → Allows (Rule key) slots id me (4 * n + c) (λ k. k)
       (plays.reloaded b (step slots (4 * n + c) 0 0 maybe.none) me)
-  reload_allowed = pass_or (λ e. plays.with_look b LinkEmpty (plays.with_missed b plays.link_miss e))
-      (λ w h. knows_look key.ranks key.cells (plays.mine me).rank b LinkEmpty w
+  reload_allowed = pass_or
+      (λ e. plays.with_look b (LinkEmpty 0) (plays.with_missed b plays.link_miss e))
+      (λ w h. knows_look key.ranks key.cells (plays.mine me).rank b (LinkEmpty 0) w
       (plays.with_missed b plays.link_miss (plays.mine me))
       (knows_missed key.ranks key.cells (plays.mine me).rank b plays.link_miss w (plays.mine me) h))
       (λ ws t. told_link key.ranks ws (plays.mine me).rank
-      (plays.with_missed b plays.link_miss (plays.mine me)) b t)
+      (plays.with_missed b plays.link_miss (plays.mine me)) b (LinkEmpty 0)
+      (empty_here Fresh) t)
 
   pub drain_allowed : (word old : ℕ) → word ≡ 2 * n + plays.queue n rank b
       → (plays.heads_of b (plays.mine me)).shadow ≡ old → 0 < old

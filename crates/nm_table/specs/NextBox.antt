@@ -21,9 +21,11 @@ module _ (filling : List Bool) (emptying : List (Option Load)) where
   work_at true j = to_fill (slice_index_or filling j false)
   work_at false j = slice_index_or emptying j None
 
+-- the slot of the rank's next box for the rank j, or else of the rank j
 abbrev pub next_box : Entry → Bool → ℕ → ℕ
 next_box e = box_at e.rank e.ranks e.each e.put_box e.got_box
 
+-- what it holds, where the rank is filling or emptying it
 abbrev pub work : Entry → Bool → ℕ → Option Load
 work e = work_at e.filling e.emptying
 
@@ -32,5 +34,6 @@ abbrev pub AreApart : ℕ → (Bool → ℕ → ℕ) → (Bool → ℕ → Optio
 AreApart n box x = (j i : ℕ) → j < n → i < n → (y z : Load) → x true j ≡ Some y
     → x false i ≡ Some z → box true j ≢ box false i
 
+-- no box of the rank is being filled and emptied at once
 abbrev pub BoxesApart : Entry → Type 0
 BoxesApart e = AreApart e.ranks (next_box e) (work e)

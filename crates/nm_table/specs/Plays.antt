@@ -19,8 +19,9 @@ use Rattle.nm_table.specs.Rule.{head_word, tail_word, link_word, flag_word}
 use Rattle.nm_table.specs.NextBox.{BoxesApart, next_box}
 use Rattle.nm_table.specs.declared.table.Look.{Look}
 use Rattle.nm_table.specs.declared.table.Look.TheVariants.{Fresh, LinkEmpty, TailElsewhere}
-use Rattle.nm_table.specs.Looks.{no_looks, other, set_look}
+use Rattle.nm_table.specs.Looks.{no_looks, other, set_look, look_in, link_empty}
 
+-- what a seat knows: its view, and the slots that it has taken with what they hold
 abbrev pub Knowing : Type 0
 Knowing = Me Load (View Entry)
 
@@ -46,6 +47,7 @@ newcomer rank ranks = record {
   box_miss = [];
 }
 
+-- the entry of a view that has one
 abbrev pub sole : List Entry → Entry
 sole [] = newcomer 0 0
 sole (e ∷ es) = e
@@ -54,6 +56,7 @@ sole (e ∷ es) = e
 abbrev pub mine : Knowing → Entry
 mine me = sole me.0.entries
 
+-- the seat speaks for one rank
 abbrev pub Alone : Knowing → Type 0
 Alone me = me.0 ≡ view (mine me ∷ [])
 
@@ -62,6 +65,7 @@ abbrev pub first_load : List (ℕ × Load) → Load
 first_load [] = None
 first_load (x ∷ xs) = x.1
 
+-- y where the two numbers are equal, and else z
 abbrev pub pick : {A : Type 0} {k j : ℕ} → Dec (j ≡ k) → A → A → A
 pick (yes _) y z = y
 pick (no _) y z = z
@@ -71,9 +75,11 @@ abbrev pub load_in : ℕ → List (ℕ × Load) → Load
 load_in c [] = None
 load_in c (x ∷ xs) = pick (ℕ_discrete x.0 c) x.1 (load_in c xs)
 
+-- the rank has this of the cell c
 abbrev pub with_hand : ℕ → Hand → Entry → Entry
 with_hand c h e = record e { hands = slice_set e.hands c h }
 
+-- these were put by cell
 abbrev pub with_put : List (ℕ × Load) → Entry → Entry
 with_put xs e = record e { put = e.put ++ xs }
 
@@ -114,6 +120,7 @@ finished s me found after =
     (s.word ≡ end_word (mine me).ranks (hand (mine me) (s.first - 1)))
     × (after ≡ (view (with_hand (s.first - 1) Away (mine me) ∷ []), me.1))
 
+-- the cell is in the rank's hand, with its slot
 abbrev pub InHand : Hand → Type 0
 InHand Away = ⊥
 InHand Loose = ⊥
@@ -126,10 +133,12 @@ abbrev pub queue : ℕ → ℕ → Bool → ℕ
 queue n r true = r
 queue n r false = n + r
 
+-- the shadow head and the head of the receive queue, or else of the free queue
 abbrev pub heads_of : Bool → Entry → Heads
 heads_of true e = e.receive
 heads_of false e = e.free
 
+-- those of a queue change
 abbrev pub with_heads : Bool → Heads → Entry → Entry
 with_heads true x e = record e { receive = x }
 with_heads false x e = record e { free = x }
@@ -138,9 +147,15 @@ with_heads false x e = record e { free = x }
 abbrev pub with_look : Bool → Look → Entry → Entry
 with_look b l e = record e { looks = set_look b l e.looks }
 
+-- the link of the queue's first cell was loaded as 0
+abbrev pub with_link_empty : Bool → Entry → Entry
+with_link_empty b e = with_look b (link_empty (look_in b e.looks)) e
+
+-- this shadow head, and this head as it was last loaded
 abbrev pub heads_at : ℕ → ℕ → Heads
 heads_at shadow seen = record { shadow = shadow; seen = seen }
 
+-- these were got by cell
 abbrev pub with_got : List Load → Entry → Entry
 with_got ys e = record e { got = e.got ++ ys }
 
@@ -157,6 +172,7 @@ raised k = if_below (dec_le (suc k) 18446744073709551615) (suc k) k
 abbrev pub capped : ℕ → ℕ
 capped k = min k 18446744073709551615
 
+-- changed where it is so, and else the same
 abbrev pub on : Bool → (Misses → Misses) → Misses → Misses
 on true f x = f x
 on false f x = x
@@ -169,23 +185,28 @@ with_missed b f e = record e {
       on (other b) f e.free_missed;
 }
 
+-- the misses of the receive queue, or else of the free queue
 abbrev pub missed_of : Bool → Entry → Misses
 missed_of true e = e.receive_missed
 missed_of false e = e.free_missed
 
+-- the head was loaded as 0 once more
 abbrev pub head_miss : Misses → Misses
 head_miss x = record x { head_empty = raised x.head_empty }
 
+-- the link was once more loaded as 0 although the tail was another cell
 abbrev pub link_miss : Misses → Misses
 link_miss x = record x { link_missing = raised x.link_missing }
 
--- the word is the head, the tail, or the link of the first cell, of an own queue
+-- the word is the head of an own queue
 abbrev pub IsHead : Bool → Entry → ℕ → Type 0
 IsHead b e word = word ≡ head_word (queue e.ranks e.rank b)
 
+-- the word is the tail of an own queue
 abbrev pub IsTail : Bool → Entry → ℕ → Type 0
 IsTail b e word = word ≡ tail_word e.ranks (queue e.ranks e.rank b)
 
+-- the word is the link of the first cell of an own queue
 abbrev pub IsFirstLink : Bool → Entry → ℕ → Type 0
 IsFirstLink b e word = word ≡ link_word e.ranks ((heads_of b e).shadow - 1)
 
@@ -245,12 +266,12 @@ passed_or f b s me found after = IsFirstLink b (mine me) s.word
 
 -- a link that was loaded as 0 is what the step told
 abbrev pub passed : Bool → Step Load → Knowing → ℕ → Knowing → Type 0
-passed b s me found after = passed_or (with_look b LinkEmpty) b s me found after
+passed b s me found after = passed_or (with_link_empty b) b s me found after
 
 -- the same after the tail was found not to be this cell: 0 is a miss
 abbrev pub reloaded : Bool → Step Load → Knowing → ℕ → Knowing → Type 0
 reloaded b s me found after =
-    passed_or (λ e. with_look b LinkEmpty (with_missed b link_miss e)) b s me found after
+    passed_or (λ e. with_look b (LinkEmpty 0) (with_missed b link_miss e)) b s me found after
 
 -- the tail was exchanged for 0 where it was the shadow head, whose cell is then in hand. Else the step told that it is elsewhere
 abbrev pub drained : Bool → Step Load → Knowing → ℕ → Knowing → Type 0
@@ -259,24 +280,30 @@ drained b s me found after = IsTail b (mine me) s.word × (s.first ≡ (heads_of
     → after ≡ (view (with_look b TailElsewhere (mine me) ∷ []), me.1))
     × (found ≡ s.first → Took b (s.first - 1) 0 me after)
 
+-- whether the next box for the rank j is being filled
 abbrev pub with_filling : ℕ → Bool → Entry → Entry
 with_filling j x e = record e { filling = slice_set e.filling j x }
 
+-- what is being taken from the next box of the rank i
 abbrev pub with_emptying : ℕ → Option Load → Entry → Entry
 with_emptying i x e = record e { emptying = slice_set e.emptying i x }
 
+-- these were put by box
 abbrev pub with_put_box : List (ℕ × Load) → Entry → Entry
 with_put_box xs e = record e { put_box = e.put_box ++ xs }
 
+-- these were got by box
 abbrev pub with_got_box : List Load → Entry → Entry
 with_got_box ys e = record e { got_box = e.got_box ++ ys }
 
+-- the next box for the rank j was once more found full
 abbrev pub with_box_full : ℕ → Entry → Entry
 with_box_full j e = record e {
   box_full =
       slice_set e.box_full j (raised (slice_index e.box_full j));
 }
 
+-- the next box of the rank i was once more found without the awaited number
 abbrev pub with_box_miss : ℕ → Entry → Entry
 with_box_miss i e = record e {
   box_miss =

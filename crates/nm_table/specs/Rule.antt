@@ -12,6 +12,7 @@ use Rattle.nm_seats.specs.Spoken.{view, Spoken}
 use Rattle.nm_chain.specs.Chain as chain
 use Rattle.nm_chain.specs.Sequence.{InSequence}
 use Rattle.nm_seats.specs.Window.{Window}
+use Rattle.nm_types.specs.declared.limits.TheConstants.{MAX_BOX}
 use Rattle.nm_types.specs.declared.packets.Packet.{Packet}
 use Rattle.nm_types.specs.Sizes.{Sizes}
 use Rattle.nm_table.specs.declared.table.Hand.{Hand}
@@ -21,21 +22,27 @@ use Rattle.nm_table.specs.declared.table.Misses.{Misses}
 use Rattle.nm_table.specs.declared.table.Entry.{Entry}
 use Rattle.nm_table.specs.Looks.{StillTold, no_looks}
 
+-- what a slot holds: a packet, or nothing
 abbrev pub Load : Type 0
 Load = Option Packet
 
+-- where a cell is
 abbrev pub Place : Type 0
 Place = chain.Place Load
 
+-- the cells of a queue in order, with what they hold
 abbrev pub Chain : Type 0
 Chain = List (chain.Item Load)
 
+-- neither a shadow head nor a head
 abbrev pub no_heads : Heads
 no_heads = record { shadow = 0; seen = 0 }
 
+-- nothing was missed
 abbrev pub no_miss : Misses
 no_miss = record { head_empty = 0; link_missing = 0 }
 
+-- the rank that an entry is of
 abbrev pub rank_of : Entry → ℕ
 rank_of e = e.rank
 
@@ -107,6 +114,7 @@ pub record Agrees (n each : ℕ) (w : World) (r : ℕ) (e : Entry) : Type 0 wher
   pub filling : (j : ℕ) → j < n → filling_of e j ≡ w.filling r j
   pub emptying : (i : ℕ) → i < n → emptying_of e i ≡ w.emptying i r
 
+-- y where the two numbers are equal, and else z
 abbrev pub pick : {A : Type 0} {k j : ℕ} → Dec (j ≡ k) → A → A → A
 pick (yes _) y z = y
 pick (no _) y z = z
@@ -116,6 +124,7 @@ abbrev pub put_to : ℕ → List (ℕ × Load) → List Load
 put_to j [] = []
 put_to j (x ∷ xs) = pick (ℕ_discrete x.0 j) (x.1 ∷ put_to j xs) (put_to j xs)
 
+-- the rank that a packet is from, plus 1; 0 where there is no packet
 abbrev pub sender : Load → ℕ
 sender (Some p) = suc p.from
 sender None = 0
@@ -134,10 +143,20 @@ number None = 0
 abbrev pub mark : Load → ℕ
 mark y = suc (number y)
 
+-- how many bytes a packet carries
+abbrev pub size : Load → ℕ
+size (Some p) = length p.payload
+size None = 0
+
+-- it is a packet of the rank i that fits a box
+abbrev pub GoesByBox : ℕ → Load → Type 0
+GoesByBox i y = (sender y ≡ suc i) × (size y ≤ MAX_BOX)
+
 -- how many packets went to the rank j, of those put by box and by cell
 abbrev pub sent_to : ℕ → List (ℕ × Load) → List (ℕ × Load) → ℕ
 sent_to j by_box by_cell = length (put_to j by_box) + length (put_to j by_cell)
 
+-- y where j is at most k, and else z
 abbrev pub if_below : {A : Type 0} {j k : ℕ} → Dec (j ≤ k) → A → A → A
 if_below (yes _) y z = y
 if_below (no _) y z = z
@@ -150,6 +169,7 @@ posted n q y = if_below (dec_le (suc q) n) ((q, y) ∷ []) []
 abbrev pub fetched : ℕ → ℕ → Load → List Load
 fetched n q y = if_below (dec_le (suc q) n) (y ∷ []) []
 
+-- what the cells of a chain hold, in order
 abbrev pub loads : Chain → List Load
 loads [] = []
 loads (x ∷ xs) = x.load ∷ loads xs
@@ -171,19 +191,23 @@ abbrev pub flag_word : ℕ → ℕ → ℕ
 flag_word n c = 4 * n + c
 
 module _ (n : ℕ) (words : List ℕ) where
-  -- what these words have
+  -- the head of the queue q
   abbrev pub head : ℕ → ℕ
   head q = slice_index words (head_word q)
 
+  -- the tail of the queue q
   abbrev pub tail : ℕ → ℕ
   tail q = slice_index words (tail_word n q)
 
+  -- the link of the cell c
   abbrev pub link : ℕ → ℕ
   link c = slice_index words (link_word n c)
 
+-- the slot c is at home, with y
 abbrev pub HasHome : List (maybe.Option Load) → ℕ → Load → Type 0
 HasHome homes c y = get_elem? homes c ≡ maybe.some (maybe.some y)
 
+-- the slot c is out with a seat
 abbrev pub IsOut : List (maybe.Option Load) → ℕ → Type 0
 IsOut homes c = get_elem? homes c ≡ maybe.some maybe.none
 
@@ -192,6 +216,7 @@ abbrev pub Suits : ℕ → ℕ → ℕ → chain.Item Load → Type 0
 Suits n each q x = (q < n → sender x.load ≡ suc (x.cell / each))
     × (n ≤ q → (x.load ≡ None) × (n + x.cell / each ≡ q))
 
+-- an item of the queue q is a cell of the fabric, its slot is at home with what it holds, and it suits the queue
 abbrev pub Fits : ℕ → ℕ → List (maybe.Option Load) → ℕ → chain.Item Load → Type 0
 Fits n each homes q x = (x.cell < n * each) × HasHome homes x.cell x.load × Suits n each q x
 
@@ -203,10 +228,12 @@ Handed n words homes c (chain.ready r y) = IsOut homes c × (link n words c ≡ 
 Handed n words homes c (chain.entering r q t) = q < 2 * n
 Handed n words homes c (chain.queued q) = q < 2 * n
 
+-- the queue q is this chain
 abbrev pub Queue : ℕ → ℕ → World → List ℕ → List (maybe.Option Load) → ℕ → Type 0
 Queue n each w words homes q = chain.IsChain (Fits n each homes q) w.place (link n words) q
     (head n words q) (tail n words q) (w.heads q).shadow (w.chain q)
 
+-- What holds of the cells and queues: so many words and slots, each queue a chain, each cell in one place
 pub record QueuesHold (n each : ℕ) (w : World) (words : List ℕ)
     (homes : List (maybe.Option Load)) : Type 0 where
   pub long : length words ≡ 4 * n + n * each + 4 * (n * n)
@@ -226,7 +253,7 @@ box_slot n each i j k = n * each + (4 * (i * n + j) + k)
 -- the boxes of the fabric
 abbrev pub BoxesHold : ℕ → ℕ → World → List ℕ → List (maybe.Option Load) → Type 0
 BoxesHold n each w words homes = (i j : ℕ) → i < n → j < n
-    → Window 4 None mark (λ y. sender y ≡ suc i)
+    → Window 4 None mark (GoesByBox i)
     (λ k. slice_index words (flag_word n (box_slot n each i j k)))
     (λ k. get_elem? homes (box_slot n each i j k))
     (w.filling i j) (w.emptying i j) (put_to j (w.put_box i)) (from i (w.got_box j)) (w.waits i j)
@@ -242,6 +269,8 @@ abbrev pub LooksHold : ℕ → List ℕ → ℕ → Entry → Type 0
 LooksHold n words r e = StillTold e.looks.receive e.receive.shadow (tail n words r)
     × StillTold e.looks.free e.free.shadow (tail n words (n + r))
 
+-- What holds between any two steps of any ranks: each entry agrees with one world, and the words and
+-- slots are as this world has them
 pub record Rule (key : Sizes) (s : State Load (View Entry)) : Type 0 where
   pub ledger : ℕ → Entry
   pub world : World
@@ -289,6 +318,7 @@ abbrev pub beginners : ℕ → ℕ → ℕ → ℕ → List Entry
 beginners n each r zero = []
 beginners n each r (suc k) = beginner n each r ∷ beginners n each (suc r) k
 
+-- the view of the first seat, which speaks for all ranks
 abbrev pub first_view : Sizes → View Entry
 first_view key = view (beginners key.ranks key.cells 0 key.ranks)
 

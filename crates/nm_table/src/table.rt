@@ -1,7 +1,6 @@
 //! The table, and what a seat knows.
 
 ghost use Rattle.std.specs.Prelude.{◌≡◌};
-ghost use Rattle.nm_table.specs.Looks.{look_in, no_looks, other, set_look};
 ghost use Rattle.nm_table.specs.Plays.{raised, head_miss, link_miss};
 
 use atomic_table::{Seat, Table, TableRule};
@@ -31,47 +30,20 @@ pub struct Heads {
     pub seen: u64,
 }
 
-/// What the consumer's last step on a queue told of its first cell.
-#[derive(Clone, Copy)]
+/// What the consumer's last steps on a queue told of its first cell. No value of it is made.
 pub enum Look {
     /// Nothing.
     Fresh,
-    /// Its link was loaded as 0.
-    LinkEmpty,
+    /// Its link was loaded as 0, and so many times more.
+    LinkEmpty(u64),
     /// Then the tail was another cell.
     TailElsewhere,
 }
 
-/// The last steps of a rank on its receive queue and on its free queue.
-#[derive(Clone, Copy)]
+/// The last steps of a rank on its receive queue and on its free queue. No value of it is made.
 pub struct Looks {
     pub receive: Look,
     pub free: Look,
-}
-
-impl Looks {
-    /// No step was made.
-    pub fn new() -> Looks
-        ensures { result ≡ no_looks }
-    {
-        Looks {
-            receive: Look::Fresh,
-            free: Look::Fresh,
-        }
-    }
-
-    /// The last step on the receive queue, or else on the free queue, told this.
-    pub fn set<const B: bool>(&mut self, look: Look)
-        ensures all { self.new ≡ set_look B look self.old }
-        ensures told { look_in B self.new ≡ look }
-        ensures others { look_in (other B) self.new ≡ look_in (other B) self.old }
-    {
-        if B {
-            self.receive = look;
-        } else {
-            self.free = look;
-        }
-    }
 }
 
 /// The count plus 1, or where that is no 64-bit number, the count.
@@ -140,7 +112,7 @@ pub struct Entry {
     pub filling: LinkedList<bool>,
     /// For each rank, what was found in its next box and is not taken since.
     pub emptying: LinkedList<Option<Option<Packet>>>,
-    /// What its last step on each of its queues told of the first cell.
+    /// What its last steps on each of its queues told of the first cell.
     pub looks: Looks,
     pub receive_missed: Misses,
     pub free_missed: Misses,

@@ -50,7 +50,8 @@ store-requires g c =
     let next : number y ≡ taken_by q j = k.1 ∙ ap (λ ps. (peer_in ps.items j).taken) (sym b.same.1)
     in let slot = c.box_at-slot.result in let w = plays.load_in slot p.seat.me.1 in
     let id = f.board.shared.table_id in let z₀ = f.sizes.0 in let low = c.box_at-slot.ensures.low in
-    let word : ℕ = 4 * f.ranks + slot in let inside : word < id.words = omega arith in
+    let is_word = c.flag_word-word.ensures in
+    let word : ℕ = c.flag_word-word.result in let inside : word < id.words = omega arith in
     let none : Load = None in
     let me : plays.Knowing = (q.seat.me.0, (slot, none) ∷ rest q.seat.me.1) in
     let all = subst (plays.AllBelow (knows q) j) (sym next) (calls.all_below f q o₂ j few) in (
@@ -66,7 +67,7 @@ store-requires g c =
           word y (rest q.seat.me.1) (ap (λ t. (t, none) ∷ rest q.seat.me.1)
           c.box_at-slot.ensures.at)
           (place ∙ ap (λ u. length (from j (sole u.entries).got_box)) (sym v))
-          (ap (λ u. 4 * f.ranks + u) c.box_at-slot.ensures.at) was all)),
+          (is_word ∙ ap (λ u. 4 * f.ranks + u) c.box_at-slot.ensures.at) was all)),
     )
 
 pub count_unboxed-requires-clause-sender : goal.count_unboxed-requires-clause-sender
@@ -261,7 +262,6 @@ returns-clause-owns g c =
           (ap (λ m. length (mine m).emptying) is ∙ length-set (knows q).emptying j None),
       b.same.0,
       b.same.4,
-      b.same.5,
     )
 
 pub returns-clause-packet : goal.returns-clause-packet

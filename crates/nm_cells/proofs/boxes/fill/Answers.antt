@@ -60,7 +60,8 @@ store-requires g c =
     let slot = c.box_at-slot.result in let w = plays.load_in slot p.seat.me.1 in
     let y : Load = Some c.args.packet in
     let id = f.board.shared.table_id in let z₀ = f.sizes.0 in let low = c.box_at-slot.ensures.low in
-    let word : ℕ = 4 * f.ranks + slot in let inside : word < id.words = omega arith in
+    let is_word = c.flag_word-word.ensures in
+    let word : ℕ = c.flag_word-word.result in let inside : word < id.words = omega arith in
     let me : plays.Knowing = (q.seat.me.0, (slot, y) ∷ rest q.seat.me.1) in
     let x : ℕ = c.args.packet.seq + 1 in let k = c.requires.packet in
     let next = k.1 ∙ ap (λ u. sent_to j (sole u.entries).put_box (sole u.entries).put) (sym v) in (
@@ -76,7 +77,7 @@ store-requires g c =
           word y x (rest q.seat.me.1) (ap (λ t. (t, y) ∷ rest q.seat.me.1) c.box_at-slot.ensures.at)
           (let e : c.args.packet.seq + 1 ≡ suc c.args.packet.seq = omega arith in e)
           (place ∙ ap (λ u. length (put_to j (sole u.entries).put_box)) (sym v))
-          (ap (λ k. 4 * f.ranks + k) c.box_at-slot.ensures.at) was (ap suc k.0) next)),
+          (is_word ∙ ap (λ k. 4 * f.ranks + k) c.box_at-slot.ensures.at) was (ap suc k.0) c.requires.fits next)),
     )
 
 pub count_boxed-requires-clause-to : goal.count_boxed-requires-clause-to
@@ -244,7 +245,6 @@ returns-clause-stays g c =
         ap all_unpassed c.count_boxed.ensures ∙ s.1 ∙ ap (λ ps. all_unpassed ps.items) b.same.1,
       ),
       b.same.4,
-      b.same.5,
     )
 
 pub returns-clause-holding : goal.returns-clause-holding

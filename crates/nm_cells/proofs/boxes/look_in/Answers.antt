@@ -21,7 +21,8 @@ pub load-found-requires : goal.load-found-requires
 load-found-requires g c = let f = c.args.f.now in let p = c.args.port.now in
     let id = f.board.shared.table_id in let z₀ = f.sizes.0 in let b = c.box_at-slot.ensures in
     let l = b.low in let few = c.requires.peer in let o = c.requires.owns in
-    let word : ℕ = 4 * f.ranks + c.box_at-slot.result in let low : word < id.words = omega arith in
+    let is_word = c.flag_word-word.ensures in
+    let word : ℕ = c.flag_word-word.result in let low : word < id.words = omega arith in
     let place = c.peer-peer.result.box_got in let j = c.args.sender in
     let at = ap (λ (u : Peer). u.box_got) c.peer-peer.ensures ∙ peer_box_got p j
     (calls.few f p o j few) in (
@@ -34,7 +35,7 @@ load-found-requires g c = let f = c.args.f.now in let p = c.args.port.now in
           (plays.looked_in j a (step id.slots word 0 0 maybe.none) p.seat.me)) c.requires.told.1
           (look_in_allowed f.board.shared.key f.ranks f.each id.slots p.seat.id p.seat.me p.alone
           f.shape.0 f.shape.1 p.rank p.named o.1 j few place word (taken_by p j) at
-          (ap (λ k. 4 * f.ranks + k) b.at))),
+          (is_word ∙ ap (λ k. 4 * f.ranks + k) b.at))),
     )
 
 pub overflow_add-peer : goal.overflow_add-peer
@@ -53,10 +54,10 @@ invariant_of-port-clause-carries g c =
     let f = c.args.f.now in let p = c.args.port.now in let o = c.requires.owns in
     let few = c.requires.peer in let j = c.args.sender in let t = c.requires.told in
     let then = subst (λ k. plays.told_in k (taken_by p j) (step f.board.shared.table_id.slots
-    (4 * f.ranks + c.box_at-slot.result) 0 0 maybe.none) p.seat.me c.load-found.result
+    c.flag_word-word.result 0 0 maybe.none) p.seat.me c.load-found.result
     c.load-found.new.seat.me) (sym t.0)
     (subst (λ a. plays.told_in g.T.Told.peer a (step f.board.shared.table_id.slots
-    (4 * f.ranks + c.box_at-slot.result) 0 0 maybe.none) p.seat.me c.load-found.result
+    c.flag_word-word.result 0 0 maybe.none) p.seat.me c.load-found.result
     c.load-found.new.seat.me) (sym t.1) c.load-found.ensures.2.1) in
     let same = ap (λ (u : Peer). u.taken) c.peer-peer.ensures in
     let other = c.if-found-peer.true in
@@ -69,10 +70,10 @@ invariant_of-port-clause-boxes g c =
     let f = c.args.f.now in let p = c.args.port.now in let o = c.requires.owns in
     let few = c.requires.peer in let j = c.args.sender in let t = c.requires.told in
     let then = subst (λ k. plays.told_in k (taken_by p j) (step f.board.shared.table_id.slots
-    (4 * f.ranks + c.box_at-slot.result) 0 0 maybe.none) p.seat.me c.load-found.result
+    c.flag_word-word.result 0 0 maybe.none) p.seat.me c.load-found.result
     c.load-found.new.seat.me) (sym t.0)
     (subst (λ a. plays.told_in g.T.Told.peer a (step f.board.shared.table_id.slots
-    (4 * f.ranks + c.box_at-slot.result) 0 0 maybe.none) p.seat.me c.load-found.result
+    c.flag_word-word.result 0 0 maybe.none) p.seat.me c.load-found.result
     c.load-found.new.seat.me) (sym t.1) c.load-found.ensures.2.1) in
     let same = ap (λ (u : Peer). u.taken) c.peer-peer.ensures in
     let other = c.if-found-peer.true in
@@ -85,10 +86,10 @@ invariant_of-port-clause-counts g c =
     let f = c.args.f.now in let p = c.args.port.now in let o = c.requires.owns in
     let few = c.requires.peer in let j = c.args.sender in let t = c.requires.told in
     let then = subst (λ k. plays.told_in k (taken_by p j) (step f.board.shared.table_id.slots
-    (4 * f.ranks + c.box_at-slot.result) 0 0 maybe.none) p.seat.me c.load-found.result
+    c.flag_word-word.result 0 0 maybe.none) p.seat.me c.load-found.result
     c.load-found.new.seat.me) (sym t.0)
     (subst (λ a. plays.told_in g.T.Told.peer a (step f.board.shared.table_id.slots
-    (4 * f.ranks + c.box_at-slot.result) 0 0 maybe.none) p.seat.me c.load-found.result
+    c.flag_word-word.result 0 0 maybe.none) p.seat.me c.load-found.result
     c.load-found.new.seat.me) (sym t.1) c.load-found.ensures.2.1) in
     let same = ap (λ (u : Peer). u.taken) c.peer-peer.ensures in
     let other = c.if-found-peer.true in
@@ -102,10 +103,10 @@ returns-then-found-peer-clause-stays g c =
     let f = c.args.f.now in let p = c.args.port.now in let o = c.requires.owns in
     let few = c.requires.peer in let j = c.args.sender in let t = c.requires.told in
     let then = subst (λ k. plays.told_in k (taken_by p j) (step f.board.shared.table_id.slots
-    (4 * f.ranks + c.box_at-slot.result) 0 0 maybe.none) p.seat.me c.load-found.result
+    c.flag_word-word.result 0 0 maybe.none) p.seat.me c.load-found.result
     c.load-found.new.seat.me) (sym t.0)
     (subst (λ a. plays.told_in g.T.Told.peer a (step f.board.shared.table_id.slots
-    (4 * f.ranks + c.box_at-slot.result) 0 0 maybe.none) p.seat.me c.load-found.result
+    c.flag_word-word.result 0 0 maybe.none) p.seat.me c.load-found.result
     c.load-found.new.seat.me) (sym t.1) c.load-found.ensures.2.1) in
     let same = ap (λ (u : Peer). u.taken) c.peer-peer.ensures in
     let other = c.if-found-peer.true in
@@ -125,7 +126,6 @@ returns-then-found-peer-clause-stays g c =
         ap all_unpassed c.count_miss.ensures ∙ s.1,
       ),
       refl,
-      refl,
     )
 
 pub returns-then-found-peer-clause-overtaken : goal.returns-then-found-peer-clause-overtaken
@@ -133,10 +133,10 @@ returns-then-found-peer-clause-overtaken g c over =
     let f = c.args.f.now in let p = c.args.port.now in let o = c.requires.owns in
     let few = c.requires.peer in let j = c.args.sender in let t = c.requires.told in
     let then = subst (λ k. plays.told_in k (taken_by p j) (step f.board.shared.table_id.slots
-    (4 * f.ranks + c.box_at-slot.result) 0 0 maybe.none) p.seat.me c.load-found.result
+    c.flag_word-word.result 0 0 maybe.none) p.seat.me c.load-found.result
     c.load-found.new.seat.me) (sym t.0)
     (subst (λ a. plays.told_in g.T.Told.peer a (step f.board.shared.table_id.slots
-    (4 * f.ranks + c.box_at-slot.result) 0 0 maybe.none) p.seat.me c.load-found.result
+    c.flag_word-word.result 0 0 maybe.none) p.seat.me c.load-found.result
     c.load-found.new.seat.me) (sym t.1) c.load-found.ensures.2.1) in
     let same = ap (λ (u : Peer). u.taken) c.peer-peer.ensures in
     let other = c.if-found-peer.true in
@@ -148,14 +148,14 @@ take_box-requires g c =
     let f = c.args.f.now in let p = c.args.port.now in let o = c.requires.owns in
     let few = c.requires.peer in let j = c.args.sender in let t = c.requires.told in
     let then = subst (λ k. plays.told_in k (taken_by p j) (step f.board.shared.table_id.slots
-    (4 * f.ranks + c.box_at-slot.result) 0 0 maybe.none) p.seat.me c.load-found.result
+    c.flag_word-word.result 0 0 maybe.none) p.seat.me c.load-found.result
     c.load-found.new.seat.me) (sym t.0)
     (subst (λ a. plays.told_in g.T.Told.peer a (step f.board.shared.table_id.slots
-    (4 * f.ranks + c.box_at-slot.result) 0 0 maybe.none) p.seat.me c.load-found.result
+    c.flag_word-word.result 0 0 maybe.none) p.seat.me c.load-found.result
     c.load-found.new.seat.me) (sym t.1) c.load-found.ensures.2.1) in
     let same = ap (λ (u : Peer). u.taken) c.peer-peer.ensures in
     let found = c.if-found-peer.false in
-    let rs = o.2 in let word : ℕ = 4 * f.ranks + c.box_at-slot.result in
+    let rs = o.2 in let is_word = c.flag_word-word.ensures in let word : ℕ = c.flag_word-word.result in
     let back : word - 4 * (knows p).ranks ≡ c.box_at-slot.result = omega arith in
     let place = ap (λ (u : Peer). u.box_got) c.peer-peer.ensures ∙ peer_box_got p j
     (calls.few f p o j few) in
@@ -180,14 +180,14 @@ invariant_of-port-2-clause-carries g c =
     let f = c.args.f.now in let p = c.args.port.now in let o = c.requires.owns in
     let few = c.requires.peer in let j = c.args.sender in let t = c.requires.told in
     let then = subst (λ k. plays.told_in k (taken_by p j) (step f.board.shared.table_id.slots
-    (4 * f.ranks + c.box_at-slot.result) 0 0 maybe.none) p.seat.me c.load-found.result
+    c.flag_word-word.result 0 0 maybe.none) p.seat.me c.load-found.result
     c.load-found.new.seat.me) (sym t.0)
     (subst (λ a. plays.told_in g.T.Told.peer a (step f.board.shared.table_id.slots
-    (4 * f.ranks + c.box_at-slot.result) 0 0 maybe.none) p.seat.me c.load-found.result
+    c.flag_word-word.result 0 0 maybe.none) p.seat.me c.load-found.result
     c.load-found.new.seat.me) (sym t.1) c.load-found.ensures.2.1) in
     let same = ap (λ (u : Peer). u.taken) c.peer-peer.ensures in
     let found = c.if-found-peer.false in
-    let rs = o.2 in let word : ℕ = 4 * f.ranks + c.box_at-slot.result in
+    let rs = o.2 in let is_word = c.flag_word-word.ensures in let word : ℕ = c.flag_word-word.result in
     let back : word - 4 * (knows p).ranks ≡ c.box_at-slot.result = omega arith in
     let place = ap (λ (u : Peer). u.box_got) c.peer-peer.ensures ∙ peer_box_got p j
     (calls.few f p o j few) in
@@ -206,14 +206,14 @@ invariant_of-port-2-clause-boxes g c =
     let f = c.args.f.now in let p = c.args.port.now in let o = c.requires.owns in
     let few = c.requires.peer in let j = c.args.sender in let t = c.requires.told in
     let then = subst (λ k. plays.told_in k (taken_by p j) (step f.board.shared.table_id.slots
-    (4 * f.ranks + c.box_at-slot.result) 0 0 maybe.none) p.seat.me c.load-found.result
+    c.flag_word-word.result 0 0 maybe.none) p.seat.me c.load-found.result
     c.load-found.new.seat.me) (sym t.0)
     (subst (λ a. plays.told_in g.T.Told.peer a (step f.board.shared.table_id.slots
-    (4 * f.ranks + c.box_at-slot.result) 0 0 maybe.none) p.seat.me c.load-found.result
+    c.flag_word-word.result 0 0 maybe.none) p.seat.me c.load-found.result
     c.load-found.new.seat.me) (sym t.1) c.load-found.ensures.2.1) in
     let same = ap (λ (u : Peer). u.taken) c.peer-peer.ensures in
     let found = c.if-found-peer.false in
-    let rs = o.2 in let word : ℕ = 4 * f.ranks + c.box_at-slot.result in
+    let rs = o.2 in let is_word = c.flag_word-word.ensures in let word : ℕ = c.flag_word-word.result in
     let back : word - 4 * (knows p).ranks ≡ c.box_at-slot.result = omega arith in
     let place = ap (λ (u : Peer). u.box_got) c.peer-peer.ensures ∙ peer_box_got p j
     (calls.few f p o j few) in
@@ -230,14 +230,14 @@ invariant_of-port-2-clause-counts g c =
     let f = c.args.f.now in let p = c.args.port.now in let o = c.requires.owns in
     let few = c.requires.peer in let j = c.args.sender in let t = c.requires.told in
     let then = subst (λ k. plays.told_in k (taken_by p j) (step f.board.shared.table_id.slots
-    (4 * f.ranks + c.box_at-slot.result) 0 0 maybe.none) p.seat.me c.load-found.result
+    c.flag_word-word.result 0 0 maybe.none) p.seat.me c.load-found.result
     c.load-found.new.seat.me) (sym t.0)
     (subst (λ a. plays.told_in g.T.Told.peer a (step f.board.shared.table_id.slots
-    (4 * f.ranks + c.box_at-slot.result) 0 0 maybe.none) p.seat.me c.load-found.result
+    c.flag_word-word.result 0 0 maybe.none) p.seat.me c.load-found.result
     c.load-found.new.seat.me) (sym t.1) c.load-found.ensures.2.1) in
     let same = ap (λ (u : Peer). u.taken) c.peer-peer.ensures in
     let found = c.if-found-peer.false in
-    let rs = o.2 in let word : ℕ = 4 * f.ranks + c.box_at-slot.result in
+    let rs = o.2 in let is_word = c.flag_word-word.ensures in let word : ℕ = c.flag_word-word.result in
     let back : word - 4 * (knows p).ranks ≡ c.box_at-slot.result = omega arith in
     let place = ap (λ (u : Peer). u.box_got) c.peer-peer.ensures ∙ peer_box_got p j
     (calls.few f p o j few) in
@@ -255,14 +255,14 @@ returns-clause-stays g c =
     let f = c.args.f.now in let p = c.args.port.now in let o = c.requires.owns in
     let few = c.requires.peer in let j = c.args.sender in let t = c.requires.told in
     let then = subst (λ k. plays.told_in k (taken_by p j) (step f.board.shared.table_id.slots
-    (4 * f.ranks + c.box_at-slot.result) 0 0 maybe.none) p.seat.me c.load-found.result
+    c.flag_word-word.result 0 0 maybe.none) p.seat.me c.load-found.result
     c.load-found.new.seat.me) (sym t.0)
     (subst (λ a. plays.told_in g.T.Told.peer a (step f.board.shared.table_id.slots
-    (4 * f.ranks + c.box_at-slot.result) 0 0 maybe.none) p.seat.me c.load-found.result
+    c.flag_word-word.result 0 0 maybe.none) p.seat.me c.load-found.result
     c.load-found.new.seat.me) (sym t.1) c.load-found.ensures.2.1) in
     let same = ap (λ (u : Peer). u.taken) c.peer-peer.ensures in
     let found = c.if-found-peer.false in
-    let rs = o.2 in let word : ℕ = 4 * f.ranks + c.box_at-slot.result in
+    let rs = o.2 in let is_word = c.flag_word-word.ensures in let word : ℕ = c.flag_word-word.result in
     let back : word - 4 * (knows p).ranks ≡ c.box_at-slot.result = omega arith in
     let place = ap (λ (u : Peer). u.box_got) c.peer-peer.ensures ∙ peer_box_got p j
     (calls.few f p o j few) in
@@ -287,7 +287,6 @@ returns-clause-stays g c =
         ap all_unpassed c.note_emptying.ensures ∙ s.1,
       ),
       refl,
-      refl,
     )
 
 pub invariant_of-port-clause-kept : goal.invariant_of-port-clause-kept
@@ -295,10 +294,10 @@ invariant_of-port-clause-kept g c =
     let f = c.args.f.now in let p = c.args.port.now in let o = c.requires.owns in
     let few = c.requires.peer in let j = c.args.sender in let t = c.requires.told in
     let then = subst (λ k. plays.told_in k (taken_by p j) (step f.board.shared.table_id.slots
-    (4 * f.ranks + c.box_at-slot.result) 0 0 maybe.none) p.seat.me c.load-found.result
+    c.flag_word-word.result 0 0 maybe.none) p.seat.me c.load-found.result
     c.load-found.new.seat.me) (sym t.0)
     (subst (λ a. plays.told_in g.T.Told.peer a (step f.board.shared.table_id.slots
-    (4 * f.ranks + c.box_at-slot.result) 0 0 maybe.none) p.seat.me c.load-found.result
+    c.flag_word-word.result 0 0 maybe.none) p.seat.me c.load-found.result
     c.load-found.new.seat.me) (sym t.1) c.load-found.ensures.2.1) in
     let same = ap (λ (u : Peer). u.taken) c.peer-peer.ensures in
     let other = c.if-found-peer.true in
@@ -311,14 +310,14 @@ invariant_of-port-2-clause-kept g c =
     let f = c.args.f.now in let p = c.args.port.now in let o = c.requires.owns in
     let few = c.requires.peer in let j = c.args.sender in let t = c.requires.told in
     let then = subst (λ k. plays.told_in k (taken_by p j) (step f.board.shared.table_id.slots
-    (4 * f.ranks + c.box_at-slot.result) 0 0 maybe.none) p.seat.me c.load-found.result
+    c.flag_word-word.result 0 0 maybe.none) p.seat.me c.load-found.result
     c.load-found.new.seat.me) (sym t.0)
     (subst (λ a. plays.told_in g.T.Told.peer a (step f.board.shared.table_id.slots
-    (4 * f.ranks + c.box_at-slot.result) 0 0 maybe.none) p.seat.me c.load-found.result
+    c.flag_word-word.result 0 0 maybe.none) p.seat.me c.load-found.result
     c.load-found.new.seat.me) (sym t.1) c.load-found.ensures.2.1) in
     let same = ap (λ (u : Peer). u.taken) c.peer-peer.ensures in
     let found = c.if-found-peer.false in
-    let rs = o.2 in let word : ℕ = 4 * f.ranks + c.box_at-slot.result in
+    let rs = o.2 in let is_word = c.flag_word-word.ensures in let word : ℕ = c.flag_word-word.result in
     let back : word - 4 * (knows p).ranks ≡ c.box_at-slot.result = omega arith in
     let place = ap (λ (u : Peer). u.box_got) c.peer-peer.ensures ∙ peer_box_got p j
     (calls.few f p o j few) in

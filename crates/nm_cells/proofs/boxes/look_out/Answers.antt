@@ -23,7 +23,8 @@ pub load-found-requires : goal.load-found-requires
 load-found-requires g c = let f = c.args.f.now in let p = c.args.port.now in
     let id = f.board.shared.table_id in let z₀ = f.sizes.0 in let b = c.box_at-slot.ensures in
     let l = b.low in let few = c.requires.peer in let o = c.requires.owns in
-    let word : ℕ = 4 * f.ranks + c.box_at-slot.result in let low : word < id.words = omega arith in
+    let is_word = c.flag_word-word.ensures in
+    let word : ℕ = c.flag_word-word.result in let low : word < id.words = omega arith in
     let place = c.peer-peer.result.box_put in
     let at = ap (λ (u : Peer). u.box_put) c.peer-peer.ensures ∙ peer_box_put p c.args.to
     (calls.few f p o c.args.to few) in (
@@ -33,7 +34,7 @@ load-found-requires g c = let f = c.args.f.now in let p = c.args.port.now in
           (plays.looked_out t (step id.slots word 0 0 maybe.none) p.seat.me)) c.requires.told
           (look_out_allowed f.board.shared.key f.ranks f.each id.slots p.seat.id p.seat.me p.alone
           f.shape.0 f.shape.1 p.rank p.named o.1 c.args.to few place word at
-          (ap (λ k. 4 * f.ranks + k) b.at)),
+          (is_word ∙ ap (λ k. 4 * f.ranks + k) b.at)),
     )
 
 pub invariant_of-port-clause-carries : goal.invariant_of-port-clause-carries
@@ -41,7 +42,7 @@ invariant_of-port-clause-carries g c =
     let f = c.args.f.now in let p = c.args.port.now in let o = c.requires.owns in
     let few = c.requires.peer in
     let then = subst (λ t. plays.told_out t (step f.board.shared.table_id.slots
-    (4 * f.ranks + c.box_at-slot.result) 0 0 maybe.none) p.seat.me c.load-found.result
+    c.flag_word-word.result 0 0 maybe.none) p.seat.me c.load-found.result
     c.load-found.new.seat.me) (sym c.requires.told) c.load-found.ensures.2.1 in
     let some = c.if-found-ne0.true in let is = then.1 (omega arith) in
     subst (λ m. CarriesFor m p.carried.items (vec_capacity p.carried) p.hands) (sym is) p.carries
@@ -51,7 +52,7 @@ invariant_of-port-clause-boxes g c =
     let f = c.args.f.now in let p = c.args.port.now in let o = c.requires.owns in
     let few = c.requires.peer in
     let then = subst (λ t. plays.told_out t (step f.board.shared.table_id.slots
-    (4 * f.ranks + c.box_at-slot.result) 0 0 maybe.none) p.seat.me c.load-found.result
+    c.flag_word-word.result 0 0 maybe.none) p.seat.me c.load-found.result
     c.load-found.new.seat.me) (sym c.requires.told) c.load-found.ensures.2.1 in
     let some = c.if-found-ne0.true in let is = then.1 (omega arith) in
     subst (λ (m : plays.Knowing). HoldsBoxes (mine m) m.1) (sym is) p.boxes
@@ -61,7 +62,7 @@ invariant_of-port-clause-counts g c =
     let f = c.args.f.now in let p = c.args.port.now in let o = c.requires.owns in
     let few = c.requires.peer in
     let then = subst (λ t. plays.told_out t (step f.board.shared.table_id.slots
-    (4 * f.ranks + c.box_at-slot.result) 0 0 maybe.none) p.seat.me c.load-found.result
+    c.flag_word-word.result 0 0 maybe.none) p.seat.me c.load-found.result
     c.load-found.new.seat.me) (sym c.requires.told) c.load-found.ensures.2.1 in
     let some = c.if-found-ne0.true in let is = then.1 (omega arith) in
     calls.full_counts f p o c.args.to few c.load-found.new.seat.me c.box_at-slot.result is
@@ -72,7 +73,7 @@ returns-then-found-ne0-clause-stays g c =
     let f = c.args.f.now in let p = c.args.port.now in let o = c.requires.owns in
     let few = c.requires.peer in
     let then = subst (λ t. plays.told_out t (step f.board.shared.table_id.slots
-    (4 * f.ranks + c.box_at-slot.result) 0 0 maybe.none) p.seat.me c.load-found.result
+    c.flag_word-word.result 0 0 maybe.none) p.seat.me c.load-found.result
     c.load-found.new.seat.me) (sym c.requires.told) c.load-found.ensures.2.1 in
     let some = c.if-found-ne0.true in let is = then.1 (omega arith) in
     let t = calls.peers_stay one_full c.args.to p.peers.items
@@ -89,7 +90,6 @@ returns-then-found-ne0-clause-stays g c =
         ap all_unpassed c.count_full.ensures ∙ t.1,
       ),
       refl,
-      refl,
     )
 
 pub take_box-requires : goal.take_box-requires
@@ -97,10 +97,10 @@ take_box-requires g c =
     let f = c.args.f.now in let p = c.args.port.now in let o = c.requires.owns in
     let few = c.requires.peer in
     let then = subst (λ t. plays.told_out t (step f.board.shared.table_id.slots
-    (4 * f.ranks + c.box_at-slot.result) 0 0 maybe.none) p.seat.me c.load-found.result
+    c.flag_word-word.result 0 0 maybe.none) p.seat.me c.load-found.result
     c.load-found.new.seat.me) (sym c.requires.told) c.load-found.ensures.2.1 in
     let none = c.if-found-ne0.false in let free = then.0 (omega arith) in
-    let rs = o.2 in let word : ℕ = 4 * f.ranks + c.box_at-slot.result in
+    let rs = o.2 in let is_word = c.flag_word-word.ensures in let word : ℕ = c.flag_word-word.result in
     let back : word - 4 * (knows p).ranks ≡ c.box_at-slot.result = omega arith in
     let place = ap (λ (u : Peer). u.box_put) c.peer-peer.ensures ∙ peer_box_put p c.args.to
     (calls.few f p o c.args.to few) in
@@ -126,10 +126,10 @@ invariant_of-port-2-clause-carries g c =
     let f = c.args.f.now in let p = c.args.port.now in let o = c.requires.owns in
     let few = c.requires.peer in
     let then = subst (λ t. plays.told_out t (step f.board.shared.table_id.slots
-    (4 * f.ranks + c.box_at-slot.result) 0 0 maybe.none) p.seat.me c.load-found.result
+    c.flag_word-word.result 0 0 maybe.none) p.seat.me c.load-found.result
     c.load-found.new.seat.me) (sym c.requires.told) c.load-found.ensures.2.1 in
     let none = c.if-found-ne0.false in let free = then.0 (omega arith) in
-    let rs = o.2 in let word : ℕ = 4 * f.ranks + c.box_at-slot.result in
+    let rs = o.2 in let is_word = c.flag_word-word.ensures in let word : ℕ = c.flag_word-word.result in
     let back : word - 4 * (knows p).ranks ≡ c.box_at-slot.result = omega arith in
     let place = ap (λ (u : Peer). u.box_put) c.peer-peer.ensures ∙ peer_box_put p c.args.to
     (calls.few f p o c.args.to few) in
@@ -150,10 +150,10 @@ invariant_of-port-2-clause-boxes g c =
     let f = c.args.f.now in let p = c.args.port.now in let o = c.requires.owns in
     let few = c.requires.peer in
     let then = subst (λ t. plays.told_out t (step f.board.shared.table_id.slots
-    (4 * f.ranks + c.box_at-slot.result) 0 0 maybe.none) p.seat.me c.load-found.result
+    c.flag_word-word.result 0 0 maybe.none) p.seat.me c.load-found.result
     c.load-found.new.seat.me) (sym c.requires.told) c.load-found.ensures.2.1 in
     let none = c.if-found-ne0.false in let free = then.0 (omega arith) in
-    let rs = o.2 in let word : ℕ = 4 * f.ranks + c.box_at-slot.result in
+    let rs = o.2 in let is_word = c.flag_word-word.ensures in let word : ℕ = c.flag_word-word.result in
     let back : word - 4 * (knows p).ranks ≡ c.box_at-slot.result = omega arith in
     let place = ap (λ (u : Peer). u.box_put) c.peer-peer.ensures ∙ peer_box_put p c.args.to
     (calls.few f p o c.args.to few) in
@@ -172,10 +172,10 @@ invariant_of-port-2-clause-counts g c =
     let f = c.args.f.now in let p = c.args.port.now in let o = c.requires.owns in
     let few = c.requires.peer in
     let then = subst (λ t. plays.told_out t (step f.board.shared.table_id.slots
-    (4 * f.ranks + c.box_at-slot.result) 0 0 maybe.none) p.seat.me c.load-found.result
+    c.flag_word-word.result 0 0 maybe.none) p.seat.me c.load-found.result
     c.load-found.new.seat.me) (sym c.requires.told) c.load-found.ensures.2.1 in
     let none = c.if-found-ne0.false in let free = then.0 (omega arith) in
-    let rs = o.2 in let word : ℕ = 4 * f.ranks + c.box_at-slot.result in
+    let rs = o.2 in let is_word = c.flag_word-word.ensures in let word : ℕ = c.flag_word-word.result in
     let back : word - 4 * (knows p).ranks ≡ c.box_at-slot.result = omega arith in
     let place = ap (λ (u : Peer). u.box_put) c.peer-peer.ensures ∙ peer_box_put p c.args.to
     (calls.few f p o c.args.to few) in
@@ -194,10 +194,10 @@ returns-clause-stays g c =
     let f = c.args.f.now in let p = c.args.port.now in let o = c.requires.owns in
     let few = c.requires.peer in
     let then = subst (λ t. plays.told_out t (step f.board.shared.table_id.slots
-    (4 * f.ranks + c.box_at-slot.result) 0 0 maybe.none) p.seat.me c.load-found.result
+    c.flag_word-word.result 0 0 maybe.none) p.seat.me c.load-found.result
     c.load-found.new.seat.me) (sym c.requires.told) c.load-found.ensures.2.1 in
     let none = c.if-found-ne0.false in let free = then.0 (omega arith) in
-    let rs = o.2 in let word : ℕ = 4 * f.ranks + c.box_at-slot.result in
+    let rs = o.2 in let is_word = c.flag_word-word.ensures in let word : ℕ = c.flag_word-word.result in
     let back : word - 4 * (knows p).ranks ≡ c.box_at-slot.result = omega arith in
     let place = ap (λ (u : Peer). u.box_put) c.peer-peer.ensures ∙ peer_box_put p c.args.to
     (calls.few f p o c.args.to few) in
@@ -224,7 +224,6 @@ returns-clause-stays g c =
         ap all_unpassed c.note_filling.ensures ∙ t.1,
       ),
       refl,
-      refl,
     )
 
 pub invariant_of-port-clause-kept : goal.invariant_of-port-clause-kept
@@ -232,7 +231,7 @@ invariant_of-port-clause-kept g c =
     let f = c.args.f.now in let p = c.args.port.now in let o = c.requires.owns in
     let few = c.requires.peer in
     let then = subst (λ t. plays.told_out t (step f.board.shared.table_id.slots
-    (4 * f.ranks + c.box_at-slot.result) 0 0 maybe.none) p.seat.me c.load-found.result
+    c.flag_word-word.result 0 0 maybe.none) p.seat.me c.load-found.result
     c.load-found.new.seat.me) (sym c.requires.told) c.load-found.ensures.2.1 in
     let some = c.if-found-ne0.true in let is = then.1 (omega arith) in
     subst (λ (m : plays.Knowing). AreKept p.loose (mine m) m.1) (sym is) p.kept
@@ -242,10 +241,10 @@ invariant_of-port-2-clause-kept g c =
     let f = c.args.f.now in let p = c.args.port.now in let o = c.requires.owns in
     let few = c.requires.peer in
     let then = subst (λ t. plays.told_out t (step f.board.shared.table_id.slots
-    (4 * f.ranks + c.box_at-slot.result) 0 0 maybe.none) p.seat.me c.load-found.result
+    c.flag_word-word.result 0 0 maybe.none) p.seat.me c.load-found.result
     c.load-found.new.seat.me) (sym c.requires.told) c.load-found.ensures.2.1 in
     let none = c.if-found-ne0.false in let free = then.0 (omega arith) in
-    let rs = o.2 in let word : ℕ = 4 * f.ranks + c.box_at-slot.result in
+    let rs = o.2 in let is_word = c.flag_word-word.ensures in let word : ℕ = c.flag_word-word.result in
     let back : word - 4 * (knows p).ranks ≡ c.box_at-slot.result = omega arith in
     let place = ap (λ (u : Peer). u.box_put) c.peer-peer.ensures ∙ peer_box_put p c.args.to
     (calls.few f p o c.args.to few) in

@@ -32,7 +32,7 @@ loop-cell-preserved c = let f = c.args.f.now in let h = c.loop-cell.invariant in
           (subst (λ n. k < n) (sym h.0.0.4) here.0))))
           (λ ne. ⊎_elim (λ a. inl (ap (λ y. hand y d) now
           ∙ get_or-set_other (knows p).hands k d Away Away ne ∙ a))
-          (λ i. inr (subst (λ x. IsAmong x d) (sym e.stays.4) ((free.others d).1 (i, ne))))
+          (λ i. inr (subst (λ x. IsAmong x d) (sym e.stays.3) ((free.others d).1 (i, ne))))
           (h.1 d low))),
     )
 

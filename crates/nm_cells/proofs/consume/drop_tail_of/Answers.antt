@@ -4,7 +4,7 @@ use Rattle.std.specs.Prelude.{vec_capacity}
 use Rattle.nm_table.proofs.ConsumerLemmas.{drain_allowed}
 use Rattle.nm_cells.proofs.PortLemmas.{takes_room, takes_carries, takes_hands}
 use Rattle.nm_cells.proofs.PortLemmas.{takes_boxes, takes_kept, takes_count, takes_counts, takes_made}
-use Rattle.nm_cells.proofs.PortLemmas.{takes_own, takes_owner}
+use Rattle.nm_cells.proofs.PortLemmas.{takes_own, takes_owner, takes_shadow}
 use Rattle.nm_table.specs.Plays.{Knowing, mine}
 use Rattle.nm_cells.specs.AtWork.{HoldsBoxes}
 use Rattle.nm_cells.specs.LooseCells.{AreKept}
@@ -14,7 +14,8 @@ pub compare_exchange-found-requires : goal.compare_exchange-found-requires
 compare_exchange-found-requires g c = let f = c.args.f.now in let p = c.args.port.now in
     let z = f.sizes.0 in let is = ap (λ e. e.shadow) c.heads-shadow.ensures in
     let w = c.own_queue.ensures in let fits = w.fits in
-    let low : 2 * f.ranks + c.own_queue.result < f.board.shared.table_id.words = omega arith in (
+    let low : 2 * f.ranks + c.own_queue.result < f.board.shared.table_id.words = omega arith in
+    rw c.tail_word-word.ensures (
       c.requires.owns.0,
       low,
       drain_allowed f.board.shared.key f.ranks f.board.shared.table_id.slots p.seat.id p.seat.me
@@ -86,7 +87,7 @@ returns-clause-some g c = let f = c.args.f.now in let p = c.args.port.now in
     let k = c.heads-shadow.result.shadow - 1 in let same = c.if-found-shadow.false in
     takes_made _ f p k k 0 c.compare_exchange-found.new.seat.me c.requires.owns
     (c.compare_exchange-found.ensures.2.3 same) refl _ _ refl c.first_taken.ensures.cell.0
-    c.first_taken.ensures.cell.1 refl c.first_taken.ensures.peers c.first_taken.ensures.hands c.set-2.ensures.told c.set-2.ensures.others refl
+    c.first_taken.ensures.cell.1 refl c.first_taken.ensures.peers c.first_taken.ensures.hands refl
     (let is = ap (λ e. e.shadow) c.heads-shadow.ensures in let some = c.requires.first in omega arith)
 
 pub invariant_of-port-clause-kept : goal.invariant_of-port-clause-kept
@@ -98,4 +99,10 @@ pub invariant_of-port-2-clause-kept : goal.invariant_of-port-2-clause-kept
 invariant_of-port-2-clause-kept g c = let f = c.args.f.now in let p = c.args.port.now in
     let k = c.heads-shadow.result.shadow - 1 in let same = c.if-found-shadow.false in
     takes_kept _ f p k k 0 c.compare_exchange-found.new.seat.me c.requires.owns
+    (c.compare_exchange-found.ensures.2.3 same) refl
+
+pub returns-clause-next : goal.returns-clause-next
+returns-clause-next g c = let f = c.args.f.now in let p = c.args.port.now in
+    let k = c.heads-shadow.result.shadow - 1 in let same = c.if-found-shadow.false in
+    takes_shadow _ f p k k 0 c.compare_exchange-found.new.seat.me c.requires.owns
     (c.compare_exchange-found.ensures.2.3 same) refl

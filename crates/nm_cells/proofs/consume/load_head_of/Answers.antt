@@ -10,12 +10,12 @@ use Rattle.nm_cells.proofs.consume.load_head_of.Goals as goal
 
 pub load-found-requires : goal.load-found-requires
 load-found-requires g c = let f = c.args.f.now in let p = c.args.port.now in let z = f.sizes.0 in
-    let w = c.own_queue-word.ensures in let fits = w.fits in
-    let low : c.own_queue-word.result < f.board.shared.table_id.words = omega arith in (
+    let w = c.own_queue.ensures in let fits = w.fits in
+    let low : c.own_queue.result < f.board.shared.table_id.words = omega arith in rw c.head_word-word.ensures (
       c.requires.owns.0,
       low,
       note_allowed f.board.shared.key f.ranks f.board.shared.table_id.slots p.seat.id p.seat.me
-          p.alone f.shape.0 p.rank p.named c.requires.owns.1 _ c.own_queue-word.result w.own,
+          p.alone f.shape.0 p.rank p.named c.requires.owns.1 _ c.own_queue.result w.own,
     )
 
 pub invariant_of-port-clause-boxes : goal.invariant_of-port-clause-boxes

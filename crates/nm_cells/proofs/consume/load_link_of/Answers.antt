@@ -4,7 +4,7 @@ use Rattle.std.proofs.Common.{arith}
 use Rattle.std.specs.Prelude.{vec_capacity}
 use Rattle.nm_cells.specs.Ports.{knows}
 use Rattle.nm_table.proofs.ConsumerLemmas.{pass_allowed}
-use Rattle.nm_cells.proofs.PortLemmas.{shadow_below, takes_room, takes_carries, takes_hands}
+use Rattle.nm_cells.proofs.PortLemmas.{shadow_below, takes_shadow, takes_room, takes_carries, takes_hands}
 use Rattle.nm_cells.proofs.PortLemmas.{takes_boxes, takes_kept, takes_count, takes_counts, takes_made}
 use Rattle.nm_cells.proofs.PortLemmas.{takes_own, takes_owner}
 use Rattle.nm_table.specs.Plays.{Knowing, mine}
@@ -18,7 +18,7 @@ load-found-requires g c = let f = c.args.f.now in let p = c.args.port.now in let
     let fits = shadow_below _ p c.heads-number.result c.heads-number.ensures in
     let most = c.requires.owns.4 in
     let low : 4 * f.ranks + (c.heads-number.result.shadow - 1) < f.board.shared.table_id.words =
-    omega arith in (
+    omega arith in rw c.link_word-word.ensures (
       c.requires.owns.0,
       low,
       pass_allowed f.board.shared.key f.ranks f.board.shared.table_id.slots p.seat.id p.seat.me
@@ -29,43 +29,48 @@ load-found-requires g c = let f = c.args.f.now in let p = c.args.port.now in let
 pub first_taken-requires-clause-own : goal.first_taken-requires-clause-own
 first_taken-requires-clause-own g c = let f = c.args.f.now in let p = c.args.port.now in
     let k = c.heads-number.result.shadow - 1 in let rs = c.requires.owns.2 in
-    let at : (4 * f.ranks + k) - 4 * (knows p).ranks ≡ k = omega arith in
+    let is_word = c.link_word-word.ensures in
+    let at : c.link_word-word.result - 4 * (knows p).ranks ≡ k = omega arith in
     let some = c.if-found-eq0.false in
-    takes_own _ f p ((4 * f.ranks + k) - 4 * (knows p).ranks) k c.load-found.result
+    takes_own _ f p (c.link_word-word.result - 4 * (knows p).ranks) k c.load-found.result
     c.load-found.new.seat.me c.requires.owns (c.load-found.ensures.2.2 (omega arith)) at
 
 pub first_taken-requires-clause-count : goal.first_taken-requires-clause-count
 first_taken-requires-clause-count g c = let f = c.args.f.now in let p = c.args.port.now in
     let k = c.heads-number.result.shadow - 1 in let rs = c.requires.owns.2 in
-    let at : (4 * f.ranks + k) - 4 * (knows p).ranks ≡ k = omega arith in
+    let is_word = c.link_word-word.ensures in
+    let at : c.link_word-word.result - 4 * (knows p).ranks ≡ k = omega arith in
     let some = c.if-found-eq0.false in
-    takes_count _ f p ((4 * f.ranks + k) - 4 * (knows p).ranks) k c.load-found.result
+    takes_count _ f p (c.link_word-word.result - 4 * (knows p).ranks) k c.load-found.result
     c.load-found.new.seat.me c.requires.owns (c.load-found.ensures.2.2 (omega arith)) at
 
 pub first_taken-requires-clause-low : goal.first_taken-requires-clause-low
 first_taken-requires-clause-low g c = let f = c.args.f.now in let p = c.args.port.now in
     let k = c.heads-number.result.shadow - 1 in let rs = c.requires.owns.2 in
-    let at : (4 * f.ranks + k) - 4 * (knows p).ranks ≡ k = omega arith in
+    let is_word = c.link_word-word.ensures in
+    let at : c.link_word-word.result - 4 * (knows p).ranks ≡ k = omega arith in
     let some = c.if-found-eq0.false in let some_each = f.small.1 in (
       some_each,
-      takes_owner _ f p ((4 * f.ranks + k) - 4 * (knows p).ranks) k c.load-found.result
+      takes_owner _ f p (c.link_word-word.result - 4 * (knows p).ranks) k c.load-found.result
           c.load-found.new.seat.me c.requires.owns (c.load-found.ensures.2.2 (omega arith)) at,
     )
 
 pub first_taken-requires-clause-room : goal.first_taken-requires-clause-room
 first_taken-requires-clause-room g c = let f = c.args.f.now in let p = c.args.port.now in
     let k = c.heads-number.result.shadow - 1 in let rs = c.requires.owns.2 in
-    let at : (4 * f.ranks + k) - 4 * (knows p).ranks ≡ k = omega arith in
+    let is_word = c.link_word-word.ensures in
+    let at : c.link_word-word.result - 4 * (knows p).ranks ≡ k = omega arith in
     let some = c.if-found-eq0.false in
-    takes_room _ f p ((4 * f.ranks + k) - 4 * (knows p).ranks) k c.load-found.result
+    takes_room _ f p (c.link_word-word.result - 4 * (knows p).ranks) k c.load-found.result
     c.load-found.new.seat.me c.requires.owns (c.load-found.ensures.2.2 (omega arith)) at
 
 pub first_taken-requires-clause-few : goal.first_taken-requires-clause-few
 first_taken-requires-clause-few g c = let f = c.args.f.now in let p = c.args.port.now in
     let k = c.heads-number.result.shadow - 1 in let rs = c.requires.owns.2 in
-    let at : (4 * f.ranks + k) - 4 * (knows p).ranks ≡ k = omega arith in
+    let is_word = c.link_word-word.ensures in
+    let at : c.link_word-word.result - 4 * (knows p).ranks ≡ k = omega arith in
     let some = c.if-found-eq0.false in
-    let most = takes_hands _ f p ((4 * f.ranks + k) - 4 * (knows p).ranks) k c.load-found.result
+    let most = takes_hands _ f p (c.link_word-word.result - 4 * (knows p).ranks) k c.load-found.result
     c.load-found.new.seat.me c.requires.owns (c.load-found.ensures.2.2 (omega arith)) at in
     omega arith
 
@@ -77,9 +82,10 @@ invariant_of-port-clause-boxes g c = let p = c.args.port.now in
 pub invariant_of-port-2-clause-carries : goal.invariant_of-port-2-clause-carries
 invariant_of-port-2-clause-carries g c = let f = c.args.f.now in let p = c.args.port.now in
     let k = c.heads-number.result.shadow - 1 in let rs = c.requires.owns.2 in
-    let at : (4 * f.ranks + k) - 4 * (knows p).ranks ≡ k = omega arith in
+    let is_word = c.link_word-word.ensures in
+    let at : c.link_word-word.result - 4 * (knows p).ranks ≡ k = omega arith in
     let some = c.if-found-eq0.false in
-    takes_carries _ f p ((4 * f.ranks + k) - 4 * (knows p).ranks) k c.load-found.result
+    takes_carries _ f p (c.link_word-word.result - 4 * (knows p).ranks) k c.load-found.result
     c.load-found.new.seat.me c.requires.owns (c.load-found.ensures.2.2 (omega arith)) at
     c.first_taken.new.carried.items (vec_capacity c.first_taken.new.carried)
     c.first_taken.new.hands c.first_taken.ensures.items c.first_taken.ensures.capacity c.first_taken.ensures.hands
@@ -87,28 +93,32 @@ invariant_of-port-2-clause-carries g c = let f = c.args.f.now in let p = c.args.
 pub invariant_of-port-2-clause-boxes : goal.invariant_of-port-2-clause-boxes
 invariant_of-port-2-clause-boxes g c = let f = c.args.f.now in let p = c.args.port.now in
     let k = c.heads-number.result.shadow - 1 in let rs = c.requires.owns.2 in
-    let at : (4 * f.ranks + k) - 4 * (knows p).ranks ≡ k = omega arith in
+    let is_word = c.link_word-word.ensures in
+    let at : c.link_word-word.result - 4 * (knows p).ranks ≡ k = omega arith in
     let some = c.if-found-eq0.false in
-    takes_boxes _ f p ((4 * f.ranks + k) - 4 * (knows p).ranks) k c.load-found.result
+    takes_boxes _ f p (c.link_word-word.result - 4 * (knows p).ranks) k c.load-found.result
     c.load-found.new.seat.me c.requires.owns (c.load-found.ensures.2.2 (omega arith)) at
 
 pub invariant_of-port-2-clause-counts : goal.invariant_of-port-2-clause-counts
 invariant_of-port-2-clause-counts g c = let f = c.args.f.now in let p = c.args.port.now in
     let k = c.heads-number.result.shadow - 1 in let rs = c.requires.owns.2 in
-    let at : (4 * f.ranks + k) - 4 * (knows p).ranks ≡ k = omega arith in
+    let is_word = c.link_word-word.ensures in
+    let at : c.link_word-word.result - 4 * (knows p).ranks ≡ k = omega arith in
     let some = c.if-found-eq0.false in
-    takes_counts _ f p ((4 * f.ranks + k) - 4 * (knows p).ranks) k c.load-found.result
+    takes_counts _ f p (c.link_word-word.result - 4 * (knows p).ranks) k c.load-found.result
     c.load-found.new.seat.me c.requires.owns (c.load-found.ensures.2.2 (omega arith)) at
     c.first_taken.new.peers.items c.first_taken.ensures.peers
 
 pub returns-clause-some : goal.returns-clause-some
 returns-clause-some g c = let f = c.args.f.now in let p = c.args.port.now in
     let k = c.heads-number.result.shadow - 1 in let rs = c.requires.owns.2 in
-    let at : (4 * f.ranks + k) - 4 * (knows p).ranks ≡ k = omega arith in
+    let is_word = c.link_word-word.ensures in
+    let at : c.link_word-word.result - 4 * (knows p).ranks ≡ k = omega arith in
     let some = c.if-found-eq0.false in
-    takes_made _ f p ((4 * f.ranks + k) - 4 * (knows p).ranks) k c.load-found.result
+    takes_made _ f p (c.link_word-word.result - 4 * (knows p).ranks) k c.load-found.result
     c.load-found.new.seat.me c.requires.owns (c.load-found.ensures.2.2 (omega arith)) at _ _
-    refl c.first_taken.ensures.cell.0 c.first_taken.ensures.cell.1 refl c.first_taken.ensures.peers c.first_taken.ensures.hands c.set-2.ensures.told c.set-2.ensures.others refl
+    refl c.first_taken.ensures.cell.0 c.first_taken.ensures.cell.1 refl
+    c.first_taken.ensures.peers c.first_taken.ensures.hands refl
     (let is = ap (λ e. e.shadow) c.heads-number.ensures in let some = c.requires.first in omega arith)
 
 pub invariant_of-port-clause-kept : goal.invariant_of-port-clause-kept
@@ -119,7 +129,19 @@ invariant_of-port-clause-kept g c = let p = c.args.port.now in
 pub invariant_of-port-2-clause-kept : goal.invariant_of-port-2-clause-kept
 invariant_of-port-2-clause-kept g c = let f = c.args.f.now in let p = c.args.port.now in
     let k = c.heads-number.result.shadow - 1 in let rs = c.requires.owns.2 in
-    let at : (4 * f.ranks + k) - 4 * (knows p).ranks ≡ k = omega arith in
+    let is_word = c.link_word-word.ensures in
+    let at : c.link_word-word.result - 4 * (knows p).ranks ≡ k = omega arith in
     let some = c.if-found-eq0.false in
-    takes_kept _ f p ((4 * f.ranks + k) - 4 * (knows p).ranks) k c.load-found.result
+    takes_kept _ f p (c.link_word-word.result - 4 * (knows p).ranks) k c.load-found.result
     c.load-found.new.seat.me c.requires.owns (c.load-found.ensures.2.2 (omega arith)) at
+
+pub returns-clause-next : goal.returns-clause-next
+returns-clause-next g c = let f = c.args.f.now in let p = c.args.port.now in
+    let k = c.heads-number.result.shadow - 1 in let rs = c.requires.owns.2 in
+    let is_word = c.link_word-word.ensures in
+    let at : c.link_word-word.result - 4 * (knows p).ranks ≡ k = omega arith in
+    let some = c.if-found-eq0.false in
+    subst (λ n. 0 < n)
+    (sym (takes_shadow _ f p (c.link_word-word.result - 4 * (knows p).ranks) k c.load-found.result
+    c.load-found.new.seat.me c.requires.owns (c.load-found.ensures.2.2 (omega arith)) at))
+    (omega arith)

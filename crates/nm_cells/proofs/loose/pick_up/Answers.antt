@@ -9,10 +9,10 @@ use Rattle.nm_cells.proofs.BeginLemmas.{picked_room, picked_carries, picked_boxe
 use Rattle.nm_cells.proofs.PortLemmas.{CarriesFor}
 use Rattle.nm_cells.proofs.loose.pick_up.Goals as goal
 
-pub load-port-requires : goal.load-port-requires
-load-port-requires c = let f = c.args.f.now in let p = c.args.port.now in
+pub load-requires : goal.load-requires
+load-requires c = let f = c.args.f.now in let p = c.args.port.now in
     let few = c.requires.low in let z = f.sizes.0 in
-    let low : 4 * f.ranks + p.loose.end < f.board.shared.table_id.words = omega arith in (
+    let low : 4 * f.ranks + p.loose.end < f.board.shared.table_id.words = omega arith in rw c.link_word-word.ensures (
       c.requires.owns.0,
       low,
       pick_allowed f.board.shared.key f.ranks f.each f.board.shared.table_id.slots p.seat.id
@@ -24,38 +24,42 @@ load-port-requires c = let f = c.args.f.now in let p = c.args.port.now in
 pub carry-requires : goal.carry-requires
 carry-requires c = let f = c.args.f.now in let p = c.args.port.now in let e = knows p in
     let k = p.loose.end in let rs = c.requires.owns.2 in
-    let at : (4 * f.ranks + k) - 4 * e.ranks ≡ k = omega arith in
-    let r = picked_room p.seat.me c.load-port.new.seat.me k
+    let is_word = c.link_word-word.ensures in
+    let at : c.link_word-word.result - 4 * e.ranks ≡ k = omega arith in
+    let r = picked_room p.seat.me c.load.new.seat.me k
     (subst (λ n. k < n) (sym c.requires.owns.4) c.requires.low) c.requires.untouched
-    (c.load-port.ensures.2.1 ∙ ap (λ d. (view (with_hand d Held e ∷ []), (d, None) ∷ p.seat.me.1)) at)
+    (c.load.ensures.2.1 ∙ ap (λ d. (view (with_hand d Held e ∷ []), (d, None) ∷ p.seat.me.1)) at)
     p.carried.items (vec_capacity p.carried) p.hands p.carries in omega arith
 
 pub invariant_of-port-clause-carries : goal.invariant_of-port-clause-carries
 invariant_of-port-clause-carries c = let f = c.args.f.now in let p = c.args.port.now in
     let e = knows p in let k = p.loose.end in let rs = c.requires.owns.2 in
-    let at : (4 * f.ranks + k) - 4 * e.ranks ≡ k = omega arith in
-    subst (λ l. CarriesFor c.load-port.new.seat.me l (vec_capacity c.carry.new.carried) p.hands)
+    let is_word = c.link_word-word.ensures in
+    let at : c.link_word-word.result - 4 * e.ranks ≡ k = omega arith in
+    subst (λ l. CarriesFor c.load.new.seat.me l (vec_capacity c.carry.new.carried) p.hands)
     (sym c.carry.ensures.items)
-    (picked_carries p.seat.me c.load-port.new.seat.me k
+    (picked_carries p.seat.me c.load.new.seat.me k
     (subst (λ n. k < n) (sym c.requires.owns.4) c.requires.low) c.requires.untouched
-    (c.load-port.ensures.2.1 ∙ ap (λ d. (view (with_hand d Held e ∷ []), (d, None) ∷ p.seat.me.1)) at)
+    (c.load.ensures.2.1 ∙ ap (λ d. (view (with_hand d Held e ∷ []), (d, None) ∷ p.seat.me.1)) at)
     p.carried.items (vec_capacity p.carried) p.hands p.carries
     (vec_capacity c.carry.new.carried) c.carry.ensures.capacity)
 
 pub invariant_of-port-clause-boxes : goal.invariant_of-port-clause-boxes
 invariant_of-port-clause-boxes c = let f = c.args.f.now in let p = c.args.port.now in
     let e = knows p in let k = p.loose.end in let o = c.requires.owns in let rs = o.2 in
-    let at : (4 * f.ranks + k) - 4 * e.ranks ≡ k = omega arith in
-    picked_boxes p.seat.me c.load-port.new.seat.me k
+    let is_word = c.link_word-word.ensures in
+    let at : c.link_word-word.result - 4 * e.ranks ≡ k = omega arith in
+    picked_boxes p.seat.me c.load.new.seat.me k
     (subst (λ n. k < n) (sym o.4) c.requires.low) c.requires.untouched
-    (c.load-port.ensures.2.1 ∙ ap (λ d. (view (with_hand d Held e ∷ []), (d, None) ∷ p.seat.me.1)) at)
+    (c.load.ensures.2.1 ∙ ap (λ d. (view (with_hand d Held e ∷ []), (d, None) ∷ p.seat.me.1)) at)
     p.boxes (o.4 ∙ (λ t. sym o.2 t * sym o.3 t))
 
 pub invariant_of-port-clause-kept : goal.invariant_of-port-clause-kept
 invariant_of-port-clause-kept c = let f = c.args.f.now in let p = c.args.port.now in
     let e = knows p in let k = p.loose.end in let o = c.requires.owns in let rs = o.2 in
-    let at : (4 * f.ranks + k) - 4 * e.ranks ≡ k = omega arith in
-    picked_kept p.seat.me c.load-port.new.seat.me k
+    let is_word = c.link_word-word.ensures in
+    let at : c.link_word-word.result - 4 * e.ranks ≡ k = omega arith in
+    picked_kept p.seat.me c.load.new.seat.me k
     (subst (λ n. k < n) (sym o.4) c.requires.low) c.requires.untouched
-    (c.load-port.ensures.2.1 ∙ ap (λ d. (view (with_hand d Held e ∷ []), (d, None) ∷ p.seat.me.1)) at)
+    (c.load.ensures.2.1 ∙ ap (λ d. (view (with_hand d Held e ∷ []), (d, None) ∷ p.seat.me.1)) at)
     p.loose.first (ap (λ m. k / m) o.3 ∙ c.requires.own ∙ sym p.named) p.kept

@@ -16,7 +16,8 @@ use Rattle.nm_cells.proofs.produce.clear_link.Goals as goal
 pub store-requires : goal.store-requires
 store-requires g c = let f = c.args.f.now in let p = c.args.port.now in
     let few = c.requires.in_hand.0 in let z = f.sizes.0 in
-    let low : 4 * f.ranks + c.args.cell.now.number < f.board.shared.table_id.words = omega arith in (
+    let low : 4 * f.ranks + c.args.cell.now.number < f.board.shared.table_id.words = omega arith in
+    rw c.link_word-word.ensures (
       c.requires.owns.0,
       low,
       clear_allowed f.board.shared.key f.ranks f.each f.board.shared.table_id.slots p.seat.id
@@ -28,7 +29,8 @@ store-requires g c = let f = c.args.f.now in let p = c.args.port.now in
 pub invariant_of-port-clause-carries : goal.invariant_of-port-clause-carries
 invariant_of-port-clause-carries g c = let f = c.args.f.now in let p = c.args.port.now in
     let k = c.args.cell.now.number in let rs = c.requires.owns.2 in
-    let is : (4 * f.ranks + k) - 4 * (knows p).ranks ≡ k = omega arith in
+    let is_word = c.link_word-word.ensures in
+    let is : c.link_word-word.result - 4 * (knows p).ranks ≡ k = omega arith in
     cleared_carries p.seat.me c.store.new.seat.me p.carried.items
     (vec_capacity p.carried) p.hands p.carries k (load_in k p.seat.me.1)
     (c.store.ensures.2.1 ∙ ap
@@ -39,7 +41,8 @@ invariant_of-port-clause-carries g c = let f = c.args.f.now in let p = c.args.po
 pub returns-clause-ready : goal.returns-clause-ready
 returns-clause-ready g c = let f = c.args.f.now in let p = c.args.port.now in
     let k = c.args.cell.now.number in let rs = c.requires.owns.2 in
-    let is : (4 * f.ranks + k) - 4 * (knows p).ranks ≡ k = omega arith in
+    let is_word = c.link_word-word.ensures in
+    let is : c.link_word-word.result - 4 * (knows p).ranks ≡ k = omega arith in
     ap (λ m. mine m) c.store.ensures.2.1
     ∙ ap (λ d. with_hand d (Ready (load_in d p.seat.me.1)) (knows p)) is
     ∙ ap (λ y. with_hand k (Ready y) (knows p))
@@ -53,7 +56,8 @@ invariant_of-port-clause-boxes g c = let p = c.args.port.now in
 pub invariant_of-port-clause-kept : goal.invariant_of-port-clause-kept
 invariant_of-port-clause-kept g c = let f = c.args.f.now in let p = c.args.port.now in
     let k = c.args.cell.now.number in let rs = c.requires.owns.2 in
-    let is : (4 * f.ranks + k) - 4 * (knows p).ranks ≡ k = omega arith in
+    let is_word = c.link_word-word.ensures in
+    let is : c.link_word-word.result - 4 * (knows p).ranks ≡ k = omega arith in
     subst (λ (m : plays.Knowing). AreKept p.loose (mine m) m.1) (sym c.store.ensures.2.1)
-    (kept_hand p.loose (knows p) p.seat.me.1 p.kept ((4 * f.ranks + k) - 4 * (knows p).ranks) _
+    (kept_hand p.loose (knows p) p.seat.me.1 p.kept (c.link_word-word.result - 4 * (knows p).ranks) _
     (subst (λ d. ¬ IsAmong p.loose d) (sym is) c.requires.in_hand.3))

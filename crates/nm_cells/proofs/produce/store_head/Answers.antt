@@ -15,7 +15,7 @@ use Rattle.nm_cells.proofs.produce.store_head.Goals as goal
 pub store-requires : goal.store-requires
 store-requires g c = let f = c.args.f.now in let p = c.args.port.now in let e = c.args.enqueue in
     let a = c.requires.awaits in let z = f.sizes.0 in
-    let few = a.0.1 in let low : e.queue < f.board.shared.table_id.words = omega arith in (
+    let few = a.0.1 in let low : e.queue < f.board.shared.table_id.words = omega arith in rw c.head_word-word.ensures (
       c.requires.owns.0,
       low,
       head_allowed f.board.shared.key f.ranks f.each f.board.shared.table_id.slots p.seat.id

@@ -18,7 +18,7 @@ store-requires g c = let f = c.args.f.now in let p = c.args.port.now in let e = 
     let a = c.requires.awaits in let z = f.sizes.0 in
     let few = a.0.1 in let some = a.1 in let small = a.0.3 in
     let low : 4 * f.ranks + (e.found - 1) < f.board.shared.table_id.words = omega arith in
-    let is : e.found ≡ suc (e.found - 1) = omega arith in (
+    let is : e.found ≡ suc (e.found - 1) = omega arith in rw c.link_word-word.ensures (
       c.requires.owns.0,
       low,
       link_allowed f.board.shared.key f.ranks f.each f.board.shared.table_id.slots p.seat.id

@@ -31,7 +31,7 @@ swap-found-requires g c = let f = c.args.f.now in let old = c.args.port.now in
     let low : 2 * f.ranks + q < f.board.shared.table_id.words = omega arith in
     let own = c.bring_cell.ensures.same.0 in
     let sends = subst (λ t. t < f.ranks → (sender y ≡ suc old.rank)
-    × (number y ≡ sent_to t (knows old).put_box (knows old).put)) (sym is) m.1 in (
+    × (number y ≡ sent_to t (knows old).put_box (knows old).put)) (sym is) m.1 in rw c.tail_word-word.ensures (
       c.bring_cell.ensures.seat.0 ∙ c.requires.owns.0,
       low,
       swap_allowed f.board.shared.key f.ranks f.each f.board.shared.table_id.slots p.seat.id
@@ -60,7 +60,7 @@ invariant_of-port-clause-carries g c = let p = c.bring_cell.new.port in
     (sym (ap (λ u. length (sole u.entries).hands) v ∙ c.requires.owns.4)) c.requires.in_hand.0
     in
     let one : (k + 1) - 1 ≡ k = omega arith in
-    let q = (2 * c.args.f.now.ranks + c.number_of-queue.result) - 2 * e.ranks in
+    let q = c.tail_word-word.result - 2 * e.ranks in
     subst (λ l. CarriesFor c.swap-found.new.seat.me l (vec_capacity c.remove.new.self) p.hands)
     (sym c.remove.ensures.items)
     (subst (λ r. CarriesFor c.swap-found.new.seat.me (remove p.carried.items 0) r p.hands)
@@ -81,11 +81,11 @@ invariant_of-port-clause-carries g c = let p = c.bring_cell.new.port in
 pub invariant_of-port-clause-counts : goal.invariant_of-port-clause-counts
 invariant_of-port-clause-counts g c = let f = c.args.f.now in let p = c.bring_cell.new.port in
     let k = c.args.cell.number in let v = c.bring_cell.ensures.seat.1 in let e = knows p in
-    let q = (2 * f.ranks + c.number_of-queue.result) - 2 * e.ranks in
+    let q = c.tail_word-word.result - 2 * e.ranks in
     let y = holding c.args.port.now k in let same = ap (λ u. (sole u.entries).ranks) v
     ∙ c.requires.owns.2 in
     let low = may_low f c.args.port.now c.args.q k y c.requires.may in
-    let at : q ≡ c.number_of-queue.result = omega arith in
+    let is_word = c.tail_word-word.ensures in let at : q ≡ c.number_of-queue.result = omega arith in
     let posts : posted e.ranks q (first_load p.seat.me.1) ≡ posted_in c.args.q y =
     (λ i. posted (same i) ((at ∙ c.number_of-queue.ensures.value) i)
     (first_load (c.bring_cell.ensures.front i))) ∙ posted_is f.ranks c.args.q y low in
@@ -108,7 +108,7 @@ returns-clause-given g c = let p = c.bring_cell.new.port in let k = c.args.cell.
     (sym (ap (λ u. length (sole u.entries).hands) v ∙ c.requires.owns.4)) c.requires.in_hand.0
     in
     let one : (k + 1) - 1 ≡ k = omega arith in
-    let q = (2 * c.args.f.now.ranks + c.number_of-queue.result) - 2 * e.ranks in
+    let q = c.tail_word-word.result - 2 * e.ranks in
     swapped_holds p.seat.me c.swap-found.new.seat.me p.carried.items
     (vec_capacity p.carried) p.hands p.carries k q c.swap-found.result
     (holding c.args.port.now k) (holding c.args.port.now k)
@@ -136,7 +136,7 @@ returns-clause-stays g c = let f = c.args.f.now in let p = c.bring_cell.new.port
         ap (λ m. (mine m).ranks) is ∙ ap (λ u. (sole u.entries).ranks) v ∙ o.2,
         ap (λ m. (mine m).each) is ∙ ap (λ u. (sole u.entries).each) v ∙ o.3,
         ap (λ m. length (mine m).hands) is ∙ length-set e.hands ((k + 1) - 1)
-            (Entering ((2 * f.ranks + c.number_of-queue.result) - 2 * e.ranks) c.swap-found.result)
+            (Entering (c.tail_word-word.result - 2 * e.ranks) c.swap-found.result)
             ∙ ap (λ u. length (sole u.entries).hands) v ∙ o.4,
         ap (λ m. length (mine m).filling) is ∙ ap (λ u. length (sole u.entries).filling) v ∙ o.5,
         ap (λ m. length (mine m).emptying) is ∙ ap (λ u. length (sole u.entries).emptying) v ∙ o.6,
@@ -149,7 +149,6 @@ returns-clause-stays g c = let f = c.args.f.now in let p = c.bring_cell.new.port
         ap all_unpassed c.count_put.ensures ∙ t.1 ∙ ap (λ ps. all_unpassed ps.items) same.1,
       ),
       same.4,
-      same.5,
     )
 
 pub invariant_of-port-clause-boxes : goal.invariant_of-port-clause-boxes
@@ -167,7 +166,7 @@ pub invariant_of-port-clause-kept : goal.invariant_of-port-clause-kept
 invariant_of-port-clause-kept g c = let p = c.bring_cell.new.port in let e = knows p in
     let k = c.args.cell.number in let one : (k + 1) - 1 ≡ k = omega arith in
     let out : ¬ IsAmong p.loose k =
-    subst (λ x. ¬ IsAmong x k) (sym c.bring_cell.ensures.same.5) c.requires.in_hand.3 in
+    subst (λ x. ¬ IsAmong x k) (sym c.bring_cell.ensures.same.4) c.requires.in_hand.3 in
     subst (λ (m : Knowing). AreKept p.loose (mine m) m.1) (sym c.swap-found.ensures.2.3)
     (kept_hand p.loose e (rest p.seat.me.1)
     (kept_pop p.loose e (rest p.seat.me.1) k (holding c.args.port.now k) out

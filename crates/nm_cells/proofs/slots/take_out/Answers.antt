@@ -44,7 +44,7 @@ pub invariant_of-port-clause-kept : goal.invariant_of-port-clause-kept
 invariant_of-port-clause-kept c = let p = c.bring_cell.new.port in let e = knows p in
     let k = c.args.cell.now.number in let left = rest p.seat.me.1 in
     let out : ¬ IsAmong p.loose k =
-    subst (λ x. ¬ IsAmong x k) (sym c.bring_cell.ensures.same.5) c.requires.in_hand.3 in
+    subst (λ x. ¬ IsAmong x k) (sym c.bring_cell.ensures.same.4) c.requires.in_hand.3 in
     subst (λ (m : Knowing). AreKept p.loose (mine m) m.1) (sym c.exchange-old.ensures.3)
     (kept_push p.loose e left (kept_pop p.loose e left k _ out
     (subst (AreKept p.loose e) c.bring_cell.ensures.front p.kept)) k None out)

@@ -23,7 +23,7 @@ loop-sender-preserved g c = let f = c.args.f.now in let old = c.args.port.now in
     let e = c.if-load_box_in.ensures in let miss = e.missed refl in
     let low : k < (knows old).ranks = search rules in
     let next = missed_next k old now new m low miss.0 e.stays.1 e.stays.2.1 e.stays.2.2 e.holding
-    e.stays.2.0 miss.1 (λ over. false≢true (e.overtaken over)) in
+    e.stays.2.0 miss.1 e.stays.3 (λ over. false≢true (e.overtaken over)) in
     let one : suc k ≡ k + 1 = omega arith in let cost = e.cost in
     let steps = c.loop-sender.invariant.2 in
     (e.stays.0, subst (λ j. Missed j old new) one next, omega arith)

@@ -16,7 +16,7 @@ enqueue-requires-clause-in_hand g c = let t = c.in-Some.ensures.took in
       t.has.0,
       t.has.1,
       subst (λ e. InHand (hand e k)) (sym i.stays.1) t.has.2,
-      subst (λ x. ¬ IsAmong x k) (sym i.stays.0.4) t.has.3,
+      subst (λ x. ¬ IsAmong x k) (sym i.stays.0.3) t.has.3,
     )
 
 pub enqueue-requires-clause-may : goal.enqueue-requires-clause-may

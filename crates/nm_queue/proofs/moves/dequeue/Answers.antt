@@ -1,5 +1,5 @@
 use Rattle.std.proofs.Common.{sym, subst}
-use Rattle.nm_table.specs.declared.table.Look.TheVariants.{LinkEmpty, TailElsewhere}
+use Rattle.nm_table.specs.declared.table.Look.TheVariants.{TailElsewhere}
 use Rattle.nm_cells.specs.Ports.{is_receive}
 use Rattle.nm_queue.proofs.MoveLemmas.{Unmoved, unmoved, unmoved_heads, unmoved_look, takes_since}
 use Rattle.nm_queue.proofs.moves.dequeue.Goals.{then-not-has_shadow+else-not-load_head, else-not-has_shadow}
@@ -20,7 +20,7 @@ returns-in-Some-drop_tail-clause-took g c = let f = c.args.f.now in let p = c.ar
     ] in
     let none = c.in_default.ensures in
     takes_since b f p c.load_link.new.port c.drop_tail.new.port c.in-Some-drop_tail.cell
-    (unmoved_look b LinkEmpty p m c.load_link.new.port first none.none.0 none.owns.1 none.none.1)
+    (unmoved_look b _ p m c.load_link.new.port first none.none.0 none.owns.1 none.none.1)
     c.in-Some-drop_tail.ensures.some
 
 pub returns-in-Some-reload_link-clause-took : goal.returns-in-Some-reload_link-clause-took
@@ -39,6 +39,6 @@ returns-in-Some-reload_link-clause-took g c = let f = c.args.f.now in let p = c.
     let none = c.in_default.ensures in let tail = c.in_default-drop_tail.ensures in
     takes_since b f p c.drop_tail.new.port c.reload_link.new.port c.in-Some-reload_link.cell
     (unmoved_look b TailElsewhere p c.load_link.new.port c.drop_tail.new.port
-    (unmoved_look b LinkEmpty p m c.load_link.new.port first none.none.0 none.owns.1 none.none.1)
+    (unmoved_look b _ p m c.load_link.new.port first none.none.0 none.owns.1 none.none.1)
     tail.none.0 tail.owns.1 tail.none.1)
     c.in-Some-reload_link.ensures.some

@@ -18,7 +18,7 @@ returns-clause-some g c = let f = c.args.f.now in let p = c.dequeue.new.port in
         took.has.0,
         took.has.1,
         subst (λ e. InHand (hand e k)) (sym still.1) took.has.2,
-        subst (λ x. ¬ IsAmong x k) (sym still.0.4) took.has.3,
+        subst (λ x. ¬ IsAmong x k) (sym still.0.3) took.has.3,
       ),
       (
         c.requires.owns.1,

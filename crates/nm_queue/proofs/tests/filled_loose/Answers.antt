@@ -18,7 +18,7 @@ returns-clause-some c = let f = c.args.f.now in let p = c.loose.new.self in
         has.0,
         has.1,
         subst (λ e. InHand (hand e k)) (sym still.1) has.2,
-        subst (λ x. ¬ IsAmong x k) (sym still.0.4) has.3,
+        subst (λ x. ¬ IsAmong x k) (sym still.0.3) has.3,
       ),
       (
         c.requires.owns.1,

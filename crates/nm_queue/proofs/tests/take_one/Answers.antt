@@ -44,5 +44,5 @@ enqueue-requires-clause-in_hand g c = let k = c.in_ok-cell.cell.number in
       took.has.1,
       subst (λ s. InHand (hand (mine s.me) k)) (sym passed.0)
           (subst (λ (e : Entry). InHand (hand e k)) (sym still.1) took.has.2),
-      subst (λ x. ¬ IsAmong x k) (sym (passed.4 ∙ still.0.4)) took.has.3,
+      subst (λ x. ¬ IsAmong x k) (sym (passed.4 ∙ still.0.3)) took.has.3,
     )
