@@ -186,7 +186,7 @@ counts_same lines n k (a ∷ actors) (e ∷ ends) many each =
     (counts_same lines n (k + 1) actors ends (omega (arith, many))
     (λ i m b x is at to. each (suc i) m b x (omega (arith, is)) at to))
 
-called_long : (from number : ℕ) (xs : List Called) (ps : List Packet) → AreCalled from number xs ps →
+pub called_long : (from number : ℕ) (xs : List Called) (ps : List Packet) → AreCalled from number xs ps →
     length xs ≡ length ps
 called_long from number [] [] is = refl
 called_long from number [] (p ∷ ps) is = absurd is

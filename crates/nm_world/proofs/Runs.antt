@@ -3,6 +3,7 @@ use Rattle.std.proofs.Common.{◌≡◌, ℕ, zero, suc, ◌+◌, ◌<◌, ◌&&
 use Rattle.std.proofs.Common.{◌∷◌, ◌++◌, length, map, refl, sym, ap, ◌∙◌, subst, arith}
 use Rattle.std.specs.List.{All, AllZip, slice_get}
 use Rattle.std.proofs.lemmas.List.Elements.{All-cons}
+use Rattle.std.proofs.lemmas.Option.{get_or_from_slice_get}
 use mathlib.Core.Logic.{dite}
 use native.Mathlib.Decide.{ℕ_discrete}
 use Rattle.nm_types.specs.declared.scripts.Line.{Line}
@@ -13,10 +14,12 @@ use Rattle.nm_cells.specs.Ports.{IsNew}
 use Rattle.nm_copyring.specs.declared.port.RingPort.{RingPort}
 use Rattle.nm_copyring.specs.declared.port.Rings.{Rings}
 use Rattle.nm_copyring.specs.Ports as ring
+use Rattle.nm_process.specs.Lines.{AreLines}
 use Rattle.nm_world.specs.declared.actors.Actor.{Actor}
-use Rattle.nm_world.specs.Actors.{Kept, Seat, Stands, seat_of}
+use Rattle.nm_world.specs.Actors.{AllKept, Kept, Seat, Stands, seat_of}
 use Rattle.nm_world.specs.Runs.{AreRanked, InPlace, NewInOrder, PairAgrees}
-use Rattle.nm_world.proofs.Chosen.{same_there}
+use Rattle.nm_world.proofs.Chosen.{place_below, same_there}
+use Rattle.nm_world.proofs.Grows.{kept_on, kept_same}
 
 and_both : (p q : Bool) → (p && q) ≡ true → (p ≡ true) × (q ≡ true)
 and_both true q e = (refl, e)
@@ -54,6 +57,39 @@ rows_more actors n all one last before both i j a b low at to = dite (ℕ_discre
     (last (and_both all one both).1 j a b (subst (λ k. slice_get actors k ≡ Some a) e at) to))
     (λ ne. before (and_both all one both).0 i j a b (omega (arith, low, ne)) at to)
 
+module _ (lines : List Line) (f : Fabric) (r : Rings) where
+  pub all_kept_same : (xs : List Actor) → All (Stands lines f r) xs → AllKept lines f r xs xs
+  all_kept_same [] each = tt
+  all_kept_same (x ∷ xs) each = (
+    kept_same lines f r x (each 0 x (omega arith)),
+    all_kept_same xs (λ k d low. each (suc k) d (omega (arith, low))),
+  )
+
+  pub all_kept_on : (xs ys zs : List Actor) → AllKept lines f r xs ys → AllKept lines f r ys zs → AllKept lines f r xs zs
+  all_kept_on [] [] zs one two = two
+  all_kept_on [] (y ∷ ys) zs one two = absurd one
+  all_kept_on (x ∷ xs) [] zs one two = absurd one
+  all_kept_on (x ∷ xs) (y ∷ ys) [] one two = absurd two
+  all_kept_on (x ∷ xs) (y ∷ ys) (z ∷ zs) one two =
+      (kept_on lines f r x y z one.0 two.0, all_kept_on xs ys zs one.1 two.1)
+
+  pub kept_many : (us bs : List Actor) → AllKept lines f r us bs → length bs ≡ length us
+  kept_many [] [] h = refl
+  kept_many [] (b ∷ bs) h = absurd h
+  kept_many (a ∷ us) [] h = absurd h
+  kept_many (a ∷ us) (b ∷ bs) h = ap suc (kept_many us bs h.1)
+
+  pub all_stand : (xs ys : List Actor) → AllKept lines f r xs ys → All (Stands lines f r) ys
+  all_stand [] [] kept = λ i d less. absurd (omega (arith, less))
+  all_stand [] (y ∷ ys) kept = absurd kept
+  all_stand (x ∷ xs) [] kept = absurd kept
+  all_stand (x ∷ xs) (y ∷ ys) kept = All-cons (Stands lines f r) y ys kept.0.stands (all_stand xs ys kept.1)
+
+  pub all_ranked : (xs : List Actor) → All (Stands lines f r) xs → AreRanked f.ranks xs
+  all_ranked xs each k a at =
+      let s = subst (Stands lines f r) (get_or_from_slice_get xs k a a at) (each k a (place_below xs k a at)) in
+      (s.is.cells.2, s.is.rings.1.1 ∙ s.is.ranks.1 ∙ sym s.is.ranks.0)
+
 module _ (shape : Sizes) (lines : List Line) (f : Fabric) (r : Rings) where
   pub in_place_stands : (k : ℕ) (actors : List Actor) → InPlace shape lines f r k actors →
       All (Stands lines f r) actors
@@ -61,18 +97,12 @@ module _ (shape : Sizes) (lines : List Line) (f : Fabric) (r : Rings) where
   in_place_stands k (a ∷ actors) p = All-cons (Stands lines f r) a actors p.0 (in_place_stands (k + 1) actors p.2)
 
   pub in_place_kept : (k : ℕ) (us bs : List Actor) → InPlace shape lines f r k us →
-      AllZip (Kept lines f r) us bs → InPlace shape lines f r k bs
+      AllKept lines f r us bs → InPlace shape lines f r k bs
   in_place_kept k [] [] p h = tt
   in_place_kept k [] (b ∷ bs) p h = absurd h
   in_place_kept k (a ∷ us) [] p h = absurd h
   in_place_kept k (a ∷ us) (b ∷ bs) p h =
       (h.0.stands, h.0.seat ∙ p.1, in_place_kept (k + 1) us bs p.2 h.1)
-
-  pub kept_many : (us bs : List Actor) → AllZip (Kept lines f r) us bs → length bs ≡ length us
-  kept_many [] [] h = refl
-  kept_many [] (b ∷ bs) h = absurd h
-  kept_many (a ∷ us) [] h = absurd h
-  kept_many (a ∷ us) (b ∷ bs) h = ap suc (kept_many us bs h.1)
 
   pub in_place_at : (k i : ℕ) (actors : List Actor) (a : Actor) → InPlace shape lines f r k actors →
       slice_get actors i ≡ Some a → Stands lines f r a × (a.port.rank ≡ k + i) × (a.process.rank.sizes ≡ shape)
@@ -99,11 +129,6 @@ module _ (shape : Sizes) (lines : List Line) (f : Fabric) (r : Rings) where
         (seat ∙ ap (λ (n : ℕ). record { rank = n; sizes = shape }) (omega arith)),
   )
 
-  pub in_place_ranked : (actors : List Actor) → InPlace shape lines f r 0 actors → AreRanked f.ranks actors
-  in_place_ranked actors p k a at =
-      let s = (in_place_at 0 k actors a p at).0 in
-      (s.is.cells.2, s.is.rings.1.1 ∙ s.is.ranks.1 ∙ sym s.is.ranks.0)
-
 pub new_in_order : (f : Fabric) (r : Rings) (k : ℕ) (ps : List Port) (qs : List RingPort) → length ps ≡ length qs →
     ((i : ℕ) (p : Port) → slice_get ps i ≡ Some p → IsNew f p (k + i)) →
     ((i : ℕ) (q : RingPort) → slice_get qs i ≡ Some q → ring.IsNew r q (k + i)) → NewInOrder f r k ps qs
@@ -120,6 +145,19 @@ new_in_order f r k (p ∷ ps) (q ∷ qs) many one other =
     ) where
       later : (i : ℕ) → k + suc i ≡ (k + 1) + i
       later i = omega arith
+
+-- the actors that are cast for new ports
+pub placed_new : (shape : Sizes) (lines : List Line) (f : Fabric) (r : Rings) (ps : List Port) (qs : List RingPort)
+    (actors : List Actor) → ((lines : List Line) (f : Fabric) (r : Rings) → AreLines shape.ranks lines →
+    (f.ranks ≡ shape.ranks) × (r.ranks ≡ shape.ranks) → NewInOrder f r 0 ps qs → InPlace shape lines f r 0 actors) →
+    AreLines shape.ranks lines → f.ranks ≡ shape.ranks → r.ranks ≡ shape.ranks → length ps ≡ length qs →
+    ((k : ℕ) (p : Port) → slice_get ps k ≡ Some p → IsNew f p k) →
+    ((k : ℕ) (q : RingPort) → slice_get qs k ≡ Some q → ring.IsNew r q k) → InPlace shape lines f r 0 actors
+placed_new shape lines f r ps qs actors law in_range cells rings many new ring_new =
+    let zero_more : (i : ℕ) → i ≡ 0 + i = λ i. omega arith in
+    law lines f r in_range (cells, rings) (new_in_order f r 0 ps qs many
+    (λ i p at. subst (λ (k : ℕ). IsNew f p k) (zero_more i) (new i p at))
+    (λ i q at. subst (λ (k : ℕ). ring.IsNew r q k) (zero_more i) (ring_new i q at)))
 
 pub get_from_map : {X Y : Type 0} (g : X → Y) (xs : List X) (i : ℕ) (y : Y) → slice_get (map g xs) i ≡ Some y →
     (x : X) × (slice_get xs i ≡ Some x) × (g x ≡ y)

@@ -1,7 +1,7 @@
 -- How an actor stands: its process, its ports, and what was.
 use Rattle.std.specs.Prelude.{◌≡◌, ℕ, zero, suc, ◌+◌, ◌<◌, ◌≤◌, Bool, nat_lt, List, [], ◌∷◌, ◌++◌}
-use Rattle.std.specs.Prelude.{length, map, slice_index}
-use Rattle.std.specs.List.{AllZip}
+use Rattle.std.specs.Prelude.{length, map, slice_index, Some}
+use Rattle.std.specs.List.{AllZip, slice_get}
 use Rattle.nm_types.specs.declared.scripts.Line.{Line}
 use Rattle.nm_types.specs.Sizes.{Sizes}
 use Rattle.nm_ends.specs.Moments.{pulled_from as pulled_in, taken_from as taken_in}
@@ -88,6 +88,12 @@ pub record Seat : Type 0 where
 abbrev pub seat_of : Actor → Seat
 seat_of a = record { rank = a.port.rank; sizes = a.process.rank.sizes }
 
+-- what an actor stands in: the lines, the fabric and the rings of its run
+pub record Setting : Type 0 where
+  pub lines : List Line
+  pub fabric : Fabric
+  pub rings : Rings
+
 -- it is the same actor, it stands, and it goes on from where it was
 pub record Kept (lines : List Line) (f : Fabric) (r : Rings) (a b : Actor) : Type 0 where
   pub stands : Stands lines f r b
@@ -125,6 +131,15 @@ pub data Grew (n : ℕ) (a b : Actor) : Type 0 where
   pulled :
       (i : ℕ) → i < n → length (ring.pulled_from a.ring i) < length (ring.pulled_from b.ring i) →
       Grew n a b
+
+-- something grew of one of these actors
+pub record SomeGrew (n : ℕ) (old new : List Actor) : Type 0 where
+  pub place : ℕ
+  pub before : Actor
+  pub after : Actor
+  pub was : slice_get old place ≡ Some before
+  pub is : slice_get new place ≡ Some after
+  pub grew : Grew n before after
 
 -- how much these actors have done
 abbrev pub done_of : ℕ → List Actor → ℕ

@@ -1,4 +1,6 @@
 pub mod Actors
+pub mod Idle
+pub mod Looks
 pub mod Records
 pub mod Rest
 pub mod Runs

@@ -1,5 +1,5 @@
 -- Actors at rest, and what their ports carried.
-use Rattle.std.specs.Prelude.{◌≡◌, ℕ, ◌<◌, false, Option, Some, IfSome, List, [], length, map}
+use Rattle.std.specs.Prelude.{◌≡◌, ℕ, ◌<◌, true, false, Option, Some, IfSome, IsSome, List, [], length, map}
 use Rattle.std.specs.List.{slice_get}
 use Rattle.nm_types.specs.declared.scripts.Line.{Line}
 use Rattle.nm_types.specs.Commands.{commands_of}
@@ -11,7 +11,7 @@ use Rattle.nm_history.specs.Sends.{sent_body}
 use Rattle.nm_protocol.specs.Clearance.{pushed_out, to_push}
 use Rattle.nm_protocol.specs.Rest.{EagerHaveLeft, EmptyAreHere}
 use Rattle.nm_protocol.specs.Rules.{AreRight}
-use Rattle.nm_rndv.specs.Offers.{AllOut}
+use Rattle.nm_rndv.specs.Offers.{AllOut, next_offered}
 use Rattle.nm_rank.specs.Ranks.{IsFresh, known_from}
 use Rattle.nm_process.specs.Processes.{ProcessView}
 use Rattle.nm_process.specs.Steps.{goes_on}
@@ -46,6 +46,14 @@ pub record EndsAt (shape : Sizes) (lines : List Line) (f : Fabric) (r : Rings) (
   pub stands :
       StandsAt (commands_of i lines)
       (record { at = a.process.at; waits = waits; events = a.process.rank.events })
+
+-- An actor can move where its rank is worn, a letter or a piece is left to send, or there is a command
+-- left that can go on.
+pub data CanMove (lines : List Line) (v : ProcessView) : Type 0 where
+  worn : ¬ IsFresh v.rank → CanMove lines v
+  letter : 0 < length v.rank.sending.outbox.letters → CanMove lines v
+  piece : IsSome (next_offered v.rank.sending.offers) → CanMove lines v
+  command : goes_on (commands_of v.rank.me lines) v ≡ true → CanMove lines v
 
 -- nothing is left to send, and there is no command that can go on
 pub record IsStill (lines : List Line) (v : ProcessView) : Type 0 where

@@ -1,14 +1,17 @@
 -- All actors of a run, in their places.
-use Rattle.std.specs.Prelude.{◌≡◌, ℕ, ◌+◌, ◌<◌, List, [], ◌∷◌, length, map, slice_get, Some}
+use Rattle.std.specs.Prelude.{◌≡◌, ℕ, ◌+◌, ◌<◌, ◌==◌, ◌&&◌, List, [], ◌∷◌, length, map, slice_get}
+use Rattle.std.specs.Prelude.{find, Some}
+use Rattle.std.specs.Option.{option_map_or}
 use Rattle.nm_types.specs.declared.scripts.Line.{Line}
 use Rattle.nm_types.specs.Sizes.{Sizes}
-use Rattle.nm_history.specs.Quiescence.{Ended}
+use Rattle.nm_history.specs.Quiescence.{Ended, Packets}
 use Rattle.nm_history.specs.Run.{IsRunOf}
 use Rattle.nm_report.specs.Ends.{ends_of, packets_of}
 use Rattle.nm_report.specs.declared.records.RunRecord.{RunRecord}
 use Rattle.nm_cells.specs.declared.port.Fabric.{Fabric}
 use Rattle.nm_cells.specs.declared.port.Port.{Port}
 use Rattle.nm_cells.specs.declared.closed.Closed.{Closed}
+use Rattle.nm_cells.specs.ClosedLists.{sent_list, taken_list}
 use Rattle.nm_cells.specs.Ports.{IsNew, knows, sent_by, taken_by}
 use Rattle.nm_copyring.specs.declared.close.RingAccount.{RingAccount}
 use Rattle.nm_copyring.specs.declared.port.RingPort.{RingPort}
@@ -47,11 +50,30 @@ abbrev pub AreCarried : Sizes → List Line → Closed → RingAccount → List 
 AreCarried shape lines c q ends =
     (i j : ℕ) (e : Ended) → j < shape.ranks → slice_get ends i ≡ Some e → IsCarried lines c q i j e
 
--- the record tells a run of the script, and the closed ports carried what its histories call for
+-- how many packets are counted from the rank i to the rank j, 0 where there is no count
+abbrev pub count_between : List Packets → ℕ → ℕ → ℕ
+count_between packets i j =
+    option_map_or (λ p. p.count) (find (λ p. p.from == i && p.to == j) packets) 0
+
+-- The closed ports carried what the record tells, and no more: their account is the record's, from each
+-- rank to each they sent and took as many packets as it counts, and these packets, and the pieces
+-- pushed and pulled, are what its histories call for.
+pub record HasCarried (shape : Sizes) (lines : List Line) (run : RunRecord) (c : Closed)
+    (q : RingAccount) : Type 0 where
+  pub account : run.cells ≡ c.cells
+  pub sent :
+      (i j : ℕ) → i < shape.ranks → j < shape.ranks →
+      length (sent_list c i j) ≡ count_between (packets_of run.pairs) i j
+  pub taken :
+      (i j : ℕ) → i < shape.ranks → j < shape.ranks →
+      length (taken_list c i j) ≡ count_between (packets_of run.pairs) i j
+  pub lists : AreCarried shape lines c q (ends_of run.ranks)
+
+-- the record tells a run of the script, and the closed ports carried what it tells
 pub record IsWhole (shape : Sizes) (lines : List Line) (run : RunRecord) (c : Closed) (q : RingAccount)
     : Type 0 where
   pub lawful : IsRunOf shape lines (ends_of run.ranks) (packets_of run.pairs)
-  pub carried : AreCarried shape lines c q (ends_of run.ranks)
+  pub carried : HasCarried shape lines run c q
 
 -- the ports know of so many ranks
 abbrev pub AreRanked : ℕ → List Actor → Type 0

@@ -1,9 +1,17 @@
 //! One rank with its ports.
 
-ghost use Rattle.std.specs.Prelude.{◌≡◌, ◌<◌, false, IfOk};
+ghost use Rattle.std.specs.Prelude.{◌≡◌, ◌<◌, ◌↔◌, ℕ, true, false, IfOk};
+ghost use Rattle.std.specs.Prelude.{option_map};
+ghost use Rattle.std.specs.Option.{option_map_or};
+ghost use Rattle.nm_types.specs.Commands.{commands_of};
+ghost use Rattle.nm_types.specs.Sizes.{Sizes};
+ghost use Rattle.nm_rank.specs.Ranks.{IsFresh};
+ghost use Rattle.nm_process.specs.Steps.{HasRun, goes_on};
 ghost use Rattle.nm_process.specs.Work.{IsAtWork};
-ghost use Rattle.nm_world.specs.Actors.{Kept, Stands, did};
-ghost use Rattle.nm_world.specs.Rest.{IsStill};
+ghost use Rattle.nm_world.specs.Actors.{Grew, Kept, Setting, Stands, did};
+ghost use Rattle.nm_world.specs.Idle.{GaveNone, Idle, LetterBack, NoPiece, PieceBack, Stepped};
+ghost use Rattle.nm_world.specs.Looks.{LookedAround, PolledBefore, PolledUnlessWorn, is_look, looks_next};
+ghost use Rattle.nm_world.specs.Rest.{CanMove, IsStill};
 
 use crate::wires::{polled, pulled, pushed, sent};
 use nm_channels::laws::{a_poll_carries, a_send_carries};
@@ -32,7 +40,9 @@ pub struct Actor {
 }
 
 // Whether it is a command that looks at what came: a test, a probe, an await or a matched probe.
-fn looks(command: Option<&Command>) -> bool {
+fn looks(command: Option<&Command>) -> bool
+    ensures { result ≡ option_map_or is_look (option_map (λ c. c.now) command.entry) false }
+{
     match command {
         Some(Command::Test { .. }) => true,
         Some(Command::Probe { .. }) => true,
@@ -44,10 +54,14 @@ fn looks(command: Option<&Command>) -> bool {
 
 impl Actor {
     // Sends the first packet of the outbox, unless there is none or it comes back.
-    fn send_next(&mut self, _lines: &[Line], f: &Fabric, _r: &Rings) -> bool
-        requires stands { Stands _lines.now f.now _r.now self.old }
-        ensures kept { Kept _lines.now f.now _r.now self.old self.new }
+    fn send_next(&mut self, f: &Fabric) -> bool
+        ghost here: { Setting }
+        requires stands { Stands here.lines f.now here.rings self.old }
+        ensures kept { Kept here.lines f.now here.rings self.old self.new }
         ensures moved { result ≡ did f.now.ranks self.old self.new }
+        ensures stepped { Stepped result self.old self.new }
+        ensures back { result ≡ false → IsFresh self.old.process.rank →
+            LetterBack self.old self.new }
     {
         if self.process.is_worn() {
             return false;
@@ -66,10 +80,14 @@ impl Actor {
     }
 
     // Pushes the next piece, unless there is none or it comes back.
-    fn push_next(&mut self, _lines: &[Line], _f: &Fabric, r: &Rings) -> bool
-        requires stands { Stands _lines.now _f.now r.now self.old }
-        ensures kept { Kept _lines.now _f.now r.now self.old self.new }
-        ensures moved { result ≡ did _f.now.ranks self.old self.new }
+    fn push_next(&mut self, r: &Rings) -> bool
+        ghost here: { Setting }
+        requires stands { Stands here.lines here.fabric r.now self.old }
+        ensures kept { Kept here.lines here.fabric r.now self.old self.new }
+        ensures moved { result ≡ did here.fabric.ranks self.old self.new }
+        ensures stepped { Stepped result self.old self.new }
+        ensures back { result ≡ false → IsFresh self.old.process.rank →
+            PieceBack self.old self.new }
     {
         if self.process.is_worn() {
             return false;
@@ -86,10 +104,16 @@ impl Actor {
     }
 
     // Takes the next packet of a rank, if one came.
-    fn take_next(&mut self, _lines: &[Line], f: &Fabric, _r: &Rings) -> Result<bool, Memory>
-        requires stands { Stands _lines.now f.now _r.now self.old }
-        ensures kept { IfOk result (λ _. Kept _lines.now f.now _r.now self.old self.new) }
+    fn take_next(&mut self, f: &Fabric) -> Result<bool, Memory>
+        ghost here: { Setting }
+        requires stands { Stands here.lines f.now here.rings self.old }
+        ensures kept { IfOk result (λ _. Kept here.lines f.now here.rings self.old self.new) }
         ensures moved { IfOk result (λ moved. moved ≡ did f.now.ranks self.old self.new) }
+        ensures stepped { IfOk result (λ moved. Stepped moved self.old self.new) }
+        ensures none { IfOk result (λ moved. moved ≡ false → IsFresh self.old.process.rank →
+            GaveNone self.old.process.rank.sizes.ranks self.old.port self.new.port) }
+        ensures polled { IfOk result (λ _.
+            PolledUnlessWorn self.old.process.rank.sizes.ranks 1 self.old self.new) }
     {
         if self.process.is_worn() {
             return Ok(false);
@@ -107,17 +131,15 @@ impl Actor {
     }
 
     // Takes the next piece of a rank, if one is due and came.
-    fn pull_next(
-        &mut self,
-        _lines: &[Line],
-        _f: &Fabric,
-        r: &Rings,
-        sender: u8,
-    ) -> Result<bool, Memory>
-        requires stands { Stands _lines.now _f.now r.now self.old }
+    fn pull_next(&mut self, r: &Rings, sender: u8) -> Result<bool, Memory>
+        ghost here: { Setting }
+        requires stands { Stands here.lines here.fabric r.now self.old }
         requires sender { sender < r.now.ranks }
-        ensures kept { IfOk result (λ _. Kept _lines.now _f.now r.now self.old self.new) }
-        ensures moved { IfOk result (λ moved. moved ≡ did _f.now.ranks self.old self.new) }
+        ensures kept { IfOk result (λ _. Kept here.lines here.fabric r.now self.old self.new) }
+        ensures moved { IfOk result (λ moved. moved ≡ did here.fabric.ranks self.old self.new) }
+        ensures stepped { IfOk result (λ moved. Stepped moved self.old self.new) }
+        ensures none { IfOk result (λ moved. moved ≡ false → IsFresh self.old.process.rank →
+            NoPiece self.old self.new sender) }
     {
         if self.process.is_worn() {
             return Ok(false);
@@ -136,11 +158,21 @@ impl Actor {
     }
 
     // Runs the next command, if there is one that can go on.
-    fn run_next(&mut self, lines: &[Line], _f: &Fabric, _r: &Rings) -> Result<bool, Memory>
-        requires stands { Stands lines.now _f.now _r.now self.old }
-        ensures kept { IfOk result (λ _. Kept lines.now _f.now _r.now self.old self.new) }
-        ensures moved { IfOk result (λ moved. moved ≡ did _f.now.ranks self.old self.new) }
+    fn run_next(&mut self, lines: &[Line]) -> Result<bool, Memory>
+        ghost here: { Setting }
+        requires stands { Stands lines.now here.fabric here.rings self.old }
+        ensures kept { IfOk result (λ _.
+            Kept lines.now here.fabric here.rings self.old self.new) }
+        ensures moved { IfOk result (λ moved. moved ≡ did here.fabric.ranks self.old self.new) }
+        ensures ran { IfOk result (λ ran. ran ≡ true → IsFresh self.old.process.rank
+            × HasRun lines.now self.old.process self.new.process) }
+        ensures still { IfOk result (λ ran. ran ≡ false → self.new ≡ self.old) }
+        ensures stuck { IfOk result (λ ran. ran ≡ false → IsFresh self.old.process.rank →
+            goes_on (commands_of self.old.process.rank.me lines.now) self.old.process ≡ false) }
     {
+        if self.process.is_worn() {
+            return Ok(false);
+        }
         self.process.history();
         a_command_runs();
         match self.process.run_next(lines)? {
@@ -150,124 +182,150 @@ impl Actor {
     }
 
     // Sends up to so many packets. It answers whether any was sent.
-    fn send_all(&mut self, lines: &[Line], f: &Fabric, r: &Rings) -> bool
-        requires stands { Stands lines.now f.now r.now self.old }
-        ensures kept { Kept lines.now f.now r.now self.old self.new }
+    fn send_all(&mut self, f: &Fabric) -> bool
+        ghost here: { Setting }
+        requires stands { Stands here.lines f.now here.rings self.old }
+        ensures kept { Kept here.lines f.now here.rings self.old self.new }
         ensures moved { result ≡ did f.now.ranks self.old self.new }
+        ensures stepped { Stepped result self.old self.new }
+        ensures back { result ≡ false → IsFresh self.old.process.rank →
+            LetterBack self.old self.new }
     {
-        let mut moved = false;
-        for _ in 0..TURN {
-            if !self.send_next(lines, f, r) {
-                break;
+        for sent in 0..TURN {
+            if !self.send_next(f) {
+                return sent > 0;
             }
-            moved = true;
         }
-        moved
+        true
     }
 
     // Takes up to so many packets. It answers whether any was taken.
-    fn take_all(&mut self, lines: &[Line], f: &Fabric, r: &Rings) -> Result<bool, Memory>
-        requires stands { Stands lines.now f.now r.now self.old }
-        ensures kept { IfOk result (λ _. Kept lines.now f.now r.now self.old self.new) }
+    fn take_all(&mut self, f: &Fabric) -> Result<bool, Memory>
+        ghost here: { Setting }
+        requires stands { Stands here.lines f.now here.rings self.old }
+        ensures kept { IfOk result (λ _. Kept here.lines f.now here.rings self.old self.new) }
         ensures moved { IfOk result (λ moved. moved ≡ did f.now.ranks self.old self.new) }
+        ensures stepped { IfOk result (λ moved. Stepped moved self.old self.new) }
+        ensures none { IfOk result (λ moved. moved ≡ false → IsFresh self.old.process.rank →
+            GaveNone self.old.process.rank.sizes.ranks self.old.port self.new.port) }
+        ensures polled { IfOk result (λ _.
+            PolledUnlessWorn self.old.process.rank.sizes.ranks 1 self.old self.new) }
     {
-        let mut moved = false;
-        for _ in 0..TURN {
-            if !self.take_next(lines, f, r)? {
-                break;
+        for took in 0..TURN {
+            if !self.take_next(f)? {
+                return Ok(took > 0);
             }
-            moved = true;
         }
-        Ok(moved)
+        Ok(true)
     }
 
     // Pushes up to so many pieces. It answers whether any was pushed.
-    fn push_all(&mut self, lines: &[Line], f: &Fabric, r: &Rings) -> bool
-        requires stands { Stands lines.now f.now r.now self.old }
-        ensures kept { Kept lines.now f.now r.now self.old self.new }
-        ensures moved { result ≡ did f.now.ranks self.old self.new }
+    fn push_all(&mut self, r: &Rings) -> bool
+        ghost here: { Setting }
+        requires stands { Stands here.lines here.fabric r.now self.old }
+        ensures kept { Kept here.lines here.fabric r.now self.old self.new }
+        ensures moved { result ≡ did here.fabric.ranks self.old self.new }
+        ensures stepped { Stepped result self.old self.new }
+        ensures back { result ≡ false → IsFresh self.old.process.rank →
+            PieceBack self.old self.new }
     {
-        let mut moved = false;
-        for _ in 0..TURN {
-            if !self.push_next(lines, f, r) {
-                break;
+        for pushed in 0..TURN {
+            if !self.push_next(r) {
+                return pushed > 0;
             }
-            moved = true;
         }
-        moved
+        true
     }
 
     // Takes up to so many pieces of a rank. It answers whether any was taken.
-    fn pull_some(
-        &mut self,
-        lines: &[Line],
-        f: &Fabric,
-        r: &Rings,
-        sender: u8,
-    ) -> Result<bool, Memory>
-        requires stands { Stands lines.now f.now r.now self.old }
+    fn pull_some(&mut self, r: &Rings, sender: u8) -> Result<bool, Memory>
+        ghost here: { Setting }
+        requires stands { Stands here.lines here.fabric r.now self.old }
         requires sender { sender < r.now.ranks }
-        ensures kept { IfOk result (λ _. Kept lines.now f.now r.now self.old self.new) }
-        ensures moved { IfOk result (λ moved. moved ≡ did f.now.ranks self.old self.new) }
+        ensures kept { IfOk result (λ _. Kept here.lines here.fabric r.now self.old self.new) }
+        ensures moved { IfOk result (λ moved. moved ≡ did here.fabric.ranks self.old self.new) }
+        ensures stepped { IfOk result (λ moved. Stepped moved self.old self.new) }
+        ensures none { IfOk result (λ moved. moved ≡ false → IsFresh self.old.process.rank →
+            NoPiece self.old self.new sender) }
     {
-        let mut moved = false;
-        for _ in 0..PULLS {
-            if !self.pull_next(lines, f, r, sender)? {
-                break;
+        for pulled in 0..PULLS {
+            if !self.pull_next(r, sender)? {
+                return Ok(pulled > 0);
             }
-            moved = true;
         }
-        Ok(moved)
+        Ok(true)
     }
 
     // Takes pieces of each rank. It answers whether any was taken.
-    fn pull_all(&mut self, lines: &[Line], f: &Fabric, r: &Rings) -> Result<bool, Memory>
-        requires stands { Stands lines.now f.now r.now self.old }
-        ensures kept { IfOk result (λ _. Kept lines.now f.now r.now self.old self.new) }
-        ensures moved { IfOk result (λ moved. moved ≡ did f.now.ranks self.old self.new) }
+    fn pull_all(&mut self, f: &Fabric, r: &Rings) -> Result<bool, Memory>
+        ghost here: { Setting }
+        requires ranks { f.now.ranks ≡ here.fabric.ranks }
+        requires stands { Stands here.lines here.fabric r.now self.old }
+        ensures kept { IfOk result (λ _. Kept here.lines here.fabric r.now self.old self.new) }
+        ensures moved { IfOk result (λ moved. moved ≡ did here.fabric.ranks self.old self.new) }
+        ensures stepped { IfOk result (λ moved. Stepped moved self.old self.new) }
+        ensures none { IfOk result (λ moved. moved ≡ false → IsFresh self.old.process.rank →
+            (i : ℕ) → i < f.now.ranks → NoPiece self.old self.new i) }
     {
         let mut moved = false;
         for sender in 0..f.ranks() {
-            let one = self.pull_some(lines, f, r, sender)?;
+            let one = self.pull_some(r, sender)?;
             moved = moved | one;
         }
         Ok(moved)
     }
 
     // Takes the next packet that came, where the next command looks at what came.
-    fn look(&mut self, lines: &[Line], f: &Fabric, r: &Rings) -> Result<bool, Memory>
-        requires stands { Stands lines.now f.now r.now self.old }
-        ensures kept { IfOk result (λ _. Kept lines.now f.now r.now self.old self.new) }
+    fn look(&mut self, lines: &[Line], f: &Fabric) -> Result<bool, Memory>
+        ghost here: { Setting }
+        requires lines { lines.now ≡ here.lines }
+        requires stands { Stands here.lines f.now here.rings self.old }
+        ensures kept { IfOk result (λ _. Kept here.lines f.now here.rings self.old self.new) }
         ensures moved { IfOk result (λ moved. moved ≡ did f.now.ranks self.old self.new) }
+        ensures stepped { IfOk result (λ moved. Stepped moved self.old self.new) }
+        ensures polled { IfOk result (λ _.
+            PolledUnlessWorn self.old.process.rank.sizes.ranks
+            (looks_next lines.now self.old.process) self.old self.new) }
     {
         if !looks(self.process.next_command(lines)) {
             return Ok(false);
         }
-        self.take_next(lines, f, r)
+        self.take_next(f)
     }
 
     // Runs up to so many commands. It answers whether any ran, or anything was taken before one.
-    fn run_all(&mut self, lines: &[Line], f: &Fabric, r: &Rings) -> Result<bool, Memory>
-        requires stands { Stands lines.now f.now r.now self.old }
-        ensures kept { IfOk result (λ _. Kept lines.now f.now r.now self.old self.new) }
-        ensures moved { IfOk result (λ moved. moved ≡ did f.now.ranks self.old self.new) }
+    fn run_all(&mut self, lines: &[Line], f: &Fabric) -> Result<bool, Memory>
+        ghost here: { Setting }
+        requires fabric { f.now ≡ here.fabric }
+        requires stands { Stands lines.now here.fabric here.rings self.old }
+        requires lines { lines.now ≡ here.lines }
+        ensures kept { IfOk result (λ _. Kept lines.now here.fabric here.rings self.old self.new) }
+        ensures moved { IfOk result (λ moved. moved ≡ did here.fabric.ranks self.old self.new) }
+        ensures still { IfOk result (λ moved. moved ≡ false →
+            self.new.process ≡ self.old.process) }
+        ensures stuck { IfOk result (λ moved. moved ≡ false → IsFresh self.old.process.rank →
+            goes_on (commands_of self.old.process.rank.me lines.now) self.old.process ≡ false) }
+        ensures polled { IfOk result (λ _. PolledBefore lines.now self.old self.new) }
+        ensures worn { IfOk result (λ _. ¬ IsFresh self.old.process.rank →
+            self.new ≡ self.old) }
     {
-        let mut moved = false;
-        for _ in 0..TURN {
-            let took = self.look(lines, f, r)?;
-            let ran = self.run_next(lines, f, r)?;
-            moved = moved | took | ran;
-            if !ran {
-                return Ok(moved);
+        let mut took = false;
+        for ran in 0..TURN {
+            let looked = self.look(lines, f)?;
+            took = took | looked;
+            if !self.run_next(lines)? {
+                return Ok(took | (ran > 0));
             }
         }
-        Ok(moved)
+        Ok(true)
     }
 
     /// Whether the actor can move: its rank is worn, or something is left to send, or there is a
-    /// command that can go on.
+    /// command left that can go on.
     pub fn can_move(&self, lines: &[Line]) -> bool
-        ensures { result ≡ false →
+        ensures exactly { (shape : Sizes) → IsAtWork shape lines.now self.now.process →
+            (result ≡ true) ↔ CanMove lines.now self.now.process }
+        ensures still { result ≡ false →
             IsAtWork self.now.process.rank.sizes lines.now self.now.process →
             IsStill lines.now self.now.process }
     {
@@ -284,7 +342,11 @@ impl Actor {
         self.process.can_run(lines)
     }
 
-    /// One turn. It answers whether anything was sent, taken or run.
+    /// One turn: what is to be sent and pushed, what came, and commands, up to 64 of each kind, and
+    /// of pieces up to 4 of each rank. It answers whether anything was sent, taken or run.
+    ///
+    /// Before each test, probe, await and matched probe (MPI 3.1, 3.7.3 and 3.8) it polls once. It
+    /// moves nothing only where the rank is worn or nothing could move.
     pub fn turn<G: Gate>(
         &mut self,
         lines: &[Line],
@@ -295,13 +357,32 @@ impl Actor {
         requires stands { Stands lines.now f.now r.now self.old }
         ensures kept { IfOk result (λ _. Kept lines.now f.now r.now self.old self.new) }
         ensures moved { IfOk result (λ moved. moved ≡ did f.now.ranks self.old self.new) }
+        ensures grew { IfOk result (λ moved.
+            (moved ≡ true) ↔ Grew f.now.ranks self.old self.new) }
+        ensures idle { IfOk result (λ moved. moved ≡ false → IsFresh self.old.process.rank →
+            Idle lines.now self.old self.new) }
+        ensures looked { IfOk result (λ _. LookedAround lines.now self.old self.new) }
     {
         gate.turn(self.process.me());
-        let sent = self.send_all(lines, f, r);
-        let pushed = self.push_all(lines, f, r);
-        let took = self.take_all(lines, f, r)?;
-        let pulled = self.pull_all(lines, f, r)?;
-        let ran = self.run_all(lines, f, r)?;
+        self.move_all(lines, f, r)
+    }
+
+    // What a turn sends, pushes, takes, pulls and runs. It answers whether that is anything.
+    fn move_all(&mut self, lines: &[Line], f: &Fabric, r: &Rings) -> Result<bool, Memory>
+        ghost here: { Setting }
+        requires here { here ≡ record { lines = lines.now; fabric = f.now; rings = r.now } }
+        requires stands { Stands lines.now f.now r.now self.old }
+        ensures kept { IfOk result (λ _. Kept lines.now f.now r.now self.old self.new) }
+        ensures moved { IfOk result (λ moved. moved ≡ did f.now.ranks self.old self.new) }
+        ensures idle { IfOk result (λ moved. moved ≡ false → IsFresh self.old.process.rank →
+            Idle lines.now self.old self.new) }
+        ensures looked { IfOk result (λ _. LookedAround lines.now self.old self.new) }
+    {
+        let sent = self.send_all(f);
+        let pushed = self.push_all(r);
+        let took = self.take_all(f)?;
+        let pulled = self.pull_all(f, r)?;
+        let ran = self.run_all(lines, f)?;
         Ok(sent | pushed | took | pulled | ran)
     }
 }

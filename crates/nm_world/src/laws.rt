@@ -1,6 +1,6 @@
-//! Laws of the end of a run. Each is the contract of a function that does nothing.
+//! Laws of what actors do, and of the end of a run. Each is the contract of a function that does nothing.
 
-ghost use Rattle.std.specs.Prelude.{◌≡◌, ℕ, List, length, map};
+ghost use Rattle.std.specs.Prelude.{◌≡◌, ◌↔◌, ℕ, true, List, length, map};
 ghost use Rattle.nm_types.specs.declared.scripts.Line.{Line};
 ghost use Rattle.nm_types.specs.Limits.{IsScript};
 ghost use Rattle.nm_types.specs.Sizes.{Sizes};
@@ -10,7 +10,7 @@ ghost use Rattle.nm_cells.specs.declared.port.Fabric.{Fabric};
 ghost use Rattle.nm_copyring.specs.declared.close.RingAccount.{RingAccount};
 ghost use Rattle.nm_copyring.specs.declared.port.Rings.{Rings};
 ghost use Rattle.nm_world.specs.declared.actors.Actor.{Actor};
-ghost use Rattle.nm_world.specs.Actors.{Stands};
+ghost use Rattle.nm_world.specs.Actors.{AllKept, Grew, Grows, SomeGrew, Stands, did, did_any};
 ghost use Rattle.nm_world.specs.Rest.{EachActor, EndsAt, HasRun, IsAllTaken, IsClosed, IsRingClosed};
 ghost use Rattle.nm_world.specs.Rest.{IsStill};
 
@@ -40,3 +40,11 @@ pub fn actors_at_rest_make_a_run()
     ranks_at_rest_make_a_run();
     a_process_is_a_rank();
 }
+
+/// An actor that went on did something exactly where something grew: its history, or what its ports
+/// sent, passed on, pushed or pulled. So it is with many.
+pub fn what_was_done_grew()
+    ensures one { (n : ℕ) (a b : Actor) → Grows a b → (did n a b ≡ true) ↔ Grew n a b }
+    ensures any { (n : ℕ) (lines : List Line) (f : Fabric) (r : Rings) (old new : List Actor) →
+        AllKept lines f r old new → (did_any n old new ≡ true) ↔ SomeGrew n old new }
+{}

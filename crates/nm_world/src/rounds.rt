@@ -1,9 +1,11 @@
 //! Turns of many actors at once.
 
-ghost use Rattle.std.specs.Prelude.{◌≡◌, ◌<◌, length, IfOk};
+ghost use Rattle.std.specs.Prelude.{◌≡◌, ◌<◌, ◌↔◌, length, true, false, IfOk};
 ghost use Rattle.std.specs.List.{All};
 ghost use Rattle.std.specs.Thread.{IsSync};
-ghost use Rattle.nm_world.specs.Actors.{AllKept, Kept, Stands, did, did_any};
+ghost use Rattle.nm_rank.specs.Ranks.{IsFresh};
+ghost use Rattle.nm_world.specs.Actors.{AllKept, Kept, SomeGrew, Stands, did, did_any};
+ghost use Rattle.nm_world.specs.Idle.{AllIdle, Idle};
 
 use crate::Actor;
 use nm_copyring::Rings;
@@ -53,12 +55,15 @@ fn turns_of<G: Gate>(
     pace: &Pace,
 ) -> Result<bool, Memory>
     requires stands { Stands lines.now f.now r.now actor.old }
+    requires turns { 0 < turns }
     ensures kept { IfOk result (λ _. Kept lines.now f.now r.now actor.old actor.new) }
     ensures moved { IfOk result (λ moved. moved ≡ did f.now.ranks actor.old actor.new) }
+    ensures idle { IfOk result (λ moved. moved ≡ false → IsFresh actor.old.process.rank →
+        Idle lines.now actor.old actor.new) }
 {
     let mut moved = false;
     let mut rests = false;
-    for _ in 0..turns {
+    for made in 0..turns {
         let one = actor.turn(lines, f, r, gate)?;
         moved = moved | one;
         if pace.ends(rests, one) {
@@ -87,6 +92,8 @@ fn halves<R: Threads + Sync, G: Gate + Sync>(
     requires turns { 0 < turns }
     ensures kept { IfOk result (λ _. AllKept lines.now f.now r.now actors.old actors.new) }
     ensures moved { IfOk result (λ moved. moved ≡ did_any f.now.ranks actors.old actors.new) }
+    ensures idle { IfOk result (λ moved. moved ≡ false →
+        AllIdle lines.now actors.old actors.new) }
 {
     if actors.len() == 0 {
         return Ok(false);
@@ -103,6 +110,8 @@ fn halves<R: Threads + Sync, G: Gate + Sync>(
                 front.entry.now front.exit.now) }
             ensures moved { IfOk result (λ moved. moved
                 ≡ did_any f.entry.now.ranks front.entry.now front.exit.now) }
+            ensures idle { IfOk result (λ moved. moved ≡ false →
+                AllIdle lines.entry.now front.entry.now front.exit.now) }
         { halves(rt, front, lines, f, r, gate, turns, pace) },
         &mut || -> Result<bool, Memory>
             requires { IsSync R.row × All (Stands lines.now f.now r.now) back.now × (0 < turns) }
@@ -110,6 +119,8 @@ fn halves<R: Threads + Sync, G: Gate + Sync>(
                 back.entry.now back.exit.now) }
             ensures moved { IfOk result (λ moved. moved
                 ≡ did_any f.entry.now.ranks back.entry.now back.exit.now) }
+            ensures idle { IfOk result (λ moved. moved ≡ false →
+                AllIdle lines.entry.now back.entry.now back.exit.now) }
         { halves(rt, back, lines, f, r, gate, turns, pace) },
     );
     let one = one?;
@@ -118,7 +129,9 @@ fn halves<R: Threads + Sync, G: Gate + Sync>(
 }
 
 /// Turns of all the actors, each in a thread of its own where one can be made, until none of them
-/// has anything to do. Each makes at most so many turns.
+/// has anything to do. Each makes at least one turn and at most so many. It answers whether anything
+/// grew of any actor; where nothing did, each actor's turn moved nothing since nothing could, or its
+/// rank is worn.
 pub fn round<R: Threads + Sync, G: Gate + Sync>(
     rt: &R,
     actors: &mut [Actor],
@@ -132,6 +145,10 @@ pub fn round<R: Threads + Sync, G: Gate + Sync>(
     requires turns { 0 < turns }
     ensures kept { IfOk result (λ _. AllKept lines.now f.now r.now actors.old actors.new) }
     ensures moved { IfOk result (λ moved. moved ≡ did_any f.now.ranks actors.old actors.new) }
+    ensures grew { IfOk result (λ moved.
+        (moved ≡ true) ↔ SomeGrew f.now.ranks actors.old actors.new) }
+    ensures idle { IfOk result (λ moved. moved ≡ false →
+        AllIdle lines.now actors.old actors.new) }
 {
     let pace = Pace {
         all: actors.len() as u64,

@@ -1,16 +1,20 @@
 //! A run of all ranks, to rest.
 
-ghost use Rattle.std.specs.Prelude.{◌≡◌, ◌<◌, ◌++◌, ℕ, true, [], ◌∷◌, length, map};
+ghost use Rattle.std.specs.Prelude.{◌≡◌, ◌<◌, ℕ, true, List, length};
 ghost use Rattle.std.specs.Prelude.{slice_get, Some, IfOk};
+ghost use Rattle.std.specs.List.{All};
 ghost use Rattle.nm_types.specs.Limits.{IsScript};
+ghost use Rattle.nm_types.specs.declared.scripts.Line.{Line};
 ghost use Rattle.nm_report.specs.Cells.{AllCellsFree};
 ghost use Rattle.nm_report.specs.Ends.{are_done, ends_of};
+ghost use Rattle.nm_cells.specs.declared.port.Fabric.{Fabric};
 ghost use Rattle.nm_cells.specs.declared.port.Port.{Port};
 ghost use Rattle.nm_cells.specs.Ports.{IsNew, knows};
 ghost use Rattle.nm_copyring.specs.declared.port.RingPort.{RingPort};
+ghost use Rattle.nm_copyring.specs.declared.port.Rings.{Rings};
 ghost use Rattle.nm_copyring.specs.Ports as ring_port;
 ghost use Rattle.nm_process.specs.Lines.{AreLines};
-ghost use Rattle.nm_world.specs.Actors.{Stands, seat_of};
+ghost use Rattle.nm_world.specs.Actors.{AllKept, Stands, seat_of};
 ghost use Rattle.nm_world.specs.Rest.{EachActor};
 ghost use Rattle.nm_world.specs.declared.actors.Actor.{Actor};
 ghost use Rattle.nm_world.specs.Runs.{AllAgree, AreRanked, InPlace};
@@ -63,20 +67,11 @@ fn pair_agrees(a: &Actor, b: &Actor, i: u8, j: u8) -> bool
 }
 
 // An actor at its first command.
-fn new_actor(
-    alloc: Global,
-    shape: Shape,
-    _lines: &[Line],
-    f: &Fabric,
-    r: &Rings,
-    port: Port,
-    ring: RingPort,
-) -> Result<Actor, Memory>
-    requires lines { AreLines shape.ranks _lines.now }
-    requires sizes { (f.now.ranks ≡ shape.ranks) × (r.now.ranks ≡ shape.ranks) }
-    requires port { IsNew f.now port port.rank }
-    requires ring { ring_port.IsNew r.now ring port.rank }
-    ensures stands { IfOk result (λ a. Stands _lines.now f.now r.now a) }
+fn new_actor(alloc: Global, shape: Shape, port: Port, ring: RingPort) -> Result<Actor, Memory>
+    requires rank { port.rank < shape.ranks }
+    ensures stands { IfOk result (λ a. (lines : List Line) (f : Fabric) (r : Rings) →
+        AreLines shape.ranks lines → (f.ranks ≡ shape.ranks) × (r.ranks ≡ shape.ranks) →
+        IsNew f port port.rank → ring_port.IsNew r ring port.rank → Stands lines f r a) }
     ensures seat { IfOk result (λ a. seat_of a ≡ record { rank = port.rank; sizes = shape }) }
 {
     let process = Process::new(alloc, shape, port.rank())?;
@@ -121,16 +116,14 @@ fn all_agree(actors: &[Actor], f: &Fabric) -> bool
 fn settle<R: Threads + Wait + Sync, G: Gate + Sync>(
     rt: &R,
     actors: &mut [Actor],
-    _shape: Shape,
     lines: &[Line],
     f: &Fabric,
     r: &Rings,
     gate: &G,
 ) -> Result<(), Memory>
-    requires place { InPlace _shape lines.now f.now r.now 0 actors.old }
+    requires stands { All (Stands lines.now f.now r.now) actors.old }
     requires many { length actors.old ≡ f.now.ranks }
-    ensures place { IfOk result (λ _. InPlace _shape lines.now f.now r.now 0 actors.new) }
-    ensures many { IfOk result (λ _. length actors.new ≡ f.now.ranks) }
+    ensures kept { IfOk result (λ _. AllKept lines.now f.now r.now actors.old actors.new) }
     ensures still { IfOk result (λ _. EachActor (λ i a. IsStillAt lines.now a) actors.new) }
     ensures agree { IfOk result (λ _. AllAgree actors.new) }
 {
@@ -149,20 +142,19 @@ fn settle<R: Threads + Wait + Sync, G: Gate + Sync>(
 fn settle_all<R: Threads + Wait + Sync, G: Gate + Sync>(
     rt: &R,
     actors: &mut Vec<Actor>,
-    shape: Shape,
     lines: &[Line],
     f: &Fabric,
     r: &Rings,
     gate: &G,
 ) -> Result<(), Memory>
-    requires place { InPlace shape lines.now f.now r.now 0 actors.old.items }
+    requires stands { All (Stands lines.now f.now r.now) actors.old.items }
     requires many { length actors.old.items ≡ f.now.ranks }
-    ensures place { IfOk result (λ _. InPlace shape lines.now f.now r.now 0 actors.new.items) }
-    ensures many { IfOk result (λ _. length actors.new.items ≡ f.now.ranks) }
+    ensures kept { IfOk result (λ _.
+        AllKept lines.now f.now r.now actors.old.items actors.new.items) }
     ensures still { IfOk result (λ _. EachActor (λ i a. IsStillAt lines.now a) actors.new.items) }
     ensures agree { IfOk result (λ _. AllAgree actors.new.items) }
 {
-    settle(rt, actors.as_mut_slice(), shape, lines, f, r, gate)?;
+    settle(rt, actors.as_mut_slice(), lines, f, r, gate)?;
     Ok(())
 }
 
@@ -170,16 +162,14 @@ fn settle_all<R: Threads + Wait + Sync, G: Gate + Sync>(
 fn cast(
     alloc: Global,
     shape: Shape,
-    lines: &[Line],
-    f: &Fabric,
-    r: &Rings,
     ports: Vec<Port>,
     rings: Vec<RingPort>,
 ) -> Result<Vec<Actor>, Memory>
-    requires lines { AreLines shape.ranks lines.now }
-    requires sizes { (f.now.ranks ≡ shape.ranks) × (r.now.ranks ≡ shape.ranks) }
-    requires ports { NewInOrder f.now r.now 0 ports.items rings.items }
-    ensures place { IfOk result (λ v. InPlace shape lines.now f.now r.now 0 v.items) }
+    requires ranks { All (λ p. p.rank < shape.ranks) ports.items }
+    requires pairs { length rings.items ≡ length ports.items }
+    ensures place { IfOk result (λ v. (lines : List Line) (f : Fabric) (r : Rings) →
+        AreLines shape.ranks lines → (f.ranks ≡ shape.ranks) × (r.ranks ≡ shape.ranks) →
+        NewInOrder f r 0 ports.items rings.items → InPlace shape lines f r 0 v.items) }
     ensures many { IfOk result (λ v. length v.items ≡ length ports.items) }
 {
     let mut actors = Vec::new(alloc);
@@ -188,7 +178,7 @@ fn cast(
         let Some(ring) = rings.next() else {
             unreachable!()
         };
-        let actor = new_actor(alloc, shape, lines, f, r, port, ring)?;
+        let actor = new_actor(alloc, shape, port, ring)?;
         add(&mut actors, actor)?;
     }
     Ok(actors)
@@ -212,8 +202,8 @@ fn run_lines<R: Threads + Wait + Sync, G: Gate + Sync>(
 {
     let (fabric, ports) = Fabric::build(alloc, shape)?;
     let (rings, ring_ports) = Rings::build(alloc, shape)?;
-    let mut actors = cast(alloc, shape, lines, &fabric, &rings, ports, ring_ports)?;
-    settle_all(rt, &mut actors, shape, lines, &fabric, &rings, gate)?;
+    let mut actors = cast(alloc, shape, ports, ring_ports)?;
+    settle_all(rt, &mut actors, lines, &fabric, &rings, gate)?;
     let parts = parts_of(alloc, actors, lines, fabric.ranks())?;
     let Parts {
         ports,

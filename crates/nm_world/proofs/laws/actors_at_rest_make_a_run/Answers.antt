@@ -20,8 +20,8 @@ use Rattle.nm_ranks.specs.Ranks.{AreAtRest, Each, HasNothingToSend, IsPassed, Is
 use Rattle.nm_standing.specs.Standing.{IsStanding}
 use Rattle.nm_world.specs.declared.actors.Actor.{Actor}
 use Rattle.nm_world.specs.Rest.{EndsAt, HasRun, IsCarried}
-use Rattle.nm_world.proofs.Chosen.{chosen, chosen_each, chosen_length, chosen_map, each_map, for_each, get_map, get_some}
-use Rattle.nm_world.proofs.Chosen.{map_length, map_twice, place_below, placed, same_there}
+use Rattle.nm_world.proofs.Chosen.{chosen, chosen_each, chosen_length, chosen_map, each_map, for_each, get_map}
+use Rattle.nm_world.proofs.Chosen.{get_some, map_length, map_twice, place_below, placed, same_there}
 use Rattle.nm_world.proofs.laws.actors_at_rest_make_a_run.Goals as goal
 
 entry_is : (ports : List RingPort) (i : ℕ) (p : RingPort) → slice_get ports i ≡ Some p →

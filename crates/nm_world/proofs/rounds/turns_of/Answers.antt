@@ -1,17 +1,61 @@
 -- Each turn goes on from the one before.
-use Rattle.nm_world.proofs.Grows.{kept_and}
+use Rattle.std.proofs.Common.{◌≡◌, ◌||◌, false, refl, sym, subst, arith}
+use Rattle.nm_rank.specs.Ranks.{IsFresh}
+use Rattle.nm_process.specs.Processes.{ProcessView}
+use Rattle.nm_world.specs.Idle.{Idle}
+use Rattle.nm_world.proofs.Did.{did_same, kept_and}
+use Rattle.nm_world.proofs.Grows.{kept_same}
+use Rattle.nm_world.proofs.Idle.{idle_next}
 use Rattle.nm_world.proofs.rounds.turns_of.Goals as goal
 
-pub loop-preserved : goal.loop-preserved
-loop-preserved g c =
+pub loop-made-init : goal.loop-made-init
+loop-made-init g c = record {
+  kept = kept_same c.args.lines.now c.args.f.now c.args.r.now c.args.actor.now c.requires.stands;
+  moved = did_same c.args.f.now.ranks c.args.actor.now;
+  still = λ none fresh. refl;
+  idle = λ some none fresh. absurd (omega (arith, some));
+}
+
+pub loop-made-preserved : goal.loop-made-preserved
+loop-made-preserved g c =
+    let i = c.loop-made.invariant in
+    let e = c.in_ok-one.ensures in
     let both = kept_and c.args.f.now.ranks c.args.lines.now c.args.f.now c.args.r.now c.args.actor.now
-    c.loop.actor c.turn.new.self c.loop.moved c.in_ok-one.one c.loop.invariant.kept c.in_ok-one.ensures.kept
-    c.loop.invariant.moved c.in_ok-one.ensures.moved in
-    record { kept = both.0; moved = both.1 }
+    c.loop-made.actor c.turn.new.self c.loop-made.moved c.in_ok-one.one i.kept e.kept i.moved e.moved in
+    let idle : (c.loop-made.moved || c.in_ok-one.one) ≡ false → IsFresh c.args.actor.now.process.rank →
+    Idle c.args.lines.now c.args.actor.now c.turn.new.self = λ none fresh.
+    idle_next c.args.lines.now c.args.actor.now c.loop-made.actor c.turn.new.self c.loop-made.moved c.in_ok-one.one
+    i.kept.grows i.still e.idle none fresh in
+    record {
+      kept = both.0;
+      moved = both.1;
+      still = λ none fresh. (idle none fresh).process;
+      idle = λ some. idle;
+    }
 
 pub returns-then-ends : goal.returns-then-ends
 returns-then-ends g c =
+    let i = c.loop-made.invariant in
+    let e = c.in_ok-one.ensures in
     let both = kept_and c.args.f.now.ranks c.args.lines.now c.args.f.now c.args.r.now c.args.actor.now
-    c.loop.actor c.turn.new.self c.loop.moved c.in_ok-one.one c.loop.invariant.kept c.in_ok-one.ensures.kept
-    c.loop.invariant.moved c.in_ok-one.ensures.moved in
-    record { kept = both.0; moved = both.1 }
+    c.loop-made.actor c.turn.new.self c.loop-made.moved c.in_ok-one.one i.kept e.kept i.moved e.moved in
+    record {
+      kept = both.0;
+      moved = both.1;
+      idle = idle_next c.args.lines.now c.args.actor.now c.loop-made.actor c.turn.new.self c.loop-made.moved
+          c.in_ok-one.one i.kept.grows i.still e.idle;
+    }
+
+pub returns-then-not-rests : goal.returns-then-not-rests
+returns-then-not-rests g c =
+    let i = c.loop-made.invariant in
+    let some = c.requires.turns in
+    let past = c.loop-made-test.false in
+    record { kept = i.kept; moved = i.moved; idle = i.idle (omega (arith, some, past)) }
+
+pub returns-else-not-rests : goal.returns-else-not-rests
+returns-else-not-rests g c =
+    let i = c.loop-made.invariant in
+    let some = c.requires.turns in
+    let past = c.loop-made-test.false in
+    record { kept = i.kept; moved = i.moved; idle = i.idle (omega (arith, some, past)) }

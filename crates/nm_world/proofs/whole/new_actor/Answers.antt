@@ -5,10 +5,9 @@ use Rattle.nm_world.proofs.Begins.{new_stands}
 use Rattle.nm_world.proofs.whole.new_actor.Goals as goal
 
 pub returns-clause-stands : goal.returns-clause-stands
-returns-clause-stands c =
+returns-clause-stands c lines f r in_range sizes fresh ring_fresh =
     let v = c.in_ok-process.process in
     let p = c.in_ok-process.ensures in
-    let lines = c.args._lines.now in
     let shape = c.args.shape in
     let port = c.args.port in
     let new : IsNew shape v.rank =
@@ -27,5 +26,4 @@ returns-clause-stands c =
     let me : v.rank.me ≡ port.rank = p.me.0 ∙ c.rank.ensures in
     let standing = c.a_process_begins.ensures shape lines port.rank v (p.begins.1 lines) me new
     (p.sent.0 ∙ c.rank.ensures, p.sent.1, p.sent.2, p.sent.3, p.sent.4) in
-    new_stands shape lines c.args.f.now c.args.r.now v port c.args.ring c.requires.lines c.requires.sizes.0
-    c.requires.sizes.1 c.requires.port c.requires.ring p.me.1 standing
+    new_stands shape lines f r v port c.args.ring in_range sizes.0 sizes.1 fresh ring_fresh p.me.1 standing

@@ -1,17 +1,62 @@
--- Each step goes on from the one before.
-use Rattle.nm_world.proofs.Grows.{did_on, kept_on}
+-- Each rank's pieces go on from those of the one before.
+use Rattle.std.proofs.Common.{◌≡◌, ◌<◌, ◌≤◌, suc, ◌∙◌, subst, sym, refl, arith}
+use native.Mathlib.Decide.{ℕ_discrete}
+use Rattle.nm_rank.specs.Ranks.{IsFresh}
+use Rattle.nm_process.specs.Processes.{ProcessView}
+use Rattle.nm_world.specs.Idle.{NoPiece}
+use Rattle.nm_world.proofs.Did.{did_on, did_same}
+use Rattle.nm_world.proofs.Grows.{kept_on, kept_same}
+use Rattle.nm_world.proofs.Idle.{more_none, neither, stepped_none, stepped_on}
 use Rattle.nm_world.proofs.actors.Actor.pull_all.Goals as goal
 
+pub loop-sender-init : goal.loop-sender-init
+loop-sender-init g c = record {
+  kept = kept_same g.here.lines g.here.fabric c.args.r.now c.args.self.now c.requires.1;
+  moved = did_same g.here.fabric.ranks c.args.self.now;
+  stepped = stepped_none c.args.self.now;
+  none = λ none fresh i low. absurd (omega (arith, low));
+  end = c.ranks-sender-end.ensures;
+}
+
+pub pull_some-requires : goal.pull_some-requires
+pull_some-requires g c =
+    let s = c.loop-sender.invariant.kept.stands in
+    let low = c.loop-sender-test.true in
+    let end = c.loop-sender.invariant.end in
+    let ranks = c.requires.0 in
+    let cells = s.is.ranks.0 in
+    let rings = s.is.ranks.1 in
+    (s, omega (arith, low, end, ranks, cells, rings))
+
 pub loop-sender-preserved : goal.loop-sender-preserved
-loop-sender-preserved c =
+loop-sender-preserved g c =
     let a = c.args.self.now in
     let b = c.loop-sender.self in
     let d = c.pull_some.new.self in
     let one = c.loop-sender.invariant in
     let two = c.in_ok-one.ensures in
     record {
-      kept = kept_on c.args.lines.now c.args.f.now c.args.r.now a b d one.kept two.kept;
-      moved = did_on c.args.f.now.ranks a b d c.loop-sender.moved c.in_ok-one.one one.kept.grows two.kept.grows
+      kept = kept_on g.here.lines g.here.fabric c.args.r.now a b d one.kept two.kept;
+      moved = did_on g.here.fabric.ranks a b d c.loop-sender.moved c.in_ok-one.one one.kept.grows two.kept.grows
           one.moved two.moved;
+      stepped = stepped_on c.loop-sender.moved c.in_ok-one.one a b d one.stepped two.stepped;
+      none = λ none fresh i low.
+          let both = neither c.loop-sender.moved c.in_ok-one.one none in
+          let same = one.stepped.still both.0 in
+          let fresh_too = subst (λ (v : ProcessView). IsFresh v.rank) (sym same) fresh in
+          more_none a b d c.loop-sender.sender i one.kept.grows two.kept.grows same low
+          (λ below. one.none both.0 fresh i below) (two.none both.1 fresh_too);
       end = one.end;
+    }
+
+pub returns : goal.returns
+returns g c =
+    let i = c.loop-sender.invariant in
+    let end = i.end in
+    let past = c.loop-sender-test.false in
+    record {
+      kept = i.kept;
+      moved = i.moved;
+      stepped = i.stepped;
+      none = λ none fresh k low. i.none none fresh k (omega (arith, low, end, past));
     }

@@ -1,32 +1,45 @@
 -- Each step goes on from the one before.
-use Rattle.std.proofs.Common.{◌∙◌}
-use Rattle.nm_world.proofs.Grows.{did_on, kept_on, or_none, or_one}
+use Rattle.std.proofs.Common.{◌≡◌, ◌⊎◌, Bool, subst, sym, ◌∙◌, arith, inl, inr, ⊎_elim}
+use Rattle.nm_rank.specs.Ranks.{IsFresh}
+use Rattle.nm_world.specs.declared.actors.Actor.{Actor}
+use Rattle.nm_world.specs.Idle.{NoPiece, Stepped}
+use Rattle.nm_world.proofs.Loops.{all_made, loop_last, loop_more, loop_none}
+use Rattle.nm_world.proofs.Results.{clash}
 use Rattle.nm_world.proofs.actors.Actor.pull_some.Goals as goal
 
-pub loop-preserved : goal.loop-preserved
-loop-preserved c =
-    let a = c.args.self.now in
-    let b = c.loop.self in
-    let d = c.pull_next.new.self in
-    let one = c.loop.invariant in
-    let two = c.in_ok-pull_next.ensures in
-    record {
-      kept = kept_on c.args.lines.now c.args.f.now c.args.r.now a b d one.kept two.kept;
-      moved = or_one c.loop.moved c.in_ok-pull_next.field-0 c.if-not-branch.false
-          ∙ did_on c.args.f.now.ranks a b d c.loop.moved c.in_ok-pull_next.field-0 one.kept.grows two.kept.grows
-          one.moved two.moved;
-    }
+pub loop-pulled-init : goal.loop-pulled-init
+loop-pulled-init g c = loop_none g.here.fabric.ranks g.here.lines g.here.fabric c.args.r.now c.args.self.now c.requires.0
+
+pub loop-pulled-preserved : goal.loop-pulled-preserved
+loop-pulled-preserved g c =
+    let e = c.in_ok-pull_next.ensures in
+    loop_more g.here.fabric.ranks g.here.lines g.here.fabric c.args.r.now c.args.self.now c.loop-pulled.pulled c.loop-pulled.self
+    c.pull_next.new.self c.in_ok-pull_next.field-0 c.if-not-branch.false c.loop-pulled.invariant e.kept e.moved e.stepped
 
 pub returns-then-not-branch : goal.returns-then-not-branch
-returns-then-not-branch c =
+returns-then-not-branch g c =
+    let e = c.in_ok-pull_next.ensures in
     let a = c.args.self.now in
-    let b = c.loop.self in
+    let b = c.loop-pulled.self in
     let d = c.pull_next.new.self in
-    let one = c.loop.invariant in
-    let two = c.in_ok-pull_next.ensures in
+    let done = loop_last g.here.fabric.ranks g.here.lines g.here.fabric c.args.r.now a c.loop-pulled.pulled b d c.in_ok-pull_next.field-0
+    c.if-not-branch.true c.loop-pulled.invariant e.kept e.moved e.stepped in
     record {
-      kept = kept_on c.args.lines.now c.args.f.now c.args.r.now a b d one.kept two.kept;
-      moved = or_none c.loop.moved c.in_ok-pull_next.field-0 c.if-not-branch.true
-          ∙ did_on c.args.f.now.ranks a b d c.loop.moved c.in_ok-pull_next.field-0 one.kept.grows two.kept.grows
-          one.moved two.moved;
+      kept = done.kept;
+      moved = done.moved;
+      stepped = done.stepped;
+      none = λ none fresh. let same = done.sole none in
+          subst (λ (x : Actor). NoPiece x d c.args.sender) same
+          (e.none c.if-not-branch.true (subst (λ (x : Actor). IsFresh x.process.rank) (sym same) fresh));
+    }
+
+pub returns : goal.returns
+returns g c =
+    let i = c.loop-pulled.invariant in
+    let some = all_made c.loop-pulled.pulled 4 c.loop-pulled-test.false (omega arith) in
+    record {
+      kept = i.kept;
+      moved = sym some ∙ i.moved;
+      stepped = subst (λ (p : Bool). Stepped p c.args.self.now c.loop-pulled.self) some i.stepped;
+      none = λ none fresh. absurd (clash none);
     }

@@ -1,9 +1,9 @@
-use Rattle.std.proofs.Common.{◌≡◌}
-use Rattle.nm_world.specs.Actors.{Kept, did}
+use Rattle.nm_world.proofs.Loops.{HasLooped}
 use Rattle.nm_world.proofs.actors.Actor.pull_some.Given as goal
 
-abbrev pub invariant-loop : goal.invariant-loop
-invariant-loop l = record {
-  kept : Kept l.lines l.f l.r l.initial.self l.self;
-  moved : l.moved ≡ did l.f.ranks l.initial.self l.self;
-}
+abbrev pub ghost-pull_next : goal.ghost-pull_next
+ghost-pull_next g a = g.here
+
+abbrev pub invariant-loop-pulled : goal.invariant-loop-pulled
+invariant-loop-pulled g l =
+    HasLooped g.here.fabric.ranks g.here.lines g.here.fabric l.r l.pulled l.initial.self l.self

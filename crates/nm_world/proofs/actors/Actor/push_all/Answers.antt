@@ -1,32 +1,44 @@
 -- Each step goes on from the one before.
-use Rattle.std.proofs.Common.{◌∙◌}
-use Rattle.nm_world.proofs.Grows.{did_on, kept_on, or_none, or_one}
+use Rattle.std.proofs.Common.{◌≡◌, Bool, subst, sym, ◌∙◌, arith}
+use Rattle.nm_rank.specs.Ranks.{IsFresh}
+use Rattle.nm_world.specs.declared.actors.Actor.{Actor}
+use Rattle.nm_world.specs.Idle.{PieceBack, Stepped}
+use Rattle.nm_world.proofs.Loops.{all_made, loop_last, loop_more, loop_none}
+use Rattle.nm_world.proofs.Results.{clash}
 use Rattle.nm_world.proofs.actors.Actor.push_all.Goals as goal
 
-pub loop-preserved : goal.loop-preserved
-loop-preserved c =
-    let a = c.args.self.now in
-    let b = c.loop.self in
-    let d = c.push_next.new.self in
-    let one = c.loop.invariant in
-    let two = c.push_next.ensures in
-    record {
-      kept = kept_on c.args.lines.now c.args.f.now c.args.r.now a b d one.kept two.kept;
-      moved = or_one c.loop.moved c.push_next.result c.if-not-push_next.false
-          ∙ did_on c.args.f.now.ranks a b d c.loop.moved c.push_next.result one.kept.grows two.kept.grows
-          one.moved two.moved;
-    }
+pub loop-pushed-init : goal.loop-pushed-init
+loop-pushed-init g c = loop_none g.here.fabric.ranks g.here.lines g.here.fabric c.args.r.now c.args.self.now c.requires
+
+pub loop-pushed-preserved : goal.loop-pushed-preserved
+loop-pushed-preserved g c =
+    let e = c.push_next.ensures in
+    loop_more g.here.fabric.ranks g.here.lines g.here.fabric c.args.r.now c.args.self.now c.loop-pushed.pushed c.loop-pushed.self c.push_next.new.self
+    c.push_next.result c.if-not-push_next.false c.loop-pushed.invariant e.kept e.moved e.stepped
 
 pub returns-then-not-push_next : goal.returns-then-not-push_next
-returns-then-not-push_next c =
+returns-then-not-push_next g c =
+    let e = c.push_next.ensures in
     let a = c.args.self.now in
-    let b = c.loop.self in
     let d = c.push_next.new.self in
-    let one = c.loop.invariant in
-    let two = c.push_next.ensures in
+    let done = loop_last g.here.fabric.ranks g.here.lines g.here.fabric c.args.r.now a c.loop-pushed.pushed c.loop-pushed.self d c.push_next.result
+    c.if-not-push_next.true c.loop-pushed.invariant e.kept e.moved e.stepped in
     record {
-      kept = kept_on c.args.lines.now c.args.f.now c.args.r.now a b d one.kept two.kept;
-      moved = or_none c.loop.moved c.push_next.result c.if-not-push_next.true
-          ∙ did_on c.args.f.now.ranks a b d c.loop.moved c.push_next.result one.kept.grows two.kept.grows
-          one.moved two.moved;
+      kept = done.kept;
+      moved = done.moved;
+      stepped = done.stepped;
+      back = λ none fresh. let same = done.sole none in
+          subst (λ (x : Actor). PieceBack x d) same
+          (e.back c.if-not-push_next.true (subst (λ (x : Actor). IsFresh x.process.rank) (sym same) fresh));
+    }
+
+pub returns : goal.returns
+returns g c =
+    let i = c.loop-pushed.invariant in
+    let some = all_made c.loop-pushed.pushed 64 c.loop-pushed-test.false (omega arith) in
+    record {
+      kept = i.kept;
+      moved = sym some ∙ i.moved;
+      stepped = subst (λ (p : Bool). Stepped p c.args.self.now c.loop-pushed.self) some i.stepped;
+      back = λ none fresh. absurd (clash none);
     }

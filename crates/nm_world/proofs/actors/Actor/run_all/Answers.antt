@@ -1,25 +1,126 @@
--- Each step goes on from the one before.
-use Rattle.nm_world.proofs.Grows.{kept_and}
+-- Each command goes on from the one before.
+use Rattle.std.proofs.Common.{◌≡◌, ◌+◌, ◌||◌, Bool, List, true, false, refl, sym, ap, ◌∙◌, subst, arith}
+use Rattle.std.specs.Prelude.{nat_lt}
+use Rattle.nm_rank.specs.Ranks.{IsFresh}
+use Rattle.nm_process.specs.Processes.{ProcessView}
+use Rattle.nm_process.specs.Steps.{goes_on}
+use Rattle.nm_types.specs.Commands.{commands_of}
+use Rattle.nm_world.specs.declared.actors.Actor.{Actor}
+use Rattle.nm_types.specs.declared.scripts.Line.{Line}
+use Rattle.nm_cells.specs.declared.port.Fabric.{Fabric}
+use Rattle.nm_world.specs.Actors.{Kept, Stands, did}
+use Rattle.nm_world.specs.Looks.{PolledBefore}
+use Rattle.nm_world.proofs.Did.{did_same, kept_and}
+use Rattle.nm_world.proofs.Grows.{kept_same}
+use Rattle.nm_world.proofs.Idle.{neither}
+use Rattle.nm_world.proofs.Looks.{looked_last, looked_more, looked_none}
+use Rattle.nm_world.proofs.Loops.{all_made, is_first, none_ran, or_swap, or_true, some_more, stays_worn}
+use Rattle.nm_world.proofs.Results.{clash}
 use Rattle.nm_world.proofs.actors.Actor.run_all.Goals as goal
 
-pub loop-preserved : goal.loop-preserved
-loop-preserved c =
-    let n = c.args.f.now.ranks in
+pub loop-ran-init : goal.loop-ran-init
+loop-ran-init g c =
     let a = c.args.self.now in
-    let one = c.loop.invariant in
-    let two = kept_and n c.args.lines.now c.args.f.now c.args.r.now a c.loop.self c.look.new.self c.loop.moved
-    c.in_ok-took.took one.kept c.in_ok-took.ensures.kept one.moved c.in_ok-took.ensures.moved in
-    let three = kept_and n c.args.lines.now c.args.f.now c.args.r.now a c.look.new.self c.run_next.new.self _
-    c.in_ok-ran.ran two.0 c.in_ok-ran.ensures.kept two.1 c.in_ok-ran.ensures.moved in
-    record { kept = three.0; moved = three.1 }
+    record {
+      kept = kept_same c.args.lines.now g.here.fabric g.here.rings a c.requires.1.0;
+      moved = did_same g.here.fabric.ranks a;
+      first = λ e. refl;
+      polled = looked_none c.args.lines.now a;
+      worn = λ worn. refl;
+    }
 
-pub returns-then-not-ran : goal.returns-then-not-ran
-returns-then-not-ran c =
-    let n = c.args.f.now.ranks in
+pub look-requires : goal.look-requires
+look-requires g c = (
+  c.requires.1.1,
+  subst (λ (x : List Line). Stands x c.args.f.now g.here.rings c.loop-ran.self) c.requires.1.1
+      (subst (λ (x : Fabric). Stands c.args.lines.now x g.here.rings c.loop-ran.self) (sym c.requires.0)
+      c.loop-ran.invariant.kept.stands),
+)
+
+pub run_next-requires : goal.run_next-requires
+run_next-requires g c =
+    subst (λ (x : Fabric). Stands c.args.lines.now x g.here.rings c.look.new.self) c.requires.0
+    (subst (λ (x : List Line). Stands x c.args.f.now g.here.rings c.look.new.self) (sym c.requires.1.1)
+    c.in_ok-looked.ensures.kept.stands)
+
+pub loop-ran-preserved : goal.loop-ran-preserved
+loop-ran-preserved g c =
+    let lines = c.args.lines.now in
+    let f = g.here.fabric in
+    let r = g.here.rings in
     let a = c.args.self.now in
-    let one = c.loop.invariant in
-    let two = kept_and n c.args.lines.now c.args.f.now c.args.r.now a c.loop.self c.look.new.self c.loop.moved
-    c.in_ok-took.took one.kept c.in_ok-took.ensures.kept one.moved c.in_ok-took.ensures.moved in
-    let three = kept_and n c.args.lines.now c.args.f.now c.args.r.now a c.look.new.self c.run_next.new.self _
-    c.in_ok-ran.ran two.0 c.in_ok-ran.ensures.kept two.1 c.in_ok-ran.ensures.moved in
-    record { kept = three.0; moved = three.1 }
+    let b = c.loop-ran.self in
+    let m = c.look.new.self in
+    let d = c.run_next.new.self in
+    let one = c.loop-ran.invariant in
+    let two = c.in_ok-looked.ensures in
+    let two_kept = subst (λ (x : Fabric). Kept lines x r b m) c.requires.0
+    (subst (λ (x : List Line). Kept x c.args.f.now r b m) (sym c.requires.1.1) two.kept) in
+    let two_moved = subst (λ (x : Fabric). c.in_ok-looked.looked ≡ did x.ranks b m) c.requires.0 two.moved in
+    let three = c.in_ok-run_next.ensures in
+    let ran = three.ran c.if-not-branch.false in
+    let both = kept_and f.ranks lines f r a b m (c.loop-ran.took || nat_lt 0 c.loop-ran.ran) c.in_ok-looked.looked
+    one.kept two_kept one.moved two_moved in
+    let all = kept_and f.ranks lines f r a m d _ c.in_ok-run_next.field-0 both.0 three.kept both.1 three.moved in
+    record {
+      kept = all.0;
+      moved = or_true (c.loop-ran.took || c.in_ok-looked.looked) (nat_lt 0 (c.loop-ran.ran + 1))
+          (some_more c.loop-ran.ran)
+          ∙ sym (or_true ((c.loop-ran.took || nat_lt 0 c.loop-ran.ran) || c.in_ok-looked.looked)
+          c.in_ok-run_next.field-0 c.if-not-branch.false) ∙ all.1;
+      first = λ e. absurd (omega (arith, e));
+      polled = looked_more lines f r a b m d c.requires.1.0 one.kept two_kept three.kept two.stepped.at one.polled
+          two.polled ran.0 ran.1;
+      worn = λ worn. absurd (none_ran a b m one.worn two.stepped.worn worn ran.0);
+    }
+
+pub returns-then-not-branch : goal.returns-then-not-branch
+returns-then-not-branch g c =
+    let lines = c.args.lines.now in
+    let f = g.here.fabric in
+    let r = g.here.rings in
+    let a = c.args.self.now in
+    let b = c.loop-ran.self in
+    let m = c.look.new.self in
+    let d = c.run_next.new.self in
+    let one = c.loop-ran.invariant in
+    let two = c.in_ok-looked.ensures in
+    let two_kept = subst (λ (x : Fabric). Kept lines x r b m) c.requires.0
+    (subst (λ (x : List Line). Kept x c.args.f.now r b m) (sym c.requires.1.1) two.kept) in
+    let two_moved = subst (λ (x : Fabric). c.in_ok-looked.looked ≡ did x.ranks b m) c.requires.0 two.moved in
+    let three = c.in_ok-run_next.ensures in
+    let rests = c.if-not-branch.true in
+    let took = c.loop-ran.took in
+    let looked = c.in_ok-looked.looked in
+    let same : d ≡ m = three.still rests in
+    let both = kept_and f.ranks lines f r a b m (took || nat_lt 0 c.loop-ran.ran) looked one.kept two_kept one.moved
+    two_moved in
+    let before : (took || looked) || nat_lt 0 c.loop-ran.ran ≡ false → (b ≡ a) × (looked ≡ false) =
+    λ none. let two_none = neither (took || looked) (nat_lt 0 c.loop-ran.ran) none in
+    (one.first (is_first c.loop-ran.ran two_none.1), (neither took looked two_none.0).1) in
+    let still : (took || looked) || nat_lt 0 c.loop-ran.ran ≡ false → m.process ≡ a.process =
+    λ none. two.stepped.still (before none).1 ∙ ap (λ (x : Actor). x.process) (before none).0 in
+    record {
+      kept = subst (λ (x : Actor). Kept lines f r a x) (sym same) both.0;
+      moved = or_swap took looked (nat_lt 0 c.loop-ran.ran)
+          ∙ subst (λ (x : Actor). ((took || nat_lt 0 c.loop-ran.ran) || looked) ≡ did f.ranks a x) (sym same) both.1;
+      still = λ none. ap (λ (x : Actor). x.process) same ∙ still none;
+      stuck = λ none fresh. subst (λ (v : ProcessView). goes_on (commands_of v.rank.me lines) v ≡ false) (still none)
+          (three.stuck rests (subst (λ (v : ProcessView). IsFresh v.rank) (sym (still none)) fresh));
+      polled = subst (λ (x : Actor). PolledBefore lines a x) (sym same)
+          (looked_last lines f r a b m c.requires.1.0 one.kept two_kept two.stepped.at one.polled);
+      worn = λ worn. same ∙ stays_worn a b m one.worn two.stepped.worn worn;
+    }
+
+pub returns : goal.returns
+returns g c =
+    let i = c.loop-ran.invariant in
+    let some = all_made c.loop-ran.ran 64 c.loop-ran-test.false (omega arith) in
+    record {
+      kept = i.kept;
+      moved = sym (or_true c.loop-ran.took (nat_lt 0 c.loop-ran.ran) some) ∙ i.moved;
+      still = λ none. absurd (clash none);
+      stuck = λ none fresh. absurd (clash none);
+      polled = i.polled;
+      worn = i.worn;
+    }

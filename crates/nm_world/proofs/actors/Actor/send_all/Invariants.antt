@@ -1,9 +1,9 @@
-use Rattle.std.proofs.Common.{◌≡◌}
-use Rattle.nm_world.specs.Actors.{Kept, did}
+use Rattle.nm_world.proofs.Loops.{HasLooped}
 use Rattle.nm_world.proofs.actors.Actor.send_all.Given as goal
 
-abbrev pub invariant-loop : goal.invariant-loop
-invariant-loop l = record {
-  kept : Kept l.lines l.f l.r l.initial.self l.self;
-  moved : l.moved ≡ did l.f.ranks l.initial.self l.self;
-}
+abbrev pub ghost-send_next : goal.ghost-send_next
+ghost-send_next g a = g.here
+
+abbrev pub invariant-loop-sent : goal.invariant-loop-sent
+invariant-loop-sent g l =
+    HasLooped l.f.ranks g.here.lines l.f g.here.rings l.sent l.initial.self l.self

@@ -1,5 +1,5 @@
 -- The packet comes behind the others for its receiver.
-use Rattle.std.proofs.Common.{◌≡◌, ℕ, List, sym, ap, subst, ◌∙◌, arith, refl}
+use Rattle.std.proofs.Common.{◌≡◌, ℕ, true, Option, List, sym, ap, subst, ◌∙◌, arith, refl}
 use Rattle.nm_types.specs.declared.packets.Packet.{Packet}
 use Rattle.nm_cells.specs.Ports.{knows}
 use Rattle.nm_port.specs.Polls.{count_held}
@@ -7,22 +7,48 @@ use Rattle.nm_port.specs.Sends.{HadMiss, tried}
 use Rattle.nm_log.specs.Moments.{acted}
 use Rattle.nm_sending.specs.Departures.{ended_by}
 use Rattle.nm_sending.specs.Sent.{outs}
-use Rattle.std.specs.Prelude.{false, length, slice_get}
+use Rattle.std.specs.Prelude.{false, IfSome, length, slice_get}
+use Rattle.nm_outbox.specs.declared.letters.Letter.{Letter}
+use Rattle.nm_process.specs.Processes.{ProcessView}
+use Rattle.nm_world.specs.Idle.{CameBack}
 use Rattle.nm_standing.specs.Standing.{IsOf, with_moment, with_packet_left}
 use Rattle.nm_table.specs.Rule.{Load, sent_to}
 use Rattle.nm_world.specs.declared.actors.Actor.{Actor}
 use Rattle.nm_world.specs.Actors.{Grows}
 use Rattle.nm_world.specs.Actors.Grew.{sent}
-use Rattle.nm_world.proofs.Grows.{did_more, did_none, entry_on, grows_same, miss_up, port_by}
-use Rattle.nm_world.proofs.Grows.{ring_same, sent_more, sent_up, tried_up}
-use Rattle.nm_world.proofs.Results.{at_err, first_letter}
-use Rattle.nm_world.proofs.Steps.{SentBy, back_got, back_sent, nothing_carried, seat_is}
-use Rattle.nm_world.proofs.Steps.{send_carries, send_on, sent_by_way}
+use Rattle.nm_world.proofs.Did.{did_more, did_none, did_same}
+use Rattle.nm_world.proofs.Entries.{entry_on, miss_up, sent_more, sent_up, tried_up}
+use Rattle.nm_world.proofs.Grows.{grows_same, kept_same, port_by, ring_same}
+use Rattle.nm_world.proofs.Idle.{came_back, stepped_fresh, stepped_none}
+use Rattle.nm_world.proofs.Leaves.{SentBy, send_carries, send_on, sent_by_way}
+use Rattle.nm_world.proofs.Results.{at_err, clash, first_letter, none_first}
+use Rattle.nm_world.proofs.Steps.{back_got, back_sent, nothing_carried, seat_is}
 use Rattle.nm_world.proofs.actors.Actor.send_next.Goals as goal
 
+pub returns-then-is_worn : goal.returns-then-is_worn
+returns-then-is_worn g c =
+    let a = c.args.self.now in
+    record {
+      kept = kept_same g.here.lines c.args.f.now g.here.rings a c.requires;
+      moved = did_same c.args.f.now.ranks a;
+      stepped = stepped_none a;
+      back = λ none fresh. absurd (clash (sym c.if-is_worn.true ∙ c.is_worn.ensures.1 fresh));
+    }
+
+pub returns-in_default : goal.returns-in_default
+returns-in_default g c =
+    let a = c.args.self.now in
+    record {
+      kept = kept_same g.here.lines c.args.f.now g.here.rings a c.requires;
+      moved = did_same c.args.f.now.ranks a;
+      stepped = stepped_none a;
+      back = λ none fresh. none_first (slice_get a.process.rank.sending.outbox.letters 0) _
+          (CameBack a.port a.port) c.in_default.ensures.first;
+    }
+
 pub returns-then-is_err : goal.returns-then-is_err
-returns-then-is_err c =
-    let s = c.requires.stands in
+returns-then-is_err g c =
+    let s = c.requires in
     let a = c.args.self.now in
     let port = c.sent.new.port in
     let e = c.sent.ensures in
@@ -32,7 +58,19 @@ returns-then-is_err c =
     at_err c.sent.result _ (HadMiss false (tried len to (knows a.port)) (knows port)) (λ x is. is.1) e.back
     (sym c.is_err.ensures.value ∙ c.if-is_err.true) in
     let n = c.args.f.now.ranks in
+    let fresh = c.is_worn.ensures.0 c.if-is_worn.false in
+    let letters = a.process.rank.sending.outbox.letters in
+    let first = first_letter (slice_get letters 0) _ to c.in-Some.packet.now (λ none. cc) c.in-Some.ensures.first in
+    let within = c.in-Some.ensures.own.0 in
+    let ranks = s.is.ranks.0 in
+    let wide = s.is.cells.2 in
+    let there = first.2 in
     record {
+      stepped = stepped_fresh false a (record a { port = port }) fresh refl (λ none. refl);
+      back = λ none fresh. subst (λ (o : Option Letter). IfSome o (CameBack a.port port)) (sym first.1)
+          (came_back a.port port first.0 len (ap (λ (x : Packet). length x.payload)
+          (c.copy-packet.ensures ∙ first.3)) (omega (arith, within, ranks, wide, there))
+          (subst (λ (k : ℕ). HadMiss false (tried len k (knows a.port)) (knows port)) first.2 miss));
       moved = did_none n a (record a { port = port }) refl
           (λ j. ap (λ (xs : List (ℕ × Load)). sent_to j xs (knows port).put) (back_sent len to (knows a.port) (knows port) miss).box
           ∙ ap (λ (xs : List (ℕ × Load)). sent_to j (knows a.port).put_box xs) (back_sent len to (knows a.port) (knows port) miss).cell)
@@ -46,7 +84,7 @@ returns-then-is_err c =
               e.taken.0;
         };
         seat = seat_is a a.process port.rank e.owns.1 refl;
-        stands = nothing_carried c.args._lines.now c.args.f.now c.args._r.now a port s e.owns.0 e.owns.1
+        stands = nothing_carried g.here.lines c.args.f.now g.here.rings a port s e.owns.0 e.owns.1
             (e.taken.2 ∙ s.is.rest ∙ ap count_held (sym e.taken.1)) e.hands e.taken.0
             (back_sent len to (knows a.port) (knows port) miss)
             (back_got len to (knows a.port) (knows port) miss);
@@ -54,8 +92,8 @@ returns-then-is_err c =
     }
 
 pub returns : goal.returns
-returns c =
-    let s = c.requires.stands in
+returns g c =
+    let s = c.requires in
     let a = c.args.self.now in
     let v = c.pop_front.new.self in
     let port = c.sent.new.port in
@@ -75,15 +113,15 @@ returns c =
     let left = s.is.standing.rank.left to within in
     let number = ap (λ (x : Packet). x.seq) c.copy-packet.ensures ∙ i.own.2 ∙ sym left.packets.popped
     ∙ (s.is.sent to within).many in
-    let work = p.work shape c.args._lines.now s.is.standing.work in
+    let work = p.work shape g.here.lines s.is.standing.work in
     let moment = acted a.process.rank (outs (ended_by (slice_get letters 0))) in
-    let on = c.a_packet_leaves.ensures shape c.args._lines.now a.port.rank a.process.rank v.rank s.past
+    let on = c.a_packet_leaves.ensures shape g.here.lines a.port.rank a.process.rank v.rank s.past
     first.0 first.1 p.left p.popped p.same p.eager p.takes.0 p.takes.2 s.is.standing.rank in
-    let here : IsOf shape c.args._lines.now a.port.rank v.rank
+    let here : IsOf shape g.here.lines a.port.rank v.rank
     (with_moment (with_packet_left s.past (to, packet)) moment) =
-    subst (λ (k : ℕ). IsOf shape c.args._lines.now a.port.rank v.rank
+    subst (λ (k : ℕ). IsOf shape g.here.lines a.port.rank v.rank
     (with_moment (with_packet_left s.past (k, packet)) moment)) (sym first.2)
-    (subst (λ (x : Packet). IsOf shape c.args._lines.now a.port.rank v.rank
+    (subst (λ (x : Packet). IsOf shape g.here.lines a.port.rank v.rank
     (with_moment (with_packet_left s.past (first.0.to, x)) moment)) (sym copied) on) in
     let n = c.args.f.now.ranks in
     let ranks = s.is.ranks.0 in
@@ -94,14 +132,17 @@ returns c =
           (knows port) (sym c.is_err.ensures.value ∙ c.if-is_err.false) e.by_box e.by_cell) e.taken.0;
       ring = ring_same a.ring;
     } in
+    let fresh = c.is_worn.ensures.0 c.if-is_worn.false in
     record {
+      stepped = stepped_fresh true a b fresh (ap (λ (x : ProcessView). x.at) p.others) (λ none. absurd (clash none));
+      back = λ none fresh. absurd (clash none);
       moved = did_more n a b grows
           (sent to (omega (arith, within, ranks)) (sent_more (knows a.port) (knows port) to packet way));
       kept = record {
         grows = grows;
         seat = seat_is a v port.rank e.owns.1 p.takes.0.sizes;
         stands = send_on (send_carries c.a_send_carries.ensures.by_box c.a_send_carries.ensures.by_cell)
-            c.args._lines.now c.args.f.now c.args._r.now a v port to packet _ s e.owns.0 e.owns.1 e.taken
+            g.here.lines c.args.f.now g.here.rings a v port to packet _ s e.owns.0 e.owns.1 e.taken
             e.hands way number work here;
       };
     }

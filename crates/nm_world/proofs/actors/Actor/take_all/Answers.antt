@@ -1,32 +1,59 @@
 -- Each step goes on from the one before.
-use Rattle.std.proofs.Common.{◌∙◌}
-use Rattle.nm_world.proofs.Grows.{did_on, kept_on, or_none, or_one}
+use Rattle.std.proofs.Common.{◌≡◌, ◌⊎◌, Bool, subst, sym, ◌∙◌, arith, inl, inr, ⊎_elim}
+use Rattle.nm_rank.specs.Ranks.{IsFresh}
+use Rattle.nm_world.specs.declared.actors.Actor.{Actor}
+use Rattle.nm_world.specs.Idle.{GaveNone, Stepped}
+use Rattle.nm_world.proofs.Looks.{polled_by_step, polled_last}
+use Rattle.nm_world.proofs.Loops.{all_made, loop_last, loop_more, loop_none, some_made}
+use Rattle.nm_world.proofs.Results.{clash}
 use Rattle.nm_world.proofs.actors.Actor.take_all.Goals as goal
 
-pub loop-preserved : goal.loop-preserved
-loop-preserved c =
+pub loop-took-init : goal.loop-took-init
+loop-took-init g c = record {
+  looped = loop_none c.args.f.now.ranks g.here.lines c.args.f.now g.here.rings c.args.self.now c.requires;
+  polled = λ some. absurd (omega (arith, some));
+}
+
+pub loop-took-preserved : goal.loop-took-preserved
+loop-took-preserved g c =
+    let e = c.in_ok-take_next.ensures in
     let a = c.args.self.now in
-    let b = c.loop.self in
+    let b = c.loop-took.self in
     let d = c.take_next.new.self in
-    let one = c.loop.invariant in
-    let two = c.in_ok-take_next.ensures in
+    let looped = loop_more c.args.f.now.ranks g.here.lines c.args.f.now g.here.rings c.args.self.now c.loop-took.took c.loop-took.self
+    c.take_next.new.self c.in_ok-take_next.field-0 c.if-not-branch.false c.loop-took.invariant.looped e.kept e.moved e.stepped in
     record {
-      kept = kept_on c.args.lines.now c.args.f.now c.args.r.now a b d one.kept two.kept;
-      moved = or_one c.loop.moved c.in_ok-take_next.field-0 c.if-not-branch.false
-          ∙ did_on c.args.f.now.ranks a b d c.loop.moved c.in_ok-take_next.field-0 one.kept.grows two.kept.grows
-          one.moved two.moved;
+      looped = looped;
+      polled = λ some. polled_by_step g.here.lines c.args.f.now g.here.rings c.args.f.now.ranks a b d c.in_ok-take_next.field-0 c.loop-took.invariant.looped.kept
+          c.if-not-branch.false e.moved e.polled;
     }
 
 pub returns-then-not-branch : goal.returns-then-not-branch
-returns-then-not-branch c =
+returns-then-not-branch g c =
+    let e = c.in_ok-take_next.ensures in
     let a = c.args.self.now in
-    let b = c.loop.self in
+    let b = c.loop-took.self in
     let d = c.take_next.new.self in
-    let one = c.loop.invariant in
-    let two = c.in_ok-take_next.ensures in
+    let done = loop_last c.args.f.now.ranks g.here.lines c.args.f.now g.here.rings a c.loop-took.took b d c.in_ok-take_next.field-0
+    c.if-not-branch.true c.loop-took.invariant.looped e.kept e.moved e.stepped in
     record {
-      kept = kept_on c.args.lines.now c.args.f.now c.args.r.now a b d one.kept two.kept;
-      moved = or_none c.loop.moved c.in_ok-take_next.field-0 c.if-not-branch.true
-          ∙ did_on c.args.f.now.ranks a b d c.loop.moved c.in_ok-take_next.field-0 one.kept.grows two.kept.grows
-          one.moved two.moved;
+      kept = done.kept;
+      moved = done.moved;
+      stepped = done.stepped;
+      none = λ none fresh. let same = done.sole none in
+          subst (λ (x : Actor). GaveNone x.process.rank.sizes.ranks x.port d.port) same
+          (e.none c.if-not-branch.true (subst (λ (x : Actor). IsFresh x.process.rank) (sym same) fresh));
+      polled = polled_last g.here.lines c.args.f.now g.here.rings c.args.f.now.ranks c.loop-took.took a b d c.loop-took.invariant.looped c.loop-took.invariant.polled e.kept.grows e.polled;
+    }
+
+pub returns : goal.returns
+returns g c =
+    let i = c.loop-took.invariant.looped in
+    let some = all_made c.loop-took.took 64 c.loop-took-test.false (omega arith) in
+    record {
+      kept = i.kept;
+      moved = sym some ∙ i.moved;
+      stepped = subst (λ (p : Bool). Stepped p c.args.self.now c.loop-took.self) some i.stepped;
+      none = λ none fresh. absurd (clash none);
+      polled = inl (c.loop-took.invariant.polled (some_made c.loop-took.took 64 c.loop-took-test.false (omega arith)));
     }

@@ -1,9 +1,14 @@
-use Rattle.std.proofs.Common.{◌≡◌}
-use Rattle.nm_world.specs.Actors.{Kept, did}
+use Rattle.std.proofs.Common.{◌<◌}
+use Rattle.nm_world.specs.Looks.{Polled}
+use Rattle.nm_world.proofs.Loops.{HasLooped}
 use Rattle.nm_world.proofs.actors.Actor.take_all.Given as goal
 
-abbrev pub invariant-loop : goal.invariant-loop
-invariant-loop l = record {
-  kept : Kept l.lines l.f l.r l.initial.self l.self;
-  moved : l.moved ≡ did l.f.ranks l.initial.self l.self;
+abbrev pub ghost-take_next : goal.ghost-take_next
+ghost-take_next g a = g.here
+
+abbrev pub invariant-loop-took : goal.invariant-loop-took
+invariant-loop-took g l = record {
+  looped : HasLooped l.f.ranks g.here.lines l.f g.here.rings l.took l.initial.self l.self;
+  polled : 0 < l.took →
+      Polled l.initial.self.process.rank.sizes.ranks 1 l.initial.self.port l.self.port;
 }

@@ -1,54 +1,76 @@
 -- The packet comes behind the others of its sender.
-use Rattle.std.proofs.Common.{◌≡◌, ℕ, ◌+◌, List, [], true, ap, ◌∙◌, arith, refl}
+use Rattle.std.proofs.Common.{◌≡◌, ◌<◌, ℕ, ◌+◌, List, [], true, false, inl, inr, sym, ap, ◌∙◌, arith, refl}
+use Rattle.nm_rank.specs.Ranks.{IsFresh}
+use Rattle.nm_process.specs.Processes.{ProcessView}
 use Rattle.nm_table.specs.Rule.{Load, sent_to}
 use Rattle.nm_cells.specs.Ports.{knows, taken_by}
 use Rattle.nm_port.specs.Polls.{with_all_missed}
 use Rattle.nm_seats.proofs.UpdateLemmas.{update_here}
 use Rattle.nm_world.specs.declared.actors.Actor.{Actor}
-use Rattle.nm_world.specs.Actors.{Grows}
+use Rattle.nm_world.specs.Actors.{Grows, PortGrows}
 use Rattle.nm_world.specs.Actors.Grew.{taken}
-use Rattle.nm_world.proofs.Grows.{all_missed_up, did_more, did_none, entry_on, grows_same, miss_up}
-use Rattle.nm_world.proofs.Grows.{polled_up, port_by, port_took, ring_same}
+use Rattle.nm_world.proofs.Did.{did_more, did_none, did_same}
+use Rattle.nm_world.proofs.Entries.{all_missed_up, entry_on, miss_up, polled_up}
+use Rattle.nm_world.proofs.Grows.{grows_same, kept_same, port_by, port_took, ring_same}
+use Rattle.nm_world.proofs.Idle.{gave_none, stepped_fresh, stepped_none}
+use Rattle.nm_world.proofs.Looks.{polled_miss, polled_some}
+use Rattle.nm_world.proofs.Results.{clash}
 use Rattle.nm_world.proofs.Steps.{none_got, none_sent, nothing_carried, seat_is, take_on}
 use Rattle.nm_world.proofs.actors.Actor.take_next.Goals as goal
 
+pub returns-then-is_worn : goal.returns-then-is_worn
+returns-then-is_worn g c =
+    let a = c.args.self.now in
+    let not : ¬ IsFresh a.process.rank = λ fresh. clash (sym c.if-is_worn.true ∙ c.is_worn.ensures.1 fresh) in
+    record {
+      kept = kept_same g.here.lines c.args.f.now g.here.rings a c.requires;
+      moved = did_same c.args.f.now.ranks a;
+      stepped = stepped_none a;
+      none = λ none fresh. absurd (not fresh);
+      polled = inr (not, refl);
+    }
+
 pub returns-in_default : goal.returns-in_default
-returns-in_default c =
+returns-in_default g c =
     let n = c.args.f.now.ranks in
     let none = c.in_default.ensures.none in
+    let s = c.requires in
     let a = c.args.self.now in
     let port = c.polled.new.port in
+    let b : Actor = record a { port = port } in
     let sent = none_sent (knows a.port) (knows port) none.0 in
+    let fresh = c.is_worn.ensures.0 c.if-is_worn.false in
+    let gave = gave_none a.process.rank.sizes.ranks a.port port (s.is.cells.2 ∙ s.is.ranks.0) none.0 in
+    let grows : PortGrows a.port port = port_by a.port port (entry_on (knows a.port)
+    (with_all_missed (knows a.port)) (knows port) (all_missed_up (knows a.port))
+    (miss_up true (with_all_missed (knows a.port)) (knows port) none.0)) none.1 in
     record {
-      moved = did_none n a (record a { port = port }) refl
+      stepped = stepped_fresh false a b fresh refl (λ none. refl);
+      none = λ none fresh. gave;
+      polled = inl (polled_miss a.process.rank.sizes.ranks a.port port grows gave.queue);
+      moved = did_none n a b refl
           (λ j. ap (λ (xs : List (ℕ × Load)). sent_to j xs (knows port).put) sent.box
           ∙ ap (λ (xs : List (ℕ × Load)). sent_to j (knows a.port).put_box xs) sent.cell)
           none.1 (λ j. (refl, refl));
       kept = record {
-        grows = record {
-          events = (grows_same a).events;
-          ring = ring_same a.ring;
-          port = port_by a.port port (entry_on (knows a.port) (with_all_missed (knows a.port)) (knows port)
-              (all_missed_up (knows a.port)) (miss_up true (with_all_missed (knows a.port)) (knows port) none.0))
-              none.1;
-        };
+        grows = record { events = (grows_same a).events; ring = ring_same a.ring; port = grows };
         seat = seat_is a a.process port.rank c.polled.ensures.owns.1 refl;
-        stands = nothing_carried c.args._lines.now c.args.f.now c.args._r.now a port
-            c.requires.stands c.polled.ensures.owns.0 c.polled.ensures.owns.1 c.polled.ensures.rest
-            c.polled.ensures.hands none.1 sent (none_got (knows a.port) (knows port) none.0);
+        stands = nothing_carried g.here.lines c.args.f.now g.here.rings a port s c.polled.ensures.owns.0
+            c.polled.ensures.owns.1 c.polled.ensures.rest c.polled.ensures.hands none.1 sent
+            (none_got (knows a.port) (knows port) none.0);
       };
     }
 
 pub returns-in-Ok : goal.returns-in-Ok
-returns-in-Ok c =
-    let s = c.requires.stands in
+returns-in-Ok g c =
+    let s = c.requires in
     let v = c.take_packet.new.self in
     let p = c.in-Some.packet in
     let i = c.in-Some.ensures in
     let sender = i.next.0.sender in
     let ranks = s.is.ranks.0 in
-    let work = c.in-Ok.ensures.work c.args.self.now.process.rank.sizes c.args._lines.now s.is.standing.work in
-    let on = c.a_packet_is_taken.ensures c.args.self.now.process.rank.sizes c.args._lines.now
+    let work = c.in-Ok.ensures.work c.args.self.now.process.rank.sizes g.here.lines s.is.standing.work in
+    let on = c.a_packet_is_taken.ensures c.args.self.now.process.rank.sizes g.here.lines
     c.args.self.now.port.rank c.args.self.now.process.rank v.rank s.past p c.history.ensures.right
     (omega (arith, sender, ranks)) c.in-Ok.ensures.taken s.is.standing.rank in
     let n = c.args.f.now.ranks in
@@ -63,12 +85,19 @@ returns-in-Ok c =
     } in
     let more = ap (λ (t : ℕ → ℕ). t p.from) i.next.0.taken
     ∙ update_here (taken_by a.port) p.from (taken_by a.port p.from + 1) p.from refl in
+    let fresh = c.is_worn.ensures.0 c.if-is_worn.false in
+    let up : taken_by a.port p.from < taken_by port p.from = omega (arith, more) in
     record {
-      moved = did_more n a b grows (taken p.from sender (omega (arith, more)));
+      stepped = stepped_fresh true a b fresh (ap (λ (x : ProcessView). x.at) c.in-Ok.ensures.others)
+          (λ none. absurd (clash none));
+      none = λ none fresh. absurd (clash none);
+      polled = inl (polled_some a.process.rank.sizes.ranks p.from a.port port grows.port
+          (omega (arith, sender, ranks)) up);
+      moved = did_more n a b grows (taken p.from sender up);
       kept = record {
         grows = grows;
         seat = seat_is a v port.rank c.polled.ensures.owns.1 c.in-Ok.ensures.taken.sizes;
-        stands = take_on c.a_poll_carries.ensures.some c.args._lines.now c.args.f.now c.args._r.now
+        stands = take_on c.a_poll_carries.ensures.some g.here.lines c.args.f.now g.here.rings
             a v port p s c.polled.ensures.owns.0 c.polled.ensures.owns.1
             c.polled.ensures.rest c.polled.ensures.hands i.next.0 i.next.1 i.way.0 i.way.1 work on;
       };

@@ -1,0 +1,396 @@
+-- Whether something was done, from what grew.
+use Rattle.std.proofs.Common.{◌≡◌, ◌≢◌, ℕ, zero, suc, ◌+◌, ◌<◌, ◌≤◌, Bool, true, false, List, [], ◌∷◌, ◌++◌}
+use Rattle.std.proofs.Common.{length, length-append, append-nil, map, set, Some, refl, sym, ap, ◌∙◌, subst, arith, ⊎_elim, ◌||◌}
+use Rattle.std.proofs.Common.{Ok, Err, Result, get_or-set_same, get_or-set_other}
+use Rattle.std.specs.Prelude.{◌↔◌, IfOk, is_err, nat_lt, slice_get, slice_index}
+use Rattle.std.proofs.lemmas.Bool.Decides.{nat_tests}
+use Rattle.std.proofs.lemmas.List.{append_assoc}
+use native.Mathlib.Decide.{ℕ_discrete, dec_le}
+use Rattle.nm_types.specs.declared.packets.Packet.{Packet}
+use Rattle.nm_types.specs.declared.packets.Piece.{Piece}
+use Rattle.nm_history.specs.declared.events.Event.{Event}
+use Rattle.nm_seats.specs.Update.{pick, update}
+use Rattle.nm_table.specs.declared.table.Entry.{Entry}
+use Rattle.nm_table.specs.declared.table.Heads.{Heads}
+use Rattle.nm_table.specs.declared.table.Misses.{Misses}
+use Rattle.nm_table.specs.Rule.{Load, if_below, put_to, sent_to}
+use Rattle.nm_table.specs.Plays.{missed_of, raised, with_box_full, with_filling, with_heads, with_put, with_put_box}
+use Rattle.nm_table.specs.Plays.{heads_at, heads_of, head_miss, link_miss, with_look, with_missed}
+use Rattle.nm_table.specs.declared.table.Look.TheVariants.{Fresh, LinkEmpty}
+use Rattle.nm_table.proofs.QueueLemmas.{pick_yes, put_append}
+use Rattle.nm_types.specs.declared.limits.TheConstants.{MAX_BOX}
+use Rattle.nm_cells.specs.declared.port.Port.{Port}
+use Rattle.nm_cells.specs.Ports.{SameTaken, knows, sent_by, taken_by}
+use Rattle.nm_port.specs.Polls.{IsNext, polled, with_all_missed}
+use Rattle.nm_port.specs.Sends.{HadMiss, tried}
+use Rattle.nm_copyring.specs.declared.port.RingPort.{RingPort}
+use Rattle.nm_copyring.specs.declared.table.Entry as ring_entry
+use Rattle.nm_copyring.specs.declared.table.Lane.{Lane}
+use Rattle.nm_copyring.specs.Rule.{lane, new_lane}
+use Rattle.nm_copyring.specs.Plays.{one_empty, one_full, one_pulled, one_pushed, with_lane}
+use Rattle.nm_copyring.specs.Ports as ring
+use Rattle.nm_world.specs.declared.actors.Actor.{Actor}
+use Rattle.nm_world.specs.Actors.{Grew, Grows, LaneGrows, MissesGrow, PortGrows, RingGrows, did}
+use Rattle.nm_world.specs.Actors.{AllKept, Kept, SomeGrew, Stands, did_any, done_by, done_of, sum_below}
+use Rattle.nm_types.specs.declared.scripts.Line.{Line}
+use Rattle.nm_types.specs.Sizes.{Sizes}
+use Rattle.nm_standing.specs.Standing.{GoesOn}
+use Rattle.nm_cells.specs.declared.port.Fabric.{Fabric}
+use Rattle.nm_copyring.specs.declared.port.Rings.{Rings}
+use Rattle.nm_world.specs.Actors.Grew.{events, sent, taken, pushed, pulled}
+use Rattle.nm_world.proofs.Grows.{grows_same, kept_on, lane_kept, port_same, ring_same, ring_up}
+use Rattle.nm_types.specs.declared.packets.Path.{Path}
+use Rattle.nm_types.specs.declared.packets.Path.TheVariants.{Box, Cell}
+
+-- sums
+pub sum_up : (n : ℕ) (f g : ℕ → ℕ) → ((i : ℕ) → f i ≤ g i) → sum_below n f ≤ sum_below n g
+sum_up zero f g up = omega arith
+sum_up (suc n) f g up = let rest = sum_up n f g up in let one = up n in omega (arith, rest, one)
+
+pub sum_more : (n k : ℕ) (f g : ℕ → ℕ) → ((i : ℕ) → f i ≤ g i) → k < n → f k < g k → sum_below n f < sum_below n g
+sum_more zero k f g up low more = absurd (omega (arith, low))
+sum_more (suc n) k f g up low more = by (λ before. sum_more n k f g up before more) (ℕ_discrete k n) where
+  by : (k < n → sum_below n f < sum_below n g) → Dec (k ≡ n) → sum_below (suc n) f < sum_below (suc n) g
+  by before (yes e) =
+      let rest = sum_up n f g up in
+      let here = subst (λ (i : ℕ). f i < g i) e more in omega (arith, rest, here)
+  by before (no ne) =
+      let rest = before (omega (arith, low, ne)) in
+      let one = up n in omega (arith, rest, one)
+
+pub sum_same : (n : ℕ) (f g : ℕ → ℕ) → ((i : ℕ) → g i ≡ f i) → sum_below n g ≡ sum_below n f
+sum_same zero f g same = refl
+sum_same (suc n) f g same =
+    let rest = sum_same n f g same in let one = same n in omega (arith, rest, one)
+
+-- where a sum is greater, one of its parts is
+sum_part : (n : ℕ) (f g : ℕ → ℕ) → sum_below n f < sum_below n g → (k : ℕ) × (k < n) × (f k < g k)
+sum_part zero f g more = absurd (omega (arith, more))
+sum_part (suc n) f g more = by (λ before. sum_part n f g before) (dec_le (suc (f n)) (g n)) where
+  by : (sum_below n f < sum_below n g → (k : ℕ) × (k < n) × (f k < g k)) → Dec (suc (f n) ≤ g n) →
+      (k : ℕ) × (k < suc n) × (f k < g k)
+  by before (yes up) = (n, omega arith, omega (arith, up))
+  by before (no down) =
+      let rest = before (omega (arith, more, down)) in
+      let low = rest.1 in (rest.0, omega (arith, low), rest.2)
+
+less_true : (x y : ℕ) → x < y → true ≡ nat_lt x y
+less_true x y low = grind (arith, nat_tests)
+
+less_false : (x y : ℕ) → x ≡ y → false ≡ nat_lt x y
+less_false x y same = grind (arith, nat_tests)
+
+is_less : (x y : ℕ) → true ≡ nat_lt x y → x < y
+is_less x y is = grind (arith, nat_tests)
+
+isnt_less : (x y : ℕ) → false ≡ nat_lt x y → y ≤ x
+isnt_less x y is = grind (arith, nat_tests)
+
+pub events_up : (a b : Actor) → Grows a b → length a.process.rank.events ≤ length b.process.rank.events
+events_up a b up =
+    let e = ap length up.events.1 ∙ length-append a.process.rank.events up.events.0 in omega (arith, e)
+
+-- the five parts of what was done
+module _ (n : ℕ) (a b : Actor) (up : Grows a b) where
+  up_sent : sum_below n (λ j. sent_by a.port j) ≤ sum_below n (λ j. sent_by b.port j)
+  up_sent = sum_up n _ _ up.port.sent
+
+  up_taken : sum_below n (λ j. taken_by a.port j) ≤ sum_below n (λ j. taken_by b.port j)
+  up_taken = sum_up n _ _ up.port.taken
+
+  up_pushed : sum_below n (λ j. length (ring.pushed_to a.ring j)) ≤ sum_below n (λ j. length (ring.pushed_to b.ring j))
+  up_pushed = sum_up n _ _ (λ j. (up.ring j).pushed)
+
+  up_pulled : sum_below n (λ j. length (ring.pulled_from a.ring j)) ≤ sum_below n (λ j. length (ring.pulled_from b.ring j))
+  up_pulled = sum_up n _ _ (λ j. (up.ring j).pulled)
+
+  pub done_up : done_by n a ≤ done_by n b
+  done_up =
+      let v = events_up a b up in let w = up_sent in let x = up_taken in let y = up_pushed in
+      let z = up_pulled in omega (arith, v, w, x, y, z)
+
+  pub did_more : Grew n a b → true ≡ did n a b
+  did_more grew = less_true (done_by n a) (done_by n b) (by grew) where
+    by : Grew n a b → done_by n a < done_by n b
+    by (events more) =
+        let w = up_sent in let x = up_taken in let y = up_pushed in let z = up_pulled in
+        omega (arith, more, w, x, y, z)
+    by (sent j low more) =
+        let v = events_up a b up in let w = sum_more n j _ _ up.port.sent low more in
+        let x = up_taken in let y = up_pushed in let z = up_pulled in omega (arith, v, w, x, y, z)
+    by (taken j low more) =
+        let v = events_up a b up in let w = up_sent in let x = sum_more n j _ _ up.port.taken low more in
+        let y = up_pushed in let z = up_pulled in omega (arith, v, w, x, y, z)
+    by (pushed j low more) =
+        let v = events_up a b up in let w = up_sent in let x = up_taken in
+        let y = sum_more n j _ _ (λ k. (up.ring k).pushed) low more in let z = up_pulled in
+        omega (arith, v, w, x, y, z)
+    by (pulled j low more) =
+        let v = events_up a b up in let w = up_sent in let x = up_taken in let y = up_pushed in
+        let z = sum_more n j _ _ (λ k. (up.ring k).pulled) low more in omega (arith, v, w, x, y, z)
+
+-- nothing was done
+pub did_none : (n : ℕ) (a b : Actor) → length b.process.rank.events ≡ length a.process.rank.events →
+    ((j : ℕ) → sent_by b.port j ≡ sent_by a.port j) → taken_by b.port ≡ taken_by a.port →
+    ((j : ℕ) → ((lane (ring.knows b.ring) j).pushed ≡ (lane (ring.knows a.ring) j).pushed)
+    × ((lane (ring.knows b.ring) j).pulled ≡ (lane (ring.knows a.ring) j).pulled)) → false ≡ did n a b
+did_none n a b h s t rings =
+    let w = sum_same n (λ j. sent_by a.port j) (λ j. sent_by b.port j) s in
+    let x = sum_same n (λ j. taken_by a.port j) (λ j. taken_by b.port j) (λ j. ap (λ (u : ℕ → ℕ). u j) t) in
+    let y = sum_same n (λ j. length (ring.pushed_to a.ring j)) (λ j. length (ring.pushed_to b.ring j))
+    (λ j. ap length (rings j).0) in
+    let z = sum_same n (λ j. length (ring.pulled_from a.ring j)) (λ j. length (ring.pulled_from b.ring j))
+    (λ j. ap length (rings j).1) in
+    less_false (done_by n a) (done_by n b) (omega (arith, h, w, x, y, z))
+
+pub did_same : (n : ℕ) (a : Actor) → false ≡ did n a a
+did_same n a = less_false (done_by n a) (done_by n a) refl
+
+-- from one to the next
+or_less : (x y z : ℕ) (p q : Bool) → x ≤ y → y ≤ z → p ≡ nat_lt x y → q ≡ nat_lt y z → (p || q) ≡ nat_lt x z
+or_less x y z true q up to p_is q_is =
+    let less = is_less x y p_is in less_true x z (omega (arith, less, to))
+or_less x y z false true up to p_is q_is =
+    let less = is_less y z q_is in less_true x z (omega (arith, less, up))
+or_less x y z false false up to p_is q_is =
+    let one = isnt_less x y p_is in let two = isnt_less y z q_is in
+    less_false x z (omega (arith, one, two, up, to))
+
+pub did_on : (n : ℕ) (a b c : Actor) (p q : Bool) → Grows a b → Grows b c → p ≡ did n a b → q ≡ did n b c →
+    (p || q) ≡ did n a c
+did_on n a b c p q one two = or_less (done_by n a) (done_by n b) (done_by n c) p q (done_up n a b one)
+    (done_up n b c two)
+
+-- one step more of a loop that tells whether something was done
+pub kept_and : (n : ℕ) (lines : List Line) (f : Fabric) (r : Rings) (a b c : Actor) (p q : Bool) →
+    Kept lines f r a b → Kept lines f r b c → p ≡ did n a b → q ≡ did n b c →
+    Kept lines f r a c × ((p || q) ≡ did n a c)
+kept_and n lines f r a b c p q one two before then =
+    (kept_on lines f r a b c one two, did_on n a b c p q one.grows two.grows before then)
+
+pub or_none : (p q : Bool) → q ≡ false → p ≡ (p || q)
+or_none true q none = refl
+or_none false q none = sym none
+
+pub or_one : (p q : Bool) → q ≡ true → true ≡ (p || q)
+or_one true q one = refl
+or_one false q one = sym one
+
+-- a ring port that found its next place full or empty
+pub ring_missed : (lines : List Line) (f : Fabric) (r : Rings) (a : Actor) (q : RingPort)
+    (g : Lane → Lane) (j : ℕ) (s : Stands lines f r a) → ring.Owns r q → q.rank ≡ a.ring.rank →
+    j < length (ring.knows a.ring).lanes → ((l : Lane) → LaneGrows l (g l)) →
+    ((l : Lane) → ((g l).pushed ≡ l.pushed) × ((g l).pulled ≡ l.pulled)) →
+    ring.knows q ≡ with_lane g j (ring.knows a.ring) →
+    Kept lines f r a (record a { ring = q }) × (false ≡ did f.ranks a (record a { ring = q }))
+ring_missed lines f r a q g j s owns rank low up same knew =
+    let kept = λ (k : ℕ). lane_kept (ring.knows a.ring) (ring.knows q) g j k low same knew in (
+      record {
+        stands = record {
+          past = s.past;
+          is = record {
+            standing = s.is.standing;
+            in_range = s.is.in_range;
+            cells = s.is.cells;
+            rings = owns;
+            rank = rank ∙ s.is.rank;
+            ranks = s.is.ranks;
+            hands = s.is.hands;
+            rest = s.is.rest;
+            sent = s.is.sent;
+            taken = s.is.taken;
+            pushed = λ to within. s.is.pushed to within ∙ sym (kept to).0;
+            pulled = λ i within. s.is.pulled i within ∙ sym (kept i).1;
+          };
+        };
+        seat = refl;
+        grows = record {
+          events = (grows_same a).events;
+          port = port_same a.port;
+          ring = ring_up a.ring q g j low up knew;
+        };
+      },
+      did_none f.ranks a (record a { ring = q }) refl (λ k. refl) refl kept,
+    )
+
+-- a command that ran
+pub ran_on : (n : ℕ) {lines : List Line} {f : Fabric} {r : Rings} (a b : Actor) (s : Stands lines f r a) →
+    {sizes : Sizes} {i : ℕ} → GoesOn sizes lines i b.process.rank s.past → b.port ≡ a.port → b.ring ≡ a.ring →
+    Grows a b × Grew n a b
+ran_on n a b s on port ring =
+    let was = s.is.standing.rank.logged.events in
+    let is = on.is.logged.events in
+    let grew = on.grew in
+    let old = ap length was in
+    let new = ap length is in (
+      record {
+        events = (
+          on.same.front.0,
+          is ∙ on.same.front.1 ∙ ap (λ (h : List Event). h ++ on.same.front.0) (sym was),
+        );
+        port = subst (λ (p : Port). PortGrows a.port p) (sym port) (port_same a.port);
+        ring = subst (λ (p : RingPort). RingGrows a.ring p) (sym ring) (ring_same a.ring);
+      },
+      events (omega (arith, grew, old, new)),
+    )
+
+-- lists of actors
+done_append : (n : ℕ) (xs ys : List Actor) → done_of n (xs ++ ys) ≡ done_of n xs + done_of n ys
+done_append n [] ys = omega arith
+done_append n (x ∷ xs) ys = let rest = done_append n xs ys in omega (arith, rest)
+
+pub all_up : (n : ℕ) (lines : List Line) (f : Fabric) (r : Rings) (xs ys : List Actor) →
+    AllKept lines f r xs ys → done_of n xs ≤ done_of n ys
+all_up n lines f r [] [] kept = omega arith
+all_up n lines f r [] (y ∷ ys) kept = absurd kept
+all_up n lines f r (x ∷ xs) [] kept = absurd kept
+all_up n lines f r (x ∷ xs) (y ∷ ys) kept =
+    let rest = all_up n lines f r xs ys kept.1 in
+    let one = done_up n x y kept.0.grows in omega (arith, rest, one)
+
+or_sum : (x y x' y' : ℕ) (p q : Bool) → x ≤ x' → y ≤ y' → p ≡ nat_lt x x' → q ≡ nat_lt y y' →
+    (p || q) ≡ nat_lt (x + y) (x' + y')
+or_sum x y x' y' true q up to p_is q_is =
+    let less = is_less x x' p_is in less_true (x + y) (x' + y') (omega (arith, less, to))
+or_sum x y x' y' false true up to p_is q_is =
+    let less = is_less y y' q_is in less_true (x + y) (x' + y') (omega (arith, less, up))
+or_sum x y x' y' false false up to p_is q_is =
+    let one = isnt_less x x' p_is in let two = isnt_less y y' q_is in
+    less_false (x + y) (x' + y') (omega (arith, one, two, up, to))
+
+-- both halves
+pub did_halves : (n : ℕ) (lines : List Line) (f : Fabric) (r : Rings) (xs ys xs' ys' : List Actor) (p q : Bool) →
+    AllKept lines f r xs xs' → AllKept lines f r ys ys' → p ≡ did_any n xs xs' → q ≡ did_any n ys ys' →
+    (p || q) ≡ did_any n (xs ++ ys) (xs' ++ ys')
+did_halves n lines f r xs ys xs' ys' p q one two p_is q_is =
+    subst (λ (k : ℕ). (p || q) ≡ nat_lt k (done_of n (xs' ++ ys'))) (sym (done_append n xs ys))
+    (subst (λ (k : ℕ). (p || q) ≡ nat_lt (done_of n xs + done_of n ys) k) (sym (done_append n xs' ys'))
+    (or_sum (done_of n xs) (done_of n ys) (done_of n xs') (done_of n ys') p q (all_up n lines f r xs xs' one)
+    (all_up n lines f r ys ys' two) p_is q_is))
+
+pub did_sole : (n : ℕ) (a b : Actor) → did n a b ≡ did_any n (a ∷ []) (b ∷ [])
+did_sole n a b =
+    let one : done_by n a + 0 ≡ done_by n a = omega arith in
+    let two : done_by n b + 0 ≡ done_by n b = omega arith in
+    sym (ap (λ (k : ℕ). nat_lt k (done_by n b + 0)) one ∙ ap (λ (k : ℕ). nat_lt (done_by n a) k) two)
+
+-- what was done is what grew
+abbrev long : Actor → ℕ
+long a = length a.process.rank.events
+
+abbrev sents : ℕ → Actor → ℕ
+sents n a = sum_below n (λ j. sent_by a.port j)
+
+abbrev takes : ℕ → Actor → ℕ
+takes n a = sum_below n (λ j. taken_by a.port j)
+
+abbrev pushes : ℕ → Actor → ℕ
+pushes n a = sum_below n (λ j. length (ring.pushed_to a.ring j))
+
+abbrev pulls : ℕ → Actor → ℕ
+pulls n a = sum_below n (λ j. length (ring.pulled_from a.ring j))
+
+grew_of : (n : ℕ) (a b : Actor) → done_by n a < done_by n b → Grew n a b
+grew_of n a b more = by_events (dec_le (suc (long a)) (long b)) where
+  by_pulled : long b ≤ long a → sents n b ≤ sents n a → takes n b ≤ takes n a → pushes n b ≤ pushes n a → Grew n a b
+  by_pulled v w x y =
+      let one = sum_part n (λ j. length (ring.pulled_from a.ring j)) (λ j. length (ring.pulled_from b.ring j))
+      (omega (arith, more, v, w, x, y)) in pulled one.0 one.1 one.2
+
+  by_pushed : long b ≤ long a → sents n b ≤ sents n a → takes n b ≤ takes n a → Dec (suc (pushes n a) ≤ pushes n b) →
+      Grew n a b
+  by_pushed v w x (yes h) =
+      let one = sum_part n (λ j. length (ring.pushed_to a.ring j)) (λ j. length (ring.pushed_to b.ring j)) h in
+      pushed one.0 one.1 one.2
+  by_pushed v w x (no h) = by_pulled v w x (omega (arith, h))
+
+  by_taken : long b ≤ long a → sents n b ≤ sents n a → Dec (suc (takes n a) ≤ takes n b) → Grew n a b
+  by_taken v w (yes h) =
+      let one = sum_part n (λ j. taken_by a.port j) (λ j. taken_by b.port j) h in taken one.0 one.1 one.2
+  by_taken v w (no h) = by_pushed v w (omega (arith, h)) (dec_le (suc (pushes n a)) (pushes n b))
+
+  by_sent : long b ≤ long a → Dec (suc (sents n a) ≤ sents n b) → Grew n a b
+  by_sent v (yes h) =
+      let one = sum_part n (λ j. sent_by a.port j) (λ j. sent_by b.port j) h in sent one.0 one.1 one.2
+  by_sent v (no h) = by_taken v (omega (arith, h)) (dec_le (suc (takes n a)) (takes n b))
+
+  by_events : Dec (suc (long a) ≤ long b) → Grew n a b
+  by_events (yes h) = events h
+  by_events (no h) = by_sent (omega (arith, h)) (dec_le (suc (sents n a)) (sents n b))
+
+pub did_iff : (n : ℕ) (a b : Actor) → Grows a b → (did n a b ≡ true) ↔ Grew n a b
+did_iff n a b up = (
+  λ is. grew_of n a b (is_less (done_by n a) (done_by n b) (sym is)),
+  λ grew. sym (did_more n a b up grew),
+)
+
+-- and of many
+some_grew : (n : ℕ) (lines : List Line) (f : Fabric) (r : Rings) (xs ys : List Actor) → AllKept lines f r xs ys →
+    done_of n xs < done_of n ys → SomeGrew n xs ys
+some_grew n lines f r [] [] kept more = absurd (omega (arith, more))
+some_grew n lines f r [] (y ∷ ys) kept more = absurd kept
+some_grew n lines f r (x ∷ xs) [] kept more = absurd kept
+some_grew n lines f r (x ∷ xs) (y ∷ ys) kept more =
+    by (some_grew n lines f r xs ys kept.1) (dec_le (suc (done_by n x)) (done_by n y)) where
+      by : (done_of n xs < done_of n ys → SomeGrew n xs ys) → Dec (suc (done_by n x) ≤ done_by n y) →
+          SomeGrew n (x ∷ xs) (y ∷ ys)
+      by rest (yes h) = record {
+        place = 0;
+        before = x;
+        after = y;
+        was = refl;
+        is = refl;
+        grew = grew_of n x y h;
+      }
+      by rest (no h) = let one = rest (omega (arith, more, h)) in record {
+        place = suc one.place;
+        before = one.before;
+        after = one.after;
+        was = one.was;
+        is = one.is;
+        grew = one.grew;
+      }
+
+some_did : (n : ℕ) (lines : List Line) (f : Fabric) (r : Rings) (xs ys : List Actor) (k : ℕ) (a b : Actor) →
+    AllKept lines f r xs ys → slice_get xs k ≡ Some a → slice_get ys k ≡ Some b → Grew n a b →
+    done_of n xs < done_of n ys
+some_did n lines f r [] [] k a b kept was is grew = cc
+some_did n lines f r [] (y ∷ ys) k a b kept was is grew = absurd kept
+some_did n lines f r (x ∷ xs) [] k a b kept was is grew = absurd kept
+some_did n lines f r (x ∷ xs) (y ∷ ys) zero a b kept was is grew =
+    let here : Grew n x y = subst (λ (z : Actor). Grew n z y) (one (sym was))
+    (subst (λ (z : Actor). Grew n a z) (one (sym is)) grew) in
+    let less = is_less (done_by n x) (done_by n y) (did_more n x y kept.0.grows here) in
+    let rest = all_up n lines f r xs ys kept.1 in omega (arith, less, rest) where
+      one : {u v : Actor} → Some u ≡ Some v → u ≡ v
+      one e = cc
+some_did n lines f r (x ∷ xs) (y ∷ ys) (suc k) a b kept was is grew =
+    let rest = some_did n lines f r xs ys k a b kept.1 was is grew in
+    let up = done_up n x y kept.0.grows in omega (arith, rest, up)
+
+pub did_any_iff : (n : ℕ) (lines : List Line) (f : Fabric) (r : Rings) (xs ys : List Actor) →
+    AllKept lines f r xs ys → (did_any n xs ys ≡ true) ↔ SomeGrew n xs ys
+did_any_iff n lines f r xs ys kept = (
+  λ is. some_grew n lines f r xs ys kept (is_less (done_of n xs) (done_of n ys) (sym is)),
+  λ some. sym (less_true (done_of n xs) (done_of n ys)
+      (some_did n lines f r xs ys some.place some.before some.after kept some.was some.is some.grew)),
+)
+
+-- of a call that tells whether something was done
+pub grew_where_moved : {E : Type 0} (result : Result Bool E) (n : ℕ) (lines : List Line) (f : Fabric) (r : Rings)
+    (a b : Actor) → IfOk result (λ _. Kept lines f r a b) → IfOk result (λ moved. moved ≡ did n a b) →
+    IfOk result (λ moved. (moved ≡ true) ↔ Grew n a b)
+grew_where_moved (Err x) n lines f r a b kept moved = tt
+grew_where_moved (Ok m) n lines f r a b kept moved = (
+  λ is. (did_iff n a b kept.grows).0 (sym moved ∙ is),
+  λ grew. moved ∙ (did_iff n a b kept.grows).1 grew,
+)
+
+pub some_grew_where_moved : {E : Type 0} (result : Result Bool E) (n : ℕ) (lines : List Line) (f : Fabric) (r : Rings)
+    (xs ys : List Actor) → IfOk result (λ _. AllKept lines f r xs ys) →
+    IfOk result (λ moved. moved ≡ did_any n xs ys) → IfOk result (λ moved. (moved ≡ true) ↔ SomeGrew n xs ys)
+some_grew_where_moved (Err x) n lines f r xs ys kept moved = tt
+some_grew_where_moved (Ok m) n lines f r xs ys kept moved = (
+  λ is. (did_any_iff n lines f r xs ys kept).0 (sym moved ∙ is),
+  λ grew. moved ∙ (did_any_iff n lines f r xs ys kept).1 grew,
+)

@@ -1,0 +1,257 @@
+-- Why nothing moved, and what a step leaves as it was.
+use Rattle.std.proofs.Common.{◌≡◌, ◌⊎◌, ⊎_elim, inl, inr, ℕ, zero, suc, ◌+◌, ◌<◌, ◌≤◌, Bool, true, false, ◌||◌}
+use Rattle.std.proofs.Common.{Option, Some, None, List, [], ◌∷◌, length, map, set, refl, sym, ap, ◌∙◌, subst, arith}
+use Rattle.std.proofs.Common.{get_or-set_same}
+use Rattle.std.proofs.Math.Logic.{∥∥₁_elim}
+use Rattle.std.proofs.Props.{props}
+use Rattle.std.specs.Prelude.{IfSome, option_map, slice_index}
+use Rattle.std.specs.List.{AllZip, slice_get}
+use native.Mathlib.Decide.{ℕ_discrete, dec_le}
+use Rattle.nm_types.specs.declared.packets.Piece.{Piece}
+use Rattle.nm_types.specs.declared.scripts.Line.{Line}
+use Rattle.nm_types.specs.Commands.{commands_of}
+use Rattle.nm_outbox.specs.declared.letters.Letter.{Letter}
+use Rattle.nm_rndv.specs.Offers.{Offered, next_offered, offered}
+use Rattle.nm_rank.specs.Ranks.{IsFresh}
+use Rattle.nm_table.specs.declared.table.Entry.{Entry}
+use Rattle.nm_table.specs.declared.table.Heads.{Heads}
+use Rattle.nm_table.specs.Rule.{if_below}
+use Rattle.nm_table.specs.Plays.{missed_of, raised, with_box_full, with_heads, with_missed}
+use Rattle.nm_table.specs.Plays.{heads_at, heads_of, head_miss, link_miss, with_look}
+use Rattle.nm_table.specs.declared.table.Look.TheVariants.{LinkEmpty}
+use Rattle.nm_cells.specs.declared.port.Port.{Port}
+use Rattle.nm_cells.specs.Ports.{knows}
+use Rattle.nm_port.specs.Polls.{with_all_missed}
+use Rattle.nm_port.specs.Sends.{HadMiss, tried}
+use Rattle.nm_copyring.specs.declared.table.Entry as ring_entry
+use Rattle.nm_copyring.specs.declared.table.Lane.{Lane}
+use Rattle.nm_copyring.specs.Rule.{lane, new_lane}
+use Rattle.nm_copyring.specs.Plays.{one_empty, one_full, with_lane}
+use Rattle.nm_copyring.specs.Ports as ring
+use Rattle.nm_copyring.specs.Ports.{full_to}
+use Rattle.nm_process.specs.Processes.{ProcessView}
+use Rattle.nm_process.specs.Steps.{goes_on}
+use Rattle.nm_world.specs.declared.actors.Actor.{Actor}
+use Rattle.nm_world.specs.Actors.{Grows, PortGrows, RingGrows}
+use Rattle.nm_world.specs.Idle.{CameBack, GaveNone, Idle, IsDue, LetterBack, NoPiece, PieceBack, QueueMissed}
+use Rattle.nm_world.specs.Idle.{Rose, Stepped}
+use Rattle.nm_world.proofs.Grows.{port_same, ring_same}
+
+-- a count that rose within
+pub rose_within : (x x' y' y : ℕ) → x ≤ x' → Rose x' y' → y' ≤ y → Rose x y
+rose_within x x' y' y low rose up =
+    ⊎_elim (λ h. inl (omega (arith, low, h, up))) (λ h. inr (omega (arith, h, up))) rose
+
+pub raised_rose : (k : ℕ) → Rose k (raised k)
+raised_rose k = by (dec_le (suc k) 18446744073709551615) where
+  by : (d : Dec (suc k ≤ 18446744073709551615)) → Rose k (if_below d (suc k) k)
+  by (yes h) = inl (omega arith)
+  by (no h) = inr (omega (arith, h))
+
+set_rose : (xs : List ℕ) (j : ℕ) → j < length xs →
+    Rose (slice_index xs j) (slice_index (set xs j (raised (slice_index xs j))) j)
+set_rose [] j low = absurd (omega (arith, low))
+set_rose (x ∷ xs) zero low = raised_rose x
+set_rose (x ∷ xs) (suc j) low = set_rose xs j (omega (arith, low))
+
+map_rose : (xs : List ℕ) (i : ℕ) → i < length xs → Rose (slice_index xs i) (slice_index (map raised xs) i)
+map_rose [] i low = absurd (omega (arith, low))
+map_rose (x ∷ xs) zero low = raised_rose x
+map_rose (x ∷ xs) (suc i) low = map_rose xs i (omega (arith, low))
+
+-- a miss of an own queue
+abbrev MissRose : Bool → Entry → Entry → Type 0
+MissRose b e e' =
+    Rose (missed_of b e).head_empty (missed_of b e').head_empty
+    ⊎ Rose (missed_of b e).link_missing (missed_of b e').link_missing
+
+head_rose : (b : Bool) (h : Heads) (e : Entry) → MissRose b e (with_missed b head_miss (with_heads b h e))
+head_rose true h e = inl (raised_rose e.receive_missed.head_empty)
+head_rose false h e = inl (raised_rose e.free_missed.head_empty)
+
+link_rose : (b : Bool) (h : Heads) (e : Entry) →
+    MissRose b e (with_look b (LinkEmpty 0) (with_missed b link_miss (with_heads b h e)))
+link_rose true h e = inr (raised_rose e.receive_missed.link_missing)
+link_rose false h e = inr (raised_rose e.free_missed.link_missing)
+
+pub miss_rose : (b : Bool) (e e' : Entry) → HadMiss b e e' → MissRose b e e'
+miss_rose b e e' = ⊎_elim
+    (λ h. subst (λ (x : Entry). MissRose b e x) (sym h) (head_rose b (heads_at 0 0) e))
+    (λ h. subst (λ (x : Entry). MissRose b e x) (sym h.1) (link_rose b (heads_of b e') e))
+
+-- and the boxes are counted as before
+misses_kept : (e e' : Entry) → HadMiss true e e' → e'.box_miss ≡ e.box_miss
+misses_kept e e' = ⊎_elim (λ h. ap (λ (x : Entry). x.box_miss) h) (λ h. ap (λ (x : Entry). x.box_miss) h.1)
+
+fulls_kept : (e e' : Entry) → HadMiss false e e' → e'.box_full ≡ e.box_full
+fulls_kept e e' = ⊎_elim (λ h. ap (λ (x : Entry). x.box_full) h) (λ h. ap (λ (x : Entry). x.box_full) h.1)
+
+misses_long : (p : Port) → length (knows p).box_miss ≡ (knows p).ranks
+misses_long p = ∥∥₁_elim p.counts (search props) (λ n. n.misses)
+
+fulls_long : (p : Port) → length (knows p).box_full ≡ (knows p).ranks
+fulls_long p = ∥∥₁_elim p.counts (search props) (λ n. n.fulls)
+
+-- a poll that gave none
+pub gave_none : (n : ℕ) (p q : Port) → (knows p).ranks ≡ n →
+    HadMiss true (with_all_missed (knows p)) (knows q) → GaveNone n p q
+gave_none n p q ranks miss = record {
+  boxes = λ i low. let long = misses_long p in
+      subst (λ (xs : List ℕ). Rose (slice_index (knows p).box_miss i) (slice_index xs i))
+      (sym (misses_kept (with_all_missed (knows p)) (knows q) miss))
+      (map_rose (knows p).box_miss i (omega (arith, low, ranks, long)));
+  queue = miss_rose true (with_all_missed (knows p)) (knows q) miss;
+}
+
+queue_within : (b : Bool) (p p' q' q : Port) → PortGrows p p' → QueueMissed b p' q' → PortGrows q' q →
+    QueueMissed b p q
+queue_within b p p' q' q up missed on =
+    ⊎_elim (λ h. inl (rose_within _ _ _ _ (up.queues b).head h (on.queues b).head))
+    (λ h. inr (rose_within _ _ _ _ (up.queues b).link h (on.queues b).link)) missed
+
+pub none_within : (n : ℕ) (p p' q' q : Port) → PortGrows p p' → GaveNone n p' q' → PortGrows q' q → GaveNone n p q
+none_within n p p' q' q up none on = record {
+  boxes = λ i low. rose_within _ _ _ _ (up.missed i) (none.boxes i low) (on.missed i);
+  queue = queue_within true p p' q' q up none.queue on;
+}
+
+-- a letter that came back
+tried_box : (len to : ℕ) (e : Entry) → to < length e.box_full →
+    (64 < len) ⊎ Rose (slice_index e.box_full to) (slice_index (tried len to e).box_full to)
+tried_box len to e low = by (dec_le len 64) where
+  by : (d : Dec (len ≤ 64)) →
+      (64 < len) ⊎ Rose (slice_index e.box_full to) (slice_index (if_below d (with_box_full to e) e).box_full to)
+  by (yes h) = inr (set_rose e.box_full to low)
+  by (no h) = inl (omega (arith, h))
+
+tried_queue : (len to : ℕ) (e e' : Entry) → MissRose false (tried len to e) e' → MissRose false e e'
+tried_queue len to e e' = by (dec_le len 64) where
+  by : (d : Dec (len ≤ 64)) → MissRose false (if_below d (with_box_full to e) e) e' → MissRose false e e'
+  by (yes h) rose = rose
+  by (no h) rose = rose
+
+pub came_back : (p q : Port) (l : Letter) (len : ℕ) → len ≡ length l.packet.payload → l.to < (knows p).ranks →
+    HadMiss false (tried len l.to (knows p)) (knows q) → CameBack p q l
+came_back p q l len same low miss =
+    let e = knows p in
+    let long = fulls_long p in
+    let kept = fulls_kept (tried len l.to e) (knows q) miss in record {
+      box = ⊎_elim (λ h. inl (omega (arith, h, same)))
+          (λ h. inr (subst (λ (xs : List ℕ). Rose (slice_index e.box_full l.to) (slice_index xs l.to)) (sym kept) h))
+          (tried_box len l.to e (omega (arith, low, long)));
+      queue = tried_queue len l.to e (knows q) (miss_rose false (tried len l.to e) (knows q) miss);
+    }
+
+pub back_within : (a a' b' b : Actor) → PortGrows a.port a'.port → a'.process ≡ a.process → LetterBack a' b' →
+    PortGrows b'.port b.port → LetterBack a b
+back_within a a' b' b up same back on =
+    by (slice_get a.process.rank.sending.outbox.letters 0)
+    (subst (λ (v : ProcessView). IfSome (slice_get v.rank.sending.outbox.letters 0) (CameBack a'.port b'.port)) same
+    back) where
+      by : (o : Option Letter) → IfSome o (CameBack a'.port b'.port) → IfSome o (CameBack a.port b.port)
+      by None back = tt
+      by (Some l) back = record {
+        box = ⊎_elim (λ h. inl h) (λ h. inr (rose_within _ _ _ _ (up.full l.to) h (on.full l.to))) back.box;
+        queue = queue_within false a.port a'.port b'.port b.port up back.queue on;
+      }
+
+-- a piece that came back, and one that did not come
+lane_full : (e e' : ring_entry.Entry) (j : ℕ) → j < length e.lanes → e' ≡ with_lane one_full j e →
+    (lane e j).full < (lane e' j).full
+lane_full e e' j low is =
+    let one = ap (λ (x : ring_entry.Entry). (lane x j).full) is
+    ∙ ap (λ (l : Lane). l.full) (get_or-set_same e.lanes j (one_full (lane e j)) new_lane low) in
+    omega (arith, one)
+
+lane_empty : (e e' : ring_entry.Entry) (j : ℕ) → j < length e.lanes → e' ≡ with_lane one_empty j e →
+    (lane e j).empty < (lane e' j).empty
+lane_empty e e' j low is =
+    let one = ap (λ (x : ring_entry.Entry). (lane x j).empty) is
+    ∙ ap (λ (l : Lane). l.empty) (get_or-set_same e.lanes j (one_empty (lane e j)) new_lane low) in
+    omega (arith, one)
+
+pub piece_back : (a b : Actor) (front : Option (ℕ × Piece)) (to : ℕ) (piece : Piece) → front ≡ Some (to, piece) →
+    option_map offered front ≡ next_offered a.process.rank.sending.offers →
+    to < length (ring.knows a.ring).lanes → ring.knows b.ring ≡ with_lane one_full to (ring.knows a.ring) →
+    PieceBack a b
+piece_back a b front to piece is next low full =
+    subst (λ (o : Option Offered). IfSome o (λ x. full_to a.ring x.to < full_to b.ring x.to))
+    (ap (option_map offered) (sym is) ∙ next) (lane_full (ring.knows a.ring) (ring.knows b.ring) to low full)
+
+pub no_piece : (a b : Actor) (sender : ℕ) → sender < length (ring.knows a.ring).lanes →
+    ring.knows b.ring ≡ with_lane one_empty sender (ring.knows a.ring) → NoPiece a b sender
+no_piece a b sender low empty due = lane_empty (ring.knows a.ring) (ring.knows b.ring) sender low empty
+
+pub piece_within : (a a' b' b : Actor) → RingGrows a.ring a'.ring → a'.process ≡ a.process → PieceBack a' b' →
+    RingGrows b'.ring b.ring → PieceBack a b
+piece_within a a' b' b up same back on =
+    by (next_offered a.process.rank.sending.offers)
+    (subst (λ (v : ProcessView). IfSome (next_offered v.rank.sending.offers)
+    (λ o. full_to a'.ring o.to < full_to b'.ring o.to)) same back) where
+      by : (o : Option Offered) → IfSome o (λ o. full_to a'.ring o.to < full_to b'.ring o.to) →
+          IfSome o (λ o. full_to a.ring o.to < full_to b.ring o.to)
+      by None back = tt
+      by (Some o) back = let x = (up o.to).full in let y = (on o.to).full in omega (arith, x, back, y)
+
+pub pieces_within : (a a' b' b : Actor) (i : ℕ) → RingGrows a.ring a'.ring → a'.process ≡ a.process →
+    NoPiece a' b' i → RingGrows b'.ring b.ring → NoPiece a b i
+pieces_within a a' b' b i up same none on due =
+    let rose = none (subst (λ (v : ProcessView). IsDue v.rank i) (sym same) due) in
+    let x = (up i).empty in let y = (on i).empty in omega (arith, x, rose, y)
+
+-- what was idle from a later moment on was so from the first
+pub idle_before : (lines : List Line) (a b c : Actor) → Grows a b → b.process ≡ a.process → Idle lines b c →
+    Idle lines a c
+idle_before lines a b c up same idle = record {
+  process = idle.process ∙ same;
+  stuck = subst (λ (v : ProcessView). goes_on (commands_of v.rank.me lines) v ≡ false) same idle.stuck;
+  polled = none_within a.process.rank.sizes.ranks a.port b.port c.port c.port up.port
+      (subst (λ (v : ProcessView). GaveNone v.rank.sizes.ranks b.port c.port) same idle.polled) (port_same c.port);
+  letter = back_within a b c c up.port same idle.letter (port_same c.port);
+  piece = piece_within a b c c up.ring same idle.piece (ring_same c.ring);
+  pieces = λ i low. pieces_within a b c c i up.ring same
+      (idle.pieces i (subst (λ (v : ProcessView). i < v.rank.sizes.ranks) (sym same) low)) (ring_same c.ring);
+}
+
+-- several steps one after the other
+pub neither : (p q : Bool) → (p || q) ≡ false → (p ≡ false) × (q ≡ false)
+neither true q none = absurd (clash none) where
+  clash : true ≡ false → ⊥
+  clash e = cc
+neither false q none = (refl, none)
+
+pub stepped_on : (p q : Bool) (a b c : Actor) → Stepped p a b → Stepped q b c → Stepped (p || q) a c
+stepped_on p q a b c one two = record {
+  at = two.at ∙ one.at;
+  still = λ none. let both = neither p q none in two.still both.1 ∙ one.still both.0;
+  worn = λ worn. let same = one.worn worn in
+      two.worn (λ fresh. worn (subst (λ (x : Actor). IsFresh x.process.rank) same fresh)) ∙ same;
+}
+
+-- nothing was done
+pub stepped_none : (a : Actor) → Stepped false a a
+stepped_none a = record { at = refl; still = λ none. refl; worn = λ worn. refl }
+
+-- a step of a rank that is not worn
+pub stepped_fresh : (p : Bool) (a b : Actor) → IsFresh a.process.rank → b.process.at ≡ a.process.at →
+    (p ≡ false → b.process ≡ a.process) → Stepped p a b
+stepped_fresh p a b fresh at still = record { at = at; still = still; worn = λ worn. absurd (worn fresh) }
+
+-- pieces of one rank more
+pub more_none : (a b d : Actor) (sender i : ℕ) → Grows a b → Grows b d → b.process ≡ a.process → i < sender + 1 →
+    (i < sender → NoPiece a b i) → NoPiece b d sender → NoPiece a d i
+more_none a b d sender i one two same low before last = by (ℕ_discrete i sender) where
+  by : Dec (i ≡ sender) → NoPiece a d i
+  by (yes e) = subst (λ (k : ℕ). NoPiece a d k) (sym e)
+      (pieces_within a b d d sender one.ring same last (ring_same d.ring))
+  by (no ne) = pieces_within a a b d i (ring_same a.ring) refl (before (omega (arith, low, ne))) two.ring
+
+-- one turn more that moved nothing
+pub idle_next : (lines : List Line) (a b c : Actor) (p q : Bool) → Grows a b →
+    (p ≡ false → IsFresh a.process.rank → b.process ≡ a.process) →
+    (q ≡ false → IsFresh b.process.rank → Idle lines b c) →
+    (p || q) ≡ false → IsFresh a.process.rank → Idle lines a c
+idle_next lines a b c p q up still idle none fresh =
+    let both = neither p q none in
+    let same = still both.0 fresh in
+    idle_before lines a b c up same (idle both.1 (subst (λ (v : ProcessView). IsFresh v.rank) (sym same) fresh))

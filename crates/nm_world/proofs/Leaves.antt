@@ -1,0 +1,219 @@
+-- What a step keeps by which a packet or a piece leaves.
+use Rattle.std.proofs.Common.{◌≡◌, ◌≢◌, ◌⊎◌, ⊎_elim, ℕ, ◌+◌, ◌<◌, ◌≤◌, ◌==◌, Bool, true, false, cond}
+use Rattle.std.proofs.Common.{Some, None, List, [], ◌∷◌, ◌++◌, length, map, refl, sym, ap, ◌∙◌, subst}
+use Rattle.std.proofs.Common.{arith, append-nil, get_or-set_same, get_or-set_other, Ok, Err, Result}
+use Rattle.std.specs.Prelude.{is_err}
+use Rattle.std.specs.List.{cons_option}
+use Rattle.std.proofs.lemmas.Bool.Decides.{nat_tests}
+use Rattle.std.proofs.lemmas.List.{map-append}
+use native.Mathlib.Decide.{dec_le}
+use Rattle.nm_types.specs.declared.limits.TheConstants.{MAX_BOX}
+use Rattle.nm_types.specs.declared.packets.Packet.{Packet}
+use Rattle.nm_types.specs.declared.packets.Path.{Path}
+use Rattle.nm_types.specs.declared.packets.Path.TheVariants.{Box, Cell}
+use Rattle.nm_types.specs.declared.packets.Piece.{Piece}
+use Rattle.nm_types.specs.declared.scripts.Line.{Line}
+use Rattle.nm_types.specs.Sizes.{Sizes}
+use Rattle.nm_history.specs.declared.events.Event.{Event}
+use Rattle.nm_protocol.specs.Known.{Taken}
+use Rattle.nm_protocol.specs.Pieces.{Pulled}
+use Rattle.nm_seats.specs.Update.{update}
+use Rattle.nm_table.specs.declared.table.Entry.{Entry}
+use Rattle.nm_table.specs.declared.table.Heads.{Heads}
+use Rattle.nm_table.specs.Rule.{Load, if_below, from, sent_to}
+use Rattle.nm_table.specs.Plays.{heads_of, with_box_full, with_filling, with_heads, with_put, with_put_box}
+use Rattle.nm_table.specs.Plays.{with_look}
+use Rattle.nm_table.specs.declared.table.Look.TheVariants.{Fresh}
+use Rattle.nm_cells.specs.declared.port.Fabric.{Fabric}
+use Rattle.nm_cells.specs.declared.port.Port.{Port}
+use Rattle.nm_cells.specs.Ports.{Owns, SameTaken, knows, taken_by}
+use Rattle.nm_cells.specs.Counted.{IsOneOf}
+use Rattle.nm_port.specs.Polls.{Came, HoldsTheRest, count_held, IsGot, IsNext, Way, before, by_box, by_cell, polled, was_held}
+use Rattle.nm_port.specs.Polls.{with_all_missed}
+use Rattle.nm_port.specs.Sends.{HadMiss, tried}
+use Rattle.nm_copyring.specs.declared.port.RingPort.{RingPort}
+use Rattle.nm_copyring.specs.declared.port.Rings.{Rings}
+use Rattle.nm_copyring.specs.declared.table.Entry as ring_entry
+use Rattle.nm_copyring.specs.declared.table.Lane.{Lane}
+use Rattle.nm_copyring.specs.Rule.{lane, new_lane}
+use Rattle.nm_copyring.specs.Plays.{one_pulled, one_pushed, with_lane}
+use Rattle.nm_copyring.specs.Ports as ring
+use Rattle.nm_outgoing.specs.Left.{Left, with_packet, with_piece}
+use Rattle.nm_ends.specs.Moments.{Moment, pulled_from, taken_from}
+use Rattle.nm_ends.specs.Moments.Cause.{Acted}
+use Rattle.nm_rank.specs.Calls.{taken_of}
+use Rattle.nm_rank.specs.Ranks.{RankView}
+use Rattle.nm_log.specs.Moments.{drew, pulled, took}
+use Rattle.nm_log.proofs.Shown.{pulled-push, pulled_still, taken-push, taken_still}
+use Rattle.nm_process.specs.Processes.{ProcessView}
+use Rattle.nm_process.specs.Work.{IsAtWork}
+use Rattle.nm_channels.specs.Carried.{HasPassed, HasSent, one_more}
+use Rattle.nm_standing.specs.Standing.{GoesOn, IsOf, IsStanding, Past, with_moment, with_packet_left}
+use Rattle.nm_standing.specs.Standing.{with_piece_left}
+use Rattle.nm_world.specs.declared.actors.Actor.{Actor}
+use Rattle.nm_world.specs.Actors.{IsActor, Kept, Seat, Stands, seat_of}
+use Rattle.nm_world.proofs.Steps.{SameGot, got_same, is_same, isnt_same, lane_else, lane_here, stands_of}
+use Rattle.nm_world.proofs.Steps.{tried_got, tried_sent}
+
+-- the lists of a packet that was sent, by either way
+pub data SentBy (e e' : Entry) (to : ℕ) (p : Packet) : Type 0 where
+  a_box : e'.put_box ≡ e.put_box ++ (to, Some p) ∷ [] → e'.put ≡ e.put → SameGot e e' → SentBy e e' to p
+  a_cell : e'.put_box ≡ e.put_box → e'.put ≡ e.put ++ (to, Some p) ∷ [] → SameGot e e' → SentBy e e' to p
+
+cell_put : (len to : ℕ) (p : Packet) (h : Heads) (e e' : Entry) →
+    e' ≡ with_put ((to, Some p) ∷ []) (with_look false Fresh (with_heads false h (tried len to e))) → SentBy e e' to p
+cell_put len to p h e e' is =
+    let one = tried_sent len to e in
+    let two = tried_got len to e in
+    a_cell (ap (λ (x : Entry). x.put_box) is ∙ one.box)
+    (ap (λ (x : Entry). x.put) is ∙ ap (λ xs. xs ++ (to, Some p) ∷ []) one.cell)
+    (record { box = ap (λ (x : Entry). x.got_box) is ∙ two.box; cell = ap (λ (x : Entry). x.got) is ∙ two.cell })
+
+box_put : (to : ℕ) (p : Packet) (e e' : Entry) →
+    e' ≡ with_put_box ((to, Some p) ∷ []) (with_filling to false e) → SentBy e e' to p
+box_put to p e e' is =
+    a_box (ap (λ (x : Entry). x.put_box) is) (ap (λ (x : Entry). x.put) is)
+    (record { box = ap (λ (x : Entry). x.got_box) is; cell = ap (λ (x : Entry). x.got) is })
+
+pub sent_by_way : (result : Result Path Packet) (len to : ℕ) (p : Packet) (e e' : Entry) →
+    is_err result ≡ false →
+    (result ≡ Ok Box → e' ≡ with_put_box ((to, Some p) ∷ []) (with_filling to false e)) →
+    (result ≡ Ok Cell →
+    e' ≡ with_put ((to, Some p) ∷ []) (with_look false Fresh
+    (with_heads false (heads_of false e') (tried len to e)))) →
+    SentBy e e' to p
+sent_by_way (Ok Box) len to p e e' okay box cell = box_put to p e e' (box refl)
+sent_by_way (Ok Cell) len to p e e' okay box cell = cell_put len to p (heads_of false e') e e' (cell refl)
+sent_by_way (Err x) len to p e e' failed box cell = absurd (clash failed) where
+  clash : true ≡ false → ⊥
+  clash e = cc
+
+abbrev SendCarries : Type 0
+SendCarries = (e e' : Entry) (j to : ℕ) (p : Packet) (ps : List Packet) → SentBy e e' to p →
+    p.seq ≡ sent_to to e.put_box e.put → HasSent e j ps → HasSent e' j (one_more to j p ps)
+
+-- from the clauses of the law
+pub send_carries : ((e e' : Entry) (j to : ℕ) (p : Packet) (ps : List Packet) →
+    e'.put_box ≡ e.put_box ++ (to, Some p) ∷ [] → e'.put ≡ e.put → p.seq ≡ sent_to to e.put_box e.put →
+    HasSent e j ps → HasSent e' j (one_more to j p ps)) →
+    ((e e' : Entry) (j to : ℕ) (p : Packet) (ps : List Packet) →
+    e'.put_box ≡ e.put_box → e'.put ≡ e.put ++ (to, Some p) ∷ [] → p.seq ≡ sent_to to e.put_box e.put →
+    HasSent e j ps → HasSent e' j (one_more to j p ps)) → SendCarries
+send_carries box cell e e' j to p ps (a_box x y z) number is = box e e' j to p ps x y number is
+send_carries box cell e e' j to p ps (a_cell x y z) number is = cell e e' j to p ps x y number is
+
+got_by : {e e' : Entry} {to : ℕ} {p : Packet} → SentBy e e' to p → SameGot e e'
+got_by (a_box x y z) = z
+got_by (a_cell x y z) = z
+
+left_packets : (to j : ℕ) (p : Packet) (l : Left) → (with_packet j (to, p) l).packets ≡ one_more to j p l.packets
+left_packets to j p l = by (to == j) where
+  by : (b : Bool) → (cond b (record l { packets = l.packets ++ p ∷ [] }) l).packets ≡ cond b (l.packets ++ p ∷ []) l.packets
+  by true = refl
+  by false = refl
+
+left_pieces : (to j : ℕ) (p : Packet) (l : Left) → (with_packet j (to, p) l).pieces ≡ l.pieces
+left_pieces to j p l = by (to == j) where
+  by : (b : Bool) → (cond b (record l { packets = l.packets ++ p ∷ [] }) l).pieces ≡ l.pieces
+  by true = refl
+  by false = refl
+
+pub send_on : SendCarries → (lines : List Line) (f : Fabric) (r : Rings) (a : Actor) (v : ProcessView)
+    (port : Port) (to : ℕ) (p : Packet) (events : List Event) (s : Stands lines f r a) → Owns f port → port.rank ≡ a.port.rank →
+    SameTaken a.port port → port.hands ≤ a.port.hands → SentBy (knows a.port) (knows port) to p →
+    p.seq ≡ sent_to to (knows a.port).put_box (knows a.port).put →
+    IsAtWork a.process.rank.sizes lines v →
+    IsOf a.process.rank.sizes lines a.port.rank v.rank
+    (with_moment (with_packet_left s.past (to, p)) (record { cause = Acted; events = events })) →
+    Stands lines f r (record { process = v; port = port; ring = a.ring })
+send_on law lines f r a v port to p events s owns rank same hands way number work on =
+    let m : Moment = record { cause = Acted; events = events } in
+    let now = with_moment (with_packet_left s.past (to, p)) m in
+    let got = got_by way in
+    stands_of a.process.rank.sizes lines f r (record { process = v; port = port; ring = a.ring }) now work.sizes
+    (record {
+      standing = subst (λ (k : ℕ). IsStanding a.process.rank.sizes lines k v now) (sym rank)
+          (record { work = work; rank = on });
+      in_range = s.is.in_range;
+      cells = owns;
+      rings = s.is.rings;
+      rank = s.is.rank ∙ sym rank;
+      ranks = s.is.ranks;
+      hands = let none = s.is.hands in omega (arith, hands, none);
+      rest = same.2 ∙ s.is.rest ∙ ap count_held (sym same.1);
+      sent = λ j within. subst (λ (ps : List Packet). HasSent (knows port) j ps)
+          (sym (left_packets to j p (s.past.left j)))
+          (law (knows a.port) (knows port) j to p (s.past.left j).packets way number (s.is.sent j within));
+      taken = λ i within. subst (λ (ts : List Taken). HasPassed (knows port) (taken_by port i) i
+          (map (λ t. t.packet) ts)) (sym (taken_still i s.past.log m refl))
+          (subst (λ (n : ℕ → ℕ). HasPassed (knows port) (n i) i
+          (map (λ t. t.packet) (taken_from i s.past.log))) (sym same.0)
+          (got_same (knows a.port) (knows port) (taken_by a.port i) i
+          (map (λ t. t.packet) (taken_from i s.past.log)) got (s.is.taken i within)));
+      pushed = λ j within. left_pieces to j p (s.past.left j) ∙ s.is.pushed j within;
+      pulled = λ i within. ap (map (λ (d : Pulled). d.piece)) (pulled_still i s.past.log m refl)
+          ∙ s.is.pulled i within;
+    })
+
+piece_packets : (j : ℕ) (piece : ℕ × Piece) (l : Left) → (with_piece j piece l).packets ≡ l.packets
+piece_packets j piece l = by (piece.0 == j) where
+  by : (b : Bool) → (cond b (record l { pieces = l.pieces ++ piece.1 ∷ [] }) l).packets ≡ l.packets
+  by true = refl
+  by false = refl
+
+pub push_on : (lines : List Line) (f : Fabric) (r : Rings) (a : Actor) (v : ProcessView)
+    (port : RingPort) (to : ℕ) (q : Piece) (events : List Event) (s : Stands lines f r a) →
+    ring.Owns r port → port.rank ≡ a.ring.rank → to < r.ranks →
+    ring.knows port ≡ with_lane (one_pushed q) to (ring.knows a.ring) →
+    IsAtWork a.process.rank.sizes lines v →
+    IsOf a.process.rank.sizes lines a.port.rank v.rank
+    (with_moment (with_piece_left s.past (to, q)) (record { cause = Acted; events = events })) →
+    Stands lines f r (record { process = v; port = a.port; ring = port })
+push_on lines f r a v port to q events s owns rank within knew work on =
+    let m : Moment = record { cause = Acted; events = events } in
+    let now = with_moment (with_piece_left s.past (to, q)) m in
+    let wide = s.is.rings.1.2 in
+    stands_of a.process.rank.sizes lines f r (record { process = v; port = a.port; ring = port }) now work.sizes
+    (record {
+      standing = record { work = work; rank = on };
+      in_range = s.is.in_range;
+      cells = s.is.cells;
+      rings = owns;
+      rank = rank ∙ s.is.rank;
+      ranks = s.is.ranks;
+      hands = s.is.hands;
+      rest = s.is.rest;
+      sent = λ j low. subst (λ (ps : List Packet). HasSent (knows a.port) j ps)
+          (sym (piece_packets j (to, q) (s.past.left j))) (s.is.sent j low);
+      taken = λ i low. subst (λ (ts : List Taken). HasPassed (knows a.port) (taken_by a.port i) i
+          (map (λ t. t.packet) ts)) (sym (taken_still i s.past.log m refl)) (s.is.taken i low);
+      pushed = λ j low. by j low (to == j) refl;
+      pulled = λ i low. ap (map (λ (d : Pulled). d.piece)) (pulled_still i s.past.log m refl)
+          ∙ s.is.pulled i low ∙ sym (ap (λ (e : ring_entry.Entry). (lane e i).pulled) knew
+          ∙ still i (omega (arith, within, wide)));
+    }) where
+      still : (i : ℕ) → to < length (ring.knows a.ring).lanes →
+          (lane (with_lane (one_pushed q) to (ring.knows a.ring)) i).pulled ≡ (lane (ring.knows a.ring) i).pulled
+      still i low = by_place (to == i) refl where
+        by_place : (b : Bool) → (to == i) ≡ b →
+            (lane (with_lane (one_pushed q) to (ring.knows a.ring)) i).pulled ≡ (lane (ring.knows a.ring) i).pulled
+        by_place true e = subst (λ (k : ℕ). (lane (with_lane (one_pushed q) to (ring.knows a.ring)) k).pulled
+            ≡ (lane (ring.knows a.ring) k).pulled) (is_same to i e)
+            (ap (λ (l : Lane). l.pulled) (lane_here (ring.knows a.ring) to (one_pushed q) low))
+        by_place false e = ap (λ (l : Lane). l.pulled)
+            (lane_else (ring.knows a.ring) to i (one_pushed q) (isnt_same to i e))
+
+      by : (j : ℕ) → j < a.process.rank.sizes.ranks → (b : Bool) → (to == j) ≡ b →
+          (cond b (record (s.past.left j) { pieces = (s.past.left j).pieces ++ q ∷ [] }) (s.past.left j)).pieces
+          ≡ ring.pushed_to port j
+      by j low true e =
+          let wide = s.is.rings.1.2 in
+          ap (λ (qs : List Piece). qs ++ q ∷ []) (s.is.pushed j low)
+          ∙ sym (ap (λ (x : ring_entry.Entry). (lane x j).pushed) knew
+          ∙ subst (λ (k : ℕ). (lane (with_lane (one_pushed q) to (ring.knows a.ring)) k).pushed
+          ≡ (lane (ring.knows a.ring) k).pushed ++ q ∷ []) (is_same to j e)
+          (ap (λ (l : Lane). l.pushed) (lane_here (ring.knows a.ring) to (one_pushed q)
+          (omega (arith, within, wide)))))
+      by j low false e =
+          s.is.pushed j low ∙ sym (ap (λ (x : ring_entry.Entry). (lane x j).pushed) knew
+          ∙ ap (λ (l : Lane). l.pushed) (lane_else (ring.knows a.ring) to j (one_pushed q) (isnt_same to j e)))

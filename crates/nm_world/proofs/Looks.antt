@@ -1,0 +1,248 @@
+-- How often an actor polled before it ran a command that looks at what came.
+use Rattle.std.proofs.Common.{◌≡◌, ◌⊎◌, ⊎_elim, inl, inr, ℕ, zero, suc, ◌+◌, ◌<◌, ◌≤◌, Bool, true, false, cond}
+use Rattle.std.proofs.Common.{Option, Some, None, List, [], ◌∷◌, ◌++◌, map, take, refl, sym, ap, ◌∙◌, subst, arith}
+use Rattle.std.specs.Prelude.{count_by, filter_map, option_map}
+use Rattle.std.specs.List.{slice_get}
+use Rattle.std.specs.Option.{option_map_or}
+use Rattle.std.proofs.lemmas.List.{map-append}
+use native.Mathlib.Decide.{dec_le}
+use Rattle.std.proofs.lemmas.List.Elements.{filter_map-append}
+use Rattle.std.proofs.lemmas.List.Sums.{sum_by-append}
+use Rattle.nm_types.specs.declared.scripts.Command.{Command}
+use Rattle.nm_types.specs.declared.scripts.Line.{Line}
+use Rattle.nm_types.specs.Commands.{Numbered, command_at, commands_of}
+use Rattle.nm_history.specs.declared.events.Event.{Event}
+use Rattle.nm_history.specs.RankRun.{Answers, ran_lines, ran_of}
+use Rattle.nm_cells.specs.declared.port.Fabric.{Fabric}
+use Rattle.nm_copyring.specs.declared.port.Rings.{Rings}
+use Rattle.nm_cells.specs.declared.port.Port.{Port}
+use Rattle.nm_cells.specs.Ports.{knows, taken_by}
+use Rattle.nm_process.specs.Places.{IsNext}
+use Rattle.nm_process.specs.Processes.{ProcessView}
+use Rattle.nm_process.specs.Steps.{HasRun}
+use Rattle.nm_process.specs.Work.{IsAtWork}
+use Rattle.nm_process.proofs.PlaceLemmas.{next_command, next_found}
+use Rattle.nm_types.specs.Sizes.{Sizes}
+use Rattle.nm_rank.specs.Ranks.{IsFresh}
+use Rattle.nm_world.specs.declared.actors.Actor.{Actor}
+use Rattle.nm_world.specs.Actors.{Grows, Kept, PortGrows, Seat, Stands, did}
+use Rattle.nm_world.specs.Idle.{QueueMissed, Rose}
+use Rattle.nm_world.specs.Looks.{IsAtLast, Polled, PolledBefore, PolledUnlessWorn, is_look, is_look_at, looks_in}
+use Rattle.nm_world.specs.Looks.{looks_next, polls_of}
+use Rattle.nm_world.proofs.Did.{did_same, sum_more, sum_up}
+use Rattle.nm_world.proofs.Grows.{kept_on, port_same}
+use Rattle.nm_world.proofs.Loops.{HasLooped}
+use Rattle.nm_world.proofs.Results.{clash}
+
+-- ports
+polls_up : (n : ℕ) (p q : Port) → PortGrows p q → polls_of n p ≤ polls_of n q
+polls_up n p q up =
+    let x = sum_up n (λ i. taken_by p i) (λ i. taken_by q i) up.taken in
+    let y = (up.queues true).head in
+    let z = (up.queues true).link in omega (arith, x, y, z)
+
+last_on : (p q : Port) → PortGrows p q → IsAtLast p → IsAtLast q
+last_on p q up = ⊎_elim
+    (λ h. let y = (up.queues true).head in inl (omega (arith, h, y)))
+    (λ h. let z = (up.queues true).link in inr (omega (arith, h, z)))
+
+pub polled_none : (n : ℕ) (p q : Port) → PortGrows p q → Polled n 0 p q
+polled_none n p q up = let x = polls_up n p q up in inl (omega (arith, x))
+
+pub polled_on : (n k m : ℕ) (p q s : Port) → Polled n k p q → Polled n m q s → PortGrows q s →
+    Polled n (k + m) p s
+polled_on n k m p q s one two up = ⊎_elim
+    (λ h. ⊎_elim (λ g. inl (omega (arith, h, g))) (λ g. inr g) two)
+    (λ h. inr (last_on q s up h)) one
+
+pub polled_within : (n k : ℕ) (p p' q' q : Port) → PortGrows p p' → Polled n k p' q' → PortGrows q' q →
+    Polled n k p q
+polled_within n k p p' q' q up polled on =
+    let x = polls_up n p p' up in
+    let y = polls_up n q' q on in
+    ⊎_elim (λ h. inl (omega (arith, x, h, y))) (λ h. inr (last_on q' q on h)) polled
+
+pub polled_some : (n k : ℕ) (p q : Port) → PortGrows p q → k < n → taken_by p k < taken_by q k → Polled n 1 p q
+polled_some n k p q up low more =
+    let x = sum_more n k (λ i. taken_by p i) (λ i. taken_by q i) up.taken low more in
+    let y = (up.queues true).head in
+    let z = (up.queues true).link in inl (omega (arith, x, y, z))
+
+pub polled_miss : (n : ℕ) (p q : Port) → PortGrows p q → QueueMissed true p q → Polled n 1 p q
+polled_miss n p q up =
+    let x = sum_up n (λ i. taken_by p i) (λ i. taken_by q i) up.taken in
+    let y = (up.queues true).head in
+    let z = (up.queues true).link in ⊎_elim
+    (⊎_elim (λ h. inl (omega (arith, x, h, z))) (λ h. inr (inl h)))
+    (⊎_elim (λ h. inl (omega (arith, x, y, h))) (λ h. inr (inr h)))
+
+-- commands
+pub looks_more : (commands : List Numbered) (h more : List Event) →
+    looks_in commands (h ++ more) ≡ looks_in commands h + looks_in commands more
+looks_more commands h more =
+    ap (count_by (is_look_at commands)) (filter_map-append (λ (e : Event). ran_of e.what) h more)
+    ∙ sum_by-append (λ x. cond (is_look_at commands x) 1 0) (ran_lines h) (ran_lines more)
+
+take_one : {A : Type 0} (xs : List A) (i : ℕ) (x : A) → slice_get xs i ≡ Some x →
+    take (suc i) xs ≡ take i xs ++ x ∷ []
+take_one {A = A} [] i x at = absurd (none at) where
+  none : None ≡ Some x → ⊥
+  none e = cc
+take_one {A = A} (y ∷ xs) zero x at = ap (λ z. z ∷ []) (one at) where
+  one : {u v : A} → Some u ≡ Some v → u ≡ v
+  one e = cc
+take_one (y ∷ xs) (suc i) x at = ap (λ zs. y ∷ zs) (take_one xs i x at)
+
+-- where the same commands ran, as many of them look at what came
+pub looks_same : (commands : List Numbered) (at at' : ℕ) (h h' : List Event) → Answers commands at h →
+    Answers commands at' h' → at' ≡ at → looks_in commands h' ≡ looks_in commands h
+looks_same commands at at' h h' one two same =
+    ap (count_by (is_look_at commands)) (two.in_order
+    ∙ ap (λ (k : ℕ). map (λ (c : Numbered). c.line) (take k commands)) same ∙ sym one.in_order)
+
+-- one command more ran
+sole_look : (commands : List Numbered) (line : ℕ) (c : Command) → command_at commands line ≡ Some c →
+    count_by (is_look_at commands) (line ∷ []) ≡ cond (is_look c) 1 0
+sole_look commands line c found =
+    by (option_map_or is_look (command_at commands line) false)
+    ∙ ap (λ (o : Option Command). cond (option_map_or is_look o false) 1 0) found where
+      by : (b : Bool) → 0 + cond b 1 0 ≡ cond b 1 0
+      by true = omega arith
+      by false = omega arith
+
+pub looks_ran : (sizes : Sizes) (lines : List Line) (a b : ProcessView) → IsAtWork sizes lines a →
+    IsAtWork sizes lines b → b.rank.me ≡ a.rank.me → HasRun lines a b →
+    looks_in (commands_of a.rank.me lines) b.rank.events
+    ≡ looks_in (commands_of a.rank.me lines) a.rank.events + looks_next lines a
+looks_ran sizes lines a b one two me run =
+    let commands = commands_of a.rank.me lines in
+    let next = next_command lines a.rank.me a.next run.place a.at run.line run.is one.counted in
+    let found = next_found lines a.rank.me a.next run.place run.line run.is in
+    let line : Numbered = record { line = run.place + 2; command = run.line.command } in
+    let answers = subst (λ (k : ℕ). Answers (commands_of k lines) b.at b.rank.events) me two.answers in
+    let at = run.at in
+    let more : b.at ≡ suc a.at = omega (arith, at) in
+    let taken : take b.at commands ≡ take a.at commands ++ line ∷ [] =
+    ap (λ (k : ℕ). take k commands) more ∙ take_one commands a.at line next in
+    ap (count_by (is_look_at commands)) (answers.in_order
+    ∙ ap (map (λ (c : Numbered). c.line)) taken
+    ∙ map-append (λ (c : Numbered). c.line) (take a.at commands) (line ∷ [])
+    ∙ ap (λ (ls : List ℕ). ls ++ line.line ∷ []) (sym one.answers.in_order))
+    ∙ sum_by-append (λ x. cond (is_look_at commands x) 1 0) (ran_lines a.rank.events) (line.line ∷ [])
+    ∙ ap (λ (k : ℕ). looks_in commands a.rank.events + k) (sole_look commands line.line run.line.command found
+    ∙ sym (ap (λ (o : Option Numbered). cond (option_map_or (λ c. is_look c.command) o false) 1 0) next))
+
+-- one step of a loop that takes packets, and its last one
+pub ranks_same : (lines : List Line) (f : Fabric) (r : Rings) (a b : Actor) → Kept lines f r a b →
+    b.process.rank.sizes.ranks ≡ a.process.rank.sizes.ranks
+ranks_same lines f r a b kept = ap (λ (s : Seat). s.sizes.ranks) kept.seat
+
+pub polled_by_step : (lines : List Line) (f : Fabric) (r : Rings) (n : ℕ) (a b d : Actor) (q : Bool) → Kept lines f r a b →
+    q ≡ true → q ≡ did n b d → PolledUnlessWorn b.process.rank.sizes.ranks 1 b d →
+    Polled a.process.rank.sizes.ranks 1 a.port d.port
+polled_by_step lines f r n a b d q kept is moved = ⊎_elim
+    (λ polled. polled_within a.process.rank.sizes.ranks 1 a.port b.port d.port d.port kept.grows.port
+    (subst (λ (k : ℕ). Polled k 1 b.port d.port) (ranks_same lines f r a b kept) polled) (port_same d.port))
+    (λ worn. absurd (clash (sym is ∙ moved ∙ ap (did n b) worn.1 ∙ sym (did_same n b))))
+
+pub polled_last : (lines : List Line) (f : Fabric) (r : Rings) (n k : ℕ) (a b d : Actor) → HasLooped n lines f r k a b →
+    (0 < k → Polled a.process.rank.sizes.ranks 1 a.port b.port) → Grows b d →
+    PolledUnlessWorn b.process.rank.sizes.ranks 1 b d → PolledUnlessWorn a.process.rank.sizes.ranks 1 a d
+polled_last lines f r n k a b d looped before up = ⊎_elim
+    (λ polled. inl (polled_within a.process.rank.sizes.ranks 1 a.port b.port d.port d.port looped.kept.grows.port
+    (subst (λ (k : ℕ). Polled k 1 b.port d.port) (ranks_same lines f r a b looped.kept) polled) (port_same d.port)))
+    (λ worn. by worn (dec_le 1 k)) where
+      by : (¬ IsFresh b.process.rank) × (d ≡ b) → Dec (1 ≤ k) → PolledUnlessWorn a.process.rank.sizes.ranks 1 a d
+      by worn (yes some) =
+          inl (polled_within a.process.rank.sizes.ranks 1 a.port a.port b.port d.port (port_same a.port) (before some)
+          up.port)
+      by worn (no none) =
+          let same = looped.first (omega (arith, none)) in
+          inr (subst (λ (x : Actor). ¬ IsFresh x.process.rank) same worn.0, worn.1 ∙ same)
+
+-- the next command
+pub looks_is : (f : Numbered → Command) (o : Option Numbered) →
+    option_map_or is_look (option_map f o) false ≡ option_map_or (λ c. is_look (f c)) o false
+looks_is f None = refl
+looks_is f (Some c) = refl
+
+-- an actor that stands, and went on
+module _ (lines : List Line) (f : Fabric) (r : Rings) where
+  pub me_same : (a b : Actor) → Stands lines f r a → Kept lines f r a b → b.process.rank.me ≡ a.process.rank.me
+  me_same a b s kept =
+      kept.stands.is.standing.rank.me ∙ ap (λ (s : Seat). s.rank) kept.seat ∙ sym s.is.standing.rank.me
+
+  answers_of : (a b : Actor) → Stands lines f r a → Kept lines f r a b →
+      Answers (commands_of a.process.rank.me lines) b.process.at b.process.rank.events
+  answers_of a b s kept =
+      subst (λ (k : ℕ). Answers (commands_of k lines) b.process.at b.process.rank.events) (me_same a b s kept)
+      kept.stands.is.standing.work.answers
+
+  -- the looks of an actor that ran no command
+  pub looks_kept : (a b c : Actor) → Stands lines f r a → Kept lines f r a b → Kept lines f r b c →
+      c.process.at ≡ b.process.at →
+      looks_in (commands_of a.process.rank.me lines) c.process.rank.events
+      ≡ looks_in (commands_of a.process.rank.me lines) b.process.rank.events
+  looks_kept a b c s one two at =
+      looks_same (commands_of a.process.rank.me lines) b.process.at c.process.at b.process.rank.events
+      c.process.rank.events (answers_of a b s one) (answers_of a c s (kept_on lines f r a b c one two)) at
+
+  pub looks_front : (a b : Actor) → (g : Grows a b) → looks_in (commands_of a.process.rank.me lines) b.process.rank.events
+      ≡ looks_in (commands_of a.process.rank.me lines) a.process.rank.events
+      + looks_in (commands_of a.process.rank.me lines) g.events.0
+  looks_front a b g =
+      ap (looks_in (commands_of a.process.rank.me lines)) g.events.1
+      ∙ looks_more (commands_of a.process.rank.me lines) a.process.rank.events g.events.0
+
+  -- before a command that did not run
+  pub looked_last : (a b c : Actor) → Stands lines f r a → Kept lines f r a b → Kept lines f r b c →
+      c.process.at ≡ b.process.at → PolledBefore lines a b → PolledBefore lines a c
+  looked_last a b c s one two at before looks is =
+      let commands = commands_of a.process.rank.me lines in
+      let front = looks_front a b one.grows in
+      let same = looks_kept a b c s one two at in
+      let polled = before looks (sym same ∙ is) in
+      polled_within a.process.rank.sizes.ranks looks a.port a.port b.port c.port (port_same a.port) polled two.grows.port
+
+  next_same : (b m : Actor) → Stands lines f r b → Kept lines f r b m → m.process.at ≡ b.process.at →
+      looks_next lines m.process ≡ looks_next lines b.process
+  next_same b m s kept at =
+      ap (λ (k : ℕ). cond (option_map_or (λ (c : Numbered). is_look c.command)
+      (slice_get (commands_of k lines) m.process.at) false) 1 0) (me_same b m s kept)
+      ∙ ap (λ (k : ℕ). cond (option_map_or (λ (c : Numbered). is_look c.command)
+      (slice_get (commands_of b.process.rank.me lines) k) false) 1 0) at
+
+  -- before one that ran
+  pub looked_more : (a b m d : Actor) → Stands lines f r a → Kept lines f r a b → Kept lines f r b m →
+      Kept lines f r m d → m.process.at ≡ b.process.at → PolledBefore lines a b →
+      PolledUnlessWorn b.process.rank.sizes.ranks (looks_next lines b.process) b m → IsFresh m.process.rank →
+      HasRun lines m.process d.process → PolledBefore lines a d
+  looked_more a b m d s one two three at before looked fresh run looks is =
+      let commands = commands_of a.process.rank.me lines in
+      let n = a.process.rank.sizes.ranks in
+      let next = looks_next lines b.process in
+      let so_far = looks_in commands one.grows.events.0 in
+      let first = looks_front a b one.grows in
+      let same = looks_kept a b m s one two at in
+      let ran = looks_ran m.process.rank.sizes lines m.process d.process two.stands.is.standing.work
+      (subst (λ (z : Sizes). IsAtWork z lines d.process) (ap (λ (s : Seat). s.sizes) three.seat)
+      three.stands.is.standing.work) (me_same m d two.stands three) run in
+      let here = subst (λ (k : ℕ). looks_in (commands_of k lines) d.process.rank.events
+      ≡ looks_in (commands_of k lines) m.process.rank.events + looks_next lines m.process)
+      (me_same a m s (kept_on lines f r a b m one two)) ran in
+      let then = next_same b m one.stands two at in
+      let sum : so_far + next ≡ looks = omega (arith, first, same, here, then, is) in
+      ⊎_elim
+      (λ polled. subst (λ (k : ℕ). Polled n k a.port d.port) sum
+      (polled_within n (so_far + next) a.port a.port m.port d.port (port_same a.port)
+      (polled_on n so_far next a.port b.port m.port (before so_far first)
+      (subst (λ (k : ℕ). Polled k next b.port m.port) (ranks_same lines f r a b one) polled) two.grows.port)
+      three.grows.port))
+      (λ worn. absurd (worn.0 (subst (λ (x : Actor). IsFresh x.process.rank) worn.1 fresh))) looked
+
+-- at the start
+pub looked_none : (lines : List Line) (a : Actor) → PolledBefore lines a a
+looked_none lines a looks is =
+    let none : 0 ≡ looks = omega (arith, is) in
+    subst (λ (k : ℕ). Polled a.process.rank.sizes.ranks k a.port a.port) none
+    (polled_none a.process.rank.sizes.ranks a.port a.port (port_same a.port))

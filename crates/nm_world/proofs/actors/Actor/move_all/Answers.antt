@@ -1,0 +1,110 @@
+-- Each part goes on from the one before.
+use Rattle.std.proofs.Common.{◌≡◌, ◌||◌, List, subst, sym, ap, ◌∙◌}
+use Rattle.nm_types.specs.declared.scripts.Line.{Line}
+use Rattle.nm_cells.specs.declared.port.Fabric.{Fabric}
+use Rattle.nm_copyring.specs.declared.port.Rings.{Rings}
+use Rattle.nm_rank.specs.Ranks.{IsFresh}
+use Rattle.nm_process.specs.Processes.{ProcessView}
+use Rattle.nm_world.specs.declared.actors.Actor.{Actor}
+use Rattle.nm_world.specs.Actors.{Kept, Setting, Stands, did}
+use Rattle.nm_world.proofs.Did.{kept_and}
+use Rattle.nm_world.proofs.Idle.{neither}
+use Rattle.nm_world.proofs.Turn.{turn_idle, turn_looked}
+use Rattle.nm_world.proofs.actors.Actor.move_all.Goals as goal
+
+pub send_all-sent-requires : goal.send_all-sent-requires
+send_all-sent-requires g c =
+    subst (λ (x : Setting). Stands x.lines c.args.f.now x.rings c.args.self.now) (sym c.requires.0) c.requires.1
+
+pub push_all-pushed-requires : goal.push_all-pushed-requires
+push_all-pushed-requires g c =
+    let p = c.send_all-sent.new.self in
+    subst (λ (x : Fabric). Stands g.here.lines x c.args.r.now p) (sym (ap (λ (x : Setting). x.fabric) c.requires.0))
+    (subst (λ (x : Rings). Stands g.here.lines c.args.f.now x p) (ap (λ (x : Setting). x.rings) c.requires.0)
+    c.send_all-sent.ensures.kept.stands)
+
+pub take_all-requires : goal.take_all-requires
+take_all-requires g c =
+    let p = c.push_all-pushed.new.self in
+    subst (λ (x : Rings). Stands g.here.lines c.args.f.now x p) (sym (ap (λ (x : Setting). x.rings) c.requires.0))
+    (subst (λ (x : Fabric). Stands g.here.lines x c.args.r.now p) (ap (λ (x : Setting). x.fabric) c.requires.0)
+    c.push_all-pushed.ensures.kept.stands)
+
+pub pull_all-requires : goal.pull_all-requires
+pull_all-requires g c =
+    let p = c.take_all.new.self in
+    let fabric = sym (ap (λ (x : Setting). x.fabric) c.requires.0) in (
+      ap (λ (x : Fabric). x.ranks) fabric,
+      subst (λ (x : Fabric). Stands g.here.lines x c.args.r.now p) fabric
+          (subst (λ (x : Rings). Stands g.here.lines c.args.f.now x p) (ap (λ (x : Setting). x.rings) c.requires.0)
+          c.in_ok-took.ensures.kept.stands),
+    )
+
+pub run_all-requires : goal.run_all-requires
+run_all-requires g c =
+    let p = c.pull_all.new.self in (
+      sym (ap (λ (x : Setting). x.fabric) c.requires.0),
+      (
+        subst (λ (x : Rings). Stands c.args.lines.now g.here.fabric x p)
+            (sym (ap (λ (x : Setting). x.rings) c.requires.0))
+            (subst (λ (x : List Line). Stands x g.here.fabric c.args.r.now p)
+            (ap (λ (x : Setting). x.lines) c.requires.0) c.in_ok-pulled.ensures.kept.stands),
+        sym (ap (λ (x : Setting). x.lines) c.requires.0),
+      ),
+    )
+
+pub returns : goal.returns
+returns g c =
+    let here = c.requires.0 in
+    let lines = c.args.lines.now in
+    let f = c.args.f.now in
+    let r = c.args.r.now in
+    let n = f.ranks in
+    let a = c.args.self.now in
+    let s = c.send_all-sent.new.self in
+    let p = c.push_all-pushed.new.self in
+    let t = c.take_all.new.self in
+    let u = c.pull_all.new.self in
+    let e = c.run_all.new.self in
+    let sent = c.send_all-sent.ensures in
+    let pushed = c.push_all-pushed.ensures in
+    let took = c.in_ok-took.ensures in
+    let pulled = c.in_ok-pulled.ensures in
+    let ran = c.in_ok-ran.ensures in
+    let one = subst (λ (x : Setting). Kept x.lines f x.rings a s) here sent.kept in
+    let two = subst (λ (x : Setting). Kept x.lines x.fabric r s p) here pushed.kept in
+    let three = subst (λ (x : Setting). Kept x.lines f x.rings p t) here took.kept in
+    let four = subst (λ (x : Setting). Kept x.lines x.fabric r t u) here pulled.kept in
+    let five = subst (λ (x : Setting). Kept lines x.fabric x.rings u e) here ran.kept in
+    let push_moved = subst (λ (x : Setting). c.push_all-pushed.result ≡ did x.fabric.ranks s p) here pushed.moved in
+    let pull_moved = subst (λ (x : Setting). c.in_ok-pulled.pulled ≡ did x.fabric.ranks t u) here pulled.moved in
+    let run_moved = subst (λ (x : Setting). c.in_ok-ran.ran ≡ did x.fabric.ranks u e) here ran.moved in
+    let sp = kept_and n lines f r a s p c.send_all-sent.result c.push_all-pushed.result one two sent.moved push_moved in
+    let st = kept_and n lines f r a p t _ c.in_ok-took.took sp.0 three sp.1 took.moved in
+    let su = kept_and n lines f r a t u _ c.in_ok-pulled.pulled st.0 four st.1 pull_moved in
+    let se = kept_and n lines f r a u e _ c.in_ok-ran.ran su.0 five su.1 run_moved in
+    let stands = c.requires.1 in
+    record {
+      kept = se.0;
+      moved = se.1;
+      idle = λ none fresh.
+          let n4 = neither (((c.send_all-sent.result || c.push_all-pushed.result) || c.in_ok-took.took)
+          || c.in_ok-pulled.pulled) c.in_ok-ran.ran none in
+          let n3 = neither ((c.send_all-sent.result || c.push_all-pushed.result) || c.in_ok-took.took)
+          c.in_ok-pulled.pulled n4.0 in
+          let n2 = neither (c.send_all-sent.result || c.push_all-pushed.result) c.in_ok-took.took n3.0 in
+          let n1 = neither c.send_all-sent.result c.push_all-pushed.result n2.0 in
+          let sa = sent.stepped.still n1.0 in
+          let ps = pushed.stepped.still n1.1 in
+          let tp = took.stepped.still n2.1 in
+          let ut = pulled.stepped.still n3.1 in
+          let fresh_s = subst (λ (v : ProcessView). IsFresh v.rank) (sym sa) fresh in
+          let fresh_p = subst (λ (v : ProcessView). IsFresh v.rank) (sym ps) fresh_s in
+          let fresh_t = subst (λ (v : ProcessView). IsFresh v.rank) (sym tp) fresh_p in
+          let fresh_u = subst (λ (v : ProcessView). IsFresh v.rank) (sym ut) fresh_t in
+          turn_idle lines f r a s p t u e one two three four five n stands.is.ranks.0 sa ps tp ut
+          (ran.still n4.1) (sent.back n1.0 fresh) (pushed.back n1.1 fresh_s) (took.none n2.1 fresh_p)
+          (pulled.none n3.1 fresh_t) (ran.stuck n4.1 fresh_u);
+      looked = turn_looked lines f r a s p t u e one two three four five stands sent.stepped.at pushed.stepped.at
+          took.stepped.at pulled.stepped.at took.polled pulled.stepped.worn ran.worn ran.polled;
+    }

@@ -1,0 +1,80 @@
+-- Why an actor moved nothing.
+use Rattle.std.specs.Prelude.{◌≡◌, ◌⊎◌, ℕ, ◌<◌, ◌≤◌, Bool, true, false, IfSome, List, length, slice_index}
+use Rattle.std.specs.List.{AllZip, slice_get}
+use Rattle.nm_types.specs.declared.scripts.Line.{Line}
+use Rattle.nm_types.specs.Commands.{commands_of}
+use Rattle.nm_protocol.specs.Pieces.{due_pieces}
+use Rattle.nm_outbox.specs.declared.letters.Letter.{Letter}
+use Rattle.nm_rndv.specs.Offers.{next_offered}
+use Rattle.nm_receiving.specs.Receipts.{drawn_from}
+use Rattle.nm_rank.specs.Ranks.{IsFresh, RankView}
+use Rattle.nm_table.specs.Plays.{missed_of}
+use Rattle.nm_cells.specs.declared.port.Port.{Port}
+use Rattle.nm_cells.specs.Ports.{knows}
+use Rattle.nm_copyring.specs.declared.port.RingPort.{RingPort}
+use Rattle.nm_copyring.specs.Ports.{empty_from, full_to}
+use Rattle.nm_process.specs.Steps.{goes_on}
+use Rattle.nm_world.specs.declared.actors.Actor.{Actor}
+
+-- a count rose, or stands at the last number of 64 bits
+abbrev pub Rose : ℕ → ℕ → Type 0
+Rose x y = (x < y) ⊎ (18446744073709551615 ≤ y)
+
+-- the port's own receive queue (`true`) or free queue had a miss: it was empty, or a link of it was missing
+abbrev pub QueueMissed : Bool → Port → Port → Type 0
+QueueMissed b p q =
+    Rose (missed_of b (knows p)).head_empty (missed_of b (knows q)).head_empty
+    ⊎ Rose (missed_of b (knows p)).link_missing (missed_of b (knows q)).link_missing
+
+-- `poll` gave none: of n ranks each one's next box was found without the awaited number, and the
+-- receive queue had a miss.
+pub record GaveNone (n : ℕ) (p q : Port) : Type 0 where
+  pub boxes :
+      (i : ℕ) → i < n → Rose (slice_index (knows p).box_miss i) (slice_index (knows q).box_miss i)
+  pub queue : QueueMissed true p q
+
+-- `send` handed a letter back: it fits no box, or the next one was found full, and the free queue had
+-- a miss.
+pub record CameBack (p q : Port) (l : Letter) : Type 0 where
+  pub box :
+      (64 < length l.packet.payload)
+      ⊎ Rose (slice_index (knows p).box_full l.to) (slice_index (knows q).box_full l.to)
+  pub queue : QueueMissed false p q
+
+-- `send` handed the first letter back, if there is one
+abbrev pub LetterBack : Actor → Actor → Type 0
+LetterBack a b = IfSome (slice_get a.process.rank.sending.outbox.letters 0) (CameBack a.port b.port)
+
+-- `push` handed the next piece back, if there is one: its place was found full
+abbrev pub PieceBack : Actor → Actor → Type 0
+PieceBack a b =
+    IfSome (next_offered a.process.rank.sending.offers) (λ o. full_to a.ring o.to < full_to b.ring o.to)
+
+-- a piece of the rank i is due
+abbrev pub IsDue : RankView → ℕ → Type 0
+IsDue v i = drawn_from v.receiving i < length (due_pieces v.events i)
+
+-- `pull` gave none of the rank i, if a piece of it is due: its place was found empty
+abbrev pub NoPiece : Actor → Actor → ℕ → Type 0
+NoPiece a b i = IsDue a.process.rank i → empty_from a.ring i < empty_from b.ring i
+
+-- Nothing moved, since nothing could: the process is as it was, no command left can go on, `poll` gave
+-- none, and what was to be sent, pushed and pulled was not.
+pub record Idle (lines : List Line) (a b : Actor) : Type 0 where
+  pub process : b.process ≡ a.process
+  pub stuck : goes_on (commands_of a.process.rank.me lines) a.process ≡ false
+  pub polled : GaveNone a.process.rank.sizes.ranks a.port b.port
+  pub letter : LetterBack a b
+  pub piece : PieceBack a b
+  pub pieces : (i : ℕ) → i < a.process.rank.sizes.ranks → NoPiece a b i
+
+-- so it is with each of a list whose rank is not worn
+abbrev pub AllIdle : List Line → List Actor → List Actor → Type 0
+AllIdle lines = AllZip (λ a b. IsFresh a.process.rank → Idle lines a b)
+
+-- One step, or several of a kind, of which none is a command: where it moved nothing the process is as
+-- it was, and a worn rank makes none.
+pub record Stepped (moved : Bool) (a b : Actor) : Type 0 where
+  pub at : b.process.at ≡ a.process.at
+  pub still : moved ≡ false → b.process ≡ a.process
+  pub worn : ¬ IsFresh a.process.rank → b ≡ a

@@ -1,0 +1,78 @@
+-- How often an actor polled before it ran a command that looks at what came.
+use Rattle.std.specs.Prelude.{◌≡◌, ◌⊎◌, ℕ, ◌+◌, ◌<◌, ◌≤◌, Bool, true, false, List, ◌++◌, count_by}
+use Rattle.std.specs.Prelude.{if◌then◌else◌}
+use Rattle.std.specs.List.{slice_get}
+use Rattle.std.specs.Option.{option_map_or}
+use Rattle.nm_types.specs.declared.scripts.Command.{Command}
+use Rattle.nm_types.specs.declared.scripts.Command.TheVariants as command
+use Rattle.nm_types.specs.declared.scripts.Line.{Line}
+use Rattle.nm_types.specs.Commands.{Numbered, command_at, commands_of}
+use Rattle.nm_history.specs.declared.events.Event.{Event}
+use Rattle.nm_history.specs.RankRun.{ran_lines}
+use Rattle.nm_cells.specs.declared.port.Port.{Port}
+use Rattle.nm_cells.specs.Ports.{knows, taken_by}
+use Rattle.nm_rank.specs.Ranks.{IsFresh}
+use Rattle.nm_process.specs.Processes.{ProcessView}
+use Rattle.nm_world.specs.declared.actors.Actor.{Actor}
+use Rattle.nm_world.specs.Actors.{sum_below}
+
+-- a command looks at what came: a test, a probe, an await or a matched probe
+abbrev pub is_look : Command → Bool
+is_look (command.Test q) = true
+is_look (command.Probe from tag ctx) = true
+is_look (command.Await from tag ctx) = true
+is_look (command.Mprobe m from tag ctx) = true
+is_look _ = false
+
+-- the command of a line is one
+abbrev pub is_look_at : List Numbered → ℕ → Bool
+is_look_at commands line = option_map_or is_look (command_at commands line) false
+
+-- how many of the commands that ran here are
+abbrev pub looks_in : List Numbered → List Event → ℕ
+looks_in commands h = count_by (is_look_at commands) (ran_lines h)
+
+-- how often a port passed a packet of n ranks on, or had a miss of its receive queue: each poll is one
+-- of these
+abbrev pub polls_of : ℕ → Port → ℕ
+polls_of n p =
+    sum_below n (λ i. taken_by p i) + (knows p).receive_missed.head_empty
+    + (knows p).receive_missed.link_missing
+
+-- one of the counts of these misses stands at the last number of 64 bits
+abbrev pub IsAtLast : Port → Type 0
+IsAtLast p =
+    (18446744073709551615 ≤ (knows p).receive_missed.head_empty)
+    ⊎ (18446744073709551615 ≤ (knows p).receive_missed.link_missing)
+
+-- the port polled at least so often
+abbrev pub Polled : ℕ → ℕ → Port → Port → Type 0
+Polled n times p q = (polls_of n p + times ≤ polls_of n q) ⊎ IsAtLast q
+
+-- so it did, or its rank was worn and nothing happened
+abbrev pub PolledUnlessWorn : ℕ → ℕ → Actor → Actor → Type 0
+PolledUnlessWorn n times a b =
+    Polled n times a.port b.port ⊎ ((¬ IsFresh a.process.rank) × (b ≡ a))
+
+-- 1 where the next command looks at what came, else 0
+abbrev pub looks_next : List Line → ProcessView → ℕ
+looks_next lines v =
+    if option_map_or (λ c. is_look c.command) (slice_get (commands_of v.rank.me lines) v.at) false
+    then 1
+    else 0
+
+-- the actor polled at least once for each command that ran and looks at what came
+abbrev pub PolledBefore : List Line → Actor → Actor → Type 0
+PolledBefore lines a b =
+    let commands = commands_of a.process.rank.me lines in
+    (looks : ℕ) →
+    looks_in commands b.process.rank.events ≡ looks_in commands a.process.rank.events + looks →
+    Polled a.process.rank.sizes.ranks looks a.port b.port
+
+-- Of a turn in which commands ran that look at what came: the actor polled before each of them, and
+-- once before all.
+abbrev pub LookedAround : List Line → Actor → Actor → Type 0
+LookedAround lines a b =
+    (more : List Event) → b.process.rank.events ≡ a.process.rank.events ++ more →
+    let looks = looks_in (commands_of a.process.rank.me lines) more in
+    0 < looks → Polled a.process.rank.sizes.ranks (looks + 1) a.port b.port
