@@ -6,3 +6,5 @@ pub mod Layout
 pub mod Report
 pub mod Lawful
 pub mod Told
+pub mod Summary
+pub mod Totals

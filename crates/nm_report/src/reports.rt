@@ -3,7 +3,7 @@
 ghost use Rattle.std.specs.Prelude.{◌≡◌, ◌++◌, IfOk, OnOk, string_bytes};
 ghost use Rattle.nm_report.specs.Layout.{by_rank};
 ghost use Rattle.nm_report.specs.Report.{answer_line, ran_line, answer_lines, end_line};
-ghost use Rattle.nm_report.specs.Report.{report_text};
+ghost use Rattle.nm_report.specs.Report.{cells_line, report_text};
 
 use crate::answers::{push_answer, push_body};
 use crate::events::{push_all_events, push_pairs};
@@ -83,6 +83,16 @@ fn last_line(done: bool) -> &'static str
     if done { "done\n" } else { "stuck\n" }
 }
 
+/// Writes the line of the cells, and the last line.
+pub(crate) fn push_end(out: &mut String, run: &RunRecord) -> Result<(), AllocError>
+    ensures ok { OnOk result (string_bytes out.new
+        ≡ string_bytes out.old ++ cells_line run.now.cells ++ end_line run.now.done) }
+{
+    let cells = run.cells;
+    write!(out, "cells {} home {}\n", cells.total, cells.home)?;
+    out.push_str(last_line(run.done))
+}
+
 /// The report of a run, each line ended by a line feed.
 ///
 /// Rank by rank, each answer has the line `RANK LINE ANSWER` in the order of the events, and a
@@ -98,8 +108,6 @@ pub fn text(alloc: Global, run: &RunRecord, trace: bool) -> Result<Vec<u8>, Memo
         push_pairs(&mut out, run.pairs.as_slice())?;
     }
     push_all_answers(alloc, &mut out, run.ranks.as_slice())?;
-    let cells = run.cells;
-    write!(out, "cells {} home {}\n", cells.total, cells.home)?;
-    out.push_str(last_line(run.done))?;
+    push_end(&mut out, run)?;
     Ok(out.into_bytes())
 }

@@ -232,3 +232,21 @@ fn a_trace_has_a_line_for_each_event(rt: HostRuntime) -> Result<(), Fail> {
     assert_eq!(rt; text(alloc, &run, true)?.as_slice(), want.as_slice());
     Ok(())
 }
+
+#[test]
+fn a_summary_has_five_lines(rt: HostRuntime) -> Result<(), Fail> {
+    let alloc = rt.alloc();
+    let run = RunRecord {
+        shape: Shape::new(3, 8, 1024).ok().ok_or("a shape")?,
+        ranks: Accounts::new(alloc),
+        pairs: Pairs::new(alloc),
+        cells: Account {
+            total: 24,
+            home: 24,
+        },
+        done: true,
+    };
+    let want = b"flood 5 3 0\nsent 0\ngot 0 bytes 0\ncells 24 home 24\ndone\n";
+    assert_eq!(rt; summary(alloc, &run, 5, 0)?.as_slice(), want.as_slice());
+    Ok(())
+}

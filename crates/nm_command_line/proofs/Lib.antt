@@ -1,0 +1,4 @@
+mod ArgumentLemmas
+mod FoundLemmas
+mod OptionLemmas
+mod RangeLemmas

@@ -1,0 +1,97 @@
+//! The words of the command line.
+//!
+//! The first word says what the program is to do; options stand anywhere behind it, each at most
+//! once, in either spelling (`--cells 4` or `--cells=4`); `flood` has three numbers besides, in
+//! their order.
+//!
+//! # What a contract sees
+//! The words as lists of bytes, and what they ask for (`CommandLine`).
+//! # What is proved
+//! `read` takes exactly the words of the grammar (`IsTaken`), and gives what they ask for.
+#![tactic(auto)]
+
+ghost use Rattle.std.specs.Prelude.{◌≡◌, List, ℕ, map, string_bytes, IfSome, Some};
+ghost use Rattle.nm_command_line.specs.CommandLine.{HasNumbers, InRange, IsTaken, name_of};
+ghost use Rattle.nm_command_line.specs.declared.CommandLine.{CommandLine};
+ghost use Rattle.nm_command_line.specs.declared.Mode.{Mode};
+
+mod arguments;
+mod found;
+
+use found::{Found, rest};
+
+/// What the program is asked to do.
+#[derive(Clone, Copy)]
+pub enum Mode {
+    /// Run the script of the source, and report what each command answered.
+    Run,
+    /// The same, with each event of each rank before the report.
+    Trace,
+    /// Run a script that is generated of these numbers, and sum up.
+    Flood { key: u16, ranks: u8, messages: u16 },
+}
+
+/// A command line that was taken.
+#[derive(Clone, Copy)]
+pub struct CommandLine {
+    /// What to do.
+    pub mode: Mode,
+    /// How many cells each rank has, 1 to 64. 8 where no option says.
+    pub cells: u8,
+    /// Up to how many bytes a standard send is eager, at most 4,096. 1,024 where no option says.
+    pub eager: u16,
+}
+
+const CELLS: u8 = 8;
+
+const EAGER: u16 = 1024;
+
+// What the first word and the numbers ask for.
+fn mode_of(first: &[u8], found: Found) -> Option<Mode>
+    ensures asked { IfSome result (λ mode. (first.now ≡ name_of mode) × HasNumbers mode found) }
+    ensures asks { (mode : Mode) → first.now ≡ name_of mode → HasNumbers mode found →
+        result ≡ Some mode }
+{
+    match (found.key, found.ranks, found.messages) {
+        (None, None, None) => {
+            if first == b"run".as_slice() {
+                Some(Mode::Run)
+            } else if first == b"trace".as_slice() {
+                Some(Mode::Trace)
+            } else {
+                None
+            }
+        }
+        (Some(key), Some(ranks), Some(messages)) => {
+            if first == b"flood".as_slice() {
+                Some(Mode::Flood {
+                    key,
+                    ranks,
+                    messages,
+                })
+            } else {
+                None
+            }
+        }
+        _ => None,
+    }
+}
+
+/// What the words ask for, or `None` where they are not taken.
+///
+/// The words are those of the command line without the program's name.
+pub fn read(words: &[String]) -> Option<CommandLine>
+    ensures taken { IfSome result (IsTaken (map string_bytes words.now)) }
+    ensures takes { (line : CommandLine) → IsTaken (map string_bytes words.now) line →
+        result ≡ Some line }
+    ensures within { IfSome result InRange }
+{
+    let (first, others) = words.split_first()?;
+    let found = rest(Found::nothing(), others)?;
+    let mode = mode_of(first.as_bytes(), found)?;
+    Some(CommandLine {
+        mode,
+        cells: found.cells.unwrap_or(CELLS),
+        eager: found.eager.unwrap_or(EAGER),
+    })
+}

@@ -1,0 +1,3 @@
+pub mod LineLemmas
+pub mod LimitLemmas
+pub mod PushLemmas
