@@ -1,1 +1,3 @@
-pub mod LineLemmas
+mod EndLemmas
+mod LineLemmas
+mod RunLemmas

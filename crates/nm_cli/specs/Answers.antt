@@ -1,7 +1,11 @@
--- What the program answers: a text, a status, and the record of a run.
-use Rattle.std.specs.Prelude.{◌≡◌, ℕ, Bool, true, false, if◌then◌else◌, List, ◌++◌, ◌⊎◌, IfSome}
-use Rattle.std.specs.Prelude.{Option, Some, None, codes, decimal}
-use Rattle.nm_outside.specs.Told.{Rose, Appends}
+-- What the program answers: a text, a status, the record of a run, and what the closed ports kept.
+use Rattle.std.specs.Prelude.{◌≡◌, ℕ, Bool, true, false, if◌then◌else◌, List, ◌++◌, IfSome, Option, Some, None}
+use Rattle.std.specs.Prelude.{codes, decimal}
+use Rattle.nm_outside.specs.Told.{Rose}
+use Rattle.nm_command_line.specs.CommandLine.{IsTaken}
+use Rattle.nm_command_line.specs.declared.CommandLine.{CommandLine}
+use Rattle.nm_command_line.specs.declared.Mode.{Mode}
+use Rattle.nm_command_line.specs.declared.Mode.TheVariants as mode
 use Rattle.nm_script.specs.Rules.{IsFirstFault}
 use Rattle.nm_script.specs.Spelled.{SpellsNone}
 use Rattle.nm_script.specs.declared.faults.Kind.{Kind}
@@ -9,11 +13,21 @@ use Rattle.nm_script.specs.declared.faults.Kind.TheVariants as kind
 use Rattle.nm_script.specs.declared.faults.ScriptFault.{ScriptFault}
 use Rattle.nm_script.specs.declared.faults.ScriptFault.TheVariants as fault
 use Rattle.nm_report.specs.Report.{report_text}
+use Rattle.nm_report.specs.Summary.{CountsFit, summary_text}
+use Rattle.nm_report.specs.Told.{told_of}
 use Rattle.nm_report.specs.declared.records.RunRecord.{RunRecord}
+use Rattle.nm_types.specs.declared.scripts.Line.{Line}
+use Rattle.nm_world.specs.declared.whole.Ways.{Ways}
 use Rattle.nm_cli.specs.declared.answers.Answer.{Answer}
 use Rattle.nm_cli.specs.declared.answers.Answer.TheVariants.{Usage, Unread, Refused, Ran}
-use Rattle.nm_cli.specs.Words.{usage}
-use Rattle.nm_cli.specs.Runs.{read_of, IsRunOfBytes}
+use Rattle.nm_cli.specs.Scripts.{IsRunOfScript, IsRunOfWords, Reads, read_of}
+
+-- what is said of words that are not taken
+abbrev pub usage : List ℕ
+usage =
+    codes "usage: nemesis run [--cells N] [--eager N]\n"
+    ++ codes "       nemesis trace [--cells N] [--eager N]\n"
+    ++ codes "       nemesis flood KEY RANKS MESSAGES [--cells N] [--eager N]\n"
 
 -- the name of a kind of fault
 abbrev pub kind_text : Kind → List ℕ
@@ -37,12 +51,18 @@ fault_text line kind =
 abbrev pub unread : List ℕ
 unread = codes "fault read\n"
 
+-- what is said of a run: its report, its report with each event, or its summary
+abbrev pub run_text : Mode → RunRecord → List ℕ
+run_text mode.Run run = report_text false run
+run_text mode.Trace run = report_text true run
+run_text (mode.Flood key ranks messages) run = summary_text key messages run
+
 -- the text of an answer
 abbrev pub text_of : Answer → List ℕ
 text_of Usage = usage
 text_of Unread = unread
 text_of (Refused line kind) = fault_text line kind
-text_of (Ran run) = report_text false run
+text_of (Ran mode run ways) = run_text mode run
 
 -- the status of a run: whether every rank is at its end
 abbrev pub end_status : Bool → ℕ
@@ -53,12 +73,37 @@ abbrev pub status_of : Answer → ℕ
 status_of Usage = 2
 status_of Unread = 4
 status_of (Refused line kind) = 3
-status_of (Ran run) = end_status run.done
+status_of (Ran mode run ways) = end_status run.done
 
 -- the record of an answer
 abbrev pub run_of : Answer → Option RunRecord
-run_of (Ran run) = Some run
+run_of (Ran mode run ways) = Some run
 run_of _ = None
+
+-- what the closed ports of its run kept
+abbrev pub ways_of : Answer → Option Ways
+ways_of (Ran mode run ways) = Some ways
+ways_of _ = None
+
+-- the numbers of a summary fit
+abbrev pub CanBeTold : Answer → Type 0
+CanBeTold (Ran mode run ways) = CountsFit (told_of run)
+CanBeTold _ = Unit {0}
+
+-- a script of these lines ran as the words say, and its numbers fit a summary
+abbrev pub HasRun : CommandLine → ℕ → List Line → Answer → Type 0
+HasRun line ranks lines (Ran mode run ways) =
+    (mode ≡ line.mode) × IsRunOfScript line ranks lines run ways × CountsFit (told_of run)
+HasRun line ranks lines _ = ⊥
+
+-- the source was read
+abbrev pub WasRead : Answer → Type 0
+WasRead Unread = ⊥
+WasRead _ = Unit {0}
+
+-- the words are not taken
+abbrev pub NotTaken : List (List ℕ) → Type 0
+NotTaken words = (line : CommandLine) → ¬ (IsTaken words line)
 
 -- the first fault of the bytes
 unfoldable pub IsTold : List ℕ → ℕ → Kind → Type 0
@@ -69,42 +114,23 @@ abbrev pub Refuses : List ℕ → ScriptFault → Type 0
 Refuses bytes (fault.Bad line kind) = IsTold bytes line kind × SpellsNone bytes
 Refuses bytes fault.Memory = Unit {0}
 
--- The answer is right: by whether the words are taken, by the bytes of the source where it tells
--- them, and by its count of faults before and after.
-abbrev pub IsAnswer : Bool → Option (List ℕ) → ℕ → ℕ → Answer → Type 0
-IsAnswer taken input old new Usage = taken ≡ false
-IsAnswer taken input old new Unread = (taken ≡ true) × Rose old new
-IsAnswer taken input old new (Refused line kind) =
-    (taken ≡ true) × IfSome input (λ bytes. Refuses (read_of bytes) (fault.Bad line kind))
-IsAnswer taken input old new (Ran run) =
-    (taken ≡ true) × IfSome input (λ bytes. IsRunOfBytes (read_of bytes) run)
+-- An answer to words that are taken is right: by what they ask for, by the bytes of the source where it
+-- tells them, and by its count of faults before and after.
+abbrev pub IsAnswerTo : CommandLine → Option (List ℕ) → ℕ → ℕ → Answer → Type 0
+IsAnswerTo line input old new Usage = ⊥
+IsAnswerTo line input old new Unread = Reads line.mode × Rose old new
+IsAnswerTo line input old new (Refused number kind) =
+    Reads line.mode × IfSome input (λ bytes. Refuses (read_of bytes) (fault.Bad number kind))
+IsAnswerTo line input old new (Ran mode run ways) = (mode ≡ line.mode) × IsRunOfWords line input run ways
 
--- the bytes spell no script, and their first fault was said
-pub record IsRefused (old new : Option (List ℕ)) (bytes : List ℕ) : Type 0 where
-  pub line : ℕ
-  pub kind : Kind
-  pub told : Refuses (read_of bytes) (fault.Bad line kind)
-  pub said : Appends old new (fault_text line kind)
-
--- a run of the script was reported
-pub record IsReported (status : ℕ) (due : Option RunRecord) (old new : Option (List ℕ)) (bytes : List ℕ)
+-- the words ask for something, and the answer to it is right
+pub record IsAnswered (words : List (List ℕ)) (input : Option (List ℕ)) (old new : ℕ) (answer : Answer)
     : Type 0 where
-  pub run : RunRecord
-  pub record_given : due ≡ Some run
-  pub of_bytes : IsRunOfBytes (read_of bytes) run
-  pub ended : status ≡ end_status run.done
-  pub said : Appends old new (report_text false run)
+  pub line : CommandLine
+  pub taken : IsTaken words line
+  pub right : IsAnswerTo line input old new answer
 
--- the statuses that there are
-abbrev pub IsStatus : ℕ → Type 0
-IsStatus status =
-    (status ≡ 0) ⊎ ((status ≡ 1) ⊎ ((status ≡ 2) ⊎ ((status ≡ 3) ⊎ ((status ≡ 4)
-    ⊎ ((status ≡ 5) ⊎ (status ≡ 6))))))
-
--- it is so, or a write failed, or memory ran out
-abbrev pub OrUnwritten : Type 0 → ℕ → Type 0
-OrUnwritten holds status = holds ⊎ ((status ≡ 5) ⊎ (status ≡ 6))
-
--- it is so, or a read or a write failed, or memory ran out
-abbrev pub OrFails : Type 0 → ℕ → Type 0
-OrFails holds status = holds ⊎ ((status ≡ 4) ⊎ ((status ≡ 5) ⊎ (status ≡ 6)))
+-- the answer is right: the words are not taken, or they are answered
+abbrev pub IsAnswer : List (List ℕ) → Option (List ℕ) → ℕ → ℕ → Answer → Type 0
+IsAnswer words input old new Usage = NotTaken words
+IsAnswer words input old new answer = IsAnswered words input old new answer

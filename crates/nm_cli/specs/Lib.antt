@@ -1,3 +1,3 @@
 pub mod Answers
-pub mod Runs
-pub mod Words
+pub mod Endings
+pub mod Scripts

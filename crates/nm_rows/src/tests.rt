@@ -6,17 +6,23 @@ use std::test::Fail;
 const PLAIN: &[u8] =
     b"ranks 2\n0: isend 0 1 7 0 x6869\n0: wait 0\n1: irecv 0 0 7 0 16\n1: wait 0\n";
 
+const USAGE: &[u8] = b"usage: nemesis run [--cells N] [--eager N]\n       \
+    nemesis trace [--cells N] [--eager N]\n       \
+    nemesis flood KEY RANKS MESSAGES [--cells N] [--eager N]\n";
+
 const WANT_OF_MEMORY: u8 = 6;
 
-fn words_of(alloc: Global, word: &str) -> Result<Vec<String>, AllocError> {
+fn words_of(alloc: Global, line: &str) -> Result<Vec<String>, AllocError> {
     let mut words = Vec::new(alloc);
-    words.push(String::from_str(alloc, word)?)?;
+    for word in line.split(' ') {
+        words.push(String::from_str(alloc, word)?)?;
+    }
     Ok(words)
 }
 
 #[test]
 fn scripts_give_their_reports(rt: HostRuntime) -> Result<(), Fail> {
-    let rows: [(&str, &[u8], u8, &[u8]); 13] = [
+    let rows: [(&str, &[u8], u8, &[u8]); 16] = [
         (
             "run",
             PLAIN,
@@ -78,10 +84,28 @@ fn scripts_give_their_reports(rt: HostRuntime) -> Result<(), Fail> {
             3,
             b"fault script 2 body\n",
         ),
-        ("walk", PLAIN, 2, b"usage: nemesis run\n"),
+        ("walk", PLAIN, 2, USAGE),
+        (
+            "run --cells=1 --eager 0",
+            b"ranks 1",
+            0,
+            b"cells 1 home 1\ndone\n",
+        ),
+        (
+            "trace",
+            b"ranks 1\n0: wait 9\n",
+            0,
+            b"@ 0 1 ran 2 null\n0 2 null\ncells 8 home 8\ndone\n",
+        ),
+        (
+            "flood 5 3 4",
+            b"",
+            0,
+            b"flood 5 3 4\nsent 4\ngot 4 bytes 2326\ncells 24 home 24\ndone\n",
+        ),
     ];
-    for (word, script, status, text) in rows {
-        let words = words_of(rt.alloc(), word)?;
+    for (line, script, status, text) in rows {
+        let words = words_of(rt.alloc(), line)?;
         let mut source = MemorySource::new(script.to_vec(rt.alloc())?, 3, Vec::new(rt.alloc()));
         let mut sink = MemorySink::new(rt.alloc(), 5, Vec::new(rt.alloc()))?;
         let ended = nemesis(&rt, rt.alloc(), &words, &mut source, &mut sink, &OpenGate);
@@ -93,6 +117,7 @@ fn scripts_give_their_reports(rt: HostRuntime) -> Result<(), Fail> {
         assert_eq!(rt; ended.status, status);
         assert_eq!(rt; sink.taken(), text);
         assert_eq!(rt; ended.run.is_some(), status < 2);
+        assert_eq!(rt; ended.closed.is_some(), status < 2);
     }
     Ok(())
 }

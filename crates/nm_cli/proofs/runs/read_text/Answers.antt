@@ -1,6 +1,6 @@
 -- A text that is refused is no script, and the fault is its first.
 use Rattle.nm_cli.specs.Answers.{IsTold}
-use Rattle.nm_cli.proofs.read_text.Goals as goal
+use Rattle.nm_cli.proofs.runs.read_text.Goals as goal
 
 pub returns-in-Err-Bad-clause-refused : goal.returns-in-Err-Bad-clause-refused
 unfolding IsTold

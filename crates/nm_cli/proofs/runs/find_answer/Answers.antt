@@ -1,0 +1,54 @@
+-- Words that are not taken, and floods.
+use Rattle.std.proofs.Common.{◌≡◌, ℕ, None, Some, sym, ◌∙◌, ap, subst}
+use Rattle.nm_command_line.specs.declared.CommandLine.{CommandLine}
+use Rattle.nm_command_line.specs.declared.Mode.TheVariants.{Flood}
+use Rattle.nm_cli.specs.Scripts.{Reads}
+use Rattle.nm_cli.proofs.runs.find_answer.Goals as goal
+
+no_line : (line : CommandLine) → None ≡ Some line → ⊥
+no_line line h = cc
+
+pub returns-in_default-clause-answer : goal.returns-in_default-clause-answer
+returns-in_default-clause-answer g c line taken = no_line line (c.in_default.ensures.takes line taken)
+
+pub returns-in_default-clause-read : goal.returns-in_default-clause-read
+returns-in_default-clause-read g c line taken reads read =
+    absurd (no_line line (c.in_default.ensures.takes line taken))
+
+-- what was asked for is one thing
+one_of : (a line other : CommandLine) → Some a ≡ Some line → Some a ≡ Some other → line ≡ other
+one_of a line other h is =
+    let first : a ≡ line = cc in
+    let second : a ≡ other = cc in
+    sym first ∙ second
+
+pub returns-in_default-clause-one : goal.returns-in_default-clause-one
+returns-in_default-clause-one g c line other taken is = absurd (no_line line (c.in_default.ensures.takes line taken))
+
+pub returns-in_err-script-in-Flood-clause-one : goal.returns-in_err-script-in-Flood-clause-one
+returns-in_err-script-in-Flood-clause-one g c line other taken is =
+    one_of c.in-Some.line line other (c.in-Some.ensures.takes line taken) (c.in-Some.ensures.takes other is)
+
+pub returns-in_ok-script-in-Flood-clause-one : goal.returns-in_ok-script-in-Flood-clause-one
+returns-in_ok-script-in-Flood-clause-one g c line other taken is =
+    one_of c.in-Some.line line other (c.in-Some.ensures.takes line taken) (c.in-Some.ensures.takes other is)
+
+pub returns-in-Run-clause-one : goal.returns-in-Run-clause-one
+returns-in-Run-clause-one g c line other taken is =
+    one_of c.in-Some.line line other (c.in-Some.ensures.takes line taken) (c.in-Some.ensures.takes other is)
+
+pub returns-in-Trace-clause-one : goal.returns-in-Trace-clause-one
+returns-in-Trace-clause-one g c line other taken is =
+    one_of c.in-Some.line line other (c.in-Some.ensures.takes line taken) (c.in-Some.ensures.takes other is)
+
+-- a flood is not read
+no_flood : (a line : CommandLine) (key ranks messages : ℕ) → Some a ≡ Some line →
+    a.mode ≡ Flood key ranks messages → Reads line.mode → ⊥
+no_flood a line key ranks messages same mode reads =
+    let is : a ≡ line = cc in
+    subst Reads (sym (ap (λ l. l.mode) is) ∙ mode) reads
+
+pub returns-in_ok-script-in-Flood-clause-read : goal.returns-in_ok-script-in-Flood-clause-read
+returns-in_ok-script-in-Flood-clause-read g c line taken reads =
+    absurd (no_flood c.in-Some.line line c.in-Flood.key c.in-Flood.ranks c.in-Flood.messages
+    (c.in-Some.ensures.takes line taken) c.in-Flood.is reads)
