@@ -1,11 +1,14 @@
+pub mod AskedUnended
 pub mod CancelledReceive
 pub mod CancelledSend
 pub mod CancelledThoughPaired
 pub mod ClaimedAlone
 pub mod ClaimedNewest
 pub mod ClaimedThenRecalled
+pub mod ClaimedUnreceived
 pub mod CountWrong
 pub mod Cut
+pub mod EagerStays
 pub mod EndedUnderWay
 pub mod LateCancels
 pub mod LaterReceive
@@ -17,11 +20,14 @@ pub mod MatchedThoughUnclaimed
 pub mod NewestBytes
 pub mod NewestTaken
 pub mod NullAndBusy
+pub mod NumberSkipped
 pub mod OrderAtBothEnds
 pub mod Overtaken
 pub mod Plain
 pub mod Probed
+pub mod RanOutOfOrder
 pub mod Ranks
+pub mod RecallUnanswered
 pub mod ReceivedThoughClaimed
 pub mod SelfEmpty
 pub mod StampRepeated
@@ -37,3 +43,4 @@ pub mod WaitsThoughDone
 pub mod WholeUntaken
 pub mod WithdrawnThoughClaimed
 pub mod WithdrawnThoughTaken
+pub mod WithdrawnUnasked

@@ -1,3 +1,4 @@
+pub mod AskedUnended
 pub mod CalledInTurn
 pub mod CancelledReceive
 pub mod CancelledSend
@@ -5,9 +6,11 @@ pub mod CancelledThoughPaired
 pub mod ClaimedAlone
 pub mod ClaimedNewest
 pub mod ClaimedThenRecalled
+pub mod ClaimedUnreceived
 pub mod CountWrong
 pub mod Cut
 pub mod Cutting
+pub mod EagerStays
 pub mod EndedUnderWay
 pub mod LateCancels
 pub mod LaterReceive
@@ -19,10 +22,13 @@ pub mod MatchedThoughUnclaimed
 pub mod NewestBytes
 pub mod NewestTaken
 pub mod NullAndBusy
+pub mod NumberSkipped
 pub mod OrderAtBothEnds
 pub mod Overtaken
 pub mod Plain
 pub mod Probed
+pub mod RanOutOfOrder
+pub mod RecallUnanswered
 pub mod ReceivedThoughClaimed
 pub mod SelfEmpty
 pub mod Small
@@ -39,3 +45,4 @@ pub mod WaitsThoughDone
 pub mod WholeUntaken
 pub mod WithdrawnThoughClaimed
 pub mod WithdrawnThoughTaken
+pub mod WithdrawnUnasked

@@ -4,14 +4,22 @@
 //! - `right_runs`: each of these runs is a run of its script, by every rule at once.
 //! - `wrong_runs`: each of these breaks the rule that its name tells.
 //! - `packets_and_pieces`: how messages of some lengths are cut.
+//! - `limits`: the limits that contracts cite by name (`nm_types`) are these numbers.
 //!
 //! A run stands in `specs/` under the name of its clause.
 #![tactic(auto)]
 
-ghost use Rattle.std.specs.Prelude.{◌≡◌, false, [], ◌∷◌};
+ghost use Rattle.std.specs.Prelude.{◌≡◌, ◌-◌, ◌^◌, false, [], ◌∷◌};
+ghost use Rattle.nm_types.specs.declared.limits.TheConstants.{MAX_BODIES, MAX_BODY, MAX_BOX};
+ghost use Rattle.nm_types.specs.declared.limits.TheConstants.{MAX_CAPACITY, MAX_CELLS, MAX_CONTEXT};
+ghost use Rattle.nm_types.specs.declared.limits.TheConstants.{MAX_EAGER, MAX_LINES, MAX_NAME};
+ghost use Rattle.nm_types.specs.declared.limits.TheConstants.{MAX_PACKETS, MAX_PAYLOAD, MAX_PIECE};
+ghost use Rattle.nm_types.specs.declared.limits.TheConstants.{MAX_PIECES, MAX_RANKS, MAX_STAMP};
+ghost use Rattle.nm_types.specs.declared.limits.TheConstants.{MAX_TAG, MAX_TEXT};
 ghost use Rattle.nm_types.specs.declared.messages.How.TheVariants.{Eager, Ask};
 ghost use Rattle.nm_types.specs.declared.packets.What.TheVariants as what;
 ghost use Rattle.nm_history.specs.Outgoing.{bare, send_packets, send_pieces};
+ghost use Rattle.nm_worked.specs.AskedUnended as asked_unended;
 ghost use Rattle.nm_worked.specs.CalledInTurn as called_in_turn;
 ghost use Rattle.nm_worked.specs.CancelledReceive as cancelled_receive;
 ghost use Rattle.nm_worked.specs.CancelledSend as cancelled_send;
@@ -19,10 +27,12 @@ ghost use Rattle.nm_worked.specs.CancelledThoughPaired as cancelled_though_paire
 ghost use Rattle.nm_worked.specs.ClaimedAlone as claimed_alone;
 ghost use Rattle.nm_worked.specs.ClaimedNewest as claimed_newest;
 ghost use Rattle.nm_worked.specs.ClaimedThenRecalled as claimed_then_recalled;
+ghost use Rattle.nm_worked.specs.ClaimedUnreceived as claimed_unreceived;
 ghost use Rattle.nm_worked.specs.CountWrong as count_wrong;
+ghost use Rattle.nm_worked.specs.Cut as cut;
 ghost use Rattle.nm_worked.specs.Cutting.{body_of, kinds, lengths, packets, pieces, places, send_of};
 ghost use Rattle.nm_worked.specs.Cutting.{sizes};
-ghost use Rattle.nm_worked.specs.Cut as cut;
+ghost use Rattle.nm_worked.specs.EagerStays as eager_stays;
 ghost use Rattle.nm_worked.specs.EndedUnderWay as ended_under_way;
 ghost use Rattle.nm_worked.specs.LateCancels as late_cancels;
 ghost use Rattle.nm_worked.specs.LaterReceive as later_receive;
@@ -34,10 +44,13 @@ ghost use Rattle.nm_worked.specs.MatchedThoughUnclaimed as matched_though_unclai
 ghost use Rattle.nm_worked.specs.NewestBytes as newest_bytes;
 ghost use Rattle.nm_worked.specs.NewestTaken as newest_taken;
 ghost use Rattle.nm_worked.specs.NullAndBusy as null_and_busy;
+ghost use Rattle.nm_worked.specs.NumberSkipped as number_skipped;
 ghost use Rattle.nm_worked.specs.OrderAtBothEnds as order_at_both_ends;
 ghost use Rattle.nm_worked.specs.Overtaken as overtaken;
 ghost use Rattle.nm_worked.specs.Plain as plain;
 ghost use Rattle.nm_worked.specs.Probed as probed;
+ghost use Rattle.nm_worked.specs.RanOutOfOrder as ran_out_of_order;
+ghost use Rattle.nm_worked.specs.RecallUnanswered as recall_unanswered;
 ghost use Rattle.nm_worked.specs.ReceivedThoughClaimed as received_though_claimed;
 ghost use Rattle.nm_worked.specs.SelfEmpty as self_empty;
 ghost use Rattle.nm_worked.specs.StampRepeated as stamp_repeated;
@@ -53,6 +66,7 @@ ghost use Rattle.nm_worked.specs.WaitsThoughDone as waits_though_done;
 ghost use Rattle.nm_worked.specs.WholeUntaken as whole_untaken;
 ghost use Rattle.nm_worked.specs.WithdrawnThoughClaimed as withdrawn_though_claimed;
 ghost use Rattle.nm_worked.specs.WithdrawnThoughTaken as withdrawn_though_taken;
+ghost use Rattle.nm_worked.specs.WithdrawnUnasked as withdrawn_unasked;
 
 /// Runs of their scripts.
 pub fn right_runs()
@@ -65,6 +79,9 @@ pub fn right_runs()
 
     // A claimed message that no matched receive takes: its synchronous send is never complete.
     ensures is_claimed_alone { claimed_alone.IsLawful }
+
+    // A claimed message that no matched receive takes: its eager send is complete.
+    ensures is_claimed_unreceived { claimed_unreceived.IsLawful }
 
     // A claimed message that its sender cancels: it is too late.
     ensures is_claimed_then_recalled { claimed_then_recalled.IsLawful }
@@ -117,6 +134,24 @@ pub fn right_runs()
 
 /// Histories that break a rule.
 pub fn wrong_runs()
+
+    // Refused: an end where a message that was sent by asking is paired and not whole.
+    ensures not_asked_unended { ¬ asked_unended.IsLawful }
+
+    // Refused: an end where an eager message came and has not left.
+    ensures not_eager_stays { ¬ eager_stays.IsLawful }
+
+    // Refused: a message whose number is not the next one.
+    ensures not_number_skipped { ¬ number_skipped.IsLawful }
+
+    // Refused: a rank that runs its second command before its first.
+    ensures not_ran_out_of_order { ¬ ran_out_of_order.IsLawful }
+
+    // Refused: an end where a recall has no answer.
+    ensures not_recall_unanswered { ¬ recall_unanswered.IsLawful }
+
+    // Refused: a message that is withdrawn though its sender did not ask for it.
+    ensures not_withdrawn_unasked { ¬ withdrawn_unasked.IsLawful }
 
     // Refused: a cancel that is done on a paired receive.
     ensures not_cancelled_though_paired { ¬ cancelled_though_paired.IsLawful }
@@ -199,4 +234,25 @@ pub fn packets_and_pieces()
         ∷ bare 9 (what.Withdrawn 0 false)
         ∷ bare 10 (what.Clear 0) ∷ [] }
     ensures pieces_in_turn { called_in_turn.pieces ≡ record { n = 0; at = 0; bytes = 10 ∷ [] } ∷ [] }
+{}
+
+/// The limits of scripts, messages and runs, as numbers.
+pub fn limits()
+    ensures ranks { MAX_RANKS ≡ 64 }
+    ensures cells { MAX_CELLS ≡ 64 }
+    ensures eager { MAX_EAGER ≡ 4096 }
+    ensures payload { MAX_PAYLOAD ≡ 256 }
+    ensures fastbox { MAX_BOX ≡ 64 }
+    ensures piece { MAX_PIECE ≡ 1024 }
+    ensures pieces { MAX_PIECES ≡ 4 }
+    ensures tag { MAX_TAG ≡ 32767 }
+    ensures context { MAX_CONTEXT ≡ 255 }
+    ensures name { MAX_NAME ≡ 65535 }
+    ensures capacity { MAX_CAPACITY ≡ 1048576 }
+    ensures body { MAX_BODY ≡ 1048576 }
+    ensures bodies { MAX_BODIES ≡ 67108864 }
+    ensures text { MAX_TEXT ≡ 8388608 }
+    ensures lines { MAX_LINES ≡ 65536 }
+    ensures packets { MAX_PACKETS ≡ 2 ^ 60 }
+    ensures stamp { MAX_STAMP ≡ 2 ^ 62 - 1 }
 {}

@@ -18,6 +18,7 @@ use Rattle.nm_worked.proofs.SynchronousBody as synchronous_body
 use Rattle.nm_worked.proofs.SynchronousTaken as synchronous_taken
 use Rattle.nm_worked.proofs.Tested as tested
 use Rattle.nm_worked.proofs.UnexpectedLater as unexpected_later
+use Rattle.nm_worked.proofs.ClaimedUnreceived as claimed_unreceived
 use Rattle.nm_worked.proofs.right_runs.Goals as goal
 
 pub returns-clause-is_cancelled_receive : goal.returns-clause-is_cancelled_receive
@@ -76,3 +77,6 @@ returns-clause-is_tested c = tested.runs
 
 pub returns-clause-is_unexpected_later : goal.returns-clause-is_unexpected_later
 returns-clause-is_unexpected_later c = unexpected_later.runs
+
+pub returns-clause-is_claimed_unreceived : goal.returns-clause-is_claimed_unreceived
+returns-clause-is_claimed_unreceived c = claimed_unreceived.runs

@@ -18,6 +18,12 @@ use Rattle.nm_worked.proofs.WaitsThoughDone as waits_though_done
 use Rattle.nm_worked.proofs.WholeUntaken as whole_untaken
 use Rattle.nm_worked.proofs.WithdrawnThoughClaimed as withdrawn_though_claimed
 use Rattle.nm_worked.proofs.WithdrawnThoughTaken as withdrawn_though_taken
+use Rattle.nm_worked.proofs.AskedUnended as asked_unended
+use Rattle.nm_worked.proofs.EagerStays as eager_stays
+use Rattle.nm_worked.proofs.NumberSkipped as number_skipped
+use Rattle.nm_worked.proofs.RanOutOfOrder as ran_out_of_order
+use Rattle.nm_worked.proofs.RecallUnanswered as recall_unanswered
+use Rattle.nm_worked.proofs.WithdrawnUnasked as withdrawn_unasked
 use Rattle.nm_worked.proofs.wrong_runs.Goals as goal
 
 pub returns-clause-not_cancelled_though_paired : goal.returns-clause-not_cancelled_though_paired
@@ -76,3 +82,21 @@ returns-clause-not_withdrawn_though_claimed c = withdrawn_though_claimed.wrong
 
 pub returns-clause-not_withdrawn_though_taken : goal.returns-clause-not_withdrawn_though_taken
 returns-clause-not_withdrawn_though_taken c = withdrawn_though_taken.wrong
+
+pub returns-clause-not_asked_unended : goal.returns-clause-not_asked_unended
+returns-clause-not_asked_unended c = asked_unended.wrong
+
+pub returns-clause-not_eager_stays : goal.returns-clause-not_eager_stays
+returns-clause-not_eager_stays c = eager_stays.wrong
+
+pub returns-clause-not_number_skipped : goal.returns-clause-not_number_skipped
+returns-clause-not_number_skipped c = number_skipped.wrong
+
+pub returns-clause-not_ran_out_of_order : goal.returns-clause-not_ran_out_of_order
+returns-clause-not_ran_out_of_order c = ran_out_of_order.wrong
+
+pub returns-clause-not_recall_unanswered : goal.returns-clause-not_recall_unanswered
+returns-clause-not_recall_unanswered c = recall_unanswered.wrong
+
+pub returns-clause-not_withdrawn_unasked : goal.returns-clause-not_withdrawn_unasked
+returns-clause-not_withdrawn_unasked c = withdrawn_unasked.wrong
