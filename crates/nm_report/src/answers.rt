@@ -8,7 +8,7 @@ use nm_types::Answer;
 use std::alloc::{AllocError, Global};
 
 /// Writes an answer, but for the bytes of a message.
-pub(crate) fn push_answer(out: &mut String, answer: &Answer) -> Result<(), AllocError>
+pub fn push_answer(out: &mut String, answer: &Answer) -> Result<(), AllocError>
     ensures ok { OnOk result
         (string_bytes out.new ≡ string_bytes out.old ++ join_with_byte 32 (answer_words answer.now)) }
 {

@@ -34,6 +34,7 @@ mod summaries;
 mod tests;
 
 pub use accounts::{Accounts, RankAccount};
+pub use answers::push_answer;
 pub use pairs::{PairCount, Pairs};
 pub use records::RunRecord;
 pub use reports::text;

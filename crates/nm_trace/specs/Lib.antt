@@ -1,0 +1,10 @@
+pub mod Answers
+pub mod Events
+pub mod Lines
+pub mod Machine
+pub mod Notes
+pub mod Outcome
+pub mod Sorts
+pub mod Steps
+pub mod Texts
+pub mod Traces

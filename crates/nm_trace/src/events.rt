@@ -1,0 +1,436 @@
+//! Events and counts of packets by the words of their lines.
+
+ghost use Rattle.std.specs.Prelude.{◌≡◌, map};
+ghost use Rattle.nm_trace.specs.Events.{peer_of, pick_of, how_of, done_of, send_of, post_of};
+ghost use Rattle.nm_trace.specs.Events.{arrive_of, whole_of, out_of, cancel_of, recall_of};
+ghost use Rattle.nm_trace.specs.Events.{withdraw_of, undone_of, claim_of, match_of, answer_of};
+ghost use Rattle.nm_trace.specs.Events.{is_answer, lone_of, send_with, showing_of, told_as};
+ghost use Rattle.nm_trace.specs.Events.{ran_of, plain_of, told_of, note_of, pair_of};
+
+use crate::notes::{Note, Told};
+use crate::numbers::{huge, large, middle, small};
+use crate::sorts::{Sort, lone_answer, sort_from};
+use nm_history::{Event, Happened};
+use nm_report::PairCount;
+use nm_types::{Answer, Arrival, Bytes, Envelope, How, Peer, Post, Seen, TagPick};
+use nm_words::number_up_to;
+use std::alloc::Global;
+
+#[tactic(auto, unfolding(crate::specs::Events::peer_of))]
+fn peer_from(word: &[u8]) -> Option<Peer>
+    ensures { result ≡ peer_of word.now }
+{
+    if word == b"any".as_slice() {
+        return Some(Peer::Any);
+    }
+    let rank = small(word)?;
+    Some(Peer::One(rank))
+}
+
+#[tactic(auto, unfolding(crate::specs::Events::pick_of))]
+fn pick_from(word: &[u8]) -> Option<TagPick>
+    ensures { result ≡ pick_of word.now }
+{
+    if word == b"any".as_slice() {
+        return Some(TagPick::Any);
+    }
+    let tag = middle(word)?;
+    Some(TagPick::One(tag))
+}
+
+#[tactic(auto, unfolding(crate::specs::Events::how_of))]
+fn how_from(word: &[u8]) -> Option<How>
+    ensures { result ≡ how_of word.now }
+{
+    if word == b"eager".as_slice() {
+        Some(How::Eager)
+    } else if word == b"ask".as_slice() {
+        Some(How::Ask)
+    } else {
+        None
+    }
+}
+
+#[tactic(auto, unfolding(crate::specs::Events::done_of))]
+fn done_from(word: &[u8]) -> Option<bool>
+    ensures { result ≡ done_of word.now }
+{
+    if word == b"done".as_slice() {
+        Some(true)
+    } else if word == b"late".as_slice() {
+        Some(false)
+    } else {
+        None
+    }
+}
+
+/// A send, by its seven words.
+#[tactic(auto, unfolding(crate::specs::Events::send_with))]
+fn send_with(
+    to: &[u8],
+    n: &[u8],
+    tag: &[u8],
+    ctx: &[u8],
+    len: &[u8],
+    how: &[u8],
+    line: &[u8],
+) -> Option<Happened>
+    ensures { result ≡ send_with to.now n.now tag.now ctx.now len.now how.now line.now }
+{
+    let to = small(to)?;
+    let n = huge(n)?;
+    let tag = middle(tag)?;
+    let ctx = small(ctx)?;
+    let len = large(len)?;
+    let how = how_from(how)?;
+    let line = large(line)?;
+    Some(Happened::Send {
+        to,
+        n,
+        tag,
+        ctx,
+        len,
+        how,
+        line,
+    })
+}
+
+#[tactic(auto, unfolding(crate::specs::Events::send_of))]
+fn send_from(words: &[&[u8]]) -> Option<Happened>
+    ensures { result ≡ send_of (map (λ word. word.now) words.now) }
+{
+    match words {
+        [to, n, tag, ctx, len, how, line] => send_with(to, n, tag, ctx, len, how, line),
+        _ => None,
+    }
+}
+
+#[tactic(auto, unfolding(crate::specs::Events::post_of))]
+fn post_from(words: &[&[u8]]) -> Option<Happened>
+    ensures { result ≡ post_of (map (λ word. word.now) words.now) }
+{
+    match words {
+        [number, from, tag, ctx, cap, line] => {
+            let number = huge(number)?;
+            let from = peer_from(from)?;
+            let tag = pick_from(tag)?;
+            let ctx = small(ctx)?;
+            let cap = large(cap)?;
+            let line = large(line)?;
+            Some(Happened::Post {
+                post: Post {
+                    number,
+                    from,
+                    tag,
+                    ctx,
+                    cap,
+                },
+                line,
+            })
+        }
+        _ => None,
+    }
+}
+
+#[tactic(auto, unfolding(crate::specs::Events::arrive_of))]
+fn arrive_from(words: &[&[u8]]) -> Option<Happened>
+    ensures { result ≡ arrive_of (map (λ word. word.now) words.now) }
+{
+    match words {
+        [from, n, tag, ctx, len, how] => {
+            let from = small(from)?;
+            let n = huge(n)?;
+            let tag = middle(tag)?;
+            let ctx = small(ctx)?;
+            let len = large(len)?;
+            let how = how_from(how)?;
+            Some(Happened::Arrive {
+                a: Arrival {
+                    n,
+                    env: Envelope {
+                        from,
+                        tag,
+                        ctx,
+                        len,
+                        how,
+                    },
+                },
+            })
+        }
+        _ => None,
+    }
+}
+
+#[tactic(auto, unfolding(crate::specs::Events::whole_of))]
+fn whole_from(words: &[&[u8]]) -> Option<Happened>
+    ensures { result ≡ whole_of (map (λ word. word.now) words.now) }
+{
+    match words {
+        [from, n] => {
+            let from = small(from)?;
+            let n = huge(n)?;
+            Some(Happened::Whole { from, n })
+        }
+        _ => None,
+    }
+}
+
+#[tactic(auto, unfolding(crate::specs::Events::out_of))]
+fn out_from(words: &[&[u8]]) -> Option<Happened>
+    ensures { result ≡ out_of (map (λ word. word.now) words.now) }
+{
+    match words {
+        [to, n] => {
+            let to = small(to)?;
+            let n = huge(n)?;
+            Some(Happened::Out { to, n })
+        }
+        _ => None,
+    }
+}
+
+#[tactic(auto, unfolding(crate::specs::Events::cancel_of))]
+fn cancel_from(words: &[&[u8]]) -> Option<Happened>
+    ensures { result ≡ cancel_of (map (λ word. word.now) words.now) }
+{
+    match words {
+        [number, done] => {
+            let number = huge(number)?;
+            let done = done_from(done)?;
+            Some(Happened::Cancel { number, done })
+        }
+        _ => None,
+    }
+}
+
+#[tactic(auto, unfolding(crate::specs::Events::recall_of))]
+fn recall_from(words: &[&[u8]]) -> Option<Happened>
+    ensures { result ≡ recall_of (map (λ word. word.now) words.now) }
+{
+    match words {
+        [to, n] => {
+            let to = small(to)?;
+            let n = huge(n)?;
+            Some(Happened::Recall { to, n })
+        }
+        _ => None,
+    }
+}
+
+#[tactic(auto, unfolding(crate::specs::Events::withdraw_of))]
+fn withdraw_from(words: &[&[u8]]) -> Option<Happened>
+    ensures { result ≡ withdraw_of (map (λ word. word.now) words.now) }
+{
+    match words {
+        [from, n, done] => {
+            let from = small(from)?;
+            let n = huge(n)?;
+            let done = done_from(done)?;
+            Some(Happened::Withdraw { from, n, done })
+        }
+        _ => None,
+    }
+}
+
+#[tactic(auto, unfolding(crate::specs::Events::undone_of))]
+fn undone_from(words: &[&[u8]]) -> Option<Happened>
+    ensures { result ≡ undone_of (map (λ word. word.now) words.now) }
+{
+    match words {
+        [to, n, done] => {
+            let to = small(to)?;
+            let n = huge(n)?;
+            let done = done_from(done)?;
+            Some(Happened::Undone { to, n, done })
+        }
+        _ => None,
+    }
+}
+
+#[tactic(auto, unfolding(crate::specs::Events::claim_of))]
+fn claim_from(words: &[&[u8]]) -> Option<Happened>
+    ensures { result ≡ claim_of (map (λ word. word.now) words.now) }
+{
+    match words {
+        [from, n, line] => {
+            let from = small(from)?;
+            let n = huge(n)?;
+            let line = large(line)?;
+            Some(Happened::Claim { from, n, line })
+        }
+        _ => None,
+    }
+}
+
+#[tactic(auto, unfolding(crate::specs::Events::match_of))]
+fn match_from(words: &[&[u8]]) -> Option<Happened>
+    ensures { result ≡ match_of (map (λ word. word.now) words.now) }
+{
+    match words {
+        [number, from, n, cap, line] => {
+            let number = huge(number)?;
+            let from = small(from)?;
+            let n = huge(n)?;
+            let cap = large(cap)?;
+            let line = large(line)?;
+            Some(Happened::Match {
+                number,
+                from,
+                n,
+                cap,
+                line,
+            })
+        }
+        _ => None,
+    }
+}
+
+#[tactic(auto, unfolding(crate::specs::Events::lone_of))]
+fn lone_from(word: &[u8]) -> Option<(Answer, u64)>
+    ensures { result ≡ lone_of word.now }
+{
+    let answer = lone_answer(word)?;
+    Some((answer, 0))
+}
+
+/// An answer that shows a message, by its name.
+#[tactic(auto, unfolding(crate::specs::Events::showing_of))]
+fn showing_from(
+    alloc: Global,
+    name: &[u8],
+    from: u8,
+    tag: u16,
+    word: &[u8],
+) -> Option<(Answer, u64)>
+    ensures { result ≡ showing_of name.now from tag word.now }
+{
+    if name == b"got".as_slice() {
+        let len = number_up_to(word, 9223372036854775807)?;
+        let body = Bytes::new(alloc);
+        Some((Answer::Got { from, tag, body }, len))
+    } else if name == b"cut".as_slice() {
+        let len = large(word)?;
+        Some((Answer::Cut { from, tag, len }, 0))
+    } else if name == b"seen".as_slice() {
+        let len = large(word)?;
+        Some((Answer::Seen(Seen { from, tag, len }), 0))
+    } else {
+        None
+    }
+}
+
+/// The answer of these words. One that got bytes has none yet.
+#[tactic(auto, unfolding(crate::specs::Events::answer_of))]
+fn answer_from(alloc: Global, words: &[&[u8]]) -> Option<(Answer, u64)>
+    ensures { result ≡ answer_of (map (λ word. word.now) words.now) }
+{
+    match words {
+        [word] => lone_from(word),
+        [name, from, tag, len] => {
+            let from = small(from)?;
+            let tag = middle(tag)?;
+            showing_from(alloc, name, from, tag, len)
+        }
+        _ => None,
+    }
+}
+
+#[tactic(auto, unfolding(crate::specs::Events::ran_of))]
+fn ran_from(alloc: Global, words: &[&[u8]]) -> Option<Told>
+    ensures { result ≡ ran_of (map (λ word. word.now) words.now) }
+{
+    match words {
+        [line, rest @ ..] => {
+            let line = large(line)?;
+            let (answer, len) = answer_from(alloc, rest)?;
+            let what = Happened::Ran { line, answer };
+            Some(Told { what, len })
+        }
+        _ => None,
+    }
+}
+
+/// What happened, by its name and the other words, where it is no answer.
+#[tactic(auto, unfolding(crate::specs::Events::plain_of))]
+fn plain_from(sort: Sort, words: &[&[u8]]) -> Option<Happened>
+    ensures { result ≡ plain_of sort (map (λ word. word.now) words.now) }
+{
+    match sort {
+        Sort::Send => send_from(words),
+        Sort::Post => post_from(words),
+        Sort::Arrive => arrive_from(words),
+        Sort::Whole => whole_from(words),
+        Sort::Out => out_from(words),
+        Sort::Cancel => cancel_from(words),
+        Sort::Recall => recall_from(words),
+        Sort::Withdraw => withdraw_from(words),
+        Sort::Undone => undone_from(words),
+        Sort::Claim => claim_from(words),
+        Sort::Match => match_from(words),
+        Sort::Ran => None,
+    }
+}
+
+fn is_answer(sort: Sort) -> bool
+    ensures { result ≡ is_answer sort }
+{
+    matches!(sort, Sort::Ran)
+}
+
+#[tactic(auto, unfolding(crate::specs::Events::told_as))]
+fn told_as(alloc: Global, sort: Sort, words: &[&[u8]]) -> Option<Told>
+    ensures { result ≡ told_as sort (map (λ word. word.now) words.now) }
+{
+    if is_answer(sort) {
+        return ran_from(alloc, words);
+    }
+    let what = plain_from(sort, words)?;
+    Some(Told { what, len: 0 })
+}
+
+#[tactic(auto, unfolding(crate::specs::Events::told_of))]
+fn told_from(alloc: Global, name: &[u8], words: &[&[u8]]) -> Option<Told>
+    ensures { result ≡ told_of name.now (map (λ word. word.now) words.now) }
+{
+    let sort = sort_from(name)?;
+    told_as(alloc, sort, words)
+}
+
+/// The event of a line.
+#[tactic(auto, unfolding(crate::specs::Events::note_of))]
+pub fn note_from(alloc: Global, words: &[&[u8]]) -> Option<Note>
+    ensures { result ≡ note_of (map (λ word. word.now) words.now) }
+{
+    match words {
+        [at, rank, stamp, name, rest @ ..] => {
+            if *at != b"@".as_slice() {
+                return None;
+            }
+            let rank = small(rank)?;
+            let stamp = huge(stamp)?;
+            let Told { what, len } = told_from(alloc, name, rest)?;
+            let event = Event { stamp, what };
+            Some(Note { rank, event, len })
+        }
+        _ => None,
+    }
+}
+
+/// The count of packets of a line.
+#[tactic(auto, unfolding(crate::specs::Events::pair_of))]
+pub fn pair_from(words: &[&[u8]]) -> Option<PairCount>
+    ensures { result ≡ pair_of (map (λ word. word.now) words.now) }
+{
+    match words {
+        [name, from, to, packets] => {
+            if *name != b"pair".as_slice() {
+                return None;
+            }
+            let from = small(from)?;
+            let to = small(to)?;
+            let packets = huge(packets)?;
+            Some(PairCount { from, to, packets })
+        }
+        _ => None,
+    }
+}

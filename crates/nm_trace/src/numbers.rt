@@ -1,0 +1,43 @@
+//! Numbers in decimal.
+
+ghost use Rattle.std.specs.Prelude.{◌≡◌, ◌^◌};
+ghost use Rattle.nm_words.specs.Decimal.{number_of};
+
+use nm_words::number_up_to;
+
+/// A rank, or a context.
+pub fn small(word: &[u8]) -> Option<u8>
+    ensures { result ≡ number_of (2 ^ 8) word.now }
+{
+    match number_up_to(word, 255) {
+        Some(n) => Some(n as u8),
+        None => None,
+    }
+}
+
+/// A tag.
+pub fn middle(word: &[u8]) -> Option<u16>
+    ensures { result ≡ number_of (2 ^ 16) word.now }
+{
+    match number_up_to(word, 65535) {
+        Some(n) => Some(n as u16),
+        None => None,
+    }
+}
+
+/// A line, or a length.
+pub fn large(word: &[u8]) -> Option<u32>
+    ensures { result ≡ number_of (2 ^ 32) word.now }
+{
+    match number_up_to(word, 4294967295) {
+        Some(n) => Some(n as u32),
+        None => None,
+    }
+}
+
+/// A stamp, or a count.
+pub fn huge(word: &[u8]) -> Option<u64>
+    ensures { result ≡ number_of (2 ^ 64) word.now }
+{
+    number_up_to(word, u64::MAX)
+}
