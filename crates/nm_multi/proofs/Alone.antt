@@ -1,13 +1,16 @@
 -- A rank that has only itself to send to, as it takes its own packets.
-use Rattle.std.proofs.Common.{◌≡◌, ℕ, zero, suc, ◌+◌, ◌<◌, ◌≤◌, ◌⊎◌, Option, None, Some, List, [], ◌∷◌, ◌++◌, length, inl, inr}
-use Rattle.std.proofs.Common.{refl, sym, ◌∙◌, ap, subst, arith, length-append}
+use Rattle.std.proofs.Common.{◌≡◌, ℕ, suc, ◌+◌, ◌<◌, ◌≤◌, ◌⊎◌, Option, None, Some, List, [], ◌∷◌, ◌++◌, length, inl, inr}
+use Rattle.std.proofs.Common.{false, refl, sym, ◌∙◌, ap, subst, arith, length-append}
+use Rattle.nm_history.specs.Delivery.{is_asked}
+use Rattle.nm_history.specs.Sends.{sends}
+use Rattle.nm_protocol.specs.Rules.{AreRight}
 use Rattle.std.specs.Prelude.{IfSome, MatchOption, slice_get, slice_index_or, slice_set}
 use Rattle.std.proofs.lemmas.List.{get_or-set_same, length-set}
 use Rattle.nm_types.specs.declared.packets.Packet.{Packet}
 use Rattle.nm_types.specs.Sizes.{Sizes}
 use Rattle.nm_outbox.specs.declared.letters.Letter.{Letter}
 use Rattle.nm_outbox.specs.Outboxes.{OutboxView, popped_to}
-use Rattle.nm_sending.specs.Departures.{SendingView, ended_by}
+use Rattle.nm_sending.specs.Departures.{ended_by}
 use Rattle.nm_sending.specs.Sent.{outs}
 use Rattle.nm_rank.specs.Calls.{Notes, TakesNone, TakesPacket}
 use Rattle.nm_rank.specs.Ranks.{IsFresh, RankView, count_of}
@@ -124,9 +127,10 @@ pub leaves_of : (letter : Letter) (o : Option Letter) (old new : RankView) → o
       popped = slice_set old.sending.outbox.popped l.to (popped_to old.sending.outbox l.to + 1);
     })) →
     (new.sending.offers ≡ old.sending.offers) × (new.sending.pushed ≡ old.sending.pushed) →
+    IfSome (ended_by o) (λ m. is_asked (sends old.events m.0) m.1 ≡ false) →
     TakesNone old new × (new.receiving ≡ old.receiving) × (new.requests ≡ old.requests) →
     Leaves letter old new
-leaves_of letter o old new at out pops same takes =
+leaves_of letter o old new at out pops same eager takes =
     let p = subst (λ (o : Option Letter). IfSome o (λ l. (old.sending.outbox.letters ≡ l ∷ new.sending.outbox.letters)
     × (new.sending.outbox
     ≡ record old.sending.outbox {
@@ -139,6 +143,9 @@ leaves_of letter o old new at out pops same takes =
       popped = p.1;
       offers = same.0;
       pushed = same.1;
+      eager =
+          subst (λ (o : Option Letter). IfSome (ended_by o) (λ m. is_asked (sends old.events m.0) m.1 ≡ false))
+          at eager;
       takes = takes.0;
       receiving = takes.1;
       requests = takes.2;
@@ -147,6 +154,7 @@ leaves_of letter o old new at out pops same takes =
 -- a rank that is alone takes a copy of its first packet
 pub record Begins (old between : RankView) : Type 0 where
   pub fresh : IsFresh old
+  pub right : AreRight old.sizes.ranks [] old.events
   pub letter : Letter
   pub first : slice_get old.sending.outbox.letters 0 ≡ Some letter
   pub own : (letter.to ≡ 0) × (letter.packet.from ≡ 0)
@@ -154,15 +162,17 @@ pub record Begins (old between : RankView) : Type 0 where
   pub still : slice_get between.sending.outbox.letters 0 ≡ Some letter
 
 pub begins : (old between : RankView) (N : Type 0) (to : ℕ) (p first : Packet) → IsAlone old → IsFresh old →
-    (N → ⊥) → MatchOption (slice_get old.sending.outbox.letters 0) N (λ letter. (to ≡ letter.to) × (first ≡ letter.packet)) →
+    AreRight old.sizes.ranks [] old.events → (N → ⊥) →
+    MatchOption (slice_get old.sending.outbox.letters 0) N (λ letter. (to ≡ letter.to) × (first ≡ letter.packet)) →
     to < old.sizes.ranks → first.from ≡ old.me → p ≡ first → TakesPacket p old between →
     Begins old between
-begins old between N to p first alone fresh not is within own copied taken =
+begins old between N to p first alone fresh right not is within own copied taken =
     let l = first_letter (slice_get old.sending.outbox.letters 0) N to first not is in
     let same : p ≡ l.0.packet = copied ∙ l.3 in
     let put = (taken.happened (λ s. [])).packets in
     record {
       fresh = fresh;
+      right = right;
       letter = l.0;
       first = l.1;
       own = (
@@ -180,6 +190,7 @@ pub moves_of : (old between new : RankView) → (b : Begins old between) →
 moves_of old between new b is =
     record {
       fresh = b.fresh;
+      right = b.right;
       letter = b.letter;
       first = b.first;
       own = b.own;

@@ -1,11 +1,12 @@
 -- What all calls of a rank that can go on have in common.
-use Rattle.std.proofs.Common.{◌≡◌, ℕ, zero, suc, ◌+◌, ◌<◌, ◌≤◌, ◌⊎◌, List, [], ◌∷◌, ◌++◌, length, inl, inr}
-use Rattle.std.proofs.Common.{refl, sym, ◌∙◌, ap, subst, arith}
+use Rattle.std.proofs.Common.{◌≡◌, ℕ, zero, suc, ◌+◌, ◌⊎◌, List, [], ◌∷◌, ◌++◌, length, inl, inr}
+use Rattle.std.proofs.Common.{refl, sym, ◌∙◌, ap, subst, append-nil, append_assoc, None}
+use Rattle.std.specs.List.{cons_option}
+use Rattle.std.proofs.lemmas.List.Elements.{filter_map-append}
 use Rattle.nm_types.specs.declared.answers.Answer.{Answer}
 use Rattle.nm_types.specs.declared.lists.Memory.{Memory}
 use Rattle.nm_types.specs.declared.scripts.Body.{Body}
 use Rattle.nm_types.specs.Sizes.{Sizes}
-use Rattle.nm_outbox.specs.Outboxes.{OutboxView}
 use Rattle.nm_request.specs.declared.Req.{Req}
 use Rattle.nm_rank.specs.declared.answers.Cancelled.{Cancelled}
 use Rattle.nm_rank.specs.Calls.{TakesNone}
@@ -16,8 +17,9 @@ use Rattle.nm_multi.specs.declared.calls.Entry.{Entry}
 use Rattle.nm_multi.specs.declared.calls.Reply.{Reply}
 use Rattle.nm_multi.specs.declared.calls.Reply.TheVariants as reply
 use Rattle.nm_multi.specs.Acts.{Acts, AreReplayed, Cancels, Ends, GoesOn, IsReplay, Leads, MovesAll, MovesSome}
-use Rattle.nm_multi.specs.Acts.{StartsReceive, StartsSend}
+use Rattle.nm_multi.specs.Acts.{ShowsBody, StartsReceive, StartsSend, bodies_of, body_sent}
 use Rattle.nm_multi.specs.Moves.{IsAlone, Leaves, MovesFirst, MovesMany}
+use Rattle.nm_multi.specs.Standing.{Stands}
 use Rattle.nm_multi.proofs.Alone.{moved_one}
 use Rattle.nm_types.specs.Bodies.{bytes_of}
 use Rattle.nm_sending.specs.Departures.{SendingView}
@@ -41,7 +43,8 @@ pub record Cases (P : Call → Reply → RankView → RankView → Type 0) : Typ
   pub cancels :
       (r : Req) (a : Cancelled) (old new : RankView) → Cancels r a old new →
       P (call.Cancel r) (reply.Undone a) old new
-  pub stays : (c : Call) (r : Reply) (old new : RankView) → new ≡ old → P c r old new
+  pub stays :
+      (c : Call) (r : Reply) (old new : RankView) → new ≡ old → body_sent c r ≡ None → P c r old new
 
 -- it holds of each call
 pub of_each : (P : Call → Reply → RankView → RankView → Type 0) → Cases P → (c : Call) (r : Reply)
@@ -76,10 +79,10 @@ of_each P m call.Pump reply.Worn old new is = absurd is
 of_each P m (call.Test q) (reply.Started r) old new is = absurd is
 of_each P m (call.Test q) (reply.Moved k) old new is = absurd is
 of_each P m (call.Test q) (reply.Short k) old new is = absurd is
-of_each P m (call.Test q) (reply.Is s) old new is = m.stays (call.Test q) (reply.Is s) old new is.1
+of_each P m (call.Test q) (reply.Is s) old new is = m.stays (call.Test q) (reply.Is s) old new is.1 refl
 of_each P m (call.Test q) (reply.Ended a) old new is = absurd is
 of_each P m (call.Test q) (reply.Undone a) old new is = absurd is
-of_each P m (call.Test q) reply.NoSuch old new is = m.stays (call.Test q) reply.NoSuch old new is.1
+of_each P m (call.Test q) reply.NoSuch old new is = m.stays (call.Test q) reply.NoSuch old new is.1 refl
 of_each P m (call.Test q) reply.NotComplete old new is = absurd is
 of_each P m (call.Test q) reply.Worn old new is = absurd is
 of_each P m (call.Finish q) (reply.Started r) old new is = absurd is
@@ -88,8 +91,8 @@ of_each P m (call.Finish q) (reply.Short k) old new is = absurd is
 of_each P m (call.Finish q) (reply.Is s) old new is = absurd is
 of_each P m (call.Finish q) (reply.Ended a) old new is = m.ends q a old new is
 of_each P m (call.Finish q) (reply.Undone a) old new is = absurd is
-of_each P m (call.Finish q) reply.NoSuch old new is = m.stays (call.Finish q) reply.NoSuch old new is.1
-of_each P m (call.Finish q) reply.NotComplete old new is = m.stays (call.Finish q) reply.NotComplete old new is.1
+of_each P m (call.Finish q) reply.NoSuch old new is = m.stays (call.Finish q) reply.NoSuch old new is.1 refl
+of_each P m (call.Finish q) reply.NotComplete old new is = m.stays (call.Finish q) reply.NotComplete old new is.1 refl
 of_each P m (call.Finish q) reply.Worn old new is = absurd is
 of_each P m (call.Cancel q) (reply.Started r) old new is = absurd is
 of_each P m (call.Cancel q) (reply.Moved k) old new is = absurd is
@@ -97,7 +100,7 @@ of_each P m (call.Cancel q) (reply.Short k) old new is = absurd is
 of_each P m (call.Cancel q) (reply.Is s) old new is = absurd is
 of_each P m (call.Cancel q) (reply.Ended a) old new is = absurd is
 of_each P m (call.Cancel q) (reply.Undone a) old new is = m.cancels q a old new is
-of_each P m (call.Cancel q) reply.NoSuch old new is = m.stays (call.Cancel q) reply.NoSuch old new is.1
+of_each P m (call.Cancel q) reply.NoSuch old new is = m.stays (call.Cancel q) reply.NoSuch old new is.1 refl
 of_each P m (call.Cancel q) reply.NotComplete old new is = absurd is
 of_each P m (call.Cancel q) reply.Worn old new is = absurd is
 
@@ -118,9 +121,13 @@ going (call.Test q) reply.Worn old new fresh is = absurd is
 going (call.Finish q) reply.Worn old new fresh is = absurd is
 going (call.Cancel q) reply.Worn old new fresh is = absurd is
 
+worn_none : (c : Call) → body_sent c reply.Worn ≡ None
+worn_none (call.Isend tag body) = refl
+worn_none c = refl
+
 -- a call either does nothing or goes on
 pub by_worn : (c : Call) (r : Reply) (old new : RankView) → Acts c r old new →
-    (new ≡ old) ⊎ (IsFresh old × GoesOn c r old new)
+    ((new ≡ old) × (body_sent c r ≡ None)) ⊎ (IsFresh old × GoesOn c r old new)
 by_worn c (reply.Started r) old new is = inr is
 by_worn c (reply.Moved k) old new is = inr is
 by_worn c (reply.Short k) old new is = inr is
@@ -129,7 +136,7 @@ by_worn c (reply.Ended a) old new is = inr is
 by_worn c (reply.Undone a) old new is = inr is
 by_worn c reply.NoSuch old new is = inr is
 by_worn c reply.NotComplete old new is = inr is
-by_worn c reply.Worn old new is = inl is.1
+by_worn c reply.Worn old new is = inl (is.1, worn_none c)
 
 -- the rank is the only one of the same run
 abbrev Stays : Call → Reply → RankView → RankView → Type 0
@@ -161,7 +168,7 @@ sizes_moved old new m = by m.leaves where
   by (inl goes) = goes.1.takes.sizes ∙ m.taken.sizes
   by (inr stays) = ap (λ (v : RankView). v.sizes) stays.1 ∙ m.taken.sizes
 
-moved_many : (k : ℕ) (old new : RankView) → IsAlone old → MovesMany k old new →
+pub moved_many : (k : ℕ) (old new : RankView) → IsAlone old → MovesMany k old new →
     IsAlone new × (new.sizes ≡ old.sizes)
 moved_many zero old new alone is = (subst IsAlone (sym is) alone, ap (λ (v : RankView). v.sizes) is)
 moved_many (suc k) old new alone is =
@@ -184,7 +191,7 @@ all_stay =
           (ap (λ (s : SendingView). s.outbox.popped) is.sending);
       cancels = λ r a old new is fresh alone.
           silent old new fresh alone is.takes (is.happened (λ _. [])).packets.popped;
-      stays = λ c r old new is fresh alone.
+      stays = λ c r old new is none fresh alone.
           (subst IsAlone (sym is) alone, ap (λ (v : RankView). v.sizes) is);
     }
 
@@ -192,28 +199,51 @@ all_stay =
 pub stays_alone : (c : Call) (r : Reply) (old new : RankView) → Acts c r old new → IsAlone old →
     IsAlone new × (new.sizes ≡ old.sizes)
 stays_alone c r old new acts alone = by (by_worn c r old new acts) where
-  by : (new ≡ old) ⊎ (IsFresh old × GoesOn c r old new) → IsAlone new × (new.sizes ≡ old.sizes)
-  by (inl same) = (subst IsAlone (sym same) alone, ap (λ (v : RankView). v.sizes) same)
+  by : ((new ≡ old) × (body_sent c r ≡ None)) ⊎ (IsFresh old × GoesOn c r old new) →
+      IsAlone new × (new.sizes ≡ old.sizes)
+  by (inl same) = (subst IsAlone (sym same.0) alone, ap (λ (v : RankView). v.sizes) same.0)
   by (inr goes) = of_each Stays all_stay c r old new goes.1 goes.0 alone
 
 -- one call more
-pub leads_on : (start v v' : RankView) (log : List Entry) (e : Entry) → Leads start log v →
-    Acts e.call e.reply v v' → Leads start (log ++ e ∷ []) v'
-leads_on start v v' [] e leads acts = (v', subst (λ (u : RankView). Acts e.call e.reply u v') leads acts, refl)
-leads_on start v v' (x ∷ log) e leads acts =
-    (leads.0, leads.1, leads_on leads.0 v v' log e leads.2 acts)
+pub leads_on : (before log : List Entry) (start v v' : RankView) (e : Entry) → Leads before start log v →
+    Acts e.call e.reply v v' → ShowsBody (bodies_of (before ++ log)) v e.call e.reply →
+    Leads before start (log ++ e ∷ []) v'
+leads_on before [] start v v' e leads acts shows = (
+  v',
+  subst (λ (u : RankView). Acts e.call e.reply u v') leads acts,
+  subst (λ (u : RankView). ShowsBody (bodies_of before) u e.call e.reply) leads
+      (subst (λ (es : List Entry). ShowsBody (bodies_of es) v e.call e.reply) (append-nil before) shows),
+  refl,
+)
+leads_on before (x ∷ log) start v v' e leads acts shows = (
+  leads.0,
+  leads.1,
+  leads.2,
+  leads_on (before ++ x ∷ []) log leads.0 v v' e leads.3 acts
+      (subst (λ (es : List Entry). ShowsBody (bodies_of es) v e.call e.reply)
+      (sym (append_assoc before (x ∷ []) log)) shows),
+)
+
+-- the sends of one call more
+pub more_sent : (log : List Entry) (e : Entry) →
+    bodies_of (log ++ e ∷ []) ≡ bodies_of log ++ cons_option (body_sent e.call e.reply) []
+more_sent log e = filter_map-append (λ (e : Entry). body_sent e.call e.reply) log (e ∷ [])
 
 pub replayed : (v v' : RankView) (log log' : List Entry) (e : Entry) → AreReplayed v log →
-    Acts e.call e.reply v v' → log' ≡ log ++ e ∷ [] → AreReplayed v' log'
-replayed v v' log log' e are acts is =
+    Acts e.call e.reply v v' → ShowsBody (bodies_of log) v e.call e.reply →
+    Stands (bodies_of log ++ cons_option (body_sent e.call e.reply) []) v' → log' ≡ log ++ e ∷ [] →
+    AreReplayed v' log'
+replayed v v' log log' e are acts shows stands is =
     let stays = stays_alone e.call e.reply v v' acts are.alone in
     record {
       alone = stays.0;
+      stands = subst (λ (bs : List Body). Stands bs v')
+          (sym (more_sent log e) ∙ ap (λ (es : List Entry). bodies_of es) (sym is)) stands;
       replay = subst (λ (s : Sizes). IsReplay s log' v') (sym stays.1)
           (subst (λ (es : List Entry). IsReplay v.sizes es v') (sym is) (record {
             start = are.replay.start;
             new = are.replay.new;
-            leads = leads_on are.replay.start v v' log e are.replay.leads acts;
+            leads = leads_on [] log are.replay.start v v' e are.replay.leads acts shows;
           }));
     }
 
@@ -242,11 +272,12 @@ sizes_stay =
       moves_some = λ k old new is. sizes_many k old new is.0;
       ends = λ r a old new is. is.sizes;
       cancels = λ r a old new is. is.takes.sizes;
-      stays = λ c r old new is. ap (λ (v : RankView). v.sizes) is;
+      stays = λ c r old new is none. ap (λ (v : RankView). v.sizes) is;
     }
 
 pub same_sizes : (c : Call) (r : Reply) (old new : RankView) → Acts c r old new → new.sizes ≡ old.sizes
 same_sizes c r old new acts = by (by_worn c r old new acts) where
-  by : (new ≡ old) ⊎ (IsFresh old × GoesOn c r old new) → new.sizes ≡ old.sizes
-  by (inl same) = ap (λ (v : RankView). v.sizes) same
+  by : ((new ≡ old) × (body_sent c r ≡ None)) ⊎ (IsFresh old × GoesOn c r old new) →
+      new.sizes ≡ old.sizes
+  by (inl same) = ap (λ (v : RankView). v.sizes) same.0
   by (inr goes) = of_each (λ c r old new. new.sizes ≡ old.sizes) sizes_stay c r old new goes.1

@@ -1,5 +1,9 @@
 pub mod Alone
+pub mod Standing
+pub mod SoFar
+pub mod Bodies
 pub mod Going
 pub mod Results
 pub mod Turning
 pub mod Whole
+pub mod Countable

@@ -1,5 +1,5 @@
 -- What the answers of a rank say of its requests.
-use Rattle.std.proofs.Common.{◌≡◌, ℕ, Bool, false, Option, None, Some, List, [], ◌∷◌, ◌++◌, refl, sym, ◌∙◌, ap, subst}
+use Rattle.std.proofs.Common.{◌≡◌, ℕ, Bool, false, Option, None, Some, List, refl, sym, ◌∙◌}
 use Rattle.std.specs.Prelude.{◌↔◌, IfSome, IsSomeAnd, Ok, Err, Result}
 use Rattle.nm_history.specs.Sends.{Sent}
 use Rattle.nm_request.specs.declared.Kind.{Kind}

@@ -1,22 +1,20 @@
 -- What one call more does to the programs of threads.
-use Rattle.std.proofs.Common.{◌≡◌, ◌≢◌, ℕ, zero, suc, ◌+◌, ◌*◌, ◌/◌, ◌%◌, ◌<◌, ◌≤◌, ◌==◌, ◌⊎◌, Bool, true, false, cond, Option, None, Some, inl, inr}
+use Rattle.std.proofs.Common.{◌≡◌, ◌≢◌, ℕ, ◌+◌, ◌*◌, ◌/◌, ◌%◌, ◌<◌, ◌≤◌, ◌==◌, ◌⊎◌, Bool, true, false, cond, Option, None, Some, inl, inr}
 use Rattle.std.proofs.Common.{List, [], ◌∷◌, ◌++◌, length, refl, sym, ◌∙◌, ap, subst, arith, append-nil, length-append}
-use Rattle.std.specs.Prelude.{MatchOption, filter, nat_eq, slice_get, slice_index_or, slice_set}
+use Rattle.std.specs.Prelude.{MatchOption, replicate, slice_get, slice_index_or, slice_set}
 use Rattle.std.specs.List.{AllByRecursion}
 use Rattle.std.proofs.lemmas.Bool.{true≢false}
 use Rattle.std.proofs.lemmas.Bool.Decides.{nat_tests}
-use Rattle.std.proofs.lemmas.List.{get_or-set_other, get_or-set_same, length-set, set-get_or}
+use Rattle.std.proofs.lemmas.List.{get_or-replicate, get_or-set_other, get_or-set_same, length-replicate, length-set, set-get_or}
 use Rattle.std.proofs.lemmas.List.Elements.{filter-append}
 use Rattle.std.proofs.lemmas.Option.{slice_get_past}
 use Rattle.nm_types.specs.declared.scripts.Body.TheVariants.{Gen}
 use Rattle.nm_types.specs.Sizes.{Sizes}
 use Rattle.nm_protocol.proofs.Basic.{by-append}
 use Rattle.nm_receiving.proofs.Lists.{slice_get-last}
-use Rattle.nm_rank.specs.Ranks.{RankView}
 use Rattle.nm_multi.specs.declared.calls.Call.{Call}
 use Rattle.nm_multi.specs.declared.calls.Call.TheVariants.{Irecv, Isend, Pump}
 use Rattle.nm_multi.specs.declared.calls.Entry.{Entry}
-use Rattle.nm_multi.specs.declared.calls.Reply.{Reply}
 use Rattle.nm_multi.specs.declared.turns.Progress.{Progress}
 use Rattle.nm_multi.specs.Acts.{DeskView, Makes}
 use Rattle.nm_multi.specs.Calls.{IsInRange}
@@ -258,3 +256,21 @@ by_err shape v desk' items t p q c are is noted (inl same) =
     goes_still shape v desk' items t p q c are is same noted
 by_err shape v desk' items t p q c are is noted (inr made) =
     goes_on shape v desk' items t true p q c are is made noted
+
+-- turns at a desk at which no call was made
+pub none_made : (shape : Sizes) (v : TurnsView) (items : List Progress) → v.desk.rank.sizes ≡ shape →
+    v.desk.log ≡ [] → items ≡ replicate v.threads no_progress → AreTurns shape v items
+none_made shape v items sizes empty all =
+    record {
+      sizes = sizes;
+      programs = record {
+        whose = subst (λ (log : List Entry). AllByRecursion (λ e. e.who < v.threads) log) (sym empty) tt;
+        follow = λ t within. subst (λ (log : List Entry). Follows t no_progress (entries_of t log)) (sym empty) tt;
+        few = λ t within. subst (λ (log : List Entry). length (entries_of t log) ≤ 5 * v.rounds) (sym empty)
+            (omega arith);
+      };
+      many = ap (λ (ps : List Progress). length ps) all ∙ length-replicate v.threads no_progress;
+      noted = λ t within. ap (λ (ps : List Progress). slice_index_or ps t no_progress) all
+          ∙ get_or-replicate v.threads t no_progress no_progress within
+          ∙ ap (λ (log : List Entry). progress_of t log) (sym empty);
+    }

@@ -1,16 +1,16 @@
 -- When all calls of all programs were made.
-use Rattle.std.proofs.Common.{◌≡◌, ◌≢◌, ℕ, zero, suc, ◌+◌, ◌*◌, ◌<◌, ◌≤◌, ◌==◌, Bool, true, false, not, cond}
-use Rattle.std.proofs.Common.{List, [], ◌∷◌, ◌++◌, length, refl, sym, ◌∙◌, ap, subst, arith, length-append}
+use Rattle.std.proofs.Common.{◌≡◌, ◌≢◌, ℕ, zero, suc, ◌+◌, ◌*◌, ◌<◌, ◌==◌, Bool, true, false, not, cond}
+use Rattle.std.proofs.Common.{List, [], ◌∷◌, length, refl, sym, ◌∙◌, ap, subst, arith}
 use Rattle.std.specs.Prelude.{filter}
 use Rattle.std.specs.List.{AllByRecursion, list_any}
 use Rattle.std.proofs.lemmas.Bool.Decides.{nat_tests}
 use Rattle.std.proofs.lemmas.List.Filters.{length-filter_both}
 use Rattle.nm_multi.specs.declared.calls.Entry.{Entry}
 use Rattle.nm_types.specs.Sizes.{Sizes}
-use Rattle.nm_multi.specs.Acts.{IsReplay, Makes, is_short}
-use Rattle.nm_multi.specs.Programs.{AllStayMade, AreOf, ArePrograms, HasMadeAll, IsWhole, SameTurns, TurnsView, call_of}
+use Rattle.nm_multi.specs.Acts.{IsReplay, is_short}
+use Rattle.nm_multi.specs.Programs.{AreOf, ArePrograms, HasMadeAll, IsWhole, SameTurns, TurnsView}
 use Rattle.nm_multi.specs.Programs.{entries_of}
-use Rattle.nm_multi.proofs.Turning.{is_other, is_same, other_on, own_on}
+use Rattle.nm_multi.proofs.Turning.{is_other}
 
 -- the calls of all but one
 rest_whose : (k : ℕ) (log : List Entry) → AllByRecursion (λ e. e.who < suc k) log →

@@ -1,7 +1,9 @@
 -- What a call does to the one rank, and which logs are legal.
-use Rattle.std.specs.Prelude.{◌≡◌, ◌≢◌, ℕ, ◌+◌, ◌<◌, ◌≤◌, ◌⊎◌, Bool, true, false, if◌then◌else◌, None, Some}
+use Rattle.std.specs.Prelude.{◌≡◌, ℕ, ◌+◌, ◌<◌, ◌≤◌, ◌⊎◌, Bool, true, false, if◌then◌else◌}
+use Rattle.std.specs.Prelude.{Option, None, Some, filter_map, slice_get}
 use Rattle.std.specs.Prelude.{IsSomeAnd, List, [], ◌∷◌, ◌++◌, length, replicate}
 use Rattle.nm_types.specs.declared.answers.Answer.{Answer}
+use Rattle.nm_types.specs.declared.answers.Answer.TheVariants.{Got}
 use Rattle.nm_types.specs.declared.messages.Arrival.{Arrival}
 use Rattle.nm_types.specs.declared.messages.Peer.TheVariants as peer
 use Rattle.nm_types.specs.declared.messages.TagPick.TheVariants as pick
@@ -32,6 +34,7 @@ use Rattle.nm_multi.specs.declared.calls.Entry.{Entry}
 use Rattle.nm_multi.specs.declared.calls.Reply.{Reply}
 use Rattle.nm_multi.specs.declared.calls.Reply.TheVariants as reply
 use Rattle.nm_multi.specs.Moves.{IsAlone, MovesMany}
+use Rattle.nm_multi.specs.Standing.{Stands}
 
 -- the send that a rank starts with this tag and this body
 abbrev pub sent_by : RankView → ℕ → Body → Sent
@@ -144,6 +147,23 @@ abbrev pub Acts : Call → Reply → RankView → RankView → Type 0
 Acts c reply.Worn old new = ¬ (IsFresh old) × (new ≡ old)
 Acts c r old new = IsFresh old × GoesOn c r old new
 
+-- the body that a call sent, if it started a send
+abbrev pub body_sent : Call → Reply → Option Body
+body_sent (call.Isend tag body) (reply.Started r) = Some body
+body_sent _ _ = None
+
+-- the bodies of the sends that were started, oldest first
+abbrev pub bodies_of : List Entry → List Body
+bodies_of log = filter_map (λ e. body_sent e.call e.reply) log
+
+-- A result that shows a message shows the body of the send that the receive is paired with: the one
+-- of the message's number among the sends.
+abbrev pub ShowsBody : List Body → RankView → Call → Reply → Type 0
+ShowsBody sent v (call.Finish r) (reply.Ended (Got from tag body)) =
+    IsSomeAnd (pair_with v r)
+    (λ pair. IsSomeAnd (slice_get sent pair.arrival.n) (λ b. body ≡ bytes_of b))
+ShowsBody sent v _ _ = Unit {0}
+
 -- whether a call was cut short
 abbrev pub is_short : Reply → Bool
 is_short (reply.Short k) = true
@@ -159,6 +179,7 @@ pub record Makes (short : Bool) (who : ℕ) (c : Call) (old new : DeskView) : Ty
   pub reply : Reply
   pub logged : new.log ≡ old.log ++ record { who = who; call = c; reply = reply } ∷ []
   pub acts : Acts c reply old.rank new.rank
+  pub shows : ShowsBody (bodies_of old.log) old.rank c reply
   pub is : is_short reply ≡ short
 
 -- a rank at which nothing happened
@@ -181,20 +202,22 @@ pub record IsNew (shape : Sizes) (v : RankView) : Type 0 where
   pub strays : v.strays ≡ 0
   pub known : v.known ≡ replicate shape.ranks nothing_known
 
--- from one rank these calls, with these replies, lead to another
-abbrev pub Leads : RankView → List Entry → RankView → Type 0
-Leads old [] new = new ≡ old
-Leads old (e ∷ es) new =
-    (next : RankView) × Acts e.call e.reply old next × Leads next es new
+-- after the calls before them, these calls, with these replies, lead from one rank to another
+abbrev pub Leads : List Entry → RankView → List Entry → RankView → Type 0
+Leads before old [] new = new ≡ old
+Leads before old (e ∷ es) new =
+    (next : RankView) × Acts e.call e.reply old next
+    × ShowsBody (bodies_of before) old e.call e.reply × Leads (before ++ e ∷ []) next es new
 
 -- The log is legal for this shape, and leads to this rank: each reply is the one that the call has,
 -- from a rank on at which nothing happened.
 pub record IsReplay (shape : Sizes) (log : List Entry) (v : RankView) : Type 0 where
   pub start : RankView
   pub new : IsNew shape start
-  pub leads : Leads start log v
+  pub leads : Leads [] start log v
 
--- the rank is the only one, and the one to which the log leads
+-- the rank is the only one, and the one to which the log leads, with the sends of the log
 pub record AreReplayed (v : RankView) (log : List Entry) : Type 0 where
   pub alone : IsAlone v
+  pub stands : Stands (bodies_of log) v
   pub replay : IsReplay v.sizes log v

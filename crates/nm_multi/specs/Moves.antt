@@ -1,7 +1,11 @@
 -- What a rank that has only itself to send to does with its packets.
-use Rattle.std.specs.Prelude.{◌≡◌, ℕ, zero, suc, ◌+◌, ◌≤◌, ◌⊎◌, Some, List, ◌∷◌, length, slice_get, slice_set}
+use Rattle.std.specs.Prelude.{◌≡◌, ℕ, zero, suc, ◌+◌, ◌≤◌, ◌⊎◌, false, Some, IfSome, [], ◌∷◌, length}
+use Rattle.std.specs.Prelude.{slice_get, slice_set}
+use Rattle.nm_history.specs.Delivery.{is_asked}
+use Rattle.nm_history.specs.Sends.{sends}
 use Rattle.nm_outbox.specs.declared.letters.Letter.{Letter}
 use Rattle.nm_outbox.specs.Outboxes.{popped_to}
+use Rattle.nm_protocol.specs.Rules.{AreRight}
 use Rattle.nm_sending.specs.Departures.{ended_by}
 use Rattle.nm_sending.specs.Sent.{outs}
 use Rattle.nm_rank.specs.Calls.{Notes, TakesNone, TakesPacket}
@@ -28,13 +32,16 @@ pub record Leaves (letter : Letter) (old new : RankView) : Type 0 where
       }
   pub offers : new.sending.offers ≡ old.sending.offers
   pub pushed : new.sending.pushed ≡ old.sending.pushed
+  pub eager : IfSome (ended_by (Some letter)) (λ m. is_asked (sends old.events m.0) m.1 ≡ false)
   pub takes : TakesNone old new
   pub receiving : new.receiving ≡ old.receiving
   pub requests : new.requests ≡ old.requests
 
--- A rank that can go on takes its own first packet, which leaves where it can go on then too.
+-- A rank that can go on takes its own first packet, which leaves where it can go on then too. Its
+-- history was right before.
 pub record MovesFirst (old new : RankView) : Type 0 where
   pub fresh : IsFresh old
+  pub right : AreRight old.sizes.ranks [] old.events
   pub letter : Letter
   pub first : slice_get old.sending.outbox.letters 0 ≡ Some letter
   pub own : (letter.to ≡ 0) × (letter.packet.from ≡ 0)

@@ -1,5 +1,5 @@
 -- The programs of threads that share a desk, and how far each is.
-use Rattle.std.specs.Prelude.{◌≡◌, ℕ, ◌+◌, ◌*◌, ◌/◌, ◌%◌, ◌<◌, ◌≤◌, ◌==◌, ◌↔◌, ◌⊎◌, if◌then◌else◌, Bool, false, true}
+use Rattle.std.specs.Prelude.{◌≡◌, ℕ, ◌+◌, ◌*◌, ◌/◌, ◌%◌, ◌<◌, ◌≤◌, ◌==◌, if◌then◌else◌, false}
 use Rattle.std.specs.Prelude.{Option, None, Some, List, [], ◌∷◌, filter, length, slice_index_or}
 use Rattle.std.specs.List.{AllByRecursion, list_any}
 use Rattle.nm_types.specs.declared.scripts.Body.TheVariants.{Gen}
@@ -12,7 +12,7 @@ use Rattle.nm_multi.specs.declared.calls.Entry.{Entry}
 use Rattle.nm_multi.specs.declared.calls.Reply.{Reply}
 use Rattle.nm_multi.specs.declared.calls.Reply.TheVariants as reply
 use Rattle.nm_multi.specs.declared.turns.Progress.{Progress}
-use Rattle.nm_multi.specs.Acts.{DeskView, IsReplay, Makes, is_short}
+use Rattle.nm_multi.specs.Acts.{DeskView, IsReplay, is_short}
 
 -- the request that a reply gives, if it does
 abbrev pub request_in : Reply → Option Req

@@ -7,6 +7,7 @@ ghost use Rattle.nm_multi.specs.Acts.{Acts, GoesOn, IsReplay, Makes};
 ghost use Rattle.nm_multi.specs.Calls.{IsInRange};
 ghost use Rattle.nm_multi.specs.Moves.{IsAlone};
 
+use crate::laws::{a_desk_begins, calls_go_on};
 use crate::moving::pump;
 use crate::{Call, CallLog, Entry, Reply};
 use nm_rank::{CancelFault, FinishFault, Rank, Req};
@@ -115,6 +116,7 @@ impl Desk {
         ensures empty { IfOk result (λ d. d.log ≡ []) }
         ensures shape { IfOk result (λ d. d.rank.sizes ≡ shape) }
     {
+        a_desk_begins();
         let rank = Rank::new(alloc, shape, 0)?;
         let log = CallLog::new(alloc);
         Ok(Desk { rank, log })
@@ -126,7 +128,9 @@ impl Desk {
         ensures made { OnOk result (Makes false who call self.old self.new) }
         ensures err { OnErr result ((self.new ≡ self.old) ⊎ Makes true who call self.old self.new) }
     {
+        calls_go_on();
         self.log.reserve()?;
+        self.rank.history();
         let reply = reply_to(&mut self.rank, &call)?;
         let is_short = matches!(&reply, Reply::Short(_));
         self.log.add(Entry { who, call, reply });

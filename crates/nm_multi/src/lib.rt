@@ -10,11 +10,13 @@
 //! (`nm_rank`) beside its log, and `Turns` is a desk beside the numbers of threads and rounds.
 //! # What is proved
 //! - A call of `make` adds its entry and no other, with the reply that the rank gave (`made`,
-//!   `err`), and the log leads from a new rank to that of the desk (`replay`).
+//!   `err`), and the log leads from a new rank to that of the desk (`replay`). A result that shows a
+//!   message shows the body of the send that its receive is paired with.
 //! - `next` makes the next call of a thread's program, and answers `false` exactly where the thread
 //!   made all of them (`last`, `more`).
 //! - The log that `multi` gives is one legal history of one rank, which has each thread's whole
-//!   program, each call once and in its order, and no call that was cut short.
+//!   program, each call once and in its order, and no call that was cut short (`whole`). The bytes
+//!   that it shows can be counted in 64 bits (`countable`).
 //! - `text` gives exactly `log_text` of the log.
 //! # What is only tested
 //! That threads run at once, and that the calls succeed with ample memory. In which order the calls
@@ -23,6 +25,7 @@
 
 mod calls;
 mod desks;
+mod laws;
 mod moving;
 #[cfg(test)]
 mod tests;
@@ -32,6 +35,6 @@ mod turns;
 
 pub use calls::{Call, CallLog, Entry, Reply};
 pub use desks::Desk;
-pub use texts::{is_countable, text};
+pub use texts::text;
 pub use threads::multi;
 pub use turns::{MAX_ROUNDS, MAX_THREADS, Turns};

@@ -1,71 +1,19 @@
 //! The worked rows of several threads, and of calls on a desk.
 
 use super::*;
-use nm_outside::{Gate, OpenGate};
+use nm_outside::{OpenGate, PairGate};
 use nm_rank::{Cancelled, Req, State};
 use nm_types::{Answer, Body, Bytes, Shape};
 use std::alloc::Global;
 use std::process::Abort;
-use std::sync::atomic::{AtomicBool, Ordering};
 use std::test::Fail;
-
-/// That a thread came, and that it found the other's mark.
-#[derive(Drop)]
-struct Mark {
-    came: AtomicBool,
-    met: AtomicBool,
-}
-
-impl Mark {
-    fn new() -> Mark {
-        Mark {
-            came: AtomicBool::new(false),
-            met: AtomicBool::new(false),
-        }
-    }
-
-    /// Sets this mark on the first call, and then looks at the other's so many times.
-    fn meet(&self, other: &Mark, limit: u64) {
-        if self.came.swap(true, Ordering::SeqCst) {
-            return;
-        }
-        for _ in 0..limit {
-            if other.came.load(Ordering::SeqCst) {
-                self.met.store(true, Ordering::SeqCst);
-                return;
-            }
-        }
-    }
-}
-
-/// Lets the first turns of threads 0 and 1 wait for each other.
-#[derive(Drop)]
-struct PairOfMarks {
-    first: Mark,
-    second: Mark,
-}
-
-impl Gate for PairOfMarks {
-    fn turn(&self, rank: u8) {
-        match rank {
-            0 => self.first.meet(&self.second, 500000000),
-            1 => self.second.meet(&self.first, 500000000),
-            _ => {}
-        }
-    }
-}
 
 #[test]
 fn two_threads_meet(rt: HostRuntime) -> Result<(), Fail> {
-    let gate = PairOfMarks {
-        first: Mark::new(),
-        second: Mark::new(),
-    };
+    let gate = PairGate::new(500000000);
     let log = multi(&rt, rt.alloc(), 2, 1, &gate)?;
     assert_eq!(rt; log.len(), 10);
-    let met = gate.first.met.load(Ordering::SeqCst) && gate.second.met.load(Ordering::SeqCst);
-    assert!(rt; met);
-    assert!(rt; is_countable(&log));
+    assert!(rt; gate.met());
     let text = text(rt.alloc(), &log, 2, 1)?;
     assert!(rt; text.as_slice() == b"multi 2 1\ncalls 10\ngot 2 bytes 0\n".as_slice());
     Ok(())
@@ -74,7 +22,6 @@ fn two_threads_meet(rt: HostRuntime) -> Result<(), Fail> {
 #[test]
 fn four_threads_make_all_their_calls(rt: HostRuntime) -> Result<(), Fail> {
     let log = multi(&rt, rt.alloc(), 4, 64, &OpenGate)?;
-    assert!(rt; is_countable(&log));
     let text = text(rt.alloc(), &log, 4, 64)?;
     assert!(rt; text.as_slice() == b"multi 4 64\ncalls 1280\ngot 256 bytes 8064\n".as_slice());
     Ok(())
@@ -83,7 +30,6 @@ fn four_threads_make_all_their_calls(rt: HostRuntime) -> Result<(), Fail> {
 #[test]
 fn no_round_makes_no_call(rt: HostRuntime) -> Result<(), Fail> {
     let log = multi(&rt, rt.alloc(), 1, 0, &OpenGate)?;
-    assert!(rt; is_countable(&log));
     let text = text(rt.alloc(), &log, 1, 0)?;
     assert!(rt; text.as_slice() == b"multi 1 0\ncalls 0\ngot 0 bytes 0\n".as_slice());
     Ok(())

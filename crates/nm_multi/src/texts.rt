@@ -1,6 +1,6 @@
 //! What a log comes to, as text.
 
-ghost use Rattle.std.specs.Prelude.{◌≡◌, ◌<◌, ◌^◌, true, IfOk};
+ghost use Rattle.std.specs.Prelude.{◌≡◌, ◌<◌, ◌^◌, IfOk};
 ghost use Rattle.nm_multi.specs.Text.{bytes_got, got_of, log_text, shown as shown_lem};
 
 use crate::{CallLog, Reply};
@@ -38,20 +38,6 @@ fn count_bytes(log: &CallLog) -> u64
         bytes += shown(&entry.reply).unwrap_or(0);
     }
     bytes
-}
-
-/// Whether the bytes of the messages that the replies show can be counted in 64 bits.
-pub fn is_countable(log: &CallLog) -> bool
-    ensures { result ≡ true → bytes_got log.now.entries < 2 ^ 64 }
-{
-    let mut bytes: u64 = 0;
-    for entry in log.as_slice() {
-        let Some(sum) = bytes.checked_add(shown(&entry.reply).unwrap_or(0)) else {
-            return false;
-        };
-        bytes = sum;
-    }
-    true
 }
 
 /// The text of a log: how many calls were made, how many messages were got, and how many bytes

@@ -1,11 +1,12 @@
 //! The programs of all threads, each in a thread of its own.
 
-ghost use Rattle.std.specs.Prelude.{◌≡◌, ◌<◌, ◌≤◌, ℕ, true, IfOk, OnOk};
+ghost use Rattle.std.specs.Prelude.{◌≡◌, ◌<◌, ◌≤◌, ◌^◌, ℕ, true, IfOk, OnOk};
 ghost use Rattle.std.specs.List.{list_any};
 ghost use Rattle.nm_multi.specs.declared.turns.TheConstants.{MAX_ROUNDS, MAX_THREADS};
 ghost use Rattle.nm_multi.specs.Acts.{is_short as is_short_lem};
 ghost use Rattle.nm_multi.specs.Programs.{AllStayMade, AreOf, HasMadeAll, IsWhole, SameTurns};
 ghost use Rattle.nm_multi.specs.Programs.{one_rank as one_rank_lem};
+ghost use Rattle.nm_multi.specs.Text.{bytes_got};
 
 use crate::{CallLog, Reply, Turns};
 use nm_outside::Gate;
@@ -129,7 +130,8 @@ fn settled(alloc: Global, turns: Turns, threads: u8, rounds: u16) -> Result<Turn
 }
 
 /// Runs the programs of so many threads, of so many rounds each, on one rank that they share. The
-/// answer is the log of all their calls.
+/// answer is the log of all their calls. The bytes of the messages that it shows can be counted in
+/// 64 bits.
 pub fn multi<R: Threads + Wait + Sync, G: Gate + Sync>(
     rt: &R,
     alloc: Global,
@@ -139,7 +141,8 @@ pub fn multi<R: Threads + Wait + Sync, G: Gate + Sync>(
 ) -> Result<CallLog, Memory>
     requires threads { (1 ≤ threads) × (threads ≤ MAX_THREADS) }
     requires rounds { rounds ≤ MAX_ROUNDS }
-    ensures { IfOk result (λ log. IsWhole threads rounds log.entries) }
+    ensures whole { IfOk result (λ log. IsWhole threads rounds log.entries) }
+    ensures countable { IfOk result (λ log. bytes_got log.entries < 2 ^ 64) }
 {
     let turns = Mutex::new(Turns::new(alloc, one_rank(), threads, rounds)?);
     run_all(rt, &turns, 0, threads, gate)?;

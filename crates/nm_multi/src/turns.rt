@@ -1,10 +1,11 @@
 //! A desk with the programs that threads run on it.
 
 ghost use Rattle.std.specs.Prelude.{◌≡◌, ◌<◌, ◌≤◌, ◌⊎◌, ◌↔◌, true, false, [], IfOk, MatchBool, MatchOption};
-ghost use Rattle.std.specs.Prelude.{OnErr, slice_get};
+ghost use Rattle.std.specs.Prelude.{OnErr, replicate, slice_get};
 ghost use Rattle.nm_multi.specs.declared.turns.TheConstants.{MAX_ROUNDS, MAX_THREADS};
 ghost use Rattle.nm_multi.specs.Acts.{IsReplay, Makes};
-ghost use Rattle.nm_multi.specs.Programs.{ArePrograms, HasMadeAll, SameTurns, call_of, progress_after};
+ghost use Rattle.nm_multi.specs.Programs.{ArePrograms, HasMadeAll, SameTurns, call_of, no_progress};
+ghost use Rattle.nm_multi.specs.Programs.{progress_after};
 ghost use Rattle.nm_multi.specs.Programs.{finish_or_pump as finish_or_pump_lem, next_call as next_call_lem};
 ghost use Rattle.nm_multi.specs.Programs.{request_in as request_in_lem};
 
@@ -47,6 +48,18 @@ fn finish_or_pump(request: Option<Req>) -> Call
         Some(r) => Call::Finish { r },
         None => Call::Pump,
     }
+}
+
+/// What is noted of so many threads that made no call.
+fn none_noted(alloc: Global, threads: u8) -> Result<Vec<Progress>, Memory>
+    ensures { IfOk result (λ noted. noted.items ≡ replicate threads no_progress) }
+{
+    let none = Progress {
+        made: 0,
+        sent: None,
+        received: None,
+    };
+    Ok(vec![in alloc; none; threads as usize]?)
 }
 
 impl Progress {
@@ -135,17 +148,14 @@ impl Turns {
         ensures shape { IfOk result (λ t. t.desk.rank.sizes ≡ shape) }
         ensures numbers { IfOk result (λ t. (t.threads ≡ threads) × (t.rounds ≡ rounds)) }
     {
-        let none = Progress {
-            made: 0,
-            sent: None,
-            received: None,
-        };
+        let desk = Desk::new(alloc, shape)?;
+        let progress = none_noted(alloc, threads)?;
         Ok(Turns {
-            desk: Desk::new(alloc, shape)?,
+            desk,
             shape,
             threads,
             rounds,
-            progress: vec![in alloc; none; threads as usize]?,
+            progress,
         })
     }
 

@@ -1,4 +1,4 @@
-use Rattle.std.proofs.Common.{◌≡◌, refl, ap}
+use Rattle.std.proofs.Common.{ap}
 use Rattle.std.specs.Prelude.{Err}
 use Rattle.nm_multi.proofs.Results.{cancelled}
 use Rattle.nm_multi.proofs.desks.cancel.Goals as goal

@@ -1,4 +1,4 @@
-use Rattle.std.proofs.Common.{◌≡◌, refl, true, false, ◌∙◌, ap}
+use Rattle.std.proofs.Common.{ap}
 use Rattle.std.specs.Prelude.{Err}
 use Rattle.nm_multi.proofs.Results.{unfinished}
 use Rattle.nm_multi.proofs.desks.finish.Goals as goal

@@ -1,5 +1,4 @@
 -- Each call is one of those that are made.
-use Rattle.std.proofs.Common.{◌≡◌}
 use Rattle.nm_multi.specs.declared.calls.Call.TheVariants.{Cancel, Finish, Irecv, Isend, Pump, Test}
 use Rattle.nm_multi.proofs.Going.{alone_ok, going, going_ok, stays_alone}
 use Rattle.nm_multi.proofs.desks.reply_to.Goals as goal
@@ -28,7 +27,8 @@ pub returns-in-Isend-clause-acts : goal.returns-in-Isend-clause-acts
 returns-in-Isend-clause-acts c =
     let fresh = c.is_worn.ensures.0 c.if-is_worn.false in
     rw c.in-Isend.is
-    (going_ok (Isend c.in-Isend.tag c.in-Isend.body) c.send.result c.args.rank.now c.send.new.rank fresh c.send.ensures.acts)
+    (going_ok (Isend c.in-Isend.tag c.in-Isend.body) c.send.result c.args.rank.now c.send.new.rank fresh
+    c.send.ensures.acts)
 
 pub returns-in-Isend-clause-alone : goal.returns-in-Isend-clause-alone
 returns-in-Isend-clause-alone c =
@@ -40,7 +40,8 @@ pub returns-in-Irecv-clause-acts : goal.returns-in-Irecv-clause-acts
 returns-in-Irecv-clause-acts c =
     let fresh = c.is_worn.ensures.0 c.if-is_worn.false in
     rw c.in-Irecv.is
-    (going_ok (Irecv c.in-Irecv.tag c.in-Irecv.cap) c.receive.result c.args.rank.now c.receive.new.rank fresh c.receive.ensures.acts)
+    (going_ok (Irecv c.in-Irecv.tag c.in-Irecv.cap) c.receive.result c.args.rank.now c.receive.new.rank fresh
+    c.receive.ensures.acts)
 
 pub returns-in-Irecv-clause-alone : goal.returns-in-Irecv-clause-alone
 returns-in-Irecv-clause-alone c =
@@ -58,7 +59,8 @@ pub returns-in-Cancel-clause-acts : goal.returns-in-Cancel-clause-acts
 returns-in-Cancel-clause-acts c =
     let fresh = c.is_worn.ensures.0 c.if-is_worn.false in
     rw c.in-Cancel.is
-    (going_ok (Cancel c.in-Cancel.r) c.cancel.result c.args.rank.now c.cancel.new.rank fresh c.cancel.ensures.acts)
+    (going_ok (Cancel c.in-Cancel.r) c.cancel.result c.args.rank.now c.cancel.new.rank fresh
+    c.cancel.ensures.acts)
 
 pub returns-in-Cancel-clause-alone : goal.returns-in-Cancel-clause-alone
 returns-in-Cancel-clause-alone c =

@@ -1,5 +1,5 @@
 -- What is sent is an equal body.
-use Rattle.std.proofs.Common.{◌≡◌, subst}
+use Rattle.std.proofs.Common.{subst}
 use Rattle.nm_types.specs.declared.scripts.Body.{Body}
 use Rattle.nm_multi.specs.Acts.{StartsSend}
 use Rattle.nm_multi.proofs.desks.send.Goals as goal

@@ -1,4 +1,4 @@
-use Rattle.std.proofs.Common.{◌≡◌, refl}
+use Rattle.std.proofs.Common.{refl}
 use Rattle.nm_multi.specs.Acts.{state_of}
 use Rattle.nm_multi.proofs.Results.{tested}
 use Rattle.nm_multi.proofs.desks.test.Goals as goal

@@ -1,8 +1,6 @@
-use Rattle.std.proofs.Common.{◌≡◌, [], ◌∷◌, ℕ, ◌+◌, ◌∙◌, sym, ap, subst, refl, inl, inr, true, false, arith, List, length-append, true≢false}
-use Rattle.std.specs.Prelude.{length, slice_get, Some}
-use Rattle.nm_rank.specs.Ranks.{IsFresh}
-use Rattle.nm_multi.specs.Moves.{IsAlone, MovesFirst}
-use Rattle.nm_multi.proofs.Alone.{Begins, begins, leaves_of, moved_one, moves_of}
+use Rattle.std.proofs.Common.{[], ◌∙◌, sym, ap, refl, inl, inr, true, false, arith, List, length-append, true≢false}
+use Rattle.std.specs.Prelude.{length}
+use Rattle.nm_multi.proofs.Alone.{begins, leaves_of, moved_one, moves_of}
 use Rattle.nm_multi.proofs.moving.move_first.Goals as goal
 
 pub pop_front-requires-clause-first : goal.pop_front-requires-clause-first
@@ -19,12 +17,12 @@ returns-then-not-is_worn-clause-moves c =
     let e = c.in-Some.ensures.own in
     let p = c.pop_front.ensures in
     let b = begins c.args.rank.now c.take_packet.new.self _ c.in-Some.field-0-0 c.copy-packet.result
-    c.in-Some.first.now c.requires.alone c.requires.fresh (λ none. cc) c.in-Some.ensures.first e.0 e.1
-    c.copy-packet.ensures c.in_default-take_packet.ensures.taken in
+    c.in-Some.first.now c.requires.alone c.requires.fresh c.history.ensures.right (λ none. cc)
+    c.in-Some.ensures.first e.0 e.1 c.copy-packet.ensures c.in_default-take_packet.ensures.taken in
     moves_of c.args.rank.now c.take_packet.new.self c.pop_front.new.self b
     (inl (
       c.is_worn.ensures.0 c.if-not-is_worn.true,
-      leaves_of b.letter _ c.take_packet.new.self c.pop_front.new.self b.still p.left p.popped p.same p.takes,
+      leaves_of b.letter _ c.take_packet.new.self c.pop_front.new.self b.still p.left p.popped p.same p.eager p.takes,
     ))
 
 pub returns-then-not-is_worn-clause-alone : goal.returns-then-not-is_worn-clause-alone
@@ -32,21 +30,21 @@ returns-then-not-is_worn-clause-alone c =
     let e = c.in-Some.ensures.own in
     let p = c.pop_front.ensures in
     let b = begins c.args.rank.now c.take_packet.new.self _ c.in-Some.field-0-0 c.copy-packet.result
-    c.in-Some.first.now c.requires.alone c.requires.fresh (λ none. cc) c.in-Some.ensures.first e.0 e.1
-    c.copy-packet.ensures c.in_default-take_packet.ensures.taken in
+    c.in-Some.first.now c.requires.alone c.requires.fresh c.history.ensures.right (λ none. cc)
+    c.in-Some.ensures.first e.0 e.1 c.copy-packet.ensures c.in_default-take_packet.ensures.taken in
     moved_one c.args.rank.now c.pop_front.new.self c.requires.alone
     (moves_of c.args.rank.now c.take_packet.new.self c.pop_front.new.self b
     (inl (
       c.is_worn.ensures.0 c.if-not-is_worn.true,
-      leaves_of b.letter _ c.take_packet.new.self c.pop_front.new.self b.still p.left p.popped p.same p.takes,
+      leaves_of b.letter _ c.take_packet.new.self c.pop_front.new.self b.still p.left p.popped p.same p.eager p.takes,
     )))
 
 pub returns-else-not-is_worn-clause-moves : goal.returns-else-not-is_worn-clause-moves
 returns-else-not-is_worn-clause-moves c =
     let e = c.in-Some.ensures.own in
     let b = begins c.args.rank.now c.take_packet.new.self _ c.in-Some.field-0-0 c.copy-packet.result
-    c.in-Some.first.now c.requires.alone c.requires.fresh (λ none. cc) c.in-Some.ensures.first e.0 e.1
-    c.copy-packet.ensures c.in_default-take_packet.ensures.taken in
+    c.in-Some.first.now c.requires.alone c.requires.fresh c.history.ensures.right (λ none. cc)
+    c.in-Some.ensures.first e.0 e.1 c.copy-packet.ensures c.in_default-take_packet.ensures.taken in
     moves_of c.args.rank.now c.take_packet.new.self c.take_packet.new.self b
     (inr (λ fresh. absurd (true≢false (sym c.if-not-is_worn.false ∙ c.is_worn.ensures.1 fresh)), refl))
 
@@ -54,8 +52,8 @@ pub returns-else-not-is_worn-clause-alone : goal.returns-else-not-is_worn-clause
 returns-else-not-is_worn-clause-alone c =
     let e = c.in-Some.ensures.own in
     let b = begins c.args.rank.now c.take_packet.new.self _ c.in-Some.field-0-0 c.copy-packet.result
-    c.in-Some.first.now c.requires.alone c.requires.fresh (λ none. cc) c.in-Some.ensures.first e.0 e.1
-    c.copy-packet.ensures c.in_default-take_packet.ensures.taken in
+    c.in-Some.first.now c.requires.alone c.requires.fresh c.history.ensures.right (λ none. cc)
+    c.in-Some.ensures.first e.0 e.1 c.copy-packet.ensures c.in_default-take_packet.ensures.taken in
     moved_one c.args.rank.now c.take_packet.new.self c.requires.alone
     (moves_of c.args.rank.now c.take_packet.new.self c.take_packet.new.self b
     (inr (λ fresh. absurd (true≢false (sym c.if-not-is_worn.false ∙ c.is_worn.ensures.1 fresh)), refl)))

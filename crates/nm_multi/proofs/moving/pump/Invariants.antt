@@ -1,6 +1,5 @@
-use Rattle.std.proofs.Common.{◌≡◌, ◌<◌, ◌≤◌, length, ℕ, ◌+◌}
-use Rattle.nm_rank.specs.Ranks.{IsFresh}
-use Rattle.nm_multi.specs.Moves.{IsAlone, MovesMany, IsMoving}
+use Rattle.std.proofs.Common.{◌≡◌}
+use Rattle.nm_multi.specs.Moves.{IsMoving}
 use Rattle.nm_multi.proofs.moving.pump.Given as goal
 
 abbrev pub invariant-loop : goal.invariant-loop

@@ -1,4 +1,4 @@
-use Rattle.std.proofs.Common.{ℕ, ◌-◌, ◌*◌, length}
+use Rattle.std.proofs.Common.{◌-◌, ◌*◌, length}
 use Rattle.nm_multi.specs.Programs.{AllStayMade, SameTurns, entries_of}
 use Rattle.nm_multi.proofs.threads.complete_one.Given as goal
 

@@ -1,11 +1,11 @@
 -- The turns after a call: it is the next one of the thread's program, and what is noted of the thread
 -- goes on by it, where the log grew.
-use Rattle.std.proofs.Common.{◌≡◌, ℕ, ◌<◌, ◌≤◌, ◌⊎◌, true, false, inl, inr, List, length, refl, sym, ◌∙◌, ap, subst, arith}
+use Rattle.std.proofs.Common.{◌≡◌, ◌<◌, true, false, List, length, refl, sym, ◌∙◌, ap, subst, arith}
 use Rattle.std.proofs.Common.{true≢false}
 use Rattle.std.specs.Prelude.{MatchOption, slice_get, slice_set}
 use Rattle.std.proofs.lemmas.List.{get_or_read}
 use Rattle.nm_multi.specs.declared.calls.Entry.{Entry}
-use Rattle.nm_multi.specs.Programs.{ArePrograms, AreTurns, HasMadeAll, SameTurns, TurnsView, no_progress, progress_after}
+use Rattle.nm_multi.specs.Programs.{AreTurns, HasMadeAll, SameTurns, TurnsView, no_progress, progress_after}
 use Rattle.nm_multi.proofs.Turning.{IsNext, IsNoted, by_err, goes_on, made_all, not_all, same_turns}
 use Rattle.nm_multi.proofs.turns.Turns.next.Goals as goal
 

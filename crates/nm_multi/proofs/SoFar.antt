@@ -1,0 +1,186 @@
+-- What came so far of what a rank sends to itself, where more is still to come: as if it took that next.
+use Rattle.std.proofs.Common.{◌≡◌, ℕ, ◌+◌, ◌<◌, ◌==◌, max, Bool, true, false, cond, Some, List, [], ◌∷◌, ◌++◌, length, map, refl, sym, ◌∙◌, ap, subst, append-nil, append_assoc, arith, true≢false}
+use Rattle.std.specs.Prelude.{slice_get}
+use Rattle.std.specs.Bool.{OnTrue}
+use Rattle.std.specs.List.{AllByRecursion}
+use Rattle.std.proofs.lemmas.List.{map-append}
+use Rattle.std.proofs.lemmas.List.Elements.{filter_map-append}
+use Rattle.nm_types.specs.declared.packets.Packet.{Packet}
+use Rattle.nm_types.specs.declared.packets.What.{What}
+use Rattle.nm_types.specs.declared.packets.What.TheVariants as what
+use Rattle.nm_history.specs.declared.events.Event.{Event}
+use Rattle.nm_history.specs.AtEach.{AtEach}
+use Rattle.nm_history.specs.Delivery.{ArriveInOrder}
+use Rattle.nm_history.specs.Outgoing.{AreCalled, Called, outgoing}
+use Rattle.nm_history.specs.Sends.{Arrived, Sent, arrivals, is_ask, sends}
+use Rattle.nm_protocol.specs.Bytes.{bytes_in, eager_bytes}
+use Rattle.nm_protocol.specs.Clock.{stamped}
+use Rattle.nm_protocol.specs.Continues.{WORN_STAMP, continues, is_of_stream}
+use Rattle.nm_protocol.specs.Effects.{taken_events}
+use Rattle.nm_protocol.specs.Known.{Known, Taken, known_after, known_by, learned, nothing_known}
+use Rattle.nm_protocol.specs.Rules.{AreRight}
+use Rattle.nm_protocol.proofs.Basic.{eq_true}
+use Rattle.nm_protocol.proofs.Growing.{stamped-follow, stamped-same}
+use Rattle.nm_protocol.proofs.Right.{right-numbers}
+use Rattle.nm_protocol.proofs.Sent.{sends_numbered}
+use Rattle.nm_ends.specs.Moments.{Moment, clock_of, history_of, taken_from, taken_of}
+use Rattle.nm_ends.specs.Moments.Cause.{Took}
+use Rattle.nm_ends.specs.Sound.{AreSound, MayHappen}
+use Rattle.nm_ends.proofs.Arriving.{arrivals-append}
+use Rattle.nm_ends.proofs.Delivering.{history-append, sender_right, stream_arrives}
+use Rattle.nm_ends.proofs.EagerBytes.{eager_all, eager_body_at, eager_bytes-append}
+use Rattle.nm_ends.proofs.Logs.{sound-push}
+use Rattle.nm_ends.proofs.Streaming.{Carries, InTime}
+use Rattle.nm_ends.proofs.Streams.{StreamContinued}
+
+-- the moment of a rank that takes this packet next
+abbrev next : ℕ → List Moment → Packet → Moment
+next eager log p =
+    let known : Known = known_by (taken_from p.from log) in
+    let t : Taken = record { packet = p; continued = continues eager known (history_of log) p } in
+    record {
+      cause = Took t;
+      events = stamped (max (clock_of log) p.stamp) (taken_events known (history_of log) t);
+    }
+
+-- the moments of one that takes these next
+abbrev future : ℕ → List Moment → List Packet → List Moment
+future eager log [] = []
+future eager log (p ∷ ps) = next eager log p ∷ future eager (log ++ next eager log p ∷ []) ps
+
+next_may : (eager : ℕ) (bodies : Sent → List ℕ) (log : List Moment) (p : Packet) →
+    MayHappen eager bodies [] log (next eager log p)
+next_may eager bodies log p =
+    record {
+      made = (refl, stamped-same (max (clock_of log) p.stamp) _);
+      stamped = stamped-follow (max (clock_of log) p.stamp) _;
+    }
+
+future_sound : (eager : ℕ) (bodies : Sent → List ℕ) (log : List Moment) (ps : List Packet) →
+    AreSound eager bodies [] log → AreSound eager bodies [] (log ++ future eager log ps)
+future_sound eager bodies log [] sound =
+    subst (λ (l : List Moment). AreSound eager bodies [] l) (sym (append-nil log)) sound
+future_sound eager bodies log (p ∷ ps) sound =
+    let m : Moment = next eager log p in
+    subst (λ (l : List Moment). AreSound eager bodies [] l)
+    (append_assoc log (m ∷ []) (future eager (log ++ m ∷ []) ps))
+    (future_sound eager bodies (log ++ m ∷ []) ps
+    (sound-push eager bodies [] log m sound (next_may eager bodies log p)))
+
+future_taken : (eager : ℕ) (log : List Moment) (ps : List Packet) → AllByRecursion (λ p. p.from ≡ 0) ps →
+    map (λ t. t.packet) (taken_from 0 (future eager log ps)) ≡ ps
+future_taken eager log [] own = refl
+future_taken eager log (p ∷ ps) own =
+    rw (eq_true p.from 0 own.0)
+    (ap (λ (qs : List Packet). p ∷ qs) (future_taken eager (log ++ next eager log p ∷ []) ps own.1))
+
+-- the packets that are called for are the rank's own
+called_own : (k : ℕ) (cs : List Called) (xs ps : List Packet) → AreCalled 0 k cs (xs ++ ps) →
+    AllByRecursion (λ p. p.from ≡ 0) ps
+called_own k [] [] [] called = tt
+called_own k [] [] (p ∷ ps) called = absurd called
+called_own k (c ∷ cs) [] [] called = tt
+called_own k (c ∷ cs) [] (p ∷ ps) called = (called.0.sender, called_own (k + 1) cs [] ps called.1)
+called_own k [] (x ∷ xs) ps called = absurd called
+called_own k (c ∷ cs) (x ∷ xs) ps called = called_own (k + 1) cs xs ps called.1
+
+-- the same packet, as one that continued
+abbrev continuing : Taken → Taken
+continuing t = record t { continued = true }
+
+-- a packet of the sender's own messages that continued carries and announces the same; any other
+-- carries nothing, and announces nothing
+same_step : (n : ℕ) (known known' : Known) (b : Bool) (w : What) (payload : List ℕ) (size : ℕ) →
+    known.count ≡ known'.count → OnTrue (is_of_stream w) (b ≡ true) →
+    (cond b (bytes_in n known w payload) [] ≡ bytes_in n known' w payload)
+    × ((cond b (learned known w size) known).count ≡ (learned known' w size).count)
+same_step n known known' true (what.Head tag ctx len) payload size same goes =
+    (ap (λ (k : ℕ). cond (k == n) payload []) same, ap (λ (k : ℕ). k + 1) same)
+same_step n known known' true (what.Ask tag ctx len) payload size same goes = (refl, ap (λ (k : ℕ). k + 1) same)
+same_step n known known' true w payload size same goes = (refl, same)
+same_step n known known' false (what.Clear m) payload size same goes = (refl, same)
+same_step n known known' false (what.Withdrawn m done) payload size same goes = (refl, same)
+same_step n known known' false w payload size same goes = absurd (true≢false (sym goes))
+
+same_bytes : (n : ℕ) (known known' : Known) (ts : List Taken) → known.count ≡ known'.count →
+    AllByRecursion StreamContinued ts → eager_bytes n known ts ≡ eager_bytes n known' (map continuing ts)
+same_bytes n known known' [] same goes = refl
+same_bytes n known known' (t ∷ ts) same goes =
+    let size : ℕ = length t.packet.payload in
+    let step = same_step n known known' t.continued t.packet.what t.packet.payload size same goes.0 in
+    ap (λ (xs : List ℕ). xs ++ eager_bytes n (known_after known t) ts) step.0
+    ∙ ap (λ (xs : List ℕ). bytes_in n known' t.packet.what t.packet.payload ++ xs)
+    (same_bytes n (known_after known t) (learned known' t.packet.what size) ts step.1 goes.1)
+
+same_packets : (ts : List Taken) → map (λ t. t.packet) (map continuing ts) ≡ map (λ t. t.packet) ts
+same_packets [] = refl
+same_packets (t ∷ ts) = ap (λ (ps : List Packet). t.packet ∷ ps) (same_packets ts)
+
+all_continuing : (ts : List Taken) → AllByRecursion (λ t. t.continued ≡ true) (map continuing ts)
+all_continuing [] = tt
+all_continuing (t ∷ ts) = (refl, all_continuing ts)
+
+times : (ts : List Taken) → AllByRecursion (λ p. p.stamp < WORN_STAMP) (map (λ t. t.packet) ts) → InTime ts
+times [] early = tt
+times (t ∷ ts) early = (early.0, times ts early.1)
+
+order_front : (ss : List Sent) (as' more : List Arrived) → ArriveInOrder 0 ss (as' ++ more) →
+    ArriveInOrder 0 ss as'
+order_front ss [] more is = tt
+order_front [] (a ∷ as') more is = absurd is
+order_front (s ∷ ss) (a ∷ as') more is = (is.0, is.1, order_front ss as' more is.2)
+
+-- The messages that came are the first of those that were sent, and the bytes of an eager one that came
+-- are the first of its body.
+pub record CameSoFar (bodies : Sent → List ℕ) (log : List Moment) : Type 0 where
+  pub in_order : ArriveInOrder 0 (sends (history_of log) 0) (arrivals (history_of log) 0)
+  pub bytes :
+      (n : ℕ) (s : Sent) → slice_get (sends (history_of log) 0) n ≡ Some s → is_ask s.how ≡ false →
+      (rest : List ℕ) × (eager_bytes n nothing_known (taken_from 0 log) ++ rest ≡ bodies s)
+
+-- what came, and then what is to come
+whole_taken : (eager : ℕ) (log : List Moment) (more : List Packet) → AllByRecursion (λ p. p.from ≡ 0) more →
+    map (λ t. t.packet) (taken_from 0 (log ++ future eager log more))
+    ≡ map (λ t. t.packet) (taken_from 0 log) ++ more
+whole_taken eager log more own =
+    ap (λ (ts : List Taken). map (λ t. t.packet) ts)
+    (filter_map-append (λ (m : Moment). taken_of 0 m.cause) log (future eager log more))
+    ∙ map-append (λ (t : Taken). t.packet) (taken_from 0 log) (taken_from 0 (future eager log more))
+    ∙ ap (λ (ps : List Packet). map (λ t. t.packet) (taken_from 0 log) ++ ps) (future_taken eager log more own)
+
+pub came_so_far : (eager ranks : ℕ) (bodies : Sent → List ℕ) (log : List Moment) (more : List Packet) →
+    AreSound eager bodies [] log → AreRight ranks [] (history_of log) →
+    AreCalled 0 0 (outgoing bodies (history_of log) 0) (map (λ t. t.packet) (taken_from 0 log) ++ more) →
+    AllByRecursion (λ p. p.stamp < WORN_STAMP) (map (λ t. t.packet) (taken_from 0 log) ++ more) →
+    CameSoFar bodies log
+unfolding AtEach
+came_so_far eager ranks bodies log more sound right called early =
+    let h : List Event = history_of log in
+    let full : List Taken = taken_from 0 (log ++ future eager log more) in
+    let same = whole_taken eager log more (called_own 0 (outgoing bodies h 0) _ more called) in
+    let carries : Carries 0 0 (outgoing bodies h 0) full =
+    subst (λ (ps : List Packet). AreCalled 0 0 (outgoing bodies h 0) ps) (sym same) called in
+    let each = sender_right eager ranks bodies [] log sound right in
+    let goes = stream_arrives eager 0 0 bodies bodies [] h (log ++ future eager log more) each
+    (future_sound eager bodies log more sound) carries
+    (times full (subst (λ (ps : List Packet). AllByRecursion (λ p. p.stamp < WORN_STAMP) ps) (sym same) early)) in
+    let came : arrivals (history_of (log ++ future eager log more)) 0
+    ≡ arrivals h 0 ++ arrivals (history_of (future eager log more)) 0 =
+    ap (λ (k : List Event). arrivals k 0) (history-append log (future eager log more))
+    ∙ arrivals-append h (history_of (future eager log more)) 0 in
+    record {
+      in_order = order_front (sends h 0) (arrivals h 0) (arrivals (history_of (future eager log more)) 0)
+          (subst (λ (as' : List Arrived). ArriveInOrder 0 (sends h 0) as') came goes.1);
+      bytes = λ n s at is. (
+        eager_bytes n (known_by (taken_from 0 log)) (taken_from 0 (future eager log more)),
+        sym (eager_bytes-append n nothing_known (taken_from 0 log) (taken_from 0 (future eager log more)))
+            ∙ ap (λ (ts : List Taken). eager_bytes n nothing_known ts)
+            (sym (filter_map-append (λ (m : Moment). taken_of 0 m.cause) log (future eager log more)))
+            ∙ same_bytes n nothing_known nothing_known full refl goes.0
+            ∙ eager_all eager 0 n 0 bodies h (map continuing full) each
+            (subst (λ (ps : List Packet). AreCalled 0 0 (outgoing bodies h 0) ps) (sym (same_packets full)) carries)
+            (all_continuing full)
+            ∙ eager_body_at bodies 0 n n (sends h 0) s (omega arith)
+            (sends_numbered ranks 0 h (right-numbers ranks h right)) at is,
+      );
+    }
