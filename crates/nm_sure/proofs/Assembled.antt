@@ -41,7 +41,7 @@ low_of : (a b : ℕ) → ltb a b ≡ true → a < b
 low_of a b is = grind (arith, nat_tests)
 
 -- each command of a rank comes of a line whose numbers are in range
-from_line : (ranks rank number : ℕ) (lines : List Line) (k : ℕ) (c : Numbered) →
+pub from_line : (ranks rank number : ℕ) (lines : List Line) (k : ℕ) (c : Numbered) →
     list_all (λ (l : Line). nat_lt l.rank ranks && is_in_range ranks l.command) lines ≡ true →
     slice_get (commands_from rank number lines) k ≡ Some c → (rank < ranks) × (is_in_range ranks c.command ≡ true)
 from_line ranks rank number [] k c fine here = absurd (no_some c here)

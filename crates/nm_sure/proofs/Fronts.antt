@@ -270,18 +270,18 @@ freed_by : (q q' l : ℕ) (done : List Numbered) (b : Bool) → cond b None (hol
 freed_by q q' l done true held = absurd (grind arith)
 freed_by q q' l done false held = held
 
-held_after : (q line l : ℕ) (done : List Numbered) (c : Command) → is_plain c ≡ true →
+pub held_after : (q line l : ℕ) (done : List Numbered) (c : Command) →
     holder_by q (holder done q) line c ≡ Some l →
     ((line ≡ l) × (is_taken done c ≡ true)) ⊎ (holder done q ≡ Some l)
-held_after q line l done (command.Send q' to tag ctx body sync) plain held = held_by q q' line l done (q' == q) refl held
-held_after q line l done (command.Recv q' from tag ctx cap) plain held = held_by q q' line l done (q' == q) refl held
-held_after q line l done (command.Wait q') plain held = inr (freed_by q q' l done (q' == q) held)
-held_after q line l done (command.Test q') plain held = inr held
-held_after q line l done (command.Probe from tag ctx) plain held = inr held
-held_after q line l done (command.Await from tag ctx) plain held = inr held
-held_after q line l done (command.Cancel q') plain held = inr held
-held_after q line l done (command.Mprobe m from tag ctx) plain held = inr held
-held_after q line l done (command.Mrecv q' m cap) plain held = inr held
+held_after q line l done (command.Send q' to tag ctx body sync) held = held_by q q' line l done (q' == q) refl held
+held_after q line l done (command.Recv q' from tag ctx cap) held = held_by q q' line l done (q' == q) refl held
+held_after q line l done (command.Wait q') held = inr (freed_by q q' l done (q' == q) held)
+held_after q line l done (command.Test q') held = inr held
+held_after q line l done (command.Probe from tag ctx) held = inr held
+held_after q line l done (command.Await from tag ctx) held = inr held
+held_after q line l done (command.Cancel q') held = inr held
+held_after q line l done (command.Mprobe m from tag ctx) held = inr held
+held_after q line l done (command.Mrecv q' m cap) held = inr held
 
 taken_starts : (done : List Numbered) (c : Command) → is_taken done c ≡ true → is_some (started_name c) ≡ true
 taken_starts done (command.Send q to tag ctx body sync) taken = refl
@@ -314,7 +314,7 @@ stood_answer eager commands done h stamp c a plain at' same started stood =
     record {
       named = record {
         line = names_told commands done h stamp c a stood.named plain at' same;
-        made = λ q l held. elim (held_after q c.line l done c.command plain
+        made = λ q l held. elim (held_after q c.line l done c.command
             (sym (fold_push (λ (held : Option ℕ) (c : Numbered). holder_by q held c.line c.command) None done c) ∙ held)) [
               | inl now ↦ request_lasts h e l (subst (λ (k : ℕ). is_some (request_at h k) ≡ true) now.0
                   (start_made c.line h (sym (numbers_no_matter c.line (starts_since h))

@@ -140,7 +140,7 @@ module _ (eager : ℕ) (lines : List Line) where
       by_next None next can = absurd (false≢true can)
       by_next (Some c) next can = place_below (commands_of i lines) (at_of F i) c next
 
-  next_in : (F : List ℕ) (i : ℕ) → next_rank eager lines F ≡ Some i →
+  pub next_in : (F : List ℕ) (i : ℕ) → next_rank eager lines F ≡ Some i →
       (slice_get (range_with_len 0 (length F)) i ≡ Some i) × (can_run eager lines F i ≡ true)
   next_in F i next =
       let found = found_at (can_run eager lines F) (range_with_len 0 (length F)) i next in

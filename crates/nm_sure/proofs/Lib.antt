@@ -1,3 +1,11 @@
+pub mod Wayside
+pub mod Partnered
+pub mod Standing
+pub mod Readiness
+pub mod Running
+pub mod Stepping
+pub mod Telling
+pub mod Before
 pub mod Plainness
 pub mod Texts
 pub mod Shown

@@ -2,12 +2,13 @@
 use Rattle.std.proofs.Common.{◌≡◌, ℕ, ◌+◌, ◌<◌, ◌||◌, zero, suc, Bool, true, false, cond, Option, Some, None, List, []}
 use Rattle.std.proofs.Common.{◌∷◌, ◌++◌, length, map, refl, ◌∙◌, ap, subst, arith, ◌⊎◌, inl, inr}
 use Rattle.std.specs.Prelude.{IfSome, IsSomeAnd, take}
-use Rattle.std.specs.List.{filter, find, list_any, slice_get}
+use Rattle.std.specs.List.{filter, find, list_all, list_any, slice_get}
 use Rattle.std.proofs.lemmas.Bool.{false≢true}
 use Rattle.nm_types.specs.declared.messages.Arrival.{Arrival}
 use Rattle.nm_types.specs.declared.messages.Post as post
 use Rattle.nm_history.specs.declared.plain.Pair.{Pair}
 use Rattle.nm_history.specs.Matching.{pair_of}
+use Rattle.nm_history.proofs.OnceLemmas.{and_left, and_right}
 use Rattle.nm_match.specs.InTurn.{paired}
 
 pub no_some : {X : Type 0} (x : X) → None ≡ Some x → ⊥
@@ -142,6 +143,14 @@ any_at {X = X} test (y ∷ ys) some = by_test (test y) refl (any_at test ys) som
         (n : ℕ) × (x : X) × (slice_get (y ∷ ys) n ≡ Some x) × (test x ≡ true)
     by_test true passes later some = (zero, y, refl, passes)
     by_test false passes later some = let more = later some in (suc more.0, more.1, more.2, more.3)
+
+-- an element of a list passes a test that all pass
+pub passes_at : {X : Type 0} (test : X → Bool) (xs : List X) (k : ℕ) (x : X) → list_all test xs ≡ true → slice_get xs k ≡ Some x →
+    test x ≡ true
+passes_at test [] k x all here = absurd (no_some x here)
+passes_at test (y ∷ ys) zero x all here =
+    subst (λ z. test z ≡ true) (same_some y x here) (and_left (test y) (list_all test ys) all)
+passes_at test (y ∷ ys) (suc k) x all here = passes_at test ys k x (and_right (test y) (list_all test ys) all) here
 
 pub at_any : {X : Type 0} (test : X → Bool) (xs : List X) (n : ℕ) (x : X) → slice_get xs n ≡ Some x → test x ≡ true →
     list_any test xs ≡ true

@@ -1,4 +1,7 @@
+pub mod Held
+pub mod Ways
 pub mod Placed
+pub mod Planned
 pub mod Rows
 pub mod Names
 pub mod Channels
