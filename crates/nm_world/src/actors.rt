@@ -1,14 +1,20 @@
 //! One rank with its ports.
 
-ghost use Rattle.std.specs.Prelude.{◌≡◌, ◌<◌, ◌↔◌, ℕ, true, false, IfOk};
+ghost use Rattle.std.specs.Prelude.{◌≡◌, ◌<◌, ◌↔◌, ℕ, true, false, List, [], IfOk};
 ghost use Rattle.std.specs.Prelude.{option_map};
 ghost use Rattle.std.specs.Option.{option_map_or};
 ghost use Rattle.nm_types.specs.Commands.{commands_of};
 ghost use Rattle.nm_types.specs.Sizes.{Sizes};
+ghost use Rattle.nm_types.specs.declared.scripts.Line.{Line};
+ghost use Rattle.nm_cells.specs.declared.port.Fabric.{Fabric};
+ghost use Rattle.nm_cells.specs.Ports.{IsNew};
+ghost use Rattle.nm_copyring.specs.declared.port.Rings.{Rings};
+ghost use Rattle.nm_copyring.specs.Ports as ring_port;
 ghost use Rattle.nm_rank.specs.Ranks.{IsFresh};
+ghost use Rattle.nm_process.specs.Lines.{AreLines};
 ghost use Rattle.nm_process.specs.Steps.{HasRun, goes_on};
 ghost use Rattle.nm_process.specs.Work.{IsAtWork};
-ghost use Rattle.nm_world.specs.Actors.{Grew, Kept, Setting, Stands, did};
+ghost use Rattle.nm_world.specs.Actors.{Grew, Kept, Setting, Stands, did, seat_of};
 ghost use Rattle.nm_world.specs.Idle.{GaveNone, Idle, LetterBack, NoPiece, PieceBack, Stepped};
 ghost use Rattle.nm_world.specs.Looks.{LookedAround, PolledBefore, PolledUnlessWorn, is_look, looks_next};
 ghost use Rattle.nm_world.specs.Rest.{CanMove, IsStill};
@@ -16,6 +22,7 @@ ghost use Rattle.nm_world.specs.Rest.{CanMove, IsStill};
 use crate::wires::{polled, pulled, pushed, sent};
 use nm_channels::laws::{a_poll_carries, a_send_carries};
 use nm_copyring::{RingPort, Rings};
+use nm_history::History;
 use nm_outside::Gate;
 use nm_port::{Fabric, Port};
 use nm_process::{Process, Step};
@@ -23,7 +30,9 @@ use nm_standing::laws::passing::{
     a_packet_is_taken, a_packet_leaves, a_piece_is_taken, a_piece_leaves,
 };
 use nm_standing::laws::runs::a_command_runs;
-use nm_types::{Command, Line, Memory};
+use nm_standing::laws::stands::a_process_begins;
+use nm_types::{Command, Line, Memory, Shape};
+use std::alloc::Global;
 
 /// How many packets, pieces and commands of each kind a turn has room for.
 const TURN: u32 = 64;
@@ -53,6 +62,36 @@ fn looks(command: Option<&Command>) -> bool
 }
 
 impl Actor {
+    /// The actor of a port's rank at its first command, in a run of these sizes.
+    ///
+    /// With ports as `Fabric::build` and `Rings::build` give them for one rank, it can make turns on
+    /// the lines of any script of as many ranks.
+    pub fn new(alloc: Global, shape: Shape, port: Port, ring: RingPort) -> Result<Actor, Memory>
+        requires rank { port.rank < shape.ranks }
+        ensures stands { IfOk result (λ a. (lines : List Line) (f : Fabric) (r : Rings) →
+            AreLines shape.ranks lines → (f.ranks ≡ shape.ranks) × (r.ranks ≡ shape.ranks) →
+            IsNew f port port.rank → ring_port.IsNew r ring port.rank → Stands lines f r a) }
+        ensures seat { IfOk result (λ a. seat_of a ≡ record { rank = port.rank; sizes = shape }) }
+        ensures ports { IfOk result (λ a. (a.port ≡ port) × (a.ring ≡ ring)) }
+        ensures begins { IfOk result (λ a. (a.process.rank.me ≡ port.rank)
+            × (a.process.rank.events ≡ []) × (a.process.at ≡ 0)) }
+    {
+        let process = Process::new(alloc, shape, port.rank())?;
+        a_process_begins();
+        Ok(Actor {
+            process,
+            port,
+            ring,
+        })
+    }
+
+    /// What happened at its rank, oldest first.
+    pub fn history(&self) -> &History
+        ensures { result.now.events ≡ self.now.process.rank.events }
+    {
+        self.process.history()
+    }
+
     // Sends the first packet of the outbox, unless there is none or it comes back.
     fn send_next(&mut self, f: &Fabric) -> bool
         ghost here: { Setting }

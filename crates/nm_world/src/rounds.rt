@@ -24,9 +24,9 @@ struct Pace {
 }
 
 impl Pace {
-    // Counts a turn by whether the actor rested before it and whether it moved. It answers whether
-    // no actor has anything to do, and gives way where this one has nothing.
-    fn ends(&self, rested: bool, moved: bool) -> bool {
+    // Counts a turn by whether the actor rested before it and whether it moved, and gives way where
+    // it moved nothing. It answers whether no actor has anything to do.
+    fn all_rest(&self, rested: bool, moved: bool) -> bool {
         if moved {
             if rested {
                 self.idle.fetch_sub(1, Ordering::SeqCst);
@@ -36,13 +36,19 @@ impl Pace {
         if !rested {
             self.idle.fetch_add(1, Ordering::SeqCst);
         }
-        if self.idle.load(Ordering::SeqCst) >= self.all {
-            return true;
-        }
         yield_now();
-        false
+        self.idle.load(Ordering::SeqCst) >= self.all
+    }
+
+    // Ends the turns of all, since one of them was refused memory.
+    fn give_up(&self) {
+        self.idle.fetch_add(self.all, Ordering::SeqCst);
     }
 }
+
+// How many turns in a row an actor looks on while none has anything to do. What one of them put
+// under way before it rested may not have been found yet by another.
+const PATIENCE: u32 = 32;
 
 // Turns of one actor, at most so many, until no actor of the round has anything to do.
 fn turns_of<G: Gate>(
@@ -63,10 +69,22 @@ fn turns_of<G: Gate>(
 {
     let mut moved = false;
     let mut rests = false;
+    let mut quiet: u32 = 0;
     for made in 0..turns {
-        let one = actor.turn(lines, f, r, gate)?;
+        let one = match actor.turn(lines, f, r, gate) {
+            Ok(one) => one,
+            Err(Memory) => {
+                pace.give_up();
+                return Err(Memory);
+            }
+        };
         moved = moved | one;
-        if pace.ends(rests, one) {
+        quiet = if pace.all_rest(rests, one) {
+            quiet.saturating_add(1)
+        } else {
+            0
+        };
+        if quiet > PATIENCE {
             return Ok(moved);
         }
         rests = !one;

@@ -9,7 +9,7 @@ ghost use Rattle.nm_report.specs.Cells.{AllCellsFree};
 ghost use Rattle.nm_report.specs.Ends.{are_done, ends_of};
 ghost use Rattle.nm_cells.specs.declared.port.Fabric.{Fabric};
 ghost use Rattle.nm_cells.specs.declared.port.Port.{Port};
-ghost use Rattle.nm_cells.specs.Ports.{IsNew, knows};
+ghost use Rattle.nm_cells.specs.Ports.{knows};
 ghost use Rattle.nm_copyring.specs.declared.port.RingPort.{RingPort};
 ghost use Rattle.nm_copyring.specs.declared.port.Rings.{Rings};
 ghost use Rattle.nm_copyring.specs.Ports as ring_port;
@@ -27,9 +27,7 @@ use crate::rounds::round;
 use nm_copyring::{RingAccount, RingPort, Rings};
 use nm_outside::Gate;
 use nm_port::{Closed, Fabric, Port};
-use nm_process::Process;
 use nm_report::RunRecord;
-use nm_standing::laws::stands::a_process_begins;
 use nm_types::{Line, Memory, Script, Shape};
 use std::alloc::Global;
 use std::sync::Wait;
@@ -64,23 +62,6 @@ fn pair_agrees(a: &Actor, b: &Actor, i: u8, j: u8) -> bool
     ensures { result ≡ true → PairAgrees i j a.now b.now }
 {
     a.port.sent(j) == b.port.taken(i) && a.ring.pushed(j) == b.ring.pulled(i)
-}
-
-// An actor at its first command.
-fn new_actor(alloc: Global, shape: Shape, port: Port, ring: RingPort) -> Result<Actor, Memory>
-    requires rank { port.rank < shape.ranks }
-    ensures stands { IfOk result (λ a. (lines : List Line) (f : Fabric) (r : Rings) →
-        AreLines shape.ranks lines → (f.ranks ≡ shape.ranks) × (r.ranks ≡ shape.ranks) →
-        IsNew f port port.rank → ring_port.IsNew r ring port.rank → Stands lines f r a) }
-    ensures seat { IfOk result (λ a. seat_of a ≡ record { rank = port.rank; sizes = shape }) }
-{
-    let process = Process::new(alloc, shape, port.rank())?;
-    a_process_begins();
-    Ok(Actor {
-        process,
-        port,
-        ring,
-    })
 }
 
 // Whether what the actor of rank i sent to each was taken there.
@@ -178,7 +159,7 @@ fn cast(
         let Some(ring) = rings.next() else {
             unreachable!()
         };
-        let actor = new_actor(alloc, shape, port, ring)?;
+        let actor = Actor::new(alloc, shape, port, ring)?;
         add(&mut actors, actor)?;
     }
     Ok(actors)

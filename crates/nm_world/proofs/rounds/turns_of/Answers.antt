@@ -19,12 +19,12 @@ loop-made-init g c = record {
 pub loop-made-preserved : goal.loop-made-preserved
 loop-made-preserved g c =
     let i = c.loop-made.invariant in
-    let e = c.in_ok-one.ensures in
+    let e = c.in-Ok.ensures in
     let both = kept_and c.args.f.now.ranks c.args.lines.now c.args.f.now c.args.r.now c.args.actor.now
-    c.loop-made.actor c.turn.new.self c.loop-made.moved c.in_ok-one.one i.kept e.kept i.moved e.moved in
-    let idle : (c.loop-made.moved || c.in_ok-one.one) ≡ false → IsFresh c.args.actor.now.process.rank →
+    c.loop-made.actor c.turn.new.self c.loop-made.moved c.in-Ok.one i.kept e.kept i.moved e.moved in
+    let idle : (c.loop-made.moved || c.in-Ok.one) ≡ false → IsFresh c.args.actor.now.process.rank →
     Idle c.args.lines.now c.args.actor.now c.turn.new.self = λ none fresh.
-    idle_next c.args.lines.now c.args.actor.now c.loop-made.actor c.turn.new.self c.loop-made.moved c.in_ok-one.one
+    idle_next c.args.lines.now c.args.actor.now c.loop-made.actor c.turn.new.self c.loop-made.moved c.in-Ok.one
     i.kept.grows i.still e.idle none fresh in
     record {
       kept = both.0;
@@ -33,17 +33,17 @@ loop-made-preserved g c =
       idle = λ some. idle;
     }
 
-pub returns-then-ends : goal.returns-then-ends
-returns-then-ends g c =
+pub returns-then-quiet-gt-PATIENCE : goal.returns-then-quiet-gt-PATIENCE
+returns-then-quiet-gt-PATIENCE g c =
     let i = c.loop-made.invariant in
-    let e = c.in_ok-one.ensures in
+    let e = c.in-Ok.ensures in
     let both = kept_and c.args.f.now.ranks c.args.lines.now c.args.f.now c.args.r.now c.args.actor.now
-    c.loop-made.actor c.turn.new.self c.loop-made.moved c.in_ok-one.one i.kept e.kept i.moved e.moved in
+    c.loop-made.actor c.turn.new.self c.loop-made.moved c.in-Ok.one i.kept e.kept i.moved e.moved in
     record {
       kept = both.0;
       moved = both.1;
       idle = idle_next c.args.lines.now c.args.actor.now c.loop-made.actor c.turn.new.self c.loop-made.moved
-          c.in_ok-one.one i.kept.grows i.still e.idle;
+          c.in-Ok.one i.kept.grows i.still e.idle;
     }
 
 pub returns-then-not-rests : goal.returns-then-not-rests

@@ -11,8 +11,8 @@ use Rattle.nm_world.specs.Runs.{InPlace, NewInOrder}
 use Rattle.nm_world.proofs.Runs.{in_place_push}
 use Rattle.nm_world.proofs.whole.cast.Goals as goal
 
-pub new_actor-requires : goal.new_actor-requires
-new_actor-requires c =
+pub new-requires : goal.new-requires
+new-requires c =
     let rest = into_iter_items c.next.new.self in
     let split : into_iter_items c.loop-port.port-iterator ≡ c.in-Some.port ∷ rest = c.in-Some.ensures.steps.0 in
     record {

@@ -2,7 +2,7 @@
 use Rattle.std.proofs.Common.{◌≡◌, ◌∙◌}
 use Rattle.nm_log.specs.Calls.{IsNew}
 use Rattle.nm_world.proofs.Begins.{new_stands}
-use Rattle.nm_world.proofs.whole.new_actor.Goals as goal
+use Rattle.nm_world.proofs.actors.Actor.new.Goals as goal
 
 pub returns-clause-stands : goal.returns-clause-stands
 returns-clause-stands c lines f r in_range sizes fresh ring_fresh =
