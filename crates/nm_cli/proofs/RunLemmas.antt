@@ -1,5 +1,5 @@
 -- What runs and reads say of an answer.
-use Rattle.std.proofs.Common.{◌≡◌, ℕ, List, ◌++◌, Option, Some, None, take, drop, refl, sym, ap, ◌∙◌, subst}
+use Rattle.std.proofs.Common.{◌≡◌, ℕ, Bool, List, ◌++◌, Option, Some, None, take, drop, sym, ap, ◌∙◌, subst}
 use Rattle.std.specs.Option.{IfSome}
 use Rattle.std.proofs.lemmas.List.{append_cancel_left, take-append-drop}
 use Rattle.nm_types.specs.declared.scripts.Line.{Line}
@@ -8,7 +8,7 @@ use Rattle.nm_types.specs.Sizes.{Sizes}
 use Rattle.nm_outside.specs.Told.{ReadSoFar}
 use Rattle.nm_command_line.specs.declared.CommandLine.{CommandLine}
 use Rattle.nm_command_line.specs.declared.Mode.{Mode}
-use Rattle.nm_command_line.specs.declared.Mode.TheVariants.{Run, Trace, Flood}
+use Rattle.nm_command_line.specs.declared.Mode.TheVariants.{Run, Trace, Plain}
 use Rattle.nm_script.specs.Spelled.{IsTextOf}
 use Rattle.nm_report.specs.Cells.{AllCellsFree}
 use Rattle.nm_report.specs.Ends.{are_done, ends_of}
@@ -18,7 +18,11 @@ use Rattle.nm_report.specs.Told.{told_of}
 use Rattle.nm_report.specs.declared.records.RunRecord.{RunRecord}
 use Rattle.nm_world.specs.Runs.{IsWhole}
 use Rattle.nm_world.specs.declared.whole.Ways.{Ways}
-use Rattle.nm_cli.specs.Answers.{CanBeTold, HasRun, IsAnswerTo}
+use Rattle.nm_sure.specs.Agree.{ArePlain}
+use Rattle.nm_sure.specs.Plain.{first_free}
+use Rattle.nm_sure.specs.PlainText.{plain_done, plain_text}
+use Rattle.nm_cli.specs.Answers.{CanBeTold, IsAnswerFor, IsAnswerTo}
+use Rattle.nm_cli.specs.Plains.{IsNotPlain, IsPlain}
 use Rattle.nm_cli.specs.Scripts.{IsAsked, IsRunOfScript, Reads, read_of, sizes_for}
 use Rattle.nm_cli.specs.declared.answers.Answer.{Answer}
 use Rattle.nm_cli.specs.declared.answers.Answer.TheVariants as answer
@@ -41,24 +45,45 @@ asked : (mode : Mode) (input : Option (List ℕ)) (ranks : ℕ) (lines : List Li
     IfSome input (λ bytes. IsTextOf (read_of bytes) ranks lines) → IsAsked mode input ranks lines
 asked Run input ranks lines reads is = is
 asked Trace input ranks lines reads is = is
-asked (Flood key many messages) input ranks lines reads is = absurd reads
+asked Plain input ranks lines reads is = is
+asked m input ranks lines reads is = absurd reads
 
--- the run of a script that was read answers the words
+-- what is said of a plain script is said of the bytes read
+free : (input : Option (List ℕ)) (ranks number : ℕ) (lines : List Line) →
+    IfSome input (λ bytes. IsTextOf (read_of bytes) ranks lines) → first_free lines ≡ Some number →
+    IfSome input (IsNotPlain number)
+free None ranks number lines is first = tt
+free (Some bytes) ranks number lines is first =
+    record { ranks = ranks; lines = lines; spelled = is; first = first }
+
+sure : (line : CommandLine) (input : Option (List ℕ)) (ranks : ℕ) (lines : List Line) (text : List ℕ) (done : Bool) →
+    IfSome input (λ bytes. IsTextOf (read_of bytes) ranks lines) → ArePlain lines →
+    text ≡ plain_text (sizes_for line ranks) lines → done ≡ plain_done (sizes_for line ranks) lines →
+    IfSome input (IsPlain line text done)
+sure line None ranks lines text done is plain reported ended = tt
+sure line (Some bytes) ranks lines text done is plain reported ended =
+    record { ranks = ranks; lines = lines; spelled = is; plain = plain; reported = reported; ended = ended }
+
+-- what is said of a script that was read answers the words
 pub answered : (line : CommandLine) (input : Option (List ℕ)) (old new ranks : ℕ) (lines : List Line) →
     Reads line.mode → IfSome input (λ bytes. IsTextOf (read_of bytes) ranks lines) → (a : Answer) →
-    HasRun line ranks lines a → IsAnswerTo line input old new a
+    IsAnswerFor line ranks lines a → IsAnswerTo line input old new a
 answered line input old new ranks lines reads is (answer.Ran mode run ways) h =
-    (h.0, record { ranks = ranks; lines = lines; asked = asked line.mode input ranks lines reads is; of_script = h.1 })
-answered line input old new ranks lines reads is answer.Usage h = absurd h
-answered line input old new ranks lines reads is answer.Unread h = absurd h
-answered line input old new ranks lines reads is (answer.Refused n k) h = absurd h
+    let asked_for = asked line.mode input ranks lines reads is in
+    (h.0, h.1, record { ranks = ranks; lines = lines; asked = asked_for; of_script = h.2 })
+answered line input old new ranks lines reads is (answer.Free number) h =
+    (h.0, free input ranks number lines is h.1)
+answered line input old new ranks lines reads is (answer.Determinate run) h =
+    (h.0, sure line input ranks lines run.text.items run.done is h.1 h.2 h.3)
+answered line input old new ranks lines reads is a h = absurd h
 
 -- and can be told
-pub told : (line : CommandLine) (ranks : ℕ) (lines : List Line) (a : Answer) → HasRun line ranks lines a → CanBeTold a
-told line ranks lines (answer.Ran mode run ways) h = h.2
-told line ranks lines answer.Usage h = absurd h
-told line ranks lines answer.Unread h = absurd h
-told line ranks lines (answer.Refused n k) h = absurd h
+pub told : (line : CommandLine) (ranks : ℕ) (lines : List Line) (a : Answer) → IsAnswerFor line ranks lines a →
+    CanBeTold a
+told line ranks lines (answer.Ran mode run ways) h = h.3
+told line ranks lines (answer.Free number) h = tt
+told line ranks lines (answer.Determinate run) h = tt
+told line ranks lines a h = absurd h
 
 -- what was read spells the script
 pub spelled : (input : Option (List ℕ)) (read : List ℕ) (ranks : ℕ) (lines : List Line) →

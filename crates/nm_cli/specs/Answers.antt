@@ -1,5 +1,5 @@
 -- What the program answers: a text, a status, the record of a run, and what the closed ports kept.
-use Rattle.std.specs.Prelude.{◌≡◌, ℕ, Bool, true, false, if◌then◌else◌, List, ◌++◌, IfSome, Option, Some, None}
+use Rattle.std.specs.Prelude.{◌≡◌, ℕ, ◌^◌, ◌<◌, Bool, true, false, if◌then◌else◌, List, [], ◌++◌, IfSome, Option, Some, None}
 use Rattle.std.specs.Prelude.{codes, decimal}
 use Rattle.nm_outside.specs.Told.{Rose}
 use Rattle.nm_command_line.specs.CommandLine.{IsTaken}
@@ -17,10 +17,18 @@ use Rattle.nm_report.specs.Summary.{CountsFit, summary_text}
 use Rattle.nm_report.specs.Told.{told_of}
 use Rattle.nm_report.specs.declared.records.RunRecord.{RunRecord}
 use Rattle.nm_types.specs.declared.scripts.Line.{Line}
+use Rattle.nm_multi.specs.Calls.{Logged as Log}
+use Rattle.nm_multi.specs.Programs.{IsWhole}
+use Rattle.nm_multi.specs.Text.{bytes_got, log_text}
 use Rattle.nm_world.specs.declared.whole.Ways.{Ways}
 use Rattle.nm_cli.specs.declared.answers.Answer.{Answer}
 use Rattle.nm_cli.specs.declared.answers.Answer.TheVariants.{Usage, Unread, Refused, Ran}
-use Rattle.nm_cli.specs.Scripts.{IsRunOfScript, IsRunOfWords, Reads, read_of}
+use Rattle.nm_cli.specs.declared.answers.Answer.TheVariants.{Free, Determinate, Logged}
+use Rattle.nm_sure.specs.Agree.{ArePlain}
+use Rattle.nm_sure.specs.Plain.{first_free}
+use Rattle.nm_sure.specs.PlainText.{plain_done, plain_text}
+use Rattle.nm_cli.specs.Plains.{IsNotPlain, IsPlain, free_text}
+use Rattle.nm_cli.specs.Scripts.{IsRunOfScript, IsRunOfWords, Reads, Runs, read_of, sizes_for}
 
 -- what is said of words that are not taken
 abbrev pub usage : List ℕ
@@ -28,6 +36,8 @@ usage =
     codes "usage: nemesis run [--cells N] [--eager N]\n"
     ++ codes "       nemesis trace [--cells N] [--eager N]\n"
     ++ codes "       nemesis flood KEY RANKS MESSAGES [--cells N] [--eager N]\n"
+    ++ codes "       nemesis plain [--cells N] [--eager N]\n"
+    ++ codes "       nemesis multi THREADS ROUNDS\n"
 
 -- the name of a kind of fault
 abbrev pub kind_text : Kind → List ℕ
@@ -56,6 +66,7 @@ abbrev pub run_text : Mode → RunRecord → List ℕ
 run_text mode.Run run = report_text false run
 run_text mode.Trace run = report_text true run
 run_text (mode.Flood key ranks messages) run = summary_text key messages run
+run_text _ run = []
 
 -- the text of an answer
 abbrev pub text_of : Answer → List ℕ
@@ -63,6 +74,9 @@ text_of Usage = usage
 text_of Unread = unread
 text_of (Refused line kind) = fault_text line kind
 text_of (Ran mode run ways) = run_text mode run
+text_of (Free line) = free_text line
+text_of (Determinate run) = run.text.items
+text_of (Logged threads rounds log) = log_text threads rounds log.entries
 
 -- the status of a run: whether every rank is at its end
 abbrev pub end_status : Bool → ℕ
@@ -74,6 +88,9 @@ status_of Usage = 2
 status_of Unread = 4
 status_of (Refused line kind) = 3
 status_of (Ran mode run ways) = end_status run.done
+status_of (Free line) = 7
+status_of (Determinate run) = end_status run.done
+status_of (Logged threads rounds log) = 0
 
 -- the record of an answer
 abbrev pub run_of : Answer → Option RunRecord
@@ -85,16 +102,35 @@ abbrev pub ways_of : Answer → Option Ways
 ways_of (Ran mode run ways) = Some ways
 ways_of _ = None
 
+-- the log of an answer
+abbrev pub log_of : Answer → Option Log
+log_of (Logged threads rounds log) = Some log
+log_of _ = None
+
 -- the numbers of a summary fit
 abbrev pub CanBeTold : Answer → Type 0
 CanBeTold (Ran mode run ways) = CountsFit (told_of run)
+CanBeTold (Logged threads rounds log) = bytes_got log.entries < 2 ^ 64
 CanBeTold _ = Unit {0}
 
--- a script of these lines ran as the words say, and its numbers fit a summary
-abbrev pub HasRun : CommandLine → ℕ → List Line → Answer → Type 0
-HasRun line ranks lines (Ran mode run ways) =
-    (mode ≡ line.mode) × IsRunOfScript line ranks lines run ways × CountsFit (told_of run)
-HasRun line ranks lines _ = ⊥
+-- A script of these lines is answered by its run, whose numbers fit a summary, or, where only what all its
+-- runs report is asked for, by that, or by the line at which it is not plain.
+abbrev pub IsAnswerFor : CommandLine → ℕ → List Line → Answer → Type 0
+IsAnswerFor line ranks lines (Ran mode run ways) =
+    Runs line.mode × (mode ≡ line.mode) × IsRunOfScript line ranks lines run ways × CountsFit (told_of run)
+IsAnswerFor line ranks lines (Free number) = (line.mode ≡ mode.Plain) × (first_free lines ≡ Some number)
+IsAnswerFor line ranks lines (Determinate run) =
+    (line.mode ≡ mode.Plain) × ArePlain lines
+    × (run.text.items ≡ plain_text (sizes_for line ranks) lines)
+    × (run.done ≡ plain_done (sizes_for line ranks) lines)
+IsAnswerFor line ranks lines _ = ⊥
+
+-- the log is that of so many threads of so many rounds, and its numbers fit a summary
+abbrev pub IsLogOf : ℕ → ℕ → Answer → Type 0
+IsLogOf many_threads many_rounds (Logged threads rounds log) =
+    (threads ≡ many_threads) × (rounds ≡ many_rounds) × IsWhole threads rounds log.entries
+    × (bytes_got log.entries < 2 ^ 64)
+IsLogOf many_threads many_rounds _ = ⊥
 
 -- the source was read
 abbrev pub WasRead : Answer → Type 0
@@ -121,7 +157,13 @@ IsAnswerTo line input old new Usage = ⊥
 IsAnswerTo line input old new Unread = Reads line.mode × Rose old new
 IsAnswerTo line input old new (Refused number kind) =
     Reads line.mode × IfSome input (λ bytes. Refuses (read_of bytes) (fault.Bad number kind))
-IsAnswerTo line input old new (Ran mode run ways) = (mode ≡ line.mode) × IsRunOfWords line input run ways
+IsAnswerTo line input old new (Ran mode run ways) =
+    Runs line.mode × (mode ≡ line.mode) × IsRunOfWords line input run ways
+IsAnswerTo line input old new (Free number) = (line.mode ≡ mode.Plain) × IfSome input (IsNotPlain number)
+IsAnswerTo line input old new (Determinate run) =
+    (line.mode ≡ mode.Plain) × IfSome input (IsPlain line run.text.items run.done)
+IsAnswerTo line input old new (Logged threads rounds log) =
+    (line.mode ≡ mode.Multi threads rounds) × IsWhole threads rounds log.entries
 
 -- the words ask for something, and the answer to it is right
 pub record IsAnswered (words : List (List ℕ)) (input : Option (List ℕ)) (old new : ℕ) (answer : Answer)

@@ -1,12 +1,16 @@
 -- How the program ends: what was said, with which status, and what is handed out.
-use Rattle.std.specs.Prelude.{◌≡◌, ℕ, ◌⊎◌, List, Option, Some}
+use Rattle.std.specs.Prelude.{◌≡◌, ℕ, ◌⊎◌, Bool, List, Option, Some, IfSome}
 use Rattle.nm_outside.specs.Told.{Appends, AppendsPart}
 use Rattle.nm_command_line.specs.declared.CommandLine.{CommandLine}
 use Rattle.nm_script.specs.declared.faults.Kind.{Kind}
 use Rattle.nm_script.specs.declared.faults.ScriptFault.TheVariants as fault
 use Rattle.nm_report.specs.declared.records.RunRecord.{RunRecord}
 use Rattle.nm_world.specs.declared.whole.Ways.{Ways}
+use Rattle.nm_multi.specs.Calls.{Logged as Log}
+use Rattle.nm_multi.specs.Programs.{IsWhole}
+use Rattle.nm_multi.specs.Text.{log_text}
 use Rattle.nm_cli.specs.Answers.{Refuses, end_status, fault_text, run_text, status_of, text_of}
+use Rattle.nm_cli.specs.Plains.{IsNotPlain, IsPlain, free_text}
 use Rattle.nm_cli.specs.declared.answers.Answer.{Answer}
 use Rattle.nm_cli.specs.Scripts.{IsRunOfWords, read_of}
 
@@ -34,11 +38,40 @@ pub record IsReported (line : CommandLine) (input : Option (List ℕ)) (status :
   pub ended : status ≡ end_status record_of.done
   pub said : Appends old new (run_text line.mode record_of)
 
+-- a script that is not plain was answered by its first line that is not
+pub record IsFree (old new : Option (List ℕ)) (bytes : List ℕ) : Type 0 where
+  pub number : ℕ
+  pub not_plain : IsNotPlain number bytes
+  pub said : Appends old new (free_text number)
+
+-- a plain script was answered by the report of its plain run
+pub record IsSure (line : CommandLine) (status : ℕ) (old new : Option (List ℕ)) (bytes : List ℕ)
+    : Type 0 where
+  pub text : List ℕ
+  pub done : Bool
+  pub plain : IsPlain line text done bytes
+  pub ended : status ≡ end_status done
+  pub said : Appends old new text
+
+-- With plain, by what the bytes spell: no script, one that is not plain, or a plain one.
+abbrev pub IsWorkedOut : CommandLine → Option (List ℕ) → ℕ → Option (List ℕ) → Option (List ℕ) → Type 0
+IsWorkedOut line input status old new =
+    ((status ≡ 3) × IfSome input (IsRefused old new))
+    ⊎ (((status ≡ 7) × IfSome input (IsFree old new))
+    ⊎ (((status ≡ 0) ⊎ (status ≡ 1)) × IfSome input (IsSure line status old new)))
+
+-- the log of several threads that shared one rank was summed up, and is handed out
+pub record IsLogged (threads rounds : ℕ) (log : Option Log) (old new : Option (List ℕ)) : Type 0 where
+  pub log_of : Log
+  pub given : log ≡ Some log_of
+  pub whole : IsWhole threads rounds log_of.entries
+  pub said : Appends old new (log_text threads rounds log_of.entries)
+
 -- the statuses that there are
 abbrev pub IsStatus : ℕ → Type 0
 IsStatus status =
     (status ≡ 0) ⊎ ((status ≡ 1) ⊎ ((status ≡ 2) ⊎ ((status ≡ 3) ⊎ ((status ≡ 4)
-    ⊎ ((status ≡ 5) ⊎ (status ≡ 6))))))
+    ⊎ ((status ≡ 5) ⊎ ((status ≡ 6) ⊎ (status ≡ 7)))))))
 
 -- it is so, or a write failed, or memory ran out
 abbrev pub OrUnwritten : Type 0 → ℕ → Type 0

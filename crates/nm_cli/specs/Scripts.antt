@@ -4,7 +4,7 @@ use Rattle.nm_types.specs.declared.scripts.Line.{Line}
 use Rattle.nm_types.specs.Sizes.{Sizes}
 use Rattle.nm_command_line.specs.declared.CommandLine.{CommandLine}
 use Rattle.nm_command_line.specs.declared.Mode.{Mode}
-use Rattle.nm_command_line.specs.declared.Mode.TheVariants.{Run, Trace, Flood}
+use Rattle.nm_command_line.specs.declared.Mode.TheVariants.{Run, Trace, Plain, Flood, Multi}
 use Rattle.nm_flood.specs.Flood.{flood_lines}
 use Rattle.nm_script.specs.Spelled.{IsTextOf}
 use Rattle.nm_report.specs.Lawful.{IsRunIn}
@@ -16,27 +16,43 @@ use Rattle.nm_world.specs.declared.whole.Ways.{Ways}
 abbrev pub read_of : List ℕ → List ℕ
 read_of bytes = take 8388609 bytes
 
--- these words have the script read from the source
+-- these words have a script read from the source
 abbrev pub Reads : Mode → Type 0
 Reads Run = Unit {0}
 Reads Trace = Unit {0}
+Reads Plain = Unit {0}
 Reads (Flood key ranks messages) = ⊥
+Reads (Multi threads rounds) = ⊥
 
--- these words have it made of three numbers, and nothing is read
+-- these words have it made of three numbers
 abbrev pub Makes : Mode → Type 0
 Makes (Flood key ranks messages) = Unit {0}
 Makes _ = ⊥
+
+-- these words have a script run
+abbrev pub Runs : Mode → Type 0
+Runs Plain = ⊥
+Runs (Multi threads rounds) = ⊥
+Runs _ = Unit {0}
+
+-- these words read nothing
+abbrev pub ReadsNothing : Mode → Type 0
+ReadsNothing (Flood key ranks messages) = Unit {0}
+ReadsNothing (Multi threads rounds) = Unit {0}
+ReadsNothing _ = ⊥
 
 -- the script that is asked for: a flood, or the one that the bytes read spell, where the source tells them
 abbrev pub IsAsked : Mode → Option (List ℕ) → ℕ → List Line → Type 0
 IsAsked (Flood key many messages) input ranks lines =
     (ranks ≡ many) × (lines ≡ flood_lines key many messages)
+IsAsked (Multi threads rounds) input ranks lines = ⊥
 IsAsked _ input ranks lines = IfSome input (λ bytes. IsTextOf (read_of bytes) ranks lines)
 
 -- and the source tells them, where it is read
 abbrev pub IsKnown : Mode → Option (List ℕ) → ℕ → List Line → Type 0
 IsKnown (Flood key many messages) input ranks lines =
     (ranks ≡ many) × (lines ≡ flood_lines key many messages)
+IsKnown (Multi threads rounds) input ranks lines = ⊥
 IsKnown _ input ranks lines = IsSomeAnd input (λ bytes. IsTextOf (read_of bytes) ranks lines)
 
 -- the sizes of a run: so many ranks, and what the words say of cells and of the eager limit

@@ -1,12 +1,17 @@
 //! What there is to say of the words and the source, and how it is said.
 
 ghost use Rattle.std.specs.Prelude.{◌≡◌, IfOk};
-ghost use Rattle.nm_cli.specs.Answers.{CanBeTold, fault_text, kind_text, run_of, status_of};
-ghost use Rattle.nm_cli.specs.Answers.{text_of, usage, ways_of};
+ghost use Rattle.nm_report.specs.Summary.{CountsFit};
+ghost use Rattle.nm_report.specs.Told.{told_of};
+ghost use Rattle.nm_cli.specs.Answers.{CanBeTold, fault_text, kind_text, run_text as run_text_lem};
+ghost use Rattle.nm_cli.specs.Answers.{end_status as end_status_lem, status_of, text_of, usage};
+ghost use Rattle.nm_cli.specs.Plains.{free_text as free_text_lem};
 
 use nm_command_line::Mode;
+use nm_multi::CallLog;
 use nm_report::RunRecord;
 use nm_script::Kind;
+use nm_sure::PlainRun;
 use nm_types::Memory;
 use nm_world::Ways;
 use std::alloc::{AllocError, Global};
@@ -29,11 +34,27 @@ pub enum Answer {
         run: RunRecord,
         ways: Ways,
     },
+    /// The script is not plain, at this line first.
+    Free {
+        line: u32,
+    },
+    /// The script is plain, and its plain run has this report.
+    Determinate {
+        run: PlainRun,
+    },
+    /// Several threads shared one rank.
+    Logged {
+        threads: u8,
+        rounds: u16,
+        log: CallLog,
+    },
 }
 
 const USAGE: &str = "usage: nemesis run [--cells N] [--eager N]
        nemesis trace [--cells N] [--eager N]
        nemesis flood KEY RANKS MESSAGES [--cells N] [--eager N]
+       nemesis plain [--cells N] [--eager N]
+       nemesis multi THREADS ROUNDS
 ";
 
 /// The text of an answer, whole and in memory.
@@ -45,11 +66,27 @@ pub fn text(alloc: Global, answer: &Answer) -> Result<Vec<u8>, Memory>
         Answer::Usage => Ok(line(alloc, USAGE)?),
         Answer::Unread => Ok(line(alloc, "fault read\n")?),
         Answer::Refused { line, kind } => Ok(fault(alloc, *line, *kind)?),
-        Answer::Ran { mode, run, .. } => match mode {
-            Mode::Run => nm_report::text(alloc, run, false),
-            Mode::Trace => nm_report::text(alloc, run, true),
-            Mode::Flood { key, messages, .. } => nm_report::summary(alloc, run, *key, *messages),
-        },
+        Answer::Ran { mode, run, .. } => run_text(alloc, mode, run),
+        Answer::Free { line } => Ok(free_text(alloc, *line)?),
+        Answer::Determinate { run } => Ok(run.text.clone()?),
+        Answer::Logged {
+            threads,
+            rounds,
+            log,
+        } => nm_multi::text(alloc, log, *threads, *rounds),
+    }
+}
+
+// The text of a run: its report, its report with each event, or its summary.
+fn run_text(alloc: Global, mode: &Mode, run: &RunRecord) -> Result<Vec<u8>, Memory>
+    requires { CountsFit (told_of run.now) }
+    ensures { IfOk result (λ text. text.items ≡ run_text_lem mode.now run.now) }
+{
+    match mode {
+        Mode::Run => nm_report::text(alloc, run, false),
+        Mode::Trace => nm_report::text(alloc, run, true),
+        Mode::Flood { key, messages, .. } => nm_report::summary(alloc, run, *key, *messages),
+        Mode::Plain | Mode::Multi { .. } => Ok(Vec::new(alloc)),
     }
 }
 
@@ -58,22 +95,29 @@ pub fn status(answer: &Answer) -> u8
     ensures { result ≡ status_of answer.now }
 {
     match answer {
-        Answer::Ran { run, .. } => { if run.done { 0 } else { 1 } }
+        Answer::Ran { run, .. } => end_status(run.done),
+        Answer::Free { .. } => 7,
+        Answer::Determinate { run } => end_status(run.done),
+        Answer::Logged { .. } => 0,
         Answer::Usage => 2,
         Answer::Refused { .. } => 3,
         Answer::Unread => 4,
     }
 }
 
-/// The record of an answer, and what the closed ports of its run kept.
-pub fn parts(answer: Answer) -> (Option<RunRecord>, Option<Ways>)
-    ensures run { result.0 ≡ run_of answer }
-    ensures ways { result.1 ≡ ways_of answer }
+// The status of a run: whether every rank is at its end.
+fn end_status(done: bool) -> u8
+    ensures { result ≡ end_status_lem done }
 {
-    match answer {
-        Answer::Ran { run, ways, .. } => (Some(run), Some(ways)),
-        _ => (None, None),
-    }
+    if done { 0 } else { 1 }
+}
+
+// What is said of a script that is not plain.
+fn free_text(alloc: Global, line: u32) -> Result<Vec<u8>, AllocError>
+    ensures { IfOk result (λ bytes. bytes.items ≡ free_text_lem line) }
+{
+    let text = format!(in alloc; "fault plain {}\n", line)?;
+    Ok(text.into_bytes())
 }
 
 fn line(alloc: Global, text: &str) -> Result<Vec<u8>, AllocError>

@@ -1,45 +1,62 @@
 //! The whole program: words and bytes in, bytes and a status out.
 //!
-//! `nemesis` is the one top call. It takes the words of the command line, runs the script that they
-//! ask for, and writes to the sink what is to be said of it.
+//! `nemesis` is the one top call. It takes the words of the command line, does what they ask for,
+//! and writes to the sink what is to be said of it.
 //!
 //! # What a contract sees
 //! The words as lists of bytes; the bytes that the source tells, of which at most 8,388,609 are
-//! read; the bytes that the sink tells; the status, the record of the run, and what the closed ports
-//! kept. Each status has one clause that says what it means, and one that says when it comes.
+//! read; the bytes that the sink tells; the status, the record of the run, what the closed ports
+//! kept, and the log of several threads. Each status has one clause that says what it means, and
+//! one that says when it comes; the words beside `run`, `trace` and `flood` have a clause each,
+//! which tells their cases apart.
 //! # What is proved
 //! - Status 2 exactly where the words are not taken, and then nothing was read; 3 exactly where a
-//!   script was to be read and the bytes spell none; 0 and 1 exactly where they spell one, or a
-//!   flood was asked for, with the text that is due. Each yields to 5 and 6, and those of the bytes
-//!   to 4 too.
+//!   script was to be read and the bytes spell none; 0 and 1 of a run exactly where they spell one,
+//!   or a flood was asked for, with the text that is due. Each yields to 5 and 6, and those of the
+//!   bytes to 4 too.
 //! - The record, at 0 and 1 and where its text could not be written: each rank's history is a run
 //!   of its commands, what it took of each sender is what was sent, all ranks are quiescent, all
 //!   cells are at home, the status is 0 exactly where no rank waits, and the closed ports carried
 //!   what the record tells (`IsRunOfWords`).
+//! - Of a plain script `run` writes what its plain run reports, and of a flood the summary is a
+//!   function of its numbers and the sizes.
+//! - With `plain`: 3 where the bytes spell no script, 7 where it is not plain, with the line, else
+//!   the report of the plain run, with 0 or 1.
+//! - With `multi`: 0, with the text of a log that is one legal history of one rank and has each
+//!   thread's whole program.
 //! - Status 4 and 5 only where the count of faults of the source or the sink rose, and at 5 the
 //!   sink took a front of the text that was due. At 6 nothing was written.
 //! # What is only tested
 //! That it succeeds with ample memory.
 #![tactic(auto)]
 
-ghost use Rattle.std.specs.Prelude.{◌≡◌, ℕ, ◌⊎◌, None, List, Some, drop, map, string_bytes, IfSome};
+ghost use Rattle.std.specs.Prelude.{◌≡◌, ◌≢◌, ℕ, ◌⊎◌, None, List, Some, drop, map, string_bytes, IfSome};
 ghost use Rattle.nm_types.specs.declared.scripts.Line.{Line};
 ghost use Rattle.nm_outside.specs.Told.{Appends, AppendsPart, Rose};
 ghost use Rattle.nm_command_line.specs.CommandLine.{IsTaken};
 ghost use Rattle.nm_command_line.specs.declared.CommandLine.{CommandLine};
+ghost use Rattle.nm_command_line.specs.declared.Mode.TheVariants.{Multi, Plain};
+ghost use Rattle.nm_sure.specs.PlainText.{plain_done};
 ghost use Rattle.nm_script.specs.Spelled.{SpellsNone};
 ghost use Rattle.nm_cli.specs.declared.answers.Answer.{Answer};
-ghost use Rattle.nm_cli.specs.Answers.{IsAnswer, NotTaken, run_of, text_of, unread, usage, ways_of};
-ghost use Rattle.nm_cli.specs.Endings.{IsRefused, IsReported, IsSaid, IsStatus, OrFails};
-ghost use Rattle.nm_cli.specs.Endings.{OrUnwritten};
-ghost use Rattle.nm_cli.specs.Scripts.{IsKnown, Makes, Reads, read_of};
+ghost use Rattle.nm_cli.specs.Answers.{IsAnswer, NotTaken, end_status, log_of, run_of, text_of};
+ghost use Rattle.nm_cli.specs.Answers.{unread, usage, ways_of};
+ghost use Rattle.nm_cli.specs.Endings.{IsLogged, IsRefused, IsReported, IsSaid, IsStatus};
+ghost use Rattle.nm_cli.specs.Endings.{IsWorkedOut, OrFails, OrUnwritten};
+ghost use Rattle.nm_cli.specs.Plains.{IsDeterminate, sure_text};
+ghost use Rattle.nm_cli.specs.Scripts.{IsKnown, Makes, Reads, ReadsNothing, Runs};
+ghost use Rattle.nm_cli.specs.Scripts.{read_of, sizes_for};
 
 mod answers;
 mod runs;
 
-use answers::{Answer, parts, status, text};
+use answers::{Answer, status, text};
+use nm_flood::laws::{floods_keep_the_limits, floods_name_their_messages};
+use nm_multi::CallLog;
 use nm_outside::{Gate, Sink, Source, write_all};
 use nm_report::RunRecord;
+use nm_script::laws::one_script;
+use nm_sure::plain_runs_agree;
 use nm_world::Ways;
 use runs::find_answer;
 use std::alloc::Global;
@@ -51,24 +68,51 @@ use std::thread::Threads;
 pub struct Ended {
     /// 0 where every rank is at its end, 1 where one waits for what can't come, 2 where the words
     /// are not taken, 3 where the bytes are no script, 4 where a read failed, 5 where a write
-    /// failed, 6 for want of memory.
+    /// failed, 6 for want of memory, 7 where a script is not plain.
     pub status: u8,
     /// The record of the run, where its text was due.
     pub run: Option<RunRecord>,
     /// What the closed ports of that run kept.
     pub closed: Option<Ways>,
+    /// The calls of several threads on one rank, where their text was due.
+    pub log: Option<CallLog>,
 }
 
 const SINK_FAILED: u8 = 5;
 
-/// How it ends for want of memory.
-fn want_of_memory() -> Ended
-    ensures { (result.status ≡ 6) × (result.run ≡ None) × (result.closed ≡ None) }
+const WANT_OF_MEMORY: u8 = 6;
+
+// How it ends with nothing to hand out.
+fn hand_out_nothing(status: u8) -> Ended
+    ensures { (result.status ≡ status) × (result.run ≡ None) × (result.closed ≡ None)
+        × (result.log ≡ None) }
 {
     Ended {
-        status: 6,
+        status,
         run: None,
         closed: None,
+        log: None,
+    }
+}
+
+// How it ends with an answer that was due.
+fn hand_out(status: u8, answer: Answer) -> Ended
+    ensures status { result.status ≡ status }
+    ensures run { result.run ≡ run_of answer }
+    ensures ways { result.closed ≡ ways_of answer }
+    ensures log { result.log ≡ log_of answer }
+{
+    match answer {
+        Answer::Ran { run, ways, .. } => Ended {
+            run: Some(run),
+            closed: Some(ways),
+            ..hand_out_nothing(status)
+        },
+        Answer::Logged { log, .. } => Ended {
+            log: Some(log),
+            ..hand_out_nothing(status)
+        },
+        _ => hand_out_nothing(status),
     }
 }
 
@@ -114,27 +158,53 @@ pub fn nemesis<R: Threads + Wait + Sync, S: Source, K: Sink, G: Gate + Sync>(
     // A script ran, and every rank is at its end, or one waits for what can't come.
     ensures reported { (result.status ≡ 0) ⊎ (result.status ≡ 1) → (line : CommandLine)
         × IsTaken (map string_bytes words.now) line
-        × IsReported line (S.left source.old) result.status result.run result.closed
-        (K.taken sink.old) (K.taken sink.new) }
+        × (Runs line.mode → IsReported line (S.left source.old) result.status result.run
+        result.closed (K.taken sink.old) (K.taken sink.new)) }
     ensures reports { (line : CommandLine) → IsTaken (map string_bytes words.now) line →
-        (ranks : ℕ) (lines : List Line) → IsKnown line.mode (S.left source.old) ranks lines →
+        Runs line.mode → (ranks : ℕ) (lines : List Line) →
+        IsKnown line.mode (S.left source.old) ranks lines →
         OrFails ((result.status ≡ 0) ⊎ (result.status ≡ 1)) result.status }
 
     // Words that are taken, a script, and no fault: then the run's text, whole, or want of memory.
     ensures completes { (line : CommandLine) → IsTaken (map string_bytes words.now) line →
-        (ranks : ℕ) (lines : List Line) → IsKnown line.mode (S.left source.old) ranks lines →
+        Runs line.mode → (ranks : ℕ) (lines : List Line) →
+        IsKnown line.mode (S.left source.old) ranks lines →
         ¬ (Rose (S.faults source.old) (S.faults source.new)) →
         ¬ (Rose (K.faults sink.old) (K.faults sink.new)) → (result.status ≡ 6)
         ⊎ IsReported line (S.left source.old) result.status result.run result.closed
         (K.taken sink.old) (K.taken sink.new) }
 
-    // What is read: a script is read whole, or to the limit, and for a flood nothing is.
+    // What is read: a script is read whole, or to the limit, and for a flood and for several
+    // threads nothing is.
     ensures read { (result.status ≡ 0) ⊎ ((result.status ≡ 1) ⊎ (result.status ≡ 3)) →
         (line : CommandLine) → IsTaken (map string_bytes words.now) line → Reads line.mode →
         IfSome (S.left source.old) (λ bytes. S.left source.new ≡ Some (drop 8388609 bytes)) }
+    ensures untouched { (line : CommandLine) → IsTaken (map string_bytes words.now) line →
+        ReadsNothing line.mode → source.new ≡ source.old }
+
+    // A flood needs no source.
     ensures made { (line : CommandLine) → IsTaken (map string_bytes words.now) line →
-        Makes line.mode → (source.new ≡ source.old)
-        × OrUnwritten ((result.status ≡ 0) ⊎ (result.status ≡ 1)) result.status }
+        Makes line.mode → OrUnwritten ((result.status ≡ 0) ⊎ (result.status ≡ 1)) result.status }
+
+    // With plain, by what the bytes spell: no script, one that is not plain, or a plain one.
+    ensures plain { (line : CommandLine) → IsTaken (map string_bytes words.now) line →
+        line.mode ≡ Plain → OrFails (IsWorkedOut line (S.left source.old) result.status
+        (K.taken sink.old) (K.taken sink.new)) result.status }
+
+    // All runs of a plain script are reported alike, and so are those of a flood: what is said is a
+    // function of the script and the sizes.
+    ensures determinate { (line : CommandLine) → IsTaken (map string_bytes words.now) line →
+        (ranks : ℕ) (lines : List Line) → IsKnown line.mode (S.left source.old) ranks lines →
+        IsDeterminate line.mode lines → (result.status ≡ 0) ⊎ (result.status ≡ 1) →
+        (result.status ≡ end_status (plain_done (sizes_for line ranks) lines))
+        × Appends (K.taken sink.old) (K.taken sink.new)
+        (sure_text line.mode (sizes_for line ranks) lines) }
+
+    // Several threads shared one rank. The log is one history that has each thread's calls.
+    ensures logged { (line : CommandLine) → IsTaken (map string_bytes words.now) line →
+        (threads rounds : ℕ) → line.mode ≡ Multi threads rounds →
+        OrUnwritten ((result.status ≡ 0) × IsLogged threads rounds result.log
+        (K.taken sink.old) (K.taken sink.new)) result.status }
 
     // The source failed.
     ensures unread { result.status ≡ 4 → Rose (S.faults source.old) (S.faults source.new)
@@ -145,26 +215,30 @@ pub fn nemesis<R: Threads + Wait + Sync, S: Source, K: Sink, G: Gate + Sync>(
         × (answer : Answer) × IsAnswer (map string_bytes words.now)
         (S.left source.old) (S.faults source.old) (S.faults source.new) answer
         × AppendsPart (K.taken sink.old) (K.taken sink.new) (text_of answer)
-        × (result.run ≡ run_of answer) × (result.closed ≡ ways_of answer) }
+        × (result.run ≡ run_of answer) × (result.closed ≡ ways_of answer)
+        × (result.log ≡ log_of answer) }
 
     // Want of memory, before the first write.
     ensures memory { result.status ≡ 6 → (K.taken sink.new ≡ K.taken sink.old)
-        × (result.run ≡ None) × (result.closed ≡ None) }
+        × (result.run ≡ None) × (result.closed ≡ None) × (result.log ≡ None) }
     ensures statuses { IsStatus result.status }
     ensures no_record { (result.status ≡ 2) ⊎ ((result.status ≡ 3) ⊎ (result.status ≡ 4)) →
-        (result.run ≡ None) × (result.closed ≡ None) }
+        (result.run ≡ None) × (result.closed ≡ None) × (result.log ≡ None) }
+    ensures no_run { (line : CommandLine) → IsTaken (map string_bytes words.now) line →
+        ¬ (Runs line.mode) → (result.run ≡ None) × (result.closed ≡ None) }
+    ensures no_log { (line : CommandLine) → IsTaken (map string_bytes words.now) line →
+        ((threads rounds : ℕ) → line.mode ≢ Multi threads rounds) → result.log ≡ None }
 {
     let Ok(answer) = find_answer(rt, alloc, words, source, gate) else {
-        return want_of_memory();
+        return hand_out_nothing(WANT_OF_MEMORY);
     };
     let Ok(due) = text(alloc, &answer) else {
-        return want_of_memory();
+        return hand_out_nothing(WANT_OF_MEMORY);
     };
     let status = deliver(sink, &due, &answer);
-    let (run, closed) = parts(answer);
-    Ended {
-        status,
-        run,
-        closed,
-    }
+    one_script();
+    plain_runs_agree();
+    floods_keep_the_limits();
+    floods_name_their_messages();
+    hand_out(status, answer)
 }

@@ -1,16 +1,10 @@
 -- What is found is in range.
-use Rattle.std.proofs.Common.{◌≡◌, ℕ, ◌≤◌, true, ◌&&◌, List, Option, Some, None, sym, subst}
-use Rattle.std.proofs.Common.{arith, nat_le, unwrap_or, lit≤}
-use Rattle.std.proofs.lemmas.Bool.{and_parts}
-use Rattle.std.proofs.lemmas.Bool.Decides.{nat_tests}
-use Rattle.std.proofs.lemmas.Option.{cond_some}
+use Rattle.std.proofs.Common.{◌≡◌, ℕ, ◌≤◌, List, Option, Some, None, sym, subst, arith, unwrap_or, lit≤}
 use Rattle.nm_command_line.specs.Arguments.{IsArgument}
-use Rattle.nm_command_line.specs.CommandLine.{AreNumbers, Follows, HasNumbers, InRange, nothing, unless}
-use Rattle.nm_command_line.specs.CommandLine.{with_argument, with_cells, with_eager, with_first, with_key}
-use Rattle.nm_command_line.specs.CommandLine.{with_messages, with_ranks, with_second, with_third}
+use Rattle.nm_command_line.specs.CommandLine.{AreNumbers, Follows, InRange, nothing, unless, with_argument}
+use Rattle.nm_command_line.specs.CommandLine.{with_cells, with_eager, with_first, with_second, with_third}
 use Rattle.nm_command_line.specs.CommandLine.Follows.{ends, more}
 use Rattle.nm_command_line.specs.declared.Mode.{Mode}
-use Rattle.nm_command_line.specs.declared.Mode.TheVariants.{Run, Trace, Flood}
 use Rattle.nm_command_line.specs.declared.arguments.Argument.{Argument}
 use Rattle.nm_command_line.specs.declared.arguments.Argument.TheVariants.{Cells, Eager, Number}
 use Rattle.nm_command_line.specs.declared.found.Found.{Found}
@@ -20,77 +14,51 @@ abbrev pub IsWithin : ℕ → ℕ → Option ℕ → Type 0
 IsWithin least most None = Unit {0}
 IsWithin least most (Some n) = (least ≤ n) × (n ≤ most)
 
+-- the options are in range
 pub record AreFound (f : Found) : Type 0 where
-  pub ranks : IsWithin 1 64 f.ranks
-  pub messages : IsWithin 0 16000 f.messages
   pub cells : IsWithin 1 64 f.cells
   pub eager : IsWithin 0 4096 f.eager
 
-at_most : (n most : ℕ) → nat_le n most ≡ true → n ≤ most
-at_most n most h = grind (arith, nat_tests)
+once_within : (f g : Found) (value : Option ℕ) → AreFound f → unless value f ≡ Some g → AreFound g
+once_within f g None within h = let same : f ≡ g = cc in subst AreFound same within
+once_within f g (Some n) within h = let e : None ≡ Some g = h in cc
 
-at_least : (n : ℕ) → (nat_le 1 n && nat_le n 64) ≡ true → (1 ≤ n) × (n ≤ 64)
-at_least n h = let p = and_parts (nat_le 1 n) (nat_le n 64) h in (at_most 1 n p.0, at_most n 64 p.1)
-
+-- a number more leaves the options
 third_within : (number : ℕ) (f g : Found) (value : Option ℕ) → AreFound f →
     with_third number f value ≡ Some g → AreFound g
 third_within number f g None within h =
-    let p = cond_some (nat_le number 16000) (with_messages number f) g h in
-    let few = at_most number 16000 p.0 in
-    subst AreFound p.1 (record {
-      ranks = within.ranks;
-      messages = (omega arith, few);
-      cells = within.cells;
-      eager = within.eager;
-    })
+    let same : record f { third = Some number } ≡ g = cc in
+    subst AreFound same (record { cells = within.cells; eager = within.eager })
 third_within number f g (Some n) within h = let e : None ≡ Some g = h in cc
 
 second_within : (number : ℕ) (f g : Found) (value : Option ℕ) → AreFound f →
     with_second number f value ≡ Some g → AreFound g
 second_within number f g None within h =
-    let p = cond_some (nat_le 1 number && nat_le number 64) (with_ranks number f) g h in
-    subst AreFound p.1 (record {
-      ranks = at_least number p.0;
-      messages = within.messages;
-      cells = within.cells;
-      eager = within.eager;
-    })
-second_within number f g (Some n) within h = third_within number f g f.messages within h
+    let same : record f { second = Some number } ≡ g = cc in
+    subst AreFound same (record { cells = within.cells; eager = within.eager })
+second_within number f g (Some n) within h = third_within number f g f.third within h
 
-first_within : (number : ℕ) (f g : Found) (value : Option ℕ) → AreFound f →
+number_within : (number : ℕ) (f g : Found) (value : Option ℕ) → AreFound f →
     with_first number f value ≡ Some g → AreFound g
-first_within number f g None within h =
-    let same : with_key number f ≡ g = cc in
-    subst AreFound same (record {
-      ranks = within.ranks;
-      messages = within.messages;
-      cells = within.cells;
-      eager = within.eager;
-    })
-first_within number f g (Some n) within h = second_within number f g f.ranks within h
-
-once_within : (f g : Found) (value : Option ℕ) → AreFound f → unless value f ≡ Some g → AreFound g
-once_within f g None within h = let same : f ≡ g = cc in subst AreFound same within
-once_within f g (Some n) within h = let e : None ≡ Some g = h in cc
+number_within number f g None within h =
+    let same : record f { first = Some number } ≡ g = cc in
+    subst AreFound same (record { cells = within.cells; eager = within.eager })
+number_within number f g (Some n) within h = second_within number f g f.second within h
 
 -- one argument more
 argument_within : (a : Argument) (words others : List (List ℕ)) (f g : Found) → IsArgument a words others →
     AreFound f → with_argument f a ≡ Some g → AreFound g
 argument_within (Cells cells) words others f g (some, few, is) within h =
     once_within (with_cells cells f) g f.cells (record {
-      ranks = within.ranks;
-      messages = within.messages;
       cells = (some, few);
       eager = within.eager;
     }) h
 argument_within (Eager eager) words others f g (few, is) within h =
     once_within (with_eager eager f) g f.eager (record {
-      ranks = within.ranks;
-      messages = within.messages;
       cells = within.cells;
       eager = (omega arith, few);
     }) h
-argument_within (Number number) words others f g is within h = first_within number f g f.key within h
+argument_within (Number number) words others f g is within h = number_within number f g f.first within h
 
 -- and all of them
 pub all_within : (f h : Found) (words : List (List ℕ)) → Follows f words h → AreFound f → AreFound h
@@ -100,15 +68,7 @@ all_within f h words (more a _ others _ g _ is added follows) within =
 
 -- nothing is in range
 pub nothing_within : AreFound nothing
-nothing_within = record { ranks = tt; messages = tt; cells = tt; eager = tt }
-
-numbers_within : (mode : Mode) (f : Found) → AreFound f → HasNumbers mode f → AreNumbers mode
-numbers_within Run f within has = tt
-numbers_within Trace f within has = tt
-numbers_within (Flood key ranks messages) f within (_, some, many) =
-    let r = subst (IsWithin 1 64) some within.ranks in
-    let m = subst (IsWithin 0 16000) many within.messages in
-    (r.0, r.1, m.1)
+nothing_within = record { cells = tt; eager = tt }
 
 or_within : (least most n : ℕ) (value : Option ℕ) → IsWithin least most value → least ≤ n → n ≤ most →
     (least ≤ unwrap_or value n) × (unwrap_or value n ≤ most)
@@ -116,14 +76,14 @@ or_within least most n None within some few = (some, few)
 or_within least most n (Some v) within some few = within
 
 -- what was taken is in range
-pub taken_within : (mode : Mode) (f : Found) (cells eager : ℕ) → AreFound f → HasNumbers mode f →
+pub taken_within : (mode : Mode) (f : Found) (cells eager : ℕ) → AreFound f → AreNumbers mode →
     cells ≡ unwrap_or f.cells 8 → eager ≡ unwrap_or f.eager 1024 →
     InRange (record { mode = mode; cells = cells; eager = eager })
-taken_within mode f cells eager within has is_cells is_eager =
+taken_within mode f cells eager within numbers is_cells is_eager =
     let c = or_within 1 64 8 f.cells within.cells (lit≤ tt) (lit≤ tt) in
     let e = or_within 0 4096 1024 f.eager within.eager (lit≤ tt) (lit≤ tt) in
     record {
-      numbers = numbers_within mode f within has;
+      numbers = numbers;
       some_cell = subst (λ n. 1 ≤ n) (sym is_cells) c.0;
       few_cells = subst (λ n. n ≤ 64) (sym is_cells) c.1;
       few_eager = subst (λ n. n ≤ 4096) (sym is_eager) e.1;

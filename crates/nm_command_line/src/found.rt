@@ -6,33 +6,30 @@ ghost use Rattle.nm_command_line.specs.declared.found.Found.{Found};
 
 use crate::arguments::{Argument, next_argument};
 
-/// The numbers of `flood` and the values of the options, as far as they were found.
+/// The numbers, in their order, and the values of the options, as far as they were found.
 #[derive(Clone, Copy)]
 pub struct Found {
-    pub key: Option<u16>,
-    pub ranks: Option<u8>,
-    pub messages: Option<u16>,
+    pub first: Option<u16>,
+    pub second: Option<u16>,
+    pub third: Option<u16>,
     pub cells: Option<u8>,
     pub eager: Option<u16>,
 }
-
-/// The most messages of `flood`.
-const MAX_MESSAGES: u16 = 16000;
 
 impl Found {
     pub fn nothing() -> Found
         ensures { result ≡ nothing }
     {
         Found {
-            key: None,
-            ranks: None,
-            messages: None,
+            first: None,
+            second: None,
+            third: None,
             cells: None,
             eager: None,
         }
     }
 
-    // With one argument more, unless it was given before or no number is wanted.
+    // With one argument more, unless it was given before or is a fourth number.
     fn with(self, argument: Argument) -> Option<Found>
         ensures { result ≡ with_argument self argument }
     {
@@ -55,39 +52,30 @@ impl Found {
         }
     }
 
-    // With one number more: the key, then the ranks, then the messages.
+    // With one number more, unless there are three.
     fn with_number(self, number: u16) -> Option<Found>
-        ensures { result ≡ with_first number self self.key }
+        ensures { result ≡ with_first number self self.first }
     {
-        match (self.key, self.ranks, self.messages) {
+        match (self.first, self.second, self.third) {
             (None, _, _) => Some(Found {
-                key: Some(number),
+                first: Some(number),
                 ..self
             }),
-            (Some(_), None, _) => {
-                if number < 1 || number > 64 {
-                    return None;
-                }
-                Some(Found {
-                    ranks: Some(number as u8),
-                    ..self
-                })
-            }
-            (Some(_), Some(_), None) => {
-                if number > MAX_MESSAGES {
-                    return None;
-                }
-                Some(Found {
-                    messages: Some(number),
-                    ..self
-                })
-            }
+            (Some(_), None, _) => Some(Found {
+                second: Some(number),
+                ..self
+            }),
+            (Some(_), Some(_), None) => Some(Found {
+                third: Some(number),
+                ..self
+            }),
             (Some(_), Some(_), Some(_)) => None,
         }
     }
 }
 
-// Calls itself at most six times: each argument but the last was not given before.
+// Calls itself at most six times: each argument but the last was not given before, and there are
+// three numbers at most.
 /// What the words give in the end, beside what was found before them.
 pub fn rest(found: Found, words: &[String]) -> Option<Found>
     ensures follows { IfSome result (Follows found (map string_bytes words.now)) }

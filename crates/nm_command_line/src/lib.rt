@@ -2,7 +2,7 @@
 //!
 //! The first word says what the program is to do; options stand anywhere behind it, each at most
 //! once, in either spelling (`--cells 4` or `--cells=4`); `flood` has three numbers besides, in
-//! their order.
+//! their order. `multi` has two numbers, and takes no option.
 //!
 //! # What a contract sees
 //! The words as lists of bytes, and what they ask for (`CommandLine`).
@@ -11,14 +11,15 @@
 #![tactic(auto)]
 
 ghost use Rattle.std.specs.Prelude.{◌≡◌, List, ℕ, map, string_bytes, IfSome, Some};
-ghost use Rattle.nm_command_line.specs.CommandLine.{HasNumbers, InRange, IsTaken, name_of};
+ghost use Rattle.nm_command_line.specs.CommandLine.{InRange, IsTaken};
 ghost use Rattle.nm_command_line.specs.declared.CommandLine.{CommandLine};
-ghost use Rattle.nm_command_line.specs.declared.Mode.{Mode};
 
 mod arguments;
 mod found;
+mod modes;
 
 use found::{Found, rest};
+use modes::mode_of;
 
 /// What the program is asked to do.
 #[derive(Clone, Copy)]
@@ -27,8 +28,12 @@ pub enum Mode {
     Run,
     /// The same, with each event of each rank before the report.
     Trace,
+    /// Report what every run of the plain script of the source reports, without a run.
+    Plain,
     /// Run a script that is generated of these numbers, and sum up.
     Flood { key: u16, ranks: u8, messages: u16 },
+    /// Let so many threads share one rank for so many rounds each, and sum up.
+    Multi { threads: u8, rounds: u16 },
 }
 
 /// A command line that was taken.
@@ -45,37 +50,6 @@ pub struct CommandLine {
 const CELLS: u8 = 8;
 
 const EAGER: u16 = 1024;
-
-// What the first word and the numbers ask for.
-fn mode_of(first: &[u8], found: Found) -> Option<Mode>
-    ensures asked { IfSome result (λ mode. (first.now ≡ name_of mode) × HasNumbers mode found) }
-    ensures asks { (mode : Mode) → first.now ≡ name_of mode → HasNumbers mode found →
-        result ≡ Some mode }
-{
-    match (found.key, found.ranks, found.messages) {
-        (None, None, None) => {
-            if first == b"run".as_slice() {
-                Some(Mode::Run)
-            } else if first == b"trace".as_slice() {
-                Some(Mode::Trace)
-            } else {
-                None
-            }
-        }
-        (Some(key), Some(ranks), Some(messages)) => {
-            if first == b"flood".as_slice() {
-                Some(Mode::Flood {
-                    key,
-                    ranks,
-                    messages,
-                })
-            } else {
-                None
-            }
-        }
-        _ => None,
-    }
-}
 
 /// What the words ask for, or `None` where they are not taken.
 ///

@@ -8,7 +8,9 @@ const PLAIN: &[u8] =
 
 const USAGE: &[u8] = b"usage: nemesis run [--cells N] [--eager N]\n       \
     nemesis trace [--cells N] [--eager N]\n       \
-    nemesis flood KEY RANKS MESSAGES [--cells N] [--eager N]\n";
+    nemesis flood KEY RANKS MESSAGES [--cells N] [--eager N]\n       \
+    nemesis plain [--cells N] [--eager N]\n       \
+    nemesis multi THREADS ROUNDS\n";
 
 const WANT_OF_MEMORY: u8 = 6;
 
@@ -118,6 +120,43 @@ fn scripts_give_their_reports(rt: HostRuntime) -> Result<(), Fail> {
         assert_eq!(rt; sink.taken(), text);
         assert_eq!(rt; ended.run.is_some(), status < 2);
         assert_eq!(rt; ended.closed.is_some(), status < 2);
+    }
+    Ok(())
+}
+
+#[test]
+fn words_without_a_script_of_their_own(rt: HostRuntime) -> Result<(), Fail> {
+    let rows: [(&str, &[u8], u8, &[u8]); 5] = [
+        (
+            "multi 4 64",
+            b"",
+            0,
+            b"multi 4 64\ncalls 1280\ngot 256 bytes 8064\n",
+        ),
+        ("multi 1 0", b"", 0, b"multi 1 0\ncalls 0\ngot 0 bytes 0\n"),
+        ("multi 0 5", b"", 2, USAGE),
+        (
+            "plain",
+            b"ranks 2\n0: isend 0 1 5 0 x41\n0: wait 0\n1: irecv 0 any 5 0 1\n",
+            7,
+            b"fault plain 4\n",
+        ),
+        (
+            "plain --cells 1",
+            b"ranks 2\n1: irecv 0 0 7 0 16\n1: wait 0\n",
+            1,
+            b"1 3 waits\ncells 2 home 2\nstuck\n",
+        ),
+    ];
+    for (line, input, status, text) in rows {
+        let words = words_of(rt.alloc(), line)?;
+        let mut source = MemorySource::new(input.to_vec(rt.alloc())?, 100, Vec::new(rt.alloc()));
+        let mut sink = MemorySink::new(rt.alloc(), 100, Vec::new(rt.alloc()))?;
+        let ended = nemesis(&rt, rt.alloc(), &words, &mut source, &mut sink, &OpenGate);
+        assert_eq!(rt; ended.status, status);
+        assert_eq!(rt; sink.taken(), text);
+        assert!(rt; ended.run.is_none());
+        assert_eq!(rt; ended.log.is_some(), status == 0);
     }
     Ok(())
 }

@@ -10,5 +10,5 @@ returns-clause-within c =
     let found = c.in_ok-found.found in
     let follows = subst (λ f. Follows f others found) c.nothing.ensures c.in_ok-found.ensures.follows in
     taken_within c.in_ok-mode.mode found c.unwrap_or.result c.unwrap_or-2.result
-    (all_within nothing found others follows nothing_within) c.in_ok-mode.ensures.asked.1
+    (all_within nothing found others follows nothing_within) c.in_ok-mode.ensures.asked.2
     c.unwrap_or.ensures c.unwrap_or-2.ensures

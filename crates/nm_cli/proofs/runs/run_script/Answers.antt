@@ -25,4 +25,4 @@ returns g c =
     let run = c.in_ok-run.ensures in
     let p = ran line script.ranks script.lines c.in_ok-run.run' c.in_ok-run.ways c.unwrap-shape.result sized
     run.shaped run.run run.home run.done script.limits c.summaries_fit.ensures in
-    (refl, p.0, p.1)
+    (c.requires.runs, refl, p.0, p.1)
