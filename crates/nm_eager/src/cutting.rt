@@ -9,6 +9,7 @@ ghost use Rattle.nm_history.specs.Sends.{Sent};
 ghost use Rattle.nm_history.specs.Outgoing.{part_at};
 ghost use Rattle.nm_eager.specs.Cutting.{IsMessageOf, IsNext, next_what, packet_count};
 
+use nm_bodies::copy_range;
 use nm_types::{Body, MAX_PAYLOAD, Packet, Payload, What, laws};
 use std::marker::Model;
 
@@ -128,11 +129,9 @@ impl Cutter {
         ensures { result ≡ part_at MAX_PAYLOAD self.now.body self.now.given }
     {
         let start = self.start();
-        let size = (self.body.len() - start).min(MAX_PAYLOAD as u32);
+        let size = (self.body.len() - start).min(MAX_PAYLOAD as u32) as usize;
         let mut bytes = [0; MAX_PAYLOAD as usize];
-        for at in 0..size {
-            bytes[at as usize] = self.body.byte(start + at);
-        }
-        Payload::of(&bytes[..size as usize])
+        copy_range(&self.body, start, size, &mut bytes);
+        Payload::of(&bytes[..size])
     }
 }

@@ -1,5 +1,5 @@
 -- What the offers keep, when the state of one message changes.
-use Rattle.std.proofs.Common.{◌≡◌, ℕ, ◌+◌, ◌-◌, ◌<◌, ◌≤◌, ◌⊎◌, inl, inr, ◌++◌, [], ◌∷◌, List}
+use Rattle.std.proofs.Common.{◌≡◌, ℕ, ◌+◌, ◌-◌, ◌<◌, ◌≤◌, inl, inr, ◌++◌, [], ◌∷◌, List}
 use Rattle.std.proofs.Common.{length, get_or, set}
 use Rattle.std.proofs.Common.{Bool, true, false, cond, nat_eq, Option, Some, None, All, Contains}
 use Rattle.std.proofs.Common.{refl, sym, ap, ◌∙◌, subst, IsNone, slice_get, true≢false, sum_by}

@@ -5,7 +5,7 @@ ghost use Rattle.nm_types.specs.Bodies.{body_len};
 ghost use Rattle.nm_types.specs.declared.limits.TheConstants.{MAX_BODY};
 ghost use Rattle.nm_rndv.specs.Cuts.{start_of, rest_of, offset_of, next_bytes};
 
-use arrayvec::ArrayVec;
+use nm_bodies::copy_range;
 use nm_types::{Body, Chunk, MAX_PIECE, laws};
 use std::marker::Model;
 
@@ -81,13 +81,11 @@ impl Leaving {
         ensures { result ≡ next_bytes self.now }
     {
         let start = self.offset();
-        let end = self.body.len().min(start + PIECE);
-        let mut bytes = ArrayVec::<u8, 1024>::new();
+        let size = (self.body.len() - start).min(PIECE) as usize;
+        let mut bytes = [0; MAX_PIECE as usize];
         laws::bodies_have_their_length();
-        for k in start..end {
-            bytes.push(self.body.byte(k));
-        }
-        Chunk::of(bytes.as_slice())
+        copy_range(&self.body, start, size, &mut bytes);
+        Chunk::of(&bytes[..size])
     }
 
     /// What is left after the next piece, or `None` where that is the last.

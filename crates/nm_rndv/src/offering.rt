@@ -146,8 +146,9 @@ impl Offers {
         is_out
     }
 
-    /// The first message in the order of clearance that is not out.
-    fn front(&self) -> Option<(u8, u64)>
+    /// The destination and number of the message that the next piece is of: the first one in the order
+    /// of clearance that is not out.
+    pub fn front(&self) -> Option<(u8, u64)>
         ensures first { result ≡ first_leaving_lem self.now }
         ensures in_range { IfSome result (λ m. m.0 < length self.now.destinations) }
         ensures leaves { IfSome result (λ m. leaves self.now.destinations m ≡ true) }

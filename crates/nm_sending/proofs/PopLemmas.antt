@@ -349,6 +349,13 @@ piece_to v o p to n some' next first =
         let same : ◌≡◌ {A = Offered} (offered p) (record { to = to; n = n; at = y.0; bytes = y.1 }) = cc in
         ap (λ (x : Offered). x.to) same
 
+-- the destination of the message that the next piece is of
+pub message_to : (v : Offering) (o : Option (ℕ × ℕ)) (m : ℕ × ℕ) (to n : ℕ) → o ≡ Some m
+    → o ≡ first_leaving v → first_leaving v ≡ Some (to, n) → m.0 ≡ to
+message_to v o m to n some' front first = by_message (sym some' ∙ front ∙ first) where
+  by_message : Some m ≡ Some (to, n) → m.0 ≡ to
+  by_message is = cc
+
 -- a count of pieces that is raised
 pub count_raised : (items : List ℕ) (x y to : ℕ) → x ≡ to → x < length items → y ≡ get_or items x y
     → set items x (y + 1) ≡ set items to (get_or items to 0 + 1)

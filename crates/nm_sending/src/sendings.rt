@@ -427,7 +427,7 @@ impl Sending {
         ensures counted { self.old.staying ≡ self.new.staying + length (outs result) }
         ensures outbox { self.new.outbox ≡ self.old.outbox }
     {
-        let (to, _) = self.offers.next_piece().unwrap();
+        let (to, _) = self.offers.front().unwrap();
         self.pushed[to as usize] += 1;
         let (to, n) = self.offers.pop_piece()?;
         let departure = self.departures.get(to, n).unwrap();

@@ -11,11 +11,17 @@ use Rattle.nm_sending.specs.Departures.{SendingView}
 use Rattle.nm_sending.specs.Sent.{Keeps}
 use Rattle.nm_sending.specs.Tables.{AreTables}
 use Rattle.nm_sending.proofs.LeavingLemmas.{turn_next}
-use Rattle.nm_sending.proofs.PopLemmas.{goes_on, last_of, piece_to, count_raised, popped_view}
+use Rattle.nm_sending.proofs.PopLemmas.{goes_on, last_of, message_to, count_raised, popped_view}
 use Rattle.nm_sending.proofs.PopLemmas.{more-tables, more-kept, last-tables, last-kept, last-counted}
 use Rattle.nm_sending.proofs.PopLemmas.{after}
+use Rattle.nm_sending.proofs.PieceLemmas.{is_leading}
 use Rattle.nm_sending.proofs.TableLemmas.{rows_now, same_departure}
 use Rattle.nm_sending.proofs.sendings.Sending.pop_piece.Goals as goal
+
+pub unwrap-to-requires : goal.unwrap-to-requires
+unwrap-to-requires c =
+    let there = subst (λ (v : SendingView). IsSome (next_offered v.offers)) (sym c.self.view_is) c.requires in
+    rw (c.front.ensures.first, (is_leading c.self.inside.offers there).1) refl
 
 pub invariant_of-self : goal.invariant_of-self
 invariant_of-self c =
@@ -24,8 +30,8 @@ invariant_of-self c =
     let goes = goes_on a.me a.ranks
     (the_view a) c.self.invariant there c.pop_piece.result c.pop_piece.ensures.last
     c.in_err-to.was in
-    let to = piece_to a.offers c.next_piece.result c.unwrap-to.result goes.to goes.n c.unwrap-to.ensures
-    c.next_piece.ensures.next goes.first in
+    let to = message_to a.offers c.front.result c.unwrap-to.result goes.to goes.n c.unwrap-to.ensures
+    c.front.ensures.first goes.first in
     popped_view (λ (v : SendingView). AreTables a.me a.ranks v) (the_view a) goes.to goes.n a.departures.rows
     a.staying c.pop_piece.new.self _ (is_there (λ m. c.pop_piece.new.self ≡ with_popped a.offers m) goes.first
     c.pop_piece.ensures.popped)
@@ -41,8 +47,8 @@ returns-in_err-to-clause-kept c =
     let goes = goes_on a.me a.ranks
     (the_view a) c.self.invariant there c.pop_piece.result c.pop_piece.ensures.last
     c.in_err-to.was in
-    let to = piece_to a.offers c.next_piece.result c.unwrap-to.result goes.to goes.n c.unwrap-to.ensures
-    c.next_piece.ensures.next goes.first in
+    let to = message_to a.offers c.front.result c.unwrap-to.result goes.to goes.n c.unwrap-to.ensures
+    c.front.ensures.first goes.first in
     let new = after a.me a.ranks (the_view a) c.self.invariant goes.to goes.n goes.first goes.lead goes.within
     a.departures.rows a.staying in
     rw c.from_residual.ensures
@@ -108,8 +114,8 @@ invariant_of-self-2 c =
     (same_departure (sym c.get.ensures ∙ c.unwrap-departure.ensures) last.lead.there) in
     let more = last-counted a.me a.ranks (the_view a) c.self.invariant c.in_ok-to.to c.in_ok-to.n last.first
     last.lead last.within c.set.new.self.rows (a.staying - 1) last.none rows in
-    let to = piece_to a.offers c.next_piece.result c.unwrap-to.result c.in_ok-to.to c.in_ok-to.n
-    c.unwrap-to.ensures c.next_piece.ensures.next last.first in
+    let to = message_to a.offers c.front.result c.unwrap-to.result c.in_ok-to.to c.in_ok-to.n
+    c.unwrap-to.ensures c.front.ensures.first last.first in
     popped_view (λ (v : SendingView). AreTables a.me a.ranks v) (the_view a) c.in_ok-to.to c.in_ok-to.n
     c.set.new.self.rows (a.staying - 1) c.pop_piece.new.self _
     (is_there (λ m. c.pop_piece.new.self ≡ with_popped a.offers m) last.first c.pop_piece.ensures.popped)
@@ -129,8 +135,8 @@ returns-clause-kept c =
     c.unwrap-departure.result
     c.left.result last.lead.departure c.set.ensures c.left.ensures
     (same_departure (sym c.get.ensures ∙ c.unwrap-departure.ensures) last.lead.there) in
-    let to = piece_to a.offers c.next_piece.result c.unwrap-to.result c.in_ok-to.to c.in_ok-to.n
-    c.unwrap-to.ensures c.next_piece.ensures.next last.first in
+    let to = message_to a.offers c.front.result c.unwrap-to.result c.in_ok-to.to c.in_ok-to.n
+    c.unwrap-to.ensures c.front.ensures.first last.first in
     let new = after a.me a.ranks (the_view a) c.self.invariant c.in_ok-to.to c.in_ok-to.n last.first last.lead
     last.within c.set.new.self.rows (a.staying - 1) in
     popped_view (λ (v : SendingView). Keeps c.args.self.now v (Out c.in_ok-to.to c.in_ok-to.n ∷ []))
