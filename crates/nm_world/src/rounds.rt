@@ -15,29 +15,26 @@ use nm_types::{Line, Memory};
 use std::sync::atomic::{AtomicU64, Ordering};
 use std::thread::{Threads, join_mut, yield_now};
 
-// What all actors of a round share: how many of them there are, and how many have nothing to do.
-// It is a hint of when to end, and nothing depends on it.
+// What all actors of a round share: how many of them there are, how many have begun, have nothing to
+// do, and have ended. It is a hint of when to end, and nothing depends on it.
 #[derive(Drop)]
 struct Pace {
     all: u64,
+    begun: AtomicU64,
     idle: AtomicU64,
+    ended: AtomicU64,
 }
 
 impl Pace {
-    // Counts a turn by whether the actor rested before it and whether it moved, and gives way where
-    // it moved nothing. It answers whether no actor has anything to do.
-    fn all_rest(&self, rested: bool, moved: bool) -> bool {
-        if moved {
-            if rested {
-                self.idle.fetch_sub(1, Ordering::SeqCst);
-            }
-            return false;
+    // For how many turns to look on where so many have begun: for one where no other is at work.
+    fn patience(&self, begun: u64) -> u32 {
+        if begun < self.all {
+            PATIENCE_FOR_OTHERS
+        } else if self.ended.load(Ordering::SeqCst).saturating_add(1) >= self.all {
+            1
+        } else {
+            PATIENCE
         }
-        if !rested {
-            self.idle.fetch_add(1, Ordering::SeqCst);
-        }
-        yield_now();
-        self.idle.load(Ordering::SeqCst) >= self.all
     }
 
     // Ends the turns of all, since one of them was refused memory.
@@ -49,6 +46,69 @@ impl Pace {
 // How many turns in a row an actor looks on while none has anything to do. What one of them put
 // under way before it rested may not have been found yet by another.
 const PATIENCE: u32 = 32;
+
+// How many turns in a row it looks on while none of those that have begun has anything to do, and no
+// other begins: one may never, where a thread can't be had until another has ended.
+const PATIENCE_FOR_OTHERS: u32 = 512;
+
+// How an actor keeps pace with those that take turns beside it.
+#[derive(Drop)]
+struct Watch {
+    rests: bool,
+    quiet: u32,
+    begun: u64,
+}
+
+impl Watch {
+    fn begin(pace: &Pace) -> Watch {
+        pace.begun.fetch_add(1, Ordering::SeqCst);
+        Watch {
+            rests: false,
+            quiet: 0,
+            begun: 0,
+        }
+    }
+
+    // Counts a turn by whether it moved anything, and gives way where it moved nothing, but seldom
+    // while only others that have not begun can have anything to do. It answers whether the actor has
+    // looked on for long enough.
+    fn is_over(&mut self, pace: &Pace, moved: bool) -> bool {
+        self.note(pace, !moved);
+        if moved {
+            self.quiet = 0;
+            return false;
+        }
+        let begun = pace.begun.load(Ordering::SeqCst);
+        let is_quiet = begun == self.begun && pace.idle.load(Ordering::SeqCst) >= begun;
+        self.begun = begun;
+        self.quiet = if is_quiet {
+            self.quiet.saturating_add(1)
+        } else {
+            0
+        };
+        if begun >= pace.all || self.quiet % 128 == 0 {
+            yield_now();
+        }
+        self.quiet > pace.patience(begun)
+    }
+
+    // Counts the actor as one that has nothing to do, or has.
+    fn note(&mut self, pace: &Pace, rests: bool) {
+        if rests && !self.rests {
+            pace.idle.fetch_add(1, Ordering::SeqCst);
+        }
+        if !rests && self.rests {
+            pace.idle.fetch_sub(1, Ordering::SeqCst);
+        }
+        self.rests = rests;
+    }
+
+    // Counts the actor as one that takes no more turns.
+    fn end(&mut self, pace: &Pace) {
+        self.note(pace, true);
+        pace.ended.fetch_add(1, Ordering::SeqCst);
+    }
+}
 
 // Turns of one actor, at most so many, until no actor of the round has anything to do.
 fn turns_of<G: Gate>(
@@ -68,8 +128,7 @@ fn turns_of<G: Gate>(
         Idle lines.now actor.old actor.new) }
 {
     let mut moved = false;
-    let mut rests = false;
-    let mut quiet: u32 = 0;
+    let mut watch = Watch::begin(pace);
     for made in 0..turns {
         let one = match actor.turn(lines, f, r, gate) {
             Ok(one) => one,
@@ -79,19 +138,12 @@ fn turns_of<G: Gate>(
             }
         };
         moved = moved | one;
-        quiet = if pace.all_rest(rests, one) {
-            quiet.saturating_add(1)
-        } else {
-            0
-        };
-        if quiet > PATIENCE {
+        if watch.is_over(pace, one) {
+            watch.end(pace);
             return Ok(moved);
         }
-        rests = !one;
     }
-    if !rests {
-        pace.idle.fetch_add(1, Ordering::SeqCst);
-    }
+    watch.end(pace);
     Ok(moved)
 }
 
@@ -170,7 +222,9 @@ pub fn round<R: Threads + Sync, G: Gate + Sync>(
 {
     let pace = Pace {
         all: actors.len() as u64,
+        begun: AtomicU64::new(0),
         idle: AtomicU64::new(0),
+        ended: AtomicU64::new(0),
     };
     halves(rt, actors, lines, f, r, gate, turns, &pace)
 }

@@ -33,8 +33,8 @@ loop-made-preserved g c =
       idle = λ some. idle;
     }
 
-pub returns-then-quiet-gt-PATIENCE : goal.returns-then-quiet-gt-PATIENCE
-returns-then-quiet-gt-PATIENCE g c =
+pub returns-then-is_over : goal.returns-then-is_over
+returns-then-is_over g c =
     let i = c.loop-made.invariant in
     let e = c.in-Ok.ensures in
     let both = kept_and c.args.f.now.ranks c.args.lines.now c.args.f.now c.args.r.now c.args.actor.now
@@ -46,15 +46,8 @@ returns-then-quiet-gt-PATIENCE g c =
           c.in-Ok.one i.kept.grows i.still e.idle;
     }
 
-pub returns-then-not-rests : goal.returns-then-not-rests
-returns-then-not-rests g c =
-    let i = c.loop-made.invariant in
-    let some = c.requires.turns in
-    let past = c.loop-made-test.false in
-    record { kept = i.kept; moved = i.moved; idle = i.idle (omega (arith, some, past)) }
-
-pub returns-else-not-rests : goal.returns-else-not-rests
-returns-else-not-rests g c =
+pub returns : goal.returns
+returns g c =
     let i = c.loop-made.invariant in
     let some = c.requires.turns in
     let past = c.loop-made-test.false in
