@@ -1,0 +1,4 @@
+pub mod Questions
+pub mod Names
+pub mod Starts
+pub mod Promises

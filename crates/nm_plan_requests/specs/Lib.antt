@@ -1,0 +1,4 @@
+pub mod Ends
+pub mod Expansion
+pub mod Requests
+pub mod States

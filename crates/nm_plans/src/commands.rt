@@ -1,0 +1,281 @@
+//! A rank and its command, by the words of a line.
+
+ghost use Rattle.std.specs.Prelude.{◌≡◌, ◌<◌, ◌≤◌, map, IfOk};
+ghost use Rattle.nm_script.specs.Commands.{rank_of};
+ghost use Rattle.nm_plans.specs.declared.faults.PlanKind.TheVariants as kind;
+ghost use Rattle.nm_plans.specs.declared.keywords.Keyword.TheVariants as key;
+ghost use Rattle.nm_plans.specs.Commands.{argument_of, arguments_of, command_of, line_of, parts_of};
+ghost use Rattle.nm_plans.specs.Faults.{Gives, or_kind};
+
+use crate::bodies::body_from;
+use crate::faults::{LineFault, PlanKind};
+use crate::keywords::{Keyword, keyword_from};
+use crate::limits::{MAX_CONTEXT, MAX_PARTS, MAX_REQUEST, MAX_TAG};
+use crate::lines::{PlanCommand, PlanLine};
+use nm_types::MAX_CAPACITY;
+use nm_words::number;
+use std::alloc::Global;
+
+/// A rank and a colon.
+#[tactic(auto, unfolding(nm_script::specs::Commands::rank_of))]
+fn rank_from(ranks: u8, word: &[u8]) -> Result<u8, PlanKind>
+    ensures { result ≡ or_kind (rank_of ranks word.now) kind.Rank }
+{
+    match word {
+        [digits @ .., b':'] => match number(digits, u64::from(ranks)) {
+            Some(rank) => Ok(rank as u8),
+            None => Err(PlanKind::Rank),
+        },
+        _ => Err(PlanKind::Rank),
+    }
+}
+
+/// A number below `limit`.
+#[tactic(auto, unfolding(crate::specs::Commands::argument_of))]
+fn argument(word: &[u8], limit: u64) -> Result<u64, PlanKind>
+    ensures exact { result ≡ argument_of limit word.now }
+    ensures below { IfOk result (λ n. n < limit) }
+{
+    number(word, limit).ok_or(PlanKind::Number)
+}
+
+/// A name of a request.
+fn request_from(word: &[u8]) -> Result<u16, PlanKind>
+    ensures { result ≡ argument_of 4096 word.now }
+{
+    Ok(argument(word, u64::from(MAX_REQUEST) + 1)? as u16)
+}
+
+fn peer_from(ranks: u8, word: &[u8]) -> Result<u8, PlanKind>
+    ensures { result ≡ argument_of ranks word.now }
+{
+    Ok(argument(word, u64::from(ranks))? as u8)
+}
+
+fn tag_from(word: &[u8]) -> Result<u16, PlanKind>
+    ensures { result ≡ argument_of 2048 word.now }
+{
+    Ok(argument(word, u64::from(MAX_TAG) + 1)? as u16)
+}
+
+fn context_from(word: &[u8]) -> Result<u8, PlanKind>
+    ensures { result ≡ argument_of 128 word.now }
+{
+    Ok(argument(word, u64::from(MAX_CONTEXT) + 1)? as u8)
+}
+
+/// A number of parts.
+#[tactic(auto, unfolding(crate::specs::Commands::parts_of))]
+fn parts_from(word: &[u8]) -> Result<u8, PlanKind>
+    ensures { result ≡ parts_of word.now }
+{
+    match argument(word, u64::from(MAX_PARTS) + 1)? {
+        0 => Err(PlanKind::Number),
+        parts => Ok(parts as u8),
+    }
+}
+
+/// The number of a part.
+fn part_from(word: &[u8]) -> Result<u8, PlanKind>
+    ensures { result ≡ argument_of 16 word.now }
+{
+    Ok(argument(word, u64::from(MAX_PARTS))? as u8)
+}
+
+fn capacity_from(word: &[u8]) -> Result<u32, PlanKind>
+    ensures { result ≡ argument_of 1048577 word.now }
+{
+    Ok(argument(word, u64::from(MAX_CAPACITY) + 1)? as u32)
+}
+
+/// A request that sends, by its arguments.
+#[tactic(auto, unfolding(crate::specs::Commands::arguments_of))]
+fn send_init(alloc: Global, ranks: u8, arguments: &[&[u8]]) -> Result<PlanCommand, LineFault>
+    ensures { Gives result (arguments_of ranks key.SendInit (map (λ word. word.now) arguments.now)) }
+{
+    match arguments {
+        [p, to, tag, ctx, body] => Ok(PlanCommand::SendInit {
+            p: request_from(p)?,
+            to: peer_from(ranks, to)?,
+            tag: tag_from(tag)?,
+            ctx: context_from(ctx)?,
+            body: body_from(alloc, body)?,
+        }),
+        _ => Err(LineFault::Bad(PlanKind::Count)),
+    }
+}
+
+/// A request that receives.
+#[tactic(auto, unfolding(crate::specs::Commands::arguments_of))]
+fn recv_init(ranks: u8, arguments: &[&[u8]]) -> Result<PlanCommand, PlanKind>
+    ensures { result ≡ arguments_of ranks key.RecvInit (map (λ word. word.now) arguments.now) }
+{
+    match arguments {
+        [p, from, tag, ctx, cap] => Ok(PlanCommand::RecvInit {
+            p: request_from(p)?,
+            from: peer_from(ranks, from)?,
+            tag: tag_from(tag)?,
+            ctx: context_from(ctx)?,
+            cap: capacity_from(cap)?,
+        }),
+        _ => Err(PlanKind::Count),
+    }
+}
+
+/// A request that sends in parts.
+#[tactic(auto, unfolding(crate::specs::Commands::arguments_of))]
+fn psend_init(alloc: Global, ranks: u8, arguments: &[&[u8]]) -> Result<PlanCommand, LineFault>
+    ensures { Gives result
+        (arguments_of ranks key.PsendInit (map (λ word. word.now) arguments.now)) }
+{
+    match arguments {
+        [p, to, tag, ctx, parts, body] => Ok(PlanCommand::PsendInit {
+            p: request_from(p)?,
+            to: peer_from(ranks, to)?,
+            tag: tag_from(tag)?,
+            ctx: context_from(ctx)?,
+            parts: parts_from(parts)?,
+            body: body_from(alloc, body)?,
+        }),
+        _ => Err(LineFault::Bad(PlanKind::Count)),
+    }
+}
+
+/// A request that receives in parts.
+#[tactic(auto, unfolding(crate::specs::Commands::arguments_of))]
+fn precv_init(ranks: u8, arguments: &[&[u8]]) -> Result<PlanCommand, PlanKind>
+    ensures { result ≡ arguments_of ranks key.PrecvInit (map (λ word. word.now) arguments.now) }
+{
+    match arguments {
+        [p, from, tag, ctx, parts, cap] => Ok(PlanCommand::PrecvInit {
+            p: request_from(p)?,
+            from: peer_from(ranks, from)?,
+            tag: tag_from(tag)?,
+            ctx: context_from(ctx)?,
+            parts: parts_from(parts)?,
+            cap: capacity_from(cap)?,
+        }),
+        _ => Err(PlanKind::Count),
+    }
+}
+
+/// Another body.
+#[tactic(auto, unfolding(crate::specs::Commands::arguments_of))]
+fn fill(alloc: Global, ranks: u8, arguments: &[&[u8]]) -> Result<PlanCommand, LineFault>
+    ensures { Gives result (arguments_of ranks key.Fill (map (λ word. word.now) arguments.now)) }
+{
+    match arguments {
+        [p, body] => Ok(PlanCommand::Fill {
+            p: request_from(p)?,
+            body: body_from(alloc, body)?,
+        }),
+        _ => Err(LineFault::Bad(PlanKind::Count)),
+    }
+}
+
+#[tactic(auto, unfolding(crate::specs::Commands::arguments_of))]
+fn start(ranks: u8, arguments: &[&[u8]]) -> Result<PlanCommand, PlanKind>
+    ensures { result ≡ arguments_of ranks key.Start (map (λ word. word.now) arguments.now) }
+{
+    match arguments {
+        [p] => Ok(PlanCommand::Start {
+            p: request_from(p)?,
+        }),
+        _ => Err(PlanKind::Count),
+    }
+}
+
+#[tactic(auto, unfolding(crate::specs::Commands::arguments_of))]
+fn ready(ranks: u8, arguments: &[&[u8]]) -> Result<PlanCommand, PlanKind>
+    ensures { result ≡ arguments_of ranks key.Ready (map (λ word. word.now) arguments.now) }
+{
+    match arguments {
+        [p, k] => Ok(PlanCommand::Ready {
+            p: request_from(p)?,
+            k: part_from(k)?,
+        }),
+        _ => Err(PlanKind::Count),
+    }
+}
+
+#[tactic(auto, unfolding(crate::specs::Commands::arguments_of))]
+fn arrived(ranks: u8, arguments: &[&[u8]]) -> Result<PlanCommand, PlanKind>
+    ensures { result ≡ arguments_of ranks key.Arrived (map (λ word. word.now) arguments.now) }
+{
+    match arguments {
+        [p, k] => Ok(PlanCommand::Arrived {
+            p: request_from(p)?,
+            k: part_from(k)?,
+        }),
+        _ => Err(PlanKind::Count),
+    }
+}
+
+#[tactic(auto, unfolding(crate::specs::Commands::arguments_of))]
+fn wait(ranks: u8, arguments: &[&[u8]]) -> Result<PlanCommand, PlanKind>
+    ensures { result ≡ arguments_of ranks key.Wait (map (λ word. word.now) arguments.now) }
+{
+    match arguments {
+        [p] => Ok(PlanCommand::Wait {
+            p: request_from(p)?,
+        }),
+        _ => Err(PlanKind::Count),
+    }
+}
+
+/// A command by its arguments.
+fn arguments_from(
+    alloc: Global,
+    ranks: u8,
+    keyword: Keyword,
+    arguments: &[&[u8]],
+) -> Result<PlanCommand, LineFault>
+    ensures { Gives result (arguments_of ranks keyword (map (λ word. word.now) arguments.now)) }
+{
+    match keyword {
+        Keyword::SendInit => send_init(alloc, ranks, arguments),
+        Keyword::RecvInit => Ok(recv_init(ranks, arguments)?),
+        Keyword::PsendInit => psend_init(alloc, ranks, arguments),
+        Keyword::PrecvInit => Ok(precv_init(ranks, arguments)?),
+        Keyword::Fill => fill(alloc, ranks, arguments),
+        Keyword::Start => Ok(start(ranks, arguments)?),
+        Keyword::Ready => Ok(ready(ranks, arguments)?),
+        Keyword::Arrived => Ok(arrived(ranks, arguments)?),
+        Keyword::Wait => Ok(wait(ranks, arguments)?),
+    }
+}
+
+/// A command by its name and its arguments.
+#[tactic(auto, unfolding(crate::specs::Commands::command_of))]
+fn command_from(
+    alloc: Global,
+    ranks: u8,
+    name: &[u8],
+    arguments: &[&[u8]],
+) -> Result<PlanCommand, LineFault>
+    ensures { Gives result (command_of ranks name.now (map (λ word. word.now) arguments.now)) }
+{
+    match keyword_from(name) {
+        Some(keyword) => arguments_from(alloc, ranks, keyword, arguments),
+        None => Err(LineFault::Bad(PlanKind::Command)),
+    }
+}
+
+/// A line that isn't the first, by its words.
+#[tactic(auto, unfolding(crate::specs::Commands::line_of))]
+pub fn line_from(alloc: Global, ranks: u8, words: &[&[u8]]) -> Result<PlanLine, LineFault>
+    ensures { Gives result (line_of ranks (map (λ word. word.now) words.now)) }
+{
+    match words {
+        [] => Err(LineFault::Bad(PlanKind::Rank)),
+        [first] => {
+            rank_from(ranks, first)?;
+            Err(LineFault::Bad(PlanKind::Command))
+        }
+        [first, name, arguments @ ..] => {
+            let rank = rank_from(ranks, first)?;
+            let command = command_from(alloc, ranks, name, arguments)?;
+            Ok(PlanLine { rank, command })
+        }
+    }
+}

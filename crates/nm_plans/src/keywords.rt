@@ -1,0 +1,46 @@
+//! The names of the commands.
+
+ghost use Rattle.std.specs.Prelude.{◌≡◌};
+ghost use Rattle.nm_plans.specs.Grammar.{keyword_of};
+
+/// A command, by its name.
+#[derive(Clone, Copy)]
+pub enum Keyword {
+    SendInit,
+    RecvInit,
+    PsendInit,
+    PrecvInit,
+    Fill,
+    Start,
+    Ready,
+    Arrived,
+    Wait,
+}
+
+/// The command that has this name.
+#[tactic(auto, unfolding(crate::specs::Grammar::keyword_of))]
+pub fn keyword_from(word: &[u8]) -> Option<Keyword>
+    ensures { result ≡ keyword_of word.now }
+{
+    if word == b"sendinit".as_slice() {
+        Some(Keyword::SendInit)
+    } else if word == b"recvinit".as_slice() {
+        Some(Keyword::RecvInit)
+    } else if word == b"psendinit".as_slice() {
+        Some(Keyword::PsendInit)
+    } else if word == b"precvinit".as_slice() {
+        Some(Keyword::PrecvInit)
+    } else if word == b"fill".as_slice() {
+        Some(Keyword::Fill)
+    } else if word == b"start".as_slice() {
+        Some(Keyword::Start)
+    } else if word == b"ready".as_slice() {
+        Some(Keyword::Ready)
+    } else if word == b"arrived".as_slice() {
+        Some(Keyword::Arrived)
+    } else if word == b"wait".as_slice() {
+        Some(Keyword::Wait)
+    } else {
+        None
+    }
+}
