@@ -1,9 +1,10 @@
 -- What is known at the end of the program, whatever its answer is.
-use Rattle.std.proofs.Common.{◌≡◌, ℕ, ◌⊎◌, inl, inr, Bool, true, false, List, Option, None, refl, sym, ◌∙◌}
+use Rattle.std.proofs.Common.{◌≡◌, ℕ, ◌⊎◌, inl, inr, Bool, true, false, List, Option, None, Some, refl, sym, ◌∙◌}
 use Rattle.std.proofs.Common.{arith, subst}
 use Rattle.nm_outside.specs.Told.{Appends, AppendsPart, Rose}
 use Rattle.nm_command_line.specs.CommandLine.{IsTaken}
 use Rattle.nm_command_line.specs.declared.CommandLine.{CommandLine}
+use Rattle.nm_command_line.specs.declared.Mode.{Mode}
 use Rattle.nm_report.specs.declared.records.RunRecord.{RunRecord}
 use Rattle.nm_world.specs.declared.whole.Ways.{Ways}
 use Rattle.nm_multi.specs.Calls.{Logged as Log}
@@ -11,7 +12,7 @@ use Rattle.nm_cli.specs.Answers.{IsAnswer, IsAnswerTo, NotTaken, end_status, log
 use Rattle.nm_cli.specs.Answers.{unread, usage, ways_of}
 use Rattle.nm_cli.specs.Endings.{IsSaid, OrFails, OrUnwritten}
 use Rattle.nm_cli.specs.declared.answers.Answer.{Answer}
-use Rattle.nm_cli.specs.declared.answers.Answer.TheVariants.{Usage, Unread, Ran, Determinate, Logged}
+use Rattle.nm_cli.specs.declared.answers.Answer.TheVariants.{Usage, Unread, Ran, Determinate, Logged, Planned}
 
 -- What is seen of the program: its words, the bytes that the source told with its faults before and after,
 -- what the sink took before and after with its faults, and how it ended.
@@ -37,6 +38,10 @@ pub record Ends (s : Ending) (answer : Answer) : Type 0 where
   pub ways_given : s.closed ≡ ways_of answer
   pub log_given : s.log ≡ log_of answer
   pub one : (line other : CommandLine) → IsTaken s.words line → IsTaken s.words other → line ≡ other
+
+-- words that ask for one thing don't ask for another
+pub other : (P : Mode → Type 0) (m n : Mode) → m ≡ n → (P n → ⊥) → P m → ⊥
+other P m n is isnt h = isnt (subst P is h)
 
 -- the answer is right for what the words ask for
 pub answered_for : (s : Ending) (a : Answer) → Ends s a → (line : CommandLine) → IsTaken s.words line →
@@ -93,6 +98,9 @@ usage_is s (Ran m r w) e h =
 usage_is s (Determinate r) e h =
     let p = said_whole s (Determinate r) e (not_five s 2 h (λ f. cc)) in
     absurd (no_run_status r.done s.status 2 p.0 h (λ z. cc) (λ z. cc))
+usage_is s (Planned q r w) e h =
+    let p = said_whole s (Planned q r w) e (not_five s 2 h (λ f. cc)) in
+    absurd (no_run_status r.done s.status 2 p.0 h (λ z. cc) (λ z. cc))
 usage_is s a e h = absurd (omega (arith, h, (said_whole s a e (not_five s 2 h (λ f. cc))).0))
 
 pub not_taken_is : (s : Ending) (a : Answer) → Ends s a → NotTaken s.words → OrUnwritten (s.status ≡ 2) s.status
@@ -109,12 +117,16 @@ unread_is s (Ran m r w) e h =
 unread_is s (Determinate r) e h =
     let p = said_whole s (Determinate r) e (not_five s 4 h (λ f. cc)) in
     absurd (no_run_status r.done s.status 4 p.0 h (λ z. cc) (λ z. cc))
+unread_is s (Planned q r w) e h =
+    let p = said_whole s (Planned q r w) e (not_five s 4 h (λ f. cc)) in
+    absurd (no_run_status r.done s.status 4 p.0 h (λ z. cc) (λ z. cc))
 unread_is s a e h = absurd (omega (arith, h, (said_whole s a e (not_five s 4 h (λ f. cc))).0))
 
 -- a sink that failed
 no_five : (a : Answer) → 5 ≡ status_of a → ⊥
 no_five (Ran m r w) h = no_run_status r.done 5 5 h refl (λ z. cc) (λ z. cc)
 no_five (Determinate r) h = no_run_status r.done 5 5 h refl (λ z. cc) (λ z. cc)
+no_five (Planned q r w) h = no_run_status r.done 5 5 h refl (λ z. cc) (λ z. cc)
 no_five a h = omega (arith, h)
 
 pub unwritten_is : (s : Ending) (a : Answer) → Ends s a → s.status ≡ 5 →
@@ -127,11 +139,28 @@ unwritten_is s a e h =
       | inr p ↦ (p.1, a, e.right, p.2, e.run_given, e.ways_given, e.log_given)
     ]
 
+-- an ending that was written is not for want of memory
+no_six : (a : Answer) → 6 ≡ status_of a → ⊥
+no_six (Ran m r w) h = no_run_status r.done 6 6 h refl (λ z. cc) (λ z. cc)
+no_six (Determinate r) h = no_run_status r.done 6 6 h refl (λ z. cc) (λ z. cc)
+no_six (Planned q r w) h = no_run_status r.done 6 6 h refl (λ z. cc) (λ z. cc)
+no_six a h = omega (arith, h)
+
+pub not_memory : (s : Ending) (a : Answer) → Ends s a → s.status ≡ 6 → ⊥
+not_memory s a e h =
+    elim e.said [
+      | inl p ↦ no_six a (sym h ∙ p.0)
+      | inr p ↦ omega (arith, h, p.0)
+    ]
+
 -- an answer has nothing to hand out, or its status is another one
 no_record_of : (s : Ending) (a : Answer) → Ends s a → (k : ℕ) → s.status ≡ k → (k ≡ 0 → ⊥) → (k ≡ 1 → ⊥) →
     (k ≡ 5 → ⊥) → (s.run ≡ None) × (s.closed ≡ None) × (s.log ≡ None)
 no_record_of s (Ran m r w) e k h zero one five =
     let p = said_whole s (Ran m r w) e (not_five s k h five) in
+    absurd (no_run_status r.done s.status k p.0 h zero one)
+no_record_of s (Planned q r w) e k h zero one five =
+    let p = said_whole s (Planned q r w) e (not_five s k h five) in
     absurd (no_run_status r.done s.status k p.0 h zero one)
 no_record_of s (Logged t r l) e k h zero one five =
     let p = said_whole s (Logged t r l) e (not_five s k h five) in

@@ -1,6 +1,7 @@
 mod EndLemmas
 mod LineLemmas
 mod PlainEnds
+mod PlanEnds
 mod RunEnds
 mod RunLemmas
 mod SureEnds

@@ -1,27 +1,22 @@
 -- How plain ends.
-use Rattle.std.proofs.Common.{◌≡◌, ℕ, inl, inr, Bool, List, Option, Some, None, sym, ◌∙◌, subst}
+use Rattle.std.proofs.Common.{◌≡◌, ℕ, inl, inr, Bool, List, Option, Some, None}
 use Rattle.std.specs.Option.{IfSome}
 use Rattle.nm_outside.specs.Told.{Appends}
 use Rattle.nm_command_line.specs.CommandLine.{IsTaken}
 use Rattle.nm_command_line.specs.declared.CommandLine.{CommandLine}
-use Rattle.nm_command_line.specs.declared.Mode.{Mode}
-use Rattle.nm_command_line.specs.declared.Mode.TheVariants.{Plain, Multi}
-use Rattle.nm_cli.specs.Answers.{end_status}
-use Rattle.nm_cli.specs.Endings.{IsFree, IsSure, IsWorkedOut, OrFails}
+use Rattle.nm_command_line.specs.declared.Mode.TheVariants.{Plain, Parts, Multi}
+use Rattle.nm_script.specs.declared.faults.Kind.{Kind}
+use Rattle.nm_script.specs.declared.faults.ScriptFault.TheVariants as fault
+use Rattle.nm_cli.specs.Answers.{Refuses, end_status, fault_text}
+use Rattle.nm_cli.specs.Endings.{IsFree, IsRefused, IsSure, IsWorkedOut, OrFails}
 use Rattle.nm_cli.specs.Plains.{IsNotPlain, IsPlain, free_text}
-use Rattle.nm_cli.specs.Scripts.{Runs}
+use Rattle.nm_cli.specs.Scripts.{Runs, read_of}
 use Rattle.nm_cli.specs.declared.answers.Answer.{Answer}
 use Rattle.nm_cli.specs.declared.answers.Answer.TheVariants.{Usage, Unread, Refused, Ran}
-use Rattle.nm_cli.specs.declared.answers.Answer.TheVariants.{Free, Determinate, Logged}
-use Rattle.nm_cli.proofs.EndLemmas.{Ending, Ends, answered_for, or_unread, or_unwritten, run_status, to_fails}
+use Rattle.nm_cli.specs.declared.answers.Answer.TheVariants.{Free, Determinate, NoPlan, Planned, Logged}
+use Rattle.nm_cli.proofs.EndLemmas.{Ending, Ends, answered_for, or_unread, or_unwritten, other}
+use Rattle.nm_cli.proofs.EndLemmas.{run_status, to_fails}
 use Rattle.nm_cli.proofs.RunEnds.{was_refused}
-
--- these words run no script, and no threads
-no_run : (m : Mode) → m ≡ Plain → Runs m → ⊥
-no_run m is runs = subst Runs is runs
-
-no_threads : (m : Mode) (threads rounds : ℕ) → m ≡ Plain → m ≡ Multi threads rounds → ⊥
-no_threads m threads rounds is other = let both : Plain ≡ Multi threads rounds = sym is ∙ other in cc
 
 free_said : (input before after : Option (List ℕ)) (n : ℕ) → IfSome input (IsNotPlain n) →
     Appends before after (free_text n) → IfSome input (IsFree before after)
@@ -43,7 +38,7 @@ plain_is s (Refused n k) e line taken is =
     to_fails s.status (or_unwritten s (Refused n k) e (λ h said.
     inl (h, was_refused s.input s.before s.after n k (answered_for s (Refused n k) e line taken).1 said)))
 plain_is s (Ran m r w) e line taken is =
-    absurd (no_run line.mode is (answered_for s (Ran m r w) e line taken).0)
+    absurd (other Runs line.mode Plain is (λ h. h) (answered_for s (Ran m r w) e line taken).0)
 plain_is s (Free n) e line taken is =
     to_fails s.status (or_unwritten s (Free n) e (λ h said.
     inr (inl (h, free_said s.input s.before s.after n (answered_for s (Free n) e line taken).1 said))))
@@ -54,5 +49,9 @@ plain_is s (Determinate r) e line taken is =
       sure_said line s.input s.before s.after r.text.items r.done s.status
           (answered_for s (Determinate r) e line taken).1 h said,
     ))))
+plain_is s (NoPlan n k) e line taken is =
+    absurd (other (λ m. m ≡ Parts) line.mode Plain is (λ h. cc) (answered_for s (NoPlan n k) e line taken).0)
+plain_is s (Planned q r w) e line taken is =
+    absurd (other (λ m. m ≡ Parts) line.mode Plain is (λ h. cc) (answered_for s (Planned q r w) e line taken).0)
 plain_is s (Logged t r log) e line taken is =
-    absurd (no_threads line.mode t r is (answered_for s (Logged t r log) e line taken).0)
+    absurd (other (λ m. m ≡ Multi t r) line.mode Plain is (λ h. cc) (answered_for s (Logged t r log) e line taken).0)

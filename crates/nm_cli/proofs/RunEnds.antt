@@ -1,5 +1,5 @@
 -- How a run of a script ends: with run, with trace and with flood.
-use Rattle.std.proofs.Common.{◌≡◌, ℕ, ◌<◌, ◌⊎◌, inl, inr, Bool, List, Option, Some, None, arith, subst}
+use Rattle.std.proofs.Common.{◌≡◌, ℕ, ◌<◌, ◌⊎◌, inl, inr, Bool, List, Option, Some, None, sym, arith, subst}
 use Rattle.std.specs.Option.{IfSome, IsSomeAnd}
 use Rattle.nm_types.specs.declared.scripts.Line.{Line}
 use Rattle.nm_outside.specs.Told.{Appends, Rose}
@@ -12,37 +12,32 @@ use Rattle.nm_script.specs.declared.faults.Kind.{Kind}
 use Rattle.nm_script.specs.declared.faults.ScriptFault.TheVariants as fault
 use Rattle.nm_report.specs.declared.records.RunRecord.{RunRecord}
 use Rattle.nm_world.specs.declared.whole.Ways.{Ways}
-use Rattle.nm_cli.specs.Answers.{Refuses, WasRead, end_status, fault_text, run_text}
+use Rattle.nm_cli.specs.Answers.{Refuses, WasRead, end_status, fault_text, run_text, status_of}
 use Rattle.nm_cli.specs.Endings.{IsRefused, IsReported, OrFails, OrUnwritten}
 use Rattle.nm_cli.specs.Plains.{IsNotPlain, IsPlain}
-use Rattle.nm_cli.specs.Scripts.{IsAsked, IsKnown, IsRunOfWords, Makes, Reads, Runs, read_of}
+use Rattle.nm_cli.specs.Scripts.{HandsOut, IsAsked, IsKnown, IsRunOfWords, Makes, Reads}
+use Rattle.nm_cli.specs.Scripts.{ReadsSource, Runs, read_of}
 use Rattle.nm_cli.specs.declared.answers.Answer.{Answer}
 use Rattle.nm_cli.specs.declared.answers.Answer.TheVariants.{Usage, Unread, Refused, Ran}
-use Rattle.nm_cli.specs.declared.answers.Answer.TheVariants.{Free, Determinate, Logged}
+use Rattle.nm_cli.specs.declared.answers.Answer.TheVariants.{Free, Determinate, NoPlan, Planned, Logged}
 use Rattle.nm_cli.proofs.EndLemmas.{Ending, Ends, answered_for, no_run_status, not_five, or_unread, or_unwritten}
-use Rattle.nm_cli.proofs.EndLemmas.{run_status, said_whole, to_fails, unless_failed}
+use Rattle.nm_cli.proofs.EndLemmas.{other, run_status, said_whole, to_fails, unless_failed}
 
--- no script is read for a flood
-made_unread : (m : Mode) → Makes m → Reads m → ⊥
+-- nothing is read for a flood
+made_unread : (m : Mode) → Makes m → ReadsSource m → ⊥
 made_unread (mode.Flood key ranks messages) makes reads = reads
 made_unread m makes reads = makes
 
--- several threads run no script
-no_threads : (m : Mode) (threads rounds : ℕ) → m ≡ mode.Multi threads rounds → Runs m → ⊥
-no_threads m threads rounds is runs = subst Runs is runs
+made_unread_script : (m : Mode) → Makes m → Reads m → ⊥
+made_unread_script (mode.Flood key ranks messages) makes reads = reads
+made_unread_script m makes reads = makes
 
-no_reading : (m : Mode) (threads rounds : ℕ) → m ≡ mode.Multi threads rounds → Reads m → ⊥
-no_reading m threads rounds is reads = subst Reads is reads
-
--- nor does plain
-no_plain : (m : Mode) → m ≡ mode.Plain → Runs m → ⊥
-no_plain m is runs = subst Runs is runs
-
-no_plain_making : (m : Mode) → m ≡ mode.Plain → Makes m → ⊥
-no_plain_making m is makes = subst Makes is makes
-
-no_making : (m : Mode) (threads rounds : ℕ) → m ≡ mode.Multi threads rounds → Makes m → ⊥
-no_making m threads rounds is makes = subst Makes is makes
+-- who runs a script hands out its record
+hands_out : (m : Mode) → Runs m → HandsOut m
+hands_out mode.Run runs = tt
+hands_out mode.Trace runs = tt
+hands_out (mode.Flood key ranks messages) runs = tt
+hands_out m runs = absurd runs
 
 -- a script that is known was read, where it is read
 known_text : (m : Mode) (input : Option (List ℕ)) (ranks : ℕ) (lines : List Line) → Reads m →
@@ -109,17 +104,23 @@ reported_of s line m r w e same of_words end said =
       said = subst (λ m. Appends s.before s.after (run_text m r)) same said;
     }
 
-pub refused_is : (s : Ending) (a : Answer) → Ends s a → s.status ≡ 3 →
-    (line : CommandLine) × IsTaken s.words line × Reads line.mode × IfSome s.input (IsRefused s.before s.after)
+pub refused_is : (s : Ending) (a : Answer) → Ends s a → s.status ≡ 3 → (line : CommandLine) × IsTaken s.words line
+    × (Reads line.mode → IfSome s.input (IsRefused s.before s.after))
 refused_is s (Refused n k) e h =
     let said = (said_whole s (Refused n k) e (not_five s 3 h (λ f. cc))).1 in
     let told = was_refused s.input s.before s.after n k e.right.right.1 said in
-    (e.right.line, e.right.taken, e.right.right.0, told)
+    (e.right.line, e.right.taken, λ reads. told)
+refused_is s (NoPlan n k) e h =
+    let right = e.right.right in
+    (e.right.line, e.right.taken, λ reads. absurd (other Reads e.right.line.mode mode.Parts right.0 (λ r. r) reads))
 refused_is s (Ran m r w) e h =
     let p = said_whole s (Ran m r w) e (not_five s 3 h (λ f. cc)) in
     absurd (no_run_status r.done s.status 3 p.0 h (λ z. cc) (λ z. cc))
 refused_is s (Determinate r) e h =
     let p = said_whole s (Determinate r) e (not_five s 3 h (λ f. cc)) in
+    absurd (no_run_status r.done s.status 3 p.0 h (λ z. cc) (λ z. cc))
+refused_is s (Planned q r w) e h =
+    let p = said_whole s (Planned q r w) e (not_five s 3 h (λ f. cc)) in
     absurd (no_run_status r.done s.status 3 p.0 h (λ z. cc) (λ z. cc))
 refused_is s a e h = absurd (omega (arith, h, (said_whole s a e (not_five s 3 h (λ f. cc))).0))
 
@@ -136,8 +137,12 @@ refuses_is s (Free n) e line taken reads =
     free_some s.input n _ (answered_for s (Free n) e line taken).1
 refuses_is s (Determinate r) e line taken reads =
     plain_some line s.input r.text.items r.done _ (answered_for s (Determinate r) e line taken).1
+refuses_is s (NoPlan n k) e line taken reads =
+    absurd (other Reads line.mode mode.Parts (answered_for s (NoPlan n k) e line taken).0 (λ r. r) reads)
+refuses_is s (Planned q r w) e line taken reads =
+    absurd (other Reads line.mode mode.Parts (answered_for s (Planned q r w) e line taken).0 (λ r. r) reads)
 refuses_is s (Logged t r log) e line taken reads =
-    absurd (no_reading line.mode t r (answered_for s (Logged t r log) e line taken).0 reads)
+    absurd (other Reads line.mode (mode.Multi t r) (answered_for s (Logged t r log) e line taken).0 (λ r. r) reads)
 
 -- 0 and 1 are no other statuses
 no_run : (status k : ℕ) → status ≡ k → 1 < k → (status ≡ 0) ⊎ (status ≡ 1) → ⊥
@@ -156,9 +161,14 @@ reported_is s (Ran m r w) e h =
     let p = said_whole s (Ran m r w) e (run_not_five s.status h) in
     (line, e.right.taken, λ runs. reported_of s line m r w e e.right.right.1 e.right.right.2 p.0 p.1)
 reported_is s (Determinate r) e h =
-    (e.right.line, e.right.taken, λ runs. absurd (no_plain e.right.line.mode e.right.right.0 runs))
+    let line = e.right.line in
+    (line, e.right.taken, λ runs. absurd (other Runs line.mode mode.Plain e.right.right.0 (λ r. r) runs))
+reported_is s (Planned q r w) e h =
+    let line = e.right.line in
+    (line, e.right.taken, λ runs. absurd (other Runs line.mode mode.Parts e.right.right.0 (λ r. r) runs))
 reported_is s (Logged t r log) e h =
-    (e.right.line, e.right.taken, λ runs. absurd (no_threads e.right.line.mode t r e.right.right.0 runs))
+    let line = e.right.line in
+    (line, e.right.taken, λ runs. absurd (other Runs line.mode (mode.Multi t r) e.right.right.0 (λ r. r) runs))
 reported_is s a e h =
     absurd (no_run s.status _ (said_whole s a e (run_not_five s.status h)).0 (omega arith) h)
 
@@ -173,11 +183,15 @@ reports_is s (Refused n k) e line taken runs ranks lines known =
 reports_is s (Ran m r w) e line taken runs ranks lines known =
     to_fails s.status (or_unwritten s (Ran m r w) e (λ h said. run_status r.done s.status h))
 reports_is s (Free n) e line taken runs ranks lines known =
-    absurd (no_plain line.mode (answered_for s (Free n) e line taken).0 runs)
+    absurd (other Runs line.mode mode.Plain (answered_for s (Free n) e line taken).0 (λ r. r) runs)
 reports_is s (Determinate r) e line taken runs ranks lines known =
-    absurd (no_plain line.mode (answered_for s (Determinate r) e line taken).0 runs)
+    absurd (other Runs line.mode mode.Plain (answered_for s (Determinate r) e line taken).0 (λ r. r) runs)
+reports_is s (NoPlan n k) e line taken runs ranks lines known =
+    absurd (other Runs line.mode mode.Parts (answered_for s (NoPlan n k) e line taken).0 (λ r. r) runs)
+reports_is s (Planned q r w) e line taken runs ranks lines known =
+    absurd (other Runs line.mode mode.Parts (answered_for s (Planned q r w) e line taken).0 (λ r. r) runs)
 reports_is s (Logged t r log) e line taken runs ranks lines known =
-    absurd (no_threads line.mode t r (answered_for s (Logged t r log) e line taken).0 runs)
+    absurd (other Runs line.mode (mode.Multi t r) (answered_for s (Logged t r log) e line taken).0 (λ r. r) runs)
 
 pub completes_is : (s : Ending) (a : Answer) → Ends s a → (line : CommandLine) → IsTaken s.words line →
     Runs line.mode → (ranks : ℕ) (lines : List Line) → IsKnown line.mode s.input ranks lines →
@@ -192,11 +206,15 @@ completes_is s (Ran m r w) e line taken runs ranks lines known read write =
     let right = answered_for s (Ran m r w) e line taken in
     unless_failed s (Ran m r w) e write (λ h said. reported_of s line m r w e right.1 right.2 h said)
 completes_is s (Free n) e line taken runs ranks lines known read write =
-    absurd (no_plain line.mode (answered_for s (Free n) e line taken).0 runs)
+    absurd (other Runs line.mode mode.Plain (answered_for s (Free n) e line taken).0 (λ r. r) runs)
 completes_is s (Determinate r) e line taken runs ranks lines known read write =
-    absurd (no_plain line.mode (answered_for s (Determinate r) e line taken).0 runs)
+    absurd (other Runs line.mode mode.Plain (answered_for s (Determinate r) e line taken).0 (λ r. r) runs)
+completes_is s (NoPlan n k) e line taken runs ranks lines known read write =
+    absurd (other Runs line.mode mode.Parts (answered_for s (NoPlan n k) e line taken).0 (λ r. r) runs)
+completes_is s (Planned q r w) e line taken runs ranks lines known read write =
+    absurd (other Runs line.mode mode.Parts (answered_for s (Planned q r w) e line taken).0 (λ r. r) runs)
 completes_is s (Logged t r log) e line taken runs ranks lines known read write =
-    absurd (no_threads line.mode t r (answered_for s (Logged t r log) e line taken).0 runs)
+    absurd (other Runs line.mode (mode.Multi t r) (answered_for s (Logged t r log) e line taken).0 (λ r. r) runs)
 
 was_read : (s : Ending) (a : Answer) → Ends s a → (s.status ≡ 0) ⊎ ((s.status ≡ 1) ⊎ (s.status ≡ 3)) → WasRead a
 was_read s Unread e (inl h) = omega (arith, h, (said_whole s Unread e (not_five s 0 h (λ f. cc))).0)
@@ -214,17 +232,24 @@ made_is s Usage e line taken makes = absurd (e.right line taken)
 made_is s Unread e line taken makes =
     absurd (made_unread line.mode makes (answered_for s Unread e line taken).0)
 made_is s (Refused n k) e line taken makes =
-    absurd (made_unread line.mode makes (answered_for s (Refused n k) e line taken).0)
+    absurd (made_unread_script line.mode makes (answered_for s (Refused n k) e line taken).0)
 made_is s (Ran m r w) e line taken makes = or_unwritten s (Ran m r w) e (λ h said. run_status r.done s.status h)
 made_is s (Free n) e line taken makes =
-    absurd (no_plain_making line.mode (answered_for s (Free n) e line taken).0 makes)
+    absurd (other Makes line.mode mode.Plain (answered_for s (Free n) e line taken).0 (λ r. r) makes)
 made_is s (Determinate r) e line taken makes =
-    absurd (no_plain_making line.mode (answered_for s (Determinate r) e line taken).0 makes)
+    absurd (other Makes line.mode mode.Plain (answered_for s (Determinate r) e line taken).0 (λ r. r) makes)
+made_is s (NoPlan n k) e line taken makes =
+    absurd (other Makes line.mode mode.Parts (answered_for s (NoPlan n k) e line taken).0 (λ r. r) makes)
+made_is s (Planned q r w) e line taken makes =
+    absurd (other Makes line.mode mode.Parts (answered_for s (Planned q r w) e line taken).0 (λ r. r) makes)
 made_is s (Logged t r log) e line taken makes =
-    absurd (no_making line.mode t r (answered_for s (Logged t r log) e line taken).0 makes)
+    absurd (other Makes line.mode (mode.Multi t r) (answered_for s (Logged t r log) e line taken).0 (λ r. r) makes)
 
 -- words that run no script hand out no record
 pub no_run_is : (s : Ending) (a : Answer) → Ends s a → (line : CommandLine) → IsTaken s.words line →
-    (Runs line.mode → ⊥) → (s.run ≡ None) × (s.closed ≡ None)
-no_run_is s (Ran m r w) e line taken none = absurd (none (answered_for s (Ran m r w) e line taken).0)
+    (HandsOut line.mode → ⊥) → (s.run ≡ None) × (s.closed ≡ None)
+no_run_is s (Ran m r w) e line taken none =
+    absurd (none (hands_out line.mode (answered_for s (Ran m r w) e line taken).0))
+no_run_is s (Planned q r w) e line taken none =
+    absurd (none (subst HandsOut (sym (answered_for s (Planned q r w) e line taken).0) tt))
 no_run_is s a e line taken none = (e.run_given, e.ways_given)

@@ -1,5 +1,5 @@
 -- What runs and reads say of an answer.
-use Rattle.std.proofs.Common.{◌≡◌, ℕ, Bool, List, ◌++◌, Option, Some, None, take, drop, sym, ap, ◌∙◌, subst}
+use Rattle.std.proofs.Common.{◌≡◌, ℕ, Bool, List, ◌++◌, Option, Some, None, take, drop, refl, sym, ap, ◌∙◌, subst}
 use Rattle.std.specs.Option.{IfSome}
 use Rattle.std.proofs.lemmas.List.{append_cancel_left, take-append-drop}
 use Rattle.nm_types.specs.declared.scripts.Line.{Line}
@@ -8,7 +8,7 @@ use Rattle.nm_types.specs.Sizes.{Sizes}
 use Rattle.nm_outside.specs.Told.{ReadSoFar}
 use Rattle.nm_command_line.specs.declared.CommandLine.{CommandLine}
 use Rattle.nm_command_line.specs.declared.Mode.{Mode}
-use Rattle.nm_command_line.specs.declared.Mode.TheVariants.{Run, Trace, Plain}
+use Rattle.nm_command_line.specs.declared.Mode.TheVariants.{Run, Trace, Plain, Parts}
 use Rattle.nm_script.specs.Spelled.{IsTextOf}
 use Rattle.nm_report.specs.Cells.{AllCellsFree}
 use Rattle.nm_report.specs.Ends.{are_done, ends_of}
@@ -21,9 +21,16 @@ use Rattle.nm_world.specs.declared.whole.Ways.{Ways}
 use Rattle.nm_sure.specs.Agree.{ArePlain}
 use Rattle.nm_sure.specs.Plain.{first_free}
 use Rattle.nm_sure.specs.PlainText.{plain_done, plain_text}
-use Rattle.nm_cli.specs.Answers.{CanBeTold, IsAnswerFor, IsAnswerTo}
+use Rattle.nm_plan_requests.specs.Expansion.{expand}
+use Rattle.nm_persist.specs.Rules.{IsTextOf as IsPlanText}
+use Rattle.nm_plans.specs.declared.faults.PlanFault.{PlanFault}
+use Rattle.nm_plans.specs.declared.faults.PlanFault.TheVariants as plan_fault
+use Rattle.nm_plans.specs.declared.lines.PlanLine.{PlanLine}
+use Rattle.nm_cli.specs.Answers.{CanBeTold, IsAnswerFor, IsAnswerForPlan, IsAnswerTo}
 use Rattle.nm_cli.specs.Plains.{IsNotPlain, IsPlain}
-use Rattle.nm_cli.specs.Scripts.{IsAsked, IsRunOfScript, Reads, read_of, sizes_for}
+use Rattle.nm_cli.specs.Answers.{IsAnswerForBytes}
+use Rattle.nm_cli.specs.Plans.{IsRunOfPlan, PlanRefuses}
+use Rattle.nm_cli.specs.Scripts.{IsAsked, IsRunOfScript, Reads, ReadsSource, read_of, sizes_for}
 use Rattle.nm_cli.specs.declared.answers.Answer.{Answer}
 use Rattle.nm_cli.specs.declared.answers.Answer.TheVariants as answer
 
@@ -84,6 +91,61 @@ told line ranks lines (answer.Ran mode run ways) h = h.3
 told line ranks lines (answer.Free number) h = tt
 told line ranks lines (answer.Determinate run) h = tt
 told line ranks lines a h = absurd h
+
+-- a plan that the bytes spell, and its run
+pub plan_of_bytes : (line : CommandLine) (bytes : List ℕ) (ranks : ℕ) (lines : List PlanLine) →
+    IsPlanText bytes ranks lines → (a : Answer) → IsAnswerForPlan line ranks lines a → IsAnswerForBytes line bytes a
+plan_of_bytes line bytes ranks lines text (answer.Planned plan run ways) h =
+    let spelled : IsPlanText bytes ranks plan.lines = subst (λ ls. IsPlanText bytes ranks ls) (sym h.0) text in
+    let of_script : IsRunOfScript line ranks (expand plan.lines) run ways =
+    subst (λ ls. IsRunOfScript line ranks (expand ls) run ways) (sym h.0) h.1 in
+    (ranks, spelled, of_script)
+plan_of_bytes line bytes ranks lines text a h = absurd h
+
+-- what was read spells the plan
+pub plan_spelled : (input : Option (List ℕ)) (read : List ℕ) (ranks : ℕ) (lines : List PlanLine) →
+    IfSome input (λ bytes. read ≡ take 8388609 bytes) → IsPlanText read ranks lines →
+    IfSome input (λ bytes. IsPlanText (read_of bytes) ranks lines)
+plan_spelled None read ranks lines is text = tt
+plan_spelled (Some bytes) read ranks lines is text = subst (λ bytes. IsPlanText bytes ranks lines) is text
+
+-- what was read is refused
+pub plan_refused : (input : Option (List ℕ)) (read : List ℕ) (e : PlanFault) →
+    IfSome input (λ bytes. read ≡ take 8388609 bytes) → PlanRefuses read e →
+    IfSome input (λ bytes. PlanRefuses (read_of bytes) e)
+plan_refused None read e is refuses = tt
+plan_refused (Some bytes) read e is refuses = subst (λ bytes. PlanRefuses bytes e) is refuses
+
+-- what the bytes that were read spell answers the words
+pub bytes_answered : (line : CommandLine) (input : Option (List ℕ)) (old new : ℕ) (read : List ℕ) →
+    line.mode ≡ Parts → IfSome input (λ bytes. read ≡ take 8388609 bytes) → (a : Answer) →
+    IsAnswerForBytes line read a → IsAnswerTo line input old new a
+bytes_answered line input old new read parts is (answer.NoPlan n k) h =
+    (parts, plan_refused input read (plan_fault.Bad n k) is h)
+bytes_answered line input old new read parts is (answer.Planned plan run ways) h =
+    let of_plan : IsRunOfPlan line input plan.lines run ways = record {
+      ranks = h.0;
+      plan = h.1.limits;
+      spelled = plan_spelled input read h.0 plan.lines is h.1;
+      of_script = h.2;
+    } in
+    (parts, of_plan)
+bytes_answered line input old new read parts is a h = absurd h
+
+pub bytes_told : (line : CommandLine) (read : List ℕ) (a : Answer) → IsAnswerForBytes line read a → CanBeTold a
+bytes_told line read (answer.NoPlan n k) h = tt
+bytes_told line read (answer.Planned plan run ways) h = tt
+bytes_told line read a h = absurd h
+
+-- these words read the source
+pub reads_source : (m : Mode) → Reads m → ReadsSource m
+reads_source Run reads = tt
+reads_source Trace reads = tt
+reads_source Plain reads = tt
+reads_source m reads = absurd reads
+
+pub parts_read : (m : Mode) → m ≡ Parts → ReadsSource m
+parts_read m is = subst ReadsSource (sym is) tt
 
 -- what was read spells the script
 pub spelled : (input : Option (List ℕ)) (read : List ℕ) (ranks : ℕ) (lines : List Line) →

@@ -4,26 +4,16 @@ use Rattle.nm_outside.specs.Told.{Appends}
 use Rattle.nm_command_line.specs.CommandLine.{IsTaken}
 use Rattle.nm_command_line.specs.declared.CommandLine.{CommandLine}
 use Rattle.nm_command_line.specs.declared.Mode.{Mode}
-use Rattle.nm_command_line.specs.declared.Mode.TheVariants.{Plain, Multi}
+use Rattle.nm_command_line.specs.declared.Mode.TheVariants.{Plain, Parts, Multi}
 use Rattle.nm_multi.specs.Calls.{Logged as Log}
 use Rattle.nm_multi.specs.Programs.{IsWhole}
 use Rattle.nm_multi.specs.Text.{log_text}
 use Rattle.nm_cli.specs.Endings.{IsLogged, OrUnwritten}
-use Rattle.nm_cli.specs.Scripts.{Reads, Runs}
+use Rattle.nm_cli.specs.Scripts.{Reads, ReadsSource, Runs}
 use Rattle.nm_cli.specs.declared.answers.Answer.{Answer}
 use Rattle.nm_cli.specs.declared.answers.Answer.TheVariants.{Usage, Unread, Refused, Ran}
-use Rattle.nm_cli.specs.declared.answers.Answer.TheVariants.{Free, Determinate, Logged}
-use Rattle.nm_cli.proofs.EndLemmas.{Ending, Ends, answered_for, or_unwritten}
-
--- these words run no script, and read none
-no_run : (m : Mode) (threads rounds : ℕ) → m ≡ Multi threads rounds → Runs m → ⊥
-no_run m threads rounds is runs = subst Runs is runs
-
-no_read : (m : Mode) (threads rounds : ℕ) → m ≡ Multi threads rounds → Reads m → ⊥
-no_read m threads rounds is reads = subst Reads is reads
-
-no_plain : (m : Mode) (threads rounds : ℕ) → m ≡ Multi threads rounds → m ≡ Plain → ⊥
-no_plain m threads rounds is other = let both : Multi threads rounds ≡ Plain = sym is ∙ other in cc
+use Rattle.nm_cli.specs.declared.answers.Answer.TheVariants.{Free, Determinate, NoPlan, Planned, Logged}
+use Rattle.nm_cli.proofs.EndLemmas.{Ending, Ends, answered_for, or_unwritten, other}
 
 same_numbers : (m : Mode) (t r threads rounds : ℕ) → m ≡ Multi t r → m ≡ Multi threads rounds →
     (t ≡ threads) × (r ≡ rounds)
@@ -42,22 +32,28 @@ logged_of s t r threads rounds log e same_threads same_rounds whole said =
 pub logged_is : (s : Ending) (a : Answer) → Ends s a → (line : CommandLine) → IsTaken s.words line →
     (threads rounds : ℕ) → line.mode ≡ Multi threads rounds →
     OrUnwritten ((s.status ≡ 0) × IsLogged threads rounds s.log s.before s.after) s.status
-logged_is s Usage e line taken threads rounds is = absurd (e.right line taken)
-logged_is s Unread e line taken threads rounds is =
-    absurd (no_read line.mode threads rounds is (answered_for s Unread e line taken).0)
-logged_is s (Refused n k) e line taken threads rounds is =
-    absurd (no_read line.mode threads rounds is (answered_for s (Refused n k) e line taken).0)
-logged_is s (Ran m r w) e line taken threads rounds is =
-    absurd (no_run line.mode threads rounds is (answered_for s (Ran m r w) e line taken).0)
-logged_is s (Free n) e line taken threads rounds is =
-    absurd (no_plain line.mode threads rounds is (answered_for s (Free n) e line taken).0)
-logged_is s (Determinate r) e line taken threads rounds is =
-    absurd (no_plain line.mode threads rounds is (answered_for s (Determinate r) e line taken).0)
-logged_is s (Logged t r log) e line taken threads rounds is =
-    let right = answered_for s (Logged t r log) e line taken in
-    let same = same_numbers line.mode t r threads rounds right.0 is in
-    or_unwritten s (Logged t r log) e (λ h said.
-    (h, logged_of s t r threads rounds log e same.0 same.1 right.1 said))
+logged_is s Usage e line taken t r is = absurd (e.right line taken)
+logged_is s Unread e line taken t r is =
+    absurd (other ReadsSource line.mode (Multi t r) is (λ h. h) (answered_for s Unread e line taken).0)
+logged_is s (Refused n k) e line taken t r is =
+    absurd (other Reads line.mode (Multi t r) is (λ h. h) (answered_for s (Refused n k) e line taken).0)
+logged_is s (Ran m run w) e line taken t r is =
+    absurd (other Runs line.mode (Multi t r) is (λ h. h) (answered_for s (Ran m run w) e line taken).0)
+logged_is s (Free n) e line taken t r is =
+    absurd (other (λ m. m ≡ Plain) line.mode (Multi t r) is (λ h. cc) (answered_for s (Free n) e line taken).0)
+logged_is s (Determinate run) e line taken t r is =
+    absurd (other (λ m. m ≡ Plain) line.mode (Multi t r) is (λ h. cc)
+    (answered_for s (Determinate run) e line taken).0)
+logged_is s (NoPlan n k) e line taken t r is =
+    absurd (other (λ m. m ≡ Parts) line.mode (Multi t r) is (λ h. cc) (answered_for s (NoPlan n k) e line taken).0)
+logged_is s (Planned q run w) e line taken t r is =
+    absurd (other (λ m. m ≡ Parts) line.mode (Multi t r) is (λ h. cc)
+    (answered_for s (Planned q run w) e line taken).0)
+logged_is s (Logged its_t its_r log) e line taken t r is =
+    let right = answered_for s (Logged its_t its_r log) e line taken in
+    let same = same_numbers line.mode its_t its_r t r right.0 is in
+    or_unwritten s (Logged its_t its_r log) e (λ h said.
+    (h, logged_of s its_t its_r t r log e same.0 same.1 right.1 said))
 
 -- other words hand out no log
 pub no_log_is : (s : Ending) (a : Answer) → Ends s a → (line : CommandLine) → IsTaken s.words line →

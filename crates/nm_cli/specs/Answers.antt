@@ -23,12 +23,19 @@ use Rattle.nm_multi.specs.Text.{bytes_got, log_text}
 use Rattle.nm_world.specs.declared.whole.Ways.{Ways}
 use Rattle.nm_cli.specs.declared.answers.Answer.{Answer}
 use Rattle.nm_cli.specs.declared.answers.Answer.TheVariants.{Usage, Unread, Refused, Ran}
-use Rattle.nm_cli.specs.declared.answers.Answer.TheVariants.{Free, Determinate, Logged}
+use Rattle.nm_cli.specs.declared.answers.Answer.TheVariants.{Free, Determinate, NoPlan, Planned, Logged}
 use Rattle.nm_sure.specs.Agree.{ArePlain}
 use Rattle.nm_sure.specs.Plain.{first_free}
 use Rattle.nm_sure.specs.PlainText.{plain_done, plain_text}
+use Rattle.nm_plan_requests.specs.Expansion.{expand}
+use Rattle.nm_plans.specs.declared.faults.PlanFault.TheVariants as plan_fault
+use Rattle.nm_plans.specs.declared.lines.PlanLine.{PlanLine}
+use Rattle.nm_persist.specs.Report.{run_text as plan_run_text}
+use Rattle.nm_persist.specs.Rules.{IsTextOf as IsPlanText}
 use Rattle.nm_cli.specs.Plains.{IsNotPlain, IsPlain, free_text}
-use Rattle.nm_cli.specs.Scripts.{IsRunOfScript, IsRunOfWords, Reads, Runs, read_of, sizes_for}
+use Rattle.nm_cli.specs.Plans.{IsRunOfPlan, PlanRefuses, plan_fault_text}
+use Rattle.nm_cli.specs.Scripts.{IsRunOfScript, IsRunOfWords, Reads, ReadsSource, Runs}
+use Rattle.nm_cli.specs.Scripts.{read_of, sizes_for}
 
 -- what is said of words that are not taken
 abbrev pub usage : List ℕ
@@ -37,6 +44,7 @@ usage =
     ++ codes "       nemesis trace [--cells N] [--eager N]\n"
     ++ codes "       nemesis flood KEY RANKS MESSAGES [--cells N] [--eager N]\n"
     ++ codes "       nemesis plain [--cells N] [--eager N]\n"
+    ++ codes "       nemesis parts [--cells N] [--eager N]\n"
     ++ codes "       nemesis multi THREADS ROUNDS\n"
 
 -- the name of a kind of fault
@@ -76,6 +84,8 @@ text_of (Refused line kind) = fault_text line kind
 text_of (Ran mode run ways) = run_text mode run
 text_of (Free line) = free_text line
 text_of (Determinate run) = run.text.items
+text_of (NoPlan line kind) = plan_fault_text line kind
+text_of (Planned plan run ways) = plan_run_text plan.lines run
 text_of (Logged threads rounds log) = log_text threads rounds log.entries
 
 -- the status of a run: whether every rank is at its end
@@ -90,16 +100,20 @@ status_of (Refused line kind) = 3
 status_of (Ran mode run ways) = end_status run.done
 status_of (Free line) = 7
 status_of (Determinate run) = end_status run.done
+status_of (NoPlan line kind) = 3
+status_of (Planned plan run ways) = end_status run.done
 status_of (Logged threads rounds log) = 0
 
 -- the record of an answer
 abbrev pub run_of : Answer → Option RunRecord
 run_of (Ran mode run ways) = Some run
+run_of (Planned plan run ways) = Some run
 run_of _ = None
 
 -- what the closed ports of its run kept
 abbrev pub ways_of : Answer → Option Ways
 ways_of (Ran mode run ways) = Some ways
+ways_of (Planned plan run ways) = Some ways
 ways_of _ = None
 
 -- the log of an answer
@@ -124,6 +138,19 @@ IsAnswerFor line ranks lines (Determinate run) =
     × (run.text.items ≡ plain_text (sizes_for line ranks) lines)
     × (run.done ≡ plain_done (sizes_for line ranks) lines)
 IsAnswerFor line ranks lines _ = ⊥
+
+-- the script of a plan ran
+abbrev pub IsAnswerForPlan : CommandLine → ℕ → List PlanLine → Answer → Type 0
+IsAnswerForPlan line ranks lines (Planned plan run ways) =
+    (plan.lines ≡ lines) × IsRunOfScript line ranks (expand lines) run ways
+IsAnswerForPlan line ranks lines _ = ⊥
+
+-- the bytes spell a plan, whose script ran, or none
+abbrev pub IsAnswerForBytes : CommandLine → List ℕ → Answer → Type 0
+IsAnswerForBytes line bytes (NoPlan number kind) = PlanRefuses bytes (plan_fault.Bad number kind)
+IsAnswerForBytes line bytes (Planned plan run ways) =
+    (ranks : ℕ) × IsPlanText bytes ranks plan.lines × IsRunOfScript line ranks (expand plan.lines) run ways
+IsAnswerForBytes line bytes _ = ⊥
 
 -- the log is that of so many threads of so many rounds, and its numbers fit a summary
 abbrev pub IsLogOf : ℕ → ℕ → Answer → Type 0
@@ -154,7 +181,7 @@ Refuses bytes fault.Memory = Unit {0}
 -- tells them, and by its count of faults before and after.
 abbrev pub IsAnswerTo : CommandLine → Option (List ℕ) → ℕ → ℕ → Answer → Type 0
 IsAnswerTo line input old new Usage = ⊥
-IsAnswerTo line input old new Unread = Reads line.mode × Rose old new
+IsAnswerTo line input old new Unread = ReadsSource line.mode × Rose old new
 IsAnswerTo line input old new (Refused number kind) =
     Reads line.mode × IfSome input (λ bytes. Refuses (read_of bytes) (fault.Bad number kind))
 IsAnswerTo line input old new (Ran mode run ways) =
@@ -162,6 +189,10 @@ IsAnswerTo line input old new (Ran mode run ways) =
 IsAnswerTo line input old new (Free number) = (line.mode ≡ mode.Plain) × IfSome input (IsNotPlain number)
 IsAnswerTo line input old new (Determinate run) =
     (line.mode ≡ mode.Plain) × IfSome input (IsPlain line run.text.items run.done)
+IsAnswerTo line input old new (NoPlan number kind) =
+    (line.mode ≡ mode.Parts) × IfSome input (λ bytes. PlanRefuses (read_of bytes) (plan_fault.Bad number kind))
+IsAnswerTo line input old new (Planned plan run ways) =
+    (line.mode ≡ mode.Parts) × IsRunOfPlan line input plan.lines run ways
 IsAnswerTo line input old new (Logged threads rounds log) =
     (line.mode ≡ mode.Multi threads rounds) × IsWhole threads rounds log.entries
 

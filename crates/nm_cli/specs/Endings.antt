@@ -10,6 +10,11 @@ use Rattle.nm_multi.specs.Calls.{Logged as Log}
 use Rattle.nm_multi.specs.Programs.{IsWhole}
 use Rattle.nm_multi.specs.Text.{log_text}
 use Rattle.nm_cli.specs.Answers.{Refuses, end_status, fault_text, run_text, status_of, text_of}
+use Rattle.nm_persist.specs.Report.{run_text as plan_run_text}
+use Rattle.nm_plans.specs.declared.faults.PlanFault.TheVariants as plan_fault
+use Rattle.nm_plans.specs.declared.faults.PlanKind.{PlanKind}
+use Rattle.nm_plans.specs.declared.lines.PlanLine.{PlanLine}
+use Rattle.nm_cli.specs.Plans.{IsRunOfPlan, KeepsPromises, PlanRefuses, plan_fault_text}
 use Rattle.nm_cli.specs.Plains.{IsNotPlain, IsPlain, free_text}
 use Rattle.nm_cli.specs.declared.answers.Answer.{Answer}
 use Rattle.nm_cli.specs.Scripts.{IsRunOfWords, read_of}
@@ -59,6 +64,33 @@ IsWorkedOut line input status old new =
     ((status ≡ 3) × IfSome input (IsRefused old new))
     ⊎ (((status ≡ 7) × IfSome input (IsFree old new))
     ⊎ (((status ≡ 0) ⊎ (status ≡ 1)) × IfSome input (IsSure line status old new)))
+
+-- bytes that spell no plan were answered by their first fault
+pub record IsPlanRefused (old new : Option (List ℕ)) (bytes : List ℕ) : Type 0 where
+  pub line : ℕ
+  pub kind : PlanKind
+  pub told : PlanRefuses (read_of bytes) (plan_fault.Bad line kind)
+  pub said : Appends old new (plan_fault_text line kind)
+
+-- a run of a plan was reported, and its record and what its ports kept are handed out
+pub record IsPlanReported (line : CommandLine) (input : Option (List ℕ)) (status : ℕ)
+    (run : Option RunRecord) (closed : Option Ways) (old new : Option (List ℕ)) : Type 0 where
+  pub lines : List PlanLine
+  pub record_of : RunRecord
+  pub ways : Ways
+  pub record_given : run ≡ Some record_of
+  pub ways_given : closed ≡ Some ways
+  pub of_plan : IsRunOfPlan line input lines record_of ways
+  pub promised : KeepsPromises lines record_of
+  pub ended : status ≡ end_status record_of.done
+  pub said : Appends old new (plan_run_text lines record_of)
+
+-- With parts, by what the bytes spell: no plan, or a plan, whose script ran.
+abbrev pub IsPlanEnded :
+    CommandLine → Option (List ℕ) → ℕ → Option RunRecord → Option Ways → Option (List ℕ) → Option (List ℕ) → Type 0
+IsPlanEnded line input status run closed old new =
+    ((status ≡ 3) × IfSome input (IsPlanRefused old new))
+    ⊎ IsPlanReported line input status run closed old new
 
 -- the log of several threads that shared one rank was summed up, and is handed out
 pub record IsLogged (threads rounds : ℕ) (log : Option Log) (old new : Option (List ℕ)) : Type 0 where

@@ -1,4 +1,5 @@
 pub mod Answers
 pub mod Endings
 pub mod Plains
+pub mod Plans
 pub mod Scripts

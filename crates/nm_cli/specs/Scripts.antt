@@ -4,7 +4,7 @@ use Rattle.nm_types.specs.declared.scripts.Line.{Line}
 use Rattle.nm_types.specs.Sizes.{Sizes}
 use Rattle.nm_command_line.specs.declared.CommandLine.{CommandLine}
 use Rattle.nm_command_line.specs.declared.Mode.{Mode}
-use Rattle.nm_command_line.specs.declared.Mode.TheVariants.{Run, Trace, Plain, Flood, Multi}
+use Rattle.nm_command_line.specs.declared.Mode.TheVariants.{Run, Trace, Plain, Parts, Flood, Multi}
 use Rattle.nm_flood.specs.Flood.{flood_lines}
 use Rattle.nm_script.specs.Spelled.{IsTextOf}
 use Rattle.nm_report.specs.Lawful.{IsRunIn}
@@ -21,6 +21,7 @@ abbrev pub Reads : Mode → Type 0
 Reads Run = Unit {0}
 Reads Trace = Unit {0}
 Reads Plain = Unit {0}
+Reads Parts = ⊥
 Reads (Flood key ranks messages) = ⊥
 Reads (Multi threads rounds) = ⊥
 
@@ -32,19 +33,27 @@ Makes _ = ⊥
 -- these words have a script run
 abbrev pub Runs : Mode → Type 0
 Runs Plain = ⊥
+Runs Parts = ⊥
 Runs (Multi threads rounds) = ⊥
 Runs _ = Unit {0}
 
--- these words read nothing
-abbrev pub ReadsNothing : Mode → Type 0
-ReadsNothing (Flood key ranks messages) = Unit {0}
-ReadsNothing (Multi threads rounds) = Unit {0}
-ReadsNothing _ = ⊥
+-- these words hand out the record of a run
+abbrev pub HandsOut : Mode → Type 0
+HandsOut Plain = ⊥
+HandsOut (Multi threads rounds) = ⊥
+HandsOut _ = Unit {0}
+
+-- these words read the source
+abbrev pub ReadsSource : Mode → Type 0
+ReadsSource (Flood key ranks messages) = ⊥
+ReadsSource (Multi threads rounds) = ⊥
+ReadsSource _ = Unit {0}
 
 -- the script that is asked for: a flood, or the one that the bytes read spell, where the source tells them
 abbrev pub IsAsked : Mode → Option (List ℕ) → ℕ → List Line → Type 0
 IsAsked (Flood key many messages) input ranks lines =
     (ranks ≡ many) × (lines ≡ flood_lines key many messages)
+IsAsked Parts input ranks lines = ⊥
 IsAsked (Multi threads rounds) input ranks lines = ⊥
 IsAsked _ input ranks lines = IfSome input (λ bytes. IsTextOf (read_of bytes) ranks lines)
 
@@ -52,6 +61,7 @@ IsAsked _ input ranks lines = IfSome input (λ bytes. IsTextOf (read_of bytes) r
 abbrev pub IsKnown : Mode → Option (List ℕ) → ℕ → List Line → Type 0
 IsKnown (Flood key many messages) input ranks lines =
     (ranks ≡ many) × (lines ≡ flood_lines key many messages)
+IsKnown Parts input ranks lines = ⊥
 IsKnown (Multi threads rounds) input ranks lines = ⊥
 IsKnown _ input ranks lines = IsSomeAnd input (λ bytes. IsTextOf (read_of bytes) ranks lines)
 

@@ -5,10 +5,12 @@ ghost use Rattle.nm_report.specs.Summary.{CountsFit};
 ghost use Rattle.nm_report.specs.Told.{told_of};
 ghost use Rattle.nm_cli.specs.Answers.{CanBeTold, fault_text, kind_text, run_text as run_text_lem};
 ghost use Rattle.nm_cli.specs.Answers.{end_status as end_status_lem, status_of, text_of, usage};
+ghost use Rattle.nm_cli.specs.Plans.{plan_fault_text as plan_fault_text_lem, plan_kind_text};
 ghost use Rattle.nm_cli.specs.Plains.{free_text as free_text_lem};
 
 use nm_command_line::Mode;
 use nm_multi::CallLog;
+use nm_persist::{Plan, PlanKind};
 use nm_report::RunRecord;
 use nm_script::Kind;
 use nm_sure::PlainRun;
@@ -42,6 +44,17 @@ pub enum Answer {
     Determinate {
         run: PlainRun,
     },
+    /// The bytes spell no plan.
+    NoPlan {
+        line: u32,
+        kind: PlanKind,
+    },
+    /// The script of a plan ran.
+    Planned {
+        plan: Plan,
+        run: RunRecord,
+        ways: Ways,
+    },
     /// Several threads shared one rank.
     Logged {
         threads: u8,
@@ -54,6 +67,7 @@ const USAGE: &str = "usage: nemesis run [--cells N] [--eager N]
        nemesis trace [--cells N] [--eager N]
        nemesis flood KEY RANKS MESSAGES [--cells N] [--eager N]
        nemesis plain [--cells N] [--eager N]
+       nemesis parts [--cells N] [--eager N]
        nemesis multi THREADS ROUNDS
 ";
 
@@ -69,6 +83,8 @@ pub fn text(alloc: Global, answer: &Answer) -> Result<Vec<u8>, Memory>
         Answer::Ran { mode, run, .. } => run_text(alloc, mode, run),
         Answer::Free { line } => Ok(free_text(alloc, *line)?),
         Answer::Determinate { run } => Ok(run.text.clone()?),
+        Answer::NoPlan { line, kind } => Ok(plan_fault_text(alloc, *line, *kind)?),
+        Answer::Planned { plan, run, .. } => nm_persist::text(alloc, plan, run),
         Answer::Logged {
             threads,
             rounds,
@@ -86,7 +102,7 @@ fn run_text(alloc: Global, mode: &Mode, run: &RunRecord) -> Result<Vec<u8>, Memo
         Mode::Run => nm_report::text(alloc, run, false),
         Mode::Trace => nm_report::text(alloc, run, true),
         Mode::Flood { key, messages, .. } => nm_report::summary(alloc, run, *key, *messages),
-        Mode::Plain | Mode::Multi { .. } => Ok(Vec::new(alloc)),
+        Mode::Plain | Mode::Parts | Mode::Multi { .. } => Ok(Vec::new(alloc)),
     }
 }
 
@@ -98,6 +114,8 @@ pub fn status(answer: &Answer) -> u8
         Answer::Ran { run, .. } => end_status(run.done),
         Answer::Free { .. } => 7,
         Answer::Determinate { run } => end_status(run.done),
+        Answer::NoPlan { .. } => 3,
+        Answer::Planned { run, .. } => end_status(run.done),
         Answer::Logged { .. } => 0,
         Answer::Usage => 2,
         Answer::Refused { .. } => 3,
@@ -118,6 +136,34 @@ fn free_text(alloc: Global, line: u32) -> Result<Vec<u8>, AllocError>
 {
     let text = format!(in alloc; "fault plain {}\n", line)?;
     Ok(text.into_bytes())
+}
+
+// What is said of a fault of a plan.
+fn plan_fault_text(alloc: Global, line: u32, kind: PlanKind) -> Result<Vec<u8>, AllocError>
+    ensures { IfOk result (λ bytes. bytes.items ≡ plan_fault_text_lem line kind) }
+{
+    let text = format!(in alloc; "fault parts {} {}\n", line, plan_kind_name(kind))?;
+    Ok(text.into_bytes())
+}
+
+fn plan_kind_name(kind: PlanKind) -> &'static str
+    ensures { result.now ≡ plan_kind_text kind }
+{
+    match kind {
+        PlanKind::TooLong => "toolong",
+        PlanKind::NotAscii => "notascii",
+        PlanKind::Lines => "lines",
+        PlanKind::First => "first",
+        PlanKind::Rank => "rank",
+        PlanKind::Command => "command",
+        PlanKind::Count => "count",
+        PlanKind::Number => "number",
+        PlanKind::Body => "body",
+        PlanKind::Taken => "taken",
+        PlanKind::Parts => "parts",
+        PlanKind::Order => "order",
+        PlanKind::Size => "size",
+    }
 }
 
 fn line(alloc: Global, text: &str) -> Result<Vec<u8>, AllocError>

@@ -22,6 +22,9 @@
 //!   function of its numbers and the sizes.
 //! - With `plain`: 3 where the bytes spell no script, 7 where it is not plain, with the line, else
 //!   the report of the plain run, with 0 or 1.
+//! - With `parts`: status 3 with the first fault of bytes that spell no plan, else the report of a
+//!   run of the plan's script, by the plan's own lines: what is said of a receive shows the body
+//!   that its sender held at that start.
 //! - With `multi`: 0, with the text of a log that is one legal history of one rank and has each
 //!   thread's whole program.
 //! - Status 4 and 5 only where the count of faults of the source or the sink rose, and at 5 the
@@ -35,30 +38,33 @@ ghost use Rattle.nm_types.specs.declared.scripts.Line.{Line};
 ghost use Rattle.nm_outside.specs.Told.{Appends, AppendsPart, Rose};
 ghost use Rattle.nm_command_line.specs.CommandLine.{IsTaken};
 ghost use Rattle.nm_command_line.specs.declared.CommandLine.{CommandLine};
-ghost use Rattle.nm_command_line.specs.declared.Mode.TheVariants.{Multi, Plain};
+ghost use Rattle.nm_command_line.specs.declared.Mode.TheVariants.{Multi, Parts, Plain};
 ghost use Rattle.nm_sure.specs.PlainText.{plain_done};
 ghost use Rattle.nm_script.specs.Spelled.{SpellsNone};
 ghost use Rattle.nm_cli.specs.declared.answers.Answer.{Answer};
 ghost use Rattle.nm_cli.specs.Answers.{IsAnswer, NotTaken, end_status, log_of, run_of, text_of};
 ghost use Rattle.nm_cli.specs.Answers.{unread, usage, ways_of};
 ghost use Rattle.nm_cli.specs.Endings.{IsLogged, IsRefused, IsReported, IsSaid, IsStatus};
-ghost use Rattle.nm_cli.specs.Endings.{IsWorkedOut, OrFails, OrUnwritten};
+ghost use Rattle.nm_cli.specs.Endings.{IsPlanEnded, IsWorkedOut, OrFails, OrUnwritten};
 ghost use Rattle.nm_cli.specs.Plains.{IsDeterminate, sure_text};
-ghost use Rattle.nm_cli.specs.Scripts.{IsKnown, Makes, Reads, ReadsNothing, Runs};
+ghost use Rattle.nm_cli.specs.Scripts.{HandsOut, IsKnown, Makes, Reads, ReadsSource, Runs};
 ghost use Rattle.nm_cli.specs.Scripts.{read_of, sizes_for};
 
 mod answers;
+mod finding;
+mod plans;
 mod runs;
 
 use answers::{Answer, status, text};
+use finding::find_answer;
 use nm_flood::laws::{floods_keep_the_limits, floods_name_their_messages};
 use nm_multi::CallLog;
 use nm_outside::{Gate, Sink, Source, write_all};
+use nm_persist_runs::receives_show_their_sends;
 use nm_report::RunRecord;
 use nm_script::laws::one_script;
 use nm_sure::plain_runs_agree;
 use nm_world::Ways;
-use runs::find_answer;
 use std::alloc::Global;
 use std::sync::Wait;
 use std::thread::Threads;
@@ -95,6 +101,18 @@ fn hand_out_nothing(status: u8) -> Ended
     }
 }
 
+// How it ends with the record of a run.
+fn hand_out_run(status: u8, run: RunRecord, ways: Ways) -> Ended
+    ensures { (result.status ≡ status) × (result.run ≡ Some run) × (result.closed ≡ Some ways)
+        × (result.log ≡ None) }
+{
+    Ended {
+        run: Some(run),
+        closed: Some(ways),
+        ..hand_out_nothing(status)
+    }
+}
+
 // How it ends with an answer that was due.
 fn hand_out(status: u8, answer: Answer) -> Ended
     ensures status { result.status ≡ status }
@@ -103,11 +121,8 @@ fn hand_out(status: u8, answer: Answer) -> Ended
     ensures log { result.log ≡ log_of answer }
 {
     match answer {
-        Answer::Ran { run, ways, .. } => Ended {
-            run: Some(run),
-            closed: Some(ways),
-            ..hand_out_nothing(status)
-        },
+        Answer::Ran { run, ways, .. } => hand_out_run(status, run, ways),
+        Answer::Planned { run, ways, .. } => hand_out_run(status, run, ways),
         Answer::Logged { log, .. } => Ended {
             log: Some(log),
             ..hand_out_nothing(status)
@@ -149,8 +164,8 @@ pub fn nemesis<R: Threads + Wait + Sync, S: Source, K: Sink, G: Gate + Sync>(
 
     // A script was to be read, and the bytes are none.
     ensures refused { result.status ≡ 3 → (line : CommandLine)
-        × IsTaken (map string_bytes words.now) line × Reads line.mode
-        × IfSome (S.left source.old) (IsRefused (K.taken sink.old) (K.taken sink.new)) }
+        × IsTaken (map string_bytes words.now) line × (Reads line.mode →
+        IfSome (S.left source.old) (IsRefused (K.taken sink.old) (K.taken sink.new))) }
     ensures refuses { (line : CommandLine) → IsTaken (map string_bytes words.now) line →
         Reads line.mode → IfSome (S.left source.old) (λ bytes.
         SpellsNone (read_of bytes) → OrFails (result.status ≡ 3) result.status) }
@@ -174,13 +189,13 @@ pub fn nemesis<R: Threads + Wait + Sync, S: Source, K: Sink, G: Gate + Sync>(
         ⊎ IsReported line (S.left source.old) result.status result.run result.closed
         (K.taken sink.old) (K.taken sink.new) }
 
-    // What is read: a script is read whole, or to the limit, and for a flood and for several
-    // threads nothing is.
+    // What is read: a script or a plan is read whole, or to the limit, and for a flood and for
+    // several threads nothing is.
     ensures read { (result.status ≡ 0) ⊎ ((result.status ≡ 1) ⊎ (result.status ≡ 3)) →
-        (line : CommandLine) → IsTaken (map string_bytes words.now) line → Reads line.mode →
+        (line : CommandLine) → IsTaken (map string_bytes words.now) line → ReadsSource line.mode →
         IfSome (S.left source.old) (λ bytes. S.left source.new ≡ Some (drop 8388609 bytes)) }
     ensures untouched { (line : CommandLine) → IsTaken (map string_bytes words.now) line →
-        ReadsNothing line.mode → source.new ≡ source.old }
+        ¬ (ReadsSource line.mode) → source.new ≡ source.old }
 
     // A flood needs no source.
     ensures made { (line : CommandLine) → IsTaken (map string_bytes words.now) line →
@@ -199,6 +214,12 @@ pub fn nemesis<R: Threads + Wait + Sync, S: Source, K: Sink, G: Gate + Sync>(
         (result.status ≡ end_status (plain_done (sizes_for line ranks) lines))
         × Appends (K.taken sink.old) (K.taken sink.new)
         (sure_text line.mode (sizes_for line ranks) lines) }
+
+    // With parts, by what the bytes spell: no plan, or a plan, whose script ran. What is said of a
+    // receive shows the body of that start at its sender.
+    ensures parts { (line : CommandLine) → IsTaken (map string_bytes words.now) line →
+        line.mode ≡ Parts → OrFails (IsPlanEnded line (S.left source.old) result.status result.run
+        result.closed (K.taken sink.old) (K.taken sink.new)) result.status }
 
     // Several threads shared one rank. The log is one history that has each thread's calls.
     ensures logged { (line : CommandLine) → IsTaken (map string_bytes words.now) line →
@@ -225,7 +246,7 @@ pub fn nemesis<R: Threads + Wait + Sync, S: Source, K: Sink, G: Gate + Sync>(
     ensures no_record { (result.status ≡ 2) ⊎ ((result.status ≡ 3) ⊎ (result.status ≡ 4)) →
         (result.run ≡ None) × (result.closed ≡ None) × (result.log ≡ None) }
     ensures no_run { (line : CommandLine) → IsTaken (map string_bytes words.now) line →
-        ¬ (Runs line.mode) → (result.run ≡ None) × (result.closed ≡ None) }
+        ¬ (HandsOut line.mode) → (result.run ≡ None) × (result.closed ≡ None) }
     ensures no_log { (line : CommandLine) → IsTaken (map string_bytes words.now) line →
         ((threads rounds : ℕ) → line.mode ≢ Multi threads rounds) → result.log ≡ None }
 {
@@ -240,5 +261,6 @@ pub fn nemesis<R: Threads + Wait + Sync, S: Source, K: Sink, G: Gate + Sync>(
     plain_runs_agree();
     floods_keep_the_limits();
     floods_name_their_messages();
+    receives_show_their_sends();
     hand_out(status, answer)
 }

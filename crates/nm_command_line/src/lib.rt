@@ -30,6 +30,8 @@ pub enum Mode {
     Trace,
     /// Report what every run of the plain script of the source reports, without a run.
     Plain,
+    /// Run a script of persistent and partitioned requests, and report.
+    Parts,
     /// Run a script that is generated of these numbers, and sum up.
     Flood { key: u16, ranks: u8, messages: u16 },
     /// Let so many threads share one rank for so many rounds each, and sum up.

@@ -6,10 +6,13 @@ use std::test::Fail;
 const PLAIN: &[u8] =
     b"ranks 2\n0: isend 0 1 7 0 x6869\n0: wait 0\n1: irecv 0 0 7 0 16\n1: wait 0\n";
 
+const REPORT: &[u8] = b"0 3 sent\n1 5 got 0 7 2 x6869\ncells 16 home 16\ndone\n";
+
 const USAGE: &[u8] = b"usage: nemesis run [--cells N] [--eager N]\n       \
     nemesis trace [--cells N] [--eager N]\n       \
     nemesis flood KEY RANKS MESSAGES [--cells N] [--eager N]\n       \
     nemesis plain [--cells N] [--eager N]\n       \
+    nemesis parts [--cells N] [--eager N]\n       \
     nemesis multi THREADS ROUNDS\n";
 
 const WANT_OF_MEMORY: u8 = 6;
@@ -25,12 +28,7 @@ fn words_of(alloc: Global, line: &str) -> Result<Vec<String>, AllocError> {
 #[test]
 fn scripts_give_their_reports(rt: HostRuntime) -> Result<(), Fail> {
     let rows: [(&str, &[u8], u8, &[u8]); 16] = [
-        (
-            "run",
-            PLAIN,
-            0,
-            b"0 3 sent\n1 5 got 0 7 2 x6869\ncells 16 home 16\ndone\n",
-        ),
+        ("run", PLAIN, 0, REPORT),
         ("run", b"ranks 1", 0, b"cells 8 home 8\ndone\n"),
         ("run", b"ranks 1\n", 0, b"cells 8 home 8\ndone\n"),
         (
@@ -181,6 +179,48 @@ fn failing_ends_are_told(rt: HostRuntime) -> Result<(), Fail> {
 }
 
 #[test]
+fn a_byte_at_a_time_is_enough(rt: HostRuntime) -> Result<(), Fail> {
+    let words = words_of(rt.alloc(), "run")?;
+    let mut source = MemorySource::new(PLAIN.to_vec(rt.alloc())?, 1, Vec::new(rt.alloc()));
+    let mut sink = MemorySink::new(rt.alloc(), 1, Vec::new(rt.alloc()))?;
+    let ended = nemesis(&rt, rt.alloc(), &words, &mut source, &mut sink, &OpenGate);
+    assert_eq!(rt; ended.status, 0);
+    assert_eq!(rt; sink.taken(), REPORT);
+    Ok(())
+}
+
+// The script has 71 bytes, which five reads give; the sixth finds the end.
+#[test]
+fn each_read_may_fail(rt: HostRuntime) -> Result<(), Fail> {
+    let words = words_of(rt.alloc(), "run")?;
+    for call in 1..7 {
+        let fails = [call].to_vec(rt.alloc())?;
+        let mut source = MemorySource::new(PLAIN.to_vec(rt.alloc())?, 16, fails);
+        let mut sink = MemorySink::new(rt.alloc(), 100, Vec::new(rt.alloc()))?;
+        let ended = nemesis(&rt, rt.alloc(), &words, &mut source, &mut sink, &OpenGate);
+        assert_eq!(rt; ended.status, 4);
+        assert_eq!(rt; sink.taken(), b"fault read\n".as_slice());
+        assert!(rt; ended.run.is_none());
+    }
+    Ok(())
+}
+
+// The report has 51 bytes, which four writes take.
+#[test]
+fn each_write_may_fail(rt: HostRuntime) -> Result<(), Fail> {
+    let words = words_of(rt.alloc(), "run")?;
+    for call in 1..5 {
+        let mut source = MemorySource::new(PLAIN.to_vec(rt.alloc())?, 100, Vec::new(rt.alloc()));
+        let mut sink = MemorySink::new(rt.alloc(), 16, [call].to_vec(rt.alloc())?)?;
+        let ended = nemesis(&rt, rt.alloc(), &words, &mut source, &mut sink, &OpenGate);
+        assert_eq!(rt; ended.status, 5);
+        assert_eq!(rt; sink.taken(), &REPORT[..16 * (call as usize - 1)]);
+        assert!(rt; ended.run.is_some());
+    }
+    Ok(())
+}
+
+#[test]
 fn two_ranks_run_at_once(rt: HostRuntime) -> Result<(), Fail> {
     let words = words_of(rt.alloc(), "run")?;
     let mut source = MemorySource::new(PLAIN.to_vec(rt.alloc())?, 100, Vec::new(rt.alloc()));
@@ -188,10 +228,7 @@ fn two_ranks_run_at_once(rt: HostRuntime) -> Result<(), Fail> {
     let gate = PairGate::new(500_000_000);
     let ended = nemesis(&rt, rt.alloc(), &words, &mut source, &mut sink, &gate);
     assert_eq!(rt; ended.status, 0);
-    assert_eq!(rt;
-        sink.taken(),
-        b"0 3 sent\n1 5 got 0 7 2 x6869\ncells 16 home 16\ndone\n".as_slice()
-    );
+    assert_eq!(rt; sink.taken(), REPORT);
     assert!(rt; gate.met());
     Ok(())
 }

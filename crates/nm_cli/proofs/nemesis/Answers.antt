@@ -3,10 +3,12 @@ use Rattle.std.proofs.Common.{◌≡◌, ℕ, ◌⊎◌, inl, inr, arith, map, s
 use Rattle.nm_outside.specs.Told.{Rose}
 use Rattle.nm_cli.specs.Endings.{IsSaid}
 use Rattle.nm_cli.proofs.EndLemmas.{Ending, Ends, usage_is, not_taken_is, unread_is, unwritten_is}
+use Rattle.nm_cli.proofs.EndLemmas.{not_memory}
 use Rattle.nm_cli.proofs.EndLemmas.{no_record_is}
 use Rattle.nm_cli.proofs.RunEnds.{refused_is, refuses_is, reported_is, reports_is, completes_is, read_is, made_is}
 use Rattle.nm_cli.proofs.RunEnds.{no_run_is}
 use Rattle.nm_cli.proofs.PlainEnds.{plain_is}
+use Rattle.nm_cli.proofs.PlanEnds.{parts_is}
 use Rattle.nm_cli.proofs.SureEnds.{determinate_is, flood_is_plain}
 use Rattle.nm_cli.proofs.ThreadEnds.{logged_is, no_log_is}
 use Rattle.nm_cli.proofs.nemesis.Goals as goal
@@ -31,6 +33,9 @@ returns-in_default-clause-made g c line taken makes = inr (inr (c.hand_out_nothi
 pub returns-in_default-clause-plain : goal.returns-in_default-clause-plain
 returns-in_default-clause-plain g c line taken is = inr (inr (inr (c.hand_out_nothing.ensures.0)))
 
+pub returns-in_default-clause-parts : goal.returns-in_default-clause-parts
+returns-in_default-clause-parts g c line taken is = inr (inr (inr (c.hand_out_nothing.ensures.0)))
+
 pub returns-in_default-clause-determinate : goal.returns-in_default-clause-determinate
 returns-in_default-clause-determinate g c line taken ranks lines known determinate ended =
     absurd (no_run c.hand_out_nothing.ensures.0 ended)
@@ -51,6 +56,9 @@ returns-in_default-text-clause-made g c line taken makes = inr (inr (c.hand_out_
 
 pub returns-in_default-text-clause-plain : goal.returns-in_default-text-clause-plain
 returns-in_default-text-clause-plain g c line taken is = inr (inr (inr (c.hand_out_nothing-in_default-text.ensures.0)))
+
+pub returns-in_default-text-clause-parts : goal.returns-in_default-text-clause-parts
+returns-in_default-text-clause-parts g c line taken is = inr (inr (inr (c.hand_out_nothing-in_default-text.ensures.0)))
 
 pub returns-in_default-text-clause-determinate : goal.returns-in_default-text-clause-determinate
 returns-in_default-text-clause-determinate g c line taken ranks lines known determinate ended =
@@ -122,8 +130,14 @@ returns-clause-read g c h line taken reads =
 pub returns-clause-made : goal.returns-clause-made
 returns-clause-made g c = made_is (seen g c) c.in-Ok.answer (known g c)
 
+pub returns-clause-memory : goal.returns-clause-memory
+returns-clause-memory g c six = absurd (not_memory (seen g c) c.in-Ok.answer (known g c) six)
+
 pub returns-clause-plain : goal.returns-clause-plain
 returns-clause-plain g c = plain_is (seen g c) c.in-Ok.answer (known g c)
+
+pub returns-clause-parts : goal.returns-clause-parts
+returns-clause-parts g c = parts_is c.receives_show_their_sends.ensures (seen g c) c.in-Ok.answer (known g c)
 
 pub returns-clause-determinate : goal.returns-clause-determinate
 returns-clause-determinate g c = determinate_is (record {

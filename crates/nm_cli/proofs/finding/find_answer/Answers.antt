@@ -1,10 +1,10 @@
 -- Words that are not taken, and floods.
-use Rattle.std.proofs.Common.{◌≡◌, None, Some, sym, ◌∙◌, ap, subst}
+use Rattle.std.proofs.Common.{◌≡◌, ℕ, None, Some, sym, ◌∙◌, ap, subst}
 use Rattle.nm_command_line.specs.declared.CommandLine.{CommandLine}
 use Rattle.nm_command_line.specs.declared.Mode.{Mode}
 use Rattle.nm_command_line.specs.declared.Mode.TheVariants.{Flood, Multi}
-use Rattle.nm_cli.specs.Scripts.{Reads}
-use Rattle.nm_cli.proofs.runs.find_answer.Goals as goal
+use Rattle.nm_cli.specs.Scripts.{ReadsSource}
+use Rattle.nm_cli.proofs.finding.find_answer.Goals as goal
 
 no_line : (line : CommandLine) → None ≡ Some line → ⊥
 no_line line h = cc
@@ -46,22 +46,27 @@ pub returns-in-Plain-clause-one : goal.returns-in-Plain-clause-one
 returns-in-Plain-clause-one g c line other taken is =
     one_of c.in-Some.line line other (c.in-Some.ensures.takes line taken) (c.in-Some.ensures.takes other is)
 
+pub returns-in-Parts-clause-one : goal.returns-in-Parts-clause-one
+returns-in-Parts-clause-one g c line other taken is =
+    one_of c.in-Some.line line other (c.in-Some.ensures.takes line taken) (c.in-Some.ensures.takes other is)
+
 pub returns-in-Multi-clause-one : goal.returns-in-Multi-clause-one
 returns-in-Multi-clause-one g c line other taken is =
     one_of c.in-Some.line line other (c.in-Some.ensures.takes line taken) (c.in-Some.ensures.takes other is)
 
--- no script is read where the words ask for something else
-no_script : (a line : CommandLine) (m : Mode) → Some a ≡ Some line → a.mode ≡ m → (Reads m → ⊥) → Reads line.mode → ⊥
-no_script a line m same mode none reads =
+-- no source is read where the words ask for something else
+no_source : (a line : CommandLine) (m : Mode) → Some a ≡ Some line → a.mode ≡ m → (ReadsSource m → ⊥) →
+    ReadsSource line.mode → ⊥
+no_source a line m same mode none reads =
     let is : a ≡ line = cc in
-    none (subst Reads (sym (ap (λ l. l.mode) is) ∙ mode) reads)
+    none (subst ReadsSource (sym (ap (λ l. l.mode) is) ∙ mode) reads)
 
 pub returns-in_ok-script-in-Flood-clause-read : goal.returns-in_ok-script-in-Flood-clause-read
 returns-in_ok-script-in-Flood-clause-read g c line taken reads =
-    absurd (no_script c.in-Some.line line (Flood c.in-Flood.key c.in-Flood.ranks c.in-Flood.messages)
+    absurd (no_source c.in-Some.line line (Flood c.in-Flood.key c.in-Flood.ranks c.in-Flood.messages)
     (c.in-Some.ensures.takes line taken) c.in-Flood.is (λ r. r) reads)
 
 pub returns-in-Multi-clause-read : goal.returns-in-Multi-clause-read
 returns-in-Multi-clause-read g c line taken reads =
-    absurd (no_script c.in-Some.line line (Multi c.in-Multi.threads c.in-Multi.rounds)
+    absurd (no_source c.in-Some.line line (Multi c.in-Multi.threads c.in-Multi.rounds)
     (c.in-Some.ensures.takes line taken) c.in-Multi.is (λ r. r) reads)

@@ -1,10 +1,10 @@
 -- The run is one of the script, in the sizes that the words say.
-use Rattle.std.proofs.Common.{◌≡◌, ℕ, refl, rules, subst, sym}
+use Rattle.std.proofs.Common.{◌≡◌, ℕ, rules, subst, sym}
 use Rattle.nm_process.specs.Lines.{AreLines}
 use Rattle.nm_cli.specs.Scripts.{sizes_for}
 use Rattle.nm_cli.proofs.LineLemmas.{all_in_range}
 use Rattle.nm_cli.proofs.RunLemmas.{ran}
-use Rattle.nm_cli.proofs.runs.run_script.Goals as goal
+use Rattle.nm_cli.proofs.runs.run.Goals as goal
 
 -- the script's limits are what a run asks for
 pub run-requires-clause-lines : goal.run-requires-clause-lines
@@ -17,12 +17,22 @@ run-requires-clause-lines g c lifetimes outlive =
       in_range = all_in_range script.ranks script.lines script.limits.lines_in_range;
     })
 
-pub returns : goal.returns
-returns g c =
+pub returns-clause-run : goal.returns-clause-run
+returns-clause-run g c =
     let line = c.args.line.now in
     let script = c.args.script.now in
     let sized : c.unwrap-shape.result ≡ sizes_for line script.ranks = search rules in
     let run = c.in_ok-run.ensures in
-    let p = ran line script.ranks script.lines c.in_ok-run.run' c.in_ok-run.ways c.unwrap-shape.result sized
+    let both = ran line script.ranks script.lines c.in_ok-run.run' c.in_ok-run.ways c.unwrap-shape.result sized
     run.shaped run.run run.home run.done script.limits c.summaries_fit.ensures in
-    (c.requires.runs, refl, p.0, p.1)
+    both.0
+
+pub returns-clause-fits : goal.returns-clause-fits
+returns-clause-fits g c =
+    let line = c.args.line.now in
+    let script = c.args.script.now in
+    let sized : c.unwrap-shape.result ≡ sizes_for line script.ranks = search rules in
+    let run = c.in_ok-run.ensures in
+    let both = ran line script.ranks script.lines c.in_ok-run.run' c.in_ok-run.ways c.unwrap-shape.result sized
+    run.shaped run.run run.home run.done script.limits c.summaries_fit.ensures in
+    both.1

@@ -1,0 +1,79 @@
+//! The answer to the words.
+
+ghost use Rattle.std.specs.Prelude.{◌≡◌, List, Some, drop, map, string_bytes, IfOk, IfSome};
+ghost use Rattle.nm_command_line.specs.CommandLine.{AreNumbers, IsTaken};
+ghost use Rattle.nm_command_line.specs.declared.CommandLine.{CommandLine};
+ghost use Rattle.nm_command_line.specs.declared.Mode.TheVariants.{Multi};
+ghost use Rattle.nm_cli.specs.Answers.{CanBeTold, IsAnswer, IsLogOf, NotTaken, WasRead};
+ghost use Rattle.nm_cli.specs.Scripts.{ReadsSource};
+
+use crate::answers::Answer;
+use crate::plans::answer_plan;
+use crate::runs::{answer_source, run_script};
+use nm_command_line::{Mode, read};
+use nm_flood::flood_script;
+use nm_outside::{Gate, Source};
+use nm_types::Memory;
+use std::alloc::Global;
+use std::sync::Wait;
+use std::thread::Threads;
+
+// Lets several threads share one rank.
+fn run_threads<R: Threads + Wait + Sync, G: Gate + Sync>(
+    rt: &R,
+    alloc: Global,
+    threads: u8,
+    rounds: u16,
+    gate: &G,
+) -> Result<Answer, Memory>
+    requires { AreNumbers (Multi threads rounds) }
+    ensures { IfOk result (IsLogOf threads rounds) }
+{
+    let log = nm_multi::multi(rt, alloc, threads, rounds, gate)?;
+    Ok(Answer::Logged {
+        threads,
+        rounds,
+        log,
+    })
+}
+
+/// Finds the answer to the words: runs the script of the source, a flood or several threads, or has
+/// nothing to run.
+pub fn find_answer<R: Threads + Wait + Sync, S: Source, G: Gate + Sync>(
+    rt: &R,
+    alloc: Global,
+    words: &[String],
+    source: &mut S,
+    gate: &G,
+) -> Result<Answer, Memory>
+    ensures answer { IfOk result (IsAnswer (map string_bytes words.now)
+        (S.left source.old) (S.faults source.old) (S.faults source.new)) }
+    ensures told { IfOk result CanBeTold }
+    ensures one { (line other : CommandLine) → IsTaken (map string_bytes words.now) line →
+        IsTaken (map string_bytes words.now) other → line ≡ other }
+    ensures untouched { NotTaken (map string_bytes words.now) → source.new ≡ source.old }
+    ensures made { (line : CommandLine) → IsTaken (map string_bytes words.now) line →
+        ¬ (ReadsSource line.mode) → source.new ≡ source.old }
+    ensures read { (line : CommandLine) → IsTaken (map string_bytes words.now) line →
+        ReadsSource line.mode → IfOk result (λ answer. WasRead answer →
+        IfSome (S.left source.old) (λ bytes. S.left source.new ≡ Some (drop 8388609 bytes))) }
+{
+    let Some(line) = read(words) else {
+        return Ok(Answer::Usage);
+    };
+    match line.mode {
+        Mode::Flood {
+            key,
+            ranks,
+            messages,
+        } => {
+            let script = flood_script(alloc, key, ranks, messages)?;
+            run_script(rt, alloc, &line, &script, gate)
+        }
+        Mode::Multi { threads, rounds } => run_threads(rt, alloc, threads, rounds, gate),
+        Mode::Run => answer_source(rt, alloc, &line, source, gate),
+        Mode::Trace => answer_source(rt, alloc, &line, source, gate),
+        Mode::Plain => answer_source(rt, alloc, &line, source, gate),
+        Mode::Parts => answer_plan(rt, alloc, &line, source, gate),
+    }
+}

@@ -1,0 +1,87 @@
+//! The run of the plan that the source has.
+
+ghost use Rattle.std.specs.Prelude.{◌≡◌, Some, drop, IfErr, IfOk, IfSome};
+ghost use Rattle.nm_command_line.specs.CommandLine.{InRange};
+ghost use Rattle.nm_command_line.specs.declared.Mode.TheVariants.{Parts};
+ghost use Rattle.nm_persist.specs.Rules.{IsTextOf};
+ghost use Rattle.nm_cli.specs.Answers.{CanBeTold, IsAnswerForBytes, IsAnswerForPlan, IsAnswerTo, WasRead};
+ghost use Rattle.nm_cli.specs.Plans.{PlanRefuses};
+
+use crate::answers::Answer;
+use crate::runs::{MAX_READ, run};
+use nm_command_line::CommandLine;
+use nm_outside::{Gate, Source, Unread, read_up_to};
+use nm_persist::{Plan, PlanFault};
+use nm_types::Memory;
+use std::alloc::Global;
+use std::sync::Wait;
+use std::thread::Threads;
+
+// The plan that the bytes spell, or their first fault.
+fn read_plan(alloc: Global, bytes: &[u8]) -> Result<Plan, PlanFault>
+    ensures taken { IfOk result (λ plan. IsTextOf bytes.now plan.ranks plan.lines) }
+    ensures refused { IfErr result (PlanRefuses bytes.now) }
+{
+    match nm_persist::read(alloc, bytes) {
+        Ok(plan) => Ok(plan),
+        Err(PlanFault::Memory) => Err(PlanFault::Memory),
+        Err(PlanFault::Bad { line, kind }) => Err(PlanFault::Bad { line, kind }),
+    }
+}
+
+// Runs the script of a plan.
+fn run_plan<R: Threads + Wait + Sync, G: Gate + Sync>(
+    rt: &R,
+    alloc: Global,
+    line: &CommandLine,
+    plan: Plan,
+    gate: &G,
+) -> Result<Answer, Memory>
+    requires { InRange line.now }
+    ensures { IfOk result (IsAnswerForPlan line.now plan.ranks plan.lines) }
+{
+    let script = plan.expand(alloc)?;
+    let (run, ways) = run(rt, alloc, line, &script, gate)?;
+    Ok(Answer::Planned { plan, run, ways })
+}
+
+// Runs the script of the plan that the bytes spell, or has their first fault.
+fn answer_bytes<R: Threads + Wait + Sync, G: Gate + Sync>(
+    rt: &R,
+    alloc: Global,
+    line: &CommandLine,
+    bytes: &[u8],
+    gate: &G,
+) -> Result<Answer, Memory>
+    requires { InRange line.now }
+    ensures { IfOk result (IsAnswerForBytes line.now bytes.now) }
+{
+    match read_plan(alloc, bytes) {
+        Ok(plan) => run_plan(rt, alloc, line, plan, gate),
+        Err(PlanFault::Bad { line, kind }) => Ok(Answer::NoPlan { line, kind }),
+        Err(PlanFault::Memory) => Err(Memory),
+    }
+}
+
+/// Reads a plan, and runs its script.
+pub fn answer_plan<R: Threads + Wait + Sync, S: Source, G: Gate + Sync>(
+    rt: &R,
+    alloc: Global,
+    line: &CommandLine,
+    source: &mut S,
+    gate: &G,
+) -> Result<Answer, Memory>
+    requires range { InRange line.now }
+    requires parts { line.now.mode ≡ Parts }
+    ensures answer { IfOk result
+        (IsAnswerTo line.now (S.left source.old) (S.faults source.old) (S.faults source.new)) }
+    ensures told { IfOk result CanBeTold }
+    ensures read { IfOk result (λ answer. WasRead answer →
+        IfSome (S.left source.old) (λ bytes. S.left source.new ≡ Some (drop 8388609 bytes))) }
+{
+    match read_up_to(alloc, source, MAX_READ) {
+        Ok(bytes) => answer_bytes(rt, alloc, line, &bytes, gate),
+        Err(Unread::Failed) => Ok(Answer::Unread),
+        Err(Unread::Memory) => Err(Memory),
+    }
+}
