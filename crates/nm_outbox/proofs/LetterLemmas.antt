@@ -1,9 +1,10 @@
 -- The letters of an outbox, and what its fields keep.
 use Rattle.std.proofs.Common.{◌≡◌, ◌≢◌, ℕ, ◌+◌, ◌<◌, ◌==◌, Bool, true, false, cond, List, [], ◌∷◌}
 use Rattle.std.proofs.Common.{◌++◌, length, map, get_or, replicate, refl, sym, ◌∙◌, ap, subst, ⊎_elim}
-use Rattle.std.proofs.Common.{arith}
+use Rattle.std.proofs.Common.{arith, ◌≤◌, max}
 use Rattle.std.specs.List.{AllByRecursion, filter}
 use Rattle.std.proofs.Math.ListN.{set}
+use Rattle.std.proofs.Math.Nat.{le-max_left, le-max_right}
 use Rattle.std.proofs.lemmas.Bool.{cases_eq, cases_lt}
 use Rattle.std.proofs.lemmas.Bool.Decides.{nat_tests}
 use Rattle.std.proofs.lemmas.List.{get_or-set_other, get_or-set_same, length-append, length-set}
@@ -96,22 +97,24 @@ zeros n to =
     (λ past. get_or_past (replicate {A = ℕ} n 0) to 0 (omega (arith, length-replicate {A = ℕ} n 0)))
     (cases_lt to n)
 
-pub fields-none : (me n : ℕ) (letters : List Letter) (popped put : List ℕ) → letters ≡ [] →
-    popped ≡ replicate n 0 → put ≡ replicate n 0 → AreFields me letters popped put
-fields-none me n letters popped put none fresh fresh' =
+pub fields-none : (me n : ℕ) (letters : List Letter) (popped put : List ℕ) (most : ℕ) → letters ≡ [] →
+    popped ≡ replicate n 0 → put ≡ replicate n 0 → AreFields me letters popped put most
+fields-none me n letters popped put most none fresh fresh' =
     rw (none, fresh, fresh') (record {
       lawful = record { in_range = tt; numbered = λ to. tt };
       ranks = refl;
       counts = λ to. rw (zeros n to) (omega arith);
+      bounded = λ to. rw (zeros n to) (omega arith);
     })
 
 -- the fields after a letter more
-module _ (me : ℕ) (letters : List Letter) (popped put : List ℕ)
-    (fields : AreFields me letters popped put) (letter : Letter)
+module _ (me : ℕ) (letters : List Letter) (popped put : List ℕ) (most : ℕ)
+    (fields : AreFields me letters popped put most) (letter : Letter)
     (inside : letter.to < length popped) where
   pub fields-put : letter.packet.from ≡ me →
       letter.packet.seq ≡ get_or popped letter.to 0 + length (packets_for letter.to letters) →
       AreFields me (letters ++ letter ∷ []) popped (set put letter.to (letter.packet.seq + 1))
+      (max most (letter.packet.seq + 1))
   fields-put own next =
       record {
         lawful = record {
@@ -121,7 +124,28 @@ module _ (me : ℕ) (letters : List Letter) (popped put : List ℕ)
         };
         ranks = length-set put letter.to (letter.packet.seq + 1) ∙ fields.ranks;
         counts = λ to. ⊎_elim (counts_own to) (counts_other to) (cases_eq letter.to to);
+        bounded = λ to. ⊎_elim (bounded_own to) (bounded_other to) (cases_eq letter.to to);
       } where
+        put' : List ℕ
+        put' = set put letter.to (letter.packet.seq + 1)
+
+        bounded_own : (to : ℕ) → letter.to ≡ to → get_or put' to 0 ≤ max most (letter.packet.seq + 1)
+        bounded_own to same =
+            let here : get_or put' letter.to 0 ≡ letter.packet.seq + 1 =
+            get_or-set_same put letter.to (letter.packet.seq + 1) 0
+            (let ranks = fields.ranks in omega arith) in
+            subst (λ (k : ℕ). get_or put' k 0 ≤ max most (letter.packet.seq + 1)) same
+            (subst (λ (k : ℕ). k ≤ max most (letter.packet.seq + 1)) (sym here)
+            (le-max_right most (letter.packet.seq + 1)))
+
+        bounded_other : (to : ℕ) → letter.to ≢ to → get_or put' to 0 ≤ max most (letter.packet.seq + 1)
+        bounded_other to differ =
+            let same : get_or put' to 0 ≡ get_or put to 0 =
+            get_or-set_other put letter.to to (letter.packet.seq + 1) 0 (λ same. differ (sym same)) in
+            let before = fields.bounded to in
+            let above = le-max_left most (letter.packet.seq + 1) in
+            omega arith
+
         grown : ℕ → List Packet
         grown to = packets_for to (letters ++ letter ∷ [])
 
@@ -162,8 +186,8 @@ module _ (me : ℕ) (letters : List Letter) (popped put : List ℕ)
             (sym (for-other to letters letter differ))
 
 -- the fields after a letter less
-module _ (me : ℕ) (letter : Letter) (rest : List Letter) (popped put : List ℕ)
-    (fields : AreFields me (letter ∷ rest) popped put) where
+module _ (me : ℕ) (letter : Letter) (rest : List Letter) (popped put : List ℕ) (most : ℕ)
+    (fields : AreFields me (letter ∷ rest) popped put most) where
   first_number : letter.packet.seq ≡ get_or popped letter.to 0
   first_number =
       let are : AreNumbered me (get_or popped letter.to 0) (letter.packet ∷ packets_for letter.to rest) =
@@ -220,7 +244,7 @@ module _ (me : ℕ) (letter : Letter) (rest : List Letter) (popped put : List �
       let long = ap length (for_first-other to letter rest differ) in
       omega arith
 
-  pub fields-pop : AreFields me rest popped' put
+  pub fields-pop : AreFields me rest popped' put most
   fields-pop =
       record {
         lawful = record {
@@ -231,4 +255,5 @@ module _ (me : ℕ) (letter : Letter) (rest : List Letter) (popped put : List �
         ranks = fields.ranks ∙ sym (length-set popped letter.to (letter.packet.seq + 1));
         counts = λ to. fields.counts to
             ∙ sym (⊎_elim (kept_own to) (kept_other to) (cases_eq letter.to to));
+        bounded = fields.bounded;
       }

@@ -1,5 +1,5 @@
 -- What contracts see of an outbox.
-use Rattle.std.specs.Prelude.{◌≡◌, ℕ, ◌+◌, List, length, slice_index_or}
+use Rattle.std.specs.Prelude.{◌≡◌, ℕ, ◌+◌, ◌≤◌, List, length, slice_index_or}
 use Rattle.nm_outbox.specs.declared.letters.Letter.{Letter}
 use Rattle.nm_outbox.specs.Letters.{AreLetters, packets_for}
 
@@ -19,10 +19,11 @@ popped_to outbox to = slice_index_or outbox.popped to 0
 abbrev pub put_to : OutboxView → ℕ → ℕ
 put_to outbox to = popped_to outbox to + length (packets_for to outbox.letters)
 
--- the letters stand at their numbers, and the counts of those put are right
-pub record AreFields (me : ℕ) (letters : List Letter) (popped put : List ℕ) : Type 0 where
+-- the letters stand at their numbers, the counts of those put are right, and none is above the greatest
+pub record AreFields (me : ℕ) (letters : List Letter) (popped put : List ℕ) (most : ℕ) : Type 0 where
   pub lawful : AreLetters me popped letters
   pub ranks : length put ≡ length popped
   pub counts :
       (to : ℕ) →
       slice_index_or put to 0 ≡ slice_index_or popped to 0 + length (packets_for to letters)
+  pub bounded : (to : ℕ) → slice_index_or put to 0 ≤ most

@@ -1,6 +1,7 @@
 //! The outbox of a rank.
 
-ghost use Rattle.std.specs.Prelude.{◌≡◌, ◌+◌, ◌-◌, ◌<◌, ◌≤◌, ◌↔◌, [], ◌∷◌, ◌++◌, length, replicate};
+ghost use Rattle.std.specs.Prelude.{◌≡◌, ◌+◌, ◌-◌, ◌<◌, ◌≤◌, ◌↔◌, ℕ, [], ◌∷◌, ◌++◌, length};
+ghost use Rattle.std.specs.Prelude.{replicate};
 ghost use Rattle.std.specs.Prelude.{IfOk, IfSome, IsTrue, OnOk, option_copied, slice_get, slice_set};
 ghost use Rattle.nm_types.specs.declared.limits.TheConstants.{MAX_PACKETS, MAX_STAMP};
 ghost use Rattle.nm_history.specs.Outgoing.{IsCalled, bare as bare_lem};
@@ -23,6 +24,8 @@ pub struct Outbox {
     // by rank, how many packets were popped and how many were put
     popped: Vec<u64>,
     put: Vec<u64>,
+    // the greatest of the counts of those put
+    most: u64,
 }
 
 impl Model for Outbox {
@@ -40,7 +43,7 @@ impl Model for Outbox {
           spare = deque_capacity o.letters - deque_len o.letters;
         } };
 
-    ghost invariant = { λ o. AreFields o.me o.letters.items o.popped.items o.put.items };
+    ghost invariant = { λ o. AreFields o.me o.letters.items o.popped.items o.put.items o.most };
 }
 
 impl Outbox {
@@ -55,6 +58,7 @@ impl Outbox {
             letters: VecDeque::new(alloc),
             popped: vec![in alloc; 0; ranks as usize]?,
             put: vec![in alloc; 0; ranks as usize]?,
+            most: 0,
         })
     }
 
@@ -86,6 +90,13 @@ impl Outbox {
         ensures { result ≡ put_to self.now to }
     {
         self.put[to as usize]
+    }
+
+    /// The most packets that were put to any rank.
+    pub fn most(&self) -> u64
+        ensures { (to : ℕ) → put_to self.now to ≤ result }
+    {
+        self.most
     }
 
     /// The next packet to a rank, without bytes.
@@ -129,7 +140,9 @@ impl Outbox {
             } }
     {
         let to = letter.to as usize;
-        self.put[to] = letter.packet.seq + 1;
+        let put = letter.packet.seq + 1;
+        self.put[to] = put;
+        self.most = self.most.max(put);
         self.letters.push_back_reserved(letter);
     }
 

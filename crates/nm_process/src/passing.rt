@@ -136,6 +136,14 @@ impl Process {
         self.rank.history();
     }
 
+    /// Whether there is a piece to be pushed: a message was cleared and has not left.
+    pub fn has_piece(&self) -> bool
+        ensures out { (result ≡ false) ↔ AllOut self.now.rank.sending.offers }
+        ensures none { result ≡ false → next_offered self.now.rank.sending.offers ≡ None }
+    {
+        self.rank.has_piece()
+    }
+
     /// The next piece to be pushed, with the rank that it goes to, if there is one: of the first
     /// message that was cleared and has not left. There is none exactly where each cleared message
     /// has left.

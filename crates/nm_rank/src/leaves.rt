@@ -69,6 +69,14 @@ impl Rank {
         }
     }
 
+    /// Whether there is a piece to be pushed: a message was cleared and has not left.
+    pub fn has_piece(&self) -> bool
+        ensures out { (result ≡ false) ↔ AllOut self.now.sending.offers }
+        ensures none { result ≡ false → next_offered self.now.sending.offers ≡ None }
+    {
+        self.sending.has_piece()
+    }
+
     /// The next piece to be pushed, with the rank that it goes to, if there is one: of the first
     /// message that was cleared and has not left. There is none exactly where each cleared message
     /// has left.

@@ -22,6 +22,7 @@
 #![tactic(auto)]
 
 mod answers;
+pub mod laws;
 mod leaves;
 mod ranks;
 mod requests;

@@ -99,16 +99,21 @@ impl Rank {
         ensures known { IfOk result (λ r. r.known ≡ replicate shape.ranks nothing_known) }
     {
         let ranks = shape.ranks();
+        let took = zeros(alloc, ranks)?;
+        let pulled = zeros(alloc, ranks)?;
+        let streams = new_streams(alloc, ranks)?;
+        let sending = Sending::new(alloc, ranks, me)?;
+        let receiving = Receiving::new(alloc, shape)?;
         Ok(Rank {
             me,
             shape,
             journal: Journal::new(alloc),
             requests: Requests::new(alloc),
-            sending: Sending::new(alloc, ranks, me)?,
-            receiving: Receiving::new(alloc, shape)?,
-            streams: new_streams(alloc, ranks)?,
-            took: zeros(alloc, ranks)?,
-            pulled: zeros(alloc, ranks)?,
+            sending,
+            receiving,
+            streams,
+            took,
+            pulled,
             strays: 0,
         })
     }

@@ -15,9 +15,10 @@
 //! That `add` and `reserve` succeed with ample memory.
 #![tactic(auto)]
 
-ghost use Rattle.std.specs.Prelude.{◌≡◌, ◌<◌, ◌≤◌, ◌↔◌, None, IsOk, IfOk, OnOk, OnErr, IsTrue};
+ghost use Rattle.std.specs.Prelude.{◌≡◌, ◌<◌, ◌≤◌, ◌↔◌, ◌^◌, None, IsOk, IfOk, OnOk, OnErr, IsTrue};
 ghost use Rattle.std.specs.Option.{ok_or};
 ghost use Rattle.nm_request.specs.declared.Req.{Req};
+ghost use Rattle.nm_request.specs.declared.TheConstants.{MAX_REQUESTS};
 ghost use Rattle.nm_request.specs.Requests.{kind_of, AllAreOlder, SameRequests};
 ghost use Rattle.nm_request.specs.Requests.{AddsRequest, FreesRequest};
 
@@ -28,6 +29,11 @@ use std::marker::Model;
 
 /// How many requests can be added to a `Requests` in all.
 pub const MAX_REQUESTS: u64 = 4611686018427387904;
+
+/// The number of requests that can be added in all.
+pub fn limit()
+    ensures { MAX_REQUESTS ≡ 2 ^ 62 }
+{}
 
 /// A request: the key under which it is kept, and how many requests were added before it.
 #[derive(Clone, Copy, Debug, PartialEq, Eq)]

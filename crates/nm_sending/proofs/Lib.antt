@@ -1,5 +1,6 @@
 pub mod RowLemmas
 pub mod EndLemmas
+mod MostLemmas
 pub mod PlaceLemmas
 pub mod EventLemmas
 pub mod TurnLemmas

@@ -1,6 +1,6 @@
 -- What became of the messages that a rank sent, by destination and number.
 use Rattle.std.specs.Prelude.{ℕ, ◌==◌, ◌&&◌, ◌||◌, Bool, true, false, Option, Some, None, List, []}
-use Rattle.std.specs.Prelude.{map, filter, filter_map, slice_index_or, slice_set, if◌then◌else◌}
+use Rattle.std.specs.Prelude.{◌≤◌, length, map, filter, filter_map, slice_index_or, slice_set, if◌then◌else◌}
 use Rattle.std.specs.List.{slice_get}
 use Rattle.std.specs.Option.{option_map_or, option_map, option_and_then}
 use Rattle.nm_types.specs.declared.answers.Answer.{Answer}
@@ -25,6 +25,10 @@ pub record TableView : Type 0 where
 -- the messages of a row
 abbrev pub row_of : List (List Departure) → ℕ → List Departure
 row_of rows to = slice_index_or rows to []
+
+-- no row is longer than this
+abbrev pub IsMost : List (List Departure) → ℕ → Type 0
+IsMost rows most = (to : ℕ) → length (row_of rows to) ≤ most
 
 -- one message is replaced
 abbrev pub with_departure : List (List Departure) → ℕ → ℕ → Departure → List (List Departure)

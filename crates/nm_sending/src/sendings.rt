@@ -156,6 +156,9 @@ impl Sending {
             (length (departures_to self.now to) < MAX_MESSAGES)
             × (put_to self.now.outbox to < MAX_PACKETS - 32)) }
     {
+        if self.departures.most() < MAX_MESSAGES && self.outbox.most() < MAX_PACKETS - 32 {
+            return false;
+        }
         for to in 0..self.ranks {
             if self.is_full(to) {
                 return true;
@@ -388,6 +391,14 @@ impl Sending {
         self.departures.set(letter.to, n, departure.left());
         self.staying -= 1;
         Some((letter.to, n))
+    }
+
+    /// Whether there is a piece to be pushed: a message was cleared and has not left.
+    pub fn has_piece(&self) -> bool
+        ensures out { (result ≡ false) ↔ AllOut self.now.offers }
+        ensures none { result ≡ false → next_offered self.now.offers ≡ None }
+    {
+        self.offers.front().is_some()
     }
 
     /// The next piece to be pushed, and its destination, if there is one.

@@ -3,7 +3,7 @@
 ghost use Rattle.std.specs.Prelude.{◌≡◌, ◌<◌, [], ◌∷◌, ◌++◌, length, replicate, slice_get};
 ghost use Rattle.std.specs.Prelude.{slice_index, slice_set};
 ghost use Rattle.std.specs.Prelude.{IfOk, OnOk};
-ghost use Rattle.nm_sending.specs.Departures.{row_of, with_departure};
+ghost use Rattle.nm_sending.specs.Departures.{IsMost, row_of, with_departure};
 
 use crate::departures::Departure;
 use nm_types::Memory;
@@ -14,11 +14,13 @@ use std::marker::Model;
 #[derive(Drop)]
 pub(crate) struct Table {
     rows: Vec<Vec<Departure>>,
+    // the most messages that there are to any rank
+    most: u64,
 }
 
 impl Model for Table {
     ghost use Rattle.std.specs.Prelude.{◌-◌, map, vec_capacity, vec_len};
-    ghost use Rattle.nm_sending.specs.Departures.{TableView};
+    ghost use Rattle.nm_sending.specs.Departures.{IsMost, TableView};
 
     ghost Value = { TableView };
 
@@ -27,6 +29,8 @@ impl Model for Table {
           rows = map (λ v. v.items) a.rows.items;
           room = map (λ v. vec_capacity v - vec_len v) a.rows.items;
         } };
+
+    ghost invariant = { λ a. IsMost (map (λ v. v.items) a.rows.items) a.most };
 }
 
 impl Table {
@@ -38,7 +42,7 @@ impl Table {
         for _ in 0..ranks {
             rows.push(Vec::new(alloc))?;
         }
-        Ok(Table { rows })
+        Ok(Table { rows, most: 0 })
     }
 
     /// How many messages to a rank there are.
@@ -47,6 +51,13 @@ impl Table {
         ensures { result ≡ length (row_of self.now.rows to) }
     {
         self.rows[to as usize].len() as u64
+    }
+
+    /// The most messages that there are to any rank.
+    pub(crate) fn most(&self) -> u64
+        ensures { IsMost self.now.rows result }
+    {
+        self.most
     }
 
     /// What became of message `n` to a rank, if it was sent.
@@ -74,7 +85,9 @@ impl Table {
         ensures { self.new.rows
             ≡ slice_set self.old.rows to (row_of self.old.rows to ++ departure ∷ []) }
     {
-        self.rows[to as usize].push_reserved(departure);
+        let row = &mut self.rows[to as usize];
+        row.push_reserved(departure);
+        self.most = self.most.max(row.len() as u64);
     }
 
     /// Replaces what became of a message.

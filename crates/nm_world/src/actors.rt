@@ -131,6 +131,9 @@ impl Actor {
         if self.process.is_worn() {
             return false;
         }
+        if !self.process.has_piece() {
+            return false;
+        }
         let Some((to, piece)) = self.process.front_piece() else {
             return false;
         };

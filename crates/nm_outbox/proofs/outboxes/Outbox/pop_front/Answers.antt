@@ -11,6 +11,6 @@ invariant_of-self c =
     let rest : List Letter = c.pop_front.new.self.items in
     let split = subst (λ (first : Option Letter). o.letters.items ≡ option_to_list first ++ rest)
     c.unwrap-letter.ensures c.pop_front.ensures.items in
-    fields-pop o.me c.unwrap-letter.result rest o.popped.items o.put.items
-    (subst (λ (ls : List Letter). AreFields o.me ls o.popped.items o.put.items) split
+    fields-pop o.me c.unwrap-letter.result rest o.popped.items o.put.items o.most
+    (subst (λ (ls : List Letter). AreFields o.me ls o.popped.items o.put.items o.most) split
     c.self.invariant)

@@ -1,8 +1,8 @@
 -- A row that holds the same, with room.
-use Rattle.std.proofs.Common.{◌+◌, ◌-◌, ◌<◌, ◌≤◌, length, sym, subst, Vec, Global, arith}
+use Rattle.std.proofs.Common.{◌+◌, ◌-◌, ◌<◌, ◌≤◌, List, length, sym, subst, Vec, Global, arith}
 use Rattle.std.specs.Vec.{vec_capacity, vec_len}
 use Rattle.nm_sending.specs.declared.departures.Departure.{Departure}
-use Rattle.nm_sending.specs.Departures.{TableView}
+use Rattle.nm_sending.specs.Departures.{IsMost, TableView}
 use Rattle.nm_sending.proofs.RowLemmas.{row-new, row-same, row_inside}
 use Rattle.nm_sending.proofs.tables.Table.reserve.Goals as goal
 
@@ -26,3 +26,17 @@ returns-clause-ok c =
     c.in_ok-reserve.ensures.ok in
     row-new (λ (v : Vec Departure Global). vec_capacity v - vec_len v) c.self.inside.rows.items
     c.args.to c.reserve.new.self inside (omega arith)
+
+pub invariant_of-self : goal.invariant_of-self
+invariant_of-self c =
+    subst (λ (l : List (List Departure)). IsMost l c.self.inside.most)
+    (sym (row-same (λ (v : Vec Departure Global). v.items) c.self.inside.rows.items c.args.to
+    c.index_mut.result.now c.reserve.new.self c.index_mut.ensures.value c.reserve.ensures.items))
+    c.self.invariant
+
+pub invariant_of-self-2 : goal.invariant_of-self-2
+invariant_of-self-2 c =
+    subst (λ (l : List (List Departure)). IsMost l c.self.inside.most)
+    (sym (row-same (λ (v : Vec Departure Global). v.items) c.self.inside.rows.items c.args.to
+    c.index_mut.result.now c.reserve.new.self c.index_mut.ensures.value c.reserve.ensures.items))
+    c.self.invariant

@@ -107,3 +107,14 @@ returns-then-is_err g c =
       back = λ none fresh. piece_back a b (Some (to, c.in-Some.piece)) to c.in-Some.piece refl
           c.in-Some.ensures.next low knew;
     }
+
+pub returns-then-not-has_piece : goal.returns-then-not-has_piece
+returns-then-not-has_piece g c =
+    let a = c.args.self.now in
+    record {
+      kept = kept_same g.here.lines g.here.fabric c.args.r.now a c.requires;
+      moved = did_same g.here.fabric.ranks a;
+      stepped = stepped_none a;
+      back = λ none fresh. subst (λ (o : Option Offered). IfSome o (λ o. full_to a.ring o.to < full_to a.ring o.to))
+          (sym (c.has_piece.ensures.none c.if-not-has_piece.true)) tt;
+    }
