@@ -1,0 +1,64 @@
+//! What there is to say of the words and the source, and how it is said.
+
+ghost use Rattle.std.specs.Prelude.{◌≡◌, IfOk};
+ghost use Rattle.nm_chart.specs.Answers.{CanBeDrawn, Tells, status_of};
+ghost use Rattle.nm_chart.specs.Endings.{fault_text};
+
+use nm_diagram::picture;
+use nm_report::RunRecord;
+use nm_types::Memory;
+use std::alloc::{AllocError, Global};
+
+/// What there is to say.
+#[derive(Drop)]
+pub enum Answer {
+    /// There are words.
+    Usage,
+    /// The source failed.
+    Unread,
+    /// The bytes are no trace.
+    Refused { line: u32 },
+    /// They are the trace of a run.
+    Drawn { run: RunRecord },
+}
+
+const USAGE: &str = "usage: chart <TRACE >PICTURE
+";
+
+fn line(alloc: Global, text: &str) -> Result<Vec<u8>, AllocError>
+    ensures { IfOk result (λ bytes. bytes.items ≡ text.now) }
+{
+    Vec::from_slice(alloc, text.as_bytes())
+}
+
+fn fault(alloc: Global, line: u32) -> Result<Vec<u8>, AllocError>
+    ensures { IfOk result (λ bytes. bytes.items ≡ fault_text line) }
+{
+    let text = format!(in alloc; "fault trace {}\n", line)?;
+    Ok(text.into_bytes())
+}
+
+/// The text of an answer, whole and in memory.
+pub fn text(alloc: Global, answer: &Answer) -> Result<Vec<u8>, Memory>
+    requires { CanBeDrawn answer.now }
+    ensures { IfOk result (λ text. Tells answer.now text.items) }
+{
+    match answer {
+        Answer::Usage => Ok(line(alloc, USAGE)?),
+        Answer::Unread => Ok(line(alloc, "fault read\n")?),
+        Answer::Refused { line } => Ok(fault(alloc, *line)?),
+        Answer::Drawn { run } => picture(alloc, run),
+    }
+}
+
+/// The status of an answer that was written.
+pub fn status(answer: &Answer) -> u8
+    ensures { result ≡ status_of answer.now }
+{
+    match answer {
+        Answer::Drawn { .. } => 0,
+        Answer::Usage => 2,
+        Answer::Unread => 4,
+        Answer::Refused { .. } => 9,
+    }
+}

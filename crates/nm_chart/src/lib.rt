@@ -1,0 +1,25 @@
+//! Traces in, pictures out.
+//!
+//! `chart` is the one top call. It takes the words of the command line, of which there are none,
+//! reads a trace, and writes its picture to the sink.
+//!
+//! # What a contract sees
+//! Bytes as a list of numbers, the record that a trace's bytes stand for, and the text of its picture
+//! (`nm_diagram`).
+//! # What is proved
+//! - Status 0 exactly where the bytes are the trace of a run, and then what was written is the picture of
+//!   each run whose trace they are; 9 where they are none, with the first bad line; 2 where there are
+//!   words. They yield to 4, 5 and 6.
+//! - `laws`: the trace of a run of any shape is taken.
+//! - At 5 the sink took a front of the text that was due. At 6 nothing was written.
+//! # What is only tested
+//! That it succeeds with ample memory.
+#![tactic(auto)]
+
+mod answers;
+mod charts;
+pub mod laws;
+#[cfg(test)]
+mod tests;
+
+pub use charts::chart;

@@ -1,0 +1,25 @@
+-- The events at which the ends of arrows and links stand.
+use Rattle.std.specs.Prelude.{ℕ, ◌==◌, ◌&&◌, Bool, false, if◌then◌else◌, List, [], ◌∷◌}
+use Rattle.std.specs.Prelude.{Option, Some, None}
+use Rattle.nm_history.specs.declared.events.Event.{Event}
+use Rattle.nm_history.specs.declared.events.Happened.{Happened}
+use Rattle.nm_history.specs.declared.events.Happened.TheVariants as what
+use Rattle.nm_diagram.specs.declared.anchors.Anchor.{Anchor}
+use Rattle.nm_diagram.specs.declared.anchors.Anchor.TheVariants.{Send, Arrival, Receive}
+use Rattle.nm_diagram.specs.Frames.{is_shown}
+
+-- an event is an anchor: the send of a message to a rank, the arrival of one from a rank, or a receive,
+-- posted or of a claimed message
+abbrev pub is_anchor : Anchor → Happened → Bool
+is_anchor (Send rank number) (what.Send to n tag ctx len how line) = (to == rank) && (n == number)
+is_anchor (Arrival rank number) (what.Arrive a) = (a.env.from == rank) && (a.n == number)
+is_anchor (Receive number) (what.Post post line) = post.number == number
+is_anchor (Receive number) (what.Match m from n cap line) = m == number
+is_anchor _ _ = false
+
+-- the stamp of the first event that is shown and is this anchor
+abbrev pub first_stamp : ℕ → Anchor → List Event → Option ℕ
+first_stamp end anchor [] = None
+first_stamp end anchor (event ∷ events) =
+    if is_shown end event && is_anchor anchor event.what then Some event.stamp
+    else first_stamp end anchor events

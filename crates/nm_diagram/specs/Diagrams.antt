@@ -1,0 +1,114 @@
+-- A space-time diagram as lists: the process lines of the ranks, a mark for each event, and an arrow for
+-- each message, after Lamport, 'Time, Clocks, and the Ordering of Events', 1978.
+use Rattle.std.specs.Prelude.{ℕ, ◌+◌, if◌then◌else◌, List, [], ◌∷◌, ◌++◌}
+use Rattle.std.specs.Prelude.{Option, Some, None, codes, decimal, flat_map, take, slice_get}
+use Rattle.std.specs.List.{join_with_byte}
+use Rattle.nm_types.specs.declared.messages.How.{How}
+use Rattle.nm_types.specs.declared.messages.How.TheVariants.{Eager, Ask}
+use Rattle.nm_history.specs.declared.events.Event.{Event}
+use Rattle.nm_history.specs.declared.events.Happened.{Happened}
+use Rattle.nm_history.specs.declared.events.Happened.TheVariants.{Send, Post, Arrive, Whole, Out}
+use Rattle.nm_history.specs.declared.events.Happened.TheVariants.{Cancel, Recall, Withdraw}
+use Rattle.nm_history.specs.declared.events.Happened.TheVariants.{Undone, Claim, Match, Ran}
+use Rattle.nm_report.specs.declared.accounts.RankAccount.{RankAccount}
+use Rattle.nm_report.specs.Events.{event_words}
+use Rattle.nm_diagram.specs.declared.anchors.Anchor.TheVariants as anchor
+use Rattle.nm_diagram.specs.declared.arrows.Arrow.{Arrow}
+use Rattle.nm_diagram.specs.Anchors.{first_stamp}
+use Rattle.nm_diagram.specs.Frames.{is_shown}
+
+-- what each of these ranks has in the picture, in order, of which the first has this number
+abbrev pub from_lane : {X : Type 0} → (ℕ → RankAccount → List X) → ℕ → List RankAccount → List X
+from_lane has rank [] = []
+from_lane has rank (account ∷ accounts) = has rank account ++ from_lane has (rank + 1) accounts
+
+-- the mark of an event: the lane of its rank, its stamp, its sign, and its title
+pub record Mark : Type 0 where
+  pub lane : ℕ
+  pub stamp : ℕ
+  pub sign : List ℕ
+  pub title : List ℕ
+
+-- the sign of an event
+abbrev pub sign_of : Happened → List ℕ
+sign_of (Send to n tag ctx len Eager line) = codes "send"
+sign_of (Send to n tag ctx len Ask line) = codes "ask"
+sign_of (Post post line) = codes "post"
+sign_of (Arrive a) = codes "arrive"
+sign_of (Whole from n) = codes "whole"
+sign_of (Out to n) = codes "out"
+sign_of (Cancel number done) = codes "cancel"
+sign_of (Recall to n) = codes "recall"
+sign_of (Withdraw from n done) = codes "withdraw"
+sign_of (Undone to n done) = codes "undone"
+sign_of (Claim from n line) = codes "claim"
+sign_of (Match number from n cap line) = codes "match"
+sign_of (Ran line answer) = codes "ran"
+
+-- the title of an event: its rank, its stamp, and its words in the trace
+abbrev pub title_of : ℕ → Event → List ℕ
+title_of rank event =
+    codes "rank " ++ (decimal rank ++ (codes " at " ++ (decimal event.stamp
+    ++ (codes ": " ++ join_with_byte 32 (event_words event.what)))))
+
+abbrev pub mark_of : ℕ → Event → Mark
+mark_of rank event =
+    record {
+      lane = rank;
+      stamp = event.stamp;
+      sign = sign_of event.what;
+      title = title_of rank event;
+    }
+
+-- an event that is shown has one mark
+abbrev pub marks_at : ℕ → ℕ → Event → List Mark
+marks_at end rank event = if is_shown end event then mark_of rank event ∷ [] else []
+
+-- the marks of a rank, and of all ranks
+abbrev pub marks_of : ℕ → ℕ → RankAccount → List Mark
+marks_of end rank account = flat_map (marks_at end rank) account.history.events
+
+abbrev pub all_marks : ℕ → List RankAccount → List Mark
+all_marks end ranks = from_lane (marks_of end) 0 ranks
+
+-- an arrow, where there is a send
+abbrev pub arrow_from : ℕ → ℕ → ℕ → ℕ → How → Option ℕ → List Arrow
+arrow_from from to arrived n how None = []
+arrow_from from to arrived n how (Some sent) =
+    record { from = from; sent = sent; to = to; arrived = arrived; n = n; how = how } ∷ []
+
+-- the stamp at which a rank sent this message: among its first 20,000 events
+abbrev pub sent_by : ℕ → ℕ → ℕ → Option RankAccount → Option ℕ
+sent_by end rank number None = None
+sent_by end rank number (Some sender) =
+    first_stamp end (anchor.Send rank number) (take 20000 sender.history.events)
+
+-- an arrival has one arrow, from its send
+abbrev pub arrow_of : ℕ → List RankAccount → ℕ → ℕ → Happened → List Arrow
+arrow_of end ranks rank stamp (Arrive a) =
+    arrow_from a.env.from rank stamp a.n a.env.how
+    (sent_by end rank a.n (slice_get ranks a.env.from))
+arrow_of end ranks rank stamp _ = []
+
+-- and so has an arrival that is shown
+abbrev pub arrows_at : ℕ → List RankAccount → ℕ → Event → List Arrow
+arrows_at end ranks rank event =
+    if is_shown end event then arrow_of end ranks rank event.stamp event.what else []
+
+-- the arrows that end at a rank, and all arrows
+abbrev pub arrows_of : ℕ → List RankAccount → ℕ → RankAccount → List Arrow
+arrows_of end ranks rank account = flat_map (arrows_at end ranks rank) account.history.events
+
+abbrev pub all_arrows : ℕ → List RankAccount → List Arrow
+all_arrows end ranks = from_lane (arrows_of end ranks) 0 ranks
+
+-- the process line of a rank, and where it waits
+pub record Lane : Type 0 where
+  pub rank : ℕ
+  pub waits : Option ℕ
+
+abbrev pub lane_of : ℕ → RankAccount → List Lane
+lane_of rank account = record { rank = rank; waits = account.waits } ∷ []
+
+abbrev pub all_lanes : List RankAccount → List Lane
+all_lanes ranks = from_lane lane_of 0 ranks

@@ -1,0 +1,9 @@
+pub mod Alike
+pub mod Anchors
+pub mod Diagrams
+pub mod Frames
+pub mod Joined
+pub mod Links
+pub mod Markup
+pub mod Pictures
+pub mod WellFormed

@@ -1,0 +1,54 @@
+//! The events at which the ends of arrows and links stand.
+
+ghost use Rattle.std.specs.Prelude.{◌≡◌, ◌<◌, IfSome, take};
+ghost use Rattle.nm_diagram.specs.Anchors.{first_stamp as first_stamp_lem, is_anchor as is_anchor_lem};
+
+use nm_history::{Event, Happened};
+
+/// What an end of an arrow or a link stands at.
+#[derive(Clone, Copy, Debug, PartialEq, Eq)]
+pub enum Anchor {
+    /// The send of message `n` to a rank.
+    Send { to: usize, n: u64 },
+    /// The arrival of message `n` of a rank.
+    Arrival { from: usize, n: u64 },
+    /// The receive of this number, posted or of a claimed message.
+    Receive { number: u64 },
+}
+
+/// Whether an event is an anchor.
+fn is_anchor(anchor: Anchor, what: &Happened) -> bool
+    ensures { result ≡ is_anchor_lem anchor what.now }
+{
+    match (anchor, what) {
+        (Anchor::Send { to, n }, Happened::Send { to: t, n: m, .. }) => {
+            *t as usize == to && *m == n
+        }
+        (Anchor::Arrival { from, n }, Happened::Arrive { a }) => {
+            a.env.from as usize == from && a.n == n
+        }
+        (Anchor::Receive { number }, Happened::Post { post, .. }) => post.number == number,
+        (Anchor::Receive { number }, Happened::Match { number: m, .. }) => *m == number,
+        _ => false,
+    }
+}
+
+/// The stamp of the first event that is shown and is this anchor.
+pub fn first_stamp(events: &[Event], end: u64, anchor: Anchor) -> Option<u64>
+    ensures value { result ≡ first_stamp_lem end anchor events.now }
+    ensures shown { IfSome result (λ stamp. stamp < end) }
+{
+    for event in events {
+        if event.stamp < end && is_anchor(anchor, &event.what) {
+            return Some(event.stamp);
+        }
+    }
+    None
+}
+
+/// The first so many events, or all.
+pub fn front(events: &[Event], most: usize) -> &[Event]
+    ensures { result.now ≡ take most events.now }
+{
+    &events[..most.min(events.len())]
+}

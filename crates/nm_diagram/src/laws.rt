@@ -1,0 +1,93 @@
+//! What follows from the lists of shapes. Each law is the contract of a function that does nothing.
+
+ghost use Rattle.std.specs.Prelude.{◌≡◌, ℕ, ◌<◌, ◌≤◌, ◌++◌, true, List, [], ◌∷◌, Some, slice_get};
+ghost use Rattle.std.specs.Prelude.{filter, length, map};
+ghost use Rattle.std.specs.List.{AllByRecursion};
+ghost use Rattle.nm_types.specs.declared.messages.Arrival.{Arrival};
+ghost use Rattle.nm_types.specs.declared.scripts.Line.{Line};
+ghost use Rattle.nm_types.specs.Sizes.{Sizes};
+ghost use Rattle.nm_history.specs.declared.events.Event.{Event};
+ghost use Rattle.nm_history.specs.declared.events.Happened.TheVariants as what;
+ghost use Rattle.nm_history.specs.AtEach.{AtEach};
+ghost use Rattle.nm_history.specs.RankRun.{StampAt};
+ghost use Rattle.nm_report.specs.declared.accounts.RankAccount.{RankAccount};
+ghost use Rattle.nm_report.specs.declared.records.RunRecord.{RunRecord};
+ghost use Rattle.nm_report.specs.Lawful.{IsRunIn};
+ghost use Rattle.nm_diagram.specs.declared.anchors.Anchor.TheVariants as anchor;
+ghost use Rattle.nm_diagram.specs.Alike.{AreAlike};
+ghost use Rattle.nm_diagram.specs.Anchors.{first_stamp};
+ghost use Rattle.nm_diagram.specs.Diagrams.{all_arrows, all_marks, arrows_at, mark_of, marks_of};
+ghost use Rattle.nm_diagram.specs.declared.frames.Frame.{Frame};
+ghost use Rattle.nm_diagram.specs.Frames.{IsFrame, is_shown, shown_count};
+ghost use Rattle.nm_diagram.specs.Joined.{HasOneArrow, IsOfMessage, Rise};
+ghost use Rattle.nm_diagram.specs.Markup.{escaped, is_plain};
+ghost use Rattle.nm_diagram.specs.Pictures.{IsPictureOf};
+ghost use Rattle.nm_diagram.specs.WellFormed.{IsWellFormed};
+
+/// Each event that is shown has exactly one mark, in the lane of its rank. The marks of a rank stand in
+/// the order of its history, so their stamps rise where those of its events do.
+pub fn each_event_has_one_mark()
+    ensures lane { (end rank : ℕ) (account : RankAccount) → marks_of end rank account
+        ≡ map (mark_of rank) (filter (is_shown end) account.history.events) }
+    ensures count { (end : ℕ) (ranks : List RankAccount) →
+        length (all_marks end ranks) ≡ shown_count end ranks }
+    ensures rise { (end rank : ℕ) (account : RankAccount) →
+        Rise 0 (map (λ e. e.stamp) account.history.events) →
+        Rise 0 (map (λ m. m.stamp) (marks_of end rank account)) }
+{}
+
+/// Each arrow goes from the send of a message to its arrival, and both are shown.
+pub fn each_arrow_is_of_a_message()
+    ensures { (end : ℕ) (ranks : List RankAccount) →
+        AllByRecursion (IsOfMessage end ranks) (all_arrows end ranks) }
+{}
+
+/// An arrival that is shown has exactly one arrow, from the send of its message, where stamps rise
+/// at the sender and the picture has room for what it shows. No other event has one.
+pub fn each_arrival_has_one_arrow()
+    ensures arrival { (end rank stamp sent : ℕ) (ranks : List RankAccount) (sender : RankAccount)
+        (a : Arrival) → stamp < end → shown_count end ranks ≤ 20000 →
+        slice_get ranks a.env.from ≡ Some sender →
+        Rise 0 (map (λ e. e.stamp) sender.history.events) →
+        first_stamp end (anchor.Send rank a.n) sender.history.events ≡ Some sent →
+        arrows_at end ranks rank (record { stamp = stamp; what = what.Arrive a })
+        ≡ record { from = a.env.from; sent = sent; to = rank; arrived = stamp; n = a.n; how = a.env.how } ∷ [] }
+    ensures other { (end rank : ℕ) (ranks : List RankAccount) (event : Event) →
+        ((a : Arrival) → ¬ (event.what ≡ what.Arrive a)) → arrows_at end ranks rank event ≡ [] }
+{}
+
+/// In the run of a script each arrival that is shown has one arrow, and it comes from an earlier stamp.
+pub fn each_message_goes_forward()
+    ensures { (shape : Sizes) (lines : List Line) (run : RunRecord) (frame : Frame) →
+        IsRunIn shape lines run → IsFrame run.ranks frame → (rank stamp : ℕ) (receiver : RankAccount)
+        (a : Arrival) (before after : List Event) → slice_get run.ranks rank ≡ Some receiver →
+        receiver.history.events ≡ before ++ record { stamp = stamp; what = what.Arrive a } ∷ after →
+        stamp < frame.end → HasOneArrow frame.end run.ranks rank stamp a }
+{}
+
+/// The stamps of a rank's run rise, by the rule of its clock.
+pub fn stamps_of_a_run_rise()
+    ensures { (h : List Event) → AtEach (λ before e. StampAt before e.stamp) h →
+        Rise 0 (map (λ e. e.stamp) h) }
+{}
+
+/// A run has one picture.
+pub fn a_run_has_one_picture()
+    ensures { (run : RunRecord) (a b : List ℕ) → IsPictureOf run a → IsPictureOf run b → a ≡ b }
+{}
+
+/// Runs of the same ranks, but for silent ones at the end of either, have one picture.
+pub fn alike_runs_have_one_picture()
+    ensures { (run other : RunRecord) (text : List ℕ) → AreAlike run.ranks other.ranks →
+        IsPictureOf run text → IsPictureOf other text }
+{}
+
+/// A picture is well-formed markup: each tag is closed where it has to be, and no text holds one.
+pub fn a_picture_is_well_formed()
+    ensures { (run : RunRecord) (text : List ℕ) → IsPictureOf run text → IsWellFormed text }
+{}
+
+/// What is between tags holds no tag.
+pub fn escaped_text_has_no_tags()
+    ensures { (text : List ℕ) → AllByRecursion (λ b. is_plain b ≡ true) (escaped text) }
+{}

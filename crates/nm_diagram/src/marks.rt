@@ -1,0 +1,133 @@
+//! A mark for each event, on the line of its rank.
+
+ghost use Rattle.std.specs.Prelude.{◌≡◌, ◌≤◌, ◌<◌, ◌++◌, OnOk, flat_map, length, string_bytes};
+ghost use Rattle.nm_diagram.specs.Diagrams.{all_marks, mark_of, marks_at, marks_of, sign_of};
+ghost use Rattle.nm_diagram.specs.Pictures.{mark_text, sign_text, title_text};
+
+use crate::frames::Frame;
+use crate::outlines::{x_of, y_of};
+use crate::words::{push_escaped, title};
+use nm_history::{Event, Happened};
+use nm_report::RankAccount;
+use nm_types::How;
+use std::alloc::{AllocError, Global};
+
+/// The name of the mark of an event.
+fn sign(what: &Happened) -> &'static str
+    ensures { result.now ≡ sign_of what.now }
+{
+    match what {
+        Happened::Send {
+            how: How::Eager,
+            ..
+        } => "send",
+        Happened::Send { how: How::Ask, .. } => "ask",
+        Happened::Post { .. } => "post",
+        Happened::Arrive { .. } => "arrive",
+        Happened::Whole { .. } => "whole",
+        Happened::Out { .. } => "out",
+        Happened::Cancel { .. } => "cancel",
+        Happened::Recall { .. } => "recall",
+        Happened::Withdraw { .. } => "withdraw",
+        Happened::Undone { .. } => "undone",
+        Happened::Claim { .. } => "claim",
+        Happened::Match { .. } => "match",
+        Happened::Ran { .. } => "ran",
+    }
+}
+
+/// Writes the start tag of the mark of an event.
+#[tactic(auto, unfolding(crate::specs::Pictures::sign_text))]
+fn push_sign(out: &mut String, rank: usize, event: &Event) -> Result<(), AllocError>
+    requires few { rank ≤ 256 }
+    requires low { event.now.stamp ≤ 1000000 }
+    ensures ok { OnOk result
+        (string_bytes out.new ≡ string_bytes out.old ++ sign_text (mark_of rank event.now)) }
+{
+    let name = sign(&event.what);
+    let x = x_of(rank);
+    let y = y_of(event.stamp);
+    write!(out, "<use href=\"#{name}\" x=\"{x}\" y=\"{y}\">")
+}
+
+/// Writes a title between its tags.
+#[tactic(auto, unfolding(crate::specs::Pictures::title_text))]
+fn push_title(out: &mut String, words: &str) -> Result<(), AllocError>
+    ensures ok { OnOk result
+        (string_bytes out.new ≡ string_bytes out.old ++ title_text words.now) }
+{
+    out.push_str("<title>")?;
+    push_escaped(out, words)?;
+    out.push_str("</title>")
+}
+
+/// Writes the mark of an event.
+#[tactic(auto, unfolding(crate::specs::Pictures::mark_text))]
+fn push_mark(alloc: Global, out: &mut String, rank: usize, event: &Event) -> Result<(), AllocError>
+    requires few { rank ≤ 256 }
+    requires low { event.now.stamp ≤ 1000000 }
+    ensures ok { OnOk result
+        (string_bytes out.new ≡ string_bytes out.old ++ mark_text (mark_of rank event.now)) }
+{
+    let words = title(alloc, rank, event)?;
+    push_sign(out, rank, event)?;
+    push_title(out, words.as_str())?;
+    out.push_str("</use>\n")
+}
+
+/// Writes the mark of an event, if it is shown.
+fn push_if_shown(
+    alloc: Global,
+    out: &mut String,
+    frame: &Frame,
+    rank: usize,
+    event: &Event,
+) -> Result<(), AllocError>
+    requires few { rank ≤ 256 }
+    requires low { frame.now.end ≤ 1000001 }
+    ensures ok { OnOk result (string_bytes out.new ≡ string_bytes out.old
+        ++ flat_map mark_text (marks_at frame.now.end rank event.now)) }
+{
+    if event.stamp < frame.end {
+        push_mark(alloc, out, rank, event)
+    } else {
+        Ok(())
+    }
+}
+
+/// Writes the marks of a rank.
+fn push_marks_of_rank(
+    alloc: Global,
+    out: &mut String,
+    frame: &Frame,
+    rank: usize,
+    account: &RankAccount,
+) -> Result<(), AllocError>
+    requires few { rank ≤ 256 }
+    requires low { frame.now.end ≤ 1000001 }
+    ensures ok { OnOk result (string_bytes out.new ≡ string_bytes out.old
+        ++ flat_map mark_text (marks_of frame.now.end rank account.now)) }
+{
+    for event in account.history.as_slice() {
+        push_if_shown(alloc, out, frame, rank, event)?;
+    }
+    Ok(())
+}
+
+/// Writes the marks of all events that are shown, rank by rank.
+pub fn push_marks(
+    alloc: Global,
+    out: &mut String,
+    frame: &Frame,
+    ranks: &[RankAccount],
+) -> Result<(), AllocError>
+    requires few { length ranks.now ≤ 256 }
+    requires low { frame.now.end ≤ 1000001 }
+    ensures ok { OnOk result (string_bytes out.new
+        ≡ string_bytes out.old ++ flat_map mark_text (all_marks frame.now.end ranks.now)) }
+{
+    for (rank, account) in ranks.iter().enumerate() {
+        push_marks_of_rank(alloc, out, frame, rank, account)?;
+    }
+    Ok(())
+}

@@ -1,0 +1,217 @@
+//! Where things stand: the lanes of the ranks, and what stands at their ends.
+
+ghost use Rattle.std.specs.Prelude.{◌≡◌, ◌≤◌, ◌++◌, OnOk, flat_map, length, string_bytes};
+ghost use Rattle.nm_diagram.specs.Diagrams.{all_lanes, lane_of};
+ghost use Rattle.nm_diagram.specs.Pictures.{foot_y, head_text, lane_text, lane_x, left_out_text};
+ghost use Rattle.nm_diagram.specs.Pictures.{line_text, note_text};
+ghost use Rattle.nm_diagram.specs.Pictures.{process_line, rank_label, size_text, stamp_y, wait_label};
+ghost use Rattle.nm_diagram.specs.Pictures.{wait_sign, wait_text};
+
+use crate::frames::Frame;
+use nm_report::RankAccount;
+use std::alloc::AllocError;
+
+/// How far from the left the line of a rank stands.
+pub fn x_of(rank: usize) -> u64
+    requires { rank ≤ 256 }
+    ensures { result ≡ lane_x rank }
+{
+    300 + 72 * rank as u64
+}
+
+/// How far from the top a stamp stands.
+pub fn y_of(stamp: u64) -> u64
+    requires { stamp ≤ 1000001 }
+    ensures { result ≡ stamp_y stamp }
+{
+    70 + 18 * stamp
+}
+
+/// Where the lines of the ranks end.
+fn foot(frame: &Frame) -> u64
+    requires { frame.now.bottom ≤ 1000000 }
+    ensures { result ≡ foot_y frame.now }
+{
+    y_of(frame.bottom + 1)
+}
+
+/// Writes the sign of a command that can't go on.
+#[tactic(auto, unfolding(crate::specs::Pictures::wait_sign))]
+fn push_wait_sign(out: &mut String, frame: &Frame, rank: usize, line: u32) -> Result<(), AllocError>
+    requires low { frame.now.bottom ≤ 1000000 }
+    requires few { rank ≤ 256 }
+    ensures ok { OnOk result
+        (string_bytes out.new ≡ string_bytes out.old ++ wait_sign frame.now rank line) }
+{
+    let x = x_of(rank);
+    let y = foot(frame);
+    write!(
+        out,
+        "<use href=\"#waits\" x=\"{x}\" y=\"{y}\"><title>waits at line {line}</title></use>\n"
+    )
+}
+
+/// Writes the words beside it.
+#[tactic(auto, unfolding(crate::specs::Pictures::wait_label))]
+fn push_wait_label(
+    out: &mut String,
+    frame: &Frame,
+    rank: usize,
+    line: u32,
+) -> Result<(), AllocError>
+    requires low { frame.now.bottom ≤ 1000000 }
+    requires few { rank ≤ 256 }
+    ensures ok { OnOk result (string_bytes out.new
+        ≡ string_bytes out.old ++ wait_label frame.now rank line) }
+{
+    let x = x_of(rank);
+    let y = foot(frame) + 40;
+    write!(
+        out,
+        "<text class=\"waits\" x=\"{x}\" y=\"{y}\">line {line}</text>\n"
+    )
+}
+
+/// Writes where a rank waits.
+#[tactic(auto, unfolding(crate::specs::Pictures::wait_text))]
+fn push_wait(
+    out: &mut String,
+    frame: &Frame,
+    rank: usize,
+    waits: Option<u32>,
+) -> Result<(), AllocError>
+    requires low { frame.now.bottom ≤ 1000000 }
+    requires few { rank ≤ 256 }
+    ensures ok { OnOk result
+        (string_bytes out.new ≡ string_bytes out.old ++ wait_text frame.now rank waits) }
+{
+    match waits {
+        Some(line) => {
+            push_wait_sign(out, frame, rank, line)?;
+            push_wait_label(out, frame, rank, line)
+        }
+        None => Ok(()),
+    }
+}
+
+/// Writes the process line of a rank.
+#[tactic(auto, unfolding(crate::specs::Pictures::process_line))]
+fn push_process(out: &mut String, frame: &Frame, rank: usize) -> Result<(), AllocError>
+    requires low { frame.now.bottom ≤ 1000000 }
+    requires few { rank ≤ 256 }
+    ensures ok { OnOk result
+        (string_bytes out.new ≡ string_bytes out.old ++ process_line frame.now rank) }
+{
+    let x = x_of(rank);
+    let y = foot(frame);
+    write!(
+        out,
+        "<line class=\"lane\" x1=\"{x}\" y1=\"70\" x2=\"{x}\" y2=\"{y}\"></line>\n"
+    )
+}
+
+/// Writes the name of a rank.
+#[tactic(auto, unfolding(crate::specs::Pictures::rank_label))]
+fn push_rank_label(out: &mut String, rank: usize, y: u64) -> Result<(), AllocError>
+    requires few { rank ≤ 256 }
+    ensures ok { OnOk result (string_bytes out.new ≡ string_bytes out.old ++ rank_label rank y) }
+{
+    let x = x_of(rank);
+    write!(
+        out,
+        "<text class=\"rank\" x=\"{x}\" y=\"{y}\">rank {rank}</text>\n"
+    )
+}
+
+/// Writes the line of a rank, with its name at both ends.
+#[tactic(auto, unfolding(crate::specs::Pictures::line_text))]
+fn push_line(out: &mut String, frame: &Frame, rank: usize) -> Result<(), AllocError>
+    requires low { frame.now.bottom ≤ 1000000 }
+    requires few { rank ≤ 256 }
+    ensures ok { OnOk result
+        (string_bytes out.new ≡ string_bytes out.old ++ line_text frame.now rank) }
+{
+    push_process(out, frame, rank)?;
+    push_rank_label(out, rank, 56)?;
+    push_rank_label(out, rank, foot(frame) + 24)
+}
+
+/// Writes the line of a rank, and where it waits.
+#[tactic(auto, unfolding(crate::specs::Pictures::lane_text))]
+fn push_lane(
+    out: &mut String,
+    frame: &Frame,
+    rank: usize,
+    account: &RankAccount,
+) -> Result<(), AllocError>
+    requires low { frame.now.bottom ≤ 1000000 }
+    requires few { rank ≤ 256 }
+    ensures ok { OnOk result (string_bytes out.new
+        ≡ string_bytes out.old ++ flat_map (lane_text frame.now) (lane_of rank account.now)) }
+{
+    push_line(out, frame, rank)?;
+    push_wait(out, frame, rank, account.waits)
+}
+
+/// Writes the lines of the ranks.
+pub fn push_lanes(out: &mut String, frame: &Frame, ranks: &[RankAccount]) -> Result<(), AllocError>
+    requires low { frame.now.bottom ≤ 1000000 }
+    requires few { length ranks.now ≤ 256 }
+    ensures ok { OnOk result (string_bytes out.new
+        ≡ string_bytes out.old ++ flat_map (lane_text frame.now) (all_lanes ranks.now)) }
+{
+    for (rank, account) in ranks.iter().enumerate() {
+        push_lane(out, frame, rank, account)?;
+    }
+    Ok(())
+}
+
+/// Writes how many events are left out.
+#[tactic(auto, unfolding(crate::specs::Pictures::left_out_text))]
+fn push_count(out: &mut String, count: u64) -> Result<(), AllocError>
+    ensures ok { OnOk result
+        (string_bytes out.new ≡ string_bytes out.old ++ left_out_text count) }
+{
+    write!(
+        out,
+        "<text class=\"note\" x=\"300\" y=\"26\">later events left out: {count}</text>\n"
+    )
+}
+
+/// Writes how many events are left out, where there are any.
+#[tactic(auto, unfolding(crate::specs::Pictures::note_text))]
+pub fn push_left_out(out: &mut String, frame: &Frame) -> Result<(), AllocError>
+    ensures ok { OnOk result
+        (string_bytes out.new ≡ string_bytes out.old ++ note_text frame.now.left_out) }
+{
+    if frame.left_out == 0 {
+        Ok(())
+    } else {
+        push_count(out, frame.left_out)
+    }
+}
+
+/// Writes the start tag of a picture of this size.
+#[tactic(auto, unfolding(crate::specs::Pictures::size_text))]
+fn push_svg(out: &mut String, width: u64, height: u64) -> Result<(), AllocError>
+    ensures ok { OnOk result
+        (string_bytes out.new ≡ string_bytes out.old ++ size_text width height) }
+{
+    write!(
+        out,
+        "<svg xmlns=\"http://www.w3.org/2000/svg\" width=\"{width}\" height=\"{height}\" viewBox=\"0 0 {width} {height}\">\n"
+    )
+}
+
+/// Writes the start tag of the picture.
+#[tactic(auto, unfolding(crate::specs::Pictures::head_text))]
+pub fn push_size(out: &mut String, frame: &Frame) -> Result<(), AllocError>
+    requires low { frame.now.bottom ≤ 1000000 }
+    requires few { frame.now.lanes ≤ 256 }
+    ensures ok { OnOk result
+        (string_bytes out.new ≡ string_bytes out.old ++ head_text frame.now) }
+{
+    let width = x_of(frame.lanes).max(560);
+    let height = (foot(frame) + 60).max(460);
+    push_svg(out, width, height)
+}
