@@ -1,0 +1,7 @@
+pub mod MatcherLemmas
+pub mod HistoryLemmas
+pub mod ReplayLemmas
+pub mod EventLemmas
+pub mod LookLemmas
+pub mod PairingLemmas
+pub mod WalkLemmas

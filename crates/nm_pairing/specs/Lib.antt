@@ -1,0 +1,4 @@
+pub mod Looks
+pub mod Pairings
+pub mod Queues
+pub mod Replays

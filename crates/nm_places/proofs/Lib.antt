@@ -1,0 +1,4 @@
+pub mod EachLemmas
+pub mod EarlyLemmas
+pub mod FirstLemmas
+pub mod StepLemmas

@@ -1,0 +1,184 @@
+//! What is looked up of a history.
+
+ghost use Rattle.std.specs.Prelude.{IfOk};
+ghost use Rattle.nm_places.specs.Placed.{AreByNumber, AreCame, AreGone, AreIncoming, AreOutgoing};
+ghost use Rattle.nm_places.specs.Placed.{ArePlaces, AreRecalled, AreSettled};
+
+use crate::firsts::{Message, firsts, numbered_firsts};
+use crate::kinds::{
+    Arrivals, AskedSends, Askings, Cancels, Claims, Late, LineClaims, Outs, Recalls, Refused,
+    Sends, Starts, Undone, Wholes, Withdrawn,
+};
+use indexmap::IndexMap;
+use nm_history::Event;
+use nm_types::Memory;
+use std::alloc::Global;
+
+/// The first places at which the messages of other ranks came.
+#[derive(Drop)]
+pub struct Came {
+    pub arrivals: IndexMap<Message, usize>,
+    pub askings: IndexMap<Message, usize>,
+    pub wholes: IndexMap<Message, usize>,
+}
+
+impl Came {
+    fn of(alloc: Global, events: &[Event]) -> Result<Came, Memory>
+        ensures { IfOk result (AreCame events.now) }
+    {
+        let arrivals = firsts::<Arrivals>(alloc, events)?;
+        let askings = firsts::<Askings>(alloc, events)?;
+        let wholes = firsts::<Wholes>(alloc, events)?;
+        Ok(Came {
+            arrivals,
+            askings,
+            wholes,
+        })
+    }
+}
+
+/// The first places at which it was settled what becomes of them.
+#[derive(Drop)]
+pub struct Settled {
+    pub withdrawn: IndexMap<Message, usize>,
+    pub refused: IndexMap<Message, usize>,
+    pub claims: IndexMap<Message, usize>,
+}
+
+impl Settled {
+    fn of(alloc: Global, events: &[Event]) -> Result<Settled, Memory>
+        ensures { IfOk result (AreSettled events.now) }
+    {
+        let withdrawn = firsts::<Withdrawn>(alloc, events)?;
+        let refused = firsts::<Refused>(alloc, events)?;
+        let claims = firsts::<Claims>(alloc, events)?;
+        Ok(Settled {
+            withdrawn,
+            refused,
+            claims,
+        })
+    }
+}
+
+/// The first places of what happens to the messages of other ranks.
+#[derive(Drop)]
+pub struct Incoming {
+    pub came: Came,
+    pub settled: Settled,
+}
+
+impl Incoming {
+    fn of(alloc: Global, events: &[Event]) -> Result<Incoming, Memory>
+        ensures { IfOk result (AreIncoming events.now) }
+    {
+        let came = Came::of(alloc, events)?;
+        let settled = Settled::of(alloc, events)?;
+        Ok(Incoming { came, settled })
+    }
+}
+
+/// The first places at which messages to other ranks were sent and left.
+#[derive(Drop)]
+pub struct Gone {
+    pub sends: IndexMap<Message, usize>,
+    pub asked: IndexMap<Message, usize>,
+    pub outs: IndexMap<Message, usize>,
+}
+
+impl Gone {
+    fn of(alloc: Global, events: &[Event]) -> Result<Gone, Memory>
+        ensures { IfOk result (AreGone events.now) }
+    {
+        let sends = firsts::<Sends>(alloc, events)?;
+        let asked = firsts::<AskedSends>(alloc, events)?;
+        let outs = firsts::<Outs>(alloc, events)?;
+        Ok(Gone { sends, asked, outs })
+    }
+}
+
+/// The first places at which they were recalled, and the answers came.
+#[derive(Drop)]
+pub struct Recalled {
+    pub recalls: IndexMap<Message, usize>,
+    pub undone: IndexMap<Message, usize>,
+    pub late: IndexMap<Message, usize>,
+}
+
+impl Recalled {
+    fn of(alloc: Global, events: &[Event]) -> Result<Recalled, Memory>
+        ensures { IfOk result (AreRecalled events.now) }
+    {
+        let recalls = firsts::<Recalls>(alloc, events)?;
+        let undone = firsts::<Undone>(alloc, events)?;
+        let late = firsts::<Late>(alloc, events)?;
+        Ok(Recalled {
+            recalls,
+            undone,
+            late,
+        })
+    }
+}
+
+/// The first places of what happens to the messages to other ranks.
+#[derive(Drop)]
+pub struct Outgoing {
+    pub gone: Gone,
+    pub recalled: Recalled,
+}
+
+impl Outgoing {
+    fn of(alloc: Global, events: &[Event]) -> Result<Outgoing, Memory>
+        ensures { IfOk result (AreOutgoing events.now) }
+    {
+        let gone = Gone::of(alloc, events)?;
+        let recalled = Recalled::of(alloc, events)?;
+        Ok(Outgoing { gone, recalled })
+    }
+}
+
+/// The first places of what happens to receives, by their number, and of what is done for a command, by
+/// its line.
+#[derive(Drop)]
+pub struct ByNumber {
+    pub cancels: IndexMap<u64, usize>,
+    pub starts: IndexMap<u64, usize>,
+    pub claims: IndexMap<u64, usize>,
+}
+
+impl ByNumber {
+    fn of(alloc: Global, events: &[Event]) -> Result<ByNumber, Memory>
+        ensures { IfOk result (AreByNumber events.now) }
+    {
+        let cancels = numbered_firsts::<Cancels>(alloc, events)?;
+        let starts = numbered_firsts::<Starts>(alloc, events)?;
+        let claims = numbered_firsts::<LineClaims>(alloc, events)?;
+        Ok(ByNumber {
+            cancels,
+            starts,
+            claims,
+        })
+    }
+}
+
+/// Where in a history each thing happened first.
+#[derive(Drop)]
+pub struct Places {
+    pub incoming: Incoming,
+    pub outgoing: Outgoing,
+    pub by_number: ByNumber,
+}
+
+impl Places {
+    pub fn of(alloc: Global, events: &[Event]) -> Result<Places, Memory>
+        ensures { IfOk result (ArePlaces events.now) }
+    {
+        let incoming = Incoming::of(alloc, events)?;
+        let outgoing = Outgoing::of(alloc, events)?;
+        let by_number = ByNumber::of(alloc, events)?;
+        Ok(Places {
+            incoming,
+            outgoing,
+            by_number,
+        })
+    }
+}
