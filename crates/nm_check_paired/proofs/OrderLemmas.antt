@@ -1,0 +1,103 @@
+-- The lines of the commands of a rank and of those that ran, one after another.
+use Rattle.std.proofs.Common.{◌≡◌, ℕ, suc, ◌+◌, ◌<◌, ◌≤◌, ◌==◌, Bool, true, false, cond, Option, List, []}
+use Rattle.std.proofs.Common.{◌∷◌, ◌++◌}
+use Rattle.std.proofs.Common.{length, map, take, get_or, refl, sym, ◌∙◌, ap, arith, append-nil}
+use Rattle.std.specs.List.{cons_option}
+use Rattle.std.proofs.lemmas.Bool.Decides.{nat_tests}
+use Rattle.std.proofs.lemmas.List.{length-map, length-take-le, take-map}
+use Rattle.std.proofs.lemmas.List.Elements.{filter_map-append}
+use Rattle.nm_types.specs.Commands.{Numbered, commands_from, commands_of}
+use Rattle.nm_types.specs.declared.scripts.Line.{Line}
+use Rattle.nm_history.specs.declared.events.Event.{Event}
+use Rattle.nm_history.specs.RankRun.{ran_lines, ran_of}
+use Rattle.nm_places.specs.Deciding.{Decides}
+use Rattle.nm_places.proofs.StepLemmas.{take_next}
+use Rattle.nm_check_paired.proofs.DecideLemmas.{decides_by}
+
+abbrev lines_from : ℕ → ℕ → List Line → List ℕ
+lines_from rank n xs = map (λ (c : Numbered). c.line) (commands_from rank n xs)
+
+lines_push : (rank n : ℕ) (xs : List Line) (l : Line) →
+    lines_from rank n (xs ++ l ∷ []) ≡ lines_from rank n xs ++ cond (l.rank == rank) ((n + length xs) ∷ []) []
+lines_push rank n [] l = by_rank (l.rank == rank) (omega arith)
+  where
+    by_rank : (b : Bool) → n ≡ n + 0 →
+        map (λ (c : Numbered). c.line) (cond b (record { line = n; command = l.command } ∷ []) []) ≡ cond b
+        ((n + 0) ∷ []) []
+    by_rank true same = ap (λ (m : ℕ). m ∷ []) same
+    by_rank false same = refl
+lines_push rank n (x ∷ xs) l =
+    by_rank (x.rank == rank)
+    (lines_push rank (n + 1) xs l ∙ ap (λ (m : ℕ). lines_from rank (n + 1) xs ++ cond (l.rank == rank)
+    (m ∷ []) []) shift)
+  where
+    shift : (n + 1) + length xs ≡ n + suc (length xs)
+    shift = omega arith
+
+    by_rank : (b : Bool) →
+        lines_from rank (n + 1) (xs ++ l ∷ []) ≡ lines_from rank (n + 1) xs ++ cond (l.rank == rank)
+        ((n + suc (length xs)) ∷ []) [] →
+        map (λ (c : Numbered). c.line)
+        (cond b (record { line = n; command = x.command } ∷ commands_from rank (n + 1) (xs ++ l ∷ []))
+        (commands_from rank (n + 1) (xs ++ l ∷ [])))
+        ≡ map (λ (c : Numbered). c.line)
+        (cond b (record { line = n; command = x.command } ∷ commands_from rank (n + 1) xs)
+        (commands_from rank (n + 1) xs))
+        ++ cond (l.rank == rank) ((n + suc (length xs)) ∷ []) []
+    by_rank true later = ap (λ (ls : List ℕ). n ∷ ls) later
+    by_rank false later = later
+
+module _ (rank : ℕ) (lines : List Line) (k : ℕ) (l : Line) (inside : k < length lines) (is : l ≡ get_or lines k l) where
+  own_next : map (λ (c : Numbered). c.line) (commands_of rank (take (k + 1) lines))
+      ≡ map (λ (c : Numbered). c.line) (commands_of rank (take k lines)) ++ cond (l.rank == rank) ((k + 2) ∷ []) []
+  own_next =
+      let counted : length (take k lines) ≡ k = length-take-le k lines (omega (arith, inside)) in
+      let place : 2 + length (take k lines) ≡ k + 2 = omega (arith, counted) in
+      ap (λ (ls : List Line). lines_from rank 2 ls) (take_next lines k l inside is) ∙ lines_push rank 2 (take k lines) l
+      ∙ ap (λ (m : ℕ). lines_from rank 2 (take k lines) ++ cond (l.rank == rank) (m ∷ []) []) place
+
+  equal : l.rank ≡ rank → (l.rank == rank) ≡ true
+  equal same = grind (arith, nat_tests)
+
+  unequal : (l.rank ≡ rank → ⊥) → (l.rank == rank) ≡ false
+  unequal not = grind (arith, nat_tests)
+
+  -- the line of one more command
+  pub own_line : (own : List ℕ) → l.rank ≡ rank → own ≡ map (λ c. c.line) (commands_of rank (take k lines)) →
+      own ++ (k + 2) ∷ [] ≡ map (λ c. c.line) (commands_of rank (take (k + 1) lines))
+  own_line own ours are =
+      ap (λ (ls : List ℕ). ls ++ (k + 2) ∷ []) are
+      ∙ ap (λ (b : Bool). map (λ (c : Numbered). c.line) (commands_of rank (take k lines)) ++ cond b
+      ((k + 2) ∷ []) []) (sym (equal ours))
+      ∙ sym own_next
+
+  -- .. of another rank's
+  pub other_line : (own : List ℕ) → (l.rank ≡ rank → ⊥) → own ≡ map (λ c. c.line) (commands_of rank (take k lines)) →
+      own ≡ map (λ c. c.line) (commands_of rank (take (k + 1) lines))
+  other_line own others are =
+      are ∙ sym (append-nil (map (λ (c : Numbered). c.line) (commands_of rank (take k lines))))
+      ∙ ap (λ (b : Bool). map (λ (c : Numbered). c.line) (commands_of rank (take k lines)) ++ cond b
+      ((k + 2) ∷ []) []) (sym (unequal others))
+      ∙ sym own_next
+
+module _ (h : List Event) (k : ℕ) (e : Event) (inside : k < length h) (is : e ≡ get_or h k e) where
+  -- the lines that ran, with one event more
+  pub ran_next : (ran : List ℕ) (o : Option ℕ) → o ≡ ran_of e.what → ran ≡ ran_lines (take k h) →
+      ran ++ cons_option o [] ≡ ran_lines (take (k + 1) h)
+  ran_next ran o line are =
+      ap (λ (ls : List ℕ). ls ++ cons_option o []) are
+      ∙ ap (λ (o : Option ℕ). ran_lines (take k h) ++ cons_option o []) line
+      ∙ sym (ap ran_lines (take_next h k e inside is)
+      ∙ filter_map-append (λ (e : Event). ran_of e.what) (take k h) (e ∷ []))
+
+-- the lines that ran are the first of a rank's
+pub front_decided : (commands : List Numbered) (own ran all : List ℕ) (at : ℕ) (r : Bool) →
+    own ≡ map (λ c. c.line) commands → ran ≡ all → Decides r ((at ≤ length own) × (ran ≡ take at own)) →
+    Decides r ((at ≤ length commands) × (all ≡ map (λ c. c.line) (take at commands)))
+front_decided commands own ran all at r own_is ran_is right =
+    let lengths : length own ≡ length commands = ap length own_is ∙ length-map commands (λ (c : Numbered). c.line) in
+    let fronts : take at own ≡ map (λ (c : Numbered). c.line) (take at commands) =
+    ap (λ (ls : List ℕ). take at ls) own_is ∙ take-map (λ (c : Numbered). c.line) at commands in
+    decides_by r
+    (λ both. (let few = both.0 in omega (arith, lengths, few), sym ran_is ∙ both.1 ∙ fronts))
+    (λ both. (let few = both.0 in omega (arith, lengths, few), ran_is ∙ both.1 ∙ sym fronts)) right

@@ -1,0 +1,4 @@
+pub mod Handles
+pub mod Kinds
+pub mod Tabled
+pub mod Told

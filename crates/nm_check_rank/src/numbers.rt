@@ -1,0 +1,105 @@
+//! Whether messages and receives are numbered from 0.
+
+ghost use Rattle.std.specs.Prelude.{◌≡◌, ℕ, ◌+◌, ◌-◌, ◌<◌, ◌^◌, List, [], ◌∷◌, ◌++◌, length};
+ghost use Rattle.nm_places.specs.Deciding.{Decides};
+ghost use Rattle.nm_check_rank.specs.Counted.{AreCounted};
+ghost use Rattle.nm_history.specs.declared.events.Event.{Event};
+ghost use Rattle.nm_history.specs.RankRun.{Always, NumberAt};
+ghost use Rattle.nm_history.specs.Sends.{arrivals, sends};
+
+use nm_history::{Event, Happened};
+
+/// How many ranks a number of 8 bits can name.
+const NAMES: usize = 256;
+
+/// How many messages were sent to each rank and came from each, and how many receives there were.
+#[derive(Drop)]
+pub struct Counts {
+    sends: [u64; NAMES],
+    arrivals: [u64; NAMES],
+    receives: u64,
+}
+
+impl Counts {
+    fn none() -> Counts
+        ensures { AreCounted [] result }
+    {
+        Counts {
+            sends: [0; NAMES],
+            arrivals: [0; NAMES],
+            receives: 0,
+        }
+    }
+
+    /// Whether the number of a send, a receive or an arrival is the next one, and an arrival is
+    /// of one
+    /// of the ranks.
+    fn is_next(&self, ranks: u8, what: &Happened) -> bool
+        ensures { (before : List Event) → AreCounted before self.now →
+            Decides result (NumberAt ranks before what.now) }
+    {
+        match what {
+            Happened::Send { to, n, .. } => *n == self.sends[*to as usize],
+            Happened::Post { post, .. } => post.number == self.receives,
+            Happened::Match { number, .. } => *number == self.receives,
+            Happened::Arrive { a } => {
+                a.env.from < ranks && a.n == self.arrivals[a.env.from as usize]
+            }
+            _ => true,
+        }
+    }
+
+    fn add(&mut self, what: &Happened)
+        ensures { (before : List Event) (stamp : ℕ) → length before < 2 ^ 64 - 1 →
+            AreCounted before self.old →
+            AreCounted (before ++ record { stamp = stamp; what = what.now } ∷ []) self.new }
+    {
+        match what {
+            Happened::Send { to, .. } => {
+                self.sends[*to as usize] = self.sends[*to as usize].saturating_add(1);
+            }
+            Happened::Post { .. } | Happened::Match { .. } => {
+                self.receives = self.receives.saturating_add(1);
+            }
+            Happened::Arrive { a } => {
+                let from = a.env.from as usize;
+                self.arrivals[from] = self.arrivals[from].saturating_add(1);
+            }
+            _ => {}
+        }
+    }
+}
+
+/// Whether sends, receives and arrivals are numbered from 0, and messages come from one of the
+/// ranks.
+pub fn are_numbered(ranks: u8, events: &[Event]) -> bool
+    ensures { Decides result (Always (NumberAt ranks) events.now) }
+{
+    let mut counts = Counts::none();
+    for e in events {
+        if !counts.is_next(ranks, &e.what) {
+            return false;
+        }
+        counts.add(&e.what);
+    }
+    true
+}
+
+/// The counts of a history.
+pub fn counted(events: &[Event]) -> Counts
+    ensures { AreCounted events.now result }
+{
+    let mut counts = Counts::none();
+    for e in events {
+        counts.add(&e.what);
+    }
+    counts
+}
+
+/// Whether all that rank i sent to rank j has arrived, by the counts of both.
+pub fn has_arrived(i: u8, j: u8, sender: &Counts, receiver: &Counts) -> bool
+    ensures { (hi hj : List Event) → AreCounted hi sender.now → AreCounted hj receiver.now →
+        Decides result (length (arrivals hj i) ≡ length (sends hi j)) }
+{
+    receiver.arrivals[i as usize] == sender.sends[j as usize]
+}
