@@ -1,0 +1,2 @@
+pub mod RankedLemmas
+pub mod ExactLemmas

@@ -1,0 +1,20 @@
+-- The tables of the ranks, one rank after another.
+use Rattle.std.proofs.Common.{◌≡◌, ℕ, ◌<◌, Option, List, length, get_or, sym, subst}
+use Rattle.std.specs.Prelude.{IsSomeAnd}
+use Rattle.std.specs.List.{slice_get}
+use Rattle.nm_types.specs.declared.scripts.Line.{Line}
+use Rattle.nm_history.specs.Quiescence.{Ended}
+use Rattle.nm_report.specs.declared.accounts.RankAccount.{RankAccount}
+use Rattle.nm_report.specs.Ends.{ends_of}
+use Rattle.nm_check_paired.specs.Tabled.{AreTables}
+use Rattle.nm_check_paired.specs.declared.tables.Tables.{Tables}
+use Rattle.nm_check_between.proofs.RankLemmas.{end_at, ended}
+
+-- the tables of the rank at a place
+abbrev pub TabledAt : List Line → List Ended → ℕ → Tables → Type 0
+TabledAt lines ranks i tables = IsSomeAnd (slice_get ranks i) (λ rank. AreTables i lines rank.events tables)
+
+-- what is so of the rank at a place
+pub of_end : (ranks : List RankAccount) (i : ℕ) (a : RankAccount) (P : Ended → Type 0) → i < length ranks → a ≡ get_or ranks i a → P (ended a) →
+    IsSomeAnd (slice_get (ends_of ranks) i) P
+of_end ranks i a P inside is here = subst (λ (o : Option Ended). IsSomeAnd o P) (sym (end_at ranks i a inside is)) here

@@ -1,0 +1,115 @@
+//! The judge of a record.
+
+ghost use Rattle.std.specs.Prelude.{◌≡◌, ◌<◌, IfOk, List, MatchOption, length};
+ghost use Rattle.nm_types.specs.declared.scripts.Line as script_line;
+ghost use Rattle.nm_types.specs.Sizes.{Sizes};
+ghost use Rattle.nm_history.specs.Quiescence.{AreQuiescent, EachPair, EachRank};
+ghost use Rattle.nm_history.specs.Run.{IsRunOf};
+ghost use Rattle.nm_report.specs.Ends.{ends_of, packets_of};
+ghost use Rattle.nm_report.specs.Lawful.{IsRunIn};
+ghost use Rattle.nm_check.specs.declared.verdicts.Verdict.TheVariants.{Holds};
+ghost use Rattle.nm_check.specs.Verdicts.{Judges, RunsItsOwn};
+ghost use Rattle.nm_check_between.specs.CarriedClauses.{PairDelivered};
+ghost use Rattle.nm_check_between.specs.Marked.{BreaksPair};
+ghost use Rattle.nm_check_between.specs.Tabled.{EachTabled};
+ghost use Rattle.nm_check_rank.specs.FirstBroken.{IsFirstBroken};
+ghost use Rattle.nm_check_rest.specs.RestClauses.{KeepsRest, rest_order};
+
+use crate::ends::{are_home, is_marked};
+use crate::ranking::{Ranked, judge_ranks};
+use crate::verdicts::Verdict;
+use nm_check_between::between::{BrokenPair, first_pair};
+use nm_check_between::marking::marks_of;
+use nm_check_paired::tables::Tables;
+use nm_check_rest::clauses::RestClause;
+use nm_check_rest::counts::are_counted;
+use nm_check_rest::over::{are_asked_over, are_eager_over};
+use nm_check_rest::rest::{are_all_answered, has_all_arrived};
+use nm_check_rest::resting::first_of_rest;
+use nm_check_rest::waits::are_standing;
+use nm_report::{PairCount, RankAccount, RunRecord};
+use nm_types::{Line, Memory, Script};
+use std::alloc::Global;
+
+/// The first pair of ranks between which a rule is broken, where all run their own commands.
+fn judge_pairs(
+    alloc: Global,
+    lines: &[Line],
+    ranks: &[RankAccount],
+    tables: &[Tables],
+) -> Result<Option<BrokenPair>, Memory>
+    requires few { length ranks.now < 256 }
+    requires runs { (shape : Sizes) × EachRank (RunsItsOwn shape lines.now) (ends_of ranks.now) }
+    requires tabled { EachTabled lines.now (ends_of ranks.now) tables.now }
+    ensures { IfOk result (λ found. MatchOption found
+        (EachPair (PairDelivered lines.now) (ends_of ranks.now))
+        (λ pair. BreaksPair lines.now (ends_of ranks.now) pair.from pair.broken.to pair.broken.clause)) }
+{
+    let marks = marks_of(alloc, lines, ranks, tables)?;
+    Ok(first_pair(&marks))
+}
+
+/// The first rule of rest that is broken.
+fn judge_rest(
+    lines: &[Line],
+    ranks: &[RankAccount],
+    pairs: &[PairCount],
+    tables: &[Tables],
+) -> Option<RestClause>
+    requires few { length ranks.now < 256 }
+    requires tabled { EachTabled lines.now (ends_of ranks.now) tables.now }
+    ensures { MatchOption result
+        (AreQuiescent lines.now (ends_of ranks.now) (packets_of pairs.now))
+        (IsFirstBroken (KeepsRest lines.now (ends_of ranks.now) (packets_of pairs.now)) rest_order) }
+{
+    let arrived = has_all_arrived(tables);
+    let eager = are_eager_over(ranks, tables);
+    let asked = are_asked_over(ranks, tables);
+    let recalls = are_all_answered(ranks, tables);
+    let waits = are_standing(lines, ranks, tables);
+    let counts = are_counted(pairs, ranks, tables);
+    first_of_rest(arrived, eager, asked, recalls, waits, counts)
+}
+
+/// The verdict on a record whose ranks make a run.
+fn judge_ends(run: &RunRecord) -> Verdict
+    ensures { (lines : List script_line.Line) →
+        IsRunOf run.now.shape lines (ends_of run.now.ranks) (packets_of run.now.pairs) →
+        Judges lines run.now result }
+{
+    if !are_home(run) {
+        return Verdict::Home;
+    }
+    if !is_marked(run) {
+        return Verdict::Done;
+    }
+    Verdict::Holds
+}
+
+/// Judges whether a record is of a run of a script: it holds exactly where it is, else the verdict is
+/// the first rule that is broken, rank by rank, then pair by pair, then of all ranks.
+pub fn judge(alloc: Global, script: &Script, run: &RunRecord) -> Result<Verdict, Memory>
+    requires equal { run.now.shape.ranks ≡ script.now.ranks }
+    requires whole { length run.now.ranks ≡ run.now.shape.ranks }
+    ensures first { IfOk result (Judges script.now.lines run.now) }
+    ensures exact { IsRunIn run.now.shape script.now.lines run.now →
+        IfOk result (λ verdict. verdict ≡ Holds) }
+{
+    let lines = script.lines.as_slice();
+    let ranks = run.ranks.as_slice();
+    let tables = match judge_ranks(alloc, run.shape, lines, ranks)? {
+        Ranked::Run(tables) => tables,
+        Ranked::Breaks { clause, rank } => return Ok(Verdict::Own { clause, rank }),
+    };
+    if let Some(pair) = judge_pairs(alloc, lines, ranks, &tables)? {
+        return Ok(Verdict::Carried {
+            clause: pair.broken.clause,
+            from: pair.from,
+            to: pair.broken.to,
+        });
+    }
+    if let Some(clause) = judge_rest(lines, ranks, run.pairs.as_slice(), &tables) {
+        return Ok(Verdict::Rest { clause });
+    }
+    Ok(judge_ends(run))
+}

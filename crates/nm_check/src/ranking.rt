@@ -1,0 +1,45 @@
+//! Whether each rank of a record runs its own commands.
+
+ghost use Rattle.std.specs.Prelude.{◌<◌, IfOk, length};
+ghost use Rattle.nm_report.specs.Ends.{ends_of};
+ghost use Rattle.nm_check.specs.Ranked.{IsRanked};
+
+use nm_check_paired::judging::{Judged, judge_rank};
+use nm_check_paired::tables::Tables;
+use nm_check_rank::clauses::OwnClause;
+use nm_report::RankAccount;
+use nm_types::{Line, Memory, Shape};
+use std::alloc::Global;
+
+/// All ranks run their own commands, and what is looked up of them; or the first rule that is broken.
+#[derive(Drop)]
+pub(crate) enum Ranked {
+    Run(Vec<Tables>),
+    Breaks { clause: OwnClause, rank: u8 },
+}
+
+/// Whether each rank runs its own commands.
+pub(crate) fn judge_ranks(
+    alloc: Global,
+    shape: Shape,
+    lines: &[Line],
+    ranks: &[RankAccount],
+) -> Result<Ranked, Memory>
+    requires { length ranks.now < 256 }
+    ensures { IfOk result (IsRanked shape lines.now (ends_of ranks.now)) }
+{
+    let mut tables = Vec::new(alloc);
+    for (i, rank) in ranks.iter().enumerate() {
+        let events = rank.history.as_slice();
+        match judge_rank(alloc, shape, i as u8, lines, rank.at, events)? {
+            Judged::Runs(own) => tables.push(own)?,
+            Judged::Breaks(clause) => {
+                return Ok(Ranked::Breaks {
+                    clause,
+                    rank: i as u8,
+                });
+            }
+        }
+    }
+    Ok(Ranked::Run(tables))
+}

@@ -1,0 +1,32 @@
+//! What can be said of a record.
+
+use nm_check_between::clauses::CarriedClause;
+use nm_check_rank::clauses::OwnClause;
+use nm_check_rest::clauses::RestClause;
+
+/// What a record is judged to be: a run, or one that breaks a rule. The rule is the first that is
+/// broken.
+#[derive(Clone, Copy, Debug, PartialEq, Eq)]
+pub enum Verdict {
+    /// The record is of a run of the script.
+    Holds,
+    /// A rank breaks a rule of its own run.
+    Own {
+        clause: OwnClause,
+        rank: u8,
+    },
+    /// The messages from one rank to another break a rule.
+    Carried {
+        clause: CarriedClause,
+        from: u8,
+        to: u8,
+    },
+    /// The ranks are not at rest.
+    Rest {
+        clause: RestClause,
+    },
+    /// Not all cells are home.
+    Home,
+    /// The record is not marked as done exactly where every rank is at its end.
+    Done,
+}

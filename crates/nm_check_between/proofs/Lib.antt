@@ -1,0 +1,10 @@
+pub mod BetweenLemmas
+pub mod MarkLemmas
+pub mod PairLemmas
+pub mod RankLemmas
+pub mod SentLemmas
+pub mod TableLemmas
+pub mod WasLemmas
+pub mod BodyLemmas
+pub mod MarkedLemmas
+pub mod ItemLemmas

@@ -1,0 +1,3 @@
+pub mod CarriedClauses
+pub mod Marked
+pub mod Tabled

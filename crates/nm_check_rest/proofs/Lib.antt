@@ -1,0 +1,3 @@
+pub mod OverLemmas
+pub mod WaitLemmas
+pub mod CountingLemmas
