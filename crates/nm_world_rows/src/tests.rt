@@ -1,0 +1,212 @@
+ghost use Rattle.std.specs.Prelude.{◌≡◌, ℕ, Some, length, slice_get};
+ghost use Rattle.nm_copyring.specs.declared.port.RingPort.{RingPort};
+ghost use Rattle.nm_cells.specs.declared.port.Port.{Port};
+ghost use Rattle.nm_cells.specs.Ports.{IsNew};
+ghost use Rattle.nm_copyring.specs.Ports as ring_port;
+ghost use Rattle.nm_process.specs.Lines.{AreLines};
+ghost use Rattle.nm_world.specs.Actors.{Stands};
+
+use nm_copyring::{RingPort, Rings};
+use nm_history::{Event, Happened, History};
+use nm_outside::OpenGate;
+use nm_port::{Fabric, Port};
+use nm_types::{Answer, Line, Memory, Script, Seen, Shape};
+use nm_world::Actor;
+use std::alloc::{AllocError, Global};
+use std::test::Fail;
+
+// What the turns of two ranks answer: whether each of the sender's moved something, and whether the
+// receiver's did and its probe saw the message that was sent last.
+#[derive(Drop)]
+struct Turns {
+    sent: [bool; 3],
+    seen: bool,
+}
+
+// The two elements of a list.
+fn both<T: Drop>(mut list: Vec<T>) -> (T, T)
+    requires { length list.items ≡ 2 }
+    ensures first { slice_get list.items 0 ≡ Some result.0 }
+    ensures second { slice_get list.items 1 ≡ Some result.1 }
+{
+    let second = list.remove(1);
+    let first = list.remove(0);
+    (first, second)
+}
+
+// Three turns of the sender. It runs 64 commands, sends 64 packets and runs the last command, and
+// sends the last packet.
+fn three_turns(
+    sender: &mut Actor,
+    lines: &[Line],
+    f: &Fabric,
+    r: &Rings,
+) -> Result<[bool; 3], Memory>
+    requires { Stands lines.now f.now r.now sender.old }
+{
+    let first = sender.turn(lines, f, r, &OpenGate)?;
+    let second = sender.turn(lines, f, r, &OpenGate)?;
+    let third = sender.turn(lines, f, r, &OpenGate)?;
+    Ok([first, second, third])
+}
+
+// Whether the last that happened is that the probe saw the last of 65 messages.
+fn saw_the_last(history: &History) -> bool {
+    match history.get(history.len().saturating_sub(1)) {
+        Some(
+            Event {
+                what: Happened::Ran {
+                    line: 67,
+                    answer: Answer::Seen(
+                        Seen {
+                            from: 0,
+                            tag: 64,
+                            len: 1,
+                        },
+                    ),
+                },
+                ..
+            },
+        ) => true,
+        _ => false,
+    }
+}
+
+// One turn of the receiver. It takes 64 packets, and polls once more before its probe.
+fn one_turn(receiver: &mut Actor, lines: &[Line], f: &Fabric, r: &Rings) -> Result<bool, Memory>
+    requires { Stands lines.now f.now r.now receiver.old }
+{
+    let moved = receiver.turn(lines, f, r, &OpenGate)?;
+    Ok(moved && saw_the_last(receiver.history()))
+}
+
+// The turns of a sender at these ports.
+fn sender_at(
+    alloc: Global,
+    shape: Shape,
+    lines: &[Line],
+    f: &Fabric,
+    r: &Rings,
+    port: Port,
+    ring: RingPort,
+) -> Result<[bool; 3], Memory>
+    requires lines { AreLines shape.ranks lines.now }
+    requires ranks { (f.now.ranks ≡ shape.ranks) × (r.now.ranks ≡ shape.ranks) }
+    requires two { shape.ranks ≡ 2 }
+    requires new { IsNew f.now port 0 × ring_port.IsNew r.now ring 0 }
+{
+    let mut sender = Actor::new(alloc, shape, port, ring)?;
+    three_turns(&mut sender, lines, f, r)
+}
+
+// The turn of a receiver at these ports.
+fn receiver_at(
+    alloc: Global,
+    shape: Shape,
+    lines: &[Line],
+    f: &Fabric,
+    r: &Rings,
+    port: Port,
+    ring: RingPort,
+) -> Result<bool, Memory>
+    requires lines { AreLines shape.ranks lines.now }
+    requires ranks { (f.now.ranks ≡ shape.ranks) × (r.now.ranks ≡ shape.ranks) }
+    requires two { shape.ranks ≡ 2 }
+    requires new { IsNew f.now port 1 × ring_port.IsNew r.now ring 1 }
+{
+    let mut receiver = Actor::new(alloc, shape, port, ring)?;
+    one_turn(&mut receiver, lines, f, r)
+}
+
+// The turns of both ranks at these ports, the sender's before the receiver's.
+fn turns_at(
+    alloc: Global,
+    shape: Shape,
+    lines: &[Line],
+    f: &Fabric,
+    r: &Rings,
+    ports: Vec<Port>,
+    rings: Vec<RingPort>,
+) -> Result<Turns, Memory>
+    requires lines { AreLines shape.ranks lines.now }
+    requires ranks { (f.now.ranks ≡ shape.ranks) × (r.now.ranks ≡ shape.ranks) }
+    requires two { shape.ranks ≡ 2 }
+    requires count { (length ports.items ≡ 2) × (length rings.items ≡ 2) }
+    requires ports { (k : ℕ) (p : Port) → slice_get ports.items k ≡ Some p → IsNew f.now p k }
+    requires rings { (k : ℕ) (p : RingPort) →
+        slice_get rings.items k ≡ Some p → ring_port.IsNew r.now p k }
+{
+    let (port, other_port) = both(ports);
+    let (ring, other_ring) = both(rings);
+    let sent = sender_at(alloc, shape, lines, f, r, port, ring);
+    let seen = receiver_at(alloc, shape, lines, f, r, other_port, other_ring);
+    Ok(Turns {
+        sent: sent?,
+        seen: seen?,
+    })
+}
+
+// The turns of both ranks in this fabric, with rings of their own.
+fn turns_in(
+    alloc: Global,
+    shape: Shape,
+    lines: &[Line],
+    f: &Fabric,
+    ports: Vec<Port>,
+) -> Result<Turns, Memory>
+    requires lines { AreLines shape.ranks lines.now }
+    requires ranks { f.now.ranks ≡ shape.ranks }
+    requires two { shape.ranks ≡ 2 }
+    requires count { length ports.items ≡ 2 }
+    requires ports { (k : ℕ) (p : Port) → slice_get ports.items k ≡ Some p → IsNew f.now p k }
+{
+    let (rings, ring_ports) = Rings::build(alloc, shape)?;
+    turns_at(alloc, shape, lines, f, &rings, ports, ring_ports)
+}
+
+// The turns of two ranks with 64 cells each, and an eager limit of 1,024 bytes.
+fn turns_of(alloc: Global, lines: &[Line]) -> Result<Turns, Memory>
+    requires { AreLines 2 lines.now }
+{
+    let shape = Shape::new(2, 64, 1024).unwrap();
+    let (fabric, ports) = Fabric::build(alloc, shape)?;
+    turns_in(alloc, shape, lines, &fabric, ports)
+}
+
+// A text of 65 sends of rank 0, and one probe of rank 1 for the last of them.
+fn text_of_sends(alloc: Global) -> Result<String, AllocError> {
+    let mut text = String::from_str(alloc, "ranks 2\n")?;
+    for k in 0..65 {
+        let line = format!(in alloc; "0: isend {k} 1 {k} 0 g1\n")?;
+        text.push_str(&line)?;
+    }
+    text.push_str("1: probe 0 64 0\n")?;
+    Ok(text)
+}
+
+// Its script.
+fn script_of_sends(alloc: Global) -> Result<Script, Fail> {
+    let text = text_of_sends(alloc)?;
+    let script = nm_script::read(alloc, text.as_bytes())?;
+    Ok(script)
+}
+
+// The turns of the ranks of a script of two.
+fn turns_on(alloc: Global, script: &Script) -> Result<Turns, Memory>
+    requires { script.now.ranks ≡ 2 }
+{
+    turns_of(alloc, script.lines.as_slice())
+}
+
+#[test]
+fn a_probe_sees_the_packet_that_came_last(rt: HostRuntime) -> Result<(), Fail> {
+    let script = script_of_sends(rt.alloc())?;
+    assert!(rt; script.ranks == 2);
+    let turns = turns_on(rt.alloc(), &script)?;
+    assert!(rt;
+        turns.sent == [true; 3],
+        "a turn of the sender moved nothing"
+    );
+    assert!(rt; turns.seen, "the probe saw another message, or none");
+    Ok(())
+}
