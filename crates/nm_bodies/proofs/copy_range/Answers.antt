@@ -1,4 +1,4 @@
-use Rattle.std.proofs.Common.{◌+◌, ◌≤◌, length, take, drop, sym, ap, subst, ◌∙◌}
+use Rattle.std.proofs.Common.{◌+◌, ◌≤◌, take, drop, sym, ap, subst, ◌∙◌}
 use Rattle.nm_types.specs.Bodies.{body_len, bytes_of}
 use Rattle.nm_bodies.proofs.RangeLemmas.{generated-range}
 use Rattle.nm_bodies.proofs.copy_range.Goals as goal

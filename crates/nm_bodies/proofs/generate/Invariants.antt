@@ -1,7 +1,12 @@
-use Rattle.std.proofs.Common.{◌≡◌, ℕ, ◌+◌, ◌<◌, length, get_or}
+use Rattle.std.proofs.Common.{◌≡◌, ◌+◌, ◌-◌, ◌%◌, ◌<◌, ◌≤◌, length, take, map}
+use Rattle.std.specs.List.{range_with_len}
 use Rattle.nm_types.specs.Bodies.{generated_byte}
 use Rattle.nm_bodies.proofs.generate.Given as goal
 
-abbrev pub invariant-loop-at : goal.invariant-loop-at
-invariant-loop-at l = (length l.bytes ≡ length l.fn.bytes) × (l.next ≡ generated_byte (l.start + l.at))
-    × ((k : ℕ) → k < l.at → get_or l.bytes k 0 ≡ generated_byte (l.start + k))
+abbrev pub invariant-loop-done : goal.invariant-loop-done
+invariant-loop-done l = (length l.bytes ≡ length l.fn.bytes) × (l.done ≤ l.size) × (l.place < 251)
+    × (l.done < l.size → l.place ≡ (l.start + l.done) % 251)
+    × (take l.done l.bytes ≡ map generated_byte (range_with_len l.start l.done))
+
+abbrev pub decreases-loop-done : goal.decreases-loop-done
+decreases-loop-done l = l.size - l.done
