@@ -8,7 +8,9 @@ use Rattle.std.specs.Prelude.{slice_index}
 use mathlib.Core.Option as maybe
 use mathlib.Core.Logic.{dite}
 use native.Mathlib.Decide.{ℕ_discrete}
-use Rattle.atomic_table.specs.Table.{step, keeps, takes, gives, rest, Allows}
+use lib.ListN.{get_elem?}
+use Rattle.atomic_table.specs.Table.{State, step, keeps, takes, gives, rest, Allows}
+use Rattle.nm_seats.specs.declared.views.View.{View}
 use Rattle.nm_seats.specs.Spoken.{view}
 use Rattle.nm_seats.proofs.UpdateLemmas.{pick_yes, pick_no}
 use Rattle.nm_types.specs.declared.packets.Piece.{Piece}
@@ -82,6 +84,44 @@ module _ (slots id : ℕ) (e : Entry) (low : e.rank < e.ranks) (wide : length e.
   idle_in : e.work ≡ Idle → (l : ℕ) → emptying e.work l ≡ None
   idle_in idle l = ap (λ w. emptying w l) idle
 
+  -- a next place is the peer's alone
+  only_out : (j : ℕ) → j < n → out_at ≡ next_out e j → peer ≡ j
+  only_out j lj same = (one_place n e.rank peer (length (lane e peer).pushed % 4) e.rank j
+      (length (lane e j).pushed % 4) few lj (small (length (lane e peer).pushed))
+      (small (length (lane e j).pushed)) same).1
+
+  only_in : (i : ℕ) → i < n → in_at ≡ next_in e i → peer ≡ i
+  only_in i li same = (one_place n peer e.rank (length (lane e peer).pulled % 4) i e.rank
+      (length (lane e i).pulled % 4) low low (small (length (lane e peer).pulled))
+      (small (length (lane e i).pulled)) same).0
+
+  module _ (s : State Load (View Entry)) (R : Rule n s)
+      (at : get_elem? s.views id ≡ maybe.some (view (e ∷ []))) (w : ℕ) where
+    abbrev Counted : Entry → Type 0
+    Counted f = Rule n record {
+      words = set s.words w (slice_index s.words w);
+      homes = s.homes;
+      views = set s.views id (view (f ∷ []));
+    }
+
+    -- a load that finds the place full, or empty, and changes a count alone
+    full_counted : Counted (with_lane one_full peer e)
+    full_counted = only_counts slots id e low wide deep s R at (with_lane one_full peer e) w
+        (counts_known one_full)
+        (λ l. (refl, lane_keeps e peer in_lanes one_full (λ (x : Lane). x.pushed) (λ x. refl) l))
+        (λ l. (refl, lane_keeps e peer in_lanes one_full (λ (x : Lane). x.pulled) (λ x. refl) l))
+
+    empty_counted : Counted (with_lane one_empty peer e)
+    empty_counted = only_counts slots id e low wide deep s R at (with_lane one_empty peer e) w
+        (counts_known one_empty)
+        (λ l. (refl, lane_keeps e peer in_lanes one_empty (λ (x : Lane). x.pushed) (λ x. refl) l))
+        (λ l. (refl, lane_keeps e peer in_lanes one_empty (λ (x : Lane). x.pulled) (λ x. refl) l))
+
+    -- a load that changes nothing
+    nothing_counted : Counted e
+    nothing_counted = only_counts slots id e low wide deep s R at e w (refl, refl, wide)
+        (λ l. (refl, refl)) (λ l. (refl, refl))
+
   module _ (hs : List (ℕ × Load)) where
     -- a load of the flag of the next place for the peer
     look_out_kept : e.work ≡ Idle
@@ -109,7 +149,7 @@ module _ (slots id : ℕ) (e : Entry) (low : e.rank < e.ranks) (wide : length e.
               (sender_opens n s.words s.homes e.rank peer e (R.ledger peer) g (idle_out idle peer)
               zeroed inside)),
           λ j lj same. (
-            (λ _. ap (λ u. here_after u) (only_peer j lj same)),
+            (λ _. ap (λ u. here_after u) (only_out j lj same)),
             (λ pos. absurd (omega arith)),
           ),
         ))
@@ -117,22 +157,14 @@ module _ (slots id : ℕ) (e : Entry) (low : e.rank < e.ranks) (wide : length e.
           view (with_lane one_full peer e ∷ []),
           keeps,
           tt,
-          only_counts slots id e low wide deep s R at (with_lane one_full peer e) out_at
-              (counts_known one_full)
-              (λ l. (refl, lane_keeps e peer in_lanes one_full (λ (x : Lane). x.pushed) (λ x. refl) l))
-              (λ l. (refl, lane_keeps e peer in_lanes one_full (λ (x : Lane). x.pulled) (λ x. refl) l)),
+          full_counted s R at out_at,
           λ j lj same. (
             (λ zeroed. absurd (full zeroed)),
-            (λ _. ap (λ u. (view (with_lane one_full u e ∷ []), hs)) (only_peer j lj same)),
+            (λ _. ap (λ u. (view (with_lane one_full u e ∷ []), hs)) (only_out j lj same)),
           ),
         )) where
           here_after : ℕ → Knowing
           here_after u = (view (with_work (Filling u) e ∷ []), (out_at, None) ∷ hs)
-
-          only_peer : (j : ℕ) → j < n → out_at ≡ next_out e j → peer ≡ j
-          only_peer j lj same = (one_place n e.rank peer (length (lane e peer).pushed % 4) e.rank j
-              (length (lane e j).pushed % 4) few lj (small (length (lane e peer).pushed))
-              (small (length (lane e j).pushed)) same).1
 
     -- a load of the flag of the next place of the peer
     look_in_kept : e.work ≡ Idle
@@ -143,12 +175,9 @@ module _ (slots id : ℕ) (e : Entry) (low : e.rank < e.ranks) (wide : length e.
           view (with_lane one_empty peer e ∷ []),
           keeps,
           tt,
-          only_counts slots id e low wide deep s R at (with_lane one_empty peer e) in_at
-              (counts_known one_empty)
-              (λ l. (refl, lane_keeps e peer in_lanes one_empty (λ (x : Lane). x.pushed) (λ x. refl) l))
-              (λ l. (refl, lane_keeps e peer in_lanes one_empty (λ (x : Lane). x.pulled) (λ x. refl) l)),
+          empty_counted s R at in_at,
           λ i li same. (
-            (λ _. ap (λ u. (view (with_lane one_empty u e ∷ []), hs)) (only_peer i li same)),
+            (λ _. ap (λ u. (view (with_lane one_empty u e ∷ []), hs)) (only_in i li same)),
             (λ pos. absurd (omega arith)),
           ),
         ))
@@ -175,17 +204,56 @@ module _ (slots id : ℕ) (e : Entry) (low : e.rank < e.ranks) (wide : length e.
               (with_work (Emptying peer q) e)) (sym (set-get_or s.words in_at 0)) found.4),
           λ i li same. (
             (λ zeroed. absurd (full zeroed)),
-            (λ _. subst (λ u. plays.Found u in_at (here hs) (here_after q)) (only_peer i li same)
+            (λ _. subst (λ u. plays.Found u in_at (here hs) (here_after q)) (only_in i li same)
                 (q, found.1, found.2, refl)),
           ),
         )) where
           here_after : Piece → Knowing
           here_after q = (view (with_work (Emptying peer q) e ∷ []), (in_at, Some q) ∷ hs)
 
-          only_peer : (i : ℕ) → i < n → in_at ≡ next_in e i → peer ≡ i
-          only_peer i li same = (one_place n peer e.rank (length (lane e peer).pulled % 4) i e.rank
-              (length (lane e i).pulled % 4) low low (small (length (lane e peer).pulled))
-              (small (length (lane e i).pulled)) same).0
+    -- a load of the flag of the next place for the peer, and no more
+    peek_out_kept : Allows (Rule n) slots id (here hs) out_at (λ u. u)
+        (plays.peeked_out (step slots out_at 0 0 maybe.none) (here hs))
+    peek_out_kept s R long at small_word = dite (ℕ_discrete (slice_index s.words out_at) 0)
+        (λ zeroed. (
+          view (e ∷ []),
+          keeps,
+          tt,
+          nothing_counted s R at out_at,
+          λ j lj same. ((λ _. refl), (λ pos. absurd (omega arith))),
+        ))
+        (λ full. (
+          view (with_lane one_full peer e ∷ []),
+          keeps,
+          tt,
+          full_counted s R at out_at,
+          λ j lj same. (
+            (λ zeroed. absurd (full zeroed)),
+            (λ _. ap (λ u. (view (with_lane one_full u e ∷ []), hs)) (only_out j lj same)),
+          ),
+        ))
+
+    -- a load of the flag of the next place of the peer, and no more
+    peek_in_kept : Allows (Rule n) slots id (here hs) in_at (λ u. u)
+        (plays.peeked_in (step slots in_at 0 0 maybe.none) (here hs))
+    peek_in_kept s R long at small_word = dite (ℕ_discrete (slice_index s.words in_at) 0)
+        (λ zeroed. (
+          view (with_lane one_empty peer e ∷ []),
+          keeps,
+          tt,
+          empty_counted s R at in_at,
+          λ i li same. (
+            (λ _. ap (λ u. (view (with_lane one_empty u e ∷ []), hs)) (only_in i li same)),
+            (λ pos. absurd (omega arith)),
+          ),
+        ))
+        (λ full. (
+          view (e ∷ []),
+          keeps,
+          tt,
+          nothing_counted s R at in_at,
+          λ i li same. ((λ zeroed. absurd (full zeroed)), (λ _. refl)),
+        ))
 
   module _ (hs : List (ℕ × Load)) (q : Piece) where
     -- the store of 1
@@ -295,6 +363,24 @@ module _ (key m slots id : ℕ) (shape : key ≡ m) (deep : slots ≡ 4 * (m * m
       subst (λ x. Allows (Rule e.ranks) slots id (view (e ∷ []), me.1) x (λ u. u)
       (plays.looked_in (step slots x 0 0 maybe.none) (view (e ∷ []), me.1))) (sym is)
       (look_in_kept slots id e l w d peer f me.1 idle))
+
+  pub peek_out_allowed : word ≡ next_out e peer
+      → Allows (Rule key) slots id me word (λ u. u)
+      (plays.peeked_out (step slots word 0 0 maybe.none) me)
+  peek_out_allowed is = along (λ k v. Allows (Rule k) slots id v word (λ u. u)
+      (plays.peeked_out (step slots word 0 0 maybe.none) v)) (λ l w d f.
+      subst (λ x. Allows (Rule e.ranks) slots id (view (e ∷ []), me.1) x (λ u. u)
+      (plays.peeked_out (step slots x 0 0 maybe.none) (view (e ∷ []), me.1))) (sym is)
+      (peek_out_kept slots id e l w d peer f me.1))
+
+  pub peek_in_allowed : word ≡ next_in e peer
+      → Allows (Rule key) slots id me word (λ u. u)
+      (plays.peeked_in (step slots word 0 0 maybe.none) me)
+  peek_in_allowed is = along (λ k v. Allows (Rule k) slots id v word (λ u. u)
+      (plays.peeked_in (step slots word 0 0 maybe.none) v)) (λ l w d f.
+      subst (λ x. Allows (Rule e.ranks) slots id (view (e ∷ []), me.1) x (λ u. u)
+      (plays.peeked_in (step slots x 0 0 maybe.none) (view (e ∷ []), me.1))) (sym is)
+      (peek_in_kept slots id e l w d peer f me.1))
 
   pub fill_allowed : (q : Piece) (hs : List (ℕ × Load)) → word ≡ next_out e peer
       → me.1 ≡ (word, Some q) ∷ hs → e.work ≡ Filling peer → q.from ≡ e.rank

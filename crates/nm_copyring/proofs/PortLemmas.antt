@@ -16,7 +16,7 @@ use Rattle.nm_copyring.specs.Counted.{Counts, counted, tally}
 use Rattle.nm_copyring.specs.Rule.{Load, lane, new_lane, place}
 use Rattle.nm_copyring.specs.Plays.{Knowing, Rests, IsOne, mine, knowing, with_work, with_lane}
 use Rattle.nm_copyring.specs.Plays.{one_pushed, one_pulled, one_full, one_empty, next_out, next_in}
-use Rattle.nm_copyring.specs.Plays.{looked_out, looked_in, filled, emptied}
+use Rattle.nm_copyring.specs.Plays.{looked_out, looked_in, peeked_out, peeked_in, filled, emptied}
 
 -- it is at work no more
 idle_again : (e : Entry) (w : Work) → e.work ≡ Idle → with_work Idle (with_work w e) ≡ e
@@ -70,6 +70,23 @@ module _ (n slots word peer : ℕ) (me : Knowing) (rests : Rests me) (one : IsOn
       f.2,
       f.3 ∙ ap (λ m. (view (with_work (Emptying peer f.0) e ∷ []), (word, Some f.0) ∷ m.1)) rests.0,
     )
+
+  -- a seat that loaded a flag and no more
+  pub peeked_out_after : (found : ℕ) (after : Knowing)
+      → peeked_out (step slots word 0 0 maybe.none) me found after → word ≡ next_out e peer
+      → (found ≡ 0 → after ≡ me) × (0 < found → after ≡ knowing (with_lane one_full peer e))
+  peeked_out_after found after told is = let t = told peer inside is in (
+    t.0,
+    λ full. t.1 full ∙ ap (λ m. (view (with_lane one_full peer e ∷ []), m.1)) rests.0,
+  )
+
+  pub peeked_in_after : (found : ℕ) (after : Knowing)
+      → peeked_in (step slots word 0 0 maybe.none) me found after → word ≡ next_in e peer
+      → (found ≡ 0 → after ≡ knowing (with_lane one_empty peer e)) × (0 < found → after ≡ me)
+  peeked_in_after found after told is = let t = told peer inside is in (
+    λ none. t.0 none ∙ ap (λ m. (view (with_lane one_empty peer e ∷ []), m.1)) rests.0,
+    t.1,
+  )
 
   -- the slot that a seat has is exchanged
   pub exchanged : (w : Work) (y z : Load) (before after : Knowing) → before ≡ working w word y e

@@ -95,3 +95,15 @@ abbrev pub emptied : Step Load → Knowing → ℕ → Knowing → Type 0
 emptied s me found after = (i : ℕ) (p : Piece) (hs : List (ℕ × Load))
     → (mine me).work ≡ Emptying i p → me.1 ≡ (s.word, None) ∷ hs
     → after ≡ (view (with_lane (one_pulled p) i (with_work Idle (mine me)) ∷ []), hs)
+
+-- the flag of the next place for the rank j was loaded and no more: a full place is counted
+abbrev pub peeked_out : Step Load → Knowing → ℕ → Knowing → Type 0
+peeked_out s me found after = (j : ℕ) → j < (mine me).ranks → s.word ≡ next_out (mine me) j
+    → (found ≡ 0 → after ≡ me)
+    × (0 < found → after ≡ (view (with_lane one_full j (mine me) ∷ []), me.1))
+
+-- the flag of the next place of the rank i was loaded and no more: an empty place is counted
+abbrev pub peeked_in : Step Load → Knowing → ℕ → Knowing → Type 0
+peeked_in s me found after = (i : ℕ) → i < (mine me).ranks → s.word ≡ next_in (mine me) i
+    → (found ≡ 0 → after ≡ (view (with_lane one_empty i (mine me) ∷ []), me.1))
+    × (0 < found → after ≡ me)

@@ -25,6 +25,8 @@
 //! - `push` puts its piece behind those that were pushed, or hands it back where it loaded the flag of the
 //!   next place as 1, and then the count of full places rose. `pull` gives the next piece by number, or
 //!   `None` where it loaded the flag of the next place as 0, and then the count of empty places rose.
+//! - `can_push` and `can_pull` load the same flag without a piece: they answer whether the place is the
+//!   caller's, and count it where it isn't.
 //! - After `close` what each rank pulled from another is the beginning of what was pushed to it, at most
 //!   four pieces are left between the two, and `left` is the number of all that are left.
 #![tactic(auto)]
@@ -41,7 +43,7 @@ mod tallies;
 mod tests;
 
 pub use close::RingAccount;
-pub use pieces::{pull, push};
+pub use pieces::{can_pull, can_push, pull, push};
 pub use port::{RingPort, Rings};
 pub use table::{Entry, Lane, Work};
 pub use tallies::Tally;

@@ -1,16 +1,52 @@
 //! Pieces through the rings. A call makes at most two steps, each on the flag of one place.
 
 ghost use Rattle.std.specs.Prelude.{◌≡◌, ◌+◌, ◌<◌, ◌≤◌, length};
-ghost use Rattle.std.specs.Prelude.{IfOk, IfErr, IfSome, IfNone};
+ghost use Rattle.std.specs.Prelude.{IfOk, IfErr, IfSome, IfNone, true, false};
 ghost use Rattle.nm_copyring.specs.Plays.{one_empty, one_full, one_pulled, one_pushed, with_lane};
 ghost use Rattle.nm_copyring.specs.Ports.{Owns, knows, pushed_to, pulled_from};
 
 use crate::counts::{count_empty, count_full, count_pulled, count_pushed};
 use crate::port::{RingPort, Rings};
-use crate::steps::{empty_next, fill_next};
+use crate::steps::{empty_next, fill_next, is_free, is_full};
 use nm_seats::Steps;
 use nm_types::Piece;
 use std::sync::ledger::Ledger;
+
+/// Loads the flag of the next place for a rank, which may be the port's own, and answers whether a piece
+/// can be pushed to it. Where it can't, the place is counted as full, as `push` counts it.
+pub fn can_push<L: Ledger>(r: &Rings, port: &mut RingPort, to: u8, steps: &mut Steps<L>) -> bool
+    requires owns { Owns r.now port.old }
+    requires to { to < r.now.ranks }
+    ensures owns { Owns r.now port.new × (port.new.rank ≡ port.old.rank) }
+    ensures free { result ≡ true → knows port.new ≡ knows port.old }
+    ensures full { result ≡ false → knows port.new ≡ with_lane one_full to (knows port.old) }
+    ensures cost { steps.new ≡ steps.old + 1 }
+{
+    let number = port.pushed(to);
+    let free = is_free(r, &mut port.seat, port.rank, to, number, steps);
+    if !free {
+        count_full(&mut port.tallies, to as usize);
+    }
+    free
+}
+
+/// Loads the flag of the next place of a rank, which may be the port's own, and answers whether a piece
+/// can be pulled from it. Where it can't, the place is counted as empty, as `pull` counts it.
+pub fn can_pull<L: Ledger>(r: &Rings, port: &mut RingPort, sender: u8, steps: &mut Steps<L>) -> bool
+    requires owns { Owns r.now port.old }
+    requires sender { sender < r.now.ranks }
+    ensures owns { Owns r.now port.new × (port.new.rank ≡ port.old.rank) }
+    ensures full { result ≡ true → knows port.new ≡ knows port.old }
+    ensures empty { result ≡ false → knows port.new ≡ with_lane one_empty sender (knows port.old) }
+    ensures cost { steps.new ≡ steps.old + 1 }
+{
+    let number = port.pulled(sender);
+    let full = is_full(r, &mut port.seat, port.rank, sender, number, steps);
+    if !full {
+        count_empty(&mut port.tallies, sender as usize);
+    }
+    full
+}
 
 /// Pushes a piece to a rank, which may be the port's own. The piece is the next one by number. It comes
 /// back where the flag of its place was loaded as 1: the piece of four numbers before is still there.

@@ -1,7 +1,7 @@
 //! The steps on the flag of a place: a load at each end, the store of 1 and the store of 0.
 
 ghost use Rattle.std.specs.Prelude.{◌≡◌, ◌+◌, ◌*◌, ◌%◌, ◌<◌, length};
-ghost use Rattle.std.specs.Prelude.{IfOk, IfErr, IfSome, IfNone};
+ghost use Rattle.std.specs.Prelude.{IfOk, IfErr, IfSome, IfNone, true, false};
 ghost use Rattle.nm_copyring.specs.Rule.{lane, place};
 ghost use Rattle.nm_copyring.specs.Plays.{one_empty, one_full, one_pulled, one_pushed, with_lane};
 ghost use Rattle.nm_copyring.specs.Plays.{IsOne, Rests, knowing, mine};
@@ -19,6 +19,22 @@ impl Play<Option<Piece>, View<Entry>> for LooksOut {
     ghost use Rattle.nm_copyring.specs.Plays.{looked_out};
 
     ghost then = { looked_out };
+}
+
+struct PeeksOut;
+
+impl Play<Option<Piece>, View<Entry>> for PeeksOut {
+    ghost use Rattle.nm_copyring.specs.Plays.{peeked_out};
+
+    ghost then = { peeked_out };
+}
+
+struct PeeksIn;
+
+impl Play<Option<Piece>, View<Entry>> for PeeksIn {
+    ghost use Rattle.nm_copyring.specs.Plays.{peeked_in};
+
+    ghost then = { peeked_in };
 }
 
 struct Fills;
@@ -54,6 +70,56 @@ impl Rings {
     {
         (4 * (u64::from(sender) * self.ranks + u64::from(to)) + number % 4) as usize
     }
+}
+
+/// Loads the flag of the seat's next place for a rank, and answers whether the place is free.
+pub(crate) fn is_free<L: Ledger>(
+    r: &Rings,
+    seat: &mut Place,
+    rank: u8,
+    to: u8,
+    number: u64,
+    steps: &mut Steps<L>,
+) -> bool
+    requires table { seat.old.table_id ≡ r.now.board.shared.table_id }
+    requires rests { Rests seat.old.me × IsOne r.now.ranks (mine seat.old.me) }
+    requires to { to < r.now.ranks }
+    requires next { (rank ≡ (mine seat.old.me).rank)
+        × (number ≡ length (lane (mine seat.old.me) to).pushed) }
+    ensures same { seat.new.table_id ≡ seat.old.table_id }
+    ensures free { result ≡ true → seat.new.me ≡ seat.old.me }
+    ensures full { result ≡ false
+        → seat.new.me ≡ knowing (with_lane one_full to (mine seat.old.me)) }
+    ensures cost { steps.new ≡ steps.old + 1 }
+{
+    let at = r.place(rank, to, number);
+    steps.tick();
+    r.board.shared.load::<PeeksOut>(seat, at) == 0
+}
+
+/// Loads the flag of the seat's next place of a rank, and answers whether the place is full.
+pub(crate) fn is_full<L: Ledger>(
+    r: &Rings,
+    seat: &mut Place,
+    rank: u8,
+    sender: u8,
+    number: u64,
+    steps: &mut Steps<L>,
+) -> bool
+    requires table { seat.old.table_id ≡ r.now.board.shared.table_id }
+    requires rests { Rests seat.old.me × IsOne r.now.ranks (mine seat.old.me) }
+    requires sender { sender < r.now.ranks }
+    requires next { (rank ≡ (mine seat.old.me).rank)
+        × (number ≡ length (lane (mine seat.old.me) sender).pulled) }
+    ensures same { seat.new.table_id ≡ seat.old.table_id }
+    ensures full { result ≡ true → seat.new.me ≡ seat.old.me }
+    ensures empty { result ≡ false
+        → seat.new.me ≡ knowing (with_lane one_empty sender (mine seat.old.me)) }
+    ensures cost { steps.new ≡ steps.old + 1 }
+{
+    let at = r.place(sender, rank, number);
+    steps.tick();
+    r.board.shared.load::<PeeksIn>(seat, at) != 0
 }
 
 /// Puts a piece into the seat's next place for a rank, or hands it back where that place is full.
