@@ -6,7 +6,7 @@ ghost use Rattle.nm_types.specs.declared.limits.TheConstants.{MAX_BODY};
 ghost use Rattle.nm_rndv.specs.Cuts.{start_of, rest_of, offset_of, next_bytes};
 
 use nm_bodies::copy_range;
-use nm_types::{Body, Chunk, MAX_PIECE, laws};
+use nm_types::{Body, Chunk, MAX_PIECE, Piece, laws};
 use std::marker::Model;
 
 /// The most bytes of a piece.
@@ -76,16 +76,24 @@ impl Leaving {
         PIECE * self.popped
     }
 
-    /// The bytes of the next piece.
-    pub fn next(&self) -> Chunk
-        ensures { result ≡ next_bytes self.now }
+    /// The next piece, of message `n`. Its sender and its number are 0.
+    pub fn piece(&self, n: u64) -> Piece
+        ensures blank { (result.from ≡ 0) × (result.number ≡ 0) }
+        ensures place { (result.n ≡ n) × (result.at ≡ offset_of self.now) }
+        ensures bytes { result.bytes ≡ next_bytes self.now }
     {
-        let start = self.offset();
-        let size = (self.body.len() - start).min(PIECE) as usize;
+        let at = self.offset();
+        let size = (self.body.len() - at).min(PIECE) as usize;
         let mut bytes = [0; MAX_PIECE as usize];
         laws::bodies_have_their_length();
-        copy_range(&self.body, start, size, &mut bytes);
-        Chunk::of(&bytes[..size])
+        copy_range(&self.body, at, size, &mut bytes);
+        Piece {
+            from: 0,
+            number: 0,
+            n,
+            at,
+            bytes: Chunk::of(&bytes[..size]),
+        }
     }
 
     /// What is left after the next piece, or `None` where that is the last.

@@ -2,7 +2,8 @@
 
 ghost use Rattle.std.specs.Prelude.{◌≡◌, ℕ, false, Some, None, nat_eq, if◌then◌else◌, IsSome};
 ghost use Rattle.std.specs.Prelude.{OnOk, OnErr};
-ghost use Rattle.std.specs.Option.{option_map_or, option_and_then};
+ghost use Rattle.std.specs.Option.{option_map, option_map_or, option_and_then};
+ghost use Rattle.nm_rndv.specs.Cuts.{offset_of, next_bytes};
 ghost use Rattle.nm_rndv.specs.Offers.{untold, state_in, recall_in, is_waiting};
 ghost use Rattle.nm_rndv.specs.Offers.{is_leaving as is_leaving_lem, is_out as is_out_lem};
 ghost use Rattle.nm_rndv.specs.Offers.{was_cleared as was_cleared_lem, is_unanswered, next_in};
@@ -10,9 +11,9 @@ ghost use Rattle.nm_rndv.specs.Offers.{with_asked, with_recall, with_step, with_
 ghost use Rattle.nm_rndv.specs.Offers.{after_clearance, after_piece};
 
 use crate::asked::{State, cleared, popped, withdrawn};
-use crate::cuts::LongBody;
+use crate::cuts::{Leaving, LongBody};
 use indexmap::IndexMap;
-use nm_types::{Chunk, Memory};
+use nm_types::Memory;
 use std::alloc::Global;
 use std::marker::Model;
 use std::mem;
@@ -82,12 +83,13 @@ impl Destination {
         matches!(self.asked.get(&n), Some(State::Out))
     }
 
-    /// Offset and bytes of the message's next piece.
-    pub fn next(&self, n: u64) -> Option<(u32, Chunk)>
-        ensures { result ≡ option_and_then next_in (state_in self.now n) }
+    /// What is left to be sent of a message that was cleared and is not out.
+    pub fn leaving(&self, n: u64) -> Option<&Leaving>
+        ensures { option_map (λ left. (offset_of left.now, next_bytes left.now)) result
+            ≡ option_and_then next_in (state_in self.now n) }
     {
         match self.asked.get(&n) {
-            Some(State::Cleared(leaving)) => Some((leaving.offset(), leaving.next())),
+            Some(State::Cleared(leaving)) => Some(leaving),
             _ => None,
         }
     }

@@ -38,8 +38,6 @@ mod granting;
 pub mod laws;
 mod offering;
 mod senders;
-#[cfg(test)]
-mod tests;
 
 pub use granting::Grants;
 pub use offering::Offers;

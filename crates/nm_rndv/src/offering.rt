@@ -165,15 +165,8 @@ impl Offers {
         ensures none { IsNone result ↔ AllOut self.now }
     {
         let (to, n) = self.front()?;
-        let (at, bytes) = self.destinations[to as usize].next(n)?;
-        let piece = Piece {
-            from: 0,
-            number: 0,
-            n,
-            at,
-            bytes,
-        };
-        Some((to, piece))
+        let left = self.destinations[to as usize].leaving(n)?;
+        Some((to, left.piece(n)))
     }
 
     /// Counts the next piece as sent. The answer names its message where it was the last one.

@@ -2,13 +2,13 @@ use Rattle.std.proofs.Common.{◌≡◌, ◌-◌, ◌*◌, length, take, drop, m
 use Rattle.nm_types.specs.Bodies.{bytes_of}
 use Rattle.nm_bodies.proofs.RangeLemmas.{up_to_the_end}
 use Rattle.nm_rndv.specs.Cuts.{Cut, offset_of}
-use Rattle.nm_rndv.proofs.cuts.Leaving.next.Goals as goal
+use Rattle.nm_rndv.proofs.cuts.Leaving.piece.Goals as goal
 
-pub returns : goal.returns
-returns c =
+pub returns-clause-bytes : goal.returns-clause-bytes
+returns-clause-bytes c =
     let xs = bytes_of c.self.inside.body in
-    let start = c.offset-start.result in
-    let from : start ≡ 1024 * c.self.inside.popped = c.offset-start.ensures
+    let start = c.offset-at.result in
+    let from : start ≡ 1024 * c.self.inside.popped = c.offset-at.ensures
     ∙ ap (λ (cut : Cut). offset_of cut) (sym c.self.view_is) in
     let size : c.min-size.result ≡ min (length xs - start) 1024 = omega (
       arith,
