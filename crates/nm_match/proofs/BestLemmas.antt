@@ -6,7 +6,7 @@ use Rattle.std.specs.Prelude.{if◌then◌else◌}
 use Rattle.std.specs.List.{All, filter, find, list_any}
 use Rattle.std.specs.Map.{keys_of, lookup}
 use Rattle.std.specs.Option.{option_map_or}
-use Rattle.std.specs.declared.collections.VecDeque.{VecDeque}
+use Rattle.std.specs.BTreeMap.{BTreeMap}
 use Rattle.std.proofs.lemmas.Bool.{false≢true}
 use Rattle.std.proofs.lemmas.List.Elements.{All-cons, All-head, All-nil, All-tail}
 use Rattle.std.proofs.lemmas.Map.Made.{is_some-lookup}
@@ -93,8 +93,8 @@ module _ {V : Type 0} (fits : Picks → Bool) (t : Picks) where
       at true fit = one_fits fit es some ∙ sym fit
       at false unfit = none_fits unfit es ∙ sym unfit
 
-module _ {X A S : Type 0} {key : X → Picks} {queue : List (ℕ × X)} {next : ℕ}
-    {m : IndexMap Picks (VecDeque (ℕ × X) A) S} {count : ℕ} (are : AreBuckets key queue next m count)
+module _ {X S : Type 0} {key : X → Picks} {queue : List (ℕ × X)} {next : ℕ}
+    {m : IndexMap Picks (BTreeMap ℕ X) S} {count : ℕ} (are : AreBuckets key queue next m count)
     (fits : Picks → Bool) where
   -- the oldest of the first buckets of the map whose key fits
   abbrev pub first_of : ℕ → Option (ℕ × X)
@@ -104,7 +104,7 @@ module _ {X A S : Type 0} {key : X → Picks} {queue : List (ℕ × X)} {next : 
   pub first_none : first_of 0 ≡ None
   first_none = find_never (λ x. list_any (λ e. fits e.0 && same_picks e.0 (key x.1)) (take 0 m.entries)) queue (λ x. refl)
 
-  fitting_is : (o : Option (Picks × VecDeque (ℕ × X) A)) →
+  fitting_is : (o : Option (Picks × BTreeMap ℕ X)) →
       find (λ x. option_map_or (λ e. fits e.0 && same_picks e.0 (key x.1)) o false) queue
       ≡ option_map_or (λ e. if fits e.0 then slice_get (bucket_of m e.0) 0 else None) o None
   fitting_is None = find_never (λ x. false) queue (λ x. refl)
@@ -134,10 +134,10 @@ module _ {X A S : Type 0} {key : X → Picks} {queue : List (ℕ × X)} {next : 
       list_any (same_picks (key x.1)) (keys_of m.entries) ≡ true
   has_key x some = sym (is_some-lookup (same_picks (key x.1)) m.entries) ∙ at (lookup (same_picks (key x.1)) m.entries) refl
     where
-      at : (o : Option (VecDeque (ℕ × X) A)) → lookup (same_picks (key x.1)) m.entries ≡ o → is_some o ≡ true
+      at : (o : Option (BTreeMap ℕ X)) → lookup (same_picks (key x.1)) m.entries ≡ o → is_some o ≡ true
       at (Some b) found = refl
       at None none = absurd (some (sym (are.bucket (key x.1))
-          ∙ ap (λ (o : Option (VecDeque (ℕ × X) A)). option_map_or (λ b. b.items) o []) none))
+          ∙ ap (λ (o : Option (BTreeMap ℕ X)). option_map_or (λ b. b.entries) o []) none))
 
   -- all buckets
   pub first_last : (n : ℕ) → length m.entries ≤ n → first_of n ≡ find (λ x. fits (key x.1)) queue

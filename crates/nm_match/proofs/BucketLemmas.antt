@@ -4,25 +4,23 @@ use Rattle.std.proofs.Common.{cond, Option, Some, None, List, [], ◌∷◌, ◌
 use Rattle.std.proofs.Common.{refl, sym, ◌∙◌, ap, subst, append-nil, arith, slice_get, get_or}
 use Rattle.std.proofs.lemmas.List.{length-map, get_or-map}
 use Rattle.std.specs.Prelude.{nat_le, AllPairs}
-use Rattle.std.specs.List.{All, filter, find, position, remove}
-use Rattle.std.specs.Option.{option_map, option_map_or}
-use Rattle.std.specs.Map.{lookup}
-use Rattle.std.specs.declared.collections.VecDeque.{VecDeque}
+use Rattle.std.specs.List.{All, filter, find}
+use Rattle.std.specs.Option.{option_map}
+use Rattle.std.specs.BTreeMap.{BTreeMap}
 use Rattle.std.proofs.lemmas.Bool.{false≢true, false_from_ne_true}
 use Rattle.std.proofs.lemmas.Bool.Decides.{nat_tests}
 use Rattle.std.proofs.lemmas.List.Elements.{All-head, All-tail, All-cons, All-push, All-weaker}
 use Rattle.std.proofs.lemmas.List.Elements.{filter-append}
 use Rattle.indexmap.specs.IndexMap.{IndexMap}
-use Rattle.nm_history.proofs.OnceLemmas.{and_left, and_right, find_among, find_passes}
+use Rattle.nm_history.proofs.OnceLemmas.{find_among}
 use Rattle.nm_types.specs.declared.messages.Peer.{Peer}
 use Rattle.nm_types.specs.declared.messages.Peer.TheVariants as peer
 use Rattle.nm_types.specs.declared.messages.TagPick.{TagPick}
 use Rattle.nm_types.specs.declared.messages.TagPick.TheVariants as tag
 use Rattle.nm_match.specs.declared.picks.Picks.{Picks}
-use Rattle.nm_match.specs.Buckets.{AreBuckets, IsQueue, LacksAt, Rising, bucket_of, earlier_of}
+use Rattle.nm_match.specs.Buckets.{AreBuckets, IsQueue, Rising, bucket_of, earlier_of}
 use Rattle.nm_match.specs.Picks.{same_peer, same_picks, same_tag}
 use Rattle.nm_match.specs.Queues.{without_first}
-use Rattle.nm_match.proofs.ListLemmas.{find-filter, find_first_at, find_none, without_first-remove}
 
 same_peer-true : (a b : Peer) → same_peer a b ≡ true → a ≡ b
 same_peer-true peer.Any peer.Any h = refl
@@ -172,7 +170,8 @@ module _ {X Y : Type 0} (f : X → Y) (test : Y → Bool) where
   find-map [] = refl
   find-map (x ∷ xs) = found_at x (find (λ x. test (f x)) xs) (find test (map f xs)) (test (f x)) (find-map xs)
 
-map_push : {X Y : Type 0} (f : X → Y) (xs : List X) (x : X) → map f (xs ++ x ∷ []) ≡ map f xs ++ f x ∷ []
+-- one more at the end, without its number
+pub map_push : {X Y : Type 0} (f : X → Y) (xs : List X) (x : X) → map f (xs ++ x ∷ []) ≡ map f xs ++ f x ∷ []
 map_push f [] x = refl
 map_push {X} {Y} f (y ∷ ys) x = ap (λ (l : List Y). f y ∷ l) (map_push f ys x)
 
@@ -180,9 +179,9 @@ length_push : {X : Type 0} (xs : List X) (x : X) → length (xs ++ x ∷ []) ≡
 length_push [] x = refl
 length_push (y ∷ ys) x = let e = length_push ys x in omega (arith, e)
 
-module _ {X A S : Type 0} {key : X → Picks} {queue : List (ℕ × X)} {next : ℕ}
-    {m : IndexMap Picks (VecDeque (ℕ × X) A) S} {count : ℕ} (are : AreBuckets key queue next m count)
-    (m' : IndexMap Picks (VecDeque (ℕ × X) A) S) (count' : ℕ) where
+module _ {X S : Type 0} {key : X → Picks} {queue : List (ℕ × X)} {next : ℕ}
+    {m : IndexMap Picks (BTreeMap ℕ X) S} {count : ℕ} (are : AreBuckets key queue next m count)
+    (m' : IndexMap Picks (BTreeMap ℕ X) S) (count' : ℕ) where
   taken_bucket : (test : ℕ × X → Bool) (x : ℕ × X) → find test queue ≡ Some x →
       bucket_of m' (key x.1) ≡ without_first test (bucket_of m (key x.1)) →
       ((k : Picks) → same_picks (key x.1) k ≡ false → bucket_of m' k ≡ bucket_of m k) →
@@ -313,13 +312,16 @@ pub find_same : {X : Type 0} (p q : X → Bool) (xs : List X) → ((x : X) → p
 find_same p q [] same = refl
 find_same {X} p q (x ∷ xs) same = rw (same x) (ap (λ (o : Option X). cond (q x) (Some x) o) (find_same p q xs same))
 
-pairs_head : {X : Type 0} (R : X → X → Type 0) (x : X) (xs : List X) → AllPairs R (x ∷ xs) → All (λ y. R x y) xs
+-- the first of a list, whose elements differ two by two, and each later one
+pub pairs_head : {X : Type 0} (R : X → X → Type 0) (x : X) (xs : List X) → AllPairs R (x ∷ xs) → All (λ y. R x y) xs
 pairs_head R x xs two = λ k d inside. two 0 (suc k) d (omega arith) (omega arith)
 
-pairs_tail : {X : Type 0} (R : X → X → Type 0) (x : X) (xs : List X) → AllPairs R (x ∷ xs) → AllPairs R xs
+-- the others
+pub pairs_tail : {X : Type 0} (R : X → X → Type 0) (x : X) (xs : List X) → AllPairs R (x ∷ xs) → AllPairs R xs
 pairs_tail R x xs two = λ i j d below inside. two (suc i) (suc j) d (omega arith) (omega arith)
 
-pairs_unmap : {X Y : Type 0} (R : Y → Y → Type 0) (f : X → Y) (xs : List X) → AllPairs R (map f xs) →
+-- what any two have without their numbers
+pub pairs_unmap : {X Y : Type 0} (R : Y → Y → Type 0) (f : X → Y) (xs : List X) → AllPairs R (map f xs) →
     AllPairs (λ x y. R (f x) (f y)) xs
 pairs_unmap {X} {Y} R f xs two = λ i j d below inside.
     let len = length-map xs f in
@@ -327,182 +329,9 @@ pairs_unmap {X} {Y} R f xs two = λ i j d below inside.
     (subst (λ (y : Y). R y (get_or (map f xs) j (f d))) (get_or-map f xs i d (f d) (omega (arith, inside, below)))
     (two i j (f d) below (omega (arith, inside, len))))
 
-found_in : {X : Type 0} (p : X → Bool) (xs : List X) (k : ℕ) → position p xs ≡ Some k → (x : X)
-    × (find p xs ≡ Some x)
-found_in p [] k first = absurd (grind arith)
-found_in p (x ∷ xs) k first = (get_or (x ∷ xs) k x, find_first_at p (x ∷ xs) k x first)
-
--- the first that passes is the first of those that have what it has
-kept_found : {X : Type 0} (p q : X → Bool) (xs : List X) (x : X) → find p xs ≡ Some x → q x ≡ true →
-    find p (filter q xs) ≡ Some x
-kept_found p q [] x found has = found
-kept_found {X} p q (y ∷ ys) x found has =
-    at (λ later. kept_found p q ys x later has) (p y) (q y) refl refl found
-  where
-    at : (find p ys ≡ Some x → find p (filter q ys) ≡ Some x) → (b c : Bool) → p y ≡ b → q y ≡ c →
-        cond b (Some y) (find p ys) ≡ Some x →
-        find p (cond c (y ∷ filter q ys) (filter q ys)) ≡ Some x
-    at later true true py qy found = rw py found
-    at later true false py qy found = let same : y ≡ x = cc in absurd (false≢true (sym qy ∙ ap q same ∙ has))
-    at later false true py qy found = rw py (later found)
-    at later false false py qy found = later found
-
--- the first place of a list whose elements all pass
-pub remove_front : {X : Type 0} (has test : X → Bool) → ((x : X) → has x ≡ true → test x ≡ true) → (xs : List X) →
-    remove (filter has xs) 0 ≡ without_first test (filter has xs)
-remove_front has test passes [] = refl
-remove_front {X} has test passes (x ∷ xs) = at (remove_front has test passes xs) (has x) refl
-  where
-    at : remove (filter has xs) 0 ≡ without_first test (filter has xs) → (b : Bool) → has x ≡ b → remove (cond b (x ∷ filter has xs) (filter has xs)) 0
-        ≡ without_first test (cond b (x ∷ filter has xs) (filter has xs))
-    at later true here = rw (passes x here) refl
-    at later false other = later
-
--- where one at most passes, one that passes is the first
-pub find_one : {X : Type 0} (R : X → X → Type 0) (test has : X → Bool) →
-    ((x y : X) → R x y → test x ≡ true → test y ≡ true → ⊥) → (xs : List X) → AllPairs R xs → (x : X) →
-    find (λ y. test y && has y) xs ≡ Some x → find test xs ≡ Some x
-find_one R test has apart [] two x found = found
-find_one {X} R test has apart (y ∷ ys) two x found =
-    at (find_one R test has apart ys (pairs_tail R y ys two) x) (test y) (has y) refl found
-  where
-    at : (find (λ y. test y && has y) ys ≡ Some x → find test ys ≡ Some x) → (b c : Bool) → test y ≡ b →
-        cond (b && c) (Some y) (find (λ y. test y && has y) ys) ≡ Some x →
-        cond b (Some y) (find test ys) ≡ Some x
-    at later true true passes found = found
-    at later true false passes found = absurd (apart y x
-        (find_among (λ (z : X). R y z) (λ (z : X). test z && has z) ys x (pairs_head R y ys two) found) passes
-        (and_left (test x) (has x) (find_passes (λ (z : X). test z && has z) ys x found)))
-    at later false c passes found = later found
-
-module _ {X A S : Type 0} {key : X → Picks} {items : List X} {next : ℕ}
-    {m : IndexMap Picks (VecDeque (ℕ × X) A) S} {count : ℕ} (is : IsQueue key items next m count)
-    (m' : IndexMap Picks (VecDeque (ℕ × X) A) S) (count' : ℕ) where
-  -- after the oldest whose key passes was taken from the front of its bucket
-  pub front_taken : (g : Picks → Bool) (x : ℕ × X) → find (λ (y : ℕ × X). g (key y.1)) is.queue ≡ Some x →
-      bucket_of m' (key x.1) ≡ remove (bucket_of m (key x.1)) 0 →
-      ((k : Picks) → same_picks (key x.1) k ≡ false → bucket_of m' k ≡ bucket_of m k) →
-      count' ≡ count - 1 → IsQueue key (without_first (λ (y : X). g (key y)) items) next m' count'
-  front_taken g x found own others less =
-      let test : ℕ × X → Bool = λ y. g (key y.1) in
-      let has : ℕ × X → Bool = λ y. same_picks (key x.1) (key y.1) in
-      record {
-        queue = without_first test is.queue;
-        are = taken is.are m' count' test x found
-            (own ∙ ap (λ (l : List (ℕ × X)). remove l 0) (is.are.bucket (key x.1))
-            ∙ remove_front has test (λ y same. ap g (sym (same_picks-true (key x.1) (key y.1) same))
-            ∙ find_passes test is.queue x found) is.queue
-            ∙ ap (λ (l : List (ℕ × X)). without_first test l) (sym (is.are.bucket (key x.1)))) others less;
-        same = map-without_first (λ (y : ℕ × X). y.1) (λ (y : X). g (key y)) is.queue
-            ∙ ap (λ (l : List X). without_first (λ (y : X). g (key y)) l) is.same;
-      }
-
-  -- after one with a name of its own was taken from the middle of a bucket
-  pub one_taken : (named : X → Bool) (R : X → X → Type 0) →
-      ((x y : X) → R x y → named x ≡ true → named y ≡ true → ⊥) → AllPairs R items →
-      (k : Picks) (place : ℕ) → position (λ (y : ℕ × X). named y.1) (bucket_of m k) ≡ Some place →
-      bucket_of m' k ≡ remove (bucket_of m k) place →
-      ((l : Picks) → same_picks k l ≡ false → bucket_of m' l ≡ bucket_of m l) →
-      count' ≡ count - 1 →
-      ((x : X) × (find named items ≡ Some x)) × IsQueue key (without_first named items) next m' count'
-  one_taken named R apart two k place first own others less =
-      let test : ℕ × X → Bool = λ y. named y.1 in
-      let has : ℕ × X → Bool = λ y. same_picks k (key y.1) in
-      let inside = found_in test (bucket_of m k) place first in
-      let x : ℕ × X = inside.0 in
-      let among : find (λ y. test y && has y) is.queue ≡ Some x =
-      sym (find-filter test has is.queue) ∙ ap (λ (l : List (ℕ × X)). find test l) (sym (is.are.bucket k))
-      ∙ inside.1 in
-      let pairs : AllPairs (λ (y z : ℕ × X). R y.1 z.1) is.queue =
-      pairs_unmap R (λ (y : ℕ × X). y.1) is.queue (subst (λ (l : List X). AllPairs R l) (sym is.same) two) in
-      let found : find test is.queue ≡ Some x =
-      find_one (λ (y z : ℕ × X). R y.1 z.1) test has (λ y z r. apart y.1 z.1 r) is.queue pairs x among in
-      let is_key : k ≡ key x.1 = same_picks-true k (key x.1)
-      (and_right (test x) (has x) (find_passes (λ y. test y && has y) is.queue x among)) in (
-        (
-          x.1,
-          sym (ap (λ (l : List X). find named l) is.same) ∙ sym (find-map (λ (y : ℕ × X). y.1) named is.queue)
-              ∙ ap (λ (o : Option (ℕ × X)). option_map (λ (y : ℕ × X). y.1) o) found,
-        ),
-        record {
-          queue = without_first test is.queue;
-          are = taken is.are m' count' test x found
-              (subst (λ (k : Picks). bucket_of m' k ≡ without_first test (bucket_of m k)) is_key
-              (own ∙ sym (without_first-remove test (bucket_of m k) place first)))
-              (subst (λ (k : Picks). (l : Picks) → same_picks k l ≡ false → bucket_of m' l ≡ bucket_of m l)
-              is_key others) less;
-          same = map-without_first (λ (y : ℕ × X). y.1) named is.queue
-              ∙ ap (λ (l : List X). without_first named l) is.same;
-        },
-      )
-
-  -- after a thing was put last in its bucket
-  pub queue_put : (item : X) (later : ℕ) → next < later →
-      bucket_of m' (key item) ≡ bucket_of m (key item) ++ (next, item) ∷ [] →
-      ((k : Picks) → same_picks (key item) k ≡ false → bucket_of m' k ≡ bucket_of m k) →
-      count' ≡ count + 1 → IsQueue key (items ++ item ∷ []) later m' count'
-  queue_put item later before own others more = record {
-    queue = is.queue ++ (next, item) ∷ [];
-    are = put_last is.are m' count' item later before own others more;
-    same = map_push (λ (y : ℕ × X). y.1) is.queue (next, item) ∙ ap (λ (l : List X). l ++ item ∷ []) is.same;
-  }
-
-  -- where no bucket changed
-  pub queue_kept : (later : ℕ) → next ≤ later → ((k : Picks) → bucket_of m' k ≡ bucket_of m k) →
-      count' ≡ count → IsQueue key items later m' count'
-  queue_kept later after same len = record {
-    queue = is.queue;
-    are = kept is.are m' count' later after same len;
-    same = is.same;
-  }
-
-module _ {X A S : Type 0} {key : X → Picks} {items : List X} {next : ℕ}
-    {m : IndexMap Picks (VecDeque (ℕ × X) A) S} {count : ℕ} (is : IsQueue key items next m count) where
-  -- what no bucket has is not in the queue
-  pub nowhere : (named : X → Bool) →
-      ((k : Picks) → position (λ (y : ℕ × X). named y.1) (bucket_of m k) ≡ None) → find named items ≡ None
-  nowhere named never =
-      let test : ℕ × X → Bool = λ y. named y.1 in
-      sym (ap (λ (l : List X). find named l) is.same) ∙ sym (find-map (λ (y : ℕ × X). y.1) named is.queue)
-      ∙ ap (λ (o : Option (ℕ × X)). option_map (λ (y : ℕ × X). y.1) o) (at (find test is.queue) refl)
-    where
-      at : (o : Option (ℕ × X)) → find (λ (y : ℕ × X). named y.1) is.queue ≡ o →
-          find (λ (y : ℕ × X). named y.1) is.queue ≡ None
-      at None none = none
-      at (Some x) found = absurd (grind (
-        arith,
-        kept_found (λ (y : ℕ × X). named y.1)
-            (λ (y : ℕ × X). same_picks (key x.1) (key y.1)) is.queue x found (same_picks-self (key x.1)),
-        find_none (λ (y : ℕ × X). named y.1) (bucket_of m (key x.1)) (never (key x.1)),
-        is.are.bucket (key x.1),
-      ))
-
+module _ {X S : Type 0} {key : X → Picks} {items : List X} {next : ℕ}
+    {m : IndexMap Picks (BTreeMap ℕ X) S} {count : ℕ} (is : IsQueue key items next m count) where
   -- the number of what waits
   pub queue_len : count ≡ length items
   queue_len = is.are.len ∙ sym (length-map is.queue (λ (y : ℕ × X). y.1))
       ∙ ap (λ (l : List X). length l) is.same
-
--- what holds of the earlier places and of this one holds of the places up to this one
-pub up_to : (P : ℕ → Type 0) (n : ℕ) → ((k : ℕ) → k < n → P k) → P n → (k : ℕ) → k < n + 1 → P k
-up_to P n before here k below = at (k == n) refl
-  where
-    at : (b : Bool) → (k == n) ≡ b → P k
-    at true same = let e : n ≡ k = grind (arith, nat_tests) in subst P e here
-    at false other = before k (grind (arith, nat_tests))
-
-lacks_all : {X A : Type 0} (test : X → Bool) (t : Picks → Bool) (es : List (Picks × VecDeque X A)) →
-    ((i : ℕ) → i < length es →
-    option_map_or (λ (e : Picks × VecDeque X A). position test e.1.items) (slice_get es i) None ≡ None) →
-    position test (option_map_or (λ (b : VecDeque X A). b.items) (lookup t es) []) ≡ None
-lacks_all test t [] all = refl
-lacks_all {X} {A} test t (e ∷ es) all = at (lacks_all test t es (λ i below. all (suc i) (omega (arith, below)))) (t e.0)
-  where
-    at : position test (option_map_or (λ (b : VecDeque X A). b.items) (lookup t es) []) ≡ None → (b : Bool) →
-        position test (option_map_or (λ (b : VecDeque X A). b.items) (cond b (Some e.1) (lookup t es)) []) ≡ None
-    at later true = all 0 (omega arith)
-    at later false = later
-
--- where each place lacks it, so does each bucket
-pub lacks_everywhere : {X A S : Type 0} (test : X → Bool) (m : IndexMap Picks (VecDeque X A) S) →
-    ((i : ℕ) → i < length m.entries → LacksAt test m i) → (k : Picks) → position test (bucket_of m k) ≡ None
-lacks_everywhere test m all k = lacks_all test (same_picks k) m.entries all

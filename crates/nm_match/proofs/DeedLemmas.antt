@@ -1,5 +1,5 @@
 -- The queues of a matcher after each call.
-use Rattle.std.proofs.Common.{◌≡◌, ℕ, ◌==◌, Bool, true, false, not, ◌&&◌, ◌||◌, cond, Option, Some, None}
+use Rattle.std.proofs.Common.{◌≡◌, ℕ, ◌==◌, Bool, true, false, not, ◌&&◌, ◌||◌, cond, Option, Some, None, is_some}
 use Rattle.std.proofs.Common.{List, [], ◌∷◌, ◌++◌, refl, sym, ◌∙◌, ap, subst, inl, inr, arith}
 use Rattle.std.specs.List.{filter, find, list_any}
 use Rattle.std.specs.Option.{option_map, option_to_list}
@@ -14,9 +14,9 @@ use Rattle.nm_history.specs.declared.events.Event.{Event}
 use Rattle.nm_history.specs.declared.plain.Pair.{Pair}
 use Rattle.nm_history.specs.Sends.{messages, posts, message_of}
 use Rattle.nm_history.specs.Selection.{matches}
-use Rattle.nm_history.specs.Happens.{happened, is_cancel, is_claim}
+use Rattle.nm_history.specs.Happens.{happened, is_cancel, is_claim, is_withdraw}
 use Rattle.nm_history.specs.Matching.{first_message, first_receive, is_claimed, is_free, is_free_message}
-use Rattle.nm_history.specs.Matching.{is_of_receive, is_open, matched_pairs, new_pair, pair_of}
+use Rattle.nm_history.specs.Matching.{is_of_message, is_of_receive, is_open, matched_pairs, new_pair, pair_of}
 use Rattle.nm_history.specs.Matching.{pair_of_claimed}
 use Rattle.nm_history.proofs.MatchingLemmas.{matched_pairs-push}
 use Rattle.nm_history.proofs.OnceLemmas.{and_left, and_right, find_among, find_passes}
@@ -120,6 +120,13 @@ missed test open' [] some none = absurd (false≢true some)
 missed test open' (x ∷ xs) some none = missed_at test open' x xs (test x) (open' x) refl refl some none
     (missed test open' xs)
 
+unclaimed_parts : (paired claimed withdrawn : Bool) → (not paired && not claimed && not withdrawn) ≡ true →
+    (claimed && not paired) ≡ false
+unclaimed_parts true true withdrawn free = refl
+unclaimed_parts true false withdrawn free = refl
+unclaimed_parts false true withdrawn free = absurd (false≢true free)
+unclaimed_parts false false withdrawn free = refl
+
 closed_parts : (paired cancelled : Bool) → (not paired && not cancelled) ≡ false →
     (cancelled ≡ true → paired ≡ false) → cancelled ≡ not paired
 closed_parts true true closed apart = absurd (false≢true (sym (apart refl)))
@@ -178,6 +185,40 @@ module _ {h : List Event} {found : List Pair} {posted : List post.Post}
       (eqb-true a.env.from from (and_left (a.env.from == from) (a.n == n) passes))
       (find_among (λ a. is_free h found a ≡ true) (is_message from n) unexpected a
       (unexpected_free queues) is_first))
+
+  -- a receive of the queue is not cancelled
+  pub not_cancelled : (test : post.Post → Bool) (p : post.Post) → find test posted ≡ Some p →
+      list_any (λ m. m == p.number) cancelled ≡ false
+  not_cancelled test p is_first =
+      queues.cancelled_receives p.number
+      ∙ (open_means h found p (find_among (λ p. is_open h found p ≡ true) test posted p
+      (posted_open queues) is_first)).1
+
+  free_unclaimed : (from n : ℕ) → is_free_message h found from n ≡ true → is_claimed h found from n ≡ false
+  unfolding is_free_message
+  free_unclaimed from n free = unclaimed_parts (list_any (is_of_message from n) found)
+      (happened (is_claim from n) h) (happened (is_withdraw from n true) h) free
+
+  -- a message of the queue is not claimed
+  pub not_claimed : (test : Arrival → Bool) (a : Arrival) → find test unexpected ≡ Some a →
+      list_any (is_message a.env.from a.n) claimed ≡ false
+  not_claimed test a is_first =
+      queues.claimed_messages a.env.from a.n
+      ∙ free_unclaimed a.env.from a.n (find_among (λ a. is_free h found a ≡ true) test unexpected a
+      (unexpected_free queues) is_first)
+
+  -- message n of a rank is not claimed while it is in the queue
+  pub queued_unclaimed : (from n : ℕ) (a : Arrival) → find (is_message from n) unexpected ≡ Some a →
+      is_claimed h found from n ≡ false
+  queued_unclaimed from n a is_first = free_unclaimed from n (message_free from n a is_first)
+
+  -- a claimed message is not in the queue
+  pub claimed_unqueued : (from n : ℕ) → is_claimed h found from n ≡ true → find (is_message from n) unexpected ≡ None
+  claimed_unqueued from n is = at (find (is_message from n) unexpected) refl
+    where
+      at : (o : Option Arrival) → find (is_message from n) unexpected ≡ o → find (is_message from n) unexpected ≡ None
+      at None none = none
+      at (Some a) some = absurd (false≢true (sym (queued_unclaimed from n a some) ∙ is))
 
   -- a message that came and is not in the queue is not free
   pub message_late : (from n : ℕ) → is_known_message h from n ≡ true →
@@ -251,6 +292,18 @@ module _ (deeds : List Deed) {posted : List post.Post} {unexpected claimed : Lis
       (claimed ++ a ∷ []) cancelled
   claim-some test a is_first = deed-push deeds (deed.Claim a.env.from a.n) None refl
       (claimed_one queues test a is_first)
+
+  -- what is claimed does not wait
+  pub says_claimed : (from n : ℕ) (answer : Bool) →
+      (find (is_message from n) unexpected ≡ None → answer ≡ list_any (is_message from n) claimed) →
+      (is_some (find (is_message from n) unexpected) ≡ true → answer ≡ false) →
+      answer ≡ is_claimed (history_of deeds) (matched_pairs (history_of deeds)) from n
+  says_claimed from n answer none some = at (find (is_message from n) unexpected) refl
+    where
+      at : (o : Option Arrival) → find (is_message from n) unexpected ≡ o →
+          answer ≡ is_claimed (history_of deeds) (matched_pairs (history_of deeds)) from n
+      at None nothing = none nothing ∙ queues.claimed_messages from n
+      at (Some a) found = some (rw found refl) ∙ sym (queued_unclaimed queues from n a found)
 
   -- a claimed message came
   pub claimed_came : (from n : ℕ) → is_claimed (history_of deeds) (matched_pairs (history_of deeds)) from n

@@ -3,8 +3,10 @@ pub mod BucketLemmas
 pub mod DeedLemmas
 pub mod HeldLemmas
 pub mod ListLemmas
+pub mod NameLemmas
 pub mod NumberLemmas
 pub mod OldestLemmas
+pub mod OrderLemmas
 pub mod PushLemmas
 pub mod QueueLemmas
 pub mod StandsLemmas

@@ -1,68 +1,12 @@
 -- What a search finds, and what is left without it.
-use Rattle.std.proofs.Common.{◌≡◌, ℕ, suc, ◌+◌, ◌<◌, Bool, true, false, not, ◌&&◌, ◌||◌}
-use Rattle.std.proofs.Common.{cond, Option, Some, None, List, [], ◌∷◌, length, get_or}
-use Rattle.std.proofs.Common.{refl, sym, ◌∙◌, ap, subst, arith, ltb}
+use Rattle.std.proofs.Common.{◌≡◌, Bool, true, false, not, ◌&&◌, ◌||◌, cond, Option, Some, None}
+use Rattle.std.proofs.Common.{List, [], ◌∷◌, refl, sym, ◌∙◌, ap, subst, arith, get_or, suc}
 use Rattle.std.proofs.Math.Bool.{and-false, and-or_distrib_left}
 use Rattle.std.specs.Prelude.{AllPairs}
-use Rattle.std.specs.List.{All, filter, find, list_any, position, position_or_len, remove, slice_get}
-use Rattle.std.proofs.lemmas.Bool.{ltb-true, ltb-false}
-use Rattle.std.proofs.lemmas.List.{get_or_default}
+use Rattle.std.specs.List.{All, filter, find, list_any}
 use Rattle.std.proofs.lemmas.List.Elements.{All-head, All-tail, All-weaker}
-use Rattle.std.proofs.lemmas.List.Quantifiers.{position-Some}
-use Rattle.std.proofs.lemmas.List.Folds.{find_at}
-use Rattle.std.proofs.lemmas.Option.{slice_get_read, slice_get_past}
 use Rattle.nm_history.proofs.OnceLemmas.{find_among}
 use Rattle.nm_match.specs.Queues.{without_first}
-
-place_of_some : {X : Type 0} (p : X → Bool) (xs : List X) (k : ℕ) (b : Bool) →
-    ltb (position_or_len p xs) (length xs) ≡ b → cond b (Some (position_or_len p xs)) None ≡ Some k →
-    (position_or_len p xs ≡ k) × (k < length xs)
-place_of_some p xs k true within h = let same : position_or_len p xs ≡ k = cc in
-    (same, omega (arith, ltb-true (position_or_len p xs) (length xs) within))
-place_of_some p xs k false past h = absurd (grind arith)
-
-without_first_at : {X : Type 0} (x : X) (xs left : List X) (n : ℕ) (b : Bool) → left ≡ remove xs n →
-    cond b xs (x ∷ left) ≡ remove (x ∷ xs) (cond (not b) (1 + n) 0)
-without_first_at x xs left n true e = refl
-without_first_at {X} x xs left n false e = let up : 1 + n ≡ suc n = omega arith in
-    rw up (ap (λ (ys : List X). x ∷ ys) e)
-
-without_first-place : {X : Type 0} (p : X → Bool) (xs : List X) →
-    without_first p xs ≡ remove xs (position_or_len p xs)
-without_first-place p [] = refl
-without_first-place p (x ∷ xs) = without_first_at x xs (without_first p xs) (position_or_len p xs) (p x)
-    (without_first-place p xs)
-
--- what is found at the first place that passes
-pub find_first : {X : Type 0} (p : X → Bool) (xs : List X) (k : ℕ) (x : X) → position p xs ≡ Some k →
-    x ≡ get_or xs k x → find p xs ≡ Some x
-find_first p xs k x first read =
-    let place = place_of_some p xs k (ltb (position_or_len p xs) (length xs)) refl first in
-    find_at p xs ∙ ap (λ n. slice_get xs n) place.0 ∙ slice_get_read xs (length xs) k x refl place.1 read
-
-pub find_first_at : {X : Type 0} (p : X → Bool) (xs : List X) (k : ℕ) (d : X) → position p xs ≡ Some k →
-    find p xs ≡ Some (get_or xs k d)
-find_first_at p xs k d first =
-    let inside = position-Some p xs k d first in
-    find_first p xs k (get_or xs k d) first (get_or_default xs k d (get_or xs k d) inside.0)
-
-find_nowhere : {X : Type 0} (p : X → Bool) (xs : List X) (b : Bool) →
-    ltb (position_or_len p xs) (length xs) ≡ b → cond b (Some (position_or_len p xs)) None ≡ None →
-    find p xs ≡ None
-find_nowhere p xs true within h = absurd (grind arith)
-find_nowhere p xs false past h = find_at p xs ∙ slice_get_past xs (position_or_len p xs)
-    (ltb-false (position_or_len p xs) (length xs) past)
-
--- nothing is found where no place passes
-pub find_none : {X : Type 0} (p : X → Bool) (xs : List X) → position p xs ≡ None → find p xs ≡ None
-find_none p xs none = find_nowhere p xs (ltb (position_or_len p xs) (length xs)) refl none
-
--- what is left without it
-pub without_first-remove : {X : Type 0} (p : X → Bool) (xs : List X) (k : ℕ) → position p xs ≡ Some k →
-    without_first p xs ≡ remove xs k
-without_first-remove {X} p xs k first =
-    without_first-place p xs ∙ ap (λ n. remove xs n)
-    (place_of_some p xs k (ltb (position_or_len p xs) (length xs)) refl first).0
 
 find-filter_at : {X : Type 0} (p : X → Bool) (x : X) (ys : List X) (b : Bool) →
     find p (cond b (x ∷ ys) ys) ≡ cond (p x && b) (Some x) (find p ys)
@@ -176,3 +120,9 @@ pub AllPairs-weaker : {X : Type 0} (R S : X → X → Type 0) → ((x y : X) →
     AllPairs R xs → AllPairs S xs
 AllPairs-weaker R S weaker xs each = λ i j d below inside.
     weaker (get_or xs i d) (get_or xs j d) (each i j d below inside)
+
+-- where none passes, nothing is found
+pub none_passes : {X : Type 0} (p : X → Bool) (xs : List X) → All (λ x. p x ≡ false) xs → find p xs ≡ None
+none_passes p [] none = refl
+none_passes p (x ∷ xs) none = rw (All-head (λ x. p x ≡ false) x xs none)
+    (none_passes p xs (All-tail (λ x. p x ≡ false) x xs none))

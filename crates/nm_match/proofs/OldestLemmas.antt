@@ -1,9 +1,9 @@
 -- The oldest of all that waits, by the fronts of the buckets.
-use Rattle.std.proofs.Common.{◌≡◌, ℕ, ◌==◌, Bool, true, false, not, ◌&&◌, ◌||◌, Option, List}
+use Rattle.std.proofs.Common.{◌≡◌, ℕ, ◌==◌, Bool, true, false, not, ◌&&◌, ◌||◌, Option, Some, List}
 use Rattle.std.proofs.Common.{refl, sym, ◌∙◌, ap, arith, slice_get}
 use Rattle.std.specs.List.{find}
 use Rattle.std.specs.Option.{option_map}
-use Rattle.std.specs.declared.collections.VecDeque.{VecDeque}
+use Rattle.std.specs.BTreeMap.{BTreeMap}
 use Rattle.std.proofs.lemmas.Bool.{eqb-true, false≢true}
 use Rattle.std.proofs.lemmas.Bool.Decides.{nat_tests}
 use Rattle.indexmap.specs.IndexMap.{IndexMap}
@@ -67,8 +67,8 @@ four (peer.One r) tag.Any c from named ctx = rw (flip c ctx, flip r from) (any_t
 four (peer.One r) (tag.One m) c from named ctx =
     rw (flip c ctx, flip r from, flip m named) (both_named (from == r) (named == m) (ctx == c))
 
-module _ {A S : Type 0} {queue : List (ℕ × post.Post)} {next : ℕ}
-    {m : IndexMap Picks (VecDeque (ℕ × post.Post) A) S} {count : ℕ}
+module _ {S : Type 0} {queue : List (ℕ × post.Post)} {next : ℕ}
+    {m : IndexMap Picks (BTreeMap ℕ post.Post) S} {count : ℕ}
     (are : AreBuckets picks_of_post queue next m count) where
   front : (k : Picks) → slice_get (bucket_of m k) 0
       ≡ find (λ (x : ℕ × post.Post). same_picks k (picks_of_post x.1)) queue
@@ -94,16 +94,16 @@ module _ {A S : Type 0} {queue : List (ℕ × post.Post)} {next : ℕ}
       (λ (x : ℕ × post.Post). matches x.1.from x.1.tag x.1.ctx env) queue
       (λ x. four x.1.from x.1.tag x.1.ctx env.from env.tag env.ctx)
 
-module _ {X A S : Type 0} {key : X → Picks} {items : List X} {next : ℕ}
-    {m : IndexMap Picks (VecDeque (ℕ × X) A) S} {count : ℕ} (is : IsQueue key items next m count) where
+module _ {X S : Type 0} {key : X → Picks} {items : List X} {next : ℕ}
+    {m : IndexMap Picks (BTreeMap ℕ X) S} {count : ℕ} (is : IsQueue key items next m count) where
   -- what is found, without its number
   pub queue_find : (test : X → Bool) → option_map (λ (y : ℕ × X). y.1) (find (λ (y : ℕ × X). test y.1) is.queue)
       ≡ find test items
   queue_find test = find-map (λ (y : ℕ × X). y.1) test is.queue ∙ ap (λ (l : List X). find test l) is.same
 
 -- the receive that is found
-pub posted_found : {A S : Type 0} {posts : List post.Post} {next : ℕ}
-    {m : IndexMap Picks (VecDeque (ℕ × post.Post) A) S} {count : ℕ} (is : IsQueue picks_of_post posts next m count) →
+pub posted_found : {S : Type 0} {posts : List post.Post} {next : ℕ}
+    {m : IndexMap Picks (BTreeMap ℕ post.Post) S} {count : ℕ} (is : IsQueue picks_of_post posts next m count) →
     (env : Envelope) (o : Option (ℕ × post.Post)) → o ≡ oldest_of m env →
     option_map (λ (y : ℕ × post.Post). y.1) o ≡ find (λ p. matches p.from p.tag p.ctx env) posts
 posted_found is env o same =
@@ -119,8 +119,8 @@ arrival_fits (peer.One r) tag.Any ctx a = refl
 arrival_fits (peer.One r) (tag.One m) ctx a = refl
 
 -- the message that is found
-pub arrival_found : {A S : Type 0} {arrivals : List Arrival} {next : ℕ}
-    {m : IndexMap Picks (VecDeque (ℕ × Arrival) A) S} {count : ℕ}
+pub arrival_found : {S : Type 0} {arrivals : List Arrival} {next : ℕ}
+    {m : IndexMap Picks (BTreeMap ℕ Arrival) S} {count : ℕ}
     (is : IsQueue picks_of_arrival arrivals next m count) →
     (f : Peer) (t : TagPick) (ctx : ℕ) (o : Option (ℕ × Arrival)) →
     o ≡ find (λ (x : ℕ × Arrival). fits_picks (record { from = f; tag = t; ctx = ctx }) (picks_of_arrival x.1)) is.queue →
@@ -131,6 +131,14 @@ arrival_found is f t ctx o same =
     ∙ find_same (λ (x : ℕ × Arrival). fits_picks wanted (picks_of_arrival x.1))
     (λ (x : ℕ × Arrival). matches f t ctx x.1.env) is.queue (λ x. arrival_fits f t ctx x.1))
     ∙ queue_find is (λ a. matches f t ctx a.env)
+
+-- what a key selects is what a receive that names it selects
+pub selected_found : (queue : List (ℕ × Arrival)) (f : Peer) (t : TagPick) (ctx : ℕ) (x : ℕ × Arrival) →
+    find (λ (y : ℕ × Arrival). fits_picks (record { from = f; tag = t; ctx = ctx }) (picks_of_arrival y.1)) queue
+    ≡ Some x → find (λ (y : ℕ × Arrival). matches f t ctx y.1.env) queue ≡ Some x
+selected_found queue f t ctx x found =
+    sym (find_same (λ (y : ℕ × Arrival). fits_picks (record { from = f; tag = t; ctx = ctx }) (picks_of_arrival y.1))
+    (λ (y : ℕ × Arrival). matches f t ctx y.1.env) queue (λ y. arrival_fits f t ctx y.1)) ∙ found
 
 -- two receives that are apart do not both have one number
 pub posts_apart : (number : ℕ) (p q : post.Post) → TwoReceives p q → (p.number == number) ≡ true →
@@ -158,8 +166,8 @@ named_fits (peer.One r) (tag.One m) ctx named_from named_tag a =
     swapped (r == a.env.from) (m == a.env.tag) (ctx == a.env.ctx)
 
 -- the oldest under its own key is the oldest that fits
-pub named_found : {A S : Type 0} {queue : List (ℕ × Arrival)} {next : ℕ}
-    {m : IndexMap Picks (VecDeque (ℕ × Arrival) A) S} {count : ℕ}
+pub named_found : {S : Type 0} {queue : List (ℕ × Arrival)} {next : ℕ}
+    {m : IndexMap Picks (BTreeMap ℕ Arrival) S} {count : ℕ}
     (are : AreBuckets picks_of_arrival queue next m count) → (f : Peer) (t : TagPick) (ctx : ℕ) →
     same_peer f peer.Any ≡ false → same_tag t tag.Any ≡ false →
     slice_get (bucket_of m (record { from = f; tag = t; ctx = ctx })) 0
@@ -178,8 +186,8 @@ both_named_at false true h = absurd (false≢true h)
 both_named_at false false h = (refl, refl)
 
 -- where a source and a tag are named, the bucket of these has the oldest that fits
-pub own_found : {A S : Type 0} {queue : List (ℕ × Arrival)} {next : ℕ}
-    {m : IndexMap Picks (VecDeque (ℕ × Arrival) A) S} {count : ℕ}
+pub own_found : {S : Type 0} {queue : List (ℕ × Arrival)} {next : ℕ}
+    {m : IndexMap Picks (BTreeMap ℕ Arrival) S} {count : ℕ}
     (are : AreBuckets picks_of_arrival queue next m count) → (w : Picks) → names_both w ≡ true →
     slice_get (bucket_of m w) 0 ≡ find (λ (x : ℕ × Arrival). fits_picks w (picks_of_arrival x.1)) queue
 own_found are w named =

@@ -1,9 +1,9 @@
 -- What waits in buckets, and the queue that it makes.
 use Rattle.std.specs.Prelude.{◌≡◌, ℕ, ◌<◌, Bool, List, [], ◌∷◌, Option, Some, None}
-use Rattle.std.specs.Prelude.{if◌then◌else◌, length, map, nat_le, slice_get, filter, position}
+use Rattle.std.specs.Prelude.{if◌then◌else◌, length, map, nat_le, slice_get, filter}
 use Rattle.std.specs.List.{All}
 use Rattle.std.specs.Option.{option_map_or}
-use Rattle.std.specs.declared.collections.VecDeque.{VecDeque}
+use Rattle.std.specs.BTreeMap.{BTreeMap}
 use Rattle.indexmap.specs.IndexMap.{IndexMap, get}
 use Rattle.nm_types.specs.declared.messages.Envelope.{Envelope}
 use Rattle.nm_types.specs.declared.messages.Peer.{Peer}
@@ -14,8 +14,8 @@ use Rattle.nm_match.specs.declared.picks.Picks.{Picks}
 use Rattle.nm_match.specs.Picks.{same_picks}
 
 -- what waits under a key
-abbrev pub bucket_of : {X A S : Type 0} → IndexMap Picks (VecDeque X A) S → Picks → List X
-bucket_of m key = option_map_or (λ b. b.items) (get same_picks m key) []
+abbrev pub bucket_of : {X S : Type 0} → IndexMap Picks (BTreeMap ℕ X) S → Picks → List (ℕ × X)
+bucket_of m key = option_map_or (λ b. b.entries) (get same_picks m key) []
 
 -- the one with the smaller order number
 abbrev pub earlier_of : {X : Type 0} → Option (ℕ × X) → Option (ℕ × X) → Option (ℕ × X)
@@ -24,12 +24,12 @@ earlier_of (Some a) None = Some a
 earlier_of (Some a) (Some b) = if nat_le a.0 b.0 then Some a else Some b
 
 -- the oldest that waits under the key of this source and this tag, in the context of a message
-abbrev pub front_of : {X A S : Type 0} → IndexMap Picks (VecDeque X A) S → Peer → TagPick → Envelope
-    → Option X
+abbrev pub front_of : {X S : Type 0} → IndexMap Picks (BTreeMap ℕ X) S → Peer → TagPick → Envelope
+    → Option (ℕ × X)
 front_of m from t env = slice_get (bucket_of m (record { from = from; tag = t; ctx = env.ctx })) 0
 
 -- the oldest that waits under the four keys that select a message
-abbrev pub oldest_of : {X A S : Type 0} → IndexMap Picks (VecDeque (ℕ × X) A) S → Envelope
+abbrev pub oldest_of : {X S : Type 0} → IndexMap Picks (BTreeMap ℕ X) S → Envelope
     → Option (ℕ × X)
 oldest_of m env =
     earlier_of (earlier_of (front_of m (peer.One env.from) (tag.One env.tag) env)
@@ -43,27 +43,22 @@ Rising {X} (x ∷ xs) = All (λ (y : ℕ × X). x.0 < y.0) xs × Rising xs
 
 -- The buckets hold this queue, whose order numbers rise and are below the next one: each bucket has
 -- what the queue has of its key, in the same order.
-pub record AreBuckets {X A S : Type 0} (key : X → Picks) (queue : List (ℕ × X)) (next : ℕ)
-    (m : IndexMap Picks (VecDeque (ℕ × X) A) S) (count : ℕ) : Type 0 where
+pub record AreBuckets {X S : Type 0} (key : X → Picks) (queue : List (ℕ × X)) (next : ℕ)
+    (m : IndexMap Picks (BTreeMap ℕ X) S) (count : ℕ) : Type 0 where
   pub bucket : (k : Picks) → bucket_of m k ≡ filter (λ x. same_picks k (key x.1)) queue
   pub len : count ≡ length queue
   pub below : All (λ x. x.0 < next) queue
   pub rising : Rising queue
 
 -- the buckets hold these things in order of age
-pub record IsQueue {X A S : Type 0} (key : X → Picks) (items : List X) (next : ℕ)
-    (m : IndexMap Picks (VecDeque (ℕ × X) A) S) (count : ℕ) : Type 0 where
+pub record IsQueue {X S : Type 0} (key : X → Picks) (items : List X) (next : ℕ)
+    (m : IndexMap Picks (BTreeMap ℕ X) S) (count : ℕ) : Type 0 where
   pub queue : List (ℕ × X)
   pub are : AreBuckets key queue next m count
   pub same : map (λ x. x.1) queue ≡ items
 
--- the bucket at this place of the map has no entry that passes
-abbrev pub LacksAt : {X A S : Type 0} → (X → Bool) → IndexMap Picks (VecDeque X A) S → ℕ → Type 0
-LacksAt test m index = option_map_or (λ e. position test e.1.items) (slice_get m.entries index) None
-    ≡ None
-
 -- the oldest in the bucket at this place of the map, if its key fits
-abbrev pub fitting_at : {X A S : Type 0} → (Picks → Bool) → IndexMap Picks (VecDeque X A) S → ℕ
-    → Option X
+abbrev pub fitting_at : {X S : Type 0} → (Picks → Bool) → IndexMap Picks (BTreeMap ℕ X) S → ℕ
+    → Option (ℕ × X)
 fitting_at fits m index = option_map_or (λ e. if fits e.0 then slice_get (bucket_of m e.0) 0 else None)
     (slice_get m.entries index) None

@@ -1,6 +1,7 @@
 pub mod Buckets
 pub mod Deeds
 pub mod Held
+pub mod Names
 pub mod Picks
 pub mod Queues
 pub mod InTurn

@@ -1,5 +1,5 @@
 -- The queues of a matcher, by the history that its deeds stand for.
-use Rattle.std.specs.Prelude.{◌≡◌, ◌≢◌, ℕ, ◌+◌, ◌≤◌, Bool, true, false, ◌==◌, ◌||◌}
+use Rattle.std.specs.Prelude.{◌≡◌, ◌≢◌, ℕ, Bool, true, false, ◌==◌, ◌||◌}
 use Rattle.std.specs.Prelude.{if◌then◌else◌, List, [], ◌∷◌, AllPairs, IsTrue, filter}
 use Rattle.std.specs.List.{list_any}
 use Rattle.nm_types.specs.declared.messages.Arrival.{Arrival}
@@ -71,10 +71,3 @@ abbrev pub AreQueuesOf :
 AreQueuesOf deeds posted unexpected claimed cancelled =
     AreQueues (history_of deeds) (matched_pairs (history_of deeds)) posted unexpected claimed
     cancelled
-
--- By lengths and capacities: there is room for one deed more of each open receive and of each free
--- message, and for the number of each open receive among the cancelled ones.
-pub record HasRoom (deeds posted unexpected cancelled deeds_capacity cancelled_capacity : ℕ)
-    : Type 0 where
-  pub for_deeds : deeds + (posted + unexpected) ≤ deeds_capacity
-  pub for_cancels : cancelled + posted ≤ cancelled_capacity

@@ -1,7 +1,10 @@
 //! Buckets of what waits: one for each key, each in order of age.
 
-ghost use Rattle.std.specs.Prelude.{◌≡◌, ◌+◌, ◌-◌, ◌<◌, ◌^◌, ◌++◌, false, [], ◌∷◌, IsTrue, OnOk, OnErr};
-ghost use Rattle.std.specs.Prelude.{slice_get, remove};
+ghost use Rattle.std.specs.Prelude.{◌≡◌, ◌+◌, ◌-◌, ◌<◌, ◌^◌, false, [], IsTrue, OnOk, OnErr};
+ghost use Rattle.std.specs.Prelude.{slice_get};
+ghost use Rattle.std.specs.Ordering.{nat_cmp};
+ghost use Rattle.std.specs.BTreeMap.{insert_entry, is_at};
+ghost use Rattle.std.specs.Map.{remove_entry};
 ghost use Rattle.nm_match.specs.declared.picks.Picks as picks;
 ghost use Rattle.nm_match.specs.Buckets.{bucket_of, earlier_of};
 ghost use Rattle.nm_match.specs.Picks.{same_picks};
@@ -10,12 +13,12 @@ use crate::picks::Picks;
 use indexmap::IndexMap;
 use nm_types::Memory;
 use std::alloc::Global;
-use std::collections::VecDeque;
+use std::collections::BTreeMap;
 
 /// What waits, in a bucket for each key. Each entry has an order number, which grows with age.
 #[derive(Debug, Drop)]
 pub struct Buckets<T> {
-    pub map: IndexMap<Picks, VecDeque<(usize, T)>>,
+    pub map: IndexMap<Picks, BTreeMap<usize, T>>,
     pub len: usize,
 }
 
@@ -30,45 +33,54 @@ pub(crate) fn earlier<T: Copy>(a: Option<(usize, T)>, b: Option<(usize, T)>) -> 
     }
 }
 
-/// Puts an entry last in the bucket of its key, which may be a new one.
+/// The oldest entry of a bucket.
+pub(crate) fn first<T: Copy>(bucket: &BTreeMap<usize, T>) -> Option<(usize, T)>
+    ensures { result ≡ slice_get bucket.now.entries 0 }
+{
+    let (order, item) = bucket.first_key_value()?;
+    Some((*order, *item))
+}
+
+/// Puts an item at the place of its order number into the bucket of its key, which may be a new
+/// one.
 fn add<T: Copy>(
-    map: &mut IndexMap<Picks, VecDeque<(usize, T)>>,
+    map: &mut IndexMap<Picks, BTreeMap<usize, T>>,
     key: Picks,
-    entry: (usize, T),
+    order: usize,
+    item: T,
 ) -> Result<(), Memory>
-    ensures own { OnOk result (bucket_of map.new key ≡ bucket_of map.old key ++ entry ∷ []) }
+    ensures own { OnOk result
+        (bucket_of map.new key ≡ insert_entry nat_cmp (bucket_of map.old key) order item) }
     ensures others { (k : picks.Picks) → same_picks key k ≡ false →
         bucket_of map.new k ≡ bucket_of map.old k }
     ensures err { OnErr result (bucket_of map.new key ≡ bucket_of map.old key) }
 {
     match map.get_mut(&key) {
         Some(bucket) => {
-            bucket.push_back(entry)?;
+            bucket.insert(order, item)?;
             Ok(())
         }
         None => {
-            let mut bucket = VecDeque::new(*map.allocator());
-            bucket.push_back(entry)?;
+            let mut bucket = BTreeMap::new(*map.allocator());
+            bucket.insert(order, item)?;
             map.insert(key, bucket)?;
             Ok(())
         }
     }
 }
 
-/// Takes the entry at this place of a bucket, and answers whether the bucket is empty now.
-fn drop_at<T: Copy>(
-    map: &mut IndexMap<Picks, VecDeque<(usize, T)>>,
-    key: Picks,
-    place: usize,
-) -> bool
-    ensures own { bucket_of map.new key ≡ remove (bucket_of map.old key) place }
+/// Takes the entry of this order number out of a bucket, and answers whether the bucket is empty
+/// now.
+fn drop_at<T: Copy>(map: &mut IndexMap<Picks, BTreeMap<usize, T>>, key: Picks, order: usize) -> bool
+    ensures own { bucket_of map.new key
+        ≡ remove_entry (is_at (nat_cmp order)) (bucket_of map.old key) }
     ensures others { (k : picks.Picks) → same_picks key k ≡ false →
         bucket_of map.new k ≡ bucket_of map.old k }
     ensures emptied { IsTrue result → bucket_of map.new key ≡ [] }
 {
     match map.get_mut(&key) {
         Some(bucket) => {
-            let _ = bucket.remove(place);
+            let _ = bucket.remove(&order);
             bucket.is_empty()
         }
         None => false,
@@ -91,33 +103,34 @@ impl<T: Copy> Buckets<T> {
     pub(crate) fn front(&self, key: Picks) -> Option<(usize, T)>
         ensures { result ≡ slice_get (bucket_of self.now.map key) 0 }
     {
-        self.map.get(&key)?.front().copied()
+        first(self.map.get(&key)?)
     }
 
-    /// Puts an entry last in the bucket of its key.
+    /// Puts an item at the place of its order number into the bucket of its key.
     pub(crate) fn put(&mut self, key: Picks, order: usize, item: T) -> Result<(), Memory>
         requires { self.old.len < 2 ^ 63 }
         ensures own { OnOk result (bucket_of self.new.map key
-            ≡ bucket_of self.old.map key ++ (order, item) ∷ []) }
+            ≡ insert_entry nat_cmp (bucket_of self.old.map key) order item) }
         ensures others { (k : picks.Picks) → same_picks key k ≡ false →
             bucket_of self.new.map k ≡ bucket_of self.old.map k }
         ensures err { OnErr result (bucket_of self.new.map key ≡ bucket_of self.old.map key) }
         ensures len { OnOk result (self.new.len ≡ self.old.len + 1) }
         ensures err_len { OnErr result (self.new.len ≡ self.old.len) }
     {
-        add(&mut self.map, key, (order, item))?;
+        add(&mut self.map, key, order, item)?;
         self.len += 1;
         Ok(())
     }
 
-    /// Takes the entry at this place of a bucket, and an emptied bucket with it.
-    pub(crate) fn take(&mut self, key: Picks, place: usize)
-        ensures own { bucket_of self.new.map key ≡ remove (bucket_of self.old.map key) place }
+    /// Takes the entry of this order number out of a bucket, and an emptied bucket with it.
+    pub(crate) fn take(&mut self, key: Picks, order: usize)
+        ensures own { bucket_of self.new.map key
+            ≡ remove_entry (is_at (nat_cmp order)) (bucket_of self.old.map key) }
         ensures others { (k : picks.Picks) → same_picks key k ≡ false →
             bucket_of self.new.map k ≡ bucket_of self.old.map k }
         ensures len { self.new.len ≡ self.old.len - 1 }
     {
-        let emptied = drop_at(&mut self.map, key, place);
+        let emptied = drop_at(&mut self.map, key, order);
         self.len = self.len.saturating_sub(1);
         if emptied {
             let _ = self.map.swap_remove(&key);

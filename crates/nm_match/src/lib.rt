@@ -21,6 +21,12 @@
 //!   changed nothing (clause `err`). `cancel`, `withdraw` and `probe` take no memory.
 //! - `laws` lets a caller that keeps a history of its own speak of that history in place of the
 //!   deeds. To use a law, call it.
+//! # What a call looks at
+//! An arrival looks at the four buckets that can have its receive, and a receive, a probe or a
+//! claim that names a source and a tag at one; a wildcard looks at the first message of each bucket
+//! of its queue. A cancel, a withdrawal, `is_claimed` and `take_claimed` look up one name. A bucket
+//! is found by hashing, and an entry leaves it in steps that grow with the logarithm of what is
+//! there. `knows_post` and `knows_arrival` look through all deeds.
 //! # What is only tested
 //! That `post`, `arrive`, `claim` and `take_claimed` succeed with ample memory.
 #![tactic(auto)]
@@ -29,6 +35,7 @@ mod buckets;
 mod deeds;
 pub mod laws;
 mod matching;
+mod names;
 mod picks;
 mod posted;
 mod unexpected;

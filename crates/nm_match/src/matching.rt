@@ -11,10 +11,10 @@ ghost use Rattle.nm_history.specs.Sends.{message_of};
 ghost use Rattle.nm_match.specs.declared.deeds.Deed.TheVariants as deed;
 ghost use Rattle.nm_match.specs.Deeds.{history_of, is_known_message, is_known_receive};
 
-use crate::buckets::Buckets;
 use crate::deeds::{Deed, has_arrival, has_receive};
-use crate::picks::{of_arrival, of_post};
-use crate::{posted, unexpected};
+use crate::names::MessageId;
+use crate::posted::Posted;
+use crate::unexpected::Unexpected;
 use nm_types::{Arrival, Memory, Peer, Post, TagPick};
 use std::alloc::Global;
 use std::marker::Model;
@@ -31,32 +31,30 @@ use std::marker::Model;
 /// messages of that sender. What waits is in buckets by source, tag and context, and has an order
 /// number, which grows with age: an arrival looks at the four buckets of receives that can select
 /// it, a source and a tag that are named at one bucket of messages, and a wildcard at the first
-/// message of each bucket. `cancel` and `withdraw` look through their queue; `knows_post` and
-/// `knows_arrival` look through all deeds.
+/// message of each bucket. A map by numbers and one by messages say which bucket each is in, and
+/// under which order number, and what is cancelled or claimed: so `cancel`, `withdraw`,
+/// `is_claimed` and `take_claimed` walk nothing. `knows_post` and `knows_arrival` look through all
+/// deeds.
 #[derive(Debug, Drop)]
 pub struct Matcher {
     deeds: Vec<Deed>,
-    posted: Buckets<Post>,
-    unexpected: Buckets<Arrival>,
-    claimed: Vec<Arrival>,
-    cancelled: Vec<u64>,
+    posted: Posted,
+    unexpected: Unexpected,
 }
 
 impl Model for Matcher {
-    ghost use Rattle.std.specs.Prelude.{List, vec_capacity, vec_len};
+    ghost use Rattle.std.specs.Prelude.{List, ◌+◌, ◌≤◌, vec_capacity, vec_len};
     ghost use Rattle.nm_match.specs.declared.deeds.Deed.{Deed};
     ghost use Rattle.nm_match.specs.Held.{AreHeld};
-    ghost use Rattle.nm_match.specs.Queues.{HasRoom};
 
     ghost Value = { List Deed };
 
     ghost view = { λ m. m.deeds.items };
 
-    ghost invariant = { λ m.
-        AreHeld m.deeds.items m.posted.map m.posted.len m.unexpected.map m.unexpected.len
-        m.claimed.items m.cancelled.items
-        × HasRoom (vec_len m.deeds) m.posted.len m.unexpected.len (vec_len m.cancelled)
-        (vec_capacity m.deeds) (vec_capacity m.cancelled) };
+    // there is room for one deed more of each open receive and of each free message
+    ghost invariant = { λ m. AreHeld m.deeds.items m.posted m.unexpected
+        × (vec_len m.deeds + (m.posted.waiting.len + m.unexpected.waiting.len)
+        ≤ vec_capacity m.deeds) };
 }
 
 impl Matcher {
@@ -66,10 +64,8 @@ impl Matcher {
     {
         Matcher {
             deeds: Vec::new(alloc),
-            posted: Buckets::new(alloc),
-            unexpected: Buckets::new(alloc),
-            claimed: Vec::new(alloc),
-            cancelled: Vec::new(alloc),
+            posted: Posted::new(alloc),
+            unexpected: Unexpected::new(alloc),
         }
     }
 
@@ -85,15 +81,14 @@ impl Matcher {
         ensures err { OnErr result (self.new ≡ self.old) }
     {
         self.deeds
-            .reserve(self.posted.len + self.unexpected.len + 2)?;
-        self.cancelled.reserve(self.posted.len + 1)?;
-        match unexpected::take_oldest(&mut self.unexpected, p.from, p.tag, p.ctx) {
+            .reserve(self.posted.waiting.len + self.unexpected.waiting.len + 2)?;
+        match self.unexpected.take_oldest(p.from, p.tag, p.ctx) {
             Some(a) => {
                 self.deeds.push_reserved(Deed::Post(p));
                 Ok(Some(a))
             }
             None => {
-                self.posted.put(of_post(&p), self.deeds.len(), p)?;
+                self.posted.put(self.deeds.len(), p)?;
                 self.deeds.push_reserved(Deed::Post(p));
                 Ok(None)
             }
@@ -115,14 +110,14 @@ impl Matcher {
         ensures err { OnErr result (self.new ≡ self.old) }
     {
         self.deeds
-            .reserve(self.posted.len + self.unexpected.len + 2)?;
-        match posted::take_oldest(&mut self.posted, &a.env) {
+            .reserve(self.posted.waiting.len + self.unexpected.waiting.len + 2)?;
+        match self.posted.take_oldest(&a.env) {
             Some(p) => {
                 self.deeds.push_reserved(Deed::Arrive(a));
                 Ok(Some(p.number))
             }
             None => {
-                self.unexpected.put(of_arrival(&a), self.deeds.len(), a)?;
+                self.unexpected.put(self.deeds.len(), a)?;
                 self.deeds.push_reserved(Deed::Arrive(a));
                 Ok(None)
             }
@@ -140,12 +135,11 @@ impl Matcher {
             ≡ (if result && not (happened (is_cancel post) (history_of self.old))
             then self.old ++ deed.Cancel post ∷ [] else self.old) }
     {
-        if posted::take_number(&mut self.posted, post) {
-            self.cancelled.push_reserved(post);
+        if self.posted.cancel(post) {
             self.deeds.push_reserved(Deed::Cancel { number: post });
             true
         } else {
-            self.cancelled.contains(&post)
+            self.posted.is_cancelled(post)
         }
     }
 
@@ -159,7 +153,7 @@ impl Matcher {
         ensures deeds { self.new
             ≡ (if result then self.old ++ deed.Withdraw from n ∷ [] else self.old) }
     {
-        let was_free = unexpected::take_message(&mut self.unexpected, from, n);
+        let was_free = self.unexpected.withdraw(MessageId { from, n });
         if was_free {
             self.deeds.push_reserved(Deed::Withdraw { from, n });
         }
@@ -172,7 +166,7 @@ impl Matcher {
         ensures oldest { let h = history_of self.now in
             result ≡ first_message h (matched_pairs h) from tag ctx }
     {
-        unexpected::oldest(&self.unexpected, from, tag, ctx)
+        self.unexpected.oldest(from, tag, ctx)
     }
 
     /// A matched probe (MPI 3.1, section 3.8.2): answers the message that `probe` would, and
@@ -184,10 +178,8 @@ impl Matcher {
             (λ a. self.new ≡ self.old ++ deed.Claim a.env.from a.n ∷ [])) }
         ensures err { OnErr result (self.new ≡ self.old) }
     {
-        self.claimed.reserve(1)?;
-        match unexpected::take_oldest(&mut self.unexpected, from, tag, ctx) {
+        match self.unexpected.claim_oldest(from, tag, ctx) {
             Some(a) => {
-                self.claimed.push_reserved(a);
                 self.deeds.push_reserved(Deed::Claim {
                     from: a.env.from,
                     n: a.n,
@@ -204,7 +196,7 @@ impl Matcher {
             result ≡ is_claimed_lem h (matched_pairs h) from n }
         ensures came { IsTrue result → IsSome (message_of (history_of self.now) from n) }
     {
-        unexpected::contains_message(&self.claimed, from, n)
+        self.unexpected.is_claimed(MessageId { from, n })
     }
 
     /// The matched receive of a claimed message (MPI 3.1, section 3.8.3), under a new number.
@@ -217,8 +209,8 @@ impl Matcher {
         ensures err { OnErr result (self.new ≡ self.old) }
     {
         self.deeds
-            .reserve(self.posted.len + self.unexpected.len + 1)?;
-        unexpected::drop_message(&mut self.claimed, from, n);
+            .reserve(self.posted.waiting.len + self.unexpected.waiting.len + 1)?;
+        self.unexpected.take_claimed(MessageId { from, n });
         self.deeds.push_reserved(Deed::Match { number, from, n });
         Ok(())
     }
@@ -236,124 +228,5 @@ impl Matcher {
         ensures { result ≡ is_known_message (history_of self.now) from n }
     {
         has_arrival(&self.deeds, from, n)
-    }
-}
-
-#[cfg(test)]
-mod tests {
-    use super::*;
-    use nm_types::{Envelope, How};
-    use std::process::Abort;
-    use std::test::Fail;
-
-    fn posts(
-        rt: &impl Abort,
-        m: &mut Matcher,
-        number: u64,
-        from: Peer,
-        tag: TagPick,
-    ) -> Result<Option<Arrival>, Memory> {
-        assert!(rt; !m.knows_post(number));
-        m.post(Post {
-            number,
-            from,
-            tag,
-            ctx: 0,
-            cap: 8,
-        })
-    }
-
-    fn message(from: u8, n: u64, tag: u16) -> Arrival
-        ensures named { result.n ≡ n }
-        ensures from { result.env.from ≡ from }
-    {
-        Arrival {
-            n,
-            env: Envelope {
-                from,
-                tag,
-                ctx: 0,
-                len: 1,
-                how: How::Eager,
-            },
-        }
-    }
-
-    fn brings(
-        rt: &impl Abort,
-        m: &mut Matcher,
-        from: u8,
-        n: u64,
-        tag: u16,
-    ) -> Result<Option<u64>, Memory> {
-        assert!(rt; !m.knows_arrival(from, n));
-        m.arrive(message(from, n, tag))
-    }
-
-    fn withdraws(rt: &impl Abort, m: &mut Matcher, from: u8, n: u64) -> bool {
-        assert!(rt; m.knows_arrival(from, n));
-        m.withdraw(from, n)
-    }
-
-    fn cancels(rt: &impl Abort, m: &mut Matcher, number: u64) -> bool {
-        assert!(rt; m.knows_post(number));
-        m.cancel(number)
-    }
-
-    #[test]
-    fn the_oldest_receive_and_the_oldest_message_match(rt: HostRuntime) -> Result<(), Fail> {
-        let mut m = Matcher::new(rt.alloc());
-        assert_eq!(rt; posts(&rt, &mut m, 0, Peer::Any, TagPick::Any)?, None);
-        assert_eq!(rt; posts(&rt, &mut m, 1, Peer::One(2), TagPick::One(5))?, None);
-        assert_eq!(rt; brings(&rt, &mut m, 2, 0, 5)?, Some(0));
-        assert_eq!(rt; brings(&rt, &mut m, 2, 1, 5)?, Some(1));
-        assert_eq!(rt; brings(&rt, &mut m, 3, 0, 9)?, None);
-        assert_eq!(rt; m.probe(Peer::Any, TagPick::Any, 0), Some(message(3, 0, 9)));
-        assert!(rt; withdraws(&rt, &mut m, 3, 0));
-        assert!(rt; !withdraws(&rt, &mut m, 3, 0));
-        assert_eq!(rt; m.probe(Peer::Any, TagPick::Any, 0), None);
-        assert!(rt; !cancels(&rt, &mut m, 0));
-        Ok(())
-    }
-
-    fn rising(rt: &impl Abort, m: &mut Matcher) -> Result<(), Fail> {
-        for k in 0..4096u16 {
-            let posted = posts(rt, m, u64::from(k), Peer::Any, TagPick::One(k))?;
-            assert_eq!(rt; posted, None);
-        }
-        Ok(())
-    }
-
-    #[test]
-    fn each_of_many_tags_finds_its_own(rt: HostRuntime) -> Result<(), Fail> {
-        let mut m = Matcher::new(rt.alloc());
-        rising(&rt, &mut m)?;
-        for k in 0..4096u16 {
-            let tag = 4095 - k;
-            let taken = brings(&rt, &mut m, 1, u64::from(k), tag)?;
-            assert_eq!(rt; taken, Some(u64::from(tag)));
-        }
-        Ok(())
-    }
-
-    #[test]
-    fn a_claimed_message_goes_to_its_matched_receive(rt: HostRuntime) -> Result<(), Fail> {
-        let mut m = Matcher::new(rt.alloc());
-        assert_eq!(rt; brings(&rt, &mut m, 2, 0, 5)?, None);
-        assert_eq!(rt;
-            m.claim(Peer::Any, TagPick::Any, 0)?,
-            Some(message(2, 0, 5))
-        );
-        assert_eq!(rt; m.claim(Peer::Any, TagPick::Any, 0)?, None);
-        assert!(rt; !withdraws(&rt, &mut m, 2, 0));
-        assert_eq!(rt; posts(&rt, &mut m, 0, Peer::Any, TagPick::Any)?, None);
-        assert!(rt; m.is_claimed(2, 0));
-        assert!(rt; !m.knows_post(1));
-        m.take_claimed(1, 2, 0)?;
-        assert!(rt; !m.is_claimed(2, 0));
-        assert!(rt; !cancels(&rt, &mut m, 1));
-        assert!(rt; cancels(&rt, &mut m, 0));
-        assert!(rt; cancels(&rt, &mut m, 0));
-        Ok(())
     }
 }

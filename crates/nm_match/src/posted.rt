@@ -1,111 +1,164 @@
 //! The posted receive queue: the open receives, in buckets by what they name.
 
-ghost use Rattle.std.specs.Prelude.{◌≡◌, ℕ, ◌==◌, AllPairs, IfNone, IfSome, IsSome, Some, None};
-ghost use Rattle.std.specs.Prelude.{List, find, is_some, position};
+ghost use Rattle.std.specs.Prelude.{◌≡◌, ℕ, ◌+◌, ◌<◌, ◌^◌, ◌++◌, [], ◌∷◌, ◌==◌, false, None};
+ghost use Rattle.std.specs.Prelude.{AllPairs, IfSome, IsTrue, List, MatchOption, OnErr, OnOk, Some};
+ghost use Rattle.std.specs.Prelude.{find, is_some, nat_eq, option_map};
+ghost use Rattle.indexmap.specs.IndexMap.{get};
 ghost use Rattle.nm_types.specs.declared.messages.Post as post;
 ghost use Rattle.nm_history.specs.Selection.{matches};
-ghost use Rattle.nm_match.specs.declared.picks.Picks as picks;
-ghost use Rattle.nm_match.specs.Buckets.{IsQueue, LacksAt, bucket_of, front_of, oldest_of};
-ghost use Rattle.nm_match.specs.Picks.{picks_of_post};
+ghost use Rattle.nm_match.specs.declared.names.Standing.TheVariants as standing;
+ghost use Rattle.nm_match.specs.Buckets.{front_of, oldest_of};
+ghost use Rattle.nm_match.specs.Names.{ArePosted, is_one_of};
 ghost use Rattle.nm_match.specs.Queues.{TwoReceives, without_first};
 
 use crate::buckets::{Buckets, earlier};
+use crate::names::Standing;
 use crate::picks::{Picks, of_post};
-use nm_types::{Envelope, Peer, Post, TagPick};
-use std::collections::VecDeque;
+use indexmap::IndexMap;
+use nm_types::{Envelope, Memory, Peer, Post, TagPick};
+use std::alloc::Global;
 
-/// The oldest receive that names this source and this tag, in the context of a message.
-fn front(posted: &Buckets<Post>, from: Peer, tag: TagPick, env: &Envelope) -> Option<(usize, Post)>
-    ensures { result ≡ front_of posted.now.map from tag env.now }
-{
-    posted.front(Picks {
-        from,
-        tag,
-        ctx: env.ctx,
-    })
+/// The receives that wait, and those that are cancelled.
+#[derive(Debug, Drop)]
+pub struct Posted {
+    pub waiting: Buckets<Post>,
+    /// Where each of them stands, by its number.
+    pub standings: IndexMap<u64, Standing>,
 }
 
-/// The oldest receive that selects a message: the oldest under the four keys that select it.
-fn oldest(posted: &Buckets<Post>, env: &Envelope) -> Option<(usize, Post)>
-    ensures { result ≡ oldest_of posted.now.map env.now }
+/// Sets aside the receive of this number, if it waits.
+fn set_aside(standings: &mut IndexMap<u64, Standing>, number: u64)
+    ensures own { get nat_eq standings.new number
+        ≡ option_map (λ s. standing.Aside) (get nat_eq standings.old number) }
+    ensures others { (n : ℕ) → nat_eq number n ≡ false →
+        get nat_eq standings.new n ≡ get nat_eq standings.old n }
 {
-    let from = Peer::One(env.from);
-    let tag = TagPick::One(env.tag);
-    let named = earlier(
-        front(posted, from, tag, env),
-        front(posted, Peer::Any, tag, env),
-    );
-    let any_tag = earlier(
-        front(posted, from, TagPick::Any, env),
-        front(posted, Peer::Any, TagPick::Any, env),
-    );
-    earlier(named, any_tag)
+    if let Some(standing) = standings.get_mut(&number) {
+        *standing = Standing::Aside;
+    }
 }
 
-/// Takes the oldest receive that selects a message. The others keep their order.
-pub(crate) fn take_oldest(posted: &mut Buckets<Post>, env: &Envelope) -> Option<Post>
-    ensures oldest { (posts : List post.Post) (next : ℕ) →
-        IsQueue picks_of_post posts next posted.old.map posted.old.len →
-        result ≡ find (λ p. matches p.from p.tag p.ctx env.now) posts }
-    ensures others { (posts : List post.Post) (next : ℕ) →
-        IsQueue picks_of_post posts next posted.old.map posted.old.len →
-        IsQueue picks_of_post (without_first (λ p. matches p.from p.tag p.ctx env.now) posts) next
-        posted.new.map posted.new.len }
-{
-    let (_, p) = oldest(posted, env)?;
-    posted.take(of_post(&p), 0);
-    Some(p)
-}
-
-/// The place of the receive of this number in a bucket.
-fn place_in(bucket: &VecDeque<(usize, Post)>, number: u64) -> Option<usize>
-    ensures { result ≡ position (λ w. w.1.number == number) bucket.now.items }
-{
-    bucket.iter().position(|w| w.1.number == number)
-}
-
-/// The key of the bucket at this place of the map, and the place there of the receive of this number.
-fn place_at(posted: &Buckets<Post>, index: usize, number: u64) -> Option<(Picks, usize)>
-    ensures place { IfSome result (λ r.
-        position (λ w. w.1.number == number) (bucket_of posted.now.map r.0) ≡ Some r.1) }
-    ensures nowhere { IfNone result (LacksAt (λ w. w.1.number == number) posted.now.map index) }
-{
-    let (key, bucket) = posted.map.get_index(index)?;
-    let place = place_in(bucket, number)?;
-    Some((*key, place))
-}
-
-/// The bucket of the receive of this number, and its place there.
-fn place_of_number(posted: &Buckets<Post>, number: u64) -> Option<(Picks, usize)>
-    ensures place { IfSome result (λ r.
-        position (λ w. w.1.number == number) (bucket_of posted.now.map r.0) ≡ Some r.1) }
-    ensures nowhere { IfNone result ((k : picks.Picks) →
-        position (λ w. w.1.number == number) (bucket_of posted.now.map k) ≡ None) }
-{
-    for index in 0..posted.map.len() {
-        if let Some(found) = place_at(posted, index, number) {
-            return Some(found);
+impl Posted {
+    /// No receive was posted.
+    pub(crate) fn new(alloc: Global) -> Self
+        ensures none { (next : ℕ) → ArePosted [] [] next result }
+        ensures len { result.waiting.len ≡ 0 }
+    {
+        Posted {
+            waiting: Buckets::new(alloc),
+            standings: IndexMap::new(alloc),
         }
     }
-    None
-}
 
-/// Takes the receive of this number, and answers whether there was one. The others keep their
-/// order.
-pub(crate) fn take_number(posted: &mut Buckets<Post>, number: u64) -> bool
-    ensures found { (posts : List post.Post) (next : ℕ) → AllPairs TwoReceives posts →
-        IsQueue picks_of_post posts next posted.old.map posted.old.len →
-        result ≡ is_some (find (λ p. p.number == number) posts) }
-    ensures others { (posts : List post.Post) (next : ℕ) → AllPairs TwoReceives posts →
-        IsQueue picks_of_post posts next posted.old.map posted.old.len →
-        IsQueue picks_of_post (without_first (λ p. p.number == number) posts) next posted.new.map
-        posted.new.len }
-{
-    match place_of_number(posted, number) {
-        Some((key, place)) => {
-            posted.take(key, place);
-            true
+    /// The oldest receive that names this source and this tag, in the context of a message.
+    fn front(&self, from: Peer, tag: TagPick, env: &Envelope) -> Option<(usize, Post)>
+        ensures { result ≡ front_of self.now.waiting.map from tag env.now }
+    {
+        self.waiting.front(Picks {
+            from,
+            tag,
+            ctx: env.ctx,
+        })
+    }
+
+    /// The oldest receive that selects a message: the oldest under the four keys that select it.
+    fn oldest(&self, env: &Envelope) -> Option<(usize, Post)>
+        ensures { result ≡ oldest_of self.now.waiting.map env.now }
+    {
+        let from = Peer::One(env.from);
+        let tag = TagPick::One(env.tag);
+        let named = earlier(self.front(from, tag, env), self.front(Peer::Any, tag, env));
+        let any_tag = earlier(
+            self.front(from, TagPick::Any, env),
+            self.front(Peer::Any, TagPick::Any, env),
+        );
+        earlier(named, any_tag)
+    }
+
+    /// Puts a receive whose number is new last.
+    pub(crate) fn put(&mut self, order: usize, p: Post) -> Result<(), Memory>
+        requires { self.old.waiting.len < 2 ^ 63 }
+        ensures ok { OnOk result ((posts : List post.Post) (cancelled : List ℕ) →
+            ArePosted posts cancelled order self.old →
+            find (λ q. q.number == p.number) posts ≡ None →
+            ArePosted (posts ++ p ∷ []) cancelled (order + 1) self.new) }
+        ensures len { OnOk result (self.new.waiting.len ≡ self.old.waiting.len + 1) }
+        ensures err { OnErr result ((posts : List post.Post) (cancelled : List ℕ) (next : ℕ) →
+            ArePosted posts cancelled next self.old → ArePosted posts cancelled next self.new) }
+        ensures err_len { OnErr result (self.new.waiting.len ≡ self.old.waiting.len) }
+    {
+        self.standings.reserve(1)?;
+        let key = of_post(&p);
+        self.waiting.put(key, order, p)?;
+        self.standings
+            .insert(p.number, Standing::Waits { key, order })
+            .unwrap();
+        Ok(())
+    }
+
+    /// Takes the oldest receive that selects a message. The others keep their order.
+    pub(crate) fn take_oldest(&mut self, env: &Envelope) -> Option<Post>
+        ensures oldest { (posts : List post.Post) (cancelled : List ℕ) (next : ℕ) →
+            ArePosted posts cancelled next self.old →
+            result ≡ find (λ p. matches p.from p.tag p.ctx env.now) posts }
+        ensures others { (posts : List post.Post) (cancelled : List ℕ) (next : ℕ) →
+            AllPairs TwoReceives posts → ArePosted posts cancelled next self.old →
+            MatchOption result (ArePosted posts cancelled next self.new)
+            (λ p. is_one_of cancelled p.number ≡ false → ArePosted
+            (without_first (λ q. matches q.from q.tag q.ctx env.now) posts) cancelled next
+            self.new) }
+    {
+        let (order, p) = self.oldest(env)?;
+        self.waiting.take(of_post(&p), order);
+        let _ = self.standings.swap_remove(&p.number);
+        Some(p)
+    }
+
+    /// The key of the bucket where the receive of this number waits, and its order number there.
+    fn place(&self, number: u64) -> Option<(Picks, usize)>
+        ensures some { IfSome result (λ r.
+            get nat_eq self.now.standings number ≡ Some (standing.Waits r.0 r.1)) }
+        ensures none { result ≡ None → get nat_eq self.now.standings number
+            ≡ option_map (λ s. standing.Aside) (get nat_eq self.now.standings number) }
+    {
+        match self.standings.get(&number)? {
+            Standing::Waits { key, order } => Some((*key, *order)),
+            Standing::Aside => None,
         }
-        None => false,
+    }
+
+    /// Cancels the receive of this number if it waits, and answers whether it did. The others keep
+    /// their order.
+    pub(crate) fn cancel(&mut self, number: u64) -> bool
+        ensures found { (posts : List post.Post) (cancelled : List ℕ) (next : ℕ) →
+            ArePosted posts cancelled next self.old →
+            result ≡ is_some (find (λ p. p.number == number) posts) }
+        ensures others { IsTrue result →
+            (posts : List post.Post) (cancelled : List ℕ) (next : ℕ) → AllPairs TwoReceives posts →
+            ArePosted posts cancelled next self.old →
+            ArePosted (without_first (λ p. p.number == number) posts) (cancelled ++ number ∷ [])
+            next self.new }
+        ensures same { result ≡ false → self.new ≡ self.old }
+    {
+        match self.place(number) {
+            Some((key, order)) => {
+                self.waiting.take(key, order);
+                set_aside(&mut self.standings, number);
+                true
+            }
+            None => false,
+        }
+    }
+
+    /// Whether the receive of this number, which does not wait, is cancelled.
+    pub(crate) fn is_cancelled(&self, number: u64) -> bool
+        ensures { (posts : List post.Post) (cancelled : List ℕ) (next : ℕ) →
+            ArePosted posts cancelled next self.now →
+            find (λ p. p.number == number) posts ≡ None → result ≡ is_one_of cancelled number }
+    {
+        match self.standings.get(&number) {
+            Some(standing) => standing.is_aside(),
+            None => false,
+        }
     }
 }

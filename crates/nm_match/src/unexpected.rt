@@ -1,27 +1,33 @@
 //! The unexpected message queue: the messages that no receive took yet, in buckets by what names
 //! them; and the messages that are claimed.
 
-ghost use Rattle.std.specs.Prelude.{◌≡◌, ℕ, AllPairs, IfNone, IfSome, Some, None, List, filter, find};
-ghost use Rattle.std.specs.Prelude.{is_some, not, position};
-ghost use Rattle.std.specs.List.{list_any};
+ghost use Rattle.std.specs.Prelude.{◌≡◌, ℕ, ◌+◌, ◌<◌, ◌^◌, ◌++◌, [], ◌∷◌, false, None, AllPairs};
+ghost use Rattle.std.specs.Prelude.{IfSome, IsTrue, List, MatchOption, OnErr, OnOk, Some, filter};
+ghost use Rattle.std.specs.Prelude.{find, is_some, not, option_map};
+ghost use Rattle.indexmap.specs.IndexMap.{get};
 ghost use Rattle.nm_types.specs.declared.messages.Arrival as arrival;
 ghost use Rattle.nm_history.specs.Selection.{matches};
-ghost use Rattle.nm_match.specs.declared.picks.Picks as picks;
-ghost use Rattle.nm_match.specs.Buckets.{AreBuckets, IsQueue, LacksAt, bucket_of, fitting_at};
-ghost use Rattle.nm_match.specs.Deeds.{is_message as is_message_lem};
+ghost use Rattle.nm_match.specs.declared.names.MessageId as message;
+ghost use Rattle.nm_match.specs.declared.names.Standing.TheVariants as standing;
+ghost use Rattle.nm_match.specs.Buckets.{AreBuckets, fitting_at};
+ghost use Rattle.nm_match.specs.Deeds.{is_message};
+ghost use Rattle.nm_match.specs.Names.{AreUnexpected, has_one, id_of_arrival, same_message};
 ghost use Rattle.nm_match.specs.Picks.{fits_picks, names_both, picks_of_arrival};
 ghost use Rattle.nm_match.specs.Queues.{TwoMessages, without_first};
 
-use crate::buckets::{Buckets, earlier};
+use crate::buckets::{Buckets, earlier, first};
+use crate::names::{MessageId, Standing, id_of};
 use crate::picks::{Picks, of_arrival};
-use nm_types::{Arrival, Peer, TagPick};
-use std::collections::VecDeque;
+use indexmap::IndexMap;
+use nm_types::{Arrival, Memory, Peer, TagPick};
+use std::alloc::Global;
 
-/// Whether this is message `n` of a rank.
-pub(crate) fn is_message(from: u8, n: u64, a: &Arrival) -> bool
-    ensures { result ≡ is_message_lem from n a.now }
-{
-    a.env.from == from && a.n == n
+/// The messages that wait, and those that are claimed.
+#[derive(Debug, Drop)]
+pub struct Unexpected {
+    pub waiting: Buckets<Arrival>,
+    /// Where each of them stands.
+    pub standings: IndexMap<MessageId, Standing>,
 }
 
 /// Whether a receive or a probe that names this selects the messages of a bucket.
@@ -41,140 +47,190 @@ fn is_named(wanted: &Picks) -> bool
 }
 
 /// The oldest message of the bucket at this place of the map, if it is selected.
-fn fitting(unexpected: &Buckets<Arrival>, wanted: Picks, index: usize) -> Option<(usize, Arrival)>
-    ensures { result ≡ fitting_at (fits_picks wanted) unexpected.now.map index }
+fn fitting(waiting: &Buckets<Arrival>, wanted: Picks, index: usize) -> Option<(usize, Arrival)>
+    ensures { result ≡ fitting_at (fits_picks wanted) waiting.now.map index }
 {
-    let (key, bucket) = unexpected.map.get_index(index)?;
+    let (key, bucket) = waiting.map.get_index(index)?;
     if fits(&wanted, key) {
-        bucket.front().copied()
+        first(bucket)
     } else {
         None
     }
 }
 
 /// The oldest of the first messages of all buckets that a receive or a probe selects.
-fn best(unexpected: &Buckets<Arrival>, wanted: Picks) -> Option<(usize, Arrival)>
+fn best(waiting: &Buckets<Arrival>, wanted: Picks) -> Option<(usize, Arrival)>
     ensures { (queue : List (ℕ × arrival.Arrival)) (next : ℕ) →
-        AreBuckets picks_of_arrival queue next unexpected.now.map unexpected.now.len →
+        AreBuckets picks_of_arrival queue next waiting.now.map waiting.now.len →
         result ≡ find (λ x. fits_picks wanted (picks_of_arrival x.1)) queue }
 {
     let mut best = None;
-    for index in 0..unexpected.map.len() {
-        best = earlier(best, fitting(unexpected, wanted, index));
+    for index in 0..waiting.map.len() {
+        best = earlier(best, fitting(waiting, wanted, index));
     }
     best
 }
 
 /// The oldest message that a receive or a probe selects, with its order number.
-fn first(unexpected: &Buckets<Arrival>, wanted: Picks) -> Option<(usize, Arrival)>
+fn selected(waiting: &Buckets<Arrival>, wanted: Picks) -> Option<(usize, Arrival)>
     ensures { (queue : List (ℕ × arrival.Arrival)) (next : ℕ) →
-        AreBuckets picks_of_arrival queue next unexpected.now.map unexpected.now.len →
+        AreBuckets picks_of_arrival queue next waiting.now.map waiting.now.len →
         result ≡ find (λ x. fits_picks wanted (picks_of_arrival x.1)) queue }
 {
     if is_named(&wanted) {
-        unexpected.front(wanted)
+        waiting.front(wanted)
     } else {
-        best(unexpected, wanted)
+        best(waiting, wanted)
     }
 }
 
-/// The oldest message that a receive or a probe selects.
-pub(crate) fn oldest(
-    unexpected: &Buckets<Arrival>,
-    from: Peer,
-    tag: TagPick,
-    ctx: u8,
-) -> Option<Arrival>
-    ensures { (arrivals : List arrival.Arrival) (next : ℕ) →
-        IsQueue picks_of_arrival arrivals next unexpected.now.map unexpected.now.len →
-        result ≡ find (λ a. matches from tag ctx a.env) arrivals }
+/// Sets aside a message, if it waits.
+fn set_aside(standings: &mut IndexMap<MessageId, Standing>, id: MessageId)
+    ensures own { get same_message standings.new id
+        ≡ option_map (λ s. standing.Aside) (get same_message standings.old id) }
+    ensures others { (i : message.MessageId) → same_message id i ≡ false →
+        get same_message standings.new i ≡ get same_message standings.old i }
 {
-    let (_, a) = first(unexpected, Picks { from, tag, ctx })?;
-    Some(a)
+    if let Some(standing) = standings.get_mut(&id) {
+        *standing = Standing::Aside;
+    }
 }
 
-/// Takes the oldest message that a receive or a probe selects. The others keep their order.
-pub(crate) fn take_oldest(
-    unexpected: &mut Buckets<Arrival>,
-    from: Peer,
-    tag: TagPick,
-    ctx: u8,
-) -> Option<Arrival>
-    ensures oldest { (arrivals : List arrival.Arrival) (next : ℕ) →
-        IsQueue picks_of_arrival arrivals next unexpected.old.map unexpected.old.len →
-        result ≡ find (λ a. matches from tag ctx a.env) arrivals }
-    ensures others { (arrivals : List arrival.Arrival) (next : ℕ) →
-        IsQueue picks_of_arrival arrivals next unexpected.old.map unexpected.old.len →
-        IsQueue picks_of_arrival (without_first (λ a. matches from tag ctx a.env) arrivals) next
-        unexpected.new.map unexpected.new.len }
-{
-    let (_, a) = first(unexpected, Picks { from, tag, ctx })?;
-    unexpected.take(of_arrival(&a), 0);
-    Some(a)
-}
-
-/// The place of message `n` of a rank in a bucket.
-fn place_in(bucket: &VecDeque<(usize, Arrival)>, from: u8, n: u64) -> Option<usize>
-    ensures { result ≡ position (λ w. is_message_lem from n w.1) bucket.now.items }
-{
-    bucket.iter().position(|w| is_message(from, n, &w.1))
-}
-
-/// The key of the bucket at this place of the map, and the place there of message `n` of a rank.
-fn place_at(unexpected: &Buckets<Arrival>, index: usize, from: u8, n: u64) -> Option<(Picks, usize)>
-    ensures place { IfSome result (λ r.
-        position (λ w. is_message_lem from n w.1) (bucket_of unexpected.now.map r.0) ≡ Some r.1) }
-    ensures nowhere { IfNone result (LacksAt (λ w. is_message_lem from n w.1) unexpected.now.map index) }
-{
-    let (key, bucket) = unexpected.map.get_index(index)?;
-    let place = place_in(bucket, from, n)?;
-    Some((*key, place))
-}
-
-/// The bucket of message `n` of a rank, and its place there.
-fn place_of_message(unexpected: &Buckets<Arrival>, from: u8, n: u64) -> Option<(Picks, usize)>
-    ensures place { IfSome result (λ r.
-        position (λ w. is_message_lem from n w.1) (bucket_of unexpected.now.map r.0) ≡ Some r.1) }
-    ensures nowhere { IfNone result ((k : picks.Picks) →
-        position (λ w. is_message_lem from n w.1) (bucket_of unexpected.now.map k) ≡ None) }
-{
-    for index in 0..unexpected.map.len() {
-        if let Some(found) = place_at(unexpected, index, from, n) {
-            return Some(found);
+impl Unexpected {
+    /// No message came.
+    pub(crate) fn new(alloc: Global) -> Self
+        ensures none { (next : ℕ) → AreUnexpected [] [] next result }
+        ensures len { result.waiting.len ≡ 0 }
+    {
+        Unexpected {
+            waiting: Buckets::new(alloc),
+            standings: IndexMap::new(alloc),
         }
     }
-    None
-}
 
-/// Takes message `n` of a rank, and answers whether it was there. The others keep their order.
-pub(crate) fn take_message(unexpected: &mut Buckets<Arrival>, from: u8, n: u64) -> bool
-    ensures found { (arrivals : List arrival.Arrival) (next : ℕ) → AllPairs TwoMessages arrivals →
-        IsQueue picks_of_arrival arrivals next unexpected.old.map unexpected.old.len →
-        result ≡ is_some (find (is_message_lem from n) arrivals) }
-    ensures others { (arrivals : List arrival.Arrival) (next : ℕ) → AllPairs TwoMessages arrivals →
-        IsQueue picks_of_arrival arrivals next unexpected.old.map unexpected.old.len →
-        IsQueue picks_of_arrival (without_first (is_message_lem from n) arrivals) next
-        unexpected.new.map unexpected.new.len }
-{
-    match place_of_message(unexpected, from, n) {
-        Some((key, place)) => {
-            unexpected.take(key, place);
-            true
-        }
-        None => false,
+    /// The oldest message that a receive or a probe selects.
+    pub(crate) fn oldest(&self, from: Peer, tag: TagPick, ctx: u8) -> Option<Arrival>
+        ensures { (arrivals claimed : List arrival.Arrival) (next : ℕ) →
+            AreUnexpected arrivals claimed next self.now →
+            result ≡ find (λ a. matches from tag ctx a.env) arrivals }
+    {
+        let (_, a) = selected(&self.waiting, Picks { from, tag, ctx })?;
+        Some(a)
     }
-}
-/// Lets message `n` of a rank go. The others keep their order.
-pub(crate) fn drop_message(claimed: &mut Vec<Arrival>, from: u8, n: u64)
-    ensures { claimed.new.items
-        ≡ filter (λ a. not (is_message_lem from n a)) claimed.old.items }
-{
-    claimed.retain(|a| !is_message(from, n, a));
-}
 
-/// Whether message `n` of a rank is among these.
-pub(crate) fn contains_message(claimed: &[Arrival], from: u8, n: u64) -> bool
-    ensures { result ≡ list_any (is_message_lem from n) claimed.now }
-{
-    claimed.iter().any(|a| is_message(from, n, a))
+    /// Puts a message that is new last.
+    pub(crate) fn put(&mut self, order: usize, a: Arrival) -> Result<(), Memory>
+        requires { self.old.waiting.len < 2 ^ 63 }
+        ensures ok { OnOk result ((arrivals claimed : List arrival.Arrival) →
+            AreUnexpected arrivals claimed order self.old →
+            find (is_message a.env.from a.n) arrivals ≡ None →
+            AreUnexpected (arrivals ++ a ∷ []) claimed (order + 1) self.new) }
+        ensures len { OnOk result (self.new.waiting.len ≡ self.old.waiting.len + 1) }
+        ensures err { OnErr result ((arrivals claimed : List arrival.Arrival) (next : ℕ) →
+            AreUnexpected arrivals claimed next self.old →
+            AreUnexpected arrivals claimed next self.new) }
+        ensures err_len { OnErr result (self.new.waiting.len ≡ self.old.waiting.len) }
+    {
+        self.standings.reserve(1)?;
+        let key = of_arrival(&a);
+        self.waiting.put(key, order, a)?;
+        self.standings
+            .insert(id_of(&a), Standing::Waits { key, order })
+            .unwrap();
+        Ok(())
+    }
+
+    /// Takes the oldest message that a receive selects. The others keep their order.
+    pub(crate) fn take_oldest(&mut self, from: Peer, tag: TagPick, ctx: u8) -> Option<Arrival>
+        ensures oldest { (arrivals claimed : List arrival.Arrival) (next : ℕ) →
+            AreUnexpected arrivals claimed next self.old →
+            result ≡ find (λ a. matches from tag ctx a.env) arrivals }
+        ensures others { (arrivals claimed : List arrival.Arrival) (next : ℕ) →
+            AllPairs TwoMessages arrivals → AreUnexpected arrivals claimed next self.old →
+            MatchOption result (AreUnexpected arrivals claimed next self.new)
+            (λ a. has_one claimed (id_of_arrival a) ≡ false → AreUnexpected
+            (without_first (λ a. matches from tag ctx a.env) arrivals) claimed next self.new) }
+    {
+        let (order, a) = selected(&self.waiting, Picks { from, tag, ctx })?;
+        self.waiting.take(of_arrival(&a), order);
+        let _ = self.standings.swap_remove(&id_of(&a));
+        Some(a)
+    }
+
+    /// Claims the oldest message that a probe selects. The others keep their order.
+    pub(crate) fn claim_oldest(&mut self, from: Peer, tag: TagPick, ctx: u8) -> Option<Arrival>
+        ensures oldest { (arrivals claimed : List arrival.Arrival) (next : ℕ) →
+            AreUnexpected arrivals claimed next self.old →
+            result ≡ find (λ a. matches from tag ctx a.env) arrivals }
+        ensures others { (arrivals claimed : List arrival.Arrival) (next : ℕ) →
+            AllPairs TwoMessages arrivals → AreUnexpected arrivals claimed next self.old →
+            MatchOption result (AreUnexpected arrivals claimed next self.new)
+            (λ a. AreUnexpected (without_first (λ a. matches from tag ctx a.env) arrivals)
+            (claimed ++ a ∷ []) next self.new) }
+    {
+        let (order, a) = selected(&self.waiting, Picks { from, tag, ctx })?;
+        self.waiting.take(of_arrival(&a), order);
+        set_aside(&mut self.standings, id_of(&a));
+        Some(a)
+    }
+
+    /// The key of the bucket where a message waits, and its order number there.
+    fn place(&self, id: MessageId) -> Option<(Picks, usize)>
+        ensures some { IfSome result (λ r.
+            get same_message self.now.standings id ≡ Some (standing.Waits r.0 r.1)) }
+        ensures none { result ≡ None → get same_message self.now.standings id
+            ≡ option_map (λ s. standing.Aside) (get same_message self.now.standings id) }
+    {
+        match self.standings.get(&id)? {
+            Standing::Waits { key, order } => Some((*key, *order)),
+            Standing::Aside => None,
+        }
+    }
+
+    /// Takes a message if it waits, and answers whether it did. The others keep their order.
+    pub(crate) fn withdraw(&mut self, id: MessageId) -> bool
+        ensures found { (arrivals claimed : List arrival.Arrival) (next : ℕ) →
+            AreUnexpected arrivals claimed next self.old →
+            result ≡ is_some (find (is_message id.from id.n) arrivals) }
+        ensures others { IsTrue result →
+            (arrivals claimed : List arrival.Arrival) (next : ℕ) → AllPairs TwoMessages arrivals →
+            AreUnexpected arrivals claimed next self.old → has_one claimed id ≡ false →
+            AreUnexpected (without_first (is_message id.from id.n) arrivals) claimed next self.new }
+        ensures same { result ≡ false → self.new ≡ self.old }
+    {
+        match self.place(id) {
+            Some((key, order)) => {
+                self.waiting.take(key, order);
+                let _ = self.standings.swap_remove(&id);
+                true
+            }
+            None => false,
+        }
+    }
+
+    /// Whether a message, which does not wait, is claimed.
+    pub(crate) fn is_claimed(&self, id: MessageId) -> bool
+        ensures none { (arrivals claimed : List arrival.Arrival) (next : ℕ) →
+            AreUnexpected arrivals claimed next self.now →
+            find (is_message id.from id.n) arrivals ≡ None → result ≡ has_one claimed id }
+        ensures some { (arrivals claimed : List arrival.Arrival) (next : ℕ) →
+            AreUnexpected arrivals claimed next self.now →
+            IsTrue (is_some (find (is_message id.from id.n) arrivals)) → result ≡ false }
+    {
+        match self.standings.get(&id) {
+            Some(standing) => standing.is_aside(),
+            None => false,
+        }
+    }
+
+    /// Lets a claimed message go.
+    pub(crate) fn take_claimed(&mut self, id: MessageId)
+        ensures left { (arrivals claimed : List arrival.Arrival) (next : ℕ) →
+            AreUnexpected arrivals claimed next self.old →
+            find (is_message id.from id.n) arrivals ≡ None → AreUnexpected arrivals
+            (filter (λ a. not (is_message id.from id.n a)) claimed) next self.new }
+        ensures len { self.new.waiting.len ≡ self.old.waiting.len }
+    {
+        let _ = self.standings.swap_remove(&id);
+    }
 }

@@ -28,8 +28,6 @@ pub mod laws;
 mod receipts;
 mod receivings;
 mod telling;
-#[cfg(test)]
-mod tests;
 
 pub use receipts::{Receipt, Receive};
 pub use receivings::{Drawn, Receiving, Started};

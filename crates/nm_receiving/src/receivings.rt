@@ -96,12 +96,12 @@ impl Receiving {
     {
         let ranks = shape.ranks();
         Ok(Receiving {
-            matcher: Matcher::new(alloc),
             joiner: Joiner::new(alloc, shape)?,
             grants: Grants::new(alloc, ranks)?,
             receipts: Receipts::new(alloc, ranks)?,
-            receives: Vec::new(alloc),
             drawn: vec![in alloc; 0; ranks as usize]?,
+            receives: Vec::new(alloc),
+            matcher: Matcher::new(alloc),
         })
     }
 

@@ -6,6 +6,6 @@ use Rattle.nm_match.proofs.matching.Matcher.probe.Goals as goal
 pub returns : goal.returns
 returns c = record {
   oldest = let h = c.self.invariant.0 in
-      rw (← c.self.view_is) (c.oldest.ensures h.unexpected (length c.self.inside.deeds.items) h.messages
+      rw (← c.self.view_is) (c.oldest.ensures h.unexpected h.claimed (length c.self.inside.deeds.items) h.messages
       ∙ first_message-queue h.queues c.args.from c.args.tag c.args.ctx);
 }

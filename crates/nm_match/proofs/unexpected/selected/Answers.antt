@@ -1,7 +1,7 @@
 -- Where both are named, one bucket has it.
 use Rattle.std.proofs.Common.{◌∙◌, sym}
 use Rattle.nm_match.proofs.OldestLemmas.{own_found}
-use Rattle.nm_match.proofs.unexpected.first.Goals as goal
+use Rattle.nm_match.proofs.unexpected.selected.Goals as goal
 
 pub returns-then-is_named : goal.returns-then-is_named
 returns-then-is_named c = λ queue next are.

@@ -1,0 +1,11 @@
+-- Nothing waits, and nothing is cancelled.
+use Rattle.std.proofs.Common.{ℕ, List, ap, refl}
+use Rattle.std.specs.Map.{lookup}
+use Rattle.std.specs.Prelude.{nat_eq}
+use Rattle.nm_match.specs.declared.names.Standing.{Standing}
+use Rattle.nm_match.proofs.NameLemmas.{named_none}
+use Rattle.nm_match.proofs.posted.Posted.new.Goals as goal
+
+pub returns-clause-none : goal.returns-clause-none
+returns-clause-none c = λ next. named_none c.new.ensures.none c.new.ensures.len
+    (λ name. ap (λ (es : List (ℕ × Standing)). lookup (nat_eq name) es) c.new-2.ensures.empty) (λ name. refl)

@@ -1,0 +1,12 @@
+-- Nothing waits, and nothing is claimed.
+use Rattle.std.proofs.Common.{List, ap, refl}
+use Rattle.std.specs.Map.{lookup}
+use Rattle.nm_match.specs.declared.names.MessageId.{MessageId}
+use Rattle.nm_match.specs.declared.names.Standing.{Standing}
+use Rattle.nm_match.specs.Names.{same_message}
+use Rattle.nm_match.proofs.NameLemmas.{named_none}
+use Rattle.nm_match.proofs.unexpected.Unexpected.new.Goals as goal
+
+pub returns-clause-none : goal.returns-clause-none
+returns-clause-none c = λ next. named_none c.new.ensures.none c.new.ensures.len
+    (λ name. ap (λ (es : List (MessageId × Standing)). lookup (same_message name) es) c.new-2.ensures.empty) (λ name. refl)

@@ -1,0 +1,26 @@
+-- The one of this name leaves its bucket.
+use Rattle.std.proofs.Common.{◌∙◌, ap, refl, sym, is_some}
+use Rattle.nm_match.specs.Names.{has_one, id_of_arrival, same_message}
+use Rattle.nm_match.specs.Queues.{TwoMessages}
+use Rattle.nm_match.proofs.NameLemmas.{message_itself, no_place, place_found, place_taken, same_message-true, there_at}
+use Rattle.nm_match.proofs.OldestLemmas.{messages_apart}
+use Rattle.nm_match.proofs.unexpected.Unexpected.withdraw.Goals as goal
+
+pub returns-in-Some-clause-found : goal.returns-in-Some-clause-found
+returns-in-Some-clause-found c = λ arrivals claimed next is.
+    sym (ap is_some (place_found is c.args.id c.in-Some.key c.in-Some.order c.in-Some.ensures.some).1)
+
+pub returns-in-Some-clause-others : goal.returns-in-Some-clause-others
+returns-in-Some-clause-others c = λ yes arrivals claimed next two is stays.
+    let updates = c.swap_remove.ensures.updates.0 in
+    place_taken is c.take.new.self.map c.take.new.self.len c.swap_remove.new.self TwoMessages two
+    (λ a b id. messages_apart id.from id.n a b) c.args.id c.in-Some.key c.in-Some.order c.in-Some.ensures.some
+    (λ a here id. ap (λ m. same_message m id) (same_message-true (id_of_arrival a) c.args.id here))
+    c.take.ensures.own c.take.ensures.others c.take.ensures.len (has_one claimed) (λ id other. refl)
+    (there_at same_message-true (has_one claimed) c.swap_remove.new.self c.args.id
+    (updates c.args.id ∙ rw (message_itself c.args.id, stays) refl))
+    (λ id other. updates id ∙ rw other refl)
+
+pub returns-in-None-clause-found : goal.returns-in-None-clause-found
+returns-in-None-clause-found c = λ arrivals claimed next is.
+    sym (ap is_some (no_place is c.args.id (c.in-None.ensures.none refl)))

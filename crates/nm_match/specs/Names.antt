@@ -1,0 +1,74 @@
+-- What receives and messages are known by, and where they stand.
+use Rattle.std.specs.Prelude.{◌≡◌, ℕ, ◌==◌, ◌&&◌, Bool, true, false, List, Option, Some, None}
+use Rattle.std.specs.Prelude.{if◌then◌else◌, nat_eq}
+use Rattle.std.specs.List.{find, list_any}
+use Rattle.std.specs.Option.{option_map_or}
+use Rattle.std.specs.BTreeMap.{BTreeMap}
+use Rattle.indexmap.specs.IndexMap.{IndexMap, get}
+use Rattle.nm_types.specs.declared.messages.Arrival.{Arrival}
+use Rattle.nm_types.specs.declared.messages.Post as post
+use Rattle.nm_match.specs.declared.names.MessageId.{MessageId}
+use Rattle.nm_match.specs.declared.names.Standing.{Standing}
+use Rattle.nm_match.specs.declared.names.Standing.TheVariants.{Waits, Aside}
+use Rattle.nm_match.specs.declared.picks.Picks.{Picks}
+use Rattle.nm_match.specs.declared.posted.Posted.{Posted}
+use Rattle.nm_match.specs.declared.unexpected.Unexpected.{Unexpected}
+use Rattle.nm_match.specs.Buckets.{IsQueue}
+use Rattle.nm_match.specs.Deeds.{is_message}
+use Rattle.nm_match.specs.Picks.{picks_of_arrival, picks_of_post}
+
+-- the same message of the same rank
+abbrev pub same_message : MessageId → MessageId → Bool
+same_message a b = a.from == b.from && a.n == b.n
+
+-- what a message is known by
+abbrev pub id_of_arrival : Arrival → MessageId
+id_of_arrival a = record { from = a.env.from; n = a.n }
+
+-- the receive has this number
+abbrev pub has_number : post.Post → ℕ → Bool
+has_number p number = p.number == number
+
+-- the message is known by this
+abbrev pub has_id : Arrival → MessageId → Bool
+has_id a id = is_message id.from id.n a
+
+-- the number is one of these
+abbrev pub is_one_of : List ℕ → ℕ → Bool
+is_one_of numbers number = list_any (λ m. m == number) numbers
+
+-- one of these is known by this
+abbrev pub has_one : List Arrival → MessageId → Bool
+has_one arrivals id = list_any (is_message id.from id.n) arrivals
+
+-- it waits no more
+abbrev pub is_aside : Standing → Bool
+is_aside (Waits key order) = false
+is_aside Aside = true
+
+-- where what is known by this name stands: in its bucket, if it waits in the queue, or aside
+abbrev pub standing_of : {X K : Type 0} → (X → K → Bool) → (X → Picks) → List (ℕ × X) → (K → Bool) → K
+    → Option Standing
+standing_of known key queue aside name =
+    option_map_or (λ x. Some (Waits (key x.1) x.0)) (find (λ x. known x.1 name) queue)
+    (if aside name then Some Aside else None)
+
+-- The buckets hold these things in order of age, and a map says of each name where it stands.
+pub record IsNamedQueue {X K S T : Type 0} (same : K → K → Bool) (known : X → K → Bool)
+    (key : X → Picks) (items : List X) (aside : K → Bool) (next : ℕ)
+    (m : IndexMap Picks (BTreeMap ℕ X) S) (count : ℕ) (standings : IndexMap K Standing T)
+    : Type 0 where
+  pub is : IsQueue key items next m count
+  pub stands : (name : K) → get same standings name ≡ standing_of known key is.queue aside name
+
+-- these receives wait, and these numbers are of cancelled ones
+abbrev pub ArePosted : List post.Post → List ℕ → ℕ → Posted → Type 0
+ArePosted posts cancelled next p =
+    IsNamedQueue nat_eq has_number picks_of_post posts (is_one_of cancelled) next p.waiting.map
+    p.waiting.len p.standings
+
+-- these messages wait, and these are claimed
+abbrev pub AreUnexpected : List Arrival → List Arrival → ℕ → Unexpected → Type 0
+AreUnexpected arrivals claimed next u =
+    IsNamedQueue same_message has_id picks_of_arrival arrivals (has_one claimed) next u.waiting.map
+    u.waiting.len u.standings

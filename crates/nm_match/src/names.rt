@@ -1,0 +1,56 @@
+//! What receives and messages are known by, and where they stand.
+
+ghost use Rattle.std.specs.Prelude.{◌≡◌};
+ghost use Rattle.nm_match.specs.Names.{id_of_arrival, is_aside as is_aside_lem};
+
+use crate::picks::Picks;
+use nm_types::Arrival;
+
+/// A message: its sender, and its place among the messages of that sender.
+#[derive(Clone, Copy, Debug, Eq, Hash)]
+pub struct MessageId {
+    pub from: u8,
+    pub n: u64,
+}
+
+impl PartialEq for MessageId {
+    ghost use Rattle.std.proofs.Common.{rules};
+    ghost use Rattle.std.specs.Cmp.Rules.{comparing};
+    ghost use Rattle.nm_match.specs.Names.{same_message};
+
+    ghost eq = { λ a b. same_message a b };
+
+    ghost laws = { Prim.search (comparing, rules) };
+
+    fn eq(&self, other: &MessageId) -> bool {
+        self.from == other.from && self.n == other.n
+    }
+}
+
+/// Where a receive or a message stands that is in no pair.
+#[derive(Clone, Copy, Debug, PartialEq, Eq)]
+pub enum Standing {
+    /// It waits in the bucket of this key, under this order number.
+    Waits { key: Picks, order: usize },
+    /// It waits no more: the receive is cancelled, the message is claimed.
+    Aside,
+}
+
+impl Standing {
+    /// Whether it waits no more.
+    pub(crate) fn is_aside(&self) -> bool
+        ensures { result ≡ is_aside_lem self.now }
+    {
+        matches!(self, Standing::Aside)
+    }
+}
+
+/// What a message is known by.
+pub(crate) fn id_of(a: &Arrival) -> MessageId
+    ensures { result ≡ id_of_arrival a.now }
+{
+    MessageId {
+        from: a.env.from,
+        n: a.n,
+    }
+}
