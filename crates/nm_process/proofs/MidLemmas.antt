@@ -27,7 +27,7 @@ use Rattle.nm_history.proofs.AnswerLemmas.{live_ended, live_kept, live_same, liv
 use Rattle.nm_protocol.specs.Clock.{stamped}
 use Rattle.nm_rank.specs.Ranks.{RankView}
 use Rattle.nm_process.specs.Names.{handled, named, request_named}
-use Rattle.nm_process.specs.Places.{IsNext}
+use Rattle.nm_process.specs.Places.{IsNext, IsOwnLine, IsPlaceFrom}
 use Rattle.nm_process.specs.Processes.{ProcessView}
 use Rattle.nm_process.specs.Starts.{HasAnswered, SetsHandle, SetsName}
 use Rattle.nm_process.specs.Work.{IsAtWork, are_below, line_of}
@@ -46,6 +46,7 @@ pub record Working (shape : Sizes) (lines : List Line) (sizes : Sizes) (me at ne
   pub done : Done shape.eager (commands_of me lines) at h
   pub past : are_below (next + 2) h ≡ true
   pub counted : length (commands_of me (take next lines)) ≡ at
+  pub own : IsOwnLine lines me next
   pub requests : (q : ℕ) → names q ≡ live (commands_of me lines) h q
   pub handles : (m : ℕ) → messages m ≡ live_message (commands_of me lines) h m
 
@@ -60,6 +61,7 @@ whole shape lines v work = record {
   claims = work.done.claims;
   past = work.past;
   counted = work.counted;
+  own = work.own;
   requests = work.requests;
   handles = work.handles;
 }
@@ -92,6 +94,7 @@ work_packets shape lines v w start ws me sizes requests events all work =
           (done_of shape lines v work);
       past = below_packets (v.next + 2) v.rank.events more (omega arith) packets work.past;
       counted = work.counted;
+      own = work.own;
       requests = λ q. ap (λ r. request_named r v.names q) requests ∙ work.requests q
           ∙ sym (live_packets (commands_of v.rank.me lines) v.rank.events more q packets);
       handles = λ m. work.handles m
@@ -216,7 +219,7 @@ module _ (shape : Sizes) (lines : List Line) (a : ProcessView) (place : ℕ) (l 
       (s c : List Happened) (ls : List ℕ) → l.command ≡ command →
       mid.rank.me ≡ a.rank.me → mid.rank.sizes ≡ a.rank.sizes → mid.rank.events ≡ h →
       HasAnswered mid (record b { at = a.at; next = a.next }) (place + 2) x → b.at ≡ a.at + 1 →
-      b.next ≡ place + 1 →
+      IsPlaceFrom lines a.rank.me (place + 1) b.next →
       Mid shape lines a place h s c ls → answer_of (commands_of a.rank.me lines) h (place + 2) command
       ≡ Some (without_bytes x) →
       map without_number s ≡ (if is_started x then start_of shape.eager (commands_of a.rank.me lines) h
@@ -244,17 +247,17 @@ module _ (shape : Sizes) (lines : List Line) (a : ProcessView) (place : ℕ) (l 
       (subst (λ (k : List Event). Working shape lines b.rank.sizes a.rank.me b.at b.next k (named b)
       (handled b)) (sym events_are)
       (subst (λ (i : ℕ). Working shape lines b.rank.sizes a.rank.me i b.next (h ++ e ∷ []) (named b)
-      (handled b)) (sym at)
-      (subst (λ (i : ℕ). Working shape lines b.rank.sizes a.rank.me (a.at + 1) i (h ++ e ∷ []) (named b)
-      (handled b)) (sym next) (record {
+      (handled b)) (sym at) (record {
         same = has.takes.sizes ∙ sizes ∙ work.sizes;
         done = done;
-        past = below-push (place + 1 + 2) h e now.below (line_below (place + 2) refl);
-        counted = next_counted lines a.rank.me a.next place a.at l is work.counted;
+        past = below-more (place + 1 + 2) (b.next + 2) (h ++ e ∷ []) (omega (arith, next.past))
+            (below-push (place + 1 + 2) h e now.below (line_below (place + 2) refl));
+        counted = next.first ∙ next_counted lines a.rank.me a.next place a.at l is work.counted;
+        own = next.own;
         requests = λ q. ap (λ r. request_named r b.names q) has.requests
             ∙ ap (λ (v : ProcessView). request_named mid.rank.requests v.names q) has.others ∙ names q;
         handles = messages;
-      }))))) where
+      })))) where
         line_below : (k : ℕ) → k ≡ place + 2 → nat_lt k (place + 1 + 2) ≡ true
         line_below k is = grind (arith, nat_tests)
 

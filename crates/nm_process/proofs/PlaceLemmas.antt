@@ -4,14 +4,17 @@ use Rattle.std.proofs.Common.{false, cond, Option, Some, None, List, [], ◌∷�
 use Rattle.std.proofs.Common.{◌∙◌, ap, subst, arith, add-one, get_or}
 use Rattle.std.specs.Prelude.{IfSome, option_map}
 use Rattle.std.specs.List.{find, list_all, slice_get}
-use Rattle.std.proofs.lemmas.Bool.{eq-eqb}
+use Rattle.std.specs.Option.{option_map_or}
+use Rattle.std.proofs.lemmas.Bool.{eq-eqb, eqb-true}
 use Rattle.std.proofs.lemmas.Bool.Decides.{nat_tests}
 use Rattle.std.proofs.lemmas.List.{take_all}
 use Rattle.std.proofs.lemmas.Option.{slice_get_cases, slice_get_read, slice_get_past}
+use Rattle.nm_types.specs.declared.scripts.Command.{Command}
 use Rattle.nm_types.specs.declared.scripts.Line.{Line}
 use Rattle.nm_types.specs.Commands.{Numbered, commands_from, commands_of, command_at}
 use Rattle.nm_history.proofs.OnceLemmas.{and_left, and_right}
-use Rattle.nm_process.specs.Places.{IsNext, NoneBetween}
+use Rattle.nm_process.specs.Places.{IsNext, IsOwnLine, NoneBetween}
+use Rattle.nm_process.specs.Steps.{is_look}
 
 abbrev numbered : ℕ → Line → Numbered
 numbered number l = record { line = number; command = l.command }
@@ -113,6 +116,25 @@ next_here lines me next place x inside is rank past first =
     in
     rw here (record { here = here; mine = eq-eqb x.rank me rank; past = past; first = first })
 
+-- the line at a place is the rank's
+pub own_here : (lines : List Line) (me place : ℕ) (x : Line) → place < length lines →
+    x ≡ get_or lines place x → x.rank ≡ me → IsOwnLine lines me place
+own_here lines me place x inside is rank =
+    let here : slice_get lines place ≡ Some x = slice_get_read lines (length lines) place x refl inside is in
+    rw here (eq-eqb x.rank me rank)
+
+-- or there is none
+pub own_past : (lines : List Line) (me : ℕ) → IsOwnLine lines me (length lines)
+own_past lines me = rw (slice_get_past lines (length lines) (omega arith)) tt
+
+-- a line of which that is known is
+pub own_line : (lines : List Line) (me place : ℕ) (x : Line) → place < length lines →
+    x ≡ get_or lines place x → IsOwnLine lines me place → x.rank ≡ me
+own_line lines me place x inside is own =
+    let mine : (x.rank == me) ≡ true = subst (λ (o : Option Line). IfSome o (λ l. (l.rank == me) ≡ true))
+    (slice_get_read lines (length lines) place x refl inside is) own in
+    eqb-true x.rank me mine
+
 -- a line of another rank is passed
 pub none_passed : (lines : List Line) (me next place : ℕ) (x : Line) → place < length lines →
     x ≡ get_or lines place x → x.rank ≢ me → NoneBetween lines me next place →
@@ -193,3 +215,9 @@ line_of_next lines me next place at inside is counted = by_case (slice_get_cases
       (next_command lines me next place at there.0
       (subst (λ (o : Option Line). IfSome o (IsNext lines me next place)) there.2 is) counted)
   by_case (inr past) = let none : place < place = omega (arith, inside, past.0) in absurd (omega arith)
+
+-- whether the next command looks at what came
+pub looks_by : (x : Option Command) (o : Option Numbered) → x ≡ option_map (λ c. c.command) o →
+    option_map_or is_look x false ≡ option_map_or (λ c. is_look c.command) o false
+looks_by x None is = ap (λ (y : Option Command). option_map_or is_look y false) is
+looks_by x (Some c) is = ap (λ (y : Option Command). option_map_or is_look y false) is

@@ -54,7 +54,7 @@ use Rattle.nm_rank.specs.Requests.{cancel_answer as cancelled, cancel_events}
 use Rattle.nm_process.specs.declared.steps.Step.{Step}
 use Rattle.nm_process.specs.declared.steps.Step.TheVariants.{Waits, Ran as Took}
 use Rattle.nm_process.specs.Names.{handled, message_with, named, request_named}
-use Rattle.nm_process.specs.Places.{IsNext, NoneBetween}
+use Rattle.nm_process.specs.Places.{IsNext, IsPlaceFrom, NoneBetween}
 use Rattle.nm_process.specs.Processes.{ProcessView}
 use Rattle.nm_process.specs.Starts.{HasAnswered, HasAwaited, HasCancelled, HasClaimed, HasEnded}
 use Rattle.nm_process.specs.Starts.{HasFoundNone, HasMatched, HasProbed, HasStarted, HasTried, IsBusy}
@@ -160,7 +160,7 @@ right_front ranks h e f k is right =
 
 module _ (shape : Sizes) (lines : List Line) (a b : ProcessView) (place : ℕ) (l : Line)
     (work : IsAtWork shape lines a) (is : IsNext lines a.rank.me a.next place l)
-    (at : b.at ≡ a.at + 1) (next : b.next ≡ place + 1) where
+    (at : b.at ≡ a.at + 1) (next : IsPlaceFrom lines a.rank.me (place + 1) b.next) where
   abbrev commands : List Numbered
   commands = commands_of a.rank.me lines
 
@@ -743,7 +743,8 @@ tried_counted a v c line s at next tried =
 
 -- what a step that is no waiting came to
 pub stepped : (lines : List Line) (a b : ProcessView) (place : ℕ) (l : Line) (s : Step) →
-    IsNext lines a.rank.me a.next place l → (s ≡ Waits → ⊥) → b.at ≡ a.at + 1 → b.next ≡ place + 1 →
+    IsNext lines a.rank.me a.next place l → (s ≡ Waits → ⊥) → b.at ≡ a.at + 1 →
+    IsPlaceFrom lines a.rank.me (place + 1) b.next →
     HasTried a (record b { at = a.at; next = a.next }) l.command (place + 2) s → HasStepped lines a b s
 stepped lines a b place l Waits is moves at next tried = absurd (moves refl)
 stepped lines a b place l Took is moves at next tried = record {
@@ -758,7 +759,7 @@ stepped lines a b place l Took is moves at next tried = record {
 
 pub ran_step : (shape : Sizes) (lines : List Line) (a b : ProcessView) (place : ℕ) (l : Line) (s : Step) →
     IsAtWork shape lines a → IsNext lines a.rank.me a.next place l → (s ≡ Waits → ⊥) →
-    b.at ≡ a.at + 1 → b.next ≡ place + 1 → AreRight b.rank.sizes.ranks [] b.rank.events →
+    b.at ≡ a.at + 1 → IsPlaceFrom lines a.rank.me (place + 1) b.next → AreRight b.rank.sizes.ranks [] b.rank.events →
     HasTried a (record b { at = a.at; next = a.next }) l.command (place + 2) s → IsAtWork shape lines b
 ran_step shape lines a b place l Waits work is moves at next right tried = absurd (moves refl)
 ran_step shape lines a b place l Took work is moves at next right tried =

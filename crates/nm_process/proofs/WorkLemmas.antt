@@ -9,19 +9,21 @@ use Rattle.nm_history.specs.RankRun.{Answers, Cancels, Claims, Starts}
 use Rattle.nm_request.specs.declared.Req.{Req}
 use Rattle.nm_rank.specs.Ranks.{RankView}
 use Rattle.nm_process.specs.declared.steps.Handle.{Handle}
+use Rattle.nm_process.specs.Places.{IsPlaceFrom}
 use Rattle.nm_process.specs.Work.{IsAtWork}
 
 -- a process that begins
-pub begins : (shape : Sizes) (lines : List Line) (v : RankView) (names : List (ℕ × Req))
-    (handles : List (ℕ × Handle)) → v.sizes ≡ shape → v.events ≡ [] → names ≡ [] → handles ≡ [] →
-    IsAtWork shape lines (record { rank = v; at = 0; next = 0; names = names; handles = handles })
+pub begins : (shape : Sizes) (lines : List Line) (v : RankView) (next : ℕ) (names : List (ℕ × Req))
+    (handles : List (ℕ × Handle)) → IsPlaceFrom lines v.me 0 next → v.sizes ≡ shape → v.events ≡ [] →
+    names ≡ [] → handles ≡ [] →
+    IsAtWork shape lines (record { rank = v; at = 0; next = next; names = names; handles = handles })
 unfolding AtEach
-begins shape lines v names handles sizes none no_names no_handles =
+begins shape lines v next names handles place sizes none no_names no_handles =
     let commands : List Numbered = commands_of v.me lines in
     subst (λ (ns : List (ℕ × Req)). IsAtWork shape lines
-    (record { rank = v; at = 0; next = 0; names = ns; handles = handles })) (sym no_names)
+    (record { rank = v; at = 0; next = next; names = ns; handles = handles })) (sym no_names)
     (subst (λ (hs : List (ℕ × Handle)). IsAtWork shape lines
-    (record { rank = v; at = 0; next = 0; names = []; handles = hs })) (sym no_handles)
+    (record { rank = v; at = 0; next = next; names = []; handles = hs })) (sym no_handles)
     (let is = none in record {
       sizes = sizes;
       answers = subst (λ (h : List Event). Answers commands 0 h) (sym is)
@@ -33,7 +35,8 @@ begins shape lines v names handles sizes none no_names no_handles =
       claims = subst (λ (h : List Event). Claims commands h) (sym is)
           (record { made = tt; no_others = refl });
       past = rw is refl;
-      counted = refl;
+      counted = place.first;
+      own = place.own;
       requests = λ q. rw is refl;
       handles = λ m. rw is refl;
     }))

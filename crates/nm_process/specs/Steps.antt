@@ -12,7 +12,7 @@ use Rattle.nm_history.specs.Matching.{first_message, matched_pairs}
 use Rattle.nm_process.specs.declared.steps.Step.{Step}
 use Rattle.nm_process.specs.declared.steps.Step.TheVariants.{Waits, Ran as Took}
 use Rattle.nm_process.specs.Names.{named}
-use Rattle.nm_process.specs.Places.{IsNext}
+use Rattle.nm_process.specs.Places.{IsNext, IsPlaceFrom}
 use Rattle.nm_process.specs.Processes.{ProcessView}
 use Rattle.nm_process.specs.Starts.{HasTried}
 
@@ -21,6 +21,18 @@ abbrev pub goes_on : List Numbered → ProcessView → Bool
 goes_on commands v =
     option_map_or (λ c. can_go_on commands v.rank.events c.command) (slice_get commands v.at) false
 
+-- a command looks at what came: a test, a probe, an await or a matched probe
+abbrev pub is_look : Command → Bool
+is_look (command.Test q) = true
+is_look (command.Probe from tag ctx) = true
+is_look (command.Await from tag ctx) = true
+is_look (command.Mprobe m from tag ctx) = true
+is_look _ = false
+
+-- whether there is a next command and it looks at what came
+abbrev pub looks_on : List Numbered → ProcessView → Bool
+looks_on commands v = option_map_or (λ c. is_look c.command) (slice_get commands v.at) false
+
 -- whether a command can go on, by what the names of the process stand for
 abbrev pub can_go_on_by : ProcessView → Command → Bool
 can_go_on_by v (command.Wait q) = option_map_or (is_complete v.rank.events) (named v q) true
@@ -28,14 +40,14 @@ can_go_on_by v (command.Await from tag ctx) =
     is_some (first_message v.rank.events (matched_pairs v.rank.events) from tag ctx)
 can_go_on_by v _ = true
 
--- the process ran the command of its next line, and counts it
+-- the process ran the command of its next line, counts it, and stands at the next one
 pub record HasRun (lines : List Line) (a b : ProcessView) : Type 0 where
   pub place : ℕ
   pub line : Line
   pub is : IsNext lines a.rank.me a.next place line
   pub tried : HasTried a (record b { at = a.at; next = a.next }) line.command (place + 2) Took
   pub at : b.at ≡ a.at + 1
-  pub next : b.next ≡ place + 1
+  pub next : IsPlaceFrom lines a.rank.me (place + 1) b.next
 
 -- what the process's next command came to
 abbrev pub HasStepped : List Line → ProcessView → ProcessView → Step → Type 0

@@ -27,9 +27,17 @@ ghost use Rattle.nm_process.specs.Work.{IsAtWork};
 
 use crate::Process;
 use nm_history::History;
+use nm_rank::Rank;
 use nm_types::{Memory, Packet, Piece};
 
 impl Process {
+    /// Its rank.
+    pub fn rank(&self) -> &Rank
+        ensures { result.now ≡ self.now.rank }
+    {
+        &self.rank
+    }
+
     /// Whether the rank can go on no more. Then it runs nothing and takes nothing more.
     pub fn is_worn(&self) -> bool
         ensures { (result ≡ false) ↔ IsFresh self.now.rank }
@@ -52,45 +60,6 @@ impl Process {
         ensures events { result.events ≡ self.rank.events }
     {
         self.rank.into_history()
-    }
-
-    /// How many packets to a rank have left.
-    pub fn popped(&self, to: u8) -> u64
-        requires { to < self.now.rank.sizes.ranks }
-        ensures { result ≡ popped_to self.now.rank.sending.outbox to }
-    {
-        self.rank.popped(to)
-    }
-
-    /// How many packets of a rank were taken.
-    pub fn took(&self, from: u8) -> u64
-        requires { from < self.now.rank.sizes.ranks }
-        ensures { result ≡ count_of self.now.rank.took from }
-    {
-        self.rank.took(from)
-    }
-
-    /// How many pieces to a rank have left.
-    pub fn pushed(&self, to: u8) -> u64
-        requires { to < self.now.rank.sizes.ranks }
-        ensures { result ≡ pushed_to self.now.rank.sending to }
-    {
-        self.rank.pushed(to)
-    }
-
-    /// How many pieces of a rank were taken.
-    pub fn pulled(&self, from: u8) -> u64
-        requires { from < self.now.rank.sizes.ranks }
-        ensures { result ≡ count_of self.now.rank.pulled from }
-    {
-        self.rank.pulled(from)
-    }
-
-    /// How many packets and pieces did not continue their stream.
-    pub fn strays(&self) -> u64
-        ensures { result ≡ self.now.rank.strays }
-    {
-        self.rank.strays()
     }
 
     /// The first packet to be sent, with the rank that it goes to, if there is one. Where there is
@@ -133,6 +102,7 @@ impl Process {
             IsAtWork shape lines self.new }
     {
         self.rank.pop_front();
+        // no step: it tells that the history keeps its rules
         self.rank.history();
     }
 
@@ -185,6 +155,7 @@ impl Process {
             IsAtWork shape lines self.new }
     {
         self.rank.pop_piece();
+        // no step: it tells that the history keeps its rules
         self.rank.history();
     }
 
@@ -210,6 +181,7 @@ impl Process {
         ensures err { IfErr result (λ e. (e.1 ≡ p) × (self.new ≡ self.old)) }
     {
         self.rank.take_packet(p)?;
+        // no step: it tells that the history keeps its rules
         self.rank.history();
         Ok(())
     }
@@ -227,6 +199,7 @@ impl Process {
         ensures err { IfErr result (λ e. (e.1 ≡ p) × (self.new ≡ self.old)) }
     {
         self.rank.take_piece(p)?;
+        // no step: it tells that the history keeps its rules
         self.rank.history();
         Ok(())
     }

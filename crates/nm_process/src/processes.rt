@@ -16,9 +16,9 @@ ghost use Rattle.nm_rndv.specs.Offers.{no_offers};
 ghost use Rattle.nm_receiving.specs.Receipts.{came_of, drawn_from};
 ghost use Rattle.nm_rank.specs.Ranks.{IsFresh};
 ghost use Rattle.nm_process.specs.Lines.{AreLines};
-ghost use Rattle.nm_process.specs.Places.{IsNext, NoneBetween};
+ghost use Rattle.nm_process.specs.Places.{IsNext, IsPlaceFrom, NoneBetween};
 ghost use Rattle.nm_process.specs.Starts.{HasTried};
-ghost use Rattle.nm_process.specs.Steps.{HasStepped, can_go_on_by, goes_on};
+ghost use Rattle.nm_process.specs.Steps.{HasStepped, can_go_on_by, goes_on, is_look, looks_on};
 ghost use Rattle.nm_process.specs.Names.{named};
 ghost use Rattle.nm_process.specs.declared.steps.Step.TheVariants as step_is;
 ghost use Rattle.nm_history.specs.Completion.{is_complete};
@@ -41,9 +41,9 @@ pub struct Process {
     pub(crate) requests: IndexMap<u16, Req>,
     // by name of a handle
     pub(crate) handles: IndexMap<u16, Handle>,
-    // its commands before this place of the script ran
+    // where its next command stands in the script, past all lines if there is none
     pub(crate) next: usize,
-    // how many these are
+    // how many of its commands ran
     pub(crate) at: u32,
 }
 
@@ -69,9 +69,36 @@ impl Model for Process {
         × (p.me ≡ p.rank.me) × (p.at ≤ p.next) };
 }
 
+// The place of a rank's next command in the script, from a place on. Where there is none it is past
+// all lines.
+fn place_from(me: u8, lines: &[Line], from: usize) -> usize
+    requires { from ≤ length lines.now }
+    ensures { IsPlaceFrom lines.now me from result }
+{
+    for place in from..lines.len() {
+        if lines[place].rank == me {
+            return place;
+        }
+    }
+    lines.len()
+}
+
+// Whether it is a command that looks at what came: a test, a probe, an await or a matched probe.
+fn looks(command: Option<&Command>) -> bool
+    ensures { result ≡ option_map_or is_look (option_map (λ c. c.now) command.entry) false }
+{
+    match command {
+        Some(Command::Test { .. }) => true,
+        Some(Command::Probe { .. }) => true,
+        Some(Command::Await { .. }) => true,
+        Some(Command::Mprobe { .. }) => true,
+        _ => false,
+    }
+}
+
 impl Process {
-    /// A process at its first command, in a run of these sizes.
-    pub fn new(alloc: Global, shape: Shape, me: u8) -> Result<Process, Memory>
+    /// A process at its first command of a script, in a run of these sizes.
+    pub fn new(alloc: Global, shape: Shape, me: u8, lines: &[Line]) -> Result<Process, Memory>
         requires { me < shape.ranks }
         ensures me { IfOk result (λ p. (p.rank.me ≡ me) × (p.rank.sizes ≡ shape)) }
         ensures events { IfOk result (λ p. (p.rank.events ≡ []) × (p.rank.clock ≡ 0)) }
@@ -87,19 +114,19 @@ impl Process {
         ensures counts { IfOk result (λ p. (p.rank.took ≡ replicate shape.ranks 0)
             × (p.rank.pulled ≡ replicate shape.ranks 0) × (p.rank.strays ≡ 0)) }
         ensures known { IfOk result (λ p. p.rank.known ≡ replicate shape.ranks nothing_known) }
-        ensures begins { IfOk result (λ p. (p.at ≡ 0) × ((lines : List Line) → IsAtWork shape lines p)) }
+        ensures begins { IfOk result (λ p. (p.at ≡ 0) × IsAtWork shape lines.now p) }
     {
         Ok(Process {
             me,
             rank: Rank::new(alloc, shape, me)?,
             requests: IndexMap::new(alloc),
             handles: IndexMap::new(alloc),
-            next: 0,
+            next: place_from(me, lines, 0),
             at: 0,
         })
     }
 
-    /// The rank.
+    /// The number of its rank.
     pub fn me(&self) -> u8
         ensures { result ≡ self.now.rank.me }
     {
@@ -134,21 +161,32 @@ impl Process {
         Some(&lines[place].command)
     }
 
-    // The place of the next command in the script.
+    // The place of the next command in the script that the process is at work on.
     fn next_place(&self, lines: &[Line]) -> Option<usize>
         ensures some { IfSome result (λ place. (place < length lines.now)
             × IfSome (slice_get lines.now place)
             (IsNext lines.now self.now.rank.me self.now.next place)) }
-        ensures none { IfNone result
-            (NoneBetween lines.now self.now.rank.me self.now.next (length lines.now)) }
+        ensures none { IfNone result ((shape : Sizes) → IsAtWork shape lines.now self.now →
+            NoneBetween lines.now self.now.rank.me self.now.next (length lines.now)) }
     {
-        let me = self.me;
-        for place in self.next..lines.len() {
-            if lines[place].rank == me {
-                return Some(place);
-            }
+        let place = self.next;
+        if place >= lines.len() {
+            return None;
         }
-        None
+        if lines[place].rank == self.me {
+            Some(place)
+        } else {
+            None
+        }
+    }
+
+    /// Whether there is a next command and it looks at what came: a test, a probe, an await or a
+    /// matched probe.
+    pub fn next_looks(&self, lines: &[Line]) -> bool
+        ensures { (shape : Sizes) → IsAtWork shape lines.now self.now → result
+            ≡ looks_on (commands_of self.now.rank.me lines.now) self.now }
+    {
+        looks(self.next_command(lines))
     }
 
     /// Whether there is a next command and it can go on.
@@ -203,6 +241,7 @@ impl Process {
         if self.rank.is_worn() {
             return Ok(Step::Waits);
         }
+        let me = self.me();
         let Some(place) = self.next_place(lines) else {
             return Ok(Step::Waits);
         };
@@ -210,8 +249,9 @@ impl Process {
         if let Step::Waits = step {
             return Ok(Step::Waits);
         }
-        self.next = place + 1;
+        self.next = place_from(me, lines, place + 1);
         self.at += 1;
+        // no step: it tells that the history keeps its rules
         self.rank.history();
         Ok(step)
     }

@@ -1,5 +1,5 @@
 -- The command of the next line.
-use Rattle.std.proofs.Common.{◌≡◌, Some, Option, sym, ap, ◌∙◌}
+use Rattle.std.proofs.Common.{Some, Option, sym, ap, ◌∙◌}
 use Rattle.std.specs.Prelude.{option_map}
 use Rattle.nm_types.specs.declared.scripts.Line.{Line}
 use Rattle.nm_types.specs.Commands.{Numbered}

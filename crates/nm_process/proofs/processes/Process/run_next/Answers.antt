@@ -1,9 +1,9 @@
 -- A process runs its next command.
-use Rattle.std.proofs.Common.{◌<◌, ℕ, ◌+◌, refl, sym, ap, subst, ◌∙◌, arith}
+use Rattle.std.proofs.Common.{◌<◌, ℕ, ◌+◌, sym, ap, subst, ◌∙◌, arith}
 use Rattle.nm_types.specs.declared.scripts.Line.{Line}
 use Rattle.nm_process.specs.declared.steps.Step.{Step}
 use Rattle.nm_process.specs.declared.steps.Step.TheVariants as step_is
-use Rattle.nm_process.specs.Places.{IsNext}
+use Rattle.nm_process.specs.Places.{IsNext, IsPlaceFrom}
 use Rattle.nm_process.specs.Processes.{ProcessView}
 use Rattle.nm_process.specs.Starts.{HasTried}
 use Rattle.nm_process.proofs.PlaceLemmas.{at_place}
@@ -26,8 +26,8 @@ returns-in-Waits-clause-waits c same fresh shape work =
     (sym c.index-lines-place.is) c.in_ok-step.ensures.tried) in
     waited shape lines a b place l work next tried
 
-pub overflow_add-self-2 : goal.overflow_add-self-2
-overflow_add-self-2 c =
+pub overflow_add-self : goal.overflow_add-self
+overflow_add-self c =
     let next = ap (λ (v : ProcessView). v.next) c.self-2.view_is in
     let is = at_place (IsNext c.args.lines.now c.args.self.now.rank.me c.args.self.now.next
     c.in-Some.place) c.args.lines.now c.in-Some.place c.index-lines-place.result
@@ -51,7 +51,7 @@ invariant_of-self c =
     c.in-Some.place) c.args.lines.now c.in-Some.place c.index-lines-place.result
     c.in-Some.ensures.some.0 c.index-lines-place.is c.in-Some.ensures.some.1 in
     let i = c.self-2.invariant in
-    (i.0, i.1, i.2, omega (arith, i.3, next, c.in_ok-step.ensures.places.0, is.past))
+    (i.0, i.1, i.2, omega (arith, i.3, next, c.in_ok-step.ensures.places.0, is.past, c.place_from-self-inside.ensures.past))
 
 pub returns-clause-stepped : goal.returns-clause-stepped
 returns-clause-stepped c =
@@ -77,8 +77,10 @@ returns-clause-stepped c =
     (sym c.self-2.view_is)
     (subst (λ (x : Line). HasTried a c.run_command.new.self x.command (place + 2) c.in_ok-step.step)
     (sym c.index-lines-place.is) c.in_ok-step.ensures.tried) in
-    stepped lines a (record v { at = i.at + 1; next = place + 1 }) place l c.in_ok-step.step next
-    c.in_default-step.not-Waits (ap (λ (k : ℕ). k + 1) at_same) refl
+    let moved : IsPlaceFrom lines a.rank.me (place + 1) c.place_from-self-inside.result =
+    subst (λ (k : ℕ). IsPlaceFrom lines k (place + 1) c.place_from-self-inside.result) c.me-me.ensures c.place_from-self-inside.ensures in
+    stepped lines a (record v { at = i.at + 1; next = c.place_from-self-inside.result }) place l c.in_ok-step.step next
+    c.in_default-step.not-Waits (ap (λ (k : ℕ). k + 1) at_same) moved
     (tried_counted a v l.command (place + 2) c.in_ok-step.step at_same next_same tried)
 
 pub returns-clause-work : goal.returns-clause-work
@@ -105,8 +107,10 @@ returns-clause-work c shape work =
     (sym c.self-2.view_is)
     (subst (λ (x : Line). HasTried a c.run_command.new.self x.command (place + 2) c.in_ok-step.step)
     (sym c.index-lines-place.is) c.in_ok-step.ensures.tried) in
-    ran_step shape lines a (record v { at = i.at + 1; next = place + 1 }) place l c.in_ok-step.step work
-    next c.in_default-step.not-Waits (ap (λ (k : ℕ). k + 1) at_same) refl
+    let moved : IsPlaceFrom lines a.rank.me (place + 1) c.place_from-self-inside.result =
+    subst (λ (k : ℕ). IsPlaceFrom lines k (place + 1) c.place_from-self-inside.result) c.me-me.ensures c.place_from-self-inside.ensures in
+    ran_step shape lines a (record v { at = i.at + 1; next = c.place_from-self-inside.result }) place l c.in_ok-step.step work
+    next c.in_default-step.not-Waits (ap (λ (k : ℕ). k + 1) at_same) moved
     c.history.ensures.right (tried_counted a v l.command (place + 2) c.in_ok-step.step at_same next_same
     tried)
 
