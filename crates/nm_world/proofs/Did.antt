@@ -213,6 +213,42 @@ ring_missed lines f r a q g j s owns rank low up same knew =
       did_none f.ranks a (record a { ring = q }) refl (λ k. refl) refl kept,
     )
 
+-- a ring port that loaded a flag and learnt nothing
+pub ring_looked : (lines : List Line) (f : Fabric) (r : Rings) (a : Actor) (q : RingPort) (s : Stands lines f r a) →
+    ring.Owns r q → q.rank ≡ a.ring.rank → ring.knows q ≡ ring.knows a.ring →
+    Kept lines f r a (record a { ring = q }) × (false ≡ did f.ranks a (record a { ring = q }))
+ring_looked lines f r a q s owns rank knew =
+    let pushed = λ (k : ℕ). ap (λ (e : ring_entry.Entry). (lane e k).pushed) knew in
+    let pulled = λ (k : ℕ). ap (λ (e : ring_entry.Entry). (lane e k).pulled) knew in (
+      record {
+        stands = record {
+          past = s.past;
+          is = record {
+            standing = s.is.standing;
+            in_range = s.is.in_range;
+            cells = s.is.cells;
+            rings = owns;
+            rank = rank ∙ s.is.rank;
+            ranks = s.is.ranks;
+            hands = s.is.hands;
+            rest = s.is.rest;
+            sent = s.is.sent;
+            taken = s.is.taken;
+            pushed = λ to within. s.is.pushed to within ∙ sym (pushed to);
+            pulled = λ i within. s.is.pulled i within ∙ sym (pulled i);
+          };
+        };
+        seat = refl;
+        grows = record {
+          events = (grows_same a).events;
+          port = port_same a.port;
+          ring = λ k. subst (λ (e : ring_entry.Entry). LaneGrows (lane (ring.knows a.ring) k) (lane e k)) (sym knew)
+              (ring_same a.ring k);
+        };
+      },
+      did_none f.ranks a (record a { ring = q }) refl (λ k. refl) refl (λ k. (pushed k, pulled k)),
+    )
+
 -- a command that ran
 pub ran_on : (n : ℕ) {lines : List Line} {f : Fabric} {r : Rings} (a b : Actor) (s : Stands lines f r a) →
     {sizes : Sizes} {i : ℕ} → GoesOn sizes lines i b.process.rank s.past → b.port ≡ a.port → b.ring ≡ a.ring →
@@ -375,6 +411,13 @@ did_any_iff n lines f r xs ys kept = (
   λ some. sym (less_true (done_of n xs) (done_of n ys)
       (some_did n lines f r xs ys some.place some.before some.after kept some.was some.is some.grew)),
 )
+
+-- and of one before which nothing was
+pub did_then : {E : Type 0} (result : Result Bool E) (n : ℕ) (lines : List Line) (f : Fabric) (r : Rings)
+    (a b c : Actor) → Kept lines f r a b → false ≡ did n a b → IfOk result (λ _. Kept lines f r b c) →
+    IfOk result (λ moved. moved ≡ did n b c) → IfOk result (λ moved. moved ≡ did n a c)
+did_then (Err x) n lines f r a b c one none two moved = tt
+did_then (Ok m) n lines f r a b c one none two moved = did_on n a b c false m one.grows two.grows none moved
 
 -- of a call that tells whether something was done
 pub grew_where_moved : {E : Type 0} (result : Result Bool E) (n : ℕ) (lines : List Line) (f : Fabric) (r : Rings)

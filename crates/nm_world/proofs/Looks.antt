@@ -19,7 +19,7 @@ use Rattle.nm_cells.specs.declared.port.Port.{Port}
 use Rattle.nm_cells.specs.Ports.{knows, taken_by}
 use Rattle.nm_process.specs.Places.{IsNext}
 use Rattle.nm_process.specs.Processes.{ProcessView}
-use Rattle.nm_process.specs.Steps.{HasRun}
+use Rattle.nm_process.specs.Steps.{HasRun, is_look}
 use Rattle.nm_process.specs.Work.{IsAtWork}
 use Rattle.nm_process.proofs.PlaceLemmas.{next_command, next_found}
 use Rattle.nm_types.specs.Sizes.{Sizes}
@@ -27,7 +27,7 @@ use Rattle.nm_rank.specs.Ranks.{IsFresh}
 use Rattle.nm_world.specs.declared.actors.Actor.{Actor}
 use Rattle.nm_world.specs.Actors.{Grows, Kept, PortGrows, Seat, Stands, did}
 use Rattle.nm_world.specs.Idle.{QueueMissed, Rose}
-use Rattle.nm_world.specs.Looks.{IsAtLast, Polled, PolledBefore, PolledUnlessWorn, is_look, is_look_at, looks_in}
+use Rattle.nm_world.specs.Looks.{IsAtLast, Polled, PolledBefore, PolledUnlessWorn, is_look_at, looks_in}
 use Rattle.nm_world.specs.Looks.{looks_next, polls_of}
 use Rattle.nm_world.proofs.Did.{did_same, sum_more, sum_up}
 use Rattle.nm_world.proofs.Grows.{kept_on, port_same}
@@ -159,12 +159,6 @@ polled_last lines f r n k a b d looped before up = ⊎_elim
       by worn (no none) =
           let same = looped.first (omega (arith, none)) in
           inr (subst (λ (x : Actor). ¬ IsFresh x.process.rank) same worn.0, worn.1 ∙ same)
-
--- the next command
-pub looks_is : (f : Numbered → Command) (o : Option Numbered) →
-    option_map_or is_look (option_map f o) false ≡ option_map_or (λ c. is_look (f c)) o false
-looks_is f None = refl
-looks_is f (Some c) = refl
 
 -- an actor that stands, and went on
 module _ (lines : List Line) (f : Fabric) (r : Rings) where

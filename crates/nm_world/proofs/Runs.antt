@@ -148,14 +148,14 @@ new_in_order f r k (p ∷ ps) (q ∷ qs) many one other =
 
 -- the actors that are cast for new ports
 pub placed_new : (shape : Sizes) (lines : List Line) (f : Fabric) (r : Rings) (ps : List Port) (qs : List RingPort)
-    (actors : List Actor) → ((lines : List Line) (f : Fabric) (r : Rings) → AreLines shape.ranks lines →
+    (actors : List Actor) → ((f : Fabric) (r : Rings) → AreLines shape.ranks lines →
     (f.ranks ≡ shape.ranks) × (r.ranks ≡ shape.ranks) → NewInOrder f r 0 ps qs → InPlace shape lines f r 0 actors) →
     AreLines shape.ranks lines → f.ranks ≡ shape.ranks → r.ranks ≡ shape.ranks → length ps ≡ length qs →
     ((k : ℕ) (p : Port) → slice_get ps k ≡ Some p → IsNew f p k) →
     ((k : ℕ) (q : RingPort) → slice_get qs k ≡ Some q → ring.IsNew r q k) → InPlace shape lines f r 0 actors
 placed_new shape lines f r ps qs actors law in_range cells rings many new ring_new =
     let zero_more : (i : ℕ) → i ≡ 0 + i = λ i. omega arith in
-    law lines f r in_range (cells, rings) (new_in_order f r 0 ps qs many
+    law f r in_range (cells, rings) (new_in_order f r 0 ps qs many
     (λ i p at. subst (λ (k : ℕ). IsNew f p k) (zero_more i) (new i p at))
     (λ i q at. subst (λ (k : ℕ). ring.IsNew r q k) (zero_more i) (ring_new i q at)))
 

@@ -1,10 +1,7 @@
 -- How often an actor polled before it ran a command that looks at what came.
 use Rattle.std.specs.Prelude.{◌≡◌, ◌⊎◌, ℕ, ◌+◌, ◌<◌, ◌≤◌, Bool, true, false, List, ◌++◌, count_by}
 use Rattle.std.specs.Prelude.{if◌then◌else◌}
-use Rattle.std.specs.List.{slice_get}
 use Rattle.std.specs.Option.{option_map_or}
-use Rattle.nm_types.specs.declared.scripts.Command.{Command}
-use Rattle.nm_types.specs.declared.scripts.Command.TheVariants as command
 use Rattle.nm_types.specs.declared.scripts.Line.{Line}
 use Rattle.nm_types.specs.Commands.{Numbered, command_at, commands_of}
 use Rattle.nm_history.specs.declared.events.Event.{Event}
@@ -13,18 +10,11 @@ use Rattle.nm_cells.specs.declared.port.Port.{Port}
 use Rattle.nm_cells.specs.Ports.{knows, taken_by}
 use Rattle.nm_rank.specs.Ranks.{IsFresh}
 use Rattle.nm_process.specs.Processes.{ProcessView}
+use Rattle.nm_process.specs.Steps.{is_look, looks_on}
 use Rattle.nm_world.specs.declared.actors.Actor.{Actor}
 use Rattle.nm_world.specs.Actors.{sum_below}
 
--- a command looks at what came: a test, a probe, an await or a matched probe
-abbrev pub is_look : Command → Bool
-is_look (command.Test q) = true
-is_look (command.Probe from tag ctx) = true
-is_look (command.Await from tag ctx) = true
-is_look (command.Mprobe m from tag ctx) = true
-is_look _ = false
-
--- the command of a line is one
+-- the command of a line looks at what came
 abbrev pub is_look_at : List Numbered → ℕ → Bool
 is_look_at commands line = option_map_or is_look (command_at commands line) false
 
@@ -57,9 +47,7 @@ PolledUnlessWorn n times a b =
 -- 1 where the next command looks at what came, else 0
 abbrev pub looks_next : List Line → ProcessView → ℕ
 looks_next lines v =
-    if option_map_or (λ c. is_look c.command) (slice_get (commands_of v.rank.me lines) v.at) false
-    then 1
-    else 0
+    if looks_on (commands_of v.rank.me lines) v then 1 else 0
 
 -- the actor polled at least once for each command that ran and looks at what came
 abbrev pub PolledBefore : List Line → Actor → Actor → Type 0

@@ -1,8 +1,6 @@
 //! One rank with its ports.
 
 ghost use Rattle.std.specs.Prelude.{◌≡◌, ◌<◌, ◌↔◌, ℕ, true, false, List, [], IfOk};
-ghost use Rattle.std.specs.Prelude.{option_map};
-ghost use Rattle.std.specs.Option.{option_map_or};
 ghost use Rattle.nm_types.specs.Commands.{commands_of};
 ghost use Rattle.nm_types.specs.Sizes.{Sizes};
 ghost use Rattle.nm_types.specs.declared.scripts.Line.{Line};
@@ -15,11 +13,11 @@ ghost use Rattle.nm_process.specs.Lines.{AreLines};
 ghost use Rattle.nm_process.specs.Steps.{HasRun, goes_on};
 ghost use Rattle.nm_process.specs.Work.{IsAtWork};
 ghost use Rattle.nm_world.specs.Actors.{Grew, Kept, Setting, Stands, did, seat_of};
-ghost use Rattle.nm_world.specs.Idle.{GaveNone, Idle, LetterBack, NoPiece, PieceBack, Stepped};
-ghost use Rattle.nm_world.specs.Looks.{LookedAround, PolledBefore, PolledUnlessWorn, is_look, looks_next};
+ghost use Rattle.nm_world.specs.Idle.{GaveNone, Idle, IsDue, LetterBack, NoPiece, PieceBack, Stepped};
+ghost use Rattle.nm_world.specs.Looks.{LookedAround, PolledBefore, PolledUnlessWorn, looks_next};
 ghost use Rattle.nm_world.specs.Rest.{CanMove, IsStill};
 
-use crate::wires::{polled, pulled, pushed, sent};
+use crate::wires::{polled, pullable, pulled, pushed, sent};
 use nm_channels::laws::{a_poll_carries, a_send_carries};
 use nm_copyring::{RingPort, Rings};
 use nm_history::History;
@@ -31,7 +29,7 @@ use nm_standing::laws::passing::{
 };
 use nm_standing::laws::runs::a_command_runs;
 use nm_standing::laws::stands::a_process_begins;
-use nm_types::{Command, Line, Memory, Shape};
+use nm_types::{Line, Memory, Shape};
 use std::alloc::Global;
 
 /// How many packets, pieces and commands of each kind a turn has room for.
@@ -48,35 +46,29 @@ pub struct Actor {
     pub ring: RingPort,
 }
 
-// Whether it is a command that looks at what came: a test, a probe, an await or a matched probe.
-fn looks(command: Option<&Command>) -> bool
-    ensures { result ≡ option_map_or is_look (option_map (λ c. c.now) command.entry) false }
-{
-    match command {
-        Some(Command::Test { .. }) => true,
-        Some(Command::Probe { .. }) => true,
-        Some(Command::Await { .. }) => true,
-        Some(Command::Mprobe { .. }) => true,
-        _ => false,
-    }
-}
-
 impl Actor {
-    /// The actor of a port's rank at its first command, in a run of these sizes.
+    /// The actor of a port's rank at its first command of a script, in a run of these sizes.
     ///
     /// With ports as `Fabric::build` and `Rings::build` give them for one rank, it can make turns on
-    /// the lines of any script of as many ranks.
-    pub fn new(alloc: Global, shape: Shape, port: Port, ring: RingPort) -> Result<Actor, Memory>
+    /// these lines, if they are a script's of as many ranks.
+    pub fn new(
+        alloc: Global,
+        shape: Shape,
+        port: Port,
+        ring: RingPort,
+        lines: &[Line],
+    ) -> Result<Actor, Memory>
         requires rank { port.rank < shape.ranks }
-        ensures stands { IfOk result (λ a. (lines : List Line) (f : Fabric) (r : Rings) →
-            AreLines shape.ranks lines → (f.ranks ≡ shape.ranks) × (r.ranks ≡ shape.ranks) →
-            IsNew f port port.rank → ring_port.IsNew r ring port.rank → Stands lines f r a) }
+        ensures stands { IfOk result (λ a. (f : Fabric) (r : Rings) →
+            AreLines shape.ranks lines.now → (f.ranks ≡ shape.ranks) × (r.ranks ≡ shape.ranks) →
+            IsNew f port port.rank → ring_port.IsNew r ring port.rank →
+            Stands lines.now f r a) }
         ensures seat { IfOk result (λ a. seat_of a ≡ record { rank = port.rank; sizes = shape }) }
         ensures ports { IfOk result (λ a. (a.port ≡ port) × (a.ring ≡ ring)) }
         ensures begins { IfOk result (λ a. (a.process.rank.me ≡ port.rank)
             × (a.process.rank.events ≡ []) × (a.process.at ≡ 0)) }
     {
-        let process = Process::new(alloc, shape, port.rank())?;
+        let process = Process::new(alloc, shape, port.rank(), lines)?;
         a_process_begins();
         Ok(Actor {
             process,
@@ -128,12 +120,25 @@ impl Actor {
         ensures back { result ≡ false → IsFresh self.old.process.rank →
             PieceBack self.old self.new }
     {
-        if self.process.is_worn() {
-            return false;
-        }
         if !self.process.has_piece() {
             return false;
         }
+        if self.process.is_worn() {
+            return false;
+        }
+        self.push_front(r)
+    }
+
+    // Pushes the next piece, unless there is none or it comes back. The rank isn't worn.
+    fn push_front(&mut self, r: &Rings) -> bool
+        ghost here: { Setting }
+        requires stands { Stands here.lines here.fabric r.now self.old }
+        requires fresh { IsFresh self.old.process.rank }
+        ensures kept { Kept here.lines here.fabric r.now self.old self.new }
+        ensures moved { result ≡ did here.fabric.ranks self.old self.new }
+        ensures stepped { Stepped result self.old self.new }
+        ensures back { result ≡ false → PieceBack self.old self.new }
+    {
         let Some((to, piece)) = self.process.front_piece() else {
             return false;
         };
@@ -183,12 +188,30 @@ impl Actor {
         ensures none { IfOk result (λ moved. moved ≡ false → IsFresh self.old.process.rank →
             NoPiece self.old self.new sender) }
     {
-        if self.process.is_worn() {
-            return Ok(false);
-        }
         if !self.process.is_piece_due(sender) {
             return Ok(false);
         }
+        if self.process.is_worn() {
+            return Ok(false);
+        }
+        if !pullable(r, &mut self.ring, sender) {
+            return Ok(false);
+        }
+        self.pull_due(r, sender)
+    }
+
+    // Takes the next piece of a rank, if it came. It is due, and the rank isn't worn.
+    fn pull_due(&mut self, r: &Rings, sender: u8) -> Result<bool, Memory>
+        ghost here: { Setting }
+        requires stands { Stands here.lines here.fabric r.now self.old }
+        requires sender { sender < r.now.ranks }
+        requires due { IsDue self.old.process.rank sender }
+        requires fresh { IsFresh self.old.process.rank }
+        ensures kept { IfOk result (λ _. Kept here.lines here.fabric r.now self.old self.new) }
+        ensures moved { IfOk result (λ moved. moved ≡ did here.fabric.ranks self.old self.new) }
+        ensures stepped { IfOk result (λ moved. Stepped moved self.old self.new) }
+        ensures none { IfOk result (λ moved. moved ≡ false → NoPiece self.old self.new sender) }
+    {
         let Some(piece) = pulled(r, &mut self.ring, sender) else {
             return Ok(false);
         };
@@ -329,7 +352,7 @@ impl Actor {
             PolledUnlessWorn self.old.process.rank.sizes.ranks
             (looks_next lines.now self.old.process) self.old self.new) }
     {
-        if !looks(self.process.next_command(lines)) {
+        if !self.process.next_looks(lines) {
             return Ok(false);
         }
         self.take_next(f)

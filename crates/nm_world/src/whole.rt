@@ -145,12 +145,13 @@ fn cast(
     shape: Shape,
     ports: Vec<Port>,
     rings: Vec<RingPort>,
+    lines: &[Line],
 ) -> Result<Vec<Actor>, Memory>
     requires ranks { All (λ p. p.rank < shape.ranks) ports.items }
     requires pairs { length rings.items ≡ length ports.items }
-    ensures place { IfOk result (λ v. (lines : List Line) (f : Fabric) (r : Rings) →
-        AreLines shape.ranks lines → (f.ranks ≡ shape.ranks) × (r.ranks ≡ shape.ranks) →
-        NewInOrder f r 0 ports.items rings.items → InPlace shape lines f r 0 v.items) }
+    ensures place { IfOk result (λ v. (f : Fabric) (r : Rings) →
+        AreLines shape.ranks lines.now → (f.ranks ≡ shape.ranks) × (r.ranks ≡ shape.ranks) →
+        NewInOrder f r 0 ports.items rings.items → InPlace shape lines.now f r 0 v.items) }
     ensures many { IfOk result (λ v. length v.items ≡ length ports.items) }
 {
     let mut actors = Vec::new(alloc);
@@ -159,7 +160,7 @@ fn cast(
         let Some(ring) = rings.next() else {
             unreachable!()
         };
-        let actor = Actor::new(alloc, shape, port, ring)?;
+        let actor = Actor::new(alloc, shape, port, ring, lines)?;
         add(&mut actors, actor)?;
     }
     Ok(actors)
@@ -183,7 +184,7 @@ fn run_lines<R: Threads + Wait + Sync, G: Gate + Sync>(
 {
     let (fabric, ports) = Fabric::build(alloc, shape)?;
     let (rings, ring_ports) = Rings::build(alloc, shape)?;
-    let mut actors = cast(alloc, shape, ports, ring_ports)?;
+    let mut actors = cast(alloc, shape, ports, ring_ports, lines)?;
     settle_all(rt, &mut actors, lines, &fabric, &rings, gate)?;
     let parts = parts_of(alloc, actors, lines, fabric.ranks())?;
     let Parts {

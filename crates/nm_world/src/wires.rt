@@ -16,7 +16,7 @@ ghost use Rattle.nm_port.specs.Polls.{polled as polled_lem};
 ghost use Rattle.nm_copyring.specs.Plays.{one_empty, one_full, one_pulled, one_pushed, with_lane};
 ghost use Rattle.nm_copyring.specs.Ports as ring;
 
-use nm_copyring::{RingPort, Rings, pull, push};
+use nm_copyring::{RingPort, Rings, can_pull, pull, push};
 use nm_port::{Fabric, Port, poll, send};
 use nm_seats::Steps;
 use nm_types::{Packet, Path, Piece};
@@ -135,6 +135,30 @@ pub(crate) fn pushed(r: &Rings, port: &mut RingPort, to: u8, piece: Piece) -> Re
         × (ring.knows port.new ≡ with_lane one_full to (ring.knows port.old))) }
 {
     pushed_on::<Brand>(r, port, to, piece, Blank::new(1))
+}
+
+fn pullable_on<L: Ledger>(r: &Rings, port: &mut RingPort, sender: u8, blank: Blank) -> bool
+    requires owns { ring.Owns r.now port.old }
+    requires sender { sender < r.now.ranks }
+    requires name { (blank.name ≡ L.name) × (blank.parts ≡ L.parts) × (0 < L.parts) }
+    ensures owns { ring.Owns r.now port.new × (port.new.rank ≡ port.old.rank) }
+    ensures full { result ≡ true → ring.knows port.new ≡ ring.knows port.old }
+    ensures empty { result ≡ false
+        → ring.knows port.new ≡ with_lane one_empty sender (ring.knows port.old) }
+{
+    let mut steps = Steps::<L>::new(blank);
+    can_pull(r, port, sender, &mut steps)
+}
+
+pub(crate) fn pullable(r: &Rings, port: &mut RingPort, sender: u8) -> bool
+    requires owns { ring.Owns r.now port.old }
+    requires sender { sender < r.now.ranks }
+    ensures owns { ring.Owns r.now port.new × (port.new.rank ≡ port.old.rank) }
+    ensures full { result ≡ true → ring.knows port.new ≡ ring.knows port.old }
+    ensures empty { result ≡ false
+        → ring.knows port.new ≡ with_lane one_empty sender (ring.knows port.old) }
+{
+    pullable_on::<Brand>(r, port, sender, Blank::new(1))
 }
 
 fn pulled_on<L: Ledger>(r: &Rings, port: &mut RingPort, sender: u8, blank: Blank) -> Option<Piece>

@@ -95,7 +95,7 @@ fn sender_at(
     requires two { shape.ranks ≡ 2 }
     requires new { IsNew f.now port 0 × ring_port.IsNew r.now ring 0 }
 {
-    let mut sender = Actor::new(alloc, shape, port, ring)?;
+    let mut sender = Actor::new(alloc, shape, port, ring, lines)?;
     three_turns(&mut sender, lines, f, r)
 }
 
@@ -114,7 +114,7 @@ fn receiver_at(
     requires two { shape.ranks ≡ 2 }
     requires new { IsNew f.now port 1 × ring_port.IsNew r.now ring 1 }
 {
-    let mut receiver = Actor::new(alloc, shape, port, ring)?;
+    let mut receiver = Actor::new(alloc, shape, port, ring, lines)?;
     one_turn(&mut receiver, lines, f, r)
 }
 

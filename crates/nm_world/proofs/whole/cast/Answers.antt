@@ -44,13 +44,14 @@ loop-port-preserved c =
     record {
       ranks = λ i d low. ranks (suc i) d (omega (arith, low));
       pairs = omega (arith, one, two, pairs);
-      place = λ lines f r in_range sizes new.
-          let was = before.place lines f r in_range sizes new in
+      place = λ f r in_range sizes new.
+          let lines = c.args.lines.now in
+          let was = before.place f r in_range sizes new in
           let order : NewInOrder f r k (port ∷ rest) (ring ∷ others) =
           subst (λ (qs : List RingPort). NewInOrder f r k (port ∷ rest) qs) other
           (subst (λ (ps : List Port). NewInOrder f r k ps (into_iter_items c.loop-port.rings)) split was.0) in
           let own = order.0.1 in
-          let stands = made.stands lines f r in_range sizes
+          let stands = made.stands f r in_range sizes
           (subst (λ (n : ℕ). IsNew f port n) (sym own) order.0)
           (subst (λ (n : ℕ). ring_port.IsNew r ring n) (sym own) order.1) in (
             subst (λ (n : ℕ). NewInOrder f r n rest others) (sym longer) order.2,

@@ -1,7 +1,6 @@
-use Rattle.std.proofs.Common.{◌≡◌, ◌+◌, ◌<◌, length, List}
+use Rattle.std.proofs.Common.{◌≡◌, ◌+◌, ◌<◌, length}
 use Rattle.std.specs.List.{All}
 use Rattle.std.specs.Vec.Iter.{into_iter_items}
-use Rattle.nm_types.specs.declared.scripts.Line.{Line}
 use Rattle.nm_cells.specs.declared.port.Fabric.{Fabric}
 use Rattle.nm_cells.specs.declared.port.Port.{Port}
 use Rattle.nm_copyring.specs.declared.port.Rings.{Rings}
@@ -13,10 +12,10 @@ abbrev pub invariant-loop-port : goal.invariant-loop-port
 invariant-loop-port l = record {
   ranks : All (λ (p : Port). p.rank < l.shape.ranks) (into_iter_items l.port-iterator);
   pairs : length (into_iter_items l.rings) ≡ length (into_iter_items l.port-iterator);
-  place : (lines : List Line) (f : Fabric) (r : Rings) → AreLines l.shape.ranks lines →
+  place : (f : Fabric) (r : Rings) → AreLines l.shape.ranks l.lines →
       (f.ranks ≡ l.shape.ranks) × (r.ranks ≡ l.shape.ranks) →
       NewInOrder f r 0 l.fn.ports.items l.fn.rings.items →
       NewInOrder f r (length l.actors.items) (into_iter_items l.port-iterator) (into_iter_items l.rings)
-      × InPlace l.shape lines f r 0 l.actors.items;
+      × InPlace l.shape l.lines f r 0 l.actors.items;
   count : length l.actors.items + length (into_iter_items l.port-iterator) ≡ length l.fn.ports.items;
 }

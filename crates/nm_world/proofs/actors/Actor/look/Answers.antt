@@ -1,31 +1,25 @@
 -- Where the next command looks at what came, a packet is taken first.
 use Rattle.std.proofs.Common.{◌≡◌, ℕ, Bool, false, List, cond, inl, sym, ap, ◌∙◌, subst}
-use Rattle.std.specs.List.{slice_get}
-use Rattle.std.specs.Option.{option_map_or}
-use Rattle.nm_types.specs.declared.scripts.Command.{Command}
 use Rattle.nm_types.specs.declared.scripts.Line.{Line}
 use Rattle.nm_process.specs.Work.{IsAtWork}
-use Rattle.nm_types.specs.Commands.{Numbered, commands_of}
-use Rattle.std.specs.Prelude.{IfOk, Option}
-use Rattle.nm_world.specs.Looks.{Polled, PolledUnlessWorn, is_look, looks_next}
+use Rattle.std.specs.Prelude.{IfOk}
+use Rattle.nm_world.specs.Looks.{Polled, PolledUnlessWorn, looks_next}
 use Rattle.nm_world.proofs.Did.{did_same}
 use Rattle.nm_world.proofs.Grows.{kept_same, port_same}
 use Rattle.nm_world.proofs.Idle.{stepped_none}
-use Rattle.nm_world.proofs.Looks.{looks_is, polled_none}
+use Rattle.nm_world.proofs.Looks.{polled_none}
 use Rattle.nm_world.proofs.actors.Actor.look.Goals as goal
 
-pub returns-then-not-looks : goal.returns-then-not-looks
-returns-then-not-looks g c =
+pub returns-then-not-next_looks : goal.returns-then-not-next_looks
+returns-then-not-next_looks g c =
     let a = c.args.self.now in
     let s = c.requires.1 in
     let lines = c.args.lines.now in
     let work = subst (λ (x : List Line). IsAtWork a.process.rank.sizes x a.process) (sym c.requires.0)
     s.is.standing.work in
     let n = a.process.rank.sizes.ranks in
-    let o = slice_get (commands_of a.process.rank.me lines) a.process.at in
-    let found = c.looks.ensures ∙ ap (λ (x : Option Command). option_map_or is_look x false)
-    (c.next_command.ensures a.process.rank.sizes work) ∙ looks_is (λ (x : Numbered). x.command) o in
-    let next : 0 ≡ looks_next lines a.process = ap (λ (b : Bool). cond b 1 0) (sym c.if-not-looks.true ∙ found) in
+    let found = c.next_looks.ensures a.process.rank.sizes work in
+    let next : 0 ≡ looks_next lines a.process = ap (λ (b : Bool). cond b 1 0) (sym c.if-not-next_looks.true ∙ found) in
     record {
       kept = kept_same g.here.lines c.args.f.now g.here.rings a s;
       moved = did_same c.args.f.now.ranks a;
@@ -43,10 +37,8 @@ returns g c =
     let lines = c.args.lines.now in
     let work = subst (λ (x : List Line). IsAtWork a.process.rank.sizes x a.process) (sym c.requires.0)
     s.is.standing.work in
-    let o = slice_get (commands_of a.process.rank.me lines) a.process.at in
-    let found = c.looks.ensures ∙ ap (λ (x : Option Command). option_map_or is_look x false)
-    (c.next_command.ensures a.process.rank.sizes work) ∙ looks_is (λ (x : Numbered). x.command) o in
-    let next : 1 ≡ looks_next lines a.process = ap (λ (b : Bool). cond b 1 0) (sym c.if-not-looks.false ∙ found) in
+    let found = c.next_looks.ensures a.process.rank.sizes work in
+    let next : 1 ≡ looks_next lines a.process = ap (λ (b : Bool). cond b 1 0) (sym c.if-not-next_looks.false ∙ found) in
     record {
       kept = c.take_next.ensures.kept;
       moved = c.take_next.ensures.moved;

@@ -1,20 +1,19 @@
 -- The piece comes behind the others of its sender.
-use Rattle.std.proofs.Common.{◌≡◌, ℕ, ◌<◌, ◌≤◌, true, false, length, sym, ap, ◌∙◌, subst, arith, refl}
-use Rattle.nm_process.specs.Processes.{ProcessView}
+use Rattle.std.proofs.Common.{◌≡◌, ℕ, ◌<◌, ◌≤◌, true, false, length, sym, ◌∙◌, subst, arith, refl}
 use Rattle.std.specs.Prelude.{nat_lt}
 use Rattle.std.proofs.lemmas.Bool.Decides.{nat_tests}
 use Rattle.nm_protocol.specs.Pieces.{due_pieces}
 use Rattle.nm_receiving.specs.Receipts.{drawn_from}
-use Rattle.nm_copyring.specs.Plays.{one_empty, one_pulled}
+use Rattle.nm_copyring.specs.Plays.{one_empty}
 use Rattle.nm_copyring.specs.Ports as ring
 use Rattle.nm_world.specs.declared.actors.Actor.{Actor}
-use Rattle.nm_world.specs.Actors.{Grows}
-use Rattle.nm_world.specs.Actors.Grew.{pulled}
-use Rattle.nm_world.proofs.Did.{did_more, did_same, ring_missed}
-use Rattle.nm_world.proofs.Grows.{empty_up, kept_same, port_same, pulled_more, pulled_up, ring_up}
+use Rattle.nm_world.proofs.Did.{did_same, did_then, ring_looked, ring_missed}
+use Rattle.nm_world.proofs.Grows.{empty_up, kept_on, kept_same}
 use Rattle.nm_world.proofs.Idle.{no_piece, stepped_fresh, stepped_none}
 use Rattle.nm_world.proofs.Results.{clash}
-use Rattle.nm_world.proofs.Steps.{pull_on, seat_is}
+use Rattle.std.proofs.lemmas.Result.{IfOk-weaker}
+use Rattle.nm_copyring.specs.declared.table.Entry as ring_entry
+use Rattle.nm_copyring.specs.Rule.{lane}
 use Rattle.nm_world.proofs.actors.Actor.pull_next.Goals as goal
 
 is_below : (x y : ℕ) → nat_lt x y ≡ true → x < y
@@ -22,16 +21,6 @@ is_below x y is = grind (arith, nat_tests)
 
 isnt_below : (x y : ℕ) → nat_lt x y ≡ false → x < y → ⊥
 isnt_below x y is less = let no : y ≤ x = grind (arith, nat_tests) in omega (arith, no, less)
-
-pub returns-then-is_worn : goal.returns-then-is_worn
-returns-then-is_worn g c =
-    let a = c.args.self.now in
-    record {
-      kept = kept_same g.here.lines g.here.fabric c.args.r.now a c.requires.0;
-      moved = did_same g.here.fabric.ranks a;
-      stepped = stepped_none a;
-      none = λ none fresh. absurd (clash (sym c.if-is_worn.true ∙ c.is_worn.ensures.1 fresh));
-    }
 
 pub returns-then-not-is_piece_due : goal.returns-then-not-is_piece_due
 returns-then-not-is_piece_due g c =
@@ -45,65 +34,68 @@ returns-then-not-is_piece_due g c =
           (sym c.is_piece_due.ensures ∙ c.if-not-is_piece_due.true) due);
     }
 
-pub returns-in-Ok : goal.returns-in-Ok
-returns-in-Ok g c =
-    let s = c.requires.0 in
+pub returns-then-is_worn : goal.returns-then-is_worn
+returns-then-is_worn g c =
     let a = c.args.self.now in
-    let v = c.take_piece.new.self in
-    let q = c.in-Some.piece in
-    let i = c.in-Some.ensures in
-    let shape = a.process.rank.sizes in
-    let sender = c.requires.1 in
-    let ranks = s.is.ranks.1 in
-    let own = i.next.0 in
-    let work = c.in-Ok.ensures.work shape g.here.lines s.is.standing.work in
-    let due = is_below (drawn_from a.process.rank.receiving c.args.sender)
-    (length (due_pieces a.process.rank.events c.args.sender))
-    (sym c.is_piece_due.ensures ∙ c.if-not-is_piece_due.false) in
-    let on = c.a_piece_is_taken.ensures shape g.here.lines a.port.rank a.process.rank v.rank s.past q
-    (omega (arith, own, sender, ranks))
-    (subst (λ (k : ℕ). drawn_from a.process.rank.receiving k < length (due_pieces a.process.rank.events k)) (sym own) due)
-    c.in-Ok.ensures.taken s.is.standing.rank in
-    let n = g.here.fabric.ranks in
-    let wide = s.is.rings.1.2 in
-    let cells = s.is.ranks.0 in
-    let port = c.pulled.new.port in
-    let b : Actor = record { process = v; port = a.port; ring = port } in
-    let low : c.args.sender < length (ring.knows a.ring).lanes = omega (arith, sender, wide) in
-    let grows : Grows a b = record {
-      events = (_, c.in-Ok.ensures.taken.happened.events);
-      port = port_same a.port;
-      ring = ring_up a.ring port (one_pulled q) c.args.sender low (pulled_up q) i.pulled;
-    } in
-    let fresh = c.is_worn.ensures.0 c.if-is_worn.false in
     record {
-      stepped = stepped_fresh true a b fresh (ap (λ (x : ProcessView). x.at) c.in-Ok.ensures.others)
-          (λ none. absurd (clash none));
-      none = λ none fresh. absurd (clash none);
-      moved = did_more n a b grows (pulled c.args.sender (omega (arith, sender, cells, ranks))
-          (pulled_more (ring.knows a.ring) (ring.knows port) c.args.sender q low i.pulled));
-      kept = record {
-        grows = grows;
-        seat = seat_is a v a.port.rank refl c.in-Ok.ensures.taken.sizes;
-        stands = pull_on g.here.lines g.here.fabric c.args.r.now a v port c.args.sender q s
-            c.pulled.ensures.owns.0 c.pulled.ensures.owns.1 sender own i.pulled work on;
-      };
+      kept = kept_same g.here.lines g.here.fabric c.args.r.now a c.requires.0;
+      moved = did_same g.here.fabric.ranks a;
+      stepped = stepped_none a;
+      none = λ none fresh. absurd (clash (sym c.if-is_worn.true ∙ c.is_worn.ensures.1 fresh));
     }
 
-pub returns-in_default : goal.returns-in_default
-returns-in_default g c =
+pub returns-then-not-pullable : goal.returns-then-not-pullable
+returns-then-not-pullable g c =
     let s = c.requires.0 in
     let a = c.args.self.now in
     let sender = c.requires.1 in
     let wide = s.is.rings.1.2 in
-    let done = ring_missed g.here.lines g.here.fabric c.args.r.now a c.pulled.new.port one_empty c.args.sender s
-    c.pulled.ensures.owns.0 c.pulled.ensures.owns.1 (omega (arith, sender, wide)) empty_up (λ l. (refl, refl))
-    c.in_default.ensures.missed in
+    let done = ring_missed g.here.lines g.here.fabric c.args.r.now a c.pullable.new.port one_empty c.args.sender s
+    c.pullable.ensures.owns.0 c.pullable.ensures.owns.1 (omega (arith, sender, wide)) empty_up (λ l. (refl, refl))
+    (c.pullable.ensures.empty c.if-not-pullable.true) in
     let fresh = c.is_worn.ensures.0 c.if-is_worn.false in
-    let b : Actor = record a { ring = c.pulled.new.port } in
+    let b : Actor = record a { ring = c.pullable.new.port } in
     record {
       kept = done.0;
       moved = done.1;
       stepped = stepped_fresh false a b fresh refl (λ none. refl);
-      none = λ none fresh. no_piece a b c.args.sender (omega (arith, sender, wide)) c.in_default.ensures.missed;
+      none = λ none fresh. no_piece a b c.args.sender (omega (arith, sender, wide)) (c.pullable.ensures.empty c.if-not-pullable.true);
+    }
+
+pub pull_due-requires : goal.pull_due-requires
+pull_due-requires g c =
+    let a = c.args.self.now in
+    let looked = ring_looked g.here.lines g.here.fabric c.args.r.now a c.pullable.new.port c.requires.0
+    c.pullable.ensures.owns.0 c.pullable.ensures.owns.1 (c.pullable.ensures.full c.if-not-pullable.false) in (
+      looked.0.stands,
+      (
+        c.requires.1,
+        (
+          is_below (drawn_from a.process.rank.receiving c.args.sender)
+              (length (due_pieces a.process.rank.events c.args.sender))
+              (sym c.is_piece_due.ensures ∙ c.if-not-is_piece_due.false),
+          c.is_worn.ensures.0 c.if-is_worn.false,
+        ),
+      ),
+    )
+
+pub returns : goal.returns
+returns g c =
+    let a = c.args.self.now in
+    let port = c.pullable.new.port in
+    let knew = c.pullable.ensures.full c.if-not-pullable.false in
+    let looked = ring_looked g.here.lines g.here.fabric c.args.r.now a port c.requires.0
+    c.pullable.ensures.owns.0 c.pullable.ensures.owns.1 knew in
+    let b : Actor = record a { ring = port } in
+    let d = c.pull_due.new.self in
+    let e = c.pull_due.ensures in
+    let n = g.here.fabric.ranks in
+    let fresh = c.is_worn.ensures.0 c.if-is_worn.false in
+    record {
+      kept = IfOk-weaker c.pull_due.result _ _ (λ _ is. kept_on g.here.lines g.here.fabric c.args.r.now a b d looked.0 is) e.kept;
+      moved = did_then c.pull_due.result n g.here.lines g.here.fabric c.args.r.now a b d looked.0 looked.1 e.kept e.moved;
+      stepped = IfOk-weaker c.pull_due.result _ _ (λ m is. stepped_fresh m a d fresh is.at is.still) e.stepped;
+      none = IfOk-weaker c.pull_due.result _ _ (λ m is none fresh due. subst
+          (λ (x : ring_entry.Entry). (lane x c.args.sender).empty < ring.empty_from d.ring c.args.sender) knew
+          (is none due)) e.none;
     }

@@ -1,0 +1,77 @@
+-- The piece comes behind the others of its sender.
+use Rattle.std.proofs.Common.{ℕ, ◌<◌, true, false, length, sym, ap, subst, arith, refl}
+use Rattle.nm_process.specs.Processes.{ProcessView}
+use Rattle.nm_protocol.specs.Pieces.{due_pieces}
+use Rattle.nm_receiving.specs.Receipts.{drawn_from}
+use Rattle.nm_copyring.specs.Plays.{one_empty, one_pulled}
+use Rattle.nm_copyring.specs.Ports as ring
+use Rattle.nm_world.specs.declared.actors.Actor.{Actor}
+use Rattle.nm_world.specs.Actors.{Grows}
+use Rattle.nm_world.specs.Actors.Grew.{pulled}
+use Rattle.nm_world.proofs.Did.{did_more, ring_missed}
+use Rattle.nm_world.proofs.Grows.{empty_up, port_same, pulled_more, pulled_up, ring_up}
+use Rattle.nm_world.proofs.Idle.{no_piece, stepped_fresh}
+use Rattle.nm_world.proofs.Results.{clash}
+use Rattle.nm_world.proofs.Steps.{pull_on, seat_is}
+use Rattle.nm_world.proofs.actors.Actor.pull_due.Goals as goal
+
+pub returns-in-Ok : goal.returns-in-Ok
+returns-in-Ok g c =
+    let s = c.requires.0 in
+    let a = c.args.self.now in
+    let v = c.take_piece.new.self in
+    let q = c.in-Some.piece in
+    let i = c.in-Some.ensures in
+    let shape = a.process.rank.sizes in
+    let sender = c.requires.1.0 in
+    let ranks = s.is.ranks.1 in
+    let own = i.next.0 in
+    let work = c.in-Ok.ensures.work shape g.here.lines s.is.standing.work in
+    let due = c.requires.1.1.0 in
+    let on = c.a_piece_is_taken.ensures shape g.here.lines a.port.rank a.process.rank v.rank s.past q
+    (omega (arith, own, sender, ranks))
+    (subst (λ (k : ℕ). drawn_from a.process.rank.receiving k < length (due_pieces a.process.rank.events k)) (sym own) due)
+    c.in-Ok.ensures.taken s.is.standing.rank in
+    let n = g.here.fabric.ranks in
+    let wide = s.is.rings.1.2 in
+    let cells = s.is.ranks.0 in
+    let port = c.pulled.new.port in
+    let b : Actor = record { process = v; port = a.port; ring = port } in
+    let low : c.args.sender < length (ring.knows a.ring).lanes = omega (arith, sender, wide) in
+    let grows : Grows a b = record {
+      events = (_, c.in-Ok.ensures.taken.happened.events);
+      port = port_same a.port;
+      ring = ring_up a.ring port (one_pulled q) c.args.sender low (pulled_up q) i.pulled;
+    } in
+    let fresh = c.requires.1.1.1 in
+    record {
+      stepped = stepped_fresh true a b fresh (ap (λ (x : ProcessView). x.at) c.in-Ok.ensures.others)
+          (λ none. absurd (clash none));
+      none = λ none. absurd (clash none);
+      moved = did_more n a b grows (pulled c.args.sender (omega (arith, sender, cells, ranks))
+          (pulled_more (ring.knows a.ring) (ring.knows port) c.args.sender q low i.pulled));
+      kept = record {
+        grows = grows;
+        seat = seat_is a v a.port.rank refl c.in-Ok.ensures.taken.sizes;
+        stands = pull_on g.here.lines g.here.fabric c.args.r.now a v port c.args.sender q s
+            c.pulled.ensures.owns.0 c.pulled.ensures.owns.1 sender own i.pulled work on;
+      };
+    }
+
+pub returns-in_default : goal.returns-in_default
+returns-in_default g c =
+    let s = c.requires.0 in
+    let a = c.args.self.now in
+    let sender = c.requires.1.0 in
+    let wide = s.is.rings.1.2 in
+    let done = ring_missed g.here.lines g.here.fabric c.args.r.now a c.pulled.new.port one_empty c.args.sender s
+    c.pulled.ensures.owns.0 c.pulled.ensures.owns.1 (omega (arith, sender, wide)) empty_up (λ l. (refl, refl))
+    c.in_default.ensures.missed in
+    let fresh = c.requires.1.1.1 in
+    let b : Actor = record a { ring = c.pulled.new.port } in
+    record {
+      kept = done.0;
+      moved = done.1;
+      stepped = stepped_fresh false a b fresh refl (λ none. refl);
+      none = λ none. no_piece a b c.args.sender (omega (arith, sender, wide)) c.in_default.ensures.missed;
+    }
