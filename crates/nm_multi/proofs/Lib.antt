@@ -7,3 +7,4 @@ pub mod Results
 pub mod Turning
 pub mod Whole
 pub mod Countable
+mod BegunLemmas

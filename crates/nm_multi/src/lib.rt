@@ -27,8 +27,6 @@ mod calls;
 mod desks;
 mod laws;
 mod moving;
-#[cfg(test)]
-mod tests;
 mod texts;
 mod threads;
 mod turns;
