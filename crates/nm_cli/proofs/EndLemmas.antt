@@ -1,5 +1,5 @@
 -- What is known at the end of the program, whatever its answer is.
-use Rattle.std.proofs.Common.{◌≡◌, ℕ, ◌⊎◌, inl, inr, Bool, true, false, List, Option, None, Some, refl, sym, ◌∙◌}
+use Rattle.std.proofs.Common.{◌≡◌, ℕ, ◌⊎◌, inl, inr, Bool, true, false, List, Option, None, refl, sym, ◌∙◌}
 use Rattle.std.proofs.Common.{arith, subst}
 use Rattle.nm_outside.specs.Told.{Appends, AppendsPart, Rose}
 use Rattle.nm_command_line.specs.CommandLine.{IsTaken}
@@ -10,9 +10,14 @@ use Rattle.nm_world.specs.declared.whole.Ways.{Ways}
 use Rattle.nm_multi.specs.Calls.{Logged as Log}
 use Rattle.nm_cli.specs.Answers.{IsAnswer, IsAnswerTo, NotTaken, end_status, log_of, run_of, status_of, text_of}
 use Rattle.nm_cli.specs.Answers.{unread, usage, ways_of}
-use Rattle.nm_cli.specs.Endings.{IsSaid, OrFails, OrUnwritten}
+use Rattle.nm_check.specs.declared.verdicts.Verdict.TheVariants.{Holds}
+use Rattle.nm_checked.specs.declared.checks.Checked.{Checked as CheckedText}
+use Rattle.nm_checked.specs.declared.checks.Checked.TheVariants.{NoTrace, NoScript, BadTrace, Judged}
+use Rattle.nm_cli.specs.Checks.{checked_status}
+use Rattle.nm_cli.specs.Endings.{IsSaid, IsStatus, OrFails, OrUnwritten}
 use Rattle.nm_cli.specs.declared.answers.Answer.{Answer}
-use Rattle.nm_cli.specs.declared.answers.Answer.TheVariants.{Usage, Unread, Ran, Determinate, Logged, Planned}
+use Rattle.nm_cli.specs.declared.answers.Answer.TheVariants.{Usage, Unread, Refused, Ran, Free, Determinate}
+use Rattle.nm_cli.specs.declared.answers.Answer.TheVariants.{Checked, NoPlan, Planned, Logged}
 
 -- What is seen of the program: its words, the bytes that the source told with its faults before and after,
 -- what the sink took before and after with its faults, and how it ended.
@@ -85,6 +90,15 @@ pub no_run_status : (done : Bool) (status k : ℕ) → status ≡ end_status don
 no_run_status true status k h e zero one = zero (sym e ∙ h)
 no_run_status false status k h e zero one = one (sym e ∙ h)
 
+-- and what check says ends with one of four
+pub checked_ends : (c : CheckedText) (k : ℕ) → k ≡ checked_status c → (k ≡ 0 → ⊥) → (k ≡ 3 → ⊥) → (k ≡ 8 → ⊥) →
+    (k ≡ 9 → ⊥) → ⊥
+checked_ends NoTrace k h zero three eight nine = nine h
+checked_ends (NoScript line kind) k h zero three eight nine = three h
+checked_ends (BadTrace line) k h zero three eight nine = nine h
+checked_ends (Judged Holds) k h zero three eight nine = zero h
+checked_ends (Judged v) k h zero three eight nine = eight h
+
 -- a status that is not 5
 pub not_five : (s : Ending) (k : ℕ) → s.status ≡ k → (k ≡ 5 → ⊥) → s.status ≡ 5 → ⊥
 not_five s k h other five = other (sym h ∙ five)
@@ -92,6 +106,9 @@ not_five s k h other five = other (sym h ∙ five)
 -- words that are not taken
 pub usage_is : (s : Ending) (a : Answer) → Ends s a → s.status ≡ 2 → NotTaken s.words × Appends s.before s.after usage
 usage_is s Usage e h = (e.right, (said_whole s Usage e (not_five s 2 h (λ f. cc))).1)
+usage_is s (Checked c) e h =
+    let p = said_whole s (Checked c) e (not_five s 2 h (λ f. cc)) in
+    absurd (checked_ends c 2 (sym h ∙ p.0) (λ z. cc) (λ z. cc) (λ z. cc) (λ z. cc))
 usage_is s (Ran m r w) e h =
     let p = said_whole s (Ran m r w) e (not_five s 2 h (λ f. cc)) in
     absurd (no_run_status r.done s.status 2 p.0 h (λ z. cc) (λ z. cc))
@@ -111,6 +128,9 @@ not_taken_is s a e none = absurd (none e.right.line e.right.taken)
 pub unread_is : (s : Ending) (a : Answer) → Ends s a → s.status ≡ 4 →
     Rose s.read_old s.read_new × Appends s.before s.after unread
 unread_is s Unread e h = (e.right.right.1, (said_whole s Unread e (not_five s 4 h (λ f. cc))).1)
+unread_is s (Checked c) e h =
+    let p = said_whole s (Checked c) e (not_five s 4 h (λ f. cc)) in
+    absurd (checked_ends c 4 (sym h ∙ p.0) (λ z. cc) (λ z. cc) (λ z. cc) (λ z. cc))
 unread_is s (Ran m r w) e h =
     let p = said_whole s (Ran m r w) e (not_five s 4 h (λ f. cc)) in
     absurd (no_run_status r.done s.status 4 p.0 h (λ z. cc) (λ z. cc))
@@ -124,6 +144,7 @@ unread_is s a e h = absurd (omega (arith, h, (said_whole s a e (not_five s 4 h (
 
 -- a sink that failed
 no_five : (a : Answer) → 5 ≡ status_of a → ⊥
+no_five (Checked c) h = checked_ends c 5 h (λ z. cc) (λ z. cc) (λ z. cc) (λ z. cc)
 no_five (Ran m r w) h = no_run_status r.done 5 5 h refl (λ z. cc) (λ z. cc)
 no_five (Determinate r) h = no_run_status r.done 5 5 h refl (λ z. cc) (λ z. cc)
 no_five (Planned q r w) h = no_run_status r.done 5 5 h refl (λ z. cc) (λ z. cc)
@@ -141,6 +162,7 @@ unwritten_is s a e h =
 
 -- an ending that was written is not for want of memory
 no_six : (a : Answer) → 6 ≡ status_of a → ⊥
+no_six (Checked c) h = checked_ends c 6 h (λ z. cc) (λ z. cc) (λ z. cc) (λ z. cc)
 no_six (Ran m r w) h = no_run_status r.done 6 6 h refl (λ z. cc) (λ z. cc)
 no_six (Determinate r) h = no_run_status r.done 6 6 h refl (λ z. cc) (λ z. cc)
 no_six (Planned q r w) h = no_run_status r.done 6 6 h refl (λ z. cc) (λ z. cc)
@@ -172,3 +194,34 @@ pub no_record_is : (s : Ending) (a : Answer) → Ends s a → (s.status ≡ 2) �
 no_record_is s a e (inl h) = no_record_of s a e 2 h (λ z. cc) (λ z. cc) (λ z. cc)
 no_record_is s a e (inr (inl h)) = no_record_of s a e 3 h (λ z. cc) (λ z. cc) (λ z. cc)
 no_record_is s a e (inr (inr h)) = no_record_of s a e 4 h (λ z. cc) (λ z. cc) (λ z. cc)
+
+-- an answer has one of the statuses
+run_is_status : (done : Bool) → IsStatus (end_status done)
+run_is_status true = inl refl
+run_is_status false = inr (inl refl)
+
+checked_is_status : (c : CheckedText) → IsStatus (checked_status c)
+checked_is_status NoTrace = inr (inr (inr (inr (inr (inr (inr (inr (inr refl))))))))
+checked_is_status (NoScript line kind) = inr (inr (inr (inl refl)))
+checked_is_status (BadTrace line) = inr (inr (inr (inr (inr (inr (inr (inr (inr refl))))))))
+checked_is_status (Judged Holds) = inl refl
+checked_is_status (Judged v) = inr (inr (inr (inr (inr (inr (inr (inr (inl refl))))))))
+
+is_status : (a : Answer) → IsStatus (status_of a)
+is_status Usage = inr (inr (inl refl))
+is_status Unread = inr (inr (inr (inr (inl refl))))
+is_status (Refused n k) = inr (inr (inr (inl refl)))
+is_status (Ran m r w) = run_is_status r.done
+is_status (Free n) = inr (inr (inr (inr (inr (inr (inr (inl refl)))))))
+is_status (Determinate r) = run_is_status r.done
+is_status (Checked c) = checked_is_status c
+is_status (NoPlan n k) = inr (inr (inr (inl refl)))
+is_status (Planned q r w) = run_is_status r.done
+is_status (Logged t r log) = inl refl
+
+pub status_is : (s : Ending) (a : Answer) → Ends s a → IsStatus s.status
+status_is s a e =
+    elim e.said [
+      | inl h ↦ subst IsStatus (sym h.0) (is_status a)
+      | inr h ↦ inr (inr (inr (inr (inr (inl h.0)))))
+    ]

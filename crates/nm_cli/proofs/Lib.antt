@@ -1,3 +1,4 @@
+mod CheckEnds
 mod EndLemmas
 mod LineLemmas
 mod PlainEnds

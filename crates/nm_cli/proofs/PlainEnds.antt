@@ -4,16 +4,15 @@ use Rattle.std.specs.Option.{IfSome}
 use Rattle.nm_outside.specs.Told.{Appends}
 use Rattle.nm_command_line.specs.CommandLine.{IsTaken}
 use Rattle.nm_command_line.specs.declared.CommandLine.{CommandLine}
-use Rattle.nm_command_line.specs.declared.Mode.TheVariants.{Plain, Parts, Multi}
-use Rattle.nm_script.specs.declared.faults.Kind.{Kind}
-use Rattle.nm_script.specs.declared.faults.ScriptFault.TheVariants as fault
-use Rattle.nm_cli.specs.Answers.{Refuses, end_status, fault_text}
-use Rattle.nm_cli.specs.Endings.{IsFree, IsRefused, IsSure, IsWorkedOut, OrFails}
+use Rattle.nm_command_line.specs.declared.Mode.TheVariants.{Plain, Check, Parts, Multi}
+use Rattle.nm_cli.specs.Answers.{end_status}
+use Rattle.nm_cli.specs.Endings.{IsFree, IsSure, IsWorkedOut, OrFails}
 use Rattle.nm_cli.specs.Plains.{IsNotPlain, IsPlain, free_text}
-use Rattle.nm_cli.specs.Scripts.{Runs, read_of}
+use Rattle.nm_cli.specs.Scripts.{Runs}
 use Rattle.nm_cli.specs.declared.answers.Answer.{Answer}
 use Rattle.nm_cli.specs.declared.answers.Answer.TheVariants.{Usage, Unread, Refused, Ran}
-use Rattle.nm_cli.specs.declared.answers.Answer.TheVariants.{Free, Determinate, NoPlan, Planned, Logged}
+use Rattle.nm_cli.specs.declared.answers.Answer.TheVariants.{Free, Determinate, Checked, NoPlan, Planned}
+use Rattle.nm_cli.specs.declared.answers.Answer.TheVariants.{Logged}
 use Rattle.nm_cli.proofs.EndLemmas.{Ending, Ends, answered_for, or_unread, or_unwritten, other}
 use Rattle.nm_cli.proofs.EndLemmas.{run_status, to_fails}
 use Rattle.nm_cli.proofs.RunEnds.{was_refused}
@@ -49,6 +48,8 @@ plain_is s (Determinate r) e line taken is =
       sure_said line s.input s.before s.after r.text.items r.done s.status
           (answered_for s (Determinate r) e line taken).1 h said,
     ))))
+plain_is s (Checked c) e line taken is =
+    absurd (other (λ m. m ≡ Check) line.mode Plain is (λ h. cc) (answered_for s (Checked c) e line taken).0)
 plain_is s (NoPlan n k) e line taken is =
     absurd (other (λ m. m ≡ Parts) line.mode Plain is (λ h. cc) (answered_for s (NoPlan n k) e line taken).0)
 plain_is s (Planned q r w) e line taken is =

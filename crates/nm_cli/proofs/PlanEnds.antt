@@ -4,7 +4,7 @@ use Rattle.std.specs.Option.{IfSome}
 use Rattle.nm_outside.specs.Told.{Appends}
 use Rattle.nm_command_line.specs.CommandLine.{IsTaken}
 use Rattle.nm_command_line.specs.declared.CommandLine.{CommandLine}
-use Rattle.nm_command_line.specs.declared.Mode.TheVariants.{Plain, Parts, Multi}
+use Rattle.nm_command_line.specs.declared.Mode.TheVariants.{Plain, Check, Parts, Multi}
 use Rattle.nm_persist_runs.specs.Promises.{ReceivesShowTheirSends}
 use Rattle.nm_plans.specs.declared.faults.PlanFault.TheVariants as plan_fault
 use Rattle.nm_plans.specs.declared.faults.PlanKind.{PlanKind}
@@ -13,7 +13,8 @@ use Rattle.nm_cli.specs.Plans.{PlanRefuses, plan_fault_text}
 use Rattle.nm_cli.specs.Scripts.{Reads, Runs, read_of, sizes_for}
 use Rattle.nm_cli.specs.declared.answers.Answer.{Answer}
 use Rattle.nm_cli.specs.declared.answers.Answer.TheVariants.{Usage, Unread, Refused, Ran}
-use Rattle.nm_cli.specs.declared.answers.Answer.TheVariants.{Free, Determinate, NoPlan, Planned, Logged}
+use Rattle.nm_cli.specs.declared.answers.Answer.TheVariants.{Free, Determinate, Checked, NoPlan, Planned}
+use Rattle.nm_cli.specs.declared.answers.Answer.TheVariants.{Logged}
 use Rattle.nm_cli.proofs.EndLemmas.{Ending, Ends, answered_for, or_unread, or_unwritten, other, to_fails}
 
 refused_said : (input before after : Option (List ℕ)) (n : ℕ) (k : PlanKind) →
@@ -22,7 +23,8 @@ refused_said : (input before after : Option (List ℕ)) (n : ℕ) (k : PlanKind)
 refused_said None before after n k is said = tt
 refused_said (Some bytes) before after n k is said = record { line = n; kind = k; told = is; said = said }
 
-pub parts_is : ReceivesShowTheirSends → (s : Ending) (a : Answer) → Ends s a → (line : CommandLine) → IsTaken s.words line →
+pub parts_is : ReceivesShowTheirSends → (s : Ending) (a : Answer) → Ends s a →
+    (line : CommandLine) → IsTaken s.words line →
     line.mode ≡ Parts → OrFails (IsPlanEnded line s.input s.status s.run s.closed s.before s.after) s.status
 parts_is law s Usage e line taken is = absurd (e.right line taken)
 parts_is law s Unread e line taken is = or_unread s e
@@ -34,6 +36,8 @@ parts_is law s (Free n) e line taken is =
     absurd (other (λ m. m ≡ Plain) line.mode Parts is (λ h. cc) (answered_for s (Free n) e line taken).0)
 parts_is law s (Determinate r) e line taken is =
     absurd (other (λ m. m ≡ Plain) line.mode Parts is (λ h. cc) (answered_for s (Determinate r) e line taken).0)
+parts_is law s (Checked c) e line taken is =
+    absurd (other (λ m. m ≡ Check) line.mode Parts is (λ h. cc) (answered_for s (Checked c) e line taken).0)
 parts_is law s (NoPlan n k) e line taken is =
     to_fails s.status (or_unwritten s (NoPlan n k) e (λ h said.
     inl (h, refused_said s.input s.before s.after n k (answered_for s (NoPlan n k) e line taken).1 said)))

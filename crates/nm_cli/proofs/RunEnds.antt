@@ -12,14 +12,16 @@ use Rattle.nm_script.specs.declared.faults.Kind.{Kind}
 use Rattle.nm_script.specs.declared.faults.ScriptFault.TheVariants as fault
 use Rattle.nm_report.specs.declared.records.RunRecord.{RunRecord}
 use Rattle.nm_world.specs.declared.whole.Ways.{Ways}
-use Rattle.nm_cli.specs.Answers.{Refuses, WasRead, end_status, fault_text, run_text, status_of}
+use Rattle.nm_cli.specs.Answers.{Refuses, WasRead, end_status, run_text}
 use Rattle.nm_cli.specs.Endings.{IsRefused, IsReported, OrFails, OrUnwritten}
+use Rattle.nm_cli.specs.Faults.{fault_text}
 use Rattle.nm_cli.specs.Plains.{IsNotPlain, IsPlain}
 use Rattle.nm_cli.specs.Scripts.{HandsOut, IsAsked, IsKnown, IsRunOfWords, Makes, Reads}
 use Rattle.nm_cli.specs.Scripts.{ReadsSource, Runs, read_of}
 use Rattle.nm_cli.specs.declared.answers.Answer.{Answer}
 use Rattle.nm_cli.specs.declared.answers.Answer.TheVariants.{Usage, Unread, Refused, Ran}
-use Rattle.nm_cli.specs.declared.answers.Answer.TheVariants.{Free, Determinate, NoPlan, Planned, Logged}
+use Rattle.nm_cli.specs.declared.answers.Answer.TheVariants.{Free, Determinate, Checked, NoPlan, Planned}
+use Rattle.nm_cli.specs.declared.answers.Answer.TheVariants.{Logged}
 use Rattle.nm_cli.proofs.EndLemmas.{Ending, Ends, answered_for, no_run_status, not_five, or_unread, or_unwritten}
 use Rattle.nm_cli.proofs.EndLemmas.{other, run_status, said_whole, to_fails, unless_failed}
 
@@ -113,6 +115,9 @@ refused_is s (Refused n k) e h =
 refused_is s (NoPlan n k) e h =
     let right = e.right.right in
     (e.right.line, e.right.taken, λ reads. absurd (other Reads e.right.line.mode mode.Parts right.0 (λ r. r) reads))
+refused_is s (Checked c) e h =
+    let right = e.right.right in
+    (e.right.line, e.right.taken, λ reads. absurd (other Reads e.right.line.mode mode.Check right.0 (λ r. r) reads))
 refused_is s (Ran m r w) e h =
     let p = said_whole s (Ran m r w) e (not_five s 3 h (λ f. cc)) in
     absurd (no_run_status r.done s.status 3 p.0 h (λ z. cc) (λ z. cc))
@@ -137,6 +142,8 @@ refuses_is s (Free n) e line taken reads =
     free_some s.input n _ (answered_for s (Free n) e line taken).1
 refuses_is s (Determinate r) e line taken reads =
     plain_some line s.input r.text.items r.done _ (answered_for s (Determinate r) e line taken).1
+refuses_is s (Checked c) e line taken reads =
+    absurd (other Reads line.mode mode.Check (answered_for s (Checked c) e line taken).0 (λ r. r) reads)
 refuses_is s (NoPlan n k) e line taken reads =
     absurd (other Reads line.mode mode.Parts (answered_for s (NoPlan n k) e line taken).0 (λ r. r) reads)
 refuses_is s (Planned q r w) e line taken reads =
@@ -163,6 +170,9 @@ reported_is s (Ran m r w) e h =
 reported_is s (Determinate r) e h =
     let line = e.right.line in
     (line, e.right.taken, λ runs. absurd (other Runs line.mode mode.Plain e.right.right.0 (λ r. r) runs))
+reported_is s (Checked c) e h =
+    let line = e.right.line in
+    (line, e.right.taken, λ runs. absurd (other Runs line.mode mode.Check e.right.right.0 (λ r. r) runs))
 reported_is s (Planned q r w) e h =
     let line = e.right.line in
     (line, e.right.taken, λ runs. absurd (other Runs line.mode mode.Parts e.right.right.0 (λ r. r) runs))
@@ -186,6 +196,8 @@ reports_is s (Free n) e line taken runs ranks lines known =
     absurd (other Runs line.mode mode.Plain (answered_for s (Free n) e line taken).0 (λ r. r) runs)
 reports_is s (Determinate r) e line taken runs ranks lines known =
     absurd (other Runs line.mode mode.Plain (answered_for s (Determinate r) e line taken).0 (λ r. r) runs)
+reports_is s (Checked c) e line taken runs ranks lines known =
+    absurd (other Runs line.mode mode.Check (answered_for s (Checked c) e line taken).0 (λ r. r) runs)
 reports_is s (NoPlan n k) e line taken runs ranks lines known =
     absurd (other Runs line.mode mode.Parts (answered_for s (NoPlan n k) e line taken).0 (λ r. r) runs)
 reports_is s (Planned q r w) e line taken runs ranks lines known =
@@ -209,6 +221,8 @@ completes_is s (Free n) e line taken runs ranks lines known read write =
     absurd (other Runs line.mode mode.Plain (answered_for s (Free n) e line taken).0 (λ r. r) runs)
 completes_is s (Determinate r) e line taken runs ranks lines known read write =
     absurd (other Runs line.mode mode.Plain (answered_for s (Determinate r) e line taken).0 (λ r. r) runs)
+completes_is s (Checked c) e line taken runs ranks lines known read write =
+    absurd (other Runs line.mode mode.Check (answered_for s (Checked c) e line taken).0 (λ r. r) runs)
 completes_is s (NoPlan n k) e line taken runs ranks lines known read write =
     absurd (other Runs line.mode mode.Parts (answered_for s (NoPlan n k) e line taken).0 (λ r. r) runs)
 completes_is s (Planned q r w) e line taken runs ranks lines known read write =
@@ -216,14 +230,22 @@ completes_is s (Planned q r w) e line taken runs ranks lines known read write =
 completes_is s (Logged t r log) e line taken runs ranks lines known read write =
     absurd (other Runs line.mode (mode.Multi t r) (answered_for s (Logged t r log) e line taken).0 (λ r. r) runs)
 
-was_read : (s : Ending) (a : Answer) → Ends s a → (s.status ≡ 0) ⊎ ((s.status ≡ 1) ⊎ (s.status ≡ 3)) → WasRead a
+-- these statuses speak of what was read
+abbrev pub Reading : ℕ → Type 0
+Reading status =
+    (status ≡ 0) ⊎ ((status ≡ 1) ⊎ ((status ≡ 3) ⊎ ((status ≡ 8) ⊎ (status ≡ 9))))
+
+was_read : (s : Ending) (a : Answer) → Ends s a → Reading s.status → WasRead a
 was_read s Unread e (inl h) = omega (arith, h, (said_whole s Unread e (not_five s 0 h (λ f. cc))).0)
 was_read s Unread e (inr (inl h)) = omega (arith, h, (said_whole s Unread e (not_five s 1 h (λ f. cc))).0)
-was_read s Unread e (inr (inr h)) = omega (arith, h, (said_whole s Unread e (not_five s 3 h (λ f. cc))).0)
+was_read s Unread e (inr (inr (inl h))) = omega (arith, h, (said_whole s Unread e (not_five s 3 h (λ f. cc))).0)
+was_read s Unread e (inr (inr (inr (inl h)))) =
+    omega (arith, h, (said_whole s Unread e (not_five s 8 h (λ f. cc))).0)
+was_read s Unread e (inr (inr (inr (inr h)))) =
+    omega (arith, h, (said_whole s Unread e (not_five s 9 h (λ f. cc))).0)
 was_read s a e h = tt
 
-pub read_is : {P : Type 0} (s : Ending) (a : Answer) → Ends s a →
-    (s.status ≡ 0) ⊎ ((s.status ≡ 1) ⊎ (s.status ≡ 3)) → (WasRead a → P) → P
+pub read_is : {P : Type 0} (s : Ending) (a : Answer) → Ends s a → Reading s.status → (WasRead a → P) → P
 read_is s a e h make = make (was_read s a e h)
 
 pub made_is : (s : Ending) (a : Answer) → Ends s a → (line : CommandLine) → IsTaken s.words line →
@@ -238,6 +260,8 @@ made_is s (Free n) e line taken makes =
     absurd (other Makes line.mode mode.Plain (answered_for s (Free n) e line taken).0 (λ r. r) makes)
 made_is s (Determinate r) e line taken makes =
     absurd (other Makes line.mode mode.Plain (answered_for s (Determinate r) e line taken).0 (λ r. r) makes)
+made_is s (Checked c) e line taken makes =
+    absurd (other Makes line.mode mode.Check (answered_for s (Checked c) e line taken).0 (λ r. r) makes)
 made_is s (NoPlan n k) e line taken makes =
     absurd (other Makes line.mode mode.Parts (answered_for s (NoPlan n k) e line taken).0 (λ r. r) makes)
 made_is s (Planned q r w) e line taken makes =

@@ -1,6 +1,6 @@
 -- What runs and reads say of an answer.
 use Rattle.std.proofs.Common.{◌≡◌, ℕ, Bool, List, ◌++◌, Option, Some, None, take, drop, refl, sym, ap, ◌∙◌, subst}
-use Rattle.std.specs.Option.{IfSome}
+use Rattle.std.specs.Option.{IfSome, IsSomeAnd}
 use Rattle.std.proofs.lemmas.List.{append_cancel_left, take-append-drop}
 use Rattle.nm_types.specs.declared.scripts.Line.{Line}
 use Rattle.nm_types.specs.Limits.{IsScript}
@@ -8,7 +8,7 @@ use Rattle.nm_types.specs.Sizes.{Sizes}
 use Rattle.nm_outside.specs.Told.{ReadSoFar}
 use Rattle.nm_command_line.specs.declared.CommandLine.{CommandLine}
 use Rattle.nm_command_line.specs.declared.Mode.{Mode}
-use Rattle.nm_command_line.specs.declared.Mode.TheVariants.{Run, Trace, Plain, Parts}
+use Rattle.nm_command_line.specs.declared.Mode.TheVariants.{Run, Trace, Plain, Check, Parts}
 use Rattle.nm_script.specs.Spelled.{IsTextOf}
 use Rattle.nm_report.specs.Cells.{AllCellsFree}
 use Rattle.nm_report.specs.Ends.{are_done, ends_of}
@@ -30,7 +30,11 @@ use Rattle.nm_cli.specs.Answers.{CanBeTold, IsAnswerFor, IsAnswerForPlan, IsAnsw
 use Rattle.nm_cli.specs.Plains.{IsNotPlain, IsPlain}
 use Rattle.nm_cli.specs.Answers.{IsAnswerForBytes}
 use Rattle.nm_cli.specs.Plans.{IsRunOfPlan, PlanRefuses}
-use Rattle.nm_cli.specs.Scripts.{IsAsked, IsRunOfScript, Reads, ReadsSource, read_of, sizes_for}
+use Rattle.nm_checked.specs.Checks.{IsChecked, IsInput}
+use Rattle.nm_checked.specs.declared.checks.Checked.{Checked}
+use Rattle.nm_cli.specs.Checks.{IsCheckedAs, IsWritten}
+use Rattle.nm_trace.specs.Traces.{IsTraceOf}
+use Rattle.nm_cli.specs.Scripts.{IsAsked, IsRunOfScript, Reads, ReadsSource, limit_of, read_of, sizes_for}
 use Rattle.nm_cli.specs.declared.answers.Answer.{Answer}
 use Rattle.nm_cli.specs.declared.answers.Answer.TheVariants as answer
 
@@ -154,13 +158,42 @@ pub spelled : (input : Option (List ℕ)) (read : List ℕ) (ranks : ℕ) (lines
 spelled None read ranks lines is text = tt
 spelled (Some bytes) read ranks lines is text = subst (λ bytes. IsTextOf bytes ranks lines) is text
 
--- what is left of a source that was read to its end or to the limit
+-- what is left of a source that was read to its end or to a limit
+pub left_at : (limit : ℕ) (input left : Option (List ℕ)) (read : List ℕ) →
+    IfSome input (λ bytes. read ≡ take limit bytes) → ReadSoFar input left read →
+    IfSome input (λ bytes. left ≡ Some (drop limit bytes))
+left_at limit None left read is so_far = tt
+left_at limit (Some bytes) left read is (rest, left_is, whole) =
+    let halves = sym whole ∙ sym (take-append-drop limit bytes) in
+    let same : take limit bytes ++ rest ≡ take limit bytes ++ drop limit bytes =
+    ap (λ xs. xs ++ rest) (sym is) ∙ halves in
+    left_is ∙ ap Some (append_cancel_left (take limit bytes) rest (drop limit bytes) same)
+
 pub left_over : (input left : Option (List ℕ)) (read : List ℕ) →
     IfSome input (λ bytes. read ≡ take 8388609 bytes) → ReadSoFar input left read →
     IfSome input (λ bytes. left ≡ Some (drop 8388609 bytes))
-left_over None left read is so_far = tt
-left_over (Some bytes) left read is (rest, left_is, whole) =
-    let halves = sym whole ∙ sym (take-append-drop 8388609 bytes) in
-    let same : take 8388609 bytes ++ rest ≡ take 8388609 bytes ++ drop 8388609 bytes =
-    ap (λ xs. xs ++ rest) (sym is) ∙ halves in
-    left_is ∙ ap Some (append_cancel_left (take 8388609 bytes) rest (drop 8388609 bytes) same)
+left_over input left read is so_far = left_at 8388609 input left read is so_far
+
+-- what was said of the bytes read answers the words
+pub checked_as : (line : CommandLine) (input : Option (List ℕ)) (read : List ℕ) (checked : Checked) →
+    line.mode ≡ Check → IfSome input (λ bytes. read ≡ take 67108865 bytes) →
+    IsChecked line.cells line.eager read checked → IfSome input (IsCheckedAs line checked)
+checked_as line None read checked mode is h = tt
+checked_as line (Some bytes) read checked mode is h =
+    let limit : limit_of line.mode ≡ 67108865 = ap limit_of mode in
+    subst (λ n. IsChecked line.cells line.eager (take n bytes) checked) (sym limit)
+    (subst (λ xs. IsChecked line.cells line.eager xs checked) is h)
+
+-- a script and the trace of one of its runs were read whole
+pub holds_for : {A : Type 0} (line : CommandLine) (input : Option (List ℕ)) (read : List ℕ) → line.mode ≡ Check →
+    IfSome input (λ bytes. read ≡ take 67108865 bytes) → IsSomeAnd input (IsWritten line) →
+    ((front rest : List ℕ) (ranks : ℕ) (lines : List Line) (run : RunRecord) → IsInput read front rest →
+    IsTextOf front ranks lines → IsTraceOf (sizes_for line ranks) rest run →
+    IsRunIn (sizes_for line ranks) lines run → A) → A
+holds_for line None read mode is written make = absurd written
+holds_for line (Some bytes) read mode is w make =
+    let limit : limit_of line.mode ≡ 67108865 = ap limit_of mode in
+    let whole : IsInput (take 67108865 bytes) w.front w.rest =
+    subst (λ n. IsInput (take n bytes) w.front w.rest) limit w.input in
+    make w.front w.rest w.ranks w.lines w.run (subst (λ xs. IsInput xs w.front w.rest) (sym is) whole)
+    w.script w.trace w.lawful

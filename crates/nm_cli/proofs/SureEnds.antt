@@ -1,5 +1,6 @@
 -- What is said of a plain script and of a flood is a function of the script and the sizes.
-use Rattle.std.proofs.Common.{◌≡◌, ℕ, ◌≤◌, ◌⊎◌, ◌*◌, Bool, true, false, List, Option, Some, None, IsTrue, refl, sym, ap, ◌∙◌}
+use Rattle.std.proofs.Common.{◌≡◌, ℕ, ◌≤◌, ◌⊎◌, ◌*◌, Bool, true, false, List, Option, Some, None, IsTrue, refl, sym}
+use Rattle.std.proofs.Common.{ap, ◌∙◌}
 use Rattle.std.proofs.Common.{subst}
 use Rattle.std.specs.List.{list_all}
 use Rattle.std.specs.Option.{IfSome, IsSomeAnd}

@@ -4,7 +4,7 @@ use Rattle.nm_outside.specs.Told.{Appends}
 use Rattle.nm_command_line.specs.CommandLine.{IsTaken}
 use Rattle.nm_command_line.specs.declared.CommandLine.{CommandLine}
 use Rattle.nm_command_line.specs.declared.Mode.{Mode}
-use Rattle.nm_command_line.specs.declared.Mode.TheVariants.{Plain, Parts, Multi}
+use Rattle.nm_command_line.specs.declared.Mode.TheVariants.{Plain, Check, Parts, Multi}
 use Rattle.nm_multi.specs.Calls.{Logged as Log}
 use Rattle.nm_multi.specs.Programs.{IsWhole}
 use Rattle.nm_multi.specs.Text.{log_text}
@@ -12,7 +12,8 @@ use Rattle.nm_cli.specs.Endings.{IsLogged, OrUnwritten}
 use Rattle.nm_cli.specs.Scripts.{Reads, ReadsSource, Runs}
 use Rattle.nm_cli.specs.declared.answers.Answer.{Answer}
 use Rattle.nm_cli.specs.declared.answers.Answer.TheVariants.{Usage, Unread, Refused, Ran}
-use Rattle.nm_cli.specs.declared.answers.Answer.TheVariants.{Free, Determinate, NoPlan, Planned, Logged}
+use Rattle.nm_cli.specs.declared.answers.Answer.TheVariants.{Free, Determinate, Checked, NoPlan, Planned}
+use Rattle.nm_cli.specs.declared.answers.Answer.TheVariants.{Logged}
 use Rattle.nm_cli.proofs.EndLemmas.{Ending, Ends, answered_for, or_unwritten, other}
 
 same_numbers : (m : Mode) (t r threads rounds : ℕ) → m ≡ Multi t r → m ≡ Multi threads rounds →
@@ -44,6 +45,8 @@ logged_is s (Free n) e line taken t r is =
 logged_is s (Determinate run) e line taken t r is =
     absurd (other (λ m. m ≡ Plain) line.mode (Multi t r) is (λ h. cc)
     (answered_for s (Determinate run) e line taken).0)
+logged_is s (Checked c) e line taken t r is =
+    absurd (other (λ m. m ≡ Check) line.mode (Multi t r) is (λ h. cc) (answered_for s (Checked c) e line taken).0)
 logged_is s (NoPlan n k) e line taken t r is =
     absurd (other (λ m. m ≡ Parts) line.mode (Multi t r) is (λ h. cc) (answered_for s (NoPlan n k) e line taken).0)
 logged_is s (Planned q run w) e line taken t r is =

@@ -1,6 +1,7 @@
 -- What the program answers: a text, a status, the record of a run, and what the closed ports kept.
-use Rattle.std.specs.Prelude.{◌≡◌, ℕ, ◌^◌, ◌<◌, Bool, true, false, if◌then◌else◌, List, [], ◌++◌, IfSome, Option, Some, None}
-use Rattle.std.specs.Prelude.{codes, decimal}
+use Rattle.std.specs.Prelude.{◌≡◌, ℕ, ◌^◌, ◌<◌, Bool, true, false, if◌then◌else◌, List, [], ◌++◌, IfSome, Option}
+use Rattle.std.specs.Prelude.{Some, None}
+use Rattle.std.specs.Prelude.{codes}
 use Rattle.nm_outside.specs.Told.{Rose}
 use Rattle.nm_command_line.specs.CommandLine.{IsTaken}
 use Rattle.nm_command_line.specs.declared.CommandLine.{CommandLine}
@@ -9,7 +10,6 @@ use Rattle.nm_command_line.specs.declared.Mode.TheVariants as mode
 use Rattle.nm_script.specs.Rules.{IsFirstFault}
 use Rattle.nm_script.specs.Spelled.{SpellsNone}
 use Rattle.nm_script.specs.declared.faults.Kind.{Kind}
-use Rattle.nm_script.specs.declared.faults.Kind.TheVariants as kind
 use Rattle.nm_script.specs.declared.faults.ScriptFault.{ScriptFault}
 use Rattle.nm_script.specs.declared.faults.ScriptFault.TheVariants as fault
 use Rattle.nm_report.specs.Report.{report_text}
@@ -23,7 +23,8 @@ use Rattle.nm_multi.specs.Text.{bytes_got, log_text}
 use Rattle.nm_world.specs.declared.whole.Ways.{Ways}
 use Rattle.nm_cli.specs.declared.answers.Answer.{Answer}
 use Rattle.nm_cli.specs.declared.answers.Answer.TheVariants.{Usage, Unread, Refused, Ran}
-use Rattle.nm_cli.specs.declared.answers.Answer.TheVariants.{Free, Determinate, NoPlan, Planned, Logged}
+use Rattle.nm_cli.specs.declared.answers.Answer.TheVariants.{Free, Determinate, Checked, NoPlan, Planned}
+use Rattle.nm_cli.specs.declared.answers.Answer.TheVariants.{Logged}
 use Rattle.nm_sure.specs.Agree.{ArePlain}
 use Rattle.nm_sure.specs.Plain.{first_free}
 use Rattle.nm_sure.specs.PlainText.{plain_done, plain_text}
@@ -32,6 +33,8 @@ use Rattle.nm_plans.specs.declared.faults.PlanFault.TheVariants as plan_fault
 use Rattle.nm_plans.specs.declared.lines.PlanLine.{PlanLine}
 use Rattle.nm_persist.specs.Report.{run_text as plan_run_text}
 use Rattle.nm_persist.specs.Rules.{IsTextOf as IsPlanText}
+use Rattle.nm_cli.specs.Checks.{IsCheckedAs, checked_status, checked_text}
+use Rattle.nm_cli.specs.Faults.{fault_text}
 use Rattle.nm_cli.specs.Plains.{IsNotPlain, IsPlain, free_text}
 use Rattle.nm_cli.specs.Plans.{IsRunOfPlan, PlanRefuses, plan_fault_text}
 use Rattle.nm_cli.specs.Scripts.{IsRunOfScript, IsRunOfWords, Reads, ReadsSource, Runs}
@@ -44,26 +47,9 @@ usage =
     ++ codes "       nemesis trace [--cells N] [--eager N]\n"
     ++ codes "       nemesis flood KEY RANKS MESSAGES [--cells N] [--eager N]\n"
     ++ codes "       nemesis plain [--cells N] [--eager N]\n"
+    ++ codes "       nemesis check [--cells N] [--eager N]\n"
     ++ codes "       nemesis parts [--cells N] [--eager N]\n"
     ++ codes "       nemesis multi THREADS ROUNDS\n"
-
--- the name of a kind of fault
-abbrev pub kind_text : Kind → List ℕ
-kind_text kind.TooLong = codes "toolong"
-kind_text kind.NotAscii = codes "notascii"
-kind_text kind.Lines = codes "lines"
-kind_text kind.First = codes "first"
-kind_text kind.Rank = codes "rank"
-kind_text kind.Command = codes "command"
-kind_text kind.Count = codes "count"
-kind_text kind.Number = codes "number"
-kind_text kind.Body = codes "body"
-kind_text kind.BodyTotal = codes "bodytotal"
-
--- what is said of a fault of the script
-abbrev pub fault_text : ℕ → Kind → List ℕ
-fault_text line kind =
-    codes "fault script " ++ (decimal line ++ (codes " " ++ (kind_text kind ++ codes "\n")))
 
 -- what is said of a source that failed
 abbrev pub unread : List ℕ
@@ -84,6 +70,7 @@ text_of (Refused line kind) = fault_text line kind
 text_of (Ran mode run ways) = run_text mode run
 text_of (Free line) = free_text line
 text_of (Determinate run) = run.text.items
+text_of (Checked checked) = checked_text checked
 text_of (NoPlan line kind) = plan_fault_text line kind
 text_of (Planned plan run ways) = plan_run_text plan.lines run
 text_of (Logged threads rounds log) = log_text threads rounds log.entries
@@ -100,6 +87,7 @@ status_of (Refused line kind) = 3
 status_of (Ran mode run ways) = end_status run.done
 status_of (Free line) = 7
 status_of (Determinate run) = end_status run.done
+status_of (Checked checked) = checked_status checked
 status_of (NoPlan line kind) = 3
 status_of (Planned plan run ways) = end_status run.done
 status_of (Logged threads rounds log) = 0
@@ -189,6 +177,8 @@ IsAnswerTo line input old new (Ran mode run ways) =
 IsAnswerTo line input old new (Free number) = (line.mode ≡ mode.Plain) × IfSome input (IsNotPlain number)
 IsAnswerTo line input old new (Determinate run) =
     (line.mode ≡ mode.Plain) × IfSome input (IsPlain line run.text.items run.done)
+IsAnswerTo line input old new (Checked checked) =
+    (line.mode ≡ mode.Check) × IfSome input (IsCheckedAs line checked)
 IsAnswerTo line input old new (NoPlan number kind) =
     (line.mode ≡ mode.Parts) × IfSome input (λ bytes. PlanRefuses (read_of bytes) (plan_fault.Bad number kind))
 IsAnswerTo line input old new (Planned plan run ways) =

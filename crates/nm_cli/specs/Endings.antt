@@ -9,7 +9,8 @@ use Rattle.nm_world.specs.declared.whole.Ways.{Ways}
 use Rattle.nm_multi.specs.Calls.{Logged as Log}
 use Rattle.nm_multi.specs.Programs.{IsWhole}
 use Rattle.nm_multi.specs.Text.{log_text}
-use Rattle.nm_cli.specs.Answers.{Refuses, end_status, fault_text, run_text, status_of, text_of}
+use Rattle.nm_cli.specs.Answers.{Refuses, end_status, run_text, status_of, text_of}
+use Rattle.nm_cli.specs.Faults.{fault_text}
 use Rattle.nm_persist.specs.Report.{run_text as plan_run_text}
 use Rattle.nm_plans.specs.declared.faults.PlanFault.TheVariants as plan_fault
 use Rattle.nm_plans.specs.declared.faults.PlanKind.{PlanKind}
@@ -103,7 +104,7 @@ pub record IsLogged (threads rounds : ℕ) (log : Option Log) (old new : Option 
 abbrev pub IsStatus : ℕ → Type 0
 IsStatus status =
     (status ≡ 0) ⊎ ((status ≡ 1) ⊎ ((status ≡ 2) ⊎ ((status ≡ 3) ⊎ ((status ≡ 4)
-    ⊎ ((status ≡ 5) ⊎ ((status ≡ 6) ⊎ (status ≡ 7)))))))
+    ⊎ ((status ≡ 5) ⊎ ((status ≡ 6) ⊎ ((status ≡ 7) ⊎ ((status ≡ 8) ⊎ (status ≡ 9)))))))))
 
 -- it is so, or a write failed, or memory ran out
 abbrev pub OrUnwritten : Type 0 → ℕ → Type 0

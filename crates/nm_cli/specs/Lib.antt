@@ -1,5 +1,7 @@
 pub mod Answers
+pub mod Checks
 pub mod Endings
+pub mod Faults
 pub mod Plains
 pub mod Plans
 pub mod Scripts

@@ -1,9 +1,8 @@
 -- What is said of a plain script, all of whose runs have one report.
-use Rattle.std.specs.Prelude.{◌≡◌, ℕ, ◌*◌, ◌⊎◌, Bool, List, ◌++◌, Option, Some, IfSome, codes, decimal}
+use Rattle.std.specs.Prelude.{◌≡◌, ℕ, ◌*◌, Bool, List, ◌++◌, Some, codes, decimal}
 use Rattle.nm_types.specs.declared.answers.Account.{Account}
 use Rattle.nm_types.specs.declared.scripts.Line.{Line}
 use Rattle.nm_types.specs.Sizes.{Sizes}
-use Rattle.nm_outside.specs.Told.{Appends}
 use Rattle.nm_command_line.specs.declared.CommandLine.{CommandLine}
 use Rattle.nm_command_line.specs.declared.Mode.{Mode}
 use Rattle.nm_command_line.specs.declared.Mode.TheVariants.{Run, Flood}

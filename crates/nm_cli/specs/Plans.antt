@@ -4,7 +4,6 @@ use Rattle.std.specs.List.{AllByRecursion}
 use Rattle.nm_command_line.specs.declared.CommandLine.{CommandLine}
 use Rattle.nm_plan_requests.specs.Expansion.{expand}
 use Rattle.nm_persist.specs.Plans.{IsPlan}
-use Rattle.nm_persist.specs.Report.{run_text}
 use Rattle.nm_persist.specs.Rules.{IsFirstFault, IsTextOf}
 use Rattle.nm_persist_runs.specs.Promises.{IsKept, shown_of}
 use Rattle.nm_plans.specs.declared.faults.PlanFault.{PlanFault}

@@ -4,7 +4,8 @@ use Rattle.nm_types.specs.declared.scripts.Line.{Line}
 use Rattle.nm_types.specs.Sizes.{Sizes}
 use Rattle.nm_command_line.specs.declared.CommandLine.{CommandLine}
 use Rattle.nm_command_line.specs.declared.Mode.{Mode}
-use Rattle.nm_command_line.specs.declared.Mode.TheVariants.{Run, Trace, Plain, Parts, Flood, Multi}
+use Rattle.nm_command_line.specs.declared.Mode.TheVariants.{Run, Trace, Plain, Check, Parts, Flood}
+use Rattle.nm_command_line.specs.declared.Mode.TheVariants.{Multi}
 use Rattle.nm_flood.specs.Flood.{flood_lines}
 use Rattle.nm_script.specs.Spelled.{IsTextOf}
 use Rattle.nm_report.specs.Lawful.{IsRunIn}
@@ -16,11 +17,18 @@ use Rattle.nm_world.specs.declared.whole.Ways.{Ways}
 abbrev pub read_of : List ℕ → List ℕ
 read_of bytes = take 8388609 bytes
 
+-- how many bytes are read at most: one more than a script's text may have, and with check, one more than
+-- a script and its trace may
+abbrev pub limit_of : Mode → ℕ
+limit_of Check = 67108865
+limit_of _ = 8388609
+
 -- these words have a script read from the source
 abbrev pub Reads : Mode → Type 0
 Reads Run = Unit {0}
 Reads Trace = Unit {0}
 Reads Plain = Unit {0}
+Reads Check = ⊥
 Reads Parts = ⊥
 Reads (Flood key ranks messages) = ⊥
 Reads (Multi threads rounds) = ⊥
@@ -33,6 +41,7 @@ Makes _ = ⊥
 -- these words have a script run
 abbrev pub Runs : Mode → Type 0
 Runs Plain = ⊥
+Runs Check = ⊥
 Runs Parts = ⊥
 Runs (Multi threads rounds) = ⊥
 Runs _ = Unit {0}
@@ -40,6 +49,7 @@ Runs _ = Unit {0}
 -- these words hand out the record of a run
 abbrev pub HandsOut : Mode → Type 0
 HandsOut Plain = ⊥
+HandsOut Check = ⊥
 HandsOut (Multi threads rounds) = ⊥
 HandsOut _ = Unit {0}
 
@@ -53,6 +63,7 @@ ReadsSource _ = Unit {0}
 abbrev pub IsAsked : Mode → Option (List ℕ) → ℕ → List Line → Type 0
 IsAsked (Flood key many messages) input ranks lines =
     (ranks ≡ many) × (lines ≡ flood_lines key many messages)
+IsAsked Check input ranks lines = ⊥
 IsAsked Parts input ranks lines = ⊥
 IsAsked (Multi threads rounds) input ranks lines = ⊥
 IsAsked _ input ranks lines = IfSome input (λ bytes. IsTextOf (read_of bytes) ranks lines)
@@ -61,6 +72,7 @@ IsAsked _ input ranks lines = IfSome input (λ bytes. IsTextOf (read_of bytes) r
 abbrev pub IsKnown : Mode → Option (List ℕ) → ℕ → List Line → Type 0
 IsKnown (Flood key many messages) input ranks lines =
     (ranks ≡ many) × (lines ≡ flood_lines key many messages)
+IsKnown Check input ranks lines = ⊥
 IsKnown Parts input ranks lines = ⊥
 IsKnown (Multi threads rounds) input ranks lines = ⊥
 IsKnown _ input ranks lines = IsSomeAnd input (λ bytes. IsTextOf (read_of bytes) ranks lines)

@@ -3,11 +3,16 @@
 ghost use Rattle.std.specs.Prelude.{◌≡◌, IfOk};
 ghost use Rattle.nm_report.specs.Summary.{CountsFit};
 ghost use Rattle.nm_report.specs.Told.{told_of};
-ghost use Rattle.nm_cli.specs.Answers.{CanBeTold, fault_text, kind_text, run_text as run_text_lem};
+ghost use Rattle.nm_cli.specs.Answers.{CanBeTold, run_text as run_text_lem};
+ghost use Rattle.nm_cli.specs.Checks.{checked_status as checked_status_lem};
+ghost use Rattle.nm_cli.specs.Checks.{checked_text as checked_text_lem};
+ghost use Rattle.nm_cli.specs.Faults.{fault_text, kind_text};
 ghost use Rattle.nm_cli.specs.Answers.{end_status as end_status_lem, status_of, text_of, usage};
 ghost use Rattle.nm_cli.specs.Plans.{plan_fault_text as plan_fault_text_lem, plan_kind_text};
 ghost use Rattle.nm_cli.specs.Plains.{free_text as free_text_lem};
 
+use nm_check::Verdict;
+use nm_checked::{Checked, trace_fault_text, verdict_text};
 use nm_command_line::Mode;
 use nm_multi::CallLog;
 use nm_persist::{Plan, PlanKind};
@@ -44,6 +49,10 @@ pub enum Answer {
     Determinate {
         run: PlainRun,
     },
+    /// What the bytes are: no script with a trace, or one, with the verdict on it.
+    Checked {
+        checked: Checked,
+    },
     /// The bytes spell no plan.
     NoPlan {
         line: u32,
@@ -67,6 +76,7 @@ const USAGE: &str = "usage: nemesis run [--cells N] [--eager N]
        nemesis trace [--cells N] [--eager N]
        nemesis flood KEY RANKS MESSAGES [--cells N] [--eager N]
        nemesis plain [--cells N] [--eager N]
+       nemesis check [--cells N] [--eager N]
        nemesis parts [--cells N] [--eager N]
        nemesis multi THREADS ROUNDS
 ";
@@ -83,6 +93,7 @@ pub fn text(alloc: Global, answer: &Answer) -> Result<Vec<u8>, Memory>
         Answer::Ran { mode, run, .. } => run_text(alloc, mode, run),
         Answer::Free { line } => Ok(free_text(alloc, *line)?),
         Answer::Determinate { run } => Ok(run.text.clone()?),
+        Answer::Checked { checked } => Ok(checked_text(alloc, *checked)?),
         Answer::NoPlan { line, kind } => Ok(plan_fault_text(alloc, *line, *kind)?),
         Answer::Planned { plan, run, .. } => nm_persist::text(alloc, plan, run),
         Answer::Logged {
@@ -102,7 +113,7 @@ fn run_text(alloc: Global, mode: &Mode, run: &RunRecord) -> Result<Vec<u8>, Memo
         Mode::Run => nm_report::text(alloc, run, false),
         Mode::Trace => nm_report::text(alloc, run, true),
         Mode::Flood { key, messages, .. } => nm_report::summary(alloc, run, *key, *messages),
-        Mode::Plain | Mode::Parts | Mode::Multi { .. } => Ok(Vec::new(alloc)),
+        Mode::Plain | Mode::Check | Mode::Parts | Mode::Multi { .. } => Ok(Vec::new(alloc)),
     }
 }
 
@@ -114,6 +125,7 @@ pub fn status(answer: &Answer) -> u8
         Answer::Ran { run, .. } => end_status(run.done),
         Answer::Free { .. } => 7,
         Answer::Determinate { run } => end_status(run.done),
+        Answer::Checked { checked } => checked_status(*checked),
         Answer::NoPlan { .. } => 3,
         Answer::Planned { run, .. } => end_status(run.done),
         Answer::Logged { .. } => 0,
@@ -128,6 +140,33 @@ fn end_status(done: bool) -> u8
     ensures { result ≡ end_status_lem done }
 {
     if done { 0 } else { 1 }
+}
+
+// The status of what is said of a script and its trace.
+fn checked_status(checked: Checked) -> u8
+    ensures { result ≡ checked_status_lem checked }
+{
+    match checked {
+        Checked::NoTrace => 9,
+        Checked::NoScript { .. } => 3,
+        Checked::BadTrace { .. } => 9,
+        Checked::Judged { verdict } => match verdict {
+            Verdict::Holds => 0,
+            _ => 8,
+        },
+    }
+}
+
+// What is said of a script and its trace.
+fn checked_text(alloc: Global, checked: Checked) -> Result<Vec<u8>, AllocError>
+    ensures { IfOk result (λ bytes. bytes.items ≡ checked_text_lem checked) }
+{
+    match checked {
+        Checked::NoTrace => trace_fault_text(alloc, 0),
+        Checked::NoScript { line, kind } => fault(alloc, line, kind),
+        Checked::BadTrace { line } => trace_fault_text(alloc, line),
+        Checked::Judged { verdict } => verdict_text(alloc, verdict),
+    }
 }
 
 // What is said of a script that is not plain.

@@ -1,13 +1,19 @@
 //! The answer to the words.
 
 ghost use Rattle.std.specs.Prelude.{◌≡◌, List, Some, drop, map, string_bytes, IfOk, IfSome};
+ghost use Rattle.std.specs.Prelude.{IsSomeAnd};
 ghost use Rattle.nm_command_line.specs.CommandLine.{AreNumbers, IsTaken};
 ghost use Rattle.nm_command_line.specs.declared.CommandLine.{CommandLine};
-ghost use Rattle.nm_command_line.specs.declared.Mode.TheVariants.{Multi};
+ghost use Rattle.nm_command_line.specs.declared.Mode.TheVariants.{Check, Multi};
+ghost use Rattle.nm_check.specs.declared.verdicts.Verdict.TheVariants.{Holds};
+ghost use Rattle.nm_checked.specs.declared.checks.Checked.TheVariants.{Judged};
 ghost use Rattle.nm_cli.specs.Answers.{CanBeTold, IsAnswer, IsLogOf, NotTaken, WasRead};
-ghost use Rattle.nm_cli.specs.Scripts.{ReadsSource};
+ghost use Rattle.nm_cli.specs.Checks.{IsWritten};
+ghost use Rattle.nm_cli.specs.Scripts.{ReadsSource, limit_of};
+ghost use Rattle.nm_cli.specs.declared.answers.Answer.TheVariants.{Checked};
 
 use crate::answers::Answer;
+use crate::checks::answer_trace;
 use crate::plans::answer_plan;
 use crate::runs::{answer_source, run_script};
 use nm_command_line::{Mode, read};
@@ -56,7 +62,11 @@ pub fn find_answer<R: Threads + Wait + Sync, S: Source, G: Gate + Sync>(
         ¬ (ReadsSource line.mode) → source.new ≡ source.old }
     ensures read { (line : CommandLine) → IsTaken (map string_bytes words.now) line →
         ReadsSource line.mode → IfOk result (λ answer. WasRead answer →
-        IfSome (S.left source.old) (λ bytes. S.left source.new ≡ Some (drop 8388609 bytes))) }
+        IfSome (S.left source.old)
+        (λ bytes. S.left source.new ≡ Some (drop (limit_of line.mode) bytes))) }
+    ensures holds { (line : CommandLine) → IsTaken (map string_bytes words.now) line →
+        line.mode ≡ Check → IsSomeAnd (S.left source.old) (IsWritten line) → IfOk result
+        (λ answer. WasRead answer → answer ≡ Checked (Judged Holds)) }
 {
     let Some(line) = read(words) else {
         return Ok(Answer::Usage);
@@ -74,6 +84,7 @@ pub fn find_answer<R: Threads + Wait + Sync, S: Source, G: Gate + Sync>(
         Mode::Run => answer_source(rt, alloc, &line, source, gate),
         Mode::Trace => answer_source(rt, alloc, &line, source, gate),
         Mode::Plain => answer_source(rt, alloc, &line, source, gate),
+        Mode::Check => answer_trace(alloc, &line, source),
         Mode::Parts => answer_plan(rt, alloc, &line, source, gate),
     }
 }

@@ -22,6 +22,8 @@
 //!   function of its numbers and the sizes.
 //! - With `plain`: 3 where the bytes spell no script, 7 where it is not plain, with the line, else
 //!   the report of the plain run, with 0 or 1.
+//! - With `check`: 9 where there is no trace, 3 where the lines before it spell no script, else 0
+//!   or 8 with the verdict on the trace; that of a run of the script holds.
 //! - With `parts`: status 3 with the first fault of bytes that spell no plan, else the report of a
 //!   run of the plan's script, by the plan's own lines: what is said of a receive shows the body
 //!   that its sender held at that start.
@@ -33,12 +35,13 @@
 //! That it succeeds with ample memory.
 #![tactic(auto)]
 
-ghost use Rattle.std.specs.Prelude.{◌≡◌, ◌≢◌, ℕ, ◌⊎◌, None, List, Some, drop, map, string_bytes, IfSome};
+ghost use Rattle.std.specs.Prelude.{◌≡◌, ◌≢◌, ℕ, ◌⊎◌, None, List, Some, codes, drop, map};
+ghost use Rattle.std.specs.Prelude.{string_bytes, IfSome, IsSomeAnd};
 ghost use Rattle.nm_types.specs.declared.scripts.Line.{Line};
 ghost use Rattle.nm_outside.specs.Told.{Appends, AppendsPart, Rose};
 ghost use Rattle.nm_command_line.specs.CommandLine.{IsTaken};
 ghost use Rattle.nm_command_line.specs.declared.CommandLine.{CommandLine};
-ghost use Rattle.nm_command_line.specs.declared.Mode.TheVariants.{Multi, Parts, Plain};
+ghost use Rattle.nm_command_line.specs.declared.Mode.TheVariants.{Check, Multi, Parts, Plain};
 ghost use Rattle.nm_sure.specs.PlainText.{plain_done};
 ghost use Rattle.nm_script.specs.Spelled.{SpellsNone};
 ghost use Rattle.nm_cli.specs.declared.answers.Answer.{Answer};
@@ -48,9 +51,11 @@ ghost use Rattle.nm_cli.specs.Endings.{IsLogged, IsRefused, IsReported, IsSaid, 
 ghost use Rattle.nm_cli.specs.Endings.{IsPlanEnded, IsWorkedOut, OrFails, OrUnwritten};
 ghost use Rattle.nm_cli.specs.Plains.{IsDeterminate, sure_text};
 ghost use Rattle.nm_cli.specs.Scripts.{HandsOut, IsKnown, Makes, Reads, ReadsSource, Runs};
-ghost use Rattle.nm_cli.specs.Scripts.{read_of, sizes_for};
+ghost use Rattle.nm_cli.specs.Checks.{IsCheckedEnd, IsWritten};
+ghost use Rattle.nm_cli.specs.Scripts.{limit_of, read_of, sizes_for};
 
 mod answers;
+mod checks;
 mod finding;
 mod plans;
 mod runs;
@@ -74,7 +79,8 @@ use std::thread::Threads;
 pub struct Ended {
     /// 0 where every rank is at its end, 1 where one waits for what can't come, 2 where the words
     /// are not taken, 3 where the bytes are no script, 4 where a read failed, 5 where a write
-    /// failed, 6 for want of memory, 7 where a script is not plain.
+    /// failed, 6 for want of memory, 7 where a script is not plain, 8 where a trace breaks a rule,
+    /// 9 where there is no trace.
     pub status: u8,
     /// The record of the run, where its text was due.
     pub run: Option<RunRecord>,
@@ -191,9 +197,11 @@ pub fn nemesis<R: Threads + Wait + Sync, S: Source, K: Sink, G: Gate + Sync>(
 
     // What is read: a script or a plan is read whole, or to the limit, and for a flood and for
     // several threads nothing is.
-    ensures read { (result.status ≡ 0) ⊎ ((result.status ≡ 1) ⊎ (result.status ≡ 3)) →
+    ensures read { (result.status ≡ 0) ⊎ ((result.status ≡ 1) ⊎ ((result.status ≡ 3)
+        ⊎ ((result.status ≡ 8) ⊎ (result.status ≡ 9)))) →
         (line : CommandLine) → IsTaken (map string_bytes words.now) line → ReadsSource line.mode →
-        IfSome (S.left source.old) (λ bytes. S.left source.new ≡ Some (drop 8388609 bytes)) }
+        IfSome (S.left source.old)
+        (λ bytes. S.left source.new ≡ Some (drop (limit_of line.mode) bytes)) }
     ensures untouched { (line : CommandLine) → IsTaken (map string_bytes words.now) line →
         ¬ (ReadsSource line.mode) → source.new ≡ source.old }
 
@@ -214,6 +222,16 @@ pub fn nemesis<R: Threads + Wait + Sync, S: Source, K: Sink, G: Gate + Sync>(
         (result.status ≡ end_status (plain_done (sizes_for line ranks) lines))
         × Appends (K.taken sink.old) (K.taken sink.new)
         (sure_text line.mode (sizes_for line ranks) lines) }
+
+    // With check, by what the bytes are: no script with a trace, or one, with the verdict on the
+    // trace. That of a run of the script holds.
+    ensures check { (line : CommandLine) → IsTaken (map string_bytes words.now) line →
+        line.mode ≡ Check → OrFails (IsCheckedEnd line (S.left source.old) result.status
+        (K.taken sink.old) (K.taken sink.new)) result.status }
+    ensures holds { (line : CommandLine) → IsTaken (map string_bytes words.now) line →
+        line.mode ≡ Check → IsSomeAnd (S.left source.old) (IsWritten line) →
+        OrFails ((result.status ≡ 0)
+        × Appends (K.taken sink.old) (K.taken sink.new) (codes "holds\n")) result.status }
 
     // With parts, by what the bytes spell: no plan, or a plan, whose script ran. What is said of a
     // receive shows the body of that start at its sender.

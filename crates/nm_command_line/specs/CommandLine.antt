@@ -3,7 +3,8 @@ use Rattle.std.specs.Prelude.{◌≡◌, ℕ, ◌≤◌, List, [], ◌∷◌, co
 use Rattle.std.specs.Prelude.{Option, Some, None, unwrap_or}
 use Rattle.nm_command_line.specs.declared.CommandLine.{CommandLine}
 use Rattle.nm_command_line.specs.declared.Mode.{Mode}
-use Rattle.nm_command_line.specs.declared.Mode.TheVariants.{Run, Trace, Plain, Parts, Flood, Multi}
+use Rattle.nm_command_line.specs.declared.Mode.TheVariants.{Run, Trace, Plain, Check, Parts, Flood}
+use Rattle.nm_command_line.specs.declared.Mode.TheVariants.{Multi}
 use Rattle.nm_command_line.specs.declared.arguments.Argument.{Argument}
 use Rattle.nm_command_line.specs.declared.arguments.Argument.TheVariants.{Cells, Eager, Number}
 use Rattle.nm_command_line.specs.declared.found.Found.{Found}
@@ -59,6 +60,7 @@ abbrev pub name_of : Mode → List ℕ
 name_of Run = codes "run"
 name_of Trace = codes "trace"
 name_of Plain = codes "plain"
+name_of Check = codes "check"
 name_of Parts = codes "parts"
 name_of (Flood key ranks messages) = codes "flood"
 name_of (Multi threads rounds) = codes "multi"

@@ -30,6 +30,8 @@ pub enum Mode {
     Trace,
     /// Report what every run of the plain script of the source reports, without a run.
     Plain,
+    /// Judge whether the trace behind the script of the source is of one of its runs.
+    Check,
     /// Run a script of persistent and partitioned requests, and report.
     Parts,
     /// Run a script that is generated of these numbers, and sum up.

@@ -31,6 +31,8 @@ fn without_numbers(first: &[u8]) -> Option<Mode>
         Some(Mode::Trace)
     } else if first == b"plain".as_slice() {
         Some(Mode::Plain)
+    } else if first == b"check".as_slice() {
+        Some(Mode::Check)
     } else if first == b"parts".as_slice() {
         Some(Mode::Parts)
     } else {

@@ -4,10 +4,11 @@ use Rattle.nm_outside.specs.Told.{Rose}
 use Rattle.nm_cli.specs.Endings.{IsSaid}
 use Rattle.nm_cli.proofs.EndLemmas.{Ending, Ends, usage_is, not_taken_is, unread_is, unwritten_is}
 use Rattle.nm_cli.proofs.EndLemmas.{not_memory}
-use Rattle.nm_cli.proofs.EndLemmas.{no_record_is}
+use Rattle.nm_cli.proofs.EndLemmas.{no_record_is, status_is}
 use Rattle.nm_cli.proofs.RunEnds.{refused_is, refuses_is, reported_is, reports_is, completes_is, read_is, made_is}
 use Rattle.nm_cli.proofs.RunEnds.{no_run_is}
 use Rattle.nm_cli.proofs.PlainEnds.{plain_is}
+use Rattle.nm_cli.proofs.CheckEnds.{check_is, holds_is}
 use Rattle.nm_cli.proofs.PlanEnds.{parts_is}
 use Rattle.nm_cli.proofs.SureEnds.{determinate_is, flood_is_plain}
 use Rattle.nm_cli.proofs.ThreadEnds.{logged_is, no_log_is}
@@ -33,6 +34,12 @@ returns-in_default-clause-made g c line taken makes = inr (inr (c.hand_out_nothi
 pub returns-in_default-clause-plain : goal.returns-in_default-clause-plain
 returns-in_default-clause-plain g c line taken is = inr (inr (inr (c.hand_out_nothing.ensures.0)))
 
+pub returns-in_default-clause-check : goal.returns-in_default-clause-check
+returns-in_default-clause-check g c line taken is = inr (inr (inr (c.hand_out_nothing.ensures.0)))
+
+pub returns-in_default-clause-holds : goal.returns-in_default-clause-holds
+returns-in_default-clause-holds g c line taken is written = inr (inr (inr (c.hand_out_nothing.ensures.0)))
+
 pub returns-in_default-clause-parts : goal.returns-in_default-clause-parts
 returns-in_default-clause-parts g c line taken is = inr (inr (inr (c.hand_out_nothing.ensures.0)))
 
@@ -56,6 +63,13 @@ returns-in_default-text-clause-made g c line taken makes = inr (inr (c.hand_out_
 
 pub returns-in_default-text-clause-plain : goal.returns-in_default-text-clause-plain
 returns-in_default-text-clause-plain g c line taken is = inr (inr (inr (c.hand_out_nothing-in_default-text.ensures.0)))
+
+pub returns-in_default-text-clause-check : goal.returns-in_default-text-clause-check
+returns-in_default-text-clause-check g c line taken is = inr (inr (inr (c.hand_out_nothing-in_default-text.ensures.0)))
+
+pub returns-in_default-text-clause-holds : goal.returns-in_default-text-clause-holds
+returns-in_default-text-clause-holds g c line taken is written =
+    inr (inr (inr (c.hand_out_nothing-in_default-text.ensures.0)))
 
 pub returns-in_default-text-clause-parts : goal.returns-in_default-text-clause-parts
 returns-in_default-text-clause-parts g c line taken is = inr (inr (inr (c.hand_out_nothing-in_default-text.ensures.0)))
@@ -135,6 +149,16 @@ returns-clause-memory g c six = absurd (not_memory (seen g c) c.in-Ok.answer (kn
 
 pub returns-clause-plain : goal.returns-clause-plain
 returns-clause-plain g c = plain_is (seen g c) c.in-Ok.answer (known g c)
+
+pub returns-clause-check : goal.returns-clause-check
+returns-clause-check g c = check_is (seen g c) c.in-Ok.answer (known g c)
+
+pub returns-clause-holds : goal.returns-clause-holds
+returns-clause-holds g c line taken is written =
+    holds_is (seen g c) c.in-Ok.answer (known g c) (c.in-Ok.ensures.holds line taken is written)
+
+pub returns-clause-statuses : goal.returns-clause-statuses
+returns-clause-statuses g c = status_is (seen g c) c.in-Ok.answer (known g c)
 
 pub returns-clause-parts : goal.returns-clause-parts
 returns-clause-parts g c = parts_is c.receives_show_their_sends.ensures (seen g c) c.in-Ok.answer (known g c)

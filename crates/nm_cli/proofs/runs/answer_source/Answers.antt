@@ -1,5 +1,5 @@
 -- What was read is answered, or refused.
-use Rattle.std.proofs.Common.{◌≡◌, List, ℕ, subst}
+use Rattle.std.proofs.Common.{subst}
 use Rattle.std.proofs.lemmas.Result.{IfOk-weaker}
 use Rattle.nm_script.specs.Spelled.{IsTextOf}
 use Rattle.nm_cli.proofs.RunLemmas.{answered, left_over, spelled, told}
