@@ -29,8 +29,6 @@ mod joining;
 pub mod laws;
 mod messages;
 mod senders;
-#[cfg(test)]
-mod tests;
 
 pub use cutting::Cutter;
 pub use joining::Joiner;

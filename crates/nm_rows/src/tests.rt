@@ -1,7 +1,12 @@
-use nm_cli::nemesis;
-use nm_outside::{MemorySink, MemorySource, OpenGate, PairGate};
+ghost use Rattle.std.specs.Prelude.{◌≡◌, ◌<◌};
+
+use nm_cli::{Ended, nemesis};
+use nm_outside::{Gate, MemorySink, MemorySource, OpenGate, PairGate};
+use nm_types::Memory;
 use std::alloc::{AllocError, Global};
+use std::sync::Wait;
 use std::test::Fail;
+use std::thread::Threads;
 
 const PLAIN: &[u8] =
     b"ranks 2\n0: isend 0 1 7 0 x6869\n0: wait 0\n1: irecv 0 0 7 0 16\n1: wait 0\n";
@@ -12,6 +17,7 @@ const USAGE: &[u8] = b"usage: nemesis run [--cells N] [--eager N]\n       \
     nemesis trace [--cells N] [--eager N]\n       \
     nemesis flood KEY RANKS MESSAGES [--cells N] [--eager N]\n       \
     nemesis plain [--cells N] [--eager N]\n       \
+    nemesis check [--cells N] [--eager N]\n       \
     nemesis parts [--cells N] [--eager N]\n       \
     nemesis multi THREADS ROUNDS\n";
 
@@ -23,6 +29,40 @@ fn words_of(alloc: Global, line: &str) -> Result<Vec<String>, AllocError> {
         words.push(String::from_str(alloc, word)?)?;
     }
     Ok(words)
+}
+
+// How the program ended, what it wrote, and which records it handed out.
+#[derive(Drop)]
+struct Outcome {
+    status: u8,
+    text: Vec<u8>,
+    has_run: bool,
+    has_closed: bool,
+    has_log: bool,
+}
+
+fn outcome_of(alloc: Global, ended: &Ended, sink: &MemorySink) -> Result<Outcome, Memory> {
+    Ok(Outcome {
+        status: ended.status,
+        text: sink.taken().to_vec(alloc)?,
+        has_run: ended.run.is_some(),
+        has_closed: ended.closed.is_some(),
+        has_log: ended.log.is_some(),
+    })
+}
+
+// The outcome of the program on the words of a line, a source and a sink.
+fn run_on<R: Threads + Wait + Sync, G: Gate + Sync>(
+    rt: &R,
+    alloc: Global,
+    line: &str,
+    mut source: MemorySource,
+    mut sink: MemorySink,
+    gate: &G,
+) -> Result<Outcome, Memory> {
+    let words = words_of(alloc, line)?;
+    let ended = nemesis(rt, alloc, &words, &mut source, &mut sink, gate);
+    outcome_of(alloc, &ended, &sink)
 }
 
 #[test]
@@ -105,19 +145,16 @@ fn scripts_give_their_reports(rt: HostRuntime) -> Result<(), Fail> {
         ),
     ];
     for (line, script, status, text) in rows {
-        let words = words_of(rt.alloc(), line)?;
-        let mut source = MemorySource::new(script.to_vec(rt.alloc())?, 3, Vec::new(rt.alloc()));
-        let mut sink = MemorySink::new(rt.alloc(), 5, Vec::new(rt.alloc()))?;
-        let ended = nemesis(&rt, rt.alloc(), &words, &mut source, &mut sink, &OpenGate);
+        let source = MemorySource::new(script.to_vec(rt.alloc())?, 3, Vec::new(rt.alloc()));
+        let sink = MemorySink::new(rt.alloc(), 5, Vec::new(rt.alloc()))?;
+        let ended = run_on(&rt, rt.alloc(), line, source, sink, &OpenGate)?;
         if ended.status == WANT_OF_MEMORY {
-            assert!(rt; sink.taken().is_empty());
-            assert!(rt; ended.run.is_none());
+            assert!(rt; ended.text.is_empty() && !ended.has_run);
             return Err(Fail::new("want of memory"));
         }
         assert_eq!(rt; ended.status, status);
-        assert_eq!(rt; sink.taken(), text);
-        assert_eq!(rt; ended.run.is_some(), status < 2);
-        assert_eq!(rt; ended.closed.is_some(), status < 2);
+        assert_eq!(rt; ended.text.as_slice(), text);
+        assert_eq!(rt; (ended.has_run, ended.has_closed), (status < 2, status < 2));
     }
     Ok(())
 }
@@ -147,60 +184,90 @@ fn words_without_a_script_of_their_own(rt: HostRuntime) -> Result<(), Fail> {
         ),
     ];
     for (line, input, status, text) in rows {
-        let words = words_of(rt.alloc(), line)?;
-        let mut source = MemorySource::new(input.to_vec(rt.alloc())?, 100, Vec::new(rt.alloc()));
-        let mut sink = MemorySink::new(rt.alloc(), 100, Vec::new(rt.alloc()))?;
-        let ended = nemesis(&rt, rt.alloc(), &words, &mut source, &mut sink, &OpenGate);
+        let source = MemorySource::new(input.to_vec(rt.alloc())?, 100, Vec::new(rt.alloc()));
+        let sink = MemorySink::new(rt.alloc(), 100, Vec::new(rt.alloc()))?;
+        let ended = run_on(&rt, rt.alloc(), line, source, sink, &OpenGate)?;
         assert_eq!(rt; ended.status, status);
-        assert_eq!(rt; sink.taken(), text);
-        assert!(rt; ended.run.is_none());
-        assert_eq!(rt; ended.log.is_some(), status == 0);
+        assert_eq!(rt; ended.text.as_slice(), text);
+        assert_eq!(rt; (ended.has_run, ended.has_log), (false, status == 0));
     }
     Ok(())
 }
 
+// How a source or a sink answers: so many bytes at most, and at the call of this number that it
+// failed, or at none for 0.
+#[derive(Clone, Copy)]
+struct Manner {
+    step: usize,
+    failing: u64,
+}
+
+// So many bytes at most, and no failure.
+fn steady(step: usize) -> Manner
+    ensures { result.step ≡ step }
+{
+    Manner { step, failing: 0 }
+}
+
+// The outcome of a run of the plain script.
+fn run_plain<R: Threads + Wait + Sync, G: Gate + Sync>(
+    rt: &R,
+    alloc: Global,
+    read: Manner,
+    written: Manner,
+    gate: &G,
+) -> Result<Outcome, Memory>
+    requires { (0 < read.step) × (0 < written.step) }
+{
+    let script = PLAIN.to_vec(alloc)?;
+    let source = MemorySource::new(script, read.step, [read.failing].to_vec(alloc)?);
+    let sink = MemorySink::new(alloc, written.step, [written.failing].to_vec(alloc)?)?;
+    run_on(rt, alloc, "run", source, sink, gate)
+}
+
 #[test]
-fn failing_ends_are_told(rt: HostRuntime) -> Result<(), Fail> {
-    let words = words_of(rt.alloc(), "run")?;
-    let fails = [3].to_vec(rt.alloc())?;
-    let mut source = MemorySource::new(PLAIN.to_vec(rt.alloc())?, 16, fails);
-    let mut sink = MemorySink::new(rt.alloc(), 100, Vec::new(rt.alloc()))?;
-    let ended = nemesis(&rt, rt.alloc(), &words, &mut source, &mut sink, &OpenGate);
+fn a_failing_read_is_told(rt: HostRuntime) -> Result<(), Fail> {
+    let read = Manner {
+        step: 16,
+        failing: 3,
+    };
+    let ended = run_plain(&rt, rt.alloc(), read, steady(100), &OpenGate)?;
     assert_eq!(rt; ended.status, 4);
-    assert_eq!(rt; sink.taken(), b"fault read\n".as_slice());
-    assert!(rt; ended.run.is_none());
-    let mut source = MemorySource::new(PLAIN.to_vec(rt.alloc())?, 100, Vec::new(rt.alloc()));
-    let mut sink = MemorySink::new(rt.alloc(), 5, [2].to_vec(rt.alloc())?)?;
-    let ended = nemesis(&rt, rt.alloc(), &words, &mut source, &mut sink, &OpenGate);
+    assert_eq!(rt; ended.text.as_slice(), b"fault read\n".as_slice());
+    assert!(rt; !ended.has_run);
+    Ok(())
+}
+
+#[test]
+fn a_failing_write_is_told(rt: HostRuntime) -> Result<(), Fail> {
+    let written = Manner {
+        step: 5,
+        failing: 2,
+    };
+    let ended = run_plain(&rt, rt.alloc(), steady(100), written, &OpenGate)?;
     assert_eq!(rt; ended.status, 5);
-    assert_eq!(rt; sink.taken(), b"0 3 s".as_slice());
-    assert!(rt; ended.run.is_some());
+    assert_eq!(rt; ended.text.as_slice(), b"0 3 s".as_slice());
+    assert!(rt; ended.has_run);
     Ok(())
 }
 
 #[test]
 fn a_byte_at_a_time_is_enough(rt: HostRuntime) -> Result<(), Fail> {
-    let words = words_of(rt.alloc(), "run")?;
-    let mut source = MemorySource::new(PLAIN.to_vec(rt.alloc())?, 1, Vec::new(rt.alloc()));
-    let mut sink = MemorySink::new(rt.alloc(), 1, Vec::new(rt.alloc()))?;
-    let ended = nemesis(&rt, rt.alloc(), &words, &mut source, &mut sink, &OpenGate);
+    let ended = run_plain(&rt, rt.alloc(), steady(1), steady(1), &OpenGate)?;
     assert_eq!(rt; ended.status, 0);
-    assert_eq!(rt; sink.taken(), REPORT);
+    assert_eq!(rt; ended.text.as_slice(), REPORT);
     Ok(())
 }
 
 // The script has 71 bytes, which five reads give; the sixth finds the end.
 #[test]
 fn each_read_may_fail(rt: HostRuntime) -> Result<(), Fail> {
-    let words = words_of(rt.alloc(), "run")?;
-    for call in 1..7 {
-        let fails = [call].to_vec(rt.alloc())?;
-        let mut source = MemorySource::new(PLAIN.to_vec(rt.alloc())?, 16, fails);
-        let mut sink = MemorySink::new(rt.alloc(), 100, Vec::new(rt.alloc()))?;
-        let ended = nemesis(&rt, rt.alloc(), &words, &mut source, &mut sink, &OpenGate);
+    for failing in 1..7 {
+        let read = Manner { step: 16, failing };
+        let ended = run_plain(&rt, rt.alloc(), read, steady(100), &OpenGate)?;
         assert_eq!(rt; ended.status, 4);
-        assert_eq!(rt; sink.taken(), b"fault read\n".as_slice());
-        assert!(rt; ended.run.is_none());
+        assert_eq!(rt; ended.text.as_slice(), b"fault read\n".as_slice());
+        assert!(rt; !ended.has_run);
     }
     Ok(())
 }
@@ -208,27 +275,25 @@ fn each_read_may_fail(rt: HostRuntime) -> Result<(), Fail> {
 // The report has 51 bytes, which four writes take.
 #[test]
 fn each_write_may_fail(rt: HostRuntime) -> Result<(), Fail> {
-    let words = words_of(rt.alloc(), "run")?;
-    for call in 1..5 {
-        let mut source = MemorySource::new(PLAIN.to_vec(rt.alloc())?, 100, Vec::new(rt.alloc()));
-        let mut sink = MemorySink::new(rt.alloc(), 16, [call].to_vec(rt.alloc())?)?;
-        let ended = nemesis(&rt, rt.alloc(), &words, &mut source, &mut sink, &OpenGate);
+    for failing in 1..5 {
+        let written = Manner { step: 16, failing };
+        let ended = run_plain(&rt, rt.alloc(), steady(100), written, &OpenGate)?;
         assert_eq!(rt; ended.status, 5);
-        assert_eq!(rt; sink.taken(), &REPORT[..16 * (call as usize - 1)]);
-        assert!(rt; ended.run.is_some());
+        assert_eq!(rt;
+            ended.text.as_slice(),
+            &REPORT[..16 * (failing as usize - 1)]
+        );
+        assert!(rt; ended.has_run);
     }
     Ok(())
 }
 
 #[test]
 fn two_ranks_run_at_once(rt: HostRuntime) -> Result<(), Fail> {
-    let words = words_of(rt.alloc(), "run")?;
-    let mut source = MemorySource::new(PLAIN.to_vec(rt.alloc())?, 100, Vec::new(rt.alloc()));
-    let mut sink = MemorySink::new(rt.alloc(), 100, Vec::new(rt.alloc()))?;
     let gate = PairGate::new(500_000_000);
-    let ended = nemesis(&rt, rt.alloc(), &words, &mut source, &mut sink, &gate);
+    let ended = run_plain(&rt, rt.alloc(), steady(100), steady(100), &gate)?;
     assert_eq!(rt; ended.status, 0);
-    assert_eq!(rt; sink.taken(), REPORT);
+    assert_eq!(rt; ended.text.as_slice(), REPORT);
     assert!(rt; gate.met());
     Ok(())
 }

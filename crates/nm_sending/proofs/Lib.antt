@@ -21,4 +21,3 @@ pub mod AnswerLemmas
 pub mod RestLemmas
 pub mod MessageLemmas
 pub mod SendLemmas
-pub mod TestLemmas

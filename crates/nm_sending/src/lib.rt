@@ -32,8 +32,6 @@ pub mod laws;
 mod putting;
 mod sendings;
 mod tables;
-#[cfg(test)]
-mod tests;
 
 pub use departures::Departure;
 pub use nm_outbox::Letter;

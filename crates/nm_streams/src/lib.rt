@@ -28,8 +28,6 @@ pub mod laws;
 mod numbers;
 pub mod pieces;
 mod streams;
-#[cfg(test)]
-mod tests;
 
 pub use effects::Made;
 pub use streams::Stream;

@@ -1,8 +1,8 @@
 -- The history of one send.
 use Rattle.std.proofs.Common.{◌∙◌, ap}
 use Rattle.nm_rndv.specs.Offers.{Offering}
-use Rattle.nm_sending.proofs.TestLemmas.{may_clear}
-use Rattle.nm_sending.proofs.tests.a_message_that_asks_leaves_with_its_last_piece.Goals as goal
+use Rattle.nm_parts_rows.proofs.SendingLemmas.{may_clear}
+use Rattle.nm_parts_rows.proofs.sending.a_message_that_asks_leaves_with_its_last_piece.Goals as goal
 
 pub clear-requires-clause-may : goal.clear-requires-clause-may
 clear-requires-clause-may g c =

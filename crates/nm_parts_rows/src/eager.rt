@@ -1,6 +1,6 @@
 ghost use Rattle.std.specs.Prelude.{◌≡◌, ◌<◌, OnOk};
 
-use crate::{Cutter, Joiner};
+use nm_eager::{Cutter, Joiner};
 use nm_types::{Body, Joined, MAX_PACKETS, Shape};
 use std::process::Abort;
 use std::test::Fail;

@@ -2,7 +2,7 @@
 
 ghost use Rattle.std.specs.Prelude.{◌≡◌, ◌<◌, length};
 
-use crate::Sending;
+use nm_sending::Sending;
 use nm_types::{Answer, Body, How, What};
 use std::process::Abort;
 use std::test::Fail;

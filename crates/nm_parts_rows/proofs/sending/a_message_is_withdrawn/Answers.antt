@@ -1,8 +1,8 @@
 -- The history of one send and its recall.
 use Rattle.std.proofs.Common.{◌∙◌, ap}
 use Rattle.nm_rndv.specs.Offers.{Offering}
-use Rattle.nm_sending.proofs.TestLemmas.{may_recall, may_answer}
-use Rattle.nm_sending.proofs.tests.a_message_is_withdrawn.Goals as goal
+use Rattle.nm_parts_rows.proofs.SendingLemmas.{may_recall, may_answer}
+use Rattle.nm_parts_rows.proofs.sending.a_message_is_withdrawn.Goals as goal
 
 pub recall-requires-clause-may : goal.recall-requires-clause-may
 recall-requires-clause-may g c =

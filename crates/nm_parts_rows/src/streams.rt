@@ -3,9 +3,9 @@
 ghost use Rattle.std.specs.Prelude.{◌≡◌, ◌<◌, ◌≤◌, length};
 ghost use Rattle.nm_types.specs.declared.limits.TheConstants.{MAX_PACKETS, MAX_PAYLOAD, MAX_STAMP};
 
-use crate::{Made, Stream, pieces};
 use nm_history::Happened;
 use nm_rndv::Grants;
+use nm_streams::{Made, Stream, pieces};
 use nm_types::{
     Chunk, MAX_PACKETS, MAX_PAYLOAD, MAX_PIECE, MAX_STAMP, Packet, Payload, Piece, What,
 };
