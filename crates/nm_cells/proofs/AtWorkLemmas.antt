@@ -13,8 +13,10 @@ use Rattle.nm_cells.specs.Carried.{times, empties}
 use Rattle.nm_table.specs.NextBox.{next_box, work, BoxesApart}
 use Rattle.nm_cells.specs.AtWork.{sum_to, one_at, all_at, Holds}
 use Rattle.nm_cells.proofs.CarriedLemmas.{times_else}
-use Rattle.nm_table.proofs.BoxLemmas.{one_pair}
 use Rattle.nm_cells.proofs.HoldingLemmas.{load_first, load_behind, turned_by, times_by, load_by}
+use Rattle.nm_facts.proofs.Options.{no_some}
+use Rattle.nm_seats.proofs.PairLemmas.{one_pair}
+use Rattle.nm_table.proofs.BoxRuleLemmas.{some_is}
 
 abbrev numbers : List (ℕ × Load) → List ℕ
 numbers l = map (λ (x : ℕ × Load). x.0) l
@@ -48,12 +50,6 @@ sum_none n f h = sum_same n f (λ _. 0) h ∙ sum_zero n
 
 unlike : false ≡ true → ⊥
 unlike e = cc
-
-none_some : {A : Type 0} (x : A) → None ≡ Some x → ⊥
-none_some x e = cc
-
-some_is : (y z : Load) → Some y ≡ Some z → y ≡ z
-some_is y z e = cc
 
 pub one_none : (k s : ℕ) → one_at k None s ≡ 0
 one_none k s = let z : ℕ = 0 in dite (ℕ_discrete s k) (λ e. pick_yes z z e (ℕ_discrete s k))
@@ -212,7 +208,7 @@ module _ (n m : ℕ) (box : Bool → ℕ → ℕ) (x : Bool → ℕ → Option L
         let all : one_at k (Some y) (box b j) + times k (numbers left) ≡ all_at n k box x =
         h.counted k far in omega arith;
     loaded = λ d i l z is. ⊎_elim
-        (λ e. absurd (none_some z (sym now ∙ (λ t. x' (sym e.0 t) (sym e.1 t)) ∙ is)))
+        (λ e. absurd (no_some z (sym now ∙ (λ t. x' (sym e.0 t) (sym e.1 t)) ∙ is)))
         (λ ne. let s = else d i l ne in let old : x d i ≡ Some z = sym s.1 ∙ is in
         ap (λ c. load_in c left) s.0 ∙ sym (load_behind (box b j) (box d i) w left
         (λ same. ne (distinct b d j i low l y z was old same)))

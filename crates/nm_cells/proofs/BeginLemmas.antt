@@ -14,7 +14,7 @@ use Rattle.nm_seats.specs.Spoken.{view}
 use Rattle.nm_table.specs.declared.table.Hand.{Hand}
 use Rattle.nm_table.specs.declared.table.Hand.TheVariants.{Away, Loose, Held}
 use Rattle.nm_table.specs.declared.table.Entry.{Entry}
-use Rattle.nm_table.specs.Rule.{Load, hand, pick, first_hands, newcomer, beginner}
+use Rattle.nm_table.specs.Rule.{Load, hand, first_hands, newcomer, beginner}
 use Rattle.nm_table.specs.Plays.{Knowing, mine, with_hand, load_in}
 use Rattle.nm_table.proofs.OpeningLemmas.{first_long, first_at}
 use Rattle.nm_table.proofs.QueueLemmas.{pick_yes, pick_no}
@@ -31,6 +31,7 @@ use Rattle.nm_cells.proofs.CarriedLemmas.{cell_picked, within, roomier}
 use Rattle.nm_cells.proofs.HoldingLemmas.{load_first}
 use Rattle.nm_cells.proofs.LooseLemmas.{kept_hand, kept_push, loose_apart}
 use Rattle.nm_cells.proofs.PortLemmas.{CarriesFor}
+use Rattle.nm_seats.specs.Update.{pick}
 
 -- the slot of a loose cell is taken
 module _ (me after : Knowing) (c : ℕ) (low : c < length (mine me).hands)
@@ -164,11 +165,6 @@ pub all_away : (hs : List Hand) (m : ℕ) → length hs ≡ m
     → ((c : ℕ) → c < m → slice_index_or hs c Away ≡ Away) → hs ≡ replicate m Away
 all_away hs m long away = ext_get_or Away hs (replicate m Away) (long ∙ sym (length-replicate m Away))
     (λ c low. let l : c < m = omega arith in away c l ∙ sym (get_or-replicate m c Away Away l))
-
-pub set_twice : {A : Type 0} (xs : List A) (k : ℕ) (a b : A) → set (set xs k a) k b ≡ set xs k b
-set_twice [] k a b = refl
-set_twice (x ∷ xs) zero a b = refl
-set_twice (x ∷ xs) (suc k) a b = ap (λ l. x ∷ l) (set_twice xs k a b)
 
 -- the cells of one rank
 pub row_of : (each r c : ℕ) → 0 < each → c / each ≡ r → (r * each ≤ c) × (c < r * each + each)

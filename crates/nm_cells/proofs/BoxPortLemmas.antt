@@ -10,7 +10,7 @@ use Rattle.nm_table.specs.declared.table.Heads.{Heads}
 use Rattle.nm_table.specs.Rule.{Load, sender, box_slot, filling_of, emptying_of}
 use Rattle.nm_table.specs.Rule.{newcomer}
 use Rattle.nm_table.specs.Plays as plays
-use Rattle.nm_table.specs.Plays.{Knowing, mine, load_in, Took}
+use Rattle.nm_table.specs.Plays.{Knowing, mine, Took}
 use Rattle.nm_cells.specs.Carried.{times}
 use Rattle.nm_table.specs.NextBox.{to_fill, next_box, work, BoxesApart}
 use Rattle.nm_cells.specs.AtWork.{one_at, HoldsBoxes}
@@ -18,12 +18,10 @@ use Rattle.nm_cells.proofs.CountedLemmas.{put_other, from_other, lids_new}
 use Rattle.nm_cells.proofs.HoldingLemmas.{turned_by}
 use Rattle.nm_cells.proofs.AtWorkLemmas as at_work
 use Rattle.nm_cells.proofs.AtWorkLemmas.{Distinct, distinct_of, behind_of}
+use Rattle.nm_facts.proofs.Options.{no_some}
 
 abbrev numbers : List (ℕ × Load) → List ℕ
 numbers l = map (λ (x : ℕ × Load). x.0) l
-
-none_some : {A : Type 0} (x : A) → None ≡ Some x → ⊥
-none_some x e = cc
 
 module _ (e : Entry) (hs : List (ℕ × Load)) (h : HoldsBoxes e hs) where
   abbrev n : ℕ
@@ -165,7 +163,7 @@ module _ (e : Entry) (left : List (ℕ × Load)) where
 
     apart : BoxesApart (after_fill j p)
     apart i k li lk y z iy kz = dite (ℕ_discrete i j)
-        (λ s. absurd (none_some y (sym now ∙ ap (work (after_fill j p) true) (sym s) ∙ iy)))
+        (λ s. absurd (no_some y (sym now ∙ ap (work (after_fill j p) true) (sym s) ∙ iy)))
         (λ ne. let o = else true i (λ q. ne q.1) in λ same.
         h.2 i k li lk y z (sym o.1 ∙ iy) kz (sym o.0 ∙ same))
 
@@ -194,7 +192,7 @@ module _ (e : Entry) (left : List (ℕ × Load)) where
 
     apart : BoxesApart (after_empty j y)
     apart i k li lk u z iu kz = dite (ℕ_discrete k j)
-        (λ s. absurd (none_some z (sym now ∙ ap (work (after_empty j y) false) (sym s) ∙ kz)))
+        (λ s. absurd (no_some z (sym now ∙ ap (work (after_empty j y) false) (sym s) ∙ kz)))
         (λ ne. let o = else false k (λ q. ne q.1) in λ same.
         h.2 i k li lk u z iu (sym o.1 ∙ kz) (same ∙ o.0))
 
@@ -220,12 +218,15 @@ pub boxes_new : (n each r : ℕ) → r < n → HoldsBoxes (newcomer n each r) []
 boxes_new n each r low = (
   low,
   record {
-    counted = λ k far. sym ((λ t. at_work.sum_none n (λ j. one_at k (work (newcomer n each r) true j) (next_box (newcomer n each r) true j))
+    counted = λ k far. sym
+        ((λ t. at_work.sum_none n
+        (λ j. one_at k (work (newcomer n each r) true j) (next_box (newcomer n each r) true j))
         (λ i l. none k true i) t + at_work.sum_none n
-        (λ j. one_at k (work (newcomer n each r) false j) (next_box (newcomer n each r) false j)) (λ i l. none k false i) t) ∙ refl);
-    loaded = λ b j l y is. absurd (none_some y (sym (idle b j) ∙ is));
+        (λ j. one_at k (work (newcomer n each r) false j) (next_box (newcomer n each r) false j))
+        (λ i l. none k false i) t) ∙ refl);
+    loaded = λ b j l y is. absurd (no_some y (sym (idle b j) ∙ is));
   },
-  λ j i lj li y z jy iz. absurd (none_some y (sym (idle true j) ∙ jy)),
+  λ j i lj li y z jy iz. absurd (no_some y (sym (idle true j) ∙ jy)),
 ) where
   idle : (b : Bool) (j : ℕ) → work (newcomer n each r) b j ≡ None
   idle true j = ap to_fill (lids_new false n j)

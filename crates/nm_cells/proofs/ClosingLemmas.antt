@@ -2,7 +2,6 @@
 use Rattle.std.proofs.Common.{◌≡◌, ◌≢◌, ℕ, zero, suc, ◌+◌, ◌*◌, ◌/◌, ◌<◌, ◌≤◌, List, [], ◌∷◌, ◌++◌}
 use Rattle.std.proofs.Common.{map, length, Some, None, sym, refl, ap, ◌∙◌, inl, subst, ⊎_elim}
 use Rattle.std.proofs.Common.{arith, lt_of_not-le, mul-le-mul_right, div-mul-le_self}
-use Rattle.std.specs.Prelude.{slice_get}
 use mathlib.Core.Option as maybe
 use mathlib.Core.Logic.{dite}
 use native.Mathlib.Decide.{ℕ_discrete, dec_le}
@@ -13,7 +12,7 @@ use Rattle.nm_seats.specs.declared.views.View.{View}
 use Rattle.nm_seats.specs.Spoken.{view, sealed, Each as EachEntry, IsOf}
 use Rattle.nm_seats.proofs.SpokenLemmas.{spoken_joins, spoken_seals}
 use Rattle.nm_chain.specs.Chain.{Item, Has, Each, queued}
-use Rattle.nm_chain.specs.Sequence.{InSequence, Got}
+use Rattle.nm_chain.specs.Sequence.{Got}
 use Rattle.nm_chain.specs.Sequence as turn
 use Rattle.nm_chain.proofs.SequenceLemmas.{behind, each_has, has_left, has_right}
 use Rattle.nm_types.specs.Sizes.{Sizes}
@@ -232,30 +231,3 @@ module _ (key : Sizes) (s : State Load (View Entry)) (R : Rule key s) (id : ℕ)
 
     pub whole : AllCame n es → vacant items (n * m) ≡ n * m
     whole all = counted (n * m) (omega arith) ∙ all_home all (n * m) (omega arith)
-
--- lists by place
-pub get_last : {A : Type 0} (xs : List A) (x : A) → slice_get (xs ++ x ∷ []) (length xs) ≡ Some x
-get_last [] x = refl
-get_last (z ∷ zs) x = get_last zs x
-
-pub get_before : {A : Type 0} (xs ys : List A) (k : ℕ) (x : A) → slice_get xs k ≡ Some x
-    → slice_get (xs ++ ys) k ≡ Some x
-get_before [] ys k x e = absurd (none_some k x e) where
-  none_some : {A : Type 0} (k : ℕ) (x : A) → slice_get [] k ≡ Some x → ⊥
-  none_some k x e = cc
-get_before (z ∷ zs) ys zero x e = e
-get_before (z ∷ zs) ys (suc k) x e = get_before zs ys k x e
-
-pub get_mapped : {A B : Type 0} (f : A → B) (xs : List A) (k : ℕ) (y : B)
-    → get_elem? (map f xs) k ≡ maybe.some y → (x : A) × (slice_get xs k ≡ Some x) × (f x ≡ y)
-get_mapped f [] k y e = absurd (maybe.some-ne-none y (sym e))
-get_mapped f (x ∷ xs) zero y e = (x, refl, maybe.some-injective (f x) y e)
-get_mapped f (x ∷ xs) (suc k) y e = get_mapped f xs k y e
-
-pub length_mapped : {A B : Type 0} (f : A → B) (xs : List A) → length (map f xs) ≡ length xs
-length_mapped f [] = refl
-length_mapped f (x ∷ xs) = ap suc (length_mapped f xs)
-
-pub no_items : {A : Type 0} (xs : List A) → length xs ≡ 0 → xs ≡ []
-no_items [] e = refl
-no_items (x ∷ xs) e = absurd (omega arith)

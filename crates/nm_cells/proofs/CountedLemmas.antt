@@ -96,7 +96,7 @@ not_below_one t (x ∷ xs) r h = let one : ℕ = 1 in let none : ℕ = 0 in ⊎_
     omega arith)
     h
 
-one_of_append : (y : Load) (xs ys : List Load) → IsOneOf y xs → IsOneOf y (xs ++ ys)
+pub one_of_append : (y : Load) (xs ys : List Load) → IsOneOf y xs → IsOneOf y (xs ++ ys)
 one_of_append y [] ys h = absurd h
 one_of_append y (x ∷ xs) ys h = ⊎_elim (λ e. inl e) (λ k. inr (one_of_append y xs ys k)) h
 

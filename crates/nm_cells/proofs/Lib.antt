@@ -1,13 +1,13 @@
-pub mod AtWorkLemmas
-pub mod BeginLemmas
+mod AtWorkLemmas
+mod BeginLemmas
 pub mod BoxCallLemmas
-pub mod BoxPortLemmas
-pub mod CarriedLemmas
-pub mod ClosingLemmas
+mod BoxPortLemmas
+mod CarriedLemmas
+mod ClosingLemmas
 pub mod CountedLemmas
-pub mod HoldingLemmas
-pub mod LooseLemmas
-pub mod PassLemmas
-pub mod PathListLemmas
+mod HoldingLemmas
+mod LooseLemmas
+mod PassLemmas
+mod PathListLemmas
 pub mod PortLemmas
-pub mod TallyLemmas
+mod TallyLemmas

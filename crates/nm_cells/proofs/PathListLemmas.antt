@@ -1,4 +1,5 @@
--- The packets of an ordered pair, by number: each number stands once among those that were sent, and what was taken is their beginning.
+-- The packets of an ordered pair, by number: each number stands once among those that were sent, and what was taken
+-- is their beginning.
 use Rattle.std.proofs.Common.{◌≡◌, ℕ, zero, suc, ◌+◌, ◌<◌, ◌≤◌, ◌⊎◌, List, [], ◌∷◌, ◌++◌, map}
 use Rattle.std.proofs.Common.{length, Some, None, sym, refl, ap, ◌∙◌, inl, inr, subst, ⊎_elim, arith}
 use Rattle.std.proofs.Common.{append_assoc, append-nil, length-append}
@@ -120,7 +121,8 @@ rises_left (x ∷ xs) ys r = (before x xs ys r.0, rises_left xs ys r.1) where
   before x [] ys e = tt
   before x (z ∷ zs) ys e = (e.0, before x zs ys e.1)
 
--- What went by box is what was got by box and what stands in the boxes, and what went by cell is what was got by cell and what stands in the chain
+-- What went by box is what was got by box and what stands in the boxes, and what went by cell is what was got by
+-- cell and what stands in the chain
 module _ (s : ℕ) (gb bx gc ch : List Packet)
     (t : InSequence s (numbers gb) (numbers bx) (numbers gc) (numbers ch)) where
   by_box : numbers (gb ++ bx) ≡ numbers gb ++ numbers bx

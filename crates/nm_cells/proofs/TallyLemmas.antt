@@ -1,6 +1,6 @@
 -- What the ports of a fabric counted is what they knew when it was closed.
 use Rattle.std.proofs.Common.{◌≡◌, ℕ, zero, suc, ◌<◌, List, [], ◌∷◌, ◌++◌, map, length, Some}
-use Rattle.std.proofs.Common.{sym, refl, ap, ◌∙◌, subst, arith}
+use Rattle.std.proofs.Common.{sym, ap, ◌∙◌, subst, arith}
 use Rattle.std.proofs.Math.Logic.{∥∥₁_elim}
 use Rattle.std.proofs.Props.{props}
 use Rattle.std.specs.Prelude.{slice_get, slice_index_or}
@@ -22,9 +22,11 @@ use Rattle.nm_cells.specs.PathLists.{packets, by_number, Begins, sent_packets, t
 use Rattle.nm_cells.specs.PathLists.{entry_in, peers_in, sent_between, taken_between, Tallied}
 use Rattle.nm_cells.proofs.PathListLemmas.{numbers, packets_append, full_numbers, from_numbers}
 use Rattle.nm_cells.proofs.PathListLemmas.{all_sent, all_taken, taken_begin}
-use Rattle.nm_cells.proofs.ClosingLemmas.{get_mapped, length_mapped}
 use Rattle.nm_cells.proofs.PortLemmas.{peer_sent}
 use Rattle.nm_cells.proofs.BoxCallLemmas.{all_below}
+use Rattle.nm_facts.proofs.Lists.{get_some as there, get_map, map_length, no_item}
+use Rattle.nm_facts.proofs.Options.{same_some}
+use Rattle.nm_seats.proofs.ListLemmas.{get_mapped}
 
 -- the rank i knew e at the end, and the rank j knew g
 module _ (key : Sizes) (es : List Entry) (home : ℕ) (S : Settled key es home) (i j : ℕ)
@@ -101,33 +103,16 @@ module _ (key : Sizes) (es : List Entry) (home : ℕ) (S : Settled key es home) 
     taken_begins = subst (λ l. Begins (taken_packets g n i) l) (sym sent_are)
         (taken_begin (sent_to j e.put_box e.put) gb bx gc ch turn n got)
 
-there : {A : Type 0} (xs : List A) (k : ℕ) → k < length xs → (x : A) × (slice_get xs k ≡ Some x)
-there [] k h = absurd (omega arith)
-there (x ∷ xs) zero h = (x, refl)
-there (x ∷ xs) (suc k) h = there xs k (omega arith)
-
-no_item : {A : Type 0} (k : ℕ) (x : A) → slice_get [] k ≡ Some x → ⊥
-no_item k x e = cc
-
-same_item : {A : Type 0} (x y : A) → Some x ≡ Some y → x ≡ y
-same_item x y e = cc
-
 index_mapped : {A B : Type 0} (f : A → B) (d : B) (xs : List A) (k : ℕ) (x : A)
     → slice_get xs k ≡ Some x → slice_index_or (map f xs) k d ≡ f x
 index_mapped f d [] k x at = absurd (no_item k x at)
-index_mapped f d (y ∷ ys) zero x at = ap f (same_item y x at)
+index_mapped f d (y ∷ ys) zero x at = ap f (same_some y x at)
 index_mapped f d (y ∷ ys) (suc k) x at = index_mapped f d ys k x at
-
-get_map : {A B : Type 0} (f : A → B) (xs : List A) (k : ℕ) (x : A)
-    → slice_get xs k ≡ Some x → slice_get (map f xs) k ≡ Some (f x)
-get_map f [] k x at = absurd (no_item k x at)
-get_map f (y ∷ ys) zero x at = ap (λ z. Some (f z)) (same_item y x at)
-get_map f (y ∷ ys) (suc k) x at = get_map f ys k x at
 
 elem_mapped : {A B : Type 0} (f : A → B) (xs : List A) (k : ℕ) (x : A)
     → slice_get xs k ≡ Some x → get_elem? (map f xs) k ≡ maybe.some (f x)
 elem_mapped f [] k x at = absurd (no_item k x at)
-elem_mapped f (y ∷ ys) zero x at = ap (λ z. maybe.some (f z)) (same_item y x at)
+elem_mapped f (y ∷ ys) zero x at = ap (λ z. maybe.some (f z)) (same_some y x at)
 elem_mapped f (y ∷ ys) (suc k) x at = elem_mapped f ys k x at
 
 -- what each port counted
@@ -189,15 +174,15 @@ module _ (f : Fabric) (items : List Port) (many : length items ≡ f.ranks)
 
   -- all ranks are known
   pub ranks_are : length es ≡ f.ranks
-  ranks_are = ap length known ∙ length_mapped knows items ∙ many
+  ranks_are = ap length known ∙ map_length knows items ∙ many
 
   wide : (p : Port) → Owns f p → length p.peers.items ≡ f.ranks
   wide p own = ∥∥₁_elim p.counts (search props) (λ c. c.count) ∙ own.2
 
   tallied_all : Tallied es ps f.ranks
   tallied_all = record {
-    ranks = ap length counted ∙ length_mapped (λ v. v.items) (map (λ p. p.peers) items)
-        ∙ length_mapped (λ p. p.peers) items ∙ many;
+    ranks = ap length counted ∙ map_length (λ v. v.items) (map (λ p. p.peers) items)
+        ∙ map_length (λ p. p.peers) items ∙ many;
     wide = λ i li. let p = port_at i li in
         ap length (peers_are i p.0 p.1) ∙ wide p.0 (ok i p.0 p.1).0;
     sent = λ i j li lj. let p = port_at i li in let q = port_at j lj in

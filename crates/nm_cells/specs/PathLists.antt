@@ -4,10 +4,11 @@ use native.Mathlib.Decide.{ℕ_discrete}
 use Rattle.nm_types.specs.declared.packets.Packet.{Packet}
 use Rattle.nm_seats.specs.declared.views.View.{View}
 use Rattle.nm_table.specs.declared.table.Entry.{Entry}
-use Rattle.nm_table.specs.Rule.{Load, put_to, from, sent_to, pick}
+use Rattle.nm_table.specs.Rule.{Load, put_to, from, sent_to}
 use Rattle.nm_table.specs.Plays.{newcomer}
 use Rattle.nm_cells.specs.declared.peers.Peer.{Peer}
 use Rattle.nm_cells.specs.Counted.{peer_in}
+use Rattle.nm_seats.specs.Update.{pick}
 
 -- the packets among these
 abbrev pub packets : List Load → List Packet

@@ -15,7 +15,7 @@ ghost use Rattle.nm_cells.specs.Ports.{Owns, Stays, knows, holding, sent_by, tak
 ghost use Rattle.nm_cells.specs.Ports.{unpassed_by, Empties, opens, unless};
 
 use crate::port::{Fabric, Port};
-use crate::slots::{bring_slot, carry};
+use crate::slots::{bring_slot, carry, empty_slot, fill_slot};
 use crate::tally::{
     count_boxed, count_full, count_miss, count_unboxed, note_emptying, note_filling,
 };
@@ -168,18 +168,18 @@ fn fill<T: Told, L: Ledger>(
     f: &Fabric,
     port: &mut Port,
     to: u8,
-    packet: Packet,
+    packet: &Packet,
     steps: &mut Steps<L>,
 )
     requires owns { Owns f.now port.old }
     requires peer { to < f.now.ranks }
     requires free { filling_of (knows port.old) to ≡ true }
-    requires fits { length packet.payload ≤ MAX_BOX }
-    requires packet { (packet.from ≡ port.old.rank) × (packet.seq ≡ sent_by port.old to) }
+    requires fits { length packet.now.payload ≤ MAX_BOX }
+    requires packet { (packet.now.from ≡ port.old.rank) × (packet.now.seq ≡ sent_by port.old to) }
     requires told { to ≡ T.peer }
     ensures stays { Stays f.now port.old port.new }
     ensures put { knows port.new
-        ≡ with_put_box ((to, Some packet) ∷ []) (with_filling to false (knows port.old)) }
+        ≡ with_put_box ((to, Some packet.now) ∷ []) (with_filling to false (knows port.old)) }
     ensures hands { port.new.hands + 1 ≡ port.old.hands }
     ensures holding { holding port.new ≡ holding port.old }
     ensures cost { steps.new ≡ steps.old + 1 }
@@ -189,11 +189,7 @@ fn fill<T: Told, L: Ledger>(
     bring_slot(port, slot);
     let word = flag_word(f.ranks, slot);
     let flag = packet.seq + 1;
-    let old = f
-        .board
-        .shared
-        .exchange(&mut port.seat, slot as usize, Some(packet));
-    let None = old else { unreachable!() };
+    fill_slot(&f.board, &mut port.seat, slot as usize, packet);
     f.board
         .shared
         .store::<Fills<T>>(&mut port.seat, word as usize, flag);
@@ -208,17 +204,17 @@ pub fn fill_box<L: Ledger>(
     f: &Fabric,
     port: &mut Port,
     to: u8,
-    packet: Packet,
+    packet: &Packet,
     steps: &mut Steps<L>,
 )
     requires owns { Owns f.now port.old }
     requires peer { to < f.now.ranks }
     requires free { filling_of (knows port.old) to ≡ true }
-    requires fits { length packet.payload ≤ MAX_BOX }
-    requires packet { (packet.from ≡ port.old.rank) × (packet.seq ≡ sent_by port.old to) }
+    requires fits { length packet.now.payload ≤ MAX_BOX }
+    requires packet { (packet.now.from ≡ port.old.rank) × (packet.now.seq ≡ sent_by port.old to) }
     ensures stays { Stays f.now port.old port.new }
     ensures put { knows port.new
-        ≡ with_put_box ((to, Some packet) ∷ []) (with_filling to false (knows port.old)) }
+        ≡ with_put_box ((to, Some packet.now) ∷ []) (with_filling to false (knows port.old)) }
     ensures hands { port.new.hands + 1 ≡ port.old.hands }
     ensures holding { holding port.new ≡ holding port.old }
     ensures cost { steps.new ≡ steps.old + 1 }
@@ -230,17 +226,18 @@ fn empty<T: Told, L: Ledger>(
     f: &Fabric,
     port: &mut Port,
     sender: u8,
+    into: &mut Packet,
     steps: &mut Steps<L>,
-) -> Packet
+)
     requires owns { Owns f.now port.old }
     requires peer { sender < f.now.ranks }
     requires taking { Empties port.old sender (taken_by port.old sender) }
     requires told { sender ≡ T.peer }
     ensures owns { Owns f.now port.new × (port.new.rank ≡ port.old.rank)
         × (port.new.loose ≡ port.old.loose) }
-    ensures packet { Some result ≡ box_load sender (knows port.old) }
+    ensures packet { Some into.new ≡ box_load sender (knows port.old) }
     ensures got { knows port.new
-        ≡ with_got_box (Some result ∷ []) (with_emptying sender None (knows port.old)) }
+        ≡ with_got_box (Some into.new ∷ []) (with_emptying sender None (knows port.old)) }
     ensures taken { taken_by port.new
         ≡ update (taken_by port.old) sender (taken_by port.old sender + 1) }
     ensures others { (port.new.held ≡ port.old.held)
@@ -253,28 +250,33 @@ fn empty<T: Told, L: Ledger>(
     let slot = f.box_at(sender, port.rank, port.peer(sender).box_got);
     bring_slot(port, slot);
     let word = flag_word(f.ranks, slot);
-    let old = f.board.shared.exchange(&mut port.seat, slot as usize, None);
+    empty_slot(&f.board, &mut port.seat, slot as usize, into);
     f.board
         .shared
         .store::<Vacates<T>>(&mut port.seat, word as usize, 0);
     port.carried.remove(0);
     port.hands -= 1;
     count_unboxed(&mut port.peers, sender as usize);
-    old.unwrap()
 }
 
 /// Takes the packet that was found out of the port's next box of a rank, and stores 0 in the flag. The
 /// packet is the one that the port awaited, and it is passed on.
-pub fn empty_box<L: Ledger>(f: &Fabric, port: &mut Port, sender: u8, steps: &mut Steps<L>) -> Packet
+pub fn empty_box<L: Ledger>(
+    f: &Fabric,
+    port: &mut Port,
+    sender: u8,
+    into: &mut Packet,
+    steps: &mut Steps<L>,
+)
     requires owns { Owns f.now port.old }
     requires peer { sender < f.now.ranks }
     requires taking { Empties port.old sender (taken_by port.old sender) }
     ensures owns { Owns f.now port.new × (port.new.rank ≡ port.old.rank)
         × (port.new.loose ≡ port.old.loose) }
-    ensures packet { (Some result ≡ box_load sender (knows port.old))
-        × (result.from ≡ sender) × (result.seq ≡ taken_by port.old sender) }
+    ensures packet { (Some into.new ≡ box_load sender (knows port.old))
+        × (into.new.from ≡ sender) × (into.new.seq ≡ taken_by port.old sender) }
     ensures got { knows port.new
-        ≡ with_got_box (Some result ∷ []) (with_emptying sender None (knows port.old)) }
+        ≡ with_got_box (Some into.new ∷ []) (with_emptying sender None (knows port.old)) }
     ensures taken { taken_by port.new
         ≡ update (taken_by port.old) sender (taken_by port.old sender + 1) }
     ensures others { (port.new.held ≡ port.old.held)
@@ -283,5 +285,5 @@ pub fn empty_box<L: Ledger>(f: &Fabric, port: &mut Port, sender: u8, steps: &mut
     ensures holding { holding port.new ≡ holding port.old }
     ensures cost { steps.new ≡ steps.old + 1 }
 {
-    empty::<Brand, L>(f, port, sender, steps)
+    empty::<Brand, L>(f, port, sender, into, steps);
 }

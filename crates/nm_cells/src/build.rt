@@ -16,7 +16,7 @@ use crate::peers::Peer;
 use crate::port::{Fabric, Port};
 use crate::produce::{clear_link, store_head, store_link, swap_tail};
 use nm_seats::{GivesFirst, Steps};
-use nm_table::{Board, Heads, Misses, Place};
+use nm_table::{Board, Heads, Misses, Place, Slot};
 use nm_types::{Memory, Shape};
 use std::alloc::Global;
 use std::marker::Brand;
@@ -139,6 +139,17 @@ fn first_words(alloc: Global, ranks: u64, each: u64) -> Result<Vec<u64>, Memory>
     Ok(words)
 }
 
+// So many slots, all empty.
+fn empty_slots(alloc: Global, count: u64) -> Result<Vec<Slot>, Memory>
+    ensures { IfOk result (λ v. v.items ≡ replicate count None) }
+{
+    let mut slots = Vec::with_capacity(alloc, count as usize)?;
+    for _i in 0..count {
+        slots.push(Slot::empty())?;
+    }
+    Ok(slots)
+}
+
 // The fabric, and the seat that speaks for all ranks.
 fn whole(alloc: Global, shape: &Shape) -> Result<(Fabric, Place), Memory>
     ensures { IfOk result (λ t. (t.0.ranks ≡ shape.now.ranks) × (t.0.each ≡ shape.now.cells)
@@ -150,7 +161,10 @@ fn whole(alloc: Global, shape: &Shape) -> Result<(Fabric, Place), Memory>
     let words = first_words(alloc, ranks, each)?;
     let slots = ranks * each + 4 * (ranks * ranks);
     let counted = Vec::with_capacity(alloc, ranks as usize)?;
-    let (board, rest) = Board::vacant(alloc, words.as_slice(), slots as usize, shape)?;
+    let empty = empty_slots(alloc, slots)?;
+    let Ok((board, rest)) = Board::new(alloc, words.as_slice(), empty, shape) else {
+        return Err(Memory);
+    };
     let fabric = Fabric {
         board,
         ranks,

@@ -71,7 +71,7 @@ fn settle(board: Board, seat: Place, ranks: u64, each: u64) -> Account
     let mut cell: u64 = 0;
     while cell < total {
         let load = closed.take(cell as usize);
-        if load.is_none() {
+        if load.is_empty() {
             home += 1;
         }
         cell += 1;

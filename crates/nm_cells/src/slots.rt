@@ -4,14 +4,14 @@ ghost use Rattle.std.specs.Prelude.{◌≡◌, ◌+◌, ◌<◌, ◌≤◌, ◌�
 ghost use Rattle.std.specs.Prelude.{IsSome, slice_index, vec_len, vec_capacity};
 ghost use Rattle.atomic_table.specs.Table.{rest};
 ghost use Rattle.nm_seats.specs.Update.{update};
-ghost use Rattle.nm_table.specs.Rule.{hand};
-ghost use Rattle.nm_table.specs.Plays.{InHand, load_in};
+ghost use Rattle.nm_table.specs.Rule.{Load, hand};
+ghost use Rattle.nm_table.specs.Plays.{InHand, first_load, load_in};
 ghost use Rattle.nm_cells.specs.Carried.{times};
 ghost use Rattle.nm_cells.specs.Ports.{Owns, Stays, Has, knows, slots, holding};
 
 use crate::cell::Cell;
 use crate::port::{Fabric, Port};
-use nm_table::Place;
+use nm_table::{Board, Place};
 use nm_types::Packet;
 
 // One more slot is in hand.
@@ -79,33 +79,53 @@ pub(crate) fn bring_cell(port: &mut Port, number: u64)
     bring_slot(port, number);
 }
 
+// Puts a packet into the slot that was taken last, in its place there.
+pub(crate) fn fill_slot(board: &Board, seat: &mut Place, slot: usize, packet: &Packet)
+    requires front { (seat.old.table_id ≡ board.now.shared.table_id)
+        × ((old : Load) × (seat.old.me.1 ≡ (slot, old) ∷ rest seat.old.me.1)) }
+    ensures seat { (seat.new.table_id ≡ seat.old.table_id) × (seat.new.id ≡ seat.old.id) }
+    ensures filled { seat.new.me ≡ (seat.old.me.0, (slot, Some packet.now) ∷ rest seat.old.me.1) }
+{
+    seat.slot_mut(&board.shared, slot).fill(packet);
+}
+
+// Takes the packet out of the slot that was taken last, into a place of the caller's.
+pub(crate) fn empty_slot(board: &Board, seat: &mut Place, slot: usize, into: &mut Packet)
+    requires front { (seat.old.table_id ≡ board.now.shared.table_id)
+        × ((old : Load) × (seat.old.me.1 ≡ (slot, old) ∷ rest seat.old.me.1)) }
+    requires full { IsSome (first_load seat.old.me.1) }
+    ensures seat { (seat.new.table_id ≡ seat.old.table_id) × (seat.new.id ≡ seat.old.id) }
+    ensures packet { seat.old.me.1 ≡ (slot, Some into.new) ∷ rest seat.old.me.1 }
+    ensures emptied { seat.new.me ≡ (seat.old.me.0, (slot, None) ∷ rest seat.old.me.1) }
+{
+    seat.slot_mut(&board.shared, slot).take(into);
+}
+
 /// Puts a packet into an empty cell in hand.
-pub fn put_in(f: &Fabric, port: &mut Port, cell: &Cell, packet: Packet)
+pub fn put_in(f: &Fabric, port: &mut Port, cell: &Cell, packet: &Packet)
     requires owns { Owns f.now port.old }
     requires in_hand { Has f.now port.old cell.now }
     requires empty { holding port.old cell.now.number ≡ None }
     ensures stays { Stays f.now port.old port.new × (knows port.new ≡ knows port.old) }
     ensures hands { port.new.hands ≡ port.old.hands }
-    ensures filled { holding port.new ≡ update (holding port.old) cell.now.number (Some packet) }
+    ensures filled { holding port.new ≡ update (holding port.old) cell.now.number (Some packet.now) }
 {
     bring_cell(port, cell.number);
     let slot = cell.number as usize;
-    let old = f.board.shared.exchange(&mut port.seat, slot, Some(packet));
-    let None = old else { unreachable!() };
+    fill_slot(&f.board, &mut port.seat, slot, packet);
 }
 
 /// Takes the packet out of a cell in hand, which is empty from then on.
-pub fn take_out(f: &Fabric, port: &mut Port, cell: &Cell) -> Packet
+pub fn take_out(f: &Fabric, port: &mut Port, cell: &Cell, into: &mut Packet)
     requires owns { Owns f.now port.old }
     requires in_hand { Has f.now port.old cell.now }
     requires full { IsSome (holding port.old cell.now.number) }
     ensures stays { Stays f.now port.old port.new × (knows port.new ≡ knows port.old) }
-    ensures packet { holding port.old cell.now.number ≡ Some result }
+    ensures packet { holding port.old cell.now.number ≡ Some into.new }
     ensures hands { port.new.hands ≡ port.old.hands }
     ensures emptied { holding port.new ≡ update (holding port.old) cell.now.number None }
 {
     bring_cell(port, cell.number);
     let slot = cell.number as usize;
-    let old = f.board.shared.exchange(&mut port.seat, slot, None);
-    old.unwrap()
+    empty_slot(&f.board, &mut port.seat, slot, into);
 }

@@ -1,7 +1,7 @@
 //! Fastboxes: a short packet from one rank to another in two steps at most.
 //!
 //! ```text
-//!   put    1 load the flag of the next box for the rank; where it isn't 0 the packet comes back
+//!   put    1 load the flag of the next box for the rank; where it isn't 0 nothing is sent
 //!          2 else put the packet into the box, and store its number plus 1 in the flag
 //!   take   1 load the flag of the next box of the rank; where it isn't the awaited one, a miss
 //!          2 else take the packet out of the box, and store 0 in the flag
@@ -12,7 +12,7 @@
 //! steps.
 //!
 //! # What is proved
-//! - `put` sends the packet by box, or gives it back exactly where the next box was found full,
+//! - `put` sends the packet by box, or does not exactly where the next box was found full,
 //!   which `box_full` counts (clauses `put`, `sent`, `full`).
 //! - `take` gives the packet with the awaited number, or nothing exactly where another number was
 //!   found, which `box_miss` counts (clauses `took`, `missed`).

@@ -47,7 +47,7 @@ fn put_next<L: Ledger>(f: &Fabric, port: &mut Port, steps: &mut Steps<L>) -> boo
         return false;
     }
     let next = packet(0, port.sent(1));
-    put(f, port, 1, next, steps).is_ok()
+    put(f, port, 1, &next, steps)
 }
 
 // The number of the packet that rank 1 takes out of a box of rank 0, where it has its bytes.
@@ -55,7 +55,10 @@ fn take_next<L: Ledger>(f: &Fabric, port: &mut Port, steps: &mut Steps<L>) -> Op
     requires { Owns f.now port.old × (port.old.rank ≡ 1) × (port.old.hands ≡ 0) }
     ensures { Owns f.now port.new × (port.new.rank ≡ 1) × (port.new.hands ≡ 0) }
 {
-    let packet = take(f, port, 0, steps)?;
+    let mut packet = Packet::blank();
+    if !take(f, port, 0, &mut packet, steps) {
+        return None;
+    }
     if packet.payload.as_slice() == bytes_of(packet.seq).as_slice() {
         Some(packet.seq)
     } else {

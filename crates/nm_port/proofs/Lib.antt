@@ -1,3 +1,3 @@
-pub mod SendLemmas
-pub mod HeldLemmas
+mod SendLemmas
+mod HeldLemmas
 pub mod PollLemmas

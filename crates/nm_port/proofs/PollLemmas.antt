@@ -58,7 +58,7 @@ all_raised (suc k) [] e = refl
 all_raised zero (x ∷ xs) e = absurd (omega arith)
 all_raised (suc k) (x ∷ xs) e = ap (λ l. raised x ∷ l) (all_raised k xs (omega arith))
 
-misses_long : (p : Port) → length (knows p).box_miss ≡ (knows p).ranks
+pub misses_long : (p : Port) → length (knows p).box_miss ≡ (knows p).ranks
 misses_long p = ∥∥₁_elim p.counts (search props) (λ n. n.misses)
 
 pub missed_next : (k : ℕ) (old now new : Port) → Missed k old now → k < (knows old).ranks
@@ -299,14 +299,10 @@ pub queue_misses : (e e' : Entry) → HadMiss true e e' → e'.box_miss ≡ e.bo
 queue_misses e e' = ⊎_elim (λ h. ap (λ (x : Entry). x.box_miss) h) (λ h. ap (λ (x : Entry). x.box_miss) h.1)
 
 -- nor is what came by the receive queue, or behind it by a box
-pub way_misses : (result : Option Packet) (x : Packet) (now new : Port) → IsSome result
-    → IfSome result (λ p. ((p ≡ x) × (new.held ≡ None) × (knows new ≡ knows now))
+pub way_misses : (p x : Packet) (now new : Port)
+    → ((p ≡ x) × (new.held ≡ None) × (knows new ≡ knows now))
     ⊎ ((p.from ≡ x.from) × (new.held ≡ Some x)
-    × (knows new ≡ with_got_box (Some p ∷ []) (with_emptying p.from None (knows now)))))
+    × (knows new ≡ with_got_box (Some p ∷ []) (with_emptying p.from None (knows now))))
     → (knows new).box_miss ≡ (knows now).box_miss
-way_misses None x now new some way = absurd (no None refl some) where
-  no : (o : Option Packet) → o ≡ None → IsSome o → ⊥
-  no (Some p) e some = cc
-  no None e some = cc
-way_misses (Some p) x now new some way = ⊎_elim (λ h. ap (λ (e : Entry). e.box_miss) h.2)
+way_misses p x now new way = ⊎_elim (λ h. ap (λ (e : Entry). e.box_miss) h.2)
     (λ h. ap (λ (e : Entry). e.box_miss) h.2) way

@@ -78,7 +78,8 @@ abbrev pub IsGot : Port → Packet → Type 0
 IsGot new p = IsOneOf (Some p) (from p.from (knows new).got_box)
     ⊎ IsOneOf (Some p) (from p.from (knows new).got)
 
--- beside what it got and counted, its shadow head, what it was told of it and the box that it emptied, a port knows the same
+-- beside what it got and counted, its shadow head, what it was told of it and the box that it emptied, a port knows
+-- the same
 abbrev pub polled : Entry → Entry → Entry
 polled new old = record old {
   receive = new.receive;

@@ -14,7 +14,7 @@
 //! ```
 //!
 //! # What is proved
-//! - `send` answers by which way the packet went, or gives it back with its causes: the box was
+//! - `send` answers by which way the packet went, or none with its causes: the box was
 //!   full or too short, and the own free queue had a miss (clauses `by_box`, `by_cell`, `sent`,
 //!   `back`). It takes at most 9 word steps (clause `bound`).
 //! - `poll` gives the packet of its sender whose number is awaited and no other (clauses `next`,

@@ -83,7 +83,7 @@ fn send_to_all<L: Ledger>(f: &Fabric, port: &mut Port, steps: &mut Steps<L>)
     for to in 0..f.ranks() {
         let number = port.sent(to);
         if number < COUNT {
-            send(f, port, to, packet(own, to, number), steps).ok();
+            send(f, port, to, &packet(own, to, number), steps);
         }
     }
 }
@@ -94,10 +94,8 @@ fn take_wrong<L: Ledger>(f: &Fabric, port: &mut Port, steps: &mut Steps<L>) -> b
     ensures { Owns f.now port.new × (port.new.rank ≡ port.old.rank) × (port.new.hands ≡ 0)
         × HoldsTheRest port.new }
 {
-    match poll(f, port, steps) {
-        Some(packet) => !is_right(port, &packet),
-        None => false,
-    }
+    let mut packet = Packet::blank();
+    poll(f, port, &mut packet, steps) && !is_right(port, &packet)
 }
 
 // One rank sends and takes what is due. Wrong packets are counted.

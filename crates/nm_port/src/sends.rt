@@ -1,6 +1,6 @@
 //! Sending a packet.
 
-ghost use Rattle.std.specs.Prelude.{◌≡◌, ◌≢◌, ◌+◌, ◌<◌, ◌≤◌, ◌∷◌, [], Some, Ok, IfOk, IfErr};
+ghost use Rattle.std.specs.Prelude.{◌≡◌, ◌≢◌, ◌+◌, ◌<◌, ◌≤◌, ◌∷◌, [], Some, IsSome, IfNone};
 ghost use Rattle.std.specs.Prelude.{length, false};
 ghost use Rattle.nm_types.specs.declared.limits.TheConstants.{MAX_BOX};
 ghost use Rattle.nm_types.specs.declared.packets.Path.TheVariants.{Box, Cell};
@@ -20,27 +20,27 @@ use nm_seats::Steps;
 use nm_types::{Packet, Path};
 use std::sync::ledger::Ledger;
 
-// Sends a packet by a cell of the own free queue, or gives it back where that one had a miss.
+// Sends a packet by a cell of the own free queue, unless that one had a miss.
 fn send_by_cell<L: Ledger>(
     f: &Fabric,
     port: &mut Port,
     to: u8,
-    packet: Packet,
+    packet: &Packet,
     steps: &mut Steps<L>,
-) -> Result<Path, Packet>
+) -> Option<Path>
     requires owns { Owns f.now port.old }
     requires peer { to < f.now.ranks }
-    requires packet { (packet.from ≡ port.old.rank) × (packet.seq ≡ sent_by port.old to) }
+    requires packet { (packet.now.from ≡ port.old.rank) × (packet.now.seq ≡ sent_by port.old to) }
     ensures owns { Owns f.now port.new × (port.new.rank ≡ port.old.rank) }
     ensures taken { SameTaken port.old port.new }
     ensures loose { port.new.loose ≡ port.old.loose }
-    ensures by_cell { result ≡ Ok Cell → knows port.new
-        ≡ with_put ((to, Some packet) ∷ []) (with_look false Fresh (with_heads false
+    ensures by_cell { result ≡ Some Cell → knows port.new
+        ≡ with_put ((to, Some packet.now) ∷ []) (with_look false Fresh (with_heads false
         (heads_of false (knows port.new)) (knows port.old))) }
-    ensures never_by_box { result ≢ Ok Box }
-    ensures sent { IfOk result (λ _. sent_by port.new
-        ≡ update (sent_by port.old) to (sent_by port.old to + 1)) }
-    ensures back { IfErr result (λ same. (same ≡ packet) × (sent_by port.new ≡ sent_by port.old)
+    ensures never_by_box { result ≢ Some Box }
+    ensures sent { IsSome result → sent_by port.new
+        ≡ update (sent_by port.old) to (sent_by port.old to + 1) }
+    ensures back { IfNone result ((sent_by port.new ≡ sent_by port.old)
         × HadMiss false (knows port.old) (knows port.new)) }
     ensures hands { port.new.hands ≡ port.old.hands }
     ensures holding { HoldSame port.old port.new }
@@ -48,40 +48,40 @@ fn send_by_cell<L: Ledger>(
 {
     let own = port.rank();
     let Some(cell) = take_cell(f, port, Queue::Free(own), steps) else {
-        return Err(packet);
+        return None;
     };
     put_in(f, port, &cell, packet);
     enqueue(f, port, Queue::Receive(to), cell, steps);
-    Ok(Path::Cell)
+    Some(Path::Cell)
 }
 
-/// Sends the next packet to a rank, in at most nine word steps: where it fits a box and the next
-/// one is free, by that box, and else by a cell of the own free queue.
+/// Sends the next packet to a rank, in at most nine word steps, and tells by which way: where it fits a
+/// box and the next one is free, by that box, and else by a cell of the own free queue.
 ///
-/// It is given back where neither could be: it doesn't fit a box or that one was full, and the own
-/// free queue had no cell to take.
+/// There is no way where neither could be: it doesn't fit a box or that one was full, and the own free
+/// queue had no cell to take.
 pub fn send<L: Ledger>(
     f: &Fabric,
     port: &mut Port,
     to: u8,
-    packet: Packet,
+    packet: &Packet,
     steps: &mut Steps<L>,
-) -> Result<Path, Packet>
+) -> Option<Path>
     requires owns { Owns f.now port.old }
     requires peer { to < f.now.ranks }
-    requires packet { (packet.from ≡ port.old.rank) × (packet.seq ≡ sent_by port.old to) }
+    requires packet { (packet.now.from ≡ port.old.rank) × (packet.now.seq ≡ sent_by port.old to) }
     ensures owns { Owns f.now port.new × (port.new.rank ≡ port.old.rank) }
     ensures taken { SameTaken port.old port.new }
     ensures loose { port.new.loose ≡ port.old.loose }
-    ensures by_box { result ≡ Ok Box → (length packet.payload ≤ MAX_BOX) × (knows port.new
-        ≡ with_put_box ((to, Some packet) ∷ []) (with_filling to false (knows port.old))) }
-    ensures by_cell { result ≡ Ok Cell → knows port.new
-        ≡ with_put ((to, Some packet) ∷ []) (with_look false Fresh (with_heads false
-        (heads_of false (knows port.new)) (tried (length packet.payload) to (knows port.old)))) }
-    ensures sent { IfOk result (λ _. sent_by port.new
-        ≡ update (sent_by port.old) to (sent_by port.old to + 1)) }
-    ensures back { IfErr result (λ same. (same ≡ packet) × (sent_by port.new ≡ sent_by port.old)
-        × HadMiss false (tried (length packet.payload) to (knows port.old)) (knows port.new)) }
+    ensures by_box { result ≡ Some Box → (length packet.now.payload ≤ MAX_BOX) × (knows port.new
+        ≡ with_put_box ((to, Some packet.now) ∷ []) (with_filling to false (knows port.old))) }
+    ensures by_cell { result ≡ Some Cell → knows port.new
+        ≡ with_put ((to, Some packet.now) ∷ []) (with_look false Fresh (with_heads false
+        (heads_of false (knows port.new)) (tried (length packet.now.payload) to (knows port.old)))) }
+    ensures sent { IsSome result → sent_by port.new
+        ≡ update (sent_by port.old) to (sent_by port.old to + 1) }
+    ensures back { IfNone result ((sent_by port.new ≡ sent_by port.old)
+        × HadMiss false (tried (length packet.now.payload) to (knows port.old)) (knows port.new)) }
     ensures hands { (port.new.hands ≤ port.old.hands)
         × (filling_of (knows port.old) to ≡ false → port.new.hands ≡ port.old.hands) }
     ensures holding { HoldSame port.old port.new }
@@ -90,8 +90,8 @@ pub fn send<L: Ledger>(
     if !packet.fits_box() {
         return send_by_cell(f, port, to, packet, steps);
     }
-    match put(f, port, to, packet, steps) {
-        Ok(()) => Ok(Path::Box),
-        Err(packet) => send_by_cell(f, port, to, packet, steps),
+    if put(f, port, to, packet, steps) {
+        return Some(Path::Box);
     }
+    send_by_cell(f, port, to, packet, steps)
 }

@@ -50,7 +50,7 @@ fn send_next<L: Ledger>(f: &Fabric, port: &mut Port, steps: &mut Steps<L>) -> Op
         return None;
     }
     let next = packet(0, port.sent(1));
-    send(f, port, 1, next, steps).ok()
+    send(f, port, 1, &next, steps)
 }
 
 // The number of the packet that rank 1 polls, where it has its bytes.
@@ -62,7 +62,10 @@ fn poll_next<L: Ledger>(f: &Fabric, port: &mut Port, steps: &mut Steps<L>) -> Op
     ensures rest { HoldsTheRest port.new }
     ensures bound { steps.new ≤ steps.old + 12 }
 {
-    let packet = poll(f, port, steps)?;
+    let mut packet = Packet::blank();
+    if !poll(f, port, &mut packet, steps) {
+        return None;
+    }
     if packet.payload.as_slice() == bytes_of(packet.seq).as_slice() {
         Some(packet.seq)
     } else {
@@ -78,7 +81,8 @@ fn hold_first<L: Ledger>(f: &Fabric, port: &mut Port, steps: &mut Steps<L>) -> O
     ensures rest { HoldsTheRest port.new }
 {
     let cell = dequeue(f, port, Queue::Receive(1), steps).ok()?;
-    let packet = take_out(f, port, &cell);
+    let mut packet = Packet::blank();
+    take_out(f, port, &cell, &mut packet);
     let owner = cell.owner();
     enqueue(f, port, Queue::Free(owner), cell, steps);
     let number = packet.seq;

@@ -1,1 +1,1 @@
-pub mod MoveLemmas
+mod MoveLemmas

@@ -1,5 +1,5 @@
 -- What stays of a port's conditions between the steps of a move.
-use Rattle.std.proofs.Common.{◌≡◌, ℕ, zero, suc, ◌+◌, Bool, true, false, List, [], ◌∷◌, set, sym, refl}
+use Rattle.std.proofs.Common.{◌≡◌, ℕ, suc, ◌+◌, Bool, true, false, [], ◌∷◌, sym, refl}
 use Rattle.std.proofs.Common.{ap, ◌∙◌, ◌<◌, subst}
 use Rattle.std.specs.Prelude.{slice_index_or}
 use Rattle.nm_seats.specs.Update.{update}
@@ -16,11 +16,6 @@ use Rattle.nm_cells.specs.declared.port.Fabric.{Fabric}
 use Rattle.nm_cells.specs.declared.cell.Queue as queues
 use Rattle.nm_cells.specs.declared.cell.Queue.TheVariants.{Receive, Free}
 use Rattle.nm_cells.specs.Ports.{MayJoin, sent_by}
-
-pub set_twice : {A : Type 0} (xs : List A) (k : ℕ) (a b : A) → set (set xs k a) k b ≡ set xs k b
-set_twice [] k a b = refl
-set_twice (x ∷ xs) zero a b = refl
-set_twice (x ∷ xs) (suc k) a b = ap (λ l. x ∷ l) (set_twice xs k a b)
 
 -- a cell may still join the queue where it holds the same and the port sent the same
 pub may_still : (f : Fabric) (p q : Port) (k : queues.Queue) (c : ℕ) (y z : Load) → q.rank ≡ p.rank

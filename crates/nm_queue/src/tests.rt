@@ -50,7 +50,7 @@ fn filled<L: Ledger>(f: &Fabric, port: &mut Port, to: u8, steps: &mut Steps<L>) 
     let own = port.rank();
     let next = packet(own, port.sent(to));
     let cell = dequeue(f, port, Queue::Free(own), steps).ok()?;
-    put_in(f, port, &cell, next);
+    put_in(f, port, &cell, &next);
     Some(cell)
 }
 
@@ -132,7 +132,8 @@ fn take_one<L: Ledger>(f: &Fabric, port: &mut Port, steps: &mut Steps<L>) -> Res
 {
     let own = port.rank();
     let cell = dequeue(f, port, Queue::Receive(own), steps)?;
-    let packet = take_out(f, port, &cell);
+    let mut packet = Packet::blank();
+    take_out(f, port, &cell, &mut packet);
     let in_order = pass_next(port, &packet);
     let owner = cell.owner();
     enqueue(f, port, Queue::Free(owner), cell, steps);
@@ -283,7 +284,7 @@ fn filled_loose(f: &Fabric, port: &mut Port, to: u8) -> Option<Cell>
     let own = port.rank();
     let next = packet(own, port.sent(to));
     let cell = port.loose()?;
-    put_in(f, port, &cell, next);
+    put_in(f, port, &cell, &next);
     Some(cell)
 }
 

@@ -2,7 +2,6 @@
 use Rattle.std.proofs.Common.{◌≡◌, ◌≢◌, ℕ, suc, ◌+◌, ◌*◌, ◌/◌, ◌<◌, ◌≤◌, None, List, [], ◌∷◌, ◌++◌}
 use Rattle.std.proofs.Common.{map, length, set, sym, refl, ap, ◌∙◌, subst, arith, get_or-set_other}
 use Rattle.std.proofs.Common.{append-nil, length-append, mul-le-mul_right, zero, div-mul-le_self}
-use Rattle.std.proofs.lemmas.Nat.{div-mul-add}
 use Rattle.std.proofs.lemmas.List.{map-append}
 use Rattle.std.specs.Prelude.{slice_index}
 use mathlib.Core.Option as maybe
@@ -22,6 +21,7 @@ use Rattle.nm_table.specs.Rule.{Load, Chain, World, put_to, sender, from, number
 use Rattle.nm_table.specs.Rule.{fetched, loads, box_slot, BoxesHold, AllInSequence, mark}
 use Rattle.nm_table.proofs.QueueLemmas.{from_append, put_append, loads_append, pick_yes, pick_no}
 use Rattle.nm_table.proofs.QueueLemmas.{below_yes, below_no, posted_here, posted_else}
+use Rattle.nm_seats.proofs.PairLemmas.{one_pair, pair_low as inside}
 
 pub marked : (y : Load) → 0 < mark y
 marked y = omega arith
@@ -33,16 +33,6 @@ owner_below n (suc each) c low =
     dite (dec_le n (c / suc each)) (λ far. let s : n * suc each ≤ c / suc each * suc each =
     mul-le-mul_right (suc each) far in let t = div-mul-le_self c (suc each) in absurd (omega arith))
     (λ near. omega arith)
-
--- the pair of a place
-pub one_pair : (n i j k l : ℕ) → j < n → l < n → i * n + j ≡ k * n + l → (i ≡ k) × (j ≡ l)
-one_pair n i j k l lj ll e = let same : i ≡ k = sym (div-mul-add i n j lj) ∙ ap (λ x. x / n) e
-    ∙ div-mul-add k n l ll in
-    (same, let e' : i * n + j ≡ i * n + l = e ∙ ap (λ x. x * n + l) (sym same) in omega arith)
-
-inside : (n i j : ℕ) → i < n → j < n → i * n + j < n * n
-inside n i j li lj = let s : suc i * n ≤ n * n = mul-le-mul_right n li in
-    let t : suc i * n ≡ i * n + n = omega arith in omega arith
 
 -- a box of the fabric lies behind its cells, and within the slots
 pub slot_low : (n each i j k : ℕ) → i < n → j < n → k < 4 → (n * each ≤ box_slot n each i j k)

@@ -82,7 +82,8 @@ module _ (key : Sizes) (slots id : ℕ) (e : Entry) (low : e.rank < key.ranks) (
         view (plays.with_box_full peer e ∷ []),
         keeps,
         tt,
-        rule.only key slots id e low peer few s R at i (plays.with_box_full peer e) (rule.full_known key slots id e low peer few s R at)
+        rule.only key slots id e low peer few s R at i (plays.with_box_full peer e)
+            (rule.full_known key slots id e low peer few s R at)
             (own_told key s R id e at low),
         (out_named s R at, ((λ z. absurd (some z)), (λ _. refl))),
       ))
@@ -108,7 +109,8 @@ module _ (key : Sizes) (slots id : ℕ) (e : Entry) (low : e.rank < key.ranks) (
       by_lid s R at c at_slot zeroed true is = let f = plays.with_filling peer true e in
           let new = rule.only key slots id e low peer few s R at (4 * n + out_slot) f
           (rule.filling_shown key slots id e low peer few s R at true R.world refl refl refl refl
-          refl refl refl (sym ((own key s R id e at low).filling peer few) ∙ is) (λ l ne. refl)) (own_told key s R id e at low) in (
+          refl refl refl (sym ((own key s R id e at low).filling peer few) ∙ is) (λ l ne. refl))
+          (own_told key s R id e at low) in (
             view (f ∷ []),
             keeps,
             tt,
@@ -161,7 +163,8 @@ module _ (key : Sizes) (slots id : ℕ) (e : Entry) (low : e.rank < key.ranks) (
         view (plays.with_box_miss peer e ∷ []),
         keeps,
         tt,
-        rule.only key slots id e low peer few s R at i (plays.with_box_miss peer e) (rule.miss_known key slots id e low peer few s R at)
+        rule.only key slots id e low peer few s R at i (plays.with_box_miss peer e)
+            (rule.miss_known key slots id e low peer few s R at)
             (own_told key s R id e at low),
         (
           in_named s R at,

@@ -534,7 +534,8 @@ module _ (key : Sizes) (slots id : ℕ) (e : Entry) (low : e.rank < key.ranks) (
           takes st.0.cell st.0.load,
           queues.at_home n key.cells w s.words s.homes R.laid e.rank q c fit mine shade,
           one_taken s R at st.0 [] 0 (set s.words (2 * n + q) 0)
-              (λ p _ ne. get_or-set_other s.words (2 * n + q) (2 * n + p) 0 0 (omega arith)) few (ap w.place st.3 ∙ st.4)
+              (λ p _ ne. get_or-set_other s.words (2 * n + q) (2 * n + p) 0 0 (omega arith)) few
+              (ap w.place st.3 ∙ st.4)
               (queues.drained n key.cells w s.words s.homes R.laid e.rank q c fit mine shade last)
               (queues.sole n key.cells w s.words s.homes R.laid e.rank q c fit mine shade last)
               (box_laws.keep_both n key.cells w s.words s.homes R.boxes

@@ -1,4 +1,5 @@
--- Where no rank has a cell in hand, each cell stands in a queue, and where nothing is left to receive, in its owner's free queue.
+-- Where no rank has a cell in hand, each cell stands in a queue, and where nothing is left to receive, in its
+-- owner's free queue.
 use Rattle.std.proofs.Common.{◌≡◌, ℕ, suc, ◌+◌, ◌-◌, ◌*◌, ◌/◌, ◌<◌, ◌≤◌, List, [], ◌∷◌, length, sym}
 use Rattle.std.proofs.Common.{refl, ap, ◌∙◌, subst, ⊎_elim, arith, mul-le-mul_right}
 use Rattle.std.proofs.lemmas.Nat.{div-mul-add}

@@ -1,4 +1,4 @@
-pub mod BoxApartLemmas
+mod BoxApartLemmas
 pub mod BoxLemmas
 pub mod BoxRuleLemmas
 pub mod BoxStepLemmas

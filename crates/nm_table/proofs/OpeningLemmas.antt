@@ -1,10 +1,10 @@
 -- The rule holds at the start.
 use Rattle.std.proofs.Common.{true, false, ◌≡◌, ◌≢◌, ℕ, zero, suc, ◌+◌, ◌*◌, ◌/◌, ◌%◌, ◌<◌}
 use Rattle.std.proofs.Common.{◌≤◌, ◌⊎◌, List, [], ◌∷◌, ◌++◌, length, map, replicate, sym, refl, ap}
-use Rattle.std.proofs.Common.{◌∙◌, inl, inr, subst, ⊎_elim, arith, Some, None}
+use Rattle.std.proofs.Common.{◌∙◌, subst, ⊎_elim, arith, Some, None}
 use Rattle.std.proofs.lemmas.Nat.{mod_below}
 use Rattle.std.proofs.lemmas.List.{length-replicate, get_or-replicate}
-use Rattle.std.specs.Prelude.{slice_get, slice_index_or}
+use Rattle.std.specs.Prelude.{slice_index_or}
 use mathlib.Core.Option as maybe
 use native.Mathlib.Decide.{ℕ_discrete, dec_le}
 use lib.ListN.{get_elem?}
@@ -20,9 +20,11 @@ use Rattle.nm_table.specs.declared.table.Hand.TheVariants.{Away, Loose}
 use Rattle.nm_table.specs.declared.table.Look.TheVariants.{Fresh, TailElsewhere}
 use Rattle.nm_table.specs.declared.table.Entry.{Entry}
 use Rattle.nm_table.specs.Rule.{Load, Place, no_heads, rank_of, World, Below, Agrees, NotOf, Shows}
-use Rattle.nm_table.specs.Rule.{pick, HasHome, Handed, QueuesHold, box_slot, BoxesHold}
+use Rattle.nm_table.specs.Rule.{HasHome, Handed, QueuesHold, box_slot, BoxesHold}
 use Rattle.nm_table.specs.Rule.{AllInSequence, Rule, beginner, beginners, first_hands, first_view}
 use Rattle.nm_table.specs.Rule.{Opens}
+use Rattle.nm_seats.specs.Update.{pick}
+use Rattle.nm_seats.proofs.ListLemmas.{at_replicate}
 
 false_true : false ≡ true → ⊥
 false_true e = cc
@@ -170,12 +172,6 @@ module _ (n each : ℕ) (words : List ℕ) (o : Opens n each words) where
     unfolding world
     turns i j li lj = turn_none
 
-at_replicate : {A : Type 0} (x : A) (k c : ℕ) → c < k → get_elem? (map maybe.some (replicate k x)) c
-    ≡ maybe.some (maybe.some x)
-at_replicate x zero c h = absurd (omega arith)
-at_replicate x (suc k) zero h = refl
-at_replicate x (suc k) (suc c) h = at_replicate x k c (omega arith)
-
 long_homes : {A : Type 0} (x : A) (k : ℕ) → length (map maybe.some (replicate k x)) ≡ k
 long_homes x zero = refl
 long_homes x (suc k) = ap suc (long_homes x k)
@@ -234,14 +230,6 @@ parted key id v e es is = subst (λ u. Splits (Rule key) id u (others_of u) (fir
       turns = R.turns;
       told = R.told;
     })
-
-pub get_snoc : {A : Type 0} (xs : List A) (x : A) (k : ℕ) (y : A)
-    → slice_get (xs ++ x ∷ []) k ≡ Some y → (slice_get xs k ≡ Some y) ⊎ ((k ≡ length xs) × (x ≡ y))
-get_snoc [] x zero y e = inr (refl, cc)
-get_snoc [] x (suc k) y e = inl e
-get_snoc (z ∷ zs) x zero y e = inl e
-get_snoc (z ∷ zs) x (suc k) y e = ⊎_elim (λ t. inl t) (λ t. inr (ap suc t.0, t.1))
-    (get_snoc zs x k y e)
 
 -- the same by the numbers that the program has
 pub starts : (key : Sizes) (words : List ℕ) (n each : ℕ) → n ≡ key.ranks → each ≡ key.cells

@@ -16,9 +16,10 @@ use Rattle.nm_chain.proofs.ChainLemmas.{next_is, chain_elsewhere, tail_swapped, 
 use Rattle.nm_chain.proofs.ChainLemmas.{head_stored, head_cleared, first_cell, first_taken}
 use Rattle.nm_chain.proofs.ChainLemmas.{tail_dropped}
 use Rattle.nm_table.specs.declared.table.Heads.{Heads}
-use Rattle.nm_table.specs.Rule.{Load, Place, Chain, World, pick, if_below, put_to, sender, from}
+use Rattle.nm_table.specs.Rule.{Load, Place, Chain, World, if_below, put_to, sender, from}
 use Rattle.nm_table.specs.Rule.{posted, fetched, loads, head, tail, link, HasHome, IsOut, Suits}
 use Rattle.nm_table.specs.Rule.{Fits, Handed, Queue, QueuesHold}
+use Rattle.nm_seats.specs.Update.{pick}
 
 in_one : (q p : ℕ) (a : Place) → IsIn q a → IsIn p a → q ≡ p
 in_one q p (loose r) h k = absurd h

@@ -1,3 +1,4 @@
+pub mod Slots
 pub mod Looks
 pub mod NextBox
 pub mod Plays

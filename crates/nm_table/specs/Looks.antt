@@ -35,6 +35,7 @@ IsLinkEmpty Fresh = ⊥
 IsLinkEmpty (LinkEmpty k) = Unit {0}
 IsLinkEmpty TailElsewhere = ⊥
 
--- what was told of a queue with this shadow head and tail is still so: a tail found elsewhere is another cell than the first
+-- what was told of a queue with this shadow head and tail is still so: a tail found elsewhere is another cell than
+-- the first
 abbrev pub StillTold : Look → ℕ → ℕ → Type 0
 StillTold l shadow tail = l ≡ TailElsewhere → (0 < shadow) × (tail ≢ shadow)

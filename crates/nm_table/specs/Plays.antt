@@ -20,6 +20,7 @@ use Rattle.nm_table.specs.NextBox.{BoxesApart, next_box}
 use Rattle.nm_table.specs.declared.table.Look.{Look}
 use Rattle.nm_table.specs.declared.table.Look.TheVariants.{Fresh, LinkEmpty, TailElsewhere}
 use Rattle.nm_table.specs.Looks.{no_looks, other, set_look, look_in, link_empty}
+use Rattle.nm_seats.specs.Update.{pick}
 
 -- what a seat knows: its view, and the slots that it has taken with what they hold
 abbrev pub Knowing : Type 0
@@ -64,11 +65,6 @@ Alone me = me.0 ≡ view (mine me ∷ [])
 abbrev pub first_load : List (ℕ × Load) → Load
 first_load [] = None
 first_load (x ∷ xs) = x.1
-
--- y where the two numbers are equal, and else z
-abbrev pub pick : {A : Type 0} {k j : ℕ} → Dec (j ≡ k) → A → A → A
-pick (yes _) y z = y
-pick (no _) y z = z
 
 -- what is in the slot c, of those taken
 abbrev pub load_in : ℕ → List (ℕ × Load) → Load
@@ -273,7 +269,8 @@ abbrev pub reloaded : Bool → Step Load → Knowing → ℕ → Knowing → Typ
 reloaded b s me found after =
     passed_or (λ e. with_look b (LinkEmpty 0) (with_missed b link_miss e)) b s me found after
 
--- the tail was exchanged for 0 where it was the shadow head, whose cell is then in hand. Else the step told that it is elsewhere
+-- the tail was exchanged for 0 where it was the shadow head, whose cell is then in hand. Else the step told that it
+-- is elsewhere
 abbrev pub drained : Bool → Step Load → Knowing → ℕ → Knowing → Type 0
 drained b s me found after = IsTail b (mine me) s.word × (s.first ≡ (heads_of b (mine me)).shadow)
     × (found ≢ s.first
@@ -364,7 +361,8 @@ Begun i a c me after = let y = box_load i (mine after) in (emptying_of (mine aft
       begun (emptying_of (mine me) i) c y me.1,
     )) × BoxesApart (mine after) × ((z : Load) → emptying_of (mine me) i ≡ Some z → z ≡ y)
 
--- the box is the rank's to empty where the flag of the next box of the rank i had the awaited number a. Where that is overdue it is there
+-- the box is the rank's to empty where the flag of the next box of the rank i had the awaited number a. Where that
+-- is overdue it is there
 abbrev pub told_in : ℕ → ℕ → Step Load → Knowing → ℕ → Knowing → Type 0
 told_in i a s me found after = (found ≡ suc a → Begun i a (s.word - 4 * (mine me).ranks) me after)
     × (found ≢ suc a → after ≡ (view (with_box_miss i (mine me) ∷ []), me.1))

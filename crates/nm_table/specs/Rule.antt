@@ -1,5 +1,6 @@
 -- The rule of the fabric.
--- Of n ranks, the receive queue of the rank r is the queue r, and its free queue is the queue n + r. The words are the heads of all queues, their tails, the links of all cells, and the flags of all boxes.
+-- Of n ranks, the receive queue of the rank r is the queue r, and its free queue is the queue n + r. The words are
+-- the heads of all queues, their tails, the links of all cells, and the flags of all boxes.
 use Rattle.std.specs.Prelude.{Bool, false, map, ◌≡◌, ◌≢◌, ℕ, zero, suc, ◌+◌, ◌*◌, ◌/◌}
 use Rattle.std.specs.Prelude.{◌<◌, ◌≤◌, List, [], ◌∷◌, ◌++◌, length, slice_index, slice_index_or}
 use Rattle.std.specs.Prelude.{Option, Some, None, replicate}
@@ -21,6 +22,7 @@ use Rattle.nm_table.specs.declared.table.Heads.{Heads}
 use Rattle.nm_table.specs.declared.table.Misses.{Misses}
 use Rattle.nm_table.specs.declared.table.Entry.{Entry}
 use Rattle.nm_table.specs.Looks.{StillTold, no_looks}
+use Rattle.nm_seats.specs.Update.{pick}
 
 -- what a slot holds: a packet, or nothing
 abbrev pub Load : Type 0
@@ -59,7 +61,8 @@ abbrev pub emptying_of : Entry → ℕ → Option Load
 emptying_of e i = slice_index_or e.emptying i None
 
 -- All that is true of the fabric at a moment, beside the words and slots.
--- It is where each cell is, the chain of each queue, what its consumer knows, what each rank put and got by cell and by box, and for each ordered pair what waits in its boxes and who is at work on one
+-- It is where each cell is, the chain of each queue, what its consumer knows, what each rank put and got by cell and
+-- by box, and for each ordered pair what waits in its boxes and who is at work on one
 pub record World : Type 0 where
   pub place : ℕ → Place
   pub chain : ℕ → Chain
@@ -113,11 +116,6 @@ pub record Agrees (n each : ℕ) (w : World) (r : ℕ) (e : Entry) : Type 0 wher
   pub ins : length e.emptying ≡ n
   pub filling : (j : ℕ) → j < n → filling_of e j ≡ w.filling r j
   pub emptying : (i : ℕ) → i < n → emptying_of e i ≡ w.emptying i r
-
--- y where the two numbers are equal, and else z
-abbrev pub pick : {A : Type 0} {k j : ℕ} → Dec (j ≡ k) → A → A → A
-pick (yes _) y z = y
-pick (no _) y z = z
 
 -- what was put for the rank j
 abbrev pub put_to : ℕ → List (ℕ × Load) → List Load

@@ -3,16 +3,16 @@
 
 ghost use Rattle.std.specs.Prelude.{ℕ};
 
+use crate::slots::Slot;
 use crate::table::Entry;
 use atomic_table::Play;
 use nm_seats::View;
-use nm_types::Packet;
 use std::marker::{Brand, PhantomData};
 
 /// Loads the head of an own queue.
 pub struct LoadsHead<const B: bool>;
 
-impl<const B: bool> Play<Option<Packet>, View<Entry>> for LoadsHead<B> {
+impl<const B: bool> Play<Slot, View<Entry>> for LoadsHead<B> {
     ghost use Rattle.nm_table.specs.Plays.{loaded_head};
 
     ghost then = { loaded_head B };
@@ -21,7 +21,7 @@ impl<const B: bool> Play<Option<Packet>, View<Entry>> for LoadsHead<B> {
 /// Stores 0 in the head of an own queue.
 pub struct ClearsHead<const B: bool>;
 
-impl<const B: bool> Play<Option<Packet>, View<Entry>> for ClearsHead<B> {
+impl<const B: bool> Play<Slot, View<Entry>> for ClearsHead<B> {
     ghost use Rattle.nm_table.specs.Plays.{cleared_head};
 
     ghost then = { cleared_head B };
@@ -30,7 +30,7 @@ impl<const B: bool> Play<Option<Packet>, View<Entry>> for ClearsHead<B> {
 /// Loads the link of the first cell of an own queue.
 pub struct Passes<const B: bool>;
 
-impl<const B: bool> Play<Option<Packet>, View<Entry>> for Passes<B> {
+impl<const B: bool> Play<Slot, View<Entry>> for Passes<B> {
     ghost use Rattle.nm_table.specs.Plays.{passed};
 
     ghost then = { passed B };
@@ -39,7 +39,7 @@ impl<const B: bool> Play<Option<Packet>, View<Entry>> for Passes<B> {
 /// Loads that link once more.
 pub struct Reloads<const B: bool>;
 
-impl<const B: bool> Play<Option<Packet>, View<Entry>> for Reloads<B> {
+impl<const B: bool> Play<Slot, View<Entry>> for Reloads<B> {
     ghost use Rattle.nm_table.specs.Plays.{reloaded};
 
     ghost then = { reloaded B };
@@ -48,7 +48,7 @@ impl<const B: bool> Play<Option<Packet>, View<Entry>> for Reloads<B> {
 /// Exchanges the tail of an own queue for 0 where it is the first cell.
 pub struct Drains<const B: bool>;
 
-impl<const B: bool> Play<Option<Packet>, View<Entry>> for Drains<B> {
+impl<const B: bool> Play<Slot, View<Entry>> for Drains<B> {
     ghost use Rattle.nm_table.specs.Plays.{drained};
 
     ghost then = { drained B };
@@ -57,7 +57,7 @@ impl<const B: bool> Play<Option<Packet>, View<Entry>> for Drains<B> {
 /// Stores 0 in the link of a cell in hand.
 pub struct Clears;
 
-impl Play<Option<Packet>, View<Entry>> for Clears {
+impl Play<Slot, View<Entry>> for Clears {
     ghost use Rattle.nm_table.specs.Plays.{cleared};
 
     ghost then = { cleared };
@@ -66,7 +66,7 @@ impl Play<Option<Packet>, View<Entry>> for Clears {
 /// Exchanges the tail of a queue for a cell in hand.
 pub struct Swaps;
 
-impl Play<Option<Packet>, View<Entry>> for Swaps {
+impl Play<Slot, View<Entry>> for Swaps {
     ghost use Rattle.nm_table.specs.Plays.{swapped};
 
     ghost then = { swapped };
@@ -75,7 +75,7 @@ impl Play<Option<Packet>, View<Entry>> for Swaps {
 /// Stores the head of a queue, or the link of the cell that was its tail.
 pub struct Finishes;
 
-impl Play<Option<Packet>, View<Entry>> for Finishes {
+impl Play<Slot, View<Entry>> for Finishes {
     ghost use Rattle.nm_table.specs.Plays.{finished};
 
     ghost then = { finished };
@@ -84,7 +84,7 @@ impl Play<Option<Packet>, View<Entry>> for Finishes {
 /// Loads the link of an own cell that no call has touched, to take its slot.
 pub struct Picks;
 
-impl Play<Option<Packet>, View<Entry>> for Picks {
+impl Play<Slot, View<Entry>> for Picks {
     ghost use Rattle.nm_table.specs.Plays.{picked};
 
     ghost then = { picked };
@@ -108,7 +108,7 @@ pub struct LooksOut<T> {
     told: PhantomData<T>,
 }
 
-impl<T: Told> Play<Option<Packet>, View<Entry>> for LooksOut<T> {
+impl<T: Told> Play<Slot, View<Entry>> for LooksOut<T> {
     ghost use Rattle.nm_table.specs.Plays.{looked_out};
 
     ghost then = { looked_out T.peer };
@@ -119,7 +119,7 @@ pub struct LooksIn<T> {
     told: PhantomData<T>,
 }
 
-impl<T: Told> Play<Option<Packet>, View<Entry>> for LooksIn<T> {
+impl<T: Told> Play<Slot, View<Entry>> for LooksIn<T> {
     ghost use Rattle.nm_table.specs.Plays.{looked_in};
 
     ghost then = { looked_in T.peer T.awaited };
@@ -130,7 +130,7 @@ pub struct Fills<T> {
     told: PhantomData<T>,
 }
 
-impl<T: Told> Play<Option<Packet>, View<Entry>> for Fills<T> {
+impl<T: Told> Play<Slot, View<Entry>> for Fills<T> {
     ghost use Rattle.nm_table.specs.Plays.{boxed};
 
     ghost then = { boxed T.peer };
@@ -141,7 +141,7 @@ pub struct Vacates<T> {
     told: PhantomData<T>,
 }
 
-impl<T: Told> Play<Option<Packet>, View<Entry>> for Vacates<T> {
+impl<T: Told> Play<Slot, View<Entry>> for Vacates<T> {
     ghost use Rattle.nm_table.specs.Plays.{unboxed};
 
     ghost then = { unboxed T.peer };

@@ -20,6 +20,7 @@
 #![tactic(auto)]
 
 mod kinds;
+mod slots;
 mod table;
 mod words;
 
@@ -27,5 +28,6 @@ pub use kinds::{
     Clears, ClearsHead, Drains, Fills, Finishes, LoadsHead, LooksIn, LooksOut, Passes, Picks,
     Reloads, Swaps, Told, Vacates,
 };
+pub use slots::Slot;
 pub use table::{Board, Entry, Hand, Heads, Linked, Look, Looks, Misses, Place, one_more};
 pub use words::{flag_word, head_word, link_word, tail_word};

@@ -3,6 +3,7 @@
 ghost use Rattle.std.specs.Prelude.{◌≡◌};
 ghost use Rattle.nm_table.specs.Plays.{raised, head_miss, link_miss};
 
+use crate::slots::Slot;
 use atomic_table::{Seat, Table, TableRule};
 use nm_seats::View;
 use nm_types::{Packet, Shape};
@@ -124,7 +125,7 @@ pub struct Entry {
 
 pub struct Linked;
 
-impl TableRule<Option<Packet>, View<Entry>, Shape> for Linked {
+impl TableRule<Slot, View<Entry>, Shape> for Linked {
     ghost use Rattle.nm_table.specs.Rule.{Rule, first_view};
 
     ghost holds = { Rule };
@@ -132,6 +133,6 @@ impl TableRule<Option<Packet>, View<Entry>, Shape> for Linked {
     ghost first = { first_view };
 }
 
-pub type Board = Table<Option<Packet>, View<Entry>, Shape, Linked, Global>;
+pub type Board = Table<Slot, View<Entry>, Shape, Linked, Global>;
 
-pub type Place = Seat<Option<Packet>, View<Entry>>;
+pub type Place = Seat<Slot, View<Entry>>;

@@ -1,20 +1,17 @@
 -- The commands of a rank, and their lines.
 use Rattle.std.proofs.Common.{◌≡◌, ℕ, ◌+◌, ◌≤◌, ◌==◌, zero, suc, Bool, true, false, cond, Some, List, [], ◌∷◌}
-use Rattle.std.proofs.Common.{refl, sym, ◌∙◌, ap, subst, arith}
-use Rattle.std.specs.Prelude.{option_map}
+use Rattle.std.proofs.Common.{refl, ◌∙◌, subst, arith}
 use Rattle.std.specs.List.{find, slice_get}
 use Rattle.std.proofs.lemmas.Bool.Decides.{nat_tests}
 use Rattle.nm_types.specs.declared.scripts.Line.{Line}
 use Rattle.nm_types.specs.Commands.{Numbered, command_at, commands_from, commands_of}
+use Rattle.nm_facts.proofs.Numbers.{eq_later}
 
 abbrev numbered : ℕ → Line → Numbered
 numbered number l = record { line = number; command = l.command }
 
 itself : (n : ℕ) → (n == n) ≡ true
 itself n = grind (arith, nat_tests)
-
-later_line : (number line : ℕ) → number + 1 ≤ line → (number == line) ≡ false
-later_line number line later = grind (arith, nat_tests)
 
 at_own : (number k : ℕ) (x : Numbered) (rest : List Numbered) (c : Numbered) → x.line ≡ number →
     ((j : ℕ) → slice_get rest j ≡ Some c → (number + 1 ≤ c.line) × (find (λ d. d.line == c.line) rest ≡ Some c)) →
@@ -26,7 +23,7 @@ at_own number zero x rest c is later here =
     (omega (arith, is), rw (itself x.line) refl)
 at_own number (suc k) x rest c is later here =
     let more = later k here in
-    (omega (arith, more.0), rw (is, later_line number c.line more.0) more.1)
+    (omega (arith, more.0), rw (is, eq_later number c.line more.0) more.1)
 
 own_line : (rank number : ℕ) (lines : List Line) (k : ℕ) (c : Numbered) →
     slice_get (commands_from rank number lines) k ≡ Some c →
@@ -36,12 +33,15 @@ own_line rank number (l ∷ lines) k c here =
     by_rank (l.rank == rank) here (own_line rank (number + 1) lines)
   where
     by_rank : (b : Bool) →
-        slice_get (cond b (numbered number l ∷ commands_from rank (number + 1) lines) (commands_from rank (number + 1) lines)) k ≡ Some c →
+        slice_get (cond b (numbered number l ∷ commands_from rank (number + 1) lines)
+        (commands_from rank (number + 1) lines)) k ≡ Some c →
         ((j : ℕ) (c : Numbered) → slice_get (commands_from rank (number + 1) lines) j ≡ Some c →
         (number + 1 ≤ c.line) × (find (λ d. d.line == c.line) (commands_from rank (number + 1) lines) ≡ Some c)) →
         (number ≤ c.line) × (find (λ d. d.line == c.line)
-        (cond b (numbered number l ∷ commands_from rank (number + 1) lines) (commands_from rank (number + 1) lines)) ≡ Some c)
-    by_rank true here later = at_own number k (numbered number l) (commands_from rank (number + 1) lines) c refl (λ j found. later j c found) here
+        (cond b (numbered number l ∷ commands_from rank (number + 1) lines) (commands_from rank (number + 1) lines))
+        ≡ Some c)
+    by_rank true here later = at_own number k (numbered number l) (commands_from rank (number + 1) lines) c refl
+        (λ j found. later j c found) here
     by_rank false here later = let more = later k c here in (omega (arith, more.0), more.1)
 
 pub own : (rank : ℕ) (lines : List Line) (k : ℕ) (c : Numbered) → slice_get (commands_of rank lines) k ≡ Some c →
@@ -58,12 +58,13 @@ found_at rank number zero (x ∷ lines) l here mine =
     rw (same, own, sum, itself number) refl
 found_at rank number (suc k) (x ∷ lines) l here mine =
     let sum : (number + 1) + k ≡ number + suc k = omega arith in
-    let other : (number == number + suc k) ≡ false = later_line number (number + suc k) (omega arith) in
+    let other : (number == number + suc k) ≡ false = eq_later number (number + suc k) (omega arith) in
     by_rank (x.rank == rank) other (subst (λ (m : ℕ). find (λ d. d.line == m) (commands_from rank (number + 1) lines)
     ≡ Some (numbered m l)) sum (found_at rank (number + 1) k lines l here mine))
   where
     by_rank : (b : Bool) → (number == number + suc k) ≡ false →
-        find (λ d. d.line == number + suc k) (commands_from rank (number + 1) lines) ≡ Some (numbered (number + suc k) l) →
+        find (λ d. d.line == number + suc k) (commands_from rank (number + 1) lines) ≡ Some
+        (numbered (number + suc k) l) →
         find (λ d. d.line == number + suc k)
         (cond b (numbered number x ∷ commands_from rank (number + 1) lines) (commands_from rank (number + 1) lines))
         ≡ Some (numbered (number + suc k) l)

@@ -55,14 +55,14 @@ store-requires g c =
     let none : Load = None in
     let me : plays.Knowing = (q.seat.me.0, (slot, none) ∷ rest q.seat.me.1) in
     let all = subst (plays.AllBelow (knows q) j) (sym next) (calls.all_below f q o₂ j few) in (
-      c.exchange-old.ensures.0 ∙ b.seat.0 ∙ o.0,
+      c.empty_slot.ensures.seat.0 ∙ b.seat.0 ∙ o.0,
       inside,
-      subst (λ m. Allows (Rule f.board.shared.key) id.slots c.exchange-old.new.seat.id m word
+      subst (λ m. Allows (Rule f.board.shared.key) id.slots c.empty_slot.new.seat.id m word
           (λ _. 0) (plays.unboxed g.T.Told.peer (step id.slots word 0 0 maybe.none) m))
-          (sym c.exchange-old.ensures.3)
-          (subst (λ t. Allows (Rule f.board.shared.key) id.slots c.exchange-old.new.seat.id me word
+          (sym c.empty_slot.ensures.emptied)
+          (subst (λ t. Allows (Rule f.board.shared.key) id.slots c.empty_slot.new.seat.id me word
           (λ _. 0) (plays.unboxed t (step id.slots word 0 0 maybe.none) me)) c.requires.told
-          (empty_allowed f.board.shared.key f.ranks f.each id.slots c.exchange-old.new.seat.id me
+          (empty_allowed f.board.shared.key f.ranks f.each id.slots c.empty_slot.new.seat.id me
           q.alone f.shape.0 f.shape.1 p.rank (q.named ∙ b.same.0) o.1 j few c.peer.result.box_got
           word y (rest q.seat.me.1) (ap (λ t. (t, none) ∷ rest q.seat.me.1)
           c.box_at-slot.ensures.at)
@@ -121,8 +121,8 @@ count_unboxed-requires-clause-box_room g c =
     in let slot = c.box_at-slot.result in let w = plays.load_in slot p.seat.me.1 in
     (calls.got_room f q o₂ j few y next).1
 
-pub unwrap-requires : goal.unwrap-requires
-unwrap-requires g c =
+pub empty_slot-requires-clause-full : goal.empty_slot-requires-clause-full
+empty_slot-requires-clause-full g c =
     let f = c.args.f.now in let p = c.args.port.now in let o = c.requires.owns in
     let few = c.requires.peer in let j = c.args.sender in let k = c.requires.taking in
     let place = ap (λ (u : Peer). u.box_got) c.peer.ensures ∙ peer_box_got p j
@@ -130,8 +130,8 @@ unwrap-requires g c =
     let at = c.box_at-slot.ensures.at ∙ calls.in_slot_is f p o j few c.peer.result.box_got place in
     let y : Load = plays.box_load j (knows p) in
     let there = calls.box_there f p o j few false c.box_at-slot.result at y k.0 in
-    let same = ap plays.first_load (sym c.exchange-old.ensures.2 ∙ c.bring_slot.ensures.front)
-    ∙ there.1 in subst IsSome (sym same) (some_one y j k.2)
+    let same = ap plays.first_load c.bring_slot.ensures.front ∙ there.1 in
+    subst IsSome (sym same) (some_one y j k.2)
 
 pub invariant_of-port-clause-carries : goal.invariant_of-port-clause-carries
 invariant_of-port-clause-carries g c =
@@ -148,21 +148,22 @@ invariant_of-port-clause-carries g c =
     let was = ap (λ u. emptying_of (sole u.entries) j) v ∙ k.0 in
     let next : number y ≡ taken_by q j = k.1 ∙ ap (λ ps. (peer_in ps.items j).taken) (sym b.same.1)
     in let slot = c.box_at-slot.result in let w = plays.load_in slot p.seat.me.1 in
-    let then = subst (λ t. plays.got_boxed t c.exchange-old.new.seat.me c.store.new.seat.me)
+    let then = subst (λ t. plays.got_boxed t c.empty_slot.new.seat.me c.store.new.seat.me)
     (sym c.requires.told) c.store.ensures.2.1 in
-    let load : plays.box_load j (mine c.exchange-old.new.seat.me) ≡ y =
-    ap (λ m. plays.box_load j (mine m)) c.exchange-old.ensures.3
+    let load : plays.box_load j (mine c.empty_slot.new.seat.me) ≡ y =
+    ap (λ m. plays.box_load j (mine m)) c.empty_slot.ensures.emptied
     ∙ ap (λ u. plays.box_load j (sole u.entries)) v in
     let is = then.0 ∙ (λ i. (
       view (plays.with_got_box (load i ∷ [])
-          (plays.with_emptying j None (mine (c.exchange-old.ensures.3 i))) ∷ []),
-      rest (c.exchange-old.ensures.3 i).1,
+          (plays.with_emptying j None (mine (c.empty_slot.ensures.emptied i))) ∷ []),
+      rest (c.empty_slot.ensures.emptied i).1,
     )) in
     let new = subst (λ (m : plays.Knowing). ¬ plays.Came (mine m) j (number y))
-    c.exchange-old.ensures.3
-    (subst (λ u. ¬ plays.Came (mine c.exchange-old.new.seat.me) j (number u)) load then.1) in
+    c.empty_slot.ensures.emptied
+    (subst (λ u. ¬ plays.Came (mine c.empty_slot.new.seat.me) j (number u)) load then.1) in
     let some = calls.emptied_hands f q o₂ j few c.store.new.seat.me slot w b.front y at₂ was is in
-    calls.emptied_carries f q o₂ j few c.store.new.seat.me slot w b.front y at₂ was is c.remove.new.self.items (vec_capacity c.remove.new.self)
+    calls.emptied_carries f q o₂ j few c.store.new.seat.me slot w b.front y at₂ was is c.remove.new.self.items
+    (vec_capacity c.remove.new.self)
     (q.hands - 1) c.remove.ensures.items c.remove.ensures.capacity
     (let z : (q.hands - 1) + 1 ≡ q.hands = omega arith in z)
 
@@ -181,19 +182,19 @@ invariant_of-port-clause-boxes g c =
     let was = ap (λ u. emptying_of (sole u.entries) j) v ∙ k.0 in
     let next : number y ≡ taken_by q j = k.1 ∙ ap (λ ps. (peer_in ps.items j).taken) (sym b.same.1)
     in let slot = c.box_at-slot.result in let w = plays.load_in slot p.seat.me.1 in
-    let then = subst (λ t. plays.got_boxed t c.exchange-old.new.seat.me c.store.new.seat.me)
+    let then = subst (λ t. plays.got_boxed t c.empty_slot.new.seat.me c.store.new.seat.me)
     (sym c.requires.told) c.store.ensures.2.1 in
-    let load : plays.box_load j (mine c.exchange-old.new.seat.me) ≡ y =
-    ap (λ m. plays.box_load j (mine m)) c.exchange-old.ensures.3
+    let load : plays.box_load j (mine c.empty_slot.new.seat.me) ≡ y =
+    ap (λ m. plays.box_load j (mine m)) c.empty_slot.ensures.emptied
     ∙ ap (λ u. plays.box_load j (sole u.entries)) v in
     let is = then.0 ∙ (λ i. (
       view (plays.with_got_box (load i ∷ [])
-          (plays.with_emptying j None (mine (c.exchange-old.ensures.3 i))) ∷ []),
-      rest (c.exchange-old.ensures.3 i).1,
+          (plays.with_emptying j None (mine (c.empty_slot.ensures.emptied i))) ∷ []),
+      rest (c.empty_slot.ensures.emptied i).1,
     )) in
     let new = subst (λ (m : plays.Knowing). ¬ plays.Came (mine m) j (number y))
-    c.exchange-old.ensures.3
-    (subst (λ u. ¬ plays.Came (mine c.exchange-old.new.seat.me) j (number u)) load then.1) in
+    c.empty_slot.ensures.emptied
+    (subst (λ u. ¬ plays.Came (mine c.empty_slot.new.seat.me) j (number u)) load then.1) in
     calls.emptied_boxes f q o₂ j few c.store.new.seat.me slot w b.front y at₂ was is k.2
 
 pub invariant_of-port-clause-counts : goal.invariant_of-port-clause-counts
@@ -211,20 +212,21 @@ invariant_of-port-clause-counts g c =
     let was = ap (λ u. emptying_of (sole u.entries) j) v ∙ k.0 in
     let next : number y ≡ taken_by q j = k.1 ∙ ap (λ ps. (peer_in ps.items j).taken) (sym b.same.1)
     in let slot = c.box_at-slot.result in let w = plays.load_in slot p.seat.me.1 in
-    let then = subst (λ t. plays.got_boxed t c.exchange-old.new.seat.me c.store.new.seat.me)
+    let then = subst (λ t. plays.got_boxed t c.empty_slot.new.seat.me c.store.new.seat.me)
     (sym c.requires.told) c.store.ensures.2.1 in
-    let load : plays.box_load j (mine c.exchange-old.new.seat.me) ≡ y =
-    ap (λ m. plays.box_load j (mine m)) c.exchange-old.ensures.3
+    let load : plays.box_load j (mine c.empty_slot.new.seat.me) ≡ y =
+    ap (λ m. plays.box_load j (mine m)) c.empty_slot.ensures.emptied
     ∙ ap (λ u. plays.box_load j (sole u.entries)) v in
     let is = then.0 ∙ (λ i. (
       view (plays.with_got_box (load i ∷ [])
-          (plays.with_emptying j None (mine (c.exchange-old.ensures.3 i))) ∷ []),
-      rest (c.exchange-old.ensures.3 i).1,
+          (plays.with_emptying j None (mine (c.empty_slot.ensures.emptied i))) ∷ []),
+      rest (c.empty_slot.ensures.emptied i).1,
     )) in
     let new = subst (λ (m : plays.Knowing). ¬ plays.Came (mine m) j (number y))
-    c.exchange-old.ensures.3
-    (subst (λ u. ¬ plays.Came (mine c.exchange-old.new.seat.me) j (number u)) load then.1) in
-    calls.emptied_counts f q o₂ j few c.store.new.seat.me slot w b.front y at₂ was is k.2 next new c.count_unboxed.new.peers.items c.count_unboxed.ensures
+    c.empty_slot.ensures.emptied
+    (subst (λ u. ¬ plays.Came (mine c.empty_slot.new.seat.me) j (number u)) load then.1) in
+    calls.emptied_counts f q o₂ j few c.store.new.seat.me slot w b.front y at₂ was is k.2 next new
+    c.count_unboxed.new.peers.items c.count_unboxed.ensures
 
 pub returns-clause-owns : goal.returns-clause-owns
 returns-clause-owns g c =
@@ -241,20 +243,20 @@ returns-clause-owns g c =
     let was = ap (λ u. emptying_of (sole u.entries) j) v ∙ k.0 in
     let next : number y ≡ taken_by q j = k.1 ∙ ap (λ ps. (peer_in ps.items j).taken) (sym b.same.1)
     in let slot = c.box_at-slot.result in let w = plays.load_in slot p.seat.me.1 in
-    let then = subst (λ t. plays.got_boxed t c.exchange-old.new.seat.me c.store.new.seat.me)
+    let then = subst (λ t. plays.got_boxed t c.empty_slot.new.seat.me c.store.new.seat.me)
     (sym c.requires.told) c.store.ensures.2.1 in
-    let load : plays.box_load j (mine c.exchange-old.new.seat.me) ≡ y =
-    ap (λ m. plays.box_load j (mine m)) c.exchange-old.ensures.3
+    let load : plays.box_load j (mine c.empty_slot.new.seat.me) ≡ y =
+    ap (λ m. plays.box_load j (mine m)) c.empty_slot.ensures.emptied
     ∙ ap (λ u. plays.box_load j (sole u.entries)) v in
     let is = then.0 ∙ (λ i. (
       view (plays.with_got_box (load i ∷ [])
-          (plays.with_emptying j None (mine (c.exchange-old.ensures.3 i))) ∷ []),
-      rest (c.exchange-old.ensures.3 i).1,
+          (plays.with_emptying j None (mine (c.empty_slot.ensures.emptied i))) ∷ []),
+      rest (c.empty_slot.ensures.emptied i).1,
     )) in
     let new = subst (λ (m : plays.Knowing). ¬ plays.Came (mine m) j (number y))
-    c.exchange-old.ensures.3
-    (subst (λ u. ¬ plays.Came (mine c.exchange-old.new.seat.me) j (number u)) load then.1) in (
-      calls.owns_then f q o₂ j few (c.store.ensures.0 ∙ c.exchange-old.ensures.0 ∙ b.seat.0 ∙ o.0)
+    c.empty_slot.ensures.emptied
+    (subst (λ u. ¬ plays.Came (mine c.empty_slot.new.seat.me) j (number u)) load then.1) in (
+      calls.owns_then f q o₂ j few (c.store.ensures.0 ∙ c.empty_slot.ensures.seat.0 ∙ b.seat.0 ∙ o.0)
           c.store.new.seat.me
           (ap (λ m. (mine m).ranks) is) (ap (λ m. (mine m).each) is)
           (ap (λ m. length (mine m).hands) is)
@@ -273,8 +275,8 @@ returns-clause-packet g c =
     let at = c.box_at-slot.ensures.at ∙ calls.in_slot_is f p o j few c.peer.result.box_got place in
     let y : Load = plays.box_load j (knows p) in
     let there = calls.box_there f p o j few false c.box_at-slot.result at y k.0 in
-    let same = ap plays.first_load (sym c.exchange-old.ensures.2 ∙ c.bring_slot.ensures.front)
-    ∙ there.1 in sym c.unwrap.ensures ∙ same
+    let same = ap plays.first_load (sym c.empty_slot.ensures.packet ∙ c.bring_slot.ensures.front)
+    ∙ there.1 in same
 
 pub returns-clause-got : goal.returns-clause-got
 returns-clause-got g c =
@@ -291,21 +293,21 @@ returns-clause-got g c =
     let was = ap (λ u. emptying_of (sole u.entries) j) v ∙ k.0 in
     let next : number y ≡ taken_by q j = k.1 ∙ ap (λ ps. (peer_in ps.items j).taken) (sym b.same.1)
     in let slot = c.box_at-slot.result in let w = plays.load_in slot p.seat.me.1 in
-    let then = subst (λ t. plays.got_boxed t c.exchange-old.new.seat.me c.store.new.seat.me)
+    let then = subst (λ t. plays.got_boxed t c.empty_slot.new.seat.me c.store.new.seat.me)
     (sym c.requires.told) c.store.ensures.2.1 in
-    let load : plays.box_load j (mine c.exchange-old.new.seat.me) ≡ y =
-    ap (λ m. plays.box_load j (mine m)) c.exchange-old.ensures.3
+    let load : plays.box_load j (mine c.empty_slot.new.seat.me) ≡ y =
+    ap (λ m. plays.box_load j (mine m)) c.empty_slot.ensures.emptied
     ∙ ap (λ u. plays.box_load j (sole u.entries)) v in
     let is = then.0 ∙ (λ i. (
       view (plays.with_got_box (load i ∷ [])
-          (plays.with_emptying j None (mine (c.exchange-old.ensures.3 i))) ∷ []),
-      rest (c.exchange-old.ensures.3 i).1,
+          (plays.with_emptying j None (mine (c.empty_slot.ensures.emptied i))) ∷ []),
+      rest (c.empty_slot.ensures.emptied i).1,
     )) in
     let new = subst (λ (m : plays.Knowing). ¬ plays.Came (mine m) j (number y))
-    c.exchange-old.ensures.3
-    (subst (λ u. ¬ plays.Came (mine c.exchange-old.new.seat.me) j (number u)) load then.1) in
-    let same = ap plays.first_load (sym c.exchange-old.ensures.2 ∙ c.bring_slot.ensures.front)
-    ∙ there.1 in let packet = sym c.unwrap.ensures ∙ same in
+    c.empty_slot.ensures.emptied
+    (subst (λ u. ¬ plays.Came (mine c.empty_slot.new.seat.me) j (number u)) load then.1) in
+    let same = ap plays.first_load (sym c.empty_slot.ensures.packet ∙ c.bring_slot.ensures.front)
+    ∙ there.1 in let packet = same in
     ap mine is ∙ (λ i. plays.with_got_box (sym packet i ∷ [])
     (plays.with_emptying j None (sole (v i).entries)))
 
@@ -364,19 +366,19 @@ returns-clause-holding g c =
     let was = ap (λ u. emptying_of (sole u.entries) j) v ∙ k.0 in
     let next : number y ≡ taken_by q j = k.1 ∙ ap (λ ps. (peer_in ps.items j).taken) (sym b.same.1)
     in let slot = c.box_at-slot.result in let w = plays.load_in slot p.seat.me.1 in
-    let then = subst (λ t. plays.got_boxed t c.exchange-old.new.seat.me c.store.new.seat.me)
+    let then = subst (λ t. plays.got_boxed t c.empty_slot.new.seat.me c.store.new.seat.me)
     (sym c.requires.told) c.store.ensures.2.1 in
-    let load : plays.box_load j (mine c.exchange-old.new.seat.me) ≡ y =
-    ap (λ m. plays.box_load j (mine m)) c.exchange-old.ensures.3
+    let load : plays.box_load j (mine c.empty_slot.new.seat.me) ≡ y =
+    ap (λ m. plays.box_load j (mine m)) c.empty_slot.ensures.emptied
     ∙ ap (λ u. plays.box_load j (sole u.entries)) v in
     let is = then.0 ∙ (λ i. (
       view (plays.with_got_box (load i ∷ [])
-          (plays.with_emptying j None (mine (c.exchange-old.ensures.3 i))) ∷ []),
-      rest (c.exchange-old.ensures.3 i).1,
+          (plays.with_emptying j None (mine (c.empty_slot.ensures.emptied i))) ∷ []),
+      rest (c.empty_slot.ensures.emptied i).1,
     )) in
     let new = subst (λ (m : plays.Knowing). ¬ plays.Came (mine m) j (number y))
-    c.exchange-old.ensures.3
-    (subst (λ u. ¬ plays.Came (mine c.exchange-old.new.seat.me) j (number u)) load then.1) in
+    c.empty_slot.ensures.emptied
+    (subst (λ u. ¬ plays.Came (mine c.empty_slot.new.seat.me) j (number u)) load then.1) in
     calls.emptied_holds f q o₂ j few c.store.new.seat.me slot w b.front y at₂ was is ∙ b.holding
 
 pub invariant_of-port-clause-kept : goal.invariant_of-port-clause-kept
@@ -394,19 +396,19 @@ invariant_of-port-clause-kept g c =
     let was = ap (λ u. emptying_of (sole u.entries) j) v ∙ k.0 in
     let next : number y ≡ taken_by q j = k.1 ∙ ap (λ ps. (peer_in ps.items j).taken) (sym b.same.1)
     in let slot = c.box_at-slot.result in let w = plays.load_in slot p.seat.me.1 in
-    let then = subst (λ t. plays.got_boxed t c.exchange-old.new.seat.me c.store.new.seat.me)
+    let then = subst (λ t. plays.got_boxed t c.empty_slot.new.seat.me c.store.new.seat.me)
     (sym c.requires.told) c.store.ensures.2.1 in
-    let load : plays.box_load j (mine c.exchange-old.new.seat.me) ≡ y =
-    ap (λ m. plays.box_load j (mine m)) c.exchange-old.ensures.3
+    let load : plays.box_load j (mine c.empty_slot.new.seat.me) ≡ y =
+    ap (λ m. plays.box_load j (mine m)) c.empty_slot.ensures.emptied
     ∙ ap (λ u. plays.box_load j (sole u.entries)) v in
     let is = then.0 ∙ (λ i. (
       view (plays.with_got_box (load i ∷ [])
-          (plays.with_emptying j None (mine (c.exchange-old.ensures.3 i))) ∷ []),
-      rest (c.exchange-old.ensures.3 i).1,
+          (plays.with_emptying j None (mine (c.empty_slot.ensures.emptied i))) ∷ []),
+      rest (c.empty_slot.ensures.emptied i).1,
     )) in
     let new = subst (λ (m : plays.Knowing). ¬ plays.Came (mine m) j (number y))
-    c.exchange-old.ensures.3
-    (subst (λ u. ¬ plays.Came (mine c.exchange-old.new.seat.me) j (number u)) load then.1) in
+    c.empty_slot.ensures.emptied
+    (subst (λ u. ¬ plays.Came (mine c.empty_slot.new.seat.me) j (number u)) load then.1) in
     subst (λ (m : plays.Knowing). AreKept q.loose (mine m) m.1) (sym is)
     (kept_pop q.loose (knows q) (rest q.seat.me.1) slot w
     (far_apart q.loose (knows q) q.seat.me.1 q.kept slot

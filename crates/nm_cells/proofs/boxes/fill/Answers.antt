@@ -30,19 +30,6 @@ bring_slot-requires g c =
     (ap to_fill c.requires.free) in
     record { once = there.0 }
 
-pub unreachable-requires : goal.unreachable-requires
-unreachable-requires g c =
-    let f = c.args.f.now in let p = c.args.port.now in let o = c.requires.owns in
-    let few = c.requires.peer in let j = c.args.to in
-    let place = ap (λ (u : Peer). u.box_put) c.peer.ensures ∙ peer_box_put p j
-    (calls.few f p o j few) in
-    let at = c.box_at-slot.ensures.at ∙ calls.out_slot_is f p o j few c.peer.result.box_put place in
-    let none : Load = None in
-    let there = calls.box_there f p o j few true c.box_at-slot.result at none
-    (ap to_fill c.requires.free) in
-    let same = sym c.exchange-old.ensures.2 ∙ c.bring_slot.ensures.front in
-    c.in_default.not-None (ap plays.first_load same ∙ there.1)
-
 pub store-requires : goal.store-requires
 store-requires g c =
     let f = c.args.f.now in let p = c.args.port.now in let o = c.requires.owns in
@@ -58,24 +45,24 @@ store-requires g c =
     let at₂ = at ∙ ap (λ u. next_box (sole u.entries) true j) (sym v) in
     let was = ap (λ u. filling_of (sole u.entries) j) v ∙ c.requires.free in
     let slot = c.box_at-slot.result in let w = plays.load_in slot p.seat.me.1 in
-    let y : Load = Some c.args.packet in
+    let y : Load = Some c.args.packet.now in
     let id = f.board.shared.table_id in let z₀ = f.sizes.0 in let low = c.box_at-slot.ensures.low in
     let is_word = c.flag_word-word.ensures in
     let word : ℕ = c.flag_word-word.result in let inside : word < id.words = omega arith in
     let me : plays.Knowing = (q.seat.me.0, (slot, y) ∷ rest q.seat.me.1) in
-    let x : ℕ = c.args.packet.seq + 1 in let k = c.requires.packet in
+    let x : ℕ = c.args.packet.now.seq + 1 in let k = c.requires.packet in
     let next = k.1 ∙ ap (λ u. sent_to j (sole u.entries).put_box (sole u.entries).put) (sym v) in (
-      c.exchange-old.ensures.0 ∙ b.seat.0 ∙ o.0,
+      c.fill_slot.ensures.seat.0 ∙ b.seat.0 ∙ o.0,
       inside,
-      subst (λ m. Allows (Rule f.board.shared.key) id.slots c.exchange-old.new.seat.id m word
+      subst (λ m. Allows (Rule f.board.shared.key) id.slots c.fill_slot.new.seat.id m word
           (λ _. x) (plays.boxed g.T.Told.peer (step id.slots word x 0 maybe.none) m))
-          (sym c.exchange-old.ensures.3)
-          (subst (λ t. Allows (Rule f.board.shared.key) id.slots c.exchange-old.new.seat.id me word
+          (sym c.fill_slot.ensures.filled)
+          (subst (λ t. Allows (Rule f.board.shared.key) id.slots c.fill_slot.new.seat.id me word
           (λ _. x) (plays.boxed t (step id.slots word x 0 maybe.none) me)) c.requires.told
-          (fill_allowed f.board.shared.key f.ranks f.each id.slots c.exchange-old.new.seat.id me
+          (fill_allowed f.board.shared.key f.ranks f.each id.slots c.fill_slot.new.seat.id me
           q.alone f.shape.0 f.shape.1 p.rank (q.named ∙ b.same.0) o.1 j few c.peer.result.box_put
           word y x (rest q.seat.me.1) (ap (λ t. (t, y) ∷ rest q.seat.me.1) c.box_at-slot.ensures.at)
-          (let e : c.args.packet.seq + 1 ≡ suc c.args.packet.seq = omega arith in e)
+          (let e : c.args.packet.now.seq + 1 ≡ suc c.args.packet.now.seq = omega arith in e)
           (place ∙ ap (λ u. length (put_to j (sole u.entries).put_box)) (sym v))
           (is_word ∙ ap (λ k. 4 * f.ranks + k) c.box_at-slot.ensures.at) was (ap suc k.0) c.requires.fits next)),
     )
@@ -95,7 +82,7 @@ count_boxed-requires-clause-to g c =
     let at₂ = at ∙ ap (λ u. next_box (sole u.entries) true j) (sym v) in
     let was = ap (λ u. filling_of (sole u.entries) j) v ∙ c.requires.free in
     let slot = c.box_at-slot.result in let w = plays.load_in slot p.seat.me.1 in
-    let y : Load = Some c.args.packet in
+    let y : Load = Some c.args.packet.now in
     peer_low q j (calls.few f q o₂ j few)
 
 pub count_boxed-requires-clause-room : goal.count_boxed-requires-clause-room
@@ -113,7 +100,7 @@ count_boxed-requires-clause-room g c =
     let at₂ = at ∙ ap (λ u. next_box (sole u.entries) true j) (sym v) in
     let was = ap (λ u. filling_of (sole u.entries) j) v ∙ c.requires.free in
     let slot = c.box_at-slot.result in let w = plays.load_in slot p.seat.me.1 in
-    let y : Load = Some c.args.packet in
+    let y : Load = Some c.args.packet.now in
     (calls.sent_room f q o₂ j few y (c.requires.packet.1
     ∙ ap (λ u. sent_to j (sole u.entries).put_box (sole u.entries).put) (sym v))).0
 
@@ -132,7 +119,7 @@ count_boxed-requires-clause-box_room g c =
     let at₂ = at ∙ ap (λ u. next_box (sole u.entries) true j) (sym v) in
     let was = ap (λ u. filling_of (sole u.entries) j) v ∙ c.requires.free in
     let slot = c.box_at-slot.result in let w = plays.load_in slot p.seat.me.1 in
-    let y : Load = Some c.args.packet in
+    let y : Load = Some c.args.packet.now in
     (calls.sent_room f q o₂ j few y (c.requires.packet.1
     ∙ ap (λ u. sent_to j (sole u.entries).put_box (sole u.entries).put) (sym v))).1
 
@@ -151,14 +138,16 @@ invariant_of-port-clause-carries g c =
     let at₂ = at ∙ ap (λ u. next_box (sole u.entries) true j) (sym v) in
     let was = ap (λ u. filling_of (sole u.entries) j) v ∙ c.requires.free in
     let slot = c.box_at-slot.result in let w = plays.load_in slot p.seat.me.1 in
-    let y : Load = Some c.args.packet in
-    let is = subst (λ t. plays.put_boxed t c.exchange-old.new.seat.me c.store.new.seat.me) (sym c.requires.told) c.store.ensures.2.1 ∙ ap (λ m. (
+    let y : Load = Some c.args.packet.now in
+    let is = subst (λ t. plays.put_boxed t c.fill_slot.new.seat.me c.store.new.seat.me)
+    (sym c.requires.told) c.store.ensures.2.1 ∙ ap (λ m. (
       view (plays.with_put_box ((j, plays.first_load m.1) ∷ [])
           (plays.with_filling j false (mine m)) ∷ []),
       rest m.1,
-    )) c.exchange-old.ensures.3 in
+    )) c.fill_slot.ensures.filled in
     let some = calls.filled_hands f q o₂ j few c.store.new.seat.me slot w b.front y at₂ was is in
-    calls.filled_carries f q o₂ j few c.store.new.seat.me slot w b.front y at₂ was is c.remove.new.self.items (vec_capacity c.remove.new.self)
+    calls.filled_carries f q o₂ j few c.store.new.seat.me slot w b.front y at₂ was is c.remove.new.self.items
+    (vec_capacity c.remove.new.self)
     (q.hands - 1) c.remove.ensures.items c.remove.ensures.capacity
     (let z : (q.hands - 1) + 1 ≡ q.hands = omega arith in z)
 
@@ -177,12 +166,13 @@ invariant_of-port-clause-boxes g c =
     let at₂ = at ∙ ap (λ u. next_box (sole u.entries) true j) (sym v) in
     let was = ap (λ u. filling_of (sole u.entries) j) v ∙ c.requires.free in
     let slot = c.box_at-slot.result in let w = plays.load_in slot p.seat.me.1 in
-    let y : Load = Some c.args.packet in
-    let is = subst (λ t. plays.put_boxed t c.exchange-old.new.seat.me c.store.new.seat.me) (sym c.requires.told) c.store.ensures.2.1 ∙ ap (λ m. (
+    let y : Load = Some c.args.packet.now in
+    let is = subst (λ t. plays.put_boxed t c.fill_slot.new.seat.me c.store.new.seat.me)
+    (sym c.requires.told) c.store.ensures.2.1 ∙ ap (λ m. (
       view (plays.with_put_box ((j, plays.first_load m.1) ∷ [])
           (plays.with_filling j false (mine m)) ∷ []),
       rest m.1,
-    )) c.exchange-old.ensures.3 in
+    )) c.fill_slot.ensures.filled in
     calls.filled_boxes f q o₂ j few c.store.new.seat.me slot w b.front y at₂ was is
 
 pub invariant_of-port-clause-counts : goal.invariant_of-port-clause-counts
@@ -200,13 +190,15 @@ invariant_of-port-clause-counts g c =
     let at₂ = at ∙ ap (λ u. next_box (sole u.entries) true j) (sym v) in
     let was = ap (λ u. filling_of (sole u.entries) j) v ∙ c.requires.free in
     let slot = c.box_at-slot.result in let w = plays.load_in slot p.seat.me.1 in
-    let y : Load = Some c.args.packet in
-    let is = subst (λ t. plays.put_boxed t c.exchange-old.new.seat.me c.store.new.seat.me) (sym c.requires.told) c.store.ensures.2.1 ∙ ap (λ m. (
+    let y : Load = Some c.args.packet.now in
+    let is = subst (λ t. plays.put_boxed t c.fill_slot.new.seat.me c.store.new.seat.me)
+    (sym c.requires.told) c.store.ensures.2.1 ∙ ap (λ m. (
       view (plays.with_put_box ((j, plays.first_load m.1) ∷ [])
           (plays.with_filling j false (mine m)) ∷ []),
       rest m.1,
-    )) c.exchange-old.ensures.3 in
-    calls.filled_counts f q o₂ j few c.store.new.seat.me slot w b.front y at₂ was is c.count_boxed.new.peers.items c.count_boxed.ensures
+    )) c.fill_slot.ensures.filled in
+    calls.filled_counts f q o₂ j few c.store.new.seat.me slot w b.front y at₂ was is c.count_boxed.new.peers.items
+    c.count_boxed.ensures
 
 pub returns-clause-stays : goal.returns-clause-stays
 returns-clause-stays g c =
@@ -223,15 +215,16 @@ returns-clause-stays g c =
     let at₂ = at ∙ ap (λ u. next_box (sole u.entries) true j) (sym v) in
     let was = ap (λ u. filling_of (sole u.entries) j) v ∙ c.requires.free in
     let slot = c.box_at-slot.result in let w = plays.load_in slot p.seat.me.1 in
-    let y : Load = Some c.args.packet in
-    let is = subst (λ t. plays.put_boxed t c.exchange-old.new.seat.me c.store.new.seat.me) (sym c.requires.told) c.store.ensures.2.1 ∙ ap (λ m. (
+    let y : Load = Some c.args.packet.now in
+    let is = subst (λ t. plays.put_boxed t c.fill_slot.new.seat.me c.store.new.seat.me)
+    (sym c.requires.told) c.store.ensures.2.1 ∙ ap (λ m. (
       view (plays.with_put_box ((j, plays.first_load m.1) ∷ [])
           (plays.with_filling j false (mine m)) ∷ []),
       rest m.1,
-    )) c.exchange-old.ensures.3 in
+    )) c.fill_slot.ensures.filled in
     let s = calls.peers_stay one_boxed j q.peers.items
     (peer_low q j (calls.few f q o₂ j few)) (λ u. refl) (λ u. refl) in (
-      calls.owns_then f q o₂ j few (c.store.ensures.0 ∙ c.exchange-old.ensures.0 ∙ b.seat.0 ∙ o.0)
+      calls.owns_then f q o₂ j few (c.store.ensures.0 ∙ c.fill_slot.ensures.seat.0 ∙ b.seat.0 ∙ o.0)
           c.store.new.seat.me
           (ap (λ m. (mine m).ranks) is) (ap (λ m. (mine m).each) is)
           (ap (λ m. length (mine m).hands) is)
@@ -262,12 +255,13 @@ returns-clause-holding g c =
     let at₂ = at ∙ ap (λ u. next_box (sole u.entries) true j) (sym v) in
     let was = ap (λ u. filling_of (sole u.entries) j) v ∙ c.requires.free in
     let slot = c.box_at-slot.result in let w = plays.load_in slot p.seat.me.1 in
-    let y : Load = Some c.args.packet in
-    let is = subst (λ t. plays.put_boxed t c.exchange-old.new.seat.me c.store.new.seat.me) (sym c.requires.told) c.store.ensures.2.1 ∙ ap (λ m. (
+    let y : Load = Some c.args.packet.now in
+    let is = subst (λ t. plays.put_boxed t c.fill_slot.new.seat.me c.store.new.seat.me)
+    (sym c.requires.told) c.store.ensures.2.1 ∙ ap (λ m. (
       view (plays.with_put_box ((j, plays.first_load m.1) ∷ [])
           (plays.with_filling j false (mine m)) ∷ []),
       rest m.1,
-    )) c.exchange-old.ensures.3 in
+    )) c.fill_slot.ensures.filled in
     calls.filled_holds f q o₂ j few c.store.new.seat.me slot w b.front y at₂ was is ∙ b.holding
 
 pub invariant_of-port-clause-kept : goal.invariant_of-port-clause-kept
@@ -285,12 +279,13 @@ invariant_of-port-clause-kept g c =
     let at₂ = at ∙ ap (λ u. next_box (sole u.entries) true j) (sym v) in
     let was = ap (λ u. filling_of (sole u.entries) j) v ∙ c.requires.free in
     let slot = c.box_at-slot.result in let w = plays.load_in slot p.seat.me.1 in
-    let y : Load = Some c.args.packet in
-    let is = subst (λ t. plays.put_boxed t c.exchange-old.new.seat.me c.store.new.seat.me) (sym c.requires.told) c.store.ensures.2.1 ∙ ap (λ m. (
+    let y : Load = Some c.args.packet.now in
+    let is = subst (λ t. plays.put_boxed t c.fill_slot.new.seat.me c.store.new.seat.me)
+    (sym c.requires.told) c.store.ensures.2.1 ∙ ap (λ m. (
       view (plays.with_put_box ((j, plays.first_load m.1) ∷ [])
           (plays.with_filling j false (mine m)) ∷ []),
       rest m.1,
-    )) c.exchange-old.ensures.3 in
+    )) c.fill_slot.ensures.filled in
     subst (λ (m : plays.Knowing). AreKept q.loose (mine m) m.1) (sym is)
     (kept_pop q.loose (knows q) (rest q.seat.me.1) slot w
     (far_apart q.loose (knows q) q.seat.me.1 q.kept slot

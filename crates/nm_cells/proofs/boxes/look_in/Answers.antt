@@ -166,7 +166,8 @@ take_box-requires g c =
     let was = sym (calls.is_emptying f p o j few)
     ∙ sym (ap (λ (u : Peer). u.emptying) c.peer-peer.ensures) in
     record {
-      room = calls.begun_room f p o j few c.load-found.new.seat.me c.box_at-slot.result (taken_by p j) at told c.peer-peer.result.emptying was;
+      room = calls.begun_room f p o j few c.load-found.new.seat.me c.box_at-slot.result
+          (taken_by p j) at told c.peer-peer.result.emptying was;
     }
 
 pub note_emptying-requires : goal.note_emptying-requires
@@ -197,7 +198,8 @@ invariant_of-port-2-clause-carries g c =
     (then.0 (let z : c.load-found.result ≡ suc (taken_by p j) = omega arith in z)) in
     let was = sym (calls.is_emptying f p o j few)
     ∙ sym (ap (λ (u : Peer). u.emptying) c.peer-peer.ensures) in
-    calls.begun_carries f p o j few c.load-found.new.seat.me c.box_at-slot.result (taken_by p j) at told c.peer-peer.result.emptying was
+    calls.begun_carries f p o j few c.load-found.new.seat.me c.box_at-slot.result
+    (taken_by p j) at told c.peer-peer.result.emptying was
     c.take_box.new.carried.items (vec_capacity c.take_box.new.carried) c.take_box.new.hands
     c.take_box.ensures.items c.take_box.ensures.capacity c.take_box.ensures.hands
 
@@ -247,7 +249,8 @@ invariant_of-port-2-clause-counts g c =
     (then.0 (let z : c.load-found.result ≡ suc (taken_by p j) = omega arith in z)) in
     let was = sym (calls.is_emptying f p o j few)
     ∙ sym (ap (λ (u : Peer). u.emptying) c.peer-peer.ensures) in
-    calls.begun_counts f p o j few c.load-found.new.seat.me c.box_at-slot.result (taken_by p j) at told c.note_emptying.new.peers.items
+    calls.begun_counts f p o j few c.load-found.new.seat.me c.box_at-slot.result
+    (taken_by p j) at told c.note_emptying.new.peers.items
     c.note_emptying.ensures
 
 pub returns-clause-stays : goal.returns-clause-stays

@@ -113,7 +113,8 @@ take_box-requires g c =
     let was = sym (calls.is_filling f p o c.args.to few)
     ∙ sym (ap (λ (u : Peer). u.filling) c.peer-peer.ensures) in
     record {
-      room = calls.free_room f p o c.args.to few c.load-found.new.seat.me c.box_at-slot.result at is free.2 c.peer-peer.result.filling was;
+      room = calls.free_room f p o c.args.to few c.load-found.new.seat.me c.box_at-slot.result at is free.2
+          c.peer-peer.result.filling was;
     }
 
 pub note_filling-requires : goal.note_filling-requires
@@ -141,7 +142,8 @@ invariant_of-port-2-clause-carries g c =
     )) back in
     let was = sym (calls.is_filling f p o c.args.to few)
     ∙ sym (ap (λ (u : Peer). u.filling) c.peer-peer.ensures) in
-    calls.free_carries f p o c.args.to few c.load-found.new.seat.me c.box_at-slot.result at is free.2 c.peer-peer.result.filling was
+    calls.free_carries f p o c.args.to few c.load-found.new.seat.me c.box_at-slot.result at is free.2
+    c.peer-peer.result.filling was
     c.take_box.new.carried.items (vec_capacity c.take_box.new.carried) c.take_box.new.hands
     c.take_box.ensures.items c.take_box.ensures.capacity c.take_box.ensures.hands
 
@@ -165,7 +167,8 @@ invariant_of-port-2-clause-boxes g c =
     )) back in
     let was = sym (calls.is_filling f p o c.args.to few)
     ∙ sym (ap (λ (u : Peer). u.filling) c.peer-peer.ensures) in
-    calls.free_boxes f p o c.args.to few c.load-found.new.seat.me c.box_at-slot.result at is free.2 c.peer-peer.result.filling was
+    calls.free_boxes f p o c.args.to few c.load-found.new.seat.me c.box_at-slot.result at is free.2
+    c.peer-peer.result.filling was
 
 pub invariant_of-port-2-clause-counts : goal.invariant_of-port-2-clause-counts
 invariant_of-port-2-clause-counts g c =
@@ -187,7 +190,8 @@ invariant_of-port-2-clause-counts g c =
     )) back in
     let was = sym (calls.is_filling f p o c.args.to few)
     ∙ sym (ap (λ (u : Peer). u.filling) c.peer-peer.ensures) in
-    calls.free_counts f p o c.args.to few c.load-found.new.seat.me c.box_at-slot.result at is free.2 c.note_filling.new.peers.items c.note_filling.ensures
+    calls.free_counts f p o c.args.to few c.load-found.new.seat.me c.box_at-slot.result at is free.2
+    c.note_filling.new.peers.items c.note_filling.ensures
 
 pub returns-clause-stays : goal.returns-clause-stays
 returns-clause-stays g c =

@@ -1,13 +1,15 @@
-use Rattle.std.proofs.Common.{◌+◌, ◌*◌, None, replicate, sym, ◌∙◌, subst}
+use Rattle.std.proofs.Common.{List, ◌+◌, ◌*◌, None, replicate, sym, ◌∙◌, subst}
 use Rattle.atomic_table.specs.Table.{opening}
-use Rattle.nm_table.specs.Rule.{Rule, first_view}
+use Rattle.nm_table.specs.Rule.{Load, Rule, first_view}
 use Rattle.nm_table.proofs.OpeningLemmas.{starts}
 use Rattle.nm_cells.proofs.build.whole.Goals as goal
 
-pub vacant-requires : goal.vacant-requires
-vacant-requires c = let s = c.args.shape.now in let n = c.from-ranks.result in
+pub new-requires : goal.new-requires
+new-requires c = let s = c.args.shape.now in let n = c.from-ranks.result in
     let m = c.from-each.result in
-    subst (λ ws. Rule s (opening ws (replicate (n * m + 4 * (n * n)) None) (first_view s)))
+    subst (λ (l : List Load). Rule s (opening c.as_slice.result.now l (first_view s)))
+    (sym c.in_ok-empty.ensures)
+    (subst (λ ws. Rule s (opening ws (replicate (n * m + 4 * (n * n)) None) (first_view s)))
     (sym c.as_slice.ensures.value)
     (starts s c.in_ok-words.words.items n m (c.from-ranks.ensures ∙ c.ranks.ensures.value)
-    (c.from-each.ensures ∙ c.cells.ensures.value) c.in_ok-words.ensures)
+    (c.from-each.ensures ∙ c.cells.ensures.value) c.in_ok-words.ensures))

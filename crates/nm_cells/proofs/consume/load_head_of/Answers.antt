@@ -25,7 +25,8 @@ invariant_of-port-clause-boxes g c = let p = c.args.port.now in
 
 pub invariant_of-port-else-found-eq0-clause-boxes : goal.invariant_of-port-else-found-eq0-clause-boxes
 invariant_of-port-else-found-eq0-clause-boxes g c = let p = c.args.port.now in
-    subst (λ (m : Knowing). HoldsBoxes (mine m) m.1) (sym (c.load-found.ensures.2.3 (let some = c.if-found-eq0.false in omega arith)))
+    subst (λ (m : Knowing). HoldsBoxes (mine m) m.1)
+    (sym (c.load-found.ensures.2.3 (let some = c.if-found-eq0.false in omega arith)))
     (boxes_heads _ _ (mine p.seat.me) p.seat.me.1 p.boxes)
 
 pub invariant_of-port-then-found-eq0-2-clause-boxes : goal.invariant_of-port-then-found-eq0-2-clause-boxes
@@ -35,7 +36,8 @@ invariant_of-port-then-found-eq0-2-clause-boxes g c = let p = c.args.port.now in
 
 pub invariant_of-port-else-found-eq0-2-clause-boxes : goal.invariant_of-port-else-found-eq0-2-clause-boxes
 invariant_of-port-else-found-eq0-2-clause-boxes g c = let p = c.args.port.now in
-    subst (λ (m : Knowing). HoldsBoxes (mine m) m.1) (sym (c.load-found.ensures.2.3 (let some = c.if-found-eq0-2.false in omega arith)))
+    subst (λ (m : Knowing). HoldsBoxes (mine m) m.1)
+    (sym (c.load-found.ensures.2.3 (let some = c.if-found-eq0-2.false in omega arith)))
     (boxes_heads _ _ (mine p.seat.me) p.seat.me.1 p.boxes)
 
 pub invariant_of-port-clause-kept : goal.invariant_of-port-clause-kept

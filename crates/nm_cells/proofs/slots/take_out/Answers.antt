@@ -1,8 +1,8 @@
 use Rattle.std.proofs.Common.{◌*◌, ◌<◌, None, length, sym, ap, ◌∙◌, subst}
-use Rattle.std.specs.Prelude.{vec_capacity}
+use Rattle.std.specs.Prelude.{vec_capacity, IsSome}
 use Rattle.atomic_table.specs.Table.{rest}
 use Rattle.nm_seats.specs.Update.{update}
-use Rattle.nm_table.specs.Plays.{Knowing, mine, sole}
+use Rattle.nm_table.specs.Plays.{Knowing, mine, sole, first_load}
 use Rattle.nm_cells.specs.AtWork.{HoldsBoxes}
 use Rattle.nm_cells.proofs.BoxPortLemmas.{boxes_exchanged}
 use Rattle.nm_cells.specs.Ports.{knows}
@@ -13,11 +13,15 @@ use Rattle.nm_cells.specs.LooseCells.{IsAmong, AreKept}
 use Rattle.nm_cells.proofs.LooseLemmas.{kept_pop, kept_push}
 use Rattle.nm_cells.proofs.slots.take_out.Goals as goal
 
+pub empty_slot-requires-clause-full : goal.empty_slot-requires-clause-full
+empty_slot-requires-clause-full c =
+    subst (λ l. IsSome (first_load l)) (sym c.bring_cell.ensures.front) c.requires.full
+
 pub invariant_of-port-clause-carries : goal.invariant_of-port-clause-carries
 invariant_of-port-clause-carries c = let p = c.bring_cell.new.port in let e = knows p in
     let k = c.args.cell.now.number in
     subst (λ m. CarriesFor m p.carried.items (vec_capacity p.carried) p.hands)
-    (sym c.exchange-old.ensures.3)
+    (sym c.empty_slot.ensures.emptied)
     (exchanged_carries k None _ p.seat.me.1 (rest p.seat.me.1) c.bring_cell.ensures.front e.hands
     e.filling e.emptying p.carried.items (vec_capacity p.carried) p.hands p.carries)
 
@@ -28,14 +32,14 @@ invariant_of-port-clause-boxes c = let p = c.bring_cell.new.port in let e = know
     let low = subst (λ x. k < x)
     ((λ t. sym o.2 t * sym o.3 t) ∙ (λ t. (sole (sym v t).entries).ranks
     * (sole (sym v t).entries).each)) c.requires.in_hand.0 in
-    subst (λ (m : Knowing). HoldsBoxes (mine m) m.1) (sym c.exchange-old.ensures.3)
+    subst (λ (m : Knowing). HoldsBoxes (mine m) m.1) (sym c.empty_slot.ensures.emptied)
     (boxes_exchanged e left k (None) _ low (subst (HoldsBoxes e) c.bring_cell.ensures.front p.boxes))
 
 pub returns-clause-emptied : goal.returns-clause-emptied
 returns-clause-emptied c = let p = c.bring_cell.new.port in let k = c.args.cell.now.number in
     let same = ap (λ v. length (sole v.entries).hands) c.bring_cell.ensures.seat.1
     ∙ c.requires.owns.4 in
-    ap (λ m. held_in (length (mine m).hands) m.1) c.exchange-old.ensures.3
+    ap (λ m. held_in (length (mine m).hands) m.1) c.empty_slot.ensures.emptied
     ∙ exchanged_held k None _ p.seat.me.1 (rest p.seat.me.1) c.bring_cell.ensures.front
     (length (knows p).hands) (subst (λ n. k < n) (sym same) c.requires.in_hand.0)
     ∙ ap (λ u. update u k None) c.bring_cell.ensures.holding
@@ -45,6 +49,6 @@ invariant_of-port-clause-kept c = let p = c.bring_cell.new.port in let e = knows
     let k = c.args.cell.now.number in let left = rest p.seat.me.1 in
     let out : ¬ IsAmong p.loose k =
     subst (λ x. ¬ IsAmong x k) (sym c.bring_cell.ensures.same.4) c.requires.in_hand.3 in
-    subst (λ (m : Knowing). AreKept p.loose (mine m) m.1) (sym c.exchange-old.ensures.3)
+    subst (λ (m : Knowing). AreKept p.loose (mine m) m.1) (sym c.empty_slot.ensures.emptied)
     (kept_push p.loose e left (kept_pop p.loose e left k _ out
     (subst (AreKept p.loose e) c.bring_cell.ensures.front p.kept)) k None out)

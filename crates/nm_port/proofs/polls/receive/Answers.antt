@@ -11,8 +11,8 @@ use Rattle.nm_port.proofs.PollLemmas.{still_unpassed}
 use Rattle.nm_port.proofs.polls.receive.Goals as goal
 
 pub enqueue-requires-clause-in_hand : goal.enqueue-requires-clause-in_hand
-enqueue-requires-clause-in_hand g c = let t = c.in_ok-cell.ensures.took in
-    let k = c.in_ok-cell.cell.number in let o = c.take_out-packet.ensures in (
+enqueue-requires-clause-in_hand g c = let t = c.in-Some.ensures.took in
+    let k = c.in-Some.cell.number in let o = c.take_out.ensures in (
       t.has.0,
       t.has.1,
       subst (λ e. InHand (hand e k)) (sym o.stays.1) t.has.2,
@@ -21,8 +21,8 @@ enqueue-requires-clause-in_hand g c = let t = c.in_ok-cell.ensures.took in
 
 pub enqueue-requires-clause-may : goal.enqueue-requires-clause-may
 enqueue-requires-clause-may g c = let f = c.args.f.now in let q = c.take_cell.new.port in
-    let t = c.in_ok-cell.ensures.took in let k = c.in_ok-cell.cell.number in
-    let here = ap (λ h. h k) c.take_out-packet.ensures.emptied
+    let t = c.in-Some.ensures.took in let k = c.in-Some.cell.number in
+    let here = ap (λ h. h k) c.take_out.ensures.emptied
     ∙ update_here (holding q) k None k refl in (
       subst (λ r. r < f.ranks) (sym c.owner-owner.ensures) t.of_rank,
       sym t.has.1 ∙ sym c.owner-owner.ensures,
@@ -30,16 +30,16 @@ enqueue-requires-clause-may g c = let f = c.args.f.now in let q = c.take_cell.ne
     )
 
 pub returns-clause-held : goal.returns-clause-held
-returns-clause-held g c = let t = c.in_ok-cell.ensures.took in
-    let o = c.take_out-packet.ensures in let e = c.enqueue.ensures in let a = e.hands in
+returns-clause-held g c = let t = c.in-Some.ensures.took in
+    let o = c.take_out.ensures in let e = c.enqueue.ensures in let a = e.hands in
     let b = o.hands in let d = t.hands in
     (e.stays.2.1 ∙ o.stays.0.2.1 ∙ t.held, e.stays.2.0 ∙ o.stays.0.2.0 ∙ t.taken, omega arith)
 
 pub returns-clause-came : goal.returns-clause-came
-returns-clause-came g c = let f = c.args.f.now in let p = c.args.port.now in
+returns-clause-came g c = λ _. let f = c.args.f.now in let p = c.args.port.now in
     let q = c.take_cell.new.port in let s = c.enqueue.new.port in
-    let t = c.in_ok-cell.ensures.took in let k = c.in_ok-cell.cell.number in
-    let x = c.take_out-packet.result in let o = c.take_out-packet.ensures in
+    let t = c.in-Some.ensures.took in let k = c.in-Some.cell.number in
+    let x = c.take_out.new.into in let o = c.take_out.ensures in
     let e = c.enqueue.ensures in let own = c.requires.owns in
     let low : (knows p).rank < (knows p).ranks =
     subst (λ n. (knows p).rank < n) (sym own.2) (subst (λ r. r < f.ranks) (sym p.named) own.1) in
@@ -54,10 +54,10 @@ returns-clause-came g c = let f = c.args.f.now in let p = c.args.port.now in
 
 pub returns-clause-holding : goal.returns-clause-holding
 returns-clause-holding g c = let p = c.args.port.now in let q = c.take_cell.new.port in
-    let r = c.take_out-packet.new.port in let s = c.enqueue.new.port in
-    let t = c.in_ok-cell.ensures.took in let k = c.in_ok-cell.cell.number in
+    let r = c.take_out.new.port in let s = c.enqueue.new.port in
+    let t = c.in-Some.ensures.took in let k = c.in-Some.cell.number in
     cell_same (knows p) k (holding q k) None None (holding p) (holding q) (holding r) (holding s)
-    t.fresh t.holding c.take_out-packet.ensures.emptied c.enqueue.ensures.given
+    t.fresh t.holding c.take_out.ensures.emptied c.enqueue.ensures.given
 
-pub returns-in_err-cell-clause-holding : goal.returns-in_err-cell-clause-holding
-returns-in_err-cell-clause-holding g c = λ k in_hand. ap (λ h. h k) c.in_err-cell.ensures.none.3
+pub returns-in_default-clause-holding : goal.returns-in_default-clause-holding
+returns-in_default-clause-holding g c = λ k in_hand. ap (λ h. h k) c.in_default.ensures.none.3

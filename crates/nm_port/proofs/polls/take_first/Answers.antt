@@ -35,12 +35,12 @@ empty_box-requires-clause-taking g c = let s = c.loop-sender.sender in
     (c.if-load_box_in.ensures.found refl).0
 
 pub returns-then-load_box_in-clause-took : goal.returns-then-load_box_in-clause-took
-returns-then-load_box_in-clause-took g c = let f = c.args.f.now in let old = c.args.port.now in
+returns-then-load_box_in-clause-took g c = λ _. let f = c.args.f.now in let old = c.args.port.now in
     let now = c.loop-sender.port in let new = c.empty_box.new.port in let k = c.loop-sender.sender in
     let m = c.loop-sender.invariant.1 in let at = c.load_box_in.new.port in
     let e = c.empty_box.ensures in let there = c.if-load_box_in.ensures.found refl in
     let kept = c.load_box_in.ensures.stays.2.0 in
-    let p = c.empty_box.result in let o = c.requires.owns in
+    let p = c.empty_box.new.into in let o = c.requires.owns in
     let low : k < f.ranks = search rules in
     let came_now = Some p ∷ [] in
     let seen = e.got ∙ (λ i. with_got_box came_now (with_emptying k None (there.1 i)))
@@ -62,7 +62,7 @@ returns-then-load_box_in-clause-took g c = let f = c.args.f.now in let old = c.a
     )
 
 pub returns-clause-missed : goal.returns-clause-missed
-returns-clause-missed g c = let f = c.args.f.now in let old = c.args.port.now in
+returns-clause-missed g c = λ _. let f = c.args.f.now in let old = c.args.port.now in
     let now = c.loop-sender.port in let m = c.loop-sender.invariant.1 in
     let o = c.requires.owns in let k = c.loop-sender.sender in
     let end : k ≡ f.ranks = search rules in
@@ -78,7 +78,7 @@ pub returns-then-load_box_in-clause-later : goal.returns-then-load_box_in-clause
 returns-then-load_box_in-clause-later g c = let now = c.loop-sender.port in
     let new = c.empty_box.new.port in let k = c.loop-sender.sender in
     let at = c.load_box_in.new.port in let there = c.if-load_box_in.ensures.found refl in
-    let came_now = Some c.empty_box.result ∷ [] in
+    let came_now = Some c.empty_box.new.into ∷ [] in
     let seen = c.empty_box.ensures.got ∙ (λ i. with_got_box came_now (with_emptying k None (there.1 i)))
     ∙ (λ i. with_got_box came_now (record (knows now) {
       emptying = set-set (knows now).emptying k (Some (box_load k (knows at))) None i;

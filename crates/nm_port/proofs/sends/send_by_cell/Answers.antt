@@ -22,7 +22,7 @@ enqueue-requires-clause-in_hand g c = let t = c.in-Some.ensures.took in
 pub enqueue-requires-clause-may : goal.enqueue-requires-clause-may
 enqueue-requires-clause-may g c = let p = c.args.port.now in let q = c.take_cell.new.port in
     let t = c.in-Some.ensures.took in let k = c.in-Some.cell.number in let i = c.put_in.ensures in
-    let x = c.args.packet in let rank = i.stays.0.1 ∙ c.take_cell.ensures.owns.1 in
+    let x = c.args.packet.now in let rank = i.stays.0.1 ∙ c.take_cell.ensures.owns.1 in
     let here = ap (λ h. h k) i.filled ∙ update_here (holding q) k (Some x) k refl in (
       c.requires.peer,
       sym t.has.1 ∙ (t.vacant refl).1 ∙ sym rank,
@@ -39,7 +39,7 @@ returns-clause-taken g c = let t = c.in-Some.ensures.took in let i = c.put_in.en
 pub returns-clause-by_cell : goal.returns-clause-by_cell
 returns-clause-by_cell g c = λ _. let p = c.args.port.now in let q = c.take_cell.new.port in
     let s = c.enqueue.new.port in let t = c.in-Some.ensures.took in let k = c.in-Some.cell.number in
-    let i = c.put_in.ensures in let x = c.args.packet in let to = c.args.to in
+    let i = c.put_in.ensures in let x = c.args.packet.now in let to = c.args.to in
     let here = ap (λ h. h k) i.filled ∙ update_here (holding q) k (Some x) k refl in
     cell_sent (knows p) (knows s) k (heads_of false (knows q)).shadow (holding q k) t.fresh
     ((to, Some x) ∷ [])
@@ -47,7 +47,7 @@ returns-clause-by_cell g c = λ _. let p = c.args.port.now in let q = c.take_cel
     ∙ (λ j. with_put ((to, here j) ∷ []) (with_hand k Away ((i.stays.1 ∙ t.knows) j))))
 
 pub returns-clause-sent : goal.returns-clause-sent
-returns-clause-sent g c = let p = c.args.port.now in let q = c.take_cell.new.port in
+returns-clause-sent g c = λ _. let p = c.args.port.now in let q = c.take_cell.new.port in
     let t = c.in-Some.ensures.took in let k = c.in-Some.cell.number in let i = c.put_in.ensures in
     let to = c.args.to in let y = holding c.put_in.new.port k in
     λ n j. (ap (λ e. sent_to j e.put_box e.put) (c.enqueue.ensures.put
@@ -58,7 +58,7 @@ pub returns-clause-holding : goal.returns-clause-holding
 returns-clause-holding g c = let p = c.args.port.now in let q = c.take_cell.new.port in
     let r = c.put_in.new.port in let s = c.enqueue.new.port in let t = c.in-Some.ensures.took in
     let k = c.in-Some.cell.number in
-    cell_same (knows p) k (holding q k) (Some c.args.packet) None (holding p) (holding q) (holding r)
+    cell_same (knows p) k (holding q k) (Some c.args.packet.now) None (holding p) (holding q) (holding r)
     (holding s) t.fresh t.holding c.put_in.ensures.filled c.enqueue.ensures.given
 
 pub returns-in_default-clause-holding : goal.returns-in_default-clause-holding
@@ -66,7 +66,6 @@ returns-in_default-clause-holding g c = λ k in_hand. ap (λ h. h k) c.in_defaul
 
 pub returns-in_default-clause-back : goal.returns-in_default-clause-back
 returns-in_default-clause-back g c = let miss = c.in_default.ensures.none.0 in (
-  refl,
   λ n j. miss_sent (knows c.args.port.now) (knows c.take_cell.new.port) miss j n,
   miss,
 )

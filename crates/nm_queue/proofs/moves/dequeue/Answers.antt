@@ -14,7 +14,8 @@ returns-in-Some-drop_tail-clause-took g c = let f = c.args.f.now in let p = c.ar
           (unmoved_heads b _ f p w.load_head.new.port w.clear_head.new.port
           (unmoved_heads b _ f p p w.load_head.new.port (unmoved b p)
           (w.load_head.ensures.found w.if-not-load_head.false).0 w.load_head.ensures.stays
-          w.load_head.ensures.hands w.if-not-has_shadow.ensures.1) w.clear_head.ensures.hidden w.clear_head.ensures.stays
+          w.load_head.ensures.hands w.if-not-has_shadow.ensures.1) w.clear_head.ensures.hidden
+          w.clear_head.ensures.stays
           w.clear_head.ensures.hands w.if-not-has_shadow.ensures.1)
       | else-not-has_shadow w ↦ subst (Unmoved b p) (sym w.port-is) (unmoved b p)
     ] in
@@ -32,7 +33,8 @@ returns-in-Some-reload_link-clause-took g c = let f = c.args.f.now in let p = c.
           (unmoved_heads b _ f p w.load_head.new.port w.clear_head.new.port
           (unmoved_heads b _ f p p w.load_head.new.port (unmoved b p)
           (w.load_head.ensures.found w.if-not-load_head.false).0 w.load_head.ensures.stays
-          w.load_head.ensures.hands w.if-not-has_shadow.ensures.1) w.clear_head.ensures.hidden w.clear_head.ensures.stays
+          w.load_head.ensures.hands w.if-not-has_shadow.ensures.1) w.clear_head.ensures.hidden
+          w.clear_head.ensures.stays
           w.clear_head.ensures.hands w.if-not-has_shadow.ensures.1)
       | else-not-has_shadow w ↦ subst (Unmoved b p) (sym w.port-is) (unmoved b p)
     ] in

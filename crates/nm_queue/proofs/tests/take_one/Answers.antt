@@ -12,10 +12,10 @@ use Rattle.nm_queue.proofs.tests.take_one.Goals as goal
 
 pub pass_next-in_order-requires : goal.pass_next-in_order-requires
 pass_next-in_order-requires g c = let f = c.args.f.now in let p = c.dequeue.new.port in
-    let x : Packet = c.take_out-packet.result in
+    let x : Packet = c.take_out.new.into in
     let took : Takes true f c.args.port.now p c.in_ok-cell.cell = search rules in
-    let still = c.take_out-packet.ensures.stays in
-    let u = took.arrived refl x c.take_out-packet.ensures.packet in (
+    let still = c.take_out.ensures.stays in
+    let u = took.arrived refl x c.take_out.ensures.packet in (
       (
         subst (λ (e : Entry). x.from < e.ranks) (sym still.1) u.0,
         subst (λ (e : Entry). IsOneOf (Some x) (from x.from e.got)) (sym still.1) u.1,
@@ -28,7 +28,7 @@ pub enqueue-requires-clause-may : goal.enqueue-requires-clause-may
 enqueue-requires-clause-may g c = let f = c.args.f.now in let p = c.dequeue.new.port in
     let k = c.in_ok-cell.cell.number in
     let took : Takes true f c.args.port.now p c.in_ok-cell.cell = search rules in
-    let here = ap (λ h. h k) c.take_out-packet.ensures.emptied
+    let here = ap (λ h. h k) c.take_out.ensures.emptied
     ∙ update_here (holding p) k None k refl in (
       subst (λ r. r < f.ranks) (sym c.owner-owner.ensures) took.of_rank,
       sym took.has.1 ∙ sym c.owner-owner.ensures,
@@ -38,7 +38,7 @@ enqueue-requires-clause-may g c = let f = c.args.f.now in let p = c.dequeue.new.
 pub enqueue-requires-clause-in_hand : goal.enqueue-requires-clause-in_hand
 enqueue-requires-clause-in_hand g c = let k = c.in_ok-cell.cell.number in
     let took : Takes true c.args.f.now c.args.port.now c.dequeue.new.port c.in_ok-cell.cell =
-    search rules in let still = c.take_out-packet.ensures.stays in
+    search rules in let still = c.take_out.ensures.stays in
     let passed = c.pass_next-in_order.ensures in (
       took.has.0,
       took.has.1,

@@ -8,9 +8,11 @@ use Rattle.nm_cells.specs.Ports.{knows}
 use Rattle.nm_cells.specs.declared.peers.Peer.{Peer}
 use Rattle.nm_cells.specs.PathLists.{seen_in}
 use Rattle.nm_cells.proofs.PortLemmas.{idle}
-use Rattle.nm_cells.proofs.ClosingLemmas.{get_mapped, length_mapped, sealed_off}
+use Rattle.nm_cells.proofs.ClosingLemmas.{sealed_off}
 use Rattle.nm_cells.proofs.TallyLemmas.{counts_of, tallied, counts, prefix, all_came}
 use Rattle.nm_cells.proofs.port.Fabric.close.Goals as goal
+use Rattle.nm_facts.proofs.Lists.{map_length}
+use Rattle.nm_seats.proofs.ListLemmas.{get_mapped}
 
 pub split_seat-requires : goal.split_seat-requires
 split_seat-requires c = let f = c.args.self in let z = f.sizes.0 in let some = c.requires.count.1 in
@@ -26,7 +28,7 @@ settle-cells-requires-clause-all c = let items = c.args.ports.items in
     ap (λ m. m.0) c.split_seat.ensures.2 ∙ ap (λ m. m.0) c.gather-seat.ensures.all in
     let is : c.split_seat.new.seat.me.0.entries ≡ map knows items = ap (λ v. v.entries) whole in (
       (
-        ap length is ∙ length_mapped knows items ∙ c.requires.count.0,
+        ap length is ∙ map_length knows items ∙ c.requires.count.0,
         λ k e at. let p = get_mapped knows items k e
             (subst (λ l. get_elem? l k ≡ maybe.some e) is at) in
             let ok = c.requires.ports k p.0 p.1 in (
