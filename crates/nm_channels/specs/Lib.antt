@@ -1,1 +1,6 @@
-pub mod Carried
+pub mod Ends
+pub mod Finished
+pub mod Moments
+pub mod Settled
+pub mod Sound
+pub mod SoFar

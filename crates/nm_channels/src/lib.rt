@@ -1,9 +1,27 @@
-//! What ports carry, as lists of packets by number.
+//! From both ends of each channel to the whole run: what ranks owe one another that have nothing
+//! left to send.
 //!
-//! A port counts what it sent and passed on, and its seat knows the packets by way. Whoever runs a
-//! rank knows the packets that left it, and those that it took, one after another. `HasSent` and
-//! `HasPassed` tie the two: they stand at a new port, each send and each poll keeps them, and at the
-//! close they say which lists `Closed` has.
+//! Each rank knows its own history, and which packets and pieces it took. Where both ranks of a
+//! pair have nothing left to send, and each took of the other what the other's history calls for,
+//! then the messages between them are delivered and over. MPI 3.1, sections 3.4 (standard and
+//! synchronous mode), 3.5 (order) and 3.8.4 (cancel). No law speaks of threads or of a schedule.
+//!
+//! # What a contract sees
+//! A log is a list of moments: a cause, and the events that it made (`specs/Moments`). It stands in
+//! no program. Each call of a rank adds one moment, and its history is the events of its log.
+//! `AreSound` says that each moment follows those before it by the protocol (`specs/Sound`).
+//! `IsEnd` says that a rank has nothing left to send, `IsChannel` that a channel is empty, and
+//! `AreEnds` both of two ranks, which may be the same (`specs/Ends`).
+//! # What is proved
+//! - `logs::moments_go_on`: a log stays sound by one moment more, and how what it shows grows.
+//! - `settled::ends_are_settled`: the messages between two ends are delivered, in order and with
+//!   their bodies; the eager ones, and those that were sent by asking and are paired, are over;
+//!   those that are claimed and not received are kept back; recalls have their answers; and nothing
+//!   that was taken was a stray.
+//! - `settled::ends_make_a_run`: where this holds of each two ranks, and each rank is at its end or
+//!   waits for what can't come, the histories are a run of the script.
+//!
+//! To use a law, call it.
 #![tactic(auto)]
 
 pub mod laws;

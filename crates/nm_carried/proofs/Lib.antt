@@ -1,0 +1,2 @@
+-- lists by number
+mod Listed

@@ -1,0 +1,6 @@
+mod Two
+mod LongMessage
+mod CancelledSend
+mod ClaimedAlone
+mod Stray
+mod ToOneself

@@ -1,6 +1,0 @@
--- From each two ranks to all of them.
-use Rattle.nm_ends.proofs.Run.{all_settle}
-use Rattle.nm_ends.proofs.laws.settled.ends_make_a_run.Goals as goal
-
-pub returns : goal.returns
-returns c = all_settle

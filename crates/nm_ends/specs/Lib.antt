@@ -1,6 +1,0 @@
-pub mod Ends
-pub mod Finished
-pub mod Moments
-pub mod Settled
-pub mod Sound
-pub mod SoFar
