@@ -1,27 +1,19 @@
 -- A rank that has only itself to send to, as it takes its own packets.
-use Rattle.std.proofs.Common.{◌≡◌, ℕ, suc, ◌+◌, ◌<◌, ◌≤◌, ◌⊎◌, Option, None, Some, List, [], ◌∷◌, ◌++◌, length, inl, inr}
-use Rattle.std.proofs.Common.{false, refl, sym, ◌∙◌, ap, subst, arith, length-append}
-use Rattle.nm_history.specs.Delivery.{is_asked}
-use Rattle.nm_history.specs.Sends.{sends}
+use Rattle.std.proofs.Common.{◌≡◌, ℕ, suc, ◌+◌, ◌<◌, ◌≤◌, ◌⊎◌, None, Some, List, [], ◌∷◌, ◌++◌, length, inl}
+use Rattle.std.proofs.Common.{inr}
+use Rattle.std.proofs.Common.{sym, ◌∙◌, ap, subst, arith, length-append}
 use Rattle.nm_protocol.specs.Rules.{AreRight}
-use Rattle.std.specs.Prelude.{IfSome, MatchOption, slice_get, slice_index_or, slice_set}
+use Rattle.std.specs.Prelude.{MatchOption, slice_get, slice_index_or, slice_set}
 use Rattle.std.proofs.lemmas.List.{get_or-set_same, length-set}
 use Rattle.nm_types.specs.declared.packets.Packet.{Packet}
 use Rattle.nm_types.specs.Sizes.{Sizes}
 use Rattle.nm_outbox.specs.declared.letters.Letter.{Letter}
 use Rattle.nm_outbox.specs.Outboxes.{OutboxView, popped_to}
-use Rattle.nm_sending.specs.Departures.{ended_by}
-use Rattle.nm_sending.specs.Sent.{outs}
-use Rattle.nm_rank.specs.Calls.{Notes, TakesNone, TakesPacket}
+use Rattle.nm_rank.specs.Calls.{TakesPacket}
+use Rattle.nm_rank.specs.Pops.{PopsPacket}
 use Rattle.nm_rank.specs.Ranks.{IsFresh, RankView, count_of}
-use Rattle.nm_multi.specs.Moves.{IsAlone, IsMoving, Leaves, MovesFirst, MovesMany}
-
--- the first letter is this one
-pub first_letter : (o : Option Letter) (N : Type 0) (to : ℕ) (p : Packet) → (N → ⊥) →
-    MatchOption o N (λ letter. (to ≡ letter.to) × (p ≡ letter.packet)) →
-    (letter : Letter) × (o ≡ Some letter) × (to ≡ letter.to) × (p ≡ letter.packet)
-first_letter None N to p not is = absurd (not is)
-first_letter (Some letter) N to p not is = (letter, refl, is.0, is.1)
+use Rattle.nm_multi.specs.Moves.{IsAlone, IsMoving, MovesFirst, MovesMany}
+use Rattle.nm_outbox.proofs.LetterLemmas.{first_letter}
 
 -- the one count after it was set
 set_to : (xs ys : List ℕ) (k x : ℕ) → length xs ≡ 1 → k ≡ 0 → ys ≡ slice_set xs k x →
@@ -58,11 +50,41 @@ took_one p old new alone own t =
           omega (arith, long, below);
     }
 
+-- the first letter stays the first one as others come
+first_stays : (xs ys : List Letter) (l : Letter) → slice_get xs 0 ≡ Some l → slice_get (xs ++ ys) 0 ≡ Some l
+first_stays [] ys l is = absurd (clash is) where
+  clash : None ≡ Some l → ⊥
+  clash e = cc
+first_stays (x ∷ xs) ys l is = is
+
+pub still_first : (p : Packet) (l : Letter) (old new : RankView) → slice_get old.sending.outbox.letters 0 ≡ Some l →
+    TakesPacket p old new → slice_get new.sending.outbox.letters 0 ≡ Some l
+still_first p l old new first taken =
+    let put = (taken.happened (λ s. [])).packets in
+    ap (λ (ls : List Letter). slice_get ls 0) put.letters ∙ first_stays old.sending.outbox.letters put.added l first
+
+-- what a pop makes of the first letter and the outbox
+pub record PopsLetter (letter : Letter) (old new : RankView) : Type 0 where
+  pub letters : old.sending.outbox.letters ≡ letter ∷ new.sending.outbox.letters
+  pub popped :
+      new.sending.outbox
+      ≡ record old.sending.outbox {
+        letters = new.sending.outbox.letters;
+        popped = slice_set old.sending.outbox.popped letter.to
+            (popped_to old.sending.outbox letter.to + 1);
+      }
+
+letter_popped : (letter : Letter) (old new : RankView) → slice_get old.sending.outbox.letters 0 ≡ Some letter →
+    PopsPacket old new → PopsLetter letter old new
+letter_popped letter old new first pops =
+    let p = rw first at pops.popped in record { letters = p.0; popped = p.1 }
+
 -- the packet leaves too
 left_one : (letter : Letter) (old between new : RankView) → IsAlone old → IsFresh old →
-    letter.to ≡ 0 → Took old between → Leaves letter between new → IsAlone new
-left_one letter old between new alone fresh own took l =
-    let pops = ap (λ (o : OutboxView). o.popped) l.popped in
+    letter.to ≡ 0 → Took old between → slice_get between.sending.outbox.letters 0 ≡ Some letter →
+    PopsPacket between new → IsAlone new
+left_one letter old between new alone fresh own took still l =
+    let pops = ap (λ (o : OutboxView). o.popped) (letter_popped letter between new still l).popped in
     let many = ap (λ (ns : List ℕ). length ns) took.popped ∙ alone.popped in
     let is = set_to between.sending.outbox.popped new.sending.outbox.popped letter.to _ many own pops in
     record {
@@ -95,61 +117,12 @@ moved_one old new alone m = by m.leaves where
   took : Took old m.between
   took = took_one m.letter.packet old m.between alone m.own.1 m.taken
 
-  by : (IsFresh m.between × Leaves m.letter m.between new) ⊎ (¬ (IsFresh m.between) × (new ≡ m.between)) →
-      IsAlone new
-  by (inl goes) = left_one m.letter old m.between new alone m.fresh m.own.0 took goes.1
+  still : slice_get m.between.sending.outbox.letters 0 ≡ Some m.letter
+  still = still_first m.letter.packet m.letter old m.between m.first m.taken
+
+  by : (IsFresh m.between × PopsPacket m.between new) ⊎ (¬ (IsFresh m.between) × (new ≡ m.between)) → IsAlone new
+  by (inl goes) = left_one m.letter old m.between new alone m.fresh m.own.0 took still goes.1
   by (inr stays) = subst IsAlone (sym stays.1) (stayed_one old m.between alone took stays.0)
-
--- the first letter stays the first one as others come
-first_stays : (xs ys : List Letter) (l : Letter) → slice_get xs 0 ≡ Some l → slice_get (xs ++ ys) 0 ≡ Some l
-first_stays [] ys l is = absurd (clash is) where
-  clash : None ≡ Some l → ⊥
-  clash e = cc
-first_stays (x ∷ xs) ys l is = is
-
--- what `pop_front` ensures of the first letter
-pub record Pops (letter : Letter) (old new : RankView) : Type 0 where
-  pub letters : old.sending.outbox.letters ≡ letter ∷ new.sending.outbox.letters
-  pub popped :
-      new.sending.outbox
-      ≡ record old.sending.outbox {
-        letters = new.sending.outbox.letters;
-        popped = slice_set old.sending.outbox.popped letter.to
-            (popped_to old.sending.outbox letter.to + 1);
-      }
-
-pub leaves_of : (letter : Letter) (o : Option Letter) (old new : RankView) → o ≡ Some letter →
-    Notes (outs (ended_by o)) old new →
-    IfSome o (λ l. (old.sending.outbox.letters ≡ l ∷ new.sending.outbox.letters)
-    × (new.sending.outbox
-    ≡ record old.sending.outbox {
-      letters = new.sending.outbox.letters;
-      popped = slice_set old.sending.outbox.popped l.to (popped_to old.sending.outbox l.to + 1);
-    })) →
-    (new.sending.offers ≡ old.sending.offers) × (new.sending.pushed ≡ old.sending.pushed) →
-    IfSome (ended_by o) (λ m. is_asked (sends old.events m.0) m.1 ≡ false) →
-    TakesNone old new × (new.receiving ≡ old.receiving) × (new.requests ≡ old.requests) →
-    Leaves letter old new
-leaves_of letter o old new at out pops same eager takes =
-    let p = subst (λ (o : Option Letter). IfSome o (λ l. (old.sending.outbox.letters ≡ l ∷ new.sending.outbox.letters)
-    × (new.sending.outbox
-    ≡ record old.sending.outbox {
-      letters = new.sending.outbox.letters;
-      popped = slice_set old.sending.outbox.popped l.to (popped_to old.sending.outbox l.to + 1);
-    }))) at pops in
-    record {
-      out = subst (λ (o : Option Letter). Notes (outs (ended_by o)) old new) at out;
-      letters = p.0;
-      popped = p.1;
-      offers = same.0;
-      pushed = same.1;
-      eager =
-          subst (λ (o : Option Letter). IfSome (ended_by o) (λ m. is_asked (sends old.events m.0) m.1 ≡ false))
-          at eager;
-      takes = takes.0;
-      receiving = takes.1;
-      requests = takes.2;
-    }
 
 -- a rank that is alone takes a copy of its first packet
 pub record Begins (old between : RankView) : Type 0 where
@@ -159,7 +132,6 @@ pub record Begins (old between : RankView) : Type 0 where
   pub first : slice_get old.sending.outbox.letters 0 ≡ Some letter
   pub own : (letter.to ≡ 0) × (letter.packet.from ≡ 0)
   pub taken : TakesPacket letter.packet old between
-  pub still : slice_get between.sending.outbox.letters 0 ≡ Some letter
 
 pub begins : (old between : RankView) (N : Type 0) (to : ℕ) (p first : Packet) → IsAlone old → IsFresh old →
     AreRight old.sizes.ranks [] old.events → (N → ⊥) →
@@ -169,7 +141,6 @@ pub begins : (old between : RankView) (N : Type 0) (to : ℕ) (p first : Packet)
 begins old between N to p first alone fresh right not is within own copied taken =
     let l = first_letter (slice_get old.sending.outbox.letters 0) N to first not is in
     let same : p ≡ l.0.packet = copied ∙ l.3 in
-    let put = (taken.happened (λ s. [])).packets in
     record {
       fresh = fresh;
       right = right;
@@ -180,13 +151,10 @@ begins old between N to p first alone fresh right not is within own copied taken
         ap (λ (x : Packet). x.from) (sym l.3) ∙ own ∙ alone.me,
       );
       taken = subst (λ (x : Packet). TakesPacket x old between) same taken;
-      still = ap (λ (ls : List Letter). slice_get ls 0) put.letters
-          ∙ first_stays old.sending.outbox.letters put.added l.0 l.1;
     }
 
 pub moves_of : (old between new : RankView) → (b : Begins old between) →
-    (IsFresh between × Leaves b.letter between new) ⊎ (¬ (IsFresh between) × (new ≡ between)) →
-    MovesFirst old new
+    (IsFresh between × PopsPacket between new) ⊎ (¬ (IsFresh between) × (new ≡ between)) → MovesFirst old new
 moves_of old between new b is =
     record {
       fresh = b.fresh;
@@ -201,8 +169,10 @@ moves_of old between new b is =
 
 -- no fewer packets are here than were, but the one that left
 left_here : (old between new : RankView) (p : Packet) (letter : Letter) → TakesPacket p old between →
-    Leaves letter between new → length old.sending.outbox.letters ≤ length new.sending.outbox.letters + 1
-left_here old between new p letter taken leaves =
+    slice_get old.sending.outbox.letters 0 ≡ Some letter → PopsPacket between new →
+    length old.sending.outbox.letters ≤ length new.sending.outbox.letters + 1
+left_here old between new p letter taken first pops =
+    let leaves = letter_popped letter between new (still_first p letter old between first taken) pops in
     let put = (taken.happened (λ s. [])).packets in
     let long = ap (λ (l : List Letter). length l) put.letters
     ∙ length-append old.sending.outbox.letters put.added in
@@ -213,9 +183,9 @@ left_here old between new p letter taken leaves =
 moved_here : (old new : RankView) → MovesFirst old new → IsFresh new →
     length old.sending.outbox.letters ≤ length new.sending.outbox.letters + 1
 moved_here old new m fresh = by m.leaves where
-  by : (IsFresh m.between × Leaves m.letter m.between new) ⊎ (¬ (IsFresh m.between) × (new ≡ m.between)) →
+  by : (IsFresh m.between × PopsPacket m.between new) ⊎ (¬ (IsFresh m.between) × (new ≡ m.between)) →
       length old.sending.outbox.letters ≤ length new.sending.outbox.letters + 1
-  by (inl goes) = left_here old m.between new m.letter.packet m.letter m.taken goes.1
+  by (inl goes) = left_here old m.between new m.letter.packet m.letter m.taken m.first goes.1
   by (inr stays) = absurd (stays.0 (subst IsFresh stays.1 fresh))
 
 -- one packet more is moved

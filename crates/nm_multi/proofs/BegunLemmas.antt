@@ -2,13 +2,14 @@
 use Rattle.std.proofs.Common.{◌≡◌, ℕ, List, [], length, refl, sym, ◌∙◌, ap, subst, slice_index_or}
 use Rattle.std.proofs.lemmas.List.{length-replicate}
 use Rattle.nm_types.specs.Sizes.{Sizes}
+use Rattle.nm_rank.specs.New.{IsNew}
 use Rattle.nm_rank.specs.Ranks.{RankView}
 use Rattle.nm_multi.specs.declared.calls.Entry.{Entry}
-use Rattle.nm_multi.specs.Acts.{AreReplayed, IsNew}
+use Rattle.nm_multi.specs.Acts.{AreReplayed}
 use Rattle.nm_multi.specs.Standing.{Stands}
 
 -- no call was made, and the only rank took all packets that left it: none
-pub begun : (shape : Sizes) (v : RankView) (log : List Entry) → shape.ranks ≡ 1 → IsNew shape v → Stands [] v →
+pub begun : (shape : Sizes) (v : RankView) (log : List Entry) → shape.ranks ≡ 1 → IsNew shape 0 v → Stands [] v →
     log ≡ [] → AreReplayed v log
 begun shape v log one new stands none =
     subst (λ (es : List Entry). AreReplayed v es) (sym none) (record {
@@ -22,7 +23,7 @@ begun shape v log one new stands none =
       stands = stands;
       replay = record {
         start = v;
-        new = subst (λ (s : Sizes). IsNew s v) (sym new.sizes) new;
+        new = subst (λ (s : Sizes). IsNew s 0 v) (sym new.sizes) new;
         leads = refl;
       };
     })

@@ -1,5 +1,6 @@
 -- A result that shows a message shows the body of its send.
-use Rattle.std.proofs.Common.{◌≡◌, ℕ, zero, suc, ◌+◌, ◌<◌, ◌≤◌, Bool, true, false, cond, Option, None, Some, List, [], ◌∷◌, ◌++◌, length, refl, sym, ◌∙◌, ap, subst, append-nil, length-append, arith}
+use Rattle.std.proofs.Common.{◌≡◌, ℕ, zero, suc, ◌+◌, ◌<◌, ◌≤◌, Bool, true, false, cond, Option, None, Some, List, []}
+use Rattle.std.proofs.Common.{◌∷◌, ◌++◌, length, refl, sym, ◌∙◌, ap, subst, append-nil, length-append, arith}
 use Rattle.std.specs.Prelude.{IfSome, IsSomeAnd, nat_lt, option_and_then, replicate, slice_get}
 use Rattle.std.specs.List.{AllByRecursion}
 use Rattle.std.specs.Option.{option_map_or}
@@ -30,29 +31,30 @@ use Rattle.nm_protocol.specs.Continues.{WORN_STAMP}
 use Rattle.nm_protocol.specs.Known.{nothing_known}
 use Rattle.nm_protocol.specs.Pieces.{Pulled}
 use Rattle.nm_protocol.specs.Rules.{AreRight, IsRightAt}
-use Rattle.nm_protocol.proofs.Basic.{by-along}
 use Rattle.nm_protocol.proofs.Right.{right-numbers}
 use Rattle.nm_request.specs.declared.Kind.{Kind}
 use Rattle.nm_request.specs.declared.Req.{Req}
 use Rattle.nm_request.specs.Requests.{kind_of}
 use Rattle.nm_outbox.specs.Letters.{packets_for}
 use Rattle.nm_receiving.proofs.Facts.{Is_named, right_named}
-use Rattle.nm_receiving.proofs.Lists.{some_from, some_parts}
+use Rattle.nm_receiving.proofs.Lists.{some_from}
 use Rattle.nm_rank.specs.Ranks.{IsFresh, RankView, request_of}
 use Rattle.nm_rank.specs.Requests.{IsResult, pair_with}
-use Rattle.nm_ends.specs.Moments.{Moment, history_of, pulled_from, taken_from}
-use Rattle.nm_ends.specs.Sound.{bytes_of_message}
-use Rattle.nm_ends.proofs.Cutting.{sends_sized, sized_at}
-use Rattle.nm_ends.proofs.Delivering.{sender_right}
-use Rattle.nm_ends.proofs.Granting.{last_of}
-use Rattle.nm_ends.proofs.Numbers.{SentBefore, arrivals_sent, messages_sent, pairs_came}
-use Rattle.nm_log.specs.Calls.{ShowsLogged}
+use Rattle.nm_channels.specs.Moments.{Moment, history_of, pulled_from, taken_from}
+use Rattle.nm_channels.specs.Sound.{bytes_of_message}
+use Rattle.nm_channels.proofs.Cutting.{sends_sized, sized_at}
+use Rattle.nm_channels.proofs.Delivering.{sender_right}
+use Rattle.nm_channels.proofs.Granting.{last_of}
+use Rattle.nm_channels.proofs.Numbers.{SentBefore, arrivals_sent, messages_sent, pairs_came}
+use Rattle.nm_rank_log.specs.Calls.{ShowsLogged}
 use Rattle.nm_multi.specs.declared.calls.Call.TheVariants.{Finish}
 use Rattle.nm_multi.specs.declared.calls.Reply.TheVariants.{Ended}
 use Rattle.nm_multi.specs.Acts.{Ends, ShowsBody}
 use Rattle.nm_multi.specs.Moves.{IsAlone}
 use Rattle.nm_multi.specs.Standing.{AreBodies, Stands}
 use Rattle.nm_multi.proofs.SoFar.{CameSoFar, came_so_far}
+use Rattle.nm_facts.proofs.Lists.{all_along}
+use Rattle.nm_facts.proofs.Options.{some_and}
 
 -- the body of each send, by its number
 abbrev pub bodies_by : List Body → Sent → List ℕ
@@ -219,7 +221,7 @@ stands_so_far sent v st fresh alone right =
     (subst (λ (me : ℕ). AreCalled me 0 (outgoing bodies v.events 0) (st.past.left.packets ++ more)) alone.me
     packets.called)))
     (subst (λ (ps : List Packet). AllByRecursion (λ p. p.stamp < WORN_STAMP) (ps ++ more)) (sym (st.even fresh))
-    (by-along (λ p. p.stamp ≤ v.clock) (λ p. p.stamp < WORN_STAMP) (st.past.left.packets ++ more)
+    (all_along (λ p. p.stamp ≤ v.clock) (λ p. p.stamp < WORN_STAMP) (st.past.left.packets ++ more)
     (λ p early. omega (arith, early, clock)) packets.early))
 
 right_each : (ranks : ℕ) (h : List Event) → AreRight ranks [] h →
@@ -265,6 +267,6 @@ pub shows_body : (sent : List Body) (v v' : RankView) (r : Req) (a : Answer) (st
     ((k : Kind) → kind_of v.requests r ≡ Some k → ShowsLogged st.past.log v.events k a) →
     ShowsBody sent v (Finish r) (Ended a)
 shows_body sent v v' r (answer.Got from tag body) st fresh alone right ends shows =
-    let k = some_parts (IsResult v (answer.Got from tag body)) (kind_of v.requests r) ends.gives in
+    let k = some_and (IsResult v (answer.Got from tag body)) (kind_of v.requests r) ends.gives in
     got_shown sent v r k.0 from tag body st fresh alone right k.1 k.2 (shows k.0 k.1)
 shows_body sent v v' r a st fresh alone right ends shows = tt

@@ -1,5 +1,6 @@
 -- The messages that a log of programs shows are short, since those that programs send are.
-use Rattle.std.proofs.Common.{◌≡◌, ℕ, zero, suc, ◌+◌, ◌*◌, ◌/◌, ◌%◌, ◌^◌, ◌<◌, ◌≤◌, ◌==◌, Bool, true, false, cond, Option, None, Some, List, [], ◌∷◌, ◌++◌, length}
+use Rattle.std.proofs.Common.{◌≡◌, ℕ, zero, suc, ◌+◌, ◌*◌, ◌/◌, ◌%◌, ◌^◌, ◌<◌, ◌≤◌, ◌==◌, Bool, true, false, cond}
+use Rattle.std.proofs.Common.{Option, None, Some, List, [], ◌∷◌, ◌++◌, length}
 use Rattle.std.proofs.Common.{refl, sym, ap, subst, arith}
 use Rattle.std.specs.Prelude.{slice_get}
 use Rattle.std.proofs.Math.Nat.{mul-le-mul_left}
@@ -11,8 +12,6 @@ use Rattle.nm_types.specs.declared.answers.Answer.TheVariants as answer
 use Rattle.nm_types.specs.declared.scripts.Body.{Body}
 use Rattle.nm_types.specs.declared.scripts.Body.TheVariants.{Gen}
 use Rattle.nm_types.specs.Bodies.{bytes_of, generated_byte}
-use Rattle.nm_protocol.proofs.Basic.{by-append, eq_true}
-use Rattle.nm_receiving.proofs.Lists.{some_parts}
 use Rattle.nm_request.specs.declared.Req.{Req}
 use Rattle.nm_rank.specs.Ranks.{RankView}
 use Rattle.nm_rank.specs.Requests.{pair_with}
@@ -23,9 +22,13 @@ use Rattle.nm_multi.specs.declared.calls.Reply.{Reply}
 use Rattle.nm_multi.specs.declared.calls.Reply.TheVariants as reply
 use Rattle.nm_multi.specs.declared.turns.Progress.{Progress}
 use Rattle.nm_multi.specs.Acts.{Acts, Leads, ShowsBody, bodies_of, body_sent}
-use Rattle.nm_multi.specs.Programs.{Follows, IsWhole, entries_of, finish_or_pump, next_call, no_progress, progress_after}
+use Rattle.nm_multi.specs.Programs.{Follows, IsWhole, entries_of, finish_or_pump, next_call, no_progress}
+use Rattle.nm_multi.specs.Programs.{progress_after}
 use Rattle.nm_multi.specs.Text.{bytes_got, shown}
 use Rattle.nm_multi.proofs.Going.{more_sent}
+use Rattle.nm_facts.proofs.Numbers.{eq_true}
+use Rattle.nm_facts.proofs.Lists.{all_append}
+use Rattle.nm_facts.proofs.Options.{some_and}
 
 -- a body has fewer than 64 bytes
 abbrev IsShort : Body → Type 0
@@ -91,8 +94,8 @@ at_place P (y ∷ ys) (suc k) x each at = at_place P ys k x each.1 at
 got_short : (sent : List Body) (c : Call) (r : Reply) (old new : RankView) → Acts c r old new →
     ShowsBody sent old c r → AllByRecursion IsShort sent → option_map_or (λ len. len) (shown r) 0 ≤ 64
 got_short sent (call.Finish q) (reply.Ended (answer.Got from tag body)) old new acts shows short =
-    let pair = some_parts _ (pair_with old q) shows in
-    let b = some_parts (λ b. body ≡ bytes_of b) (slice_get sent pair.0.arrival.n) pair.2 in
+    let pair = some_and _ (pair_with old q) shows in
+    let b = some_and (λ b. body ≡ bytes_of b) (slice_get sent pair.0.arrival.n) pair.2 in
     let below = at_place IsShort sent pair.0.arrival.n b.0 short b.1 in
     let long = ap (λ (l : List ℕ). length l) b.2 in
     omega (arith, below, long)
@@ -116,7 +119,7 @@ few_bytes before (e ∷ log) old new leads short each =
     let one = got_short (bodies_of before) e.call e.reply old leads.0 leads.1 leads.2 short in
     let rest = few_bytes (before ++ e ∷ []) log leads.0 new leads.3
     (subst (λ (bs : List Body). AllByRecursion IsShort bs) (sym (more_sent before e))
-    (by-append IsShort (bodies_of before) _ short (sent_short e.call e.reply each.0))) each.1 in
+    (all_append IsShort (bodies_of before) _ short (sent_short e.call e.reply each.0))) each.1 in
     let sum : bytes_got (e ∷ log) ≡ option_map_or (λ len. len) (shown e.reply) 0 + bytes_got log =
     sum_by-cons (λ (e : Entry). option_map_or (λ len. len) (shown e.reply) 0) e log in
     omega (arith, one, rest, sum)

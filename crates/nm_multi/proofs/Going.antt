@@ -10,6 +10,7 @@ use Rattle.nm_types.specs.Sizes.{Sizes}
 use Rattle.nm_request.specs.declared.Req.{Req}
 use Rattle.nm_rank.specs.declared.answers.Cancelled.{Cancelled}
 use Rattle.nm_rank.specs.Calls.{TakesNone}
+use Rattle.nm_rank.specs.Pops.{PopsPacket}
 use Rattle.nm_rank.specs.Ranks.{IsFresh, RankView, count_of}
 use Rattle.nm_multi.specs.declared.calls.Call.{Call}
 use Rattle.nm_multi.specs.declared.calls.Call.TheVariants as call
@@ -18,7 +19,7 @@ use Rattle.nm_multi.specs.declared.calls.Reply.{Reply}
 use Rattle.nm_multi.specs.declared.calls.Reply.TheVariants as reply
 use Rattle.nm_multi.specs.Acts.{Acts, AreReplayed, Cancels, Ends, GoesOn, IsReplay, Leads, MovesAll, MovesSome}
 use Rattle.nm_multi.specs.Acts.{ShowsBody, StartsReceive, StartsSend, bodies_of, body_sent}
-use Rattle.nm_multi.specs.Moves.{IsAlone, Leaves, MovesFirst, MovesMany}
+use Rattle.nm_multi.specs.Moves.{IsAlone, MovesFirst, MovesMany}
 use Rattle.nm_multi.specs.Standing.{Stands}
 use Rattle.nm_multi.proofs.Alone.{moved_one}
 use Rattle.nm_types.specs.Bodies.{bytes_of}
@@ -163,7 +164,7 @@ silent old new fresh alone t popped = quiet old new fresh alone t.me t.sizes t.t
 
 sizes_moved : (old new : RankView) → MovesFirst old new → new.sizes ≡ old.sizes
 sizes_moved old new m = by m.leaves where
-  by : (IsFresh m.between × Leaves m.letter m.between new) ⊎ (¬ (IsFresh m.between) × (new ≡ m.between)) →
+  by : (IsFresh m.between × PopsPacket m.between new) ⊎ (¬ (IsFresh m.between) × (new ≡ m.between)) →
       new.sizes ≡ old.sizes
   by (inl goes) = goes.1.takes.sizes ∙ m.taken.sizes
   by (inr stays) = ap (λ (v : RankView). v.sizes) stays.1 ∙ m.taken.sizes

@@ -1,10 +1,10 @@
-pub mod Alone
-pub mod Standing
-pub mod SoFar
-pub mod Bodies
-pub mod Going
-pub mod Results
-pub mod Turning
-pub mod Whole
-pub mod Countable
+mod Alone
+mod Standing
+mod SoFar
+mod Bodies
+mod Going
+mod Results
+mod Turning
+mod Whole
+mod Countable
 mod BegunLemmas

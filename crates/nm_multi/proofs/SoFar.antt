@@ -1,7 +1,7 @@
 -- What came so far of what a rank sends to itself, where more is still to come: as if it took that next.
-use Rattle.std.proofs.Common.{◌≡◌, ℕ, ◌+◌, ◌<◌, ◌==◌, max, Bool, true, false, cond, Some, List, [], ◌∷◌, ◌++◌, length, map, refl, sym, ◌∙◌, ap, subst, append-nil, append_assoc, arith, true≢false}
+use Rattle.std.proofs.Common.{◌≡◌, ℕ, ◌+◌, ◌<◌, ◌==◌, max, true, false, Some, List, [], ◌∷◌, ◌++◌, map, refl, sym}
+use Rattle.std.proofs.Common.{◌∙◌, ap, subst, append-nil, append_assoc, arith}
 use Rattle.std.specs.Prelude.{slice_get}
-use Rattle.std.specs.Bool.{OnTrue}
 use Rattle.std.specs.List.{AllByRecursion}
 use Rattle.std.proofs.lemmas.List.{map-append}
 use Rattle.std.proofs.lemmas.List.Elements.{filter_map-append}
@@ -13,25 +13,25 @@ use Rattle.nm_history.specs.AtEach.{AtEach}
 use Rattle.nm_history.specs.Delivery.{ArriveInOrder}
 use Rattle.nm_history.specs.Outgoing.{AreCalled, Called, outgoing}
 use Rattle.nm_history.specs.Sends.{Arrived, Sent, arrivals, is_ask, sends}
-use Rattle.nm_protocol.specs.Bytes.{bytes_in, eager_bytes}
+use Rattle.nm_protocol.specs.Bytes.{eager_bytes}
 use Rattle.nm_protocol.specs.Clock.{stamped}
-use Rattle.nm_protocol.specs.Continues.{WORN_STAMP, continues, is_of_stream}
+use Rattle.nm_protocol.specs.Continues.{WORN_STAMP, continues}
 use Rattle.nm_protocol.specs.Effects.{taken_events}
-use Rattle.nm_protocol.specs.Known.{Known, Taken, known_after, known_by, learned, nothing_known}
+use Rattle.nm_protocol.specs.Known.{Known, Taken, known_by, nothing_known}
 use Rattle.nm_protocol.specs.Rules.{AreRight}
-use Rattle.nm_protocol.proofs.Basic.{eq_true}
 use Rattle.nm_protocol.proofs.Growing.{stamped-follow, stamped-same}
 use Rattle.nm_protocol.proofs.Right.{right-numbers}
 use Rattle.nm_protocol.proofs.Sent.{sends_numbered}
-use Rattle.nm_ends.specs.Moments.{Moment, clock_of, history_of, taken_from, taken_of}
-use Rattle.nm_ends.specs.Moments.Cause.{Took}
-use Rattle.nm_ends.specs.Sound.{AreSound, MayHappen}
-use Rattle.nm_ends.proofs.Arriving.{arrivals-append}
-use Rattle.nm_ends.proofs.Delivering.{history-append, sender_right, stream_arrives}
-use Rattle.nm_ends.proofs.EagerBytes.{eager_all, eager_body_at, eager_bytes-append}
-use Rattle.nm_ends.proofs.Logs.{sound-push}
-use Rattle.nm_ends.proofs.Streaming.{Carries, InTime}
-use Rattle.nm_ends.proofs.Streams.{StreamContinued}
+use Rattle.nm_channels.specs.Moments.{Moment, clock_of, history_of, taken_from, taken_of}
+use Rattle.nm_channels.specs.Moments.Cause.{Took}
+use Rattle.nm_channels.specs.Sound.{AreSound, MayHappen}
+use Rattle.nm_channels.proofs.Delivering.{history-append, sender_right, stream_arrives}
+use Rattle.nm_channels.proofs.EagerBytes.{eager_all, eager_body_at, eager_bytes-append}
+use Rattle.nm_channels.proofs.Logs.{sound-push}
+use Rattle.nm_channels.proofs.Streaming.{Carries, InTime}
+use Rattle.nm_facts.proofs.Numbers.{eq_true}
+use Rattle.nm_channels.proofs.SoFar.{same_bytes, continuing_packets, continuing_go}
+use Rattle.nm_history.proofs.AppendLemmas.{arrivals-append}
 
 -- the moment of a rank that takes this packet next
 abbrev next : ℕ → List Moment → Packet → Moment
@@ -87,38 +87,6 @@ called_own k (c ∷ cs) (x ∷ xs) ps called = called_own (k + 1) cs xs ps calle
 -- the same packet, as one that continued
 abbrev continuing : Taken → Taken
 continuing t = record t { continued = true }
-
--- a packet of the sender's own messages that continued carries and announces the same; any other
--- carries nothing, and announces nothing
-same_step : (n : ℕ) (known known' : Known) (b : Bool) (w : What) (payload : List ℕ) (size : ℕ) →
-    known.count ≡ known'.count → OnTrue (is_of_stream w) (b ≡ true) →
-    (cond b (bytes_in n known w payload) [] ≡ bytes_in n known' w payload)
-    × ((cond b (learned known w size) known).count ≡ (learned known' w size).count)
-same_step n known known' true (what.Head tag ctx len) payload size same goes =
-    (ap (λ (k : ℕ). cond (k == n) payload []) same, ap (λ (k : ℕ). k + 1) same)
-same_step n known known' true (what.Ask tag ctx len) payload size same goes = (refl, ap (λ (k : ℕ). k + 1) same)
-same_step n known known' true w payload size same goes = (refl, same)
-same_step n known known' false (what.Clear m) payload size same goes = (refl, same)
-same_step n known known' false (what.Withdrawn m done) payload size same goes = (refl, same)
-same_step n known known' false w payload size same goes = absurd (true≢false (sym goes))
-
-same_bytes : (n : ℕ) (known known' : Known) (ts : List Taken) → known.count ≡ known'.count →
-    AllByRecursion StreamContinued ts → eager_bytes n known ts ≡ eager_bytes n known' (map continuing ts)
-same_bytes n known known' [] same goes = refl
-same_bytes n known known' (t ∷ ts) same goes =
-    let size : ℕ = length t.packet.payload in
-    let step = same_step n known known' t.continued t.packet.what t.packet.payload size same goes.0 in
-    ap (λ (xs : List ℕ). xs ++ eager_bytes n (known_after known t) ts) step.0
-    ∙ ap (λ (xs : List ℕ). bytes_in n known' t.packet.what t.packet.payload ++ xs)
-    (same_bytes n (known_after known t) (learned known' t.packet.what size) ts step.1 goes.1)
-
-same_packets : (ts : List Taken) → map (λ t. t.packet) (map continuing ts) ≡ map (λ t. t.packet) ts
-same_packets [] = refl
-same_packets (t ∷ ts) = ap (λ (ps : List Packet). t.packet ∷ ps) (same_packets ts)
-
-all_continuing : (ts : List Taken) → AllByRecursion (λ t. t.continued ≡ true) (map continuing ts)
-all_continuing [] = tt
-all_continuing (t ∷ ts) = (refl, all_continuing ts)
 
 times : (ts : List Taken) → AllByRecursion (λ p. p.stamp < WORN_STAMP) (map (λ t. t.packet) ts) → InTime ts
 times [] early = tt
@@ -178,8 +146,9 @@ came_so_far eager ranks bodies log more sound right called early =
             (sym (filter_map-append (λ (m : Moment). taken_of 0 m.cause) log (future eager log more)))
             ∙ same_bytes n nothing_known nothing_known full refl goes.0
             ∙ eager_all eager 0 n 0 bodies h (map continuing full) each
-            (subst (λ (ps : List Packet). AreCalled 0 0 (outgoing bodies h 0) ps) (sym (same_packets full)) carries)
-            (all_continuing full)
+            (subst (λ (ps : List Packet). AreCalled 0 0 (outgoing bodies h 0) ps) (sym (continuing_packets full))
+            carries)
+            (continuing_go full)
             ∙ eager_body_at bodies 0 n n (sends h 0) s (omega arith)
             (sends_numbered ranks 0 h (right-numbers ranks h right)) at is,
       );

@@ -1,5 +1,6 @@
 -- What one moment more leaves of the past of a rank that has only itself to send to.
-use Rattle.std.proofs.Common.{◌≡◌, ℕ, ◌+◌, ◌==◌, Bool, true, false, cond, Option, None, Some, List, [], ◌∷◌, ◌++◌, length, map}
+use Rattle.std.proofs.Common.{◌≡◌, ℕ, ◌+◌, ◌==◌, Bool, true, false, cond, Option, None, Some, List, [], ◌∷◌, ◌++◌}
+use Rattle.std.proofs.Common.{length, map}
 use Rattle.std.proofs.Common.{refl, ◌∙◌, ap, append-nil}
 use Rattle.std.specs.List.{AllByRecursion, cons_option}
 use Rattle.std.proofs.lemmas.List.{map-append}
@@ -17,8 +18,6 @@ use Rattle.nm_history.specs.Sends.{Sent, sends, sent_of}
 use Rattle.nm_protocol.specs.Clock.{stamped}
 use Rattle.nm_protocol.specs.Effects.{is_empty_send, packet_events, whole_if}
 use Rattle.nm_protocol.specs.Known.{Known, Taken}
-use Rattle.nm_protocol.proofs.Basic.{by-append, eq_true}
-use Rattle.nm_protocol.proofs.Sent.{sends-append}
 use Rattle.nm_request.specs.declared.Kind.{Kind}
 use Rattle.nm_request.specs.declared.Kind.TheVariants as kind
 use Rattle.nm_sending.specs.Sent.{outs}
@@ -27,12 +26,15 @@ use Rattle.nm_rank.specs.Calls.{made_of}
 use Rattle.nm_rank.specs.Calls.{taken_of as taken_here}
 use Rattle.nm_rank.specs.Ranks.{IsFresh, RankView, known_from}
 use Rattle.nm_rank.specs.Requests.{cancel_events}
-use Rattle.nm_ends.specs.Moments.{Moment, pulled_from, pulled_of, taken_from, taken_of}
-use Rattle.nm_ends.proofs.BytesCame.{pulled_around, taken_around}
-use Rattle.nm_log.specs.Logged.{IsLogged}
-use Rattle.nm_log.specs.Moments.{acted, took}
-use Rattle.nm_outgoing.specs.Left.{IsLeft, Left, with_packet}
+use Rattle.nm_channels.specs.Moments.{Moment, pulled_from, pulled_of, taken_from, taken_of}
+use Rattle.nm_channels.proofs.BytesCame.{pulled_around, taken_around}
+use Rattle.nm_rank_log.specs.Logged.{IsLogged}
+use Rattle.nm_rank_log.specs.Moments.{acted, took}
+use Rattle.nm_rank_outgoing.specs.Left.{IsLeft, Left, with_packet}
 use Rattle.nm_multi.specs.Standing.{AreBodies, Stands}
+use Rattle.nm_facts.proofs.Numbers.{eq_true}
+use Rattle.nm_facts.proofs.Lists.{all_append}
+use Rattle.nm_history.proofs.AppendLemmas.{sends-append}
 
 -- a moment of the rank's own takes no packet and no piece
 pub taken_still : (log : List Moment) (v : RankView) (ws : List Happened) →
@@ -61,16 +63,16 @@ pulled_more log v p =
     ∙ append-nil (pulled_from 0 log)
 
 -- what happens is no send
-abbrev pub IsNoSend : Happened → Type 0
-IsNoSend w = (stamp : ℕ) → sent_of stamp w ≡ None
+abbrev pub SendsNone : Happened → Type 0
+SendsNone w = (stamp : ℕ) → sent_of stamp w ≡ None
 
-none_sent : (start to : ℕ) (ws : List Happened) → AllByRecursion IsNoSend ws →
+none_sent : (start to : ℕ) (ws : List Happened) → AllByRecursion SendsNone ws →
     sends (stamped start ws) to ≡ []
 none_sent start to [] each = refl
 none_sent start to (w ∷ ws) each = rw (each.0 (start + 1)) (none_sent (start + 1) to ws each.1)
 
 -- then as many messages were sent as before
-pub sent_still : (v v' : RankView) (start : ℕ) (ws : List Happened) → AllByRecursion IsNoSend ws →
+pub sent_still : (v v' : RankView) (start : ℕ) (ws : List Happened) → AllByRecursion SendsNone ws →
     v'.events ≡ v.events ++ stamped start ws → length (sends v'.events 0) ≡ length (sends v.events 0)
 sent_still v v' start ws each grown =
     ap (λ (h : List Event). length (sends h 0)) grown
@@ -78,43 +80,43 @@ sent_still v v' start ws each grown =
     ∙ ap (λ (ss : List Sent). length (sends v.events 0 ++ ss)) (none_sent start 0 ws each)
     ∙ ap (λ (ss : List Sent). length ss) (append-nil (sends v.events 0))
 
-whole_none : (b : Bool) (from n : ℕ) → AllByRecursion IsNoSend (whole_if b from n)
+whole_none : (b : Bool) (from n : ℕ) → AllByRecursion SendsNone (whole_if b from n)
 whole_none true from n = (λ stamp. refl, tt)
 whole_none false from n = tt
 
-pub receive_none : (o : Option Arrival) → AllByRecursion IsNoSend (taken_events o)
+pub receive_none : (o : Option Arrival) → AllByRecursion SendsNone (taken_events o)
 receive_none None = tt
 receive_none (Some a) = whole_none (is_empty_ask a) a.env.from a.n
 
-pub outs_none : (o : Option (ℕ × ℕ)) → AllByRecursion IsNoSend (outs o)
+pub outs_none : (o : Option (ℕ × ℕ)) → AllByRecursion SendsNone (outs o)
 outs_none None = tt
 outs_none (Some m) = (λ stamp. refl, tt)
 
-pub cancel_none : (h : List Event) (k : Kind) → AllByRecursion IsNoSend (cancel_events h k)
+pub cancel_none : (h : List Event) (k : Kind) → AllByRecursion SendsNone (cancel_events h k)
 cancel_none h (kind.Receive number) = (λ stamp. refl, tt)
 cancel_none h (kind.Send to n) = by (happened (is_recall to n) h) where
-  by : (b : Bool) → AllByRecursion IsNoSend (cond b [] (Recall to n ∷ []))
+  by : (b : Bool) → AllByRecursion SendsNone (cond b [] (Recall to n ∷ []))
   by true = tt
   by false = (λ stamp. refl, tt)
 
 packet_none : (known : Known) (h : List Event) (from size : ℕ) (w : What) →
-    AllByRecursion IsNoSend (packet_events known h from w size)
+    AllByRecursion SendsNone (packet_events known h from w size)
 packet_none known h from size (what.Head tag ctx len) =
-    (λ stamp. refl, by-append IsNoSend _ [] (whole_none (len == size) from known.count) tt)
+    (λ stamp. refl, all_append SendsNone _ [] (whole_none (len == size) from known.count) tt)
 packet_none known h from size (what.More m) =
-    by-append IsNoSend _ [] (whole_none (known.missing == size) from m) tt
+    all_append SendsNone _ [] (whole_none (known.missing == size) from m) tt
 packet_none known h from size (what.Ask tag ctx len) = (λ stamp. refl, whole_none _ from known.count)
-packet_none known h from size (what.Clear m) = by-append IsNoSend _ [] (by (is_empty_send h from m)) tt
+packet_none known h from size (what.Clear m) = all_append SendsNone _ [] (by (is_empty_send h from m)) tt
   where
-    by : (b : Bool) → AllByRecursion IsNoSend (cond b (Out from m ∷ []) [])
+    by : (b : Bool) → AllByRecursion SendsNone (cond b (Out from m ∷ []) [])
     by true = (λ stamp. refl, tt)
     by false = tt
 packet_none known h from size (what.Withdraw m) = (λ stamp. refl, tt)
 packet_none known h from size (what.Withdrawn m done) = (λ stamp. refl, tt)
 
-pub made_none : (v : RankView) (p : Packet) → AllByRecursion IsNoSend (made_of v p)
+pub made_none : (v : RankView) (p : Packet) → AllByRecursion SendsNone (made_of v p)
 made_none v p = by (taken_here v p).continued where
-  by : (b : Bool) → AllByRecursion IsNoSend
+  by : (b : Bool) → AllByRecursion SendsNone
       (cond b (packet_events (known_from v.known p.from) v.events p.from p.what (length p.payload)) [])
   by true = packet_none (known_from v.known p.from) v.events p.from (length p.payload) p.what
   by false = tt

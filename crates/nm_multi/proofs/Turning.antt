@@ -1,16 +1,15 @@
 -- What one call more does to the programs of threads.
-use Rattle.std.proofs.Common.{◌≡◌, ◌≢◌, ℕ, ◌+◌, ◌*◌, ◌/◌, ◌%◌, ◌<◌, ◌≤◌, ◌==◌, ◌⊎◌, Bool, true, false, cond, Option, None, Some, inl, inr}
+use Rattle.std.proofs.Common.{◌≡◌, ◌≢◌, ℕ, ◌+◌, ◌*◌, ◌/◌, ◌%◌, ◌<◌, ◌≤◌, ◌==◌, ◌⊎◌, Bool, true, false, cond, Option}
+use Rattle.std.proofs.Common.{None, Some, inl, inr}
 use Rattle.std.proofs.Common.{List, [], ◌∷◌, ◌++◌, length, refl, sym, ◌∙◌, ap, subst, arith, append-nil, length-append}
 use Rattle.std.specs.Prelude.{MatchOption, replicate, slice_get, slice_index_or, slice_set}
 use Rattle.std.specs.List.{AllByRecursion}
-use Rattle.std.proofs.lemmas.Bool.{true≢false}
-use Rattle.std.proofs.lemmas.Bool.Decides.{nat_tests}
-use Rattle.std.proofs.lemmas.List.{get_or-replicate, get_or-set_other, get_or-set_same, length-replicate, length-set, set-get_or}
+use Rattle.std.proofs.lemmas.List.{get_or-replicate, get_or-set_other, get_or-set_same, length-replicate, length-set}
+use Rattle.std.proofs.lemmas.List.{set-get_or}
 use Rattle.std.proofs.lemmas.List.Elements.{filter-append}
 use Rattle.std.proofs.lemmas.Option.{slice_get_past}
 use Rattle.nm_types.specs.declared.scripts.Body.TheVariants.{Gen}
 use Rattle.nm_types.specs.Sizes.{Sizes}
-use Rattle.nm_protocol.proofs.Basic.{by-append}
 use Rattle.nm_receiving.proofs.Lists.{slice_get-last}
 use Rattle.nm_multi.specs.declared.calls.Call.{Call}
 use Rattle.nm_multi.specs.declared.calls.Call.TheVariants.{Irecv, Isend, Pump}
@@ -19,9 +18,12 @@ use Rattle.nm_multi.specs.declared.turns.Progress.{Progress}
 use Rattle.nm_multi.specs.Acts.{DeskView, Makes}
 use Rattle.nm_multi.specs.Calls.{IsInRange}
 use Rattle.nm_request.specs.declared.Req.{Req}
-use Rattle.nm_multi.specs.Programs.{ArePrograms, AreTurns, Follows, HasMadeAll, SameTurns, TurnsView, call_of, entries_of, next_call}
+use Rattle.nm_multi.specs.Programs.{ArePrograms, AreTurns, Follows, HasMadeAll, SameTurns, TurnsView, call_of}
+use Rattle.nm_multi.specs.Programs.{entries_of, next_call}
 use Rattle.nm_multi.specs.Programs.{finish_or_pump, no_progress, progress_after, progress_from, progress_of}
 use Rattle.nm_multi.proofs.Going.{same_sizes}
+use Rattle.nm_facts.proofs.Lists.{all_append}
+use Rattle.nm_facts.proofs.Numbers.{same_number, differ}
 
 -- one call more follows the others
 follows_on : (t : ℕ) (p : Progress) (es : List Entry) (e : Entry) → Follows t p es →
@@ -55,17 +57,6 @@ other_on t log e is =
     filter-append (λ e. e.who == t) log (e ∷ [])
     ∙ ap (λ (b : Bool). entries_of t log ++ cond b (e ∷ []) []) is ∙ append-nil (entries_of t log)
 
-pub is_same : (a b : ℕ) → (a == b) ≡ true → a ≡ b
-is_same a b is = grind (arith, nat_tests)
-
-pub is_other : (a b : ℕ) → (a == b) ≡ false → b ≢ a
-is_other a b is same = absurd (apart (is_own a b same)) where
-  apart : (a == b) ≡ true → ⊥
-  apart own = true≢false (sym own ∙ is)
-
-  is_own : (a b : ℕ) → b ≡ a → (a == b) ≡ true
-  is_own a b same = grind (arith, nat_tests)
-
 -- a call of a thread's program
 pub record IsCall (v : TurnsView) (t : ℕ) (e : Entry) : Type 0 where
   pub within : t < v.threads
@@ -80,18 +71,18 @@ by_thread : (v : TurnsView) (t : ℕ) (e : Entry) (P : ℕ → List Entry → Ty
 by_thread v t e P is own s others = by (e.who == s) refl where
   by : (b : Bool) → (e.who == s) ≡ b → P s (entries_of s (v.desk.log ++ e ∷ []))
   by true at =
-      let here : t ≡ s = sym is.who ∙ is_same e.who s at in
+      let here : t ≡ s = sym is.who ∙ same_number e.who s at in
       subst (λ (es : List Entry). P s es) (sym (own_on s v.desk.log e at))
       (subst (λ (k : ℕ). P k (entries_of k v.desk.log ++ e ∷ [])) here own)
   by false at =
       subst (λ (es : List Entry). P s es) (sym (other_on s v.desk.log e at))
-      (others (λ same. is_other e.who s at (sym same ∙ sym is.who)))
+      (others (λ same. differ e.who s at (sym same ∙ sym is.who)))
 
 programs_on : (v : TurnsView) (t : ℕ) (e : Entry) → ArePrograms v.threads v.rounds v.desk.log →
     IsCall v t e → ArePrograms v.threads v.rounds (v.desk.log ++ e ∷ [])
 programs_on v t e are is =
     record {
-      whose = by-append (λ e. e.who < v.threads) v.desk.log (e ∷ []) are.whose
+      whose = all_append (λ e. e.who < v.threads) v.desk.log (e ∷ []) are.whose
           (subst (λ (k : ℕ). k < v.threads) (sym is.who) is.within, tt);
       follow = λ s within. by_thread v t e (λ s es. s < v.threads → Follows s no_progress es) is
           (λ within. follows_on t no_progress (entries_of t v.desk.log) e (are.follow t within) is.call) s

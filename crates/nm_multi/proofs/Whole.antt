@@ -10,7 +10,7 @@ use Rattle.nm_types.specs.Sizes.{Sizes}
 use Rattle.nm_multi.specs.Acts.{IsReplay, is_short}
 use Rattle.nm_multi.specs.Programs.{AreOf, ArePrograms, HasMadeAll, IsWhole, SameTurns, TurnsView}
 use Rattle.nm_multi.specs.Programs.{entries_of}
-use Rattle.nm_multi.proofs.Turning.{is_other}
+use Rattle.nm_facts.proofs.Numbers.{differ}
 
 -- the calls of all but one
 rest_whose : (k : ℕ) (log : List Entry) → AllByRecursion (λ e. e.who < suc k) log →
@@ -22,7 +22,7 @@ rest_whose k (e ∷ log) w = by (e.who == k) refl (rest_whose k log w.1) where
       (cond (not b) (e ∷ filter (λ e. not (e.who == k)) log) (filter (λ e. not (e.who == k)) log))
   by true at before = before
   by false at before =
-      let other = is_other e.who k at in let below = w.0 in (omega (arith, other, below), before)
+      let other = differ e.who k at in let below = w.0 in (omega (arith, other, below), before)
 
 apart : (w k t : ℕ) → t ≢ k → (w == k) ≡ true → (w == t) ≡ false
 apart w k t other at = grind (arith, nat_tests)

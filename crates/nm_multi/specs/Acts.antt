@@ -1,10 +1,9 @@
 -- What a call does to the one rank, and which logs are legal.
 use Rattle.std.specs.Prelude.{◌≡◌, ℕ, ◌+◌, ◌<◌, ◌≤◌, ◌⊎◌, Bool, true, false, if◌then◌else◌}
 use Rattle.std.specs.Prelude.{Option, None, Some, filter_map, slice_get}
-use Rattle.std.specs.Prelude.{IsSomeAnd, List, [], ◌∷◌, ◌++◌, length, replicate}
+use Rattle.std.specs.Prelude.{IsSomeAnd, List, [], ◌∷◌, ◌++◌, length}
 use Rattle.nm_types.specs.declared.answers.Answer.{Answer}
 use Rattle.nm_types.specs.declared.answers.Answer.TheVariants.{Got}
-use Rattle.nm_types.specs.declared.messages.Arrival.{Arrival}
 use Rattle.nm_types.specs.declared.messages.Peer.TheVariants as peer
 use Rattle.nm_types.specs.declared.messages.TagPick.TheVariants as pick
 use Rattle.nm_types.specs.declared.scripts.Body.{Body}
@@ -15,17 +14,17 @@ use Rattle.nm_history.specs.Completion.{is_complete}
 use Rattle.nm_history.specs.Matching.{first_message, matched_pairs}
 use Rattle.nm_history.specs.RankRun.{how_of}
 use Rattle.nm_history.specs.Sends.{Sent, is_ask, receives, sends}
-use Rattle.nm_protocol.specs.Known.{nothing_known}
 use Rattle.nm_request.specs.declared.Kind.{Kind}
 use Rattle.nm_request.specs.declared.Kind.TheVariants as kind
 use Rattle.nm_request.specs.declared.Req.{Req}
 use Rattle.nm_request.specs.Requests.{kind_of}
-use Rattle.nm_rndv.specs.Offers.{destined, no_offers, with_asked, with_destined}
-use Rattle.nm_receiving.specs.Receipts.{SameOtherBytes, came_of, drawn_from, taken_events}
+use Rattle.nm_rndv.specs.Offers.{destined, with_asked, with_destined}
+use Rattle.nm_receiving.specs.Receipts.{SameOtherBytes, taken_events}
 use Rattle.nm_rank.specs.declared.answers.Cancelled.{Cancelled}
 use Rattle.nm_rank.specs.declared.answers.State.{State}
 use Rattle.nm_rank.specs.declared.answers.State.TheVariants as state
 use Rattle.nm_rank.specs.Calls.{Happens, Starts, TakesNone}
+use Rattle.nm_rank.specs.New.{IsNew}
 use Rattle.nm_rank.specs.Ranks.{IsFresh, RankView, request_of}
 use Rattle.nm_rank.specs.Requests.{Gives, IsFreed, cancel_answer, cancel_events, offers_cancelled, pair_with}
 use Rattle.nm_multi.specs.declared.calls.Call.{Call}
@@ -182,26 +181,6 @@ pub record Makes (short : Bool) (who : ℕ) (c : Call) (old new : DeskView) : Ty
   pub shows : ShowsBody (bodies_of old.log) old.rank c reply
   pub is : is_short reply ≡ short
 
--- a rank at which nothing happened
-pub record IsNew (shape : Sizes) (v : RankView) : Type 0 where
-  pub me : v.me ≡ 0
-  pub sizes : v.sizes ≡ shape
-  pub events : v.events ≡ []
-  pub clock : v.clock ≡ 0
-  pub own : v.sending.outbox.me ≡ 0
-  pub letters : v.sending.outbox.letters ≡ []
-  pub popped : v.sending.outbox.popped ≡ replicate shape.ranks 0
-  pub offers : v.sending.offers ≡ no_offers shape.ranks
-  pub pushed : v.sending.pushed ≡ replicate shape.ranks 0
-  pub came : (from : ℕ) → drawn_from v.receiving from ≡ 0
-  pub drawn : length v.receiving.drawn ≡ shape.ranks
-  pub bytes : (a : Arrival) → came_of v.receiving a ≡ []
-  pub requests : (q : Req) → kind_of v.requests q ≡ None
-  pub took : v.took ≡ replicate shape.ranks 0
-  pub pulled : v.pulled ≡ replicate shape.ranks 0
-  pub strays : v.strays ≡ 0
-  pub known : v.known ≡ replicate shape.ranks nothing_known
-
 -- after the calls before them, these calls, with these replies, lead from one rank to another
 abbrev pub Leads : List Entry → RankView → List Entry → RankView → Type 0
 Leads before old [] new = new ≡ old
@@ -213,7 +192,7 @@ Leads before old (e ∷ es) new =
 -- from a rank on at which nothing happened.
 pub record IsReplay (shape : Sizes) (log : List Entry) (v : RankView) : Type 0 where
   pub start : RankView
-  pub new : IsNew shape start
+  pub new : IsNew shape 0 start
   pub leads : Leads [] start log v
 
 -- the rank is the only one, and the one to which the log leads, with the sends of the log

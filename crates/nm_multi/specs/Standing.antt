@@ -3,9 +3,9 @@ use Rattle.std.specs.Prelude.{◌≡◌, ℕ, Some, List, [], length, map, slice
 use Rattle.nm_types.specs.declared.scripts.Body.{Body}
 use Rattle.nm_types.specs.Bodies.{bytes_of}
 use Rattle.nm_history.specs.Sends.{Sent, sends}
-use Rattle.nm_ends.specs.Moments.{Moment, pulled_from, taken_from}
-use Rattle.nm_log.specs.Logged.{IsLogged}
-use Rattle.nm_outgoing.specs.Left.{IsLeft, Left}
+use Rattle.nm_channels.specs.Moments.{Moment, pulled_from, taken_from}
+use Rattle.nm_rank_log.specs.Logged.{IsLogged}
+use Rattle.nm_rank_outgoing.specs.Left.{IsLeft, Left}
 use Rattle.nm_rank.specs.Ranks.{IsFresh, RankView}
 
 -- these are the bodies of the sends, by their numbers

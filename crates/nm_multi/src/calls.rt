@@ -99,12 +99,14 @@ impl CallLog {
         self.items.push(entry).unwrap();
     }
 
+    /// How many entries there are.
     pub fn len(&self) -> usize
         ensures { result ≡ length self.now.entries }
     {
         self.items.len()
     }
 
+    /// The entry at place k, from 0; `None` where there are at most k.
     pub fn get(&self, k: usize) -> Option<&Entry>
         ensures value { option_copied result ≡ slice_get self.now.entries k }
         ensures none { IsNone result ↔ (length self.now.entries ≤ k) }

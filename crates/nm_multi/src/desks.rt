@@ -116,6 +116,7 @@ impl Desk {
         ensures empty { IfOk result (λ d. d.log ≡ []) }
         ensures shape { IfOk result (λ d. d.rank.sizes ≡ shape) }
     {
+        // no step: the law of a new rank
         a_desk_begins();
         let rank = Rank::new(alloc, shape, 0)?;
         let log = CallLog::new(alloc);
@@ -128,8 +129,10 @@ impl Desk {
         ensures made { OnOk result (Makes false who call self.old self.new) }
         ensures err { OnErr result ((self.new ≡ self.old) ⊎ Makes true who call self.old self.new) }
     {
+        // no step: the law of all calls
         calls_go_on();
         self.log.reserve()?;
+        // no step: it tells that the history keeps its rules
         self.rank.history();
         let reply = reply_to(&mut self.rank, &call)?;
         let is_short = matches!(&reply, Reply::Short(_));

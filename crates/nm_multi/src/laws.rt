@@ -10,30 +10,31 @@ ghost use Rattle.nm_types.specs.Sizes.{Sizes};
 ghost use Rattle.nm_protocol.specs.Rules.{AreRight};
 ghost use Rattle.nm_request.specs.declared.Req.{Req};
 ghost use Rattle.nm_rank.specs.declared.answers.Cancelled.{Cancelled};
+ghost use Rattle.nm_rank.specs.New.{IsNew};
 ghost use Rattle.nm_rank.specs.Ranks.{IsFresh, RankView};
 ghost use Rattle.nm_multi.specs.declared.calls.Call.{Call};
 ghost use Rattle.nm_multi.specs.declared.calls.Call.TheVariants.{Finish, Isend};
 ghost use Rattle.nm_multi.specs.declared.calls.Reply.{Reply};
 ghost use Rattle.nm_multi.specs.declared.calls.Reply.TheVariants.{Ended};
-ghost use Rattle.nm_multi.specs.Acts.{Acts, Cancels, Ends, IsNew, ShowsBody, StartsReceive};
+ghost use Rattle.nm_multi.specs.Acts.{Acts, Cancels, Ends, ShowsBody, StartsReceive};
 ghost use Rattle.nm_multi.specs.Acts.{StartsSend, body_sent};
 ghost use Rattle.nm_multi.specs.Calls.{IsInRange};
 ghost use Rattle.nm_multi.specs.Moves.{IsAlone, MovesFirst};
 ghost use Rattle.nm_multi.specs.Standing.{Stands};
 
-use nm_log::laws::calls::{
+use nm_rank_log::laws::calls::{
     a_packet_leaves, a_receive_starts, a_request_is_cancelled, a_send_starts,
 };
-use nm_log::laws::moments::{a_log_begins, a_packet_is_taken, a_result_is_given};
-use nm_outgoing::laws::leaves::packets_leave;
-use nm_outgoing::laws::starts::{
+use nm_rank_log::laws::moments::{a_log_begins, a_packet_is_taken, a_result_is_given};
+use nm_rank_outgoing::laws::leaves::packets_leave;
+use nm_rank_outgoing::laws::starts::{
     cancels_keep_left, nothing_left, receives_keep_left, sends_keep_left,
 };
-use nm_outgoing::laws::takes::{answers_keep_left, taken_packets_keep_left};
+use nm_rank_outgoing::laws::takes::{answers_keep_left, taken_packets_keep_left};
 
 /// At a new rank nothing was sent (`Rank::new`).
 pub(crate) fn a_desk_begins()
-    ensures { (shape : Sizes) (v : RankView) → shape.ranks ≡ 1 → IsNew shape v → Stands [] v }
+    ensures { (shape : Sizes) (v : RankView) → shape.ranks ≡ 1 → IsNew shape 0 v → Stands [] v }
 {
     a_log_begins();
     nothing_left();

@@ -19,6 +19,7 @@ fn move_first(rank: &mut Rank) -> Result<(), Memory>
     ensures alone { IsAlone rank.new }
     ensures err { OnErr result (rank.new ≡ rank.old) }
 {
+    // no step: it tells that the history keeps its rules
     rank.history();
     let Some((_, first)) = rank.front() else {
         return Ok(());

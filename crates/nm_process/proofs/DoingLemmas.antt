@@ -1,11 +1,9 @@
 -- The rules of a rank's run that speak of commands, one event after another.
 use Rattle.std.specs.Prelude.{if◌then◌else◌}
-use Rattle.std.proofs.Common.{◌≡◌, ℕ, ◌+◌, ◌<◌, true, false, ◌&&◌, Option, Some, None, List, [], ◌∷◌}
-use Rattle.std.proofs.Common.{◌++◌, length, map, take, get_or, refl, sym, ◌∙◌, ap, subst, append-nil}
+use Rattle.std.proofs.Common.{◌≡◌, ℕ, ◌+◌, ◌<◌, true, false, ◌&&◌, Option, Some, List, [], ◌∷◌}
+use Rattle.std.proofs.Common.{◌++◌, map, sym, ◌∙◌, ap, subst, append-nil}
 use Rattle.std.proofs.Common.{append_assoc, arith}
 use Rattle.std.specs.List.{filter, filter_map, cons_option, list_all, slice_get}
-use Rattle.std.proofs.lemmas.List.{take_more, map-append}
-use Rattle.std.proofs.lemmas.Option.{slice_get_within, get_or_from_slice_get}
 use Rattle.std.proofs.lemmas.List.Elements.{filter_map-append, filter-append}
 use Rattle.nm_types.specs.declared.answers.Answer.{Answer}
 use Rattle.nm_types.specs.Commands.{Numbered, command_at}
@@ -17,12 +15,13 @@ use Rattle.nm_history.specs.declared.events.Happened.TheVariants.{Ran}
 use Rattle.nm_history.specs.Answers.{answer_of, is_seen, is_started, without_bytes}
 use Rattle.nm_history.specs.RankRun.{Always, AnswerAt, Answers, CancelAt, Cancels, CancelsFor, ClaimAt}
 use Rattle.nm_history.specs.RankRun.{Claims, StartAt, Starts, cancels_since, claims_since, is_cancelling}
-use Rattle.nm_history.specs.RankRun.{is_matched_probe, is_start, line_of_claim, ran_lines, ran_of}
-use Rattle.nm_history.specs.RankRun.{since_after, since_command, start_of, starts_since, without_number}
+use Rattle.nm_history.specs.RankRun.{is_matched_probe, is_start, line_of_claim, ran_lines}
+use Rattle.nm_history.specs.RankRun.{since_command, start_of, starts_since, without_number}
 use Rattle.nm_history.specs.Underway.{is_answer, is_of_packet}
-use Rattle.nm_history.proofs.AtEachLemmas.{AtEach-push}
 use Rattle.nm_history.proofs.RankRunLemmas.{since-push}
-use Rattle.nm_protocol.proofs.Basic.{and_left, and_right}
+use Rattle.nm_history.proofs.RankRunLemmas.{not_answer, no_answer, take_next, always, ran_lines-push}
+use Rattle.nm_facts.proofs.Truth.{and_left, and_right}
+use Rattle.nm_history.proofs.AppendLemmas.{since_grows}
 
 -- a rank's history, in the middle of a command
 pub record Doing (eager : ℕ) (commands : List Numbered) (at : ℕ) (h : List Event) : Type 0 where
@@ -50,10 +49,6 @@ pub record Done (eager : ℕ) (commands : List Numbered) (at : ℕ) (h : List Ev
   pub cancels : Cancels commands h
   pub claims : Claims commands h
 
-no_line : (what : Happened) → is_answer what ≡ false → ran_of what ≡ None
-no_line (Ran line answer) none = cc
-no_line what none = refl
-
 no_answer_at : (commands : List Numbered) (h : List Event) (what : Happened) → is_answer what ≡ false →
     AnswerAt commands h what
 no_answer_at commands h (Ran line answer) none = cc
@@ -69,19 +64,6 @@ no_answer_at commands h (Undone to n done) none = tt
 no_answer_at commands h (Claim from n line) none = tt
 no_answer_at commands h (Match number from n room line) none = tt
 
-since_grows : (since : List Happened) (what : Happened) → is_answer what ≡ false →
-    since_after since what ≡ since ++ what ∷ []
-since_grows since (Ran line answer) none = cc
-since_grows since what none = refl
-
-always : (R : List Event → Happened → Type 0) (h : List Event) (e : Event) → Always R h → R h e.what →
-    Always R (h ++ e ∷ [])
-always R h e each r = AtEach-push (λ before e. R before e.what) h e each r
-
-lines-push : (h : List Event) (e : Event) → ran_lines (h ++ e ∷ []) ≡ ran_lines h ++ cons_option
-    (ran_of e.what) []
-lines-push h e = filter_map-append (λ (e : Event). ran_of e.what) h (e ∷ [])
-
 -- one event more, that is no answer
 pub doing-push : (eager : ℕ) (commands : List Numbered) (at : ℕ) (h : List Event) (e : Event) →
     is_answer e.what ≡ false → MayDo eager commands h e.what → Doing eager commands at h →
@@ -89,8 +71,8 @@ pub doing-push : (eager : ℕ) (commands : List Numbered) (at : ℕ) (h : List E
 doing-push eager commands at h e none may doing = record {
   answers = record {
     few = doing.answers.few;
-    in_order = lines-push h e ∙ ap (λ (o : Option ℕ). ran_lines h ++ cons_option o [])
-        (no_line e.what none) ∙ append-nil (ran_lines h) ∙ doing.answers.in_order;
+    in_order = ran_lines-push h e ∙ ap (λ (o : Option ℕ). ran_lines h ++ cons_option o [])
+        (no_answer e.what none) ∙ append-nil (ran_lines h) ∙ doing.answers.in_order;
     right = always (AnswerAt commands) h e doing.answers.right (no_answer_at commands h e.what none);
   };
   starts = always (StartAt eager commands) h e doing.starts may.starts;
@@ -132,10 +114,6 @@ packet_may eager commands h (Claim from n line) p = cc
 packet_may eager commands h (Match number from n room line) p = cc
 packet_may eager commands h (Ran line answer) p = cc
 
-packet_none : (what : Happened) → is_of_packet what ≡ true → is_answer what ≡ false
-packet_none (Ran line answer) p = sym p
-packet_none what p = refl
-
 since_packet : (h : List Event) (s c : List Happened) (l : List ℕ) (stamp : ℕ) (what : Happened) →
     is_of_packet what ≡ true →
     Since (h ++ record { stamp = stamp; what = what } ∷ []) (s ++ filter is_start (what ∷ []))
@@ -166,7 +144,7 @@ doing_packets eager commands at h (e ∷ events) all doing =
     let packet = and_left (is_of_packet e.what) _ all in
     subst (λ (k : List Event). Doing eager commands at k) (append_assoc h (e ∷ []) events)
     (doing_packets eager commands at (h ++ e ∷ []) events (and_right (is_of_packet e.what) _ all)
-    (doing-push eager commands at h e (packet_none e.what packet)
+    (doing-push eager commands at h e (not_answer e.what packet)
     (packet_may eager commands h e.what packet) doing))
 
 pub since_packets : (h events : List Event) (s c : List Happened) (l : List ℕ) →
@@ -176,7 +154,7 @@ since_packets h (e ∷ events) s c l all since =
     let packet = and_left (is_of_packet e.what) _ all in
     subst (λ (k : List Event). Since k s c l) (append_assoc h (e ∷ []) events)
     (since_packets (h ++ e ∷ []) events s c l (and_right (is_of_packet e.what) _ all)
-    (since_packet h s c l e.stamp e.what packet (since-one h s c l e (packet_none e.what packet) since)))
+    (since_packet h s c l e.stamp e.what packet (since-one h s c l e (not_answer e.what packet) since)))
 
 -- the rules of commands hold of a history between two commands while packets and pieces come
 pub done_packets : (eager : ℕ) (commands : List Numbered) (at : ℕ) (h events : List Event) →
@@ -205,18 +183,6 @@ done_packets eager commands at h events all done =
       claims = record { made = doing.claims; no_others = since.claims };
     }
 
--- one more command, which stands at this place
-take_next : (xs : List Numbered) (k : ℕ) (x : Numbered) → slice_get xs k ≡ Some x → (k < length xs)
-    × (map (λ c. c.line) (take (k + 1) xs) ≡ map (λ c. c.line) (take k xs) ++ x.line ∷ [])
-take_next xs k x here =
-    let inside = slice_get_within xs k x here in (
-      inside,
-      ap (λ (ys : List Numbered). map (λ c. c.line) ys) (take_more xs k x inside)
-          ∙ map-append (λ (c : Numbered). c.line) (take k xs) (get_or xs k x ∷ [])
-          ∙ ap (λ (y : Numbered). map (λ c. c.line) (take k xs) ++ y.line ∷ [])
-          (get_or_from_slice_get xs k x x here),
-    )
-
 -- the answer of the next command
 pub answered : (eager : ℕ) (commands : List Numbered) (at stamp : ℕ) (h : List Event) (x : Answer)
     (n : Numbered) (s c : List Happened) (l : List ℕ) →
@@ -233,7 +199,7 @@ answered eager commands at stamp h x n s c l doing since here named right made o
     record {
       answers = record {
         few = omega (arith, more.0);
-        in_order = lines-push h e ∙ ap (λ (ls : List ℕ). ls ++ n.line ∷ []) doing.answers.in_order
+        in_order = ran_lines-push h e ∙ ap (λ (ls : List ℕ). ls ++ n.line ∷ []) doing.answers.in_order
             ∙ sym more.1;
         right = always (AnswerAt commands) h e doing.answers.right (rw named right);
       };

@@ -28,14 +28,17 @@ use Rattle.nm_history.specs.Sends.{message_of, messages}
 use Rattle.nm_history.specs.Underway.{is_of_packet}
 use Rattle.nm_history.proofs.AtEachLemmas.{AtEach-push}
 use Rattle.nm_history.proofs.MatchingLemmas.{matched_pairs-push}
-use Rattle.nm_history.proofs.OnceLemmas.{and_left, and_right, find_among, find_passes}
+use Rattle.nm_history.proofs.OnceLemmas.{find_among}
 use Rattle.nm_match.specs.Deeds.{is_known_message}
 use Rattle.nm_match.proofs.NumberLemmas.{is_known_message-arrived, messages_numbered}
-use Rattle.nm_match.proofs.PushLemmas.{happened-push, is_claimed-push, messages_known}
+use Rattle.nm_match.proofs.PushLemmas.{is_claimed-push, messages_known}
 use Rattle.nm_match.proofs.QueueLemmas.{free_means}
 use Rattle.nm_process.specs.declared.steps.Handle.{Handle}
 use Rattle.nm_process.specs.Names.{AreHeld, IsHeld, message_with}
 use Rattle.nm_process.proofs.NameLemmas.{key_self, other_key, same_key}
+use Rattle.nm_facts.proofs.Lists.{find_passes}
+use Rattle.nm_facts.proofs.Truth.{and_left, and_right}
+use Rattle.nm_history.proofs.AppendLemmas.{happened-push}
 
 -- an event leaves a held message alone
 abbrev pub Leaves : Handle → List Event → Happened → Type 0

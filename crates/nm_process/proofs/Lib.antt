@@ -1,12 +1,12 @@
-pub mod DoingLemmas
-pub mod HeldLemmas
-pub mod LineLemmas
-pub mod MessageLemmas
-pub mod MidLemmas
-pub mod NameLemmas
-pub mod PacketLemmas
+mod DoingLemmas
+mod HeldLemmas
+mod LineLemmas
+mod MessageLemmas
+mod MidLemmas
+mod NameLemmas
+mod PacketLemmas
 pub mod PlaceLemmas
-pub mod SameLemmas
-pub mod StartLemmas
-pub mod StepLemmas
-pub mod WorkLemmas
+mod SameLemmas
+mod StartLemmas
+mod StepLemmas
+mod WorkLemmas

@@ -19,14 +19,14 @@ use Rattle.nm_history.specs.Answers.{request_of}
 use Rattle.nm_history.specs.RankRun.{is_start, line_of_claim}
 use Rattle.nm_history.specs.Underway.{is_answer, is_of_packet}
 use Rattle.nm_history.proofs.AnswerLemmas.{handle_same, line-push, line_kept, live_same, no_request}
-use Rattle.nm_protocol.proofs.Basic.{and_left, and_right, both}
 use Rattle.nm_process.specs.Work.{are_below, line_of}
+use Rattle.nm_facts.proofs.Truth.{both, and_left, and_right}
+use Rattle.nm_facts.proofs.Numbers.{eq_less}
+use Rattle.nm_history.proofs.RankRunLemmas.{not_answer}
+use Rattle.nm_history.proofs.AnswerLemmas.{claim_line_kept}
 
 below_is : (a b : ℕ) → nat_lt a b ≡ true → a < b
 below_is a b h = grind (arith, nat_tests)
-
-not_line : (line l : ℕ) → line < l → (line == l) ≡ false
-not_line line l lt = grind (arith, nat_tests)
 
 first_below : (l : ℕ) (e : Event) (h : List Event) → are_below l (e ∷ h) ≡ true →
     nat_lt (line_of e.what) l ≡ true
@@ -58,10 +58,6 @@ packet_line (Match number from n room line) p = cc
 packet_line (Claim from n line) p = cc
 packet_line (Ran line answer) p = cc
 packet_line what p = refl
-
-pub packet_no_answer : (what : Happened) → is_of_packet what ≡ true → is_answer what ≡ false
-packet_no_answer (Ran line answer) p = sym p
-packet_no_answer what p = refl
 
 pub packet_no_start : (what : Happened) → is_of_packet what ≡ true → is_start what ≡ false
 packet_no_start (Send to n tag ctx len how line) p = sym p
@@ -102,7 +98,7 @@ none_requested l [] below = refl
 none_requested l (e ∷ h) below =
     filter_map-append (λ (e : Event). request_of l e.what) (e ∷ []) h
     ∙ rw (no_request_other l e.what
-    (not_line (line_of e.what) l (below_is (line_of e.what) l (first_below l e h below))))
+    (eq_less (line_of e.what) l (below_is (line_of e.what) l (first_below l e h below))))
     (none_requested l h (rest_below l e h below))
 
 none_claimed : (l : ℕ) (h : List Event) → are_below l h ≡ true →
@@ -111,7 +107,7 @@ none_claimed l [] below = refl
 none_claimed l (e ∷ h) below =
     filter_map-append (λ (e : Event). message_claimed l e.what) (e ∷ []) h
     ∙ rw (no_claim_other l e.what
-    (not_line (line_of e.what) l (below_is (line_of e.what) l (first_below l e h below))))
+    (eq_less (line_of e.what) l (below_is (line_of e.what) l (first_below l e h below))))
     (none_claimed l h (rest_below l e h below))
 
 pub no_claim_yet : (l : ℕ) (h : List Event) → are_below l h ≡ true → claim_at h l ≡ None
@@ -197,18 +193,13 @@ live_at_line commands h e q l none line below =
         other : (k : ℕ) → k < l → (l == k) ≡ false
         other k lt = grind (arith, nat_tests)
 
-handle_line_kept : (commands : List Numbered) (m : ℕ) (line : Option ℕ) (what : Happened) →
-    is_answer what ≡ false → claim_line_after commands m line what ≡ line
-handle_line_kept commands m line (Ran ran answer) n = cc
-handle_line_kept commands m line what n = refl
-
 pub handle_at_line : (commands : List Numbered) (h : List Event) (e : Event) (m l : ℕ) →
     is_answer e.what ≡ false → line_of e.what ≡ l → are_below l h ≡ true →
     live_message commands (h ++ e ∷ []) m ≡ live_message commands h m
 handle_at_line commands h e m l none line below =
     ap (λ (o : Option ℕ). option_and_then (claim_at (h ++ e ∷ [])) o)
     (fold_push (λ (line : Option ℕ) (e : Event). claim_line_after commands m line e.what) None h e
-    ∙ handle_line_kept commands m (line_of_handle commands h m) e.what none)
+    ∙ claim_line_kept commands m (line_of_handle commands h m) e.what none)
     ∙ by_handle (line_of_handle commands h m) (λ k is. handle_below commands m l k None h
     (λ m none. cc) below is) where
       by_handle : (o : Option ℕ) → ((k : ℕ) → o ≡ Some k → k < l) →
@@ -226,7 +217,7 @@ live_packets commands h (e ∷ events) q all =
     let packet = and_left (is_of_packet e.what) _ all in
     ap (λ (k : List Event). live commands k q) (sym (append_assoc h (e ∷ []) events))
     ∙ live_packets commands (h ++ e ∷ []) events q (and_right (is_of_packet e.what) _ all)
-    ∙ live_same commands h e q (packet_no_answer e.what packet) (packet_no_start e.what packet)
+    ∙ live_same commands h e q (not_answer e.what packet) (packet_no_start e.what packet)
 
 pub handle_packets : (commands : List Numbered) (h events : List Event) (m : ℕ) →
     list_all (λ e. is_of_packet e.what) events ≡ true → live_message commands (h ++ events) m
@@ -236,7 +227,7 @@ handle_packets commands h (e ∷ events) m all =
     let packet = and_left (is_of_packet e.what) _ all in
     ap (λ (k : List Event). live_message commands k m) (sym (append_assoc h (e ∷ []) events))
     ∙ handle_packets commands (h ++ e ∷ []) events m (and_right (is_of_packet e.what) _ all)
-    ∙ handle_same commands h e m (packet_no_answer e.what packet) (packet_no_claim e.what packet)
+    ∙ handle_same commands h e m (not_answer e.what packet) (packet_no_claim e.what packet)
 
 pub request_packets : (l : ℕ) (h events : List Event) → list_all (λ e. is_of_packet e.what) events
     ≡ true → request_at (h ++ events) l ≡ request_at h l

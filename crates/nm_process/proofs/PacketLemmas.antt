@@ -9,10 +9,9 @@ use Rattle.nm_types.specs.declared.packets.What.TheVariants as what
 use Rattle.nm_history.specs.declared.events.Event.{Event}
 use Rattle.nm_history.specs.declared.events.Happened.{Happened}
 use Rattle.nm_history.specs.declared.events.Happened.TheVariants.{Out}
-use Rattle.nm_history.specs.AtEach.{AtEach, AtEachAfter}
-use Rattle.nm_history.specs.RankRun.{Always, NumberAt}
+use Rattle.nm_history.specs.AtEach.{AtEachAfter}
+use Rattle.nm_history.specs.RankRun.{NumberAt}
 use Rattle.nm_history.specs.Underway.{is_of_packet}
-use Rattle.nm_protocol.proofs.Basic.{and_left, and_right, both}
 use Rattle.nm_protocol.specs.Clock.{stamped}
 use Rattle.nm_protocol.specs.Effects.{ask_ends, is_empty_send, packet_events, packet_makes, taken_events}
 use Rattle.nm_protocol.specs.Effects.{whole_if}
@@ -24,6 +23,8 @@ use Rattle.nm_rank.specs.Ranks.{RankView}
 use Rattle.nm_process.specs.declared.steps.Handle.{Handle}
 use Rattle.nm_process.specs.Names.{AreHeld}
 use Rattle.nm_process.proofs.HeldLemmas.{all_held, held_after, packets_leave}
+use Rattle.nm_facts.proofs.Truth.{both, and_left, and_right}
+use Rattle.nm_protocol.proofs.Right.{right-numbers}
 
 -- all of what happened comes of packets
 abbrev pub are_of_packets : List Happened → Bool
@@ -107,11 +108,6 @@ after_weaker R S before [] f each = tt
 after_weaker R S before (e ∷ events) f each =
     (f before e each.0, after_weaker R S (before ++ e ∷ []) events f each.1)
 
-pub right_numbers : (ranks : ℕ) (h : List Event) → AreRight ranks [] h → Always (NumberAt ranks) h
-unfolding AtEach
-right_numbers ranks h right = after_weaker (λ h e. IsRightAt ranks h e.what)
-    (λ h e. NumberAt ranks h e.what) [] h (λ h e is. is.numbers) right
-
 -- the handles stand for held messages while packets and pieces come
 pub packets_hold : (ranks : ℕ) (h events : List Event) (handles : List (ℕ × Handle)) →
     AreRight ranks [] (h ++ events) → list_all (λ e. is_of_packet e.what) events ≡ true →
@@ -121,7 +117,7 @@ packets_hold ranks h events handles right all held =
     let numbers = after_weaker (λ h e. IsRightAt ranks h e.what) (λ h e. NumberAt ranks h e.what) h events
     (λ h e is. is.numbers) parts.1 in
     all_held h (h ++ events) handles
-    (λ x is. held_after x h events (packets_leave ranks x h events (right_numbers ranks h parts.0)
+    (λ x is. held_after x h events (packets_leave ranks x h events (right-numbers ranks h parts.0)
     numbers all) is) held
 
 -- the same, of a rank for which this happened

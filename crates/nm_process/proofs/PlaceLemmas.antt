@@ -12,9 +12,9 @@ use Rattle.std.proofs.lemmas.Option.{slice_get_cases, slice_get_read, slice_get_
 use Rattle.nm_types.specs.declared.scripts.Command.{Command}
 use Rattle.nm_types.specs.declared.scripts.Line.{Line}
 use Rattle.nm_types.specs.Commands.{Numbered, commands_from, commands_of, command_at}
-use Rattle.nm_history.proofs.OnceLemmas.{and_left, and_right}
 use Rattle.nm_process.specs.Places.{IsNext, IsOwnLine, NoneBetween}
 use Rattle.nm_process.specs.Steps.{is_look}
+use Rattle.nm_facts.proofs.Truth.{and_left, and_right}
 
 abbrev numbered : ℕ → Line → Numbered
 numbered number l = record { line = number; command = l.command }

@@ -1,8 +1,8 @@
 -- What a start does to a process.
 use Rattle.std.proofs.Common.{◌≡◌, ℕ, ◌+◌, ◌≤◌, Bool, true, false, cond, Option, Some, None, List, []}
 use Rattle.std.proofs.Common.{◌∷◌, ◌++◌, length, refl, sym, ◌∙◌, ap, subst, arith}
-use Rattle.std.specs.Prelude.{nat_eq, option_and_then, option_map, if◌then◌else◌, is_some, IfOk, IfSome}
-use Rattle.std.specs.Prelude.{IsSome, IsSomeAnd, OnOk}
+use Rattle.std.specs.Prelude.{nat_eq, option_and_then, option_map, if◌then◌else◌, is_some, IfOk}
+use Rattle.std.specs.Prelude.{OnOk}
 use Rattle.std.proofs.Common.{Ok, Err, Result}
 use Rattle.std.specs.Map.{lookup}
 use Rattle.nm_types.specs.declared.answers.Answer.{Answer}
@@ -50,13 +50,6 @@ pub one_leaves : (x : Handle) (h : List Event) (clock : ℕ) (w : Happened) (o :
     AtEachAfter (λ before e. Leaves x before e.what) h (stamped clock (w ∷ taken_events o))
 one_leaves x h clock w o leaves =
     (leaves, whole_leaves x (h ++ record { stamp = clock + 1; what = w } ∷ []) (clock + 1) o)
-
-pub whole_short : (o : Option Arrival) → length (taken_events o) ≤ 1
-whole_short None = omega arith
-whole_short (Some a) = by_test (is_empty_ask a) where
-  by_test : (b : Bool) → length (whole_if b a.env.from a.n) ≤ 1
-  by_test true = omega arith
-  by_test false = omega arith
 
 -- the names and the handles after a start
 pub start_keeps : (bodies : Sent → List ℕ) (ws : List Happened) (kind : Kind) (v w : RankView) (r : Req)
@@ -122,15 +115,6 @@ keeps_handles a mid b line x place same answered = record {
   );
   handles = ap (λ (v : ProcessView). v.handles) answered.others ∙ same;
 }
-
--- what an option that passes has
-pub some_and : {X : Type 0} (P : X → Type 0) (o : Option X) → IsSomeAnd o P → (x : X) × (o ≡ Some x) × P x
-some_and P None holds = absurd holds
-some_and P (Some x) holds = (x, refl, holds)
-
--- what holds of an option's value
-pub if_some : {X : Type 0} (P : X → Type 0) (o : Option X) (x : X) → o ≡ Some x → IfSome o P → P x
-if_some {X = X} P o x is holds = subst (λ (o : Option X). IfSome o P) is holds
 
 -- a rank of which all but what it receives and its requests is the same
 pub same_rank : (v w : RankView) → w.me ≡ v.me → w.sizes ≡ v.sizes → w.events ≡ v.events →
@@ -198,7 +182,3 @@ pub ok_step : {T E Q : Type 0} (P : T → Type 0) (r : Result T E) (s : T) → I
     OnOk r Q → (Q → P s) → IfOk r P
 ok_step P (Ok x) s is holds f = subst P (sym is) (f holds)
 ok_step P (Err e) s is holds f = tt
-
-pub some_of : {X : Type 0} (o : Option X) → IsSome o → (x : X) × (o ≡ Some x)
-some_of (Some x) some = (x, refl)
-some_of None some = cc

@@ -34,7 +34,7 @@ use Rattle.nm_history.specs.AtEach.{AtEach}
 use Rattle.nm_history.specs.Underway.{is_answer}
 use Rattle.nm_history.specs.Completion.{Request, is_complete, is_here, pair_of_receive, result_of, shown}
 use Rattle.nm_history.specs.Completion.Request.{Sending, Receiving}
-use Rattle.nm_history.specs.Happens.{happened, is_cancel, is_recall, is_undone}
+use Rattle.nm_history.specs.Happens.{happened, is_cancel, is_recall}
 use Rattle.nm_history.specs.Matching.{first_message, is_of_receive, matched_pairs}
 use Rattle.nm_history.specs.RankRun.{CancelsFor, CancelsOf, how_of, is_cancelling, is_matched_probe}
 use Rattle.nm_history.specs.RankRun.{is_start, line_of_claim, start_of, without_number}
@@ -42,7 +42,6 @@ use Rattle.nm_history.specs.Sends.{Sent, message_of, messages, receives, sends}
 use Rattle.nm_history.proofs.AtEachLemmas.{AtEach-split}
 use Rattle.nm_history.proofs.MatchingLemmas.{matched_pairs-push_other}
 use Rattle.nm_history.proofs.OnceLemmas.{eqb_self, messages-push}
-use Rattle.nm_match.proofs.PushLemmas.{happened-push}
 use Rattle.nm_protocol.specs.Clock.{stamped}
 use Rattle.nm_protocol.specs.Rules.{AreRight, IsRightAt}
 use Rattle.nm_request.specs.declared.Kind.{Kind}
@@ -69,8 +68,11 @@ use Rattle.nm_process.proofs.MessageLemmas.{first_is_message}
 use Rattle.nm_process.proofs.MidLemmas.{Mid, below_line, claimed_handles, ended_names, found}
 use Rattle.nm_process.proofs.MidLemmas.{kept_handles, kept_names, mid_line, mid_none, mid_other}
 use Rattle.nm_process.proofs.MidLemmas.{mid_start, received_handles, request_start, started_names, works}
-use Rattle.nm_process.proofs.PacketLemmas.{after_parts, are_of_packets, right_numbers, whole_of_packets}
+use Rattle.nm_process.proofs.PacketLemmas.{after_parts, are_of_packets, whole_of_packets}
 use Rattle.nm_process.proofs.PlaceLemmas.{next_command, none_is_next}
+use Rattle.nm_protocol.proofs.Right.{right-numbers}
+use Rattle.nm_history.proofs.ResultLemmas.{result_is_result, bytes_no_matter}
+use Rattle.nm_history.proofs.AppendLemmas.{happened-push}
 
 and_false : (b : Bool) → (b && false) ≡ false
 and_false true = refl
@@ -90,30 +92,6 @@ shown_is_result pair = by_test (nat_lt pair.cap pair.arrival.env.len) where
       (replicate pair.arrival.env.len 0)) ≡ true
   by_test true = refl
   by_test false = refl
-
-result_is_result : (h : List Event) (r : Request) (a : Answer) → result_of h r ≡ Some a → is_result a ≡ true
-result_is_result h (Sending to n) a is = is_result_if (is_complete h (Sending to n))
-    (happened (is_undone to n true) h) answer.Cancelled answer.Sent a refl refl is
-result_is_result h (Receiving number) a is = by_cancel (happened (is_cancel number) h) is where
-  by_here : (b : Bool) (pair : Pair) → (if b then Some (shown pair) else None) ≡ Some a → is_result a ≡ true
-  by_here true pair is = let same : shown pair ≡ a = cc in ap is_result (sym same) ∙ shown_is_result pair
-  by_here false pair is = cc
-
-  by_pair : (o : Option Pair) →
-      option_and_then (λ pair. if is_here h pair then Some (shown pair) else None) o ≡ Some a →
-      is_result a ≡ true
-  by_pair None is = cc
-  by_pair (Some pair) is = by_here (is_here h pair) pair is
-
-  by_cancel : (b : Bool) → (if b then Some answer.Cancelled else option_and_then
-      (λ pair. if is_here h pair then Some (shown pair) else None) (pair_of_receive h number)) ≡ Some a →
-      is_result a ≡ true
-  by_cancel true is = let same : answer.Cancelled ≡ a = cc in ap is_result (sym same)
-  by_cancel false is = by_pair (pair_of_receive h number) is
-
-result_same : (a : Answer) → is_result (without_bytes a) ≡ is_result a
-result_same (answer.Got from tag body) = refl
-result_same a = refl
 
 result_not_started : (a : Answer) → is_result a ≡ true → is_started a ≡ false
 result_not_started answer.Started is = cc
@@ -250,7 +228,7 @@ module _ (shape : Sizes) (lines : List Line) (a b : ProcessView) (place : ℕ) (
   ends c q same p right off start_names end_names claim_names no_probe =
       let none = mid_none shape lines a place l work is in
       let e = p.ends in
-      let result : is_result p.answer ≡ true = sym (result_same p.answer)
+      let result : is_result p.answer ≡ true = sym (bytes_no_matter p.answer)
       ∙ result_is_result h (request_of e.kind) (without_bytes p.answer) (sym e.gives.result) in
       let not_started = result_not_started p.answer result in
       works shape lines a place l work is p.mid b c h p.answer [] [] [] same
@@ -593,7 +571,7 @@ module _ (shape : Sizes) (lines : List Line) (a b : ProcessView) (place : ℕ) (
               (rw p.first refl);
         } in
         let now = mid_line shape lines a place l work is e refl refl may in
-        let numbers = right_numbers b.rank.sizes.ranks a.rank.events
+        let numbers = right-numbers b.rank.sizes.ranks a.rank.events
         (right_front b.rank.sizes.ranks a.rank.events e f b.rank.events (p.answered.noted.events
         ∙ ap (λ (k : List Event). k ++ f ∷ []) p.claimed.events) right) in
         let message = first_is_message b.rank.sizes.ranks a.rank.events from tag ctx x numbers p.first in

@@ -1,19 +1,15 @@
 //! A process: a rank with its commands, and the names of its requests and messages.
 
-ghost use Rattle.std.specs.Prelude.{◌≡◌, ◌<◌, ◌≤◌, ℕ, true, false, None, List, [], length};
-ghost use Rattle.std.specs.Prelude.{replicate, IfOk, IfSome, IfNone};
+ghost use Rattle.std.specs.Prelude.{◌≡◌, ◌<◌, ◌≤◌, true, false, None, [], length};
+ghost use Rattle.std.specs.Prelude.{IfOk, IfSome, IfNone};
 ghost use Rattle.std.specs.Prelude.{option_map, slice_get, OnOk};
 ghost use Rattle.nm_types.specs.declared.limits.TheConstants.{MAX_LINES};
-ghost use Rattle.nm_types.specs.declared.messages.Arrival.{Arrival};
 ghost use Rattle.nm_types.specs.declared.scripts.Line.{Line};
 ghost use Rattle.nm_types.specs.Commands.{commands_of};
 ghost use Rattle.nm_types.specs.Limits.{is_in_range};
 ghost use Rattle.nm_types.specs.Sizes.{Sizes};
-ghost use Rattle.nm_protocol.specs.Known.{nothing_known};
 ghost use Rattle.nm_request.specs.declared.Req.{Req};
-ghost use Rattle.nm_request.specs.Requests.{kind_of};
-ghost use Rattle.nm_rndv.specs.Offers.{no_offers};
-ghost use Rattle.nm_receiving.specs.Receipts.{came_of, drawn_from};
+ghost use Rattle.nm_rank.specs.New.{IsNew};
 ghost use Rattle.nm_rank.specs.Ranks.{IsFresh};
 ghost use Rattle.nm_process.specs.Lines.{AreLines};
 ghost use Rattle.nm_process.specs.Places.{IsNext, IsPlaceFrom, NoneBetween};
@@ -100,20 +96,7 @@ impl Process {
     /// A process at its first command of a script, in a run of these sizes.
     pub fn new(alloc: Global, shape: Shape, me: u8, lines: &[Line]) -> Result<Process, Memory>
         requires { me < shape.ranks }
-        ensures me { IfOk result (λ p. (p.rank.me ≡ me) × (p.rank.sizes ≡ shape)) }
-        ensures events { IfOk result (λ p. (p.rank.events ≡ []) × (p.rank.clock ≡ 0)) }
-        ensures sent { IfOk result (λ p. (p.rank.sending.outbox.me ≡ me)
-            × (p.rank.sending.outbox.letters ≡ [])
-            × (p.rank.sending.outbox.popped ≡ replicate shape.ranks 0)
-            × (p.rank.sending.offers ≡ no_offers shape.ranks)
-            × (p.rank.sending.pushed ≡ replicate shape.ranks 0)) }
-        ensures came { IfOk result (λ p. (from : ℕ) → drawn_from p.rank.receiving from ≡ 0) }
-        ensures drawn { IfOk result (λ p. length p.rank.receiving.drawn ≡ shape.ranks) }
-        ensures bytes { IfOk result (λ p. (a : Arrival) → came_of p.rank.receiving a ≡ []) }
-        ensures requests { IfOk result (λ p. (q : Req) → kind_of p.rank.requests q ≡ None) }
-        ensures counts { IfOk result (λ p. (p.rank.took ≡ replicate shape.ranks 0)
-            × (p.rank.pulled ≡ replicate shape.ranks 0) × (p.rank.strays ≡ 0)) }
-        ensures known { IfOk result (λ p. p.rank.known ≡ replicate shape.ranks nothing_known) }
+        ensures new { IfOk result (λ p. IsNew shape me p.rank) }
         ensures begins { IfOk result (λ p. (p.at ≡ 0) × IsAtWork shape lines.now p) }
     {
         Ok(Process {

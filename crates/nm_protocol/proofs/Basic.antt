@@ -1,5 +1,6 @@
 -- Tests of truth values and numbers, and what holds of each element of a list.
-use Rattle.std.proofs.Common.{◌≡◌, ℕ, ◌<◌, ◌≤◌, ◌==◌, Bool, true, false, ◌&&◌, ◌||◌, List, [], ◌∷◌, ◌++◌, refl, ap, arith}
+use Rattle.std.proofs.Common.{◌≡◌, ℕ, ◌<◌, ◌≤◌, ◌==◌, Bool, true, false, ◌&&◌, ◌||◌, List, [], ◌∷◌, ◌++◌, refl, ap}
+use Rattle.std.proofs.Common.{arith}
 use Rattle.std.specs.Prelude.{nat_lt, nat_le, IsTrue}
 use Rattle.std.specs.Bool.{OnTrue}
 use Rattle.std.specs.List.{AllByRecursion, list_any}
@@ -9,49 +10,14 @@ use Rattle.nm_history.specs.declared.events.Happened.{Happened}
 use Rattle.nm_history.specs.Happens.{happened, is_same}
 use Rattle.nm_protocol.specs.Effects.{happenings}
 
-pub same_number : (x y : ℕ) → (x == y) ≡ true → x ≡ y
-same_number x y h = grind (arith, nat_tests)
-
 pub self_true : (x : ℕ) → (x == x) ≡ true
 self_true x = grind (arith, nat_tests)
-
-pub eq_true : (x y : ℕ) → x ≡ y → (x == y) ≡ true
-eq_true x y h = grind (arith, nat_tests)
-
-pub eq_false : (x y : ℕ) → y < x → (x == y) ≡ false
-eq_false x y h = grind (arith, nat_tests)
-
-pub eq_less : (x y : ℕ) → x < y → (x == y) ≡ false
-eq_less x y h = grind (arith, nat_tests)
 
 pub lt_true : (x y : ℕ) → x < y → nat_lt x y ≡ true
 lt_true x y h = grind (arith, nat_tests)
 
-pub lt_false : (x y : ℕ) → y ≤ x → nat_lt x y ≡ false
-lt_false x y h = grind (arith, nat_tests)
-
 pub le_true : (x y : ℕ) → x ≤ y → nat_le x y ≡ true
 le_true x y h = grind (arith, nat_tests)
-
-pub and_left : (a b : Bool) → (a && b) ≡ true → a ≡ true
-and_left true b h = refl
-and_left false b h = cc
-
-pub and_right : (a b : Bool) → (a && b) ≡ true → b ≡ true
-and_right true b h = h
-and_right false b h = cc
-
-pub both : (a b : Bool) → a ≡ true → b ≡ true → (a && b) ≡ true
-both true b h k = k
-both false b h k = cc
-
-pub or_left : (a b : Bool) → a ≡ true → (a || b) ≡ true
-or_left true b h = refl
-or_left false b h = cc
-
-pub or_right : (a b : Bool) → b ≡ true → (a || b) ≡ true
-or_right true b h = refl
-or_right false b h = h
 
 pub or_true : (b : Bool) → (b || true) ≡ true
 or_true true = refl
@@ -87,19 +53,8 @@ on_test false f = tt
 pub true_is : (b : Bool) → b ≡ true → IsTrue b
 true_is b h = h
 
-pub by-append : {X : Type 0} (P : X → Type 0) (xs ys : List X) → AllByRecursion P xs → AllByRecursion P ys → AllByRecursion P (xs ++ ys)
-by-append P [] ys first rest = rest
-by-append P (x ∷ xs) ys first rest = (first.0, by-append P xs ys first.1 rest)
-
-pub by_front : {X : Type 0} (P : X → Type 0) (xs ys : List X) → AllByRecursion P (xs ++ ys) → AllByRecursion P xs × AllByRecursion P ys
-by_front P [] ys each = (tt, each)
-by_front P (x ∷ xs) ys each = let rest = by_front P xs ys each.1 in ((each.0, rest.0), rest.1)
-
-pub by-along : {X : Type 0} (P Q : X → Type 0) (xs : List X) → ((x : X) → P x → Q x) → AllByRecursion P xs → AllByRecursion Q xs
-by-along P Q [] f each = tt
-by-along P Q (x ∷ xs) f each = (f x each.0, by-along P Q xs f each.1)
-
-pub by-both : {X : Type 0} (P Q R : X → Type 0) (xs : List X) → ((x : X) → P x → Q x → R x) → AllByRecursion P xs → AllByRecursion Q xs → AllByRecursion R xs
+pub by-both : {X : Type 0} (P Q R : X → Type 0) (xs : List X) → ((x : X) → P x → Q x → R x) → AllByRecursion P xs →
+    AllByRecursion Q xs → AllByRecursion R xs
 by-both P Q R [] f ps qs = tt
 by-both P Q R (x ∷ xs) f ps qs = (f x ps.0 qs.0, by-both P Q R xs f ps.1 qs.1)
 
@@ -107,12 +62,14 @@ pub all_of : {X : Type 0} (P : X → Type 0) (xs : List X) → ((x : X) → P x)
 all_of P [] f = tt
 all_of P (x ∷ xs) f = (f x, all_of P xs f)
 
-pub happened_in : (test : Happened → Bool) (events : List Event) → happened test events ≡ list_any test (happenings events)
+pub happened_in : (test : Happened → Bool) (events : List Event) → happened test events ≡ list_any test
+    (happenings events)
 happened_in test [] = refl
 happened_in test (e ∷ events) = ap (λ (b : Bool). test e.what || b) (happened_in test events)
 
 -- a test that some element passes gives what each passing element gives
-pub any_gives : {X : Type 0} (test : X → Bool) (Q : Type 0) (xs : List X) → list_any test xs ≡ true → AllByRecursion (λ x. test x ≡ true → Q) xs → Q
+pub any_gives : {X : Type 0} (test : X → Bool) (Q : Type 0) (xs : List X) → list_any test xs ≡ true →
+    AllByRecursion (λ x. test x ≡ true → Q) xs → Q
 any_gives test Q [] found each = cc
 any_gives test Q (x ∷ xs) found each = by_head (test x) each.0 found (λ found. any_gives test Q xs found each.1) where
   by_head : (b : Bool) → (b ≡ true → Q) → (b || list_any test xs) ≡ true → (list_any test xs ≡ true → Q) → Q

@@ -3,9 +3,9 @@ use Rattle.std.proofs.Common.{ℕ, List, [], ◌∷◌, ◌++◌, sym, subst, ap
 use Rattle.nm_history.specs.declared.events.Event.{Event}
 use Rattle.nm_history.specs.AtEach.{AtEach, AtEachAfter}
 use Rattle.nm_history.specs.RankRun.{Always, NumberAt, WholeAt, EndAt}
-use Rattle.nm_protocol.specs.Rules.{AreRight}
+use Rattle.nm_protocol.specs.Rules.{AreRight, ClaimedAt}
 
-append_after : (R : List Event → Event → Type 0) (before xs ys : List Event)
+pub append_after : (R : List Event → Event → Type 0) (before xs ys : List Event)
     → AtEachAfter R before xs → AtEachAfter R (before ++ xs) ys → AtEachAfter R before (xs ++ ys)
 append_after R before [] ys a b =
     subst (λ (k : List Event). AtEachAfter R k ys) (append-nil before) b
@@ -29,6 +29,10 @@ right-append ranks = append_after _
 pub right-numbers : (ranks : ℕ) (h : List Event) → AreRight ranks [] h → Always (NumberAt ranks) h
 unfolding AtEach
 right-numbers ranks h a = map_after _ _ (λ before e r. r.numbers) [] h a
+
+pub right-claims : (ranks : ℕ) (h : List Event) → AreRight ranks [] h → Always ClaimedAt h
+unfolding AtEach
+right-claims ranks h a = map_after _ _ (λ before e r. r.claims) [] h a
 
 pub right-wholes : (ranks : ℕ) (h : List Event) → AreRight ranks [] h → Always WholeAt h
 unfolding AtEach

@@ -16,7 +16,7 @@ ghost use Rattle.nm_protocol.specs.Clock.{AreStamped, stamped};
 ghost use Rattle.nm_protocol.specs.Effects.{happenings, is_empty_send, taken_events};
 ghost use Rattle.nm_protocol.specs.Known.{Known, Taken, known_after, known_by, nothing_known};
 ghost use Rattle.nm_protocol.specs.Pieces.{Due, Pulled, count_continued, due_pieces, piece_makes};
-ghost use Rattle.nm_protocol.specs.Rules.{AreRight};
+ghost use Rattle.nm_protocol.specs.Rules.{AreRight, ClaimedAt};
 
 /// What is known of a rank, one packet after another.
 pub fn known_grows()
@@ -106,6 +106,7 @@ pub fn right_events_go_on()
         AreRight ranks (h ++ events) more → AreRight ranks h (events ++ more) }
     ensures numbers { (ranks : ℕ) (h : List Event) → AreRight ranks [] h →
         Always (NumberAt ranks) h }
+    ensures claims { (ranks : ℕ) (h : List Event) → AreRight ranks [] h → Always ClaimedAt h }
     ensures wholes { (ranks : ℕ) (h : List Event) → AreRight ranks [] h → Always WholeAt h }
     ensures ends { (ranks : ℕ) (h : List Event) → AreRight ranks [] h → Always EndAt h }
 {}

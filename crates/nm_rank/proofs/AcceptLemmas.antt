@@ -1,6 +1,8 @@
 -- What a packet that continues its stream does to the messages.
-use Rattle.std.proofs.Common.{◌≡◌, ◌≢◌, ℕ, ◌+◌, Bool, true, false, List, [], ◌∷◌, ◌++◌, length, refl, sym, ◌∙◌, ap, subst, append-nil, arith}
-use Rattle.std.specs.Prelude.{map, filter, not, if◌then◌else◌, ◌==◌, ◌&&◌, ◌||◌, nat_lt, slice_index_or, slice_set, IsTrue, Result, Ok, Err, OnOk}
+use Rattle.std.proofs.Common.{◌≡◌, ◌≢◌, ℕ, ◌+◌, Bool, true, false, List, [], ◌∷◌, ◌++◌, length, refl, sym, ◌∙◌, ap}
+use Rattle.std.proofs.Common.{subst, append-nil, arith}
+use Rattle.std.specs.Prelude.{map, filter, not, if◌then◌else◌, ◌==◌, ◌&&◌, ◌||◌, nat_lt, slice_index_or, slice_set}
+use Rattle.std.specs.Prelude.{IsTrue, Result, Ok, Err, OnOk}
 use Rattle.std.specs.List.{AllByRecursion}
 use Rattle.std.proofs.lemmas.List.{get_or-set_other}
 use Rattle.nm_types.specs.declared.lists.Memory.{Memory}
@@ -18,7 +20,7 @@ use Rattle.nm_protocol.specs.Continues.{has, WORN_STAMP}
 use Rattle.nm_protocol.specs.Effects.{happenings, packet_events, whole_if, is_empty_send}
 use Rattle.nm_protocol.specs.Known.{Known, learned}
 use Rattle.nm_protocol.specs.Rules.{AreRight}
-use Rattle.nm_protocol.proofs.Basic.{and_right, by-append, self_true, same_number, refuted}
+use Rattle.nm_protocol.proofs.Basic.{self_true}
 use Rattle.nm_eager.specs.Streams.{Stream, missing, nothing_came, is_kept, after}
 use Rattle.nm_rndv.specs.Offers.{Offering, destined, with_answer, with_clearance, with_destined}
 use Rattle.nm_sending.specs.Departures.{SendingView}
@@ -30,6 +32,9 @@ use Rattle.nm_rank.specs.Fields.{endings}
 use Rattle.nm_rank.specs.Takes.{Accepts, MayBeAccepted}
 use Rattle.nm_rank.proofs.Goes.{cleared_in}
 use Rattle.nm_rank.proofs.LeaveLemmas.{StaysSent, StaysReceived}
+use Rattle.nm_facts.proofs.Numbers.{unequal}
+use Rattle.nm_facts.proofs.Lists.{all_append}
+use Rattle.nm_facts.proofs.Truth.{neither, and_right}
 
 -- what holds of all that happened holds of the events
 pub each-event : (P : Happened → Type 0) (events : List Event) → AllByRecursion P (happenings events)
@@ -62,11 +67,11 @@ kept-none : (known : Known) (h : List Event) (from : ℕ) (w : What) (size : ℕ
     → AllByRecursion NotSent (packet_events known h from w size)
 kept-none known h from (what.Head tag ctx len) size e = (
   refl,
-  by-append NotSent (whole_if (len == size) from known.count) []
+  all_append NotSent (whole_if (len == size) from known.count) []
       (whole-not (len == size) from known.count) tt,
 )
 kept-none known h from (what.More n) size e =
-    by-append NotSent (whole_if (known.missing == size) from n) []
+    all_append NotSent (whole_if (known.missing == size) from n) []
     (whole-not (known.missing == size) from n) tt
 kept-none known h from (what.Ask tag ctx len) size e = (refl, whole-not _ from known.count)
 kept-none known h from (what.Clear n) size e = not_kept e
@@ -129,7 +134,11 @@ accepts-take p s r r' kept takes streams follows bytes sizes drawn ended stays =
       ap (λ (xs : List Stream). slice_index_or xs other nothing_came) streams
       ∙ get_or-set_other r.streams p.from other (after (stream_of r p.from) p.what p.payload) nothing_came ne in
       record {
-        told = record { count = t.told.count ∙ sym (ap (λ (x : Stream). x.count) same); lacks = t.told.lacks ∙ sym (ap missing same) };
+        told = record {
+          count = t.told.count ∙ sym (ap (λ (x : Stream). x.count) same);
+          lacks = t.told.lacks
+              ∙ sym (ap missing same);
+        };
         cleared = t.cleared;
       });
   outbox = refl;
@@ -192,9 +201,6 @@ clear-length : (b : Bool) (from n : ℕ)
     → length ((if b then event.Out from n ∷ [] else []) ++ []) ≡ (if b then 1 else 0)
 clear-length true from n = refl
 clear-length false from n = refl
-
-unequal : (x y : ℕ) → x ≢ y → (x == y) ≡ false
-unequal x y ne = refuted (x == y) (λ e. absurd (ne (same_number x y e)))
 
 pub accepts-clear : (p : Packet) (n : ℕ) (s s' : SendingView) (r : ReceivingView) (b : Bool)
     → p.what ≡ what.Clear n
@@ -260,11 +266,6 @@ three false false true c e = not_kept e
 three false true false c e = not_kept e
 three false true true c e = not_kept e
 
-neither : (a b : Bool) → (a || b) ≡ false → (a ≡ false) × (b ≡ false)
-neither false false e = (refl, refl)
-neither true b e = not_kept (sym e)
-neither false true e = not_kept (sym e)
-
 -- one event, by what happened
 one-event : (events : List Event) (w : Happened) → happenings events ≡ w ∷ []
     → (e : Event) × (events ≡ e ∷ []) × (e.what ≡ w)
@@ -292,6 +293,7 @@ right-withdraw ranks from n done h events made none late came free =
       rw o.2 (record {
         numbers = tt;
         matches = tt;
+        claims = tt;
         cancels = tt;
         wholes = tt;
         ends = (none, late, came, free);
@@ -324,11 +326,21 @@ accepts-withdraw p n s r r' b e value kept arrived same stays =
                 (value h received),
           ));
       tells = λ h known t cont. rw e (record {
-        told = record { count = t.told.count ∙ sym (ap (λ (xs : List Stream). (slice_index_or xs p.from nothing_came).count) streams); lacks = t.told.lacks ∙ sym (ap (λ (xs : List Stream). missing (slice_index_or xs p.from nothing_came)) streams) };
+        told = record {
+          count = t.told.count
+              ∙ sym (ap (λ (xs : List Stream). (slice_index_or xs p.from nothing_came).count) streams);
+          lacks =
+              t.told.lacks ∙ sym (ap (λ (xs : List Stream). missing (slice_index_or xs p.from nothing_came)) streams);
+        };
         cleared = t.cleared;
       });
       others = λ other known ne t. (record {
-        told = record { count = t.told.count ∙ sym (ap (λ (xs : List Stream). (slice_index_or xs other nothing_came).count) streams); lacks = t.told.lacks ∙ sym (ap (λ (xs : List Stream). missing (slice_index_or xs other nothing_came)) streams) };
+        told = record {
+          count = t.told.count
+              ∙ sym (ap (λ (xs : List Stream). (slice_index_or xs other nothing_came).count) streams);
+          lacks =
+              t.told.lacks ∙ sym (ap (λ (xs : List Stream). missing (slice_index_or xs other nothing_came)) streams);
+        };
         cleared = t.cleared;
       });
       outbox = refl;

@@ -1,5 +1,5 @@
 -- What the fields keep stays true where a rank does something by itself.
-use Rattle.std.proofs.Common.{◌≡◌, ℕ, ◌≤◌, Bool, true, false, Some, List, [], ◌++◌, length, refl, sym, ◌∙◌, ap, subst}
+use Rattle.std.proofs.Common.{◌≡◌, ℕ, ◌≤◌, Bool, true, false, Some, List, [], ◌++◌, length, sym, ◌∙◌, ap, subst}
 use Rattle.std.specs.Prelude.{map, filter, ◌==◌, slice_index_or}
 use Rattle.std.specs.List.{slice_get, AllByRecursion}
 use Rattle.nm_types.specs.Sizes.{Sizes}
@@ -7,7 +7,7 @@ use Rattle.nm_history.specs.declared.events.Event.{Event}
 use Rattle.nm_history.specs.declared.events.Happened.{Happened}
 use Rattle.std.proofs.lemmas.List.{length-map}
 use Rattle.std.proofs.lemmas.List.FromFn.{length-range_with_len}
-use Rattle.nm_history.specs.Happens.{happened, is_send}
+use Rattle.nm_history.specs.Happens.{is_send}
 use Rattle.nm_history.specs.Sends.{sends}
 use Rattle.nm_protocol.specs.Agreement.{tells}
 use Rattle.nm_protocol.specs.Clock.{stamped}
@@ -16,7 +16,6 @@ use Rattle.nm_protocol.specs.Rules.{AreRight}
 use Rattle.nm_protocol.proofs.Agreeing.{agrees-other}
 use Rattle.nm_protocol.proofs.Growing.{stamped-same}
 use Rattle.nm_protocol.proofs.Right.{right-append}
-use Rattle.nm_protocol.proofs.Sent.{happened-append}
 use Rattle.nm_eager.specs.Streams.{missing}
 use Rattle.nm_journal.specs.Journals.{JournalView}
 use Rattle.nm_outbox.specs.Outboxes.{OutboxView}
@@ -27,6 +26,7 @@ use Rattle.nm_receiving.specs.Receipts.{ReceivingView, stream_of}
 use Rattle.nm_receiving.specs.Received.{AreReceived}
 use Rattle.nm_rank.specs.Ranks.{known_from, count_of}
 use Rattle.nm_rank.specs.Fields.{AreFields, IsOf, HasPeers, AreTold, HasRequests, HasRoom, endings}
+use Rattle.nm_receiving.proofs.Grow.{happened_later}
 
 -- the outbox plays no part in what became of messages
 pub sent-outbox : (v : SendingView) (o : OutboxView) (h : List Event) → AreSent v h
@@ -42,16 +42,11 @@ sent-outbox v o h a = record {
   in_turn = a.in_turn;
 }
 
--- what happened lasts
-pub happened-more : (test : Happened → Bool) (h more : List Event) → happened test h ≡ true
-    → happened test (h ++ more) ≡ true
-happened-more test h more e = rw (happened-append test h more, e) refl
-
 -- requests of a longer history, where the receives and the requests are the same
 pub requests-more : (ranks : ℕ) (q : Live) (h more : List Event) (r r' : ReceivingView)
     → endings r' ≡ endings r → HasRequests ranks q h r → HasRequests ranks q (h ++ more) r'
 requests-more ranks q h more r r' same a = record {
-  sends = λ x to n k. (let s = a.sends x to n k in (s.0, happened-more (is_send to n) h more s.1));
+  sends = λ x to n k. (let s = a.sends x to n k in (s.0, happened_later (is_send to n) h more s.1));
   receives = λ x number k. subst (λ (es : List Bool). slice_get es number ≡ Some false) (sym same)
       (a.receives x number k);
   apart = a.apart;

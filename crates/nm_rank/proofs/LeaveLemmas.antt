@@ -1,5 +1,6 @@
 -- What leaves a rank, what it notes, and what it claims.
-use Rattle.std.proofs.Common.{◌≡◌, ℕ, ◌+◌, ◌<◌, ◌≤◌, true, false, List, [], ◌∷◌, ◌++◌, length, refl, sym, ◌∙◌, ap, subst, length-set, arith}
+use Rattle.std.proofs.Common.{◌≡◌, ℕ, ◌+◌, ◌<◌, ◌≤◌, true, false, List, [], ◌∷◌, ◌++◌, length, refl, sym, ◌∙◌, ap}
+use Rattle.std.proofs.Common.{subst, length-set, arith}
 use Rattle.std.specs.Prelude.{Option, Some, None, IfSome, IsSome, slice_set, slice_index_or}
 use Rattle.std.specs.List.{AllByRecursion, slice_get}
 use Rattle.std.specs.Option.{option_and_then}
@@ -137,7 +138,7 @@ fields-ran me sizes j j' s r known q took pulled line answer a e c room two sent
     (record {
       sent = sent s j.events (stamped j.clock ws) (refl, tt) a.history.sent;
       received = stays r j.events (stamped j.clock ws) (refl, tt) a.history.received;
-      right = (record { numbers = tt; matches = tt; cancels = tt; wholes = tt; ends = tt }, tt);
+      right = (record { numbers = tt; matches = tt; claims = tt; cancels = tt; wholes = tt; ends = tt }, tt);
     })
     (record {
       me = refl;

@@ -1,5 +1,6 @@
 -- The fields of a rank at which nothing happened.
-use Rattle.std.proofs.Common.{◌≡◌, ℕ, zero, suc, ◌<◌, Some, None, List, [], length, replicate, refl, sym, ◌∙◌, ap, arith}
+use Rattle.std.proofs.Common.{◌≡◌, ℕ, zero, suc, ◌<◌, Some, None, List, [], length, replicate, refl, sym, ◌∙◌, ap}
+use Rattle.std.proofs.Common.{arith}
 use Rattle.std.specs.Prelude.{map, filter, ◌==◌}
 use Rattle.nm_types.specs.Sizes.{Sizes}
 use Rattle.nm_protocol.specs.Known.{Known, nothing_known}

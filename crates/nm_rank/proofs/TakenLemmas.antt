@@ -1,6 +1,8 @@
 -- What contracts see of a rank that took a packet.
-use Rattle.std.proofs.Common.{◌≡◌, ℕ, ◌+◌, ◌<◌, ◌≤◌, Bool, true, false, List, [], ◌∷◌, ◌++◌, length, refl, sym, ◌∙◌, ap, subst, append-nil, arith}
-use Rattle.std.specs.Prelude.{map, max, not, if◌then◌else◌, ◌==◌, ◌&&◌, slice_index_or, slice_set, is_some, Option, Some, None, option_map}
+use Rattle.std.proofs.Common.{◌≡◌, ℕ, ◌+◌, ◌<◌, ◌≤◌, Bool, true, false, List, [], ◌∷◌, ◌++◌, length, refl, sym, ◌∙◌}
+use Rattle.std.proofs.Common.{ap, subst, append-nil, arith}
+use Rattle.std.specs.Prelude.{map, max, not, if◌then◌else◌, ◌==◌, ◌&&◌, slice_index_or, slice_set, is_some, Option}
+use Rattle.std.specs.Prelude.{Some, None, option_map}
 use Rattle.std.specs.Option.{option_map_or}
 use Rattle.std.proofs.lemmas.List.{map-set, set-get_or}
 use Rattle.nm_types.specs.Sizes.{Sizes}

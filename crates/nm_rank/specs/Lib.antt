@@ -3,3 +3,5 @@ pub mod Calls
 pub mod Fields
 pub mod Requests
 pub mod Takes
+pub mod New
+pub mod Pops

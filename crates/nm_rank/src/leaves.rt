@@ -1,18 +1,15 @@
 //! Packets and pieces that leave.
 
-ghost use Rattle.std.specs.Prelude.{◌≡◌, ◌+◌, ◌<◌, ◌↔◌, ◌∷◌, ℕ, false, None, Some, List, [], length, slice_get, slice_set};
-ghost use Rattle.std.specs.Prelude.{nat_lt, option_map, option_and_then, IfSome, IfNone, IsNone, IsSome, IsSomeAnd, MatchOption};
-ghost use Rattle.nm_history.specs.Delivery.{is_asked};
-ghost use Rattle.nm_history.specs.Sends.{sends};
+ghost use Rattle.std.specs.Prelude.{◌≡◌, ◌<◌, ◌↔◌, ℕ, true, false, None, Some, length, slice_get};
+ghost use Rattle.std.specs.Prelude.{nat_lt, option_map, IfSome, IfNone, IsNone, IsSome, IsSomeAnd, MatchOption};
 ghost use Rattle.nm_protocol.specs.Clearance.{pushed_out, to_push};
 ghost use Rattle.nm_protocol.specs.Pieces.{due_pieces};
 ghost use Rattle.nm_protocol.specs.Rest.{EagerHaveLeft};
 ghost use Rattle.nm_outbox.specs.Outboxes.{popped_to};
-ghost use Rattle.nm_rndv.specs.Offers.{AllOut, first_leaving, next_offered, offered, out_by_piece, with_popped};
-ghost use Rattle.nm_sending.specs.Departures.{ended_by, pushed_to};
-ghost use Rattle.nm_sending.specs.Sent.{outs};
+ghost use Rattle.nm_rndv.specs.Offers.{AllOut, next_offered, offered};
+ghost use Rattle.nm_sending.specs.Departures.{pushed_to};
 ghost use Rattle.nm_receiving.specs.Receipts.{drawn_from};
-ghost use Rattle.nm_rank.specs.Calls.{Notes, TakesNone};
+ghost use Rattle.nm_rank.specs.Pops.{PopsPacket, PopsPiece};
 ghost use Rattle.nm_rank.specs.Ranks.{IsFresh, known_from};
 
 use crate::Rank;
@@ -46,22 +43,7 @@ impl Rank {
     pub fn pop_front(&mut self)
         requires first { 0 < length self.old.sending.outbox.letters }
         requires fresh { IsFresh self.old }
-        ensures left { Notes (outs (ended_by (slice_get self.old.sending.outbox.letters 0)))
-            self.old self.new }
-        ensures popped { IfSome (slice_get self.old.sending.outbox.letters 0) (λ letter.
-            (self.old.sending.outbox.letters ≡ letter ∷ self.new.sending.outbox.letters)
-            × (self.new.sending.outbox
-            ≡ record self.old.sending.outbox {
-              letters = self.new.sending.outbox.letters;
-              popped = slice_set self.old.sending.outbox.popped letter.to
-                  (popped_to self.old.sending.outbox letter.to + 1);
-            })) }
-        ensures same { (self.new.sending.offers ≡ self.old.sending.offers)
-            × (self.new.sending.pushed ≡ self.old.sending.pushed) }
-        ensures eager { IfSome (ended_by (slice_get self.old.sending.outbox.letters 0)) (λ m.
-            is_asked (sends self.old.events m.0) m.1 ≡ false) }
-        ensures takes { TakesNone self.old self.new × (self.new.receiving ≡ self.old.receiving)
-            × (self.new.requests ≡ self.old.requests) }
+        ensures { PopsPacket self.old self.new }
     {
         sides_stay();
         if let Some((to, n)) = self.sending.pop_front() {
@@ -69,12 +51,25 @@ impl Rank {
         }
     }
 
+    /// The rank that the next piece goes to, without the piece, if there is one: that of
+    /// `front_piece`.
+    pub fn piece_to(&self) -> Option<u8>
+        ensures to { result ≡ option_map (λ o. o.to) (next_offered self.now.sending.offers) }
+        ensures in_range { IfSome result (λ to. to < self.now.sizes.ranks) }
+    {
+        self.sending.piece_to()
+    }
+
     /// Whether there is a piece to be pushed: a message was cleared and has not left.
     pub fn has_piece(&self) -> bool
-        ensures out { (result ≡ false) ↔ AllOut self.now.sending.offers }
+        ensures some { result ≡ true → IsSome (next_offered self.now.sending.offers) }
         ensures none { result ≡ false → next_offered self.now.sending.offers ≡ None }
+        ensures out { (result ≡ false) ↔ AllOut self.now.sending.offers }
+        ensures left { (result ≡ false) ↔ ((to : ℕ) → to < self.now.sizes.ranks →
+            pushed_out self.now.events to
+            ≡ to_push self.now.events (known_from self.now.known to) to) }
     {
-        self.sending.has_piece()
+        self.sending.piece_to().is_some()
     }
 
     /// The next piece to be pushed, with the rank that it goes to, if there is one: of the first
@@ -97,19 +92,7 @@ impl Rank {
     pub fn pop_piece(&mut self)
         requires next { IsSome (next_offered self.old.sending.offers) }
         requires fresh { IsFresh self.old }
-        ensures left { Notes (outs (option_and_then (out_by_piece self.old.sending.offers)
-            (first_leaving self.old.sending.offers))) self.old self.new }
-        ensures in_turn { IfSome (option_and_then (out_by_piece self.old.sending.offers)
-            (first_leaving self.old.sending.offers)) (λ m.
-            slice_get (to_push self.old.events (known_from self.old.known m.0) m.0)
-            (length (pushed_out self.old.events m.0)) ≡ Some m.1) }
-        ensures popped { IfSome (first_leaving self.old.sending.offers) (λ m.
-            (self.new.sending.offers ≡ with_popped self.old.sending.offers m)
-            × (self.new.sending.pushed
-            ≡ slice_set self.old.sending.pushed m.0 (pushed_to self.old.sending m.0 + 1))) }
-        ensures takes { TakesNone self.old self.new × (self.new.receiving ≡ self.old.receiving)
-            × (self.new.sending.outbox ≡ self.old.sending.outbox)
-            × (self.new.requests ≡ self.old.requests) }
+        ensures { PopsPiece self.old self.new }
     {
         sides_stay();
         if let Some((to, n)) = self.sending.pop_piece() {

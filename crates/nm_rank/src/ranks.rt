@@ -1,19 +1,14 @@
 //! The core of one rank.
 
-ghost use Rattle.std.specs.Prelude.{◌≡◌, ◌<◌, ◌≤◌, ◌↔◌, ℕ, false, None, [], length, map, replicate, IfOk};
+ghost use Rattle.std.specs.Prelude.{◌≡◌, ◌<◌, ◌↔◌, false, [], map, replicate, IfOk};
 ghost use Rattle.nm_types.specs.declared.limits.TheConstants.{MAX_STAMP};
-ghost use Rattle.nm_types.specs.declared.messages.Arrival.{Arrival};
-ghost use Rattle.nm_protocol.specs.Continues.{WORN_STAMP};
 ghost use Rattle.nm_protocol.specs.Known.{nothing_known};
 ghost use Rattle.nm_protocol.specs.Rest.{EmptyAreHere};
 ghost use Rattle.nm_protocol.specs.Rules.{AreRight};
 ghost use Rattle.nm_outbox.specs.Outboxes.{popped_to};
-ghost use Rattle.nm_rndv.specs.Offers.{no_offers};
-ghost use Rattle.nm_request.specs.declared.Req.{Req};
-ghost use Rattle.nm_request.specs.Requests.{kind_of};
 ghost use Rattle.nm_sending.specs.Departures.{pushed_to};
-ghost use Rattle.nm_receiving.specs.Receipts.{came_of, drawn_from};
 ghost use Rattle.nm_journal.specs.Journals.{IsJournal};
+ghost use Rattle.nm_rank.specs.New.{IsNew};
 ghost use Rattle.nm_rank.specs.Ranks.{IsFresh, count_of};
 
 use nm_history::History;
@@ -83,20 +78,7 @@ impl Rank {
     /// A rank at which nothing happened, in a run of these sizes.
     pub fn new(alloc: Global, shape: Shape, me: u8) -> Result<Rank, Memory>
         requires { me < shape.ranks }
-        ensures me { IfOk result (λ r. (r.me ≡ me) × (r.sizes ≡ shape)) }
-        ensures events { IfOk result (λ r. (r.events ≡ []) × (r.clock ≡ 0)) }
-        ensures sent { IfOk result (λ r. (r.sending.outbox.me ≡ me)
-            × (r.sending.outbox.letters ≡ [])
-            × (r.sending.outbox.popped ≡ replicate shape.ranks 0)
-            × (r.sending.offers ≡ no_offers shape.ranks)
-            × (r.sending.pushed ≡ replicate shape.ranks 0)) }
-        ensures came { IfOk result (λ r. (from : ℕ) → drawn_from r.receiving from ≡ 0) }
-        ensures drawn { IfOk result (λ r. length r.receiving.drawn ≡ shape.ranks) }
-        ensures bytes { IfOk result (λ r. (a : Arrival) → came_of r.receiving a ≡ []) }
-        ensures requests { IfOk result (λ r. (q : Req) → kind_of r.requests q ≡ None) }
-        ensures counts { IfOk result (λ r. (r.took ≡ replicate shape.ranks 0)
-            × (r.pulled ≡ replicate shape.ranks 0) × (r.strays ≡ 0)) }
-        ensures known { IfOk result (λ r. r.known ≡ replicate shape.ranks nothing_known) }
+        ensures { IfOk result (IsNew shape me) }
     {
         let ranks = shape.ranks();
         let took = zeros(alloc, ranks)?;

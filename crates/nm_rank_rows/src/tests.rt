@@ -102,6 +102,7 @@ fn move_piece(rt: &impl Abort, from: &mut Rank, to: &mut Rank) -> Result<bool, F
     ensures { (from.new.sizes.ranks ≡ 2) × (to.new.sizes.ranks ≡ 2) }
 {
     assert!(rt; !from.is_worn() && !to.is_worn());
+    assert_eq!(rt; from.has_piece(), from.piece_to().is_some());
     let Some((_, piece)) = from.front_piece() else {
         return Ok(false);
     };

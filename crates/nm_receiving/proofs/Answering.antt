@@ -1,7 +1,8 @@
 -- What the tables answer: whether a piece is due, and what became of a receive.
 use Rattle.std.specs.Prelude.{IsSome, IfSome}
-use Rattle.std.proofs.Common.{◌≡◌, ℕ, ◌<◌, ◌≤◌, Bool, false, ◌||◌, is_some, nat_lt, Option, Some, None, List, [], ◌∷◌, zero, suc, length, refl, sym, ◌∙◌, ap}
-use Rattle.std.proofs.Common.{arith, ◌⊎◌, inl, inr}
+use Rattle.std.proofs.Common.{◌≡◌, ℕ, ◌<◌, ◌≤◌, Bool, false, ◌||◌, is_some, nat_lt, Option, Some, None, List, [], ◌∷◌}
+use Rattle.std.proofs.Common.{length, refl, sym, ◌∙◌, ap}
+use Rattle.std.proofs.Common.{◌⊎◌, inl, inr}
 use Rattle.std.specs.List.{slice_get}
 use Rattle.std.specs.Option.{option_and_then, option_map, option_map_or}
 use Rattle.std.proofs.lemmas.Bool.{cases_lt, le-ltb, lt-ltb}
@@ -23,22 +24,16 @@ use Rattle.nm_receiving.specs.Receipts.{ReceivingView, pair_with, receipt_of}
 use Rattle.nm_receiving.specs.Received.{AreReceived}
 use Rattle.nm_receiving.proofs.Dues.{pair}
 use Rattle.nm_receiving.proofs.Stood.{is_cancelled_at, is_whole_at}
-
-some_mapped : {X Y : Type 0} (f : X → Y) (o : Option X) → is_some (option_map f o) ≡ is_some o
-some_mapped f None = refl
-some_mapped f (Some x) = refl
-
-slice_get_at : {X : Type 0} (xs : List X) (k : ℕ) → k < length xs → (x : X) × (slice_get xs k ≡ Some x)
-slice_get_at [] k below = absurd (let h : ⊥ = omega arith in h)
-slice_get_at (x ∷ xs) zero below = (x, refl)
-slice_get_at (x ∷ xs) (suc k) below = slice_get_at xs k (omega arith)
+use Rattle.nm_facts.proofs.Lists.{get_some}
+use Rattle.nm_facts.proofs.Options.{some_mapped}
 
 some_inside : {X : Type 0} (xs : List X) (k : ℕ) → is_some (slice_get xs k) ≡ nat_lt k (length xs)
 some_inside {X} xs k = by (cases_lt k (length xs)) (slice_get xs k) refl
   where
-    by : (k < length xs) ⊎ (length xs ≤ k) → (o : Option X) → slice_get xs k ≡ o → is_some (slice_get xs k) ≡ nat_lt k (length xs)
+    by : (k < length xs) ⊎ (length xs ≤ k) → (o : Option X) → slice_get xs k ≡ o → is_some (slice_get xs k) ≡ nat_lt k
+        (length xs)
     by (inl below) None is =
-        let there = slice_get_at xs k below in absurd (let same = there.1 in let h : ⊥ = cc in h)
+        let there = get_some xs k below in absurd (let same = there.1 in let h : ⊥ = cc in h)
     by (inr past) None is = ap (λ (o : Option X). is_some o) is ∙ sym (le-ltb k (length xs) past)
     by place (Some x) is = ap (λ (o : Option X). is_some o) is ∙ sym (lt-ltb k (length xs) (slice_get_within xs k x is))
 
@@ -51,8 +46,10 @@ due_is grants h from place due =
     ∙ some_inside (due_pieces h from) place
 
 -- what became of a receive
-pub complete_some : (v : ReceivingView) (h : List Event) → AreReceived v h → (number : ℕ) (r : Receive) → slice_get v.receives number ≡ Some r
-    → is_complete h (Receiving number) ≡ (r.cancelled || option_map_or (λ a. is_whole_at (receipt_of v a.env.from a.n)) r.taken false)
+pub complete_some : (v : ReceivingView) (h : List Event) → AreReceived v h → (number : ℕ) (r : Receive) →
+    slice_get v.receives number ≡ Some r
+    → is_complete h (Receiving number)
+    ≡ (r.cancelled || option_map_or (λ a. is_whole_at (receipt_of v a.env.from a.n)) r.taken false)
 complete_some v h received number r here =
     ap (λ (b : Bool). b || option_map_or (is_here h) (pair_of_receive h number) false)
     (sym (received.cancelled number) ∙ ap is_cancelled_at here)
@@ -65,7 +62,8 @@ complete_some v h received number r here =
     by None = refl
     by (Some a) = sym (received.whole a.env.from a.n)
 
-pub complete_none : (v : ReceivingView) (h : List Event) → AreReceived v h → (number : ℕ) → slice_get v.receives number ≡ None
+pub complete_none : (v : ReceivingView) (h : List Event) → AreReceived v h →
+    (number : ℕ) → slice_get v.receives number ≡ None
     → is_complete h (Receiving number) ≡ false
 complete_none v h received number none =
     ap (λ (b : Bool). b || option_map_or (is_here h) (pair_of_receive h number) false)

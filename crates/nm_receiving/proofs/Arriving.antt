@@ -32,12 +32,13 @@ use Rattle.nm_receiving.proofs.Coming.{HasCap, came, came_here, newcomer, stood-
 use Rattle.nm_receiving.proofs.Goings.{goes_on, like-push, names_of}
 use Rattle.nm_receiving.proofs.Grants.{Granted_now, grant_among, granted_cases}
 use Rattle.nm_receiving.proofs.Grow.{at, posts_still, taken_now}
-use Rattle.nm_receiving.proofs.Lists.{row-same, slice_get-last, some_parts}
+use Rattle.nm_receiving.proofs.Lists.{row-same, slice_get-last}
 use Rattle.nm_receiving.proofs.Marking.{marked}
 use Rattle.nm_receiving.proofs.Stood.{Stood, stood_of}
 use Rattle.nm_receiving.proofs.TablesCome.{AreLonger, tables-came}
 use Rattle.nm_receiving.proofs.TablesMark.{MayMark, tables-marked}
 use Rattle.nm_receiving.proofs.Taking.{IsAtOnce, IsNext, keeps-came, marked_if}
+use Rattle.nm_facts.proofs.Options.{some_and}
 
 -- the posted receive that takes a message is there
 pub receive_caps : (v : ReceivingView) (kept : IsKept v) (a : Arrival) (o : Option post.Post)
@@ -45,14 +46,17 @@ pub receive_caps : (v : ReceivingView) (kept : IsKept v) (a : Arrival) (o : Opti
     → (p : post.Post) → o ≡ Some p → (r : Receive) × HasCap v.receives p r
 receive_caps v kept a o oldest p is =
     let h : List Event = kept.history in
-    let there = some_parts (λ (r : Receive). r.cap ≡ p.cap) (slice_get v.receives p.number)
+    let there = some_and (λ (r : Receive). r.cap ≡ p.cap) (slice_get v.receives p.number)
     (find_among (λ (p : post.Post). IsSomeAnd (slice_get v.receives p.number) (λ r. r.cap ≡ p.cap))
-    (λ (p : post.Post). matches p.from p.tag p.ctx a.env && is_open_receive h (matched_pairs h) p) (posts h) p kept.tables.caps
+    (λ (p : post.Post). matches p.from p.tag p.ctx a.env && is_open_receive h (matched_pairs h) p)
+    (posts h) p kept.tables.caps
     (first_receive-stands v.deeds h kept.received.stands a.env ∙ oldest ∙ is)) in
     (there.0, record { there = there.1; cap = there.2 })
 
-module _ (v : ReceivingView) (kept : IsKept v) (streams : List Stream) (a : Arrival) (o : Option post.Post) (next : IsNext v a)
-    (long : AreLonger v streams a) (oldest : first_receive (history_of v.deeds) (matched_pairs (history_of v.deeds)) a.env ≡ o) where
+module _ (v : ReceivingView) (kept : IsKept v) (streams : List Stream) (a : Arrival) (o : Option post.Post)
+    (next : IsNext v a)
+    (long : AreLonger v streams a) (oldest : first_receive (history_of v.deeds) (matched_pairs (history_of v.deeds))
+    a.env ≡ o) where
   abbrev h : List Event
   h = kept.history
 
@@ -75,15 +79,18 @@ module _ (v : ReceivingView) (kept : IsKept v) (streams : List Stream) (a : Arri
   stood0 = stood_of v h kept.received
 
   stood1 : Stood v1 h1
-  stood1 = stood-came v h stood0 streams 0 a next.receipts next.next next.grants o oldest0 (receive_caps v kept a o oldest)
+  stood1 = stood-came v h stood0 streams 0 a next.receipts next.next next.grants o oldest0
+      (receive_caps v kept a o oldest)
 
   grown1 : matched_pairs h1 ≡ matched_pairs h ++ option_to_list (option_map (λ p. pair_of p a) o)
-  grown1 = matched_pairs-push h e ∙ ap (λ (o : Option post.Post). matched_pairs h ++ option_to_list (option_map (λ p. pair_of p a) o)) oldest0
+  grown1 = matched_pairs-push h e
+      ∙ ap (λ (o : Option post.Post). matched_pairs h ++ option_to_list (option_map (λ p. pair_of p a) o)) oldest0
 
   taken1 : is_some o ≡ true → is_taken h1 a.env.from a.n ≡ true
   taken1 = by o grown1
     where
-      by : (o : Option post.Post) → matched_pairs h1 ≡ matched_pairs h ++ option_to_list (option_map (λ p. pair_of p a) o)
+      by : (o : Option post.Post) → matched_pairs h1 ≡ matched_pairs h ++ option_to_list
+          (option_map (λ p. pair_of p a) o)
           → is_some o ≡ true → is_taken h1 a.env.from a.n ≡ true
       by None grown is = absurd (false≢true is)
       by (Some p) grown is = taken_now h h1 (pair_of p a) grown
@@ -97,15 +104,18 @@ module _ (v : ReceivingView) (kept : IsKept v) (streams : List Stream) (a : Arri
 
   tables1 : AreTables v1 h1
   tables1 = tables-came v h h1 stood0 streams a taker kept.tables next.receipts next.grants next.next long
-      (names_of v h kept.received) (option_to_list (option_map (λ p. pair_of p a) o)) grown1 paired (posts_still h e refl)
+      (names_of v h kept.received) (option_to_list (option_map (λ p. pair_of p a) o)) grown1 paired
+      (posts_still h e refl)
 
   was_none : receipt_of v a.env.from a.n ≡ None
   was_none = slice_get_past (receipts_from v a.env.from) a.n (let n_is = next.next in omega (arith, n_is))
 
   others_shut : All (λ e. e.0 ≡ a.n → is_open e.1 ≡ false) (granted_to v a.env.from)
-  others_shut = All-weaker (λ e. IsSomeAnd (receipt_of v a.env.from e.0) (IsCleared h a.env.from e)) (λ e. e.0 ≡ a.n → is_open e.1 ≡ false)
-      (λ e was same. let had = some_parts (IsCleared h a.env.from e) (receipt_of v a.env.from e.0) was in
-      let there : receipt_of v a.env.from a.n ≡ Some had.0 = ap (λ (k : ℕ). receipt_of v a.env.from k) (sym same) ∙ had.1 in
+  others_shut = All-weaker (λ e. IsSomeAnd (receipt_of v a.env.from e.0) (IsCleared h a.env.from e))
+      (λ e. e.0 ≡ a.n → is_open e.1 ≡ false)
+      (λ e was same. let had = some_and (IsCleared h a.env.from e) (receipt_of v a.env.from e.0) was in
+      let there : receipt_of v a.env.from a.n ≡ Some had.0 = ap (λ (k : ℕ). receipt_of v a.env.from k) (sym same)
+      ∙ had.1 in
       let none = was_none in absurd (let h' : ⊥ = cc in h'))
       (granted_to v a.env.from) (kept.tables.cleared a.env.from)
 
@@ -114,18 +124,22 @@ module _ (v : ReceivingView) (kept : IsKept v) (streams : List Stream) (a : Arri
     where
       by : (k : Option ℕ) → taken_by k a ≡ Some b → (b ≡ a) × (b.env.from < length v.grants)
       by None is = absurd (let h' : ⊥ = cc in h')
-      by (Some k) is = let same : a ≡ b = cc in (sym same, subst (λ (c : Arrival). c.env.from < length v.grants) same next.grants)
+      by (Some k) is = let same : a ≡ b = cc in
+          (sym same, subst (λ (c : Arrival). c.env.from < length v.grants) same next.grants)
 
-  all_shut : (is_ask a.env.how ≡ true → a.env.len ≡ 0) → All (λ e. e.0 ≡ a.n → is_open e.1 ≡ false) (granted_to v1 a.env.from)
+  all_shut : (is_ask a.env.how ≡ true → a.env.len ≡ 0) → All (λ e. e.0 ≡ a.n → is_open e.1 ≡ false)
+      (granted_to v1 a.env.from)
   all_shut none = by (granted_cases v.grants (taken_by taker a) a.env.from (λ b is. let t = taken_inside b is in t.1))
     where
       by : (granted_to v1 a.env.from ≡ granted_to v a.env.from) ⊎ Granted_now v.grants (taken_by taker a) a.env.from
           → All (λ e. e.0 ≡ a.n → is_open e.1 ≡ false) (granted_to v1 a.env.from)
-      by (inl same) = subst (λ (row : List (ℕ × Granted)). All (λ e. e.0 ≡ a.n → is_open e.1 ≡ false) row) (sym same) others_shut
+      by (inl same) = subst (λ (row : List (ℕ × Granted)). All (λ e. e.0 ≡ a.n → is_open e.1 ≡ false) row)
+          (sym same) others_shut
       by (inr now) =
           let b : Arrival = now.0 in
           let t = taken_inside b now.1 in
-          let len : b.env.len ≡ 0 = ap (λ (x : Arrival). x.env.len) t.0 ∙ none (ap (λ (x : Arrival). is_ask x.env.how) (sym t.0) ∙ now.2) in
+          let len : b.env.len ≡ 0 = ap (λ (x : Arrival). x.env.len) t.0
+          ∙ none (ap (λ (x : Arrival). is_ask x.env.how) (sym t.0) ∙ now.2) in
           subst (λ (row : List (ℕ × Granted)). All (λ e. e.0 ≡ a.n → is_open e.1 ≡ false) row) (sym now.4)
           (All-push (λ e. e.0 ≡ a.n → is_open e.1 ≡ false) (granted_to v a.env.from) (b.n, fresh b.env.len) others_shut
           (λ _. ap (λ (k : ℕ). is_open (fresh k)) len))
@@ -142,45 +156,54 @@ module _ (v : ReceivingView) (kept : IsKept v) (streams : List Stream) (a : Arri
     closed = all_shut none;
   }
 
-  pub kept-came : (b : Bool) → IsAtOnce a o b → (b ≡ true → MayMark v1 h1 a.env.from a.n (newcomer a)) → IsKept (marked_if b v1 a.env.from a.n)
+  pub kept-came : (b : Bool) → IsAtOnce a o b → (b ≡ true → MayMark v1 h1 a.env.from a.n (newcomer a)) →
+      IsKept (marked_if b v1 a.env.from a.n)
   kept-came false at_once may =
       goes_on v v1 kept (e ∷ []) refl
-      (keeps-came v streams a o false next at_once (receive_caps v kept a o oldest) h kept.received kept.right oldest0 (e ∷ []) refl)
+      (keeps-came v streams a o false next at_once (receive_caps v kept a o oldest) h kept.received kept.right oldest0
+      (e ∷ []) refl)
       (λ i k. refl) tables1
   kept-came true at_once may =
       let x : Event = at 0 (Whole a.env.from a.n) in
       goes_on v (marked v1 a.env.from a.n) kept (e ∷ x ∷ []) refl
-      (keeps-came v streams a o true next at_once (receive_caps v kept a o oldest) h kept.received kept.right oldest0 (e ∷ x ∷ []) refl)
+      (keeps-came v streams a o true next at_once (receive_caps v kept a o oldest) h kept.received kept.right oldest0
+      (e ∷ x ∷ []) refl)
       (λ i k. refl)
       (subst (λ (k : List Event). AreTables (marked v1 a.env.from a.n) k) (append_assoc h (e ∷ []) (x ∷ []))
-      (tables-marked v1 h1 (h1 ++ x ∷ []) stood1 a.env.from a.n (newcomer a) tables1 (like-push h1 x refl refl) (may refl)))
+      (tables-marked v1 h1 (h1 ++ x ∷ []) stood1 a.env.from a.n (newcomer a) tables1 (like-push h1 x refl refl)
+      (may refl)))
 
 -- the row of a message that came, and is whole if this is true
-pub row_came : (rows : List (List Receipt)) (a : Arrival) (b : Bool) → a.env.from < length rows → a.n ≡ length (rows_from rows a.env.from)
+pub row_came : (rows : List (List Receipt)) (a : Arrival) (b : Bool) → a.env.from < length rows →
+    a.n ≡ length (rows_from rows a.env.from)
     → set rows a.env.from (rows_from rows a.env.from ++ record { arrival = a; whole = b } ∷ [])
     ≡ cond b (rows_with_whole (with_newcomer rows a) a.env.from a.n) (with_newcomer rows a)
 row_came rows a false inside next = refl
 row_came rows a true inside next =
     let row : List Receipt = rows_from rows a.env.from in
     let more : List Receipt = row ++ newcomer a ∷ [] in
-    let here : get_or (set rows a.env.from more) a.env.from [] ≡ more = row-same rows a.env.from more a.env.from refl inside in
+    let here : get_or (set rows a.env.from more) a.env.from [] ≡ more = row-same rows a.env.from more a.env.from refl
+    inside in
     let whole : with_whole more a.n ≡ row ++ made_whole (newcomer a) ∷ [] =
     whole_last row (newcomer a) a.n next in
     sym (ap (λ (r : List Receipt). set (set rows a.env.from more) a.env.from (with_whole r a.n)) here
     ∙ ap (λ (r : List Receipt). set (set rows a.env.from more) a.env.from r) whole
     ∙ set-set rows a.env.from more (row ++ made_whole (newcomer a) ∷ []))
   where
-    whole_last : (row : List Receipt) (r : Receipt) (n : ℕ) → n ≡ length row → with_whole (row ++ r ∷ []) n ≡ row ++ made_whole r ∷ []
+    whole_last : (row : List Receipt) (r : Receipt) (n : ℕ) → n ≡ length row →
+        with_whole (row ++ r ∷ []) n ≡ row ++ made_whole r ∷ []
     whole_last row r n last = rw (slice_get-last row r n last) (set_at row r [] (made_whole r) n (sym last))
 
 -- the next message of a rank has no grant yet
-pub none_granted_yet : (v : ReceivingView) (kept : IsKept v) (from n : ℕ) → n ≡ length (receipts_from v from) → grant_in (granted_to v from) n ≡ None
+pub none_granted_yet : (v : ReceivingView) (kept : IsKept v) (from n : ℕ) → n ≡ length (receipts_from v from) →
+    grant_in (granted_to v from) n ≡ None
 none_granted_yet v kept from n next = by (grant_in (granted_to v from) n) refl
   where
     by : (o : Option Granted) → grant_in (granted_to v from) n ≡ o → grant_in (granted_to v from) n ≡ None
     by None is = is
     by (Some g) is =
-        let entry = grant_among (λ e. IsSomeAnd (receipt_of v from e.0) (IsCleared kept.history from e)) (granted_to v from) n g (kept.tables.cleared from) is in
-        let r = some_parts (IsCleared kept.history from (n, g)) (receipt_of v from n) entry in
+        let entry = grant_among (λ e. IsSomeAnd (receipt_of v from e.0) (IsCleared kept.history from e))
+        (granted_to v from) n g (kept.tables.cleared from) is in
+        let r = some_and (IsCleared kept.history from (n, g)) (receipt_of v from n) entry in
         let there = r.1 in
         let none = slice_get_past (receipts_from v from) n (omega (arith, next)) in absurd (let h : ⊥ = cc in h)

@@ -1,5 +1,6 @@
 -- The tables where nothing came and nothing was received.
-use Rattle.std.proofs.Common.{◌≡◌, ℕ, ◌<◌, ◌≤◌, nat_eq, Some, None, List, [], length, get_or, replicate, refl, sym, ◌∙◌, ap, subst}
+use Rattle.std.proofs.Common.{◌≡◌, ℕ, ◌<◌, ◌≤◌, nat_eq, Some, None, List, [], length, get_or, replicate, refl, sym}
+use Rattle.std.proofs.Common.{◌∙◌, ap, subst}
 use Rattle.std.proofs.Common.{arith, ◌⊎◌, inl, inr}
 use Rattle.std.specs.List.{All, IsDistinct, slice_get}
 use Rattle.std.specs.Map.{keys_of}
@@ -31,9 +32,11 @@ all_same {X} n x i = by (cases_lt i n)
     by (inr past) = get_or_past (replicate n x) i x (omega (arith, length-replicate n x))
 
 -- the streams of a joiner, by sender
-pub stream_at : (joining : Joining) (from : ℕ) → from < joining.sizes.ranks → get_or (streams_of joining) from nothing_came ≡ stream_from joining from
+pub stream_at : (joining : Joining) (from : ℕ) → from < joining.sizes.ranks →
+    get_or (streams_of joining) from nothing_came ≡ stream_from joining from
 stream_at joining from below =
-    get_or-map-range_with_len (λ (from : ℕ). stream_from joining from) 0 joining.sizes.ranks from from nothing_came below (omega arith)
+    get_or-map-range_with_len (λ (from : ℕ). stream_from joining from) 0 joining.sizes.ranks from from nothing_came
+    below (omega arith)
 
 pub streams_length : (joining : Joining) → length (streams_of joining) ≡ joining.sizes.ranks
 streams_length joining = length-map-range_with_len (λ (from : ℕ). stream_from joining from) 0 joining.sizes.ranks
@@ -42,7 +45,8 @@ pub no_streams : (joining : Joining) → ((from : ℕ) → stream_from joining f
     → get_or (streams_of joining) from nothing_came ≡ nothing_came
 no_streams joining none from = by (cases_lt from joining.sizes.ranks)
   where
-    by : (from < joining.sizes.ranks) ⊎ (joining.sizes.ranks ≤ from) → get_or (streams_of joining) from nothing_came ≡ nothing_came
+    by : (from < joining.sizes.ranks) ⊎ (joining.sizes.ranks ≤ from) → get_or (streams_of joining) from nothing_came
+        ≡ nothing_came
     by (inl below) = stream_at joining from below ∙ none from
     by (inr past) = get_or_past (streams_of joining) from nothing_came (omega (arith, streams_length joining))
 
@@ -62,10 +66,12 @@ pub record IsEmpty (v : ReceivingView) : Type 0 where
 
 module _ (v : ReceivingView) (empty : IsEmpty v) where
   no_receipts : (from : ℕ) → receipts_from v from ≡ []
-  no_receipts from = ap (λ (rows : List (List Receipt)). get_or rows from []) empty.receipts ∙ all_same v.sizes.ranks [] from
+  no_receipts from = ap (λ (rows : List (List Receipt)). get_or rows from []) empty.receipts
+      ∙ all_same v.sizes.ranks [] from
 
   pub no_grants : (from : ℕ) → granted_to v from ≡ []
-  no_grants from = ap (λ (rows : List (List (ℕ × Granted))). get_or rows from []) empty.grants ∙ all_same v.sizes.ranks [] from
+  no_grants from = ap (λ (rows : List (List (ℕ × Granted))). get_or rows from []) empty.grants
+      ∙ all_same v.sizes.ranks [] from
 
   pub none_drawn : (from : ℕ) → drawn_from v from ≡ 0
   none_drawn from = ap (λ (xs : List ℕ). get_or xs from 0) empty.drawn ∙ all_same v.sizes.ranks 0 from
@@ -111,14 +117,17 @@ module _ (v : ReceivingView) (empty : IsEmpty v) where
     receipts = ap length empty.receipts ∙ length-replicate v.sizes.ranks [];
     drawn = ap length empty.drawn ∙ length-replicate v.sizes.ranks 0;
     counts = λ from. ap (λ (s : Stream). s.count) (empty.streams from) ∙ sym (ap length (no_receipts from));
-    unfinished = λ from n last. absurd (let count = ap (λ (s : Stream). s.count) (empty.streams from) in let h : ⊥ = omega (arith, last, count) in h);
+    unfinished = λ from n last. absurd (let count = ap (λ (s : Stream). s.count) (empty.streams from) in
+        let h : ⊥ = omega (arith, last, count) in h);
     untaken = λ from n r is. never_receipt from n r is;
     waiting = λ from n r is. never_receipt from n r is;
     taken = λ k r a is. never_receive k r is;
     apart = λ k l r s a b is. never_receive k r is;
-    cleared = λ from. subst (λ (row : List (ℕ × Granted)). All (λ e. IsSomeAnd (receipt_of v from e.0) (IsCleared [] from e)) row) (sym (no_grants from))
+    cleared = λ from. subst (λ (row : List (ℕ × Granted)). All
+        (λ e. IsSomeAnd (receipt_of v from e.0) (IsCleared [] from e)) row) (sym (no_grants from))
         (All-nil (λ (e : ℕ × Granted). IsSomeAnd (receipt_of v from e.0) (IsCleared [] from e)));
-    once = λ from. subst (λ (row : List (ℕ × Granted)). IsDistinct nat_eq (keys_of row)) (sym (no_grants from)) once-nil;
+    once = λ from. subst (λ (row : List (ℕ × Granted)). IsDistinct nat_eq (keys_of row))
+        (sym (no_grants from)) once-nil;
     caps = All-nil (λ (p : post.Post). IsSomeAnd (slice_get v.receives p.number) (λ r. r.cap ≡ p.cap));
   }
 

@@ -14,7 +14,6 @@ use Rattle.nm_types.specs.declared.packets.Piece.{Piece}
 use Rattle.nm_types.specs.declared.packets.What.{What}
 use Rattle.nm_types.specs.declared.packets.What.TheVariants as what
 use Rattle.nm_history.specs.Sends.{is_ask}
-use Rattle.nm_history.proofs.OnceLemmas.{find_passes}
 use Rattle.nm_protocol.specs.Bytes.{bytes_in, pulled_bytes}
 use Rattle.nm_protocol.specs.Known.{Known}
 use Rattle.nm_eager.specs.Streams.{Incoming, IsStream, IsWholeOrLast, Stream, after, begun, carried_on}
@@ -26,10 +25,12 @@ use Rattle.nm_receiving.specs.Kept.{IsKept}
 use Rattle.nm_receiving.specs.Receipts.{AddsBytes, ReceivingView, SameBytes, came_of, granted_to, of_asked}
 use Rattle.nm_receiving.specs.Receipts.{of_eager, stream_of}
 use Rattle.nm_receiving.specs.Steps.{grants_after, grants_with}
-use Rattle.nm_receiving.proofs.Grants.{differs, grant_set, granted_new, self}
-use Rattle.nm_receiving.proofs.Lists.{eqb_other, eqb_same, find-first_more, find-none_more, row-other}
+use Rattle.nm_receiving.proofs.Grants.{grant_set, granted_new, self}
+use Rattle.nm_receiving.proofs.Lists.{find-first_more, find-none_more, row-other}
 use Rattle.nm_receiving.proofs.Lists.{row-same}
 use Rattle.nm_receiving.proofs.TablesCarry.{carried}
+use Rattle.nm_facts.proofs.Numbers.{unequal, eq_true, nat_unequal as differs}
+use Rattle.nm_facts.proofs.Lists.{find_passes}
 
 abbrev Row : Type 0
 Row = List (ℕ × Granted)
@@ -102,13 +103,13 @@ begun-came s len bytes right n = by (cases_eq s.count n)
         let none : message_of s n ≡ None =
         find-lacks n s.messages (Lacks-below n 0 s.count s.messages (omega (arith, same)) right.numbered) in
         ap joined_bytes (find-first_more (λ (m : Incoming). m.n == n) s.messages (Some new) none
-        (λ x is. eqb_same x.n n (ap (λ (m : Incoming). m.n) (sym (is_new x is)) ∙ same)))
-        ∙ sym (ap (λ (b : Bool). eager_came s n ++ only b bytes) (eqb_same s.count n same)
+        (λ x is. eq_true x.n n (ap (λ (m : Incoming). m.n) (sym (is_new x is)) ∙ same)))
+        ∙ sym (ap (λ (b : Bool). eager_came s n ++ only b bytes) (eq_true s.count n same)
         ∙ ap (λ (o : Option Incoming). joined_bytes o ++ bytes) none)
     by (inr other) =
         ap joined_bytes (find-none_more (λ (m : Incoming). m.n == n) s.messages (Some new)
-        (λ x is. eqb_other x.n n (λ is_n. other (ap (λ (m : Incoming). m.n) (is_new x is) ∙ is_n))))
-        ∙ sym (ap (λ (b : Bool). eager_came s n ++ only b bytes) (eqb_other s.count n other)
+        (λ x is. unequal x.n n (λ is_n. other (ap (λ (m : Incoming). m.n) (is_new x is) ∙ is_n))))
+        ∙ sym (ap (λ (b : Bool). eager_came s n ++ only b bytes) (unequal s.count n other)
         ∙ append-nil (eager_came s n))
 
 -- where the last message is not there, no byte is missing
@@ -126,7 +127,7 @@ none_lacks count k (m ∷ ms) last all none = by (m.n == k) refl all.0 (none_lac
     by false is (inl whole) later =
         let rest = later (found_by false is) in omega (arith, whole, rest, sum_by-cons lacking m ms)
     by false is (inr less) later =
-        absurd (false≢true (sym is ∙ eqb_same m.n k (let at = less.1 in omega (arith, at, last))))
+        absurd (false≢true (sym is ∙ eq_true m.n k (let at = less.1 in omega (arith, at, last))))
 
 -- an eager message goes on
 carried-came : (s : Stream) (k : ℕ) (bytes : List ℕ) → IsStream s → k + 1 ≡ s.count → 0 < missing s
@@ -138,12 +139,12 @@ carried-came s k bytes right last some n =
         → (with_more_bytes k bytes m).bytes ≡ m.bytes ++ only (k == n) bytes
     goes_on m name (inl same) =
         ap (λ (b : Bool). (if b then record m { bytes = m.bytes ++ bytes } else m).bytes)
-        (eqb_same m.n k (name ∙ sym same))
-        ∙ sym (ap (λ (b : Bool). m.bytes ++ only b bytes) (eqb_same k n same))
+        (eq_true m.n k (name ∙ sym same))
+        ∙ sym (ap (λ (b : Bool). m.bytes ++ only b bytes) (eq_true k n same))
     goes_on m name (inr other) =
         ap (λ (b : Bool). (if b then record m { bytes = m.bytes ++ bytes } else m).bytes)
-        (eqb_other m.n k (λ is_k. other (sym is_k ∙ name)))
-        ∙ sym (ap (λ (b : Bool). m.bytes ++ only b bytes) (eqb_other k n other) ∙ append-nil m.bytes)
+        (unequal m.n k (λ is_k. other (sym is_k ∙ name)))
+        ∙ sym (ap (λ (b : Bool). m.bytes ++ only b bytes) (unequal k n other) ∙ append-nil m.bytes)
 
     by : (o : Option Incoming) → message_of s n ≡ o → (k ≡ n) ⊎ (k ≡ n → ⊥)
         → joined_bytes (option_map (with_more_bytes k bytes) o) ≡ joined_bytes o ++ only (k == n) bytes
@@ -151,7 +152,7 @@ carried-came s k bytes right last some n =
         let left = none_lacks s.count k s.messages last right.finished
         (ap (λ (j : ℕ). message_of s j) same ∙ is) in
         absurd (let h : ⊥ = omega (arith, left, some) in h)
-    by None is (inr other) = ap (λ (b : Bool). only b bytes) (sym (eqb_other k n other))
+    by None is (inr other) = ap (λ (b : Bool). only b bytes) (sym (unequal k n other))
     by (Some m) is place =
         goes_on m (eqb-true m.n n (find_passes (λ (m : Incoming). m.n == n) s.messages m is)) place
 
@@ -216,7 +217,7 @@ packet-came v w kept p sender streams grants right goes known counted a =
         ∙ ap (λ (s : Stream). eager_came s a.n) (get_or-set_same v.streams p.from now nothing_came inside)
         ∙ after-came v.sizes.eager old p.what p.payload known right goes counted a.n
         ∙ ap (λ (i : ℕ). eager_came (stream_of v i) a.n ++ added) (sym same)
-        ∙ ap (λ (b : Bool). had ++ only (b && true) added) (sym (eqb_same a.env.from p.from same))
+        ∙ ap (λ (b : Bool). had ++ only (b && true) added) (sym (eq_true a.env.from p.from same))
         ∙ ap (λ (b : Bool). had ++ only ((a.env.from == p.from) && not b) added) (sym how)
     by how (inr other) =
         ap (λ (ss : List Stream). eager_came (get_or ss a.env.from nothing_came) a.n) streams
@@ -224,7 +225,7 @@ packet-came v w kept p sender streams grants right goes known counted a =
         (get_or-set_other v.streams p.from a.env.from now nothing_came other)
         ∙ sym (append-nil had)
         ∙ ap (λ (b : Bool). had ++ only (b && not (is_ask a.env.how)) added)
-        (sym (eqb_other a.env.from p.from other))
+        (sym (unequal a.env.from p.from other))
 
 -- a grant of which nothing came
 fresh-came : (row : Row) (n len k : ℕ) → asked_came (row ++ (n, fresh len) ∷ []) k ≡ asked_came row k
@@ -294,14 +295,14 @@ with_piece-came row n bytes g came there had k =
         ap (λ (b : Bool). granted_bytes (cond b (Some (with_more g bytes)) (grant_in row k))) same_is
         ∙ ap (λ (o : Option (List ℕ)).
         option_map_or (λ bytes. bytes) (option_map (λ bs. bs ++ bytes) o) []) had
-        ∙ sym (ap (λ (b : Bool). asked_came row k ++ only b bytes) (eqb_same n k same)
+        ∙ sym (ap (λ (b : Bool). asked_came row k ++ only b bytes) (eq_true n k same)
         ∙ ap (λ (o : Option Granted). granted_bytes o ++ bytes)
         (ap (λ (j : ℕ). grant_in row j) (sym same) ∙ there)
         ∙ ap (λ (o : Option (List ℕ)). option_map_or (λ bytes. bytes) o [] ++ bytes) had)
     by (inr other) =
         ap (λ (b : Bool). granted_bytes (cond b (Some (with_more g bytes)) (grant_in row k)))
         (differs n k other)
-        ∙ sym (ap (λ (b : Bool). asked_came row k ++ only b bytes) (eqb_other n k other)
+        ∙ sym (ap (λ (b : Bool). asked_came row k ++ only b bytes) (unequal n k other)
         ∙ append-nil (asked_came row k))
 
 pub piece-came : (v w : ReceivingView) (p : Piece) (g : Granted) (came : List ℕ) → p.from < length v.grants
@@ -337,14 +338,14 @@ piece-came v w p g came inside streams grants there bytes a =
         ∙ ap (λ (r : Row). asked_came r a.n) (row-same v.grants p.from row a.env.from same inside)
         ∙ with_piece-came (granted_to v p.from) p.n p.bytes g came there bytes a.n
         ∙ ap (λ (i : ℕ). asked_came (granted_to v i) a.n ++ added) (sym same)
-        ∙ ap (λ (b : Bool). had ++ only (b && true) added) (sym (eqb_same a.env.from p.from same))
+        ∙ ap (λ (b : Bool). had ++ only (b && true) added) (sym (eq_true a.env.from p.from same))
         ∙ ap (λ (b : Bool). had ++ only ((a.env.from == p.from) && b) added) (sym how)
     by how (inr other) =
         ap (λ (rows : List Row). asked_came (get_or rows a.env.from []) a.n) grants
         ∙ ap (λ (r : Row). asked_came r a.n) (row-other v.grants p.from row a.env.from other)
         ∙ sym (append-nil had)
         ∙ ap (λ (b : Bool). had ++ only (b && is_ask a.env.how) added)
-        (sym (eqb_other a.env.from p.from other))
+        (sym (unequal a.env.from p.from other))
 
 -- one that does not continue adds nothing
 pub stray-came : (v : ReceivingView) (p : Piece)

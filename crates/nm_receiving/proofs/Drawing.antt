@@ -1,6 +1,7 @@
 -- How the tables go on by a piece.
 use Rattle.std.specs.Prelude.{IsSome, IsTrue, is_some}
-use Rattle.std.proofs.Common.{◌≡◌, ℕ, ◌+◌, ◌-◌, ◌<◌, ◌==◌, ◌↔◌, Bool, true, false, ◌&&◌, cond, if◌then◌else◌, Option, Some, None, List, [], ◌∷◌, ◌++◌}
+use Rattle.std.proofs.Common.{◌≡◌, ℕ, ◌+◌, ◌-◌, ◌<◌, ◌==◌, ◌↔◌, Bool, true, false, ◌&&◌, cond, if◌then◌else◌, Option}
+use Rattle.std.proofs.Common.{Some, None, List, [], ◌∷◌, ◌++◌}
 use Rattle.std.proofs.Common.{length, get_or, refl, sym, ◌∙◌, ap, subst, append-nil, arith, length-append}
 use Rattle.std.specs.Cmp.{nat_eq_equiv}
 use Rattle.std.specs.List.{slice_get}
@@ -21,7 +22,8 @@ use Rattle.nm_protocol.specs.Bytes.{pulled_bytes}
 use Rattle.nm_protocol.specs.Effects.{whole_if}
 use Rattle.nm_protocol.specs.Pieces.{Due, due_pieces, is_due, piece_makes}
 use Rattle.nm_protocol.specs.Rules.{AreRight}
-use Rattle.nm_rndv.specs.Grants.{Continues, Granted, Granting, came as came_of, due_in, due_of, expected_in, first_unfinished, grant_in, grants_from}
+use Rattle.nm_rndv.specs.Grants.{Continues, Granted, Granting, came as came_of, due_in, due_of, expected_in}
+use Rattle.nm_rndv.specs.Grants.{first_unfinished, grant_in, grants_from}
 use Rattle.nm_rndv.specs.Grants.{is_open, is_open_in, is_unfinished, joined_by, with_piece}
 use Rattle.nm_rndv.specs.Pieces.{piece_size}
 use Rattle.nm_streams.specs.Pieces.{due_of_grants}
@@ -38,28 +40,31 @@ use Rattle.nm_receiving.proofs.Changing.{keeps-piece}
 use Rattle.nm_receiving.proofs.Events.{same_taken, unstamp-none}
 use Rattle.nm_receiving.proofs.Goings.{goes_on, like-push, names_of}
 use Rattle.nm_receiving.proofs.Grow.{at}
-use Rattle.nm_receiving.proofs.Lists.{mapped}
 use Rattle.nm_receiving.proofs.Marking.{marked}
 use Rattle.nm_receiving.proofs.Stood.{stood_of}
 use Rattle.nm_receiving.proofs.TablesMark.{tables-marked}
 use Rattle.nm_receiving.proofs.TablesPiece.{IsExpected, expected_is, piece_may_mark, tables-piece}
 use Rattle.nm_receiving.proofs.Taking.{MayEnd, keeps-marked, marked_if}
+use Rattle.nm_facts.proofs.Options.{mapped_some as mapped}
 
 -- what is due of a rank at a history, by what was granted to it
 pub due_at : (v : ReceivingView) (h : List Event) → AreReceived v h → (from : ℕ)
     → slice_get (due_of_grants (granted_to v from)) 0 ≡ slice_get (due_pieces h from) (drawn_from v from)
 due_at v h received from = due-first (granted_to v from) h from (drawn_from v from) (received.due from)
 
-pub continued_at : (v : ReceivingView) (gs : Granting) (p : Piece) (b : Bool) → gs.grants ≡ v.grants → (IsTrue b ↔ Continues gs p)
+pub continued_at : (v : ReceivingView) (gs : Granting) (p : Piece) (b : Bool) → gs.grants ≡ v.grants →
+    (IsTrue b ↔ Continues gs p)
     → (h : List Event) → AreReceived v h
     → b ≡ option_map_or (is_due p) (slice_get (due_pieces h p.from) (drawn_from v p.from)) false
 continued_at v gs p b same fits h received =
     fits-first gs p b fits
-    ∙ ap (λ (rows : List (List (ℕ × Granted))). option_map_or (is_due p) (slice_get (due_of_grants (get_or rows p.from [])) 0) false) same
+    ∙ ap (λ (rows : List (List (ℕ × Granted))). option_map_or (is_due p)
+    (slice_get (due_of_grants (get_or rows p.from [])) 0) false) same
     ∙ ap (λ (o : Option Due). option_map_or (is_due p) o false) (due_at v h received p.from)
 
 -- a stray makes nothing happen
-pub stray_makes : (from : ℕ) (o : Option Due) (p : Piece) → false ≡ option_map_or (is_due p) o false → [] ≡ piece_makes from o p
+pub stray_makes : (from : ℕ) (o : Option Due) (p : Piece) → false ≡ option_map_or (is_due p) o false →
+    [] ≡ piece_makes from o p
 stray_makes from None p stray = refl
 stray_makes from (Some due) p stray = ap (λ (b : Bool). whole_if (b && due.last) from p.n) stray
 
@@ -74,7 +79,8 @@ made_some true from n (Some w) is = refl
 made_some false from n None is = refl
 made_some false from n (Some w) is = absurd (let h : ⊥ = cc in h)
 
-module _ (v : ReceivingView) (kept : IsKept v) (gs : Granting) (p : Piece) (same : gs.grants ≡ v.grants) (fits : Continues gs p)
+module _ (v : ReceivingView) (kept : IsKept v) (gs : Granting) (p : Piece) (same : gs.grants ≡ v.grants)
+    (fits : Continues gs p)
     (sender : p.from < v.sizes.ranks) (did : Joined) (event : Option Happened)
     (joins : did ≡ joined_by (due_in (grants_from gs p.from)) p.at (length p.bytes))
     (makes : option_to_list event ≡ piece_makes p.from (slice_get (due_of_grants (grants_from gs p.from)) 0) p) where
@@ -120,18 +126,22 @@ module _ (v : ReceivingView) (kept : IsKept v) (gs : Granting) (p : Piece) (same
       let first = mapped (λ (e : ℕ × Granted). (e.0, came_of e.1)) (first_unfinished row) (p.n, p.at) expected in
       let e = first.0 in
       let place = find_contains is_unfinished row e first.1 in
-      let at_place : slice_get row place.0 ≡ Some e = slice_get-get_or row place.0 e place.1 ∙ ap (λ (x : ℕ × Granted). Some x) place.2 in
+      let at_place : slice_get row place.0 ≡ Some e = slice_get-get_or row place.0 e place.1
+      ∙ ap (λ (x : ℕ × Granted). Some x) place.2 in
       let there = lookup_from_place nat_eq_equiv row place.0 e.0 e.1 (kept.tables.once p.from) at_place in
       let n_is : e.0 ≡ p.n = ap (λ (x : ℕ × ℕ). x.0) first.2 in
-      let is_g : e.1 ≡ found.0 = same_Some e.1 found.0 (sym there ∙ ap (λ (k : ℕ). grant_in row k) n_is ∙ found.3.there) in
-      ap (λ (o : Option (ℕ × Granted)). option_map_or (λ e. due_of e.1) o 0) first.1 ∙ ap (λ (x : Granted). due_of x) is_g
+      let is_g : e.1 ≡ found.0 = same_Some e.1 found.0 (sym there ∙ ap (λ (k : ℕ). grant_in row k) n_is
+      ∙ found.3.there) in
+      ap (λ (o : Option (ℕ × Granted)). option_map_or (λ e. due_of e.1) o 0) first.1
+      ∙ ap (λ (x : Granted). due_of x) is_g
 
   due_left : due_in row ≡ found.0.len - length found.1
   due_left = due_is ∙ ap (λ (o : Option (List ℕ)). found.0.len - option_map_or length o 0) found.3.bytes
 
   full : ends ≡ true → length (found.1 ++ p.bytes) ≡ found.0.len
   full all =
-      let last : length p.bytes ≡ due_in (grants_from gs p.from) = eqb-true (length p.bytes) (due_in (grants_from gs p.from)) all in
+      let last : length p.bytes ≡ due_in (grants_from gs p.from) = eqb-true (length p.bytes)
+      (due_in (grants_from gs p.from)) all in
       let left : due_in (grants_from gs p.from) ≡ found.0.len - length found.1 = ap due_in row_is ∙ due_left in
       let below = found.3.below in
       omega (arith, last, left, below, length-append found.1 p.bytes)
@@ -143,9 +153,11 @@ module _ (v : ReceivingView) (kept : IsKept v) (gs : Granting) (p : Piece) (same
   pub event_is : whole_if ends p.from p.n ≡ option_to_list event
   event_is =
       joined-made gs p did fits joins ends
-      (λ is. joins ∙ ap (λ (b : Bool). if b then joined.Whole else (if p.at == 0 then joined.Begun else joined.More)) is)
+      (λ is. joins ∙ ap (λ (b : Bool). if b then joined.Whole else (if p.at == 0 then joined.Begun else joined.More))
+      is)
       (λ is whole. not_begun (p.at == 0)
-      (sym (joins ∙ ap (λ (b : Bool). if b then joined.Whole else (if p.at == 0 then joined.Begun else joined.More)) is) ∙ whole))
+      (sym (joins ∙ ap (λ (b : Bool). if b then joined.Whole else (if p.at == 0 then joined.Begun else joined.More))
+      is) ∙ whole))
       ∙ sym makes
 
   pub ends_is : is_some event ≡ ends
@@ -163,19 +175,22 @@ module _ (v : ReceivingView) (kept : IsKept v) (gs : Granting) (p : Piece) (same
     record {
       here = found.3.here;
       whole = found.3.cleared.due found.3.is_open';
-      taken = λ _. same_taken v.deeds h kept.history received.stands kept.received.stands p.from p.n ∙ found.3.cleared.taken;
+      taken = λ _. same_taken v.deeds h kept.history received.stands kept.received.stands p.from p.n
+          ∙ found.3.cleared.taken;
     },
   )
 
   pub keeps-draw : Keeps v drawn_view (option_to_list event)
   keeps-draw h events happens received right =
-      keeps-marked piecing p.from p.n ends h events (happens ∙ sym event_is) (received1 h received) right (λ _. may_end h received)
+      keeps-marked piecing p.from p.n ends h events (happens ∙ sym event_is) (received1 h received) right
+      (λ _. may_end h received)
 
   pub kept-draw : IsKept drawn_view
   kept-draw = by ends refl
     where
       tables1 : AreTables piecing kept.history
-      tables1 = tables-piece v kept.history p.from p.n p.bytes (set v.drawn p.from (drawn_from v p.from + 1)) found.0 found.1 found.2 kept.tables inside found.3
+      tables1 = tables-piece v kept.history p.from p.n p.bytes (set v.drawn p.from (drawn_from v p.from + 1)) found.0
+          found.1 found.2 kept.tables inside found.3
           (names_of v kept.history kept.received) (length-set v.drawn p.from (drawn_from v p.from + 1))
 
       by : (b : Bool) → ends ≡ b → IsKept drawn_view
@@ -192,12 +207,15 @@ module _ (v : ReceivingView) (kept : IsKept v) (gs : Granting) (p : Piece) (same
           let x : Event = at 0 (Whole p.from p.n) in
           subst (λ (b : Bool). IsKept (marked_if b piecing p.from p.n)) (sym last)
           (goes_on v (marked piecing p.from p.n) kept (x ∷ []) refl
-          (keeps-marked piecing p.from p.n true kept.history (x ∷ []) refl (received1 kept.history kept.received) kept.right
+          (keeps-marked piecing p.from p.n true kept.history (x ∷ []) refl (received1 kept.history kept.received)
+          kept.right
           (λ _. may_end kept.history kept.received))
           (λ i k. refl)
-          (tables-marked piecing kept.history (kept.history ++ x ∷ []) (stood_of piecing kept.history (received1 kept.history kept.received)) p.from p.n found.2
+          (tables-marked piecing kept.history (kept.history ++ x ∷ [])
+          (stood_of piecing kept.history (received1 kept.history kept.received)) p.from p.n found.2
           tables1 (like-push kept.history x refl refl)
-          (piece_may_mark v kept.history p.from p.n p.bytes (set v.drawn p.from (drawn_from v p.from + 1)) found.0 found.1 found.2 kept.tables inside found.3
+          (piece_may_mark v kept.history p.from p.n p.bytes (set v.drawn p.from (drawn_from v p.from + 1)) found.0
+          found.1 found.2 kept.tables inside found.3
           (names_of v kept.history kept.received) (full last))))
 
   -- its bytes are added
@@ -206,11 +224,14 @@ module _ (v : ReceivingView) (kept : IsKept v) (gs : Granting) (p : Piece) (same
   bytes-draw = piece-came v drawn_view p found.0 found.1 inside refl refl found.3.there found.3.bytes
 
   -- the fields afterwards
-  pub drawn_is : (b : Bool) (grants : List (List (ℕ × Granted))) (rows : List (List Receipt)) (drawn : List ℕ) → b ≡ ends
+  pub drawn_is : (b : Bool) (grants : List (List (ℕ × Granted))) (rows : List (List Receipt)) (drawn : List ℕ) →
+      b ≡ ends
       → grants ≡ set gs.grants p.from (with_piece (grants_from gs p.from) p.n p.bytes)
-      → rows ≡ cond b (rows_with_whole v.receipts p.from p.n) v.receipts → drawn ≡ set v.drawn p.from (drawn_from v p.from + 1)
+      → rows ≡ cond b (rows_with_whole v.receipts p.from p.n) v.receipts → drawn ≡ set v.drawn p.from
+      (drawn_from v p.from + 1)
       → ◌≡◌ {A = ReceivingView} drawn_view (record v { grants = grants; receipts = rows; drawn = drawn })
   drawn_is b grants rows drawn b_is grants_is rows_is drawn_is' =
       rw (grants_is, rows_is, drawn_is', b_is)
-      (ap (λ (rows : List (List (ℕ × Granted))). let w : ReceivingView = record drawn_view { grants = set rows p.from (with_piece (get_or rows p.from []) p.n p.bytes) } in w)
+      (ap (λ (rows : List (List (ℕ × Granted))). let w : ReceivingView =
+      record drawn_view { grants = set rows p.from (with_piece (get_or rows p.from []) p.n p.bytes) } in w)
       (sym same))

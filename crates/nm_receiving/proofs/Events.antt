@@ -27,7 +27,8 @@ unstamp-one P (e ∷ []) w holds is =
 unstamp-one P (e ∷ e' ∷ events) w holds is = absurd (let h : ⊥ = cc in h)
 
 -- two events
-pub unstamp-two : (P : List Event → Type 0) (events : List Event) (w x : Happened) → ((s t : ℕ) → P (at s w ∷ at t x ∷ []))
+pub unstamp-two : (P : List Event → Type 0) (events : List Event) (w x : Happened) →
+    ((s t : ℕ) → P (at s w ∷ at t x ∷ []))
     → happenings events ≡ w ∷ x ∷ [] → P events
 unstamp-two P [] w x holds is = absurd (let h : ⊥ = cc in h)
 unstamp-two P (e ∷ []) w x holds is = absurd (let h : ⊥ = cc in h)
@@ -42,15 +43,18 @@ unstamp-two P (e ∷ e' ∷ f ∷ events) w x holds is = absurd (let h : ⊥ = c
 pub right-one : (ranks : ℕ) (h : List Event) (e : Event) → IsRightAt ranks h e.what → AreRight ranks h (e ∷ [])
 right-one ranks h e right = (right, tt)
 
-pub right-two : (ranks : ℕ) (h : List Event) (e e' : Event) → IsRightAt ranks h e.what → IsRightAt ranks (h ++ e ∷ []) e'.what
+pub right-two : (ranks : ℕ) (h : List Event) (e e' : Event) → IsRightAt ranks h e.what →
+    IsRightAt ranks (h ++ e ∷ []) e'.what
     → AreRight ranks h (e ∷ e' ∷ [])
 right-two ranks h e e' right right' = (right, (right', tt))
 
 -- histories of the same deeds agree
 pub same_receive : (deeds : List Deed) (h k : List Event) → Stands deeds h → Stands deeds k → (env : Envelope)
     → first_receive h (matched_pairs h) env ≡ first_receive k (matched_pairs k) env
-same_receive deeds h k stands stands' env = first_receive-stands deeds h stands env ∙ sym (first_receive-stands deeds k stands' env)
+same_receive deeds h k stands stands' env = first_receive-stands deeds h stands env
+    ∙ sym (first_receive-stands deeds k stands' env)
 
 pub same_taken : (deeds : List Deed) (h k : List Event) → Stands deeds h → Stands deeds k → (from n : ℕ)
     → is_taken h from n ≡ is_taken k from n
-same_taken deeds h k stands stands' from n = taken-stands deeds h stands from n ∙ sym (taken-stands deeds k stands' from n)
+same_taken deeds h k stands stands' from n = taken-stands deeds h stands from n
+    ∙ sym (taken-stands deeds k stands' from n)

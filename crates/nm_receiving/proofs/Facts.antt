@@ -22,17 +22,20 @@ use Rattle.nm_history.specs.RankRun.{Always, NumberAt, is_asking}
 use Rattle.nm_history.specs.Selection.{matches}
 use Rattle.nm_history.specs.Sends.{arrivals, arrival_of, is_ask, messages, message_of}
 use Rattle.nm_history.proofs.AtEachLemmas.{AtEach-push}
-use Rattle.nm_history.proofs.OnceLemmas.{and_left, and_right, find_among, find_passes, messages-push, not_true, same_of}
+use Rattle.nm_history.proofs.OnceLemmas.{find_among, messages-push, not_true}
 use Rattle.nm_protocol.specs.Rest.{EmptyAreHere}
 use Rattle.nm_protocol.specs.Rules.{AreRight}
-use Rattle.nm_protocol.proofs.Basic.{any_gives, by-along, by-append}
+use Rattle.nm_protocol.proofs.Basic.{any_gives}
 use Rattle.nm_protocol.proofs.Right.{right-numbers}
 use Rattle.nm_match.specs.Deeds.{is_known_message}
 use Rattle.nm_match.proofs.NumberLemmas.{is_known_message-arrived, messages_numbered}
 use Rattle.nm_match.proofs.QueueLemmas.{free_means}
 use Rattle.nm_receiving.specs.Receipts.{is_empty_ask}
 use Rattle.nm_receiving.proofs.Grow.{at, message_more, messages_still}
-use Rattle.nm_receiving.proofs.Lists.{any_from_found, find-still, find_nothing}
+use Rattle.nm_receiving.proofs.Lists.{any_from_found, find-still}
+use Rattle.nm_facts.proofs.Lists.{all_append, all_along, find_passes, find_nothing}
+use Rattle.nm_facts.proofs.Numbers.{same_number}
+use Rattle.nm_facts.proofs.Truth.{and_left, and_right}
 
 -- each message is the one of its name, and of a rank of the run
 abbrev pub Is_named : ℕ → List Event → Arrival → Type 0
@@ -45,26 +48,32 @@ pub message_from_none : (h : List Event) (from n : ℕ) → is_known_message h f
 unfolding is_known_message
 message_from_none h from n none = find_nothing (λ (a : Arrival). a.env.from == from && a.n == n) (messages h) none
 
-still_named : (ranks : ℕ) (h : List Event) (e : Event) (a : Arrival) → Is_named ranks h a → Is_named ranks (h ++ e ∷ []) a
+still_named : (ranks : ℕ) (h : List Event) (e : Event) (a : Arrival) → Is_named ranks h a →
+    Is_named ranks (h ++ e ∷ []) a
 still_named ranks h e a named = (
   ap (λ (ms : List Arrival). find (λ b. b.env.from == a.env.from && b.n == a.n) ms) (messages-push h e)
-      ∙ find-still (λ (b : Arrival). b.env.from == a.env.from && b.n == a.n) (messages h) (cons_option (arrival_of e.what) []) a named.0,
+      ∙ find-still (λ (b : Arrival). b.env.from == a.env.from && b.n == a.n) (messages h)
+      (cons_option (arrival_of e.what) []) a named.0,
   named.1,
 )
 
-named_push : (ranks : ℕ) (h : List Event) (stamp : ℕ) (what : Happened) → Always (NumberAt ranks) h → NumberAt ranks h what
+named_push : (ranks : ℕ) (h : List Event) (stamp : ℕ) (what : Happened) → Always (NumberAt ranks) h →
+    NumberAt ranks h what
     → Are_named ranks h → Are_named ranks (h ++ at stamp what ∷ [])
 named_push ranks h stamp (Arrive a) numbers number named =
     let e : Event = at stamp (Arrive a) in
     let unknown : is_known_message h a.env.from a.n ≡ false =
-    messages_numbered ranks h numbers a.env.from a.n ∙ le-ltb a.n (length (arrivals h a.env.from)) (omega (arith, number.1)) in
+    messages_numbered ranks h numbers a.env.from a.n ∙ le-ltb a.n (length (arrivals h a.env.from))
+    (omega (arith, number.1)) in
     subst (λ (ms : List Arrival). All (Is_named ranks (h ++ e ∷ [])) ms) (sym (messages-push h e))
     (All-push (Is_named ranks (h ++ e ∷ [])) (messages h) a
     (All-weaker (Is_named ranks h) (Is_named ranks (h ++ e ∷ [])) (λ b. still_named ranks h e b) (messages h) named)
     (message_more h stamp a (message_from_none h a.env.from a.n unknown), number.0))
 named_push ranks h stamp what numbers number named =
-    subst (λ (ms : List Arrival). All (Is_named ranks (h ++ at stamp what ∷ [])) ms) (sym (messages_still h (at stamp what) refl))
-    (All-weaker (Is_named ranks h) (Is_named ranks (h ++ at stamp what ∷ [])) (λ b. still_named ranks h (at stamp what) b) (messages h) named)
+    subst (λ (ms : List Arrival). All (Is_named ranks (h ++ at stamp what ∷ [])) ms)
+    (sym (messages_still h (at stamp what) refl))
+    (All-weaker (Is_named ranks h) (Is_named ranks (h ++ at stamp what ∷ []))
+    (λ b. still_named ranks h (at stamp what) b) (messages h) named)
 
 named_after : (ranks : ℕ) (h events : List Event) → Always (NumberAt ranks) h → Are_named ranks h
     → AtEachAfter (λ before e. NumberAt ranks before e.what) h events → Are_named ranks (h ++ events)
@@ -83,16 +92,19 @@ pub right_named : (ranks : ℕ) (h : List Event) → AreRight ranks [] h → Are
 right_named ranks h right = named_all ranks h (right-numbers ranks h right)
 
 -- the message of a name
-pub message_name : (h : List Event) (from n : ℕ) (a : Arrival) → message_of h from n ≡ Some a → (a.env.from ≡ from) × (a.n ≡ n)
+pub message_name : (h : List Event) (from n : ℕ) (a : Arrival) → message_of h from n ≡ Some a →
+    (a.env.from ≡ from) × (a.n ≡ n)
 message_name h from n a is =
     let passes = find_passes (λ (a : Arrival). a.env.from == from && a.n == n) (messages h) a is in (
-      same_of a.env.from from (and_left (a.env.from == from) (a.n == n) passes),
-      same_of a.n n (and_right (a.env.from == from) (a.n == n) passes),
+      same_number a.env.from from (and_left (a.env.from == from) (a.n == n) passes),
+      same_number a.n n (and_right (a.env.from == from) (a.n == n) passes),
     )
 
-pub message_sender : (ranks : ℕ) (h : List Event) (from n : ℕ) (a : Arrival) → Are_named ranks h → message_of h from n ≡ Some a → a.env.from < ranks
+pub message_sender : (ranks : ℕ) (h : List Event) (from n : ℕ) (a : Arrival) → Are_named ranks h →
+    message_of h from n ≡ Some a → a.env.from < ranks
 message_sender ranks h from n a named is =
-    let found = find_among (Is_named ranks h) (λ (a : Arrival). a.env.from == from && a.n == n) (messages h) a named is in found.1
+    let found = find_among (Is_named ranks h) (λ (a : Arrival). a.env.from == from && a.n == n)
+    (messages h) a named is in found.1
 
 -- what a receive takes: a message that came, of a rank of the run, and that no receive took
 pub record IsTakeable (ranks : ℕ) (h : List Event) (a : Arrival) : Type 0 where
@@ -123,10 +135,12 @@ claimed_takeable ranks h from n a named claimed is =
     }
 
 -- a message that is known arrived
-pub arrived_from : (h : List Event) (from n : ℕ) (a : Arrival) → message_of h from n ≡ Some a → happened (is_arrival from n) h ≡ true
+pub arrived_from : (h : List Event) (from n : ℕ) (a : Arrival) → message_of h from n ≡ Some a →
+    happened (is_arrival from n) h ≡ true
 unfolding is_known_message
 arrived_from h from n a is =
-    sym (is_known_message-arrived h from n) ∙ any_from_found (λ (a : Arrival). a.env.from == from && a.n == n) (messages h) a is
+    sym (is_known_message-arrived h from n) ∙ any_from_found (λ (a : Arrival). a.env.from == from && a.n == n)
+    (messages h) a is
 
 -- one that is sent by asking
 asks : ℕ → ℕ → Arrival → Bool
@@ -135,12 +149,14 @@ asks from n a = a.env.from == from && a.n == n && is_ask a.env.how
 asking_at : (from n : ℕ) (rest : List Arrival) (what : Happened) (later : Bool) → list_any (asks from n) rest ≡ later
     → list_any (asks from n) (cons_option (arrival_of what) rest) ≡ (is_asking from n what || later)
 unfolding asks
-asking_at from n rest (Arrive a) later is = ap (λ (b : Bool). (a.env.from == from && a.n == n && is_ask a.env.how) || b) is
+asking_at from n rest (Arrive a) later is =
+    ap (λ (b : Bool). (a.env.from == from && a.n == n && is_ask a.env.how) || b) is
 asking_at from n rest what later is = is
 
 asking_among : (from n : ℕ) (h : List Event) → list_any (asks from n) (messages h) ≡ happened (is_asking from n) h
 asking_among from n [] = refl
-asking_among from n (e ∷ h) = asking_at from n (messages h) e.what (happened (is_asking from n) h) (asking_among from n h)
+asking_among from n (e ∷ h) = asking_at from n (messages h) e.what (happened (is_asking from n) h)
+    (asking_among from n h)
 
 pub asking_is : (ranks : ℕ) (h : List Event) (from n : ℕ) → Are_named ranks h → happened (is_asking from n) h ≡ true
     → (a : Arrival) × (message_of h from n ≡ Some a) × (is_ask a.env.how ≡ true)
@@ -148,11 +164,12 @@ unfolding asks
 asking_is ranks h from n named is =
     any_gives (asks from n) ((a : Arrival) × (message_of h from n ≡ Some a) × (is_ask a.env.how ≡ true)) (messages h)
     (asking_among from n h ∙ is)
-    (by-along (Is_named ranks h) (λ (a : Arrival). asks from n a ≡ true → (a : Arrival) × (message_of h from n ≡ Some a) × (is_ask a.env.how ≡ true))
+    (all_along (Is_named ranks h) (λ (a : Arrival). asks from n a ≡ true →
+    (a : Arrival) × (message_of h from n ≡ Some a) × (is_ask a.env.how ≡ true))
     (messages h) (λ a name passes.
     let first = and_left (a.env.from == from && a.n == n) (is_ask a.env.how) passes in
-    let from_is = same_of a.env.from from (and_left (a.env.from == from) (a.n == n) first) in
-    let n_is = same_of a.n n (and_right (a.env.from == from) (a.n == n) first) in (
+    let from_is = same_number a.env.from from (and_left (a.env.from == from) (a.n == n) first) in
+    let n_is = same_number a.n n (and_right (a.env.from == from) (a.n == n) first) in (
       a,
       sym (ap (λ (i : ℕ). message_of h i a.n) from_is ∙ ap (λ (j : ℕ). message_of h from j) n_is) ∙ name.0,
       and_right (a.env.from == from && a.n == n) (is_ask a.env.how) passes,
@@ -171,16 +188,19 @@ pub empty_more : (h h' : List Event) (o : Option Pair) → matched_pairs h' ≡ 
     → EmptyAreHere h → EmptyAreHere h'
 empty_more h h' o grown still here empty =
     subst (λ (ps : List Pair). AllByRecursion (Whole_in h') ps) (sym grown)
-    (by-append (Whole_in h') (matched_pairs h) (option_to_list o)
-    (by-along (Whole_in h) (Whole_in h') (matched_pairs h)
-    (λ pair was. OnTrue_from (is_empty_ask pair.arrival) (happened (is_whole pair.arrival.env.from pair.arrival.n) h' ≡ true)
+    (all_append (Whole_in h') (matched_pairs h) (option_to_list o)
+    (all_along (Whole_in h) (Whole_in h') (matched_pairs h)
+    (λ pair was. OnTrue_from (is_empty_ask pair.arrival)
+    (happened (is_whole pair.arrival.env.from pair.arrival.n) h' ≡ true)
     (λ is. still pair.arrival.env.from pair.arrival.n (OnTrue_at is was))) empty)
     (new o here))
   where
     new : (o : Option Pair) → ((pair : Pair) → o ≡ Some pair → is_empty_ask pair.arrival ≡ true
-        → happened (is_whole pair.arrival.env.from pair.arrival.n) h' ≡ true) → AllByRecursion (Whole_in h') (option_to_list o)
+        → happened (is_whole pair.arrival.env.from pair.arrival.n) h' ≡ true) → AllByRecursion (Whole_in h')
+        (option_to_list o)
     new None here = tt
     new (Some pair) here = (
-      OnTrue_from (is_empty_ask pair.arrival) (happened (is_whole pair.arrival.env.from pair.arrival.n) h' ≡ true) (here pair refl),
+      OnTrue_from (is_empty_ask pair.arrival) (happened (is_whole pair.arrival.env.from pair.arrival.n) h' ≡ true)
+          (here pair refl),
       tt,
     )

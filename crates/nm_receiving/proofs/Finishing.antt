@@ -1,8 +1,9 @@
 -- The result of a receive, and how the tables go on when it is given.
 use Rattle.std.specs.Prelude.{IfSome, IsSomeAnd}
-use Rattle.std.proofs.Common.{◌≡◌, ◌≢◌, ℕ, ◌<◌, ◌≤◌, ◌==◌, Bool, true, false, not, ◌&&◌, cond, if◌then◌else◌, nat_eq, nat_lt, Option, Some, None, List, [], ◌∷◌}
+use Rattle.std.proofs.Common.{◌≡◌, ◌≢◌, ℕ, ◌<◌, ◌≤◌, ◌==◌, Bool, true, false, not, ◌&&◌, cond, if◌then◌else◌, nat_eq}
+use Rattle.std.proofs.Common.{nat_lt, Option, Some, None, List, [], ◌∷◌}
 use Rattle.std.proofs.Common.{length, get_or, replicate, refl, sym, ◌∙◌, ap, subst, arith, ◌⊎◌, inl, inr}
-use Rattle.std.specs.List.{All, IsDistinct, find, slice_get}
+use Rattle.std.specs.List.{All, IsDistinct, slice_get}
 use Rattle.std.specs.Map.{keys_of, set_value}
 use Rattle.std.specs.Option.{option_and_then, option_map, option_map_or}
 use Rattle.std.proofs.Math.ListN.{set}
@@ -23,7 +24,8 @@ use Rattle.nm_history.specs.Matching.{is_of_message}
 use Rattle.nm_history.specs.Sends.{is_ask}
 use Rattle.nm_eager.specs.Streams.{Incoming, Stream, message_of, missing, nothing_came, without}
 use Rattle.nm_match.proofs.ListLemmas.{find-filter}
-use Rattle.nm_rndv.specs.Grants.{Granted, grant_in, is_whole as is_whole_grant, is_whole_in, taken_in, with_grant, without_bytes}
+use Rattle.nm_rndv.specs.Grants.{Granted, grant_in, is_whole as is_whole_grant, is_whole_in, taken_in, with_grant}
+use Rattle.nm_rndv.specs.Grants.{without_bytes}
 use Rattle.nm_rndv.proofs.StateLemmas.{equal}
 use Rattle.nm_receiving.specs.declared.receipts.Receipt.{Receipt}
 use Rattle.nm_receiving.specs.declared.receipts.Receive.{Receive}
@@ -36,21 +38,27 @@ use Rattle.nm_receiving.proofs.CameLemmas.{came-same, granted_bytes, joined_byte
 use Rattle.nm_receiving.proofs.Changing.{keeps-ended, keeps-taken}
 use Rattle.nm_receiving.proofs.Dues.{pair}
 use Rattle.nm_receiving.proofs.Goings.{names_of}
-use Rattle.nm_receiving.proofs.Grants.{all_set, differs, grant_among, grant_set}
-use Rattle.nm_receiving.proofs.Lists.{eqb_other, eqb_same, row-other, row-same, row_inside}
-use Rattle.nm_receiving.proofs.Lists.{slice_get-set_other, slice_get-set_same, some_from, some_parts}
+use Rattle.nm_receiving.proofs.Grants.{all_set, grant_among, grant_set}
+use Rattle.nm_receiving.proofs.Lists.{row-other, row-same, row_inside}
+use Rattle.nm_receiving.proofs.Lists.{some_from}
 use Rattle.nm_receiving.proofs.Stood.{is_cancelled_at, is_whole_at}
 use Rattle.nm_receiving.proofs.Tables.{took}
 use Rattle.nm_receiving.proofs.TablesRest.{later_set, tables-receives, tables-removed}
 use Rattle.nm_receiving.proofs.Taking.{streams_apart}
+use Rattle.nm_facts.proofs.Numbers.{unequal, eq_true, nat_unequal as differs}
+use Rattle.nm_facts.proofs.Lists.{get_set_other, find_agree, get_set_same}
+use Rattle.nm_facts.proofs.Options.{some_and}
 
 -- the result by the tables
-pub result_by : (v : ReceivingView) (h : List Event) → AreReceived v h → (number : ℕ) (r : Receive) → slice_get v.receives number ≡ Some r
+pub result_by : (v : ReceivingView) (h : List Event) → AreReceived v h → (number : ℕ) (r : Receive) →
+    slice_get v.receives number ≡ Some r
     → result_of h (Receiving number)
     ≡ cond r.cancelled (Some answer.Cancelled)
-    (option_and_then (λ a. cond (is_whole_at (receipt_of v a.env.from a.n)) (Some (shown (pair number r.cap a))) None) r.taken)
+    (option_and_then (λ a. cond (is_whole_at (receipt_of v a.env.from a.n)) (Some (shown (pair number r.cap a))) None)
+    r.taken)
 result_by v h received number r here =
-    ap (λ (b : Bool). cond b (Some answer.Cancelled) (after (pair_of_receive h number))) (sym (received.cancelled number) ∙ ap is_cancelled_at here)
+    ap (λ (b : Bool). cond b (Some answer.Cancelled) (after (pair_of_receive h number)))
+    (sym (received.cancelled number) ∙ ap is_cancelled_at here)
     ∙ ap (λ (o : Option Pair). cond r.cancelled (Some answer.Cancelled) (after o))
     (sym (received.pairs number) ∙ ap (λ (o : Option Receive). option_and_then (pair_with number) o) here)
     ∙ ap (λ (o : Option Answer). cond r.cancelled (Some answer.Cancelled) o) (by r.taken)
@@ -58,34 +66,45 @@ result_by v h received number r here =
     after : Option Pair → Option Answer
     after o = option_and_then (λ q. cond (is_here h q) (Some (shown q)) None) o
 
-    by : (o : Option Arrival) → option_and_then (λ q. cond (is_here h q) (Some (shown q)) None) (option_map (pair number r.cap) o)
-        ≡ option_and_then (λ a. cond (is_whole_at (receipt_of v a.env.from a.n)) (Some (shown (pair number r.cap a))) None) o
+    by : (o : Option Arrival) → option_and_then (λ q. cond (is_here h q) (Some (shown q)) None)
+        (option_map (pair number r.cap) o)
+        ≡ option_and_then (λ a. cond (is_whole_at (receipt_of v a.env.from a.n)) (Some (shown (pair number r.cap a)))
+        None) o
     by None = refl
-    by (Some a) = ap (λ (b : Bool). cond b (Some (shown (pair number r.cap a))) None) (sym (received.whole a.env.from a.n))
+    by (Some a) = ap (λ (b : Bool). cond b (Some (shown (pair number r.cap a))) None)
+        (sym (received.whole a.env.from a.n))
 
-pub result_cancelled : (v : ReceivingView) (h : List Event) → AreReceived v h → (number : ℕ) (r : Receive) → slice_get v.receives number ≡ Some r
+pub result_cancelled : (v : ReceivingView) (h : List Event) → AreReceived v h → (number : ℕ) (r : Receive) →
+    slice_get v.receives number ≡ Some r
     → r.cancelled ≡ true → result_of h (Receiving number) ≡ Some answer.Cancelled
 result_cancelled v h received number r here is =
     result_by v h received number r here
     ∙ ap (λ (b : Bool). cond b (Some answer.Cancelled)
-    (option_and_then (λ a. cond (is_whole_at (receipt_of v a.env.from a.n)) (Some (shown (pair number r.cap a))) None) r.taken)) is
+    (option_and_then (λ a. cond (is_whole_at (receipt_of v a.env.from a.n)) (Some (shown (pair number r.cap a))) None)
+    r.taken)) is
 
-pub result_untaken : (v : ReceivingView) (h : List Event) → AreReceived v h → (number : ℕ) (r : Receive) → slice_get v.receives number ≡ Some r
+pub result_untaken : (v : ReceivingView) (h : List Event) → AreReceived v h → (number : ℕ) (r : Receive) →
+    slice_get v.receives number ≡ Some r
     → r.cancelled ≡ false → r.taken ≡ None → result_of h (Receiving number) ≡ None
 result_untaken v h received number r here is none =
     result_by v h received number r here
     ∙ ap (λ (b : Bool). cond b (Some answer.Cancelled)
-    (option_and_then (λ a. cond (is_whole_at (receipt_of v a.env.from a.n)) (Some (shown (pair number r.cap a))) None) r.taken)) is
-    ∙ ap (λ (o : Option Arrival). option_and_then (λ a. cond (is_whole_at (receipt_of v a.env.from a.n)) (Some (shown (pair number r.cap a))) None) o) none
+    (option_and_then (λ a. cond (is_whole_at (receipt_of v a.env.from a.n)) (Some (shown (pair number r.cap a))) None)
+    r.taken)) is
+    ∙ ap (λ (o : Option Arrival). option_and_then
+    (λ a. cond (is_whole_at (receipt_of v a.env.from a.n)) (Some (shown (pair number r.cap a))) None) o) none
 
-pub result_taken : (v : ReceivingView) (h : List Event) → AreReceived v h → (number : ℕ) (r : Receive) → slice_get v.receives number ≡ Some r
+pub result_taken : (v : ReceivingView) (h : List Event) → AreReceived v h → (number : ℕ) (r : Receive) →
+    slice_get v.receives number ≡ Some r
     → r.cancelled ≡ false → (a : Arrival) → r.taken ≡ Some a → (m : Receipt) → receipt_of v a.env.from a.n ≡ Some m
     → result_of h (Receiving number) ≡ cond m.whole (Some (shown (pair number r.cap a))) None
 result_taken v h received number r here is a some m there =
     result_by v h received number r here
     ∙ ap (λ (b : Bool). cond b (Some answer.Cancelled)
-    (option_and_then (λ a. cond (is_whole_at (receipt_of v a.env.from a.n)) (Some (shown (pair number r.cap a))) None) r.taken)) is
-    ∙ ap (λ (o : Option Arrival). option_and_then (λ a. cond (is_whole_at (receipt_of v a.env.from a.n)) (Some (shown (pair number r.cap a))) None) o) some
+    (option_and_then (λ a. cond (is_whole_at (receipt_of v a.env.from a.n)) (Some (shown (pair number r.cap a))) None)
+    r.taken)) is
+    ∙ ap (λ (o : Option Arrival). option_and_then
+    (λ a. cond (is_whole_at (receipt_of v a.env.from a.n)) (Some (shown (pair number r.cap a))) None) o) some
     ∙ ap (λ (o : Option Receipt). cond (is_whole_at o) (Some (shown (pair number r.cap a))) None) there
 
 -- what is shown of a message
@@ -97,7 +116,8 @@ pub shown_is : (number cap : ℕ) (a : Arrival) (body : List ℕ) → length bod
     → answer_without_bytes (answer_of_bytes a cap body) ≡ shown (pair number cap a)
 shown_is number cap a body len = by (nat_lt cap a.env.len) refl
   where
-    by : (b : Bool) → nat_lt cap a.env.len ≡ b → answer_without_bytes (answer_of_bytes a cap body) ≡ shown (pair number cap a)
+    by : (b : Bool) → nat_lt cap a.env.len ≡ b → answer_without_bytes (answer_of_bytes a cap body) ≡ shown
+        (pair number cap a)
     by true is = rw is refl
     by false is = rw is (ap (λ (k : ℕ). answer.Got a.env.from a.env.tag (replicate k 0)) len)
 
@@ -107,29 +127,36 @@ pair_here v number r here a some =
     ap (λ (o : Option Receive). option_and_then (pair_with number) o) here
     ∙ ap (λ (o : Option Arrival). option_map (pair number r.cap) o) some
 
-pub shows_bytes : (v : ReceivingView) (number : ℕ) (r : Receive) → slice_get v.receives number ≡ Some r → (a : Arrival) → r.taken ≡ Some a
+pub shows_bytes : (v : ReceivingView) (number : ℕ) (r : Receive) → slice_get v.receives number ≡ Some r →
+    (a : Arrival) → r.taken ≡ Some a
     → (cap : ℕ) (body : List ℕ) → bytes_of v a ≡ Some body → ShowsBytes v number (answer_of_bytes a cap body)
 shows_bytes v number r here a some cap body bytes = by (nat_lt cap a.env.len)
   where
-    by : (b : Bool) → ShowsBytes v number (if b then answer.Cut a.env.from a.env.tag a.env.len else answer.Got a.env.from a.env.tag body)
+    by : (b : Bool) → ShowsBytes v number
+        (if b then answer.Cut a.env.from a.env.tag a.env.len else answer.Got a.env.from a.env.tag body)
     by true = tt
     by false = subst (λ (o : Option Pair). IfSome o (λ q. bytes_of v q.arrival ≡ Some body))
         (sym (pair_here v number r here a some)) bytes
 
 -- a receive that ended
-pub ended_is : (rs : List Receive) (number : ℕ) (r : Receive) → slice_get rs number ≡ Some r → set rs number (has_ended r) ≡ with_ended rs number
-ended_is rs number r here = sym (ap (λ (o : Option Receive). option_map_or (λ r. set rs number (has_ended r)) o rs) here)
+pub ended_is : (rs : List Receive) (number : ℕ) (r : Receive) → slice_get rs number ≡ Some r →
+    set rs number (has_ended r) ≡ with_ended rs number
+ended_is rs number r here =
+    sym (ap (λ (o : Option Receive). option_map_or (λ r. set rs number (has_ended r)) o rs) here)
 
 abbrev pub ended_view : ReceivingView → ℕ → Receive → ReceivingView
 ended_view v number r = record v { receives = set v.receives number (has_ended r) }
 
-tables-ended : (v : ReceivingView) (h : List Event) (number : ℕ) (r : Receive) → slice_get v.receives number ≡ Some r → AreTables v h
+tables-ended : (v : ReceivingView) (h : List Event) (number : ℕ) (r : Receive) →
+    slice_get v.receives number ≡ Some r → AreTables v h
     → AreTables (ended_view v number r) h
 tables-ended v h number r here tables =
     tables-receives v h h v.deeds (set v.receives number (has_ended r)) tables (record { pairs = refl; posts = refl })
-    (later_set v.receives number r (has_ended r) here (record { taken = refl; ended = λ live. absurd (true≢false live) }) refl)
+    (later_set v.receives number r (has_ended r) here
+    (record { taken = refl; ended = λ live. absurd (true≢false live) }) refl)
 
-pub kept-ended : (v : ReceivingView) (kept : IsKept v) (number : ℕ) (r : Receive) → slice_get v.receives number ≡ Some r → IsKept (ended_view v number r)
+pub kept-ended : (v : ReceivingView) (kept : IsKept v) (number : ℕ) (r : Receive) →
+    slice_get v.receives number ≡ Some r → IsKept (ended_view v number r)
 kept-ended v kept number r here = record {
   history = kept.history;
   received = keeps-ended v number r here kept.history kept.received;
@@ -145,49 +172,52 @@ there_is v r a same whole bytes =
     subst (λ (a : Arrival). IsThere (stream_of v a.env.from) (granted_to v a.env.from) a) same
     (record {
       granted = λ how.
-          let had = some_parts (IsGranted r) (grant_in (granted_to v r.arrival.env.from) r.arrival.n) (bytes.granted how) in
-          let bs = some_parts (λ (bytes : List ℕ). r.whole ≡ true → length bytes ≡ had.0.len) had.0.bytes had.2.bytes in
+          let had = some_and (IsGranted r) (grant_in (granted_to v r.arrival.env.from) r.arrival.n)
+          (bytes.granted how) in
+          let bs = some_and (λ (bytes : List ℕ). r.whole ≡ true → length bytes ≡ had.0.len) had.0.bytes had.2.bytes in
           some_from (λ (g : Granted). (g.len ≡ r.arrival.env.len) × IsSomeAnd g.bytes (λ bytes. length bytes ≡ g.len))
           (grant_in (granted_to v r.arrival.env.from) r.arrival.n) had.0 had.1
           (had.2.len, some_from (λ (bytes : List ℕ). length bytes ≡ had.0.len) had.0.bytes bs.0 bs.1 (bs.2 whole));
       joined = λ how.
-          let had = some_parts (IsJoined r) (message_of (stream_of v r.arrival.env.from) r.arrival.n) (bytes.joined how) in
+          let had = some_and (IsJoined r) (message_of (stream_of v r.arrival.env.from) r.arrival.n)
+          (bytes.joined how) in
           some_from (λ (m : Incoming). (m.len ≡ r.arrival.env.len) × (m.len ≤ length m.bytes))
           (message_of (stream_of v r.arrival.env.from) r.arrival.n) had.0 had.1 (had.2.len, had.2.whole whole);
     })
 
 -- a granted message that is there is whole
-pub whole_there : (grants : List (ℕ × Granted)) (a : Arrival) → IsSomeAnd (grant_in grants a.n) (λ g. (g.len ≡ a.env.len) × IsSomeAnd g.bytes (λ bytes. length bytes ≡ g.len))
+pub whole_there : (grants : List (ℕ × Granted)) (a : Arrival) → IsSomeAnd (grant_in grants a.n)
+    (λ g. (g.len ≡ a.env.len) × IsSomeAnd g.bytes (λ bytes. length bytes ≡ g.len))
     → is_whole_in grants a.n ≡ true
 whole_there grants a there =
-    let g = some_parts (λ (g : Granted). (g.len ≡ a.env.len) × IsSomeAnd g.bytes (λ bytes. length bytes ≡ g.len)) (grant_in grants a.n) there in
-    let bs = some_parts (λ (bytes : List ℕ). length bytes ≡ g.0.len) g.0.bytes g.2.1 in
+    let g = some_and (λ (g : Granted). (g.len ≡ a.env.len) × IsSomeAnd g.bytes (λ bytes. length bytes ≡ g.len))
+    (grant_in grants a.n) there in
+    let bs = some_and (λ (bytes : List ℕ). length bytes ≡ g.0.len) g.0.bytes g.2.1 in
     ap (λ (o : Option Granted). option_map_or is_whole_grant o false) g.1
-    ∙ ap (λ (o : Option (List ℕ)). option_map_or (λ bytes. length bytes == g.0.len) o false) bs.1 ∙ eq-eqb (length bs.0) g.0.len bs.2
-
-find_same : {X : Type 0} (p q : X → Bool) → ((x : X) → p x ≡ q x) → (xs : List X) → find p xs ≡ find q xs
-find_same p q same [] = refl
-find_same {X} p q same (x ∷ xs) =
-    ap (λ (b : Bool). cond b (Some x) (find p xs)) (same x) ∙ ap (λ (o : Option X). cond (q x) (Some x) o) (find_same p q same xs)
+    ∙ ap (λ (o : Option (List ℕ)). option_map_or (λ bytes. length bytes == g.0.len) o false) bs.1
+    ∙ eq-eqb (length bs.0) g.0.len bs.2
 
 -- the message without which the others stay
 without_other : (s : Stream) (n k : ℕ) → k ≢ n → message_of (without s n) k ≡ message_of s k
 without_other s n k differ =
     find-filter (λ (m : Incoming). m.n == k) (λ (m : Incoming). not (m.n == n)) s.messages
-    ∙ find_same (λ (m : Incoming). (m.n == k) && not (m.n == n)) (λ (m : Incoming). m.n == k) (λ m. by m (cases_eq m.n k)) s.messages
+    ∙ find_agree (λ (m : Incoming). (m.n == k) && not (m.n == n)) (λ (m : Incoming). m.n == k)
+    (λ m. by m (cases_eq m.n k)) s.messages
   where
     by : (m : Incoming) → (m.n ≡ k) ⊎ (m.n ≡ k → ⊥) → ((m.n == k) && not (m.n == n)) ≡ (m.n == k)
     by m (inl same) =
-        ap (λ (b : Bool). (m.n == k) && not b) (eqb_other m.n n (λ is. differ (sym same ∙ is)))
+        ap (λ (b : Bool). (m.n == k) && not b) (unequal m.n n (λ is. differ (sym same ∙ is)))
         ∙ true_too (m.n == k)
       where
         true_too : (b : Bool) → (b && true) ≡ b
         true_too true = refl
         true_too false = refl
-    by m (inr other) = ap (λ (b : Bool). b && not (m.n == n)) (eqb_other m.n k other) ∙ sym (eqb_other m.n k other)
+    by m (inr other) = ap (λ (b : Bool). b && not (m.n == n)) (unequal m.n k other) ∙ sym (unequal m.n k other)
 
-module _ (v : ReceivingView) (kept : IsKept v) (number : ℕ) (r : Receive) (here : slice_get v.receives number ≡ Some r) (live : r.ended ≡ false)
-    (a : Arrival) (some : r.taken ≡ Some a) (m : Receipt) (came : receipt_of v a.env.from a.n ≡ Some m) (whole : m.whole ≡ true) where
+module _ (v : ReceivingView) (kept : IsKept v) (number : ℕ) (r : Receive)
+    (here : slice_get v.receives number ≡ Some r) (live : r.ended ≡ false)
+    (a : Arrival) (some : r.taken ≡ Some a) (m : Receipt) (came : receipt_of v a.env.from a.n ≡ Some m)
+    (whole : m.whole ≡ true) where
   abbrev h : List Event
   h = kept.history
 
@@ -212,18 +242,20 @@ module _ (v : ReceivingView) (kept : IsKept v) (number : ℕ) (r : Receive) (her
   is_done : is_taken h from a.n ≡ true
   is_done = took v h kept.received number r a here some
 
-  others : (k : ℕ) (receive : Receive) (b : Arrival) → slice_get v1.receives k ≡ Some receive → receive.taken ≡ Some b → receive.ended ≡ false
+  others : (k : ℕ) (receive : Receive) (b : Arrival) → slice_get v1.receives k ≡ Some receive →
+      receive.taken ≡ Some b → receive.ended ≡ false
       → b.env.from ≡ from → b.n ≡ a.n → ⊥
   others k receive b at' some' live' same same' = by (cases_eq k number)
     where
       by : (k ≡ number) ⊎ (k ≡ number → ⊥) → ⊥
       by (inl is) =
           let now : has_ended r ≡ receive = same_Some (has_ended r) receive
-          (sym (slice_get-set_same v.receives number (has_ended r) (slice_get_within v.receives number r here))
+          (sym (get_set_same v.receives number (has_ended r) (slice_get_within v.receives number r here))
           ∙ ap (λ (j : ℕ). slice_get v1.receives j) (sym is) ∙ at') in
           true≢false (ap (λ (x : Receive). x.ended) now ∙ live')
       by (inr differ) =
-          let old : slice_get v.receives k ≡ Some receive = sym (slice_get-set_other v.receives number k (has_ended r) differ) ∙ at' in
+          let old : slice_get v.receives k ≡ Some receive =
+          sym (get_set_other v.receives number k (has_ended r) differ) ∙ at' in
           differ (kept.tables.apart k number receive r b a old here some' some same same')
 
   names1 : (i k : ℕ) (x : Receipt) → receipt_of v i k ≡ Some x → (x.arrival.env.from ≡ i) × (x.arrival.n ≡ k)
@@ -234,9 +266,11 @@ module _ (v : ReceivingView) (kept : IsKept v) (number : ℕ) (r : Receive) (her
 
   -- a message that was sent by asking
   module _ (asked : is_ask a.env.how ≡ true) (inside : from < length v.grants) where
-    granted : (g : Granted) × (grant_in row a.n ≡ Some g) × ((g.len ≡ a.env.len) × IsSomeAnd g.bytes (λ bytes. length bytes ≡ g.len))
+    granted : (g : Granted) × (grant_in row a.n ≡ Some g)
+        × ((g.len ≡ a.env.len) × IsSomeAnd g.bytes (λ bytes. length bytes ≡ g.len))
     granted = let t = bytes_there_now in
-        some_parts (λ (g : Granted). (g.len ≡ a.env.len) × IsSomeAnd g.bytes (λ bytes. length bytes ≡ g.len)) (grant_in row a.n) (t.granted asked)
+        some_and (λ (g : Granted). (g.len ≡ a.env.len) × IsSomeAnd g.bytes (λ bytes. length bytes ≡ g.len))
+        (grant_in row a.n) (t.granted asked)
 
     abbrev w : Granted
     w = without_bytes granted.0
@@ -248,33 +282,41 @@ module _ (v : ReceivingView) (kept : IsKept v) (number : ℕ) (r : Receive) (her
     row_is = row-same v.grants from (taken_in row a.n) from refl inside
         ∙ ap (λ (o : Option Granted). option_map_or (λ g. with_grant row a.n (without_bytes g)) o row) granted.1
 
-    still_granted : (i k : ℕ) → (i ≡ from → k ≡ a.n → ⊥) → grant_in (get_or grants1 i []) k ≡ grant_in (granted_to v i) k
+    still_granted : (i k : ℕ) → (i ≡ from → k ≡ a.n → ⊥) → grant_in (get_or grants1 i []) k ≡ grant_in
+        (granted_to v i) k
     still_granted i k differ = by (cases_eq i from)
       where
         by : (i ≡ from) ⊎ (i ≡ from → ⊥) → grant_in (get_or grants1 i []) k ≡ grant_in (granted_to v i) k
         by (inl same) =
-            ap (λ (j : ℕ). grant_in (get_or grants1 j []) k) same ∙ ap (λ (es : List (ℕ × Granted)). grant_in es k) row_is
+            ap (λ (j : ℕ). grant_in (get_or grants1 j []) k) same ∙ ap (λ (es : List (ℕ × Granted)). grant_in es k)
+            row_is
             ∙ grant_set row a.n granted.0 w granted.1 k
             ∙ ap (λ (b : Bool). cond b (Some w) (grant_in row k)) (differs a.n k (λ is. differ same (sym is)))
             ∙ ap (λ (j : ℕ). grant_in (granted_to v j) k) (sym same)
-        by (inr other) = ap (λ (es : List (ℕ × Granted)). grant_in es k) (row-other v.grants from (taken_in row a.n) i other)
+        by (inr other) = ap (λ (es : List (ℕ × Granted)). grant_in es k)
+            (row-other v.grants from (taken_in row a.n) i other)
 
     still_cleared : (i : ℕ) → All (λ e. IsSomeAnd (receipt_of v i e.0) (IsCleared h i e)) (get_or grants1 i [])
     still_cleared i = by (cases_eq i from)
       where
-        by : (i ≡ from) ⊎ (i ≡ from → ⊥) → All (λ e. IsSomeAnd (receipt_of v i e.0) (IsCleared h i e)) (get_or grants1 i [])
+        by : (i ≡ from) ⊎ (i ≡ from → ⊥) → All (λ e. IsSomeAnd (receipt_of v i e.0) (IsCleared h i e))
+            (get_or grants1 i [])
         by (inl same) =
-            let entry = grant_among (λ e. IsSomeAnd (receipt_of v from e.0) (IsCleared h from e)) row a.n granted.0 (kept.tables.cleared from) granted.1 in
-            let x = some_parts (IsCleared h from (a.n, granted.0)) (receipt_of v from a.n) entry in
-            subst (λ (j : ℕ). All (λ e. IsSomeAnd (receipt_of v j e.0) (IsCleared h j e)) (get_or grants1 j [])) (sym same)
-            (subst (λ (es : List (ℕ × Granted)). All (λ e. IsSomeAnd (receipt_of v from e.0) (IsCleared h from e)) es) (sym row_is)
+            let entry = grant_among (λ e. IsSomeAnd (receipt_of v from e.0) (IsCleared h from e)) row a.n granted.0
+            (kept.tables.cleared from) granted.1 in
+            let x = some_and (IsCleared h from (a.n, granted.0)) (receipt_of v from a.n) entry in
+            subst (λ (j : ℕ). All (λ e. IsSomeAnd (receipt_of v j e.0) (IsCleared h j e)) (get_or grants1 j []))
+            (sym same)
+            (subst (λ (es : List (ℕ × Granted)). All (λ e. IsSomeAnd (receipt_of v from e.0) (IsCleared h from e)) es)
+            (sym row_is)
             (all_set (λ e. IsSomeAnd (receipt_of v from e.0) (IsCleared h from e)) (nat_eq a.n) row w
             (λ k is. let same' : a.n ≡ k = equal a.n k is in
             subst (λ (j : ℕ). IsSomeAnd (receipt_of v from j) (IsCleared h from (j, w))) same'
             (some_from (IsCleared h from (a.n, w)) (receipt_of v from a.n) x.0 x.1
             (record { asked = x.2.asked; taken = x.2.taken; due = λ open'. absurd (true≢false (sym open')) })))
             (kept.tables.cleared from)))
-        by (inr other) = subst (λ (es : List (ℕ × Granted)). All (λ e. IsSomeAnd (receipt_of v i e.0) (IsCleared h i e)) es)
+        by (inr other) = subst (λ (es : List (ℕ × Granted)). All
+            (λ e. IsSomeAnd (receipt_of v i e.0) (IsCleared h i e)) es)
             (sym (row-other v.grants from (taken_in row a.n) i other)) (kept.tables.cleared i)
 
     still_once : (i : ℕ) → IsDistinct nat_eq (keys_of (get_or grants1 i []))
@@ -282,7 +324,8 @@ module _ (v : ReceivingView) (kept : IsKept v) (number : ℕ) (r : Receive) (her
       where
         by : (i ≡ from) ⊎ (i ≡ from → ⊥) → IsDistinct nat_eq (keys_of (get_or grants1 i []))
         by (inl same) = subst (λ (ks : List ℕ). IsDistinct nat_eq ks)
-            (sym (ap (λ (j : ℕ). keys_of (get_or grants1 j [])) same ∙ ap (λ (es : List (ℕ × Granted)). keys_of es) row_is
+            (sym (ap (λ (j : ℕ). keys_of (get_or grants1 j [])) same
+            ∙ ap (λ (es : List (ℕ × Granted)). keys_of es) row_is
             ∙ keys-set_value (nat_eq a.n) row w)) (kept.tables.once from)
         by (inr other) = subst (λ (es : List (ℕ × Granted)). IsDistinct nat_eq (keys_of es))
             (sym (row-other v.grants from (taken_in row a.n) i other)) (kept.tables.once i)
@@ -337,12 +380,14 @@ module _ (v : ReceivingView) (kept : IsKept v) (number : ℕ) (r : Receive) (her
         )
         by (inr other) = (ap (λ (x : Stream). x.count) (stream_else i other), ap missing (stream_else i other))
 
-    still_joined : (i k : ℕ) → (i ≡ from → k ≡ a.n → ⊥) → message_of (get_or streams1 i nothing_came) k ≡ message_of (stream_of v i) k
+    still_joined : (i k : ℕ) → (i ≡ from → k ≡ a.n → ⊥) → message_of (get_or streams1 i nothing_came) k ≡ message_of
+        (stream_of v i) k
     still_joined i k differ = by (cases_eq i from)
       where
         by : (i ≡ from) ⊎ (i ≡ from → ⊥) → message_of (get_or streams1 i nothing_came) k ≡ message_of (stream_of v i) k
         by (inl same) =
-            ap (λ (j : ℕ). message_of (get_or streams1 j nothing_came) k) same ∙ ap (λ (x : Stream). message_of x k) stream_here
+            ap (λ (j : ℕ). message_of (get_or streams1 j nothing_came) k) same
+            ∙ ap (λ (x : Stream). message_of x k) stream_here
             ∙ without_other s a.n k (differ same) ∙ ap (λ (j : ℕ). message_of (stream_of v j) k) (sym same)
         by (inr other) = ap (λ (x : Stream). message_of x k) (stream_else i other)
 
@@ -371,7 +416,8 @@ module _ (v : ReceivingView) (kept : IsKept v) (number : ℕ) (r : Receive) (her
   abbrev kept_stream : Stream
   kept_stream = if is_ask a.env.how then s else without s a.n
 
-  module _ (sender : from < v.sizes.ranks) (left : missing kept_stream ≡ missing s) (sizes : Sizes) (streams : List Stream) (grants : List (List (ℕ × Granted)))
+  module _ (sender : from < v.sizes.ranks) (left : missing kept_stream ≡ missing s) (sizes : Sizes)
+      (streams : List Stream) (grants : List (List (ℕ × Granted)))
       (sizes_is : sizes ≡ v.sizes) (streams_is : streams ≡ set v.streams from kept_stream)
       (grants_is : grants ≡ (if is_ask a.env.how then set v.grants from (taken_in row a.n) else v.grants)) where
     abbrev pub finished_view : ReceivingView
@@ -391,12 +437,15 @@ module _ (v : ReceivingView) (kept : IsKept v) (number : ℕ) (r : Receive) (her
     in_grants : from < length v.grants
     in_grants = let n = kept.tables.grants in omega (arith, sender, n)
 
-    view-asked : is_ask a.env.how ≡ true → ◌≡◌ {A = ReceivingView} (record v1 { grants = set v.grants from (taken_in row a.n) }) finished_view
+    view-asked : is_ask a.env.how ≡ true →
+        ◌≡◌ {A = ReceivingView} (record v1 { grants = set v.grants from (taken_in row a.n) }) finished_view
     view-asked how = rw (sizes_is, streams_is, grants_is, how)
-        (ap (λ (ss : List Stream). let x : ReceivingView = record v1 { streams = ss; grants = set v.grants from (taken_in row a.n) } in x)
+        (ap (λ (ss : List Stream). let x : ReceivingView =
+        record v1 { streams = ss; grants = set v.grants from (taken_in row a.n) } in x)
         (sym (set-get_or v.streams from nothing_came)))
 
-    view-eager : is_ask a.env.how ≡ false → ◌≡◌ {A = ReceivingView} (record v1 { streams = set v.streams from (without s a.n) }) finished_view
+    view-eager : is_ask a.env.how ≡ false →
+        ◌≡◌ {A = ReceivingView} (record v1 { streams = set v.streams from (without s a.n) }) finished_view
     view-eager how = rw (sizes_is, streams_is, grants_is, how) refl
 
     left-eager : is_ask a.env.how ≡ false → missing (without s a.n) ≡ missing s
@@ -413,8 +462,10 @@ module _ (v : ReceivingView) (kept : IsKept v) (number : ℕ) (r : Receive) (her
     received-finished k received = by (is_ask a.env.how) refl
       where
         by : (b : Bool) → is_ask a.env.how ≡ b → AreReceived finished_view k
-        by true how = subst (λ (x : ReceivingView). AreReceived x k) (view-asked how) (received-asked how in_grants k received)
-        by false how = subst (λ (x : ReceivingView). AreReceived x k) (view-eager how) (received-eager in_streams (left-eager how) k received)
+        by true how = subst (λ (x : ReceivingView). AreReceived x k) (view-asked how)
+            (received-asked how in_grants k received)
+        by false how = subst (λ (x : ReceivingView). AreReceived x k) (view-eager how)
+            (received-eager in_streams (left-eager how) k received)
 
     pub streams-finished : (i : ℕ) → ((stream_of finished_view i).count ≡ (stream_of v i).count)
         × (missing (stream_of finished_view i) ≡ missing (stream_of v i))
@@ -422,9 +473,11 @@ module _ (v : ReceivingView) (kept : IsKept v) (number : ℕ) (r : Receive) (her
       where
         by : (b : Bool) → is_ask a.env.how ≡ b → ((stream_of finished_view i).count ≡ (stream_of v i).count)
             × (missing (stream_of finished_view i) ≡ missing (stream_of v i))
-        by true how = subst (λ (x : ReceivingView). ((stream_of x i).count ≡ (stream_of v i).count) × (missing (stream_of x i) ≡ missing (stream_of v i)))
+        by true how = subst (λ (x : ReceivingView). ((stream_of x i).count ≡ (stream_of v i).count)
+            × (missing (stream_of x i) ≡ missing (stream_of v i)))
             (view-asked how) (refl, refl)
-        by false how = subst (λ (x : ReceivingView). ((stream_of x i).count ≡ (stream_of v i).count) × (missing (stream_of x i) ≡ missing (stream_of v i)))
+        by false how = subst (λ (x : ReceivingView). ((stream_of x i).count ≡ (stream_of v i).count)
+            × (missing (stream_of x i) ≡ missing (stream_of v i)))
             (view-eager how) (same_numbers in_streams (left-eager how) i)
 
     -- the bytes of the other messages are the same
@@ -452,11 +505,12 @@ module _ (v : ReceivingView) (kept : IsKept v) (number : ℕ) (r : Receive) (her
         of_b same same' =
             ap (λ (o : Option Pair). option_map_or (is_of_message b.env.from b.n) o false)
             (pair_here v number r here a some)
-            ∙ ap (λ (x : Bool). x && a.n == b.n) (eqb_same from b.env.from (sym same))
-            ∙ eqb_same a.n b.n (sym same')
+            ∙ ap (λ (x : Bool). x && a.n == b.n) (eq_true from b.env.from (sym same))
+            ∙ eq_true a.n b.n (sym same')
 
 -- the sender of a message that a receive took
-pub taken_from : (v : ReceivingView) (kept : IsKept v) (number : ℕ) (r : Receive) → slice_get v.receives number ≡ Some r → (a : Arrival) → r.taken ≡ Some a
+pub taken_from : (v : ReceivingView) (kept : IsKept v) (number : ℕ) (r : Receive) →
+    slice_get v.receives number ≡ Some r → (a : Arrival) → r.taken ≡ Some a
     → a.env.from < v.sizes.ranks
 taken_from v kept number r here a some =
     let had = kept.tables.taken number r a here some in

@@ -1,6 +1,7 @@
 -- What the tables keep, by some history, and how it goes on.
-use Rattle.std.proofs.Common.{◌≡◌, ℕ, ◌<◌, ◌==◌, Bool, true, false, not, ◌&&◌, ◌||◌, if◌then◌else◌, get_or, arith, Option, Some, None, List, [], ◌∷◌, ◌++◌, length, refl, sym, ◌∙◌, ap, subst}
-use Rattle.std.specs.List.{list_any, slice_get}
+use Rattle.std.proofs.Common.{◌≡◌, ℕ, ◌<◌, ◌==◌, Bool, true, false, not, ◌&&◌, ◌||◌, if◌then◌else◌, get_or, arith}
+use Rattle.std.proofs.Common.{Option, Some, None, List, [], ◌∷◌, ◌++◌, length, refl, sym, ◌∙◌, ap, subst}
+use Rattle.std.specs.List.{find, list_any, slice_get}
 use Rattle.std.specs.Option.{MatchOption, option_map}
 use Rattle.std.specs.Prelude.{Result, Ok, Err, IfOk, OnErr}
 use Rattle.std.proofs.Math.ListN.{set}
@@ -8,11 +9,15 @@ use Rattle.std.proofs.lemmas.Bool.{le-ltb, lt-ltb, or_from}
 use Rattle.std.proofs.lemmas.Option.{slice_get-get_or}
 use Rattle.nm_types.specs.declared.messages.Arrival.{Arrival}
 use Rattle.nm_types.specs.declared.messages.How.TheVariants.{Eager}
+use Rattle.nm_types.specs.declared.messages.Peer.{Peer}
+use Rattle.nm_types.specs.declared.messages.TagPick.{TagPick}
 use Rattle.nm_history.specs.declared.events.Event.{Event}
 use Rattle.nm_history.specs.declared.events.Happened.TheVariants.{Cancel, Claim, Withdraw}
 use Rattle.nm_history.specs.Happens.{happened, is_arrival, is_withdraw}
-use Rattle.nm_history.specs.Matching.{is_free_message, is_matching, is_of_receive, matched_pairs}
-use Rattle.nm_history.specs.Sends.{arrivals, message_of, post_of, receives}
+use Rattle.nm_history.specs.Matching.{first_message, is_free, is_free_message, is_matching, is_of_receive}
+use Rattle.nm_history.specs.Matching.{matched_pairs}
+use Rattle.nm_history.specs.Selection.{matches}
+use Rattle.nm_history.specs.Sends.{arrivals, message_of, messages, post_of, receives}
 use Rattle.nm_history.proofs.MatchingLemmas.{matched_pairs-push_other}
 use Rattle.nm_protocol.specs.Rules.{AreRight}
 use Rattle.nm_protocol.proofs.Right.{right-append, right-numbers}
@@ -22,7 +27,8 @@ use Rattle.nm_match.specs.declared.deeds.Deed.TheVariants as deed
 use Rattle.nm_match.specs.Deeds.{deeds_after, history_of, is_known_message, is_known_receive}
 use Rattle.nm_match.proofs.NumberLemmas.{messages_numbered, receives_numbered}
 use Rattle.nm_match.proofs.QueueLemmas.{free_means}
-use Rattle.nm_match.proofs.StandsLemmas.{is_free_message-stands, is_known_message-stands, is_known_receive-stands}
+use Rattle.nm_match.proofs.StandsLemmas.{first_message-stands, is_free_message-stands, is_known_message-stands}
+use Rattle.nm_match.proofs.StandsLemmas.{is_known_receive-stands}
 use Rattle.nm_receiving.specs.declared.receipts.Receipt.{Receipt}
 use Rattle.nm_receiving.specs.declared.receipts.Receive.{Receive}
 use Rattle.nm_receiving.specs.Kept.{AreTables, IsKept}
@@ -36,57 +42,92 @@ use Rattle.nm_receiving.proofs.Facts.{arrived_from, message_name}
 use Rattle.nm_receiving.proofs.Grow.{at, posts_still}
 use Rattle.nm_receiving.proofs.Stood.{with_deeds}
 use Rattle.nm_receiving.proofs.TablesMark.{IsLike}
+use Rattle.nm_facts.proofs.Lists.{find_passes}
+use Rattle.nm_facts.proofs.Truth.{and_right}
 use Rattle.nm_receiving.proofs.TablesRest.{later_same, later_set, tables-receives}
 
 -- a receipt stands at the name of its message
-pub names_of : (v : ReceivingView) (h : List Event) → AreReceived v h → (i k : ℕ) (s : Receipt) → receipt_of v i k ≡ Some s
+pub names_of : (v : ReceivingView) (h : List Event) → AreReceived v h → (i k : ℕ) (s : Receipt) →
+    receipt_of v i k ≡ Some s
     → (s.arrival.env.from ≡ i) × (s.arrival.n ≡ k)
 names_of v h received i k s is =
-    message_name h i k s.arrival (sym (received.messages i k) ∙ ap (λ (o : Option Receipt). option_map (λ m. m.arrival) o) is)
+    message_name h i k s.arrival
+    (sym (received.messages i k) ∙ ap (λ (o : Option Receipt). option_map (λ m. m.arrival) o) is)
 
 -- the tables afterwards, by the longer history
 pub goes_on : (v v' : ReceivingView) (kept : IsKept v) (events : List Event) → v'.sizes ≡ v.sizes
     → AreReceived v' (kept.history ++ events) × AreRight v.sizes.ranks kept.history events
-    → ((from n : ℕ) → happened (is_withdraw from n false) events ≡ false) → AreTables v' (kept.history ++ events) → IsKept v'
+    → ((from n : ℕ) → happened (is_withdraw from n false) events ≡ false) → AreTables v' (kept.history ++ events) →
+    IsKept v'
 goes_on v v' kept events same keeps in_time tables = record {
   history = kept.history ++ events;
   received = keeps.0;
   right = subst (λ s. AreRight s.ranks [] (kept.history ++ events)) (sym same)
       (right-append v.sizes.ranks [] kept.history events kept.right keeps.1);
   in_time = λ from n. happened-append (is_withdraw from n false) kept.history events
-      ∙ or_from (happened (is_withdraw from n false) kept.history) (happened (is_withdraw from n false) events) (kept.in_time from n) (in_time from n);
+      ∙ or_from (happened (is_withdraw from n false) kept.history) (happened (is_withdraw from n false) events)
+      (kept.in_time from n) (in_time from n);
   tables = tables;
 }
 
 -- one event that makes no pair and posts nothing
-pub like-push : (h : List Event) (e : Event) → is_matching e.what ≡ false → post_of e.what ≡ None → IsLike h (h ++ e ∷ [])
+pub like-push : (h : List Event) (e : Event) → is_matching e.what ≡ false → post_of e.what ≡ None →
+    IsLike h (h ++ e ∷ [])
 like-push h e silent no_post = record { pairs = matched_pairs-push_other h e silent; posts = posts_still h e no_post }
 
-pub kept-claim : (v : ReceivingView) → IsKept v → (from n : ℕ) (deeds : List Deed) → deeds ≡ v.deeds ++ deed.Claim from n ∷ []
+pub kept-claim : (v : ReceivingView) → IsKept v → (from n : ℕ) (deeds : List Deed) →
+    deeds ≡ v.deeds ++ deed.Claim from n ∷ []
+    → ((h : List Event) → AreReceived v h → is_free_message h (matched_pairs h) from n ≡ true)
     → IsKept (with_deeds v deeds)
-kept-claim v kept from n deeds done =
+kept-claim v kept from n deeds done free =
     let e : Event = at 0 (Claim from n 0) in
     goes_on v (with_deeds v deeds) kept (e ∷ []) refl
-    (keeps-claim v from n 0 deeds done kept.history (e ∷ []) refl kept.received kept.right) (λ i k. refl)
-    (tables-receives v kept.history (kept.history ++ e ∷ []) deeds v.receives kept.tables (like-push kept.history e refl refl) (later_same v.receives))
+    (keeps-claim v from n 0 deeds done free kept.history (e ∷ []) refl kept.received kept.right) (λ i k. refl)
+    (tables-receives v kept.history (kept.history ++ e ∷ []) deeds v.receives kept.tables
+    (like-push kept.history e refl refl) (later_same v.receives))
 
-pub kept-claimed : {E : Type 0} (v : ReceivingView) → IsKept v → (deeds : List Deed) (r : Result (Option Arrival) E)
-    → IfOk r (λ t. MatchOption t (deeds ≡ v.deeds) (λ a. deeds ≡ v.deeds ++ deed.Claim a.env.from a.n ∷ [])) → OnErr r (deeds ≡ v.deeds)
-    → IsKept (with_deeds v deeds)
-kept-claimed v kept deeds (Ok None) done failed = subst (λ (ds : List Deed). IsKept (with_deeds v ds)) (sym done) kept
-kept-claimed v kept deeds (Ok (Some a)) done failed = kept-claim v kept a.env.from a.n deeds done
-kept-claimed v kept deeds (Err e) done failed = subst (λ (ds : List Deed). IsKept (with_deeds v ds)) (sym failed) kept
+-- the message that a probe shows is free
+first_free : (v : ReceivingView) (from : Peer) (tag : TagPick) (ctx : ℕ) (a : Arrival)
+    → Some a ≡ first_message (history_of v.deeds) (matched_pairs (history_of v.deeds)) from tag ctx
+    → (h : List Event) → AreReceived v h → is_free_message h (matched_pairs h) a.env.from a.n ≡ true
+first_free v from tag ctx a oldest h received =
+    let test : Arrival → Bool = λ b. matches from tag ctx b.env && is_free h (matched_pairs h) b in
+    let is : find test (messages h) ≡ Some a =
+    first_message-stands v.deeds h received.stands from tag ctx ∙ sym oldest in
+    and_right (matches from tag ctx a.env) (is_free h (matched_pairs h) a) (find_passes test (messages h) a is)
 
-pub claimed-keeps : {E : Type 0} (v : ReceivingView) (deeds : List Deed) (r : Result (Option Arrival) E)
-    → IfOk r (λ t. MatchOption t (deeds ≡ v.deeds) (λ a. deeds ≡ v.deeds ++ deed.Claim a.env.from a.n ∷ []))
-    → IfOk r (λ t. MatchOption t (with_deeds v deeds ≡ v) (λ a. (line : ℕ) → Keeps v (with_deeds v deeds) (Claim a.env.from a.n line ∷ [])))
-claimed-keeps v deeds (Ok None) done = ap (λ (ds : List Deed). with_deeds v ds) done
-claimed-keeps v deeds (Ok (Some a)) done = λ line. keeps-claim v a.env.from a.n line deeds done
-claimed-keeps v deeds (Err e) done = tt
+module _ {E : Type 0} (v : ReceivingView) (deeds : List Deed) (from : Peer) (tag : TagPick) (ctx : ℕ) where
+  -- the claim of the message that a probe shows, or none
+  abbrev Claims : Result (Option Arrival) E → Type 0
+  Claims r =
+      IfOk r (λ t. MatchOption t (deeds ≡ v.deeds) (λ a. deeds ≡ v.deeds ++ deed.Claim a.env.from a.n ∷ []))
+
+  abbrev Oldest : Result (Option Arrival) E → Type 0
+  Oldest r =
+      IfOk r (λ t. t ≡ first_message (history_of v.deeds) (matched_pairs (history_of v.deeds)) from tag ctx)
+
+  pub kept-claimed : IsKept v → (r : Result (Option Arrival) E) → Claims r → Oldest r → OnErr r (deeds ≡ v.deeds)
+      → IsKept (with_deeds v deeds)
+  kept-claimed kept (Ok None) done oldest failed =
+      subst (λ (ds : List Deed). IsKept (with_deeds v ds)) (sym done) kept
+  kept-claimed kept (Ok (Some a)) done oldest failed =
+      kept-claim v kept a.env.from a.n deeds done (first_free v from tag ctx a oldest)
+  kept-claimed kept (Err e) done oldest failed =
+      subst (λ (ds : List Deed). IsKept (with_deeds v ds)) (sym failed) kept
+
+  pub claimed-keeps : (r : Result (Option Arrival) E) → Claims r → Oldest r
+      → IfOk r (λ t. MatchOption t (with_deeds v deeds ≡ v)
+      (λ a. (line : ℕ) → Keeps v (with_deeds v deeds) (Claim a.env.from a.n line ∷ [])))
+  claimed-keeps (Ok None) done oldest = ap (λ (ds : List Deed). with_deeds v ds) done
+  claimed-keeps (Ok (Some a)) done oldest =
+      λ line. keeps-claim v a.env.from a.n line deeds done (first_free v from tag ctx a oldest)
+  claimed-keeps (Err e) done oldest = tt
 
 -- a cancel, and one that came too late
-pub kept-cancelled : (v : ReceivingView) → IsKept v → (number : ℕ) (r : Receive) → slice_get v.receives number ≡ Some r → (deeds : List Deed)
-    → deeds ≡ deeds_after v.deeds (Cancel number true) → true ≡ not (list_any (is_of_receive number) (matched_pairs (history_of v.deeds)))
+pub kept-cancelled : (v : ReceivingView) → IsKept v → (number : ℕ) (r : Receive) →
+    slice_get v.receives number ≡ Some r → (deeds : List Deed)
+    → deeds ≡ deeds_after v.deeds (Cancel number true) →
+    true ≡ not (list_any (is_of_receive number) (matched_pairs (history_of v.deeds)))
     → IsKept (record v { deeds = deeds; receives = set v.receives number (has_cancelled r) })
 kept-cancelled v kept number r here deeds done late =
     let e : Event = at 0 (Cancel number true) in
@@ -103,25 +144,29 @@ pub kept-withdrawn : (v : ReceivingView) → IsKept v → (from n : ℕ) → n <
 kept-withdrawn v kept from n below free =
     let h : List Event = kept.history in
     let e : Event = at 0 (Withdraw from n true) in
-    let is_free : is_free_message h (matched_pairs h) from n ≡ true = is_free_message-stands v.deeds h kept.received.stands from n ∙ free in
+    let is_free : is_free_message h (matched_pairs h) from n ≡ true = is_free_message-stands v.deeds h
+    kept.received.stands from n ∙ free in
     let parts = free_means h (matched_pairs h) from n is_free in
     let r : Receipt = get_or (receipts_from v from) n (no_receipt from) in
     let here : receipt_of v from n ≡ Some r = slice_get-get_or (receipts_from v from) n (no_receipt from) below in
     let there : message_of h from n ≡ Some r.arrival =
     sym (kept.received.messages from n) ∙ ap (λ (o : Option Receipt). option_map (λ m. m.arrival) o) here in
     goes_on v (with_deeds v (v.deeds ++ deed.Withdraw from n ∷ [])) kept (e ∷ []) refl (
-      keeps-deeds v (Withdraw from n true) (v.deeds ++ deed.Withdraw from n ∷ []) refl refl refl refl (λ _ _. refl) (λ _. refl)
+      keeps-deeds v (Withdraw from n true) (v.deeds ++ deed.Withdraw from n ∷ []) refl refl refl refl (λ _ _. refl)
+          (λ _. refl)
           h (e ∷ []) refl kept.received,
       right-one v.sizes.ranks h e (record {
         numbers = tt;
         matches = tt;
+        claims = tt;
         cancels = tt;
         wholes = tt;
         ends = (parts.2, kept.in_time from n, arrived_from h from n r.arrival there, sym is_free);
       }),
     )
     (λ i k. late (from == i) (n == k))
-    (tables-receives v h (h ++ e ∷ []) (v.deeds ++ deed.Withdraw from n ∷ []) v.receives kept.tables (like-push h e refl refl) (later_same v.receives))
+    (tables-receives v h (h ++ e ∷ []) (v.deeds ++ deed.Withdraw from n ∷ []) v.receives kept.tables
+    (like-push h e refl refl) (later_same v.receives))
   where
     no_receipt : ℕ → Receipt
     no_receipt from = newcomer (record { n = 0; env = record { from = from; tag = 0; ctx = 0; len = 0; how = Eager } })
@@ -131,12 +176,14 @@ kept-withdrawn v kept from n below free =
     late true false = refl
     late false b = refl
 
-pub kept-withdrawn_if : (v : ReceivingView) → IsKept v → (from n : ℕ) → n < length (receipts_from v from) → (deeds : List Deed) (done : Bool)
+pub kept-withdrawn_if : (v : ReceivingView) → IsKept v → (from n : ℕ) → n < length (receipts_from v from) →
+    (deeds : List Deed) (done : Bool)
     → done ≡ is_free_message (history_of v.deeds) (matched_pairs (history_of v.deeds)) from n
     → deeds ≡ (if done then v.deeds ++ deed.Withdraw from n ∷ [] else v.deeds) → IsKept (with_deeds v deeds)
 kept-withdrawn_if v kept from n below deeds true free is =
     subst (λ (ds : List Deed). IsKept (with_deeds v ds)) (sym is) (kept-withdrawn v kept from n below (sym free))
-kept-withdrawn_if v kept from n below deeds false free is = subst (λ (ds : List Deed). IsKept (with_deeds v ds)) (sym is) kept
+kept-withdrawn_if v kept from n below deeds false free is = subst (λ (ds : List Deed). IsKept (with_deeds v ds))
+    (sym is) kept
 
 -- what is known to the matcher
 pub receive_known : (v : ReceivingView) → IsKept v → (number : ℕ) → number < length v.receives
@@ -176,29 +223,36 @@ next_message v kept from n next =
     ∙ le-ltb n (length (arrivals h from)) (omega (arith, arrived, next))
 
 -- a message below the count came
-pub arrived_below : (v : ReceivingView) (h : List Event) → AreReceived v h → (from n : ℕ) → n < length (receipts_from v from)
+pub arrived_below : (v : ReceivingView) (h : List Event) → AreReceived v h →
+    (from n : ℕ) → n < length (receipts_from v from)
     → happened (is_arrival from n) h ≡ true
 arrived_below v h received from n below =
-    let d : Receipt = newcomer (record { n = 0; env = record { from = from; tag = 0; ctx = 0; len = 0; how = Eager } }) in
+    let d : Receipt = newcomer
+    (record { n = 0; env = record { from = from; tag = 0; ctx = 0; len = 0; how = Eager } }) in
     let here = slice_get-get_or (receipts_from v from) n d below in
     arrived_from h from n (get_or (receipts_from v from) n d).arrival
     (sym (received.messages from n) ∙ ap (λ (o : Option Receipt). option_map (λ m. m.arrival) o) here)
 
 -- a cancel by its answer
-pub kept-cancel_done : (v : ReceivingView) → IsKept v → (number : ℕ) (r : Receive) → slice_get v.receives number ≡ Some r → (deeds : List Deed) (done : Bool)
+pub kept-cancel_done : (v : ReceivingView) → IsKept v → (number : ℕ) (r : Receive) →
+    slice_get v.receives number ≡ Some r → (deeds : List Deed) (done : Bool)
     → done ≡ true → done ≡ not (list_any (is_of_receive number) (matched_pairs (history_of v.deeds)))
-    → deeds ≡ deeds_after v.deeds (Cancel number done) → IsKept (record v { deeds = deeds; receives = set v.receives number (has_cancelled r) })
+    → deeds ≡ deeds_after v.deeds (Cancel number done) →
+    IsKept (record v { deeds = deeds; receives = set v.receives number (has_cancelled r) })
 kept-cancel_done v kept number r here deeds done is late made =
-    kept-cancelled v kept number r here deeds (subst (λ (b : Bool). deeds ≡ deeds_after v.deeds (Cancel number b)) is made) (sym is ∙ late)
+    kept-cancelled v kept number r here deeds
+    (subst (λ (b : Bool). deeds ≡ deeds_after v.deeds (Cancel number b)) is made) (sym is ∙ late)
 
-pub keeps-cancel_done : (v : ReceivingView) (number : ℕ) (r : Receive) → slice_get v.receives number ≡ Some r → (deeds : List Deed) (done : Bool)
+pub keeps-cancel_done : (v : ReceivingView) (number : ℕ) (r : Receive) → slice_get v.receives number ≡ Some r →
+    (deeds : List Deed) (done : Bool)
     → done ≡ true → done ≡ not (list_any (is_of_receive number) (matched_pairs (history_of v.deeds)))
     → deeds ≡ deeds_after v.deeds (Cancel number done)
     → Keeps v (record v { deeds = deeds; receives = set v.receives number (has_cancelled r) }) (Cancel number done ∷ [])
 keeps-cancel_done v number r here deeds done is late made =
     let v' : ReceivingView = record v { deeds = deeds; receives = set v.receives number (has_cancelled r) } in
     subst (λ (b : Bool). Keeps v v' (Cancel number b ∷ [])) (sym is)
-    (keeps-cancelled v number r here deeds (subst (λ (b : Bool). deeds ≡ deeds_after v.deeds (Cancel number b)) is made) (sym is ∙ late))
+    (keeps-cancelled v number r here deeds
+    (subst (λ (b : Bool). deeds ≡ deeds_after v.deeds (Cancel number b)) is made) (sym is ∙ late))
 
 pub keeps-cancel_late : (v : ReceivingView) (number : ℕ) (deeds : List Deed) (done : Bool)
     → done ≡ false → done ≡ not (list_any (is_of_receive number) (matched_pairs (history_of v.deeds)))

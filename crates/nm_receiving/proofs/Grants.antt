@@ -1,5 +1,6 @@
 -- The grants of a sender: one more, and one that changes.
-use Rattle.std.proofs.Common.{◌≡◌, ◌≢◌, ℕ, ◌<◌, Bool, true, false, cond, is_some, nat_eq, Option, Some, None, List, [], ◌∷◌, ◌++◌}
+use Rattle.std.proofs.Common.{◌≡◌, ◌≢◌, ℕ, ◌<◌, Bool, true, false, cond, is_some, nat_eq, Option, Some, None, List}
+use Rattle.std.proofs.Common.{[], ◌∷◌, ◌++◌}
 use Rattle.std.proofs.Common.{length, get_or, refl, sym, ◌∙◌, ap, subst, ◌⊎◌, inl, inr}
 use Rattle.std.specs.Cmp.{nat_eq_equiv}
 use Rattle.std.specs.List.{All, IsDistinct}
@@ -28,9 +29,6 @@ Row = List (ℕ × Granted)
 pub self : (n : ℕ) → nat_eq n n ≡ true
 self n = grind (arith, nat_tests)
 
-pub differs : (m n : ℕ) → m ≢ n → nat_eq m n ≡ false
-differs m n other = grind (arith, nat_tests)
-
 -- a grant that was there still is
 pub grant_still : (row more : Row) (n : ℕ) (g : Granted) → grant_in row n ≡ Some g → grant_in (row ++ more) n ≡ Some g
 grant_still [] more n g is = absurd (let h : ⊥ = cc in h)
@@ -58,10 +56,12 @@ pub once_push : (row : Row) (n : ℕ) (g : Granted) → grant_in row n ≡ None 
     → IsDistinct nat_eq (keys_of (row ++ (n, g) ∷ []))
 once_push row n g none once =
     subst (λ (ks : List ℕ). IsDistinct nat_eq ks) (sym (keys_push row n g))
-    (IsDistinct-push nat_eq_equiv (keys_of row) n once (sym (is_some-lookup (nat_eq n) row) ∙ ap (λ (o : Option Granted). is_some o) none))
+    (IsDistinct-push nat_eq_equiv (keys_of row) n once (sym (is_some-lookup (nat_eq n) row)
+    ∙ ap (λ (o : Option Granted). is_some o) none))
 
 -- a grant stands among the others
-pub grant_among : (P : ℕ × Granted → Type 0) (row : Row) (n : ℕ) (g : Granted) → All P row → grant_in row n ≡ Some g → P (n, g)
+pub grant_among : (P : ℕ × Granted → Type 0) (row : Row) (n : ℕ) (g : Granted) → All P row → grant_in row n ≡ Some g →
+    P (n, g)
 grant_among P row n g all is =
     let at = place_from_lookup (nat_eq n) row g is in
     let key : n ≡ at.1 = equal n at.1 at.3 in
@@ -74,10 +74,12 @@ grant_among P row n g all is =
 pub grant_set : (row : Row) (n : ℕ) (g w : Granted) → grant_in row n ≡ Some g → (k : ℕ)
     → grant_in (set_value (nat_eq n) row w) k ≡ cond (nat_eq n k) (Some w) (grant_in row k)
 grant_set row n g w was k =
-    let one : (x y : ℕ) → nat_eq n x ≡ true → nat_eq n y ≡ nat_eq x y = λ x y h. ap (λ (k : ℕ). nat_eq k y) (equal n x h) in
+    let one : (x y : ℕ) → nat_eq n x ≡ true → nat_eq n y ≡ nat_eq x y = λ x y h. ap (λ (k : ℕ). nat_eq k y)
+    (equal n x h) in
     lookup-set_value nat_eq_equiv (nat_eq n) one k w row (ap (λ (o : Option Granted). is_some o) was)
 
-pub all_set : (P : ℕ × Granted → Type 0) (test : ℕ → Bool) (row : Row) (w : Granted) → ((k : ℕ) → test k ≡ true → P (k, w))
+pub all_set : (P : ℕ × Granted → Type 0) (test : ℕ → Bool) (row : Row) (w : Granted) →
+    ((k : ℕ) → test k ≡ true → P (k, w))
     → All P row → All P (set_value test row w)
 all_set P test [] w new all = all
 all_set P test (e ∷ row) w new all = by (test e.0) refl (all_set P test row w new)
@@ -85,10 +87,12 @@ all_set P test (e ∷ row) w new all = by (test e.0) refl (all_set P test row w 
     by : (b : Bool) → test e.0 ≡ b → (All P row → All P (set_value test row w))
         → All P (cond (test e.0) ((e.0, w) ∷ row) (e ∷ set_value test row w))
     by true is later = rw is (All-cons P (e.0, w) row (new e.0 is) (All-tail P e row all))
-    by false is later = rw is (All-cons P e (set_value test row w) (All-head P e row all) (later (All-tail P e row all)))
+    by false is later = rw is (All-cons P e (set_value test row w) (All-head P e row all)
+        (later (All-tail P e row all)))
 
 -- the grants after a receive took a message, if it took one
-pub granted_new : (grants : List Row) (a : Arrival) → is_ask a.env.how ≡ true → a.env.from < length grants → (from : ℕ) → from ≡ a.env.from
+pub granted_new : (grants : List Row) (a : Arrival) → is_ask a.env.how ≡ true → a.env.from < length grants →
+    (from : ℕ) → from ≡ a.env.from
     → get_or (grants_after grants a) from [] ≡ get_or grants from [] ++ (a.n, fresh a.env.len) ∷ []
 granted_new grants a how inside from same =
     let row : Row = get_or grants a.env.from [] ++ (a.n, fresh a.env.len) ∷ [] in
@@ -101,7 +105,8 @@ Granted_now grants taken from =
     (a : Arrival) × (taken ≡ Some a) × (is_ask a.env.how ≡ true) × (from ≡ a.env.from)
     × (get_or (grants_with grants taken) from [] ≡ get_or grants from [] ++ (a.n, fresh a.env.len) ∷ [])
 
-pub granted_cases : (grants : List Row) (taken : Option Arrival) (from : ℕ) → ((a : Arrival) → taken ≡ Some a → a.env.from < length grants)
+pub granted_cases : (grants : List Row) (taken : Option Arrival) (from : ℕ) →
+    ((a : Arrival) → taken ≡ Some a → a.env.from < length grants)
     → (get_or (grants_with grants taken) from [] ≡ get_or grants from []) ⊎ Granted_now grants taken from
 granted_cases grants None from inside = inl refl
 granted_cases grants (Some a) from inside = by (cases_Bool (is_ask a.env.how)) (cases_eq from a.env.from)
@@ -109,7 +114,8 @@ granted_cases grants (Some a) from inside = by (cases_Bool (is_ask a.env.how)) (
     by : (is_ask a.env.how ≡ true) ⊎ (is_ask a.env.how ≡ false) → (from ≡ a.env.from) ⊎ (from ≡ a.env.from → ⊥)
         → (get_or (grants_after grants a) from [] ≡ get_or grants from []) ⊎ Granted_now grants (Some a) from
     by (inr eager) place =
-        let is : grants_after grants a ≡ grants = rw eager refl in inl (ap (λ (rows : List Row). get_or rows from []) is)
+        let is : grants_after grants a ≡ grants = rw eager refl in
+        inl (ap (λ (rows : List Row). get_or rows from []) is)
     by (inl how) (inl same) = inr (a, refl, how, same, granted_new grants a how (inside a refl) from same)
     by (inl how) (inr differ) =
         let row : Row = get_or grants a.env.from [] ++ (a.n, fresh a.env.len) ∷ [] in

@@ -17,16 +17,19 @@ use Rattle.nm_receiving.specs.Receipts.{ReceivingView, stream_of}
 use Rattle.nm_receiving.specs.Steps.{streams_of}
 use Rattle.nm_receiving.proofs.Beginning.{stream_at, streams_length}
 use Rattle.nm_receiving.proofs.Coming.{newcomer}
-use Rattle.nm_receiving.proofs.Lists.{eqb_other, eqb_same, find-first_more, find-none_more, some_from}
+use Rattle.nm_receiving.proofs.Lists.{find-first_more, find-none_more, some_from}
 use Rattle.nm_receiving.proofs.TablesCome.{AreLonger}
+use Rattle.nm_facts.proofs.Numbers.{unequal, eq_true}
 
 -- one stream changed, and no other
 module _ (old new : Joining) (from : ℕ) (s : Stream) (sizes : new.sizes ≡ old.sizes) (inside : from < old.sizes.ranks)
-    (changed : stream_from new from ≡ s) (others : (other : ℕ) → other ≢ from → stream_from new other ≡ stream_from old other) where
+    (changed : stream_from new from ≡ s) (others : (other : ℕ) → other ≢ from →
+    stream_from new other ≡ stream_from old other) where
   ranks : new.sizes.ranks ≡ old.sizes.ranks
   ranks = ap (λ (z : Sizes). z.ranks) sizes
 
-  changed_at : (k : ℕ) → k < old.sizes.ranks → (k ≡ from) ⊎ (k ≡ from → ⊥) → stream_from new k ≡ get_or (set (streams_of old) from s) k nothing_came
+  changed_at : (k : ℕ) → k < old.sizes.ranks → (k ≡ from) ⊎ (k ≡ from → ⊥) → stream_from new k ≡ get_or
+      (set (streams_of old) from s) k nothing_came
   changed_at k below (inl same) =
       ap (λ (j : ℕ). stream_from new j) same ∙ changed
       ∙ sym (ap (λ (j : ℕ). get_or (set (streams_of old) from s) j nothing_came) same
@@ -47,14 +50,17 @@ module _ (old new : Joining) (from : ℕ) (s : Stream) (sizes : new.sizes ≡ ol
       (omega (arith, inside_old, streams_length old, length-set (streams_of old) from s))))
 
 -- room alone changes no stream
-pub room_same : (old new : Joining) (from : ℕ) → MakesRoom old new from → (other : ℕ) → stream_from new other ≡ stream_from old other
+pub room_same : (old new : Joining) (from : ℕ) → MakesRoom old new from →
+    (other : ℕ) → stream_from new other ≡ stream_from old other
 room_same old new from room other = by (cases_eq other from)
   where
     by : (other ≡ from) ⊎ (other ≡ from → ⊥) → stream_from new other ≡ stream_from old other
-    by (inl same) = ap (λ (j : ℕ). stream_from new j) same ∙ room.same.same ∙ ap (λ (j : ℕ). stream_from old j) (sym same)
+    by (inl same) = ap (λ (j : ℕ). stream_from new j) same ∙ room.same.same ∙ ap (λ (j : ℕ). stream_from old j)
+        (sym same)
     by (inr differ) = ap (λ (r : Received). r.stream) (room.others other differ)
 
-pub streams_same : (old new : Joining) → new.sizes ≡ old.sizes → ((other : ℕ) → stream_from new other ≡ stream_from old other)
+pub streams_same : (old new : Joining) → new.sizes ≡ old.sizes →
+    ((other : ℕ) → stream_from new other ≡ stream_from old other)
     → streams_of new ≡ streams_of old
 streams_same old new sizes same =
     let ranks : new.sizes.ranks ≡ old.sizes.ranks = ap (λ (z : Sizes). z.ranks) sizes in
@@ -86,7 +92,7 @@ module _ (v : ReceivingView) (a : Arrival) (bytes : List ℕ) (inside : a.env.fr
   begun_joined = ap (λ (s : Stream). message_of s a.n) begun_here
       ∙ find-first_more (λ (m : Incoming). m.n == a.n) s1.messages (Some m1)
       (find-lacks a.n s1.messages (Lacks-below a.n 0 s1.count s1.messages (omega (arith, next)) right.numbered))
-      (λ x is. let same : m1 ≡ x = cc in eqb_same x.n a.n (ap (λ (x : Incoming). x.n) (sym same) ∙ sym next))
+      (λ x is. let same : m1 ≡ x = cc in eq_true x.n a.n (ap (λ (x : Incoming). x.n) (sym same) ∙ sym next))
 
   pub begun_missing : missing (get_or (set v.streams a.env.from s2) a.env.from nothing_came) ≡ a.env.len - length bytes
   begun_missing = ap missing begun_here ∙ omega (arith, missing-begun s1 a.env.len bytes, finished)
@@ -100,10 +106,11 @@ module _ (v : ReceivingView) (a : Arrival) (bytes : List ℕ) (inside : a.env.fr
       others = λ k differ. ap (λ (s : Stream). message_of s k) begun_here
           ∙ find-none_more (λ (m : Incoming). m.n == k) s1.messages (Some m1)
           (λ x is. let same : m1 ≡ x = cc in
-          eqb_other x.n k (λ is_k. differ (sym is_k ∙ ap (λ (x : Incoming). x.n) (sym same) ∙ sym next)));
+          unequal x.n k (λ is_k. differ (sym is_k ∙ ap (λ (x : Incoming). x.n) (sym same) ∙ sym next)));
       finished = finished;
       asked = λ how. absurd (true≢false (sym how ∙ eager));
-      eager = λ _. some_from (IsJoined (newcomer a)) (message_of (get_or (set v.streams a.env.from s2) a.env.from nothing_came) a.n) m1 begun_joined
+      eager = λ _. some_from (IsJoined (newcomer a))
+          (message_of (get_or (set v.streams a.env.from s2) a.env.from nothing_came) a.n) m1 begun_joined
           (record { len = refl; whole = λ whole. absurd (true≢false (sym whole)) });
     };
   }
@@ -137,8 +144,10 @@ module _ (v : ReceivingView) (a : Arrival) (inside : a.env.from < length v.strea
   }
 
 -- one stream changed by a step
-pub stream_stepped : (old new : Joining) (from : ℕ) (step : Stream → Stream) → new.sizes ≡ old.sizes → from < old.sizes.ranks
-    → stream_from new from ≡ step (stream_from old from) → ((other : ℕ) → other ≢ from → stream_from new other ≡ stream_from old other)
+pub stream_stepped : (old new : Joining) (from : ℕ) (step : Stream → Stream) → new.sizes ≡ old.sizes →
+    from < old.sizes.ranks
+    → stream_from new from ≡ step (stream_from old from) →
+    ((other : ℕ) → other ≢ from → stream_from new other ≡ stream_from old other)
     → streams_of new ≡ set (streams_of old) from (step (get_or (streams_of old) from nothing_came))
 stream_stepped old new from step sizes inside changed others =
     stream_changed old new from (step (stream_from old from)) sizes inside changed others

@@ -26,23 +26,24 @@ use Rattle.nm_receiving.proofs.Dues.{pair}
 use Rattle.nm_receiving.proofs.Events.{right-one, right-two, unstamp-one, unstamp-two}
 use Rattle.nm_receiving.proofs.Facts.{arrived_from, empty_more}
 use Rattle.nm_receiving.proofs.Grow.{at, happened_later, happened_now, happened_still, taken_now}
-use Rattle.nm_receiving.proofs.Lists.{eqb_same}
 use Rattle.nm_receiving.proofs.Marking.{marked, stood-marked}
 use Rattle.nm_receiving.proofs.Stood.{Stood, begun, is_whole_at, received_of, stood-begun, stood_of}
+use Rattle.nm_facts.proofs.Numbers.{eq_true}
 
 -- a receive begins with the event w, whatever the stamp
-pub record IsBegin (v : ReceivingView) (w : Happened) (d : Deed) (number cap : ℕ) (taken : Option Arrival) : Type 0 where
-  pub done : v.deeds ++ d ∷ [] ≡ deeds_after v.deeds w
-  pub no_arrival : arrival_of w ≡ None
-  pub receive : receive_of w ≡ Some number
-  pub not_whole : (from n : ℕ) → is_whole from n w ≡ false
-  pub not_cancel : (k : ℕ) → is_cancel k w ≡ false
-  pub next : number ≡ length v.receives
-  pub pair_made :
-      (h : List Event) → AreReceived v h → AreRight v.sizes.ranks [] h →
-      new_pair h (matched_pairs h) w ≡ option_map (pair number cap) taken
-  pub right :
-      (h : List Event) → AreReceived v h → AreRight v.sizes.ranks [] h → IsRightAt v.sizes.ranks h w
+pub record IsBegin (v : ReceivingView) (w : Happened) (d : Deed) (number cap : ℕ) (taken : Option Arrival) : Type 0
+  where
+    pub done : v.deeds ++ d ∷ [] ≡ deeds_after v.deeds w
+    pub no_arrival : arrival_of w ≡ None
+    pub receive : receive_of w ≡ Some number
+    pub not_whole : (from n : ℕ) → is_whole from n w ≡ false
+    pub not_cancel : (k : ℕ) → is_cancel k w ≡ false
+    pub next : number ≡ length v.receives
+    pub pair_made :
+        (h : List Event) → AreReceived v h → AreRight v.sizes.ranks [] h →
+        new_pair h (matched_pairs h) w ≡ option_map (pair number cap) taken
+    pub right :
+        (h : List Event) → AreReceived v h → AreRight v.sizes.ranks [] h → IsRightAt v.sizes.ranks h w
 
 -- the message came from a rank of the run, and is not whole if it has no bytes and was asked for
 pub record MayBegin (v : ReceivingView) (a : Arrival) (r : Receipt) : Type 0 where
@@ -57,6 +58,7 @@ pub right-whole : (ranks : ℕ) (h : List Event) (from n : ℕ) → happened (is
 right-whole ranks h from n not_yet arrived taken = record {
   numbers = tt;
   matches = tt;
+  claims = tt;
   cancels = tt;
   wholes = (not_yet, arrived, OnTrue_from (happened (is_asking from n) h) (is_taken h from n ≡ true) taken);
   ends = tt;
@@ -73,7 +75,8 @@ module _ (v : ReceivingView) (w : Happened) (d : Deed) (number cap : ℕ) (taken
   pub grown : (h : List Event) (s : ℕ) → AreReceived v h → AreRight v.sizes.ranks [] h
       → matched_pairs (h ++ at s w ∷ []) ≡ matched_pairs h ++ option_to_list (option_map (pair number cap) taken)
   grown h s received right =
-      matched_pairs-push h (at s w) ∙ ap (λ (o : Option Pair). matched_pairs h ++ option_to_list o) (begins.pair_made h received right)
+      matched_pairs-push h (at s w) ∙ ap (λ (o : Option Pair). matched_pairs h ++ option_to_list o)
+      (begins.pair_made h received right)
 
   pub begun_stood : (h : List Event) (s : ℕ) → AreReceived v h → AreRight v.sizes.ranks [] h
       → ((a : Arrival) → taken ≡ Some a → a.env.from < length v.grants) → Stood v1 (h ++ at s w ∷ [])
@@ -90,7 +93,8 @@ keeps-begun_none v w d number cap begins h events happens received right =
       received_of (begun v d cap None) (h ++ at s w ∷ [])
           (begun_stood v w d number cap None begins h s received right (λ a is. absurd (let h' : ⊥ = cc in h')))
           (empty_more h (h ++ at s w ∷ []) None (grown v w d number cap None begins h s received right)
-          (λ from n. happened_later (is_whole from n) h (at s w ∷ [])) (λ q is. absurd (let h' : ⊥ = cc in h')) received.empty),
+          (λ from n. happened_later (is_whole from n) h (at s w ∷ [])) (λ q is. absurd (let h' : ⊥ = cc in h'))
+          received.empty),
       right-one v.sizes.ranks h (at s w) (begins.right h received right),
     ))
     happens
@@ -114,7 +118,8 @@ module _ (v : ReceivingView) (w : Happened) (d : Deed) (number cap : ℕ) (a : A
   plain bytes h s received right = (
     received_of w1 (h ++ at s w ∷ [])
         (begun_stood v w d number cap (Some a) begins h s received right inside)
-        (empty_more h (h ++ at s w ∷ []) (Some (pair number cap a)) (grown v w d number cap (Some a) begins h s received right)
+        (empty_more h (h ++ at s w ∷ []) (Some (pair number cap a))
+        (grown v w d number cap (Some a) begins h s received right)
         (λ i k. happened_later (is_whole i k) h (at s w ∷ []))
         (λ q is empty. let same : pair number cap a ≡ q = cc in
         absurd (true≢false (sym empty ∙ ap (λ (x : Pair). is_empty_ask x.arrival) (sym same) ∙ bytes))) received.empty),
@@ -134,7 +139,8 @@ module _ (v : ReceivingView) (w : Happened) (d : Deed) (number cap : ℕ) (a : A
       let pairs2 : matched_pairs (h1 ++ x ∷ []) ≡ matched_pairs h ++ option_to_list (Some (pair number cap a)) =
       matched_pairs-push_other h1 x refl ∙ pairs1 in
       let here2 : happened (is_whole from n) (h1 ++ x ∷ []) ≡ true =
-      happened_now (is_whole from n) h1 x (ap (λ (b : Bool). b && n == n) (eqb_same from from refl) ∙ eqb_same n n refl) in
+      happened_now (is_whole from n) h1 x (ap (λ (b : Bool). b && n == n) (eq_true from from refl) ∙ eq_true n n refl)
+      in
       let there : message_of h from n ≡ Some r.arrival =
       sym (received.messages from n) ∙ ap (λ (o : Option Receipt). option_map (λ m. m.arrival) o) may.here in
       let not_yet : happened (is_whole from n) h1 ≡ false =
@@ -145,7 +151,8 @@ module _ (v : ReceivingView) (w : Happened) (d : Deed) (number cap : ℕ) (a : A
             (empty_more h (h1 ++ x ∷ []) (Some (pair number cap a)) pairs2
             (λ i k was. happened_later (is_whole i k) h1 (x ∷ []) (happened_later (is_whole i k) h (e ∷ []) was))
             (λ q is _. let same : pair number cap a ≡ q = cc in
-            subst (λ (y : Pair). happened (is_whole y.arrival.env.from y.arrival.n) (h1 ++ x ∷ []) ≡ true) same here2) received.empty)),
+            subst (λ (y : Pair). happened (is_whole y.arrival.env.from y.arrival.n) (h1 ++ x ∷ []) ≡ true) same here2)
+            received.empty)),
         right-two v.sizes.ranks h e x (begins.right h received right)
             (right-whole v.sizes.ranks h1 from n not_yet
             (happened_later (is_arrival from n) h (e ∷ []) (arrived_from h from n r.arrival there))
@@ -158,21 +165,27 @@ module _ (v : ReceivingView) (w : Happened) (d : Deed) (number cap : ℕ) (a : A
       Goal : ReceivingView → Type 0
       Goal v' = AreReceived v' (h ++ events) × AreRight v.sizes.ranks h events
 
-      by : (b : Bool) → is_empty_ask a ≡ b → AreReceived (record w1 { receipts = rows_after v.receipts a }) (h ++ events) × AreRight v.sizes.ranks h events
+      by : (b : Bool) → is_empty_ask a ≡ b → AreReceived (record w1 { receipts = rows_after v.receipts a })
+          (h ++ events) × AreRight v.sizes.ranks h events
       by true is =
-          subst (λ (rows : List (List Receipt)). AreReceived (record w1 { receipts = rows }) (h ++ events) × AreRight v.sizes.ranks h events)
+          subst (λ (rows : List (List Receipt)). AreReceived (record w1 { receipts = rows }) (h ++ events)
+          × AreRight v.sizes.ranks h events)
           (sym (ap (λ (b : Bool). cond b (rows_with_whole v.receipts from n) v.receipts) is))
-          (unstamp-two (λ events. AreReceived (marked w1 from n) (h ++ events) × AreRight v.sizes.ranks h events) events w (Whole from n)
+          (unstamp-two (λ events. AreReceived (marked w1 from n) (h ++ events) × AreRight v.sizes.ranks h events)
+          events w (Whole from n)
           (λ s t. empty is h s t received right) (happens ∙ ap (λ (b : Bool). w ∷ whole_if b from n) is))
       by false is =
-          subst (λ (rows : List (List Receipt)). AreReceived (record w1 { receipts = rows }) (h ++ events) × AreRight v.sizes.ranks h events)
+          subst (λ (rows : List (List Receipt)). AreReceived (record w1 { receipts = rows }) (h ++ events)
+          × AreRight v.sizes.ranks h events)
           (sym (ap (λ (b : Bool). cond b (rows_with_whole v.receipts from n) v.receipts) is))
           (unstamp-one (λ events. AreReceived w1 (h ++ events) × AreRight v.sizes.ranks h events) events w
           (λ s. plain is h s received right) (happens ∙ ap (λ (b : Bool). w ∷ whole_if b from n) is))
 
 -- a receive, and the message that it takes, if it takes one
-pub keeps-begun : (v : ReceivingView) (w : Happened) (d : Deed) (number cap : ℕ) (taken : Option Arrival) → IsBegin v w d number cap taken
+pub keeps-begun : (v : ReceivingView) (w : Happened) (d : Deed) (number cap : ℕ) (taken : Option Arrival) →
+    IsBegin v w d number cap taken
     → ((a : Arrival) → taken ≡ Some a → (r : Receipt) × MayBegin v a r)
     → Keeps v (record (begun v d cap taken) { receipts = rows_with v.receipts taken }) (w ∷ taken_events taken)
 keeps-begun v w d number cap None begins may = keeps-begun_none v w d number cap begins
-keeps-begun v w d number cap (Some a) begins may = let m = may a refl in keeps-begun_some v w d number cap a m.0 begins m.1
+keeps-begun v w d number cap (Some a) begins may = let m = may a refl in
+    keeps-begun_some v w d number cap a m.0 begins m.1

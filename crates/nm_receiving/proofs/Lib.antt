@@ -1,33 +1,33 @@
-pub mod Answering
-pub mod Arriving
-pub mod Beginning
-pub mod CameLemmas
-pub mod Cancelling
-pub mod Changing
-pub mod Coming
-pub mod Drawing
-pub mod Dues
-pub mod Events
+mod Answering
+mod Arriving
+mod Beginning
+mod CameLemmas
+mod Cancelling
+mod Changing
+mod Coming
+mod Drawing
+mod Dues
+mod Events
 pub mod Facts
-pub mod Finishing
-pub mod Goings
-pub mod Grants
+mod Finishing
+mod Goings
+mod Grants
 pub mod Grow
-pub mod Joinings
-pub mod Keeping
+mod Joinings
+mod Keeping
 pub mod Lists
-pub mod Marking
-pub mod Packets
-pub mod Results
-pub mod Rows
-pub mod Starting
-pub mod Told
-pub mod Stood
-pub mod Tables
-pub mod TablesCarry
-pub mod TablesCome
-pub mod TablesMark
-pub mod TablesPiece
-pub mod TablesRest
-pub mod Wholes
-pub mod Taking
+mod Marking
+mod Packets
+mod Results
+mod Rows
+mod Starting
+mod Told
+mod Stood
+mod Tables
+mod TablesCarry
+mod TablesCome
+mod TablesMark
+mod TablesPiece
+mod TablesRest
+mod Wholes
+mod Taking

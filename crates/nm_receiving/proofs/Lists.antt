@@ -1,23 +1,20 @@
 -- Elements of lists and of rows, searches, and what tests say.
-use Rattle.std.specs.Prelude.{IsSome, IsSomeAnd}
+use Rattle.std.specs.Prelude.{IsSomeAnd}
 use Rattle.std.proofs.Common.{◌≡◌, ◌≢◌, ℕ, ◌<◌, ◌≤◌, ◌==◌, zero, suc, Bool, true, false, ◌||◌, cond}
-use Rattle.std.proofs.Common.{Option, Some, None, List, [], ◌∷◌, ◌++◌, length, get_or, refl, sym, ◌∙◌, ap, subst, ⊎_elim}
+use Rattle.std.proofs.Common.{Option, Some, None, List, [], ◌∷◌, ◌++◌, length, get_or, refl, sym, ◌∙◌, ap, subst}
+use Rattle.std.proofs.Common.{⊎_elim}
 use Rattle.std.proofs.Common.{arith, length-append, append-nil}
-use Rattle.std.specs.List.{find, list_any, cons_option, slice_get, sum_by}
-use Rattle.std.specs.Option.{option_map, option_or, option_to_list}
+use Rattle.std.specs.List.{find, list_any, slice_get, sum_by}
+use Rattle.std.specs.Option.{option_or, option_to_list}
 use Rattle.std.proofs.Math.ListN.{set}
-use Rattle.std.proofs.lemmas.Bool.{cases_lt, false≢true, true≢false, ne_eqb, eq-eqb}
+use Rattle.std.proofs.lemmas.Bool.{cases_lt}
 use Rattle.std.proofs.lemmas.List.{get_or-set_same, get_or-set_other, get_or_past}
 use Rattle.std.proofs.lemmas.List.Folds.{find-append}
 use Rattle.std.proofs.lemmas.List.Sums.{sum_by-cons}
 use Rattle.std.proofs.lemmas.Option.{slice_get_past}
 use Rattle.nm_protocol.proofs.Basic.{or_true}
-
--- an element of the front, and the one behind it
-pub slice_get-front : {X : Type 0} (xs ys : List X) (k : ℕ) → k < length xs → slice_get (xs ++ ys) k ≡ slice_get xs k
-slice_get-front [] ys k below = absurd (omega arith)
-slice_get-front (x ∷ xs) ys zero below = refl
-slice_get-front (x ∷ xs) ys (suc k) below = slice_get-front xs ys k (omega arith)
+use Rattle.nm_facts.proofs.Lists.{get_front}
+use Rattle.nm_match.proofs.NameLemmas.{or_none}
 
 pub slice_get-last : {X : Type 0} (xs : List X) (x : X) (k : ℕ) → k ≡ length xs → slice_get (xs ++ x ∷ []) k ≡ Some x
 slice_get-last [] x zero same = refl
@@ -26,72 +23,44 @@ slice_get-last (y ∷ xs) x zero same = absurd (omega arith)
 slice_get-last (y ∷ xs) x (suc k) same = slice_get-last xs x k (omega arith)
 
 -- at each other place a longer list is as the shorter one
-pub slice_get-push_other : {X : Type 0} (xs : List X) (x : X) (k : ℕ) → k ≢ length xs → slice_get (xs ++ x ∷ []) k ≡ slice_get xs k
+pub slice_get-push_other : {X : Type 0} (xs : List X) (x : X) (k : ℕ) → k ≢ length xs →
+    slice_get (xs ++ x ∷ []) k ≡ slice_get xs k
 slice_get-push_other xs x k other = ⊎_elim
-    (λ less. slice_get-front xs (x ∷ []) k less)
+    (λ less. get_front xs (x ∷ []) k less)
     (λ more. slice_get_past (xs ++ x ∷ []) k
     (let beyond : length xs < k = ⊎_elim (λ h. h) (λ h. absurd (other (omega arith))) (cases_lt (length xs) k) in
     omega (arith, length-append xs (x ∷ [])))
     ∙ sym (slice_get_past xs k more))
     (cases_lt k (length xs))
 
-pub slice_get-set_same : {X : Type 0} (xs : List X) (i : ℕ) (x : X) → i < length xs → slice_get (set xs i x) i ≡ Some x
-slice_get-set_same [] i x below = absurd (omega arith)
-slice_get-set_same (y ∷ xs) zero x below = refl
-slice_get-set_same (y ∷ xs) (suc i) x below = slice_get-set_same xs i x (omega arith)
-
-pub slice_get-set_other : {X : Type 0} (xs : List X) (i k : ℕ) (x : X) → k ≢ i → slice_get (set xs i x) k ≡ slice_get xs k
-slice_get-set_other [] i k x differ = refl
-slice_get-set_other (y ∷ xs) zero zero x differ = absurd (differ refl)
-slice_get-set_other (y ∷ xs) zero (suc k) x differ = refl
-slice_get-set_other (y ∷ xs) (suc i) zero x differ = refl
-slice_get-set_other (y ∷ xs) (suc i) (suc k) x differ = slice_get-set_other xs i k x (λ same. differ (ap suc same))
-
 -- the row that was set, and the others
-pub row-same : {X : Type 0} (rows : List (List X)) (i : ℕ) (row : List X) (k : ℕ) → k ≡ i → i < length rows → get_or (set rows i row) k [] ≡ row
-row-same rows i row k same inside = ap (λ (j : ℕ). get_or (set rows i row) j []) same ∙ get_or-set_same rows i row [] inside
+pub row-same : {X : Type 0} (rows : List (List X)) (i : ℕ) (row : List X) (k : ℕ) → k ≡ i → i < length rows →
+    get_or (set rows i row) k [] ≡ row
+row-same rows i row k same inside = ap (λ (j : ℕ). get_or (set rows i row) j []) same
+    ∙ get_or-set_same rows i row [] inside
 
-pub row-other : {X : Type 0} (rows : List (List X)) (i : ℕ) (row : List X) (k : ℕ) → k ≢ i → get_or (set rows i row) k [] ≡ get_or rows k []
+pub row-other : {X : Type 0} (rows : List (List X)) (i : ℕ) (row : List X) (k : ℕ) → k ≢ i →
+    get_or (set rows i row) k [] ≡ get_or rows k []
 row-other rows i row k differ = get_or-set_other rows i k row [] differ
 
 -- a row with an element is inside
-pub row_inside : {X : Type 0} (rows : List (List X)) (i n : ℕ) (x : X) → slice_get (get_or rows i []) n ≡ Some x → i < length rows
+pub row_inside : {X : Type 0} (rows : List (List X)) (i n : ℕ) (x : X) → slice_get (get_or rows i []) n ≡ Some x →
+    i < length rows
 row_inside rows i n x is = ⊎_elim (λ inside. inside)
     (λ past. let none : get_or rows i [] ≡ [] = get_or_past rows i [] past in
     let h : slice_get {X = _} [] n ≡ Some x = subst (λ ys. slice_get ys n ≡ Some x) none is in
     absurd (let h' : ⊥ = cc in h'))
     (cases_lt i (length rows))
 
--- what is said of an element that is there
-pub some_parts : {X : Type 0} (P : X → Type 0) (o : Option X) → IsSomeAnd o P → (x : X) × (o ≡ Some x) × P x
-some_parts P None h = absurd h
-some_parts P (Some x) h = (x, refl, h)
-
 pub some_from : {X : Type 0} (P : X → Type 0) (o : Option X) (x : X) → o ≡ Some x → P x → IsSomeAnd o P
 some_from P o x same holds = rw same holds
-
-pub is_there : {X : Type 0} (o : Option X) → IsSome o → (x : X) × (o ≡ Some x)
-is_there None h = absurd (false≢true h)
-is_there (Some x) h = (x, refl)
-
-pub mapped : {X Y : Type 0} (f : X → Y) (o : Option X) (y : Y) → option_map f o ≡ Some y → (x : X) × (o ≡ Some x) × (f x ≡ y)
-mapped f None y h = absurd (let h' : ⊥ = cc in h')
-mapped f (Some x) y h = (x, refl, cc)
-
-pub mapped_none : {X Y : Type 0} (f : X → Y) (o : Option X) → option_map f o ≡ None → o ≡ None
-mapped_none f None none = refl
-mapped_none f (Some x) none = cc
-
--- a search over one element more
-pub or_nothing : {X : Type 0} (o : Option X) → option_or o None ≡ o
-or_nothing None = refl
-or_nothing (Some x) = refl
 
 pub find-none_more : {X : Type 0} (p : X → Bool) (xs : List X) (o : Option X) → ((x : X) → o ≡ Some x → p x ≡ false)
     → find p (xs ++ option_to_list o) ≡ find p xs
 find-none_more p xs None other = ap (λ ys. find p ys) (append-nil xs)
 find-none_more {X} p xs (Some x) other =
-    find-append p xs (x ∷ []) ∙ ap (λ (b : Bool). option_or (find p xs) (cond b (Some x) None)) (other x refl) ∙ or_nothing (find p xs)
+    find-append p xs (x ∷ []) ∙ ap (λ (b : Bool). option_or (find p xs) (cond b (Some x) None)) (other x refl)
+    ∙ or_none (find p xs)
 
 pub find-first_more : {X : Type 0} (p : X → Bool) (xs : List X) (o : Option X) → find p xs ≡ None
     → ((x : X) → o ≡ Some x → p x ≡ true) → find p (xs ++ option_to_list o) ≡ o
@@ -103,15 +72,6 @@ find-first_more {X} p xs (Some x) none own =
 pub find-still : {X : Type 0} (p : X → Bool) (xs ys : List X) (x : X) → find p xs ≡ Some x → find p (xs ++ ys) ≡ Some x
 find-still {X} p xs ys x is = find-append p xs ys ∙ ap (λ (q : Option X). option_or q (find p ys)) is
 
-pub find_nothing : {X : Type 0} (p : X → Bool) (xs : List X) → list_any p xs ≡ false → find p xs ≡ None
-find_nothing p [] none = refl
-find_nothing {X} p (x ∷ xs) none = by (p x) refl (find_nothing p xs)
-  where
-    by : (b : Bool) → p x ≡ b → (list_any p xs ≡ false → find p xs ≡ None) → cond (p x) (Some x) (find p xs) ≡ None
-    by true is later = absurd (true≢false (sym (ap (λ (b : Bool). b || list_any p xs) is) ∙ none))
-    by false is later = ap (λ (b : Bool). cond b (Some x) (find p xs)) is
-        ∙ later (sym (ap (λ (b : Bool). b || list_any p xs) is) ∙ none)
-
 pub any_from_found : {X : Type 0} (p : X → Bool) (xs : List X) (x : X) → find p xs ≡ Some x → list_any p xs ≡ true
 any_from_found p [] x is = absurd (let h : ⊥ = cc in h)
 any_from_found {X} p (y ∷ xs) x is = by (p y) refl (any_from_found p xs x)
@@ -122,7 +82,8 @@ any_from_found {X} p (y ∷ xs) x is = by (p y) refl (any_from_found p xs x)
         ∙ later (sym (ap (λ (b : Bool). cond b (Some y) (find p xs)) e) ∙ is)
 
 -- what is found is no more than the sum
-pub found-le-sum : {X : Type 0} (f : X → ℕ) (p : X → Bool) (xs : List X) (x : X) → find p xs ≡ Some x → f x ≤ sum_by f xs
+pub found-le-sum : {X : Type 0} (f : X → ℕ) (p : X → Bool) (xs : List X) (x : X) → find p xs ≡ Some x →
+    f x ≤ sum_by f xs
 found-le-sum f p [] x is = absurd (let h : ⊥ = cc in h)
 found-le-sum {X} f p (y ∷ xs) x is = by (p y) refl (found-le-sum f p xs x)
   where
@@ -135,20 +96,9 @@ found-le-sum {X} f p (y ∷ xs) x is = by (p y) refl (found-le-sum f p xs x)
         let below : f x ≤ sum_by f xs = later (sym (ap (λ (b : Bool). cond b (Some y) (find p xs)) e) ∙ is) in
         omega (arith, sum_by-cons f y xs)
 
--- a search for a number that is none of those
-pub eqb_other : (m n : ℕ) → m ≢ n → (m == n) ≡ false
-eqb_other m n differ = ne_eqb m n differ
-
-pub eqb_same : (m n : ℕ) → m ≡ n → (m == n) ≡ true
-eqb_same m n same = eq-eqb m n same
-
--- the option of one if a test passes
-pub one_option : {X : Type 0} (o : Option X) → cons_option o [] ≡ option_to_list o
-one_option None = refl
-one_option (Some x) = refl
-
 -- what passes another test too
-pub any_of_found : {X : Type 0} (p q : X → Bool) (xs : List X) (x : X) → find p xs ≡ Some x → q x ≡ true → list_any q xs ≡ true
+pub any_of_found : {X : Type 0} (p q : X → Bool) (xs : List X) (x : X) → find p xs ≡ Some x → q x ≡ true →
+    list_any q xs ≡ true
 any_of_found p q [] x is passes = absurd (let h : ⊥ = cc in h)
 any_of_found {X} p q (y ∷ xs) x is passes = by (p y) refl (any_of_found p q xs x)
   where
@@ -158,4 +108,5 @@ any_of_found {X} p q (y ∷ xs) x is passes = by (p y) refl (any_of_found p q xs
         let same' : y ≡ x = cc in
         ap (λ (b : Bool). b || list_any q xs) (ap q same' ∙ passes)
     by false e later =
-        ap (λ (b : Bool). q y || b) (later (sym (ap (λ (b : Bool). cond b (Some y) (find p xs)) e) ∙ is) passes) ∙ or_true (q y)
+        ap (λ (b : Bool). q y || b) (later (sym (ap (λ (b : Bool). cond b (Some y) (find p xs)) e) ∙ is) passes)
+        ∙ or_true (q y)

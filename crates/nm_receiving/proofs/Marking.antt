@@ -16,10 +16,13 @@ use Rattle.nm_receiving.specs.Receipts.{ReceivingView, receipts_from, receipt_of
 use Rattle.nm_receiving.specs.Steps.{made_whole, rows_with_whole, with_whole}
 use Rattle.nm_receiving.proofs.Dues.{due-with}
 use Rattle.nm_receiving.proofs.Grow.{at, arrivals_still, happened_now, happened_still}
-use Rattle.nm_receiving.proofs.Grow.{message_still, pair_still, pairs_still, receives_still}
+use Rattle.nm_receiving.proofs.Grow.{message_still, pair_still, pairs_still}
 use Rattle.nm_receiving.proofs.Lists.{row-other, row-same}
-use Rattle.nm_receiving.proofs.Lists.{slice_get-set_other, slice_get-set_same, row_inside, eqb_other, eqb_same}
+use Rattle.nm_receiving.proofs.Lists.{row_inside}
 use Rattle.nm_receiving.proofs.Stood.{Stood, is_whole_at}
+use Rattle.nm_facts.proofs.Numbers.{unequal, eq_true}
+use Rattle.nm_facts.proofs.Lists.{get_set_other, get_set_same}
+use Rattle.nm_history.proofs.AppendLemmas.{receives_still}
 
 -- message n of this rank is whole
 abbrev pub marked : ReceivingView → ℕ → ℕ → ReceivingView
@@ -29,12 +32,13 @@ whole_else : (from n from' n' : ℕ) → (from' ≡ from → n' ≡ n → ⊥) �
 whole_else from n from' n' differ = by (cases_eq from from')
   where
     by : (from ≡ from') ⊎ (from ≡ from' → ⊥) → (from == from' && n == n') ≡ false
-    by (inl same) = ap (λ (b : Bool). b && n == n') (eqb_same from from' same) ∙ eqb_other n n' (λ same'. differ (sym same) (sym same'))
-    by (inr other) = ap (λ (b : Bool). b && n == n') (eqb_other from from' other)
+    by (inl same) = ap (λ (b : Bool). b && n == n') (eq_true from from' same)
+        ∙ unequal n n' (λ same'. differ (sym same) (sym same'))
+    by (inr other) = ap (λ (b : Bool). b && n == n') (unequal from from' other)
 
 whole_self : (from n from' n' : ℕ) → from' ≡ from → n' ≡ n → (from == from' && n == n') ≡ true
 whole_self from n from' n' same same' =
-    ap (λ (b : Bool). b && n == n') (eqb_same from from' (sym same)) ∙ eqb_same n n' (sym same')
+    ap (λ (b : Bool). b && n == n') (eq_true from from' (sym same)) ∙ eq_true n n' (sym same')
 
 module _ (v : ReceivingView) (h : List Event) (stood : Stood v h) (stamp from n : ℕ) (r : Receipt)
     (here : receipt_of v from n ≡ Some r) where
@@ -51,28 +55,32 @@ module _ (v : ReceivingView) (h : List Event) (stood : Stood v h) (stamp from n 
   pub marked_here : receipt_of (marked v from n) from n ≡ Some (made_whole r)
   marked_here =
       ap (λ (xs : List Receipt). slice_get xs n) (row-same v.receipts from (with_whole row n) from refl inside ∙ row_is)
-      ∙ slice_get-set_same row n (made_whole r) (slice_get_within row n r here)
+      ∙ get_set_same row n (made_whole r) (slice_get_within row n r here)
 
   marked_other_n : (k : ℕ) → k ≢ n → receipt_of (marked v from n) from k ≡ receipt_of v from k
   marked_other_n k differ =
       ap (λ (xs : List Receipt). slice_get xs k) (row-same v.receipts from (with_whole row n) from refl inside ∙ row_is)
-      ∙ slice_get-set_other row n k (made_whole r) differ
+      ∙ get_set_other row n k (made_whole r) differ
 
-  pub marked_other : (from' k : ℕ) → (from' ≡ from → k ≡ n → ⊥) → receipt_of (marked v from n) from' k ≡ receipt_of v from' k
+  pub marked_other : (from' k : ℕ) → (from' ≡ from → k ≡ n → ⊥) → receipt_of (marked v from n) from' k
+      ≡ receipt_of v from' k
   marked_other from' k differ = by (cases_eq from' from)
     where
       by : (from' ≡ from) ⊎ (from' ≡ from → ⊥) → receipt_of (marked v from n) from' k ≡ receipt_of v from' k
       by (inl same) =
           ap (λ (j : ℕ). receipt_of (marked v from n) j k) same ∙ marked_other_n k (differ same)
           ∙ ap (λ (j : ℕ). receipt_of v j k) (sym same)
-      by (inr other) = ap (λ (xs : List Receipt). slice_get xs k) (row-other v.receipts from (with_whole row n) from' other)
+      by (inr other) = ap (λ (xs : List Receipt). slice_get xs k)
+          (row-other v.receipts from (with_whole row n) from' other)
 
   pub marked_length : (from' : ℕ) → length (receipts_from (marked v from n) from') ≡ length (receipts_from v from')
   marked_length from' = by (cases_eq from' from)
     where
-      by : (from' ≡ from) ⊎ (from' ≡ from → ⊥) → length (receipts_from (marked v from n) from') ≡ length (receipts_from v from')
+      by : (from' ≡ from) ⊎ (from' ≡ from → ⊥) → length (receipts_from (marked v from n) from') ≡ length
+          (receipts_from v from')
       by (inl same) =
-          ap length (row-same v.receipts from (with_whole row n) from' same inside ∙ row_is) ∙ length-set row n (made_whole r)
+          ap length (row-same v.receipts from (with_whole row n) from' same inside ∙ row_is)
+          ∙ length-set row n (made_whole r)
           ∙ ap (λ (j : ℕ). length (receipts_from v j)) (sym same)
       by (inr other) = ap length (row-other v.receipts from (with_whole row n) from' other)
 
@@ -91,7 +99,8 @@ module _ (v : ReceivingView) (h : List Event) (stood : Stood v h) (stamp from n 
   e = at stamp (Whole from n)
 
   messages_marked : (from' k : ℕ) → P from' k ⊎ (from' ≡ from → k ≡ n → ⊥)
-      → option_map (λ m. m.arrival) (receipt_of (marked v from n) from' k) ≡ option_map (λ m. m.arrival) (receipt_of v from' k)
+      → option_map (λ m. m.arrival) (receipt_of (marked v from n) from' k) ≡ option_map (λ m. m.arrival)
+      (receipt_of v from' k)
   messages_marked from' k (inl same) =
       ap (λ (i : ℕ). option_map (λ m. m.arrival) (receipt_of (marked v from n) i k)) same.0
       ∙ ap (λ (j : ℕ). option_map (λ m. m.arrival) (receipt_of (marked v from n) from j)) same.1
@@ -99,7 +108,8 @@ module _ (v : ReceivingView) (h : List Event) (stood : Stood v h) (stamp from n 
       ∙ sym (ap (λ (o : Option Receipt). option_map (λ m. m.arrival) o) here)
       ∙ ap (λ (j : ℕ). option_map (λ m. m.arrival) (receipt_of v from j)) (sym same.1)
       ∙ ap (λ (i : ℕ). option_map (λ m. m.arrival) (receipt_of v i k)) (sym same.0)
-  messages_marked from' k (inr differ) = ap (λ (o : Option Receipt). option_map (λ m. m.arrival) o) (marked_other from' k differ)
+  messages_marked from' k (inr differ) = ap (λ (o : Option Receipt). option_map (λ m. m.arrival) o)
+      (marked_other from' k differ)
 
   whole_marked : (from' k : ℕ) → P from' k ⊎ (from' ≡ from → k ≡ n → ⊥)
       → is_whole_at (receipt_of (marked v from n) from' k) ≡ happened (is_whole from' k) (h ++ e ∷ [])
@@ -116,10 +126,13 @@ module _ (v : ReceivingView) (h : List Event) (stood : Stood v h) (stamp from n 
   stood-marked = record {
     stands = stands_push v.deeds h e stood.stands;
     arrived = λ from'. marked_length from' ∙ stood.arrived from' ∙ sym (ap length (arrivals_still h e refl from'));
-    messages = λ from' k. messages_marked from' k (place from' k) ∙ stood.messages from' k ∙ sym (message_still h e refl from' k);
+    messages = λ from' k. messages_marked from' k (place from' k) ∙ stood.messages from' k
+        ∙ sym (message_still h e refl from' k);
     whole = λ from' k. whole_marked from' k (place from' k);
     count = stood.count ∙ sym (receives_still h e refl);
-    pairs = λ k. stood.pairs k ∙ sym (pair_still h (h ++ e ∷ []) None (pairs_still h e refl) k (λ q is. absurd (let h' : ⊥ = cc in h')));
+    pairs = λ k. stood.pairs k
+        ∙ sym (pair_still h (h ++ e ∷ []) None (pairs_still h e refl) k (λ q is. absurd (let h' : ⊥ = cc in h')));
     cancelled = λ k. stood.cancelled k ∙ sym (happened_still (is_cancel k) h e refl);
-    due = due-with h (e ∷ []) 0 0 None (pairs_still h e refl) v.grants (drawn_from v) (λ a is. absurd (let h' : ⊥ = cc in h')) stood.due;
+    due = due-with h (e ∷ []) 0 0 None (pairs_still h e refl) v.grants (drawn_from v)
+        (λ a is. absurd (let h' : ⊥ = cc in h')) stood.due;
   }

@@ -1,6 +1,7 @@
 -- How the tables go on by a packet: a message begins, goes on, or is announced.
 use Rattle.std.specs.Prelude.{IfSome, IsSome, is_some}
-use Rattle.std.proofs.Common.{◌≡◌, ℕ, ◌+◌, ◌<◌, ◌≤◌, ◌==◌, Bool, true, false, ◌&&◌, cond, min, nat_le, nat_lt, Option, Some, None, List, [], ◌∷◌, ◌++◌}
+use Rattle.std.proofs.Common.{◌≡◌, ℕ, ◌+◌, ◌<◌, ◌≤◌, ◌==◌, Bool, true, false, ◌&&◌, cond, min, nat_le, nat_lt, Option}
+use Rattle.std.proofs.Common.{Some, None, List, [], ◌∷◌, ◌++◌}
 use Rattle.std.proofs.Common.{length, get_or, map, refl, sym, ◌∙◌, ap, subst, append-nil, arith}
 use Rattle.std.specs.Bool.{then_some}
 use Rattle.std.specs.List.{slice_get}
@@ -10,7 +11,6 @@ use Rattle.std.proofs.Math.Seq.{map-set_same}
 use Rattle.std.proofs.lemmas.Bool.{and_parts, eqb-true, ltb-true, false≢true, true≢false}
 use Rattle.std.proofs.lemmas.List.{get_or-set_other, get_or-set_same, length-set}
 use Rattle.std.proofs.lemmas.Option.{get_or_from_slice_get, same_Some, slice_get_within}
-use Rattle.nm_rndv.proofs.Results.{if_some}
 use Rattle.nm_types.specs.declared.limits.TheConstants.{MAX_PAYLOAD, MAX_TAG, MAX_BODY}
 use Rattle.nm_types.specs.declared.messages.Arrival.{Arrival}
 use Rattle.nm_types.specs.declared.messages.How.TheVariants.{Ask, Eager}
@@ -28,14 +28,16 @@ use Rattle.nm_match.specs.declared.deeds.Deed.{Deed}
 use Rattle.nm_match.specs.declared.deeds.Deed.TheVariants as deed
 use Rattle.nm_match.specs.Deeds.{history_of}
 use Rattle.nm_match.proofs.StandsLemmas.{first_receive-stands}
-use Rattle.nm_eager.specs.Streams.{IsStream, Stream, begun, carried_on, continues, message_of, missing, nothing_came, skipped}
+use Rattle.nm_eager.specs.Streams.{IsStream, Stream, begun, carried_on, continues, message_of, missing, nothing_came}
+use Rattle.nm_eager.specs.Streams.{skipped}
 use Rattle.nm_rndv.specs.Grants.{Granted, fresh, grant_in}
 use Rattle.nm_receiving.specs.declared.receipts.Receipt.{Receipt}
 use Rattle.nm_receiving.specs.declared.receipts.Receive.{Receive}
 use Rattle.nm_receiving.specs.Kept.{AreTables, HasBytes, IsGranted, IsJoined, IsKept}
 use Rattle.nm_receiving.specs.Receipts.{ReceivingView, granted_to, receipt_of, receipts_from, stream_of}
 use Rattle.nm_receiving.specs.Received.{TakesPacket}
-use Rattle.nm_receiving.specs.Steps.{grants_with, has_taken, made_whole, rows_from, rows_with, rows_with_whole, with_taken}
+use Rattle.nm_receiving.specs.Steps.{grants_with, has_taken, made_whole, rows_from, rows_with, rows_with_whole}
+use Rattle.nm_receiving.specs.Steps.{with_taken}
 use Rattle.nm_receiving.proofs.Arriving.{came_may_mark, kept-came, none_granted_yet, receive_caps, row_came}
 use Rattle.nm_receiving.proofs.Grants.{grant_new, granted_new}
 use Rattle.nm_receiving.proofs.Coming.{came, newcomer, taken_by, with_newcomer}
@@ -48,6 +50,7 @@ use Rattle.nm_receiving.proofs.Stood.{stood_of}
 use Rattle.nm_receiving.proofs.TablesCarry.{AreCarried, carried_may_mark, goes_on_here, tables-carried}
 use Rattle.nm_receiving.proofs.TablesMark.{tables-marked}
 use Rattle.nm_receiving.proofs.Taking.{IsAtOnce, IsNext, MayEnd, keeps-came, keeps-marked, marked_if, streams_apart}
+use Rattle.nm_facts.proofs.Options.{if_each}
 
 -- the receive that takes a message is among the receives
 pub taker_inside : (v : ReceivingView) (kept : IsKept v) (a : Arrival) (taker : Option ℕ)
@@ -60,24 +63,33 @@ taker_inside v kept a taker is =
     by : (o : Option post.Post) → first_receive (history_of v.deeds) (matched_pairs (history_of v.deeds)) a.env ≡ o
         → IfSome (option_map (λ p. p.number) o) (λ number. number < length v.receives)
     by None oldest = tt
-    by (Some p) oldest = let had = receive_caps v kept a (Some p) oldest p refl in slice_get_within v.receives p.number had.0 had.1.there
+    by (Some p) oldest = let had = receive_caps v kept a (Some p) oldest p refl in
+        slice_get_within v.receives p.number had.0 had.1.there
 
 -- a receive that takes a message did not end by that
-pub taken_ended : (rs : List Receive) (taker : Option ℕ) (a : Arrival) → map (λ r. r.ended) (with_taken rs taker a) ≡ map (λ r. r.ended) rs
+pub taken_ended : (rs : List Receive) (taker : Option ℕ) (a : Arrival) → map (λ r. r.ended) (with_taken rs taker a)
+    ≡ map (λ r. r.ended) rs
 taken_ended rs None a = refl
 taken_ended rs (Some k) a = by (slice_get rs k) refl
   where
-    by : (o : Option Receive) → slice_get rs k ≡ o → map (λ r. r.ended) (option_map_or (λ r. set rs k (has_taken a r)) o rs) ≡ map (λ r. r.ended) rs
+    by : (o : Option Receive) → slice_get rs k ≡ o →
+        map (λ r. r.ended) (option_map_or (λ r. set rs k (has_taken a r)) o rs) ≡ map (λ r. r.ended) rs
     by None is = refl
     by (Some r) is = map-set_same (λ (r : Receive). r.ended) rs k (has_taken a r) r
         (ap (λ (r : Receive). r.ended) (sym (get_or_from_slice_get rs k r r is)))
 
 -- an eager message begins
-module _ (v : ReceivingView) (kept : IsKept v) (p : Packet) (tag ctx len : ℕ) (head : p.what ≡ what.Head tag ctx len) (sender : p.from < v.sizes.ranks)
-    (goes : continues v.sizes.eager (stream_of v p.from).count (missing (stream_of v p.from)) p.what (length p.payload) ≡ true)
+module _ (v : ReceivingView) (kept : IsKept v) (p : Packet) (tag ctx len : ℕ) (head : p.what ≡ what.Head tag ctx len)
+    (sender : p.from < v.sizes.ranks)
+    (goes : continues v.sizes.eager (stream_of v p.from).count (missing (stream_of v p.from)) p.what
+    (length p.payload) ≡ true)
     (right : IsStream (stream_of v p.from)) (o : Option post.Post) where
   abbrev pub headed : Arrival
-  headed = record { n = length (receipts_from v p.from); env = record { from = p.from; tag = tag; ctx = ctx; len = len; how = Eager } }
+  headed = record {
+    n = length (receipts_from v p.from);
+    env =
+        record { from = p.from; tag = tag; ctx = ctx; len = len; how = Eager };
+  }
 
   abbrev pub head_streams : List Stream
   head_streams = set v.streams p.from (begun (stream_of v p.from) len p.payload)
@@ -88,13 +100,17 @@ module _ (v : ReceivingView) (kept : IsKept v) (p : Packet) (tag ctx len : ℕ) 
   abbrev pub head_view : ReceivingView
   head_view = marked_if is_all (came v head_streams headed (option_map (λ p. p.number) o)) p.from headed.n
 
-  tests : (missing (stream_of v p.from) == 0 && nat_le len v.sizes.eager && nat_le tag MAX_TAG && length p.payload == min MAX_PAYLOAD len) ≡ true
-  tests = subst (λ (w : What). continues v.sizes.eager (stream_of v p.from).count (missing (stream_of v p.from)) w (length p.payload) ≡ true) head goes
+  tests : (missing (stream_of v p.from) == 0 && nat_le len v.sizes.eager && nat_le tag MAX_TAG && length p.payload ==
+      min MAX_PAYLOAD len) ≡ true
+  tests = subst (λ (w : What). continues v.sizes.eager (stream_of v p.from).count (missing (stream_of v p.from)) w
+      (length p.payload) ≡ true) head goes
 
   pub finished : missing (stream_of v p.from) ≡ 0
   finished =
-      let three = and_parts (missing (stream_of v p.from) == 0 && nat_le len v.sizes.eager && nat_le tag MAX_TAG) (length p.payload == min MAX_PAYLOAD len) tests in
-      let two = and_parts (missing (stream_of v p.from) == 0 && nat_le len v.sizes.eager) (nat_le tag MAX_TAG) three.0 in
+      let three = and_parts (missing (stream_of v p.from) == 0 && nat_le len v.sizes.eager && nat_le tag MAX_TAG)
+      (length p.payload == min MAX_PAYLOAD len) tests in
+      let two = and_parts (missing (stream_of v p.from) == 0 && nat_le len v.sizes.eager) (nat_le tag MAX_TAG) three.0
+      in
       let one = and_parts (missing (stream_of v p.from) == 0) (nat_le len v.sizes.eager) two.0 in
       eqb-true (missing (stream_of v p.from)) 0 one.0
 
@@ -128,16 +144,20 @@ module _ (v : ReceivingView) (kept : IsKept v) (p : Packet) (tag ctx len : ℕ) 
             (record { len = refl; whole = λ _. omega (arith, full) });
       }
 
-  pub kept-head : first_receive (history_of v.deeds) (matched_pairs (history_of v.deeds)) headed.env ≡ o → IsKept head_view
+  pub kept-head : first_receive (history_of v.deeds) (matched_pairs (history_of v.deeds)) headed.env ≡ o →
+      IsKept head_view
   kept-head oldest =
-      kept-came v kept head_streams headed o next (begun_longer v headed p.payload inside counted refl finished right) oldest is_all at_once
-      (λ all. came_may_mark v kept head_streams headed o next (begun_longer v headed p.payload inside counted refl finished right) oldest
+      kept-came v kept head_streams headed o next (begun_longer v headed p.payload inside counted refl finished right)
+      oldest is_all at_once
+      (λ all. came_may_mark v kept head_streams headed o next
+      (begun_longer v headed p.payload inside counted refl finished right) oldest
       (λ asked. absurd (false≢true asked)) (λ asked. absurd (false≢true asked)) (complete all)
       (let full : len ≡ length p.payload = eqb-true len (length p.payload) all in
       let left = begun_missing v headed p.payload inside counted refl finished right in
       omega (arith, full, left)))
 
-  pub takes-head : first_receive (history_of v.deeds) (matched_pairs (history_of v.deeds)) headed.env ≡ o → TakesPacket v head_view p
+  pub takes-head : first_receive (history_of v.deeds) (matched_pairs (history_of v.deeds)) headed.env ≡ o →
+      TakesPacket v head_view p
   takes-head oldest h events known count missed happens received right' =
       let number : known.count ≡ headed.n = count ∙ kept.tables.counts p.from in
       keeps-came v head_streams headed o is_all next at_once (receive_caps v kept headed o oldest) h received right'
@@ -147,29 +167,49 @@ module _ (v : ReceivingView) (kept : IsKept v) (p : Packet) (tag ctx len : ℕ) 
       ∙ ap (λ (k : ℕ). Arrive (record { n = k; env = headed.env }) ∷ whole_if is_all p.from k) number)
 
   -- the fields afterwards
-  pub head_is : (arrival : Arrival) (taker : Option ℕ) (whole : Bool) (sizes : Sizes) (deeds : List Deed) (streams : List Stream)
-      (rows : List (List Receipt)) (rs : List Receive) → arrival ≡ headed → taker ≡ option_map (λ p. p.number) o → whole ≡ is_all
+  pub head_is : (arrival : Arrival) (taker : Option ℕ) (whole : Bool) (sizes : Sizes) (deeds : List Deed)
+      (streams : List Stream)
+      (rows : List (List Receipt)) (rs : List Receive) → arrival ≡ headed → taker ≡ option_map (λ p. p.number) o →
+      whole ≡ is_all
       → sizes ≡ v.sizes → deeds ≡ v.deeds ++ deed.Arrive arrival ∷ [] → streams ≡ head_streams
       → rows ≡ set v.receipts p.from (rows_from v.receipts p.from ++ record { arrival = arrival; whole = whole } ∷ [])
       → rs ≡ with_taken v.receives taker arrival
       → ◌≡◌ {A = ReceivingView} head_view
-      (record { sizes = sizes; deeds = deeds; streams = streams; grants = v.grants; receipts = rows; receives = rs; drawn = v.drawn })
+      (record {
+        sizes = sizes;
+        deeds = deeds;
+        streams = streams;
+        grants = v.grants;
+        receipts = rows;
+        receives =
+            rs;
+        drawn = v.drawn;
+      })
   head_is arrival taker whole sizes deeds streams rows rs arr took all sizes_is deeds_is streams_is rows_is rs_is =
       rw (sizes_is, deeds_is, streams_is, rows_is, rs_is, arr, took, all)
-      (ap (λ (gs : List (List (ℕ × Granted))). let w : ReceivingView = record head_view { grants = gs } in w) (same_grants o)
-      ∙ ap (λ (rows : List (List Receipt)). let w : ReceivingView = record head_view { grants = v.grants; receipts = rows } in w)
+      (ap (λ (gs : List (List (ℕ × Granted))). let w : ReceivingView = record head_view { grants = gs } in w)
+      (same_grants o)
+      ∙ ap (λ (rows : List (List Receipt)). let w : ReceivingView =
+      record head_view { grants = v.grants; receipts = rows } in w)
       (sym (row_came v.receipts headed is_all next.receipts refl)))
     where
-      same_grants : (q : Option post.Post) → grants_with v.grants (taken_by (option_map (λ p. p.number) q) headed) ≡ v.grants
+      same_grants : (q : Option post.Post) → grants_with v.grants (taken_by (option_map (λ p. p.number) q) headed)
+          ≡ v.grants
       same_grants None = refl
       same_grants (Some q) = refl
 
 -- a message is announced
-module _ (v : ReceivingView) (kept : IsKept v) (p : Packet) (tag ctx len : ℕ) (ask : p.what ≡ what.Ask tag ctx len) (sender : p.from < v.sizes.ranks)
-    (goes : continues v.sizes.eager (stream_of v p.from).count (missing (stream_of v p.from)) p.what (length p.payload) ≡ true)
+module _ (v : ReceivingView) (kept : IsKept v) (p : Packet) (tag ctx len : ℕ) (ask : p.what ≡ what.Ask tag ctx len)
+    (sender : p.from < v.sizes.ranks)
+    (goes : continues v.sizes.eager (stream_of v p.from).count (missing (stream_of v p.from)) p.what
+    (length p.payload) ≡ true)
     (o : Option post.Post) where
   abbrev pub announced : Arrival
-  announced = record { n = length (receipts_from v p.from); env = record { from = p.from; tag = tag; ctx = ctx; len = len; how = Ask } }
+  announced = record {
+    n = length (receipts_from v p.from);
+    env =
+        record { from = p.from; tag = tag; ctx = ctx; len = len; how = Ask };
+  }
 
   abbrev pub ask_streams : List Stream
   ask_streams = set v.streams p.from (skipped (stream_of v p.from))
@@ -180,12 +220,15 @@ module _ (v : ReceivingView) (kept : IsKept v) (p : Packet) (tag ctx len : ℕ) 
   abbrev pub ask_view : ReceivingView
   ask_view = marked_if is_done (came v ask_streams announced (option_map (λ p. p.number) o)) p.from announced.n
 
-  tests' : (missing (stream_of v p.from) == 0 && nat_le len MAX_BODY && nat_le tag MAX_TAG && length p.payload == 0) ≡ true
-  tests' = subst (λ (w : What). continues v.sizes.eager (stream_of v p.from).count (missing (stream_of v p.from)) w (length p.payload) ≡ true) ask goes
+  tests' : (missing (stream_of v p.from) == 0 && nat_le len MAX_BODY && nat_le tag MAX_TAG && length p.payload == 0)
+      ≡ true
+  tests' = subst (λ (w : What). continues v.sizes.eager (stream_of v p.from).count (missing (stream_of v p.from)) w
+      (length p.payload) ≡ true) ask goes
 
   pub ask_finished : missing (stream_of v p.from) ≡ 0
   ask_finished =
-      let three = and_parts (missing (stream_of v p.from) == 0 && nat_le len MAX_BODY && nat_le tag MAX_TAG) (length p.payload == 0) tests' in
+      let three = and_parts (missing (stream_of v p.from) == 0 && nat_le len MAX_BODY && nat_le tag MAX_TAG)
+      (length p.payload == 0) tests' in
       let two = and_parts (missing (stream_of v p.from) == 0 && nat_le len MAX_BODY) (nat_le tag MAX_TAG) three.0 in
       let one = and_parts (missing (stream_of v p.from) == 0) (nat_le len MAX_BODY) two.0 in
       eqb-true (missing (stream_of v p.from)) 0 one.0
@@ -208,55 +251,78 @@ module _ (v : ReceivingView) (kept : IsKept v) (p : Packet) (tag ctx len : ℕ) 
   }
 
   -- no byte of it is missing where it has none
-  complete_ask : len ≡ 0 → is_some o ≡ true → HasBytes (came v ask_streams announced (option_map (λ p. p.number) o)) (newcomer announced)
+  complete_ask : len ≡ 0 → is_some o ≡ true → HasBytes (came v ask_streams announced (option_map (λ p. p.number) o))
+      (newcomer announced)
       → HasBytes (came v ask_streams announced (option_map (λ p. p.number) o)) (made_whole (newcomer announced))
   complete_ask none some had = record {
     granted = λ _. some_from (IsGranted (made_whole (newcomer announced)))
-        (grant_in (granted_to (came v ask_streams announced (option_map (λ p. p.number) o)) p.from) announced.n) (fresh len) (there o some)
+        (grant_in (granted_to (came v ask_streams announced (option_map (λ p. p.number) o)) p.from) announced.n)
+        (fresh len) (there o some)
         (record { len = refl; bytes = λ _. sym none });
     joined = λ eager. absurd (true≢false eager);
   }
     where
       there : (q : Option post.Post) → is_some q ≡ true
-          → grant_in (granted_to (came v ask_streams announced (option_map (λ p. p.number) q)) p.from) announced.n ≡ Some (fresh len)
+          → grant_in (granted_to (came v ask_streams announced (option_map (λ p. p.number) q)) p.from) announced.n
+          ≡ Some (fresh len)
       there None is = absurd (false≢true is)
       there (Some q) is =
-          ap (λ (row : List (ℕ × Granted)). grant_in row announced.n) (granted_new v.grants announced refl next'.grants p.from refl)
+          ap (λ (row : List (ℕ × Granted)). grant_in row announced.n)
+          (granted_new v.grants announced refl next'.grants p.from refl)
           ∙ grant_new (granted_to v p.from) announced.n (fresh len) (none_granted_yet v kept p.from announced.n refl)
 
-  pub kept-ask : first_receive (history_of v.deeds) (matched_pairs (history_of v.deeds)) announced.env ≡ o → IsKept ask_view
+  pub kept-ask : first_receive (history_of v.deeds) (matched_pairs (history_of v.deeds)) announced.env ≡ o →
+      IsKept ask_view
   kept-ask oldest =
-      kept-came v kept ask_streams announced o next' (skipped_longer v announced inside' refl ask_finished) oldest is_done at_once'
+      kept-came v kept ask_streams announced o next' (skipped_longer v announced inside' refl ask_finished) oldest
+      is_done at_once'
       (λ done. let both = and_parts (len == 0) (is_some o) done in
       came_may_mark v kept ask_streams announced o next' (skipped_longer v announced inside' refl ask_finished) oldest
       (λ _. eqb-true len 0 both.0) (λ _. both.1) (complete_ask (eqb-true len 0 both.0) both.1)
       (skipped_missing v announced inside' refl ask_finished))
 
-  pub takes-ask : first_receive (history_of v.deeds) (matched_pairs (history_of v.deeds)) announced.env ≡ o → TakesPacket v ask_view p
+  pub takes-ask : first_receive (history_of v.deeds) (matched_pairs (history_of v.deeds)) announced.env ≡ o →
+      TakesPacket v ask_view p
   takes-ask oldest h events known count missed happens received right' =
       let number : known.count ≡ announced.n = count ∙ kept.tables.counts p.from in
       let oldest_h = first_receive-stands v.deeds h received.stands announced.env ∙ oldest in
-      keeps-came v ask_streams announced o is_done next' at_once' (receive_caps v kept announced o oldest) h received right' oldest_h events
+      keeps-came v ask_streams announced o is_done next' at_once' (receive_caps v kept announced o oldest) h received
+      right' oldest_h events
       (happens ∙ ap (λ (w : What). packet_events known h p.from w (length p.payload)) ask
-      ∙ ap (λ (q : Option post.Post). Arrive (record { n = known.count; env = announced.env }) ∷ whole_if (len == 0 && is_some q) p.from known.count) oldest_h
+      ∙ ap (λ (q : Option post.Post). Arrive (record { n = known.count; env = announced.env }) ∷ whole_if
+      (len == 0 && is_some q) p.from known.count) oldest_h
       ∙ ap (λ (k : ℕ). Arrive (record { n = k; env = announced.env }) ∷ whole_if is_done p.from k) number)
 
   -- the fields afterwards
-  pub ask_is : (arrival : Arrival) (taker : Option ℕ) (taken : Option Arrival) (sizes : Sizes) (deeds : List Deed) (streams : List Stream)
+  pub ask_is : (arrival : Arrival) (taker : Option ℕ) (taken : Option Arrival) (sizes : Sizes) (deeds : List Deed)
+      (streams : List Stream)
       (grants : List (List (ℕ × Granted))) (rows : List (List Receipt)) (rs : List Receive) → arrival ≡ announced
       → taker ≡ option_map (λ p. p.number) o → taken ≡ taken_by taker arrival
       → sizes ≡ v.sizes → deeds ≡ v.deeds ++ deed.Arrive arrival ∷ [] → streams ≡ ask_streams
       → grants ≡ grants_with v.grants taken
-      → rows ≡ rows_with (set v.receipts p.from (rows_from v.receipts p.from ++ record { arrival = arrival; whole = false } ∷ [])) taken
+      → rows ≡ rows_with (set v.receipts p.from
+      (rows_from v.receipts p.from ++ record { arrival = arrival; whole = false } ∷ [])) taken
       → rs ≡ with_taken v.receives taker arrival
       → ◌≡◌ {A = ReceivingView} ask_view
-      (record { sizes = sizes; deeds = deeds; streams = streams; grants = grants; receipts = rows; receives = rs; drawn = v.drawn })
-  ask_is arrival taker taken sizes deeds streams grants rows rs arr took is sizes_is deeds_is streams_is grants_is rows_is rs_is =
+      (record {
+        sizes = sizes;
+        deeds = deeds;
+        streams = streams;
+        grants = grants;
+        receipts = rows;
+        receives =
+            rs;
+        drawn = v.drawn;
+      })
+  ask_is arrival taker taken sizes deeds streams grants rows rs arr took is sizes_is deeds_is streams_is grants_is
+      rows_is rs_is =
       rw (sizes_is, deeds_is, streams_is, grants_is, rows_is, rs_is, is, arr, took)
-      (ap (λ (rows : List (List Receipt)). let w : ReceivingView = record ask_view { receipts = rows } in w) (same_rows o (len == 0) refl))
+      (ap (λ (rows : List (List Receipt)). let w : ReceivingView = record ask_view { receipts = rows } in w)
+      (same_rows o (len == 0) refl))
     where
       same_rows : (q : Option post.Post) (b : Bool) → (len == 0) ≡ b
-          → cond (len == 0 && is_some q) (rows_with_whole (with_newcomer v.receipts announced) p.from announced.n) (with_newcomer v.receipts announced)
+          → cond (len == 0 && is_some q) (rows_with_whole (with_newcomer v.receipts announced) p.from announced.n)
+          (with_newcomer v.receipts announced)
           ≡ rows_with (with_newcomer v.receipts announced) (taken_by (option_map (λ p. p.number) q) announced)
       same_rows None true is = rw is refl
       same_rows None false is = rw is refl
@@ -264,8 +330,10 @@ module _ (v : ReceivingView) (kept : IsKept v) (p : Packet) (tag ctx len : ℕ) 
       same_rows (Some q) false is = rw is refl
 
 -- an eager message goes on
-module _ (v : ReceivingView) (kept : IsKept v) (p : Packet) (n : ℕ) (more : p.what ≡ what.More n) (sender : p.from < v.sizes.ranks)
-    (goes : continues v.sizes.eager (stream_of v p.from).count (missing (stream_of v p.from)) p.what (length p.payload) ≡ true)
+module _ (v : ReceivingView) (kept : IsKept v) (p : Packet) (n : ℕ) (more : p.what ≡ what.More n)
+    (sender : p.from < v.sizes.ranks)
+    (goes : continues v.sizes.eager (stream_of v p.from).count (missing (stream_of v p.from)) p.what
+    (length p.payload) ≡ true)
     (right : IsStream (stream_of v p.from)) where
   abbrev pub more_streams : List Stream
   more_streams = set v.streams p.from (carried_on (stream_of v p.from) n p.payload)
@@ -279,24 +347,29 @@ module _ (v : ReceivingView) (kept : IsKept v) (p : Packet) (n : ℕ) (more : p.
   abbrev pub more_view : ReceivingView
   more_view = marked_if is_last carried p.from n
 
-  tests'' : (nat_lt 0 (missing (stream_of v p.from)) && n + 1 == (stream_of v p.from).count && length p.payload == min MAX_PAYLOAD (missing (stream_of v p.from))) ≡ true
-  tests'' = subst (λ (w : What). continues v.sizes.eager (stream_of v p.from).count (missing (stream_of v p.from)) w (length p.payload) ≡ true) more goes
+  tests'' : (nat_lt 0 (missing (stream_of v p.from)) && n + 1 == (stream_of v p.from).count && length p.payload ==
+      min MAX_PAYLOAD (missing (stream_of v p.from))) ≡ true
+  tests'' = subst (λ (w : What). continues v.sizes.eager (stream_of v p.from).count (missing (stream_of v p.from)) w
+      (length p.payload) ≡ true) more goes
 
   some_missing : 0 < missing (stream_of v p.from)
   some_missing =
-      let two = and_parts (nat_lt 0 (missing (stream_of v p.from)) && n + 1 == (stream_of v p.from).count) (length p.payload == min MAX_PAYLOAD (missing (stream_of v p.from))) tests'' in
+      let two = and_parts (nat_lt 0 (missing (stream_of v p.from)) && n + 1 == (stream_of v p.from).count)
+      (length p.payload == min MAX_PAYLOAD (missing (stream_of v p.from))) tests'' in
       let one = and_parts (nat_lt 0 (missing (stream_of v p.from))) (n + 1 == (stream_of v p.from).count) two.0 in
       ltb-true 0 (missing (stream_of v p.from)) one.0
 
   counted_last : n + 1 ≡ (stream_of v p.from).count
   counted_last =
-      let two = and_parts (nat_lt 0 (missing (stream_of v p.from)) && n + 1 == (stream_of v p.from).count) (length p.payload == min MAX_PAYLOAD (missing (stream_of v p.from))) tests'' in
+      let two = and_parts (nat_lt 0 (missing (stream_of v p.from)) && n + 1 == (stream_of v p.from).count)
+      (length p.payload == min MAX_PAYLOAD (missing (stream_of v p.from))) tests'' in
       let one = and_parts (nat_lt 0 (missing (stream_of v p.from))) (n + 1 == (stream_of v p.from).count) two.0 in
       eqb-true (n + 1) (stream_of v p.from).count one.1
 
   within : length p.payload ≤ missing (stream_of v p.from)
   within =
-      let two = and_parts (nat_lt 0 (missing (stream_of v p.from)) && n + 1 == (stream_of v p.from).count) (length p.payload == min MAX_PAYLOAD (missing (stream_of v p.from))) tests'' in
+      let two = and_parts (nat_lt 0 (missing (stream_of v p.from)) && n + 1 == (stream_of v p.from).count)
+      (length p.payload == min MAX_PAYLOAD (missing (stream_of v p.from))) tests'' in
       let size = eqb-true (length p.payload) (min MAX_PAYLOAD (missing (stream_of v p.from))) two.1 in
       omega (arith, size)
 
@@ -306,12 +379,15 @@ module _ (v : ReceivingView) (kept : IsKept v) (p : Packet) (n : ℕ) (more : p.
   are_carried : AreCarried v more_streams p.from n p.payload
   are_carried = record {
     streams' = length-set v.streams p.from (carried_on (stream_of v p.from) n p.payload);
-    same = λ i differ. get_or-set_other v.streams p.from i (carried_on (stream_of v p.from) n p.payload) nothing_came differ;
+    same = λ i differ. get_or-set_other v.streams p.from i (carried_on (stream_of v p.from) n p.payload) nothing_came
+        differ;
     here = get_or-set_same v.streams p.from (carried_on (stream_of v p.from) n p.payload) nothing_came inside'';
   }
 
-  pub the_receipt : (r : Receipt) × (receipt_of v p.from n ≡ Some r) × (is_ask r.arrival.env.how ≡ false) × (r.whole ≡ false)
-  the_receipt = goes_on_here v kept.history more_streams p.from n p.payload kept.tables are_carried right counted_last within some_missing
+  pub the_receipt : (r : Receipt) × (receipt_of v p.from n ≡ Some r) × (is_ask r.arrival.env.how ≡ false)
+      × (r.whole ≡ false)
+  the_receipt = goes_on_here v kept.history more_streams p.from n p.payload kept.tables are_carried right counted_last
+      within some_missing
 
   may_end : (h : List Event) → (r : Receipt) × MayEnd carried h p.from n r
   may_end h = (
@@ -324,7 +400,8 @@ module _ (v : ReceivingView) (kept : IsKept v) (p : Packet) (n : ℕ) (more : p.
   )
 
   tables-more : AreTables carried kept.history
-  tables-more = tables-carried v kept.history more_streams p.from n p.payload kept.tables are_carried right counted_last within
+  tables-more = tables-carried v kept.history more_streams p.from n p.payload kept.tables are_carried right
+      counted_last within
 
   pub kept-more : IsKept more_view
   kept-more = by is_last refl
@@ -349,7 +426,8 @@ module _ (v : ReceivingView) (kept : IsKept v) (p : Packet) (n : ℕ) (more : p.
           (goes_on v (marked carried p.from n) kept (x ∷ []) refl
           (keeps-marked carried p.from n true h (x ∷ []) refl received1 kept.right (λ _. may_end h))
           (λ i k. refl)
-          (tables-marked carried h (h ++ x ∷ []) (stood_of carried h received1) p.from n r tables-more (like-push h x refl refl)
+          (tables-marked carried h (h ++ x ∷ []) (stood_of carried h received1) p.from n r tables-more
+          (like-push h x refl refl)
           (carried_may_mark v h more_streams p.from n p.payload kept.tables are_carried right counted_last within
           (eqb-true (missing (stream_of v p.from)) (length p.payload) last) r the_receipt.1 the_receipt.2 name.0)))
 
@@ -364,14 +442,25 @@ module _ (v : ReceivingView) (kept : IsKept v) (p : Packet) (n : ℕ) (more : p.
   more_came = ap (λ (o : Option Receipt). is_some o) the_receipt.1
 
   -- the fields afterwards
-  pub more_is : (last : Bool) (sizes : Sizes) (streams : List Stream) (rows : List (List Receipt)) → last ≡ is_last → sizes ≡ v.sizes
+  pub more_is : (last : Bool) (sizes : Sizes) (streams : List Stream) (rows : List (List Receipt)) → last ≡ is_last →
+      sizes ≡ v.sizes
       → streams ≡ more_streams → rows ≡ cond last (rows_with_whole v.receipts p.from n) v.receipts
       → ◌≡◌ {A = ReceivingView} more_view
-      (record { sizes = sizes; deeds = v.deeds; streams = streams; grants = v.grants; receipts = rows; receives = v.receives; drawn = v.drawn })
+      (record {
+        sizes = sizes;
+        deeds = v.deeds;
+        streams = streams;
+        grants = v.grants;
+        receipts = rows;
+        receives =
+            v.receives;
+        drawn = v.drawn;
+      })
   more_is last sizes streams rows last_is sizes_is streams_is rows_is = rw (sizes_is, streams_is, rows_is, last_is) refl
 
 -- an announced message that a receive takes may be granted
-module _ (v : ReceivingView) (kept : IsKept v) (b : Bool) (arrival : Arrival) (taken : Option Arrival) (is : taken ≡ then_some b arrival)
+module _ (v : ReceivingView) (kept : IsKept v) (b : Bool) (arrival : Arrival) (taken : Option Arrival)
+    (is : taken ≡ then_some b arrival)
     (inside : arrival.env.from < length v.receipts) (next : arrival.n ≡ length (receipts_from v arrival.env.from)) where
   it_is : (a : Arrival) → taken ≡ Some a → arrival ≡ a
   it_is a some = by b (sym is ∙ some)
@@ -380,8 +469,9 @@ module _ (v : ReceivingView) (kept : IsKept v) (b : Bool) (arrival : Arrival) (t
       by true there = same_Some arrival a there
       by false there = absurd (let h : ⊥ = cc in h)
 
-  pub ask_grant-new : (grants : List (List (ℕ × Granted))) → grants ≡ v.grants → IfSome taken (λ a. grant_in (get_or grants a.env.from []) a.n ≡ None)
-  ask_grant-new grants same = if_some (λ (a : Arrival). grant_in (get_or grants a.env.from []) a.n ≡ None) taken
+  pub ask_grant-new : (grants : List (List (ℕ × Granted))) → grants ≡ v.grants →
+      IfSome taken (λ a. grant_in (get_or grants a.env.from []) a.n ≡ None)
+  ask_grant-new grants same = if_each (λ (a : Arrival). grant_in (get_or grants a.env.from []) a.n ≡ None) taken
       (λ a some. subst (λ (a : Arrival). grant_in (get_or grants a.env.from []) a.n ≡ None) (it_is a some)
       (ap (λ (gs : List (List (ℕ × Granted))). grant_in (get_or gs arrival.env.from []) arrival.n) same
       ∙ none_granted_yet v kept arrival.env.from arrival.n next))
@@ -389,18 +479,15 @@ module _ (v : ReceivingView) (kept : IsKept v) (b : Bool) (arrival : Arrival) (t
   pub ask_grant-came : (rows : List (List Receipt)) (r : Receipt)
       → rows ≡ set v.receipts arrival.env.from (rows_from v.receipts arrival.env.from ++ r ∷ [])
       → IfSome taken (λ a. IsSome (slice_get (get_or rows a.env.from []) a.n))
-  ask_grant-came rows r pushed = if_some (λ (a : Arrival). IsSome (slice_get (get_or rows a.env.from []) a.n)) taken
+  ask_grant-came rows r pushed = if_each (λ (a : Arrival). IsSome (slice_get (get_or rows a.env.from []) a.n)) taken
       (λ a some. subst (λ (a : Arrival). IsSome (slice_get (get_or rows a.env.from []) a.n)) (it_is a some)
       (ap (λ (o : Option Receipt). is_some o)
       (ap (λ (rows : List (List Receipt)). slice_get (get_or rows arrival.env.from []) arrival.n) pushed
       ∙ ap (λ (row : List Receipt). slice_get row arrival.n)
-      (row-same v.receipts arrival.env.from (rows_from v.receipts arrival.env.from ++ r ∷ []) arrival.env.from refl inside)
+      (row-same v.receipts arrival.env.from (rows_from v.receipts arrival.env.from ++ r ∷ []) arrival.env.from refl
+      inside)
       ∙ slice_get-last (rows_from v.receipts arrival.env.from) r arrival.n next)))
 
 pub then_taken : (taker : Option ℕ) (arrival : Arrival) → then_some (is_some taker) arrival ≡ taken_by taker arrival
 then_taken None arrival = refl
 then_taken (Some k) arrival = refl
-
-pub some_mapped : {X Y : Type 0} (f : X → Y) (o : Option X) → is_some (option_map f o) ≡ is_some o
-some_mapped f None = refl
-some_mapped f (Some x) = refl

@@ -23,7 +23,6 @@ use Rattle.nm_match.specs.declared.deeds.Deed.TheVariants as deed
 use Rattle.nm_match.specs.Deeds.{history_of}
 use Rattle.nm_match.proofs.StandsLemmas.{first_message-stands, is_claimed-stands, message_of-stands}
 use Rattle.nm_rndv.specs.Grants.{Granted, fresh, grant_in, is_open}
-use Rattle.nm_rndv.proofs.Results.{if_some}
 use Rattle.nm_receiving.specs.declared.receipts.Receipt.{Receipt}
 use Rattle.nm_receiving.specs.declared.receipts.Receive.{Receive}
 use Rattle.nm_receiving.specs.Kept.{AreTables, IsCleared, IsGranted, IsKept}
@@ -36,32 +35,47 @@ use Rattle.nm_receiving.proofs.Goings.{goes_on, like-push}
 use Rattle.nm_receiving.proofs.Grants.{grant_new, granted_new}
 use Rattle.nm_receiving.proofs.Grow.{at, taken_now}
 use Rattle.nm_receiving.proofs.Keeping.{IsBegin, MayBegin, begun_stood, grown, keeps-begun}
-use Rattle.nm_receiving.proofs.Lists.{is_there, mapped, one_option, some_from, some_parts}
+use Rattle.nm_receiving.proofs.Lists.{some_from}
 use Rattle.nm_receiving.proofs.Marking.{marked}
 use Rattle.nm_receiving.proofs.Stood.{begun}
 use Rattle.nm_receiving.proofs.Tables.{IsFree, no_grant, tables-begun}
 use Rattle.nm_receiving.proofs.TablesMark.{MayMark, tables-marked}
+use Rattle.nm_facts.proofs.Options.{mapped_some as mapped, some_and, if_each, some_of, one_option}
 
 -- a message that may be taken is here
-pub is_free : (v : ReceivingView) (kept : IsKept v) (a : Arrival) → IsTakeable v.sizes.ranks kept.history a → (r : Receipt) × IsFree v kept.history a r
+pub is_free : (v : ReceivingView) (kept : IsKept v) (a : Arrival) → IsTakeable v.sizes.ranks kept.history a →
+    (r : Receipt) × IsFree v kept.history a r
 is_free v kept a takeable =
-    let there = mapped (λ (m : Receipt). m.arrival) (receipt_of v a.env.from a.n) a (kept.received.messages a.env.from a.n ∙ takeable.named) in
+    let there = mapped (λ (m : Receipt). m.arrival) (receipt_of v a.env.from a.n) a
+    (kept.received.messages a.env.from a.n ∙ takeable.named) in
     let sender = takeable.sender in
-    let rows = kept.tables.grants in
-    (there.0, record { granted = omega (arith, sender, rows); here = there.1; arrival = there.2; untaken = takeable.untaken })
+    let rows = kept.tables.grants in (
+      there.0,
+      record {
+        granted = omega (arith, sender, rows);
+        here = there.1;
+        arrival = there.2;
+        untaken =
+            takeable.untaken;
+      },
+    )
 
-pub may_begin : (v : ReceivingView) (kept : IsKept v) (a : Arrival) (r : Receipt) → IsFree v kept.history a r → MayBegin v a r
+pub may_begin : (v : ReceivingView) (kept : IsKept v) (a : Arrival) (r : Receipt) → IsFree v kept.history a r →
+    MayBegin v a r
 may_begin v kept a r free = record {
   granted = free.granted;
   here = free.here;
   whole = λ empty.
       let asked = and_parts (is_ask a.env.how) (a.env.len == 0) empty in
-      kept.tables.waiting a.env.from a.n r free.here (ap (λ (x : Arrival). is_ask x.env.how) free.arrival ∙ asked.0) free.untaken;
+      kept.tables.waiting a.env.from a.n r free.here (ap (λ (x : Arrival). is_ask x.env.how) free.arrival ∙ asked.0)
+      free.untaken;
 }
 
 -- an empty message that was asked for, and that a receive takes, may be whole
-module _ (v : ReceivingView) (h h1 : List Event) (d : Deed) (number cap : ℕ) (a : Arrival) (r : Receipt) (tables : AreTables v h)
-    (free : IsFree v h a r) (grown1 : matched_pairs h1 ≡ matched_pairs h ++ pair number cap a ∷ []) (empty : is_empty_ask a ≡ true) where
+module _ (v : ReceivingView) (h h1 : List Event) (d : Deed) (number cap : ℕ) (a : Arrival) (r : Receipt)
+    (tables : AreTables v h)
+    (free : IsFree v h a r) (grown1 : matched_pairs h1 ≡ matched_pairs h ++ pair number cap a ∷ [])
+    (empty : is_empty_ask a ≡ true) where
   abbrev from : ℕ
   from = a.env.from
 
@@ -88,8 +102,9 @@ module _ (v : ReceivingView) (h h1 : List Event) (d : Deed) (number cap : ℕ) (
   shut = ap (λ (k : ℕ). is_open (fresh k)) no_bytes
 
   others_shut : All (λ e. e.0 ≡ a.n → is_open e.1 ≡ false) (granted_to v from)
-  others_shut = All-weaker (λ e. IsSomeAnd (receipt_of v from e.0) (IsCleared h from e)) (λ e. e.0 ≡ a.n → is_open e.1 ≡ false)
-      (λ e was same. let had = some_parts (IsCleared h from e) (receipt_of v from e.0) was in
+  others_shut = All-weaker (λ e. IsSomeAnd (receipt_of v from e.0) (IsCleared h from e))
+      (λ e. e.0 ≡ a.n → is_open e.1 ≡ false)
+      (λ e was same. let had = some_and (IsCleared h from e) (receipt_of v from e.0) was in
       absurd (true≢false (sym had.2.taken ∙ ap (λ (k : ℕ). is_taken h from k) same ∙ free.untaken)))
       (granted_to v from) (tables.cleared from)
 
@@ -99,19 +114,23 @@ module _ (v : ReceivingView) (h h1 : List Event) (d : Deed) (number cap : ℕ) (
     complete = λ had. record {
       granted = λ how.
           let there' : grant_in (granted_to v1 r.arrival.env.from) r.arrival.n ≡ Some (fresh a.env.len) =
-          subst (λ (x : Arrival). grant_in (granted_to v1 x.env.from) x.n ≡ Some (fresh a.env.len)) (sym free.arrival) there in
-          some_from (IsGranted (made_whole r)) (grant_in (granted_to v1 r.arrival.env.from) r.arrival.n) (fresh a.env.len) there'
+          subst (λ (x : Arrival). grant_in (granted_to v1 x.env.from) x.n ≡ Some (fresh a.env.len))
+          (sym free.arrival) there in
+          some_from (IsGranted (made_whole r)) (grant_in (granted_to v1 r.arrival.env.from) r.arrival.n)
+          (fresh a.env.len) there'
           (record { len = ap (λ (x : Arrival). x.env.len) (sym free.arrival); bytes = λ _. sym no_bytes });
       joined = λ eager. absurd (true≢false (sym asked_r ∙ eager));
     };
     last = λ last some.
-        let was = some_parts (λ (r : Receipt). (is_ask r.arrival.env.how ≡ false) × (r.whole ≡ false)) (receipt_of v from a.n)
+        let was = some_and (λ (r : Receipt). (is_ask r.arrival.env.how ≡ false) × (r.whole ≡ false))
+        (receipt_of v from a.n)
         (tables.unfinished from a.n last some) in
         let same : was.0 ≡ r = same_Some was.0 r (sym was.1 ∙ free.here) in
         true≢false (sym asked_r ∙ ap (λ (x : Receipt). is_ask x.arrival.env.how) (sym same) ∙ was.2.0);
     taken = λ _. taken_now h h1 (pair number cap a) grown1;
     closed = subst (λ (row : List (ℕ × Granted)). All (λ e. e.0 ≡ a.n → is_open e.1 ≡ false) row) (sym row_is)
-        (All-push (λ e. e.0 ≡ a.n → is_open e.1 ≡ false) (granted_to v from) (a.n, fresh a.env.len) others_shut (λ _. shut));
+        (All-push (λ e. e.0 ≡ a.n → is_open e.1 ≡ false) (granted_to v from) (a.n, fresh a.env.len) others_shut
+        (λ _. shut));
   }
 
 -- what a receive that begins posts
@@ -119,89 +138,105 @@ pub record Posts (w : Happened) (number cap : ℕ) : Type 0 where
   pub posted : (p : post.Post) → post_of w ≡ Some p → (p.number ≡ number) × (p.cap ≡ cap)
   pub in_time : (from n : ℕ) → is_withdraw from n false w ≡ false
 
-module _ (v : ReceivingView) (kept : IsKept v) (w : Happened) (d : Deed) (number cap : ℕ) (post' : Posts w number cap) where
-  abbrev h : List Event
-  h = kept.history
+module _ (v : ReceivingView) (kept : IsKept v) (w : Happened) (d : Deed) (number cap : ℕ) (post' : Posts w number cap)
+  where
+    abbrev h : List Event
+    h = kept.history
 
-  abbrev e : Event
-  e = at 0 w
+    abbrev e : Event
+    e = at 0 w
 
-  abbrev h1 : List Event
-  h1 = h ++ e ∷ []
+    abbrev h1 : List Event
+    h1 = h ++ e ∷ []
 
-  posts1 : posts h1 ≡ posts h ++ option_to_list (post_of w)
-  posts1 = posts-push h e ∙ ap (λ (ps : List post.Post). posts h ++ ps) (one_option (post_of w))
+    posts1 : posts h1 ≡ posts h ++ option_to_list (post_of w)
+    posts1 = posts-push h e ∙ ap (λ (ps : List post.Post). posts h ++ ps) (one_option (post_of w))
 
-  in_time1 : (from n : ℕ) → happened (is_withdraw from n false) (e ∷ []) ≡ false
-  in_time1 from n = ap (λ (b : Bool). b || false) (post'.in_time from n)
+    in_time1 : (from n : ℕ) → happened (is_withdraw from n false) (e ∷ []) ≡ false
+    in_time1 from n = ap (λ (b : Bool). b || false) (post'.in_time from n)
 
-  tables1 : (taken : Option Arrival) → IsBegin v w d number cap taken → ((a : Arrival) → taken ≡ Some a → (r : Receipt) × IsFree v h a r)
-      → AreTables (begun v d cap taken) h1
-  tables1 taken begins free =
-      tables-begun v h h1 d number cap taken kept.received kept.tables begins.next (grown v w d number cap taken begins h 0 kept.received kept.right)
-      free (post_of w) posts1 post'.posted
+    tables1 : (taken : Option Arrival) → IsBegin v w d number cap taken →
+        ((a : Arrival) → taken ≡ Some a → (r : Receipt) × IsFree v h a r)
+        → AreTables (begun v d cap taken) h1
+    tables1 taken begins free =
+        tables-begun v h h1 d number cap taken kept.received kept.tables begins.next
+        (grown v w d number cap taken begins h 0 kept.received kept.right)
+        free (post_of w) posts1 post'.posted
 
-  kept-begun_none : IsBegin v w d number cap None → IsKept (begun v d cap None)
-  kept-begun_none begins =
-      goes_on v (begun v d cap None) kept (e ∷ []) refl
-      (keeps-begun v w d number cap None begins (λ a is. absurd (let h' : ⊥ = cc in h')) h (e ∷ []) refl kept.received kept.right)
-      in_time1 (tables1 None begins (λ a is. absurd (let h' : ⊥ = cc in h')))
+    kept-begun_none : IsBegin v w d number cap None → IsKept (begun v d cap None)
+    kept-begun_none begins =
+        goes_on v (begun v d cap None) kept (e ∷ []) refl
+        (keeps-begun v w d number cap None begins (λ a is. absurd (let h' : ⊥ = cc in h')) h (e ∷ []) refl kept.received
+        kept.right)
+        in_time1 (tables1 None begins (λ a is. absurd (let h' : ⊥ = cc in h')))
 
-  kept-begun_some : (a : Arrival) → IsBegin v w d number cap (Some a) → IsTakeable v.sizes.ranks h a
-      → IsKept (record (begun v d cap (Some a)) { receipts = rows_after v.receipts a })
-  kept-begun_some a begins takeable = by (is_empty_ask a) refl
-    where
-      free : (r : Receipt) × IsFree v h a r
-      free = is_free v kept a takeable
+    kept-begun_some : (a : Arrival) → IsBegin v w d number cap (Some a) → IsTakeable v.sizes.ranks h a
+        → IsKept (record (begun v d cap (Some a)) { receipts = rows_after v.receipts a })
+    kept-begun_some a begins takeable = by (is_empty_ask a) refl
+      where
+        free : (r : Receipt) × IsFree v h a r
+        free = is_free v kept a takeable
 
-      free_of : (b : Arrival) → Some a ≡ Some b → (r : Receipt) × IsFree v h b r
-      free_of b is = let same : a ≡ b = cc in subst (λ (x : Arrival). (r : Receipt) × IsFree v h x r) same free
+        free_of : (b : Arrival) → Some a ≡ Some b → (r : Receipt) × IsFree v h b r
+        free_of b is = let same : a ≡ b = cc in subst (λ (x : Arrival). (r : Receipt) × IsFree v h x r) same free
 
-      may_of : (b : Arrival) → Some a ≡ Some b → (r : Receipt) × MayBegin v b r
-      may_of b is = let f = free_of b is in (f.0, may_begin v kept b f.0 f.1)
+        may_of : (b : Arrival) → Some a ≡ Some b → (r : Receipt) × MayBegin v b r
+        may_of b is = let f = free_of b is in (f.0, may_begin v kept b f.0 f.1)
 
-      by : (b : Bool) → is_empty_ask a ≡ b → IsKept (record (begun v d cap (Some a)) { receipts = rows_after v.receipts a })
-      by false bytes =
-          let rows : rows_after v.receipts a ≡ v.receipts = ap (λ (b : Bool). cond b (rows_with_whole v.receipts a.env.from a.n) v.receipts) bytes in
-          let keeps = keeps-begun v w d number cap (Some a) begins may_of h (e ∷ [])
-          (ap (λ (b : Bool). w ∷ cond b (Whole a.env.from a.n ∷ []) []) (sym bytes)) kept.received kept.right in
-          subst (λ (rs : List (List Receipt)). IsKept (record (begun v d cap (Some a)) { receipts = rs })) (sym rows)
-          (goes_on v (begun v d cap (Some a)) kept (e ∷ []) refl
-          (subst (λ (rs : List (List Receipt)). AreReceived (record (begun v d cap (Some a)) { receipts = rs }) (h ++ e ∷ []) × AreRight v.sizes.ranks h (e ∷ [])) rows keeps)
-          in_time1 (tables1 (Some a) begins free_of))
-      by true empty =
-          let x : Event = at 0 (Whole a.env.from a.n) in
-          let rows : rows_after v.receipts a ≡ rows_with_whole v.receipts a.env.from a.n =
-          ap (λ (b : Bool). cond b (rows_with_whole v.receipts a.env.from a.n) v.receipts) empty in
-          let keeps = keeps-begun v w d number cap (Some a) begins may_of h (e ∷ x ∷ [])
-          (ap (λ (b : Bool). w ∷ cond b (Whole a.env.from a.n ∷ []) []) (sym empty)) kept.received kept.right in
-          let stood1 = begun_stood v w d number cap (Some a) begins h 0 kept.received kept.right (λ b is. let m = may_of b is in m.1.granted) in
-          subst (λ (rs : List (List Receipt)). IsKept (record (begun v d cap (Some a)) { receipts = rs })) (sym rows)
-          (goes_on v (marked (begun v d cap (Some a)) a.env.from a.n) kept (e ∷ x ∷ []) refl
-          (subst (λ (rs : List (List Receipt)). AreReceived (record (begun v d cap (Some a)) { receipts = rs }) (h ++ (e ∷ x ∷ []))
-          × AreRight v.sizes.ranks h (e ∷ x ∷ [])) rows keeps)
-          (λ from n. ap (λ (b : Bool). b || (false || false)) (post'.in_time from n))
-          (subst (λ (k : List Event). AreTables (marked (begun v d cap (Some a)) a.env.from a.n) k) (append_assoc h (e ∷ []) (x ∷ []))
-          (tables-marked (begun v d cap (Some a)) h1 (h1 ++ x ∷ []) stood1 a.env.from a.n free.0 (tables1 (Some a) begins free_of)
-          (like-push h1 x refl refl)
-          (empty_may_mark v h h1 d number cap a free.0 kept.tables free.1
-          (grown v w d number cap (Some a) begins h 0 kept.received kept.right) empty))))
+        by : (b : Bool) → is_empty_ask a ≡ b →
+            IsKept (record (begun v d cap (Some a)) { receipts = rows_after v.receipts a })
+        by false bytes =
+            let rows : rows_after v.receipts a ≡ v.receipts =
+            ap (λ (b : Bool). cond b (rows_with_whole v.receipts a.env.from a.n) v.receipts) bytes in
+            let keeps = keeps-begun v w d number cap (Some a) begins may_of h (e ∷ [])
+            (ap (λ (b : Bool). w ∷ cond b (Whole a.env.from a.n ∷ []) []) (sym bytes)) kept.received kept.right in
+            subst (λ (rs : List (List Receipt)). IsKept (record (begun v d cap (Some a)) { receipts = rs })) (sym rows)
+            (goes_on v (begun v d cap (Some a)) kept (e ∷ []) refl
+            (subst (λ (rs : List (List Receipt)). AreReceived (record (begun v d cap (Some a)) { receipts = rs })
+            (h ++ e ∷ []) × AreRight v.sizes.ranks h (e ∷ [])) rows keeps)
+            in_time1 (tables1 (Some a) begins free_of))
+        by true empty =
+            let x : Event = at 0 (Whole a.env.from a.n) in
+            let rows : rows_after v.receipts a ≡ rows_with_whole v.receipts a.env.from a.n =
+            ap (λ (b : Bool). cond b (rows_with_whole v.receipts a.env.from a.n) v.receipts) empty in
+            let keeps = keeps-begun v w d number cap (Some a) begins may_of h (e ∷ x ∷ [])
+            (ap (λ (b : Bool). w ∷ cond b (Whole a.env.from a.n ∷ []) []) (sym empty)) kept.received kept.right in
+            let stood1 = begun_stood v w d number cap (Some a) begins h 0 kept.received kept.right
+            (λ b is. let m = may_of b is in m.1.granted) in
+            subst (λ (rs : List (List Receipt)). IsKept (record (begun v d cap (Some a)) { receipts = rs })) (sym rows)
+            (goes_on v (marked (begun v d cap (Some a)) a.env.from a.n) kept (e ∷ x ∷ []) refl
+            (subst (λ (rs : List (List Receipt)). AreReceived (record (begun v d cap (Some a)) { receipts = rs })
+            (h ++ (e ∷ x ∷ []))
+            × AreRight v.sizes.ranks h (e ∷ x ∷ [])) rows keeps)
+            (λ from n. ap (λ (b : Bool). b || (false || false)) (post'.in_time from n))
+            (subst (λ (k : List Event). AreTables (marked (begun v d cap (Some a)) a.env.from a.n) k)
+            (append_assoc h (e ∷ []) (x ∷ []))
+            (tables-marked (begun v d cap (Some a)) h1 (h1 ++ x ∷ []) stood1 a.env.from a.n free.0
+            (tables1 (Some a) begins free_of)
+            (like-push h1 x refl refl)
+            (empty_may_mark v h h1 d number cap a free.0 kept.tables free.1
+            (grown v w d number cap (Some a) begins h 0 kept.received kept.right) empty))))
 
-  pub kept-begun : (taken : Option Arrival) → IsBegin v w d number cap taken → ((a : Arrival) → taken ≡ Some a → IsTakeable v.sizes.ranks h a)
-      → IsKept (record (begun v d cap taken) { receipts = rows_with v.receipts taken })
-  kept-begun None begins takeable = kept-begun_none begins
-  kept-begun (Some a) begins takeable = kept-begun_some a begins (takeable a refl)
+    pub kept-begun : (taken : Option Arrival) → IsBegin v w d number cap taken →
+        ((a : Arrival) → taken ≡ Some a → IsTakeable v.sizes.ranks h a)
+        → IsKept (record (begun v d cap taken) { receipts = rows_with v.receipts taken })
+    kept-begun None begins takeable = kept-begun_none begins
+    kept-begun (Some a) begins takeable = kept-begun_some a begins (takeable a refl)
 
 -- the fields afterwards
-pub begun_same : (v : ReceivingView) (d : Deed) (cap : ℕ) (taken : Option Arrival) (deeds : List Deed) (grants : List (List (ℕ × Granted)))
-    (rows : List (List Receipt)) (rs : List Receive) → deeds ≡ v.deeds ++ d ∷ [] → grants ≡ grants_with v.grants taken → rows ≡ rows_with v.receipts taken
+pub begun_same : (v : ReceivingView) (d : Deed) (cap : ℕ) (taken : Option Arrival) (deeds : List Deed)
+    (grants : List (List (ℕ × Granted)))
+    (rows : List (List Receipt)) (rs : List Receive) → deeds ≡ v.deeds ++ d ∷ [] →
+    grants ≡ grants_with v.grants taken → rows ≡ rows_with v.receipts taken
     → rs ≡ v.receives ++ record { cap = cap; taken = taken; cancelled = false; ended = false } ∷ []
     → ◌≡◌ {A = ReceivingView} (record (begun v d cap taken) { receipts = rows_with v.receipts taken })
     (record v { deeds = deeds; grants = grants; receipts = rows; receives = rs })
-begun_same v d cap taken deeds grants rows rs deeds_is grants_is rows_is rs_is = rw (deeds_is, grants_is, rows_is, rs_is) refl
+begun_same v d cap taken deeds grants rows rs deeds_is grants_is rows_is rs_is =
+    rw (deeds_is, grants_is, rows_is, rs_is) refl
 
 -- a receive that is posted
-pub is_begin_post : (v : ReceivingView) (p : post.Post) (line : ℕ) (taken : Option Arrival) → p.number ≡ length v.receives
+pub is_begin_post : (v : ReceivingView) (p : post.Post) (line : ℕ) (taken : Option Arrival) →
+    p.number ≡ length v.receives
     → taken ≡ first_message (history_of v.deeds) (matched_pairs (history_of v.deeds)) p.from p.tag p.ctx
     → IsBegin v (Post p line) (deed.Post p) p.number p.cap taken
 is_begin_post v p line taken next oldest = record {
@@ -213,7 +248,15 @@ is_begin_post v p line taken next oldest = record {
   next = next;
   pair_made = λ h received right. ap (λ (o : Option Arrival). option_map (pair p.number p.cap) o)
       (first_message-stands v.deeds h received.stands p.from p.tag p.ctx ∙ sym oldest);
-  right = λ h received right. record { numbers = next ∙ received.count; matches = tt; cancels = tt; wholes = tt; ends = tt };
+  right = λ h received right. record {
+    numbers = next ∙ received.count;
+    matches = tt;
+    claims = tt;
+    cancels = tt;
+    wholes =
+        tt;
+    ends = tt;
+  };
 }
 
 pub post_takeable : (v : ReceivingView) (kept : IsKept v) (p : post.Post) (taken : Option Arrival)
@@ -224,8 +267,10 @@ post_takeable v kept p taken oldest a is =
     (first_message-stands v.deeds kept.history kept.received.stands p.from p.tag p.ctx ∙ sym oldest ∙ is)
 
 -- the receive of a claimed message
-pub is_begin_match : (v : ReceivingView) (number from n cap line : ℕ) (taken : Option Arrival) → number ≡ length v.receives
-    → is_claimed (history_of v.deeds) (matched_pairs (history_of v.deeds)) from n ≡ true → message_of (history_of v.deeds) from n ≡ taken
+pub is_begin_match : (v : ReceivingView) (number from n cap line : ℕ) (taken : Option Arrival) →
+    number ≡ length v.receives
+    → is_claimed (history_of v.deeds) (matched_pairs (history_of v.deeds)) from n ≡ true →
+    message_of (history_of v.deeds) from n ≡ taken
     → IsBegin v (Match number from n cap line) (deed.Match number from n) number cap taken
 is_begin_match v number from n cap line taken next claimed is = record {
   done = refl;
@@ -234,10 +279,12 @@ is_begin_match v number from n cap line taken next claimed is = record {
   not_whole = λ _ _. refl;
   not_cancel = λ _. refl;
   next = next;
-  pair_made = λ h received right. ap (λ (o : Option Arrival). option_map (pair number cap) o) (message_of-stands v.deeds h received.stands from n ∙ is);
+  pair_made = λ h received right. ap (λ (o : Option Arrival). option_map (pair number cap) o)
+      (message_of-stands v.deeds h received.stands from n ∙ is);
   right = λ h received right. record {
     numbers = next ∙ received.count;
     matches = is_claimed-stands v.deeds h received.stands from n ∙ claimed;
+    claims = tt;
     cancels = tt;
     wholes = tt;
     ends = tt;
@@ -245,7 +292,8 @@ is_begin_match v number from n cap line taken next claimed is = record {
 }
 
 pub match_takeable : (v : ReceivingView) (kept : IsKept v) (from n : ℕ) (taken : Option Arrival)
-    → is_claimed (history_of v.deeds) (matched_pairs (history_of v.deeds)) from n ≡ true → message_of (history_of v.deeds) from n ≡ taken
+    → is_claimed (history_of v.deeds) (matched_pairs (history_of v.deeds)) from n ≡ true →
+    message_of (history_of v.deeds) from n ≡ taken
     → (a : Arrival) → taken ≡ Some a → IsTakeable v.sizes.ranks kept.history a
 match_takeable v kept from n taken claimed there a is =
     claimed_takeable v.sizes.ranks kept.history from n a (right_named v.sizes.ranks kept.history kept.right)
@@ -255,31 +303,34 @@ match_takeable v kept from n taken claimed there a is =
 -- what a receive takes may be granted
 module _ (v : ReceivingView) (kept : IsKept v) (taken : Option Arrival)
     (takeable : (a : Arrival) → taken ≡ Some a → IsTakeable v.sizes.ranks kept.history a) where
-  pub may_grant-sender : (grants : List (List (ℕ × Granted))) → grants ≡ v.grants → IfSome taken (λ a. a.env.from < length grants)
-  may_grant-sender grants same = if_some (λ (a : Arrival). a.env.from < length grants) taken
+  pub may_grant-sender : (grants : List (List (ℕ × Granted))) → grants ≡ v.grants →
+      IfSome taken (λ a. a.env.from < length grants)
+  may_grant-sender grants same = if_each (λ (a : Arrival). a.env.from < length grants) taken
       (λ a is. let f = is_free v kept a (takeable a is) in
       subst (λ (gs : List (List (ℕ × Granted))). a.env.from < length gs) (sym same) f.1.granted)
 
-  pub may_grant-new : (grants : List (List (ℕ × Granted))) → grants ≡ v.grants → IfSome taken (λ a. grant_in (get_or grants a.env.from []) a.n ≡ None)
-  may_grant-new grants same = if_some (λ (a : Arrival). grant_in (get_or grants a.env.from []) a.n ≡ None) taken
+  pub may_grant-new : (grants : List (List (ℕ × Granted))) → grants ≡ v.grants →
+      IfSome taken (λ a. grant_in (get_or grants a.env.from []) a.n ≡ None)
+  may_grant-new grants same = if_each (λ (a : Arrival). grant_in (get_or grants a.env.from []) a.n ≡ None) taken
       (λ a is. let f = is_free v kept a (takeable a is) in
       subst (λ (gs : List (List (ℕ × Granted))). grant_in (get_or gs a.env.from []) a.n ≡ None) (sym same)
       (no_grant v kept.history kept.tables a.env.from a.n f.1.untaken))
 
   pub may_grant-came : IfSome taken (λ a. IsSome (receipt_of v a.env.from a.n))
-  may_grant-came = if_some (λ (a : Arrival). IsSome (receipt_of v a.env.from a.n)) taken
+  may_grant-came = if_each (λ (a : Arrival). IsSome (receipt_of v a.env.from a.n)) taken
       (λ a is. let f = is_free v kept a (takeable a is) in ap (λ (o : Option Receipt). is_some o) f.1.here)
 
   pub taken_sender : IfSome taken (λ a. a.env.from < v.sizes.ranks)
-  taken_sender = if_some (λ (a : Arrival). a.env.from < v.sizes.ranks) taken (λ a is. let t = takeable a is in t.sender)
+  taken_sender = if_each (λ (a : Arrival). a.env.from < v.sizes.ranks) taken (λ a is. let t = takeable a is in t.sender)
 
   pub may_begin_with : (a : Arrival) → taken ≡ Some a → (r : Receipt) × MayBegin v a r
   may_begin_with a is = let f = is_free v kept a (takeable a is) in (f.0, may_begin v kept a f.0 f.1)
 
 -- the claimed message is here
-pub claimed_receipt : (v : ReceivingView) (kept : IsKept v) (from n : ℕ) → IsSome (message_of (history_of v.deeds) from n) → IsSome (receipt_of v from n)
+pub claimed_receipt : (v : ReceivingView) (kept : IsKept v) (from n : ℕ) →
+    IsSome (message_of (history_of v.deeds) from n) → IsSome (receipt_of v from n)
 claimed_receipt v kept from n some =
-    let there = is_there (message_of (history_of v.deeds) from n) some in
+    let there = some_of (message_of (history_of v.deeds) from n) some in
     let here = mapped (λ (m : Receipt). m.arrival) (receipt_of v from n) there.0
     (kept.received.messages from n ∙ message_of-stands v.deeds kept.history kept.received.stands from n ∙ there.1) in
     ap (λ (o : Option Receipt). is_some o) here.1

@@ -20,13 +20,15 @@ use Rattle.nm_match.proofs.StandsLemmas.{stands_push}
 use Rattle.nm_streams.specs.Pieces.{AreDue}
 use Rattle.nm_receiving.specs.declared.receipts.Receipt.{Receipt}
 use Rattle.nm_receiving.specs.declared.receipts.Receive.{Receive}
-use Rattle.nm_receiving.specs.Receipts.{ReceivingView, receipts_from, receipt_of, granted_to, drawn_from, pair_at, pair_with}
+use Rattle.nm_receiving.specs.Receipts.{ReceivingView, receipts_from, receipt_of, granted_to, drawn_from, pair_at}
+use Rattle.nm_receiving.specs.Receipts.{pair_with}
 use Rattle.nm_receiving.specs.Received.{AreReceived}
 use Rattle.nm_receiving.specs.Steps.{grants_with}
 use Rattle.nm_receiving.proofs.Dues.{due-with, pair}
 use Rattle.nm_receiving.proofs.Grow.{arrivals_still, happened_still}
-use Rattle.nm_receiving.proofs.Grow.{message_still, pair_new, pair_still, pairs_still, receives_more, receives_still}
+use Rattle.nm_receiving.proofs.Grow.{message_still, pair_new, pair_still, pairs_still}
 use Rattle.nm_receiving.proofs.Lists.{slice_get-last, slice_get-push_other}
+use Rattle.nm_history.proofs.AppendLemmas.{receives_more, receives_still}
 
 -- whether the message of a receipt is whole, and whether a receive was cancelled
 abbrev pub is_whole_at : Option Receipt → Bool
@@ -85,9 +87,11 @@ module _ (v : ReceivingView) (h : List Event) (e : Event) (stood : Stood v h) wh
     messages = λ from n. stood.messages from n ∙ sym (message_still h e no_arrival from n);
     whole = λ from n. stood.whole from n ∙ sym (happened_still (is_whole from n) h e (not_whole from n));
     count = stood.count ∙ sym (receives_still h e no_receive);
-    pairs = λ k. stood.pairs k ∙ sym (pair_still h (h ++ e ∷ []) None (pairs_still h e silent) k (λ q is. absurd (let h' : ⊥ = cc in h')));
+    pairs = λ k. stood.pairs k
+        ∙ sym (pair_still h (h ++ e ∷ []) None (pairs_still h e silent) k (λ q is. absurd (let h' : ⊥ = cc in h')));
     cancelled = λ k. stood.cancelled k ∙ sym (happened_still (is_cancel k) h e (not_cancel k));
-    due = due-with h (e ∷ []) 0 0 None (pairs_still h e silent) v.grants (drawn_from v) (λ a is. absurd (let h' : ⊥ = cc in h')) stood.due;
+    due = due-with h (e ∷ []) 0 0 None (pairs_still h e silent) v.grants (drawn_from v)
+        (λ a is. absurd (let h' : ⊥ = cc in h')) stood.due;
   }
 
 -- a receive begins, and takes this message, if there is one
@@ -99,11 +103,13 @@ begun v d cap taken =
       receives = v.receives ++ record { cap = cap; taken = taken; cancelled = false; ended = false } ∷ [];
     }
 
-made_number : (number cap : ℕ) (taken : Option Arrival) (q : Pair) → option_map (pair number cap) taken ≡ Some q → q.number ≡ number
+made_number : (number cap : ℕ) (taken : Option Arrival) (q : Pair) → option_map (pair number cap) taken ≡ Some q →
+    q.number ≡ number
 made_number number cap None q is = absurd (let h : ⊥ = cc in h)
 made_number number cap (Some a) q is = let same : pair number cap a ≡ q = cc in ap (λ (p : Pair). p.number) (sym same)
 
-module _ (v : ReceivingView) (h : List Event) (e : Event) (stood : Stood v h) (d : Deed) (number cap : ℕ) (taken : Option Arrival)
+module _ (v : ReceivingView) (h : List Event) (e : Event) (stood : Stood v h) (d : Deed) (number cap : ℕ)
+    (taken : Option Arrival)
     (next : number ≡ length v.receives)
     (grown : matched_pairs (h ++ e ∷ []) ≡ matched_pairs h ++ option_to_list (option_map (pair number cap) taken)) where
   abbrev new : Receive
@@ -111,17 +117,20 @@ module _ (v : ReceivingView) (h : List Event) (e : Event) (stood : Stood v h) (d
 
   no_pair : pair_of_receive h number ≡ None
   no_pair = sym (stood.pairs number)
-      ∙ ap (λ (o : Option Receive). option_and_then (pair_with number) o) (slice_get_past v.receives number (omega (arith, next)))
+      ∙ ap (λ (o : Option Receive). option_and_then (pair_with number) o)
+      (slice_get_past v.receives number (omega (arith, next)))
 
   pairs_begun : (k : ℕ) → (k ≡ number) ⊎ (k ≡ number → ⊥)
       → option_and_then (pair_with k) (slice_get (v.receives ++ new ∷ []) k) ≡ pair_of_receive (h ++ e ∷ []) k
   pairs_begun k (inl same) =
       ap (λ (o : Option Receive). option_and_then (pair_with k) o) (slice_get-last v.receives new k (same ∙ next))
       ∙ ap (λ (j : ℕ). option_map (pair j cap) taken) same
-      ∙ sym (pair_new h (h ++ e ∷ []) (option_map (pair number cap) taken) grown k (ap (λ (j : ℕ). pair_of_receive h j) same ∙ no_pair)
+      ∙ sym (pair_new h (h ++ e ∷ []) (option_map (pair number cap) taken) grown k
+      (ap (λ (j : ℕ). pair_of_receive h j) same ∙ no_pair)
       (λ q is. made_number number cap taken q is ∙ sym same))
   pairs_begun k (inr differ) =
-      ap (λ (o : Option Receive). option_and_then (pair_with k) o) (slice_get-push_other v.receives new k (λ same. differ (same ∙ sym next)))
+      ap (λ (o : Option Receive). option_and_then (pair_with k) o)
+      (slice_get-push_other v.receives new k (λ same. differ (same ∙ sym next)))
       ∙ stood.pairs k
       ∙ sym (pair_still h (h ++ e ∷ []) (option_map (pair number cap) taken) grown k
       (λ q is same. differ (sym same ∙ made_number number cap taken q is)))

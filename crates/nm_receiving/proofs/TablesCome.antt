@@ -21,17 +21,20 @@ use Rattle.nm_receiving.specs.declared.receipts.Receipt.{Receipt}
 use Rattle.nm_receiving.specs.declared.receipts.Receive.{Receive}
 use Rattle.nm_receiving.specs.Kept.{AreTables, HasBytes, IsCleared, IsGranted, IsHere, IsJoined}
 use Rattle.nm_receiving.specs.Receipts.{ReceivingView, granted_to, receipt_of, receipts_from, stream_of}
-use Rattle.nm_receiving.proofs.Grants.{Granted_now, grant_among, grant_new, grant_still, granted_cases, granted_length, granted_new, once_push}
-use Rattle.nm_receiving.proofs.Lists.{some_from, some_parts}
+use Rattle.nm_receiving.proofs.Grants.{Granted_now, grant_among, grant_new, grant_still, granted_cases}
+use Rattle.nm_receiving.proofs.Grants.{granted_length, granted_new, once_push}
+use Rattle.nm_receiving.proofs.Lists.{some_from}
 use Rattle.std.proofs.Math.ListN.{set}
 use Rattle.std.proofs.lemmas.List.{length-set}
 use Rattle.std.proofs.lemmas.Option.{slice_get_past}
 use Rattle.nm_eager.specs.Streams.{Stream, nothing_came}
 use Rattle.nm_receiving.specs.Steps.{has_taken, rows_from, with_taken}
 use Rattle.nm_receiving.proofs.Coming.{came, came_here, came_other, newcomer, taken_by}
-use Rattle.nm_receiving.proofs.Lists.{row-other, row-same, slice_get-set_other, slice_get-set_same}
+use Rattle.nm_receiving.proofs.Lists.{row-other, row-same}
 use Rattle.nm_receiving.proofs.Stood.{Stood}
 use Rattle.nm_receiving.proofs.Tables.{bytes_along, still_cleared, untaken_before}
+use Rattle.nm_facts.proofs.Lists.{get_set_other, get_set_same}
+use Rattle.nm_facts.proofs.Options.{some_and}
 
 -- the stream of a rank with one message more
 pub record IsLonger (s s' : Stream) (a : Arrival) : Type 0 where
@@ -47,7 +50,8 @@ pub record AreLonger (v : ReceivingView) (streams : List Stream) (a : Arrival) :
   pub same : (from : ℕ) → from ≢ a.env.from → get_or streams from nothing_came ≡ stream_of v from
   pub longer : IsLonger (stream_of v a.env.from) (get_or streams a.env.from nothing_came) a
 
-module _ (v : ReceivingView) (h h' : List Event) (stood : Stood v h) (streams : List Stream) (a : Arrival) (taker : Option ℕ)
+module _ (v : ReceivingView) (h h' : List Event) (stood : Stood v h) (streams : List Stream) (a : Arrival)
+    (taker : Option ℕ)
     (tables : AreTables v h) (inside : a.env.from < length v.receipts) (granted : a.env.from < length v.grants)
     (next : a.n ≡ length (receipts_from v a.env.from)) (long : AreLonger v streams a) where
   abbrev v1 : ReceivingView
@@ -68,7 +72,8 @@ module _ (v : ReceivingView) (h h' : List Event) (stood : Stood v h) (streams : 
   place : (i k : ℕ) → Here i k ⊎ (i ≡ a.env.from → k ≡ a.n → ⊥)
   place i k = by (cases_eq i a.env.from) (cases_eq k a.n)
     where
-      by : (i ≡ a.env.from) ⊎ (i ≡ a.env.from → ⊥) → (k ≡ a.n) ⊎ (k ≡ a.n → ⊥) → Here i k ⊎ (i ≡ a.env.from → k ≡ a.n → ⊥)
+      by : (i ≡ a.env.from) ⊎ (i ≡ a.env.from → ⊥) → (k ≡ a.n) ⊎ (k ≡ a.n → ⊥) →
+          Here i k ⊎ (i ≡ a.env.from → k ≡ a.n → ⊥)
       by (inl same) (inl same') = inl (same, same')
       by (inl same) (inr other) = inr (λ _ is. other is)
       by (inr other) right = inr (λ is _. other is)
@@ -80,19 +85,22 @@ module _ (v : ReceivingView) (h h' : List Event) (stood : Stood v h) (streams : 
       ap (λ (j : ℕ). receipt_of v a.env.from j) (sym same') ∙ ap (λ (j : ℕ). receipt_of v j k) (sym same) ∙ is in
       let none = was_none in let h' : ⊥ = cc in h'
 
-  found : (i k : ℕ) (s : Receipt) → receipt_of v1 i k ≡ Some s → (Here i k × (newcomer a ≡ s)) ⊎ (receipt_of v i k ≡ Some s)
+  found : (i k : ℕ) (s : Receipt) → receipt_of v1 i k ≡ Some s →
+      (Here i k × (newcomer a ≡ s)) ⊎ (receipt_of v i k ≡ Some s)
   found i k s is = by (place i k)
     where
       by : Here i k ⊎ (i ≡ a.env.from → k ≡ a.n → ⊥) → (Here i k × (newcomer a ≡ s)) ⊎ (receipt_of v i k ≡ Some s)
       by (inl same) = inl (
         same,
         same_Some (newcomer a) s
-            (sym here1 ∙ ap (λ (j : ℕ). receipt_of v1 a.env.from j) (sym same.1) ∙ ap (λ (j : ℕ). receipt_of v1 j k) (sym same.0) ∙ is),
+            (sym here1 ∙ ap (λ (j : ℕ). receipt_of v1 a.env.from j) (sym same.1) ∙ ap (λ (j : ℕ). receipt_of v1 j k)
+            (sym same.0) ∙ is),
       )
       by (inr differ) = inr (sym (other1 i k differ) ∙ is)
 
   -- the messages in the streams
-  joined_still : (i k : ℕ) → (i ≡ a.env.from → k ≡ a.n → ⊥) → message_of (stream_of v1 i) k ≡ message_of (stream_of v i) k
+  joined_still : (i k : ℕ) → (i ≡ a.env.from → k ≡ a.n → ⊥) → message_of (stream_of v1 i) k ≡ message_of
+      (stream_of v i) k
   joined_still i k differ = by (cases_eq i a.env.from)
     where
       by : (i ≡ a.env.from) ⊎ (i ≡ a.env.from → ⊥) → message_of (stream_of v1 i) k ≡ message_of (stream_of v i) k
@@ -108,10 +116,12 @@ module _ (v : ReceivingView) (h h' : List Event) (stood : Stood v h) (streams : 
       by None is = absurd (let h' : ⊥ = cc in h')
       by (Some k) is = let same : a ≡ b = cc in subst (λ (c : Arrival). c.env.from < length v.grants) same granted
 
-  granted_still : (from n : ℕ) (g : Granted) → grant_in (granted_to v from) n ≡ Some g → grant_in (granted_to v1 from) n ≡ Some g
+  granted_still : (from n : ℕ) (g : Granted) → grant_in (granted_to v from) n ≡ Some g →
+      grant_in (granted_to v1 from) n ≡ Some g
   granted_still from n g is = by (granted_cases v.grants (taken_by taker a) from taken_inside)
     where
-      by : (granted_to v1 from ≡ granted_to v from) ⊎ Granted_now v.grants (taken_by taker a) from → grant_in (granted_to v1 from) n ≡ Some g
+      by : (granted_to v1 from ≡ granted_to v from) ⊎ Granted_now v.grants (taken_by taker a) from →
+          grant_in (granted_to v1 from) n ≡ Some g
       by (inl same) = ap (λ (row : List (ℕ × Granted)). grant_in row n) same ∙ is
       by (inr now) = ap (λ (row : List (ℕ × Granted)). grant_in row n) now.4
           ∙ grant_still (granted_to v from) ((now.0.n, fresh now.0.env.len) ∷ []) n g is
@@ -119,7 +129,12 @@ module _ (v : ReceivingView) (h h' : List Event) (stood : Stood v h) (streams : 
   bytes_still : (s : Receipt) → receipt_of v s.arrival.env.from s.arrival.n ≡ Some s → HasBytes v s → HasBytes v1 s
   bytes_still s here = bytes_along v v1 s s refl
       (λ how g is has. (g, granted_still s.arrival.env.from s.arrival.n g is, has))
-      (λ how m is has. (m, joined_still s.arrival.env.from s.arrival.n (other_than s.arrival.env.from s.arrival.n s here) ∙ is, has))
+      (λ how m is has. (
+        m,
+        joined_still s.arrival.env.from s.arrival.n
+            (other_than s.arrival.env.from s.arrival.n s here) ∙ is,
+        has,
+      ))
 
   eager_bytes : is_ask a.env.how ≡ false → HasBytes v1 (newcomer a)
   eager_bytes how = record {
@@ -130,7 +145,8 @@ module _ (v : ReceivingView) (h h' : List Event) (stood : Stood v h) (streams : 
   -- a receipt stands at its name
   at_name : (i k : ℕ) (s : Receipt) → receipt_of v i k ≡ Some s → (s.arrival.env.from ≡ i) × (s.arrival.n ≡ k)
       → receipt_of v s.arrival.env.from s.arrival.n ≡ Some s
-  at_name i k s is name = ap (λ (j : ℕ). receipt_of v j s.arrival.n) name.0 ∙ ap (λ (j : ℕ). receipt_of v i j) name.1 ∙ is
+  at_name i k s is name = ap (λ (j : ℕ). receipt_of v j s.arrival.n) name.0 ∙ ap (λ (j : ℕ). receipt_of v i j) name.1
+      ∙ is
 
   module _ (names : (i k : ℕ) (s : Receipt) → receipt_of v i k ≡ Some s → (s.arrival.env.from ≡ i) × (s.arrival.n ≡ k))
       (more : List Pair) (grown : matched_pairs h' ≡ matched_pairs h ++ more) where
@@ -141,25 +157,34 @@ module _ (v : ReceivingView) (h h' : List Event) (stood : Stood v h) (streams : 
         P : Receipt → Type 0
         P r = (is_ask r.arrival.env.how ≡ false) × (r.whole ≡ false)
 
-        by : (i ≡ a.env.from) ⊎ (i ≡ a.env.from → ⊥) → IsSomeAnd (receipt_of v1 i k) (λ r. (is_ask r.arrival.env.how ≡ false) × (r.whole ≡ false))
+        by : (i ≡ a.env.from) ⊎ (i ≡ a.env.from → ⊥) → IsSomeAnd (receipt_of v1 i k)
+            (λ r. (is_ask r.arrival.env.how ≡ false) × (r.whole ≡ false))
         by (inl same) =
             let last' : k + 1 ≡ (stream_of v1 a.env.from).count = last ∙ ap (λ (j : ℕ). (stream_of v1 j).count) same in
-            let some' : 0 < missing (stream_of v1 a.env.from) = subst (λ (j : ℕ). 0 < missing (stream_of v1 j)) same some in
+            let some' : 0 < missing (stream_of v1 a.env.from) = subst (λ (j : ℕ). 0 < missing (stream_of v1 j)) same
+            some in
             let count = long.longer.count in
             let counted = tables.counts a.env.from in
             let is_n : k ≡ a.n = omega (arith, last', count, counted, next) in
             let eager : is_ask a.env.how ≡ false =
-            false_from_ne_true (is_ask a.env.how) (λ how. let none = long.longer.asked how in let h' : ⊥ = omega (arith, none, some') in h') in
-            some_from (λ (r : Receipt). (is_ask r.arrival.env.how ≡ false) × (r.whole ≡ false)) (receipt_of v1 i k) (newcomer a)
-            (ap (λ (j : ℕ). receipt_of v1 j k) same ∙ ap (λ (j : ℕ). receipt_of v1 a.env.from j) is_n ∙ here1) (eager, refl)
+            false_from_ne_true (is_ask a.env.how) (λ how. let none = long.longer.asked how in
+            let h' : ⊥ = omega (arith, none, some') in h') in
+            some_from (λ (r : Receipt). (is_ask r.arrival.env.how ≡ false) × (r.whole ≡ false)) (receipt_of v1 i k)
+            (newcomer a)
+            (ap (λ (j : ℕ). receipt_of v1 j k) same ∙ ap (λ (j : ℕ). receipt_of v1 a.env.from j) is_n ∙ here1)
+            (eager, refl)
         by (inr other) =
             let is = long.same i other in
-            let was = some_parts (λ (r : Receipt). (is_ask r.arrival.env.how ≡ false) × (r.whole ≡ false)) (receipt_of v i k)
-            (tables.unfinished i k (last ∙ ap (λ (s : Stream). s.count) is) (subst (λ (s : Stream). 0 < missing s) is some)) in
-            some_from (λ (r : Receipt). (is_ask r.arrival.env.how ≡ false) × (r.whole ≡ false)) (receipt_of v1 i k) was.0
+            let was = some_and (λ (r : Receipt). (is_ask r.arrival.env.how ≡ false) × (r.whole ≡ false))
+            (receipt_of v i k)
+            (tables.unfinished i k (last ∙ ap (λ (s : Stream). s.count) is)
+            (subst (λ (s : Stream). 0 < missing s) is some)) in
+            some_from (λ (r : Receipt). (is_ask r.arrival.env.how ≡ false) × (r.whole ≡ false))
+            (receipt_of v1 i k) was.0
             (other1 i k (λ same _. other same) ∙ was.1) was.2
 
-    came_untaken : (i k : ℕ) (s : Receipt) → receipt_of v1 i k ≡ Some s → is_ask s.arrival.env.how ≡ false → is_taken h' i k ≡ false → HasBytes v1 s
+    came_untaken : (i k : ℕ) (s : Receipt) → receipt_of v1 i k ≡ Some s → is_ask s.arrival.env.how ≡ false →
+        is_taken h' i k ≡ false → HasBytes v1 s
     came_untaken i k s is how none = by (found i k s is)
       where
         by : (Here i k × (newcomer a ≡ s)) ⊎ (receipt_of v i k ≡ Some s) → HasBytes v1 s
@@ -168,14 +193,16 @@ module _ (v : ReceivingView) (h h' : List Event) (stood : Stood v h) (streams : 
         by (inr old) = bytes_still s (at_name i k s old (names i k s old))
             (tables.untaken i k s old how (untaken_before h h' more grown i k none))
 
-    came_waiting : (i k : ℕ) (s : Receipt) → receipt_of v1 i k ≡ Some s → is_ask s.arrival.env.how ≡ true → is_taken h' i k ≡ false → s.whole ≡ false
+    came_waiting : (i k : ℕ) (s : Receipt) → receipt_of v1 i k ≡ Some s → is_ask s.arrival.env.how ≡ true →
+        is_taken h' i k ≡ false → s.whole ≡ false
     came_waiting i k s is how none = by (found i k s is)
       where
         by : (Here i k × (newcomer a ≡ s)) ⊎ (receipt_of v i k ≡ Some s) → s.whole ≡ false
         by (inl now) = ap (λ (x : Receipt). x.whole) (sym now.1)
         by (inr old) = tables.waiting i k s old how (untaken_before h h' more grown i k none)
 
-    old_taken : (k : ℕ) (receive : Receive) (b : Arrival) → slice_get v.receives k ≡ Some receive → receive.taken ≡ Some b
+    old_taken : (k : ℕ) (receive : Receive) (b : Arrival) → slice_get v.receives k ≡ Some receive →
+        receive.taken ≡ Some b
         → (s : Receipt) × IsHere v1 b s × (receive.ended ≡ false → HasBytes v1 s)
     old_taken k receive b at' some =
         let was = tables.taken k receive b at' some in
@@ -187,8 +214,9 @@ module _ (v : ReceivingView) (h h' : List Event) (stood : Stood v h) (streams : 
 
     cleared_still : (i : ℕ) → All (λ e. IsSomeAnd (receipt_of v1 i e.0) (IsCleared h' i e)) (granted_to v i)
     cleared_still i =
-        All-weaker (λ e. IsSomeAnd (receipt_of v i e.0) (IsCleared h i e)) (λ e. IsSomeAnd (receipt_of v1 i e.0) (IsCleared h' i e))
-        (λ e was. let r = some_parts (IsCleared h i e) (receipt_of v i e.0) was in
+        All-weaker (λ e. IsSomeAnd (receipt_of v i e.0) (IsCleared h i e))
+        (λ e. IsSomeAnd (receipt_of v1 i e.0) (IsCleared h' i e))
+        (λ e was. let r = some_and (IsCleared h i e) (receipt_of v i e.0) was in
         some_from (IsCleared h' i e) (receipt_of v1 i e.0) r.0 (other1 i e.0 (other_than i e.0 r.0 r.1) ∙ r.1)
         (still_cleared h h' more grown i e r.0 r.2))
         (granted_to v i) (tables.cleared i)
@@ -197,12 +225,14 @@ module _ (v : ReceivingView) (h h' : List Event) (stood : Stood v h) (streams : 
     none_granted : grant_in (granted_to v a.env.from) a.n ≡ None
     none_granted = by (grant_in (granted_to v a.env.from) a.n) refl
       where
-        by : (o : Option Granted) → grant_in (granted_to v a.env.from) a.n ≡ o → grant_in (granted_to v a.env.from) a.n ≡ None
+        by : (o : Option Granted) → grant_in (granted_to v a.env.from) a.n ≡ o →
+            grant_in (granted_to v a.env.from) a.n ≡ None
         by None is = is
         by (Some g) is =
-            let entry = grant_among (λ e. IsSomeAnd (receipt_of v a.env.from e.0) (IsCleared h a.env.from e)) (granted_to v a.env.from) a.n g
+            let entry = grant_among (λ e. IsSomeAnd (receipt_of v a.env.from e.0) (IsCleared h a.env.from e))
+            (granted_to v a.env.from) a.n g
             (tables.cleared a.env.from) is in
-            let r = some_parts (IsCleared h a.env.from (a.n, g)) (receipt_of v a.env.from a.n) entry in
+            let r = some_and (IsCleared h a.env.from (a.n, g)) (receipt_of v a.env.from a.n) entry in
             let there = r.1 in let none = was_none in absurd (let h'' : ⊥ = cc in h'')
 
     came_once : (i : ℕ) → IsDistinct nat_eq (keys_of (granted_to v1 i))
@@ -212,7 +242,8 @@ module _ (v : ReceivingView) (h h' : List Event) (stood : Stood v h) (streams : 
         is_a None b is = absurd (let h'' : ⊥ = cc in h'')
         is_a (Some k) b is = let same : a ≡ b = cc in sym same
 
-        by : (granted_to v1 i ≡ granted_to v i) ⊎ Granted_now v.grants (taken_by taker a) i → IsDistinct nat_eq (keys_of (granted_to v1 i))
+        by : (granted_to v1 i ≡ granted_to v i) ⊎ Granted_now v.grants (taken_by taker a) i →
+            IsDistinct nat_eq (keys_of (granted_to v1 i))
         by (inl same) = subst (λ (row : List (ℕ × Granted)). IsDistinct nat_eq (keys_of row)) (sym same) (tables.once i)
         by (inr now) =
             let b : Arrival = now.0 in
@@ -220,7 +251,8 @@ module _ (v : ReceivingView) (h h' : List Event) (stood : Stood v h) (streams : 
             let at_a : i ≡ a.env.from = now.3 ∙ ap (λ (x : Arrival). x.env.from) same in
             subst (λ (row : List (ℕ × Granted)). IsDistinct nat_eq (keys_of row)) (sym now.4)
             (once_push (granted_to v i) b.n (fresh b.env.len)
-            (ap (λ (x : Arrival). grant_in (granted_to v i) x.n) same ∙ ap (λ (j : ℕ). grant_in (granted_to v j) a.n) at_a ∙ none_granted)
+            (ap (λ (x : Arrival). grant_in (granted_to v i) x.n) same
+            ∙ ap (λ (j : ℕ). grant_in (granted_to v j) a.n) at_a ∙ none_granted)
             (tables.once i))
 
     counts1 : (i : ℕ) → (stream_of v1 i).count ≡ length (receipts_from v1 i)
@@ -231,7 +263,8 @@ module _ (v : ReceivingView) (h h' : List Event) (stood : Stood v h) (streams : 
 
         by : (i ≡ a.env.from) ⊎ (i ≡ a.env.from → ⊥) → (stream_of v1 i).count ≡ length (receipts_from v1 i)
         by (inl same) =
-            ap (λ (j : ℕ). (stream_of v1 j).count) same ∙ long.longer.count ∙ ap (λ (j : ℕ). j + 1) (tables.counts a.env.from)
+            ap (λ (j : ℕ). (stream_of v1 j).count) same ∙ long.longer.count
+            ∙ ap (λ (j : ℕ). j + 1) (tables.counts a.env.from)
             ∙ sym (length-append (receipts_from v a.env.from) (newcomer a ∷ []))
             ∙ sym (ap length (row-same v.receipts a.env.from row i same inside))
         by (inr other) =
@@ -240,7 +273,8 @@ module _ (v : ReceivingView) (h h' : List Event) (stood : Stood v h) (streams : 
 
     -- a receive afterwards: as it was, or the one that took the message
     abbrev Gave : ℕ → Receive → Type 0
-    Gave k receive = (was : Receive) × (taker ≡ Some k) × (slice_get v.receives k ≡ Some was) × (has_taken a was ≡ receive)
+    Gave k receive = (was : Receive) × (taker ≡ Some k) × (slice_get v.receives k ≡ Some was)
+        × (has_taken a was ≡ receive)
 
     gave : (k : ℕ) (receive : Receive) → slice_get (with_taken v.receives taker a) k ≡ Some receive
         → (slice_get v.receives k ≡ Some receive) ⊎ Gave k receive
@@ -256,11 +290,11 @@ module _ (v : ReceivingView) (h h' : List Event) (stood : Stood v h) (streams : 
               is0 ∙ ap (λ (j : ℕ). Some j) (sym same),
               ap (λ (j : ℕ). slice_get v.receives j) same ∙ there,
               same_Some (has_taken a was) receive
-                  (sym (slice_get-set_same v.receives k0 (has_taken a was) (slice_get_within v.receives k0 was there))
+                  (sym (get_set_same v.receives k0 (has_taken a was) (slice_get_within v.receives k0 was there))
                   ∙ ap (λ (j : ℕ). slice_get (set v.receives k0 (has_taken a was)) j) (sym same) ∙ is),
             )
         by_place k0 is0 (Some was) there is (inr differ) =
-            inl (sym (slice_get-set_other v.receives k0 k (has_taken a was) differ) ∙ is)
+            inl (sym (get_set_other v.receives k0 k (has_taken a was) differ) ∙ is)
 
         by : (o : Option ℕ) → taker ≡ o → slice_get (with_taken v.receives o a) k ≡ Some receive
             → (slice_get v.receives k ≡ Some receive) ⊎ Gave k receive
@@ -273,16 +307,19 @@ module _ (v : ReceivingView) (h h' : List Event) (stood : Stood v h) (streams : 
     gave_back k was is = by taker
       where
         by_place : (k0 : ℕ) (o : Option Receive) → slice_get v.receives k0 ≡ o → (k ≡ k0) ⊎ (k ≡ k0 → ⊥)
-            → (r : Receive) × (slice_get (option_map_or (λ r. set v.receives k0 (has_taken a r)) o v.receives) k ≡ Some r) × (r.cap ≡ was.cap)
+            → (r : Receive) × (slice_get (option_map_or (λ r. set v.receives k0 (has_taken a r)) o v.receives) k
+            ≡ Some r) × (r.cap ≡ was.cap)
         by_place k0 None none place' = (was, is, refl)
         by_place k0 (Some r0) there (inl same) =
-            let same' : r0 ≡ was = same_Some r0 was (sym there ∙ ap (λ (j : ℕ). slice_get v.receives j) (sym same) ∙ is) in (
+            let same' : r0 ≡ was = same_Some r0 was (sym there ∙ ap (λ (j : ℕ). slice_get v.receives j) (sym same)
+            ∙ is) in (
               has_taken a r0,
               ap (λ (j : ℕ). slice_get (set v.receives k0 (has_taken a r0)) j) same
-                  ∙ slice_get-set_same v.receives k0 (has_taken a r0) (slice_get_within v.receives k0 r0 there),
+                  ∙ get_set_same v.receives k0 (has_taken a r0) (slice_get_within v.receives k0 r0 there),
               ap (λ (x : Receive). x.cap) same',
             )
-        by_place k0 (Some r0) there (inr differ) = (was, slice_get-set_other v.receives k0 k (has_taken a r0) differ ∙ is, refl)
+        by_place k0 (Some r0) there (inr differ) =
+            (was, get_set_other v.receives k0 k (has_taken a r0) differ ∙ is, refl)
 
         by : (o : Option ℕ) → (r : Receive) × (slice_get (with_taken v.receives o a) k ≡ Some r) × (r.cap ≡ was.cap)
         by None = (was, is, refl)
@@ -296,19 +333,24 @@ module _ (v : ReceivingView) (h h' : List Event) (stood : Stood v h) (streams : 
           by false how = eager_bytes how
           by true how =
               let row_is : granted_to v1 a.env.from ≡ granted_to v a.env.from ++ (a.n, fresh a.env.len) ∷ [] =
-              ap (λ (o : Option ℕ). granted_to (came v streams a o) a.env.from) is ∙ granted_new v.grants a how granted a.env.from refl in
+              ap (λ (o : Option ℕ). granted_to (came v streams a o) a.env.from) is
+              ∙ granted_new v.grants a how granted a.env.from refl in
               record {
-                granted = λ _. some_from (IsGranted (newcomer a)) (grant_in (granted_to v1 a.env.from) a.n) (fresh a.env.len)
-                    (ap (λ (row : List (ℕ × Granted)). grant_in row a.n) row_is ∙ grant_new (granted_to v a.env.from) a.n (fresh a.env.len) none_granted)
+                granted = λ _. some_from (IsGranted (newcomer a)) (grant_in (granted_to v1 a.env.from) a.n)
+                    (fresh a.env.len)
+                    (ap (λ (row : List (ℕ × Granted)). grant_in row a.n) row_is
+                    ∙ grant_new (granted_to v a.env.from) a.n (fresh a.env.len) none_granted)
                     (record { len = refl; bytes = λ whole. absurd (true≢false (sym whole)) });
                 joined = λ eager. absurd (true≢false (sym how ∙ eager));
               }
 
-      came_taken : (k : ℕ) (receive : Receive) (b : Arrival) → slice_get (with_taken v.receives taker a) k ≡ Some receive → receive.taken ≡ Some b
+      came_taken : (k : ℕ) (receive : Receive) (b : Arrival) → slice_get (with_taken v.receives taker a) k
+          ≡ Some receive → receive.taken ≡ Some b
           → (s : Receipt) × IsHere v1 b s × (receive.ended ≡ false → HasBytes v1 s)
       came_taken k receive b at' some = by (gave k receive at')
         where
-          by : (slice_get v.receives k ≡ Some receive) ⊎ Gave k receive → (s : Receipt) × IsHere v1 b s × (receive.ended ≡ false → HasBytes v1 s)
+          by : (slice_get v.receives k ≡ Some receive) ⊎ Gave k receive →
+              (s : Receipt) × IsHere v1 b s × (receive.ended ≡ false → HasBytes v1 s)
           by (inl old) = old_taken k receive b old some
           by (inr now) =
               let same : a ≡ b = same_Some a b (ap (λ (x : Receive). x.taken) now.3 ∙ some) in (
@@ -317,19 +359,23 @@ module _ (v : ReceivingView) (h h' : List Event) (stood : Stood v h) (streams : 
                 λ _. new_bytes k now.1,
               )
 
-      not_theirs : (k l : ℕ) (receive other : Receive) (b c : Arrival) → slice_get v.receives k ≡ Some receive → receive.taken ≡ Some b
+      not_theirs : (k l : ℕ) (receive other : Receive) (b c : Arrival) → slice_get v.receives k ≡ Some receive →
+          receive.taken ≡ Some b
           → Gave l other → other.taken ≡ Some c → b.env.from ≡ c.env.from → b.n ≡ c.n → ⊥
       not_theirs k l receive other b c at' some now some' same same' =
           let is_a : a ≡ c = same_Some a c (ap (λ (x : Receive). x.taken) now.3 ∙ some') in
           let was = tables.taken k receive b at' some in
-          other_than b.env.from b.n was.0 was.1.0 (same ∙ ap (λ (x : Arrival). x.env.from) (sym is_a)) (same' ∙ ap (λ (x : Arrival). x.n) (sym is_a))
+          other_than b.env.from b.n was.0 was.1.0 (same ∙ ap (λ (x : Arrival). x.env.from) (sym is_a))
+          (same' ∙ ap (λ (x : Arrival). x.n) (sym is_a))
 
-      came_apart : (k l : ℕ) (receive other : Receive) (b c : Arrival) → slice_get (with_taken v.receives taker a) k ≡ Some receive
+      came_apart : (k l : ℕ) (receive other : Receive) (b c : Arrival) → slice_get (with_taken v.receives taker a) k
+          ≡ Some receive
           → slice_get (with_taken v.receives taker a) l ≡ Some other → receive.taken ≡ Some b → other.taken ≡ Some c
           → b.env.from ≡ c.env.from → b.n ≡ c.n → k ≡ l
       came_apart k l receive other b c at' at'' some some' same same' = by (gave k receive at') (gave l other at'')
         where
-          by : (slice_get v.receives k ≡ Some receive) ⊎ Gave k receive → (slice_get v.receives l ≡ Some other) ⊎ Gave l other → k ≡ l
+          by : (slice_get v.receives k ≡ Some receive) ⊎ Gave k receive →
+              (slice_get v.receives l ≡ Some other) ⊎ Gave l other → k ≡ l
           by (inl old) (inl old') = tables.apart k l receive other b c old old' some some' same same'
           by (inl old) (inr now) = absurd (not_theirs k l receive other b c old some now some' same same')
           by (inr now) (inl old) = absurd (not_theirs l k other receive c b old some' now some (sym same) (sym same'))
@@ -345,19 +391,23 @@ module _ (v : ReceivingView) (h h' : List Event) (stood : Stood v h) (streams : 
           by : (granted_to v1 i ≡ granted_to v i) ⊎ Granted_now v.grants (taken_by taker a) i
               → All (λ e. IsSomeAnd (receipt_of v1 i e.0) (IsCleared h' i e)) (granted_to v1 i)
           by (inl same) =
-              subst (λ (row : List (ℕ × Granted)). All (λ e. IsSomeAnd (receipt_of v1 i e.0) (IsCleared h' i e)) row) (sym same) (cleared_still i)
+              subst (λ (row : List (ℕ × Granted)). All (λ e. IsSomeAnd (receipt_of v1 i e.0) (IsCleared h' i e)) row)
+              (sym same) (cleared_still i)
           by (inr now) =
               let b : Arrival = now.0 in
               let of = of_taker taker b now.1 in
               let at_a : i ≡ a.env.from = now.3 ∙ ap (λ (x : Arrival). x.env.from) of.0 in
               let n_is : b.n ≡ a.n = ap (λ (x : Arrival). x.n) of.0 in
-              subst (λ (row : List (ℕ × Granted)). All (λ e. IsSomeAnd (receipt_of v1 i e.0) (IsCleared h' i e)) row) (sym now.4)
-              (All-push (λ e. IsSomeAnd (receipt_of v1 i e.0) (IsCleared h' i e)) (granted_to v i) (b.n, fresh b.env.len) (cleared_still i)
+              subst (λ (row : List (ℕ × Granted)). All (λ e. IsSomeAnd (receipt_of v1 i e.0) (IsCleared h' i e)) row)
+              (sym now.4)
+              (All-push (λ e. IsSomeAnd (receipt_of v1 i e.0) (IsCleared h' i e)) (granted_to v i)
+              (b.n, fresh b.env.len) (cleared_still i)
               (some_from (IsCleared h' i (b.n, fresh b.env.len)) (receipt_of v1 i b.n) (newcomer a)
               (ap (λ (j : ℕ). receipt_of v1 j b.n) at_a ∙ ap (λ (j : ℕ). receipt_of v1 a.env.from j) n_is ∙ here1)
               (record {
                 asked = ap (λ (x : Arrival). is_ask x.env.how) (sym of.0) ∙ now.2;
-                taken = ap (λ (j : ℕ). is_taken h' j b.n) at_a ∙ ap (λ (j : ℕ). is_taken h' a.env.from j) n_is ∙ paired of.1.0 of.1.1;
+                taken = ap (λ (j : ℕ). is_taken h' j b.n) at_a ∙ ap (λ (j : ℕ). is_taken h' a.env.from j) n_is
+                    ∙ paired of.1.0 of.1.1;
                 due = λ _. refl;
               })))
 
@@ -365,7 +415,8 @@ module _ (v : ReceivingView) (h h' : List Event) (stood : Stood v h) (streams : 
       tables-came same_posts = record {
         streams = long.length' ∙ tables.streams;
         grants = granted_length v.grants (taken_by taker a) ∙ tables.grants;
-        receipts = length-set v.receipts a.env.from (rows_from v.receipts a.env.from ++ newcomer a ∷ []) ∙ tables.receipts;
+        receipts = length-set v.receipts a.env.from (rows_from v.receipts a.env.from ++ newcomer a ∷ [])
+            ∙ tables.receipts;
         drawn = tables.drawn;
         counts = counts1;
         unfinished = came_unfinished;
@@ -375,12 +426,14 @@ module _ (v : ReceivingView) (h h' : List Event) (stood : Stood v h) (streams : 
         apart = came_apart;
         cleared = came_cleared;
         once = came_once;
-        caps = subst (λ (ps : List post.Post). All (λ p. IsSomeAnd (slice_get (with_taken v.receives taker a) p.number) (λ r. r.cap ≡ p.cap)) ps)
+        caps = subst (λ (ps : List post.Post). All
+            (λ p. IsSomeAnd (slice_get (with_taken v.receives taker a) p.number) (λ r. r.cap ≡ p.cap)) ps)
             (sym same_posts)
             (All-weaker (λ p. IsSomeAnd (slice_get v.receives p.number) (λ r. r.cap ≡ p.cap))
             (λ p. IsSomeAnd (slice_get (with_taken v.receives taker a) p.number) (λ r. r.cap ≡ p.cap))
-            (λ p had. let r = some_parts (λ (r : Receive). r.cap ≡ p.cap) (slice_get v.receives p.number) had in
+            (λ p had. let r = some_and (λ (r : Receive). r.cap ≡ p.cap) (slice_get v.receives p.number) had in
             let back = gave_back p.number r.0 r.1 in
-            some_from (λ (r : Receive). r.cap ≡ p.cap) (slice_get (with_taken v.receives taker a) p.number) back.0 back.1 (back.2 ∙ r.2))
+            some_from (λ (r : Receive). r.cap ≡ p.cap) (slice_get (with_taken v.receives taker a) p.number) back.0
+            back.1 (back.2 ∙ r.2))
             (posts h) tables.caps);
       }

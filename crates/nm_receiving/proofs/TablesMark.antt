@@ -18,11 +18,12 @@ use Rattle.nm_receiving.specs.declared.receipts.Receipt.{Receipt}
 use Rattle.nm_receiving.specs.declared.receipts.Receive.{Receive}
 use Rattle.nm_receiving.specs.Kept.{AreTables, HasBytes, IsCleared, IsHere}
 use Rattle.nm_receiving.specs.Receipts.{ReceivingView, granted_to, receipt_of, receipts_from, stream_of}
-use Rattle.nm_receiving.proofs.Lists.{some_from, some_parts}
+use Rattle.nm_receiving.proofs.Lists.{some_from}
 use Rattle.std.proofs.lemmas.List.{length-set}
 use Rattle.nm_receiving.specs.Steps.{made_whole, with_whole}
 use Rattle.nm_receiving.proofs.Marking.{marked, marked_here, marked_length, marked_other}
 use Rattle.nm_receiving.proofs.Stood.{Stood}
+use Rattle.nm_facts.proofs.Options.{some_and}
 
 -- the same pairs and posts
 pub record IsLike (h h' : List Event) : Type 0 where
@@ -32,8 +33,14 @@ pub record IsLike (h h' : List Event) : Type 0 where
 pub like_taken : (h h' : List Event) → IsLike h h' → (from n : ℕ) → is_taken h' from n ≡ is_taken h from n
 like_taken h h' like from n = ap (λ (ps : List Pair). list_any (is_of_message from n) ps) like.pairs
 
-pub like_cleared : (h h' : List Event) → IsLike h h' → (from : ℕ) (e : ℕ × Granted) (r : Receipt) → IsCleared h from e r → IsCleared h' from e r
-like_cleared h h' like from e r was = record { asked = was.asked; taken = like_taken h h' like from e.0 ∙ was.taken; due = was.due }
+pub like_cleared : (h h' : List Event) → IsLike h h' → (from : ℕ) (e : ℕ × Granted) (r : Receipt) →
+    IsCleared h from e r → IsCleared h' from e r
+like_cleared h h' like from e r was = record {
+  asked = was.asked;
+  taken = like_taken h h' like from e.0
+      ∙ was.taken;
+  due = was.due;
+}
 
 -- a message may be made whole
 pub record MayMark (v : ReceivingView) (h : List Event) (from n : ℕ) (r : Receipt) : Type 0 where
@@ -73,11 +80,13 @@ module _ (v : ReceivingView) (h h' : List Event) (stood : Stood v h) (from n : �
       → (Here i k × (made_whole r ≡ s)) ⊎ ((receipt_of v i k ≡ Some s) × (i ≡ from → k ≡ n → ⊥))
   found i k s is = by (place i k)
     where
-      by : Here i k ⊎ (i ≡ from → k ≡ n → ⊥) → (Here i k × (made_whole r ≡ s)) ⊎ ((receipt_of v i k ≡ Some s) × (i ≡ from → k ≡ n → ⊥))
+      by : Here i k ⊎ (i ≡ from → k ≡ n → ⊥) →
+          (Here i k × (made_whole r ≡ s)) ⊎ ((receipt_of v i k ≡ Some s) × (i ≡ from → k ≡ n → ⊥))
       by (inl same) = inl (
         same,
         same_Some (made_whole r) s
-            (sym here1 ∙ ap (λ (j : ℕ). receipt_of v1 from j) (sym same.1) ∙ ap (λ (j : ℕ). receipt_of v1 j k) (sym same.0) ∙ is),
+            (sym here1 ∙ ap (λ (j : ℕ). receipt_of v1 from j) (sym same.1) ∙ ap (λ (j : ℕ). receipt_of v1 j k)
+            (sym same.0) ∙ is),
       )
       by (inr differ) = inr (sym (other1 i k differ) ∙ is, differ)
 
@@ -88,15 +97,19 @@ module _ (v : ReceivingView) (h h' : List Event) (stood : Stood v h) (from n : �
       → IsSomeAnd (receipt_of v1 i k) (λ r. (is_ask r.arrival.env.how ≡ false) × (r.whole ≡ false))
   marked_unfinished i k last some = by (place i k)
     where
-      by : Here i k ⊎ (i ≡ from → k ≡ n → ⊥) → IsSomeAnd (receipt_of v1 i k) (λ r. (is_ask r.arrival.env.how ≡ false) × (r.whole ≡ false))
+      by : Here i k ⊎ (i ≡ from → k ≡ n → ⊥) → IsSomeAnd (receipt_of v1 i k)
+          (λ r. (is_ask r.arrival.env.how ≡ false) × (r.whole ≡ false))
       by (inl same) = absurd (may.last
           (sym (ap (λ (j : ℕ). j + 1) same.1) ∙ last ∙ ap (λ (j : ℕ). (stream_of v j).count) same.0)
           (subst (λ (j : ℕ). 0 < missing (stream_of v j)) same.0 some))
       by (inr differ) =
-          let was = some_parts (λ (r : Receipt). (is_ask r.arrival.env.how ≡ false) × (r.whole ≡ false)) (receipt_of v i k) (tables.unfinished i k last some) in
-          some_from (λ (r : Receipt). (is_ask r.arrival.env.how ≡ false) × (r.whole ≡ false)) (receipt_of v1 i k) was.0 (other1 i k differ ∙ was.1) was.2
+          let was = some_and (λ (r : Receipt). (is_ask r.arrival.env.how ≡ false) × (r.whole ≡ false))
+          (receipt_of v i k) (tables.unfinished i k last some) in
+          some_from (λ (r : Receipt). (is_ask r.arrival.env.how ≡ false) × (r.whole ≡ false))
+          (receipt_of v1 i k) was.0 (other1 i k differ ∙ was.1) was.2
 
-  marked_untaken : (i k : ℕ) (s : Receipt) → receipt_of v1 i k ≡ Some s → is_ask s.arrival.env.how ≡ false → is_taken h' i k ≡ false → HasBytes v1 s
+  marked_untaken : (i k : ℕ) (s : Receipt) → receipt_of v1 i k ≡ Some s → is_ask s.arrival.env.how ≡ false →
+      is_taken h' i k ≡ false → HasBytes v1 s
   marked_untaken i k s is how none = by (found i k s is)
     where
       none' : is_taken h i k ≡ false
@@ -109,7 +122,8 @@ module _ (v : ReceivingView) (h h' : List Event) (stood : Stood v h) (from n : �
           (ap (λ (x : Receipt). is_ask x.arrival.env.how) here.1 ∙ how) none')))
       by (inr other) = bytes_marked s (tables.untaken i k s other.0 how none')
 
-  marked_waiting : (i k : ℕ) (s : Receipt) → receipt_of v1 i k ≡ Some s → is_ask s.arrival.env.how ≡ true → is_taken h' i k ≡ false → s.whole ≡ false
+  marked_waiting : (i k : ℕ) (s : Receipt) → receipt_of v1 i k ≡ Some s → is_ask s.arrival.env.how ≡ true →
+      is_taken h' i k ≡ false → s.whole ≡ false
   marked_waiting i k s is how none = by (found i k s is)
     where
       none' : is_taken h i k ≡ false
@@ -121,14 +135,16 @@ module _ (v : ReceivingView) (h h' : List Event) (stood : Stood v h) (from n : �
           ∙ ap (λ (j : ℕ). is_taken h from j) (sym here.0.1) ∙ ap (λ (j : ℕ). is_taken h j k) (sym here.0.0) ∙ none'))
       by (inr other) = tables.waiting i k s other.0 how none'
 
-  marked_taken : (k : ℕ) (receive : Receive) (a : Arrival) → slice_get v.receives k ≡ Some receive → receive.taken ≡ Some a
+  marked_taken : (k : ℕ) (receive : Receive) (a : Arrival) → slice_get v.receives k ≡ Some receive →
+      receive.taken ≡ Some a
       → (s : Receipt) × IsHere v1 a s × (receive.ended ≡ false → HasBytes v1 s)
   marked_taken k receive a at' some = by (place a.env.from a.n)
     where
       was : (s : Receipt) × IsHere v a s × (receive.ended ≡ false → HasBytes v s)
       was = tables.taken k receive a at' some
 
-      by : Here a.env.from a.n ⊎ (a.env.from ≡ from → a.n ≡ n → ⊥) → (s : Receipt) × IsHere v1 a s × (receive.ended ≡ false → HasBytes v1 s)
+      by : Here a.env.from a.n ⊎ (a.env.from ≡ from → a.n ≡ n → ⊥) →
+          (s : Receipt) × IsHere v1 a s × (receive.ended ≡ false → HasBytes v1 s)
       by (inl same) =
           let is : r ≡ was.0 = same_Some r was.0 (sym (was_here a.env.from a.n same) ∙ was.1.0) in (
             made_whole r,
@@ -136,9 +152,15 @@ module _ (v : ReceivingView) (h h' : List Event) (stood : Stood v h) (from n : �
               ap (λ (j : ℕ). receipt_of v1 j a.n) same.0 ∙ ap (λ (j : ℕ). receipt_of v1 from j) same.1 ∙ here1,
               ap (λ (x : Receipt). x.arrival) is ∙ was.1.1,
             ),
-            λ live. bytes_marked (made_whole r) (may.complete (subst (λ (x : Receipt). HasBytes v x) (sym is) (was.2 live))),
+            λ live. bytes_marked (made_whole r)
+                (may.complete (subst (λ (x : Receipt). HasBytes v x) (sym is) (was.2 live))),
           )
-      by (inr differ) = (was.0, (other1 a.env.from a.n differ ∙ was.1.0, was.1.1), λ live. bytes_marked was.0 (was.2 live))
+      by (inr differ) = (
+        was.0,
+        (other1 a.env.from a.n differ ∙ was.1.0, was.1.1),
+        λ live. bytes_marked was.0
+            (was.2 live),
+      )
 
   marked_cleared : (i : ℕ) → All (λ e. IsSomeAnd (receipt_of v1 i e.0) (IsCleared h' i e)) (granted_to v i)
   marked_cleared i k d inside = by (place i e.0)
@@ -147,13 +169,14 @@ module _ (v : ReceivingView) (h h' : List Event) (stood : Stood v h) (from n : �
       e = get_or (granted_to v i) k d
 
       was : (s : Receipt) × (receipt_of v i e.0 ≡ Some s) × IsCleared h i e s
-      was = some_parts (IsCleared h i e) (receipt_of v i e.0) (tables.cleared i k d inside)
+      was = some_and (IsCleared h i e) (receipt_of v i e.0) (tables.cleared i k d inside)
 
       by : Here i e.0 ⊎ (i ≡ from → e.0 ≡ n → ⊥) → IsSomeAnd (receipt_of v1 i e.0) (IsCleared h' i e)
       by (inl same) =
           let is : r ≡ was.0 = same_Some r was.0 (sym (was_here i e.0 same) ∙ was.1) in
           let shut : is_open e.1 ≡ false =
-          subst (λ (j : ℕ). All (λ e. e.0 ≡ n → is_open e.1 ≡ false) (granted_to v j)) (sym same.0) may.closed k d inside same.1 in
+          subst (λ (j : ℕ). All (λ e. e.0 ≡ n → is_open e.1 ≡ false) (granted_to v j)) (sym same.0) may.closed k d
+          inside same.1 in
           some_from (IsCleared h' i e) (receipt_of v1 i e.0) (made_whole r)
           (ap (λ (j : ℕ). receipt_of v1 j e.0) same.0 ∙ ap (λ (j : ℕ). receipt_of v1 from j) same.1 ∙ here1)
           (record {
@@ -162,7 +185,8 @@ module _ (v : ReceivingView) (h h' : List Event) (stood : Stood v h) (from n : �
             due = λ open'. absurd (true≢false (sym open' ∙ shut));
           })
       by (inr differ) =
-          some_from (IsCleared h' i e) (receipt_of v1 i e.0) was.0 (other1 i e.0 differ ∙ was.1) (like_cleared h h' like i e was.0 was.2)
+          some_from (IsCleared h' i e) (receipt_of v1 i e.0) was.0 (other1 i e.0 differ ∙ was.1)
+          (like_cleared h h' like i e was.0 was.2)
 
   pub tables-marked : AreTables v1 h'
   tables-marked = record {
@@ -178,5 +202,6 @@ module _ (v : ReceivingView) (h h' : List Event) (stood : Stood v h) (from n : �
     apart = tables.apart;
     cleared = marked_cleared;
     once = tables.once;
-    caps = subst (λ (ps : List post.Post). All (λ p. IsSomeAnd (slice_get v.receives p.number) (λ r. r.cap ≡ p.cap)) ps) (sym like.posts) tables.caps;
+    caps = subst (λ (ps : List post.Post). All (λ p. IsSomeAnd (slice_get v.receives p.number) (λ r. r.cap ≡ p.cap))
+        ps) (sym like.posts) tables.caps;
   }

@@ -14,7 +14,7 @@ use Rattle.nm_receiving.specs.declared.receipts.Receipt.{Receipt}
 use Rattle.nm_receiving.specs.Kept.{AreTables, HasBytes, IsCleared, IsGranted}
 use Rattle.nm_receiving.specs.Receipts.{ReceivingView, granted_to, receipt_of}
 use Rattle.nm_receiving.proofs.Grants.{grant_among}
-use Rattle.nm_receiving.proofs.Lists.{some_from, some_parts}
+use Rattle.nm_receiving.proofs.Lists.{some_from}
 use Rattle.std.specs.Map.{set_value}
 use Rattle.std.specs.Option.{option_map_or}
 use Rattle.std.proofs.Math.ListN.{set}
@@ -26,7 +26,7 @@ use Rattle.std.proofs.lemmas.Option.{slice_get-get_or}
 use Rattle.std.specs.Cmp.{nat_eq_equiv}
 use Rattle.nm_rndv.specs.Grants.{with_grant, with_more, with_piece}
 use Rattle.nm_receiving.specs.Steps.{made_whole}
-use Rattle.nm_receiving.proofs.Grants.{all_set, differs, grant_set, self}
+use Rattle.nm_receiving.proofs.Grants.{all_set, grant_set, self}
 use Rattle.nm_receiving.proofs.Lists.{row-other, row-same}
 use Rattle.nm_receiving.proofs.Tables.{bytes_along}
 use Rattle.nm_receiving.proofs.TablesMark.{MayMark}
@@ -36,6 +36,8 @@ use Rattle.std.proofs.lemmas.Bool.Decides.{nat_tests}
 use Rattle.nm_rndv.specs.Grants.{expected_in, is_unfinished}
 use Rattle.nm_rndv.proofs.GrantLemmas.{expected_is_open}
 use Rattle.nm_rndv.proofs.StateLemmas.{equal}
+use Rattle.nm_facts.proofs.Options.{some_and}
+use Rattle.nm_facts.proofs.Numbers.{nat_unequal as differs}
 
 -- an open grant has bytes
 open_bytes : (g : Granted) → is_open g ≡ true → (bytes : List ℕ) × (g.bytes ≡ Some bytes) × (length bytes < g.len)
@@ -47,7 +49,8 @@ open_bytes g is = by g.bytes refl is
     by (Some bytes) there is = (bytes, there, ltb-true (length bytes) g.len is)
 
 -- the message that the next piece is of
-pub record IsExpected (v : ReceivingView) (h : List Event) (from n : ℕ) (g : Granted) (came : List ℕ) (r : Receipt) : Type 0 where
+pub record IsExpected (v : ReceivingView) (h : List Event) (from n : ℕ) (g : Granted) (came : List ℕ)
+    (r : Receipt) : Type 0 where
   pub there : grant_in (granted_to v from) n ≡ Some g
   pub is_open' : is_open g ≡ true
   pub bytes : g.bytes ≡ Some came
@@ -55,18 +58,33 @@ pub record IsExpected (v : ReceivingView) (h : List Event) (from n : ℕ) (g : G
   pub here : receipt_of v from n ≡ Some r
   pub cleared : IsCleared h from (n, g) r
 
-pub expected_is : (v : ReceivingView) (h : List Event) (from n at' : ℕ) → AreTables v h → expected_in (granted_to v from) ≡ Some (n, at')
+pub expected_is : (v : ReceivingView) (h : List Event) (from n at' : ℕ) → AreTables v h →
+    expected_in (granted_to v from) ≡ Some (n, at')
     → (g : Granted) × (came : List ℕ) × (r : Receipt) × IsExpected v h from n g came r
 expected_is v h from n at' tables expected =
     let row : List (ℕ × Granted) = granted_to v from in
     let found = expected_is_open row (position_or_len is_unfinished row) refl (tables.once from) n
     (ap (λ (o : Option (ℕ × ℕ)). option_map (λ e. e.0) o) expected) in
-    let entry = grant_among (λ e. IsSomeAnd (receipt_of v from e.0) (IsCleared h from e)) row n found.0 (tables.cleared from) found.1 in
-    let r = some_parts (IsCleared h from (n, found.0)) (receipt_of v from n) entry in
-    let b = open_bytes found.0 found.2 in
-    (found.0, b.0, r.0, record { there = found.1; is_open' = found.2; bytes = b.1; below = b.2; here = r.1; cleared = r.2 })
+    let entry = grant_among (λ e. IsSomeAnd (receipt_of v from e.0) (IsCleared h from e)) row n found.0
+    (tables.cleared from) found.1 in
+    let r = some_and (IsCleared h from (n, found.0)) (receipt_of v from n) entry in
+    let b = open_bytes found.0 found.2 in (
+      found.0,
+      b.0,
+      r.0,
+      record {
+        there = found.1;
+        is_open' = found.2;
+        bytes = b.1;
+        below = b.2;
+        here = r.1;
+        cleared =
+            r.2;
+      },
+    )
 
-module _ (v : ReceivingView) (h : List Event) (from n : ℕ) (bytes : List ℕ) (drawn : List ℕ) (g : Granted) (came : List ℕ) (r : Receipt)
+module _ (v : ReceivingView) (h : List Event) (from n : ℕ) (bytes : List ℕ) (drawn : List ℕ) (g : Granted)
+    (came : List ℕ) (r : Receipt)
     (tables : AreTables v h) (inside : from < length v.grants) (is : IsExpected v h from n g came r) where
   abbrev row : List (ℕ × Granted)
   row = granted_to v from
@@ -111,7 +129,9 @@ module _ (v : ReceivingView) (h : List Event) (from n : ℕ) (bytes : List ℕ) 
   w_bytes = ap (λ (o : Option (List ℕ)). option_map (λ bs. bs ++ bytes) o) is.bytes
 
   piece_bytes : (s : Receipt) → receipt_of v s.arrival.env.from s.arrival.n ≡ Some s → HasBytes v s → HasBytes pieced s
-  piece_bytes s here = bytes_along v pieced s s refl (λ how g' there has. by g' there has (cases_eq s.arrival.env.from from) (cases_eq s.arrival.n n)) (λ how m there has. (m, there, has))
+  piece_bytes s here = bytes_along v pieced s s refl
+      (λ how g' there has. by g' there has (cases_eq s.arrival.env.from from) (cases_eq s.arrival.n n))
+      (λ how m there has. (m, there, has))
     where
       Now : Type 0
       Now = (g' : Granted) × (grant_in (granted_to pieced s.arrival.env.from) s.arrival.n ≡ Some g') × IsGranted s g'
@@ -130,7 +150,8 @@ module _ (v : ReceivingView) (h : List Event) (from n : ℕ) (bytes : List ℕ) 
           let is_r : s ≡ r = same_Some s r (sym here ∙ ap (λ (i : ℕ). receipt_of v i s.arrival.n) same
           ∙ ap (λ (k : ℕ). receipt_of v from k) same' ∙ is.here) in (
             w,
-            ap (λ (i : ℕ). grant_in (granted_to pieced i) s.arrival.n) same ∙ ap (λ (k : ℕ). grant_in (granted_to pieced from) k) same' ∙ now_there,
+            ap (λ (i : ℕ). grant_in (granted_to pieced i) s.arrival.n) same
+                ∙ ap (λ (k : ℕ). grant_in (granted_to pieced from) k) same' ∙ now_there,
             record {
               len = ap (λ (x : Granted). x.len) (sym is_g) ∙ has.len;
               bytes = some_from (λ bytes. s.whole ≡ true → length bytes ≡ w.len) w.bytes (came ++ bytes) w_bytes
@@ -140,7 +161,8 @@ module _ (v : ReceivingView) (h : List Event) (from n : ℕ) (bytes : List ℕ) 
       by g' there has (inl same) (inr differ) = other g' there has (λ _ is'. differ is')
       by g' there has (inr differ) place = other g' there has (λ is' _. differ is')
 
-  module _ (names : (i k : ℕ) (s : Receipt) → receipt_of v i k ≡ Some s → (s.arrival.env.from ≡ i) × (s.arrival.n ≡ k)) where
+  module _ (names : (i k : ℕ) (s : Receipt) → receipt_of v i k ≡ Some s →
+      (s.arrival.env.from ≡ i) × (s.arrival.n ≡ k)) where
     at_name : (i k : ℕ) (s : Receipt) → receipt_of v i k ≡ Some s → receipt_of v s.arrival.env.from s.arrival.n ≡ Some s
     at_name i k s there =
         let name = names i k s there in
@@ -149,17 +171,21 @@ module _ (v : ReceivingView) (h : List Event) (from n : ℕ) (bytes : List ℕ) 
     piece_cleared : (i : ℕ) → All (λ e. IsSomeAnd (receipt_of v i e.0) (IsCleared h i e)) (granted_to pieced i)
     piece_cleared i = by (cases_eq i from)
       where
-        by : (i ≡ from) ⊎ (i ≡ from → ⊥) → All (λ e. IsSomeAnd (receipt_of v i e.0) (IsCleared h i e)) (granted_to pieced i)
+        by : (i ≡ from) ⊎ (i ≡ from → ⊥) → All (λ e. IsSomeAnd (receipt_of v i e.0) (IsCleared h i e))
+            (granted_to pieced i)
         by (inl same) =
-            subst (λ (j : ℕ). All (λ e. IsSomeAnd (receipt_of v j e.0) (IsCleared h j e)) (granted_to pieced j)) (sym same)
-            (subst (λ (es : List (ℕ × Granted)). All (λ e. IsSomeAnd (receipt_of v from e.0) (IsCleared h from e)) es) (sym granted_here)
+            subst (λ (j : ℕ). All (λ e. IsSomeAnd (receipt_of v j e.0) (IsCleared h j e)) (granted_to pieced j))
+            (sym same)
+            (subst (λ (es : List (ℕ × Granted)). All (λ e. IsSomeAnd (receipt_of v from e.0) (IsCleared h from e)) es)
+            (sym granted_here)
             (all_set (λ e. IsSomeAnd (receipt_of v from e.0) (IsCleared h from e)) (nat_eq n) row w
             (λ k is_n. let same' : n ≡ k = equal n k is_n in
             subst (λ (j : ℕ). IsSomeAnd (receipt_of v from j) (IsCleared h from (j, w))) same'
             (some_from (IsCleared h from (n, w)) (receipt_of v from n) r is.here
             (record { asked = is.cleared.asked; taken = is.cleared.taken; due = λ _. not_whole })))
             (tables.cleared from)))
-        by (inr other) = subst (λ (es : List (ℕ × Granted)). All (λ e. IsSomeAnd (receipt_of v i e.0) (IsCleared h i e)) es) (sym (granted_other i other))
+        by (inr other) = subst (λ (es : List (ℕ × Granted)). All
+            (λ e. IsSomeAnd (receipt_of v i e.0) (IsCleared h i e)) es) (sym (granted_other i other))
             (tables.cleared i)
 
     pub piece_once : (i : ℕ) → IsDistinct nat_eq (keys_of (granted_to pieced i))
@@ -168,9 +194,11 @@ module _ (v : ReceivingView) (h : List Event) (from n : ℕ) (bytes : List ℕ) 
         by : (i ≡ from) ⊎ (i ≡ from → ⊥) → IsDistinct nat_eq (keys_of (granted_to pieced i))
         by (inl same) =
             subst (λ (ks : List ℕ). IsDistinct nat_eq ks)
-            (sym (ap (λ (j : ℕ). keys_of (granted_to pieced j)) same ∙ ap (λ (es : List (ℕ × Granted)). keys_of es) granted_here
+            (sym (ap (λ (j : ℕ). keys_of (granted_to pieced j)) same
+            ∙ ap (λ (es : List (ℕ × Granted)). keys_of es) granted_here
             ∙ keys-set_value (nat_eq n) row w)) (tables.once from)
-        by (inr other) = subst (λ (es : List (ℕ × Granted)). IsDistinct nat_eq (keys_of es)) (sym (granted_other i other)) (tables.once i)
+        by (inr other) = subst (λ (es : List (ℕ × Granted)). IsDistinct nat_eq (keys_of es))
+            (sym (granted_other i other)) (tables.once i)
 
     pub tables-piece : length drawn ≡ length v.drawn → AreTables pieced h
     tables-piece same_drawn = record {
@@ -194,7 +222,8 @@ module _ (v : ReceivingView) (h : List Event) (from n : ℕ) (bytes : List ℕ) 
     -- with its last piece the message may be made whole
     module _ (full : length (came ++ bytes) ≡ g.len) where
       w_closed : is_open w ≡ false
-      w_closed = ap (λ (o : Option (List ℕ)). option_map_or (λ b. nat_lt (length b) g.len) o false) w_bytes ∙ below (length (came ++ bytes)) g.len full
+      w_closed = ap (λ (o : Option (List ℕ)). option_map_or (λ b. nat_lt (length b) g.len) o false) w_bytes
+          ∙ below (length (came ++ bytes)) g.len full
         where
           below : (a b : ℕ) → a ≡ b → nat_lt a b ≡ false
           below a b same = grind (arith, nat_tests)
@@ -207,7 +236,8 @@ module _ (v : ReceivingView) (h : List Event) (from n : ℕ) (bytes : List ℕ) 
           joined = λ eager. absurd (true≢false (sym is.cleared.asked ∙ eager));
         };
         last = λ last some.
-            let was = some_parts (λ (r : Receipt). (is_ask r.arrival.env.how ≡ false) × (r.whole ≡ false)) (receipt_of v from n)
+            let was = some_and (λ (r : Receipt). (is_ask r.arrival.env.how ≡ false) × (r.whole ≡ false))
+            (receipt_of v from n)
             (tables.unfinished from n last some) in
             let same : was.0 ≡ r = same_Some was.0 r (sym was.1 ∙ is.here) in
             true≢false (sym is.cleared.asked ∙ ap (λ (x : Receipt). is_ask x.arrival.env.how) (sym same) ∙ was.2.0);
@@ -220,15 +250,19 @@ module _ (v : ReceivingView) (h : List Event) (from n : ℕ) (bytes : List ℕ) 
             ap (λ (x : Granted). is_open x) is_w ∙ w_closed;
       }
         where
-          complete_at : (r.arrival.env.from ≡ from) × (r.arrival.n ≡ n) → HasBytes pieced r → is_ask r.arrival.env.how ≡ true
+          complete_at : (r.arrival.env.from ≡ from) × (r.arrival.n ≡ n) → HasBytes pieced r →
+              is_ask r.arrival.env.how ≡ true
               → IsSomeAnd (grant_in (granted_to pieced r.arrival.env.from) r.arrival.n) (IsGranted (made_whole r))
           complete_at name had how =
               let there : grant_in (granted_to pieced r.arrival.env.from) r.arrival.n ≡ Some w =
-              ap (λ (i : ℕ). grant_in (granted_to pieced i) r.arrival.n) name.0 ∙ ap (λ (k : ℕ). grant_in (granted_to pieced from) k) name.1 ∙ now_there in
-              let was = some_parts (IsGranted r) (grant_in (granted_to pieced r.arrival.env.from) r.arrival.n) (had.granted how) in
+              ap (λ (i : ℕ). grant_in (granted_to pieced i) r.arrival.n) name.0
+              ∙ ap (λ (k : ℕ). grant_in (granted_to pieced from) k) name.1 ∙ now_there in
+              let was = some_and (IsGranted r) (grant_in (granted_to pieced r.arrival.env.from) r.arrival.n)
+              (had.granted how) in
               let is_w : was.0 ≡ w = same_Some was.0 w (sym was.1 ∙ there) in
               some_from (IsGranted (made_whole r)) (grant_in (granted_to pieced r.arrival.env.from) r.arrival.n) w there
               (record {
                 len = ap (λ (x : Granted). x.len) (sym is_w) ∙ was.2.len;
-                bytes = some_from (λ bytes. true ≡ true → length bytes ≡ w.len) w.bytes (came ++ bytes) w_bytes (λ _. full);
+                bytes = some_from (λ bytes. true ≡ true → length bytes ≡ w.len) w.bytes (came ++ bytes) w_bytes
+                    (λ _. full);
               })

@@ -19,12 +19,13 @@ use Rattle.nm_receiving.specs.declared.receipts.Receipt.{Receipt}
 use Rattle.nm_receiving.specs.declared.receipts.Receive.{Receive}
 use Rattle.nm_receiving.specs.Kept.{AreTables, HasBytes, IsCleared}
 use Rattle.nm_receiving.specs.Receipts.{ReceivingView, granted_to, receipt_of, stream_of}
-use Rattle.nm_receiving.proofs.Lists.{some_from, some_parts}
+use Rattle.nm_receiving.proofs.Lists.{some_from}
 use Rattle.std.proofs.Math.ListN.{set}
 use Rattle.nm_eager.specs.Streams.{Stream, nothing_came}
-use Rattle.nm_receiving.proofs.Lists.{slice_get-set_other, slice_get-set_same}
 use Rattle.nm_receiving.proofs.Tables.{bytes_along}
 use Rattle.nm_receiving.proofs.TablesMark.{IsLike, like_cleared, like_taken}
+use Rattle.nm_facts.proofs.Lists.{get_set_other, get_set_same}
+use Rattle.nm_facts.proofs.Options.{some_and}
 
 -- a receive afterwards took the same message, and did not end before unless it ended
 pub record IsLater (was now : Receive) : Type 0 where
@@ -32,10 +33,13 @@ pub record IsLater (was now : Receive) : Type 0 where
   pub ended : now.ended ≡ false → was.ended ≡ false
 
 pub record AreLater (rs rs' : List Receive) : Type 0 where
-  pub back : (k : ℕ) (now : Receive) → slice_get rs' k ≡ Some now → (was : Receive) × (slice_get rs k ≡ Some was) × IsLater was now
-  pub caps : (k : ℕ) (was : Receive) → slice_get rs k ≡ Some was → (now : Receive) × (slice_get rs' k ≡ Some now) × (now.cap ≡ was.cap)
+  pub back : (k : ℕ) (now : Receive) → slice_get rs' k ≡ Some now →
+      (was : Receive) × (slice_get rs k ≡ Some was) × IsLater was now
+  pub caps : (k : ℕ) (was : Receive) → slice_get rs k ≡ Some was →
+      (now : Receive) × (slice_get rs' k ≡ Some now) × (now.cap ≡ was.cap)
 
-pub tables-receives : (v : ReceivingView) (h h' : List Event) (deeds : List Deed) (rs : List Receive) → AreTables v h → IsLike h h'
+pub tables-receives : (v : ReceivingView) (h h' : List Event) (deeds : List Deed) (rs : List Receive) →
+    AreTables v h → IsLike h h'
     → AreLater v.receives rs → AreTables (record v { deeds = deeds; receives = rs }) h'
 tables-receives v h h' deeds rs tables like later = record {
   streams = tables.streams;
@@ -44,7 +48,8 @@ tables-receives v h h' deeds rs tables like later = record {
   drawn = tables.drawn;
   counts = tables.counts;
   unfinished = tables.unfinished;
-  untaken = λ from n r here how none. same_bytes r (tables.untaken from n r here how (sym (like_taken h h' like from n) ∙ none));
+  untaken = λ from n r here how none. same_bytes r
+      (tables.untaken from n r here how (sym (like_taken h h' like from n) ∙ none));
   waiting = λ from n r here how none. tables.waiting from n r here how (sym (like_taken h h' like from n) ∙ none);
   taken = λ k receive a at' some.
       let was = later.back k receive at' in
@@ -53,15 +58,20 @@ tables-receives v h h' deeds rs tables like later = record {
   apart = λ k l receive other a b at' at'' some some' same same'.
       let was = later.back k receive at' in let was' = later.back l other at'' in
       tables.apart k l was.0 was'.0 a b was.1 was'.1 (was.2.taken ∙ some) (was'.2.taken ∙ some') same same';
-  cleared = λ from. All-weaker (λ e. IsSomeAnd (receipt_of v from e.0) (IsCleared h from e)) (λ e. IsSomeAnd (receipt_of v from e.0) (IsCleared h' from e))
-      (λ e had. let r = some_parts (IsCleared h from e) (receipt_of v from e.0) had in
-      some_from (IsCleared h' from e) (receipt_of v from e.0) r.0 r.1 (like_cleared h h' like from e r.0 r.2)) (granted_to v from) (tables.cleared from);
+  cleared = λ from. All-weaker (λ e. IsSomeAnd (receipt_of v from e.0) (IsCleared h from e))
+      (λ e. IsSomeAnd (receipt_of v from e.0) (IsCleared h' from e))
+      (λ e had. let r = some_and (IsCleared h from e) (receipt_of v from e.0) had in
+      some_from (IsCleared h' from e) (receipt_of v from e.0) r.0 r.1 (like_cleared h h' like from e r.0 r.2))
+      (granted_to v from) (tables.cleared from);
   once = tables.once;
-  caps = subst (λ (ps : List post.Post). All (λ p. IsSomeAnd (slice_get rs p.number) (λ r. r.cap ≡ p.cap)) ps) (sym like.posts)
-      (All-weaker (λ p. IsSomeAnd (slice_get v.receives p.number) (λ r. r.cap ≡ p.cap)) (λ p. IsSomeAnd (slice_get rs p.number) (λ r. r.cap ≡ p.cap))
-      (λ p had. let r = some_parts (λ (r : Receive). r.cap ≡ p.cap) (slice_get v.receives p.number) had in
+  caps = subst (λ (ps : List post.Post). All (λ p. IsSomeAnd (slice_get rs p.number) (λ r. r.cap ≡ p.cap)) ps)
+      (sym like.posts)
+      (All-weaker (λ p. IsSomeAnd (slice_get v.receives p.number) (λ r. r.cap ≡ p.cap))
+      (λ p. IsSomeAnd (slice_get rs p.number) (λ r. r.cap ≡ p.cap))
+      (λ p had. let r = some_and (λ (r : Receive). r.cap ≡ p.cap) (slice_get v.receives p.number) had in
       let now = later.caps p.number r.0 r.1 in
-      some_from (λ (r : Receive). r.cap ≡ p.cap) (slice_get rs p.number) now.0 now.1 (now.2 ∙ r.2)) (posts h) tables.caps);
+      some_from (λ (r : Receive). r.cap ≡ p.cap) (slice_get rs p.number) now.0 now.1 (now.2 ∙ r.2))
+      (posts h) tables.caps);
 }
   where
     same_bytes : (r : Receipt) → HasBytes v r → HasBytes (record v { deeds = deeds; receives = rs }) r
@@ -74,7 +84,8 @@ later_same rs = record {
 }
 
 -- one receive that is changed
-pub later_set : (rs : List Receive) (k0 : ℕ) (was now : Receive) → slice_get rs k0 ≡ Some was → IsLater was now → now.cap ≡ was.cap
+pub later_set : (rs : List Receive) (k0 : ℕ) (was now : Receive) → slice_get rs k0 ≡ Some was → IsLater was now →
+    now.cap ≡ was.cap
     → AreLater rs (set rs k0 now)
 later_set rs k0 was now here later cap = record {
   back = λ k r is. back k r is (cases_eq k k0);
@@ -82,37 +93,42 @@ later_set rs k0 was now here later cap = record {
 }
   where
     at_k0 : slice_get (set rs k0 now) k0 ≡ Some now
-    at_k0 = slice_get-set_same rs k0 now (slice_get_within rs k0 was here)
+    at_k0 = get_set_same rs k0 now (slice_get_within rs k0 was here)
 
     back : (k : ℕ) (r : Receive) → slice_get (set rs k0 now) k ≡ Some r → (k ≡ k0) ⊎ (k ≡ k0 → ⊥)
         → (old : Receive) × (slice_get rs k ≡ Some old) × IsLater old r
     back k r is (inl same) =
-        let is_now : now ≡ r = same_Some now r (sym at_k0 ∙ ap (λ (j : ℕ). slice_get (set rs k0 now) j) (sym same) ∙ is) in
+        let is_now : now ≡ r = same_Some now r (sym at_k0 ∙ ap (λ (j : ℕ). slice_get (set rs k0 now) j) (sym same)
+        ∙ is) in
         (was, ap (λ (j : ℕ). slice_get rs j) same ∙ here, subst (λ (x : Receive). IsLater was x) is_now later)
     back k r is (inr differ) =
-        (r, sym (slice_get-set_other rs k0 k now differ) ∙ is, record { taken = refl; ended = λ live. live })
+        (r, sym (get_set_other rs k0 k now differ) ∙ is, record { taken = refl; ended = λ live. live })
 
     caps : (k : ℕ) (r : Receive) → slice_get rs k ≡ Some r → (k ≡ k0) ⊎ (k ≡ k0 → ⊥)
         → (x : Receive) × (slice_get (set rs k0 now) k ≡ Some x) × (x.cap ≡ r.cap)
     caps k r is (inl same) =
         let is_was : was ≡ r = same_Some was r (sym here ∙ ap (λ (j : ℕ). slice_get rs j) (sym same) ∙ is) in
         (now, ap (λ (j : ℕ). slice_get (set rs k0 now) j) same ∙ at_k0, cap ∙ ap (λ (x : Receive). x.cap) is_was)
-    caps k r is (inr differ) = (r, slice_get-set_other rs k0 k now differ ∙ is, refl)
+    caps k r is (inr differ) = (r, get_set_other rs k0 k now differ ∙ is, refl)
 
 -- other bytes than those of message n are still here, and as many are missing
-pub record AreRemoved (v : ReceivingView) (h : List Event) (streams : List Stream) (grants : List (List (ℕ × Granted))) (from n : ℕ) : Type 0 where
+pub record AreRemoved (v : ReceivingView) (h : List Event) (streams : List Stream)
+    (grants : List (List (ℕ × Granted))) (from n : ℕ) : Type 0 where
   pub streams' : length streams ≡ length v.streams
   pub grants' : length grants ≡ length v.grants
   pub counts : (i : ℕ) → (get_or streams i nothing_came).count ≡ (stream_of v i).count
   pub missed : (i : ℕ) → missing (get_or streams i nothing_came) ≡ missing (stream_of v i)
-  pub joined : (i k : ℕ) → (i ≡ from → k ≡ n → ⊥) → message_of (get_or streams i nothing_came) k ≡ message_of (stream_of v i) k
+  pub joined : (i k : ℕ) → (i ≡ from → k ≡ n → ⊥) → message_of (get_or streams i nothing_came) k ≡ message_of
+      (stream_of v i) k
   pub granted : (i k : ℕ) → (i ≡ from → k ≡ n → ⊥) → grant_in (get_or grants i []) k ≡ grant_in (granted_to v i) k
   pub cleared : (i : ℕ) → All (λ e. IsSomeAnd (receipt_of v i e.0) (IsCleared h i e)) (get_or grants i [])
   pub once : (i : ℕ) → IsDistinct nat_eq (keys_of (get_or grants i []))
 
-pub tables-removed : (v : ReceivingView) (h : List Event) (streams : List Stream) (grants : List (List (ℕ × Granted))) (from n : ℕ)
+pub tables-removed : (v : ReceivingView) (h : List Event) (streams : List Stream) (grants : List (List (ℕ × Granted)))
+    (from n : ℕ)
     → AreTables v h → AreRemoved v h streams grants from n → is_taken h from n ≡ true
-    → ((k : ℕ) (receive : Receive) (a : Arrival) → slice_get v.receives k ≡ Some receive → receive.taken ≡ Some a → receive.ended ≡ false
+    → ((k : ℕ) (receive : Receive) (a : Arrival) → slice_get v.receives k ≡ Some receive → receive.taken ≡ Some a →
+    receive.ended ≡ false
     → a.env.from ≡ from → a.n ≡ n → ⊥)
     → ((i k : ℕ) (s : Receipt) → receipt_of v i k ≡ Some s → (s.arrival.env.from ≡ i) × (s.arrival.n ≡ k))
     → AreTables (record v { streams = streams; grants = grants }) h
@@ -122,7 +138,8 @@ tables-removed v h streams grants from n tables removed is_done ended names = re
   receipts = tables.receipts;
   drawn = tables.drawn;
   counts = λ i. removed.counts i ∙ tables.counts i;
-  unfinished = λ i k last some. tables.unfinished i k (last ∙ removed.counts i) (subst (λ (m : ℕ). 0 < m) (removed.missed i) some);
+  unfinished = λ i k last some. tables.unfinished i k (last ∙ removed.counts i)
+      (subst (λ (m : ℕ). 0 < m) (removed.missed i) some);
   untaken = λ i k r here how none.
       let name = names i k r here in
       still r (λ same same'. true≢false (sym (ap (λ (j : ℕ). is_taken h j k) (sym name.0 ∙ same)
@@ -133,7 +150,8 @@ tables-removed v h streams grants from n tables removed is_done ended names = re
         had.0,
         had.1,
         λ live. still had.0
-            (λ same same'. ended k receive a at' some live (ap (λ (x : Arrival). x.env.from) (sym had.1.1) ∙ same) (ap (λ (x : Arrival). x.n) (sym had.1.1) ∙ same'))
+            (λ same same'. ended k receive a at' some live (ap (λ (x : Arrival). x.env.from) (sym had.1.1) ∙ same)
+            (ap (λ (x : Arrival). x.n) (sym had.1.1) ∙ same'))
             (had.2 live),
       );
   apart = tables.apart;

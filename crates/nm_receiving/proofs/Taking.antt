@@ -26,13 +26,13 @@ use Rattle.nm_receiving.proofs.Coming.{HasCap, came, came_here, newcomer, stood-
 use Rattle.nm_receiving.proofs.Events.{right-one, right-two, unstamp-none, unstamp-one, unstamp-two}
 use Rattle.nm_receiving.proofs.Facts.{arrived_from, asking_is, empty_more, right_named}
 use Rattle.nm_receiving.proofs.Grow.{at, happened_later, happened_now, happened_still, taken_now}
-use Rattle.nm_receiving.proofs.Lists.{eqb_same}
 use Rattle.nm_receiving.proofs.Marking.{marked, stood-marked}
 use Rattle.nm_receiving.proofs.Stood.{Stood, is_whole_at, received_of, stood_of}
 use Rattle.nm_receiving.proofs.Keeping.{right-whole}
 use Rattle.std.proofs.lemmas.Bool.{false_from_ne_true}
 use Rattle.std.proofs.lemmas.Option.{slice_get_past}
 use Rattle.std.proofs.Common.{arith}
+use Rattle.nm_facts.proofs.Numbers.{eq_true}
 
 -- what came of eager messages plays no part
 pub streams_apart : (v : ReceivingView) (streams : List Stream) (h : List Event) → AreReceived v h
@@ -59,21 +59,24 @@ pub record MayEnd (v : ReceivingView) (h : List Event) (from n : ℕ) (r : Recei
   pub whole : r.whole ≡ false
   pub taken : is_ask r.arrival.env.how ≡ true → is_taken h from n ≡ true
 
-pub keeps-marked : (v : ReceivingView) (from n : ℕ) (b : Bool) (h events : List Event) → happenings events ≡ whole_if b from n
+pub keeps-marked : (v : ReceivingView) (from n : ℕ) (b : Bool) (h events : List Event) →
+    happenings events ≡ whole_if b from n
     → AreReceived v h → AreRight v.sizes.ranks [] h → (b ≡ true → (r : Receipt) × MayEnd v h from n r)
     → AreReceived (marked_if b v from n) (h ++ events) × AreRight v.sizes.ranks h events
 keeps-marked v from n false h events happens received right may =
     unstamp-none (λ events. AreReceived v (h ++ events) × AreRight v.sizes.ranks h events) events
     (subst (λ (k : List Event). AreReceived v k) (sym (append-nil h)) received, tt) happens
 keeps-marked v from n true h events happens received right may =
-    unstamp-one (λ events. AreReceived (marked v from n) (h ++ events) × AreRight v.sizes.ranks h events) events (Whole from n)
+    unstamp-one (λ events. AreReceived (marked v from n) (h ++ events) × AreRight v.sizes.ranks h events) events
+    (Whole from n)
     (λ s.
     let m = may refl in
     let e : Event = at s (Whole from n) in
     let r : Receipt = m.0 in
     let there : message_of h from n ≡ Some r.arrival =
     sym (received.messages from n) ∙ ap (λ (o : Option Receipt). option_map (λ m. m.arrival) o) m.1.here in
-    let not_yet : happened (is_whole from n) h ≡ false = sym (received.whole from n) ∙ ap is_whole_at m.1.here ∙ m.1.whole in (
+    let not_yet : happened (is_whole from n) h ≡ false = sym (received.whole from n) ∙ ap is_whole_at m.1.here
+    ∙ m.1.whole in (
       received_of (marked v from n) (h ++ e ∷ []) (stood-marked v h (stood_of v h received) s from n r m.1.here)
           (empty_more h (h ++ e ∷ []) None (matched_pairs-push_other h e refl ∙ sym (append-nil (matched_pairs h)))
           (λ i k. happened_later (is_whole i k) h (e ∷ [])) (λ q is. absurd (let h' : ⊥ = cc in h')) received.empty),
@@ -117,12 +120,14 @@ module _ (v : ReceivingView) (streams : List Stream) (a : Arrival) (o : Option p
   stood1 s = stood-came v h (stood_of v h received) streams s a next.receipts next.next next.grants o oldest caps
 
   grown : (s : ℕ) → matched_pairs (h ++ e s ∷ []) ≡ matched_pairs h ++ option_to_list (option_map (λ p. pair_of p a) o)
-  grown s = matched_pairs-push h (e s) ∙ ap (λ (o : Option post.Post). matched_pairs h ++ option_to_list (option_map (λ p. pair_of p a) o)) oldest
+  grown s = matched_pairs-push h (e s)
+      ∙ ap (λ (o : Option post.Post). matched_pairs h ++ option_to_list (option_map (λ p. pair_of p a) o)) oldest
 
   right1 : (s : ℕ) → IsRightAt v.sizes.ranks h (Arrive a)
   right1 s = record {
     numbers = (next.sender, next.next ∙ received.arrived from);
     matches = tt;
+    claims = tt;
     cancels = tt;
     wholes = tt;
     ends = tt;
@@ -131,7 +136,8 @@ module _ (v : ReceivingView) (streams : List Stream) (a : Arrival) (o : Option p
   of_a : (q : Pair) → option_map (λ p. pair_of p a) o ≡ Some q → (q.arrival ≡ a) × (is_some o ≡ true)
   of_a = by o
     where
-      by : (o : Option post.Post) → (q : Pair) → option_map (λ p. pair_of p a) o ≡ Some q → (q.arrival ≡ a) × (is_some o ≡ true)
+      by : (o : Option post.Post) → (q : Pair) → option_map (λ p. pair_of p a) o ≡ Some q →
+          (q.arrival ≡ a) × (is_some o ≡ true)
       by None q is = absurd (let h' : ⊥ = cc in h')
       by (Some p) q is = let same : pair_of p a ≡ q = cc in (ap (λ (x : Pair). x.arrival) (sym same), refl)
 
@@ -161,10 +167,12 @@ module _ (v : ReceivingView) (streams : List Stream) (a : Arrival) (o : Option p
     where
       by : (c : Bool) → is_ask a.env.how ≡ c → is_ask a.env.how ≡ true
       by true is = is
-      by false is = absurd (true≢false (sym asks ∙ happened_still (is_asking from n) h (e s) (not_this is) ∙ not_asking))
+      by false is = absurd (true≢false (sym asks ∙ happened_still (is_asking from n) h (e s) (not_this is)
+          ∙ not_asking))
         where
           not_this : is_ask a.env.how ≡ false → (a.env.from == from && a.n == n && is_ask a.env.how) ≡ false
-          not_this is = ap (λ (c : Bool). a.env.from == from && a.n == n && c) is ∙ last (a.env.from == from && a.n == n)
+          not_this is = ap (λ (c : Bool). a.env.from == from && a.n == n && c) is
+              ∙ last (a.env.from == from && a.n == n)
             where
               last : (c : Bool) → (c && false) ≡ false
               last true = refl
@@ -173,7 +181,8 @@ module _ (v : ReceivingView) (streams : List Stream) (a : Arrival) (o : Option p
   taken_at_once : b ≡ true → (s : ℕ) → is_ask a.env.how ≡ true → is_taken (h ++ e s ∷ []) from n ≡ true
   taken_at_once now s how = by o (grown s) (at_once.asked now how)
     where
-      by : (o : Option post.Post) → matched_pairs (h ++ e s ∷ []) ≡ matched_pairs h ++ option_to_list (option_map (λ p. pair_of p a) o)
+      by : (o : Option post.Post) → matched_pairs (h ++ e s ∷ []) ≡ matched_pairs h ++ option_to_list
+          (option_map (λ p. pair_of p a) o)
           → is_some o ≡ true → is_taken (h ++ e s ∷ []) from n ≡ true
       by None grown' is = absurd (true≢false (sym is))
       by (Some p) grown' is = taken_now h (h ++ e s ∷ []) (pair_of p a) grown'
@@ -188,17 +197,20 @@ module _ (v : ReceivingView) (streams : List Stream) (a : Arrival) (o : Option p
       let pairs2 : matched_pairs (h1 ++ x ∷ []) ≡ matched_pairs h ++ option_to_list (option_map (λ p. pair_of p a) o) =
       matched_pairs-push_other h1 x refl ∙ grown s in
       let here2 : happened (is_whole from n) (h1 ++ x ∷ []) ≡ true =
-      happened_now (is_whole from n) h1 x (ap (λ (b : Bool). b && n == n) (eqb_same from from refl) ∙ eqb_same n n refl) in
+      happened_now (is_whole from n) h1 x (ap (λ (b : Bool). b && n == n) (eq_true from from refl) ∙ eq_true n n refl)
+      in
       let not_yet : happened (is_whole from n) h1 ≡ false =
       happened_still (is_whole from n) h (e s) refl ∙ sym (received.whole from n) ∙ ap is_whole_at was_none in
       let arrived : happened (is_arrival from n) h1 ≡ true =
-      happened_now (is_arrival from n) h (e s) (ap (λ (b : Bool). b && n == n) (eqb_same from from refl) ∙ eqb_same n n refl) in (
+      happened_now (is_arrival from n) h (e s) (ap (λ (b : Bool). b && n == n) (eq_true from from refl)
+      ∙ eq_true n n refl) in (
         subst (λ (k : List Event). AreReceived (marked v1 from n) k) (append_assoc h (e s ∷ []) (x ∷ []))
             (received_of (marked v1 from n) (h1 ++ x ∷ []) stood2
             (empty_more h (h1 ++ x ∷ []) (option_map (λ p. pair_of p a) o) pairs2
             (λ i k was. happened_later (is_whole i k) h1 (x ∷ []) (happened_later (is_whole i k) h (e s ∷ []) was))
             (λ q is _. let of = of_a q is in
-            subst (λ (y : Arrival). happened (is_whole y.env.from y.n) (h1 ++ x ∷ []) ≡ true) (sym of.0) here2) received.empty)),
+            subst (λ (y : Arrival). happened (is_whole y.env.from y.n) (h1 ++ x ∷ []) ≡ true) (sym of.0) here2)
+            received.empty)),
         right-two v.sizes.ranks h (e s) x (right1 s)
             (right-whole v.sizes.ranks h1 from n not_yet arrived
             (λ asks. taken_at_once now s (asking_now s asks))),
@@ -210,10 +222,13 @@ module _ (v : ReceivingView) (streams : List Stream) (a : Arrival) (o : Option p
     where
       by : (c : Bool) → b ≡ c → AreReceived (marked_if b v1 from n) (h ++ events) × AreRight v.sizes.ranks h events
       by true is =
-          subst (λ (c : Bool). AreReceived (marked_if c v1 from n) (h ++ events) × AreRight v.sizes.ranks h events) (sym is)
-          (unstamp-two (λ events. AreReceived (marked v1 from n) (h ++ events) × AreRight v.sizes.ranks h events) events (Arrive a) (Whole from n)
+          subst (λ (c : Bool). AreReceived (marked_if c v1 from n) (h ++ events) × AreRight v.sizes.ranks h events)
+          (sym is)
+          (unstamp-two (λ events. AreReceived (marked v1 from n) (h ++ events) × AreRight v.sizes.ranks h events)
+          events (Arrive a) (Whole from n)
           (λ s t. ends is s t) (happens ∙ ap (λ (c : Bool). Arrive a ∷ whole_if c from n) is))
       by false is =
-          subst (λ (c : Bool). AreReceived (marked_if c v1 from n) (h ++ events) × AreRight v.sizes.ranks h events) (sym is)
+          subst (λ (c : Bool). AreReceived (marked_if c v1 from n) (h ++ events) × AreRight v.sizes.ranks h events)
+          (sym is)
           (unstamp-one (λ events. AreReceived v1 (h ++ events) × AreRight v.sizes.ranks h events) events (Arrive a)
           (λ s. begins is s) (happens ∙ ap (λ (c : Bool). Arrive a ∷ whole_if c from n) is))

@@ -48,7 +48,8 @@ pub record IsCleared (h : List Event) (from : ℕ) (e : ℕ × Granted) (r : Rec
 -- How the tables stand to each other, and to a history: there is one row for each rank; as many
 -- messages were counted as came, and one whose bytes are missing is eager and not whole; the bytes of
 -- an eager message that no receive took are here, and those of a message whose receive did not end; one
--- that was sent by asking is not whole before a receive took it; two receives took two messages; each grant is of a message that a receive took, and each once; and each
+-- that was sent by asking is not whole before a receive took it; two receives took two messages; each grant is of a
+-- message that a receive took, and each once; and each
 -- posted receive has its capacity.
 pub record AreTables (v : ReceivingView) (h : List Event) : Type 0 where
   pub streams : length v.streams ≡ v.sizes.ranks

@@ -1,7 +1,7 @@
 pub mod GrantLemmas
-pub mod KeptLemmas
-pub mod PieceLemmas
-pub mod Places
+mod KeptLemmas
+mod PieceLemmas
+mod Places
 pub mod Results
-pub mod SenderLemmas
+mod SenderLemmas
 pub mod StateLemmas

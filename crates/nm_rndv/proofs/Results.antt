@@ -18,11 +18,6 @@ pub on_ok : {T E P : Type 0} (r : Result T E) → P → OnOk r P
 on_ok (Ok x) p = p
 on_ok (Err e) p = tt
 
--- a fact of a value that may be there
-pub if_some : {X : Type 0} (P : X → Type 0) (o : Option X) → ((x : X) → o ≡ Some x → P x) → IfSome o P
-if_some P None h = tt
-if_some P (Some x) h = h x refl
-
 -- and the same fact of a value that is there
 pub is_there : {X : Type 0} (P : X → Type 0) {o : Option X} {x : X} → o ≡ Some x → IfSome o P → P x
 is_there P e h = subst (λ o. IfSome o P) e h

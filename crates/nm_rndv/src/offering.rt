@@ -157,6 +157,16 @@ impl Offers {
         message_at(&self.order, self.first)
     }
 
+    /// The destination of the next piece, without the piece, if there is one.
+    pub fn piece_to(&self) -> Option<u8>
+        ensures to { result ≡ option_map (λ o. o.to) (next_offered self.now) }
+        ensures in_range { IfSome result (λ to. to < length self.now.destinations) }
+        ensures none { IsNone result ↔ AllOut self.now }
+    {
+        let (to, _) = self.front()?;
+        Some(to)
+    }
+
     /// The next piece in the order of clearance, and its destination. Its sender and its number are
     /// 0: they are its caller's to set.
     pub fn next_piece(&self) -> Option<(u8, Piece)>

@@ -3,24 +3,17 @@ use Rattle.std.proofs.Common.{◌≡◌, ℕ, ◌==◌, Bool, true, false, not, 
 use Rattle.std.proofs.Common.{List, [], ◌∷◌, ◌++◌, filter, refl, sym, ◌∙◌, ap, append-nil}
 use Rattle.std.specs.List.{filter_map, cons_option, list_any}
 use Rattle.std.proofs.lemmas.List.Elements.{filter_map-append}
-use Rattle.std.proofs.lemmas.List.Folds.{list_any-append}
 use Rattle.nm_history.specs.declared.events.Event.{Event}
 use Rattle.nm_history.specs.declared.events.Happened.{Happened}
 use Rattle.nm_history.specs.declared.events.Happened.TheVariants.{Out}
 use Rattle.nm_history.specs.Delivery.{is_asked}
-use Rattle.nm_history.specs.Happens.{happened}
 use Rattle.nm_history.specs.Sends.{Sent, sends, sent_of}
 use Rattle.nm_history.proofs.DeliveryLemmas.{sends-push}
-use Rattle.nm_protocol.proofs.Basic.{or_false, all_of, same_number}
+use Rattle.nm_protocol.proofs.Basic.{all_of}
 use Rattle.nm_protocol.proofs.Lasting.{filter_map_same}
 use Rattle.nm_protocol.specs.Clearance.{left_of, pushed_out}
 use Rattle.nm_protocol.specs.Effects.{is_empty_send}
-
-pub happened-push : (test : Happened → Bool) (h : List Event) (e : Event)
-    → happened test (h ++ e ∷ []) ≡ (happened test h || test e.what)
-happened-push test h e =
-    list_any-append (λ (e : Event). test e.what) h (e ∷ [])
-    ∙ ap (λ (b : Bool). happened test h || b) (or_false (test e.what))
+use Rattle.nm_facts.proofs.Numbers.{same_number}
 
 -- an event that is no send
 pub sends-same : (h : List Event) (e : Event) (to : ℕ) → sent_of e.stamp e.what ≡ None

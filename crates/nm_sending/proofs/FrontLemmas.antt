@@ -13,7 +13,7 @@ use Rattle.nm_types.specs.declared.messages.How.{How}
 use Rattle.nm_types.specs.declared.messages.How.TheVariants.{Eager, Ask}
 use Rattle.nm_history.specs.declared.events.Happened.TheVariants.{Out}
 use Rattle.nm_history.specs.Sends.{sends, is_ask}
-use Rattle.nm_protocol.proofs.Basic.{same_number, self_true, or_false}
+use Rattle.nm_protocol.proofs.Basic.{self_true, or_false}
 use Rattle.nm_protocol.specs.Continues.{has}
 use Rattle.nm_rndv.specs.declared.asked.State.{State}
 use Rattle.nm_rndv.specs.Offers.{state_of, recall_in, destined}
@@ -32,6 +32,7 @@ use Rattle.nm_sending.proofs.TableLemmas.{Change, change-row, change-steps, chan
 use Rattle.nm_sending.proofs.TableLemmas.{states-step}
 use Rattle.nm_sending.proofs.TableLemmas.{tables-change, unchanged, or_nothing, is_at, out-counted}
 use Rattle.nm_sending.proofs.WaitingLemmas.{First, waiting_first, weight}
+use Rattle.nm_facts.proofs.Numbers.{same_number}
 
 -- an eager message that waits
 pub waits_eager : (d : Departure) → waits d ≡ true → is_ask d.how ≡ false

@@ -5,7 +5,7 @@ use Rattle.std.specs.List.{list_any, slice_get}
 use Rattle.std.proofs.lemmas.List.Elements.{filter-append, filter_agree}
 use Rattle.nm_history.specs.declared.events.Event.{Event}
 use Rattle.nm_history.specs.Sends.{Sent, sends}
-use Rattle.nm_protocol.proofs.Basic.{same_number, self_true}
+use Rattle.nm_protocol.proofs.Basic.{self_true}
 use Rattle.nm_protocol.specs.Clearance.{pushed_out}
 use Rattle.nm_protocol.specs.Continues.{has}
 use Rattle.nm_protocol.specs.Effects.{is_empty_send}
@@ -14,11 +14,8 @@ use Rattle.nm_sending.specs.Departures.{SendingView, cleared_to, leaving_to}
 use Rattle.nm_sending.specs.Tables.{AreApart}
 use Rattle.nm_sending.proofs.TurnLemmas.{InTurn, numbers_to, numbers-push, filter-apart, filter-without}
 use Rattle.nm_sending.proofs.TurnLemmas.{first_of_rank}
-
--- the element behind a list
-pub get_behind : {X : Type 0} (xs ys : List X) (x : X) → slice_get (xs ++ x ∷ ys) (length xs) ≡ Some x
-get_behind [] ys x = refl
-get_behind (y ∷ xs) ys x = get_behind xs ys x
+use Rattle.nm_facts.proofs.Numbers.{same_number}
+use Rattle.nm_facts.proofs.Lists.{get_behind}
 
 not_not : (b : Bool) → not (not b) ≡ b
 not_not true = refl

@@ -1,23 +1,23 @@
-pub mod RowLemmas
-pub mod EndLemmas
+mod RowLemmas
+mod EndLemmas
 mod MostLemmas
-pub mod PlaceLemmas
-pub mod EventLemmas
+mod PlaceLemmas
+mod EventLemmas
 pub mod TurnLemmas
 pub mod SentLemmas
-pub mod OfferLemmas
-pub mod LeavingLemmas
-pub mod WaitingLemmas
-pub mod TableLemmas
-pub mod FrontLemmas
-pub mod PieceLemmas
-pub mod PopLemmas
-pub mod ClearLemmas
-pub mod RecallLemmas
-pub mod UndoLemmas
+mod OfferLemmas
+mod LeavingLemmas
+mod WaitingLemmas
+mod TableLemmas
+mod FrontLemmas
+mod PieceLemmas
+mod PopLemmas
+mod ClearLemmas
+mod RecallLemmas
+mod UndoLemmas
 pub mod PutLemmas
-pub mod OtherLemmas
-pub mod AnswerLemmas
-pub mod RestLemmas
-pub mod MessageLemmas
-pub mod SendLemmas
+mod OtherLemmas
+mod AnswerLemmas
+mod RestLemmas
+mod MessageLemmas
+mod SendLemmas

@@ -5,9 +5,8 @@ use Rattle.std.proofs.Common.{subst, arith}
 use Rattle.std.specs.List.{filter_map}
 use Rattle.std.proofs.lemmas.List.{take_all}
 use Rattle.std.proofs.lemmas.List.FromFn.{length-map-range_with_len}
-use Rattle.nm_types.specs.Bodies.{body_len, bytes_of, generated_byte}
+use Rattle.nm_types.specs.Bodies.{body_len, bytes_of}
 use Rattle.nm_types.specs.declared.scripts.Body.{Body}
-use Rattle.nm_types.specs.declared.scripts.Body.TheVariants.{Hex, Gen}
 use Rattle.nm_types.specs.declared.messages.How.{How}
 use Rattle.nm_types.specs.declared.messages.How.TheVariants.{Ask}
 use Rattle.nm_types.specs.declared.limits.TheConstants.{MAX_PAYLOAD}
@@ -21,16 +20,12 @@ use Rattle.nm_history.specs.Sends.{Sent, is_ask}
 use Rattle.nm_eager.specs.Cutting.{Cutting, IsMessageOf, packet_count}
 use Rattle.nm_outbox.specs.Letters.{packets_for}
 use Rattle.nm_outbox.specs.Outboxes.{OutboxView, put_to}
-use Rattle.nm_protocol.proofs.Basic.{eq_true, same_number}
 use Rattle.nm_sending.specs.Departures.{ends_to}
 use Rattle.nm_sending.specs.Sent.{Puts, PutsFirst, last_ends, only_to}
 use Rattle.nm_sending.proofs.EndLemmas.{ends-append, left_each, left_last}
 use Rattle.nm_sending.proofs.PutLemmas.{for_receiver, ends_receiver, puts-reserved}
-
--- a body has its length
-pub bytes_many : (body : Body) → length (bytes_of body) ≡ body_len body
-bytes_many (Hex bytes) = refl
-bytes_many (Gen len) = length-map-range_with_len generated_byte 0 len
+use Rattle.nm_facts.proofs.Numbers.{eq_true, same_number}
+use Rattle.nm_types.proofs.BodyLemmas.{bytes_count}
 
 -- how many packets an eager message calls for
 packets_many : (s : Sent) (body : List ℕ) → length (eager_packets s body) ≡ 1 + further_packets s.len
@@ -92,7 +87,7 @@ module _ (count : ℕ) (cutting : Cutting) (from to n tag ctx stamp : ℕ) (body
         n = sym (ap (λ (x : Cutting). x.n) is);
         tag = sym (ap (λ (x : Cutting). x.tag) is);
         ctx = sym (ap (λ (x : Cutting). x.ctx) is);
-        len = sym (bytes_many body) ∙ ap (λ (bs : List ℕ). length bs) (sym bytes);
+        len = sym (bytes_count body) ∙ ap (λ (bs : List ℕ). length bs) (sym bytes);
       }
 
       whole : take count (eager_packets s cutting.body) ≡ send_packets s (bytes_of body)
@@ -100,7 +95,7 @@ module _ (count : ℕ) (cutting : Cutting) (from to n tag ctx stamp : ℕ) (body
           take_all count (eager_packets s cutting.body)
           (let many = packets_many s cutting.body in
           let len : length cutting.body ≡ body_len body = ap (λ (bs : List ℕ). length bs) bytes
-          ∙ bytes_many body in
+          ∙ bytes_count body in
           let further : further_packets (length cutting.body)
           ≡ further_packets (body_len body) = ap further_packets len in
           omega (arith, many, all, further))

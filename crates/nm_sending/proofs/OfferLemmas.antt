@@ -14,9 +14,9 @@ use Rattle.nm_rndv.specs.Offers.{Destined, untold, state_in, state_at}
 use Rattle.nm_rndv.specs.Offers.{recall_in}
 use Rattle.nm_rndv.specs.Offers.{with_step, with_asked, with_recall, with_answer}
 use Rattle.nm_rndv.proofs.StateLemmas.{state-set_value, asked-with_step, equal}
-use Rattle.nm_protocol.proofs.Basic.{same_number}
 use Rattle.nm_sending.specs.Tables.{allowed}
 use Rattle.nm_sending.proofs.PlaceLemmas.{eq_swap, row-set}
+use Rattle.nm_facts.proofs.Numbers.{same_number}
 
 -- one entry more, where there was none
 pub lookup-push : {X : Type 0} (n q : ℕ) (es : List (ℕ × X)) (x : X) → lookup (nat_eq n) es ≡ None

@@ -13,8 +13,9 @@ use Rattle.nm_protocol.proofs.Basic.{or_false}
 use Rattle.nm_protocol.specs.Clearance.{left_of}
 use Rattle.nm_sending.specs.Departures.{SendingView}
 use Rattle.nm_sending.specs.Sent.{AreSent, is_of_sending}
-use Rattle.nm_sending.proofs.EventLemmas.{happened-push, sends-same, pushed_out-same}
+use Rattle.nm_sending.proofs.EventLemmas.{sends-same, pushed_out-same}
 use Rattle.nm_sending.proofs.LeavingLemmas.{turn-still}
+use Rattle.nm_history.proofs.AppendLemmas.{happened-push}
 
 -- what another event is none of
 record IsOther (w : Happened) : Type 0 where

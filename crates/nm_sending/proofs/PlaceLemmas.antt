@@ -9,12 +9,10 @@ use Rattle.std.proofs.lemmas.Bool.Decides.{nat_tests}
 use Rattle.std.proofs.lemmas.Grind.{get_or-set_at}
 use Rattle.std.proofs.lemmas.List.{get_or-set_other, get_or_push, length-set, length-append}
 use Rattle.std.proofs.lemmas.Option.{slice_get-get_or, slice_get_past}
-use Rattle.nm_protocol.proofs.Basic.{same_number, and_left, and_right}
 use Rattle.nm_sending.specs.declared.departures.Departure.{Departure}
 use Rattle.nm_sending.specs.Departures.{row_of, with_departure, passes}
-
-pub differ : (x y : ℕ) → (x == y) ≡ false → y ≢ x
-differ x y h = grind (arith, nat_tests)
+use Rattle.nm_facts.proofs.Numbers.{same_number, differ}
+use Rattle.nm_facts.proofs.Truth.{and_left, and_right}
 
 pub eq_swap : (x y : ℕ) → (x == y) ≡ (y == x)
 eq_swap x y = grind (arith, nat_tests)

@@ -10,12 +10,11 @@ use Rattle.std.proofs.lemmas.Bool.Decides.{nat_tests}
 use Rattle.std.proofs.lemmas.List.{get_or_read, length-set}
 use Rattle.nm_types.specs.Bodies.{body_len}
 use Rattle.nm_types.specs.declared.limits.TheConstants.{MAX_BODY, MAX_PIECE}
-use Rattle.nm_history.proofs.OnceLemmas.{find_passes}
 use Rattle.nm_history.specs.declared.events.Event.{Event}
 use Rattle.nm_history.specs.declared.events.Happened.TheVariants as event
 use Rattle.nm_history.specs.Delivery.{is_asked}
 use Rattle.nm_history.specs.Sends.{sends, is_ask}
-use Rattle.nm_protocol.proofs.Basic.{same_number, or_false}
+use Rattle.nm_protocol.proofs.Basic.{or_false}
 use Rattle.nm_protocol.specs.Clearance.{pushed_out}
 use Rattle.nm_protocol.specs.Continues.{has}
 use Rattle.nm_protocol.specs.Effects.{is_empty_send}
@@ -45,6 +44,8 @@ use Rattle.nm_sending.proofs.TableLemmas.{change-none, row_there}
 use Rattle.nm_sending.proofs.TableLemmas.{tables-change, asked-states, recalls-still, unanswered-at, is_at}
 use Rattle.nm_sending.proofs.TableLemmas.{or_nothing, out-counted, unchanged}
 use Rattle.nm_sending.proofs.WaitingLemmas.{weight}
+use Rattle.nm_facts.proofs.Numbers.{same_number}
+use Rattle.nm_facts.proofs.Lists.{find_passes}
 
 -- a message that was sent by asking waits for no packet
 pub asked_waits : (d : Departure) → is_ask d.how ≡ true → waits d ≡ false

@@ -8,7 +8,6 @@ use Rattle.std.specs.Bool.{then_some}
 use Rattle.std.specs.List.{AllByRecursion, cons_option, filter, filter_map, slice_get}
 use Rattle.std.proofs.lemmas.Bool.Decides.{nat_tests}
 use Rattle.std.proofs.lemmas.List.{length-map, map-append, take_more}
-use Rattle.std.proofs.lemmas.List.Elements.{filter-append}
 use Rattle.std.proofs.lemmas.Option.{slice_get_within, get_or_from_slice_get}
 use Rattle.nm_types.specs.declared.messages.How.TheVariants.{Eager}
 use Rattle.nm_types.specs.declared.packets.Packet.{Packet}
@@ -19,10 +18,12 @@ use Rattle.nm_eager.specs.Cutting.{Cutting, IsMessageOf, IsNext, packet_count}
 use Rattle.nm_outbox.specs.declared.letters.Letter.{Letter}
 use Rattle.nm_outbox.specs.Letters.{packets_for}
 use Rattle.nm_outbox.specs.Outboxes.{OutboxView, popped_to, put_to}
-use Rattle.nm_protocol.proofs.Basic.{by-append, self_true}
+use Rattle.nm_protocol.proofs.Basic.{self_true}
 use Rattle.nm_sending.specs.Departures.{ends_to}
 use Rattle.nm_sending.specs.Sent.{Puts, PutsFirst, last_ends}
 use Rattle.nm_sending.proofs.EndLemmas.{last-more}
+use Rattle.nm_facts.proofs.Lists.{all_append}
+use Rattle.nm_outbox.proofs.LetterLemmas.{for-append}
 
 puts-room : (called : ℕ → List Called) (ends : Option ℕ) (stamp spare : ℕ) (old new : OutboxView)
     → Puts called ends stamp (record old { spare = spare }) new → Puts called ends stamp old new
@@ -122,14 +123,6 @@ ends_receiver to (l ∷ ls) each t =
         ≡ cond b (cons_option l.ends (filter_map (λ l. l.ends) ls)) []
     by_test true later = ap (λ (ns : List ℕ). cons_option l.ends ns) later
     by_test false later = later
-
-pub for-append : (to : ℕ) (first rest : List Letter)
-    → packets_for to (first ++ rest) ≡ packets_for to first ++ packets_for to rest
-for-append to first rest =
-    ap (λ (ls : List Letter). map (λ (l : Letter). l.packet) ls)
-    (filter-append (λ (l : Letter). l.to == to) first rest)
-    ∙ map-append (λ (l : Letter). l.packet) (filter (λ (l : Letter). l.to == to) first)
-    (filter (λ (l : Letter). l.to == to) rest)
 
 -- nothing was put
 pub puts_none : (cutting : Cutting) (to n stamp : ℕ) (old : OutboxView)
@@ -243,11 +236,11 @@ module _ (count : ℕ) (cutting : Cutting) (to n stamp : ℕ) (old cur : OutboxV
           ∙ ap (λ (ls : List Letter). record old { letters = ls; spare = old.spare - count - 1 })
           (append_assoc old.letters puts.added (one ∷ []))
           ∙ ap (λ (k : ℕ). record old { letters = old.letters ++ (puts.added ++ one ∷ []); spare = k }) spare;
-      receiver = by-append (λ (l : Letter). l.to ≡ to) puts.added (one ∷ []) puts.receiver (refl, tt);
+      receiver = all_append (λ (l : Letter). l.to ≡ to) puts.added (one ∷ []) puts.receiver (refl, tt);
       many = let was : length puts.added ≡ count = puts.many in
           length-append puts.added (one ∷ []) ∙ omega (arith, was);
       carried = carried;
-      stamps = by-append (λ (l : Letter). l.packet.stamp ≡ stamp) puts.added (one ∷ []) puts.stamps
+      stamps = all_append (λ (l : Letter). l.packet.stamp ≡ stamp) puts.added (one ∷ []) puts.stamps
           (stamped, tt);
       left = left;
     }

@@ -20,8 +20,8 @@ use Rattle.nm_sending.specs.declared.departures.Departure.{Departure}
 use Rattle.nm_sending.specs.Departures.{SendingView, departures_to, departure_of, passes, ends_to}
 use Rattle.nm_sending.specs.Sent.{AreSent}
 use Rattle.nm_sending.specs.Tables.{AreTables, waits}
-use Rattle.nm_sending.proofs.LeavingLemmas.{get_behind}
 use Rattle.nm_sending.proofs.WaitingLemmas.{none_waits}
+use Rattle.nm_facts.proofs.Lists.{get_behind}
 
 -- what holds of each element by its place holds of all
 by_places : {X : Type 0} (P : X → Type 0) (all before xs : List X) → all ≡ before ++ xs

@@ -27,7 +27,7 @@ use Rattle.nm_history.specs.Delivery.{is_asked}
 use Rattle.nm_history.specs.Happens.{happened, is_send, is_out, is_recall, is_undone}
 use Rattle.nm_history.specs.Sends.{Sent, sends, is_ask}
 use Rattle.nm_history.proofs.DeliveryLemmas.{sends-push}
-use Rattle.nm_protocol.proofs.Basic.{same_number, or_false}
+use Rattle.nm_protocol.proofs.Basic.{or_false}
 use Rattle.nm_protocol.specs.Clearance.{left_of, pushed_out}
 use Rattle.nm_protocol.specs.Continues.{has}
 use Rattle.nm_protocol.specs.Effects.{is_empty_send}
@@ -46,7 +46,6 @@ use Rattle.nm_sending.specs.Departures.{cleared_to, leaving_to, pushed_to, ends_
 use Rattle.nm_sending.specs.Sent.{AreSent, Keeps}
 use Rattle.nm_sending.specs.Tables.{AreTables, AreApart, IsOffer, IsOfferBy, allowance, allowed}
 use Rattle.nm_sending.specs.Tables.{recall_of, waiting_from}
-use Rattle.nm_sending.proofs.EventLemmas.{happened-push}
 use Rattle.nm_sending.proofs.OfferLemmas.{state-asked, states-change, read-stay}
 use Rattle.nm_sending.proofs.PlaceLemmas.{Steps, eq_swap, row-set, departure-push, length-departure_push}
 use Rattle.nm_sending.proofs.PlaceLemmas.{passes-step, passes-more, passes-same}
@@ -55,6 +54,8 @@ use Rattle.nm_sending.proofs.TableLemmas.{is_at, at_place, unchanged, or_nothing
 use Rattle.nm_sending.proofs.TableLemmas.{unanswered-step}
 use Rattle.nm_sending.proofs.TurnLemmas.{InTurn, filter-apart}
 use Rattle.nm_sending.proofs.WaitingLemmas.{waiting-push, staying_in, staying-push}
+use Rattle.nm_facts.proofs.Numbers.{same_number}
+use Rattle.nm_history.proofs.AppendLemmas.{happened-push}
 
 -- one number more
 range-push : (a n : ℕ) → range_with_len a (n + 1) ≡ range_with_len a n ++ (a + n) ∷ []
@@ -482,6 +483,7 @@ module _ (me ranks : ℕ) (old : SendingView) (tables : AreTables me ranks old) 
             ∙ ap (λ (ns : List ℕ). length ns) (was.numbers to)
             ∙ length-range_with_len 0 (length (departures_to old to)));
         matches = tt;
+        claims = tt;
         cancels = tt;
         wholes = tt;
         ends = tt;

@@ -17,9 +17,10 @@ use Rattle.nm_sending.specs.declared.departures.Departure.{Departure}
 use Rattle.nm_sending.specs.Departures.{SendingView, departures_to, departure_of, passes, was_undone}
 use Rattle.nm_sending.specs.Departures.{row_of}
 use Rattle.nm_sending.specs.Sent.{AreSent, Keeps}
-use Rattle.nm_sending.proofs.EventLemmas.{happened-push, sends-same}
+use Rattle.nm_sending.proofs.EventLemmas.{sends-same}
 use Rattle.nm_sending.proofs.PlaceLemmas.{Steps, passes-step, passes-more, passes-same}
 use Rattle.nm_sending.proofs.TurnLemmas.{InTurn}
+use Rattle.nm_history.proofs.AppendLemmas.{happened-push}
 
 -- what happened, with this stamp
 abbrev pub at : ℕ → Happened → Event
@@ -154,6 +155,7 @@ pub right-out : (v : SendingView) (h : List Event) (to n ranks : ℕ) (d : Depar
 right-out v h to n ranks d there stays was = record {
   numbers = tt;
   matches = tt;
+  claims = tt;
   cancels = tt;
   wholes = tt;
   ends = (
@@ -168,6 +170,7 @@ pub right-recall : (v : SendingView) (h : List Event) (to n ranks : ℕ) (d : De
 right-recall v h to n ranks d there stays was = record {
   numbers = tt;
   matches = tt;
+  claims = tt;
   cancels = (
     sym (was.recalled to n) ∙ ap (λ (o : Option Departure). passes (λ x. x.recalled) o) there ∙ stays,
     sym (was.sent to n) ∙ ap (λ (o : Option Departure). is_some o) there,
@@ -183,6 +186,7 @@ pub right-undone : (v : SendingView) (h : List Event) (to n ranks : ℕ) (done :
 right-undone v h to n ranks done d there recalled none was = record {
   numbers = tt;
   matches = tt;
+  claims = tt;
   cancels = tt;
   wholes = tt;
   ends = (

@@ -393,12 +393,13 @@ impl Sending {
         Some((letter.to, n))
     }
 
-    /// Whether there is a piece to be pushed: a message was cleared and has not left.
-    pub fn has_piece(&self) -> bool
-        ensures out { (result ≡ false) ↔ AllOut self.now.offers }
-        ensures none { result ≡ false → next_offered self.now.offers ≡ None }
+    /// The destination of the next piece to be pushed, without the piece, if there is one.
+    pub fn piece_to(&self) -> Option<u8>
+        ensures to { result ≡ option_map (λ o. o.to) (next_offered self.now.offers) }
+        ensures in_range { IfSome result (λ to. to < length self.now.outbox.popped) }
+        ensures none { IsNone result ↔ AllOut self.now.offers }
     {
-        self.offers.front().is_some()
+        self.offers.piece_to()
     }
 
     /// The next piece to be pushed, and its destination, if there is one.

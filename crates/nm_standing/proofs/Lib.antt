@@ -1,2 +1,2 @@
 -- what stays the same
-pub mod Still
+mod Still

@@ -1,14 +1,15 @@
 -- What a moment of the rank's own leaves as it was.
-use Rattle.std.proofs.Common.{◌≡◌, ◌≤◌, ◌<◌, ℕ, ◌+◌, List, [], ◌∷◌, ◌++◌, length, length-append, append-nil, ap, sym, refl, ◌∙◌, arith}
+use Rattle.std.proofs.Common.{◌≡◌, ◌≤◌, ◌<◌, ℕ, ◌+◌, List, [], ◌∷◌, ◌++◌, length, length-append, ap, refl, ◌∙◌, arith}
 use Rattle.std.proofs.lemmas.List.{append_assoc}
 use Rattle.nm_types.specs.declared.scripts.Line.{Line}
 use Rattle.nm_types.specs.Sizes.{Sizes}
 use Rattle.nm_history.specs.declared.events.Event.{Event}
 use Rattle.nm_rank.specs.Ranks.{RankView}
-use Rattle.nm_ends.specs.Moments.{Moment, history_of}
-use Rattle.nm_ends.specs.Moments.Cause.{Acted}
-use Rattle.nm_log.proofs.Shown.{pulled_still, taken_still}
+use Rattle.nm_channels.specs.Moments.{Moment, history_of}
+use Rattle.nm_channels.specs.Moments.Cause.{Acted}
+use Rattle.nm_rank_log.proofs.Shown.{pulled_still, taken_still}
 use Rattle.nm_standing.specs.Standing.{GoesOn, Past, Same, with_moment}
+use Rattle.nm_channels.proofs.Delivering.{history-push}
 
 -- a moment's events come behind the history
 pub history_longer : (log : List Moment) (m : Moment) →
@@ -20,12 +21,6 @@ history_longer (x ∷ log) m =
     let two = length-append x.events (history_of log) in
     omega (arith, rest, one, two)
 
-pub history_front : (log : List Moment) (m : Moment) →
-    history_of (log ++ m ∷ []) ≡ history_of log ++ m.events
-history_front [] m = append-nil m.events
-history_front (x ∷ log) m = ap (λ (h : List Event). x.events ++ h) (history_front log m)
-    ∙ sym (append_assoc x.events (history_of log) m.events)
-
 -- nothing comes by what a rank does by itself
 pub own_same : (past : Past) (events : List Event) →
     Same past (with_moment past (record { cause = Acted; events = events }))
@@ -34,7 +29,7 @@ own_same past events =
       taken = λ from. taken_still from past.log (record { cause = Acted; events = events }) refl;
       pulled = λ from. pulled_still from past.log (record { cause = Acted; events = events }) refl;
       left = λ to. refl;
-      front = (events, history_front past.log (record { cause = Acted; events = events }));
+      front = (events, history-push past.log (record { cause = Acted; events = events }));
     }
 
 pub same_on : (a b c : Past) → Same a b → Same b c → Same a c

@@ -8,12 +8,12 @@ use Rattle.nm_types.specs.Sizes.{Sizes}
 use Rattle.nm_history.specs.Sends.{sent_body}
 use Rattle.nm_history.specs.declared.events.Event.{Event}
 use Rattle.nm_rank.specs.Ranks.{RankView}
-use Rattle.nm_outgoing.specs.Left.{IsLeft, Left, nothing, with_packet, with_piece}
-use Rattle.nm_ends.specs.Moments.{Moment, history_of, pulled_from, taken_from}
-use Rattle.nm_log.specs.Logged.{IsLogged}
+use Rattle.nm_rank_outgoing.specs.Left.{IsLeft, Left, nothing, with_packet, with_piece}
+use Rattle.nm_channels.specs.Moments.{Moment, history_of, pulled_from, taken_from}
+use Rattle.nm_rank_log.specs.Logged.{IsLogged}
 use Rattle.nm_process.specs.Processes.{ProcessView}
 use Rattle.nm_process.specs.Work.{IsAtWork}
-use Rattle.nm_ranks.specs.Ranks.{OneRank}
+use Rattle.nm_global.specs.Ranks.{OneRank}
 
 -- What was: the moments of a process, the receives whose results were given, and what left it for
 -- each rank.
@@ -30,10 +30,11 @@ no_past = record { log = []; given = []; left = λ to. nothing }
 abbrev pub with_moment : Past → Moment → Past
 with_moment past m = record past { log = past.log ++ m ∷ [] }
 
--- a packet or a piece left
+-- a packet left
 abbrev pub with_packet_left : Past → ℕ × Packet → Past
 with_packet_left past sent = record past { left = λ to. with_packet to sent (past.left to) }
 
+-- a piece left
 abbrev pub with_piece_left : Past → ℕ × Piece → Past
 with_piece_left past sent = record past { left = λ to. with_piece to sent (past.left to) }
 

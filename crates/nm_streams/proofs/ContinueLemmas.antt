@@ -29,14 +29,24 @@ same n = eq-eqb n n refl
 pub clear-continued : (known : Known) (p : Packet) (n : ℕ) → p.stamp < WORN_STAMP → p.what ≡ Clear n
     → (not (has known.cleared n) && not (has known.undone n) && length p.payload == 0) ≡ true → IsContinued known p
 clear-continued known p n fresh is can =
-    record { eager = 0; history = calling p.from (Clear n); continued = rw (fresh-test p.stamp fresh, is, same p.from, same n) can }
+    record {
+      eager = 0;
+      history = calling p.from (Clear n);
+      continued =
+          rw (fresh-test p.stamp fresh, is, same p.from, same n) can;
+    }
 
 pub withdrawn-continued : (known : Known) (p : Packet) (n : ℕ) (done : Bool) → p.stamp < WORN_STAMP
     → p.what ≡ Withdrawn n done
     → (not (has known.answered n) && not (done && has known.cleared n) && length p.payload == 0) ≡ true
     → IsContinued known p
 withdrawn-continued known p n done fresh is can =
-    record { eager = 0; history = calling p.from (Withdrawn n done); continued = rw (fresh-test p.stamp fresh, is, same p.from, same n) can }
+    record {
+      eager = 0;
+      history = calling p.from (Withdrawn n done);
+      continued =
+          rw (fresh-test p.stamp fresh, is, same p.from, same n) can;
+    }
 
 -- of its sender's own messages, at a rank with any history
 pub own-continues : (eager : ℕ) (known : Known) (h : List Event) (p : Packet) → p.stamp < WORN_STAMP

@@ -1,22 +1,26 @@
 -- What was granted stays what is due.
 use Rattle.std.proofs.Common.{◌≡◌, ℕ, zero, suc, ◌+◌, ◌≤◌, Bool, true, false, Option, Some, None, List, [], ◌∷◌, ◌++◌}
-use Rattle.std.proofs.Common.{length, drop, slice_get, nat_eq, nat_lt, refl, sym, ap, ◌∙◌, add-one, append_assoc, length-append, arith}
+use Rattle.std.proofs.Common.{length, drop, slice_get, nat_eq, refl, sym, ap, ◌∙◌, add-one, append_assoc}
+use Rattle.std.proofs.Common.{length-append, arith}
 use Rattle.std.proofs.lemmas.List.{append-nil, drop-append-le}
-use Rattle.std.proofs.lemmas.Bool.Decides.{nat_tests}
 use Rattle.std.specs.Map.{lookup, set_value}
 use Rattle.std.specs.Option.{option_map, option_map_or}
 use Rattle.nm_history.specs.declared.events.Event.{Event}
 use Rattle.nm_history.specs.declared.plain.Pair.{Pair}
 use Rattle.nm_protocol.specs.Pieces.{Due, due_of, due_of_all, due_pieces, granted}
-use Rattle.nm_rndv.specs.Grants.{Granted, due_in, expected_in, first_unfinished, fresh, is_open, is_open_in, is_whole, is_whole_in, taken_in, with_piece, without_bytes}
+use Rattle.nm_rndv.specs.Grants.{Granted, due_in, expected_in, first_unfinished, fresh, is_open_in, is_whole_in}
+use Rattle.nm_rndv.specs.Grants.{taken_in, with_piece, without_bytes}
 use Rattle.nm_rndv.specs.Pieces.{piece_size}
 use Rattle.nm_streams.specs.Pieces.{AreDue, due_of_grant, due_of_grants}
-use Rattle.nm_streams.proofs.PieceLemmas.{due_of_grants-append, due_of_grants-after, due_of_grants-closed, due_of_grants-first, due_of_grant-fresh, next_due}
+use Rattle.nm_streams.proofs.PieceLemmas.{due_of_grants-append, due_of_grants-after, due_of_grants-closed}
+use Rattle.nm_streams.proofs.PieceLemmas.{due_of_grants-first, due_of_grant-fresh, next_due}
+use Rattle.nm_rndv.proofs.GrantLemmas.{closed_whole as closed}
 
 due_of_all-push : (pairs : List Pair) (pair : Pair) → due_of_all (pairs ++ pair ∷ []) ≡ due_of_all pairs ++ due_of pair
 due_of_all-push [] pair = append-nil (due_of pair)
 due_of_all-push (p ∷ pairs) pair =
-    ap (λ ds. due_of p ++ ds) (due_of_all-push pairs pair) ∙ sym (append_assoc (due_of p) (due_of_all pairs) (due_of pair))
+    ap (λ ds. due_of p ++ ds) (due_of_all-push pairs pair)
+    ∙ sym (append_assoc (due_of p) (due_of_all pairs) (due_of pair))
 
 first_left : (xs : List Due) (place : ℕ) → slice_get (drop place xs) 0 ≡ slice_get xs place
 first_left [] zero = refl
@@ -47,10 +51,12 @@ pub due-first : (grants : List (ℕ × Granted)) (h : List Event) (from place : 
     → slice_get (due_of_grants grants) 0 ≡ slice_get (due_pieces h from) place
 due-first grants h from place are = ap (λ ds. slice_get ds 0) are.rest ∙ first_left (due_pieces h from) place
 
-there : (grants : List (ℕ × Granted)) (n at : ℕ) → expected_in grants ≡ Some (n, at) → (d : Due) × (slice_get (due_of_grants grants) 0 ≡ Some d)
+there : (grants : List (ℕ × Granted)) (n at : ℕ) → expected_in grants ≡ Some (n, at) →
+    (d : Due) × (slice_get (due_of_grants grants) 0 ≡ Some d)
 there grants n at expected = by (first_unfinished grants) refl
   where
-    by : (o : Option (ℕ × Granted)) → first_unfinished grants ≡ o → (d : Due) × (slice_get (due_of_grants grants) 0 ≡ Some d)
+    by : (o : Option (ℕ × Granted)) → first_unfinished grants ≡ o →
+        (d : Due) × (slice_get (due_of_grants grants) 0 ≡ Some d)
     by None none = absurd (let e = rw none at expected in cc)
     by (Some e) some = (next_due e, due_of_grants-first grants ∙ ap (λ o. option_map next_due o) some)
 
@@ -61,7 +67,8 @@ due-piece grants h from place n at bytes expected size is are =
     let d = there grants n at expected in
     record {
       came = left_is_within (due_pieces h from) place d.0 (sym (due-first grants h from place are) ∙ d.1);
-      rest = due_of_grants-after grants n at bytes expected size is ∙ ap (λ ds. drop 1 ds) are.rest ∙ drop_one (due_pieces h from) place;
+      rest = due_of_grants-after grants n at bytes expected size is ∙ ap (λ ds. drop 1 ds) are.rest
+          ∙ drop_one (due_pieces h from) place;
     }
 
 fresh_due : (grants : List (ℕ × Granted)) (pair : Pair)
@@ -92,15 +99,8 @@ due-other grants h events from place same are =
     let due : due_pieces (h ++ events) from ≡ due_pieces h from = ap due_of_all same in
     record { came = rw due are.came; rest = rw due are.rest }
 
-closed : (g : Granted) → is_whole g ≡ true → is_open g ≡ false
-closed g h = by g.bytes h
-  where
-    by : (o : Option (List ℕ)) → option_map_or (λ bytes. nat_eq (length bytes) g.len) o false ≡ true
-        → option_map_or (λ bytes. nat_lt (length bytes) g.len) o false ≡ false
-    by None h = refl
-    by (Some bytes) h = grind (arith, nat_tests)
-
-taken_same : (es : List (ℕ × Granted)) (n : ℕ) → is_whole_in es n ≡ true → due_of_grants (taken_in es n) ≡ due_of_grants es
+taken_same : (es : List (ℕ × Granted)) (n : ℕ) → is_whole_in es n ≡ true →
+    due_of_grants (taken_in es n) ≡ due_of_grants es
 taken_same [] n whole = refl
 taken_same (e ∷ es) n whole = by (nat_eq n e.0) refl (taken_same es n)
   where
@@ -113,7 +113,8 @@ taken_same (e ∷ es) n whole = by (nat_eq n e.0) refl (taken_same es n)
         → due_of_grants (taken_in (e ∷ es) n) ≡ due_of_grants (e ∷ es)
     by true same rest = rw same (sym (due_of_grants-closed e es (closed e.1 (rw same at whole))))
     by false other rest =
-        rw other (ap due_of_grants (later (lookup (nat_eq n) es)) ∙ ap (λ ds. due_of_grant e ++ ds) (rest (rw other at whole)))
+        rw other (ap due_of_grants (later (lookup (nat_eq n) es)) ∙ ap (λ ds. due_of_grant e ++ ds)
+        (rest (rw other at whole)))
 
 pub due-taken : (grants : List (ℕ × Granted)) (h : List Event) (from place n : ℕ) → is_whole_in grants n ≡ true
     → AreDue grants h from place → AreDue (taken_in grants n) h from place

@@ -9,15 +9,12 @@ use Rattle.nm_types.specs.declared.packets.Joined.TheVariants as joined
 use Rattle.nm_types.specs.declared.packets.Piece.{Piece}
 use Rattle.nm_protocol.specs.Effects.{whole_if}
 use Rattle.nm_protocol.specs.Pieces.{is_due, piece_makes}
-use Rattle.nm_rndv.specs.Grants.{Continues, Granted, Granting, came, due_in, due_of, first_unfinished, grants_from, joined_by}
+use Rattle.nm_rndv.specs.Grants.{Continues, Granted, Granting, came, due_in, due_of, first_unfinished, grants_from}
+use Rattle.nm_rndv.specs.Grants.{joined_by}
 use Rattle.nm_rndv.specs.Pieces.{piece_size}
 use Rattle.nm_streams.specs.Pieces.{due_of_grants}
 use Rattle.nm_streams.proofs.PieceLemmas.{due_of_grants-first, next_due}
-
-same_test : (a b : Bool) → (a ≡ true → b ≡ true) → (b ≡ true → a ≡ true) → a ≡ b
-same_test true b there back = sym (there refl)
-same_test false true there back = back refl
-same_test false false there back = refl
+use Rattle.nm_facts.proofs.Truth.{same_test}
 
 -- what the three tests of a piece say
 three : (a b c d e f : ℕ) → (a == b && c == d && e == f) ≡ true → (a ≡ b) × (c ≡ d) × (e ≡ f)
@@ -61,11 +58,13 @@ continues_of v p next =
     record { expected = rw (next.first, next.n, next.at) refl; size = rw next.first next.size }
 
 next_is_due : (v : Granting) (p : Piece) (next : Next v p) → is_due p (next_due next.e) ≡ true
-next_is_due v p next = three_tests p.n next.e.0 p.at (came next.e.1) (length p.bytes) (piece_size (due_of next.e.1)) next.n next.at next.size
+next_is_due v p next = three_tests p.n next.e.0 p.at (came next.e.1) (length p.bytes) (piece_size (due_of next.e.1))
+    next.n next.at next.size
 
 pub fits-first : (v : Granting) (p : Piece) (b : Bool) → (IsTrue b ↔ Continues v p)
     → b ≡ option_map_or (is_due p) (slice_get (due_of_grants (grants_from v p.from)) 0) false
-fits-first v p b fits = rw (due_of_grants-first (grants_from v p.from)) (by (first_unfinished (grants_from v p.from)) refl)
+fits-first v p b fits = rw (due_of_grants-first (grants_from v p.from))
+    (by (first_unfinished (grants_from v p.from)) refl)
   where
     by : (o : Option (ℕ × Granted)) → first_unfinished (grants_from v p.from) ≡ o
         → b ≡ option_map_or (is_due p) (option_map next_due o) false
@@ -101,7 +100,10 @@ pub joined-made : (v : Granting) (p : Piece) (did : Joined) → Continues v p
     → did ≡ joined_by (due_in (grants_from v p.from)) p.at (length p.bytes)
     → (b : Bool) → (b ≡ true → did ≡ joined.Whole) → (b ≡ false → did ≡ joined.Whole → ⊥)
     → whole_if b p.from p.n ≡ piece_makes p.from (slice_get (due_of_grants (grants_from v p.from)) 0) p
-joined-made v p did fit is b whole part = sym (made v p next ∙ ap (λ b. whole_if b p.from p.n) (by (length p.bytes == due) refl b whole part (is ∙ ap (λ d. joined_by d p.at (length p.bytes)) (due_is v p next))))
+joined-made v p did fit is b whole part =
+    sym (made v p next ∙ ap (λ b. whole_if b p.from p.n)
+    (by (length p.bytes == due) refl b whole part
+    (is ∙ ap (λ d. joined_by d p.at (length p.bytes)) (due_is v p next))))
   where
     next : Next v p
     next = next_of v p fit
@@ -109,7 +111,8 @@ joined-made v p did fit is b whole part = sym (made v p next ∙ ap (λ b. whole
     due : ℕ
     due = due_of next.e.1
 
-    by : (all : Bool) → (length p.bytes == due) ≡ all → (b : Bool) → (b ≡ true → did ≡ joined.Whole) → (b ≡ false → did ≡ joined.Whole → ⊥)
+    by : (all : Bool) → (length p.bytes == due) ≡ all → (b : Bool) → (b ≡ true → did ≡ joined.Whole) →
+        (b ≡ false → did ≡ joined.Whole → ⊥)
         → did ≡ joined_by due p.at (length p.bytes) → nat_le due MAX_PIECE ≡ b
     by true all true whole part is = last_true (length p.bytes) due next.size all
     by true all false whole part is = absurd (part refl (is ∙ rw all refl))

@@ -1,5 +1,5 @@
-pub mod ContinueLemmas
+mod ContinueLemmas
 pub mod DueLemmas
 pub mod GrantLemmas
-pub mod NumberLemmas
+mod NumberLemmas
 pub mod PieceLemmas

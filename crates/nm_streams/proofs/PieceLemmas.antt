@@ -1,21 +1,21 @@
 -- The first piece that is due of some grants, and those that are due after it.
 use Rattle.std.proofs.Common.{◌≡◌, ℕ, zero, suc, ◌+◌, ◌-◌, ◌<◌, ◌≤◌, Bool, true, false}
 use Rattle.std.proofs.Common.{if◌then◌else◌, Option, Some, None, List, [], ◌∷◌, ◌++◌, length, drop, slice_get}
-use Rattle.std.proofs.Common.{nat_eq, nat_lt, nat_le, min, refl, sym, ap, ◌∙◌, subst, append_assoc, length-append, true≢false, arith}
+use Rattle.std.proofs.Common.{nat_eq, nat_lt, nat_le, min, refl, sym, ap, ◌∙◌, subst, append_assoc, length-append}
+use Rattle.std.proofs.Common.{true≢false, arith}
 use Rattle.std.proofs.lemmas.Bool.Decides.{nat_tests}
 use Rattle.std.specs.Map.{lookup, set_value}
 use Rattle.std.specs.Option.{option_map, option_map_or}
 use Rattle.nm_types.specs.declared.limits.TheConstants.{MAX_PIECE}
 use Rattle.nm_protocol.specs.Pieces.{Due, due_from}
-use Rattle.nm_rndv.specs.Grants.{Granted, came, due_in, due_of, expected_in, first_unfinished, fresh, is_open, is_open_in, with_more, with_piece}
+use Rattle.nm_rndv.specs.Grants.{Granted, came, due_in, due_of, expected_in, first_unfinished, fresh, is_open}
+use Rattle.nm_rndv.specs.Grants.{is_open_in, with_more, with_piece}
 use Rattle.nm_rndv.specs.Pieces.{piece_size}
 use Rattle.nm_streams.specs.Pieces.{due_of_grant, due_of_grants}
+use Rattle.nm_facts.proofs.Numbers.{lt_false}
 
 lt_true : (x y : ℕ) → x < y → nat_lt x y ≡ true
 lt_true x y h = grind (arith, nat_tests)
-
-lt_false : (x y : ℕ) → y ≤ x → nat_lt x y ≡ false
-lt_false x y h = grind (arith, nat_tests)
 
 lt_is : (x y : ℕ) → nat_lt x y ≡ true → x < y
 lt_is x y h = grind (arith, nat_tests)
@@ -38,7 +38,9 @@ due_from-turns (suc t) (suc u) n at len first second =
     by : (b : Bool) → nat_lt at len ≡ b
         → due_from t n (at + MAX_PIECE) len ≡ due_from u n (at + MAX_PIECE) len
         → due_from (suc t) n at len ≡ due_from (suc u) n at len
-    by true e rest = rw e (ap (λ ds. record { n = n; at = at; size = min MAX_PIECE (len - at); last = nat_le len (at + MAX_PIECE) } ∷ ds) rest)
+    by true e rest = rw e
+        (ap (λ ds. record { n = n; at = at; size = min MAX_PIECE (len - at); last = nat_le len (at + MAX_PIECE) } ∷ ds)
+        rest)
     by false e rest = rw e refl
 
 -- the next piece of a grant that is not whole
@@ -51,7 +53,8 @@ last_is at len = grind (arith, nat_tests)
 came_below : (g : Granted) → is_open g ≡ true → came g < g.len
 came_below g is = by g.bytes is
   where
-    by : (o : Option (List ℕ)) → option_map_or (λ bytes. nat_lt (length bytes) g.len) o false ≡ true → option_map_or length o 0 < g.len
+    by : (o : Option (List ℕ)) → option_map_or (λ bytes. nat_lt (length bytes) g.len) o false ≡ true →
+        option_map_or length o 0 < g.len
     by None h = absurd cc
     by (Some bytes) h = lt_is (length bytes) g.len h
 
@@ -63,17 +66,21 @@ due_of_grant-open e is = rw is (by (due_of e.1) refl)
     below : came e.1 < e.1.len
     below = came_below e.1 is
 
-    by : (t : ℕ) → due_of e.1 ≡ t → due_from t e.0 (came e.1) e.1.len ≡ next_due e ∷ due_from t e.0 (came e.1 + MAX_PIECE) e.1.len
+    by : (t : ℕ) → due_of e.1 ≡ t → due_from t e.0 (came e.1) e.1.len ≡ next_due e ∷ due_from t e.0
+        (came e.1 + MAX_PIECE) e.1.len
     by zero none = absurd (let h : ⊥ = omega (arith, none, below) in h)
     by (suc t) some = rw (lt_true (came e.1) e.1.len below, last_is (came e.1) e.1.len)
-        (ap (λ ds. next_due e ∷ ds) (due_from-turns t (suc t) e.0 (came e.1 + MAX_PIECE) e.1.len (omega (arith, some)) (omega (arith, some))))
+        (ap (λ ds. next_due e ∷ ds) (due_from-turns t (suc t) e.0 (came e.1 + MAX_PIECE) e.1.len (omega (arith, some))
+        (omega (arith, some))))
 
 -- nothing is due of one that is
-pub due_of_grants-closed : (e : ℕ × Granted) (es : List (ℕ × Granted)) → is_open e.1 ≡ false → due_of_grants (e ∷ es) ≡ due_of_grants es
+pub due_of_grants-closed : (e : ℕ × Granted) (es : List (ℕ × Granted)) → is_open e.1 ≡ false →
+    due_of_grants (e ∷ es) ≡ due_of_grants es
 due_of_grants-closed e es not' = rw not' refl
 
 -- the first piece that is due is the next one of the first grant that is not whole
-pub due_of_grants-first : (es : List (ℕ × Granted)) → slice_get (due_of_grants es) 0 ≡ option_map next_due (first_unfinished es)
+pub due_of_grants-first : (es : List (ℕ × Granted)) → slice_get (due_of_grants es) 0 ≡ option_map next_due
+    (first_unfinished es)
 due_of_grants-first [] = refl
 due_of_grants-first (e ∷ es) = by (is_open e.1) refl (due_of_grants-first es)
   where
@@ -83,10 +90,12 @@ due_of_grants-first (e ∷ es) = by (is_open e.1) refl (due_of_grants-first es)
     by true is later = rw (due_of_grant-open e is, is) refl
     by false not' later = rw not' later
 
-pub due_of_grants-append : (xs ys : List (ℕ × Granted)) → due_of_grants (xs ++ ys) ≡ due_of_grants xs ++ due_of_grants ys
+pub due_of_grants-append : (xs ys : List (ℕ × Granted)) → due_of_grants (xs ++ ys) ≡ due_of_grants xs ++ due_of_grants
+    ys
 due_of_grants-append [] ys = refl
 due_of_grants-append (e ∷ xs) ys =
-    ap (λ ds. due_of_grant e ++ ds) (due_of_grants-append xs ys) ∙ sym (append_assoc (due_of_grant e) (due_of_grants xs) (due_of_grants ys))
+    ap (λ ds. due_of_grant e ++ ds) (due_of_grants-append xs ys)
+    ∙ sym (append_assoc (due_of_grant e) (due_of_grants xs) (due_of_grants ys))
 
 -- what is due of a grant of which nothing came
 pub due_of_grant-fresh : (n len : ℕ) → due_of_grant (n, fresh len) ≡ due_from len n 0 len
@@ -97,7 +106,8 @@ due_of_grant-fresh n len = by (nat_lt 0 len) refl
     by false not' = rw not' (sym (due_from-past len n 0 len (le_is 0 len not')))
 
 -- what is due of a grant after its next piece
-pub due_of_grant-after : (n len : ℕ) (o : Option (List ℕ)) (bytes : List ℕ) → is_open (record { len = len; bytes = o }) ≡ true
+pub due_of_grant-after : (n len : ℕ) (o : Option (List ℕ)) (bytes : List ℕ) →
+    is_open (record { len = len; bytes = o }) ≡ true
     → length bytes ≡ piece_size (due_of (record { len = len; bytes = o }))
     → due_of_grant (n, with_more (record { len = len; bytes = o }) bytes)
     ≡ due_from (due_of (record { len = len; bytes = o })) n (came (record { len = len; bytes = o }) + MAX_PIECE) len
@@ -108,7 +118,8 @@ due_of_grant-after n len (Some bs) bytes is size = by (nat_lt (length (bs ++ byt
     below = lt_is (length bs) len is
 
     by : (b : Bool) → nat_lt (length (bs ++ bytes)) len ≡ b
-        → (if nat_lt (length (bs ++ bytes)) len then due_from (len - length (bs ++ bytes)) n (length (bs ++ bytes)) len else [])
+        → (if nat_lt (length (bs ++ bytes)) len then due_from (len - length (bs ++ bytes)) n
+        (length (bs ++ bytes)) len else [])
         ≡ due_from (len - length bs) n (length bs + MAX_PIECE) len
     by true e =
         let full : length (bs ++ bytes) ≡ length bs + MAX_PIECE =

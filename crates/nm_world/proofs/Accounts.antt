@@ -1,19 +1,19 @@
 -- What there is to tell of actors that came to rest is a run of their script.
 use Rattle.std.proofs.Common.{◌≡◌, ℕ, ◌+◌, ◌<◌, zero, suc, ◌≤◌, Bool, true, false, not, ◌&&◌, cond, Option, Some, None}
-use Rattle.std.proofs.Common.{List, [], ◌∷◌, ◌++◌, length, map, refl, sym, ◌∙◌, ap, subst, arith, append-nil, append_assoc}
+use Rattle.std.proofs.Common.{List, [], ◌∷◌, ◌++◌, length, map, refl, sym, ◌∙◌, ap, subst, arith, append-nil}
+use Rattle.std.proofs.Common.{append_assoc}
 use Rattle.std.specs.Prelude.{IfSome, MatchOption, is_none, is_some, nat_lt, option_map}
-use Rattle.std.specs.List.{filter, list_all, range_with_len, slice_get}
+use Rattle.std.specs.List.{filter, range_with_len, slice_get}
 use Rattle.std.proofs.lemmas.Bool.Decides.{nat_tests}
 use Rattle.std.proofs.lemmas.List.{map-append}
 use Rattle.std.proofs.lemmas.List.Folds.{list_all-append}
 use Rattle.std.proofs.lemmas.List.FromFn.{filter_of_map_range_with_len_more}
-use Rattle.nm_types.specs.declared.packets.Packet.{Packet}
 use Rattle.nm_types.specs.declared.scripts.Line.{Line}
 use Rattle.nm_types.specs.Commands.{Numbered, commands_of}
 use Rattle.nm_types.specs.Sizes.{Sizes}
 use Rattle.nm_history.specs.declared.events.Event.{Event}
 use Rattle.nm_history.specs.Answers.{can_go_on}
-use Rattle.nm_history.specs.Outgoing.{AreCalled, Called, outgoing}
+use Rattle.nm_history.specs.Outgoing.{outgoing}
 use Rattle.nm_history.specs.Quiescence.{Ended, Packets, packets_by_rank, packets_from, packets_of}
 use Rattle.nm_history.specs.Quiescence.{Stands as StandsAt}
 use Rattle.nm_history.specs.Run.{IsRunOf}
@@ -33,8 +33,9 @@ use Rattle.nm_world.specs.declared.actors.Actor.{Actor}
 use Rattle.nm_world.specs.Records.{AreToTell, counts_of, counts_to, ended_of}
 use Rattle.nm_world.specs.Rest.{HasRun, IsCarried, IsClosed}
 use Rattle.nm_world.specs.Runs.{InPlace}
-use Rattle.nm_world.proofs.Chosen.{get_map, place_below}
 use Rattle.nm_world.proofs.Runs.{in_place_at}
+use Rattle.nm_facts.proofs.Lists.{get_map, place_below}
+use Rattle.nm_sending.proofs.PutLemmas.{called_length}
 
 -- the counts to one rank more
 counts_more : (to : ℕ) (p : Port) →
@@ -73,7 +74,8 @@ pub counts_kept : (to packets : ℕ) (p : Port) (old pairs : List PairCount) →
     report.packets_of pairs ≡ report.packets_of old ++ counts_to (to + 1) p
 counts_kept to packets p old pairs is none so_far =
     let one : Packets = record { from = p.rank; to = to; count = sent_by p to } in
-    let counted : nat_lt 0 (sent_by p to) ≡ false = subst (λ (k : ℕ). nat_lt 0 k ≡ false) is (less_false packets none) in
+    let counted : nat_lt 0 (sent_by p to) ≡ false = subst (λ (k : ℕ). nat_lt 0 k ≡ false) is (less_false packets none)
+    in
     so_far ∙ ap (λ (more : List Packets). report.packets_of old ++ more)
     (sym (append-nil (counts_to to p)) ∙ ap (λ (b : Bool). counts_to to p ++ cond b (one ∷ []) []) (sym counted)
     ∙ sym (counts_more to p))
@@ -116,7 +118,8 @@ packets_next n pairs pairs' xs xs' a all split counted so_far =
     ∙ append_assoc (report.packets_of pairs) (counts_to n a.port) (counts_of n xs')
     ∙ ap (λ (ys : List Actor). report.packets_of pairs ++ counts_of n ys) (sym split) ∙ so_far
 
-pub done_next : (ranks ranks' : List RankAccount) (r : RankAccount) (done none : Bool) → done ≡ are_done (ends_of ranks) →
+pub done_next : (ranks ranks' : List RankAccount) (r : RankAccount) (done none : Bool) →
+    done ≡ are_done (ends_of ranks) →
     ranks' ≡ ranks ++ r ∷ [] → is_some r.waits ≡ not none → (done && none) ≡ are_done (ends_of ranks')
 done_next ranks ranks' r done none before pushed waits =
     ap (λ (b : Bool). b && none) before
@@ -171,7 +174,8 @@ row_is lines n i p h own each =
     (λ to. record { from = i; to = to; count = length (outgoing (sent_body (commands_of i lines)) h to) })
     (λ j low. λ k. record { from = own k; to = j; count = each j (omega (arith, low)) k }))
 
-pub counts_same : (lines : List Line) (n k : ℕ) (actors : List Actor) (ends : List Ended) → length ends ≡ length actors →
+pub counts_same : (lines : List Line) (n k : ℕ) (actors : List Actor) (ends : List Ended) →
+    length ends ≡ length actors →
     ((i m : ℕ) (a : Actor) (e : Ended) → m ≡ k + i → slice_get actors i ≡ Some a → slice_get ends i ≡ Some e →
     (a.port.rank ≡ m)
     × ((j : ℕ) → j < n → sent_by a.port j ≡ length (outgoing (sent_body (commands_of m lines)) e.events j))) →
@@ -185,13 +189,6 @@ counts_same lines n k (a ∷ actors) (e ∷ ends) many each =
     ∙ ap (λ (ps : List Packets). packets_from lines (range_with_len 0 n) k e.events ++ ps)
     (counts_same lines n (k + 1) actors ends (omega (arith, many))
     (λ i m b x is at to. each (suc i) m b x (omega (arith, is)) at to))
-
-pub called_long : (from number : ℕ) (xs : List Called) (ps : List Packet) → AreCalled from number xs ps →
-    length xs ≡ length ps
-called_long from number [] [] is = refl
-called_long from number [] (p ∷ ps) is = absurd is
-called_long from number (x ∷ xs) [] is = absurd is
-called_long from number (x ∷ xs) (p ∷ ps) is = ap suc (called_long from (number + 1) xs ps is.1)
 
 some_there : {A : Type 0} (o : Option A) (P : A → Type 0) (x : A) → o ≡ Some x → IfSome o P → P x
 some_there o P x is holds = subst (λ p. IfSome p P) is holds
@@ -238,7 +235,7 @@ told_run shape lines f r actors c q ends ranks pairs place many closed run told 
       let rank = (own i a at).0 in (
         rank ∙ sym here,
         λ j within. sym (closed.counts i j a.port (get_map (λ (a : Actor). a.port) actors i a at) within).0
-            ∙ sym (called_long i 0 _ _ (some_there (slice_get ends i) (IsCarried lines c q i j) e to
+            ∙ sym (called_length i 0 _ _ (some_there (slice_get ends i) (IsCarried lines c q i j) e to
             (run.carried i j within)).packets)
             ∙ ap (λ (k : ℕ). length (outgoing (sent_body (commands_of k lines)) e.events j)) (sym here),
       ))

@@ -1,5 +1,5 @@
 -- A list with one value for each element of another one, by what is known of the element at its place.
-use Rattle.std.proofs.Common.{◌≡◌, ℕ, zero, suc, ◌<◌, Option, Some, None, List, [], ◌∷◌, length, map, refl, ap, ap₂, arith}
+use Rattle.std.proofs.Common.{◌≡◌, ℕ, zero, suc, ◌<◌, Option, Some, None, List, [], ◌∷◌, length, map, refl, ap, ap₂}
 use Rattle.std.specs.Prelude.{IfSome}
 use Rattle.std.specs.List.{slice_get}
 
@@ -43,37 +43,13 @@ each_map g [] Q h i = tt
 each_map g (a ∷ as') Q h zero = h zero
 each_map g (a ∷ as') Q h (suc i) = each_map g as' (λ j. Q (suc j)) (λ j. h (suc j)) i
 
-pub get_map : {A B : Type 0} (g : A → B) (as' : List A) (i : ℕ) (a : A) → slice_get as' i ≡ Some a →
-    slice_get (map g as') i ≡ Some (g a)
-get_map g [] i a is = cc
-get_map {A = A} g (x ∷ as') zero a is = ap Some (ap g (one is)) where
-  one : {x y : A} → Some x ≡ Some y → x ≡ y
-  one e = cc
-get_map g (x ∷ as') (suc i) a is = get_map g as' i a is
-
-pub place_below : {A : Type 0} (as' : List A) (i : ℕ) (a : A) → slice_get as' i ≡ Some a → i < length as'
-place_below {A = A} [] i a is = absurd (none is) where
-  none : None ≡ Some a → ⊥
-  none e = cc
-place_below (x ∷ as') zero a is = omega arith
-place_below (x ∷ as') (suc i) a is = let low = place_below as' i a is in omega (arith, low)
-
 pub same_there : {A : Type 0} {o : Option A} (a b : A) → o ≡ Some a → o ≡ Some b → a ≡ b
 same_there a b one other = cc
-
-pub get_some : {A : Type 0} (as' : List A) (i : ℕ) → i < length as' → (a : A) × (slice_get as' i ≡ Some a)
-get_some [] i low = absurd (omega arith)
-get_some (a ∷ as') zero low = (a, refl)
-get_some (a ∷ as') (suc i) low = get_some as' i (omega (arith, low))
 
 pub for_each : {A B : Type 0} (o : Option B) (S : A → Type 0) (R : B → A → Type 0) →
     IfSome o (λ b. (a : A) → S a → R b a) → (a : A) → S a → IfSome o (λ b. R b a)
 for_each None S R h a s = tt
 for_each (Some b) S R h a s = h a s
-
-pub map_length : {A B : Type 0} (g : A → B) (as' : List A) → length (map g as') ≡ length as'
-map_length g [] = refl
-map_length g (a ∷ as') = ap suc (map_length g as')
 
 -- a list that is made of the values is that of the elements
 pub chosen_map : {A B C : Type 0} (P : ℕ → A → Type 0) (f : (i : ℕ) (a : A) → P i a → B) (as' : List A)

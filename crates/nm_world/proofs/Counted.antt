@@ -1,7 +1,7 @@
 -- What a record counts between two ranks.
 use Rattle.std.proofs.Common.{◌≡◌, ℕ, zero, suc, ◌+◌, ◌<◌, ◌≤◌, ◌≢◌, ◌==◌, Bool, true, false, ◌&&◌, cond}
 use Rattle.std.proofs.Common.{Option, Some, None, List, [], ◌∷◌, ◌++◌, length, map, filter, find, refl, sym, ap}
-use Rattle.std.proofs.Common.{◌∙◌, subst, arith}
+use Rattle.std.proofs.Common.{◌∙◌, arith}
 use Rattle.std.specs.Prelude.{nat_lt}
 use Rattle.std.specs.List.{range_with_len, slice_get}
 use Rattle.std.specs.Option.{option_map_or, option_or}
@@ -18,8 +18,9 @@ use Rattle.nm_cells.specs.declared.closed.Closed.{Closed}
 use Rattle.nm_cells.specs.ClosedLists.{sent_list, taken_list}
 use Rattle.nm_copyring.specs.declared.close.RingAccount.{RingAccount}
 use Rattle.nm_world.specs.Runs.{AreCarried, count_between}
-use Rattle.nm_world.proofs.Accounts.{called_long}
-use Rattle.nm_world.proofs.Chosen.{get_some}
+use Rattle.nm_facts.proofs.Numbers.{unequal, eq_true}
+use Rattle.nm_facts.proofs.Lists.{get_some}
+use Rattle.nm_sending.proofs.PutLemmas.{called_length}
 
 abbrev is_of : ℕ → ℕ → Packets → Bool
 is_of i j p = p.from == i && p.to == j
@@ -32,14 +33,9 @@ row from g ts =
 abbrev count_in : ℕ → ℕ → List Packets → ℕ
 count_in i j ps = option_map_or (λ (p : Packets). p.count) (find (is_of i j) ps) 0
 
-same_yes : (x y : ℕ) → x ≡ y → (x == y) ≡ true
-same_yes x y e = grind (arith, nat_tests)
-
-same_no : (x y : ℕ) → x ≢ y → (x == y) ≡ false
-same_no x y e = grind (arith, nat_tests)
-
 -- a row with one count more, which may be 0
-row_more : (i j from a : ℕ) (g : ℕ → ℕ) (ts : List ℕ) → is_of i j (record { from = from; to = a; count = g a }) ≡ false →
+row_more : (i j from a : ℕ) (g : ℕ → ℕ) (ts : List ℕ) → is_of i j (record { from = from; to = a; count = g a })
+    ≡ false →
     find (is_of i j) (row from g (a ∷ ts)) ≡ find (is_of i j) (row from g ts)
 row_more i j from a g ts other = by (nat_lt 0 (g a)) where
   by : (b : Bool) →
@@ -60,7 +56,7 @@ row_past : (i j from a n : ℕ) (g : ℕ → ℕ) → (from == i) ≡ true → j
 row_past i j from a zero g own past = refl
 row_past i j from a (suc n) g own past =
     row_more i j from a g (range_with_len (a + 1) n)
-    (ap (λ (b : Bool). b && (a == j)) own ∙ same_no a j (λ e. absurd (omega (arith, e, past))))
+    (ap (λ (b : Bool). b && (a == j)) own ∙ unequal a j (λ e. absurd (omega (arith, e, past))))
     ∙ row_past i j from (a + 1) n g own (omega (arith, past))
 
 -- its count, in the row of the rank
@@ -74,10 +70,10 @@ row_here i j from a (suc n) g own low high =
       by_place later (no ne) =
           ap (λ (o : Option Packets). option_map_or (λ (p : Packets). p.count) o 0)
           (row_more i j from a g (range_with_len (a + 1) n)
-          (ap (λ (b : Bool). b && (a == j)) own ∙ same_no a j ne)) ∙ later (omega (arith, low, ne))
+          (ap (λ (b : Bool). b && (a == j)) own ∙ unequal a j ne)) ∙ later (omega (arith, low, ne))
       by_place later (yes e) = by (nat_lt 0 (g a)) refl where
         here : is_of i j (record { from = from; to = a; count = g a }) ≡ true
-        here = ap (λ (b : Bool). b && (a == j)) own ∙ same_yes a j e
+        here = ap (λ (b : Bool). b && (a == j)) own ∙ eq_true a j e
 
         none : find (is_of i j) (row from g (range_with_len (a + 1) n)) ≡ None
         none = row_past i j from (a + 1) n g own (omega (arith, e))
@@ -104,9 +100,10 @@ rows_past lines n k i j [] past = refl
 rows_past lines n k i j (e ∷ ends) past =
     find-append (is_of i j) (packets_from lines (range_with_len 0 n) k e.events)
     (packets_by_rank lines (range_with_len 0 n) (k + 1) ends)
-    ∙ ap (λ (o : Option Packets). option_or o (find (is_of i j) (packets_by_rank lines (range_with_len 0 n) (k + 1) ends)))
+    ∙ ap (λ (o : Option Packets). option_or o
+    (find (is_of i j) (packets_by_rank lines (range_with_len 0 n) (k + 1) ends)))
     (row_other i j k (λ to. length (outgoing (sent_body (commands_of k lines)) e.events to)) (range_with_len 0 n)
-    (same_no k i (λ same. absurd (omega (arith, same, past)))))
+    (unequal k i (λ same. absurd (omega (arith, same, past)))))
     ∙ rows_past lines n (k + 1) i j ends (omega (arith, past))
 
 pub count_is : (lines : List Line) (n k m i j : ℕ) (ends : List Ended) (e : Ended) → m ≡ k + i →
@@ -125,7 +122,7 @@ count_is lines n k m zero j (x ∷ ends) e is at low =
     ∙ ap (option_or (find (is_of m j) (row k g (range_with_len 0 n))))
     (rows_past lines n (k + 1) m j ends (omega (arith, is)))
     ∙ or_none (find (is_of m j) (row k g (range_with_len 0 n))))
-    ∙ row_here m j k 0 n g (same_yes k m same) (omega arith) (omega (arith, low))
+    ∙ row_here m j k 0 n g (eq_true k m same) (omega arith) (omega (arith, low))
     ∙ ap (λ (r : ℕ). length (outgoing (sent_body (commands_of r lines)) x.events j)) same
     ∙ ap (λ (y : Ended). length (outgoing (sent_body (commands_of m lines)) y.events j)) (one at) where
       one : {u v : Ended} → Some u ≡ Some v → u ≡ v
@@ -138,9 +135,10 @@ count_is lines n k m (suc i) j (x ∷ ends) e is at low =
     ap (λ (o : Option Packets). option_map_or (λ (p : Packets). p.count) o 0)
     (find-append (is_of m j) (packets_from lines (range_with_len 0 n) k x.events)
     (packets_by_rank lines (range_with_len 0 n) (k + 1) ends)
-    ∙ ap (λ (o : Option Packets). option_or o (find (is_of m j) (packets_by_rank lines (range_with_len 0 n) (k + 1) ends)))
+    ∙ ap (λ (o : Option Packets). option_or o
+    (find (is_of m j) (packets_by_rank lines (range_with_len 0 n) (k + 1) ends)))
     (row_other m j k (λ to. length (outgoing (sent_body (commands_of k lines)) x.events to)) (range_with_len 0 n)
-    (same_no k m (λ same. absurd (omega (arith, same, is))))))
+    (unequal k m (λ same. absurd (omega (arith, same, is))))))
     ∙ count_is lines n (k + 1) m i j ends e (omega (arith, is)) at low
 
 -- what the closed ports carried is as much as is counted
@@ -151,7 +149,8 @@ pub carried_counts : (shape : Sizes) (lines : List Line) (c : Closed) (q : RingA
 carried_counts shape lines c q ends packets many counts carried i j low within =
     let e = get_some ends i (omega (arith, low, many)) in
     let is = carried i j e.0 within e.1 in
-    let long = called_long i 0 (outgoing (sent_body (commands_of i lines)) e.0.events j) (sent_list c i j) is.packets in
+    let long = called_length i 0 (outgoing (sent_body (commands_of i lines)) e.0.events j)
+    (sent_list c i j) is.packets in
     let count = ap (λ (ps : List Packets). count_between ps i j) counts
     ∙ count_is lines (length ends) 0 i i j ends e.0 (omega arith) e.1 (omega (arith, within, many)) in
     let sent : length (sent_list c i j) ≡ count_between packets i j = sym long ∙ sym count in

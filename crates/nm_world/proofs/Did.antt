@@ -1,6 +1,7 @@
 -- Whether something was done, from what grew.
 use Rattle.std.proofs.Common.{◌≡◌, ◌≢◌, ℕ, zero, suc, ◌+◌, ◌<◌, ◌≤◌, Bool, true, false, List, [], ◌∷◌, ◌++◌}
-use Rattle.std.proofs.Common.{length, length-append, append-nil, map, set, Some, refl, sym, ap, ◌∙◌, subst, arith, ⊎_elim, ◌||◌}
+use Rattle.std.proofs.Common.{length, length-append, append-nil, map, set, Some, refl, sym, ap, ◌∙◌, subst, arith}
+use Rattle.std.proofs.Common.{⊎_elim, ◌||◌}
 use Rattle.std.proofs.Common.{Ok, Err, Result, get_or-set_same, get_or-set_other}
 use Rattle.std.specs.Prelude.{◌↔◌, IfOk, is_err, nat_lt, slice_get, slice_index}
 use Rattle.std.proofs.lemmas.Bool.Decides.{nat_tests}
@@ -101,7 +102,8 @@ module _ (n : ℕ) (a b : Actor) (up : Grows a b) where
   up_pushed : sum_below n (λ j. length (ring.pushed_to a.ring j)) ≤ sum_below n (λ j. length (ring.pushed_to b.ring j))
   up_pushed = sum_up n _ _ (λ j. (up.ring j).pushed)
 
-  up_pulled : sum_below n (λ j. length (ring.pulled_from a.ring j)) ≤ sum_below n (λ j. length (ring.pulled_from b.ring j))
+  up_pulled : sum_below n (λ j. length (ring.pulled_from a.ring j)) ≤ sum_below n
+      (λ j. length (ring.pulled_from b.ring j))
   up_pulled = sum_up n _ _ (λ j. (up.ring j).pulled)
 
   pub done_up : done_by n a ≤ done_by n b

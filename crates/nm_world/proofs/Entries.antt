@@ -1,8 +1,10 @@
 -- What a port knows, from one step to the next.
+use Rattle.std.proofs.Common.{Option, None, is_some}
 use Rattle.std.proofs.Common.{◌≡◌, ◌≢◌, ℕ, zero, suc, ◌+◌, ◌<◌, ◌≤◌, Bool, true, false, List, [], ◌∷◌, ◌++◌}
-use Rattle.std.proofs.Common.{length, length-append, append-nil, map, set, Some, refl, sym, ap, ◌∙◌, subst, arith, ⊎_elim, ◌||◌}
-use Rattle.std.proofs.Common.{Ok, Err, Result, get_or-set_same, get_or-set_other}
-use Rattle.std.specs.Prelude.{is_err, nat_lt, slice_index}
+use Rattle.std.proofs.Common.{length, length-append, append-nil, map, set, Some, refl, sym, ap, ◌∙◌, subst, arith}
+use Rattle.std.proofs.Common.{⊎_elim, ◌||◌}
+use Rattle.std.proofs.Common.{get_or-set_same, get_or-set_other}
+use Rattle.std.specs.Prelude.{nat_lt, slice_index}
 use Rattle.std.proofs.lemmas.Bool.Decides.{nat_tests}
 use Rattle.std.proofs.lemmas.List.{append_assoc}
 use native.Mathlib.Decide.{ℕ_discrete, dec_le}
@@ -201,21 +203,21 @@ sent_more e e' to p (a_cell x y z) =
     let more = ap (λ (l : List (ℕ × Load)). length (put_to to l)) y ∙ put_one to (Some p) e.put in
     omega (arith, more, rest)
 
-pub sent_up : (result : Result Path Packet) (len to : ℕ) (p : Packet) (e e' : Entry) →
-    is_err result ≡ false →
-    (result ≡ Ok Box → e' ≡ with_put_box ((to, Some p) ∷ []) (with_filling to false e)) →
-    (result ≡ Ok Cell →
+pub sent_up : (result : Option Path) (len to : ℕ) (p : Packet) (e e' : Entry) →
+    is_some result ≡ true →
+    (result ≡ Some Box → e' ≡ with_put_box ((to, Some p) ∷ []) (with_filling to false e)) →
+    (result ≡ Some Cell →
     e' ≡ with_put ((to, Some p) ∷ []) (with_look false Fresh
     (with_heads false (heads_of false e') (tried len to e)))) →
     EntryGrows e e'
-sent_up (Ok Box) len to p e e' okay box cell =
+sent_up (Some Box) len to p e e' okay box cell =
     subst (λ (x : Entry). EntryGrows e x) (sym (box refl)) (box_up to ((to, Some p) ∷ []) e)
-sent_up (Ok Cell) len to p e e' okay box cell =
+sent_up (Some Cell) len to p e e' okay box cell =
     subst (λ (x : Entry). EntryGrows e x) (sym (cell refl))
     (entry_on e (tried len to e) _ (tried_up len to e)
     (cell_up ((to, Some p) ∷ []) (heads_of false e') (tried len to e)))
-sent_up (Err x) len to p e e' failed box cell = absurd (clash failed) where
-  clash : true ≡ false → ⊥
+sent_up None len to p e e' failed box cell = absurd (clash failed) where
+  clash : false ≡ true → ⊥
   clash e = cc
 
 -- a poll

@@ -1,6 +1,7 @@
 -- What grows of ports and of actors from one step to the next.
 use Rattle.std.proofs.Common.{◌≡◌, ◌≢◌, ℕ, zero, suc, ◌+◌, ◌<◌, ◌≤◌, Bool, true, false, List, [], ◌∷◌, ◌++◌}
-use Rattle.std.proofs.Common.{length, length-append, append-nil, map, set, Some, refl, sym, ap, ◌∙◌, subst, arith, ⊎_elim, ◌||◌}
+use Rattle.std.proofs.Common.{length, length-append, append-nil, map, set, Some, refl, sym, ap, ◌∙◌, subst, arith}
+use Rattle.std.proofs.Common.{⊎_elim, ◌||◌}
 use Rattle.std.proofs.Common.{Ok, Err, Result, get_or-set_same, get_or-set_other}
 use Rattle.std.specs.Prelude.{is_err, nat_lt, slice_index}
 use Rattle.std.proofs.lemmas.Bool.Decides.{nat_tests}
@@ -184,7 +185,12 @@ grows_on a b c one two = record {
 
 pub kept_on : (lines : List Line) (f : Fabric) (r : Rings) (a b c : Actor) → Kept lines f r a b →
     Kept lines f r b c → Kept lines f r a c
-kept_on lines f r a b c one two = record { stands = two.stands; seat = two.seat ∙ one.seat; grows = grows_on a b c one.grows two.grows }
+kept_on lines f r a b c one two = record {
+  stands = two.stands;
+  seat = two.seat ∙ one.seat;
+  grows =
+      grows_on a b c one.grows two.grows;
+}
 
 pub kept_same : (lines : List Line) (f : Fabric) (r : Rings) (a : Actor) → Stands lines f r a →
     Kept lines f r a a

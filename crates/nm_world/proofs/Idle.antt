@@ -5,7 +5,7 @@ use Rattle.std.proofs.Common.{get_or-set_same}
 use Rattle.std.proofs.Math.Logic.{∥∥₁_elim}
 use Rattle.std.proofs.Props.{props}
 use Rattle.std.specs.Prelude.{IfSome, option_map, slice_index}
-use Rattle.std.specs.List.{AllZip, slice_get}
+use Rattle.std.specs.List.{slice_get}
 use native.Mathlib.Decide.{ℕ_discrete, dec_le}
 use Rattle.nm_types.specs.declared.packets.Piece.{Piece}
 use Rattle.nm_types.specs.declared.scripts.Line.{Line}
@@ -36,6 +36,8 @@ use Rattle.nm_world.specs.Actors.{Grows, PortGrows, RingGrows}
 use Rattle.nm_world.specs.Idle.{CameBack, GaveNone, Idle, IsDue, LetterBack, NoPiece, PieceBack, QueueMissed}
 use Rattle.nm_world.specs.Idle.{Rose, Stepped}
 use Rattle.nm_world.proofs.Grows.{port_same, ring_same}
+use Rattle.nm_facts.proofs.Truth.{neither}
+use Rattle.nm_port.proofs.PollLemmas.{queue_misses, misses_long}
 
 -- a count that rose within
 pub rose_within : (x x' y' y : ℕ) → x ≤ x' → Rose x' y' → y' ≤ y → Rose x y
@@ -79,15 +81,8 @@ miss_rose b e e' = ⊎_elim
     (λ h. subst (λ (x : Entry). MissRose b e x) (sym h) (head_rose b (heads_at 0 0) e))
     (λ h. subst (λ (x : Entry). MissRose b e x) (sym h.1) (link_rose b (heads_of b e') e))
 
--- and the boxes are counted as before
-misses_kept : (e e' : Entry) → HadMiss true e e' → e'.box_miss ≡ e.box_miss
-misses_kept e e' = ⊎_elim (λ h. ap (λ (x : Entry). x.box_miss) h) (λ h. ap (λ (x : Entry). x.box_miss) h.1)
-
 fulls_kept : (e e' : Entry) → HadMiss false e e' → e'.box_full ≡ e.box_full
 fulls_kept e e' = ⊎_elim (λ h. ap (λ (x : Entry). x.box_full) h) (λ h. ap (λ (x : Entry). x.box_full) h.1)
-
-misses_long : (p : Port) → length (knows p).box_miss ≡ (knows p).ranks
-misses_long p = ∥∥₁_elim p.counts (search props) (λ n. n.misses)
 
 fulls_long : (p : Port) → length (knows p).box_full ≡ (knows p).ranks
 fulls_long p = ∥∥₁_elim p.counts (search props) (λ n. n.fulls)
@@ -98,7 +93,7 @@ pub gave_none : (n : ℕ) (p q : Port) → (knows p).ranks ≡ n →
 gave_none n p q ranks miss = record {
   boxes = λ i low. let long = misses_long p in
       subst (λ (xs : List ℕ). Rose (slice_index (knows p).box_miss i) (slice_index xs i))
-      (sym (misses_kept (with_all_missed (knows p)) (knows q) miss))
+      (sym (queue_misses (with_all_missed (knows p)) (knows q) miss))
       (map_rose (knows p).box_miss i (omega (arith, low, ranks, long)));
   queue = miss_rose true (with_all_missed (knows p)) (knows q) miss;
 }
@@ -178,6 +173,33 @@ piece_back a b front to piece is next low full =
     subst (λ (o : Option Offered). IfSome o (λ x. full_to a.ring x.to < full_to b.ring x.to))
     (ap (option_map offered) (sym is) ∙ next) (lane_full (ring.knows a.ring) (ring.knows b.ring) to low full)
 
+-- where a piece goes to this rank, its place was found full
+pub place_full : (a b : Actor) (to : ℕ) →
+    Some to ≡ option_map (λ x. x.to) (next_offered a.process.rank.sending.offers) →
+    to < length (ring.knows a.ring).lanes → ring.knows b.ring ≡ with_lane one_full to (ring.knows a.ring) →
+    PieceBack a b
+place_full a b to goes low full = by (next_offered a.process.rank.sending.offers) goes where
+  same : (k : ℕ) → Some to ≡ Some k → to ≡ k
+  same k e = cc
+
+  by : (o : Option Offered) → Some to ≡ option_map (λ x. x.to) o →
+      IfSome o (λ x. full_to a.ring x.to < full_to b.ring x.to)
+  by None is = tt
+  by (Some x) is = subst (λ (k : ℕ). full_to a.ring k < full_to b.ring k) (same x.to is)
+      (lane_full (ring.knows a.ring) (ring.knows b.ring) to low full)
+
+-- and where it goes to none, there is none
+pub none_back : (a : Actor) → None ≡ option_map (λ x. x.to) (next_offered a.process.rank.sending.offers) →
+    PieceBack a a
+none_back a goes = by (next_offered a.process.rank.sending.offers) goes where
+  clash : (k : ℕ) → None ≡ Some k → ⊥
+  clash k e = cc
+
+  by : (o : Option Offered) → None ≡ option_map (λ x. x.to) o →
+      IfSome o (λ x. full_to a.ring x.to < full_to a.ring x.to)
+  by None is = tt
+  by (Some x) is = absurd (clash x.to is)
+
 pub no_piece : (a b : Actor) (sender : ℕ) → sender < length (ring.knows a.ring).lanes →
     ring.knows b.ring ≡ with_lane one_empty sender (ring.knows a.ring) → NoPiece a b sender
 no_piece a b sender low empty due = lane_empty (ring.knows a.ring) (ring.knows b.ring) sender low empty
@@ -212,13 +234,6 @@ idle_before lines a b c up same idle = record {
   pieces = λ i low. pieces_within a b c c i up.ring same
       (idle.pieces i (subst (λ (v : ProcessView). i < v.rank.sizes.ranks) (sym same) low)) (ring_same c.ring);
 }
-
--- several steps one after the other
-pub neither : (p q : Bool) → (p || q) ≡ false → (p ≡ false) × (q ≡ false)
-neither true q none = absurd (clash none) where
-  clash : true ≡ false → ⊥
-  clash e = cc
-neither false q none = (refl, none)
 
 pub stepped_on : (p q : Bool) (a b c : Actor) → Stepped p a b → Stepped q b c → Stepped (p || q) a c
 stepped_on p q a b c one two = record {

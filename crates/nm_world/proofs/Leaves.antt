@@ -1,59 +1,50 @@
 -- What a step keeps by which a packet or a piece leaves.
+use Rattle.std.proofs.Common.{Option, None, is_some}
 use Rattle.std.proofs.Common.{◌≡◌, ◌≢◌, ◌⊎◌, ⊎_elim, ℕ, ◌+◌, ◌<◌, ◌≤◌, ◌==◌, Bool, true, false, cond}
-use Rattle.std.proofs.Common.{Some, None, List, [], ◌∷◌, ◌++◌, length, map, refl, sym, ap, ◌∙◌, subst}
-use Rattle.std.proofs.Common.{arith, append-nil, get_or-set_same, get_or-set_other, Ok, Err, Result}
-use Rattle.std.specs.Prelude.{is_err}
-use Rattle.std.specs.List.{cons_option}
-use Rattle.std.proofs.lemmas.Bool.Decides.{nat_tests}
-use Rattle.std.proofs.lemmas.List.{map-append}
+use Rattle.std.proofs.Common.{Some, List, [], ◌∷◌, ◌++◌, length, map, refl, sym, ap, ◌∙◌, subst}
+use Rattle.std.proofs.Common.{arith}
 use native.Mathlib.Decide.{dec_le}
-use Rattle.nm_types.specs.declared.limits.TheConstants.{MAX_BOX}
 use Rattle.nm_types.specs.declared.packets.Packet.{Packet}
 use Rattle.nm_types.specs.declared.packets.Path.{Path}
 use Rattle.nm_types.specs.declared.packets.Path.TheVariants.{Box, Cell}
 use Rattle.nm_types.specs.declared.packets.Piece.{Piece}
 use Rattle.nm_types.specs.declared.scripts.Line.{Line}
-use Rattle.nm_types.specs.Sizes.{Sizes}
 use Rattle.nm_history.specs.declared.events.Event.{Event}
 use Rattle.nm_protocol.specs.Known.{Taken}
 use Rattle.nm_protocol.specs.Pieces.{Pulled}
-use Rattle.nm_seats.specs.Update.{update}
 use Rattle.nm_table.specs.declared.table.Entry.{Entry}
 use Rattle.nm_table.specs.declared.table.Heads.{Heads}
-use Rattle.nm_table.specs.Rule.{Load, if_below, from, sent_to}
-use Rattle.nm_table.specs.Plays.{heads_of, with_box_full, with_filling, with_heads, with_put, with_put_box}
+use Rattle.nm_table.specs.Rule.{from, sent_to}
+use Rattle.nm_table.specs.Plays.{heads_of, with_filling, with_heads, with_put, with_put_box}
 use Rattle.nm_table.specs.Plays.{with_look}
 use Rattle.nm_table.specs.declared.table.Look.TheVariants.{Fresh}
 use Rattle.nm_cells.specs.declared.port.Fabric.{Fabric}
 use Rattle.nm_cells.specs.declared.port.Port.{Port}
 use Rattle.nm_cells.specs.Ports.{Owns, SameTaken, knows, taken_by}
-use Rattle.nm_cells.specs.Counted.{IsOneOf}
-use Rattle.nm_port.specs.Polls.{Came, HoldsTheRest, count_held, IsGot, IsNext, Way, before, by_box, by_cell, polled, was_held}
-use Rattle.nm_port.specs.Polls.{with_all_missed}
-use Rattle.nm_port.specs.Sends.{HadMiss, tried}
+use Rattle.nm_port.specs.Polls.{count_held}
+use Rattle.nm_port.specs.Sends.{tried}
 use Rattle.nm_copyring.specs.declared.port.RingPort.{RingPort}
 use Rattle.nm_copyring.specs.declared.port.Rings.{Rings}
 use Rattle.nm_copyring.specs.declared.table.Entry as ring_entry
 use Rattle.nm_copyring.specs.declared.table.Lane.{Lane}
-use Rattle.nm_copyring.specs.Rule.{lane, new_lane}
-use Rattle.nm_copyring.specs.Plays.{one_pulled, one_pushed, with_lane}
+use Rattle.nm_copyring.specs.Rule.{lane}
+use Rattle.nm_copyring.specs.Plays.{one_pushed, with_lane}
 use Rattle.nm_copyring.specs.Ports as ring
-use Rattle.nm_outgoing.specs.Left.{Left, with_packet, with_piece}
-use Rattle.nm_ends.specs.Moments.{Moment, pulled_from, taken_from}
-use Rattle.nm_ends.specs.Moments.Cause.{Acted}
-use Rattle.nm_rank.specs.Calls.{taken_of}
-use Rattle.nm_rank.specs.Ranks.{RankView}
-use Rattle.nm_log.specs.Moments.{drew, pulled, took}
-use Rattle.nm_log.proofs.Shown.{pulled-push, pulled_still, taken-push, taken_still}
+use Rattle.nm_rank_outgoing.specs.Left.{Left, with_packet, with_piece}
+use Rattle.nm_channels.specs.Moments.{Moment, taken_from}
+use Rattle.nm_channels.specs.Moments.Cause.{Acted}
+use Rattle.nm_rank_log.specs.Moments.{pulled}
+use Rattle.nm_rank_log.proofs.Shown.{pulled_still, taken_still}
 use Rattle.nm_process.specs.Processes.{ProcessView}
 use Rattle.nm_process.specs.Work.{IsAtWork}
-use Rattle.nm_channels.specs.Carried.{HasPassed, HasSent, one_more}
-use Rattle.nm_standing.specs.Standing.{GoesOn, IsOf, IsStanding, Past, with_moment, with_packet_left}
+use Rattle.nm_carried.specs.Carried.{HasPassed, HasSent, one_more}
+use Rattle.nm_standing.specs.Standing.{IsOf, IsStanding, with_moment, with_packet_left}
 use Rattle.nm_standing.specs.Standing.{with_piece_left}
 use Rattle.nm_world.specs.declared.actors.Actor.{Actor}
-use Rattle.nm_world.specs.Actors.{IsActor, Kept, Seat, Stands, seat_of}
-use Rattle.nm_world.proofs.Steps.{SameGot, got_same, is_same, isnt_same, lane_else, lane_here, stands_of}
+use Rattle.nm_world.specs.Actors.{Stands}
+use Rattle.nm_world.proofs.Steps.{SameGot, got_same, lane_else, lane_here, stands_of}
 use Rattle.nm_world.proofs.Steps.{tried_got, tried_sent}
+use Rattle.nm_facts.proofs.Numbers.{same_number, differ}
 
 -- the lists of a packet that was sent, by either way
 pub data SentBy (e e' : Entry) (to : ℕ) (p : Packet) : Type 0 where
@@ -75,17 +66,17 @@ box_put to p e e' is =
     a_box (ap (λ (x : Entry). x.put_box) is) (ap (λ (x : Entry). x.put) is)
     (record { box = ap (λ (x : Entry). x.got_box) is; cell = ap (λ (x : Entry). x.got) is })
 
-pub sent_by_way : (result : Result Path Packet) (len to : ℕ) (p : Packet) (e e' : Entry) →
-    is_err result ≡ false →
-    (result ≡ Ok Box → e' ≡ with_put_box ((to, Some p) ∷ []) (with_filling to false e)) →
-    (result ≡ Ok Cell →
+pub sent_by_way : (result : Option Path) (len to : ℕ) (p : Packet) (e e' : Entry) →
+    is_some result ≡ true →
+    (result ≡ Some Box → e' ≡ with_put_box ((to, Some p) ∷ []) (with_filling to false e)) →
+    (result ≡ Some Cell →
     e' ≡ with_put ((to, Some p) ∷ []) (with_look false Fresh
     (with_heads false (heads_of false e') (tried len to e)))) →
     SentBy e e' to p
-sent_by_way (Ok Box) len to p e e' okay box cell = box_put to p e e' (box refl)
-sent_by_way (Ok Cell) len to p e e' okay box cell = cell_put len to p (heads_of false e') e e' (cell refl)
-sent_by_way (Err x) len to p e e' failed box cell = absurd (clash failed) where
-  clash : true ≡ false → ⊥
+sent_by_way (Some Box) len to p e e' okay box cell = box_put to p e e' (box refl)
+sent_by_way (Some Cell) len to p e e' okay box cell = cell_put len to p (heads_of false e') e e' (cell refl)
+sent_by_way None len to p e e' failed box cell = absurd (clash failed) where
+  clash : false ≡ true → ⊥
   clash e = cc
 
 abbrev SendCarries : Type 0
@@ -108,7 +99,8 @@ got_by (a_cell x y z) = z
 
 left_packets : (to j : ℕ) (p : Packet) (l : Left) → (with_packet j (to, p) l).packets ≡ one_more to j p l.packets
 left_packets to j p l = by (to == j) where
-  by : (b : Bool) → (cond b (record l { packets = l.packets ++ p ∷ [] }) l).packets ≡ cond b (l.packets ++ p ∷ []) l.packets
+  by : (b : Bool) → (cond b (record l { packets = l.packets ++ p ∷ [] }) l).packets ≡ cond b
+      (l.packets ++ p ∷ []) l.packets
   by true = refl
   by false = refl
 
@@ -119,7 +111,8 @@ left_pieces to j p l = by (to == j) where
   by false = refl
 
 pub send_on : SendCarries → (lines : List Line) (f : Fabric) (r : Rings) (a : Actor) (v : ProcessView)
-    (port : Port) (to : ℕ) (p : Packet) (events : List Event) (s : Stands lines f r a) → Owns f port → port.rank ≡ a.port.rank →
+    (port : Port) (to : ℕ) (p : Packet) (events : List Event) (s : Stands lines f r a) → Owns f port →
+    port.rank ≡ a.port.rank →
     SameTaken a.port port → port.hands ≤ a.port.hands → SentBy (knows a.port) (knows port) to p →
     p.seq ≡ sent_to to (knows a.port).put_box (knows a.port).put →
     IsAtWork a.process.rank.sizes lines v →
@@ -198,10 +191,10 @@ push_on lines f r a v port to q events s owns rank within knew work on =
         by_place : (b : Bool) → (to == i) ≡ b →
             (lane (with_lane (one_pushed q) to (ring.knows a.ring)) i).pulled ≡ (lane (ring.knows a.ring) i).pulled
         by_place true e = subst (λ (k : ℕ). (lane (with_lane (one_pushed q) to (ring.knows a.ring)) k).pulled
-            ≡ (lane (ring.knows a.ring) k).pulled) (is_same to i e)
+            ≡ (lane (ring.knows a.ring) k).pulled) (same_number to i e)
             (ap (λ (l : Lane). l.pulled) (lane_here (ring.knows a.ring) to (one_pushed q) low))
         by_place false e = ap (λ (l : Lane). l.pulled)
-            (lane_else (ring.knows a.ring) to i (one_pushed q) (isnt_same to i e))
+            (lane_else (ring.knows a.ring) to i (one_pushed q) (differ to i e))
 
       by : (j : ℕ) → j < a.process.rank.sizes.ranks → (b : Bool) → (to == j) ≡ b →
           (cond b (record (s.past.left j) { pieces = (s.past.left j).pieces ++ q ∷ [] }) (s.past.left j)).pieces
@@ -211,9 +204,9 @@ push_on lines f r a v port to q events s owns rank within knew work on =
           ap (λ (qs : List Piece). qs ++ q ∷ []) (s.is.pushed j low)
           ∙ sym (ap (λ (x : ring_entry.Entry). (lane x j).pushed) knew
           ∙ subst (λ (k : ℕ). (lane (with_lane (one_pushed q) to (ring.knows a.ring)) k).pushed
-          ≡ (lane (ring.knows a.ring) k).pushed ++ q ∷ []) (is_same to j e)
+          ≡ (lane (ring.knows a.ring) k).pushed ++ q ∷ []) (same_number to j e)
           (ap (λ (l : Lane). l.pushed) (lane_here (ring.knows a.ring) to (one_pushed q)
           (omega (arith, within, wide)))))
       by j low false e =
           s.is.pushed j low ∙ sym (ap (λ (x : ring_entry.Entry). (lane x j).pushed) knew
-          ∙ ap (λ (l : Lane). l.pushed) (lane_else (ring.knows a.ring) to j (one_pushed q) (isnt_same to j e)))
+          ∙ ap (λ (l : Lane). l.pushed) (lane_else (ring.knows a.ring) to j (one_pushed q) (differ to j e)))

@@ -1,32 +1,32 @@
 -- an actor at its start
-pub mod Begins
+mod Begins
 -- what there is to tell
-pub mod Accounts
+mod Accounts
 -- what is counted between two ranks
-pub mod Counted
+mod Counted
 -- lists of actors
-pub mod Runs
+mod Runs
 -- a run at rest
-pub mod AtRest
+mod AtRest
 -- what grows
-pub mod Entries
-pub mod Grows
+mod Entries
+mod Grows
 -- whether something was done
-pub mod Did
+mod Did
 -- why nothing was
-pub mod Idle
+mod Idle
 -- loops over steps
-pub mod Loops
+mod Loops
 -- how often an actor polled
-pub mod Looks
+mod Looks
 -- two lists
-pub mod Lists
+mod Lists
 -- lists that are chosen place by place
-pub mod Chosen
+mod Chosen
 -- what a call answered
-pub mod Results
+mod Results
 -- what each step keeps
-pub mod Steps
-pub mod Leaves
+mod Steps
+mod Leaves
 -- a whole turn
-pub mod Turn
+mod Turn

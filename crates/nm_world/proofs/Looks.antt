@@ -1,7 +1,7 @@
 -- How often an actor polled before it ran a command that looks at what came.
-use Rattle.std.proofs.Common.{◌≡◌, ◌⊎◌, ⊎_elim, inl, inr, ℕ, zero, suc, ◌+◌, ◌<◌, ◌≤◌, Bool, true, false, cond}
-use Rattle.std.proofs.Common.{Option, Some, None, List, [], ◌∷◌, ◌++◌, map, take, refl, sym, ap, ◌∙◌, subst, arith}
-use Rattle.std.specs.Prelude.{count_by, filter_map, option_map}
+use Rattle.std.proofs.Common.{◌≡◌, ◌⊎◌, ⊎_elim, inl, inr, ℕ, suc, ◌+◌, ◌<◌, ◌≤◌, Bool, true, false, cond}
+use Rattle.std.proofs.Common.{Option, Some, List, [], ◌∷◌, ◌++◌, map, take, sym, ap, ◌∙◌, subst, arith}
+use Rattle.std.specs.Prelude.{count_by}
 use Rattle.std.specs.List.{slice_get}
 use Rattle.std.specs.Option.{option_map_or}
 use Rattle.std.proofs.lemmas.List.{map-append}
@@ -16,8 +16,7 @@ use Rattle.nm_history.specs.RankRun.{Answers, ran_lines, ran_of}
 use Rattle.nm_cells.specs.declared.port.Fabric.{Fabric}
 use Rattle.nm_copyring.specs.declared.port.Rings.{Rings}
 use Rattle.nm_cells.specs.declared.port.Port.{Port}
-use Rattle.nm_cells.specs.Ports.{knows, taken_by}
-use Rattle.nm_process.specs.Places.{IsNext}
+use Rattle.nm_cells.specs.Ports.{taken_by}
 use Rattle.nm_process.specs.Processes.{ProcessView}
 use Rattle.nm_process.specs.Steps.{HasRun, is_look}
 use Rattle.nm_process.specs.Work.{IsAtWork}
@@ -26,13 +25,14 @@ use Rattle.nm_types.specs.Sizes.{Sizes}
 use Rattle.nm_rank.specs.Ranks.{IsFresh}
 use Rattle.nm_world.specs.declared.actors.Actor.{Actor}
 use Rattle.nm_world.specs.Actors.{Grows, Kept, PortGrows, Seat, Stands, did}
-use Rattle.nm_world.specs.Idle.{QueueMissed, Rose}
+use Rattle.nm_world.specs.Idle.{QueueMissed}
 use Rattle.nm_world.specs.Looks.{IsAtLast, Polled, PolledBefore, PolledUnlessWorn, is_look_at, looks_in}
 use Rattle.nm_world.specs.Looks.{looks_next, polls_of}
 use Rattle.nm_world.proofs.Did.{did_same, sum_more, sum_up}
 use Rattle.nm_world.proofs.Grows.{kept_on, port_same}
 use Rattle.nm_world.proofs.Loops.{HasLooped}
 use Rattle.nm_world.proofs.Results.{clash}
+use Rattle.nm_facts.proofs.Lists.{take_more}
 
 -- ports
 polls_up : (n : ℕ) (p q : Port) → PortGrows p q → polls_of n p ≤ polls_of n q
@@ -83,16 +83,6 @@ looks_more commands h more =
     ap (count_by (is_look_at commands)) (filter_map-append (λ (e : Event). ran_of e.what) h more)
     ∙ sum_by-append (λ x. cond (is_look_at commands x) 1 0) (ran_lines h) (ran_lines more)
 
-take_one : {A : Type 0} (xs : List A) (i : ℕ) (x : A) → slice_get xs i ≡ Some x →
-    take (suc i) xs ≡ take i xs ++ x ∷ []
-take_one {A = A} [] i x at = absurd (none at) where
-  none : None ≡ Some x → ⊥
-  none e = cc
-take_one {A = A} (y ∷ xs) zero x at = ap (λ z. z ∷ []) (one at) where
-  one : {u v : A} → Some u ≡ Some v → u ≡ v
-  one e = cc
-take_one (y ∷ xs) (suc i) x at = ap (λ zs. y ∷ zs) (take_one xs i x at)
-
 -- where the same commands ran, as many of them look at what came
 pub looks_same : (commands : List Numbered) (at at' : ℕ) (h h' : List Event) → Answers commands at h →
     Answers commands at' h' → at' ≡ at → looks_in commands h' ≡ looks_in commands h
@@ -123,7 +113,7 @@ looks_ran sizes lines a b one two me run =
     let at = run.at in
     let more : b.at ≡ suc a.at = omega (arith, at) in
     let taken : take b.at commands ≡ take a.at commands ++ line ∷ [] =
-    ap (λ (k : ℕ). take k commands) more ∙ take_one commands a.at line next in
+    ap (λ (k : ℕ). take k commands) more ∙ take_more commands a.at line next in
     ap (count_by (is_look_at commands)) (answers.in_order
     ∙ ap (map (λ (c : Numbered). c.line)) taken
     ∙ map-append (λ (c : Numbered). c.line) (take a.at commands) (line ∷ [])
@@ -137,7 +127,8 @@ pub ranks_same : (lines : List Line) (f : Fabric) (r : Rings) (a b : Actor) → 
     b.process.rank.sizes.ranks ≡ a.process.rank.sizes.ranks
 ranks_same lines f r a b kept = ap (λ (s : Seat). s.sizes.ranks) kept.seat
 
-pub polled_by_step : (lines : List Line) (f : Fabric) (r : Rings) (n : ℕ) (a b d : Actor) (q : Bool) → Kept lines f r a b →
+pub polled_by_step : (lines : List Line) (f : Fabric) (r : Rings) (n : ℕ) (a b d : Actor) (q : Bool) →
+    Kept lines f r a b →
     q ≡ true → q ≡ did n b d → PolledUnlessWorn b.process.rank.sizes.ranks 1 b d →
     Polled a.process.rank.sizes.ranks 1 a.port d.port
 polled_by_step lines f r n a b d q kept is moved = ⊎_elim
@@ -181,7 +172,8 @@ module _ (lines : List Line) (f : Fabric) (r : Rings) where
       looks_same (commands_of a.process.rank.me lines) b.process.at c.process.at b.process.rank.events
       c.process.rank.events (answers_of a b s one) (answers_of a c s (kept_on lines f r a b c one two)) at
 
-  pub looks_front : (a b : Actor) → (g : Grows a b) → looks_in (commands_of a.process.rank.me lines) b.process.rank.events
+  pub looks_front : (a b : Actor) →
+      (g : Grows a b) → looks_in (commands_of a.process.rank.me lines) b.process.rank.events
       ≡ looks_in (commands_of a.process.rank.me lines) a.process.rank.events
       + looks_in (commands_of a.process.rank.me lines) g.events.0
   looks_front a b g =
@@ -196,7 +188,8 @@ module _ (lines : List Line) (f : Fabric) (r : Rings) where
       let front = looks_front a b one.grows in
       let same = looks_kept a b c s one two at in
       let polled = before looks (sym same ∙ is) in
-      polled_within a.process.rank.sizes.ranks looks a.port a.port b.port c.port (port_same a.port) polled two.grows.port
+      polled_within a.process.rank.sizes.ranks looks a.port a.port b.port c.port (port_same a.port) polled
+      two.grows.port
 
   next_same : (b m : Actor) → Stands lines f r b → Kept lines f r b m → m.process.at ≡ b.process.at →
       looks_next lines m.process ≡ looks_next lines b.process

@@ -9,9 +9,10 @@ use Rattle.nm_rank.specs.Ranks.{IsFresh}
 use Rattle.nm_world.specs.declared.actors.Actor.{Actor}
 use Rattle.nm_world.specs.Actors.{Kept, Stands, did}
 use Rattle.nm_world.specs.Idle.{Stepped}
-use Rattle.nm_world.proofs.Did.{did_on, did_same, or_none, or_one}
+use Rattle.nm_world.proofs.Did.{did_on, did_same, or_none}
 use Rattle.nm_world.proofs.Grows.{kept_on, kept_same}
 use Rattle.nm_world.proofs.Idle.{stepped_none, stepped_on}
+use Rattle.nm_facts.proofs.Truth.{or_right}
 
 -- after k steps that moved something
 pub record HasLooped (n : ℕ) (lines : List Line) (f : Fabric) (r : Rings) (k : ℕ) (a b : Actor) : Type 0 where
@@ -26,9 +27,6 @@ some_more k = grind (arith, nat_tests)
 pub is_first : (k : ℕ) → nat_lt 0 k ≡ false → k ≡ 0
 is_first k none = let low : k ≤ 0 = grind (arith, nat_tests) in omega (arith, low)
 
-pub or_true : (p q : Bool) → q ≡ true → (p || q) ≡ true
-or_true p q is = sym (or_one p q is)
-
 module _ (n : ℕ) (lines : List Line) (f : Fabric) (r : Rings) (a : Actor) where
   pub loop_none : Stands lines f r a → HasLooped n lines f r 0 a a
   loop_none s = record {
@@ -41,7 +39,7 @@ module _ (n : ℕ) (lines : List Line) (f : Fabric) (r : Rings) (a : Actor) wher
   pub loop_more : (k : ℕ) (b c : Actor) (q : Bool) → q ≡ true → HasLooped n lines f r k a b →
       Kept lines f r b c → q ≡ did n b c → Stepped q b c → HasLooped n lines f r (k + 1) a c
   loop_more k b c q is before kept moved stepped =
-      let more : (nat_lt 0 k || q) ≡ nat_lt 0 (k + 1) = or_true (nat_lt 0 k) q is ∙ sym (some_more k) in
+      let more : (nat_lt 0 k || q) ≡ nat_lt 0 (k + 1) = or_right (nat_lt 0 k) q is ∙ sym (some_more k) in
       record {
         kept = kept_on lines f r a b c before.kept kept;
         moved = sym more ∙ did_on n a b c (nat_lt 0 k) q before.kept.grows kept.grows before.moved moved;

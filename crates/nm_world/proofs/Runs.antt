@@ -1,7 +1,7 @@
 -- Lists of actors by rank.
 use Rattle.std.proofs.Common.{◌≡◌, ℕ, zero, suc, ◌+◌, ◌<◌, ◌&&◌, Bool, true, false, Some, None, List, []}
-use Rattle.std.proofs.Common.{◌∷◌, ◌++◌, length, map, refl, sym, ap, ◌∙◌, subst, arith}
-use Rattle.std.specs.List.{All, AllZip, slice_get}
+use Rattle.std.proofs.Common.{◌∷◌, ◌++◌, length, refl, sym, ap, ◌∙◌, subst, arith}
+use Rattle.std.specs.List.{All, slice_get}
 use Rattle.std.proofs.lemmas.List.Elements.{All-cons}
 use Rattle.std.proofs.lemmas.Option.{get_or_from_slice_get}
 use mathlib.Core.Logic.{dite}
@@ -16,10 +16,11 @@ use Rattle.nm_copyring.specs.declared.port.Rings.{Rings}
 use Rattle.nm_copyring.specs.Ports as ring
 use Rattle.nm_process.specs.Lines.{AreLines}
 use Rattle.nm_world.specs.declared.actors.Actor.{Actor}
-use Rattle.nm_world.specs.Actors.{AllKept, Kept, Seat, Stands, seat_of}
+use Rattle.nm_world.specs.Actors.{AllKept, Seat, Stands, seat_of}
 use Rattle.nm_world.specs.Runs.{AreRanked, InPlace, NewInOrder, PairAgrees}
-use Rattle.nm_world.proofs.Chosen.{place_below, same_there}
+use Rattle.nm_world.proofs.Chosen.{same_there}
 use Rattle.nm_world.proofs.Grows.{kept_on, kept_same}
+use Rattle.nm_facts.proofs.Lists.{place_below}
 
 and_both : (p q : Bool) → (p && q) ≡ true → (p ≡ true) × (q ≡ true)
 and_both true q e = (refl, e)
@@ -65,7 +66,8 @@ module _ (lines : List Line) (f : Fabric) (r : Rings) where
     all_kept_same xs (λ k d low. each (suc k) d (omega (arith, low))),
   )
 
-  pub all_kept_on : (xs ys zs : List Actor) → AllKept lines f r xs ys → AllKept lines f r ys zs → AllKept lines f r xs zs
+  pub all_kept_on : (xs ys zs : List Actor) → AllKept lines f r xs ys → AllKept lines f r ys zs →
+      AllKept lines f r xs zs
   all_kept_on [] [] zs one two = two
   all_kept_on [] (y ∷ ys) zs one two = absurd one
   all_kept_on (x ∷ xs) [] zs one two = absurd one
@@ -158,13 +160,3 @@ placed_new shape lines f r ps qs actors law in_range cells rings many new ring_n
     law f r in_range (cells, rings) (new_in_order f r 0 ps qs many
     (λ i p at. subst (λ (k : ℕ). IsNew f p k) (zero_more i) (new i p at))
     (λ i q at. subst (λ (k : ℕ). ring.IsNew r q k) (zero_more i) (ring_new i q at)))
-
-pub get_from_map : {X Y : Type 0} (g : X → Y) (xs : List X) (i : ℕ) (y : Y) → slice_get (map g xs) i ≡ Some y →
-    (x : X) × (slice_get xs i ≡ Some x) × (g x ≡ y)
-get_from_map {Y = Y} g [] i y at = absurd (none at) where
-  none : {y : Y} → None ≡ Some y → ⊥
-  none e = cc
-get_from_map {Y = Y} g (x ∷ xs) zero y at = (x, refl, one at) where
-  one : {a b : Y} → Some a ≡ Some b → a ≡ b
-  one e = cc
-get_from_map g (x ∷ xs) (suc i) y at = get_from_map g xs i y at

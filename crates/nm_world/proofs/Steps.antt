@@ -1,34 +1,26 @@
 -- What each step of an actor keeps, but for those by which something leaves it.
 use Rattle.std.proofs.Common.{◌≡◌, ◌≢◌, ◌⊎◌, ⊎_elim, ℕ, ◌+◌, ◌<◌, ◌≤◌, ◌==◌, Bool, true, false, cond}
 use Rattle.std.proofs.Common.{Some, None, List, [], ◌∷◌, ◌++◌, length, map, refl, sym, ap, ◌∙◌, subst}
-use Rattle.std.proofs.Common.{arith, append-nil, get_or-set_same, get_or-set_other, Ok, Err, Result}
-use Rattle.std.specs.Prelude.{is_err}
+use Rattle.std.proofs.Common.{arith, append-nil, get_or-set_same, get_or-set_other}
 use Rattle.std.specs.List.{cons_option}
-use Rattle.std.proofs.lemmas.Bool.Decides.{nat_tests}
 use Rattle.std.proofs.lemmas.List.{map-append}
 use native.Mathlib.Decide.{dec_le}
 use Rattle.nm_types.specs.declared.limits.TheConstants.{MAX_BOX}
 use Rattle.nm_types.specs.declared.packets.Packet.{Packet}
-use Rattle.nm_types.specs.declared.packets.Path.{Path}
-use Rattle.nm_types.specs.declared.packets.Path.TheVariants.{Box, Cell}
 use Rattle.nm_types.specs.declared.packets.Piece.{Piece}
 use Rattle.nm_types.specs.declared.scripts.Line.{Line}
 use Rattle.nm_types.specs.Sizes.{Sizes}
-use Rattle.nm_history.specs.declared.events.Event.{Event}
 use Rattle.nm_protocol.specs.Known.{Taken}
 use Rattle.nm_protocol.specs.Pieces.{Pulled}
 use Rattle.nm_seats.specs.Update.{update}
 use Rattle.nm_table.specs.declared.table.Entry.{Entry}
-use Rattle.nm_table.specs.declared.table.Heads.{Heads}
-use Rattle.nm_table.specs.Rule.{Load, if_below, from, sent_to}
-use Rattle.nm_table.specs.Plays.{heads_of, with_box_full, with_filling, with_heads, with_put, with_put_box}
-use Rattle.nm_table.specs.Plays.{with_look}
-use Rattle.nm_table.specs.declared.table.Look.TheVariants.{Fresh}
+use Rattle.nm_table.specs.Rule.{Load, if_below, from}
+use Rattle.nm_table.specs.Plays.{with_box_full}
 use Rattle.nm_cells.specs.declared.port.Fabric.{Fabric}
 use Rattle.nm_cells.specs.declared.port.Port.{Port}
-use Rattle.nm_cells.specs.Ports.{Owns, SameTaken, knows, taken_by}
+use Rattle.nm_cells.specs.Ports.{Owns, knows, taken_by}
 use Rattle.nm_cells.specs.Counted.{IsOneOf}
-use Rattle.nm_port.specs.Polls.{Came, HoldsTheRest, count_held, IsGot, IsNext, Way, before, by_box, by_cell, polled, was_held}
+use Rattle.nm_port.specs.Polls.{Came, HoldsTheRest, IsGot, IsNext, Way, before, by_box, by_cell, polled, was_held}
 use Rattle.nm_port.specs.Polls.{with_all_missed}
 use Rattle.nm_port.specs.Sends.{HadMiss, tried}
 use Rattle.nm_copyring.specs.declared.port.RingPort.{RingPort}
@@ -36,22 +28,22 @@ use Rattle.nm_copyring.specs.declared.port.Rings.{Rings}
 use Rattle.nm_copyring.specs.declared.table.Entry as ring_entry
 use Rattle.nm_copyring.specs.declared.table.Lane.{Lane}
 use Rattle.nm_copyring.specs.Rule.{lane, new_lane}
-use Rattle.nm_copyring.specs.Plays.{one_pulled, one_pushed, with_lane}
+use Rattle.nm_copyring.specs.Plays.{one_pulled, with_lane}
 use Rattle.nm_copyring.specs.Ports as ring
-use Rattle.nm_outgoing.specs.Left.{Left, with_packet, with_piece}
-use Rattle.nm_ends.specs.Moments.{Moment, pulled_from, taken_from}
-use Rattle.nm_ends.specs.Moments.Cause.{Acted}
+use Rattle.nm_rank_outgoing.specs.Left.{Left}
+use Rattle.nm_channels.specs.Moments.{Moment, pulled_from, taken_from}
 use Rattle.nm_rank.specs.Calls.{taken_of}
 use Rattle.nm_rank.specs.Ranks.{RankView}
-use Rattle.nm_log.specs.Moments.{drew, pulled, took}
-use Rattle.nm_log.proofs.Shown.{pulled-push, pulled_still, taken-push, taken_still}
+use Rattle.nm_rank_log.specs.Moments.{drew, pulled, took}
+use Rattle.nm_rank_log.proofs.Shown.{pulled_still, taken-push, taken_still}
 use Rattle.nm_process.specs.Processes.{ProcessView}
 use Rattle.nm_process.specs.Work.{IsAtWork}
-use Rattle.nm_channels.specs.Carried.{HasPassed, HasSent, one_more}
-use Rattle.nm_standing.specs.Standing.{GoesOn, IsOf, IsStanding, Past, with_moment, with_packet_left}
-use Rattle.nm_standing.specs.Standing.{with_piece_left}
+use Rattle.nm_carried.specs.Carried.{HasPassed, HasSent, one_more}
+use Rattle.nm_standing.specs.Standing.{GoesOn, IsOf, IsStanding, Past, with_moment}
 use Rattle.nm_world.specs.declared.actors.Actor.{Actor}
-use Rattle.nm_world.specs.Actors.{IsActor, Kept, Seat, Stands, seat_of}
+use Rattle.nm_world.specs.Actors.{IsActor, Seat, Stands, seat_of}
+use Rattle.nm_facts.proofs.Numbers.{same_number, differ}
+use Rattle.nm_channels.proofs.Pulling.{pulled-push}
 
 pub stands_of : (shape : Sizes) (lines : List Line) (f : Fabric) (r : Rings) (a : Actor) (past : Past) →
     a.process.rank.sizes ≡ shape → IsActor shape lines f r a past → Stands lines f r a
@@ -267,14 +259,6 @@ lane_here e j g low = get_or-set_same e.lanes j (g (lane e j)) new_lane low
 pub lane_else : (e : ring_entry.Entry) (j k : ℕ) (g : Lane → Lane) → k ≢ j → lane (with_lane g j e) k ≡ lane e k
 lane_else e j k g ne = get_or-set_other e.lanes j k (g (lane e j)) new_lane ne
 
-pub is_same : (x y : ℕ) → (x == y) ≡ true → x ≡ y
-is_same x y e = grind (arith, nat_tests)
-
-pub isnt_same : (x y : ℕ) → (x == y) ≡ false → y ≢ x
-isnt_same x y other same = let equal : (x == y) ≡ true = grind (arith, nat_tests) in clash (x == y) other equal where
-  clash : (b : Bool) → b ≡ false → b ≡ true → ⊥
-  clash b one two = cc
-
 pub pull_on : (lines : List Line) (f : Fabric) (r : Rings) (a : Actor) (v : ProcessView)
     (port : RingPort) (sender : ℕ) (q : Piece) (s : Stands lines f r a) → ring.Owns r port → port.rank ≡ a.ring.rank →
     sender < r.ranks → q.from ≡ sender →
@@ -307,18 +291,19 @@ pull_on lines f r a v port sender q s owns rank within own knew work on =
           (lane (with_lane (one_pulled q) sender (ring.knows a.ring)) to).pushed ≡ (lane (ring.knows a.ring) to).pushed
       still to low = by_place (sender == to) refl where
         by_place : (b : Bool) → (sender == to) ≡ b →
-            (lane (with_lane (one_pulled q) sender (ring.knows a.ring)) to).pushed ≡ (lane (ring.knows a.ring) to).pushed
+            (lane (with_lane (one_pulled q) sender (ring.knows a.ring)) to).pushed
+            ≡ (lane (ring.knows a.ring) to).pushed
         by_place true e = subst (λ (k : ℕ). (lane (with_lane (one_pulled q) sender (ring.knows a.ring)) k).pushed
-            ≡ (lane (ring.knows a.ring) k).pushed) (is_same sender to e)
+            ≡ (lane (ring.knows a.ring) k).pushed) (same_number sender to e)
             (ap (λ (l : Lane). l.pushed) (lane_here (ring.knows a.ring) sender (one_pulled q) low))
         by_place false e = ap (λ (l : Lane). l.pushed)
-            (lane_else (ring.knows a.ring) sender to (one_pulled q) (isnt_same sender to e))
+            (lane_else (ring.knows a.ring) sender to (one_pulled q) (differ sender to e))
 
       by : (i : ℕ) → i < a.process.rank.sizes.ranks → (b : Bool) → (q.from == i) ≡ b →
           cond b (map (λ (d : Pulled). d.piece) (pulled_from i s.past.log) ++ q ∷ [])
           (map (λ (d : Pulled). d.piece) (pulled_from i s.past.log)) ≡ ring.pulled_from port i
       by i low true e =
-          let here : sender ≡ i = sym own ∙ is_same q.from i e in
+          let here : sender ≡ i = sym own ∙ same_number q.from i e in
           let wide = s.is.rings.1.2 in
           ap (λ (qs : List Piece). qs ++ q ∷ []) (s.is.pulled i low)
           ∙ sym (ap (λ (x : ring_entry.Entry). (lane x i).pulled) knew
@@ -327,7 +312,7 @@ pull_on lines f r a v port sender q s owns rank within own knew work on =
           (ap (λ (l : Lane). l.pulled) (lane_here (ring.knows a.ring) sender (one_pulled q)
           (omega (arith, within, wide)))))
       by i low false e =
-          let other : i ≢ sender = λ same. isnt_same q.from i e (same ∙ sym own) in
+          let other : i ≢ sender = λ same. differ q.from i e (same ∙ sym own) in
           s.is.pulled i low ∙ sym (ap (λ (x : ring_entry.Entry). (lane x i).pulled) knew
           ∙ ap (λ (l : Lane). l.pulled) (lane_else (ring.knows a.ring) sender i (one_pulled q) other))
 

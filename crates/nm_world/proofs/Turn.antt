@@ -78,7 +78,8 @@ module _ (lines : List Line) (f : Fabric) (r : Rings) (a s p t u e : Actor) (sen
       let one = polled_within n 1 a.port p.port t.port u.port to_p.grows.port
       (subst (λ (k : ℕ). Polled k 1 p.port t.port) (ranks_same lines f r a p to_p) polled) pulled.grows.port in
       let sum : 1 + looks ≡ looks + 1 = omega arith in
-      subst (λ (k : ℕ). Polled n k a.port e.port) sum (polled_on n 1 looks a.port u.port e.port one here ran.grows.port))
+      subst (λ (k : ℕ). Polled n k a.port e.port) sum
+      (polled_on n 1 looks a.port u.port e.port one here ran.grows.port))
       (λ worn. absurd (none_worn worn)) once where
         none_worn : (¬ IsFresh p.process.rank) × (t ≡ p) → ⊥
         none_worn worn =

@@ -28,7 +28,7 @@ use Rattle.nm_copyring.specs.declared.port.Rings.{Rings}
 use Rattle.nm_copyring.specs.AtClose.{Prefixed}
 use Rattle.nm_copyring.specs.ClosedLists as closed_ring
 use Rattle.nm_copyring.specs.Ports as ring_port
-use Rattle.nm_ranks.specs.Ranks.{HasNothingToSend}
+use Rattle.nm_global.specs.Ranks.{HasNothingToSend}
 use Rattle.nm_standing.specs.Standing.{Past, rank_of}
 use Rattle.nm_world.specs.declared.actors.Actor.{Actor}
 use Rattle.nm_world.specs.Actors.{IsActor}

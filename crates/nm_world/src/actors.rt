@@ -1,6 +1,6 @@
 //! One rank with its ports.
 
-ghost use Rattle.std.specs.Prelude.{◌≡◌, ◌<◌, ◌↔◌, ℕ, true, false, List, [], IfOk};
+ghost use Rattle.std.specs.Prelude.{◌≡◌, ◌<◌, ◌↔◌, ℕ, true, false, [], IfOk};
 ghost use Rattle.nm_types.specs.Commands.{commands_of};
 ghost use Rattle.nm_types.specs.Sizes.{Sizes};
 ghost use Rattle.nm_types.specs.declared.scripts.Line.{Line};
@@ -17,8 +17,8 @@ ghost use Rattle.nm_world.specs.Idle.{GaveNone, Idle, IsDue, LetterBack, NoPiece
 ghost use Rattle.nm_world.specs.Looks.{LookedAround, PolledBefore, PolledUnlessWorn, looks_next};
 ghost use Rattle.nm_world.specs.Rest.{CanMove, IsStill};
 
-use crate::wires::{polled, pullable, pulled, pushed, sent};
-use nm_channels::laws::{a_poll_carries, a_send_carries};
+use crate::wires::{polled, pullable, pulled, pushable, pushed, sent};
+use nm_carried::laws::{a_poll_carries, a_send_carries};
 use nm_copyring::{RingPort, Rings};
 use nm_history::History;
 use nm_outside::Gate;
@@ -29,7 +29,7 @@ use nm_standing::laws::passing::{
 };
 use nm_standing::laws::runs::a_command_runs;
 use nm_standing::laws::stands::a_process_begins;
-use nm_types::{Line, Memory, Shape};
+use nm_types::{Line, Memory, Packet, Shape};
 use std::alloc::Global;
 
 /// How many packets, pieces and commands of each kind a turn has room for.
@@ -69,6 +69,7 @@ impl Actor {
             × (a.process.rank.events ≡ []) × (a.process.at ≡ 0)) }
     {
         let process = Process::new(alloc, shape, port.rank(), lines)?;
+        // no step: the law of a process at its start
         a_process_begins();
         Ok(Actor {
             process,
@@ -81,7 +82,7 @@ impl Actor {
     pub fn history(&self) -> &History
         ensures { result.now.events ≡ self.now.process.rank.events }
     {
-        self.process.history()
+        self.process.rank().history()
     }
 
     // Sends the first packet of the outbox, unless there is none or it comes back.
@@ -94,17 +95,18 @@ impl Actor {
         ensures back { result ≡ false → IsFresh self.old.process.rank →
             LetterBack self.old self.new }
     {
-        if self.process.is_worn() {
+        let rank = self.process.rank();
+        if rank.is_worn() {
             return false;
         }
-        let Some((to, packet)) = self.process.front() else {
+        let Some((to, packet)) = rank.front() else {
             return false;
         };
-        let packet = packet.copy();
-        if sent(f, &mut self.port, to, packet).is_err() {
+        if sent(f, &mut self.port, to, packet).is_none() {
             return false;
         }
         self.process.pop_front();
+        // no step: the laws of a packet that leaves
         a_send_carries();
         a_packet_leaves();
         true
@@ -120,10 +122,14 @@ impl Actor {
         ensures back { result ≡ false → IsFresh self.old.process.rank →
             PieceBack self.old self.new }
     {
-        if !self.process.has_piece() {
+        let rank = self.process.rank();
+        let Some(to) = rank.piece_to() else {
+            return false;
+        };
+        if rank.is_worn() {
             return false;
         }
-        if self.process.is_worn() {
+        if !pushable(r, &mut self.ring, to) {
             return false;
         }
         self.push_front(r)
@@ -139,19 +145,20 @@ impl Actor {
         ensures stepped { Stepped result self.old self.new }
         ensures back { result ≡ false → PieceBack self.old self.new }
     {
-        let Some((to, piece)) = self.process.front_piece() else {
+        let Some((to, piece)) = self.process.rank().front_piece() else {
             return false;
         };
         if pushed(r, &mut self.ring, to, piece).is_err() {
             return false;
         }
         self.process.pop_piece();
+        // no step: the law of a piece that leaves
         a_piece_leaves();
         true
     }
 
-    // Takes the next packet of a rank, if one came.
-    fn take_next(&mut self, f: &Fabric) -> Result<bool, Memory>
+    // Takes the next packet of a rank, if one came, by way of a place for one.
+    fn take_next(&mut self, f: &Fabric, place: &mut Packet) -> Result<bool, Memory>
         ghost here: { Setting }
         requires stands { Stands here.lines f.now here.rings self.old }
         ensures kept { IfOk result (λ _. Kept here.lines f.now here.rings self.old self.new) }
@@ -162,16 +169,19 @@ impl Actor {
         ensures polled { IfOk result (λ _.
             PolledUnlessWorn self.old.process.rank.sizes.ranks 1 self.old self.new) }
     {
-        if self.process.is_worn() {
+        let rank = self.process.rank();
+        if rank.is_worn() {
             return Ok(false);
         }
-        let Some(packet) = polled(f, &mut self.port) else {
+        // no step: it tells that the history keeps its rules
+        rank.history();
+        if !polled(f, &mut self.port, place) {
             return Ok(false);
-        };
-        self.process.history();
+        }
+        // no step: the laws of a packet that comes
         a_poll_carries();
         a_packet_is_taken();
-        match self.process.take_packet(packet) {
+        match self.process.take_packet(place.copy()) {
             Ok(()) => Ok(true),
             Err(_) => Err(Memory),
         }
@@ -188,10 +198,11 @@ impl Actor {
         ensures none { IfOk result (λ moved. moved ≡ false → IsFresh self.old.process.rank →
             NoPiece self.old self.new sender) }
     {
-        if !self.process.is_piece_due(sender) {
+        let rank = self.process.rank();
+        if !rank.is_piece_due(sender) {
             return Ok(false);
         }
-        if self.process.is_worn() {
+        if rank.is_worn() {
             return Ok(false);
         }
         if !pullable(r, &mut self.ring, sender) {
@@ -215,6 +226,7 @@ impl Actor {
         let Some(piece) = pulled(r, &mut self.ring, sender) else {
             return Ok(false);
         };
+        // no step: the law of a piece that comes
         a_piece_is_taken();
         match self.process.take_piece(piece) {
             Ok(()) => Ok(true),
@@ -235,10 +247,12 @@ impl Actor {
         ensures stuck { IfOk result (λ ran. ran ≡ false → IsFresh self.old.process.rank →
             goes_on (commands_of self.old.process.rank.me lines.now) self.old.process ≡ false) }
     {
-        if self.process.is_worn() {
+        let rank = self.process.rank();
+        if rank.is_worn() {
             return Ok(false);
         }
-        self.process.history();
+        // no step: that the history keeps its rules, and the law of a command that runs
+        rank.history();
         a_command_runs();
         match self.process.run_next(lines)? {
             Step::Ran => Ok(true),
@@ -276,8 +290,9 @@ impl Actor {
         ensures polled { IfOk result (λ _.
             PolledUnlessWorn self.old.process.rank.sizes.ranks 1 self.old self.new) }
     {
+        let mut place = Packet::blank();
         for took in 0..TURN {
-            if !self.take_next(f)? {
+            if !self.take_next(f, &mut place)? {
                 return Ok(took > 0);
             }
         }
@@ -340,6 +355,20 @@ impl Actor {
         Ok(moved)
     }
 
+    // Takes the next packet of a rank, if one came.
+    fn take_one(&mut self, f: &Fabric) -> Result<bool, Memory>
+        ghost here: { Setting }
+        requires stands { Stands here.lines f.now here.rings self.old }
+        ensures kept { IfOk result (λ _. Kept here.lines f.now here.rings self.old self.new) }
+        ensures moved { IfOk result (λ moved. moved ≡ did f.now.ranks self.old self.new) }
+        ensures stepped { IfOk result (λ moved. Stepped moved self.old self.new) }
+        ensures polled { IfOk result (λ _.
+            PolledUnlessWorn self.old.process.rank.sizes.ranks 1 self.old self.new) }
+    {
+        let mut place = Packet::blank();
+        self.take_next(f, &mut place)
+    }
+
     // Takes the next packet that came, where the next command looks at what came.
     fn look(&mut self, lines: &[Line], f: &Fabric) -> Result<bool, Memory>
         ghost here: { Setting }
@@ -355,7 +384,7 @@ impl Actor {
         if !self.process.next_looks(lines) {
             return Ok(false);
         }
-        self.take_next(f)
+        self.take_one(f)
     }
 
     // Runs up to so many commands. It answers whether any ran, or anything was taken before one.
@@ -394,14 +423,16 @@ impl Actor {
             IsAtWork self.now.process.rank.sizes lines.now self.now.process →
             IsStill lines.now self.now.process }
     {
-        self.process.history();
-        if self.process.is_worn() {
+        let rank = self.process.rank();
+        // no step: it tells that the history keeps its rules
+        rank.history();
+        if rank.is_worn() {
             return true;
         }
-        if self.process.front().is_some() {
+        if rank.front().is_some() {
             return true;
         }
-        if self.process.front_piece().is_some() {
+        if rank.has_piece() {
             return true;
         }
         self.process.can_run(lines)

@@ -194,6 +194,7 @@ fn run_lines<R: Threads + Wait + Sync, G: Gate + Sync>(
         pairs,
         done,
     } = parts;
+    // no step: the laws of the end of a run
     a_still_actor_ends();
     actors_at_rest_make_a_run();
     let closed = fabric.close(ports);

@@ -1,6 +1,6 @@
 //! Calls of ports whose steps nobody counts.
 
-ghost use Rattle.std.specs.Prelude.{◌≡◌, ◌+◌, ◌<◌, ◌≤◌, ◌∷◌, [], Some, Ok, false};
+ghost use Rattle.std.specs.Prelude.{◌≡◌, ◌+◌, ◌<◌, ◌≤◌, ◌∷◌, [], Some, false};
 ghost use Rattle.std.specs.Prelude.{true, IfOk, IfErr, IfSome, IfNone};
 ghost use Rattle.std.specs.Prelude.{ℕ, length, slice_index};
 ghost use Rattle.nm_types.specs.declared.limits.TheConstants.{MAX_BOX};
@@ -16,7 +16,7 @@ ghost use Rattle.nm_port.specs.Polls.{polled as polled_lem};
 ghost use Rattle.nm_copyring.specs.Plays.{one_empty, one_full, one_pulled, one_pushed, with_lane};
 ghost use Rattle.nm_copyring.specs.Ports as ring;
 
-use nm_copyring::{RingPort, Rings, can_pull, pull, push};
+use nm_copyring::{RingPort, Rings, can_pull, can_push, pull, push};
 use nm_port::{Fabric, Port, poll, send};
 use nm_seats::Steps;
 use nm_types::{Packet, Path, Piece};
@@ -27,80 +27,82 @@ fn sent_on<L: Ledger>(
     f: &Fabric,
     port: &mut Port,
     to: u8,
-    packet: Packet,
+    packet: &Packet,
     blank: Blank,
-) -> Result<Path, Packet>
+) -> Option<Path>
     requires owns { Owns f.now port.old }
     requires peer { to < f.now.ranks }
-    requires packet { (packet.from ≡ port.old.rank) × (packet.seq ≡ sent_by port.old to) }
+    requires packet { (packet.now.from ≡ port.old.rank) × (packet.now.seq ≡ sent_by port.old to) }
     requires name { (blank.name ≡ L.name) × (blank.parts ≡ L.parts) × (0 < L.parts) }
     ensures owns { Owns f.now port.new × (port.new.rank ≡ port.old.rank) }
     ensures taken { SameTaken port.old port.new }
-    ensures by_box { result ≡ Ok Box → knows port.new
-        ≡ with_put_box ((to, Some packet) ∷ []) (with_filling to false (knows port.old)) }
-    ensures by_cell { result ≡ Ok Cell → knows port.new
-        ≡ with_put ((to, Some packet) ∷ []) (with_look false Fresh (with_heads false
-        (heads_of false (knows port.new)) (tried (length packet.payload) to (knows port.old)))) }
-    ensures back { IfErr result (λ same. (same ≡ packet)
-        × HadMiss false (tried (length packet.payload) to (knows port.old)) (knows port.new)) }
+    ensures by_box { result ≡ Some Box → knows port.new
+        ≡ with_put_box ((to, Some packet.now) ∷ []) (with_filling to false (knows port.old)) }
+    ensures by_cell { result ≡ Some Cell → knows port.new
+        ≡ with_put ((to, Some packet.now) ∷ []) (with_look false Fresh (with_heads false
+        (heads_of false (knows port.new)) (tried (length packet.now.payload) to (knows port.old)))) }
+    ensures back { IfNone result
+        (HadMiss false (tried (length packet.now.payload) to (knows port.old)) (knows port.new)) }
     ensures hands { port.new.hands ≤ port.old.hands }
 {
     let mut steps = Steps::<L>::new(blank);
     send(f, port, to, packet, &mut steps)
 }
 
-pub(crate) fn sent(f: &Fabric, port: &mut Port, to: u8, packet: Packet) -> Result<Path, Packet>
+pub(crate) fn sent(f: &Fabric, port: &mut Port, to: u8, packet: &Packet) -> Option<Path>
     requires owns { Owns f.now port.old }
     requires peer { to < f.now.ranks }
-    requires packet { (packet.from ≡ port.old.rank) × (packet.seq ≡ sent_by port.old to) }
+    requires packet { (packet.now.from ≡ port.old.rank) × (packet.now.seq ≡ sent_by port.old to) }
     ensures owns { Owns f.now port.new × (port.new.rank ≡ port.old.rank) }
     ensures taken { SameTaken port.old port.new }
-    ensures by_box { result ≡ Ok Box → knows port.new
-        ≡ with_put_box ((to, Some packet) ∷ []) (with_filling to false (knows port.old)) }
-    ensures by_cell { result ≡ Ok Cell → knows port.new
-        ≡ with_put ((to, Some packet) ∷ []) (with_look false Fresh (with_heads false
-        (heads_of false (knows port.new)) (tried (length packet.payload) to (knows port.old)))) }
-    ensures back { IfErr result (λ same. (same ≡ packet)
-        × HadMiss false (tried (length packet.payload) to (knows port.old)) (knows port.new)) }
+    ensures by_box { result ≡ Some Box → knows port.new
+        ≡ with_put_box ((to, Some packet.now) ∷ []) (with_filling to false (knows port.old)) }
+    ensures by_cell { result ≡ Some Cell → knows port.new
+        ≡ with_put ((to, Some packet.now) ∷ []) (with_look false Fresh (with_heads false
+        (heads_of false (knows port.new)) (tried (length packet.now.payload) to (knows port.old)))) }
+    ensures back { IfNone result
+        (HadMiss false (tried (length packet.now.payload) to (knows port.old)) (knows port.new)) }
     ensures hands { port.new.hands ≤ port.old.hands }
 {
     sent_on::<Brand>(f, port, to, packet, Blank::new(1))
 }
 
-fn polled_on<L: Ledger>(f: &Fabric, port: &mut Port, blank: Blank) -> Option<Packet>
+fn polled_on<L: Ledger>(f: &Fabric, port: &mut Port, into: &mut Packet, blank: Blank) -> bool
     requires owns { Owns f.now port.old }
     requires rest { HoldsTheRest port.old }
     requires name { (blank.name ≡ L.name) × (blank.parts ≡ L.parts) × (0 < L.parts) }
     ensures owns { Owns f.now port.new × (port.new.rank ≡ port.old.rank) }
     ensures rest { HoldsTheRest port.new }
-    ensures next { IfSome result (λ p. IsNext f.now port.old port.new p × IsGot port.new p) }
-    ensures way { IfSome result (λ p. Way port.old port.new p
-        × (knows port.new ≡ polled_lem (knows port.new) (knows port.old))) }
-    ensures none { IfNone result (HadMiss true (with_all_missed (knows port.old)) (knows port.new)
-        × (taken_by port.new ≡ taken_by port.old)) }
+    ensures next { result ≡ true → IsNext f.now port.old port.new into.new
+        × IsGot port.new into.new }
+    ensures way { result ≡ true → Way port.old port.new into.new
+        × (knows port.new ≡ polled_lem (knows port.new) (knows port.old)) }
+    ensures none { result ≡ false → HadMiss true (with_all_missed (knows port.old)) (knows port.new)
+        × (taken_by port.new ≡ taken_by port.old) }
     ensures later { (i : ℕ) → slice_index (knows port.old).box_miss i
         ≤ slice_index (knows port.new).box_miss i }
     ensures hands { port.new.hands ≤ port.old.hands }
 {
     let mut steps = Steps::<L>::new(blank);
-    poll(f, port, &mut steps)
+    poll(f, port, into, &mut steps)
 }
 
-pub(crate) fn polled(f: &Fabric, port: &mut Port) -> Option<Packet>
+pub(crate) fn polled(f: &Fabric, port: &mut Port, into: &mut Packet) -> bool
     requires owns { Owns f.now port.old }
     requires rest { HoldsTheRest port.old }
     ensures owns { Owns f.now port.new × (port.new.rank ≡ port.old.rank) }
     ensures rest { HoldsTheRest port.new }
-    ensures next { IfSome result (λ p. IsNext f.now port.old port.new p × IsGot port.new p) }
-    ensures way { IfSome result (λ p. Way port.old port.new p
-        × (knows port.new ≡ polled_lem (knows port.new) (knows port.old))) }
-    ensures none { IfNone result (HadMiss true (with_all_missed (knows port.old)) (knows port.new)
-        × (taken_by port.new ≡ taken_by port.old)) }
+    ensures next { result ≡ true → IsNext f.now port.old port.new into.new
+        × IsGot port.new into.new }
+    ensures way { result ≡ true → Way port.old port.new into.new
+        × (knows port.new ≡ polled_lem (knows port.new) (knows port.old)) }
+    ensures none { result ≡ false → HadMiss true (with_all_missed (knows port.old)) (knows port.new)
+        × (taken_by port.new ≡ taken_by port.old) }
     ensures later { (i : ℕ) → slice_index (knows port.old).box_miss i
         ≤ slice_index (knows port.new).box_miss i }
     ensures hands { port.new.hands ≤ port.old.hands }
 {
-    polled_on::<Brand>(f, port, Blank::new(1))
+    polled_on::<Brand>(f, port, into, Blank::new(1))
 }
 
 fn pushed_on<L: Ledger>(
@@ -135,6 +137,30 @@ pub(crate) fn pushed(r: &Rings, port: &mut RingPort, to: u8, piece: Piece) -> Re
         × (ring.knows port.new ≡ with_lane one_full to (ring.knows port.old))) }
 {
     pushed_on::<Brand>(r, port, to, piece, Blank::new(1))
+}
+
+fn pushable_on<L: Ledger>(r: &Rings, port: &mut RingPort, to: u8, blank: Blank) -> bool
+    requires owns { ring.Owns r.now port.old }
+    requires to { to < r.now.ranks }
+    requires name { (blank.name ≡ L.name) × (blank.parts ≡ L.parts) × (0 < L.parts) }
+    ensures owns { ring.Owns r.now port.new × (port.new.rank ≡ port.old.rank) }
+    ensures free { result ≡ true → ring.knows port.new ≡ ring.knows port.old }
+    ensures full { result ≡ false
+        → ring.knows port.new ≡ with_lane one_full to (ring.knows port.old) }
+{
+    let mut steps = Steps::<L>::new(blank);
+    can_push(r, port, to, &mut steps)
+}
+
+pub(crate) fn pushable(r: &Rings, port: &mut RingPort, to: u8) -> bool
+    requires owns { ring.Owns r.now port.old }
+    requires to { to < r.now.ranks }
+    ensures owns { ring.Owns r.now port.new × (port.new.rank ≡ port.old.rank) }
+    ensures free { result ≡ true → ring.knows port.new ≡ ring.knows port.old }
+    ensures full { result ≡ false
+        → ring.knows port.new ≡ with_lane one_full to (ring.knows port.old) }
+{
+    pushable_on::<Brand>(r, port, to, Blank::new(1))
 }
 
 fn pullable_on<L: Ledger>(r: &Rings, port: &mut RingPort, sender: u8, blank: Blank) -> bool

@@ -9,13 +9,13 @@ ghost use Rattle.nm_process.specs.Processes.{ProcessView};
 ghost use Rattle.nm_process.specs.Steps.{HasRun};
 ghost use Rattle.nm_standing.specs.Standing.{GoesOn, IsStanding, Past};
 
-use nm_log::laws::calls::{
+use nm_rank_log::laws::calls::{
     a_claimed_receive_starts, a_message_is_claimed, a_receive_starts, a_request_is_cancelled,
     a_result_may_be_recorded, a_send_starts, an_answer_is_recorded,
 };
-use nm_log::laws::moments::a_result_is_given;
-use nm_outgoing::laws::starts::{cancels_keep_left, receives_keep_left, sends_keep_left};
-use nm_outgoing::laws::takes::answers_keep_left;
+use nm_rank_log::laws::moments::a_result_is_given;
+use nm_rank_outgoing::laws::starts::{cancels_keep_left, receives_keep_left, sends_keep_left};
+use nm_rank_outgoing::laws::takes::answers_keep_left;
 
 /// `Process::run_next`, where it ran a command.
 pub fn a_command_runs()

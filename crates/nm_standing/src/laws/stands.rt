@@ -1,34 +1,28 @@
 //! What a process at its place is.
 
-ghost use Rattle.std.specs.Prelude.{◌≡◌, ℕ, List, [], replicate};
+ghost use Rattle.std.specs.Prelude.{ℕ, List, []};
 ghost use Rattle.nm_types.specs.declared.scripts.Line.{Line};
 ghost use Rattle.nm_types.specs.Sizes.{Sizes};
 ghost use Rattle.nm_protocol.specs.Rules.{AreRight};
 ghost use Rattle.nm_journal.specs.Journals.{IsJournal};
-ghost use Rattle.nm_rndv.specs.Offers.{no_offers};
-ghost use Rattle.nm_log.specs.Calls.{IsNew};
+ghost use Rattle.nm_rank.specs.New.{IsNew};
 ghost use Rattle.nm_process.specs.Processes.{ProcessView};
 ghost use Rattle.nm_process.specs.Work.{IsAtWork};
-ghost use Rattle.nm_ranks.specs.Ranks.{IsRankAt};
+ghost use Rattle.nm_global.specs.Ranks.{IsRankAt};
 ghost use Rattle.nm_standing.specs.Standing.{IsStanding, Past, no_past, rank_of};
 
+use nm_global::laws::starts::new_ranks_stand;
 use nm_process::laws::a_process_runs;
-use nm_ranks::laws::starts::new_ranks_stand;
 
 /// A process at its start (`Process::new`).
 pub fn a_process_begins()
     ensures { (shape : Sizes) (lines : List Line) (i : ℕ) (v : ProcessView) →
-        IsAtWork shape lines v → v.rank.me ≡ i → IsNew shape v.rank →
-        (v.rank.sending.outbox.me ≡ i) × (v.rank.sending.outbox.letters ≡ [])
-        × (v.rank.sending.outbox.popped ≡ replicate shape.ranks 0)
-        × (v.rank.sending.offers ≡ no_offers shape.ranks)
-        × (v.rank.sending.pushed ≡ replicate shape.ranks 0) →
-        IsStanding shape lines i v no_past }
+        IsAtWork shape lines v → IsNew shape i v.rank → IsStanding shape lines i v no_past }
 {
     new_ranks_stand();
 }
 
-/// A process at its place is a rank at its place, by what its history shows (`Process::history`).
+/// A process at its place is a rank at its place, by what its history shows (`Rank::history`).
 pub fn a_process_is_a_rank()
     ensures { (shape : Sizes) (lines : List Line) (i : ℕ) (v : ProcessView) (past : Past) →
         IsStanding shape lines i v past → AreRight shape.ranks [] v.rank.events →

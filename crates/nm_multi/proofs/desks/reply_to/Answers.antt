@@ -46,7 +46,8 @@ returns-in-Irecv-clause-acts c =
 pub returns-in-Irecv-clause-alone : goal.returns-in-Irecv-clause-alone
 returns-in-Irecv-clause-alone c =
     let fresh = c.is_worn.ensures.0 c.if-is_worn.false in
-    alone_ok (Irecv c.in-Irecv.tag c.in-Irecv.cap) c.receive.result c.args.rank.now c.receive.new.rank fresh c.requires.alone
+    alone_ok (Irecv c.in-Irecv.tag c.in-Irecv.cap) c.receive.result c.args.rank.now c.receive.new.rank fresh
+    c.requires.alone
     c.receive.ensures.acts c.receive.ensures.err
 
 pub returns-in-Pump-clause-acts : goal.returns-in-Pump-clause-acts

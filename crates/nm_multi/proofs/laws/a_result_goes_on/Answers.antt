@@ -3,15 +3,15 @@ use Rattle.std.proofs.Common.{[], ◌∙◌, ap, List, length}
 use Rattle.nm_types.specs.declared.answers.Answer.{Answer}
 use Rattle.nm_history.specs.declared.events.Event.{Event}
 use Rattle.nm_history.specs.Sends.{sends}
-use Rattle.nm_receiving.proofs.Lists.{some_parts}
 use Rattle.nm_request.specs.declared.Req.{Req}
 use Rattle.nm_request.specs.Requests.{kind_of}
 use Rattle.nm_rank.specs.Ranks.{RankView}
 use Rattle.nm_rank.specs.Requests.{IsResult}
-use Rattle.nm_log.specs.Calls.{Finishes, given_after}
+use Rattle.nm_rank_log.specs.Calls.{Finishes, given_after}
 use Rattle.nm_multi.specs.Acts.{Ends}
 use Rattle.nm_multi.proofs.Bodies.{are_by, bodies_by, shows_body}
 use Rattle.nm_multi.proofs.laws.a_result_goes_on.Goals as goal
+use Rattle.nm_facts.proofs.Options.{some_and}
 
 finishes : (r : Req) (a : Answer) (v v' : RankView) → Ends r a v v' → Finishes r a v v'
 finishes r a v v' is =
@@ -30,7 +30,7 @@ finishes r a v v' is =
 
 pub returns-clause-kept : goal.returns-clause-kept
 returns-clause-kept c = λ sent v v' r answer fresh is st.
-    let k = some_parts (IsResult v answer) (kind_of v.requests r) is.gives in
+    let k = some_and (IsResult v answer) (kind_of v.requests r) is.gives in
     record {
       past = record {
         eager = st.past.eager;

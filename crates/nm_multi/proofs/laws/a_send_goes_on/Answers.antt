@@ -7,14 +7,15 @@ use Rattle.nm_history.specs.declared.events.Event.{Event}
 use Rattle.nm_history.specs.declared.events.Happened.TheVariants as event
 use Rattle.nm_history.specs.Sends.{Sent, sends}
 use Rattle.nm_protocol.specs.Clock.{stamped}
-use Rattle.nm_protocol.proofs.Sent.{sends-append}
-use Rattle.nm_receiving.proofs.Lists.{slice_get-front, slice_get-last}
+use Rattle.nm_receiving.proofs.Lists.{slice_get-last}
 use Rattle.nm_request.specs.declared.Req.{Req}
 use Rattle.nm_rank.specs.Ranks.{RankView}
 use Rattle.nm_multi.specs.Acts.{StartsSend, sent_by}
 use Rattle.nm_multi.specs.Standing.{AreBodies}
 use Rattle.nm_multi.proofs.Standing.{acted_on}
 use Rattle.nm_multi.proofs.laws.a_send_goes_on.Goals as goal
+use Rattle.nm_facts.proofs.Lists.{get_front}
+use Rattle.nm_history.proofs.AppendLemmas.{sends-append}
 
 one_sent : (sent : List Body) (v v' : RankView) (tag : ℕ) (body : Body) (r : Req) → StartsSend tag body r v v' →
     length (sends v.events 0) ≡ length sent → length (sends v'.events 0) ≡ length (sent ++ body ∷ [])
@@ -33,7 +34,7 @@ returns c = λ sent v v' tag body r range right fresh is st.
     (λ bodies are. are s body (slice_get-last sent body s.n st.many)) in
     let front : (bodies : Sent → List ℕ) → AreBodies bodies (sent ++ body ∷ []) → AreBodies bodies sent =
     (λ bodies are t b at. are t b
-    (slice_get-front sent (body ∷ []) t.n (slice_get_within sent t.n b at) ∙ at)) in
+    (get_front sent (body ∷ []) t.n (slice_get_within sent t.n b at) ∙ at)) in
     acted_on sent (sent ++ body ∷ []) v v' st (event.Send 0 s.n tag 0 s.len s.how 0 ∷ []) fresh
     (one_sent sent v v' tag body r is st.many)
     (λ bodies are. c.a_send_starts.ensures st.past.eager bodies [] v v' st.past.log st.past.given 0 tag 0 0

@@ -1,6 +1,6 @@
 use Rattle.std.proofs.Common.{[], ◌∙◌, sym, ap, refl, inl, inr, true, false, arith, List, length-append, true≢false}
 use Rattle.std.specs.Prelude.{length}
-use Rattle.nm_multi.proofs.Alone.{begins, leaves_of, moved_one, moves_of}
+use Rattle.nm_multi.proofs.Alone.{begins, moved_one, moves_of}
 use Rattle.nm_multi.proofs.moving.move_first.Goals as goal
 
 pub pop_front-requires-clause-first : goal.pop_front-requires-clause-first
@@ -15,29 +15,21 @@ pop_front-requires-clause-first c =
 pub returns-then-not-is_worn-clause-moves : goal.returns-then-not-is_worn-clause-moves
 returns-then-not-is_worn-clause-moves c =
     let e = c.in-Some.ensures.own in
-    let p = c.pop_front.ensures in
     let b = begins c.args.rank.now c.take_packet.new.self _ c.in-Some.field-0-0 c.copy-packet.result
     c.in-Some.first.now c.requires.alone c.requires.fresh c.history.ensures.right (λ none. cc)
     c.in-Some.ensures.first e.0 e.1 c.copy-packet.ensures c.in_default-take_packet.ensures.taken in
     moves_of c.args.rank.now c.take_packet.new.self c.pop_front.new.self b
-    (inl (
-      c.is_worn.ensures.0 c.if-not-is_worn.true,
-      leaves_of b.letter _ c.take_packet.new.self c.pop_front.new.self b.still p.left p.popped p.same p.eager p.takes,
-    ))
+    (inl (c.is_worn.ensures.0 c.if-not-is_worn.true, c.pop_front.ensures))
 
 pub returns-then-not-is_worn-clause-alone : goal.returns-then-not-is_worn-clause-alone
 returns-then-not-is_worn-clause-alone c =
     let e = c.in-Some.ensures.own in
-    let p = c.pop_front.ensures in
     let b = begins c.args.rank.now c.take_packet.new.self _ c.in-Some.field-0-0 c.copy-packet.result
     c.in-Some.first.now c.requires.alone c.requires.fresh c.history.ensures.right (λ none. cc)
     c.in-Some.ensures.first e.0 e.1 c.copy-packet.ensures c.in_default-take_packet.ensures.taken in
     moved_one c.args.rank.now c.pop_front.new.self c.requires.alone
     (moves_of c.args.rank.now c.take_packet.new.self c.pop_front.new.self b
-    (inl (
-      c.is_worn.ensures.0 c.if-not-is_worn.true,
-      leaves_of b.letter _ c.take_packet.new.self c.pop_front.new.self b.still p.left p.popped p.same p.eager p.takes,
-    )))
+    (inl (c.is_worn.ensures.0 c.if-not-is_worn.true, c.pop_front.ensures)))
 
 pub returns-else-not-is_worn-clause-moves : goal.returns-else-not-is_worn-clause-moves
 returns-else-not-is_worn-clause-moves c =

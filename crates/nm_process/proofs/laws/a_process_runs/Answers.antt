@@ -3,15 +3,16 @@ use Rattle.std.proofs.Common.{[]}
 use Rattle.nm_history.specs.AtEach.{AtEach}
 use Rattle.nm_history.specs.RankRun.{EndAt, WholeAt}
 use Rattle.nm_protocol.specs.Rules.{IsRightAt}
-use Rattle.nm_process.proofs.PacketLemmas.{after_weaker, right_numbers}
+use Rattle.nm_process.proofs.PacketLemmas.{after_weaker}
 use Rattle.nm_process.proofs.laws.a_process_runs.Goals as goal
+use Rattle.nm_protocol.proofs.Right.{right-numbers}
 
 pub returns : goal.returns
 unfolding AtEach
 returns c shape lines v work right journal = record {
   answers = work.answers;
   starts = work.starts;
-  numbers = right_numbers shape.ranks v.rank.events right;
+  numbers = right-numbers shape.ranks v.rank.events right;
   cancels = work.cancels;
   wholes = after_weaker (λ h e. IsRightAt shape.ranks h e.what) (λ h e. WholeAt h e.what) [] v.rank.events
       (λ h e is. is.wholes) right;

@@ -1,5 +1,5 @@
 -- Each by induction over the events.
-use Rattle.nm_protocol.proofs.Right.{right-append, right-numbers, right-wholes, right-ends}
+use Rattle.nm_protocol.proofs.Right.{right-append, right-claims, right-numbers, right-wholes, right-ends}
 use Rattle.nm_protocol.proofs.laws.right_events_go_on.Goals as goal
 
 pub returns-clause-more : goal.returns-clause-more
@@ -7,6 +7,9 @@ returns-clause-more c = right-append
 
 pub returns-clause-numbers : goal.returns-clause-numbers
 returns-clause-numbers c = right-numbers
+
+pub returns-clause-claims : goal.returns-clause-claims
+returns-clause-claims c = right-claims
 
 pub returns-clause-wholes : goal.returns-clause-wholes
 returns-clause-wholes c = right-wholes

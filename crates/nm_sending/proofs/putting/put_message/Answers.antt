@@ -3,8 +3,9 @@ use Rattle.std.proofs.Common.{◌≡◌, ◌+◌, ℕ, length, sym, ◌∙◌, a
 use Rattle.nm_history.specs.Outgoing.{further_packets}
 use Rattle.nm_history.specs.Sends.{is_ask}
 use Rattle.nm_eager.specs.Cutting.{Cutting, packet_count}
-use Rattle.nm_sending.proofs.MessageLemmas.{bytes_many, puts_message, ends_message, puts_request}
+use Rattle.nm_sending.proofs.MessageLemmas.{puts_message, ends_message, puts_request}
 use Rattle.nm_sending.proofs.putting.put_message.Goals as goal
+use Rattle.nm_types.proofs.BodyLemmas.{bytes_count}
 
 all_packets : (count len : ℕ) (cutting : Cutting) (bytes : ℕ) → count ≡ 1 + further_packets len → len ≡ bytes
     → length cutting.body ≡ bytes → count ≡ packet_count cutting
@@ -15,7 +16,7 @@ pub put_packets-requires-clause-all : goal.put_packets-requires-clause-all
 put_packets-requires-clause-all c =
     all_packets c.packets_of-count.result c.len-len.result c.new-cutter.result _ c.packets_of-count.ensures
     c.len-len.ensures
-    (ap (λ (x : Cutting). length x.body) c.new-cutter.ensures ∙ bytes_many c.args.body)
+    (ap (λ (x : Cutting). length x.body) c.new-cutter.ensures ∙ bytes_count c.args.body)
 
 pub returns-in_ok-reserve-in-Eager-clause-puts : goal.returns-in_ok-reserve-in-Eager-clause-puts
 returns-in_ok-reserve-in-Eager-clause-puts c =
@@ -24,7 +25,7 @@ returns-in_ok-reserve-in-Eager-clause-puts c =
     c.args.outbox.now c.reserve.new.self c.put_packets.new.outbox _ c.reserve.ensures.same
     c.new-cutter.ensures
     (all_packets c.packets_of-count.result c.len-len.result c.new-cutter.result _ c.packets_of-count.ensures
-    c.len-len.ensures (ap (λ (x : Cutting). length x.body) c.new-cutter.ensures ∙ bytes_many c.args.body))
+    c.len-len.ensures (ap (λ (x : Cutting). length x.body) c.new-cutter.ensures ∙ bytes_count c.args.body))
     (ap is_ask c.in-Eager.is) c.put_packets.ensures
 
 pub returns-in_ok-reserve-in-Eager-clause-ends : goal.returns-in_ok-reserve-in-Eager-clause-ends
@@ -34,7 +35,7 @@ returns-in_ok-reserve-in-Eager-clause-ends c =
     c.args.outbox.now c.reserve.new.self c.put_packets.new.outbox _ c.reserve.ensures.same
     c.new-cutter.ensures
     (all_packets c.packets_of-count.result c.len-len.result c.new-cutter.result _ c.packets_of-count.ensures
-    c.len-len.ensures (ap (λ (x : Cutting). length x.body) c.new-cutter.ensures ∙ bytes_many c.args.body))
+    c.len-len.ensures (ap (λ (x : Cutting). length x.body) c.new-cutter.ensures ∙ bytes_count c.args.body))
     (ap is_ask c.in-Eager.is) c.put_packets.ensures
 
 pub returns-in_ok-ask-in-Ask-clause-puts : goal.returns-in_ok-ask-in-Ask-clause-puts

@@ -8,7 +8,7 @@ use Rattle.nm_types.specs.Commands.{commands_of}
 use Rattle.nm_history.specs.Outgoing.{AreCalled, AreCalledPieces, outgoing, ring}
 use Rattle.nm_history.specs.Quiescence.{Ended, Stands as StandsAt, packets_of}
 use Rattle.nm_history.specs.Sends.{sent_body}
-use Rattle.nm_ends.specs.Moments.{taken_from}
+use Rattle.nm_channels.specs.Moments.{taken_from}
 use Rattle.nm_cells.specs.ClosedLists.{sent_list, taken_list}
 use Rattle.nm_cells.specs.Ports.{knows}
 use Rattle.nm_copyring.specs.declared.port.RingPort.{RingPort}
@@ -16,13 +16,14 @@ use Rattle.nm_copyring.specs.AtClose.{entry}
 use Rattle.nm_copyring.specs.ClosedLists as closed_ring
 use Rattle.nm_copyring.specs.Ports as ring_port
 use Rattle.nm_copyring.specs.Rule.{lane}
-use Rattle.nm_ranks.specs.Ranks.{AreAtRest, Each, HasNothingToSend, IsPassed, IsRankAt, OneRank, recorded_of}
+use Rattle.nm_global.specs.Ranks.{AreAtRest, Each, HasNothingToSend, IsPassed, IsRankAt, OneRank, recorded_of}
 use Rattle.nm_standing.specs.Standing.{IsStanding}
 use Rattle.nm_world.specs.declared.actors.Actor.{Actor}
 use Rattle.nm_world.specs.Rest.{EndsAt, HasRun, IsCarried}
-use Rattle.nm_world.proofs.Chosen.{chosen, chosen_each, chosen_length, chosen_map, each_map, for_each, get_map}
-use Rattle.nm_world.proofs.Chosen.{get_some, map_length, map_twice, place_below, placed, same_there}
+use Rattle.nm_world.proofs.Chosen.{chosen, chosen_each, chosen_length, chosen_map, each_map, for_each}
+use Rattle.nm_world.proofs.Chosen.{map_twice, placed, same_there}
 use Rattle.nm_world.proofs.laws.actors_at_rest_make_a_run.Goals as goal
+use Rattle.nm_facts.proofs.Lists.{get_some, get_map, place_below, map_length}
 
 entry_is : (ports : List RingPort) (i : ℕ) (p : RingPort) → slice_get ports i ≡ Some p →
     entry (map ring_port.knows ports) i ≡ ring_port.knows p

@@ -1,9 +1,9 @@
 -- One more of the row.
 use Rattle.std.proofs.Common.{length, refl, arith}
 use Rattle.std.proofs.lemmas.Option.{slice_get_read}
-use Rattle.nm_world.proofs.Chosen.{place_below}
 use Rattle.nm_world.proofs.Runs.{row_more}
 use Rattle.nm_world.proofs.whole.row_agrees.Goals as goal
+use Rattle.nm_facts.proofs.Lists.{place_below}
 
 pub loop-j-preserved : goal.loop-j-preserved
 loop-j-preserved c =

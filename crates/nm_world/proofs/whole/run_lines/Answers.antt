@@ -4,7 +4,7 @@ use Rattle.std.specs.Prelude.{slice_get}
 use Rattle.std.proofs.Common.{get_or}
 use Rattle.std.proofs.lemmas.Option.{slice_get-get_or}
 use Rattle.nm_cells.specs.declared.port.Port.{Port}
-use Rattle.nm_cells.specs.Ports.{IsNew, Owns, knows}
+use Rattle.nm_cells.specs.Ports.{Owns, knows}
 use Rattle.nm_copyring.specs.declared.port.RingPort.{RingPort}
 use Rattle.nm_copyring.specs.AtClose.{Prefixed}
 use Rattle.nm_copyring.specs.ClosedLists as closed_ring
@@ -19,9 +19,10 @@ use Rattle.nm_world.specs.Runs.{AreCarried}
 use Rattle.nm_world.proofs.Accounts.{to_tell, told_run}
 use Rattle.nm_world.proofs.AtRest.{all_taken_of, carried_of, each_ends}
 use Rattle.nm_world.proofs.Counted.{carried_counts}
-use Rattle.nm_world.proofs.Runs.{get_from_map, in_place_at, in_place_kept, in_place_stands, kept_many}
+use Rattle.nm_world.proofs.Runs.{in_place_at, in_place_kept, in_place_stands, kept_many}
 use Rattle.nm_world.proofs.Runs.{placed_new}
 use Rattle.nm_world.proofs.whole.run_lines.Goals as goal
+use Rattle.nm_facts.proofs.Lists.{get_from_map}
 
 -- the actors at the start, and at the end
 pub cast-requires : goal.cast-requires
@@ -177,7 +178,8 @@ returns-clause-home g c =
     closed settled.agree) in
     let account = c.account-cells.ensures in
     record {
-      all = ap (λ (x : Account). x.total) account ∙ cells.total ∙ ap (λ (n : ℕ). n * c.in_ok-fabric.fabric.each) fabric.fabric.0
+      all = ap (λ (x : Account). x.total) account ∙ cells.total ∙ ap (λ (n : ℕ). n * c.in_ok-fabric.fabric.each)
+          fabric.fabric.0
           ∙ ap (λ (n : ℕ). c.args.shape.ranks * n) fabric.fabric.1;
       home = ap (λ (x : Account). x.home) account ∙ home ∙ sym (ap (λ (x : Account). x.total) account);
     }

@@ -1,8 +1,8 @@
 -- The lines of the script are those of a run.
 use Rattle.std.proofs.Common.{◌≡◌, ℕ, subst, sym}
 use Rattle.nm_process.specs.Lines.{AreLines}
-use Rattle.nm_world_rows.proofs.LineLemmas.{all_in_range}
 use Rattle.nm_world_rows.proofs.tests.turns_on.Goals as goal
+use Rattle.nm_types.proofs.BodyLemmas.{all_in_range}
 
 pub turns_of-requires : goal.turns_of-requires
 turns_of-requires c =

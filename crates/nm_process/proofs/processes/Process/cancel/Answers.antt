@@ -16,8 +16,9 @@ use Rattle.nm_process.specs.Names.{AreLive, IsHeld}
 use Rattle.nm_process.specs.Processes.{ProcessView}
 use Rattle.nm_process.specs.Starts.{HasAnswered, HasCancelled, IsNull, answer_for}
 use Rattle.nm_process.proofs.HeldLemmas.{all_held, held_after}
-use Rattle.nm_process.proofs.StartLemmas.{cancel_leaves, cancel_short, if_some, on_ok, some_and}
+use Rattle.nm_process.proofs.StartLemmas.{cancel_leaves, cancel_short, on_ok}
 use Rattle.nm_process.proofs.processes.Process.cancel.Goals as goal
+use Rattle.nm_facts.proofs.Options.{if_some, some_and}
 
 pub invariant_of-self : goal.invariant_of-self
 invariant_of-self c =

@@ -14,8 +14,9 @@ use Rattle.nm_process.specs.Names.{AreHeld}
 use Rattle.nm_process.specs.Processes.{ProcessView}
 use Rattle.nm_process.specs.Starts.{Ends, IsPending}
 use Rattle.nm_process.proofs.NameLemmas.{ended_others, ended_own, live_ended, older_named}
-use Rattle.nm_process.proofs.StartLemmas.{if_some, same_rank, some_and, some_of}
+use Rattle.nm_process.proofs.StartLemmas.{same_rank}
 use Rattle.nm_process.proofs.processes.Process.end.Goals as goal
+use Rattle.nm_facts.proofs.Options.{if_some, some_and, some_of}
 
 pub invariant_of-self : goal.invariant_of-self
 invariant_of-self c =

@@ -10,6 +10,6 @@ returns-clause-begins c =
     let e = c.in_ok-new.ensures in (
       refl,
       begins c.args.shape c.args.lines.now v c.place_from.result c.new-2.result.entries c.new-3.result.entries
-          (subst (λ (k : ℕ). IsPlaceFrom c.args.lines.now k 0 c.place_from.result) (sym e.me.0) c.place_from.ensures)
-          e.me.1 e.events.0 c.new-2.ensures.empty c.new-3.ensures.empty,
+          (subst (λ (k : ℕ). IsPlaceFrom c.args.lines.now k 0 c.place_from.result) (sym e.me) c.place_from.ensures)
+          e.sizes e.events c.new-2.ensures.empty c.new-3.ensures.empty,
     )

@@ -17,11 +17,11 @@ invariant_of-self c =
     let i = c.self.invariant in
     let v = p.rank in
     let w = c.pop_front.new.self in (
-      subst (λ (r : Live). AreLive r p.requests.entries) (sym c.pop_front.ensures.takes.2) i.0,
+      subst (λ (r : Live). AreLive r p.requests.entries) (sym c.pop_front.ensures.requests) i.0,
       packets_hold_at v w (v.clock) (outs (ended_by (slice_get v.sending.outbox.letters 0)))
           p.handles.entries c.pop_front.ensures.left.events c.history.ensures.right
           (outs_of_packets (ended_by (slice_get v.sending.outbox.letters 0))) i.1,
-      i.2 ∙ sym c.pop_front.ensures.takes.0.me,
+      i.2 ∙ sym c.pop_front.ensures.takes.me,
       i.3,
     )
 
@@ -39,7 +39,7 @@ returns-clause-work c shape lines work =
       handles = p.handles.entries;
     } in
     work_packets shape lines a w (v.clock) (outs (ended_by (slice_get v.sending.outbox.letters 0)))
-    c.pop_front.ensures.takes.0.me c.pop_front.ensures.takes.0.sizes c.pop_front.ensures.takes.2
+    c.pop_front.ensures.takes.me c.pop_front.ensures.takes.sizes c.pop_front.ensures.requests
     c.pop_front.ensures.left.events
     (outs_of_packets (ended_by (slice_get v.sending.outbox.letters 0)))
     (subst (λ (v : ProcessView). IsAtWork shape lines v) (sym c.self.view_is) work)

@@ -17,13 +17,13 @@ invariant_of-self c =
     let i = c.self.invariant in
     let v = p.rank in
     let w = c.pop_piece.new.self in (
-      subst (λ (r : Live). AreLive r p.requests.entries) (sym c.pop_piece.ensures.takes.3) i.0,
+      subst (λ (r : Live). AreLive r p.requests.entries) (sym c.pop_piece.ensures.requests) i.0,
       packets_hold_at v w (v.clock)
           (outs (option_and_then (out_by_piece v.sending.offers) (first_leaving v.sending.offers)))
           p.handles.entries c.pop_piece.ensures.left.events c.history.ensures.right
           (outs_of_packets (option_and_then (out_by_piece v.sending.offers)
           (first_leaving v.sending.offers))) i.1,
-      i.2 ∙ sym c.pop_piece.ensures.takes.0.me,
+      i.2 ∙ sym c.pop_piece.ensures.takes.me,
       i.3,
     )
 
@@ -42,7 +42,7 @@ returns-clause-work c shape lines work =
     } in
     work_packets shape lines a w (v.clock)
     (outs (option_and_then (out_by_piece v.sending.offers) (first_leaving v.sending.offers)))
-    c.pop_piece.ensures.takes.0.me c.pop_piece.ensures.takes.0.sizes c.pop_piece.ensures.takes.3
+    c.pop_piece.ensures.takes.me c.pop_piece.ensures.takes.sizes c.pop_piece.ensures.requests
     c.pop_piece.ensures.left.events
     (outs_of_packets (option_and_then (out_by_piece v.sending.offers)
     (first_leaving v.sending.offers))) (subst (λ (v : ProcessView). IsAtWork shape lines v)

@@ -9,8 +9,9 @@ use Rattle.nm_process.specs.Processes.{ProcessView}
 use Rattle.nm_process.specs.Starts.{HasTriedReceive}
 use Rattle.nm_process.proofs.NameLemmas.{live_more, new_older, new_unnamed}
 use Rattle.nm_process.proofs.StartLemmas.{keeps_handles, none_found, on_ok, start_answered, start_keeps}
-use Rattle.nm_process.proofs.StartLemmas.{one_leaves, whole_short}
+use Rattle.nm_process.proofs.StartLemmas.{one_leaves}
 use Rattle.nm_process.proofs.processes.Process.receive.Goals as goal
+use Rattle.nm_rank.proofs.ReceiveLemmas.{taken-few}
 
 pub invariant_of-self-2 : goal.invariant_of-self-2
 invariant_of-self-2 c =
@@ -45,7 +46,7 @@ answer-requires-2 c =
     let starts = c.in_ok-request.ensures.started (λ s. []) in
     let same = ap (λ (v : ProcessView). v.rank.clock) c.self.view_is in
     let clock = ap (λ v. v.clock) c.in_ok-name.ensures.same.0 in
-    let short = whole_short (first_message c.self.inside.rank.events
+    let short = taken-few (first_message c.self.inside.rank.events
     (matched_pairs c.self.inside.rank.events) c.args.from c.args.tag c.args.ctx) in
     record { in_time = omega (arith, short, starts.happened.clock, c.requires.fresh.clock, same, clock) }
 

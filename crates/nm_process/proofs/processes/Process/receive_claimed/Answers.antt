@@ -13,8 +13,8 @@ use Rattle.nm_process.specs.Starts.{HasTriedMrecv}
 use Rattle.nm_process.proofs.HeldLemmas.{handled_others, handled_own, held_after, held_unset, other_held}
 use Rattle.nm_process.proofs.NameLemmas.{live_more, new_older, new_unnamed}
 use Rattle.nm_process.proofs.StartLemmas.{keeps_handles, none_found, on_ok, start_answered, one_leaves}
-use Rattle.nm_process.proofs.StartLemmas.{whole_short}
 use Rattle.nm_process.proofs.processes.Process.receive_claimed.Goals as goal
+use Rattle.nm_rank.proofs.ReceiveLemmas.{taken-few}
 
 pub invariant_of-self-2 : goal.invariant_of-self-2
 invariant_of-self-2 c =
@@ -54,7 +54,7 @@ answer-requires-2 c =
     let starts = c.in_ok-request.ensures.started (λ s. []) in
     let same = ap (λ (v : ProcessView). v.rank.clock) c.self.view_is in
     let clock = ap (λ v. v.clock) c.in_ok-name.ensures.same.0 in
-    let short = whole_short (message_of c.self.inside.rank.events c.in-Some.handle.from
+    let short = taken-few (message_of c.self.inside.rank.events c.in-Some.handle.from
     c.in-Some.handle.n) in
     record { in_time = omega (arith, short, starts.happened.clock, c.requires.fresh.clock, same, clock) }
 

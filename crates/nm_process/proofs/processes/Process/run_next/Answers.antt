@@ -50,8 +50,13 @@ invariant_of-self c =
     let is = at_place (IsNext c.args.lines.now c.args.self.now.rank.me c.args.self.now.next
     c.in-Some.place) c.args.lines.now c.in-Some.place c.index-lines-place.result
     c.in-Some.ensures.some.0 c.index-lines-place.is c.in-Some.ensures.some.1 in
-    let i = c.self-2.invariant in
-    (i.0, i.1, i.2, omega (arith, i.3, next, c.in_ok-step.ensures.places.0, is.past, c.place_from-self-inside.ensures.past))
+    let i = c.self-2.invariant in (
+      i.0,
+      i.1,
+      i.2,
+      omega
+          (arith, i.3, next, c.in_ok-step.ensures.places.0, is.past, c.place_from-self-inside.ensures.past),
+    )
 
 pub returns-clause-stepped : goal.returns-clause-stepped
 returns-clause-stepped c =
@@ -78,7 +83,8 @@ returns-clause-stepped c =
     (subst (λ (x : Line). HasTried a c.run_command.new.self x.command (place + 2) c.in_ok-step.step)
     (sym c.index-lines-place.is) c.in_ok-step.ensures.tried) in
     let moved : IsPlaceFrom lines a.rank.me (place + 1) c.place_from-self-inside.result =
-    subst (λ (k : ℕ). IsPlaceFrom lines k (place + 1) c.place_from-self-inside.result) c.me-me.ensures c.place_from-self-inside.ensures in
+    subst (λ (k : ℕ). IsPlaceFrom lines k (place + 1) c.place_from-self-inside.result) c.me-me.ensures
+    c.place_from-self-inside.ensures in
     stepped lines a (record v { at = i.at + 1; next = c.place_from-self-inside.result }) place l c.in_ok-step.step next
     c.in_default-step.not-Waits (ap (λ (k : ℕ). k + 1) at_same) moved
     (tried_counted a v l.command (place + 2) c.in_ok-step.step at_same next_same tried)
@@ -108,8 +114,10 @@ returns-clause-work c shape work =
     (subst (λ (x : Line). HasTried a c.run_command.new.self x.command (place + 2) c.in_ok-step.step)
     (sym c.index-lines-place.is) c.in_ok-step.ensures.tried) in
     let moved : IsPlaceFrom lines a.rank.me (place + 1) c.place_from-self-inside.result =
-    subst (λ (k : ℕ). IsPlaceFrom lines k (place + 1) c.place_from-self-inside.result) c.me-me.ensures c.place_from-self-inside.ensures in
-    ran_step shape lines a (record v { at = i.at + 1; next = c.place_from-self-inside.result }) place l c.in_ok-step.step work
+    subst (λ (k : ℕ). IsPlaceFrom lines k (place + 1) c.place_from-self-inside.result) c.me-me.ensures
+    c.place_from-self-inside.ensures in
+    ran_step shape lines a (record v { at = i.at + 1; next = c.place_from-self-inside.result }) place l
+    c.in_ok-step.step work
     next c.in_default-step.not-Waits (ap (λ (k : ℕ). k + 1) at_same) moved
     c.history.ensures.right (tried_counted a v l.command (place + 2) c.in_ok-step.step at_same next_same
     tried)

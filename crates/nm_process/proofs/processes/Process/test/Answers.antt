@@ -1,8 +1,9 @@
 -- A process tests a request.
 use Rattle.std.proofs.Common.{inl, inr}
 use Rattle.nm_process.specs.Starts.{Ends}
-use Rattle.nm_process.proofs.StartLemmas.{if_some, on_ok}
+use Rattle.nm_process.proofs.StartLemmas.{on_ok}
 use Rattle.nm_process.proofs.processes.Process.test.Goals as goal
+use Rattle.nm_facts.proofs.Options.{if_some}
 
 pub returns-in-Some-end-clause-tried : goal.returns-in-Some-end-clause-tried
 returns-in-Some-end-clause-tried c =

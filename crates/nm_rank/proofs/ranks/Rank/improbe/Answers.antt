@@ -9,7 +9,8 @@ use Rattle.nm_rank.proofs.ranks.Rank.improbe.Goals as goal
 pub invariant_of-self-in_err-found : goal.invariant_of-self-in_err-found
 invariant_of-self-in_err-found c = let a = c.self.inside in
     subst (λ (r : ReceivingView). AreFields a.me a.shape c.make_room.new.journal c.make_room.new.sending r
-    (map (λ s. s.known) a.streams.items) c.make_room.new.requests a.took.items a.pulled.items) (sym c.in_err-found.ensures.err)
+    (map (λ s. s.known) a.streams.items) c.make_room.new.requests a.took.items a.pulled.items)
+    (sym c.in_err-found.ensures.err)
     (fields-room a.me a.shape a.journal _ a.sending _ a.receiving _ a.requests _ a.took.items a.pulled.items
     c.make_room.ensures.events c.make_room.ensures.kept c.make_room.ensures.letters
     c.make_room.ensures.requests c.self.invariant)

@@ -62,18 +62,22 @@ returns-clause-started c = λ bodies. (
     (seen a.me a.shape c.follow.new.journal c.follow.new.sending c.take_claimed.new.self
     (map (λ s. s.known) a.streams.items) c.add-2.new.self a.took.items a.pulled.items a.strays)
     c.unwrap.result
-    (λ n. event.Match n c.args.from c.args.n c.args.cap c.args.line) c.in_ok-started.started.number (length (receives h))
+    (λ n. event.Match n c.args.from c.args.n c.args.cap c.args.line) c.in_ok-started.started.number
+    (length (receives h))
     c.in_ok-started.started.taken
     (message_of h c.args.from c.args.n) number taken
     (starts-receive bodies a.me a.shape a.journal c.make_room.new.journal c.add.new.self
     c.follow.new.journal a.sending c.make_room.new.sending c.follow.new.sending a.receiving
     c.take_claimed.new.self (map (λ s. s.known) a.streams.items) a.requests c.make_room.new.requests
     c.add-2.new.self a.took.items a.pulled.items a.strays c.in_ok-started.started.number
-    (event.Match c.in_ok-started.started.number c.args.from c.args.n c.args.cap c.args.line) c.in_ok-started.started.taken c.unwrap.result
+    (event.Match c.in_ok-started.started.number c.args.from c.args.n c.args.cap c.args.line)
+    c.in_ok-started.started.taken c.unwrap.result
     c.make_room.ensures.events c.make_room.ensures.letters c.make_room.ensures.requests
     c.add.ensures.events c.add.ensures.clock c.follow.ensures.events c.follow.ensures.clock
     c.follow.ensures.puts (ap (λ (s : SendingView). s.pushed) c.follow.ensures.same) (λ ws. refl)
-    (λ to. subst (λ (t : Option Arrival). called_by bodies to h (stamped a.journal.clock (event.Match c.in_ok-started.started.number c.args.from c.args.n c.args.cap c.args.line ∷ taken_events t)) ≡ clearance_of (a.journal.clock + 1) t to) (sym taken)
+    (λ to. subst (λ (t : Option Arrival). called_by bodies to h
+    (stamped a.journal.clock (event.Match c.in_ok-started.started.number c.args.from c.args.n c.args.cap c.args.line
+    ∷ taken_events t)) ≡ clearance_of (a.journal.clock + 1) t to) (sym taken)
     (match-calls bodies h a.journal.clock c.in_ok-started.started.number c.args.from c.args.n c.args.cap
     c.args.line to))
     c.in_ok-started.ensures.streams c.in_ok-started.ensures.bytes c.in_ok-started.ensures.drawn

@@ -17,7 +17,8 @@ invariant_of-self c =
     c.add.ensures.events (omega (arith, c.add.ensures.clock)) c.add.ensures.room
     (rw c.in-Some.is at c.pop_piece.ensures.counted) (rw c.in-Some.is at c.pop_piece.ensures.kept)
     (ap (λ (o : OutboxView). o.me) box) (ap (λ (o : OutboxView). length o.popped) box)
-    (order-popped a.sending.offers c.pop_piece.new.self.offers first c.pop_piece.ensures.popped) c.sides_stay.ensures.received
+    (order-popped a.sending.offers c.pop_piece.new.self.offers first c.pop_piece.ensures.popped)
+    c.sides_stay.ensures.received
 
 pub invariant_of-self-in_default : goal.invariant_of-self-in_default
 invariant_of-self-in_default c =
@@ -30,4 +31,5 @@ invariant_of-self-in_default c =
     (sym (append-nil a.journal.events)) (omega arith) (omega arith)
     (rw c.in_default.is at c.pop_piece.ensures.counted) (rw c.in_default.is at c.pop_piece.ensures.kept)
     (ap (λ (o : OutboxView). o.me) box) (ap (λ (o : OutboxView). length o.popped) box)
-    (order-popped a.sending.offers c.pop_piece.new.self.offers first c.pop_piece.ensures.popped) c.sides_stay.ensures.received
+    (order-popped a.sending.offers c.pop_piece.new.self.offers first c.pop_piece.ensures.popped)
+    c.sides_stay.ensures.received

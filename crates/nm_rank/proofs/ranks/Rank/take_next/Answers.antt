@@ -12,7 +12,8 @@ use Rattle.nm_rank.specs.Ranks.{RankView, IsFresh, known_from, count_of, seen}
 use Rattle.nm_rank.specs.Takes.{reply_of}
 use Rattle.nm_rank.proofs.TakeLemmas.{fields-take, known-same, known-at, known_of}
 use Rattle.nm_rank.proofs.TakenLemmas.{seen-room, known-set, takes-packet}
-use Rattle.nm_rank.proofs.AcceptedLemmas.{IsRaised, may-be-accepted, streams-low, few-put, sent-room, raised-as, noted-twice, noted-clock, noted-later, noted-room}
+use Rattle.nm_rank.proofs.AcceptedLemmas.{IsRaised, may-be-accepted, streams-low, few-put, sent-room, raised-as}
+use Rattle.nm_rank.proofs.AcceptedLemmas.{noted-twice, noted-clock, noted-later, noted-room}
 use Rattle.nm_rank.proofs.RoomLemmas.{fields-room}
 use Rattle.nm_rank.proofs.ViewLemmas.{same-events, same-clock}
 use Rattle.nm_rank.proofs.ranks.Rank.take_next.Goals as goal

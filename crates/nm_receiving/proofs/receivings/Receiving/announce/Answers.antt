@@ -1,4 +1,5 @@
-use Rattle.std.proofs.Common.{◌≡◌, ◌<◌, ℕ, Bool, true, false, is_some, Option, None, List, [], ◌∷◌, ◌++◌, length, map, refl, sym, ◌∙◌, ap, subst, arith}
+use Rattle.std.proofs.Common.{◌≡◌, ◌<◌, ℕ, Bool, true, false, is_some, Option, None, List, [], ◌∷◌, ◌++◌, length, map}
+use Rattle.std.proofs.Common.{refl, sym, ◌∙◌, ap, subst, arith}
 use Rattle.std.specs.Bool.{then_some}
 use Rattle.std.specs.Option.{option_map}
 use Rattle.std.proofs.Math.ListN.{set}
@@ -24,7 +25,8 @@ use Rattle.nm_receiving.specs.Steps.{grants_with, rows_from, rows_with, streams_
 use Rattle.nm_receiving.proofs.Beginning.{stream_at}
 use Rattle.nm_receiving.proofs.Goings.{next_message}
 use Rattle.nm_receiving.proofs.Joinings.{stream_stepped}
-use Rattle.nm_receiving.proofs.Packets.{ask_finished, ask_grant-came, ask_grant-new, ask_is, ask_view, kept-ask, some_mapped, takes-ask}
+use Rattle.nm_receiving.proofs.Packets.{ask_finished, ask_grant-came, ask_grant-new, ask_is, ask_view, kept-ask}
+use Rattle.nm_receiving.proofs.Packets.{takes-ask}
 use Rattle.nm_receiving.proofs.Packets.{taken_ended, taker_inside, then_taken}
 use Rattle.std.proofs.Common.{get_or}
 use Rattle.std.proofs.lemmas.Bool.{true≢false}
@@ -33,13 +35,19 @@ use Rattle.nm_protocol.specs.Known.{Known}
 use Rattle.nm_eager.specs.Streams.{is_eager}
 use Rattle.nm_receiving.proofs.CameLemmas.{asked_came, granted-came, packet-came}
 use Rattle.nm_receiving.proofs.receivings.Receiving.announce.Goals as goal
+use Rattle.nm_facts.proofs.Options.{some_mapped}
 
 pub arrive-requires : goal.arrive-requires
 arrive-requires c =
     let v = seen c.self.inside in
     let p : Packet = c.args.p.now in
     let arr = c.next_arrival-arrival.ensures
-    ∙ ap (λ (w : ReceivingView). let a : Arrival = record { n = length (receipts_from w p.from); env = record { from = p.from; tag = c.args.tag; ctx = c.args.ctx; len = c.args.len; how = Ask } } in a)
+    ∙ ap (λ (w : ReceivingView). let a : Arrival =
+    record {
+      n = length (receipts_from w p.from);
+      env =
+          record { from = p.from; tag = c.args.tag; ctx = c.args.ctx; len = c.args.len; how = Ask };
+    } in a)
     (sym c.self.view_is) in
     record {
       is_new = ap (λ (a : Arrival). is_known_message (history_of c.self.inside.matcher) a.env.from a.n) arr
@@ -51,7 +59,8 @@ skip-requires-clause-closed c =
     let v = seen c.self.inside in
     let p : Packet = c.args.p.now in
     let sender = subst (λ (w : ReceivingView). p.from < w.sizes.ranks) (sym c.self.view_is) c.requires.sender in
-    let goes = subst (λ (w : ReceivingView). continues w.sizes.eager (stream_of w p.from).count (missing (stream_of w p.from)) p.what (length p.payload) ≡ true)
+    let goes = subst (λ (w : ReceivingView). continues w.sizes.eager (stream_of w p.from).count
+    (missing (stream_of w p.from)) p.what (length p.payload) ≡ true)
     (sym c.self.view_is) c.requires.continues in
     ap (λ (s : Stream). missing s) (sym (stream_at c.self.inside.joiner p.from sender))
     ∙ ask_finished v c.self.invariant p c.args.tag c.args.ctx c.args.len c.requires.ask sender goes None
@@ -60,12 +69,14 @@ pub skip-requires-clause-limit : goal.skip-requires-clause-limit
 skip-requires-clause-limit c =
     let p : Packet = c.args.p.now in
     let sender = subst (λ (w : ReceivingView). p.from < w.sizes.ranks) (sym c.self.view_is) c.requires.sender in
-    let few = subst (λ (w : ReceivingView). (stream_of w p.from).count < MAX_PACKETS) (sym c.self.view_is) c.requires.few in
+    let few = subst (λ (w : ReceivingView). (stream_of w p.from).count < MAX_PACKETS)
+    (sym c.self.view_is) c.requires.few in
     subst (λ (s : Stream). s.count < MAX_PACKETS) (stream_at c.self.inside.joiner p.from sender) few
 
 pub give-requires : goal.give-requires
 give-requires c =
-    taker_inside (seen c.self.inside) c.self.invariant c.next_arrival-arrival.result c.in_ok-taker.taker c.in_ok-taker.ensures.oldest
+    taker_inside (seen c.self.inside) c.self.invariant c.next_arrival-arrival.result c.in_ok-taker.taker
+    c.in_ok-taker.ensures.oldest
 
 pub grant_taken-requires-clause-new : goal.grant_taken-requires-clause-new
 grant_taken-requires-clause-new c =
@@ -73,10 +84,17 @@ grant_taken-requires-clause-new c =
     let p : Packet = c.args.p.now in
     let sender = subst (λ (w : ReceivingView). p.from < w.sizes.ranks) (sym c.self.view_is) c.requires.sender in
     let arr = c.next_arrival-arrival.ensures
-    ∙ ap (λ (w : ReceivingView). let a : Arrival = record { n = length (receipts_from w p.from); env = record { from = p.from; tag = c.args.tag; ctx = c.args.ctx; len = c.args.len; how = Ask } } in a)
+    ∙ ap (λ (w : ReceivingView). let a : Arrival =
+    record {
+      n = length (receipts_from w p.from);
+      env =
+          record { from = p.from; tag = c.args.tag; ctx = c.args.ctx; len = c.args.len; how = Ask };
+    } in a)
     (sym c.self.view_is) in
-    ask_grant-new v c.self.invariant c.is_some.result c.next_arrival-arrival.result c.then_some-taken.result c.then_some-taken.ensures
-    (subst (λ (a : Arrival). a.env.from < length v.receipts) (sym arr) (let n = c.self.invariant.tables.receipts in omega (arith, sender, n)))
+    ask_grant-new v c.self.invariant c.is_some.result c.next_arrival-arrival.result c.then_some-taken.result
+    c.then_some-taken.ensures
+    (subst (λ (a : Arrival). a.env.from < length v.receipts) (sym arr) (let n = c.self.invariant.tables.receipts in
+    omega (arith, sender, n)))
     (subst (λ (a : Arrival). a.n ≡ length (receipts_from v a.env.from)) (sym arr) refl)
     c.reserve-2.new.self.grants c.reserve-2.ensures.same
 
@@ -86,14 +104,22 @@ grant_taken-requires-clause-came c =
     let p : Packet = c.args.p.now in
     let sender = subst (λ (w : ReceivingView). p.from < w.sizes.ranks) (sym c.self.view_is) c.requires.sender in
     let arr = c.next_arrival-arrival.ensures
-    ∙ ap (λ (w : ReceivingView). let a : Arrival = record { n = length (receipts_from w p.from); env = record { from = p.from; tag = c.args.tag; ctx = c.args.ctx; len = c.args.len; how = Ask } } in a)
+    ∙ ap (λ (w : ReceivingView). let a : Arrival =
+    record {
+      n = length (receipts_from w p.from);
+      env =
+          record { from = p.from; tag = c.args.tag; ctx = c.args.ctx; len = c.args.len; how = Ask };
+    } in a)
     (sym c.self.view_is) in
     let r : Receipt = record { arrival = c.next_arrival-arrival.result; whole = false } in
-    ask_grant-came v c.self.invariant c.is_some.result c.next_arrival-arrival.result c.then_some-taken.result c.then_some-taken.ensures
-    (subst (λ (a : Arrival). a.env.from < length v.receipts) (sym arr) (let n = c.self.invariant.tables.receipts in omega (arith, sender, n)))
+    ask_grant-came v c.self.invariant c.is_some.result c.next_arrival-arrival.result c.then_some-taken.result
+    c.then_some-taken.ensures
+    (subst (λ (a : Arrival). a.env.from < length v.receipts) (sym arr) (let n = c.self.invariant.tables.receipts in
+    omega (arith, sender, n)))
     (subst (λ (a : Arrival). a.n ≡ length (receipts_from v a.env.from)) (sym arr) refl)
     c.push.new.self.rows r
-    (c.push.ensures ∙ ap (λ (rows : List (List Receipt)). set rows p.from (rows_from rows p.from ++ r ∷ [])) c.reserve.ensures.rows
+    (c.push.ensures ∙ ap (λ (rows : List (List Receipt)). set rows p.from (rows_from rows p.from ++ r ∷ []))
+    c.reserve.ensures.rows
     ∙ ap (λ (i : ℕ). set v.receipts i (rows_from v.receipts i ++ r ∷ [])) (ap (λ (a : Arrival). a.env.from) (sym arr)))
 
 -- the fields afterwards
@@ -120,33 +146,47 @@ sender_of c = subst (λ (w : ReceivingView). c.args.p.now.from < w.sizes.ranks) 
 
 goes_of : (c : goal.After-is_some-2) → let p : Packet = c.args.p.now in let v : ReceivingView = seen c.self.inside in
     continues v.sizes.eager (stream_of v p.from).count (missing (stream_of v p.from)) p.what (length p.payload) ≡ true
-goes_of c = subst (λ (w : ReceivingView). continues w.sizes.eager (stream_of w c.args.p.now.from).count (missing (stream_of w c.args.p.now.from))
+goes_of c = subst (λ (w : ReceivingView). continues w.sizes.eager (stream_of w c.args.p.now.from).count
+    (missing (stream_of w c.args.p.now.from))
     c.args.p.now.what (length c.args.p.now.payload) ≡ true) (sym c.self.view_is) c.requires.continues
 
 streams_after : (c : goal.After-is_some-2) → let p : Packet = c.args.p.now in
-    streams_of c.skip.new.self ≡ set (streams_of c.self.inside.joiner) p.from (skipped (stream_of (seen c.self.inside) p.from))
+    streams_of c.skip.new.self ≡ set (streams_of c.self.inside.joiner) p.from
+    (skipped (stream_of (seen c.self.inside) p.from))
 streams_after c =
     let step = c.skip.ensures.step in
-    stream_stepped c.self.inside.joiner c.skip.new.self c.args.p.now.from (λ s. skipped s) step.sizes (sender_of c) step.changed
+    stream_stepped c.self.inside.joiner c.skip.new.self c.args.p.now.from (λ s. skipped s) step.sizes
+    (sender_of c) step.changed
     (λ other differ. ap (λ (r : Received). r.stream) (step.others other differ))
 
 arrival_of : (c : goal.After-is_some-2) → let p : Packet = c.args.p.now in
     ◌≡◌ {A = Arrival} c.next_arrival-arrival.result
-    (record { n = length (receipts_from (seen c.self.inside) p.from); env = record { from = p.from; tag = c.args.tag; ctx = c.args.ctx; len = c.args.len; how = Ask } })
+    (record {
+      n = length (receipts_from (seen c.self.inside) p.from);
+      env =
+          record { from = p.from; tag = c.args.tag; ctx = c.args.ctx; len = c.args.len; how = Ask };
+    })
 arrival_of c =
     let p : Packet = c.args.p.now in
     c.next_arrival-arrival.ensures
-    ∙ ap (λ (w : ReceivingView). let a : Arrival = record { n = length (receipts_from w p.from); env = record { from = p.from; tag = c.args.tag; ctx = c.args.ctx; len = c.args.len; how = Ask } } in a)
+    ∙ ap (λ (w : ReceivingView). let a : Arrival =
+    record {
+      n = length (receipts_from w p.from);
+      env =
+          record { from = p.from; tag = c.args.tag; ctx = c.args.ctx; len = c.args.len; how = Ask };
+    } in a)
     (sym c.self.view_is)
 
 taker_is : (c : goal.After-is_some-2) → c.in_ok-taker.taker ≡ option_map (λ (q : post.Post). q.number) (taker_post c)
 taker_is c =
     c.in_ok-taker.ensures.oldest
-    ∙ ap (λ (a : Arrival). option_map (λ (q : post.Post). q.number) (first_receive (history_of c.self.inside.matcher) (matched_pairs (history_of c.self.inside.matcher)) a.env))
+    ∙ ap (λ (a : Arrival). option_map (λ (q : post.Post). q.number)
+    (first_receive (history_of c.self.inside.matcher) (matched_pairs (history_of c.self.inside.matcher)) a.env))
     (arrival_of c)
 
 view_is : (c : goal.After-is_some-2) → let v : ReceivingView = seen c.self.inside in let p : Packet = c.args.p.now in
-    ask_view v c.self.invariant p c.args.tag c.args.ctx c.args.len c.requires.ask (sender_of c) (goes_of c) (taker_post c) ≡ after_view c
+    ask_view v c.self.invariant p c.args.tag c.args.ctx c.args.len c.requires.ask (sender_of c) (goes_of c)
+    (taker_post c) ≡ after_view c
 view_is c =
     let v : ReceivingView = seen c.self.inside in
     let p : Packet = c.args.p.now in
@@ -154,14 +194,17 @@ view_is c =
     let r : Receipt = record { arrival = arrival; whole = false } in
     let taken = c.then_some-taken.result in
     ask_is v c.self.invariant p c.args.tag c.args.ctx c.args.len c.requires.ask (sender_of c) (goes_of c) (taker_post c)
-    arrival c.in_ok-taker.taker taken c.skip.new.self.sizes c.arrive.new.self (streams_of c.skip.new.self) c.grant_taken.new.grants.grants
+    arrival c.in_ok-taker.taker taken c.skip.new.self.sizes c.arrive.new.self (streams_of c.skip.new.self)
+    c.grant_taken.new.grants.grants
     c.grant_taken.new.receipts.rows c.give.new.receives.items (arrival_of c) (taker_is c)
-    (c.then_some-taken.ensures ∙ ap (λ (b : Bool). then_some b arrival) c.is_some.ensures ∙ then_taken c.in_ok-taker.taker arrival)
+    (c.then_some-taken.ensures ∙ ap (λ (b : Bool). then_some b arrival) c.is_some.ensures
+    ∙ then_taken c.in_ok-taker.taker arrival)
     c.skip.ensures.step.sizes c.in_ok-taker.ensures.ok (streams_after c)
     (c.grant_taken.ensures.grants ∙ ap (λ gs. grants_with gs taken) c.reserve-2.ensures.same)
     (c.grant_taken.ensures.receipts
     ∙ ap (λ (rows : List (List Receipt)). rows_with rows taken)
-    (c.push.ensures ∙ ap (λ (rows : List (List Receipt)). set rows p.from (rows_from rows p.from ++ r ∷ [])) c.reserve.ensures.rows))
+    (c.push.ensures ∙ ap (λ (rows : List (List Receipt)). set rows p.from (rows_from rows p.from ++ r ∷ []))
+    c.reserve.ensures.rows))
     c.give.ensures
 
 pub returns-clause-at_once : goal.returns-clause-at_once
@@ -176,19 +219,22 @@ returns-clause-at_once c = λ h received.
 pub invariant_of-self-2 : goal.invariant_of-self-2
 invariant_of-self-2 c =
     subst (λ (w : ReceivingView). IsKept w) (view_is c)
-    (kept-ask (seen c.self.inside) c.self.invariant c.args.p.now c.args.tag c.args.ctx c.args.len c.requires.ask (sender_of c) (goes_of c) (taker_post c) refl)
+    (kept-ask (seen c.self.inside) c.self.invariant c.args.p.now c.args.tag c.args.ctx c.args.len c.requires.ask
+    (sender_of c) (goes_of c) (taker_post c) refl)
 
 pub returns-clause-kept : goal.returns-clause-kept
 returns-clause-kept c =
     subst (λ (u : ReceivingView). TakesPacket u (after_view c) c.args.p.now) c.self.view_is
     (subst (λ (w : ReceivingView). TakesPacket (seen c.self.inside) w c.args.p.now) (view_is c)
-    (takes-ask (seen c.self.inside) c.self.invariant c.args.p.now c.args.tag c.args.ctx c.args.len c.requires.ask (sender_of c) (goes_of c) (taker_post c) refl))
+    (takes-ask (seen c.self.inside) c.self.invariant c.args.p.now c.args.tag c.args.ctx c.args.len c.requires.ask
+    (sender_of c) (goes_of c) (taker_post c) refl))
 
 pub returns-clause-streams : goal.returns-clause-streams
 returns-clause-streams c =
     let p : Packet = c.args.p.now in
     streams_after c ∙ ap (λ (w : ReceivingView). set w.streams p.from (skipped (stream_of w p.from))) c.self.view_is
-    ∙ ap (λ (w : What). set c.args.self.now.streams p.from (after (stream_of c.args.self.now p.from) w p.payload)) (sym c.requires.ask)
+    ∙ ap (λ (w : What). set c.args.self.now.streams p.from (after (stream_of c.args.self.now p.from) w p.payload))
+    (sym c.requires.ask)
 
 pub returns-clause-ended : goal.returns-clause-ended
 returns-clause-ended c =

@@ -1,4 +1,5 @@
-use Rattle.std.proofs.Common.{◌≡◌, ◌<◌, ◌==◌, ℕ, true, Option, None, List, [], ◌∷◌, ◌++◌, length, map, refl, sym, ◌∙◌, ap, subst}
+use Rattle.std.proofs.Common.{◌≡◌, ◌<◌, ◌==◌, ℕ, true, Option, None, List, [], ◌∷◌, ◌++◌, length, map, refl, sym, ◌∙◌}
+use Rattle.std.proofs.Common.{ap, subst}
 use Rattle.std.specs.Option.{option_map}
 use Rattle.std.proofs.Math.ListN.{set}
 use Rattle.nm_types.specs.declared.limits.TheConstants.{MAX_PACKETS}
@@ -33,19 +34,26 @@ prove-unreachable-requires c =
     let v = seen c.self.inside in
     let p : Packet = c.args.p.now in
     let sender = subst (λ (w : ReceivingView). p.from < w.sizes.ranks) (sym c.self.view_is) c.requires.sender in
-    let goes = subst (λ (w : ReceivingView). continues w.sizes.eager (stream_of w p.from).count (missing (stream_of w p.from)) p.what (length p.payload) ≡ true)
+    let goes = subst (λ (w : ReceivingView). continues w.sizes.eager (stream_of w p.from).count
+    (missing (stream_of w p.from)) p.what (length p.payload) ≡ true)
     (sym c.self.view_is) c.requires.continues in
     c.if-prove.true
     (c.missing.ensures.value ∙ ap (λ (s : Stream). missing s) (sym (stream_at c.self.inside.joiner p.from sender))
     ∙ finished v c.self.invariant p c.args.tag c.args.ctx c.args.len c.requires.head sender goes
-    (subst (λ (s : Stream). IsStream s) (sym (stream_at c.self.inside.joiner p.from sender)) c.missing.ensures.stream) None)
+    (subst (λ (s : Stream). IsStream s) (sym (stream_at c.self.inside.joiner p.from sender)) c.missing.ensures.stream)
+    None)
 
 pub arrive-requires : goal.arrive-requires
 arrive-requires c =
     let v = seen c.self.inside in
     let p : Packet = c.args.p.now in
     let arr = c.next_arrival-arrival.ensures
-    ∙ ap (λ (w : ReceivingView). let a : Arrival = record { n = length (receipts_from w p.from); env = record { from = p.from; tag = c.args.tag; ctx = c.args.ctx; len = c.args.len; how = Eager } } in a)
+    ∙ ap (λ (w : ReceivingView). let a : Arrival =
+    record {
+      n = length (receipts_from w p.from);
+      env =
+          record { from = p.from; tag = c.args.tag; ctx = c.args.ctx; len = c.args.len; how = Eager };
+    } in a)
     (sym c.self.view_is) in
     record {
       is_new = ap (λ (a : Arrival). is_known_message (history_of c.self.inside.matcher) a.env.from a.n) arr
@@ -56,13 +64,16 @@ pub add-requires-clause-limit : goal.add-requires-clause-limit
 add-requires-clause-limit c =
     let p : Packet = c.args.p.now in
     let sender = subst (λ (w : ReceivingView). p.from < w.sizes.ranks) (sym c.self.view_is) c.requires.sender in
-    let few = subst (λ (w : ReceivingView). (stream_of w p.from).count < MAX_PACKETS) (sym c.self.view_is) c.requires.few in
+    let few = subst (λ (w : ReceivingView). (stream_of w p.from).count < MAX_PACKETS)
+    (sym c.self.view_is) c.requires.few in
     subst (λ (s : Stream). s.count < MAX_PACKETS)
-    (stream_at c.self.inside.joiner p.from sender ∙ sym (room_same c.self.inside.joiner c.reserve-2.new.self p.from c.reserve-2.ensures.same p.from)) few
+    (stream_at c.self.inside.joiner p.from sender
+    ∙ sym (room_same c.self.inside.joiner c.reserve-2.new.self p.from c.reserve-2.ensures.same p.from)) few
 
 pub give-requires : goal.give-requires
 give-requires c =
-    taker_inside (seen c.self.inside) c.self.invariant c.next_arrival-arrival.result c.in_ok-taker.taker c.in_ok-taker.ensures.oldest
+    taker_inside (seen c.self.inside) c.self.invariant c.next_arrival-arrival.result c.in_ok-taker.taker
+    c.in_ok-taker.ensures.oldest
 
 -- the fields afterwards
 abbrev after_view : goal.After-give → ReceivingView
@@ -88,70 +99,93 @@ sender_of c = subst (λ (w : ReceivingView). c.args.p.now.from < w.sizes.ranks) 
 
 goes_of : (c : goal.After-give) → let p : Packet = c.args.p.now in let v : ReceivingView = seen c.self.inside in
     continues v.sizes.eager (stream_of v p.from).count (missing (stream_of v p.from)) p.what (length p.payload) ≡ true
-goes_of c = subst (λ (w : ReceivingView). continues w.sizes.eager (stream_of w c.args.p.now.from).count (missing (stream_of w c.args.p.now.from))
+goes_of c = subst (λ (w : ReceivingView). continues w.sizes.eager (stream_of w c.args.p.now.from).count
+    (missing (stream_of w c.args.p.now.from))
     c.args.p.now.what (length c.args.p.now.payload) ≡ true) (sym c.self.view_is) c.requires.continues
 
 right_of : (c : goal.After-give) → IsStream (stream_of (seen c.self.inside) c.args.p.now.from)
-right_of c = subst (λ (s : Stream). IsStream s) (sym (stream_at c.self.inside.joiner c.args.p.now.from (sender_of c))) c.missing.ensures.stream
+right_of c = subst (λ (s : Stream). IsStream s) (sym (stream_at c.self.inside.joiner c.args.p.now.from (sender_of c)))
+    c.missing.ensures.stream
 
 streams_after : (c : goal.After-give) → let p : Packet = c.args.p.now in
-    streams_of c.add.new.self ≡ set (streams_of c.self.inside.joiner) p.from (after (stream_of (seen c.self.inside) p.from) p.what p.payload)
+    streams_of c.add.new.self ≡ set (streams_of c.self.inside.joiner) p.from
+    (after (stream_of (seen c.self.inside) p.from) p.what p.payload)
 streams_after c =
     let p : Packet = c.args.p.now in
     let old = c.self.inside.joiner in
     let room = c.reserve-2.ensures.same in
     let step = ok_gives c.add.result c.unwrap.result c.unwrap.ensures c.add.ensures.step in
     stream_stepped old c.add.new.self p.from (λ s. after s p.what p.payload) (step.sizes ∙ room.sizes) (sender_of c)
-    (step.changed ∙ ap (λ (s : Stream). after s p.what p.payload) (room_same old c.reserve-2.new.self p.from room p.from))
-    (λ other differ. ap (λ (r : Received). r.stream) (step.others other differ) ∙ room_same old c.reserve-2.new.self p.from room other)
+    (step.changed ∙ ap (λ (s : Stream). after s p.what p.payload)
+    (room_same old c.reserve-2.new.self p.from room p.from))
+    (λ other differ. ap (λ (r : Received). r.stream) (step.others other differ)
+    ∙ room_same old c.reserve-2.new.self p.from room other)
 
 arrival_of : (c : goal.After-give) → let p : Packet = c.args.p.now in
     ◌≡◌ {A = Arrival} c.next_arrival-arrival.result
-    (record { n = length (receipts_from (seen c.self.inside) p.from); env = record { from = p.from; tag = c.args.tag; ctx = c.args.ctx; len = c.args.len; how = Eager } })
+    (record {
+      n = length (receipts_from (seen c.self.inside) p.from);
+      env =
+          record { from = p.from; tag = c.args.tag; ctx = c.args.ctx; len = c.args.len; how = Eager };
+    })
 arrival_of c =
     let p : Packet = c.args.p.now in
     c.next_arrival-arrival.ensures
-    ∙ ap (λ (w : ReceivingView). let a : Arrival = record { n = length (receipts_from w p.from); env = record { from = p.from; tag = c.args.tag; ctx = c.args.ctx; len = c.args.len; how = Eager } } in a)
+    ∙ ap (λ (w : ReceivingView). let a : Arrival =
+    record {
+      n = length (receipts_from w p.from);
+      env =
+          record { from = p.from; tag = c.args.tag; ctx = c.args.ctx; len = c.args.len; how = Eager };
+    } in a)
     (sym c.self.view_is)
 
 view_is : (c : goal.After-give) → let v : ReceivingView = seen c.self.inside in let p : Packet = c.args.p.now in
-    head_view v c.self.invariant p c.args.tag c.args.ctx c.args.len c.requires.head (sender_of c) (goes_of c) (right_of c) (taker_post c) ≡ after_view c
+    head_view v c.self.invariant p c.args.tag c.args.ctx c.args.len c.requires.head (sender_of c) (goes_of c)
+    (right_of c) (taker_post c) ≡ after_view c
 view_is c =
     let v : ReceivingView = seen c.self.inside in
     let p : Packet = c.args.p.now in
     let arrival = c.next_arrival-arrival.result in
     let step = ok_gives c.add.result c.unwrap.result c.unwrap.ensures c.add.ensures.step in
-    head_is v c.self.invariant p c.args.tag c.args.ctx c.args.len c.requires.head (sender_of c) (goes_of c) (right_of c) (taker_post c)
-    arrival c.in_ok-taker.taker (c.args.len == length c.as_slice.result.now) c.add.new.self.sizes c.arrive.new.self (streams_of c.add.new.self)
+    head_is v c.self.invariant p c.args.tag c.args.ctx c.args.len c.requires.head (sender_of c) (goes_of c)
+    (right_of c) (taker_post c)
+    arrival c.in_ok-taker.taker (c.args.len == length c.as_slice.result.now) c.add.new.self.sizes c.arrive.new.self
+    (streams_of c.add.new.self)
     c.push.new.self.rows c.give.new.receives.items (arrival_of c)
     (c.in_ok-taker.ensures.oldest
-    ∙ ap (λ (a : Arrival). option_map (λ (q : post.Post). q.number) (first_receive (history_of c.self.inside.matcher) (matched_pairs (history_of c.self.inside.matcher)) a.env))
+    ∙ ap (λ (a : Arrival). option_map (λ (q : post.Post). q.number)
+    (first_receive (history_of c.self.inside.matcher) (matched_pairs (history_of c.self.inside.matcher)) a.env))
     (arrival_of c))
     (ap (λ (bs : List ℕ). c.args.len == length bs) c.as_slice.ensures.value)
     (step.sizes ∙ c.reserve-2.ensures.same.sizes)
     c.in_ok-taker.ensures.ok
-    (streams_after c ∙ ap (λ (w : What). set (streams_of c.self.inside.joiner) p.from (after (stream_of v p.from) w p.payload)) c.requires.head)
-    (c.push.ensures ∙ ap (λ (rows : List (List Receipt)). set rows p.from (rows_from rows p.from ++ record { arrival = arrival; whole = c.args.len == length c.as_slice.result.now } ∷ []))
+    (streams_after c ∙ ap (λ (w : What). set (streams_of c.self.inside.joiner) p.from
+    (after (stream_of v p.from) w p.payload)) c.requires.head)
+    (c.push.ensures ∙ ap (λ (rows : List (List Receipt)). set rows p.from
+    (rows_from rows p.from ++ record { arrival = arrival; whole = c.args.len == length c.as_slice.result.now } ∷ []))
     c.reserve.ensures.rows)
     c.give.ensures
 
 pub invariant_of-self-2 : goal.invariant_of-self-2
 invariant_of-self-2 c =
     subst (λ (w : ReceivingView). IsKept w) (view_is c)
-    (kept-head (seen c.self.inside) c.self.invariant c.args.p.now c.args.tag c.args.ctx c.args.len c.requires.head (sender_of c) (goes_of c) (right_of c)
+    (kept-head (seen c.self.inside) c.self.invariant c.args.p.now c.args.tag c.args.ctx c.args.len c.requires.head
+    (sender_of c) (goes_of c) (right_of c)
     (taker_post c) refl)
 
 pub returns-clause-kept : goal.returns-clause-kept
 returns-clause-kept c =
     subst (λ (u : ReceivingView). TakesPacket u (after_view c) c.args.p.now) c.self.view_is
     (subst (λ (w : ReceivingView). TakesPacket (seen c.self.inside) w c.args.p.now) (view_is c)
-    (takes-head (seen c.self.inside) c.self.invariant c.args.p.now c.args.tag c.args.ctx c.args.len c.requires.head (sender_of c) (goes_of c) (right_of c)
+    (takes-head (seen c.self.inside) c.self.invariant c.args.p.now c.args.tag c.args.ctx c.args.len c.requires.head
+    (sender_of c) (goes_of c) (right_of c)
     (taker_post c) refl))
 
 pub returns-clause-streams : goal.returns-clause-streams
 returns-clause-streams c =
     let p : Packet = c.args.p.now in
-    streams_after c ∙ ap (λ (w : ReceivingView). set w.streams p.from (after (stream_of w p.from) p.what p.payload)) c.self.view_is
+    streams_after c ∙ ap (λ (w : ReceivingView). set w.streams p.from (after (stream_of w p.from) p.what p.payload))
+    c.self.view_is
 
 pub returns-clause-ended : goal.returns-clause-ended
 returns-clause-ended c =

@@ -51,13 +51,15 @@ returns-then-done-clause-kept c =
 
 pub returns-else-done-clause-kept : goal.returns-else-done-clause-kept
 returns-else-done-clause-kept c =
-    subst (λ (v : ReceivingView). Keeps v (record (seen c.self.inside) { deeds = c.cancel-done.new.self }) (Cancel c.args.number c.cancel-done.result ∷ []))
+    subst (λ (v : ReceivingView). Keeps v (record (seen c.self.inside) { deeds = c.cancel-done.new.self })
+    (Cancel c.args.number c.cancel-done.result ∷ []))
     c.self.view_is
     (keeps-cancel_late (seen c.self.inside) c.args.number c.cancel-done.new.self c.cancel-done.result c.if-done.false
     c.cancel-done.ensures.late c.cancel-done.ensures.deeds)
 
 pub returns-then-done-clause-ended : goal.returns-then-done-clause-ended
 returns-then-done-clause-ended c =
-    map-set_same (λ (r : Receive). r.ended) c.self.inside.receives.items c.args.number (has_cancelled c.index_mut.result.now) c.index_mut.result.now
+    map-set_same (λ (r : Receive). r.ended) c.self.inside.receives.items c.args.number
+    (has_cancelled c.index_mut.result.now) c.index_mut.result.now
     (ap (λ (r : Receive). r.ended) c.index_mut.ensures.value)
     ∙ ap (λ (v : ReceivingView). map (λ r. r.ended) v.receives) c.self.view_is

@@ -16,13 +16,16 @@ use Rattle.nm_receiving.proofs.receivings.Receiving.claim.Goals as goal
 
 pub invariant_of-self : goal.invariant_of-self
 invariant_of-self c =
-    kept-claimed (seen c.self.inside) c.self.invariant c.claim.new.self c.claim.result c.claim.ensures.ok c.claim.ensures.err
+    kept-claimed (seen c.self.inside) c.claim.new.self c.args.from c.args.tag c.args.ctx c.self.invariant
+    c.claim.result c.claim.ensures.ok c.claim.ensures.oldest c.claim.ensures.err
 
 pub returns-clause-oldest : goal.returns-clause-oldest
 returns-clause-oldest c =
     ok_along c.claim.result
-    (λ (t : Option Arrival). t ≡ first_message (history_of c.self.inside.matcher) (matched_pairs (history_of c.self.inside.matcher)) c.args.from c.args.tag c.args.ctx)
-    (λ (t : Option Arrival). (h : List Event) → AreReceived c.args.self.now h → t ≡ first_message h (matched_pairs h) c.args.from c.args.tag c.args.ctx)
+    (λ (t : Option Arrival). t ≡ first_message (history_of c.self.inside.matcher)
+    (matched_pairs (history_of c.self.inside.matcher)) c.args.from c.args.tag c.args.ctx)
+    (λ (t : Option Arrival). (h : List Event) → AreReceived c.args.self.now h →
+    t ≡ first_message h (matched_pairs h) c.args.from c.args.tag c.args.ctx)
     (λ t is h received.
     let here = subst (λ (v : ReceivingView). AreReceived v h) (sym c.self.view_is) received in
     is ∙ sym (first_message-stands c.self.inside.matcher h here.stands c.args.from c.args.tag c.args.ctx))
@@ -30,6 +33,9 @@ returns-clause-oldest c =
 
 pub returns-clause-kept : goal.returns-clause-kept
 returns-clause-kept c =
-    subst (λ (v : ReceivingView). IfOk c.claim.result (λ t. MatchOption t (with_deeds (seen c.self.inside) c.claim.new.self ≡ v)
-    (λ a. (line : ℕ) → Keeps v (with_deeds (seen c.self.inside) c.claim.new.self) (Claim a.env.from a.n line ∷ [])))) c.self.view_is
-    (claimed-keeps (seen c.self.inside) c.claim.new.self c.claim.result c.claim.ensures.ok)
+    subst (λ (v : ReceivingView). IfOk c.claim.result
+    (λ t. MatchOption t (with_deeds (seen c.self.inside) c.claim.new.self ≡ v)
+    (λ a. (line : ℕ) → Keeps v (with_deeds (seen c.self.inside) c.claim.new.self) (Claim a.env.from a.n line ∷ []))))
+    c.self.view_is
+    (claimed-keeps (seen c.self.inside) c.claim.new.self c.args.from c.args.tag c.args.ctx c.claim.result
+    c.claim.ensures.ok c.claim.ensures.oldest)

@@ -22,16 +22,20 @@ pub returns-then-not-fits-clause-continued : goal.returns-then-not-fits-clause-c
 returns-then-not-fits-clause-continued c = λ h received.
     let here = subst (λ (v : ReceivingView). AreReceived v h) (sym c.self.view_is) received in
     let p : Piece = c.args.p.now in
-    sym c.if-not-fits.true ∙ continued_at (seen c.self.inside) c.self.inside.grants p c.fits.result refl c.fits.ensures h here
-    ∙ ap (λ (v : ReceivingView). option_map_or (is_due p) (slice_get (due_pieces h p.from) (drawn_from v p.from)) false) c.self.view_is
+    sym c.if-not-fits.true ∙ continued_at (seen c.self.inside) c.self.inside.grants p c.fits.result refl
+    c.fits.ensures h here
+    ∙ ap (λ (v : ReceivingView). option_map_or (is_due p) (slice_get (due_pieces h p.from) (drawn_from v p.from))
+    false) c.self.view_is
 
 pub returns-then-not-fits-clause-event : goal.returns-then-not-fits-clause-event
 returns-then-not-fits-clause-event c = λ h received.
     let here = subst (λ (v : ReceivingView). AreReceived v h) (sym c.self.view_is) received in
     let p : Piece = c.args.p.now in
     stray_makes p.from (slice_get (due_pieces h p.from) (drawn_from c.args.self.now p.from)) p
-    (sym c.if-not-fits.true ∙ continued_at (seen c.self.inside) c.self.inside.grants p c.fits.result refl c.fits.ensures h here
-    ∙ ap (λ (v : ReceivingView). option_map_or (is_due p) (slice_get (due_pieces h p.from) (drawn_from v p.from)) false) c.self.view_is)
+    (sym c.if-not-fits.true ∙ continued_at (seen c.self.inside) c.self.inside.grants p c.fits.result refl
+    c.fits.ensures h here
+    ∙ ap (λ (v : ReceivingView). option_map_or (is_due p) (slice_get (due_pieces h p.from) (drawn_from v p.from))
+    false) c.self.view_is)
 
 pub returns-then-not-fits-clause-kept : goal.returns-then-not-fits-clause-kept
 returns-then-not-fits-clause-kept c = keeps-stray c.args.self.now
@@ -48,7 +52,8 @@ make_whole_if-requires c =
     let fits = c.fits.ensures.0 c.if-not-fits.false in
     let gs = c.self.inside.grants in
     let sender = subst (λ (w : ReceivingView). p.from < w.sizes.ranks) (sym c.self.view_is) c.requires.sender in
-    piece_came (seen c.self.inside) c.self.invariant gs p refl fits sender c.in_ok-joined.joined c.event-event.result c.in_ok-joined.ensures.joined
+    piece_came (seen c.self.inside) c.self.invariant gs p refl fits sender c.in_ok-joined.joined c.event-event.result
+    c.in_ok-joined.ensures.joined
     (c.event-event.ensures gs fits c.in_ok-joined.ensures.joined)
 
 -- the fields afterwards
@@ -64,7 +69,8 @@ after_view c =
     }
 
 view_is : (c : goal.After-self-1) →
-    drawn_view (seen c.self.inside) c.self.invariant c.self.inside.grants c.args.p.now refl (c.fits.ensures.0 c.if-not-fits.false) (sender_of c)
+    drawn_view (seen c.self.inside) c.self.invariant c.self.inside.grants c.args.p.now refl
+    (c.fits.ensures.0 c.if-not-fits.false) (sender_of c)
     c.in_ok-joined.joined c.event-event.result c.in_ok-joined.ensures.joined
     (c.event-event.ensures c.self.inside.grants (c.fits.ensures.0 c.if-not-fits.false) c.in_ok-joined.ensures.joined)
     ≡ after_view c
@@ -75,10 +81,13 @@ view_is c =
     let sender = sender_of c in
     let rows = c.self.invariant.tables.drawn in
     let inside : p.from < length c.self.inside.drawn.items = omega (arith, sender, rows) in
-    drawn_is (seen c.self.inside) c.self.invariant gs p refl fits sender c.in_ok-joined.joined c.event-event.result c.in_ok-joined.ensures.joined
+    drawn_is (seen c.self.inside) c.self.invariant gs p refl fits sender c.in_ok-joined.joined c.event-event.result
+    c.in_ok-joined.ensures.joined
     (c.event-event.ensures gs fits c.in_ok-joined.ensures.joined)
-    c.is_some.result c.piece.new.self.grants c.make_whole_if.new.self.rows (set c.self.inside.drawn.items p.from (c.index_mut.result.now + 1))
-    (c.is_some.ensures ∙ ends_is (seen c.self.inside) c.self.invariant gs p refl fits sender c.in_ok-joined.joined c.event-event.result
+    c.is_some.result c.piece.new.self.grants c.make_whole_if.new.self.rows
+    (set c.self.inside.drawn.items p.from (c.index_mut.result.now + 1))
+    (c.is_some.ensures ∙ ends_is (seen c.self.inside) c.self.invariant gs p refl fits sender c.in_ok-joined.joined
+    c.event-event.result
     c.in_ok-joined.ensures.joined (c.event-event.ensures gs fits c.in_ok-joined.ensures.joined))
     c.in_ok-joined.ensures.ok c.make_whole_if.ensures
     (ap (λ (k : ℕ). set c.self.inside.drawn.items p.from (k + 1))
@@ -87,7 +96,8 @@ view_is c =
 pub invariant_of-self-2 : goal.invariant_of-self-2
 invariant_of-self-2 c =
     subst (λ (w : ReceivingView). IsKept w) (view_is c)
-    (kept-draw (seen c.self.inside) c.self.invariant c.self.inside.grants c.args.p.now refl (c.fits.ensures.0 c.if-not-fits.false) (sender_of c)
+    (kept-draw (seen c.self.inside) c.self.invariant c.self.inside.grants c.args.p.now refl
+    (c.fits.ensures.0 c.if-not-fits.false) (sender_of c)
     c.in_ok-joined.joined c.event-event.result c.in_ok-joined.ensures.joined
     (c.event-event.ensures c.self.inside.grants (c.fits.ensures.0 c.if-not-fits.false) c.in_ok-joined.ensures.joined))
 
@@ -95,8 +105,10 @@ pub returns-clause-continued : goal.returns-clause-continued
 returns-clause-continued c = λ h received.
     let here = subst (λ (v : ReceivingView). AreReceived v h) (sym c.self.view_is) received in
     let p : Piece = c.args.p.now in
-    sym c.if-not-fits.false ∙ continued_at (seen c.self.inside) c.self.inside.grants p c.fits.result refl c.fits.ensures h here
-    ∙ ap (λ (v : ReceivingView). option_map_or (is_due p) (slice_get (due_pieces h p.from) (drawn_from v p.from)) false) c.self.view_is
+    sym c.if-not-fits.false ∙ continued_at (seen c.self.inside) c.self.inside.grants p c.fits.result refl
+    c.fits.ensures h here
+    ∙ ap (λ (v : ReceivingView). option_map_or (is_due p) (slice_get (due_pieces h p.from) (drawn_from v p.from))
+    false) c.self.view_is
 
 pub returns-clause-event : goal.returns-clause-event
 returns-clause-event c = λ h received.
@@ -104,13 +116,15 @@ returns-clause-event c = λ h received.
     let p : Piece = c.args.p.now in
     c.event-event.ensures c.self.inside.grants (c.fits.ensures.0 c.if-not-fits.false) c.in_ok-joined.ensures.joined
     ∙ ap (λ (o : Option Due). piece_makes p.from o p) (due_at (seen c.self.inside) h here p.from)
-    ∙ ap (λ (v : ReceivingView). piece_makes p.from (slice_get (due_pieces h p.from) (drawn_from v p.from)) p) c.self.view_is
+    ∙ ap (λ (v : ReceivingView). piece_makes p.from (slice_get (due_pieces h p.from) (drawn_from v p.from)) p)
+    c.self.view_is
 
 pub returns-clause-kept : goal.returns-clause-kept
 returns-clause-kept c =
     subst (λ (u : ReceivingView). Keeps u (after_view c) (option_to_list c.event-event.result)) c.self.view_is
     (subst (λ (w : ReceivingView). Keeps (seen c.self.inside) w (option_to_list c.event-event.result)) (view_is c)
-    (keeps-draw (seen c.self.inside) c.self.invariant c.self.inside.grants c.args.p.now refl (c.fits.ensures.0 c.if-not-fits.false) (sender_of c)
+    (keeps-draw (seen c.self.inside) c.self.invariant c.self.inside.grants c.args.p.now refl
+    (c.fits.ensures.0 c.if-not-fits.false) (sender_of c)
     c.in_ok-joined.joined c.event-event.result c.in_ok-joined.ensures.joined
     (c.event-event.ensures c.self.inside.grants (c.fits.ensures.0 c.if-not-fits.false) c.in_ok-joined.ensures.joined)))
 

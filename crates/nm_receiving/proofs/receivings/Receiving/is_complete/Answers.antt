@@ -31,7 +31,8 @@ returns-then-receive c = λ h received.
     ∙ slice_get_read xs (length xs) c.args.number r refl got.3.0 got.1 in
     c.if-receive.true
     ∙ sym (complete_some c.args.self.now h received c.args.number r here
-    ∙ ap (λ (b : Bool). b || option_map_or (λ a. is_whole_at (receipt_of c.args.self.now a.env.from a.n)) r.taken false) c.if-receive.true)
+    ∙ ap (λ (b : Bool). b || option_map_or (λ a. is_whole_at (receipt_of c.args.self.now a.env.from a.n)) r.taken
+    false) c.if-receive.true)
 
 pub returns-else-receive : goal.returns-else-receive
 returns-else-receive c = λ h received.
@@ -43,7 +44,8 @@ returns-else-receive c = λ h received.
     ∙ slice_get_read xs (length xs) c.args.number r refl got.3.0 got.1 in
     c.has_message.ensures
     ∙ sym (complete_some c.args.self.now h received c.args.number r here
-    ∙ ap (λ (b : Bool). b || option_map_or (λ a. is_whole_at (receipt_of c.args.self.now a.env.from a.n)) r.taken false) c.if-receive.false)
+    ∙ ap (λ (b : Bool). b || option_map_or (λ a. is_whole_at (receipt_of c.args.self.now a.env.from a.n)) r.taken
+    false) c.if-receive.false)
 
 pub returns-in-None : goal.returns-in-None
 returns-in-None c = λ h received.

@@ -34,7 +34,8 @@ is_empty c =
       grants = c.in_ok-new-2.ensures ∙ ap (λ (k : ℕ). let ys : List (List (ℕ × Granted)) = replicate k [] in ys) ranks;
       receipts = c.in_ok-new-3.ensures ∙ ap (λ (k : ℕ). let ys : List (List Receipt) = replicate k [] in ys) ranks;
       receives = c.new-4.ensures.items;
-      drawn = c.in_ok-vec.ensures.items_if_clones_equal (λ y is. is) ∙ ap (λ (k : ℕ). let ys : List ℕ = replicate k 0 in ys) ranks;
+      drawn = c.in_ok-vec.ensures.items_if_clones_equal (λ y is. is)
+          ∙ ap (λ (k : ℕ). let ys : List ℕ = replicate k 0 in ys) ranks;
     }
 
 pub invariant_of-result : goal.invariant_of-result

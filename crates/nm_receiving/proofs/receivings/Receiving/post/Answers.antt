@@ -13,63 +13,111 @@ use Rattle.nm_receiving.specs.Steps.{grants_with}
 use Rattle.nm_receiving.proofs.CameLemmas.{same-granted}
 use Rattle.nm_receiving.proofs.Goings.{next_receive}
 use Rattle.nm_receiving.proofs.Keeping.{keeps-begun}
-use Rattle.nm_receiving.proofs.Starting.{begun_same, is_begin_post, kept-begun, may_begin_with, may_grant-came, may_grant-new, may_grant-sender}
+use Rattle.nm_receiving.proofs.Starting.{begun_same, is_begin_post, kept-begun, may_begin_with, may_grant-came}
+use Rattle.nm_receiving.proofs.Starting.{may_grant-new, may_grant-sender}
 use Rattle.nm_receiving.proofs.Starting.{post_takeable, taken_sender}
 use Rattle.nm_receiving.proofs.receivings.Receiving.post.Goals as goal
 
 pub post-requires : goal.post-requires
 post-requires c =
     let a = c.self.inside in
-    let next : c.len-number.result ≡ length a.receives.items = omega (arith, c.len-number.ensures, c.reserve.ensures.len, a.receives.ok.0) in
+    let next : c.len-number.result ≡ length a.receives.items =
+    omega (arith, c.len-number.ensures, c.reserve.ensures.len, a.receives.ok.0) in
     record { is_new = next_receive (seen a) c.self.invariant c.len-number.result next }
 
 pub grant_taken-requires-clause-sender : goal.grant_taken-requires-clause-sender
 grant_taken-requires-clause-sender c =
     let v = seen c.self.inside in
-    let p : post.Post = record { number = c.len-number.result; from = c.args.from; tag = c.args.tag; ctx = c.args.ctx; cap = c.args.cap } in
-    may_grant-sender v c.self.invariant c.in_ok-taken.taken (post_takeable v c.self.invariant p c.in_ok-taken.taken c.in_ok-taken.ensures.oldest)
+    let p : post.Post = record {
+      number = c.len-number.result;
+      from = c.args.from;
+      tag = c.args.tag;
+      ctx =
+          c.args.ctx;
+      cap = c.args.cap;
+    } in
+    may_grant-sender v c.self.invariant c.in_ok-taken.taken
+    (post_takeable v c.self.invariant p c.in_ok-taken.taken c.in_ok-taken.ensures.oldest)
     c.reserve-2.new.self.grants c.reserve-2.ensures.same
 
 pub grant_taken-requires-clause-new : goal.grant_taken-requires-clause-new
 grant_taken-requires-clause-new c =
     let v = seen c.self.inside in
-    let p : post.Post = record { number = c.len-number.result; from = c.args.from; tag = c.args.tag; ctx = c.args.ctx; cap = c.args.cap } in
-    may_grant-new v c.self.invariant c.in_ok-taken.taken (post_takeable v c.self.invariant p c.in_ok-taken.taken c.in_ok-taken.ensures.oldest)
+    let p : post.Post = record {
+      number = c.len-number.result;
+      from = c.args.from;
+      tag = c.args.tag;
+      ctx =
+          c.args.ctx;
+      cap = c.args.cap;
+    } in
+    may_grant-new v c.self.invariant c.in_ok-taken.taken
+    (post_takeable v c.self.invariant p c.in_ok-taken.taken c.in_ok-taken.ensures.oldest)
     c.reserve-2.new.self.grants c.reserve-2.ensures.same
 
 pub grant_taken-requires-clause-came : goal.grant_taken-requires-clause-came
 grant_taken-requires-clause-came c =
     let v = seen c.self.inside in
-    let p : post.Post = record { number = c.len-number.result; from = c.args.from; tag = c.args.tag; ctx = c.args.ctx; cap = c.args.cap } in
-    may_grant-came v c.self.invariant c.in_ok-taken.taken (post_takeable v c.self.invariant p c.in_ok-taken.taken c.in_ok-taken.ensures.oldest)
+    let p : post.Post = record {
+      number = c.len-number.result;
+      from = c.args.from;
+      tag = c.args.tag;
+      ctx =
+          c.args.ctx;
+      cap = c.args.cap;
+    } in
+    may_grant-came v c.self.invariant c.in_ok-taken.taken
+    (post_takeable v c.self.invariant p c.in_ok-taken.taken c.in_ok-taken.ensures.oldest)
 
 pub invariant_of-self-2 : goal.invariant_of-self-2
 invariant_of-self-2 c =
     let v = seen c.self.inside in
     let a = c.self.inside in
-    let p : post.Post = record { number = c.len-number.result; from = c.args.from; tag = c.args.tag; ctx = c.args.ctx; cap = c.args.cap } in
+    let p : post.Post = record {
+      number = c.len-number.result;
+      from = c.args.from;
+      tag = c.args.tag;
+      ctx =
+          c.args.ctx;
+      cap = c.args.cap;
+    } in
     let taken = c.in_ok-taken.taken in
-    let next : c.len-number.result ≡ length a.receives.items = omega (arith, c.len-number.ensures, c.reserve.ensures.len, a.receives.ok.0) in
-    let same = begun_same v (deed.Post p) c.args.cap taken c.post.new.self c.grant_taken.new.grants.grants c.grant_taken.new.receipts.rows
+    let next : c.len-number.result ≡ length a.receives.items =
+    omega (arith, c.len-number.ensures, c.reserve.ensures.len, a.receives.ok.0) in
+    let same = begun_same v (deed.Post p) c.args.cap taken c.post.new.self c.grant_taken.new.grants.grants
+    c.grant_taken.new.receipts.rows
     c.push_reserved.new.self.items c.in_ok-taken.ensures.ok
-    (c.grant_taken.ensures.grants ∙ ap (λ gs. grants_with gs taken) c.reserve-2.ensures.same) c.grant_taken.ensures.receipts
+    (c.grant_taken.ensures.grants ∙ ap (λ gs. grants_with gs taken) c.reserve-2.ensures.same)
+    c.grant_taken.ensures.receipts
     (c.push_reserved.ensures.items ∙ ap (λ (rs : List Receive). rs ++ c.new.result ∷ []) c.reserve.ensures.items
     ∙ ap (λ (r : Receive). a.receives.items ++ r ∷ []) c.new.ensures) in
     subst (λ (v : ReceivingView). IsKept v) same
     (kept-begun v c.self.invariant (event.Post p 0) (deed.Post p) c.len-number.result c.args.cap
-    (record { posted = λ q is. let is_p : p ≡ q = cc in (ap (λ (x : post.Post). x.number) (sym is_p), ap (λ (x : post.Post). x.cap) (sym is_p)); in_time = λ _ _. refl })
+    (record {
+      posted = λ q is. let is_p : p ≡ q = cc in
+          (ap (λ (x : post.Post). x.number) (sym is_p), ap (λ (x : post.Post). x.cap) (sym is_p));
+      in_time = λ _ _. refl;
+    })
     taken (is_begin_post v p 0 taken next c.in_ok-taken.ensures.oldest)
     (post_takeable v c.self.invariant p taken c.in_ok-taken.ensures.oldest))
 
 pub returns-clause-taken : goal.returns-clause-taken
 returns-clause-taken c = λ h received.
     let here = subst (λ (v : ReceivingView). AreReceived v h) (sym c.self.view_is) received in
-    c.in_ok-taken.ensures.oldest ∙ sym (first_message-stands c.self.inside.matcher h here.stands c.args.from c.args.tag c.args.ctx)
+    c.in_ok-taken.ensures.oldest
+    ∙ sym (first_message-stands c.self.inside.matcher h here.stands c.args.from c.args.tag c.args.ctx)
 
 pub returns-clause-sender : goal.returns-clause-sender
 returns-clause-sender c =
     let v = seen c.self.inside in
-    let p : post.Post = record { number = c.len-number.result; from = c.args.from; tag = c.args.tag; ctx = c.args.ctx; cap = c.args.cap } in
+    let p : post.Post = record {
+      number = c.len-number.result;
+      from = c.args.from;
+      tag = c.args.tag;
+      ctx =
+          c.args.ctx;
+      cap = c.args.cap;
+    } in
     let taken = c.in_ok-taken.taken in
     subst (λ (w : ReceivingView). IfSome taken (λ a. a.env.from < w.sizes.ranks)) c.self.view_is
     (taken_sender v c.self.invariant taken (post_takeable v c.self.invariant p taken c.in_ok-taken.ensures.oldest))
@@ -78,12 +126,22 @@ pub returns-clause-kept : goal.returns-clause-kept
 returns-clause-kept c = λ line.
     let v = seen c.self.inside in
     let a = c.self.inside in
-    let p : post.Post = record { number = c.len-number.result; from = c.args.from; tag = c.args.tag; ctx = c.args.ctx; cap = c.args.cap } in
+    let p : post.Post = record {
+      number = c.len-number.result;
+      from = c.args.from;
+      tag = c.args.tag;
+      ctx =
+          c.args.ctx;
+      cap = c.args.cap;
+    } in
     let taken = c.in_ok-taken.taken in
-    let next : c.len-number.result ≡ length a.receives.items = omega (arith, c.len-number.ensures, c.reserve.ensures.len, a.receives.ok.0) in
-    let same = begun_same v (deed.Post p) c.args.cap taken c.post.new.self c.grant_taken.new.grants.grants c.grant_taken.new.receipts.rows
+    let next : c.len-number.result ≡ length a.receives.items =
+    omega (arith, c.len-number.ensures, c.reserve.ensures.len, a.receives.ok.0) in
+    let same = begun_same v (deed.Post p) c.args.cap taken c.post.new.self c.grant_taken.new.grants.grants
+    c.grant_taken.new.receipts.rows
     c.push_reserved.new.self.items c.in_ok-taken.ensures.ok
-    (c.grant_taken.ensures.grants ∙ ap (λ gs. grants_with gs taken) c.reserve-2.ensures.same) c.grant_taken.ensures.receipts
+    (c.grant_taken.ensures.grants ∙ ap (λ gs. grants_with gs taken) c.reserve-2.ensures.same)
+    c.grant_taken.ensures.receipts
     (c.push_reserved.ensures.items ∙ ap (λ (rs : List Receive). rs ++ c.new.result ∷ []) c.reserve.ensures.items
     ∙ ap (λ (r : Receive). a.receives.items ++ r ∷ []) c.new.ensures) in
     let kept = c.self.invariant in

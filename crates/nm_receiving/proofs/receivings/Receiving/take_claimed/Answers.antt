@@ -14,23 +14,28 @@ use Rattle.nm_receiving.specs.Steps.{grants_with}
 use Rattle.nm_receiving.proofs.CameLemmas.{same-granted}
 use Rattle.nm_receiving.proofs.Goings.{next_receive}
 use Rattle.nm_receiving.proofs.Keeping.{keeps-begun}
-use Rattle.nm_receiving.proofs.Starting.{begun_same, claimed_message, claimed_receipt, is_begin_match, kept-begun, match_takeable, may_begin_with}
+use Rattle.nm_receiving.proofs.Starting.{begun_same, claimed_message, claimed_receipt, is_begin_match, kept-begun}
+use Rattle.nm_receiving.proofs.Starting.{match_takeable, may_begin_with}
 use Rattle.nm_receiving.proofs.Starting.{may_grant-came, may_grant-new, may_grant-sender, taken_sender}
 use Rattle.nm_receiving.proofs.receivings.Receiving.take_claimed.Goals as goal
 
 pub prove-unreachable-requires : goal.prove-unreachable-requires
 prove-unreachable-requires c =
-    let here = subst (λ (v : ReceivingView). AreReceived v c.requires.history) (sym c.self.view_is) c.requires.messages in
-    true≢false (sym c.requires.claimed ∙ is_claimed-stands c.self.inside.matcher c.requires.history here.stands c.args.from c.args.n
+    let here = subst (λ (v : ReceivingView). AreReceived v c.requires.history)
+    (sym c.self.view_is) c.requires.messages in
+    true≢false (sym c.requires.claimed ∙ is_claimed-stands c.self.inside.matcher c.requires.history here.stands
+    c.args.from c.args.n
     ∙ sym c.is_claimed.ensures.value ∙ c.if-prove.true)
 
 pub get-requires : goal.get-requires
-get-requires c = claimed_receipt (seen c.self.inside) c.self.invariant c.args.from c.args.n (c.is_claimed.ensures.came c.if-prove.false)
+get-requires c = claimed_receipt (seen c.self.inside) c.self.invariant c.args.from c.args.n
+    (c.is_claimed.ensures.came c.if-prove.false)
 
 pub take_claimed-requires-clause-is_new : goal.take_claimed-requires-clause-is_new
 take_claimed-requires-clause-is_new c =
     let a = c.self.inside in
-    let next : c.len-number.result ≡ length a.receives.items = omega (arith, c.len-number.ensures, c.reserve.ensures.len, a.receives.ok.0) in
+    let next : c.len-number.result ≡ length a.receives.items =
+    omega (arith, c.len-number.ensures, c.reserve.ensures.len, a.receives.ok.0) in
     next_receive (seen a) c.self.invariant c.len-number.result next
 
 pub grant_taken-requires-clause-sender : goal.grant_taken-requires-clause-sender
@@ -39,7 +44,8 @@ grant_taken-requires-clause-sender c =
     let taken : Option Arrival = Some c.get.result.arrival in
     let there = claimed_message v c.self.invariant c.args.from c.args.n c.get.result c.get.ensures in
     may_grant-sender v c.self.invariant taken
-    (match_takeable v c.self.invariant c.args.from c.args.n taken (sym c.is_claimed.ensures.value ∙ c.if-prove.false) there)
+    (match_takeable v c.self.invariant c.args.from c.args.n taken (sym c.is_claimed.ensures.value ∙ c.if-prove.false)
+    there)
     c.reserve-2.new.self.grants c.reserve-2.ensures.same
 
 pub grant_taken-requires-clause-new : goal.grant_taken-requires-clause-new
@@ -48,7 +54,8 @@ grant_taken-requires-clause-new c =
     let taken : Option Arrival = Some c.get.result.arrival in
     let there = claimed_message v c.self.invariant c.args.from c.args.n c.get.result c.get.ensures in
     may_grant-new v c.self.invariant taken
-    (match_takeable v c.self.invariant c.args.from c.args.n taken (sym c.is_claimed.ensures.value ∙ c.if-prove.false) there)
+    (match_takeable v c.self.invariant c.args.from c.args.n taken (sym c.is_claimed.ensures.value ∙ c.if-prove.false)
+    there)
     c.reserve-2.new.self.grants c.reserve-2.ensures.same
 
 pub grant_taken-requires-clause-came : goal.grant_taken-requires-clause-came
@@ -57,7 +64,8 @@ grant_taken-requires-clause-came c =
     let taken : Option Arrival = Some c.get.result.arrival in
     let there = claimed_message v c.self.invariant c.args.from c.args.n c.get.result c.get.ensures in
     may_grant-came v c.self.invariant taken
-    (match_takeable v c.self.invariant c.args.from c.args.n taken (sym c.is_claimed.ensures.value ∙ c.if-prove.false) there)
+    (match_takeable v c.self.invariant c.args.from c.args.n taken (sym c.is_claimed.ensures.value ∙ c.if-prove.false)
+    there)
 
 pub invariant_of-self-2 : goal.invariant_of-self-2
 invariant_of-self-2 c =
@@ -65,16 +73,20 @@ invariant_of-self-2 c =
     let a = c.self.inside in
     let number = c.len-number.result in
     let taken : Option Arrival = Some c.get.result.arrival in
-    let next : number ≡ length a.receives.items = omega (arith, c.len-number.ensures, c.reserve.ensures.len, a.receives.ok.0) in
+    let next : number ≡ length a.receives.items =
+    omega (arith, c.len-number.ensures, c.reserve.ensures.len, a.receives.ok.0) in
     let claimed = sym c.is_claimed.ensures.value ∙ c.if-prove.false in
     let there = claimed_message v c.self.invariant c.args.from c.args.n c.get.result c.get.ensures in
-    let same = begun_same v (deed.Match number c.args.from c.args.n) c.args.cap taken c.take_claimed.new.self c.grant_taken.new.grants.grants
+    let same = begun_same v (deed.Match number c.args.from c.args.n) c.args.cap taken c.take_claimed.new.self
+    c.grant_taken.new.grants.grants
     c.grant_taken.new.receipts.rows c.push_reserved.new.self.items c.in_ok-take_claimed.ensures.ok
-    (c.grant_taken.ensures.grants ∙ ap (λ gs. grants_with gs taken) c.reserve-2.ensures.same) c.grant_taken.ensures.receipts
+    (c.grant_taken.ensures.grants ∙ ap (λ gs. grants_with gs taken) c.reserve-2.ensures.same)
+    c.grant_taken.ensures.receipts
     (c.push_reserved.ensures.items ∙ ap (λ (rs : List Receive). rs ++ c.new.result ∷ []) c.reserve.ensures.items
     ∙ ap (λ (r : Receive). a.receives.items ++ r ∷ []) c.new.ensures) in
     subst (λ (v : ReceivingView). IsKept v) same
-    (kept-begun v c.self.invariant (event.Match number c.args.from c.args.n c.args.cap 0) (deed.Match number c.args.from c.args.n) number c.args.cap
+    (kept-begun v c.self.invariant (event.Match number c.args.from c.args.n c.args.cap 0)
+    (deed.Match number c.args.from c.args.n) number c.args.cap
     (record { posted = λ q is. absurd (let h : ⊥ = cc in h); in_time = λ _ _. refl })
     taken (is_begin_match v number c.args.from c.args.n c.args.cap 0 taken next claimed there)
     (match_takeable v c.self.invariant c.args.from c.args.n taken claimed there))
@@ -86,7 +98,8 @@ returns-clause-sender c =
     let there = claimed_message v c.self.invariant c.args.from c.args.n c.get.result c.get.ensures in
     subst (λ (w : ReceivingView). IfSome taken (λ a. a.env.from < w.sizes.ranks)) c.self.view_is
     (taken_sender v c.self.invariant taken
-    (match_takeable v c.self.invariant c.args.from c.args.n taken (sym c.is_claimed.ensures.value ∙ c.if-prove.false) there))
+    (match_takeable v c.self.invariant c.args.from c.args.n taken (sym c.is_claimed.ensures.value ∙ c.if-prove.false)
+    there))
 
 pub returns-clause-kept : goal.returns-clause-kept
 returns-clause-kept c = λ line.
@@ -95,12 +108,15 @@ returns-clause-kept c = λ line.
     let number = c.len-number.result in
     let w = event.Match number c.args.from c.args.n c.args.cap line in
     let taken : Option Arrival = Some c.get.result.arrival in
-    let next : number ≡ length a.receives.items = omega (arith, c.len-number.ensures, c.reserve.ensures.len, a.receives.ok.0) in
+    let next : number ≡ length a.receives.items =
+    omega (arith, c.len-number.ensures, c.reserve.ensures.len, a.receives.ok.0) in
     let claimed = sym c.is_claimed.ensures.value ∙ c.if-prove.false in
     let there = claimed_message v c.self.invariant c.args.from c.args.n c.get.result c.get.ensures in
-    let same = begun_same v (deed.Match number c.args.from c.args.n) c.args.cap taken c.take_claimed.new.self c.grant_taken.new.grants.grants
+    let same = begun_same v (deed.Match number c.args.from c.args.n) c.args.cap taken c.take_claimed.new.self
+    c.grant_taken.new.grants.grants
     c.grant_taken.new.receipts.rows c.push_reserved.new.self.items c.in_ok-take_claimed.ensures.ok
-    (c.grant_taken.ensures.grants ∙ ap (λ gs. grants_with gs taken) c.reserve-2.ensures.same) c.grant_taken.ensures.receipts
+    (c.grant_taken.ensures.grants ∙ ap (λ gs. grants_with gs taken) c.reserve-2.ensures.same)
+    c.grant_taken.ensures.receipts
     (c.push_reserved.ensures.items ∙ ap (λ (rs : List Receive). rs ++ c.new.result ∷ []) c.reserve.ensures.items
     ∙ ap (λ (r : Receive). a.receives.items ++ r ∷ []) c.new.ensures) in
     let takeable = match_takeable v c.self.invariant c.args.from c.args.n taken claimed there in

@@ -10,13 +10,16 @@ use Rattle.nm_receiving.proofs.receivings.Receiving.withdraw.Goals as goal
 
 pub withdraw-requires : goal.withdraw-requires
 withdraw-requires c =
-    let below = subst (λ (v : ReceivingView). c.args.n < length (receipts_from v c.args.from)) (sym c.self.view_is) c.requires.came in
+    let below = subst (λ (v : ReceivingView). c.args.n < length (receipts_from v c.args.from))
+    (sym c.self.view_is) c.requires.came in
     record { known = message_known (seen c.self.inside) c.self.invariant c.args.from c.args.n below }
 
 pub invariant_of-self : goal.invariant_of-self
 invariant_of-self c =
-    let below = subst (λ (v : ReceivingView). c.args.n < length (receipts_from v c.args.from)) (sym c.self.view_is) c.requires.came in
-    kept-withdrawn_if (seen c.self.inside) c.self.invariant c.args.from c.args.n below c.withdraw.new.self c.withdraw.result
+    let below = subst (λ (v : ReceivingView). c.args.n < length (receipts_from v c.args.from))
+    (sym c.self.view_is) c.requires.came in
+    kept-withdrawn_if (seen c.self.inside) c.self.invariant c.args.from c.args.n below c.withdraw.new.self
+    c.withdraw.result
     c.withdraw.ensures.late c.withdraw.ensures.deeds
 
 pub returns-clause-value : goal.returns-clause-value
@@ -26,7 +29,8 @@ returns-clause-value c = λ h received.
 
 pub returns-clause-kept : goal.returns-clause-kept
 returns-clause-kept c = λ h events happens received.
-    keeps-deeds (seen c.self.inside) (Withdraw c.args.from c.args.n c.withdraw.result) c.withdraw.new.self c.withdraw.ensures.deeds
+    keeps-deeds (seen c.self.inside) (Withdraw c.args.from c.args.n c.withdraw.result) c.withdraw.new.self
+    c.withdraw.ensures.deeds
     refl refl refl (λ _ _. refl) (λ _. refl) h events happens
     (subst (λ (v : ReceivingView). AreReceived v h) (sym c.self.view_is) received)
 

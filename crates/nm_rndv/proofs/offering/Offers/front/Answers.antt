@@ -3,8 +3,8 @@ use Rattle.nm_rndv.specs.Offers.{Offering, leaves}
 use Rattle.nm_rndv.proofs.KeptLemmas.{all_out}
 use Rattle.nm_rndv.proofs.StateLemmas.{leaving_within}
 use Rattle.nm_rndv.proofs.Places.{find-first, passes_there}
-use Rattle.nm_rndv.proofs.Results.{if_some}
 use Rattle.nm_rndv.proofs.offering.Offers.front.Goals as goal
+use Rattle.nm_facts.proofs.Options.{if_each}
 
 pub returns-clause-first : goal.returns-clause-first
 returns-clause-first c =
@@ -19,7 +19,7 @@ returns-clause-leaves c =
     let a = c.self.inside in
     let is : c.message_at.result ≡ slice_get a.order.items a.first =
     c.message_at.ensures ∙ ap (λ es. slice_get es a.first) c.deref.ensures.value in
-    if_some (λ m. leaves c.args.self.now.destinations m ≡ true) c.message_at.result
+    if_each (λ m. leaves c.args.self.now.destinations m ≡ true) c.message_at.result
     (λ m e. ap (λ (v : Offering). leaves v.destinations m) (sym c.self.view_is)
     ∙ passes_there (leaves a.destinations.items) a.order.items a.first m c.self.invariant.first_is (sym is ∙ e))
 
@@ -28,7 +28,7 @@ returns-clause-in_range c =
     let a = c.self.inside in
     let is : c.message_at.result ≡ slice_get a.order.items a.first =
     c.message_at.ensures ∙ ap (λ es. slice_get es a.first) c.deref.ensures.value in
-    if_some (λ m. m.0 < length c.args.self.now.destinations) c.message_at.result
+    if_each (λ m. m.0 < length c.args.self.now.destinations) c.message_at.result
     (λ m e. leaving_within c.args.self.now.destinations m
     (ap (λ (v : Offering). leaves v.destinations m) (sym c.self.view_is)
     ∙ passes_there (leaves a.destinations.items) a.order.items a.first m c.self.invariant.first_is

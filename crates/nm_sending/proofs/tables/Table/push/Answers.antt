@@ -1,13 +1,13 @@
 -- One element more in a row.
 use Rattle.std.proofs.Common.{◌≡◌, ℕ, ◌+◌, ◌<◌, List, [], ◌∷◌, ◌++◌, length, map, max, sym, ◌∙◌, ap}
 use Rattle.std.proofs.Common.{subst, Vec, Global, rules}
-use Rattle.std.proofs.lemmas.List.{length-append, length-map}
+use Rattle.std.proofs.lemmas.List.{length-append}
 use Rattle.std.proofs.Math.ListN.{set}
 use Rattle.nm_sending.specs.declared.departures.Departure.{Departure}
 use Rattle.nm_sending.specs.Departures.{IsMost, TableView, row_of}
 use Rattle.nm_sending.proofs.MostLemmas.{most-push}
-use Rattle.nm_sending.proofs.RowLemmas.{row-push, row_at, row_inside}
 use Rattle.nm_sending.proofs.tables.Table.push.Goals as goal
+use Rattle.nm_facts.proofs.Rows.{row-push, row_at, row_inside}
 
 pub returns : goal.returns
 returns c =

@@ -4,8 +4,9 @@ use Rattle.std.specs.Vec.{with_item}
 use Rattle.nm_sending.specs.declared.departures.Departure.{Departure}
 use Rattle.nm_sending.specs.Departures.{IsMost, TableView}
 use Rattle.nm_sending.proofs.MostLemmas.{most-set}
-use Rattle.nm_sending.proofs.RowLemmas.{row-set, row_inside}
+use Rattle.nm_sending.proofs.RowLemmas.{row-set}
 use Rattle.nm_sending.proofs.tables.Table.set.Goals as goal
+use Rattle.nm_facts.proofs.Rows.{row_inside}
 
 pub returns : goal.returns
 returns c =

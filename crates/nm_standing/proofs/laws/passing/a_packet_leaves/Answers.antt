@@ -5,13 +5,13 @@ use Rattle.nm_history.specs.Sends.{sent_body}
 use Rattle.nm_standing.proofs.laws.passing.a_packet_leaves.Goals as goal
 
 pub returns : goal.returns
-returns c shape lines i v v' past letter first notes popped same eager takes requests is =
+returns c shape lines i v v' past letter first pops is =
     let commands = commands_of i lines in
     let bodies = sent_body commands in
     record {
-      me = takes.me ∙ is.me;
+      me = pops.takes.me ∙ is.me;
       logged = c.a_packet_leaves.ensures shape.eager bodies commands v v' past.log past.given is.logged
-          eager notes takes requests;
-      left = λ to within. c.packets_leave.ensures bodies v v' to letter (past.left to) first notes
-          popped same takes (is.left to within);
+          pops;
+      left = λ to within. c.packets_leave.ensures bodies v v' to letter (past.left to) first pops
+          (is.left to within);
     }

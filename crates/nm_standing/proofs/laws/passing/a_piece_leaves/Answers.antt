@@ -5,13 +5,13 @@ use Rattle.nm_history.specs.Sends.{sent_body}
 use Rattle.nm_standing.proofs.laws.passing.a_piece_leaves.Goals as goal
 
 pub returns : goal.returns
-returns c shape lines i v v' past piece next own number notes in_turn popped takes outbox requests is =
+returns c shape lines i v v' past piece next own number pops is =
     let commands = commands_of i lines in
     let bodies = sent_body commands in
     record {
-      me = takes.me ∙ is.me;
+      me = pops.takes.me ∙ is.me;
       logged = c.a_piece_leaves.ensures shape.eager bodies commands v v' past.log past.given is.logged
-          in_turn notes takes requests;
+          pops;
       left = λ to within. c.pieces_leave.ensures bodies v v' to piece (past.left to) next own number
-          notes popped takes outbox (is.left to within);
+          pops (is.left to within);
     }

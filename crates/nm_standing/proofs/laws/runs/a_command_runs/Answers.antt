@@ -38,11 +38,11 @@ use Rattle.nm_rank.specs.declared.answers.Cancelled.{Cancelled}
 use Rattle.nm_rank.specs.declared.answers.Cancelled.TheVariants as cancelled
 use Rattle.nm_rank.specs.Calls.{Starts}
 use Rattle.nm_rank.specs.Ranks.{RankView, request_of}
-use Rattle.nm_outgoing.specs.Left.{IsLeft}
-use Rattle.nm_log.specs.Logged.{IsLogged}
+use Rattle.nm_rank_outgoing.specs.Left.{IsLeft}
+use Rattle.nm_rank_log.specs.Logged.{IsLogged}
 use Rattle.nm_rank.specs.Requests.{IsResult, cancel_answer, cancel_events}
-use Rattle.nm_log.specs.Calls.{AnswersLogged, Finishes, ShowsLogged, given_after}
-use Rattle.nm_log.specs.Moments.{acted}
+use Rattle.nm_rank_log.specs.Calls.{AnswersLogged, Finishes, ShowsLogged, given_after}
+use Rattle.nm_rank_log.specs.Moments.{acted}
 use Rattle.nm_process.specs.declared.steps.Step.TheVariants.{Ran as Took}
 use Rattle.nm_process.specs.Places.{IsNext}
 use Rattle.nm_process.specs.Processes.{ProcessView}

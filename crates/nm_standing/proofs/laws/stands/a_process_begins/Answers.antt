@@ -2,9 +2,9 @@
 use Rattle.nm_standing.proofs.laws.stands.a_process_begins.Goals as goal
 
 pub returns : goal.returns
-returns c shape lines i v work me new sent =
-    let rank = c.new_ranks_stand.ensures.stands shape lines i v.rank me new sent in
+returns c shape lines i v work new =
+    let rank = c.new_ranks_stand.ensures.stands shape lines i v.rank new in
     record {
       work = work;
-      rank = record { me = me; logged = rank.logged; left = rank.left };
+      rank = record { me = new.me; logged = rank.logged; left = rank.left };
     }

@@ -24,5 +24,10 @@ returns-in_default c =
     let is = rw c.as_slice-size.ensures.value at c.continues_own.ensures in
     record {
       value = λ h _. is ∙ sym (at h p c.if-packet-ge-WORN.false own);
-      continued = λ yes. record { eager = c.args.eager; history = []; continued = at [] p c.if-packet-ge-WORN.false own ∙ sym is ∙ yes };
+      continued = λ yes. record {
+        eager = c.args.eager;
+        history = [];
+        continued = at [] p c.if-packet-ge-WORN.false
+            own ∙ sym is ∙ yes;
+      };
     }

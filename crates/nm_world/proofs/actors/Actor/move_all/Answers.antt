@@ -5,12 +5,11 @@ use Rattle.nm_cells.specs.declared.port.Fabric.{Fabric}
 use Rattle.nm_copyring.specs.declared.port.Rings.{Rings}
 use Rattle.nm_rank.specs.Ranks.{IsFresh}
 use Rattle.nm_process.specs.Processes.{ProcessView}
-use Rattle.nm_world.specs.declared.actors.Actor.{Actor}
 use Rattle.nm_world.specs.Actors.{Kept, Setting, Stands, did}
 use Rattle.nm_world.proofs.Did.{kept_and}
-use Rattle.nm_world.proofs.Idle.{neither}
 use Rattle.nm_world.proofs.Turn.{turn_idle, turn_looked}
 use Rattle.nm_world.proofs.actors.Actor.move_all.Goals as goal
+use Rattle.nm_facts.proofs.Truth.{neither}
 
 pub send_all-sent-requires : goal.send_all-sent-requires
 send_all-sent-requires g c =

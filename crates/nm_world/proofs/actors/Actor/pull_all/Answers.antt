@@ -1,13 +1,13 @@
 -- Each rank's pieces go on from those of the one before.
-use Rattle.std.proofs.Common.{◌≡◌, ◌<◌, ◌≤◌, suc, ◌∙◌, subst, sym, refl, arith}
+use Rattle.std.proofs.Common.{◌≡◌, ◌<◌, ◌≤◌, ◌∙◌, subst, sym, arith}
 use native.Mathlib.Decide.{ℕ_discrete}
 use Rattle.nm_rank.specs.Ranks.{IsFresh}
 use Rattle.nm_process.specs.Processes.{ProcessView}
-use Rattle.nm_world.specs.Idle.{NoPiece}
 use Rattle.nm_world.proofs.Did.{did_on, did_same}
 use Rattle.nm_world.proofs.Grows.{kept_on, kept_same}
-use Rattle.nm_world.proofs.Idle.{more_none, neither, stepped_none, stepped_on}
+use Rattle.nm_world.proofs.Idle.{more_none, stepped_none, stepped_on}
 use Rattle.nm_world.proofs.actors.Actor.pull_all.Goals as goal
+use Rattle.nm_facts.proofs.Truth.{neither}
 
 pub loop-sender-init : goal.loop-sender-init
 loop-sender-init g c = record {

@@ -30,7 +30,8 @@ returns-in-Ok g c =
     let due = c.requires.1.1.0 in
     let on = c.a_piece_is_taken.ensures shape g.here.lines a.port.rank a.process.rank v.rank s.past q
     (omega (arith, own, sender, ranks))
-    (subst (λ (k : ℕ). drawn_from a.process.rank.receiving k < length (due_pieces a.process.rank.events k)) (sym own) due)
+    (subst (λ (k : ℕ). drawn_from a.process.rank.receiving k < length (due_pieces a.process.rank.events k))
+    (sym own) due)
     c.in-Ok.ensures.taken s.is.standing.rank in
     let n = g.here.fabric.ranks in
     let wide = s.is.rings.1.2 in

@@ -31,7 +31,7 @@ returns-then-not-is_piece_due g c =
       stepped = stepped_none a;
       none = λ none fresh due. absurd (isnt_below (drawn_from a.process.rank.receiving c.args.sender)
           (length (due_pieces a.process.rank.events c.args.sender))
-          (sym c.is_piece_due.ensures ∙ c.if-not-is_piece_due.true) due);
+          (sym (rw c.rank-rank.ensures at c.is_piece_due.ensures) ∙ c.if-not-is_piece_due.true) due);
     }
 
 pub returns-then-is_worn : goal.returns-then-is_worn
@@ -41,7 +41,8 @@ returns-then-is_worn g c =
       kept = kept_same g.here.lines g.here.fabric c.args.r.now a c.requires.0;
       moved = did_same g.here.fabric.ranks a;
       stepped = stepped_none a;
-      none = λ none fresh. absurd (clash (sym c.if-is_worn.true ∙ c.is_worn.ensures.1 fresh));
+      none = λ none fresh. absurd
+          (clash (sym c.if-is_worn.true ∙ (rw c.rank-rank.ensures at c.is_worn.ensures).1 fresh));
     }
 
 pub returns-then-not-pullable : goal.returns-then-not-pullable
@@ -53,13 +54,14 @@ returns-then-not-pullable g c =
     let done = ring_missed g.here.lines g.here.fabric c.args.r.now a c.pullable.new.port one_empty c.args.sender s
     c.pullable.ensures.owns.0 c.pullable.ensures.owns.1 (omega (arith, sender, wide)) empty_up (λ l. (refl, refl))
     (c.pullable.ensures.empty c.if-not-pullable.true) in
-    let fresh = c.is_worn.ensures.0 c.if-is_worn.false in
+    let fresh = (rw c.rank-rank.ensures at c.is_worn.ensures).0 c.if-is_worn.false in
     let b : Actor = record a { ring = c.pullable.new.port } in
     record {
       kept = done.0;
       moved = done.1;
       stepped = stepped_fresh false a b fresh refl (λ none. refl);
-      none = λ none fresh. no_piece a b c.args.sender (omega (arith, sender, wide)) (c.pullable.ensures.empty c.if-not-pullable.true);
+      none = λ none fresh. no_piece a b c.args.sender (omega (arith, sender, wide))
+          (c.pullable.ensures.empty c.if-not-pullable.true);
     }
 
 pub pull_due-requires : goal.pull_due-requires
@@ -73,8 +75,8 @@ pull_due-requires g c =
         (
           is_below (drawn_from a.process.rank.receiving c.args.sender)
               (length (due_pieces a.process.rank.events c.args.sender))
-              (sym c.is_piece_due.ensures ∙ c.if-not-is_piece_due.false),
-          c.is_worn.ensures.0 c.if-is_worn.false,
+              (sym (rw c.rank-rank.ensures at c.is_piece_due.ensures) ∙ c.if-not-is_piece_due.false),
+          (rw c.rank-rank.ensures at c.is_worn.ensures).0 c.if-is_worn.false,
         ),
       ),
     )
@@ -90,10 +92,12 @@ returns g c =
     let d = c.pull_due.new.self in
     let e = c.pull_due.ensures in
     let n = g.here.fabric.ranks in
-    let fresh = c.is_worn.ensures.0 c.if-is_worn.false in
+    let fresh = (rw c.rank-rank.ensures at c.is_worn.ensures).0 c.if-is_worn.false in
     record {
-      kept = IfOk-weaker c.pull_due.result _ _ (λ _ is. kept_on g.here.lines g.here.fabric c.args.r.now a b d looked.0 is) e.kept;
-      moved = did_then c.pull_due.result n g.here.lines g.here.fabric c.args.r.now a b d looked.0 looked.1 e.kept e.moved;
+      kept = IfOk-weaker c.pull_due.result _ _
+          (λ _ is. kept_on g.here.lines g.here.fabric c.args.r.now a b d looked.0 is) e.kept;
+      moved = did_then c.pull_due.result n g.here.lines g.here.fabric c.args.r.now a b d looked.0 looked.1 e.kept
+          e.moved;
       stepped = IfOk-weaker c.pull_due.result _ _ (λ m is. stepped_fresh m a d fresh is.at is.still) e.stepped;
       none = IfOk-weaker c.pull_due.result _ _ (λ m is none fresh due. subst
           (λ (x : ring_entry.Entry). (lane x c.args.sender).empty < ring.empty_from d.ring c.args.sender) knew

@@ -8,13 +8,16 @@ use Rattle.nm_world.proofs.Results.{clash}
 use Rattle.nm_world.proofs.actors.Actor.pull_some.Goals as goal
 
 pub loop-pulled-init : goal.loop-pulled-init
-loop-pulled-init g c = loop_none g.here.fabric.ranks g.here.lines g.here.fabric c.args.r.now c.args.self.now c.requires.0
+loop-pulled-init g c = loop_none g.here.fabric.ranks g.here.lines g.here.fabric c.args.r.now c.args.self.now
+    c.requires.0
 
 pub loop-pulled-preserved : goal.loop-pulled-preserved
 loop-pulled-preserved g c =
     let e = c.in_ok-pull_next.ensures in
-    loop_more g.here.fabric.ranks g.here.lines g.here.fabric c.args.r.now c.args.self.now c.loop-pulled.pulled c.loop-pulled.self
-    c.pull_next.new.self c.in_ok-pull_next.field-0 c.if-not-branch.false c.loop-pulled.invariant e.kept e.moved e.stepped
+    loop_more g.here.fabric.ranks g.here.lines g.here.fabric c.args.r.now c.args.self.now c.loop-pulled.pulled
+    c.loop-pulled.self
+    c.pull_next.new.self c.in_ok-pull_next.field-0 c.if-not-branch.false c.loop-pulled.invariant e.kept e.moved
+    e.stepped
 
 pub returns-then-not-branch : goal.returns-then-not-branch
 returns-then-not-branch g c =
@@ -22,7 +25,8 @@ returns-then-not-branch g c =
     let a = c.args.self.now in
     let b = c.loop-pulled.self in
     let d = c.pull_next.new.self in
-    let done = loop_last g.here.fabric.ranks g.here.lines g.here.fabric c.args.r.now a c.loop-pulled.pulled b d c.in_ok-pull_next.field-0
+    let done = loop_last g.here.fabric.ranks g.here.lines g.here.fabric c.args.r.now a c.loop-pulled.pulled b d
+    c.in_ok-pull_next.field-0
     c.if-not-branch.true c.loop-pulled.invariant e.kept e.moved e.stepped in
     record {
       kept = done.kept;

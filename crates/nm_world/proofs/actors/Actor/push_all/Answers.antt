@@ -13,7 +13,8 @@ loop-pushed-init g c = loop_none g.here.fabric.ranks g.here.lines g.here.fabric 
 pub loop-pushed-preserved : goal.loop-pushed-preserved
 loop-pushed-preserved g c =
     let e = c.push_next.ensures in
-    loop_more g.here.fabric.ranks g.here.lines g.here.fabric c.args.r.now c.args.self.now c.loop-pushed.pushed c.loop-pushed.self c.push_next.new.self
+    loop_more g.here.fabric.ranks g.here.lines g.here.fabric c.args.r.now c.args.self.now c.loop-pushed.pushed
+    c.loop-pushed.self c.push_next.new.self
     c.push_next.result c.if-not-push_next.false c.loop-pushed.invariant e.kept e.moved e.stepped
 
 pub returns-then-not-push_next : goal.returns-then-not-push_next
@@ -21,7 +22,8 @@ returns-then-not-push_next g c =
     let e = c.push_next.ensures in
     let a = c.args.self.now in
     let d = c.push_next.new.self in
-    let done = loop_last g.here.fabric.ranks g.here.lines g.here.fabric c.args.r.now a c.loop-pushed.pushed c.loop-pushed.self d c.push_next.result
+    let done = loop_last g.here.fabric.ranks g.here.lines g.here.fabric c.args.r.now a c.loop-pushed.pushed
+    c.loop-pushed.self d c.push_next.result
     c.if-not-push_next.true c.loop-pushed.invariant e.kept e.moved e.stepped in
     record {
       kept = done.kept;

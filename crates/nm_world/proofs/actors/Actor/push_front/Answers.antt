@@ -22,11 +22,13 @@ returns g c =
     let s = c.requires.0 in
     let a = c.args.self.now in
     let v = c.pop_piece.new.self in
-    let i = c.in-Some.ensures in
+    let next = rw c.rank.ensures at c.in-Some.ensures.next in
+    let own = rw c.rank.ensures at c.in-Some.ensures.own in
     let p = c.pop_piece.ensures in
+    let pops = p.pops in
     let to = c.in-Some.to in
     let shape = a.process.rank.sizes in
-    let within = i.own.0 in
+    let within = own.0 in
     let ranks = s.is.ranks.1 in
     let knew : ring.knows c.pushed.new.port ≡ with_lane (one_pushed c.in-Some.piece) to (ring.knows a.ring) =
     at_ok c.pushed.result
@@ -35,14 +37,13 @@ returns g c =
     (λ x is. is) c.pushed.ensures.pushed (sym c.is_err.ensures.value ∙ c.if-is_err.false) in
     let work = p.work shape g.here.lines s.is.standing.work in
     let on = c.a_piece_leaves.ensures shape g.here.lines a.port.rank a.process.rank v.rank s.past
-    (to, c.in-Some.piece) i.next i.own.1 i.own.2 p.left p.in_turn p.popped p.takes.0 p.takes.2 p.takes.3
-    s.is.standing.rank in
+    (to, c.in-Some.piece) next own.1 own.2 pops s.is.standing.rank in
     let n = g.here.fabric.ranks in
     let low : to < c.args.r.now.ranks = omega (arith, within, ranks) in
     let wide = s.is.rings.1.2 in
     let b : Actor = record { process = v; port = a.port; ring = c.pushed.new.port } in
     let grows : Grows a b = record {
-      events = (_, p.left.events);
+      events = (_, pops.left.events);
       port = port_same a.port;
       ring = ring_up a.ring c.pushed.new.port (one_pushed c.in-Some.piece) to (omega (arith, low, wide))
           (pushed_up c.in-Some.piece) knew;
@@ -57,7 +58,7 @@ returns g c =
           (omega (arith, low, wide)) knew));
       kept = record {
         grows = grows;
-        seat = seat_is a v a.port.rank refl p.takes.0.sizes;
+        seat = seat_is a v a.port.rank refl pops.takes.sizes;
         stands = push_on g.here.lines g.here.fabric c.args.r.now a v c.pushed.new.port to
             c.in-Some.piece _ s c.pushed.ensures.owns.0 c.pushed.ensures.owns.1 low knew work on;
       };
@@ -71,7 +72,7 @@ returns-in_default g c =
       moved = did_same g.here.fabric.ranks a;
       stepped = stepped_none a;
       back = λ none. subst (λ (o : Option Offered). IfSome o (λ o. full_to a.ring o.to < full_to a.ring o.to))
-          c.in_default.ensures.next tt;
+          (rw c.rank.ensures at c.in_default.ensures.next) tt;
     }
 
 pub returns-then-is_err : goal.returns-then-is_err
@@ -79,7 +80,8 @@ returns-then-is_err g c =
     let s = c.requires.0 in
     let a = c.args.self.now in
     let to = c.in-Some.to in
-    let within = c.in-Some.ensures.own.0 in
+    let own = rw c.rank.ensures at c.in-Some.ensures.own in
+    let within = own.0 in
     let ranks = s.is.ranks.1 in
     let wide = s.is.rings.1.2 in
     let low : to < length (ring.knows a.ring).lanes = omega (arith, within, ranks, wide) in
@@ -95,5 +97,5 @@ returns-then-is_err g c =
       moved = done.1;
       stepped = stepped_fresh false a b fresh refl (λ none. refl);
       back = λ none. piece_back a b (Some (to, c.in-Some.piece)) to c.in-Some.piece refl
-          c.in-Some.ensures.next low knew;
+          (rw c.rank.ensures at c.in-Some.ensures.next) low knew;
     }

@@ -1,23 +1,26 @@
 -- The piece comes behind the others for its receiver.
-use Rattle.std.proofs.Common.{◌<◌, Option, sym, subst, ◌∙◌}
+use Rattle.std.proofs.Common.{◌<◌, false, sym, refl, ◌∙◌, subst, arith, length}
 use Rattle.std.specs.Prelude.{IfSome}
-use Rattle.nm_rndv.specs.Offers.{Offered}
-use Rattle.nm_copyring.specs.Ports.{full_to}
-use Rattle.nm_world.proofs.Did.{did_same}
-use Rattle.nm_world.proofs.Grows.{kept_same}
-use Rattle.nm_world.proofs.Idle.{stepped_none}
+use Rattle.nm_rndv.specs.Offers.{next_offered}
+use Rattle.nm_copyring.specs.Plays.{one_full}
+use Rattle.nm_copyring.specs.Ports as ring
+use Rattle.nm_copyring.specs.Rule.{lane}
+use Rattle.nm_copyring.specs.declared.table.Entry as ring_entry
+use Rattle.nm_world.specs.declared.actors.Actor.{Actor}
+use Rattle.nm_world.proofs.Did.{did_on, did_same, ring_looked, ring_missed}
+use Rattle.nm_world.proofs.Grows.{full_up, kept_on, kept_same}
+use Rattle.nm_world.proofs.Idle.{none_back, place_full, stepped_fresh, stepped_none}
 use Rattle.nm_world.proofs.Results.{clash}
 use Rattle.nm_world.proofs.actors.Actor.push_next.Goals as goal
 
-pub returns-then-not-has_piece : goal.returns-then-not-has_piece
-returns-then-not-has_piece g c =
+pub returns-in_default : goal.returns-in_default
+returns-in_default g c =
     let a = c.args.self.now in
     record {
       kept = kept_same g.here.lines g.here.fabric c.args.r.now a c.requires;
       moved = did_same g.here.fabric.ranks a;
       stepped = stepped_none a;
-      back = λ none fresh. subst (λ (o : Option Offered). IfSome o (λ o. full_to a.ring o.to < full_to a.ring o.to))
-          (sym (c.has_piece.ensures.none c.if-not-has_piece.true)) tt;
+      back = λ none fresh. none_back a (rw c.rank-rank.ensures at c.in_default.ensures.to);
     }
 
 pub returns-then-is_worn : goal.returns-then-is_worn
@@ -27,5 +30,54 @@ returns-then-is_worn g c =
       kept = kept_same g.here.lines g.here.fabric c.args.r.now a c.requires;
       moved = did_same g.here.fabric.ranks a;
       stepped = stepped_none a;
-      back = λ none fresh. absurd (clash (sym c.if-is_worn.true ∙ c.is_worn.ensures.1 fresh));
+      back = λ none fresh. absurd (clash (sym c.if-is_worn.true
+          ∙ (rw c.rank-rank.ensures at c.is_worn.ensures).1 fresh));
+    }
+
+pub returns-then-not-pushable : goal.returns-then-not-pushable
+returns-then-not-pushable g c =
+    let s = c.requires in
+    let a = c.args.self.now in
+    let to = c.in-Some.to in
+    let within = rw c.rank-rank.ensures at c.in-Some.ensures.in_range in
+    let ranks = s.is.ranks.1 in
+    let wide = s.is.rings.1.2 in
+    let low : to < length (ring.knows a.ring).lanes = omega (arith, within, ranks, wide) in
+    let knew = c.pushable.ensures.full c.if-not-pushable.true in
+    let done = ring_missed g.here.lines g.here.fabric c.args.r.now a c.pushable.new.port one_full to s
+    c.pushable.ensures.owns.0 c.pushable.ensures.owns.1 low full_up (λ l. (refl, refl)) knew in
+    let fresh = (rw c.rank-rank.ensures at c.is_worn.ensures).0 c.if-is_worn.false in
+    let b : Actor = record a { ring = c.pushable.new.port } in
+    record {
+      kept = done.0;
+      moved = done.1;
+      stepped = stepped_fresh false a b fresh refl (λ none. refl);
+      back = λ none fresh. place_full a b to (rw c.rank-rank.ensures at c.in-Some.ensures.to) low knew;
+    }
+
+pub push_front-requires : goal.push_front-requires
+push_front-requires g c =
+    let a = c.args.self.now in
+    let looked = ring_looked g.here.lines g.here.fabric c.args.r.now a c.pushable.new.port c.requires
+    c.pushable.ensures.owns.0 c.pushable.ensures.owns.1 (c.pushable.ensures.free c.if-not-pushable.false) in
+    (looked.0.stands, (rw c.rank-rank.ensures at c.is_worn.ensures).0 c.if-is_worn.false)
+
+pub returns : goal.returns
+returns g c =
+    let a = c.args.self.now in
+    let port = c.pushable.new.port in
+    let knew = c.pushable.ensures.free c.if-not-pushable.false in
+    let looked = ring_looked g.here.lines g.here.fabric c.args.r.now a port c.requires
+    c.pushable.ensures.owns.0 c.pushable.ensures.owns.1 knew in
+    let b : Actor = record a { ring = port } in
+    let d = c.push_front.new.self in
+    let e = c.push_front.ensures in
+    let fresh = (rw c.rank-rank.ensures at c.is_worn.ensures).0 c.if-is_worn.false in
+    record {
+      kept = kept_on g.here.lines g.here.fabric c.args.r.now a b d looked.0 e.kept;
+      moved = did_on g.here.fabric.ranks a b d false c.push_front.result looked.0.grows e.kept.grows looked.1 e.moved;
+      stepped = stepped_fresh c.push_front.result a d fresh e.stepped.at e.stepped.still;
+      back = λ none fresh. subst
+          (λ (x : ring_entry.Entry). IfSome (next_offered a.process.rank.sending.offers)
+          (λ o. (lane x o.to).full < ring.full_to d.ring o.to)) knew (e.back none);
     }

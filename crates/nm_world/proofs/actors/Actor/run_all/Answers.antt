@@ -1,5 +1,5 @@
 -- Each command goes on from the one before.
-use Rattle.std.proofs.Common.{◌≡◌, ◌+◌, ◌||◌, Bool, List, true, false, refl, sym, ap, ◌∙◌, subst, arith}
+use Rattle.std.proofs.Common.{◌≡◌, ◌+◌, ◌||◌, List, true, false, refl, sym, ap, ◌∙◌, subst, arith}
 use Rattle.std.specs.Prelude.{nat_lt}
 use Rattle.nm_rank.specs.Ranks.{IsFresh}
 use Rattle.nm_process.specs.Processes.{ProcessView}
@@ -12,11 +12,11 @@ use Rattle.nm_world.specs.Actors.{Kept, Stands, did}
 use Rattle.nm_world.specs.Looks.{PolledBefore}
 use Rattle.nm_world.proofs.Did.{did_same, kept_and}
 use Rattle.nm_world.proofs.Grows.{kept_same}
-use Rattle.nm_world.proofs.Idle.{neither}
 use Rattle.nm_world.proofs.Looks.{looked_last, looked_more, looked_none}
-use Rattle.nm_world.proofs.Loops.{all_made, is_first, none_ran, or_swap, or_true, some_more, stays_worn}
+use Rattle.nm_world.proofs.Loops.{all_made, is_first, none_ran, or_swap, some_more, stays_worn}
 use Rattle.nm_world.proofs.Results.{clash}
 use Rattle.nm_world.proofs.actors.Actor.run_all.Goals as goal
+use Rattle.nm_facts.proofs.Truth.{or_right, neither}
 
 pub loop-ran-init : goal.loop-ran-init
 loop-ran-init g c =
@@ -64,9 +64,9 @@ loop-ran-preserved g c =
     let all = kept_and f.ranks lines f r a m d _ c.in_ok-run_next.field-0 both.0 three.kept both.1 three.moved in
     record {
       kept = all.0;
-      moved = or_true (c.loop-ran.took || c.in_ok-looked.looked) (nat_lt 0 (c.loop-ran.ran + 1))
+      moved = or_right (c.loop-ran.took || c.in_ok-looked.looked) (nat_lt 0 (c.loop-ran.ran + 1))
           (some_more c.loop-ran.ran)
-          ∙ sym (or_true ((c.loop-ran.took || nat_lt 0 c.loop-ran.ran) || c.in_ok-looked.looked)
+          ∙ sym (or_right ((c.loop-ran.took || nat_lt 0 c.loop-ran.ran) || c.in_ok-looked.looked)
           c.in_ok-run_next.field-0 c.if-not-branch.false) ∙ all.1;
       first = λ e. absurd (omega (arith, e));
       polled = looked_more lines f r a b m d c.requires.1.0 one.kept two_kept three.kept two.stepped.at one.polled
@@ -118,7 +118,7 @@ returns g c =
     let some = all_made c.loop-ran.ran 64 c.loop-ran-test.false (omega arith) in
     record {
       kept = i.kept;
-      moved = sym (or_true c.loop-ran.took (nat_lt 0 c.loop-ran.ran) some) ∙ i.moved;
+      moved = sym (or_right c.loop-ran.took (nat_lt 0 c.loop-ran.ran) some) ∙ i.moved;
       still = λ none. absurd (clash none);
       stuck = λ none fresh. absurd (clash none);
       polled = i.polled;

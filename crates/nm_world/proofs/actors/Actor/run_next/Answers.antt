@@ -19,7 +19,8 @@ returns-then-is_worn g c =
       moved = did_same g.here.fabric.ranks a;
       ran = λ e. absurd (clash (sym e));
       still = λ none. refl;
-      stuck = λ none fresh. absurd (clash (sym c.if-is_worn.true ∙ c.is_worn.ensures.1 fresh));
+      stuck = λ none fresh. absurd
+          (clash (sym c.if-is_worn.true ∙ (rw c.rank-rank.ensures at c.is_worn.ensures).1 fresh));
     }
 
 pub returns-in-Waits : goal.returns-in-Waits
@@ -51,10 +52,10 @@ returns-in-Ran g c =
     c.in_ok-run_next.ensures.stepped in
     let work = c.in_ok-run_next.ensures.work shape s.is.standing.work in
     let on = c.a_command_runs.ensures shape c.args.lines.now a.port.rank a.process v s.past s.is.in_range
-    c.history.ensures.right s.is.standing stepped in
+    (rw c.rank-rank.ensures at c.history.ensures.right) s.is.standing stepped in
     let b : Actor = record a { process = v } in
     let grows = ran_on g.here.fabric.ranks a b s on refl refl in
-    let fresh = c.is_worn.ensures.0 c.if-is_worn.false in
+    let fresh = (rw c.rank-rank.ensures at c.is_worn.ensures).0 c.if-is_worn.false in
     record {
       ran = λ e. (fresh, stepped);
       still = λ none. absurd (clash none);

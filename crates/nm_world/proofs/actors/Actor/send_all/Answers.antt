@@ -13,7 +13,8 @@ loop-sent-init g c = loop_none c.args.f.now.ranks g.here.lines c.args.f.now g.he
 pub loop-sent-preserved : goal.loop-sent-preserved
 loop-sent-preserved g c =
     let e = c.send_next.ensures in
-    loop_more c.args.f.now.ranks g.here.lines c.args.f.now g.here.rings c.args.self.now c.loop-sent.sent c.loop-sent.self c.send_next.new.self
+    loop_more c.args.f.now.ranks g.here.lines c.args.f.now g.here.rings c.args.self.now c.loop-sent.sent
+    c.loop-sent.self c.send_next.new.self
     c.send_next.result c.if-not-send_next.false c.loop-sent.invariant e.kept e.moved e.stepped
 
 pub returns-then-not-send_next : goal.returns-then-not-send_next
@@ -21,7 +22,8 @@ returns-then-not-send_next g c =
     let e = c.send_next.ensures in
     let a = c.args.self.now in
     let d = c.send_next.new.self in
-    let done = loop_last c.args.f.now.ranks g.here.lines c.args.f.now g.here.rings a c.loop-sent.sent c.loop-sent.self d c.send_next.result
+    let done = loop_last c.args.f.now.ranks g.here.lines c.args.f.now g.here.rings a c.loop-sent.sent c.loop-sent.self
+    d c.send_next.result
     c.if-not-send_next.true c.loop-sent.invariant e.kept e.moved e.stepped in
     record {
       kept = done.kept;

@@ -1,10 +1,10 @@
 -- The packet comes behind the others for its receiver.
-use Rattle.std.proofs.Common.{◌≡◌, ℕ, true, Option, List, sym, ap, subst, ◌∙◌, arith, refl}
+use Rattle.std.proofs.Common.{◌≡◌, ℕ, true, not, Option, List, sym, ap, subst, ◌∙◌, arith, refl}
 use Rattle.nm_types.specs.declared.packets.Packet.{Packet}
 use Rattle.nm_cells.specs.Ports.{knows}
 use Rattle.nm_port.specs.Polls.{count_held}
 use Rattle.nm_port.specs.Sends.{HadMiss, tried}
-use Rattle.nm_log.specs.Moments.{acted}
+use Rattle.nm_rank_log.specs.Moments.{acted}
 use Rattle.nm_sending.specs.Departures.{ended_by}
 use Rattle.nm_sending.specs.Sent.{outs}
 use Rattle.std.specs.Prelude.{false, IfSome, length, slice_get}
@@ -21,9 +21,10 @@ use Rattle.nm_world.proofs.Entries.{entry_on, miss_up, sent_more, sent_up, tried
 use Rattle.nm_world.proofs.Grows.{grows_same, kept_same, port_by, ring_same}
 use Rattle.nm_world.proofs.Idle.{came_back, stepped_fresh, stepped_none}
 use Rattle.nm_world.proofs.Leaves.{SentBy, send_carries, send_on, sent_by_way}
-use Rattle.nm_world.proofs.Results.{at_err, clash, first_letter, none_first}
+use Rattle.nm_world.proofs.Results.{at_none, clash, none_first}
 use Rattle.nm_world.proofs.Steps.{back_got, back_sent, nothing_carried, seat_is}
 use Rattle.nm_world.proofs.actors.Actor.send_next.Goals as goal
+use Rattle.nm_outbox.proofs.LetterLemmas.{first_letter}
 
 pub returns-then-is_worn : goal.returns-then-is_worn
 returns-then-is_worn g c =
@@ -32,7 +33,8 @@ returns-then-is_worn g c =
       kept = kept_same g.here.lines c.args.f.now g.here.rings a c.requires;
       moved = did_same c.args.f.now.ranks a;
       stepped = stepped_none a;
-      back = λ none fresh. absurd (clash (sym c.if-is_worn.true ∙ c.is_worn.ensures.1 fresh));
+      back = λ none fresh. absurd
+          (clash (sym c.if-is_worn.true ∙ (rw c.rank-rank.ensures at c.is_worn.ensures).1 fresh));
     }
 
 pub returns-in_default : goal.returns-in_default
@@ -43,37 +45,40 @@ returns-in_default g c =
       moved = did_same c.args.f.now.ranks a;
       stepped = stepped_none a;
       back = λ none fresh. none_first (slice_get a.process.rank.sending.outbox.letters 0) _
-          (CameBack a.port a.port) c.in_default.ensures.first;
+          (CameBack a.port a.port) (rw c.rank-rank.ensures at c.in_default.ensures.first);
     }
 
-pub returns-then-is_err : goal.returns-then-is_err
-returns-then-is_err g c =
+pub returns-then-is_none : goal.returns-then-is_none
+returns-then-is_none g c =
     let s = c.requires in
     let a = c.args.self.now in
     let port = c.sent.new.port in
     let e = c.sent.ensures in
-    let len : ℕ = length c.copy-packet.result.payload in
+    let len : ℕ = length c.in-Some.packet.now.payload in
     let to = c.in-Some.to in
     let miss : HadMiss false (tried len to (knows a.port)) (knows port) =
-    at_err c.sent.result _ (HadMiss false (tried len to (knows a.port)) (knows port)) (λ x is. is.1) e.back
-    (sym c.is_err.ensures.value ∙ c.if-is_err.true) in
+    at_none c.sent.result (HadMiss false (tried len to (knows a.port)) (knows port)) e.back
+    (c.is_none.ensures ∙ ap not c.if-is_none.true) in
     let n = c.args.f.now.ranks in
-    let fresh = c.is_worn.ensures.0 c.if-is_worn.false in
+    let fresh = (rw c.rank-rank.ensures at c.is_worn.ensures).0 c.if-is_worn.false in
     let letters = a.process.rank.sending.outbox.letters in
-    let first = first_letter (slice_get letters 0) _ to c.in-Some.packet.now (λ none. cc) c.in-Some.ensures.first in
-    let within = c.in-Some.ensures.own.0 in
+    let first = first_letter (slice_get letters 0) _ to c.in-Some.packet.now (λ none. cc)
+    (rw c.rank-rank.ensures at c.in-Some.ensures.first) in
+    let own = rw c.rank-rank.ensures at c.in-Some.ensures.own in
+    let within = own.0 in
     let ranks = s.is.ranks.0 in
     let wide = s.is.cells.2 in
     let there = first.2 in
     record {
       stepped = stepped_fresh false a (record a { port = port }) fresh refl (λ none. refl);
       back = λ none fresh. subst (λ (o : Option Letter). IfSome o (CameBack a.port port)) (sym first.1)
-          (came_back a.port port first.0 len (ap (λ (x : Packet). length x.payload)
-          (c.copy-packet.ensures ∙ first.3)) (omega (arith, within, ranks, wide, there))
+          (came_back a.port port first.0 len (ap (λ (x : Packet). length x.payload) first.3) (omega (arith, within, ranks, wide, there))
           (subst (λ (k : ℕ). HadMiss false (tried len k (knows a.port)) (knows port)) first.2 miss));
       moved = did_none n a (record a { port = port }) refl
-          (λ j. ap (λ (xs : List (ℕ × Load)). sent_to j xs (knows port).put) (back_sent len to (knows a.port) (knows port) miss).box
-          ∙ ap (λ (xs : List (ℕ × Load)). sent_to j (knows a.port).put_box xs) (back_sent len to (knows a.port) (knows port) miss).cell)
+          (λ j. ap (λ (xs : List (ℕ × Load)). sent_to j xs (knows port).put)
+          (back_sent len to (knows a.port) (knows port) miss).box
+          ∙ ap (λ (xs : List (ℕ × Load)). sent_to j (knows a.port).put_box xs)
+          (back_sent len to (knows a.port) (knows port) miss).cell)
           e.taken.0 (λ j. (refl, refl));
       kept = record {
         grows = record {
@@ -99,24 +104,26 @@ returns g c =
     let port = c.sent.new.port in
     let e = c.sent.ensures in
     let p = c.pop_front.ensures in
-    let i = c.in-Some.ensures in
+    let pops = p.pops in
+    let own = rw c.rank-rank.ensures at c.in-Some.ensures.own in
     let to = c.in-Some.to in
-    let packet : Packet = c.copy-packet.result in
+    let packet : Packet = c.in-Some.packet.now in
     let shape = a.process.rank.sizes in
     let letters = a.process.rank.sending.outbox.letters in
-    let first = first_letter (slice_get letters 0) _ to c.in-Some.packet.now (λ none. cc) i.first in
-    let copied : packet ≡ first.0.packet = c.copy-packet.ensures ∙ first.3 in
+    let first = first_letter (slice_get letters 0) _ to c.in-Some.packet.now (λ none. cc)
+    (rw c.rank-rank.ensures at c.in-Some.ensures.first) in
+    let copied : packet ≡ first.0.packet = first.3 in
     let way : SentBy (knows a.port) (knows port) to packet =
     sent_by_way c.sent.result (length packet.payload) to packet (knows a.port) (knows port)
-    (sym c.is_err.ensures.value ∙ c.if-is_err.false) e.by_box e.by_cell in
-    let within = i.own.0 in
+    (c.is_none.ensures ∙ ap not c.if-is_none.false) e.by_box e.by_cell in
+    let within = own.0 in
     let left = s.is.standing.rank.left to within in
-    let number = ap (λ (x : Packet). x.seq) c.copy-packet.ensures ∙ i.own.2 ∙ sym left.packets.popped
+    let number = own.2 ∙ sym left.packets.popped
     ∙ (s.is.sent to within).many in
     let work = p.work shape g.here.lines s.is.standing.work in
     let moment = acted a.process.rank (outs (ended_by (slice_get letters 0))) in
     let on = c.a_packet_leaves.ensures shape g.here.lines a.port.rank a.process.rank v.rank s.past
-    first.0 first.1 p.left p.popped p.same p.eager p.takes.0 p.takes.2 s.is.standing.rank in
+    first.0 first.1 pops s.is.standing.rank in
     let here : IsOf shape g.here.lines a.port.rank v.rank
     (with_moment (with_packet_left s.past (to, packet)) moment) =
     subst (λ (k : ℕ). IsOf shape g.here.lines a.port.rank v.rank
@@ -127,12 +134,12 @@ returns g c =
     let ranks = s.is.ranks.0 in
     let b : Actor = record { process = v; port = port; ring = a.ring } in
     let grows : Grows a b = record {
-      events = (_, p.left.events);
+      events = (_, pops.left.events);
       port = port_by a.port port (sent_up c.sent.result (length packet.payload) to packet (knows a.port)
-          (knows port) (sym c.is_err.ensures.value ∙ c.if-is_err.false) e.by_box e.by_cell) e.taken.0;
+          (knows port) (c.is_none.ensures ∙ ap not c.if-is_none.false) e.by_box e.by_cell) e.taken.0;
       ring = ring_same a.ring;
     } in
-    let fresh = c.is_worn.ensures.0 c.if-is_worn.false in
+    let fresh = (rw c.rank-rank.ensures at c.is_worn.ensures).0 c.if-is_worn.false in
     record {
       stepped = stepped_fresh true a b fresh (ap (λ (x : ProcessView). x.at) p.others) (λ none. absurd (clash none));
       back = λ none fresh. absurd (clash none);
@@ -140,7 +147,7 @@ returns g c =
           (sent to (omega (arith, within, ranks)) (sent_more (knows a.port) (knows port) to packet way));
       kept = record {
         grows = grows;
-        seat = seat_is a v port.rank e.owns.1 p.takes.0.sizes;
+        seat = seat_is a v port.rank e.owns.1 pops.takes.sizes;
         stands = send_on (send_carries c.a_send_carries.ensures.by_box c.a_send_carries.ensures.by_cell)
             g.here.lines c.args.f.now g.here.rings a v port to packet _ s e.owns.0 e.owns.1 e.taken
             e.hands way number work here;

@@ -20,11 +20,14 @@ loop-took-preserved g c =
     let a = c.args.self.now in
     let b = c.loop-took.self in
     let d = c.take_next.new.self in
-    let looped = loop_more c.args.f.now.ranks g.here.lines c.args.f.now g.here.rings c.args.self.now c.loop-took.took c.loop-took.self
-    c.take_next.new.self c.in_ok-take_next.field-0 c.if-not-branch.false c.loop-took.invariant.looped e.kept e.moved e.stepped in
+    let looped = loop_more c.args.f.now.ranks g.here.lines c.args.f.now g.here.rings c.args.self.now c.loop-took.took
+    c.loop-took.self
+    c.take_next.new.self c.in_ok-take_next.field-0 c.if-not-branch.false c.loop-took.invariant.looped e.kept e.moved
+    e.stepped in
     record {
       looped = looped;
-      polled = λ some. polled_by_step g.here.lines c.args.f.now g.here.rings c.args.f.now.ranks a b d c.in_ok-take_next.field-0 c.loop-took.invariant.looped.kept
+      polled = λ some. polled_by_step g.here.lines c.args.f.now g.here.rings c.args.f.now.ranks a b d
+          c.in_ok-take_next.field-0 c.loop-took.invariant.looped.kept
           c.if-not-branch.false e.moved e.polled;
     }
 
@@ -34,7 +37,8 @@ returns-then-not-branch g c =
     let a = c.args.self.now in
     let b = c.loop-took.self in
     let d = c.take_next.new.self in
-    let done = loop_last c.args.f.now.ranks g.here.lines c.args.f.now g.here.rings a c.loop-took.took b d c.in_ok-take_next.field-0
+    let done = loop_last c.args.f.now.ranks g.here.lines c.args.f.now g.here.rings a c.loop-took.took b d
+    c.in_ok-take_next.field-0
     c.if-not-branch.true c.loop-took.invariant.looped e.kept e.moved e.stepped in
     record {
       kept = done.kept;
@@ -43,7 +47,8 @@ returns-then-not-branch g c =
       none = λ none fresh. let same = done.sole none in
           subst (λ (x : Actor). GaveNone x.process.rank.sizes.ranks x.port d.port) same
           (e.none c.if-not-branch.true (subst (λ (x : Actor). IsFresh x.process.rank) (sym same) fresh));
-      polled = polled_last g.here.lines c.args.f.now g.here.rings c.args.f.now.ranks c.loop-took.took a b d c.loop-took.invariant.looped c.loop-took.invariant.polled e.kept.grows e.polled;
+      polled = polled_last g.here.lines c.args.f.now g.here.rings c.args.f.now.ranks c.loop-took.took a b d
+          c.loop-took.invariant.looped c.loop-took.invariant.polled e.kept.grows e.polled;
     }
 
 pub returns : goal.returns

@@ -1,10 +1,11 @@
 -- The packet comes behind the others of its sender.
-use Rattle.std.proofs.Common.{◌≡◌, ◌<◌, ℕ, ◌+◌, List, [], true, false, inl, inr, sym, ap, ◌∙◌, arith, refl}
+use Rattle.std.proofs.Common.{◌≡◌, ◌<◌, ℕ, ◌+◌, List, [], true, false, inl, inr, sym, ap, ◌∙◌, subst, arith, refl}
 use Rattle.nm_rank.specs.Ranks.{IsFresh}
 use Rattle.nm_process.specs.Processes.{ProcessView}
 use Rattle.nm_table.specs.Rule.{Load, sent_to}
 use Rattle.nm_cells.specs.Ports.{knows, taken_by}
-use Rattle.nm_port.specs.Polls.{with_all_missed}
+use Rattle.nm_types.specs.declared.packets.Packet.{Packet}
+use Rattle.nm_port.specs.Polls.{with_all_missed, IsNext, IsGot, Way}
 use Rattle.nm_seats.proofs.UpdateLemmas.{update_here}
 use Rattle.nm_world.specs.declared.actors.Actor.{Actor}
 use Rattle.nm_world.specs.Actors.{Grows, PortGrows}
@@ -21,7 +22,8 @@ use Rattle.nm_world.proofs.actors.Actor.take_next.Goals as goal
 pub returns-then-is_worn : goal.returns-then-is_worn
 returns-then-is_worn g c =
     let a = c.args.self.now in
-    let not : ¬ IsFresh a.process.rank = λ fresh. clash (sym c.if-is_worn.true ∙ c.is_worn.ensures.1 fresh) in
+    let not : ¬ IsFresh a.process.rank = λ fresh. clash
+    (sym c.if-is_worn.true ∙ (rw c.rank-rank.ensures at c.is_worn.ensures).1 fresh) in
     record {
       kept = kept_same g.here.lines c.args.f.now g.here.rings a c.requires;
       moved = did_same c.args.f.now.ranks a;
@@ -30,16 +32,16 @@ returns-then-is_worn g c =
       polled = inr (not, refl);
     }
 
-pub returns-in_default : goal.returns-in_default
-returns-in_default g c =
+pub returns-then-not-polled : goal.returns-then-not-polled
+returns-then-not-polled g c =
     let n = c.args.f.now.ranks in
-    let none = c.in_default.ensures.none in
+    let none = c.if-not-polled.ensures.none refl in
     let s = c.requires in
     let a = c.args.self.now in
     let port = c.polled.new.port in
     let b : Actor = record a { port = port } in
     let sent = none_sent (knows a.port) (knows port) none.0 in
-    let fresh = c.is_worn.ensures.0 c.if-is_worn.false in
+    let fresh = (rw c.rank-rank.ensures at c.is_worn.ensures).0 c.if-is_worn.false in
     let gave = gave_none a.process.rank.sizes.ranks a.port port (s.is.cells.2 ∙ s.is.ranks.0) none.0 in
     let grows : PortGrows a.port port = port_by a.port port (entry_on (knows a.port)
     (with_all_missed (knows a.port)) (knows port) (all_missed_up (knows a.port))
@@ -65,13 +67,18 @@ pub returns-in-Ok : goal.returns-in-Ok
 returns-in-Ok g c =
     let s = c.requires in
     let v = c.take_packet.new.self in
-    let p = c.in-Some.packet in
-    let i = c.in-Some.ensures in
-    let sender = i.next.0.sender in
+    let p : Packet = c.copy.result in
+    let came = c.if-not-polled.ensures in
+    let next = subst (λ (x : Packet). IsNext c.args.f.now c.args.self.now.port c.polled.new.port x
+    × IsGot c.polled.new.port x) (sym c.copy.ensures) (came.next refl) in
+    let way = subst (λ (x : Packet). Way c.args.self.now.port c.polled.new.port x) (sym c.copy.ensures)
+    (came.way refl).0 in
+    let sender = next.0.sender in
     let ranks = s.is.ranks.0 in
     let work = c.in-Ok.ensures.work c.args.self.now.process.rank.sizes g.here.lines s.is.standing.work in
     let on = c.a_packet_is_taken.ensures c.args.self.now.process.rank.sizes g.here.lines
-    c.args.self.now.port.rank c.args.self.now.process.rank v.rank s.past p c.history.ensures.right
+    c.args.self.now.port.rank c.args.self.now.process.rank v.rank s.past p
+    (rw c.rank-rank.ensures at c.history.ensures.right)
     (omega (arith, sender, ranks)) c.in-Ok.ensures.taken s.is.standing.rank in
     let n = c.args.f.now.ranks in
     let a = c.args.self.now in
@@ -80,12 +87,12 @@ returns-in-Ok g c =
     let grows : Grows a b = record {
       events = (_, (c.in-Ok.ensures.taken.happened (λ s. [])).events);
       port = port_took a.port port p.from
-          (polled_up (knows a.port) (knows port) i.way.1 c.polled.ensures.later) i.next.0.taken;
+          (polled_up (knows a.port) (knows port) (came.way refl).1 c.polled.ensures.later) next.0.taken;
       ring = ring_same a.ring;
     } in
-    let more = ap (λ (t : ℕ → ℕ). t p.from) i.next.0.taken
+    let more = ap (λ (t : ℕ → ℕ). t p.from) next.0.taken
     ∙ update_here (taken_by a.port) p.from (taken_by a.port p.from + 1) p.from refl in
-    let fresh = c.is_worn.ensures.0 c.if-is_worn.false in
+    let fresh = (rw c.rank-rank.ensures at c.is_worn.ensures).0 c.if-is_worn.false in
     let up : taken_by a.port p.from < taken_by port p.from = omega (arith, more) in
     record {
       stepped = stepped_fresh true a b fresh (ap (λ (x : ProcessView). x.at) c.in-Ok.ensures.others)
@@ -99,6 +106,6 @@ returns-in-Ok g c =
         seat = seat_is a v port.rank c.polled.ensures.owns.1 c.in-Ok.ensures.taken.sizes;
         stands = take_on c.a_poll_carries.ensures.some g.here.lines c.args.f.now g.here.rings
             a v port p s c.polled.ensures.owns.0 c.polled.ensures.owns.1
-            c.polled.ensures.rest c.polled.ensures.hands i.next.0 i.next.1 i.way.0 i.way.1 work on;
+            c.polled.ensures.rest c.polled.ensures.hands next.0 next.1 way (came.way refl).1 work on;
       };
     }
