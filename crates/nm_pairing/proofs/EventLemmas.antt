@@ -5,7 +5,7 @@ use Rattle.std.proofs.Common.{List, [], ◌∷◌, ◌++◌, get_or, refl, sym, 
 use Rattle.std.specs.Prelude.{OnOk}
 use Rattle.std.specs.List.{All, find, list_any}
 use Rattle.std.specs.Option.{is_some, option_map, option_or, option_to_list}
-use Rattle.std.proofs.Math.Bool.{or-false, and-false, and-true}
+use Rattle.std.proofs.Math.Bool.{or-false, and-true}
 use Rattle.std.proofs.lemmas.Bool.{eqb-true, false≢true, ne_eqb}
 use Rattle.std.proofs.lemmas.List.Elements.{All-push, All-weaker}
 use Rattle.indexmap.specs.IndexMap.{get, Updates}
@@ -15,14 +15,14 @@ use Rattle.nm_types.specs.declared.messages.Arrival.{Arrival}
 use Rattle.nm_types.specs.declared.messages.Post as post
 use Rattle.nm_history.specs.declared.events.Event.{Event}
 use Rattle.nm_history.specs.declared.events.Happened.{Happened}
-use Rattle.nm_history.specs.declared.events.Happened.TheVariants.{Send, Post, Arrive, Whole, Out, Cancel}
-use Rattle.nm_history.specs.declared.events.Happened.TheVariants.{Recall, Withdraw, Undone, Claim, Match, Ran}
+use Rattle.nm_history.specs.declared.events.Happened.TheVariants.{Post, Arrive, Cancel}
+use Rattle.nm_history.specs.declared.events.Happened.TheVariants.{Withdraw, Claim, Match}
 use Rattle.nm_history.specs.declared.plain.Pair.{Pair}
-use Rattle.nm_history.specs.Matching.{first_message, first_receive, is_open, matched_pairs, new_pair, pair_of}
+use Rattle.nm_history.specs.Matching.{first_message, first_receive, is_open, matched_pairs, pair_of}
 use Rattle.nm_history.specs.Matching.{pair_of_claimed}
 use Rattle.nm_history.specs.Selection.{matches}
-use Rattle.nm_history.specs.Sends.{arrival_of, message_of, messages, post_of, posts}
-use Rattle.nm_history.proofs.OnceLemmas.{and_left, and_right, eqb_self, find_among, find_passes, mapped_some}
+use Rattle.nm_history.specs.Sends.{message_of, messages, posts}
+use Rattle.nm_history.proofs.OnceLemmas.{eqb_self, find_among}
 use Rattle.nm_history.proofs.OnceLemmas.{posts-push}
 use Rattle.nm_match.specs.declared.deeds.Deed.{Deed}
 use Rattle.nm_match.specs.Deeds.{is_known_message, is_known_receive, is_message}
@@ -40,6 +40,9 @@ use Rattle.nm_pairing.proofs.HistoryLemmas.{open_arrived, open_left, open_posted
 use Rattle.nm_pairing.proofs.ReplayLemmas.{cond-or, first_free, first_open, follows, is_posted-push}
 use Rattle.nm_pairing.proofs.ReplayLemmas.{is_some-message_of, known-same}
 use Rattle.nm_pairing.proofs.ReplayLemmas.{message_of-push, messages-same, posts-same, quietly}
+use Rattle.nm_facts.proofs.Options.{mapped_none, mapped_some}
+use Rattle.nm_facts.proofs.Lists.{find_passes}
+use Rattle.nm_facts.proofs.Truth.{and_left, and_right}
 
 -- an event that is no deed of a matcher
 abbrev pub is_idle : Happened → Bool
@@ -72,7 +75,7 @@ module _ {h : List Event} {old : Replay} (replays : Replays h old) (new : Replay
       ∙ sym (or-false (is_gone h m.rank m.n))
 
   -- the queues after an event, and those of the matcher
-  in_step : (e : Event) (posted' : List post.Post) (unexpected' : List Arrival) →
+  pub in_step : (e : Event) (posted' : List post.Post) (unexpected' : List Arrival) →
       open_receives (h ++ e ∷ []) ≡ posted' → free_messages (h ++ e ∷ []) ≡ unexpected' →
       Keeps posted' unexpected' (is_posted h) (is_known_message h) new.matcher →
       Keeps (open_receives (h ++ e ∷ [])) (free_messages (h ++ e ∷ [])) (is_posted h) (is_known_message h) new.matcher
@@ -199,10 +202,6 @@ some_or (Some q) false p = refl
 with_none : (o : Option Arrival) → o ≡ option_or o None
 with_none None = refl
 with_none (Some a) = refl
-
-mapped_none : {X Y : Type 0} (f : X → Y) (o : Option X) → option_map f o ≡ None → o ≡ None
-mapped_none f None none = refl
-mapped_none f (Some x) none = absurd (grind arith)
 
 none_of : (o : Option Arrival) → is_some o ≡ false → o ≡ None
 none_of None none = refl
@@ -460,70 +459,3 @@ module _ {h : List Event} {old : Replay} (replays : Replays h old) where
       let first = first_of_number a taken number None told.0 is missing in
       let never : None ≡ Some first.0 = first.2 in
       absurd (grind arith)
-
--- an event that neither posts, brings, pairs, closes nor takes anything
-module _ {h : List Event} {old : Replay} (replays : Replays h old) where
-  quiet_takes : (e : Event) → new_pair h (matched_pairs h) e.what ≡ None → post_of e.what ≡ None →
-      arrival_of e.what ≡ None →
-      ((m : ℕ) → closes e.what [] m ≡ false) → ((i m : ℕ) → takes e.what [] i m ≡ false) → Takes h e None old
-  quiet_takes e no_pair no_post no_arrival closed taken = record {
-    made_is = sym no_pair;
-    replays = quietly replays e [] (ap (λ (o : Option Pair). option_to_list o) no_pair) old no_post no_arrival refl refl
-        (in_step replays old e (open_receives h) (free_messages h)
-        (open_same h e [] (ap (λ (o : Option Pair). option_to_list o) no_pair) no_post
-        (λ k d inside. closed (get_or (open_receives h) k d).number))
-        (free_same h e [] (ap (λ (o : Option Pair). option_to_list o) no_pair) no_arrival
-        (λ k d inside. taken (get_or (free_messages h) k d).env.from (get_or (free_messages h) k d).n)) replays.queues)
-        (λ m. replays.closed m ∙ sym (or-false (is_closed h m)) ∙ ap (λ b. is_closed h m || b) (sym (closed m)))
-        (λ m. replays.gone m ∙ sym (or-false (is_gone h m.rank m.n))
-        ∙ ap (λ b. is_gone h m.rank m.n || b) (sym (taken m.rank m.n)));
-  }
-
-  -- a matched receive of a message that did not come
-  pub match_none_takes : (stamp number from n cap line : ℕ) → message_of h from n ≡ None →
-      Takes h (record { stamp = stamp; what = Match number from n cap line }) None old
-  match_none_takes stamp number from n cap line none =
-      quiet_takes (record { stamp = stamp; what = Match number from n cap line })
-      (ap (λ (o : Option Arrival). option_map (λ a. pair_of_claimed number cap a) o) none) refl refl (λ m. refl)
-      (λ i m. refl)
-
-  -- an event that is none of those of matching, or was late
-  pub other_takes : (stamp : ℕ) (what : Happened) → is_idle what ≡ true →
-      Takes h (record { stamp = stamp; what = what }) None old
-  other_takes stamp (Send to n tag ctx len how line) idle = quiet_takes _ refl refl refl (λ m. refl) (λ i m. refl)
-  other_takes stamp (Post p line) idle = absurd (false≢true idle)
-  other_takes stamp (Arrive a) idle = absurd (false≢true idle)
-  other_takes stamp (Whole from n) idle = quiet_takes _ refl refl refl (λ m. refl) (λ i m. refl)
-  other_takes stamp (Out to n) idle = quiet_takes _ refl refl refl (λ m. refl) (λ i m. refl)
-  other_takes stamp (Cancel number true) idle = absurd (false≢true idle)
-  other_takes stamp (Cancel number false) idle =
-      quiet_takes _ refl refl refl (λ m. and-false (number == m)) (λ i m. refl)
-  other_takes stamp (Recall to n) idle = quiet_takes _ refl refl refl (λ m. refl) (λ i m. refl)
-  other_takes stamp (Withdraw from n true) idle = absurd (false≢true idle)
-  other_takes stamp (Withdraw from n false) idle =
-      quiet_takes _ refl refl refl (λ m. refl) (λ i m. and-false (from == i && n == m))
-  other_takes stamp (Undone to n done) idle = quiet_takes _ refl refl refl (λ m. refl) (λ i m. refl)
-  other_takes stamp (Claim from n line) idle = absurd (false≢true idle)
-  other_takes stamp (Match number from n cap line) idle = absurd (false≢true idle)
-  other_takes stamp (Ran line answer) idle = quiet_takes _ refl refl refl (λ m. refl) (λ i m. refl)
-
--- what is of none of the six kinds of events of matching
-pub other_is_idle : (what : Happened) → ((p : post.Post) (line : ℕ) → what ≡ Post p line → ⊥) →
-    ((a : Arrival) → what ≡ Arrive a → ⊥) → ((number : ℕ) (done : Bool) → what ≡ Cancel number done → ⊥) →
-    ((from n : ℕ) (done : Bool) → what ≡ Withdraw from n done → ⊥) →
-    ((from n line : ℕ) → what ≡ Claim from n line → ⊥) →
-    ((number from n cap line : ℕ) → what ≡ Match number from n cap line → ⊥) → is_idle what ≡ true
-other_is_idle (Send to n tag ctx len how line) posts comes cancels withdraws claims receives = refl
-other_is_idle (Post p line) posts comes cancels withdraws claims receives = absurd (posts p line refl)
-other_is_idle (Arrive a) posts comes cancels withdraws claims receives = absurd (comes a refl)
-other_is_idle (Whole from n) posts comes cancels withdraws claims receives = refl
-other_is_idle (Out to n) posts comes cancels withdraws claims receives = refl
-other_is_idle (Cancel number done) posts comes cancels withdraws claims receives = absurd (cancels number done refl)
-other_is_idle (Recall to n) posts comes cancels withdraws claims receives = refl
-other_is_idle (Withdraw from n done) posts comes cancels withdraws claims receives =
-    absurd (withdraws from n done refl)
-other_is_idle (Undone to n done) posts comes cancels withdraws claims receives = refl
-other_is_idle (Claim from n line) posts comes cancels withdraws claims receives = absurd (claims from n line refl)
-other_is_idle (Match number from n cap line) posts comes cancels withdraws claims receives =
-    absurd (receives number from n cap line refl)
-other_is_idle (Ran line answer) posts comes cancels withdraws claims receives = refl

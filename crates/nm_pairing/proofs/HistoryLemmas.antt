@@ -20,24 +20,19 @@ use Rattle.nm_history.proofs.MatchingLemmas.{matched_pairs-push}
 use Rattle.nm_history.proofs.OnceLemmas.{eqb_self}
 use Rattle.nm_match.specs.Deeds.{is_known_message, is_known_receive, is_message}
 use Rattle.nm_match.proofs.ListLemmas.{filter_none}
-use Rattle.nm_match.proofs.PushLemmas.{closes, free_messages-push, happened-push, is_free-push, is_open-push}
+use Rattle.nm_match.proofs.PushLemmas.{closes, free_messages-push, is_free-push, is_open-push}
 use Rattle.nm_match.proofs.PushLemmas.{open_receives-push, takes}
 use Rattle.nm_match.proofs.TurnLemmas.{others_message, others_number}
 use Rattle.nm_pairing.specs.Queues.{free_messages, is_closed, is_gone, open_receives, posted_after_arrival}
 use Rattle.nm_pairing.specs.Queues.{posted_after_post, unexpected_after_arrival, unexpected_after_post}
 use Rattle.nm_pairing.specs.Queues.{without_message, without_receive}
 use Rattle.nm_pairing.proofs.MatcherLemmas.{both_ways, other_name}
+use Rattle.nm_facts.proofs.Truth.{or_mix}
+use Rattle.nm_history.proofs.AppendLemmas.{happened-push}
 
 -- the pairs that an event makes
 abbrev pub made : List Event → Event → List Pair
 made h e = option_to_list (new_pair h (matched_pairs h) e.what)
-
-two_apart : (x y u v : Bool) → ((x || y) || (u || v)) ≡ ((x || u) || (y || v))
-two_apart true y u v = refl
-two_apart false true true v = refl
-two_apart false true false v = refl
-two_apart false false true v = refl
-two_apart false false false v = refl
 
 three_apart : (x y p q u v : Bool) → ((x || y) || (p || q) || (u || v)) ≡ ((x || p || u) || (y || q || v))
 three_apart true y p q u v = refl
@@ -59,7 +54,7 @@ is_closed-push h e number =
       list_any-append (is_of_receive number) (matched_pairs h) (made h e),
       happened-push (is_cancel number) h e,
     )
-    (two_apart (list_any (is_of_receive number) (matched_pairs h)) (list_any (is_of_receive number) (made h e))
+    (or_mix (list_any (is_of_receive number) (matched_pairs h)) (list_any (is_of_receive number) (made h e))
     (happened (is_cancel number) h) (is_cancel number e.what))
 
 -- a message is gone after the event where it was before, or the event takes it

@@ -1,7 +1,8 @@
-pub mod MatcherLemmas
-pub mod HistoryLemmas
-pub mod ReplayLemmas
-pub mod EventLemmas
-pub mod LookLemmas
-pub mod PairingLemmas
-pub mod WalkLemmas
+mod MatcherLemmas
+mod HistoryLemmas
+mod ReplayLemmas
+mod EventLemmas
+mod IdleLemmas
+mod LookLemmas
+mod PairingLemmas
+mod WalkLemmas

@@ -13,7 +13,7 @@ use Rattle.nm_history.specs.Happens.{happened, is_cancel}
 use Rattle.nm_history.specs.Matching.{first_message, first_receive, is_free_message, is_of_receive, matched_pairs}
 use Rattle.nm_history.specs.Selection.{matches}
 use Rattle.nm_history.specs.Sends.{arrival_of, receive_of}
-use Rattle.nm_history.proofs.OnceLemmas.{and_left, and_right, eqb_self, find_passes, none_passes}
+use Rattle.nm_history.proofs.OnceLemmas.{eqb_self, none_passes}
 use Rattle.nm_match.specs.declared.deeds.Deed.{Deed}
 use Rattle.nm_match.specs.declared.deeds.Deed.TheVariants as deed
 use Rattle.nm_match.specs.Deeds.{event_of, happened_by, history_of, is_known_message, is_known_receive, is_message}
@@ -29,6 +29,8 @@ use Rattle.nm_match.proofs.QueueLemmas as queue
 use Rattle.nm_match.proofs.TurnLemmas.{others_message, others_number}
 use Rattle.nm_pairing.specs.Queues.{Keeps, posted_after_arrival, posted_after_post}
 use Rattle.nm_pairing.specs.Queues.{unexpected_after_arrival, unexpected_after_post, without_message, without_receive}
+use Rattle.nm_facts.proofs.Lists.{find_passes}
+use Rattle.nm_facts.proofs.Truth.{and_left, and_right}
 
 -- the receives that a deed makes known, and the messages
 abbrev pub new_receive : Deed → ℕ → Bool

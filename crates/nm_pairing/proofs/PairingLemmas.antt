@@ -17,13 +17,14 @@ use Rattle.nm_history.specs.declared.plain.Pair.{Pair}
 use Rattle.nm_history.specs.Completion.{is_taken, pair_of_receive}
 use Rattle.nm_history.specs.Matching.{is_of_message, is_of_receive, matched_pairs, new_pair}
 use Rattle.nm_history.proofs.MatchingLemmas.{matched_pairs-push}
-use Rattle.nm_history.proofs.OnceLemmas.{and_left, and_right}
 use Rattle.nm_places.specs.declared.firsts.Message.{Message}
 use Rattle.nm_pairing.specs.declared.pairings.Paired.{Paired}
 use Rattle.nm_pairing.specs.declared.pairings.Tables.{Tables}
 use Rattle.nm_places.specs.Firsts.{same_message}
 use Rattle.nm_pairing.specs.Pairings.{ArePaired, AreTables, pair_before}
 use Rattle.nm_places.specs.Placed.{AreTaken}
+use Rattle.nm_facts.proofs.Numbers.{lt_false}
+use Rattle.nm_places.proofs.FirstLemmas.{message_same}
 
 -- what stands before a place is the same with one event more, or is all of it
 places : (h : List Event) (e : Event) (k : ℕ) →
@@ -72,9 +73,6 @@ is_before k place = option_map_or (λ t. nat_lt t k) place false
 is_behind : (t k : ℕ) → t < k → nat_lt t k ≡ true
 is_behind t k below = grind (arith, nat_tests)
 
-not_behind : (t k : ℕ) → k ≤ t → nat_lt t k ≡ false
-not_behind t k above = grind (arith, nat_tests)
-
 taken-push : (h : List Event) (e : Event) (from n : ℕ) (made : Option Pair) →
     made ≡ new_pair h (matched_pairs h) e.what →
     is_taken (h ++ e ∷ []) from n ≡ (is_taken h from n || list_any (is_of_message from n) (option_to_list made))
@@ -91,12 +89,6 @@ paired-push h e number made is =
 with_no_other : (o : Option Pair) → option_or o None ≡ o
 with_no_other None = refl
 with_no_other (Some pair) = refl
-
-is_same : (a b : Message) → same_message a b ≡ true → a ≡ b
-is_same a b same =
-    let rank : a.rank ≡ b.rank = eqb-true a.rank b.rank (and_left (a.rank == b.rank) (a.n == b.n) same) in
-    let n : a.n ≡ b.n = eqb-true a.n b.n (and_right (a.rank == b.rank) (a.n == b.n) same) in
-    λ i. record { rank = rank i; n = n i }
 
 -- the message of a pair
 abbrev pub message_paired : Pair → Message
@@ -149,10 +141,10 @@ module _ {S : Type 0} (h : List Event) (e : Event) where
           (b : Bool) → same_message (message_paired pair) m ≡ b → (k : ℕ) →
           is_before k (cond b (Some (length h)) (get same_message old m)) ≡ taken_of m (take k (h ++ e ∷ []))
       by_name update none true same =
-          let is : (message_paired pair) ≡ m = is_same (message_paired pair) m same in
+          let is : (message_paired pair) ≡ m = message_same (message_paired pair) m same in
           let absent : get same_message old m ≡ None = subst (λ q. get same_message old q ≡ None) is none in
           entry_new is_before (taken_of m) h e (get same_message old m) (length h) absent
-          (λ k within. not_behind (length h) k within)
+          (λ k within. lt_false (length h) k within)
           (λ k behind. is_behind (length h) k behind
           ∙ sym (grows ∙ ap (λ b. taken_of m h || b) same ∙ or-true (taken_of m h))) (told m)
       by_name update none false other =
@@ -168,7 +160,7 @@ module _ {S : Type 0} (h : List Event) (e : Event) where
           ap (λ (table : IndexMap Message ℕ S). is_before k (get same_message table m)) same
           ∙ entry_same is_before (taken_of m) h e (get same_message old m)
           (stays (same_message (message_paired pair) m) refl (λ named.
-          let is : (message_paired pair) ≡ m = is_same (message_paired pair) m named in
+          let is : (message_paired pair) ≡ m = message_same (message_paired pair) m named in
           let place = t + 1 + length h in
           let found : get same_message old m ≡ Some t = subst (λ q. get same_message old q ≡ Some t) is there in
           ap (taken_of m) (sym (take_all place h (far_behind t (length h)))) ∙ sym (told m place)
@@ -193,7 +185,7 @@ module _ {S : Type 0} (h : List Event) (e : Event) where
       grows = paired-push h e number (Some pair) made
 
       hides : (k : ℕ) → k ≤ length h → pair_before k (Some (entry h pair)) ≡ pair_before k None
-      hides k within = ap (λ b. cond b (Some pair) None) (not_behind (length h) k within)
+      hides k within = ap (λ b. cond b (Some pair) None) (lt_false (length h) k within)
 
       shows : (k : ℕ) → length h < k → pair_before k (Some (entry h pair)) ≡ Some pair
       shows k behind = ap (λ b. cond b (Some pair) None) (is_behind (length h) k behind)

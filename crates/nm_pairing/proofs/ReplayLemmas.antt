@@ -20,7 +20,7 @@ use Rattle.nm_history.specs.Matching.{first_message, first_receive, is_free, is_
 use Rattle.nm_history.specs.Matching.{is_free_message}
 use Rattle.nm_history.specs.Selection.{matches}
 use Rattle.nm_history.specs.Sends.{arrival_of, message_of, messages, post_of, posts}
-use Rattle.nm_history.proofs.OnceLemmas.{and_left, and_right, eqb_self, messages-push, posts-push}
+use Rattle.nm_history.proofs.OnceLemmas.{eqb_self, messages-push, posts-push}
 use Rattle.nm_match.specs.declared.deeds.Deed.{Deed}
 use Rattle.nm_match.specs.Deeds.{history_of, is_known_message, is_known_receive, is_message}
 use Rattle.nm_match.proofs.DeedLemmas.{first_message-queue, queues-none}
@@ -36,6 +36,7 @@ use Rattle.nm_pairing.specs.Replays.{Replays}
 use Rattle.nm_pairing.proofs.HistoryLemmas.{closed-push, gone-push, is_free-gone, is_open-closed}
 use Rattle.nm_pairing.proofs.HistoryLemmas.{made}
 use Rattle.nm_pairing.proofs.MatcherLemmas.{keeps_agree}
+use Rattle.nm_facts.proofs.Truth.{and_left, and_right}
 
 -- one is found where one passes
 pub found_any : {X : Type 0} (test : X → Bool) (xs : List X) → is_some (find test xs) ≡ list_any test xs

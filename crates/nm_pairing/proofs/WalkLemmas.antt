@@ -1,13 +1,12 @@
 -- One event of a history after another.
-use Rattle.std.proofs.Common.{◌≡◌, ℕ, suc, ◌+◌, ◌<◌, ◌≤◌, Bool, true, false, Option, Some, None, List, [], ◌∷◌, ◌++◌}
-use Rattle.std.proofs.Common.{length, take, drop, get_or, refl, sym, ◌∙◌, ap, subst, arith, add-one}
-use Rattle.std.proofs.Common.{append_assoc, drop-cons}
+use Rattle.std.proofs.Common.{◌≡◌, ℕ, ◌+◌, ◌<◌, ◌≤◌, Bool, true, false, Option, Some, None, List, [], ◌∷◌, ◌++◌}
+use Rattle.std.proofs.Common.{length, take, drop, get_or, refl, sym, ◌∙◌, ap, subst, arith}
 use Rattle.std.specs.Prelude.{nat_lt}
 use Rattle.std.specs.List.{slice_get}
-use Rattle.std.proofs.Math.Seq.{get_or-append_seam, take-suc}
+use Rattle.std.proofs.Math.Seq.{get_or-append_seam}
 use Rattle.std.proofs.lemmas.Bool.{le-ltb}
 use Rattle.std.proofs.lemmas.Bool.Decides.{nat_tests}
-use Rattle.std.proofs.lemmas.List.{get_or_append_left, length-append, length-take-le, take-append-drop, take_all}
+use Rattle.std.proofs.lemmas.List.{get_or_append_left, length-append, length-take-le, take_all}
 use Rattle.std.proofs.lemmas.Option.{get_or_from_slice_get, slice_get_past, slice_get_read, slice_get_within}
 use Rattle.nm_types.specs.Commands.{commands_of}
 use Rattle.nm_types.specs.declared.messages.Arrival.{Arrival}
@@ -20,7 +19,7 @@ use Rattle.nm_history.specs.AtEach.{AtEach}
 use Rattle.nm_history.specs.Matching.{matched_pairs, new_pair}
 use Rattle.nm_history.specs.RankRun.{Always, NumberAt}
 use Rattle.nm_history.specs.Sends.{arrivals, receives}
-use Rattle.nm_history.proofs.AtEachLemmas.{AtEach-from_splits, AtEach-split}
+use Rattle.nm_history.proofs.AtEachLemmas.{AtEach-split}
 use Rattle.nm_match.proofs.NumberLemmas.{messages_numbered, receives_numbered}
 use Rattle.nm_pairing.specs.Looks.{look_of}
 use Rattle.nm_match.specs.declared.deeds.Deed.{Deed}
@@ -32,19 +31,8 @@ use Rattle.nm_pairing.specs.Pairings.{AreTables, Tells}
 use Rattle.nm_pairing.specs.Queues.{Follows, IsNew}
 use Rattle.nm_pairing.specs.Replays.{Replays, Takes}
 use Rattle.nm_pairing.proofs.PairingLemmas.{tables_stay}
-
--- a list is what stands before a place, the element there, and the rest
-split_at : {X : Type 0} (xs : List X) (k : ℕ) (x : X) → k < length xs → x ≡ get_or xs k x →
-    xs ≡ take k xs ++ x ∷ drop (k + 1) xs
-split_at {X} xs k x inside is =
-    sym (take-append-drop k xs)
-    ∙ ap (λ (ys : List X). take k xs ++ ys) (rw add-one (drop-cons xs k x inside
-    ∙ ap (λ (y : X). y ∷ drop (suc k) xs) (sym is)))
-
-pub take_next : {X : Type 0} (xs : List X) (k : ℕ) (x : X) → k < length xs → x ≡ get_or xs k x →
-    take (k + 1) xs ≡ take k xs ++ x ∷ []
-take_next {X} xs k x inside is =
-    rw add-one (take-suc xs k x inside ∙ ap (λ (y : X). take k xs ++ y ∷ []) (sym is))
+use Rattle.nm_facts.proofs.Lists.{take_next, split_at}
+use Rattle.nm_history.proofs.EachLemmas.{AtEach-prefix as front}
 
 -- where events are numbered, the next one is new
 new_event : (ranks : ℕ) (h : List Event) (what : Happened) → NumberAt ranks h what → Always (NumberAt ranks) h →
@@ -68,13 +56,6 @@ new_event ranks h (Match number from n cap line) at numbers =
     let above : length (receives h) ≤ number = omega (arith, at) in
     receives_numbered ranks h numbers number ∙ le-ltb _ _ above
 new_event ranks h (Ran line answer) at numbers = tt
-
-front : (R : List Event → Event → Type 0) (before after : List Event) → AtEach R (before ++ after) → AtEach R before
-front R before after each =
-    AtEach-from_splits R before (λ early e late split.
-    AtEach-split R early e (late ++ after)
-    (subst (λ (h : List Event). AtEach R h)
-    (ap (λ (ys : List Event). ys ++ after) split ∙ append_assoc early (e ∷ late) after) each))
 
 -- each event of a history whose numbers are right is new
 pub new_at : (ranks : ℕ) (h : List Event) (k : ℕ) (e : Event) → k < length h → e ≡ get_or h k e →

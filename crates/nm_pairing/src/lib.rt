@@ -20,7 +20,6 @@
 //! - For each place, `is_taken`, `pair`, `is_paired` and `look` answer as defined on the events
 //!   before it; `taken` has the place at which each message was paired first.
 //! - `pairs` are all pairs in order, and `first_message` is the first free message at the end.
-//! - `command_at` is the command of a line.
 //!
 //! That each answer takes one look-up, and the replay one step for each event besides those of the
 //! matcher, is not proved.
@@ -32,8 +31,5 @@ mod looks;
 mod pairings;
 mod queues;
 mod replays;
-#[cfg(test)]
-mod tests;
 
-pub use looks::command_at;
 pub use pairings::Pairing;

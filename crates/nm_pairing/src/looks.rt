@@ -1,11 +1,12 @@
 //! What the command of an event finds of the messages that wait.
 
-ghost use Rattle.std.specs.Prelude.{◌≡◌, List, option_copied};
-ghost use Rattle.nm_types.specs.Commands.{command_at as command_at_lem, commands_of};
+ghost use Rattle.std.specs.Prelude.{◌≡◌, List};
+ghost use Rattle.nm_types.specs.Commands.{commands_of};
 ghost use Rattle.nm_history.specs.declared.events.Event as event;
 ghost use Rattle.nm_pairing.specs.Looks.{found_by, line_of_look, look_of};
 ghost use Rattle.nm_pairing.specs.Queues.{Follows};
 
+use nm_asked::commands::command_of_line;
 use nm_history::Happened;
 use nm_match::Matcher;
 use nm_types::{Arrival, Command, Line};
@@ -17,19 +18,6 @@ fn line_of(what: &Happened) -> Option<u32>
     match what {
         Happened::Ran { line, .. } | Happened::Claim { line, .. } => Some(*line),
         _ => None,
-    }
-}
-
-/// The command of a rank that stands in this line of its script.
-pub fn command_at(rank: u8, lines: &[Line], number: u32) -> Option<&Command>
-    ensures { option_copied result ≡ command_at_lem (commands_of rank lines.now) number }
-{
-    let place = (number as usize).checked_sub(2)?;
-    let line = lines.get(place)?;
-    if line.rank == rank {
-        Some(&line.command)
-    } else {
-        None
     }
 }
 
@@ -51,6 +39,6 @@ pub(crate) fn look(rank: u8, lines: &[Line], matcher: &Matcher, what: &Happened)
         result ≡ look_of (commands_of rank lines.now) h what.now }
 {
     let number = line_of(what)?;
-    let command = command_at(rank, lines, number)?;
+    let command = command_of_line(lines, rank, number)?;
     found(matcher, command)
 }

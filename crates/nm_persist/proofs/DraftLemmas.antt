@@ -1,7 +1,6 @@
 -- Lines behind lines: what their requests, ends and script are with one line more.
 use Rattle.std.proofs.Common.{◌≡◌, ℕ, true, false, ◌&&◌, List, [], ◌∷◌, ◌++◌, None, nat_lt}
-use Rattle.std.proofs.Common.{refl, sym, ap, ◌∙◌, append_assoc, subst, suc, ◌+◌, ◌<◌, length, take, get_or, arith}
-use Rattle.std.proofs.Math.Seq.{take-suc}
+use Rattle.std.proofs.Common.{refl, sym, ap, ◌∙◌, append_assoc, subst, ◌+◌, ◌<◌}
 use Rattle.std.proofs.lemmas.Bool.{and_from}
 use Rattle.std.proofs.lemmas.List.Folds.{list_all-append}
 use Rattle.indexmap.specs.IndexMap.{get}
@@ -39,14 +38,6 @@ are_sound-more_behind ranks before (first ∷ lines) line =
 pub are_sound-more : (ranks : ℕ) (lines : List PlanLine) (line : PlanLine)
     → are_sound ranks [] (lines ++ line ∷ []) ≡ (are_sound ranks [] lines && is_none (fault_in ranks lines line))
 are_sound-more ranks lines line = are_sound-more_behind ranks [] lines line
-
--- the first items, with one more
-pub take_more : {X : Type 0} (lines : List X) (i : ℕ) (line : X) → i < length lines → line ≡ get_or lines i line
-    → take (i + 1) lines ≡ take i lines ++ line ∷ []
-take_more {X} lines i line inside is =
-    let n : i + 1 ≡ suc i = omega arith in
-    ap (λ m. take m lines) n ∙ take-suc lines i line inside
-    ∙ ap (λ (x : X). take i lines ++ x ∷ []) (sym is)
 
 -- ---- drafts
 

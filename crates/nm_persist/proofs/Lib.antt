@@ -1,7 +1,8 @@
-pub mod DraftLemmas
+mod DraftLemmas
 pub mod RangeLemmas
-pub mod ReadLemmas
-pub mod ReportLemmas
-pub mod ResultLemmas
-pub mod RuleLemmas
-pub mod SizeLemmas
+pub mod ReadyLemmas
+mod ReadLemmas
+mod ReportLemmas
+mod ResultLemmas
+mod RuleLemmas
+mod SizeLemmas

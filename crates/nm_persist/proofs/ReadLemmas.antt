@@ -4,7 +4,7 @@ use Rattle.std.proofs.Common.{List, [], ◌∷◌, ◌++◌, length, map, nat_lt
 use Rattle.std.proofs.Common.{refl, sym, ap, ◌∙◌, arith, codes, decimal, subst, IfOk, IfErr}
 use Rattle.std.proofs.Common.{length-append, append_assoc}
 use Rattle.std.specs.Prelude.{is_none}
-use Rattle.std.specs.List.{join_with_byte, list_all}
+use Rattle.std.specs.List.{list_all}
 use Rattle.std.proofs.lemmas.Bool.{and_from, and_parts, ltb-true, ltb-false, lt-ltb, le-ltb}
 use Rattle.std.proofs.lemmas.List.{append-nil}
 use Rattle.std.proofs.lemmas.List.Folds.{flat_map-map}
@@ -16,7 +16,7 @@ use Rattle.nm_words.proofs.StepLemmas.{bind_ok, chosen}
 use Rattle.nm_words.proofs.WordLemmas.{Solid, joined_printable}
 use Rattle.nm_script.specs.Rules.{first_of, ranks_text}
 use Rattle.nm_script.proofs.FaultLemmas.{only_first}
-use Rattle.nm_script.proofs.ReadLemmas.{first_solid}
+use Rattle.nm_script.proofs.ReadLemmas.{first_solid, some_joined}
 use Rattle.nm_script.proofs.StepLemmas.{bind_err, unless_ok}
 use Rattle.nm_plans.specs.declared.faults.PlanFault.{PlanFault}
 use Rattle.nm_plans.specs.declared.faults.PlanFault.TheVariants as fault
@@ -25,17 +25,16 @@ use Rattle.nm_plans.specs.declared.faults.PlanKind.TheVariants as kind
 use Rattle.nm_persist.specs.declared.plans.Plan.{Plan}
 use Rattle.nm_plans.specs.declared.lines.PlanLine.{PlanLine}
 use Rattle.nm_persist.specs.Drafts.{AddsAt}
-use Rattle.nm_plans.specs.Faults.{Fails, GivesAt, at_line}
+use Rattle.nm_plans.specs.Faults.{Fails, GivesAt, IsFirstOf, at_line}
 use Rattle.nm_plans.specs.Grammar.{is_in_range}
 use Rattle.nm_persist.specs.Plans.{IsPlan}
 use Rattle.nm_persist.specs.Reading.{line_at, lines_from, parts, plan_of, ranks_at, read_of}
 use Rattle.nm_persist.specs.Rules.{FirstKeeps, IsFault, IsFaultBehind, IsFaultOf, IsFirstFault}
-use Rattle.nm_plans.specs.Faults.{IsFirstOf}
 use Rattle.nm_plans.specs.Spelled.{IsLine}
 use Rattle.nm_persist.specs.Rules.{IsRefused, IsTextOf, Keeps, Takes, first_kinds, line_kinds}
 use Rattle.nm_persist.specs.Table.{are_sound, fault_in}
 use Rattle.nm_plans.specs.Text.{SpellsPlan, line_text, line_words, plan_text, words}
-use Rattle.nm_plans.proofs.GrammarLemmas.{line_again}
+use Rattle.nm_plans.proofs.MakeLemmas.{line_again}
 use Rattle.nm_persist.proofs.RuleLemmas.{IsLineAt, line_at_again, line_at_taken, line_fault, line_kept, none_first}
 use Rattle.nm_persist.proofs.RuleLemmas.{one_first, ranks_again, ranks_fault, ranks_kept, ranks_taken}
 
@@ -225,13 +224,6 @@ plan_lines ranks lines = ranks_text ranks ∷ map line_text lines
 ended-plan_lines : (ranks : ℕ) (lines : List PlanLine) → ended_lines (plan_lines ranks lines) ≡ plan_text ranks lines
 ended-plan_lines ranks lines = ap (λ xs. (ranks_text ranks ++ 10 ∷ []) ++ xs)
     (flat_map-map (λ line. line ++ 10 ∷ []) line_text lines)
-
-some_joined : (word : List ℕ) (ws : List (List ℕ)) → 0 < length word
-    → is_some_line (join_with_byte 32 (word ∷ ws)) ≡ true
-some_joined word [] h = lt-ltb 0 (length word) h
-some_joined word (next ∷ ws) h =
-    let rest = 32 ∷ join_with_byte 32 (next ∷ ws) in
-    lt-ltb 0 (length (word ++ rest)) (omega (arith, length-append word rest))
 
 all_some : (lines : List PlanLine) → list_all is_some_line (map line_text lines) ≡ true
 all_some [] = refl

@@ -12,7 +12,7 @@ use Rattle.nm_plans.specs.Grammar.{is_in_range}
 use Rattle.nm_plan_requests.specs.Requests.{owner_of, request_at}
 use Rattle.nm_persist.specs.declared.asked.Asked.{Asked}
 use Rattle.nm_persist.specs.Report.{asked_behind, asked_by, first_name}
-use Rattle.nm_persist.proofs.RangeLemmas.{name_small}
+use Rattle.nm_persist.proofs.ReadyLemmas.{name_small}
 
 asked_behind-more : (before lines : List PlanLine) (line : PlanLine)
     → asked_behind before (lines ++ line ∷ [])

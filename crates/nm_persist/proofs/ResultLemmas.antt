@@ -18,7 +18,7 @@ use Rattle.nm_persist.specs.declared.asked.Asked.{Asked}
 use Rattle.nm_persist.specs.Report.{Named, named_from, rank_lines, result_behind}
 use Rattle.nm_persist.specs.Report.{shown_line, shown_words}
 use Rattle.nm_persist.specs.Results.{AreResults, found}
-use Rattle.nm_persist.proofs.DraftLemmas.{take_more}
+use Rattle.nm_facts.proofs.Lists.{take_next}
 
 -- answers more are kept
 pub results_more : {S : Type 0} (before more : List Named) (old new : IndexMap ℕ (Bor Answer) S)
@@ -116,7 +116,8 @@ pub told_more : (events : List Event) (i : ℕ) (e : Event) (old new : List Answ
 told_more events i e old new inside is put so_far =
     let told : Event → Option Told = λ e. told_by e.what in
     put ∙ ap (λ (xs : List Answer). xs ++ option_to_list (option_map (λ (t : Told). t.answer) (told_by e.what))) so_far
-    ∙ ap (λ (xs : List Answer). map (λ (t : Told). t.answer) (filter_map told (take i events)) ++ xs) (one_told (told e))
+    ∙ ap (λ (xs : List Answer). map (λ (t : Told). t.answer) (filter_map told (take i events)) ++ xs)
+    (one_told (told e))
     ∙ sym (map-append (λ (t : Told). t.answer) (filter_map told (take i events)) (filter_map told (e ∷ [])))
     ∙ ap (map (λ (t : Told). t.answer)) (sym (filter_map-append told (take i events) (e ∷ [])))
-    ∙ ap (λ (es : List Event). map (λ (t : Told). t.answer) (filter_map told es)) (sym (take_more events i e inside is))
+    ∙ ap (λ (es : List Event). map (λ (t : Told). t.answer) (filter_map told es)) (sym (take_next events i e inside is))

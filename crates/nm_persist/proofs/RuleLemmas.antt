@@ -15,12 +15,14 @@ use Rattle.nm_script.specs.Commands.{rank_of}
 use Rattle.nm_script.specs.Faults.{◌>>=◌}
 use Rattle.nm_script.specs.Reading.{ranks_of, ranks_at as script_ranks_at}
 use Rattle.nm_script.specs.Rules.{HasRank, ranks_text}
-use Rattle.nm_script.proofs.CommandLemmas.{rank_again, rank_taken}
-use Rattle.nm_script.proofs.ReadLemmas.{first_solid, ranks_again as script_ranks_again, ranks_taken as script_ranks_taken}
+use Rattle.nm_script.proofs.CommandLemmas.{rank_again}
+use Rattle.nm_script.proofs.CommandTakenLemmas.{rank_taken}
+use Rattle.nm_script.proofs.ReadLemmas.{first_solid, ranks_again as script_ranks_again}
+use Rattle.nm_script.proofs.ReadLemmas.{ranks_taken as script_ranks_taken}
 use Rattle.nm_script.proofs.StepLemmas.{bind_err, guard_ok, unless_ok}
 use Rattle.nm_plans.specs.declared.faults.PlanKind.{PlanKind}
 use Rattle.nm_plans.specs.declared.faults.PlanKind.TheVariants as kind
-use Rattle.nm_plans.specs.declared.keywords.Keyword.{Keyword}
+use Rattle.nm_plans.specs.declared.keywords.PlanKeyword.{PlanKeyword}
 use Rattle.nm_plans.specs.declared.lines.PlanLine.{PlanLine}
 use Rattle.nm_plans.specs.Commands.{command_of, line_of}
 use Rattle.nm_plans.specs.Faults.{or_kind}
@@ -32,9 +34,11 @@ use Rattle.nm_plans.specs.Spelled.{Each, IsBodyThere, IsLine, IsNumberThere}
 use Rattle.nm_persist.specs.Rules.{Keeps, first_kinds, line_kinds}
 use Rattle.nm_persist.specs.Table.{fault_in, has_other_parts, is_out_of_order, is_past, is_taken}
 use Rattle.nm_plans.specs.Text.{line_words, words}
-use Rattle.nm_plans.proofs.GrammarLemmas.{arguments_fault, err_none, keyword_again, keyword_taken, line_again}
-use Rattle.nm_plans.proofs.GrammarLemmas.{line_taken, ok_some, one_keyword, or_err, or_ok, Kept}
-use Rattle.nm_plans.proofs.GrammarLemmas.{each_body, each_counts, each_number}
+use Rattle.nm_plans.proofs.GrammarLemmas.{err_none, keyword_again, keyword_taken}
+use Rattle.nm_plans.proofs.MakeLemmas.{arguments_fault, line_again}
+use Rattle.nm_plans.proofs.GrammarLemmas.{ok_some, one_keyword, or_err, or_ok}
+use Rattle.nm_plans.proofs.MakeLemmas.{line_taken, Kept}
+use Rattle.nm_plans.proofs.MakeLemmas.{each_body, each_counts, each_number}
 
 -- ---- the first of the rules that are broken is one
 
@@ -97,13 +101,14 @@ module _ (ranks : ℕ) (few : ranks ≤ MAX_RANKS) where
   table_kinds = kind.Taken ∷ kind.Parts ∷ kind.Order ∷ kind.Size ∷ []
 
   -- the rules of the words behind a rank, where the name is known
-  arguments_break : (before : List PlanLine) (text first name : List ℕ) (k : Keyword)
+  arguments_break : (before : List PlanLine) (text first name : List ℕ) (k : PlanKeyword)
       (ws : List (List ℕ)) (e : PlanKind) → name ≡ keyword_text k
       → IsFirstOf (Kept ranks few k ws) (kind.Count ∷ kind.Number ∷ kind.Body ∷ []) e
       → IsFirstOf (Keeps ranks before text (first ∷ name ∷ ws)) (kind.Count ∷ kind.Number ∷ kind.Body
       ∷ table_kinds) e
   arguments_break before text first name k ws e word faulty =
-      let every : (P : Keyword → Type 0) → P k → (j : Keyword) → name ≡ keyword_text j → P j = λ P holds j named.
+      let every : (P : PlanKeyword → Type 0) → P k → (j : PlanKeyword) → name ≡ keyword_text j →
+      P j = λ P holds j named.
       subst P (one_keyword k j (sym word ∙ named)) holds in
       elim faulty [
         | inl f ↦ inl (f.0, λ all. f.1 (all k word))
@@ -185,17 +190,20 @@ module _ (ranks : ℕ) (few : ranks ≤ MAX_RANKS) where
   words_kept before text line is =
       let k = keyword_in line.command in
       let vs = values line.command in
-      let every : (P : Keyword → Type 0) → P k → (j : Keyword) → keyword_text k ≡ keyword_text j → P j = λ P holds j named.
+      let every : (P : PlanKeyword → Type 0) → P k → (j : PlanKeyword) → keyword_text k ≡ keyword_text j →
+      P j = λ P holds j named.
       subst P (one_keyword k j named) holds in
       let ws = map value_word vs in
-      let count : length ws ≡ length (arguments k) = length-map vs value_word ∙ each_counts ranks (arguments k) vs is.range in (
+      let count : length ws ≡ length (arguments k) = length-map vs value_word
+      ∙ each_counts ranks (arguments k) vs is.range in (
         (line.rank, is.own, refl),
         (
           (k, refl),
           (
             every (λ j. length ws ≡ length (arguments j)) count,
             (
-              every (λ j. Each (IsNumberThere ranks) (arguments j) ws) (each_number ranks few (arguments k) vs is.range),
+              every (λ j. Each (IsNumberThere ranks) (arguments j) ws)
+                  (each_number ranks few (arguments k) vs is.range),
               (
                 every (λ j. Each (IsBodyThere ranks) (arguments j) ws) (each_body ranks few (arguments k) vs is.range),
                 tt,

@@ -75,16 +75,18 @@ result_behind name found a = if a.name == name && is_result a.answer then Some a
 abbrev pub last_result : List Named → ℕ → Option Answer
 last_result answers name = fold (result_behind name) None answers
 
--- the bytes of a result, how many they are, and whether they were cut off
+-- the bytes that a result shows
 abbrev pub bytes_in : Option Answer → List ℕ
 bytes_in (Some (answer.Got from tag body)) = body
 bytes_in _ = []
 
+-- how many bytes a result has, also one that is cut off
 abbrev pub len_in : Option Answer → ℕ
 len_in (Some (answer.Got from tag body)) = length body
 len_in (Some (answer.Cut from tag len)) = len
 len_in _ = 0
 
+-- a result is cut off
 abbrev pub is_cut : Option Answer → Bool
 is_cut (Some (answer.Cut from tag len)) = true
 is_cut _ = false

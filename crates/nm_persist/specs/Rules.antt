@@ -9,7 +9,7 @@ use Rattle.nm_plans.specs.declared.faults.PlanFault.{PlanFault}
 use Rattle.nm_plans.specs.declared.faults.PlanFault.TheVariants as fault
 use Rattle.nm_plans.specs.declared.faults.PlanKind.{PlanKind}
 use Rattle.nm_plans.specs.declared.faults.PlanKind.TheVariants as kind
-use Rattle.nm_plans.specs.declared.keywords.Keyword.{Keyword}
+use Rattle.nm_plans.specs.declared.keywords.PlanKeyword.{PlanKeyword}
 use Rattle.nm_persist.specs.declared.plans.Plan.{Plan}
 use Rattle.nm_plans.specs.declared.lines.PlanLine.{PlanLine}
 use Rattle.nm_plans.specs.Faults.{IsFirstOf}
@@ -24,13 +24,13 @@ abbrev pub Keeps : ℕ → List PlanLine → List ℕ → List (List ℕ) → Pl
 Keeps ranks before text ws kind.NotAscii = is_printable text ≡ true
 Keeps ranks before text ws kind.Lines = length before + 2 ≤ MAX_LINES
 Keeps ranks before text ws kind.Rank = HasRank ranks ws
-Keeps ranks before text ws kind.Command = (keyword : Keyword) × Names keyword ws
+Keeps ranks before text ws kind.Command = (keyword : PlanKeyword) × Names keyword ws
 Keeps ranks before text ws kind.Count =
-    (keyword : Keyword) → Names keyword ws → length (behind ws) ≡ length (arguments keyword)
+    (keyword : PlanKeyword) → Names keyword ws → length (behind ws) ≡ length (arguments keyword)
 Keeps ranks before text ws kind.Number =
-    (keyword : Keyword) → Names keyword ws → Each (IsNumberThere ranks) (arguments keyword) (behind ws)
+    (keyword : PlanKeyword) → Names keyword ws → Each (IsNumberThere ranks) (arguments keyword) (behind ws)
 Keeps ranks before text ws kind.Body =
-    (keyword : Keyword) → Names keyword ws → Each (IsBodyThere ranks) (arguments keyword) (behind ws)
+    (keyword : PlanKeyword) → Names keyword ws → Each (IsBodyThere ranks) (arguments keyword) (behind ws)
 Keeps ranks before text ws kind.Taken =
     (line : PlanLine) → IsLine ranks text line → is_taken before line ≡ false
 Keeps ranks before text ws kind.Parts =
@@ -48,10 +48,11 @@ FirstKeeps text kind.First =
     (ranks : ℕ) × (1 ≤ ranks) × (ranks ≤ MAX_RANKS) × (text ≡ ranks_text ranks)
 FirstKeeps text _ = Unit {0}
 
--- the kinds of the first line, and those of other lines, in their order
+-- the kinds of the first line, in their order
 abbrev pub first_kinds : List PlanKind
 first_kinds = kind.NotAscii ∷ kind.First ∷ []
 
+-- the kinds of other lines, in their order
 abbrev pub line_kinds : List PlanKind
 line_kinds =
     kind.NotAscii ∷ kind.Lines ∷ kind.Rank ∷ kind.Command ∷ kind.Count ∷ kind.Number ∷ kind.Body

@@ -26,6 +26,7 @@ pub struct Draft {
 }
 
 impl Draft {
+    /// No line yet, of a plan of so many ranks.
     pub fn new(alloc: Global, ranks: u8) -> Draft
         ensures draft { IsDraft result }
         ensures ranks { result.ranks ≡ ranks }

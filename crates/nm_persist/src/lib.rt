@@ -42,8 +42,6 @@ mod plans;
 mod reading;
 mod results;
 mod sizes;
-#[cfg(test)]
-mod tests;
 mod texts;
 
 pub use nm_plans::{

@@ -27,6 +27,7 @@ fn is_result(answer: &Answer) -> bool
 impl<'a> Results<'a> {
     ghost use Rattle.nm_persist.specs.Results.{found};
 
+    /// No result yet.
     pub fn new(alloc: Global) -> Self
         ensures { (name : ℕ) → found result.map name ≡ None }
     {

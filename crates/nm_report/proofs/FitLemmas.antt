@@ -36,7 +36,7 @@ use Rattle.nm_history.specs.RankRun.{IsRankRun, Always, AnswerAt, ran_lines}
 use Rattle.nm_history.specs.Run.{IsRunOf}
 use Rattle.nm_history.specs.Sends.{Sent, arrival_of, messages, sends, sent_bytes}
 use Rattle.nm_history.proofs.AtEachLemmas.{AtEach-split}
-use Rattle.nm_history.proofs.OnceLemmas.{and_left, and_right, eqb_self, find_among, mapped_some}
+use Rattle.nm_history.proofs.OnceLemmas.{eqb_self, find_among}
 use Rattle.nm_report.specs.declared.accounts.RankAccount.{RankAccount}
 use Rattle.nm_report.specs.declared.records.RunRecord.{RunRecord}
 use Rattle.nm_report.specs.Ends.{ends_of, packets_of}
@@ -46,6 +46,8 @@ use Rattle.nm_report.specs.Told.{told_of, told_of_rank}
 use Rattle.nm_report.specs.Totals.{answer_in, answers_in}
 use Rattle.nm_report.proofs.GotLemmas.{ShowsPair, got_shown, low_senders}
 use Rattle.nm_report.proofs.TotalsLemmas.{all_answers}
+use Rattle.nm_facts.proofs.Options.{mapped_some}
+use Rattle.nm_facts.proofs.Truth.{and_left, and_right}
 
 -- the laws of bodies and of pairs
 abbrev pub HaveTheirLength : Type 0

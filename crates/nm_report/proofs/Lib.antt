@@ -1,5 +1,5 @@
 pub mod Written
-pub mod ToldLemmas
-pub mod TotalsLemmas
-pub mod GotLemmas
-pub mod FitLemmas
+mod ToldLemmas
+mod TotalsLemmas
+mod GotLemmas
+mod FitLemmas

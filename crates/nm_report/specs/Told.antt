@@ -24,6 +24,7 @@ abbrev pub told_by : Happened → Option Told
 told_by (Ran line answer) = Some (record { line = line; answer = answer })
 told_by _ = None
 
+-- what a rank told, by its account
 abbrev pub told_of_rank : RankAccount → RankTold
 told_of_rank account =
     record {

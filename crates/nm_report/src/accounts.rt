@@ -44,12 +44,14 @@ impl Accounts {
         }
     }
 
+    /// The list of these accounts.
     pub fn from_vec(items: Vec<RankAccount>) -> Self
         ensures { result ≡ items.items }
     {
         Accounts { items }
     }
 
+    /// The accounts, given away.
     pub fn into_vec(self) -> Vec<RankAccount>
         ensures { result.items ≡ self }
     {
@@ -65,18 +67,21 @@ impl Accounts {
         Ok(())
     }
 
+    /// How many accounts there are.
     pub fn len(&self) -> usize
         ensures { result ≡ length self.now }
     {
         self.items.len()
     }
 
+    /// Whether there is none.
     pub fn is_empty(&self) -> bool
         ensures { IsTrue result ↔ (self.now ≡ []) }
     {
         self.items.is_empty()
     }
 
+    /// The account at place k, from 0; `None` where there are at most k.
     pub fn get(&self, k: usize) -> Option<&RankAccount>
         ensures value { option_copied result ≡ slice_get self.now k }
         ensures none { IsNone result ↔ (length self.now ≤ k) }
@@ -84,6 +89,7 @@ impl Accounts {
         self.items.get(k)
     }
 
+    /// The accounts, in order.
     pub fn as_slice(&self) -> &[RankAccount]
         ensures { result.now ≡ self.now }
     {

@@ -10,10 +10,11 @@ ghost use Rattle.nm_report.specs.Events.{event_lines, pair_line};
 use crate::answers::push_answer;
 use crate::{PairCount, RankAccount};
 use nm_history::{Event, Happened};
-use nm_types::{How, Peer, Post, TagPick};
+use nm_types::{Arrival, How, Peer, Post, TagPick};
 use std::alloc::AllocError;
 
-fn word_of_how(how: How) -> &'static str
+/// The word of how a message is sent: `eager`, or `ask`.
+pub fn word_of_how(how: How) -> &'static str
     ensures { result.now ≡ how_word how }
 {
     match how {
@@ -57,8 +58,20 @@ fn push_post(out: &mut String, post: &Post, line: u32) -> Result<(), AllocError>
     write!(out, " {} {} {line}", post.ctx, post.cap)
 }
 
-/// Writes an event, but for its rank and its stamp.
-fn push_happened(out: &mut String, what: &Happened) -> Result<(), AllocError>
+fn push_arrival(out: &mut String, a: &Arrival) -> Result<(), AllocError>
+    ensures ok { OnOk result
+        (string_bytes out.new ≡ string_bytes out.old ++ join_with_byte 32 (event_words (Happened.Arrive a.now))) }
+{
+    let how = word_of_how(a.env.how);
+    write!(
+        out,
+        "arrive {} {} {} {} {} {how}",
+        a.env.from, a.n, a.env.tag, a.env.ctx, a.env.len
+    )
+}
+
+/// Writes the words of an event, as its line in the trace has them behind its rank and its stamp.
+pub fn push_happened(out: &mut String, what: &Happened) -> Result<(), AllocError>
     ensures ok { OnOk result (string_bytes out.new ≡ string_bytes out.old ++ join_with_byte 32 (event_words what.now)) }
 {
     match what {
@@ -75,14 +88,7 @@ fn push_happened(out: &mut String, what: &Happened) -> Result<(), AllocError>
             write!(out, "send {to} {n} {tag} {ctx} {len} {how} {line}")
         }
         Happened::Post { post, line } => push_post(out, post, *line),
-        Happened::Arrive { a } => {
-            let how = word_of_how(a.env.how);
-            write!(
-                out,
-                "arrive {} {} {} {} {} {how}",
-                a.env.from, a.n, a.env.tag, a.env.ctx, a.env.len
-            )
-        }
+        Happened::Arrive { a } => push_arrival(out, a),
         Happened::Whole { from, n } => write!(out, "whole {from} {n}"),
         Happened::Out { to, n } => write!(out, "out {to} {n}"),
         Happened::Cancel { number, done } => {

@@ -30,11 +30,10 @@ mod pairs;
 mod records;
 mod reports;
 mod summaries;
-#[cfg(test)]
-mod tests;
 
 pub use accounts::{Accounts, RankAccount};
 pub use answers::push_answer;
+pub use events::{push_happened, word_of_how};
 pub use pairs::{PairCount, Pairs};
 pub use records::RunRecord;
 pub use reports::text;

@@ -40,12 +40,14 @@ impl Pairs {
         }
     }
 
+    /// The list of these counts.
     pub fn from_vec(items: Vec<PairCount>) -> Self
         ensures { result ≡ items.items }
     {
         Pairs { items }
     }
 
+    /// The counts, given away.
     pub fn into_vec(self) -> Vec<PairCount>
         ensures { result.items ≡ self }
     {
@@ -61,18 +63,21 @@ impl Pairs {
         Ok(())
     }
 
+    /// How many counts there are.
     pub fn len(&self) -> usize
         ensures { result ≡ length self.now }
     {
         self.items.len()
     }
 
+    /// Whether there is none.
     pub fn is_empty(&self) -> bool
         ensures { IsTrue result ↔ (self.now ≡ []) }
     {
         self.items.is_empty()
     }
 
+    /// The count at place k, from 0; `None` where there are at most k.
     pub fn get(&self, k: usize) -> Option<&PairCount>
         ensures value { option_copied result ≡ slice_get self.now k }
         ensures none { IsNone result ↔ (length self.now ≤ k) }
@@ -80,6 +85,7 @@ impl Pairs {
         self.items.get(k)
     }
 
+    /// The counts, in order.
     pub fn as_slice(&self) -> &[PairCount]
         ensures { result.now ≡ self.now }
     {

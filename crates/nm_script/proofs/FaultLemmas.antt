@@ -32,8 +32,10 @@ use Rattle.nm_script.specs.Faults.{◌>>=◌}
 use Rattle.nm_script.specs.Keywords.{keyword_of, keyword_text}
 use Rattle.nm_script.specs.Rules.{HasRank, IsFirstOf, Keeps}
 use Rattle.nm_script.proofs.BodyLemmas.{body_again}
-use Rattle.nm_script.proofs.CommandLemmas.{argument_again, argument_taken, peer_again}
-use Rattle.nm_script.proofs.CommandLemmas.{peer_taken, pick_again, pick_taken, rank_again, rank_taken}
+use Rattle.nm_script.proofs.CommandLemmas.{argument_again, peer_again}
+use Rattle.nm_script.proofs.CommandTakenLemmas.{argument_taken}
+use Rattle.nm_script.proofs.CommandLemmas.{pick_again, rank_again}
+use Rattle.nm_script.proofs.CommandTakenLemmas.{peer_taken, pick_taken, rank_taken}
 use Rattle.nm_script.proofs.KeywordLemmas.{keyword_taken, keyword_again}
 use Rattle.nm_script.proofs.StepLemmas.{bind_err, err_or, found_in}
 use Rattle.nm_words.proofs.StepLemmas.{bind_ok, chosen}

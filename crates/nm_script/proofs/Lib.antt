@@ -1,10 +1,11 @@
 pub mod BodyLemmas
 pub mod CommandLemmas
+pub mod CommandTakenLemmas
 pub mod FaultLemmas
-pub mod FirstFaultLemmas
-pub mod KeywordLemmas
+mod FirstFaultLemmas
+mod KeywordLemmas
 pub mod LengthLemmas
 pub mod ReadLemmas
-pub mod ReadingLoop
-pub mod RuleLemmas
+mod ReadingLoop
+mod RuleLemmas
 pub mod StepLemmas

@@ -25,7 +25,8 @@ use Rattle.nm_script.specs.Reading.{positive, ranks_of, ranks_at, fitting, line_
 use Rattle.nm_script.specs.Reading.{read_of, parts}
 use Rattle.nm_script.specs.Rules.{line_text, ranks_text}
 use Rattle.nm_script.specs.Spelled.{has_bytes, IsTextOf, Takes}
-use Rattle.nm_script.proofs.CommandLemmas.{line_words, Fits, line_again, line_taken}
+use Rattle.nm_script.proofs.CommandLemmas.{line_words, Fits, line_again}
+use Rattle.nm_script.proofs.CommandTakenLemmas.{line_taken}
 use Rattle.nm_words.proofs.LineLemmas.{ended_lines, is_some_line, lines_split, lines_fed, text_len-lines}
 use Rattle.nm_words.proofs.LineLemmas.{joined, joined_either}
 use Rattle.nm_words.proofs.NumberLemmas.{number_taken, number_again}
@@ -100,7 +101,7 @@ all_printable ranks (line ∷ lines) few fit =
     let solid : Solid (line_words line.rank line.command) = (line_again ranks line few p.0).1 in
     and_from _ _ (joined_printable _ _ solid) (all_printable ranks lines few p.1)
 
-some_joined : (word : List ℕ) (ws : List (List ℕ)) → 0 < length word
+pub some_joined : (word : List ℕ) (ws : List (List ℕ)) → 0 < length word
     → is_some_line (join_with_byte 32 (word ∷ ws)) ≡ true
 some_joined word [] h = lt-ltb 0 (length word) h
 some_joined word (next ∷ ws) h =

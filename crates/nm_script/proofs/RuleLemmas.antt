@@ -29,13 +29,15 @@ use Rattle.nm_script.specs.Reading.{positive, ranks_of, ranks_at, fitting, line_
 use Rattle.nm_script.specs.Rules.{ranks_text, IsLine, Keeps, FirstKeeps, first_kinds, line_kinds}
 use Rattle.nm_script.specs.Rules.{IsFirstOf, AllKept}
 use Rattle.nm_script.specs.Spelled.{has_bytes}
-use Rattle.nm_script.proofs.CommandLemmas.{Fits, arguments_in, keyword_in, line_again, line_taken, line_words}
+use Rattle.nm_script.proofs.CommandLemmas.{Fits, arguments_in, keyword_in, line_again, line_words}
+use Rattle.nm_script.proofs.CommandTakenLemmas.{line_taken}
 use Rattle.nm_script.proofs.CommandLemmas.{words_are}
 use Rattle.nm_script.proofs.FaultLemmas.{one_keyword, words_fault}
 use Rattle.nm_script.proofs.ReadLemmas.{first_solid, line_at_taken, ranks_again}
-use Rattle.nm_script.proofs.StepLemmas.{bind_err, three_parts, four_parts, five_parts}
+use Rattle.nm_script.proofs.StepLemmas.{bind_err, four_parts, five_parts}
 use Rattle.nm_words.proofs.StepLemmas.{chosen}
 use Rattle.nm_words.proofs.WordLemmas.{line_is, joined_printable, words_again}
+use Rattle.nm_facts.proofs.Truth.{three_parts}
 
 -- ---- a command's words
 
@@ -139,7 +141,8 @@ named_words_kept ranks number total text line fits =
     let c = line.command in
     let ws = arguments_in c in
     let k = keyword_in c in
-    let every : (P : Keyword → Type 0) → P k → (j : Keyword) → keyword_text k ≡ keyword_text j → P j = λ P holds j named.
+    let every : (P : Keyword → Type 0) → P k → (j : Keyword) → keyword_text k ≡ keyword_text j →
+    P j = λ P holds j named.
     subst P (one_keyword k j named) holds in (
       (line.rank, fits.own, refl),
       (

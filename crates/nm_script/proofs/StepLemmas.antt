@@ -5,6 +5,7 @@ use Rattle.std.specs.Option.{ok_or}
 use Rattle.std.proofs.lemmas.Bool.{and_from, and_parts}
 use Rattle.nm_script.specs.declared.faults.Kind.{Kind}
 use Rattle.nm_script.specs.Faults.{◌>>=◌, at_line}
+use Rattle.nm_facts.proofs.Truth.{three_parts}
 
 -- the first step failed, or the second did
 pub bind_err : {E A B : Type 0} (r : Result A E) (f : A → Result B E) (e : E) → (r >>= f) ≡ Err e
@@ -38,17 +39,6 @@ found_in None e x h = cc
 pub at_line_ok : {A : Type 0} (k : ℕ) (r : Result A Kind) (x : A) → at_line k r ≡ Ok x → r ≡ Ok x
 at_line_ok k (Ok y) x h = cc
 at_line_ok k (Err e) x h = cc
-
-pub not_true : (b : Bool) → (b ≡ true → ⊥) → b ≡ false
-not_true true h = absurd (h refl)
-not_true false h = refl
-
--- three and four tests in a row
-pub three_parts : (a b c : Bool) → (a && b && c) ≡ true → (a ≡ true) × (b ≡ true) × (c ≡ true)
-three_parts a b c h =
-    let p = and_parts (a && b) c h in
-    let q = and_parts a b p.0 in
-    (q.0, q.1, p.1)
 
 pub three_from : (a b c : Bool) → a ≡ true → b ≡ true → c ≡ true → (a && b && c) ≡ true
 three_from a b c x y z = and_from (a && b) c (and_from a b x y) z

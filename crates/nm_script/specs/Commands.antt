@@ -69,6 +69,7 @@ send_with ranks sync name to tag ctx body = do
   b ← body_of body
   Ok (command.Send q r t c b sync)
 
+-- a send, where there are as many arguments as it has
 unfoldable pub send_of : ℕ → Bool → List (List ℕ) → Result Command Kind
 send_of ranks sync (name ∷ to ∷ tag ∷ ctx ∷ body ∷ []) = send_with ranks sync name to tag ctx body
 send_of ranks sync _ = Err kind.Count
@@ -81,6 +82,7 @@ recv_with ranks name from tag ctx cap = do
   n ← argument_of (MAX_CAPACITY + 1) cap
   Ok (command.Recv q s.from s.tag s.ctx n)
 
+-- a receive, where there are as many arguments as it has
 unfoldable pub recv_of : ℕ → List (List ℕ) → Result Command Kind
 recv_of ranks (name ∷ from ∷ tag ∷ ctx ∷ cap ∷ []) = recv_with ranks name from tag ctx cap
 recv_of ranks _ = Err kind.Count
@@ -102,6 +104,7 @@ mprobe_with ranks name from tag ctx = do
   s ← selection_of ranks from tag ctx
   Ok (command.Mprobe m s.from s.tag s.ctx)
 
+-- such a probe, where there are as many arguments as it has
 unfoldable pub mprobe_of : ℕ → List (List ℕ) → Result Command Kind
 mprobe_of ranks (name ∷ from ∷ tag ∷ ctx ∷ []) = mprobe_with ranks name from tag ctx
 mprobe_of ranks _ = Err kind.Count
@@ -114,6 +117,7 @@ mrecv_with name handle cap = do
   n ← argument_of (MAX_CAPACITY + 1) cap
   Ok (command.Mrecv q m n)
 
+-- such a receive, where there are as many arguments as it has
 unfoldable pub mrecv_of : List (List ℕ) → Result Command Kind
 mrecv_of (name ∷ handle ∷ cap ∷ []) = mrecv_with name handle cap
 mrecv_of _ = Err kind.Count

@@ -71,10 +71,11 @@ FirstKeeps text kind.First =
     (ranks : ℕ) × (1 ≤ ranks) × (ranks ≤ MAX_RANKS) × (text ≡ ranks_text ranks)
 FirstKeeps text _ = Unit {0}
 
--- the kinds of the first line, and those of other lines, in their order
+-- the kinds of the first line, in their order
 abbrev pub first_kinds : List Kind
 first_kinds = kind.NotAscii ∷ kind.First ∷ []
 
+-- the kinds of other lines, in their order
 abbrev pub line_kinds : List Kind
 line_kinds =
     kind.NotAscii ∷ kind.Lines ∷ kind.Rank ∷ kind.Command ∷ kind.Count ∷ kind.Number ∷ kind.Body

@@ -48,8 +48,6 @@ pub mod laws;
 mod lengths;
 mod lines;
 mod reading;
-#[cfg(test)]
-mod tests;
 mod writing;
 
 pub use faults::{Kind, ScriptFault};

@@ -31,7 +31,8 @@ use Rattle.nm_trace.specs.Traces.{AnswerIn, Begins, EndIn, EventIn, IsTraceOf, P
 use Rattle.nm_trace.proofs.ReportLemmas.{report_is}
 use Rattle.nm_trace.proofs.SoundLemmas.{closed, more_ranks, none_left, raised, true_or_false}
 use Rattle.nm_trace.proofs.TextLemmas.{event_more, rank_more}
-use Rattle.nm_trace.proofs.WithinLemmas.{Within, all_more, end_in}
+use Rattle.nm_trace.proofs.WithinLemmas.{Within, end_in}
+use Rattle.nm_facts.proofs.Lists.{all_push}
 
 -- the answer with as many bytes as are due, all of them zero
 abbrev filled : Answer → ℕ → Answer
@@ -232,7 +233,7 @@ module _ (shape : Sizes) (pairs : List PairCount) (pairs_in : AllByRecursion Pai
             fewer shape (telling_text pairs ends events (note ∷ due)) told
             (rw (← event_more pairs ends events due note event told line refl)
             (rank_begins ends (events ++ event ∷ []) due some ends_in
-            (all_more EventIn events event events_in (event_filled note order.2)) (rw same at order.3) next))
+            (all_push EventIn events event events_in (event_filled note order.2)) (rw same at order.3) next))
         | inr e ↦
             fewer shape (telling_text pairs ends events (note ∷ due)) []
             (rw (← rank_more pairs ends events (note ∷ due) None)
@@ -252,7 +253,7 @@ module _ (shape : Sizes) (pairs : List PairCount) (pairs_in : AllByRecursion Pai
       rank_begins ends events due (omega (arith, count)) ends_in events_in order (λ e more e_in rest.
       let longer = more_ranks ends e in
       telling_begins left (ends ++ e ∷ []) [] more (omega (arith, count, longer)) (λ _. refl)
-      (all_more EndIn ends e ends_in e_in) tt (rw longer rest))
+      (all_push EndIn ends e ends_in e_in) tt (rw longer rest))
 
 noted : (a c : List ℕ) → a ++ c ≡ [] ++ [] ++ a ++ c ++ [] ++ []
 noted a c = simp append-nil

@@ -1,20 +1,20 @@
-pub mod AnswerLemmas
-pub mod BeginLemmas
-pub mod CompleteLemmas
-pub mod CountLemmas
-pub mod EndLemmas
-pub mod EventLemmas
-pub mod FeedLemmas
-pub mod FieldLemmas
-pub mod GivenLemmas
-pub mod LineLemmas
-pub mod NoteLemmas
-pub mod OutcomeLemmas
-pub mod ReportLemmas
-pub mod SolidLemmas
-pub mod SoundLemmas
-pub mod StageLemmas
-pub mod TextLemmas
-pub mod ToldLemmas
-pub mod VerdictLemmas
-pub mod WithinLemmas
+mod AnswerLemmas
+mod BeginLemmas
+mod CompleteLemmas
+mod CountLemmas
+mod EndLemmas
+mod EventLemmas
+mod FeedLemmas
+mod FieldLemmas
+mod GivenLemmas
+mod LineLemmas
+mod NoteLemmas
+mod OutcomeLemmas
+mod ReportLemmas
+mod SolidLemmas
+mod SoundLemmas
+mod StageLemmas
+mod TextLemmas
+mod ToldLemmas
+mod VerdictLemmas
+mod WithinLemmas

@@ -1,21 +1,12 @@
 -- What a text tells, line by line.
 use Rattle.std.proofs.Common.{◌≡◌, ℕ, ◌+◌, ◌⊎◌, inl, inr, false, List, [], ◌∷◌, Option, Some}
 use Rattle.std.proofs.Common.{None, Err, refl, sym, ap, ◌∙◌, eqb}
-use Rattle.std.specs.Option.{option_map}
 use Rattle.nm_words.proofs.StepLemmas.{chosen}
 use Rattle.nm_trace.specs.Lines.{cut_lines, first_line}
 use Rattle.nm_trace.specs.Machine.{State, feed}
 use Rattle.nm_trace.specs.Outcome.{at_end, told, line_as}
 use Rattle.nm_trace.proofs.FieldLemmas.{bind_some}
-
-map_some : {A B : Type 0} (f : A → B) (o : Option A) (y : B) → option_map f o ≡ Some y
-    → (x : A) × (o ≡ Some x) × (f x ≡ y)
-map_some f (Some x) y h = let e : f x ≡ y = cc in (x, refl, e)
-map_some f None y h = cc
-
-map_none : {A B : Type 0} (f : A → B) (o : Option A) → option_map f o ≡ None → o ≡ None
-map_none f (Some x) h = cc
-map_none f None h = refl
+use Rattle.nm_facts.proofs.Options.{mapped_none, mapped_some}
 
 abbrev some_of : {A B : Type 0} → A × B → Option (A × B) → A × B
 some_of other None = other
@@ -45,7 +36,7 @@ cut_first (b ∷ bytes) line rest h =
           let same = same_pair [] line bytes rest e.1 in
           rw (e.0, ← same.0, ← same.1) refl
       | inr e ↦
-          let m = map_some (λ (cut : List ℕ × List ℕ). (b ∷ cut.0, cut.1)) (first_line bytes) (line, rest) e.1 in
+          let m = mapped_some (λ (cut : List ℕ × List ℕ). (b ∷ cut.0, cut.1)) (first_line bytes) (line, rest) e.1 in
           let same = same_pair (b ∷ m.0.0) line m.0.1 rest (ap Some m.2) in
           cut_more b bytes m.0.0 m.0.1 (cut_first bytes m.0.0 m.0.1 m.1) e.0
           ∙ ap (λ (l : List ℕ). cut_at l m.0.1) same.0 ∙ ap (λ (r : List ℕ). cut_at line r) same.1
@@ -58,7 +49,7 @@ cut_none (b ∷ bytes) h =
     elim (chosen (eqb b 10) _ _ None h) [
       | inl e ↦ cc (e.1)
       | inr e ↦
-          let none = map_none (λ (cut : List ℕ × List ℕ). (b ∷ cut.0, cut.1)) (first_line bytes) e.1 in
+          let none = mapped_none (λ (cut : List ℕ × List ℕ). (b ∷ cut.0, cut.1)) (first_line bytes) e.1 in
           rw e.0 (rw (cut_none bytes none) refl)
     ]
 

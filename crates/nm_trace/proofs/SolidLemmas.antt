@@ -1,11 +1,10 @@
 -- The lines of a trace are of words, with one space between each two.
 use Rattle.std.proofs.Common.{◌≡◌, ℕ, ◌<◌, ◌^◌, ◌⊎◌, inl, inr, Bool, true, false, ◌&&◌, List, [], ◌∷◌, ◌++◌}
-use Rattle.std.proofs.Common.{zero, suc, length, nat_le, refl, ◌∙◌, arith, decimal, eqb}
+use Rattle.std.proofs.Common.{zero, suc, length, nat_le, refl, ◌∙◌, arith, decimal}
 use Rattle.std.specs.Int.{IsInRange}
 use Rattle.std.specs.List.{AllByRecursion, join_with_byte, list_all}
 use Rattle.std.specs.Str.Parse.{AllDigits}
 use Rattle.std.proofs.lemmas.Bool.{and_from, and_parts}
-use Rattle.std.proofs.lemmas.Bool.Decides.{nat_tests}
 use Rattle.std.proofs.lemmas.Fmt.{decimal_is_IsNumeral}
 use Rattle.std.proofs.lemmas.List.Folds.{list_all-append}
 use Rattle.std.proofs.lemmas.Str.Parse.{digit_from_value}
@@ -29,6 +28,7 @@ use Rattle.nm_words.proofs.WordLemmas.{Solid, decimal_solid, is_solid, joined_pr
 use Rattle.nm_trace.specs.declared.notes.Note.{Note}
 use Rattle.nm_trace.specs.Notes.{BareIn, NoteIn, ToldIn, note_words, spoken_words, told_words}
 use Rattle.nm_trace.specs.Traces.{AnswerIn, PeerIn, PickIn, WhatIn}
+use Rattle.nm_words.proofs.WordLemmas.{solid_no_space}
 
 -- a word whose bytes may all stand in one
 abbrev pub IsWord : List ℕ → Type 0
@@ -241,9 +241,6 @@ digit_first (d ∷ ds) x y c h e =
 pub starts_with : (n : ℕ) (x y : List ℕ) (c : ℕ) → n < 2 ^ 64 → decimal n ++ 32 ∷ x ≡ c ∷ y
     → (c ≡ 32) ⊎ IsInRange 48 57 c
 starts_with n x y c h e = digit_first (decimal n) x y c (decimal_is_IsNumeral n h).0.1 e
-
-solid_no_space : (b : ℕ) → is_solid b ≡ true → eqb b 32 ≡ false
-solid_no_space b h = grind (arith, nat_tests)
 
 pub split_word : (word bytes : List ℕ) → IsWord word → words_of (word ++ 32 ∷ bytes) ≡ word ∷ words_of bytes
 split_word [] bytes solid = refl

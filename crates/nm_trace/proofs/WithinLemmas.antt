@@ -29,6 +29,7 @@ use Rattle.nm_trace.proofs.FieldLemmas.{bind_some, guard_some}
 use Rattle.nm_trace.proofs.GivenLemmas.{line_taken}
 use Rattle.nm_trace.proofs.SoundLemmas.{more_ranks, or_cases, raised, settle_same}
 use Rattle.nm_trace.proofs.SoundLemmas.{true_or_false}
+use Rattle.nm_facts.proofs.Lists.{all_push}
 
 -- the numbers of what was told so far are within their types
 abbrev pub Within : State → Type 0
@@ -39,11 +40,6 @@ Within (Telling pairs part) =
 Within (Closing pairs ends cells) =
     AllByRecursion PairIn pairs × AllByRecursion EndIn ends × CellsIn cells
 Within (Over t) = AllByRecursion PairIn t.pairs × AllByRecursion EndIn t.ends × CellsIn t.cells
-
-pub all_more : {A : Type 0} (P : A → Type 0) (xs : List A) (x : A) → AllByRecursion P xs → P x
-    → AllByRecursion P (xs ++ x ∷ [])
-all_more P [] x all h = (h, tt)
-all_more P (y ∷ xs) x all h = (all.0, all_more P xs x all.1 h)
 
 -- what has no line behind the events was told whole
 pub plain_in : (w : Happened) (len : ℕ) → ToldIn w len → is_due w ≡ false → WhatIn w
@@ -129,7 +125,7 @@ settled_in rank low ranks events (note ∷ due) all h =
           let plain = not-true (is_due note.event.what) p.1 in
           let here : EventIn note.event = (h.2.stamp, plain_in note.event.what note.len h.2.what plain) in
           rw e (settled_in rank note.rank ranks (events ++ note.event ∷ []) due
-          (all_more EventIn events note.event all here) h.3)
+          (all_push EventIn events note.event all here) h.3)
       | inr e ↦ rw e all
     ]
 
@@ -146,7 +142,7 @@ given_within low ranks pairs ends events (note ∷ due) line s order p e all h =
     let g = guard_some (is_due note.event.what) _ s h in
     let b = bind_some (given note line) _ s g.1 in
     let is : Telling pairs (record { ends = ends; events = events ++ b.0 ∷ []; due = due }) ≡ s = cc (b.2) in
-    rw (← is) (p, e, all_more EventIn events b.0 all (event_in note line b.0 order.2 b.1))
+    rw (← is) (p, e, all_push EventIn events b.0 all (event_in note line b.0 order.2 b.1))
 
 telling_within : (left ranks : ℕ) (pairs : List PairCount) (ends : List Ended) (events : List Event)
     (due : List Note) (line : List ℕ) (s : State) → InOrder (length ends) ranks due
@@ -176,12 +172,12 @@ telling_within (suc left) ranks pairs ends events due line s order p e all h =
                   events = [];
                   due = t.1;
                 }) ≡ s = cc (b.2) in
-                rw (← is) (p, all_more EndIn ends (ended t.0 (Some b.0)) e (end_in t.0 (Some b.0) here words.1), tt)
+                rw (← is) (p, all_push EndIn ends (ended t.0 (Some b.0)) e (end_in t.0 (Some b.0) here words.1), tt)
             | inr w ↦
                 let next = more_ranks ends (ended t.0 None) in
                 telling_within left ranks pairs (ends ++ ended t.0 None ∷ []) [] t.1 line s
                 (rw next (raised (length ends) ranks t.1 n.0 same.1)) p
-                (all_more EndIn ends (ended t.0 None) e (end_in t.0 None here tt)) tt w
+                (all_push EndIn ends (ended t.0 None) e (end_in t.0 None here tt)) tt w
           ]
     ]
 
@@ -195,7 +191,7 @@ counting_within ranks notes pairs line s order p h =
           let b = bind_some (pair_of (words_of line)) _ s w in
           let taken = pair_taken (words_of line) b.0 b.1 in
           let is : Counting notes (pairs ++ b.0 ∷ []) ≡ s = cc (b.2) in
-          rw (← is) (all_more PairIn pairs b.0 p taken.1)
+          rw (← is) (all_push PairIn pairs b.0 p taken.1)
       | inr w ↦ telling_within ranks ranks pairs [] [] notes line s order p tt tt w
     ]
 

@@ -40,11 +40,12 @@ BareIn (answer.Seen seen) len =
     (seen.from < 2 ^ 8) × (seen.tag < 2 ^ 16) × (seen.len < 2 ^ 32) × (len ≡ 0)
 BareIn _ len = len ≡ 0
 
--- what happened without the bytes, and their number
+-- what happened, without the bytes
 abbrev pub bare_what : Happened → Happened
 bare_what (what.Ran line answer) = what.Ran line (bare answer)
 bare_what w = w
 
+-- how many bytes there are in what happened
 abbrev pub bytes_of_what : Happened → ℕ
 bytes_of_what (what.Ran line answer) = bytes_in answer
 bytes_of_what _ = 0
@@ -63,11 +64,12 @@ noted rank event =
       len = bytes_of_what event.what;
     }
 
--- the words of a note's line, and the line
+-- the words of a note's line
 abbrev pub note_words : Note → List (List ℕ)
 note_words note =
     codes "@" ∷ decimal note.rank ∷ decimal note.event.stamp ∷ told_words note.event.what note.len
 
+-- a note's line
 abbrev pub note_line : Note → List ℕ
 note_line note = text_line (note_words note)
 
@@ -82,17 +84,20 @@ pub record NoteIn (note : Note) : Type 0 where
   pub stamp : note.event.stamp < 2 ^ 64
   pub what : ToldIn note.event.what note.len
 
--- the words of the lines behind the events
+-- the words of the line of a pair
 abbrev pub pair_words : PairCount → List (List ℕ)
 pair_words pair = codes "pair" ∷ decimal pair.from ∷ decimal pair.to ∷ decimal pair.packets ∷ []
 
+-- the words of the line of a rank that waits
 abbrev pub waits_words : ℕ → ℕ → List (List ℕ)
 waits_words rank line = decimal rank ∷ decimal line ∷ codes "waits" ∷ []
 
+-- the words of the line of the cells
 abbrev pub cells_words : Account → List (List ℕ)
 cells_words cells =
     codes "cells" ∷ decimal cells.total ∷ codes "home" ∷ decimal cells.home ∷ []
 
+-- the word of the last line
 abbrev pub end_word : Bool → List ℕ
 end_word true = codes "done"
 end_word false = codes "stuck"

@@ -23,11 +23,12 @@ use Rattle.nm_trace.specs.declared.faults.TraceFault.TheVariants as fault
 use Rattle.nm_trace.specs.Answers.{is_ran}
 use Rattle.nm_trace.specs.Lines.{ended_lines, whole_lines}
 
--- a source, and a tag, within their types
+-- a source within its type, or any
 abbrev pub PeerIn : Peer → Type 0
 PeerIn peer.Any = Unit {0}
 PeerIn (peer.One rank) = rank < 2 ^ 8
 
+-- a tag within its type, or any
 abbrev pub PickIn : TagPick → Type 0
 PickIn pick.Any = Unit {0}
 PickIn (pick.One tag) = tag < 2 ^ 16
@@ -61,9 +62,11 @@ WhatIn (what.Match number from n cap line) =
     (number < 2 ^ 64) × (from < 2 ^ 8) × (n < 2 ^ 64) × (cap < 2 ^ 32) × (line < 2 ^ 32)
 WhatIn (what.Ran line answer) = (line < 2 ^ 32) × AnswerIn answer
 
+-- an event whose numbers are within their types
 abbrev pub EventIn : Event → Type 0
 EventIn event = (event.stamp < 2 ^ 64) × WhatIn event.what
 
+-- the line at which a rank waits, within its type, or none
 abbrev pub WaitsIn : Option ℕ → Type 0
 WaitsIn (Some line) = line < 2 ^ 32
 WaitsIn None = Unit {0}
@@ -74,9 +77,11 @@ pub record EndIn (e : Ended) : Type 0 where
   pub waits : WaitsIn e.waits
   pub at : e.at ≡ length (filter (λ event. is_ran event.what) e.events)
 
+-- a count of packets, with its ranks, within their types
 abbrev pub PairIn : PairCount → Type 0
 PairIn pair = (pair.from < 2 ^ 8) × (pair.to < 2 ^ 8) × (pair.packets < 2 ^ 64)
 
+-- the account of the cells, within its types
 abbrev pub CellsIn : Account → Type 0
 CellsIn cells = (cells.total < 2 ^ 32) × (cells.home < 2 ^ 32)
 

@@ -28,8 +28,6 @@ mod notes;
 mod numbers;
 mod reading;
 mod sorts;
-#[cfg(test)]
-mod tests;
 mod texts;
 
 pub use faults::TraceFault;

@@ -7,10 +7,10 @@ use Rattle.nm_plan_requests.proofs.RequestLemmas.{request_at-more}
 use Rattle.nm_persist.specs.declared.asked.Asked.{Asked}
 use Rattle.nm_persist.specs.Report.{asked_behind, asked_by}
 use Rattle.nm_persist.specs.Results.{AreRows}
-use Rattle.nm_persist.proofs.DraftLemmas.{take_more}
-use Rattle.nm_persist.proofs.RangeLemmas.{ready_at}
+use Rattle.nm_persist.proofs.ReadyLemmas.{ready_at}
 use Rattle.nm_persist.proofs.ReportLemmas.{asked-more, first_small}
 use Rattle.nm_persist.proofs.asked.asked_of.Goals as goal
+use Rattle.nm_facts.proofs.Lists.{take_next}
 
 pub loop-place-init : goal.loop-place-init
 unfolding request_at
@@ -34,7 +34,7 @@ loop-place-preserved c =
     let line = c.index-lines-place.result in
     let before = take i lines in
     let more : take (i + 1) lines ≡ before ++ line ∷ [] =
-    take_more lines i line (omega arith) c.index-lines-place.is in
+    take_next lines i line (omega arith) c.index-lines-place.is in
     let each = c.loop-place.invariant.requests.each in
     let number : i + 2 ≡ length before + 2 = omega (arith, length-take-le i lines (omega arith)) in
     let here : c.asked_by.result ≡ asked_by (i + 2) line (request_at before (owner_of line)) =

@@ -7,9 +7,9 @@ use Rattle.nm_plan_requests.specs.Expansion.{expand, lines_for}
 use Rattle.nm_plan_requests.specs.Requests.{IsSmall, owner_of, request_at, request_behind}
 use Rattle.nm_plan_requests.specs.States.{allows}
 use Rattle.nm_plan_requests.proofs.RequestLemmas.{expand-more, request_at-more}
-use Rattle.nm_persist.proofs.DraftLemmas.{take_more}
-use Rattle.nm_persist.proofs.RangeLemmas.{name_small, ready_allows, ready_at, requests_small}
+use Rattle.nm_persist.proofs.ReadyLemmas.{name_small, ready_allows, ready_at, requests_small}
 use Rattle.nm_persist.proofs.plans.expand_lines.Goals as goal
+use Rattle.nm_facts.proofs.Lists.{take_next}
 
 pub loop-line-init : goal.loop-line-init
 unfolding expand request_at
@@ -48,7 +48,7 @@ loop-line-preserved c =
     let i = c.loop-line.line-index in
     let lines = c.args.lines.now in
     let line = c.line-item.result in
-    let more = take_more lines i line (omega arith) c.line-item.is in
+    let more = take_next lines i line (omega arith) c.line-item.is in
     let before = take i lines in
     let each = c.loop-line.invariant.requests.each in
     record {

@@ -1,5 +1,5 @@
 use Rattle.std.proofs.lemmas.Bool.{and_from, lt-ltb}
-use Rattle.nm_plans.proofs.GrammarLemmas.{line_taken}
+use Rattle.nm_plans.proofs.MakeLemmas.{line_taken}
 use Rattle.nm_persist.proofs.reading.line_in.Goals as goal
 
 pub add-requires-clause-in_range : goal.add-requires-clause-in_range

@@ -2,7 +2,7 @@
 use Rattle.std.proofs.Common.{◌≤◌, arith}
 use Rattle.nm_types.specs.declared.limits.TheConstants.{MAX_BODY}
 use Rattle.nm_types.specs.Limits.{sent_len}
-use Rattle.nm_script.proofs.CommandLemmas.{line_taken, sent_fits}
+use Rattle.nm_script.proofs.CommandTakenLemmas.{line_taken, sent_fits}
 use Rattle.nm_script.proofs.reading.line_in.Goals as goal
 
 pub sent_len-requires : goal.sent_len-requires

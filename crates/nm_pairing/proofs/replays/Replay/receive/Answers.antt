@@ -1,6 +1,7 @@
 use Rattle.std.proofs.Common.{◌≡◌, None, Some, sym, ◌∙◌}
 use Rattle.nm_history.specs.Sends.{message_of}
-use Rattle.nm_pairing.proofs.EventLemmas.{match_none_takes, match_takes}
+use Rattle.nm_pairing.proofs.EventLemmas.{match_takes}
+use Rattle.nm_pairing.proofs.IdleLemmas.{match_none_takes}
 use Rattle.nm_pairing.proofs.replays.Replay.receive.Goals as goal
 
 pub returns-in_default : goal.returns-in_default

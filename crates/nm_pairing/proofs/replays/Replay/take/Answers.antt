@@ -1,6 +1,7 @@
 use Rattle.std.proofs.Common.{not, ◌∙◌, ap}
 use Rattle.nm_history.specs.declared.events.Happened.{Happened}
-use Rattle.nm_pairing.proofs.EventLemmas.{is_idle, other_is_idle, other_takes}
+use Rattle.nm_pairing.proofs.EventLemmas.{is_idle}
+use Rattle.nm_pairing.proofs.IdleLemmas.{other_is_idle, other_takes}
 use Rattle.nm_pairing.proofs.replays.Replay.take.Goals as goal
 
 pub returns-else-done : goal.returns-else-done

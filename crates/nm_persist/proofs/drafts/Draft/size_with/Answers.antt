@@ -7,7 +7,8 @@ use Rattle.nm_plan_requests.specs.Expansion.{expand, lines_for}
 use Rattle.indexmap.specs.IndexMap.{get}
 use Rattle.nm_plan_requests.specs.Requests.{IsSmall, owner_of, request_at, same_owner}
 use Rattle.nm_plan_requests.proofs.RequestLemmas.{expand-more}
-use Rattle.nm_persist.proofs.RangeLemmas.{OkLine, lines_short, order_lines, requests_small}
+use Rattle.nm_persist.proofs.RangeLemmas.{OkLine}
+use Rattle.nm_persist.proofs.ReadyLemmas.{lines_short, order_lines, requests_small}
 use Rattle.nm_persist.proofs.SizeLemmas.{size_said}
 use Rattle.nm_persist.proofs.drafts.Draft.size_with.Goals as goal
 

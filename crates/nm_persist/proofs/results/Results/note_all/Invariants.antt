@@ -9,6 +9,7 @@ abbrev pub invariant-loop-answer : goal.invariant-loop-answer
 invariant-loop-answer l = record {
   next : l.next ≡ l.fn.name + l.answer-index;
   each : (n : ℕ)
-      → fold (result_behind n) (found l.self.map n) (named_from l.next (map (λ a. a.now) (drop l.answer-index l.answers)))
+      → fold (result_behind n) (found l.self.map n)
+      (named_from l.next (map (λ a. a.now) (drop l.answer-index l.answers)))
       ≡ fold (result_behind n) (found l.fn.self.map n) (named_from l.fn.name (map (λ a. a.now) l.answers));
 }

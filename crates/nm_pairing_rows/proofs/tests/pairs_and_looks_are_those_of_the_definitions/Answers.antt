@@ -1,6 +1,6 @@
 use Rattle.std.proofs.Common.{refl, lit<}
 use Rattle.nm_history.specs.AtEach.{AtEach}
-use Rattle.nm_pairing.proofs.tests.pairs_and_looks_are_those_of_the_definitions.Goals as goal
+use Rattle.nm_pairing_rows.proofs.tests.pairs_and_looks_are_those_of_the_definitions.Goals as goal
 
 -- the numbers are right at each of the events
 pub of-requires : goal.of-requires

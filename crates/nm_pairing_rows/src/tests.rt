@@ -6,8 +6,8 @@ ghost use Rattle.nm_types.specs.declared.messages.Peer.TheVariants as peer;
 ghost use Rattle.nm_types.specs.declared.messages.TagPick.TheVariants as pick;
 ghost use Rattle.nm_history.specs.declared.events.Happened.TheVariants as happened;
 
-use crate::Pairing;
 use nm_history::{Event, Happened};
+use nm_pairing::Pairing;
 use nm_places::firsts::Message;
 use nm_types::{Answer, Arrival, Command, Envelope, How, Line, Peer, Post, TagPick};
 use std::test::Fail;

@@ -1,6 +1,6 @@
 //! Texts that are read and written, and texts that are refused.
 
-use crate::{Kind, ScriptFault, read, write};
+use nm_script::{Kind, ScriptFault, read, write};
 use nm_types::{Body, Command, Line, Peer, TagPick};
 use std::alloc::{AllocError, Global};
 use std::test::Fail;
@@ -105,6 +105,19 @@ fn the_first_fault_is_told(rt: HostRuntime) -> Result<(), Fail> {
         ("ranks 2\n0: wait 0 0\n", 2, Kind::Count),
         ("ranks 2\n0: isend 0 2 7 0\n", 2, Kind::Count),
         ("ranks 2\n0: mrecv 0 0 0 0\n", 2, Kind::Count),
+    ] {
+        assert_eq!(rt;
+            read(rt.alloc(), text.as_bytes()).err(),
+            Some(ScriptFault::Bad { line, kind }),
+            "{text:?}"
+        );
+    }
+    Ok(())
+}
+
+#[test]
+fn arguments_out_of_range_are_refused(rt: HostRuntime) -> Result<(), Fail> {
+    for (text, line, kind) in [
         ("ranks 2\n0: wait 01\n", 2, Kind::Number),
         ("ranks 2\n0: wait 65536\n", 2, Kind::Number),
         ("ranks 2\n0: wait \n", 2, Kind::Number),

@@ -1,7 +1,7 @@
 //! The text of small records, whose lines were written by hand.
 
-use super::*;
 use nm_history::{Event, Happened, History};
+use nm_report::{Accounts, PairCount, Pairs, RankAccount, RunRecord, summary, text};
 use nm_types::{
     Account, Answer, Arrival, Bytes, Envelope, How, Memory, Peer, Post, Seen, Shape, TagPick,
 };
@@ -91,6 +91,18 @@ fn a_report_has_a_line_for_each_answer(rt: HostRuntime) -> Result<(), Fail> {
     Ok(())
 }
 
+fn sent(n: u64, len: u32, how: How, line: u32) -> Happened {
+    Happened::Send {
+        to: 1,
+        n,
+        tag: 5,
+        ctx: 255,
+        len,
+        how,
+        line,
+    }
+}
+
 fn sender(alloc: Global) -> Result<Vec<Event>, Memory> {
     let post = Post {
         number: 0,
@@ -101,40 +113,12 @@ fn sender(alloc: Global) -> Result<Vec<Event>, Memory> {
     };
     let (to, n) = (1, 0);
     Ok(vec![in alloc;
-        at(
-            1,
-            Happened::Send {
-                to,
-                n,
-                tag: 5,
-                ctx: 0,
-                len: 2,
-                how: How::Eager,
-                line: 2
-            }
-        ),
-        at(
-            2,
-            Happened::Ran {
-                line: 2,
-                answer: Answer::Started
-            }
-        ),
+        at(1, sent(0, 2, How::Eager, 2)),
+        ran(2, Answer::Started),
         at(3, Happened::Out { to, n }),
         at(4, Happened::Recall { to, n }),
         at(7, Happened::Undone { to, n, done: false }),
-        at(
-            8,
-            Happened::Send {
-                to,
-                n: 1,
-                tag: 0,
-                ctx: 255,
-                len: 70000,
-                how: How::Ask,
-                line: 4
-            }
-        ),
+        at(8, sent(1, 70000, How::Ask, 4)),
         at(9, Happened::Post { post, line: 6 }),
         at(
             4611686018427387903,
@@ -162,17 +146,18 @@ fn receiver(alloc: Global) -> Result<Vec<Event>, Memory> {
         len: 2,
         how: How::Eager,
     };
-    let answer = got(alloc, 0, 5, &[0xab, 0x01])?;
+    let a = Arrival { n, env };
     Ok(vec![in alloc;
         at(1, Happened::Post { post, line: 3 }),
-        at(
-            2,
-            Happened::Arrive {
-                a: Arrival { n, env }
-            }
-        ),
+        at(2, Happened::Arrive { a }),
         at(3, Happened::Whole { from, n }),
-        at(4, Happened::Ran { line: 3, answer }),
+        ran(3, got(alloc, 0, 5, &[0xab, 0x01])?),
+    ]?)
+}
+
+fn claimer(alloc: Global) -> Result<Vec<Event>, Memory> {
+    let from = 0;
+    Ok(vec![in alloc;
         at(
             5,
             Happened::Withdraw {
@@ -208,27 +193,28 @@ fn a_trace_has_a_line_for_each_event(rt: HostRuntime) -> Result<(), Fail> {
     let mut ranks = Accounts::new(alloc);
     ranks.push(account(alloc, sender(alloc)?, 1, None)?)?;
     ranks.push(account(alloc, receiver(alloc)?, 1, None)?)?;
+    ranks.push(account(alloc, claimer(alloc)?, 0, None)?)?;
     let mut pairs = Pairs::new(alloc);
     for (from, to, packets) in [(0, 1, 3), (1, 0, 1)] {
         pairs.push(PairCount { from, to, packets })?;
     }
     let run = RunRecord {
-        shape: Shape::new(2, 8, 1024).ok().ok_or("a shape")?,
+        shape: Shape::new(3, 8, 1024).ok().ok_or("a shape")?,
         ranks,
         pairs,
         cells: Account {
-            total: 16,
-            home: 16,
+            total: 24,
+            home: 24,
         },
         done: true,
     };
-    let want = b"@ 0 1 send 1 0 5 0 2 eager 2\n@ 0 2 ran 2 started\n@ 0 3 out 1 0\n\
-        @ 0 4 recall 1 0\n@ 0 7 undone 1 0 late\n@ 0 8 send 1 1 0 255 70000 ask 4\n\
+    let want = b"@ 0 1 send 1 0 5 255 2 eager 2\n@ 0 9 ran 2 started\n@ 0 3 out 1 0\n\
+        @ 0 4 recall 1 0\n@ 0 7 undone 1 0 late\n@ 0 8 send 1 1 5 255 70000 ask 4\n\
         @ 0 9 post 0 any 7 3 1048576 6\n@ 0 4611686018427387903 cancel 0 done\n\
         @ 1 1 post 0 0 any 0 16 3\n@ 1 2 arrive 0 0 5 0 2 eager\n@ 1 3 whole 0 0\n\
-        @ 1 4 ran 3 got 0 5 2\n@ 1 5 withdraw 0 1 done\n@ 1 6 claim 0 2 7\n\
-        @ 1 7 match 1 0 2 4 8\npair 0 1 3\npair 1 0 1\n1 3 got 0 5 2 xab01\n\
-        cells 16 home 16\ndone\n";
+        @ 1 9 ran 3 got 0 5 2\n@ 2 5 withdraw 0 1 done\n@ 2 6 claim 0 2 7\n\
+        @ 2 7 match 1 0 2 4 8\npair 0 1 3\npair 1 0 1\n1 3 got 0 5 2 xab01\n\
+        cells 24 home 24\ndone\n";
     assert_eq!(rt; text(alloc, &run, true)?.as_slice(), want.as_slice());
     Ok(())
 }

@@ -1,7 +1,7 @@
 //! Traces that are read back, and lines that begin none.
 
-use crate::{TraceFault, read_trace};
 use nm_report::text;
+use nm_trace::{TraceFault, read_trace};
 use nm_types::Shape;
 use std::alloc::Global;
 use std::test::Fail;

@@ -1,7 +1,7 @@
 //! Worked plans, and texts that are refused.
 
-use crate::{PlanFault, PlanKind, read, text};
 use nm_history::{Event, Happened, History};
+use nm_persist::{PlanFault, PlanKind, read, text};
 use nm_report::{Accounts, Pairs, RankAccount, RunRecord};
 use nm_script::write;
 use nm_types::{Account, Answer, Bytes, Memory, Shape};
@@ -108,6 +108,14 @@ fn lines_out_of_place_are_refused(rt: HostRuntime) {
             3,
             PlanKind::Parts,
         ),
+    ] {
+        refuses(&rt, rt.alloc(), text, line, kind);
+    }
+}
+
+#[test]
+fn parts_out_of_turn_are_refused(rt: HostRuntime) {
+    for (text, line, kind) in [
         (
             b"ranks 1\n0: psendinit 0 0 1 0 2 x\n0: start 0\n0: ready 0 2\n".as_slice(),
             4,
