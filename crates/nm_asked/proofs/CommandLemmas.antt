@@ -6,15 +6,10 @@ use Rattle.std.specs.List.{find, slice_get}
 use Rattle.std.proofs.lemmas.Bool.Decides.{nat_tests}
 use Rattle.nm_types.specs.declared.scripts.Line.{Line}
 use Rattle.nm_types.specs.Commands.{Numbered, command_at, commands_from, commands_of}
+use Rattle.nm_facts.proofs.Numbers.{eq_less, eq_false}
 
 abbrev numbered : ℕ → Line → Numbered
 numbered number l = record { line = number; command = l.command }
-
-other_line : (number line : ℕ) → line < number → (number == line) ≡ false
-other_line number line low = grind (arith, nat_tests)
-
-later_line : (number line : ℕ) → number < line → (number == line) ≡ false
-later_line number line high = grind (arith, nat_tests)
 
 itself : (n : ℕ) → (n == n) ≡ true
 itself n = grind (arith, nat_tests)
@@ -28,7 +23,7 @@ none_before rank number line (l ∷ lines) low =
     by_rank : (b : Bool) → find (λ d. d.line == line) (commands_from rank (number + 1) lines) ≡ None →
         find (λ d. d.line == line) (cond b (numbered number l ∷ commands_from rank (number + 1) lines)
         (commands_from rank (number + 1) lines)) ≡ None
-    by_rank true later = rw (other_line number line low) later
+    by_rank true later = rw (eq_false number line low) later
     by_rank false later = later
 
 -- the command of the line at a place, where it is the rank's
@@ -53,7 +48,7 @@ found_at rank number (suc k) line (l ∷ lines) at =
         find (λ d. d.line == line) (cond b (numbered number l ∷ commands_from rank (number + 1) lines)
         (commands_from rank (number + 1) lines))
         ≡ own_command rank line (slice_get lines k)
-    by_rank true later = rw (later_line number line (omega (arith, at))) later
+    by_rank true later = rw (eq_less number line (omega (arith, at))) later
     by_rank false later = later
 
 -- the command of a line, by the line at its place

@@ -1,6 +1,6 @@
-pub mod CommandLemmas
+mod CommandLemmas
 pub mod GivenLemmas
-pub mod NameLemmas
+mod NameLemmas
 pub mod RequestLemmas
-pub mod SinceLemmas
-pub mod UpToLemmas
+mod SinceLemmas
+mod UpToLemmas

@@ -11,10 +11,10 @@ use Rattle.nm_history.specs.declared.events.Happened.{Happened}
 use Rattle.nm_history.specs.declared.events.Happened.TheVariants.{Ran}
 use Rattle.nm_history.specs.RankRun.{since_after, since_command}
 use Rattle.nm_history.proofs.RankRunLemmas.{since-push}
-use Rattle.nm_places.proofs.StepLemmas.{take_next}
 use Rattle.nm_asked.specs.SinceAnswer.{IsSince, of_kind}
 use Rattle.nm_asked.specs.declared.since.Since.{Since}
 use Rattle.nm_asked.specs.declared.since.Since.TheVariants.{Nothing, One, More}
+use Rattle.nm_facts.proofs.Lists.{take_next}
 
 since_more : (since : List Happened) (what : Happened) → ((line : ℕ) (answer : Answer) → what ≡ Ran line answer → ⊥) →
     since_after since what ≡ since ++ what ∷ []

@@ -1,21 +1,11 @@
 -- What is said of each place of a history, one event after another.
-use Rattle.std.proofs.Common.{◌≡◌, ◌⊎◌, inl, inr, ◌++◌, length-append, ℕ, zero, suc, ◌+◌, ◌<◌, ◌≤◌, Option, Some}
+use Rattle.std.proofs.Common.{◌≡◌, ◌⊎◌, inl, inr, ◌++◌, length-append, ℕ, ◌+◌, ◌<◌, ◌≤◌, Option, Some}
 use Rattle.std.proofs.Common.{List, [], ◌∷◌, length, get_or, refl, sym, subst, arith}
 use Rattle.std.specs.Prelude.{IsSomeAnd}
 use Rattle.std.specs.List.{slice_get}
 use Rattle.std.proofs.lemmas.Bool.{cases_lt}
 use Rattle.std.proofs.lemmas.Option.{slice_get-get_or, slice_get_past, slice_get_within}
-
--- what holds of the elements of a list and of one more
-still_some : {X : Type 0} (P : X → Type 0) (xs ys : List X) (t : ℕ) → IsSomeAnd (slice_get xs t) P →
-    IsSomeAnd (slice_get (xs ++ ys) t) P
-still_some P [] ys t here = absurd here
-still_some P (x ∷ xs) ys zero here = here
-still_some P (x ∷ xs) ys (suc t) here = still_some P xs ys t here
-
-last_some : {X : Type 0} (xs : List X) (x : X) → slice_get (xs ++ x ∷ []) (length xs) ≡ Some x
-last_some [] x = refl
-last_some (y ∷ xs) x = last_some xs x
+use Rattle.nm_facts.proofs.Lists.{get_last, some_still}
 
 module _ {X Y : Type 0} (P : ℕ → X → Y → Type 0) (xs : List X) where
   -- at each place there is one for its element
@@ -42,14 +32,14 @@ module _ {X Y : Type 0} (P : ℕ → X → Y → Type 0) (xs : List X) where
     where
       by_place : (t : ℕ) (z : X) → slice_get xs t ≡ Some z → (t < k) ⊎ (k ≤ t) → t < k + 1 →
           IsSomeAnd (slice_get (ys ++ y ∷ []) t) (P t z)
-      by_place t z there (inl less) low = still_some (P t z) ys (y ∷ []) t (before.1 t z less there)
+      by_place t z there (inl less) low = some_still (P t z) ys (y ∷ []) t (before.1 t z less there)
       by_place t z there (inr more) low =
           let same : k ≡ t = omega (arith, more, low) in
           subst (λ (t : ℕ). (z : X) → slice_get xs t ≡ Some z → IsSomeAnd (slice_get (ys ++ y ∷ []) t) (P t z)) same
           (λ z there. let one : x ≡ z = cc in
           subst (λ (w : X). IsSomeAnd (slice_get (ys ++ y ∷ []) k) (P k w)) one
           (subst (λ (n : ℕ). IsSomeAnd (slice_get (ys ++ y ∷ []) n) (P k x)) before.0
-          (subst (λ (o : Option Y). IsSomeAnd o (P k x)) (sym (last_some ys y)) right)))
+          (subst (λ (o : Option Y). IsSomeAnd o (P k x)) (sym (get_last ys y)) right)))
           z there
 
   -- all of them

@@ -145,6 +145,7 @@ pub struct Asked {
 }
 
 impl Asked {
+    /// What the commands of a rank ask for in its history, whose places are given.
     pub fn of(
         alloc: Global,
         lines: &[Line],

@@ -24,6 +24,7 @@ use nm_places::places::ByNumber;
 use nm_types::{Answer, Command, Line, Memory};
 use std::alloc::Global;
 
+/// Whether a probe found a message.
 pub fn is_seen(answer: &Answer) -> bool
     ensures { result ≡ is_seen_lem answer.now }
 {

@@ -79,6 +79,7 @@ pub enum Change {
     Keeps,
 }
 
+/// Whether a start was taken.
 pub fn is_started(answer: &Answer) -> bool
     ensures { result ≡ is_started_lem answer.now }
 {

@@ -153,10 +153,12 @@ each_from P (x ∷ xs) f = (f x (inl refl), each_from P xs (λ k h. f k (inr h))
 -- the first number in the chain did not come, and those that came by cell are smaller
 pub next_by_cell_is_new : (s k : ℕ) (gb bx gc ch : List ℕ) → InSequence s gb bx gc (k ∷ ch)
     → (¬ Got gb gc k) × Each (λ j. j < k) gc
-next_by_cell_is_new s k gb bx gc ch t = let d = t.numbered in let all : (j : ℕ) → Has j gc → j < k = λ j h. behind gc (k ∷ ch) j k d.cell_rises h (inl refl) in (
-  (λ g. ⊎_elim (λ h. d.once k (has_left gb bx k h) (has_right gc (k ∷ ch) k (inl refl))) (λ h. let less = all k h in absurd (omega arith)) g),
-  each_from (λ j. j < k) gc all,
-)
+next_by_cell_is_new s k gb bx gc ch t = let d = t.numbered in let all : (j : ℕ) → Has j gc → j < k = λ j h. behind gc
+    (k ∷ ch) j k d.cell_rises h (inl refl) in (
+      (λ g. ⊎_elim (λ h. d.once k (has_left gb bx k h) (has_right gc (k ∷ ch) k (inl refl))) (λ h. let less = all k h in
+          absurd (omega arith)) g),
+      each_from (λ j. j < k) gc all,
+    )
 
 -- the first number in the boxes did not come
 pub next_by_box_is_new : (s k : ℕ) (gb bx gc ch : List ℕ) → InSequence s gb (k ∷ bx) gc ch → ¬ Got gb gc k

@@ -4,10 +4,12 @@ use Rattle.std.specs.Option.{IfSome}
 use Rattle.nm_outside.specs.Told.{Appends, AppendsPart, Rose}
 use Rattle.nm_report.specs.declared.records.RunRecord.{RunRecord}
 use Rattle.nm_chart.specs.Answers.{IsAnswer, IsAnswerTo, IsSaid, Tells, status_of}
-use Rattle.nm_chart.specs.Endings.{IsBadTrace, IsDrawn, IsRefused, IsTrace, IsTraceOfOne, OrFails, OrUnwritten, read_of, unread, usage}
+use Rattle.nm_chart.specs.Endings.{IsBadTrace, IsDrawn, IsRefused, IsTrace, IsTraceOfOne, OrFails, OrUnwritten}
+use Rattle.nm_chart.specs.Endings.{read_of, unread, usage}
 use Rattle.nm_chart.specs.declared.answers.Answer.{Answer}
 use Rattle.nm_chart.specs.declared.answers.Answer.TheVariants.{Usage, Unread, Refused, Drawn}
 use Rattle.nm_chart.proofs.WidenedLemmas.{picture_of_each}
+use Rattle.nm_facts.proofs.Options.{if_all as always}
 
 -- what is known at the end: the answer is right and was said
 pub record Ends {X : Type 0} (words : List X) (input : Option (List ℕ)) (old new : ℕ)
@@ -41,10 +43,6 @@ or_fails answer status before after fails said make =
 to_fails : {P : Type 0} (status : ℕ) → OrUnwritten P status → OrFails P status
 to_fails status (inl h) = inl h
 to_fails status (inr h) = inr (inr h)
-
-always : (input : Option (List ℕ)) (P : List ℕ → Type 0) → ((bytes : List ℕ) → P bytes) → IfSome input P
-always None P h = tt
-always (Some bytes) P h = h bytes
 
 weaker : (input : Option (List ℕ)) (P Q : List ℕ → Type 0) → ((bytes : List ℕ) → P bytes → Q bytes) →
     IfSome input P → IfSome input Q

@@ -1,2 +1,2 @@
-pub mod EndLemmas
-pub mod WidenedLemmas
+mod EndLemmas
+mod WidenedLemmas

@@ -25,7 +25,8 @@ use Rattle.nm_check.specs.Verdicts.{Judges}
 use Rattle.nm_check.specs.declared.verdicts.Verdict.{Verdict}
 use Rattle.nm_check.specs.declared.verdicts.Verdict.TheVariants.{Holds, Own, Carried, Rest, Home, Done}
 
-keeps_own : (shape : Sizes) (commands : List Numbered) (at : ℕ) (h : List Event) (c : OwnClause) → IsRankRun shape commands at h → KeepsOwn shape commands at h c
+keeps_own : (shape : Sizes) (commands : List Numbered) (at : ℕ) (h : List Event) (c : OwnClause) →
+    IsRankRun shape commands at h → KeepsOwn shape commands at h c
 keeps_own shape commands at h own.Answers run = run.answers
 keeps_own shape commands at h own.Starts run = run.starts
 keeps_own shape commands at h own.Numbers run = run.numbers
@@ -35,13 +36,15 @@ keeps_own shape commands at h own.Ends run = run.ends
 keeps_own shape commands at h own.Stamps run = run.stamps
 keeps_own shape commands at h own.Claims run = run.claims
 
-keeps_carried : (i j : ℕ) (ci cj : List Numbered) (hi hj : List Event) (c : CarriedClause) → AreDelivered i j ci cj hi hj → KeepsCarried i j ci cj hi hj c
+keeps_carried : (i j : ℕ) (ci cj : List Numbered) (hi hj : List Event) (c : CarriedClause) →
+    AreDelivered i j ci cj hi hj → KeepsCarried i j ci cj hi hj c
 keeps_carried i j ci cj hi hj carried.Messages are = are.messages
 keeps_carried i j ci cj hi hj carried.Bodies are = are.bodies
 keeps_carried i j ci cj hi hj carried.Outs are = are.outs
 keeps_carried i j ci cj hi hj carried.Withdrawals are = are.withdrawals
 
-keeps_rest : (lines : List Line) (ranks : List Ended) (packets : List Packets) (c : RestClause) → AreQuiescent lines ranks packets → KeepsRest lines ranks packets c
+keeps_rest : (lines : List Line) (ranks : List Ended) (packets : List Packets) (c : RestClause) →
+    AreQuiescent lines ranks packets → KeepsRest lines ranks packets c
 keeps_rest lines ranks packets rest.Arrived are = are.arrived
 keeps_rest lines ranks packets rest.Eager are = are.eager
 keeps_rest lines ranks packets rest.Asked are = are.asked
@@ -55,7 +58,8 @@ not_both None P Q each there clash = there
 not_both (Some x) P Q each there clash = clash x each there
 
 -- the only verdict on a run is that it holds
-pub only_holds : (lines : List Line) (run : RunRecord) (v : Verdict) → IsRunIn run.shape lines run → Judges lines run v → v ≡ Holds
+pub only_holds : (lines : List Line) (run : RunRecord) (v : Verdict) → IsRunIn run.shape lines run →
+    Judges lines run v → v ≡ Holds
 only_holds lines run Holds is judged = refl
 only_holds lines run (Own clause i) is judged =
     absurd (not_both (slice_get (ends_of run.ranks) i) _ _ (is.lawful.rank_runs i) judged.first
@@ -63,7 +67,9 @@ only_holds lines run (Own clause i) is judged =
 only_holds lines run (Carried clause i j) is judged =
     absurd (not_both (slice_get (ends_of run.ranks) i) _ _ (is.lawful.delivered i) judged.first
     (λ a to_each there. not_both (slice_get (ends_of run.ranks) j) _ _ (to_each j) there
-    (λ b are broken. broken.broken (keeps_carried i j (commands_of i lines) (commands_of j lines) a.events b.events clause are))))
-only_holds lines run (Rest clause) is judged = absurd (judged.first.broken (keeps_rest lines (ends_of run.ranks) _ clause is.lawful.quiescent))
+    (λ b are broken. broken.broken (keeps_carried i j (commands_of i lines) (commands_of j lines) a.events b.events
+    clause are))))
+only_holds lines run (Rest clause) is judged =
+    absurd (judged.first.broken (keeps_rest lines (ends_of run.ranks) _ clause is.lawful.quiescent))
 only_holds lines run Home is judged = absurd (judged.1 is.home)
 only_holds lines run Done is judged = absurd (judged.2 is.ended)

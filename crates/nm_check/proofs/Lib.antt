@@ -1,2 +1,2 @@
-pub mod RankedLemmas
-pub mod ExactLemmas
+mod RankedLemmas
+mod ExactLemmas

@@ -15,6 +15,7 @@ abbrev pub TabledAt : List Line → List Ended → ℕ → Tables → Type 0
 TabledAt lines ranks i tables = IsSomeAnd (slice_get ranks i) (λ rank. AreTables i lines rank.events tables)
 
 -- what is so of the rank at a place
-pub of_end : (ranks : List RankAccount) (i : ℕ) (a : RankAccount) (P : Ended → Type 0) → i < length ranks → a ≡ get_or ranks i a → P (ended a) →
+pub of_end : (ranks : List RankAccount) (i : ℕ) (a : RankAccount) (P : Ended → Type 0) → i < length ranks →
+    a ≡ get_or ranks i a → P (ended a) →
     IsSomeAnd (slice_get (ends_of ranks) i) P
 of_end ranks i a P inside is here = subst (λ (o : Option Ended). IsSomeAnd o P) (sym (end_at ranks i a inside is)) here

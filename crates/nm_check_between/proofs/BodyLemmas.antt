@@ -1,5 +1,6 @@
 -- What the answers of a rank show, by the sender of the message.
-use Rattle.std.proofs.Common.{◌≡◌, ℕ, ◌<◌, ◌==◌, Bool, cond, Option, Some, None, List, length, get_or, zero-add, refl, sym, ◌∙◌, ap, subst, arith}
+use Rattle.std.proofs.Common.{◌≡◌, ℕ, ◌<◌, ◌==◌, Bool, cond, Option, Some, None, List, length, get_or, zero-add, refl}
+use Rattle.std.proofs.Common.{sym, ◌∙◌, ap, subst, arith}
 use Rattle.std.specs.Prelude.{IfSome, IsSomeAnd, option_and_then}
 use Rattle.std.specs.List.{slice_get}
 use Rattle.std.proofs.lemmas.List.{get_or_default, length-map, same_lists}
@@ -30,14 +31,17 @@ module _ (lines : List Line) (history : ℕ → List Event) (j : ℕ) (before : 
   pub shown_names : (body : List ℕ) (pair : Pair) (r : Bool) →
       Decides r (IsSomeAnd (slice_get (sends (history pair.arrival.env.from) j) pair.arrival.n)
       (λ s. IsSomeAnd (command_at (commands_of pair.arrival.env.from lines) s.line) (λ c. body ≡ sent_bytes c))) →
-      Names (λ i. ShowsBytes i (commands_of i lines) (sends (history i) j) body pair) (cond r None (Some pair.arrival.env.from))
+      Names (λ i. ShowsBytes i (commands_of i lines) (sends (history i) j) body pair)
+      (cond r None (Some pair.arrival.env.from))
   shown_names body pair r right =
       names_one (λ i. ShowsBytes i (commands_of i lines) (sends (history i) j) body pair) pair.arrival.env.from r
       (λ i apart. not_asked (pair.arrival.env.from == i)
-      (IsSomeAnd (slice_get (sends (history i) j) pair.arrival.n) (λ s. IsSomeAnd (command_at (commands_of i lines) s.line) (λ c. body ≡ sent_bytes c))) apart)
+      (IsSomeAnd (slice_get (sends (history i) j) pair.arrival.n)
+      (λ s. IsSomeAnd (command_at (commands_of i lines) s.line) (λ c. body ≡ sent_bytes c))) apart)
       (on_itself pair.arrival.env.from
       (IsSomeAnd (slice_get (sends (history pair.arrival.env.from) j) pair.arrival.n)
-      (λ s. IsSomeAnd (command_at (commands_of pair.arrival.env.from lines) s.line) (λ c. body ≡ sent_bytes c))) r right)
+      (λ s. IsSomeAnd (command_at (commands_of pair.arrival.env.from lines) s.line) (λ c. body ≡ sent_bytes c))) r
+      right)
 
   -- a result with bytes, by the pair that was asked for
   pub got_names : (line source tag : ℕ) (body : List ℕ) (pair : Pair) (named : Option ℕ) →
@@ -45,17 +49,20 @@ module _ (lines : List Line) (history : ℕ → List Event) (j : ℕ) (before : 
       Names (λ i. ShowsBytes i (commands_of i lines) (sends (history i) j) body pair) named →
       Names (Shows (Ran line (answer.Got source tag body))) named
   got_names line source tag body pair named is right =
-      subst (λ (o : Option Pair). Names (λ i. IfSome o (ShowsBytes i (commands_of i lines) (sends (history i) j) body)) named) is right
+      subst (λ (o : Option Pair). Names
+      (λ i. IfSome o (ShowsBytes i (commands_of i lines) (sends (history i) j) body)) named) is right
 
   -- .. or none was
   pub none_names : (line source tag : ℕ) (body : List ℕ) →
       None ≡ option_and_then (asked_pair (commands_of j lines) before) (command_at (commands_of j lines) line) →
       Names (Shows (Ran line (answer.Got source tag body))) None
   none_names line source tag body is =
-      subst (λ (o : Option Pair). Names (λ i. IfSome o (ShowsBytes i (commands_of i lines) (sends (history i) j) body)) None) is (λ i. tt)
+      subst (λ (o : Option Pair). Names
+      (λ i. IfSome o (ShowsBytes i (commands_of i lines) (sends (history i) j) body)) None) is (λ i. tt)
 
   -- another answer shows no bytes
-  pub no_bytes_named : (line : ℕ) (a : Answer) → ((source tag : ℕ) (body : List ℕ) → a ≡ answer.Got source tag body → ⊥) →
+  pub no_bytes_named : (line : ℕ) (a : Answer) →
+      ((source tag : ℕ) (body : List ℕ) → a ≡ answer.Got source tag body → ⊥) →
       Names (Shows (Ran line a)) None
   no_bytes_named line (answer.Got source tag body) not = absurd (not source tag body refl)
   no_bytes_named line a not = λ i. tt
@@ -78,7 +85,8 @@ pub generated_at : (len i : ℕ) → i < len → get_or (bytes_of (Gen len)) i 0
 generated_at len i inside = get_or-map-range_with_len generated_byte 0 len i i 0 inside (zero-add i)
 
 -- so many bytes that are each the one of its place
-pub are_all_generated : (len : ℕ) (bytes : List ℕ) → length bytes ≡ len → ((i : ℕ) → i < length bytes → get_or bytes i 0 ≡ generated_byte i) →
+pub are_all_generated : (len : ℕ) (bytes : List ℕ) → length bytes ≡ len →
+    ((i : ℕ) → i < length bytes → get_or bytes i 0 ≡ generated_byte i) →
     bytes ≡ bytes_of (Gen len)
 are_all_generated len bytes many each =
     same_lists bytes (bytes_of (Gen len)) (many ∙ sym (generated_length len))

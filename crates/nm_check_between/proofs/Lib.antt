@@ -1,10 +1,10 @@
-pub mod BetweenLemmas
-pub mod MarkLemmas
-pub mod PairLemmas
+mod BetweenLemmas
+mod MarkLemmas
+mod PairLemmas
 pub mod RankLemmas
-pub mod SentLemmas
+mod SentLemmas
 pub mod TableLemmas
-pub mod WasLemmas
-pub mod BodyLemmas
-pub mod MarkedLemmas
+mod WasLemmas
+mod BodyLemmas
+mod MarkedLemmas
 pub mod ItemLemmas

@@ -14,7 +14,9 @@ use Rattle.nm_check_between.proofs.RankLemmas.{end_at}
 abbrev pub MarkedAt : List Line → List Ended → ℕ → Marks → Type 0
 MarkedAt lines ranks x mark = IsSomeAnd (slice_get ranks x) (λ rank. AreMarks lines ranks x rank.events mark)
 
-pub marked_rank : (lines : List Line) (ranks : List RankAccount) (x : ℕ) (a : RankAccount) (mark : Marks) → x < length ranks → a ≡ get_or ranks x a →
+pub marked_rank : (lines : List Line) (ranks : List RankAccount) (x : ℕ) (a : RankAccount) (mark : Marks) →
+    x < length ranks → a ≡ get_or ranks x a →
     AreMarks lines (ends_of ranks) x a.history.events mark → MarkedAt lines (ends_of ranks) x mark
 marked_rank lines ranks x a mark inside is its =
-    subst (λ (o : Option Ended). IsSomeAnd o (λ rank. AreMarks lines (ends_of ranks) x rank.events mark)) (sym (end_at ranks x a inside is)) its
+    subst (λ (o : Option Ended). IsSomeAnd o (λ rank. AreMarks lines (ends_of ranks) x rank.events mark))
+    (sym (end_at ranks x a inside is)) its

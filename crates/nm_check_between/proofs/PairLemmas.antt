@@ -15,7 +15,8 @@ use Rattle.nm_check_between.specs.declared.marks.Marks.{Marks}
 use Rattle.nm_check_between.specs.declared.clauses.CarriedClause.{CarriedClause}
 use Rattle.nm_check_between.proofs.RankLemmas.{UpTo}
 
-module _ (D : ℕ → ℕ → List Event → List Event → Type 0) (ranks : List Ended) (i j : ℕ) (a : Ended) (is : slice_get ranks i ≡ Some a) where
+module _ (D : ℕ → ℕ → List Event → List Event → Type 0) (ranks : List Ended) (i j : ℕ) (a : Ended)
+    (is : slice_get ranks i ≡ Some a) where
   in_row : (k l : ℕ) (x b : Ended) → slice_get ranks k ≡ Some x → slice_get ranks l ≡ Some b →
       IfSome (slice_get ranks k) (λ y. EachRank (λ l b. D k l y.events b.events) ranks) → D k l x.events b.events
   in_row k l x b is_k is_l row =
@@ -28,10 +29,13 @@ module _ (D : ℕ → ℕ → List Event → List Event → Type 0) (ranks : Lis
   in_last k l x b same less is_k is_l row =
       let there : slice_get ranks i ≡ Some x = subst (λ (n : ℕ). slice_get ranks n ≡ Some x) same is_k in
       let one : x ≡ a = same_Some x a (sym there ∙ is) in
-      let own : l < j → D i l a.events b.events = subst (λ (o : Option Ended). IfSome o (λ b. l < j → D i l a.events b.events)) is_l (row l) in
-      subst (λ (n : ℕ). D n l x.events b.events) (sym same) (subst (λ (y : Ended). D i l y.events b.events) (sym one) (own less))
+      let own : l < j → D i l a.events b.events =
+      subst (λ (o : Option Ended). IfSome o (λ b. l < j → D i l a.events b.events)) is_l (row l) in
+      subst (λ (n : ℕ). D n l x.events b.events) (sym same) (subst (λ (y : Ended). D i l y.events b.events) (sym one)
+      (own less))
 
-  pub pairs_earlier : UpTo (λ i a. EachRank (λ j b. D i j a.events b.events) ranks) ranks i → EachRank (λ l b. l < j → D i l a.events b.events) ranks →
+  pub pairs_earlier : UpTo (λ i a. EachRank (λ j b. D i j a.events b.events) ranks) ranks i →
+      EachRank (λ l b. l < j → D i l a.events b.events) ranks →
       EachPair (λ k l hk hl. StandsBefore k l i j → D k l hk hl) ranks
   pairs_earlier below row k = by_sender (slice_get ranks k) refl
     where
@@ -39,9 +43,11 @@ module _ (D : ℕ → ℕ → List Event → List Event → Type 0) (ranks : Lis
           IfSome o (λ b. StandsBefore k l i j → D k l x.events b.events)
       by_receiver x is_k l None is_l = tt
       by_receiver x is_k l (Some b) is_l = λ before.
-          ⊎_elim (λ low. in_row k l x b is_k is_l (below k low)) (λ same. in_last k l x b same.0 same.1 is_k is_l row) before
+          ⊎_elim (λ low. in_row k l x b is_k is_l (below k low)) (λ same. in_last k l x b same.0 same.1 is_k is_l row)
+          before
 
-      by_sender : (o : Option Ended) → slice_get ranks k ≡ o → IfSome o (λ x. EachRank (λ l b. StandsBefore k l i j → D k l x.events b.events) ranks)
+      by_sender : (o : Option Ended) → slice_get ranks k ≡ o →
+          IfSome o (λ x. EachRank (λ l b. StandsBefore k l i j → D k l x.events b.events) ranks)
       by_sender None is_k = tt
       by_sender (Some x) is_k = λ l. by_receiver x is_k l (slice_get ranks l) refl
 
@@ -49,11 +55,13 @@ module _ (D : ℕ → ℕ → List Event → List Event → Type 0) (ranks : Lis
 pub breaks_pair : (lines : List Line) (ranks : List Ended) (i j : ℕ) (c : CarriedClause) (marks : Marks) →
     IsSomeAnd (slice_get ranks i) (λ rank. AreMarks lines ranks i rank.events marks) →
     UpTo (λ i a. EachRank (λ j b. PairDelivered lines i j a.events b.events) ranks) ranks i →
-    ((rank : Ended) → history_of ranks i ≡ rank.events → AreMarks lines ranks i rank.events marks → BreaksFirst lines ranks i rank.events j c) →
+    ((rank : Ended) → history_of ranks i ≡ rank.events → AreMarks lines ranks i rank.events marks →
+    BreaksFirst lines ranks i rank.events j c) →
     BreaksPair lines ranks i j c
 breaks_pair lines ranks i j c marks there below breaks = by_rank (slice_get ranks i) refl there
   where
-    by_rank : (o : Option Ended) → slice_get ranks i ≡ o → IsSomeAnd o (λ rank. AreMarks lines ranks i rank.events marks) → BreaksPair lines ranks i j c
+    by_rank : (o : Option Ended) → slice_get ranks i ≡ o →
+        IsSomeAnd o (λ rank. AreMarks lines ranks i rank.events marks) → BreaksPair lines ranks i j c
     by_rank None is there = absurd there
     by_rank (Some a) is there =
         let first : BreaksFirst lines ranks i a.events j c =
@@ -61,5 +69,6 @@ breaks_pair lines ranks i j c marks there below breaks = by_rank (slice_get rank
         record {
           earlier = pairs_earlier (PairDelivered lines) ranks i j a is below first.earlier;
           first = subst (λ (o : Option Ended). IsSomeAnd o (λ a. IsSomeAnd (slice_get ranks j)
-              (λ b. IsFirstBroken (KeepsCarried i j (commands_of i lines) (commands_of j lines) a.events b.events) carried_order c))) (sym is) first.first;
+              (λ b. IsFirstBroken (KeepsCarried i j (commands_of i lines) (commands_of j lines) a.events b.events)
+              carried_order c))) (sym is) first.first;
         }

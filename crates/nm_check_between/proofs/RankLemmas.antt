@@ -1,5 +1,6 @@
 -- What holds of each rank, one rank after another, as a loop finds it.
-use Rattle.std.proofs.Common.{◌≡◌, ℕ, ◌+◌, ◌<◌, ◌≤◌, ◌⊎◌, inl, inr, Option, Some, None, List, length, get_or, sym, ◌∙◌, ap, subst, arith, below_more}
+use Rattle.std.proofs.Common.{◌≡◌, ℕ, ◌+◌, ◌<◌, ◌≤◌, ◌⊎◌, inl, inr, Option, Some, None, List, length, get_or, sym}
+use Rattle.std.proofs.Common.{◌∙◌, ap, subst, arith, below_more}
 use Rattle.std.specs.Prelude.{IfSome, option_map}
 use Rattle.std.specs.List.{slice_get}
 use Rattle.std.proofs.lemmas.Bool.{cases_lt}
@@ -17,7 +18,8 @@ pub end_at : (ranks : List RankAccount) (i : ℕ) (a : RankAccount) → i < leng
     slice_get (ends_of ranks) i ≡ Some (ended a)
 end_at ranks i a inside is =
     slice_get-map ended ranks i
-    ∙ ap (λ (o : Option RankAccount). option_map ended o) (slice_get-get_or ranks i a inside ∙ ap (λ (x : RankAccount). Some x) (sym is))
+    ∙ ap (λ (o : Option RankAccount). option_map ended o) (slice_get-get_or ranks i a inside
+    ∙ ap (λ (x : RankAccount). Some x) (sym is))
 
 -- there is no rank behind the last
 pub no_end : (ranks : List RankAccount) (i : ℕ) → length ranks ≤ i → slice_get (ends_of ranks) i ≡ None
@@ -41,7 +43,8 @@ module _ (R : ℕ → Ended → Type 0) (ranks : List Ended) where
     where
       by_place : (k < i) ⊎ (i ≤ k) → IfSome (slice_get ranks k) (R k)
       by_place (inl low) = below k low
-      by_place (inr high) = MatchOption-from_none (slice_get ranks k) (R k) (slice_get_past ranks k (omega (arith, over, high)))
+      by_place (inr high) = MatchOption-from_none (slice_get ranks k) (R k)
+          (slice_get_past ranks k (omega (arith, over, high)))
 
   pub below : (i : ℕ) → UpTo i → EachRank (λ k rank. k < i → R k rank) ranks
   below i before k = by_rank (slice_get ranks k) (before k)
@@ -55,17 +58,21 @@ module _ (R : ℕ → Ended → Type 0) (ranks : List Ended) where
 
 module _ (R : ℕ → Ended → Type 0) (ranks : List RankAccount) where
   -- the same for ranks with their accounts
-  pub next_rank : (i : ℕ) (a : RankAccount) → i < length ranks → a ≡ get_or ranks i a → UpTo R (ends_of ranks) i → R i (ended a) → UpTo R (ends_of ranks) (i + 1)
+  pub next_rank : (i : ℕ) (a : RankAccount) → i < length ranks → a ≡ get_or ranks i a → UpTo R (ends_of ranks) i →
+      R i (ended a) → UpTo R (ends_of ranks) (i + 1)
   next_rank i a inside is below here =
-      next R (ends_of ranks) i below (subst (λ (o : Option Ended). IfSome o (R i)) (sym (end_at ranks i a inside is)) here)
+      next R (ends_of ranks) i below (subst (λ (o : Option Ended). IfSome o (R i)) (sym (end_at ranks i a inside is))
+      here)
 
   pub all_ranks : (i : ℕ) → length ranks ≤ i → UpTo R (ends_of ranks) i → EachRank R (ends_of ranks)
   all_ranks i over below =
       let same : length (ends_of ranks) ≡ length ranks = length-map ranks ended in
       all R (ends_of ranks) i (omega (arith, same, over)) below
 
-  pub of_rank : (i : ℕ) (a : RankAccount) → i < length ranks → a ≡ get_or ranks i a → EachRank R (ends_of ranks) → R i (ended a)
+  pub of_rank : (i : ℕ) (a : RankAccount) → i < length ranks → a ≡ get_or ranks i a → EachRank R (ends_of ranks) →
+      R i (ended a)
   of_rank i a inside is each = subst (λ (o : Option Ended). IfSome o (R i)) (end_at ranks i a inside is) (each i)
 
-  pub rank_breaks : (i : ℕ) (a : RankAccount) → i < length ranks → a ≡ get_or ranks i a → (R i (ended a) → ⊥) → EachRank R (ends_of ranks) → ⊥
+  pub rank_breaks : (i : ℕ) (a : RankAccount) → i < length ranks → a ≡ get_or ranks i a →
+      (R i (ended a) → ⊥) → EachRank R (ends_of ranks) → ⊥
   rank_breaks i a inside is broken each = broken (of_rank i a inside is each)

@@ -1,6 +1,6 @@
 -- The rule on answers, by what the command asks for and what was found.
-use Rattle.std.proofs.Common.{◌≡◌, ℕ, Bool, Option, Some, None, List, refl, sym, ◌∙◌, ap, subst}
-use Rattle.std.specs.Prelude.{IsSomeAnd, is_some, option_and_then, option_map}
+use Rattle.std.proofs.Common.{◌≡◌, ℕ, Bool, Option, Some, List, sym, ◌∙◌, ap, subst}
+use Rattle.std.specs.Prelude.{IsSomeAnd, option_and_then, option_map}
 use Rattle.nm_types.specs.declared.answers.Answer.{Answer}
 use Rattle.nm_types.specs.declared.messages.Arrival.{Arrival}
 use Rattle.nm_types.specs.declared.scripts.Command.{Command}
@@ -14,11 +14,6 @@ use Rattle.nm_places.specs.Deciding.{Decides}
 use Rattle.nm_asked.specs.Asked.{asked_request, meant_by, name_of}
 use Rattle.nm_asked.specs.declared.requests.Request.{Request}
 use Rattle.nm_check_paired.specs.Handles.{IsOfName}
-
--- there is one exactly where there is one after a change of form
-pub some_mapped : {X Y : Type 0} (f : X → Y) (o : Option X) → is_some (option_map f o) ≡ is_some o
-some_mapped f None = refl
-some_mapped f (Some x) = refl
 
 -- the request of the name of the command of a line
 pub of_name : (commands : List Numbered) (before : List Event) (line : ℕ) (answer : Answer) (c : Command)

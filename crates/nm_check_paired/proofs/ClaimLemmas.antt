@@ -2,7 +2,7 @@
 use Rattle.std.proofs.Common.{◌≡◌, ℕ, ◌≤◌, ◌==◌, ◌&&◌, Bool, true, false, not, cond, Option, Some, None}
 use Rattle.std.proofs.Common.{List, [], ◌∷◌, length, take, refl, sym, ◌∙◌, ap, subst, arith}
 use Rattle.std.specs.Prelude.{IsSomeAnd, filter_map, option_and_then, option_to_list}
-use Rattle.std.specs.List.{cons_option, slice_get}
+use Rattle.std.specs.List.{slice_get}
 use Rattle.std.specs.Option.{option_map_or}
 use Rattle.nm_types.specs.declared.messages.Arrival.{Arrival}
 use Rattle.nm_types.specs.declared.scripts.Command.{Command}
@@ -20,7 +20,9 @@ use Rattle.nm_asked.specs.declared.since.Since.{Since}
 use Rattle.nm_asked.specs.declared.since.Since.TheVariants.{One}
 use Rattle.nm_check_paired.specs.Kinds.{is_claiming}
 use Rattle.nm_check_paired.proofs.DecideLemmas.{decides_as, decides_both, decides_by, decides_nat}
-use Rattle.nm_check_paired.proofs.GivenLemmas.{empty_by_length, given_length, given_of_passed}
+use Rattle.nm_check_paired.proofs.GivenLemmas.{given_length, given_of_passed}
+use Rattle.nm_facts.proofs.Lists.{no_items}
+use Rattle.nm_facts.proofs.Options.{one_option}
 
 -- the lines of the claims are those of the events that are claims
 claims_of_kind : (h : List Event) → claims_since h ≡ filter_map line_of_claim (of_kind is_claiming h)
@@ -35,11 +37,7 @@ no_claims h none = claims_of_kind h ∙ ap (λ (xs : List Happened). filter_map 
 
 pub no_claiming : (h : List Event) → claims_since h ≡ [] → of_kind is_claiming h ≡ []
 no_claiming h none =
-    empty_by_length (of_kind is_claiming h) (sym (claims_length h) ∙ ap length none)
-
-one_given : {Y : Type 0} (o : Option Y) → cons_option o [] ≡ option_to_list o
-one_given None = refl
-one_given (Some y) = refl
+    no_items (of_kind is_claiming h) (sym (claims_length h) ∙ ap length none)
 
 -- the one line that is called for, or none
 called_decided : (line : ℕ) (called : Bool) (o : Option ℕ) →
@@ -75,7 +73,7 @@ one_claim h k t o claimed since = by_event (slice_get h t) refl since
     by_event None here since = absurd since
     by_event (Some e) here since =
         claims_of_kind (take k h) ∙ ap (λ (xs : List Happened). filter_map line_of_claim xs) since
-        ∙ one_given (line_of_claim e.what) ∙ ap (λ (o : Option ℕ). option_to_list o) (sym (claimed e here))
+        ∙ one_option (line_of_claim e.what) ∙ ap (λ (o : Option ℕ). option_to_list o) (sym (claimed e here))
 
 -- .. more than one
 pub more_claims : (h : List Event) (k line : ℕ) (called : Bool) → 2 ≤ length (of_kind is_claiming (take k h)) →

@@ -27,11 +27,3 @@ module _ {X Y : Type 0} (f : X → Option Y) where
           ≡ length (cond (is_some o) (x ∷ filter (λ x. is_some (f x)) xs) (filter (λ x. is_some (f x)) xs))
       by_first None more = more
       by_first (Some y) more = omega (arith, more)
-
--- a list of a length of 0 is empty
-pub empty_by_length : {X : Type 0} (xs : List X) → length xs ≡ 0 → xs ≡ []
-empty_by_length xs none = by_list xs none
-  where
-    by_list : {X : Type 0} (xs : List X) → length xs ≡ 0 → xs ≡ []
-    by_list [] none = refl
-    by_list (x ∷ xs) none = absurd (omega (arith, none))

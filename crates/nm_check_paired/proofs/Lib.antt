@@ -1,12 +1,12 @@
-pub mod AnswerLemmas
-pub mod ArrivalLemmas
-pub mod CancelLemmas
-pub mod ClaimLemmas
-pub mod DecideLemmas
-pub mod GivenLemmas
-pub mod KindLemmas
-pub mod OrderLemmas
-pub mod PushLemmas
-pub mod ResultLemmas
-pub mod StartLemmas
-pub mod ToldLemmas
+mod AnswerLemmas
+mod ArrivalLemmas
+mod CancelLemmas
+mod ClaimLemmas
+mod DecideLemmas
+mod GivenLemmas
+mod KindLemmas
+mod OrderLemmas
+mod PushLemmas
+mod ResultLemmas
+mod StartLemmas
+mod ToldLemmas

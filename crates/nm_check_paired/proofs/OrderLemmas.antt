@@ -11,8 +11,8 @@ use Rattle.nm_types.specs.declared.scripts.Line.{Line}
 use Rattle.nm_history.specs.declared.events.Event.{Event}
 use Rattle.nm_history.specs.RankRun.{ran_lines, ran_of}
 use Rattle.nm_places.specs.Deciding.{Decides}
-use Rattle.nm_places.proofs.StepLemmas.{take_next}
 use Rattle.nm_check_paired.proofs.DecideLemmas.{decides_by}
+use Rattle.nm_facts.proofs.Lists.{take_next}
 
 abbrev lines_from : ℕ → ℕ → List Line → List ℕ
 lines_from rank n xs = map (λ (c : Numbered). c.line) (commands_from rank n xs)

@@ -22,7 +22,7 @@ use Rattle.nm_asked.specs.SinceAnswer.{IsSince, of_kind}
 use Rattle.nm_asked.specs.declared.since.Since.TheVariants.{One}
 use Rattle.nm_check_paired.specs.Handles.{IsOfHandle}
 use Rattle.nm_check_paired.proofs.DecideLemmas.{decides_by}
-use Rattle.nm_check_paired.proofs.GivenLemmas.{empty_by_length}
+use Rattle.nm_facts.proofs.Lists.{no_items}
 
 -- no list of one is empty
 pub not_empty : {X : Type 0} (x : X) (xs : List X) → xs ≡ [] → x ∷ [] ≡ xs → ⊥
@@ -105,7 +105,7 @@ module _ (eager : ℕ) (commands : List Numbered) (before : List Event) (line : 
   pub empty_decided : Decides r (starts_since before ≡ []) → Decides r (map without_number (starts_since before) ≡ [])
   empty_decided right =
       decides_by r (λ none. ap (λ (xs : List Happened). map without_number xs) none)
-      (λ none. empty_by_length (starts_since before)
+      (λ none. no_items (starts_since before)
       (sym (length-map (starts_since before) without_number) ∙ ap length none)) right
 
   -- .. that none was

@@ -16,7 +16,7 @@ use Rattle.nm_history.specs.declared.events.Happened.TheVariants as happened
 use Rattle.nm_history.specs.Sends.{Sent, Arrived, sends, sent_of, arrivals, arrived_of, receives, receive_of}
 use Rattle.nm_places.specs.Deciding.{Decides}
 use Rattle.nm_history.proofs.DeliveryLemmas.{sends-push}
-use Rattle.nm_history.proofs.OnceLemmas.{arrivals-push, receives-push}
+use Rattle.nm_history.proofs.OnceLemmas.{arrivals-push}
 
 few_pass_at : {X : Type 0} (p : X → Bool) (x : X) (xs : List X) (b : Bool) → length (filter p xs) ≤ length xs →
     length (cond b (x ∷ filter p xs) (filter p xs)) ≤ length (x ∷ xs)
@@ -79,14 +79,6 @@ pub arrivals_same : (h : List Event) (e : Event) (from : ℕ) → arrived_of e.s
     length (arrivals (h ++ e ∷ []) from) ≡ length (arrivals h from)
 arrivals_same h e from is = ap length (arrivals-push h e from ∙ rw is refl) ∙ length-append (arrivals h from) []
     ∙ omega arith
-
-pub receives_count : (h : List Event) (e : Event) (n : ℕ) → receive_of e.what ≡ Some n →
-    length (receives (h ++ e ∷ [])) ≡ length (receives h) + 1
-receives_count h e n is = ap length (receives-push h e ∙ rw is refl) ∙ length-append (receives h) (n ∷ [])
-
-pub receives_same : (h : List Event) (e : Event) → receive_of e.what ≡ None →
-    length (receives (h ++ e ∷ [])) ≡ length (receives h)
-receives_same h e is = ap length (receives-push h e ∙ rw is refl) ∙ length-append (receives h) [] ∙ omega arith
 
 counted_at : (xs : List ℕ) (i k n more : ℕ) (b : Bool) → (i == k) ≡ b → i < length xs → get_or xs k 0 ≡ n →
     n < 2 ^ 64 - 1 →

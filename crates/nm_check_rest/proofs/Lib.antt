@@ -1,3 +1,3 @@
-pub mod OverLemmas
-pub mod WaitLemmas
-pub mod CountingLemmas
+mod OverLemmas
+mod WaitLemmas
+mod CountingLemmas

@@ -1,1 +1,1 @@
-pub mod CutLemmas
+mod CutLemmas

@@ -24,6 +24,7 @@ use Rattle.nm_cli.specs.declared.answers.Answer.TheVariants.{Free, Determinate, 
 use Rattle.nm_cli.specs.declared.answers.Answer.TheVariants.{Logged}
 use Rattle.nm_cli.proofs.EndLemmas.{Ending, Ends, answered_for, no_run_status, not_five, or_unread, or_unwritten}
 use Rattle.nm_cli.proofs.EndLemmas.{other, run_status, said_whole, to_fails, unless_failed}
+use Rattle.nm_facts.proofs.Options.{if_all as always}
 
 -- nothing is read for a flood
 made_unread : (m : Mode) → Makes m → ReadsSource m → ⊥
@@ -86,10 +87,6 @@ plain_some : (line : CommandLine) (input : Option (List ℕ)) (text : List ℕ) 
     IfSome input (IsPlain line text done) → IfSome input (λ bytes. SpellsNone (read_of bytes) → P bytes)
 plain_some line None text done P is = tt
 plain_some line (Some bytes) text done P is = λ none. absurd (none is.ranks is.lines is.spelled)
-
-always : (input : Option (List ℕ)) (P : List ℕ → Type 0) → ((bytes : List ℕ) → P bytes) → IfSome input P
-always None P h = tt
-always (Some bytes) P h = h bytes
 
 -- a run was reported
 reported_of : (s : Ending) (line : CommandLine) (m : Mode) (r : RunRecord) (w : Ways) → Ends s (Ran m r w) →

@@ -14,12 +14,13 @@ use Rattle.nm_command_line.specs.Arguments.{IsArgument}
 abbrev pub nothing : Found
 nothing = record { first = None; second = None; third = None; cells = None; eager = None }
 
--- there is no fourth number
+-- one number more, behind the second: there is no fourth
 abbrev pub with_third : ℕ → Found → Option ℕ → Option Found
 with_third number f None =
     Some (record f { third = Some number })
 with_third number f (Some third) = None
 
+-- one number more, behind the first
 abbrev pub with_second : ℕ → Found → Option ℕ → Option Found
 with_second number f None =
     Some (record f { second = Some number })
@@ -31,9 +32,11 @@ with_first number f None =
     Some (record f { first = Some number })
 with_first number f (Some first) = with_second number f f.second
 
+-- what was given, with the number of cells
 abbrev pub with_cells : ℕ → Found → Found
 with_cells cells f = record f { cells = Some cells }
 
+-- what was given, with the eager limit
 abbrev pub with_eager : ℕ → Found → Found
 with_eager eager f = record f { eager = Some eager }
 

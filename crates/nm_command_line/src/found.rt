@@ -17,6 +17,7 @@ pub struct Found {
 }
 
 impl Found {
+    /// Nothing was given yet.
     pub fn nothing() -> Found
         ensures { result ≡ nothing }
     {

@@ -1,7 +1,7 @@
-pub mod ClosingLemmas
-pub mod KeptLemmas
-pub mod ListLemmas
-pub mod OpeningLemmas
-pub mod PortLemmas
-pub mod RingLemmas
-pub mod StepLemmas
+mod ClosingLemmas
+mod KeptLemmas
+mod ListLemmas
+mod OpeningLemmas
+mod PortLemmas
+mod RingLemmas
+mod StepLemmas

@@ -1,5 +1,7 @@
 -- Ranks that are alike have one picture.
-use Rattle.std.proofs.Common.{◌≡◌, ℕ, ◌+◌, ◌-◌, ◌≤◌, ◌<◌, ◌⊎◌, zero, suc, List, [], ◌∷◌, ◌++◌, Bool, true, false, cond, refl, sym, ap, ◌∙◌, subst, arith, codes, count_by, drop, flat_map, length, min, sum_by, take, Option, None, nat_lt, ◌^◌}
+use Rattle.std.proofs.Common.{◌≡◌, ℕ, ◌+◌, ◌-◌, ◌≤◌, ◌<◌, ◌⊎◌, zero, suc, List, [], ◌∷◌, ◌++◌, Bool, true, false}
+use Rattle.std.proofs.Common.{cond, refl, sym, ap, ◌∙◌, subst, arith, codes, count_by, drop, flat_map, length, min}
+use Rattle.std.proofs.Common.{sum_by, take, Option, None, nat_lt, ◌^◌}
 use Rattle.std.specs.List.{AllByRecursion, slice_get}
 use Rattle.std.proofs.lemmas.Bool.{ltb-true, ltb-false}
 use Rattle.std.proofs.lemmas.List.Sums.{sum_by-cons}
@@ -15,10 +17,12 @@ use Rattle.nm_diagram.specs.declared.frames.Frame.{Frame}
 use Rattle.nm_diagram.specs.declared.links.Link.{Link}
 use Rattle.nm_diagram.specs.Alike.{AreAlike}
 use Rattle.nm_diagram.specs.Anchors.{first_stamp}
-use Rattle.nm_diagram.specs.Diagrams.{Lane, Mark, all_arrows, all_lanes, all_marks, arrow_from, arrow_of, arrows_at, arrows_of, from_lane, lane_of, marks_at, sent_by}
+use Rattle.nm_diagram.specs.Diagrams.{Lane, Mark, all_arrows, all_lanes, all_marks, arrow_from, arrow_of, arrows_at}
+use Rattle.nm_diagram.specs.Diagrams.{arrows_of, from_lane, lane_of, marks_at, sent_by}
 use Rattle.nm_diagram.specs.Frames.{IsFrame, IsSilent, is_shown, lowest, lowest_of_all, shown_count}
 use Rattle.nm_diagram.specs.Links.{all_links, links_among}
-use Rattle.nm_diagram.specs.Pictures.{IsPictureOf, arrow_text, front_text, lane_text, link_text, mark_text, picture_text, shapes_text}
+use Rattle.nm_diagram.specs.Pictures.{IsPictureOf, arrow_text, front_text, lane_text, link_text, mark_text}
+use Rattle.nm_diagram.specs.Pictures.{picture_text, shapes_text}
 
 -- being alike goes both ways
 alike-sym : (xs ys : List RankAccount) → AreAlike xs ys → AreAlike ys xs
@@ -67,7 +71,8 @@ alike_sum g none (x ∷ xs) (y ∷ ys) h =
     ∙ ap (λ l. g l + sum_by (λ account. g account.history.events) ys) h.0
     ∙ sym (sum_by-cons (λ account. g account.history.events) y ys)
 
-silent_lowest : (end found : ℕ) (ys : List RankAccount) → AllByRecursion IsSilent ys → lowest_of_all end found ys ≡ found
+silent_lowest : (end found : ℕ) (ys : List RankAccount) → AllByRecursion IsSilent ys →
+    lowest_of_all end found ys ≡ found
 silent_lowest end found [] h = refl
 silent_lowest end found (y ∷ ys) h =
     ap (λ l. lowest_of_all end (lowest end found l) ys) h.0.0 ∙ silent_lowest end found ys h.1
@@ -77,7 +82,8 @@ alike_lowest : (end found : ℕ) (xs ys : List RankAccount) → AreAlike xs ys �
 alike_lowest end found [] ys h = sym (silent_lowest end found ys h)
 alike_lowest end found (x ∷ xs) [] h = silent_lowest end found (x ∷ xs) h
 alike_lowest end found (x ∷ xs) (y ∷ ys) h =
-    ap (λ l. lowest_of_all end (lowest end found l) xs) h.0 ∙ alike_lowest end (lowest end found y.history.events) xs ys h.2
+    ap (λ l. lowest_of_all end (lowest end found l) xs) h.0 ∙ alike_lowest end (lowest end found y.history.events) xs
+    ys h.2
 
 -- the send of a message is found in either
 silent_sent : (end rank n i : ℕ) (ys : List RankAccount) → AllByRecursion IsSilent ys →
@@ -100,9 +106,11 @@ alike_arrow end rank stamp (Arrive a) xs ys h =
     ap (λ o. arrow_from a.env.from rank stamp a.n a.env.how o) (alike_sent end rank a.n a.env.from xs ys h)
 alike_arrow end rank stamp _ xs ys h = refl
 
-same_map : (f g : Event → List Arrow) → ((e : Event) → f e ≡ g e) → (events : List Event) → flat_map f events ≡ flat_map g events
+same_map : (f g : Event → List Arrow) → ((e : Event) → f e ≡ g e) →
+    (events : List Event) → flat_map f events ≡ flat_map g events
 same_map f g same [] = refl
-same_map f g same (e ∷ events) = ap (λ l. l ++ flat_map f events) (same e) ∙ ap (λ l. g e ++ l) (same_map f g same events)
+same_map f g same (e ∷ events) = ap (λ l. l ++ flat_map f events) (same e)
+    ∙ ap (λ l. g e ++ l) (same_map f g same events)
 
 alike_arrows : (end rank : ℕ) (xs ys : List RankAccount) → AreAlike xs ys → (first : ℕ) (zs : List RankAccount) →
     from_lane (arrows_of end xs) first zs ≡ from_lane (arrows_of end ys) first zs
@@ -110,7 +118,8 @@ alike_arrows end rank xs ys h first [] = refl
 alike_arrows end rank xs ys h first (z ∷ zs) =
     ap (λ l. l ++ from_lane (arrows_of end xs) (first + 1) zs)
     (same_map (arrows_at end xs first) (arrows_at end ys first)
-    (λ e. ap (λ (l : List Arrow). cond (is_shown end e) l []) (alike_arrow end first e.stamp e.what xs ys h)) z.history.events)
+    (λ e. ap (λ (l : List Arrow). cond (is_shown end e) l []) (alike_arrow end first e.stamp e.what xs ys h))
+    z.history.events)
     ∙ ap (λ l. arrows_of end ys first z ++ l) (alike_arrows end rank xs ys h (first + 1) zs)
 
 -- the lanes of the first ones, where both are as many
@@ -159,14 +168,16 @@ fits_too n m never = by_test (nat_lt m n) refl where
 
 alike-frame : (xs ys : List RankAccount) (frame : Frame) → AreAlike xs ys → IsFrame xs frame → IsFrame ys frame
 alike-frame xs ys frame h is =
-    let counts : (end : ℕ) → shown_count end xs ≡ shown_count end ys = λ end. alike_sum (λ events. count_by (is_shown end) events) refl xs ys h in
+    let counts : (end : ℕ) → shown_count end xs ≡ shown_count end ys = λ end. alike_sum
+    (λ events. count_by (is_shown end) events) refl xs ys h in
     record {
       lanes = fits_too frame.lanes (length ys) (λ (more : length ys < frame.lanes).
           is.spoken (omega (arith, more)) (behind_end (frame.lanes - 1) xs ys h (omega (arith, more))));
       beyond = alike_drop frame.lanes xs ys h is.beyond;
       spoken = λ some silent. is.spoken some (alike_drop (frame.lanes - 1) ys xs (alike-sym xs ys h) silent);
       few = subst (λ n. n ≤ 20000) (counts frame.end) is.few;
-      most = subst (λ n. (frame.end ≡ 1000001) ⊎ ((frame.end ≤ 1000000) × (20000 < n))) (counts (frame.end + 1)) is.most;
+      most = subst (λ n. (frame.end ≡ 1000001) ⊎ ((frame.end ≤ 1000000) × (20000 < n))) (counts (frame.end + 1))
+          is.most;
       bottom = is.bottom ∙ alike_lowest frame.end 0 xs ys h;
       left_out = is.left_out ∙ ap (λ n. min n (2 ^ 64 - 1))
           (alike_sum (λ events. length events - count_by (is_shown frame.end) events) refl xs ys h);
@@ -187,12 +198,15 @@ shapes-alike xs ys frame m n h =
     let marks : List Mark → List ℕ = λ l. flat_map mark_text l in
     let rest_x : List ℕ = links (all_links end xs) ++ (arrows (all_arrows end xs) ++ marks (all_marks end xs)) in
     ap (λ l. lanes l ++ rest_x) (alike_lanes frame.lanes 0 xs ys m n h)
-    ∙ ap (λ l. lanes (all_lanes (take frame.lanes ys)) ++ (links l ++ (arrows (all_arrows end xs) ++ marks (all_marks end xs))))
+    ∙ ap (λ l. lanes (all_lanes (take frame.lanes ys)) ++
+    (links l ++ (arrows (all_arrows end xs) ++ marks (all_marks end xs))))
     (alike_have (λ rank events. links_among end rank (take 4096 events)) (links_none end) 0 xs ys h)
-    ∙ ap (λ l. lanes (all_lanes (take frame.lanes ys)) ++ (links (all_links end ys) ++ (arrows l ++ marks (all_marks end xs))))
+    ∙ ap (λ l. lanes (all_lanes (take frame.lanes ys)) ++
+    (links (all_links end ys) ++ (arrows l ++ marks (all_marks end xs))))
     (alike_arrows end 0 xs ys h 0 xs
     ∙ alike_have (λ rank events. flat_map (arrows_at end ys rank) events) (λ rank. refl) 0 xs ys h)
-    ∙ ap (λ l. lanes (all_lanes (take frame.lanes ys)) ++ (links (all_links end ys) ++ (arrows (all_arrows end ys) ++ marks l)))
+    ∙ ap (λ l. lanes (all_lanes (take frame.lanes ys)) ++
+    (links (all_links end ys) ++ (arrows (all_arrows end ys) ++ marks l)))
     (alike_have (λ rank events. flat_map (marks_at end rank) events) (λ rank. refl) 0 xs ys h)
 
 picture-alike : (xs ys : List RankAccount) (frame : Frame) → frame.lanes ≤ length xs → frame.lanes ≤ length ys →

@@ -1,5 +1,6 @@
 -- The events at the ends of arrows.
-use Rattle.std.proofs.Common.{◌≡◌, ℕ, ◌+◌, ◌<◌, zero, suc, List, [], ◌∷◌, ◌++◌, Bool, true, false, cond, ◌&&◌, refl, sym, ap, ◌∙◌, subst, arith, take, flat_map, Option, Some, None}
+use Rattle.std.proofs.Common.{◌≡◌, ℕ, ◌+◌, ◌<◌, zero, suc, List, [], ◌∷◌, ◌++◌, Bool, true, false, cond, ◌&&◌, refl}
+use Rattle.std.proofs.Common.{sym, ap, ◌∙◌, subst, arith, take, flat_map, Option, Some, None}
 use Rattle.std.specs.List.{AllByRecursion, Contains, slice_get}
 use Rattle.std.proofs.lemmas.Bool.{and_parts, ltb-true}
 use Rattle.nm_types.specs.declared.messages.Arrival.{Arrival}
@@ -14,6 +15,7 @@ use Rattle.nm_diagram.specs.Anchors.{first_stamp, is_anchor}
 use Rattle.nm_diagram.specs.Diagrams.{all_arrows, arrow_from, arrow_of, arrows_at, arrows_of, from_lane, sent_by}
 use Rattle.nm_diagram.specs.Frames.{is_shown}
 use Rattle.nm_diagram.specs.Joined.{IsAt, IsOfMessage}
+use Rattle.nm_facts.proofs.Lists.{all_append as both}
 
 here : {X : Type 0} (x : X) (xs : List X) → Contains (x ∷ xs) x
 here x xs = (0, omega arith, refl)
@@ -51,12 +53,6 @@ found_at end stamp anchor (e ∷ events) (suc k) found =
     next_found end e events anchor stamp (first_stamp end anchor (take k events))
     (is_shown end e && is_anchor anchor e.what) refl found
     (λ h. found_at end stamp anchor events k h)
-
--- what holds of both lists holds of the whole
-both : {X : Type 0} (P : X → Type 0) (xs ys : List X) → AllByRecursion P xs → AllByRecursion P ys →
-    AllByRecursion P (xs ++ ys)
-both P [] ys h k = k
-both P (x ∷ xs) ys h k = (h.0, both P xs ys h.1 k)
 
 -- an arrival is that of its message
 itself : (a : Arrival) → is_anchor (anchor.Arrival a.env.from a.n) (Arrive a) ≡ true
@@ -118,7 +114,8 @@ of_events end rank ranks receiver (e ∷ events) got among =
 
 -- and of some ranks
 of_ranks : (end rank : ℕ) (ranks accounts : List RankAccount) →
-    ((i : ℕ) (account : RankAccount) → slice_get accounts i ≡ Some account → slice_get ranks (rank + i) ≡ Some account) →
+    ((i : ℕ) (account : RankAccount) → slice_get accounts i ≡ Some account →
+    slice_get ranks (rank + i) ≡ Some account) →
     AllByRecursion (IsOfMessage end ranks) (from_lane (arrows_of end ranks) rank accounts)
 of_ranks end rank ranks [] into = tt
 of_ranks end rank ranks (account ∷ accounts) into =

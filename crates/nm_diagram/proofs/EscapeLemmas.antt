@@ -1,5 +1,6 @@
 -- What escaped text holds.
-use Rattle.std.proofs.Common.{◌≡◌, ℕ, List, [], ◌∷◌, ◌++◌, Bool, true, false, cond, not, ◌&&◌, ◌==◌, refl, ap, ◌∙◌, codes}
+use Rattle.std.proofs.Common.{◌≡◌, ℕ, List, [], ◌∷◌, ◌++◌, Bool, true, false, cond, not, ◌&&◌, ◌==◌, refl, ap, ◌∙◌}
+use Rattle.std.proofs.Common.{codes}
 use Rattle.std.specs.List.{AllByRecursion}
 use Rattle.nm_diagram.specs.Markup.{escaped, escaped_byte, is_plain, is_printable}
 
@@ -13,7 +14,8 @@ both (x ∷ xs) ys h k = (h.0, both xs ys h.1 k)
 by_tests : (b : ℕ) (less greater amp printed : Bool) → (b == 60) ≡ less → (b == 62) ≡ greater →
     is_printable b ≡ printed →
     AllByRecursion (λ b. is_plain b ≡ true)
-    (cond less (codes "&lt;") (cond greater (codes "&gt;") (cond amp (codes "&amp;") (cond printed (b ∷ []) (codes "?")))))
+    (cond less (codes "&lt;")
+    (cond greater (codes "&gt;") (cond amp (codes "&amp;") (cond printed (b ∷ []) (codes "?")))))
 by_tests b true greater amp printed l g a = (refl, (refl, (refl, (refl, tt))))
 by_tests b false true amp printed l g a = (refl, (refl, (refl, (refl, tt))))
 by_tests b false false true printed l g a = (refl, (refl, (refl, (refl, (refl, tt)))))

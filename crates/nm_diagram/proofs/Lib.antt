@@ -1,8 +1,8 @@
 pub mod AlikeLemmas
-pub mod ArrowLemmas
-pub mod EscapeLemmas
-pub mod FrameLemmas
-pub mod RunLemmas
-pub mod ShapeLemmas
-pub mod StampLemmas
-pub mod WellFormedLemmas
+mod ArrowLemmas
+mod EscapeLemmas
+mod FrameLemmas
+mod RunLemmas
+mod ShapeLemmas
+mod StampLemmas
+mod WellFormedLemmas

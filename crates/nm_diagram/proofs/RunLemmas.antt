@@ -1,5 +1,6 @@
 -- In a run each arrival has its send, and so its arrow.
-use Rattle.std.proofs.Common.{◌≡◌, ℕ, ◌+◌, ◌<◌, ◌==◌, zero, suc, List, [], ◌∷◌, ◌++◌, Bool, true, false, cond, ◌&&◌, refl, sym, ap, ◌∙◌, subst, arith, length, nat_lt, get_or, Option, Some, append-nil}
+use Rattle.std.proofs.Common.{◌≡◌, ℕ, ◌+◌, ◌<◌, ◌==◌, zero, suc, List, [], ◌∷◌, ◌++◌, Bool, true, false, cond, ◌&&◌}
+use Rattle.std.proofs.Common.{refl, sym, ap, ◌∙◌, subst, arith, length, nat_lt, get_or, Option, Some, append-nil}
 use Rattle.std.specs.Prelude.{IfSome}
 use Rattle.std.specs.List.{cons_option, filter, filter_map, slice_get}
 use Rattle.std.proofs.lemmas.Bool.{eqb-true, eqb-false, lt-ltb, ltb-false}
@@ -68,7 +69,8 @@ Finds end j before events s n =
 other_event : (end j : ℕ) (before : List Event) (e : Event) (events : List Event) (s : Sent) (n : ℕ) (b : Bool) →
     filter (λ s. s.to == j) (cons_option (sent_of e.stamp e.what) []) ≡ [] →
     Finds end j (before ++ e ∷ []) events s n →
-    cond (b && false) (Some e.stamp) (first_stamp end (anchor.Send j (length (sends before j) + n)) events) ≡ Some s.stamp
+    cond (b && false) (Some e.stamp) (first_stamp end (anchor.Send j (length (sends before j) + n)) events)
+    ≡ Some s.stamp
 other_event end j before e events s n b none finds =
     passed b (Some e.stamp) (first_stamp end (anchor.Send j (length (sends before j) + n)) events)
     ∙ ap (λ c. first_stamp end (anchor.Send j (c + n)) events) (sym (count_same before e j none))
@@ -187,7 +189,8 @@ sent_of_arrival shape rank hi hj before after stamp a numbers split order =
     (subst (λ l. AtEach (λ b e. NumberAt shape.ranks b e.what) l) split numbers) in
     let in_order = subst (λ l. ArriveInOrder a.env.from (sends hi rank) l)
     (ap (λ l. arrivals l a.env.from) split ∙ arrivals_at before after stamp a) order in
-    let placed = at_place a.env.from (sends hi rank) (arrivals before a.env.from) y (arrivals after a.env.from) in_order in
+    let placed = at_place a.env.from (sends hi rank) (arrivals before a.env.from) y (arrivals after a.env.from)
+    in_order in
     (placed.0, ap (λ k. slice_get (sends hi rank) k) here.1 ∙ placed.1, placed.2)
 
 -- the arrow of an arrival whose send is found
@@ -234,11 +237,18 @@ arrival_has_arrow shape lines run frame is of_ranks rank stamp receiver a before
     let of_sender = subst (λ o. IfSome o (λ x. (j : ℕ) → IfSome (slice_get (ends_of ranks) j)
     (λ y. AreDelivered from j (commands_of from lines) (commands_of j lines) x.events y.events)))
     (end_got ranks from sender comes) (lawful.delivered from) in
-    let delivered = subst (λ o. IfSome o (λ y. AreDelivered from rank (commands_of from lines) (commands_of rank lines) hi y.events))
+    let delivered = subst (λ o. IfSome o
+    (λ y. AreDelivered from rank (commands_of from lines) (commands_of rank lines) hi y.events))
     (end_got ranks rank receiver got) (of_sender rank) in
     let sent = sent_of_arrival shape rank hi hj before after stamp a its.numbers split delivered.messages in
     let earlier = sent.2 in
-    let found = found_in_run frame.end rank shape.ranks hi sent.0 a.n theirs.numbers sent.1 (omega (arith, earlier, shown)) in
+    let found = found_in_run frame.end rank shape.ranks hi sent.0 a.n theirs.numbers sent.1
+    (omega (arith, earlier, shown)) in
     let shaft = sent_by-found frame.end from rank a.n sent.0.stamp ranks sender of_ranks.few comes
     (stamps-rise hi theirs.stamps) found in
-    record { sent = sent.0.stamp; before = earlier; one = arrow_made frame.end rank stamp sent.0.stamp ranks a shown shaft }
+    record {
+      sent = sent.0.stamp;
+      before = earlier;
+      one = arrow_made frame.end rank stamp sent.0.stamp ranks a shown
+          shaft;
+    }

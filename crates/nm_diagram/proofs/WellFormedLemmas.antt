@@ -1,5 +1,7 @@
 -- A picture is well formed, piece by piece.
-use Rattle.std.proofs.Common.{◌≡◌, ℕ, ◌+◌, ◌/◌, ◌%◌, ◌<◌, zero, suc, List, [], ◌∷◌, ◌++◌, Bool, true, false, cond, not, ◌&&◌, ◌||◌, ◌==◌, refl, sym, ap, ◌∙◌, subst, arith, codes, decimal, flat_map, take, max, Option, Some, None}
+use Rattle.std.proofs.Common.{◌≡◌, ℕ, ◌+◌, ◌/◌, ◌%◌, ◌<◌, zero, suc, List, [], ◌∷◌, ◌++◌, Bool, true, false, cond}
+use Rattle.std.proofs.Common.{not, ◌&&◌, ◌||◌, ◌==◌, refl, sym, ap, ◌∙◌, subst, arith, codes, decimal, flat_map, take}
+use Rattle.std.proofs.Common.{max, Option, Some, None}
 use Rattle.std.specs.List.{AllByRecursion}
 use Rattle.std.specs.Fmt.{digits, digits_onto, digit_glyph}
 use Rattle.std.proofs.lemmas.Bool.{lt-ltb}
@@ -17,7 +19,8 @@ use Rattle.nm_report.specs.declared.accounts.RankAccount.{RankAccount}
 use Rattle.nm_diagram.specs.declared.arrows.Arrow.{Arrow}
 use Rattle.nm_diagram.specs.declared.frames.Frame.{Frame}
 use Rattle.nm_diagram.specs.declared.links.Link.{Link}
-use Rattle.nm_diagram.specs.Diagrams.{Lane, all_arrows, all_lanes, all_marks, from_lane, mark_of, marks_at, marks_of, sign_of, title_of}
+use Rattle.nm_diagram.specs.Diagrams.{Lane, all_arrows, all_lanes, all_marks, from_lane, mark_of, marks_at, marks_of}
+use Rattle.nm_diagram.specs.Diagrams.{sign_of, title_of}
 use Rattle.nm_diagram.specs.Frames.{is_shown}
 use Rattle.nm_diagram.specs.Links.{all_links}
 use Rattle.nm_diagram.specs.Markup.{escaped, escaped_byte, is_printable}
@@ -147,7 +150,8 @@ printed_in_text b less amp printed greater =
 escaped_tests : (name : List ℕ) (tags : List (List ℕ)) (b : ℕ) (less greater amp printed : Bool) →
     (b == 60) ≡ less → (b == 62) ≡ greater → (b == 38) ≡ amp → is_printable b ≡ printed →
     read (Between (name ∷ tags))
-    (cond less (codes "&lt;") (cond greater (codes "&gt;") (cond amp (codes "&amp;") (cond printed (b ∷ []) (codes "?")))))
+    (cond less (codes "&lt;")
+    (cond greater (codes "&gt;") (cond amp (codes "&amp;") (cond printed (b ∷ []) (codes "?")))))
     ≡ Between (name ∷ tags)
 escaped_tests name tags b true greater amp printed l g a p = refl
 escaped_tests name tags b false true amp printed l g a p = refl
@@ -225,7 +229,8 @@ marks-read end rank (e ∷ events) =
       one true = keeps-append (mark_text (mark_of rank e)) [] (mark-read rank e) refl
       one false = refl
 
-all_marks-read : (end rank : ℕ) (ranks : List RankAccount) → Keeps (flat_map mark_text (from_lane (marks_of end) rank ranks))
+all_marks-read : (end rank : ℕ) (ranks : List RankAccount) →
+    Keeps (flat_map mark_text (from_lane (marks_of end) rank ranks))
 all_marks-read end rank [] = refl
 all_marks-read end rank (account ∷ accounts) =
     let these = marks_of end rank account in

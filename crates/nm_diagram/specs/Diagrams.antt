@@ -51,6 +51,7 @@ title_of rank event =
     codes "rank " ++ (decimal rank ++ (codes " at " ++ (decimal event.stamp
     ++ (codes ": " ++ join_with_byte 32 (event_words event.what)))))
 
+-- the mark of an event of this rank
 abbrev pub mark_of : ℕ → Event → Mark
 mark_of rank event =
     record {
@@ -64,10 +65,11 @@ mark_of rank event =
 abbrev pub marks_at : ℕ → ℕ → Event → List Mark
 marks_at end rank event = if is_shown end event then mark_of rank event ∷ [] else []
 
--- the marks of a rank, and of all ranks
+-- the marks of a rank
 abbrev pub marks_of : ℕ → ℕ → RankAccount → List Mark
 marks_of end rank account = flat_map (marks_at end rank) account.history.events
 
+-- the marks of all ranks
 abbrev pub all_marks : ℕ → List RankAccount → List Mark
 all_marks end ranks = from_lane (marks_of end) 0 ranks
 
@@ -95,10 +97,11 @@ abbrev pub arrows_at : ℕ → List RankAccount → ℕ → Event → List Arrow
 arrows_at end ranks rank event =
     if is_shown end event then arrow_of end ranks rank event.stamp event.what else []
 
--- the arrows that end at a rank, and all arrows
+-- the arrows that end at a rank
 abbrev pub arrows_of : ℕ → List RankAccount → ℕ → RankAccount → List Arrow
 arrows_of end ranks rank account = flat_map (arrows_at end ranks rank) account.history.events
 
+-- all arrows, by the ranks at which they end
 abbrev pub all_arrows : ℕ → List RankAccount → List Arrow
 all_arrows end ranks = from_lane (arrows_of end ranks) 0 ranks
 
@@ -107,8 +110,10 @@ pub record Lane : Type 0 where
   pub rank : ℕ
   pub waits : Option ℕ
 
+-- a rank has one process line
 abbrev pub lane_of : ℕ → RankAccount → List Lane
 lane_of rank account = record { rank = rank; waits = account.waits } ∷ []
 
+-- the process lines of all ranks
 abbrev pub all_lanes : List RankAccount → List Lane
 all_lanes ranks = from_lane lane_of 0 ranks

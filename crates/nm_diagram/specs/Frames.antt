@@ -10,10 +10,11 @@ use Rattle.nm_diagram.specs.declared.frames.Frame.{Frame}
 abbrev pub is_shown : ℕ → Event → Bool
 is_shown end event = nat_lt event.stamp end
 
--- how many events of a rank are shown, and how many are not
+-- how many events of a rank are shown
 abbrev pub shown_of : ℕ → RankAccount → ℕ
 shown_of end account = count_by (is_shown end) account.history.events
 
+-- how many events of a rank are not shown
 abbrev pub hidden_of : ℕ → RankAccount → ℕ
 hidden_of end account = length account.history.events - shown_of end account
 
@@ -27,6 +28,7 @@ lowest end found [] = found
 lowest end found (event ∷ events) =
     lowest end (if is_shown end event then max found event.stamp else found) events
 
+-- the same of the events of all these ranks
 abbrev pub lowest_of_all : ℕ → ℕ → List RankAccount → ℕ
 lowest_of_all end found [] = found
 lowest_of_all end found (account ∷ accounts) =

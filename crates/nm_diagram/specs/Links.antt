@@ -33,9 +33,10 @@ link_of end rank events pair =
 abbrev pub links_among : ℕ → ℕ → List Event → List Link
 links_among end rank events = flat_map (link_of end rank events) (matched_pairs events)
 
--- the links of a rank, of its first 4,096 events, and of all ranks
+-- the links of a rank: of its first 4,096 events
 abbrev pub links_of : ℕ → ℕ → RankAccount → List Link
 links_of end rank account = links_among end rank (take 4096 account.history.events)
 
+-- the links of all ranks
 abbrev pub all_links : ℕ → List RankAccount → List Link
 all_links end ranks = from_lane (links_of end) 0 ranks

@@ -1,5 +1,6 @@
 -- The text of a picture, shape by shape.
-use Rattle.std.specs.Prelude.{◌≡◌, ℕ, ◌+◌, ◌-◌, ◌*◌, ◌%◌, ◌==◌, if◌then◌else◌, max, List, [], ◌∷◌, ◌++◌, Option, Some, None}
+use Rattle.std.specs.Prelude.{◌≡◌, ℕ, ◌+◌, ◌-◌, ◌*◌, ◌%◌, ◌==◌, if◌then◌else◌, max, List, [], ◌∷◌, ◌++◌, Option, Some}
+use Rattle.std.specs.Prelude.{None}
 use Rattle.std.specs.Prelude.{codes, decimal, flat_map, take}
 use Rattle.nm_report.specs.Events.{how_word}
 use Rattle.nm_report.specs.declared.accounts.RankAccount.{RankAccount}
@@ -13,10 +14,11 @@ use Rattle.nm_diagram.specs.Links.{all_links}
 use Rattle.nm_diagram.specs.Frames.{IsFrame}
 use Rattle.nm_diagram.specs.Markup.{attributes, element, empty, escaped}
 
--- how far from the left the line of a rank stands, and how far from the top a stamp
+-- how far from the left the line of a rank stands
 abbrev pub lane_x : ℕ → ℕ
 lane_x rank = 300 + 72 * rank
 
+-- how far from the top a stamp stands
 abbrev pub stamp_y : ℕ → ℕ
 stamp_y stamp = 70 + 18 * stamp
 
@@ -134,6 +136,7 @@ unfoldable pub line_text : Frame → ℕ → List ℕ
 line_text frame rank =
     process_line frame rank ++ (rank_label rank 56 ++ rank_label rank (foot_y frame + 24))
 
+-- the text of a lane: its process line, and where its rank waits
 unfoldable pub lane_text : Frame → Lane → List ℕ
 lane_text frame lane = line_text frame lane.rank ++ wait_text frame lane.rank lane.waits
 
@@ -155,6 +158,7 @@ size_text width height =
     ++ (codes "\" height=\"" ++ (decimal height ++ (codes "\" viewBox=\"0 0 " ++ (decimal width
     ++ (codes " " ++ (decimal height ++ codes "\">\n")))))))
 
+-- the start tag of a picture with this frame
 unfoldable pub head_text : Frame → List ℕ
 head_text frame = size_text (max (lane_x frame.lanes) 560) (max (foot_y frame + 60) 460)
 

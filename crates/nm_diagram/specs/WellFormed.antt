@@ -21,10 +21,11 @@ pub data Place : Type 0 where
   Expects : ℕ → List ℕ → List (List ℕ) → Place
   Broken : Place
 
--- a letter, and a byte of a name
+-- a letter
 abbrev pub is_letter : ℕ → Bool
 is_letter b = (nat_le 65 b && nat_le b 90) || (nat_le 97 b && nat_le b 122)
 
+-- a byte of a name: a letter or a digit
 abbrev pub is_name : ℕ → Bool
 is_name b = is_letter b || (nat_le 48 b && nat_le b 57)
 

@@ -9,9 +9,8 @@ ghost use Rattle.nm_diagram.specs.Pictures.{arrow_text, arrow_title, aside_of, s
 use crate::anchors::{Anchor, first_stamp, front};
 use crate::frames::Frame;
 use crate::outlines::{x_of, y_of};
-use crate::words::word_of_how;
 use nm_history::{Event, Happened};
-use nm_report::RankAccount;
+use nm_report::{RankAccount, word_of_how};
 use nm_types::How;
 use std::alloc::AllocError;
 

@@ -11,8 +11,8 @@ use Rattle.nm_types.specs.declared.packets.Packet.{Packet}
 use Rattle.nm_types.specs.declared.packets.What.TheVariants as what
 use Rattle.nm_history.specs.Sends.{Sent}
 use Rattle.nm_history.specs.Outgoing.{Called, eager_packets, further_packets, part_at}
-use Rattle.nm_eager.proofs.MessageLemmas.{eqb_other}
 use Rattle.nm_eager.specs.Cutting.{Cutting, packet_count, next_what, IsMessageOf, IsNext}
+use Rattle.nm_facts.proofs.Numbers.{unequal}
 
 -- the bytes that were copied one by one are the part
 pub part_is : (bytes copied : List ℕ) (start size : ℕ) → length copied ≡ 256
@@ -45,7 +45,7 @@ packet-at s body (suc k) h =
     let m = further_packets s.len in
     let within : k < m = omega arith in
     let long = length-map-range_with_len more 1 m in
-    rw (eqb_other (suc k) 0 (λ never. omega arith)) (slice_get-get_or (map more (range_with_len 1 m)) k
+    rw (unequal (suc k) 0 (λ never. omega arith)) (slice_get-get_or (map more (range_with_len 1 m)) k
     (more 0) (omega arith) ∙ ap (λ (c : Called). Some c) (get_or-map-range_with_len more 1 m k (suc k)
     (more 0) within (omega arith)))
 

@@ -18,7 +18,8 @@ use Rattle.nm_history.specs.Outgoing.{Called, AreCalled, eager_packets, further_
 use Rattle.nm_eager.specs.Streams.{Incoming, Stream, lacking, missing, with_more, begun, after_all}
 use Rattle.nm_eager.specs.Streams.{AllContinue, AreNumbered, goes_on, is_kept, bytes_ahead}
 use Rattle.nm_eager.specs.Streams.{groups, messages}
-use Rattle.nm_eager.proofs.MessageLemmas.{Lacks-below, map-lacks, eqb_same}
+use Rattle.nm_eager.proofs.MessageLemmas.{Lacks-below, map-lacks}
+use Rattle.nm_facts.proofs.Numbers.{eq_true}
 
 -- the packets that a message may need
 abbrev kept : List Packet → List Packet
@@ -41,7 +42,7 @@ one_more s body k ms r =
     rw (
       map-append (with_more s.n (part_at MAX_PAYLOAD body k)) ms (so_far s body k ∷ []),
       map-lacks s.n (part_at MAX_PAYLOAD body k) ms (Lacks-below s.n 0 s.n ms (omega arith) r),
-      eqb_same s.n s.n refl,
+      eq_true s.n s.n refl,
       next,
       take-add (256 * k) 256 body,
     ) refl
@@ -70,15 +71,15 @@ within a b h = grind (arith, nat_tests)
 more_continues : (missing n count size : ℕ) → 0 < missing → n + 1 ≡ count → size ≡ min 256 missing
     → (nat_lt 0 missing && n + 1 == count && size == min 256 missing) ≡ true
 more_continues missing n count size m c l = and_from _ _ (and_from _ _ (below 0 missing m)
-    (eqb_same (n + 1) count c)) (eqb_same size (min 256 missing) l)
+    (eq_true (n + 1) count c)) (eq_true size (min 256 missing) l)
 
 -- the tests of a packet that begins a message
 head_continues : (missing len eager tag size : ℕ) → missing ≡ 0 → len ≤ eager → tag ≤ 32767
     → size ≡ min 256 len → (missing == 0 && nat_le len eager && nat_le tag 32767 && size == min 256 len)
     ≡ true
 head_continues missing len eager tag size m l t z = and_from _ _
-    (and_from _ _ (and_from _ _ (eqb_same missing 0 m) (within len eager l)) (within tag 32767 t))
-    (eqb_same size (min 256 len) z)
+    (and_from _ _ (and_from _ _ (eq_true missing 0 m) (within len eager l)) (within tag 32767 t))
+    (eq_true size (min 256 len) z)
 
 -- what is missing of a message of which so many parts came
 missing_so_far : (s : Sent) (body : List ℕ) (k : ℕ) (ms : List Incoming) → s.len ≡ length body

@@ -1,7 +1,7 @@
-pub mod CutLemmas
-pub mod JoinLemmas
+mod CutLemmas
+mod JoinLemmas
 pub mod MessageLemmas
 pub mod MissingLemmas
-pub mod SearchLemmas
-pub mod SenderLemmas
-pub mod StreamLemmas
+mod SearchLemmas
+mod SenderLemmas
+mod StreamLemmas

@@ -3,14 +3,8 @@ use Rattle.std.proofs.Common.{◌≡◌, ◌≢◌, ℕ, ◌+◌, ◌<◌, ◌�
 use Rattle.std.proofs.Common.{[], ◌∷◌, ◌++◌, map, filter, find, Some, None, ap}
 use Rattle.std.proofs.Common.{◌∙◌, refl, arith, subst, slice_get, zero, suc}
 use Rattle.std.specs.List.{AllByRecursion, All, remove}
-use Rattle.std.proofs.lemmas.Bool.Decides.{nat_tests}
 use Rattle.nm_eager.specs.Streams.{Incoming, AreNumbered, with_more}
-
-pub eqb_same : (m n : ℕ) → m ≡ n → (m == n) ≡ true
-eqb_same m n e = grind (arith, nat_tests)
-
-pub eqb_other : (m n : ℕ) → m ≢ n → (m == n) ≡ false
-eqb_other m n h = grind (arith, nat_tests)
+use Rattle.nm_facts.proofs.Numbers.{unequal, eq_true}
 
 -- the bounds may be wider
 pub AreNumbered-wider : (low low' high high' : ℕ) (ms : List Incoming) → low' ≤ low → high ≤ high'
@@ -92,15 +86,15 @@ Lacks-from_All n (m ∷ ms) h = (
 
 pub find-lacks : (n : ℕ) (ms : List Incoming) → Lacks n ms → find (λ m. m.n == n) ms ≡ None
 find-lacks n [] h = refl
-find-lacks n (m ∷ ms) h = rw (eqb_other m.n n h.0) (find-lacks n ms h.1)
+find-lacks n (m ∷ ms) h = rw (unequal m.n n h.0) (find-lacks n ms h.1)
 
 pub filter-lacks : (n : ℕ) (ms : List Incoming) → Lacks n ms → filter (λ m. not (m.n == n)) ms ≡ ms
 filter-lacks n [] h = refl
-filter-lacks n (m ∷ ms) h = rw (eqb_other m.n n h.0) (ap (λ l. m ∷ l) (filter-lacks n ms h.1))
+filter-lacks n (m ∷ ms) h = rw (unequal m.n n h.0) (ap (λ l. m ∷ l) (filter-lacks n ms h.1))
 
 pub map-lacks : (n : ℕ) (bytes : List ℕ) (ms : List Incoming) → Lacks n ms → map (with_more n bytes) ms ≡ ms
 map-lacks n bytes [] h = refl
-map-lacks n bytes (m ∷ ms) h = rw (eqb_other m.n n h.0) (ap (λ l. m ∷ l) (map-lacks n bytes ms h.1))
+map-lacks n bytes (m ∷ ms) h = rw (unequal m.n n h.0) (ap (λ l. m ∷ l) (map-lacks n bytes ms h.1))
 
 -- the message at a place is found by its number
 pub find-at : (n low high : ℕ) (ms : List Incoming) (k : ℕ) (m : Incoming) → AreNumbered low high ms
@@ -109,11 +103,11 @@ find-at n low high [] k m r e q = cc
 find-at n low high (x ∷ ms) zero m r e q =
     let same : x ≡ m = cc in
     let here : x.n ≡ n = ap (λ (y : Incoming). y.n) same ∙ q in
-    rw (eqb_same x.n n here) e
+    rw (eq_true x.n n here) e
 find-at n low high (x ∷ ms) (suc k) m r e q =
     let above = AreNumbered-at (x.n + 1) high ms k m r.1 e in
     let other : x.n ≢ n = omega arith in
-    rw (eqb_other x.n n other) (find-at n (x.n + 1) high ms k m r.1 e q)
+    rw (unequal x.n n other) (find-at n (x.n + 1) high ms k m r.1 e q)
 
 -- to remove it is to leave out its number
 pub filter-at : (n low high : ℕ) (ms : List Incoming) (k : ℕ) (m : Incoming) → AreNumbered low high ms
@@ -122,11 +116,11 @@ filter-at n low high [] k m r e q = cc
 filter-at n low high (x ∷ ms) zero m r e q =
     let same : x ≡ m = cc in
     let here : x.n ≡ n = ap (λ (y : Incoming). y.n) same ∙ q in
-    rw (eqb_same x.n n here) (filter-lacks n ms (Lacks-above n (x.n + 1) high ms (omega arith) r.1))
+    rw (eq_true x.n n here) (filter-lacks n ms (Lacks-above n (x.n + 1) high ms (omega arith) r.1))
 filter-at n low high (x ∷ ms) (suc k) m r e q =
     let above = AreNumbered-at (x.n + 1) high ms k m r.1 e in
     let other : x.n ≢ n = omega arith in
-    rw (eqb_other x.n n other) (ap (λ l. x ∷ l) (filter-at n (x.n + 1) high ms k m r.1 e q))
+    rw (unequal x.n n other) (ap (λ l. x ∷ l) (filter-at n (x.n + 1) high ms k m r.1 e q))
 
 pub AllByRecursion-at : (P : Incoming → Type 0) (ms : List Incoming) (k : ℕ) (m : Incoming)
     → AllByRecursion P ms → slice_get ms k ≡ Some m → P m

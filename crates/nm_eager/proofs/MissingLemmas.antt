@@ -9,7 +9,7 @@ use Rattle.std.proofs.lemmas.Bool.{cases_eq}
 use Rattle.nm_eager.specs.Streams.{Incoming, Stream, missing, lacking, with_more, begun, carried_on}
 use Rattle.nm_eager.specs.Streams.{without, AreNumbered, IsWholeOrLast, IsStream, IsWholeIn}
 use Rattle.nm_eager.proofs.MessageLemmas.{AreNumbered-low, Lacks-above, filter-lacks}
-use Rattle.nm_eager.proofs.MessageLemmas.{eqb_same, eqb_other}
+use Rattle.nm_facts.proofs.Numbers.{unequal, eq_true}
 
 pub missing-begun : (stream : Stream) (len : ℕ) (bytes : List ℕ)
     → missing (begun stream len bytes) ≡ missing stream + (len - length bytes)
@@ -36,13 +36,13 @@ goes_on count n low bytes (m ∷ ms) r f last l = elim (cases_eq m.n n) [
       let end' : m.n + 1 ≡ count = omega arith in
       let last_one = none_left count ms (rw end' at r.1) in
       let only = rw last_one at l in
-      rw (last_one, eqb_same m.n n same) (omega (arith, only, length-append m.bytes bytes))
+      rw (last_one, eq_true m.n n same) (omega (arith, only, length-append m.bytes bytes))
   | inr other ↦
       let whole : length m.bytes ≡ m.len = (elim f.0 [ inl w ↦ w | inr u ↦ absurd (other (omega arith)) ])
       in
       let here = sum_by-cons lacking m ms in
       let later = goes_on count n (m.n + 1) bytes ms r.1 f.1 last (omega arith) in
-      rw (eqb_other m.n n other) (omega (
+      rw (unequal m.n n other) (omega (
         arith,
         later,
         here,
@@ -62,12 +62,12 @@ takes : (count n low : ℕ) (ms : List Incoming) → AreNumbered low count ms
 takes count n low [] r w = absurd w
 takes count n low (m ∷ ms) r w = elim (cases_eq m.n n) [
   | inl same ↦
-      let whole = rw (eqb_same m.n n same) at w in
-      rw (eqb_same m.n n same, filter-lacks n ms (Lacks-above n (m.n + 1) count ms (omega arith) r.1))
+      let whole = rw (eq_true m.n n same) at w in
+      rw (eq_true m.n n same, filter-lacks n ms (Lacks-above n (m.n + 1) count ms (omega arith) r.1))
       (omega (arith, sum_by-cons lacking m ms))
   | inr other ↦
-      let later = takes count n (m.n + 1) ms r.1 (rw (eqb_other m.n n other) at w) in
-      rw (eqb_other m.n n other) (omega (
+      let later = takes count n (m.n + 1) ms r.1 (rw (unequal m.n n other) at w) in
+      rw (unequal m.n n other) (omega (
         arith,
         later,
         sum_by-cons lacking m ms,

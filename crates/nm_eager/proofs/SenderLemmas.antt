@@ -15,9 +15,10 @@ use Rattle.nm_eager.specs.Streams.{lacking, with_more, IsWholeIn}
 use Rattle.nm_eager.specs.Senders.{AreReceived, IsLast}
 use Rattle.nm_eager.proofs.MessageLemmas.{Lacks, AreNumbered-wider, AreNumbered-push}
 use Rattle.nm_eager.proofs.MessageLemmas.{AreNumbered-at, AreNumbered-filter, AllByRecursion-filter}
-use Rattle.nm_eager.proofs.MessageLemmas.{AllByRecursion-push, AllByRecursion-at, eqb_same}
-use Rattle.nm_eager.proofs.MessageLemmas.{eqb_other, Lacks-below, Lacks-from_All, find-lacks}
+use Rattle.nm_eager.proofs.MessageLemmas.{AllByRecursion-push, AllByRecursion-at}
+use Rattle.nm_eager.proofs.MessageLemmas.{Lacks-below, Lacks-from_All, find-lacks}
 use Rattle.nm_eager.proofs.MessageLemmas.{map-lacks, find-at, filter-at}
+use Rattle.nm_facts.proofs.Numbers.{unequal, eq_true}
 
 -- whole messages lack nothing
 pub lacking-whole : (whole : List Incoming) → AllByRecursion (λ m. length m.bytes ≡ m.len) whole
@@ -128,7 +129,7 @@ module _ (count : ℕ) (whole : List Incoming) (spare : ℕ) where
         map-append (with_more n bytes) whole (m ∷ []),
         map-lacks n bytes whole
             (Lacks-below n 0 m.n whole (omega arith) r.last.behind),
-        eqb_same m.n n same,
+        eq_true m.n n same,
       )
 
   -- the same of the streams
@@ -204,7 +205,7 @@ module _ (count : ℕ) (whole : List Incoming) (spare : ℕ) where
       rw (
         filter-append (λ x. not (x.n == n)) whole (v ∷ []),
         filter-at n 0 count whole k m r.numbered at q,
-        eqb_other v.n n other,
+        unequal v.n n other,
       )
 
   -- a search among the whole messages tells whether one is whole

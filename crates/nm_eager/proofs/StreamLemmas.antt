@@ -13,7 +13,8 @@ use Rattle.nm_eager.specs.Streams.{messages, with_more}
 use Rattle.nm_eager.specs.Streams.{after_all, AllContinue, eager_from, stream_of, AreNumbered}
 use Rattle.nm_eager.specs.Streams.{nothing_came}
 use Rattle.nm_eager.proofs.MessageLemmas.{AreNumbered-push, AreNumbered-wider, Lacks-below}
-use Rattle.nm_eager.proofs.MessageLemmas.{map-lacks, eqb_same}
+use Rattle.nm_eager.proofs.MessageLemmas.{map-lacks}
+use Rattle.nm_facts.proofs.Numbers.{eq_true}
 
 -- the packets that a message may need
 abbrev kept : List Packet → List Packet
@@ -76,7 +77,7 @@ after_head count len bytes ahead ms later r =
       map-append (with_more count ahead) ms (record { n = count; len = len; bytes = bytes } ∷ []),
       map-lacks count ahead ms (Lacks-below count 0 count ms (omega arith) r),
       with_nothing (count - 1) ms,
-      eqb_same count count refl,
+      eq_true count count refl,
     )
     (append_assoc ms (record { n = count; len = len; bytes = bytes ++ ahead } ∷ []) later)
 

@@ -39,6 +39,7 @@ impl Message {
         }
     }
 
+    /// The number of the message.
     pub fn n(&self) -> u64
         ensures { result ≡ self.now.n }
     {
@@ -61,6 +62,7 @@ impl Message {
         self.bytes.extend_from_slice(bytes).unwrap();
     }
 
+    /// The bytes that came, by themselves.
     pub fn into_bytes(self) -> Bytes
         ensures { result ≡ self.bytes }
     {

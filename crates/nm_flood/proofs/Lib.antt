@@ -1,3 +1,3 @@
-pub mod LineLemmas
-pub mod LimitLemmas
-pub mod PushLemmas
+mod LineLemmas
+mod LimitLemmas
+mod PushLemmas

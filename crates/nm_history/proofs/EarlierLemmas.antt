@@ -1,5 +1,6 @@
 -- What a rank had seen before a stamp is a front of its history, where stamps rise.
-use Rattle.std.proofs.Common.{◌≡◌, ℕ, ◌+◌, ◌<◌, ◌≤◌, ◌⊎◌, inl, inr, Bool, true, false, cond, ltb, List, [], ◌∷◌, ◌++◌, refl}
+use Rattle.std.proofs.Common.{◌≡◌, ℕ, ◌+◌, ◌<◌, ◌≤◌, ◌⊎◌, inl, inr, Bool, true, false, cond, ltb, List, [], ◌∷◌, ◌++◌}
+use Rattle.std.proofs.Common.{refl}
 use Rattle.std.proofs.Common.{sym, ◌∙◌, ap, arith}
 use Rattle.std.specs.List.{AllByRecursion, filter}
 use Rattle.std.proofs.lemmas.Bool.Decides.{nat_tests}
@@ -89,9 +90,16 @@ order m s = by_first (ltb m s) refl (ltb m (s + 1)) refl
 
 one_at : (s : ℕ) (before : List Event) (e : Event) (events : List Event) → Order e.stamp s →
     AtEachAfter (λ b e. StampAt b e.stamp) (before ++ e ∷ []) events → IsOneMore s events → IsOneMore s (e ∷ events)
-one_at s before e events (Below low next) rising (inl same) = inl (rw (low, next) (ap (λ (es : List Event). e ∷ es) same))
+one_at s before e events (Below low next) rising (inl same) =
+    inl (rw (low, next) (ap (λ (es : List Event). e ∷ es) same))
 one_at s before e events (Below low next) rising (inr more) =
-    inr (more.0, more.1, rw low (ap (λ (es : List Event). e ∷ es) more.2), rw (low, next) (ap (λ (es : List Event). e ∷ es) more.3))
+    inr (
+      more.0,
+      more.1,
+      rw low (ap (λ (es : List Event). e ∷ es) more.2),
+      rw (low, next)
+          (ap (λ (es : List Event). e ∷ es) more.3),
+    )
 one_at s before e events (Here low next here above) rising later =
     let none = none_later s (before ++ e ∷ []) events (rw (last_stamp-push before e) here) rising in
     let more = none_after s (before ++ e ∷ []) events (rw (last_stamp-push before e) here) rising in
@@ -101,7 +109,8 @@ one_at s before e events (Above low next here above) rising later =
     let more = none_after s (before ++ e ∷ []) events (rw (last_stamp-push before e) here) rising in
     inl (rw (low, next, none.0, more) refl)
 
-one_after : (s : ℕ) (before events : List Event) → AtEachAfter (λ b e. StampAt b e.stamp) before events → IsOneMore s events
+one_after : (s : ℕ) (before events : List Event) → AtEachAfter (λ b e. StampAt b e.stamp) before events →
+    IsOneMore s events
 one_after s before [] rising = inl refl
 one_after s before (e ∷ events) rising =
     one_at s before e events (order e.stamp s) rising.1 (one_after s (before ++ e ∷ []) events rising.1)

@@ -1,17 +1,14 @@
 -- The stamps of a journal, one event after another.
 use Rattle.std.proofs.Common.{◌≡◌, ℕ, ◌+◌, ◌<◌, ◌≤◌, List, [], ◌∷◌, ◌++◌, sym, subst, arith}
-use Rattle.std.proofs.lemmas.List.Sums.{fold_push}
 use Rattle.nm_types.specs.declared.limits.TheConstants.{MAX_STAMP}
 use Rattle.nm_history.specs.declared.events.Event.{Event}
 use Rattle.nm_history.specs.declared.events.Happened.{Happened}
 use Rattle.nm_history.specs.AtEach.{AtEach}
-use Rattle.nm_history.specs.RankRun.{StampAt, last_stamp}
+use Rattle.nm_history.specs.RankRun.{StampAt}
 use Rattle.nm_history.proofs.AtEachLemmas.{AtEach-push}
 use Rattle.nm_protocol.specs.Clock.{stamped}
 use Rattle.nm_journal.specs.Journals.{IsJournal}
-
-last_stamp-push : (h : List Event) (e : Event) → last_stamp (h ++ e ∷ []) ≡ e.stamp
-last_stamp-push h e = fold_push (λ (stamp : ℕ) (e : Event). e.stamp) 0 h e
+use Rattle.nm_history.proofs.EarlierLemmas.{last_stamp-push}
 
 pub begins : (h : List Event) (clock : ℕ) → h ≡ [] → clock ≡ 0 → IsJournal h clock
 unfolding AtEach

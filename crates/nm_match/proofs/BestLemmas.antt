@@ -102,7 +102,8 @@ module _ {X S : Type 0} {key : X → Picks} {queue : List (ℕ × X)} {next : �
 
   -- no bucket yet
   pub first_none : first_of 0 ≡ None
-  first_none = find_never (λ x. list_any (λ e. fits e.0 && same_picks e.0 (key x.1)) (take 0 m.entries)) queue (λ x. refl)
+  first_none = find_never (λ x. list_any (λ e. fits e.0 && same_picks e.0 (key x.1)) (take 0 m.entries)) queue
+      (λ x. refl)
 
   fitting_is : (o : Option (Picks × BTreeMap ℕ X)) →
       find (λ x. option_map_or (λ e. fits e.0 && same_picks e.0 (key x.1)) o false) queue
@@ -132,7 +133,8 @@ module _ {X S : Type 0} {key : X → Picks} {queue : List (ℕ × X)} {next : �
 
   has_key : (x : ℕ × X) → (filter (λ (y : ℕ × X). same_picks (key x.1) (key y.1)) queue ≡ [] → ⊥) →
       list_any (same_picks (key x.1)) (keys_of m.entries) ≡ true
-  has_key x some = sym (is_some-lookup (same_picks (key x.1)) m.entries) ∙ at (lookup (same_picks (key x.1)) m.entries) refl
+  has_key x some = sym (is_some-lookup (same_picks (key x.1)) m.entries)
+      ∙ at (lookup (same_picks (key x.1)) m.entries) refl
     where
       at : (o : Option (BTreeMap ℕ X)) → lookup (same_picks (key x.1)) m.entries ≡ o → is_some o ≡ true
       at (Some b) found = refl

@@ -21,6 +21,7 @@ use Rattle.nm_match.specs.declared.picks.Picks.{Picks}
 use Rattle.nm_match.specs.Buckets.{AreBuckets, IsQueue, Rising, bucket_of, earlier_of}
 use Rattle.nm_match.specs.Picks.{same_peer, same_picks, same_tag}
 use Rattle.nm_match.specs.Queues.{without_first}
+use Rattle.nm_facts.proofs.Truth.{three_parts as three}
 
 same_peer-true : (a b : Peer) → same_peer a b ≡ true → a ≡ b
 same_peer-true peer.Any peer.Any h = refl
@@ -41,12 +42,6 @@ same_peer-self (peer.One a) = grind (arith, nat_tests)
 same_tag-self : (a : TagPick) → same_tag a a ≡ true
 same_tag-self tag.Any = refl
 same_tag-self (tag.One a) = grind (arith, nat_tests)
-
-three : (x y z : Bool) → (x && y && z) ≡ true → (x ≡ true) × (y ≡ true) × (z ≡ true)
-three true true true h = (refl, refl, refl)
-three false y z h = absurd (false≢true h)
-three true false z h = absurd (false≢true h)
-three true true false h = absurd (false≢true h)
 
 -- two keys that are the same are equal
 pub same_picks-true : (a b : Picks) → same_picks a b ≡ true → a ≡ b

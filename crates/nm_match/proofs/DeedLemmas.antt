@@ -19,7 +19,7 @@ use Rattle.nm_history.specs.Matching.{first_message, first_receive, is_claimed, 
 use Rattle.nm_history.specs.Matching.{is_of_message, is_of_receive, is_open, matched_pairs, new_pair, pair_of}
 use Rattle.nm_history.specs.Matching.{pair_of_claimed}
 use Rattle.nm_history.proofs.MatchingLemmas.{matched_pairs-push}
-use Rattle.nm_history.proofs.OnceLemmas.{and_left, and_right, find_among, find_passes}
+use Rattle.nm_history.proofs.OnceLemmas.{find_among}
 use Rattle.nm_match.specs.declared.deeds.Deed.{Deed}
 use Rattle.nm_match.specs.declared.deeds.Deed.TheVariants as deed
 use Rattle.nm_match.specs.Deeds.{event_of, history_of, is_deed_of_message, is_deed_of_receive}
@@ -29,6 +29,8 @@ use Rattle.nm_match.proofs.ListLemmas.{find-filter, without_first-none}
 use Rattle.nm_match.proofs.QueueLemmas.{open_means, posted_open, unexpected_free}
 use Rattle.nm_match.proofs.StepLemmas.{arrived_alone, arrived_taking, cancelled_one, claimed_one}
 use Rattle.nm_match.proofs.StepLemmas.{posted_alone, posted_taking, received_one, withdrawn_one}
+use Rattle.nm_facts.proofs.Lists.{find_passes, find_some}
+use Rattle.nm_facts.proofs.Truth.{and_left, and_right}
 
 pub history_of-push : (deeds : List Deed) (d : Deed) →
     history_of (deeds ++ d ∷ []) ≡ history_of deeds ++ event_of d ∷ []
@@ -91,12 +93,6 @@ any_found : {X : Type 0} (test : X → Bool) (xs : List X) (b : Bool) (x : X)
     (y : X) × (cond b (Some x) (find test xs) ≡ Some y)
 any_found test xs true x some later = (x, refl)
 any_found test xs false x some later = later some
-
--- where an element passes, one is found
-pub find_some : {X : Type 0} (test : X → Bool) (xs : List X) → list_any test xs ≡ true → (y : X)
-    × (find test xs ≡ Some y)
-find_some test [] some = absurd (false≢true some)
-find_some test (x ∷ xs) some = any_found test xs (test x) x some (find_some test xs)
 
 -- a message that came is message n of its rank
 pub message_came : (h : List Event) (from n : ℕ) → is_known_message h from n ≡ true → (b : Arrival)

@@ -1,28 +1,26 @@
 -- The queues after each event, whatever its stamp and its line.
 use Rattle.std.proofs.Common.{◌≡◌, ◌≢◌, ℕ, ◌==◌, Bool, true, false, not, ◌&&◌, ◌||◌, Some}
 use Rattle.std.proofs.Common.{List, [], ◌∷◌, ◌++◌, refl, sym, ◌∙◌, ap, subst, arith, append-nil}
-use Rattle.std.proofs.Math.Bool.{and-false, and-true, or-false}
+use Rattle.std.proofs.Math.Bool.{and-false, or-false}
 use Rattle.std.specs.List.{filter, find, list_any}
 use Rattle.std.proofs.lemmas.Bool.{false≢true, false_from_ne_true, eqb-true, ne_eqb, or_left, or_right}
 use Rattle.std.proofs.lemmas.Bool.{or_from}
-use Rattle.std.proofs.lemmas.Bool.Decides.{nat_tests}
 use Rattle.std.proofs.lemmas.List.Elements.{All-weaker}
 use Rattle.std.proofs.lemmas.List.Folds.{list_any-append}
 use Rattle.nm_types.specs.declared.messages.Arrival.{Arrival}
 use Rattle.nm_types.specs.declared.messages.Post as post
 use Rattle.nm_history.specs.declared.events.Event.{Event}
 use Rattle.nm_history.specs.declared.plain.Pair.{Pair}
-use Rattle.nm_history.specs.Sends.{messages, posts, message_of}
+use Rattle.nm_history.specs.Sends.{posts}
 use Rattle.nm_history.specs.Selection.{matches}
 use Rattle.nm_history.specs.Happens.{happened, is_cancel, is_claim}
-use Rattle.nm_history.specs.Matching.{is_claimed, is_free, is_free_message, is_matching, is_of_message}
+use Rattle.nm_history.specs.Matching.{is_free, is_free_message, is_matching, is_of_message}
 use Rattle.nm_history.specs.Matching.{is_of_receive, is_open}
-use Rattle.nm_history.specs.Matching.{pair_of, pair_of_claimed}
-use Rattle.nm_history.proofs.OnceLemmas.{and_left, and_right, eqb_self, find_among, find_passes, posts-push}
-use Rattle.nm_match.specs.Deeds.{is_known_message, is_known_receive, is_message}
+use Rattle.nm_history.specs.Matching.{pair_of}
+use Rattle.nm_history.proofs.OnceLemmas.{eqb_self, find_among, posts-push}
+use Rattle.nm_match.specs.Deeds.{is_known_message, is_known_receive}
 use Rattle.nm_match.specs.Queues.{AreQueues, without_first}
-use Rattle.nm_match.proofs.ListLemmas.{list_any-and, list_any-filter, list_any_agree}
-use Rattle.nm_match.proofs.PushLemmas.{closes, takes, happened-push, is_free-push, is_known_message-push}
+use Rattle.nm_match.proofs.PushLemmas.{closes, takes, is_free-push, is_known_message-push}
 use Rattle.nm_match.proofs.PushLemmas.{is_known_receive-push, is_open-push, messages_known, posts_known}
 use Rattle.nm_match.proofs.QueueLemmas.{cancels_stay, claims_stay, each_posted, each_unexpected}
 use Rattle.nm_match.proofs.QueueLemmas.{free_means, new_free, new_open, open_means, posted_open}
@@ -33,6 +31,8 @@ use Rattle.nm_match.proofs.TurnLemmas.{others_number}
 use Rattle.nm_history.specs.declared.events.Happened.TheVariants as event
 use Rattle.nm_history.specs.declared.events.Happened.{Happened}
 use Rattle.nm_match.specs.InTurn.{is_plain_event}
+use Rattle.nm_facts.proofs.Truth.{and_left, and_right}
+use Rattle.nm_history.proofs.AppendLemmas.{happened-push}
 
 -- a receive is posted; a message arrives
 abbrev pub posted_at : ℕ → ℕ → post.Post → Event

@@ -12,7 +12,6 @@ use Rattle.nm_types.specs.declared.messages.Arrival.{Arrival}
 use Rattle.nm_types.specs.declared.messages.Post as post
 use Rattle.nm_history.specs.Matching.{is_free, is_open, matched_pairs}
 use Rattle.nm_history.specs.Sends.{messages, posts}
-use Rattle.nm_history.proofs.OnceLemmas.{and_left, and_right}
 use Rattle.nm_match.specs.declared.deeds.Deed.{Deed}
 use Rattle.nm_match.specs.declared.picks.Picks.{Picks}
 use Rattle.nm_match.specs.Buckets.{IsQueue, bucket_of}
@@ -22,6 +21,7 @@ use Rattle.nm_match.specs.Queues.{AreQueuesOf, TwoMessages, TwoReceives, without
 use Rattle.nm_match.proofs.BucketLemmas.{length-without_first, queue_len, same_picks-true}
 use Rattle.nm_match.proofs.ListLemmas.{none_passes}
 use Rattle.nm_match.proofs.TurnLemmas.{others_message, others_number}
+use Rattle.nm_facts.proofs.Truth.{and_left, and_right}
 
 -- one more in a list
 pub one_more : {X : Type 0} (xs : List X) (x : X) → length (xs ++ x ∷ []) ≡ length xs + 1

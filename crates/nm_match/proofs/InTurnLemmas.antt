@@ -5,7 +5,7 @@ use Rattle.std.proofs.Common.{append-nil, append_assoc, get_or, ◌⊎◌, inl, 
 use Rattle.std.specs.Prelude.{map}
 use Rattle.std.specs.List.{All, filter, find}
 use Rattle.std.specs.Option.{option_map, option_to_list}
-use Rattle.std.proofs.lemmas.Bool.{false≢true, false_from_ne_true}
+use Rattle.std.proofs.lemmas.Bool.{false≢true}
 use Rattle.std.proofs.lemmas.Bool.Decides.{nat_tests}
 use Rattle.std.proofs.lemmas.List.{map-append}
 use Rattle.std.proofs.lemmas.List.Elements.{All-append, All-cons, All-nil, All-weaker, filter-append}
@@ -24,10 +24,10 @@ use Rattle.nm_history.specs.AtEach.{AtEach, AtEachAfter}
 use Rattle.nm_history.specs.Matching.{first_message, first_receive, matched_pairs, matched_pairs_after}
 use Rattle.nm_history.specs.Matching.{is_matching, new_pair, pair_of}
 use Rattle.nm_history.specs.RankRun.{Always, NumberAt}
-use Rattle.nm_history.specs.Selection.{matches, matches_source, matches_tag}
+use Rattle.nm_history.specs.Selection.{matches}
 use Rattle.nm_history.specs.Sends.{arrivals, messages, posts, receives}
 use Rattle.nm_history.proofs.AtEachLemmas.{AtEach-push}
-use Rattle.nm_history.proofs.OnceLemmas.{find_passes, messages-push, posts-push}
+use Rattle.nm_history.proofs.OnceLemmas.{messages-push, posts-push}
 use Rattle.nm_match.specs.Deeds.{is_known_message, is_known_receive}
 use Rattle.nm_match.specs.Queues.{AreQueues, without_first}
 use Rattle.nm_match.proofs.DeedLemmas.{first_message-queue, first_receive-queue}
@@ -37,6 +37,7 @@ use Rattle.nm_match.specs.InTurn.{is_plain_event, paired}
 use Rattle.nm_match.proofs.EventLemmas.{arrived_alone, arrived_taking, came_at, other_stays, posted_alone}
 use Rattle.nm_match.proofs.EventLemmas.{posted_at, posted_taking, queues-start}
 use Rattle.nm_match.proofs.SearchLemmas.{first_kept, nothing_kept, others_all, others_kept}
+use Rattle.nm_facts.proofs.Lists.{find_passes}
 
 -- three numbers that are those of a channel
 agree3 : (a b d c i t p q r : ℕ) → (a == c && b == i && d == t) ≡ true →
@@ -256,10 +257,12 @@ module _ (from tag ctx : ℕ) {h : List Event} {found : List Pair} (turn : InTur
         done = turn.done ++ c ∷ [];
         pairs = pair_kept from tag ctx found turn.done c mine turn.pairs;
         received = rw (posts-push h (posted_at stamp line p))
-            (first_moved (is_for from tag ctx) (λ (c : Couple). c.receive) (posts h) turn.posted turn.done c is none turn.received);
+            (first_moved (is_for from tag ctx) (λ (c : Couple). c.receive) (posts h) turn.posted turn.done c is none
+            turn.received);
         came = rw (messages-push h (posted_at stamp line p), append-nil (messages h))
             (front_moved (λ (c : Couple). c.message) (filter (in_channel from tag ctx) (messages h))
-            (filter (in_channel from tag ctx) turn.unexpected) (filter (in_channel from tag ctx) left) turn.done c turn.came front);
+            (filter (in_channel from tag ctx) turn.unexpected) (filter (in_channel from tag ctx) left) turn.done c
+            turn.came front);
         idle = inl none;
       }
   post_taking stamp line p a new named is_first false is =
@@ -277,7 +280,8 @@ module _ (from tag ctx : ℕ) {h : List Event} {found : List Pair} (turn : InTur
         named = turn.named;
         done = turn.done;
         pairs = skipped (of_channel from tag ctx) found (pair_of p a) other ∙ turn.pairs;
-        received = rw (posts-push h (posted_at stamp line p)) (skipped (is_for from tag ctx) (posts h) p is ∙ turn.received);
+        received = rw (posts-push h (posted_at stamp line p)) (skipped (is_for from tag ctx) (posts h) p is
+            ∙ turn.received);
         came = rw (messages-push h (posted_at stamp line p), append-nil (messages h), same) turn.came;
         idle = rw same turn.idle;
       }
@@ -323,9 +327,11 @@ module _ (from tag ctx : ℕ) {h : List Event} {found : List Pair} (turn : InTur
         pairs = pair_kept from tag ctx found turn.done c is turn.pairs;
         received = rw (posts-push h (came_at stamp a), append-nil (posts h))
             (front_moved (λ (c : Couple). c.receive) (filter (is_for from tag ctx) (posts h))
-            (filter (is_for from tag ctx) turn.posted) (filter (is_for from tag ctx) left) turn.done c turn.received front);
+            (filter (is_for from tag ctx) turn.posted) (filter (is_for from tag ctx) left) turn.done c turn.received
+            front);
         came = rw (messages-push h (came_at stamp a))
-            (first_moved (in_channel from tag ctx) (λ (c : Couple). c.message) (messages h) turn.unexpected turn.done c is none turn.came);
+            (first_moved (in_channel from tag ctx) (λ (c : Couple). c.message) (messages h) turn.unexpected turn.done
+            c is none turn.came);
         idle = inr none;
       }
   arrive_taking stamp a p new is_first false is =

@@ -1,17 +1,17 @@
-pub mod BestLemmas
-pub mod BucketLemmas
+mod BestLemmas
+mod BucketLemmas
 pub mod DeedLemmas
-pub mod HeldLemmas
+mod HeldLemmas
 pub mod ListLemmas
 pub mod NameLemmas
 pub mod NumberLemmas
-pub mod OldestLemmas
-pub mod OrderLemmas
+mod OldestLemmas
+mod OrderLemmas
 pub mod PushLemmas
 pub mod QueueLemmas
 pub mod StandsLemmas
-pub mod StepLemmas
+mod StepLemmas
 pub mod TurnLemmas
-pub mod EventLemmas
-pub mod SearchLemmas
+mod EventLemmas
+mod SearchLemmas
 pub mod InTurnLemmas

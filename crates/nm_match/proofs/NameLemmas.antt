@@ -14,7 +14,6 @@ use Rattle.std.proofs.lemmas.List.Elements.{All-filter}
 use Rattle.std.proofs.lemmas.List.Folds.{find-append, list_any-append}
 use Rattle.indexmap.specs.IndexMap.{IndexMap, get}
 use Rattle.nm_types.specs.declared.messages.Arrival.{Arrival}
-use Rattle.nm_history.proofs.OnceLemmas.{and_left, and_right, find_passes}
 use Rattle.nm_match.specs.declared.names.MessageId.{MessageId}
 use Rattle.nm_match.specs.declared.names.Standing.{Standing}
 use Rattle.nm_match.specs.declared.names.Standing.TheVariants.{Waits, Aside}
@@ -28,17 +27,17 @@ use Rattle.nm_match.proofs.BucketLemmas.{kept, map_push, map-without_first, pair
 use Rattle.nm_match.proofs.BucketLemmas.{put_last, taken}
 use Rattle.nm_match.proofs.ListLemmas.{list_any-filter, list_any_agree}
 use Rattle.nm_match.proofs.OldestLemmas.{queue_find}
-use Rattle.nm_match.proofs.OrderLemmas.{entry_last, entry_left, find_gone, find_only, find_others, order_found, order_left}
+use Rattle.nm_match.proofs.OrderLemmas.{entry_last, entry_left, find_gone, find_only, find_others, order_found}
+use Rattle.nm_match.proofs.OrderLemmas.{order_left}
+use Rattle.nm_facts.proofs.Options.{mapped_none}
+use Rattle.nm_facts.proofs.Lists.{find_passes}
+use Rattle.nm_facts.proofs.Truth.{and_left, and_right}
 
 or_true : (b : Bool) → (b || true) ≡ true
 or_true true = refl
 or_true false = refl
 
-unmapped_at : {X Y : Type 0} (f : X → Y) (o : Option X) → option_map f o ≡ None → o ≡ None
-unmapped_at f None none = refl
-unmapped_at f (Some x) never = absurd (grind arith)
-
-or_none : {X : Type 0} (o : Option X) → option_or o None ≡ o
+pub or_none : {X : Type 0} (o : Option X) → option_or o None ≡ o
 or_none None = refl
 or_none (Some x) = refl
 
@@ -107,7 +106,7 @@ module _ {X K S T : Type 0} {same : K → K → Bool} {known : X → K → Bool}
   pub stands_aside : (name : K) → find (λ x. known x name) items ≡ None →
       get same standings name ≡ cond (aside name) (Some Aside) None
   stands_aside name none = is.stands name ∙ ap (λ (o : Option (ℕ × X)). standing name o)
-      (unmapped_at (λ (y : ℕ × X). y.1) (find (λ (y : ℕ × X). known y.1 name) is.is.queue)
+      (mapped_none (λ (y : ℕ × X). y.1) (find (λ (y : ℕ × X). known y.1 name) is.is.queue)
       (queue_find is.is (λ x. known x name) ∙ none))
 
   -- what waits is not aside
@@ -230,7 +229,7 @@ module _ {X K S T : Type 0} {same : K → K → Bool} {known : X → K → Bool}
         at name true here = there name here
             ∙ sym (ap (λ (o : Option (ℕ × X)). option_map_or (λ (x : ℕ × X). Some (Waits (key x.1) x.0)) o
             (cond (aside' name) (Some Aside) None))
-            (unmapped_at (λ (y : ℕ × X). y.1) (find (λ (y : ℕ × X). known y.1 name) is.is.queue)
+            (mapped_none (λ (y : ℕ × X). y.1) (find (λ (y : ℕ × X). known y.1 name) is.is.queue)
             (queue_find is.is (λ x. known x name)
             ∙ subst (λ (name : K). find (λ x. known x name) items ≡ None) (same_true id name here) none)))
         at name false other = elsewhere name other ∙ is.stands name
@@ -270,7 +269,7 @@ module _ {X K S T : Type 0} {same : K → K → Bool} {known : X → K → Bool}
         at : (name : K) (b : Bool) → same id name ≡ b →
             get same standings' name ≡ standing name (find (λ (y : ℕ × X). known y.1 name) (queue ++ (next, item) ∷ []))
         at name true here = there name here ∙ sym (ap (λ (o : Option (ℕ × X)). standing name o)
-            (grown name ∙ (λ i. option_or (unmapped_at (λ (y : ℕ × X). y.1)
+            (grown name ∙ (λ i. option_or (mapped_none (λ (y : ℕ × X). y.1)
             (find (λ (y : ℕ × X). known y.1 name) queue) (queue_find is.is (λ x. known x name) ∙ new name here) i)
             (cond ((is_id name ∙ here) i) (Some (next, item)) None))))
         at name false other = elsewhere name other ∙ is.stands name

@@ -17,11 +17,12 @@ use Rattle.nm_types.specs.declared.messages.TagPick.TheVariants as tag
 use Rattle.nm_history.specs.Selection.{matches, matches_source, matches_tag}
 use Rattle.nm_match.specs.declared.picks.Picks.{Picks}
 use Rattle.nm_match.specs.Buckets.{AreBuckets, IsQueue, bucket_of, earlier_of, oldest_of}
-use Rattle.nm_match.specs.Picks.{fits_picks, names_both, picks_of_arrival, picks_of_post, same_peer, same_picks, same_tag}
-use Rattle.nm_history.proofs.OnceLemmas.{and_left, and_right}
+use Rattle.nm_match.specs.Picks.{fits_picks, names_both, picks_of_arrival, picks_of_post, same_peer, same_picks}
+use Rattle.nm_match.specs.Picks.{same_tag}
 use Rattle.nm_match.specs.Deeds.{is_message}
 use Rattle.nm_match.specs.Queues.{TwoMessages, TwoReceives}
 use Rattle.nm_match.proofs.BucketLemmas.{find-map, find_either, find_same, front_is_found}
+use Rattle.nm_facts.proofs.Truth.{and_left, and_right}
 
 flip : (a b : ℕ) → (a == b) ≡ (b == a)
 flip a b = grind (arith, nat_tests)
@@ -123,7 +124,8 @@ pub arrival_found : {S : Type 0} {arrivals : List Arrival} {next : ℕ}
     {m : IndexMap Picks (BTreeMap ℕ Arrival) S} {count : ℕ}
     (is : IsQueue picks_of_arrival arrivals next m count) →
     (f : Peer) (t : TagPick) (ctx : ℕ) (o : Option (ℕ × Arrival)) →
-    o ≡ find (λ (x : ℕ × Arrival). fits_picks (record { from = f; tag = t; ctx = ctx }) (picks_of_arrival x.1)) is.queue →
+    o ≡ find (λ (x : ℕ × Arrival). fits_picks (record { from = f; tag = t; ctx = ctx }) (picks_of_arrival x.1))
+    is.queue →
     option_map (λ (y : ℕ × Arrival). y.1) o ≡ find (λ a. matches f t ctx a.env) arrivals
 arrival_found is f t ctx o same =
     let wanted : Picks = record { from = f; tag = t; ctx = ctx } in

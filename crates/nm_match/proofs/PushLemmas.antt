@@ -1,7 +1,6 @@
 -- What one event more, and the pair that it makes, do to the queues.
 use Rattle.std.proofs.Common.{◌≡◌, ℕ, ◌==◌, Bool, true, false, not, ◌&&◌, ◌||◌}
 use Rattle.std.proofs.Common.{List, [], ◌∷◌, ◌++◌, refl, sym, ◌∙◌, ap}
-use Rattle.std.proofs.Math.Bool.{or-false}
 use Rattle.std.specs.List.{All, filter, list_any, cons_option}
 use Rattle.std.proofs.lemmas.Bool.{or_right}
 use Rattle.std.proofs.lemmas.List.Elements.{All-nil, All-cons, All-weaker, filter-append, filter_agree}
@@ -19,12 +18,7 @@ use Rattle.nm_history.specs.Matching.{is_open}
 use Rattle.nm_history.proofs.OnceLemmas.{posts-push, receives-push, messages-push, eqb_self}
 use Rattle.nm_match.specs.Deeds.{is_known_message, is_known_receive, is_message}
 use Rattle.nm_match.proofs.ListLemmas.{filter-filter}
-
-pub happened-push : (test : Happened → Bool) (h : List Event) (e : Event) →
-    happened test (h ++ e ∷ []) ≡ (happened test h || test e.what)
-happened-push test h e =
-    list_any-append (λ (e : Event). test e.what) h (e ∷ [])
-    ∙ ap (λ b. happened test h || b) (or-false (test e.what))
+use Rattle.nm_history.proofs.AppendLemmas.{happened-push}
 
 pub is_known_receive-push : (h : List Event) (e : Event) (number : ℕ) →
     is_known_receive (h ++ e ∷ []) number ≡ (is_known_receive h number || list_any (λ m. m == number)

@@ -16,14 +16,16 @@ use Rattle.nm_history.specs.Sends.{messages, posts, post_of, arrival_of}
 use Rattle.nm_history.specs.Happens.{happened, is_cancel, is_claim, is_withdraw}
 use Rattle.nm_history.specs.Matching.{is_free, is_free_message, is_of_message, is_of_receive}
 use Rattle.nm_history.specs.Matching.{is_open}
-use Rattle.nm_history.proofs.OnceLemmas.{and_left, and_right, eqb_self}
+use Rattle.nm_history.proofs.OnceLemmas.{eqb_self}
 use Rattle.nm_match.specs.Deeds.{is_known_message, is_known_receive, is_message}
 use Rattle.nm_match.specs.Queues.{AreQueues, IsInTurn, TwoMessages, TwoReceives, without_first}
 use Rattle.nm_match.proofs.ListLemmas.{AllPairs-weaker, Apart, filter_none}
 use Rattle.nm_match.proofs.ListLemmas.{without_first-filter}
-use Rattle.nm_match.proofs.PushLemmas.{closes, takes, free_messages-push, happened-push, is_claimed-push}
+use Rattle.nm_match.proofs.PushLemmas.{closes, takes, free_messages-push, is_claimed-push}
 use Rattle.nm_match.proofs.PushLemmas.{open_receives-push}
 use Rattle.nm_match.proofs.TurnLemmas.{MayCome, false_when, in_turn-push}
+use Rattle.nm_facts.proofs.Truth.{and_left, and_right}
+use Rattle.nm_history.proofs.AppendLemmas.{happened-push}
 
 abbrev same_receive : post.Post → post.Post → Bool
 same_receive p q = p.number == q.number

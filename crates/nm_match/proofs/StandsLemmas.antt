@@ -25,17 +25,15 @@ use Rattle.nm_history.specs.Matching.{first_message, first_receive, is_claimed, 
 use Rattle.nm_history.specs.Matching.{is_of_message, is_of_receive, is_open, matched_pairs, new_pair}
 use Rattle.nm_history.specs.Matching.{pair_of, pair_of_claimed}
 use Rattle.nm_history.proofs.MatchingLemmas.{matched_pairs-push}
-use Rattle.nm_history.proofs.OnceLemmas.{and_left, messages-push, posts-push, receives-push}
+use Rattle.nm_history.proofs.OnceLemmas.{messages-push, posts-push, receives-push}
 use Rattle.nm_match.specs.declared.deeds.Deed.{Deed}
 use Rattle.nm_match.specs.declared.deeds.Deed.TheVariants as deed
 use Rattle.nm_match.specs.Deeds.{Stands, deeds_after, deeds_of, event_of, history_of, is_known_message}
 use Rattle.nm_match.specs.Deeds.{is_known_receive, is_message, is_of_matching}
 use Rattle.nm_match.proofs.DeedLemmas.{history_of-push}
-use Rattle.nm_match.proofs.PushLemmas.{happened-push}
-
-find_agree : {X : Type 0} (p q : X → Bool) → ((x : X) → p x ≡ q x) → (xs : List X) → find p xs ≡ find q xs
-find_agree p q agree [] = refl
-find_agree p q agree (x ∷ xs) = rw (agree x) (ap (λ r. cond (q x) (Some x) r) (find_agree p q agree xs))
+use Rattle.nm_facts.proofs.Lists.{find_agree}
+use Rattle.nm_facts.proofs.Truth.{and_left}
+use Rattle.nm_history.proofs.AppendLemmas.{happened-push}
 
 -- two histories, with their pairs, are the same to matching
 record Alike (h g : List Event) (found made : List Pair) : Type 0 where

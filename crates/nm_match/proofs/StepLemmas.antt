@@ -17,12 +17,12 @@ use Rattle.nm_history.specs.Selection.{matches}
 use Rattle.nm_history.specs.Happens.{happened, is_cancel, is_claim}
 use Rattle.nm_history.specs.Matching.{is_claimed, is_free, is_of_message, is_of_receive, is_open}
 use Rattle.nm_history.specs.Matching.{pair_of, pair_of_claimed}
-use Rattle.nm_history.proofs.OnceLemmas.{and_left, and_right, eqb_self, find_among, find_passes, posts-push}
+use Rattle.nm_history.proofs.OnceLemmas.{eqb_self, find_among, posts-push}
 use Rattle.nm_match.specs.declared.deeds.Deed.TheVariants as deed
 use Rattle.nm_match.specs.Deeds.{event_of, is_known_message, is_known_receive, is_message}
 use Rattle.nm_match.specs.Queues.{AreQueues, without_first}
 use Rattle.nm_match.proofs.ListLemmas.{list_any-and, list_any-filter, list_any_agree}
-use Rattle.nm_match.proofs.PushLemmas.{closes, takes, happened-push, is_free-push, is_known_message-push}
+use Rattle.nm_match.proofs.PushLemmas.{closes, takes, is_free-push, is_known_message-push}
 use Rattle.nm_match.proofs.PushLemmas.{is_known_receive-push, is_open-push, messages_known, posts_known}
 use Rattle.nm_match.proofs.QueueLemmas.{cancels_stay, claims_stay, each_posted, each_unexpected}
 use Rattle.nm_match.proofs.QueueLemmas.{free_means, new_free, new_open, open_means, posted_open}
@@ -30,6 +30,9 @@ use Rattle.nm_match.proofs.QueueLemmas.{posted_stay, queues-push, unexpected_fre
 use Rattle.nm_match.proofs.QueueLemmas.{without_message, without_receive}
 use Rattle.nm_match.proofs.TurnLemmas.{MayCome, came_later, false_when, known_later, others_message}
 use Rattle.nm_match.proofs.TurnLemmas.{others_number}
+use Rattle.nm_facts.proofs.Lists.{find_passes}
+use Rattle.nm_facts.proofs.Truth.{and_left, and_right}
+use Rattle.nm_history.proofs.AppendLemmas.{happened-push}
 
 -- the pairs that an event makes are of a known receive that is not cancelled, and of a message that came
 record MayPair (h : List Event) (e : Event) (more : List Pair) : Type 0 where

@@ -19,8 +19,9 @@ use Rattle.nm_history.specs.Matching.{is_of_message, is_of_receive}
 use Rattle.nm_history.proofs.OnceLemmas.{posts-push, messages-push}
 use Rattle.nm_match.specs.Deeds.{is_known_message, is_known_receive}
 use Rattle.nm_match.specs.Queues.{IsInTurn, TwoReceives, TwoMessages}
-use Rattle.nm_match.proofs.PushLemmas.{happened-push, is_known_message-push, is_known_receive-push}
+use Rattle.nm_match.proofs.PushLemmas.{is_known_message-push, is_known_receive-push}
 use Rattle.nm_match.proofs.PushLemmas.{posts_known, messages_known}
+use Rattle.nm_history.proofs.AppendLemmas.{happened-push}
 
 -- what holds of no unknown thing
 pub false_when : (x y : Bool) → (x ≡ true → y ≡ true) → y ≡ false → x ≡ false

@@ -33,6 +33,7 @@ is_plain_event (Claim from n line) = false
 is_plain_event (Match number from n cap line) = false
 is_plain_event _ = true
 
+-- each event of a history is one
 abbrev pub ArePlainEvents : List Event → Type 0
 ArePlainEvents h = AllByRecursion (λ e. is_plain_event e.what ≡ true) h
 

@@ -1,12 +1,12 @@
 -- The letters of an outbox, and what its fields keep.
-use Rattle.std.proofs.Common.{◌≡◌, ◌≢◌, ℕ, ◌+◌, ◌<◌, ◌==◌, Bool, true, false, cond, List, [], ◌∷◌}
+use Rattle.std.proofs.Common.{◌≡◌, ◌≢◌, ℕ, ◌+◌, ◌<◌, ◌==◌, Bool, true, false, cond, Option, Some, None, List, [], ◌∷◌}
 use Rattle.std.proofs.Common.{◌++◌, length, map, get_or, replicate, refl, sym, ◌∙◌, ap, subst, ⊎_elim}
 use Rattle.std.proofs.Common.{arith, ◌≤◌, max}
 use Rattle.std.specs.List.{AllByRecursion, filter}
+use Rattle.std.specs.Prelude.{MatchOption}
 use Rattle.std.proofs.Math.ListN.{set}
 use Rattle.std.proofs.Math.Nat.{le-max_left, le-max_right}
 use Rattle.std.proofs.lemmas.Bool.{cases_eq, cases_lt}
-use Rattle.std.proofs.lemmas.Bool.Decides.{nat_tests}
 use Rattle.std.proofs.lemmas.List.{get_or-set_other, get_or-set_same, length-append, length-set}
 use Rattle.std.proofs.lemmas.List.{get_or-replicate, get_or_past, length-replicate, map-append}
 use Rattle.std.proofs.lemmas.List.Elements.{filter-append}
@@ -14,6 +14,15 @@ use Rattle.nm_types.specs.declared.packets.Packet.{Packet}
 use Rattle.nm_outbox.specs.declared.letters.Letter.{Letter}
 use Rattle.nm_outbox.specs.Letters.{AreLetters, AreNumbered, packets_for}
 use Rattle.nm_outbox.specs.Outboxes.{AreFields}
+use Rattle.nm_facts.proofs.Numbers.{unequal, eq_true}
+use Rattle.nm_facts.proofs.Lists.{all_push}
+
+-- the first letter is this one
+pub first_letter : (o : Option Letter) (N : Type 0) (to : ℕ) (p : Packet) → (N → ⊥) →
+    MatchOption o N (λ letter. (to ≡ letter.to) × (p ≡ letter.packet)) →
+    (letter : Letter) × (o ≡ Some letter) × (to ≡ letter.to) × (p ≡ letter.packet)
+first_letter None N to p not is = absurd (not is)
+first_letter (Some letter) N to p not is = (letter, refl, is.0, is.1)
 
 pub for-append : (to : ℕ) (first rest : List Letter) →
     packets_for to (first ++ rest) ≡ packets_for to first ++ packets_for to rest
@@ -32,24 +41,18 @@ pub for_one : (to : ℕ) (letter : Letter) →
     packets_for to (letter ∷ []) ≡ cond (letter.to == to) (letter.packet ∷ []) []
 for_one to letter = one_by letter (letter.to == to)
 
-eq_yes : (x y : ℕ) → x ≡ y → (x == y) ≡ true
-eq_yes x y h = grind (arith, nat_tests)
-
-eq_no : (x y : ℕ) → x ≢ y → (x == y) ≡ false
-eq_no x y h = grind (arith, nat_tests)
-
 -- one letter more, to this rank or to another
 pub for-own : (to : ℕ) (letters : List Letter) (letter : Letter) → letter.to ≡ to →
     packets_for to (letters ++ letter ∷ []) ≡ packets_for to letters ++ letter.packet ∷ []
 for-own to letters letter same =
     for-append to letters (letter ∷ []) ∙ ap (λ (ps : List Packet). packets_for to letters ++ ps)
-    (for_one to letter ∙ ap (λ (b : Bool). cond b (letter.packet ∷ []) []) (eq_yes letter.to to same))
+    (for_one to letter ∙ ap (λ (b : Bool). cond b (letter.packet ∷ []) []) (eq_true letter.to to same))
 
 pub for-other : (to : ℕ) (letters : List Letter) (letter : Letter) → letter.to ≢ to →
     packets_for to (letters ++ letter ∷ []) ≡ packets_for to letters
 for-other to letters letter differ =
     for-append to letters (letter ∷ []) ∙ ap (λ (ps : List Packet). packets_for to letters ++ ps)
-    (for_one to letter ∙ ap (λ (b : Bool). cond b (letter.packet ∷ []) []) (eq_no letter.to to differ))
+    (for_one to letter ∙ ap (λ (b : Bool). cond b (letter.packet ∷ []) []) (unequal letter.to to differ))
     ∙ append_none (packets_for to letters) where
       append_none : (ps : List Packet) → ps ++ [] ≡ ps
       append_none [] = refl
@@ -60,24 +63,19 @@ pub for_first-own : (to : ℕ) (letter : Letter) (rest : List Letter) → letter
     packets_for to (letter ∷ rest) ≡ letter.packet ∷ packets_for to rest
 for_first-own to letter rest same =
     for-append to (letter ∷ []) rest ∙ ap (λ (ps : List Packet). ps ++ packets_for to rest)
-    (for_one to letter ∙ ap (λ (b : Bool). cond b (letter.packet ∷ []) []) (eq_yes letter.to to same))
+    (for_one to letter ∙ ap (λ (b : Bool). cond b (letter.packet ∷ []) []) (eq_true letter.to to same))
 
 pub for_first-other : (to : ℕ) (letter : Letter) (rest : List Letter) → letter.to ≢ to →
     packets_for to (letter ∷ rest) ≡ packets_for to rest
 for_first-other to letter rest differ =
     for-append to (letter ∷ []) rest ∙ ap (λ (ps : List Packet). ps ++ packets_for to rest)
-    (for_one to letter ∙ ap (λ (b : Bool). cond b (letter.packet ∷ []) []) (eq_no letter.to to differ))
+    (for_one to letter ∙ ap (λ (b : Bool). cond b (letter.packet ∷ []) []) (unequal letter.to to differ))
 
 numbered-push : (from number : ℕ) (ps : List Packet) (p : Packet) → AreNumbered from number ps →
     p.from ≡ from → p.seq ≡ number + length ps → AreNumbered from number (ps ++ p ∷ [])
 numbered-push from number [] p are own next = (own, omega (arith, next), tt)
 numbered-push from number (q ∷ ps) p are own next =
     (are.0, are.1, numbered-push from (number + 1) ps p are.2 own (omega (arith, next)))
-
-all-push : {X : Type 0} (P : X → Type 0) (xs : List X) (x : X) → AllByRecursion P xs → P x →
-    AllByRecursion P (xs ++ x ∷ [])
-all-push P [] x each now = (now, tt)
-all-push P (y ∷ ys) x each now = (each.0, all-push P ys x each.1 now)
 
 -- the first letter is of the outbox's rank
 pub first_own : (me : ℕ) (popped : List ℕ) (letters : List Letter) (letter : Letter) →
@@ -118,7 +116,7 @@ module _ (me : ℕ) (letters : List Letter) (popped put : List ℕ) (most : ℕ)
   fields-put own next =
       record {
         lawful = record {
-          in_range = all-push (λ (l : Letter). l.to < length popped) letters letter
+          in_range = all_push (λ (l : Letter). l.to < length popped) letters letter
               fields.lawful.in_range inside;
           numbered = λ to. ⊎_elim (numbered_own to) (numbered_other to) (cases_eq letter.to to);
         };

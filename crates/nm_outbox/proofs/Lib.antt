@@ -1,1 +1,1 @@
-mod LetterLemmas
+pub mod LetterLemmas

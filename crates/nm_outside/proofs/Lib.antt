@@ -1,2 +1,2 @@
-pub mod ReadingLemmas
-pub mod WritingLemmas
+mod ReadingLemmas
+mod WritingLemmas

@@ -15,6 +15,7 @@ pub struct RealSource<R> {
 }
 
 impl<R: Read> RealSource<R> {
+    /// The source of this reader, with no fault yet.
     pub fn new(reader: R) -> RealSource<R>
         ensures { result ≡ record { reader = reader; faults = 0 } }
     {
@@ -54,6 +55,7 @@ pub struct RealSink<W> {
 }
 
 impl<W: Write> RealSink<W> {
+    /// The sink of this writer, with no fault yet.
     pub fn new(writer: W) -> RealSink<W>
         ensures { result ≡ record { writer = writer; faults = 0 } }
     {

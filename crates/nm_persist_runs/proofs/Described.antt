@@ -1,6 +1,7 @@
 -- The commands of a rank in the script of a plan: each start is of a part of one of its requests, whose end
 -- and part its channel tells.
-use Rattle.std.proofs.Common.{◌≡◌, ℕ, ◌+◌, ◌*◌, ◌<◌, ◌≤◌, ◌==◌, Bool, true, false, not, ◌&&◌, cond, zero, suc, Option, Some, None}
+use Rattle.std.proofs.Common.{◌≡◌, ℕ, ◌+◌, ◌*◌, ◌<◌, ◌≤◌, ◌==◌, Bool, true, false, not, ◌&&◌, cond, zero, suc, Option}
+use Rattle.std.proofs.Common.{Some, None}
 use Rattle.std.proofs.Common.{List, [], ◌∷◌, ◌++◌, map, refl, sym, ◌∙◌, ap, subst, arith}
 use Rattle.std.specs.Prelude.{IfSome, is_some, option_map}
 use Rattle.std.specs.List.{AllByRecursion, range_with_len}
@@ -9,11 +10,11 @@ use Rattle.std.proofs.lemmas.List.FromFn.{map-range_with_len_more}
 use Rattle.nm_types.specs.declared.scripts.Command.{Command}
 use Rattle.nm_types.specs.declared.scripts.Command.TheVariants as command
 use Rattle.nm_history.specs.Answers.{is_start_of}
-use Rattle.nm_history.proofs.OnceLemmas.{and_left, and_right, eqb_self, same_of}
-use Rattle.nm_sure.proofs.Fitting.{all_join}
+use Rattle.nm_history.proofs.OnceLemmas.{eqb_self}
 use Rattle.nm_sure.proofs.Gathered.{receives_it, sends_it}
 use Rattle.nm_plans.specs.declared.lines.PlanCommand.{PlanCommand}
-use Rattle.nm_plans.specs.declared.lines.PlanCommand.TheVariants.{SendInit, RecvInit, PsendInit, PrecvInit, Fill, Start, Ready, Arrived, Wait}
+use Rattle.nm_plans.specs.declared.lines.PlanCommand.TheVariants.{SendInit, RecvInit, PsendInit, PrecvInit, Fill}
+use Rattle.nm_plans.specs.declared.lines.PlanCommand.TheVariants.{Start, Ready, Arrived, Wait}
 use Rattle.nm_plans.specs.declared.lines.PlanLine.{PlanLine}
 use Rattle.nm_plans.specs.Grammar.{request_in}
 use Rattle.nm_plan_requests.specs.declared.ends.End.{End}
@@ -22,7 +23,8 @@ use Rattle.nm_plan_requests.specs.declared.requests.Request.{Request}
 use Rattle.nm_plan_requests.specs.declared.requests.Side.{Side}
 use Rattle.nm_plan_requests.specs.declared.requests.Side.TheVariants.{Sends, Receives}
 use Rattle.nm_plan_requests.specs.Ends.{end}
-use Rattle.nm_plan_requests.specs.Expansion.{commands_for, commands_of, each_part, expand, is_split_send, name_of, start_of}
+use Rattle.nm_plan_requests.specs.Expansion.{commands_for, commands_of, each_part, expand, is_split_send, name_of}
+use Rattle.nm_plan_requests.specs.Expansion.{start_of}
 use Rattle.nm_plan_requests.specs.Requests.{is_sending, owner_of, part_count, request_at}
 use Rattle.nm_persist_runs.specs.Questions.{is_named}
 use Rattle.nm_persist_runs.proofs.EndsMade.{Kind, Leaves, Makes, Making, alone, end_parts, kind_by, kind_of, making}
@@ -30,6 +32,9 @@ use Rattle.nm_persist_runs.proofs.Items.{part_in, same_name}
 use Rattle.nm_persist_runs.proofs.LinesRead.{starts_one}
 use Rattle.nm_persist_runs.proofs.Owned.{own_commands}
 use Rattle.nm_persist_runs.proofs.Tracked.{AreFine, IsFine, each_line, few_parts, own-more, part_low}
+use Rattle.nm_facts.proofs.Lists.{all_append, all_along}
+use Rattle.nm_facts.proofs.Numbers.{same_number}
+use Rattle.nm_facts.proofs.Truth.{same_test, and_left, and_right}
 
 -- the context and the tag of part k at an end
 abbrev pub context_at : End → ℕ
@@ -49,14 +54,16 @@ pub record IsPartStart (rank : ℕ) (lines : List PlanLine) (c : Command) : Type
   pub sends : (to tag ctx : ℕ) → sends_it to tag ctx c
       ≡ (kind.at.channel.sort.sends && (ctx == context_at kind.at && to == kind.at.peer && tag == tag_at kind.at k))
   pub receives : (from tag ctx : ℕ) → receives_it from tag ctx c
-      ≡ (not kind.at.channel.sort.sends && (context_at kind.at == ctx && kind.at.peer == from && tag_at kind.at k == tag))
+      ≡ (not kind.at.channel.sort.sends && (context_at kind.at == ctx && kind.at.peer == from && tag_at kind.at k ==
+      tag))
 
 pub record IsDescribed (rank : ℕ) (lines : List PlanLine) (c : Command) : Type 0 where
   pub named : is_named c ≡ true
   pub start : starts_one c ≡ true → IsPartStart rank lines c
 
 -- a request that is made stays
-kind_stays : (ranks : ℕ) (owner : Owner) (before : List PlanLine) (line : PlanLine) (k : Kind) → IsFine ranks before line →
+kind_stays : (ranks : ℕ) (owner : Owner) (before : List PlanLine) (line : PlanLine) (k : Kind) →
+    IsFine ranks before line →
     kind_of owner before ≡ Some k → kind_of owner (before ++ line ∷ []) ≡ Some k
 kind_stays ranks owner before line k fine made = by_making (making ranks owner before line fine)
   where
@@ -82,17 +89,16 @@ described_later ranks rank before line c fine is = record {
       };
 }
 
-all_map : {X : Type 0} (P Q : X → Type 0) (xs : List X) → ((x : X) → P x → Q x) → AllByRecursion P xs → AllByRecursion Q xs
-all_map P Q [] f all = tt
-all_map P Q (x ∷ xs) f all = (f x all.0, all_map P Q xs f all.1)
-
 -- what holds of each part
-all_parts : (P : Command → Type 0) (f : ℕ → Command) (n : ℕ) → ((k : ℕ) → k < n → P (f k)) → AllByRecursion P (map f (range_with_len 0 n))
+all_parts : (P : Command → Type 0) (f : ℕ → Command) (n : ℕ) → ((k : ℕ) → k < n → P (f k)) →
+    AllByRecursion P (map f (range_with_len 0 n))
 all_parts P f zero each = tt
 all_parts P f (suc n) each =
     subst (λ (xs : List Command). AllByRecursion P xs)
-    (sym (ap (λ (m : ℕ). map f (range_with_len 0 m)) (sym (one_more n)) ∙ map-range_with_len_more f 0 n n (omega arith)))
-    (all_join P (map f (range_with_len 0 n)) (f n ∷ []) (all_parts P f n (λ k low. each k (omega (arith, low)))) (each n (omega arith), tt))
+    (sym (ap (λ (m : ℕ). map f (range_with_len 0 m)) (sym (one_more n)) ∙ map-range_with_len_more f 0 n n
+    (omega arith)))
+    (all_append P (map f (range_with_len 0 n)) (f n ∷ []) (all_parts P f n (λ k low. each k (omega (arith, low))))
+    (each n (omega arith), tt))
   where
     one_more : (n : ℕ) → n + 1 ≡ suc n
     one_more n = omega arith
@@ -107,7 +113,8 @@ start_described rank p k lines r (Sends body) low is made = record {
     k = k;
     low = low;
     kind = record { at = end rank r.peer r.tag r.ctx true (is_some r.parts); parts = part_count r };
-    made = made ∙ ap (λ (s : Side). Some (record { at = end rank r.peer r.tag r.ctx (is_sending s) (is_some r.parts); parts = part_count r })) is;
+    made = made ∙ ap (λ (s : Side). Some
+        (record { at = end rank r.peer r.tag r.ctx (is_sending s) (is_some r.parts); parts = part_count r })) is;
     name = λ q. refl;
     sends = λ to tag ctx. refl;
     receives = λ from tag ctx. refl;
@@ -120,29 +127,35 @@ start_described rank p k lines r (Receives cap) low is made = record {
     k = k;
     low = low;
     kind = record { at = end rank r.peer r.tag r.ctx false (is_some r.parts); parts = part_count r };
-    made = made ∙ ap (λ (s : Side). Some (record { at = end rank r.peer r.tag r.ctx (is_sending s) (is_some r.parts); parts = part_count r })) is;
+    made = made ∙ ap (λ (s : Side). Some
+        (record { at = end rank r.peer r.tag r.ctx (is_sending s) (is_some r.parts); parts = part_count r })) is;
     name = λ q. refl;
     sends = λ to tag ctx. refl;
     receives = λ from tag ctx. refl;
   };
 }
 
-question_described : (rank : ℕ) (lines : List PlanLine) (c : Command) → is_named c ≡ true → starts_one c ≡ false → IsDescribed rank lines c
-question_described rank lines c named none = record { named = named; start = λ starts. absurd (false≢true (sym none ∙ starts)) }
+question_described : (rank : ℕ) (lines : List PlanLine) (c : Command) → is_named c ≡ true → starts_one c ≡ false →
+    IsDescribed rank lines c
+question_described rank lines c named none =
+    record { named = named; start = λ starts. absurd (false≢true (sym none ∙ starts)) }
 
 -- the commands that a line stands for
-block_described : (rank : ℕ) (lines : List PlanLine) (c : PlanCommand) (r : Request) → part_count r ≤ 16 → part_in c < 16 →
+block_described : (rank : ℕ) (lines : List PlanLine) (c : PlanCommand) (r : Request) → part_count r ≤ 16 →
+    part_in c < 16 →
     kind_of (record { rank = rank; p = request_in c }) lines ≡ Some (kind_by rank r) →
     AllByRecursion (λ x. IsDescribed rank lines x) (commands_for c r)
 block_described rank lines (Start p) r few low made = by_split (is_split_send r)
   where
-    by_split : (b : Bool) → AllByRecursion (λ x. IsDescribed rank lines x) (cond b [] (each_part r (λ k. start_of p r k r.side)))
+    by_split : (b : Bool) → AllByRecursion (λ x. IsDescribed rank lines x)
+        (cond b [] (each_part r (λ k. start_of p r k r.side)))
     by_split true = tt
     by_split false =
         all_parts (λ x. IsDescribed rank lines x) (λ k. start_of p r k r.side) (part_count r)
         (λ k below. start_described rank p k lines r r.side (omega (arith, below, few)) refl made)
 block_described rank lines (Ready p k) r few low made = (start_described rank p k lines r r.side low refl made, tt)
-block_described rank lines (Arrived p k) r few low made = (question_described rank lines (command.Test (name_of p k)) refl refl, tt)
+block_described rank lines (Arrived p k) r few low made =
+    (question_described rank lines (command.Test (name_of p k)) refl refl, tt)
 block_described rank lines (Wait p) r few low made =
     all_parts (λ x. IsDescribed rank lines x) (λ k. command.Wait (name_of p k)) (part_count r)
     (λ k below. question_described rank lines (command.Wait (name_of p k)) refl refl)
@@ -155,29 +168,36 @@ block_described rank lines (Fill p body) r few low made = tt
 abbrev pub AreDescribed : ℕ → List PlanLine → Type 0
 AreDescribed rank lines = AllByRecursion (λ c. IsDescribed rank lines c) (own_commands rank (expand lines))
 
-described_more : (ranks rank : ℕ) (before : List PlanLine) (line : PlanLine) → IsFine ranks before line → AreDescribed rank before →
+described_more : (ranks rank : ℕ) (before : List PlanLine) (line : PlanLine) → IsFine ranks before line →
+    AreDescribed rank before →
     AreDescribed rank (before ++ line ∷ [])
 described_more ranks rank before line fine all =
-    subst (λ (cs : List Command). AllByRecursion (λ c. IsDescribed rank (before ++ line ∷ []) c) cs) (sym (own-more rank before line))
-    (all_join (λ c. IsDescribed rank (before ++ line ∷ []) c) (own_commands rank (expand before))
+    subst (λ (cs : List Command). AllByRecursion (λ c. IsDescribed rank (before ++ line ∷ []) c) cs)
+    (sym (own-more rank before line))
+    (all_append (λ c. IsDescribed rank (before ++ line ∷ []) c) (own_commands rank (expand before))
     (cond (line.rank == rank) (commands_of line.command (request_at before (owner_of line))) [])
-    (all_map (λ c. IsDescribed rank before c) (λ c. IsDescribed rank (before ++ line ∷ []) c) (own_commands rank (expand before))
+    (all_along (λ c. IsDescribed rank before c) (λ c. IsDescribed rank (before ++ line ∷ []) c)
+    (own_commands rank (expand before))
     (λ c is. described_later ranks rank before line c fine is) all) (by_rank (line.rank == rank) refl))
   where
-    by_request : (o : Option Request) → request_at before (owner_of line) ≡ o → IfSome o (λ r. part_count r ≤ 16) → line.rank ≡ rank →
+    by_request : (o : Option Request) → request_at before (owner_of line) ≡ o → IfSome o (λ r. part_count r ≤ 16) →
+        line.rank ≡ rank →
         AllByRecursion (λ c. IsDescribed rank (before ++ line ∷ []) c) (commands_of line.command o)
     by_request None is few same = tt
     by_request (Some r) is few same =
         let old : kind_of (record { rank = rank; p = request_in line.command }) before ≡ Some (kind_by rank r) =
-        subst (λ (rank : ℕ). kind_of (record { rank = rank; p = request_in line.command }) before ≡ Some (kind_by rank r)) same
+        subst (λ (rank : ℕ). kind_of (record { rank = rank; p = request_in line.command }) before ≡ Some
+        (kind_by rank r)) same
         (ap (λ (o : Option Request). option_map (kind_by line.rank) o) is) in
         block_described rank (before ++ line ∷ []) line.command r few (part_low ranks line.command fine.range)
         (kind_stays ranks (record { rank = rank; p = request_in line.command }) before line (kind_by rank r) fine old)
 
     by_rank : (b : Bool) → (line.rank == rank) ≡ b →
-        AllByRecursion (λ c. IsDescribed rank (before ++ line ∷ []) c) (cond b (commands_of line.command (request_at before (owner_of line))) [])
+        AllByRecursion (λ c. IsDescribed rank (before ++ line ∷ []) c)
+        (cond b (commands_of line.command (request_at before (owner_of line))) [])
     by_rank true is =
-        by_request (request_at before (owner_of line)) refl (few_parts ranks before line (owner_of line) fine) (same_of line.rank rank is)
+        by_request (request_at before (owner_of line)) refl (few_parts ranks before line (owner_of line) fine)
+        (same_number line.rank rank is)
     by_rank false is = tt
 
 described_none : (rank : ℕ) → AreDescribed rank []
@@ -186,7 +206,8 @@ described_none rank = tt
 
 pub described : (ranks rank : ℕ) (lines : List PlanLine) → AreFine ranks lines → AreDescribed rank lines
 described ranks rank lines fine =
-    each_line ranks (λ lines. AreDescribed rank lines) (λ before line f all. described_more ranks rank before line f all) [] lines
+    each_line ranks (λ lines. AreDescribed rank lines)
+    (λ before line f all. described_more ranks rank before line f all) [] lines
     refl fine.range fine.sound (described_none rank)
 
 -- numbers that tell a channel
@@ -205,13 +226,15 @@ pub end_told : (e f : End) (k m : ℕ) → k < 16 → m < 16 → e.rank ≡ f.ra
 end_told e f k m low small ranks sends contexts peers tags =
     let ctx = same_context e.channel.ctx f.channel.ctx e.channel.sort.split f.channel.sort.split contexts in
     let tag = same_tag e.channel.tag f.channel.tag k m low small tags in (
-      end_parts e.rank f.rank e.peer f.peer e.channel.tag f.channel.tag e.channel.ctx f.channel.ctx e.channel.sort.sends f.channel.sort.sends
+      end_parts e.rank f.rank e.peer f.peer e.channel.tag f.channel.tag e.channel.ctx f.channel.ctx
+          e.channel.sort.sends f.channel.sort.sends
           e.channel.sort.split f.channel.sort.split ranks peers tag.0 ctx.0 sends ctx.1,
       tag.1,
     )
 
 -- a request's end is of its rank
-pub own_rank : (owner : Owner) (lines : List PlanLine) (k : Kind) → kind_of owner lines ≡ Some k → k.at.rank ≡ owner.rank
+pub own_rank : (owner : Owner) (lines : List PlanLine) (k : Kind) → kind_of owner lines ≡ Some k →
+    k.at.rank ≡ owner.rank
 own_rank owner lines k made = by_request (request_at lines owner) made
   where
     by_request : (o : Option Request) → option_map (kind_by owner.rank) o ≡ Some k → k.at.rank ≡ owner.rank
@@ -227,15 +250,11 @@ both_none q from tag ctx (command.Recv q' source tags context cap) named none = 
 both_none q from tag ctx (command.Mrecv q' m cap) named none = absurd (false≢true named)
 both_none q from tag ctx c named none = (refl, refl, refl)
 
-same_test : (a b : Bool) → (a ≡ true → b ≡ true) → (b ≡ true → a ≡ true) → a ≡ b
-same_test true b first second = sym (first refl)
-same_test false true first second = second refl
-same_test false false first second = refl
-
 three : (a b c d : Bool) → a ≡ true → b ≡ true → c ≡ true → d ≡ true → (a && (b && c && d)) ≡ true
 three a b c d p q r s = rw (p, q, r, s) refl
 
-module _ (ranks : ℕ) (lines : List PlanLine) (fine : AreFine ranks lines) (owner : Owner) (kind : Kind) (made : kind_of owner lines ≡ Some kind)
+module _ (ranks : ℕ) (lines : List PlanLine) (fine : AreFine ranks lines) (owner : Owner) (kind : Kind)
+    (made : kind_of owner lines ≡ Some kind)
     (k : ℕ) (low : k < 16) where
   -- a start whose name and channel are told by one part of one request
   own_name : (x : Command) (part : IsPartStart owner.rank lines x) → is_start_of (name_of owner.p k) x ≡ true →
@@ -243,17 +262,19 @@ module _ (ranks : ℕ) (lines : List PlanLine) (fine : AreFine ranks lines) (own
   own_name x part is =
       let both = same_name owner.p k part.p part.k low part.low in
       let tests : (part.p == owner.p && part.k == k) ≡ true = sym both ∙ sym (part.name (name_of owner.p k)) ∙ is in
-      let p = same_of part.p owner.p (and_left (part.p == owner.p) (part.k == k) tests) in (
+      let p = same_number part.p owner.p (and_left (part.p == owner.p) (part.k == k) tests) in (
         same_kind (sym part.made ∙ ap (λ (p : ℕ). kind_of (record { rank = owner.rank; p = p }) lines) p ∙ made),
-        same_of part.k k (and_right (part.p == owner.p) (part.k == k) tests),
+        same_number part.k k (and_right (part.p == owner.p) (part.k == k) tests),
       )
     where
       same_kind : Some part.kind ≡ Some kind → part.kind ≡ kind
       same_kind is = cc
 
-  own_end : (x : Command) (part : IsPartStart owner.rank lines x) → part.kind.at ≡ kind.at → part.k ≡ k → is_start_of (name_of owner.p k) x ≡ true
+  own_end : (x : Command) (part : IsPartStart owner.rank lines x) → part.kind.at ≡ kind.at → part.k ≡ k →
+      is_start_of (name_of owner.p k) x ≡ true
   own_end x part ends parts =
-      let one = alone ranks lines fine (record { rank = owner.rank; p = part.p }) owner part.kind kind part.made made ends in
+      let one = alone ranks lines fine (record { rank = owner.rank; p = part.p }) owner part.kind kind part.made made
+      ends in
       part.name (name_of owner.p k)
       ∙ ap (λ (p : ℕ). name_of p part.k == name_of owner.p k) (ap (λ (o : Owner). o.p) one)
       ∙ ap (λ (m : ℕ). name_of owner.p m == name_of owner.p k) parts ∙ eqb_self (name_of owner.p k)
@@ -266,7 +287,8 @@ module _ (ranks : ℕ) (lines : List PlanLine) (fine : AreFine ranks lines) (own
       by_start : (b : Bool) → starts_one x ≡ b →
           receives_it kind.at.peer (tag_at kind.at k) (context_at kind.at) x ≡ is_start_of (name_of owner.p k) x
       by_start false none =
-          let neither = both_none (name_of owner.p k) kind.at.peer (tag_at kind.at k) (context_at kind.at) x is.named none in
+          let neither = both_none (name_of owner.p k) kind.at.peer (tag_at kind.at k) (context_at kind.at) x is.named
+          none in
           neither.1 ∙ sym neither.0
       by_start true starts =
           let part = is.start starts in
@@ -274,26 +296,38 @@ module _ (ranks : ℕ) (lines : List PlanLine) (fine : AreFine ranks lines) (own
           same_test _ _
           (λ it.
           let all = sym told ∙ it in
-          let way = and_left (not part.kind.at.channel.sort.sends) (context_at part.kind.at == context_at kind.at && part.kind.at.peer == kind.at.peer
+          let way = and_left (not part.kind.at.channel.sort.sends)
+          (context_at part.kind.at == context_at kind.at && part.kind.at.peer == kind.at.peer
           && tag_at part.kind.at part.k == tag_at kind.at k) all in
-          let rest = and_right (not part.kind.at.channel.sort.sends) (context_at part.kind.at == context_at kind.at && part.kind.at.peer == kind.at.peer
+          let rest = and_right (not part.kind.at.channel.sort.sends)
+          (context_at part.kind.at == context_at kind.at && part.kind.at.peer == kind.at.peer
           && tag_at part.kind.at part.k == tag_at kind.at k) all in
-          let front = and_left (context_at part.kind.at == context_at kind.at && part.kind.at.peer == kind.at.peer) (tag_at part.kind.at part.k == tag_at kind.at k) rest in
+          let front = and_left (context_at part.kind.at == context_at kind.at && part.kind.at.peer == kind.at.peer)
+          (tag_at part.kind.at part.k == tag_at kind.at k) rest in
           let same = end_told part.kind.at kind.at part.k k part.low low
-          (own_rank (record { rank = owner.rank; p = part.p }) lines part.kind part.made ∙ sym (own_rank owner lines kind made))
+          (own_rank (record { rank = owner.rank; p = part.p }) lines part.kind part.made
+          ∙ sym (own_rank owner lines kind made))
           (off part.kind.at.channel.sort.sends way ∙ sym receiving)
-          (same_of _ _ (and_left (context_at part.kind.at == context_at kind.at) (part.kind.at.peer == kind.at.peer) front))
-          (same_of _ _ (and_right (context_at part.kind.at == context_at kind.at) (part.kind.at.peer == kind.at.peer) front))
-          (same_of _ _ (and_right (context_at part.kind.at == context_at kind.at && part.kind.at.peer == kind.at.peer) (tag_at part.kind.at part.k == tag_at kind.at k) rest)) in
+          (same_number _ _ (and_left (context_at part.kind.at == context_at kind.at)
+          (part.kind.at.peer == kind.at.peer) front))
+          (same_number _ _ (and_right (context_at part.kind.at == context_at kind.at)
+          (part.kind.at.peer == kind.at.peer) front))
+          (same_number _ _ (and_right (context_at part.kind.at == context_at kind.at && part.kind.at.peer ==
+          kind.at.peer) (tag_at part.kind.at part.k == tag_at kind.at k) rest)) in
           own_end x part same.0 same.1)
           (λ it.
           let same = own_name x part it in
           told
-          ∙ ap (λ (e : End). not e.channel.sort.sends && (context_at e == context_at kind.at && e.peer == kind.at.peer && tag_at e part.k == tag_at kind.at k))
+          ∙ ap (λ (e : End). not e.channel.sort.sends && (context_at e == context_at kind.at && e.peer ==
+          kind.at.peer && tag_at e part.k == tag_at kind.at k))
           (ap (λ (k : Kind). k.at) same.0)
-          ∙ ap (λ (m : ℕ). not kind.at.channel.sort.sends && (context_at kind.at == context_at kind.at && kind.at.peer == kind.at.peer && tag_at kind.at m == tag_at kind.at k)) same.1
-          ∙ three (not kind.at.channel.sort.sends) (context_at kind.at == context_at kind.at) (kind.at.peer == kind.at.peer) (tag_at kind.at k == tag_at kind.at k)
-          (ap (λ (b : Bool). not b) receiving) (eqb_self (context_at kind.at)) (eqb_self kind.at.peer) (eqb_self (tag_at kind.at k)))
+          ∙ ap (λ (m : ℕ). not kind.at.channel.sort.sends &&
+          (context_at kind.at == context_at kind.at && kind.at.peer == kind.at.peer && tag_at kind.at m ==
+          tag_at kind.at k)) same.1
+          ∙ three (not kind.at.channel.sort.sends) (context_at kind.at == context_at kind.at)
+          (kind.at.peer == kind.at.peer) (tag_at kind.at k == tag_at kind.at k)
+          (ap (λ (b : Bool). not b) receiving) (eqb_self (context_at kind.at)) (eqb_self kind.at.peer)
+          (eqb_self (tag_at kind.at k)))
         where
           off : (b : Bool) → not b ≡ true → b ≡ false
           off true is = sym is
@@ -307,7 +341,8 @@ module _ (ranks : ℕ) (lines : List PlanLine) (fine : AreFine ranks lines) (own
       by_start : (b : Bool) → starts_one x ≡ b →
           sends_it kind.at.peer (tag_at kind.at k) (context_at kind.at) x ≡ is_start_of (name_of owner.p k) x
       by_start false none =
-          let neither = both_none (name_of owner.p k) kind.at.peer (tag_at kind.at k) (context_at kind.at) x is.named none in
+          let neither = both_none (name_of owner.p k) kind.at.peer (tag_at kind.at k) (context_at kind.at) x is.named
+          none in
           neither.2 ∙ sym neither.0
       by_start true starts =
           let part = is.start starts in
@@ -315,23 +350,34 @@ module _ (ranks : ℕ) (lines : List PlanLine) (fine : AreFine ranks lines) (own
           same_test _ _
           (λ it.
           let all = sym told ∙ it in
-          let way = and_left part.kind.at.channel.sort.sends (context_at kind.at == context_at part.kind.at && kind.at.peer == part.kind.at.peer
+          let way = and_left part.kind.at.channel.sort.sends
+          (context_at kind.at == context_at part.kind.at && kind.at.peer == part.kind.at.peer
           && tag_at kind.at k == tag_at part.kind.at part.k) all in
-          let rest = and_right part.kind.at.channel.sort.sends (context_at kind.at == context_at part.kind.at && kind.at.peer == part.kind.at.peer
+          let rest = and_right part.kind.at.channel.sort.sends
+          (context_at kind.at == context_at part.kind.at && kind.at.peer == part.kind.at.peer
           && tag_at kind.at k == tag_at part.kind.at part.k) all in
-          let front = and_left (context_at kind.at == context_at part.kind.at && kind.at.peer == part.kind.at.peer) (tag_at kind.at k == tag_at part.kind.at part.k) rest in
+          let front = and_left (context_at kind.at == context_at part.kind.at && kind.at.peer == part.kind.at.peer)
+          (tag_at kind.at k == tag_at part.kind.at part.k) rest in
           let same = end_told part.kind.at kind.at part.k k part.low low
-          (own_rank (record { rank = owner.rank; p = part.p }) lines part.kind part.made ∙ sym (own_rank owner lines kind made))
+          (own_rank (record { rank = owner.rank; p = part.p }) lines part.kind part.made
+          ∙ sym (own_rank owner lines kind made))
           (way ∙ sym sending)
-          (sym (same_of _ _ (and_left (context_at kind.at == context_at part.kind.at) (kind.at.peer == part.kind.at.peer) front)))
-          (sym (same_of _ _ (and_right (context_at kind.at == context_at part.kind.at) (kind.at.peer == part.kind.at.peer) front)))
-          (sym (same_of _ _ (and_right (context_at kind.at == context_at part.kind.at && kind.at.peer == part.kind.at.peer) (tag_at kind.at k == tag_at part.kind.at part.k) rest))) in
+          (sym (same_number _ _ (and_left (context_at kind.at == context_at part.kind.at)
+          (kind.at.peer == part.kind.at.peer) front)))
+          (sym (same_number _ _ (and_right (context_at kind.at == context_at part.kind.at)
+          (kind.at.peer == part.kind.at.peer) front)))
+          (sym (same_number _ _
+          (and_right (context_at kind.at == context_at part.kind.at && kind.at.peer == part.kind.at.peer)
+          (tag_at kind.at k == tag_at part.kind.at part.k) rest))) in
           own_end x part same.0 same.1)
           (λ it.
           let same = own_name x part it in
           told
-          ∙ ap (λ (e : End). e.channel.sort.sends && (context_at kind.at == context_at e && kind.at.peer == e.peer && tag_at kind.at k == tag_at e part.k))
+          ∙ ap (λ (e : End). e.channel.sort.sends && (context_at kind.at == context_at e && kind.at.peer ==
+          e.peer && tag_at kind.at k == tag_at e part.k))
           (ap (λ (k : Kind). k.at) same.0)
-          ∙ ap (λ (m : ℕ). kind.at.channel.sort.sends && (context_at kind.at == context_at kind.at && kind.at.peer == kind.at.peer && tag_at kind.at k == tag_at kind.at m)) same.1
-          ∙ three kind.at.channel.sort.sends (context_at kind.at == context_at kind.at) (kind.at.peer == kind.at.peer) (tag_at kind.at k == tag_at kind.at k)
+          ∙ ap (λ (m : ℕ). kind.at.channel.sort.sends && (context_at kind.at == context_at kind.at && kind.at.peer ==
+          kind.at.peer && tag_at kind.at k == tag_at kind.at m)) same.1
+          ∙ three kind.at.channel.sort.sends (context_at kind.at == context_at kind.at) (kind.at.peer == kind.at.peer)
+          (tag_at kind.at k == tag_at kind.at k)
           sending (eqb_self (context_at kind.at)) (eqb_self kind.at.peer) (eqb_self (tag_at kind.at k)))

@@ -19,10 +19,11 @@ use Rattle.nm_history.specs.RankRun.{AnswerAt, CancelAt, CancelsFor, ClaimAt, St
 use Rattle.nm_history.specs.RankRun.{cancels_since, claims_since, starts_since, since_after, since_command}
 use Rattle.nm_history.specs.RankRun.{is_cancelling, is_matched_probe, is_start, line_of_claim, start_of, without_number}
 use Rattle.nm_history.proofs.RankRunLemmas.{since-push}
-use Rattle.nm_sure.proofs.Fitting.{AllFit, EachFits, Fits, all_split}
+use Rattle.nm_sure.proofs.Fitting.{AllFit, EachFits, Fits}
 use Rattle.nm_persist_runs.specs.Questions.{is_named}
 use Rattle.nm_types.specs.declared.messages.Peer.TheVariants as peer
 use Rattle.nm_types.specs.declared.messages.TagPick.TheVariants as pick
+use Rattle.nm_facts.proofs.Lists.{all_split}
 
 -- each command that stands at a line is one of these
 abbrev pub AreNamedLines : List Numbered → Type 0
@@ -49,8 +50,16 @@ module _ (eager : ℕ) (commands : List Numbered) (named : AreNamedLines command
       (b : Bool) → AllFit eager commands (cond b (start_of eager commands h line c) [])
   starts_fit h line (command.Send q to tag ctx body sync) at' plain true =
       (record { command = command.Send q to tag ctx body sync; at_line = at'; plain = refl; start = refl }, tt)
-  starts_fit h line (command.Recv q (peer.One from) (pick.One tag) ctx cap) at' plain true =
-      (record { command = command.Recv q (peer.One from) (pick.One tag) ctx cap; at_line = at'; plain = refl; start = refl }, tt)
+  starts_fit h line (command.Recv q (peer.One from) (pick.One tag) ctx cap) at' plain true = (
+    record {
+      command = command.Recv q (peer.One from) (pick.One tag) ctx cap;
+      at_line = at';
+      plain = refl;
+      start =
+          refl;
+    },
+    tt,
+  )
   starts_fit h line (command.Recv q (peer.One from) pick.Any ctx cap) at' plain true = absurd (false≢true plain)
   starts_fit h line (command.Recv q peer.Any tag ctx cap) at' plain true = absurd (false≢true plain)
   starts_fit h line (command.Wait q) at' plain true = tt
@@ -79,7 +88,8 @@ module _ (eager : ℕ) (commands : List Numbered) (named : AreNamedLines command
     where
       by_command : (o : Option Command) → command_at commands line ≡ o →
           IsSomeAnd o (λ c. answer_of commands h line c ≡ Some (without_bytes a)) →
-          map without_number (starts_since h) ≡ cond (is_started a) (option_map_or (start_of eager commands h line) o []) [] →
+          map without_number (starts_since h) ≡ cond (is_started a)
+          (option_map_or (start_of eager commands h line) o []) [] →
           MatchOption o (cancels_since h ≡ []) (CancelsFor commands h) →
           claims_since h ≡ cond (option_map_or is_matched_probe o false && is_seen a) (line ∷ []) [] →
           AllFit eager commands (since_command h)
@@ -94,7 +104,8 @@ module _ (eager : ℕ) (commands : List Numbered) (named : AreNamedLines command
       StartAt eager commands h what → CancelAt commands h what → ClaimAt commands h what →
       AllFit eager commands (since_after (since_command h) what) →
       AllFit eager commands (since_command h) × Fits eager commands what
-  fits_step h stamp (event.Ran line a) answer start cancel claim later = (since_fits h line a answer start cancel claim, tt)
+  fits_step h stamp (event.Ran line a) answer start cancel claim later =
+      (since_fits h line a answer start cancel claim, tt)
   fits_step h stamp what answer start cancel claim later =
       let parts = all_split (λ w. Fits eager commands w) (since_command h) (what ∷ []) later in (parts.0, parts.1.0)
 
@@ -108,7 +119,8 @@ module _ (eager : ℕ) (commands : List Numbered) (named : AreNamedLines command
       (subst (λ (h : List Event). AllFit eager commands (since_command h)) (append-nil before) last, tt)
   fits_after before (e ∷ events) answers starts cancels claims last =
       let later = fits_after (before ++ e ∷ []) events answers.1 starts.1 cancels.1 claims.1
-      (subst (λ (h : List Event). AllFit eager commands (since_command h)) (sym (append_assoc before (e ∷ []) events)) last) in
+      (subst (λ (h : List Event). AllFit eager commands (since_command h)) (sym (append_assoc before (e ∷ []) events))
+      last) in
       let now = fits_step before e.stamp e.what answers.0 starts.0 cancels.0 claims.0
       (subst (λ (ws : List Happened). AllFit eager commands ws) (since-push before e) later.0) in
       (now.0, (now.1, later.1))

@@ -10,15 +10,17 @@ use Rattle.nm_types.specs.declared.scripts.Command.{Command}
 use Rattle.nm_types.specs.declared.scripts.Command.TheVariants as command
 use Rattle.nm_history.specs.Answers.{is_question_of, is_start_of}
 use Rattle.nm_plans.specs.declared.lines.PlanCommand.{PlanCommand}
-use Rattle.nm_plans.specs.declared.lines.PlanCommand.TheVariants.{SendInit, RecvInit, PsendInit, PrecvInit, Fill, Start, Ready, Arrived, Wait}
+use Rattle.nm_plans.specs.declared.lines.PlanCommand.TheVariants.{SendInit, RecvInit, PsendInit, PrecvInit, Fill}
+use Rattle.nm_plans.specs.declared.lines.PlanCommand.TheVariants.{Start, Ready, Arrived, Wait}
 use Rattle.nm_plan_requests.specs.declared.requests.Request.{Request}
 use Rattle.nm_plan_requests.specs.declared.requests.Side.{Side}
 use Rattle.nm_plan_requests.specs.declared.requests.Side.TheVariants.{Sends, Receives}
 use Rattle.nm_plan_requests.specs.Expansion.{commands_for, each_part, is_split_send, name_of, start_of, wait_of}
 use Rattle.nm_plan_requests.specs.Requests.{part_count}
 use Rattle.nm_plans.specs.Grammar.{request_in}
-use Rattle.nm_history.proofs.OnceLemmas.{same_of}
 use Rattle.nm_persist_runs.specs.Names.{are_apart, is_wait_of, waits_after, waits_for}
+use Rattle.nm_facts.proofs.Numbers.{same_number}
+use Rattle.nm_facts.proofs.Truth.{not_left}
 
 -- a command starts or asks for a request of this name
 abbrev pub is_of : ℕ → Command → Bool
@@ -46,8 +48,10 @@ start_is p k q r (Receives cap) = or_false (name_of p k == q)
     or_false false = refl
 
 -- of commands for each part one at most has this name
-pub one_part : (f : ℕ → Command) (p k p' : ℕ) → k < 16 → ((m : ℕ) → is_of (name_of p k) (f m) ≡ (name_of p' m == name_of p k)) →
-    (n : ℕ) → n ≤ 16 → filter (is_of (name_of p k)) (map f (range_with_len 0 n)) ≡ cond (p' == p && nat_lt k n) (f k ∷ []) []
+pub one_part : (f : ℕ → Command) (p k p' : ℕ) → k < 16 →
+    ((m : ℕ) → is_of (name_of p k) (f m) ≡ (name_of p' m == name_of p k)) →
+    (n : ℕ) → n ≤ 16 → filter (is_of (name_of p k)) (map f (range_with_len 0 n)) ≡ cond (p' == p && nat_lt k n)
+    (f k ∷ []) []
 one_part f p k p' low names zero small = by_test (p' == p) (nat_lt k 0) (grind (arith, nat_tests))
   where
     by_test : (b c : Bool) → c ≡ false → ◌≡◌ {A = List Command} [] (cond (b && c) (f k ∷ []) [])
@@ -57,7 +61,8 @@ one_part f p k p' low names zero small = by_test (p' == p) (nat_lt k 0) (grind (
 one_part f p k p' low names (suc n) small =
     ap (λ (m : ℕ). filter (is_of (name_of p k)) (map f (range_with_len 0 m))) (sym (one_more n))
     ∙ filter_of_map_range_with_len_more (is_of (name_of p k)) f 0 n n (omega arith)
-    ∙ ap (λ (cs : List Command). cs ++ cond (is_of (name_of p k) (f n)) (f n ∷ []) []) (one_part f p k p' low names n (omega (arith, small)))
+    ∙ ap (λ (cs : List Command). cs ++ cond (is_of (name_of p k) (f n)) (f n ∷ []) [])
+    (one_part f p k p' low names n (omega (arith, small)))
     ∙ ap (λ (b : Bool). cond (p' == p && nat_lt k n) (f k ∷ []) [] ++ cond b (f n ∷ []) [])
     (names n ∙ same_name p k p' n low (omega (arith, small)))
     ∙ by_tests (p' == p) (n == k) refl
@@ -99,13 +104,9 @@ item p k (Arrived p' k') r = cond (k' == k) (command.Test (name_of p k) ∷ []) 
 item p k (Wait p') r = cond (nat_lt k (part_count r)) (wait_of p k ∷ []) []
 item p k _ r = []
 
-not_either : (a b : Bool) → (a || b) ≡ false → a ≡ false
-not_either true b is = is
-not_either false b is = refl
-
 -- a command that isn't about a name neither starts nor waits for it
 not_start : (q : ℕ) (c : Command) → is_of q c ≡ false → is_start_of q c ≡ false
-not_start q c is = not_either (is_start_of q c) (is_question_of q c) is
+not_start q c is = not_left (is_start_of q c) (is_question_of q c) is
 
 not_wait : (q : ℕ) (c : Command) → is_of q c ≡ false → is_wait_of q c ≡ false
 not_wait q (command.Wait q') is = is
@@ -131,7 +132,8 @@ apart_own q w (c ∷ cs) = by_test (is_of q c) refl (λ w'. apart_own q w' cs)
         are_apart q w (c ∷ cs) ≡ are_apart q w (cond b (c ∷ filter (is_of q) cs) (filter (is_of q) cs))
     by_test true is later = ap (λ (b : Bool). not (is_start_of q c && w) && b) (later (waits_after q w c))
     by_test false is later =
-        ap (λ (b : Bool). not (b && w) && are_apart q (cond b true (cond (is_wait_of q c) false w)) cs) (not_start q c is)
+        ap (λ (b : Bool). not (b && w) && are_apart q (cond b true (cond (is_wait_of q c) false w)) cs)
+        (not_start q c is)
         ∙ ap (λ (b : Bool). are_apart q (cond b false w) cs) (not_wait q c is) ∙ later w
 
 pub starts_own : (q : ℕ) (cs : List Command) → filter (is_start_of q) cs ≡ filter (is_start_of q) (filter (is_of q) cs)
@@ -139,16 +141,19 @@ starts_own q [] = refl
 starts_own q (c ∷ cs) = by_test (is_of q c) refl (starts_own q cs)
   where
     by_test : (b : Bool) → is_of q c ≡ b → filter (is_start_of q) cs ≡ filter (is_start_of q) (filter (is_of q) cs) →
-        filter (is_start_of q) (c ∷ cs) ≡ filter (is_start_of q) (cond b (c ∷ filter (is_of q) cs) (filter (is_of q) cs))
+        filter (is_start_of q) (c ∷ cs) ≡ filter (is_start_of q)
+        (cond b (c ∷ filter (is_of q) cs) (filter (is_of q) cs))
     by_test true is later = ap (λ (xs : List Command). cond (is_start_of q c) (c ∷ xs) xs) later
-    by_test false is later = ap (λ (b : Bool). cond b (c ∷ filter (is_start_of q) cs) (filter (is_start_of q) cs)) (not_start q c is) ∙ later
+    by_test false is later = ap (λ (b : Bool). cond b (c ∷ filter (is_start_of q) cs) (filter (is_start_of q) cs))
+        (not_start q c is) ∙ later
 
 pub apart-append : (q : ℕ) (w : Bool) (xs ys : List Command) →
     are_apart q w (xs ++ ys) ≡ (are_apart q w xs && are_apart q (waits_for q w xs) ys)
 apart-append q w [] ys = refl
 apart-append q w (c ∷ xs) ys =
     ap (λ (b : Bool). not (is_start_of q c && w) && b) (apart-append q (waits_after q w c) xs ys)
-    ∙ assoc (not (is_start_of q c && w)) (are_apart q (waits_after q w c) xs) (are_apart q (waits_for q (waits_after q w c) xs) ys)
+    ∙ assoc (not (is_start_of q c && w)) (are_apart q (waits_after q w c) xs)
+    (are_apart q (waits_for q (waits_after q w c) xs) ys)
   where
     assoc : (a b c : Bool) → (a && (b && c)) ≡ ((a && b) && c)
     assoc true b c = refl
@@ -167,12 +172,13 @@ items_are p k (Start p') r low few small =
         one_part (λ k. start_of p' r k r.side) p k p' low (λ m. start_is p' m (name_of p k) r r.side) (part_count r) few
         ∙ both (p' == p) (nat_lt k (part_count r)) (start_of p' r k r.side)
 items_are p k (Ready p' k') r low few small =
-    ap (λ (b : Bool). cond b (start_of p' r k' r.side ∷ []) []) (start_is p' k' (name_of p k) r r.side ∙ same_name p k p' k' low small)
+    ap (λ (b : Bool). cond b (start_of p' r k' r.side ∷ []) []) (start_is p' k' (name_of p k) r r.side
+    ∙ same_name p k p' k' low small)
     ∙ by_tests (p' == p) (k' == k) refl
   where
     by_tests : (b c : Bool) → (k' == k) ≡ c → cond (b && c) (start_of p' r k' r.side ∷ []) []
         ≡ cond b (cond c (start_of p' r k r.side ∷ []) []) []
-    by_tests true true is = ap (λ (m : ℕ). start_of p' r m r.side ∷ []) (same_of k' k is)
+    by_tests true true is = ap (λ (m : ℕ). start_of p' r m r.side ∷ []) (same_number k' k is)
     by_tests true false is = refl
     by_tests false c is = refl
 items_are p k (Arrived p' k') r low few small =
@@ -181,7 +187,7 @@ items_are p k (Arrived p' k') r low few small =
   where
     by_tests : (b c : Bool) → (k' == k) ≡ c → cond (b && c) (command.Test (name_of p' k') ∷ []) []
         ≡ cond b (cond c (command.Test (name_of p' k) ∷ []) []) []
-    by_tests true true is = ap (λ (m : ℕ). command.Test (name_of p' m) ∷ []) (same_of k' k is)
+    by_tests true true is = ap (λ (m : ℕ). command.Test (name_of p' m) ∷ []) (same_number k' k is)
     by_tests true false is = refl
     by_tests false c is = refl
 items_are p k (Wait p') r low few small =

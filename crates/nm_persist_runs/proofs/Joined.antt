@@ -1,5 +1,6 @@
 -- The parts of a body, joined, are the body.
-use Rattle.std.proofs.Common.{◌≡◌, ℕ, ◌+◌, ◌-◌, ◌*◌, ◌/◌, ◌<◌, ◌≤◌, zero, suc, List, [], ◌∷◌, ◌++◌, length, map, take, drop}
+use Rattle.std.proofs.Common.{◌≡◌, ℕ, ◌+◌, ◌-◌, ◌*◌, ◌/◌, ◌<◌, ◌≤◌, zero, suc, List, [], ◌∷◌, ◌++◌, length, map, take}
+use Rattle.std.proofs.Common.{drop}
 use Rattle.std.proofs.Common.{refl, sym, ◌∙◌, ap, arith, append-nil}
 use Rattle.std.specs.Prelude.{flat_map}
 use Rattle.std.specs.List.{range_with_len}
@@ -22,7 +23,8 @@ front_more [] (suc a) (suc b) le = none (suc b - suc a)
     none zero = refl
     none (suc n) = refl
 front_more (x ∷ xs) (suc a) (suc b) le =
-    ap (λ (ys : List ℕ). x ∷ ys) (ap (λ (n : ℕ). take a xs ++ take n (drop a xs)) (same a b) ∙ front_more xs a b (omega (arith, le)))
+    ap (λ (ys : List ℕ). x ∷ ys) (ap (λ (n : ℕ). take a xs ++ take n (drop a xs)) (same a b)
+    ∙ front_more xs a b (omega (arith, le)))
   where
     same : (a b : ℕ) → suc b - suc a ≡ b - a
     same a b = omega arith

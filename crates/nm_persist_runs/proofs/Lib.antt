@@ -1,23 +1,23 @@
-pub mod Aligned
-pub mod Described
-pub mod EndsMade
-pub mod Fitting
-pub mod Items
-pub mod Joined
-pub mod Keeping
-pub mod Kept
-pub mod Lawfully
-pub mod LinesRead
-pub mod Owned
-pub mod Partnering
-pub mod Quiet
-pub mod Received
-pub mod Shown
-pub mod Single
-pub mod States
-pub mod Taking
-pub mod Tracked
-pub mod Tracking
-pub mod Waited
-pub mod Walk
-pub mod Walked
+mod Aligned
+mod Described
+mod EndsMade
+mod Fitting
+mod Items
+mod Joined
+mod Keeping
+mod Kept
+mod Lawfully
+mod LinesRead
+mod Owned
+mod Partnering
+mod Quiet
+mod Received
+mod Shown
+mod Single
+mod States
+mod Taking
+mod Tracked
+mod Tracking
+mod Waited
+mod Walk
+mod Walked

@@ -1,5 +1,6 @@
 -- The lines of the starts of a history, by the commands that ran.
-use Rattle.std.proofs.Common.{◌≡◌, ℕ, ◌<◌, ◌==◌, Bool, true, false, ◌&&◌, cond, suc, Option, Some, None, List, [], ◌∷◌, ◌++◌}
+use Rattle.std.proofs.Common.{◌≡◌, ℕ, ◌<◌, ◌==◌, Bool, true, false, ◌&&◌, cond, suc, Option, Some, None, List, []}
+use Rattle.std.proofs.Common.{◌∷◌, ◌++◌}
 use Rattle.std.proofs.Common.{length, map, refl, sym, ◌∙◌, ap, arith, append-nil, append_assoc}
 use Rattle.std.specs.Prelude.{is_some}
 use Rattle.std.specs.List.{cons_option, filter, filter_map, slice_get}
@@ -22,6 +23,7 @@ use Rattle.nm_history.proofs.RankRunLemmas.{since-push}
 use Rattle.nm_match.specs.InTurn.{is_for}
 use Rattle.nm_sure.proofs.Gathered.{ReadsStarts, if_some, post_line, receives_it, send_line, sends_it}
 use Rattle.nm_persist_runs.specs.Questions.{is_named}
+use Rattle.nm_sure.proofs.Gathered.{one_line}
 
 -- a send or a receive
 abbrev pub starts_one : Command → Bool
@@ -45,23 +47,22 @@ lines-push g cs c =
     ap (λ (xs : List Numbered). map (λ c. c.line) xs) (filter-append g cs (c ∷ []))
     ∙ map-append (λ (c : Numbered). c.line) (filter g cs) (cond (g c) (c ∷ []) []) ∙ by_test (g c)
   where
-    by_test : (b : Bool) → map (λ (c : Numbered). c.line) (filter g cs) ++ map (λ (c : Numbered). c.line) (cond b (c ∷ []) [])
+    by_test : (b : Bool) → map (λ (c : Numbered). c.line) (filter g cs) ++ map (λ (c : Numbered). c.line)
+        (cond b (c ∷ []) [])
         ≡ map (λ (c : Numbered). c.line) (filter g cs) ++ cond b (c.line ∷ []) []
     by_test true = refl
     by_test false = refl
-
-one_line : (b : Bool) (l : ℕ) → cons_option (if_some b l) [] ≡ cond b (l ∷ []) []
-one_line true l = refl
-one_line false l = refl
 
 pub posts_named : (from tag ctx : ℕ) → ReadsNamed (post_line from tag ctx) (λ c. receives_it from tag ctx c.command)
 posts_named from tag ctx eager commands c named = by_command c.command named
   where
     by_command : (d : Command) → is_named d ≡ true →
-        filter_map (post_line from tag ctx) (start_of eager commands [] c.line d) ≡ cond (receives_it from tag ctx d) (c.line ∷ []) []
+        filter_map (post_line from tag ctx) (start_of eager commands [] c.line d) ≡ cond (receives_it from tag ctx d)
+        (c.line ∷ []) []
     by_command (command.Send q to t x body sync) named = refl
     by_command (command.Recv q source tags context cap) named =
-        one_line (is_for from tag ctx (record { number = 0; from = source; tag = tags; ctx = context; cap = cap })) c.line
+        one_line (is_for from tag ctx (record { number = 0; from = source; tag = tags; ctx = context; cap = cap }))
+        c.line
     by_command (command.Mrecv q m cap) named = absurd (false≢true named)
     by_command d named = refl
 
@@ -69,8 +70,10 @@ pub sends_named : (to tag ctx : ℕ) → ReadsNamed (send_line to tag ctx) (λ c
 sends_named to tag ctx eager commands c named = by_command c.command named
   where
     by_command : (d : Command) → is_named d ≡ true →
-        filter_map (send_line to tag ctx) (start_of eager commands [] c.line d) ≡ cond (sends_it to tag ctx d) (c.line ∷ []) []
-    by_command (command.Send q to' tag' ctx' body sync) named = one_line (ctx == ctx' && to == to' && tag == tag') c.line
+        filter_map (send_line to tag ctx) (start_of eager commands [] c.line d) ≡ cond (sends_it to tag ctx d)
+        (c.line ∷ []) []
+    by_command (command.Send q to' tag' ctx' body sync) named = one_line (ctx == ctx' && to == to' && tag == tag')
+        c.line
     by_command (command.Recv q source tags context cap) named = refl
     by_command (command.Mrecv q m cap) named = absurd (false≢true named)
     by_command d named = refl
@@ -101,7 +104,8 @@ pub starts_named : (l : ℕ) → ReadsNamed (start_at l) (λ c. starts_one c.com
 starts_named l eager commands c named = by_command c.command named
   where
     by_command : (d : Command) → is_named d ≡ true →
-        filter_map (start_at l) (start_of eager commands [] c.line d) ≡ cond (starts_one d && c.line == l) (c.line ∷ []) []
+        filter_map (start_at l) (start_of eager commands [] c.line d) ≡ cond (starts_one d && c.line == l)
+        (c.line ∷ []) []
     by_command (command.Send q to' tag' ctx' body sync) named = one_line (c.line == l) c.line
     by_command (command.Recv q source tags context cap) named = one_line (c.line == l) c.line
     by_command (command.Mrecv q m cap) named = absurd (false≢true named)
@@ -126,7 +130,8 @@ same_count l (event.Match number i n cap line) = by_line (line == l)
     by_line false = refl
 same_count l w = refl
 
-both_counted : (o : Option Request) (p : Option ℕ) (rs : List Request) (ls : List ℕ) → is_some o ≡ is_some p → length rs ≡ length ls →
+both_counted : (o : Option Request) (p : Option ℕ) (rs : List Request) (ls : List ℕ) → is_some o ≡ is_some p →
+    length rs ≡ length ls →
     length (cons_option o rs) ≡ length (cons_option p ls)
 both_counted None None rs ls same later = later
 both_counted (Some r) (Some l) rs ls same later = ap (λ (n : ℕ). suc n) later
@@ -134,7 +139,8 @@ both_counted None (Some l) rs ls same later = absurd (false≢true same)
 both_counted (Some r) None rs ls same later = absurd (false≢true (sym same))
 
 requests_counted : (l : ℕ) (h : List Event) →
-    length (filter_map (λ (e : Event). request_of l e.what) h) ≡ length (filter_map (λ (e : Event). start_at l e.what) h)
+    length (filter_map (λ (e : Event). request_of l e.what) h) ≡ length
+    (filter_map (λ (e : Event). start_at l e.what) h)
 requests_counted l [] = refl
 requests_counted l (e ∷ h) =
     both_counted (request_of l e.what) (start_at l e.what) (filter_map (λ (e : Event). request_of l e.what) h)
@@ -158,14 +164,17 @@ read_starts f reads [] = refl
 read_starts f reads (w ∷ ws) = by_test (is_start w) refl (read_starts f reads ws)
   where
     by_test : (b : Bool) → is_start w ≡ b → filter_map f ws ≡ filter_map f (map without_number (filter is_start ws)) →
-        cons_option (f w) (filter_map f ws) ≡ filter_map f (map without_number (cond b (w ∷ filter is_start ws) (filter is_start ws)))
+        cons_option (f w) (filter_map f ws) ≡ filter_map f
+        (map without_number (cond b (w ∷ filter is_start ws) (filter is_start ws)))
     by_test true is later =
         ap (λ (ls : List ℕ). cons_option (f w) ls) later
-        ∙ ap (λ (o : Option ℕ). cons_option o (filter_map f (map without_number (filter is_start ws)))) (sym (reads.numbers w))
+        ∙ ap (λ (o : Option ℕ). cons_option o (filter_map f (map without_number (filter is_start ws))))
+        (sym (reads.numbers w))
     by_test false is later = ap (λ (o : Option ℕ). cons_option o (filter_map f ws)) (reads.others w is) ∙ later
 
 -- a taken start makes its event
-pub starts_made : (eager l : ℕ) (commands : List Numbered) (h : List Event) (c : Command) (b : Bool) → is_named c ≡ true →
+pub starts_made : (eager l : ℕ) (commands : List Numbered) (h : List Event) (c : Command) (b : Bool) →
+    is_named c ≡ true →
     (starts_one c ≡ true → b ≡ true) → cond b (start_of eager commands h l c) [] ≡ start_of eager commands [] l c
 starts_made eager l commands h (command.Send q to tag ctx body sync) b named taken = rw (taken refl) refl
 starts_made eager l commands h (command.Recv q from tag ctx cap) b named taken = rw (taken refl) refl
@@ -186,12 +195,14 @@ read_other f g done h e silent so =
     ∙ ap (λ (ls : List ℕ). lines_of g done ++ ls) (sym (filter_map-append f (since_command h) (e.what ∷ [])))
     ∙ ap (λ (ws : List Happened). lines_of g done ++ filter_map f ws) (sym (since-push h e ∙ grown e.what silent))
   where
-    grown : (what : Happened) → is_answer what ≡ false → since_after (since_command h) what ≡ since_command h ++ what ∷ []
+    grown : (what : Happened) → is_answer what ≡ false → since_after (since_command h) what ≡ since_command h ++ what
+        ∷ []
     grown (event.Ran line a) silent = absurd (false≢true (sym silent))
     grown what silent = refl
 
 pub read_answer : (f : Happened → Option ℕ) (g : Numbered → Bool) → ReadsStarts f → ReadsNamed f g → (eager : ℕ)
-    (commands done : List Numbered) (h : List Event) (stamp : ℕ) (c : Numbered) (a : Answer) → is_named c.command ≡ true →
+    (commands done : List Numbered) (h : List Event) (stamp : ℕ) (c : Numbered) (a : Answer) →
+    is_named c.command ≡ true →
     (starts_one c.command ≡ true → is_started a ≡ true) →
     map without_number (starts_since h) ≡ cond (is_started a) (start_of eager commands h c.line c.command) [] →
     IsRead f g done h → IsRead f g (done ++ c ∷ []) (h ++ record { stamp = stamp; what = event.Ran c.line a } ∷ [])

@@ -1,6 +1,6 @@
 -- A lawful run of sends, named receives, waits and tests, and what happens in it: receives and messages
 -- of one channel pair in turn.
-use Rattle.std.proofs.Common.{◌≡◌, ℕ, ◌<◌, ◌==◌, Bool, true, false, List, [], ◌∷◌, ◌++◌, refl, sym, ◌∙◌, ap, subst}
+use Rattle.std.proofs.Common.{◌≡◌, ℕ, ◌<◌, ◌==◌, Bool, true, false, List, [], ◌∷◌, ◌++◌, refl, sym, ◌∙◌, subst}
 use Rattle.std.proofs.Common.{◌⊎◌, inl, inr, ◌||◌, Some}
 use Rattle.std.proofs.lemmas.List.Folds.{list_any-append}
 use Rattle.std.specs.Prelude.{IsTrue}
@@ -19,13 +19,15 @@ use Rattle.nm_history.specs.declared.events.Happened.TheVariants as event
 use Rattle.nm_history.specs.AtEach.{AtEach, AtEachAfter}
 use Rattle.nm_history.specs.Delivery.{AreDelivered, WithdrawAfterRecall, earlier_than}
 use Rattle.nm_history.specs.Happens.{happened, is_arrival, is_recall}
-use Rattle.nm_history.specs.RankRun.{EndAt, IsRankRun, NumberAt, start_of}
-use Rattle.nm_history.proofs.OnceLemmas.{and_left, eqb_self, same_of}
+use Rattle.nm_history.specs.RankRun.{EndAt, IsRankRun, NumberAt}
+use Rattle.nm_history.proofs.OnceLemmas.{eqb_self}
 use Rattle.nm_match.specs.InTurn.{ArePlainEvents, are_named, is_plain_event}
-use Rattle.nm_sure.specs.Plain.{is_plain}
 use Rattle.nm_sure.proofs.Fitting.{EachFits, Fits}
 use Rattle.nm_sure.proofs.Worlds.{IsWithin, fits_early, no_recall, on_true}
 use Rattle.nm_persist_runs.proofs.Fitting.{AreNamedLines, run_fits}
+use Rattle.nm_facts.proofs.Numbers.{same_number}
+use Rattle.nm_facts.proofs.Truth.{and_left}
+use Rattle.nm_sure.proofs.Worlds.{named_call}
 
 -- a lawful run of such commands: how many of each rank's commands ran, and its history
 pub record NamedRun (shape : Sizes) (cs : ℕ → List Numbered) (at : ℕ → ℕ) (hist : ℕ → List Event) : Type 0 where
@@ -40,26 +42,8 @@ abbrev is_first_named : List Happened → Bool
 is_first_named (event.Post p line ∷ ws) = are_named p.from p.tag
 is_first_named _ = true
 
--- a start that fits names its source and its tag
-named_call : (eager : ℕ) (commands : List Numbered) (p : post.Post) (line : ℕ) →
-    Fits eager commands (event.Post p line) → are_named p.from p.tag ≡ true
-named_call eager commands p line calls = by_command calls.command calls.plain calls.start
-  where
-    by_command : (c : Command) → is_plain c ≡ true → start_of eager commands [] line c ≡ event.Post (record p { number = 0 }) line ∷ [] →
-        are_named p.from p.tag ≡ true
-    by_command (command.Recv q (peer.One from) (pick.One tag) ctx cap) plain start = sym (ap (λ (ws : List Happened). is_first_named ws) start)
-    by_command (command.Recv q peer.Any tags ctx cap) plain start = absurd (false≢true plain)
-    by_command (command.Recv q (peer.One from) pick.Any ctx cap) plain start = absurd (false≢true plain)
-    by_command (command.Send q to tag ctx body sync) plain start = sym (ap (λ (ws : List Happened). is_first_named ws) start)
-    by_command (command.Wait q) plain start = sym (ap (λ (ws : List Happened). is_first_named ws) start)
-    by_command (command.Test q) plain start = absurd (false≢true plain)
-    by_command (command.Probe from tag ctx) plain start = absurd (false≢true plain)
-    by_command (command.Await from tag ctx) plain start = absurd (false≢true plain)
-    by_command (command.Cancel q) plain start = absurd (false≢true plain)
-    by_command (command.Mprobe m from tag ctx) plain start = absurd (false≢true plain)
-    by_command (command.Mrecv q m cap) plain start = absurd (false≢true plain)
-
-module _ (shape : Sizes) (cs : ℕ → List Numbered) (at : ℕ → ℕ) (hist : ℕ → List Event) (run : NamedRun shape cs at hist) where
+module _ (shape : Sizes) (cs : ℕ → List Numbered) (at : ℕ → ℕ) (hist : ℕ → List Event)
+    (run : NamedRun shape cs at hist) where
   pub fits : (i : ℕ) → i < shape.ranks → EachFits shape.eager (cs i) (hist i)
   fits i inside = run_fits shape.eager (cs i) (run.named i) shape.ranks shape.cells (at i) (hist i) (run.own i inside)
 
@@ -70,7 +54,8 @@ module _ (shape : Sizes) (cs : ℕ → List Numbered) (at : ℕ → ℕ) (hist :
   came_step : (h : List Event) (stamp : ℕ) (what : Happened) → CameFromRanks h → NumberAt shape.ranks h what →
       CameFromRanks (h ++ record { stamp = stamp; what = what } ∷ [])
   came_step h stamp what each number from n came =
-      at_event what number (last_or_before (λ (e : Event). is_arrival from n e.what) h (record { stamp = stamp; what = what }) came)
+      at_event what number (last_or_before (λ (e : Event). is_arrival from n e.what) h
+      (record { stamp = stamp; what = what }) came)
     where
       last_or_before : (test : Event → Bool) (h : List Event) (e : Event) → list_any test (h ++ e ∷ []) ≡ true →
           (list_any test h ≡ true) ⊎ (test e ≡ true)
@@ -85,15 +70,18 @@ module _ (shape : Sizes) (cs : ℕ → List Numbered) (at : ℕ → ℕ) (hist :
               at_first true some = refl
               at_first false some = some
 
-      at_event : (what : Happened) → NumberAt shape.ranks h what → (happened (is_arrival from n) h ≡ true) ⊎ (is_arrival from n what ≡ true) →
+      at_event : (what : Happened) → NumberAt shape.ranks h what →
+          (happened (is_arrival from n) h ≡ true) ⊎ (is_arrival from n what ≡ true) →
           from < shape.ranks
       at_event what number (inl before) = each from n before
       at_event (event.Arrive a) number (inr now) =
-          subst (λ (i : ℕ). i < shape.ranks) (same_of a.env.from from (and_left (a.env.from == from) (a.n == n) now)) number.0
+          subst (λ (i : ℕ). i < shape.ranks)
+          (same_number a.env.from from (and_left (a.env.from == from) (a.n == n) now)) number.0
       at_event what number (inr now) = absurd (false≢true now)
 
   -- no message is withdrawn, since none was recalled
-  plain_step : (i : ℕ) (h : List Event) (stamp : ℕ) (what : Happened) → i < shape.ranks → CameFromRanks h → EndAt h what →
+  plain_step : (i : ℕ) (h : List Event) (stamp : ℕ) (what : Happened) → i < shape.ranks → CameFromRanks h →
+      EndAt h what →
       Fits shape.eager (cs i) what →
       ((from : ℕ) → from < shape.ranks → WithdrawAfterRecall from i (hist from) stamp what) → is_plain_event what ≡ true
   plain_step i h stamp (event.Post p line) inside came ends fit withdrawn = named_call shape.eager (cs i) p line fit
@@ -109,19 +97,23 @@ module _ (shape : Sizes) (cs : ℕ → List Numbered) (at : ℕ → ℕ) (hist :
   plain_step i h stamp what inside came ends fit withdrawn = refl
 
   plain_after : (i : ℕ) (before events : List Event) → i < shape.ranks → CameFromRanks before →
-      AtEachAfter (λ b e. NumberAt shape.ranks b e.what) before events → AtEachAfter (λ b e. EndAt b e.what) before events →
+      AtEachAfter (λ b e. NumberAt shape.ranks b e.what) before events →
+      AtEachAfter (λ b e. EndAt b e.what) before events →
       EachFits shape.eager (cs i) events →
-      ((from : ℕ) → from < shape.ranks → AllByRecursion (λ e. WithdrawAfterRecall from i (hist from) e.stamp e.what) events) →
+      ((from : ℕ) → from < shape.ranks → AllByRecursion (λ e. WithdrawAfterRecall from i (hist from) e.stamp e.what)
+      events) →
       ArePlainEvents events
   plain_after i before [] inside came numbers ends fits withdrawn = tt
   plain_after i before (e ∷ events) inside came numbers ends fits withdrawn = (
     plain_step i before e.stamp e.what inside came ends.0 fits.0 (λ from within. (withdrawn from within).0),
-    plain_after i (before ++ e ∷ []) events inside (came_step before e.stamp e.what came numbers.0) numbers.1 ends.1 fits.1
+    plain_after i (before ++ e ∷ []) events inside (came_step before e.stamp e.what came numbers.0) numbers.1 ends.1
+        fits.1
         (λ from within. (withdrawn from within).1),
   )
 
   pub plain_events : (i : ℕ) → i < shape.ranks → ArePlainEvents (hist i)
   unfolding AtEach
   plain_events i inside =
-      plain_after i [] (hist i) inside (λ from n came. absurd (false≢true came)) (run.own i inside).numbers (run.own i inside).ends (fits i inside)
+      plain_after i [] (hist i) inside (λ from n came. absurd (false≢true came)) (run.own i inside).numbers
+      (run.own i inside).ends (fits i inside)
       (λ from within. (run.carried from i within inside).withdrawals.asked)

@@ -1,6 +1,7 @@
 -- The results of a receive's parts, joined, show its body.
 use Rattle.std.proofs.Common.{◌≡◌, ℕ, ◌+◌, ◌<◌, ◌≤◌, Bool, true, false, ◌||◌, cond, zero, suc, Option, Some, None}
-use Rattle.std.proofs.Common.{List, [], ◌∷◌, ◌++◌, length, map, refl, sym, ◌∙◌, ap, arith, append-nil, length-append, inl, inr}
+use Rattle.std.proofs.Common.{List, [], ◌∷◌, ◌++◌, length, map, refl, sym, ◌∙◌, ap, arith, append-nil, length-append}
+use Rattle.std.proofs.Common.{inl, inr}
 use Rattle.std.specs.Prelude.{codes, decimal, flat_map, sum_by, unwrap_or}
 use Rattle.std.specs.List.{list_any, range_with_len}
 use Rattle.std.proofs.lemmas.Bool.{false≢true}
@@ -24,11 +25,13 @@ module _ (from : ℕ) (tags : ℕ → ℕ) (P : ℕ → List ℕ) (res : ℕ →
   len_of k (inl got) = ap (λ (o : Option Answer). len_in o) got
   len_of k (inr cut) = ap (λ (o : Option Answer). len_in o) cut
 
-  sum_of : (m n : ℕ) → AreResults m n → sum_by len_in (map res (range_with_len m n)) ≡ length (flat_map P (range_with_len m n))
+  sum_of : (m n : ℕ) → AreResults m n → sum_by len_in (map res (range_with_len m n)) ≡ length
+      (flat_map P (range_with_len m n))
   sum_of m zero are = refl
   sum_of m (suc n) are =
       sum_by-cons len_in (res m) (map res (range_with_len (m + 1) n))
-      ∙ ap (λ (x : ℕ). x + sum_by len_in (map res (range_with_len (m + 1) n))) (len_of m (are m (omega arith) (omega arith)))
+      ∙ ap (λ (x : ℕ). x + sum_by len_in (map res (range_with_len (m + 1) n)))
+      (len_of m (are m (omega arith) (omega arith)))
       ∙ ap (λ (x : ℕ). length (P m) + x) (sum_of (m + 1) n (later m n are))
       ∙ sym (length-append (P m) (flat_map P (range_with_len (m + 1) n)))
 
@@ -45,7 +48,8 @@ module _ (from : ℕ) (tags : ℕ → ℕ) (P : ℕ → List ℕ) (res : ℕ →
   bytes_joined m zero are whole = refl
   bytes_joined m (suc n) are whole =
       let both = neither (is_cut (res m)) (list_any is_cut (map res (range_with_len (m + 1) n))) whole in
-      ap (λ (xs : List ℕ). xs ++ flat_map bytes_in (map res (range_with_len (m + 1) n))) (bytes_of_part m (are m (omega arith) (omega arith)) both.0)
+      ap (λ (xs : List ℕ). xs ++ flat_map bytes_in (map res (range_with_len (m + 1) n)))
+      (bytes_of_part m (are m (omega arith) (omega arith)) both.0)
       ∙ ap (λ (xs : List ℕ). P m ++ xs) (bytes_joined (m + 1) n (later m n are) both.1)
 
   pub shows_joined : (tag n : ℕ) (body : List ℕ) → AreResults 0 n → flat_map P (range_with_len 0 n) ≡ body →
@@ -57,14 +61,16 @@ module _ (from : ℕ) (tags : ℕ → ℕ) (P : ℕ → List ℕ) (res : ℕ →
 
       by_cut : (b : Bool) → list_any is_cut (map res (range_with_len 0 n)) ≡ b →
           ShowsBody from tag body
-          (cond b (codes "cut" ∷ decimal from ∷ decimal tag ∷ decimal (sum_by len_in (map res (range_with_len 0 n))) ∷ [])
+          (cond b (codes "cut" ∷ decimal from ∷ decimal tag ∷ decimal (sum_by len_in (map res (range_with_len 0 n))) ∷
+          [])
           (codes "got" ∷ decimal from ∷ decimal tag ∷ decimal (sum_by len_in (map res (range_with_len 0 n)))
           ∷ (codes "x" ++ encode_lower (flat_map bytes_in (map res (range_with_len 0 n)))) ∷ []))
       by_cut true cut = inr (ap (λ (x : ℕ). codes "cut" ∷ decimal from ∷ decimal tag ∷ decimal x ∷ []) total)
       by_cut false whole =
           inl (ap (λ (x : ℕ). codes "got" ∷ decimal from ∷ decimal tag ∷ decimal x
           ∷ (codes "x" ++ encode_lower (flat_map bytes_in (map res (range_with_len 0 n)))) ∷ []) total
-          ∙ ap (λ (xs : List ℕ). codes "got" ∷ decimal from ∷ decimal tag ∷ decimal (length body) ∷ (codes "x" ++ encode_lower xs) ∷ [])
+          ∙ ap (λ (xs : List ℕ). codes "got" ∷ decimal from ∷ decimal tag ∷ decimal (length body) ∷
+          (codes "x" ++ encode_lower xs) ∷ [])
           (bytes_joined 0 n are whole ∙ joined))
 
 -- the parts of a body, joined, are the body

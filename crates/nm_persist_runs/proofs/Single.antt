@@ -9,8 +9,11 @@ use Rattle.nm_persist.specs.Plans.{IsPlan}
 use Rattle.nm_persist_runs.specs.Starts.{IsOther}
 use Rattle.nm_persist_runs.proofs.EndsMade.{alone, kind_by}
 
-pub one_other : (ranks : ℕ) (lines : List PlanLine) (e : End) (a b : Owner) → IsPlan ranks lines → IsOther lines e a → IsOther lines e b → a ≡ b
+pub one_other : (ranks : ℕ) (lines : List PlanLine) (e : End) (a b : Owner) → IsPlan ranks lines → IsOther lines e a →
+    IsOther lines e b → a ≡ b
 one_other ranks lines e a b plan first second =
-    alone ranks lines (record { range = plan.lines_in_range; sound = plan.sound }) a b (kind_by a.rank first.request) (kind_by b.rank second.request)
-    (ap (λ (o : Option Request). option_map (kind_by a.rank) o) first.made) (ap (λ (o : Option Request). option_map (kind_by b.rank) o) second.made)
+    alone ranks lines (record { range = plan.lines_in_range; sound = plan.sound }) a b (kind_by a.rank first.request)
+    (kind_by b.rank second.request)
+    (ap (λ (o : Option Request). option_map (kind_by a.rank) o) first.made)
+    (ap (λ (o : Option Request). option_map (kind_by b.rank) o) second.made)
     (first.other ∙ sym second.other)

@@ -1,6 +1,7 @@
 -- What is known of a rank behind each of its commands that ran.
 use Rattle.std.proofs.Common.{◌≡◌, ℕ, ◌+◌, ◌<◌, ◌==◌, Bool, true, false, not, ◌&&◌, ◌||◌, cond, Option, Some, None}
-use Rattle.std.proofs.Common.{List, [], ◌∷◌, ◌++◌, length, map, refl, sym, ◌∙◌, ap, subst, arith, append-nil, append_assoc, length-append, inl, inr}
+use Rattle.std.proofs.Common.{List, [], ◌∷◌, ◌++◌, length, map, refl, sym, ◌∙◌, ap, subst, arith, append-nil}
+use Rattle.std.proofs.Common.{append_assoc, length-append, inl, inr}
 use Rattle.std.specs.Prelude.{is_some, take}
 use Rattle.std.specs.List.{filter, filter_map, slice_get}
 use Rattle.std.specs.Option.{option_and_then, option_map_or}
@@ -19,31 +20,39 @@ use Rattle.nm_types.specs.Sizes.{Sizes}
 use Rattle.nm_history.specs.declared.events.Event.{Event}
 use Rattle.nm_history.specs.declared.events.Happened.{Happened}
 use Rattle.nm_history.specs.declared.events.Happened.TheVariants as event
-use Rattle.nm_history.specs.Answers.{answer_of, is_question_of, is_result, is_start_of, is_started, line_of_name, live, request_at, without_bytes}
+use Rattle.nm_history.specs.Answers.{answer_of, is_question_of, is_result, is_start_of, is_started, line_of_name}
+use Rattle.nm_history.specs.Answers.{live, request_at, without_bytes}
 use Rattle.nm_history.specs.Completion.{Request, result_of}
 use Rattle.nm_history.specs.Completion.Request.{Sending, Receiving}
 use Rattle.nm_history.specs.Delivery.{asked_pair, pair_of_request}
 use Rattle.nm_history.specs.RankRun.{start_of, starts_since, since_command, without_number}
 use Rattle.nm_history.specs.Underway.{is_answer}
 use Rattle.nm_history.proofs.AnswerLemmas.{line-push, line_kept}
-use Rattle.nm_history.proofs.OnceLemmas.{and_left, eqb_self}
+use Rattle.nm_history.proofs.OnceLemmas.{eqb_self}
 use Rattle.nm_history.specs.Sends.{sent_bytes}
-use Rattle.nm_sure.proofs.Fitting.{EachFits, all_split}
+use Rattle.nm_sure.proofs.Fitting.{EachFits}
 use Rattle.nm_sure.proofs.Floor.{is_sending}
 use Rattle.nm_sure.proofs.Gathered.{ReadsStarts, post_line, posts_read, receives_it}
-use Rattle.nm_sure.proofs.Lists.{kept_at, kept_from, map_place, no_some, place_behind, place_below, place_kept, place_map, same_some}
+use Rattle.nm_sure.proofs.Lists.{kept_at, kept_from, place_behind}
 use Rattle.nm_sure.proofs.Made.{post_lines, send_made}
 use Rattle.nm_sure.proofs.Named.{started_fact}
 use Rattle.nm_sure.proofs.Rising.{Rising}
 use Rattle.nm_sure.proofs.Shown.{HaveTheirLength}
 use Rattle.nm_persist_runs.specs.Questions.{is_named}
-use Rattle.nm_persist_runs.specs.Names.{Done, are_apart, end_after, end_of, is_end, is_no, is_shut, is_shut_after, is_wait_of, waits_for}
+use Rattle.nm_persist_runs.specs.Names.{Done, are_apart, end_after, end_of, is_end, is_no, is_shut, is_shut_after}
+use Rattle.nm_persist_runs.specs.Names.{is_wait_of, waits_for}
 use Rattle.nm_persist_runs.proofs.Quiet.{NamedRun, fits}
-use Rattle.nm_persist_runs.proofs.LinesRead.{IsRead, ReadsNamed, lines_of, posts_named, read_answer, read_other, read_starts, request_made}
+use Rattle.nm_persist_runs.proofs.LinesRead.{IsRead, ReadsNamed, lines_of, posts_named, read_answer, read_other}
+use Rattle.nm_persist_runs.proofs.LinesRead.{read_starts, request_made}
 use Rattle.nm_persist_runs.proofs.LinesRead.{start_at, starts_made, starts_named, starts_one, starts_read}
 use Rattle.nm_persist_runs.proofs.Taking.{Shows, Takes, taken_from}
-use Rattle.nm_persist_runs.proofs.Walk.{apart_here, filter_same, one_place, question_asked, question_dead, receive_is, rising_front}
-use Rattle.nm_persist_runs.proofs.Walk.{rising_kept, shut_from, start_is_one}
+use Rattle.nm_persist_runs.proofs.Walk.{apart_here, filter_same, one_place, question_asked, question_dead, receive_is}
+use Rattle.nm_persist_runs.proofs.Walk.{rising_front}
+use Rattle.nm_persist_runs.proofs.Walk.{shut_from, start_is_one}
+use Rattle.nm_facts.proofs.Lists.{get_map, all_split, get_before, get_from_map, place_below}
+use Rattle.nm_facts.proofs.Options.{no_some, same_some}
+use Rattle.nm_facts.proofs.Truth.{and_left}
+use Rattle.nm_sure.proofs.Rising.{rising_kept}
 
 -- the commands that ran
 abbrev pub owns : List Done → List Numbered
@@ -90,11 +99,13 @@ module _ (shape : Sizes) (cs : ℕ → List Numbered) (at : ℕ → ℕ) (hist :
   pub record State (b : List Event) (ran : List Done) : Type 0 where
     pub more : List Numbered
     pub split : cs j ≡ owns ran ++ more
-    pub reads : (f : Happened → Option ℕ) (g : Numbered → Bool) → ReadsStarts f → ReadsNamed f g → IsRead f g (owns ran) b
+    pub reads : (f : Happened → Option ℕ) (g : Numbered → Bool) → ReadsStarts f → ReadsNamed f g →
+        IsRead f g (owns ran) b
     pub names : (q l : ℕ) → line_of_name (cs j) b q ≡ Some l → IsLastStart q l (owns ran)
     pub shut : (q : ℕ) → is_shut q ran ≡ true → line_of_name (cs j) b q ≡ None
     pub results : (q i tag ctx : ℕ) → IsOneChannel q i tag ctx → (front : List Numbered) (start : Numbered) →
-        starts_for q (owns ran) ≡ front ++ start ∷ [] → line_of_name (cs j) b q ≡ None → IsEnded i tag ctx (length front) (end_of q ran)
+        starts_for q (owns ran) ≡ front ++ start ∷ [] → line_of_name (cs j) b q ≡ None →
+        IsEnded i tag ctx (length front) (end_of q ran)
 
   pub state_none : State [] []
   state_none = record {
@@ -111,7 +122,8 @@ module _ (shape : Sizes) (cs : ℕ → List Numbered) (at : ℕ → ℕ) (hist :
           let none = ap (λ (xs : List Numbered). length xs) starts in
           omega (arith, none, length-append front (start ∷ []))
 
-  pub state_other : (b : List Event) (ran : List Done) (stamp : ℕ) (what : Happened) → is_answer what ≡ false → State b ran →
+  pub state_other : (b : List Event) (ran : List Done) (stamp : ℕ) (what : Happened) → is_answer what ≡ false →
+      State b ran →
       State (b ++ record { stamp = stamp; what = what } ∷ []) ran
   state_other b ran stamp what silent state =
       let e : Event = record { stamp = stamp; what = what } in
@@ -123,7 +135,8 @@ module _ (shape : Sizes) (cs : ℕ → List Numbered) (at : ℕ → ℕ) (hist :
         reads = λ f g reads tells. read_other f g (owns ran) b e silent (state.reads f g reads tells);
         names = λ q l held. state.names q l (sym (same q) ∙ held);
         shut = λ q is. same q ∙ state.shut q is;
-        results = λ q i tag ctx one front start starts none. state.results q i tag ctx one front start starts (sym (same q) ∙ none);
+        results = λ q i tag ctx one front start starts none. state.results q i tag ctx one front start starts
+            (sym (same q) ∙ none);
       }
 
   -- a name that stands for a start has its request
@@ -134,15 +147,18 @@ module _ (shape : Sizes) (cs : ℕ → List Numbered) (at : ℕ → ℕ) (hist :
       let from = kept_from (λ (c : Numbered). is_start_of q c.command) (owns ran) (length last.front) last.start
       (ap (λ (xs : List Numbered). slice_get xs (length last.front)) last.starts ∙ last_place last.front last.start) in
       let among : slice_get (cs j) from.0 ≡ Some last.start =
-      ap (λ (xs : List Numbered). slice_get xs from.0) state.split ∙ place_kept (owns ran) state.more from.0 last.start from.1 in
+      ap (λ (xs : List Numbered). slice_get xs from.0) state.split
+      ∙ get_before (owns ran) state.more from.0 last.start from.1 in
       let own = run.named j last.start.line last.start.command (run.stand j from.0 last.start among) in
       let g : Numbered → Bool = λ (c : Numbered). starts_one c.command && c.line == l in
       let passes : g last.start ≡ true =
       both (starts_one last.start.command) (last.start.line == l) (start_is_one q last.start.command own from.2)
       (ap (λ (k : ℕ). k == l) last.line ∙ eqb_self l) in
       let n : ℕ = length (filter g (take from.0 (owns ran))) in
-      let place = place_map (λ (c : Numbered). c.line) (filter g (owns ran)) n last.start (kept_at g (owns ran) from.0 last.start from.1 passes) in
-      let whole = place_kept (lines_of g (owns ran)) (filter_map (start_at l) (since_command b)) n last.start.line place in
+      let place = get_map (λ (c : Numbered). c.line) (filter g (owns ran)) n last.start
+      (kept_at g (owns ran) from.0 last.start from.1 passes) in
+      let whole = get_before (lines_of g (owns ran)) (filter_map (start_at l) (since_command b)) n last.start.line
+      place in
       let low = place_below (filter_map (λ (e : Event). start_at l e.what) b) n last.start.line
       (ap (λ (xs : List ℕ). slice_get xs n) (state.reads (start_at l) g (starts_read l) (starts_named l)) ∙ whole) in
       request_made l b (omega (arith, low))
@@ -153,7 +169,8 @@ module _ (shape : Sizes) (cs : ℕ → List Numbered) (at : ℕ → ℕ) (hist :
       both false y first second = absurd (false≢true first)
 
   -- a name without a live request stands for no start
-  not_live : (b : List Event) (ran : List Done) → State b ran → (q : ℕ) → live (cs j) b q ≡ None → line_of_name (cs j) b q ≡ None
+  not_live : (b : List Event) (ran : List Done) → State b ran → (q : ℕ) → live (cs j) b q ≡ None →
+      line_of_name (cs j) b q ≡ None
   not_live b ran state q none = by_line (line_of_name (cs j) b q) refl
     where
       by_request : (o : Option Request) → is_some o ≡ true → o ≡ None → ⊥
@@ -167,10 +184,13 @@ module _ (shape : Sizes) (cs : ℕ → List Numbered) (at : ℕ → ℕ) (hist :
           (sym (ap (λ (o : Option ℕ). option_and_then (request_at b) o) held) ∙ none))
 
   -- one command more, with its answer
-  module _ (b : List Event) (ran : List Done) (state : State b ran) (e : Event) (rest : List Event) (c : Numbered) (a : Answer)
-      (more : List Numbered) (whole : hist j ≡ b ++ e ∷ rest) (what : e.what ≡ event.Ran c.line a) (cut : cs j ≡ owns ran ++ c ∷ more)
+  module _ (b : List Event) (ran : List Done) (state : State b ran) (e : Event) (rest : List Event) (c : Numbered)
+      (a : Answer)
+      (more : List Numbered) (whole : hist j ≡ b ++ e ∷ rest) (what : e.what ≡ event.Ran c.line a)
+      (cut : cs j ≡ owns ran ++ c ∷ more)
       (right : answer_of (cs j) b c.line c.command ≡ Some (without_bytes a))
-      (began : map without_number (starts_since b) ≡ cond (is_started a) (start_of shape.eager (cs j) b c.line c.command) []) where
+      (began : map without_number (starts_since b) ≡ cond (is_started a)
+      (start_of shape.eager (cs j) b c.line c.command) []) where
     abbrev pub d : Done
     d = record { own = c; answer = a }
 
@@ -200,10 +220,13 @@ module _ (shape : Sizes) (cs : ℕ → List Numbered) (at : ℕ → ℕ) (hist :
     free_here q starts =
         let waits : waits_for q false (map (λ (d : Done). d.own.command) ran) ≡ false =
         subst (λ (xs : List Command). waits_for q false xs ≡ false) (owned ran)
-        (apart_here q false (map (λ (c : Numbered). c.command) (owns ran)) c.command (map (λ (c : Numbered). c.command) more)
+        (apart_here q false (map (λ (c : Numbered). c.command) (owns ran)) c.command
+        (map (λ (c : Numbered). c.command) more)
         (subst (λ (xs : List Command). are_apart q false xs ≡ true)
-        (ap (λ (xs : List Numbered). map (λ (c : Numbered). c.command) xs) cut ∙ map-append (λ (c : Numbered). c.command) (owns ran) (c ∷ more)) (apart q)) starts) in
-        ap (λ (o : Option ℕ). option_and_then (request_at b) o) (state.shut q (shut_from q false true ran (λ is. refl) waits))
+        (ap (λ (xs : List Numbered). map (λ (c : Numbered). c.command) xs) cut
+        ∙ map-append (λ (c : Numbered). c.command) (owns ran) (c ∷ more)) (apart q)) starts) in
+        ap (λ (o : Option ℕ). option_and_then (request_at b) o)
+        (state.shut q (shut_from q false true ran (λ is. refl) waits))
       where
         owned : (ran : List Done) → map (λ (c : Numbered). c.command) (owns ran) ≡ map (λ (d : Done). d.own.command) ran
         owned [] = refl
@@ -215,9 +238,11 @@ module _ (shape : Sizes) (cs : ℕ → List Numbered) (at : ℕ → ℕ) (hist :
         by_command : (x : Command) → starts_one x ≡ true → answer_of (cs j) b c.line x ≡ Some (without_bytes a) →
             ((q : ℕ) → is_start_of q x ≡ true → live (cs j) b q ≡ None) → is_started a ≡ true
         by_command (command.Send q to tag ctx body sync) one right free =
-            started_fact (is_some (live (cs j) b q)) a right ∙ ap (λ (o : Option Request). not (is_some o)) (free q (eqb_self q))
+            started_fact (is_some (live (cs j) b q)) a right ∙ ap (λ (o : Option Request). not (is_some o))
+            (free q (eqb_self q))
         by_command (command.Recv q from tag ctx cap) one right free =
-            started_fact (is_some (live (cs j) b q)) a right ∙ ap (λ (o : Option Request). not (is_some o)) (free q (eqb_self q))
+            started_fact (is_some (live (cs j) b q)) a right ∙ ap (λ (o : Option Request). not (is_some o))
+            (free q (eqb_self q))
         by_command x one right free = absurd (false≢true one)
 
     start_taken : (q : ℕ) → is_start_of q c.command ≡ true → is_started a ≡ true
@@ -225,7 +250,8 @@ module _ (shape : Sizes) (cs : ℕ → List Numbered) (at : ℕ → ℕ) (hist :
 
     -- of a name that this command doesn't start
     line_else : (q : ℕ) → is_start_of q c.command ≡ false →
-        line_of_name (cs j) (b ++ e' ∷ []) q ≡ cond (is_question_of q c.command && is_result a) None (line_of_name (cs j) b q)
+        line_of_name (cs j) (b ++ e' ∷ []) q ≡ cond (is_question_of q c.command && is_result a) None
+        (line_of_name (cs j) b q)
     line_else q starts =
         line_now q ∙ ap (λ (x : Bool). cond (x && is_started a) (Some c.line)
         (cond (is_question_of q c.command && is_result a) None (line_of_name (cs j) b q))) starts
@@ -241,7 +267,8 @@ module _ (shape : Sizes) (cs : ℕ → List Numbered) (at : ℕ → ℕ) (hist :
         both true false first second = absurd (false≢true second)
         both false y first second = absurd (false≢true first)
 
-    starts_else : (q : ℕ) → is_start_of q c.command ≡ false → starts_for q (owns (ran ++ d ∷ [])) ≡ starts_for q (owns ran)
+    starts_else : (q : ℕ) → is_start_of q c.command ≡ false → starts_for q (owns (ran ++ d ∷ [])) ≡ starts_for q
+        (owns ran)
     starts_else q starts =
         starts-push q ran d ∙ ap (λ (x : Bool). starts_for q (owns ran) ++ cond x (c ∷ []) []) starts
         ∙ append-nil (starts_for q (owns ran))
@@ -254,7 +281,13 @@ module _ (shape : Sizes) (cs : ℕ → List Numbered) (at : ℕ → ℕ) (hist :
         by_question true starts held = absurd (no_some l held)
         by_question false starts held =
             let last = state.names q l held in
-            record { front = last.front; start = last.start; starts = starts_else q starts ∙ last.starts; line = last.line }
+            record {
+              front = last.front;
+              start = last.start;
+              starts = starts_else q starts ∙ last.starts;
+              line =
+                  last.line;
+            }
 
         by_start : (x : Bool) → is_start_of q c.command ≡ x → IsLastStart q l (owns (ran ++ d ∷ []))
         by_start true starts = record {
@@ -269,7 +302,8 @@ module _ (shape : Sizes) (cs : ℕ → List Numbered) (at : ℕ → ℕ) (hist :
     shut_now : (q : ℕ) → is_shut q (ran ++ d ∷ []) ≡ true → line_of_name (cs j) (b ++ e' ∷ []) q ≡ None
     shut_now q is = by_start (is_start_of q c.command) refl (sym (fold_push (is_shut_after q) true ran d) ∙ is)
       where
-        by_result : (x : Bool) → is_result a ≡ x → (is_wait_of q c.command || (is_question_of q c.command && not (is_no a))) ≡ true →
+        by_result : (x : Bool) → is_result a ≡ x →
+            (is_wait_of q c.command || (is_question_of q c.command && not (is_no a))) ≡ true →
             cond (is_question_of q c.command && x) None (line_of_name (cs j) b q) ≡ None
         by_result true result ends = ended (is_question_of q c.command) (asks_of c.command ends)
           where
@@ -277,7 +311,8 @@ module _ (shape : Sizes) (cs : ℕ → List Numbered) (at : ℕ → ℕ) (hist :
             ended true asks = refl
             ended false asks = absurd (false≢true asks)
 
-            asks_of : (x : Command) → (is_wait_of q x || (is_question_of q x && not (is_no a))) ≡ true → is_question_of q x ≡ true
+            asks_of : (x : Command) → (is_wait_of q x || (is_question_of q x && not (is_no a))) ≡ true →
+                is_question_of q x ≡ true
             asks_of (command.Wait q') ends = first (q' == q) (not (is_no a)) ends
               where
                 first : (x y : Bool) → (x || (x && y)) ≡ true → x ≡ true
@@ -289,12 +324,14 @@ module _ (shape : Sizes) (cs : ℕ → List Numbered) (at : ℕ → ℕ) (hist :
             dropped (is_question_of q c.command)
             (not_live b ran state q (question_dead (cs j) b c.line q a c.command ends result right))
           where
-            dropped : (y : Bool) → line_of_name (cs j) b q ≡ None → cond (y && false) None (line_of_name (cs j) b q) ≡ None
+            dropped : (y : Bool) → line_of_name (cs j) b q ≡ None → cond (y && false) None (line_of_name (cs j) b q)
+                ≡ None
             dropped true none = none
             dropped false none = none
 
         by_end : (x : Bool) → (is_wait_of q c.command || (is_question_of q c.command && not (is_no a))) ≡ x →
-            cond x true (is_shut q ran) ≡ true → cond (is_question_of q c.command && is_result a) None (line_of_name (cs j) b q) ≡ None
+            cond x true (is_shut q ran) ≡ true → cond (is_question_of q c.command && is_result a) None
+            (line_of_name (cs j) b q) ≡ None
         by_end true ends is = by_result (is_result a) refl ends
         by_end false ends is = kept (is_question_of q c.command && is_result a)
           where
@@ -303,7 +340,8 @@ module _ (shape : Sizes) (cs : ℕ → List Numbered) (at : ℕ → ℕ) (hist :
             kept false = state.shut q is
 
         by_start : (x : Bool) → is_start_of q c.command ≡ x →
-            cond x false (cond (is_wait_of q c.command || (is_question_of q c.command && not (is_no a))) true (is_shut q ran)) ≡ true →
+            cond x false (cond (is_wait_of q c.command || (is_question_of q c.command && not (is_no a))) true
+            (is_shut q ran)) ≡ true →
             line_of_name (cs j) (b ++ e' ∷ []) q ≡ None
         by_start true starts is = absurd (false≢true is)
         by_start false starts is = line_else q starts
@@ -317,18 +355,21 @@ module _ (shape : Sizes) (cs : ℕ → List Numbered) (at : ℕ → ℕ) (hist :
         let g : Numbered → Bool = λ (c : Numbered). receives_it i tag ctx c.command in
         let none : filter_map f (since_command b) ≡ [] =
         read_starts f (posts_read i tag ctx) (since_command b)
-        ∙ ap (λ (ws : List Happened). filter_map f ws) (began ∙ starts_made shape.eager c.line (cs j) b c.command (is_started a) own taken)
+        ∙ ap (λ (ws : List Happened). filter_map f ws) (began ∙ starts_made shape.eager c.line (cs j) b c.command
+        (is_started a) own taken)
         ∙ posts_named i tag ctx shape.eager (cs j) c own
         ∙ ap (λ (x : Bool). cond x (c.line ∷ []) []) (one (length (owns ran) + 0) c here ∙ starts) in
         state.reads f g (posts_read i tag ctx) (posts_named i tag ctx)
         ∙ ap (λ (ls : List ℕ). lines_of g (owns ran) ++ ls) none ∙ append-nil (lines_of g (owns ran))
         ∙ ap (λ (xs : List Numbered). map (λ (c : Numbered). c.line) xs)
         (filter_same g (λ c. is_start_of q c.command) (owns ran)
-        (λ k x place. one k x (ap (λ (xs : List Numbered). slice_get xs k) state.split ∙ place_kept (owns ran) state.more k x place)))
+        (λ k x place. one k x (ap (λ (xs : List Numbered). slice_get xs k) state.split
+        ∙ get_before (owns ran) state.more k x place)))
 
     -- the result that this command shows
     result_now : (q i tag ctx : ℕ) → IsOneChannel q i tag ctx → (front : List Numbered) (start : Numbered) →
-        starts_for q (owns ran) ≡ front ++ start ∷ [] → is_start_of q c.command ≡ false → is_question_of q c.command ≡ true →
+        starts_for q (owns ran) ≡ front ++ start ∷ [] → is_start_of q c.command ≡ false →
+        is_question_of q c.command ≡ true →
         is_result a ≡ true → Takes shape cs at hist run lengths i j tag ctx (length front) a
     result_now q i tag ctx one front start starts none asks some =
         let asked = question_asked (cs j) b c.line q a c.command asks some right in
@@ -346,7 +387,8 @@ module _ (shape : Sizes) (cs : ℕ → List Numbered) (at : ℕ → ℕ) (hist :
             last = state.names q l held
 
             place : slice_get (starts_for q (owns ran)) (length last.front) ≡ Some last.start
-            place = ap (λ (xs : List Numbered). slice_get xs (length last.front)) last.starts ∙ last_place last.front last.start
+            place = ap (λ (xs : List Numbered). slice_get xs (length last.front)) last.starts
+                ∙ last_place last.front last.start
 
             same_len : length last.front ≡ length front
             same_len =
@@ -354,38 +396,46 @@ module _ (shape : Sizes) (cs : ℕ → List Numbered) (at : ℕ → ℕ) (hist :
                 omega (arith, both, length-append last.front (last.start ∷ []), length-append front (start ∷ []))
 
             fit : EachFits shape.eager (cs j) b
-            fit = (all_split _ b (e ∷ rest) (subst (λ (h : List Event). EachFits shape.eager (cs j) h) whole (fits shape cs at hist run j inside))).0
+            fit = (all_split _ b (e ∷ rest) (subst (λ (h : List Event). EachFits shape.eager (cs j) h) whole
+                (fits shape cs at hist run j inside))).0
 
             from : (n : ℕ) × (slice_get (owns ran) n ≡ Some last.start) × (is_start_of q last.start.command ≡ true)
                 × (length last.front ≡ length (filter (λ (c : Numbered). is_start_of q c.command) (take n (owns ran))))
             from = kept_from (λ (c : Numbered). is_start_of q c.command) (owns ran) (length last.front) last.start place
 
             among : slice_get (cs j) from.0 ≡ Some last.start
-            among = ap (λ (xs : List Numbered). slice_get xs from.0) state.split ∙ place_kept (owns ran) state.more from.0 last.start from.1
+            among = ap (λ (xs : List Numbered). slice_get xs from.0) state.split
+                ∙ get_before (owns ran) state.more from.0 last.start from.1
 
             stands : command_at (cs j) l ≡ Some last.start.command
             stands = ap (λ (k : ℕ). command_at (cs j) k) (sym last.line) ∙ run.stand j from.0 last.start among
 
             by_request : (r : Request) → request_at b l ≡ Some r → result_of b r ≡ Some (without_bytes a) →
-                asked_pair (cs j) b c.command ≡ pair_of_request b r → Takes shape cs at hist run lengths i j tag ctx (length front) a
+                asked_pair (cs j) b c.command ≡ pair_of_request b r → Takes shape cs at hist run lengths i j tag ctx
+                (length front) a
             by_request (Sending to n) made result pair =
-                let posts = receive_is i tag ctx last.start.command (run.named j l last.start.command stands) (one from.0 last.start among ∙ from.2) in
+                let posts = receive_is i tag ctx last.start.command (run.named j l last.start.command stands)
+                (one from.0 last.start among ∙ from.2) in
                 let calls = (send_made shape.eager (cs j) b l to n fit made).fits in
                 let same : calls.command ≡ command.Recv posts.name (peer.One i) (pick.One tag) ctx posts.cap =
                 same_some calls.command last.start.command (sym calls.at_line ∙ stands) ∙ posts.is in
                 absurd (false≢true (sym (ap (λ (x : Command). is_sending (start_of shape.eager (cs j) [] l x)) same)
                 ∙ ap (λ (ws : List Happened). is_sending ws) calls.start))
             by_request (Receiving number) made result pair =
-                let posts = receive_is i tag ctx last.start.command (run.named j l last.start.command stands) (one from.0 last.start among ∙ from.2) in
-                let found = taken_from shape cs at hist run lengths j b e rest c.line l number a posts.name i tag ctx posts.cap inside whole what
+                let posts = receive_is i tag ctx last.start.command (run.named j l last.start.command stands)
+                (one from.0 last.start among ∙ from.2) in
+                let found = taken_from shape cs at hist run lengths j b e rest c.line l number a posts.name i tag ctx
+                posts.cap inside whole what
                 (ap (λ (o : Option Command). option_and_then (asked_pair (cs j) b) o) at_line ∙ pair) made
                 (stands ∙ ap (λ (x : Command). Some x) posts.is) result in
-                let spot = map_place (λ (c : Numbered). c.line) (starts_for q (owns ran)) found.0 l
+                let spot = get_from_map (λ (c : Numbered). c.line) (starts_for q (owns ran)) found.0 l
                 (ap (λ (ls : List ℕ). slice_get ls found.0) (sym (posted_lines q i tag ctx one none)) ∙ found.1) in
                 let rises = rising_kept (λ (c : Numbered). is_start_of q c.command) 2 (owns ran)
-                (rising_front 2 (owns ran) state.more (subst (λ (xs : List Numbered). Rising 2 xs) state.split rising)) in
+                (rising_front 2 (owns ran) state.more
+                (subst (λ (xs : List Numbered). Rising 2 xs) state.split rising)) in
                 subst (λ (x : ℕ). Takes shape cs at hist run lengths i j tag ctx x a)
-                (one_place 2 found.0 (length last.front) (starts_for q (owns ran)) spot.0 last.start rises spot.1 place (spot.2 ∙ sym last.line) ∙ same_len)
+                (one_place 2 found.0 (length last.front) (starts_for q (owns ran)) spot.0 last.start rises spot.1
+                place (spot.2 ∙ sym last.line) ∙ same_len)
                 found.2
 
     end_now : (q : ℕ) → (is_question_of q c.command && is_end a) ≡ true → end_of q (ran ++ d ∷ []) ≡ Some a
@@ -399,7 +449,8 @@ module _ (shape : Sizes) (cs : ℕ → List Numbered) (at : ℕ → ℕ) (hist :
         IsEnded i tag ctx (length front) (end_of q (ran ++ d ∷ []))
     results_now q i tag ctx one front start starts none = by_start (is_start_of q c.command) refl
       where
-        by_question : (x : Bool) → is_question_of q c.command ≡ x → (y : Bool) → is_result a ≡ y → is_start_of q c.command ≡ false →
+        by_question : (x : Bool) → is_question_of q c.command ≡ x → (y : Bool) → is_result a ≡ y →
+            is_start_of q c.command ≡ false →
             IsEnded i tag ctx (length front) (end_of q (ran ++ d ∷ []))
         by_question true asks true some silent =
             let takes = result_now q i tag ctx one front start (sym (starts_else q silent) ∙ starts) silent asks some in
@@ -422,19 +473,23 @@ module _ (shape : Sizes) (cs : ℕ → List Numbered) (at : ℕ → ℕ) (hist :
             no_end a dead = refl
         by_question false asks y some silent =
             let ended = state.results q i tag ctx one front start (sym (starts_else q silent) ∙ starts)
-            (sym (line_else q silent ∙ ap (λ (x : Bool). cond (x && is_result a) None (line_of_name (cs j) b q)) asks) ∙ none) in
+            (sym (line_else q silent ∙ ap (λ (x : Bool). cond (x && is_result a) None (line_of_name (cs j) b q)) asks)
+            ∙ none) in
             record { result = ended.result; is = end_else q (rw asks refl) ∙ ended.is; takes = ended.takes }
 
-        by_start : (x : Bool) → is_start_of q c.command ≡ x → IsEnded i tag ctx (length front) (end_of q (ran ++ d ∷ []))
+        by_start : (x : Bool) → is_start_of q c.command ≡ x → IsEnded i tag ctx (length front)
+            (end_of q (ran ++ d ∷ []))
         by_start true begins = absurd (no_some c.line (sym none ∙ line_started q begins))
         by_start false begins = by_question (is_question_of q c.command) refl (is_result a) refl begins
 
     pub state_answer : State (b ++ e' ∷ []) (ran ++ d ∷ [])
     state_answer = record {
       more = more;
-      split = cut ∙ sym (append_assoc (owns ran) (c ∷ []) more) ∙ ap (λ (xs : List Numbered). xs ++ more) (sym (owns-push ran d));
+      split = cut ∙ sym (append_assoc (owns ran) (c ∷ []) more) ∙ ap (λ (xs : List Numbered). xs ++ more)
+          (sym (owns-push ran d));
       reads = λ f g reads tells. subst (λ (xs : List Numbered). IsRead f g xs (b ++ e' ∷ [])) (sym (owns-push ran d))
-          (read_answer f g reads tells shape.eager (cs j) (owns ran) b e.stamp c a own taken began (state.reads f g reads tells));
+          (read_answer f g reads tells shape.eager (cs j) (owns ran) b e.stamp c a own taken began
+          (state.reads f g reads tells));
       names = names_now;
       shut = shut_now;
       results = results_now;

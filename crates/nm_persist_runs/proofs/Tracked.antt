@@ -9,10 +9,10 @@ use Rattle.std.proofs.lemmas.Bool.Decides.{nat_tests}
 use Rattle.std.proofs.lemmas.List.Elements.{filter-append}
 use Rattle.nm_types.specs.declared.scripts.Command.{Command}
 use Rattle.nm_types.specs.declared.scripts.Line.{Line}
-use Rattle.nm_history.proofs.OnceLemmas.{and_left, and_right, same_of}
 use Rattle.nm_plans.specs.declared.faults.PlanKind.TheVariants as kind
 use Rattle.nm_plans.specs.declared.lines.PlanCommand.{PlanCommand}
-use Rattle.nm_plans.specs.declared.lines.PlanCommand.TheVariants.{SendInit, RecvInit, PsendInit, PrecvInit, Fill, Start, Ready, Arrived, Wait}
+use Rattle.nm_plans.specs.declared.lines.PlanCommand.TheVariants.{SendInit, RecvInit, PsendInit, PrecvInit, Fill}
+use Rattle.nm_plans.specs.declared.lines.PlanCommand.TheVariants.{Start, Ready, Arrived, Wait}
 use Rattle.nm_plans.specs.declared.lines.PlanLine.{PlanLine}
 use Rattle.nm_plans.specs.Grammar.{is_in_range, request_in}
 use Rattle.nm_plan_requests.specs.declared.ends.End.{End}
@@ -24,36 +24,44 @@ use Rattle.nm_plan_requests.specs.Requests.{IsSmall, is_about, owner_of, part_co
 use Rattle.nm_plan_requests.specs.States.{allows}
 use Rattle.nm_plan_requests.proofs.RequestLemmas.{expand-more, request_at-more}
 use Rattle.nm_persist.specs.Table.{are_sound, fault_in, has_other_parts, is_out_of_order, is_past, is_taken}
-use Rattle.nm_persist.proofs.RangeLemmas.{requests_small}
+use Rattle.nm_persist.proofs.ReadyLemmas.{requests_small}
 use Rattle.nm_persist_runs.specs.Names.{are_apart}
 use Rattle.nm_persist_runs.specs.Starts.{is_start, starts_behind, starts_it, starts_of}
 use Rattle.nm_persist_runs.proofs.Items.{is_of, items_are, part_in}
 use Rattle.nm_persist_runs.proofs.Owned.{own-append, own_block, own_commands}
 use Rattle.nm_persist_runs.proofs.Tracking.{FollowsFrom, InOrder, any_step, item_of}
+use Rattle.nm_facts.proofs.Numbers.{same_number}
+use Rattle.nm_facts.proofs.Truth.{and_left, and_right}
 
 -- the starts of a request in lines and one more
 starts_behind-more : (owner : Owner) (before lines : List PlanLine) (line : PlanLine) →
     starts_behind owner before (lines ++ line ∷ [])
-    ≡ starts_behind owner before lines ++ cond (starts_it owner line) (option_to_list (request_at (before ++ lines) owner)) []
+    ≡ starts_behind owner before lines ++ cond (starts_it owner line)
+    (option_to_list (request_at (before ++ lines) owner)) []
 starts_behind-more owner before [] line =
     append-nil (cond (starts_it owner line) (option_to_list (request_at before owner)) [])
-    ∙ ap (λ (bs : List PlanLine). cond (starts_it owner line) (option_to_list (request_at bs owner)) []) (sym (append-nil before))
+    ∙ ap (λ (bs : List PlanLine). cond (starts_it owner line) (option_to_list (request_at bs owner)) [])
+    (sym (append-nil before))
 starts_behind-more owner before (x ∷ lines) line =
     let here = cond (starts_it owner x) (option_to_list (request_at before owner)) [] in
     let others = starts_behind owner (before ++ x ∷ []) lines in
     ap (λ (rs : List Request). here ++ rs) (starts_behind-more owner (before ++ x ∷ []) lines line)
-    ∙ sym (append_assoc here others (cond (starts_it owner line) (option_to_list (request_at ((before ++ x ∷ []) ++ lines) owner)) []))
-    ∙ ap (λ (bs : List PlanLine). (here ++ others) ++ cond (starts_it owner line) (option_to_list (request_at bs owner)) [])
+    ∙ sym (append_assoc here others
+    (cond (starts_it owner line) (option_to_list (request_at ((before ++ x ∷ []) ++ lines) owner)) []))
+    ∙ ap (λ (bs : List PlanLine). (here ++ others) ++ cond (starts_it owner line)
+    (option_to_list (request_at bs owner)) [])
     (append_assoc before (x ∷ []) lines)
 
 pub starts_of-more : (lines : List PlanLine) (line : PlanLine) (owner : Owner) →
-    starts_of (lines ++ line ∷ []) owner ≡ starts_of lines owner ++ cond (starts_it owner line) (option_to_list (request_at lines owner)) []
+    starts_of (lines ++ line ∷ []) owner ≡ starts_of lines owner ++ cond (starts_it owner line)
+    (option_to_list (request_at lines owner)) []
 starts_of-more lines line owner = starts_behind-more owner [] lines line
 
 -- the commands of a rank that lines and one more stand for
 pub own-more : (rank : ℕ) (lines : List PlanLine) (line : PlanLine) →
     own_commands rank (expand (lines ++ line ∷ []))
-    ≡ own_commands rank (expand lines) ++ cond (line.rank == rank) (commands_of line.command (request_at lines (owner_of line))) []
+    ≡ own_commands rank (expand lines) ++ cond (line.rank == rank)
+    (commands_of line.command (request_at lines (owner_of line))) []
 own-more rank lines line =
     ap (λ (ls : List Line). own_commands rank ls) (expand-more lines line)
     ∙ own-append rank (expand lines) (lines_for line (request_at lines (owner_of line)))
@@ -71,15 +79,19 @@ pub record IsFine (ranks : ℕ) (before : List PlanLine) (line : PlanLine) : Typ
 lt_true : (a b : ℕ) → nat_lt a b ≡ true → a < b
 lt_true a b is = grind (arith, nat_tests)
 
-all-push : (test : PlanLine → Bool) (xs : List PlanLine) (x : PlanLine) → list_all test xs ≡ true → test x ≡ true → list_all test (xs ++ x ∷ []) ≡ true
+all-push : (test : PlanLine → Bool) (xs : List PlanLine) (x : PlanLine) → list_all test xs ≡ true → test x ≡ true →
+    list_all test (xs ++ x ∷ []) ≡ true
 all-push test [] x all one = ap (λ (b : Bool). b && true) one
 all-push test (y ∷ xs) x all one =
     ap (λ (b : Bool). b && list_all test (xs ++ x ∷ [])) (and_left (test y) (list_all test xs) all)
     ∙ all-push test xs x (and_right (test y) (list_all test xs) all) one
 
-pub each_line : (ranks : ℕ) (P : List PlanLine → Type 0) → ((before : List PlanLine) (line : PlanLine) → IsFine ranks before line → P before → P (before ++ line ∷ [])) →
-    (before lines : List PlanLine) → list_all (λ line. nat_lt line.rank ranks && is_in_range ranks line.command) before ≡ true →
-    list_all (λ line. nat_lt line.rank ranks && is_in_range ranks line.command) lines ≡ true → are_sound ranks before lines ≡ true →
+pub each_line : (ranks : ℕ) (P : List PlanLine → Type 0) →
+    ((before : List PlanLine) (line : PlanLine) → IsFine ranks before line → P before → P (before ++ line ∷ [])) →
+    (before lines : List PlanLine) → list_all (λ line. nat_lt line.rank ranks && is_in_range ranks line.command)
+    before ≡ true →
+    list_all (λ line. nat_lt line.rank ranks && is_in_range ranks line.command) lines ≡ true →
+    are_sound ranks before lines ≡ true →
     P before → P (before ++ lines)
 each_line ranks P step before [] front range sound holds = subst P (sym (append-nil before)) holds
 each_line ranks P step before (line ∷ lines) front range sound holds =
@@ -101,7 +113,8 @@ each_line ranks P step before (line ∷ lines) front range sound holds =
     none_of (Some x) is = absurd (false≢true is)
 
 -- a fine line is in order
-not_taken : (a b c d : Bool) → cond a (Some kind.Taken) (cond b (Some kind.Parts) (cond c (Some kind.Order) (cond d (Some kind.Size) None))) ≡ None →
+not_taken : (a b c d : Bool) → cond a (Some kind.Taken)
+    (cond b (Some kind.Parts) (cond c (Some kind.Order) (cond d (Some kind.Size) None))) ≡ None →
     (a ≡ false) × (b ≡ false) × (c ≡ false)
 not_taken true b c d none = absurd (grind (arith, none))
 not_taken false true c d none = absurd (grind (arith, none))
@@ -111,11 +124,8 @@ not_taken false false false d none = (refl, refl, refl)
 pub faultless : (ranks : ℕ) (before : List PlanLine) (line : PlanLine) → IsFine ranks before line →
     (is_taken before line ≡ false) × (has_other_parts before line ≡ false) × (is_out_of_order before line ≡ false)
 faultless ranks before line fine =
-    not_taken (is_taken before line) (has_other_parts before line) (is_out_of_order before line) (is_past ranks before line) fine.sound
-
-no_either : (a b : Bool) → (a || b) ≡ false → a ≡ false
-no_either true b is = is
-no_either false b is = refl
+    not_taken (is_taken before line) (has_other_parts before line) (is_out_of_order before line)
+    (is_past ranks before line) fine.sound
 
 unnot : (b : Bool) → not b ≡ false → b ≡ true
 unnot true is = refl
@@ -147,11 +157,13 @@ pub in_order : (ranks : ℕ) (before : List PlanLine) (line : PlanLine) → IsFi
     InOrder line.command (request_at before (owner_of line))
 in_order ranks before line fine =
     let none = faultless ranks before line fine in
-    in_order_by line.rank line.command (request_at before (owner_of line)) (λ e. is_some (parts_at before e)) none.0 none.2
+    in_order_by line.rank line.command (request_at before (owner_of line)) (λ e. is_some (parts_at before e)) none.0
+    none.2
 
 pub few_parts : (ranks : ℕ) (before : List PlanLine) (line : PlanLine) (owner : Owner) → IsFine ranks before line →
     IfSome (request_at before owner) (λ r. part_count r ≤ 16)
-few_parts ranks before line owner fine = by_request (request_at before owner) (requests_small ranks before owner fine.before_in_range)
+few_parts ranks before line owner fine = by_request (request_at before owner)
+    (requests_small ranks before owner fine.before_in_range)
   where
     by_request : (o : Option Request) → IfSome o IsSmall → IfSome o (λ r. part_count r ≤ 16)
     by_request None small = tt
@@ -170,14 +182,17 @@ part_low ranks c range = omega arith
 -- the owner of a line about a request
 pub owner_is : (owner : Owner) (line : PlanLine) → is_about owner line ≡ true → owner_of line ≡ owner
 owner_is owner line about =
-    ap (λ (rank : ℕ). record { rank = rank; p = request_in line.command }) (same_of line.rank owner.rank (and_left _ _ about))
-    ∙ ap (λ (p : ℕ). record { rank = owner.rank; p = p }) (same_of (request_in line.command) owner.p (and_right _ _ about))
+    ap (λ (rank : ℕ). record { rank = rank; p = request_in line.command })
+    (same_number line.rank owner.rank (and_left _ _ about))
+    ∙ ap (λ (p : ℕ). record { rank = owner.rank; p = p })
+    (same_number (request_in line.command) owner.p (and_right _ _ about))
 
 -- the commands about part k of a request
 abbrev pub named : Owner → ℕ → List PlanLine → List Command
 named owner k lines = filter (is_of (name_of owner.p k)) (own_commands owner.rank (expand lines))
 
-pub named-more : (ranks : ℕ) (owner : Owner) (k : ℕ) (before : List PlanLine) (line : PlanLine) → k < 16 → IsFine ranks before line →
+pub named-more : (ranks : ℕ) (owner : Owner) (k : ℕ) (before : List PlanLine) (line : PlanLine) → k < 16 →
+    IsFine ranks before line →
     named owner k (before ++ line ∷ [])
     ≡ named owner k before ++ cond (is_about owner line) (item_of owner.p k line.command (request_at before owner)) []
 named-more ranks owner k before line low fine =
@@ -221,7 +236,8 @@ tracks_none : (owner : Owner) (k : ℕ) → Tracks owner k []
 unfolding request_at expand
 tracks_none owner k = record { apart = refl; follows = (refl, refl, refl) }
 
-tracks_more : (ranks : ℕ) (owner : Owner) (k : ℕ) → k < 16 → (before : List PlanLine) (line : PlanLine) → IsFine ranks before line →
+tracks_more : (ranks : ℕ) (owner : Owner) (k : ℕ) → k < 16 → (before : List PlanLine) (line : PlanLine) →
+    IsFine ranks before line →
     Tracks owner k before → Tracks owner k (before ++ line ∷ [])
 tracks_more ranks owner k low before line fine tracks = by_about (is_about owner line) refl
   where
@@ -235,8 +251,10 @@ tracks_more ranks owner k low before line fine tracks = by_about (is_about owner
         let request : request_at (before ++ line ∷ []) owner ≡ request_after line.command o =
         request_at-more before line owner ∙ ap (λ (b : Bool). cond b (request_after line.command o) o) about in
         let names : named owner k (before ++ line ∷ []) ≡ named owner k before ++ item_of owner.p k line.command o =
-        named-more ranks owner k before line low fine ∙ ap (λ (b : Bool). named owner k before ++ cond b (item_of owner.p k line.command o) []) about in
-        let starts : starts_of (before ++ line ∷ []) owner ≡ starts_of before owner ++ cond (is_start line.command) (option_to_list o) [] =
+        named-more ranks owner k before line low fine
+        ∙ ap (λ (b : Bool). named owner k before ++ cond b (item_of owner.p k line.command o) []) about in
+        let starts : starts_of (before ++ line ∷ []) owner ≡ starts_of before owner ++ cond (is_start line.command)
+        (option_to_list o) [] =
         starts_of-more before line owner
         ∙ ap (λ (b : Bool). starts_of before owner ++ cond (b && is_start line.command) (option_to_list o) []) about in
         record {
@@ -244,7 +262,8 @@ tracks_more ranks owner k low before line fine tracks = by_about (is_about owner
           follows = moved owner.p k _ _ _ _ _ _ (sym request) (sym names) (sym starts) next.1;
         }
       where
-        moved : (p k : ℕ) (o o' : Option Request) (N N' : List Command) (S S' : List Request) → o ≡ o' → N ≡ N' → S ≡ S' →
+        moved : (p k : ℕ) (o o' : Option Request) (N N' : List Command) (S S' : List Request) → o ≡ o' → N ≡ N' →
+            S ≡ S' →
             FollowsFrom p k o N S → FollowsFrom p k o' N' S'
         moved p k o o' N N' S S' first second third follows =
             subst (λ (o : Option Request). FollowsFrom p k o N' S') first
@@ -255,7 +274,8 @@ tracks_more ranks owner k low before line fine tracks = by_about (is_about owner
         let request : request_at (before ++ line ∷ []) owner ≡ o =
         request_at-more before line owner ∙ ap (λ (b : Bool). cond b (request_after line.command o) o) about in
         let names : named owner k (before ++ line ∷ []) ≡ named owner k before =
-        named-more ranks owner k before line low fine ∙ ap (λ (b : Bool). named owner k before ++ cond b (item_of owner.p k line.command o) []) about
+        named-more ranks owner k before line low fine
+        ∙ ap (λ (b : Bool). named owner k before ++ cond b (item_of owner.p k line.command o) []) about
         ∙ append-nil (named owner k before) in
         let starts : starts_of (before ++ line ∷ []) owner ≡ starts_of before owner =
         starts_of-more before line owner
@@ -263,9 +283,12 @@ tracks_more ranks owner k low before line fine tracks = by_about (is_about owner
         ∙ append-nil (starts_of before owner) in
         record {
           apart = ap (λ (cs : List Command). are_apart (name_of owner.p k) false cs) names ∙ tracks.apart;
-          follows = subst (λ (o : Option Request). FollowsFrom owner.p k o (named owner k (before ++ line ∷ [])) (starts_of (before ++ line ∷ []) owner)) (sym request)
-              (subst (λ (N : List Command). FollowsFrom owner.p k o N (starts_of (before ++ line ∷ []) owner)) (sym names)
-              (subst (λ (S : List Request). FollowsFrom owner.p k o (named owner k before) S) (sym starts) tracks.follows));
+          follows = subst (λ (o : Option Request). FollowsFrom owner.p k o (named owner k (before ++ line ∷ []))
+              (starts_of (before ++ line ∷ []) owner)) (sym request)
+              (subst (λ (N : List Command). FollowsFrom owner.p k o N (starts_of (before ++ line ∷ []) owner))
+              (sym names)
+              (subst (λ (S : List Request). FollowsFrom owner.p k o (named owner k before) S)
+              (sym starts) tracks.follows));
         }
 
 -- sound lines in range
@@ -273,6 +296,8 @@ pub record AreFine (ranks : ℕ) (lines : List PlanLine) : Type 0 where
   pub range : list_all (λ line. nat_lt line.rank ranks && is_in_range ranks line.command) lines ≡ true
   pub sound : are_sound ranks [] lines ≡ true
 
-pub tracked : (ranks : ℕ) (lines : List PlanLine) → AreFine ranks lines → (owner : Owner) (k : ℕ) → k < 16 → Tracks owner k lines
+pub tracked : (ranks : ℕ) (lines : List PlanLine) → AreFine ranks lines → (owner : Owner) (k : ℕ) → k < 16 →
+    Tracks owner k lines
 tracked ranks lines fine owner k low =
-    each_line ranks (λ lines. Tracks owner k lines) (tracks_more ranks owner k low) [] lines refl fine.range fine.sound (tracks_none owner k)
+    each_line ranks (λ lines. Tracks owner k lines) (tracks_more ranks owner k low) [] lines refl fine.range
+    fine.sound (tracks_none owner k)

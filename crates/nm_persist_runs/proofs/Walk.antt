@@ -1,7 +1,8 @@
 -- What is known of a rank's names and receives, behind each command that ran.
-use Rattle.std.proofs.Common.{◌≡◌, ℕ, ◌+◌, ◌≤◌, ◌==◌, Bool, true, false, not, ◌&&◌, ◌||◌, cond, zero, suc, Option, Some, None}
+use Rattle.std.proofs.Common.{◌≡◌, ℕ, ◌+◌, ◌≤◌, ◌==◌, Bool, true, false, not, ◌&&◌, ◌||◌, cond, zero, suc, Option}
+use Rattle.std.proofs.Common.{Some, None}
 use Rattle.std.proofs.Common.{List, [], ◌∷◌, ◌++◌, map, refl, sym, ◌∙◌, ap, subst, arith}
-use Rattle.std.specs.Prelude.{replicate, nat_lt, unwrap_or}
+use Rattle.std.specs.Prelude.{unwrap_or}
 use Rattle.std.specs.List.{filter, fold, slice_get}
 use Rattle.std.specs.Option.{option_and_then, option_map_or}
 use Rattle.std.proofs.lemmas.Bool.{false≢true}
@@ -13,63 +14,28 @@ use Rattle.nm_types.specs.declared.scripts.Command.{Command}
 use Rattle.nm_types.specs.declared.scripts.Command.TheVariants as command
 use Rattle.nm_types.specs.Commands.{Numbered}
 use Rattle.nm_history.specs.declared.events.Event.{Event}
-use Rattle.nm_history.specs.declared.plain.Pair.{Pair}
 use Rattle.nm_history.specs.Answers.{answer_of, is_question_of, is_result, is_start_of, live, without_bytes}
-use Rattle.nm_history.specs.Completion.{Request, is_complete, is_here, pair_of_receive, result_of, shown}
-use Rattle.nm_history.specs.Completion.Request.{Sending, Receiving}
+use Rattle.nm_history.specs.Completion.{Request, result_of}
 use Rattle.nm_history.specs.Delivery.{asked_pair, pair_of_request}
-use Rattle.nm_history.specs.Happens.{happened, is_cancel, is_undone}
-use Rattle.nm_history.proofs.OnceLemmas.{and_left, and_right, same_of}
 use Rattle.nm_sure.proofs.Gathered.{receives_it}
-use Rattle.nm_sure.proofs.Lists.{no_some, same_some}
 use Rattle.nm_sure.proofs.Rising.{Rising}
 use Rattle.nm_persist_runs.specs.Questions.{is_named}
 use Rattle.nm_persist_runs.specs.Names.{Done, are_apart, is_no, is_shut_after, is_wait_of, waits_after, waits_for}
 use Rattle.nm_persist_runs.proofs.LinesRead.{starts_one}
+use Rattle.nm_facts.proofs.Numbers.{same_number}
+use Rattle.nm_facts.proofs.Options.{no_some, same_some}
+use Rattle.nm_facts.proofs.Truth.{and_left, and_right}
+use Rattle.nm_sure.proofs.Rising.{rising_at}
+use Rattle.nm_history.proofs.ResultLemmas.{result_is_result, bytes_no_matter}
 
 -- answers
-
-bytes_no_matter : (a : Answer) → is_result (without_bytes a) ≡ is_result a
-bytes_no_matter (answer.Got from tag body) = refl
-bytes_no_matter a = refl
 
 bytes_no_no : (a : Answer) → is_no (without_bytes a) ≡ is_no a
 bytes_no_no (answer.Got from tag body) = refl
 bytes_no_no a = refl
 
-shown_is_result : (pair : Pair) (b : Bool) → is_result (cond b (answer.Cut pair.arrival.env.from pair.arrival.env.tag pair.arrival.env.len)
-    (answer.Got pair.arrival.env.from pair.arrival.env.tag (replicate pair.arrival.env.len 0))) ≡ true
-shown_is_result pair true = refl
-shown_is_result pair false = refl
-
-here_is_result : (h : List Event) (o : Option Pair) (a : Answer) →
-    option_and_then (λ pair. cond (is_here h pair) (Some (shown pair)) None) o ≡ Some a → is_result a ≡ true
-here_is_result h None a found = absurd (grind arith)
-here_is_result h (Some pair) a found = at_pair (is_here h pair) found
-  where
-    at_pair : (b : Bool) → cond b (Some (shown pair)) None ≡ Some a → is_result a ≡ true
-    at_pair true same = let is : shown pair ≡ a = cc in subst (λ (a : Answer). is_result a ≡ true) is
-        (shown_is_result pair (nat_lt pair.cap pair.arrival.env.len))
-    at_pair false same = absurd (grind arith)
-
-choose_result : (b : Bool) (o : Option Answer) (a : Answer) → (o ≡ Some a → is_result a ≡ true) →
-    cond b (Some answer.Cancelled) o ≡ Some a → is_result a ≡ true
-choose_result true o a other same = let is : answer.Cancelled ≡ a = cc in subst (λ (a : Answer). is_result a ≡ true) is refl
-choose_result false o a other same = other same
-
-sent_is_result : (complete undone : Bool) (a : Answer) →
-    cond complete (Some (cond undone answer.Cancelled answer.Sent)) None ≡ Some a → is_result a ≡ true
-sent_is_result true true a same = let is : answer.Cancelled ≡ a = cc in subst (λ (a : Answer). is_result a ≡ true) is refl
-sent_is_result true false a same = let is : answer.Sent ≡ a = cc in subst (λ (a : Answer). is_result a ≡ true) is refl
-sent_is_result false undone a same = absurd (grind arith)
-
-result_is_result : (h : List Event) (r : Request) (a : Answer) → result_of h r ≡ Some a → is_result a ≡ true
-result_is_result h (Receiving number) a same =
-    choose_result (happened (is_cancel number) h) _ a (here_is_result h (pair_of_receive h number) a) same
-result_is_result h (Sending to n) a same =
-    sent_is_result (is_complete h (Sending to n)) (happened (is_undone to n true) h) a same
-
-result_of_bytes : (h : List Event) (r : Request) (a : Answer) → result_of h r ≡ Some (without_bytes a) → is_result a ≡ true
+result_of_bytes : (h : List Event) (r : Request) (a : Answer) → result_of h r ≡ Some (without_bytes a) →
+    is_result a ≡ true
 result_of_bytes h r a same = sym (bytes_no_matter a) ∙ result_is_result h r (without_bytes a) same
 
 -- a question with a result is of a live request, and shows its result
@@ -88,10 +54,17 @@ module _ (commands : List Numbered) (b : List Event) (l q : ℕ) (a : Answer) wh
   wait_asked None alive some right =
       absurd (no_result answer.Null a refl some (same_some answer.Null (without_bytes a) right))
   wait_asked (Some r) alive some right =
-      record { request = r; alive = alive; result = right; pair = ap (λ (o : Option Request). option_and_then (pair_of_request b) o) alive }
+      record {
+        request = r;
+        alive = alive;
+        result = right;
+        pair =
+            ap (λ (o : Option Request). option_and_then (pair_of_request b) o) alive;
+      }
 
   test_asked : (o : Option Request) → live commands b q ≡ o → is_result a ≡ true →
-      Some (option_map_or (λ request. unwrap_or (result_of b request) answer.No) o answer.Null) ≡ Some (without_bytes a) →
+      Some (option_map_or (λ request. unwrap_or (result_of b request) answer.No) o answer.Null) ≡ Some
+      (without_bytes a) →
       Asked commands b q (command.Test q) a
   test_asked None alive some right =
       absurd (no_result answer.Null a refl some (same_some answer.Null (without_bytes a) right))
@@ -101,46 +74,60 @@ module _ (commands : List Numbered) (b : List Event) (l q : ℕ) (a : Answer) wh
           Asked commands b q (command.Test q) a
       by_result None is right = absurd (no_result answer.No a refl some (same_some answer.No (without_bytes a) right))
       by_result (Some x) is right =
-          record { request = r; alive = alive; result = is ∙ right; pair = ap (λ (o : Option Request). option_and_then (pair_of_request b) o) alive }
+          record {
+            request = r;
+            alive = alive;
+            result = is
+                ∙ right;
+            pair = ap (λ (o : Option Request). option_and_then (pair_of_request b) o) alive;
+          }
 
   pub question_asked : (c : Command) → is_question_of q c ≡ true → is_result a ≡ true →
       answer_of commands b l c ≡ Some (without_bytes a) → Asked commands b q c a
   question_asked (command.Wait q') asks some right =
-      let same : q' ≡ q = same_of q' q asks in
+      let same : q' ≡ q = same_number q' q asks in
       subst (λ (k : ℕ). Asked commands b q (command.Wait k) a) (sym same)
-      (wait_asked (live commands b q) refl some (subst (λ (k : ℕ). answer_of commands b l (command.Wait k) ≡ Some (without_bytes a)) same right))
+      (wait_asked (live commands b q) refl some
+      (subst (λ (k : ℕ). answer_of commands b l (command.Wait k) ≡ Some (without_bytes a)) same right))
   question_asked (command.Test q') asks some right =
-      let same : q' ≡ q = same_of q' q asks in
+      let same : q' ≡ q = same_number q' q asks in
       subst (λ (k : ℕ). Asked commands b q (command.Test k) a) (sym same)
-      (test_asked (live commands b q) refl some (subst (λ (k : ℕ). answer_of commands b l (command.Test k) ≡ Some (without_bytes a)) same right))
+      (test_asked (live commands b q) refl some
+      (subst (λ (k : ℕ). answer_of commands b l (command.Test k) ≡ Some (without_bytes a)) same right))
   question_asked c asks some right = absurd (false≢true asks)
 
   -- a question without a result that isn't told to wait is of no live request
-  wait_dead : (o : Option Request) → is_result a ≡ false → option_map_or (result_of b) o (Some answer.Null) ≡ Some (without_bytes a) → o ≡ None
+  wait_dead : (o : Option Request) → is_result a ≡ false → option_map_or (result_of b) o (Some answer.Null) ≡ Some
+      (without_bytes a) → o ≡ None
   wait_dead None none right = refl
   wait_dead (Some r) none right = absurd (false≢true (sym none ∙ result_of_bytes b r a right))
 
   test_dead : (o : Option Request) → is_result a ≡ false → is_no a ≡ false →
-      Some (option_map_or (λ request. unwrap_or (result_of b request) answer.No) o answer.Null) ≡ Some (without_bytes a) → o ≡ None
+      Some (option_map_or (λ request. unwrap_or (result_of b request) answer.No) o answer.Null) ≡ Some
+      (without_bytes a) → o ≡ None
   test_dead None none some right = refl
   test_dead (Some r) none some right = by_result (result_of b r) refl right
     where
-      by_result : (o : Option Answer) → result_of b r ≡ o → Some (unwrap_or o answer.No) ≡ Some (without_bytes a) → Some r ≡ None
+      by_result : (o : Option Answer) → result_of b r ≡ o → Some (unwrap_or o answer.No) ≡ Some (without_bytes a) →
+          Some r ≡ None
       by_result None is right =
-          absurd (false≢true (sym some ∙ sym (bytes_no_no a) ∙ sym (ap (λ (x : Answer). is_no x) (same_some answer.No (without_bytes a) right))))
+          absurd (false≢true (sym some ∙ sym (bytes_no_no a)
+          ∙ sym (ap (λ (x : Answer). is_no x) (same_some answer.No (without_bytes a) right))))
       by_result (Some x) is right = absurd (false≢true (sym none ∙ result_of_bytes b r a (is ∙ right)))
 
-  pub question_dead : (c : Command) → (is_wait_of q c || (is_question_of q c && not (is_no a))) ≡ true → is_result a ≡ false →
+  pub question_dead : (c : Command) → (is_wait_of q c || (is_question_of q c && not (is_no a))) ≡ true →
+      is_result a ≡ false →
       answer_of commands b l c ≡ Some (without_bytes a) → live commands b q ≡ None
   question_dead (command.Wait q') asks none right =
-      let same : q' ≡ q = same_of q' q (either (q' == q) (not (is_no a)) asks) in
-      wait_dead (live commands b q) none (subst (λ (k : ℕ). answer_of commands b l (command.Wait k) ≡ Some (without_bytes a)) same right)
+      let same : q' ≡ q = same_number q' q (either (q' == q) (not (is_no a)) asks) in
+      wait_dead (live commands b q) none
+      (subst (λ (k : ℕ). answer_of commands b l (command.Wait k) ≡ Some (without_bytes a)) same right)
     where
       either : (x y : Bool) → (x || (x && y)) ≡ true → x ≡ true
       either true y is = refl
       either false y is = is
   question_dead (command.Test q') asks none right =
-      let same : q' ≡ q = same_of q' q (and_left (q' == q) (not (is_no a)) asks) in
+      let same : q' ≡ q = same_number q' q (and_left (q' == q) (not (is_no a)) asks) in
       test_dead (live commands b q) none (no_not (is_no a) (and_right (q' == q) (not (is_no a)) asks))
       (subst (λ (k : ℕ). answer_of commands b l (command.Test k) ≡ Some (without_bytes a)) same right)
     where
@@ -157,7 +144,8 @@ start_is_one q (command.Mrecv q' m cap) named starts = named
 start_is_one q c named starts = absurd (false≢true starts)
 
 -- a name's start was waited for where its next start stands
-pub apart_here : (q : ℕ) (w : Bool) (xs : List Command) (c : Command) (ys : List Command) → are_apart q w (xs ++ c ∷ ys) ≡ true →
+pub apart_here : (q : ℕ) (w : Bool) (xs : List Command) (c : Command) (ys : List Command) →
+    are_apart q w (xs ++ c ∷ ys) ≡ true →
     is_start_of q c ≡ true → waits_for q w xs ≡ false
 apart_here q w [] c ys apart starts = waited (is_start_of q c) w (and_left _ _ apart) starts
   where
@@ -167,45 +155,28 @@ apart_here q w [] c ys apart starts = waited (is_start_of q c) w (and_left _ _ a
     waited false w apart starts = absurd (false≢true starts)
 apart_here q w (x ∷ xs) c ys apart starts = apart_here q (waits_after q w x) xs c ys (and_right _ _ apart) starts
 
-shut_step : (s t n w o : Bool) → (w ≡ false → o ≡ true) → cond s true (cond t false w) ≡ false → cond s false (cond (t || n) true o) ≡ true
+shut_step : (s t n w o : Bool) → (w ≡ false → o ≡ true) → cond s true (cond t false w) ≡ false →
+    cond s false (cond (t || n) true o) ≡ true
 shut_step true t n w o known is = absurd (false≢true (sym is))
 shut_step false true n w o known is = refl
 shut_step false false true w o known is = refl
 shut_step false false false w o known is = known is
 
-pub shut_from : (q : ℕ) (w o : Bool) (ran : List Done) → (w ≡ false → o ≡ true) → waits_for q w (map (λ d. d.own.command) ran) ≡ false →
+pub shut_from : (q : ℕ) (w o : Bool) (ran : List Done) → (w ≡ false → o ≡ true) →
+    waits_for q w (map (λ d. d.own.command) ran) ≡ false →
     fold (is_shut_after q) o ran ≡ true
 shut_from q w o [] known is = known is
 shut_from q w o (d ∷ ran) known is =
     shut_from q (waits_after q w d.own.command) (is_shut_after q o d) ran
-    (shut_step (is_start_of q d.own.command) (is_wait_of q d.own.command) (is_question_of q d.own.command && not (is_no d.answer)) w o known) is
-
--- lines that rise stand once
-rising_at : (n k : ℕ) (cs : List Numbered) (c : Numbered) → Rising n cs → slice_get cs k ≡ Some c → n ≤ c.line
-rising_at n k [] c rising here = absurd (no_some c here)
-rising_at n zero (d ∷ cs) c rising here = subst (λ (x : Numbered). n ≤ x.line) (same_some d c here) rising.0
-rising_at n (suc k) (d ∷ cs) c rising here =
-    let later = rising_at (d.line + 1) k cs c rising.1 here in
-    let first = rising.0 in
-    omega (arith, later, first)
-
-rising_lower : (m n : ℕ) (cs : List Numbered) → m ≤ n → Rising n cs → Rising m cs
-rising_lower m n [] low rising = tt
-rising_lower m n (c ∷ cs) low rising = (let first = rising.0 in omega (arith, low, first), rising.1)
-
-pub rising_kept : (g : Numbered → Bool) (n : ℕ) (cs : List Numbered) → Rising n cs → Rising n (filter g cs)
-rising_kept g n [] rising = tt
-rising_kept g n (c ∷ cs) rising = by_test (g c) (rising_kept g (c.line + 1) cs rising.1)
-  where
-    by_test : (b : Bool) → Rising (c.line + 1) (filter g cs) → Rising n (cond b (c ∷ filter g cs) (filter g cs))
-    by_test true later = (rising.0, later)
-    by_test false later = rising_lower n (c.line + 1) (filter g cs) (let first = rising.0 in omega (arith, first)) later
+    (shut_step (is_start_of q d.own.command) (is_wait_of q d.own.command)
+    (is_question_of q d.own.command && not (is_no d.answer)) w o known) is
 
 pub rising_front : (n : ℕ) (xs ys : List Numbered) → Rising n (xs ++ ys) → Rising n xs
 rising_front n [] ys rising = tt
 rising_front n (x ∷ xs) ys rising = (rising.0, rising_front (x.line + 1) xs ys rising.1)
 
-pub one_place : (n k m : ℕ) (cs : List Numbered) (c d : Numbered) → Rising n cs → slice_get cs k ≡ Some c → slice_get cs m ≡ Some d →
+pub one_place : (n k m : ℕ) (cs : List Numbered) (c d : Numbered) → Rising n cs → slice_get cs k ≡ Some c →
+    slice_get cs m ≡ Some d →
     c.line ≡ d.line → k ≡ m
 one_place n k m [] c d rising here there same = absurd (no_some c here)
 one_place n zero zero (x ∷ cs) c d rising here there same = refl
@@ -220,7 +191,8 @@ one_place n (suc k) zero (x ∷ cs) c d rising here there same =
 one_place n (suc k) (suc m) (x ∷ cs) c d rising here there same =
     ap (λ (i : ℕ). suc i) (one_place (x.line + 1) k m cs c d rising.1 here there same)
 
-pub filter_same : (g g' : Numbered → Bool) (xs : List Numbered) → ((k : ℕ) (c : Numbered) → slice_get xs k ≡ Some c → g c ≡ g' c) →
+pub filter_same : (g g' : Numbered → Bool) (xs : List Numbered) →
+    ((k : ℕ) (c : Numbered) → slice_get xs k ≡ Some c → g c ≡ g' c) →
     filter g xs ≡ filter g' xs
 filter_same g g' [] same = refl
 filter_same g g' (x ∷ xs) same =
@@ -233,11 +205,12 @@ pub record IsReceive (i tag ctx : ℕ) (c : Command) : Type 0 where
   pub cap : ℕ
   pub is : c ≡ command.Recv name (peer.One i) (pick.One tag) ctx cap
 
-pub receive_is : (i tag ctx : ℕ) (c : Command) → is_named c ≡ true → receives_it i tag ctx c ≡ true → IsReceive i tag ctx c
+pub receive_is : (i tag ctx : ℕ) (c : Command) → is_named c ≡ true → receives_it i tag ctx c ≡ true →
+    IsReceive i tag ctx c
 receive_is i tag ctx (command.Recv q (peer.One i') (pick.One t') ctx' cap) named it =
-    let first = same_of ctx' ctx (and_left _ _ (and_left _ _ it)) in
-    let second = same_of i' i (and_right _ _ (and_left _ _ it)) in
-    let third = same_of t' tag (and_right _ _ it) in
+    let first = same_number ctx' ctx (and_left _ _ (and_left _ _ it)) in
+    let second = same_number i' i (and_right _ _ (and_left _ _ it)) in
+    let third = same_number t' tag (and_right _ _ it) in
     record { name = q; cap = cap; is = rw (first, second, third) refl }
 receive_is i tag ctx (command.Recv q peer.Any tags ctx' cap) named it = absurd (false≢true named)
 receive_is i tag ctx (command.Recv q (peer.One from) pick.Any ctx' cap) named it = absurd (false≢true named)

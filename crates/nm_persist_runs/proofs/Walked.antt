@@ -1,6 +1,7 @@
 -- A rank's whole run: the commands that ran with their answers, and what is known behind each of them.
 use Rattle.std.proofs.Common.{◌≡◌, ℕ, ◌+◌, ◌<◌, true, false, Option, Some, None}
-use Rattle.std.proofs.Common.{List, [], ◌∷◌, ◌++◌, length, map, refl, sym, ◌∙◌, ap, subst, arith, append-nil, append_assoc, length-take-le}
+use Rattle.std.proofs.Common.{List, [], ◌∷◌, ◌++◌, length, map, refl, sym, ◌∙◌, ap, subst, arith, append-nil}
+use Rattle.std.proofs.Common.{append_assoc, length-take-le}
 use Rattle.std.specs.Prelude.{take}
 use Rattle.std.specs.List.{AllByRecursion, cons_option, filter_map, slice_get}
 use Rattle.std.proofs.lemmas.Bool.{false≢true}
@@ -67,7 +68,9 @@ module _ (shape : Sizes) (cs : ℕ → List Numbered) (at : ℕ → ℕ) (hist :
       is_answer e.what ≡ false → IsWalked (b ++ e ∷ []) events ran more → IsWalked b (e ∷ events) ran more
   walk_other b e events ran more silent w = record {
     list = w.list;
-    owned = w.owned ∙ ap (λ (n : ℕ). take n more) (ap (λ (ls : List ℕ). length ls) (sym (ap (λ (o : Option ℕ). cons_option o (ran_lines events)) (no_line e.what silent))));
+    owned = w.owned ∙ ap (λ (n : ℕ). take n more)
+        (ap (λ (ls : List ℕ). length ls)
+        (sym (ap (λ (o : Option ℕ). cons_option o (ran_lines events)) (no_line e.what silent))));
     told = w.told ∙ sym (ap (λ (o : Option Answer). cons_option o (answers_in events)) (no_answer e.what silent));
     begun = w.begun;
     states = w.states;
@@ -82,13 +85,16 @@ module _ (shape : Sizes) (cs : ℕ → List Numbered) (at : ℕ → ℕ) (hist :
       no_answer (event.Ran line a) silent = absurd (false≢true (sym silent))
       no_answer what silent = refl
 
-  walk_answer : (b : List Event) (e : Event) (events : List Event) (ran : List Done) (c : Numbered) (a : Answer) (line : ℕ) (more : List Numbered) →
+  walk_answer : (b : List Event) (e : Event) (events : List Event) (ran : List Done) (c : Numbered) (a : Answer)
+      (line : ℕ) (more : List Numbered) →
       e.what ≡ event.Ran line a → Known b ran → (starts_one c.command ≡ true → is_started a ≡ true) →
-      IsWalked (b ++ e ∷ []) events (ran ++ record { own = c; answer = a } ∷ []) more → IsWalked b (e ∷ events) ran (c ∷ more)
+      IsWalked (b ++ e ∷ []) events (ran ++ record { own = c; answer = a } ∷ []) more → IsWalked b (e ∷ events) ran
+      (c ∷ more)
   walk_answer b e events ran c a line more what known taking w = record {
     list = d ∷ w.list;
     owned = ap (λ (xs : List Numbered). c ∷ xs) w.owned
-        ∙ sym (ap (λ (o : Option ℕ). take (length (cons_option o (ran_lines events))) (c ∷ more)) (ap (λ (w : Happened). ran_of w) what));
+        ∙ sym (ap (λ (o : Option ℕ). take (length (cons_option o (ran_lines events))) (c ∷ more))
+        (ap (λ (w : Happened). ran_of w) what));
     told = ap (λ (xs : List Answer). a ∷ xs) w.told
         ∙ sym (ap (λ (o : Option Answer). cons_option o (answers_in events)) (ap (λ (w : Happened). answer_in w) what));
     begun = (taking, w.begun);
@@ -111,19 +117,24 @@ module _ (shape : Sizes) (cs : ℕ → List Numbered) (at : ℕ → ℕ) (hist :
                 (subst (λ (r : List Done). Known found.0 r) (append_assoc ran (d ∷ []) front) found.1),
           )
 
-  walk : (b rest : List Event) (ran : List Done) (more : List Numbered) → hist j ≡ b ++ rest → cs j ≡ owns ran ++ more → Known b ran →
-      AtEachAfter (λ b e. AnswerAt (cs j) b e.what) b rest → AtEachAfter (λ b e. StartAt shape.eager (cs j) b e.what) b rest →
+  walk : (b rest : List Event) (ran : List Done) (more : List Numbered) → hist j ≡ b ++ rest →
+      cs j ≡ owns ran ++ more → Known b ran →
+      AtEachAfter (λ b e. AnswerAt (cs j) b e.what) b rest → AtEachAfter (λ b e. StartAt shape.eager (cs j) b e.what)
+      b rest →
       ran_lines rest ≡ map (λ c. c.line) (take (length (ran_lines rest)) more) → IsWalked b rest ran more
   walk b [] ran more whole cut known answers starts told = walk_none b ran more known
   walk b (e ∷ events) ran more whole cut known answers starts told =
       at_event e.what refl more cut told
-      (λ ran' more' cut' known' told'. walk (b ++ e ∷ []) events ran' more' (whole ∙ sym (append_assoc b (e ∷ []) events)) cut' known'
+      (λ ran' more' cut' known' told'. walk (b ++ e ∷ []) events ran' more'
+      (whole ∙ sym (append_assoc b (e ∷ []) events)) cut' known'
       answers.1 starts.1 told')
     where
       at_event : (what : Happened) → e.what ≡ what → (more : List Numbered) → cs j ≡ owns ran ++ more →
-          cons_option (ran_of what) (ran_lines events) ≡ map (λ c. c.line) (take (length (cons_option (ran_of what) (ran_lines events))) more) →
+          cons_option (ran_of what) (ran_lines events) ≡ map (λ c. c.line)
+          (take (length (cons_option (ran_of what) (ran_lines events))) more) →
           ((ran' : List Done) (more' : List Numbered) → cs j ≡ owns ran' ++ more' → Known (b ++ e ∷ []) ran' →
-          ran_lines events ≡ map (λ c. c.line) (take (length (ran_lines events)) more') → IsWalked (b ++ e ∷ []) events ran' more') →
+          ran_lines events ≡ map (λ c. c.line) (take (length (ran_lines events)) more') →
+          IsWalked (b ++ e ∷ []) events ran' more') →
           IsWalked b (e ∷ events) ran more
       at_event (event.Ran line a) what [] cut told later = absurd (grind arith)
       at_event (event.Ran line a) what (c ∷ more) cut told later =
@@ -132,21 +143,28 @@ module _ (shape : Sizes) (cs : ℕ → List Numbered) (at : ℕ → ℕ) (hist :
           let d : Done = record { own = c; answer = a } in
           let now : e.what ≡ event.Ran c.line a = what ∙ ap (λ (l : ℕ). event.Ran l a) here in
           let at_line : command_at (cs j) c.line ≡ Some c.command =
-          run.stand j (length (owns ran) + 0) c (ap (λ (xs : List Numbered). slice_get xs (length (owns ran) + 0)) cut ∙ place_behind (owns ran) (c ∷ more) 0) in
-          let right = answered (cs j) b c.line a c.command (subst (λ (w : Happened). AnswerAt (cs j) b w) now answers.0) at_line in
-          let began = started_so shape.eager (cs j) b c.line a c.command (subst (λ (w : Happened). StartAt shape.eager (cs j) b w) now starts.0) at_line in
+          run.stand j (length (owns ran) + 0) c (ap (λ (xs : List Numbered). slice_get xs (length (owns ran) + 0)) cut
+          ∙ place_behind (owns ran) (c ∷ more) 0) in
+          let right = answered (cs j) b c.line a c.command
+          (subst (λ (w : Happened). AnswerAt (cs j) b w) now answers.0) at_line in
+          let began = started_so shape.eager (cs j) b c.line a c.command
+          (subst (λ (w : Happened). StartAt shape.eager (cs j) b w) now starts.0) at_line in
           let next : Known (b ++ e ∷ []) (ran ++ d ∷ []) =
           subst (λ (w : Happened). Known (b ++ record { stamp = e.stamp; what = w } ∷ []) (ran ++ d ∷ [])) (sym now)
-          (state_answer shape cs at hist run lengths j inside rising apart b ran known e events c a more whole now cut right began) in
+          (state_answer shape cs at hist run lengths j inside rising apart b ran known e events c a more whole now cut
+          right began) in
           walk_answer b e events ran c a line more what known
-          (taken shape cs at hist run lengths j inside rising apart b ran known e events c a more whole now cut right began)
+          (taken shape cs at hist run lengths j inside rising apart b ran known e events c a more whole now cut right
+          began)
           (later (ran ++ d ∷ []) more
-          (cut ∙ sym (append_assoc (owns ran) (c ∷ []) more) ∙ ap (λ (xs : List Numbered). xs ++ more) (sym (map-append (λ (d : Done). d.own) ran (d ∷ []))))
+          (cut ∙ sym (append_assoc (owns ran) (c ∷ []) more) ∙ ap (λ (xs : List Numbered). xs ++ more)
+          (sym (map-append (λ (d : Done). d.own) ran (d ∷ []))))
           next ahead)
       at_event w what more cut told later =
           let silent : is_answer e.what ≡ false = ap (λ (w : Happened). is_answer w) what in
           walk_other b e events ran more silent
-          (later ran more cut (state_other shape cs at hist run lengths j inside rising apart b ran e.stamp e.what silent known) told)
+          (later ran more cut (state_other shape cs at hist run lengths j inside rising apart b ran e.stamp e.what
+          silent known) told)
 
   in_order : ran_lines (hist j) ≡ map (λ c. c.line) (take (length (ran_lines (hist j))) (cs j))
   in_order =

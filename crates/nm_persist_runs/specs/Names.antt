@@ -49,6 +49,7 @@ is_shut_after q shut d =
     else if is_wait_of q d.own.command || (is_question_of q d.own.command && not (is_no d.answer)) then true
     else shut
 
+-- no request has this name after these commands
 abbrev pub is_shut : ℕ → List Done → Bool
 is_shut q done = fold (is_shut_after q) true done
 
@@ -56,5 +57,6 @@ is_shut q done = fold (is_shut_after q) true done
 abbrev pub end_after : ℕ → Option Answer → Done → Option Answer
 end_after q found d = if is_question_of q d.own.command && is_end d.answer then Some d.answer else found
 
+-- the last result under a name among these commands
 abbrev pub end_of : ℕ → List Done → Option Answer
 end_of q done = fold (end_after q) None done

@@ -25,7 +25,8 @@ use Rattle.nm_plan_requests.specs.Expansion.{expand, name_of, tag_of}
 use Rattle.nm_plan_requests.specs.Requests.{owner_of, request_at}
 use Rattle.nm_persist.specs.declared.asked.Asked.{Asked}
 use Rattle.nm_persist.specs.Plans.{IsPlan}
-use Rattle.nm_persist.specs.Report.{Named, asked_at, asked_behind, asked_by, last_result, named_from, shown_line, shown_words}
+use Rattle.nm_persist.specs.Report.{Named, asked_at, asked_behind, asked_by, last_result, named_from, shown_line}
+use Rattle.nm_persist.specs.Report.{shown_words}
 use Rattle.nm_persist_runs.specs.Starts.{IsOther, bodies_of, end_of, part_bytes, starts_of}
 
 -- a line of a plan that has all its answers: what it asks, the answers to its commands, and the rank's
@@ -47,10 +48,11 @@ entries (a ∷ asked) told rest =
       told = told ++ named_from a.name (take a.count rest);
     } ∷ entries asked (told ++ named_from a.name (take a.count rest)) (drop a.count rest)
 
--- the words that such a line shows, and its line in the text
+-- the words that such a line shows
 abbrev pub entry_words : Entry → List (List ℕ)
 entry_words e = shown_words e.asked e.own e.told
 
+-- the line in the text of such a line
 abbrev pub entry_line : Entry → List ℕ
 entry_line e = shown_line e.asked (entry_words e)
 
@@ -99,6 +101,7 @@ Promised lines before owner (Arrived p k) r (Receives cap) e =
     entry_words e ≡ codes "yes" ∷ [] → (r.active ≡ false) ⊎ IsHere lines before owner r k e
 Promised lines before owner c r side e = Unit {0}
 
+-- the same, where there is a request: without one nothing is promised
 abbrev pub PromisedOf : List PlanLine → List PlanLine → Owner → PlanCommand → Option Request → Entry → Type 0
 PromisedOf lines before owner c None e = Unit {0}
 PromisedOf lines before owner c (Some r) e = Promised lines before owner c r r.side e
@@ -135,6 +138,7 @@ accounts_text lines rank (account ∷ accounts) = rank_text lines rank account +
 -- in each run of a plan's script, each line that a rank's text shows keeps its promise
 abbrev pub ReceivesShowTheirSends : Type 0
 ReceivesShowTheirSends =
-    (shape : Sizes) (lines : List PlanLine) (run : RunRecord) → IsPlan shape.ranks lines → IsRunIn shape (expand lines) run →
+    (shape : Sizes) (lines : List PlanLine) (run : RunRecord) → IsPlan shape.ranks lines →
+    IsRunIn shape (expand lines) run →
     (rank : ℕ) (account : RankAccount) → slice_get run.ranks rank ≡ Some account →
     AllByRecursion (IsKept lines rank) (shown_of lines rank account)

@@ -2,7 +2,7 @@
 use Rattle.std.proofs.Common.{◌≡◌, ℕ, ◌+◌, ◌<◌, ◌≤◌, List, [], ◌∷◌, ◌++◌, length, take, drop, get_or, sym, subst}
 use Rattle.std.specs.List.{AllByRecursion}
 use Rattle.std.proofs.lemmas.List.{take_all}
-use Rattle.nm_places.proofs.StepLemmas.{split_at, take_next}
+use Rattle.nm_facts.proofs.Lists.{take_next, split_at}
 
 module _ {X : Type 0} (P : X → Type 0) where
   each_push : (xs : List X) (x : X) → AllByRecursion P xs → P x → AllByRecursion P (xs ++ x ∷ [])
@@ -16,7 +16,8 @@ module _ {X : Type 0} (P : X → Type 0) where
   pub each_next : (xs : List X) (k : ℕ) (x : X) → k < length xs → x ≡ get_or xs k x →
       AllByRecursion P (take k xs) → P x → AllByRecursion P (take (k + 1) xs)
   each_next xs k x inside is each here =
-      subst (λ (ys : List X). AllByRecursion P ys) (sym (take_next xs k x inside is)) (each_push (take k xs) x each here)
+      subst (λ (ys : List X). AllByRecursion P ys) (sym (take_next xs k x inside is))
+      (each_push (take k xs) x each here)
 
   pub one_breaks : (xs : List X) (k : ℕ) (x : X) → k < length xs → x ≡ get_or xs k x → (P x → ⊥) →
       AllByRecursion P xs → ⊥

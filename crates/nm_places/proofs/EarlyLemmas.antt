@@ -1,5 +1,6 @@
 -- What is earlier than a stamp, by the place where it happened first.
-use Rattle.std.proofs.Common.{◌≡◌, ◌⊎◌, inl, inr, ℕ, zero, suc, ◌+◌, ◌<◌, ◌≤◌, Bool, true, false, cond, Option, Some, None, List, [], ◌∷◌, ◌++◌}
+use Rattle.std.proofs.Common.{◌≡◌, ◌⊎◌, inl, inr, ℕ, zero, suc, ◌+◌, ◌<◌, ◌≤◌, Bool, true, false, cond, Option, Some}
+use Rattle.std.proofs.Common.{None, List, [], ◌∷◌, ◌++◌}
 use Rattle.std.proofs.Common.{length, take, refl, sym, ◌∙◌, ap, subst, arith, length-append, slice_get}
 use Rattle.std.specs.Prelude.{nat_lt, position}
 use Rattle.std.specs.List.{AllByRecursion, list_any}
@@ -47,7 +48,8 @@ in_front s (x ∷ front) rest (suc t) e here early late =
     in_front s front rest t e here early.1 late ∙ next_place t (length front)
 
 all_early_at : (s : ℕ) (e : Event) (events : List Event) (b : Bool) → nat_lt e.stamp s ≡ b →
-    AllByRecursion (λ (x : Event). x.stamp < s) events → AllByRecursion (λ (x : Event). x.stamp < s) (cond b (e ∷ events) events)
+    AllByRecursion (λ (x : Event). x.stamp < s) events → AllByRecursion (λ (x : Event). x.stamp < s)
+    (cond b (e ∷ events) events)
 all_early_at s e events true is early = (grind (arith, nat_tests), early)
 all_early_at s e events false is early = early
 
@@ -65,11 +67,13 @@ early_by p s h o rising first =
     ∙ first_before p (length (earlier_than s h)) h ∙ ap (λ (g : List Event). list_any p g) taken
 
 -- something of a first place is earlier than a stamp exactly where that place is
-pub place_is_earlier : (p : Event → Bool) (s : ℕ) (h : List Event) (t : ℕ) (e : Event) → AtEach (λ b e. StampAt b e.stamp) h →
+pub place_is_earlier : (p : Event → Bool) (s : ℕ) (h : List Event) (t : ℕ) (e : Event) →
+    AtEach (λ b e. StampAt b e.stamp) h →
     position p h ≡ Some t → slice_get h t ≡ Some e → nat_lt e.stamp s ≡ list_any p (earlier_than s h)
 place_is_earlier p s h t e rising first here =
     let front = earlier_is_front s h rising in
-    in_front s (earlier_than s h) front.0 t e (subst (λ (g : List Event). slice_get g t ≡ Some e) front.1 here) (all_early s h) front.2
+    in_front s (earlier_than s h) front.0 t e (subst (λ (g : List Event). slice_get g t ≡ Some e) front.1 here)
+    (all_early s h) front.2
     ∙ early_by p s h (Some t) rising first
 
 -- what never happened is not earlier
@@ -78,8 +82,10 @@ pub never_is_earlier : (p : Event → Bool) (s : ℕ) (h : List Event) → AtEac
 never_is_earlier p s h rising first = early_by p s h None rising first
 
 -- .. by the answer for the event that is there
-pub first_is_earlier : (p : Event → Bool) (s : ℕ) (h : List Event) (t : ℕ) (r : Bool) → AtEach (λ b e. StampAt b e.stamp) h →
-    position p h ≡ Some t → ((e : Event) → slice_get h t ≡ Some e → r ≡ nat_lt e.stamp s) → r ≡ list_any p (earlier_than s h)
+pub first_is_earlier : (p : Event → Bool) (s : ℕ) (h : List Event) (t : ℕ) (r : Bool) →
+    AtEach (λ b e. StampAt b e.stamp) h →
+    position p h ≡ Some t → ((e : Event) → slice_get h t ≡ Some e → r ≡ nat_lt e.stamp s) →
+    r ≡ list_any p (earlier_than s h)
 first_is_earlier p s h t r rising first answers = by_event (slice_get h t) refl
   where
     by_event : (o : Option Event) → slice_get h t ≡ o → r ≡ list_any p (earlier_than s h)
@@ -89,7 +95,8 @@ first_is_earlier p s h t r rising first answers = by_event (slice_get h t) refl
         let inside : t < length h = (position-Some p h t none first).0 in
         let there = slice_get-get_or h t none inside in cc
 
-taken_front : (s : ℕ) (h : List Event) → AtEach (λ b e. StampAt b e.stamp) h → take (length (earlier_than s h)) h ≡ earlier_than s h
+taken_front : (s : ℕ) (h : List Event) → AtEach (λ b e. StampAt b e.stamp) h → take (length (earlier_than s h)) h
+    ≡ earlier_than s h
 taken_front s h rising =
     let front = earlier_is_front s h rising in
     ap (λ (g : List Event). take (length (earlier_than s h)) g) front.1 ∙ take-append_seam (earlier_than s h) front.0
@@ -97,7 +104,8 @@ taken_front s h rising =
 few_earlier : (s : ℕ) (h : List Event) → AtEach (λ b e. StampAt b e.stamp) h → length (earlier_than s h) ≤ length h
 few_earlier s h rising =
     let front = earlier_is_front s h rising in
-    let both : length h ≡ length (earlier_than s h) + length front.0 = ap length front.1 ∙ length-append (earlier_than s h) front.0 in
+    let both : length h ≡ length (earlier_than s h) + length front.0 = ap length front.1
+    ∙ length-append (earlier_than s h) front.0 in
     omega (arith, both)
 
 not_low : (t m : ℕ) → m ≤ t → false ≡ nat_lt t m
@@ -105,15 +113,18 @@ not_low t m high = let late : nat_lt t m ≡ false = is_late m t high in sym lat
 
 -- a message that was paired at a place is paired earlier than a stamp exactly where that place is earlier
 pub taken_is_earlier : (s : ℕ) (h : List Event) (rank n t : ℕ) (r : Bool) → AtEach (λ b e. StampAt b e.stamp) h →
-    ((k : ℕ) → nat_lt t k ≡ is_taken (take k h) rank n) → ((e : Event) → slice_get h t ≡ Some e → r ≡ nat_lt e.stamp s) → (length h ≤ t → r ≡ false) →
+    ((k : ℕ) → nat_lt t k ≡ is_taken (take k h) rank n) →
+    ((e : Event) → slice_get h t ≡ Some e → r ≡ nat_lt e.stamp s) → (length h ≤ t → r ≡ false) →
     r ≡ is_taken (earlier_than s h) rank n
 taken_is_earlier s h rank n t r rising taken there past = by_event (slice_get h t) refl (cases_lt t (length h))
   where
-    by_event : (o : Option Event) → slice_get h t ≡ o → (t < length h) ⊎ (length h ≤ t) → r ≡ is_taken (earlier_than s h) rank n
+    by_event : (o : Option Event) → slice_get h t ≡ o → (t < length h) ⊎ (length h ≤ t) →
+        r ≡ is_taken (earlier_than s h) rank n
     by_event (Some e) here inside =
         let front = earlier_is_front s h rising in
         there e here
-        ∙ in_front s (earlier_than s h) front.0 t e (subst (λ (g : List Event). slice_get g t ≡ Some e) front.1 here) (all_early s h) front.2
+        ∙ in_front s (earlier_than s h) front.0 t e (subst (λ (g : List Event). slice_get g t ≡ Some e) front.1 here)
+        (all_early s h) front.2
         ∙ taken (length (earlier_than s h)) ∙ ap (λ (g : List Event). is_taken g rank n) (taken_front s h rising)
     by_event None here (inr over) =
         past over ∙ not_low t (length (earlier_than s h)) (let few = few_earlier s h rising in omega (arith, few, over))

@@ -1,5 +1,6 @@
 -- The first place of each thing in a list that grows.
-use Rattle.std.proofs.Common.{◌≡◌, ℕ, zero, suc, ◌+◌, ◌<◌, ◌≤◌, ◌==◌, Bool, true, false, ◌||◌, cond, Option, Some, None, List, [], ◌∷◌, ◌++◌}
+use Rattle.std.proofs.Common.{◌≡◌, ℕ, zero, suc, ◌+◌, ◌<◌, ◌≤◌, ◌==◌, Bool, true, false, ◌||◌, cond, Option, Some}
+use Rattle.std.proofs.Common.{None, List, [], ◌∷◌, ◌++◌}
 use Rattle.std.proofs.Common.{length, take, get_or, refl, sym, ◌∙◌, ap, subst, arith}
 use Rattle.std.specs.Prelude.{is_some, nat_eq, nat_lt, position, MatchOption}
 use Rattle.std.specs.List.{list_any, position_from}
@@ -12,13 +13,11 @@ use Rattle.nm_history.specs.declared.events.Event.{Event}
 use Rattle.nm_history.specs.declared.events.Happened.{Happened}
 use Rattle.nm_history.specs.Completion.{is_taken}
 use Rattle.nm_history.specs.Happens.{happened}
-use Rattle.nm_history.proofs.OnceLemmas.{and_left, and_right, same_of}
 use Rattle.nm_places.specs.Firsts.{same_message}
 use Rattle.nm_places.specs.declared.firsts.Message.{Message}
-use Rattle.nm_places.proofs.StepLemmas.{take_next}
-
-not_below : (i j : ℕ) → j ≤ i → nat_lt i j ≡ false
-not_below i j low = grind (arith, nat_tests)
+use Rattle.nm_facts.proofs.Numbers.{lt_false, same_number}
+use Rattle.nm_facts.proofs.Lists.{take_next}
+use Rattle.nm_facts.proofs.Truth.{and_left, and_right}
 
 is_below : (i k : ℕ) → nat_lt i (i + suc k) ≡ true
 is_below i k = let low : i < i + suc k = omega arith in grind (arith, nat_tests)
@@ -35,7 +34,8 @@ module _ {X : Type 0} (p : X → Bool) where
   push_from i (x ∷ xs) y = by_first (push_from (i + 1) xs y) (p x)
     where
       by_first : position_from p (i + 1) (xs ++ y ∷ [])
-          ≡ option_or (position_from p (i + 1) xs) (cond (p y) (Some ((i + 1) + length xs)) None) → (b : Bool) → cond b (Some i) (position_from p (i + 1) (xs ++ y ∷ []))
+          ≡ option_or (position_from p (i + 1) xs) (cond (p y) (Some ((i + 1) + length xs)) None) →
+          (b : Bool) → cond b (Some i) (position_from p (i + 1) (xs ++ y ∷ []))
           ≡ option_or (cond b (Some i) (position_from p (i + 1) xs)) (cond (p y) (Some (i + length (x ∷ xs))) None)
       by_first more true = refl
       by_first more false =
@@ -48,7 +48,8 @@ module _ {X : Type 0} (p : X → Bool) where
   position-push xs y =
       let sum : 0 + length xs ≡ length xs = omega arith in
       position_from-zero p (xs ++ y ∷ [])
-      ∙ subst (λ (n : ℕ). position_from p 0 (xs ++ y ∷ []) ≡ option_or (position_from p 0 xs) (cond (p y) (Some n) None)) sum (push_from 0 xs y)
+      ∙ subst (λ (n : ℕ). position_from p 0 (xs ++ y ∷ []) ≡ option_or (position_from p 0 xs)
+      (cond (p y) (Some n) None)) sum (push_from 0 xs y)
       ∙ ap (λ (o : Option ℕ). option_or o (cond (p y) (Some (length xs)) None)) (sym (position_from-zero p xs))
 
   none_earlier : (i j : ℕ) (xs : List X) → j ≤ i →
@@ -58,7 +59,7 @@ module _ {X : Type 0} (p : X → Bool) where
     where
       by_first : option_map_or (λ t. nat_lt t j) (position_from p (i + 1) xs) false ≡ false →
           (b : Bool) → option_map_or (λ t. nat_lt t j) (cond b (Some i) (position_from p (i + 1) xs)) false ≡ false
-      by_first more true = not_below i j low
+      by_first more true = lt_false i j low
       by_first more false = more
 
   before_from : (i k : ℕ) (xs : List X) →
@@ -67,13 +68,15 @@ module _ {X : Type 0} (p : X → Bool) where
   before_from i (suc k) [] = refl
   before_from i (suc k) (x ∷ xs) = by_first (before_from (i + 1) k xs) (p x)
     where
-      by_first : option_map_or (λ t. nat_lt t ((i + 1) + k)) (position_from p (i + 1) xs) false ≡ list_any p (take k xs) →
+      by_first : option_map_or (λ t. nat_lt t ((i + 1) + k)) (position_from p (i + 1) xs) false ≡ list_any p
+          (take k xs) →
           (b : Bool) → option_map_or (λ t. nat_lt t (i + suc k)) (cond b (Some i) (position_from p (i + 1) xs)) false
           ≡ (b || list_any p (take k xs))
       by_first more true = is_below i k
       by_first more false =
           let sum : (i + 1) + k ≡ i + suc k = omega arith in
-          subst (λ (n : ℕ). option_map_or (λ t. nat_lt t n) (position_from p (i + 1) xs) false ≡ list_any p (take k xs)) sum more
+          subst (λ (n : ℕ). option_map_or (λ t. nat_lt t n) (position_from p (i + 1) xs) false ≡ list_any p
+          (take k xs)) sum more
 
   -- an element passes before a place exactly where the first that does is before it
   pub first_before : (k : ℕ) (xs : List X) →
@@ -81,7 +84,8 @@ module _ {X : Type 0} (p : X → Bool) where
   first_before k xs =
       let sum : 0 + k ≡ k = omega arith in
       ap (λ (o : Option ℕ). option_map_or (λ t. nat_lt t k) o false) (position_from-zero p xs)
-      ∙ subst (λ (n : ℕ). option_map_or (λ t. nat_lt t n) (position_from p 0 xs) false ≡ list_any p (take k xs)) sum (before_from 0 k xs)
+      ∙ subst (λ (n : ℕ). option_map_or (λ t. nat_lt t n) (position_from p 0 xs) false ≡ list_any p (take k xs)) sum
+      (before_from 0 k xs)
 
 -- an element passes exactly where there is a first that does
 pub ever_from : {X : Type 0} (p : X → Bool) (i : ℕ) (xs : List X) → is_some (position_from p i xs) ≡ list_any p xs
@@ -124,9 +128,10 @@ module _ {K X S : Type 0} (eq : K → K → Bool) (p : K → X → Bool) where
           MatchOption o (Updates eq old new key (Some (length xs))) (λ _. new ≡ old) →
           get eq new q ≡ option_or (get eq old q) (cond (eq key q) (Some (length xs)) None)
       by_old None is update = update.0 q ∙ fresh (eq key q) refl is
-      by_old (Some o) is same = subst (λ (m : IndexMap K ℕ S). get eq m q ≡ option_or (get eq old q) (cond (eq key q) (Some (length xs)) None)) (sym same) (known o (eq key q) refl is)
+      by_old (Some o) is same = subst (λ (m : IndexMap K ℕ S). get eq m q ≡ option_or (get eq old q)
+          (cond (eq key q) (Some (length xs)) None)) (sym same) (known o (eq key q) refl is)
 
-message_same : (a b : Message) → same_message a b ≡ true → a ≡ b
+pub message_same : (a b : Message) → same_message a b ≡ true → a ≡ b
 message_same a b same =
     let ranks : (a.rank == b.rank) ≡ true = and_left (a.rank == b.rank) (a.n == b.n) same in
     let ns : (a.n == b.n) ≡ true = and_right (a.rank == b.rank) (a.n == b.n) same in
@@ -144,9 +149,12 @@ module _ {S : Type 0} (is_of : ℕ → ℕ → Happened → Bool) (h : List Even
       (m : Message) → get same_message new m ≡ position (λ e. is_of m.rank m.n e.what) (take (k + 1) h)
   message_noted old new key of update firsts m =
       let front : length (take k h) ≡ k = length-take-le k h (omega (arith, inside)) in
-      subst (λ (g : List Event). get same_message new m ≡ position (λ e. is_of m.rank m.n e.what) g) (sym (take_next h k e inside is))
-      (noted same_message (λ (q : Message) (e : Event). is_of q.rank q.n e.what) old new (take k h) e key message_same of
-      (subst (λ (n : ℕ). MatchOption (get same_message old key) (Updates same_message old new key (Some n)) (λ _. new ≡ old)) (sym front) update)
+      subst (λ (g : List Event). get same_message new m ≡ position (λ e. is_of m.rank m.n e.what) g)
+      (sym (take_next h k e inside is))
+      (noted same_message (λ (q : Message) (e : Event). is_of q.rank q.n e.what) old new (take k h) e key message_same
+      of
+      (subst (λ (n : ℕ). MatchOption (get same_message old key) (Updates same_message old new key (Some n))
+      (λ _. new ≡ old)) (sym front) update)
       firsts m)
 
   -- .. of none
@@ -154,11 +162,13 @@ module _ {S : Type 0} (is_of : ℕ → ℕ → Happened → Bool) (h : List Even
       ((m : Message) → get same_message places m ≡ position (λ e. is_of m.rank m.n e.what) (take k h)) →
       (m : Message) → get same_message places m ≡ position (λ e. is_of m.rank m.n e.what) (take (k + 1) h)
   message_unnoted places none firsts m =
-      subst (λ (g : List Event). get same_message places m ≡ position (λ e. is_of m.rank m.n e.what) g) (sym (take_next h k e inside is))
+      subst (λ (g : List Event). get same_message places m ≡ position (λ e. is_of m.rank m.n e.what) g)
+      (sym (take_next h k e inside is))
       (unnoted same_message (λ (q : Message) (e : Event). is_of q.rank q.n e.what) places (take k h) e none firsts m)
 
 -- by the first places, whether something happened before a place
-pub happened_before : {S : Type 0} (is_of : ℕ → ℕ → Happened → Bool) (places : IndexMap Message ℕ S) (h : List Event) (k : ℕ) (m : Message) →
+pub happened_before : {S : Type 0} (is_of : ℕ → ℕ → Happened → Bool) (places : IndexMap Message ℕ S) (h : List Event)
+    (k : ℕ) (m : Message) →
     ((q : Message) → get same_message places q ≡ position (λ e. is_of q.rank q.n e.what) h) →
     option_map_or (λ t. nat_lt t k) (get same_message places m) false ≡ happened (is_of m.rank m.n) (take k h)
 happened_before is_of places h k m firsts =
@@ -175,8 +185,9 @@ module _ {S : Type 0} (is_at : ℕ → Happened → Bool) (h : List Event) (k : 
   number_noted old new key of update firsts m =
       let front : length (take k h) ≡ k = length-take-le k h (omega (arith, inside)) in
       subst (λ (g : List Event). get nat_eq new m ≡ position (λ e. is_at m e.what) g) (sym (take_next h k e inside is))
-      (noted nat_eq (λ (q : ℕ) (e : Event). is_at q e.what) old new (take k h) e key same_of of
-      (subst (λ (n : ℕ). MatchOption (get nat_eq old key) (Updates nat_eq old new key (Some n)) (λ _. new ≡ old)) (sym front) update)
+      (noted nat_eq (λ (q : ℕ) (e : Event). is_at q e.what) old new (take k h) e key same_number of
+      (subst (λ (n : ℕ). MatchOption (get nat_eq old key) (Updates nat_eq old new key (Some n)) (λ _. new ≡ old))
+      (sym front) update)
       firsts m)
 
   -- .. of none
@@ -184,11 +195,13 @@ module _ {S : Type 0} (is_at : ℕ → Happened → Bool) (h : List Event) (k : 
       ((n : ℕ) → get nat_eq places n ≡ position (λ e. is_at n e.what) (take k h)) →
       (n : ℕ) → get nat_eq places n ≡ position (λ e. is_at n e.what) (take (k + 1) h)
   number_unnoted places none firsts m =
-      subst (λ (g : List Event). get nat_eq places m ≡ position (λ e. is_at m e.what) g) (sym (take_next h k e inside is))
+      subst (λ (g : List Event). get nat_eq places m ≡ position (λ e. is_at m e.what) g)
+      (sym (take_next h k e inside is))
       (unnoted nat_eq (λ (q : ℕ) (e : Event). is_at q e.what) places (take k h) e none firsts m)
 
 -- .. of the number
-pub happened_at_number : {S : Type 0} (is_at : ℕ → Happened → Bool) (places : IndexMap ℕ ℕ S) (h : List Event) (k n : ℕ) →
+pub happened_at_number : {S : Type 0} (is_at : ℕ → Happened → Bool) (places : IndexMap ℕ ℕ S) (h : List Event)
+    (k n : ℕ) →
     ((q : ℕ) → get nat_eq places q ≡ position (λ e. is_at q e.what) h) →
     option_map_or (λ t. nat_lt t k) (get nat_eq places n) false ≡ happened (is_at n) (take k h)
 happened_at_number is_at places h k n firsts =
@@ -196,7 +209,8 @@ happened_at_number is_at places h k n firsts =
     ∙ first_before (λ (e : Event). is_at n e.what) k h
 
 -- by the first places, whether something happened at all
-pub happened_ever : {S : Type 0} (is_of : ℕ → ℕ → Happened → Bool) (places : IndexMap Message ℕ S) (h : List Event) (m : Message) →
+pub happened_ever : {S : Type 0} (is_of : ℕ → ℕ → Happened → Bool) (places : IndexMap Message ℕ S) (h : List Event)
+    (m : Message) →
     ((q : Message) → get same_message places q ≡ position (λ e. is_of q.rank q.n e.what) h) →
     is_some (get same_message places m) ≡ happened (is_of m.rank m.n) h
 happened_ever is_of places h m firsts =

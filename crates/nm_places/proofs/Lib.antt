@@ -1,4 +1,4 @@
 pub mod EachLemmas
-pub mod EarlyLemmas
+mod EarlyLemmas
 pub mod FirstLemmas
 pub mod StepLemmas

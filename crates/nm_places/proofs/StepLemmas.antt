@@ -1,25 +1,10 @@
 -- What holds of each event, one event after another, as a loop finds it.
-use Rattle.std.proofs.Common.{◌≡◌, ℕ, suc, ◌+◌, ◌<◌, ◌≤◌, List, [], ◌∷◌, ◌++◌, length, take, drop, get_or, sym, ◌∙◌, ap, subst}
-use Rattle.std.proofs.Common.{add-one, drop-cons}
-use Rattle.std.proofs.Math.Seq.{take-suc}
-use Rattle.std.proofs.lemmas.List.{take-append-drop, take_all}
+use Rattle.std.proofs.Common.{◌≡◌, ℕ, ◌+◌, ◌<◌, ◌≤◌, List, [], ◌∷◌, ◌++◌, length, take, drop, get_or, sym, ◌∙◌, subst}
+use Rattle.std.proofs.lemmas.List.{take_all}
 use Rattle.nm_history.specs.declared.events.Event.{Event}
 use Rattle.nm_history.specs.AtEach.{AtEach}
 use Rattle.nm_history.proofs.AtEachLemmas.{AtEach-push, AtEach-split}
-
--- the element at a place, behind those before it
-pub take_next : {X : Type 0} (xs : List X) (k : ℕ) (x : X) → k < length xs → x ≡ get_or xs k x →
-    take (k + 1) xs ≡ take k xs ++ x ∷ []
-take_next {X} xs k x inside is =
-    rw add-one (take-suc xs k x inside ∙ ap (λ (y : X). take k xs ++ y ∷ []) (sym is))
-
--- a list is what stands before a place, the element there, and the rest
-pub split_at : {X : Type 0} (xs : List X) (k : ℕ) (x : X) → k < length xs → x ≡ get_or xs k x →
-    xs ≡ take k xs ++ x ∷ drop (k + 1) xs
-split_at {X} xs k x inside is =
-    sym (take-append-drop k xs)
-    ∙ ap (λ (ys : List X). take k xs ++ ys) (rw add-one (drop-cons xs k x inside
-    ∙ ap (λ (y : X). y ∷ drop (suc k) xs) (sym is)))
+use Rattle.nm_facts.proofs.Lists.{take_next, split_at}
 
 module _ (R : List Event → Event → Type 0) (h : List Event) where
   -- no event before the first breaks a rule

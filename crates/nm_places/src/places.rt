@@ -169,6 +169,7 @@ pub struct Places {
 }
 
 impl Places {
+    /// The first places in this history.
     pub fn of(alloc: Global, events: &[Event]) -> Result<Places, Memory>
         ensures { IfOk result (ArePlaces events.now) }
     {

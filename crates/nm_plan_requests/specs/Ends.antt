@@ -48,7 +48,7 @@ same_channel a b = a.tag == b.tag && a.ctx == b.ctx && same_sort a.sort b.sort
 abbrev pub same_end : End → End → Bool
 same_end a b = a.rank == b.rank && a.peer == b.peer && same_channel a.channel b.channel
 
--- each of these is an equivalence
+-- sameness of channels is an equivalence
 pub channel_laws : IsEquivalence same_channel
 channel_laws =
     and_equiv
@@ -56,14 +56,17 @@ channel_laws =
     (on_equiv (λ (c : Channel). c.sort) (and_equiv (on_equiv (λ (s : Sort). s.sends) bool_eq_equiv)
     (on_equiv (λ (s : Sort). s.split) bool_eq_equiv)))
 
+-- sameness of channels is symmetric and transitive
 pub channel_partial_laws : IsPartialEquivalence same_channel
 channel_partial_laws = partial_equiv_from_equiv channel_laws
 
+-- sameness of ends is an equivalence
 pub end_laws : IsEquivalence same_end
 end_laws =
     and_equiv (and_equiv (on_equiv (λ (e : End). e.rank) nat_eq_equiv) (on_equiv (λ (e : End). e.peer) nat_eq_equiv))
     (on_equiv (λ (e : End). e.channel) channel_laws)
 
+-- sameness of ends is symmetric and transitive
 pub end_partial_laws : IsPartialEquivalence same_end
 end_partial_laws = partial_equiv_from_equiv end_laws
 

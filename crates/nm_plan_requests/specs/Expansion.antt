@@ -33,13 +33,15 @@ abbrev pub part_body : Option ℕ → ℕ → Body → Body
 part_body None k body = body
 part_body (Some parts) k body = Hex (part_of parts k (bytes_of body))
 
--- the name, the tag and the context of part k of a request
+-- the name of part k of a request
 abbrev pub name_of : ℕ → ℕ → ℕ
 name_of p k = 16 * p + k
 
+-- the tag of part k of a request
 abbrev pub tag_of : Request → ℕ → ℕ
 tag_of r k = 16 * r.tag + k
 
+-- the context of a request: odd where it is in parts
 abbrev pub context_of : Request → ℕ
 context_of r = 2 * r.ctx + (if is_some r.parts then 1 else 0)
 

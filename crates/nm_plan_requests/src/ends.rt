@@ -147,6 +147,7 @@ pub struct Ends {
 impl Ends {
     ghost use Rattle.nm_plan_requests.specs.declared.ends.End as end;
 
+    /// No end yet.
     pub fn new(alloc: Global) -> Self
         ensures { (e : end.End) → get same_end result.map e ≡ None }
     {

@@ -64,6 +64,7 @@ impl Request {
         self.parts.unwrap_or(1)
     }
 
+    /// Whether it is a send.
     pub fn is_sending(&self) -> bool
         ensures { result ≡ is_sending self.now.side }
     {
@@ -160,6 +161,7 @@ pub struct Requests {
 impl Requests {
     ghost use Rattle.nm_plan_requests.specs.declared.requests.Owner as owner;
 
+    /// No request yet.
     pub fn new(alloc: Global) -> Self
         ensures { (owner : owner.Owner) → get same_owner result.map owner ≡ None }
     {

@@ -1,1 +1,3 @@
 pub mod GrammarLemmas
+pub mod ValueLemmas
+pub mod MakeLemmas

@@ -12,8 +12,8 @@ use Rattle.nm_script.specs.Commands.{rank_of}
 use Rattle.nm_script.specs.Faults.{◌>>=◌}
 use Rattle.nm_plans.specs.declared.faults.PlanKind.{PlanKind}
 use Rattle.nm_plans.specs.declared.faults.PlanKind.TheVariants as kind
-use Rattle.nm_plans.specs.declared.keywords.Keyword.{Keyword}
-use Rattle.nm_plans.specs.declared.keywords.Keyword.TheVariants as key
+use Rattle.nm_plans.specs.declared.keywords.PlanKeyword.{PlanKeyword}
+use Rattle.nm_plans.specs.declared.keywords.PlanKeyword.TheVariants as key
 use Rattle.nm_plans.specs.declared.lines.PlanCommand.{PlanCommand}
 use Rattle.nm_plans.specs.declared.lines.PlanCommand.TheVariants.{SendInit, RecvInit, PsendInit}
 use Rattle.nm_plans.specs.declared.lines.PlanCommand.TheVariants.{PrecvInit, Fill, Start, Ready}
@@ -25,22 +25,22 @@ use Rattle.nm_plans.specs.Grammar.Argument.{Request, Peer, Tag, Context, Parts, 
 use Rattle.nm_plans.specs.Grammar.Value.{Number, Bytes}
 
 -- a number below the limit
-unfoldable pub argument_of : ℕ → List ℕ → Result ℕ PlanKind
-argument_of limit word = ok_or (number_of limit word) kind.Number
+unfoldable pub plan_argument : ℕ → List ℕ → Result ℕ PlanKind
+plan_argument limit word = ok_or (number_of limit word) kind.Number
 
 -- one part or more
 unfoldable pub parts_of : List ℕ → Result ℕ PlanKind
-parts_of word = argument_of 17 word >>= λ n. if nat_le 1 n then Ok n else Err kind.Number
+parts_of word = plan_argument 17 word >>= λ n. if nat_le 1 n then Ok n else Err kind.Number
 
 -- the number that a word spells for an argument of a sort
 abbrev pub number_for : ℕ → Argument → List ℕ → Result ℕ PlanKind
-number_for ranks Request word = argument_of 4096 word
-number_for ranks Peer word = argument_of ranks word
-number_for ranks Tag word = argument_of 2048 word
-number_for ranks Context word = argument_of 128 word
+number_for ranks Request word = plan_argument 4096 word
+number_for ranks Peer word = plan_argument ranks word
+number_for ranks Tag word = plan_argument 2048 word
+number_for ranks Context word = plan_argument 128 word
 number_for ranks Parts word = parts_of word
-number_for ranks Part word = argument_of 16 word
-number_for ranks Capacity word = argument_of (MAX_CAPACITY + 1) word
+number_for ranks Part word = plan_argument 16 word
+number_for ranks Capacity word = plan_argument (MAX_CAPACITY + 1) word
 number_for ranks Contents word = Err kind.Number
 
 -- the argument that a word spells
@@ -55,17 +55,18 @@ values_of ranks (sort ∷ sorts) (word ∷ ws) =
     value_of ranks sort word >>= λ v. (values_of ranks sorts ws >>= λ vs. Ok (v ∷ vs))
 values_of ranks _ _ = Err kind.Count
 
--- the number of an argument that is one; the body of one that is one
+-- the number of an argument that is one
 abbrev pub number_in : Value → ℕ
 number_in (Number n) = n
 number_in (Bytes body) = 0
 
+-- the body of an argument that is one
 abbrev pub body_in : Value → Body
 body_in (Number n) = Gen 0
 body_in (Bytes body) = body
 
 -- the command with this name and these arguments
-abbrev pub make : Keyword → List Value → Result PlanCommand PlanKind
+abbrev pub make : PlanKeyword → List Value → Result PlanCommand PlanKind
 make key.SendInit (p ∷ to ∷ tag ∷ ctx ∷ body ∷ []) =
     Ok (SendInit (number_in p) (number_in to) (number_in tag) (number_in ctx) (body_in body))
 make key.RecvInit (p ∷ from ∷ tag ∷ ctx ∷ cap ∷ []) =
@@ -84,7 +85,7 @@ make key.Wait (p ∷ []) = Ok (Wait (number_in p))
 make _ _ = Err kind.Count
 
 -- a command by its arguments
-unfoldable pub arguments_of : ℕ → Keyword → List (List ℕ) → Result PlanCommand PlanKind
+unfoldable pub arguments_of : ℕ → PlanKeyword → List (List ℕ) → Result PlanCommand PlanKind
 arguments_of ranks keyword ws =
     if length ws == length (arguments keyword) then values_of ranks (arguments keyword) ws >>= make keyword
     else Err kind.Count

@@ -7,15 +7,15 @@ use Rattle.nm_types.specs.declared.scripts.Body.{Body}
 use Rattle.nm_types.specs.Bodies.{body_len}
 use Rattle.nm_types.specs.Text.{body_word}
 use Rattle.nm_script.specs.Spelled.{are_bytes}
-use Rattle.nm_plans.specs.declared.keywords.Keyword.{Keyword}
-use Rattle.nm_plans.specs.declared.keywords.Keyword.TheVariants as key
+use Rattle.nm_plans.specs.declared.keywords.PlanKeyword.{PlanKeyword}
+use Rattle.nm_plans.specs.declared.keywords.PlanKeyword.TheVariants as key
 use Rattle.nm_plans.specs.declared.lines.PlanCommand.{PlanCommand}
 use Rattle.nm_plans.specs.declared.lines.PlanCommand.TheVariants.{SendInit, RecvInit, PsendInit}
 use Rattle.nm_plans.specs.declared.lines.PlanCommand.TheVariants.{PrecvInit, Fill, Start, Ready}
 use Rattle.nm_plans.specs.declared.lines.PlanCommand.TheVariants.{Arrived, Wait}
 
 -- the name of a command
-abbrev pub keyword_text : Keyword → List ℕ
+abbrev pub keyword_text : PlanKeyword → List ℕ
 keyword_text key.SendInit = codes "sendinit"
 keyword_text key.RecvInit = codes "recvinit"
 keyword_text key.PsendInit = codes "psendinit"
@@ -27,13 +27,13 @@ keyword_text key.Arrived = codes "arrived"
 keyword_text key.Wait = codes "wait"
 
 -- the commands that there are
-abbrev pub keywords : List Keyword
+abbrev pub keywords : List PlanKeyword
 keywords =
     key.SendInit ∷ key.RecvInit ∷ key.PsendInit ∷ key.PrecvInit ∷ key.Fill ∷ key.Start ∷ key.Ready
     ∷ key.Arrived ∷ key.Wait ∷ []
 
 -- the command that has this name
-unfoldable pub keyword_of : List ℕ → Option Keyword
+unfoldable pub keyword_of : List ℕ → Option PlanKeyword
 keyword_of word = find (λ k. bytes_eq word (keyword_text k)) keywords
 
 -- the sorts of arguments
@@ -53,7 +53,7 @@ pub data Value : Type 0 where
   Bytes : (body : Body) → Value
 
 -- the arguments of a command
-abbrev pub arguments : Keyword → List Argument
+abbrev pub arguments : PlanKeyword → List Argument
 arguments key.SendInit = Request ∷ Peer ∷ Tag ∷ Context ∷ Contents ∷ []
 arguments key.RecvInit = Request ∷ Peer ∷ Tag ∷ Context ∷ Capacity ∷ []
 arguments key.PsendInit = Request ∷ Peer ∷ Tag ∷ Context ∷ Parts ∷ Contents ∷ []
@@ -87,7 +87,7 @@ value_word (Number n) = decimal n
 value_word (Bytes body) = body_word body
 
 -- a command's name
-abbrev pub keyword_in : PlanCommand → Keyword
+abbrev pub keyword_in : PlanCommand → PlanKeyword
 keyword_in (SendInit p to tag ctx body) = key.SendInit
 keyword_in (RecvInit p from tag ctx cap) = key.RecvInit
 keyword_in (PsendInit p to tag ctx parts body) = key.PsendInit

@@ -1,6 +1,6 @@
 -- What the words of a line spell.
 use Rattle.std.specs.Prelude.{◌≡◌, ℕ, ◌<◌, true, List, [], ◌∷◌}
-use Rattle.nm_plans.specs.declared.keywords.Keyword.{Keyword}
+use Rattle.nm_plans.specs.declared.keywords.PlanKeyword.{PlanKeyword}
 use Rattle.nm_plans.specs.declared.lines.PlanLine.{PlanLine}
 use Rattle.nm_plans.specs.Grammar.{Argument, Value, is_in_range, is_value, keyword_text, value_word}
 use Rattle.nm_plans.specs.Grammar.Argument.{Contents}
@@ -10,11 +10,12 @@ use Rattle.nm_plans.specs.Text.{line_text}
 abbrev pub IsSpelled : ℕ → Argument → List ℕ → Type 0
 IsSpelled ranks sort word = (v : Value) × (is_value ranks sort v ≡ true) × (word ≡ value_word v)
 
--- a word that stands for a number is one; a word that stands for a body is one
+-- a word that stands for a number is one
 abbrev pub IsNumberThere : ℕ → Argument → List ℕ → Type 0
 IsNumberThere ranks Contents word = Unit {0}
 IsNumberThere ranks sort word = IsSpelled ranks sort word
 
+-- a word that stands for a body is one
 abbrev pub IsBodyThere : ℕ → Argument → List ℕ → Type 0
 IsBodyThere ranks Contents word = IsSpelled ranks Contents word
 IsBodyThere ranks _ word = Unit {0}
@@ -31,6 +32,6 @@ pub record IsLine (ranks : ℕ) (text : List ℕ) (line : PlanLine) : Type 0 whe
   pub range : is_in_range ranks line.command ≡ true
 
 -- the second word is this command's name
-abbrev pub Names : Keyword → List (List ℕ) → Type 0
+abbrev pub Names : PlanKeyword → List (List ℕ) → Type 0
 Names keyword (first ∷ name ∷ ws) = name ≡ keyword_text keyword
 Names keyword _ = ⊥

@@ -3,13 +3,13 @@
 ghost use Rattle.std.specs.Prelude.{◌≡◌, ◌<◌, ◌≤◌, map, IfOk};
 ghost use Rattle.nm_script.specs.Commands.{rank_of};
 ghost use Rattle.nm_plans.specs.declared.faults.PlanKind.TheVariants as kind;
-ghost use Rattle.nm_plans.specs.declared.keywords.Keyword.TheVariants as key;
-ghost use Rattle.nm_plans.specs.Commands.{argument_of, arguments_of, command_of, line_of, parts_of};
+ghost use Rattle.nm_plans.specs.declared.keywords.PlanKeyword.TheVariants as key;
+ghost use Rattle.nm_plans.specs.Commands.{plan_argument, arguments_of, command_of, line_of, parts_of};
 ghost use Rattle.nm_plans.specs.Faults.{Gives, or_kind};
 
 use crate::bodies::body_from;
 use crate::faults::{LineFault, PlanKind};
-use crate::keywords::{Keyword, keyword_from};
+use crate::keywords::{PlanKeyword, keyword_from};
 use crate::limits::{MAX_CONTEXT, MAX_PARTS, MAX_REQUEST, MAX_TAG};
 use crate::lines::{PlanCommand, PlanLine};
 use nm_types::MAX_CAPACITY;
@@ -31,9 +31,9 @@ fn rank_from(ranks: u8, word: &[u8]) -> Result<u8, PlanKind>
 }
 
 /// A number below `limit`.
-#[tactic(auto, unfolding(crate::specs::Commands::argument_of))]
+#[tactic(auto, unfolding(crate::specs::Commands::plan_argument))]
 fn argument(word: &[u8], limit: u64) -> Result<u64, PlanKind>
-    ensures exact { result ≡ argument_of limit word.now }
+    ensures exact { result ≡ plan_argument limit word.now }
     ensures below { IfOk result (λ n. n < limit) }
 {
     number(word, limit).ok_or(PlanKind::Number)
@@ -41,25 +41,25 @@ fn argument(word: &[u8], limit: u64) -> Result<u64, PlanKind>
 
 /// A name of a request.
 fn request_from(word: &[u8]) -> Result<u16, PlanKind>
-    ensures { result ≡ argument_of 4096 word.now }
+    ensures { result ≡ plan_argument 4096 word.now }
 {
     Ok(argument(word, u64::from(MAX_REQUEST) + 1)? as u16)
 }
 
 fn peer_from(ranks: u8, word: &[u8]) -> Result<u8, PlanKind>
-    ensures { result ≡ argument_of ranks word.now }
+    ensures { result ≡ plan_argument ranks word.now }
 {
     Ok(argument(word, u64::from(ranks))? as u8)
 }
 
 fn tag_from(word: &[u8]) -> Result<u16, PlanKind>
-    ensures { result ≡ argument_of 2048 word.now }
+    ensures { result ≡ plan_argument 2048 word.now }
 {
     Ok(argument(word, u64::from(MAX_TAG) + 1)? as u16)
 }
 
 fn context_from(word: &[u8]) -> Result<u8, PlanKind>
-    ensures { result ≡ argument_of 128 word.now }
+    ensures { result ≡ plan_argument 128 word.now }
 {
     Ok(argument(word, u64::from(MAX_CONTEXT) + 1)? as u8)
 }
@@ -77,13 +77,13 @@ fn parts_from(word: &[u8]) -> Result<u8, PlanKind>
 
 /// The number of a part.
 fn part_from(word: &[u8]) -> Result<u8, PlanKind>
-    ensures { result ≡ argument_of 16 word.now }
+    ensures { result ≡ plan_argument 16 word.now }
 {
     Ok(argument(word, u64::from(MAX_PARTS))? as u8)
 }
 
 fn capacity_from(word: &[u8]) -> Result<u32, PlanKind>
-    ensures { result ≡ argument_of 1048577 word.now }
+    ensures { result ≡ plan_argument 1048577 word.now }
 {
     Ok(argument(word, u64::from(MAX_CAPACITY) + 1)? as u32)
 }
@@ -227,21 +227,21 @@ fn wait(ranks: u8, arguments: &[&[u8]]) -> Result<PlanCommand, PlanKind>
 fn arguments_from(
     alloc: Global,
     ranks: u8,
-    keyword: Keyword,
+    keyword: PlanKeyword,
     arguments: &[&[u8]],
 ) -> Result<PlanCommand, LineFault>
     ensures { Gives result (arguments_of ranks keyword (map (λ word. word.now) arguments.now)) }
 {
     match keyword {
-        Keyword::SendInit => send_init(alloc, ranks, arguments),
-        Keyword::RecvInit => Ok(recv_init(ranks, arguments)?),
-        Keyword::PsendInit => psend_init(alloc, ranks, arguments),
-        Keyword::PrecvInit => Ok(precv_init(ranks, arguments)?),
-        Keyword::Fill => fill(alloc, ranks, arguments),
-        Keyword::Start => Ok(start(ranks, arguments)?),
-        Keyword::Ready => Ok(ready(ranks, arguments)?),
-        Keyword::Arrived => Ok(arrived(ranks, arguments)?),
-        Keyword::Wait => Ok(wait(ranks, arguments)?),
+        PlanKeyword::SendInit => send_init(alloc, ranks, arguments),
+        PlanKeyword::RecvInit => Ok(recv_init(ranks, arguments)?),
+        PlanKeyword::PsendInit => psend_init(alloc, ranks, arguments),
+        PlanKeyword::PrecvInit => Ok(precv_init(ranks, arguments)?),
+        PlanKeyword::Fill => fill(alloc, ranks, arguments),
+        PlanKeyword::Start => Ok(start(ranks, arguments)?),
+        PlanKeyword::Ready => Ok(ready(ranks, arguments)?),
+        PlanKeyword::Arrived => Ok(arrived(ranks, arguments)?),
+        PlanKeyword::Wait => Ok(wait(ranks, arguments)?),
     }
 }
 

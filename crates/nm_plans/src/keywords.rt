@@ -5,7 +5,7 @@ ghost use Rattle.nm_plans.specs.Grammar.{keyword_of};
 
 /// A command, by its name.
 #[derive(Clone, Copy)]
-pub enum Keyword {
+pub enum PlanKeyword {
     SendInit,
     RecvInit,
     PsendInit,
@@ -19,27 +19,27 @@ pub enum Keyword {
 
 /// The command that has this name.
 #[tactic(auto, unfolding(crate::specs::Grammar::keyword_of))]
-pub fn keyword_from(word: &[u8]) -> Option<Keyword>
+pub fn keyword_from(word: &[u8]) -> Option<PlanKeyword>
     ensures { result ≡ keyword_of word.now }
 {
     if word == b"sendinit".as_slice() {
-        Some(Keyword::SendInit)
+        Some(PlanKeyword::SendInit)
     } else if word == b"recvinit".as_slice() {
-        Some(Keyword::RecvInit)
+        Some(PlanKeyword::RecvInit)
     } else if word == b"psendinit".as_slice() {
-        Some(Keyword::PsendInit)
+        Some(PlanKeyword::PsendInit)
     } else if word == b"precvinit".as_slice() {
-        Some(Keyword::PrecvInit)
+        Some(PlanKeyword::PrecvInit)
     } else if word == b"fill".as_slice() {
-        Some(Keyword::Fill)
+        Some(PlanKeyword::Fill)
     } else if word == b"start".as_slice() {
-        Some(Keyword::Start)
+        Some(PlanKeyword::Start)
     } else if word == b"ready".as_slice() {
-        Some(Keyword::Ready)
+        Some(PlanKeyword::Ready)
     } else if word == b"arrived".as_slice() {
-        Some(Keyword::Arrived)
+        Some(PlanKeyword::Arrived)
     } else if word == b"wait".as_slice() {
-        Some(Keyword::Wait)
+        Some(PlanKeyword::Wait)
     } else {
         None
     }

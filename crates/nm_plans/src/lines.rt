@@ -101,12 +101,14 @@ impl PlanLines {
         }
     }
 
+    /// The list of these lines.
     pub fn from_vec(items: Vec<PlanLine>) -> Self
         ensures { result ≡ items.items }
     {
         PlanLines { items }
     }
 
+    /// The lines, given away.
     pub fn into_vec(self) -> Vec<PlanLine>
         ensures { result.items ≡ self }
     {
@@ -122,24 +124,28 @@ impl PlanLines {
         Ok(())
     }
 
+    /// How many lines there are.
     pub fn len(&self) -> usize
         ensures { result ≡ length self.now }
     {
         self.items.len()
     }
 
+    /// Whether there is none.
     pub fn is_empty(&self) -> bool
         ensures { IsTrue result ↔ (self.now ≡ []) }
     {
         self.items.is_empty()
     }
 
+    /// The lines, in order.
     pub fn as_slice(&self) -> &[PlanLine]
         ensures { result.now ≡ self.now }
     {
         self.items.as_slice()
     }
 
+    /// The line at place k, from 0; `None` where there are at most k.
     pub fn get(&self, k: usize) -> Option<&PlanLine>
         ensures value { option_copied result ≡ slice_get self.now k }
         ensures none { IsNone result ↔ (length self.now ≤ k) }

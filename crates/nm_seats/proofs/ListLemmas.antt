@@ -6,19 +6,6 @@ use mathlib.Core.Option as maybe
 use lib.ListN.{get_elem?}
 use Rattle.nm_seats.specs.Spoken.{Each}
 
-none_some : {A : Type 0} (k : ℕ) (x : A) → slice_get [] k ≡ Some x → ⊥
-none_some k x e = cc
-
-pub get_last : {A : Type 0} (xs : List A) (x : A) → slice_get (xs ++ x ∷ []) (length xs) ≡ Some x
-get_last [] x = refl
-get_last (z ∷ zs) x = get_last zs x
-
-pub get_before : {A : Type 0} (xs ys : List A) (k : ℕ) (x : A) → slice_get xs k ≡ Some x
-    → slice_get (xs ++ ys) k ≡ Some x
-get_before [] ys k x e = absurd (none_some k x e)
-get_before (z ∷ zs) ys zero x e = e
-get_before (z ∷ zs) ys (suc k) x e = get_before zs ys k x e
-
 pub get_snoc : {A : Type 0} (xs : List A) (x : A) (k : ℕ) (y : A)
     → slice_get (xs ++ x ∷ []) k ≡ Some y → (slice_get xs k ≡ Some y) ⊎ ((k ≡ length xs) × (x ≡ y))
 get_snoc [] x zero y e = inr (refl, cc)
@@ -32,10 +19,6 @@ pub get_mapped : {A B : Type 0} (f : A → B) (xs : List A) (k : ℕ) (y : B)
 get_mapped f [] k y e = absurd (maybe.some-ne-none y (sym e))
 get_mapped f (x ∷ xs) zero y e = (x, refl, maybe.some-injective (f x) y e)
 get_mapped f (x ∷ xs) (suc k) y e = get_mapped f xs k y e
-
-pub no_items : {A : Type 0} (xs : List A) → length xs ≡ 0 → xs ≡ []
-no_items [] e = refl
-no_items (x ∷ xs) e = absurd (omega arith)
 
 -- the homes of slots that are equal at the start
 pub at_replicate : {A : Type 0} (x : A) (k c : ℕ) → c < k → get_elem? (map maybe.some (replicate k x)) c

@@ -5,7 +5,6 @@ use Rattle.std.proofs.Common.{List, [], ◌∷◌, length, refl, sym, ◌∙◌,
 use Rattle.std.specs.Prelude.{IfSome, MatchOption, nat_lt, replicate}
 use Rattle.std.specs.List.{list_all, slice_get}
 use Rattle.std.specs.Option.{option_map_or}
-use Rattle.std.proofs.lemmas.Bool.{false≢true}
 use Rattle.std.proofs.lemmas.Bool.Decides.{nat_tests}
 use Rattle.nm_types.specs.declared.messages.Peer.TheVariants as peer
 use Rattle.nm_types.specs.declared.scripts.Command.{Command}
@@ -19,15 +18,17 @@ use Rattle.nm_history.specs.Answers.{can_go_on}
 use Rattle.nm_history.specs.Quiescence.{EachPair, EachRank, Ended, Packets, Stands}
 use Rattle.nm_history.specs.RankRun.{IsRankRun}
 use Rattle.nm_history.specs.Run.{IsRunOf}
-use Rattle.nm_history.proofs.OnceLemmas.{and_left, and_right, same_of}
 use Rattle.nm_sure.specs.Agree.{ArePlain}
 use Rattle.nm_sure.specs.Plain.{at_of, can_run, goes_on, next_of, plain_end}
 use Rattle.nm_sure.proofs.Ceiling.{ceiling}
 use Rattle.nm_sure.proofs.Floor.{floor}
 use Rattle.nm_sure.proofs.Fuel.{at_start, ended}
-use Rattle.nm_sure.proofs.Lists.{below_place, no_some, of_some, same_some}
 use Rattle.nm_sure.proofs.Reached.{plain_from}
 use Rattle.nm_sure.proofs.Worlds.{IsWithin, PlainRun, line_place}
+use Rattle.nm_facts.proofs.Lists.{get_some}
+use Rattle.nm_facts.proofs.Numbers.{same_number}
+use Rattle.nm_facts.proofs.Options.{if_some, no_some, same_some}
+use Rattle.nm_facts.proofs.Truth.{second_of_five as second, and_left, and_right}
 
 -- the law of a rank's commands, and that of a run without events
 abbrev pub StandAtLines : Type 0
@@ -48,29 +49,30 @@ from_line ranks rank number [] k c fine here = absurd (no_some c here)
 from_line ranks rank number (l ∷ lines) k c fine here =
     by_rank (l.rank == rank) refl k here
     (and_left (nat_lt l.rank ranks && is_in_range ranks l.command) _ fine)
-    (λ j there. from_line ranks rank (number + 1) lines j c (and_right (nat_lt l.rank ranks && is_in_range ranks l.command) _ fine) there)
+    (λ j there. from_line ranks rank (number + 1) lines j c
+    (and_right (nat_lt l.rank ranks && is_in_range ranks l.command) _ fine) there)
   where
     by_rank : (b : Bool) → (l.rank == rank) ≡ b → (k : ℕ) →
         slice_get (cond b (record { line = number; command = l.command } ∷ commands_from rank (number + 1) lines)
-        (commands_from rank (number + 1) lines)) k ≡ Some c → (nat_lt l.rank ranks && is_in_range ranks l.command) ≡ true →
-        ((j : ℕ) → slice_get (commands_from rank (number + 1) lines) j ≡ Some c → (rank < ranks) × (is_in_range ranks c.command ≡ true)) →
+        (commands_from rank (number + 1) lines)) k ≡ Some c →
+        (nat_lt l.rank ranks && is_in_range ranks l.command) ≡ true →
+        ((j : ℕ) → slice_get (commands_from rank (number + 1) lines) j ≡ Some c →
+        (rank < ranks) × (is_in_range ranks c.command ≡ true)) →
         (rank < ranks) × (is_in_range ranks c.command ≡ true)
     by_rank true is zero here own later = (
-      subst (λ (r : ℕ). r < ranks) (same_of l.rank rank is) (low_of l.rank ranks (and_left (nat_lt l.rank ranks) (is_in_range ranks l.command) own)),
-      subst (λ (d : Numbered). is_in_range ranks d.command ≡ true) (same_some (record { line = number; command = l.command }) c here)
+      subst (λ (r : ℕ). r < ranks) (same_number l.rank rank is)
+          (low_of l.rank ranks (and_left (nat_lt l.rank ranks) (is_in_range ranks l.command) own)),
+      subst (λ (d : Numbered). is_in_range ranks d.command ≡ true)
+          (same_some (record { line = number; command = l.command }) c here)
           (and_right (nat_lt l.rank ranks) (is_in_range ranks l.command) own),
     )
     by_rank true is (suc k) here own later = later k here
     by_rank false is k here own later = later k here
 
-second : (a b c d e : Bool) → (a && b && c && d && e) ≡ true → b ≡ true
-second true true c d e is = refl
-second true false c d e is = absurd (false≢true is)
-second false b c d e is = absurd (false≢true is)
-
-within_range : (ranks : ℕ) (c : Command) → is_in_range ranks c ≡ true → IsWithin ranks c
+pub within_range : (ranks : ℕ) (c : Command) → is_in_range ranks c ≡ true → IsWithin ranks c
 within_range ranks (command.Send q to tag ctx body sync) fine = low_of to ranks (second _ (nat_lt to ranks) _ _ _ fine)
-within_range ranks (command.Recv q (peer.One from) tag ctx cap) fine = low_of from ranks (second _ (nat_lt from ranks) _ _ _ fine)
+within_range ranks (command.Recv q (peer.One from) tag ctx cap) fine = low_of from ranks
+    (second _ (nat_lt from ranks) _ _ _ fine)
 within_range ranks (command.Recv q peer.Any tag ctx cap) fine = tt
 within_range ranks (command.Wait q) fine = tt
 within_range ranks (command.Test q) fine = tt
@@ -87,20 +89,25 @@ at_in ranks i = option_map_or (λ r. r.at) (slice_get ranks i) 0
 abbrev pub hist_in : List Ended → ℕ → List Event
 hist_in ranks i = option_map_or (λ r. r.events) (slice_get ranks i) []
 
-module _ (shape : Sizes) (lines : List Line) (ranks : List Ended) (packets : List Packets) (stand : StandAtLines) (begins : Begins)
+module _ (shape : Sizes) (lines : List Line) (ranks : List Ended) (packets : List Packets) (stand : StandAtLines)
+    (begins : Begins)
     (script : IsScript shape.ranks lines) (plain : ArePlain lines) (lawful : IsRunOf shape lines ranks packets) where
-  pair_of_ranks : (R : ℕ → ℕ → List Event → List Event → Type 0) → EachPair R ranks → (i j : ℕ) → i < shape.ranks → j < shape.ranks →
+  pair_of_ranks : (R : ℕ → ℕ → List Event → List Event → Type 0) → EachPair R ranks → (i j : ℕ) → i < shape.ranks →
+      j < shape.ranks →
       R i j (hist_in ranks i) (hist_in ranks j)
   pair_of_ranks R each i j inside within =
       let low : i < length ranks = (let n = lawful.one_each in omega (arith, inside, n)) in
       let near : j < length ranks = (let n = lawful.one_each in omega (arith, within, n)) in
-      let a = below_place ranks i low in
-      let b = below_place ranks j near in
+      let a = get_some ranks i low in
+      let b = get_some ranks j near in
       let both : R i j a.0.events b.0.events =
-      of_some (λ (b : Ended). R i j a.0.events b.events) (slice_get ranks j) b.0 b.1
-      (of_some (λ (a : Ended). EachRank (λ j b. R i j a.events b.events) ranks) (slice_get ranks i) a.0 a.1 (each i) j) in
-      subst (λ (h : List Event). R i j h (hist_in ranks j)) (sym (ap (λ (o : Option Ended). option_map_or (λ r. r.events) o []) a.1))
-      (subst (λ (h : List Event). R i j a.0.events h) (sym (ap (λ (o : Option Ended). option_map_or (λ r. r.events) o []) b.1)) both)
+      if_some (λ (b : Ended). R i j a.0.events b.events) (slice_get ranks j) b.0 b.1
+      (if_some (λ (a : Ended). EachRank (λ j b. R i j a.events b.events) ranks) (slice_get ranks i) a.0 a.1
+      (each i) j) in
+      subst (λ (h : List Event). R i j h (hist_in ranks j))
+      (sym (ap (λ (o : Option Ended). option_map_or (λ r. r.events) o []) a.1))
+      (subst (λ (h : List Event). R i j a.0.events h)
+      (sym (ap (λ (o : Option Ended). option_map_or (λ r. r.events) o []) b.1)) both)
 
   own_run : (i : ℕ) → IsRankRun shape (commands_of i lines) (at_in ranks i) (hist_in ranks i)
   own_run i = by_rank (slice_get ranks i) (lawful.rank_runs i)
@@ -110,11 +117,15 @@ module _ (shape : Sizes) (lines : List Line) (ranks : List Ended) (packets : Lis
       by_rank None holds = begins shape (commands_of i lines)
       by_rank (Some r) holds = holds
 
-  peers_in : (i l : ℕ) (c : Command) → command_at (commands_of i lines) l ≡ Some c → (i < shape.ranks) × IsWithin shape.ranks c
+  peers_in : (i l : ℕ) (c : Command) → command_at (commands_of i lines) l ≡ Some c →
+      (i < shape.ranks) × IsWithin shape.ranks c
   peers_in i l c here =
       let place = line_place (commands_of i lines) l c here in
-      let fine = from_line shape.ranks i 2 lines place.0 place.1 script.lines_in_range place.2 in
-      (fine.0, subst (λ (c : Command). IsWithin shape.ranks c) place.4 (within_range shape.ranks place.1.command fine.1))
+      let fine = from_line shape.ranks i 2 lines place.0 place.1 script.lines_in_range place.2 in (
+        fine.0,
+        subst (λ (c : Command). IsWithin shape.ranks c) place.4
+            (within_range shape.ranks place.1.command fine.1),
+      )
 
   waits_in : (i : ℕ) (c : Numbered) → slice_get (commands_of i lines) (at_in ranks i) ≡ Some c →
       can_go_on (commands_of i lines) (hist_in ranks i) c.command ≡ false
@@ -123,10 +134,12 @@ module _ (shape : Sizes) (lines : List Line) (ranks : List Ended) (packets : Lis
       by_rank (slice_get ranks i) refl (lawful.quiescent.waits i) here
     where
       stops : (r : Ended) (o : Option Numbered) → o ≡ Some c →
-          MatchOption o (r.waits ≡ None) (λ c. (r.waits ≡ Some c.line) × (can_go_on (commands_of i lines) r.events c.command ≡ false)) →
+          MatchOption o (r.waits ≡ None)
+          (λ c. (r.waits ≡ Some c.line) × (can_go_on (commands_of i lines) r.events c.command ≡ false)) →
           can_go_on (commands_of i lines) r.events c.command ≡ false
       stops r None same holds = absurd (no_some c same)
-      stops r (Some d) same holds = subst (λ (c : Numbered). can_go_on (commands_of i lines) r.events c.command ≡ false) (same_some d c same) holds.1
+      stops r (Some d) same holds = subst (λ (c : Numbered). can_go_on (commands_of i lines) r.events c.command
+          ≡ false) (same_some d c same) holds.1
 
       by_rank : (o : Option Ended) → slice_get ranks i ≡ o → IfSome o (λ r. Stands (commands_of i lines) r) →
           slice_get (commands_of i lines) (option_map_or (λ r. r.at) o 0) ≡ Some c →
@@ -134,7 +147,7 @@ module _ (shape : Sizes) (lines : List Line) (ranks : List Ended) (packets : Lis
       by_rank None none holds here =
           let inside = (peers_in i c.line c.command (stand i lines 0 c here)).0 in
           let low : i < length ranks = (let n = lawful.one_each in omega (arith, inside, n)) in
-          let some = below_place ranks i low in
+          let some = get_some ranks i low in
           absurd (no_some some.0 (sym none ∙ some.1))
       by_rank (Some r) some holds here = stops r (slice_get (commands_of i lines) r.at) here holds
 
@@ -157,7 +170,8 @@ module _ (shape : Sizes) (lines : List Line) (ranks : List Ended) (packets : Lis
       by_next : (o : Option Numbered) → next_of lines (plain_end shape.eager shape.ranks lines) i ≡ o →
           can_run shape.eager lines (plain_end shape.eager shape.ranks lines) i ≡ false
       by_next None none =
-          ap (λ (o : Option Numbered). option_map_or (λ c. goes_on shape.eager lines (plain_end shape.eager shape.ranks lines) i c.command) o false) none
+          ap (λ (o : Option Numbered). option_map_or
+          (λ c. goes_on shape.eager lines (plain_end shape.eager shape.ranks lines) i c.command) o false) none
       by_next (Some c) here =
           ended shape.eager lines shape.ranks i
           (peers_in i c.line c.command (stand i lines (at_of (plain_end shape.eager shape.ranks lines) i) c here)).0
@@ -165,7 +179,8 @@ module _ (shape : Sizes) (lines : List Line) (ranks : List Ended) (packets : Lis
   -- each rank gets just as far as in the plain run
   pub as_far : (i : ℕ) → at_in ranks i ≡ at_of (plain_end shape.eager shape.ranks lines) i
   as_far i =
-      let high = ceiling shape lines (at_in ranks) (hist_in ranks) assembled (plain_end shape.eager shape.ranks lines) all_ended i in
+      let high = ceiling shape lines (at_in ranks) (hist_in ranks) assembled (plain_end shape.eager shape.ranks lines)
+      all_ended i in
       let low = floor shape lines (at_in ranks) (hist_in ranks) assembled (length lines) (replicate shape.ranks 0)
       (λ j. let zero_at = at_start shape.eager lines shape.ranks j in omega (arith, zero_at)) i in
       omega (arith, high, low)

@@ -1,7 +1,7 @@
 -- The commands before a line, one line after another.
 use Rattle.std.proofs.Common.{◌≡◌, ℕ, ◌+◌, ◌==◌, Bool, true, false, cond, zero, suc, Option, Some, None}
 use Rattle.std.specs.declared.vec.Vec.{Vec}
-use Rattle.nm_history.proofs.OnceLemmas.{eqb_self, same_of}
+use Rattle.nm_history.proofs.OnceLemmas.{eqb_self}
 use Rattle.std.proofs.Common.{List, [], ◌∷◌, ◌++◌, length, map, refl, sym, ◌∙◌, ap, arith, append-nil}
 use Rattle.std.specs.Prelude.{option_and_then, take}
 use Rattle.std.specs.List.{range_with_len, slice_get}
@@ -14,12 +14,9 @@ use Rattle.nm_types.specs.Commands.{Numbered, commands_from, commands_of}
 use Rattle.nm_sure.specs.declared.names.Name as key
 use Rattle.nm_sure.specs.Held.{before, held_at, held_for, held_in, name_by, name_of, own_lines, same_name}
 use Rattle.nm_sure.specs.Names.{holder, holder_by}
-use Rattle.nm_sure.proofs.Lists.{no_some, same_some}
-
-pub take_more : {X : Type 0} (xs : List X) (k : ℕ) (x : X) → slice_get xs k ≡ Some x → take (suc k) xs ≡ take k xs ++ x ∷ []
-take_more [] k x here = absurd (no_some x here)
-take_more {X = X} (y ∷ ys) zero x here = ap (λ (z : X). z ∷ []) (same_some y x here)
-take_more {X = X} (y ∷ ys) (suc k) x here = ap (λ (zs : List X). y ∷ zs) (take_more ys k x here)
+use Rattle.nm_facts.proofs.Numbers.{same_number}
+use Rattle.nm_facts.proofs.Options.{no_some}
+use Rattle.nm_facts.proofs.Lists.{take_more}
 
 -- so many stand before a place that is taken
 pub taken_before : {X : Type 0} (xs : List X) (k : ℕ) (x : X) → slice_get xs k ≡ Some x → length (take k xs) ≡ k
@@ -45,14 +42,18 @@ commands_push rank n [] line = by_rank (line.rank == rank)
     by_rank true = ap (λ (m : ℕ). numbered m line ∷ []) (sym same)
     by_rank false = refl
 commands_push rank n (x ∷ xs) line =
-    by_rank (x.rank == rank) (commands_push rank (n + 1) xs line ∙ ap (λ (m : ℕ). commands_from rank (n + 1) xs ++ own_of rank m line) shift)
+    by_rank (x.rank == rank) (commands_push rank (n + 1) xs line
+    ∙ ap (λ (m : ℕ). commands_from rank (n + 1) xs ++ own_of rank m line) shift)
   where
     shift : n + 1 + length xs ≡ n + suc (length xs)
     shift = omega arith
 
-    by_rank : (b : Bool) → commands_from rank (n + 1) (xs ++ line ∷ []) ≡ commands_from rank (n + 1) xs ++ own_of rank (n + suc (length xs)) line →
-        cond b (numbered n x ∷ commands_from rank (n + 1) (xs ++ line ∷ [])) (commands_from rank (n + 1) (xs ++ line ∷ []))
-        ≡ cond b (numbered n x ∷ commands_from rank (n + 1) xs) (commands_from rank (n + 1) xs) ++ own_of rank (n + suc (length xs)) line
+    by_rank : (b : Bool) → commands_from rank (n + 1) (xs ++ line ∷ []) ≡ commands_from rank (n + 1) xs ++ own_of rank
+        (n + suc (length xs)) line →
+        cond b (numbered n x ∷ commands_from rank (n + 1) (xs ++ line ∷ []))
+        (commands_from rank (n + 1) (xs ++ line ∷ []))
+        ≡ cond b (numbered n x ∷ commands_from rank (n + 1) xs) (commands_from rank (n + 1) xs) ++ own_of rank
+        (n + suc (length xs)) line
     by_rank true later = ap (λ (cs : List Numbered). numbered n x ∷ cs) later
     by_rank false later = later
 
@@ -63,7 +64,8 @@ before_more lines k rank line here =
     ap (λ (n : ℕ). before lines n rank) one
     ∙ ap (λ (ls : List Line). commands_of rank ls) (take_more lines k line here)
     ∙ commands_push rank 2 (take k lines) line
-    ∙ ap (λ (m : ℕ). before lines k rank ++ own_of rank m line) (let count = taken_before lines k line here in two count)
+    ∙ ap (λ (m : ℕ). before lines k rank ++ own_of rank m line) (let count = taken_before lines k line here in
+    two count)
   where
     one : k + 1 ≡ suc k
     one = omega arith
@@ -78,13 +80,16 @@ names_more lines k line n here =
     by_rank (line.rank == n.rank)
     ∙ ap (λ (cs : List Numbered). holder cs n.q) (sym (before_more lines k n.rank line here))
   where
-    by_rank : (b : Bool) → cond b (holder_by n.q (holder (before lines k n.rank) n.q) (k + 2) line.command) (holder (before lines k n.rank) n.q)
+    by_rank : (b : Bool) → cond b (holder_by n.q (holder (before lines k n.rank) n.q) (k + 2) line.command)
+        (holder (before lines k n.rank) n.q)
         ≡ holder (before lines k n.rank ++ cond b (numbered (k + 2) line ∷ []) []) n.q
-    by_rank true = sym (fold_push (λ (held : Option ℕ) (c : Numbered). holder_by n.q held c.line c.command) None (before lines k n.rank) (numbered (k + 2) line))
+    by_rank true = sym (fold_push (λ (held : Option ℕ) (c : Numbered). holder_by n.q held c.line c.command) None
+        (before lines k n.rank) (numbered (k + 2) line))
     by_rank false = ap (λ (cs : List Numbered). holder cs n.q) (sym (append-nil (before lines k n.rank)))
 
 -- what the name of a line stands for
-pub held_here : (lines : List Line) (k : ℕ) (line : Line) → slice_get lines k ≡ Some line → held_at lines k ≡ held_for lines k line
+pub held_here : (lines : List Line) (k : ℕ) (line : Line) → slice_get lines k ≡ Some line →
+    held_at lines k ≡ held_for lines k line
 held_here lines k line here = ap (λ (o : Option Line). option_and_then (held_for lines k) o) here
 
 -- what a line's name stands for in a map that has what each name stands for before it
@@ -93,13 +98,15 @@ pub held_now : {S : Type 0} (lines : List Line) (k : ℕ) (line : Line) (names :
     option_and_then (held_in names line.rank) (name_of line.command) ≡ held_for lines k line
 held_now lines k line names each = by_name (name_of line.command)
   where
-    by_name : (o : Option ℕ) → option_and_then (held_in names line.rank) o ≡ option_and_then (holder (before lines k line.rank)) o
+    by_name : (o : Option ℕ) → option_and_then (held_in names line.rank) o ≡ option_and_then
+        (holder (before lines k line.rank)) o
     by_name None = refl
     by_name (Some q) = each (record { rank = line.rank; q = q })
 
 -- one line more
 pub one_held : (lines : List Line) (k : ℕ) (line : Line) (x : Option ℕ) (old new : List (Option ℕ)) →
-    slice_get lines k ≡ Some line → x ≡ held_for lines k line → old ≡ map (held_at lines) (range_with_len 0 k) → new ≡ old ++ x ∷ [] →
+    slice_get lines k ≡ Some line → x ≡ held_for lines k line → old ≡ map (held_at lines) (range_with_len 0 k) →
+    new ≡ old ++ x ∷ [] →
     new ≡ map (held_at lines) (range_with_len 0 (k + 1))
 one_held lines k line x old new here is so_far put =
     put ∙ ap (λ (y : Option ℕ). old ++ y ∷ []) (is ∙ sym (held_here lines k line here))
@@ -107,17 +114,20 @@ one_held lines k line x old new here is so_far put =
     ∙ sym (map-range_with_len_more (held_at lines) 0 k k (omega arith))
 
 -- the lines of a rank's commands up to the next line
-pub own_more : (lines : List Line) (k rank : ℕ) (line : Line) (t : Bool) → slice_get lines k ≡ Some line → (line.rank == rank) ≡ t →
+pub own_more : (lines : List Line) (k rank : ℕ) (line : Line) (t : Bool) → slice_get lines k ≡ Some line →
+    (line.rank == rank) ≡ t →
     own_lines (take (k + 1) lines) rank ≡ own_lines (take k lines) rank ++ cond t ((k + 2) ∷ []) []
 own_more lines k rank line t here is =
     ap (λ (cs : List Numbered). map (λ (c : Numbered). c.line) cs) (before_more lines k rank line here)
     ∙ map-append (λ (c : Numbered). c.line) (before lines k rank) (own_of rank (k + 2) line)
     ∙ ap (λ (ls : List ℕ). own_lines (take k lines) rank ++ ls) (by_rank (line.rank == rank) t is)
   where
-    by_rank : (s t : Bool) → s ≡ t → map (λ (c : Numbered). c.line) (cond s (numbered (k + 2) line ∷ []) []) ≡ cond t ((k + 2) ∷ []) []
+    by_rank : (s t : Bool) → s ≡ t → map (λ (c : Numbered). c.line) (cond s (numbered (k + 2) line ∷ []) []) ≡ cond t
+        ((k + 2) ∷ []) []
     by_rank s t same = rw same (alike t)
       where
-        alike : (t : Bool) → map (λ (c : Numbered). c.line) (cond t (numbered (k + 2) line ∷ []) []) ≡ cond t ((k + 2) ∷ []) []
+        alike : (t : Bool) → map (λ (c : Numbered). c.line) (cond t (numbered (k + 2) line ∷ []) []) ≡ cond t
+            ((k + 2) ∷ []) []
         alike true = refl
         alike false = refl
 
@@ -131,7 +141,7 @@ pub own_out : (lines : List Line) (k rank : ℕ) (line : Line) → slice_get lin
 own_out lines k rank line here other = by_rank (line.rank == rank) refl
   where
     by_rank : (t : Bool) → (line.rank == rank) ≡ t → own_lines (take k lines) rank ≡ own_lines (take (k + 1) lines) rank
-    by_rank true is = absurd (other (same_of line.rank rank is))
+    by_rank true is = absurd (other (same_number line.rank rank is))
     by_rank false is = sym (own_more lines k rank line false here is ∙ append-nil (own_lines (take k lines) rank))
 
 -- one rank more
@@ -149,4 +159,5 @@ ranks_more {A} f old new v r is so_far put =
 pub ranks_count : {A : Type 0} (f : ℕ → List ℕ) (ranks : List (Vec ℕ A)) (n : ℕ) →
     map (λ own. own.items) ranks ≡ map f (range_with_len 0 n) → length ranks ≡ n
 ranks_count {A} f ranks n same =
-    sym (length-map ranks (λ (own : Vec ℕ A). own.items)) ∙ ap (λ (ls : List (List ℕ)). length ls) same ∙ length-map-range_with_len f 0 n
+    sym (length-map ranks (λ (own : Vec ℕ A). own.items)) ∙ ap (λ (ls : List (List ℕ)). length ls) same
+    ∙ length-map-range_with_len f 0 n

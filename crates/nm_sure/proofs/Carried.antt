@@ -19,7 +19,8 @@ sent_in tag ctx limit s = (ctx == s.ctx && tag == s.tag) && ltb s.stamp limit
 pub same_channel : (from tag ctx : ℕ) (s : Sent) (env : Envelope) → env ≡ envelope from s →
     is_in from tag ctx env ≡ (ctx == s.ctx && tag == s.tag)
 same_channel from tag ctx s env same =
-    ap (λ (e : Envelope). is_in from tag ctx e) same ∙ by_parts (ctx == s.ctx) (tag == s.tag) (from == from) (grind (arith, nat_tests))
+    ap (λ (e : Envelope). is_in from tag ctx e) same ∙ by_parts (ctx == s.ctx) (tag == s.tag) (from == from)
+    (grind (arith, nat_tests))
   where
     by_parts : (x y b : Bool) → b ≡ true → (x && b && y) ≡ (x && y)
     by_parts true y true is = refl
@@ -45,7 +46,8 @@ few_came from tag ctx limit (s ∷ ss) (a ∷ as') order early =
     let now : ltb s.stamp limit ≡ true = before s.stamp a.stamp limit order.1 early.0 in
     one_each (came_in from tag ctx a) (sent_in tag ctx limit s) (length (filter (came_in from tag ctx) as'))
     (length (filter (sent_in tag ctx limit) ss))
-    (same_channel from tag ctx s a.arrival.env order.0 ∙ with_true (ctx == s.ctx && tag == s.tag) (ltb s.stamp limit) now)
+    (same_channel from tag ctx s a.arrival.env order.0 ∙ with_true (ctx == s.ctx && tag == s.tag)
+    (ltb s.stamp limit) now)
     (few_came from tag ctx limit ss as' order.2 early.1) (filter (came_in from tag ctx) as')
     (filter (sent_in tag ctx limit) ss) a s refl refl
   where

@@ -1,7 +1,7 @@
 -- Which receive has which message, by their places in a channel.
 use Rattle.std.proofs.Common.{◌≡◌, ℕ, ◌==◌, Bool, true, false, ◌&&◌, cond, Option, Some, None, List, [], ◌∷◌}
 use Rattle.std.proofs.Common.{length, map, refl, sym, ◌∙◌, ap, subst, arith}
-use Rattle.std.specs.Prelude.{suc, take, zero}
+use Rattle.std.specs.Prelude.{take}
 use Rattle.std.specs.List.{AllByRecursion, cons_option, filter, filter_map, slice_get}
 use Rattle.std.specs.Option.{option_map}
 use Rattle.std.proofs.lemmas.Bool.{false≢true}
@@ -17,13 +17,17 @@ use Rattle.nm_history.specs.Completion.{is_taken, pair_of_receive}
 use Rattle.nm_history.specs.Matching.{is_of_message, is_of_receive, matched_pairs, pair_of}
 use Rattle.nm_history.specs.RankRun.{Always, NumberAt}
 use Rattle.nm_history.specs.Sends.{Arrived, arrival_of, arrivals, arrived_of, messages, post_of, posts}
-use Rattle.nm_history.proofs.OnceLemmas.{and_left, and_right, eqb_self, same_of}
+use Rattle.nm_history.proofs.OnceLemmas.{eqb_self}
 use Rattle.nm_match.specs.InTurn.{ArePlainEvents, are_named, envelope_of, is_for, is_in, is_plain_event}
 use Rattle.nm_sure.proofs.Carried.{came_in}
 use Rattle.nm_match.proofs.InTurnLemmas.{paired_in_turn, selects_these}
-use Rattle.nm_sure.proofs.Lists.{any_at, at_any, at_found, found_at, kept_at, kept_from, map_place, no_some}
-use Rattle.nm_sure.proofs.Lists.{paired_at, paired_from, same_some}
+use Rattle.nm_sure.proofs.Lists.{any_at, at_any, at_found, found_at, kept_at, kept_from}
+use Rattle.nm_sure.proofs.Lists.{paired_at, paired_from}
 use Rattle.nm_sure.proofs.Numbering.{arrivals_numbered, posts_numbered}
+use Rattle.nm_facts.proofs.Numbers.{same_number}
+use Rattle.nm_facts.proofs.Options.{no_some, same_some}
+use Rattle.nm_facts.proofs.Lists.{get_from_map, all_at}
+use Rattle.nm_facts.proofs.Truth.{and_left, and_right}
 
 -- the receives of a channel, and its messages
 abbrev pub channel_posts : List Event → ℕ → ℕ → ℕ → List post.Post
@@ -37,7 +41,8 @@ channel_arrivals h from tag ctx = filter (came_in from tag ctx) (arrivals h from
 
 -- the messages of a channel are its arrivals
 from_matters : (from tag ctx : ℕ) (a : Arrival) → (a.env.from == from) ≡ false → is_in from tag ctx a.env ≡ false
-from_matters from tag ctx a other = last (ctx == a.env.ctx) (from == a.env.from) (tag == a.env.tag) (grind (arith, nat_tests))
+from_matters from tag ctx a other = last (ctx == a.env.ctx) (from == a.env.from) (tag == a.env.tag)
+    (grind (arith, nat_tests))
   where
     last : (x y z : Bool) → y ≡ false → (x && y && z) ≡ false
     last true true z other = absurd (false≢true (sym other))
@@ -46,12 +51,14 @@ from_matters from tag ctx a other = last (ctx == a.env.ctx) (from == a.env.from)
 
 arrivals_at : (from tag ctx : ℕ) (as' : List Arrived) (ms : List Arrival) (stamp : ℕ) (a : Arrival) (b : Bool) →
     (a.env.from == from) ≡ b → map (λ (x : Arrived). x.arrival) (filter (came_in from tag ctx) as') ≡ ms →
-    map (λ (x : Arrived). x.arrival) (filter (came_in from tag ctx) (cond b (record { stamp = stamp; arrival = a } ∷ as') as'))
+    map (λ (x : Arrived). x.arrival)
+    (filter (came_in from tag ctx) (cond b (record { stamp = stamp; arrival = a } ∷ as') as'))
     ≡ cond (is_in from tag ctx a.env) (a ∷ ms) ms
 arrivals_at from tag ctx as' ms stamp a true is later = by_test (is_in from tag ctx a.env)
   where
     by_test : (c : Bool) → map (λ (x : Arrived). x.arrival)
-        (cond c (record { stamp = stamp; arrival = a } ∷ filter (came_in from tag ctx) as') (filter (came_in from tag ctx) as'))
+        (cond c (record { stamp = stamp; arrival = a } ∷ filter (came_in from tag ctx) as')
+        (filter (came_in from tag ctx) as'))
         ≡ cond c (a ∷ ms) ms
     by_test true = ap (λ (xs : List Arrival). a ∷ xs) later
     by_test false = later
@@ -82,14 +89,10 @@ named_step : (what : Happened) (ps : List post.Post) → is_plain_event what ≡
 named_step (event.Post p line) ps plain later = (plain, later)
 named_step what ps plain later = later
 
-named_posts : (h : List Event) → ArePlainEvents h → AllByRecursion (λ (p : post.Post). are_named p.from p.tag ≡ true) (posts h)
+named_posts : (h : List Event) → ArePlainEvents h → AllByRecursion (λ (p : post.Post). are_named p.from p.tag ≡ true)
+    (posts h)
 named_posts [] plain = tt
 named_posts (e ∷ h) plain = named_step e.what (posts h) plain.0 (named_posts h plain.1)
-
-pub all_at : {X : Type 0} (P : X → Type 0) (xs : List X) (k : ℕ) (x : X) → AllByRecursion P xs → slice_get xs k ≡ Some x → P x
-all_at P [] k x each here = absurd (no_some x here)
-all_at P (y ∷ ys) zero x each here = subst P (same_some y x here) each.0
-all_at P (y ∷ ys) (suc k) x each here = all_at P ys k x each.1 here
 
 parts : (c i t p q r : ℕ) → (c == p && i == q && t == r) ≡ true → (i ≡ q) × (t ≡ r) × (c ≡ p)
 parts c i t p q r h = (grind (arith, nat_tests), grind (arith, nat_tests), grind (arith, nat_tests))
@@ -101,7 +104,8 @@ one_channel p i t c i' t' c' named first second =
     parts c i t c' i' t' (sym (selects_these p.from p.tag p.ctx i t c named first (envelope_of i' t' c')) ∙ second)
 
 pub own_channel : (env : Envelope) → is_in env.from env.tag env.ctx env ≡ true
-own_channel env = three (env.ctx == env.ctx) (env.from == env.from) (env.tag == env.tag) (eqb_self env.ctx) (eqb_self env.from) (eqb_self env.tag)
+own_channel env = three (env.ctx == env.ctx) (env.from == env.from) (env.tag == env.tag) (eqb_self env.ctx)
+    (eqb_self env.from) (eqb_self env.tag)
   where
     three : (x y z : Bool) → x ≡ true → y ≡ true → z ≡ true → (x && y && z) ≡ true
     three x y z a b c = rw (a, b, c) refl
@@ -148,7 +152,8 @@ module _ (ranks : ℕ) (h : List Event) (numbers : Always (NumberAt ranks) h) (p
       }
 
   -- a receive of the channel with the number of a pair has its place
-  pair_place : (from tag ctx k n : ℕ) (p : post.Post) (pair : Pair) → slice_get (channel_posts h from tag ctx) k ≡ Some p →
+  pair_place : (from tag ctx k n : ℕ) (p : post.Post) (pair : Pair) → slice_get (channel_posts h from tag ctx) k
+      ≡ Some p →
       slice_get (matched_pairs h) n ≡ Some pair → pair.number ≡ p.number →
       (slice_get (channel_messages h from tag ctx) k ≡ Some pair.arrival) × (pair_of p pair.arrival ≡ pair)
   pair_place from tag ctx k n p pair here there same =
@@ -158,7 +163,8 @@ module _ (ranks : ℕ) (h : List Event) (numbers : Always (NumberAt ranks) h) (p
       let its = kept_from (is_for env.from env.tag env.ctx) (posts h) two.place two.receive two.posted in
       let numbered = posts_numbered ranks h numbers plain in
       let at' : its.0 ≡ mine.0 =
-      sym (numbered its.0 two.receive its.1) ∙ ap (λ (q : Pair). q.number) two.whole ∙ same ∙ numbered mine.0 p mine.1 in
+      sym (numbered its.0 two.receive its.1) ∙ ap (λ (q : Pair). q.number) two.whole ∙ same
+      ∙ numbered mine.0 p mine.1 in
       let one : two.receive ≡ p =
       same_some two.receive p (sym its.1 ∙ ap (λ (k : ℕ). slice_get (posts h) k) at' ∙ mine.1) in
       let channel = one_channel p from tag ctx env.from env.tag env.ctx
@@ -166,22 +172,26 @@ module _ (ranks : ℕ) (h : List Event) (numbers : Always (NumberAt ranks) h) (p
       (subst (λ (q : post.Post). is_for env.from env.tag env.ctx q ≡ true) one its.2) in
       let spot : two.place ≡ k =
       its.3 ∙ ap (λ (m : ℕ). length (filter (is_for env.from env.tag env.ctx) (take m (posts h)))) at'
-      ∙ same_count (take mine.0 (posts h)) env.from from env.tag tag env.ctx ctx (sym channel.0) (sym channel.1) (sym channel.2)
+      ∙ same_count (take mine.0 (posts h)) env.from from env.tag tag env.ctx ctx (sym channel.0) (sym channel.1)
+      (sym channel.2)
       ∙ sym mine.3 in (
-        moved (channel_messages h) env.from from env.tag tag env.ctx ctx two.place k pair.arrival (sym channel.0) (sym channel.1)
+        moved (channel_messages h) env.from from env.tag tag env.ctx ctx two.place k pair.arrival (sym channel.0)
+            (sym channel.1)
             (sym channel.2) spot two.came,
         ap (λ (q : post.Post). pair_of q pair.arrival) (sym one) ∙ two.whole,
       )
 
   -- where the receive and the message at one place of a channel are, they are paired
-  pub paired_here : (from tag ctx k : ℕ) (p : post.Post) (a : Arrival) → slice_get (channel_posts h from tag ctx) k ≡ Some p →
+  pub paired_here : (from tag ctx k : ℕ) (p : post.Post) (a : Arrival) → slice_get (channel_posts h from tag ctx) k
+      ≡ Some p →
       slice_get (channel_messages h from tag ctx) k ≡ Some a →
       (n : ℕ) × (slice_get (matched_pairs h) n ≡ Some (pair_of p a))
   paired_here from tag ctx k p a here there =
       let test : Pair → Bool = λ pair. is_in from tag ctx pair.arrival.env in
       let among = paired_at (channel_posts h from tag ctx) (channel_messages h from tag ctx) k p a here there in
       let found = kept_from test (matched_pairs h) k (pair_of p a)
-      (subst (λ (xs : List Pair). slice_get xs k ≡ Some (pair_of p a)) (sym (paired_in_turn ranks h numbers plain from tag ctx)) among) in
+      (subst (λ (xs : List Pair). slice_get xs k ≡ Some (pair_of p a))
+      (sym (paired_in_turn ranks h numbers plain from tag ctx)) among) in
       (found.0, found.1)
 
   -- a receive has the message at its place in the channel, if there is one
@@ -196,14 +206,15 @@ module _ (ranks : ℕ) (h : List Event) (numbers : Always (NumberAt ranks) h) (p
       by_message None none (Some pair) found =
           let at' = found_at (is_of_receive p.number) (matched_pairs h) pair found in
           absurd (no_some pair.arrival (sym none ∙ (pair_place from tag ctx k at'.0 p pair here at'.1
-          (same_of pair.number p.number at'.2)).0))
+          (same_number pair.number p.number at'.2)).0))
       by_message (Some a) came None found =
           let one = paired_here from tag ctx k p a here came in
-          let some = at_found (is_of_receive p.number) (matched_pairs h) one.0 (pair_of p a) one.1 (eqb_self p.number) in
+          let some = at_found (is_of_receive p.number) (matched_pairs h) one.0 (pair_of p a) one.1
+          (eqb_self p.number) in
           absurd (no_some some.0 (sym found ∙ some.1))
       by_message (Some a) came (Some pair) found =
           let at' = found_at (is_of_receive p.number) (matched_pairs h) pair found in
-          let spot = pair_place from tag ctx k at'.0 p pair here at'.1 (same_of pair.number p.number at'.2) in
+          let spot = pair_place from tag ctx k at'.0 p pair here at'.1 (same_number pair.number p.number at'.2) in
           ap (λ (q : Pair). Some q) (sym spot.1
           ∙ ap (λ (b : Arrival). pair_of p b) (same_some pair.arrival a (sym spot.0 ∙ came)))
 
@@ -212,7 +223,7 @@ module _ (ranks : ℕ) (h : List Event) (numbers : Always (NumberAt ranks) h) (p
       (arrived : Arrived) × (slice_get (arrivals h from) a.n ≡ Some arrived) × (arrived.arrival ≡ a)
       × (k ≡ length (filter (came_in from tag ctx) (take a.n (arrivals h from))))
   place_of_message from tag ctx k a here =
-      let arrived = map_place (λ (a : Arrived). a.arrival) (channel_arrivals h from tag ctx) k a
+      let arrived = get_from_map (λ (a : Arrived). a.arrival) (channel_arrivals h from tag ctx) k a
       (subst (λ (xs : List Arrival). slice_get xs k ≡ Some a) (sym (messages_arrived h from tag ctx)) here) in
       let at' = kept_from (came_in from tag ctx) (arrivals h from) k arrived.0 arrived.1 in
       let number : at'.0 ≡ a.n =
@@ -241,8 +252,10 @@ module _ (ranks : ℕ) (h : List Event) (numbers : Always (NumberAt ranks) h) (p
       let env : Envelope = pair.arrival.env in
       let two = coupled some.0 pair some.2 in
       let its = place_of_message env.from env.tag env.ctx two.place pair.arrival two.came in
-      subst (λ (m : ℕ). Taken from m) (same_of pair.arrival.n n (and_right (env.from == from) (pair.arrival.n == n) some.3))
-      (subst (λ (i : ℕ). Taken i pair.arrival.n) (same_of env.from from (and_left (env.from == from) (pair.arrival.n == n) some.3))
+      subst (λ (m : ℕ). Taken from m)
+      (same_number pair.arrival.n n (and_right (env.from == from) (pair.arrival.n == n) some.3))
+      (subst (λ (i : ℕ). Taken i pair.arrival.n)
+      (same_number env.from from (and_left (env.from == from) (pair.arrival.n == n) some.3))
       (record {
         message = pair.arrival;
         place = two.place;
@@ -255,7 +268,8 @@ module _ (ranks : ℕ) (h : List Event) (numbers : Always (NumberAt ranks) h) (p
       }))
 
   -- a message whose receive is there is taken
-  pub place_taken : (from tag ctx k : ℕ) (p : post.Post) (a : Arrival) → slice_get (channel_posts h from tag ctx) k ≡ Some p →
+  pub place_taken : (from tag ctx k : ℕ) (p : post.Post) (a : Arrival) → slice_get (channel_posts h from tag ctx) k
+      ≡ Some p →
       slice_get (channel_messages h from tag ctx) k ≡ Some a → is_taken h from a.n ≡ true
   place_taken from tag ctx k p a here there =
       let one = paired_here from tag ctx k p a here there in

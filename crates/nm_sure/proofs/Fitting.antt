@@ -20,16 +20,7 @@ use Rattle.nm_history.specs.RankRun.{cancels_since, claims_since, starts_since, 
 use Rattle.nm_history.specs.RankRun.{is_cancelling, is_matched_probe, is_start, line_of_claim, start_of, without_number}
 use Rattle.nm_history.proofs.RankRunLemmas.{since-push}
 use Rattle.nm_sure.specs.Plain.{is_plain}
-
-pub all_split : {X : Type 0} (P : X → Type 0) (xs ys : List X) → AllByRecursion P (xs ++ ys) →
-    AllByRecursion P xs × AllByRecursion P ys
-all_split P [] ys each = (tt, each)
-all_split P (x ∷ xs) ys each = let more = all_split P xs ys each.1 in ((each.0, more.0), more.1)
-
-pub all_join : {X : Type 0} (P : X → Type 0) (xs ys : List X) → AllByRecursion P xs → AllByRecursion P ys →
-    AllByRecursion P (xs ++ ys)
-all_join P [] ys each others = others
-all_join P (x ∷ xs) ys each others = (each.0, all_join P xs ys each.1 others)
+use Rattle.nm_facts.proofs.Lists.{all_split}
 
 -- a command of a line calls for this start
 pub record Calls (eager : ℕ) (commands : List Numbered) (line : ℕ) (w : Happened) : Type 0 where
@@ -107,7 +98,8 @@ module _ (eager : ℕ) (commands : List Numbered) (plain : ArePlainLines command
     where
       by_command : (o : Option Command) → command_at commands line ≡ o →
           IsSomeAnd o (λ c. answer_of commands h line c ≡ Some (without_bytes a)) →
-          map without_number (starts_since h) ≡ cond (is_started a) (option_map_or (start_of eager commands h line) o []) [] →
+          map without_number (starts_since h) ≡ cond (is_started a)
+          (option_map_or (start_of eager commands h line) o []) [] →
           MatchOption o (cancels_since h ≡ []) (CancelsFor commands h) →
           claims_since h ≡ cond (option_map_or is_matched_probe o false && is_seen a) (line ∷ []) [] →
           AllFit eager commands (since_command h)
@@ -122,7 +114,8 @@ module _ (eager : ℕ) (commands : List Numbered) (plain : ArePlainLines command
       StartAt eager commands h what → CancelAt commands h what → ClaimAt commands h what →
       AllFit eager commands (since_after (since_command h) what) →
       AllFit eager commands (since_command h) × Fits eager commands what
-  fits_step h stamp (event.Ran line a) answer start cancel claim later = (since_fits h line a answer start cancel claim, tt)
+  fits_step h stamp (event.Ran line a) answer start cancel claim later =
+      (since_fits h line a answer start cancel claim, tt)
   fits_step h stamp what answer start cancel claim later =
       let parts = all_split (λ w. Fits eager commands w) (since_command h) (what ∷ []) later in (parts.0, parts.1.0)
 
@@ -136,7 +129,8 @@ module _ (eager : ℕ) (commands : List Numbered) (plain : ArePlainLines command
       (subst (λ (h : List Event). AllFit eager commands (since_command h)) (append-nil before) last, tt)
   fits_after before (e ∷ events) answers starts cancels claims last =
       let later = fits_after (before ++ e ∷ []) events answers.1 starts.1 cancels.1 claims.1
-      (subst (λ (h : List Event). AllFit eager commands (since_command h)) (sym (append_assoc before (e ∷ []) events)) last) in
+      (subst (λ (h : List Event). AllFit eager commands (since_command h)) (sym (append_assoc before (e ∷ []) events))
+      last) in
       let now = fits_step before e.stamp e.what answers.0 starts.0 cancels.0 claims.0
       (subst (λ (ws : List Happened). AllFit eager commands ws) (since-push before e) later.0) in
       (now.0, (now.1, later.1))

@@ -5,15 +5,14 @@ use Rattle.std.specs.Prelude.{take}
 use Rattle.std.specs.List.{AllByRecursion, cons_option, filter, filter_map, slice_get}
 use Rattle.std.proofs.lemmas.Bool.{false≢true}
 use Rattle.std.proofs.lemmas.Bool.Decides.{nat_tests}
-use Rattle.std.proofs.lemmas.List.Elements.{filter-append, filter_map-append}
 use Rattle.nm_history.specs.declared.events.Event.{Event}
 use Rattle.nm_history.specs.declared.events.Happened.{Happened}
 use Rattle.nm_history.specs.declared.events.Happened.TheVariants as event
 use Rattle.nm_history.specs.Delivery.{ArriveInOrder, earlier_than}
 use Rattle.nm_history.specs.Sends.{Arrived, Sent, arrivals, arrived_of, envelope, sends, sent_of}
 use Rattle.nm_sure.proofs.Carried.{came_in, same_channel, sent_in}
-use Rattle.nm_sure.proofs.Lists.{no_some, same_some}
 use Rattle.nm_sure.proofs.Made.{channel_sends}
+use Rattle.nm_facts.proofs.Options.{no_some, same_some}
 
 -- a send of the channel
 abbrev pub goes_in : ℕ → ℕ → Sent → Bool
@@ -61,22 +60,11 @@ all_came from tag ctx ss as' order all =
     ∙ ap (λ (xs : List Sent). length (filter (goes_in tag ctx) xs)) (take_all ss)
 
 -- what came first is in order too
-pub arrive_front : (from : ℕ) (ss : List Sent) (xs ys : List Arrived) → ArriveInOrder from ss (xs ++ ys) → ArriveInOrder from ss xs
+pub arrive_front : (from : ℕ) (ss : List Sent) (xs ys : List Arrived) → ArriveInOrder from ss (xs ++ ys) →
+    ArriveInOrder from ss xs
 arrive_front from ss [] ys order = tt
 arrive_front from [] (x ∷ xs) ys order = absurd order
 arrive_front from (s ∷ ss) (x ∷ xs) ys order = (order.0, order.1, arrive_front from ss xs ys order.2)
-
-pub arrivals-append : (b rest : List Event) (from : ℕ) → arrivals (b ++ rest) from ≡ arrivals b from ++ arrivals rest from
-arrivals-append b rest from =
-    ap (λ (xs : List Arrived). filter (λ a. a.arrival.env.from == from) xs) (filter_map-append (λ (e : Event). arrived_of e.stamp e.what) b rest)
-    ∙ filter-append (λ (a : Arrived). a.arrival.env.from == from) (filter_map (λ (e : Event). arrived_of e.stamp e.what) b)
-    (filter_map (λ (e : Event). arrived_of e.stamp e.what) rest)
-
-pub sends-append : (b rest : List Event) (to : ℕ) → sends (b ++ rest) to ≡ sends b to ++ sends rest to
-sends-append b rest to =
-    ap (λ (xs : List Sent). filter (λ s. s.to == to) xs) (filter_map-append (λ (e : Event). sent_of e.stamp e.what) b rest)
-    ∙ filter-append (λ (s : Sent). s.to == to) (filter_map (λ (e : Event). sent_of e.stamp e.what) b)
-    (filter_map (λ (e : Event). sent_of e.stamp e.what) rest)
 
 -- what came before a stamp has a lower one
 lower_step : (limit stamp from : ℕ) (what : Happened) (as' : List Arrived) → stamp < limit →
@@ -86,7 +74,8 @@ lower_step : (limit stamp from : ℕ) (what : Happened) (as' : List Arrived) →
 lower_step limit stamp from (event.Arrive a) as' low later = by_test (a.env.from == from)
   where
     by_test : (b : Bool) → AllByRecursion (λ (a : Arrived). a.stamp < limit)
-        (cond b (record { stamp = stamp; arrival = a } ∷ filter (λ a. a.arrival.env.from == from) as') (filter (λ a. a.arrival.env.from == from) as'))
+        (cond b (record { stamp = stamp; arrival = a } ∷ filter (λ a. a.arrival.env.from == from) as')
+        (filter (λ a. a.arrival.env.from == from) as'))
     by_test true = (low, later)
     by_test false = later
 lower_step limit stamp from what as' low later = later
@@ -101,16 +90,19 @@ arrivals_lower limit (e ∷ h) from = by_test (ltb e.stamp limit) refl (arrivals
   where
     by_test : (b : Bool) → ltb e.stamp limit ≡ b →
         AllByRecursion (λ (a : Arrived). a.stamp < limit) (arrivals (earlier_than limit h) from) →
-        AllByRecursion (λ (a : Arrived). a.stamp < limit) (arrivals (cond b (e ∷ earlier_than limit h) (earlier_than limit h)) from)
+        AllByRecursion (λ (a : Arrived). a.stamp < limit)
+        (arrivals (cond b (e ∷ earlier_than limit h) (earlier_than limit h)) from)
     by_test true is later = lower_step limit e.stamp from e.what
         (filter_map (λ (e : Event). arrived_of e.stamp e.what) (earlier_than limit h)) (low_of e.stamp limit is) later
     by_test false is later = later
 
 -- the sends of a channel before a stamp
-early_at : (limit to tag ctx : ℕ) (s : Sent) (xs ys : List Sent) (r b g : Bool) → (ltb s.stamp limit ≡ b) → (goes_in tag ctx s ≡ g) →
+early_at : (limit to tag ctx : ℕ) (s : Sent) (xs ys : List Sent) (r b g : Bool) → (ltb s.stamp limit ≡ b) →
+    (goes_in tag ctx s ≡ g) →
     filter (sent_in tag ctx limit) xs ≡ filter (goes_in tag ctx) ys →
     filter (sent_in tag ctx limit) (cond r (s ∷ xs) xs) ≡ filter (goes_in tag ctx) (cond b (cond r (s ∷ ys) ys) ys)
-early_at limit to tag ctx s xs ys true true true early goes later = rw (goes, early) (ap (λ (zs : List Sent). s ∷ zs) later)
+early_at limit to tag ctx s xs ys true true true early goes later = rw (goes, early)
+    (ap (λ (zs : List Sent). s ∷ zs) later)
 early_at limit to tag ctx s xs ys true true false early goes later = rw goes later
 early_at limit to tag ctx s xs ys true false true early goes later = rw (goes, early) later
 early_at limit to tag ctx s xs ys true false false early goes later = rw goes later
@@ -124,12 +116,14 @@ pushed_out to r true s ys is = rw is refl
 pushed_out to r false s ys is = refl
 
 early_step : (limit to tag ctx stamp : ℕ) (what : Happened) (b : Bool) (xs ys : List Sent) → ltb stamp limit ≡ b →
-    filter (sent_in tag ctx limit) (filter (λ s. s.to == to) xs) ≡ filter (goes_in tag ctx) (filter (λ s. s.to == to) ys) →
+    filter (sent_in tag ctx limit) (filter (λ s. s.to == to) xs) ≡ filter (goes_in tag ctx)
+    (filter (λ s. s.to == to) ys) →
     filter (sent_in tag ctx limit) (filter (λ s. s.to == to) (cons_option (sent_of stamp what) xs))
     ≡ filter (goes_in tag ctx) (filter (λ s. s.to == to) (cond b (cons_option (sent_of stamp what) ys) ys))
 early_step limit to tag ctx stamp (event.Send to' n t c len how line) b xs ys is later =
     let s : Sent = record { stamp = stamp; to = to'; n = n; tag = t; ctx = c; len = len; how = how; line = line } in
-    early_at limit to tag ctx s (filter (λ s. s.to == to) xs) (filter (λ s. s.to == to) ys) (to' == to) b (goes_in tag ctx s)
+    early_at limit to tag ctx s (filter (λ s. s.to == to) xs) (filter (λ s. s.to == to) ys) (to' == to) b
+    (goes_in tag ctx s)
     is refl later
     ∙ ap (λ (zs : List Sent). filter (goes_in tag ctx) zs) (sym (pushed_out to (to' == to) b s ys refl))
 early_step limit to tag ctx stamp what true xs ys is later = later
@@ -139,13 +133,15 @@ pub sends_early : (limit : ℕ) (h : List Event) (to tag ctx : ℕ) →
     filter (sent_in tag ctx limit) (sends h to) ≡ channel_sends (earlier_than limit h) to tag ctx
 sends_early limit [] to tag ctx = refl
 sends_early limit (e ∷ h) to tag ctx = by_test (ltb e.stamp limit) refl
-    (early_step limit to tag ctx e.stamp e.what (ltb e.stamp limit) (filter_map (λ (e : Event). sent_of e.stamp e.what) h)
+    (early_step limit to tag ctx e.stamp e.what (ltb e.stamp limit)
+    (filter_map (λ (e : Event). sent_of e.stamp e.what) h)
     (filter_map (λ (e : Event). sent_of e.stamp e.what) (earlier_than limit h)) refl (sends_early limit h to tag ctx))
   where
     by_test : (b : Bool) → ltb e.stamp limit ≡ b →
         filter (sent_in tag ctx limit) (sends (e ∷ h) to)
         ≡ filter (goes_in tag ctx) (filter (λ s. s.to == to) (cond b (cons_option (sent_of e.stamp e.what)
-        (filter_map (λ (e : Event). sent_of e.stamp e.what) (earlier_than limit h))) (filter_map (λ (e : Event). sent_of e.stamp e.what) (earlier_than limit h)))) →
+        (filter_map (λ (e : Event). sent_of e.stamp e.what) (earlier_than limit h)))
+        (filter_map (λ (e : Event). sent_of e.stamp e.what) (earlier_than limit h)))) →
         filter (sent_in tag ctx limit) (sends (e ∷ h) to)
         ≡ channel_sends (cond b (e ∷ earlier_than limit h) (earlier_than limit h)) to tag ctx
     by_test true is same = same

@@ -17,7 +17,7 @@ use Rattle.nm_history.specs.declared.events.Happened.TheVariants as event
 use Rattle.nm_history.specs.Answers.{answer_of, is_started, live, request_at, request_of, without_bytes}
 use Rattle.nm_history.specs.Completion.{Request}
 use Rattle.nm_history.specs.Completion.Request.{Sending, Receiving}
-use Rattle.nm_history.proofs.OnceLemmas.{eqb_self, same_of}
+use Rattle.nm_history.proofs.OnceLemmas.{eqb_self}
 use Rattle.nm_history.specs.RankRun.{is_start, ran_lines, ran_of, since_after, since_command, start_of}
 use Rattle.nm_history.specs.RankRun.{AnswerAt, StartAt, starts_since}
 use Rattle.nm_history.specs.AtEach.{AtEachAfter}
@@ -35,6 +35,8 @@ use Rattle.nm_sure.specs.Placed.{Placed, at_place, placed_at, placed_from, place
 use Rattle.nm_sure.specs.Plain.{is_plain}
 use Rattle.nm_sure.proofs.Named.{IsNamed, is_live, names_told, request_lasts, started_fact}
 use Rattle.nm_sure.proofs.PlacedLemmas.{IsPlacedSo, placed-answer, placed-push}
+use Rattle.nm_facts.proofs.Numbers.{same_number}
+use Rattle.nm_history.proofs.RankRunLemmas.{no_answer}
 
 -- something of these asks for the request of a line
 abbrev asks : ℕ → List Happened → Bool
@@ -47,7 +49,8 @@ either : (a b c : Bool) → ((a || b) || c) ≡ true → (a || (b || c)) ≡ tru
 either true b c h = refl
 either false b c h = h
 
-asked-push : (l : ℕ) (ws : List Happened) (w : Happened) → asks l (ws ++ w ∷ []) ≡ (asks l ws || is_some (request_of l w))
+asked-push : (l : ℕ) (ws : List Happened) (w : Happened) →
+    asks l (ws ++ w ∷ []) ≡ (asks l ws || is_some (request_of l w))
 asked-push l [] w = or_false (is_some (request_of l w))
   where
     or_false : (b : Bool) → (b || false) ≡ b
@@ -78,7 +81,8 @@ since_from l since (e ∷ h) some =
   where
     first : (b : Bool) → asks l (since_after since e.what) ≡ b → (b || has l h) ≡ true →
         (asks l since || (is_some (request_of l e.what) || has l h)) ≡ true
-    first true same any = either (asks l since) (is_some (request_of l e.what)) (has l h) (rw (since_grown l since e.what same) refl)
+    first true same any = either (asks l since) (is_some (request_of l e.what)) (has l h)
+        (rw (since_grown l since e.what same) refl)
     first false same any = rw any (last (asks l since) (is_some (request_of l e.what)))
 
 request_first : (l : ℕ) (h : List Event) (o : Option Request) → (has l h ≡ true → is_some (request_at h l) ≡ true) →
@@ -116,17 +120,20 @@ start_made l h some = request_some l h (since_from l [] h (asked_kept l (since_c
 number_no_matter : (l : ℕ) (w : Happened) → is_some (request_of l (without_number w)) ≡ is_some (request_of l w)
 number_no_matter l (event.Send to n tag ctx len how line) = line_matters (line == l)
   where
-    line_matters : (b : Bool) → is_some (cond b (Some (Sending to 0)) None) ≡ is_some (cond b (Some (Sending to n)) None)
+    line_matters : (b : Bool) → is_some (cond b (Some (Sending to 0)) None) ≡ is_some
+        (cond b (Some (Sending to n)) None)
     line_matters true = refl
     line_matters false = refl
 number_no_matter l (event.Post p line) = line_matters (line == l)
   where
-    line_matters : (b : Bool) → is_some (cond b (Some (Receiving 0)) None) ≡ is_some (cond b (Some (Receiving p.number)) None)
+    line_matters : (b : Bool) → is_some (cond b (Some (Receiving 0)) None) ≡ is_some
+        (cond b (Some (Receiving p.number)) None)
     line_matters true = refl
     line_matters false = refl
 number_no_matter l (event.Match number from n cap line) = line_matters (line == l)
   where
-    line_matters : (b : Bool) → is_some (cond b (Some (Receiving 0)) None) ≡ is_some (cond b (Some (Receiving number)) None)
+    line_matters : (b : Bool) → is_some (cond b (Some (Receiving 0)) None) ≡ is_some
+        (cond b (Some (Receiving number)) None)
     line_matters true = refl
     line_matters false = refl
 number_no_matter l w = refl
@@ -159,11 +166,14 @@ not_some (Some k) x = refl
 -- the starts are taken where their names stand for none
 pub is_taken_by : (commands done : List Numbered) (h : List Event) (l : ℕ) (c : Command) (a : Answer) →
     IsNamed commands done h → is_plain c ≡ true → answer_of commands h l c ≡ Some (without_bytes a) →
-    (x : List Happened) → (is_some (started_name c) ≡ false → x ≡ []) → cond (is_started a) x [] ≡ cond (is_taken done c) x []
+    (x : List Happened) → (is_some (started_name c) ≡ false → x ≡ []) → cond (is_started a) x [] ≡ cond
+    (is_taken done c) x []
 is_taken_by commands done h l (command.Send q to tag ctx body sync) a named plain same x none =
-    rw (started_fact (is_some (live commands h q)) a same ∙ ap not (is_live commands done h q named)) (not_some (holder done q) x)
+    rw (started_fact (is_some (live commands h q)) a same ∙ ap not (is_live commands done h q named))
+    (not_some (holder done q) x)
 is_taken_by commands done h l (command.Recv q from tag ctx cap) a named plain same x none =
-    rw (started_fact (is_some (live commands h q)) a same ∙ ap not (is_live commands done h q named)) (not_some (holder done q) x)
+    rw (started_fact (is_some (live commands h q)) a same ∙ ap not (is_live commands done h q named))
+    (not_some (holder done q) x)
 is_taken_by commands done h l (command.Wait q) a named plain same x none =
     rw (none refl) (both_none (is_started a))
 is_taken_by commands done h l (command.Test q) a named plain same x none = absurd (false≢true plain)
@@ -230,10 +240,6 @@ pub record Stood (eager : ℕ) (commands done : List Numbered) (h : List Event) 
   pub places : IsPlacedSo (placed_of eager commands done) h
   pub counted : length (ran_lines h) ≡ length done
 
-no_line : (what : Happened) → is_answer what ≡ false → ran_of what ≡ None
-no_line (event.Ran line answer) silent = absurd (false≢true (sym silent))
-no_line what silent = refl
-
 pub stood_other : (eager : ℕ) (commands done : List Numbered) (h : List Event) (stamp : ℕ) (what : Happened) →
     is_answer what ≡ false → Stood eager commands done h →
     Stood eager commands done (h ++ record { stamp = stamp; what = what } ∷ [])
@@ -241,7 +247,7 @@ stood_other eager commands done h stamp what silent stood =
     let e : Event = record { stamp = stamp; what = what } in
     let same : ran_lines (h ++ e ∷ []) ≡ ran_lines h =
     filter_map-append (λ (e : Event). ran_of e.what) h (e ∷ [])
-    ∙ (rw (no_line what silent) (append-nil (ran_lines h))) in
+    ∙ (rw (no_answer what silent) (append-nil (ran_lines h))) in
     record {
       named = record {
         line = λ q. line-push commands h e q ∙ line_kept commands q (line_of_name commands h q) what silent
@@ -257,7 +263,7 @@ held_by : (q q' line l : ℕ) (done : List Numbered) (b : Bool) → (q' == q) �
     cond (b && is_none (holder done q)) (Some line) (holder done q) ≡ Some l →
     ((line ≡ l) × (is_none (holder done q') ≡ true)) ⊎ (holder done q ≡ Some l)
 held_by q q' line l done true same held =
-    let here : q' ≡ q = same_of q' q same in
+    let here : q' ≡ q = same_number q' q same in
     by_none (is_none (holder done q)) refl held here
   where
     by_none : (b : Bool) → is_none (holder done q) ≡ b → cond b (Some line) (holder done q) ≡ Some l → q' ≡ q →
@@ -266,7 +272,8 @@ held_by q q' line l done true same held =
     by_none false none held here = inr held
 held_by q q' line l done false same held = inr held
 
-freed_by : (q q' l : ℕ) (done : List Numbered) (b : Bool) → cond b None (holder done q) ≡ Some l → holder done q ≡ Some l
+freed_by : (q q' l : ℕ) (done : List Numbered) (b : Bool) → cond b None (holder done q) ≡ Some l →
+    holder done q ≡ Some l
 freed_by q q' l done true held = absurd (grind arith)
 freed_by q q' l done false held = held
 
@@ -292,7 +299,8 @@ if_true : (b : Bool) (x : List Happened) → b ≡ true → cond b x [] ≡ x
 if_true true x same = refl
 if_true false x same = absurd (false≢true same)
 
-pub stood_answer : (eager : ℕ) (commands done : List Numbered) (h : List Event) (stamp : ℕ) (c : Numbered) (a : Answer) →
+pub stood_answer : (eager : ℕ) (commands done : List Numbered) (h : List Event) (stamp : ℕ) (c : Numbered)
+    (a : Answer) →
     is_plain c.command ≡ true → command_at commands c.line ≡ Some c.command →
     answer_of commands h c.line c.command ≡ Some (without_bytes a) →
     map without_number (starts_since h) ≡ cond (is_started a) (start_of eager commands h c.line c.command) [] →
@@ -315,7 +323,8 @@ stood_answer eager commands done h stamp c a plain at' same started stood =
       named = record {
         line = names_told commands done h stamp c a stood.named plain at' same;
         made = λ q l held. elim (held_after q c.line l done c.command
-            (sym (fold_push (λ (held : Option ℕ) (c : Numbered). holder_by q held c.line c.command) None done c) ∙ held)) [
+            (sym (fold_push (λ (held : Option ℕ) (c : Numbered). holder_by q held c.line c.command) None done c)
+            ∙ held)) [
               | inl now ↦ request_lasts h e l (subst (λ (k : ℕ). is_some (request_at h k) ≡ true) now.0
                   (start_made c.line h (sym (numbers_no_matter c.line (starts_since h))
                   ∙ ap (λ (ws : List Happened). asks c.line ws) (taken ∙ if_true (is_taken done c.command) starts now.1)
@@ -324,7 +333,8 @@ stood_answer eager commands done h stamp c a plain at' same started stood =
             ];
       };
       places = subst (λ (ps : List Placed). IsPlacedSo ps (h ++ e ∷ []))
-          (ap (λ (ps : List Placed). placed_of eager commands done ++ ps) front ∙ sym (placed-snoc eager commands [] done c))
+          (ap (λ (ps : List Placed). placed_of eager commands done ++ ps) front
+          ∙ sym (placed-snoc eager commands [] done c))
           (placed-answer (placed_of eager commands done) h stamp c.line (event.Ran c.line a)
           (ap (λ (ws : List Happened). filter is_start ws) (since-push h e)) refl stood.places);
       counted = ap (λ (ls : List ℕ). length ls) (filter_map-append (λ (e : Event). ran_of e.what) h (e ∷ []))
@@ -354,7 +364,8 @@ pub started_so : (eager : ℕ) (commands : List Numbered) (h : List Event) (line
     StartAt eager commands h (event.Ran line a) → command_at commands line ≡ Some c →
     map without_number (starts_since h) ≡ cond (is_started a) (start_of eager commands h line c) []
 started_so eager commands h line a c right at' =
-    right ∙ ap (λ (o : Option Command). cond (is_started a) (option_map_or (start_of eager commands h line) o []) []) at'
+    right ∙ ap (λ (o : Option Command). cond (is_started a) (option_map_or (start_of eager commands h line) o []) [])
+    at'
 
 -- one event more
 front_step : (eager : ℕ) (commands : List Numbered) (h : List Event) (stamp : ℕ) (what : Happened) (lines : List ℕ)
@@ -384,7 +395,8 @@ front_step eager commands h stamp (event.Ran line a) lines front lined answer st
                 (stood_answer eager commands front.done h stamp c a at'.1 at'.0
                 (subst (λ (l : ℕ). answer_of commands h l c.command ≡ Some (without_bytes a)) here
                 (answered commands h line a c.command answer at_line))
-                (subst (λ (l : ℕ). map without_number (starts_since h) ≡ cond (is_started a) (start_of eager commands h l c.command) []) here
+                (subst (λ (l : ℕ). map without_number (starts_since h) ≡ cond (is_started a)
+                (start_of eager commands h l c.command) []) here
                 (started_so eager commands h line a c.command start at_line)) front.stood);
           },
           ahead,
@@ -409,9 +421,12 @@ pub front_after : (eager : ℕ) (commands : List Numbered) (before events rest :
     × (ran_lines rest ≡ map (λ c. c.line) (take (length (ran_lines rest)) last.more))
 front_after eager commands before [] rest front lined answers starts told =
     subst (λ (k : List Event). (last : Front eager commands k)
-    × (ran_lines rest ≡ map (λ c. c.line) (take (length (ran_lines rest)) last.more))) (sym (append-nil before)) (front, told)
+    × (ran_lines rest ≡ map (λ c. c.line) (take (length (ran_lines rest)) last.more))) (sym (append-nil before))
+    (front, told)
 front_after eager commands before (e ∷ events) rest front lined answers starts told =
-    let next = front_step eager commands before e.stamp e.what (ran_lines (events ++ rest)) front lined answers.0 starts.0 told in
+    let next = front_step eager commands before e.stamp e.what (ran_lines (events ++ rest)) front lined answers.0
+    starts.0 told in
     subst (λ (k : List Event). (last : Front eager commands k)
-    × (ran_lines rest ≡ map (λ c. c.line) (take (length (ran_lines rest)) last.more))) (append_assoc before (e ∷ []) events)
+    × (ran_lines rest ≡ map (λ c. c.line) (take (length (ran_lines rest)) last.more)))
+    (append_assoc before (e ∷ []) events)
     (front_after eager commands (before ++ e ∷ []) events rest next.0 lined answers.1 starts.1 next.1)

@@ -9,10 +9,12 @@ use Rattle.std.proofs.lemmas.Bool.Decides.{nat_tests}
 use Rattle.std.proofs.lemmas.List.{length-replicate}
 use Rattle.nm_types.specs.declared.scripts.Line.{Line}
 use Rattle.nm_types.specs.Commands.{Numbered, commands_from, commands_of}
-use Rattle.nm_history.proofs.OnceLemmas.{same_of}
 use Rattle.nm_sure.specs.Plain.{at_of, can_run, goes_on, next_of, next_rank, plain_after, with_one_more}
 use Rattle.nm_sure.proofs.Floor.{more_at}
-use Rattle.nm_sure.proofs.Lists.{found_at, no_some, place_below, same_some}
+use Rattle.nm_sure.proofs.Lists.{found_at}
+use Rattle.nm_facts.proofs.Numbers.{same_number}
+use Rattle.nm_facts.proofs.Options.{no_some, same_some}
+use Rattle.nm_facts.proofs.Lists.{place_below}
 
 -- the sum over some ranks, from the last one on
 abbrev pub sum_over : (ℕ → ℕ) → List ℕ → ℕ
@@ -58,7 +60,7 @@ one_hit l f g hit a (suc n) = by_test (l == a) refl (hit a) (one_hit l f g hit (
         (l < a + 1 → sum_over g (range_with_len (a + 1) n) ≤ sum_over f (range_with_len (a + 1) n)) →
         g a + sum_over g (range_with_len (a + 1) n) ≤ f a + sum_over f (range_with_len (a + 1) n) + 1
     by_test true is first later none =
-        let same : l ≡ a = same_of l a is in
+        let same : l ≡ a = same_number l a is in
         let rest = none (omega (arith, same)) in
         omega (arith, first, rest)
     by_test false is first later none = omega (arith, first, later)
@@ -73,11 +75,13 @@ few_commands a n number [] = let none = nothing (range_with_len a n) in omega (a
     nothing (r ∷ rs) = let later = nothing rs in omega (arith, later)
 few_commands a n number (l ∷ lines) =
     let later = few_commands a n (number + 1) lines in
-    let one = one_hit l.rank (λ (r : ℕ). length (commands_from r (number + 1) lines)) (λ (r : ℕ). length (commands_from r number (l ∷ lines)))
+    let one = one_hit l.rank (λ (r : ℕ). length (commands_from r (number + 1) lines))
+    (λ (r : ℕ). length (commands_from r number (l ∷ lines)))
     (λ r. by_test r (l.rank == r)) a n in
     omega (arith, later, one)
   where
-    by_test : (r : ℕ) (b : Bool) → length (cond b (record { line = number; command = l.command } ∷ commands_from r (number + 1) lines)
+    by_test : (r : ℕ) (b : Bool) →
+        length (cond b (record { line = number; command = l.command } ∷ commands_from r (number + 1) lines)
         (commands_from r (number + 1) lines))
         ≡ cond b (length (commands_from r (number + 1) lines) + 1) (length (commands_from r (number + 1) lines))
     by_test r true = more (length (commands_from r (number + 1) lines))
@@ -106,12 +110,15 @@ range_below a (suc n) (suc k) r here =
     (let low = more.0 in omega (arith, low), let same = more.1 in omega (arith, same))
 
 -- where none is found none passes
-pub none_found : {X : Type 0} (test : X → Bool) (xs : List X) (k : ℕ) (x : X) → find test xs ≡ None → slice_get xs k ≡ Some x →
+pub none_found : {X : Type 0} (test : X → Bool) (xs : List X) (k : ℕ) (x : X) → find test xs ≡ None →
+    slice_get xs k ≡ Some x →
     test x ≡ false
 none_found test [] k x none here = absurd (no_some x here)
-none_found test (y ∷ xs) k x none here = by_test (test y) refl k none here (λ j there rest. none_found test xs j x there rest)
+none_found test (y ∷ xs) k x none here = by_test (test y) refl k none here
+    (λ j there rest. none_found test xs j x there rest)
   where
-    by_test : (b : Bool) → test y ≡ b → (k : ℕ) → cond b (Some y) (find test xs) ≡ None → slice_get (y ∷ xs) k ≡ Some x →
+    by_test : (b : Bool) → test y ≡ b → (k : ℕ) → cond b (Some y) (find test xs) ≡ None →
+        slice_get (y ∷ xs) k ≡ Some x →
         ((j : ℕ) → find test xs ≡ None → slice_get xs j ≡ Some x → test x ≡ false) → test x ≡ false
     by_test true is k none here later = absurd (no_some y (sym none))
     by_test false is zero none here later = subst (λ z. test z ≡ false) (same_some y x here) is
@@ -135,7 +142,8 @@ module _ (eager : ℕ) (lines : List Line) where
   has_next : (F : List ℕ) (i : ℕ) → can_run eager lines F i ≡ true → at_of F i < length (commands_of i lines)
   has_next F i can = by_next (next_of lines F i) refl can
     where
-      by_next : (o : Option Numbered) → next_of lines F i ≡ o → option_map_or (λ c. goes_on eager lines F i c.command) o false ≡ true →
+      by_next : (o : Option Numbered) → next_of lines F i ≡ o → option_map_or (λ c. goes_on eager lines F i c.command)
+          o false ≡ true →
           at_of F i < length (commands_of i lines)
       by_next None next can = absurd (false≢true can)
       by_next (Some c) next can = place_below (commands_of i lines) (at_of F i) c next
@@ -163,7 +171,8 @@ module _ (eager : ℕ) (lines : List Line) where
     | inr here ↦
         let same = here.1 in
         let next = has_next F i can in
-        let own : length (commands_of r lines) ≡ length (commands_of i lines) = ap (λ (k : ℕ). length (commands_of k lines)) here.0 in
+        let own : length (commands_of r lines) ≡ length (commands_of i lines) =
+        ap (λ (k : ℕ). length (commands_of k lines)) here.0 in
         omega (arith, same, next, own)
   ]
 
@@ -190,7 +199,8 @@ module _ (eager : ℕ) (lines : List Line) where
       by_next (Some i) next =
           let spot = next_in F i next in
           let few = few_commands 0 (length F) 2 lines in
-          let low = greater (at_of F) (λ (r : ℕ). length (commands_of r lines)) within (range_with_len 0 (length F)) i i spot.0
+          let low = greater (at_of F) (λ (r : ℕ). length (commands_of r lines)) within (range_with_len 0 (length F)) i
+          i spot.0
           (has_next F i spot.1) in
           absurd (omega (arith, high, few, low))
   enough (suc more) F within high =
@@ -212,7 +222,8 @@ module _ (eager : ℕ) (lines : List Line) where
   end_length zero F = refl
   end_length (suc more) F = by_next (next_rank eager lines F) (λ i. end_length more (with_one_more F i))
     where
-      by_next : (o : Option ℕ) → ((i : ℕ) → length (plain_after eager lines more (with_one_more F i)) ≡ length (with_one_more F i)) →
+      by_next : (o : Option ℕ) →
+          ((i : ℕ) → length (plain_after eager lines more (with_one_more F i)) ≡ length (with_one_more F i)) →
           length (option_map_or (λ i. plain_after eager lines more (with_one_more F i)) o F) ≡ length F
       by_next None later = refl
       by_next (Some i) later = later i ∙ same_length F i
@@ -223,10 +234,12 @@ module _ (eager : ℕ) (lines : List Line) where
   at_start (suc n) (suc r) = at_start n r
 
   -- at the end no rank of the run can run a command
-  pub ended : (ranks i : ℕ) → i < ranks → can_run eager lines (plain_after eager lines (length lines) (replicate ranks 0)) i ≡ false
+  pub ended : (ranks i : ℕ) → i < ranks →
+      can_run eager lines (plain_after eager lines (length lines) (replicate ranks 0)) i ≡ false
   ended ranks i low =
       let F : List ℕ = plain_after eager lines (length lines) (replicate ranks 0) in
-      let none = enough (length lines) (replicate ranks 0) (λ r. let zero_at = at_start ranks r in omega (arith, zero_at)) (omega arith) in
+      let none = enough (length lines) (replicate ranks 0) (λ r. let zero_at = at_start ranks r in
+      omega (arith, zero_at)) (omega arith) in
       let count : length F ≡ ranks = end_length (length lines) (replicate ranks 0) ∙ length-replicate ranks 0 in
       none_found (can_run eager lines F) (range_with_len 0 (length F)) i i none
       (subst (λ (n : ℕ). slice_get (range_with_len 0 n) i ≡ Some i) (sym count)

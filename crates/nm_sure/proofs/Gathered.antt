@@ -2,7 +2,6 @@
 use Rattle.std.proofs.Common.{◌≡◌, ℕ, ◌==◌, Bool, true, false, ◌&&◌, cond, Option, Some, None, List, []}
 use Rattle.std.proofs.Common.{◌∷◌, ◌++◌, length, map, refl, sym, ◌∙◌, ap}
 use Rattle.std.specs.List.{cons_option, filter, filter_map, list_all}
-use Rattle.nm_history.proofs.OnceLemmas.{and_left, and_right}
 use Rattle.std.proofs.lemmas.Bool.{false≢true}
 use Rattle.std.proofs.lemmas.List.Elements.{filter_map-append}
 use Rattle.nm_types.specs.declared.scripts.Command.{Command}
@@ -18,6 +17,7 @@ use Rattle.nm_sure.specs.Names.{is_taken, started_after}
 use Rattle.nm_sure.specs.Placed.{Placed, at_place, placed, placed_at, placed_from, start_entry}
 use Rattle.nm_sure.specs.Plain.{is_plain}
 use Rattle.nm_sure.proofs.PlacedLemmas.{IsPlacedSo}
+use Rattle.nm_facts.proofs.Truth.{and_left, and_right}
 
 -- the line, if the test passes
 abbrev pub if_some : Bool → ℕ → Option ℕ
@@ -80,7 +80,8 @@ lines_at f g reads tells eager n commands c more rest true plain same =
     ap (λ (ls : List ℕ). ls ++ more) (gathered_at f reads n (start_of eager commands [] c.line c.command)
     ∙ tells eager c.line commands c.command plain) ∙ by_test (g c.command)
   where
-    by_test : (b : Bool) → cond b (c.line ∷ []) [] ++ more ≡ map (λ c. c.line) (cond b (c ∷ filter (λ c. g c.command) rest) (filter (λ c. g c.command) rest))
+    by_test : (b : Bool) → cond b (c.line ∷ []) [] ++ more ≡ map (λ c. c.line)
+        (cond b (c ∷ filter (λ c. g c.command) rest) (filter (λ c. g c.command) rest))
     by_test true = ap (λ (ls : List ℕ). c.line ∷ ls) same
     by_test false = same
 
@@ -136,7 +137,7 @@ posts_read from tag ctx = record { numbers = same_line; others = no_line }
     no_line (event.Post p line) other = absurd (false≢true (sym other))
     no_line w other = refl
 
-one_line : (b : Bool) (l : ℕ) → cons_option (if_some b l) [] ≡ cond b (l ∷ []) []
+pub one_line : (b : Bool) (l : ℕ) → cons_option (if_some b l) [] ≡ cond b (l ∷ []) []
 one_line true l = refl
 one_line false l = refl
 

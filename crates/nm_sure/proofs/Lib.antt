@@ -1,30 +1,31 @@
-pub mod Wayside
-pub mod Partnered
-pub mod Standing
-pub mod Readiness
-pub mod Running
-pub mod Stepping
-pub mod Telling
-pub mod Before
-pub mod Plainness
-pub mod Texts
+mod Wayside
+mod Partnered
+mod Standing
+mod Readiness
+mod Running
+mod Stepping
+mod Telling
+mod Before
+mod Plainness
+mod Texts
 pub mod Shown
+pub mod ShownAnswers
 pub mod Assembled
-pub mod Fuel
+mod Fuel
 pub mod Floor
 pub mod Ceiling
 pub mod Worlds
-pub mod Reached
+mod Reached
 pub mod Flown
 pub mod Made
 pub mod Rising
 pub mod Coupled
 pub mod Fitting
-pub mod Numbering
+mod Numbering
 pub mod Lists
-pub mod Carried
-pub mod Progress
+mod Carried
+mod Progress
 pub mod Gathered
 pub mod Fronts
 pub mod Named
-pub mod PlacedLemmas
+mod PlacedLemmas

@@ -1,49 +1,20 @@
 -- Places in lists: of what passes a test, of what is found, and of pairs.
 use Rattle.std.proofs.Common.{◌≡◌, ℕ, ◌+◌, ◌<◌, ◌||◌, zero, suc, Bool, true, false, cond, Option, Some, None, List, []}
-use Rattle.std.proofs.Common.{◌∷◌, ◌++◌, length, map, refl, ◌∙◌, ap, subst, arith, ◌⊎◌, inl, inr}
-use Rattle.std.specs.Prelude.{IfSome, IsSomeAnd, take}
+use Rattle.std.proofs.Common.{◌∷◌, ◌++◌, length, refl, ◌∙◌, ap, subst, arith, ◌⊎◌, inl, inr}
+use Rattle.std.specs.Prelude.{IsSomeAnd, take}
 use Rattle.std.specs.List.{filter, find, list_all, list_any, slice_get}
 use Rattle.std.proofs.lemmas.Bool.{false≢true}
 use Rattle.nm_types.specs.declared.messages.Arrival.{Arrival}
 use Rattle.nm_types.specs.declared.messages.Post as post
 use Rattle.nm_history.specs.declared.plain.Pair.{Pair}
 use Rattle.nm_history.specs.Matching.{pair_of}
-use Rattle.nm_history.proofs.OnceLemmas.{and_left, and_right}
 use Rattle.nm_match.specs.InTurn.{paired}
-
-pub no_some : {X : Type 0} (x : X) → None ≡ Some x → ⊥
-no_some x same = cc
-
-pub same_some : {X : Type 0} (x y : X) → Some x ≡ Some y → x ≡ y
-same_some x y same = cc
-
-pub of_some : {X : Type 0} (P : X → Type 0) (o : Option X) (x : X) → o ≡ Some x → IfSome o P → P x
-of_some P None x same holds = absurd (no_some x same)
-of_some P (Some y) x same holds = subst P (same_some y x same) holds
+use Rattle.nm_facts.proofs.Options.{no_some, same_some}
+use Rattle.nm_facts.proofs.Truth.{and_left, and_right}
 
 pub of_some_and : {X : Type 0} (P : X → Type 0) (o : Option X) (x : X) → o ≡ Some x → IsSomeAnd o P → P x
 of_some_and P None x same holds = absurd holds
 of_some_and P (Some y) x same holds = subst P (same_some y x same) holds
-
--- a place that is taken is below the length
-pub place_below : {X : Type 0} (xs : List X) (k : ℕ) (x : X) → slice_get xs k ≡ Some x → k < length xs
-place_below [] k x here = absurd (no_some x here)
-place_below (y ∷ ys) zero x here = omega arith
-place_below (y ∷ ys) (suc k) x here = let more = place_below ys k x here in omega (arith, more)
-
-pub below_place : {X : Type 0} (xs : List X) (k : ℕ) → k < length xs → (x : X) × (slice_get xs k ≡ Some x)
-below_place [] k below = absurd (omega (arith, below))
-below_place (y ∷ ys) zero below = (y, refl)
-below_place (y ∷ ys) (suc k) below = below_place ys k (omega (arith, below))
-
--- a list keeps its places before more
-pub place_front : {X : Type 0} (xs ys : List X) (k : ℕ) → k < length xs → slice_get (xs ++ ys) k ≡ slice_get xs k
-place_front [] ys k below = absurd (omega (arith, below))
-place_front (x ∷ xs) ys zero below = refl
-place_front (x ∷ xs) ys (suc k) below = place_front xs ys k (omega (arith, below))
-
-pub place_kept : {X : Type 0} (xs ys : List X) (k : ℕ) (x : X) → slice_get xs k ≡ Some x → slice_get (xs ++ ys) k ≡ Some x
-place_kept xs ys k x here = place_front xs ys k (place_below xs k x here) ∙ here
 
 -- what stands in two lists joined stands in the one or in the other
 pub place_split : {X : Type 0} (xs ys : List X) (k : ℕ) (x : X) → slice_get (xs ++ ys) k ≡ Some x →
@@ -64,18 +35,6 @@ place_behind (x ∷ xs) ys m = ap (λ (k : ℕ). slice_get (x ∷ (xs ++ ys)) k)
   where
     suc_add : (a m : ℕ) → suc a + m ≡ suc (a + m)
     suc_add a m = omega arith
-
-pub place_map : {X Y : Type 0} (f : X → Y) (xs : List X) (k : ℕ) (x : X) → slice_get xs k ≡ Some x →
-    slice_get (map f xs) k ≡ Some (f x)
-place_map f [] k x here = absurd (no_some x here)
-place_map {X = X} f (y ∷ ys) zero x here = ap (λ (z : X). Some (f z)) (same_some y x here)
-place_map f (y ∷ ys) (suc k) x here = place_map f ys k x here
-
-pub map_place : {X Y : Type 0} (f : X → Y) (xs : List X) (k : ℕ) (y : Y) → slice_get (map f xs) k ≡ Some y →
-    (x : X) × (slice_get xs k ≡ Some x) × (f x ≡ y)
-map_place f [] k y here = absurd (no_some y here)
-map_place f (x ∷ xs) zero y here = (x, refl, same_some (f x) y here)
-map_place f (x ∷ xs) (suc k) y here = map_place f xs k y here
 
 -- in a filtered list an element stands behind those before it that pass
 pub kept_at : {X : Type 0} (test : X → Bool) (xs : List X) (n : ℕ) (x : X) → slice_get xs n ≡ Some x → test x ≡ true →
@@ -98,7 +57,8 @@ kept_from test [] k x here = absurd (no_some x here)
 kept_from test (y ∷ ys) k x here = by_test (test y) refl (λ j there. kept_from test ys j x there) k here
   where
     by_test : (b : Bool) → test y ≡ b → ((j : ℕ) → slice_get (filter test ys) j ≡ Some x →
-        (n : ℕ) × (slice_get ys n ≡ Some x) × (test x ≡ true) × (j ≡ length (filter test (take n ys)))) → (k : ℕ) → slice_get (cond b (y ∷ filter test ys) (filter test ys)) k ≡ Some x →
+        (n : ℕ) × (slice_get ys n ≡ Some x) × (test x ≡ true) × (j ≡ length (filter test (take n ys)))) →
+        (k : ℕ) → slice_get (cond b (y ∷ filter test ys) (filter test ys)) k ≡ Some x →
         (n : ℕ) × (slice_get (y ∷ ys) n ≡ Some x) × (test x ≡ true) × (k ≡ length (filter test (take n (y ∷ ys))))
     by_test true passes later zero here =
         let same : y ≡ x = same_some y x here in
@@ -116,7 +76,8 @@ pub found_at : {X : Type 0} (test : X → Bool) (xs : List X) (x : X) → find t
 found_at test [] x found = absurd (no_some x found)
 found_at test (y ∷ ys) x found = by_test (test y) refl (found_at test ys x) found
   where
-    by_test : (b : Bool) → test y ≡ b → (find test ys ≡ Some x → (n : ℕ) × (slice_get ys n ≡ Some x) × (test x ≡ true)) →
+    by_test : (b : Bool) → test y ≡ b →
+        (find test ys ≡ Some x → (n : ℕ) × (slice_get ys n ≡ Some x) × (test x ≡ true)) →
         cond b (Some y) (find test ys) ≡ Some x →
         (n : ℕ) × (slice_get (y ∷ ys) n ≡ Some x) × (test x ≡ true)
     by_test true passes later found = (zero, found, subst (λ z. test z ≡ true) (same_some y x found) passes)
@@ -145,7 +106,8 @@ any_at {X = X} test (y ∷ ys) some = by_test (test y) refl (any_at test ys) som
     by_test false passes later some = let more = later some in (suc more.0, more.1, more.2, more.3)
 
 -- an element of a list passes a test that all pass
-pub passes_at : {X : Type 0} (test : X → Bool) (xs : List X) (k : ℕ) (x : X) → list_all test xs ≡ true → slice_get xs k ≡ Some x →
+pub passes_at : {X : Type 0} (test : X → Bool) (xs : List X) (k : ℕ) (x : X) → list_all test xs ≡ true →
+    slice_get xs k ≡ Some x →
     test x ≡ true
 passes_at test [] k x all here = absurd (no_some x here)
 passes_at test (y ∷ ys) zero x all here =
@@ -163,7 +125,8 @@ at_any test (y ∷ ys) (suc n) x here passes = by_test (test y) (at_any test ys 
     by_test false later = later
 
 -- a pair of two lists stands where its two parts do
-pub paired_from : (ps : List post.Post) (ms : List Arrival) (k : ℕ) (pair : Pair) → slice_get (paired ps ms) k ≡ Some pair →
+pub paired_from : (ps : List post.Post) (ms : List Arrival) (k : ℕ) (pair : Pair) →
+    slice_get (paired ps ms) k ≡ Some pair →
     (p : post.Post) × (m : Arrival) × (slice_get ps k ≡ Some p) × (slice_get ms k ≡ Some m) × (pair_of p m ≡ pair)
 paired_from [] ms k pair here = absurd (no_some pair here)
 paired_from (p ∷ ps) [] k pair here = absurd (no_some pair here)

@@ -12,12 +12,13 @@ use Rattle.nm_history.specs.declared.events.Happened.TheVariants as event
 use Rattle.nm_history.specs.Answers.{request_at, request_of}
 use Rattle.nm_history.specs.Completion.Request.{Sending, Receiving}
 use Rattle.nm_history.specs.Sends.{Sent, post_of, posts, sends, sent_of}
-use Rattle.nm_history.proofs.OnceLemmas.{eqb_self, same_of}
+use Rattle.nm_history.proofs.OnceLemmas.{eqb_self}
 use Rattle.nm_match.specs.InTurn.{is_for}
 use Rattle.nm_sure.proofs.Coupled.{channel_posts}
 use Rattle.nm_sure.proofs.Fitting.{EachFits, Fits}
 use Rattle.nm_sure.proofs.Gathered.{if_some, post_line, send_line}
-use Rattle.nm_sure.proofs.Lists.{no_some}
+use Rattle.nm_facts.proofs.Numbers.{same_number}
+use Rattle.nm_facts.proofs.Options.{no_some}
 
 -- the lines of a channel's receives, and of its sends
 abbrev pub post_lines : List Event → ℕ → ℕ → ℕ → List ℕ
@@ -33,7 +34,8 @@ channel_sends h to tag ctx = filter (λ s. ctx == s.ctx && tag == s.tag) (sends 
 -- there are as many receives as lines of them
 posts_step : (from tag ctx : ℕ) (what : Happened) (ps : List post.Post) (ls : List ℕ) →
     length (filter (is_for from tag ctx) ps) ≡ length ls →
-    length (filter (is_for from tag ctx) (cons_option (post_of what) ps)) ≡ length (cons_option (post_line from tag ctx what) ls)
+    length (filter (is_for from tag ctx) (cons_option (post_of what) ps)) ≡ length
+    (cons_option (post_line from tag ctx what) ls)
 posts_step from tag ctx (event.Post p line) ps ls later = by_test (is_for from tag ctx p)
   where
     by_test : (b : Bool) → length (cond b (p ∷ filter (is_for from tag ctx) ps) (filter (is_for from tag ctx) ps))
@@ -42,7 +44,8 @@ posts_step from tag ctx (event.Post p line) ps ls later = by_test (is_for from t
     by_test false = later
 posts_step from tag ctx what ps ls later = later
 
-pub posts_counted : (h : List Event) (from tag ctx : ℕ) → length (channel_posts h from tag ctx) ≡ length (post_lines h from tag ctx)
+pub posts_counted : (h : List Event) (from tag ctx : ℕ) → length (channel_posts h from tag ctx) ≡ length
+    (post_lines h from tag ctx)
 posts_counted [] from tag ctx = refl
 posts_counted (e ∷ h) from tag ctx =
     posts_step from tag ctx e.what (posts h) (post_lines h from tag ctx) (posts_counted h from tag ctx)
@@ -59,7 +62,7 @@ never false false c is = refl
 never true b c is = absurd (false≢true (sym is))
 
 turned : (a b : ℕ) (v : Bool) → (a == b) ≡ v → (b == a) ≡ v
-turned a b true is = rw (same_of a b is) (eqb_self b)
+turned a b true is = rw (same_number a b is) (eqb_self b)
 turned a b false is = grind (arith, nat_tests)
 
 sends_at : (to tag ctx : ℕ) (s : Sent) (ss : List Sent) (ls : List ℕ) (b : Bool) → (s.to == to) ≡ b →
@@ -67,8 +70,10 @@ sends_at : (to tag ctx : ℕ) (s : Sent) (ss : List Sent) (ls : List ℕ) (b : B
     map (λ (s : Sent). s.line) (filter (λ s. ctx == s.ctx && tag == s.tag) (cond b (s ∷ ss) ss))
     ≡ cons_option (if_some (ctx == s.ctx && to == s.to && tag == s.tag) s.line) ls
 sends_at to tag ctx s ss ls true is later =
-    subst (λ (b : Bool). map (λ (s : Sent). s.line) (filter (λ s. ctx == s.ctx && tag == s.tag) (s ∷ ss)) ≡ cons_option (if_some b s.line) ls)
-    (swapped (to == s.to) (ctx == s.ctx) (tag == s.tag) (turned s.to to true is)) (by_test (ctx == s.ctx && tag == s.tag))
+    subst (λ (b : Bool). map (λ (s : Sent). s.line) (filter (λ s. ctx == s.ctx && tag == s.tag) (s ∷ ss))
+    ≡ cons_option (if_some b s.line) ls)
+    (swapped (to == s.to) (ctx == s.ctx) (tag == s.tag) (turned s.to to true is))
+    (by_test (ctx == s.ctx && tag == s.tag))
   where
     by_test : (b : Bool) → map (λ (s : Sent). s.line) (cond b (s ∷ filter (λ s. ctx == s.ctx && tag == s.tag) ss)
         (filter (λ s. ctx == s.ctx && tag == s.tag) ss)) ≡ cons_option (if_some b s.line) ls
@@ -79,7 +84,8 @@ sends_at to tag ctx s ss ls false is later =
 
 sends_step : (to tag ctx stamp : ℕ) (what : Happened) (ss : List Sent) (ls : List ℕ) →
     map (λ (s : Sent). s.line) (filter (λ s. ctx == s.ctx && tag == s.tag) (filter (λ s. s.to == to) ss)) ≡ ls →
-    map (λ (s : Sent). s.line) (filter (λ s. ctx == s.ctx && tag == s.tag) (filter (λ s. s.to == to) (cons_option (sent_of stamp what) ss)))
+    map (λ (s : Sent). s.line)
+    (filter (λ s. ctx == s.ctx && tag == s.tag) (filter (λ s. s.to == to) (cons_option (sent_of stamp what) ss)))
     ≡ cons_option (send_line to tag ctx what) ls
 sends_step to tag ctx stamp (event.Send to' n t c len how line) ss ls later =
     sends_at to tag ctx (record { stamp = stamp; to = to'; n = n; tag = t; ctx = c; len = len; how = how; line = line })
@@ -90,7 +96,8 @@ pub sends_told_by_lines : (h : List Event) (to tag ctx : ℕ) →
     map (λ (s : Sent). s.line) (channel_sends h to tag ctx) ≡ send_lines h to tag ctx
 sends_told_by_lines [] to tag ctx = refl
 sends_told_by_lines (e ∷ h) to tag ctx =
-    sends_step to tag ctx e.stamp e.what (filter_map (λ (e : Event). sent_of e.stamp e.what) h) (send_lines h to tag ctx)
+    sends_step to tag ctx e.stamp e.what (filter_map (λ (e : Event). sent_of e.stamp e.what) h)
+    (send_lines h to tag ctx)
     (sends_told_by_lines h to tag ctx)
 
 -- a receive with its line and its place in its channel
@@ -99,7 +106,8 @@ pub record PostMade (eager : ℕ) (commands : List Numbered) (h : List Event) (l
   pub numbered : receive.number ≡ number
   pub fits : Fits eager commands (event.Post receive l)
   pub place : (from tag ctx : ℕ) → is_for from tag ctx receive ≡ true →
-      (k : ℕ) × (slice_get (channel_posts h from tag ctx) k ≡ Some receive) × (slice_get (post_lines h from tag ctx) k ≡ Some l)
+      (k : ℕ) × (slice_get (channel_posts h from tag ctx) k ≡ Some receive)
+      × (slice_get (post_lines h from tag ctx) k ≡ Some l)
 
 -- a send with its line, and one of its rank
 pub record SendMade (eager : ℕ) (commands : List Numbered) (h : List Event) (l to n : ℕ) : Type 0 where
@@ -119,9 +127,11 @@ post_later eager commands stamp (event.Post p line) h l number made = record {
   place = λ from tag ctx is. by_test from tag ctx (is_for from tag ctx p) (made.place from tag ctx is);
 }
   where
-    by_test : (from tag ctx : ℕ) (b : Bool) → ((k : ℕ) × (slice_get (channel_posts h from tag ctx) k ≡ Some made.receive)
+    by_test : (from tag ctx : ℕ) (b : Bool) →
+        ((k : ℕ) × (slice_get (channel_posts h from tag ctx) k ≡ Some made.receive)
         × (slice_get (post_lines h from tag ctx) k ≡ Some l)) →
-        (k : ℕ) × (slice_get (cond b (p ∷ channel_posts h from tag ctx) (channel_posts h from tag ctx)) k ≡ Some made.receive)
+        (k : ℕ) × (slice_get (cond b (p ∷ channel_posts h from tag ctx) (channel_posts h from tag ctx)) k
+        ≡ Some made.receive)
         × (slice_get (cons_option (if_some b line) (post_lines h from tag ctx)) k ≡ Some l)
     by_test from tag ctx true found = (suc found.0, found.1, found.2)
     by_test from tag ctx false found = found
@@ -132,7 +142,8 @@ post_later eager commands stamp what h l number made = record {
   place = made.place;
 }
 
-post_now : (eager : ℕ) (commands : List Numbered) (stamp : ℕ) (p : post.Post) (line : ℕ) (h : List Event) (l number : ℕ) →
+post_now : (eager : ℕ) (commands : List Numbered) (stamp : ℕ) (p : post.Post) (line : ℕ) (h : List Event)
+    (l number : ℕ) →
     Fits eager commands (event.Post p line) → line ≡ l → p.number ≡ number →
     PostMade eager commands (record { stamp = stamp; what = event.Post p line } ∷ h) l number
 post_now eager commands stamp p line h l number fits same numbered = record {
@@ -150,23 +161,27 @@ post_now eager commands stamp p line h l number fits same numbered = record {
 
 post_case : (eager : ℕ) (commands : List Numbered) (stamp : ℕ) (what : Happened) (h : List Event) (l number : ℕ) →
     Fits eager commands what →
-    (slice_get (filter_map (λ (e : Event). request_of l e.what) h) 0 ≡ Some (Receiving number) → PostMade eager commands h l number) →
-    slice_get (cons_option (request_of l what) (filter_map (λ (e : Event). request_of l e.what) h)) 0 ≡ Some (Receiving number) →
+    (slice_get (filter_map (λ (e : Event). request_of l e.what) h) 0 ≡ Some (Receiving number) →
+    PostMade eager commands h l number) →
+    slice_get (cons_option (request_of l what) (filter_map (λ (e : Event). request_of l e.what) h)) 0 ≡ Some
+    (Receiving number) →
     PostMade eager commands (record { stamp = stamp; what = what } ∷ h) l number
 post_case eager commands stamp (event.Post p line) h l number fits later found = by_line (line == l) refl found
   where
     by_line : (b : Bool) → (line == l) ≡ b → slice_get (cons_option (cond b (Some (Receiving p.number)) None)
         (filter_map (λ (e : Event). request_of l e.what) h)) 0 ≡ Some (Receiving number) →
         PostMade eager commands (record { stamp = stamp; what = event.Post p line } ∷ h) l number
-    by_line true is found = post_now eager commands stamp p line h l number fits (same_of line l is) (cc)
+    by_line true is found = post_now eager commands stamp p line h l number fits (same_number line l is) (cc)
     by_line false is found = post_later eager commands stamp (event.Post p line) h l number (later found)
-post_case eager commands stamp (event.Send to n tag ctx len how line) h l number fits later found = by_line (line == l) found
+post_case eager commands stamp (event.Send to n tag ctx len how line) h l number fits later found =
+    by_line (line == l) found
   where
     by_line : (b : Bool) → slice_get (cons_option (cond b (Some (Sending to n)) None)
         (filter_map (λ (e : Event). request_of l e.what) h)) 0 ≡ Some (Receiving number) →
         PostMade eager commands (record { stamp = stamp; what = event.Send to n tag ctx len how line } ∷ h) l number
     by_line true found = absurd (grind arith)
-    by_line false found = post_later eager commands stamp (event.Send to n tag ctx len how line) h l number (later found)
+    by_line false found = post_later eager commands stamp (event.Send to n tag ctx len how line) h l number
+        (later found)
 post_case eager commands stamp (event.Match number' from n cap line) h l number fits later found = absurd fits
 post_case eager commands stamp what h l number fits later found =
     post_later eager commands stamp what h l number (later found)
@@ -210,8 +225,10 @@ send_later eager commands stamp what h l to n made = record {
 
 send_case : (eager : ℕ) (commands : List Numbered) (stamp : ℕ) (what : Happened) (h : List Event) (l to n : ℕ) →
     Fits eager commands what →
-    (slice_get (filter_map (λ (e : Event). request_of l e.what) h) 0 ≡ Some (Sending to n) → SendMade eager commands h l to n) →
-    slice_get (cons_option (request_of l what) (filter_map (λ (e : Event). request_of l e.what) h)) 0 ≡ Some (Sending to n) →
+    (slice_get (filter_map (λ (e : Event). request_of l e.what) h) 0 ≡ Some (Sending to n) →
+    SendMade eager commands h l to n) →
+    slice_get (cons_option (request_of l what) (filter_map (λ (e : Event). request_of l e.what) h)) 0 ≡ Some
+    (Sending to n) →
     SendMade eager commands (record { stamp = stamp; what = what } ∷ h) l to n
 send_case eager commands stamp (event.Post p line) h l to n fits later found = by_line (line == l) found
   where
@@ -220,7 +237,8 @@ send_case eager commands stamp (event.Post p line) h l to n fits later found = b
         SendMade eager commands (record { stamp = stamp; what = event.Post p line } ∷ h) l to n
     by_line true found = absurd (grind arith)
     by_line false found = send_later eager commands stamp (event.Post p line) h l to n (later found)
-send_case eager commands stamp (event.Send to' n' tag ctx len how line) h l to n fits later found = by_line (line == l) refl found
+send_case eager commands stamp (event.Send to' n' tag ctx len how line) h l to n fits later found =
+    by_line (line == l) refl found
   where
     by_line : (b : Bool) → (line == l) ≡ b → slice_get (cons_option (cond b (Some (Sending to' n')) None)
         (filter_map (λ (e : Event). request_of l e.what) h)) 0 ≡ Some (Sending to n) →
@@ -231,12 +249,13 @@ send_case eager commands stamp (event.Send to' n' tag ctx len how line) h l to n
         record {
           sent = record { stamp = stamp; to = to'; n = n'; tag = tag; ctx = ctx; len = len; how = how; line = line };
           numbered = second;
-          line = same_of line l is;
-          fits = rw (← first, ← same_of line l is) fits;
+          line = same_number line l is;
+          fits = rw (← first, ← same_number line l is) fits;
           place = zero;
           here = rw (first, eqb_self to) refl;
         }
-    by_line false is found = send_later eager commands stamp (event.Send to' n' tag ctx len how line) h l to n (later found)
+    by_line false is found = send_later eager commands stamp (event.Send to' n' tag ctx len how line) h l to n
+        (later found)
 send_case eager commands stamp (event.Match number' from n' cap line) h l to n fits later found = absurd fits
 send_case eager commands stamp what h l to n fits later found =
     send_later eager commands stamp what h l to n (later found)

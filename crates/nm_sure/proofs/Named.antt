@@ -1,7 +1,7 @@
 -- In a run of plain commands, what a name stands for is told by the commands that ran alone.
 use Rattle.std.proofs.Common.{◌≡◌, ℕ, ◌==◌, Bool, true, false, not, ◌&&◌, cond, Option, Some, None}
 use Rattle.std.proofs.Common.{List, [], ◌∷◌, ◌++◌, refl, sym, ◌∙◌, ap, subst, arith}
-use Rattle.std.specs.Prelude.{is_some, is_none, nat_lt, replicate}
+use Rattle.std.specs.Prelude.{is_some, is_none}
 use Rattle.std.specs.List.{filter_map, slice_get}
 use Rattle.std.specs.Option.{option_and_then, option_map_or}
 use Rattle.std.proofs.lemmas.Bool.{false≢true}
@@ -14,17 +14,15 @@ use Rattle.nm_types.specs.declared.scripts.Command.TheVariants as command
 use Rattle.nm_types.specs.Commands.{Numbered, command_at}
 use Rattle.nm_history.specs.declared.events.Event.{Event}
 use Rattle.nm_history.specs.declared.events.Happened.TheVariants as event
-use Rattle.nm_history.specs.declared.plain.Pair.{Pair}
 use Rattle.nm_history.specs.Answers.{answer_of, is_result, is_started, line_after}
 use Rattle.nm_history.specs.Answers.{line_of_name, live, request_at, request_of, without_bytes}
-use Rattle.nm_history.specs.Completion.{Request, is_complete, is_here, pair_of_receive, result_of, shown}
-use Rattle.nm_history.specs.Completion.Request.{Sending, Receiving}
-use Rattle.nm_history.specs.Happens.{happened, is_cancel, is_undone}
+use Rattle.nm_history.specs.Completion.{Request, result_of}
 use Rattle.std.proofs.Math.Bool.{and-true}
 use Rattle.nm_history.proofs.AnswerLemmas.{line-push}
-use Rattle.nm_history.proofs.OnceLemmas.{same_of}
 use Rattle.nm_sure.specs.Names.{holder, holder_by}
 use Rattle.nm_sure.specs.Plain.{is_plain}
+use Rattle.nm_facts.proofs.Numbers.{same_number}
+use Rattle.nm_history.proofs.ResultLemmas.{result_is_result, bytes_no_matter}
 
 -- a request that was made stays made
 some_front : {X : Type 0} (xs ys : List X) → is_some (slice_get xs 0) ≡ true → is_some (slice_get (xs ++ ys) 0) ≡ true
@@ -35,7 +33,8 @@ pub request_lasts : (h : List Event) (e : Event) (l : ℕ) → is_some (request_
     is_some (request_at (h ++ e ∷ []) l) ≡ true
 request_lasts h e l some =
     rw (filter_map-append (λ (e : Event). request_of l e.what) h (e ∷ []))
-    (some_front (filter_map (λ (e : Event). request_of l e.what) h) (filter_map (λ (e : Event). request_of l e.what) (e ∷ [])) some)
+    (some_front (filter_map (λ (e : Event). request_of l e.what) h)
+    (filter_map (λ (e : Event). request_of l e.what) (e ∷ [])) some)
 
 -- each name stands for what the commands say, and its request was made
 pub record IsNamed (commands done : List Numbered) (h : List Event) : Type 0 where
@@ -51,43 +50,6 @@ pub is_live : (commands done : List Numbered) (h : List Event) (q : ℕ) → IsN
     is_some (live commands h q) ≡ is_some (holder done q)
 is_live commands done h q named =
     rw (named.line q) (live_some (request_at h) (holder done q) (named.made q))
-
--- a result is one
-shown_is_result : (pair : Pair) (b : Bool) → is_result (cond b (answer.Cut pair.arrival.env.from pair.arrival.env.tag pair.arrival.env.len)
-    (answer.Got pair.arrival.env.from pair.arrival.env.tag (replicate pair.arrival.env.len 0))) ≡ true
-shown_is_result pair true = refl
-shown_is_result pair false = refl
-
-here_is_result : (h : List Event) (o : Option Pair) (a : Answer) →
-    option_and_then (λ pair. cond (is_here h pair) (Some (shown pair)) None) o ≡ Some a → is_result a ≡ true
-here_is_result h None a found = absurd (grind arith)
-here_is_result h (Some pair) a found = at_pair (is_here h pair) found
-  where
-    at_pair : (b : Bool) → cond b (Some (shown pair)) None ≡ Some a → is_result a ≡ true
-    at_pair true same = let is : shown pair ≡ a = cc in subst (λ (a : Answer). is_result a ≡ true) is
-        (shown_is_result pair (nat_lt pair.cap pair.arrival.env.len))
-    at_pair false same = absurd (grind arith)
-
-choose_result : (b : Bool) (o : Option Answer) (a : Answer) → (o ≡ Some a → is_result a ≡ true) →
-    cond b (Some answer.Cancelled) o ≡ Some a → is_result a ≡ true
-choose_result true o a other same = let is : answer.Cancelled ≡ a = cc in subst (λ (a : Answer). is_result a ≡ true) is refl
-choose_result false o a other same = other same
-
-sent_is_result : (complete undone : Bool) (a : Answer) →
-    cond complete (Some (cond undone answer.Cancelled answer.Sent)) None ≡ Some a → is_result a ≡ true
-sent_is_result true true a same = let is : answer.Cancelled ≡ a = cc in subst (λ (a : Answer). is_result a ≡ true) is refl
-sent_is_result true false a same = let is : answer.Sent ≡ a = cc in subst (λ (a : Answer). is_result a ≡ true) is refl
-sent_is_result false undone a same = absurd (grind arith)
-
-result_is_result : (h : List Event) (r : Request) (a : Answer) → result_of h r ≡ Some a → is_result a ≡ true
-result_is_result h (Receiving number) a same =
-    choose_result (happened (is_cancel number) h) _ a (here_is_result h (pair_of_receive h number) a) same
-result_is_result h (Sending to n) a same =
-    sent_is_result (is_complete h (Sending to n)) (happened (is_undone to n true) h) a same
-
-bytes_no_matter : (a : Answer) → is_result (without_bytes a) ≡ is_result a
-bytes_no_matter (answer.Got from tag body) = refl
-bytes_no_matter a = refl
 
 pub started_fact : (b : Bool) (a : Answer) → Some (cond b answer.Busy answer.Started) ≡ Some (without_bytes a) →
     is_started a ≡ not b
@@ -105,7 +67,7 @@ wait_fact h (Some r) a same some = sym (bytes_no_matter a) ∙ result_is_result 
 start_line : (q' q l : ℕ) (held : ℕ → Option ℕ) (started b : Bool) → (q' == q) ≡ b → started ≡ not (is_some (held q')) →
     cond (b && started) (Some l) (held q) ≡ cond (b && is_none (held q)) (Some l) (held q)
 start_line q' q l held started true same is =
-    let here : q' ≡ q = same_of q' q same in
+    let here : q' ≡ q = same_number q' q same in
     rw (is ∙ ap (λ (k : ℕ). not (is_some (held k))) here) (none_or_some (held q))
   where
     none_or_some : (o : Option ℕ) → cond (not (is_some o)) (Some l) o ≡ cond (is_none o) (Some l) o
@@ -113,12 +75,13 @@ start_line q' q l held started true same is =
     none_or_some (Some k) = refl
 start_line q' q l held started false same is = refl
 
-wait_line : (q' q : ℕ) (held : ℕ → Option ℕ) (ended b : Bool) → (q' == q) ≡ b → (is_some (held q') ≡ true → ended ≡ true) →
+wait_line : (q' q : ℕ) (held : ℕ → Option ℕ) (ended b : Bool) → (q' == q) ≡ b →
+    (is_some (held q') ≡ true → ended ≡ true) →
     cond (b && ended) None (held q) ≡ cond b None (held q)
 wait_line q' q held true b same is = rw (and-true b) refl
 wait_line q' q held false false same is = refl
 wait_line q' q held false true same is =
-    let here : q' ≡ q = same_of q' q same in
+    let here : q' ≡ q = same_number q' q same in
     nothing_held (held q) (λ some. is (subst (λ (k : ℕ). is_some (held k) ≡ true) (sym here) some))
   where
     nothing_held : (o : Option ℕ) → (is_some o ≡ true → false ≡ true) → o ≡ None

@@ -11,9 +11,11 @@ use Rattle.nm_history.specs.declared.events.Happened.TheVariants as event
 use Rattle.nm_history.specs.AtEach.{AtEach, AtEachAfter}
 use Rattle.nm_history.specs.RankRun.{Always, NumberAt}
 use Rattle.nm_history.specs.Sends.{Arrived, Sent, arrivals, arrived_of, posts, receives, sends, sent_of}
-use Rattle.nm_history.proofs.OnceLemmas.{arrivals-push, posts-push, receives-push, same_of}
+use Rattle.nm_history.proofs.OnceLemmas.{arrivals-push, posts-push, receives-push}
 use Rattle.nm_match.specs.InTurn.{ArePlainEvents, is_plain_event}
-use Rattle.nm_sure.proofs.Lists.{AreNumbered, no_some, numbered-push}
+use Rattle.nm_sure.proofs.Lists.{AreNumbered, numbered-push}
+use Rattle.nm_facts.proofs.Numbers.{same_number}
+use Rattle.nm_facts.proofs.Options.{no_some}
 
 none_numbered : {X : Type 0} (number : X → ℕ) → AreNumbered number []
 none_numbered number k x here = absurd (no_some x here)
@@ -29,7 +31,8 @@ module _ (ranks : ℕ) where
   sends-push : (h : List Event) (e : Event) (to : ℕ) →
       sends (h ++ e ∷ []) to ≡ sends h to ++ filter (λ s. s.to == to) (cons_option (sent_of e.stamp e.what) [])
   sends-push h e to =
-      ap (λ (ss : List Sent). filter (λ s. s.to == to) ss) (filter_map-append (λ (e : Event). sent_of e.stamp e.what) h (e ∷ []))
+      ap (λ (ss : List Sent). filter (λ s. s.to == to) ss)
+      (filter_map-append (λ (e : Event). sent_of e.stamp e.what) h (e ∷ []))
       ∙ filter-append (λ (s : Sent). s.to == to) (filter_map (λ (e : Event). sent_of e.stamp e.what) h)
       (cons_option (sent_of e.stamp e.what) [])
 
@@ -39,12 +42,13 @@ module _ (ranks : ℕ) where
   send_step h stamp to (event.Send to' n tag ctx len how line) number each =
       maybe_more (λ (s : Sent). s.n) (sends h to)
       (record { stamp = stamp; to = to'; n = n; tag = tag; ctx = ctx; len = len; how = how; line = line })
-      (to' == to) each (λ is. number ∙ ap (λ (k : ℕ). length (sends h k)) (same_of to' to is))
+      (to' == to) each (λ is. number ∙ ap (λ (k : ℕ). length (sends h k)) (same_number to' to is))
   send_step h stamp to what number each =
       subst (λ (ss : List Sent). AreNumbered (λ (s : Sent). s.n) ss) (sym (append-nil (sends h to))) each
 
   sends_after : (to : ℕ) (before events : List Event) → AreNumbered (λ (s : Sent). s.n) (sends before to) →
-      AtEachAfter (λ b e. NumberAt ranks b e.what) before events → AreNumbered (λ (s : Sent). s.n) (sends (before ++ events) to)
+      AtEachAfter (λ b e. NumberAt ranks b e.what) before events → AreNumbered (λ (s : Sent). s.n)
+      (sends (before ++ events) to)
   sends_after to before [] each numbers =
       subst (λ (h : List Event). AreNumbered (λ (s : Sent). s.n) (sends h to)) (sym (append-nil before)) each
   sends_after to before (e ∷ events) each numbers =
@@ -53,7 +57,8 @@ module _ (ranks : ℕ) where
       (subst (λ (ss : List Sent). AreNumbered (λ (s : Sent). s.n) ss) (sym (sends-push before e to))
       (send_step before e.stamp to e.what numbers.0 each)) numbers.1)
 
-  pub sends_numbered : (h : List Event) (to : ℕ) → Always (NumberAt ranks) h → AreNumbered (λ (s : Sent). s.n) (sends h to)
+  pub sends_numbered : (h : List Event) (to : ℕ) → Always (NumberAt ranks) h → AreNumbered (λ (s : Sent). s.n)
+      (sends h to)
   unfolding AtEach
   sends_numbered h to numbers = sends_after to [] h (none_numbered (λ (s : Sent). s.n)) numbers
 
@@ -63,19 +68,25 @@ module _ (ranks : ℕ) where
       (arrivals h from ++ filter (λ a. a.arrival.env.from == from) (cons_option (arrived_of stamp what) []))
   arrival_step h stamp from (event.Arrive a) number each =
       maybe_more (λ (a : Arrived). a.arrival.n) (arrivals h from) (record { stamp = stamp; arrival = a })
-      (a.env.from == from) each (λ is. number.1 ∙ ap (λ (k : ℕ). length (arrivals h k)) (same_of a.env.from from is))
+      (a.env.from == from) each
+      (λ is. number.1 ∙ ap (λ (k : ℕ). length (arrivals h k)) (same_number a.env.from from is))
   arrival_step h stamp from what number each =
-      subst (λ (as' : List Arrived). AreNumbered (λ (a : Arrived). a.arrival.n) as') (sym (append-nil (arrivals h from))) each
+      subst (λ (as' : List Arrived). AreNumbered (λ (a : Arrived). a.arrival.n) as')
+      (sym (append-nil (arrivals h from))) each
 
-  arrivals_after : (from : ℕ) (before events : List Event) → AreNumbered (λ (a : Arrived). a.arrival.n) (arrivals before from) →
+  arrivals_after : (from : ℕ) (before events : List Event) → AreNumbered (λ (a : Arrived). a.arrival.n)
+      (arrivals before from) →
       AtEachAfter (λ b e. NumberAt ranks b e.what) before events →
       AreNumbered (λ (a : Arrived). a.arrival.n) (arrivals (before ++ events) from)
   arrivals_after from before [] each numbers =
-      subst (λ (h : List Event). AreNumbered (λ (a : Arrived). a.arrival.n) (arrivals h from)) (sym (append-nil before)) each
+      subst (λ (h : List Event). AreNumbered (λ (a : Arrived). a.arrival.n) (arrivals h from))
+      (sym (append-nil before)) each
   arrivals_after from before (e ∷ events) each numbers =
-      subst (λ (h : List Event). AreNumbered (λ (a : Arrived). a.arrival.n) (arrivals h from)) (append_assoc before (e ∷ []) events)
+      subst (λ (h : List Event). AreNumbered (λ (a : Arrived). a.arrival.n) (arrivals h from))
+      (append_assoc before (e ∷ []) events)
       (arrivals_after from (before ++ e ∷ []) events
-      (subst (λ (as' : List Arrived). AreNumbered (λ (a : Arrived). a.arrival.n) as') (sym (arrivals-push before e from))
+      (subst (λ (as' : List Arrived). AreNumbered (λ (a : Arrived). a.arrival.n) as')
+      (sym (arrivals-push before e from))
       (arrival_step before e.stamp from e.what numbers.0 each)) numbers.1)
 
   pub arrivals_numbered : (h : List Event) (from : ℕ) → Always (NumberAt ranks) h →
@@ -100,12 +111,14 @@ module _ (ranks : ℕ) where
   post_step h stamp (event.Match number' from n cap line) number plain so = absurd (false≢true plain)
   post_step h stamp what number plain so =
       let e : Event = record { stamp = stamp; what = what } in (
-        subst (λ (ps : List post.Post). AreNumbered (λ (p : post.Post). p.number) ps) (sym (posts-push h e ∙ append-nil (posts h))) so.0,
+        subst (λ (ps : List post.Post). AreNumbered (λ (p : post.Post). p.number) ps)
+            (sym (posts-push h e ∙ append-nil (posts h))) so.0,
         ap (λ (ps : List post.Post). length ps) (posts-push h e ∙ append-nil (posts h)) ∙ so.1
             ∙ sym (ap (λ (ns : List ℕ). length ns) (receives-push h e ∙ append-nil (receives h))),
       )
 
-  posts_after : (before events : List Event) → ArePosts before → AtEachAfter (λ b e. NumberAt ranks b e.what) before events →
+  posts_after : (before events : List Event) → ArePosts before → AtEachAfter (λ b e. NumberAt ranks b e.what) before
+      events →
       ArePlainEvents events → ArePosts (before ++ events)
   posts_after before [] so numbers plain = subst (λ (h : List Event). ArePosts h) (sym (append-nil before)) so
   posts_after before (e ∷ events) so numbers plain =
@@ -115,4 +128,5 @@ module _ (ranks : ℕ) where
   pub posts_numbered : (h : List Event) → Always (NumberAt ranks) h → ArePlainEvents h →
       AreNumbered (λ (p : post.Post). p.number) (posts h)
   unfolding AtEach
-  posts_numbered h numbers plain = (posts_after [] h (none_numbered (λ (p : post.Post). p.number), refl) numbers plain).0
+  posts_numbered h numbers plain =
+      (posts_after [] h (none_numbered (λ (p : post.Post). p.number), refl) numbers plain).0

@@ -2,22 +2,17 @@
 use Rattle.std.proofs.Common.{◌≡◌, ℕ, Bool, true, false, cond, List, [], ◌∷◌, ◌++◌, length, map}
 use Rattle.std.proofs.Common.{refl, sym, ◌∙◌, ap, append-nil, append_assoc}
 use Rattle.std.specs.List.{filter}
-use Rattle.std.proofs.lemmas.Bool.{false≢true}
 use Rattle.std.proofs.lemmas.List.{map-append}
 use Rattle.std.proofs.lemmas.List.Elements.{filter-append}
 use Rattle.nm_history.specs.declared.events.Event.{Event}
 use Rattle.nm_history.specs.declared.events.Happened.{Happened}
 use Rattle.nm_history.specs.declared.events.Happened.TheVariants as event
-use Rattle.nm_history.specs.RankRun.{is_start, ran_lines, since_after, since_command, starts_since}
+use Rattle.nm_history.specs.RankRun.{is_start, ran_lines, since_command, starts_since}
 use Rattle.nm_history.specs.Underway.{is_answer}
 use Rattle.nm_history.proofs.OutgoingLemmas.{in_turn-push}
 use Rattle.nm_history.proofs.RankRunLemmas.{since-push}
 use Rattle.nm_sure.specs.Placed.{Placed, at_place, placed, start_entry}
-
-since_grows : (since : List Happened) (what : Happened) → is_answer what ≡ false →
-    since_after since what ≡ since ++ what ∷ []
-since_grows since (event.Ran line answer) silent = absurd (false≢true (sym silent))
-since_grows since what silent = refl
+use Rattle.nm_history.proofs.AppendLemmas.{since_grows}
 
 one_kept : (what : Happened) (b : Bool) → is_start what ≡ b → filter is_start (what ∷ []) ≡ cond b (what ∷ []) []
 one_kept what b same = rw same refl
@@ -51,7 +46,8 @@ placed-push front h stamp what silent same so =
     ∙ ap (λ (ps : List Placed). front ++ (map place (starts_since h) ++ ps)) (entry_is h what (is_start what) refl)
     ∙ ap (λ (ps : List Placed). front ++ ps) (sym (map-append place (starts_since h) (filter is_start (what ∷ []))))
     ∙ ap (λ (ws : List Happened). front ++ map place ws) (sym (starts_grow h stamp what silent))
-    ∙ ap (λ (n : List ℕ). front ++ map (at_place (length n)) (starts_since (h ++ record { stamp = stamp; what = what } ∷ []))) (sym same)
+    ∙ ap (λ (n : List ℕ). front ++ map (at_place (length n))
+    (starts_since (h ++ record { stamp = stamp; what = what } ∷ []))) (sym same)
 
 -- at an answer all that stood since the last one is of its command
 pub placed-answer : (front : List Placed) (h : List Event) (stamp line : ℕ) (what : Happened) →
@@ -60,4 +56,5 @@ pub placed-answer : (front : List Placed) (h : List Event) (stamp line : ℕ) (w
     (h ++ record { stamp = stamp; what = what } ∷ [])
 placed-answer front h stamp line what none silent so =
     in_turn-push (λ before e. start_entry before e.what) h (record { stamp = stamp; what = what })
-    ∙ (rw (silent, none, append-nil (placed h)) (so ∙ sym (append-nil (front ++ map (at_place (length (ran_lines h))) (starts_since h)))))
+    ∙ (rw (silent, none, append-nil (placed h))
+    (so ∙ sym (append-nil (front ++ map (at_place (length (ran_lines h))) (starts_since h)))))

@@ -4,10 +4,11 @@ use Rattle.std.proofs.Common.{refl, sym, ◌∙◌, ap, arith}
 use Rattle.std.specs.Prelude.{suc}
 use Rattle.std.specs.List.{list_all, position, position_or_len}
 use Rattle.std.proofs.lemmas.Bool.Decides.{nat_tests}
-use Rattle.nm_sure.proofs.Lists.{no_some}
+use Rattle.nm_facts.proofs.Options.{no_some}
 
 -- the first place that fails is past the end just where none fails
-fails_below : {X : Type 0} (p : X → Bool) (xs : List X) → ltb (position_or_len (λ x. not (p x)) xs) (length xs) ≡ not (list_all p xs)
+fails_below : {X : Type 0} (p : X → Bool) (xs : List X) → ltb (position_or_len (λ x. not (p x)) xs) (length xs) ≡ not
+    (list_all p xs)
 fails_below p [] = refl
 fails_below p (x ∷ xs) = by_test (p x) (position_or_len (λ x. not (p x)) xs) (length xs) (fails_below p xs)
   where
@@ -34,7 +35,8 @@ none_fails p xs none =
     by_test true k none = refl
     by_test false k none = absurd (no_some k (sym none))
 
-pub some_fails : {X : Type 0} (p : X → Bool) (xs : List X) (k : ℕ) → position (λ x. not (p x)) xs ≡ Some k → list_all p xs ≡ false
+pub some_fails : {X : Type 0} (p : X → Bool) (xs : List X) (k : ℕ) → position (λ x. not (p x)) xs ≡ Some k →
+    list_all p xs ≡ false
 some_fails p xs k some =
     by_test (list_all p xs) (position_or_len (λ x. not (p x)) xs)
     (sym (ap (λ (b : Bool). cond b (Some (position_or_len (λ x. not (p x)) xs)) None) (fails_below p xs)) ∙ some)

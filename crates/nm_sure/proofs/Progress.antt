@@ -16,12 +16,10 @@ use Rattle.nm_history.specs.RankRun.{AnswerAt, StartAt, is_start, ran_lines, ran
 use Rattle.nm_history.specs.RankRun.{without_number}
 use Rattle.nm_sure.specs.Names.{is_taken}
 use Rattle.nm_sure.specs.Plain.{is_plain}
-use Rattle.nm_sure.proofs.Fronts.{AreAtLines, Stood, answered, is_taken_by, no_start, start_any, started_so, stood_other}
+use Rattle.nm_sure.proofs.Fronts.{AreAtLines, Stood, answered, is_taken_by, no_start, start_any, started_so}
+use Rattle.nm_sure.proofs.Fronts.{stood_other}
 use Rattle.nm_sure.proofs.PlacedLemmas.{starts_grow}
-
-front_empty : {X : Type 0} (xs ys : List X) → xs ++ ys ≡ [] → xs ≡ []
-front_empty [] ys none = refl
-front_empty (x ∷ xs) ys none = absurd (grind arith)
+use Rattle.nm_facts.proofs.Lists.{front_empty}
 
 -- nothing, or one thing
 abbrev AtMostOne : List Happened → Type 0
@@ -76,9 +74,11 @@ module _ (eager : ℕ) (commands done more : List Numbered) (split : commands �
       let at_line : command_at commands line ≡ Some c.command = rw here at'.0 in
       let fresh : start_of eager commands h line c.command ≡ start_of eager commands [] line c.command =
       start_any eager line commands h c.command at'.1 ∙ sym (start_any eager line commands [] c.command at'.1) in
-      let taken : map without_number (starts_since h) ≡ cond (is_taken done c.command) (start_of eager commands [] line c.command) [] =
+      let taken : map without_number (starts_since h) ≡ cond (is_taken done c.command)
+      (start_of eager commands [] line c.command) [] =
       started_so eager commands h line a c.command start at_line
-      ∙ is_taken_by commands done h line c.command a stood.named at'.1 (answered commands h line a c.command answer at_line)
+      ∙ is_taken_by commands done h line c.command a stood.named at'.1
+      (answered commands h line a c.command answer at_line)
       (start_of eager commands h line c.command) (no_start eager line commands h c.command at'.1)
       ∙ ap (λ (ws : List Happened). cond (is_taken done c.command) ws []) fresh in
       elim (one_only front extra (cond (is_taken done c.command) (start_of eager commands [] line c.command) [])

@@ -18,15 +18,15 @@ use Rattle.nm_types.specs.Commands.{Numbered, commands_from}
 use Rattle.nm_history.specs.declared.events.Event.{Event}
 use Rattle.nm_history.specs.declared.events.Happened.{Happened}
 use Rattle.nm_history.specs.RankRun.{start_of, starts_since, without_number}
-use Rattle.nm_history.proofs.OnceLemmas.{and_left, and_right}
 use Rattle.nm_sure.specs.Channels.{Channel, is_channel, receive_channel, send_channel}
 use Rattle.nm_sure.specs.Names.{holder, is_taken, started, started_after, started_name}
 use Rattle.nm_sure.specs.Plain.{is_plain}
 use Rattle.nm_sure.proofs.Fronts.{Stood}
 use Rattle.nm_sure.proofs.Gathered.{ReadsCommands, ReadsStarts, channel_lines, receives_it, sends_it}
-use Rattle.nm_sure.proofs.Lists.{no_some, same_some}
 use Rattle.nm_sure.proofs.Progress.{IsUnderWay}
 use Rattle.nm_sure.proofs.Rising.{starts_split}
+use Rattle.nm_facts.proofs.Options.{no_some, same_some}
+use Rattle.nm_facts.proofs.Truth.{and_left, and_right}
 
 -- each of these commands is plain
 abbrev pub ArePlainCommands : List Numbered → Type 0
@@ -37,7 +37,8 @@ pub plain_from : (rank number : ℕ) (lines : List Line) → list_all (λ (l : L
 plain_from rank number [] plain = refl
 plain_from rank number (l ∷ lines) plain =
     by_rank (l.rank == rank) (and_left (is_plain l.command) (list_all (λ (l : Line). is_plain l.command) lines) plain)
-    (plain_from rank (number + 1) lines (and_right (is_plain l.command) (list_all (λ (l : Line). is_plain l.command) lines) plain))
+    (plain_from rank (number + 1) lines
+    (and_right (is_plain l.command) (list_all (λ (l : Line). is_plain l.command) lines) plain))
   where
     by_rank : (b : Bool) → is_plain l.command ≡ true → ArePlainCommands (commands_from rank (number + 1) lines) →
         ArePlainCommands (cond b (record { line = number; command = l.command } ∷ commands_from rank (number + 1) lines)
@@ -83,7 +84,8 @@ module _ (f : Happened → Option ℕ) (g : Command → Bool) (reads : ReadsStar
   lines_of cs = map (λ c. c.line) (filter (λ c. g c.command) cs)
 
   -- a whole run, behind whose last answer nothing was started
-  pub told_whole : (h : List Event) (done more : List Numbered) → commands ≡ done ++ more → Stood eager commands done h →
+  pub told_whole : (h : List Event) (done more : List Numbered) → commands ≡ done ++ more →
+      Stood eager commands done h →
       starts_since h ≡ [] → filter_map (λ e. f e.what) h ≡ map (λ c. c.line) (filter (λ c. g c.command) (started done))
   told_whole h done more split stood none =
       channel_lines f g reads tells eager commands done h
@@ -97,7 +99,8 @@ module _ (f : Happened → Option ℕ) (g : Command → Bool) (reads : ReadsStar
   next_lines c true xs plain =
       rw (tells eager c.line commands c.command plain) (by_test (g c.command))
     where
-      by_test : (b : Bool) → map (λ c. c.line) (cond b (c ∷ filter (λ c. g c.command) xs) (filter (λ c. g c.command) xs))
+      by_test : (b : Bool) →
+          map (λ c. c.line) (cond b (c ∷ filter (λ c. g c.command) xs) (filter (λ c. g c.command) xs))
           ≡ cond b (c.line ∷ []) [] ++ lines_of xs
       by_test true = refl
       by_test false = refl
@@ -112,9 +115,13 @@ module _ (f : Happened → Option ℕ) (g : Command → Bool) (reads : ReadsStar
   ahead done (d ∷ more) starts zero fine (inr next) stop =
       let same : d ≡ next.0 = cc in
       let no : is_taken done next.0.command ≡ false =
-      not_taken done next.0.command (subst (λ (c : Numbered). is_some (started_name c.command) ≡ false) same (stop d refl refl)) in
-      let none : map without_number starts ≡ [] = next.3 ∙ (rw no refl) in
-      ([], sym (append-nil (filter_map f starts) ∙ sym (numbers_aside f reads starts) ∙ ap (λ (ws : List Happened). filter_map f ws) none))
+      not_taken done next.0.command (subst (λ (c : Numbered). is_some (started_name c.command) ≡ false) same
+      (stop d refl refl)) in
+      let none : map without_number starts ≡ [] = next.3 ∙ (rw no refl) in (
+        [],
+        sym (append-nil (filter_map f starts) ∙ sym (numbers_aside f reads starts)
+            ∙ ap (λ (ws : List Happened). filter_map f ws) none),
+      )
   ahead done (d ∷ more) starts (suc m) fine (inr next) stop =
       let same : d ≡ next.0 = cc in
       let xs : List Numbered = started_after (done ++ d ∷ []) (take m more) in (
@@ -122,11 +129,13 @@ module _ (f : Happened → Option ℕ) (g : Command → Bool) (reads : ReadsStar
         next_lines d (is_taken done d.command) xs (plain_at (d ∷ more) 0 d fine refl)
             ∙ ap (λ (ls : List ℕ). ls ++ lines_of xs) (sym (sym (numbers_aside f reads starts)
             ∙ ap (λ (ws : List Happened). filter_map f ws) (next.3
-            ∙ ap (λ (c : Numbered). cond (is_taken done c.command) (start_of eager commands [] c.line c.command) []) (sym same)))),
+            ∙ ap (λ (c : Numbered). cond (is_taken done c.command) (start_of eager commands [] c.line c.command) [])
+            (sym same)))),
       )
 
   -- a front of a run, where so many commands and no start behind them are allowed
-  pub reached : (b : List Event) (done more : List Numbered) (m : ℕ) → commands ≡ done ++ more → Stood eager commands done b →
+  pub reached : (b : List Event) (done more : List Numbered) (m : ℕ) → commands ≡ done ++ more →
+      Stood eager commands done b →
       IsUnderWay eager commands done more (starts_since b) →
       ((c : Numbered) → m ≡ 0 → slice_get more 0 ≡ Some c → is_some (started_name c.command) ≡ false) →
       (rest : List ℕ) × (map (λ c. c.line) (filter (λ c. g c.command) (started (take (length done + m) commands)))
@@ -135,9 +144,11 @@ module _ (f : Happened → Option ℕ) (g : Command → Bool) (reads : ReadsStar
       let fine : ArePlainCommands (done ++ more) = subst (λ (cs : List Numbered). ArePlainCommands cs) split plain in
       let later = ahead done more (starts_since b) m (plain_back done more fine) under stop in (
         later.0,
-        ap (λ (cs : List Numbered). lines_of (started cs)) (ap (λ (cs : List Numbered). take (length done + m) cs) split ∙ take-append-add done more m)
+        ap (λ (cs : List Numbered). lines_of (started cs))
+            (ap (λ (cs : List Numbered). take (length done + m) cs) split ∙ take-append-add done more m)
             ∙ ap (λ (cs : List Numbered). map (λ c. c.line) cs) (starts_split (λ c. g c.command) done (take m more))
-            ∙ map-append (λ (c : Numbered). c.line) (filter (λ c. g c.command) (started done)) (filter (λ c. g c.command) (started_after done (take m more)))
+            ∙ map-append (λ (c : Numbered). c.line) (filter (λ c. g c.command) (started done))
+            (filter (λ c. g c.command) (started_after done (take m more)))
             ∙ ap (λ (ls : List ℕ). lines_of (started done) ++ ls) later.1
             ∙ sym (append_assoc (lines_of (started done)) (filter_map f (starts_since b)) later.0)
             ∙ ap (λ (ls : List ℕ). ls ++ later.0) (sym (channel_lines f g reads tells eager commands done b
@@ -157,12 +168,16 @@ kept_alike t u alike before [] plain = refl
 kept_alike t u alike before (c ∷ cs) plain =
     by_test (is_taken before c.command)
     (alike c.command (and_left (is_plain c.command) (list_all (λ c. is_plain c.command) cs) plain))
-    (kept_alike t u alike (before ++ c ∷ []) cs (and_right (is_plain c.command) (list_all (λ c. is_plain c.command) cs) plain))
+    (kept_alike t u alike (before ++ c ∷ []) cs
+    (and_right (is_plain c.command) (list_all (λ c. is_plain c.command) cs) plain))
   where
     by_test : (b : Bool) → t c.command ≡ u c.command →
-        filter (λ c. t c.command) (started_after (before ++ c ∷ []) cs) ≡ filter (λ c. u c.command) (started_after (before ++ c ∷ []) cs) →
-        filter (λ c. t c.command) (cond b (c ∷ started_after (before ++ c ∷ []) cs) (started_after (before ++ c ∷ []) cs))
-        ≡ filter (λ c. u c.command) (cond b (c ∷ started_after (before ++ c ∷ []) cs) (started_after (before ++ c ∷ []) cs))
+        filter (λ c. t c.command) (started_after (before ++ c ∷ []) cs) ≡ filter (λ c. u c.command)
+        (started_after (before ++ c ∷ []) cs) →
+        filter (λ c. t c.command)
+        (cond b (c ∷ started_after (before ++ c ∷ []) cs) (started_after (before ++ c ∷ []) cs))
+        ≡ filter (λ c. u c.command)
+        (cond b (c ∷ started_after (before ++ c ∷ []) cs) (started_after (before ++ c ∷ []) cs))
     by_test true same later = rw (same, later) refl
     by_test false same later = later
 
@@ -171,7 +186,8 @@ swap3 i f j t u c d = grind (arith, nat_tests)
 
 receives_alike : (k : Channel) (c : Command) → is_plain c ≡ true →
     option_map_or (is_channel k) (receive_channel k.to c) false ≡ receives_it k.from k.tag k.ctx c
-receives_alike k (command.Recv q (peer.One from) (pick.One tag) ctx cap) plain = swap3 k.from from k.to k.tag tag k.ctx ctx
+receives_alike k (command.Recv q (peer.One from) (pick.One tag) ctx cap) plain = swap3 k.from from k.to k.tag tag
+    k.ctx ctx
 receives_alike k (command.Recv q peer.Any tags ctx cap) plain = absurd (false≢true plain)
 receives_alike k (command.Recv q (peer.One from) pick.Any ctx cap) plain = absurd (false≢true plain)
 receives_alike k c plain = refl
@@ -188,10 +204,12 @@ pub receives_kept : (k : Channel) (cs : List Numbered) → ArePlainCommands cs �
     filter (λ c. option_map_or (is_channel k) (receive_channel k.to c.command) false) (started cs)
     ≡ filter (λ c. receives_it k.from k.tag k.ctx c.command) (started cs)
 receives_kept k cs plain =
-    kept_alike (λ c. option_map_or (is_channel k) (receive_channel k.to c) false) (receives_it k.from k.tag k.ctx) (receives_alike k) [] cs plain
+    kept_alike (λ c. option_map_or (is_channel k) (receive_channel k.to c) false) (receives_it k.from k.tag k.ctx)
+    (receives_alike k) [] cs plain
 
 pub sends_kept : (k : Channel) (cs : List Numbered) → ArePlainCommands cs →
     filter (λ c. option_map_or (is_channel k) (send_channel k.from c.command) false) (started cs)
     ≡ filter (λ c. sends_it k.to k.tag k.ctx c.command) (started cs)
 sends_kept k cs plain =
-    kept_alike (λ c. option_map_or (is_channel k) (send_channel k.from c) false) (sends_it k.to k.tag k.ctx) (sends_alike k) [] cs plain
+    kept_alike (λ c. option_map_or (is_channel k) (send_channel k.from c) false) (sends_it k.to k.tag k.ctx)
+    (sends_alike k) [] cs plain

@@ -7,16 +7,19 @@ use Rattle.std.proofs.lemmas.Bool.Decides.{nat_tests}
 use Rattle.std.proofs.lemmas.List.Elements.{filter-append}
 use Rattle.nm_types.specs.declared.scripts.Line.{Line}
 use Rattle.nm_types.specs.Commands.{Numbered, commands_from, commands_of}
-use Rattle.nm_history.proofs.OnceLemmas.{eqb_self, same_of}
+use Rattle.nm_history.proofs.OnceLemmas.{eqb_self}
 use Rattle.nm_sure.specs.Names.{is_taken, started, started_after}
-use Rattle.nm_sure.proofs.Lists.{any_at, at_any, kept_from, no_some, place_behind, place_below, place_kept, place_split, same_some}
+use Rattle.nm_sure.proofs.Lists.{any_at, at_any, kept_from, place_behind, place_split}
+use Rattle.nm_facts.proofs.Numbers.{same_number, eq_later}
+use Rattle.nm_facts.proofs.Lists.{get_before, place_below}
+use Rattle.nm_facts.proofs.Options.{no_some, same_some}
 
 -- each line is at least this number, and greater than the one before
 abbrev pub Rising : ℕ → List Numbered → Type 0
 Rising n [] = Unit {0}
 Rising n (c ∷ cs) = (n ≤ c.line) × Rising (c.line + 1) cs
 
-rising_lower : (m n : ℕ) (cs : List Numbered) → m ≤ n → Rising n cs → Rising m cs
+pub rising_lower : (m n : ℕ) (cs : List Numbered) → m ≤ n → Rising n cs → Rising m cs
 rising_lower m n [] low rising = tt
 rising_lower m n (c ∷ cs) low rising = (let first = rising.0 in omega (arith, low, first), rising.1)
 
@@ -44,7 +47,7 @@ rising_started n before (c ∷ cs) rising =
     by_test false later = rising_lower n (c.line + 1) (started_after (before ++ c ∷ []) cs)
         (let first = rising.0 in omega (arith, first)) later
 
-rising_kept : (g : Numbered → Bool) (n : ℕ) (cs : List Numbered) → Rising n cs → Rising n (filter g cs)
+pub rising_kept : (g : Numbered → Bool) (n : ℕ) (cs : List Numbered) → Rising n cs → Rising n (filter g cs)
 rising_kept g n [] rising = tt
 rising_kept g n (c ∷ cs) rising = by_test (g c) (rising_kept g (c.line + 1) cs rising.1)
   where
@@ -52,7 +55,7 @@ rising_kept g n (c ∷ cs) rising = by_test (g c) (rising_kept g (c.line + 1) cs
     by_test true later = (rising.0, later)
     by_test false later = rising_lower n (c.line + 1) (filter g cs) (let first = rising.0 in omega (arith, first)) later
 
-rising_at : (n k : ℕ) (cs : List Numbered) (c : Numbered) → Rising n cs → slice_get cs k ≡ Some c → n ≤ c.line
+pub rising_at : (n k : ℕ) (cs : List Numbered) (c : Numbered) → Rising n cs → slice_get cs k ≡ Some c → n ≤ c.line
 rising_at n k [] c rising here = absurd (no_some c here)
 rising_at n zero (d ∷ cs) c rising here = subst (λ (x : Numbered). n ≤ x.line) (same_some d c here) rising.0
 rising_at n (suc k) (d ∷ cs) c rising here =
@@ -70,9 +73,6 @@ rising_apart n (x ∷ xs) ys zero m c d rising here there =
 rising_apart n (x ∷ xs) ys (suc k) m c d rising here there =
     rising_apart (x.line + 1) xs ys k m c d rising.1 here there
 
-other_line : (a b : ℕ) → a + 1 ≤ b → (a == b) ≡ false
-other_line a b low = grind (arith, nat_tests)
-
 -- the place of a line
 first_rising : (n k : ℕ) (cs : List Numbered) (c : Numbered) → Rising n cs → slice_get cs k ≡ Some c →
     position_or_len (λ d. d.line == c.line) cs ≡ k
@@ -82,7 +82,7 @@ first_rising n zero (d ∷ cs) c rising here =
     rw (same, eqb_self c.line) refl
 first_rising n (suc k) (d ∷ cs) c rising here =
     let later = rising_at (d.line + 1) k cs c rising.1 here in
-    rw (other_line d.line c.line later, first_rising (d.line + 1) k cs c rising.1 here) (one_more k)
+    rw (eq_later d.line c.line later, first_rising (d.line + 1) k cs c rising.1 here) (one_more k)
   where
     one_more : (k : ℕ) → 1 + k ≡ suc k
     one_more k = omega arith
@@ -107,7 +107,8 @@ pub started-append : (before xs ys : List Numbered) →
 started-append before [] ys = ap (λ (b : List Numbered). started_after b ys) (sym (append-nil before))
 started-append before (x ∷ xs) ys =
     by_test (is_taken before x.command) (started-append (before ++ x ∷ []) xs ys
-    ∙ ap (λ (b : List Numbered). started_after (before ++ x ∷ []) xs ++ started_after b ys) (append_assoc before (x ∷ []) xs))
+    ∙ ap (λ (b : List Numbered). started_after (before ++ x ∷ []) xs ++ started_after b ys)
+    (append_assoc before (x ∷ []) xs))
   where
     by_test : (b : Bool) → started_after (before ++ x ∷ []) (xs ++ ys)
         ≡ started_after (before ++ x ∷ []) xs ++ started_after (before ++ x ∷ xs) ys →
@@ -135,7 +136,8 @@ started_from before (d ∷ cs) k c here =
 pub starts_split : (g : Numbered → Bool) (xs ys : List Numbered) →
     filter g (started (xs ++ ys)) ≡ filter g (started xs) ++ filter g (started_after xs ys)
 starts_split g xs ys =
-    ap (λ (cs : List Numbered). filter g cs) (started-append [] xs ys) ∙ filter-append g (started xs) (started_after xs ys)
+    ap (λ (cs : List Numbered). filter g cs) (started-append [] xs ys) ∙ filter-append g (started xs)
+    (started_after xs ys)
 
 -- a start of the first commands is one of all, at the same place, and is among the first commands
 pub front_run : (g : Numbered → Bool) (xs ys : List Numbered) (k : ℕ) (s : Numbered) →
@@ -144,7 +146,7 @@ pub front_run : (g : Numbered → Bool) (xs ys : List Numbered) (k : ℕ) (s : N
 front_run g xs ys k s here =
     let kept = kept_from g (started xs) k s here in
     let own = started_from [] xs kept.0 s kept.1 in (
-      (rw (starts_split g xs ys) (place_kept (filter g (started xs)) (filter g (started_after xs ys)) k s here)),
+      (rw (starts_split g xs ys) (get_before (filter g (started xs)) (filter g (started_after xs ys)) k s here)),
       at_any (λ c. c.line == s.line) xs own.0 s own.1 (eqb_self s.line),
     )
 
@@ -161,6 +163,6 @@ run_front g n xs ys k s rising here ran =
           let own = started_from xs ys kept.0 s kept.1 in
           let some = any_at (λ (c : Numbered). c.line == s.line) xs ran in
           let low : some.1.line < s.line = rising_apart n xs ys some.0 own.0 some.1 s rising some.2 own.1 in
-          let same : some.1.line ≡ s.line = same_of some.1.line s.line some.3 in
+          let same : some.1.line ≡ s.line = same_number some.1.line s.line some.3 in
           absurd (omega (arith, low, same))
     ]

@@ -1,5 +1,6 @@
 -- One step of the plain run: which lines ran, and how far it is to its end.
-use Rattle.std.proofs.Common.{◌≡◌, ℕ, ◌+◌, ◌-◌, ◌<◌, ◌≤◌, ◌==◌, ◌||◌, zero, suc, Bool, true, false, Option, Some, None, List, []}
+use Rattle.std.proofs.Common.{◌≡◌, ℕ, ◌+◌, ◌-◌, ◌<◌, ◌≤◌, ◌==◌, ◌||◌, zero, suc, Bool, true, false, Option, Some}
+use Rattle.std.proofs.Common.{None, List, []}
 use Rattle.std.proofs.Common.{◌∷◌, ◌++◌, length, get_or, refl, sym, ◌∙◌, ap, arith, inl, inr}
 use Rattle.std.specs.Prelude.{option_map, replicate, slice_set, take, unwrap_or}
 use Rattle.std.specs.List.{list_any, slice_get}
@@ -11,16 +12,18 @@ use Rattle.std.proofs.lemmas.List.Folds.{list_any-append}
 use Rattle.std.proofs.lemmas.Option.{slice_get_read}
 use Rattle.nm_types.specs.declared.scripts.Line.{Line}
 use Rattle.nm_types.specs.Commands.{Numbered, commands_of}
-use Rattle.nm_history.proofs.OnceLemmas.{eqb_self, same_of}
-use Rattle.nm_sure.specs.Plain.{at_of, can_run, goes_on, next_of, next_rank, plain_after, plain_end, ran_of, with_one_more}
+use Rattle.nm_history.proofs.OnceLemmas.{eqb_self}
+use Rattle.nm_sure.specs.Plain.{at_of, can_run, goes_on, next_of, next_rank, plain_after, plain_end, ran_of}
+use Rattle.nm_sure.specs.Plain.{with_one_more}
 use Rattle.nm_sure.specs.PlainText.{waits_at}
 use Rattle.nm_sure.specs.Planned.{AreRan, IsPlan, is_run}
 use Rattle.nm_sure.proofs.Assembled.{from_line}
-use Rattle.nm_sure.proofs.Before.{take_more}
 use Rattle.nm_sure.proofs.Floor.{more_at}
 use Rattle.nm_sure.proofs.Fuel.{at_start, end_length, next_in}
-use Rattle.nm_sure.proofs.Lists.{no_some, place_below, same_some}
 use Rattle.nm_sure.proofs.Standing.{OwnFrom, own_at}
+use Rattle.nm_facts.proofs.Numbers.{same_number}
+use Rattle.nm_facts.proofs.Options.{no_some, same_some}
+use Rattle.nm_facts.proofs.Lists.{take_more, place_below}
 
 -- a place that was set, and the others
 set_here : {X : Type 0} (xs : List X) (i : ℕ) (v : X) → i < length xs → slice_get (slice_set xs i v) i ≡ Some v
@@ -51,7 +54,8 @@ or_none false false is = refl
 or_none false true is = absurd (false≢true (sym is))
 
 -- the next command of a rank ran
-module _ (lines : List Line) (at : List ℕ) (ran : List Bool) (rank : ℕ) (c : Numbered) (place : ℕ) (are : AreRan lines at ran)
+module _ (lines : List Line) (at : List ℕ) (ran : List Bool) (rank : ℕ) (c : Numbered) (place : ℕ)
+    (are : AreRan lines at ran)
     (next : next_of lines at rank ≡ Some c) (number : c.line ≡ place + 2) (low : rank < length at) where
   stands : OwnFrom lines rank 2 (at_of at rank) c
   stands = own_at lines rank (at_of at rank) c next
@@ -82,14 +86,18 @@ module _ (lines : List Line) (at : List ℕ) (ran : List Bool) (rank : ℕ) (c :
           ∙ list_any-append (λ d. d.line == k + 2) (ran_of lines at rank) (c ∷ [])
           ∙ ap (λ (r : ℕ). list_any (λ d. d.line == k + 2) (ran_of lines at r) || (c.line == k + 2 || false)) (sym own)
 
-      by_test : (b : Bool) → (c.line == k + 2) ≡ b → slice_get (slice_set ran place true) k ≡ Some (is_run lines (with_one_more at rank) k line)
+      by_test : (b : Bool) → (c.line == k + 2) ≡ b → slice_get (slice_set ran place true) k ≡ Some
+          (is_run lines (with_one_more at rank) k line)
       by_test true is =
-          let same : k ≡ place = (let line = same_of c.line (k + 2) is in omega (arith, line, number)) in
-          let short : place < length ran = (let below = place_below lines place stands.line here in let count = are.count in omega (arith, below, count)) in
+          let same : k ≡ place = (let line = same_number c.line (k + 2) is in omega (arith, line, number)) in
+          let short : place < length ran = (let below = place_below lines place stands.line here in
+          let count = are.count in omega (arith, below, count)) in
           ap (λ (m : ℕ). slice_get (slice_set ran place true) m) same ∙ set_here ran place true short
           ∙ ap (λ (b : Bool). Some b) (sym (now ∙ or_left (is_run lines at k line) (c.line == k + 2) is))
       by_test false is =
-          set_other ran place k true (λ same. false≢true (sym is ∙ ap (λ (n : ℕ). n == k + 2) (number ∙ ap (λ (m : ℕ). m + 2) (sym same)) ∙ eqb_self (k + 2)))
+          set_other ran place k true
+          (λ same. false≢true (sym is ∙ ap (λ (n : ℕ). n == k + 2) (number ∙ ap (λ (m : ℕ). m + 2) (sym same))
+          ∙ eqb_self (k + 2)))
           ∙ are.each k line there
           ∙ ap (λ (b : Bool). Some b) (sym (now ∙ or_none (is_run lines at k line) (c.line == k + 2) is))
 
@@ -98,7 +106,8 @@ module _ (lines : List Line) (at : List ℕ) (ran : List Bool) (rank : ℕ) (c :
       slice_get (slice_set ran place true) k ≡ Some (is_run lines (with_one_more at rank) k line)
   other_line k line there other =
       set_other ran place k true (λ same. other (
-      ap (λ (l : Line). l.rank) (same_some line stands.line (sym there ∙ ap (λ (m : ℕ). slice_get lines m) same ∙ here)) ∙ stands.own))
+      ap (λ (l : Line). l.rank)
+      (same_some line stands.line (sym there ∙ ap (λ (m : ℕ). slice_get lines m) same ∙ here)) ∙ stands.own))
       ∙ are.each k line there
       ∙ ap (λ (n : ℕ). Some (list_any (λ d. d.line == k + 2) (take n (commands_of line.rank lines)))) (sym kept)
     where
@@ -119,7 +128,7 @@ module _ (lines : List Line) (at : List ℕ) (ran : List Bool) (rank : ℕ) (c :
 
       by_rank : (k : ℕ) (line : Line) → slice_get lines k ≡ Some line → (b : Bool) → (line.rank == rank) ≡ b →
           slice_get (slice_set ran place true) k ≡ Some (is_run lines (with_one_more at rank) k line)
-      by_rank k line there true is = own_line k line there (same_of line.rank rank is)
+      by_rank k line there true is = own_line k line there (same_number line.rank rank is)
       by_rank k line there false is = other_line k line there (apart line.rank rank is)
 
 -- the next command by its number
@@ -127,20 +136,25 @@ pub next_command : (lines : List Line) (at : List ℕ) (rank number : ℕ) → w
     (c : Numbered) × (next_of lines at rank ≡ Some c) × (c.line ≡ number)
 next_command lines at rank number next = by_next (next_of lines at rank) refl next
   where
-    by_next : (o : Option Numbered) → next_of lines at rank ≡ o → option_map (λ (c : Numbered). c.line) o ≡ Some number →
+    by_next : (o : Option Numbered) → next_of lines at rank ≡ o → option_map (λ (c : Numbered). c.line) o
+        ≡ Some number →
         (c : Numbered) × (next_of lines at rank ≡ Some c) × (c.line ≡ number)
     by_next None own next = absurd (no_some number next)
     by_next (Some c) own next = (c, own, same_some c.line number next)
 
 -- the rank of a next command is one of the run, and fewer of its commands ran than there are lines
-pub next_within : {A : Type 0} (lines : List Line) (ranks : List (Vec ℕ A)) (held partners : List (Option ℕ)) (at : List ℕ) (rank : ℕ) (c : Numbered) →
+pub next_within : {A : Type 0} (lines : List Line) (ranks : List (Vec ℕ A)) (held partners : List (Option ℕ))
+    (at : List ℕ) (rank : ℕ) (c : Numbered) →
     IsPlan lines ranks held partners → next_of lines at rank ≡ Some c → (rank < length ranks) × (at_of at rank < 65536)
 next_within lines ranks held partners at rank c plan next =
     let o = own_at lines rank (at_of at rank) c next in
     let low = o.low in
     let below = place_below lines o.place o.line o.here in
-    let few = plan.limits.few_lines in
-    ((from_line (length ranks) rank 2 lines (at_of at rank) c plan.limits.lines_in_range next).0, omega (arith, low, below, few))
+    let few = plan.limits.few_lines in (
+      (from_line (length ranks) rank 2 lines (at_of at rank) c plan.limits.lines_in_range next).0,
+      omega
+          (arith, low, below, few),
+    )
 
 -- how many ran, as it is read
 pub at_read : (at : List ℕ) (rank x : ℕ) → rank < length at → x ≡ get_or at rank x → x ≡ at_of at rank
@@ -152,7 +166,8 @@ can_next : (eager : ℕ) (lines : List Line) (at : List ℕ) (rank : ℕ) → ca
     (c : Numbered) × (next_of lines at rank ≡ Some c)
 can_next eager lines at rank can = by_next (next_of lines at rank) refl can
   where
-    by_next : (o : Option Numbered) → next_of lines at rank ≡ o → option_map_or (λ c. goes_on eager lines at rank c.command) o false ≡ true →
+    by_next : (o : Option Numbered) → next_of lines at rank ≡ o →
+        option_map_or (λ c. goes_on eager lines at rank c.command) o false ≡ true →
         (c : Numbered) × (next_of lines at rank ≡ Some c)
     by_next None next can = absurd (false≢true can)
     by_next (Some c) next can = (c, next)
@@ -162,12 +177,15 @@ pub chosen_next : (eager : ℕ) (lines : List Line) (at : List ℕ) (rank : ℕ)
 chosen_next eager lines at rank chosen = can_next eager lines at rank (next_in eager lines at rank chosen).1
 
 -- a step on the way to the end
-pub step_on : (eager : ℕ) (lines : List Line) (at new F : List ℕ) (rank n m : ℕ) → next_rank eager lines at ≡ Some rank →
-    new ≡ with_one_more at rank → m < n → plain_after eager lines (n - m) at ≡ F → plain_after eager lines (n - (m + 1)) new ≡ F
+pub step_on : (eager : ℕ) (lines : List Line) (at new F : List ℕ) (rank n m : ℕ) →
+    next_rank eager lines at ≡ Some rank →
+    new ≡ with_one_more at rank → m < n → plain_after eager lines (n - m) at ≡ F →
+    plain_after eager lines (n - (m + 1)) new ≡ F
 unfolding plain_after
 step_on eager lines at new F rank n m chosen moved low far =
     ap (λ (f : List ℕ). plain_after eager lines (n - (m + 1)) f) moved
-    ∙ ap (λ (o : Option ℕ). option_map_or (λ r. plain_after eager lines (n - (m + 1)) (with_one_more at r)) o at) (sym chosen)
+    ∙ ap (λ (o : Option ℕ). option_map_or (λ r. plain_after eager lines (n - (m + 1)) (with_one_more at r)) o at)
+    (sym chosen)
     ∙ ap (λ (k : ℕ). plain_after eager lines k at) one
     ∙ far
   where
@@ -175,33 +193,38 @@ step_on eager lines at new F rank n m chosen moved low far =
     one = omega (arith, low)
 
 -- no step is left
-pub step_none : (eager : ℕ) (lines : List Line) (at : List ℕ) (n : ℕ) → next_rank eager lines at ≡ None → plain_after eager lines n at ≡ at
+pub step_none : (eager : ℕ) (lines : List Line) (at : List ℕ) (n : ℕ) → next_rank eager lines at ≡ None →
+    plain_after eager lines n at ≡ at
 unfolding plain_after
 step_none eager lines at zero none = refl
 step_none eager lines at (suc n) none =
     ap (λ (o : Option ℕ). option_map_or (λ r. plain_after eager lines n (with_one_more at r)) o at) none
 
-pub step_last : (eager : ℕ) (lines : List Line) (at F : List ℕ) (n m : ℕ) → n ≤ m → plain_after eager lines (n - m) at ≡ F → at ≡ F
+pub step_last : (eager : ℕ) (lines : List Line) (at F : List ℕ) (n m : ℕ) → n ≤ m → plain_after eager lines (n - m) at
+    ≡ F → at ≡ F
 unfolding plain_after
 step_last eager lines at F n m high far =
     let none : 0 ≡ n - m = omega (arith, high) in
     ap (λ (k : ℕ). plain_after eager lines k at) none ∙ far
 
 -- no more commands of a rank run than it has
-pub within_end : (eager : ℕ) (lines : List Line) (more : ℕ) (at : List ℕ) → ((r : ℕ) → at_of at r ≤ length (commands_of r lines)) →
+pub within_end : (eager : ℕ) (lines : List Line) (more : ℕ) (at : List ℕ) →
+    ((r : ℕ) → at_of at r ≤ length (commands_of r lines)) →
     (r : ℕ) → at_of (plain_after eager lines more at) r ≤ length (commands_of r lines)
 unfolding plain_after
 within_end eager lines zero at within = within
 within_end eager lines (suc more) at within =
     by_next (next_rank eager lines at) refl (λ i within. within_end eager lines more (with_one_more at i) within)
   where
-    grown : (i : ℕ) → next_rank eager lines at ≡ Some i → (r : ℕ) → at_of (with_one_more at i) r ≤ length (commands_of r lines)
+    grown : (i : ℕ) → next_rank eager lines at ≡ Some i →
+        (r : ℕ) → at_of (with_one_more at i) r ≤ length (commands_of r lines)
     grown i chosen r = elim (more_at at i r) [
       | inl same ↦ let low = within r in omega (arith, same, low)
       | inr moved ↦
           let next = chosen_next eager lines at i chosen in
           let below = place_below (commands_of i lines) (at_of at i) next.0 next.1 in
-          let same : length (commands_of r lines) ≡ length (commands_of i lines) = ap (λ (k : ℕ). length (commands_of k lines)) moved.0 in
+          let same : length (commands_of r lines) ≡ length (commands_of i lines) =
+          ap (λ (k : ℕ). length (commands_of k lines)) moved.0 in
           let one = moved.1 in
           omega (arith, below, same, one)
     ]
@@ -209,13 +232,16 @@ within_end eager lines (suc more) at within =
     by_next : (o : Option ℕ) → next_rank eager lines at ≡ o →
         ((i : ℕ) → ((r : ℕ) → at_of (with_one_more at i) r ≤ length (commands_of r lines)) →
         (r : ℕ) → at_of (plain_after eager lines more (with_one_more at i)) r ≤ length (commands_of r lines)) →
-        (r : ℕ) → at_of (option_map_or (λ i. plain_after eager lines more (with_one_more at i)) o at) r ≤ length (commands_of r lines)
+        (r : ℕ) → at_of (option_map_or (λ i. plain_after eager lines more (with_one_more at i)) o at) r ≤ length
+        (commands_of r lines)
     by_next None chosen later = within
     by_next (Some i) chosen later = later i (grown i chosen)
 
-pub end_within : (eager ranks : ℕ) (lines : List Line) (r : ℕ) → at_of (plain_end eager ranks lines) r ≤ length (commands_of r lines)
+pub end_within : (eager ranks : ℕ) (lines : List Line) (r : ℕ) → at_of (plain_end eager ranks lines) r ≤ length
+    (commands_of r lines)
 end_within eager ranks lines r =
-    within_end eager lines (length lines) (replicate ranks 0) (λ s. let none = at_start eager lines ranks s in omega (arith, none)) r
+    within_end eager lines (length lines) (replicate ranks 0) (λ s. let none = at_start eager lines ranks s in
+    omega (arith, none)) r
 
 pub end_counts : (eager ranks : ℕ) (lines : List Line) → length (plain_end eager ranks lines) ≡ ranks
 end_counts eager ranks lines = end_length eager lines (length lines) (replicate ranks 0) ∙ length-replicate ranks 0

@@ -20,11 +20,14 @@ use Rattle.nm_report.specs.Report.{answer_line, cells_line, end_line, report_tex
 use Rattle.nm_report.specs.Told.{RankTold, Told, told_by, told_from, told_lines, told_of, told_of_rank, told_text}
 use Rattle.nm_sure.specs.Agree.{ArePlain}
 use Rattle.nm_sure.specs.Plain.{at_of, next_of, plain_end}
-use Rattle.nm_sure.specs.PlainText.{are_at_end, plain_done, plain_text, plain_told, rank_text, rank_told, told_after, waits_at}
+use Rattle.nm_sure.specs.PlainText.{are_at_end, plain_done, plain_text, plain_told, rank_text, rank_told, told_after}
+use Rattle.nm_sure.specs.PlainText.{waits_at}
 use Rattle.nm_sure.proofs.Assembled.{Begins, StandAtLines, as_far, assembled, at_in, hist_in}
 use Rattle.nm_sure.proofs.Fuel.{end_length}
-use Rattle.nm_sure.proofs.Lists.{of_some, place_map}
-use Rattle.nm_sure.proofs.Shown.{HaveTheirLength, told_all}
+use Rattle.nm_sure.proofs.Shown.{HaveTheirLength}
+use Rattle.nm_sure.proofs.ShownAnswers.{told_all}
+use Rattle.nm_facts.proofs.Lists.{get_map}
+use Rattle.nm_facts.proofs.Options.{if_some}
 
 -- the law of reports
 abbrev pub SayWhatWasTold : Type 0
@@ -39,7 +42,8 @@ each_text T n (a ∷ accounts) each =
     ap (λ (t : List ℕ). t ++ told_from (n + 1) (map told_of_rank accounts)) (first n a T (each 0 a refl))
     ∙ ap (λ (ts : List ℕ). T n ++ ts) (each_text T (n + 1) accounts (λ k b here. later n k b T (each (suc k) b here)))
   where
-    first : (n : ℕ) (a : RankAccount) (T : ℕ → List ℕ) → told_lines (n + 0) (told_of_rank a) ≡ T (n + 0) → told_lines n (told_of_rank a) ≡ T n
+    first : (n : ℕ) (a : RankAccount) (T : ℕ → List ℕ) → told_lines (n + 0) (told_of_rank a) ≡ T (n + 0) →
+        told_lines n (told_of_rank a) ≡ T n
     first n a T same = let sum : n + 0 ≡ n = omega arith in
         subst (λ (m : ℕ). told_lines m (told_of_rank a) ≡ T m) sum same
 
@@ -55,7 +59,8 @@ each_told : (T : ℕ → RankTold) (n : ℕ) (accounts : List RankAccount) →
 each_told T n [] each = refl
 each_told T n (a ∷ accounts) each =
     ap (λ (t : RankTold). t ∷ map told_of_rank accounts) (each 0 a refl ∙ ap T (add_zero n))
-    ∙ ap (λ (ts : List RankTold). T n ∷ ts) (each_told T (n + 1) accounts (λ k b here. each (suc k) b here ∙ ap T (shift n k)))
+    ∙ ap (λ (ts : List RankTold). T n ∷ ts)
+    (each_told T (n + 1) accounts (λ k b here. each (suc k) b here ∙ ap T (shift n k)))
   where
     add_zero : (n : ℕ) → n + 0 ≡ n
     add_zero n = omega arith
@@ -82,8 +87,10 @@ each_end t n (a ∷ accounts) each =
     both : (x y u v : Bool) → x ≡ y → u ≡ v → (x && u) ≡ (y && v)
     both x y u v p q = rw (p, q) refl
 
-module _ (shape : Sizes) (lines : List Line) (run : RunRecord) (stand : StandAtLines) (begins : Begins) (lengths : HaveTheirLength)
-    (says : SayWhatWasTold) (script : IsScript shape.ranks lines) (plain : ArePlain lines) (is : IsRunIn shape lines run) where
+module _ (shape : Sizes) (lines : List Line) (run : RunRecord) (stand : StandAtLines) (begins : Begins)
+    (lengths : HaveTheirLength)
+    (says : SayWhatWasTold) (script : IsScript shape.ranks lines) (plain : ArePlain lines)
+    (is : IsRunIn shape lines run) where
   abbrev F : List ℕ
   F = plain_end shape.eager shape.ranks lines
 
@@ -95,15 +102,15 @@ module _ (shape : Sizes) (lines : List Line) (run : RunRecord) (stand : StandAtL
 
   far : (k : ℕ) (a : RankAccount) → slice_get run.ranks k ≡ Some a → a.at ≡ at_of F k
   far k a here =
-      sym (ap (λ (o : Option Ended). option_map_or (λ r. r.at) o 0) (place_map end_of run.ranks k a here))
+      sym (ap (λ (o : Option Ended). option_map_or (λ r. r.at) o 0) (get_map end_of run.ranks k a here))
       ∙ as_far shape lines (ends_of run.ranks) _ stand begins script plain is.lawful k
 
   -- a rank waits where it does in the plain run
   waits_same : (k : ℕ) (a : RankAccount) → slice_get run.ranks k ≡ Some a → a.waits ≡ waits_at lines F k
   waits_same k a here =
       at_place (slice_get (commands_of k lines) a.at)
-      (of_some (λ (r : Ended). Stands (commands_of k lines) r) (slice_get (ends_of run.ranks) k) (end_of a)
-      (place_map end_of run.ranks k a here) (is.lawful.quiescent.waits k))
+      (if_some (λ (r : Ended). Stands (commands_of k lines) r) (slice_get (ends_of run.ranks) k) (end_of a)
+      (get_map end_of run.ranks k a here) (is.lawful.quiescent.waits k))
       ∙ ap (λ (n : ℕ). option_map (λ c. c.line) (slice_get (commands_of k lines) n)) (far k a here)
     where
       at_place : (o : Option Numbered) → MatchOption o (a.waits ≡ None)
@@ -119,14 +126,17 @@ module _ (shape : Sizes) (lines : List Line) (run : RunRecord) (stand : StandAtL
       let all = told_all shape lines (at_in ranks) (hist_in ranks)
       (assembled shape lines ranks _ stand begins script plain is.lawful) lengths k in
       ap (λ (h : List Event). filter_map (λ e. told_by e.what) h)
-      (sym (ap (λ (o : Option Ended). option_map_or (λ r. r.events) o []) (place_map end_of run.ranks k a here)))
+      (sym (ap (λ (o : Option Ended). option_map_or (λ r. r.events) o []) (get_map end_of run.ranks k a here)))
       ∙ all ∙ ap (λ (n : ℕ). told_after lines k [] (take n (commands_of k lines)))
       (as_far shape lines ranks _ stand begins script plain is.lawful k)
 
-  rank_same : (k : ℕ) (a : RankAccount) → slice_get run.ranks k ≡ Some a → told_lines k (told_of_rank a) ≡ rank_text lines F k
+  rank_same : (k : ℕ) (a : RankAccount) → slice_get run.ranks k ≡ Some a →
+      told_lines k (told_of_rank a) ≡ rank_text lines F k
   rank_same k a here =
-      ap (λ (ts : List Told). flat_map (λ t. answer_line k t.line t.answer) ts ++ waits_line k a.waits) (answers_same k a here)
-      ∙ ap (λ (o : Option ℕ). flat_map (λ t. answer_line k t.line t.answer) (told_after lines k [] (take (at_of F k) (commands_of k lines))) ++ waits_line k o)
+      ap (λ (ts : List Told). flat_map (λ t. answer_line k t.line t.answer) ts ++ waits_line k a.waits)
+      (answers_same k a here)
+      ∙ ap (λ (o : Option ℕ). flat_map (λ t. answer_line k t.line t.answer)
+      (told_after lines k [] (take (at_of F k) (commands_of k lines))) ++ waits_line k o)
       (waits_same k a here)
 
   zero_add : (k : ℕ) → 0 + k ≡ k
@@ -134,12 +144,14 @@ module _ (shape : Sizes) (lines : List Line) (run : RunRecord) (stand : StandAtL
 
   lengths_same : length run.ranks ≡ length F
   lengths_same =
-      count ∙ sym (end_length shape.eager lines (length lines) (replicate shape.ranks 0) ∙ length-replicate shape.ranks 0)
+      count ∙ sym (end_length shape.eager lines (length lines) (replicate shape.ranks 0)
+      ∙ length-replicate shape.ranks 0)
 
   texts_same : told_from 0 (told_of run) ≡ flat_map (rank_text lines F) (range_with_len 0 (length F))
   texts_same =
       each_text (rank_text lines F) 0 run.ranks
-      (λ k a here. subst (λ (m : ℕ). told_lines m (told_of_rank a) ≡ rank_text lines F m) (sym (zero_add k)) (rank_same k a here))
+      (λ k a here. subst (λ (m : ℕ). told_lines m (told_of_rank a) ≡ rank_text lines F m) (sym (zero_add k))
+      (rank_same k a here))
       ∙ ap (λ (n : ℕ). flat_map (rank_text lines F) (range_with_len 0 n)) lengths_same
 
   ends_same : run.done ≡ are_at_end lines F
@@ -154,13 +166,15 @@ module _ (shape : Sizes) (lines : List Line) (run : RunRecord) (stand : StandAtL
       mapped None = refl
       mapped (Some c) = refl
 
-  cells_same : cells_line run.cells ≡ cells_line (record { total = shape.ranks * shape.cells; home = shape.ranks * shape.cells })
+  cells_same : cells_line run.cells ≡ cells_line
+      (record { total = shape.ranks * shape.cells; home = shape.ranks * shape.cells })
   cells_same =
       let total : run.cells.total ≡ shape.ranks * shape.cells =
       is.home.all ∙ ap (λ (s : Sizes). s.ranks * s.cells) is.shaped in
       of_two run.cells.total (shape.ranks * shape.cells) run.cells.home total (is.home.home ∙ total)
     where
-      of_two : (t u h : ℕ) → t ≡ u → h ≡ u → cells_line (record { total = t; home = h }) ≡ cells_line (record { total = u; home = u })
+      of_two : (t u h : ℕ) → t ≡ u → h ≡ u → cells_line (record { total = t; home = h }) ≡ cells_line
+          (record { total = u; home = u })
       of_two t u h p q = rw (p, q) refl
 
   pub report_same : report_text false run ≡ plain_text shape lines
@@ -168,16 +182,21 @@ module _ (shape : Sizes) (lines : List Line) (run : RunRecord) (stand : StandAtL
   report_same =
       says run
       ∙ ap (λ (ts : List ℕ). ts ++ (cells_line run.cells ++ end_line run.done)) texts_same
-      ∙ ap (λ (ts : List ℕ). flat_map (rank_text lines F) (range_with_len 0 (length F)) ++ (ts ++ end_line run.done)) cells_same
+      ∙ ap (λ (ts : List ℕ). flat_map (rank_text lines F) (range_with_len 0 (length F)) ++ (ts ++ end_line run.done))
+      cells_same
       ∙ ap (λ (b : Bool). flat_map (rank_text lines F) (range_with_len 0 (length F))
-      ++ (cells_line (record { total = shape.ranks * shape.cells; home = shape.ranks * shape.cells }) ++ end_line b)) ends_same
+      ++ (cells_line (record { total = shape.ranks * shape.cells; home = shape.ranks * shape.cells }) ++ end_line b))
+      ends_same
 
   pub told_same : told_of run ≡ plain_told shape lines
   unfolding plain_told
   told_same =
       each_told (rank_told lines F) 0 run.ranks
       (λ k a here. ap (λ (ts : List Told). record { answers = ts; waits = a.waits }) (answers_same k a here)
-      ∙ ap (λ (o : Option ℕ). record { answers = told_after lines k [] (take (at_of F k) (commands_of k lines)); waits = o }) (waits_same k a here)
+      ∙ ap (λ (o : Option ℕ). record {
+        answers = told_after lines k [] (take (at_of F k) (commands_of k lines));
+        waits = o;
+      }) (waits_same k a here)
       ∙ ap (λ (m : ℕ). rank_told lines F m) (sym (zero_add k)))
       ∙ ap (λ (n : ℕ). map (rank_told lines F) (range_with_len 0 n)) lengths_same
 

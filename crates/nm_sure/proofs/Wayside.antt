@@ -15,15 +15,17 @@ use Rattle.nm_types.specs.declared.scripts.Command.{Command}
 use Rattle.nm_types.specs.declared.scripts.Command.TheVariants as command
 use Rattle.nm_types.specs.declared.scripts.Line.{Line}
 use Rattle.nm_types.specs.Commands.{Numbered}
-use Rattle.nm_history.proofs.OnceLemmas.{eqb_self, same_of}
+use Rattle.nm_history.proofs.OnceLemmas.{eqb_self}
 use Rattle.nm_sure.specs.declared.partners.Way.{Way}
 use Rattle.nm_sure.specs.Channels.{is_channel, receive_channel, send_channel}
 use Rattle.nm_sure.specs.Held.{before, held_at, name_of}
 use Rattle.nm_sure.specs.Names.{holder, started, started_after}
-use Rattle.nm_sure.specs.Ways.{channel_of, lines_at, number_if, receive_lines, receive_way, same_way, send_lines, send_way}
+use Rattle.nm_sure.specs.Ways.{channel_of, lines_at, number_if, receive_lines, receive_way, same_way, send_lines}
+use Rattle.nm_sure.specs.Ways.{send_way}
 use Rattle.nm_sure.specs.Ways.{way_of_receive, way_of_send}
 use Rattle.nm_sure.proofs.Before.{before_more, held_here, numbered, own_of}
 use Rattle.nm_sure.proofs.Rising.{starts_split}
+use Rattle.nm_facts.proofs.Numbers.{same_number}
 
 -- the lines of one channel's starts
 abbrev pub lines_by : (Command → Bool) → List Numbered → List ℕ
@@ -36,7 +38,8 @@ added g before own = map (λ (c : Numbered). c.line) (filter (λ c. g c.command)
 lines_push : (g : Command → Bool) (xs ys : List Numbered) → lines_by g (xs ++ ys) ≡ lines_by g xs ++ added g xs ys
 lines_push g xs ys =
     ap (λ (cs : List Numbered). map (λ (c : Numbered). c.line) cs) (starts_split (λ c. g c.command) xs ys)
-    ∙ map-append (λ (c : Numbered). c.line) (filter (λ c. g c.command) (started xs)) (filter (λ c. g c.command) (started_after xs ys))
+    ∙ map-append (λ (c : Numbered). c.line) (filter (λ c. g c.command) (started xs))
+    (filter (λ c. g c.command) (started_after xs ys))
 
 turned : (a b : ℕ) → (a == b) ≡ (b == a)
 turned a b = grind (arith, nat_tests)
@@ -71,7 +74,8 @@ one_in : (g : Command → Bool) (b : List Numbered) (n : ℕ) (c : Command) (x :
 one_in g b n c x is true = kept x is
   where
     kept : (x : Bool) → g c ≡ x →
-        map (λ (c : Numbered). c.line) (filter (λ c. g c.command) (record { line = n; command = c } ∷ [])) ≡ cond x (n ∷ []) []
+        map (λ (c : Numbered). c.line) (filter (λ c. g c.command) (record { line = n; command = c } ∷ [])) ≡ cond x
+        (n ∷ []) []
     kept true is = rw is refl
     kept false is = rw is refl
 one_in g b n c x is false = refl
@@ -84,7 +88,8 @@ none_in n false x same = refl
 
 -- nor does a command that is no start of the kind
 silent_in : (g : Command → Bool) (n : ℕ) (c : Command) → g c ≡ false → (t : Bool) →
-    map (λ (c : Numbered). c.line) (filter (λ c. g c.command) (cond t (record { line = n; command = c } ∷ []) [])) ≡ cond t no_number no_number
+    map (λ (c : Numbered). c.line) (filter (λ c. g c.command) (cond t (record { line = n; command = c } ∷ []) []))
+    ≡ cond t no_number no_number
 silent_in g n c fails true = rw fails refl
 silent_in g n c fails false = refl
 
@@ -107,7 +112,7 @@ one_send b n w r (command.Send q to tag ctx body sync) true is =
 
     passes : is_channel (channel_of w) (record { from = w.from; to = to; tag = tag; ctx = ctx }) ≡ same_way v w
     passes =
-        let same : r ≡ w.from = same_of r w.from is in
+        let same : r ≡ w.from = same_number r w.from is in
         ap (λ (f : ℕ). is_channel (channel_of w) (record { from = f; to = to; tag = tag; ctx = ctx })) (sym same)
         ∙ same_turned w v
 one_send b n w r (command.Send q to tag ctx body sync) false is =
@@ -133,13 +138,16 @@ lines_more g one own each lines k line here =
     ∙ ap (λ (ls : List ℕ). lines_by g (before lines k own) ++ ls) (of_rank (line.rank == own) refl)
   where
     adds : ℕ → List ℕ
-    adds r = cond (is_none (option_and_then (holder (before lines k r)) (name_of line.command))) (one line.rank (k + 2) line.command) []
+    adds r = cond (is_none (option_and_then (holder (before lines k r)) (name_of line.command)))
+        (one line.rank (k + 2) line.command) []
 
     -- the held name is of the rank of the line
     there : (r : ℕ) → line.rank ≡ r → adds r ≡ cond (is_none (held_at lines k)) (one line.rank (k + 2) line.command) []
     there r same =
-        ap (λ (i : ℕ). cond (is_none (option_and_then (holder (before lines k i)) (name_of line.command))) (one line.rank (k + 2) line.command) []) (sym same)
-        ∙ ap (λ (o : Option ℕ). cond (is_none o) (one line.rank (k + 2) line.command) []) (sym (held_here lines k line here))
+        ap (λ (i : ℕ). cond (is_none (option_and_then (holder (before lines k i)) (name_of line.command)))
+        (one line.rank (k + 2) line.command) []) (sym same)
+        ∙ ap (λ (o : Option ℕ). cond (is_none o) (one line.rank (k + 2) line.command) [])
+        (sym (held_here lines k line here))
 
     of_rank : (t : Bool) → (line.rank == own) ≡ t →
         added g (before lines k own) (own_of own (k + 2) line)
@@ -147,7 +155,7 @@ lines_more g one own each lines k line here =
     of_rank true is =
         ap (λ (t : Bool). added g (before lines k own) (cond t (numbered (k + 2) line ∷ []) [])) is
         ∙ each (before lines k own) (k + 2) line.rank line.command true is
-        ∙ there own (same_of line.rank own is)
+        ∙ there own (same_number line.rank own is)
     of_rank false is =
         ap (λ (t : Bool). added g (before lines k own) (cond t (numbered (k + 2) line ∷ []) [])) is
         ∙ each (before lines k line.rank) (k + 2) line.rank line.command false is
@@ -166,14 +174,15 @@ one_receive : (b : List Numbered) (n : ℕ) (w : Way) (r : ℕ) (c : Command) �
     added (takes_it w) b (cond t (record { line = n; command = c } ∷ []) [])
     ≡ cond (is_none (option_and_then (holder b) (name_of c))) (number_if w (way_of_receive r c) n) []
 one_receive b n w r (command.Recv q (peer.One from) (pick.One tag) ctx top) true is =
-    one_in (takes_it w) b n (command.Recv q (peer.One from) (pick.One tag) ctx top) (same_way v w) passes (is_none (holder b q))
+    one_in (takes_it w) b n (command.Recv q (peer.One from) (pick.One tag) ctx top) (same_way v w) passes
+    (is_none (holder b q))
   where
     v : Way
     v = record { from = from; to = r; tag = tag; ctx = ctx }
 
     passes : is_channel (channel_of w) (record { from = from; to = w.to; tag = tag; ctx = ctx }) ≡ same_way v w
     passes =
-        let same : r ≡ w.to = same_of r w.to is in
+        let same : r ≡ w.to = same_number r w.to is in
         ap (λ (f : ℕ). is_channel (channel_of w) (record { from = from; to = f; tag = tag; ctx = ctx })) (sym same)
         ∙ same_turned w v
 one_receive b n w r (command.Recv q (peer.One from) (pick.One tag) ctx top) false is =
@@ -216,7 +225,8 @@ same_way_self w = rw (eqb_self w.from, eqb_self w.to, eqb_self w.tag, eqb_self w
 same_way_is : (v w : Way) → same_way v w ≡ true → v ≡ w
 same_way_is v w is =
     let each = four (v.from == w.from) (v.to == w.to) (v.tag == w.tag) (v.ctx == w.ctx) is in
-    build (same_of v.from w.from each.0) (same_of v.to w.to each.1) (same_of v.tag w.tag each.2) (same_of v.ctx w.ctx each.3)
+    build (same_number v.from w.from each.0) (same_number v.to w.to each.1) (same_number v.tag w.tag each.2)
+    (same_number v.ctx w.ctx each.3)
   where
     build : v.from ≡ w.from → v.to ≡ w.to → v.tag ≡ w.tag → v.ctx ≡ w.ctx → v ≡ w
     build p q r s =
@@ -235,7 +245,8 @@ put_behind {A} {S} way w m between n v new x is grown out back =
     by_test (same_way way w) refl out back
   where
     by_test : (t : Bool) → same_way way w ≡ t → get same_way between w ≡ cond t None (get same_way m w) →
-        get same_way n w ≡ cond t (Some new) (get same_way between w) → lines_at n w ≡ lines_at m w ++ cond t (x ∷ []) []
+        get same_way n w ≡ cond t (Some new) (get same_way between w) → lines_at n w ≡ lines_at m w ++ cond t
+        (x ∷ []) []
     by_test true same out back =
         ap (λ (o : Option (Vec ℕ A)). option_map_or (λ (u : Vec ℕ A). u.items) o []) back ∙ grown
         ∙ ap (λ (ls : List ℕ). ls ++ x ∷ []) is

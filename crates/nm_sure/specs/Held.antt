@@ -9,6 +9,7 @@ use Rattle.nm_types.specs.Commands.{Numbered, commands_of}
 use Rattle.nm_sure.specs.declared.names.Name.{Name}
 use Rattle.nm_sure.specs.Names.{holder, holder_by}
 
+-- two names of ranks are the same
 abbrev pub same_name : Name → Name → Bool
 same_name a b = a.rank == b.rank && a.q == b.q
 
@@ -45,5 +46,6 @@ abbrev pub held_for : List Line → ℕ → Line → Option ℕ
 held_for lines k line =
     option_and_then (holder (before lines k line.rank)) (name_of line.command)
 
+-- what the name of the script's line at a place stands for
 abbrev pub held_at : List Line → ℕ → Option ℕ
 held_at lines k = option_and_then (held_for lines k) (slice_get lines k)

@@ -13,6 +13,7 @@ pub record Placed : Type 0 where
   pub place : ℕ
   pub what : Happened
 
+-- a start at this place, with the number of its send or receive taken out
 abbrev pub at_place : ℕ → Happened → Placed
 at_place place what = record { place = place; what = without_number what }
 

@@ -32,10 +32,12 @@ result_by lines rank line (Recv q from tag ctx cap) =
     (receive_channel rank (Recv q from tag ctx cap)) answer.Null
 result_by lines rank line _ = answer.Null
 
+-- what the request of the start at a line ends with
 abbrev pub result_at : List Line → ℕ → ℕ → Answer
 result_at lines rank line =
     option_map_or (result_by lines rank line) (command_at (commands_of rank lines) line) answer.Null
 
+-- the answer of a start, by what its name stands for
 abbrev pub start_answer : Option ℕ → Answer
 start_answer held = if is_none held then answer.Started else answer.Busy
 

@@ -20,11 +20,12 @@ abbrev pub IsLine : List Line → ℕ → Type 0
 IsLine lines number = (2 ≤ number) × (number < length lines + 2)
 
 -- a script with the lines of each rank, and by line what its name stands for and its partner
-pub record IsPlan {A : Type 0} (lines : List Line) (ranks : List (Vec ℕ A)) (held partners : List (Option ℕ)) : Type 0 where
-  pub limits : IsScript (length ranks) lines
-  pub own : map (λ own. own.items) ranks ≡ map (own_lines lines) (range_with_len 0 (length ranks))
-  pub names : held ≡ map (held_at lines) (range_with_len 0 (length lines))
-  pub pairs : partners ≡ map (partner_at lines) (range_with_len 0 (length lines))
+pub record IsPlan {A : Type 0} (lines : List Line) (ranks : List (Vec ℕ A)) (held partners : List (Option ℕ)) : Type 0
+  where
+    pub limits : IsScript (length ranks) lines
+    pub own : map (λ own. own.items) ranks ≡ map (own_lines lines) (range_with_len 0 (length ranks))
+    pub names : held ≡ map (held_at lines) (range_with_len 0 (length lines))
+    pub pairs : partners ≡ map (partner_at lines) (range_with_len 0 (length lines))
 
 -- the command of the line at a place ran
 abbrev pub is_run : List Line → List ℕ → ℕ → Line → Bool

@@ -24,6 +24,7 @@ way_of_send rank (Send q to tag ctx body sync) =
     Some (record { from = rank; to = to; tag = tag; ctx = ctx })
 way_of_send rank _ = None
 
+-- the channel of a line's send, if it is one
 abbrev pub send_way : Line → Option Way
 send_way line = way_of_send line.rank line.command
 
@@ -33,9 +34,11 @@ way_of_receive rank (Recv q (peer.One from) (pick.One tag) ctx cap) =
     Some (record { from = from; to = rank; tag = tag; ctx = ctx })
 way_of_receive rank _ = None
 
+-- the channel of a line's receive, if it is one that names its source and its tag
 abbrev pub receive_way : Line → Option Way
 receive_way line = way_of_receive line.rank line.command
 
+-- the channel that the map knows so
 abbrev pub channel_of : Way → Channel
 channel_of w = record { from = w.from; to = w.to; tag = w.tag; ctx = w.ctx }
 
@@ -92,6 +95,7 @@ partner_for lines line place =
     option_map_or (λ w. slice_get (receive_lines lines w) place) (send_way line)
     (option_and_then (λ w. slice_get (send_lines lines w) place) (receive_way line))
 
+-- the partner of the start at a place of the script, if it is taken and has one
 abbrev pub partner_at : List Line → ℕ → Option ℕ
 partner_at lines k =
     option_and_then (λ line. option_and_then (partner_for lines line) (place_at lines k)) (slice_get lines k)

@@ -21,7 +21,7 @@ is_solid b = leb 33 b && leb b 126
 abbrev pub Solid : List (List ℕ) → Type 0
 Solid words = AllByRecursion (λ word. list_all is_solid word ≡ true) words
 
-solid_no_space : (b : ℕ) → is_solid b ≡ true → eqb b 32 ≡ false
+pub solid_no_space : (b : ℕ) → is_solid b ≡ true → eqb b 32 ≡ false
 solid_no_space b h = grind (arith, nat_tests)
 
 solid_printable : (b : ℕ) → is_solid b ≡ true → (leb 32 b && leb b 126) ≡ true

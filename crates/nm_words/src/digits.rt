@@ -11,6 +11,7 @@ pub fn is_lower_digit(byte: u8) -> bool
     byte.is_ascii_digit() || (byte >= b'a' && byte <= b'f')
 }
 
+/// All of them are `0` to `9`, or `a` to `f`.
 pub fn are_lower_digits(digits: &[u8]) -> bool
     ensures { result ≡ list_all is_lower_digit digits.now }
 {

@@ -1,46 +1,46 @@
-pub mod AskedUnended
-pub mod CancelledReceive
-pub mod CancelledSend
-pub mod CancelledThoughPaired
-pub mod ClaimedAlone
-pub mod ClaimedNewest
-pub mod ClaimedThenRecalled
-pub mod ClaimedUnreceived
-pub mod CountWrong
-pub mod Cut
-pub mod EagerStays
-pub mod EndedUnderWay
-pub mod LateCancels
-pub mod LaterReceive
-pub mod LeftBeforeTaken
-pub mod LeftUntaken
-pub mod LongAlone
-pub mod MatchedProbe
-pub mod MatchedThoughUnclaimed
-pub mod NewestBytes
-pub mod NewestTaken
-pub mod NullAndBusy
-pub mod NumberSkipped
-pub mod OrderAtBothEnds
-pub mod Overtaken
-pub mod Plain
-pub mod Probed
-pub mod RanOutOfOrder
-pub mod Ranks
-pub mod RecallUnanswered
-pub mod ReceivedThoughClaimed
-pub mod SelfEmpty
-pub mod StampRepeated
-pub mod StartExtra
-pub mod StartMissing
-pub mod Stuck
-pub mod SynchronousAlone
-pub mod SynchronousBody
-pub mod SynchronousTaken
-pub mod Tested
-pub mod UnexpectedLater
-pub mod WaitsThoughDone
-pub mod WholeUntaken
-pub mod WithdrawnThoughClaimed
-pub mod WithdrawnThoughTaken
-pub mod WithdrawnUnasked
+mod AskedUnended
+mod CancelledReceive
+mod CancelledSend
+mod CancelledThoughPaired
+mod ClaimedAlone
+mod ClaimedNewest
+mod ClaimedThenRecalled
+mod ClaimedUnreceived
+mod CountWrong
+mod Cut
+mod EagerStays
+mod EndedUnderWay
+mod LateCancels
+mod LaterReceive
+mod LeftBeforeTaken
+mod LeftUntaken
+mod LongAlone
+mod MatchedProbe
+mod MatchedThoughUnclaimed
+mod NewestBytes
+mod NewestTaken
+mod NullAndBusy
+mod NumberSkipped
+mod OrderAtBothEnds
+mod Overtaken
+mod Plain
+mod Probed
+mod RanOutOfOrder
+mod Ranks
+mod RecallUnanswered
+mod ReceivedThoughClaimed
+mod SelfEmpty
+mod StampRepeated
+mod StartExtra
+mod StartMissing
+mod Stuck
+mod SynchronousAlone
+mod SynchronousBody
+mod SynchronousTaken
+mod Tested
+mod UnexpectedLater
+mod WaitsThoughDone
+mod WholeUntaken
+mod WithdrawnThoughClaimed
+mod WithdrawnThoughTaken
+mod WithdrawnUnasked

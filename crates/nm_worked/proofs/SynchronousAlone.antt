@@ -3,8 +3,8 @@ use Rattle.std.specs.Prelude.{refl}
 use Rattle.std.proofs.Common.{rules}
 use Rattle.nm_history.specs.Matching.{matched_pairs, is_free_message}
 use Rattle.nm_history.specs.AtEach.{AtEach, in_turn}
-use Rattle.nm_worked.proofs.Ranks.{two_ranks}
 use Rattle.nm_worked.specs.SynchronousAlone.{IsLawful}
+use Rattle.nm_history.proofs.EachLemmas.{two_ranks}
 
 pub runs : IsLawful
 unfolding matched_pairs is_free_message AtEach in_turn

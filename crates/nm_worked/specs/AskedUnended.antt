@@ -12,6 +12,7 @@ use Rattle.nm_history.specs.declared.events.Happened.TheVariants.{Send, Post, Ar
 use Rattle.nm_history.specs.Quiescence.{AreQuiescent}
 use Rattle.nm_worked.specs.Small.{at, rank_line}
 
+-- the script
 abbrev pub script : List Line
 script =
     rank_line 0 (command.Send 0 1 7 0 (Hex (1 ∷ [])) true)
@@ -19,11 +20,13 @@ script =
     ∷ rank_line 1 (command.Recv 0 (peer.One 0) (pick.One 7) 0 4)
     ∷ rank_line 1 (command.Wait 0) ∷ []
 
+-- the first rank
 abbrev pub first : List Event
 first =
     at 1 (Send 1 0 7 0 1 Ask 2)
     ∷ at 2 (Ran 2 answer.Started) ∷ []
 
+-- the second rank
 abbrev pub second : List Event
 second =
     at 1 (Post (record { number = 0; from = peer.One 0; tag = pick.One 7; ctx = 0; cap = 4 }) 4)
@@ -33,5 +36,10 @@ second =
 -- the rule that it breaks
 abbrev pub IsLawful : Type 0
 IsLawful =
-    AreQuiescent script (record { at = 1; waits = Some 3; events = first } ∷ record { at = 1; waits = Some 5; events = second } ∷ [])
+    AreQuiescent script (record { at = 1; waits = Some 3; events = first } ∷ record {
+      at = 1;
+      waits = Some 5;
+      events =
+          second;
+    } ∷ [])
     (record { from = 0; to = 1; count = 1 } ∷ record { from = 1; to = 0; count = 1 } ∷ [])

@@ -6,11 +6,13 @@ use Rattle.nm_types.specs.declared.scripts.Command.TheVariants as command
 use Rattle.nm_types.specs.declared.scripts.Line.{Line}
 use Rattle.nm_types.specs.declared.answers.Answer.TheVariants as answer
 use Rattle.nm_history.specs.declared.events.Event.{Event}
-use Rattle.nm_history.specs.declared.events.Happened.TheVariants.{Send, Arrive, Whole, Out, Recall, Withdraw, Undone, Ran}
+use Rattle.nm_history.specs.declared.events.Happened.TheVariants.{Send, Arrive, Whole, Out, Recall, Withdraw, Undone}
+use Rattle.nm_history.specs.declared.events.Happened.TheVariants.{Ran}
 use Rattle.nm_history.specs.Quiescence.{Ended, Packets}
 use Rattle.nm_history.specs.Run.{IsRunOf}
 use Rattle.nm_worked.specs.Small.{at, run_on, rank_line}
 
+-- the script
 abbrev pub script : List Line
 script =
     rank_line 0 (command.Send 0 1 0 0 (Hex (1 ∷ [])) false)
@@ -35,9 +37,11 @@ second =
     ∷ at 3 (Whole 0 0)
     ∷ at 4 (Withdraw 0 0 true) ∷ []
 
+-- where each rank stands at the end, and what happened there
 abbrev pub ranks : List Ended
 ranks = record { at = 3; waits = None; events = first } ∷ record { at = 0; waits = None; events = second } ∷ []
 
+-- how many packets went from rank to rank
 abbrev pub packets : List Packets
 packets = record { from = 0; to = 1; count = 2 } ∷ record { from = 1; to = 0; count = 1 } ∷ []
 

@@ -9,10 +9,12 @@ use Rattle.nm_types.specs.declared.scripts.Command.TheVariants as command
 use Rattle.nm_types.specs.declared.scripts.Line.{Line}
 use Rattle.nm_types.specs.declared.answers.Answer.TheVariants as answer
 use Rattle.nm_history.specs.declared.events.Event.{Event}
-use Rattle.nm_history.specs.declared.events.Happened.TheVariants.{Send, Post, Arrive, Whole, Out, Cancel, Recall, Withdraw, Undone, Ran}
+use Rattle.nm_history.specs.declared.events.Happened.TheVariants.{Send, Post, Arrive, Whole, Out, Cancel, Recall}
+use Rattle.nm_history.specs.declared.events.Happened.TheVariants.{Withdraw, Undone, Ran}
 use Rattle.nm_history.specs.RankRun.{IsRankRun}
 use Rattle.nm_worked.specs.Small.{at, run_on, rank_line}
 
+-- the script
 abbrev pub script : List Line
 script =
     rank_line 0 (command.Send 0 0 2 0 (Hex (5 ∷ [])) false)
@@ -24,6 +26,7 @@ script =
     ∷ rank_line 0 (command.Wait 0)
     ∷ rank_line 0 (command.Cancel 0) ∷ []
 
+-- the first rank
 abbrev pub first : List Event
 first =
     at 1 (Send 0 0 2 0 1 Eager 2)

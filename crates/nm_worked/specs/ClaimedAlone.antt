@@ -13,6 +13,7 @@ use Rattle.nm_history.specs.Quiescence.{Ended, Packets}
 use Rattle.nm_history.specs.Run.{IsRunOf}
 use Rattle.nm_worked.specs.Small.{at, run_on, rank_line}
 
+-- the script
 abbrev pub script : List Line
 script =
     rank_line 0 (command.Send 0 1 0 0 (Hex []) true)
@@ -32,9 +33,11 @@ second =
     ∷ at 3 (Claim 0 0 4)
     ∷ at 4 (Ran 4 (answer.Seen (record { from = 0; tag = 0; len = 0 }))) ∷ []
 
+-- where each rank stands at the end, and what happened there
 abbrev pub ranks : List Ended
 ranks = record { at = 1; waits = Some 3; events = first } ∷ record { at = 1; waits = None; events = second } ∷ []
 
+-- how many packets went from rank to rank
 abbrev pub packets : List Packets
 packets = record { from = 0; to = 1; count = 1 } ∷ []
 

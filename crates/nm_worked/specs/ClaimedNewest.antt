@@ -13,12 +13,14 @@ use Rattle.nm_history.specs.declared.events.Happened.TheVariants.{Send, Arrive, 
 use Rattle.nm_history.specs.RankRun.{IsRankRun}
 use Rattle.nm_worked.specs.Small.{at, run_on, rank_line}
 
+-- the script
 abbrev pub script : List Line
 script =
     rank_line 0 (command.Send 0 0 4 0 (Hex (10 ∷ [])) false)
     ∷ rank_line 0 (command.Send 1 0 4 0 (Hex (11 ∷ [])) false)
     ∷ rank_line 0 (command.Mprobe 3 peer.Any pick.Any 0) ∷ []
 
+-- the first rank
 abbrev pub first : List Event
 first =
     at 1 (Send 0 0 4 0 1 Eager 2)

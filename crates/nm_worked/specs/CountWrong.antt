@@ -12,6 +12,7 @@ use Rattle.nm_history.specs.declared.events.Happened.TheVariants.{Send, Post, Ar
 use Rattle.nm_history.specs.Quiescence.{AreQuiescent}
 use Rattle.nm_worked.specs.Small.{at, rank_line}
 
+-- the script
 abbrev pub script : List Line
 script =
     rank_line 0 (command.Send 0 1 7 0 (Hex (104 ∷ [])) false)
@@ -19,6 +20,7 @@ script =
     ∷ rank_line 1 (command.Recv 0 (peer.One 0) (pick.One 7) 0 16)
     ∷ rank_line 1 (command.Wait 0) ∷ []
 
+-- the first rank
 abbrev pub first : List Event
 first =
     at 1 (Send 1 0 7 0 1 Eager 2)
@@ -26,6 +28,7 @@ first =
     ∷ at 3 (Out 1 0)
     ∷ at 4 (Ran 3 answer.Sent) ∷ []
 
+-- the second rank
 abbrev pub second : List Event
 second =
     at 1 (Post (record { number = 0; from = peer.One 0; tag = pick.One 7; ctx = 0; cap = 16 }) 4)
@@ -37,5 +40,10 @@ second =
 -- the rule that it breaks
 abbrev pub IsLawful : Type 0
 IsLawful =
-    AreQuiescent script (record { at = 2; waits = None; events = first } ∷ record { at = 2; waits = None; events = second } ∷ [])
+    AreQuiescent script (record { at = 2; waits = None; events = first } ∷ record {
+      at = 2;
+      waits = None;
+      events =
+          second;
+    } ∷ [])
     (record { from = 0; to = 1; count = 2 } ∷ [])

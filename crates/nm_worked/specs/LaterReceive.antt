@@ -12,15 +12,18 @@ use Rattle.nm_history.specs.declared.events.Happened.TheVariants.{Post, Arrive, 
 use Rattle.nm_history.specs.RankRun.{IsRankRun}
 use Rattle.nm_worked.specs.Small.{at, run_on, rank_line}
 
+-- the script
 abbrev pub script : List Line
 script =
     rank_line 1 (command.Recv 0 peer.Any pick.Any 0 1)
     ∷ rank_line 1 (command.Recv 1 (peer.One 0) (pick.One 5) 0 1)
     ∷ rank_line 1 (command.Wait 1) ∷ []
 
+-- the first rank
 abbrev pub first : List Event
 first = []
 
+-- the second rank
 abbrev pub second : List Event
 second =
     at 1 (Post (record { number = 0; from = peer.Any; tag = pick.Any; ctx = 0; cap = 1 }) 2)

@@ -13,6 +13,7 @@ use Rattle.nm_history.specs.declared.events.Happened.TheVariants.{Send, Post, Ar
 use Rattle.nm_history.specs.Delivery.{AreDelivered}
 use Rattle.nm_worked.specs.Small.{at, rank_line}
 
+-- the script
 abbrev pub script : List Line
 script =
     rank_line 0 (command.Send 0 1 0 0 (Hex []) true)
@@ -20,6 +21,7 @@ script =
     ∷ rank_line 1 (command.Recv 0 (peer.One 0) (pick.One 0) 0 0)
     ∷ rank_line 1 (command.Wait 0) ∷ []
 
+-- the first rank
 abbrev pub first : List Event
 first =
     at 1 (Send 1 0 0 0 0 Ask 2)
@@ -27,6 +29,7 @@ first =
     ∷ at 3 (Out 1 0)
     ∷ at 6 (Ran 3 answer.Sent) ∷ []
 
+-- the second rank
 abbrev pub second : List Event
 second =
     at 2 (Arrive (record { n = 0; env = record { from = 0; tag = 0; ctx = 0; len = 0; how = Ask } }))

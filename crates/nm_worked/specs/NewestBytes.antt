@@ -13,6 +13,7 @@ use Rattle.nm_history.specs.declared.events.Happened.TheVariants.{Send, Post, Ar
 use Rattle.nm_history.specs.Delivery.{AreDelivered}
 use Rattle.nm_worked.specs.Small.{at, rank_line}
 
+-- the script
 abbrev pub script : List Line
 script =
     rank_line 0 (command.Send 0 1 5 0 (Hex (0 ∷ [])) false)
@@ -24,6 +25,7 @@ script =
     ∷ rank_line 1 (command.Wait 1)
     ∷ rank_line 1 (command.Wait 0) ∷ []
 
+-- the first rank
 abbrev pub first : List Event
 first =
     at 1 (Send 1 0 5 0 1 Eager 2)
@@ -35,6 +37,7 @@ first =
     ∷ at 7 (Ran 4 answer.Sent)
     ∷ at 8 (Ran 5 answer.Sent) ∷ []
 
+-- the second rank
 abbrev pub second : List Event
 second =
     at 1 (Post (record { number = 0; from = peer.Any; tag = pick.One 5; ctx = 0; cap = 1 }) 6)

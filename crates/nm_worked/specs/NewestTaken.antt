@@ -13,6 +13,7 @@ use Rattle.nm_history.specs.declared.events.Happened.TheVariants.{Send, Post, Ar
 use Rattle.nm_history.specs.RankRun.{IsRankRun}
 use Rattle.nm_worked.specs.Small.{at, run_on, rank_line}
 
+-- the script
 abbrev pub script : List Line
 script =
     rank_line 0 (command.Send 0 1 1 0 (Hex (65 ∷ [])) false)
@@ -20,6 +21,7 @@ script =
     ∷ rank_line 1 (command.Recv 0 peer.Any pick.Any 0 1)
     ∷ rank_line 1 (command.Wait 0) ∷ []
 
+-- the first rank
 abbrev pub first : List Event
 first =
     at 1 (Send 1 0 1 0 1 Eager 2)
@@ -27,6 +29,7 @@ first =
     ∷ at 3 (Send 1 1 2 0 1 Eager 3)
     ∷ at 4 (Ran 3 answer.Started) ∷ []
 
+-- the second rank
 abbrev pub second : List Event
 second =
     at 2 (Arrive (record { n = 0; env = record { from = 0; tag = 1; ctx = 0; len = 1; how = Eager } }))

@@ -13,6 +13,7 @@ use Rattle.nm_history.specs.Quiescence.{Ended, Packets}
 use Rattle.nm_history.specs.Run.{IsRunOf}
 use Rattle.nm_worked.specs.Small.{at, run_on, rank_line}
 
+-- the script
 abbrev pub script : List Line
 script =
     rank_line 0 (command.Wait 9)
@@ -43,9 +44,11 @@ second =
     ∷ at 5 (Ran 7 (answer.Got 0 7 (1 ∷ [])))
     ∷ at 6 (Ran 8 answer.Nothing) ∷ []
 
+-- where each rank stands at the end, and what happened there
 abbrev pub ranks : List Ended
 ranks = record { at = 4; waits = None; events = first } ∷ record { at = 3; waits = None; events = second } ∷ []
 
+-- how many packets went from rank to rank
 abbrev pub packets : List Packets
 packets = record { from = 0; to = 1; count = 1 } ∷ []
 

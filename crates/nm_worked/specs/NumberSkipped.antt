@@ -11,11 +11,13 @@ use Rattle.nm_history.specs.declared.events.Happened.TheVariants.{Send, Out, Ran
 use Rattle.nm_history.specs.RankRun.{IsRankRun}
 use Rattle.nm_worked.specs.Small.{at, run_on, rank_line}
 
+-- the script
 abbrev pub script : List Line
 script =
     rank_line 0 (command.Send 0 1 7 0 (Hex (1 ∷ [])) false)
     ∷ rank_line 0 (command.Send 1 1 7 0 (Hex (2 ∷ [])) false) ∷ []
 
+-- the first rank
 abbrev pub first : List Event
 first =
     at 1 (Send 1 0 7 0 1 Eager 2)

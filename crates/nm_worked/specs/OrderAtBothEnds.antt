@@ -13,6 +13,7 @@ use Rattle.nm_history.specs.Quiescence.{Ended, Packets}
 use Rattle.nm_history.specs.Run.{IsRunOf}
 use Rattle.nm_worked.specs.Small.{at, run_on, rank_line}
 
+-- the script
 abbrev pub script : List Line
 script =
     rank_line 0 (command.Send 0 1 5 0 (Hex (65 ∷ [])) false)
@@ -50,9 +51,11 @@ second =
     ∷ at 9 (Ran 8 (answer.Got 0 5 (66 ∷ [])))
     ∷ at 10 (Ran 9 (answer.Got 0 5 (65 ∷ []))) ∷ []
 
+-- where each rank stands at the end, and what happened there
 abbrev pub ranks : List Ended
 ranks = record { at = 4; waits = None; events = first } ∷ record { at = 4; waits = None; events = second } ∷ []
 
+-- how many packets went from rank to rank
 abbrev pub packets : List Packets
 packets = record { from = 0; to = 1; count = 2 } ∷ []
 

@@ -13,6 +13,7 @@ use Rattle.nm_history.specs.declared.events.Happened.TheVariants.{Send, Arrive, 
 use Rattle.nm_history.specs.Delivery.{AreDelivered}
 use Rattle.nm_worked.specs.Small.{at, rank_line}
 
+-- the script
 abbrev pub script : List Line
 script =
     rank_line 0 (command.Send 0 1 5 0 (Hex (65 ∷ [])) false)
@@ -24,6 +25,7 @@ script =
     ∷ rank_line 1 (command.Wait 1)
     ∷ rank_line 1 (command.Wait 0) ∷ []
 
+-- the first rank
 abbrev pub first : List Event
 first =
     at 1 (Send 1 0 5 0 1 Eager 2)
@@ -31,6 +33,7 @@ first =
     ∷ at 3 (Send 1 1 6 0 1 Eager 3)
     ∷ at 4 (Ran 3 answer.Started) ∷ []
 
+-- the second rank
 abbrev pub second : List Event
 second =
     at 4 (Arrive (record { n = 0; env = record { from = 0; tag = 6; ctx = 0; len = 1; how = Eager } }))

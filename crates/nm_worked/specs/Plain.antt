@@ -13,6 +13,7 @@ use Rattle.nm_history.specs.Quiescence.{Ended, Packets}
 use Rattle.nm_history.specs.Run.{IsRunOf}
 use Rattle.nm_worked.specs.Small.{at, run_on, rank_line}
 
+-- the script
 abbrev pub script : List Line
 script =
     rank_line 0 (command.Send 0 1 7 0 (Hex (104 ∷ 105 ∷ [])) false)
@@ -37,9 +38,11 @@ second =
     ∷ at 4 (Whole 0 0)
     ∷ at 5 (Ran 5 (answer.Got 0 7 (104 ∷ 105 ∷ []))) ∷ []
 
+-- where each rank stands at the end, and what happened there
 abbrev pub ranks : List Ended
 ranks = record { at = 2; waits = None; events = first } ∷ record { at = 2; waits = None; events = second } ∷ []
 
+-- how many packets went from rank to rank
 abbrev pub packets : List Packets
 packets = record { from = 0; to = 1; count = 1 } ∷ []
 

@@ -13,6 +13,7 @@ use Rattle.nm_history.specs.Quiescence.{Ended, Packets}
 use Rattle.nm_history.specs.Run.{IsRunOf}
 use Rattle.nm_worked.specs.Small.{at, run_on, rank_line}
 
+-- the script
 abbrev pub script : List Line
 script =
     rank_line 0 (command.Send 0 1 6 2 (Hex (190 ∷ 239 ∷ [])) false)
@@ -45,9 +46,11 @@ second =
     ∷ at 9 (Ran 8 (answer.Got 0 6 (190 ∷ 239 ∷ [])))
     ∷ at 10 (Ran 9 answer.Nothing) ∷ []
 
+-- where each rank stands at the end, and what happened there
 abbrev pub ranks : List Ended
 ranks = record { at = 2; waits = None; events = first } ∷ record { at = 6; waits = None; events = second } ∷ []
 
+-- how many packets went from rank to rank
 abbrev pub packets : List Packets
 packets = record { from = 0; to = 1; count = 1 } ∷ []
 

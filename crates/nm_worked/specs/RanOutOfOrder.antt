@@ -9,9 +9,11 @@ use Rattle.nm_history.specs.declared.events.Happened.TheVariants.{Ran}
 use Rattle.nm_history.specs.RankRun.{IsRankRun}
 use Rattle.nm_worked.specs.Small.{at, run_on, rank_line}
 
+-- the script
 abbrev pub script : List Line
 script = rank_line 0 (command.Wait 0) ∷ rank_line 0 (command.Wait 1) ∷ []
 
+-- the first rank
 abbrev pub first : List Event
 first =
     at 1 (Ran 3 answer.Null)

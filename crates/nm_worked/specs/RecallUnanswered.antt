@@ -10,12 +10,14 @@ use Rattle.nm_history.specs.declared.events.Happened.TheVariants.{Send, Arrive, 
 use Rattle.nm_history.specs.Quiescence.{AreQuiescent}
 use Rattle.nm_worked.specs.Small.{at, rank_line}
 
+-- the script
 abbrev pub script : List Line
 script =
     rank_line 0 (command.Send 0 1 7 0 (Hex (1 ∷ [])) false)
     ∷ rank_line 0 (command.Cancel 0)
     ∷ rank_line 0 (command.Wait 0) ∷ []
 
+-- the first rank
 abbrev pub first : List Event
 first =
     at 1 (Send 1 0 7 0 1 Eager 2)
@@ -24,6 +26,7 @@ first =
     ∷ at 4 (Ran 3 answer.Asked)
     ∷ at 5 (Out 1 0) ∷ []
 
+-- the second rank
 abbrev pub second : List Event
 second =
     at 2 (Arrive (record { n = 0; env = record { from = 0; tag = 7; ctx = 0; len = 1; how = Eager } }))
@@ -33,5 +36,10 @@ second =
 -- the rule that it breaks
 abbrev pub IsLawful : Type 0
 IsLawful =
-    AreQuiescent script (record { at = 2; waits = Some 4; events = first } ∷ record { at = 0; waits = None; events = second } ∷ [])
+    AreQuiescent script (record { at = 2; waits = Some 4; events = first } ∷ record {
+      at = 0;
+      waits = None;
+      events =
+          second;
+    } ∷ [])
     (record { from = 0; to = 1; count = 2 } ∷ record { from = 1; to = 0; count = 1 } ∷ [])

@@ -13,6 +13,7 @@ use Rattle.nm_history.specs.declared.events.Happened.TheVariants.{Send, Post, Ar
 use Rattle.nm_history.specs.RankRun.{IsRankRun}
 use Rattle.nm_worked.specs.Small.{at, run_on, rank_line}
 
+-- the script
 abbrev pub script : List Line
 script =
     rank_line 0 (command.Send 0 0 4 0 (Hex (10 ∷ [])) false)
@@ -20,6 +21,7 @@ script =
     ∷ rank_line 0 (command.Recv 1 (peer.One 0) (pick.One 4) 0 1)
     ∷ rank_line 0 (command.Wait 1) ∷ []
 
+-- the first rank
 abbrev pub first : List Event
 first =
     at 1 (Send 0 0 4 0 1 Eager 2)

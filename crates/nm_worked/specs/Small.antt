@@ -6,6 +6,7 @@ use Rattle.nm_types.specs.Sizes.{Sizes}
 use Rattle.nm_history.specs.declared.events.Event.{Event}
 use Rattle.nm_history.specs.declared.events.Happened.{Happened}
 
+-- what happened, with its stamp
 abbrev pub at : ℕ → Happened → Event
 at stamp what = record { stamp = stamp; what = what }
 
@@ -13,5 +14,6 @@ at stamp what = record { stamp = stamp; what = what }
 abbrev pub run_on : ℕ → Sizes
 run_on ranks = record { ranks = ranks; cells = 8; eager = 1024 }
 
+-- a command of a rank
 abbrev pub rank_line : ℕ → Command → Line
 rank_line rank command = record { rank = rank; command = command }

@@ -13,6 +13,7 @@ use Rattle.nm_history.specs.declared.events.Happened.TheVariants.{Send, Post, Ar
 use Rattle.nm_history.specs.RankRun.{IsRankRun}
 use Rattle.nm_worked.specs.Small.{at, run_on, rank_line}
 
+-- the script
 abbrev pub script : List Line
 script =
     rank_line 0 (command.Send 0 1 7 0 (Hex (104 ∷ [])) false)
@@ -20,6 +21,7 @@ script =
     ∷ rank_line 1 (command.Recv 0 (peer.One 0) (pick.One 7) 0 16)
     ∷ rank_line 1 (command.Wait 0) ∷ []
 
+-- the first rank
 abbrev pub first : List Event
 first =
     at 1 (Send 1 0 7 0 1 Eager 2)
@@ -27,6 +29,7 @@ first =
     ∷ at 2 (Out 1 0)
     ∷ at 4 (Ran 3 answer.Sent) ∷ []
 
+-- the second rank
 abbrev pub second : List Event
 second =
     at 1 (Post (record { number = 0; from = peer.One 0; tag = pick.One 7; ctx = 0; cap = 16 }) 4)

@@ -12,6 +12,7 @@ use Rattle.nm_history.specs.declared.events.Happened.TheVariants.{Ran}
 use Rattle.nm_history.specs.RankRun.{IsRankRun}
 use Rattle.nm_worked.specs.Small.{at, run_on, rank_line}
 
+-- the script
 abbrev pub script : List Line
 script =
     rank_line 0 (command.Send 0 1 7 0 (Hex (104 ∷ [])) false)
@@ -19,6 +20,7 @@ script =
     ∷ rank_line 1 (command.Recv 0 (peer.One 0) (pick.One 7) 0 16)
     ∷ rank_line 1 (command.Wait 0) ∷ []
 
+-- the first rank
 abbrev pub first : List Event
 first =
     at 2 (Ran 2 answer.Started) ∷ []

@@ -11,6 +11,7 @@ use Rattle.nm_history.specs.Quiescence.{Ended, Packets}
 use Rattle.nm_history.specs.Run.{IsRunOf}
 use Rattle.nm_worked.specs.Small.{at, run_on, rank_line}
 
+-- the script
 abbrev pub script : List Line
 script =
     rank_line 1 (command.Recv 0 (peer.One 0) (pick.One 7) 0 16)
@@ -26,9 +27,11 @@ second =
     at 1 (Post (record { number = 0; from = peer.One 0; tag = pick.One 7; ctx = 0; cap = 16 }) 2)
     ∷ at 2 (Ran 2 answer.Started) ∷ []
 
+-- where each rank stands at the end, and what happened there
 abbrev pub ranks : List Ended
 ranks = record { at = 0; waits = None; events = first } ∷ record { at = 1; waits = Some 3; events = second } ∷ []
 
+-- how many packets went from rank to rank
 abbrev pub packets : List Packets
 packets = []
 

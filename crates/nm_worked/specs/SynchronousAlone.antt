@@ -11,6 +11,7 @@ use Rattle.nm_history.specs.Quiescence.{Ended, Packets}
 use Rattle.nm_history.specs.Run.{IsRunOf}
 use Rattle.nm_worked.specs.Small.{at, run_on, rank_line}
 
+-- the script
 abbrev pub script : List Line
 script =
     rank_line 0 (command.Send 0 1 0 0 (Hex []) true)
@@ -27,9 +28,11 @@ abbrev pub second : List Event
 second =
     at 2 (Arrive (record { n = 0; env = record { from = 0; tag = 0; ctx = 0; len = 0; how = Ask } })) ∷ []
 
+-- where each rank stands at the end, and what happened there
 abbrev pub ranks : List Ended
 ranks = record { at = 1; waits = Some 3; events = first } ∷ record { at = 0; waits = None; events = second } ∷ []
 
+-- how many packets went from rank to rank
 abbrev pub packets : List Packets
 packets = record { from = 0; to = 1; count = 1 } ∷ []
 

@@ -13,6 +13,7 @@ use Rattle.nm_history.specs.Quiescence.{Ended, Packets}
 use Rattle.nm_history.specs.Run.{IsRunOf}
 use Rattle.nm_worked.specs.Small.{at, run_on, rank_line}
 
+-- the script
 abbrev pub script : List Line
 script =
     rank_line 0 (command.Recv 0 (peer.One 0) (pick.One 3) 0 4)
@@ -37,9 +38,11 @@ only =
     ∷ at 10 (Ran 6 answer.Null)
     ∷ at 11 (Ran 7 answer.Sent) ∷ []
 
+-- where each rank stands at the end, and what happened there
 abbrev pub ranks : List Ended
 ranks = record { at = 6; waits = None; events = only } ∷ []
 
+-- how many packets went from rank to rank
 abbrev pub packets : List Packets
 packets = record { from = 0; to = 0; count = 1 } ∷ []
 

@@ -13,6 +13,7 @@ use Rattle.nm_history.specs.Quiescence.{Ended, Packets}
 use Rattle.nm_history.specs.Run.{IsRunOf}
 use Rattle.nm_worked.specs.Small.{at, run_on, rank_line}
 
+-- the script
 abbrev pub script : List Line
 script =
     rank_line 0 (command.Send 0 1 1 0 (Hex (161 ∷ [])) false)
@@ -50,9 +51,11 @@ second =
     ∷ at 10 (Ran 8 answer.Started)
     ∷ at 11 (Ran 9 (answer.Got 0 1 (161 ∷ []))) ∷ []
 
+-- where each rank stands at the end, and what happened there
 abbrev pub ranks : List Ended
 ranks = record { at = 4; waits = None; events = first } ∷ record { at = 4; waits = None; events = second } ∷ []
 
+-- how many packets went from rank to rank
 abbrev pub packets : List Packets
 packets = record { from = 0; to = 1; count = 2 } ∷ []
 

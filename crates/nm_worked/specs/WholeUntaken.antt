@@ -13,6 +13,7 @@ use Rattle.nm_history.specs.declared.events.Happened.TheVariants.{Send, Arrive, 
 use Rattle.nm_history.specs.RankRun.{IsRankRun}
 use Rattle.nm_worked.specs.Small.{at, run_on, rank_line}
 
+-- the script
 abbrev pub script : List Line
 script =
     rank_line 0 (command.Send 0 1 0 0 (Hex []) true)
@@ -20,11 +21,13 @@ script =
     ∷ rank_line 1 (command.Recv 0 (peer.One 0) (pick.One 0) 0 0)
     ∷ rank_line 1 (command.Wait 0) ∷ []
 
+-- the first rank
 abbrev pub first : List Event
 first =
     at 1 (Send 1 0 0 0 0 Ask 2)
     ∷ at 2 (Ran 2 answer.Started) ∷ []
 
+-- the second rank
 abbrev pub second : List Event
 second =
     at 2 (Arrive (record { n = 0; env = record { from = 0; tag = 0; ctx = 0; len = 0; how = Ask } }))

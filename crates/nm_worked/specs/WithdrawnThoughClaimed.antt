@@ -9,10 +9,12 @@ use Rattle.nm_types.specs.declared.scripts.Command.TheVariants as command
 use Rattle.nm_types.specs.declared.scripts.Line.{Line}
 use Rattle.nm_types.specs.declared.answers.Answer.TheVariants as answer
 use Rattle.nm_history.specs.declared.events.Event.{Event}
-use Rattle.nm_history.specs.declared.events.Happened.TheVariants.{Send, Arrive, Whole, Out, Recall, Withdraw, Undone, Claim, Match, Ran}
+use Rattle.nm_history.specs.declared.events.Happened.TheVariants.{Send, Arrive, Whole, Out, Recall, Withdraw, Undone}
+use Rattle.nm_history.specs.declared.events.Happened.TheVariants.{Claim, Match, Ran}
 use Rattle.nm_history.specs.RankRun.{IsRankRun}
 use Rattle.nm_worked.specs.Small.{at, run_on, rank_line}
 
+-- the script
 abbrev pub script : List Line
 script =
     rank_line 0 (command.Send 0 0 4 0 (Hex (10 ∷ [])) true)
@@ -23,6 +25,7 @@ script =
     ∷ rank_line 0 (command.Wait 1)
     ∷ rank_line 0 (command.Wait 0) ∷ []
 
+-- the first rank
 abbrev pub first : List Event
 first =
     at 1 (Send 0 0 4 0 1 Ask 2)

@@ -11,15 +11,18 @@ use Rattle.nm_history.specs.declared.events.Happened.TheVariants.{Send, Arrive, 
 use Rattle.nm_history.specs.Delivery.{AreDelivered}
 use Rattle.nm_worked.specs.Small.{at, rank_line}
 
+-- the script
 abbrev pub script : List Line
 script = rank_line 0 (command.Send 0 1 7 0 (Hex (1 ∷ [])) false) ∷ []
 
+-- the first rank
 abbrev pub first : List Event
 first =
     at 1 (Send 1 0 7 0 1 Eager 2)
     ∷ at 2 (Ran 2 answer.Started)
     ∷ at 3 (Out 1 0) ∷ []
 
+-- the second rank
 abbrev pub second : List Event
 second =
     at 2 (Arrive (record { n = 0; env = record { from = 0; tag = 7; ctx = 0; len = 1; how = Eager } }))

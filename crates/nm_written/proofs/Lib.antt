@@ -1,2 +1,2 @@
-pub mod RangeLemmas
-pub mod WrittenLemmas
+mod RangeLemmas
+mod WrittenLemmas

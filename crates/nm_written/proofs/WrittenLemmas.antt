@@ -15,8 +15,10 @@ use Rattle.nm_trace.specs.Traces.{EndIn}
 use Rattle.nm_written.specs.Ranges.{ReadIn}
 
 -- each command that ran has its line
-ran_one : (what : Happened) (rest : List ℕ) (events : List Event) (e : Event) → length rest ≡ length (filter (λ event. is_ran event.what) events) →
-    length (cons_option (ran_of what) rest) ≡ length (cond (is_ran what) (e ∷ filter (λ event. is_ran event.what) events) (filter (λ event. is_ran event.what) events))
+ran_one : (what : Happened) (rest : List ℕ) (events : List Event) (e : Event) →
+    length rest ≡ length (filter (λ event. is_ran event.what) events) →
+    length (cons_option (ran_of what) rest) ≡ length
+    (cond (is_ran what) (e ∷ filter (λ event. is_ran event.what) events) (filter (λ event. is_ran event.what) events))
 ran_one (Ran line answer) rest events e same = grind (arith, same)
 ran_one what rest events e same = same
 
@@ -32,11 +34,14 @@ at_counted shape commands at h run =
     ∙ sym (ap (λ (xs : List ℕ). length xs) run.answers.in_order) ∙ ran_counted h
 
 -- what is so of each rank by its number is so of all
-all_ranks : (R : ℕ → Ended → Type 0) (P : Ended → Type 0) → ((i : ℕ) (e : Ended) → R i e → P e) → (es : List Ended) → EachRank R es → AllByRecursion P es
+all_ranks : (R : ℕ → Ended → Type 0) (P : Ended → Type 0) → ((i : ℕ) (e : Ended) → R i e → P e) →
+    (es : List Ended) → EachRank R es → AllByRecursion P es
 all_ranks R P gives [] each = tt
-all_ranks R P gives (e ∷ es) each = (gives 0 e (each 0), all_ranks (λ i. R (suc i)) P (λ i. gives (suc i)) es (λ i. each (suc i)))
+all_ranks R P gives (e ∷ es) each =
+    (gives 0 e (each 0), all_ranks (λ i. R (suc i)) P (λ i. gives (suc i)) es (λ i. each (suc i)))
 
-both : (es : List Ended) → AllByRecursion ReadIn es → AllByRecursion (λ e. e.at ≡ length (filter (λ event. is_ran event.what) e.events)) es → AllByRecursion EndIn es
+both : (es : List Ended) → AllByRecursion ReadIn es →
+    AllByRecursion (λ e. e.at ≡ length (filter (λ event. is_ran event.what) e.events)) es → AllByRecursion EndIn es
 both [] read counted = tt
 both (e ∷ es) read counted =
     (record { events = read.0.0; waits = read.0.1; at = counted.0 }, both es read.1 counted.1)

@@ -44,9 +44,11 @@ fn seen_fits(seen: Seen)
     let _len = seen.len;
 }
 
-fn answer_fits(answer: &Answer)
-    ensures { AnswerIn answer.now }
+fn answer_fits(answer: &Answer, line: u32)
+    ensures answer { AnswerIn answer.now }
+    ensures line { line < 2 ^ 32 }
 {
+    let _line = line;
     match answer {
         Answer::Got { from, tag, body } => {
             let _from = *from;
@@ -63,9 +65,11 @@ fn answer_fits(answer: &Answer)
     }
 }
 
-fn post_fits(post: Post)
-    ensures { PostIn post }
+fn post_fits(post: Post, line: u32)
+    ensures post { PostIn post }
+    ensures line { line < 2 ^ 32 }
 {
+    let _line = line;
     let _number = post.number;
     peer_fits(post.from);
     pick_fits(post.tag);
@@ -98,28 +102,17 @@ fn what_fits(what: &Happened)
         } => {
             let _read = (*to, *n, *tag, *ctx, *len, *line);
         }
-        Happened::Post { post, line } => {
-            post_fits(*post);
-            let _read = *line;
-        }
+        Happened::Post { post, line } => post_fits(*post, *line),
         Happened::Arrive { a } => arrival_fits(*a),
-        Happened::Whole { from, n } => {
-            let _read = (*from, *n);
-        }
-        Happened::Out { to, n } => {
-            let _read = (*to, *n);
+        Happened::Whole { from: rank, n }
+        | Happened::Out { to: rank, n }
+        | Happened::Recall { to: rank, n }
+        | Happened::Withdraw { from: rank, n, .. }
+        | Happened::Undone { to: rank, n, .. } => {
+            let _read = (*rank, *n);
         }
         Happened::Cancel { number, .. } => {
             let _read = *number;
-        }
-        Happened::Recall { to, n } => {
-            let _read = (*to, *n);
-        }
-        Happened::Withdraw { from, n, .. } => {
-            let _read = (*from, *n);
-        }
-        Happened::Undone { to, n, .. } => {
-            let _read = (*to, *n);
         }
         Happened::Claim { from, n, line } => {
             let _read = (*from, *n, *line);
@@ -133,10 +126,7 @@ fn what_fits(what: &Happened)
         } => {
             let _read = (*number, *from, *n, *cap, *line);
         }
-        Happened::Ran { line, answer } => {
-            answer_fits(answer);
-            let _read = *line;
-        }
+        Happened::Ran { line, answer } => answer_fits(answer, *line),
     }
 }
 

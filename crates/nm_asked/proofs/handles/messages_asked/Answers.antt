@@ -4,10 +4,10 @@ use Rattle.std.proofs.lemmas.Option.{slice_get_read}
 use Rattle.nm_types.specs.Commands.{commands_of}
 use Rattle.nm_history.specs.declared.events.Event.{Event}
 use Rattle.nm_places.specs.declared.firsts.Message.{Message}
-use Rattle.nm_places.proofs.StepLemmas.{take_next}
 use Rattle.nm_asked.specs.Asked.{AreHandles, asked_message, message_meant}
 use Rattle.nm_asked.proofs.UpToLemmas.{UpTo, up_to_all, up_to_next}
 use Rattle.nm_asked.proofs.handles.messages_asked.Goals as goal
+use Rattle.nm_facts.proofs.Lists.{take_next}
 
 pub loop-k-preserved : goal.loop-k-preserved
 loop-k-preserved c =

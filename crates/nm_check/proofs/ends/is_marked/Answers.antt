@@ -17,7 +17,8 @@ unfolding ended
 returns c =
     let ranks : List RankAccount = c.args.run.now.ranks in
     let all : c.are_all_done.result ≡ list_all (λ (rank : RankAccount). is_none rank.waits) ranks =
-    c.are_all_done.ensures ∙ ap (λ (rs : List RankAccount). list_all (λ (rank : RankAccount). is_none rank.waits) rs) c.as_slice.ensures in
+    c.are_all_done.ensures ∙ ap (λ (rs : List RankAccount). list_all (λ (rank : RankAccount). is_none rank.waits) rs)
+    c.as_slice.ensures in
     subst (λ (d : Bool). Decides (beq c.args.run.now.done c.are_all_done.result) (c.args.run.now.done ≡ d))
     (all ∙ sym (list_all-map (λ (rank : Ended). is_none rank.waits) ended ranks))
     (same_decided c.args.run.now.done c.are_all_done.result)

@@ -14,14 +14,17 @@ judge_pairs-requires-clause-runs c = (c.args.run.now.shape, (rw c.in-Run.is at c
 -- the verdict where no rule of ranks is broken
 last_first : (c : goal.After-drop-tables-2) → Judges c.args.script.now.lines c.args.run.now c.judge_ends.result
 last_first c =
-    let many : length (ends_of c.args.run.now.ranks) ≡ c.args.run.now.shape.ranks = length-map c.args.run.now.ranks ended ∙ c.requires.whole in
+    let many : length (ends_of c.args.run.now.ranks) ≡ c.args.run.now.shape.ranks =
+    length-map c.args.run.now.ranks ended ∙ c.requires.whole in
     let runs : EachRank (RunsItsOwn c.args.run.now.shape c.args.script.now.lines) (ends_of c.args.run.now.ranks) =
     rw (c.as_slice-lines.ensures, c.as_slice-ranks.ensures) at ((rw c.in-Run.is at c.in_ok-tables.ensures).0) in
     let delivered : EachPair (PairDelivered c.args.script.now.lines) (ends_of c.args.run.now.ranks) =
     rw (c.as_slice-lines.ensures, c.as_slice-ranks.ensures) at (rw c.in_default.is at c.in_ok-pair.ensures) in
-    let quiescent : AreQuiescent c.args.script.now.lines (ends_of c.args.run.now.ranks) (packets_of c.args.run.now.pairs) =
+    let quiescent : AreQuiescent c.args.script.now.lines (ends_of c.args.run.now.ranks)
+    (packets_of c.args.run.now.pairs) =
     rw (c.as_slice-lines.ensures, c.as_slice-ranks.ensures, c.as_slice.ensures) at c.in_default-judge_rest.ensures in
-    c.judge_ends.ensures c.args.script.now.lines (record { one_each = many; rank_runs = runs; delivered = delivered; quiescent = quiescent })
+    c.judge_ends.ensures c.args.script.now.lines
+    (record { one_each = many; rank_runs = runs; delivered = delivered; quiescent = quiescent })
 
 pub returns-clause-first : goal.returns-clause-first
 returns-clause-first c = last_first c

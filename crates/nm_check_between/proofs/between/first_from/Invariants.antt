@@ -10,5 +10,6 @@ use Rattle.nm_check_between.proofs.between.first_from.Given as goal
 -- the messages to the ranks so far are delivered
 abbrev pub invariant-loop-j : goal.invariant-loop-j
 invariant-loop-j l =
-    (lines : List Line) (ranks : List Ended) (hi : List Event) → history_of ranks l.i ≡ hi → AreMarks lines ranks l.i hi l.sender →
+    (lines : List Line) (ranks : List Ended) (hi : List Event) → history_of ranks l.i ≡ hi →
+    AreMarks lines ranks l.i hi l.sender →
     EachMarked lines ranks l.marks → UpTo (λ j rank. PairDelivered lines l.i j hi rank.events) ranks l.j

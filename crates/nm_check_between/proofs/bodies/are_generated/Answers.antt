@@ -9,12 +9,14 @@ returns-then-bytes-from c = λ same.
 
 pub loop-k-preserved : goal.loop-k-preserved
 loop-k-preserved c =
-    below_more (λ i. get_or c.args.bytes.now i 0 ≡ generated_byte i) c.loop-k.k c.loop-k.invariant (c.if-byte-generated.false ∙ c.generated.ensures)
+    below_more (λ i. get_or c.args.bytes.now i 0 ≡ generated_byte i) c.loop-k.k c.loop-k.invariant
+    (c.if-byte-generated.false ∙ c.generated.ensures)
 
 pub returns-then-byte-generated : goal.returns-then-byte-generated
 returns-then-byte-generated c = λ same.
     c.if-byte-generated.true (ap (λ (xs : List ℕ). get_or xs c.loop-k.k 0) same
-    ∙ generated_at c.args.len c.loop-k.k (omega (arith, c.if-bytes-from.false, c.from.ensures)) ∙ sym c.generated.ensures)
+    ∙ generated_at c.args.len c.loop-k.k (omega (arith, c.if-bytes-from.false, c.from.ensures))
+    ∙ sym c.generated.ensures)
 
 pub returns : goal.returns
 returns c =

@@ -10,5 +10,7 @@ use Rattle.nm_check_between.proofs.bodies.is_sent_at.Goals as goal
 pub returns : goal.returns
 returns c = λ e here.
     subst (λ (x : Event). Decides c.is_send_with.result (IsSomeAnd (sent_of x.stamp x.what)
-    (λ s. IsSomeAnd (command_at (commands_of c.args.i c.args.lines.now) s.line) (λ b. c.args.bytes.now ≡ sent_bytes b))))
-    (c.index-events-place.is ∙ get_or_from_slice_get c.args.events.now c.args.place e c.index-events-place.result here) c.is_send_with.ensures
+    (λ s. IsSomeAnd (command_at (commands_of c.args.i c.args.lines.now) s.line)
+    (λ b. c.args.bytes.now ≡ sent_bytes b))))
+    (c.index-events-place.is ∙ get_or_from_slice_get c.args.events.now c.args.place e c.index-events-place.result
+    here) c.is_send_with.ensures

@@ -9,4 +9,5 @@ use Rattle.nm_check_between.proofs.bodies.mark_bodies.Given as goal
 -- the ranks are marked with which the events so far break the rule
 abbrev pub invariant-loop-k : goal.invariant-loop-k
 invariant-loop-k l = (length l.marks ≡ 256)
-    × AreMarked (λ i before e. BodyAt i (commands_of i l.lines) (sends (history_of (ends_of l.ranks) i) l.j) (commands_of l.j l.lines) before e.what) (take l.k l.events) l.marks
+    × AreMarked (λ i before e. BodyAt i (commands_of i l.lines) (sends (history_of (ends_of l.ranks) i) l.j)
+    (commands_of l.j l.lines) before e.what) (take l.k l.events) l.marks

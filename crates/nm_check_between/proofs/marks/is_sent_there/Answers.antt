@@ -10,4 +10,5 @@ pub returns : goal.returns
 returns c = λ e here.
     subst (λ (x : Event). Decides c.is_send_of.result (IsSomeAnd (sent_of x.stamp x.what)
     (λ s. (c.args.a.now.env ≡ envelope c.args.a.now.env.from s) × (s.stamp < c.args.stamp))))
-    (c.index-events-place.is ∙ get_or_from_slice_get c.args.events.now c.args.place e c.index-events-place.result here) c.is_send_of.ensures
+    (c.index-events-place.is ∙ get_or_from_slice_get c.args.events.now c.args.place e c.index-events-place.result
+    here) c.is_send_of.ensures

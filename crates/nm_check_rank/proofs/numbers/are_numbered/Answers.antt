@@ -3,8 +3,9 @@ use Rattle.std.proofs.lemmas.List.{length-take-le}
 use Rattle.nm_history.specs.declared.events.Event.{Event}
 use Rattle.nm_history.specs.RankRun.{NumberAt}
 use Rattle.nm_check_rank.specs.Counted.{AreCounted}
-use Rattle.nm_places.proofs.StepLemmas.{all_kept, breaks, goes_on, none_yet, take_next}
+use Rattle.nm_places.proofs.StepLemmas.{all_kept, breaks, goes_on, none_yet}
 use Rattle.nm_check_rank.proofs.numbers.are_numbered.Goals as goal
+use Rattle.nm_facts.proofs.Lists.{take_next}
 
 pub loop-e-init : goal.loop-e-init
 loop-e-init c = (c.none-counts.ensures, none_yet (λ before e. NumberAt c.args.ranks before e.what) c.args.events.now)

@@ -1,8 +1,9 @@
 use Rattle.std.proofs.Common.{◌≡◌, ℕ, ◌<◌, arith, refl, sym, ◌∙◌, ap, subst, length, take, get_or}
 use Rattle.nm_history.specs.RankRun.{StampAt, last_stamp}
 use Rattle.nm_history.proofs.EarlierLemmas.{last_stamp-push}
-use Rattle.nm_places.proofs.StepLemmas.{all_kept, breaks, goes_on, none_yet, take_next}
+use Rattle.nm_places.proofs.StepLemmas.{all_kept, breaks, goes_on, none_yet}
 use Rattle.nm_check_rank.proofs.stamps.stamps_rise.Goals as goal
+use Rattle.nm_facts.proofs.Lists.{take_next}
 
 pub loop-e-init : goal.loop-e-init
 loop-e-init c = (refl, none_yet (λ before e. StampAt before e.stamp) c.args.events.now)

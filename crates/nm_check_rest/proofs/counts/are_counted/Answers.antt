@@ -21,11 +21,15 @@ pub loop-i-preserved : goal.loop-i-preserved
 loop-i-preserved c = λ lines.
     let pairs : c.pairs.result.now ≡ matched_pairs c.index-ranks-i.result.history.events =
     c.pairs.ensures c.loop-i.i c.requires.tabled.0 c.index-ranks-i.result.history.events
-    (tables_at c.args.ranks.now c.args.tables.now c.loop-i.i c.index-ranks-i.result (get_or c.args.tables.now c.loop-i.i c.index-tables-i.result) c.requires.tabled
-    c.loop-i-test.true c.index-ranks-i.is (ap (λ (t : Tables). get_or c.args.tables.now c.loop-i.i t) c.index-tables-i.is)).tells in
+    (tables_at c.args.ranks.now c.args.tables.now c.loop-i.i c.index-ranks-i.result
+    (get_or c.args.tables.now c.loop-i.i c.index-tables-i.result) c.requires.tabled
+    c.loop-i-test.true c.index-ranks-i.is
+    (ap (λ (t : Tables). get_or c.args.tables.now c.loop-i.i t) c.index-tables-i.is)).tells in
     let due : AreDue c.counts_of-counts.result (packets_to c.index-ranks-i.result.history.events) =
-    rw c.as_slice-events.ensures at (c.counts_of-counts.ensures (pairs ∙ ap (λ (h : List Event). matched_pairs h) (sym c.as_slice-events.ensures))) in
-    rank_more lines c.args.ranks.now c.loop-i.i c.index-ranks-i.result c.loop-i-test.true c.index-ranks-i.is (packets_of c.args.pairs.now)
+    rw c.as_slice-events.ensures at
+    (c.counts_of-counts.ensures (pairs ∙ ap (λ (h : List Event). matched_pairs h) (sym c.as_slice-events.ensures))) in
+    rank_more lines c.args.ranks.now c.loop-i.i c.index-ranks-i.result c.loop-i-test.true c.index-ranks-i.is
+    (packets_of c.args.pairs.now)
     (packets_of c.loop-i.left.now) (packets_of c.in-Some.others.now) (c.loop-i.invariant lines)
     (c.in-Some.ensures (packets_to c.index-ranks-i.result.history.events) due)
 
@@ -33,11 +37,15 @@ pub returns-in-None : goal.returns-in-None
 returns-in-None c = λ lines same.
     let pairs : c.pairs.result.now ≡ matched_pairs c.index-ranks-i.result.history.events =
     c.pairs.ensures c.loop-i.i c.requires.tabled.0 c.index-ranks-i.result.history.events
-    (tables_at c.args.ranks.now c.args.tables.now c.loop-i.i c.index-ranks-i.result (get_or c.args.tables.now c.loop-i.i c.index-tables-i.result) c.requires.tabled
-    c.loop-i-test.true c.index-ranks-i.is (ap (λ (t : Tables). get_or c.args.tables.now c.loop-i.i t) c.index-tables-i.is)).tells in
+    (tables_at c.args.ranks.now c.args.tables.now c.loop-i.i c.index-ranks-i.result
+    (get_or c.args.tables.now c.loop-i.i c.index-tables-i.result) c.requires.tabled
+    c.loop-i-test.true c.index-ranks-i.is
+    (ap (λ (t : Tables). get_or c.args.tables.now c.loop-i.i t) c.index-tables-i.is)).tells in
     let due : AreDue c.counts_of-counts.result (packets_to c.index-ranks-i.result.history.events) =
-    rw c.as_slice-events.ensures at (c.counts_of-counts.ensures (pairs ∙ ap (λ (h : List Event). matched_pairs h) (sym c.as_slice-events.ensures))) in
-    rank_breaks lines c.args.ranks.now c.loop-i.i c.index-ranks-i.result c.loop-i-test.true c.index-ranks-i.is (packets_of c.args.pairs.now)
+    rw c.as_slice-events.ensures at
+    (c.counts_of-counts.ensures (pairs ∙ ap (λ (h : List Event). matched_pairs h) (sym c.as_slice-events.ensures))) in
+    rank_breaks lines c.args.ranks.now c.loop-i.i c.index-ranks-i.result c.loop-i-test.true c.index-ranks-i.is
+    (packets_of c.args.pairs.now)
     (packets_of c.loop-i.left.now) (c.loop-i.invariant lines)
     (c.in-None.ensures (packets_to c.index-ranks-i.result.history.events) due) same
 
@@ -46,7 +54,9 @@ returns c = λ lines.
     let ends : List Ended = ends_of c.args.ranks.now in
     let many : length ends ≡ length c.args.ranks.now = length-map c.args.ranks.now ended in
     let over : length ends ≤ c.loop-i.i = omega (arith, many, c.loop-i-test.false) in
-    all_decided (packets_of c.args.pairs.now) (packets_of c.loop-i.left.now) (packets_by_rank lines (range_with_len 0 (length ends)) 0 ends) c.is_empty.result
-    (subst (λ (es : List Ended). packets_of c.args.pairs.now ≡ packets_by_rank lines (range_with_len 0 (length ends)) 0 es ++ packets_of c.loop-i.left.now)
+    all_decided (packets_of c.args.pairs.now) (packets_of c.loop-i.left.now)
+    (packets_by_rank lines (range_with_len 0 (length ends)) 0 ends) c.is_empty.result
+    (subst (λ (es : List Ended). packets_of c.args.pairs.now ≡ packets_by_rank lines (range_with_len 0 (length ends))
+    0 es ++ packets_of c.loop-i.left.now)
     (take_all c.loop-i.i ends over) (c.loop-i.invariant lines))
     (rw length-map c.is_empty.ensures)

@@ -9,4 +9,5 @@ use Rattle.nm_check_rest.proofs.counts.are_counted.Given as goal
 abbrev pub invariant-loop-i : goal.invariant-loop-i
 invariant-loop-i l =
     (lines : List Line) →
-    packets_of l.pairs ≡ packets_by_rank lines (range_with_len 0 (length (ends_of l.ranks))) 0 (take l.i (ends_of l.ranks)) ++ packets_of l.left
+    packets_of l.pairs ≡ packets_by_rank lines (range_with_len 0 (length (ends_of l.ranks))) 0
+    (take l.i (ends_of l.ranks)) ++ packets_of l.left

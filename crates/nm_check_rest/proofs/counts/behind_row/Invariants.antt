@@ -5,4 +5,5 @@ use Rattle.nm_check_rest.proofs.counts.behind_row.Given as goal
 
 -- the counts for the ranks so far come first
 abbrev pub invariant-loop-to : goal.invariant-loop-to
-invariant-loop-to l = (due : ℕ → ℕ) → AreDue l.counts due → packets_of l.pairs ≡ row_from l.from due 0 l.to ++ packets_of l.left
+invariant-loop-to l = (due : ℕ → ℕ) → AreDue l.counts due → packets_of l.pairs ≡ row_from l.from due 0 l.to ++
+    packets_of l.left

@@ -12,16 +12,21 @@ loop-pair-init c = λ due before. due_same c.args.counts due (λ to. due to + 0)
 
 pub loop-pair-preserved : goal.loop-pair-preserved
 loop-pair-preserved c = λ due before.
-    due_same c.add.new.counts (λ to. due to + count_by (is_clear to) (take c.loop-pair.pair-index c.args.pairs.now) + load_to to c.load_of_pair.result)
+    due_same c.add.new.counts (λ to. due to + count_by (is_clear to) (take c.loop-pair.pair-index c.args.pairs.now) +
+    load_to to c.load_of_pair.result)
     (λ to. due to + count_by (is_clear to) (take (c.loop-pair.pair-index + 1) c.args.pairs.now))
-    (λ to. add_assoc (due to) (count_by (is_clear to) (take c.loop-pair.pair-index c.args.pairs.now)) (load_to to c.load_of_pair.result)
-    ∙ ap (λ n. due to + n) (ap (λ n. count_by (is_clear to) (take c.loop-pair.pair-index c.args.pairs.now) + n) (c.load_of_pair.ensures to)
+    (λ to. add_assoc (due to) (count_by (is_clear to) (take c.loop-pair.pair-index c.args.pairs.now))
+    (load_to to c.load_of_pair.result)
+    ∙ ap (λ n. due to + n) (ap (λ n. count_by (is_clear to) (take c.loop-pair.pair-index c.args.pairs.now) + n)
+    (c.load_of_pair.ensures to)
     ∙ one_pair (is_clear to) c.args.pairs.now c.loop-pair.pair-index _ c.loop-pair-test.true))
-    (c.add.ensures (λ to. due to + count_by (is_clear to) (take c.loop-pair.pair-index c.args.pairs.now)) (c.loop-pair.invariant due before))
+    (c.add.ensures (λ to. due to + count_by (is_clear to) (take c.loop-pair.pair-index c.args.pairs.now))
+    (c.loop-pair.invariant due before))
 
 pub returns : goal.returns
 returns c = λ due before.
     due_same c.loop-pair.counts (λ to. due to + count_by (is_clear to) (take c.loop-pair.pair-index c.args.pairs.now))
     (λ to. due to + count_by (is_clear to) c.args.pairs.now)
-    (λ to. ap (λ (ps : List Pair). due to + count_by (is_clear to) ps) (take_all c.loop-pair.pair-index c.args.pairs.now c.loop-pair-test.false))
+    (λ to. ap (λ (ps : List Pair). due to + count_by (is_clear to) ps)
+    (take_all c.loop-pair.pair-index c.args.pairs.now c.loop-pair-test.false))
     (c.loop-pair.invariant due before)

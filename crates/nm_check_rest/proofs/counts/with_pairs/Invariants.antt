@@ -6,4 +6,5 @@ use Rattle.nm_check_rest.proofs.counts.with_pairs.Given as goal
 
 -- the pairs so far are counted
 abbrev pub invariant-loop-pair : goal.invariant-loop-pair
-invariant-loop-pair l = (due : ℕ → ℕ) → AreDue l.fn.counts due → AreDue l.counts (λ to. due to + count_by (is_clear to) (take l.pair-index l.pairs))
+invariant-loop-pair l = (due : ℕ → ℕ) → AreDue l.fn.counts due →
+    AreDue l.counts (λ to. due to + count_by (is_clear to) (take l.pair-index l.pairs))

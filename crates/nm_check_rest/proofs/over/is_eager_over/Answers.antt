@@ -13,16 +13,46 @@ use Rattle.nm_check_rest.proofs.over.is_eager_over.Goals as goal
 
 pub returns-then-j-count : goal.returns-then-j-count
 returns-then-j-count c = λ ranks stamp hi tabled placed. rw c.in-Send.is
-    (none_asked ranks c.args.tables.now c.in-Send.to (λ rank. EagerIsOver c.args.i hi c.in-Send.to rank.events (record { stamp = stamp; to = c.in-Send.to; n = c.in-Send.n; tag = c.in-Send.tag; ctx = c.in-Send.ctx; len = c.in-Send.len; how = c.in-Send.how; line = c.in-Send.line })) tabled c.if-j-count.true)
+    (none_asked ranks c.args.tables.now c.in-Send.to (λ rank. EagerIsOver c.args.i hi c.in-Send.to rank.events
+    (record {
+      stamp = stamp;
+      to = c.in-Send.to;
+      n = c.in-Send.n;
+      tag = c.in-Send.tag;
+      ctx = c.in-Send.ctx;
+      len =
+          c.in-Send.len;
+      how = c.in-Send.how;
+      line = c.in-Send.line;
+    })) tabled c.if-j-count.true)
 
 pub returns-else-j-count : goal.returns-else-j-count
 returns-else-j-count c = λ ranks stamp hi tabled placed. rw c.in-Send.is
-    (decided_at c.is_implied.result (λ rank. AreTables c.in-Send.to tabled.0 rank.events (get_or c.args.tables.now c.in-Send.to c.index-tables-j.result)) (λ rank. EagerIsOver c.args.i hi c.in-Send.to rank.events (record { stamp = stamp; to = c.in-Send.to; n = c.in-Send.n; tag = c.in-Send.tag; ctx = c.in-Send.ctx; len = c.in-Send.len; how = c.in-Send.how; line = c.in-Send.line }))
-    (slice_get ranks c.in-Send.to) (tabled.1.each c.in-Send.to (get_or c.args.tables.now c.in-Send.to c.index-tables-j.result) c.if-j-count.false (ap (λ (x : Tables). get_or c.args.tables.now c.in-Send.to x) c.index-tables-j.is))
+    (decided_at c.is_implied.result
+    (λ rank. AreTables c.in-Send.to tabled.0 rank.events
+    (get_or c.args.tables.now c.in-Send.to c.index-tables-j.result))
+    (λ rank. EagerIsOver c.args.i hi c.in-Send.to rank.events
+    (record {
+      stamp = stamp;
+      to = c.in-Send.to;
+      n = c.in-Send.n;
+      tag = c.in-Send.tag;
+      ctx =
+          c.in-Send.ctx;
+      len = c.in-Send.len;
+      how = c.in-Send.how;
+      line = c.in-Send.line;
+    }))
+    (slice_get ranks c.in-Send.to)
+    (tabled.1.each c.in-Send.to (get_or c.args.tables.now c.in-Send.to c.index-tables-j.result) c.if-j-count.false
+    (ap (λ (x : Tables). get_or c.args.tables.now c.in-Send.to x) c.index-tables-j.is))
     (λ rank its.
-    subst (λ (b : Bool). Decides c.is_implied.result (OnTrue b (IsTrue (is_over c.args.i c.in-Send.to hi rank.events c.in-Send.n)))) c.is_eager.ensures
-    (subst (λ (b : Bool). Decides c.is_implied.result (OnTrue c.is_eager.result (IsTrue b))) (c.is_message_over-over.ensures hi rank.events placed its.places)
+    subst (λ (b : Bool). Decides c.is_implied.result
+    (OnTrue b (IsTrue (is_over c.args.i c.in-Send.to hi rank.events c.in-Send.n)))) c.is_eager.ensures
+    (subst (λ (b : Bool). Decides c.is_implied.result (OnTrue c.is_eager.result (IsTrue b)))
+    (c.is_message_over-over.ensures hi rank.events placed its.places)
     c.is_implied.ensures)))
 
 pub returns-in_default : goal.returns-in_default
-returns-in_default c = λ ranks stamp hi tabled placed. no_send (EagerIsOver c.args.i hi) ranks stamp c.args.what.now c.in_default.not-Send
+returns-in_default c = λ ranks stamp hi tabled placed. no_send (EagerIsOver c.args.i hi) ranks stamp c.args.what.now
+    c.in_default.not-Send

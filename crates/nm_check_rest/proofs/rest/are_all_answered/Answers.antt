@@ -14,17 +14,22 @@ bounds-tables-i c = table_inside c.args.ranks.now c.args.tables.now c.loop-i.i c
 
 pub are_answered-requires : goal.are_answered-requires
 are_answered-requires c = rw c.as_slice-events.ensures
-    (tables_at c.args.ranks.now c.args.tables.now c.loop-i.i c.index-ranks-i.result (get_or c.args.tables.now c.loop-i.i c.index-tables-i.result) c.requires c.loop-i-test.true c.index-ranks-i.is (ap (λ (x : Tables). get_or c.args.tables.now c.loop-i.i x) c.index-tables-i.is)).places
+    (tables_at c.args.ranks.now c.args.tables.now c.loop-i.i c.index-ranks-i.result
+    (get_or c.args.tables.now c.loop-i.i c.index-tables-i.result) c.requires c.loop-i-test.true c.index-ranks-i.is
+    (ap (λ (x : Tables). get_or c.args.tables.now c.loop-i.i x) c.index-tables-i.is)).places
 
 pub loop-i-preserved : goal.loop-i-preserved
 loop-i-preserved c =
-    next_rank (λ i rank. RecallsAnswered rank.events) c.args.ranks.now c.loop-i.i c.index-ranks-i.result c.loop-i-test.true c.index-ranks-i.is c.loop-i.invariant
+    next_rank (λ i rank. RecallsAnswered rank.events) c.args.ranks.now c.loop-i.i c.index-ranks-i.result
+    c.loop-i-test.true c.index-ranks-i.is c.loop-i.invariant
     (rw c.as_slice-events.ensures at (rw c.if-not-are_answered.false at c.are_answered.ensures))
 
 pub returns-then-not-are_answered : goal.returns-then-not-are_answered
 returns-then-not-are_answered c = λ each.
-    rank_breaks (λ i rank. RecallsAnswered rank.events) c.args.ranks.now c.loop-i.i c.index-ranks-i.result c.loop-i-test.true c.index-ranks-i.is
+    rank_breaks (λ i rank. RecallsAnswered rank.events) c.args.ranks.now c.loop-i.i c.index-ranks-i.result
+    c.loop-i-test.true c.index-ranks-i.is
     (rw c.as_slice-events.ensures at (rw c.if-not-are_answered.true at c.are_answered.ensures)) each
 
 pub returns : goal.returns
-returns c = all_ranks (λ i rank. RecallsAnswered rank.events) c.args.ranks.now c.loop-i.i c.loop-i-test.false c.loop-i.invariant
+returns c = all_ranks (λ i rank. RecallsAnswered rank.events) c.args.ranks.now c.loop-i.i c.loop-i-test.false
+    c.loop-i.invariant

@@ -5,19 +5,25 @@ use Rattle.nm_check_rest.proofs.waits.next_place.Goals.{then-line-rank+else-left
 
 pub returns-then-left-eq0 : goal.returns-then-left-eq0
 returns-then-left-eq0 c =
-    it_is c.args.rank c.args.at c.args.lines.now c.loop-k.k c.loop-k.left c.index-lines-k.result c.loop-k-test.true c.index-lines-k.is c.loop-k.invariant
+    it_is c.args.rank c.args.at c.args.lines.now c.loop-k.k c.loop-k.left c.index-lines-k.result c.loop-k-test.true
+    c.index-lines-k.is c.loop-k.invariant
     c.if-line-rank.true c.if-left-eq0.true
 
 pub loop-k-preserved : goal.loop-k-preserved
 loop-k-preserved c =
     elim c.if-line-rank.branch [
-      | then-line-rank+else-left-eq0 w ↦ subst (λ (n : ℕ). ComesAfter c.args.rank c.args.at c.args.lines.now (c.loop-k.k + 1) n) (sym w.left-is)
-          (behind_own c.args.rank c.args.at c.args.lines.now c.loop-k.k c.loop-k.left c.index-lines-k.result c.loop-k-test.true c.index-lines-k.is
+      | then-line-rank+else-left-eq0 w ↦ subst (λ (n : ℕ). ComesAfter c.args.rank c.args.at c.args.lines.now
+          (c.loop-k.k + 1) n) (sym w.left-is)
+          (behind_own c.args.rank c.args.at c.args.lines.now c.loop-k.k c.loop-k.left c.index-lines-k.result
+          c.loop-k-test.true c.index-lines-k.is
           c.loop-k.invariant w.if-line-rank.true w.if-left-eq0.false)
-      | else-line-rank w ↦ subst (λ (n : ℕ). ComesAfter c.args.rank c.args.at c.args.lines.now (c.loop-k.k + 1) n) (sym w.left-is)
-          (behind_other c.args.rank c.args.at c.args.lines.now c.loop-k.k c.loop-k.left c.index-lines-k.result c.loop-k-test.true c.index-lines-k.is
+      | else-line-rank w ↦ subst (λ (n : ℕ). ComesAfter c.args.rank c.args.at c.args.lines.now (c.loop-k.k + 1) n)
+          (sym w.left-is)
+          (behind_other c.args.rank c.args.at c.args.lines.now c.loop-k.k c.loop-k.left c.index-lines-k.result
+          c.loop-k-test.true c.index-lines-k.is
           c.loop-k.invariant w.if-line-rank.false)
     ]
 
 pub returns : goal.returns
-returns c = none_behind c.args.rank c.args.at c.args.lines.now c.loop-k.k c.loop-k.left c.loop-k-test.false c.loop-k.invariant
+returns c = none_behind c.args.rank c.args.at c.args.lines.now c.loop-k.k c.loop-k.left c.loop-k-test.false
+    c.loop-k.invariant

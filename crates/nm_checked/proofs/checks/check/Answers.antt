@@ -12,6 +12,7 @@ returns-in_default-clause-holds c = λ front rest ranks lines run input text tra
 
 pub returns-clause-holds : goal.returns-clause-holds
 returns-clause-holds c = λ front rest ranks lines run input text trace lawful.
-    let same : (c.in-Some.front.now ≡ front) × (c.in-Some.rest.now ≡ rest) = input.cut.only c.in-Some.front.now c.in-Some.rest.now c.in-Some.ensures.cut in
+    let same : (c.in-Some.front.now ≡ front) × (c.in-Some.rest.now ≡ rest) = input.cut.only c.in-Some.front.now
+    c.in-Some.rest.now c.in-Some.ensures.cut in
     c.check_script.ensures.holds ranks lines run (subst (λ (x : List ℕ). IsTextOf x ranks lines) (sym same.0) text)
     (subst (λ (x : List ℕ). IsTraceOf (sizes c.args.cells c.args.eager ranks) x run) (sym same.1) trace) lawful

@@ -6,7 +6,8 @@ use Rattle.nm_checked.proofs.inputs.first_line.Goals as goal
 pub loop-at-preserved : goal.loop-at-preserved
 loop-at-preserved c =
     each_next (λ b. b ≢ 10) c.args.bytes.now c.loop-at.at (get_or c.args.bytes.now c.loop-at.at 0) c.loop-at-test.true
-    (get_or_default c.args.bytes.now c.loop-at.at 0 (get_or c.args.bytes.now c.loop-at.at 0) c.loop-at-test.true) c.loop-at.invariant c.if-byte-eq10.false
+    (get_or_default c.args.bytes.now c.loop-at.at 0 (get_or c.args.bytes.now c.loop-at.at 0) c.loop-at-test.true)
+    c.loop-at.invariant c.if-byte-eq10.false
 
 pub returns-clause-one : goal.returns-clause-one
 returns-clause-one c = each_kept (λ b. b ≢ 10) c.args.bytes.now c.loop-at.at c.loop-at-test.false c.loop-at.invariant

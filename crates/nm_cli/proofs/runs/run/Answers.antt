@@ -2,9 +2,9 @@
 use Rattle.std.proofs.Common.{◌≡◌, ℕ, rules, subst, sym}
 use Rattle.nm_process.specs.Lines.{AreLines}
 use Rattle.nm_cli.specs.Scripts.{sizes_for}
-use Rattle.nm_cli.proofs.LineLemmas.{all_in_range}
 use Rattle.nm_cli.proofs.RunLemmas.{ran}
 use Rattle.nm_cli.proofs.runs.run.Goals as goal
+use Rattle.nm_types.proofs.BodyLemmas.{all_in_range}
 
 -- the script's limits are what a run asks for
 pub run-requires-clause-lines : goal.run-requires-clause-lines

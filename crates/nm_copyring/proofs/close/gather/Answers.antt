@@ -5,9 +5,9 @@ use Rattle.std.specs.Prelude.{slice_get}
 use Rattle.nm_seats.specs.Spoken.{view}
 use Rattle.nm_copyring.specs.Ports.{knows}
 use Rattle.nm_copyring.proofs.ListLemmas.{place_low}
-use Rattle.nm_seats.proofs.ListLemmas.{get_last, get_before, no_items}
 use Rattle.nm_copyring.proofs.ClosingLemmas.{merged}
 use Rattle.nm_copyring.proofs.close.gather.Goals as goal
+use Rattle.nm_facts.proofs.Lists.{get_before, get_last, no_items}
 
 pub loop-port-init : goal.loop-port-init
 loop-port-init c = let p = c.in-Some.last in let left = c.pop.new.self.items in

@@ -4,4 +4,8 @@ use Rattle.nm_diagram.proofs.frames.count_below.Given as goal
 
 abbrev pub invariant-loop-event : goal.invariant-loop-event
 invariant-loop-event l =
-    record { counted : l.count ≡ count_by (is_shown l.end) (take l.event-index l.events); within : l.count ≤ l.event-index }
+    record {
+      counted : l.count ≡ count_by (is_shown l.end) (take l.event-index l.events);
+      within : l.count ≤
+          l.event-index;
+    }

@@ -11,9 +11,13 @@ use Rattle.nm_places.proofs.firsts.firsts.Goals.{in-Some+in_ok-note, in_default}
 pub loop-k-preserved : goal.loop-k-preserved
 loop-k-preserved g c =
     elim c.match-message.branch [
-      | in-Some+in_ok-note w ↦ rw w.places-is (message_noted g.T.Kind.is_of c.args.events.now c.loop-k.k c.index-events-k.result c.loop-k-test.true c.index-events-k.is
+      | in-Some+in_ok-note w ↦ rw w.places-is
+          (message_noted g.T.Kind.is_of c.args.events.now c.loop-k.k c.index-events-k.result c.loop-k-test.true
+          c.index-events-k.is
           c.loop-k.places w.note.new.places w.in-Some.message w.in-Some.ensures w.in_ok-note.ensures c.loop-k.invariant)
-      | in_default w ↦ rw w.places-is (message_unnoted g.T.Kind.is_of c.args.events.now c.loop-k.k c.index-events-k.result c.loop-k-test.true c.index-events-k.is
+      | in_default w ↦ rw w.places-is
+          (message_unnoted g.T.Kind.is_of c.args.events.now c.loop-k.k c.index-events-k.result c.loop-k-test.true
+          c.index-events-k.is
           c.loop-k.places w.in_default.ensures c.loop-k.invariant)
     ]
 

@@ -7,11 +7,14 @@ use Rattle.nm_places.proofs.firsts.is_taken_earlier.Goals as goal
 
 pub returns-in-Some : goal.returns-in-Some
 returns-in-Some c =
-    taken_is_earlier c.args.stamp c.args.events.now c.args.rank c.args.n c.in-Some.place.now c.is_stamped_before.result c.requires.rising
-    (λ k. ap (λ (o : Option ℕ). option_map_or (λ t. nat_lt t k) o false) c.in-Some.ensures.value ∙ c.requires.taken (record { rank = c.args.rank; n = c.args.n }) k)
+    taken_is_earlier c.args.stamp c.args.events.now c.args.rank c.args.n c.in-Some.place.now
+    c.is_stamped_before.result c.requires.rising
+    (λ k. ap (λ (o : Option ℕ). option_map_or (λ t. nat_lt t k) o false) c.in-Some.ensures.value
+    ∙ c.requires.taken (record { rank = c.args.rank; n = c.args.n }) k)
     c.is_stamped_before.ensures.there c.is_stamped_before.ensures.past
 
 pub returns-in-None : goal.returns-in-None
 returns-in-None c =
     never_taken_earlier c.args.stamp c.args.events.now c.args.rank c.args.n c.requires.rising
-    (λ k. ap (λ (o : Option ℕ). option_map_or (λ t. nat_lt t k) o false) c.in-None.ensures.value ∙ c.requires.taken (record { rank = c.args.rank; n = c.args.n }) k)
+    (λ k. ap (λ (o : Option ℕ). option_map_or (λ t. nat_lt t k) o false) c.in-None.ensures.value
+    ∙ c.requires.taken (record { rank = c.args.rank; n = c.args.n }) k)

@@ -16,9 +16,12 @@ index-requires c =
 pub loop-k-preserved : goal.loop-k-preserved
 loop-k-preserved c =
     let here : slice_get c.args.lines.now c.loop-k.k ≡ Some c.index-lines-k.result =
-    slice_get_read c.args.lines.now (length c.args.lines.now) c.loop-k.k c.index-lines-k.result refl (omega arith) c.index-lines-k.is in
-    partner_more c.in_ok-placed.placed.sends c.in_ok-placed.placed.receives c.args.lines.now c.loop-k.k c.index-lines-k.result
+    slice_get_read c.args.lines.now (length c.args.lines.now) c.loop-k.k c.index-lines-k.result refl
+    (omega arith) c.index-lines-k.is in
+    partner_more c.in_ok-placed.placed.sends c.in_ok-placed.placed.receives c.args.lines.now c.loop-k.k
+    c.index-lines-k.result
     c.index.result.now c.partner.result _ _ here
-    (given_read (place_at c.args.lines.now) (length c.args.lines.now) c.loop-k.k c.in_ok-placed.placed.places.items c.index.result.now
+    (given_read (place_at c.args.lines.now) (length c.args.lines.now) c.loop-k.k c.in_ok-placed.placed.places.items
+    c.index.result.now
     c.in_ok-placed.ensures.places (omega arith) c.index.ensures)
     c.in_ok-placed.ensures.all c.loop-k.invariant c.partner.ensures c.in_ok-push.ensures.items

@@ -5,5 +5,6 @@ use Rattle.nm_sure.proofs.ranks.all_lines.Goals as goal
 
 pub loop-rank-preserved : goal.loop-rank-preserved
 loop-rank-preserved c =
-    ranks_more (own_lines c.args.lines.now) c.loop-rank.all.items c.push.new.self.items c.in_ok-lines_of.field-0 c.loop-rank.rank
+    ranks_more (own_lines c.args.lines.now) c.loop-rank.all.items c.push.new.self.items c.in_ok-lines_of.field-0
+    c.loop-rank.rank
     c.in_ok-lines_of.ensures c.loop-rank.invariant c.in_ok-push.ensures.items

@@ -9,7 +9,8 @@ use Rattle.nm_sure.proofs.ranks.lines_of.Goals.{then-line-rank+in_ok-push, else-
 pub loop-k-preserved : goal.loop-k-preserved
 loop-k-preserved c =
     let here : slice_get c.args.lines.now c.loop-k.k ≡ Some c.index-lines-k.result =
-    slice_get_read c.args.lines.now (length c.args.lines.now) c.loop-k.k c.index-lines-k.result refl (omega arith) c.index-lines-k.is in
+    slice_get_read c.args.lines.now (length c.args.lines.now) c.loop-k.k c.index-lines-k.result refl
+    (omega arith) c.index-lines-k.is in
     elim c.if-line-rank.branch [
       | then-line-rank+in_ok-push w ↦
           ap (λ v. v.items) w.own-is ∙ w.in_ok-push.ensures.items

@@ -25,11 +25,14 @@ returns-then-is_start c rank n d own line =
     let low = c.requires.line.1 in
     let place = c.place_of-place.ensures in
     c.started.ensures
-    ∙ ap start_answer (given_read (held_at c.args.plan.now.lines.now) (length c.args.plan.now.lines.now) c.place_of-place.result
-    c.args.plan.now.held.items c.index-held.result.now c.args.plan.now.right.names (omega (arith, low, place)) c.index-held.ensures)
+    ∙ ap start_answer (given_read (held_at c.args.plan.now.lines.now) (length c.args.plan.now.lines.now)
+    c.place_of-place.result
+    c.args.plan.now.held.items c.index-held.result.now c.args.plan.now.right.names (omega (arith, low, place))
+    c.index-held.ensures)
     ∙ answer_start c.args.plan.now.lines.now rank n d c.place_of-place.result
     (get_or c.args.plan.now.lines.now c.place_of-place.result c.index-plan-place.result) own (line ∙ sym place)
-    (slice_get-get_or c.args.plan.now.lines.now c.place_of-place.result c.index-plan-place.result (omega (arith, low, place)))
+    (slice_get-get_or c.args.plan.now.lines.now c.place_of-place.result c.index-plan-place.result
+    (omega (arith, low, place)))
     (sym c.if-is_start.ensures)
 
 pub result-requires : goal.result-requires
@@ -39,8 +42,10 @@ result-requires c =
     record {
       line = held_number c.args.plan.now.lines.now c.place_of-place.result
           (get_or c.args.plan.now.lines.now c.place_of-place.result c.index-plan-place.result) c.in-Some.start
-          (slice_get-get_or c.args.plan.now.lines.now c.place_of-place.result c.index-plan-place.result (omega (arith, low, place)))
-          (held_read c.args.plan.now.lines.now c.args.plan.now.held.items c.place_of-place.result c.index-held.result.now _
+          (slice_get-get_or c.args.plan.now.lines.now c.place_of-place.result c.index-plan-place.result
+          (omega (arith, low, place)))
+          (held_read c.args.plan.now.lines.now c.args.plan.now.held.items c.place_of-place.result
+          c.index-held.result.now _
           c.args.plan.now.right.names (omega (arith, low, place)) c.index-held.ensures c.in-Some.is);
     }
 
@@ -50,15 +55,18 @@ returns-in-Some c =
     let place = c.place_of-place.ensures in
     let here : slice_get c.args.plan.now.lines.now c.place_of-place.result
     ≡ Some (get_or c.args.plan.now.lines.now c.place_of-place.result c.index-plan-place.result) =
-    slice_get-get_or c.args.plan.now.lines.now c.place_of-place.result c.index-plan-place.result (omega (arith, low, place)) in
+    slice_get-get_or c.args.plan.now.lines.now c.place_of-place.result c.index-plan-place.result
+    (omega (arith, low, place)) in
     let held : held_at c.args.plan.now.lines.now c.place_of-place.result ≡ Some c.in-Some.start =
     held_read c.args.plan.now.lines.now c.args.plan.now.held.items c.place_of-place.result c.index-held.result.now _
     c.args.plan.now.right.names (omega (arith, low, place)) c.index-held.ensures c.in-Some.is in
     if_ok _ _ c.result.result
     (λ a is rank n d own line.
-    is rank (held_own c.args.plan.now.lines.now rank n d c.place_of-place.result _ own (line ∙ sym place) here c.in-Some.start held)
+    is rank (held_own c.args.plan.now.lines.now rank n d c.place_of-place.result _ own
+    (line ∙ sym place) here c.in-Some.start held)
     ∙ ap (λ (o : Option ℕ). option_map_or (result_at c.args.plan.now.lines.now rank) o answer.Null) (sym held)
-    ∙ answer_other c.args.plan.now.lines.now rank n d c.place_of-place.result _ own (line ∙ sym place) here (sym c.if-is_start.ensures))
+    ∙ answer_other c.args.plan.now.lines.now rank n d c.place_of-place.result _ own (line ∙ sym place) here
+    (sym c.if-is_start.ensures))
     c.result.ensures
 
 pub returns-in-None : goal.returns-in-None
@@ -71,5 +79,6 @@ returns-in-None c rank n d own line =
     ap (λ (o : Option ℕ). option_map_or (result_at c.args.plan.now.lines.now rank) o answer.Null) (sym held)
     ∙ answer_other c.args.plan.now.lines.now rank n d c.place_of-place.result
     (get_or c.args.plan.now.lines.now c.place_of-place.result c.index-plan-place.result) own (line ∙ sym place)
-    (slice_get-get_or c.args.plan.now.lines.now c.place_of-place.result c.index-plan-place.result (omega (arith, low, place)))
+    (slice_get-get_or c.args.plan.now.lines.now c.place_of-place.result c.index-plan-place.result
+    (omega (arith, low, place)))
     (sym c.if-is_start.ensures)

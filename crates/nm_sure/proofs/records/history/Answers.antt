@@ -16,8 +16,10 @@ use Rattle.nm_sure.proofs.records.history.Goals.{After-as_slice-own}
 own_here : (c : After-as_slice-own) → c.as_slice-own.result.now ≡ own_lines c.args.plan.now.lines.now c.args.rank
 own_here c =
     c.as_slice-own.ensures.value
-    ∙ own_is c.args.plan.now.lines.now c.args.plan.now.ranks.items _ _ c.args.plan.now.right c.args.rank c.index.result.now
-    (slice_get_read c.args.plan.now.ranks.items (length c.args.plan.now.ranks.items) c.args.rank c.index.result.now refl c.requires.rank
+    ∙ own_is c.args.plan.now.lines.now c.args.plan.now.ranks.items _ _ c.args.plan.now.right c.args.rank
+    c.index.result.now
+    (slice_get_read c.args.plan.now.ranks.items (length c.args.plan.now.ranks.items) c.args.rank c.index.result.now
+    refl c.requires.rank
     c.index.ensures)
 
 all_taken : (c : After-as_slice-own) → length (take c.args.at c.as_slice-own.result.now) ≡ c.args.at
@@ -39,9 +41,11 @@ pub loop-line-preserved : goal.loop-line-preserved
 loop-line-preserved c =
     let item = own_item c.args.plan.now.lines.now c.args.rank c.args.at c.loop-line.line-index c.as_slice-own.result.now
     (own_here (goal.at.loop-line-preserved c).After-as_slice-own) c.requires.within c.loop-line-test.true in
-    told_more c.args.plan.now.lines.now c.args.rank c.loop-line.line-index (get_or (take c.args.at c.as_slice-own.result.now) c.loop-line.line-index 0)
+    told_more c.args.plan.now.lines.now c.args.rank c.loop-line.line-index
+    (get_or (take c.args.at c.as_slice-own.result.now) c.loop-line.line-index 0)
     0 c.in_ok-answer.answer item.0 c.loop-line.events.items c.push.new.self.items item.1 item.2
-    (c.in_ok-answer.ensures c.args.rank c.loop-line.line-index item.0 item.1 item.2) c.loop-line.invariant c.in_ok-push.ensures.items
+    (c.in_ok-answer.ensures c.args.rank c.loop-line.line-index item.0 item.1 item.2) c.loop-line.invariant
+    c.in_ok-push.ensures.items
 
 pub returns : goal.returns
 returns c =
@@ -51,4 +55,5 @@ returns c =
     let last : c.loop-line.line-index ≡ c.args.at = omega (arith, taken, past, top) in
     ap (λ (es : List Event). filter_map (λ (e : Event). told_by e.what) es) c.from_vec.ensures
     ∙ c.loop-line.invariant
-    ∙ ap (λ (n : ℕ). told_after c.args.plan.now.lines.now c.args.rank [] (take n (commands_of c.args.rank c.args.plan.now.lines.now))) last
+    ∙ ap (λ (n : ℕ). told_after c.args.plan.now.lines.now c.args.rank []
+    (take n (commands_of c.args.rank c.args.plan.now.lines.now))) last

@@ -18,12 +18,14 @@ own_end : (c : After-as_slice) → c.as_slice.result.now
     ≡ plain_end c.in_ok-plan.plan.eager (length c.in_ok-plan.plan.ranks.items) c.in_ok-plan.plan.lines.now
 own_end c = c.as_slice.ensures.value ∙ c.in_ok-reached.ensures
 
-end_here : (c : After-as_slice) → c.as_slice.result.now ≡ plain_end c.args.shape.eager c.args.shape.ranks c.in_ok-plan.plan.lines.now
+end_here : (c : After-as_slice) → c.as_slice.result.now ≡ plain_end c.args.shape.eager c.args.shape.ranks
+    c.in_ok-plan.plan.lines.now
 end_here c =
     own_end c
     ∙ ap (λ (e : ℕ). plain_end e (length c.in_ok-plan.plan.ranks.items) c.in_ok-plan.plan.lines.now)
     (c.in_ok-plan.ensures.eager ∙ c.eager.ensures.value)
-    ∙ ap (λ (r : ℕ). plain_end c.args.shape.eager r c.in_ok-plan.plan.lines.now) (c.in_ok-plan.ensures.ranks ∙ sym c.requires.ranks)
+    ∙ ap (λ (r : ℕ). plain_end c.args.shape.eager r c.in_ok-plan.plan.lines.now)
+    (c.in_ok-plan.ensures.ranks ∙ sym c.requires.ranks)
 
 pub accounts-requires-clause-ranks : goal.accounts-requires-clause-ranks
 accounts-requires-clause-ranks c =
@@ -38,9 +40,11 @@ accounts-requires-clause-within c rank =
 
 pub returns-clause-text : goal.returns-clause-text
 returns-clause-text c =
-    let ended = ended_of c.args.shape c.in_ok-plan.plan.lines.now c.in_ok-ranks.ranks c.as_slice.result.now c.are_done-done.result
+    let ended = ended_of c.args.shape c.in_ok-plan.plan.lines.now c.in_ok-ranks.ranks c.as_slice.result.now
+    c.are_done-done.result
     (end_here (goal.at.returns-clause-text c).After-as_slice) c.in_ok-ranks.ensures
-    (c.are_done-done.ensures ∙ ap (λ (each : List RankAccount). list_all (λ (a : RankAccount). is_none a.waits) each) c.as_slice-2.ensures) in
+    (c.are_done-done.ensures ∙ ap (λ (each : List RankAccount). list_all (λ (a : RankAccount). is_none a.waits) each)
+    c.as_slice-2.ensures) in
     c.in_ok-text.ensures
     ∙ c.reports_say_what_was_told.ensures (record {
       shape = c.args.shape;
@@ -49,13 +53,17 @@ returns-clause-text c =
       cells = c.all_home.result;
       done = c.are_done-done.result;
     })
-    ∙ report_of c.args.shape c.in_ok-plan.plan.lines.now (map told_of_rank c.in_ok-ranks.ranks) c.as_slice.result.now c.all_home.result
-    c.are_done-done.result (end_here (goal.at.returns-clause-text c).After-as_slice) c.in_ok-ranks.ensures c.all_home.ensures ended.0
+    ∙ report_of c.args.shape c.in_ok-plan.plan.lines.now (map told_of_rank c.in_ok-ranks.ranks) c.as_slice.result.now
+    c.all_home.result
+    c.are_done-done.result (end_here (goal.at.returns-clause-text c).After-as_slice) c.in_ok-ranks.ensures
+    c.all_home.ensures ended.0
     ∙ ap (λ (ls : List Line). plain_text c.args.shape ls) c.in_ok-plan.ensures.lines
 
 pub returns-clause-done : goal.returns-clause-done
 returns-clause-done c =
-    let ended = ended_of c.args.shape c.in_ok-plan.plan.lines.now c.in_ok-ranks.ranks c.as_slice.result.now c.are_done-done.result
+    let ended = ended_of c.args.shape c.in_ok-plan.plan.lines.now c.in_ok-ranks.ranks c.as_slice.result.now
+    c.are_done-done.result
     (end_here (goal.at.returns-clause-done c).After-as_slice) c.in_ok-ranks.ensures
-    (c.are_done-done.ensures ∙ ap (λ (each : List RankAccount). list_all (λ (a : RankAccount). is_none a.waits) each) c.as_slice-2.ensures) in
+    (c.are_done-done.ensures ∙ ap (λ (each : List RankAccount). list_all (λ (a : RankAccount). is_none a.waits) each)
+    c.as_slice-2.ensures) in
     ended.1 ∙ ap (λ (ls : List Line). plain_done c.args.shape ls) c.in_ok-plan.ensures.lines

@@ -16,7 +16,8 @@ partner_in : (c : In-Some-index) → IsLine c.args.plan.now.lines.now c.in-Some-
 partner_in c =
     let s = c.requires.line.1 in
     partner_number c.args.plan.now.lines.now s.place c.in-Some-index.partner
-    (partner_of c.args.plan.now.lines.now c.args.plan.now.partners.items _ c.args.start c.place_of-place.result c.index.result.now _ s
+    (partner_of c.args.plan.now.lines.now c.args.plan.now.partners.items _ c.args.start c.place_of-place.result
+    c.index.result.now _ s
     c.place_of-place.ensures c.args.plan.now.right.pairs c.index.ensures c.in-Some-index.is)
 
 pub index-requires : goal.index-requires
@@ -42,7 +43,8 @@ shown-requires c =
     let place = c.place_of.ensures in
     short_body (length c.args.plan.now.ranks.items) c.args.plan.now.lines.now c.place_of.result
     (get_or c.args.plan.now.lines.now c.place_of.result c.index-plan-place_of.result) c.args.plan.now.right.limits
-    (slice_get-get_or c.args.plan.now.lines.now c.place_of.result c.index-plan-place_of.result (omega (arith, low, place)))
+    (slice_get-get_or c.args.plan.now.lines.now c.place_of.result c.index-plan-place_of.result
+    (omega (arith, low, place)))
 
 pub returns-in-Some-index : goal.returns-in-Some-index
 returns-in-Some-index c =
@@ -51,26 +53,31 @@ returns-in-Some-index c =
     let spot : c.in-Some-index.partner - 2 ≡ c.place_of.result = omega (arith, place) in
     if_ok _ _ c.shown.result
     (λ a is rank s. is
-    ∙ result_got c.args.plan.now.lines.now rank c.args.start c.commands_stand_at_their_lines.ensures.place s c.in-Some.way
+    ∙ result_got c.args.plan.now.lines.now rank c.args.start c.commands_stand_at_their_lines.ensures.place s
+    c.in-Some.way
     c.in-Recv.q c.in-Recv.from c.in-Recv.tag c.in-Recv.ctx c.in-Recv.cap
     (ap (λ (l : Line). l.command) (sym (line_read c.args.plan.now.lines.now rank c.args.start c.place_of-place.result
     c.index-plan-place.result s c.place_of-place.ensures)) ∙ c.in-Recv.is)
     (ap receive_way (sym (line_read c.args.plan.now.lines.now rank c.args.start c.place_of-place.result
     c.index-plan-place.result s c.place_of-place.ensures)) ∙ sym c.receive_way.ensures ∙ c.in-Some.is)
     c.in-Some-index.partner (get_or c.args.plan.now.lines.now c.place_of.result c.index-plan-place_of.result)
-    (partner_of c.args.plan.now.lines.now c.args.plan.now.partners.items rank c.args.start c.place_of-place.result c.index.result.now _ s
+    (partner_of c.args.plan.now.lines.now c.args.plan.now.partners.items rank c.args.start c.place_of-place.result
+    c.index.result.now _ s
     c.place_of-place.ensures c.args.plan.now.right.pairs c.index.ensures c.in-Some-index.is)
     (ap (λ (k : ℕ). slice_get c.args.plan.now.lines.now k) spot
-    ∙ slice_get-get_or c.args.plan.now.lines.now c.place_of.result c.index-plan-place_of.result (omega (arith, low, place))))
+    ∙ slice_get-get_or c.args.plan.now.lines.now c.place_of.result c.index-plan-place_of.result
+    (omega (arith, low, place))))
     c.shown.ensures
 
 pub returns-in-None : goal.returns-in-None
 returns-in-None c rank s =
-    result_none c.args.plan.now.lines.now rank c.args.start c.commands_stand_at_their_lines.ensures.place s c.in-Some.way
+    result_none c.args.plan.now.lines.now rank c.args.start c.commands_stand_at_their_lines.ensures.place s
+    c.in-Some.way
     c.in-Recv.q c.in-Recv.from c.in-Recv.tag c.in-Recv.ctx c.in-Recv.cap
     (ap (λ (l : Line). l.command) (sym (line_read c.args.plan.now.lines.now rank c.args.start c.place_of-place.result
     c.index-plan-place.result s c.place_of-place.ensures)) ∙ c.in-Recv.is)
     (ap receive_way (sym (line_read c.args.plan.now.lines.now rank c.args.start c.place_of-place.result
     c.index-plan-place.result s c.place_of-place.ensures)) ∙ sym c.receive_way.ensures ∙ c.in-Some.is)
-    (partner_of c.args.plan.now.lines.now c.args.plan.now.partners.items rank c.args.start c.place_of-place.result c.index.result.now _ s
+    (partner_of c.args.plan.now.lines.now c.args.plan.now.partners.items rank c.args.start c.place_of-place.result
+    c.index.result.now _ s
     c.place_of-place.ensures c.args.plan.now.right.pairs c.index.ensures c.in-None.is)

@@ -4,7 +4,8 @@ use Rattle.nm_written.proofs.ranges.events_fit.Goals as goal
 
 pub loop-e-preserved : goal.loop-e-preserved
 loop-e-preserved c =
-    each_next EventIn c.args.events.now c.loop-e.e-index c.e-item.result c.loop-e-test.true c.e-item.is c.loop-e.invariant c.event_fits.ensures
+    each_next EventIn c.args.events.now c.loop-e.e-index c.e-item.result c.loop-e-test.true c.e-item.is
+    c.loop-e.invariant c.event_fits.ensures
 
 pub returns : goal.returns
 returns c = each_kept EventIn c.args.events.now c.loop-e.e-index c.loop-e-test.false c.loop-e.invariant

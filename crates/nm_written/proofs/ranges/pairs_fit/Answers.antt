@@ -6,7 +6,8 @@ use Rattle.nm_written.proofs.ranges.pairs_fit.Goals as goal
 pub loop-pair-preserved : goal.loop-pair-preserved
 loop-pair-preserved c =
     each_next PairIn c.args.pairs.now c.loop-pair.pair-index _ c.loop-pair-test.true
-    (get_or_default c.args.pairs.now c.loop-pair.pair-index _ _ c.loop-pair-test.true) c.loop-pair.invariant c.pair_fits.ensures
+    (get_or_default c.args.pairs.now c.loop-pair.pair-index _ _ c.loop-pair-test.true) c.loop-pair.invariant
+    c.pair_fits.ensures
 
 pub returns : goal.returns
 returns c = each_kept PairIn c.args.pairs.now c.loop-pair.pair-index c.loop-pair-test.false c.loop-pair.invariant

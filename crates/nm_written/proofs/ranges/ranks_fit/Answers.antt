@@ -9,10 +9,12 @@ Read rank = ReadIn (record { at = rank.at; waits = rank.waits; events = rank.his
 
 pub loop-rank-preserved : goal.loop-rank-preserved
 loop-rank-preserved c =
-    each_next Read c.args.ranks.now c.loop-rank.rank-index c.rank-item.result c.loop-rank-test.true c.rank-item.is c.loop-rank.invariant
+    each_next Read c.args.ranks.now c.loop-rank.rank-index c.rank-item.result c.loop-rank-test.true c.rank-item.is
+    c.loop-rank.invariant
     (rw c.as_slice.ensures at c.events_fit.ensures, c.waits_fit.ensures)
 
 pub returns : goal.returns
 returns c =
-    all_mapped ReadIn (λ rank. record { at = rank.at; waits = rank.waits; events = rank.history.events }) c.args.ranks.now
+    all_mapped ReadIn (λ rank. record { at = rank.at; waits = rank.waits; events = rank.history.events })
+    c.args.ranks.now
     (each_kept Read c.args.ranks.now c.loop-rank.rank-index c.loop-rank-test.false c.loop-rank.invariant)

@@ -5,4 +5,6 @@ use Rattle.nm_written.proofs.ranges.ranks_fit.Given as goal
 
 -- the ranks so far are within their types
 abbrev pub invariant-loop-rank : goal.invariant-loop-rank
-invariant-loop-rank l = AllByRecursion (λ rank. ReadIn (record { at = rank.at; waits = rank.waits; events = rank.history.events })) (take l.rank-index l.ranks)
+invariant-loop-rank l = AllByRecursion
+    (λ rank. ReadIn (record { at = rank.at; waits = rank.waits; events = rank.history.events }))
+    (take l.rank-index l.ranks)

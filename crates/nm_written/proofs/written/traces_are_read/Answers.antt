@@ -15,7 +15,8 @@ returns c = λ lines lawful. record {
   spelled = refl;
   shaped = refl;
   whole = sym (length-map c.args.run.now.ranks ended) ∙ lawful.lawful.one_each;
-  ends = ends_in c.args.run.now.shape lines (ends_of c.args.run.now.ranks) (rw c.as_slice.ensures at c.ranks_fit.ensures) lawful.lawful.rank_runs;
+  ends = ends_in c.args.run.now.shape lines (ends_of c.args.run.now.ranks)
+      (rw c.as_slice.ensures at c.ranks_fit.ensures) lawful.lawful.rank_runs;
   pairs = rw c.as_slice-2.ensures at c.pairs_fit.ensures;
   cells = c.cells_fit.ensures;
 }

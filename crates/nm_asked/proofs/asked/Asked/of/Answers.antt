@@ -4,11 +4,11 @@ use Rattle.std.proofs.lemmas.List.{take_all}
 use Rattle.std.proofs.lemmas.Option.{slice_get_read}
 use Rattle.nm_types.specs.Commands.{commands_of}
 use Rattle.nm_history.specs.declared.events.Event.{Event}
-use Rattle.nm_places.proofs.StepLemmas.{take_next}
 use Rattle.nm_asked.specs.Asked.{AreNames, asked_request, meant_by}
 use Rattle.nm_asked.specs.declared.requests.Request.{Request}
 use Rattle.nm_asked.proofs.UpToLemmas.{UpTo, up_to_all, up_to_next}
 use Rattle.nm_asked.proofs.asked.Asked.of.Goals as goal
+use Rattle.nm_facts.proofs.Lists.{take_next}
 
 pub loop-k-preserved : goal.loop-k-preserved
 loop-k-preserved c =

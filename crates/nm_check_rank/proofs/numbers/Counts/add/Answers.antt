@@ -8,8 +8,9 @@ use Rattle.nm_check_rank.specs.Counted.{AreCounted}
 use Rattle.nm_check_rank.specs.declared.numbers.Counts.{Counts}
 use Rattle.nm_check_rank.proofs.CountLemmas.{IsReceive, a_match, a_post, arrivals_count, arrivals_same, counted_more}
 use Rattle.nm_check_rank.proofs.CountLemmas.{few_arrivals, few_receives, few_sends, no_arrival, no_receive, no_send}
-use Rattle.nm_check_rank.proofs.CountLemmas.{receives_count, receives_same, sends_count, sends_same}
+use Rattle.nm_check_rank.proofs.CountLemmas.{sends_count, sends_same}
 use Rattle.nm_check_rank.proofs.numbers.Counts.add.Goals as goal
+use Rattle.nm_history.proofs.AppendLemmas.{receives_more, receives_still}
 
 abbrev event : ℕ → Happened → Event
 event stamp what = record { stamp = stamp; what = what }
@@ -34,7 +35,7 @@ returns-in-Send c = λ before stamp few counted. let s = c.in-Send in
           (omega (arith, small, few)) c.saturating_add.ensures
           ∙ sym (sends_count before (event stamp what) sent to refl);
       came = λ from low. counted.came from low ∙ sym (arrivals_same before (event stamp what) from refl);
-      received = counted.received ∙ sym (receives_same before (event stamp what) refl);
+      received = counted.received ∙ sym (receives_still before (event stamp what) refl);
     })
 
 pub returns-in-Arrive : goal.returns-in-Arrive
@@ -48,7 +49,7 @@ returns-in-Arrive c = λ before stamp few counted. let a = c.in-Arrive.a in
           (length (arrivals before from)) c.saturating_add-in-Arrive.result (omega arith) (counted.came from low)
           (omega (arith, small, few)) c.saturating_add-in-Arrive.ensures
           ∙ sym (arrivals_count before (event stamp what) arrived from refl);
-      received = counted.received ∙ sym (receives_same before (event stamp what) refl);
+      received = counted.received ∙ sym (receives_still before (event stamp what) refl);
     })
 
 received : (before : List Event) (stamp more : ℕ) (what : Happened) (counts : Counts) →
@@ -60,7 +61,7 @@ received before stamp more what counts few counted is one = record {
   came = λ from low. counted.came from low ∙ sym (arrivals_same before (event stamp what) from (one.no_arrival stamp));
   received = let small = few_receives before in let same = counted.received in let next :
       more ≡ length (receives before) + 1 = omega (arith, is, same, small, few) in
-      next ∙ sym (receives_count before (event stamp what) one.number one.numbered);
+      next ∙ sym (receives_more before (event stamp what) one.number one.numbered);
 }
 
 pub returns-in-Post : goal.returns-in-Post
@@ -78,6 +79,6 @@ returns-in_default c = λ before stamp few counted. let what = c.args.what.now i
       (no_send stamp what c.in_default.not-Send));
   came = λ from low. counted.came from low ∙ sym
       (arrivals_same before (event stamp what) from (no_arrival stamp what c.in_default.not-Arrive));
-  received = counted.received ∙ sym (receives_same before (event stamp what)
+  received = counted.received ∙ sym (receives_still before (event stamp what)
       (no_receive what c.in_default.not-Post c.in_default.not-Match));
 }

@@ -26,7 +26,8 @@ pub returns-clause-ok : goal.returns-clause-ok
 returns-clause-ok c = λ arrivals claimed is none.
     let own = rw c.of_arrival-key.ensures at c.in_ok-put.ensures.own in
     let others = rw c.of_arrival-key.ensures at c.in_ok-put.ensures.others in
-    let updates = rw (c.of_arrival-key.ensures, c.id_of.ensures) at (rw c.unwrap.ensures at c.insert.ensures.updates).0 in
+    let updates = rw (c.of_arrival-key.ensures, c.id_of.ensures) at
+    (rw c.unwrap.ensures at c.insert.ensures.updates).0 in
     named_put is c.put.new.self.map c.put.new.self.len c.insert.new.self c.args.a (id_of_arrival c.args.a) (λ id. refl)
     (λ id here. subst (λ (m : MessageId). find (is_message m.from m.n) arrivals ≡ None)
     (same_message-true (id_of_arrival c.args.a) id here) none) own others c.in_ok-put.ensures.len

@@ -15,15 +15,18 @@ pub is_eager-requires : goal.is_eager-requires
 is_eager-requires c =
     let s = c.requires.line.1 in
     subst (λ (l : Line). sent_len l.command < 4294967296)
-    (sym (line_read c.args.self.now.lines.now _ c.args.start c.place_of-place.result c.index-self-place.result s c.place_of-place.ensures))
-    (short_body (length c.args.self.now.ranks.items) c.args.self.now.lines.now s.place s.line c.args.self.now.right.limits s.here)
+    (sym (line_read c.args.self.now.lines.now _ c.args.start c.place_of-place.result c.index-self-place.result s
+    c.place_of-place.ensures))
+    (short_body (length c.args.self.now.ranks.items) c.args.self.now.lines.now s.place s.line
+    c.args.self.now.right.limits s.here)
 
 pub returns-then-is_eager : goal.returns-then-is_eager
 returns-then-is_eager c rank s =
     sym (ready_eager c.args.self.now.eager c.args.self.now.lines.now c.args.reached.now.at.items rank c.args.start
     c.commands_stand_at_their_lines.ensures.place s
     (ap (λ (l : Line). is_eager c.args.self.now.eager l.command)
-    (sym (line_read c.args.self.now.lines.now rank c.args.start c.place_of-place.result c.index-self-place.result s c.place_of-place.ensures))
+    (sym (line_read c.args.self.now.lines.now rank c.args.start c.place_of-place.result c.index-self-place.result s
+    c.place_of-place.ensures))
     ∙ sym c.if-is_eager.ensures))
 
 pub index-requires : goal.index-requires
@@ -68,12 +71,15 @@ returns-in-Some c rank s =
     let count = c.requires.ran.count in
     let ran : slice_get c.args.reached.now.ran.items (c.in-Some.partner - 2) ≡ Some c.index-in-Some.result.now =
     ap (λ (k : ℕ). slice_get c.args.reached.now.ran.items k) partner
-    ∙ slice_get_read c.args.reached.now.ran.items (length c.args.reached.now.ran.items) c.place_of.result c.index-in-Some.result.now refl
+    ∙ slice_get_read c.args.reached.now.ran.items (length c.args.reached.now.ran.items) c.place_of.result
+    c.index-in-Some.result.now refl
     (omega (arith, there, beyond, count)) c.index-in-Some.ensures in
     ready_asked c.args.self.now.eager c.args.self.now.lines.now c.args.reached.now.at.items rank c.args.start
-    c.commands_stand_at_their_lines.ensures.place s c.args.reached.now.ran.items c.index-in-Some.result.now c.requires.ran
+    c.commands_stand_at_their_lines.ensures.place s c.args.reached.now.ran.items c.index-in-Some.result.now
+    c.requires.ran
     (ap (λ (l : Line). is_eager c.args.self.now.eager l.command)
-    (sym (line_read c.args.self.now.lines.now rank c.args.start c.place_of-place.result c.index-self-place.result s c.place_of-place.ensures))
+    (sym (line_read c.args.self.now.lines.now rank c.args.start c.place_of-place.result c.index-self-place.result s
+    c.place_of-place.ensures))
     ∙ sym c.if-is_eager.ensures)
     (subst (λ o. IsPartnerRun c.args.reached.now.ran.items o c.index-in-Some.result.now) (sym pair) ran)
 
@@ -89,6 +95,7 @@ returns-in-None c rank s =
     ready_asked c.args.self.now.eager c.args.self.now.lines.now c.args.reached.now.at.items rank c.args.start
     c.commands_stand_at_their_lines.ensures.place s c.args.reached.now.ran.items false c.requires.ran
     (ap (λ (l : Line). is_eager c.args.self.now.eager l.command)
-    (sym (line_read c.args.self.now.lines.now rank c.args.start c.place_of-place.result c.index-self-place.result s c.place_of-place.ensures))
+    (sym (line_read c.args.self.now.lines.now rank c.args.start c.place_of-place.result c.index-self-place.result s
+    c.place_of-place.ensures))
     ∙ sym c.if-is_eager.ensures)
     (subst (λ o. IsPartnerRun c.args.reached.now.ran.items o false) (sym pair) refl)

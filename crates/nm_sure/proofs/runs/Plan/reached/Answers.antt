@@ -8,14 +8,17 @@ use Rattle.nm_sure.proofs.runs.Plan.reached.Goals.{else-loop-test, then-loop-tes
 
 pub run_next-requires-clause-next : goal.run_next-requires-clause-next
 run_next-requires-clause-next c =
-    chosen_next c.args.self.now.eager c.args.self.now.lines.now c.loop.reached.at.items c.in-Some.rank (sym c.next_rank.ensures ∙ c.in-Some.is)
+    chosen_next c.args.self.now.eager c.args.self.now.lines.now c.loop.reached.at.items c.in-Some.rank
+    (sym c.next_rank.ensures ∙ c.in-Some.is)
 
 pub loop-preserved : goal.loop-preserved
 loop-preserved c = (
   c.run_next.ensures.ran,
-  ap (λ (ns : List ℕ). length ns) c.run_next.ensures.at ∙ same_length c.loop.reached.at.items c.in-Some.rank ∙ c.loop.invariant.1,
+  ap (λ (ns : List ℕ). length ns) c.run_next.ensures.at ∙ same_length c.loop.reached.at.items c.in-Some.rank
+      ∙ c.loop.invariant.1,
   step_on c.args.self.now.eager c.args.self.now.lines.now c.loop.reached.at.items c.run_next.new.reached.at.items
-      (spec.plain_end c.args.self.now.eager (length c.args.self.now.ranks.items) c.args.self.now.lines.now) c.in-Some.rank
+      (spec.plain_end c.args.self.now.eager (length c.args.self.now.ranks.items) c.args.self.now.lines.now)
+      c.in-Some.rank
       (length c.args.self.now.lines.now) c.loop.counter (sym c.next_rank.ensures ∙ c.in-Some.is) c.run_next.ensures.at
       c.loop-test.true c.loop.invariant.2,
 )
