@@ -14,7 +14,7 @@ ghost use Rattle.nm_types.specs.declared.limits.TheConstants.{MAX_BODIES, MAX_BO
 ghost use Rattle.nm_types.specs.declared.limits.TheConstants.{MAX_CAPACITY, MAX_CELLS, MAX_CONTEXT};
 ghost use Rattle.nm_types.specs.declared.limits.TheConstants.{MAX_EAGER, MAX_LINES, MAX_NAME};
 ghost use Rattle.nm_types.specs.declared.limits.TheConstants.{MAX_PACKETS, MAX_PAYLOAD, MAX_PIECE};
-ghost use Rattle.nm_types.specs.declared.limits.TheConstants.{MAX_PIECES, MAX_RANKS, MAX_STAMP};
+ghost use Rattle.nm_types.specs.declared.limits.TheConstants.{MAX_RANKS, MAX_STAMP};
 ghost use Rattle.nm_types.specs.declared.limits.TheConstants.{MAX_TAG, MAX_TEXT};
 ghost use Rattle.nm_types.specs.declared.messages.How.TheVariants.{Eager, Ask};
 ghost use Rattle.nm_types.specs.declared.packets.What.TheVariants as what;
@@ -244,7 +244,6 @@ pub fn limits()
     ensures payload { MAX_PAYLOAD ≡ 256 }
     ensures fastbox { MAX_BOX ≡ 64 }
     ensures piece { MAX_PIECE ≡ 1024 }
-    ensures pieces { MAX_PIECES ≡ 4 }
     ensures tag { MAX_TAG ≡ 32767 }
     ensures context { MAX_CONTEXT ≡ 255 }
     ensures name { MAX_NAME ≡ 65535 }
