@@ -51,6 +51,12 @@ same_front w y z hs is e = (ap front e, ap rest e)
 some_is : (p q : Piece) → Some p ≡ Some q → p ≡ q
 some_is p q e = cc
 
+-- what is known twice of the slot that was taken last
+pub same_piece : (w : ℕ) (p q : Piece) {hs is js : List (ℕ × Load)} → hs ≡ (w, Some p) ∷ is
+    → hs ≡ (w, Some q) ∷ js → p ≡ q
+same_piece w p q {hs} {is} {js} a b =
+    some_is p q (same_front w (Some p) (Some q) is js (sym a ∙ b)).0
+
 module _ (slots id : ℕ) (e : Entry) (low : e.rank < e.ranks) (wide : length e.lanes ≡ e.ranks)
     (deep : slots ≡ 4 * (e.ranks * e.ranks)) (peer : ℕ) (few : peer < e.ranks) where
   abbrev n : ℕ

@@ -4,3 +4,4 @@ pub mod Counted
 pub mod Plays
 pub mod Ports
 pub mod Rule
+pub mod Slots

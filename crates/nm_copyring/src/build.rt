@@ -1,6 +1,6 @@
 //! Rings at the start.
 
-ghost use Rattle.std.specs.Prelude.{◌≡◌, ℕ, suc, ◌-◌, ◌*◌, ◌<◌, ◌≤◌, [], IfOk, Some, length, replicate, slice_get};
+ghost use Rattle.std.specs.Prelude.{◌≡◌, ℕ, suc, ◌-◌, ◌*◌, ◌<◌, ◌≤◌, [], IfOk, Some, None, length, replicate, slice_get};
 ghost use Rattle.nm_seats.specs.Spoken.{view};
 ghost use Rattle.nm_copyring.specs.declared.port.RingPort.{RingPort};
 ghost use Rattle.nm_copyring.specs.Rule.{new_lane, newcomers};
@@ -8,6 +8,7 @@ ghost use Rattle.nm_copyring.specs.Counted.{tally};
 ghost use Rattle.nm_copyring.specs.Ports.{IsNew};
 
 use crate::port::{RingPort, Rings};
+use crate::slots::Slot;
 use crate::table::{Board, Place};
 use crate::tallies::Tally;
 use nm_seats::GivesFirst;
@@ -60,6 +61,17 @@ fn empty_flags(alloc: Global, ranks: u64) -> Result<Vec<u64>, Memory>
     Ok(flags)
 }
 
+// So many slots, all empty.
+fn empty_slots(alloc: Global, count: usize) -> Result<Vec<Slot>, Memory>
+    ensures { IfOk result (λ v. v.items ≡ replicate count None) }
+{
+    let mut slots = Vec::with_capacity(alloc, count)?;
+    for _place in 0..count {
+        slots.push(Slot::empty())?;
+    }
+    Ok(slots)
+}
+
 // The rings, and the seat that speaks for all ranks.
 fn whole(alloc: Global, ranks: u64) -> Result<(Rings, Place), Memory>
     requires { (0 < ranks) × (ranks ≤ 64) }
@@ -67,7 +79,10 @@ fn whole(alloc: Global, ranks: u64) -> Result<(Rings, Place), Memory>
         × (t.1.me ≡ (view (newcomers ranks 0 ranks), []))) }
 {
     let flags = empty_flags(alloc, ranks)?;
-    let (board, rest) = Board::vacant(alloc, flags.as_slice(), flags.len(), &ranks)?;
+    let slots = empty_slots(alloc, flags.len())?;
+    let Ok((board, rest)) = Board::new(alloc, flags.as_slice(), slots, &ranks) else {
+        return Err(Memory);
+    };
     Ok((Rings { board, ranks }, rest))
 }
 

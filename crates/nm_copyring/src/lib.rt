@@ -1,7 +1,8 @@
 //! The copy ring: pieces of long messages between two ranks, without a queue.
 //!
 //! For each ordered pair of ranks there are four places, which its sender fills in turn and its receiver
-//! empties in turn. Each place has a flag, which is 1 where the place is full, and a slot for one piece.
+//! empties in turn. Each place has a flag, which is 1 where the place is full, and a slot for one piece, which
+//! keeps the room of a piece while it is empty: a piece is copied in and out by its own length.
 //!
 //! ```text
 //!   sender                                                    receiver
@@ -12,8 +13,8 @@
 //! ```
 //!
 //! The k-th piece of a pair goes through the place k mod 4. A call makes at most two steps, each on one
-//! word, and waits for nobody: where the next place is full, the piece comes back, and where it is
-//! empty, nothing comes. All flags are atomic, and `steps` counts the steps on them.
+//! word, and waits for nobody: where the next place is full, nothing is pushed, and where it is empty,
+//! nothing comes. All flags are atomic, and `steps` counts the steps on them.
 //!
 //! # What a contract sees
 //! What a port's seat knows (`knows`): for each rank the list of the pieces that were pushed to it and of
@@ -22,9 +23,10 @@
 //! # What is proved
 //! - The rule of the shared table holds between any two steps of any ranks: what was pushed to a rank is
 //!   what that rank pulled, and then what is in the full places, by number.
-//! - `push` puts its piece behind those that were pushed, or hands it back where it loaded the flag of the
-//!   next place as 1, and then the count of full places rose. `pull` gives the next piece by number, or
-//!   `None` where it loaded the flag of the next place as 0, and then the count of empty places rose.
+//! - `push` puts a piece equal to the one that it is lent behind those that were pushed, or answers that it
+//!   didn't where it loaded the flag of the next place as 1, and then the count of full places rose. `pull`
+//!   sets a place of its caller's to the next piece by number, or answers that there is none where it loaded
+//!   the flag of the next place as 0, and then the count of empty places rose.
 //! - `can_push` and `can_pull` load the same flag without a piece: they answer whether the place is the
 //!   caller's, and count it where it isn't.
 //! - After `close` what each rank pulled from another is the beginning of what was pushed to it, at most
@@ -36,6 +38,7 @@ mod close;
 mod counts;
 mod pieces;
 mod port;
+mod slots;
 mod steps;
 mod table;
 mod tallies;
@@ -45,5 +48,6 @@ mod tests;
 pub use close::RingAccount;
 pub use pieces::{can_pull, can_push, pull, push};
 pub use port::{RingPort, Rings};
+pub use slots::Slot;
 pub use table::{Entry, Lane, Work};
 pub use tallies::Tally;

@@ -1,7 +1,7 @@
 //! Pieces through the rings. A call makes at most two steps, each on the flag of one place.
 
 ghost use Rattle.std.specs.Prelude.{◌≡◌, ◌+◌, ◌<◌, ◌≤◌, length};
-ghost use Rattle.std.specs.Prelude.{IfOk, IfErr, IfSome, IfNone, true, false};
+ghost use Rattle.std.specs.Prelude.{true, false};
 ghost use Rattle.nm_copyring.specs.Plays.{one_empty, one_full, one_pulled, one_pushed, with_lane};
 ghost use Rattle.nm_copyring.specs.Ports.{Owns, knows, pushed_to, pulled_from};
 
@@ -48,29 +48,29 @@ pub fn can_pull<L: Ledger>(r: &Rings, port: &mut RingPort, sender: u8, steps: &m
     full
 }
 
-/// Pushes a piece to a rank, which may be the port's own. The piece is the next one by number. It comes
-/// back where the flag of its place was loaded as 1: the piece of four numbers before is still there.
+/// Pushes a piece to a rank, which may be the port's own. The piece is the next one by number. It isn't
+/// pushed where the flag of its place was loaded as 1: the piece of four numbers before is still there.
 pub fn push<L: Ledger>(
     r: &Rings,
     port: &mut RingPort,
     to: u8,
-    piece: Piece,
+    piece: &Piece,
     steps: &mut Steps<L>,
-) -> Result<(), Piece>
+) -> bool
     requires owns { Owns r.now port.old }
     requires to { to < r.now.ranks }
-    requires next { (piece.from ≡ port.old.rank) × (piece.number ≡ length (pushed_to port.old to)) }
+    requires next { (piece.now.from ≡ port.old.rank)
+        × (piece.now.number ≡ length (pushed_to port.old to)) }
     ensures owns { Owns r.now port.new × (port.new.rank ≡ port.old.rank) }
-    ensures pushed { IfOk result
-        (λ _. knows port.new ≡ with_lane (one_pushed piece) to (knows port.old)) }
-    ensures refused { IfErr result (λ back. (back ≡ piece)
-        × (knows port.new ≡ with_lane one_full to (knows port.old))) }
-    ensures cost { IfOk result (λ _. steps.new ≡ steps.old + 2)
-        × IfErr result (λ _. steps.new ≡ steps.old + 1) }
+    ensures pushed { result ≡ true
+        → knows port.new ≡ with_lane (one_pushed piece.now) to (knows port.old) }
+    ensures refused { result ≡ false → knows port.new ≡ with_lane one_full to (knows port.old) }
+    ensures cost { (result ≡ true → steps.new ≡ steps.old + 2)
+        × (result ≡ false → steps.new ≡ steps.old + 1) }
     ensures bound { steps.new ≤ steps.old + 2 }
 {
     let pushed = fill_next(r, &mut port.seat, to, piece, steps);
-    if pushed.is_ok() {
+    if pushed {
         count_pushed(&mut port.tallies, to as usize);
     } else {
         count_full(&mut port.tallies, to as usize);
@@ -78,36 +78,33 @@ pub fn push<L: Ledger>(
     pushed
 }
 
-/// Pulls the next piece by number of a rank, which may be the port's own. There is none where the flag of
-/// its place was loaded as 0.
+/// Pulls the next piece by number of a rank, which may be the port's own, into a place of the caller's.
+/// There is none where the flag of its place was loaded as 0.
 pub fn pull<L: Ledger>(
     r: &Rings,
     port: &mut RingPort,
     sender: u8,
+    into: &mut Piece,
     steps: &mut Steps<L>,
-) -> Option<Piece>
+) -> bool
     requires owns { Owns r.now port.old }
     requires sender { sender < r.now.ranks }
     ensures owns { Owns r.now port.new × (port.new.rank ≡ port.old.rank) }
-    ensures next { IfSome result (λ piece. (piece.from ≡ sender)
-        × (piece.number ≡ length (pulled_from port.old sender))) }
-    ensures pulled { IfSome result
-        (λ piece. knows port.new ≡ with_lane (one_pulled piece) sender (knows port.old)) }
-    ensures missed { IfNone result
-        (knows port.new ≡ with_lane one_empty sender (knows port.old)) }
-    ensures cost { IfSome result (λ _. steps.new ≡ steps.old + 2)
-        × IfNone result (steps.new ≡ steps.old + 1) }
+    ensures next { result ≡ true → (into.new.from ≡ sender)
+        × (into.new.number ≡ length (pulled_from port.old sender)) }
+    ensures pulled { result ≡ true
+        → knows port.new ≡ with_lane (one_pulled into.new) sender (knows port.old) }
+    ensures missed { result ≡ false → knows port.new ≡ with_lane one_empty sender (knows port.old) }
+    ensures cost { (result ≡ true → steps.new ≡ steps.old + 2)
+        × (result ≡ false → steps.new ≡ steps.old + 1) }
     ensures bound { steps.new ≤ steps.old + 2 }
 {
     let number = port.pulled(sender);
-    match empty_next(r, &mut port.seat, port.rank, sender, number, steps) {
-        Some(piece) => {
-            count_pulled(&mut port.tallies, sender as usize);
-            Some(piece)
-        }
-        None => {
-            count_empty(&mut port.tallies, sender as usize);
-            None
-        }
+    let pulled = empty_next(r, &mut port.seat, port.rank, sender, number, into, steps);
+    if pulled {
+        count_pulled(&mut port.tallies, sender as usize);
+    } else {
+        count_empty(&mut port.tallies, sender as usize);
     }
+    pulled
 }

@@ -1,12 +1,13 @@
 //! The steps on the flag of a place: a load at each end, the store of 1 and the store of 0.
 
 ghost use Rattle.std.specs.Prelude.{◌≡◌, ◌+◌, ◌*◌, ◌%◌, ◌<◌, length};
-ghost use Rattle.std.specs.Prelude.{IfOk, IfErr, IfSome, IfNone, true, false};
+ghost use Rattle.std.specs.Prelude.{true, false};
 ghost use Rattle.nm_copyring.specs.Rule.{lane, place};
 ghost use Rattle.nm_copyring.specs.Plays.{one_empty, one_full, one_pulled, one_pushed, with_lane};
 ghost use Rattle.nm_copyring.specs.Plays.{IsOne, Rests, knowing, mine};
 
 use crate::port::Rings;
+use crate::slots::{Slot, empty_slot, fill_slot};
 use crate::table::{Entry, Place};
 use atomic_table::Play;
 use nm_seats::{Steps, View};
@@ -15,7 +16,7 @@ use std::sync::ledger::Ledger;
 
 struct LooksOut;
 
-impl Play<Option<Piece>, View<Entry>> for LooksOut {
+impl Play<Slot, View<Entry>> for LooksOut {
     ghost use Rattle.nm_copyring.specs.Plays.{looked_out};
 
     ghost then = { looked_out };
@@ -23,7 +24,7 @@ impl Play<Option<Piece>, View<Entry>> for LooksOut {
 
 struct PeeksOut;
 
-impl Play<Option<Piece>, View<Entry>> for PeeksOut {
+impl Play<Slot, View<Entry>> for PeeksOut {
     ghost use Rattle.nm_copyring.specs.Plays.{peeked_out};
 
     ghost then = { peeked_out };
@@ -31,7 +32,7 @@ impl Play<Option<Piece>, View<Entry>> for PeeksOut {
 
 struct PeeksIn;
 
-impl Play<Option<Piece>, View<Entry>> for PeeksIn {
+impl Play<Slot, View<Entry>> for PeeksIn {
     ghost use Rattle.nm_copyring.specs.Plays.{peeked_in};
 
     ghost then = { peeked_in };
@@ -39,7 +40,7 @@ impl Play<Option<Piece>, View<Entry>> for PeeksIn {
 
 struct Fills;
 
-impl Play<Option<Piece>, View<Entry>> for Fills {
+impl Play<Slot, View<Entry>> for Fills {
     ghost use Rattle.nm_copyring.specs.Plays.{filled};
 
     ghost then = { filled };
@@ -47,7 +48,7 @@ impl Play<Option<Piece>, View<Entry>> for Fills {
 
 struct LooksIn;
 
-impl Play<Option<Piece>, View<Entry>> for LooksIn {
+impl Play<Slot, View<Entry>> for LooksIn {
     ghost use Rattle.nm_copyring.specs.Plays.{looked_in};
 
     ghost then = { looked_in };
@@ -55,7 +56,7 @@ impl Play<Option<Piece>, View<Entry>> for LooksIn {
 
 struct Empties;
 
-impl Play<Option<Piece>, View<Entry>> for Empties {
+impl Play<Slot, View<Entry>> for Empties {
     ghost use Rattle.nm_copyring.specs.Plays.{emptied};
 
     ghost then = { emptied };
@@ -122,70 +123,71 @@ pub(crate) fn is_full<L: Ledger>(
     r.board.shared.load::<PeeksIn>(seat, at) != 0
 }
 
-/// Puts a piece into the seat's next place for a rank, or hands it back where that place is full.
+/// Puts a piece into the seat's next place for a rank. It answers that it didn't where that place is
+/// full.
 pub(crate) fn fill_next<L: Ledger>(
     r: &Rings,
     seat: &mut Place,
     to: u8,
-    piece: Piece,
+    piece: &Piece,
     steps: &mut Steps<L>,
-) -> Result<(), Piece>
+) -> bool
     requires table { seat.old.table_id ≡ r.now.board.shared.table_id }
     requires rests { Rests seat.old.me × IsOne r.now.ranks (mine seat.old.me) }
     requires to { to < r.now.ranks }
-    requires next { (piece.from ≡ (mine seat.old.me).rank)
-        × (piece.number ≡ length (lane (mine seat.old.me) to).pushed) }
+    requires next { (piece.now.from ≡ (mine seat.old.me).rank)
+        × (piece.now.number ≡ length (lane (mine seat.old.me) to).pushed) }
     ensures same { seat.new.table_id ≡ seat.old.table_id }
-    ensures pushed { IfOk result
-        (λ _. seat.new.me ≡ knowing (with_lane (one_pushed piece) to (mine seat.old.me))) }
-    ensures refused { IfErr result (λ back. (back ≡ piece)
-        × (seat.new.me ≡ knowing (with_lane one_full to (mine seat.old.me)))) }
-    ensures cost { IfOk result (λ _. steps.new ≡ steps.old + 2)
-        × IfErr result (λ _. steps.new ≡ steps.old + 1) }
+    ensures pushed { result ≡ true
+        → seat.new.me ≡ knowing (with_lane (one_pushed piece.now) to (mine seat.old.me)) }
+    ensures refused { result ≡ false
+        → seat.new.me ≡ knowing (with_lane one_full to (mine seat.old.me)) }
+    ensures cost { (result ≡ true → steps.new ≡ steps.old + 2)
+        × (result ≡ false → steps.new ≡ steps.old + 1) }
 {
     let at = r.place(piece.from, to, piece.number);
     steps.tick();
     if r.board.shared.load::<LooksOut>(seat, at) != 0 {
-        return Err(piece);
+        return false;
     }
-    let free = r.board.shared.exchange(seat, at, Some(piece));
-    let None = free else { unreachable!() };
+    fill_slot(&r.board, seat, at, piece);
     steps.tick();
     r.board.shared.store::<Fills>(seat, at, 1);
-    Ok(())
+    true
 }
 
-/// Takes the piece out of the seat's next place of a rank, or `None` where that place is empty. `number`
-/// is the number of that piece.
+/// Takes the piece out of the seat's next place of a rank, into a place of the caller's. It answers that
+/// there is none where the seat's place is empty. `number` is the number of that piece.
 pub(crate) fn empty_next<L: Ledger>(
     r: &Rings,
     seat: &mut Place,
     rank: u8,
     sender: u8,
     number: u64,
+    into: &mut Piece,
     steps: &mut Steps<L>,
-) -> Option<Piece>
+) -> bool
     requires table { seat.old.table_id ≡ r.now.board.shared.table_id }
     requires rests { Rests seat.old.me × IsOne r.now.ranks (mine seat.old.me) }
     requires sender { sender < r.now.ranks }
     requires next { (rank ≡ (mine seat.old.me).rank)
         × (number ≡ length (lane (mine seat.old.me) sender).pulled) }
     ensures same { seat.new.table_id ≡ seat.old.table_id }
-    ensures next { IfSome result (λ piece. (piece.from ≡ sender) × (piece.number ≡ number)) }
-    ensures pulled { IfSome result
-        (λ piece. seat.new.me ≡ knowing (with_lane (one_pulled piece) sender (mine seat.old.me))) }
-    ensures missed { IfNone result
-        (seat.new.me ≡ knowing (with_lane one_empty sender (mine seat.old.me))) }
-    ensures cost { IfSome result (λ _. steps.new ≡ steps.old + 2)
-        × IfNone result (steps.new ≡ steps.old + 1) }
+    ensures next { result ≡ true → (into.new.from ≡ sender) × (into.new.number ≡ number) }
+    ensures pulled { result ≡ true
+        → seat.new.me ≡ knowing (with_lane (one_pulled into.new) sender (mine seat.old.me)) }
+    ensures missed { result ≡ false
+        → seat.new.me ≡ knowing (with_lane one_empty sender (mine seat.old.me)) }
+    ensures cost { (result ≡ true → steps.new ≡ steps.old + 2)
+        × (result ≡ false → steps.new ≡ steps.old + 1) }
 {
     let at = r.place(sender, rank, number);
     steps.tick();
     if r.board.shared.load::<LooksIn>(seat, at) == 0 {
-        return None;
+        return false;
     }
-    let found = r.board.shared.exchange(seat, at, None);
+    empty_slot(&r.board, seat, at, into);
     steps.tick();
     r.board.shared.store::<Empties>(seat, at, 0);
-    found
+    true
 }

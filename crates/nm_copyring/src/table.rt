@@ -1,5 +1,6 @@
 //! The table, and what a seat knows.
 
+use crate::slots::Slot;
 use atomic_table::{Seat, Table, TableRule};
 use nm_seats::View;
 use nm_types::Piece;
@@ -34,9 +35,10 @@ pub struct Entry {
     pub work: Work,
 }
 
+/// The rule of the rings' table (`Rule`), and the view of its first seat.
 pub struct InPlaces;
 
-impl TableRule<Option<Piece>, View<Entry>, u64> for InPlaces {
+impl TableRule<Slot, View<Entry>, u64> for InPlaces {
     ghost use Rattle.nm_copyring.specs.Rule.{Rule, first_view};
 
     ghost holds = { Rule };
@@ -44,6 +46,8 @@ impl TableRule<Option<Piece>, View<Entry>, u64> for InPlaces {
     ghost first = { first_view };
 }
 
-pub type Board = Table<Option<Piece>, View<Entry>, u64, InPlaces, Global>;
+/// The table that all ranks share.
+pub type Board = Table<Slot, View<Entry>, u64, InPlaces, Global>;
 
-pub type Place = Seat<Option<Piece>, View<Entry>>;
+/// A seat of it, which speaks for some of the ranks.
+pub type Place = Seat<Slot, View<Entry>>;

@@ -49,7 +49,7 @@ fn piece(from: u8, number: u64) -> Piece
     }
 }
 
-// Pushes the next piece to a rank, and gives the number of a piece that came back.
+// Pushes the next piece to a rank, and gives the number of a piece that isn't pushed.
 fn push_next<L: Ledger>(r: &Rings, port: &mut RingPort, to: u8, steps: &mut Steps<L>) -> Option<u64>
     requires { Owns r.now port.old × (to < r.now.ranks) }
     ensures { Owns r.now port.new × (port.new.rank ≡ port.old.rank) }
@@ -58,9 +58,10 @@ fn push_next<L: Ledger>(r: &Rings, port: &mut RingPort, to: u8, steps: &mut Step
         return None;
     }
     let next = piece(port.rank(), port.pushed(to));
-    match push(r, port, to, next, steps) {
-        Ok(()) => None,
-        Err(back) => Some(back.number),
+    if push(r, port, to, &next, steps) {
+        None
+    } else {
+        Some(next.number)
     }
 }
 
@@ -74,7 +75,10 @@ fn pull_next<L: Ledger>(
     requires { Owns r.now port.old × (sender < r.now.ranks) }
     ensures { Owns r.now port.new × (port.new.rank ≡ port.old.rank) }
 {
-    let piece = pull(r, port, sender, steps)?;
+    let mut piece = Piece::blank();
+    if !pull(r, port, sender, &mut piece, steps) {
+        return None;
+    }
     if piece.bytes.as_slice() == piece.number.to_le_bytes().as_slice() {
         Some(piece.number)
     } else {
@@ -109,7 +113,7 @@ fn calls<L: Ledger>(
 }
 
 #[test]
-fn a_fifth_piece_comes_back(rt: HostRuntime) -> Result<(), Fail> {
+fn a_fifth_piece_isnt_pushed(rt: HostRuntime) -> Result<(), Fail> {
     let (rings, mut a, mut b) = two_ranks(rt.alloc())?;
     let answers = calls::<Brand>(rt.alloc(), &rings, &mut a, &mut b, Blank::new(1))?;
     let expected = [
@@ -144,7 +148,7 @@ fn sixty_four_ranks_have_rings(rt: HostRuntime) -> Result<(), Fail> {
     Ok(())
 }
 
-// Pushes so many pieces, each as often as it comes back.
+// Pushes so many pieces, each as often as its place is full.
 fn push_all<R: Wait, L: Ledger>(rt: &R, r: &Rings, mut port: RingPort, blank: Blank) -> RingPort
     requires blank { (blank.name ≡ L.name) × (blank.parts ≡ L.parts) × (0 < L.parts) }
     requires owns { (r.now.ranks ≡ 2) × Owns r.now port }

@@ -17,14 +17,14 @@ load-requires g c = let r = c.args.r.now in let seat = c.args.seat.now in let z 
       few,
       look_out_allowed r.board.shared.key r.ranks r.board.shared.table_id.slots seat.id r.shape z.1
           seat.me (ap (λ m. m.0) q.0.0) q.1 c.args.to c.requires.to word
-          (out_is r.ranks 0 word c.args.to seat.me q.0 q.1 c.requires.to c.args.piece.from
-          c.args.piece.number c.place-at.ensures.at next.0 next.1) q.0.1,
+          (out_is r.ranks 0 word c.args.to seat.me q.0 q.1 c.requires.to c.args.piece.now.from
+          c.args.piece.now.number c.place-at.ensures.at next.0 next.1) q.0.1,
     )
 
 pub store-requires : goal.store-requires
 store-requires g c = let r = c.args.r.now in let seat = c.args.seat.now in let z = r.sizes in
     let words = z.0 in let rest = c.requires.rests in let next = c.requires.next in
-    let low = c.place-at.ensures.low in let q = c.args.piece in let to = c.args.to in
+    let low = c.place-at.ensures.low in let q = c.args.piece.now in let to = c.args.to in
     let word : ℕ = c.place-at.result in let slots = r.board.shared.table_id.slots in
     let few : word < r.board.shared.table_id.words = omega arith in
     let is = out_is r.ranks slots word to seat.me rest.0 rest.1 c.requires.to q.from q.number
@@ -32,19 +32,19 @@ store-requires g c = let r = c.args.r.now in let seat = c.args.seat.now in let z
     let free = free_found r.ranks slots word to seat.me rest.0 rest.1 c.requires.to c.load.result
     c.load.new.seat.me c.load.ensures.2 is c.if-load-ne0.false in
     let lies = exchanged r.ranks slots word to seat.me rest.0 rest.1 c.requires.to (Filling to) None
-    (Some q) c.load.new.seat.me c.exchange-free.new.seat.me free c.exchange-free.ensures.3 in
+    (Some q) c.load.new.seat.me c.fill_slot.new.seat.me free c.fill_slot.ensures.filled in
     let me : Knowing = working (Filling to) word (Some q) (mine seat.me) in (
-      c.exchange-free.ensures.0 ∙ c.load.ensures.0 ∙ c.requires.table,
+      c.fill_slot.ensures.seat.0 ∙ c.load.ensures.0 ∙ c.requires.table,
       few,
-      subst (λ m. Allows (Rule r.board.shared.key) slots c.exchange-free.new.seat.id m word (λ _. 1)
+      subst (λ m. Allows (Rule r.board.shared.key) slots c.fill_slot.new.seat.id m word (λ _. 1)
           (λ _. filled (step slots word 1 0 maybe.none) m 1)) (sym lies)
-          (fill_allowed r.board.shared.key r.ranks slots c.exchange-free.new.seat.id r.shape z.1 me
+          (fill_allowed r.board.shared.key r.ranks slots c.fill_slot.new.seat.id r.shape z.1 me
           refl rest.1 to c.requires.to word q [] is refl refl next.0 next.1),
     )
 
 pub returns-clause-pushed : goal.returns-clause-pushed
-returns-clause-pushed g c = let r = c.args.r.now in let seat = c.args.seat.now in
-    let rest = c.requires.rests in let next = c.requires.next in let q = c.args.piece in
+returns-clause-pushed g c is_true = let r = c.args.r.now in let seat = c.args.seat.now in
+    let rest = c.requires.rests in let next = c.requires.next in let q = c.args.piece.now in
     let to = c.args.to in let word : ℕ = c.place-at.result in
     let slots = r.board.shared.table_id.slots in
     let is = out_is r.ranks slots word to seat.me rest.0 rest.1 c.requires.to q.from q.number
@@ -52,6 +52,6 @@ returns-clause-pushed g c = let r = c.args.r.now in let seat = c.args.seat.now i
     let free = free_found r.ranks slots word to seat.me rest.0 rest.1 c.requires.to c.load.result
     c.load.new.seat.me c.load.ensures.2 is c.if-load-ne0.false in
     let lies = exchanged r.ranks slots word to seat.me rest.0 rest.1 c.requires.to (Filling to) None
-    (Some q) c.load.new.seat.me c.exchange-free.new.seat.me free c.exchange-free.ensures.3 in
+    (Some q) c.load.new.seat.me c.fill_slot.new.seat.me free c.fill_slot.ensures.filled in
     pushed_after r.ranks slots word to seat.me rest.0 rest.1 c.requires.to q
-    c.exchange-free.new.seat.me c.store.new.seat.me lies c.store.ensures.2
+    c.fill_slot.new.seat.me c.store.new.seat.me lies c.store.ensures.2
