@@ -14,7 +14,7 @@ use Rattle.nm_table.proofs.QueueLemmas.{pick_no, pick_yes}
 use Rattle.nm_cells.specs.Counted.{IsOneOf}
 use Rattle.nm_cells.specs.PathLists.{Begins, by_number, numbered, packets}
 use Rattle.nm_carried.specs.Carried.{AreListed}
-use Rattle.nm_cells.proofs.CountedLemmas.{one_of_append}
+use Rattle.nm_cells.proofs.NumberLemmas.{one_of_append}
 
 one_of_back : (y : Load) (xs ys : List Load) → IsOneOf y ys → IsOneOf y (xs ++ ys)
 one_of_back y [] ys h = h

@@ -1,6 +1,7 @@
 //! Laws of ports. Each is the contract of a function that does nothing.
 
-ghost use Rattle.std.specs.Prelude.{◌≡◌, ◌<◌, ◌+◌, ◌⊎◌, ℕ, Some, List, [], ◌∷◌, ◌++◌, length, map, slice_get};
+ghost use Rattle.std.specs.Prelude.{◌≡◌, ◌<◌, ◌+◌, ◌⊎◌, ℕ, Some, List, [], ◌∷◌, ◌++◌, length, map};
+ghost use Rattle.std.specs.Prelude.{slice_get};
 ghost use Rattle.nm_types.specs.declared.packets.Packet.{Packet};
 ghost use Rattle.nm_seats.specs.Update.{update};
 ghost use Rattle.nm_table.specs.declared.table.Entry.{Entry};

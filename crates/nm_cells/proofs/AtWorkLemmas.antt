@@ -16,7 +16,7 @@ use Rattle.nm_cells.proofs.CarriedLemmas.{times_else}
 use Rattle.nm_cells.proofs.HoldingLemmas.{load_first, load_behind, turned_by, times_by, load_by}
 use Rattle.nm_facts.proofs.Options.{no_some}
 use Rattle.nm_seats.proofs.PairLemmas.{one_pair}
-use Rattle.nm_table.proofs.BoxRuleLemmas.{some_is}
+use Rattle.nm_table.proofs.BoxLemmas.{some_is}
 
 abbrev numbers : List (ℕ × Load) → List ℕ
 numbers l = map (λ (x : ℕ × Load). x.0) l

@@ -23,8 +23,8 @@ use Rattle.nm_cells.specs.declared.port.Fabric.{Fabric}
 use Rattle.nm_cells.specs.Ports.{Owns, IsFresh, knows, taken_by, unpassed_by}
 use Rattle.nm_cells.specs.AtWork.{HoldsBoxes}
 use Rattle.nm_cells.specs.Carried.{slots_with, in_hand, fills, empties, Carries}
-use Rattle.nm_cells.specs.declared.peers.Peer.{Peer}
-use Rattle.nm_cells.specs.Counted.{peer_in, new_peer, all_unpassed}
+use Rattle.nm_cells.specs.declared.tallies.Tally.{Tally}
+use Rattle.nm_cells.specs.Counted.{peer_in, new_tally, all_unpassed}
 use Rattle.nm_cells.specs.LooseCells.{AreKept}
 use Rattle.nm_cells.proofs.BoxPortLemmas.{boxes_pushed}
 use Rattle.nm_cells.proofs.CarriedLemmas.{cell_picked, within, roomier}
@@ -154,11 +154,11 @@ same_all zero d a = refl
 same_all (suc n) zero a = refl
 same_all (suc n) (suc d) a = same_all n d a
 
-pub none_taken : (n d : ℕ) → (peer_in (replicate n new_peer) d).taken ≡ 0
-none_taken n d = ap (λ (p : Peer). p.taken) (same_all n d new_peer)
+pub none_taken : (n d : ℕ) → (peer_in (replicate n new_tally) d).taken ≡ 0
+none_taken n d = ap (λ (p : Tally). p.taken) (same_all n d new_tally)
 
-pub none_unpassed : (n : ℕ) → all_unpassed (replicate n new_peer) ≡ 0
-none_unpassed n = let s = sum_by-replicate (λ (p : Peer). p.unpassed) n new_peer in omega arith
+pub none_unpassed : (n : ℕ) → all_unpassed (replicate n new_tally) ≡ 0
+none_unpassed n = let s = sum_by-replicate (λ (p : Tally). p.unpassed) n new_tally in omega arith
 
 -- no cell is in hand
 pub all_away : (hs : List Hand) (m : ℕ) → length hs ≡ m

@@ -10,7 +10,7 @@ use Rattle.atomic_table.specs.Table.{rest}
 use Rattle.nm_seats.specs.Spoken.{view}
 use Rattle.nm_seats.specs.Update.{update}
 use Rattle.nm_seats.proofs.UpdateLemmas.{update_here, update_else}
-use Rattle.nm_cells.specs.declared.peers.Peer.{Peer}
+use Rattle.nm_cells.specs.declared.tallies.Tally.{Tally}
 use Rattle.nm_table.specs.declared.table.Entry.{Entry}
 use Rattle.nm_cells.specs.declared.port.Port.{Port}
 use Rattle.nm_cells.specs.declared.port.Fabric.{Fabric}
@@ -18,11 +18,11 @@ use Rattle.nm_table.specs.Rule.{Load, put_to, from, box_slot, filling_of, emptyi
 use Rattle.nm_table.specs.Rule.{number}
 use Rattle.nm_table.specs.Plays as plays
 use Rattle.nm_table.specs.Plays.{Knowing, mine, with_filling, with_emptying, with_box_full}
-use Rattle.nm_table.specs.Plays.{with_box_miss, with_put_box, with_got_box, opened, begun, Begun}
+use Rattle.nm_table.specs.Plays.{with_box_miss, with_put_box, with_got_box, slots_to_fill, slots_to_empty, IsToEmpty}
 use Rattle.nm_table.specs.NextBox.{next_box, work, BoxesApart}
 use Rattle.nm_cells.specs.AtWork.{HoldsBoxes}
 use Rattle.nm_cells.specs.Carried.{times, held_in}
-use Rattle.nm_cells.specs.Counted.{CountsFor, peer_in, new_peer, all_unpassed, with_peer, one_full}
+use Rattle.nm_cells.specs.Counted.{CountsFor, peer_in, new_tally, all_unpassed, with_peer, one_full}
 use Rattle.nm_cells.specs.Counted.{one_miss, one_opened, one_begun, one_boxed, one_unboxed}
 use Rattle.nm_cells.specs.Ports.{Owns, holding, opens, unless, sent_by, taken_by}
 use Rattle.nm_chain.specs.Sequence.{Has, Got}
@@ -32,38 +32,40 @@ use Rattle.nm_cells.proofs.PortLemmas.{CarriesFor, peer_sent}
 use Rattle.nm_cells.proofs.CarriedLemmas as carried
 use Rattle.nm_cells.proofs.CarriedLemmas.{within, count_within, roomier}
 use Rattle.nm_cells.proofs.CountedLemmas as counted
-use Rattle.nm_cells.proofs.CountedLemmas.{peer_same, peer_here, peer_else, number_small}
+use Rattle.nm_cells.proofs.BoxCountedLemmas as box_counted
+use Rattle.nm_cells.proofs.CountedLemmas.{peer_same, peer_here, peer_else}
+use Rattle.nm_cells.proofs.NumberLemmas.{number_small}
 use Rattle.nm_cells.proofs.HoldingLemmas.{held_box}
 use Rattle.nm_cells.proofs.AtWorkLemmas.{behind_of}
 use Rattle.nm_cells.proofs.BoxPortLemmas as boxes
 
 -- a change that leaves what is passed on
-pub peers_stay : (g : Peer → Peer) (j : ℕ) (peers : List Peer) → j < length peers
-    → ((p : Peer) → (g p).taken ≡ p.taken) → ((p : Peer) → (g p).unpassed ≡ p.unpassed)
+pub peers_stay : (g : Tally → Tally) (j : ℕ) (peers : List Tally) → j < length peers
+    → ((p : Tally) → (g p).taken ≡ p.taken) → ((p : Tally) → (g p).unpassed ≡ p.unpassed)
     → ((i : ℕ) → (peer_in (with_peer g j peers) i).taken ≡ (peer_in peers i).taken)
     × (all_unpassed (with_peer g j peers) ≡ all_unpassed peers)
 peers_stay g j peers low taken unpassed = (
-  peer_same (λ (p : Peer). p.taken) g j peers low taken,
-  let s = sum_by-set (λ (p : Peer). p.unpassed) peers j (g (peer_in peers j)) new_peer low in
+  peer_same (λ (p : Tally). p.taken) g j peers low taken,
+  let s = sum_by-set (λ (p : Tally). p.unpassed) peers j (g (peer_in peers j)) new_tally low in
       let u = unpassed (peer_in peers j) in omega arith,
 )
 
 -- one more packet of a rank came by box, and was passed on
-pub unboxed_taken : (j : ℕ) (peers : List Peer) → j < length peers → (i : ℕ)
+pub unboxed_taken : (j : ℕ) (peers : List Tally) → j < length peers → (i : ℕ)
     → (peer_in (with_peer one_unboxed j peers) i).taken
     ≡ update (λ k. (peer_in peers k).taken) j ((peer_in peers j).taken + 1) i
 unboxed_taken j peers low i = let taken : ℕ → ℕ = λ k. (peer_in peers k).taken in
     dite (ℕ_discrete i j)
     (λ e. ap (λ k. (peer_in (with_peer one_unboxed j peers) k).taken) e
-    ∙ ap (λ (u : Peer). u.taken) (peer_here one_unboxed j peers low)
+    ∙ ap (λ (u : Tally). u.taken) (peer_here one_unboxed j peers low)
     ∙ sym (update_here taken j (taken j + 1) i e))
-    (λ ne. ap (λ (u : Peer). u.taken) (peer_else one_unboxed j i peers ne)
+    (λ ne. ap (λ (u : Tally). u.taken) (peer_else one_unboxed j i peers ne)
     ∙ sym (update_else taken j (taken j + 1) i ne))
 
-pub unboxed_unpassed : (j : ℕ) (peers : List Peer) → j < length peers
+pub unboxed_unpassed : (j : ℕ) (peers : List Tally) → j < length peers
     → all_unpassed (with_peer one_unboxed j peers) ≡ all_unpassed peers
-unboxed_unpassed j peers low = let s = sum_by-set (λ (p : Peer). p.unpassed) peers j
-    (one_unboxed (peer_in peers j)) new_peer low in omega arith
+unboxed_unpassed j peers low = let s = sum_by-set (λ (p : Tally). p.unpassed) peers j
+    (one_unboxed (peer_in peers j)) new_tally low in omega arith
 
 -- whether a number came is decided
 has_or_not : (k : ℕ) (xs : List ℕ) → Dec (Has k xs)
@@ -245,7 +247,7 @@ module _ (f : Fabric) (p : Port) (owns : Owns f p) (j : ℕ) (lj : j < f.ranks) 
           ∙ held_box (length e.hands) slot w (rest p.seat.me.1)
           (subst (λ k. length e.hands ≤ k) (sym at) (far true)))
 
-      pub filled_counts : (peers : List Peer) → peers ≡ with_peer one_boxed j p.peers.items
+      pub filled_counts : (peers : List Tally) → peers ≡ with_peer one_boxed j p.peers.items
           → ∥ CountsFor (mine after) peers p.held ∥₁
       filled_counts peers same = subst (λ l. ∥ CountsFor (mine after) l p.held ∥₁) (sym same)
           (subst (λ (m : Knowing). ∥ CountsFor (mine m) (with_peer one_boxed j p.peers.items)
@@ -287,7 +289,7 @@ module _ (f : Fabric) (p : Port) (owns : Owns f p) (j : ℕ) (lj : j < f.ranks) 
           (subst (λ k. length e.hands ≤ k) (sym at) (far false)))
 
       pub emptied_counts : sender y ≡ suc j → number y ≡ taken_by p j
-          → ¬ plays.Came e j (number y) → (peers : List Peer)
+          → ¬ plays.Came e j (number y) → (peers : List Tally)
           → peers ≡ with_peer one_unboxed j p.peers.items
           → ∥ CountsFor (mine after) peers p.held ∥₁
       emptied_counts whose next new peers same =
@@ -301,13 +303,13 @@ module _ (f : Fabric) (p : Port) (owns : Owns f p) (j : ℕ) (lj : j < f.ranks) 
     -- a free box is the port's to fill
     module _ (at : slot ≡ next_box e true j) (is : after ≡ (
       view (with_filling j true e ∷ []),
-      opened (filling_of e j) slot p.seat.me.1,
+      slots_to_fill (filling_of e j) slot p.seat.me.1,
     )) (apart : BoxesApart (mine after)) where
       at_once : (b : Bool) → filling_of e j ≡ b → after ≡ (
         view (with_filling j true e ∷ []),
-        opened b slot p.seat.me.1,
+        slots_to_fill b slot p.seat.me.1,
       )
-      at_once b was = is ∙ ap (λ x. (view (with_filling j true e ∷ []), opened x slot p.seat.me.1)) was
+      at_once b was = is ∙ ap (λ x. (view (with_filling j true e ∷ []), slots_to_fill x slot p.seat.me.1)) was
 
       apart_now : BoxesApart (with_filling j true e)
       apart_now = subst (λ (m : Knowing). BoxesApart (mine m)) is apart
@@ -370,17 +372,17 @@ module _ (f : Fabric) (p : Port) (owns : Owns f p) (j : ℕ) (lj : j < f.ranks) 
           ∙ held_box (length e.hands) slot none p.seat.me.1
           (subst (λ k. length e.hands ≤ k) (sym at) (far true))
 
-      pub free_counts : (peers : List Peer) → peers ≡ with_peer one_opened j p.peers.items
+      pub free_counts : (peers : List Tally) → peers ≡ with_peer one_opened j p.peers.items
           → ∥ CountsFor (mine after) peers p.held ∥₁
       free_counts peers same = subst (λ l. ∥ CountsFor (mine after) l p.held ∥₁) (sym same)
           (subst (λ (m : Knowing). ∥ CountsFor (mine m) (with_peer one_opened j p.peers.items)
           p.held ∥₁) (sym is)
-          (∥∥₁_map p.counts (λ n. counted.box_opened e.put e.got e.put_box e.got_box e.box_full
+          (∥∥₁_map p.counts (λ n. box_counted.box_opened e.put e.got e.put_box e.got_box e.box_full
           e.box_miss e.filling e.emptying e.ranks p.peers.items p.held n j few)))
 
     -- a full box is the port's to empty
     module _ (a : ℕ) (at : slot ≡ next_box e false j)
-        (told : Begun j a slot p.seat.me after) where
+        (told : IsToEmpty j a slot p.seat.me after) where
       abbrev y : Load
       y = plays.box_load j (mine after)
 
@@ -390,9 +392,9 @@ module _ (f : Fabric) (p : Port) (owns : Owns f p) (j : ℕ) (lj : j < f.ranks) 
 
       now : (x : Option Load) → emptying_of e j ≡ x → after ≡ (
         view (with_emptying j (Some y) e ∷ []),
-        begun x slot y p.seat.me.1,
+        slots_to_empty x slot y p.seat.me.1,
       )
-      now x was = told.3 ∙ ap (λ u. (view (with_emptying j (Some y) e ∷ []), begun u slot y p.seat.me.1)) was
+      now x was = told.3 ∙ ap (λ u. (view (with_emptying j (Some y) e ∷ []), slots_to_empty u slot y p.seat.me.1)) was
 
       apart_then : BoxesApart (with_emptying j (Some y) e)
       apart_then = subst (λ (m : Knowing). BoxesApart (mine m)) told.3 told.4
@@ -467,27 +469,27 @@ module _ (f : Fabric) (p : Port) (owns : Owns f p) (j : ℕ) (lj : j < f.ranks) 
             ∙ held_box (length e.hands) slot y p.seat.me.1
             (subst (λ k. length e.hands ≤ k) (sym at) (far false))
 
-      pub begun_counts : (peers : List Peer) → peers ≡ with_peer one_begun j p.peers.items
+      pub begun_counts : (peers : List Tally) → peers ≡ with_peer one_begun j p.peers.items
           → ∥ CountsFor (mine after) peers p.held ∥₁
       begun_counts peers same = subst (λ l. ∥ CountsFor (mine after) l p.held ∥₁) (sym same)
           (subst (λ (m : Knowing). ∥ CountsFor (mine m) (with_peer one_begun j p.peers.items)
           p.held ∥₁) (sym told.3)
-          (∥∥₁_map p.counts (λ n. counted.box_begun e.put e.got e.put_box e.got_box e.box_full
+          (∥∥₁_map p.counts (λ n. box_counted.box_begun e.put e.got e.put_box e.got_box e.box_full
           e.box_miss e.filling e.emptying e.ranks p.peers.items p.held n j y few)))
 
     -- nothing but a count of misses changes
-    pub full_counts : after ≡ (view (with_box_full j e ∷ []), p.seat.me.1) → (peers : List Peer)
+    pub full_counts : after ≡ (view (with_box_full j e ∷ []), p.seat.me.1) → (peers : List Tally)
         → peers ≡ with_peer one_full j p.peers.items → ∥ CountsFor (mine after) peers p.held ∥₁
     full_counts is peers same = subst (λ l. ∥ CountsFor (mine after) l p.held ∥₁) (sym same)
         (subst (λ (m : Knowing). ∥ CountsFor (mine m) (with_peer one_full j p.peers.items)
         p.held ∥₁) (sym is)
-        (∥∥₁_map p.counts (λ n. counted.box_found_full e.put e.got e.put_box e.got_box e.box_full
+        (∥∥₁_map p.counts (λ n. box_counted.box_found_full e.put e.got e.put_box e.got_box e.box_full
         e.box_miss e.filling e.emptying e.ranks p.peers.items p.held n j few)))
 
-    pub miss_counts : after ≡ (view (with_box_miss j e ∷ []), p.seat.me.1) → (peers : List Peer)
+    pub miss_counts : after ≡ (view (with_box_miss j e ∷ []), p.seat.me.1) → (peers : List Tally)
         → peers ≡ with_peer one_miss j p.peers.items → ∥ CountsFor (mine after) peers p.held ∥₁
     miss_counts is peers same = subst (λ l. ∥ CountsFor (mine after) l p.held ∥₁) (sym same)
         (subst (λ (m : Knowing). ∥ CountsFor (mine m) (with_peer one_miss j p.peers.items)
         p.held ∥₁) (sym is)
-        (∥∥₁_map p.counts (λ n. counted.box_missed e.put e.got e.put_box e.got_box e.box_full
+        (∥∥₁_map p.counts (λ n. box_counted.box_missed e.put e.got e.put_box e.got_box e.box_full
         e.box_miss e.filling e.emptying e.ranks p.peers.items p.held n j few)))

@@ -14,7 +14,8 @@ use Rattle.nm_table.specs.Plays.{Knowing, mine, Took}
 use Rattle.nm_cells.specs.Carried.{times}
 use Rattle.nm_table.specs.NextBox.{to_fill, next_box, work, BoxesApart}
 use Rattle.nm_cells.specs.AtWork.{one_at, HoldsBoxes}
-use Rattle.nm_cells.proofs.CountedLemmas.{put_other, from_other, lids_new}
+use Rattle.nm_cells.proofs.CountedLemmas.{lids_new}
+use Rattle.nm_cells.proofs.NumberLemmas.{put_other, from_other}
 use Rattle.nm_cells.proofs.HoldingLemmas.{turned_by}
 use Rattle.nm_cells.proofs.AtWorkLemmas as at_work
 use Rattle.nm_cells.proofs.AtWorkLemmas.{Distinct, distinct_of, behind_of}

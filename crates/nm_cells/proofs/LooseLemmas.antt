@@ -93,7 +93,7 @@ kept_took x me after b c shadow t h = let out = away_apart x (mine me) me.1 h c 
 module _ (x : LooseCells) (me after : Knowing) (h : AreKept x (mine me) me.1) where
   -- a box's slot is taken, to fill it
   pub kept_opened : (j k : ℕ) (was : Bool) → length (mine me).hands ≤ k
-      → after ≡ (view (plays.with_filling j true (mine me) ∷ []), plays.opened was k me.1)
+      → after ≡ (view (plays.with_filling j true (mine me) ∷ []), plays.slots_to_fill was k me.1)
       → AreKept x (mine after) after.1
   kept_opened j k true far is = subst (λ (m : Knowing). AreKept x (mine m) m.1) (sym is) h
   kept_opened j k false far is = subst (λ (m : Knowing). AreKept x (mine m) m.1) (sym is)
@@ -103,7 +103,7 @@ module _ (x : LooseCells) (me after : Knowing) (h : AreKept x (mine me) me.1) wh
   pub kept_begun : (i k : ℕ) (was : Option Load) (y : Load) → length (mine me).hands ≤ k
       → after ≡ (
         view (plays.with_emptying i (Some y) (mine me) ∷ []),
-        plays.begun was k y me.1,
+        plays.slots_to_empty was k y me.1,
       ) → AreKept x (mine after) after.1
   kept_begun i k (Some z) y far is = subst (λ (m : Knowing). AreKept x (mine m) m.1) (sym is) h
   kept_begun i k None y far is = subst (λ (m : Knowing). AreKept x (mine m) m.1) (sym is)

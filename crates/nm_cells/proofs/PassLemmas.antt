@@ -8,9 +8,9 @@ use native.Mathlib.Decide.{ℕ_discrete}
 use Rattle.nm_types.specs.declared.packets.Packet.{Packet}
 use Rattle.nm_seats.specs.Update.{update}
 use Rattle.nm_seats.proofs.UpdateLemmas.{update_here, update_else}
-use Rattle.nm_cells.specs.declared.peers.Peer.{Peer}
+use Rattle.nm_cells.specs.declared.tallies.Tally.{Tally}
 use Rattle.nm_cells.specs.declared.port.Port.{Port}
-use Rattle.nm_cells.specs.Counted.{new_peer, peer_in, with_peer, one_passed, all_unpassed}
+use Rattle.nm_cells.specs.Counted.{new_tally, peer_in, with_peer, one_passed, all_unpassed}
 use Rattle.nm_cells.specs.Ports.{knows, taken_by, unpassed_by, IsUnpassed}
 use Rattle.nm_cells.proofs.CountedLemmas.{some_unpassed, peer_here, peer_else}
 use Rattle.nm_cells.proofs.PortLemmas.{peer_low}
@@ -27,13 +27,13 @@ module _ (p : Port) (x : Packet) (un : IsUnpassed p x) (next : x.seq ≡ taken_b
   passed_taken j = let i : ℕ = x.from in let peers = p.peers.items in
       let low = peer_low p i un.0 in dite (ℕ_discrete j i)
       (λ e. ap (λ k. (peer_in (with_peer one_passed i peers) k).taken) e
-      ∙ ap (λ (u : Peer). u.taken) (peer_here one_passed i peers low)
+      ∙ ap (λ (u : Tally). u.taken) (peer_here one_passed i peers low)
       ∙ sym (update_here (taken_by p) i (taken_by p i + 1) j e))
-      (λ ne. ap (λ (u : Peer). u.taken) (peer_else one_passed i j peers ne)
+      (λ ne. ap (λ (u : Tally). u.taken) (peer_else one_passed i j peers ne)
       ∙ sym (update_else (taken_by p) i (taken_by p i + 1) j ne))
 
   pub passed_unpassed : all_unpassed (with_peer one_passed x.from p.peers.items) + 1
       ≡ unpassed_by p
   passed_unpassed = let i : ℕ = x.from in let peers = p.peers.items in
-      let s = sum_by-set (λ (u : Peer). u.unpassed) peers i (one_passed (peer_in peers i)) new_peer
+      let s = sum_by-set (λ (u : Tally). u.unpassed) peers i (one_passed (peer_in peers i)) new_tally
       (peer_low p i un.0) in let left = one_left in omega arith

@@ -13,7 +13,7 @@ use Rattle.atomic_table.specs.Table.{rest}
 use Rattle.nm_types.specs.declared.packets.Packet.{Packet}
 use Rattle.nm_seats.specs.Spoken.{view}
 use Rattle.nm_seats.specs.Update.{update}
-use Rattle.nm_cells.specs.declared.peers.Peer.{Peer}
+use Rattle.nm_cells.specs.declared.tallies.Tally.{Tally}
 use Rattle.nm_table.specs.declared.table.Heads.{Heads}
 use Rattle.nm_table.specs.declared.table.Hand.{Hand}
 use Rattle.nm_table.specs.declared.table.Hand.TheVariants.{Away, Loose, Held, Ready, Entering}
@@ -30,7 +30,7 @@ use Rattle.nm_cells.specs.declared.cell.Cell.{Cell}
 use Rattle.nm_cells.specs.Ports.{Owns, Takes, holding, sent_by, arrivals, queue_of, rank_of_queue}
 use Rattle.nm_cells.specs.Ports.{posted_in, sent_into, HasRoomFor, MayJoin}
 use Rattle.std.proofs.lemmas.List.Sums.{sum_by-set}
-use Rattle.nm_cells.specs.Counted.{CountsFor, counted_after, peer_in, new_peer, all_unpassed}
+use Rattle.nm_cells.specs.Counted.{CountsFor, counted_after, peer_in, new_tally, all_unpassed}
 use Rattle.nm_cells.specs.Counted.{Counts, with_peer, one_sent, one_arrived, IsUnpassedOf, IsOneOf}
 use Rattle.nm_table.specs.declared.table.Entry.{Entry}
 use mathlib.Core.Logic.{dite}
@@ -38,8 +38,10 @@ use Rattle.nm_table.proofs.QueueLemmas.{below_yes, below_no}
 use Rattle.nm_cells.proofs.CarriedLemmas.{none_in_hand, within, count_within, hand_changes}
 use Rattle.nm_cells.proofs.CarriedLemmas.{cell_taken, cell_given, in_hand_one, in_hand_below}
 use Rattle.nm_cells.proofs.CarriedLemmas.{first_removed, roomier}
-use Rattle.nm_cells.proofs.CountedLemmas.{packet_sent, packet_arrived, peer_same, number_small}
-use Rattle.nm_cells.proofs.CountedLemmas.{unpassed_small, from_here, one_of_last}
+use Rattle.nm_cells.proofs.CountedLemmas.{packet_sent, packet_arrived, peer_same}
+use Rattle.nm_cells.proofs.NumberLemmas.{number_small}
+use Rattle.nm_cells.proofs.CountedLemmas.{unpassed_small}
+use Rattle.nm_cells.proofs.NumberLemmas.{from_here, one_of_last}
 use Rattle.nm_cells.proofs.HoldingLemmas.{held_taken, given_held}
 use Rattle.nm_cells.specs.AtWork.{HoldsBoxes}
 use Rattle.nm_cells.specs.LooseCells.{IsAmong, AreKept}
@@ -141,7 +143,7 @@ module _ (me after : Knowing) (carried : List ℕ) (room count : ℕ)
       ∙ ap (λ k. held_in k ((c, t.load) ∷ me.1)) (length-set e.hands c Held)
       ∙ held_taken (length e.hands) c t.load me.1 t.low
 
-module _ (me after : Knowing) (peers : List Peer) (held : Option Packet)
+module _ (me after : Knowing) (peers : List Tally) (held : Option Packet)
     (low : (mine me).rank < (mine me).ranks) where
   pub took_counts : (b : Bool) (c shadow i : ℕ) → i ≡ c / (mine me).each → i < (mine me).ranks
       → Took b c shadow me after → ∥ CountsFor (mine me) peers held ∥₁
@@ -171,7 +173,7 @@ posted_is n (Receive j) y low = below_yes (dec_le (suc j) n) ((j, y) ∷ []) [] 
 posted_is n (Free j) y low = below_no (dec_le (suc (n + j)) n) ((n + j, y) ∷ []) []
     (λ l. omega arith)
 
-pub sent_counts : (me after : Knowing) (peers : List Peer) (held : Option Packet) (q : cells.Queue)
+pub sent_counts : (me after : Knowing) (peers : List Tally) (held : Option Packet) (q : cells.Queue)
     (y : Load) (c : ℕ) (h : Hand) (hs : List (ℕ × Load))
     → after ≡ (view (with_put (posted_in q y) (with_hand c h (mine me)) ∷ []), hs)
     → rank_of_queue q < (mine me).ranks → ∥ CountsFor (mine me) peers held ∥₁
@@ -197,12 +199,12 @@ room_for f p (Receive j) c y may same t = (
 room_for f p (Free j) c y may same t = tt
 
 -- what is passed on stays
-pub sent_taken : (q : cells.Queue) (peers : List Peer) → HasRoomFor q peers
+pub sent_taken : (q : cells.Queue) (peers : List Tally) → HasRoomFor q peers
     → ((i : ℕ) → (peer_in (sent_into q peers) i).taken ≡ (peer_in peers i).taken)
     × (all_unpassed (sent_into q peers) ≡ all_unpassed peers)
 sent_taken (Receive j) peers room = (
-  peer_same (λ (p : Peer). p.taken) one_sent j peers room.0 (λ p. refl),
-  let s = sum_by-set (λ (p : Peer). p.unpassed) peers j (one_sent (peer_in peers j)) new_peer room.0
+  peer_same (λ (p : Tally). p.taken) one_sent j peers room.0 (λ p. refl),
+  let s = sum_by-set (λ (p : Tally). p.unpassed) peers j (one_sent (peer_in peers j)) new_tally room.0
       in omega arith,
 )
 sent_taken (Free j) peers room = ((λ i. refl), refl)
@@ -241,7 +243,7 @@ shadow_below b p x is = subst (λ (u : Heads). u.shadow ≤ length (mine p.seat.
     (end_below b p).0
 
 -- a number that didn't come wasn't passed on
-not_before : (e : Entry) (peers : List Peer) (held : Option Packet) → CountsFor e peers held
+not_before : (e : Entry) (peers : List Tally) (held : Option Packet) → CountsFor e peers held
     → (i k : ℕ) → i < e.ranks → ¬ plays.Came e i k → (peer_in peers i).taken ≤ k
 not_before e peers held n i k li new = dite (dec_le (suc k) (peer_in peers i).taken)
     (λ less. absurd (new ((n.each i li).came k less))) (λ far. omega arith)
@@ -332,22 +334,22 @@ module _ (b : Bool) (f : Fabric) (p : Port) (d c shadow : ℕ) (after : Knowing)
   pub takes_kept : AreKept p.loose (mine after) after.1
   takes_kept = kept_took p.loose p.seat.me after b c shadow t p.kept
 
-  pub takes_counts : (peers : List Peer) → peers ≡ counted_after b (c / f.each) p.peers.items
+  pub takes_counts : (peers : List Tally) → peers ≡ counted_after b (c / f.each) p.peers.items
       → ∥ CountsFor (mine after) peers p.held ∥₁
   takes_counts peers is = subst (λ l. ∥ CountsFor (mine after) l p.held ∥₁) (sym is)
       (took_counts p.seat.me after p.peers.items p.held own_low b c shadow (c / f.each)
       (ap (λ m. c / m) (sym owns.3)) (subst (λ k. c / f.each < k) (sym owns.2) owner_low) t
       p.counts)
 
-  taken_same : (k : Bool) (peers : List Peer) → peers ≡ counted_after k (c / f.each) p.peers.items
+  taken_same : (k : Bool) (peers : List Tally) → peers ≡ counted_after k (c / f.each) p.peers.items
       → c / f.each < length p.peers.items
       → ((i : ℕ) → (peer_in peers i).taken ≡ (peer_in p.peers.items i).taken)
       × (all_unpassed peers ≡ all_unpassed p.peers.items + arrivals k)
   taken_same true peers is low = (
-    (λ i. ap (λ l. (peer_in l i).taken) is ∙ peer_same (λ (u : Peer). u.taken) one_arrived
+    (λ i. ap (λ l. (peer_in l i).taken) is ∙ peer_same (λ (u : Tally). u.taken) one_arrived
         (c / f.each) p.peers.items low (λ u. refl) i),
-    ap all_unpassed is ∙ (let s = sum_by-set (λ (u : Peer). u.unpassed) p.peers.items (c / f.each)
-        (one_arrived (peer_in p.peers.items (c / f.each))) new_peer low in omega arith),
+    ap all_unpassed is ∙ (let s = sum_by-set (λ (u : Tally). u.unpassed) p.peers.items (c / f.each)
+        (one_arrived (peer_in p.peers.items (c / f.each))) new_tally low in omega arith),
   )
   taken_same false peers is low = (
     (λ i. ap (λ l. (peer_in l i).taken) is),
@@ -384,7 +386,7 @@ module _ (b : Bool) (f : Fabric) (p : Port) (d c shadow : ℕ) (after : Knowing)
   takes_own r = (by_free b c t r).1
 
   -- a packet that was taken from the receive queue is to be passed on
-  by_arrival : (k : Bool) (t : Took k c shadow p.seat.me after) → (peers : List Peer)
+  by_arrival : (k : Bool) (t : Took k c shadow p.seat.me after) → (peers : List Tally)
       → peers ≡ counted_after k (c / f.each) p.peers.items → c / f.each < length p.peers.items
       → (x : Packet) → k ≡ true → t.load ≡ Some x
       → IsUnpassedOf (mine after).ranks (mine after).got peers x

@@ -11,8 +11,8 @@ use Rattle.nm_types.specs.declared.packets.Packet.{Packet}
 use Rattle.nm_chain.specs.Sequence.{Got, InSequence}
 use Rattle.nm_table.specs.declared.table.Entry.{Entry}
 use Rattle.nm_table.specs.Rule.{Rule, World, sender, number, from, put_to, sent_to, loads}
-use Rattle.nm_table.specs.Plays.{AllBelow, newcomer}
-use Rattle.nm_cells.specs.declared.peers.Peer.{Peer}
+use Rattle.nm_table.specs.Plays.{AllBelow, no_entry}
+use Rattle.nm_cells.specs.declared.tallies.Tally.{Tally}
 use Rattle.nm_cells.specs.declared.port.Fabric.{Fabric}
 use Rattle.nm_cells.specs.declared.port.Port.{Port}
 use Rattle.nm_cells.specs.AtClose.{AllCame, Settled}
@@ -116,13 +116,13 @@ elem_mapped f (y ∷ ys) zero x at = ap (λ z. maybe.some (f z)) (same_some y x 
 elem_mapped f (y ∷ ys) (suc k) x at = elem_mapped f ys k x at
 
 -- what each port counted
-abbrev pub counts_of : List Port → List (List Peer)
+abbrev pub counts_of : List Port → List (List Tally)
 counts_of items = map (λ v. v.items) (map (λ p. p.peers) items)
 
 -- a closed fabric's ports, what they knew, and what they counted
 module _ (f : Fabric) (items : List Port) (many : length items ≡ f.ranks)
     (ok : (k : ℕ) (p : Port) → slice_get items k ≡ Some p → Owns f p × (p.rank ≡ k)
-    × (p.hands ≡ 0)) (es : List Entry) (ps : List (List Peer)) (home : ℕ)
+    × (p.hands ≡ 0)) (es : List Entry) (ps : List (List Tally)) (home : ℕ)
     (known : es ≡ map knows items) (counted : ps ≡ counts_of items)
     (S : Settled f.board.shared.key es home) where
   port_at : (k : ℕ) → k < f.ranks → (p : Port) × (slice_get items k ≡ Some p)
@@ -140,7 +140,7 @@ module _ (f : Fabric) (items : List Port) (many : length items ≡ f.ranks)
 
   entry_is : (k : ℕ) (p : Port) → slice_get items k ≡ Some p → entry_in es k ≡ knows p
   entry_is k p at = ap (λ l. entry_in l k) known
-      ∙ index_mapped knows (newcomer 0 0) items k p at
+      ∙ index_mapped knows no_entry items k p at
 
   peers_are : (k : ℕ) (p : Port) → slice_get items k ≡ Some p → peers_in ps k ≡ p.peers.items
   peers_are k p at = ap (λ l. peers_in l k) counted

@@ -2,7 +2,7 @@
 use Rattle.std.specs.Prelude.{◌≡◌, ℕ, ◌<◌, List, length, map}
 use Rattle.nm_types.specs.declared.packets.Packet.{Packet}
 use Rattle.nm_table.specs.declared.table.Entry.{Entry}
-use Rattle.nm_cells.specs.declared.peers.Peer.{Peer}
+use Rattle.nm_cells.specs.declared.tallies.Tally.{Tally}
 use Rattle.nm_cells.specs.declared.closed.Closed.{Closed}
 use Rattle.nm_cells.specs.PathLists.{seen_in, sent_between, taken_between}
 
@@ -11,7 +11,7 @@ abbrev pub entries : Closed → List Entry
 entries c = seen_in c.badge.views
 
 -- what each rank counted at the end, in rank order
-abbrev pub counted : Closed → List (List Peer)
+abbrev pub counted : Closed → List (List Tally)
 counted c = map (λ v. v.items) c.counted.items
 
 -- how many ranks there were

@@ -7,14 +7,14 @@ use native.Mathlib.Decide.{dec_le}
 use Rattle.nm_types.specs.declared.limits.TheConstants.{MAX_PACKETS}
 use Rattle.nm_types.specs.declared.packets.Packet.{Packet}
 use Rattle.nm_chain.specs.Sequence.{Each, Rises, Got}
-use Rattle.nm_cells.specs.declared.peers.Peer.{Peer}
+use Rattle.nm_cells.specs.declared.tallies.Tally.{Tally}
 use Rattle.nm_table.specs.declared.table.Entry.{Entry}
 use Rattle.nm_table.specs.Rule.{Load, put_to, from, number, sent_to, if_below}
 use Rattle.nm_table.specs.Plays.{raised}
 
 -- a rank of which nothing came and to which nothing went
-abbrev pub new_peer : Peer
-new_peer = record {
+abbrev pub new_tally : Tally
+new_tally = record {
   sent = 0;
   taken = 0;
   box_put = 0;
@@ -27,8 +27,8 @@ new_peer = record {
 }
 
 -- what is counted of the rank j
-abbrev pub peer_in : List Peer → ℕ → Peer
-peer_in peers j = slice_index_or peers j new_peer
+abbrev pub peer_in : List Tally → ℕ → Tally
+peer_in peers j = slice_index_or peers j new_tally
 
 -- how many of these numbers aren't below t
 abbrev pub not_below : ℕ → List ℕ → ℕ
@@ -41,7 +41,7 @@ IsOneOf y [] = ⊥
 IsOneOf y (x ∷ xs) = (y ≡ x) ⊎ IsOneOf y xs
 
 -- this came by cell from its sender, of n ranks, and wasn't passed on
-abbrev pub IsUnpassedOf : ℕ → List Load → List Peer → Packet → Type 0
+abbrev pub IsUnpassedOf : ℕ → List Load → List Tally → Packet → Type 0
 IsUnpassedOf n got peers p = (p.from < n) × IsOneOf (Some p) (from p.from got)
     × ((peer_in peers p.from).taken ≤ p.seq)
 
@@ -50,7 +50,7 @@ module _ (put : List (ℕ × Load)) (got : List Load) (put_box : List (ℕ × Lo
     (filling : List Bool) (emptying : List (Option Load)) where
   -- What is counted of the rank j is what the lists say. All its packets with numbers below `taken` came,
   -- and those that came by box are among them
-  pub record CountsOne (j : ℕ) (p : Peer) : Type 0 where
+  pub record CountsOne (j : ℕ) (p : Tally) : Type 0 where
     pub sent : p.sent ≡ sent_to j put_box put
     pub box_put : p.box_put ≡ length (put_to j put_box)
     pub box_got : p.box_got ≡ length (from j got_box)
@@ -66,7 +66,7 @@ module _ (put : List (ℕ × Load)) (got : List Load) (put_box : List (ℕ × Lo
     pub unpassed : p.unpassed ≡ not_below p.taken (map number (from j got))
 
   -- What is counted of all n ranks is what the lists say, and a packet that is held came by cell and was not passed on
-  pub record Counts (n : ℕ) (peers : List Peer) (held : Option Packet) : Type 0 where
+  pub record Counts (n : ℕ) (peers : List Tally) (held : Option Packet) : Type 0 where
     pub count : length peers ≡ n
     pub fulls : length full ≡ n
     pub misses : length miss ≡ n
@@ -76,56 +76,56 @@ module _ (put : List (ℕ × Load)) (got : List Load) (put_box : List (ℕ × Lo
     pub holds : (p : Packet) → held ≡ Some p → IsUnpassedOf n got peers p
 
 -- the same of a rank's entry
-abbrev pub CountsFor : Entry → List Peer → Option Packet → Type 0
+abbrev pub CountsFor : Entry → List Tally → Option Packet → Type 0
 CountsFor e peers held =
     Counts e.put e.got e.put_box e.got_box e.box_full e.box_miss e.filling e.emptying e.ranks peers
     held
 
 -- the packets that came by cell and weren't passed on
-abbrev pub all_unpassed : List Peer → ℕ
+abbrev pub all_unpassed : List Tally → ℕ
 all_unpassed peers = sum_by (λ p. p.unpassed) peers
 
 -- the counts of the rank j change
-abbrev pub with_peer : (Peer → Peer) → ℕ → List Peer → List Peer
+abbrev pub with_peer : (Tally → Tally) → ℕ → List Tally → List Tally
 with_peer f j peers = slice_set peers j (f (peer_in peers j))
 
 -- one more packet was sent to it by cell
-abbrev pub one_sent : Peer → Peer
+abbrev pub one_sent : Tally → Tally
 one_sent p = record p { sent = p.sent + 1 }
 
 -- one more packet of it came by cell
-abbrev pub one_arrived : Peer → Peer
+abbrev pub one_arrived : Tally → Tally
 one_arrived p = record p { unpassed = p.unpassed + 1 }
 
 -- one more packet was sent to it by box
-abbrev pub one_boxed : Peer → Peer
+abbrev pub one_boxed : Tally → Tally
 one_boxed p = record p { sent = p.sent + 1; box_put = p.box_put + 1; filling = false }
 
 -- its next box is being filled
-abbrev pub one_opened : Peer → Peer
+abbrev pub one_opened : Tally → Tally
 one_opened p = record p { filling = true }
 
 -- its next box is being emptied
-abbrev pub one_begun : Peer → Peer
+abbrev pub one_begun : Tally → Tally
 one_begun p = record p { emptying = true }
 
 -- one more packet of it came by box, and was passed on
-abbrev pub one_unboxed : Peer → Peer
+abbrev pub one_unboxed : Tally → Tally
 one_unboxed p = record p { taken = p.taken + 1; box_got = p.box_got + 1; emptying = false }
 
 -- the next box for it was found full
-abbrev pub one_full : Peer → Peer
+abbrev pub one_full : Tally → Tally
 one_full p = record p { box_full = raised p.box_full }
 
 -- the next box of it didn't have the awaited number
-abbrev pub one_miss : Peer → Peer
+abbrev pub one_miss : Tally → Tally
 one_miss p = record p { box_miss = raised p.box_miss }
 
 -- a packet of it that came by cell was passed on
-abbrev pub one_passed : Peer → Peer
+abbrev pub one_passed : Tally → Tally
 one_passed p = record p { taken = p.taken + 1; unpassed = p.unpassed - 1 }
 
 -- what is counted once a cell of an own queue was taken, from the receive queue with a packet of the rank i
-abbrev pub counted_after : Bool → ℕ → List Peer → List Peer
+abbrev pub counted_after : Bool → ℕ → List Tally → List Tally
 counted_after true i peers = with_peer one_arrived i peers
 counted_after false i peers = peers

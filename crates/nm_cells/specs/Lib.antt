@@ -6,7 +6,3 @@ pub mod Counted
 pub mod LooseCells
 pub mod PathLists
 pub mod Ports
-pub use Rattle.nm_table.specs.Looks
-pub use Rattle.nm_table.specs.NextBox
-pub use Rattle.nm_table.specs.Plays
-pub use Rattle.nm_table.specs.Rule

@@ -5,8 +5,8 @@ use Rattle.nm_types.specs.declared.packets.Packet.{Packet}
 use Rattle.nm_seats.specs.declared.views.View.{View}
 use Rattle.nm_table.specs.declared.table.Entry.{Entry}
 use Rattle.nm_table.specs.Rule.{Load, put_to, from, sent_to}
-use Rattle.nm_table.specs.Plays.{newcomer}
-use Rattle.nm_cells.specs.declared.peers.Peer.{Peer}
+use Rattle.nm_table.specs.Plays.{no_entry}
+use Rattle.nm_cells.specs.declared.tallies.Tally.{Tally}
 use Rattle.nm_cells.specs.Counted.{peer_in}
 use Rattle.nm_seats.specs.Update.{pick}
 
@@ -46,10 +46,10 @@ seen_in (v ∷ vs) = v.seen
 
 -- what the rank i knew, of these in rank order
 abbrev pub entry_in : List Entry → ℕ → Entry
-entry_in es i = slice_index_or es i (newcomer 0 0)
+entry_in es i = slice_index_or es i no_entry
 
 -- what the rank i counted of each rank
-abbrev pub peers_in : List (List Peer) → ℕ → List Peer
+abbrev pub peers_in : List (List Tally) → ℕ → List Tally
 peers_in ps i = slice_index_or ps i []
 
 -- what the rank i sent to the rank j
@@ -57,11 +57,11 @@ abbrev pub sent_between : List Entry → ℕ → ℕ → List Packet
 sent_between es i j = sent_packets (entry_in es i) j
 
 -- what the rank j passed on of the rank i
-abbrev pub taken_between : List Entry → List (List Peer) → ℕ → ℕ → List Packet
+abbrev pub taken_between : List Entry → List (List Tally) → ℕ → ℕ → List Packet
 taken_between es ps i j = taken_packets (entry_in es j) (peer_in (peers_in ps j) i).taken i
 
 -- what n ranks counted are the lengths of these lists
-pub record Tallied (es : List Entry) (ps : List (List Peer)) (n : ℕ) : Type 0 where
+pub record Tallied (es : List Entry) (ps : List (List Tally)) (n : ℕ) : Type 0 where
   pub ranks : length ps ≡ n
   pub wide : (i : ℕ) → i < n → length (peers_in ps i) ≡ n
   pub sent : (i j : ℕ) → i < n → j < n

@@ -20,7 +20,7 @@ use Rattle.nm_table.specs.Plays.{mine, InHand, heads_of, taken, box_load}
 use Rattle.nm_table.specs.Looks.{look_in}
 use Rattle.nm_cells.specs.Carried.{held_in}
 use Rattle.nm_cells.specs.LooseCells.{IsAmong}
-use Rattle.nm_cells.specs.declared.peers.Peer.{Peer}
+use Rattle.nm_cells.specs.declared.tallies.Tally.{Tally}
 use Rattle.nm_cells.specs.Counted.{peer_in, all_unpassed, IsUnpassedOf, with_peer, one_sent}
 
 -- what the port's seat knows
@@ -88,8 +88,8 @@ abbrev pub cells_of : Fabric → ℕ
 cells_of f = f.ranks * f.each
 
 -- the cell is in the port's hand, and not loose
-abbrev pub Has : Fabric → Port → Cell → Type 0
-Has f p c = (c.number < cells_of f) × (c.owner ≡ c.number / f.each)
+abbrev pub HasCell : Fabric → Port → Cell → Type 0
+HasCell f p c = (c.number < cells_of f) × (c.owner ≡ c.number / f.each)
     × InHand (hand (knows p) c.number) × (¬ IsLoose p c.number)
 
 -- the queue's number: the receive queues come first
@@ -137,7 +137,7 @@ arrivals false = 0
 -- The first cell of an own queue is in hand, with what it holds: a packet of its owner, or from the
 -- free queue none
 pub record Takes (b : Bool) (f : Fabric) (old new : Port) (c : Cell) : Type 0 where
-  pub has : Has f new c
+  pub has : HasCell f new c
   pub of_rank : c.owner < f.ranks
   pub first : 0 < (heads_of b (knows old)).shadow
       → c.number + 1 ≡ (heads_of b (knows old)).shadow
@@ -160,7 +160,7 @@ pub record Frees (old new : Port) (c : Cell) : Type 0 where
   pub was : IsLoose old c.number
   pub lowest : (d : ℕ) → IsLoose old d → c.number ≤ d
   pub own : c.owner ≡ old.rank
-  pub has : (f : Fabric) → Owns f old → Has f new c
+  pub has : (f : Fabric) → Owns f old → HasCell f new c
   pub vacant : holding new c.number ≡ None
   pub others : (d : ℕ) → IsLoose new d ↔ (IsLoose old d × (d ≢ c.number))
 
@@ -205,11 +205,11 @@ unless true xs ys = ys
 unless false xs ys = xs
 
 -- what is counted once a cell is put into this queue
-abbrev pub sent_into : queues.Queue → List Peer → List Peer
+abbrev pub sent_into : queues.Queue → List Tally → List Tally
 sent_into (Receive j) peers = with_peer one_sent j peers
 sent_into (Free j) peers = peers
 
 -- there is room to count it
-abbrev pub HasRoomFor : queues.Queue → List Peer → Type 0
+abbrev pub HasRoomFor : queues.Queue → List Tally → Type 0
 HasRoomFor (Receive j) peers = (j < length peers) × ((peer_in peers j).sent < MAX_PACKETS)
 HasRoomFor (Free j) peers = Unit {0}

@@ -1,5 +1,5 @@
-//! The kinds of step on a box's flag. There are four boxes for each ordered pair of ranks, and the k-th
-//! packet of the pair that goes by box goes into the box k mod 4.
+//! The calls that make one step on a box's flag. There are four boxes for each ordered pair of ranks, and the
+//! k-th packet of the pair that goes by box goes into the box k mod 4.
 //!
 //! A step can't be told a number of its caller's by its operands alone. So each is written once for
 //! numbers that the caller picks, and called by a function that picks its arguments.
@@ -16,11 +16,11 @@ ghost use Rattle.nm_cells.specs.Ports.{unpassed_by, Empties, opens, unless};
 
 use crate::port::{Fabric, Port};
 use crate::slots::{bring_slot, carry, empty_slot, fill_slot};
-use crate::tally::{
+use crate::tallies::{
     count_boxed, count_full, count_miss, count_unboxed, note_emptying, note_filling,
 };
 use nm_seats::Steps;
-use nm_table::{Fills, LooksIn, LooksOut, Told, Vacates, flag_word};
+use nm_table::{BoxStep, Fills, LooksIn, LooksOut, Vacates, flag_word};
 use nm_types::Packet;
 use std::marker::Brand;
 use std::sync::ledger::Ledger;
@@ -30,7 +30,8 @@ impl Fabric {
     fn box_at(&self, from: u8, to: u8, place: u64) -> u64
         requires { (from < self.now.ranks) × (to < self.now.ranks) }
         ensures at { result ≡ box_slot self.now.ranks self.now.each from to (place % 4) }
-        ensures low { result < self.now.ranks * self.now.each + 4 * (self.now.ranks * self.now.ranks) }
+        ensures low { result
+            < self.now.ranks * self.now.each + 4 * (self.now.ranks * self.now.ranks) }
         ensures behind { self.now.ranks * self.now.each ≤ result }
     {
         let pair = u64::from(from) * self.ranks + u64::from(to);
@@ -53,7 +54,12 @@ fn take_box(carried: &mut Vec<u64>, hands: &mut u32, slot: u64, at_work: bool)
     }
 }
 
-fn look_out<T: Told, L: Ledger>(f: &Fabric, port: &mut Port, to: u8, steps: &mut Steps<L>) -> bool
+fn look_out<T: BoxStep, L: Ledger>(
+    f: &Fabric,
+    port: &mut Port,
+    to: u8,
+    steps: &mut Steps<L>,
+) -> bool
     requires owns { Owns f.now port.old }
     requires peer { to < f.now.ranks }
     requires told { to ≡ T.peer }
@@ -101,7 +107,7 @@ pub fn load_box_out<L: Ledger>(f: &Fabric, port: &mut Port, to: u8, steps: &mut 
     look_out::<Brand, L>(f, port, to, steps)
 }
 
-fn look_in<T: Told, L: Ledger>(
+fn look_in<T: BoxStep, L: Ledger>(
     f: &Fabric,
     port: &mut Port,
     sender: u8,
@@ -140,7 +146,7 @@ fn look_in<T: Told, L: Ledger>(
     true
 }
 
-/// Loads the flag of the port's next box of a rank, and answers whether it has the number that the
+/// Loads the flag of the port's next box of a rank, and answers whether the box has the packet that the
 /// port awaits from it.
 ///
 /// Then the packet is the port's to take. Else this is a miss, which `box_miss` counts. Where the
@@ -164,7 +170,7 @@ pub fn load_box_in<L: Ledger>(f: &Fabric, port: &mut Port, sender: u8, steps: &m
     look_in::<Brand, L>(f, port, sender, steps)
 }
 
-fn fill<T: Told, L: Ledger>(
+fn fill<T: BoxStep, L: Ledger>(
     f: &Fabric,
     port: &mut Port,
     to: u8,
@@ -198,8 +204,8 @@ fn fill<T: Told, L: Ledger>(
     count_boxed(&mut port.peers, to as usize);
 }
 
-/// Puts a packet into the port's next box for a rank, which was found free, and stores its number plus
-/// 1 in the flag. The packet is sent.
+/// Puts a packet into the port's next box for a rank, which was found free, and stores its number
+/// plus 1 in the flag. The packet is sent.
 pub fn fill_box<L: Ledger>(
     f: &Fabric,
     port: &mut Port,
@@ -222,7 +228,7 @@ pub fn fill_box<L: Ledger>(
     fill::<Brand, L>(f, port, to, packet, steps);
 }
 
-fn empty<T: Told, L: Ledger>(
+fn empty<T: BoxStep, L: Ledger>(
     f: &Fabric,
     port: &mut Port,
     sender: u8,
@@ -259,8 +265,8 @@ fn empty<T: Told, L: Ledger>(
     count_unboxed(&mut port.peers, sender as usize);
 }
 
-/// Takes the packet that was found out of the port's next box of a rank, and stores 0 in the flag. The
-/// packet is the one that the port awaited, and it is passed on.
+/// Takes the packet that was found out of the port's next box of a rank, and stores 0 in the flag.
+/// The packet is the one that the port awaited, and it is passed on.
 pub fn empty_box<L: Ledger>(
     f: &Fabric,
     port: &mut Port,

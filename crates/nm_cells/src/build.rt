@@ -1,41 +1,43 @@
-// A fabric at the start.
-ghost use Rattle.std.specs.Prelude.{◌≡◌, ℕ, suc, ◌+◌, ◌-◌, ◌*◌, ◌/◌, ◌<◌, ◌≤◌, [], IfOk, Some, None};
+//! A fabric at the start.
+
+ghost use Rattle.std.specs.Prelude.{◌≡◌, ℕ, suc, ◌+◌, ◌-◌, ◌*◌, ◌/◌, ◌<◌, ◌≤◌, [], IfOk, Some};
+ghost use Rattle.std.specs.Prelude.{None};
 ghost use Rattle.std.specs.Prelude.{length, slice_get, replicate};
 ghost use Rattle.nm_cells.specs.declared.port.Port.{Port};
 ghost use Rattle.nm_seats.specs.Spoken.{view};
 ghost use Rattle.nm_table.specs.declared.table.Hand.TheVariants.{Away, Loose};
 ghost use Rattle.nm_table.specs.Rule.{beginners, hand, Opens};
 ghost use Rattle.nm_table.specs.Plays.{with_hand, with_put};
-ghost use Rattle.nm_cells.specs.Ports.{Owns, Stays, Has, knows, holding, cells_of};
+ghost use Rattle.nm_cells.specs.Ports.{Owns, Stays, HasCell, knows, holding, cells_of};
 ghost use Rattle.nm_cells.specs.Ports.{IsFresh, IsNew, IsNewLoose, Begins};
-ghost use Rattle.nm_cells.specs.Counted.{new_peer};
+ghost use Rattle.nm_cells.specs.Counted.{new_tally};
 
 use crate::cell::{Cell, Queue};
 use crate::loose::{LooseCells, pick_up};
-use crate::peers::Peer;
 use crate::port::{Fabric, Port};
 use crate::produce::{clear_link, store_head, store_link, swap_tail};
+use crate::tallies::Tally;
 use nm_seats::{GivesFirst, Steps};
-use nm_table::{Board, Heads, Misses, Place, Slot};
+use nm_table::{Board, BoardSeat, Heads, Misses, Slot};
 use nm_types::{Memory, Shape};
 use std::alloc::Global;
 use std::marker::Brand;
 use std::sync::ledger::{Blank, Ledger};
 
 // What is counted of each rank at the start.
-fn new_peers(alloc: Global, ranks: u64) -> Result<Vec<Peer>, Memory>
+fn new_peers(alloc: Global, ranks: u64) -> Result<Vec<Tally>, Memory>
     requires { ranks ≤ 64 }
-    ensures { IfOk result (λ v. v.items ≡ replicate ranks new_peer) }
+    ensures { IfOk result (λ v. v.items ≡ replicate ranks new_tally) }
 {
     let mut peers = Vec::new(alloc);
     for _rank in 0..ranks {
-        peers.push(Peer::new())?;
+        peers.push(Tally::new())?;
     }
     Ok(peers)
 }
 
 // The port of the lowest rank that `rest` speaks for. No cell's slot is taken yet.
-fn port_of(alloc: Global, f: &Fabric, rest: &mut Place, rank: u8) -> Result<Port, Memory>
+fn port_of(alloc: Global, f: &Fabric, rest: &mut BoardSeat, rank: u8) -> Result<Port, Memory>
     requires table { (rest.old.table_id ≡ f.now.board.shared.table_id) × (rank < f.now.ranks) }
     requires lowest { rest.old.me
         ≡ (view (beginners f.now.ranks f.now.each rank (suc (f.now.ranks - suc rank))), []) }
@@ -84,7 +86,7 @@ fn loosen(f: &Fabric, port: &mut Port)
 fn put_home<L: Ledger>(f: &Fabric, port: &mut Port, cell: Cell, blank: Blank)
     requires blank { (blank.name ≡ L.name) × (blank.parts ≡ L.parts) × (0 < L.parts) }
     requires owns { Owns f.now port.old }
-    requires in_hand { Has f.now port.old cell }
+    requires in_hand { HasCell f.now port.old cell }
     requires own { cell.number / f.now.each ≡ port.old.rank }
     requires vacant { holding port.old cell.number ≡ None }
     ensures stays { Stays f.now port.old port.new }
@@ -151,7 +153,7 @@ fn empty_slots(alloc: Global, count: u64) -> Result<Vec<Slot>, Memory>
 }
 
 // The fabric, and the seat that speaks for all ranks.
-fn whole(alloc: Global, shape: &Shape) -> Result<(Fabric, Place), Memory>
+fn whole(alloc: Global, shape: &Shape) -> Result<(Fabric, BoardSeat), Memory>
     ensures { IfOk result (λ t. (t.0.ranks ≡ shape.now.ranks) × (t.0.each ≡ shape.now.cells)
         × (t.1.table_id ≡ t.0.board.shared.table_id) × (t.1.me
         ≡ (view (beginners shape.now.ranks shape.now.cells 0 shape.now.ranks), []))) }
@@ -175,7 +177,12 @@ fn whole(alloc: Global, shape: &Shape) -> Result<(Fabric, Place), Memory>
 }
 
 // The ports of all ranks, whose cells are loose, or else in their free queues.
-fn ports_of(alloc: Global, f: &Fabric, mut rest: Place, loose: bool) -> Result<Vec<Port>, Memory>
+fn ports_of(
+    alloc: Global,
+    f: &Fabric,
+    mut rest: BoardSeat,
+    loose: bool,
+) -> Result<Vec<Port>, Memory>
     requires { (rest.table_id ≡ f.now.board.shared.table_id) × (rest.me
         ≡ (view (beginners f.now.ranks f.now.each 0 f.now.ranks), [])) }
     ensures count { IfOk result (λ v. length v.items ≡ f.now.ranks) }
@@ -192,7 +199,8 @@ fn ports_of(alloc: Global, f: &Fabric, mut rest: Place, loose: bool) -> Result<V
 }
 
 impl Fabric {
-    /// A fabric whose cells stand in their owners' free queues, with a port for each rank, in order.
+    /// A fabric whose cells stand in their owners' free queues, with a port for each rank, in
+    /// order.
     pub fn build(alloc: Global, shape: Shape) -> Result<(Fabric, Vec<Port>), Memory>
         ensures fabric { IfOk result (λ t. (t.0.ranks ≡ shape.ranks) × (t.0.each ≡ shape.cells)
             × (length t.1.items ≡ shape.ranks)) }
@@ -204,8 +212,8 @@ impl Fabric {
         Ok((fabric, ports))
     }
 
-    /// A fabric whose queues are all empty and whose cells are loose, each with its owner's port. There
-    /// is a port for each rank, in order.
+    /// A fabric whose queues are all empty and whose cells are loose, each with its owner's port.
+    /// There is a port for each rank, in order.
     pub fn build_loose(alloc: Global, shape: Shape) -> Result<(Fabric, Vec<Port>), Memory>
         ensures fabric { IfOk result (λ t. (t.0.ranks ≡ shape.ranks) × (t.0.each ≡ shape.cells)
             × (length t.1.items ≡ shape.ranks)) }

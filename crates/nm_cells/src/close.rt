@@ -1,5 +1,7 @@
-// The end of a fabric.
-ghost use Rattle.std.specs.Prelude.{◌≡◌, ℕ, ◌+◌, ◌*◌, ◌<◌, ◌≤◌, [], ◌∷◌, Some, length, map, slice_get};
+//! The end of a fabric.
+
+ghost use Rattle.std.specs.Prelude.{◌≡◌, ℕ, ◌+◌, ◌*◌, ◌<◌, ◌≤◌, [], ◌∷◌, Some, length, map};
+ghost use Rattle.std.specs.Prelude.{slice_get};
 ghost use Rattle.std.specs.Prelude.{vec_len, vec_capacity};
 ghost use Rattle.nm_seats.specs.Spoken.{view};
 ghost use Rattle.nm_cells.specs.declared.port.Port.{Port};
@@ -9,14 +11,14 @@ ghost use Rattle.nm_cells.specs.PathLists.{Begins};
 ghost use Rattle.nm_cells.specs.ClosedLists.{entries, sent_list, taken_list, AllTaken};
 
 use crate::closed::Closed;
-use crate::peers::Peer;
 use crate::port::{Fabric, Port};
+use crate::tallies::Tally;
 use nm_seats::{Joins, Seals};
-use nm_table::{Board, Place};
+use nm_table::{Board, BoardSeat};
 use nm_types::Account;
 
 // One more port's counts, before those of the others.
-fn count_first(counted: &mut Vec<Vec<Peer>>, peers: Vec<Peer>)
+fn count_first(counted: &mut Vec<Vec<Tally>>, peers: Vec<Tally>)
     requires { vec_len counted.old < vec_capacity counted.old }
     ensures items { counted.new.items ≡ peers ∷ counted.old.items }
     ensures capacity { vec_capacity counted.old ≤ vec_capacity counted.new }
@@ -30,8 +32,8 @@ fn count_first(counted: &mut Vec<Vec<Peer>>, peers: Vec<Peer>)
 fn gather(
     board: &Board,
     mut ports: Vec<Port>,
-    mut counted: Vec<Vec<Peer>>,
-) -> (Place, Vec<Vec<Peer>>)
+    mut counted: Vec<Vec<Tally>>,
+) -> (BoardSeat, Vec<Vec<Tally>>)
     requires count { (0 < length ports.items) × (0 < board.now.shared.table_id.words) }
     requires ports { (k : ℕ) (p : Port) → slice_get ports.items k ≡ Some p
         → (p.seat.table_id ≡ board.now.shared.table_id) × (p.hands ≡ 0) }
@@ -54,7 +56,7 @@ fn gather(
 }
 
 // The cells of the closed table, of which those at home hold nothing.
-fn settle(board: Board, seat: Place, ranks: u64, each: u64) -> Account
+fn settle(board: Board, seat: BoardSeat, ranks: u64, each: u64) -> Account
     requires table { (seat.table_id ≡ board.shared.table_id) × (board.shared.key.ranks ≡ ranks)
         × (board.shared.key.cells ≡ each) }
     requires sizes { (board.shared.table_id.slots ≡ ranks * each + 4 * (ranks * ranks))
@@ -89,9 +91,9 @@ fn settle(board: Board, seat: Place, ranks: u64, each: u64) -> Account
 }
 
 impl Fabric {
-    /// Joins all ports of a fabric, in rank order, and accounts for its cells. What each rank passed on of
-    /// another is the beginning of what that one sent to it. Where each packet that was sent was passed
-    /// on, every cell is in its owner's free queue.
+    /// Joins all ports of a fabric, in rank order, and accounts for its cells. What each rank
+    /// passed on of another is the beginning of what that one sent to it. Where each packet that
+    /// was sent was passed on, every cell is in its owner's free queue.
     pub fn close(self, ports: Vec<Port>) -> Closed
         requires count { (length ports.items ≡ self.ranks) × (0 < self.ranks) }
         requires ports { (k : ℕ) (p : Port) → slice_get ports.items k ≡ Some p → Owns self p

@@ -3,7 +3,7 @@
 ghost use Rattle.std.specs.Prelude.{length, map};
 ghost use Rattle.nm_cells.specs.PathLists.{seen_in, Tallied};
 
-use crate::peers::Peer;
+use crate::tallies::Tally;
 use atomic_table::Badge;
 use nm_seats::View;
 use nm_table::Entry;
@@ -16,7 +16,7 @@ pub struct Closed {
     pub(crate) badge: Badge<View<Entry>>,
     pub(crate) cells: Account,
     /// What each port counted of each rank, in rank order.
-    pub(crate) counted: Vec<Vec<Peer>>,
+    pub(crate) counted: Vec<Vec<Tally>>,
     pub ghost tallied: { Tallied (seen_in badge.views) (map (λ v. v.items) counted.items)
         (length (seen_in badge.views)) },
 }
@@ -35,7 +35,7 @@ impl Closed {
     }
 
     // What the rank `of` counted of the rank `with`.
-    fn peer(&self, of: u8, with: u8) -> Peer
+    fn peer(&self, of: u8, with: u8) -> Tally
         requires { (of < ranks_of self.now) × (with < ranks_of self.now) }
         ensures { result ≡ peer_in (peers_in (counted self.now) of) with }
     {

@@ -1,8 +1,10 @@
-//! The kinds of step of a consumer, on its own receive queue or its own free queue.
+//! The calls of a consumer, each one step on its own receive queue or its own free queue.
 //!
-//! Each is written once over `B`, which is `true` for the receive queue, and called by the queue's name.
+//! Each is written once over `B`, which is `true` for the receive queue, and called by the queue's
+//! name.
 
-ghost use Rattle.std.specs.Prelude.{true, false, ◌≡◌, ◌≢◌, ℕ, suc, ◌+◌, ◌-◌, ◌*◌, ◌/◌, ◌<◌, ◌≤◌, ◌^◌, ◌∷◌};
+ghost use Rattle.std.specs.Prelude.{true, false, ◌≡◌, ◌≢◌, ℕ, suc, ◌+◌, ◌-◌, ◌*◌, ◌/◌, ◌<◌, ◌≤◌};
+ghost use Rattle.std.specs.Prelude.{◌^◌, ◌∷◌};
 ghost use Rattle.std.specs.Prelude.{◌↔◌, IsTrue, IfSome, IfNone, length, vec_len, vec_capacity};
 ghost use Rattle.nm_table.specs.Plays.{queue, heads_of, with_heads, heads_at, with_missed};
 ghost use Rattle.nm_table.specs.Plays.{with_look, with_link_empty};
@@ -14,10 +16,9 @@ ghost use Rattle.nm_cells.specs.Ports.{IsOwn, is_receive};
 ghost use Rattle.nm_table.specs.declared.table.Look.TheVariants.{LinkEmpty, TailElsewhere};
 
 use crate::cell::{Cell, Queue};
-use crate::peers::Peer;
 use crate::port::{Fabric, Port};
 use crate::slots::carry;
-use crate::tally::count_arrived;
+use crate::tallies::{Tally, count_arrived};
 use nm_seats::Steps;
 use nm_table::{
     ClearsHead, Drains, Heads, LoadsHead, Passes, Reloads, head_word, link_word, tail_word,
@@ -97,7 +98,7 @@ fn clear_head_of<L: Ledger, const B: bool>(f: &Fabric, port: &mut Port, steps: &
 }
 
 // A packet came where the cell is of the receive queue.
-fn count_taken<const B: bool>(peers: &mut Vec<Peer>, owner: usize)
+fn count_taken<const B: bool>(peers: &mut Vec<Tally>, owner: usize)
     requires { B ≡ true → (owner < length peers.old.items)
         × ((peer_in peers.old.items owner).unpassed < 2 ^ 61) }
     ensures { peers.new.items ≡ counted_after B owner peers.old.items }
@@ -107,10 +108,10 @@ fn count_taken<const B: bool>(peers: &mut Vec<Peer>, owner: usize)
     }
 }
 
-// The first cell of a queue is in hand, and a packet came where that is the receive queue. The cells of
-// the free queue are the port's own.
+// The first cell of a queue is in hand, and a packet came where that is the receive queue. The
+// cells of the free queue are the port's own.
 fn first_taken<const B: bool>(
-    peers: &mut Vec<Peer>,
+    peers: &mut Vec<Tally>,
     carried: &mut Vec<u64>,
     hands: &mut u32,
     number: u64,
@@ -276,8 +277,8 @@ fn drop_tail_of<L: Ledger, const B: bool>(
 
 /// Loads the head of an own queue, and answers whether it was a cell.
 ///
-/// Zero is a miss, which `head_empty` counts. A queue whose head is 0 may still have a cell, whose enqueue is
-/// pending.
+/// Zero is a miss, which `head_empty` counts. A queue whose head is 0 may still have a cell, whose
+/// enqueue is pending.
 pub fn load_head<L: Ledger>(f: &Fabric, port: &mut Port, q: Queue, steps: &mut Steps<L>) -> bool
     requires owns { Owns f.now port.old }
     requires own { IsOwn port.old q }
@@ -314,8 +315,8 @@ pub fn clear_head<L: Ledger>(f: &Fabric, port: &mut Port, q: Queue, steps: &mut 
     }
 }
 
-/// Loads the link of the shadow head. Where it has a cell, that one is the next shadow head, and the
-/// first cell is taken.
+/// Loads the link of the shadow head. Where it has a cell, that one is the next shadow head, and
+/// the first cell is taken.
 pub fn load_link<L: Ledger>(
     f: &Fabric,
     port: &mut Port,

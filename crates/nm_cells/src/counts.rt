@@ -1,21 +1,22 @@
 //! What a port tells of itself.
 
-ghost use Rattle.std.specs.Prelude.{◌≡◌, ◌≢◌, ◌+◌, ◌<◌, ◌↔◌, ◌^◌, IsTrue, Some, None, option_copied, slice_index, length};
+ghost use Rattle.std.specs.Prelude.{◌≡◌, ◌≢◌, ◌+◌, ◌<◌, ◌↔◌, ◌^◌, IsTrue, Some, None};
+ghost use Rattle.std.specs.Prelude.{option_copied, slice_index, length};
 ghost use Rattle.nm_seats.specs.Update.{update};
 ghost use Rattle.nm_cells.specs.Counted.{peer_in};
 ghost use Rattle.nm_table.specs.Rule.{put_to, from as from_rank};
 ghost use Rattle.nm_table.specs.Plays.{heads_of, missed_of, capped};
-ghost use Rattle.nm_cells.specs.Ports.{knows, sent_by, taken_by, unpassed_by, IsOwn, IsUnpassed, is_receive};
+ghost use Rattle.nm_cells.specs.Ports.{knows, sent_by, taken_by, unpassed_by, IsOwn, IsUnpassed};
+ghost use Rattle.nm_cells.specs.Ports.{is_receive};
 
 use crate::cell::Queue;
-use crate::peers::Peer;
 use crate::port::Port;
-use crate::tally::count_passed;
+use crate::tallies::{Tally, count_passed};
 use nm_types::{MAX_PACKETS, Packet};
 
 impl Port {
     // What is counted of a rank.
-    pub(crate) fn peer(&self, rank: u8) -> Peer
+    pub(crate) fn peer(&self, rank: u8) -> Tally
         requires { rank < (knows self.now).ranks }
         ensures { result ≡ peer_in self.now.peers.items rank }
     {
@@ -69,8 +70,8 @@ impl Port {
         self.sent(to) < MAX_PACKETS
     }
 
-    /// How many packets the port took from its receive queue and didn't pass on. The count stands still
-    /// at its last value.
+    /// How many packets the port took from its receive queue and didn't pass on. The count stands
+    /// still at its last value.
     pub fn unpassed(&self) -> u64
         ensures { result ≡ capped (unpassed_by self.now) }
     {
@@ -81,7 +82,8 @@ impl Port {
         total
     }
 
-    /// How many cells, loose ones with them, pending enqueues and boxes at work the port has in hand.
+    /// How many cells, loose ones with them, pending enqueues and boxes at work the port has in
+    /// hand.
     pub fn hands(&self) -> u32
         ensures { result ≡ self.now.hands }
     {
@@ -99,7 +101,8 @@ impl Port {
         }
     }
 
-    /// How often the link of an own queue's first cell was loaded as 0, although it wasn't the last.
+    /// How often the link of an own queue's first cell was loaded as 0, although it wasn't the
+    /// last.
     pub fn link_missing(&self, q: Queue) -> u64
         requires { IsOwn self.now q }
         ensures { result ≡ (missed_of (is_receive q) (knows self.now)).link_missing }
@@ -144,7 +147,7 @@ impl Port {
         self.held.as_ref()
     }
 
-    /// Holds a packet that came out of turn. Nothing was held.
+    /// Holds a packet that came by cell and wasn't passed on. Nothing was held.
     pub fn hold(&mut self, packet: Packet)
         requires nothing { self.old.held ≡ None }
         requires unpassed { IsUnpassed self.old packet }

@@ -1,5 +1,5 @@
-//! Loose cells: a port's own cells that stand in no queue, and that no call may touch before `loose`
-//! gave them.
+//! Loose cells: a port's own cells that stand in no queue, and that no call may touch before
+//! `loose` gave them.
 
 ghost use Rattle.std.specs.Prelude.{◌≡◌, ◌↔◌, ◌+◌, ◌/◌, ◌<◌, ◌≤◌, ℕ, None, IfSome, IfNone};
 ghost use Rattle.nm_table.specs.declared.table.Hand.TheVariants.{Held, Loose};
@@ -19,7 +19,8 @@ pub struct LooseCells {
     pub end: u64,
 }
 
-// Takes the slot of the port's next own cell, which no call has touched yet. It is loose from then on.
+// Takes the slot of the port's next own cell, which no call has touched yet. It is loose from then
+// on.
 pub(crate) fn pick_up(f: &Fabric, port: &mut Port)
     requires owns { Owns f.now port.old }
     requires low { port.old.loose.end < cells_of f.now }
@@ -40,8 +41,8 @@ pub(crate) fn pick_up(f: &Fabric, port: &mut Port)
 }
 
 impl Port {
-    /// Gives the port's lowest loose cell, which is empty and no longer loose, or `None` where the port
-    /// has no loose cell. It makes no step on a word.
+    /// Gives the port's lowest loose cell, which is empty and no longer loose, or `None` where the
+    /// port has no loose cell. It makes no step on a word.
     pub fn loose(&mut self) -> Option<Cell>
         ensures none { result ≡ None ↔ ((c : ℕ) → ¬ IsLoose self.old c) }
         ensures some { IfSome result (Frees self.old self.new) }

@@ -8,8 +8,8 @@ ghost use Rattle.nm_cells.specs.Counted.{CountsFor};
 ghost use Rattle.nm_cells.specs.LooseCells.{AreKept};
 
 use crate::loose::LooseCells;
-use crate::peers::Peer;
-use nm_table::{Board, Heads, Misses, Place};
+use crate::tallies::Tally;
+use nm_table::{Board, BoardSeat, Heads, Misses};
 use nm_types::Packet;
 
 /// The cells, boxes and queues that the ranks share.
@@ -20,31 +20,34 @@ pub struct Fabric {
     /// The cells of each rank.
     pub(crate) each: u64,
     /// Room for what each port counted, which is kept when the fabric is closed.
-    pub(crate) counted: Vec<Vec<Peer>>,
+    pub(crate) counted: Vec<Vec<Tally>>,
     pub ghost shape: { (board.shared.key.ranks ≡ ranks) × (board.shared.key.cells ≡ each) },
-    pub ghost sizes: { (board.shared.table_id.words ≡ 4 * ranks + ranks * each + 4 * (ranks * ranks))
+    pub ghost sizes: { (board.shared.table_id.words
+        ≡ 4 * ranks + ranks * each + 4 * (ranks * ranks))
         × (board.shared.table_id.slots ≡ ranks * each + 4 * (ranks * ranks)) },
     pub ghost room: { (counted.items ≡ []) × (ranks ≤ vec_capacity counted) },
     pub ghost small: { (ranks ≤ 64) × (0 < each) × (each ≤ 64) × (ranks * each ≤ 4096) },
 }
 
-/// The token of one rank. It has a seat of the fabric's table, and what its program has to remember of
-/// what the seat knows: the shadow heads, the counts, the slots in hand, the loose cells, and at most one
-/// held packet.
+/// The token of one rank. It has a seat of the fabric's table, and what its program has to remember
+/// of what the seat knows: the shadow heads, the counts, the slots in hand, the loose cells, and at
+/// most one held packet.
 #[derive(Drop)]
 pub struct Port {
-    pub(crate) seat: Place,
+    pub(crate) seat: BoardSeat,
     pub(crate) rank: u8,
     pub(crate) receive: Heads,
     pub(crate) free: Heads,
     pub(crate) receive_missed: Misses,
     pub(crate) free_missed: Misses,
-    /// The slots in hand, the one taken last first.
+    /// The slots in hand, the one taken last first. The seat has the same list, but for the proof
+    /// alone, and lends and puts back only the slot in front of it: from this copy the program
+    /// knows how far to turn the seat's (`bring_slot`). No answer of a call depends on it.
     pub(crate) carried: Vec<u64>,
     /// The cells, loose ones with them, pending enqueues and boxes at work in hand.
     pub(crate) hands: u32,
     /// What is counted of each rank.
-    pub(crate) peers: Vec<Peer>,
+    pub(crate) peers: Vec<Tally>,
     pub(crate) held: Option<Packet>,
     pub(crate) loose: LooseCells,
     pub ghost alone: { Alone seat.me },
@@ -52,10 +55,11 @@ pub struct Port {
     pub ghost ends: { ((mine seat.me).receive ≡ receive) × ((mine seat.me).free ≡ free) },
     pub ghost missed: { ((mine seat.me).receive_missed ≡ receive_missed)
         × ((mine seat.me).free_missed ≡ free_missed) },
-    pub ghost small: { (receive.shadow ≤ length (mine seat.me).hands) × (receive.seen ≤ length (mine seat.me).hands)
+    pub ghost small: { (receive.shadow ≤ length (mine seat.me).hands)
+        × (receive.seen ≤ length (mine seat.me).hands)
         × (free.shadow ≤ length (mine seat.me).hands) × (free.seen ≤ length (mine seat.me).hands) },
-    pub ghost carries: { Carries seat.me.1 (mine seat.me).hands (mine seat.me).filling (mine seat.me).emptying
-        carried.items (vec_capacity carried) hands },
+    pub ghost carries: { Carries seat.me.1 (mine seat.me).hands (mine seat.me).filling
+        (mine seat.me).emptying carried.items (vec_capacity carried) hands },
     pub ghost boxes: { HoldsBoxes (mine seat.me) seat.me.1 },
     pub ghost counts: { ∥ CountsFor (mine seat.me) peers.items held ∥₁ },
     pub ghost kept: { AreKept loose (mine seat.me) seat.me.1 },
@@ -63,7 +67,7 @@ pub struct Port {
 
 impl Port {
     /// The seat and the counts, of a port that is spent.
-    pub(crate) fn into_parts(self) -> (Place, Vec<Peer>)
+    pub(crate) fn into_parts(self) -> (BoardSeat, Vec<Tally>)
         ensures { (result.0 ≡ self.seat) × (result.1 ≡ self.peers) }
     {
         let Port {

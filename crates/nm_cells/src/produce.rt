@@ -1,18 +1,17 @@
-//! The kinds of step of a producer: the three steps of an enqueue.
+//! The calls of a producer: the three steps of an enqueue.
 
 ghost use Rattle.std.specs.Prelude.{◌≡◌, suc, ◌+◌, ◌-◌, ◌*◌, ◌<◌, ◌≤◌, ◌^◌, None};
 ghost use Rattle.nm_seats.specs.Update.{update};
 ghost use Rattle.nm_table.specs.declared.table.Hand.TheVariants.{Away, Ready, Entering};
 ghost use Rattle.nm_table.specs.Rule.{hand};
 ghost use Rattle.nm_table.specs.Plays.{with_hand, with_put};
-ghost use Rattle.nm_cells.specs.Ports.{Owns, Stays, knows, holding, Has, Awaits, MayJoin};
+ghost use Rattle.nm_cells.specs.Ports.{Owns, Stays, knows, holding, HasCell, Awaits, MayJoin};
 ghost use Rattle.nm_cells.specs.Ports.{queue_of, rank_of_queue, posted_in, sent_into, HasRoomFor};
 
 use crate::cell::{Cell, Pending, Queue};
-use crate::peers::Peer;
 use crate::port::{Fabric, Port};
 use crate::slots::bring_cell;
-use crate::tally::count_sent;
+use crate::tallies::{Tally, count_sent};
 use nm_seats::Steps;
 use nm_table::{Clears, Finishes, Swaps, head_word, link_word, tail_word};
 use std::sync::ledger::Ledger;
@@ -32,7 +31,7 @@ impl Fabric {
 }
 
 // A packet is sent where the queue is a receive queue.
-fn count_put(peers: &mut Vec<Peer>, q: Queue)
+fn count_put(peers: &mut Vec<Tally>, q: Queue)
     requires { HasRoomFor q peers.old.items }
     ensures { peers.new.items ≡ sent_into q peers.old.items }
 {
@@ -44,7 +43,7 @@ fn count_put(peers: &mut Vec<Peer>, q: Queue)
 /// Stores 0 in the link of a cell in hand, which is ready from then on with what it holds.
 pub fn clear_link<L: Ledger>(f: &Fabric, port: &mut Port, cell: &Cell, steps: &mut Steps<L>)
     requires owns { Owns f.now port.old }
-    requires in_hand { Has f.now port.old cell.now }
+    requires in_hand { HasCell f.now port.old cell.now }
     ensures stays { Stays f.now port.old port.new }
     ensures ready { knows port.new ≡ with_hand cell.now.number
         (Ready (holding port.old cell.now.number)) (knows port.old) }
@@ -59,8 +58,8 @@ pub fn clear_link<L: Ledger>(f: &Fabric, port: &mut Port, cell: &Cell, steps: &m
         .store::<Clears>(&mut port.seat, word as usize, 0);
 }
 
-/// Exchanges the tail of a queue for a cell that is ready. The cell is the queue's last one from then
-/// on, and where it is a receive queue, its packet is sent.
+/// Exchanges the tail of a queue for a cell that is ready. The cell is the queue's last one from
+/// then on, and where it is a receive queue, its packet is sent.
 pub fn swap_tail<L: Ledger>(
     f: &Fabric,
     port: &mut Port,
@@ -69,7 +68,7 @@ pub fn swap_tail<L: Ledger>(
     steps: &mut Steps<L>,
 ) -> Pending
     requires owns { Owns f.now port.old }
-    requires in_hand { Has f.now port.old cell }
+    requires in_hand { HasCell f.now port.old cell }
     requires ready { hand (knows port.old) cell.number
         ≡ Ready (holding port.old cell.number) }
     requires may { MayJoin f.now port.old q cell.number (holding port.old cell.number) }

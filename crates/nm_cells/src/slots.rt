@@ -1,17 +1,18 @@
 //! What a cell in hand holds. No call here makes a step on a word.
 
-ghost use Rattle.std.specs.Prelude.{◌≡◌, ◌+◌, ◌<◌, ◌≤◌, ◌∷◌, ◌++◌, ℕ, Some, None, length, map, take, drop};
+ghost use Rattle.std.specs.Prelude.{◌≡◌, ◌+◌, ◌<◌, ◌≤◌, ◌∷◌, ◌++◌, ℕ, Some, None, length, map};
+ghost use Rattle.std.specs.Prelude.{take, drop};
 ghost use Rattle.std.specs.Prelude.{IsSome, slice_index, vec_len, vec_capacity};
 ghost use Rattle.atomic_table.specs.Table.{rest};
 ghost use Rattle.nm_seats.specs.Update.{update};
 ghost use Rattle.nm_table.specs.Rule.{Load, hand};
 ghost use Rattle.nm_table.specs.Plays.{InHand, first_load, load_in};
 ghost use Rattle.nm_cells.specs.Carried.{times};
-ghost use Rattle.nm_cells.specs.Ports.{Owns, Stays, Has, knows, slots, holding};
+ghost use Rattle.nm_cells.specs.Ports.{Owns, Stays, HasCell, knows, slots, holding};
 
 use crate::cell::Cell;
 use crate::port::{Fabric, Port};
-use nm_table::{Board, Place};
+use nm_table::{Board, BoardSeat};
 use nm_types::Packet;
 
 // One more slot is in hand.
@@ -25,8 +26,9 @@ pub(crate) fn carry(carried: &mut Vec<u64>, slot: u64)
     };
 }
 
-// Brings a slot that the seat has taken to the front.
-fn bring(seat: &mut Place, carried: &mut Vec<u64>, slot: u64)
+// Brings a slot that the seat has taken to the front. Where it stands there already, as the only
+// slot in hand does, nothing is done.
+fn bring(seat: &mut BoardSeat, carried: &mut Vec<u64>, slot: u64)
     requires same { map (λ x. x.0) seat.old.me.1 ≡ carried.old.items }
     requires there { (k : ℕ) × (k < length carried.old.items) × (slice_index carried.old.items k
         ≡ slot) }
@@ -80,7 +82,7 @@ pub(crate) fn bring_cell(port: &mut Port, number: u64)
 }
 
 // Puts a packet into the slot that was taken last, in its place there.
-pub(crate) fn fill_slot(board: &Board, seat: &mut Place, slot: usize, packet: &Packet)
+pub(crate) fn fill_slot(board: &Board, seat: &mut BoardSeat, slot: usize, packet: &Packet)
     requires front { (seat.old.table_id ≡ board.now.shared.table_id)
         × ((old : Load) × (seat.old.me.1 ≡ (slot, old) ∷ rest seat.old.me.1)) }
     ensures seat { (seat.new.table_id ≡ seat.old.table_id) × (seat.new.id ≡ seat.old.id) }
@@ -90,7 +92,7 @@ pub(crate) fn fill_slot(board: &Board, seat: &mut Place, slot: usize, packet: &P
 }
 
 // Takes the packet out of the slot that was taken last, into a place of the caller's.
-pub(crate) fn empty_slot(board: &Board, seat: &mut Place, slot: usize, into: &mut Packet)
+pub(crate) fn empty_slot(board: &Board, seat: &mut BoardSeat, slot: usize, into: &mut Packet)
     requires front { (seat.old.table_id ≡ board.now.shared.table_id)
         × ((old : Load) × (seat.old.me.1 ≡ (slot, old) ∷ rest seat.old.me.1)) }
     requires full { IsSome (first_load seat.old.me.1) }
@@ -104,11 +106,12 @@ pub(crate) fn empty_slot(board: &Board, seat: &mut Place, slot: usize, into: &mu
 /// Puts a packet into an empty cell in hand.
 pub fn put_in(f: &Fabric, port: &mut Port, cell: &Cell, packet: &Packet)
     requires owns { Owns f.now port.old }
-    requires in_hand { Has f.now port.old cell.now }
+    requires in_hand { HasCell f.now port.old cell.now }
     requires empty { holding port.old cell.now.number ≡ None }
     ensures stays { Stays f.now port.old port.new × (knows port.new ≡ knows port.old) }
     ensures hands { port.new.hands ≡ port.old.hands }
-    ensures filled { holding port.new ≡ update (holding port.old) cell.now.number (Some packet.now) }
+    ensures filled { holding port.new
+        ≡ update (holding port.old) cell.now.number (Some packet.now) }
 {
     bring_cell(port, cell.number);
     let slot = cell.number as usize;
@@ -118,7 +121,7 @@ pub fn put_in(f: &Fabric, port: &mut Port, cell: &Cell, packet: &Packet)
 /// Takes the packet out of a cell in hand, which is empty from then on.
 pub fn take_out(f: &Fabric, port: &mut Port, cell: &Cell, into: &mut Packet)
     requires owns { Owns f.now port.old }
-    requires in_hand { Has f.now port.old cell.now }
+    requires in_hand { HasCell f.now port.old cell.now }
     requires full { IsSome (holding port.old cell.now.number) }
     ensures stays { Stays f.now port.old port.new × (knows port.new ≡ knows port.old) }
     ensures packet { holding port.old cell.now.number ≡ Some into.new }

@@ -13,8 +13,8 @@ pub trait Fits<L> {
     ghost after: { Item L → Type 0 };
 }
 
-/// An enqueue exchanges the tail for a cell that is in no chain of the queue, whose link is 0, and that
-/// fits once its slot is at home. The cell is the last one, and its enqueue is pending.
+/// An enqueue exchanges the tail for a cell that is in no chain of the queue, whose link is 0, and
+/// that fits once its slot is at home. The cell is the last one, and its enqueue is pending.
 pub fn an_enqueue_goes_to_the_end<L, F: Fits<L>>()
     ensures { (place : ℕ → Place L) (link : ℕ → ℕ)
         (q head tail shadow r c : ℕ) (y : L) (chain : List (Item L)) →
@@ -25,8 +25,8 @@ pub fn an_enqueue_goes_to_the_end<L, F: Fits<L>>()
         (chain ++ item c y ∷ []) }
 {}
 
-/// The pending enqueue that found no tail stores the head, which is 0. One that found a cell stores the
-/// link of that cell, which is in the chain and whose link is 0. The chain stays.
+/// The pending enqueue that found no tail stores the head, which is 0. One that found a cell stores
+/// the link of that cell, which is in the chain and whose link is 0. The chain stays.
 pub fn a_pending_enqueue_is_finished<L, F: Fits<L>>()
     ensures head { (place : ℕ → Place L) (link : ℕ → ℕ)
         (q head tail shadow r c : ℕ)
@@ -37,7 +37,8 @@ pub fn a_pending_enqueue_is_finished<L, F: Fits<L>>()
         (q head tail shadow r c p : ℕ)
         (chain : List (Item L)) → IsChain F.before place link q head tail shadow chain →
         place c ≡ entering r q (suc p) →
-        IsChain F.before (update place c (queued q)) (update link p (suc c)) q head tail shadow chain
+        IsChain F.before (update place c (queued q)) (update link p (suc c)) q head tail shadow
+        chain
         × IsIn q (place p) × (link p ≡ 0) }
 {}
 
@@ -55,17 +56,19 @@ pub fn the_shadow_head_is_the_first_cell<L, F: Fits<L>>()
         × (place c ≡ queued q) × (head ≡ 0) }
 {}
 
-/// The consumer takes the first cell, with its slot, where its link has a cell, which is the next shadow
-/// head, or where it is the tail too, and then the chain is empty.
+/// The consumer takes the first cell, with its slot, where its link has a cell, which is the next
+/// shadow head, or where it is the tail too, and then the chain is empty.
 pub fn the_first_cell_is_taken<L, F: Fits<L>>()
     ensures linked { (place : ℕ → Place L) (link : ℕ → ℕ)
         (q tail shadow r d : ℕ) (x : Item L) (xs : List (Item L)) →
-        ((y : Item L) → y.cell ≢ x.cell → F.before y → F.after y) → IsChain F.before place link q 0 tail shadow (x ∷ xs) →
+        ((y : Item L) → y.cell ≢ x.cell → F.before y → F.after y)
+        → IsChain F.before place link q 0 tail shadow (x ∷ xs) →
         link x.cell ≡ suc d →
         IsChain F.after (update place x.cell (held r)) link q 0 tail (suc d) xs }
     ensures last { (place : ℕ → Place L) (link : ℕ → ℕ)
         (q tail shadow r : ℕ) (x : Item L) (xs : List (Item L)) →
-        ((y : Item L) → y.cell ≢ x.cell → F.before y → F.after y) → IsChain F.before place link q 0 tail shadow (x ∷ xs) →
+        ((y : Item L) → y.cell ≢ x.cell → F.before y → F.after y)
+        → IsChain F.before place link q 0 tail shadow (x ∷ xs) →
         tail ≡ suc x.cell →
         IsChain F.after (update place x.cell (held r)) link q 0 0 0 [] × (xs ≡ []) }
 {}
@@ -95,8 +98,8 @@ pub fn packets_stay_in_sequence()
         InSequence s got_box boxes (got_cell ++ k ∷ []) chain }
 {}
 
-/// Where a packet was got and one with a smaller number wasn't, the smaller one stands in the boxes.
-/// Where it is the first that is missing, it is the first one there.
+/// Where a packet was got and one with a smaller number wasn't, the smaller one stands in the
+/// boxes. Where it is the first that is missing, it is the first one there.
 pub fn a_missing_packet_stands_in_the_boxes()
     ensures missing { (s j k : ℕ) (got_box boxes got_cell chain : List ℕ) →
         InSequence s got_box boxes got_cell chain → j < k → Got got_box got_cell k →

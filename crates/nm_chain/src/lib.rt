@@ -1,8 +1,8 @@
 //! What a queue of cells is, and what the two racing ways of a pair's packets are to each other.
 //!
 //! Nemesis (Buntinas, Mercier and Gropp 2006) gives each rank a receive queue and a free queue of
-//! cells, lock-free, with many producers and one consumer. Here are the definitions alone, over lists
-//! and functions. The shared words and slots are one crate above.
+//! cells, lock-free, with many producers and one consumer. Here are the definitions alone, over
+//! lists and functions. The shared words and slots are one crate above.
 //!
 //! ```text
 //!   head        0      the consumer cleared it, once it had loaded cell 4
@@ -19,10 +19,10 @@
 //! says where the packets of an ordered pair stand that went by box and by cell.
 //!
 //! # What is proved
-//! - Each store and exchange of an enqueue and of a dequeue keeps the chain (`laws`): an enqueue puts
-//!   its cell at the end, and a dequeue takes the first one.
-//! - No packet of an ordered pair is lost or doubled on the two ways, and where one came out of turn,
-//!   the first one missing is the next one in the boxes (`laws`).
+//! - Each store and exchange of an enqueue and of a dequeue keeps the chain (`laws`): an enqueue
+//!   puts its cell at the end, and a dequeue takes the first one.
+//! - No packet of an ordered pair is lost or doubled on the two ways, and where one came out of
+//!   turn, the first one missing is the next one in the boxes (`laws`).
 #![tactic(auto)]
 
 pub mod laws;

@@ -7,7 +7,7 @@ use Rattle.nm_seats.specs.Update.{update}
 use Rattle.nm_seats.proofs.UpdateLemmas.{update_here, update_else}
 use Rattle.nm_table.specs.Rule.{Load, put_to, sent_to}
 use Rattle.nm_table.proofs.QueueLemmas.{put_append, pick_yes}
-use Rattle.nm_cells.proofs.CountedLemmas.{put_other}
+use Rattle.nm_cells.proofs.NumberLemmas.{put_other}
 
 put_longer : (i j : ℕ) (y : Load) (xs : List (ℕ × Load)) → i ≡ j
     → length (put_to i (xs ++ (j, y) ∷ [])) ≡ length (put_to i xs) + 1

@@ -1,9 +1,10 @@
-//! Fastboxes: a short packet from one rank to another in two steps at most.
+//! Fastboxes: a short packet from one rank to another in two steps at most (Buntinas, Mercier and Gropp
+//! 2006).
 //!
 //! ```text
 //!   put    1 load the flag of the next box for the rank; where it isn't 0 nothing is sent
 //!          2 else put the packet into the box, and store its number plus 1 in the flag
-//!   take   1 load the flag of the next box of the rank; where it isn't the awaited one, a miss
+//!   take   1 load the flag of the next box of the rank; where it isn't the awaited number plus 1, a miss
 //!          2 else take the packet out of the box, and store 0 in the flag
 //! ```
 //!

@@ -15,8 +15,8 @@ use nm_seats::Steps;
 use nm_types::Packet;
 use std::sync::ledger::Ledger;
 
-/// Sends a packet by the port's next box for a rank, and answers whether it did. It didn't where that box
-/// was found full.
+/// Sends a packet by the port's next box for a rank, and answers whether it did. It didn't where
+/// that box was found full.
 pub fn put<L: Ledger>(
     f: &Fabric,
     port: &mut Port,
@@ -47,8 +47,8 @@ pub fn put<L: Ledger>(
     true
 }
 
-/// Takes the awaited packet of a rank out of the port's next box of it, into a place of the caller's, and
-/// answers whether it was there. It is passed on.
+/// Takes the awaited packet of a rank out of the port's next box of it, into a place of the
+/// caller's, and answers whether it was there. It is passed on.
 pub fn take<L: Ledger>(
     f: &Fabric,
     port: &mut Port,

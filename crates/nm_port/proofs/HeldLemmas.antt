@@ -14,15 +14,15 @@ use Rattle.nm_types.specs.contracts.packets.Packet.{the_type}
 use Rattle.nm_types.specs.declared.packets.Packet.{Packet}
 use Rattle.nm_chain.specs.Sequence.{Has}
 use Rattle.nm_chain.proofs.SequenceLemmas.{each_has}
-use Rattle.nm_cells.specs.declared.peers.Peer.{Peer}
+use Rattle.nm_cells.specs.declared.tallies.Tally.{Tally}
 use Rattle.nm_cells.specs.declared.port.Port.{Port}
 use Rattle.nm_table.specs.Rule.{Load, from, number}
 use Rattle.nm_table.specs.Plays.{Overtaken}
-use Rattle.nm_cells.specs.Counted.{new_peer, peer_in, not_below, IsOneOf}
+use Rattle.nm_cells.specs.Counted.{new_tally, peer_in, not_below, IsOneOf}
 use Rattle.nm_cells.specs.Counted.{all_unpassed}
 use Rattle.nm_cells.specs.Ports.{knows, taken_by, unpassed_by, IsUnpassed}
 use Rattle.nm_table.proofs.QueueLemmas.{below_yes, below_no}
-use Rattle.nm_cells.proofs.CountedLemmas.{one_of_has, one_number}
+use Rattle.nm_cells.proofs.NumberLemmas.{one_of_has, one_number}
 use Rattle.nm_cells.proofs.PortLemmas.{peer_low}
 use Rattle.nm_port.specs.Polls.{count_held, HoldsTheRest, NotOvertaken}
 
@@ -92,9 +92,9 @@ two_not_below t j k (x ∷ xs) fj fk ne hj hk = let m = not_below_more t x xs in
     (λ r. let s = two_not_below t j k xs fj fk ne q r in let l = m.1 in omega arith) hk) hj
 
 -- what one rank has left is a part of what all have
-one_of_all : (i : ℕ) (peers : List Peer) → i < length peers
+one_of_all : (i : ℕ) (peers : List Tally) → i < length peers
     → (peer_in peers i).unpassed ≤ all_unpassed peers
-one_of_all i peers low = let s = sum_by-set (λ (p : Peer). p.unpassed) peers i new_peer new_peer low
+one_of_all i peers low = let s = sum_by-set (λ (p : Tally). p.unpassed) peers i new_tally new_tally low
     in omega arith
 
 module _ (p : Port) (x : Packet) (un : IsUnpassed p x) where

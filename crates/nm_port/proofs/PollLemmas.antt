@@ -4,7 +4,7 @@ use Rattle.std.proofs.Common.{true, is_some, List, [], ◌∷◌, ◌++◌, leng
 use Rattle.std.proofs.Common.{sym, refl, ap, ◌∙◌, inl, inr, subst, arith, set, append-nil, ⊎_elim}
 use Rattle.std.proofs.Math.Logic.{∥∥₁_elim}
 use Rattle.std.proofs.Props.{props}
-use Rattle.std.specs.Prelude.{slice_index, IfSome, IfNone, IsSome}
+use Rattle.std.specs.Prelude.{slice_index, IfSome, IfNone}
 use mathlib.Core.Logic.{dite}
 use native.Mathlib.Decide.{ℕ_discrete, dec_le}
 use Rattle.nm_types.specs.declared.packets.Packet.{Packet}
@@ -21,7 +21,7 @@ use Rattle.nm_cells.specs.Counted.{IsOneOf, peer_in, all_unpassed}
 use Rattle.nm_cells.specs.Carried.{held_in}
 use Rattle.nm_cells.specs.Ports.{Owns, knows, holding, taken_by, unpassed_by, IsUnpassed, opens}
 use Rattle.nm_cells.proofs.BoxCallLemmas.{brought_owns}
-use Rattle.nm_cells.proofs.CountedLemmas.{one_of_last, from_here}
+use Rattle.nm_cells.proofs.NumberLemmas.{one_of_last, from_here}
 use Rattle.nm_port.proofs.SendLemmas.{box_hands}
 use Rattle.nm_port.specs.Polls.{count_held, HoldsTheRest}
 use Rattle.nm_port.specs.Polls.{first_raised, polled, with_all_missed, with_first_missed, Missed}

@@ -13,6 +13,9 @@
 //!          else that one is held, and the awaited packet of its sender is in the next box: that
 //! ```
 //!
+//! # What a contract sees
+//! What the port knows before and after (`nm_cells`): what was put and taken by each way, the counts of
+//! misses, and the steps.
 //! # What is proved
 //! - `send` answers by which way the packet went, or none with its causes: the box was
 //!   full or too short, and the own free queue had a miss (clauses `by_box`, `by_cell`, `sent`,
@@ -35,6 +38,5 @@ mod sends;
 mod tests;
 
 pub use nm_cells::{Closed, Fabric, Port};
-pub use nm_types::Path;
 pub use polls::poll;
 pub use sends::send;

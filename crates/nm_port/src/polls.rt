@@ -165,8 +165,8 @@ fn receive_next<L: Ledger>(
     true
 }
 
-/// Gives the next packet of a rank, in a place of the caller's: the one with the number that the port
-/// awaits from it, and no other. The answer is whether there was one.
+/// Gives the next packet of a rank, in a place of the caller's: the one with the number that the
+/// port awaits from it, and no other. The answer is whether there was one.
 ///
 /// It takes at most as many word steps as there are ranks, and 10. There is none only where nothing
 /// was held and nothing is, the next box of each rank was found without the awaited number, and the

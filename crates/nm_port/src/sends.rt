@@ -55,11 +55,11 @@ fn send_by_cell<L: Ledger>(
     Some(Path::Cell)
 }
 
-/// Sends the next packet to a rank, in at most nine word steps, and tells by which way: where it fits a
-/// box and the next one is free, by that box, and else by a cell of the own free queue.
+/// Sends the next packet to a rank, in at most nine word steps, and tells by which way: where it
+/// fits a box and the next one is free, by that box, and else by a cell of the own free queue.
 ///
-/// There is no way where neither could be: it doesn't fit a box or that one was full, and the own free
-/// queue had no cell to take.
+/// There is no way where neither could be: it doesn't fit a box or that one was full, and the own
+/// free queue had no cell to take.
 pub fn send<L: Ledger>(
     f: &Fabric,
     port: &mut Port,
@@ -77,7 +77,8 @@ pub fn send<L: Ledger>(
         ≡ with_put_box ((to, Some packet.now) ∷ []) (with_filling to false (knows port.old))) }
     ensures by_cell { result ≡ Some Cell → knows port.new
         ≡ with_put ((to, Some packet.now) ∷ []) (with_look false Fresh (with_heads false
-        (heads_of false (knows port.new)) (tried (length packet.now.payload) to (knows port.old)))) }
+        (heads_of false (knows port.new))
+        (tried (length packet.now.payload) to (knows port.old)))) }
     ensures sent { IsSome result → sent_by port.new
         ≡ update (sent_by port.old) to (sent_by port.old to + 1) }
     ensures back { IfNone result ((sent_by port.new ≡ sent_by port.old)

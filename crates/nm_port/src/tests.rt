@@ -6,11 +6,11 @@ ghost use Rattle.nm_types.specs.declared.limits.TheConstants.{MAX_PACKETS};
 ghost use Rattle.nm_cells.specs.Ports.{Owns, IsNew, IsUnpassed, unpassed_by};
 ghost use Rattle.nm_port.specs.Polls.{HoldsTheRest};
 
-use crate::{Fabric, Path, Port, poll, send};
+use crate::{Fabric, Port, poll, send};
 use nm_cells::{Queue, take_out};
 use nm_queue::{dequeue, enqueue};
 use nm_seats::Steps;
-use nm_types::{Account, Memory, Packet, Payload, Shape, What};
+use nm_types::{Account, Memory, Packet, Path, Payload, Shape, What};
 use std::alloc::Global;
 use std::marker::Brand;
 use std::sync::ledger::{Blank, Ledger};
@@ -39,7 +39,7 @@ fn packet(from: u8, seq: u64) -> Packet
     }
 }
 
-// The way of rank 0's next packet for rank 1, or `None` where it came back.
+// The way of rank 0's next packet for rank 1, or `None` where it was not sent.
 fn send_next<L: Ledger>(f: &Fabric, port: &mut Port, steps: &mut Steps<L>) -> Option<Path>
     requires { Owns f.now port.old × (port.old.rank ≡ 0) × (port.old.hands ≡ 0)
         × (1 < f.now.ranks) }

@@ -1,5 +1,5 @@
 -- What stays of a port's conditions between the steps of a move.
-use Rattle.std.proofs.Common.{◌≡◌, ℕ, suc, ◌+◌, Bool, true, false, [], ◌∷◌, sym, refl}
+use Rattle.std.proofs.Common.{◌≡◌, ℕ, suc, ◌+◌, Bool, true, false, sym, refl}
 use Rattle.std.proofs.Common.{ap, ◌∙◌, ◌<◌, subst}
 use Rattle.std.specs.Prelude.{slice_index_or}
 use Rattle.nm_seats.specs.Update.{update}

@@ -1,4 +1,5 @@
-//! Enqueue and dequeue: a queue of cells with many producers and one consumer, without a lock.
+//! Enqueue and dequeue: a queue of cells with many producers and one consumer, without a lock (Buntinas,
+//! Mercier and Gropp 2006).
 //!
 //! ```text
 //!   enqueue        1 store 0 in the cell's link
@@ -12,12 +13,14 @@
 //! ```
 //!
 //! # What a contract sees
-//! What the port knows before and after (`nm_cells`), what the cells in its hand hold, and the steps.
+//! What the port knows before and after (`nm_cells`), what the cells in its hand hold, and the
+//! steps.
 //!
 //! # What is proved
-//! - `enqueue` can't be refused, takes 3 steps, and puts the cell's packet (clauses `put`, `bound`).
-//! - `dequeue` takes the first cell, at most 5 steps, or has a miss whose count rose (clauses `took`,
-//!   `head_empty`, `link_missing`, `bound`).
+//! - `enqueue` can't be refused, takes 3 steps, and puts the cell's packet (clauses `put`,
+//!   `bound`).
+//! - `dequeue` takes the first cell, at most 5 steps, or has a miss whose count rose (clauses
+//!   `took`, `head_empty`, `link_missing`, `bound`).
 #![tactic(auto)]
 
 mod moves;

@@ -6,8 +6,9 @@ ghost use Rattle.nm_queue.specs.declared.moves.Miss.TheVariants.{HeadEmpty, Link
 ghost use Rattle.nm_table.specs.declared.table.Hand.TheVariants.{Away};
 ghost use Rattle.nm_table.specs.declared.table.Look.TheVariants.{LinkEmpty};
 ghost use Rattle.nm_table.specs.Plays.{with_hand, with_look, with_put};
-ghost use Rattle.nm_table.specs.Plays.{heads_of, with_heads, heads_at, with_missed, head_miss, link_miss};
-ghost use Rattle.nm_cells.specs.Ports.{Owns, Stays, Leaves, knows, holding, Has, MayJoin};
+ghost use Rattle.nm_table.specs.Plays.{heads_of, with_heads, heads_at, with_missed, head_miss};
+ghost use Rattle.nm_table.specs.Plays.{link_miss};
+ghost use Rattle.nm_cells.specs.Ports.{Owns, Stays, Leaves, knows, holding, HasCell, MayJoin};
 ghost use Rattle.nm_cells.specs.Ports.{posted_in, IsOwn, is_receive, Takes};
 
 use nm_cells::{
@@ -22,15 +23,15 @@ use std::sync::ledger::Ledger;
 pub enum Miss {
     /// The head was loaded as 0.
     HeadEmpty,
-    /// The first cell isn't the last one, and its link was loaded as 0: an enqueue has exchanged the tail
-    /// and has still to store the link. The cell stays first.
+    /// The first cell isn't the last one, and its link was loaded as 0: an enqueue has exchanged
+    /// the tail and has still to store the link. The cell stays first.
     LinkMissing,
 }
 
 /// Puts a cell in hand at the end of a queue, in three word steps. It can't be refused.
 pub fn enqueue<L: Ledger>(f: &Fabric, port: &mut Port, q: Queue, cell: Cell, steps: &mut Steps<L>)
     requires owns { Owns f.now port.old }
-    requires in_hand { Has f.now port.old cell }
+    requires in_hand { HasCell f.now port.old cell }
     requires may { MayJoin f.now port.old q cell.number (holding port.old cell.number) }
     ensures stays { Stays f.now port.old port.new }
     ensures put { knows port.new ≡ with_put (posted_in q (holding port.old cell.number))
@@ -50,8 +51,9 @@ pub fn enqueue<L: Ledger>(f: &Fabric, port: &mut Port, q: Queue, cell: Cell, ste
 
 /// Takes the first cell of an own queue, in at most five word steps.
 ///
-/// Where there is no shadow head, two steps find it: the head is loaded and cleared. Then the last cell
-/// is taken in two more steps, and another one in one, or in three where its link was stored late.
+/// Where there is no shadow head, two steps find it: the head is loaded and cleared. Then the last
+/// cell is taken in two more steps, and another one in one, or in three where its link was stored
+/// late.
 pub fn dequeue<L: Ledger>(
     f: &Fabric,
     port: &mut Port,

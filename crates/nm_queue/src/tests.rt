@@ -5,7 +5,7 @@ ghost use Rattle.std.specs.Prelude.{length, slice_get};
 ghost use Rattle.nm_cells.specs.declared.port.Port.{Port};
 ghost use Rattle.nm_types.specs.declared.limits.TheConstants.{MAX_PACKETS};
 ghost use Rattle.nm_cells.specs.declared.cell.Queue.TheVariants.{Receive};
-ghost use Rattle.nm_cells.specs.Ports.{Owns, Stays, Begins, Has, Awaits, IsUnpassed, MayJoin};
+ghost use Rattle.nm_cells.specs.Ports.{Owns, Stays, Begins, HasCell, Awaits, IsUnpassed, MayJoin};
 ghost use Rattle.nm_cells.specs.Ports.{holding, sent_by};
 ghost use Rattle.nm_cells.specs.ClosedLists.{ranks_of};
 
@@ -42,7 +42,7 @@ fn filled<L: Ledger>(f: &Fabric, port: &mut Port, to: u8, steps: &mut Steps<L>) 
     requires room { sent_by port.old to < 2 ^ 60 }
     ensures owns { Owns f.now port.new × (port.new.rank ≡ port.old.rank) }
     ensures held { port.new.held ≡ port.old.held }
-    ensures some { IfSome result (λ c. Has f.now port.new c
+    ensures some { IfSome result (λ c. HasCell f.now port.new c
         × MayJoin f.now port.new (Receive to) c.number (holding port.new c.number)
         × (port.new.hands ≡ port.old.hands + 1)) }
     ensures none { IfNone result (port.new.hands ≡ port.old.hands) }
@@ -81,7 +81,7 @@ fn half<L: Ledger>(
     steps: &mut Steps<L>,
 ) -> Pending
     requires owns { Owns f.now port.old }
-    requires in_hand { Has f.now port.old cell }
+    requires in_hand { HasCell f.now port.old cell }
     requires may { MayJoin f.now port.old q cell.number (holding port.old cell.number) }
     ensures stays { Stays f.now port.old port.new }
     ensures pending { Awaits f.now port.new result }
@@ -232,7 +232,8 @@ fn slow_send<L: Ledger>(
     steps: &mut Steps<L>,
 ) -> Option<(Result<bool, Miss>, bool)>
     requires first { Owns f.now a.old × (a.old.rank ≡ 0) × (a.old.hands ≡ 0) × (1 < f.now.ranks) }
-    requires second { Owns f.now b.old × (b.old.rank ≡ 1) × (b.old.hands ≡ 0) × (b.old.held ≡ None) }
+    requires second { Owns f.now b.old × (b.old.rank ≡ 1) × (b.old.hands ≡ 0)
+        × (b.old.held ≡ None) }
     ensures first { Owns f.now a.new × (a.new.rank ≡ 0) × (a.new.hands ≡ 0) }
     ensures second { Owns f.now b.new × (b.new.rank ≡ 1) × (b.new.hands ≡ 0) × (b.new.held ≡ None) }
 {
@@ -246,7 +247,8 @@ fn slow_send<L: Ledger>(
     Some((tried, first))
 }
 
-// What rank 1 finds before and while rank 0 sends two packets, and after it, and what it counts of it.
+// What rank 1 finds before and while rank 0 sends two packets, and after it, and what it counts of
+// it.
 fn calls<L: Ledger>(
     f: &Fabric,
     a: &mut Port,
@@ -255,7 +257,8 @@ fn calls<L: Ledger>(
 ) -> Option<([Result<bool, Miss>; 5], [bool; 2], [u64; 3])>
     requires blank { (blank.name ≡ L.name) × (blank.parts ≡ L.parts) × (0 < L.parts) }
     requires first { Owns f.now a.old × (a.old.rank ≡ 0) × (a.old.hands ≡ 0) × (1 < f.now.ranks) }
-    requires second { Owns f.now b.old × (b.old.rank ≡ 1) × (b.old.hands ≡ 0) × (b.old.held ≡ None) }
+    requires second { Owns f.now b.old × (b.old.rank ≡ 1) × (b.old.hands ≡ 0)
+        × (b.old.held ≡ None) }
     ensures first { Owns f.now a.new × (a.new.rank ≡ 0) × (a.new.hands ≡ 0) }
     ensures second { Owns f.now b.new × (b.new.rank ≡ 1) × (b.new.hands ≡ 0) × (b.new.held ≡ None) }
 {
@@ -278,7 +281,7 @@ fn filled_loose(f: &Fabric, port: &mut Port, to: u8) -> Option<Cell>
     requires room { sent_by port.old to < 2 ^ 60 }
     ensures owns { Owns f.now port.new × (port.new.rank ≡ port.old.rank) }
     ensures hands { port.new.hands ≡ port.old.hands }
-    ensures some { IfSome result (λ c. Has f.now port.new c
+    ensures some { IfSome result (λ c. HasCell f.now port.new c
         × MayJoin f.now port.new (Receive to) c.number (holding port.new c.number)) }
 {
     let own = port.rank();
@@ -321,7 +324,8 @@ fn send_loose<L: Ledger>(f: &Fabric, port: &mut Port, to: u8, steps: &mut Steps<
 struct Seen {
     // Whether the queue was empty, for each of the two.
     firsts: [bool; 2],
-    // What rank 0 had in hand, and had sent to rank 1, before its last step, and what it had after it.
+    // What rank 0 had in hand, and had sent to rank 1, before its last step, and what it had after
+    // it.
     hands: u32,
     sent: u64,
     hands_after: u32,

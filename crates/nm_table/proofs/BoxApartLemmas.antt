@@ -11,8 +11,9 @@ use Rattle.nm_types.specs.Sizes.{Sizes}
 use Rattle.nm_table.specs.declared.table.Entry.{Entry}
 use Rattle.nm_table.specs.Rule.{Load, put_to, from, number, box_slot, filling_of, Rule}
 use Rattle.nm_table.specs.NextBox.{to_fill, BoxesApart}
-use Rattle.nm_table.proofs.ProducerLemmas.{own}
-use Rattle.nm_table.proofs.BoxRuleLemmas as rule
+use Rattle.nm_table.proofs.SeatLemmas.{own}
+use Rattle.nm_table.proofs.BoxFillLemmas as fills
+use Rattle.nm_table.proofs.BoxEmptyLemmas as empties
 
 filled_is : (b : Bool) (y : Load) → to_fill b ≡ Some y → b ≡ true
 filled_is true y e = refl
@@ -29,10 +30,10 @@ pub apart : (key : Sizes) (s : State Load (View Entry)) (R : Rule key s) (id : �
 apart key s R id e low at j i lj li y z fj ei same = let k = own key s R id e at low in
     let few : j < key.ranks = subst (λ u. j < u) k.ranks lj in
     let few' : i < key.ranks = subst (λ u. i < u) k.ranks li in
-    let lane = rule.out_lane key 0 id e low j few s R at in
+    let lane = fills.out_lane key 0 id e low j few s R at in
     let room = lane.room (filled_is (filling_of e j) y fj) in
     let free = (lane.free 0 (omega arith)).0 in
-    let first = rule.in_first key 0 id e low i few' s R at z ei in
+    let first = empties.in_first key 0 id e low i few' s R at z ei in
     let t : ℕ = length (put_to j e.put_box) in let u : ℕ = length (from i e.got_box) in
     let none : t + 0 ≡ t = omega arith in
     let one_slot : box_slot key.ranks key.cells e.rank j (t % 4) ≡ box_slot key.ranks key.cells i

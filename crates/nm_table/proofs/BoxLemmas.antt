@@ -2,13 +2,15 @@
 use Rattle.std.proofs.Common.{◌≡◌, ◌≢◌, ℕ, suc, ◌+◌, ◌*◌, ◌/◌, ◌<◌, ◌≤◌, None, List, [], ◌∷◌, ◌++◌}
 use Rattle.std.proofs.Common.{map, length, set, sym, refl, ap, ◌∙◌, subst, arith, get_or-set_other}
 use Rattle.std.proofs.Common.{append-nil, length-append, mul-le-mul_right, zero, div-mul-le_self}
+use Rattle.std.proofs.Common.{◌%◌, Some, get_or-set_same}
+use Rattle.std.proofs.lemmas.Nat.{mod_below}
 use Rattle.std.proofs.lemmas.List.{map-append}
-use Rattle.std.specs.Prelude.{slice_index}
+use Rattle.std.specs.Prelude.{slice_index, slice_index_or}
 use mathlib.Core.Option as maybe
 use mathlib.Core.Logic.{dite}
 use native.Mathlib.Decide.{ℕ_discrete, dec_le}
 use lib.ListN.{get_elem?}
-use Rattle.atomic_table.proofs.Lists.{set_else}
+use Rattle.atomic_table.proofs.Lists.{set_here, set_else}
 use Rattle.nm_seats.proofs.UpdateLemmas.{update_here, update_else}
 use Rattle.nm_seats.specs.Update.{update}
 use Rattle.nm_chain.specs.Chain.{Item}
@@ -239,3 +241,59 @@ module _ (n : ℕ) (w : World) (t : AllInSequence n w) where
       (below_no (dec_le (suc q) n) (y ∷ []) [] far) ∙ append-nil (w.got r) ∙ ap w.got (sym jr))
       (λ nr. update_else w.got r more j nr)))
       (ap (λ u. map number (from i (loads u))) (update_else w.chain q xs j nj)) old))
+
+-- one value in an option
+pub some_is : (u v : Load) → Some u ≡ Some v → u ≡ v
+some_is u v e = cc
+
+-- one entry of a list of lids
+pub lids_but : {A : Type 0} (xs : List A) (j : ℕ) (x none : A) (g h : ℕ → A) → j < length xs → h j ≡ x
+    → ((l : ℕ) → l ≢ j → h l ≡ g l) → ((l : ℕ) → l < length xs → slice_index_or xs l none ≡ g l)
+    → (l : ℕ) → l < length xs → slice_index_or (set xs j x) l none ≡ h l
+lids_but xs j x none g h low here else old l ll = dite (ℕ_discrete l j)
+    (λ e. ap (λ k. slice_index_or (set xs j x) k none) e ∙ get_or-set_same xs j x none low
+    ∙ sym here ∙ ap h (sym e))
+    (λ ne. get_or-set_other xs j l x none ne ∙ old l ll ∙ sym (else l ne))
+
+-- a remainder by 4
+pub in_four : (t : ℕ) → t % 4 < 4
+in_four t = mod_below t 4 (omega arith)
+
+-- what a change of one box leaves alone, and what it changes
+pub words_else : (n m : ℕ) (words : List ℕ) (i j t x c : ℕ)
+    → ((u : ℕ) → u < 4 → c ≢ box_slot n m i j u) → t < 4
+    → slice_index (set words (4 * n + box_slot n m i j t) x) (4 * n + c) ≡ slice_index words
+    (4 * n + c)
+words_else n m words i j t x c ne lt = let ne' = ne t lt in
+    get_or-set_other words (4 * n + box_slot n m i j t) (4 * n + c) x 0 (λ u. ne' (omega arith))
+
+pub homes_else : (n m : ℕ) (homes : List (maybe.Option Load)) (i j t : ℕ) (z : maybe.Option Load)
+    (c : ℕ) → ((u : ℕ) → u < 4 → c ≢ box_slot n m i j u) → t < 4
+    → get_elem? (set homes (box_slot n m i j t) z) c ≡ get_elem? homes c
+homes_else n m homes i j t z c ne lt = set_else homes (box_slot n m i j t) c z (ne t lt)
+
+pub box_homes : (n m : ℕ) (homes : List (maybe.Option Load)) (i j t : ℕ) (z : maybe.Option Load)
+    (u : ℕ) → u ≢ t
+    → get_elem? (set homes (box_slot n m i j t) z) (box_slot n m i j u) ≡ get_elem? homes
+    (box_slot n m i j u)
+box_homes n m homes i j t z u ne = set_else homes (box_slot n m i j t) (box_slot n m i j u) z
+    (λ q. ne (omega arith))
+
+pub box_words : (n m : ℕ) (words : List ℕ) (i j t x u : ℕ) → u ≢ t
+    → slice_index (set words (4 * n + box_slot n m i j t) x) (4 * n + box_slot n m i j u)
+    ≡ slice_index words (4 * n + box_slot n m i j u)
+box_words n m words i j t x u ne = get_or-set_other words (4 * n + box_slot n m i j t)
+    (4 * n + box_slot n m i j u) x 0 (λ q. ne (omega arith))
+
+pub box_home : (n m : ℕ) (homes : List (maybe.Option Load)) → length homes ≡ n * m + 4 * (n * n)
+    → (i j t : ℕ) (z : maybe.Option Load) → i < n → j < n → t < 4
+    → get_elem? (set homes (box_slot n m i j t) z) (box_slot n m i j t) ≡ maybe.some z
+box_home n m homes slots i j t z li lj lt = set_here homes (box_slot n m i j t) z
+    (let b = (slot_low n m i j t li lj lt).1 in omega arith)
+
+pub box_word : (n m : ℕ) (words : List ℕ) → length words ≡ 4 * n + n * m + 4 * (n * n)
+    → (i j t x : ℕ) → i < n → j < n → t < 4
+    → slice_index (set words (4 * n + box_slot n m i j t) x) (4 * n + box_slot n m i j t) ≡ x
+box_word n m words long i j t x li lj lt =
+    get_or-set_same words (4 * n + box_slot n m i j t) x 0
+    (let b = (slot_low n m i j t li lj lt).1 in omega arith)

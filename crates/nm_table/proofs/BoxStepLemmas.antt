@@ -20,8 +20,10 @@ use Rattle.nm_table.specs.Rule.{Load, put_to, sender, from, number, sent_to}
 use Rattle.nm_table.specs.Rule.{box_slot, filling_of, emptying_of, Rule}
 use Rattle.nm_table.specs.NextBox.{BoxesApart}
 use Rattle.nm_table.specs.Plays as plays
-use Rattle.nm_table.proofs.ProducerLemmas.{own, own_told}
-use Rattle.nm_table.proofs.BoxRuleLemmas as rule
+use Rattle.nm_table.proofs.SeatLemmas.{own, own_told, only}
+use Rattle.nm_table.proofs.BoxLemmas.{some_is}
+use Rattle.nm_table.proofs.BoxFillLemmas as fills
+use Rattle.nm_table.proofs.BoxEmptyLemmas as empties
 use Rattle.nm_table.proofs.BoxApartLemmas.{apart_after}
 
 none_some : (y : Load) → None ≡ Some y → ⊥
@@ -37,10 +39,10 @@ module _ (key : Sizes) (slots id : ℕ) (e : Entry) (low : e.rank < key.ranks) (
 
   -- the box that the rank fills next for the other, and the one that it empties next of the other
   abbrev out_slot : ℕ
-  out_slot = rule.out_slot key slots id e low peer few
+  out_slot = fills.out_slot key slots id e low peer few
 
   abbrev in_slot : ℕ
-  in_slot = rule.in_slot key slots id e low peer few
+  in_slot = empties.in_slot key slots id e low peer few
 
   abbrev here : List (ℕ × Load) → plays.Knowing
   here hs = (view (e ∷ []), hs)
@@ -82,8 +84,8 @@ module _ (key : Sizes) (slots id : ℕ) (e : Entry) (low : e.rank < key.ranks) (
         view (plays.with_box_full peer e ∷ []),
         keeps,
         tt,
-        rule.only key slots id e low peer few s R at i (plays.with_box_full peer e)
-            (rule.full_known key slots id e low peer few s R at)
+        only key s R id e at low i (plays.with_box_full peer e)
+            (fills.full_known key slots id e low peer few s R at)
             (own_told key s R id e at low),
         (out_named s R at, ((λ z. absurd (some z)), (λ _. refl))),
       ))
@@ -103,12 +105,12 @@ module _ (key : Sizes) (slots id : ℕ) (e : Entry) (low : e.rank < key.ranks) (
           → (filling_of (plays.mine after) peer ≡ true)
           × (after ≡ (
             view (plays.with_filling peer true e ∷ []),
-            plays.opened (filling_of e peer) c hs,
+            plays.slots_to_fill (filling_of e peer) c hs,
           )) × BoxesApart (plays.mine after)) × (0 < slice_index s.words (4 * n + out_slot)
           → after ≡ (view (plays.with_box_full peer e ∷ []), hs))))
       by_lid s R at c at_slot zeroed true is = let f = plays.with_filling peer true e in
-          let new = rule.only key slots id e low peer few s R at (4 * n + out_slot) f
-          (rule.filling_shown key slots id e low peer few s R at true R.world refl refl refl refl
+          let new = only key s R id e at low (4 * n + out_slot) f
+          (fills.filling_shown key slots id e low peer few s R at true R.world refl refl refl refl
           refl refl refl (sym ((own key s R id e at low).filling peer few) ∙ is) (λ l ne. refl))
           (own_told key s R id e at low) in (
             view (f ∷ []),
@@ -120,7 +122,7 @@ module _ (key : Sizes) (slots id : ℕ) (e : Entry) (low : e.rank < key.ranks) (
               (
                 (λ _. (
                   now_filling s R at,
-                  ap (λ b. (view (f ∷ []), plays.opened b c hs)) (sym is),
+                  ap (λ b. (view (f ∷ []), plays.slots_to_fill b c hs)) (sym is),
                   apart_after key (set s.words (4 * n + out_slot)
                       (slice_index s.words (4 * n + out_slot))) s.homes s.views id
                       (view (e ∷ [])) f low at new,
@@ -130,10 +132,10 @@ module _ (key : Sizes) (slots id : ℕ) (e : Entry) (low : e.rank < key.ranks) (
             ),
           )
       by_lid s R at c at_slot zeroed false is = let f = plays.with_filling peer true e in
-          let new = rule.open_ruled key slots id e low peer few s R at is zeroed in (
+          let new = fills.open_ruled key slots id e low peer few s R at is zeroed in (
             view (f ∷ []),
             takes out_slot None,
-            rule.free_home key slots id e low peer few s R at is zeroed,
+            fills.free_home key slots id e low peer few s R at is zeroed,
             loaded s (4 * n + out_slot) (set s.homes out_slot maybe.none)
                 (set s.views id (view (f ∷ []))) new,
             (
@@ -141,7 +143,7 @@ module _ (key : Sizes) (slots id : ℕ) (e : Entry) (low : e.rank < key.ranks) (
               (
                 (λ _. (
                   now_filling s R at,
-                  (λ i. (view (f ∷ []), plays.opened (sym is i) (sym at_slot i) hs)),
+                  (λ i. (view (f ∷ []), plays.slots_to_fill (sym is i) (sym at_slot i) hs)),
                   apart_after key s.words (set s.homes out_slot maybe.none) s.views id
                       (view (e ∷ [])) f low at new,
                 )),
@@ -163,15 +165,15 @@ module _ (key : Sizes) (slots id : ℕ) (e : Entry) (low : e.rank < key.ranks) (
         view (plays.with_box_miss peer e ∷ []),
         keeps,
         tt,
-        rule.only key slots id e low peer few s R at i (plays.with_box_miss peer e)
-            (rule.miss_known key slots id e low peer few s R at)
+        only key s R id e at low i (plays.with_box_miss peer e)
+            (empties.miss_known key slots id e low peer few s R at)
             (own_told key s R id e at low),
         (
           in_named s R at,
           (
             (λ z. absurd (other z)),
             (λ _. refl),
-            (λ o. rule.overdue key slots id e low peer few s R at a o (R.world.waits peer e.rank) refl),
+            (λ o. empties.overdue key slots id e low peer few s R at a o (R.world.waits peer e.rank) refl),
           ),
         ),
       ))
@@ -189,19 +191,19 @@ module _ (key : Sizes) (slots id : ℕ) (e : Entry) (low : e.rank < key.ranks) (
           → Owed s (4 * n + in_slot) (slice_index s.words (4 * n + in_slot)) hs
           (λ after. plays.IsFlag false peer e (4 * n + in_slot)
           × ((slice_index s.words (4 * n + in_slot) ≡ suc a
-          → plays.Begun peer a c (here hs) after)
+          → plays.IsToEmpty peer a c (here hs) after)
           × (slice_index s.words (4 * n + in_slot) ≢ suc a
           → after ≡ (view (plays.with_box_miss peer e ∷ []), hs))
           × (plays.Overdue e peer a → slice_index s.words (4 * n + in_slot) ≡ suc a)))
       by_lid s R at c at_slot hit None is =
-          let st = rule.in_starts key slots id e low peer few s R at a hit in let y = st.0 in
+          let st = empties.in_starts key slots id e low peer few s R at a hit in let y = st.0 in
           let f = plays.with_emptying peer (Some y) e in
           let now = taken_now s R at y in let load : plays.box_load peer f ≡ y =
           ap plays.taking now in
-          let new = rule.begin_ruled key slots id e low peer few s R at y st.1 is st.2 in (
+          let new = empties.begin_ruled key slots id e low peer few s R at y st.1 is st.2 in (
             view (f ∷ []),
             takes in_slot y,
-            rule.full_home key slots id e low peer few s R at y st.1 is st.2,
+            empties.full_home key slots id e low peer few s R at y st.1 is st.2,
             loaded s (4 * n + in_slot) (set s.homes in_slot maybe.none)
                 (set s.views id (view (f ∷ []))) new,
             (
@@ -213,7 +215,7 @@ module _ (key : Sizes) (slots id : ℕ) (e : Entry) (low : e.rank < key.ranks) (
                   ap sender load ∙ st.4,
                   (λ i. (
                     view (plays.with_emptying peer (Some (sym load i)) e ∷ []),
-                    plays.begun (sym is i) (sym at_slot i) (sym load i) hs,
+                    plays.slots_to_empty (sym is i) (sym at_slot i) (sym load i) hs,
                   )),
                   apart_after key s.words (set s.homes in_slot maybe.none) s.views id
                       (view (e ∷ [])) f low at new,
@@ -225,12 +227,12 @@ module _ (key : Sizes) (slots id : ℕ) (e : Entry) (low : e.rank < key.ranks) (
             ),
           )
       by_lid s R at c at_slot hit (Some z) is =
-          let first = rule.in_first key slots id e low peer few s R at z is in
+          let first = empties.in_first key slots id e low peer few s R at z is in
           let f = plays.with_emptying peer (Some z) e in
           let now = taken_now s R at z in let load : plays.box_load peer f ≡ z =
           ap plays.taking now in let same : suc (number z) ≡ suc a = sym first.2 ∙ hit in
-          let new = rule.only key slots id e low peer few s R at (4 * n + in_slot) f
-          (rule.emptying_shown key slots id e low peer few s R at (Some z) R.world refl refl refl
+          let new = only key s R id e at low (4 * n + in_slot) f
+          (empties.emptying_shown key slots id e low peer few s R at (Some z) R.world refl refl refl
           refl refl refl refl (sym ((own key s R id e at low).emptying peer few) ∙ is)
           (λ l ne. refl)) (own_told key s R id e at low) in (
             view (f ∷ []),
@@ -247,12 +249,12 @@ module _ (key : Sizes) (slots id : ℕ) (e : Entry) (low : e.rank < key.ranks) (
                   ap sender load ∙ first.3,
                   (λ i. (
                     view (plays.with_emptying peer (Some (sym load i)) e ∷ []),
-                    plays.begun (sym is i) c (sym load i) hs,
+                    plays.slots_to_empty (sym is i) c (sym load i) hs,
                   )),
                   apart_after key (set s.words (4 * n + in_slot)
                       (slice_index s.words (4 * n + in_slot))) s.homes s.views id
                       (view (e ∷ [])) f low at new,
-                  (λ u was. sym (rule.some_is z u (sym is ∙ was)) ∙ sym load),
+                  (λ u was. sym (some_is z u (sym is ∙ was)) ∙ sym load),
                 )),
                 (λ other. absurd (other hit)),
                 (λ _. hit),
@@ -271,7 +273,7 @@ module _ (key : Sizes) (slots id : ℕ) (e : Entry) (low : e.rank < key.ranks) (
     view (plays.with_put_box ((peer, p) ∷ []) (plays.with_filling peer false e) ∷ []),
     gives,
     tt,
-    rule.fill_ruled key slots id e low peer few s R at p at_work from_here short is,
+    fills.fill_ruled key slots id e low peer few s R at p at_work from_here short is,
     (out_named s R at, refl),
   )
 
@@ -284,7 +286,7 @@ module _ (key : Sizes) (slots id : ℕ) (e : Entry) (low : e.rank < key.ranks) (
     view (plays.with_got_box (y ∷ []) (plays.with_emptying peer None e) ∷ []),
     gives,
     tt,
-    rule.empty_ruled key slots id e low peer few s R at y at_work all,
+    empties.empty_ruled key slots id e low peer few s R at y at_work all,
     (
       in_named s R at,
       (
@@ -294,7 +296,7 @@ module _ (key : Sizes) (slots id : ℕ) (e : Entry) (low : e.rank < key.ranks) (
           hs,
         )) (sym at_work),
         subst (λ u. ¬ plays.Came e peer (number (plays.taking u))) (sym at_work)
-            (rule.not_come key slots id e low peer few s R at y at_work),
+            (empties.not_come key slots id e low peer few s R at y at_work),
       ),
     ),
   )

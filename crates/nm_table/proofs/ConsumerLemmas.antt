@@ -1,7 +1,7 @@
 -- Each kind of step of a consumer keeps the rule, whatever the other ranks did.
-use Rattle.std.proofs.Common.{◌≡◌, ◌≢◌, ℕ, suc, ◌+◌, ◌-◌, ◌*◌, ◌/◌, map, ◌<◌, ◌≤◌, List, [], ◌∷◌}
+use Rattle.std.proofs.Common.{◌≡◌, ◌≢◌, ℕ, suc, ◌+◌, ◌-◌, ◌*◌, ◌<◌, ◌≤◌, List, [], ◌∷◌}
 use Rattle.std.proofs.Common.{◌++◌, length, set, sym, refl, ap, ◌∙◌, inl, subst, arith, None, Bool}
-use Rattle.std.proofs.Common.{true, false, eqb, length-set, ⊎_elim, get_or-set_other}
+use Rattle.std.proofs.Common.{false, eqb, length-set, get_or-set_other}
 use Rattle.std.proofs.lemmas.List.{set-get_or}
 use Rattle.std.specs.Prelude.{slice_index, slice_index_or}
 use mathlib.Core.Option as maybe
@@ -13,218 +13,30 @@ use Rattle.atomic_table.specs.Table.{State, step, Act, keeps, takes, Allows, Val
 use Rattle.atomic_table.specs.Table.{stepped}
 use Rattle.nm_seats.specs.declared.views.View.{View}
 use Rattle.nm_seats.specs.Spoken.{view}
-use Rattle.nm_seats.proofs.UpdateLemmas.{pick_yes, update_here, update_else}
+use Rattle.nm_seats.proofs.UpdateLemmas.{update_here, update_else}
 use Rattle.nm_seats.specs.Update.{update}
-use Rattle.nm_chain.specs.Chain.{Begins, Item, item, held, queued}
-use Rattle.nm_chain.specs.Sequence.{Each, Got, InSequence}
-use Rattle.nm_chain.proofs.SequenceLemmas.{next_by_cell_is_new}
+use Rattle.nm_chain.specs.Chain.{Item, item, held, queued}
 use Rattle.nm_types.specs.Sizes.{Sizes}
-use Rattle.nm_table.specs.declared.table.Hand.TheVariants.{Away, Loose, Held, Ready, Entering}
-use Rattle.nm_table.specs.declared.table.Hand.{Hand}
+use Rattle.nm_table.specs.declared.table.Hand.TheVariants.{Away, Held}
 use Rattle.nm_table.specs.declared.table.Heads.{Heads}
-use Rattle.nm_table.specs.declared.table.Misses.{Misses}
 use Rattle.nm_table.specs.declared.table.Entry.{Entry}
 use Rattle.atomic_table.proofs.Lists.{exchanged}
-use Rattle.nm_table.specs.Rule.{AllInSequence, BoxesHold, Chain, Agrees, Load, NotOf, Place}
-use Rattle.nm_table.specs.Rule.{QueuesHold, Rule, Shows, Suits, World, fetched, from, hand, loads}
-use Rattle.nm_table.specs.Rule.{number, sender, sent_to}
+use Rattle.nm_table.specs.Rule.{BoxesHold, Chain, Agrees, Load, NotOf}
+use Rattle.nm_table.specs.Rule.{QueuesHold, Rule, Shows, Suits, World, fetched, hand}
 use Rattle.nm_table.specs.Rule.{LooksHold, tail}
-use Rattle.nm_table.specs.declared.table.Look.{Look}
 use Rattle.nm_table.specs.declared.table.Look.TheVariants.{Fresh, LinkEmpty, TailElsewhere}
-use Rattle.nm_table.specs.Looks.{link_empty, look_in, StillTold}
+use Rattle.nm_table.specs.Looks.{link_empty, look_in}
 use Rattle.nm_table.specs.Plays as plays
-use Rattle.nm_table.proofs.QueueLemmas as queues
+use Rattle.nm_table.proofs.DequeueLemmas as dequeue
 use Rattle.nm_table.proofs.BoxLemmas as box_laws
 use Rattle.nm_table.proofs.BoxLemmas.{owner_below}
-use Rattle.nm_table.proofs.ProducerLemmas.{below_put, knows_else, place_but, hands_but, own}
-use Rattle.nm_table.proofs.ProducerLemmas.{own_told, ruled, ruled_by, still_told}
-
-module _ (n r : ℕ) (low : r < n) (ends : ℕ → Heads) (x : Heads) where
-  receive_of : (b : Bool) (e : Entry) → e.receive ≡ ends r
-      → (plays.with_heads b x e).receive ≡ update ends (plays.queue n r b) x r
-  receive_of true e k = sym (update_here ends r x r refl)
-  receive_of false e k = k ∙ sym (update_else ends (n + r) x r (λ z. omega arith))
-
-  free_of : (b : Bool) (e : Entry) → e.free ≡ ends (n + r)
-      → (plays.with_heads b x e).free ≡ update ends (plays.queue n r b) x (n + r)
-  free_of true e k = k ∙ sym (update_else ends r x (n + r) (λ z. omega arith))
-  free_of false e k = sym (update_here ends (n + r) x (n + r) refl)
-
-  other_receive : (b : Bool) (t : ℕ) → t < n → t ≢ r → update ends (plays.queue n r b) x t ≡ ends t
-  other_receive true t few ne = update_else ends r x t ne
-  other_receive false t few ne = update_else ends (n + r) x t (λ z. omega arith)
-
-  other_free : (b : Bool) (t : ℕ) → t < n → t ≢ r → update ends (plays.queue n r b) x (n + t) ≡ ends
-      (n + t)
-  other_free true t few ne = update_else ends r x (n + t) (λ z. omega arith)
-  other_free false t few ne = update_else ends (n + r) x (n + t) (λ z. ne (omega arith))
-
-  fits_in : (b : Bool) → plays.queue n r b < 2 * n
-  fits_in true = omega arith
-  fits_in false = omega arith
-
-  own_or : (b : Bool) (t : ℕ) → t < n → t ≢ r → t ≢ plays.queue n r b
-  own_or true t few ne z = ne z
-  own_or false t few ne z = omega arith
-
-  own_or_free : (b : Bool) (t : ℕ) → t < n → t ≢ r → n + t ≢ plays.queue n r b
-  own_or_free true t few ne z = omega arith
-  own_or_free false t few ne z = ne (omega arith)
-
-  own_in : (b : Bool) → plays.queue n r b < n → plays.queue n r b ≡ r
-  own_in true h = refl
-  own_in false h = absurd (omega arith)
-
--- changes of the entry that leave its other parts alone
-same_rank : (b : Bool) (x : Heads) (e : Entry) → ((plays.with_heads b x e).rank ≡ e.rank)
-    × ((plays.with_heads b x e).ranks ≡ e.ranks) × ((plays.with_heads b x e).hands ≡ e.hands)
-    × ((plays.with_heads b x e).put ≡ e.put) × ((plays.with_heads b x e).got ≡ e.got)
-    × ((plays.with_heads b x e).each ≡ e.each)
-same_rank true x e = (refl, refl, refl, refl, refl, refl)
-same_rank false x e = (refl, refl, refl, refl, refl, refl)
-
-same_boxes : (b : Bool) (x : Heads) (e : Entry) → ((plays.with_heads b x e).put_box ≡ e.put_box)
-    × ((plays.with_heads b x e).got_box ≡ e.got_box) × ((plays.with_heads b x e).filling ≡ e.filling)
-    × ((plays.with_heads b x e).emptying ≡ e.emptying)
-same_boxes true x e = (refl, refl, refl, refl)
-same_boxes false x e = (refl, refl, refl, refl)
-
--- the rule speaks of looks beside what a rank knows
-knows_look : (n m r : ℕ) (b : Bool) (l : Look) (w : World) (e : Entry)
-    → Agrees n m w r e → Agrees n m w r (plays.with_look b l e)
-knows_look n m r b l w e k = record {
-  rank = k.rank;
-  ranks = k.ranks;
-  per = k.per;
-  long = k.long;
-  hands = k.hands;
-  receive = k.receive;
-  free = k.free;
-  put = k.put;
-  got = k.got;
-  put_box = k.put_box;
-  got_box = k.got_box;
-  outs = k.outs;
-  ins = k.ins;
-  filling = k.filling;
-  emptying = k.emptying;
-}
-
--- a link that was loaded as 0 tells nothing of the tail
-empty_here : (l : Look) → link_empty l ≢ TailElsewhere
-empty_here Fresh z = let z' : LinkEmpty 0 ≡ TailElsewhere = z in cc
-empty_here (LinkEmpty k) z = let z' : LinkEmpty (suc k) ≡ TailElsewhere = z in cc
-empty_here TailElsewhere z = let z' : LinkEmpty 0 ≡ TailElsewhere = z in cc
-
--- a queue whose head has a cell has no shadow head
-no_shadow : (place : ℕ → Place) (q hd shadow : ℕ) (xs : Chain) → Begins place q hd shadow xs
-    → 0 < hd → shadow ≡ 0
-no_shadow place q hd shadow [] b some = b.0
-no_shadow place q hd shadow (x ∷ xs) b some = ⊎_elim (λ t. let z = t.1 in absurd (omega arith))
-    (⊎_elim (λ t. t.0) (λ t. t.0)) b
-
-module _ (n : ℕ) (words : List ℕ) (r : ℕ) (e : Entry) where
-  -- what was told, by queue
-  told_of : LooksHold n words r e → (b : Bool) → StillTold (look_in b e.looks)
-      (plays.heads_of b e).shadow (tail n words (plays.queue n r b))
-  told_of t true = t.0
-  told_of t false = t.1
-
-  -- the same shadow head
-  told_seen : (b : Bool) (seen : ℕ) → LooksHold n words r e → LooksHold n words r
-      (plays.with_heads b (plays.heads_at (plays.heads_of b e).shadow seen) e)
-  told_seen true seen t = t
-  told_seen false seen t = t
-
-  -- another head, where the tail wasn't found elsewhere
-  told_heads : (b : Bool) (x : Heads) → look_in b e.looks ≢ TailElsewhere → LooksHold n words r e
-      → LooksHold n words r (plays.with_heads b x e)
-  told_heads true x ne t = ((λ z. absurd (ne z)), t.1)
-  told_heads false x ne t = (t.0, (λ z. absurd (ne z)))
-
-  -- something else was told than of the tail
-  told_link : (b : Bool) (l : Look) → l ≢ TailElsewhere → LooksHold n words r e
-      → LooksHold n words r (plays.with_look b l e)
-  told_link true l ne t = ((λ z. absurd (ne z)), t.1)
-  told_link false l ne t = (t.0, (λ z. absurd (ne z)))
-
-  -- the tail was found elsewhere
-  told_tail : (b : Bool) → 0 < (plays.heads_of b e).shadow
-      → tail n words (plays.queue n r b) ≢ (plays.heads_of b e).shadow → LooksHold n words r e
-      → LooksHold n words r (plays.with_look b TailElsewhere e)
-  told_tail true some ne t = ((λ _. (some, ne)), t.1)
-  told_tail false some ne t = (t.0, (λ _. (some, ne)))
-
-  -- a cell was taken, and nothing was told of the next one
-  told_taken : (words' : List ℕ) (b : Bool) (c : ℕ) (y : Load) (shadow : ℕ) → r < n
-      → ((k : ℕ) → k < 2 * n → k ≢ plays.queue n r b → tail n words' k ≡ tail n words k)
-      → LooksHold n words r e → LooksHold n words' r (plays.taken b c y shadow e)
-  told_taken words' true c y shadow low same t = (
-    (λ z. absurd (let z' : Fresh ≡ TailElsewhere = z in cc)),
-    (λ l. let o = t.1 l in (o.0, (λ z. o.1 (sym (same (n + r) (omega arith) (λ u. omega arith)) ∙ z)))),
-  )
-  told_taken words' false c y shadow low same t = (
-    (λ l. let o = t.0 l in (o.0, (λ z. o.1 (sym (same r (omega arith) (λ u. omega arith)) ∙ z)))),
-    (λ z. absurd (let z' : Fresh ≡ TailElsewhere = z in cc)),
-  )
-
--- the counts of misses are the port's own matter
-knows_missed : (n m r : ℕ) (b : Bool) (f : Misses → Misses) (w : World) (e : Entry)
-    → Agrees n m w r e → Agrees n m w r (plays.with_missed b f e)
-knows_missed n m r b f w e k = record {
-  rank = k.rank;
-  ranks = k.ranks;
-  per = k.per;
-  long = k.long;
-  hands = k.hands;
-  receive = k.receive;
-  free = k.free;
-  put = k.put;
-  got = k.got;
-  put_box = k.put_box;
-  got_box = k.got_box;
-  outs = k.outs;
-  ins = k.ins;
-  filling = k.filling;
-  emptying = k.emptying;
-}
-
-knows_end : (n m : ℕ) (w : World) (r : ℕ) (e : Entry) → Agrees n m w r e → (b : Bool)
-    → plays.heads_of b e ≡ w.heads (plays.queue n r b)
-knows_end n m w r e k true = k.receive
-knows_end n m w r e k false = k.free
-
--- a cell in a queue is in no hand
-away_in_queue : (r q : ℕ) (p : Place) (h : Hand) → p ≡ queued q → Shows r p h → h ≡ Away
-away_in_queue r q p Away is s = refl
-away_in_queue r q p Loose is s = let z = sym is ∙ s in cc
-away_in_queue r q p Held is s = let z = sym is ∙ s in cc
-away_in_queue r q p (Ready y) is s = let z = sym is ∙ s in cc
-away_in_queue r q p (Entering t u) is s = let z = sym is ∙ s in cc
-
--- the first cell of a receive queue holds a new packet
-news : (n m : ℕ) (w : World) (e : Entry) → e.rank < n → Agrees n m w e.rank e → AllInSequence n w
-    → (b : Bool) (x : Item Load) (xs : Chain) → x.cell < n * m
-    → w.chain (plays.queue n e.rank b) ≡ x ∷ xs → Suits n m (plays.queue n e.rank b) x
-    → plays.HoldsNews b x.cell e x.load
-news n m w e low k t false x xs few is su = tt
-news n m w e low k t true x xs few is su = let i : ℕ = x.cell / m in let y = x.load in
-    let fl = owner_below n m x.cell few in
-    let one : from i (loads (w.chain e.rank)) ≡ y ∷ from i (loads xs) =
-    ap (λ u. from i (loads u)) is ∙ pick_yes (y ∷ from i (loads xs)) (from i (loads xs))
-    (su.0 low) (ℕ_discrete (sender y) (suc i)) in
-    let new = next_by_cell_is_new (sent_to e.rank (w.put_box i) (w.put i)) (number y)
-    (map number (from i (w.got_box e.rank))) (map number (w.waits i e.rank))
-    (map number (from i (w.got e.rank))) (map number (from i (loads xs)))
-    (subst (λ u. InSequence (sent_to e.rank (w.put_box i) (w.put i))
-    (map number (from i (w.got_box e.rank))) (map number (w.waits i e.rank))
-    (map number (from i (w.got e.rank))) (map number u)) one (t i e.rank fl low)) in
-    let as_known : plays.IsNews e i (number y) =
-    subst (λ g. (¬ Got (map number (from i e.got_box)) (map number (from i g)) (number y))
-    × Each (λ j. j < number y) (map number (from i g))) (sym k.got)
-    (subst (λ g. (¬ Got (map number (from i g)) (map number (from i (w.got e.rank))) (number y))
-    × Each (λ j. j < number y) (map number (from i (w.got e.rank)))) (sym k.got_box) new) in
-    subst (λ u. plays.IsNews e (x.cell / u) (number y)) (sym k.per) as_known
+use Rattle.nm_table.proofs.SeatLemmas.{below_put, knows_else, place_but, hands_but, own, own_told}
+use Rattle.nm_table.proofs.SeatLemmas.{ruled, ruled_by, still_told, only}
+use Rattle.nm_table.proofs.HeadLemmas.{receive_of, free_of, other_receive, other_free, fits_in}
+use Rattle.nm_table.proofs.HeadLemmas.{own_or, own_or_free, own_in, same_rank, same_boxes}
+use Rattle.nm_table.proofs.HeadLemmas.{knows_look, empty_here, no_shadow, told_of, told_seen}
+use Rattle.nm_table.proofs.HeadLemmas.{told_heads, told_link, told_tail, told_taken, knows_missed}
+use Rattle.nm_table.proofs.HeadLemmas.{knows_end, away_in_queue, news}
 
 module _ (key : Sizes) (slots id : ℕ) (e : Entry) (low : e.rank < key.ranks) (b : Bool) where
   abbrev q : ℕ
@@ -286,10 +98,10 @@ module _ (key : Sizes) (slots id : ℕ) (e : Entry) (low : e.rank < key.ranks) (
       let laid = subst (λ u. QueuesHold key.ranks key.cells
       (record w { heads = update w.heads q (plays.heads_at u found) }) s.words s.homes)
       (ap (λ (z : Heads). z.shadow) (sym (knows_end key.ranks key.cells w e.rank e k b)))
-      (queues.loaded_head key.ranks key.cells w s.words s.homes R.laid q
+      (dequeue.loaded_head key.ranks key.cells w s.words s.homes R.laid q
       (fits_in key.ranks e.rank low w.heads x b)) in
       let fit = subst (λ u. found ≤ u) (sym k.long)
-      (queues.head_low key.ranks key.cells w s.words s.homes R.laid q
+      (dequeue.head_low key.ranks key.cells w s.words s.homes R.laid q
       (fits_in key.ranks e.rank low w.heads x b)) in
       let told = told_seen key.ranks s.words e.rank e b found (own_told key s R id e at low) in
       dite (ℕ_discrete found 0)
@@ -336,7 +148,7 @@ module _ (key : Sizes) (slots id : ℕ) (e : Entry) (low : e.rank < key.ranks) (
       let laid = subst (λ u. QueuesHold key.ranks key.cells
       (record w { heads = update w.heads q (plays.heads_at u 0) }) (set s.words q 0) s.homes)
       (sym seen)
-      (queues.cleared_head key.ranks key.cells w s.words s.homes R.laid q c
+      (dequeue.cleared_head key.ranks key.cells w s.words s.homes R.laid q c
       (fits_in key.ranks e.rank low w.heads x b) in_world) in (
         view (plays.with_heads b x e ∷ []),
         keeps,
@@ -365,7 +177,7 @@ module _ (key : Sizes) (slots id : ℕ) (e : Entry) (low : e.rank < key.ranks) (
       → x.cell < key.ranks * key.cells
       → R.world.place x.cell ≡ queued q
       → QueuesHold key.ranks key.cells
-      (queues.after_take key.ranks key.cells R.world s.words s.homes R.laid e.rank q x xs
+      (dequeue.after_take key.ranks key.cells R.world s.words s.homes R.laid e.rank q x xs
       (plays.heads_at shadow 0)) words' (set s.homes x.cell maybe.none)
       → R.world.chain q ≡ x ∷ xs → BoxesHold key.ranks key.cells R.world words'
       (set s.homes x.cell maybe.none)
@@ -378,7 +190,7 @@ module _ (key : Sizes) (slots id : ℕ) (e : Entry) (low : e.rank < key.ranks) (
   one_taken s R at x xs shadow words' tails few was laid is boxes = let k = own key s R id e at low in
       let w = R.world in let n = key.ranks in let m = key.cells in let y = x.load in
       let z = plays.heads_at shadow 0 in
-      let w' = queues.after_take n key.cells w s.words s.homes R.laid e.rank q x xs z in
+      let w' = dequeue.after_take n key.cells w s.words s.homes R.laid e.rank q x xs z in
       let f = plays.taken b x.cell y shadow e in let same = same_rank b z e in
       let boxy = same_boxes b z e in
       ruled_by key s R id e at low w' f words' (set s.homes x.cell maybe.none)
@@ -415,20 +227,6 @@ module _ (key : Sizes) (slots id : ℕ) (e : Entry) (low : e.rank < key.ranks) (
       still_told n s.words words' r g
       (tails r (omega arith) (λ u. own_or n e.rank low w.heads z b r few' ne u))
       (tails (n + r) (omega arith) (λ u. own_or_free n e.rank low w.heads z b r few' ne u)) t)
-
-  -- a load that changes the entry alone
-  pub only : (s : State Load (View Entry)) (i : ℕ)
-      → get_elem? s.views id ≡ maybe.some (view (e ∷ [])) → (R : Rule key s) (f : Entry)
-      → Agrees key.ranks key.cells R.world e.rank f → LooksHold key.ranks s.words e.rank f
-      → Rule key record {
-        words = set s.words i (slice_index s.words i);
-        homes = s.homes;
-        views =
-            set s.views id (view (f ∷ []));
-      }
-  only s i at R f k told = loaded s i s.homes (set s.views id (view (f ∷ [])))
-      (ruled key s R id e at low R.world f s.words s.homes told (λ _ _. refl) R.ranked R.laid R.boxes R.turns k
-      (λ _ _ _ _ o. o))
 
   module _ (c : ℕ) (hs : List (ℕ × Load)) (shadow : (plays.heads_of b e).shadow ≡ suc c) where
     abbrev me : plays.Knowing
@@ -468,10 +266,10 @@ module _ (key : Sizes) (slots id : ℕ) (e : Entry) (low : e.rank < key.ranks) (
         let shade : (w.heads q).shadow ≡ suc c =
         ap (λ (u : Heads). u.shadow) (sym (knows_end n key.cells w e.rank e k b)) ∙ shadow in
         let fit = fits_in n e.rank low w.heads z b in let mine = own_in n e.rank low w.heads z b in
-        let st = queues.start n key.cells w s.words s.homes R.laid e.rank q c fit mine shade in
-        let su = queues.start_suits n key.cells w s.words s.homes R.laid e.rank q c fit mine shade
+        let st = dequeue.start n key.cells w s.words s.homes R.laid e.rank q c fit mine shade in
+        let su = dequeue.start_suits n key.cells w s.words s.homes R.laid e.rank q c fit mine shade
         in
-        let few = queues.start_low n key.cells w s.words s.homes R.laid e.rank q c fit mine shade in
+        let few = dequeue.start_low n key.cells w s.words s.homes R.laid e.rank q c fit mine shade in
         let named : 4 * n + c ≡ 4 * e.ranks + ((plays.heads_of b e).shadow - 1) =
         let rs = k.ranks in omega arith in
         dite (ℕ_discrete found 0)
@@ -479,19 +277,19 @@ module _ (key : Sizes) (slots id : ℕ) (e : Entry) (low : e.rank < key.ranks) (
           view (f e ∷ []),
           keeps,
           tt,
-          only s (4 * n + c) at R (f e) (keep w k) (tell s.words (own_told key s R id e at low)),
+          only key s R id e at low (4 * n + c) (f e) (keep w k) (tell s.words (own_told key s R id e at low)),
           (named, (λ _. refl), (λ some. absurd (omega arith))),
         ))
         (λ some. let leads : found ≡ suc (found - 1) = omega arith in (
           view (plays.taken b st.0.cell st.0.load found e ∷ []),
           takes st.0.cell st.0.load,
-          queues.at_home n key.cells w s.words s.homes R.laid e.rank q c fit mine shade,
+          dequeue.at_home n key.cells w s.words s.homes R.laid e.rank q c fit mine shade,
           loaded s (4 * n + c) (set s.homes st.0.cell maybe.none) _
               (one_taken s R at st.0 st.1 found s.words (λ _ _ _. refl) few (ap w.place st.3 ∙ st.4)
               (subst (λ u. QueuesHold n key.cells
-              (queues.after_take n key.cells w s.words s.homes R.laid e.rank q st.0 st.1
+              (dequeue.after_take n key.cells w s.words s.homes R.laid e.rank q st.0 st.1
               (plays.heads_at u 0)) s.words (set s.homes st.0.cell maybe.none)) (sym leads)
-              (queues.passed n key.cells w s.words s.homes R.laid e.rank q c fit mine shade
+              (dequeue.passed n key.cells w s.words s.homes R.laid e.rank q c fit mine shade
               (found - 1) leads)) st.2
               (box_laws.keep_slot n key.cells w s.words s.homes R.boxes st.0.cell maybe.none
               few)),
@@ -504,7 +302,7 @@ module _ (key : Sizes) (slots id : ℕ) (e : Entry) (low : e.rank < key.ranks) (
             )) (let rs = k.ranks in
                 let t : c ≡ (4 * n + c) - 4 * e.ranks = omega arith in t)
                 (took st.0 found st.3 (subst (λ u. st.0.cell < u) (sym k.long) few)
-                (let nl = queues.next_low n key.cells w s.words s.homes R.laid e.rank q c fit
+                (let nl = dequeue.next_low n key.cells w s.words s.homes R.laid e.rank q c fit
                 mine shade (found - 1) leads in let kl = k.long in omega arith)
                 (away_in_queue e.rank q (w.place st.0.cell) (hand e st.0.cell)
                 (ap w.place st.3 ∙ st.4) (k.hands st.0.cell few)) (suited st.0 k su)
@@ -520,10 +318,10 @@ module _ (key : Sizes) (slots id : ℕ) (e : Entry) (low : e.rank < key.ranks) (
         let shade : (w.heads q).shadow ≡ suc c =
         ap (λ (u : Heads). u.shadow) (sym (knows_end n key.cells w e.rank e k b)) ∙ shadow in
         let fit = fits_in n e.rank low w.heads z b in let mine = own_in n e.rank low w.heads z b in
-        let st = queues.start n key.cells w s.words s.homes R.laid e.rank q c fit mine shade in
-        let su = queues.start_suits n key.cells w s.words s.homes R.laid e.rank q c fit mine shade
+        let st = dequeue.start n key.cells w s.words s.homes R.laid e.rank q c fit mine shade in
+        let su = dequeue.start_suits n key.cells w s.words s.homes R.laid e.rank q c fit mine shade
         in
-        let few = queues.start_low n key.cells w s.words s.homes R.laid e.rank q c fit mine shade in
+        let few = dequeue.start_low n key.cells w s.words s.homes R.laid e.rank q c fit mine shade in
         exchanged found (suc c) 0
         (λ m. (v : View Entry) × (a : Act Load) × Valid s.homes hs a
         × Rule key (stepped s (2 * n + q) m id hs v a)
@@ -532,12 +330,12 @@ module _ (key : Sizes) (slots id : ℕ) (e : Entry) (low : e.rank < key.ranks) (
         (λ last. (
           view (plays.taken b st.0.cell st.0.load 0 e ∷ []),
           takes st.0.cell st.0.load,
-          queues.at_home n key.cells w s.words s.homes R.laid e.rank q c fit mine shade,
+          dequeue.at_home n key.cells w s.words s.homes R.laid e.rank q c fit mine shade,
           one_taken s R at st.0 [] 0 (set s.words (2 * n + q) 0)
               (λ p _ ne. get_or-set_other s.words (2 * n + q) (2 * n + p) 0 0 (omega arith)) few
               (ap w.place st.3 ∙ st.4)
-              (queues.drained n key.cells w s.words s.homes R.laid e.rank q c fit mine shade last)
-              (queues.sole n key.cells w s.words s.homes R.laid e.rank q c fit mine shade last)
+              (dequeue.drained n key.cells w s.words s.homes R.laid e.rank q c fit mine shade last)
+              (dequeue.sole n key.cells w s.words s.homes R.laid e.rank q c fit mine shade last)
               (box_laws.keep_both n key.cells w s.words s.homes R.boxes
               (2 * n + q) st.0.cell 0 maybe.none (omega arith) few),
           (
@@ -557,7 +355,7 @@ module _ (key : Sizes) (slots id : ℕ) (e : Entry) (low : e.rank < key.ranks) (
           view (plays.with_look b TailElsewhere e ∷ []),
           keeps,
           tt,
-          only s (2 * n + q) at R (plays.with_look b TailElsewhere e)
+          only key s R id e at low (2 * n + q) (plays.with_look b TailElsewhere e)
               (knows_look n key.cells e.rank b TailElsewhere w e k)
               (told_tail n s.words e.rank e b (omega arith) (λ z. other (z ∙ shadow))
               (own_told key s R id e at low)),

@@ -1,9 +1,13 @@
 mod BoxApartLemmas
+mod BoxEmptyLemmas
+mod BoxFillLemmas
 pub mod BoxLemmas
-pub mod BoxRuleLemmas
 pub mod BoxStepLemmas
 pub mod ConsumerLemmas
 pub mod CountingLemmas
+mod DequeueLemmas
+mod HeadLemmas
 pub mod OpeningLemmas
 pub mod ProducerLemmas
 pub mod QueueLemmas
+mod SeatLemmas

@@ -1,13 +1,12 @@
 -- The rule holds at the start.
 use Rattle.std.proofs.Common.{true, false, ◌≡◌, ◌≢◌, ℕ, zero, suc, ◌+◌, ◌*◌, ◌/◌, ◌%◌, ◌<◌}
-use Rattle.std.proofs.Common.{◌≤◌, ◌⊎◌, List, [], ◌∷◌, ◌++◌, length, map, replicate, sym, refl, ap}
-use Rattle.std.proofs.Common.{◌∙◌, subst, ⊎_elim, arith, Some, None}
+use Rattle.std.proofs.Common.{◌≤◌, List, [], ◌∷◌, length, map, replicate, sym, refl, ap}
+use Rattle.std.proofs.Common.{◌∙◌, subst, arith, Some, None}
 use Rattle.std.proofs.lemmas.Nat.{mod_below}
 use Rattle.std.proofs.lemmas.List.{length-replicate, get_or-replicate}
 use Rattle.std.specs.Prelude.{slice_index_or}
 use mathlib.Core.Option as maybe
 use native.Mathlib.Decide.{ℕ_discrete, dec_le}
-use lib.ListN.{get_elem?}
 use Rattle.atomic_table.specs.Table.{Splits, opening}
 use Rattle.nm_seats.specs.declared.views.View.{View}
 use Rattle.nm_seats.specs.Spoken.{view, others_of, first_of, Each as EachEntry, Apart}

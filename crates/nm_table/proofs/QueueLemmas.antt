@@ -1,4 +1,4 @@
--- What each kind of step does to the words, the slots and the world.
+-- What each kind of step of a producer does to the words, the slots and the world, and what a step leaves alone.
 use Rattle.std.proofs.Common.{◌≡◌, ◌≢◌, ℕ, suc, ◌+◌, ◌*◌, ◌<◌, ◌≤◌, List, [], ◌∷◌, ◌++◌, length}
 use Rattle.std.proofs.Common.{set, sym, refl, ap, ◌∙◌, inl, inr, subst, ⊎_elim, arith, length-set}
 use Rattle.std.proofs.Common.{get_or-set_same, get_or-set_other, append_assoc, append-nil}
@@ -12,16 +12,15 @@ use Rattle.nm_seats.proofs.UpdateLemmas.{update_here, update_else}
 use Rattle.nm_seats.specs.Update.{update}
 use Rattle.nm_chain.specs.Chain.{Item, item, IsIn, Each, Has, Begins, last_from, tail_of, IsChain}
 use Rattle.nm_chain.specs.Chain.{loose, held, ready, entering, queued}
-use Rattle.nm_chain.proofs.ChainLemmas.{next_is, chain_elsewhere, tail_swapped, link_stored}
-use Rattle.nm_chain.proofs.ChainLemmas.{head_stored, head_cleared, first_cell, first_taken}
-use Rattle.nm_chain.proofs.ChainLemmas.{tail_dropped}
+use Rattle.nm_chain.proofs.ChainLemmas.{chain_elsewhere, tail_swapped, link_stored}
+use Rattle.nm_chain.proofs.ChainLemmas.{head_stored}
 use Rattle.nm_table.specs.declared.table.Heads.{Heads}
 use Rattle.nm_table.specs.Rule.{Load, Place, Chain, World, if_below, put_to, sender, from}
-use Rattle.nm_table.specs.Rule.{posted, fetched, loads, head, tail, link, HasHome, IsOut, Suits}
-use Rattle.nm_table.specs.Rule.{Fits, Handed, Queue, QueuesHold}
+use Rattle.nm_table.specs.Rule.{posted, loads, head, tail, link, IsOut, Suits}
+use Rattle.nm_table.specs.Rule.{Fits, Handed, QueueHolds, QueuesHold}
 use Rattle.nm_seats.specs.Update.{pick}
 
-in_one : (q p : ℕ) (a : Place) → IsIn q a → IsIn p a → q ≡ p
+pub in_one : (q p : ℕ) (a : Place) → IsIn q a → IsIn p a → q ≡ p
 in_one q p (loose r) h k = absurd h
 in_one q p (held r) h k = absurd h
 in_one q p (ready r y) h k = absurd h
@@ -77,7 +76,7 @@ posted_else n q j y ne =
     (λ far. ap (put_to j) (below_no (dec_le (suc q) n) ((q, y) ∷ []) [] far))
 
 -- the same chain, its end and its words
-moved : (fits : Item Load → Type 0) (place : ℕ → Place) (ln : ℕ → ℕ) (q h t s h' t' s' : ℕ)
+pub moved : (fits : Item Load → Type 0) (place : ℕ → Place) (ln : ℕ → ℕ) (q h t s h' t' s' : ℕ)
     (xs xs' : Chain) → h' ≡ h → t' ≡ t → s' ≡ s → xs' ≡ xs → IsChain fits place ln q h t s xs
     → IsChain fits place ln q h' t' s' xs'
 moved fits place ln q h t s h' t' s' xs xs' eh et es ex c = record {
@@ -89,7 +88,7 @@ moved fits place ln q h t s h' t' s' xs xs' eh et es ex c = record {
   whole = λ d k. rw ex (c.whole d k);
 }
 
-handed_same : (n : ℕ) (words words' : List ℕ) (homes homes' : List (maybe.Option Load)) (c : ℕ)
+pub handed_same : (n : ℕ) (words words' : List ℕ) (homes homes' : List (maybe.Option Load)) (c : ℕ)
     (p : Place) → get_elem? homes' c ≡ get_elem? homes c → link n words' c ≡ link n words c
     → Handed n words homes c p → Handed n words' homes' c p
 handed_same n words words' homes homes' c (loose r) e f h = e ∙ h
@@ -114,7 +113,7 @@ in_range n words homes q c (ready r y) i h = absurd i
 in_range n words homes q c (entering r s t) i h = subst (λ k. k < 2 * n) (sym i) h
 in_range n words homes q c (queued s) i h = subst (λ k. k < 2 * n) (sym i) h
 
-has_fit : (F : Item Load → Type 0) (P : ℕ → Type 0) → ((x : Item Load) → F x → P x.cell)
+pub has_fit : (F : Item Load → Type 0) (P : ℕ → Type 0) → ((x : Item Load) → F x → P x.cell)
     → (xs : Chain) → Each F xs → (c : ℕ) → Has c xs → P c
 has_fit F P f [] e c h = absurd h
 has_fit F P f (x ∷ xs) e c h =
@@ -129,7 +128,7 @@ tail_fits : (m : ℕ) (xs : Chain) → ((d : ℕ) → Has d xs → d < m) → ta
 tail_fits m [] all = omega arith
 tail_fits m (x ∷ xs) all = last_fits m x.cell xs (all x.cell (inl refl)) (λ d k. all d (inr k))
 
-head_fits : (m : ℕ) (place : ℕ → Place) (q hd shadow : ℕ) (xs : Chain) → Begins place q hd shadow xs
+pub head_fits : (m : ℕ) (place : ℕ → Place) (q hd shadow : ℕ) (xs : Chain) → Begins place q hd shadow xs
     → ((d : ℕ) → Has d xs → d < m) → hd ≤ m
 head_fits m place q hd shadow [] b all = let z = b.1 in omega arith
 head_fits m place q hd shadow (x ∷ xs) b all = let here = all x.cell (inl refl) in
@@ -138,14 +137,14 @@ head_fits m place q hd shadow (x ∷ xs) b all = let here = all x.cell (inl refl
 
 module _ (n each : ℕ) where
   -- a queue that a step leaves alone
-  rests : (w w' : World) (words words' : List ℕ) (homes homes' : List (maybe.Option Load)) (q : ℕ)
-      → Queue n each w words homes q
+  pub rests : (w w' : World) (words words' : List ℕ) (homes homes' : List (maybe.Option Load)) (q : ℕ)
+      → QueueHolds n each w words homes q
       → head n words' q ≡ head n words q → tail n words' q ≡ tail n words q
       → (w'.heads q).shadow ≡ (w.heads q).shadow → w'.chain q ≡ w.chain q
       → ((c : ℕ) → IsIn q (w.place c) → (link n words' c ≡ link n words c)
       × (w'.place c ≡ w.place c)) → ((c : ℕ) → IsIn q (w'.place c) → IsIn q (w.place c))
       → ((c : ℕ) → IsIn q (w.place c) → get_elem? homes' c ≡ get_elem? homes c)
-      → Queue n each w' words' homes' q
+      → QueueHolds n each w' words' homes' q
   rests w w' words words' homes homes' q h eh et es ec same back keep =
       moved (Fits n each homes' q) w'.place (link n words') q (head n words q) (tail n words q)
       (w.heads q).shadow (head n words' q) (tail n words' q) (w'.heads q).shadow (w.chain q)
@@ -160,22 +159,22 @@ module _ (n each : ℕ) where
     with_place p = record w { place = p }
 
     -- the place of a cell changes from one that is in no other queue to one that is in no other
-    spared : (q c : ℕ) (p : Place) → ¬ IsIn q (w.place c) → ¬ IsIn q p → (d : ℕ)
+    pub spared : (q c : ℕ) (p : Place) → ¬ IsIn q (w.place c) → ¬ IsIn q p → (d : ℕ)
         → IsIn q (w.place d) → update w.place c p d ≡ w.place d
     spared q c p out never d k =
         update_else w.place c p d (λ e. out (subst (λ u. IsIn q (w.place u)) e k))
 
-    was_in : (q c : ℕ) (p : Place) → ¬ IsIn q p → (d : ℕ) → IsIn q (update w.place c p d)
+    pub was_in : (q c : ℕ) (p : Place) → ¬ IsIn q p → (d : ℕ) → IsIn q (update w.place c p d)
         → IsIn q (w.place d)
     was_in q c p never d k =
         dite (ℕ_discrete d c) (λ e. absurd (never (subst (IsIn q) (update_here w.place c p d e) k)))
         (λ ne. subst (IsIn q) (update_else w.place c p d ne) k)
 
-    apart_in : (q c : ℕ) → ¬ IsIn q (w.place c) → (d : ℕ) → IsIn q (w.place d) → d ≢ c
+    pub apart_in : (q c : ℕ) → ¬ IsIn q (w.place c) → (d : ℕ) → IsIn q (w.place d) → d ≢ c
     apart_in q c out d k e = out (subst (λ u. IsIn q (w.place u)) e k)
 
     -- the cells but one are as they were
-    cells_but : (c : ℕ) (p : Place) (words' : List ℕ) (homes' : List (maybe.Option Load))
+    pub cells_but : (c : ℕ) (p : Place) (words' : List ℕ) (homes' : List (maybe.Option Load))
         → Handed n words' homes' c p → ((d : ℕ) → d ≢ c → Handed n words homes d (w.place d)
         → Handed n words' homes' d (w.place d))
         → (d : ℕ) → d < n * each → Handed n words' homes' d (update w.place c p d)
@@ -273,7 +272,7 @@ module _ (n each : ℕ) where
           long = length-set words q (suc c) ∙ l.long;
           slots = l.slots;
           queues = λ p few'. dite (ℕ_discrete p q)
-              (λ e. subst (Queue n each w' words' homes) (sym e)
+              (λ e. subst (QueueHolds n each w' words' homes) (sym e)
               (moved (Fits n each homes q) w'.place (link n words') q (suc c) (tail n words q)
               (w.heads q).shadow (head n words' q) (tail n words' q) (w.heads q).shadow (w.chain q)
               (w.chain q)
@@ -301,7 +300,7 @@ module _ (n each : ℕ) where
         }
 
     -- the cells of a queue are cells of the fabric
-    low_in : (q c : ℕ) → Has c (w.chain q) → q < 2 * n → c < n * each
+    pub low_in : (q c : ℕ) → Has c (w.chain q) → q < 2 * n → c < n * each
     low_in q c h few = has_fit (Fits n each homes q) (λ d. d < n * each) (λ x f. f.0) (w.chain q)
         (l.queues q few).each c h
 
@@ -330,7 +329,7 @@ module _ (n each : ℕ) where
           long = length-set words (4 * n + p) (suc c) ∙ l.long;
           slots = l.slots;
           queues = λ k few'. dite (ℕ_discrete k q)
-              (λ e. subst (Queue n each w' words' homes) (sym e)
+              (λ e. subst (QueueHolds n each w' words' homes) (sym e)
               (moved (Fits n each homes q) w'.place (link n words') q (head n words q)
               (tail n words q) (w.heads q).shadow (head n words' q) (tail n words' q)
               (w.heads q).shadow (w.chain q) (w.chain q)
@@ -433,7 +432,7 @@ module _ (n each : ℕ) where
           long = length-set words (2 * n + q) (suc c) ∙ l.long;
           slots = length-set homes c (maybe.some y) ∙ l.slots;
           queues = λ k few'. dite (ℕ_discrete k q)
-              (λ e. subst (Queue n each w' words' homes') (sym e)
+              (λ e. subst (QueueHolds n each w' words' homes') (sym e)
               (moved (Fits n each homes' q) w'.place (link n words') q (head n words q) (suc c)
               (w.heads q).shadow (head n words' q) (tail n words' q) (w.heads q).shadow
               (w.chain q ++ item c y ∷ []) (w'.chain q)
@@ -461,223 +460,3 @@ module _ (n each : ℕ) where
               (set_else homes c d (maybe.some y) ne) (linked d));
           paths = paths_more r q (item c y) from_r;
         }
-
-    abbrev pub with_heads : ℕ → Heads → World
-    with_heads q e = record w { heads = update w.heads q e }
-
-    -- a consumer notes what it loaded from the head
-    pub loaded_head : (q : ℕ) → q < 2 * n
-        → QueuesHold n each (with_heads q
-        (record { shadow = (w.heads q).shadow; seen = head n words q })) words homes
-    loaded_head q few = let e : Heads = record { shadow = (w.heads q).shadow; seen = head n words q } in
-        let w' = with_heads q e in record {
-          long = l.long;
-          slots = l.slots;
-          queues = λ k few'. rests w w' words words homes homes k (l.queues k few') refl refl
-              (dite (ℕ_discrete k q) (λ u. ap (λ (z : Heads). z.shadow) (update_here w.heads q e k u)
-              ∙ ap (λ j. (w.heads j).shadow) (sym u))
-              (λ ne. ap (λ (z : Heads). z.shadow) (update_else w.heads q e k ne))) refl
-              (λ d i. (refl, refl)) (λ d i. i) (λ d i. refl);
-          seen = λ k few' some. dite (ℕ_discrete k q)
-              (λ u. ap (head n words) u ∙ ap (λ (z : Heads). z.seen) (sym (update_here w.heads q e k u)))
-              (λ ne. let same = ap (λ (z : Heads). z.seen) (update_else w.heads q e k ne) in
-              l.seen k few' (subst (λ z. 0 < z) same some) ∙ sym same);
-          cells = l.cells;
-          paths = l.paths;
-        }
-
-    pub head_low : (q : ℕ) → q < 2 * n → head n words q ≤ n * each
-    head_low q few = let h = l.queues q few in
-        head_fits (n * each) w.place q (head n words q) (w.heads q).shadow (w.chain q) h.begins
-        (λ c k. low_in q c k few)
-
-    -- a consumer clears the head that it loaded, whose cell is its shadow head from now on
-    pub cleared_head : (q c : ℕ) → q < 2 * n → (w.heads q).seen ≡ suc c
-        → QueuesHold n each (with_heads q (record { shadow = suc c; seen = 0 })) (set words q 0) homes
-    cleared_head q c few loaded = let e : Heads = record { shadow = suc c; seen = 0 } in
-        let w' = with_heads q e in let words' = set words q 0 in
-        let is : head n words q ≡ suc c = l.seen q few (omega arith) ∙ loaded in
-        let in_words : q < length words = let long = l.long in omega arith in record {
-          long = length-set words q 0 ∙ l.long;
-          slots = l.slots;
-          queues = λ k few'. dite (ℕ_discrete k q)
-              (λ u. subst (Queue n each w' words' homes) (sym u)
-              (moved (Fits n each homes q) w.place (link n words') q 0 (tail n words q) (suc c)
-              (head n words' q) (tail n words' q) (w'.heads q).shadow (w.chain q) (w.chain q)
-              (get_or-set_same words q 0 0 in_words)
-              (get_or-set_other words q (2 * n + q) 0 0 (omega arith))
-              (ap (λ (z : Heads). z.shadow) (update_here w.heads q e q refl)) refl
-              (chain_elsewhere (Fits n each homes q) (Fits n each homes q) w.place
-              (link n words) q 0 (tail n words q) (suc c) (w.chain q)
-              (head_cleared (Fits n each homes q) w.place (link n words) q (head n words q)
-              (tail n words q) (w.heads q).shadow (w.chain q) (l.queues q few) c is)
-              w.place (link n words')
-              (λ d i. (get_or-set_other words q (4 * n + d) 0 0 (omega arith), refl)) (λ d i. i)
-              (λ x i f. f))))
-              (λ ne. rests w w' words words' homes homes k (l.queues k few')
-              (get_or-set_other words q k 0 0 ne)
-              (get_or-set_other words q (2 * n + k) 0 0 (omega arith))
-              (ap (λ (z : Heads). z.shadow) (update_else w.heads q e k ne)) refl
-              (λ d i. (get_or-set_other words q (4 * n + d) 0 0 (omega arith), refl)) (λ d i. i)
-              (λ d i. refl));
-          seen = λ k few' some. dite (ℕ_discrete k q) (λ u. let z : (update w.heads q e k).seen ≡ 0 =
-              ap (λ (y : Heads). y.seen) (update_here w.heads q e k u) in absurd (omega arith))
-              (λ ne. let same = ap (λ (z : Heads). z.seen) (update_else w.heads q e k ne) in
-              get_or-set_other words q k 0 0 ne ∙ l.seen k few' (subst (λ z. 0 < z) same some)
-              ∙ sym same);
-          cells = λ d low. handed_same n words words' homes homes d (w.place d) refl
-              (get_or-set_other words q (4 * n + d) 0 0 (omega arith)) (l.cells d low);
-          paths = l.paths;
-        }
-
-    -- the paths after the rank r took the first_cell load of the queue q
-    paths_less : (r q : ℕ) (x : Item Load) (xs : Chain) → w.chain q ≡ x ∷ xs → (q < n → q ≡ r)
-        → (i j : ℕ) → i < n → j < n
-        → put_to j (w.put i) ≡ from i (update w.got r (w.got r ++ fetched n q x.load) j) ++ from i
-        (loads (update w.chain q xs j))
-    paths_less r q x xs is own i j li lj = let y = x.load in let old = l.paths i j li lj in
-        let more = w.got r ++ fetched n q y in dite (ℕ_discrete j q)
-        (λ ej. let low : q < n = omega arith in let jr : j ≡ r = ej ∙ own low in
-        old ∙ ap (λ k. from i (w.got j) ++ from i (loads (w.chain k))) ej
-        ∙ ap (λ u. from i (w.got j) ++ from i (loads u)) is ∙ ap (λ u. from i (w.got j) ++ u)
-        (from_append i (y ∷ []) (loads xs))
-        ∙ sym (append_assoc (from i (w.got j)) (from i (y ∷ [])) (from i (loads xs)))
-        ∙ ap (λ u. u ++ from i (loads xs)) (sym (from_append i (w.got j) (y ∷ []))
-        ∙ ap (λ k. from i (w.got k ++ y ∷ [])) jr ∙ ap (λ u. from i (w.got r ++ u))
-        (sym (below_yes (dec_le (suc q) n) (y ∷ []) [] low))
-        ∙ ap (from i) (sym (update_here w.got r more j jr)))
-        ∙ ap (λ u. from i (update w.got r more j) ++ from i (loads u))
-        (sym (update_here w.chain q xs j ej)))
-        (λ nj. old ∙ ap (λ u. from i (w.got j) ++ from i (loads u))
-        (sym (update_else w.chain q xs j nj))
-        ∙ ap (λ u. from i u ++ from i (loads (update w.chain q xs j))) (dite (ℕ_discrete j r)
-        (λ jr. let far : ¬ (suc q ≤ n) = λ low. nj (jr ∙ sym (own low)) in
-        sym (append-nil (w.got j)) ∙ ap (λ k. w.got k ++ []) jr ∙ ap (λ u. w.got r ++ u)
-        (sym (below_no (dec_le (suc q) n) (y ∷ []) [] far))
-        ∙ sym (update_here w.got r more j jr))
-        (λ nr. sym (update_else w.got r more j nr))))
-
-    -- the rank r takes the first_cell cell of the queue q, whose chain is xs then
-    abbrev pub after_take : ℕ → ℕ → Item Load → Chain → Heads → World
-    after_take r q x xs e = record w {
-      place = update w.place x.cell (held r);
-      chain =
-          update w.chain q xs;
-      heads = update w.heads q e;
-      got =
-          update w.got r (w.got r ++ fetched n q x.load);
-    }
-
-    took : (r q tl : ℕ) (x : Item Load) (xs xs' : Chain) (e : Heads) (words' : List ℕ) → q < 2 * n
-        → w.chain q ≡ x ∷ xs → (q < n → q ≡ r) → e.seen ≡ 0 → length words' ≡ length words
-        → w.place x.cell ≡ queued q → x.cell < n * each → xs' ≡ xs
-        → ((k : ℕ) → k < 2 * n → head n words' k ≡ head n words k)
-        → ((k : ℕ) → k < 2 * n → k ≢ q → tail n words' k ≡ tail n words k)
-        → tail n words' q ≡ tl → ((d : ℕ) → link n words' d ≡ link n words d)
-        → IsChain (Fits n each (set homes x.cell maybe.none) q) (update w.place x.cell (held r))
-        (link n words) q (head n words q) tl e.shadow xs'
-        → QueuesHold n each (after_take r q x xs' e) words' (set homes x.cell maybe.none)
-    took r q tl x xs xs' e words' few is own none_seen long at low shrunk heads tails last links
-        chained = let homes' = set homes x.cell maybe.none in let w' = after_take r q x xs' e in
-        let in_homes : x.cell < length homes = let sl = l.slots in omega arith in record {
-          long = long ∙ l.long;
-          slots = length-set homes x.cell maybe.none ∙ l.slots;
-          queues = λ k few'. dite (ℕ_discrete k q)
-              (λ u. subst (Queue n each w' words' homes') (sym u)
-              (moved (Fits n each homes' q) w'.place (link n words') q (head n words q) tl e.shadow
-              (head n words' q) (tail n words' q) (w'.heads q).shadow xs' (w'.chain q)
-              (heads q few) last (ap (λ (z : Heads). z.shadow) (update_here w.heads q e q refl))
-              (update_here w.chain q xs' q refl)
-              (chain_elsewhere (Fits n each homes' q) (Fits n each homes' q) w'.place (link n words) q
-              (head n words q) tl e.shadow xs' chained w'.place (link n words')
-              (λ d i. (links d, refl)) (λ d i. i) (λ y i f. f))))
-              (λ ne. let out : ¬ IsIn k (w.place x.cell) =
-              λ i. ne (in_one k q (w.place x.cell) i (subst (IsIn q) (sym at) refl)) in
-              rests w w' words words' homes homes' k (l.queues k few') (heads k few') (tails k few' ne)
-              (ap (λ (z : Heads). z.shadow) (update_else w.heads q e k ne))
-              (update_else w.chain q xs' k ne)
-              (λ d i. (links d, spared k x.cell (held r) out (λ z. z) d i))
-              (was_in k x.cell (held r) (λ z. z))
-              (λ d i. set_else homes x.cell d maybe.none (apart_in k x.cell out d i)));
-          seen = λ k few' some. dite (ℕ_discrete k q) (λ u. let z : (update w.heads q e k).seen ≡ 0 =
-              ap (λ (y : Heads). y.seen) (update_here w.heads q e k u) ∙ none_seen in absurd (omega arith))
-              (λ ne. let same = ap (λ (z : Heads). z.seen) (update_else w.heads q e k ne) in
-              heads k few' ∙ l.seen k few' (subst (λ z. 0 < z) same some) ∙ sym same);
-          cells = cells_but x.cell (held r) words' homes' (set_here homes x.cell maybe.none in_homes)
-              (λ d ne. handed_same n words words' homes homes' d (w.place d)
-              (set_else homes x.cell d maybe.none ne) (links d));
-          paths = paths_less r q x xs' (is ∙ ap (λ ys. x ∷ ys) (sym shrunk)) own;
-        }
-
-    module _ (r q s : ℕ) (few : q < 2 * n) (own : q < n → q ≡ r)
-        (shadow : (w.heads q).shadow ≡ suc s) where
-      abbrev pub start : (x : Item Load) × (ys : Chain) × (w.chain q ≡ x ∷ ys) × (x.cell ≡ s)
-          × (w.place s ≡ queued q) × (head n words q ≡ 0)
-      start = first_cell (Fits n each homes q) w.place (link n words) q (head n words q)
-          (tail n words q) (w.heads q).shadow (w.chain q) (l.queues q few) s shadow
-
-      begun : IsChain (Fits n each homes q) w.place (link n words) q (head n words q)
-          (tail n words q) (w.heads q).shadow (start.0 ∷ start.1)
-      begun = moved (Fits n each homes q) w.place (link n words) q (head n words q) (tail n words q)
-          (w.heads q).shadow (head n words q) (tail n words q) (w.heads q).shadow (w.chain q)
-          (start.0 ∷ start.1) refl refl refl (sym start.2) (l.queues q few)
-
-      keeps : (y : Item Load) → y.cell ≢ start.0.cell → Fits n each homes q y
-          → Fits n each (set homes start.0.cell maybe.none) q y
-      keeps y ne f = (f.0, set_else homes start.0.cell y.cell maybe.none ne ∙ f.1, f.2)
-
-      -- what the first_cell cell holds is at home
-      pub at_home : HasHome homes start.0.cell start.0.load
-      at_home = begun.each.0.1
-
-      pub start_suits : Suits n each q start.0
-      start_suits = begun.each.0.2
-
-      pub start_low : start.0.cell < n * each
-      start_low = begun.each.0.0
-
-      pub next_low : (d : ℕ) → link n words s ≡ suc d → d < n * each
-      next_low d leads = let t =
-          next_is w.place q (link n words) start.0.cell d start.1 begun.linked.0
-          (ap (link n words) start.3 ∙ leads) in
-          subst (λ k. k < n * each) (sym t.3) (has_fit (Fits n each homes q) (λ c. c < n * each)
-          (λ x f. f.0) start.1 begun.each.1 t.0.cell
-          (subst (Has t.0.cell) (sym t.2) (inl refl)))
-
-      -- the link of the first_cell cell leads to d
-      pub passed : (d : ℕ) → link n words s ≡ suc d
-          → QueuesHold n each (after_take r q start.0 start.1 (record { shadow = suc d; seen = 0 }))
-          words (set homes start.0.cell maybe.none)
-      passed d leads = took r q (tail n words q) start.0 start.1 start.1
-          (record { shadow = suc d; seen = 0 }) words few start.2 own refl refl
-          (ap w.place start.3 ∙ start.4) begun.each.0.0 refl (λ k f. refl) (λ k f ne. refl) refl
-          (λ d. refl)
-          (first_taken (Fits n each homes q) (Fits n each (set homes start.0.cell maybe.none) q)
-          w.place (link n words) q (head n words q) (tail n words q)
-          (w.heads q).shadow start.0 start.1 begun r start.5 keeps d
-          (ap (link n words) start.3 ∙ leads))
-
-      -- where the first_cell cell is the tail, it is alone
-      pub sole : tail n words q ≡ suc s → w.chain q ≡ start.0 ∷ []
-      sole last = start.2 ∙ ap (λ ys. start.0 ∷ ys)
-          (tail_dropped (Fits n each homes q) (Fits n each (set homes start.0.cell maybe.none) q)
-          w.place (link n words) q (head n words q) (tail n words q)
-          (w.heads q).shadow start.0 start.1 begun r start.5 keeps (last ∙ ap suc (sym start.3))).1
-
-      -- the first_cell cell is the tail, which becomes 0
-      pub drained : tail n words q ≡ suc s
-          → QueuesHold n each (after_take r q start.0 [] (record { shadow = 0; seen = 0 }))
-          (set words (2 * n + q) 0) (set homes start.0.cell maybe.none)
-      drained last = let words' = set words (2 * n + q) 0 in
-          let in_words : 2 * n + q < length words = let long = l.long in omega arith in
-          let t = tail_dropped (Fits n each homes q)
-          (Fits n each (set homes start.0.cell maybe.none) q) w.place (link n words) q
-          (head n words q) (tail n words q) (w.heads q).shadow start.0 start.1 begun r start.5
-          keeps (last ∙ ap suc (sym start.3)) in
-          took r q 0 start.0 start.1 [] (record { shadow = 0; seen = 0 }) words' few start.2 own
-          refl (length-set words (2 * n + q) 0) (ap w.place start.3 ∙ start.4) begun.each.0.0
-          (sym t.1)
-          (λ k f. get_or-set_other words (2 * n + q) k 0 0 (omega arith))
-          (λ k f ne. get_or-set_other words (2 * n + q) (2 * n + k) 0 0 (omega arith))
-          (get_or-set_same words (2 * n + q) 0 0 in_words)
-          (λ d. get_or-set_other words (2 * n + q) (4 * n + d) 0 0 (omega arith)) t.0

@@ -26,11 +26,11 @@ use Rattle.nm_seats.specs.Update.{pick}
 abbrev pub Knowing : Type 0
 Knowing = Me Load (View Entry)
 
--- a rank at the start
-abbrev pub newcomer : ℕ → ℕ → Entry
-newcomer rank ranks = record {
-  rank = rank;
-  ranks = ranks;
+-- what stands for an entry where there is none
+abbrev pub no_entry : Entry
+no_entry = record {
+  rank = 0;
+  ranks = 0;
   each = 0;
   hands = [];
   receive = no_heads;
@@ -50,7 +50,7 @@ newcomer rank ranks = record {
 
 -- the entry of a view that has one
 abbrev pub sole : List Entry → Entry
-sole [] = newcomer 0 0
+sole [] = no_entry
 sole (e ∷ es) = e
 
 -- the entry of a seat that speaks for one rank
@@ -320,9 +320,9 @@ abbrev pub Overdue : Entry → ℕ → ℕ → Type 0
 Overdue e i a = AllBelow e i a × Overtaken e i a
 
 -- the slots in hand once the free box, whose slot is c, is the sender's to fill
-abbrev pub opened : Bool → ℕ → List (ℕ × Load) → List (ℕ × Load)
-opened true c hs = hs
-opened false c hs = (c, None) ∷ hs
+abbrev pub slots_to_fill : Bool → ℕ → List (ℕ × Load) → List (ℕ × Load)
+slots_to_fill true c hs = hs
+slots_to_fill false c hs = (c, None) ∷ hs
 
 -- the box is the rank's to fill where 0 was found in the flag of the next box for the rank j, and else is full
 abbrev pub told_out : ℕ → Step Load → Knowing → ℕ → Knowing → Type 0
@@ -330,7 +330,7 @@ told_out j s me found after =
     (found ≡ 0 → (filling_of (mine after) j ≡ true)
     × (after ≡ (
       view (with_filling j true (mine me) ∷ []),
-      opened (filling_of (mine me) j) (s.word - 4 * (mine me).ranks) me.1,
+      slots_to_fill (filling_of (mine me) j) (s.word - 4 * (mine me).ranks) me.1,
     )) × BoxesApart (mine after))
     × (0 < found → after ≡ (view (with_box_full j (mine me) ∷ []), me.1))
 
@@ -348,23 +348,23 @@ abbrev pub box_load : ℕ → Entry → Load
 box_load i e = taking (emptying_of e i)
 
 -- the slots in hand once the full box, whose slot is c, is the receiver's to empty
-abbrev pub begun : Option Load → ℕ → Load → List (ℕ × Load) → List (ℕ × Load)
-begun None c y hs = (c, y) ∷ hs
-begun (Some z) c y hs = hs
+abbrev pub slots_to_empty : Option Load → ℕ → Load → List (ℕ × Load) → List (ℕ × Load)
+slots_to_empty None c y hs = (c, y) ∷ hs
+slots_to_empty (Some z) c y hs = hs
 
 -- the box of the rank i, whose slot is c, is the receiver's to empty, and has the number a
-abbrev pub Begun : ℕ → ℕ → ℕ → Knowing → Knowing → Type 0
-Begun i a c me after = let y = box_load i (mine after) in (emptying_of (mine after) i ≡ Some y)
+abbrev pub IsToEmpty : ℕ → ℕ → ℕ → Knowing → Knowing → Type 0
+IsToEmpty i a c me after = let y = box_load i (mine after) in (emptying_of (mine after) i ≡ Some y)
     × (number y ≡ a) × (sender y ≡ suc i)
     × (after ≡ (
       view (with_emptying i (Some y) (mine me) ∷ []),
-      begun (emptying_of (mine me) i) c y me.1,
+      slots_to_empty (emptying_of (mine me) i) c y me.1,
     )) × BoxesApart (mine after) × ((z : Load) → emptying_of (mine me) i ≡ Some z → z ≡ y)
 
 -- the box is the rank's to empty where the flag of the next box of the rank i had the awaited number a. Where that
 -- is overdue it is there
 abbrev pub told_in : ℕ → ℕ → Step Load → Knowing → ℕ → Knowing → Type 0
-told_in i a s me found after = (found ≡ suc a → Begun i a (s.word - 4 * (mine me).ranks) me after)
+told_in i a s me found after = (found ≡ suc a → IsToEmpty i a (s.word - 4 * (mine me).ranks) me after)
     × (found ≢ suc a → after ≡ (view (with_box_miss i (mine me) ∷ []), me.1))
     × (Overdue (mine me) i a → found ≡ suc a)
 

@@ -227,8 +227,8 @@ Handed n words homes c (chain.entering r q t) = q < 2 * n
 Handed n words homes c (chain.queued q) = q < 2 * n
 
 -- the queue q is this chain
-abbrev pub Queue : ℕ → ℕ → World → List ℕ → List (maybe.Option Load) → ℕ → Type 0
-Queue n each w words homes q = chain.IsChain (Fits n each homes q) w.place (link n words) q
+abbrev pub QueueHolds : ℕ → ℕ → World → List ℕ → List (maybe.Option Load) → ℕ → Type 0
+QueueHolds n each w words homes q = chain.IsChain (Fits n each homes q) w.place (link n words) q
     (head n words q) (tail n words q) (w.heads q).shadow (w.chain q)
 
 -- What holds of the cells and queues: so many words and slots, each queue a chain, each cell in one place
@@ -236,7 +236,7 @@ pub record QueuesHold (n each : ℕ) (w : World) (words : List ℕ)
     (homes : List (maybe.Option Load)) : Type 0 where
   pub long : length words ≡ 4 * n + n * each + 4 * (n * n)
   pub slots : length homes ≡ n * each + 4 * (n * n)
-  pub queues : (q : ℕ) → q < 2 * n → Queue n each w words homes q
+  pub queues : (q : ℕ) → q < 2 * n → QueueHolds n each w words homes q
   -- the head stays what its consumer loaded, until the consumer clears it
   pub seen : (q : ℕ) → q < 2 * n → 0 < (w.heads q).seen → head n words q ≡ (w.heads q).seen
   pub cells : (c : ℕ) → c < n * each → Handed n words homes c (w.place c)

@@ -1,5 +1,5 @@
-//! The kinds of step on a word, each with what it tells the seat that makes it (`Plays`). There are no
-//! others: a step of another kind would be a new one here.
+//! The kinds of step on a word, each with what it tells the seat that makes it (`Plays`). There are
+//! no others: a step of another kind would be a new one here.
 
 ghost use Rattle.std.specs.Prelude.{ℕ};
 
@@ -90,14 +90,15 @@ impl Play<Slot, View<Entry>> for Picks {
     ghost then = { picked };
 }
 
-/// Numbers that a step is told by its caller.
-pub trait Told {
+/// What a step on the flag of a box is given by its caller: the other rank, and the number of the
+/// awaited packet.
+pub trait BoxStep {
     ghost peer: { ℕ };
 
     ghost awaited: { ℕ };
 }
 
-impl Told for Brand {
+impl BoxStep for Brand {
     ghost peer = { 0 };
 
     ghost awaited = { 0 };
@@ -105,10 +106,10 @@ impl Told for Brand {
 
 /// Loads the flag of the next box for a rank.
 pub struct LooksOut<T> {
-    told: PhantomData<T>,
+    on: PhantomData<T>,
 }
 
-impl<T: Told> Play<Slot, View<Entry>> for LooksOut<T> {
+impl<T: BoxStep> Play<Slot, View<Entry>> for LooksOut<T> {
     ghost use Rattle.nm_table.specs.Plays.{looked_out};
 
     ghost then = { looked_out T.peer };
@@ -116,10 +117,10 @@ impl<T: Told> Play<Slot, View<Entry>> for LooksOut<T> {
 
 /// Loads the flag of the next box of a rank.
 pub struct LooksIn<T> {
-    told: PhantomData<T>,
+    on: PhantomData<T>,
 }
 
-impl<T: Told> Play<Slot, View<Entry>> for LooksIn<T> {
+impl<T: BoxStep> Play<Slot, View<Entry>> for LooksIn<T> {
     ghost use Rattle.nm_table.specs.Plays.{looked_in};
 
     ghost then = { looked_in T.peer T.awaited };
@@ -127,10 +128,10 @@ impl<T: Told> Play<Slot, View<Entry>> for LooksIn<T> {
 
 /// Stores the flag of the box that is filled.
 pub struct Fills<T> {
-    told: PhantomData<T>,
+    on: PhantomData<T>,
 }
 
-impl<T: Told> Play<Slot, View<Entry>> for Fills<T> {
+impl<T: BoxStep> Play<Slot, View<Entry>> for Fills<T> {
     ghost use Rattle.nm_table.specs.Plays.{boxed};
 
     ghost then = { boxed T.peer };
@@ -138,10 +139,10 @@ impl<T: Told> Play<Slot, View<Entry>> for Fills<T> {
 
 /// Stores 0 in the flag of the box that is emptied.
 pub struct Vacates<T> {
-    told: PhantomData<T>,
+    on: PhantomData<T>,
 }
 
-impl<T: Told> Play<Slot, View<Entry>> for Vacates<T> {
+impl<T: BoxStep> Play<Slot, View<Entry>> for Vacates<T> {
     ghost use Rattle.nm_table.specs.Plays.{unboxed};
 
     ghost then = { unboxed T.peer };

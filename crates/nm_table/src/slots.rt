@@ -6,8 +6,8 @@ ghost use Rattle.nm_table.specs.Slots.{load_of};
 use nm_types::Packet;
 use std::marker::Model;
 
-/// A slot of the table: a packet, or nothing. While it is empty, the place of a packet stays, so that one
-/// is put in and taken out by its own length.
+/// A slot of the table: a packet, or nothing. While it is empty, the place of a packet stays, so
+/// that one is put in and taken out by its own length.
 #[derive(Drop)]
 pub struct Slot {
     full: bool,

@@ -123,6 +123,7 @@ pub struct Entry {
     pub box_miss: LinkedList<u64>,
 }
 
+/// The rule of the linked table (`Rule`), and the view of its first seat.
 pub struct Linked;
 
 impl TableRule<Slot, View<Entry>, Shape> for Linked {
@@ -133,6 +134,8 @@ impl TableRule<Slot, View<Entry>, Shape> for Linked {
     ghost first = { first_view };
 }
 
+/// The table that all ranks share.
 pub type Board = Table<Slot, View<Entry>, Shape, Linked, Global>;
 
-pub type Place = Seat<Slot, View<Entry>>;
+/// A seat of it, which speaks for some of the ranks.
+pub type BoardSeat = Seat<Slot, View<Entry>>;

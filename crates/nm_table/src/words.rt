@@ -1,8 +1,8 @@
 //! Where the words of a fabric stand.
 //!
-//! A fabric has at most 64 ranks, and fewer than 2^15 slots: one for each cell, then one for each box. The
-//! heads of all queues come first, then their tails, then the links of all cells, and then the flags of
-//! all boxes, the links and flags in the order of their slots.
+//! A fabric has at most 64 ranks, and fewer than 2^15 slots: one for each cell, then one for each
+//! box. The heads of all queues come first, then their tails, then the links of all cells, and then
+//! the flags of all boxes, the links and flags in the order of their slots.
 
 ghost use Rattle.std.specs.Prelude.{◌≡◌, ◌*◌, ◌<◌, ◌≤◌, ◌^◌};
 ghost use Rattle.nm_table.specs.Rule.{flag_word, head_word, link_word, tail_word};

@@ -7,7 +7,7 @@ use Rattle.nm_types.specs.declared.packets.Packet.{Packet}
 use Rattle.nm_table.specs.declared.table.Entry.{Entry}
 use Rattle.nm_table.specs.Rule.{Load, put_to, sent_to}
 use Rattle.nm_table.proofs.QueueLemmas.{pick_no, pick_yes, put_append}
-use Rattle.nm_cells.proofs.CountedLemmas.{one_of_last}
+use Rattle.nm_cells.proofs.NumberLemmas.{one_of_last}
 use Rattle.nm_carried.specs.Carried.{AreListed, HasSent}
 use Rattle.nm_carried.proofs.Listed.{listed_more, listed_push}
 use Rattle.nm_carried.proofs.laws.a_send_carries.Goals as goal

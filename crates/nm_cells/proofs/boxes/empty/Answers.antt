@@ -5,7 +5,7 @@ use Rattle.atomic_table.specs.Table.{Allows, step, rest}
 use mathlib.Core.Option as maybe
 use Rattle.nm_seats.specs.Spoken.{view}
 use Rattle.nm_seats.specs.Update.{update}
-use Rattle.nm_cells.specs.declared.peers.Peer.{Peer}
+use Rattle.nm_cells.specs.declared.tallies.Tally.{Tally}
 use Rattle.nm_table.specs.Rule.{Load, Rule, from, emptying_of, sender, number}
 use Rattle.nm_table.specs.Plays as plays
 use Rattle.nm_table.specs.Plays.{mine, sole}
@@ -27,7 +27,7 @@ pub bring_slot-requires : goal.bring_slot-requires
 bring_slot-requires g c =
     let f = c.args.f.now in let p = c.args.port.now in let o = c.requires.owns in
     let few = c.requires.peer in let j = c.args.sender in let k = c.requires.taking in
-    let place = ap (λ (u : Peer). u.box_got) c.peer.ensures ∙ peer_box_got p j
+    let place = ap (λ (u : Tally). u.box_got) c.peer.ensures ∙ peer_box_got p j
     (calls.few f p o j few) in
     let at = c.box_at-slot.ensures.at ∙ calls.in_slot_is f p o j few c.peer.result.box_got place in
     let y : Load = plays.box_load j (knows p) in
@@ -38,7 +38,7 @@ pub store-requires : goal.store-requires
 store-requires g c =
     let f = c.args.f.now in let p = c.args.port.now in let o = c.requires.owns in
     let few = c.requires.peer in let j = c.args.sender in let k = c.requires.taking in
-    let place = ap (λ (u : Peer). u.box_got) c.peer.ensures ∙ peer_box_got p j
+    let place = ap (λ (u : Tally). u.box_got) c.peer.ensures ∙ peer_box_got p j
     (calls.few f p o j few) in
     let at = c.box_at-slot.ensures.at ∙ calls.in_slot_is f p o j few c.peer.result.box_got place in
     let y : Load = plays.box_load j (knows p) in
@@ -58,7 +58,7 @@ store-requires g c =
       c.empty_slot.ensures.seat.0 ∙ b.seat.0 ∙ o.0,
       inside,
       subst (λ m. Allows (Rule f.board.shared.key) id.slots c.empty_slot.new.seat.id m word
-          (λ _. 0) (plays.unboxed g.T.Told.peer (step id.slots word 0 0 maybe.none) m))
+          (λ _. 0) (plays.unboxed g.T.BoxStep.peer (step id.slots word 0 0 maybe.none) m))
           (sym c.empty_slot.ensures.emptied)
           (subst (λ t. Allows (Rule f.board.shared.key) id.slots c.empty_slot.new.seat.id me word
           (λ _. 0) (plays.unboxed t (step id.slots word 0 0 maybe.none) me)) c.requires.told
@@ -74,7 +74,7 @@ pub count_unboxed-requires-clause-sender : goal.count_unboxed-requires-clause-se
 count_unboxed-requires-clause-sender g c =
     let f = c.args.f.now in let p = c.args.port.now in let o = c.requires.owns in
     let few = c.requires.peer in let j = c.args.sender in let k = c.requires.taking in
-    let place = ap (λ (u : Peer). u.box_got) c.peer.ensures ∙ peer_box_got p j
+    let place = ap (λ (u : Tally). u.box_got) c.peer.ensures ∙ peer_box_got p j
     (calls.few f p o j few) in
     let at = c.box_at-slot.ensures.at ∙ calls.in_slot_is f p o j few c.peer.result.box_got place in
     let y : Load = plays.box_load j (knows p) in
@@ -91,7 +91,7 @@ pub count_unboxed-requires-clause-room : goal.count_unboxed-requires-clause-room
 count_unboxed-requires-clause-room g c =
     let f = c.args.f.now in let p = c.args.port.now in let o = c.requires.owns in
     let few = c.requires.peer in let j = c.args.sender in let k = c.requires.taking in
-    let place = ap (λ (u : Peer). u.box_got) c.peer.ensures ∙ peer_box_got p j
+    let place = ap (λ (u : Tally). u.box_got) c.peer.ensures ∙ peer_box_got p j
     (calls.few f p o j few) in
     let at = c.box_at-slot.ensures.at ∙ calls.in_slot_is f p o j few c.peer.result.box_got place in
     let y : Load = plays.box_load j (knows p) in
@@ -108,7 +108,7 @@ pub count_unboxed-requires-clause-box_room : goal.count_unboxed-requires-clause-
 count_unboxed-requires-clause-box_room g c =
     let f = c.args.f.now in let p = c.args.port.now in let o = c.requires.owns in
     let few = c.requires.peer in let j = c.args.sender in let k = c.requires.taking in
-    let place = ap (λ (u : Peer). u.box_got) c.peer.ensures ∙ peer_box_got p j
+    let place = ap (λ (u : Tally). u.box_got) c.peer.ensures ∙ peer_box_got p j
     (calls.few f p o j few) in
     let at = c.box_at-slot.ensures.at ∙ calls.in_slot_is f p o j few c.peer.result.box_got place in
     let y : Load = plays.box_load j (knows p) in
@@ -125,7 +125,7 @@ pub empty_slot-requires-clause-full : goal.empty_slot-requires-clause-full
 empty_slot-requires-clause-full g c =
     let f = c.args.f.now in let p = c.args.port.now in let o = c.requires.owns in
     let few = c.requires.peer in let j = c.args.sender in let k = c.requires.taking in
-    let place = ap (λ (u : Peer). u.box_got) c.peer.ensures ∙ peer_box_got p j
+    let place = ap (λ (u : Tally). u.box_got) c.peer.ensures ∙ peer_box_got p j
     (calls.few f p o j few) in
     let at = c.box_at-slot.ensures.at ∙ calls.in_slot_is f p o j few c.peer.result.box_got place in
     let y : Load = plays.box_load j (knows p) in
@@ -137,7 +137,7 @@ pub invariant_of-port-clause-carries : goal.invariant_of-port-clause-carries
 invariant_of-port-clause-carries g c =
     let f = c.args.f.now in let p = c.args.port.now in let o = c.requires.owns in
     let few = c.requires.peer in let j = c.args.sender in let k = c.requires.taking in
-    let place = ap (λ (u : Peer). u.box_got) c.peer.ensures ∙ peer_box_got p j
+    let place = ap (λ (u : Tally). u.box_got) c.peer.ensures ∙ peer_box_got p j
     (calls.few f p o j few) in
     let at = c.box_at-slot.ensures.at ∙ calls.in_slot_is f p o j few c.peer.result.box_got place in
     let y : Load = plays.box_load j (knows p) in
@@ -171,7 +171,7 @@ pub invariant_of-port-clause-boxes : goal.invariant_of-port-clause-boxes
 invariant_of-port-clause-boxes g c =
     let f = c.args.f.now in let p = c.args.port.now in let o = c.requires.owns in
     let few = c.requires.peer in let j = c.args.sender in let k = c.requires.taking in
-    let place = ap (λ (u : Peer). u.box_got) c.peer.ensures ∙ peer_box_got p j
+    let place = ap (λ (u : Tally). u.box_got) c.peer.ensures ∙ peer_box_got p j
     (calls.few f p o j few) in
     let at = c.box_at-slot.ensures.at ∙ calls.in_slot_is f p o j few c.peer.result.box_got place in
     let y : Load = plays.box_load j (knows p) in
@@ -201,7 +201,7 @@ pub invariant_of-port-clause-counts : goal.invariant_of-port-clause-counts
 invariant_of-port-clause-counts g c =
     let f = c.args.f.now in let p = c.args.port.now in let o = c.requires.owns in
     let few = c.requires.peer in let j = c.args.sender in let k = c.requires.taking in
-    let place = ap (λ (u : Peer). u.box_got) c.peer.ensures ∙ peer_box_got p j
+    let place = ap (λ (u : Tally). u.box_got) c.peer.ensures ∙ peer_box_got p j
     (calls.few f p o j few) in
     let at = c.box_at-slot.ensures.at ∙ calls.in_slot_is f p o j few c.peer.result.box_got place in
     let y : Load = plays.box_load j (knows p) in
@@ -232,7 +232,7 @@ pub returns-clause-owns : goal.returns-clause-owns
 returns-clause-owns g c =
     let f = c.args.f.now in let p = c.args.port.now in let o = c.requires.owns in
     let few = c.requires.peer in let j = c.args.sender in let k = c.requires.taking in
-    let place = ap (λ (u : Peer). u.box_got) c.peer.ensures ∙ peer_box_got p j
+    let place = ap (λ (u : Tally). u.box_got) c.peer.ensures ∙ peer_box_got p j
     (calls.few f p o j few) in
     let at = c.box_at-slot.ensures.at ∙ calls.in_slot_is f p o j few c.peer.result.box_got place in
     let y : Load = plays.box_load j (knows p) in
@@ -270,7 +270,7 @@ pub returns-clause-packet : goal.returns-clause-packet
 returns-clause-packet g c =
     let f = c.args.f.now in let p = c.args.port.now in let o = c.requires.owns in
     let few = c.requires.peer in let j = c.args.sender in let k = c.requires.taking in
-    let place = ap (λ (u : Peer). u.box_got) c.peer.ensures ∙ peer_box_got p j
+    let place = ap (λ (u : Tally). u.box_got) c.peer.ensures ∙ peer_box_got p j
     (calls.few f p o j few) in
     let at = c.box_at-slot.ensures.at ∙ calls.in_slot_is f p o j few c.peer.result.box_got place in
     let y : Load = plays.box_load j (knows p) in
@@ -282,7 +282,7 @@ pub returns-clause-got : goal.returns-clause-got
 returns-clause-got g c =
     let f = c.args.f.now in let p = c.args.port.now in let o = c.requires.owns in
     let few = c.requires.peer in let j = c.args.sender in let k = c.requires.taking in
-    let place = ap (λ (u : Peer). u.box_got) c.peer.ensures ∙ peer_box_got p j
+    let place = ap (λ (u : Tally). u.box_got) c.peer.ensures ∙ peer_box_got p j
     (calls.few f p o j few) in
     let at = c.box_at-slot.ensures.at ∙ calls.in_slot_is f p o j few c.peer.result.box_got place in
     let y : Load = plays.box_load j (knows p) in
@@ -315,7 +315,7 @@ pub returns-clause-taken : goal.returns-clause-taken
 returns-clause-taken g c =
     let f = c.args.f.now in let p = c.args.port.now in let o = c.requires.owns in
     let few = c.requires.peer in let j = c.args.sender in let k = c.requires.taking in
-    let place = ap (λ (u : Peer). u.box_got) c.peer.ensures ∙ peer_box_got p j
+    let place = ap (λ (u : Tally). u.box_got) c.peer.ensures ∙ peer_box_got p j
     (calls.few f p o j few) in
     let at = c.box_at-slot.ensures.at ∙ calls.in_slot_is f p o j few c.peer.result.box_got place in
     let y : Load = plays.box_load j (knows p) in
@@ -334,7 +334,7 @@ pub returns-clause-others : goal.returns-clause-others
 returns-clause-others g c =
     let f = c.args.f.now in let p = c.args.port.now in let o = c.requires.owns in
     let few = c.requires.peer in let j = c.args.sender in let k = c.requires.taking in
-    let place = ap (λ (u : Peer). u.box_got) c.peer.ensures ∙ peer_box_got p j
+    let place = ap (λ (u : Tally). u.box_got) c.peer.ensures ∙ peer_box_got p j
     (calls.few f p o j few) in
     let at = c.box_at-slot.ensures.at ∙ calls.in_slot_is f p o j few c.peer.result.box_got place in
     let y : Load = plays.box_load j (knows p) in
@@ -355,7 +355,7 @@ pub returns-clause-holding : goal.returns-clause-holding
 returns-clause-holding g c =
     let f = c.args.f.now in let p = c.args.port.now in let o = c.requires.owns in
     let few = c.requires.peer in let j = c.args.sender in let k = c.requires.taking in
-    let place = ap (λ (u : Peer). u.box_got) c.peer.ensures ∙ peer_box_got p j
+    let place = ap (λ (u : Tally). u.box_got) c.peer.ensures ∙ peer_box_got p j
     (calls.few f p o j few) in
     let at = c.box_at-slot.ensures.at ∙ calls.in_slot_is f p o j few c.peer.result.box_got place in
     let y : Load = plays.box_load j (knows p) in
@@ -385,7 +385,7 @@ pub invariant_of-port-clause-kept : goal.invariant_of-port-clause-kept
 invariant_of-port-clause-kept g c =
     let f = c.args.f.now in let p = c.args.port.now in let o = c.requires.owns in
     let few = c.requires.peer in let j = c.args.sender in let k = c.requires.taking in
-    let place = ap (λ (u : Peer). u.box_got) c.peer.ensures ∙ peer_box_got p j
+    let place = ap (λ (u : Tally). u.box_got) c.peer.ensures ∙ peer_box_got p j
     (calls.few f p o j few) in
     let at = c.box_at-slot.ensures.at ∙ calls.in_slot_is f p o j few c.peer.result.box_got place in
     let y : Load = plays.box_load j (knows p) in

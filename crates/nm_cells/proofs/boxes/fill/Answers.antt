@@ -4,7 +4,7 @@ use Rattle.std.specs.Prelude.{vec_capacity}
 use Rattle.atomic_table.specs.Table.{Allows, step, rest}
 use mathlib.Core.Option as maybe
 use Rattle.nm_seats.specs.Spoken.{view}
-use Rattle.nm_cells.specs.declared.peers.Peer.{Peer}
+use Rattle.nm_cells.specs.declared.tallies.Tally.{Tally}
 use Rattle.nm_table.specs.Rule.{Load, Rule, put_to, filling_of, sent_to}
 use Rattle.nm_table.specs.Plays as plays
 use Rattle.nm_table.specs.Plays.{mine, sole}
@@ -22,7 +22,7 @@ pub bring_slot-requires : goal.bring_slot-requires
 bring_slot-requires g c =
     let f = c.args.f.now in let p = c.args.port.now in let o = c.requires.owns in
     let few = c.requires.peer in let j = c.args.to in
-    let place = ap (λ (u : Peer). u.box_put) c.peer.ensures ∙ peer_box_put p j
+    let place = ap (λ (u : Tally). u.box_put) c.peer.ensures ∙ peer_box_put p j
     (calls.few f p o j few) in
     let at = c.box_at-slot.ensures.at ∙ calls.out_slot_is f p o j few c.peer.result.box_put place in
     let none : Load = None in
@@ -34,7 +34,7 @@ pub store-requires : goal.store-requires
 store-requires g c =
     let f = c.args.f.now in let p = c.args.port.now in let o = c.requires.owns in
     let few = c.requires.peer in let j = c.args.to in
-    let place = ap (λ (u : Peer). u.box_put) c.peer.ensures ∙ peer_box_put p j
+    let place = ap (λ (u : Tally). u.box_put) c.peer.ensures ∙ peer_box_put p j
     (calls.few f p o j few) in
     let at = c.box_at-slot.ensures.at ∙ calls.out_slot_is f p o j few c.peer.result.box_put place in
     let none : Load = None in
@@ -55,7 +55,7 @@ store-requires g c =
       c.fill_slot.ensures.seat.0 ∙ b.seat.0 ∙ o.0,
       inside,
       subst (λ m. Allows (Rule f.board.shared.key) id.slots c.fill_slot.new.seat.id m word
-          (λ _. x) (plays.boxed g.T.Told.peer (step id.slots word x 0 maybe.none) m))
+          (λ _. x) (plays.boxed g.T.BoxStep.peer (step id.slots word x 0 maybe.none) m))
           (sym c.fill_slot.ensures.filled)
           (subst (λ t. Allows (Rule f.board.shared.key) id.slots c.fill_slot.new.seat.id me word
           (λ _. x) (plays.boxed t (step id.slots word x 0 maybe.none) me)) c.requires.told
@@ -71,7 +71,7 @@ pub count_boxed-requires-clause-to : goal.count_boxed-requires-clause-to
 count_boxed-requires-clause-to g c =
     let f = c.args.f.now in let p = c.args.port.now in let o = c.requires.owns in
     let few = c.requires.peer in let j = c.args.to in
-    let place = ap (λ (u : Peer). u.box_put) c.peer.ensures ∙ peer_box_put p j
+    let place = ap (λ (u : Tally). u.box_put) c.peer.ensures ∙ peer_box_put p j
     (calls.few f p o j few) in
     let at = c.box_at-slot.ensures.at ∙ calls.out_slot_is f p o j few c.peer.result.box_put place in
     let none : Load = None in
@@ -89,7 +89,7 @@ pub count_boxed-requires-clause-room : goal.count_boxed-requires-clause-room
 count_boxed-requires-clause-room g c =
     let f = c.args.f.now in let p = c.args.port.now in let o = c.requires.owns in
     let few = c.requires.peer in let j = c.args.to in
-    let place = ap (λ (u : Peer). u.box_put) c.peer.ensures ∙ peer_box_put p j
+    let place = ap (λ (u : Tally). u.box_put) c.peer.ensures ∙ peer_box_put p j
     (calls.few f p o j few) in
     let at = c.box_at-slot.ensures.at ∙ calls.out_slot_is f p o j few c.peer.result.box_put place in
     let none : Load = None in
@@ -108,7 +108,7 @@ pub count_boxed-requires-clause-box_room : goal.count_boxed-requires-clause-box_
 count_boxed-requires-clause-box_room g c =
     let f = c.args.f.now in let p = c.args.port.now in let o = c.requires.owns in
     let few = c.requires.peer in let j = c.args.to in
-    let place = ap (λ (u : Peer). u.box_put) c.peer.ensures ∙ peer_box_put p j
+    let place = ap (λ (u : Tally). u.box_put) c.peer.ensures ∙ peer_box_put p j
     (calls.few f p o j few) in
     let at = c.box_at-slot.ensures.at ∙ calls.out_slot_is f p o j few c.peer.result.box_put place in
     let none : Load = None in
@@ -127,7 +127,7 @@ pub invariant_of-port-clause-carries : goal.invariant_of-port-clause-carries
 invariant_of-port-clause-carries g c =
     let f = c.args.f.now in let p = c.args.port.now in let o = c.requires.owns in
     let few = c.requires.peer in let j = c.args.to in
-    let place = ap (λ (u : Peer). u.box_put) c.peer.ensures ∙ peer_box_put p j
+    let place = ap (λ (u : Tally). u.box_put) c.peer.ensures ∙ peer_box_put p j
     (calls.few f p o j few) in
     let at = c.box_at-slot.ensures.at ∙ calls.out_slot_is f p o j few c.peer.result.box_put place in
     let none : Load = None in
@@ -155,7 +155,7 @@ pub invariant_of-port-clause-boxes : goal.invariant_of-port-clause-boxes
 invariant_of-port-clause-boxes g c =
     let f = c.args.f.now in let p = c.args.port.now in let o = c.requires.owns in
     let few = c.requires.peer in let j = c.args.to in
-    let place = ap (λ (u : Peer). u.box_put) c.peer.ensures ∙ peer_box_put p j
+    let place = ap (λ (u : Tally). u.box_put) c.peer.ensures ∙ peer_box_put p j
     (calls.few f p o j few) in
     let at = c.box_at-slot.ensures.at ∙ calls.out_slot_is f p o j few c.peer.result.box_put place in
     let none : Load = None in
@@ -179,7 +179,7 @@ pub invariant_of-port-clause-counts : goal.invariant_of-port-clause-counts
 invariant_of-port-clause-counts g c =
     let f = c.args.f.now in let p = c.args.port.now in let o = c.requires.owns in
     let few = c.requires.peer in let j = c.args.to in
-    let place = ap (λ (u : Peer). u.box_put) c.peer.ensures ∙ peer_box_put p j
+    let place = ap (λ (u : Tally). u.box_put) c.peer.ensures ∙ peer_box_put p j
     (calls.few f p o j few) in
     let at = c.box_at-slot.ensures.at ∙ calls.out_slot_is f p o j few c.peer.result.box_put place in
     let none : Load = None in
@@ -204,7 +204,7 @@ pub returns-clause-stays : goal.returns-clause-stays
 returns-clause-stays g c =
     let f = c.args.f.now in let p = c.args.port.now in let o = c.requires.owns in
     let few = c.requires.peer in let j = c.args.to in
-    let place = ap (λ (u : Peer). u.box_put) c.peer.ensures ∙ peer_box_put p j
+    let place = ap (λ (u : Tally). u.box_put) c.peer.ensures ∙ peer_box_put p j
     (calls.few f p o j few) in
     let at = c.box_at-slot.ensures.at ∙ calls.out_slot_is f p o j few c.peer.result.box_put place in
     let none : Load = None in
@@ -244,7 +244,7 @@ pub returns-clause-holding : goal.returns-clause-holding
 returns-clause-holding g c =
     let f = c.args.f.now in let p = c.args.port.now in let o = c.requires.owns in
     let few = c.requires.peer in let j = c.args.to in
-    let place = ap (λ (u : Peer). u.box_put) c.peer.ensures ∙ peer_box_put p j
+    let place = ap (λ (u : Tally). u.box_put) c.peer.ensures ∙ peer_box_put p j
     (calls.few f p o j few) in
     let at = c.box_at-slot.ensures.at ∙ calls.out_slot_is f p o j few c.peer.result.box_put place in
     let none : Load = None in
@@ -268,7 +268,7 @@ pub invariant_of-port-clause-kept : goal.invariant_of-port-clause-kept
 invariant_of-port-clause-kept g c =
     let f = c.args.f.now in let p = c.args.port.now in let o = c.requires.owns in
     let few = c.requires.peer in let j = c.args.to in
-    let place = ap (λ (u : Peer). u.box_put) c.peer.ensures ∙ peer_box_put p j
+    let place = ap (λ (u : Tally). u.box_put) c.peer.ensures ∙ peer_box_put p j
     (calls.few f p o j few) in
     let at = c.box_at-slot.ensures.at ∙ calls.out_slot_is f p o j few c.peer.result.box_put place in
     let none : Load = None in

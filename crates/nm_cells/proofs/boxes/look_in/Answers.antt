@@ -3,7 +3,7 @@ use Rattle.std.proofs.Common.{refl, ap, ◌∙◌, subst, arith, length-set}
 use Rattle.std.specs.Prelude.{vec_capacity}
 use Rattle.atomic_table.specs.Table.{Allows, step}
 use mathlib.Core.Option as maybe
-use Rattle.nm_cells.specs.declared.peers.Peer.{Peer}
+use Rattle.nm_cells.specs.declared.tallies.Tally.{Tally}
 use Rattle.nm_table.specs.Rule.{Rule}
 use Rattle.nm_table.specs.Plays as plays
 use Rattle.nm_table.specs.Plays.{mine}
@@ -24,12 +24,12 @@ load-found-requires g c = let f = c.args.f.now in let p = c.args.port.now in
     let is_word = c.flag_word-word.ensures in
     let word : ℕ = c.flag_word-word.result in let low : word < id.words = omega arith in
     let place = c.peer-peer.result.box_got in let j = c.args.sender in
-    let at = ap (λ (u : Peer). u.box_got) c.peer-peer.ensures ∙ peer_box_got p j
+    let at = ap (λ (u : Tally). u.box_got) c.peer-peer.ensures ∙ peer_box_got p j
     (calls.few f p o j few) in (
       o.0,
       low,
       subst (λ t. Allows (Rule f.board.shared.key) id.slots p.seat.id p.seat.me word (λ u. u)
-          (plays.looked_in t g.T.Told.awaited (step id.slots word 0 0 maybe.none) p.seat.me))
+          (plays.looked_in t g.T.BoxStep.awaited (step id.slots word 0 0 maybe.none) p.seat.me))
           c.requires.told.0
           (subst (λ a. Allows (Rule f.board.shared.key) id.slots p.seat.id p.seat.me word (λ u. u)
           (plays.looked_in j a (step id.slots word 0 0 maybe.none) p.seat.me)) c.requires.told.1
@@ -40,7 +40,7 @@ load-found-requires g c = let f = c.args.f.now in let p = c.args.port.now in
 
 pub overflow_add-peer : goal.overflow_add-peer
 overflow_add-peer g c = let f = c.args.f.now in let p = c.args.port.now in let j = c.args.sender in
-    let same = ap (λ (u : Peer). u.taken) c.peer-peer.ensures in
+    let same = ap (λ (u : Tally). u.taken) c.peer-peer.ensures in
     let small = calls.taken_small f p c.requires.owns j c.requires.peer in omega arith
 
 pub count_miss-requires : goal.count_miss-requires
@@ -56,10 +56,10 @@ invariant_of-port-clause-carries g c =
     let then = subst (λ k. plays.told_in k (taken_by p j) (step f.board.shared.table_id.slots
     c.flag_word-word.result 0 0 maybe.none) p.seat.me c.load-found.result
     c.load-found.new.seat.me) (sym t.0)
-    (subst (λ a. plays.told_in g.T.Told.peer a (step f.board.shared.table_id.slots
+    (subst (λ a. plays.told_in g.T.BoxStep.peer a (step f.board.shared.table_id.slots
     c.flag_word-word.result 0 0 maybe.none) p.seat.me c.load-found.result
     c.load-found.new.seat.me) (sym t.1) c.load-found.ensures.2.1) in
-    let same = ap (λ (u : Peer). u.taken) c.peer-peer.ensures in
+    let same = ap (λ (u : Tally). u.taken) c.peer-peer.ensures in
     let other = c.if-found-peer.true in
     let is = then.1 (λ hit. other (let z : c.load-found.result ≡ c.peer-peer.result.taken + 1 =
     omega arith in z)) in
@@ -72,10 +72,10 @@ invariant_of-port-clause-boxes g c =
     let then = subst (λ k. plays.told_in k (taken_by p j) (step f.board.shared.table_id.slots
     c.flag_word-word.result 0 0 maybe.none) p.seat.me c.load-found.result
     c.load-found.new.seat.me) (sym t.0)
-    (subst (λ a. plays.told_in g.T.Told.peer a (step f.board.shared.table_id.slots
+    (subst (λ a. plays.told_in g.T.BoxStep.peer a (step f.board.shared.table_id.slots
     c.flag_word-word.result 0 0 maybe.none) p.seat.me c.load-found.result
     c.load-found.new.seat.me) (sym t.1) c.load-found.ensures.2.1) in
-    let same = ap (λ (u : Peer). u.taken) c.peer-peer.ensures in
+    let same = ap (λ (u : Tally). u.taken) c.peer-peer.ensures in
     let other = c.if-found-peer.true in
     let is = then.1 (λ hit. other (let z : c.load-found.result ≡ c.peer-peer.result.taken + 1 =
     omega arith in z)) in
@@ -88,10 +88,10 @@ invariant_of-port-clause-counts g c =
     let then = subst (λ k. plays.told_in k (taken_by p j) (step f.board.shared.table_id.slots
     c.flag_word-word.result 0 0 maybe.none) p.seat.me c.load-found.result
     c.load-found.new.seat.me) (sym t.0)
-    (subst (λ a. plays.told_in g.T.Told.peer a (step f.board.shared.table_id.slots
+    (subst (λ a. plays.told_in g.T.BoxStep.peer a (step f.board.shared.table_id.slots
     c.flag_word-word.result 0 0 maybe.none) p.seat.me c.load-found.result
     c.load-found.new.seat.me) (sym t.1) c.load-found.ensures.2.1) in
-    let same = ap (λ (u : Peer). u.taken) c.peer-peer.ensures in
+    let same = ap (λ (u : Tally). u.taken) c.peer-peer.ensures in
     let other = c.if-found-peer.true in
     let is = then.1 (λ hit. other (let z : c.load-found.result ≡ c.peer-peer.result.taken + 1 =
     omega arith in z)) in
@@ -105,10 +105,10 @@ returns-then-found-peer-clause-stays g c =
     let then = subst (λ k. plays.told_in k (taken_by p j) (step f.board.shared.table_id.slots
     c.flag_word-word.result 0 0 maybe.none) p.seat.me c.load-found.result
     c.load-found.new.seat.me) (sym t.0)
-    (subst (λ a. plays.told_in g.T.Told.peer a (step f.board.shared.table_id.slots
+    (subst (λ a. plays.told_in g.T.BoxStep.peer a (step f.board.shared.table_id.slots
     c.flag_word-word.result 0 0 maybe.none) p.seat.me c.load-found.result
     c.load-found.new.seat.me) (sym t.1) c.load-found.ensures.2.1) in
-    let same = ap (λ (u : Peer). u.taken) c.peer-peer.ensures in
+    let same = ap (λ (u : Tally). u.taken) c.peer-peer.ensures in
     let other = c.if-found-peer.true in
     let is = then.1 (λ hit. other (let z : c.load-found.result ≡ c.peer-peer.result.taken + 1 =
     omega arith in z)) in
@@ -135,10 +135,10 @@ returns-then-found-peer-clause-overtaken g c over =
     let then = subst (λ k. plays.told_in k (taken_by p j) (step f.board.shared.table_id.slots
     c.flag_word-word.result 0 0 maybe.none) p.seat.me c.load-found.result
     c.load-found.new.seat.me) (sym t.0)
-    (subst (λ a. plays.told_in g.T.Told.peer a (step f.board.shared.table_id.slots
+    (subst (λ a. plays.told_in g.T.BoxStep.peer a (step f.board.shared.table_id.slots
     c.flag_word-word.result 0 0 maybe.none) p.seat.me c.load-found.result
     c.load-found.new.seat.me) (sym t.1) c.load-found.ensures.2.1) in
-    let same = ap (λ (u : Peer). u.taken) c.peer-peer.ensures in
+    let same = ap (λ (u : Tally). u.taken) c.peer-peer.ensures in
     let other = c.if-found-peer.true in
     let hit = calls.when_overtaken f p o j few c.load-found.result then.2 over in
     absurd (other (let z : c.load-found.result ≡ c.peer-peer.result.taken + 1 = omega arith in z))
@@ -150,21 +150,21 @@ take_box-requires g c =
     let then = subst (λ k. plays.told_in k (taken_by p j) (step f.board.shared.table_id.slots
     c.flag_word-word.result 0 0 maybe.none) p.seat.me c.load-found.result
     c.load-found.new.seat.me) (sym t.0)
-    (subst (λ a. plays.told_in g.T.Told.peer a (step f.board.shared.table_id.slots
+    (subst (λ a. plays.told_in g.T.BoxStep.peer a (step f.board.shared.table_id.slots
     c.flag_word-word.result 0 0 maybe.none) p.seat.me c.load-found.result
     c.load-found.new.seat.me) (sym t.1) c.load-found.ensures.2.1) in
-    let same = ap (λ (u : Peer). u.taken) c.peer-peer.ensures in
+    let same = ap (λ (u : Tally). u.taken) c.peer-peer.ensures in
     let found = c.if-found-peer.false in
     let rs = o.2 in let is_word = c.flag_word-word.ensures in let word : ℕ = c.flag_word-word.result in
     let back : word - 4 * (knows p).ranks ≡ c.box_at-slot.result = omega arith in
-    let place = ap (λ (u : Peer). u.box_got) c.peer-peer.ensures ∙ peer_box_got p j
+    let place = ap (λ (u : Tally). u.box_got) c.peer-peer.ensures ∙ peer_box_got p j
     (calls.few f p o j few) in
     let at = c.box_at-slot.ensures.at ∙ calls.in_slot_is f p o j few
     c.peer-peer.result.box_got place in
-    let told = subst (λ k. plays.Begun j (taken_by p j) k p.seat.me c.load-found.new.seat.me) back
+    let told = subst (λ k. plays.IsToEmpty j (taken_by p j) k p.seat.me c.load-found.new.seat.me) back
     (then.0 (let z : c.load-found.result ≡ suc (taken_by p j) = omega arith in z)) in
     let was = sym (calls.is_emptying f p o j few)
-    ∙ sym (ap (λ (u : Peer). u.emptying) c.peer-peer.ensures) in
+    ∙ sym (ap (λ (u : Tally). u.emptying) c.peer-peer.ensures) in
     record {
       room = calls.begun_room f p o j few c.load-found.new.seat.me c.box_at-slot.result
           (taken_by p j) at told c.peer-peer.result.emptying was;
@@ -183,21 +183,21 @@ invariant_of-port-2-clause-carries g c =
     let then = subst (λ k. plays.told_in k (taken_by p j) (step f.board.shared.table_id.slots
     c.flag_word-word.result 0 0 maybe.none) p.seat.me c.load-found.result
     c.load-found.new.seat.me) (sym t.0)
-    (subst (λ a. plays.told_in g.T.Told.peer a (step f.board.shared.table_id.slots
+    (subst (λ a. plays.told_in g.T.BoxStep.peer a (step f.board.shared.table_id.slots
     c.flag_word-word.result 0 0 maybe.none) p.seat.me c.load-found.result
     c.load-found.new.seat.me) (sym t.1) c.load-found.ensures.2.1) in
-    let same = ap (λ (u : Peer). u.taken) c.peer-peer.ensures in
+    let same = ap (λ (u : Tally). u.taken) c.peer-peer.ensures in
     let found = c.if-found-peer.false in
     let rs = o.2 in let is_word = c.flag_word-word.ensures in let word : ℕ = c.flag_word-word.result in
     let back : word - 4 * (knows p).ranks ≡ c.box_at-slot.result = omega arith in
-    let place = ap (λ (u : Peer). u.box_got) c.peer-peer.ensures ∙ peer_box_got p j
+    let place = ap (λ (u : Tally). u.box_got) c.peer-peer.ensures ∙ peer_box_got p j
     (calls.few f p o j few) in
     let at = c.box_at-slot.ensures.at ∙ calls.in_slot_is f p o j few
     c.peer-peer.result.box_got place in
-    let told = subst (λ k. plays.Begun j (taken_by p j) k p.seat.me c.load-found.new.seat.me) back
+    let told = subst (λ k. plays.IsToEmpty j (taken_by p j) k p.seat.me c.load-found.new.seat.me) back
     (then.0 (let z : c.load-found.result ≡ suc (taken_by p j) = omega arith in z)) in
     let was = sym (calls.is_emptying f p o j few)
-    ∙ sym (ap (λ (u : Peer). u.emptying) c.peer-peer.ensures) in
+    ∙ sym (ap (λ (u : Tally). u.emptying) c.peer-peer.ensures) in
     calls.begun_carries f p o j few c.load-found.new.seat.me c.box_at-slot.result
     (taken_by p j) at told c.peer-peer.result.emptying was
     c.take_box.new.carried.items (vec_capacity c.take_box.new.carried) c.take_box.new.hands
@@ -210,21 +210,21 @@ invariant_of-port-2-clause-boxes g c =
     let then = subst (λ k. plays.told_in k (taken_by p j) (step f.board.shared.table_id.slots
     c.flag_word-word.result 0 0 maybe.none) p.seat.me c.load-found.result
     c.load-found.new.seat.me) (sym t.0)
-    (subst (λ a. plays.told_in g.T.Told.peer a (step f.board.shared.table_id.slots
+    (subst (λ a. plays.told_in g.T.BoxStep.peer a (step f.board.shared.table_id.slots
     c.flag_word-word.result 0 0 maybe.none) p.seat.me c.load-found.result
     c.load-found.new.seat.me) (sym t.1) c.load-found.ensures.2.1) in
-    let same = ap (λ (u : Peer). u.taken) c.peer-peer.ensures in
+    let same = ap (λ (u : Tally). u.taken) c.peer-peer.ensures in
     let found = c.if-found-peer.false in
     let rs = o.2 in let is_word = c.flag_word-word.ensures in let word : ℕ = c.flag_word-word.result in
     let back : word - 4 * (knows p).ranks ≡ c.box_at-slot.result = omega arith in
-    let place = ap (λ (u : Peer). u.box_got) c.peer-peer.ensures ∙ peer_box_got p j
+    let place = ap (λ (u : Tally). u.box_got) c.peer-peer.ensures ∙ peer_box_got p j
     (calls.few f p o j few) in
     let at = c.box_at-slot.ensures.at ∙ calls.in_slot_is f p o j few
     c.peer-peer.result.box_got place in
-    let told = subst (λ k. plays.Begun j (taken_by p j) k p.seat.me c.load-found.new.seat.me) back
+    let told = subst (λ k. plays.IsToEmpty j (taken_by p j) k p.seat.me c.load-found.new.seat.me) back
     (then.0 (let z : c.load-found.result ≡ suc (taken_by p j) = omega arith in z)) in
     let was = sym (calls.is_emptying f p o j few)
-    ∙ sym (ap (λ (u : Peer). u.emptying) c.peer-peer.ensures) in
+    ∙ sym (ap (λ (u : Tally). u.emptying) c.peer-peer.ensures) in
     calls.begun_boxes f p o j few c.load-found.new.seat.me c.box_at-slot.result (taken_by p j) at told
 
 pub invariant_of-port-2-clause-counts : goal.invariant_of-port-2-clause-counts
@@ -234,21 +234,21 @@ invariant_of-port-2-clause-counts g c =
     let then = subst (λ k. plays.told_in k (taken_by p j) (step f.board.shared.table_id.slots
     c.flag_word-word.result 0 0 maybe.none) p.seat.me c.load-found.result
     c.load-found.new.seat.me) (sym t.0)
-    (subst (λ a. plays.told_in g.T.Told.peer a (step f.board.shared.table_id.slots
+    (subst (λ a. plays.told_in g.T.BoxStep.peer a (step f.board.shared.table_id.slots
     c.flag_word-word.result 0 0 maybe.none) p.seat.me c.load-found.result
     c.load-found.new.seat.me) (sym t.1) c.load-found.ensures.2.1) in
-    let same = ap (λ (u : Peer). u.taken) c.peer-peer.ensures in
+    let same = ap (λ (u : Tally). u.taken) c.peer-peer.ensures in
     let found = c.if-found-peer.false in
     let rs = o.2 in let is_word = c.flag_word-word.ensures in let word : ℕ = c.flag_word-word.result in
     let back : word - 4 * (knows p).ranks ≡ c.box_at-slot.result = omega arith in
-    let place = ap (λ (u : Peer). u.box_got) c.peer-peer.ensures ∙ peer_box_got p j
+    let place = ap (λ (u : Tally). u.box_got) c.peer-peer.ensures ∙ peer_box_got p j
     (calls.few f p o j few) in
     let at = c.box_at-slot.ensures.at ∙ calls.in_slot_is f p o j few
     c.peer-peer.result.box_got place in
-    let told = subst (λ k. plays.Begun j (taken_by p j) k p.seat.me c.load-found.new.seat.me) back
+    let told = subst (λ k. plays.IsToEmpty j (taken_by p j) k p.seat.me c.load-found.new.seat.me) back
     (then.0 (let z : c.load-found.result ≡ suc (taken_by p j) = omega arith in z)) in
     let was = sym (calls.is_emptying f p o j few)
-    ∙ sym (ap (λ (u : Peer). u.emptying) c.peer-peer.ensures) in
+    ∙ sym (ap (λ (u : Tally). u.emptying) c.peer-peer.ensures) in
     calls.begun_counts f p o j few c.load-found.new.seat.me c.box_at-slot.result
     (taken_by p j) at told c.note_emptying.new.peers.items
     c.note_emptying.ensures
@@ -260,21 +260,21 @@ returns-clause-stays g c =
     let then = subst (λ k. plays.told_in k (taken_by p j) (step f.board.shared.table_id.slots
     c.flag_word-word.result 0 0 maybe.none) p.seat.me c.load-found.result
     c.load-found.new.seat.me) (sym t.0)
-    (subst (λ a. plays.told_in g.T.Told.peer a (step f.board.shared.table_id.slots
+    (subst (λ a. plays.told_in g.T.BoxStep.peer a (step f.board.shared.table_id.slots
     c.flag_word-word.result 0 0 maybe.none) p.seat.me c.load-found.result
     c.load-found.new.seat.me) (sym t.1) c.load-found.ensures.2.1) in
-    let same = ap (λ (u : Peer). u.taken) c.peer-peer.ensures in
+    let same = ap (λ (u : Tally). u.taken) c.peer-peer.ensures in
     let found = c.if-found-peer.false in
     let rs = o.2 in let is_word = c.flag_word-word.ensures in let word : ℕ = c.flag_word-word.result in
     let back : word - 4 * (knows p).ranks ≡ c.box_at-slot.result = omega arith in
-    let place = ap (λ (u : Peer). u.box_got) c.peer-peer.ensures ∙ peer_box_got p j
+    let place = ap (λ (u : Tally). u.box_got) c.peer-peer.ensures ∙ peer_box_got p j
     (calls.few f p o j few) in
     let at = c.box_at-slot.ensures.at ∙ calls.in_slot_is f p o j few
     c.peer-peer.result.box_got place in
-    let told = subst (λ k. plays.Begun j (taken_by p j) k p.seat.me c.load-found.new.seat.me) back
+    let told = subst (λ k. plays.IsToEmpty j (taken_by p j) k p.seat.me c.load-found.new.seat.me) back
     (then.0 (let z : c.load-found.result ≡ suc (taken_by p j) = omega arith in z)) in
     let was = sym (calls.is_emptying f p o j few)
-    ∙ sym (ap (λ (u : Peer). u.emptying) c.peer-peer.ensures) in
+    ∙ sym (ap (λ (u : Tally). u.emptying) c.peer-peer.ensures) in
     let s = calls.peers_stay one_begun j p.peers.items
     (peer_low p j (calls.few f p o j few)) (λ u. refl) (λ u. refl) in (
       calls.owns_then f p o j few (c.load-found.ensures.0 ∙ o.0)
@@ -299,10 +299,10 @@ invariant_of-port-clause-kept g c =
     let then = subst (λ k. plays.told_in k (taken_by p j) (step f.board.shared.table_id.slots
     c.flag_word-word.result 0 0 maybe.none) p.seat.me c.load-found.result
     c.load-found.new.seat.me) (sym t.0)
-    (subst (λ a. plays.told_in g.T.Told.peer a (step f.board.shared.table_id.slots
+    (subst (λ a. plays.told_in g.T.BoxStep.peer a (step f.board.shared.table_id.slots
     c.flag_word-word.result 0 0 maybe.none) p.seat.me c.load-found.result
     c.load-found.new.seat.me) (sym t.1) c.load-found.ensures.2.1) in
-    let same = ap (λ (u : Peer). u.taken) c.peer-peer.ensures in
+    let same = ap (λ (u : Tally). u.taken) c.peer-peer.ensures in
     let other = c.if-found-peer.true in
     let is = then.1 (λ hit. other (let z : c.load-found.result ≡ c.peer-peer.result.taken + 1 =
     omega arith in z)) in
@@ -315,20 +315,20 @@ invariant_of-port-2-clause-kept g c =
     let then = subst (λ k. plays.told_in k (taken_by p j) (step f.board.shared.table_id.slots
     c.flag_word-word.result 0 0 maybe.none) p.seat.me c.load-found.result
     c.load-found.new.seat.me) (sym t.0)
-    (subst (λ a. plays.told_in g.T.Told.peer a (step f.board.shared.table_id.slots
+    (subst (λ a. plays.told_in g.T.BoxStep.peer a (step f.board.shared.table_id.slots
     c.flag_word-word.result 0 0 maybe.none) p.seat.me c.load-found.result
     c.load-found.new.seat.me) (sym t.1) c.load-found.ensures.2.1) in
-    let same = ap (λ (u : Peer). u.taken) c.peer-peer.ensures in
+    let same = ap (λ (u : Tally). u.taken) c.peer-peer.ensures in
     let found = c.if-found-peer.false in
     let rs = o.2 in let is_word = c.flag_word-word.ensures in let word : ℕ = c.flag_word-word.result in
     let back : word - 4 * (knows p).ranks ≡ c.box_at-slot.result = omega arith in
-    let place = ap (λ (u : Peer). u.box_got) c.peer-peer.ensures ∙ peer_box_got p j
+    let place = ap (λ (u : Tally). u.box_got) c.peer-peer.ensures ∙ peer_box_got p j
     (calls.few f p o j few) in
     let at = c.box_at-slot.ensures.at ∙ calls.in_slot_is f p o j few
     c.peer-peer.result.box_got place in
-    let told = subst (λ k. plays.Begun j (taken_by p j) k p.seat.me c.load-found.new.seat.me) back
+    let told = subst (λ k. plays.IsToEmpty j (taken_by p j) k p.seat.me c.load-found.new.seat.me) back
     (then.0 (let z : c.load-found.result ≡ suc (taken_by p j) = omega arith in z)) in
     let was = sym (calls.is_emptying f p o j few)
-    ∙ sym (ap (λ (u : Peer). u.emptying) c.peer-peer.ensures) in
+    ∙ sym (ap (λ (u : Tally). u.emptying) c.peer-peer.ensures) in
     kept_begun p.loose p.seat.me c.load-found.new.seat.me p.kept j c.box_at-slot.result
     _ _ (subst (λ k. length (knows p).hands ≤ k) (sym at) (calls.far f p o j few false)) told.3

@@ -8,7 +8,7 @@ use Rattle.nm_table.specs.Plays as plays
 use Rattle.nm_table.specs.Plays.{mine}
 use Rattle.nm_cells.specs.Ports.{knows}
 use Rattle.nm_cells.specs.Counted.{peer_in, all_unpassed, one_full, one_opened}
-use Rattle.nm_cells.specs.declared.peers.Peer.{Peer}
+use Rattle.nm_cells.specs.declared.tallies.Tally.{Tally}
 use Rattle.nm_cells.specs.AtWork.{HoldsBoxes}
 use Rattle.nm_seats.specs.Spoken.{view}
 use Rattle.nm_cells.proofs.PortLemmas.{CarriesFor}
@@ -26,7 +26,7 @@ load-found-requires g c = let f = c.args.f.now in let p = c.args.port.now in
     let is_word = c.flag_word-word.ensures in
     let word : ℕ = c.flag_word-word.result in let low : word < id.words = omega arith in
     let place = c.peer-peer.result.box_put in
-    let at = ap (λ (u : Peer). u.box_put) c.peer-peer.ensures ∙ peer_box_put p c.args.to
+    let at = ap (λ (u : Tally). u.box_put) c.peer-peer.ensures ∙ peer_box_put p c.args.to
     (calls.few f p o c.args.to few) in (
       o.0,
       low,
@@ -102,16 +102,16 @@ take_box-requires g c =
     let none = c.if-found-ne0.false in let free = then.0 (omega arith) in
     let rs = o.2 in let is_word = c.flag_word-word.ensures in let word : ℕ = c.flag_word-word.result in
     let back : word - 4 * (knows p).ranks ≡ c.box_at-slot.result = omega arith in
-    let place = ap (λ (u : Peer). u.box_put) c.peer-peer.ensures ∙ peer_box_put p c.args.to
+    let place = ap (λ (u : Tally). u.box_put) c.peer-peer.ensures ∙ peer_box_put p c.args.to
     (calls.few f p o c.args.to few) in
     let at = c.box_at-slot.ensures.at ∙ calls.out_slot_is f p o c.args.to few
     c.peer-peer.result.box_put place in
     let is = free.1 ∙ ap (λ k. (
       view (plays.with_filling c.args.to true (knows p) ∷ []),
-      plays.opened (filling_of (knows p) c.args.to) k p.seat.me.1,
+      plays.slots_to_fill (filling_of (knows p) c.args.to) k p.seat.me.1,
     )) back in
     let was = sym (calls.is_filling f p o c.args.to few)
-    ∙ sym (ap (λ (u : Peer). u.filling) c.peer-peer.ensures) in
+    ∙ sym (ap (λ (u : Tally). u.filling) c.peer-peer.ensures) in
     record {
       room = calls.free_room f p o c.args.to few c.load-found.new.seat.me c.box_at-slot.result at is free.2
           c.peer-peer.result.filling was;
@@ -132,16 +132,16 @@ invariant_of-port-2-clause-carries g c =
     let none = c.if-found-ne0.false in let free = then.0 (omega arith) in
     let rs = o.2 in let is_word = c.flag_word-word.ensures in let word : ℕ = c.flag_word-word.result in
     let back : word - 4 * (knows p).ranks ≡ c.box_at-slot.result = omega arith in
-    let place = ap (λ (u : Peer). u.box_put) c.peer-peer.ensures ∙ peer_box_put p c.args.to
+    let place = ap (λ (u : Tally). u.box_put) c.peer-peer.ensures ∙ peer_box_put p c.args.to
     (calls.few f p o c.args.to few) in
     let at = c.box_at-slot.ensures.at ∙ calls.out_slot_is f p o c.args.to few
     c.peer-peer.result.box_put place in
     let is = free.1 ∙ ap (λ k. (
       view (plays.with_filling c.args.to true (knows p) ∷ []),
-      plays.opened (filling_of (knows p) c.args.to) k p.seat.me.1,
+      plays.slots_to_fill (filling_of (knows p) c.args.to) k p.seat.me.1,
     )) back in
     let was = sym (calls.is_filling f p o c.args.to few)
-    ∙ sym (ap (λ (u : Peer). u.filling) c.peer-peer.ensures) in
+    ∙ sym (ap (λ (u : Tally). u.filling) c.peer-peer.ensures) in
     calls.free_carries f p o c.args.to few c.load-found.new.seat.me c.box_at-slot.result at is free.2
     c.peer-peer.result.filling was
     c.take_box.new.carried.items (vec_capacity c.take_box.new.carried) c.take_box.new.hands
@@ -157,16 +157,16 @@ invariant_of-port-2-clause-boxes g c =
     let none = c.if-found-ne0.false in let free = then.0 (omega arith) in
     let rs = o.2 in let is_word = c.flag_word-word.ensures in let word : ℕ = c.flag_word-word.result in
     let back : word - 4 * (knows p).ranks ≡ c.box_at-slot.result = omega arith in
-    let place = ap (λ (u : Peer). u.box_put) c.peer-peer.ensures ∙ peer_box_put p c.args.to
+    let place = ap (λ (u : Tally). u.box_put) c.peer-peer.ensures ∙ peer_box_put p c.args.to
     (calls.few f p o c.args.to few) in
     let at = c.box_at-slot.ensures.at ∙ calls.out_slot_is f p o c.args.to few
     c.peer-peer.result.box_put place in
     let is = free.1 ∙ ap (λ k. (
       view (plays.with_filling c.args.to true (knows p) ∷ []),
-      plays.opened (filling_of (knows p) c.args.to) k p.seat.me.1,
+      plays.slots_to_fill (filling_of (knows p) c.args.to) k p.seat.me.1,
     )) back in
     let was = sym (calls.is_filling f p o c.args.to few)
-    ∙ sym (ap (λ (u : Peer). u.filling) c.peer-peer.ensures) in
+    ∙ sym (ap (λ (u : Tally). u.filling) c.peer-peer.ensures) in
     calls.free_boxes f p o c.args.to few c.load-found.new.seat.me c.box_at-slot.result at is free.2
     c.peer-peer.result.filling was
 
@@ -180,16 +180,16 @@ invariant_of-port-2-clause-counts g c =
     let none = c.if-found-ne0.false in let free = then.0 (omega arith) in
     let rs = o.2 in let is_word = c.flag_word-word.ensures in let word : ℕ = c.flag_word-word.result in
     let back : word - 4 * (knows p).ranks ≡ c.box_at-slot.result = omega arith in
-    let place = ap (λ (u : Peer). u.box_put) c.peer-peer.ensures ∙ peer_box_put p c.args.to
+    let place = ap (λ (u : Tally). u.box_put) c.peer-peer.ensures ∙ peer_box_put p c.args.to
     (calls.few f p o c.args.to few) in
     let at = c.box_at-slot.ensures.at ∙ calls.out_slot_is f p o c.args.to few
     c.peer-peer.result.box_put place in
     let is = free.1 ∙ ap (λ k. (
       view (plays.with_filling c.args.to true (knows p) ∷ []),
-      plays.opened (filling_of (knows p) c.args.to) k p.seat.me.1,
+      plays.slots_to_fill (filling_of (knows p) c.args.to) k p.seat.me.1,
     )) back in
     let was = sym (calls.is_filling f p o c.args.to few)
-    ∙ sym (ap (λ (u : Peer). u.filling) c.peer-peer.ensures) in
+    ∙ sym (ap (λ (u : Tally). u.filling) c.peer-peer.ensures) in
     calls.free_counts f p o c.args.to few c.load-found.new.seat.me c.box_at-slot.result at is free.2
     c.note_filling.new.peers.items c.note_filling.ensures
 
@@ -203,16 +203,16 @@ returns-clause-stays g c =
     let none = c.if-found-ne0.false in let free = then.0 (omega arith) in
     let rs = o.2 in let is_word = c.flag_word-word.ensures in let word : ℕ = c.flag_word-word.result in
     let back : word - 4 * (knows p).ranks ≡ c.box_at-slot.result = omega arith in
-    let place = ap (λ (u : Peer). u.box_put) c.peer-peer.ensures ∙ peer_box_put p c.args.to
+    let place = ap (λ (u : Tally). u.box_put) c.peer-peer.ensures ∙ peer_box_put p c.args.to
     (calls.few f p o c.args.to few) in
     let at = c.box_at-slot.ensures.at ∙ calls.out_slot_is f p o c.args.to few
     c.peer-peer.result.box_put place in
     let is = free.1 ∙ ap (λ k. (
       view (plays.with_filling c.args.to true (knows p) ∷ []),
-      plays.opened (filling_of (knows p) c.args.to) k p.seat.me.1,
+      plays.slots_to_fill (filling_of (knows p) c.args.to) k p.seat.me.1,
     )) back in
     let was = sym (calls.is_filling f p o c.args.to few)
-    ∙ sym (ap (λ (u : Peer). u.filling) c.peer-peer.ensures) in
+    ∙ sym (ap (λ (u : Tally). u.filling) c.peer-peer.ensures) in
     let t = calls.peers_stay one_opened c.args.to p.peers.items
     (peer_low p c.args.to (calls.few f p o c.args.to few)) (λ u. refl) (λ u. refl) in (
       calls.owns_then f p o c.args.to few (c.load-found.ensures.0 ∙ o.0)
@@ -250,16 +250,16 @@ invariant_of-port-2-clause-kept g c =
     let none = c.if-found-ne0.false in let free = then.0 (omega arith) in
     let rs = o.2 in let is_word = c.flag_word-word.ensures in let word : ℕ = c.flag_word-word.result in
     let back : word - 4 * (knows p).ranks ≡ c.box_at-slot.result = omega arith in
-    let place = ap (λ (u : Peer). u.box_put) c.peer-peer.ensures ∙ peer_box_put p c.args.to
+    let place = ap (λ (u : Tally). u.box_put) c.peer-peer.ensures ∙ peer_box_put p c.args.to
     (calls.few f p o c.args.to few) in
     let at = c.box_at-slot.ensures.at ∙ calls.out_slot_is f p o c.args.to few
     c.peer-peer.result.box_put place in
     let is = free.1 ∙ ap (λ k. (
       view (plays.with_filling c.args.to true (knows p) ∷ []),
-      plays.opened (filling_of (knows p) c.args.to) k p.seat.me.1,
+      plays.slots_to_fill (filling_of (knows p) c.args.to) k p.seat.me.1,
     )) back in
     let was = sym (calls.is_filling f p o c.args.to few)
-    ∙ sym (ap (λ (u : Peer). u.filling) c.peer-peer.ensures) in
+    ∙ sym (ap (λ (u : Tally). u.filling) c.peer-peer.ensures) in
     kept_opened p.loose p.seat.me c.load-found.new.seat.me p.kept c.args.to c.box_at-slot.result
     (filling_of (knows p) c.args.to)
     (subst (λ k. length (knows p).hands ≤ k) (sym at) (calls.far f p o c.args.to few true)) is

@@ -1,4 +1,4 @@
-use Rattle.std.proofs.Common.{◌≡◌, ℕ, ◌<◌, true, inr, sym, ap, ◌∙◌, subst, arith}
+use Rattle.std.proofs.Common.{◌≡◌, ℕ, ◌<◌, inr, sym, ap, ◌∙◌, subst, arith}
 use Rattle.std.specs.Prelude.{Some, None, [], ◌∷◌}
 use Rattle.nm_table.specs.Plays.{mine, with_emptying, with_got_box}
 use Rattle.nm_types.specs.declared.packets.Packet.{Packet}

@@ -5,7 +5,7 @@ use Rattle.nm_seats.specs.Spoken.{view}
 use Rattle.nm_table.specs.Rule.{hand}
 use Rattle.nm_cells.specs.AtClose.{AllCame, Prefixed, Settled}
 use Rattle.nm_cells.specs.Ports.{knows}
-use Rattle.nm_cells.specs.declared.peers.Peer.{Peer}
+use Rattle.nm_cells.specs.declared.tallies.Tally.{Tally}
 use Rattle.nm_cells.specs.PathLists.{seen_in}
 use Rattle.nm_cells.proofs.PortLemmas.{idle}
 use Rattle.nm_cells.proofs.ClosingLemmas.{sealed_off}
@@ -77,7 +77,7 @@ invariant_of-result c = let f = c.args.self in let items = c.args.ports.items in
     ap (λ m. m.0.entries) c.split_seat.ensures.2
     ∙ ap (λ m. m.0.entries) c.gather-seat.ensures.all in
     let es = seen_in c.into_badge-badge.result.views in
-    let ps : List (List Peer) = map (λ v. v.items) c.gather-seat.result.1.items in
+    let ps : List (List Tally) = map (λ v. v.items) c.gather-seat.result.1.items in
     let listed : es ≡ map knows items =
     ap seen_in c.into_badge-badge.ensures.2 ∙ ap (λ m. m.0.seen) c.split_seat.ensures.4
     ∙ ap (λ m. m.0.entries) c.gather-seat.ensures.all in
@@ -96,7 +96,7 @@ returns-clause-counts c = let f = c.args.self in let items = c.args.ports.items 
     ap (λ m. m.0.entries) c.split_seat.ensures.2
     ∙ ap (λ m. m.0.entries) c.gather-seat.ensures.all in
     let es = seen_in c.into_badge-badge.result.views in
-    let ps : List (List Peer) = map (λ v. v.items) c.gather-seat.result.1.items in
+    let ps : List (List Tally) = map (λ v. v.items) c.gather-seat.result.1.items in
     let listed : es ≡ map knows items =
     ap seen_in c.into_badge-badge.ensures.2 ∙ ap (λ m. m.0.seen) c.split_seat.ensures.4
     ∙ ap (λ m. m.0.entries) c.gather-seat.ensures.all in
@@ -112,7 +112,7 @@ returns-clause-prefix c = let f = c.args.self in let items = c.args.ports.items 
     ap (λ m. m.0.entries) c.split_seat.ensures.2
     ∙ ap (λ m. m.0.entries) c.gather-seat.ensures.all in
     let es = seen_in c.into_badge-badge.result.views in
-    let ps : List (List Peer) = map (λ v. v.items) c.gather-seat.result.1.items in
+    let ps : List (List Tally) = map (λ v. v.items) c.gather-seat.result.1.items in
     let listed : es ≡ map knows items =
     ap seen_in c.into_badge-badge.ensures.2 ∙ ap (λ m. m.0.seen) c.split_seat.ensures.4
     ∙ ap (λ m. m.0.entries) c.gather-seat.ensures.all in
@@ -128,7 +128,7 @@ returns-clause-all_taken c even = let f = c.args.self in let items = c.args.port
     ap (λ m. m.0.entries) c.split_seat.ensures.2
     ∙ ap (λ m. m.0.entries) c.gather-seat.ensures.all in
     let es = seen_in c.into_badge-badge.result.views in
-    let ps : List (List Peer) = map (λ v. v.items) c.gather-seat.result.1.items in
+    let ps : List (List Tally) = map (λ v. v.items) c.gather-seat.result.1.items in
     let listed : es ≡ map knows items =
     ap seen_in c.into_badge-badge.ensures.2 ∙ ap (λ m. m.0.seen) c.split_seat.ensures.4
     ∙ ap (λ m. m.0.entries) c.gather-seat.ensures.all in

@@ -1,6 +1,6 @@
 use Rattle.std.proofs.Common.{◌≡◌, ℕ, ◌+◌, take, sum_by, ap, ◌∙◌, arith, min}
 use Rattle.std.proofs.lemmas.List.Sums.{sum_by_more}
-use Rattle.nm_cells.specs.declared.peers.Peer.{Peer}
+use Rattle.nm_cells.specs.declared.tallies.Tally.{Tally}
 use Rattle.nm_table.specs.Plays.{capped}
 use Rattle.nm_cells.proofs.port.Port.unpassed.Goals as goal
 
@@ -9,7 +9,7 @@ more a b t m is = omega arith
 
 pub loop-i-preserved : goal.loop-i-preserved
 loop-i-preserved c = let xs = c.args.self.now.peers.items in let i = c.loop-i.i in
-    let f : Peer → ℕ = λ p. p.unpassed in let e = c.index.result.now in
+    let f : Tally → ℕ = λ p. p.unpassed in let e = c.index.result.now in
     let long = c.len-i-end.ensures in let test = c.loop-i-test.true in
     let s = sum_by_more f xs i e (omega arith) in
     let at = ap f c.index.ensures in

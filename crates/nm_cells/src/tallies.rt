@@ -1,14 +1,66 @@
-//! How a port's counts change.
+//! What a port counts of each rank, and how that changes.
 
-ghost use Rattle.std.specs.Prelude.{◌≡◌, ◌<◌, ◌^◌, length};
+ghost use Rattle.std.specs.Prelude.{◌≡◌, ◌<◌, ◌^◌, false, length};
 ghost use Rattle.nm_cells.specs.Counted.{peer_in, with_peer, one_sent, one_arrived, one_boxed};
-ghost use Rattle.nm_cells.specs.Counted.{one_opened, one_begun, one_unboxed, one_full, one_miss, one_passed};
+ghost use Rattle.nm_cells.specs.Counted.{one_opened, one_begun, one_unboxed, one_full, one_miss};
+ghost use Rattle.nm_cells.specs.Counted.{one_passed};
 
-use crate::peers::Peer;
 use nm_table::one_more;
 
+/// What a port counts of one rank, which may be its own.
+#[derive(Clone, Copy)]
+pub struct Tally {
+    /// The packets that were sent to it: the number of the next one.
+    pub sent: u64,
+    /// The packets of it that were passed on: the number of the next one.
+    pub taken: u64,
+    /// Of those that were sent to it, the ones that went by box.
+    pub box_put: u64,
+    /// Of those that came from it, the ones that came by box.
+    pub box_got: u64,
+    /// Whether its next box was found free and isn't filled since.
+    pub filling: bool,
+    /// Whether a packet was found in its next box and isn't taken since.
+    pub emptying: bool,
+    /// Those that came from it by cell and weren't passed on.
+    pub unpassed: u64,
+    /// How often the next box for it was found full.
+    pub box_full: u64,
+    /// How often the next box of it didn't have the awaited number.
+    pub box_miss: u64,
+}
+
+impl Tally {
+    /// Nothing was sent and nothing came.
+    pub(crate) fn new() -> Tally
+        ensures { result ≡ record {
+          sent = 0;
+          taken = 0;
+          box_put = 0;
+          box_got = 0;
+          filling = false;
+          emptying = false;
+          unpassed = 0;
+          box_full = 0;
+          box_miss = 0;
+        } }
+    {
+        Tally {
+            sent: 0,
+            taken: 0,
+            box_put: 0,
+            box_got: 0,
+            filling: false,
+            emptying: false,
+            unpassed: 0,
+            box_full: 0,
+            box_miss: 0,
+        }
+    }
+}
+
 /// One more packet was sent to a rank by cell.
-pub(crate) fn count_sent(peers: &mut Vec<Peer>, to: usize)
+pub(crate) fn count_sent(peers: &mut Vec<Tally>, to: usize)
     requires to { to < length peers.old.items }
     requires room { (peer_in peers.old.items to).sent < 2 ^ 60 }
     ensures { peers.new.items ≡ with_peer one_sent to peers.old.items }
@@ -17,7 +69,7 @@ pub(crate) fn count_sent(peers: &mut Vec<Peer>, to: usize)
 }
 
 /// One more packet of a rank came by cell.
-pub(crate) fn count_arrived(peers: &mut Vec<Peer>, sender: usize)
+pub(crate) fn count_arrived(peers: &mut Vec<Tally>, sender: usize)
     requires sender { sender < length peers.old.items }
     requires room { (peer_in peers.old.items sender).unpassed < 2 ^ 61 }
     ensures { peers.new.items ≡ with_peer one_arrived sender peers.old.items }
@@ -26,7 +78,7 @@ pub(crate) fn count_arrived(peers: &mut Vec<Peer>, sender: usize)
 }
 
 /// One more packet was sent to a rank by box.
-pub(crate) fn count_boxed(peers: &mut Vec<Peer>, to: usize)
+pub(crate) fn count_boxed(peers: &mut Vec<Tally>, to: usize)
     requires to { to < length peers.old.items }
     requires room { (peer_in peers.old.items to).sent < 2 ^ 60 }
     requires box_room { (peer_in peers.old.items to).box_put < 2 ^ 61 }
@@ -39,7 +91,7 @@ pub(crate) fn count_boxed(peers: &mut Vec<Peer>, to: usize)
 }
 
 /// One more packet of a rank came by box, and was passed on.
-pub(crate) fn count_unboxed(peers: &mut Vec<Peer>, sender: usize)
+pub(crate) fn count_unboxed(peers: &mut Vec<Tally>, sender: usize)
     requires sender { sender < length peers.old.items }
     requires room { (peer_in peers.old.items sender).taken < 2 ^ 60 }
     requires box_room { (peer_in peers.old.items sender).box_got < 2 ^ 61 }
@@ -52,7 +104,7 @@ pub(crate) fn count_unboxed(peers: &mut Vec<Peer>, sender: usize)
 }
 
 /// The next box for a rank is being filled.
-pub(crate) fn note_filling(peers: &mut Vec<Peer>, to: usize)
+pub(crate) fn note_filling(peers: &mut Vec<Tally>, to: usize)
     requires to { to < length peers.old.items }
     ensures { peers.new.items ≡ with_peer one_opened to peers.old.items }
 {
@@ -60,7 +112,7 @@ pub(crate) fn note_filling(peers: &mut Vec<Peer>, to: usize)
 }
 
 /// The next box of a rank is being emptied.
-pub(crate) fn note_emptying(peers: &mut Vec<Peer>, sender: usize)
+pub(crate) fn note_emptying(peers: &mut Vec<Tally>, sender: usize)
     requires sender { sender < length peers.old.items }
     ensures { peers.new.items ≡ with_peer one_begun sender peers.old.items }
 {
@@ -68,7 +120,7 @@ pub(crate) fn note_emptying(peers: &mut Vec<Peer>, sender: usize)
 }
 
 /// The next box for a rank was found full.
-pub(crate) fn count_full(peers: &mut Vec<Peer>, to: usize)
+pub(crate) fn count_full(peers: &mut Vec<Tally>, to: usize)
     requires to { to < length peers.old.items }
     ensures { peers.new.items ≡ with_peer one_full to peers.old.items }
 {
@@ -77,7 +129,7 @@ pub(crate) fn count_full(peers: &mut Vec<Peer>, to: usize)
 }
 
 /// The next box of a rank didn't have the awaited number.
-pub(crate) fn count_miss(peers: &mut Vec<Peer>, sender: usize)
+pub(crate) fn count_miss(peers: &mut Vec<Tally>, sender: usize)
     requires sender { sender < length peers.old.items }
     ensures { peers.new.items ≡ with_peer one_miss sender peers.old.items }
 {
@@ -86,7 +138,7 @@ pub(crate) fn count_miss(peers: &mut Vec<Peer>, sender: usize)
 }
 
 /// A packet of a rank that came by cell was passed on.
-pub(crate) fn count_passed(peers: &mut Vec<Peer>, sender: usize)
+pub(crate) fn count_passed(peers: &mut Vec<Tally>, sender: usize)
     requires sender { sender < length peers.old.items }
     requires room { (peer_in peers.old.items sender).taken < 2 ^ 60 }
     requires some { 0 < (peer_in peers.old.items sender).unpassed }
