@@ -1,6 +1,6 @@
 -- What the tables answer: whether a piece is due, and what became of a receive.
 use Rattle.std.specs.Prelude.{IsSome, IfSome}
-use Rattle.std.proofs.Common.{◌≡◌, ℕ, ◌<◌, ◌≤◌, Bool, false, ◌||◌, is_some, nat_lt, Option, Some, None, List, [], ◌∷◌}
+use Rattle.std.proofs.Common.{◌≡◌, ℕ, ◌<◌, ◌≤◌, Bool, false, ◌||◌, is_some, nat_lt, Option, Some, None, List}
 use Rattle.std.proofs.Common.{length, refl, sym, ◌∙◌, ap}
 use Rattle.std.proofs.Common.{◌⊎◌, inl, inr}
 use Rattle.std.specs.List.{slice_get}

@@ -5,7 +5,7 @@ use Rattle.std.proofs.Common.{length, get_or, refl, sym, ◌∙◌, ap, subst, a
 use Rattle.std.specs.List.{All, slice_get}
 use Rattle.std.specs.Option.{option_map, option_to_list}
 use Rattle.std.proofs.Math.ListN.{set}
-use Rattle.std.proofs.lemmas.Bool.{false≢true}
+use Rattle.std.proofs.lemmas.Bool.{false_from_ne_true, false≢true}
 use Rattle.std.proofs.lemmas.List.{set-set, set_at}
 use Rattle.std.proofs.lemmas.List.Elements.{All-push, All-weaker}
 use Rattle.std.proofs.lemmas.Option.{slice_get_past}
@@ -13,6 +13,7 @@ use Rattle.nm_types.specs.declared.messages.Arrival.{Arrival}
 use Rattle.nm_types.specs.declared.messages.Post as post
 use Rattle.nm_history.specs.declared.events.Event.{Event}
 use Rattle.nm_history.specs.declared.events.Happened.TheVariants.{Arrive, Whole}
+use Rattle.nm_history.specs.declared.plain.Pair.{Pair}
 use Rattle.nm_history.specs.Completion.{is_taken}
 use Rattle.nm_history.specs.Matching.{first_receive, is_open as is_open_receive, matched_pairs, pair_of}
 use Rattle.nm_history.specs.Selection.{matches}
@@ -25,20 +26,21 @@ use Rattle.nm_eager.specs.Streams.{Stream, missing}
 use Rattle.nm_rndv.specs.Grants.{Granted, fresh, grant_in, is_open}
 use Rattle.nm_receiving.specs.declared.receipts.Receipt.{Receipt}
 use Rattle.nm_receiving.specs.declared.receipts.Receive.{Receive}
-use Rattle.nm_receiving.specs.Kept.{AreTables, HasBytes, IsCleared, IsKept}
+use Rattle.nm_receiving.specs.Kept.{AreGrantedFor, AreTables, HasBytes, IsCleared, IsKept}
 use Rattle.nm_receiving.specs.Receipts.{ReceivingView, granted_to, receipt_of, receipts_from, stream_of}
 use Rattle.nm_receiving.specs.Steps.{made_whole, rows_from, rows_with_whole, with_whole}
 use Rattle.nm_receiving.proofs.Coming.{HasCap, came, came_here, newcomer, stood-came, taken_by, with_newcomer}
 use Rattle.nm_receiving.proofs.Goings.{goes_on, like-push, names_of}
 use Rattle.nm_receiving.proofs.Grants.{Granted_now, grant_among, granted_cases}
-use Rattle.nm_receiving.proofs.Grow.{at, posts_still, taken_now}
+use Rattle.nm_receiving.proofs.Facts.{taken_pair}
+use Rattle.nm_receiving.proofs.Grow.{at, posts_still, taken_now, taken_other}
 use Rattle.nm_receiving.proofs.Lists.{row-same, slice_get-last}
 use Rattle.nm_receiving.proofs.Marking.{marked}
 use Rattle.nm_receiving.proofs.Stood.{Stood, stood_of}
-use Rattle.nm_receiving.proofs.TablesCome.{AreLonger, tables-came}
-use Rattle.nm_receiving.proofs.TablesMark.{MayMark, tables-marked}
+use Rattle.nm_receiving.proofs.TablesCome.{AreLonger, owed-came, tables-came}
+use Rattle.nm_receiving.proofs.TablesMark.{MayMark, owed-marked, tables-marked}
 use Rattle.nm_receiving.proofs.Taking.{IsAtOnce, IsNext, keeps-came, marked_if}
-use Rattle.nm_facts.proofs.Options.{some_and}
+use Rattle.nm_facts.proofs.Options.{mapped_none, mapped_some, some_and}
 
 -- the posted receive that takes a message is there
 pub receive_caps : (v : ReceivingView) (kept : IsKept v) (a : Arrival) (o : Option post.Post)
@@ -110,6 +112,32 @@ module _ (v : ReceivingView) (kept : IsKept v) (streams : List Stream) (a : Arri
   was_none : receipt_of v a.env.from a.n ≡ None
   was_none = slice_get_past (receipts_from v a.env.from) a.n (let n_is = next.next in omega (arith, n_is))
 
+  -- it was taken by no receive, and no other message is taken now
+  came_alone : taker ≡ None → is_taken h1 a.env.from a.n ≡ false
+  came_alone none =
+      taken_other h h1 (option_map (λ p. pair_of p a) o) grown1 a.env.from a.n
+      (λ q made. absurd (let none' = mapped_none (λ (p : post.Post). p.number) o none in
+      let of = mapped_some (λ (p : post.Post). pair_of p a) o q made in
+      let there = of.1 in let h' : ⊥ = cc in h'))
+      ∙ false_from_ne_true (is_taken h a.env.from a.n) (λ is.
+      let pair = taken_pair v.sizes.ranks h kept.right a.env.from a.n is in
+      let there = pair.2 in
+      let none' = sym (kept.received.messages a.env.from a.n)
+      ∙ ap (λ (r : Option Receipt). option_map (λ m. m.arrival) r) was_none in
+      let h' : ⊥ = cc in h')
+
+  came_others : (i k : ℕ) → (i ≡ a.env.from → k ≡ a.n → ⊥) → is_taken h1 i k ≡ is_taken h i k
+  came_others i k differ =
+      taken_other h h1 (option_map (λ p. pair_of p a) o) grown1 i k (λ q made from_is n_is.
+      let of = mapped_some (λ (p : post.Post). pair_of p a) o q made in
+      differ (sym from_is ∙ ap (λ (x : Pair). x.arrival.env.from) (sym of.2))
+      (sym n_is ∙ ap (λ (x : Pair). x.arrival.n) (sym of.2)))
+
+  owed1 : AreGrantedFor v1 h1
+  owed1 = owed-came v h h1 stood0 streams a taker kept.tables next.receipts next.grants next.next long
+      (names_of v h kept.received) (option_to_list (option_map (λ p. pair_of p a) o)) grown1 came_alone came_others
+      kept.owed
+
   others_shut : All (λ e. e.0 ≡ a.n → is_open e.1 ≡ false) (granted_to v a.env.from)
   others_shut = All-weaker (λ e. IsSomeAnd (receipt_of v a.env.from e.0) (IsCleared h a.env.from e))
       (λ e. e.0 ≡ a.n → is_open e.1 ≡ false)
@@ -162,7 +190,7 @@ module _ (v : ReceivingView) (kept : IsKept v) (streams : List Stream) (a : Arri
       goes_on v v1 kept (e ∷ []) refl
       (keeps-came v streams a o false next at_once (receive_caps v kept a o oldest) h kept.received kept.right oldest0
       (e ∷ []) refl)
-      (λ i k. refl) tables1
+      (λ i k. refl) tables1 owed1
   kept-came true at_once may =
       let x : Event = at 0 (Whole a.env.from a.n) in
       goes_on v (marked v1 a.env.from a.n) kept (e ∷ x ∷ []) refl
@@ -172,6 +200,9 @@ module _ (v : ReceivingView) (kept : IsKept v) (streams : List Stream) (a : Arri
       (subst (λ (k : List Event). AreTables (marked v1 a.env.from a.n) k) (append_assoc h (e ∷ []) (x ∷ []))
       (tables-marked v1 h1 (h1 ++ x ∷ []) stood1 a.env.from a.n (newcomer a) tables1 (like-push h1 x refl refl)
       (may refl)))
+      (subst (λ (k : List Event). AreGrantedFor (marked v1 a.env.from a.n) k) (append_assoc h (e ∷ []) (x ∷ []))
+      (owed-marked v1 h1 (h1 ++ x ∷ []) stood1 a.env.from a.n (newcomer a)
+      (came_here v h stood0 streams 0 a next.receipts next.next) (like-push h1 x refl refl) (λ i k _. owed1 i k)))
 
 -- the row of a message that came, and is whole if this is true
 pub row_came : (rows : List (List Receipt)) (a : Arrival) (b : Bool) → a.env.from < length rows →

@@ -138,4 +138,5 @@ module _ (v : ReceivingView) (empty : IsEmpty v) where
     right = tt;
     in_time = λ from n. refl;
     tables = tables-none;
+    owed = λ from n r is. never_receipt from n r is;
   }

@@ -7,7 +7,7 @@ use Rattle.std.specs.Cmp.{nat_eq_equiv}
 use Rattle.std.specs.List.{slice_get}
 use Rattle.std.specs.Option.{option_map_or, option_to_list}
 use Rattle.std.proofs.Math.ListN.{set}
-use Rattle.std.proofs.lemmas.Bool.{eqb-true}
+use Rattle.std.proofs.lemmas.Bool.{eqb-false, eqb-true}
 use Rattle.std.proofs.lemmas.List.{length-set}
 use Rattle.std.proofs.lemmas.Map.Entries.{lookup_from_place}
 use Rattle.std.proofs.lemmas.Option.{same_Some, slice_get-get_or}
@@ -42,8 +42,9 @@ use Rattle.nm_receiving.proofs.Goings.{goes_on, like-push, names_of}
 use Rattle.nm_receiving.proofs.Grow.{at}
 use Rattle.nm_receiving.proofs.Marking.{marked}
 use Rattle.nm_receiving.proofs.Stood.{stood_of}
-use Rattle.nm_receiving.proofs.TablesMark.{tables-marked}
-use Rattle.nm_receiving.proofs.TablesPiece.{IsExpected, expected_is, piece_may_mark, tables-piece}
+use Rattle.nm_receiving.proofs.TablesMark.{owed-marked, tables-marked}
+use Rattle.nm_receiving.proofs.TablesPiece.{IsExpected, expected_is, owed-others, owed-piece, piece_may_mark}
+use Rattle.nm_receiving.proofs.TablesPiece.{tables-piece}
 use Rattle.nm_receiving.proofs.Taking.{MayEnd, keeps-marked, marked_if}
 use Rattle.nm_facts.proofs.Options.{mapped_some as mapped}
 
@@ -146,6 +147,14 @@ module _ (v : ReceivingView) (kept : IsKept v) (gs : Granting) (p : Piece) (same
       let below = found.3.below in
       omega (arith, last, left, below, length-append found.1 p.bytes)
 
+  short : ends ≡ false → length (found.1 ++ p.bytes) < found.0.len
+  short part =
+      let some_left = eqb-false (length p.bytes) (due_in (grants_from gs p.from)) part in
+      let within : length p.bytes ≡ piece_size (due_in (grants_from gs p.from)) = fits.size in
+      let left : due_in (grants_from gs p.from) ≡ found.0.len - length found.1 = ap due_in row_is ∙ due_left in
+      let below = found.3.below in
+      omega (arith, some_left, within, left, below, length-append found.1 p.bytes)
+
   not_begun : (b : Bool) → (if b then joined.Begun else joined.More) ≡ joined.Whole → ⊥
   not_begun true is = let h : ⊥ = cc in h
   not_begun false is = let h : ⊥ = cc in h
@@ -188,9 +197,11 @@ module _ (v : ReceivingView) (kept : IsKept v) (gs : Granting) (p : Piece) (same
   pub kept-draw : IsKept drawn_view
   kept-draw = by ends refl
     where
+      drawn1 : List ℕ
+      drawn1 = set v.drawn p.from (drawn_from v p.from + 1)
+
       tables1 : AreTables piecing kept.history
-      tables1 = tables-piece v kept.history p.from p.n p.bytes (set v.drawn p.from (drawn_from v p.from + 1)) found.0
-          found.1 found.2 kept.tables inside found.3
+      tables1 = tables-piece v kept.history p.from p.n p.bytes drawn1 found.0 found.1 found.2 kept.tables inside found.3
           (names_of v kept.history kept.received) (length-set v.drawn p.from (drawn_from v p.from + 1))
 
       by : (b : Bool) → ends ≡ b → IsKept drawn_view
@@ -202,6 +213,8 @@ module _ (v : ReceivingView) (kept : IsKept v) (gs : Granting) (p : Piece) (same
             right = kept.right;
             in_time = kept.in_time;
             tables = tables1;
+            owed = owed-piece v kept.history p.from p.n p.bytes drawn1 found.0 found.1 found.2 kept.tables inside
+                found.3 kept.owed (short later);
           })
       by true last =
           let x : Event = at 0 (Whole p.from p.n) in
@@ -214,9 +227,13 @@ module _ (v : ReceivingView) (kept : IsKept v) (gs : Granting) (p : Piece) (same
           (tables-marked piecing kept.history (kept.history ++ x ∷ [])
           (stood_of piecing kept.history (received1 kept.history kept.received)) p.from p.n found.2
           tables1 (like-push kept.history x refl refl)
-          (piece_may_mark v kept.history p.from p.n p.bytes (set v.drawn p.from (drawn_from v p.from + 1)) found.0
-          found.1 found.2 kept.tables inside found.3
-          (names_of v kept.history kept.received) (full last))))
+          (piece_may_mark v kept.history p.from p.n p.bytes drawn1 found.0 found.1 found.2 kept.tables inside found.3
+          (names_of v kept.history kept.received) (full last)))
+          (owed-marked piecing kept.history (kept.history ++ x ∷ [])
+          (stood_of piecing kept.history (received1 kept.history kept.received)) p.from p.n found.2 found.3.here
+          (like-push kept.history x refl refl)
+          (owed-others v kept.history p.from p.n p.bytes drawn1 found.0 found.1 found.2 kept.tables inside found.3
+          kept.owed)))
 
   -- its bytes are added
   pub bytes-draw :

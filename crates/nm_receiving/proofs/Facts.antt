@@ -1,12 +1,13 @@
 -- What a right history says of its messages, and of what is empty.
-use Rattle.std.proofs.Common.{◌≡◌, ℕ, ◌<◌, ◌==◌, Bool, true, false, not, ◌&&◌, ◌||◌}
+use Rattle.std.specs.Prelude.{Contains}
+use Rattle.std.proofs.Common.{◌≡◌, ℕ, ◌<◌, ◌==◌, Bool, true, false, not, ◌&&◌, ◌||◌, inl, inr}
 use Rattle.std.proofs.Common.{Option, Some, None, List, [], ◌∷◌, ◌++◌, length, refl, sym, ◌∙◌, ap, subst}
 use Rattle.std.proofs.Common.{arith, append-nil, append_assoc}
 use Rattle.std.specs.List.{All, AllByRecursion, cons_option, find, list_any}
 use Rattle.std.specs.Option.{option_to_list}
 use Rattle.std.specs.Bool.{OnTrue}
 use Rattle.std.proofs.lemmas.Bool.{le-ltb, OnTrue_from, OnTrue_at}
-use Rattle.std.proofs.lemmas.List.Elements.{All-nil, All-push, All-weaker, recursion_from_All}
+use Rattle.std.proofs.lemmas.List.Elements.{All-contains, All-nil, All-push, All-weaker, recursion_from_All}
 use Rattle.nm_types.specs.declared.messages.Arrival.{Arrival}
 use Rattle.nm_types.specs.declared.messages.Peer.{Peer}
 use Rattle.nm_types.specs.declared.messages.TagPick.{TagPick}
@@ -17,12 +18,14 @@ use Rattle.nm_history.specs.declared.plain.Pair.{Pair}
 use Rattle.nm_history.specs.AtEach.{AtEach, AtEachAfter}
 use Rattle.nm_history.specs.Completion.{is_taken}
 use Rattle.nm_history.specs.Happens.{happened, is_arrival, is_claim, is_whole}
-use Rattle.nm_history.specs.Matching.{first_message, is_claimed, is_free, matched_pairs}
+use Rattle.nm_history.specs.Matching.{first_message, is_claimed, is_free, is_of_message, matched_pairs}
+use Rattle.nm_history.specs.Once.{IsOfReceive}
 use Rattle.nm_history.specs.RankRun.{Always, NumberAt, is_asking}
 use Rattle.nm_history.specs.Selection.{matches}
 use Rattle.nm_history.specs.Sends.{arrivals, arrival_of, is_ask, messages, message_of}
 use Rattle.nm_history.proofs.AtEachLemmas.{AtEach-push}
 use Rattle.nm_history.proofs.OnceLemmas.{find_among, messages-push, not_true}
+use Rattle.nm_history.proofs.SelectionLemmas.{find_contains, matched_pairs_of_receives}
 use Rattle.nm_protocol.specs.Rest.{EmptyAreHere}
 use Rattle.nm_protocol.specs.Rules.{AreRight}
 use Rattle.nm_protocol.proofs.Basic.{any_gives}
@@ -33,7 +36,7 @@ use Rattle.nm_match.proofs.QueueLemmas.{free_means}
 use Rattle.nm_receiving.specs.Receipts.{is_empty_ask}
 use Rattle.nm_receiving.proofs.Grow.{at, message_more, messages_still}
 use Rattle.nm_receiving.proofs.Lists.{any_from_found, find-still}
-use Rattle.nm_facts.proofs.Lists.{all_append, all_along, find_passes, find_nothing}
+use Rattle.nm_facts.proofs.Lists.{all_append, all_along, find_passes, find_nothing, find_some}
 use Rattle.nm_facts.proofs.Numbers.{same_number}
 use Rattle.nm_facts.proofs.Truth.{and_left, and_right}
 
@@ -106,6 +109,30 @@ message_sender ranks h from n a named is =
     let found = find_among (Is_named ranks h) (λ (a : Arrival). a.env.from == from && a.n == n)
     (messages h) a named is in found.1
 
+-- the pair that a taken message is in: its message is the one of its name
+pub taken_pair : (ranks : ℕ) (h : List Event) → AreRight ranks [] h → (from n : ℕ) → is_taken h from n ≡ true
+    → (pair : Pair) × Contains (matched_pairs h) pair × (message_of h from n ≡ Some pair.arrival)
+taken_pair ranks h right from n is =
+    let found = find_some (is_of_message from n) (matched_pairs h) is in
+    let pair : Pair = found.0 in
+    let among = find_contains (is_of_message from n) (matched_pairs h) pair found.1 in
+    let passes = find_passes (is_of_message from n) (matched_pairs h) pair found.1 in
+    let from_is = same_number pair.arrival.env.from from
+    (and_left (pair.arrival.env.from == from) (pair.arrival.n == n) passes) in
+    let n_is = same_number pair.arrival.n n
+    (and_right (pair.arrival.env.from == from) (pair.arrival.n == n) passes) in
+    let came = of (All-contains (IsOfReceive h) (matched_pairs h) pair (matched_pairs_of_receives h) among) in
+    let named = All-contains (Is_named ranks h) (messages h) pair.arrival (right_named ranks h right) came in (
+      pair,
+      among,
+      sym (ap (λ (i : ℕ). message_of h i pair.arrival.n) from_is ∙ ap (λ (j : ℕ). message_of h from j) n_is)
+          ∙ named.0,
+    )
+  where
+    of : {pair : Pair} → IsOfReceive h pair → Contains (messages h) pair.arrival
+    of (inl was) = was.came
+    of (inr was) = was.came
+
 -- what a receive takes: a message that came, of a rank of the run, and that no receive took
 pub record IsTakeable (ranks : ℕ) (h : List Event) (a : Arrival) : Type 0 where
   pub named : message_of h a.env.from a.n ≡ Some a
@@ -177,7 +204,7 @@ asking_is ranks h from n named is =
     (recursion_from_All (Is_named ranks h) (messages h) named))
 
 -- the message of the pair is here, if it is empty and was asked for
-abbrev Whole_in : List Event → Pair → Type 0
+abbrev pub Whole_in : List Event → Pair → Type 0
 Whole_in k pair = OnTrue (is_empty_ask pair.arrival) (happened (is_whole pair.arrival.env.from pair.arrival.n) k ≡ true)
 
 -- each empty message that was asked for is here, after the one that a new pair takes

@@ -1,25 +1,21 @@
--- The result of a receive, and how the tables go on when it is given.
-use Rattle.std.specs.Prelude.{IfSome, IsSomeAnd}
+-- How the tables go on when the result of a receive is given.
+use Rattle.std.specs.Prelude.{IsSomeAnd}
 use Rattle.std.proofs.Common.{◌≡◌, ◌≢◌, ℕ, ◌<◌, ◌≤◌, ◌==◌, Bool, true, false, not, ◌&&◌, cond, if◌then◌else◌, nat_eq}
-use Rattle.std.proofs.Common.{nat_lt, Option, Some, None, List, [], ◌∷◌}
-use Rattle.std.proofs.Common.{length, get_or, replicate, refl, sym, ◌∙◌, ap, subst, arith, ◌⊎◌, inl, inr}
+use Rattle.std.proofs.Common.{Option, Some, List, []}
+use Rattle.std.proofs.Common.{length, get_or, refl, sym, ◌∙◌, ap, subst, arith, ◌⊎◌, inl, inr}
 use Rattle.std.specs.List.{All, IsDistinct, slice_get}
 use Rattle.std.specs.Map.{keys_of, set_value}
-use Rattle.std.specs.Option.{option_and_then, option_map, option_map_or}
+use Rattle.std.specs.Option.{option_map_or}
 use Rattle.std.proofs.Math.ListN.{set}
 use Rattle.std.proofs.lemmas.Bool.{cases_eq, eq-eqb, true≢false}
 use Rattle.std.proofs.lemmas.List.{get_or-set_other, get_or-set_same, length-set, set-get_or}
 use Rattle.std.proofs.lemmas.Map.{keys-set_value}
 use Rattle.std.proofs.lemmas.Option.{same_Some, slice_get_within}
 use Rattle.nm_types.specs.Sizes.{Sizes}
-use Rattle.nm_types.specs.declared.answers.Answer.{Answer}
-use Rattle.nm_types.specs.declared.answers.Answer.TheVariants as answer
 use Rattle.nm_types.specs.declared.messages.Arrival.{Arrival}
 use Rattle.nm_history.specs.declared.events.Event.{Event}
 use Rattle.nm_history.specs.declared.plain.Pair.{Pair}
-use Rattle.nm_history.specs.Answers.{without_bytes as answer_without_bytes}
-use Rattle.nm_history.specs.Completion.{is_here, is_taken, pair_of_receive, result_of, shown}
-use Rattle.nm_history.specs.Completion.Request.{Receiving}
+use Rattle.nm_history.specs.Completion.{is_taken}
 use Rattle.nm_history.specs.Matching.{is_of_message}
 use Rattle.nm_history.specs.Sends.{is_ask}
 use Rattle.nm_eager.specs.Streams.{Incoming, Stream, message_of, missing, nothing_came, without}
@@ -29,114 +25,25 @@ use Rattle.nm_rndv.specs.Grants.{without_bytes}
 use Rattle.nm_rndv.proofs.StateLemmas.{equal}
 use Rattle.nm_receiving.specs.declared.receipts.Receipt.{Receipt}
 use Rattle.nm_receiving.specs.declared.receipts.Receive.{Receive}
-use Rattle.nm_receiving.specs.Kept.{AreTables, HasBytes, IsCleared, IsGranted, IsJoined, IsKept}
-use Rattle.nm_receiving.specs.Receipts.{ReceivingView, SameOtherBytes, ShowsBytes, bytes_of, came_of}
-use Rattle.nm_receiving.specs.Receipts.{granted_to, pair_at, pair_with, receipt_of, stream_of}
+use Rattle.nm_receiving.specs.Kept.{AreGrantedFor, AreTables, HasBytes, IsCleared, IsGranted, IsJoined, IsKept}
+use Rattle.nm_receiving.specs.Receipts.{ReceivingView, SameOtherBytes, came_of}
+use Rattle.nm_receiving.specs.Receipts.{granted_to, pair_at, receipt_of, stream_of}
 use Rattle.nm_receiving.specs.Received.{AreReceived}
 use Rattle.nm_receiving.specs.Steps.{IsThere, has_ended, with_ended}
 use Rattle.nm_receiving.proofs.CameLemmas.{came-same, granted_bytes, joined_bytes}
 use Rattle.nm_receiving.proofs.Changing.{keeps-ended, keeps-taken}
-use Rattle.nm_receiving.proofs.Dues.{pair}
 use Rattle.nm_receiving.proofs.Goings.{names_of}
 use Rattle.nm_receiving.proofs.Grants.{all_set, grant_among, grant_set}
 use Rattle.nm_receiving.proofs.Lists.{row-other, row-same, row_inside}
 use Rattle.nm_receiving.proofs.Lists.{some_from}
-use Rattle.nm_receiving.proofs.Stood.{is_cancelled_at, is_whole_at}
+use Rattle.nm_receiving.proofs.Showing.{pair_here}
 use Rattle.nm_receiving.proofs.Tables.{took}
-use Rattle.nm_receiving.proofs.TablesRest.{later_set, tables-receives, tables-removed}
+use Rattle.nm_receiving.proofs.TablesRest.{AreRemoved, later_set, like_itself, owed-removed, owed-still}
+use Rattle.nm_receiving.proofs.TablesRest.{tables-receives, tables-removed}
 use Rattle.nm_receiving.proofs.Taking.{streams_apart}
 use Rattle.nm_facts.proofs.Numbers.{unequal, eq_true, nat_unequal as differs}
 use Rattle.nm_facts.proofs.Lists.{get_set_other, find_agree, get_set_same}
 use Rattle.nm_facts.proofs.Options.{some_and}
-
--- the result by the tables
-pub result_by : (v : ReceivingView) (h : List Event) → AreReceived v h → (number : ℕ) (r : Receive) →
-    slice_get v.receives number ≡ Some r
-    → result_of h (Receiving number)
-    ≡ cond r.cancelled (Some answer.Cancelled)
-    (option_and_then (λ a. cond (is_whole_at (receipt_of v a.env.from a.n)) (Some (shown (pair number r.cap a))) None)
-    r.taken)
-result_by v h received number r here =
-    ap (λ (b : Bool). cond b (Some answer.Cancelled) (after (pair_of_receive h number)))
-    (sym (received.cancelled number) ∙ ap is_cancelled_at here)
-    ∙ ap (λ (o : Option Pair). cond r.cancelled (Some answer.Cancelled) (after o))
-    (sym (received.pairs number) ∙ ap (λ (o : Option Receive). option_and_then (pair_with number) o) here)
-    ∙ ap (λ (o : Option Answer). cond r.cancelled (Some answer.Cancelled) o) (by r.taken)
-  where
-    after : Option Pair → Option Answer
-    after o = option_and_then (λ q. cond (is_here h q) (Some (shown q)) None) o
-
-    by : (o : Option Arrival) → option_and_then (λ q. cond (is_here h q) (Some (shown q)) None)
-        (option_map (pair number r.cap) o)
-        ≡ option_and_then (λ a. cond (is_whole_at (receipt_of v a.env.from a.n)) (Some (shown (pair number r.cap a)))
-        None) o
-    by None = refl
-    by (Some a) = ap (λ (b : Bool). cond b (Some (shown (pair number r.cap a))) None)
-        (sym (received.whole a.env.from a.n))
-
-pub result_cancelled : (v : ReceivingView) (h : List Event) → AreReceived v h → (number : ℕ) (r : Receive) →
-    slice_get v.receives number ≡ Some r
-    → r.cancelled ≡ true → result_of h (Receiving number) ≡ Some answer.Cancelled
-result_cancelled v h received number r here is =
-    result_by v h received number r here
-    ∙ ap (λ (b : Bool). cond b (Some answer.Cancelled)
-    (option_and_then (λ a. cond (is_whole_at (receipt_of v a.env.from a.n)) (Some (shown (pair number r.cap a))) None)
-    r.taken)) is
-
-pub result_untaken : (v : ReceivingView) (h : List Event) → AreReceived v h → (number : ℕ) (r : Receive) →
-    slice_get v.receives number ≡ Some r
-    → r.cancelled ≡ false → r.taken ≡ None → result_of h (Receiving number) ≡ None
-result_untaken v h received number r here is none =
-    result_by v h received number r here
-    ∙ ap (λ (b : Bool). cond b (Some answer.Cancelled)
-    (option_and_then (λ a. cond (is_whole_at (receipt_of v a.env.from a.n)) (Some (shown (pair number r.cap a))) None)
-    r.taken)) is
-    ∙ ap (λ (o : Option Arrival). option_and_then
-    (λ a. cond (is_whole_at (receipt_of v a.env.from a.n)) (Some (shown (pair number r.cap a))) None) o) none
-
-pub result_taken : (v : ReceivingView) (h : List Event) → AreReceived v h → (number : ℕ) (r : Receive) →
-    slice_get v.receives number ≡ Some r
-    → r.cancelled ≡ false → (a : Arrival) → r.taken ≡ Some a → (m : Receipt) → receipt_of v a.env.from a.n ≡ Some m
-    → result_of h (Receiving number) ≡ cond m.whole (Some (shown (pair number r.cap a))) None
-result_taken v h received number r here is a some m there =
-    result_by v h received number r here
-    ∙ ap (λ (b : Bool). cond b (Some answer.Cancelled)
-    (option_and_then (λ a. cond (is_whole_at (receipt_of v a.env.from a.n)) (Some (shown (pair number r.cap a))) None)
-    r.taken)) is
-    ∙ ap (λ (o : Option Arrival). option_and_then
-    (λ a. cond (is_whole_at (receipt_of v a.env.from a.n)) (Some (shown (pair number r.cap a))) None) o) some
-    ∙ ap (λ (o : Option Receipt). cond (is_whole_at o) (Some (shown (pair number r.cap a))) None) there
-
--- what is shown of a message
-abbrev pub answer_of_bytes : Arrival → ℕ → List ℕ → Answer
-answer_of_bytes a cap body =
-    if nat_lt cap a.env.len then answer.Cut a.env.from a.env.tag a.env.len else answer.Got a.env.from a.env.tag body
-
-pub shown_is : (number cap : ℕ) (a : Arrival) (body : List ℕ) → length body ≡ a.env.len
-    → answer_without_bytes (answer_of_bytes a cap body) ≡ shown (pair number cap a)
-shown_is number cap a body len = by (nat_lt cap a.env.len) refl
-  where
-    by : (b : Bool) → nat_lt cap a.env.len ≡ b → answer_without_bytes (answer_of_bytes a cap body) ≡ shown
-        (pair number cap a)
-    by true is = rw is refl
-    by false is = rw is (ap (λ (k : ℕ). answer.Got a.env.from a.env.tag (replicate k 0)) len)
-
-pub pair_here : (v : ReceivingView) (number : ℕ) (r : Receive) → slice_get v.receives number ≡ Some r
-    → (a : Arrival) → r.taken ≡ Some a → pair_at v number ≡ Some (pair number r.cap a)
-pair_here v number r here a some =
-    ap (λ (o : Option Receive). option_and_then (pair_with number) o) here
-    ∙ ap (λ (o : Option Arrival). option_map (pair number r.cap) o) some
-
-pub shows_bytes : (v : ReceivingView) (number : ℕ) (r : Receive) → slice_get v.receives number ≡ Some r →
-    (a : Arrival) → r.taken ≡ Some a
-    → (cap : ℕ) (body : List ℕ) → bytes_of v a ≡ Some body → ShowsBytes v number (answer_of_bytes a cap body)
-shows_bytes v number r here a some cap body bytes = by (nat_lt cap a.env.len)
-  where
-    by : (b : Bool) → ShowsBytes v number
-        (if b then answer.Cut a.env.from a.env.tag a.env.len else answer.Got a.env.from a.env.tag body)
-    by true = tt
-    by false = subst (λ (o : Option Pair). IfSome o (λ q. bytes_of v q.arrival ≡ Some body))
-        (sym (pair_here v number r here a some)) bytes
 
 -- a receive that ended
 pub ended_is : (rs : List Receive) (number : ℕ) (r : Receive) → slice_get rs number ≡ Some r →
@@ -163,6 +70,7 @@ kept-ended v kept number r here = record {
   right = kept.right;
   in_time = kept.in_time;
   tables = tables-ended v kept.history number r here kept.tables;
+  owed = owed-still v (ended_view v number r) kept.history kept.history refl refl (like_itself kept.history) kept.owed;
 }
 
 -- the bytes of a whole message are there
@@ -264,6 +172,9 @@ module _ (v : ReceivingView) (kept : IsKept v) (number : ℕ) (r : Receive)
   tables1 : AreTables v1 h
   tables1 = tables-ended v h number r here kept.tables
 
+  owed1 : AreGrantedFor v1 h
+  owed1 = owed-still v v1 h h refl refl (like_itself h) kept.owed
+
   -- a message that was sent by asking
   module _ (asked : is_ask a.env.how ≡ true) (inside : from < length v.grants) where
     granted : (g : Granted) × (grant_in row a.n ≡ Some g)
@@ -336,23 +247,26 @@ module _ (v : ReceivingView) (kept : IsKept v) (number : ℕ) (r : Receive)
         keeps-ended (record v { grants = grants1 }) number r here k
         (keeps-taken v from a.n inside (whole_there row a (t.granted asked)) k received)
 
+    removed-asked : AreRemoved v1 h v.streams grants1 from a.n
+    removed-asked = record {
+      streams' = refl;
+      grants' = length-set v.grants from (taken_in row a.n);
+      counts = λ _. refl;
+      missed = λ _. refl;
+      joined = λ _ _ _. refl;
+      granted = still_granted;
+      cleared = still_cleared;
+      once = still_once;
+    }
+
     kept-asked : IsKept (record v1 { grants = grants1 })
     kept-asked = record {
       history = h;
       received = received-asked h kept.received;
       right = kept.right;
       in_time = kept.in_time;
-      tables = tables-removed v1 h v.streams grants1 from a.n tables1
-          (record {
-            streams' = refl;
-            grants' = length-set v.grants from (taken_in row a.n);
-            counts = λ _. refl;
-            missed = λ _. refl;
-            joined = λ _ _ _. refl;
-            granted = still_granted;
-            cleared = still_cleared;
-            once = still_once;
-          }) is_done others names1;
+      tables = tables-removed v1 h v.streams grants1 from a.n tables1 removed-asked is_done others names1;
+      owed = owed-removed v1 h v.streams grants1 from a.n m removed-asked came whole owed1;
     }
 
   -- an eager message
@@ -394,23 +308,26 @@ module _ (v : ReceivingView) (kept : IsKept v) (number : ℕ) (r : Receive)
     received-eager : (k : List Event) → AreReceived v k → AreReceived (record v1 { streams = streams1 }) k
     received-eager k received = streams_apart v1 streams1 k (keeps-ended v number r here k received)
 
+    removed-eager : AreRemoved v1 h streams1 v.grants from a.n
+    removed-eager = record {
+      streams' = length-set v.streams from (without s a.n);
+      grants' = refl;
+      counts = λ i. let x = same_numbers i in x.0;
+      missed = λ i. let x = same_numbers i in x.1;
+      joined = still_joined;
+      granted = λ _ _ _. refl;
+      cleared = kept.tables.cleared;
+      once = kept.tables.once;
+    }
+
     kept-eager : IsKept (record v1 { streams = streams1 })
     kept-eager = record {
       history = h;
       received = received-eager h kept.received;
       right = kept.right;
       in_time = kept.in_time;
-      tables = tables-removed v1 h streams1 v.grants from a.n tables1
-          (record {
-            streams' = length-set v.streams from (without s a.n);
-            grants' = refl;
-            counts = λ i. let x = same_numbers i in x.0;
-            missed = λ i. let x = same_numbers i in x.1;
-            joined = still_joined;
-            granted = λ _ _ _. refl;
-            cleared = kept.tables.cleared;
-            once = kept.tables.once;
-          }) is_done others names1;
+      tables = tables-removed v1 h streams1 v.grants from a.n tables1 removed-eager is_done others names1;
+      owed = owed-removed v1 h streams1 v.grants from a.n m removed-eager came whole owed1;
     }
 
   abbrev kept_stream : Stream

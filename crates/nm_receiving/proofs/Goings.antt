@@ -31,7 +31,7 @@ use Rattle.nm_match.proofs.StandsLemmas.{first_message-stands, is_free_message-s
 use Rattle.nm_match.proofs.StandsLemmas.{is_known_receive-stands}
 use Rattle.nm_receiving.specs.declared.receipts.Receipt.{Receipt}
 use Rattle.nm_receiving.specs.declared.receipts.Receive.{Receive}
-use Rattle.nm_receiving.specs.Kept.{AreTables, IsKept}
+use Rattle.nm_receiving.specs.Kept.{AreGrantedFor, AreTables, IsKept}
 use Rattle.nm_receiving.specs.Receipts.{ReceivingView, receipt_of, receipts_from}
 use Rattle.nm_receiving.specs.Received.{AreReceived, Keeps}
 use Rattle.nm_receiving.proofs.Cancelling.{has_cancelled}
@@ -44,7 +44,7 @@ use Rattle.nm_receiving.proofs.Stood.{with_deeds}
 use Rattle.nm_receiving.proofs.TablesMark.{IsLike}
 use Rattle.nm_facts.proofs.Lists.{find_passes}
 use Rattle.nm_facts.proofs.Truth.{and_right}
-use Rattle.nm_receiving.proofs.TablesRest.{later_same, later_set, tables-receives}
+use Rattle.nm_receiving.proofs.TablesRest.{later_same, later_set, owed-still, tables-receives}
 
 -- a receipt stands at the name of its message
 pub names_of : (v : ReceivingView) (h : List Event) → AreReceived v h → (i k : ℕ) (s : Receipt) →
@@ -57,9 +57,9 @@ names_of v h received i k s is =
 -- the tables afterwards, by the longer history
 pub goes_on : (v v' : ReceivingView) (kept : IsKept v) (events : List Event) → v'.sizes ≡ v.sizes
     → AreReceived v' (kept.history ++ events) × AreRight v.sizes.ranks kept.history events
-    → ((from n : ℕ) → happened (is_withdraw from n false) events ≡ false) → AreTables v' (kept.history ++ events) →
-    IsKept v'
-goes_on v v' kept events same keeps in_time tables = record {
+    → ((from n : ℕ) → happened (is_withdraw from n false) events ≡ false) → AreTables v' (kept.history ++ events)
+    → AreGrantedFor v' (kept.history ++ events) → IsKept v'
+goes_on v v' kept events same keeps in_time tables owed = record {
   history = kept.history ++ events;
   received = keeps.0;
   right = subst (λ s. AreRight s.ranks [] (kept.history ++ events)) (sym same)
@@ -68,6 +68,7 @@ goes_on v v' kept events same keeps in_time tables = record {
       ∙ or_from (happened (is_withdraw from n false) kept.history) (happened (is_withdraw from n false) events)
       (kept.in_time from n) (in_time from n);
   tables = tables;
+  owed = owed;
 }
 
 -- one event that makes no pair and posts nothing
@@ -85,6 +86,8 @@ kept-claim v kept from n deeds done free =
     (keeps-claim v from n 0 deeds done free kept.history (e ∷ []) refl kept.received kept.right) (λ i k. refl)
     (tables-receives v kept.history (kept.history ++ e ∷ []) deeds v.receives kept.tables
     (like-push kept.history e refl refl) (later_same v.receives))
+    (owed-still v (with_deeds v deeds) kept.history (kept.history ++ e ∷ []) refl refl
+    (like-push kept.history e refl refl) kept.owed)
 
 -- the message that a probe shows is free
 first_free : (v : ReceivingView) (from : Peer) (tag : TagPick) (ctx : ℕ) (a : Arrival)
@@ -131,11 +134,13 @@ pub kept-cancelled : (v : ReceivingView) → IsKept v → (number : ℕ) (r : Re
     → IsKept (record v { deeds = deeds; receives = set v.receives number (has_cancelled r) })
 kept-cancelled v kept number r here deeds done late =
     let e : Event = at 0 (Cancel number true) in
-    goes_on v (record v { deeds = deeds; receives = set v.receives number (has_cancelled r) }) kept (e ∷ []) refl
+    let v' : ReceivingView = record v { deeds = deeds; receives = set v.receives number (has_cancelled r) } in
+    goes_on v v' kept (e ∷ []) refl
     (keeps-cancelled v number r here deeds done late kept.history (e ∷ []) refl kept.received kept.right) (λ i k. refl)
     (tables-receives v kept.history (kept.history ++ e ∷ []) deeds (set v.receives number (has_cancelled r)) kept.tables
     (like-push kept.history e refl refl)
     (later_set v.receives number r (has_cancelled r) here (record { taken = refl; ended = λ live. live }) refl))
+    (owed-still v v' kept.history (kept.history ++ e ∷ []) refl refl (like-push kept.history e refl refl) kept.owed)
 
 -- a withdrawal in time
 pub kept-withdrawn : (v : ReceivingView) → IsKept v → (from n : ℕ) → n < length (receipts_from v from)
@@ -151,7 +156,8 @@ kept-withdrawn v kept from n below free =
     let here : receipt_of v from n ≡ Some r = slice_get-get_or (receipts_from v from) n (no_receipt from) below in
     let there : message_of h from n ≡ Some r.arrival =
     sym (kept.received.messages from n) ∙ ap (λ (o : Option Receipt). option_map (λ m. m.arrival) o) here in
-    goes_on v (with_deeds v (v.deeds ++ deed.Withdraw from n ∷ [])) kept (e ∷ []) refl (
+    let v' : ReceivingView = with_deeds v (v.deeds ++ deed.Withdraw from n ∷ []) in
+    goes_on v v' kept (e ∷ []) refl (
       keeps-deeds v (Withdraw from n true) (v.deeds ++ deed.Withdraw from n ∷ []) refl refl refl refl (λ _ _. refl)
           (λ _. refl)
           h (e ∷ []) refl kept.received,
@@ -167,6 +173,7 @@ kept-withdrawn v kept from n below free =
     (λ i k. late (from == i) (n == k))
     (tables-receives v h (h ++ e ∷ []) (v.deeds ++ deed.Withdraw from n ∷ []) v.receives kept.tables
     (like-push h e refl refl) (later_same v.receives))
+    (owed-still v v' h (h ++ e ∷ []) refl refl (like-push h e refl refl) kept.owed)
   where
     no_receipt : ℕ → Receipt
     no_receipt from = newcomer (record { n = 0; env = record { from = from; tag = 0; ctx = 0; len = 0; how = Eager } })

@@ -1,12 +1,12 @@
 -- The grants of a sender: one more, and one that changes.
-use Rattle.std.proofs.Common.{◌≡◌, ◌≢◌, ℕ, ◌<◌, Bool, true, false, cond, is_some, nat_eq, Option, Some, None, List}
+use Rattle.std.proofs.Common.{◌≡◌, ℕ, ◌<◌, Bool, true, false, cond, is_some, nat_eq, Option, Some, None, List}
 use Rattle.std.proofs.Common.{[], ◌∷◌, ◌++◌}
 use Rattle.std.proofs.Common.{length, get_or, refl, sym, ◌∙◌, ap, subst, ◌⊎◌, inl, inr}
 use Rattle.std.specs.Cmp.{nat_eq_equiv}
 use Rattle.std.specs.List.{All, IsDistinct}
 use Rattle.std.specs.Map.{keys_of, set_value}
 use Rattle.std.proofs.Math.ListN.{set}
-use Rattle.std.proofs.lemmas.Bool.{cases_eq, cases_Bool}
+use Rattle.std.proofs.lemmas.Bool.{cases_eq, cases_Bool, lt-ltb}
 use Rattle.std.proofs.lemmas.Bool.Decides.{nat_tests}
 use Rattle.std.proofs.Common.{arith}
 use Rattle.std.proofs.lemmas.List.{length-set, map-append}
@@ -18,10 +18,12 @@ use Rattle.std.proofs.lemmas.Map.Made.{is_some-lookup}
 use Rattle.std.proofs.lemmas.Option.{get_or_from_slice_get, slice_get_within}
 use Rattle.nm_types.specs.declared.messages.Arrival.{Arrival}
 use Rattle.nm_history.specs.Sends.{is_ask}
-use Rattle.nm_rndv.specs.Grants.{Granted, fresh, grant_in}
+use Rattle.nm_rndv.specs.Grants.{Granted, fresh, grant_in, is_open}
 use Rattle.nm_rndv.proofs.StateLemmas.{equal}
+use Rattle.nm_receiving.specs.Kept.{HasOpen}
 use Rattle.nm_receiving.specs.Steps.{grants_after, grants_with}
-use Rattle.nm_receiving.proofs.Lists.{row-other, row-same}
+use Rattle.nm_receiving.proofs.Lists.{row-other, row-same, some_from}
+use Rattle.nm_facts.proofs.Options.{some_and}
 
 abbrev Row : Type 0
 Row = List (ℕ × Granted)
@@ -89,6 +91,18 @@ all_set P test (e ∷ row) w new all = by (test e.0) refl (all_set P test row w 
     by true is later = rw is (All-cons P (e.0, w) row (new e.0 is) (All-tail P e row all))
     by false is later = rw is (All-cons P e (set_value test row w) (All-head P e row all)
         (later (All-tail P e row all)))
+
+-- an open grant that still stands
+pub open_still : (row row' : Row) (n : ℕ) → ((g : Granted) → grant_in row n ≡ Some g → grant_in row' n ≡ Some g)
+    → HasOpen row n → HasOpen row' n
+open_still row row' n still was =
+    let g = some_and (λ (g : Granted). is_open g ≡ true) (grant_in row n) was in
+    some_from (λ (g : Granted). is_open g ≡ true) (grant_in row' n) g.0 (still g.0 g.1) g.2
+
+-- a new grant of a message with a body is open
+pub open_new : (row : Row) (n len : ℕ) → grant_in row n ≡ Some (fresh len) → 0 < len → HasOpen row n
+open_new row n len there body =
+    some_from (λ (g : Granted). is_open g ≡ true) (grant_in row n) (fresh len) there (lt-ltb 0 len body)
 
 -- the grants after a receive took a message, if it took one
 pub granted_new : (grants : List Row) (a : Arrival) → is_ask a.env.how ≡ true → a.env.from < length grants →

@@ -1,10 +1,12 @@
 -- What the definitions say of a history with one event more.
 use Rattle.std.proofs.Common.{◌≡◌, ◌≢◌, ℕ, ◌+◌, ◌==◌, Bool, true, false, ◌&&◌, ◌||◌, cond}
-use Rattle.std.proofs.Common.{Option, Some, None, List, [], ◌∷◌, ◌++◌, length, refl, sym, ◌∙◌, ap, ◌⊎◌, inl, inr}
+use Rattle.std.proofs.Common.{Option, Some, None, List, [], ◌∷◌, ◌++◌, length, refl, sym, ◌∙◌, ap, subst, ◌⊎◌}
+use Rattle.std.proofs.Common.{inl, inr}
 use Rattle.std.proofs.Common.{arith, length-append, append-nil}
 use Rattle.std.specs.List.{find, filter, list_any, cons_option}
 use Rattle.std.specs.Option.{option_to_list}
-use Rattle.std.proofs.lemmas.Bool.{cases_eq}
+use Rattle.std.proofs.lemmas.Bool.{cases_eq, true≢false}
+use Rattle.std.proofs.lemmas.Option.{same_Some}
 use Rattle.nm_protocol.proofs.Basic.{or_false, or_true}
 use Rattle.nm_protocol.proofs.Sent.{happened-append}
 use Rattle.std.proofs.lemmas.List.Elements.{filter-append}
@@ -165,6 +167,28 @@ taken_other h h' o grown from n other =
     by None other = refl
     by (Some pair) other = ap (λ (b : Bool). is_taken h from n || (b || false))
         (not_this pair.arrival from n (other pair refl))
+
+-- a message that is taken now and was not before: the new pair took it
+pub newly_taken : (h h' : List Event) (o : Option Pair) → matched_pairs h' ≡ matched_pairs h ++ option_to_list o
+    → (from n : ℕ) → is_taken h from n ≡ false → is_taken h' from n ≡ true
+    → (pair : Pair) × (o ≡ Some pair) × (pair.arrival.env.from ≡ from) × (pair.arrival.n ≡ n)
+newly_taken h h' None grown from n not_yet now = absurd (true≢false (sym now
+    ∙ taken_other h h' None grown from n (λ pair is. absurd (let h' : ⊥ = cc in h')) ∙ not_yet))
+newly_taken h h' (Some pair) grown from n not_yet now = by (cases_eq pair.arrival.env.from from)
+    (cases_eq pair.arrival.n n)
+  where
+    other : (pair.arrival.env.from ≡ from → pair.arrival.n ≡ n → ⊥) → ⊥
+    other differ = true≢false (sym now
+        ∙ taken_other h h' (Some pair) grown from n (λ q is.
+        subst (λ (q : Pair). q.arrival.env.from ≡ from → q.arrival.n ≡ n → ⊥) (same_Some pair q is) differ)
+        ∙ not_yet)
+
+    by : (pair.arrival.env.from ≡ from) ⊎ (pair.arrival.env.from ≡ from → ⊥)
+        → (pair.arrival.n ≡ n) ⊎ (pair.arrival.n ≡ n → ⊥)
+        → (q : Pair) × (Some pair ≡ Some q) × (q.arrival.env.from ≡ from) × (q.arrival.n ≡ n)
+    by (inl same) (inl same') = (pair, refl, same, same')
+    by (inl same) (inr differ) = absurd (other (λ _ is. differ is))
+    by (inr differ) place = absurd (other (λ is _. differ is))
 
 -- what comes in pieces
 pub granted_more : (h h' : List Event) (o : Option Pair) → matched_pairs h' ≡ matched_pairs h ++ option_to_list o

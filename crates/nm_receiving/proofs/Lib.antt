@@ -17,9 +17,11 @@ mod Joinings
 mod Keeping
 pub mod Lists
 mod Marking
+mod Owing
 mod Packets
 mod Results
 mod Rows
+mod Showing
 mod Starting
 mod Told
 mod Stood

@@ -33,7 +33,7 @@ use Rattle.nm_eager.specs.Streams.{skipped}
 use Rattle.nm_rndv.specs.Grants.{Granted, fresh, grant_in}
 use Rattle.nm_receiving.specs.declared.receipts.Receipt.{Receipt}
 use Rattle.nm_receiving.specs.declared.receipts.Receive.{Receive}
-use Rattle.nm_receiving.specs.Kept.{AreTables, HasBytes, IsGranted, IsJoined, IsKept}
+use Rattle.nm_receiving.specs.Kept.{AreGrantedFor, AreTables, HasBytes, IsGranted, IsJoined, IsKept}
 use Rattle.nm_receiving.specs.Receipts.{ReceivingView, granted_to, receipt_of, receipts_from, stream_of}
 use Rattle.nm_receiving.specs.Received.{TakesPacket}
 use Rattle.nm_receiving.specs.Steps.{grants_with, has_taken, made_whole, rows_from, rows_with, rows_with_whole}
@@ -48,7 +48,8 @@ use Rattle.nm_receiving.proofs.Lists.{row-same, slice_get-last, some_from}
 use Rattle.nm_receiving.proofs.Marking.{marked}
 use Rattle.nm_receiving.proofs.Stood.{stood_of}
 use Rattle.nm_receiving.proofs.TablesCarry.{AreCarried, carried_may_mark, goes_on_here, tables-carried}
-use Rattle.nm_receiving.proofs.TablesMark.{tables-marked}
+use Rattle.nm_receiving.proofs.TablesMark.{owed-marked, tables-marked}
+use Rattle.nm_receiving.proofs.TablesRest.{like_itself, owed-still}
 use Rattle.nm_receiving.proofs.Taking.{IsAtOnce, IsNext, MayEnd, keeps-came, keeps-marked, marked_if, streams_apart}
 use Rattle.nm_facts.proofs.Options.{if_each}
 
@@ -403,6 +404,9 @@ module _ (v : ReceivingView) (kept : IsKept v) (p : Packet) (n : ℕ) (more : p.
   tables-more = tables-carried v kept.history more_streams p.from n p.payload kept.tables are_carried right
       counted_last within
 
+  owed-more : AreGrantedFor carried kept.history
+  owed-more = owed-still v carried kept.history kept.history refl refl (like_itself kept.history) kept.owed
+
   pub kept-more : IsKept more_view
   kept-more = by is_last refl
     where
@@ -415,6 +419,7 @@ module _ (v : ReceivingView) (kept : IsKept v) (p : Packet) (n : ℕ) (more : p.
             right = kept.right;
             in_time = kept.in_time;
             tables = tables-more;
+            owed = owed-more;
           })
       by true last =
           let h : List Event = kept.history in
@@ -429,7 +434,9 @@ module _ (v : ReceivingView) (kept : IsKept v) (p : Packet) (n : ℕ) (more : p.
           (tables-marked carried h (h ++ x ∷ []) (stood_of carried h received1) p.from n r tables-more
           (like-push h x refl refl)
           (carried_may_mark v h more_streams p.from n p.payload kept.tables are_carried right counted_last within
-          (eqb-true (missing (stream_of v p.from)) (length p.payload) last) r the_receipt.1 the_receipt.2 name.0)))
+          (eqb-true (missing (stream_of v p.from)) (length p.payload) last) r the_receipt.1 the_receipt.2 name.0))
+          (owed-marked carried h (h ++ x ∷ []) (stood_of carried h received1) p.from n r the_receipt.1
+          (like-push h x refl refl) (λ i k _. owed-more i k)))
 
   pub takes-more : TakesPacket v more_view p
   takes-more h events known count missed happens received right' =

@@ -25,7 +25,7 @@ use Rattle.nm_match.proofs.StandsLemmas.{first_message-stands, is_claimed-stands
 use Rattle.nm_rndv.specs.Grants.{Granted, fresh, grant_in, is_open}
 use Rattle.nm_receiving.specs.declared.receipts.Receipt.{Receipt}
 use Rattle.nm_receiving.specs.declared.receipts.Receive.{Receive}
-use Rattle.nm_receiving.specs.Kept.{AreTables, IsCleared, IsGranted, IsKept}
+use Rattle.nm_receiving.specs.Kept.{AreGrantedFor, AreTables, IsCleared, IsGranted, IsKept}
 use Rattle.nm_receiving.specs.Receipts.{ReceivingView, granted_to, is_empty_ask, receipt_of}
 use Rattle.nm_receiving.specs.Received.{AreReceived}
 use Rattle.nm_receiving.specs.Steps.{grants_with, made_whole, rows_after, rows_with, rows_with_whole}
@@ -38,8 +38,8 @@ use Rattle.nm_receiving.proofs.Keeping.{IsBegin, MayBegin, begun_stood, grown, k
 use Rattle.nm_receiving.proofs.Lists.{some_from}
 use Rattle.nm_receiving.proofs.Marking.{marked}
 use Rattle.nm_receiving.proofs.Stood.{begun}
-use Rattle.nm_receiving.proofs.Tables.{IsFree, no_grant, tables-begun}
-use Rattle.nm_receiving.proofs.TablesMark.{MayMark, tables-marked}
+use Rattle.nm_receiving.proofs.Tables.{IsFree, no_grant, owed-begun, tables-begun}
+use Rattle.nm_receiving.proofs.TablesMark.{MayMark, owed-marked, tables-marked}
 use Rattle.nm_facts.proofs.Options.{mapped_some as mapped, some_and, if_each, some_of, one_option}
 
 -- a message that may be taken is here
@@ -163,12 +163,20 @@ module _ (v : ReceivingView) (kept : IsKept v) (w : Happened) (d : Deed) (number
         (grown v w d number cap taken begins h 0 kept.received kept.right)
         free (post_of w) posts1 post'.posted
 
+    owed1 : (taken : Option Arrival) → IsBegin v w d number cap taken →
+        ((a : Arrival) → taken ≡ Some a → (r : Receipt) × IsFree v h a r)
+        → AreGrantedFor (begun v d cap taken) h1
+    owed1 taken begins free =
+        owed-begun v h h1 d number cap taken kept.received kept.tables begins.next
+        (grown v w d number cap taken begins h 0 kept.received kept.right) free kept.owed
+
     kept-begun_none : IsBegin v w d number cap None → IsKept (begun v d cap None)
     kept-begun_none begins =
         goes_on v (begun v d cap None) kept (e ∷ []) refl
         (keeps-begun v w d number cap None begins (λ a is. absurd (let h' : ⊥ = cc in h')) h (e ∷ []) refl kept.received
         kept.right)
         in_time1 (tables1 None begins (λ a is. absurd (let h' : ⊥ = cc in h')))
+        (owed1 None begins (λ a is. absurd (let h' : ⊥ = cc in h')))
 
     kept-begun_some : (a : Arrival) → IsBegin v w d number cap (Some a) → IsTakeable v.sizes.ranks h a
         → IsKept (record (begun v d cap (Some a)) { receipts = rows_after v.receipts a })
@@ -194,7 +202,7 @@ module _ (v : ReceivingView) (kept : IsKept v) (w : Happened) (d : Deed) (number
             (goes_on v (begun v d cap (Some a)) kept (e ∷ []) refl
             (subst (λ (rs : List (List Receipt)). AreReceived (record (begun v d cap (Some a)) { receipts = rs })
             (h ++ e ∷ []) × AreRight v.sizes.ranks h (e ∷ [])) rows keeps)
-            in_time1 (tables1 (Some a) begins free_of))
+            in_time1 (tables1 (Some a) begins free_of) (owed1 (Some a) begins free_of))
         by true empty =
             let x : Event = at 0 (Whole a.env.from a.n) in
             let rows : rows_after v.receipts a ≡ rows_with_whole v.receipts a.env.from a.n =
@@ -215,7 +223,11 @@ module _ (v : ReceivingView) (kept : IsKept v) (w : Happened) (d : Deed) (number
             (tables1 (Some a) begins free_of)
             (like-push h1 x refl refl)
             (empty_may_mark v h h1 d number cap a free.0 kept.tables free.1
-            (grown v w d number cap (Some a) begins h 0 kept.received kept.right) empty))))
+            (grown v w d number cap (Some a) begins h 0 kept.received kept.right) empty)))
+            (subst (λ (k : List Event). AreGrantedFor (marked (begun v d cap (Some a)) a.env.from a.n) k)
+            (append_assoc h (e ∷ []) (x ∷ []))
+            (owed-marked (begun v d cap (Some a)) h1 (h1 ++ x ∷ []) stood1 a.env.from a.n free.0 free.1.here
+            (like-push h1 x refl refl) (λ i k _. owed1 (Some a) begins free_of i k))))
 
     pub kept-begun : (taken : Option Arrival) → IsBegin v w d number cap taken →
         ((a : Arrival) → taken ≡ Some a → IsTakeable v.sizes.ranks h a)

@@ -21,18 +21,19 @@ use Rattle.nm_eager.specs.Streams.{Incoming, message_of}
 use Rattle.nm_rndv.specs.Grants.{Granted, fresh, grant_in}
 use Rattle.nm_receiving.specs.declared.receipts.Receipt.{Receipt}
 use Rattle.nm_receiving.specs.declared.receipts.Receive.{Receive}
-use Rattle.nm_receiving.specs.Kept.{AreTables, HasBytes, IsCleared, IsGranted, IsHere, IsJoined}
+use Rattle.nm_receiving.specs.Kept.{AreGrantedFor, AreTables, HasBytes, HasOpen, IsAwaited, IsCleared, IsGranted}
+use Rattle.nm_receiving.specs.Kept.{IsHere, IsJoined}
 use Rattle.nm_receiving.specs.Receipts.{ReceivingView, granted_to, pair_with, receipt_of, stream_of}
 use Rattle.nm_receiving.specs.Received.{AreReceived}
 use Rattle.nm_receiving.proofs.Dues.{pair}
 use Rattle.nm_receiving.proofs.Grants.{Granted_now, grant_among, grant_new, grant_still, granted_cases}
-use Rattle.nm_receiving.proofs.Grants.{granted_length, granted_new, once_push}
-use Rattle.nm_receiving.proofs.Grow.{taken_later, taken_now}
+use Rattle.nm_receiving.proofs.Grants.{granted_length, granted_new, once_push, open_new, open_still}
+use Rattle.nm_receiving.proofs.Grow.{newly_taken, taken_later, taken_now}
 use Rattle.nm_receiving.proofs.Lists.{any_of_found, slice_get-last, slice_get-push_other, some_from}
 use Rattle.nm_receiving.proofs.Stood.{begun}
 use Rattle.nm_facts.proofs.Numbers.{eq_true}
 use Rattle.nm_facts.proofs.Lists.{get_front}
-use Rattle.nm_facts.proofs.Options.{some_and}
+use Rattle.nm_facts.proofs.Options.{mapped_some, some_and}
 
 -- a receive that has a message has it in the history
 pub took : (v : ReceivingView) (h : List Event) → AreReceived v h → (k : ℕ) (receive : Receive) (a : Arrival)
@@ -94,6 +95,12 @@ pub still_cleared : (h h' : List Event) (more : List Pair) → matched_pairs h' 
 still_cleared h h' more grown from e r was =
     record { asked = was.asked; taken = taken_later h h' more grown from e.0 was.taken; due = was.due }
 
+-- pieces of the message were to come before, if it was taken before
+pub awaited_before : (h h' : List Event) (from n : ℕ) (r : Receipt) → is_taken h from n ≡ true → IsAwaited h' from n r
+    → IsAwaited h from n r
+awaited_before h h' from n r was awaited =
+    record { asked = awaited.asked; body = awaited.body; taken = was; lacking = awaited.lacking }
+
 -- what a receive takes: a message that is here, and that no receive took
 pub record IsFree (v : ReceivingView) (h : List Event) (a : Arrival) (r : Receipt) : Type 0 where
   pub granted : a.env.from < length v.grants
@@ -129,6 +136,16 @@ module _ (v : ReceivingView) (h h' : List Event) (d : Deed) (number cap : ℕ) (
   bytes_still r = bytes_along v v1 r r refl
       (λ how g is has. (g, granted_still r.arrival.env.from r.arrival.n g is, has)) (λ how m is has. (m, is, has))
 
+  -- what is granted now
+  granted_here : (a : Arrival) → taken ≡ Some a → is_ask a.env.how ≡ true
+      → grant_in (granted_to v1 a.env.from) a.n ≡ Some (fresh a.env.len)
+  granted_here a some how =
+      let f = free a some in
+      ap (λ (row : List (ℕ × Granted)). grant_in row a.n)
+      (ap (λ (o : Option Arrival). granted_to (begun v d cap o) a.env.from) some
+      ∙ granted_new v.grants a how f.1.granted a.env.from refl)
+      ∙ grant_new (granted_to v a.env.from) a.n (fresh a.env.len) (no_grant v h tables a.env.from a.n f.1.untaken)
+
   new_bytes : (a : Arrival) → taken ≡ Some a → (r : Receipt) × IsHere v1 a r × HasBytes v1 r
   new_bytes a some = let f = free a some in (f.0, (f.1.here, f.1.arrival), by (is_ask a.env.how) refl f.0 f.1)
     where
@@ -139,15 +156,9 @@ module _ (v : ReceivingView) (h h' : List Event) (d : Deed) (number cap : ℕ) (
       by true how r f =
           let asked : is_ask r.arrival.env.how ≡ true = ap (λ (x : Arrival). is_ask x.env.how) f.arrival ∙ how in
           let not_whole = tables.waiting a.env.from a.n r f.here asked f.untaken in
-          let row_is : granted_to v1 a.env.from ≡ granted_to v a.env.from ++ (a.n, fresh a.env.len) ∷ [] =
-          ap (λ (o : Option Arrival). granted_to (begun v d cap o) a.env.from) some
-          ∙ granted_new v.grants a how f.granted a.env.from refl in
-          let there : grant_in (granted_to v1 a.env.from) a.n ≡ Some (fresh a.env.len) =
-          ap (λ (row : List (ℕ × Granted)). grant_in row a.n) row_is
-          ∙ grant_new (granted_to v a.env.from) a.n (fresh a.env.len) (no_grant v h tables a.env.from a.n f.untaken) in
           let there' : grant_in (granted_to v1 r.arrival.env.from) r.arrival.n ≡ Some (fresh a.env.len) =
           subst (λ (x : Arrival). grant_in (granted_to v1 x.env.from) x.n ≡ Some (fresh a.env.len))
-          (sym f.arrival) there in
+          (sym f.arrival) (granted_here a some how) in
           record {
             granted = λ _. some_from (IsGranted r) (grant_in (granted_to v1 r.arrival.env.from) r.arrival.n)
                 (fresh a.env.len) there'
@@ -254,6 +265,29 @@ module _ (v : ReceivingView) (h h' : List Event) (d : Deed) (number cap : ℕ) (
           (once_push (granted_to v from) a.n (fresh a.env.len)
           (ap (λ (i : ℕ). grant_in (granted_to v i) a.n) now.3 ∙ no_grant v h tables a.env.from a.n f.1.untaken)
           (tables.once from))
+
+  -- a message whose pieces are to come has an open grant
+  pub owed-begun : AreGrantedFor v h → AreGrantedFor v1 h'
+  owed-begun owed i k r here awaited = by (is_taken h i k) refl
+    where
+      by : (b : Bool) → is_taken h i k ≡ b → HasOpen (granted_to v1 i) k
+      by true was = open_still (granted_to v i) (granted_to v1 i) k (granted_still i k)
+          (owed i k r here (awaited_before h h' i k r was awaited))
+      by false not_yet =
+          let now = newly_taken h h' (option_map (pair number cap) taken) grown i k not_yet awaited.taken in
+          let of = mapped_some (pair number cap) taken now.0 now.1 in
+          let a : Arrival = of.0 in
+          let from_is : a.env.from ≡ i = ap (λ (q : Pair). q.arrival.env.from) of.2 ∙ now.2 in
+          let n_is : a.n ≡ k = ap (λ (q : Pair). q.arrival.n) of.2 ∙ now.3 in
+          let f = free a of.1 in
+          let is_r : f.0 ≡ r = same_Some f.0 r (sym f.1.here ∙ ap (λ (j : ℕ). receipt_of v j a.n) from_is
+          ∙ ap (λ (j : ℕ). receipt_of v i j) n_is ∙ here) in
+          let is_a : r.arrival ≡ a = ap (λ (x : Receipt). x.arrival) (sym is_r) ∙ f.1.arrival in
+          let asked : is_ask a.env.how ≡ true = ap (λ (x : Arrival). is_ask x.env.how) (sym is_a) ∙ awaited.asked in
+          let body : 0 < a.env.len = subst (λ (x : Arrival). 0 < x.env.len) is_a awaited.body in
+          subst (λ (j : ℕ). HasOpen (granted_to v1 j) k) from_is
+          (subst (λ (j : ℕ). HasOpen (granted_to v1 a.env.from) j) n_is
+          (open_new (granted_to v1 a.env.from) a.n a.env.len (granted_here a of.1 asked) body))
 
   pub tables-begun : (po : Option post.Post) → posts h' ≡ posts h ++ option_to_list po
       → ((p : post.Post) → po ≡ Some p → (p.number ≡ number) × (p.cap ≡ cap)) → AreTables v1 h'

@@ -19,10 +19,11 @@ use Rattle.nm_eager.specs.Streams.{message_of, missing}
 use Rattle.nm_rndv.specs.Grants.{Granted, fresh, grant_in}
 use Rattle.nm_receiving.specs.declared.receipts.Receipt.{Receipt}
 use Rattle.nm_receiving.specs.declared.receipts.Receive.{Receive}
-use Rattle.nm_receiving.specs.Kept.{AreTables, HasBytes, IsCleared, IsGranted, IsHere, IsJoined}
+use Rattle.nm_receiving.specs.Kept.{AreGrantedFor, AreTables, HasBytes, HasOpen, IsCleared, IsGranted, IsHere}
+use Rattle.nm_receiving.specs.Kept.{IsJoined}
 use Rattle.nm_receiving.specs.Receipts.{ReceivingView, granted_to, receipt_of, receipts_from, stream_of}
 use Rattle.nm_receiving.proofs.Grants.{Granted_now, grant_among, grant_new, grant_still, granted_cases}
-use Rattle.nm_receiving.proofs.Grants.{granted_length, granted_new, once_push}
+use Rattle.nm_receiving.proofs.Grants.{granted_length, granted_new, once_push, open_new, open_still}
 use Rattle.nm_receiving.proofs.Lists.{some_from}
 use Rattle.std.proofs.Math.ListN.{set}
 use Rattle.std.proofs.lemmas.List.{length-set}
@@ -32,7 +33,7 @@ use Rattle.nm_receiving.specs.Steps.{has_taken, rows_from, with_taken}
 use Rattle.nm_receiving.proofs.Coming.{came, came_here, came_other, newcomer, taken_by}
 use Rattle.nm_receiving.proofs.Lists.{row-other, row-same}
 use Rattle.nm_receiving.proofs.Stood.{Stood}
-use Rattle.nm_receiving.proofs.Tables.{bytes_along, still_cleared, untaken_before}
+use Rattle.nm_receiving.proofs.Tables.{awaited_before, bytes_along, still_cleared, untaken_before}
 use Rattle.nm_facts.proofs.Lists.{get_set_other, get_set_same}
 use Rattle.nm_facts.proofs.Options.{some_and}
 
@@ -325,6 +326,39 @@ module _ (v : ReceivingView) (h h' : List Event) (stood : Stood v h) (streams : 
         by None = (was, is, refl)
         by (Some k0) = by_place k0 (slice_get v.receives k0) refl (cases_eq k k0)
 
+    -- what is granted now
+    granted_here : (k : ℕ) → taker ≡ Some k → is_ask a.env.how ≡ true
+        → grant_in (granted_to v1 a.env.from) a.n ≡ Some (fresh a.env.len)
+    granted_here k is how =
+        ap (λ (row : List (ℕ × Granted)). grant_in row a.n)
+        (ap (λ (o : Option ℕ). granted_to (came v streams a o) a.env.from) is
+        ∙ granted_new v.grants a how granted a.env.from refl)
+        ∙ grant_new (granted_to v a.env.from) a.n (fresh a.env.len) none_granted
+
+    -- a message whose pieces are to come has an open grant
+    pub owed-came : (taker ≡ None → is_taken h' a.env.from a.n ≡ false)
+        → ((i k : ℕ) → (i ≡ a.env.from → k ≡ a.n → ⊥) → is_taken h' i k ≡ is_taken h i k)
+        → AreGrantedFor v h → AreGrantedFor v1 h'
+    owed-came alone others owed i k s is awaited = by (found i k s is)
+      where
+        by_taker : Here i k → newcomer a ≡ s → (o : Option ℕ) → taker ≡ o → HasOpen (granted_to v1 a.env.from) a.n
+        by_taker here same None none =
+            absurd (true≢false (sym awaited.taken ∙ ap (λ (j : ℕ). is_taken h' j k) here.0
+            ∙ ap (λ (j : ℕ). is_taken h' a.env.from j) here.1 ∙ alone none))
+        by_taker here same (Some taken) some =
+            open_new (granted_to v1 a.env.from) a.n a.env.len
+            (granted_here taken some (ap (λ (x : Receipt). is_ask x.arrival.env.how) same ∙ awaited.asked))
+            (subst (λ (x : Receipt). 0 < x.arrival.env.len) (sym same) awaited.body)
+
+        by : (Here i k × (newcomer a ≡ s)) ⊎ (receipt_of v i k ≡ Some s) → HasOpen (granted_to v1 i) k
+        by (inl now) =
+            subst (λ (j : ℕ). HasOpen (granted_to v1 j) k) (sym now.0.0)
+            (subst (λ (j : ℕ). HasOpen (granted_to v1 a.env.from) j) (sym now.0.1) (by_taker now.0 now.1 taker refl))
+        by (inr old) =
+            open_still (granted_to v i) (granted_to v1 i) k (granted_still i k)
+            (owed i k s old (awaited_before h h' i k s (sym (others i k (other_than i k s old)) ∙ awaited.taken)
+            awaited))
+
     module _ (paired : (k : ℕ) → taker ≡ Some k → is_taken h' a.env.from a.n ≡ true) where
       new_bytes : (k : ℕ) → taker ≡ Some k → HasBytes v1 (newcomer a)
       new_bytes k is = by (is_ask a.env.how) refl
@@ -332,14 +366,9 @@ module _ (v : ReceivingView) (h h' : List Event) (stood : Stood v h) (streams : 
           by : (b : Bool) → is_ask a.env.how ≡ b → HasBytes v1 (newcomer a)
           by false how = eager_bytes how
           by true how =
-              let row_is : granted_to v1 a.env.from ≡ granted_to v a.env.from ++ (a.n, fresh a.env.len) ∷ [] =
-              ap (λ (o : Option ℕ). granted_to (came v streams a o) a.env.from) is
-              ∙ granted_new v.grants a how granted a.env.from refl in
               record {
                 granted = λ _. some_from (IsGranted (newcomer a)) (grant_in (granted_to v1 a.env.from) a.n)
-                    (fresh a.env.len)
-                    (ap (λ (row : List (ℕ × Granted)). grant_in row a.n) row_is
-                    ∙ grant_new (granted_to v a.env.from) a.n (fresh a.env.len) none_granted)
+                    (fresh a.env.len) (granted_here k is how)
                     (record { len = refl; bytes = λ whole. absurd (true≢false (sym whole)) });
                 joined = λ eager. absurd (true≢false (sym how ∙ eager));
               }

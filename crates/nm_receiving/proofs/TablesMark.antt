@@ -16,13 +16,14 @@ use Rattle.nm_eager.specs.Streams.{missing}
 use Rattle.nm_rndv.specs.Grants.{Granted, is_open}
 use Rattle.nm_receiving.specs.declared.receipts.Receipt.{Receipt}
 use Rattle.nm_receiving.specs.declared.receipts.Receive.{Receive}
-use Rattle.nm_receiving.specs.Kept.{AreTables, HasBytes, IsCleared, IsHere}
+use Rattle.nm_receiving.specs.Kept.{AreGrantedFor, AreTables, HasBytes, HasOpen, IsCleared, IsGrantedFor, IsHere}
 use Rattle.nm_receiving.specs.Receipts.{ReceivingView, granted_to, receipt_of, receipts_from, stream_of}
 use Rattle.nm_receiving.proofs.Lists.{some_from}
 use Rattle.std.proofs.lemmas.List.{length-set}
 use Rattle.nm_receiving.specs.Steps.{made_whole, with_whole}
 use Rattle.nm_receiving.proofs.Marking.{marked, marked_here, marked_length, marked_other}
 use Rattle.nm_receiving.proofs.Stood.{Stood}
+use Rattle.nm_receiving.proofs.Tables.{awaited_before}
 use Rattle.nm_facts.proofs.Options.{some_and}
 
 -- the same pairs and posts
@@ -41,6 +42,25 @@ like_cleared h h' like from e r was = record {
       ∙ was.taken;
   due = was.due;
 }
+
+-- a message that is whole now is awaited no more, and the others have the grants that they had
+pub owed-marked : (v : ReceivingView) (h h' : List Event) → Stood v h → (from n : ℕ) (r : Receipt)
+    → receipt_of v from n ≡ Some r → IsLike h h'
+    → ((i k : ℕ) → (i ≡ from → k ≡ n → ⊥) → IsGrantedFor v h i k) → AreGrantedFor (marked v from n) h'
+owed-marked v h h' stood from n r here like others i k s there awaited = by (cases_eq i from) (cases_eq k n)
+  where
+    other : (i ≡ from → k ≡ n → ⊥) → HasOpen (granted_to v i) k
+    other differ = others i k differ s (sym (marked_other v h stood 0 from n r here i k differ) ∙ there)
+        (awaited_before h h' i k s (sym (like_taken h h' like i k) ∙ awaited.taken) awaited)
+
+    by : (i ≡ from) ⊎ (i ≡ from → ⊥) → (k ≡ n) ⊎ (k ≡ n → ⊥) → HasOpen (granted_to v i) k
+    by (inl same) (inl same') =
+        let is : made_whole r ≡ s = same_Some (made_whole r) s (sym (marked_here v h stood 0 from n r here)
+        ∙ ap (λ (j : ℕ). receipt_of (marked v from n) from j) (sym same')
+        ∙ ap (λ (j : ℕ). receipt_of (marked v from n) j k) (sym same) ∙ there) in
+        absurd (true≢false (ap (λ (x : Receipt). x.whole) is ∙ awaited.lacking))
+    by (inl same) (inr differ) = other (λ _ is. differ is)
+    by (inr differ) place = other (λ is _. differ is)
 
 -- a message may be made whole
 pub record MayMark (v : ReceivingView) (h : List Event) (from n : ℕ) (r : Receipt) : Type 0 where

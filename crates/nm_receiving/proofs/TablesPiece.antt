@@ -11,14 +11,14 @@ use Rattle.nm_history.specs.declared.events.Event.{Event}
 use Rattle.nm_history.specs.Sends.{is_ask}
 use Rattle.nm_rndv.specs.Grants.{Granted, grant_in, is_open}
 use Rattle.nm_receiving.specs.declared.receipts.Receipt.{Receipt}
-use Rattle.nm_receiving.specs.Kept.{AreTables, HasBytes, IsCleared, IsGranted}
+use Rattle.nm_receiving.specs.Kept.{AreGrantedFor, AreTables, HasBytes, HasOpen, IsCleared, IsGranted, IsGrantedFor}
 use Rattle.nm_receiving.specs.Receipts.{ReceivingView, granted_to, receipt_of}
 use Rattle.nm_receiving.proofs.Grants.{grant_among}
 use Rattle.nm_receiving.proofs.Lists.{some_from}
 use Rattle.std.specs.Map.{set_value}
 use Rattle.std.specs.Option.{option_map_or}
 use Rattle.std.proofs.Math.ListN.{set}
-use Rattle.std.proofs.lemmas.Bool.{ltb-true}
+use Rattle.std.proofs.lemmas.Bool.{lt-ltb, ltb-true}
 use Rattle.std.proofs.lemmas.List.{length-set}
 use Rattle.std.proofs.lemmas.Map.{keys-set_value}
 use Rattle.std.proofs.lemmas.Map.Entries.{lookup_from_place}
@@ -26,7 +26,7 @@ use Rattle.std.proofs.lemmas.Option.{slice_get-get_or}
 use Rattle.std.specs.Cmp.{nat_eq_equiv}
 use Rattle.nm_rndv.specs.Grants.{with_grant, with_more, with_piece}
 use Rattle.nm_receiving.specs.Steps.{made_whole}
-use Rattle.nm_receiving.proofs.Grants.{all_set, grant_set, self}
+use Rattle.nm_receiving.proofs.Grants.{all_set, grant_set, open_still, self}
 use Rattle.nm_receiving.proofs.Lists.{row-other, row-same}
 use Rattle.nm_receiving.proofs.Tables.{bytes_along}
 use Rattle.nm_receiving.proofs.TablesMark.{MayMark}
@@ -160,6 +160,27 @@ module _ (v : ReceivingView) (h : List Event) (from n : ℕ) (bytes : List ℕ) 
           )
       by g' there has (inl same) (inr differ) = other g' there has (λ _ is'. differ is')
       by g' there has (inr differ) place = other g' there has (λ is' _. differ is')
+
+  -- the other messages have the grants that they had, and this one has it open until its last piece
+  pub owed-others : AreGrantedFor v h → (i k : ℕ) → (i ≡ from → k ≡ n → ⊥) → IsGrantedFor pieced h i k
+  owed-others owed i k differ s here awaited =
+      open_still (granted_to v i) (granted_to pieced i) k (λ g' there. still_there i k differ ∙ there)
+      (owed i k s here awaited)
+
+  pub owed-piece : AreGrantedFor v h → length (came ++ bytes) < g.len → AreGrantedFor pieced h
+  owed-piece owed short i k s here awaited = by (cases_eq i from) (cases_eq k n)
+    where
+      open_now : is_open w ≡ true
+      open_now = ap (λ (o : Option (List ℕ)). option_map_or (λ b. nat_lt (length b) g.len) o false) w_bytes
+          ∙ lt-ltb (length (came ++ bytes)) g.len short
+
+      by : (i ≡ from) ⊎ (i ≡ from → ⊥) → (k ≡ n) ⊎ (k ≡ n → ⊥) → HasOpen (granted_to pieced i) k
+      by (inl same) (inl same') =
+          subst (λ (j : ℕ). HasOpen (granted_to pieced j) k) (sym same)
+          (subst (λ (j : ℕ). HasOpen (granted_to pieced from) j) (sym same')
+          (some_from (λ (g : Granted). is_open g ≡ true) (grant_in (granted_to pieced from) n) w now_there open_now))
+      by (inl same) (inr differ) = owed-others owed i k (λ _ is'. differ is') s here awaited
+      by (inr differ) place = owed-others owed i k (λ is' _. differ is') s here awaited
 
   module _ (names : (i k : ℕ) (s : Receipt) → receipt_of v i k ≡ Some s →
       (s.arrival.env.from ≡ i) × (s.arrival.n ≡ k)) where

@@ -17,12 +17,13 @@ use Rattle.nm_eager.specs.Streams.{message_of, missing}
 use Rattle.nm_rndv.specs.Grants.{Granted, grant_in}
 use Rattle.nm_receiving.specs.declared.receipts.Receipt.{Receipt}
 use Rattle.nm_receiving.specs.declared.receipts.Receive.{Receive}
-use Rattle.nm_receiving.specs.Kept.{AreTables, HasBytes, IsCleared}
+use Rattle.nm_receiving.specs.Kept.{AreGrantedFor, AreTables, HasBytes, HasOpen, IsCleared}
 use Rattle.nm_receiving.specs.Receipts.{ReceivingView, granted_to, receipt_of, stream_of}
 use Rattle.nm_receiving.proofs.Lists.{some_from}
 use Rattle.std.proofs.Math.ListN.{set}
 use Rattle.nm_eager.specs.Streams.{Stream, nothing_came}
-use Rattle.nm_receiving.proofs.Tables.{bytes_along}
+use Rattle.nm_receiving.proofs.Grants.{open_still}
+use Rattle.nm_receiving.proofs.Tables.{awaited_before, bytes_along}
 use Rattle.nm_receiving.proofs.TablesMark.{IsLike, like_cleared, like_taken}
 use Rattle.nm_facts.proofs.Lists.{get_set_other, get_set_same}
 use Rattle.nm_facts.proofs.Options.{some_and}
@@ -77,6 +78,18 @@ tables-receives v h h' deeds rs tables like later = record {
     same_bytes : (r : Receipt) → HasBytes v r → HasBytes (record v { deeds = deeds; receives = rs }) r
     same_bytes r bytes = record { granted = bytes.granted; joined = bytes.joined }
 
+-- neither receives nor streams play a part in what is owed, and no event that makes no pair
+pub owed-still : (v v' : ReceivingView) (h h' : List Event) → v'.grants ≡ v.grants → v'.receipts ≡ v.receipts
+    → IsLike h h' → AreGrantedFor v h → AreGrantedFor v' h'
+owed-still v v' h h' grants receipts like owed i k r here awaited =
+    subst (λ (rows : List (List (ℕ × Granted))). HasOpen (get_or rows i []) k) (sym grants)
+    (owed i k r (ap (λ (rows : List (List Receipt)). slice_get (get_or rows i []) k) (sym receipts) ∙ here)
+    (awaited_before h h' i k r (sym (like_taken h h' like i k) ∙ awaited.taken) awaited))
+
+-- the same history
+pub like_itself : (h : List Event) → IsLike h h
+like_itself h = record { pairs = refl; posts = refl }
+
 pub later_same : (rs : List Receive) → AreLater rs rs
 later_same rs = record {
   back = λ k now is. (now, is, record { taken = refl; ended = λ live. live });
@@ -123,6 +136,25 @@ pub record AreRemoved (v : ReceivingView) (h : List Event) (streams : List Strea
   pub granted : (i k : ℕ) → (i ≡ from → k ≡ n → ⊥) → grant_in (get_or grants i []) k ≡ grant_in (granted_to v i) k
   pub cleared : (i : ℕ) → All (λ e. IsSomeAnd (receipt_of v i e.0) (IsCleared h i e)) (get_or grants i [])
   pub once : (i : ℕ) → IsDistinct nat_eq (keys_of (get_or grants i []))
+
+-- what is owed stays where the bytes of a whole message are removed
+pub owed-removed : (v : ReceivingView) (h : List Event) (streams : List Stream) (grants : List (List (ℕ × Granted)))
+    (from n : ℕ) (m : Receipt) → AreRemoved v h streams grants from n → receipt_of v from n ≡ Some m → m.whole ≡ true
+    → AreGrantedFor v h → AreGrantedFor (record v { streams = streams; grants = grants }) h
+owed-removed v h streams grants from n m removed came whole owed i k r here awaited =
+    by (cases_eq i from) (cases_eq k n)
+  where
+    other : (i ≡ from → k ≡ n → ⊥) → HasOpen (get_or grants i []) k
+    other differ = open_still (granted_to v i) (get_or grants i []) k (λ g is. removed.granted i k differ ∙ is)
+        (owed i k r here awaited)
+
+    by : (i ≡ from) ⊎ (i ≡ from → ⊥) → (k ≡ n) ⊎ (k ≡ n → ⊥) → HasOpen (get_or grants i []) k
+    by (inl same) (inl same') =
+        let is : m ≡ r = same_Some m r (sym came ∙ ap (λ (j : ℕ). receipt_of v from j) (sym same')
+        ∙ ap (λ (j : ℕ). receipt_of v j k) (sym same) ∙ here) in
+        absurd (true≢false (sym whole ∙ ap (λ (x : Receipt). x.whole) is ∙ awaited.lacking))
+    by (inl same) (inr differ) = other (λ _ is. differ is)
+    by (inr differ) place = other (λ is _. differ is)
 
 pub tables-removed : (v : ReceivingView) (h : List Event) (streams : List Stream) (grants : List (List (ℕ × Granted)))
     (from n : ℕ)

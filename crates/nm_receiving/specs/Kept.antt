@@ -80,10 +80,33 @@ pub record AreTables (v : ReceivingView) (h : List Event) : Type 0 where
   pub once : (from : ℕ) → IsDistinct nat_eq (keys_of (granted_to v from))
   pub caps : All (λ p. IsSomeAnd (slice_get v.receives p.number) (λ r. r.cap ≡ p.cap)) (posts h)
 
--- The tables stand for some history, in which no withdrawal came late: such a one leaves no trace.
+-- pieces of the message are to come: it was sent by asking and has a body, a receive took it, and it is not whole
+pub record IsAwaited (h : List Event) (from n : ℕ) (r : Receipt) : Type 0 where
+  pub asked : is_ask r.arrival.env.how ≡ true
+  pub body : 0 < r.arrival.env.len
+  pub taken : is_taken h from n ≡ true
+  pub lacking : r.whole ≡ false
+
+-- message n has an open grant
+abbrev pub HasOpen : List (ℕ × Granted) → ℕ → Type 0
+HasOpen grants n = IsSomeAnd (grant_in grants n) (λ g. is_open g ≡ true)
+
+-- message n of a sender has an open grant, if pieces of it are to come
+abbrev pub IsGrantedFor : ReceivingView → List Event → ℕ → ℕ → Type 0
+IsGrantedFor v h from n =
+    (r : Receipt) → receipt_of v from n ≡ Some r → IsAwaited h from n r →
+    HasOpen (granted_to v from) n
+
+-- so has each
+abbrev pub AreGrantedFor : ReceivingView → List Event → Type 0
+AreGrantedFor v h = (from n : ℕ) → IsGrantedFor v h from n
+
+-- The tables stand for some history, in which no withdrawal came late: such a one leaves no trace. Each
+-- message whose pieces are to come has an open grant.
 pub record IsKept (v : ReceivingView) : Type 0 where
   pub history : List Event
   pub received : AreReceived v history
   pub right : AreRight v.sizes.ranks [] history
   pub in_time : (from n : ℕ) → happened (is_withdraw from n false) history ≡ false
   pub tables : AreTables v history
+  pub owed : AreGrantedFor v history

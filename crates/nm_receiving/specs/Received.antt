@@ -1,16 +1,16 @@
 -- How a rank's receiving side stands to its history, and how the two go on. MPI 3.1, 3.5, 3.7.3, 3.8.
 use Rattle.std.specs.Prelude.{◌≡◌, ℕ, Bool, true, false, List, [], ◌++◌, length, option_map}
-use Rattle.std.specs.Prelude.{IsTrue}
+use Rattle.std.specs.Prelude.{IsSomeAnd, IsTrue}
 use Rattle.std.specs.List.{slice_get}
 use Rattle.std.specs.Option.{option_map_or}
 use Rattle.nm_history.specs.declared.events.Event.{Event}
 use Rattle.nm_history.specs.declared.events.Happened.{Happened}
 use Rattle.nm_history.specs.declared.events.Happened.TheVariants.{Post, Arrive, Whole, Cancel}
 use Rattle.nm_history.specs.declared.events.Happened.TheVariants.{Withdraw, Claim, Match}
-use Rattle.nm_history.specs.Completion.{pair_of_receive}
+use Rattle.nm_history.specs.Completion.{is_taken, pair_of_receive}
 use Rattle.nm_history.specs.Happens.{happened, is_whole, is_cancel}
 use Rattle.nm_history.specs.Matching.{matched_pairs, is_claimed}
-use Rattle.nm_history.specs.Sends.{arrivals, receives, message_of}
+use Rattle.nm_history.specs.Sends.{arrivals, is_ask, receives, message_of}
 use Rattle.nm_types.specs.declared.packets.Packet.{Packet}
 use Rattle.nm_protocol.specs.Effects.{happenings, packet_events}
 use Rattle.nm_protocol.specs.Known.{Known}
@@ -41,6 +41,12 @@ pub record AreReceived (v : ReceivingView) (h : List Event) : Type 0 where
       ≡ happened (is_cancel number) h
   pub due : (from : ℕ) → AreDue (granted_to v from) h from (drawn_from v from)
   pub empty : EmptyAreHere h
+
+-- Message n of a sender is owed: it was sent by asking, a receive took it, and no event says that it is whole.
+pub record IsOwed (h : List Event) (from n : ℕ) : Type 0 where
+  pub asked : IsSomeAnd (message_of h from n) (λ a. is_ask a.env.how ≡ true)
+  pub taken : is_taken h from n ≡ true
+  pub lacking : happened (is_whole from n) h ≡ false
 
 -- After this happened the messages and receives are those of the longer history, and it may come after the
 -- events before it.

@@ -17,6 +17,8 @@
 //! - Each call says what it adds to the bytes of which message (clause `bytes`): a packet adds its payload
 //!   to the eager message that it begins or continues, a piece that continues adds its bytes to its message,
 //!   and `finish` changes at most those of the message of its receive.
+//! - A piece of a sender is due exactly where a message of it was sent by asking, a receive took it, and
+//!   it is not whole (`is_due`).
 //! - `finish` gives the result of the receive, with the bytes that came of its message.
 //! - After want of memory nothing has changed (clause `err`).
 //! # What is only tested

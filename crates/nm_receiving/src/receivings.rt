@@ -1,6 +1,6 @@
 //! The receiving side of a rank.
 
-ghost use Rattle.std.specs.Prelude.{◌≡◌, ℕ, ◌+◌, ◌<◌, true, false, not, if◌then◌else◌};
+ghost use Rattle.std.specs.Prelude.{◌≡◌, ◌↔◌, ℕ, ◌+◌, ◌<◌, true, false, not, if◌then◌else◌};
 ghost use Rattle.std.specs.Prelude.{IfOk, IfSome, IsSome, IsNone, IsTrue, MatchOption, OnErr, OnOk};
 ghost use Rattle.std.specs.Prelude.{nat_lt, option_map, option_to_list, List, [], ◌∷◌, ◌++◌, length};
 ghost use Rattle.std.specs.Prelude.{map, slice_set};
@@ -26,7 +26,8 @@ ghost use Rattle.nm_streams.specs.Streams.{is_done_at_once};
 ghost use Rattle.nm_receiving.specs.Receipts.{AddsBytes, SameBytes, SameOtherBytes, ShowsBytes, came_of};
 ghost use Rattle.nm_receiving.specs.Receipts.{drawn_from, of_asked, of_eager, pair_at, receipt_of};
 ghost use Rattle.nm_receiving.specs.Receipts.{receipts_from, stream_of, taken_events};
-ghost use Rattle.nm_receiving.specs.Received.{AreReceived, Follows, Keeps, MayBeTaken, TakesPacket};
+ghost use Rattle.nm_receiving.specs.Received.{AreReceived, Follows, IsOwed, Keeps, MayBeTaken};
+ghost use Rattle.nm_receiving.specs.Received.{TakesPacket};
 ghost use Rattle.nm_receiving.specs.Steps.{with_ended};
 
 use crate::bytes::{grant_taken, shown, take_bytes};
@@ -404,11 +405,14 @@ impl Receiving {
         Ok(taker.is_some())
     }
 
-    /// Whether a piece of a rank is due.
+    /// Whether a piece of a rank is due. One is exactly where a message of that rank is owed: one
+    /// that was sent by asking, that a receive took, and that is not whole.
     pub fn is_due(&self, from: u8) -> bool
         requires { from < self.now.sizes.ranks }
-        ensures { (h : List Event) → AreReceived self.now h →
+        ensures value { (h : List Event) → AreReceived self.now h →
             result ≡ nat_lt (drawn_from self.now from) (length (due_pieces h from)) }
+        ensures owed { (h : List Event) → AreReceived self.now h →
+            (result ≡ true) ↔ ((n : ℕ) × IsOwed h from n) }
     {
         self.grants.next_expected(from).is_some()
     }

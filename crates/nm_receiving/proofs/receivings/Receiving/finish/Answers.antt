@@ -28,8 +28,8 @@ use Rattle.nm_receiving.proofs.Beginning.{stream_at}
 use Rattle.nm_receiving.proofs.Changing.{keeps-ended}
 use Rattle.nm_receiving.proofs.Dues.{pair}
 use Rattle.nm_receiving.proofs.Finishing.{bytes-finished, bytes_there_now, ended_is, kept-ended}
-use Rattle.nm_receiving.proofs.Finishing.{kept-finished, received-finished, result_cancelled, taken_from}
-use Rattle.nm_receiving.proofs.Finishing.{result_taken, result_untaken, shown_is, shows_bytes, streams-finished}
+use Rattle.nm_receiving.proofs.Finishing.{kept-finished, received-finished, streams-finished, taken_from}
+use Rattle.nm_receiving.proofs.Showing.{result_cancelled, result_taken, result_untaken, shown_is, shows_bytes}
 use Rattle.nm_receiving.proofs.Joinings.{stream_stepped}
 use Rattle.nm_receiving.proofs.receivings.Receiving.finish.Goals as goal
 
