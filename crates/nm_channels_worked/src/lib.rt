@@ -2,7 +2,8 @@
 //! both ends of a channel.
 //!
 //! # What is proved
-//! - `right_ends`: in each of these logs all ranks have nothing left to send.
+//! - `right_ends`: in four of these logs all ranks have nothing left to send; the fifth, with a stray,
+//!   is sound.
 //! - `wrong_ends`: each of these breaks the rule that its name tells.
 //! - `ends_are_a_run`: the histories of the first are a run of its script, by the law alone.
 //!
@@ -19,7 +20,7 @@ ghost use Rattle.nm_channels_worked.specs.Small.{at};
 ghost use Rattle.nm_channels_worked.specs.Stray as stray;
 ghost use Rattle.nm_channels_worked.specs.ToOneself as to_oneself;
 
-/// Logs of ranks with nothing left to send.
+/// Logs of ranks with nothing left to send, and a sound one with a stray.
 pub fn right_ends()
 
     // A message that is longer than the eager limit: it is asked for, cleared and pulled.
@@ -38,7 +39,7 @@ pub fn right_ends()
     ensures is_stray { stray.IsSound [] }
 {}
 
-/// The histories of such ranks are a run of their script, by the law alone.
+/// The histories of the first of these are a run of its script, by the law alone.
 pub fn ends_are_a_run()
     ensures { long_message.IsRun }
 {}

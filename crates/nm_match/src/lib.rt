@@ -20,7 +20,7 @@
 //! - Each deed is kept once (clauses `ok` and `deeds`), and a call that is refused memory has
 //!   changed nothing (clause `err`). `cancel`, `withdraw` and `probe` take no memory.
 //! - `laws` lets a caller that keeps a history of its own speak of that history in place of the
-//!   deeds. To use a law, call it.
+//!   deeds; proofs above cite the lemmas that it comes to.
 //! # What a call looks at
 //! An arrival looks at the four buckets that can have its receive, and a receive, a probe or a
 //! claim that names a source and a tag at one; a wildcard looks at the first message of each bucket

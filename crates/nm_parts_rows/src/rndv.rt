@@ -3,7 +3,7 @@
 ghost use Rattle.std.specs.Prelude.{◌<◌, length};
 
 use nm_rndv::{Grants, Offers};
-use nm_types::{Body, Bytes, Joined, MAX_BODY};
+use nm_types::{Body, Bytes, Joined, MAX_BODY, Piece};
 use std::process::Abort;
 use std::test::Fail;
 
@@ -22,8 +22,9 @@ fn carry(rt: &impl Abort, offers: &mut Offers, grants: &mut Grants) -> Result<us
     requires { 0 < length grants.old.grants }
     ensures { 0 < length grants.new.grants }
 {
+    let mut piece = Piece::blank();
     for count in 0..1_025 {
-        let Some((to, piece)) = offers.next_piece() else {
+        let Some(to) = offers.next_piece(&mut piece) else {
             return Ok(count);
         };
         assert_eq!(rt; (to, piece.number, piece.n), (1, 0, 0));
@@ -59,7 +60,7 @@ fn bodies_come_whole(rt: HostRuntime) -> Result<(), Fail> {
         let mut grants = Grants::new(rt.alloc(), 1)?;
         offers.ask(1, 0, Body::Gen(len))?;
         assert!(rt; offers.is_asked(1, 0));
-        assert!(rt; offers.next_piece().is_none());
+        assert!(rt; offers.next_piece(&mut Piece::blank()).is_none());
         grants.reserve()?;
         assert_eq!(rt; grants.grant(0, 0, len)?, len == 0);
         assert_eq!(rt; offers.cleared(1, 0), len == 0);
@@ -82,7 +83,7 @@ fn a_recall_is_answered(rt: HostRuntime) -> Result<(), Fail> {
     assert!(rt; !offers.was_cleared(0, 3));
     offers.withdrawn(0, 3, true);
     assert!(rt; !offers.is_recalled(0, 3) && !offers.is_asked(0, 3));
-    assert!(rt; offers.next_piece().is_none());
+    assert!(rt; offers.next_piece(&mut Piece::blank()).is_none());
     Ok(())
 }
 
@@ -96,6 +97,6 @@ fn a_recall_is_too_late(rt: HostRuntime) -> Result<(), Fail> {
     assert!(rt; offers.is_recalled(0, 3));
     offers.withdrawn(0, 3, false);
     assert!(rt; !offers.is_recalled(0, 3) && offers.was_cleared(0, 3));
-    assert!(rt; offers.next_piece().is_some());
+    assert!(rt; offers.next_piece(&mut Piece::blank()).is_some());
     Ok(())
 }

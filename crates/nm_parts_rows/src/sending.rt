@@ -3,7 +3,7 @@
 ghost use Rattle.std.specs.Prelude.{◌≡◌, ◌<◌, length};
 
 use nm_sending::Sending;
-use nm_types::{Answer, Body, How, What};
+use nm_types::{Answer, Body, How, Piece, What};
 use std::process::Abort;
 use std::test::Fail;
 
@@ -27,7 +27,8 @@ fn pop_piece(
 ) -> Result<Option<(u8, u64)>, Fail>
     ensures { sending.new.outbox ≡ sending.old.outbox }
 {
-    let Some((destination, piece)) = sending.next_piece() else {
+    let mut piece = Piece::blank();
+    let Some(destination) = sending.next_piece(&mut piece) else {
         return Err(Fail::new("no piece is left"));
     };
     assert_eq!(rt; (destination, piece.bytes.as_slice().len()), (to, size));
@@ -56,7 +57,8 @@ fn a_message_that_asks_leaves_with_its_last_piece(rt: HostRuntime) -> Result<(),
     let mut sending = Sending::new(rt.alloc(), 2, 1)?;
     assert!(rt; !sending.is_worn());
     let n = sending.send(0, 7, 0, Body::Gen(1_500), How::Ask, 3)?;
-    assert!(rt; sending.is_asked(0, n) && sending.next_piece().is_none());
+    let mut piece = Piece::blank();
+    assert!(rt; sending.is_asked(0, n) && sending.next_piece(&mut piece).is_none());
     assert!(rt; !sending.clear(0, n));
     assert_eq!(rt; pop_front(&rt, &mut sending, 0)?, None);
     assert_eq!(rt; pop_piece(&rt, &mut sending, 0, 1_024)?, None);

@@ -9,4 +9,6 @@ pub mod PlaceLemmas
 mod SameLemmas
 mod StartLemmas
 mod StepLemmas
+mod EffectLemmas
+mod NextLemmas
 mod WorkLemmas

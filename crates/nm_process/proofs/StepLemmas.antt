@@ -1,11 +1,10 @@
--- What a process's next command did, and that the process is still at work.
+-- A process is still at work after its next command ran, whichever that is.
 use Rattle.std.specs.Prelude.{if◌then◌else◌}
 use Rattle.std.proofs.Common.{◌≡◌, ◌⊎◌, ℕ, ◌+◌, ◌==◌, Bool, true, false, not, ◌&&◌, ◌||◌, Option, Some}
-use Rattle.std.proofs.Common.{None, List, [], ◌∷◌, ◌++◌, length, map, refl, sym, ◌∙◌, ap, subst}
+use Rattle.std.proofs.Common.{None, List, [], ◌∷◌, ◌++◌, length, refl, sym, ◌∙◌, ap, subst}
 use Rattle.std.proofs.Common.{append_assoc, append-nil, ⊎_elim}
-use Rattle.std.specs.Prelude.{IsSome, is_some, nat_eq, nat_lt, option_map, replicate, unwrap_or}
-use Rattle.std.specs.List.{All, filter, filter_map, find, list_any}
-use Rattle.std.specs.Map.{lookup}
+use Rattle.std.specs.Prelude.{IsSome, is_some, unwrap_or}
+use Rattle.std.specs.List.{All, find, list_any}
 use Rattle.std.specs.Option.{option_and_then, option_map_or}
 use Rattle.std.proofs.lemmas.List.Elements.{All-cons, All-nil}
 use Rattle.nm_types.specs.declared.answers.Answer.{Answer}
@@ -18,27 +17,24 @@ use Rattle.nm_types.specs.declared.scripts.Command.{Command}
 use Rattle.nm_types.specs.declared.scripts.Command.TheVariants as command
 use Rattle.nm_types.specs.declared.scripts.Line.{Line}
 use Rattle.nm_types.specs.Bodies.{body_len, bytes_of}
-use Rattle.nm_types.specs.Commands.{Numbered, commands_of}
+use Rattle.nm_types.specs.Commands.{commands_of}
 use Rattle.nm_types.specs.Sizes.{Sizes}
 use Rattle.nm_history.specs.declared.events.Event.{Event}
 use Rattle.nm_history.specs.declared.events.Happened.{Happened}
 use Rattle.nm_history.specs.declared.events.Happened.TheVariants.{Send, Post, Cancel, Recall, Claim}
 use Rattle.nm_history.specs.declared.events.Happened.TheVariants.{Match, Ran}
 use Rattle.nm_history.specs.declared.plain.Pair.{Pair}
-use Rattle.nm_history.specs.Answers.{Message, answer_of, arrival_claimed, can_go_on, cancel_answer}
-use Rattle.nm_history.specs.Answers.{claim_at, is_claim_for, is_question_of, is_receive_of, is_result}
-use Rattle.nm_history.specs.Answers.{is_seen, is_start_of, is_started, live, live_message, seen}
+use Rattle.nm_history.specs.Answers.{Message, arrival_claimed, cancel_answer}
+use Rattle.nm_history.specs.Answers.{claim_at, is_claim_for, is_question_of}
+use Rattle.nm_history.specs.Answers.{is_started, live, live_message, seen}
 use Rattle.nm_history.specs.Answers.{without_bytes}
-use Rattle.nm_history.specs.Answers as answers
 use Rattle.nm_history.specs.AtEach.{AtEach}
-use Rattle.nm_history.specs.Underway.{is_answer}
 use Rattle.nm_history.specs.Completion.{Request, is_complete, is_here, pair_of_receive, result_of, shown}
 use Rattle.nm_history.specs.Completion.Request.{Sending, Receiving}
 use Rattle.nm_history.specs.Happens.{happened, is_cancel, is_recall}
 use Rattle.nm_history.specs.Matching.{first_message, is_of_receive, matched_pairs}
-use Rattle.nm_history.specs.RankRun.{CancelsFor, CancelsOf, how_of, is_cancelling, is_matched_probe}
-use Rattle.nm_history.specs.RankRun.{is_start, line_of_claim, start_of, without_number}
-use Rattle.nm_history.specs.Sends.{Sent, message_of, messages, receives, sends}
+use Rattle.nm_history.specs.RankRun.{CancelsOf, how_of}
+use Rattle.nm_history.specs.Sends.{message_of, messages, receives, sends}
 use Rattle.nm_history.proofs.AtEachLemmas.{AtEach-split}
 use Rattle.nm_history.proofs.MatchingLemmas.{matched_pairs-push_other}
 use Rattle.nm_history.proofs.OnceLemmas.{eqb_self, messages-push}
@@ -46,56 +42,30 @@ use Rattle.nm_protocol.specs.Clock.{stamped}
 use Rattle.nm_protocol.specs.Rules.{AreRight, IsRightAt}
 use Rattle.nm_request.specs.declared.Kind.{Kind}
 use Rattle.nm_request.specs.declared.Kind.TheVariants as kind
-use Rattle.nm_rndv.specs.Offers.{Offering}
 use Rattle.nm_receiving.specs.Receipts.{is_empty_ask, taken_events}
-use Rattle.nm_rank.specs.Ranks.{RankView, request_of}
+use Rattle.nm_rank.specs.Ranks.{request_of}
 use Rattle.nm_rank.specs.Requests.{cancel_answer as cancelled, cancel_events}
-use Rattle.nm_process.specs.declared.steps.Step.{Step}
-use Rattle.nm_process.specs.declared.steps.Step.TheVariants.{Waits, Ran as Took}
-use Rattle.nm_process.specs.Names.{handled, message_with, named, request_named}
-use Rattle.nm_process.specs.Places.{IsNext, IsPlaceFrom, NoneBetween}
+use Rattle.nm_process.specs.declared.steps.Step.TheVariants.{Ran as Took}
+use Rattle.nm_process.specs.Names.{handled, named}
+use Rattle.nm_process.specs.Places.{IsNext, IsPlaceFrom}
 use Rattle.nm_process.specs.Processes.{ProcessView}
 use Rattle.nm_process.specs.Starts.{HasAnswered, HasAwaited, HasCancelled, HasClaimed, HasEnded}
 use Rattle.nm_process.specs.Starts.{HasFoundNone, HasMatched, HasProbed, HasStarted, HasTried, IsBusy}
 use Rattle.nm_process.specs.Starts.{IsHandleBusy, IsHandleNull, IsNull, KeepsHandles, HasTriedMprobe}
 use Rattle.nm_process.specs.Starts.{HasTriedMrecv, HasTriedReceive, HasTriedSend, HasTriedTest}
 use Rattle.nm_process.specs.Starts.{answer_for, message_probed, offers_sent, sent_now}
-use Rattle.nm_process.specs.Steps.{HasStepped, can_go_on_by, goes_on}
-use Rattle.nm_process.specs.Work.{IsAtWork, line_of}
+use Rattle.nm_process.specs.Work.{IsAtWork}
 use Rattle.nm_process.proofs.DoingLemmas.{MayDo}
 use Rattle.nm_process.proofs.LineLemmas.{claim_made, no_claim_yet}
 use Rattle.nm_process.proofs.MessageLemmas.{first_is_message}
-use Rattle.nm_process.proofs.MidLemmas.{Mid, below_line, claimed_handles, ended_names, found}
+use Rattle.nm_process.proofs.MidLemmas.{Mid, below_line, claimed_handles, found}
 use Rattle.nm_process.proofs.MidLemmas.{kept_handles, kept_names, mid_line, mid_none, mid_other}
-use Rattle.nm_process.proofs.MidLemmas.{mid_start, received_handles, request_start, started_names, works}
+use Rattle.nm_process.proofs.MidLemmas.{received_handles, works}
 use Rattle.nm_process.proofs.PacketLemmas.{after_parts, are_of_packets, whole_of_packets}
-use Rattle.nm_process.proofs.PlaceLemmas.{next_command, none_is_next}
 use Rattle.nm_protocol.proofs.Right.{right-numbers}
-use Rattle.nm_history.proofs.ResultLemmas.{result_is_result, bytes_no_matter}
 use Rattle.nm_history.proofs.AppendLemmas.{happened-push}
-
-and_false : (b : Bool) → (b && false) ≡ false
-and_false true = refl
-and_false false = refl
-
--- the results of requests
-is_result_if : (b c : Bool) (x y : Answer) (a : Answer) → is_result x ≡ true → is_result y ≡ true →
-    (if b then Some (if c then x else y) else None) ≡ Some a → is_result a ≡ true
-is_result_if true true x y a p q is = let same : x ≡ a = cc in ap is_result (sym same) ∙ p
-is_result_if true false x y a p q is = let same : y ≡ a = cc in ap is_result (sym same) ∙ q
-is_result_if false c x y a p q is = cc
-
-shown_is_result : (pair : Pair) → is_result (shown pair) ≡ true
-shown_is_result pair = by_test (nat_lt pair.cap pair.arrival.env.len) where
-  by_test : (b : Bool) → is_result (if b then answer.Cut pair.arrival.env.from pair.arrival.env.tag
-      pair.arrival.env.len else answer.Got pair.arrival.env.from pair.arrival.env.tag
-      (replicate pair.arrival.env.len 0)) ≡ true
-  by_test true = refl
-  by_test false = refl
-
-result_not_started : (a : Answer) → is_result a ≡ true → is_started a ≡ false
-result_not_started answer.Started is = cc
-result_not_started a is = refl
+use Rattle.nm_process.proofs.EffectLemmas.{alone, and_false, busy, ends, kept_all, null, start_handles, started_is}
+use Rattle.nm_process.proofs.EffectLemmas.{starts}
 
 -- a request that is not complete has no result
 no_result : (h : List Event) (r : Request) → is_complete h r ≡ false → result_of h r ≡ None
@@ -117,12 +87,6 @@ taken_of_packets : (o : Option Arrival) → are_of_packets (taken_events o) ≡ 
 taken_of_packets None = refl
 taken_of_packets (Some a) = whole_of_packets (is_empty_ask a) a.env.from a.n
 
--- how starts are answered
-busy_is : (o : Option Request) → IsSome o → Some (if is_some o then answer.Busy else answer.Started)
-    ≡ Some answer.Busy
-busy_is (Some r) some = refl
-busy_is None some = cc
-
 -- the second last event of a history that is right
 right_at : (ranks : ℕ) (h : List Event) (e f : Event) (k : List Event) → k ≡ (h ++ e ∷ []) ++ f ∷ [] →
     AreRight ranks [] k → IsRightAt ranks h e.what
@@ -139,138 +103,13 @@ right_front ranks h e f k is right =
 module _ (shape : Sizes) (lines : List Line) (a b : ProcessView) (place : ℕ) (l : Line)
     (work : IsAtWork shape lines a) (is : IsNext lines a.rank.me a.next place l)
     (at : b.at ≡ a.at + 1) (next : IsPlaceFrom lines a.rank.me (place + 1) b.next) where
-  abbrev commands : List Numbered
-  commands = commands_of a.rank.me lines
-
-  abbrev h : List Event
-  h = a.rank.events
-
-  -- the command has an answer alone
-  alone : (c : Command) (x : Answer) → l.command ≡ c →
-      HasAnswered a (record b { at = a.at; next = a.next }) (place + 2) x →
-      answer_of (commands_of a.rank.me lines) a.rank.events (place + 2) c ≡ Some (without_bytes x) →
-      is_started x ≡ false → CancelsFor (commands_of a.rank.me lines) a.rank.events c →
-      (is_matched_probe c && is_seen x) ≡ false →
-      ((q : ℕ) → (is_question_of q c && is_result x) ≡ false) →
-      ((m : ℕ) → (is_claim_for m c && is_seen x) ≡ false) → IsAtWork shape lines b
-  alone c x same has right not_started off no_claim no_end no_handle =
-      let none = mid_none shape lines a place l work is in
-      works shape lines a place l work is a b c h x [] [] [] same refl refl refl has at next none right
-      (rw not_started refl) off (rw no_claim refl)
-      (kept_names shape lines a place l work is a c h (a.rank.clock + 1) x [] [] [] same none
-      (λ q. ap (λ t. is_start_of q c && t) not_started ∙ and_false (is_start_of q c)) no_end
-      (λ q. refl))
-      (kept_handles shape lines a place l work is b c h (a.rank.clock + 1) x [] [] [] same none no_handle
-      (λ m. ap (λ t. is_receive_of m c && t) not_started ∙ and_false (is_receive_of m c))
-      (λ m. ap (λ (v : ProcessView). handled v m) has.others))
-
-  -- the command started what happened here
-  starts : (Fits : (Sent → List ℕ) → Type 0) (offers : Offering) (w : Happened) (ws : List Happened)
-      (k : Kind) (c : Command) (q : ℕ) (bodies : Sent → List ℕ) → Fits bodies →
-      l.command ≡ c → (p : HasStarted Fits offers (w ∷ ws) k a (record b { at = a.at; next = a.next }) q
-      (place + 2)) →
-      is_answer w ≡ false → line_of w ≡ place + 2 →
-      MayDo shape.eager (commands_of a.rank.me lines) a.rank.events w → are_of_packets ws ≡ true →
-      answers.request_of (place + 2) w ≡ Some (request_of k) →
-      filter is_cancelling (w ∷ []) ≡ [] → filter_map line_of_claim (w ∷ []) ≡ [] →
-      ((k : ℕ) → is_start_of k c ≡ (q == k)) → ((k : ℕ) → is_question_of k c ≡ false) →
-      ((k : ℕ) → is_claim_for k c ≡ false) → is_matched_probe c ≡ false →
-      (Mid shape lines a place (a.rank.events ++ stamped a.rank.clock (w ∷ ws))
-      (filter is_start (w ∷ [])) [] [] →
-      (answer_of (commands_of a.rank.me lines) (a.rank.events ++ stamped a.rank.clock (w ∷ ws))
-      (place + 2) c ≡ Some answer.Started)
-      × (map without_number (filter is_start (w ∷ [])) ≡ start_of shape.eager
-      (commands_of a.rank.me lines) (a.rank.events ++ stamped a.rank.clock (w ∷ ws)) (place + 2) c)
-      × CancelsFor (commands_of a.rank.me lines) (a.rank.events ++ stamped a.rank.clock (w ∷ ws)) c
-      × ((m : ℕ) → handled b m ≡ live_message (commands_of a.rank.me lines)
-      ((a.rank.events ++ stamped a.rank.clock (w ∷ ws)) ++ record {
-        stamp = p.mid.rank.clock + 1;
-        what =
-            Ran (place + 2) answer.Started;
-      } ∷ []) m)) → IsAtWork shape lines b
-  starts Fits offers w ws k c q bodies fits same p none line_is may packets made no_cancel no_claim
-      start_names end_names claim_names no_probe rest =
-      let started = p.begun.starts bodies fits in
-      let h' : List Event = h ++ stamped a.rank.clock (w ∷ ws) in
-      let mid : Mid shape lines a place h' (filter is_start (w ∷ [])) [] [] =
-      subst (λ (cs : List Happened). Mid shape lines a place h' (filter is_start (w ∷ [])) cs []) no_cancel
-      (subst (λ (ls : List ℕ). Mid shape lines a place h' (filter is_start (w ∷ []))
-      (filter is_cancelling (w ∷ [])) ls) no_claim
-      (mid_start shape lines a place l work is a.rank.clock w ws none line_is may packets)) in
-      let r = rest mid in
-      works shape lines a place l work is p.mid b c h' answer.Started (filter is_start (w ∷ [])) [] []
-      same started.takes.me started.takes.sizes started.happened.events p.answered at next mid
-      r.0 r.1 r.2 (rw no_probe refl)
-      (started_names shape lines a place l work is p.mid c h' (p.mid.rank.clock + 1) answer.Started
-      (filter is_start (w ∷ [])) [] [] q (request_of k) same mid refl start_names end_names
-      (request_start shape lines a place l work is a.rank.clock w ws (request_of k) made packets)
-      p.begun.names) r.3
-
-  -- the handles after a start that is of none
-  start_handles : (c : Command) (h' : List Event) (stamp : ℕ) (s cs : List Happened) (ls : List ℕ) →
-      l.command ≡ c → Mid shape lines a place h' s cs ls →
-      ((k : ℕ) → is_claim_for k c ≡ false) → ((k : ℕ) → is_receive_of k c ≡ false) →
-      KeepsHandles a (record b { at = a.at; next = a.next }) →
-      (m : ℕ) → handled b m ≡ live_message (commands_of a.rank.me lines)
-      (h' ++ record { stamp = stamp; what = Ran (place + 2) answer.Started } ∷ []) m
-  start_handles c h' stamp s cs ls same mid claims receives keeps =
-      kept_handles shape lines a place l work is b c h' stamp answer.Started s cs ls same mid
-      (λ m. rw (claims m) refl) (λ m. rw (receives m) refl)
-      (λ m. ap (λ es. option_map message_with (lookup (nat_eq m) es)) keeps.handles)
-
-  -- the request of a name ended
-  ends : (c : Command) (q : ℕ) → l.command ≡ c →
-      (p : HasEnded a (record b { at = a.at; next = a.next }) q (place + 2)) →
-      answer_of (commands_of a.rank.me lines) a.rank.events (place + 2) c ≡ Some
-      (without_bytes p.answer) → CancelsFor (commands_of a.rank.me lines) a.rank.events c →
-      ((k : ℕ) → is_start_of k c ≡ false) → ((k : ℕ) → is_question_of k c ≡ (q == k)) →
-      ((k : ℕ) → is_claim_for k c ≡ false) → is_matched_probe c ≡ false → IsAtWork shape lines b
-  ends c q same p right off start_names end_names claim_names no_probe =
-      let none = mid_none shape lines a place l work is in
-      let e = p.ends in
-      let result : is_result p.answer ≡ true = sym (bytes_no_matter p.answer)
-      ∙ result_is_result h (request_of e.kind) (without_bytes p.answer) (sym e.gives.result) in
-      let not_started = result_not_started p.answer result in
-      works shape lines a place l work is p.mid b c h p.answer [] [] [] same
-      (ap (λ (v : RankView). v.me) e.same) (ap (λ (v : RankView). v.sizes) e.same)
-      (ap (λ (v : RankView). v.events) e.same)
-      p.answered at next none right (rw not_started refl) off (rw no_probe refl)
-      (ended_names shape lines a place l work is p.mid c h (p.mid.rank.clock + 1) p.answer [] [] [] q same
-      none result start_names end_names e.names)
-      (kept_handles shape lines a place l work is b c h (p.mid.rank.clock + 1) p.answer [] [] [] same none
-      (λ m. rw (claim_names m) refl)
-      (λ m. ap (λ t. is_receive_of m c && t) not_started ∙ and_false (is_receive_of m c))
-      (λ m. ap (λ (v : ProcessView). handled v m) p.answered.others
-      ∙ ap (λ es. option_map message_with (lookup (nat_eq m) es)) e.handles.handles))
-
-  -- a start of a name that is taken
-  busy : (c : Command) (q : ℕ) → l.command ≡ c → IsBusy a (record b { at = a.at; next = a.next }) q
-      (place + 2) →
-      answer_of (commands_of a.rank.me lines) a.rank.events (place + 2) c ≡ Some
-      (if is_some (live (commands_of a.rank.me lines) a.rank.events q) then answer.Busy
-      else answer.Started) →
-      CancelsFor (commands_of a.rank.me lines) a.rank.events c → IsAtWork shape lines b
-  busy c q same p answer_is off =
-      alone c answer.Busy same p.answered
-      (answer_is ∙ ap (λ (o : Option Request). Some (if is_some o then answer.Busy else answer.Started))
-      (sym (work.requests q)) ∙ busy_is (named a q) p.taken)
-      refl off (and_false (is_matched_probe c)) (λ k. and_false (is_question_of k c))
-      (λ k. and_false (is_claim_for k c))
-
-  started_is : (h' : List Event) (s cs : List Happened) (ls : List ℕ) (q : ℕ) →
-      Mid shape lines a place h' s cs ls → named a q ≡ None →
-      Some (if is_some (live (commands_of a.rank.me lines) h' q) then answer.Busy else answer.Started)
-      ≡ Some answer.Started
-  started_is h' s cs ls q mid free =
-      ap (λ (o : Option Request). Some (if is_some o then answer.Busy else answer.Started)) (mid.live_is q
-      ∙ free)
-
   sends_one : (q to tag ctx : ℕ) (body : Body) (sync : Bool) →
       l.command ≡ command.Send q to tag ctx body sync →
       HasTriedSend a (record b { at = a.at; next = a.next }) q to tag ctx body sync (place + 2) →
       IsAtWork shape lines b
   sends_one q to tag ctx body sync same tried =
-      ⊎_elim (λ taken. busy c q same taken refl work.cancels.no_others) (λ p. start p.0 p.1) tried where
+      ⊎_elim (λ taken. busy shape lines a b place l work is at next c q same taken refl work.cancels.no_others)
+      (λ p. start p.0 p.1) tried where
         c : Command
         c = command.Send q to tag ctx body sync
 
@@ -284,17 +123,20 @@ module _ (shape : Sizes) (lines : List Line) (a b : ProcessView) (place : ℕ) (
             ≡ bytes_of body) (offers_sent a.rank to body sync) (w ∷ []) (kind.Send to n) a
             (record b { at = a.at; next = a.next }) q (place + 2) →
             KeepsHandles a (record b { at = a.at; next = a.next }) → IsAtWork shape lines b
-        start p keeps = starts (λ bodies. bodies (sent_now a.rank to tag ctx body sync (place + 2))
+        start p keeps = starts shape lines a b place l work is at next
+            (λ bodies. bodies (sent_now a.rank to tag ctx body sync (place + 2))
             ≡ bytes_of body) (offers_sent a.rank to body sync) w [] (kind.Send to n) c q
             (λ s. bytes_of body) refl
             same p refl refl (record { starts = tt; cancels = tt; claims = tt }) refl
             (rw (eqb_self (place + 2)) refl) refl refl (λ k. refl) (λ k. refl) (λ k. refl) refl
             (λ mid. (
-              started_is (a.rank.events ++ stamped a.rank.clock (w ∷ [])) (w ∷ []) [] [] q mid p.free,
+              started_is shape lines a b place l work is at next (a.rank.events ++ stamped a.rank.clock (w ∷ []))
+                  (w ∷ []) [] [] q mid p.free,
               ap (λ (z : Sizes). Send to 0 tag ctx (body_len body) (how_of z.eager sync (body_len body))
                   (place + 2) ∷ []) work.sizes,
               mid.since.cancels,
-              start_handles c (a.rank.events ++ stamped a.rank.clock (w ∷ [])) (p.mid.rank.clock + 1)
+              start_handles shape lines a b place l work is at next c (a.rank.events ++ stamped a.rank.clock (w ∷ []))
+                  (p.mid.rank.clock + 1)
                   (w ∷ []) [] [] same mid (λ k. refl) (λ k. refl) keeps,
             ))
 
@@ -303,7 +145,8 @@ module _ (shape : Sizes) (lines : List Line) (a b : ProcessView) (place : ℕ) (
       HasTriedReceive a (record b { at = a.at; next = a.next }) q from tag ctx room (place + 2) →
       IsAtWork shape lines b
   receives_one q from tag ctx room same tried =
-      ⊎_elim (λ taken. busy c q same taken refl work.cancels.no_others) (λ p. start p.0 p.1) tried where
+      ⊎_elim (λ taken. busy shape lines a b place l work is at next c q same taken refl work.cancels.no_others)
+      (λ p. start p.0 p.1) tried where
         c : Command
         c = command.Recv q from tag ctx room
 
@@ -319,38 +162,30 @@ module _ (shape : Sizes) (lines : List Line) (a b : ProcessView) (place : ℕ) (
         start : HasStarted (λ bodies. Unit {0}) a.rank.sending.offers (w ∷ ws) (kind.Receive number) a
             (record b { at = a.at; next = a.next }) q (place + 2) →
             KeepsHandles a (record b { at = a.at; next = a.next }) → IsAtWork shape lines b
-        start p keeps = starts (λ bodies. Unit {0}) a.rank.sending.offers w ws (kind.Receive number) c q
+        start p keeps = starts shape lines a b place l work is at next (λ bodies. Unit {0}) a.rank.sending.offers w ws
+            (kind.Receive number) c q
             (λ s. []) tt
             same p refl refl (record { starts = tt; cancels = tt; claims = tt })
             (taken_of_packets (first_message a.rank.events (matched_pairs a.rank.events) from tag ctx))
             (rw (eqb_self (place + 2)) refl) refl refl
             (λ k. refl) (λ k. refl) (λ k. refl) refl
             (λ mid. (
-              started_is (a.rank.events ++ stamped a.rank.clock (w ∷ ws)) (w ∷ []) [] [] q mid p.free,
+              started_is shape lines a b place l work is at next (a.rank.events ++ stamped a.rank.clock (w ∷ ws))
+                  (w ∷ []) [] [] q mid p.free,
               refl,
               mid.since.cancels,
-              start_handles c (a.rank.events ++ stamped a.rank.clock (w ∷ ws)) (p.mid.rank.clock + 1)
+              start_handles shape lines a b place l work is at next c (a.rank.events ++ stamped a.rank.clock (w ∷ ws))
+                  (p.mid.rank.clock + 1)
                   (w ∷ []) [] [] same mid (λ k. refl) (λ k. refl) keeps,
             ))
-
-  -- a request that the name doesn't stand for
-  null : (c : Command) (q : ℕ) → l.command ≡ c → IsNull a (record b { at = a.at; next = a.next }) q
-      (place + 2) →
-      (live (commands_of a.rank.me lines) a.rank.events q ≡ None →
-      answer_of (commands_of a.rank.me lines) a.rank.events (place + 2) c ≡ Some answer.Null) →
-      (live (commands_of a.rank.me lines) a.rank.events q ≡ None →
-      CancelsFor (commands_of a.rank.me lines) a.rank.events c) → IsAtWork shape lines b
-  null c q same p right off =
-      let none = sym (work.requests q) ∙ p.free in
-      alone c answer.Null same p.answered (right none) refl (off none) (and_false (is_matched_probe c))
-      (λ k. and_false (is_question_of k c)) (λ k. and_false (is_claim_for k c))
 
   waits_one : (q : ℕ) → l.command ≡ command.Wait q → IsNull a (record b { at = a.at; next = a.next }) q
       (place + 2) ⊎ HasEnded a (record b { at = a.at; next = a.next }) q (place + 2) →
       IsAtWork shape lines b
   waits_one q same tried = ⊎_elim
-      (λ p. null (command.Wait q) q same p (λ none. rw none refl) (λ none. work.cancels.no_others))
-      (λ p. ends (command.Wait q) q same p
+      (λ p. null shape lines a b place l work is at next (command.Wait q) q same p (λ none. rw none refl)
+      (λ none. work.cancels.no_others))
+      (λ p. ends shape lines a b place l work is at next (command.Wait q) q same p
       (ap (λ (o : Option Request). option_map_or (result_of a.rank.events) o (Some answer.Null))
       (sym (work.requests q) ∙ p.ends.live) ∙ sym p.ends.gives.result)
       work.cancels.no_others (λ k. refl) (λ k. refl) (λ k. refl) refl) tried
@@ -358,15 +193,16 @@ module _ (shape : Sizes) (lines : List Line) (a b : ProcessView) (place : ℕ) (
   tests_one : (q : ℕ) → l.command ≡ command.Test q →
       HasTriedTest a (record b { at = a.at; next = a.next }) q (place + 2) → IsAtWork shape lines b
   tests_one q same tried = ⊎_elim
-      (λ p. null (command.Test q) q same p (λ none. rw none refl) (λ none. work.cancels.no_others))
+      (λ p. null shape lines a b place l work is at next (command.Test q) q same p (λ none. rw none refl)
+      (λ none. work.cancels.no_others))
       (λ rest. ⊎_elim
-      (λ p. ends (command.Test q) q same p
+      (λ p. ends shape lines a b place l work is at next (command.Test q) q same p
       (ap (λ (o : Option Request). Some
       (option_map_or (λ request. unwrap_or (result_of a.rank.events request) answer.No) o
       answer.Null)) (sym (work.requests q) ∙ p.ends.live)
       ∙ ap (λ (o : Option Answer). Some (unwrap_or o answer.No)) (sym p.ends.gives.result))
       work.cancels.no_others (λ k. refl) (λ k. refl) (λ k. refl) refl)
-      (λ p. alone (command.Test q) answer.No same p.answered
+      (λ p. alone shape lines a b place l work is at next (command.Test q) answer.No same p.answered
       (ap (λ (o : Option Request). Some
       (option_map_or (λ request. unwrap_or (result_of a.rank.events request) answer.No) o
       answer.Null)) (sym (work.requests q) ∙ p.pending.live)
@@ -381,21 +217,18 @@ module _ (shape : Sizes) (lines : List Line) (a b : ProcessView) (place : ℕ) (
     by_message : (o : Option Arrival) → message_probed a from tag ctx ≡ o →
         HasAnswered a (record b { at = a.at; next = a.next }) (place + 2)
         (option_map_or seen o answer.Nothing) → IsAtWork shape lines b
-    by_message None is answered = alone (command.Probe from tag ctx) answer.Nothing same answered
-        (rw is refl) refl work.cancels.no_others refl (λ k. refl) (λ k. refl)
-    by_message (Some m) is answered = alone (command.Probe from tag ctx) (seen m) same answered
-        (rw is refl) refl work.cancels.no_others refl (λ k. refl) (λ k. refl)
+    by_message None none answered = alone shape lines a b place l work is at next (command.Probe from tag ctx)
+        answer.Nothing same answered
+        (rw none refl) refl work.cancels.no_others refl (λ k. refl) (λ k. refl)
+    by_message (Some m) some answered = alone shape lines a b place l work is at next (command.Probe from tag ctx)
+        (seen m) same answered
+        (rw some refl) refl work.cancels.no_others refl (λ k. refl) (λ k. refl)
 
   awaits_one : (from : Peer) (tag : TagPick) (ctx : ℕ) → l.command ≡ command.Await from tag ctx →
       HasAwaited a (record b { at = a.at; next = a.next }) from tag ctx (place + 2) → IsAtWork shape lines b
-  awaits_one from tag ctx same p = alone (command.Await from tag ctx) (seen p.message) same p.answered
+  awaits_one from tag ctx same p = alone shape lines a b place l work is at next (command.Await from tag ctx)
+      (seen p.message) same p.answered
       (rw p.first refl) refl work.cancels.no_others refl (λ k. refl) (λ k. refl)
-
-  -- the names of a process of which only the rank changed
-  kept_all : (mid : ProcessView) → mid.rank.requests ≡ a.rank.requests → mid.names ≡ a.names → (q : ℕ) →
-      named mid q ≡ named a q
-  kept_all mid requests names q = ap (λ r. request_named r mid.names q) requests
-      ∙ ap (λ ns. request_named a.rank.requests ns q) names
 
   -- a cancel of the request of this kind
   cancels_it : (q : ℕ) (k : Kind) (mid : ProcessView) → l.command ≡ command.Cancel q →
@@ -445,7 +278,7 @@ module _ (shape : Sizes) (lines : List Line) (a b : ProcessView) (place : ℕ) (
             (rw not_started refl) off refl
             (kept_names shape lines a place l work is mid c (a.rank.events ++ e ∷ [])
             (mid.rank.clock + 1) x [] (e.what ∷ []) [] same now (λ k. refl) (λ k. refl)
-            (kept_all mid requests (ap (λ (v : ProcessView). v.names) others)))
+            (kept_all shape lines a b place l work is at next mid requests (ap (λ (v : ProcessView). v.names) others)))
             (kept_handles shape lines a place l work is b c (a.rank.events ++ e ∷ [])
             (mid.rank.clock + 1) x [] (e.what ∷ []) [] same now (λ k. refl) (λ k. refl)
             (λ m. ap (λ (v : ProcessView). handled v m) has.others
@@ -475,7 +308,7 @@ module _ (shape : Sizes) (lines : List Line) (a b : ProcessView) (place : ℕ) (
             (kept_names shape lines a place l work is mid c h' (mid.rank.clock + 1) answer.Asked [] cs []
             same
             now (λ k. refl) (λ k. refl)
-            (kept_all mid requests (ap (λ (v : ProcessView). v.names) others)))
+            (kept_all shape lines a b place l work is at next mid requests (ap (λ (v : ProcessView). v.names) others)))
             (kept_handles shape lines a place l work is b c h' (mid.rank.clock + 1) answer.Asked [] cs []
             same
             now (λ k. refl) (λ k. refl)
@@ -513,7 +346,7 @@ module _ (shape : Sizes) (lines : List Line) (a b : ProcessView) (place : ℕ) (
       IsNull a (record b { at = a.at; next = a.next }) q (place + 2)
       ⊎ HasCancelled a (record b { at = a.at; next = a.next }) q (place + 2) → IsAtWork shape lines b
   cancels_one q same right tried = ⊎_elim
-      (λ p. null (command.Cancel q) q same p (λ none. rw none refl)
+      (λ p. null shape lines a b place l work is at next (command.Cancel q) q same p (λ none. rw none refl)
       (λ none. subst (λ (o : Option Request). CancelsOf a.rank.events o)
       (sym none) work.cancels.no_others))
       (λ p. cancels_it q p.kind p.mid same right p.live p.takes.me p.takes.sizes p.requests p.others
@@ -529,7 +362,7 @@ module _ (shape : Sizes) (lines : List Line) (a b : ProcessView) (place : ℕ) (
     c = command.Mprobe m from tag ctx
 
     taken : IsHandleBusy a (record b { at = a.at; next = a.next }) m (place + 2) → IsAtWork shape lines b
-    taken p = alone c answer.Busy same p.answered
+    taken p = alone shape lines a b place l work is at next c answer.Busy same p.answered
         (by_handle (live_message (commands_of a.rank.me lines) a.rank.events m) (sym (work.handles m))
         (handled a m) p.taken) refl work.cancels.no_others refl (λ k. refl)
         (λ k. and_false (is_claim_for k c)) where
@@ -546,7 +379,7 @@ module _ (shape : Sizes) (lines : List Line) (a b : ProcessView) (place : ℕ) (
 
     nothing : HasFoundNone a (record b { at = a.at; next = a.next }) m from tag ctx (place + 2) →
         IsAtWork shape lines b
-    nothing p = alone c answer.Nothing same p.answered
+    nothing p = alone shape lines a b place l work is at next c answer.Nothing same p.answered
         (rw (
           sym (work.handles m) ∙ p.free,
           no_claim_yet (place + 2) a.rank.events
@@ -585,7 +418,8 @@ module _ (shape : Sizes) (lines : List Line) (a b : ProcessView) (place : ℕ) (
         p.takes.sizes p.claimed.events p.answered at next now
         (rw (now.message_is m ∙ p.free, here, came) refl) refl now.since.cancels refl
         (kept_names shape lines a place l work is p.mid c h' (p.mid.rank.clock + 1) (seen x) [] []
-        ((place + 2) ∷ []) same now (λ k. refl) (λ k. refl) (kept_all p.mid p.requests p.names))
+        ((place + 2) ∷ []) same now (λ k. refl) (λ k. refl)
+        (kept_all shape lines a b place l work is at next p.mid p.requests p.names))
         (claimed_handles shape lines a place l work is b c h' (p.mid.rank.clock + 1) (seen x) [] []
         ((place + 2) ∷ []) m (record { from = x.env.from; n = x.n }) same now refl (λ k. refl)
         (λ k. refl) here
@@ -603,7 +437,7 @@ module _ (shape : Sizes) (lines : List Line) (a b : ProcessView) (place : ℕ) (
     c = command.Mrecv q m room
 
     taken : IsBusy a (record b { at = a.at; next = a.next }) q (place + 2) → IsAtWork shape lines b
-    taken p = alone c answer.Busy same p.answered
+    taken p = alone shape lines a b place l work is at next c answer.Busy same p.answered
         (by_name (live (commands_of a.rank.me lines) a.rank.events q) (sym (work.requests q))
         (if is_some (live_message (commands_of a.rank.me lines) a.rank.events m) then answer.Started
         else answer.Null) p.taken)
@@ -618,7 +452,7 @@ module _ (shape : Sizes) (lines : List Line) (a b : ProcessView) (place : ℕ) (
 
     nothing : IsHandleNull a (record b { at = a.at; next = a.next }) q m (place + 2) →
         IsAtWork shape lines b
-    nothing p = alone c answer.Null same p.answered
+    nothing p = alone shape lines a b place l work is at next c answer.Null same p.answered
         (rw (sym (work.requests q) ∙ p.name, sym (work.handles m) ∙ p.free) refl) refl
         work.cancels.no_others refl (λ k. refl) (λ k. refl)
 
@@ -630,7 +464,8 @@ module _ (shape : Sizes) (lines : List Line) (a b : ProcessView) (place : ℕ) (
         let w : Happened = Match number x.from x.n room (place + 2) in
         let ws : List Happened = taken_events (message_of a.rank.events x.from x.n) in
         let h' : List Event = a.rank.events ++ stamped a.rank.clock (w ∷ ws) in
-        starts (λ bodies. Unit {0}) a.rank.sending.offers w ws (kind.Receive number) c q (λ s. []) tt
+        starts shape lines a b place l work is at next (λ bodies. Unit {0}) a.rank.sending.offers w ws
+        (kind.Receive number) c q (λ s. []) tt
         same p.started refl refl (record { starts = p.claimed; cancels = tt; claims = tt })
         (taken_of_packets (message_of a.rank.events x.from x.n)) (rw (eqb_self (place + 2)) refl) refl
         refl
@@ -659,98 +494,3 @@ module _ (shape : Sizes) (lines : List Line) (a b : ProcessView) (place : ℕ) (
     by_command (command.Cancel q) same t = cancels_one q same right t.1
     by_command (command.Mprobe m from tag ctx) same t = claims_one m from tag ctx same right t.1
     by_command (command.Mrecv q m room) same t = matches_one q m room same t.1
-
--- the next command can't go on
-waits_not_ran : Waits ≡ Took → ⊥
-waits_not_ran is = cc
-
-pub waited : (shape : Sizes) (lines : List Line) (a b : ProcessView) (place : ℕ) (l : Line) →
-    IsAtWork shape lines a → IsNext lines a.rank.me a.next place l →
-    HasTried a b l.command (place + 2) Waits →
-    goes_on (commands_of a.rank.me lines) a ≡ false
-waited shape lines a b place l work is tried =
-    rw (next_command lines a.rank.me a.next place a.at l is work.counted) (by_command l.command tried) where
-      by_command : (c : Command) → HasTried a b c (place + 2) Waits →
-          can_go_on (commands_of a.rank.me lines) a.rank.events c ≡ false
-      by_command (command.Wait q) t = rw (sym (work.requests q) ∙ t.0.live) t.0.pending
-      by_command (command.Await from tag ctx) t = rw t.0 refl
-      by_command (command.Send q to tag ctx body sync) t = absurd (waits_not_ran t.0)
-      by_command (command.Recv q from tag ctx room) t = absurd (waits_not_ran t.0)
-      by_command (command.Test q) t = absurd (waits_not_ran t.0)
-      by_command (command.Probe from tag ctx) t = absurd (waits_not_ran t.0)
-      by_command (command.Cancel q) t = absurd (waits_not_ran t.0)
-      by_command (command.Mprobe m from tag ctx) t = absurd (waits_not_ran t.0)
-      by_command (command.Mrecv q m room) t = absurd (waits_not_ran t.0)
-
--- whether a command can go on, by the names and by the history
-by_names : (shape : Sizes) (lines : List Line) (a : ProcessView) (c : Command) → IsAtWork shape lines a →
-    can_go_on_by a c ≡ can_go_on (commands_of a.rank.me lines) a.rank.events c
-by_names shape lines a (command.Wait q) work =
-    ap (λ (o : Option Request). option_map_or (is_complete a.rank.events) o true) (work.requests q)
-by_names shape lines a (command.Await from tag ctx) work = refl
-by_names shape lines a (command.Send q to tag ctx body sync) work = refl
-by_names shape lines a (command.Recv q from tag ctx room) work = refl
-by_names shape lines a (command.Test q) work = refl
-by_names shape lines a (command.Probe from tag ctx) work = refl
-by_names shape lines a (command.Cancel q) work = refl
-by_names shape lines a (command.Mprobe m from tag ctx) work = refl
-by_names shape lines a (command.Mrecv q m room) work = refl
-
-pub next_goes_on : (shape : Sizes) (lines : List Line) (a : ProcessView) (place : ℕ) (l : Line) →
-    IsAtWork shape lines a → IsNext lines a.rank.me a.next place l →
-    can_go_on_by a l.command ≡ goes_on (commands_of a.rank.me lines) a
-next_goes_on shape lines a place l work is = by_names shape lines a l.command work
-    ∙ sym (ap (λ (o : Option Numbered). option_map_or
-    (λ c. can_go_on (commands_of a.rank.me lines) a.rank.events c.command) o false)
-    (next_command lines a.rank.me a.next place a.at l is work.counted))
-
--- no command is left
-pub none_goes_on : (shape : Sizes) (lines : List Line) (a : ProcessView) → IsAtWork shape lines a →
-    NoneBetween lines a.rank.me a.next (length lines) → goes_on (commands_of a.rank.me lines) a ≡ false
-none_goes_on shape lines a work none =
-    ap (λ (o : Option Numbered). option_map_or
-    (λ c. can_go_on (commands_of a.rank.me lines) a.rank.events c.command) o false)
-    (none_is_next lines a.rank.me a.next a.at none work.counted)
-
--- a process that ran a command, by its parts
-pub tried_counted : (a v : ProcessView) (c : Command) (line : ℕ) (s : Step) → v.at ≡ a.at →
-    v.next ≡ a.next → HasTried a v c line s → HasTried a (record v { at = a.at; next = a.next }) c line s
-tried_counted a v c line s at next tried =
-    subst (λ (k : ℕ). HasTried a (record v { at = a.at; next = k }) c line s) next
-    (subst (λ (k : ℕ). HasTried a (record v { at = k }) c line s) at tried)
-
--- what a step that is no waiting came to
-pub stepped : (lines : List Line) (a b : ProcessView) (place : ℕ) (l : Line) (s : Step) →
-    IsNext lines a.rank.me a.next place l → (s ≡ Waits → ⊥) → b.at ≡ a.at + 1 →
-    IsPlaceFrom lines a.rank.me (place + 1) b.next →
-    HasTried a (record b { at = a.at; next = a.next }) l.command (place + 2) s → HasStepped lines a b s
-stepped lines a b place l Waits is moves at next tried = absurd (moves refl)
-stepped lines a b place l Took is moves at next tried = record {
-  place = place;
-  line = l;
-  is = is;
-  tried =
-      tried;
-  at = at;
-  next = next;
-}
-
-pub ran_step : (shape : Sizes) (lines : List Line) (a b : ProcessView) (place : ℕ) (l : Line) (s : Step) →
-    IsAtWork shape lines a → IsNext lines a.rank.me a.next place l → (s ≡ Waits → ⊥) →
-    b.at ≡ a.at + 1 → IsPlaceFrom lines a.rank.me (place + 1) b.next → AreRight b.rank.sizes.ranks [] b.rank.events →
-    HasTried a (record b { at = a.at; next = a.next }) l.command (place + 2) s → IsAtWork shape lines b
-ran_step shape lines a b place l Waits work is moves at next right tried = absurd (moves refl)
-ran_step shape lines a b place l Took work is moves at next right tried =
-    ran shape lines a b place l work is at next right tried
-
--- a process that waits is as it was
-pub waits_same : (a b : ProcessView) (c : Command) (line : ℕ) → HasTried a b c line Waits → b ≡ a
-waits_same a b (command.Wait q) line t = t.1
-waits_same a b (command.Await from tag ctx) line t = t.1
-waits_same a b (command.Send q to tag ctx body sync) line t = absurd (waits_not_ran t.0)
-waits_same a b (command.Recv q from tag ctx room) line t = absurd (waits_not_ran t.0)
-waits_same a b (command.Test q) line t = absurd (waits_not_ran t.0)
-waits_same a b (command.Probe from tag ctx) line t = absurd (waits_not_ran t.0)
-waits_same a b (command.Cancel q) line t = absurd (waits_not_ran t.0)
-waits_same a b (command.Mprobe m from tag ctx) line t = absurd (waits_not_ran t.0)
-waits_same a b (command.Mrecv q m room) line t = absurd (waits_not_ran t.0)

@@ -1,6 +1,6 @@
 //! The calls that pass to the rank.
 
-ghost use Rattle.std.specs.Prelude.{◌≡◌, ◌<◌, List, length, IfErr, IsSome, OnOk};
+ghost use Rattle.std.specs.Prelude.{◌≡◌, ◌<◌, List, length, IsSome, OnErr, OnOk};
 ghost use Rattle.nm_types.specs.declared.scripts.Line.{Line};
 ghost use Rattle.nm_types.specs.Sizes.{Sizes};
 ghost use Rattle.nm_rndv.specs.Offers.{next_offered};
@@ -61,17 +61,17 @@ impl Process {
         self.rank.history();
     }
 
-    /// Takes the next packet of a rank. One that does not continue its stream is counted as a stray,
-    /// and changes nothing else.
-    pub fn take_packet(&mut self, p: Packet) -> Result<(), (Memory, Packet)>
-        requires sender { p.from < self.old.rank.sizes.ranks }
-        requires number { p.seq ≡ count_of self.old.rank.took p.from }
+    /// Takes the next packet of a rank, or leaves everything as it was. One that does not continue its
+    /// stream is counted as a stray: beside the clock and the counts nothing changes.
+    pub fn take_packet(&mut self, p: &Packet) -> Result<(), Memory>
+        requires sender { p.now.from < self.old.rank.sizes.ranks }
+        requires number { p.now.seq ≡ count_of self.old.rank.took p.now.from }
         requires fresh { IsFresh self.old.rank }
-        ensures taken { OnOk result (TakesPacket p self.old.rank self.new.rank) }
+        ensures taken { OnOk result (TakesPacket p.now self.old.rank self.new.rank) }
         ensures others { OnOk result (KeepsAllBut self.old self.new) }
         ensures work { OnOk result ((shape : Sizes) (lines : List Line) →
             IsAtWork shape lines self.old → IsAtWork shape lines self.new) }
-        ensures err { IfErr result (λ e. (e.1 ≡ p) × (self.new ≡ self.old)) }
+        ensures err { OnErr result (self.new ≡ self.old) }
     {
         self.rank.take_packet(p)?;
         // no step: it tells that the history keeps its rules
@@ -79,17 +79,17 @@ impl Process {
         Ok(())
     }
 
-    /// Takes the next piece of a rank. One that is not the next one due is counted as a stray, and
-    /// changes nothing else.
-    pub fn take_piece(&mut self, p: Piece) -> Result<(), (Memory, Piece)>
-        requires sender { p.from < self.old.rank.sizes.ranks }
-        requires number { p.number ≡ count_of self.old.rank.pulled p.from }
+    /// Takes the next piece of a rank, or leaves everything as it was. One that is not the next one
+    /// due is counted as a stray: beside the counts nothing changes.
+    pub fn take_piece(&mut self, p: &Piece) -> Result<(), Memory>
+        requires sender { p.now.from < self.old.rank.sizes.ranks }
+        requires number { p.now.number ≡ count_of self.old.rank.pulled p.now.from }
         requires fresh { IsFresh self.old.rank }
-        ensures taken { OnOk result (TakesPiece p self.old.rank self.new.rank) }
+        ensures taken { OnOk result (TakesPiece p.now self.old.rank self.new.rank) }
         ensures others { OnOk result (KeepsAllBut self.old self.new) }
         ensures work { OnOk result ((shape : Sizes) (lines : List Line) →
             IsAtWork shape lines self.old → IsAtWork shape lines self.new) }
-        ensures err { IfErr result (λ e. (e.1 ≡ p) × (self.new ≡ self.old)) }
+        ensures err { OnErr result (self.new ≡ self.old) }
     {
         self.rank.take_piece(p)?;
         // no step: it tells that the history keeps its rules

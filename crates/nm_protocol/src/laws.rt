@@ -99,8 +99,8 @@ pub fn pushed_messages_last()
         ≡ pushed_out h to ++ filter_map (λ e. left_of (h ++ more) to e.what) more }
 {}
 
-/// Events that are right stay so with more of them, and keep each rule of a rank's run that plays no
-/// part in its commands.
+/// Right events followed by right ones are right. A history of right events keeps the rules of numbers,
+/// of claims, of what is whole, and of ends.
 pub fn right_events_go_on()
     ensures more { (ranks : ℕ) (h events more : List Event) → AreRight ranks h events →
         AreRight ranks (h ++ events) more → AreRight ranks h (events ++ more) }

@@ -16,7 +16,8 @@
 //! - `to_push` has the messages that a rank may push in pieces, and `pushed_out` those that left.
 //! - `stamped` gives what happens the stamps that follow a clock.
 //! # What is proved
-//! `laws` has what follows when one packet, one piece or one event is added. To use a law, call it.
+//! `laws` has what follows when one packet, one piece or one event is added. The laws
+//! say what the lemmas of `proofs/` come to, which proofs above cite.
 #![tactic(auto)]
 
 pub mod laws;

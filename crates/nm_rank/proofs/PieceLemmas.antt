@@ -129,10 +129,10 @@ module _ (v : SendingView) (h : List Event) (ranks : ℕ) (known : List Known) (
       omega (arith, some, lengths)
 
   pub none_next : ((to : ℕ) → to < ranks → pushed_out h to ≡ to_push h (known_from known to) to)
-      → (o : Option (ℕ × Piece)) → option_map offered o ≡ next_offered v.offers
-      → IfSome o (λ next. next.0 < ranks) → IsNone o
-  none_next all None next low = refl
-  none_next all (Some p) next low = absurd (none_more all (offered p) (sym next) low)
+      → (o : Option ℕ) (p : Piece) → option_map (λ to. offered (to, p)) o ≡ next_offered v.offers
+      → IfSome o (λ to. to < ranks) → IsNone o
+  none_next all None p next low = refl
+  none_next all (Some to) p next low = absurd (none_more all (offered (to, p)) (sym next) low)
 
   -- so its destination is none
   pub none_goes : ((to : ℕ) → to < ranks → pushed_out h to ≡ to_push h (known_from known to) to)

@@ -56,7 +56,7 @@ pub record Notes (ws : List Happened) (old new : RankView) : Type 0 where
   pub events : new.events ≡ old.events ++ stamped old.clock ws
   pub clock : new.clock ≡ old.clock + length ws
 
--- no packet and no piece came, and what is known of the ranks is the same, with the bytes that came
+-- no packet and no piece came: what is known of the ranks, the counts and the bytes that came are the same
 pub record TakesNone (old new : RankView) : Type 0 where
   pub me : new.me ≡ old.me
   pub sizes : new.sizes ≡ old.sizes

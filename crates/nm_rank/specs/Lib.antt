@@ -5,3 +5,4 @@ pub mod Requests
 pub mod Takes
 pub mod New
 pub mod Pops
+pub mod Sends

@@ -72,19 +72,21 @@ impl Rank {
         self.sending.piece_to().is_some()
     }
 
-    /// The next piece to be pushed, with the rank that it goes to, if there is one: of the first
-    /// message that was cleared and has not left. There is none exactly where each cleared message
-    /// has left.
-    pub fn front_piece(&self) -> Option<(u8, Piece)>
-        ensures next { option_map offered result ≡ next_offered self.now.sending.offers }
-        ensures own { IfSome result (λ f. (f.0 < self.now.sizes.ranks) × (f.1.from ≡ self.now.me)
-            × (f.1.number ≡ pushed_to self.now.sending f.0)) }
+    /// Makes it the next piece to be pushed, if there is one, and answers the rank that this goes to:
+    /// the next one of the first message that was cleared and has not left. There is none exactly
+    /// where each cleared message has left.
+    pub fn front_piece(&self, into: &mut Piece) -> Option<u8>
+        ensures next { option_map (λ to. offered (to, into.new)) result
+            ≡ next_offered self.now.sending.offers }
+        ensures own { IfSome result (λ to. (to < self.now.sizes.ranks)
+            × (into.new.from ≡ self.now.me)
+            × (into.new.number ≡ pushed_to self.now.sending to)) }
         ensures none { IsNone result ↔ AllOut self.now.sending.offers }
         ensures left { IsNone result ↔ ((to : ℕ) → to < self.now.sizes.ranks →
             pushed_out self.now.events to
             ≡ to_push self.now.events (known_from self.now.known to) to) }
     {
-        self.sending.next_piece()
+        self.sending.next_piece(into)
     }
 
     /// Counts the next piece as pushed. Where it was its message's last one, that one has left: the

@@ -15,7 +15,8 @@
 //!   `right`).
 //! - `test`, `finish`, `probe` and `cancel` answer as MPI's definitions do on that history.
 //! - A packet or piece that does not continue its stream is counted, and makes nothing happen
-//!   (`taken`).
+//!   (`taken`). A piece is due exactly where a message that was asked for and taken is not whole
+//!   (`laws::pieces_are_due`).
 //! - After want of memory the rank is as it was (`err`).
 //! # What is only tested
 //! That calls which take memory succeed with ample memory (`nm_rank_rows`).

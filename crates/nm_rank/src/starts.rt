@@ -7,15 +7,15 @@ ghost use Rattle.nm_types.specs.Bodies.{body_len, bytes_of};
 ghost use Rattle.nm_history.specs.declared.events.Happened.TheVariants as event;
 ghost use Rattle.nm_history.specs.Matching.{first_message, is_claimed as is_claimed_lem, matched_pairs};
 ghost use Rattle.nm_history.specs.RankRun.{how_of};
-ghost use Rattle.nm_history.specs.Sends.{Sent, is_ask, message_of, receives, sends};
+ghost use Rattle.nm_history.specs.Sends.{Sent, is_ask, message_of, receives};
 ghost use Rattle.nm_request.specs.declared.Kind.TheVariants as kind;
 ghost use Rattle.nm_protocol.specs.Clock.{stamped};
 ghost use Rattle.nm_outbox.specs.Outboxes.{put_to};
-ghost use Rattle.nm_rndv.specs.Offers.{destined, with_asked, with_destined};
 ghost use Rattle.nm_sending.specs.Sent.{Puts};
 ghost use Rattle.nm_receiving.specs.Receipts.{taken_events};
 ghost use Rattle.nm_rank.specs.Calls.{Notes, Starts, TakesNone, clearance_of};
 ghost use Rattle.nm_rank.specs.Ranks.{IsFresh};
+ghost use Rattle.nm_rank.specs.Sends.{event_of, next_send, offers_sent};
 
 use crate::Rank;
 use crate::room::make_room;
@@ -84,28 +84,11 @@ impl Rank {
         requires tag { tag ≤ MAX_TAG }
         requires short { body_len body ≤ MAX_BODY }
         requires fresh { IsFresh self.old }
-        ensures started { IfOk result (λ r. let n = length (sends self.old.events to) in
-            let len = body_len body in
-            let how = how_of self.old.sizes.eager sync len in
-            (bodies : Sent → List ℕ) →
-            bodies (record {
-              stamp = self.old.clock + 1;
-              to = to;
-              n = n;
-              tag = tag;
-              ctx = ctx;
-              len = len;
-              how = how;
-              line = line;
-            }) ≡ bytes_of body →
-            Starts bodies (event.Send to n tag ctx len how line ∷ []) (kind.Send to n) self.old self.new
-            r) }
-        ensures offers { OnOk result (let offers = self.old.sending.offers in
-            self.new.sending.offers
-            ≡ (if is_ask (how_of self.old.sizes.eager sync (body_len body))
-            then with_destined offers to
-            (with_asked (destined offers to) (length (sends self.old.events to)) body)
-            else offers)) }
+        ensures started { IfOk result (λ r. let s = next_send self.old to tag ctx body sync line in
+            (bodies : Sent → List ℕ) → bodies s ≡ bytes_of body →
+            Starts bodies (event_of s ∷ []) (kind.Send to s.n) self.old self.new r) }
+        ensures offers { OnOk result (self.new.sending.offers ≡ offers_sent self.old.sending.offers
+            (next_send self.old to tag ctx body sync line) body) }
         ensures err { OnErr result (self.new ≡ self.old) }
     {
         let len = body.len();

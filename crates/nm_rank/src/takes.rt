@@ -1,7 +1,7 @@
 //! Packets and pieces that come.
 
 ghost use Rattle.std.specs.Prelude.{◌≡◌, ◌+◌, ◌<◌, ◌≤◌, ℕ, true, None, List, ◌++◌, length, option_to_list};
-ghost use Rattle.std.specs.Prelude.{IfErr, IfOk, OnErr, OnOk};
+ghost use Rattle.std.specs.Prelude.{IfOk, OnErr, OnOk};
 ghost use Rattle.nm_types.specs.declared.limits.TheConstants.{MAX_PACKETS, MAX_STAMP};
 ghost use Rattle.nm_history.specs.declared.events.Event.{Event};
 ghost use Rattle.nm_history.specs.Sends.{Sent};
@@ -104,23 +104,10 @@ fn reply(sending: &mut Sending, p: &Packet, n: u64, done_at_once: bool, stamp: u
 }
 
 impl Rank {
-    /// Takes the next packet of a rank. The clock is set forward to its stamp first. One that does
-    /// not continue its stream is counted as a stray, and changes nothing else.
-    pub fn take_packet(&mut self, p: Packet) -> Result<(), (Memory, Packet)>
-        requires sender { p.from < self.old.sizes.ranks }
-        requires number { p.seq ≡ count_of self.old.took p.from }
-        requires fresh { IsFresh self.old }
-        ensures taken { OnOk result (TakesPacket p self.old self.new) }
-        ensures err { IfErr result (λ e. (e.1 ≡ p) × (self.new ≡ self.old)) }
-    {
-        match self.take(&p) {
-            Ok(()) => Ok(()),
-            Err(memory) => Err((memory, p)),
-        }
-    }
-
-    /// Takes the next packet of a rank, or leaves everything as it was.
-    fn take(&mut self, p: &Packet) -> Result<(), Memory>
+    /// Takes the next packet of a rank, or leaves everything as it was. The clock is set forward to
+    /// its stamp first. One that does not continue its stream is counted as a stray: beside the clock
+    /// and the counts nothing changes.
+    pub fn take_packet(&mut self, p: &Packet) -> Result<(), Memory>
         requires sender { p.now.from < self.old.sizes.ranks }
         requires number { p.now.seq ≡ count_of self.old.took p.now.from }
         requires fresh { IsFresh self.old }
@@ -163,23 +150,9 @@ impl Rank {
         Ok(())
     }
 
-    /// Takes the next piece of a rank. One that is not the next one due is counted as a stray, and
-    /// changes nothing else.
-    pub fn take_piece(&mut self, p: Piece) -> Result<(), (Memory, Piece)>
-        requires sender { p.from < self.old.sizes.ranks }
-        requires number { p.number ≡ count_of self.old.pulled p.from }
-        requires fresh { IsFresh self.old }
-        ensures taken { OnOk result (TakesPiece p self.old self.new) }
-        ensures err { IfErr result (λ e. (e.1 ≡ p) × (self.new ≡ self.old)) }
-    {
-        match self.draw(&p) {
-            Ok(()) => Ok(()),
-            Err(memory) => Err((memory, p)),
-        }
-    }
-
-    /// Takes the next piece of a rank, or leaves everything as it was.
-    fn draw(&mut self, p: &Piece) -> Result<(), Memory>
+    /// Takes the next piece of a rank, or leaves everything as it was. One that is not the next one
+    /// due is counted as a stray: beside the counts nothing changes.
+    pub fn take_piece(&mut self, p: &Piece) -> Result<(), Memory>
         requires sender { p.now.from < self.old.sizes.ranks }
         requires number { p.now.number ≡ count_of self.old.pulled p.now.from }
         requires fresh { IsFresh self.old }

@@ -5,7 +5,7 @@ ghost use Rattle.nm_types.specs.declared.limits.TheConstants.{MAX_BODY, MAX_PAYL
 
 use nm_rank::{Cancelled, FinishFault, NoSuch, Rank, Req, State};
 use nm_types::{
-    Answer, Body, MAX_STAMP, Memory, Packet, Payload, Peer, Seen, Shape, TagPick, What,
+    Answer, Body, MAX_STAMP, Memory, Packet, Payload, Peer, Piece, Seen, Shape, TagPick, What,
 };
 use std::alloc::Global;
 use std::process::Abort;
@@ -46,16 +46,14 @@ fn ask(len: u32) -> What {
 
 /// Whether a rank at which nothing happened takes this packet of rank 1 as a stray, by which nothing
 /// happens.
-fn is_counted(rank: &mut Rank, packet: Packet) -> Result<bool, Memory>
+fn is_counted(rank: &mut Rank, packet: &Packet) -> Result<bool, Memory>
     requires ranks { rank.old.sizes.ranks ≡ 2 }
-    requires packet { (packet.from ≡ 1) × (packet.seq ≡ 0) }
+    requires packet { (packet.now.from ≡ 1) × (packet.now.seq ≡ 0) }
 {
     if rank.is_worn() || rank.took(1) != 0 {
         return Ok(false);
     }
-    if let Err((memory, _)) = rank.take_packet(packet) {
-        return Err(memory);
-    }
+    rank.take_packet(packet)?;
     let is_taken = rank.strays() == 1 && rank.took(1) == 1;
     Ok(is_taken && rank.front().is_none() && rank.history().is_empty())
 }
@@ -74,7 +72,7 @@ fn is_stray(alloc: Global, what: What, size: usize, stamp: u64) -> Result<bool, 
         payload: Payload::of(&bytes[..size]),
     };
     let mut rank = fresh(alloc, 0)?;
-    is_counted(&mut rank, packet)
+    is_counted(&mut rank, &packet)
 }
 
 /// Moves the first packet of one rank to the other, if there is one.
@@ -83,16 +81,13 @@ fn move_packet(rt: &impl Abort, from: &mut Rank, to: &mut Rank) -> Result<bool, 
     ensures { (from.new.sizes.ranks ≡ 2) × (to.new.sizes.ranks ≡ 2) }
 {
     assert!(rt; !from.is_worn() && !to.is_worn());
-    let Some((_, first)) = from.front() else {
+    let Some((_, packet)) = from.front() else {
         return Ok(false);
     };
-    let packet = first.copy();
     assert!(rt; packet.from < 2);
     assert_eq!(rt; packet.seq, to.took(packet.from));
+    to.take_packet(packet)?;
     from.pop_front();
-    if let Err((memory, _)) = to.take_packet(packet) {
-        return Err(memory.into());
-    }
     Ok(true)
 }
 
@@ -103,15 +98,14 @@ fn move_piece(rt: &impl Abort, from: &mut Rank, to: &mut Rank) -> Result<bool, F
 {
     assert!(rt; !from.is_worn() && !to.is_worn());
     assert_eq!(rt; from.has_piece(), from.piece_to().is_some());
-    let Some((_, piece)) = from.front_piece() else {
+    let mut piece = Piece::blank();
+    if from.front_piece(&mut piece).is_none() {
         return Ok(false);
-    };
+    }
     assert!(rt; piece.from < 2);
     assert_eq!(rt; piece.number, to.pulled(piece.from));
     from.pop_piece();
-    if let Err((memory, _)) = to.take_piece(piece) {
-        return Err(memory.into());
-    }
+    to.take_piece(&piece)?;
     Ok(true)
 }
 

@@ -6,7 +6,7 @@ ghost use Rattle.nm_types.specs.declared.limits.TheConstants.{MAX_BODY};
 ghost use Rattle.nm_rndv.specs.Cuts.{start_of, rest_of, offset_of, next_bytes};
 
 use nm_bodies::copy_range;
-use nm_types::{Body, Chunk, MAX_PIECE, Piece, laws};
+use nm_types::{Body, MAX_PIECE, Piece, laws};
 use std::marker::Model;
 
 /// The most bytes of a piece.
@@ -32,6 +32,7 @@ impl Model for LongBody {
 }
 
 impl LongBody {
+    /// A body that is short enough.
     pub fn new(body: Body) -> Self
         requires { body_len body ≤ MAX_BODY }
         ensures { result ≡ body }
@@ -76,24 +77,22 @@ impl Leaving {
         PIECE * self.popped
     }
 
-    /// The next piece, of message `n`. Its sender and its number are 0.
-    pub fn piece(&self, n: u64) -> Piece
-        ensures blank { (result.from ≡ 0) × (result.number ≡ 0) }
-        ensures place { (result.n ≡ n) × (result.at ≡ offset_of self.now) }
-        ensures bytes { result.bytes ≡ next_bytes self.now }
+    /// Makes it the next piece, of message `n`. Its sender and its number become 0.
+    pub fn fill_piece(&self, n: u64, into: &mut Piece)
+        ensures blank { (into.new.from ≡ 0) × (into.new.number ≡ 0) }
+        ensures place { (into.new.n ≡ n) × (into.new.at ≡ offset_of self.now) }
+        ensures bytes { into.new.bytes ≡ next_bytes self.now }
     {
         let at = self.offset();
         let size = (self.body.len() - at).min(PIECE) as usize;
         let mut bytes = [0; MAX_PIECE as usize];
         laws::bodies_have_their_length();
         copy_range(&self.body, at, size, &mut bytes);
-        Piece {
-            from: 0,
-            number: 0,
-            n,
-            at,
-            bytes: Chunk::of(&bytes[..size]),
-        }
+        into.from = 0;
+        into.number = 0;
+        into.n = n;
+        into.at = at;
+        into.bytes.set(&bytes[..size]);
     }
 
     /// What is left after the next piece, or `None` where that is the last.

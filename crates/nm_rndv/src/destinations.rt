@@ -34,6 +34,7 @@ impl Model for Destination {
 }
 
 impl Destination {
+    /// Nothing was asked, and nothing recalled.
     pub fn new(alloc: Global) -> Self
         ensures { result ≡ untold }
     {

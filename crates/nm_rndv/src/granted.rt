@@ -75,12 +75,14 @@ impl Grant {
         self.len - self.came()
     }
 
-    /// Puts bytes behind those that came.
+    /// Puts bytes behind those that came, in memory for the whole message, which the first of them take.
     pub fn add(&mut self, more: &[u8]) -> Result<(), Memory>
         ensures ok { OnOk result (self.new ≡ with_more self.old more.now) }
         ensures err { OnErr result (self.new ≡ self.old) }
     {
+        let len = self.len as usize;
         if let Some(bytes) = &mut self.bytes {
+            bytes.reserve_exact(len.saturating_sub(bytes.len()))?;
             bytes.extend_from_slice(more)?;
         }
         Ok(())

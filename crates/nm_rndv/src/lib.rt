@@ -18,9 +18,9 @@
 //! withdrawn stays in neither, nor do bytes that were taken.
 //! # What is proved
 //! - Only `cleared` makes a message cleared. It puts it at the end of the order.
-//! - `next_piece` is the next piece of the first message in the order that is not out; `pop_piece`
-//!   counts it, and names its message at the last piece. `None` comes exactly where every cleared
-//!   message is out.
+//! - `next_piece` fills a place of its caller's with the next piece of the first message in the order
+//!   that is not out; `pop_piece` counts it, and names its message at the last piece. `None` comes
+//!   exactly where every cleared message is out, and the place is then as it was.
 //! - A withdrawal that was done is of a message that was never cleared.
 //! - `piece` puts its bytes behind those of the first unfinished grant of its sender, and `take`
 //!   gives the bytes of a whole one. A grant after `reserve` is not refused.

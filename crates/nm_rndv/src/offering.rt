@@ -163,20 +163,21 @@ impl Offers {
         ensures in_range { IfSome result (λ to. to < length self.now.destinations) }
         ensures none { IsNone result ↔ AllOut self.now }
     {
-        let (to, _) = self.front()?;
-        Some(to)
+        Some(self.front()?.0)
     }
 
-    /// The next piece in the order of clearance, and its destination. Its sender and its number are
-    /// 0: they are its caller's to set.
-    pub fn next_piece(&self) -> Option<(u8, Piece)>
-        ensures next { option_map offered result ≡ next_offered self.now }
-        ensures blank { IfSome result (λ next. (next.1.from ≡ 0) × (next.1.number ≡ 0)) }
+    /// Makes it the next piece in the order of clearance, if there is one, and says where that goes.
+    /// Its sender and its number become 0: they are its caller's to set.
+    pub fn next_piece(&self, into: &mut Piece) -> Option<u8>
+        ensures next { option_map (λ to. offered (to, into.new)) result ≡ next_offered self.now }
+        ensures blank { IfSome result (λ to. (into.new.from ≡ 0) × (into.new.number ≡ 0)) }
         ensures none { IsNone result ↔ AllOut self.now }
+        ensures same { IsNone result → into.new ≡ into.old }
     {
         let (to, n) = self.front()?;
         let left = self.destinations[to as usize].leaving(n)?;
-        Some((to, left.piece(n)))
+        left.fill_piece(n, into);
+        Some(to)
     }
 
     /// Counts the next piece as sent. The answer names its message where it was the last one.

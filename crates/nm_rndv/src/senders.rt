@@ -60,6 +60,7 @@ fn first_open(grants: &IndexMap<u64, Grant>, from: usize) -> usize
 }
 
 impl Sender {
+    /// Nothing was granted.
     pub fn new(alloc: Global) -> Self
         ensures { result.grants ≡ [] }
     {

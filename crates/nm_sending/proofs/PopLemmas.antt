@@ -24,8 +24,7 @@ use Rattle.nm_rndv.specs.declared.asked.State.TheVariants.{Cleared}
 use Rattle.nm_rndv.specs.Offers.{Destined, untold, destined, state_of, state_at, recall_in, leaves}
 use Rattle.nm_rndv.specs.Offers.{is_leaving}
 use Rattle.nm_rndv.specs.Offers.{first_leaving, with_step, with_popped, after_piece, leaving_or_out, is_out}
-use Rattle.nm_rndv.specs.Offers.{Offered, Offering, next_in, next_offered, offered, offered_of, out_by_piece}
-use Rattle.nm_types.specs.declared.packets.Piece.{Piece}
+use Rattle.nm_rndv.specs.Offers.{Offered, Offering, next_in, next_offered, offered_of, out_by_piece}
 use Rattle.nm_sending.specs.declared.TheConstants.{MAX_MESSAGES}
 use Rattle.nm_sending.specs.declared.departures.Departure.{Departure}
 use Rattle.nm_sending.specs.Departures.{SendingView, with_departure, departures_to}
@@ -336,19 +335,17 @@ module _ (me ranks : ℕ) (old : SendingView) (tables : AreTables me ranks old)
       by_rest m first lead within None none found = absurd cc
 
 -- the destination of the next piece
-pub piece_to : (v : Offering) (o : Option (ℕ × Piece)) (p : ℕ × Piece) (to n : ℕ) → o ≡ Some p
-    → option_map offered o ≡ next_offered v → first_leaving v ≡ Some (to, n) → p.0 ≡ to
-piece_to v o p to n some' next first =
+pub piece_to : (v : Offering) (p : Offered) (to n : ℕ) → Some p ≡ next_offered v → first_leaving v ≡ Some (to, n)
+    → p.to ≡ to
+piece_to v p to n next first =
     by_next (option_and_then next_in (state_at v.destinations (to, n)))
-    (sym (ap (λ (x : Option (ℕ × Piece)). option_map offered x) some') ∙ next
-    ∙ ap (λ (x : Option (ℕ × ℕ)). option_and_then (offered_of v.destinations) x) first)
+    (next ∙ ap (λ (x : Option (ℕ × ℕ)). option_and_then (offered_of v.destinations) x) first)
   where
     by_next : (x : Option (ℕ × List ℕ))
-        → Some (offered p) ≡ option_map (λ y. record { to = to; n = n; at = y.0; bytes = y.1 }) x → p.0 ≡ to
+        → Some p ≡ option_map (λ y. record { to = to; n = n; at = y.0; bytes = y.1 }) x → p.to ≡ to
     by_next None is = absurd cc
     by_next (Some y) is =
-        let same : ◌≡◌ {A = Offered} (offered p) (record { to = to; n = n; at = y.0; bytes = y.1 }) = cc in
-        ap (λ (x : Offered). x.to) same
+        let same : p ≡ (record { to = to; n = n; at = y.0; bytes = y.1 }) = cc in ap (λ (x : Offered). x.to) same
 
 -- the destination of the message that the next piece is of
 pub message_to : (v : Offering) (o : Option (ℕ × ℕ)) (m : ℕ × ℕ) (to n : ℕ) → o ≡ Some m
@@ -398,16 +395,12 @@ popped_view P old to n rows staying offers pushed popped raised p =
     (sym raised) p)
 
 -- where there is a next piece, its number is within the limit
-pub next_pushes : (me ranks : ℕ) (old : SendingView) → AreTables me ranks old
-    → (o : Option (ℕ × Piece)) (p : ℕ × Piece)
-    → o ≡ Some p → option_map offered o ≡ next_offered old.offers
-    → (p.0 < ranks) × (pushed_to old p.0 + 1 ≤ 1024 * MAX_MESSAGES)
-next_pushes me ranks old tables o p some' next =
-    let there : IsSome (next_offered old.offers) =
-    subst (λ (x : Option Offered). IsSome x)
-    (sym (ap (λ (x : Option (ℕ × Piece)). option_map offered x) some') ∙ next) refl in
+pub next_pushes : (me ranks : ℕ) (old : SendingView) → AreTables me ranks old → (p : Offered)
+    → Some p ≡ next_offered old.offers → (p.to < ranks) × (pushed_to old p.to + 1 ≤ 1024 * MAX_MESSAGES)
+next_pushes me ranks old tables p next =
+    let there : IsSome (next_offered old.offers) = subst (λ (x : Option Offered). IsSome x) next refl in
     let m = is_leading old.offers there in
     let within = leading_within me ranks old tables m.0 m.1 in
     let few = few_pushed me ranks old tables m.0.0 m.0.1 m.1 (leading me ranks old tables m.0 m.1) within in
-    let to : p.0 ≡ m.0.0 = piece_to old.offers o p m.0.0 m.0.1 some' next m.1 in
+    let to : p.to ≡ m.0.0 = piece_to old.offers p m.0.0 m.0.1 next m.1 in
     (omega (arith, to, within), subst (λ (x : ℕ). pushed_to old x + 1 ≤ 1024 * MAX_MESSAGES) (sym to) few)

@@ -80,8 +80,8 @@ ends_to to letters = filter_map (λ l. if l.to == to then l.ends else None) lett
 abbrev pub ended_by : Option Letter → Option (ℕ × ℕ)
 ended_by letter = option_and_then (λ l. option_map (λ n. (l.to, n)) l.ends) letter
 
--- the send is complete: the message has left, and where it was to be withdrawn, the answer to that is
--- back too, or says that it was
+-- the send is complete: the message has left; or it was recalled, the answer is back, and the message
+-- was withdrawn or has left
 abbrev pub is_over : Departure → Bool
 is_over d = if d.recalled then was_undone true d || (was_undone false d && d.out) else d.out
 

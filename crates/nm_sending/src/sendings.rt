@@ -402,24 +402,20 @@ impl Sending {
         self.offers.piece_to()
     }
 
-    /// The next piece to be pushed, and its destination, if there is one.
-    pub fn next_piece(&self) -> Option<(u8, Piece)>
-        ensures next { option_map offered result ≡ next_offered self.now.offers }
-        ensures to { IfSome result (λ next. next.0 < length self.now.outbox.popped) }
-        ensures from { IfSome result (λ next. next.1.from ≡ self.now.outbox.me) }
-        ensures number { IfSome result (λ next. next.1.number ≡ pushed_to self.now next.0) }
+    /// Makes it the next piece to be pushed, if there is one, and says where that goes.
+    pub fn next_piece(&self, into: &mut Piece) -> Option<u8>
+        ensures next { option_map (λ to. offered (to, into.new)) result
+            ≡ next_offered self.now.offers }
+        ensures to { IfSome result (λ to. to < length self.now.outbox.popped) }
+        ensures from { IfSome result (λ to. into.new.from ≡ self.now.outbox.me) }
+        ensures number { IfSome result (λ to. into.new.number ≡ pushed_to self.now to) }
         ensures none { IsNone result ↔ AllOut self.now.offers }
+        ensures same { IsNone result → into.new ≡ into.old }
     {
-        let (to, piece) = self.offers.next_piece()?;
-        let Piece { n, at, bytes, .. } = piece;
-        let piece = Piece {
-            from: self.me,
-            number: self.pushed[to as usize],
-            n,
-            at,
-            bytes,
-        };
-        Some((to, piece))
+        let to = self.offers.next_piece(into)?;
+        into.from = self.me;
+        into.number = self.pushed[to as usize];
+        Some(to)
     }
 
     /// Counts the next piece as pushed. Where it was its message's last one, that one has left.

@@ -17,9 +17,9 @@ ghost use Rattle.nm_channels.specs.Moments.{Moment, history_of, taken_from};
 ghost use Rattle.nm_channels.specs.SoFar.{IsOver};
 ghost use Rattle.nm_channels.specs.Sound.{AreSound};
 
-/// An eager message of a rank to one that may be the same has its body where it is over by the
-/// packets that were taken, of a rank at which neither is at its end: those and the packets that are
-/// still to come are called for by the sender's history.
+/// An eager message from one rank to another, which may be the same, has its body once it is over by the
+/// packets taken so far; neither rank need be at its end. Those packets and the ones still to come are
+/// those that the sender's history calls for.
 pub fn a_message_that_is_over_has_its_body()
     ensures { (eager ranks i j n : ℕ) (bodies bodies' : Sent → List ℕ) (ci cj : List Numbered)
         (li lj : List Moment) (more : List Packet) (s : Sent) →

@@ -1,7 +1,7 @@
 //! The moment of each call by which a rank acts by itself. The hypotheses are the clauses of the
 //! call.
 
-ghost use Rattle.std.specs.Prelude.{◌≡◌, ◌≤◌, ◌+◌, ℕ, Bool, Some, List, [], ◌∷◌, ◌++◌, length};
+ghost use Rattle.std.specs.Prelude.{◌≡◌, ◌≤◌, ℕ, Bool, Some, List, [], ◌∷◌, ◌++◌, length};
 ghost use Rattle.nm_types.specs.declared.answers.Answer.{Answer};
 ghost use Rattle.nm_types.specs.declared.limits.TheConstants.{MAX_BODY, MAX_TAG};
 ghost use Rattle.nm_types.specs.declared.messages.Arrival.{Arrival};
@@ -9,14 +9,13 @@ ghost use Rattle.nm_types.specs.declared.messages.Peer.{Peer};
 ghost use Rattle.nm_types.specs.declared.messages.TagPick.{TagPick};
 ghost use Rattle.nm_types.specs.declared.scripts.Body.{Body};
 ghost use Rattle.nm_types.specs.declared.scripts.Command.TheVariants as command;
-ghost use Rattle.nm_types.specs.Bodies.{body_len, bytes_of};
+ghost use Rattle.nm_types.specs.Bodies.{bytes_of};
 ghost use Rattle.nm_types.specs.Commands.{Numbered, command_at};
 ghost use Rattle.nm_history.specs.declared.events.Event.{Event};
 ghost use Rattle.nm_history.specs.declared.events.Happened.TheVariants as event;
 ghost use Rattle.nm_history.specs.Answers.{live};
 ghost use Rattle.nm_history.specs.Matching.{first_message, matched_pairs};
-ghost use Rattle.nm_history.specs.RankRun.{how_of};
-ghost use Rattle.nm_history.specs.Sends.{Sent, message_of, receives, sends};
+ghost use Rattle.nm_history.specs.Sends.{Sent, message_of, receives};
 ghost use Rattle.nm_request.specs.declared.Kind.{Kind};
 ghost use Rattle.nm_request.specs.declared.Kind.TheVariants as kind;
 ghost use Rattle.nm_request.specs.declared.Req.{Req};
@@ -27,6 +26,7 @@ ghost use Rattle.nm_rank.specs.Calls.{Happens, Notes, Starts, TakesNone};
 ghost use Rattle.nm_rank.specs.Pops.{PopsPacket, PopsPiece, out_with_packet, out_with_piece};
 ghost use Rattle.nm_rank.specs.Ranks.{RankView, request_of};
 ghost use Rattle.nm_rank.specs.Requests.{cancel_events};
+ghost use Rattle.nm_rank.specs.Sends.{event_of, next_send};
 ghost use Rattle.nm_rank_log.specs.Calls.{AnswersLogged, ShowsLogged};
 ghost use Rattle.nm_rank_log.specs.Logged.{IsLogged};
 ghost use Rattle.nm_rank_log.specs.Moments.{acted};
@@ -39,20 +39,9 @@ pub fn a_send_starts()
     ensures { (eager : ℕ) (bodies : Sent → List ℕ) (commands : List Numbered) (v v' : RankView)
         (log : List Moment) (given : List ℕ) (to tag ctx line : ℕ) (body : Body) (sync : Bool)
         (r : Req) →
-        let n = length (sends v.events to) in let len = body_len body in
-        let how = how_of v.sizes.eager sync len in
-        let ws = event.Send to n tag ctx len how line ∷ [] in
-        IsLogged eager bodies commands v log given → tag ≤ MAX_TAG → len ≤ MAX_BODY →
-        bodies (record {
-          stamp = v.clock + 1;
-          to = to;
-          n = n;
-          tag = tag;
-          ctx = ctx;
-          len = len;
-          how = how;
-          line = line;
-        }) ≡ bytes_of body → Starts bodies ws (kind.Send to n) v v' r →
+        let s = next_send v to tag ctx body sync line in let ws = event_of s ∷ [] in
+        IsLogged eager bodies commands v log given → tag ≤ MAX_TAG → s.len ≤ MAX_BODY →
+        bodies s ≡ bytes_of body → Starts bodies ws (kind.Send to s.n) v v' r →
         IsLogged eager bodies commands v' (log ++ acted v ws ∷ []) given }
 {
     bodies_have_their_length();

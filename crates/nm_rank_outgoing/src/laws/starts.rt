@@ -1,28 +1,27 @@
 //! A new rank, and what a command starts or cancels.
 
-ghost use Rattle.std.specs.Prelude.{◌≡◌, ℕ, ◌+◌, ◌<◌, false, if◌then◌else◌, List, [], ◌∷◌, length};
+ghost use Rattle.std.specs.Prelude.{◌≡◌, ℕ, ◌<◌, false, List, [], ◌∷◌};
 ghost use Rattle.std.specs.Prelude.{Bool, Option};
 ghost use Rattle.std.specs.List.{AllByRecursion};
-ghost use Rattle.nm_types.specs.Bodies.{body_len, bytes_of};
+ghost use Rattle.nm_types.specs.Bodies.{bytes_of};
 ghost use Rattle.nm_types.specs.Sizes.{Sizes};
 ghost use Rattle.nm_types.specs.declared.messages.Arrival.{Arrival};
 ghost use Rattle.nm_types.specs.declared.messages.Post as post;
 ghost use Rattle.nm_types.specs.declared.scripts.Body.{Body};
 ghost use Rattle.nm_history.specs.declared.events.Happened.{Happened};
-ghost use Rattle.nm_history.specs.declared.events.Happened.TheVariants.{Match, Post, Send};
-ghost use Rattle.nm_history.specs.RankRun.{how_of};
-ghost use Rattle.nm_history.specs.Sends.{Sent, is_ask, sends};
+ghost use Rattle.nm_history.specs.declared.events.Happened.TheVariants.{Match, Post};
+ghost use Rattle.nm_history.specs.Sends.{Sent};
 ghost use Rattle.nm_protocol.specs.Rules.{AreRight};
 ghost use Rattle.nm_request.specs.declared.Kind.{Kind};
 ghost use Rattle.nm_request.specs.declared.Kind.TheVariants as kind;
 ghost use Rattle.nm_request.specs.declared.Req.{Req};
-ghost use Rattle.nm_rndv.specs.Offers.{destined, with_asked, with_destined};
 ghost use Rattle.nm_sending.specs.Sent.{is_of_sending};
 ghost use Rattle.nm_receiving.specs.Receipts.{taken_events};
 ghost use Rattle.nm_rank.specs.Calls.{Happens, Starts, TakesNone};
 ghost use Rattle.nm_rank.specs.New.{IsNew};
 ghost use Rattle.nm_rank.specs.Ranks.{RankView};
 ghost use Rattle.nm_rank.specs.Requests.{cancel_events, offers_cancelled};
+ghost use Rattle.nm_rank.specs.Sends.{event_of, next_send, offers_sent};
 ghost use Rattle.nm_rank_outgoing.specs.Left.{IsLeft, Left, nothing};
 
 use nm_outbox::laws::packets_stay_in_order;
@@ -37,27 +36,10 @@ pub fn nothing_left()
 pub fn sends_keep_left()
     ensures { (bodies : Sent → List ℕ) (before after : RankView) (to receiver tag ctx line : ℕ)
         (body : Body) (sync : Bool) (r : Req) (left : Left) →
-        let n = length (sends before.events receiver) in
-        let len = body_len body in
-        let how = how_of before.sizes.eager sync len in
-        let offers = before.sending.offers in
-        AreRight before.sizes.ranks [] before.events →
-        bodies (record {
-          stamp = before.clock + 1;
-          to = receiver;
-          n = n;
-          tag = tag;
-          ctx = ctx;
-          len = len;
-          how = how;
-          line = line;
-        }) ≡ bytes_of body →
-        Starts bodies (Send receiver n tag ctx len how line ∷ []) (kind.Send receiver n) before after
-        r →
-        after.sending.offers
-        ≡ (if is_ask how
-        then with_destined offers receiver (with_asked (destined offers receiver) n body)
-        else offers) →
+        let s = next_send before receiver tag ctx body sync line in
+        AreRight before.sizes.ranks [] before.events → bodies s ≡ bytes_of body →
+        Starts bodies (event_of s ∷ []) (kind.Send receiver s.n) before after r →
+        after.sending.offers ≡ offers_sent before.sending.offers s body →
         IsLeft bodies before to left → IsLeft bodies after to left }
 {
     packets_stay_in_order();

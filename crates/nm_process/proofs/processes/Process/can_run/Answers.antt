@@ -4,7 +4,7 @@ use Rattle.nm_types.specs.declared.scripts.Line.{Line}
 use Rattle.nm_process.specs.Places.{IsNext}
 use Rattle.nm_process.specs.Steps.{can_go_on_by}
 use Rattle.nm_process.proofs.PlaceLemmas.{at_place}
-use Rattle.nm_process.proofs.StepLemmas.{next_goes_on}
+use Rattle.nm_process.proofs.NextLemmas.{next_goes_on}
 use Rattle.nm_process.proofs.processes.Process.can_run.Goals as goal
 
 pub returns : goal.returns

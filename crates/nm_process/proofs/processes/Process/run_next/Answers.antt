@@ -8,7 +8,7 @@ use Rattle.nm_process.specs.Processes.{ProcessView}
 use Rattle.nm_process.specs.Starts.{HasTried}
 use Rattle.nm_process.proofs.PlaceLemmas.{at_place}
 use Rattle.nm_process.proofs.SameLemmas.{tried_run}
-use Rattle.nm_process.proofs.StepLemmas.{ran_step, stepped, tried_counted, waited}
+use Rattle.nm_process.proofs.NextLemmas.{ran_step, stepped, tried_counted, waited}
 use Rattle.nm_process.proofs.processes.Process.run_next.Goals as goal
 
 pub returns-in-Waits-clause-waits : goal.returns-in-Waits-clause-waits

@@ -19,9 +19,9 @@ invariant_of-self-2 c =
     let w = c.take_packet.new.self in
     let taken = c.in_ok-take_packet.ensures.taken in (
       subst (λ (r : Live). AreLive r p.requests.entries) (sym taken.requests) i.0,
-      packets_hold_at v w (max v.clock c.args.p.stamp) (made_of v c.args.p) p.handles.entries
+      packets_hold_at v w (max v.clock c.args.p.now.stamp) (made_of v c.args.p.now) p.handles.entries
           (taken.happened (λ s. [])).events c.history.ensures.right
-          (packet_of_packets (known_from v.known c.args.p.from) v.events (taken_of v c.args.p)) i.1,
+          (packet_of_packets (known_from v.known c.args.p.now.from) v.events (taken_of v c.args.p.now)) i.1,
       i.2 ∙ sym taken.me,
       i.3,
     )
@@ -40,7 +40,7 @@ returns-clause-work c shape lines work =
           p.requests.entries;
       handles = p.handles.entries;
     } in
-    work_packets shape lines a w (max v.clock c.args.p.stamp) (made_of v c.args.p) taken.me taken.sizes
+    work_packets shape lines a w (max v.clock c.args.p.now.stamp) (made_of v c.args.p.now) taken.me taken.sizes
     taken.requests (taken.happened (λ s. [])).events
-    (packet_of_packets (known_from v.known c.args.p.from) v.events (taken_of v c.args.p))
+    (packet_of_packets (known_from v.known c.args.p.now.from) v.events (taken_of v c.args.p.now))
     (subst (λ (v : ProcessView). IsAtWork shape lines v) (sym c.self.view_is) work)

@@ -18,9 +18,9 @@ invariant_of-self-2 c =
     let w = c.take_piece.new.self in
     let taken = c.in_ok-take_piece.ensures.taken in (
       subst (λ (r : Live). AreLive r p.requests.entries) (sym taken.requests) i.0,
-      packets_hold_at v w (v.clock) (piece_makes c.args.p.from (next_due v c.args.p.from) c.args.p)
+      packets_hold_at v w (v.clock) (piece_makes c.args.p.now.from (next_due v c.args.p.now.from) c.args.p.now)
           p.handles.entries taken.happened.events c.history.ensures.right
-          (piece_of_packets c.args.p.from (next_due v c.args.p.from) c.args.p) i.1,
+          (piece_of_packets c.args.p.now.from (next_due v c.args.p.now.from) c.args.p.now) i.1,
       i.2 ∙ sym taken.me,
       i.3,
     )
@@ -39,7 +39,7 @@ returns-clause-work c shape lines work =
           p.requests.entries;
       handles = p.handles.entries;
     } in
-    work_packets shape lines a w (v.clock) (piece_makes c.args.p.from (next_due v c.args.p.from) c.args.p)
+    work_packets shape lines a w (v.clock) (piece_makes c.args.p.now.from (next_due v c.args.p.now.from) c.args.p.now)
     taken.me taken.sizes taken.requests taken.happened.events
-    (piece_of_packets c.args.p.from (next_due v c.args.p.from) c.args.p)
+    (piece_of_packets c.args.p.now.from (next_due v c.args.p.now.from) c.args.p.now)
     (subst (λ (v : ProcessView). IsAtWork shape lines v) (sym c.self.view_is) work)

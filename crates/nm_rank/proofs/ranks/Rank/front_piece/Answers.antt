@@ -16,7 +16,7 @@ returns-clause-left c =
       λ none. all_left a.sending a.journal.events a.shape.ranks known sent cleared
           (c.next_piece.ensures.none.0 none),
       λ all. none_next a.sending a.journal.events a.shape.ranks known sent cleared all c.next_piece.result
-          c.next_piece.ensures.next
-          (subst (λ (k : ℕ). IfSome c.next_piece.result (λ next. next.0 < k)) c.self.invariant.peers.to
+          c.next_piece.new.into c.next_piece.ensures.next
+          (subst (λ (k : ℕ). IfSome c.next_piece.result (λ to. to < k)) c.self.invariant.peers.to
           c.next_piece.ensures.to),
     )

@@ -11,6 +11,7 @@ use Rattle.nm_request.specs.declared.Kind.TheVariants as kind
 use Rattle.nm_sending.specs.Departures.{SendingView, departures_to}
 use Rattle.nm_rank.specs.Calls.{Starts}
 use Rattle.nm_rank.specs.Ranks.{IsFresh, RankView, seen}
+use Rattle.nm_rank.specs.Sends.{event_of, next_send}
 use Rattle.nm_rank.proofs.Goes.{length-sent}
 use Rattle.nm_rank.proofs.ViewLemmas.{same-offers, starts-send}
 use Rattle.nm_rank.proofs.RoomLemmas.{fields-room}
@@ -53,21 +54,10 @@ returns-clause-started c =
     c.in_ok-n.ensures.number
     ∙ ap (λ (s : SendingView). length (departures_to s c.args.to)) c.make_room.ensures.letters
     ∙ length-sent a.sending a.journal.events c.self.invariant.history.sent c.args.to in
-    subst (λ (v : RankView). (bodies : Sent → List ℕ) →
-    bodies (record {
-      stamp = v.clock + 1;
-      to = c.args.to;
-      n = length (sends v.events c.args.to);
-      tag = c.args.tag;
-      ctx = c.args.ctx;
-      len = body_len c.args.body;
-      how = how_of v.sizes.eager c.args.sync (body_len c.args.body);
-      line = c.args.line;
-    }) ≡ bytes_of c.args.body →
-    Starts bodies
-    (event.Send c.args.to (length (sends v.events c.args.to)) c.args.tag c.args.ctx
-    (body_len c.args.body) (how_of v.sizes.eager c.args.sync (body_len c.args.body)) c.args.line ∷ [])
-    (kind.Send c.args.to (length (sends v.events c.args.to))) v
+    let s : RankView → Sent = λ v.
+    next_send v c.args.to c.args.tag c.args.ctx c.args.body c.args.sync c.args.line in
+    subst (λ (v : RankView). (bodies : Sent → List ℕ) → bodies (s v) ≡ bytes_of c.args.body →
+    Starts bodies (event_of (s v) ∷ []) (kind.Send c.args.to (s v).n) v
     (seen a.me a.shape c.add.new.self c.send.new.self a.receiving
     (map (λ s. s.known) a.streams.items) c.add-2.new.self a.took.items a.pulled.items a.strays)
     c.unwrap.result) c.self.view_is

@@ -5,7 +5,7 @@ use Rattle.nm_rank.specs.Fields.{AreFields}
 use Rattle.nm_rank.specs.Ranks.{RankView, count_of}
 use Rattle.nm_rank.proofs.DrawLemmas.{fields-draw}
 use Rattle.nm_rank.proofs.RoomLemmas.{fields-room}
-use Rattle.nm_rank.proofs.ranks.Rank.draw.Goals as goal
+use Rattle.nm_rank.proofs.ranks.Rank.take_piece.Goals as goal
 
 pub invariant_of-self-in_err-drawn : goal.invariant_of-self-in_err-drawn
 invariant_of-self-in_err-drawn c = let a = c.self.inside in

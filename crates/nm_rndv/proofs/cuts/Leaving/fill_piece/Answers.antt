@@ -2,7 +2,7 @@ use Rattle.std.proofs.Common.{◌≡◌, ◌-◌, ◌*◌, length, take, drop, m
 use Rattle.nm_types.specs.Bodies.{bytes_of}
 use Rattle.nm_bodies.proofs.RangeLemmas.{up_to_the_end}
 use Rattle.nm_rndv.specs.Cuts.{Cut, offset_of}
-use Rattle.nm_rndv.proofs.cuts.Leaving.piece.Goals as goal
+use Rattle.nm_rndv.proofs.cuts.Leaving.fill_piece.Goals as goal
 
 pub returns-clause-bytes : goal.returns-clause-bytes
 returns-clause-bytes c =
@@ -16,5 +16,5 @@ returns-clause-bytes c =
       c.len.ensures,
       c.bodies_have_their_length.ensures c.self.inside.body,
     ) in
-    rw (← c.self.view_is) (c.of.ensures ∙ c.copy_range.ensures ∙ up_to_the_end xs start 1024 c.min-size.result size
+    rw (← c.self.view_is) (c.set.ensures ∙ c.copy_range.ensures ∙ up_to_the_end xs start 1024 c.min-size.result size
     ∙ ap (λ n. take 1024 (drop n xs)) from)

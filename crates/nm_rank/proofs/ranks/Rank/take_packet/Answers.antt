@@ -7,7 +7,7 @@ use Rattle.nm_rank.specs.Ranks.{RankView, known_from, count_of, seen}
 use Rattle.nm_rank.proofs.AcceptedLemmas.{streams-low}
 use Rattle.nm_rank.proofs.TakeLemmas.{known-at, known_of}
 use Rattle.nm_rank.proofs.TakenLemmas.{takes-stray}
-use Rattle.nm_rank.proofs.ranks.Rank.take.Goals as goal
+use Rattle.nm_rank.proofs.ranks.Rank.take_packet.Goals as goal
 
 pub returns-else-continues-clause-taken : goal.returns-else-continues-clause-taken
 returns-else-continues-clause-taken c = let a = c.self.inside in
