@@ -267,6 +267,6 @@ pub shows_body : (sent : List Body) (v v' : RankView) (r : Req) (a : Answer) (st
     ((k : Kind) → kind_of v.requests r ≡ Some k → ShowsLogged st.past.log v.events k a) →
     ShowsBody sent v (Finish r) (Ended a)
 shows_body sent v v' r (answer.Got from tag body) st fresh alone right ends shows =
-    let k = some_and (IsResult v (answer.Got from tag body)) (kind_of v.requests r) ends.gives in
+    let k = some_and (IsResult v (answer.Got from tag body)) (kind_of v.requests r) ends.finished.gives in
     got_shown sent v r k.0 from tag body st fresh alone right k.1 k.2 (shows k.0 k.1)
 shows_body sent v v' r a st fresh alone right ends shows = tt

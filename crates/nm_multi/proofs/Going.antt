@@ -188,7 +188,7 @@ all_stay =
       moves = λ k old new is fresh alone. moved_many k old new alone is.0;
       moves_some = λ k old new is fresh alone. moved_many k old new alone is.0;
       ends = λ r a old new is fresh alone.
-          quiet old new fresh alone is.me is.sizes is.took
+          quiet old new fresh alone is.me is.finished.sizes is.finished.took
           (ap (λ (s : SendingView). s.outbox.popped) is.sending);
       cancels = λ r a old new is fresh alone.
           silent old new fresh alone is.takes (is.happened (λ _. [])).packets.popped;
@@ -271,7 +271,7 @@ sizes_stay =
       receives = λ tag cap r old new is. (is.started (λ _. [])).takes.sizes;
       moves = λ k old new is. sizes_many k old new is.0;
       moves_some = λ k old new is. sizes_many k old new is.0;
-      ends = λ r a old new is. is.sizes;
+      ends = λ r a old new is. is.finished.sizes;
       cancels = λ r a old new is. is.takes.sizes;
       stays = λ c r old new is none. ap (λ (v : RankView). v.sizes) is;
     }

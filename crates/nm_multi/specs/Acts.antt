@@ -1,5 +1,5 @@
 -- What a call does to the one rank, and which logs are legal.
-use Rattle.std.specs.Prelude.{◌≡◌, ℕ, ◌+◌, ◌<◌, ◌≤◌, ◌⊎◌, Bool, true, false, if◌then◌else◌}
+use Rattle.std.specs.Prelude.{◌≡◌, ℕ, ◌<◌, ◌≤◌, ◌⊎◌, Bool, true, false, if◌then◌else◌}
 use Rattle.std.specs.Prelude.{Option, None, Some, filter_map, slice_get}
 use Rattle.std.specs.Prelude.{IsSomeAnd, List, [], ◌∷◌, ◌++◌, length}
 use Rattle.nm_types.specs.declared.answers.Answer.{Answer}
@@ -7,26 +7,26 @@ use Rattle.nm_types.specs.declared.answers.Answer.TheVariants.{Got}
 use Rattle.nm_types.specs.declared.messages.Peer.TheVariants as peer
 use Rattle.nm_types.specs.declared.messages.TagPick.TheVariants as pick
 use Rattle.nm_types.specs.declared.scripts.Body.{Body}
-use Rattle.nm_types.specs.Bodies.{body_len, bytes_of}
+use Rattle.nm_types.specs.Bodies.{bytes_of}
 use Rattle.nm_types.specs.Sizes.{Sizes}
 use Rattle.nm_history.specs.declared.events.Happened.TheVariants as event
 use Rattle.nm_history.specs.Completion.{is_complete}
 use Rattle.nm_history.specs.Matching.{first_message, matched_pairs}
-use Rattle.nm_history.specs.RankRun.{how_of}
-use Rattle.nm_history.specs.Sends.{Sent, is_ask, receives, sends}
+use Rattle.nm_history.specs.Sends.{Sent, receives}
 use Rattle.nm_request.specs.declared.Kind.{Kind}
 use Rattle.nm_request.specs.declared.Kind.TheVariants as kind
 use Rattle.nm_request.specs.declared.Req.{Req}
 use Rattle.nm_request.specs.Requests.{kind_of}
-use Rattle.nm_rndv.specs.Offers.{destined, with_asked, with_destined}
-use Rattle.nm_receiving.specs.Receipts.{SameOtherBytes, taken_events}
+use Rattle.nm_receiving.specs.Receipts.{taken_events}
 use Rattle.nm_rank.specs.declared.answers.Cancelled.{Cancelled}
 use Rattle.nm_rank.specs.declared.answers.State.{State}
 use Rattle.nm_rank.specs.declared.answers.State.TheVariants as state
 use Rattle.nm_rank.specs.Calls.{Happens, Starts, TakesNone}
 use Rattle.nm_rank.specs.New.{IsNew}
 use Rattle.nm_rank.specs.Ranks.{IsFresh, RankView, request_of}
-use Rattle.nm_rank.specs.Requests.{Gives, IsFreed, cancel_answer, cancel_events, offers_cancelled, pair_with}
+use Rattle.nm_rank.specs.Requests.{cancel_answer, cancel_events, offers_cancelled, pair_with}
+use Rattle.nm_rank.specs.Sends.{event_of, next_send, offers_sent}
+use Rattle.nm_rank_log.specs.Calls.{Finishes}
 use Rattle.nm_multi.specs.declared.calls.Call.{Call}
 use Rattle.nm_multi.specs.declared.calls.Call.TheVariants as call
 use Rattle.nm_multi.specs.declared.calls.Entry.{Entry}
@@ -35,32 +35,17 @@ use Rattle.nm_multi.specs.declared.calls.Reply.TheVariants as reply
 use Rattle.nm_multi.specs.Moves.{IsAlone, MovesMany}
 use Rattle.nm_multi.specs.Standing.{Stands}
 
--- the send that a rank starts with this tag and this body
+-- the send to itself that a rank starts with this tag and this body
 abbrev pub sent_by : RankView → ℕ → Body → Sent
-sent_by v tag body =
-    record {
-      stamp = v.clock + 1;
-      to = 0;
-      n = length (sends v.events 0);
-      tag = tag;
-      ctx = 0;
-      len = body_len body;
-      how = how_of v.sizes.eager false (body_len body);
-      line = 0;
-    }
+sent_by v tag body = next_send v 0 tag 0 body false 0
 
 -- A send of this tag and this body to the rank itself is started, as the next one.
 pub record StartsSend (tag : ℕ) (body : Body) (r : Req) (old new : RankView) : Type 0 where
   pub started :
       let s = sent_by old tag body in
       (bodies : Sent → List ℕ) → bodies s ≡ bytes_of body →
-      Starts bodies (event.Send 0 s.n tag 0 s.len s.how 0 ∷ []) (kind.Send 0 s.n) old new r
-  pub offers :
-      let s = sent_by old tag body in
-      new.sending.offers
-      ≡ (if is_ask s.how
-      then with_destined old.sending.offers 0 (with_asked (destined old.sending.offers 0) s.n body)
-      else old.sending.offers)
+      Starts bodies (event_of s ∷ []) (kind.Send 0 s.n) old new r
+  pub offers : new.sending.offers ≡ offers_sent old.sending.offers (sent_by old tag body) body
 
 -- A receive of this tag from the rank itself is started, as the next one.
 pub record StartsReceive (tag cap : ℕ) (r : Req) (old new : RankView) : Type 0 where
@@ -81,21 +66,12 @@ pub record StartsReceive (tag cap : ℕ) (r : Req) (old new : RankView) : Type 0
       (kind.Receive number) old new r
   pub offers : new.sending.offers ≡ old.sending.offers
 
--- The result of a request is taken, which is live no more.
+-- The result of a request is taken, which is live no more, and what the rank sends stays.
 pub record Ends (r : Req) (answer : Answer) (old new : RankView) : Type 0 where
-  pub gives : Gives old r answer
-  pub freed : IsFreed old.requests new.requests r
-  pub bytes : SameOtherBytes (pair_with old r) old.receiving new.receiving
-  pub drawn : new.receiving.drawn ≡ old.receiving.drawn
-  pub events : new.events ≡ old.events
-  pub clock : new.clock ≡ old.clock
+  pub finished : Finishes r answer old new
   pub sending : new.sending ≡ old.sending
-  pub known : new.known ≡ old.known
-  pub took : new.took ≡ old.took
-  pub pulled : new.pulled ≡ old.pulled
   pub strays : new.strays ≡ old.strays
   pub me : new.me ≡ old.me
-  pub sizes : new.sizes ≡ old.sizes
 
 -- A request is cancelled, as far as it can be.
 pub record Cancels (r : Req) (answer : Cancelled) (old new : RankView) : Type 0 where

@@ -25,9 +25,7 @@ fn move_first(rank: &mut Rank) -> Result<(), Memory>
         return Ok(());
     };
     let packet = first.copy();
-    if let Err((memory, _)) = rank.take_packet(packet) {
-        return Err(memory);
-    }
+    rank.take_packet(&packet)?;
     if !rank.is_worn() {
         rank.pop_front();
     }

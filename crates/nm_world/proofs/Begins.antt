@@ -28,9 +28,9 @@ pub new_stands : (shape : Sizes) (lines : List Line) (f : Fabric) (r : Rings) (v
     (rp : RingPort) → AreLines shape.ranks lines → f.ranks ≡ shape.ranks → r.ranks ≡ shape.ranks →
     IsNew f port port.rank → ring.IsNew r rp port.rank → v.rank.sizes ≡ shape →
     IsStanding shape lines port.rank v no_past →
-    Stands lines f r (record { process = v; port = port; ring = rp })
+    Stands lines f r (record { process = v; port = port; ring = rp; places = tt })
 new_stands shape lines f r v port rp in_range cells rings new fresh sizes standing =
-    stands_of shape lines f r (record { process = v; port = port; ring = rp }) no_past sizes
+    stands_of shape lines f r (record { process = v; port = port; ring = rp; places = tt }) no_past sizes
     (record {
       standing = standing;
       in_range = in_range;

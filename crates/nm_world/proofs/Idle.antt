@@ -150,7 +150,7 @@ back_within a a' b' b up same back on =
         queue = queue_within false a.port a'.port b'.port b.port up back.queue on;
       }
 
--- a piece that came back, and one that did not come
+-- a piece that was not pushed, and one that did not come
 lane_full : (e e' : ring_entry.Entry) (j : ℕ) → j < length e.lanes → e' ≡ with_lane one_full j e →
     (lane e j).full < (lane e' j).full
 lane_full e e' j low is =
@@ -165,13 +165,13 @@ lane_empty e e' j low is =
     ∙ ap (λ (l : Lane). l.empty) (get_or-set_same e.lanes j (one_empty (lane e j)) new_lane low) in
     omega (arith, one)
 
-pub piece_back : (a b : Actor) (front : Option (ℕ × Piece)) (to : ℕ) (piece : Piece) → front ≡ Some (to, piece) →
-    option_map offered front ≡ next_offered a.process.rank.sending.offers →
+pub piece_back : (a b : Actor) (to : ℕ) (piece : Piece) →
+    Some (offered (to, piece)) ≡ next_offered a.process.rank.sending.offers →
     to < length (ring.knows a.ring).lanes → ring.knows b.ring ≡ with_lane one_full to (ring.knows a.ring) →
     PieceBack a b
-piece_back a b front to piece is next low full =
-    subst (λ (o : Option Offered). IfSome o (λ x. full_to a.ring x.to < full_to b.ring x.to))
-    (ap (option_map offered) (sym is) ∙ next) (lane_full (ring.knows a.ring) (ring.knows b.ring) to low full)
+piece_back a b to piece next low full =
+    subst (λ (o : Option Offered). IfSome o (λ x. full_to a.ring x.to < full_to b.ring x.to)) next
+    (lane_full (ring.knows a.ring) (ring.knows b.ring) to low full)
 
 -- where a piece goes to this rank, its place was found full
 pub place_full : (a b : Actor) (to : ℕ) →

@@ -118,12 +118,13 @@ pub send_on : SendCarries → (lines : List Line) (f : Fabric) (r : Rings) (a : 
     IsAtWork a.process.rank.sizes lines v →
     IsOf a.process.rank.sizes lines a.port.rank v.rank
     (with_moment (with_packet_left s.past (to, p)) (record { cause = Acted; events = events })) →
-    Stands lines f r (record { process = v; port = port; ring = a.ring })
+    Stands lines f r (record { process = v; port = port; ring = a.ring; places = tt })
 send_on law lines f r a v port to p events s owns rank same hands way number work on =
     let m : Moment = record { cause = Acted; events = events } in
     let now = with_moment (with_packet_left s.past (to, p)) m in
     let got = got_by way in
-    stands_of a.process.rank.sizes lines f r (record { process = v; port = port; ring = a.ring }) now work.sizes
+    stands_of a.process.rank.sizes lines f r
+    (record { process = v; port = port; ring = a.ring; places = tt }) now work.sizes
     (record {
       standing = subst (λ (k : ℕ). IsStanding a.process.rank.sizes lines k v now) (sym rank)
           (record { work = work; rank = on });
@@ -161,12 +162,13 @@ pub push_on : (lines : List Line) (f : Fabric) (r : Rings) (a : Actor) (v : Proc
     IsAtWork a.process.rank.sizes lines v →
     IsOf a.process.rank.sizes lines a.port.rank v.rank
     (with_moment (with_piece_left s.past (to, q)) (record { cause = Acted; events = events })) →
-    Stands lines f r (record { process = v; port = a.port; ring = port })
+    Stands lines f r (record { process = v; port = a.port; ring = port; places = tt })
 push_on lines f r a v port to q events s owns rank within knew work on =
     let m : Moment = record { cause = Acted; events = events } in
     let now = with_moment (with_piece_left s.past (to, q)) m in
     let wide = s.is.rings.1.2 in
-    stands_of a.process.rank.sizes lines f r (record { process = v; port = a.port; ring = port }) now work.sizes
+    stands_of a.process.rank.sizes lines f r
+    (record { process = v; port = a.port; ring = port; places = tt }) now work.sizes
     (record {
       standing = record { work = work; rank = on };
       in_range = s.is.in_range;

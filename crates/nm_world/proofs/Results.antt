@@ -1,23 +1,9 @@
 -- What a call answered.
-use Rattle.std.proofs.Common.{◌≡◌, ◌<◌, true, false, Option, Some, None, List, [], ◌∷◌, Ok, Err, Result}
+use Rattle.std.proofs.Common.{◌≡◌, ◌<◌, true, false, Option, Some, None, List, [], ◌∷◌}
 use Rattle.std.proofs.Common.{is_some, length, refl, sym, ap, ◌∙◌, arith}
-use Rattle.std.specs.Prelude.{IfErr, IfNone, IfOk, IfSome, IsSome, IsSomeAnd, MatchOption, is_err}
+use Rattle.std.specs.Prelude.{IfNone, IfSome, IsSome, IsSomeAnd, MatchOption}
 use Rattle.std.specs.List.{slice_get}
 use Rattle.nm_outbox.specs.declared.letters.Letter.{Letter}
-
-pub at_ok : {T E : Type 0} (r : Result T E) (P : T → Type 0) (Q : Type 0) → ((x : T) → P x → Q) → IfOk r P →
-    is_err r ≡ false → Q
-at_ok (Ok x) P Q then is okay = then x is
-at_ok (Err x) P Q then is okay = absurd (clash okay) where
-  clash : true ≡ false → ⊥
-  clash e = cc
-
-pub at_err : {T E : Type 0} (r : Result T E) (P : E → Type 0) (Q : Type 0) → ((x : E) → P x → Q) → IfErr r P →
-    is_err r ≡ true → Q
-at_err (Ok x) P Q then is failed = absurd (clash failed) where
-  clash : false ≡ true → ⊥
-  clash e = cc
-at_err (Err x) P Q then is failed = then x is
 
 pub at_none : {A : Type 0} (o : Option A) (P : Type 0) → IfNone o P → is_some o ≡ false → P
 at_none None P is none = is

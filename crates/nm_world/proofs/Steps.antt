@@ -223,11 +223,12 @@ pub take_on : PollCarries → (lines : List Line) (f : Fabric) (r : Rings) (a : 
     Way a.port port p → knows port ≡ polled (knows port) (knows a.port) →
     IsAtWork a.process.rank.sizes lines v →
     IsOf a.process.rank.sizes lines a.port.rank v.rank (with_moment s.past (took a.process.rank p)) →
-    Stands lines f r (record { process = v; port = port; ring = a.ring })
+    Stands lines f r (record { process = v; port = port; ring = a.ring; places = tt })
 take_on law lines f r a v port p s owns rank rest hands next got way same work on =
     let grown = came way in
     let now = with_moment s.past (took a.process.rank p) in
-    stands_of a.process.rank.sizes lines f r (record { process = v; port = port; ring = a.ring }) now work.sizes
+    stands_of a.process.rank.sizes lines f r
+    (record { process = v; port = port; ring = a.ring; places = tt }) now work.sizes
     (record {
       standing = subst (λ (k : ℕ). IsStanding a.process.rank.sizes lines k v now) (sym rank)
           (record { work = work; rank = on });
@@ -265,11 +266,12 @@ pub pull_on : (lines : List Line) (f : Fabric) (r : Rings) (a : Actor) (v : Proc
     ring.knows port ≡ with_lane (one_pulled q) sender (ring.knows a.ring) →
     IsAtWork a.process.rank.sizes lines v →
     IsOf a.process.rank.sizes lines a.port.rank v.rank (with_moment s.past (drew a.process.rank q)) →
-    Stands lines f r (record { process = v; port = a.port; ring = port })
+    Stands lines f r (record { process = v; port = a.port; ring = port; places = tt })
 pull_on lines f r a v port sender q s owns rank within own knew work on =
     let now = with_moment s.past (drew a.process.rank q) in
     let wide = s.is.rings.1.2 in
-    stands_of a.process.rank.sizes lines f r (record { process = v; port = a.port; ring = port }) now work.sizes
+    stands_of a.process.rank.sizes lines f r
+    (record { process = v; port = a.port; ring = port; places = tt }) now work.sizes
     (record {
       standing = record { work = work; rank = on };
       in_range = s.is.in_range;

@@ -45,7 +45,7 @@ pub record CameBack (p q : Port) (l : Letter) : Type 0 where
 abbrev pub LetterBack : Actor → Actor → Type 0
 LetterBack a b = IfSome (slice_get a.process.rank.sending.outbox.letters 0) (CameBack a.port b.port)
 
--- `push` handed the next piece back, if there is one: its place was found full
+-- the next piece, if there is one, was not pushed: its place was found full
 abbrev pub PieceBack : Actor → Actor → Type 0
 PieceBack a b =
     IfSome (next_offered a.process.rank.sending.offers) (λ o. full_to a.ring o.to < full_to b.ring o.to)

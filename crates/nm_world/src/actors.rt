@@ -17,6 +17,7 @@ ghost use Rattle.nm_world.specs.Idle.{GaveNone, Idle, IsDue, LetterBack, NoPiece
 ghost use Rattle.nm_world.specs.Looks.{LookedAround, PolledBefore, PolledUnlessWorn, looks_next};
 ghost use Rattle.nm_world.specs.Rest.{CanMove, IsStill};
 
+use crate::places::Places;
 use crate::wires::{polled, pullable, pulled, pushable, pushed, sent};
 use nm_carried::laws::{a_poll_carries, a_send_carries};
 use nm_copyring::{RingPort, Rings};
@@ -29,7 +30,7 @@ use nm_standing::laws::passing::{
 };
 use nm_standing::laws::runs::a_command_runs;
 use nm_standing::laws::stands::a_process_begins;
-use nm_types::{Line, Memory, Packet, Shape};
+use nm_types::{Line, Memory, Shape};
 use std::alloc::Global;
 
 /// How many packets, pieces and commands of each kind a turn has room for.
@@ -44,6 +45,7 @@ pub struct Actor {
     pub process: Process,
     pub port: Port,
     pub ring: RingPort,
+    pub(crate) places: Places,
 }
 
 impl Actor {
@@ -75,6 +77,7 @@ impl Actor {
             process,
             port,
             ring,
+            places: Places::blank(),
         })
     }
 
@@ -112,7 +115,7 @@ impl Actor {
         true
     }
 
-    // Pushes the next piece, unless there is none or it comes back.
+    // Pushes the next piece, unless there is none or its place is full.
     fn push_next(&mut self, r: &Rings) -> bool
         ghost here: { Setting }
         requires stands { Stands here.lines here.fabric r.now self.old }
@@ -135,7 +138,7 @@ impl Actor {
         self.push_front(r)
     }
 
-    // Pushes the next piece, unless there is none or it comes back. The rank isn't worn.
+    // Pushes the next piece, unless there is none or its place is full. The rank isn't worn.
     fn push_front(&mut self, r: &Rings) -> bool
         ghost here: { Setting }
         requires stands { Stands here.lines here.fabric r.now self.old }
@@ -145,10 +148,11 @@ impl Actor {
         ensures stepped { Stepped result self.old self.new }
         ensures back { result ≡ false → PieceBack self.old self.new }
     {
-        let Some((to, piece)) = self.process.rank().front_piece() else {
+        let piece = self.places.piece();
+        let Some(to) = self.process.rank().front_piece(piece) else {
             return false;
         };
-        if pushed(r, &mut self.ring, to, piece).is_err() {
+        if !pushed(r, &mut self.ring, to, piece) {
             return false;
         }
         self.process.pop_piece();
@@ -157,8 +161,8 @@ impl Actor {
         true
     }
 
-    // Takes the next packet of a rank, if one came, by way of a place for one.
-    fn take_next(&mut self, f: &Fabric, place: &mut Packet) -> Result<bool, Memory>
+    // Takes the next packet of a rank, if one came.
+    fn take_next(&mut self, f: &Fabric) -> Result<bool, Memory>
         ghost here: { Setting }
         requires stands { Stands here.lines f.now here.rings self.old }
         ensures kept { IfOk result (λ _. Kept here.lines f.now here.rings self.old self.new) }
@@ -175,16 +179,15 @@ impl Actor {
         }
         // no step: it tells that the history keeps its rules
         rank.history();
-        if !polled(f, &mut self.port, place) {
+        let packet = self.places.packet();
+        if !polled(f, &mut self.port, packet) {
             return Ok(false);
         }
         // no step: the laws of a packet that comes
         a_poll_carries();
         a_packet_is_taken();
-        match self.process.take_packet(place.copy()) {
-            Ok(()) => Ok(true),
-            Err(_) => Err(Memory),
-        }
+        self.process.take_packet(packet)?;
+        Ok(true)
     }
 
     // Takes the next piece of a rank, if one is due and came.
@@ -223,15 +226,14 @@ impl Actor {
         ensures stepped { IfOk result (λ moved. Stepped moved self.old self.new) }
         ensures none { IfOk result (λ moved. moved ≡ false → NoPiece self.old self.new sender) }
     {
-        let Some(piece) = pulled(r, &mut self.ring, sender) else {
+        let piece = self.places.piece();
+        if !pulled(r, &mut self.ring, sender, piece) {
             return Ok(false);
-        };
+        }
         // no step: the law of a piece that comes
         a_piece_is_taken();
-        match self.process.take_piece(piece) {
-            Ok(()) => Ok(true),
-            Err(_) => Err(Memory),
-        }
+        self.process.take_piece(piece)?;
+        Ok(true)
     }
 
     // Runs the next command, if there is one that can go on.
@@ -290,9 +292,8 @@ impl Actor {
         ensures polled { IfOk result (λ _.
             PolledUnlessWorn self.old.process.rank.sizes.ranks 1 self.old self.new) }
     {
-        let mut place = Packet::blank();
         for took in 0..TURN {
-            if !self.take_next(f, &mut place)? {
+            if !self.take_next(f)? {
                 return Ok(took > 0);
             }
         }
@@ -355,20 +356,6 @@ impl Actor {
         Ok(moved)
     }
 
-    // Takes the next packet of a rank, if one came.
-    fn take_one(&mut self, f: &Fabric) -> Result<bool, Memory>
-        ghost here: { Setting }
-        requires stands { Stands here.lines f.now here.rings self.old }
-        ensures kept { IfOk result (λ _. Kept here.lines f.now here.rings self.old self.new) }
-        ensures moved { IfOk result (λ moved. moved ≡ did f.now.ranks self.old self.new) }
-        ensures stepped { IfOk result (λ moved. Stepped moved self.old self.new) }
-        ensures polled { IfOk result (λ _.
-            PolledUnlessWorn self.old.process.rank.sizes.ranks 1 self.old self.new) }
-    {
-        let mut place = Packet::blank();
-        self.take_next(f, &mut place)
-    }
-
     // Takes the next packet that came, where the next command looks at what came.
     fn look(&mut self, lines: &[Line], f: &Fabric) -> Result<bool, Memory>
         ghost here: { Setting }
@@ -384,7 +371,7 @@ impl Actor {
         if !self.process.next_looks(lines) {
             return Ok(false);
         }
-        self.take_one(f)
+        self.take_next(f)
     }
 
     // Runs up to so many commands. It answers whether any ran, or anything was taken before one.

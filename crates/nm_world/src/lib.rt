@@ -3,6 +3,7 @@
 
 mod actors;
 pub mod laws;
+mod places;
 mod records;
 mod rounds;
 mod whole;

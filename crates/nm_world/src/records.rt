@@ -94,6 +94,7 @@ pub(crate) fn parts_of(
             process,
             port,
             ring,
+            places: _,
         } = actor;
         add(&mut ports, port)?;
         add(&mut rings, ring)?;

@@ -1,7 +1,7 @@
 //! Calls of ports whose steps nobody counts.
 
 ghost use Rattle.std.specs.Prelude.{◌≡◌, ◌+◌, ◌<◌, ◌≤◌, ◌∷◌, [], Some, false};
-ghost use Rattle.std.specs.Prelude.{true, IfOk, IfErr, IfSome, IfNone};
+ghost use Rattle.std.specs.Prelude.{true, IfNone};
 ghost use Rattle.std.specs.Prelude.{ℕ, length, slice_index};
 ghost use Rattle.nm_types.specs.declared.limits.TheConstants.{MAX_BOX};
 ghost use Rattle.nm_types.specs.declared.packets.Path.TheVariants.{Box, Cell};
@@ -105,36 +105,32 @@ pub(crate) fn polled(f: &Fabric, port: &mut Port, into: &mut Packet) -> bool
     polled_on::<Brand>(f, port, into, Blank::new(1))
 }
 
-fn pushed_on<L: Ledger>(
-    r: &Rings,
-    port: &mut RingPort,
-    to: u8,
-    piece: Piece,
-    blank: Blank,
-) -> Result<(), Piece>
+fn pushed_on<L: Ledger>(r: &Rings, port: &mut RingPort, to: u8, piece: &Piece, blank: Blank) -> bool
     requires owns { ring.Owns r.now port.old }
     requires to { to < r.now.ranks }
-    requires next { (piece.from ≡ port.old.rank) × (piece.number ≡ length (ring.pushed_to port.old to)) }
+    requires next { (piece.now.from ≡ port.old.rank)
+        × (piece.now.number ≡ length (ring.pushed_to port.old to)) }
     requires name { (blank.name ≡ L.name) × (blank.parts ≡ L.parts) × (0 < L.parts) }
     ensures owns { ring.Owns r.now port.new × (port.new.rank ≡ port.old.rank) }
-    ensures pushed { IfOk result
-        (λ _. ring.knows port.new ≡ with_lane (one_pushed piece) to (ring.knows port.old)) }
-    ensures refused { IfErr result (λ back. (back ≡ piece)
-        × (ring.knows port.new ≡ with_lane one_full to (ring.knows port.old))) }
+    ensures pushed { result ≡ true
+        → ring.knows port.new ≡ with_lane (one_pushed piece.now) to (ring.knows port.old) }
+    ensures refused { result ≡ false
+        → ring.knows port.new ≡ with_lane one_full to (ring.knows port.old) }
 {
     let mut steps = Steps::<L>::new(blank);
     push(r, port, to, piece, &mut steps)
 }
 
-pub(crate) fn pushed(r: &Rings, port: &mut RingPort, to: u8, piece: Piece) -> Result<(), Piece>
+pub(crate) fn pushed(r: &Rings, port: &mut RingPort, to: u8, piece: &Piece) -> bool
     requires owns { ring.Owns r.now port.old }
     requires to { to < r.now.ranks }
-    requires next { (piece.from ≡ port.old.rank) × (piece.number ≡ length (ring.pushed_to port.old to)) }
+    requires next { (piece.now.from ≡ port.old.rank)
+        × (piece.now.number ≡ length (ring.pushed_to port.old to)) }
     ensures owns { ring.Owns r.now port.new × (port.new.rank ≡ port.old.rank) }
-    ensures pushed { IfOk result
-        (λ _. ring.knows port.new ≡ with_lane (one_pushed piece) to (ring.knows port.old)) }
-    ensures refused { IfErr result (λ back. (back ≡ piece)
-        × (ring.knows port.new ≡ with_lane one_full to (ring.knows port.old))) }
+    ensures pushed { result ≡ true
+        → ring.knows port.new ≡ with_lane (one_pushed piece.now) to (ring.knows port.old) }
+    ensures refused { result ≡ false
+        → ring.knows port.new ≡ with_lane one_full to (ring.knows port.old) }
 {
     pushed_on::<Brand>(r, port, to, piece, Blank::new(1))
 }
@@ -187,32 +183,38 @@ pub(crate) fn pullable(r: &Rings, port: &mut RingPort, sender: u8) -> bool
     pullable_on::<Brand>(r, port, sender, Blank::new(1))
 }
 
-fn pulled_on<L: Ledger>(r: &Rings, port: &mut RingPort, sender: u8, blank: Blank) -> Option<Piece>
+fn pulled_on<L: Ledger>(
+    r: &Rings,
+    port: &mut RingPort,
+    sender: u8,
+    into: &mut Piece,
+    blank: Blank,
+) -> bool
     requires owns { ring.Owns r.now port.old }
     requires sender { sender < r.now.ranks }
     requires name { (blank.name ≡ L.name) × (blank.parts ≡ L.parts) × (0 < L.parts) }
     ensures owns { ring.Owns r.now port.new × (port.new.rank ≡ port.old.rank) }
-    ensures next { IfSome result (λ piece. (piece.from ≡ sender)
-        × (piece.number ≡ length (ring.pulled_from port.old sender))) }
-    ensures pulled { IfSome result
-        (λ piece. ring.knows port.new ≡ with_lane (one_pulled piece) sender (ring.knows port.old)) }
-    ensures missed { IfNone result
-        (ring.knows port.new ≡ with_lane one_empty sender (ring.knows port.old)) }
+    ensures next { result ≡ true → (into.new.from ≡ sender)
+        × (into.new.number ≡ length (ring.pulled_from port.old sender)) }
+    ensures pulled { result ≡ true
+        → ring.knows port.new ≡ with_lane (one_pulled into.new) sender (ring.knows port.old) }
+    ensures missed { result ≡ false
+        → ring.knows port.new ≡ with_lane one_empty sender (ring.knows port.old) }
 {
     let mut steps = Steps::<L>::new(blank);
-    pull(r, port, sender, &mut steps)
+    pull(r, port, sender, into, &mut steps)
 }
 
-pub(crate) fn pulled(r: &Rings, port: &mut RingPort, sender: u8) -> Option<Piece>
+pub(crate) fn pulled(r: &Rings, port: &mut RingPort, sender: u8, into: &mut Piece) -> bool
     requires owns { ring.Owns r.now port.old }
     requires sender { sender < r.now.ranks }
     ensures owns { ring.Owns r.now port.new × (port.new.rank ≡ port.old.rank) }
-    ensures next { IfSome result (λ piece. (piece.from ≡ sender)
-        × (piece.number ≡ length (ring.pulled_from port.old sender))) }
-    ensures pulled { IfSome result
-        (λ piece. ring.knows port.new ≡ with_lane (one_pulled piece) sender (ring.knows port.old)) }
-    ensures missed { IfNone result
-        (ring.knows port.new ≡ with_lane one_empty sender (ring.knows port.old)) }
+    ensures next { result ≡ true → (into.new.from ≡ sender)
+        × (into.new.number ≡ length (ring.pulled_from port.old sender)) }
+    ensures pulled { result ≡ true
+        → ring.knows port.new ≡ with_lane (one_pulled into.new) sender (ring.knows port.old) }
+    ensures missed { result ≡ false
+        → ring.knows port.new ≡ with_lane one_empty sender (ring.knows port.old) }
 {
-    pulled_on::<Brand>(r, port, sender, Blank::new(1))
+    pulled_on::<Brand>(r, port, sender, into, Blank::new(1))
 }

@@ -8,19 +8,21 @@ returns-in-Ok c =
     let e = c.in-Ok.ensures in
     let same = e.same in
     record {
-      gives = e.gives;
-      freed = e.freed;
-      bytes = e.bytes;
-      drawn = same.4;
-      events = same.0;
-      clock = same.1;
+      finished = record {
+        gives = e.gives;
+        freed = e.freed;
+        bytes = e.bytes;
+        drawn = same.4;
+        events = same.0;
+        clock = same.1;
+        known = same.3;
+        took = same.5;
+        pulled = same.6;
+        sizes = same.9;
+      };
       sending = same.2;
-      known = same.3;
-      took = same.5;
-      pulled = same.6;
       strays = same.7;
       me = same.8;
-      sizes = same.9;
     }
 
 pub returns-in-Err-NoSuch : goal.returns-in-Err-NoSuch

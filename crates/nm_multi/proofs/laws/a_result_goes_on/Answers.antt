@@ -1,36 +1,17 @@
 -- Nothing happens, and the bytes that came of a message are those of its send.
 use Rattle.std.proofs.Common.{[], ◌∙◌, ap, List, length}
-use Rattle.nm_types.specs.declared.answers.Answer.{Answer}
 use Rattle.nm_history.specs.declared.events.Event.{Event}
 use Rattle.nm_history.specs.Sends.{sends}
-use Rattle.nm_request.specs.declared.Req.{Req}
 use Rattle.nm_request.specs.Requests.{kind_of}
-use Rattle.nm_rank.specs.Ranks.{RankView}
 use Rattle.nm_rank.specs.Requests.{IsResult}
-use Rattle.nm_rank_log.specs.Calls.{Finishes, given_after}
-use Rattle.nm_multi.specs.Acts.{Ends}
+use Rattle.nm_rank_log.specs.Calls.{given_after}
 use Rattle.nm_multi.proofs.Bodies.{are_by, bodies_by, shows_body}
 use Rattle.nm_multi.proofs.laws.a_result_goes_on.Goals as goal
 use Rattle.nm_facts.proofs.Options.{some_and}
 
-finishes : (r : Req) (a : Answer) (v v' : RankView) → Ends r a v v' → Finishes r a v v'
-finishes r a v v' is =
-    record {
-      gives = is.gives;
-      freed = is.freed;
-      bytes = is.bytes;
-      drawn = is.drawn;
-      events = is.events;
-      clock = is.clock;
-      known = is.known;
-      took = is.took;
-      pulled = is.pulled;
-      sizes = is.sizes;
-    }
-
 pub returns-clause-kept : goal.returns-clause-kept
 returns-clause-kept c = λ sent v v' r answer fresh is st.
-    let k = some_and (IsResult v answer) (kind_of v.requests r) is.gives in
+    let k = some_and (IsResult v answer) (kind_of v.requests r) is.finished.gives in
     record {
       past = record {
         eager = st.past.eager;
@@ -39,10 +20,10 @@ returns-clause-kept c = λ sent v v' r answer fresh is st.
         left = st.past.left;
       };
       logged = λ bodies are. c.a_result_is_given.ensures.kept st.past.eager bodies [] v v' st.past.log
-          st.past.given r k.0 answer (st.logged bodies are) k.1 (finishes r answer v v' is);
-      left = λ bodies are. c.answers_keep_left.ensures.given bodies v v' 0 st.past.left is.events is.clock
-          is.sending is.me (st.left bodies are);
-      many = ap (λ (h : List Event). length (sends h 0)) is.events ∙ st.many;
+          st.past.given r k.0 answer (st.logged bodies are) k.1 is.finished;
+      left = λ bodies are. c.answers_keep_left.ensures.given bodies v v' 0 st.past.left is.finished.events
+          is.finished.clock is.sending is.me (st.left bodies are);
+      many = ap (λ (h : List Event). length (sends h 0)) is.finished.events ∙ st.many;
       even = λ _. st.even fresh;
       pieces = st.pieces;
     }
@@ -52,4 +33,4 @@ returns-clause-shows c = λ sent v v' r answer fresh alone right is st.
     shows_body sent v v' r answer st fresh alone right is
     (λ k at. c.a_result_is_given.ensures.shows st.past.eager (bodies_by sent) [] v v' st.past.log
     st.past.given r k answer (st.logged (bodies_by sent) (are_by sent)) right at
-    (finishes r answer v v' is))
+    is.finished)

@@ -27,8 +27,8 @@ returns-then-not-next_looks g c =
       polled = inl (subst (λ (k : ℕ). Polled n k a.port a.port) next (polled_none n a.port a.port (port_same a.port)));
     }
 
-pub take_one-requires : goal.take_one-requires
-take_one-requires g c = c.requires.1
+pub take_next-requires : goal.take_next-requires
+take_next-requires g c = c.requires.1
 
 pub returns : goal.returns
 returns g c =
@@ -40,9 +40,9 @@ returns g c =
     let found = c.next_looks.ensures a.process.rank.sizes work in
     let next : 1 ≡ looks_next lines a.process = ap (λ (b : Bool). cond b 1 0) (sym c.if-not-next_looks.false ∙ found) in
     record {
-      kept = c.take_one.ensures.kept;
-      moved = c.take_one.ensures.moved;
-      stepped = c.take_one.ensures.stepped;
-      polled = subst (λ (k : ℕ). IfOk c.take_one.result
-          (λ _. PolledUnlessWorn a.process.rank.sizes.ranks k a c.take_one.new.self)) next c.take_one.ensures.polled;
+      kept = c.take_next.ensures.kept;
+      moved = c.take_next.ensures.moved;
+      stepped = c.take_next.ensures.stepped;
+      polled = subst (λ (k : ℕ). IfOk c.take_next.result
+          (λ _. PolledUnlessWorn a.process.rank.sizes.ranks k a c.take_next.new.self)) next c.take_next.ensures.polled;
     }

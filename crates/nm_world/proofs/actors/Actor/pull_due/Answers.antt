@@ -15,64 +15,66 @@ use Rattle.nm_world.proofs.Results.{clash}
 use Rattle.nm_world.proofs.Steps.{pull_on, seat_is}
 use Rattle.nm_world.proofs.actors.Actor.pull_due.Goals as goal
 
-pub returns-in-Ok : goal.returns-in-Ok
-returns-in-Ok g c =
+pub returns : goal.returns
+returns g c =
     let s = c.requires.0 in
     let a = c.args.self.now in
     let v = c.take_piece.new.self in
-    let q = c.in-Some.piece in
-    let i = c.in-Some.ensures in
+    let q = c.pulled.new.into in
+    let next = c.pulled.ensures.next c.if-not-pulled.false in
+    let knew = c.pulled.ensures.pulled c.if-not-pulled.false in
     let shape = a.process.rank.sizes in
     let sender = c.requires.1.0 in
     let ranks = s.is.ranks.1 in
-    let own = i.next.0 in
-    let work = c.in-Ok.ensures.work shape g.here.lines s.is.standing.work in
+    let own = next.0 in
+    let work = c.in_ok-take_piece.ensures.work shape g.here.lines s.is.standing.work in
     let due = c.requires.1.1.0 in
     let on = c.a_piece_is_taken.ensures shape g.here.lines a.port.rank a.process.rank v.rank s.past q
     (omega (arith, own, sender, ranks))
     (subst (λ (k : ℕ). drawn_from a.process.rank.receiving k < length (due_pieces a.process.rank.events k))
     (sym own) due)
-    c.in-Ok.ensures.taken s.is.standing.rank in
+    c.in_ok-take_piece.ensures.taken s.is.standing.rank in
     let n = g.here.fabric.ranks in
     let wide = s.is.rings.1.2 in
     let cells = s.is.ranks.0 in
     let port = c.pulled.new.port in
-    let b : Actor = record { process = v; port = a.port; ring = port } in
+    let b : Actor = record { process = v; port = a.port; ring = port; places = tt } in
     let low : c.args.sender < length (ring.knows a.ring).lanes = omega (arith, sender, wide) in
     let grows : Grows a b = record {
-      events = (_, c.in-Ok.ensures.taken.happened.events);
+      events = (_, c.in_ok-take_piece.ensures.taken.happened.events);
       port = port_same a.port;
-      ring = ring_up a.ring port (one_pulled q) c.args.sender low (pulled_up q) i.pulled;
+      ring = ring_up a.ring port (one_pulled q) c.args.sender low (pulled_up q) knew;
     } in
     let fresh = c.requires.1.1.1 in
     record {
-      stepped = stepped_fresh true a b fresh (ap (λ (x : ProcessView). x.at) c.in-Ok.ensures.others)
+      stepped = stepped_fresh true a b fresh (ap (λ (x : ProcessView). x.at) c.in_ok-take_piece.ensures.others)
           (λ none. absurd (clash none));
       none = λ none. absurd (clash none);
       moved = did_more n a b grows (pulled c.args.sender (omega (arith, sender, cells, ranks))
-          (pulled_more (ring.knows a.ring) (ring.knows port) c.args.sender q low i.pulled));
+          (pulled_more (ring.knows a.ring) (ring.knows port) c.args.sender q low knew));
       kept = record {
         grows = grows;
-        seat = seat_is a v a.port.rank refl c.in-Ok.ensures.taken.sizes;
+        seat = seat_is a v a.port.rank refl c.in_ok-take_piece.ensures.taken.sizes;
         stands = pull_on g.here.lines g.here.fabric c.args.r.now a v port c.args.sender q s
-            c.pulled.ensures.owns.0 c.pulled.ensures.owns.1 sender own i.pulled work on;
+            c.pulled.ensures.owns.0 c.pulled.ensures.owns.1 sender own knew work on;
       };
     }
 
-pub returns-in_default : goal.returns-in_default
-returns-in_default g c =
+pub returns-then-not-pulled : goal.returns-then-not-pulled
+returns-then-not-pulled g c =
     let s = c.requires.0 in
     let a = c.args.self.now in
     let sender = c.requires.1.0 in
     let wide = s.is.rings.1.2 in
+    let missed = c.pulled.ensures.missed c.if-not-pulled.true in
     let done = ring_missed g.here.lines g.here.fabric c.args.r.now a c.pulled.new.port one_empty c.args.sender s
     c.pulled.ensures.owns.0 c.pulled.ensures.owns.1 (omega (arith, sender, wide)) empty_up (λ l. (refl, refl))
-    c.in_default.ensures.missed in
+    missed in
     let fresh = c.requires.1.1.1 in
     let b : Actor = record a { ring = c.pulled.new.port } in
     record {
       kept = done.0;
       moved = done.1;
       stepped = stepped_fresh false a b fresh refl (λ none. refl);
-      none = λ none. no_piece a b c.args.sender (omega (arith, sender, wide)) c.in_default.ensures.missed;
+      none = λ none. no_piece a b c.args.sender (omega (arith, sender, wide)) missed;
     }

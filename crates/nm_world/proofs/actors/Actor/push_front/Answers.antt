@@ -1,16 +1,16 @@
 -- The piece comes behind the others for its receiver.
-use Rattle.std.proofs.Common.{◌≡◌, ◌<◌, true, false, Option, Some, length, sym, ap, subst, ◌∙◌, arith, refl}
+use Rattle.std.proofs.Common.{◌<◌, true, false, Option, length, ap, subst, arith, refl}
 use Rattle.std.specs.Prelude.{IfSome}
 use Rattle.nm_rndv.specs.Offers.{Offered}
 use Rattle.nm_process.specs.Processes.{ProcessView}
 use Rattle.nm_copyring.specs.Ports.{full_to}
-use Rattle.nm_copyring.specs.Plays.{one_full, one_pushed, with_lane}
+use Rattle.nm_copyring.specs.Plays.{one_full, one_pushed}
 use Rattle.nm_copyring.specs.Ports as ring
 use Rattle.nm_world.proofs.Did.{did_more, did_same, ring_missed}
 use Rattle.nm_world.proofs.Grows.{full_up, kept_same, port_same, pushed_more, pushed_up, ring_up}
 use Rattle.nm_world.proofs.Idle.{piece_back, stepped_fresh, stepped_none}
 use Rattle.nm_world.proofs.Leaves.{push_on}
-use Rattle.nm_world.proofs.Results.{at_err, at_ok, clash}
+use Rattle.nm_world.proofs.Results.{clash}
 use Rattle.nm_world.proofs.Steps.{seat_is}
 use Rattle.nm_world.specs.declared.actors.Actor.{Actor}
 use Rattle.nm_world.specs.Actors.{Grows}
@@ -27,26 +27,23 @@ returns g c =
     let p = c.pop_piece.ensures in
     let pops = p.pops in
     let to = c.in-Some.to in
+    let q = c.front_piece.new.into in
     let shape = a.process.rank.sizes in
     let within = own.0 in
     let ranks = s.is.ranks.1 in
-    let knew : ring.knows c.pushed.new.port ≡ with_lane (one_pushed c.in-Some.piece) to (ring.knows a.ring) =
-    at_ok c.pushed.result
-    (λ _. ring.knows c.pushed.new.port ≡ with_lane (one_pushed c.in-Some.piece) to (ring.knows a.ring))
-    (ring.knows c.pushed.new.port ≡ with_lane (one_pushed c.in-Some.piece) to (ring.knows a.ring))
-    (λ x is. is) c.pushed.ensures.pushed (sym c.is_err.ensures.value ∙ c.if-is_err.false) in
+    let knew = c.pushed.ensures.pushed c.if-not-pushed.false in
     let work = p.work shape g.here.lines s.is.standing.work in
     let on = c.a_piece_leaves.ensures shape g.here.lines a.port.rank a.process.rank v.rank s.past
-    (to, c.in-Some.piece) next own.1 own.2 pops s.is.standing.rank in
+    (to, q) next own.1 own.2 pops s.is.standing.rank in
     let n = g.here.fabric.ranks in
     let low : to < c.args.r.now.ranks = omega (arith, within, ranks) in
     let wide = s.is.rings.1.2 in
-    let b : Actor = record { process = v; port = a.port; ring = c.pushed.new.port } in
+    let b : Actor = record { process = v; port = a.port; ring = c.pushed.new.port; places = tt } in
     let grows : Grows a b = record {
       events = (_, pops.left.events);
       port = port_same a.port;
-      ring = ring_up a.ring c.pushed.new.port (one_pushed c.in-Some.piece) to (omega (arith, low, wide))
-          (pushed_up c.in-Some.piece) knew;
+      ring = ring_up a.ring c.pushed.new.port (one_pushed q) to (omega (arith, low, wide))
+          (pushed_up q) knew;
     } in
     let cells = s.is.ranks.0 in
     let fresh = c.requires.1 in
@@ -54,13 +51,13 @@ returns g c =
       stepped = stepped_fresh true a b fresh (ap (λ (x : ProcessView). x.at) p.others) (λ none. absurd (clash none));
       back = λ none. absurd (clash none);
       moved = did_more n a b grows (pushed to (omega (arith, within, cells))
-          (pushed_more (ring.knows a.ring) (ring.knows c.pushed.new.port) to c.in-Some.piece
+          (pushed_more (ring.knows a.ring) (ring.knows c.pushed.new.port) to q
           (omega (arith, low, wide)) knew));
       kept = record {
         grows = grows;
         seat = seat_is a v a.port.rank refl pops.takes.sizes;
         stands = push_on g.here.lines g.here.fabric c.args.r.now a v c.pushed.new.port to
-            c.in-Some.piece _ s c.pushed.ensures.owns.0 c.pushed.ensures.owns.1 low knew work on;
+            q _ s c.pushed.ensures.owns.0 c.pushed.ensures.owns.1 low knew work on;
       };
     }
 
@@ -75,8 +72,8 @@ returns-in_default g c =
           (rw c.rank.ensures at c.in_default.ensures.next) tt;
     }
 
-pub returns-then-is_err : goal.returns-then-is_err
-returns-then-is_err g c =
+pub returns-then-not-pushed : goal.returns-then-not-pushed
+returns-then-not-pushed g c =
     let s = c.requires.0 in
     let a = c.args.self.now in
     let to = c.in-Some.to in
@@ -85,9 +82,7 @@ returns-then-is_err g c =
     let ranks = s.is.ranks.1 in
     let wide = s.is.rings.1.2 in
     let low : to < length (ring.knows a.ring).lanes = omega (arith, within, ranks, wide) in
-    let knew : ring.knows c.pushed.new.port ≡ with_lane one_full to (ring.knows a.ring) =
-    at_err c.pushed.result _ (ring.knows c.pushed.new.port ≡ with_lane one_full to (ring.knows a.ring))
-    (λ x is. is.1) c.pushed.ensures.refused (sym c.is_err.ensures.value ∙ c.if-is_err.true) in
+    let knew = c.pushed.ensures.refused c.if-not-pushed.true in
     let done = ring_missed g.here.lines g.here.fabric c.args.r.now a c.pushed.new.port one_full to s
     c.pushed.ensures.owns.0 c.pushed.ensures.owns.1 low full_up (λ l. (refl, refl)) knew in
     let fresh = c.requires.1 in
@@ -96,6 +91,6 @@ returns-then-is_err g c =
       kept = done.0;
       moved = done.1;
       stepped = stepped_fresh false a b fresh refl (λ none. refl);
-      back = λ none. piece_back a b (Some (to, c.in-Some.piece)) to c.in-Some.piece refl
+      back = λ none. piece_back a b to c.front_piece.new.into
           (rw c.rank.ensures at c.in-Some.ensures.next) low knew;
     }

@@ -132,7 +132,7 @@ returns g c =
     (with_moment (with_packet_left s.past (first.0.to, x)) moment)) (sym copied) on) in
     let n = c.args.f.now.ranks in
     let ranks = s.is.ranks.0 in
-    let b : Actor = record { process = v; port = port; ring = a.ring } in
+    let b : Actor = record { process = v; port = port; ring = a.ring; places = tt } in
     let grows : Grows a b = record {
       events = (_, pops.left.events);
       port = port_by a.port port (sent_up c.sent.result (length packet.payload) to packet (knows a.port)

@@ -1,11 +1,10 @@
 -- The packet comes behind the others of its sender.
-use Rattle.std.proofs.Common.{◌≡◌, ◌<◌, ℕ, ◌+◌, List, [], true, false, inl, inr, sym, ap, ◌∙◌, subst, arith, refl}
+use Rattle.std.proofs.Common.{◌<◌, ℕ, ◌+◌, List, [], true, false, inl, inr, sym, ap, ◌∙◌, arith, refl}
 use Rattle.nm_rank.specs.Ranks.{IsFresh}
 use Rattle.nm_process.specs.Processes.{ProcessView}
 use Rattle.nm_table.specs.Rule.{Load, sent_to}
 use Rattle.nm_cells.specs.Ports.{knows, taken_by}
-use Rattle.nm_types.specs.declared.packets.Packet.{Packet}
-use Rattle.nm_port.specs.Polls.{with_all_missed, IsNext, IsGot, Way}
+use Rattle.nm_port.specs.Polls.{with_all_missed}
 use Rattle.nm_seats.proofs.UpdateLemmas.{update_here}
 use Rattle.nm_world.specs.declared.actors.Actor.{Actor}
 use Rattle.nm_world.specs.Actors.{Grows, PortGrows}
@@ -63,29 +62,27 @@ returns-then-not-polled g c =
       };
     }
 
-pub returns-in-Ok : goal.returns-in-Ok
-returns-in-Ok g c =
+pub returns : goal.returns
+returns g c =
     let s = c.requires in
     let v = c.take_packet.new.self in
-    let p : Packet = c.copy.result in
+    let p = c.polled.new.into in
     let came = c.if-not-polled.ensures in
-    let next = subst (λ (x : Packet). IsNext c.args.f.now c.args.self.now.port c.polled.new.port x
-    × IsGot c.polled.new.port x) (sym c.copy.ensures) (came.next refl) in
-    let way = subst (λ (x : Packet). Way c.args.self.now.port c.polled.new.port x) (sym c.copy.ensures)
-    (came.way refl).0 in
+    let next = came.next refl in
+    let way = (came.way refl).0 in
     let sender = next.0.sender in
     let ranks = s.is.ranks.0 in
-    let work = c.in-Ok.ensures.work c.args.self.now.process.rank.sizes g.here.lines s.is.standing.work in
+    let work = c.in_ok-take_packet.ensures.work c.args.self.now.process.rank.sizes g.here.lines s.is.standing.work in
     let on = c.a_packet_is_taken.ensures c.args.self.now.process.rank.sizes g.here.lines
     c.args.self.now.port.rank c.args.self.now.process.rank v.rank s.past p
     (rw c.rank-rank.ensures at c.history.ensures.right)
-    (omega (arith, sender, ranks)) c.in-Ok.ensures.taken s.is.standing.rank in
+    (omega (arith, sender, ranks)) c.in_ok-take_packet.ensures.taken s.is.standing.rank in
     let n = c.args.f.now.ranks in
     let a = c.args.self.now in
     let port = c.polled.new.port in
-    let b : Actor = record { process = v; port = port; ring = a.ring } in
+    let b : Actor = record { process = v; port = port; ring = a.ring; places = tt } in
     let grows : Grows a b = record {
-      events = (_, (c.in-Ok.ensures.taken.happened (λ s. [])).events);
+      events = (_, (c.in_ok-take_packet.ensures.taken.happened (λ s. [])).events);
       port = port_took a.port port p.from
           (polled_up (knows a.port) (knows port) (came.way refl).1 c.polled.ensures.later) next.0.taken;
       ring = ring_same a.ring;
@@ -95,7 +92,7 @@ returns-in-Ok g c =
     let fresh = (rw c.rank-rank.ensures at c.is_worn.ensures).0 c.if-is_worn.false in
     let up : taken_by a.port p.from < taken_by port p.from = omega (arith, more) in
     record {
-      stepped = stepped_fresh true a b fresh (ap (λ (x : ProcessView). x.at) c.in-Ok.ensures.others)
+      stepped = stepped_fresh true a b fresh (ap (λ (x : ProcessView). x.at) c.in_ok-take_packet.ensures.others)
           (λ none. absurd (clash none));
       none = λ none fresh. absurd (clash none);
       polled = inl (polled_some a.process.rank.sizes.ranks p.from a.port port grows.port
@@ -103,7 +100,7 @@ returns-in-Ok g c =
       moved = did_more n a b grows (taken p.from sender up);
       kept = record {
         grows = grows;
-        seat = seat_is a v port.rank c.polled.ensures.owns.1 c.in-Ok.ensures.taken.sizes;
+        seat = seat_is a v port.rank c.polled.ensures.owns.1 c.in_ok-take_packet.ensures.taken.sizes;
         stands = take_on c.a_poll_carries.ensures.some g.here.lines c.args.f.now g.here.rings
             a v port p s c.polled.ensures.owns.0 c.polled.ensures.owns.1
             c.polled.ensures.rest c.polled.ensures.hands next.0 next.1 way (came.way refl).1 work on;

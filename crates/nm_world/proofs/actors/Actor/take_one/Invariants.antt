@@ -1,4 +1,0 @@
-use Rattle.nm_world.proofs.actors.Actor.take_one.Given as goal
-
-abbrev pub ghost-take_next : goal.ghost-take_next
-ghost-take_next g a = g.here
