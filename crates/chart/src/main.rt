@@ -8,6 +8,7 @@ use std::process::ExitCode;
 use std::rt::Env;
 use std::{env, io};
 
+/// The status for want of memory.
 const WANT_OF_MEMORY: u8 = 6;
 
 /// The command line's words without the program's name. Where one is no text, it is an empty one:

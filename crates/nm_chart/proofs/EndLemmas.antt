@@ -6,26 +6,26 @@ use Rattle.nm_report.specs.declared.records.RunRecord.{RunRecord}
 use Rattle.nm_chart.specs.Answers.{IsAnswer, IsAnswerTo, IsSaid, Tells, status_of}
 use Rattle.nm_chart.specs.Endings.{IsBadTrace, IsDrawn, IsRefused, IsTrace, IsTraceOfOne, OrFails, OrUnwritten}
 use Rattle.nm_chart.specs.Endings.{read_of, unread, usage}
-use Rattle.nm_chart.specs.declared.answers.Answer.{Answer}
-use Rattle.nm_chart.specs.declared.answers.Answer.TheVariants.{Usage, Unread, Refused, Drawn}
+use Rattle.nm_chart.specs.declared.answers.Response.{Response}
+use Rattle.nm_chart.specs.declared.answers.Response.TheVariants.{Usage, Unread, Refused, Drawn}
 use Rattle.nm_chart.proofs.WidenedLemmas.{picture_of_each}
 use Rattle.nm_facts.proofs.Options.{if_all as always}
 
 -- what is known at the end: the answer is right and was said
 pub record Ends {X : Type 0} (words : List X) (input : Option (List ℕ)) (old new : ℕ)
-    (before after : Option (List ℕ)) (fails : Type 0) (answer : Answer) (status : ℕ) : Type 0 where
+    (before after : Option (List ℕ)) (fails : Type 0) (answer : Response) (status : ℕ) : Type 0 where
   pub right : IsAnswer words input old new answer
   pub said : IsSaid answer status before after fails
 
 -- an answer whose whole text was written
-record Whole (answer : Answer) (k : ℕ) (before after : Option (List ℕ)) : Type 0 where
+record Whole (answer : Response) (k : ℕ) (before after : Option (List ℕ)) : Type 0 where
   status : k ≡ status_of answer
   text : List ℕ
   tells : Tells answer text
   said : Appends before after text
 
 -- a status that is none of 5 was said whole
-whole : (answer : Answer) (status k : ℕ) (before after : Option (List ℕ)) (fails : Type 0) →
+whole : (answer : Response) (status k : ℕ) (before after : Option (List ℕ)) (fails : Type 0) →
     status ≡ k → (k ≡ 5 → ⊥) → IsSaid answer status before after fails → Whole answer k before after
 whole answer status k before after fails h other said =
     let text = said.0 in
@@ -35,7 +35,7 @@ whole answer status k before after fails h other said =
     ]
 
 -- it is so, or a write failed
-or_fails : {P : Type 0} (answer : Answer) (status : ℕ) (before after : Option (List ℕ)) (fails : Type 0) →
+or_fails : {P : Type 0} (answer : Response) (status : ℕ) (before after : Option (List ℕ)) (fails : Type 0) →
     IsSaid answer status before after fails → (status ≡ status_of answer → P) → OrUnwritten P status
 or_fails answer status before after fails said make =
     elim said.2 [ inl p ↦ inl (make p.0) | inr p ↦ inr (inl p.0) ]
@@ -60,7 +60,7 @@ not_both bytes line run (inl long) trace = omega (arith, long.0, trace.0)
 not_both bytes line run (inr bad) trace = bad.1.none run trace.1
 
 pub usage_is : {X : Type 0} {words : List X} {input before after : Option (List ℕ)} {old new : ℕ} {fails : Type 0}
-    (answer : Answer) (status : ℕ) → Ends words input old new before after fails answer status →
+    (answer : Response) (status : ℕ) → Ends words input old new before after fails answer status →
     status ≡ 2 → (words ≡ [] → ⊥) × Appends before after usage
 usage_is {before = before} {after = after} {fails = fails} Usage status e h =
     let w = whole Usage status 2 before after fails h (λ f. cc) e.said in
@@ -73,7 +73,7 @@ usage_is {before = before} {after = after} {fails = fails} (Drawn r) status e h 
     absurd (omega (arith, (whole (Drawn r) status 2 before after fails h (λ f. cc) e.said).status))
 
 pub not_taken_is : {X : Type 0} {words : List X} {input before after : Option (List ℕ)} {old new : ℕ} {fails : Type 0}
-    (answer : Answer) (status : ℕ) → Ends words input old new before after fails answer status →
+    (answer : Response) (status : ℕ) → Ends words input old new before after fails answer status →
     (words ≡ [] → ⊥) → OrUnwritten (status ≡ 2) status
 not_taken_is {before = before} {after = after} {fails = fails} Usage status e some =
     or_fails Usage status before after fails e.said (λ h. h)
@@ -82,7 +82,7 @@ not_taken_is (Refused n) status e some = absurd (some e.right.0)
 not_taken_is (Drawn r) status e some = absurd (some e.right.0)
 
 pub refused_is : {X : Type 0} {words : List X} {input before after : Option (List ℕ)} {old new : ℕ} {fails : Type 0}
-    (answer : Answer) (status : ℕ) → Ends words input old new before after fails answer status →
+    (answer : Response) (status : ℕ) → Ends words input old new before after fails answer status →
     status ≡ 9 → (words ≡ []) × IfSome input (λ bytes. IsRefused (read_of bytes) before after)
 refused_is {before = before} {after = after} {fails = fails} Usage status e h =
     absurd (omega (arith, (whole Usage status 9 before after fails h (λ f. cc) e.said).status))
@@ -99,7 +99,7 @@ refused_is {before = before} {after = after} {fails = fails} (Drawn r) status e 
     absurd (omega (arith, (whole (Drawn r) status 9 before after fails h (λ f. cc) e.said).status))
 
 pub refuses_is : {X : Type 0} {words : List X} {input before after : Option (List ℕ)} {old new : ℕ} {fails : Type 0}
-    (answer : Answer) (status : ℕ) → Ends words input old new before after fails answer status →
+    (answer : Response) (status : ℕ) → Ends words input old new before after fails answer status →
     words ≡ [] → IfSome input (λ bytes. (line : ℕ) → IsBadTrace (read_of bytes) line → OrFails (status ≡ 9) status)
 refuses_is Usage status e none = absurd (e.right none)
 refuses_is {input = input} {before = before} {after = after} {fails = fails} Unread status e none =
@@ -110,7 +110,7 @@ refuses_is {input = input} (Drawn r) status e none =
     weaker input _ _ (λ bytes trace line bad. absurd (not_both (read_of bytes) line r bad trace.of_run)) e.right.1
 
 pub drawn_is : {X : Type 0} {words : List X} {input before after : Option (List ℕ)} {old new : ℕ} {fails : Type 0}
-    (answer : Answer) (status : ℕ) → Ends words input old new before after fails answer status →
+    (answer : Response) (status : ℕ) → Ends words input old new before after fails answer status →
     status ≡ 0 → (words ≡ []) × IfSome input (λ bytes. IsDrawn (read_of bytes) before after)
 drawn_is {before = before} {after = after} {fails = fails} Usage status e h =
     absurd (omega (arith, (whole Usage status 0 before after fails h (λ f. cc) e.said).status))
@@ -132,7 +132,7 @@ drawn_is {input = input} {before = before} {after = after} {fails = fails} (Draw
     )
 
 pub draws_is : {X : Type 0} {words : List X} {input before after : Option (List ℕ)} {old new : ℕ} {fails : Type 0}
-    (answer : Answer) (status : ℕ) → Ends words input old new before after fails answer status →
+    (answer : Response) (status : ℕ) → Ends words input old new before after fails answer status →
     words ≡ [] → IfSome input (λ bytes. (run : RunRecord) → IsTrace (read_of bytes) run → OrFails (status ≡ 0) status)
 draws_is Usage status e none = absurd (e.right none)
 draws_is {input = input} Unread status e none =
@@ -143,7 +143,7 @@ draws_is {input = input} {before = before} {after = after} {fails = fails} (Draw
     always input _ (λ bytes run trace. to_fails status (or_fails (Drawn r) status before after fails e.said (λ h. h)))
 
 pub unread_is : {X : Type 0} {words : List X} {input before after : Option (List ℕ)} {old new : ℕ} {fails : Type 0}
-    (answer : Answer) (status : ℕ) → Ends words input old new before after fails answer status →
+    (answer : Response) (status : ℕ) → Ends words input old new before after fails answer status →
     status ≡ 4 → Rose old new × Appends before after unread
 unread_is {before = before} {after = after} {fails = fails} Usage status e h =
     absurd (omega (arith, (whole Usage status 4 before after fails h (λ f. cc) e.said).status))
@@ -155,15 +155,15 @@ unread_is {before = before} {after = after} {fails = fails} (Refused n) status e
 unread_is {before = before} {after = after} {fails = fails} (Drawn r) status e h =
     absurd (omega (arith, (whole (Drawn r) status 4 before after fails h (λ f. cc) e.said).status))
 
-no_five : (answer : Answer) → 5 ≡ status_of answer → ⊥
+no_five : (answer : Response) → 5 ≡ status_of answer → ⊥
 no_five Usage h = cc
 no_five Unread h = cc
 no_five (Refused n) h = cc
 no_five (Drawn r) h = cc
 
 pub unwritten_is : {X : Type 0} {words : List X} {input before after : Option (List ℕ)} {old new : ℕ} {fails : Type 0}
-    (answer : Answer) (status : ℕ) → Ends words input old new before after fails answer status →
-    status ≡ 5 → fails × (answer : Answer) × IsAnswer words input old new answer × (text : List ℕ)
+    (answer : Response) (status : ℕ) → Ends words input old new before after fails answer status →
+    status ≡ 5 → fails × (answer : Response) × IsAnswer words input old new answer × (text : List ℕ)
     × Tells answer text × AppendsPart before after text
 unwritten_is answer status e h =
     elim e.said.2 [
@@ -173,7 +173,7 @@ unwritten_is answer status e h =
 
 -- a status is never 6 where something was said
 pub not_six : {X : Type 0} {words : List X} {input before after : Option (List ℕ)} {old new : ℕ} {fails : Type 0}
-    (answer : Answer) (status : ℕ) → Ends words input old new before after fails answer status → status ≡ 6 → ⊥
+    (answer : Response) (status : ℕ) → Ends words input old new before after fails answer status → status ≡ 6 → ⊥
 not_six {before = before} {after = after} {fails = fails} Usage status e h =
     omega (arith, (whole Usage status 6 before after fails h (λ f. cc) e.said).status)
 not_six {before = before} {after = after} {fails = fails} Unread status e h =
@@ -185,7 +185,7 @@ not_six {before = before} {after = after} {fails = fails} (Drawn r) status e h =
 
 -- an answer to the bytes that were read is one to the source
 pub answered : {X : Type 0} (words : List X) (input : Option (List ℕ)) (old new : ℕ) (bytes : List ℕ) → words ≡ [] →
-    IfSome input (λ all. bytes ≡ take 67108865 all) → (answer : Answer) → IsAnswerTo bytes answer →
+    IfSome input (λ all. bytes ≡ take 67108865 all) → (answer : Response) → IsAnswerTo bytes answer →
     IsAnswer words input old new answer
 answered words input old new bytes none read Usage h = absurd h
 answered words input old new bytes none read Unread h = absurd h

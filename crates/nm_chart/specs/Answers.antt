@@ -1,47 +1,47 @@
 -- What the program answers: a text and a status.
 use Rattle.std.specs.Prelude.{◌≡◌, ℕ, ◌≤◌, ◌⊎◌, List, [], IfSome, Option, length}
 use Rattle.nm_outside.specs.Told.{Appends, AppendsPart, Rose}
-use Rattle.nm_chart.specs.declared.answers.Answer.{Answer}
-use Rattle.nm_chart.specs.declared.answers.Answer.TheVariants.{Usage, Unread, Refused, Drawn}
+use Rattle.nm_chart.specs.declared.answers.Response.{Response}
+use Rattle.nm_chart.specs.declared.answers.Response.TheVariants.{Usage, Unread, Refused, Drawn}
 use Rattle.nm_diagram.specs.Pictures.{IsPictureOf}
 use Rattle.nm_chart.specs.Endings.{IsBadTrace, IsTraceOfOne, fault_text, read_of}
 use Rattle.nm_chart.specs.Endings.{unread, usage}
 
 -- the text is that of the answer
-abbrev pub Tells : Answer → List ℕ → Type 0
+abbrev pub Tells : Response → List ℕ → Type 0
 Tells Usage text = text ≡ usage
 Tells Unread text = text ≡ unread
 Tells (Refused line) text = text ≡ fault_text line
 Tells (Drawn run) text = IsPictureOf run text
 
 -- the status of an answer that was written
-abbrev pub status_of : Answer → ℕ
+abbrev pub status_of : Response → ℕ
 status_of (Drawn run) = 0
 status_of Usage = 2
 status_of Unread = 4
 status_of (Refused line) = 9
 
 -- a picture has room for the ranks
-abbrev pub CanBeDrawn : Answer → Type 0
+abbrev pub CanBeDrawn : Response → Type 0
 CanBeDrawn (Drawn run) = length run.ranks ≤ 256
 CanBeDrawn _ = Unit {0}
 
 -- an answer to bytes that were read is right
-abbrev pub IsAnswerTo : List ℕ → Answer → Type 0
+abbrev pub IsAnswerTo : List ℕ → Response → Type 0
 IsAnswerTo bytes (Drawn run) = IsTraceOfOne bytes run
 IsAnswerTo bytes (Refused line) = IsBadTrace bytes line
 IsAnswerTo bytes _ = ⊥
 
 -- an answer is right: by the words, by the bytes of the source where it tells them, and by its count of
 -- faults before and after
-abbrev pub IsAnswer : {X : Type 0} → List X → Option (List ℕ) → ℕ → ℕ → Answer → Type 0
+abbrev pub IsAnswer : {X : Type 0} → List X → Option (List ℕ) → ℕ → ℕ → Response → Type 0
 IsAnswer words input old new Usage = ¬ (words ≡ [])
 IsAnswer words input old new Unread = (words ≡ []) × Rose old new
 IsAnswer words input old new answer =
     (words ≡ []) × IfSome input (λ bytes. IsAnswerTo (read_of bytes) answer)
 
 -- the text of an answer was written, whole and with its status, or the sink failed
-abbrev pub IsSaid : Answer → ℕ → Option (List ℕ) → Option (List ℕ) → Type 0 → Type 0
+abbrev pub IsSaid : Response → ℕ → Option (List ℕ) → Option (List ℕ) → Type 0 → Type 0
 IsSaid answer status old new fails = (text : List ℕ) × Tells answer text ×
     (((status ≡ status_of answer) × Appends old new text)
     ⊎ ((status ≡ 5) × fails × AppendsPart old new text))

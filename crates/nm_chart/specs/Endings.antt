@@ -12,7 +12,7 @@ abbrev pub read_of : List ℕ → List ℕ
 read_of bytes = take 67108865 bytes
 
 -- The widest shape. A trace tells neither cells nor eager limit, and a rank of which it says nothing takes
--- no line, so the trace of a run of fewer ranks is one of this shape.
+-- no line, so the trace of a record of fewer ranks is one of this shape.
 abbrev pub widest : Sizes
 widest = record { ranks = 64; cells = 1; eager = 0 }
 
@@ -49,8 +49,8 @@ pub record IsRefused (bytes : List ℕ) (old new : Option (List ℕ)) : Type 0 w
   pub bad : IsBadTrace bytes line
   pub said : Appends old new (fault_text line)
 
--- the bytes are the trace of a run, and what was written is the picture of each run, of whatever shape, whose
--- trace they are
+-- the bytes are the trace of a record, and what was written is the picture of each record, of whatever
+-- shape, whose trace they are
 pub record IsDrawn (bytes : List ℕ) (old new : Option (List ℕ)) : Type 0 where
   pub run : RunRecord
   pub text : List ℕ

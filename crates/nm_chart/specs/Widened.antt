@@ -9,7 +9,7 @@ use Rattle.nm_chart.specs.Endings.{widest}
 abbrev pub silent : RankAccount
 silent = record { history = record { events = []; spare = 0 }; at = 0; waits = None }
 
--- the record of a run, with silent ranks behind its own up to 64
+-- the record, with silent ranks behind its own up to 64
 abbrev pub widened : RunRecord → RunRecord
 widened run =
     record {

@@ -11,26 +11,29 @@ use std::alloc::{AllocError, Global};
 
 /// What there is to say.
 #[derive(Drop)]
-pub enum Answer {
+pub enum Response {
     /// There are words.
     Usage,
     /// The source failed.
     Unread,
     /// The bytes are no trace.
     Refused { line: u32 },
-    /// They are the trace of a run.
+    /// They are the trace of a record.
     Drawn { run: RunRecord },
 }
 
+/// What is said of words.
 const USAGE: &str = "usage: chart <TRACE >PICTURE
 ";
 
+/// The bytes of a line.
 fn line(alloc: Global, text: &str) -> Result<Vec<u8>, AllocError>
     ensures { IfOk result (λ bytes. bytes.items ≡ text.now) }
 {
     Vec::from_slice(alloc, text.as_bytes())
 }
 
+/// The line of a trace's first bad line.
 fn fault(alloc: Global, line: u32) -> Result<Vec<u8>, AllocError>
     ensures { IfOk result (λ bytes. bytes.items ≡ fault_text line) }
 {
@@ -39,26 +42,26 @@ fn fault(alloc: Global, line: u32) -> Result<Vec<u8>, AllocError>
 }
 
 /// The text of an answer, whole and in memory.
-pub fn text(alloc: Global, answer: &Answer) -> Result<Vec<u8>, Memory>
+pub fn text(alloc: Global, answer: &Response) -> Result<Vec<u8>, Memory>
     requires { CanBeDrawn answer.now }
     ensures { IfOk result (λ text. Tells answer.now text.items) }
 {
     match answer {
-        Answer::Usage => Ok(line(alloc, USAGE)?),
-        Answer::Unread => Ok(line(alloc, "fault read\n")?),
-        Answer::Refused { line } => Ok(fault(alloc, *line)?),
-        Answer::Drawn { run } => picture(alloc, run),
+        Response::Usage => Ok(line(alloc, USAGE)?),
+        Response::Unread => Ok(line(alloc, "fault read\n")?),
+        Response::Refused { line } => Ok(fault(alloc, *line)?),
+        Response::Drawn { run } => picture(alloc, run),
     }
 }
 
 /// The status of an answer that was written.
-pub fn status(answer: &Answer) -> u8
+pub fn status(answer: &Response) -> u8
     ensures { result ≡ status_of answer.now }
 {
     match answer {
-        Answer::Drawn { .. } => 0,
-        Answer::Usage => 2,
-        Answer::Unread => 4,
-        Answer::Refused { .. } => 9,
+        Response::Drawn { .. } => 0,
+        Response::Usage => 2,
+        Response::Unread => 4,
+        Response::Refused { .. } => 9,
     }
 }

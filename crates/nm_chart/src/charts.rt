@@ -1,14 +1,15 @@
 //! The whole program: words and a trace in, a picture and a status out.
 
-ghost use Rattle.std.specs.Prelude.{◌≡◌, ◌≤◌, ◌<◌, ◌⊎◌, ◌↔◌, ℕ, [], List, Some, take, drop, length, IfOk, IfSome};
+ghost use Rattle.std.specs.Prelude.{◌≡◌, ◌≤◌, ◌<◌, ◌⊎◌, ◌↔◌, ℕ, [], List, Some, take, drop, length};
+ghost use Rattle.std.specs.Prelude.{IfOk, IfSome};
 ghost use Rattle.nm_outside.specs.Told.{Appends, AppendsPart, Rose};
 ghost use Rattle.nm_report.specs.declared.records.RunRecord.{RunRecord};
-ghost use Rattle.nm_chart.specs.declared.answers.Answer.{Answer};
+ghost use Rattle.nm_chart.specs.declared.answers.Response.{Response};
 ghost use Rattle.nm_chart.specs.Answers.{CanBeDrawn, IsAnswer, IsAnswerTo, IsSaid, Tells};
 ghost use Rattle.nm_chart.specs.Endings.{IsBadTrace, IsDrawn, IsRefused, IsStatus, IsTrace};
 ghost use Rattle.nm_chart.specs.Endings.{OrFails, OrUnwritten, read_of, unread, usage};
 
-use crate::answers::{Answer, status, text};
+use crate::answers::{Response, status, text};
 use nm_outside::{Sink, Source, Unread, read_up_to, write_all};
 use nm_trace::{TraceFault, read_trace};
 use nm_types::{Memory, Shape};
@@ -17,45 +18,51 @@ use std::alloc::Global;
 /// The most bytes of a trace.
 const MAX_TRACE: usize = 67108864;
 
+/// The status where the sink failed.
 const SINK_FAILED: u8 = 5;
 
+/// The status for want of memory.
 const WANT_OF_MEMORY: u8 = 6;
 
 // The record whose trace the bytes are, or their first bad line.
-fn read_bytes(alloc: Global, bytes: &[u8]) -> Result<Answer, Memory>
+fn read_bytes(alloc: Global, bytes: &[u8]) -> Result<Response, Memory>
     ensures answer { IfOk result (IsAnswerTo bytes.now) }
     ensures drawn { IfOk result CanBeDrawn }
 {
     if bytes.len() > MAX_TRACE {
-        return Ok(Answer::Refused { line: 0 });
+        return Ok(Response::Refused { line: 0 });
     }
     let widest = Shape::new(64, 1, 0).unwrap();
     match read_trace(alloc, bytes, widest) {
-        Ok(run) => Ok(Answer::Drawn { run }),
-        Err(TraceFault::Bad { line }) => Ok(Answer::Refused { line }),
+        Ok(run) => Ok(Response::Drawn { run }),
+        Err(TraceFault::Bad { line }) => Ok(Response::Refused { line }),
         Err(TraceFault::Memory) => Err(Memory),
     }
 }
 
 // Finds the answer to the words and the source.
-fn find_answer<S: Source>(alloc: Global, words: &[String], source: &mut S) -> Result<Answer, Memory>
+fn find_answer<S: Source>(
+    alloc: Global,
+    words: &[String],
+    source: &mut S,
+) -> Result<Response, Memory>
     ensures answer { IfOk result (IsAnswer words.now (S.left source.old) (S.faults source.old)
         (S.faults source.new)) }
     ensures drawn { IfOk result CanBeDrawn }
     ensures untouched { ¬ (words.now ≡ []) → source.new ≡ source.old }
 {
     if !words.is_empty() {
-        return Ok(Answer::Usage);
+        return Ok(Response::Usage);
     }
     match read_up_to(alloc, source, MAX_TRACE + 1) {
         Ok(bytes) => read_bytes(alloc, &bytes),
-        Err(Unread::Failed) => Ok(Answer::Unread),
+        Err(Unread::Failed) => Ok(Response::Unread),
         Err(Unread::Memory) => Err(Memory),
     }
 }
 
 // Writes what is due to the sink, and answers the status.
-fn deliver<K: Sink>(sink: &mut K, due: &[u8], answer: &Answer) -> u8
+fn deliver<K: Sink>(sink: &mut K, due: &[u8], answer: &Response) -> u8
     requires { Tells answer.now due.now }
     ensures { IsSaid answer.now result (K.taken sink.old) (K.taken sink.new)
         (Rose (K.faults sink.old) (K.faults sink.new)) }
@@ -69,10 +76,10 @@ fn deliver<K: Sink>(sink: &mut K, due: &[u8], answer: &Answer) -> u8
 /// Does all that the program does: reads a trace of the source, and writes its picture to the sink.
 ///
 /// The words are those of the command line without the program's name: there are to be none. The
-/// status is 0 where the picture was written, 2 where there are words, 4 where a read failed, 5 where
-/// a write failed, 6 for want of memory, and 9 where the bytes are no trace. A trace has at most
-/// 67,108,864 bytes: of longer ones it says line 0. The whole text is in memory before the first
-/// write.
+/// status is 0 where the picture was written, 2 where there are words, 4 where a read failed, 5
+/// where a write failed, 6 for want of memory, and 9 where the bytes are no trace. A trace has at
+/// most 67,108,864 bytes: of longer ones it says line 0. The whole text is in memory before the
+/// first write.
 pub fn chart<S: Source, K: Sink>(
     alloc: Global,
     words: &[String],
@@ -91,7 +98,7 @@ pub fn chart<S: Source, K: Sink>(
     ensures refuses { (words.now ≡ []) → IfSome (S.left source.old) (λ bytes. (line : ℕ) →
         IsBadTrace (read_of bytes) line → OrFails (result ≡ 9) result) }
 
-    // The bytes are the trace of a run.
+    // The bytes are the trace of a record.
     ensures drawn { result ≡ 0 → (words.now ≡ []) × IfSome (S.left source.old) (λ bytes.
         IsDrawn (read_of bytes) (K.taken sink.old) (K.taken sink.new)) }
     ensures draws { (words.now ≡ []) → IfSome (S.left source.old) (λ bytes. (run : RunRecord) →
@@ -103,7 +110,7 @@ pub fn chart<S: Source, K: Sink>(
 
     // The sink failed. What it took is a front of the text that was due.
     ensures unwritten { result ≡ 5 → Rose (K.faults sink.old) (K.faults sink.new)
-        × (answer : Answer) × IsAnswer words.now (S.left source.old) (S.faults source.old)
+        × (answer : Response) × IsAnswer words.now (S.left source.old) (S.faults source.old)
         (S.faults source.new) answer × (text : List ℕ) × Tells answer text
         × AppendsPart (K.taken sink.old) (K.taken sink.new) text }
 

@@ -7,8 +7,8 @@ ghost use Rattle.nm_trace.specs.Traces.{IsTraceOf};
 ghost use Rattle.nm_chart.specs.Endings.{widest};
 ghost use Rattle.nm_chart.specs.Widened.{widened};
 
-/// The trace of a run of any shape is one of the widest shape: of the same run, with silent ranks behind
-/// its own. So just the traces of runs are taken, whatever their shape.
+/// The trace of a record of any shape is one of the widest shape: of the same record, with silent
+/// ranks behind its own. So the traces of records are taken, whatever their shape.
 pub fn one_shape_serves_for_all()
     ensures { (shape : Sizes) (bytes : List ℕ) (run : RunRecord) → shape.ranks ≤ 64 →
         IsTraceOf shape bytes run → IsTraceOf widest bytes (widened run) }

@@ -4,13 +4,13 @@
 //! reads a trace, and writes its picture to the sink.
 //!
 //! # What a contract sees
-//! Bytes as a list of numbers, the record that a trace's bytes stand for, and the text of its picture
-//! (`nm_diagram`).
+//! Bytes as a list of numbers, the record that a trace's bytes stand for, and the text of its
+//! picture (`nm_diagram`).
 //! # What is proved
-//! - Status 0 exactly where the bytes are the trace of a run, and then what was written is the picture of
-//!   each run whose trace they are; 9 where they are none, with the first bad line; 2 where there are
-//!   words. They yield to 4, 5 and 6.
-//! - `laws`: the trace of a run of any shape is taken.
+//! - Status 0 exactly where the bytes are the trace of a record, and then what was written is the
+//!   picture of each record whose trace they are; 9 where they are none, with the first bad line; 2
+//!   where there are words. They yield to 4, 5 and 6.
+//! - `laws`: the trace of a record of any shape is taken.
 //! - At 5 the sink took a front of the text that was due. At 6 nothing was written.
 //! # What is only tested
 //! That it succeeds with ample memory.

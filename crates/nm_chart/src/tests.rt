@@ -1,4 +1,4 @@
-//! What no clause says: that each ending comes with ample memory.
+//! What no clause says: that the endings 0, 2 and 9 come with ample memory.
 
 use super::*;
 use nm_outside::{MemorySink, MemorySource};

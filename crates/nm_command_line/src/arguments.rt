@@ -6,13 +6,8 @@ ghost use Rattle.nm_words.specs.Decimal.{number_of};
 ghost use Rattle.nm_command_line.specs.Arguments.{IsArgument, IsOption};
 ghost use Rattle.nm_command_line.specs.declared.arguments.Argument.{Argument};
 
+use nm_types::{MAX_CELLS, MAX_EAGER};
 use nm_words::number_up_to;
-
-/// The most cells of a rank.
-const MAX_CELLS: u16 = 64;
-
-/// The greatest eager limit, in bytes.
-const MAX_EAGER: u16 = 4096;
 
 /// An option with its value, or a number that stands by itself.
 #[derive(Clone, Copy)]
@@ -22,17 +17,14 @@ pub enum Argument {
     Number(u16),
 }
 
-// The number of at most `most` that a word spells.
+/// The number of at most `most` that a word spells.
 fn number(word: &[u8], most: u16) -> Option<u16>
     ensures { result ≡ number_of (most + 1) word.now }
 {
-    match number_up_to(word, u64::from(most)) {
-        Some(value) => Some(value as u16),
-        None => None,
-    }
+    number_up_to(word, u64::from(most)).map(|value| value as u16)
 }
 
-// What stands behind the front of a word, where it has this front.
+/// What stands behind the front of a word, where it has this front.
 fn behind<'a>(word: &'a [u8], front: &[u8]) -> Option<&'a [u8]>
     ensures { MatchOption result ((rest : List ℕ) → word.now ≡ front.now ++ rest → ⊥)
         (λ rest. word.now ≡ front.now ++ rest.now) }
@@ -40,8 +32,8 @@ fn behind<'a>(word: &'a [u8], front: &[u8]) -> Option<&'a [u8]>
     word.strip_prefix(front)
 }
 
-// The value of an option that the words begin with, and the words behind it. The option stands
-// as its name and its value, or joined with it.
+/// The value of an option that the words begin with, and the words behind it. The option stands
+/// as its name and its value, or joined with it.
 fn option<'a>(
     words: &'a [String],
     name: &[u8],
@@ -74,7 +66,7 @@ pub fn next_argument(words: &[String]) -> Option<(Argument, &[String])>
         IsSomeAnd result (λ x. (x.0 ≡ argument) × (map string_bytes x.1.now ≡ others)) }
     ensures shorter { IfSome result (λ x. length x.1.now < length words.now) }
 {
-    if let Some((cells, others)) = option(words, b"--cells", b"--cells=", MAX_CELLS) {
+    if let Some((cells, others)) = option(words, b"--cells", b"--cells=", u16::from(MAX_CELLS)) {
         if cells == 0 {
             return None;
         }

@@ -1,6 +1,6 @@
 //! What was found behind the first word.
 
-ghost use Rattle.std.specs.Prelude.{◌≡◌, List, ℕ, map, string_bytes, IfSome, Some};
+ghost use Rattle.std.specs.Prelude.{◌≡◌, map, string_bytes, IfSome, Some};
 ghost use Rattle.nm_command_line.specs.CommandLine.{Follows, nothing, with_argument, with_first};
 ghost use Rattle.nm_command_line.specs.declared.found.Found.{Found};
 
@@ -30,7 +30,7 @@ impl Found {
         }
     }
 
-    // With one argument more, unless it was given before or is a fourth number.
+    /// With one argument more, unless it was given before or is a fourth number.
     fn with(self, argument: Argument) -> Option<Found>
         ensures { result ≡ with_argument self argument }
     {
@@ -53,7 +53,7 @@ impl Found {
         }
     }
 
-    // With one number more, unless there are three.
+    /// With one number more, unless there are three.
     fn with_number(self, number: u16) -> Option<Found>
         ensures { result ≡ with_first number self self.first }
     {
@@ -75,14 +75,13 @@ impl Found {
     }
 }
 
-// Calls itself at most six times: each argument but the last was not given before, and there are
-// three numbers at most.
 /// What the words give in the end, beside what was found before them.
 pub fn rest(found: Found, words: &[String]) -> Option<Found>
     ensures follows { IfSome result (Follows found (map string_bytes words.now)) }
     ensures whole { (end : Found) → Follows found (map string_bytes words.now) end →
         result ≡ Some end }
 {
+    // Calls itself at most five times: there are two options, each given once, and three numbers.
     if words.is_empty() {
         return Some(found);
     }

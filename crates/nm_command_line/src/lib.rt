@@ -10,7 +10,7 @@
 //! `read` takes exactly the words of the grammar (`IsTaken`), and gives what they ask for.
 #![tactic(auto)]
 
-ghost use Rattle.std.specs.Prelude.{◌≡◌, List, ℕ, map, string_bytes, IfSome, Some};
+ghost use Rattle.std.specs.Prelude.{◌≡◌, map, string_bytes, IfSome, Some};
 ghost use Rattle.nm_command_line.specs.CommandLine.{InRange, IsTaken};
 ghost use Rattle.nm_command_line.specs.declared.CommandLine.{CommandLine};
 
@@ -51,8 +51,10 @@ pub struct CommandLine {
     pub eager: u16,
 }
 
+/// How many cells each rank has where no option says.
 const CELLS: u8 = 8;
 
+/// Up to how many bytes a standard send is eager where no option says.
 const EAGER: u16 = 1024;
 
 /// What the words ask for, or `None` where they are not taken.

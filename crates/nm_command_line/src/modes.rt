@@ -1,15 +1,13 @@
 //! What the first word asks for, with the numbers behind it.
 
-ghost use Rattle.std.specs.Prelude.{◌≡◌, codes, IfSome, Some};
+ghost use Rattle.std.specs.Prelude.{◌≡◌, IfSome, Some};
 ghost use Rattle.nm_command_line.specs.CommandLine.{AreNumbers, HasArguments, HasNoNumber, name_of};
 ghost use Rattle.nm_command_line.specs.declared.Mode.{Mode};
 ghost use Rattle.nm_command_line.specs.declared.Mode.TheVariants.{Flood, Multi};
 
 use crate::Mode;
 use crate::found::Found;
-
-/// The most ranks of `flood`.
-const MAX_RANKS: u16 = 64;
+use nm_types::MAX_RANKS;
 
 /// The most messages of `flood`.
 const MAX_MESSAGES: u16 = 16000;
@@ -20,7 +18,7 @@ const MAX_THREADS: u16 = 16;
 /// The most rounds of `multi`.
 const MAX_ROUNDS: u16 = 1000;
 
-// A first word that no number follows.
+/// A first word that no number follows.
 fn without_numbers(first: &[u8]) -> Option<Mode>
     ensures asked { IfSome result (λ mode. (first.now ≡ name_of mode) × HasNoNumber mode) }
     ensures asks { (mode : Mode) → first.now ≡ name_of mode → HasNoNumber mode → result ≡ Some mode }
@@ -40,12 +38,12 @@ fn without_numbers(first: &[u8]) -> Option<Mode>
     }
 }
 
-// A flood of these numbers.
+/// A flood of these numbers.
 fn flood(key: u16, ranks: u16, messages: u16) -> Option<Mode>
     ensures asked { IfSome result (λ mode. (mode ≡ Flood key ranks messages) × AreNumbers mode) }
     ensures asks { AreNumbers (Flood key ranks messages) → result ≡ Some (Flood key ranks messages) }
 {
-    if ranks < 1 || ranks > MAX_RANKS || messages > MAX_MESSAGES {
+    if ranks < 1 || ranks > u16::from(MAX_RANKS) || messages > MAX_MESSAGES {
         return None;
     }
     Some(Mode::Flood {
@@ -55,7 +53,7 @@ fn flood(key: u16, ranks: u16, messages: u16) -> Option<Mode>
     })
 }
 
-// So many threads of so many rounds.
+/// So many threads of so many rounds.
 fn multi(threads: u16, rounds: u16) -> Option<Mode>
     ensures asked { IfSome result (λ mode. (mode ≡ Multi threads rounds) × AreNumbers mode) }
     ensures asks { AreNumbers (Multi threads rounds) → result ≡ Some (Multi threads rounds) }

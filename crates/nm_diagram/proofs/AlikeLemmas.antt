@@ -19,7 +19,7 @@ use Rattle.nm_diagram.specs.Alike.{AreAlike}
 use Rattle.nm_diagram.specs.Anchors.{first_stamp}
 use Rattle.nm_diagram.specs.Diagrams.{Lane, Mark, all_arrows, all_lanes, all_marks, arrow_from, arrow_of, arrows_at}
 use Rattle.nm_diagram.specs.Diagrams.{arrows_of, from_lane, lane_of, marks_at, sent_by}
-use Rattle.nm_diagram.specs.Frames.{IsFrame, IsSilent, is_shown, lowest, lowest_of_all, shown_count}
+use Rattle.nm_diagram.specs.Frames.{IsFrame, IsSilent, is_shown, latest, latest_of_all, shown_count}
 use Rattle.nm_diagram.specs.Links.{all_links, links_among}
 use Rattle.nm_diagram.specs.Pictures.{IsPictureOf, arrow_text, front_text, lane_text, link_text, mark_text}
 use Rattle.nm_diagram.specs.Pictures.{picture_text, shapes_text}
@@ -71,18 +71,18 @@ alike_sum g none (x ∷ xs) (y ∷ ys) h =
     ∙ ap (λ l. g l + sum_by (λ account. g account.history.events) ys) h.0
     ∙ sym (sum_by-cons (λ account. g account.history.events) y ys)
 
-silent_lowest : (end found : ℕ) (ys : List RankAccount) → AllByRecursion IsSilent ys →
-    lowest_of_all end found ys ≡ found
-silent_lowest end found [] h = refl
-silent_lowest end found (y ∷ ys) h =
-    ap (λ l. lowest_of_all end (lowest end found l) ys) h.0.0 ∙ silent_lowest end found ys h.1
+silent_latest : (end found : ℕ) (ys : List RankAccount) → AllByRecursion IsSilent ys →
+    latest_of_all end found ys ≡ found
+silent_latest end found [] h = refl
+silent_latest end found (y ∷ ys) h =
+    ap (λ l. latest_of_all end (latest end found l) ys) h.0.0 ∙ silent_latest end found ys h.1
 
-alike_lowest : (end found : ℕ) (xs ys : List RankAccount) → AreAlike xs ys →
-    lowest_of_all end found xs ≡ lowest_of_all end found ys
-alike_lowest end found [] ys h = sym (silent_lowest end found ys h)
-alike_lowest end found (x ∷ xs) [] h = silent_lowest end found (x ∷ xs) h
-alike_lowest end found (x ∷ xs) (y ∷ ys) h =
-    ap (λ l. lowest_of_all end (lowest end found l) xs) h.0 ∙ alike_lowest end (lowest end found y.history.events) xs
+alike_latest : (end found : ℕ) (xs ys : List RankAccount) → AreAlike xs ys →
+    latest_of_all end found xs ≡ latest_of_all end found ys
+alike_latest end found [] ys h = sym (silent_latest end found ys h)
+alike_latest end found (x ∷ xs) [] h = silent_latest end found (x ∷ xs) h
+alike_latest end found (x ∷ xs) (y ∷ ys) h =
+    ap (λ l. latest_of_all end (latest end found l) xs) h.0 ∙ alike_latest end (latest end found y.history.events) xs
     ys h.2
 
 -- the send of a message is found in either
@@ -178,7 +178,7 @@ alike-frame xs ys frame h is =
       few = subst (λ n. n ≤ 20000) (counts frame.end) is.few;
       most = subst (λ n. (frame.end ≡ 1000001) ⊎ ((frame.end ≤ 1000000) × (20000 < n))) (counts (frame.end + 1))
           is.most;
-      bottom = is.bottom ∙ alike_lowest frame.end 0 xs ys h;
+      bottom = is.bottom ∙ alike_latest frame.end 0 xs ys h;
       left_out = is.left_out ∙ ap (λ n. min n (2 ^ 64 - 1))
           (alike_sum (λ events. length events - count_by (is_shown frame.end) events) refl xs ys h);
     }

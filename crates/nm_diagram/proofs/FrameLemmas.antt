@@ -7,7 +7,7 @@ use Rattle.std.proofs.lemmas.List.Sums.{sum_by-cons}
 use Rattle.nm_history.specs.declared.events.Event.{Event}
 use Rattle.nm_report.specs.declared.accounts.RankAccount.{RankAccount}
 use Rattle.nm_diagram.specs.declared.frames.Frame.{Frame}
-use Rattle.nm_diagram.specs.Frames.{IsFrame, IsSilent, hidden_of, is_shown, lowest_of_all, shown_count, shown_of}
+use Rattle.nm_diagram.specs.Frames.{IsFrame, IsSilent, hidden_of, is_shown, latest_of_all, shown_count, shown_of}
 
 not_below : (n : ℕ) → nat_lt n 0 ≡ false
 not_below n = grind arith
@@ -110,6 +110,6 @@ pub frame-same : (ranks : List RankAccount) (f g : Frame) → IsFrame ranks f �
 frame-same ranks f g is other =
     let lanes = same_by f.lanes g.lanes (no_fewer ranks f g is other) (no_fewer ranks g f other is) in
     let ends = same_by f.end g.end (no_less ranks f g is other) (no_less ranks g f other is) in
-    let bottoms = is.bottom ∙ ap (λ e. lowest_of_all e 0 ranks) ends ∙ sym other.bottom in
+    let bottoms = is.bottom ∙ ap (λ e. latest_of_all e 0 ranks) ends ∙ sym other.bottom in
     let left = is.left_out ∙ ap (λ e. min (sum_by (hidden_of e) ranks) (2 ^ 64 - 1)) ends ∙ sym other.left_out in
     same_frame f g lanes ends bottoms left

@@ -1,7 +1,8 @@
 //! The events at which the ends of arrows and links stand.
 
 ghost use Rattle.std.specs.Prelude.{◌≡◌, ◌<◌, IfSome, take};
-ghost use Rattle.nm_diagram.specs.Anchors.{first_stamp as first_stamp_lem, is_anchor as is_anchor_lem};
+ghost use Rattle.nm_diagram.specs.Anchors.{first_stamp as first_stamp_lem};
+ghost use Rattle.nm_diagram.specs.Anchors.{is_anchor as is_anchor_lem};
 
 use nm_history::{Event, Happened};
 

@@ -1,6 +1,7 @@
 //! An arrow for each message, from its send to its arrival.
 
-ghost use Rattle.std.specs.Prelude.{◌≡◌, ◌≤◌, ◌<◌, ◌++◌, IfSome, OnOk, flat_map, length, string_bytes, take};
+ghost use Rattle.std.specs.Prelude.{◌≡◌, ◌≤◌, ◌<◌, ◌++◌, IfSome, OnOk, flat_map, length};
+ghost use Rattle.std.specs.Prelude.{string_bytes, take};
 ghost use Rattle.std.specs.Prelude.{slice_get};
 ghost use Rattle.nm_diagram.specs.Diagrams.{all_arrows, arrow_from, arrow_of, arrows_at, arrows_of};
 ghost use Rattle.nm_diagram.specs.Diagrams.{sent_by};
@@ -114,8 +115,8 @@ fn push_arrival(
 ) -> Result<(), AllocError>
     requires few { to ≤ 256 }
     requires low { (frame.now.end ≤ 1000001) × (event.now.stamp ≤ 1000000) }
-    ensures ok { OnOk result (string_bytes out.new ≡ string_bytes out.old
-        ++ flat_map arrow_text (arrow_of frame.now.end ranks.now to event.now.stamp event.now.what)) }
+    ensures ok { OnOk result (string_bytes out.new ≡ string_bytes out.old ++ flat_map arrow_text
+        (arrow_of frame.now.end ranks.now to event.now.stamp event.now.what)) }
 {
     let Happened::Arrive { a } = &event.what else {
         return Ok(());

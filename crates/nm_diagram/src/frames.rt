@@ -1,9 +1,11 @@
 //! What fits a picture: how many lanes it has, and which events it shows.
 
-ghost use Rattle.std.specs.Prelude.{◌≡◌, ◌≤◌, ◌<◌, ◌+◌, ◌-◌, ◌^◌, ◌⊎◌, ◌↔◌, [], ◌∷◌, IsTrue, count_by, drop, length};
+ghost use Rattle.std.specs.Prelude.{◌≡◌, ◌≤◌, ◌<◌, ◌+◌, ◌-◌, ◌^◌, ◌⊎◌, ◌↔◌, [], ◌∷◌, IsTrue};
+ghost use Rattle.std.specs.Prelude.{count_by, drop, length};
 ghost use Rattle.std.specs.Prelude.{min, sum_by, nat_le};
 ghost use Rattle.std.specs.List.{AllByRecursion};
-ghost use Rattle.nm_diagram.specs.Frames.{IsFrame, IsSilent, hidden_of, is_shown, lowest, lowest_of_all};
+ghost use Rattle.nm_diagram.specs.Frames.{IsFrame, IsSilent, hidden_of, is_shown, latest};
+ghost use Rattle.nm_diagram.specs.Frames.{latest_of_all};
 ghost use Rattle.nm_diagram.specs.Frames.{shown_count, shown_of};
 
 use nm_history::Event;
@@ -91,9 +93,9 @@ fn count_left_out(ranks: &[RankAccount], end: u64) -> u64
 }
 
 /// The greater of a stamp and that of an event, if it is shown.
-fn lower_of(event: &Event, end: u64, found: u64) -> u64
+fn later_of(event: &Event, end: u64, found: u64) -> u64
     requires { (found ≤ 1000000) × (end ≤ 1000001) }
-    ensures value { result ≡ lowest end found (event.now ∷ []) }
+    ensures value { result ≡ latest end found (event.now ∷ []) }
     ensures within { result ≤ 1000000 }
 {
     if event.stamp < end {
@@ -106,12 +108,12 @@ fn lower_of(event: &Event, end: u64, found: u64) -> u64
 /// The greatest stamp of a rank's events that are shown, and of what was found before.
 fn bottom_of_rank(events: &[Event], end: u64, found: u64) -> u64
     requires { (found ≤ 1000000) × (end ≤ 1000001) }
-    ensures value { result ≡ lowest end found events.now }
+    ensures value { result ≡ latest end found events.now }
     ensures within { result ≤ 1000000 }
 {
     let mut bottom = found;
     for event in events {
-        bottom = lower_of(event, end, bottom);
+        bottom = later_of(event, end, bottom);
     }
     bottom
 }
@@ -119,7 +121,7 @@ fn bottom_of_rank(events: &[Event], end: u64, found: u64) -> u64
 /// The greatest stamp of an event that is shown, or 0.
 fn find_bottom(ranks: &[RankAccount], end: u64) -> u64
     requires { end ≤ 1000001 }
-    ensures value { result ≡ lowest_of_all end 0 ranks.now }
+    ensures value { result ≡ latest_of_all end 0 ranks.now }
     ensures within { result ≤ 1000000 }
 {
     let mut bottom = 0u64;

@@ -24,8 +24,8 @@ ghost use Rattle.nm_diagram.specs.Markup.{escaped, is_plain};
 ghost use Rattle.nm_diagram.specs.Pictures.{IsPictureOf};
 ghost use Rattle.nm_diagram.specs.WellFormed.{IsWellFormed};
 
-/// Each event that is shown has exactly one mark, in the lane of its rank. The marks of a rank stand in
-/// the order of its history, so their stamps rise where those of its events do.
+/// Each event that is shown has exactly one mark, in the lane of its rank. The marks of a rank
+/// stand in the order of its history, so their stamps rise where those of its events do.
 pub fn each_event_has_one_mark()
     ensures lane { (end rank : ℕ) (account : RankAccount) → marks_of end rank account
         ≡ map (mark_of rank) (filter (is_shown end) account.history.events) }
@@ -51,15 +51,24 @@ pub fn each_arrival_has_one_arrow()
         Rise 0 (map (λ e. e.stamp) sender.history.events) →
         first_stamp end (anchor.Send rank a.n) sender.history.events ≡ Some sent →
         arrows_at end ranks rank (record { stamp = stamp; what = what.Arrive a })
-        ≡ record { from = a.env.from; sent = sent; to = rank; arrived = stamp; n = a.n; how = a.env.how } ∷ [] }
+        ≡ record {
+          from = a.env.from;
+          sent = sent;
+          to = rank;
+          arrived = stamp;
+          n = a.n;
+          how = a.env.how;
+        } ∷ [] }
     ensures other { (end rank : ℕ) (ranks : List RankAccount) (event : Event) →
         ((a : Arrival) → ¬ (event.what ≡ what.Arrive a)) → arrows_at end ranks rank event ≡ [] }
 {}
 
-/// In the run of a script each arrival that is shown has one arrow, and it comes from an earlier stamp.
+/// In the run of a script each arrival that is shown has one arrow, and it comes from an earlier
+/// stamp.
 pub fn each_message_goes_forward()
     ensures { (shape : Sizes) (lines : List Line) (run : RunRecord) (frame : Frame) →
-        IsRunIn shape lines run → IsFrame run.ranks frame → (rank stamp : ℕ) (receiver : RankAccount)
+        IsRunIn shape lines run → IsFrame run.ranks frame →
+        (rank stamp : ℕ) (receiver : RankAccount)
         (a : Arrival) (before after : List Event) → slice_get run.ranks rank ≡ Some receiver →
         receiver.history.events ≡ before ++ record { stamp = stamp; what = what.Arrive a } ∷ after →
         stamp < frame.end → HasOneArrow frame.end run.ranks rank stamp a }

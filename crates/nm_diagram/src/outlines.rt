@@ -4,7 +4,8 @@ ghost use Rattle.std.specs.Prelude.{◌≡◌, ◌≤◌, ◌++◌, OnOk, flat_m
 ghost use Rattle.nm_diagram.specs.Diagrams.{all_lanes, lane_of};
 ghost use Rattle.nm_diagram.specs.Pictures.{foot_y, head_text, lane_text, lane_x, left_out_text};
 ghost use Rattle.nm_diagram.specs.Pictures.{line_text, note_text};
-ghost use Rattle.nm_diagram.specs.Pictures.{process_line, rank_label, size_text, stamp_y, wait_label};
+ghost use Rattle.nm_diagram.specs.Pictures.{process_line, rank_label, size_text, stamp_y};
+ghost use Rattle.nm_diagram.specs.Pictures.{wait_label};
 ghost use Rattle.nm_diagram.specs.Pictures.{wait_sign, wait_text};
 
 use crate::frames::Frame;

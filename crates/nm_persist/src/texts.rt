@@ -1,12 +1,14 @@
 //! The text of a plan's run.
 
 ghost use Rattle.std.specs.Prelude.{◌≡◌, ◌++◌, [], map, filter_map, option_map, IfOk, OnOk};
-ghost use Rattle.std.specs.Prelude.{List, Option, IsTrue, ◌↔◌, ◌<◌, ◌^◌, option_copied, string_bytes};
+ghost use Rattle.std.specs.Prelude.{List, Option, IsTrue, ◌↔◌, ◌<◌, ◌^◌, option_copied};
+ghost use Rattle.std.specs.Prelude.{string_bytes};
 ghost use Rattle.std.specs.List.{join_with_byte};
-ghost use Rattle.nm_report.specs.Report.{cells_line, end_line, waits_line};
+ghost use Rattle.nm_report.specs.Report.{waits_line};
 ghost use Rattle.nm_report.specs.Told.{told_by, told_of_rank};
 ghost use Rattle.nm_persist.specs.Report.{Named, asked_at, named_from, rank_lines, ranks_lines};
-ghost use Rattle.nm_persist.specs.Report.{results_of, run_text, shown_line, shown_words, words_shown};
+ghost use Rattle.nm_persist.specs.Report.{results_of, run_text, shown_line, shown_words};
+ghost use Rattle.nm_persist.specs.Report.{words_shown};
 ghost use Rattle.nm_persist.specs.Report.{arrived_word as arrived_word_lem, first_answer};
 ghost use Rattle.nm_persist.specs.Report.{received as received_lem};
 ghost use Rattle.nm_persist.specs.Results.{AreResults, AreRows, IsReceived};
@@ -18,8 +20,8 @@ use crate::asked::{Asked, Show, asked_of};
 use crate::plans::Plan;
 use crate::results::{Received, Results};
 use nm_history::{Event, Happened, History};
-use nm_report::{RankAccount, RunRecord};
-use nm_types::{Account, Answer, Memory};
+use nm_report::{RankAccount, RunRecord, push_end};
+use nm_types::{Answer, Memory};
 use std::alloc::{AllocError, Global};
 
 /// The answer that an event is.
@@ -56,7 +58,8 @@ fn push_received(
 ) -> Result<(), AllocError>
     requires { received.now.lost < 2 ^ 63 }
     ensures { OnOk result ((parts : List (Option answers.Answer)) → IsReceived parts received.now →
-        string_bytes out.new ≡ string_bytes out.old ++ join_with_byte 32 (received_lem from tag parts)) }
+        string_bytes out.new
+        ≡ string_bytes out.old ++ join_with_byte 32 (received_lem from tag parts)) }
 {
     let len = received.len();
     if received.cut {
@@ -200,7 +203,8 @@ fn push_account(
 
 /// What the lines of a rank ask.
 fn row(asked: &[Vec<Asked>], rank: usize) -> &[Asked]
-    ensures { (all : List questions.Asked) → AreRows all asked.now → result.now ≡ asked_at rank all }
+    ensures { (all : List questions.Asked) → AreRows all asked.now →
+        result.now ≡ asked_at rank all }
 {
     match asked.get(rank) {
         Some(own) => own.as_slice(),
@@ -216,7 +220,8 @@ fn push_ranks(
     ranks: &[RankAccount],
 ) -> Result<(), Memory>
     ensures { OnOk result ((all : List questions.Asked) → AreRows all asked.now →
-        string_bytes out.new ≡ string_bytes out.old ++ ranks_lines all 0 (map told_of_rank ranks.now)) }
+        string_bytes out.new
+        ≡ string_bytes out.old ++ ranks_lines all 0 (map told_of_rank ranks.now)) }
 {
     for (rank, account) in ranks.iter().enumerate() {
         push_account(alloc, out, rank, row(asked, rank), account)?;
@@ -224,37 +229,23 @@ fn push_ranks(
     Ok(())
 }
 
-fn last_line(done: bool) -> &'static str
-    ensures { result.now ≡ end_line done }
-{
-    if done { "done\n" } else { "stuck\n" }
-}
-
-/// Writes the line of the cells, and the last line.
-fn push_end(out: &mut String, cells: Account, done: bool) -> Result<(), AllocError>
-    ensures { OnOk result
-        (string_bytes out.new ≡ string_bytes out.old ++ (cells_line cells ++ end_line done)) }
-{
-    write!(out, "cells {} home {}\n", cells.total, cells.home)?;
-    out.push_str(last_line(done))
-}
-
 /// The text of a run of a plan's script, each line ended by a line feed.
 ///
 /// Rank by rank, each `wait` and each `arrived` has the line `RANK LINE ANSWER` with the number of
 /// its line in the plan. An `arrived` is `no` where the part isn't here and its request is active,
 /// and else `yes`. A `wait` for a send is `sent`; one for a receive is `got FROM TAG LEN xHEX` with
-/// its parts joined in order, or `cut FROM TAG LEN` where one of them was cut off. A rank that can't
-/// go on has the line `RANK LINE waits`. Then come `cells TOTAL home HOME`, and `done` or `stuck`.
+/// its parts joined in order, or `cut FROM TAG LEN` where one of them was cut off. A rank that
+/// can't go on has the line `RANK LINE waits`. Then come `cells TOTAL home HOME`, and `done` or
+/// `stuck`.
 ///
-/// The text depends on the plan's lines, and on what the record's ranks told, its cells and its end.
-/// It answers `Memory` only for want of memory.
+/// The text depends on the plan's lines, and on what the record's ranks told, its cells and its
+/// end. It answers `Memory` only for want of memory.
 pub fn text(alloc: Global, plan: &Plan, run: &RunRecord) -> Result<Vec<u8>, Memory>
     ensures { IfOk result (λ text. text.items ≡ run_text plan.now.lines run.now) }
 {
     let asked = asked_of(alloc, plan.ranks, plan.lines.as_slice())?;
     let mut out = String::new(alloc);
     push_ranks(alloc, &mut out, &asked, run.ranks.as_slice())?;
-    push_end(&mut out, run.cells, run.done)?;
+    push_end(&mut out, run)?;
     Ok(out.into_bytes())
 }

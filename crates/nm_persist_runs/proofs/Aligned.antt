@@ -17,18 +17,13 @@ use Rattle.nm_plan_requests.specs.declared.requests.Side.TheVariants.{Sends, Rec
 use Rattle.nm_plan_requests.specs.Expansion.{commands_of, each_part, is_split_send, name_of, start_of, wait_of}
 use Rattle.nm_plan_requests.specs.Requests.{part_count}
 use Rattle.nm_persist.specs.Report.{first_name, is_result, named_from, result_behind}
-use Rattle.nm_persist_runs.specs.Names.{Done, end_after, is_end}
+use Rattle.nm_persist_runs.specs.Names.{Done, end_after}
 use Rattle.nm_persist_runs.proofs.LinesRead.{starts_one}
 
-same_end : (a : Answer) → is_result a ≡ is_end a
-same_end (answer.Got from tag body) = refl
-same_end (answer.Cut from tag len) = refl
-same_end a = refl
-
-not_end : (a : Answer) → is_started a ≡ true → is_end a ≡ false
-not_end (answer.Got from tag body) started = absurd (false≢true started)
-not_end (answer.Cut from tag len) started = absurd (false≢true started)
-not_end a started = refl
+no_result : (a : Answer) → is_started a ≡ true → is_result a ≡ false
+no_result (answer.Got from tag body) started = absurd (false≢true started)
+no_result (answer.Cut from tag len) started = absurd (false≢true started)
+no_result a started = refl
 
 and_none : (b : Bool) → (b && false) ≡ false
 and_none true = refl
@@ -41,13 +36,13 @@ abbrev pub answers : List Done → List Answer
 answers ds = map (λ d. d.answer) ds
 
 -- answers that are no results change none
-none_same : (q name : ℕ) (ds : List Done) (o : Option Answer) → AllByRecursion (λ (d : Done). is_end d.answer ≡ false)
-    ds →
+none_same : (q name : ℕ) (ds : List Done) (o : Option Answer) →
+    AllByRecursion (λ (d : Done). is_result d.answer ≡ false) ds →
     fold (result_behind q) o (named_from name (answers ds)) ≡ fold (end_after q) o ds
 none_same q name [] o none = refl
 none_same q name (d ∷ ds) o none =
     ap (λ (b : Bool). fold (result_behind q) (cond (name == q && b) (Some d.answer) o)
-    (named_from (name + 1) (answers ds))) (same_end d.answer ∙ none.0)
+    (named_from (name + 1) (answers ds))) none.0
     ∙ ap (λ (b : Bool). fold (result_behind q) (cond b (Some d.answer) o) (named_from (name + 1) (answers ds)))
     (and_none (name == q))
     ∙ none_same q (name + 1) ds o none.1
@@ -59,9 +54,9 @@ none_same q name (d ∷ ds) o none =
 starts_end : (ds : List Done) → AllByRecursion (λ (d : Done). starts_one d.own.command ≡ true →
     is_started d.answer ≡ true) ds →
     AllByRecursion (λ (c : Command). starts_one c ≡ true) (cmds ds) →
-    AllByRecursion (λ (d : Done). is_end d.answer ≡ false) ds
+    AllByRecursion (λ (d : Done). is_result d.answer ≡ false) ds
 starts_end [] begun starts = tt
-starts_end (d ∷ ds) begun starts = (not_end d.answer (begun.0 starts.0), starts_end ds begun.1 starts.1)
+starts_end (d ∷ ds) begun starts = (no_result d.answer (begun.0 starts.0), starts_end ds begun.1 starts.1)
 
 start_starts : (p k : ℕ) (r : Request) (side : Side) → starts_one (start_of p r k side) ≡ true
 start_starts p k r (Sends body) = refl
@@ -80,12 +75,10 @@ waits_same q p (d ∷ ds) name m zero o is same = absurd (grind (arith, same))
 waits_same q p (d ∷ ds) name m (suc n) o is same =
     let here : d.own.command ≡ wait_of p m = cc in
     let others : cmds ds ≡ map (λ k. wait_of p k) (range_with_len (m + 1) n) = cc in
-    ap (λ (b : Bool). fold (result_behind q) (cond (name == q && b) (Some d.answer) o)
-    (named_from (name + 1) (answers ds))) (same_end d.answer)
-    ∙ ap (λ (x : ℕ). fold (result_behind q) (cond (x == q && is_end d.answer) (Some d.answer) o)
+    ap (λ (x : ℕ). fold (result_behind q) (cond (x == q && is_result d.answer) (Some d.answer) o)
     (named_from (name + 1) (answers ds))) is
     ∙ sym (ap (λ (c : Command). fold (result_behind q)
-    (cond (is_question_of q c && is_end d.answer) (Some d.answer) o) (named_from (name + 1) (answers ds))) here)
+    (cond (is_question_of q c && is_result d.answer) (Some d.answer) o) (named_from (name + 1) (answers ds))) here)
     ∙ waits_same q p ds (name + 1) (m + 1) n (end_after q o d) (omega (arith, is)) others
 
 nothing : (q name : ℕ) (o : Option Answer) (ds : List Done) → cmds ds ≡ [] →
@@ -123,8 +116,7 @@ results_same q (Arrived p k) (Some r) ds o same begun = one ds same
     one [] same = refl
     one (d ∷ []) same =
         let here : d.own.command ≡ command.Test (name_of p k) = cc in
-        ap (λ (b : Bool). cond (name_of p k == q && b) (Some d.answer) o) (same_end d.answer)
-        ∙ sym (ap (λ (c : Command). cond (is_question_of q c && is_end d.answer) (Some d.answer) o) here)
+        sym (ap (λ (c : Command). cond (is_question_of q c && is_result d.answer) (Some d.answer) o) here)
     one (d ∷ e ∷ ds) same = absurd (grind (arith, same))
 results_same q (SendInit p to tag ctx body) (Some r) ds o same begun = nothing q (name_of p 0) o ds same
 results_same q (RecvInit p from tag ctx cap) (Some r) ds o same begun = nothing q (name_of p 0) o ds same

@@ -26,7 +26,7 @@ use Rattle.nm_plan_requests.specs.Ends.{end}
 use Rattle.nm_plan_requests.specs.Expansion.{commands_for, commands_of, each_part, expand, is_split_send, name_of}
 use Rattle.nm_plan_requests.specs.Expansion.{start_of}
 use Rattle.nm_plan_requests.specs.Requests.{is_sending, owner_of, part_count, request_at}
-use Rattle.nm_persist_runs.specs.Questions.{is_named}
+use Rattle.nm_persist_runs.specs.Names.{is_named}
 use Rattle.nm_persist_runs.proofs.EndsMade.{Kind, Leaves, Makes, Making, alone, end_parts, kind_by, kind_of, making}
 use Rattle.nm_persist_runs.proofs.Items.{part_in, same_name}
 use Rattle.nm_persist_runs.proofs.LinesRead.{starts_one}

@@ -20,7 +20,7 @@ use Rattle.nm_history.specs.RankRun.{cancels_since, claims_since, starts_since, 
 use Rattle.nm_history.specs.RankRun.{is_cancelling, is_matched_probe, is_start, line_of_claim, start_of, without_number}
 use Rattle.nm_history.proofs.RankRunLemmas.{since-push}
 use Rattle.nm_sure.proofs.Fitting.{AllFit, EachFits, Fits}
-use Rattle.nm_persist_runs.specs.Questions.{is_named}
+use Rattle.nm_persist_runs.specs.Names.{is_named}
 use Rattle.nm_types.specs.declared.messages.Peer.TheVariants as peer
 use Rattle.nm_types.specs.declared.messages.TagPick.TheVariants as pick
 use Rattle.nm_facts.proofs.Lists.{all_split}

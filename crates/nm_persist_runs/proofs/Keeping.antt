@@ -72,9 +72,6 @@ all_back test (x ∷ xs) ys all = all_back test xs ys (and_right (test x) _ all)
 lt_true : (a b : ℕ) → nat_lt a b ≡ true → a < b
 lt_true a b is = grind (arith, nat_tests)
 
-true_lt : (a b : ℕ) → a < b → nat_lt a b ≡ true
-true_lt a b is = grind (arith, nat_tests)
-
 pub fine_line : (ranks : ℕ) (lines before : List PlanLine) (line : PlanLine) (after : List PlanLine) →
     lines ≡ before ++ line ∷ after →
     AreFine ranks lines → IsFine ranks before line

@@ -33,7 +33,7 @@ use Rattle.nm_persist.specs.declared.asked.Asked.{Asked}
 use Rattle.nm_persist.specs.declared.asked.Show.TheVariants as show
 use Rattle.nm_persist.specs.Report.{Named, arrived_word, asked_at, asked_behind, asked_by, first_answer, first_name}
 use Rattle.nm_persist.specs.Report.{last_result, named_from, received, result_behind, shows, words_shown}
-use Rattle.nm_persist_runs.specs.Names.{Done, are_apart, end_after, end_of as end_named}
+use Rattle.nm_persist_runs.specs.Names.{Done, are_apart, end_after, last_end}
 use Rattle.nm_persist_runs.specs.Promises.{Entry, IsKept, IsHere, IsWaited, Promised, PromisedOf, ShowsBody, entries}
 use Rattle.nm_persist_runs.specs.Promises.{entry_words}
 use Rattle.nm_persist_runs.proofs.Items.{part_in}
@@ -78,7 +78,7 @@ module _ (shape : Sizes) (lines : List PlanLine) (at : ℕ → ℕ) (hist : ℕ 
       (own : line.rank ≡ j)
       (front block : List Done) (back : List Done) (cut : ran ≡ front ++ (block ++ back))
       (done : cmds (front ++ block) ≡ own_commands j (expand (before ++ line ∷ []))) (told : List Named)
-      (same : (q : ℕ) → last_result told q ≡ end_named q (front ++ block)) (number : ℕ) where
+      (same : (q : ℕ) → last_result told q ≡ last_end q (front ++ block)) (number : ℕ) where
     known : (h : List Event) × State shape (λ rank. numbered_of rank (expand lines)) at hist run lengths j inside
         rises apart h (front ++ block)
     known = states (front ++ block) back (cut ∙ sym (append_assoc front block back))
@@ -192,7 +192,7 @@ module _ (shape : Sizes) (lines : List PlanLine) (at : ℕ → ℕ) (hist : ℕ 
       cmds front ≡ own_commands j (expand before) → cmds back ++ M ≡ own_commands j (expand_behind before rest) →
       AllByRecursion (λ (d : Done). starts_one d.own.command ≡ true → is_started d.answer ≡ true) back →
       (told : List Named) →
-      ((q : ℕ) → last_result told q ≡ end_named q front) →
+      ((q : ℕ) → last_result told q ≡ last_end q front) →
       AllByRecursion (λ e. IsKept lines j e) (entries (asked_at j (asked_behind before rest)) told (answers back))
   kept_rest before [] split front back M cut done left taken told same = tt
   kept_rest before (line ∷ rest) split front back M cut done left taken told same =
@@ -213,7 +213,7 @@ module _ (shape : Sizes) (lines : List PlanLine) (at : ℕ → ℕ) (hist : ℕ 
           (expand (before ++ line ∷ [])) →
           cmds back' ++ M ≡ own_commands j (expand_behind (before ++ line ∷ []) rest) →
           AllByRecursion (λ (d : Done). starts_one d.own.command ≡ true → is_started d.answer ≡ true) back' →
-          ((q : ℕ) → last_result told' q ≡ end_named q front') →
+          ((q : ℕ) → last_result told' q ≡ last_end q front') →
           AllByRecursion (λ e. IsKept lines j e) (entries (asked_at j (asked_behind (before ++ line ∷ []) rest)) told'
           (answers back'))
 
@@ -278,7 +278,7 @@ module _ (shape : Sizes) (lines : List PlanLine) (at : ℕ → ℕ) (hist : ℕ 
           fold-append (result_behind q) None told (named_from (first_name line.command) (answers block))
           ∙ ap (λ (x : Option Answer). fold (result_behind q) x
           (named_from (first_name line.command) (answers block))) (same q)
-          ∙ results_same q line.command o block (end_named q front) block_is taken2.0
+          ∙ results_same q line.command o block (last_end q front) block_is taken2.0
           ∙ sym (fold-append (end_after q) None front block) in
           subst (λ (own : List Answer). AllByRecursion (λ e. IsKept lines j e)
           (record { asked = asked_by number line o; own = own; told = told ++ named_from (first_name line.command) own }

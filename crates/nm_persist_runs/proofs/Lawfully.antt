@@ -33,9 +33,8 @@ use Rattle.nm_plan_requests.specs.Expansion.{expand, name_of}
 use Rattle.nm_persist.specs.Plans.{IsPlan}
 use Rattle.nm_persist.specs.Report.{asked_at, asked_behind}
 use Rattle.nm_persist.proofs.ReadyLemmas.{plan_script}
-use Rattle.nm_persist_runs.specs.Names.{Done, are_apart}
+use Rattle.nm_persist_runs.specs.Names.{Done, are_apart, is_named}
 use Rattle.nm_persist_runs.specs.Promises.{IsKept, answers_of, entries, shown_of}
-use Rattle.nm_persist_runs.specs.Questions.{is_named}
 use Rattle.nm_persist_runs.proofs.Described.{IsDescribed, described}
 use Rattle.nm_persist_runs.proofs.Items.{apart_own}
 use Rattle.nm_persist_runs.proofs.Kept.{kept_all}

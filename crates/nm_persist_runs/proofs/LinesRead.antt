@@ -22,7 +22,7 @@ use Rattle.nm_history.specs.Underway.{is_answer}
 use Rattle.nm_history.proofs.RankRunLemmas.{since-push}
 use Rattle.nm_match.specs.InTurn.{is_for}
 use Rattle.nm_sure.proofs.Gathered.{ReadsStarts, if_some, post_line, receives_it, send_line, sends_it}
-use Rattle.nm_persist_runs.specs.Questions.{is_named}
+use Rattle.nm_persist_runs.specs.Names.{is_named}
 use Rattle.nm_sure.proofs.Gathered.{one_line}
 
 -- a send or a receive

@@ -38,9 +38,9 @@ use Rattle.nm_sure.proofs.Made.{post_lines, send_made}
 use Rattle.nm_sure.proofs.Named.{started_fact}
 use Rattle.nm_sure.proofs.Rising.{Rising}
 use Rattle.nm_sure.proofs.Shown.{HaveTheirLength}
-use Rattle.nm_persist_runs.specs.Questions.{is_named}
-use Rattle.nm_persist_runs.specs.Names.{Done, are_apart, end_after, end_of, is_end, is_no, is_shut, is_shut_after}
-use Rattle.nm_persist_runs.specs.Names.{is_wait_of, waits_for}
+use Rattle.nm_persist.specs.Report.{is_result as is_end}
+use Rattle.nm_persist_runs.specs.Names.{Done, are_apart, end_after, is_named, is_no, is_shut, is_shut_after}
+use Rattle.nm_persist_runs.specs.Names.{is_wait_of, last_end, waits_for}
 use Rattle.nm_persist_runs.proofs.Quiet.{NamedRun, fits}
 use Rattle.nm_persist_runs.proofs.LinesRead.{IsRead, ReadsNamed, lines_of, posts_named, read_answer, read_other}
 use Rattle.nm_persist_runs.proofs.LinesRead.{read_starts, request_made}
@@ -105,7 +105,7 @@ module _ (shape : Sizes) (cs : ℕ → List Numbered) (at : ℕ → ℕ) (hist :
     pub shut : (q : ℕ) → is_shut q ran ≡ true → line_of_name (cs j) b q ≡ None
     pub results : (q i tag ctx : ℕ) → IsOneChannel q i tag ctx → (front : List Numbered) (start : Numbered) →
         starts_for q (owns ran) ≡ front ++ start ∷ [] → line_of_name (cs j) b q ≡ None →
-        IsEnded i tag ctx (length front) (end_of q ran)
+        IsEnded i tag ctx (length front) (last_end q ran)
 
   pub state_none : State [] []
   state_none = record {
@@ -438,20 +438,20 @@ module _ (shape : Sizes) (cs : ℕ → List Numbered) (at : ℕ → ℕ) (hist :
                 place (spot.2 ∙ sym last.line) ∙ same_len)
                 found.2
 
-    end_now : (q : ℕ) → (is_question_of q c.command && is_end a) ≡ true → end_of q (ran ++ d ∷ []) ≡ Some a
-    end_now q is = fold_push (end_after q) None ran d ∙ ap (λ (x : Bool). cond x (Some a) (end_of q ran)) is
+    end_now : (q : ℕ) → (is_question_of q c.command && is_end a) ≡ true → last_end q (ran ++ d ∷ []) ≡ Some a
+    end_now q is = fold_push (end_after q) None ran d ∙ ap (λ (x : Bool). cond x (Some a) (last_end q ran)) is
 
-    end_else : (q : ℕ) → (is_question_of q c.command && is_end a) ≡ false → end_of q (ran ++ d ∷ []) ≡ end_of q ran
-    end_else q is = fold_push (end_after q) None ran d ∙ ap (λ (x : Bool). cond x (Some a) (end_of q ran)) is
+    end_else : (q : ℕ) → (is_question_of q c.command && is_end a) ≡ false → last_end q (ran ++ d ∷ []) ≡ last_end q ran
+    end_else q is = fold_push (end_after q) None ran d ∙ ap (λ (x : Bool). cond x (Some a) (last_end q ran)) is
 
     results_now : (q i tag ctx : ℕ) → IsOneChannel q i tag ctx → (front : List Numbered) (start : Numbered) →
         starts_for q (owns (ran ++ d ∷ [])) ≡ front ++ start ∷ [] → line_of_name (cs j) (b ++ e' ∷ []) q ≡ None →
-        IsEnded i tag ctx (length front) (end_of q (ran ++ d ∷ []))
+        IsEnded i tag ctx (length front) (last_end q (ran ++ d ∷ []))
     results_now q i tag ctx one front start starts none = by_start (is_start_of q c.command) refl
       where
         by_question : (x : Bool) → is_question_of q c.command ≡ x → (y : Bool) → is_result a ≡ y →
             is_start_of q c.command ≡ false →
-            IsEnded i tag ctx (length front) (end_of q (ran ++ d ∷ []))
+            IsEnded i tag ctx (length front) (last_end q (ran ++ d ∷ []))
         by_question true asks true some silent =
             let takes = result_now q i tag ctx one front start (sym (starts_else q silent) ∙ starts) silent asks some in
             record { result = a; is = end_now q (rw asks (is_shown i tag a takes.command takes.shows)); takes = takes }
@@ -478,7 +478,7 @@ module _ (shape : Sizes) (cs : ℕ → List Numbered) (at : ℕ → ℕ) (hist :
             record { result = ended.result; is = end_else q (rw asks refl) ∙ ended.is; takes = ended.takes }
 
         by_start : (x : Bool) → is_start_of q c.command ≡ x → IsEnded i tag ctx (length front)
-            (end_of q (ran ++ d ∷ []))
+            (last_end q (ran ++ d ∷ []))
         by_start true begins = absurd (no_some c.line (sym none ∙ line_started q begins))
         by_start false begins = by_question (is_question_of q c.command) refl (is_result a) refl begins
 

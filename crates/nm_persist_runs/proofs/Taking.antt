@@ -32,7 +32,7 @@ use Rattle.nm_history.specs.Sends.{Arrived, Sent, arrivals, envelope, messages, 
 use Rattle.nm_history.proofs.AtEachLemmas.{AtEach-split}
 use Rattle.nm_history.proofs.OnceLemmas.{eqb_self}
 use Rattle.nm_match.specs.InTurn.{is_in}
-use Rattle.nm_sure.proofs.Ceiling.{called_for, front_numbers, front_plain}
+use Rattle.nm_sure.proofs.Called.{called_for, front_numbers, front_plain}
 use Rattle.nm_sure.proofs.Coupled.{channel_messages, channel_of, pair_of_place, place_of_message}
 use Rattle.nm_sure.proofs.Fitting.{EachFits}
 use Rattle.nm_sure.proofs.Flown.{arrive_front, as_many_before, goes_in, sent_at}

@@ -37,7 +37,7 @@ use Rattle.nm_plan_requests.specs.Requests.{is_about, is_sending, owner_of, part
 use Rattle.nm_plan_requests.specs.States.{allows}
 use Rattle.nm_plan_requests.proofs.RequestLemmas.{request_at-more}
 use Rattle.nm_persist.specs.Report.{Named, arrived_word, last_result, received}
-use Rattle.nm_persist_runs.specs.Names.{Done, are_apart, end_of as end_named, is_no, is_shut, is_shut_after, waits_for}
+use Rattle.nm_persist_runs.specs.Names.{Done, are_apart, last_end, is_no, is_shut, is_shut_after, waits_for}
 use Rattle.nm_persist_runs.specs.Starts.{bodies_of, is_start, part_bytes, starts_of}
 use Rattle.nm_persist_runs.specs.Promises.{IsHeld, IsResultOf, ShowsBody}
 use Rattle.nm_persist_runs.proofs.Aligned.{cmds}
@@ -161,7 +161,7 @@ module _ (shape : Sizes) (lines : List PlanLine) (at : ℕ → ℕ) (hist : ℕ 
   part_shown : (k round : ℕ) (r' : Request) → k < 16 → nat_lt k (part_count r) ≡ true → is_shut (name_of p k) D ≡ true →
       request_at up_to o ≡ Some r' → part_count r' ≡ part_count r → is_pending r' k ≡ false →
       starts_of up_to o ≡ starts_of before o → length (starts_of before o) ≡ suc round →
-      (a : Answer) × (end_named (name_of p k) D ≡ Some a) × IsPartOf shape lines at hist run lengths fine rising o
+      (a : Answer) × (last_end (name_of p k) D ≡ Some a) × IsPartOf shape lines at hist run lengths fine rising o
       kind r.parts k round a
   part_shown k round r' low small shut now count sent same_starts started =
       let q : ℕ = name_of p k in
@@ -310,7 +310,7 @@ module _ (shape : Sizes) (lines : List PlanLine) (at : ℕ → ℕ) (hist : ℕ 
 
   -- a wait shows the body of its start
   pub wait_shown : owner_of line ≡ o → line.command ≡ Wait p → part_count r ≤ 16 → (told : List Named) →
-      ((q : ℕ) → last_result told q ≡ end_named q D) →
+      ((q : ℕ) → last_result told q ≡ last_end q D) →
       (body : List ℕ) × IsHeld lines before o r body
       × ShowsBody r.peer r.tag body
       (received r.peer r.tag (map (λ k. last_result told (name_of p 0 + k)) (range_with_len 0 (part_count r))))
@@ -341,7 +341,7 @@ module _ (shape : Sizes) (lines : List PlanLine) (at : ℕ → ℕ) (hist : ℕ 
             let small : k < part_count r = omega (arith, high) in
             let part = parts k small in
             result_of k body part.0 (last_result told (name_of p 0 + k))
-            (same (name_of p 0 + k) ∙ ap (λ (q : ℕ). end_named q D) (named_at p k) ∙ part.1)
+            (same (name_of p 0 + k) ∙ ap (λ (q : ℕ). last_end q D) (named_at p k) ∙ part.1)
             (subst (λ (body : List ℕ). Shows kind.at.peer (tag_at kind.at k) (part_bytes r.parts k body) part.0)
             (one_body 0 k round first.0 part.0 first.2 part.2) part.2.shows))
             (body_joined r.parts body some),
@@ -358,7 +358,7 @@ module _ (shape : Sizes) (lines : List PlanLine) (at : ℕ → ℕ) (hist : ℕ 
 
   -- a part has arrived where its request isn't active, or its result is there
   pub arrived_shown : (k : ℕ) → owner_of line ≡ o → line.command ≡ Arrived p k → k < 16 → (told : List Named) →
-      ((q : ℕ) → last_result told q ≡ end_named q D) → (front : List Done) (d : Done) → D ≡ front ++ d ∷ [] →
+      ((q : ℕ) → last_result told q ≡ last_end q D) → (front : List Done) (d : Done) → D ≡ front ++ d ∷ [] →
       d.own.command ≡ command.Test (name_of p k) → arrived_word (Some d.answer) ∷ [] ≡ codes "yes" ∷ [] →
       (r.active ≡ false) ⊎ ((body : List ℕ) × IsHeld lines before o r body
       × IsResultOf r.peer (tag_of r k) (part_bytes r.parts k body) (last_result told (name_of p k)))

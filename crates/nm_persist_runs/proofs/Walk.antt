@@ -19,8 +19,8 @@ use Rattle.nm_history.specs.Completion.{Request, result_of}
 use Rattle.nm_history.specs.Delivery.{asked_pair, pair_of_request}
 use Rattle.nm_sure.proofs.Gathered.{receives_it}
 use Rattle.nm_sure.proofs.Rising.{Rising}
-use Rattle.nm_persist_runs.specs.Questions.{is_named}
-use Rattle.nm_persist_runs.specs.Names.{Done, are_apart, is_no, is_shut_after, is_wait_of, waits_after, waits_for}
+use Rattle.nm_persist_runs.specs.Names.{Done, are_apart, is_named, is_no, is_shut_after, is_wait_of}
+use Rattle.nm_persist_runs.specs.Names.{waits_after, waits_for}
 use Rattle.nm_persist_runs.proofs.LinesRead.{starts_one}
 use Rattle.nm_facts.proofs.Numbers.{same_number}
 use Rattle.nm_facts.proofs.Options.{no_some, same_some}

@@ -1,4 +1,3 @@
-pub mod Questions
 pub mod Names
 pub mod Starts
 pub mod Promises

@@ -4,9 +4,20 @@ use Rattle.std.specs.Prelude.{if◌then◌else◌, List, [], ◌∷◌, fold}
 use Rattle.nm_types.specs.declared.answers.Answer.{Answer}
 use Rattle.nm_types.specs.declared.answers.Answer.TheVariants as answer
 use Rattle.nm_types.specs.declared.scripts.Command.{Command}
-use Rattle.nm_types.specs.declared.scripts.Command.TheVariants.{Wait}
+use Rattle.nm_types.specs.declared.messages.Peer.TheVariants as peer
+use Rattle.nm_types.specs.declared.messages.TagPick.TheVariants as pick
+use Rattle.nm_types.specs.declared.scripts.Command.TheVariants.{Send, Recv, Wait, Test}
 use Rattle.nm_types.specs.Commands.{Numbered}
 use Rattle.nm_history.specs.Answers.{is_question_of, is_start_of}
+use Rattle.nm_persist.specs.Report.{is_result}
+
+-- a send, a receive that names its source and its tag, a wait or a test: what persistent requests stand for
+abbrev pub is_named : Command → Bool
+is_named (Send q to tag ctx body sync) = true
+is_named (Recv q (peer.One from) (pick.One tag) ctx cap) = true
+is_named (Wait q) = true
+is_named (Test q) = true
+is_named _ = false
 
 -- a command that ran, with its answer
 pub record Done : Type 0 where
@@ -36,12 +47,6 @@ abbrev pub is_no : Answer → Bool
 is_no answer.No = true
 is_no _ = false
 
--- a receive's result
-abbrev pub is_end : Answer → Bool
-is_end (answer.Got from tag body) = true
-is_end (answer.Cut from tag len) = true
-is_end _ = false
-
 -- no request has this name: it was waited for, or a test gave its result, after a command more
 abbrev pub is_shut_after : ℕ → Bool → Done → Bool
 is_shut_after q shut d =
@@ -55,8 +60,8 @@ is_shut q done = fold (is_shut_after q) true done
 
 -- the last result under a name, after a command more
 abbrev pub end_after : ℕ → Option Answer → Done → Option Answer
-end_after q found d = if is_question_of q d.own.command && is_end d.answer then Some d.answer else found
+end_after q found d = if is_question_of q d.own.command && is_result d.answer then Some d.answer else found
 
 -- the last result under a name among these commands
-abbrev pub end_of : ℕ → List Done → Option Answer
-end_of q done = fold (end_after q) None done
+abbrev pub last_end : ℕ → List Done → Option Answer
+last_end q done = fold (end_after q) None done

@@ -1,5 +1,5 @@
--- The two ends of requests: a request of one rank belongs to the one of the other rank with the same
--- sort, tag and context.
+-- The two ends of requests: a request of one rank belongs to the one of the other rank that goes the
+-- other way, is in parts where it is, and has the same tag and context.
 use Rattle.std.specs.Prelude.{ℕ, ◌==◌, Bool, true, false, ◌&&◌, not, Option, Some, None}
 use Rattle.std.specs.Prelude.{if◌then◌else◌, List, fold}
 use Rattle.std.specs.Bool.{beq}
@@ -36,7 +36,7 @@ parts_in (PsendInit p to tag ctx parts body) = parts
 parts_in (PrecvInit p from tag ctx parts cap) = parts
 parts_in _ = 1
 
--- the same way and sort
+-- the same way, and both in parts or neither
 abbrev pub same_sort : Sort → Sort → Bool
 same_sort a b = beq a.sends b.sends && beq a.split b.split
 

@@ -9,7 +9,7 @@ use Rattle.nm_types.specs.Bodies.{body_len}
 use Rattle.nm_plans.specs.declared.lines.PlanCommand.{PlanCommand}
 use Rattle.nm_plans.specs.declared.lines.PlanCommand.TheVariants.{SendInit, RecvInit, PsendInit}
 use Rattle.nm_plans.specs.declared.lines.PlanCommand.TheVariants.{PrecvInit, Fill, Start, Ready}
-use Rattle.nm_plans.specs.declared.lines.PlanCommand.TheVariants.{Arrived, Wait}
+use Rattle.nm_plans.specs.declared.lines.PlanCommand.TheVariants.{Wait}
 use Rattle.nm_plans.specs.declared.lines.PlanLine.{PlanLine}
 use Rattle.nm_plans.specs.Grammar.{request_in}
 use Rattle.nm_plan_requests.specs.declared.requests.Owner.{Owner}

@@ -1,6 +1,6 @@
 //! The two ends of requests, by which the requests of two ranks belong together.
 
-ghost use Rattle.std.specs.Prelude.{◌≡◌, None, OnOk, option_copied};
+ghost use Rattle.std.specs.Prelude.{◌≡◌, None, OnOk};
 ghost use Rattle.indexmap.specs.IndexMap.{get};
 ghost use Rattle.nm_plan_requests.specs.Ends.{end_in, other_end, parts_behind, same_end};
 ghost use Rattle.nm_plan_requests.specs.Ends.{end as end_lem, parts_in as parts_in_lem};
@@ -31,7 +31,7 @@ impl PartialEq for Sort {
     }
 }
 
-/// A tag, a context and a sort.
+/// A tag and a context, which way a request goes and whether it is in parts.
 #[derive(Clone, Copy, Debug, Hash)]
 pub struct Channel {
     pub tag: u16,
@@ -84,10 +84,9 @@ impl PartialEq for End {
 }
 
 /// The end of a rank.
-fn end_at(rank: u8, peer: u8, tag: u16, ctx: u8, sends: bool, split: bool) -> End
-    ensures { result ≡ end_lem rank peer tag ctx sends split }
+fn end_at(rank: u8, peer: u8, tag: u16, ctx: u8, sort: Sort) -> End
+    ensures { result ≡ end_lem rank peer tag ctx sort.sends sort.split }
 {
-    let sort = Sort { sends, split };
     let channel = Channel { tag, ctx, sort };
     End {
         rank,
@@ -104,16 +103,20 @@ impl End {
         let rank = line.rank;
         match &line.command {
             PlanCommand::SendInit { to, tag, ctx, .. } => {
-                Some(end_at(rank, *to, *tag, *ctx, true, false))
+                let (sends, split) = (true, false);
+                Some(end_at(rank, *to, *tag, *ctx, Sort { sends, split }))
             }
             PlanCommand::RecvInit { from, tag, ctx, .. } => {
-                Some(end_at(rank, *from, *tag, *ctx, false, false))
+                let (sends, split) = (false, false);
+                Some(end_at(rank, *from, *tag, *ctx, Sort { sends, split }))
             }
             PlanCommand::PsendInit { to, tag, ctx, .. } => {
-                Some(end_at(rank, *to, *tag, *ctx, true, true))
+                let (sends, split) = (true, true);
+                Some(end_at(rank, *to, *tag, *ctx, Sort { sends, split }))
             }
             PlanCommand::PrecvInit { from, tag, ctx, .. } => {
-                Some(end_at(rank, *from, *tag, *ctx, false, true))
+                let (sends, split) = (false, true);
+                Some(end_at(rank, *from, *tag, *ctx, Sort { sends, split }))
             }
             _ => None,
         }
@@ -124,7 +127,11 @@ impl End {
         ensures { result ≡ other_end self }
     {
         let Channel { tag, ctx, sort } = self.channel;
-        end_at(self.peer, self.rank, tag, ctx, !sort.sends, sort.split)
+        let sort = Sort {
+            sends: !sort.sends,
+            split: sort.split,
+        };
+        end_at(self.peer, self.rank, tag, ctx, sort)
     }
 }
 

@@ -13,6 +13,15 @@ use nm_plans::{PlanCommand, PlanLine};
 use nm_types::{Command, Line, Memory, Peer, TagPick};
 use std::alloc::Global;
 
+/// The name of part k of a request.
+fn name_of(p: u16, k: u8) -> u16
+    requires name { p ≤ 4095 }
+    requires part { k ≤ 15 }
+    ensures { result ≡ spec.name_of p k }
+{
+    16 * p + u16::from(k)
+}
+
 impl Request {
     /// A request that sends in parts.
     pub fn is_split_send(&self) -> bool
@@ -36,7 +45,7 @@ impl Request {
         requires part { k < part_count self.now }
         ensures { IfOk result (λ command. command ≡ spec.start_of p self.now k self.now.side) }
     {
-        let q = 16 * p + u16::from(k);
+        let q = name_of(p, k);
         let tag = 16 * self.tag + u16::from(k);
         let ctx = self.context();
         match &self.side {
@@ -87,7 +96,7 @@ fn push_waits(out: &mut Vec<Line>, rank: u8, p: u16, request: &Request) -> Resul
         (spec.each_part request.now (λ k. spec.wait_of p k))) }
 {
     for k in 0..request.part_count() {
-        let q = 16 * p + u16::from(k);
+        let q = name_of(p, k);
         out.push(Line {
             rank,
             command: Command::Wait { q },
@@ -124,7 +133,7 @@ fn push_lines_of(
             Ok(())
         }
         PlanCommand::Arrived { p, k } => {
-            let q = 16 * *p + u16::from(*k);
+            let q = name_of(*p, *k);
             out.push(Line {
                 rank,
                 command: Command::Test { q },

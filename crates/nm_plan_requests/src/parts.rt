@@ -2,7 +2,8 @@
 
 ghost use Rattle.std.specs.Prelude.{◌≡◌, ◌+◌, ◌<◌, ◌≤◌, ◌^◌, IfOk, IfSome};
 ghost use Rattle.nm_types.specs.Bodies.{body_len, bytes_of};
-ghost use Rattle.nm_plan_requests.specs.Expansion.{part_of as part_of_lem, part_start as part_start_lem};
+ghost use Rattle.nm_plan_requests.specs.Expansion.{part_of as part_of_lem};
+ghost use Rattle.nm_plan_requests.specs.Expansion.{part_start as part_start_lem};
 ghost use Rattle.nm_plan_requests.specs.Expansion.{part_body as part_body_lem};
 
 use nm_types::laws::bodies_have_their_length;

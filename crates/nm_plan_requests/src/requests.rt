@@ -1,11 +1,9 @@
 //! The requests of a plan, and the state that they are in.
 
-ghost use Rattle.std.specs.Prelude.{◌≡◌, ◌≤◌, ◌<◌, ◌&&◌, None, length, option_map, option_copied};
-ghost use Rattle.std.specs.Prelude.{is_some, IfOk, IfSome, IsTrue, OnOk};
+ghost use Rattle.std.specs.Prelude.{◌≡◌, None, option_copied, IfOk, OnOk};
 ghost use Rattle.indexmap.specs.IndexMap.{get};
 ghost use Rattle.nm_plan_requests.specs.Requests.{changed_by, is_sending, owner_of, part_count};
 ghost use Rattle.nm_plan_requests.specs.Requests.{request_behind, same_owner};
-ghost use Rattle.nm_plans.specs.Grammar.{request_in};
 ghost use Rattle.nm_plan_requests.specs.Requests.{inactive as inactive_lem, made_by as made_by_lem};
 
 use indexmap::IndexMap;
@@ -37,6 +35,7 @@ impl PartialEq for Owner {
 /// What a request does when it is started.
 #[derive(Debug, Drop)]
 pub enum Side {
+    /// It sends this body.
     Sends(Body),
     /// It receives at most so many bytes, in each part.
     Receives(u32),

@@ -4,7 +4,8 @@ ghost use Rattle.std.specs.Prelude.{◌≡◌, ◌<◌, ◌≤◌, map, IfOk};
 ghost use Rattle.nm_script.specs.Commands.{rank_of};
 ghost use Rattle.nm_plans.specs.declared.faults.PlanKind.TheVariants as kind;
 ghost use Rattle.nm_plans.specs.declared.keywords.PlanKeyword.TheVariants as key;
-ghost use Rattle.nm_plans.specs.Commands.{plan_argument, arguments_of, command_of, line_of, parts_of};
+ghost use Rattle.nm_plans.specs.Commands.{plan_argument, parts_of};
+ghost use Rattle.nm_plans.specs.Commands.{arguments_of, command_of, line_of};
 ghost use Rattle.nm_plans.specs.Faults.{Gives, or_kind};
 
 use crate::bodies::body_from;
@@ -17,16 +18,12 @@ use nm_words::number;
 use std::alloc::Global;
 
 /// A rank and a colon.
-#[tactic(auto, unfolding(nm_script::specs::Commands::rank_of))]
 fn rank_from(ranks: u8, word: &[u8]) -> Result<u8, PlanKind>
     ensures { result ≡ or_kind (rank_of ranks word.now) kind.Rank }
 {
-    match word {
-        [digits @ .., b':'] => match number(digits, u64::from(ranks)) {
-            Some(rank) => Ok(rank as u8),
-            None => Err(PlanKind::Rank),
-        },
-        _ => Err(PlanKind::Rank),
+    match nm_script::rank_from(ranks, word) {
+        Ok(rank) => Ok(rank),
+        Err(_) => Err(PlanKind::Rank),
     }
 }
 
@@ -46,18 +43,21 @@ fn request_from(word: &[u8]) -> Result<u16, PlanKind>
     Ok(argument(word, u64::from(MAX_REQUEST) + 1)? as u16)
 }
 
+/// A rank.
 fn peer_from(ranks: u8, word: &[u8]) -> Result<u8, PlanKind>
     ensures { result ≡ plan_argument ranks word.now }
 {
     Ok(argument(word, u64::from(ranks))? as u8)
 }
 
+/// A tag.
 fn tag_from(word: &[u8]) -> Result<u16, PlanKind>
     ensures { result ≡ plan_argument 2048 word.now }
 {
     Ok(argument(word, u64::from(MAX_TAG) + 1)? as u16)
 }
 
+/// A context.
 fn context_from(word: &[u8]) -> Result<u8, PlanKind>
     ensures { result ≡ plan_argument 128 word.now }
 {
@@ -82,6 +82,7 @@ fn part_from(word: &[u8]) -> Result<u8, PlanKind>
     Ok(argument(word, u64::from(MAX_PARTS))? as u8)
 }
 
+/// At most how many bytes a receive takes.
 fn capacity_from(word: &[u8]) -> Result<u32, PlanKind>
     ensures { result ≡ plan_argument 1048577 word.now }
 {
@@ -91,7 +92,8 @@ fn capacity_from(word: &[u8]) -> Result<u32, PlanKind>
 /// A request that sends, by its arguments.
 #[tactic(auto, unfolding(crate::specs::Commands::arguments_of))]
 fn send_init(alloc: Global, ranks: u8, arguments: &[&[u8]]) -> Result<PlanCommand, LineFault>
-    ensures { Gives result (arguments_of ranks key.SendInit (map (λ word. word.now) arguments.now)) }
+    ensures { Gives result
+        (arguments_of ranks key.SendInit (map (λ word. word.now) arguments.now)) }
 {
     match arguments {
         [p, to, tag, ctx, body] => Ok(PlanCommand::SendInit {
@@ -173,6 +175,7 @@ fn fill(alloc: Global, ranks: u8, arguments: &[&[u8]]) -> Result<PlanCommand, Li
     }
 }
 
+/// A start of a request.
 #[tactic(auto, unfolding(crate::specs::Commands::arguments_of))]
 fn start(ranks: u8, arguments: &[&[u8]]) -> Result<PlanCommand, PlanKind>
     ensures { result ≡ arguments_of ranks key.Start (map (λ word. word.now) arguments.now) }
@@ -185,6 +188,7 @@ fn start(ranks: u8, arguments: &[&[u8]]) -> Result<PlanCommand, PlanKind>
     }
 }
 
+/// A part that may go.
 #[tactic(auto, unfolding(crate::specs::Commands::arguments_of))]
 fn ready(ranks: u8, arguments: &[&[u8]]) -> Result<PlanCommand, PlanKind>
     ensures { result ≡ arguments_of ranks key.Ready (map (λ word. word.now) arguments.now) }
@@ -198,6 +202,7 @@ fn ready(ranks: u8, arguments: &[&[u8]]) -> Result<PlanCommand, PlanKind>
     }
 }
 
+/// A question whether a part is here.
 #[tactic(auto, unfolding(crate::specs::Commands::arguments_of))]
 fn arrived(ranks: u8, arguments: &[&[u8]]) -> Result<PlanCommand, PlanKind>
     ensures { result ≡ arguments_of ranks key.Arrived (map (λ word. word.now) arguments.now) }
@@ -211,6 +216,7 @@ fn arrived(ranks: u8, arguments: &[&[u8]]) -> Result<PlanCommand, PlanKind>
     }
 }
 
+/// A wait for a request.
 #[tactic(auto, unfolding(crate::specs::Commands::arguments_of))]
 fn wait(ranks: u8, arguments: &[&[u8]]) -> Result<PlanCommand, PlanKind>
     ensures { result ≡ arguments_of ranks key.Wait (map (λ word. word.now) arguments.now) }

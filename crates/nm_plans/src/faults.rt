@@ -24,8 +24,8 @@ pub enum PlanKind {
     Number,
     /// A body isn't spelled right, or is too long.
     Body,
-    /// Its rank has made a request of this name, or one with the same direction and sort, peer, tag
-    /// and context.
+    /// Its rank has made a request of this name, or one that goes the same way, is in parts where
+    /// this one is, and has the same peer, tag and context.
     Taken,
     /// The request of the other side has another number of parts.
     Parts,

@@ -23,8 +23,8 @@
 //! (`Text`), what the words of a line spell (`Spelled`, `Commands`), and the kinds of faults
 //! (`Faults`).
 //! # What is proved
-//! - A line is read from its words exactly as the table has it, or refused with the first fault that it
-//!   has for itself, unless memory runs out (`line_from`).
+//! - A line is read from its words exactly as the table has it, or refused with the first fault that
+//!   it has for itself, unless memory runs out (`line_from`).
 //! # What is only tested
 //! That reading succeeds with ample memory, by the rows of `nm_texts_rows`.
 #![tactic(auto)]

@@ -1,7 +1,7 @@
 //! The lines of a plan: commands on persistent and partitioned requests.
 
-ghost use Rattle.std.specs.Prelude.{◌≡◌, ◌≤◌, ◌↔◌, [], ◌∷◌, ◌++◌, length, IsNone, IsTrue, OnOk, OnErr};
-ghost use Rattle.std.specs.Prelude.{slice_get, option_copied};
+ghost use Rattle.std.specs.Prelude.{◌≡◌, ◌≤◌, ◌↔◌, [], ◌∷◌, ◌++◌, length, IsNone, IsTrue};
+ghost use Rattle.std.specs.Prelude.{OnOk, OnErr, slice_get, option_copied};
 
 use nm_types::{Body, Memory};
 use std::alloc::Global;
@@ -10,7 +10,7 @@ use std::marker::Model;
 /// A command of a rank on one of its requests, which has the name `p`.
 #[derive(Debug, Drop)]
 pub enum PlanCommand {
-    /// Makes a persistent request that sends (MPI 4.0, section 3.9).
+    /// Makes a persistent request that sends (MPI 3.1, section 3.9).
     SendInit {
         p: u16,
         to: u8,
@@ -18,7 +18,7 @@ pub enum PlanCommand {
         ctx: u8,
         body: Body,
     },
-    /// Makes a persistent request that receives at most `cap` bytes (section 3.9).
+    /// Makes a persistent request that receives at most `cap` bytes (MPI 3.1, section 3.9).
     RecvInit {
         p: u16,
         from: u8,
@@ -26,7 +26,7 @@ pub enum PlanCommand {
         ctx: u8,
         cap: u32,
     },
-    /// Makes a request that sends in so many parts (section 4.2.1).
+    /// Makes a request that sends in so many parts (MPI 4.0, section 4.2.1).
     PsendInit {
         p: u16,
         to: u8,
@@ -35,7 +35,8 @@ pub enum PlanCommand {
         parts: u8,
         body: Body,
     },
-    /// Makes a request that receives in so many parts of at most `cap` bytes each (section 4.2.1).
+    /// Makes a request that receives in so many parts of at most `cap` bytes each (MPI 4.0, section
+    /// 4.2.1).
     PrecvInit {
         p: u16,
         from: u8,
@@ -49,21 +50,22 @@ pub enum PlanCommand {
         p: u16,
         body: Body,
     },
-    /// Starts a request, which is active from then on (section 3.9).
+    /// Starts a request, which is active from then on (MPI 3.1, section 3.9).
     Start {
         p: u16,
     },
-    /// Says that part `k` may be sent (section 4.2.2).
+    /// Says that part `k` may be sent (MPI 4.0, section 4.2.1).
     Ready {
         p: u16,
         k: u8,
     },
-    /// Asks whether part `k` is here (section 4.2.2).
+    /// Asks whether part `k` is here (MPI 4.0, section 4.2.2).
     Arrived {
         p: u16,
         k: u8,
     },
-    /// Goes on until the request is complete, which is inactive from then on (section 3.7.3).
+    /// Goes on until the request is complete, which is inactive from then on (MPI 3.1,
+    /// section 3.7.3).
     Wait {
         p: u16,
     },

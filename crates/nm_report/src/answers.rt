@@ -9,8 +9,8 @@ use std::alloc::{AllocError, Global};
 
 /// Writes an answer, but for the bytes of a message.
 pub fn push_answer(out: &mut String, answer: &Answer) -> Result<(), AllocError>
-    ensures ok { OnOk result
-        (string_bytes out.new ≡ string_bytes out.old ++ join_with_byte 32 (answer_words answer.now)) }
+    ensures ok { OnOk result (string_bytes out.new ≡ string_bytes out.old
+        ++ join_with_byte 32 (answer_words answer.now)) }
 {
     match answer {
         Answer::Started => out.push_str("started"),

@@ -23,12 +23,14 @@ pub fn word_of_how(how: How) -> &'static str
     }
 }
 
+/// Whether something was done, or too late.
 fn done_or_late(done: bool) -> &'static str
     ensures { result.now ≡ done_word done }
 {
     if done { "done" } else { "late" }
 }
 
+/// Writes the source that a receive names.
 fn push_peer(out: &mut String, peer: Peer) -> Result<(), AllocError>
     ensures ok { OnOk result (string_bytes out.new ≡ string_bytes out.old ++ peer_word peer) }
 {
@@ -38,6 +40,7 @@ fn push_peer(out: &mut String, peer: Peer) -> Result<(), AllocError>
     }
 }
 
+/// Writes the tag that a receive names.
 fn push_tag(out: &mut String, tag: TagPick) -> Result<(), AllocError>
     ensures ok { OnOk result (string_bytes out.new ≡ string_bytes out.old ++ tag_word tag) }
 {
@@ -47,9 +50,10 @@ fn push_tag(out: &mut String, tag: TagPick) -> Result<(), AllocError>
     }
 }
 
+/// Writes the words of a receive that was posted.
 fn push_post(out: &mut String, post: &Post, line: u32) -> Result<(), AllocError>
-    ensures ok { OnOk result
-        (string_bytes out.new ≡ string_bytes out.old ++ join_with_byte 32 (event_words (Happened.Post post.now line))) }
+    ensures ok { OnOk result (string_bytes out.new ≡ string_bytes out.old
+        ++ join_with_byte 32 (event_words (Happened.Post post.now line))) }
 {
     write!(out, "post {} ", post.number)?;
     push_peer(out, post.from)?;
@@ -58,9 +62,10 @@ fn push_post(out: &mut String, post: &Post, line: u32) -> Result<(), AllocError>
     write!(out, " {} {} {line}", post.ctx, post.cap)
 }
 
+/// Writes the words of an arrival.
 fn push_arrival(out: &mut String, a: &Arrival) -> Result<(), AllocError>
-    ensures ok { OnOk result
-        (string_bytes out.new ≡ string_bytes out.old ++ join_with_byte 32 (event_words (Happened.Arrive a.now))) }
+    ensures ok { OnOk result (string_bytes out.new ≡ string_bytes out.old
+        ++ join_with_byte 32 (event_words (Happened.Arrive a.now))) }
 {
     let how = word_of_how(a.env.how);
     write!(
@@ -72,7 +77,8 @@ fn push_arrival(out: &mut String, a: &Arrival) -> Result<(), AllocError>
 
 /// Writes the words of an event, as its line in the trace has them behind its rank and its stamp.
 pub fn push_happened(out: &mut String, what: &Happened) -> Result<(), AllocError>
-    ensures ok { OnOk result (string_bytes out.new ≡ string_bytes out.old ++ join_with_byte 32 (event_words what.now)) }
+    ensures ok { OnOk result (string_bytes out.new ≡ string_bytes out.old
+        ++ join_with_byte 32 (event_words what.now)) }
 {
     match what {
         Happened::Send {
@@ -114,6 +120,7 @@ pub fn push_happened(out: &mut String, what: &Happened) -> Result<(), AllocError
     }
 }
 
+/// Writes the line of an event.
 fn push_event(out: &mut String, rank: usize, event: &Event) -> Result<(), AllocError>
     ensures ok { OnOk result
         (string_bytes out.new ≡ string_bytes out.old ++ event_line rank event.now) }
@@ -128,8 +135,8 @@ fn push_events(out: &mut String, rank: usize, account: &RankAccount) -> Result<(
     ensures ok { OnOk result
         (string_bytes out.new ≡ string_bytes out.old ++ event_lines rank account.now) }
 {
-    for k in 0..account.history.len() {
-        push_event(out, rank, account.history.get(k).unwrap())?;
+    for event in account.history.as_slice() {
+        push_event(out, rank, event)?;
     }
     Ok(())
 }

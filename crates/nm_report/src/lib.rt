@@ -9,17 +9,18 @@
 //! # What a contract sees
 //! `Accounts` and `Pairs` are lists; all else has public fields. The text is `report_text` of
 //! `specs/Report.antt`, which is built of one definition for each kind of line. What a run told,
-//! without its histories, is `told_of` of `specs/Told.antt`; `specs/Summary.antt` has the summary of
-//! that. For the crates above, `specs/Cells.antt` says when all cells are back on their owners' free
-//! queues, and `specs/Ends.antt` gives a record as the lists that quiescence speaks of.
+//! without its histories, is `told_of` of `specs/Told.antt`; `specs/Summary.antt` has the summary
+//! of that. For the crates above, `specs/Cells.antt` says when all cells are back on their owners'
+//! free queues, and `specs/Ends.antt` gives a record as the lists that quiescence speaks of.
 //! # What is proved
 //! - The lists keep what is put into them, and a refused push changes nothing.
-//! - `text` gives exactly `report_text` of the record and the flag, or it is in want of memory.
+//! - `report` and `trace` give exactly `report_text` of the record, without and with its trace, or
+//!   they are in want of memory.
 //! - `summary` gives exactly `summary_text` of the record and the two numbers, or it is in want of
-//!   memory. It has a condition, that its counts are below 2^64, which holds of each lawful run of a
-//!   script (`laws`).
+//!   memory. It has a condition, that its counts are below 2^64, which holds of each lawful run of
+//!   a script (`laws`).
 //! # What is only tested
-//! That `push`, `text` and `summary` succeed with ample memory.
+//! That `push`, `report`, `trace` and `summary` succeed with ample memory.
 #![tactic(auto)]
 
 mod accounts;
@@ -36,5 +37,5 @@ pub use answers::push_answer;
 pub use events::{push_happened, word_of_how};
 pub use pairs::{PairCount, Pairs};
 pub use records::RunRecord;
-pub use reports::text;
+pub use reports::{push_end, report, trace};
 pub use summaries::summary;

@@ -1,6 +1,6 @@
 //! The report of a run.
 
-ghost use Rattle.std.specs.Prelude.{◌≡◌, ◌++◌, IfOk, OnOk, string_bytes};
+ghost use Rattle.std.specs.Prelude.{◌≡◌, ◌++◌, false, true, IfOk, OnOk, string_bytes};
 ghost use Rattle.nm_report.specs.Layout.{by_rank};
 ghost use Rattle.nm_report.specs.Report.{answer_line, ran_line, answer_lines, end_line};
 ghost use Rattle.nm_report.specs.Report.{cells_line, report_text};
@@ -53,8 +53,8 @@ fn push_answers(
     ensures ok { OnOk result
         (string_bytes out.new ≡ string_bytes out.old ++ answer_lines rank account.now) }
 {
-    for k in 0..account.history.len() {
-        push_ran(alloc, out, rank, &account.history.get(k).unwrap().what)?;
+    for event in account.history.as_slice() {
+        push_ran(alloc, out, rank, &event.what)?;
     }
     match account.waits {
         Some(line) => write!(out, "{rank} {line} waits\n"),
@@ -77,6 +77,7 @@ fn push_all_answers(
     Ok(())
 }
 
+/// The last line, which says whether every rank is at its end.
 fn last_line(done: bool) -> &'static str
     ensures { result.now ≡ end_line done }
 {
@@ -84,7 +85,7 @@ fn last_line(done: bool) -> &'static str
 }
 
 /// Writes the line of the cells, and the last line.
-pub(crate) fn push_end(out: &mut String, run: &RunRecord) -> Result<(), AllocError>
+pub fn push_end(out: &mut String, run: &RunRecord) -> Result<(), AllocError>
     ensures ok { OnOk result (string_bytes out.new
         ≡ string_bytes out.old ++ cells_line run.now.cells ++ end_line run.now.done) }
 {
@@ -93,21 +94,36 @@ pub(crate) fn push_end(out: &mut String, run: &RunRecord) -> Result<(), AllocErr
     out.push_str(last_line(run.done))
 }
 
+/// Writes the lines of a report.
+fn push_report(alloc: Global, out: &mut String, run: &RunRecord) -> Result<(), AllocError>
+    ensures ok { OnOk result
+        (string_bytes out.new ≡ string_bytes out.old ++ report_text false run.now) }
+{
+    push_all_answers(alloc, out, run.ranks.as_slice())?;
+    push_end(out, run)
+}
+
 /// The report of a run, each line ended by a line feed.
 ///
 /// Rank by rank, each answer has the line `RANK LINE ANSWER` in the order of the events, and a
 /// command that can't go on the line `RANK LINE waits` behind them. Then come `cells TOTAL home
-/// HOME`, and `done` or `stuck`. With `trace` a line for each event and one for each count of
-/// packets come first. The text depends on the record and the flag alone.
-pub fn text(alloc: Global, run: &RunRecord, trace: bool) -> Result<Vec<u8>, Memory>
-    ensures { IfOk result (λ text. text.items ≡ report_text trace run.now) }
+/// HOME`, and `done` or `stuck`. The text depends on the record alone.
+pub fn report(alloc: Global, run: &RunRecord) -> Result<Vec<u8>, Memory>
+    ensures { IfOk result (λ text. text.items ≡ report_text false run.now) }
 {
     let mut out = String::new(alloc);
-    if trace {
-        push_all_events(&mut out, run.ranks.as_slice())?;
-        push_pairs(&mut out, run.pairs.as_slice())?;
-    }
-    push_all_answers(alloc, &mut out, run.ranks.as_slice())?;
-    push_end(&mut out, run)?;
+    push_report(alloc, &mut out, run)?;
+    Ok(out.into_bytes())
+}
+
+/// The trace of a record, each line ended by a line feed: a line for each event and one for each
+/// count of packets, and behind them the report. The text depends on the record alone.
+pub fn trace(alloc: Global, run: &RunRecord) -> Result<Vec<u8>, Memory>
+    ensures { IfOk result (λ text. text.items ≡ report_text true run.now) }
+{
+    let mut out = String::new(alloc);
+    push_all_events(&mut out, run.ranks.as_slice())?;
+    push_pairs(&mut out, run.pairs.as_slice())?;
+    push_report(alloc, &mut out, run)?;
     Ok(out.into_bytes())
 }

@@ -26,6 +26,7 @@ struct Totals {
 impl Totals {
     ghost use Rattle.nm_report.specs.Totals.{Added, CanAdd, answer_in, answers_in};
 
+    /// Adds an answer.
     fn add(&mut self, answer: &Answer)
         requires { CanAdd (answer.now ∷ []) self.old }
         ensures { Added (answer.now ∷ []) self.old self.new }
@@ -40,6 +41,7 @@ impl Totals {
         }
     }
 
+    /// Adds the answer of an event, if it is one.
     fn add_event(&mut self, what: &Happened)
         requires { CanAdd (answer_in what.now) self.old }
         ensures { Added (answer_in what.now) self.old self.new }
@@ -49,6 +51,7 @@ impl Totals {
         }
     }
 
+    /// Adds the answers of a rank.
     fn add_account(&mut self, account: &RankAccount)
         requires { CanAdd (answers_in account.now) self.old }
         ensures { Added (answers_in account.now) self.old self.new }
@@ -89,9 +92,9 @@ fn push_totals(out: &mut String, totals: Totals) -> Result<(), AllocError>
 /// The summary of a flood with this key and so many messages, each line ended by a line feed.
 ///
 /// The first line is `flood KEY RANKS MESSAGES`. Then come `sent A`, with the number of sends that
-/// are complete, and `got B bytes C`, with the number of receives that have their message and of the
-/// bytes of all these messages. The last two lines are those of a report. The text depends on the
-/// two numbers, and on what the record's ranks told, their number, the cells and the end.
+/// are complete, and `got B bytes C`, with the number of receives that have their message and of
+/// the bytes of all these messages. The last two lines are those of a report. The text depends on
+/// the two numbers, and on what the record's ranks told, their number, the cells and the end.
 ///
 /// It answers `Memory` only for want of memory.
 pub fn summary(alloc: Global, run: &RunRecord, key: u16, messages: u16) -> Result<Vec<u8>, Memory>

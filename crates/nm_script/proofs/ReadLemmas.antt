@@ -338,12 +338,11 @@ one_script bytes first second lines others a b =
     (read_again bytes first lines a, read_again bytes second others b) in
     (ap (λ (x : ℕ × List Line). x.0) pair, ap (λ (x : ℕ × List Line). x.1) pair)
 
--- what was written is read as the same script
+-- the text of a script spells it
 pub written_is_read : (ranks : ℕ) (lines : List Line) → IsScript ranks lines
     → list_all (λ line. has_bytes line.command) lines ≡ true
-    → read_of (script_text ranks lines) ≡ Ok (ranks, lines)
-written_is_read ranks lines limits bytes = read_again (script_text ranks lines) ranks lines
-    (record { spelled = inl refl; limits = limits; in_part = bytes })
+    → IsTextOf (script_text ranks lines) ranks lines
+written_is_read ranks lines limits bytes = record { spelled = inl refl; limits = limits; in_part = bytes }
 
 -- what was read is written as the same bytes, with a line feed where there was none
 pub read_is_written : (bytes : List ℕ) (ranks : ℕ) (lines : List Line)

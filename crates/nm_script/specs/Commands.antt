@@ -1,5 +1,5 @@
--- A rank and its command, by the words of a line. The faults stand in the order of the words, but
--- that of a body comes after those of all other arguments.
+-- A rank and its command, by the words of a line. The faults stand in the order of the words, and a
+-- body is the last of them.
 use Rattle.std.specs.Prelude.{ℕ, ◌+◌, ◌-◌, Bool, true, false, ◌&&◌, ◌==◌, List, [], ◌∷◌, length, take}
 use Rattle.std.specs.Prelude.{slice_index, Result, Ok, Err, nat_lt, if◌then◌else◌, codes}
 use Rattle.std.specs.Option.{ok_or}

@@ -30,10 +30,9 @@ fn hex_from(alloc: Global, digits: &[u8]) -> Result<Body, LineFault>
 fn generated(digits: &[u8]) -> Result<Body, Kind>
     ensures { result ≡ generated_of digits.now }
 {
-    match number(digits, u64::from(MAX_BODY) + 1) {
-        Some(len) => Ok(Body::Gen(len as u32)),
-        None => Err(Kind::Body),
-    }
+    number(digits, u64::from(MAX_BODY) + 1)
+        .map(|len| Body::Gen(len as u32))
+        .ok_or(Kind::Body)
 }
 
 /// The body that a word spells.

@@ -24,7 +24,7 @@ pub struct Selection {
 
 /// A rank and a colon.
 #[tactic(auto, unfolding(crate::specs::Commands::rank_of))]
-fn rank_from(ranks: u8, word: &[u8]) -> Result<u8, Kind>
+pub fn rank_from(ranks: u8, word: &[u8]) -> Result<u8, Kind>
     ensures { result ≡ rank_of ranks word.now }
 {
     match word {

@@ -1,13 +1,12 @@
 //! Laws of the texts that are read and written.
 
-ghost use Rattle.std.specs.Prelude.{◌≡◌, ◌≤◌, ◌+◌, ◌⊎◌, ℕ, List, Ok, IsTrue};
+ghost use Rattle.std.specs.Prelude.{◌≡◌, ◌≤◌, ◌+◌, ◌⊎◌, ℕ, List, IsTrue};
 ghost use Rattle.std.specs.List.{list_all};
 ghost use Rattle.nm_types.specs.declared.limits.TheConstants.{MAX_BODIES, MAX_LINES, MAX_RANKS};
 ghost use Rattle.nm_types.specs.declared.scripts.Line.{Line};
 ghost use Rattle.nm_types.specs.Limits.{IsScript, sent_len};
 ghost use Rattle.nm_types.specs.Text.{script_text};
 ghost use Rattle.nm_words.specs.Lines.{with_feed, words_of};
-ghost use Rattle.nm_script.specs.Reading.{read_of};
 ghost use Rattle.nm_script.specs.declared.faults.Kind.{Kind};
 ghost use Rattle.nm_script.specs.Rules.{AllKept, IsFirstFault, IsLine, Keeps, line_kinds};
 ghost use Rattle.nm_script.specs.Spelled.{IsTextOf, has_bytes};
@@ -19,17 +18,17 @@ pub fn one_script()
         (first ≡ second) × (lines ≡ others) }
 {}
 
-/// What was written is read as the same script.
+/// The text that is written of a script spells it, where its limits hold and its bodies have bytes.
 pub fn written_is_read()
     ensures { (ranks : ℕ) (lines : List Line) → IsScript ranks lines →
         IsTrue (list_all (λ line. has_bytes line.command) lines) →
-        read_of (script_text ranks lines) ≡ Ok (ranks, lines) }
+        IsTextOf (script_text ranks lines) ranks lines }
 {}
 
-/// What was read is written as the same bytes, with a line feed where the last line had none.
+/// A script is written as the bytes that spell it, with a line feed where the last line had none.
 pub fn read_is_written()
     ensures { (bytes : List ℕ) (ranks : ℕ) (lines : List Line) →
-        read_of bytes ≡ Ok (ranks, lines) → script_text ranks lines ≡ with_feed bytes }
+        IsTextOf bytes ranks lines → script_text ranks lines ≡ with_feed bytes }
 {}
 
 /// A text at its place keeps every rule of lines exactly where it is a command's line there.

@@ -1,14 +1,27 @@
-//! How many bytes a command's line has.
+//! How long a text is, and how many bytes a command's line has.
 
-ghost use Rattle.std.specs.Prelude.{◌≡◌, ◌≤◌, ◌<◌, ◌^◌, ◌+◌, [], ◌∷◌, length, decimal};
+ghost use Rattle.std.specs.Prelude.{◌≡◌, ◌≤◌, ◌<◌, ◌^◌, ◌+◌, [], ◌∷◌, length, decimal, nat_lt};
 ghost use Rattle.nm_types.specs.Bodies.{body_len};
 ghost use Rattle.nm_types.specs.Limits.{sent_len};
 ghost use Rattle.nm_types.specs.Text.{body_word, command_line, peer_word, tag_word};
 ghost use Rattle.nm_types.specs.Text.{words as words_lem};
+ghost use Rattle.nm_words.specs.Lines.{text_len};
 ghost use Rattle.nm_script.specs.Lengths.{ended_len};
 
-use nm_types::{Body, Command, Line, Peer, TagPick};
-use nm_words::decimal_len;
+use nm_types::{Body, Command, Line, MAX_TEXT, Peer, TagPick};
+use nm_words::{decimal_len, is_fed};
+
+/// The text is longer than a script may be. A line feed that its last line lacks counts as a byte.
+pub fn is_too_long(bytes: &[u8]) -> bool
+    ensures { result ≡ nat_lt MAX_TEXT (text_len bytes.now) }
+{
+    let most = MAX_TEXT as usize;
+    if is_fed(bytes) {
+        bytes.len() > most
+    } else {
+        bytes.len() >= most
+    }
+}
 
 fn peer_len(peer: Peer) -> u64
     ensures exact { result ≡ length (peer_word peer) }

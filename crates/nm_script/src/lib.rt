@@ -46,11 +46,12 @@ mod faults;
 mod keywords;
 pub mod laws;
 mod lengths;
-mod lines;
 mod reading;
 mod writing;
 
-pub use faults::{Kind, ScriptFault};
-pub use lengths::command_len;
+pub use bodies::body_from;
+pub use commands::rank_from;
+pub use faults::{Kind, LineFault, ScriptFault};
+pub use lengths::{command_len, is_too_long};
 pub use reading::read;
 pub use writing::write;

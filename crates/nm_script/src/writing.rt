@@ -60,6 +60,22 @@ fn push_selection(out: &mut String, from: Peer, tag: TagPick, ctx: u8) -> Result
     write!(out, " {ctx}")
 }
 
+/// Writes a probe: its name and what it looks for.
+fn push_probe(
+    out: &mut String,
+    name: &str,
+    from: Peer,
+    tag: TagPick,
+    ctx: u8,
+) -> Result<(), AllocError>
+    ensures ok { OnOk result (string_bytes out.new ≡ string_bytes out.old
+        ++ join_with_byte 32 (name.now ∷ peer_word from ∷ tag_word tag ∷ decimal ctx ∷ [])) }
+{
+    out.push_str(name)?;
+    out.push_str(" ")?;
+    push_selection(out, from, tag, ctx)
+}
+
 /// Writes a command: its name and its arguments.
 fn push_command(alloc: Global, out: &mut String, command: &Command) -> Result<(), AllocError>
     ensures ok { OnOk result (string_bytes out.new
@@ -92,14 +108,8 @@ fn push_command(alloc: Global, out: &mut String, command: &Command) -> Result<()
         }
         Command::Wait { q } => write!(out, "wait {q}"),
         Command::Test { q } => write!(out, "test {q}"),
-        Command::Probe { from, tag, ctx } => {
-            out.push_str("probe ")?;
-            push_selection(out, *from, *tag, *ctx)
-        }
-        Command::Await { from, tag, ctx } => {
-            out.push_str("await ")?;
-            push_selection(out, *from, *tag, *ctx)
-        }
+        Command::Probe { from, tag, ctx } => push_probe(out, "probe", *from, *tag, *ctx),
+        Command::Await { from, tag, ctx } => push_probe(out, "await", *from, *tag, *ctx),
         Command::Cancel { q } => write!(out, "cancel {q}"),
         Command::Mprobe { m, from, tag, ctx } => {
             write!(out, "mprobe {m} ")?;

@@ -40,7 +40,7 @@ use Rattle.nm_sure.specs.Names.{holder, started}
 use Rattle.nm_sure.specs.Plain.{at_of, can_run, goes_on, has_run, is_plain, is_ready, is_ready_at, next_of}
 use Rattle.nm_sure.specs.Plain.{next_rank, plain_after, ran_of, with_one_more}
 use Rattle.nm_sure.proofs.Carried.{came_in}
-use Rattle.nm_sure.proofs.Ceiling.{called_for, is_posting, sent_for}
+use Rattle.nm_sure.proofs.Called.{called_for, is_posting, sent_for}
 use Rattle.nm_sure.proofs.Coupled.{channel_arrivals, channel_messages, channel_posts, messages_arrived, pair_of_place}
 use Rattle.nm_sure.proofs.Coupled.{place_of_message, place_taken}
 use Rattle.nm_sure.proofs.Flown.{all_came, as_many_before, goes_in, sent_at}

@@ -14,6 +14,8 @@ pub mod Assembled
 mod Fuel
 pub mod Floor
 pub mod Ceiling
+mod Early
+pub mod Called
 pub mod Worlds
 mod Reached
 pub mod Flown

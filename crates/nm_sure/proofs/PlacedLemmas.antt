@@ -1,5 +1,5 @@
 -- The starts of a run, one event after another.
-use Rattle.std.proofs.Common.{◌≡◌, ℕ, Bool, true, false, cond, List, [], ◌∷◌, ◌++◌, length, map}
+use Rattle.std.proofs.Common.{◌≡◌, ℕ, Bool, true, false, List, [], ◌∷◌, ◌++◌, length, map}
 use Rattle.std.proofs.Common.{refl, sym, ◌∙◌, ap, append-nil, append_assoc}
 use Rattle.std.specs.List.{filter}
 use Rattle.std.proofs.lemmas.List.{map-append}
@@ -13,9 +13,6 @@ use Rattle.nm_history.proofs.OutgoingLemmas.{in_turn-push}
 use Rattle.nm_history.proofs.RankRunLemmas.{since-push}
 use Rattle.nm_sure.specs.Placed.{Placed, at_place, placed, start_entry}
 use Rattle.nm_history.proofs.AppendLemmas.{since_grows}
-
-one_kept : (what : Happened) (b : Bool) → is_start what ≡ b → filter is_start (what ∷ []) ≡ cond b (what ∷ []) []
-one_kept what b same = rw same refl
 
 -- an event that is no answer adds its start, if it is one, to those since the last answer
 pub starts_grow : (h : List Event) (stamp : ℕ) (what : Happened) → is_answer what ≡ false →

@@ -43,7 +43,7 @@ use Rattle.nm_sure.specs.Channels.{Channel, receives_in, send_for, sends_in}
 use Rattle.nm_match.specs.InTurn.{is_in}
 use Rattle.nm_sure.specs.Names.{holder, started}
 use Rattle.nm_sure.specs.PlainText.{plain_answer, result_at, result_by, shown_of, start_answer, told_after}
-use Rattle.nm_sure.proofs.Ceiling.{called_for, front_ends, front_numbers, front_plain, is_posting, partner}
+use Rattle.nm_sure.proofs.Called.{called_for, front_ends, front_numbers, front_plain, is_posting, partner}
 use Rattle.nm_sure.proofs.Coupled.{channel_messages, channel_of, pair_of_place, place_of_message}
 use Rattle.nm_sure.proofs.Fitting.{EachFits}
 use Rattle.nm_sure.proofs.Floor.{is_sending, place_whole, told}

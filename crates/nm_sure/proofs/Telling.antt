@@ -37,7 +37,7 @@ use Rattle.nm_sure.specs.Names.{holder, started_name}
 use Rattle.nm_sure.specs.Plain.{next_of, plain_end}
 use Rattle.nm_sure.specs.PlainText.{are_at_end, plain_answer, plain_done, plain_text, rank_text, rank_told, result_at}
 use Rattle.nm_sure.specs.PlainText.{result_by, shown_of}
-use Rattle.nm_sure.specs.PlainText.{start_answer, text_at, told_after, told_at, told_of, waits_at}
+use Rattle.nm_sure.specs.PlainText.{start_answer, text_at, told_after, told_at, told_by_rank, waits_at}
 use Rattle.nm_sure.specs.Planned.{IsLine, IsStart}
 use Rattle.nm_sure.specs.Ways.{channel_of, partner_at, receive_way, way_of_receive, way_of_send}
 use Rattle.nm_sure.proofs.Before.{held_here}
@@ -241,7 +241,7 @@ told_more lines rank n number stamp a c old new here line answer so_far put =
 
 -- one rank more
 pub account_more : (lines : List Line) (at : List ℕ) (rank : ℕ) (a : RankAccount) (old new : List RankAccount) →
-    filter_map (λ e. told_by e.what) a.history.events ≡ told_of lines at rank → a.waits ≡ waits_at lines at rank →
+    filter_map (λ e. told_by e.what) a.history.events ≡ told_by_rank lines at rank → a.waits ≡ waits_at lines at rank →
     map told_of_rank old ≡ map (rank_told lines at) (range_with_len 0 rank) → new ≡ old ++ a ∷ [] →
     map told_of_rank new ≡ map (rank_told lines at) (range_with_len 0 (rank + 1))
 account_more lines at rank a old new answers waits so_far put =
@@ -254,7 +254,7 @@ account_more lines at rank a old new answers waits so_far put =
           a.waits;
     } ∷ []) answers
     ∙ ap (λ (o : Option ℕ). map (rank_told lines at) (range_with_len 0 rank) ++
-    record { answers = told_of lines at rank; waits = o } ∷ []) waits
+    record { answers = told_by_rank lines at rank; waits = o } ∷ []) waits
     ∙ sym (map-range_with_len_more (rank_told lines at) 0 rank rank (omega arith))
 
 -- the lines of all ranks

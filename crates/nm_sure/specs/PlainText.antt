@@ -57,8 +57,8 @@ told_after lines rank before (c ∷ commands) =
     ∷ told_after lines rank (before ++ c ∷ []) commands
 
 -- the answers of a rank
-abbrev pub told_of : List Line → List ℕ → ℕ → List Told
-told_of lines at rank = told_after lines rank [] (ran_of lines at rank)
+abbrev pub told_by_rank : List Line → List ℕ → ℕ → List Told
+told_by_rank lines at rank = told_after lines rank [] (ran_of lines at rank)
 
 -- the line of the command that a rank waits at
 abbrev pub waits_at : List Line → List ℕ → ℕ → Option ℕ
@@ -66,7 +66,7 @@ waits_at lines at rank = option_map (λ c. c.line) (next_of lines at rank)
 
 -- what a rank tells in a run that goes this far
 abbrev pub rank_told : List Line → List ℕ → ℕ → RankTold
-rank_told lines at rank = record { answers = told_of lines at rank; waits = waits_at lines at rank }
+rank_told lines at rank = record { answers = told_by_rank lines at rank; waits = waits_at lines at rank }
 
 -- what all ranks tell
 abbrev pub told_at : List Line → List ℕ → List RankTold
@@ -75,7 +75,7 @@ told_at lines at = map (rank_told lines at) (range_with_len 0 (length at))
 -- the lines of a rank
 abbrev pub rank_text : List Line → List ℕ → ℕ → List ℕ
 rank_text lines at rank =
-    flat_map (λ told. answer_line rank told.line told.answer) (told_of lines at rank)
+    flat_map (λ told. answer_line rank told.line told.answer) (told_by_rank lines at rank)
     ++ waits_line rank (waits_at lines at rank)
 
 -- every rank is at its end

@@ -1,26 +1,28 @@
 //! Determinate scripts: what every run of a plain script reports.
 //!
 //! A script is plain where each receive names its source and its tag, and no command looks for a
-//! message, asks or cancels. Which send a receive belongs to is then told by the script alone, and a
-//! wait hangs on one other command. The plain run lets the lowest rank that can go on run its next
-//! command, until there is none.
+//! message, asks or cancels. Which send a receive belongs to is then told by the script alone, and
+//! a wait hangs on one other command. The plain run lets the lowest rank that can go on run its
+//! next command, until there is none.
 //!
 //! # What a contract sees
-//! `specs/Plain.antt` has the plain run: how many commands of each rank run. `specs/PlainText.antt` has
-//! its answers and its report, and `specs/Agree.antt` the law. `PlainRun` has public fields. What the
-//! code of `plain` keeps on its way is in `specs/Held.antt`, `specs/Ways.antt` and `specs/Planned.antt`.
+//! `specs/Plain.antt` has the plain run: how many commands of each rank run. It stands on
+//! `specs/Names.antt`, which says which starts of a rank are taken, and on `specs/Channels.antt`,
+//! which says which receive belongs to which send. `specs/PlainText.antt` has its answers and its
+//! report, and `specs/Agree.antt` the law. `PlainRun` has public fields. What the code of `plain`
+//! keeps on its way is in `specs/Held.antt`, `specs/Ways.antt` and `specs/Planned.antt`.
 //! # What is proved
-//! - Each lawful run of a plain script, in any order of its ranks and packets, tells the answers and
-//!   waiting lines of the plain run, is done where that is, and has its report.
+//! - Each lawful run of a plain script, in any order of its ranks and packets, tells the answers
+//!   and waiting lines of the plain run, is done where that is, and has its report.
 //! - `first_free` gives the line of the first command that is not plain.
-//! - `plain` gives the report of the plain run, and whether it gets every rank to its end, or it is in
-//!   want of memory.
+//! - `plain` gives the report of the plain run, and whether it gets every rank to its end, or it is
+//!   in want of memory.
 //! # What is only tested
-//! That `plain` succeeds with ample memory, and how long it takes: each line looks at each rank at most
-//! once.
+//! That `plain` succeeds with ample memory, and how long it takes: each line looks at each rank at
+//! most once.
 #![tactic(auto)]
 
-ghost use Rattle.std.specs.Prelude.{◌≡◌, codes, Some};
+ghost use Rattle.std.specs.Prelude.{◌≡◌, ◌++◌, codes, Some};
 ghost use Rattle.nm_sure.specs.Plain as spec;
 ghost use Rattle.nm_sure.specs.PlainText.{plain_text};
 ghost use Rattle.nm_sure.specs.Agree.{PlainRunsAgree, PlainRunsTell};
@@ -39,8 +41,8 @@ use nm_types::laws::{bodies_have_their_length, commands_stand_at_their_lines};
 pub use records::{PlainRun, plain};
 pub use scripts::first_free;
 
-/// All runs of a plain script have the report of its plain run: they tell the same answers and waiting
-/// lines, and each is done where the plain run is.
+/// All runs of a plain script have the report of its plain run: they tell the same answers and
+/// waiting lines, and each is done where the plain run is.
 pub fn plain_runs_agree()
     ensures text { PlainRunsAgree }
     ensures told { PlainRunsTell }
@@ -55,9 +57,13 @@ pub fn plain_runs_agree()
 pub fn plain_rows()
     ensures wild { spec.first_free wild ≡ Some 6 }
     ensures ring { plain_text (sizes 3 8 1024) ring
-        ≡ codes "0 4 sent\n0 5 got 2 1 1 x02\n1 8 sent\n1 9 got 0 1 1 x00\n2 12 sent\n2 13 got 1 1 1 x01\ncells 24 home 24\ndone\n" }
-    ensures cut { plain_text (sizes 2 8 1024) cut ≡ codes "0 3 sent\n1 5 cut 0 7 4\ncells 16 home 16\ndone\n" }
-    ensures held_up { plain_text (sizes 2 8 3) held_up ≡ codes "0 3 waits\ncells 16 home 16\nstuck\n" }
+        ≡ codes "0 4 sent\n0 5 got 2 1 1 x02\n1 8 sent\n1 9 got 0 1 1 x00\n"
+        ++ codes "2 12 sent\n2 13 got 1 1 1 x01\ncells 24 home 24\ndone\n" }
+    ensures cut { plain_text (sizes 2 8 1024) cut
+        ≡ codes "0 3 sent\n1 5 cut 0 7 4\ncells 16 home 16\ndone\n" }
+    ensures held_up { plain_text (sizes 2 8 3) held_up
+        ≡ codes "0 3 waits\ncells 16 home 16\nstuck\n" }
     ensures crossed { plain_text (sizes 2 8 1024) crossed
-        ≡ codes "0 4 busy\n0 5 sent\n0 6 null\n1 8 got 0 7 1 x01\n1 10 waits\ncells 16 home 16\nstuck\n" }
+        ≡ codes "0 4 busy\n0 5 sent\n0 6 null\n1 8 got 0 7 1 x01\n1 10 waits\n"
+        ++ codes "cells 16 home 16\nstuck\n" }
 {}

@@ -1,7 +1,7 @@
 //! Which start belongs to which: the sends and the receives of each channel, in order.
 
-ghost use Rattle.std.specs.Prelude.{◌≡◌, ℕ, ◌<◌, ◌++◌, [], ◌∷◌, IfOk, OnOk, length, map, if◌then◌else◌};
-ghost use Rattle.std.specs.Prelude.{None, Some, is_none, option_and_then, slice_get};
+ghost use Rattle.std.specs.Prelude.{◌≡◌, ℕ, ◌<◌, ◌++◌, [], ◌∷◌, IfOk, OnOk, length, map};
+ghost use Rattle.std.specs.Prelude.{if◌then◌else◌, None, Some, is_none, option_and_then, slice_get};
 ghost use Rattle.std.specs.List.{range_with_len};
 ghost use Rattle.nm_types.specs.declared.limits.TheConstants.{MAX_LINES};
 ghost use Rattle.nm_sure.specs.declared.partners.Way as key;
@@ -118,11 +118,14 @@ impl Placed {
         held: Option<u32>,
     ) -> Result<(), Memory>
         ensures places { OnOk result (self.new.places.items ≡ self.old.places.items
-            ++ (if is_none held then spec.place_in self.old.sends self.old.receives line.now else None) ∷ []) }
+            ++ (if is_none held then spec.place_in self.old.sends self.old.receives line.now
+            else None) ∷ []) }
         ensures sends { OnOk result ((w : key.Way) → lines_at self.new.sends w
-            ≡ lines_at self.old.sends w ++ (if is_none held then spec.number_if w (spec.send_way line.now) number else [])) }
+            ≡ lines_at self.old.sends w
+            ++ (if is_none held then spec.number_if w (spec.send_way line.now) number else [])) }
         ensures receives { OnOk result ((w : key.Way) → lines_at self.new.receives w
-            ≡ lines_at self.old.receives w ++ (if is_none held then spec.number_if w (spec.receive_way line.now) number else [])) }
+            ≡ lines_at self.old.receives w
+            ++ (if is_none held then spec.number_if w (spec.receive_way line.now) number else [])) }
     {
         let place = match held {
             Some(_) => None,

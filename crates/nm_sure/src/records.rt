@@ -21,7 +21,7 @@ use crate::partners::{Way, receive_way};
 use crate::runs::{Plan, make_plan, place_of};
 use nm_history::{Event, Happened, History};
 use nm_report::laws::reports_say_what_was_told;
-use nm_report::{Accounts, Pairs, RankAccount, RunRecord, text};
+use nm_report::{Accounts, Pairs, RankAccount, RunRecord, report};
 use nm_types::laws::{bodies_have_their_length, commands_stand_at_their_lines};
 use nm_types::{Account, Answer, Body, Bytes, Command, Memory, Script, Shape};
 use std::alloc::Global;
@@ -184,7 +184,7 @@ fn all_home(shape: Shape) -> Account
 
 /// The plain run of a plain script: its report, and whether every rank is at its end.
 ///
-/// Every run of the script has this report, whatever its threads do (MPI 4.0, 3.5 and 3.7.3). It
+/// Every run of the script has this report, whatever its threads do (MPI 3.1, 3.5 and 3.7.3). It
 /// answers `Memory` only for want of memory. Its time grows with the lines times the ranks.
 pub fn plain(alloc: Global, script: &Script, shape: Shape) -> Result<PlainRun, Memory>
     requires plain { ArePlain script.now.lines }
@@ -204,6 +204,6 @@ pub fn plain(alloc: Global, script: &Script, shape: Shape) -> Result<PlainRun, M
         cells: all_home(shape),
         done,
     };
-    let text = text(alloc, &run, false)?;
+    let text = report(alloc, &run)?;
     Ok(PlainRun { text, done })
 }

@@ -93,7 +93,8 @@ impl Plan<'_> {
         requires line { IsLine self.now.lines.now number }
         ensures { (rank : ℕ) (c : Numbered) →
             next_of self.now.lines.now reached.now.at.items rank ≡ Some c → c.line ≡ number →
-            result ≡ spec.goes_on self.now.eager self.now.lines.now reached.now.at.items rank c.command }
+            result
+            ≡ spec.goes_on self.now.eager self.now.lines.now reached.now.at.items rank c.command }
     {
         let place = place_of(number);
         let Command::Wait { .. } = &self.lines[place].command else {
@@ -131,7 +132,8 @@ impl Plan<'_> {
     fn run_next(&self, reached: &mut Reached, rank: usize)
         requires ran { AreRan self.now.lines.now reached.old.at.items reached.old.ran.items }
         requires ranks { length reached.old.at.items ≡ length self.now.ranks.items }
-        requires next { (c : Numbered) × (next_of self.now.lines.now reached.old.at.items rank ≡ Some c) }
+        requires next { (c : Numbered)
+            × (next_of self.now.lines.now reached.old.at.items rank ≡ Some c) }
         ensures at { reached.new.at.items ≡ with_one_more reached.old.at.items rank }
         ensures ran { AreRan self.now.lines.now reached.new.at.items reached.new.ran.items }
     {

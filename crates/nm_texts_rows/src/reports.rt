@@ -1,7 +1,7 @@
 //! The text of small records, whose lines were written by hand.
 
 use nm_history::{Event, Happened, History};
-use nm_report::{Accounts, PairCount, Pairs, RankAccount, RunRecord, summary, text};
+use nm_report::{Accounts, PairCount, Pairs, RankAccount, RunRecord, report, summary, trace};
 use nm_types::{
     Account, Answer, Arrival, Bytes, Envelope, How, Memory, Peer, Post, Seen, Shape, TagPick,
 };
@@ -87,7 +87,7 @@ fn a_report_has_a_line_for_each_answer(rt: HostRuntime) -> Result<(), Fail> {
     let want = b"0 3 busy\n0 4 null\n0 5 no\n0 6 none\n0 7 sent\n0 8 got 1 5 2 x0aff\n\
         0 9 cut 2 32767 1048576\n0 10 cancelled\n0 11 seen 0 4 1\n0 12 done\n0 13 late\n\
         0 14 asked\n0 15 got 0 0 0 x\n0 16 waits\ncells 16 home 15\nstuck\n";
-    assert_eq!(rt; text(alloc, &run, false)?.as_slice(), want.as_slice());
+    assert_eq!(rt; report(alloc, &run)?.as_slice(), want.as_slice());
     Ok(())
 }
 
@@ -215,7 +215,7 @@ fn a_trace_has_a_line_for_each_event(rt: HostRuntime) -> Result<(), Fail> {
         @ 1 9 ran 3 got 0 5 2\n@ 2 5 withdraw 0 1 done\n@ 2 6 claim 0 2 7\n\
         @ 2 7 match 1 0 2 4 8\npair 0 1 3\npair 1 0 1\n1 3 got 0 5 2 xab01\n\
         cells 24 home 24\ndone\n";
-    assert_eq!(rt; text(alloc, &run, true)?.as_slice(), want.as_slice());
+    assert_eq!(rt; trace(alloc, &run)?.as_slice(), want.as_slice());
     Ok(())
 }
 

@@ -1,6 +1,6 @@
 //! Traces that are read back, and lines that begin none.
 
-use nm_report::text;
+use nm_report::trace;
 use nm_trace::{TraceFault, read_trace};
 use nm_types::Shape;
 use std::alloc::Global;
@@ -13,7 +13,7 @@ fn again(alloc: Global, bytes: &[u8], ranks: u8) -> Result<Result<Vec<u8>, u32>,
         return Err("too long".into());
     }
     match read_trace(alloc, bytes, shape) {
-        Ok(run) => Ok(Ok(text(alloc, &run, true)?)),
+        Ok(run) => Ok(Ok(trace(alloc, &run)?)),
         Err(TraceFault::Bad { line }) => Ok(Err(line)),
         Err(TraceFault::Memory) => Err("memory".into()),
     }

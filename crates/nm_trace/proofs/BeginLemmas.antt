@@ -23,7 +23,7 @@ use Rattle.nm_report.specs.Ends.{ends_of}
 use Rattle.nm_report.specs.Events.{event_line, event_words, pair_line}
 use Rattle.nm_report.specs.Report.{cells_line, end_line, ran_line}
 use Rattle.nm_trace.specs.declared.notes.Note.{Note}
-use Rattle.nm_trace.specs.Machine.{Trace, State, Noting, Counting, Telling, Closing, Over, ended}
+use Rattle.nm_trace.specs.Machine.{Trace, Stage, Noting, Counting, Telling, Closing, Over, ended}
 use Rattle.nm_trace.specs.Notes.{BareIn, NoteIn, ToldIn, note_line, spoken_words, told_words}
 use Rattle.nm_trace.specs.Texts.{InOrder, Right, answers_from, closing_text, events_from, state_text}
 use Rattle.nm_trace.specs.Texts.{telling_text, trace_of}
@@ -259,7 +259,7 @@ noted : (a c : List ℕ) → a ++ c ≡ [] ++ [] ++ a ++ c ++ [] ++ []
 noted a c = simp append-nil
 
 -- what was taken so far begins a trace
-pub state_begins : (shape : Sizes) (s : State) → Right shape.ranks s → Within s → Begins shape (state_text s)
+pub state_begins : (shape : Sizes) (s : Stage) → Right shape.ranks s → Within s → Begins shape (state_text s)
 state_begins shape (Noting notes) right within =
     let same = sym (append-nil (flat_map note_line notes)) ∙ noted (flat_map note_line notes) [] in
     begins_as shape (flat_map note_line notes) (telling_text [] [] [] notes) same

@@ -17,7 +17,7 @@ use Rattle.nm_words.specs.Lines.{words_of}
 use Rattle.nm_trace.specs.declared.notes.Note.{Note}
 use Rattle.nm_trace.specs.Answers.{given, given_what, is_due}
 use Rattle.nm_trace.specs.Events.{note_of, pair_of}
-use Rattle.nm_trace.specs.Machine.{Trace, State, Noting, Counting, Telling, Closing, Over, start}
+use Rattle.nm_trace.specs.Machine.{Trace, Stage, Noting, Counting, Telling, Closing, Over, start}
 use Rattle.nm_trace.specs.Machine.{counting, ended, fed, feed, is_next, last_rank, next_note}
 use Rattle.nm_trace.specs.Machine.{noting, telling, waits_of}
 use Rattle.nm_trace.specs.Notes.{BareIn, HasBytes, NoteIn, ToldIn, bare, bare_what, bytes_in, bytes_of_what}
@@ -38,15 +38,15 @@ use Rattle.nm_trace.proofs.ToldLemmas.{print_both, ran_lines, text_of, waits_lin
 use Rattle.nm_trace.proofs.WithinLemmas.{Within}
 
 -- a line that is taken, and a line that another state takes alike
-fed_step : (ranks : ℕ) (s t : State) (line : List ℕ) (lines : List (List ℕ)) → feed ranks s line ≡ Some t
+fed_step : (ranks : ℕ) (s t : Stage) (line : List ℕ) (lines : List (List ℕ)) → feed ranks s line ≡ Some t
     → fed ranks s (line ∷ lines) ≡ fed ranks t lines
 fed_step ranks s t line lines h = rw h refl
 
-fed_alike : (ranks : ℕ) (s t : State) (line : List ℕ) (lines : List (List ℕ))
+fed_alike : (ranks : ℕ) (s t : Stage) (line : List ℕ) (lines : List (List ℕ))
     → feed ranks s line ≡ feed ranks t line → fed ranks s (line ∷ lines) ≡ fed ranks t (line ∷ lines)
 fed_alike ranks s t line lines h = rw h refl
 
-fed_behind : (ranks : ℕ) (s t : State) (front : List (List ℕ)) (line : List ℕ) (rest : List (List ℕ))
+fed_behind : (ranks : ℕ) (s t : Stage) (front : List (List ℕ)) (line : List ℕ) (rest : List (List ℕ))
     → ((l : List ℕ) → feed ranks s l ≡ feed ranks t l)
     → fed ranks s (front ++ line ∷ rest) ≡ fed ranks t (front ++ line ∷ rest)
 fed_behind ranks s t [] line rest same = fed_alike ranks s t line rest (same line)

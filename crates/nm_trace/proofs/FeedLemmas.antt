@@ -17,7 +17,7 @@ use Rattle.nm_trace.specs.declared.notes.Note.{Note}
 use Rattle.nm_trace.specs.Answers.{is_due, given}
 use Rattle.nm_trace.specs.Events.{note_of, pair_of}
 use Rattle.nm_trace.specs.Lines.{ended_lines}
-use Rattle.nm_trace.specs.Machine.{State, Noting, Counting, Telling, Closing, Over}
+use Rattle.nm_trace.specs.Machine.{Stage, Noting, Counting, Telling, Closing, Over}
 use Rattle.nm_trace.specs.Machine.{ended, settled, is_next, with_given, telling, waits_of}
 use Rattle.nm_trace.specs.Machine.{cells_of, end_of, last_rank, may_follow, next_note, counting, noting}
 use Rattle.nm_trace.specs.Machine.{feed, fed}
@@ -31,7 +31,7 @@ use Rattle.nm_trace.proofs.SoundLemmas.{or_cases, settle_same, raised, more_rank
 use Rattle.nm_trace.proofs.TextLemmas.{one_more}
 
 given_right : (ranks : ℕ) (pairs : List PairCount) (ends : List Ended) (events : List Event) (due : List Note)
-    (line : List ℕ) (s : State) → InOrder (length ends) ranks due → is_next (length ends) due ≡ true
+    (line : List ℕ) (s : Stage) → InOrder (length ends) ranks due → is_next (length ends) due ≡ true
     → with_given pairs ends events due line ≡ Some s → Right ranks s
 given_right ranks pairs ends events [] line s order next h = cc
 given_right ranks pairs ends events (note ∷ due) line s order next h =
@@ -43,7 +43,7 @@ given_right ranks pairs ends events (note ∷ due) line s order next h =
     rw (← is) (omega (arith, same, few), λ e. absurd (omega (arith, same, few, e)), rw same at order.3)
 
 telling_right : (left ranks : ℕ) (pairs : List PairCount) (ends : List Ended) (events : List Event)
-    (due : List Note) (line : List ℕ) (s : State) → length ends + left ≡ ranks
+    (due : List Note) (line : List ℕ) (s : Stage) → length ends + left ≡ ranks
     → InOrder (length ends) ranks due → telling left pairs ends events due line ≡ Some s → Right ranks s
 unfolding telling
 telling_right zero ranks pairs ends events due line s count order h =
@@ -87,11 +87,11 @@ in_order-more low ranks (n ∷ notes) note h least few within =
     (h.0, h.1, h.2, in_order-more n.rank ranks notes note h.3 least few within)
 
 -- a line that is taken keeps the state right, and is the next of what it stands for
-pub record IsNext (ranks : ℕ) (before line : List ℕ) (s : State) : Type 0 where
+pub record IsNext (ranks : ℕ) (before line : List ℕ) (s : Stage) : Type 0 where
   pub right : Right ranks s
   pub text : state_text s ≡ before ++ (line ++ 10 ∷ [])
 
-counting_next : (ranks : ℕ) (notes : List Note) (pairs : List PairCount) (line : List ℕ) (s : State)
+counting_next : (ranks : ℕ) (notes : List Note) (pairs : List PairCount) (line : List ℕ) (s : Stage)
     → InOrder 0 ranks notes → counting ranks notes pairs line ≡ Some s
     → IsNext ranks (flat_map note_line notes ++ flat_map pair_line pairs) line s
 unfolding counting
@@ -130,7 +130,7 @@ next_taken ranks last words note h =
     let is : b.0 ≡ note = cc (g.1) in
     rw (← is) (ltb-true b.0.rank ranks p.0, leb-true last b.0.rank p.1, b.1)
 
-noting_next : (ranks : ℕ) (notes : List Note) (line : List ℕ) (s : State)
+noting_next : (ranks : ℕ) (notes : List Note) (line : List ℕ) (s : Stage)
     → InOrder 0 ranks notes → noting ranks notes line ≡ Some s
     → IsNext ranks (flat_map note_line notes) line s
 unfolding noting
@@ -161,7 +161,7 @@ end_is : (d : Bool) → end_word d ++ 10 ∷ [] ≡ end_line d
 end_is true = refl
 end_is false = refl
 
-pub feed_next : (ranks : ℕ) (s : State) (line : List ℕ) (t : State) → Right ranks s → feed ranks s line ≡ Some t
+pub feed_next : (ranks : ℕ) (s : Stage) (line : List ℕ) (t : Stage) → Right ranks s → feed ranks s line ≡ Some t
     → IsNext ranks (state_text s) line t
 unfolding feed
 feed_next ranks (Noting notes) line t right h = noting_next ranks notes line t right h
@@ -183,7 +183,7 @@ feed_next ranks (Closing pairs ends cells) line t right h =
 feed_next ranks (Over trace) line t right h = cc
 
 -- lines that are taken are what the state stands for
-pub fed_text : (ranks : ℕ) (s : State) (lines : List (List ℕ)) (t : State) → Right ranks s
+pub fed_text : (ranks : ℕ) (s : Stage) (lines : List (List ℕ)) (t : Stage) → Right ranks s
     → fed ranks s lines ≡ Some t → Right ranks t × (state_text t ≡ state_text s ++ ended_lines lines)
 fed_text ranks s [] t right h =
     let is : s ≡ t = cc in

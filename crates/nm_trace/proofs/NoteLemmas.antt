@@ -6,7 +6,7 @@ use Rattle.nm_history.specs.declared.events.Happened.{Happened}
 use Rattle.nm_history.specs.declared.events.Happened.TheVariants as what
 use Rattle.nm_words.specs.Decimal.{number_of}
 use Rattle.nm_trace.specs.declared.notes.Note.{Note}
-use Rattle.nm_trace.specs.declared.notes.Told.{Told}
+use Rattle.nm_trace.specs.declared.notes.Said.{Said}
 use Rattle.nm_trace.specs.declared.sorts.Sort.{Sort}
 use Rattle.nm_trace.specs.declared.sorts.Sort.TheVariants as sort
 use Rattle.nm_trace.specs.Events.{note_of, told_of, told_as, ran_of, plain_of, answer_of}
@@ -120,12 +120,12 @@ plain_is (what.Match number from n cap line) other h = (refl, (h, refl))
 plain_is (what.Ran line answer) other h = absurd (other refl)
 
 -- the words behind the name of this sort are those of what is told
-record IsTold (s : Sort) (words : List (List ℕ)) (t : Told) : Type 0 where
+record IsTold (s : Sort) (words : List (List ℕ)) (t : Said) : Type 0 where
   sort : sort_is t.what ≡ s
   words_are : words ≡ rest_of t.what t.len
   within : ToldIn t.what t.len
 
-plain_told : (s : Sort) (words : List (List ℕ)) (t : Told) → (s ≡ sort.Ran → ⊥)
+plain_told : (s : Sort) (words : List (List ℕ)) (t : Said) → (s ≡ sort.Ran → ⊥)
     → (plain_of s words >>= λ w. Some (record { what = w; len = 0 })) ≡ Some t → IsTold s words t
 plain_told s words t other h =
     let b = bind_some (plain_of s words) _ t h in
@@ -139,7 +139,7 @@ plain_told s words t other h =
     } in
     rw is at made
 
-ran_told : (words : List (List ℕ)) (t : Told) → ran_of words ≡ Some t → IsTold sort.Ran words t
+ran_told : (words : List (List ℕ)) (t : Said) → ran_of words ≡ Some t → IsTold sort.Ran words t
 unfolding ran_of
 ran_told [] t h = cc
 ran_told (line_w ∷ words) t h =
@@ -156,7 +156,7 @@ ran_told (line_w ∷ words) t h =
     } in
     rw is at made
 
-told_taken : (s : Sort) (words : List (List ℕ)) (t : Told) → told_as s words ≡ Some t → IsTold s words t
+told_taken : (s : Sort) (words : List (List ℕ)) (t : Said) → told_as s words ≡ Some t → IsTold s words t
 unfolding told_as
 told_taken sort.Send words t h = plain_told sort.Send words t (λ e. cc) h
 told_taken sort.Post words t h = plain_told sort.Post words t (λ e. cc) h

@@ -3,7 +3,7 @@ use Rattle.std.proofs.Common.{◌≡◌, ℕ, ◌+◌, ◌⊎◌, inl, inr, fals
 use Rattle.std.proofs.Common.{None, Err, refl, sym, ap, ◌∙◌, eqb}
 use Rattle.nm_words.proofs.StepLemmas.{chosen}
 use Rattle.nm_trace.specs.Lines.{cut_lines, first_line}
-use Rattle.nm_trace.specs.Machine.{State, feed}
+use Rattle.nm_trace.specs.Machine.{Stage, feed}
 use Rattle.nm_trace.specs.Outcome.{at_end, told, line_as}
 use Rattle.nm_trace.proofs.FieldLemmas.{bind_some}
 use Rattle.nm_facts.proofs.Options.{mapped_none, mapped_some}
@@ -54,7 +54,7 @@ cut_none (b ∷ bytes) h =
     ]
 
 -- a line that is taken
-pub told_taken : (ranks : ℕ) (s : State) (bytes : List ℕ) (number : ℕ) (line rest : List ℕ) (t : State)
+pub told_taken : (ranks : ℕ) (s : Stage) (bytes : List ℕ) (number : ℕ) (line rest : List ℕ) (t : Stage)
     → first_line bytes ≡ Some (line, rest) → feed ranks s line ≡ Some t
     → told ranks s bytes number ≡ told ranks t rest (number + 1)
 unfolding told
@@ -62,7 +62,7 @@ told_taken ranks s bytes number line rest t first taken =
     rw (cut_first bytes line rest first) (rw taken refl)
 
 -- a line that is not
-pub told_refused : (ranks : ℕ) (s : State) (bytes : List ℕ) (number : ℕ) (line rest : List ℕ)
+pub told_refused : (ranks : ℕ) (s : Stage) (bytes : List ℕ) (number : ℕ) (line rest : List ℕ)
     → first_line bytes ≡ Some (line, rest) → feed ranks s line ≡ None
     → told ranks s bytes number ≡ Err number
 unfolding told
@@ -70,7 +70,7 @@ told_refused ranks s bytes number line rest first refused =
     rw (cut_first bytes line rest first) (rw refused refl)
 
 -- no line
-pub told_none : (ranks : ℕ) (s : State) (bytes : List ℕ) (number : ℕ) → first_line bytes ≡ None
+pub told_none : (ranks : ℕ) (s : Stage) (bytes : List ℕ) (number : ℕ) → first_line bytes ≡ None
     → told ranks s bytes number ≡ at_end s bytes number
 unfolding told
 told_none ranks s bytes number none = rw (cut_none bytes none) refl
@@ -87,7 +87,7 @@ some_or_none None = inl refl
 some_or_none (Some x) = inr (x, refl)
 
 -- two states that take the first line alike, and no line alike
-pub told_same : (ranks : ℕ) (s t : State) (bytes : List ℕ) (number : ℕ)
+pub told_same : (ranks : ℕ) (s t : Stage) (bytes : List ℕ) (number : ℕ)
     → at_end s bytes number ≡ at_end t bytes number
     → ((line rest : List ℕ) → first_line bytes ≡ Some (line, rest) → feed ranks s line ≡ feed ranks t line)
     → told ranks s bytes number ≡ told ranks t bytes number
@@ -131,7 +131,7 @@ read_none read bytes line rest h first =
     ]
 
 -- a first line that is read, where what it is read as makes a state
-pub told_read : {A : Type 0} (ranks : ℕ) (read : List ℕ → Option A) (next : A → State) (s : State)
+pub told_read : {A : Type 0} (ranks : ℕ) (read : List ℕ → Option A) (next : A → Stage) (s : Stage)
     (bytes : List ℕ) (number : ℕ) (x : A) (rest : List ℕ)
     → ((line : List ℕ) → read line ≡ Some x → feed ranks s line ≡ Some (next x))
     → line_as read bytes ≡ Some (x, rest)
@@ -141,7 +141,7 @@ told_read ranks read next s bytes number x rest feeds h =
     told_taken ranks s bytes number r.0 rest (next x) r.1 (feeds r.0 r.2)
 
 -- a first line that is not read, where no other line is taken
-pub told_stops : {A : Type 0} (ranks : ℕ) (read : List ℕ → Option A) (s : State) (bytes : List ℕ) (number : ℕ)
+pub told_stops : {A : Type 0} (ranks : ℕ) (read : List ℕ → Option A) (s : Stage) (bytes : List ℕ) (number : ℕ)
     → at_end s bytes number ≡ Err number
     → ((line : List ℕ) → read line ≡ None → feed ranks s line ≡ None)
     → line_as read bytes ≡ None → told ranks s bytes number ≡ Err number
@@ -154,7 +154,7 @@ told_stops ranks read s bytes number ends feeds h =
     ]
 
 -- a first line that is not read, where the other state takes it alike
-pub told_passes : {A : Type 0} (ranks : ℕ) (read : List ℕ → Option A) (s t : State) (bytes : List ℕ)
+pub told_passes : {A : Type 0} (ranks : ℕ) (read : List ℕ → Option A) (s t : Stage) (bytes : List ℕ)
     (number : ℕ) → at_end s bytes number ≡ at_end t bytes number
     → ((line : List ℕ) → read line ≡ None → feed ranks s line ≡ feed ranks t line)
     → line_as read bytes ≡ None → told ranks s bytes number ≡ told ranks t bytes number

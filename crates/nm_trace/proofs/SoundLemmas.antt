@@ -17,7 +17,7 @@ use Rattle.nm_words.proofs.StepLemmas.{chosen}
 use Rattle.nm_words.proofs.WordLemmas.{line_is}
 use Rattle.nm_trace.specs.declared.notes.Note.{Note}
 use Rattle.nm_trace.specs.Answers.{is_due, given}
-use Rattle.nm_trace.specs.Machine.{State, Telling, Closing, ended, settled, is_next, with_given}
+use Rattle.nm_trace.specs.Machine.{Stage, Telling, Closing, ended, settled, is_next, with_given}
 use Rattle.nm_trace.specs.Machine.{or_else, telling, waits_of, cells_of}
 use Rattle.nm_trace.specs.Notes.{ToldIn, waits_words, cells_words}
 use Rattle.nm_trace.specs.Steps.{◌>>=◌}
@@ -76,7 +76,7 @@ event_given rank stamp (what.Ran line a) len text e within due h =
     ran_given rank stamp line a len text e within due h
 
 given_sound : (ranks : ℕ) (pairs : List PairCount) (ends : List Ended) (events : List Event) (due : List Note)
-    (line : List ℕ) (s : State) → InOrder (length ends) ranks due → is_next (length ends) due ≡ true
+    (line : List ℕ) (s : Stage) → InOrder (length ends) ranks due → is_next (length ends) due ≡ true
     → with_given pairs ends events due line ≡ Some s
     → state_text s ≡ telling_text pairs ends events due ++ (line ++ 10 ∷ [])
 given_sound ranks pairs ends events [] line s order next h = cc
@@ -116,7 +116,7 @@ pub more_ranks : (ends : List Ended) (e : Ended) → length (ends ++ e ∷ []) �
 more_ranks ends e = length-append ends (e ∷ [])
 
 pub telling_sound : (left ranks : ℕ) (pairs : List PairCount) (ends : List Ended) (events : List Event)
-    (due : List Note) (line : List ℕ) (s : State) → length ends + left ≡ ranks
+    (due : List Note) (line : List ℕ) (s : Stage) → length ends + left ≡ ranks
     → (left ≡ 0 → events ≡ []) → InOrder (length ends) ranks due
     → telling left pairs ends events due line ≡ Some s
     → state_text s ≡ telling_text pairs ends events due ++ (line ++ 10 ∷ [])

@@ -16,7 +16,7 @@ use Rattle.nm_words.specs.Lines.{is_printable}
 use Rattle.nm_trace.specs.declared.faults.TraceFault.{TraceFault}
 use Rattle.nm_trace.specs.declared.faults.TraceFault.TheVariants as fault
 use Rattle.nm_trace.specs.Lines.{cut_lines, ended_lines, onto_lines, whole_lines}
-use Rattle.nm_trace.specs.Machine.{Trace, State, Noting, Counting, Telling, Closing, Over, fed, feed, start}
+use Rattle.nm_trace.specs.Machine.{Trace, Stage, Noting, Counting, Telling, Closing, Over, fed, feed, start}
 use Rattle.nm_trace.specs.Outcome.{Stops, at_end, outcome, told}
 use Rattle.nm_trace.specs.Texts.{trace_of}
 use Rattle.nm_trace.specs.Traces.{Begins, IsFirstBad, IsTraceOf, Names}
@@ -113,25 +113,25 @@ cut_again (line ∷ lines) behind h =
     ∙ ap (λ (x : List (List ℕ) × List ℕ). (line ∷ x.0, x.1)) (cut_again lines behind p.1))
 
 -- a step of an outcome
-stop_none : (ranks : ℕ) (s : State) (line : List ℕ) (lines : List (List ℕ)) (behind : List ℕ) (number : ℕ)
+stop_none : (ranks : ℕ) (s : Stage) (line : List ℕ) (lines : List (List ℕ)) (behind : List ℕ) (number : ℕ)
     → feed ranks s line ≡ None → outcome ranks s (line ∷ lines) behind number ≡ Err number
 stop_none ranks s line lines behind number none = rw none refl
 
-stop_some : (ranks : ℕ) (s : State) (line : List ℕ) (lines : List (List ℕ)) (behind : List ℕ) (number : ℕ)
-    (t : State) → feed ranks s line ≡ Some t
+stop_some : (ranks : ℕ) (s : Stage) (line : List ℕ) (lines : List (List ℕ)) (behind : List ℕ) (number : ℕ)
+    (t : Stage) → feed ranks s line ≡ Some t
     → outcome ranks s (line ∷ lines) behind number ≡ outcome ranks t lines behind (number + 1)
 stop_some ranks s line lines behind number t some = rw some refl
 
-fed_none : (ranks : ℕ) (s : State) (line : List ℕ) (lines : List (List ℕ)) → feed ranks s line ≡ None
+fed_none : (ranks : ℕ) (s : Stage) (line : List ℕ) (lines : List (List ℕ)) → feed ranks s line ≡ None
     → fed ranks s (line ∷ lines) ≡ None
 fed_none ranks s line lines none = rw none refl
 
-fed_some : (ranks : ℕ) (s t : State) (line : List ℕ) (lines : List (List ℕ)) → feed ranks s line ≡ Some t
+fed_some : (ranks : ℕ) (s t : Stage) (line : List ℕ) (lines : List (List ℕ)) → feed ranks s line ≡ Some t
     → fed ranks s (line ∷ lines) ≡ fed ranks t lines
 fed_some ranks s t line lines some = rw some refl
 
 -- lines that tell a whole trace
-outcome_whole : (ranks : ℕ) (s : State) (lines : List (List ℕ)) (number : ℕ) (t : Trace)
+outcome_whole : (ranks : ℕ) (s : Stage) (lines : List (List ℕ)) (number : ℕ) (t : Trace)
     → fed ranks s lines ≡ Some (Over t) → outcome ranks s lines [] number ≡ Ok t
 outcome_whole ranks s [] number t h =
     let is : s ≡ Over t = cc (h) in
@@ -140,7 +140,7 @@ outcome_whole ranks s (line ∷ lines) number t h =
     let b = bind_some (feed ranks s line) _ (Over t) h in
     stop_some ranks s line lines [] number b.0 b.1 ∙ outcome_whole ranks b.0 lines (number + 1) t b.2
 
-end_whole : (s : State) (behind : List ℕ) (number : ℕ) (t : Trace) → at_end s behind number ≡ Ok t
+end_whole : (s : Stage) (behind : List ℕ) (number : ℕ) (t : Trace) → at_end s behind number ≡ Ok t
     → (s ≡ Over t) × (behind ≡ [])
 end_whole (Noting notes) behind number t h = cc
 end_whole (Counting notes pairs) behind number t h = cc
@@ -151,7 +151,7 @@ end_whole (Over x) [] number t h =
     (ap Over is, refl)
 end_whole (Over x) (b ∷ behind) number t h = cc
 
-outcome_ok : (ranks : ℕ) (s : State) (lines : List (List ℕ)) (behind : List ℕ) (number : ℕ) (t : Trace)
+outcome_ok : (ranks : ℕ) (s : Stage) (lines : List (List ℕ)) (behind : List ℕ) (number : ℕ) (t : Trace)
     → outcome ranks s lines behind number ≡ Ok t → (fed ranks s lines ≡ Some (Over t)) × (behind ≡ [])
 outcome_ok ranks s [] behind number t h =
     let e = end_whole s behind number t h in
@@ -166,7 +166,7 @@ outcome_ok ranks s (line ∷ lines) behind number t h =
     ]
 
 -- before the line that stops a text, each line is taken
-end_stops : (s : State) (behind : List ℕ) (number line : ℕ) → at_end s behind number ≡ Err line → number ≡ line
+end_stops : (s : Stage) (behind : List ℕ) (number line : ℕ) → at_end s behind number ≡ Err line → number ≡ line
 end_stops (Noting notes) behind number line h = cc
 end_stops (Counting notes pairs) behind number line h = cc
 end_stops (Telling pairs part) behind number line h = cc
@@ -174,9 +174,9 @@ end_stops (Closing pairs ends cells) behind number line h = cc
 end_stops (Over x) [] number line h = cc
 end_stops (Over x) (b ∷ behind) number line h = cc
 
-outcome_before : (ranks : ℕ) (s : State) (lines : List (List ℕ)) (behind : List ℕ) (number line count : ℕ)
+outcome_before : (ranks : ℕ) (s : Stage) (lines : List (List ℕ)) (behind : List ℕ) (number line count : ℕ)
     → outcome ranks s lines behind number ≡ Err line → count + number ≤ line
-    → (count ≤ length lines) × (u : State) × (fed ranks s (take count lines) ≡ Some u)
+    → (count ≤ length lines) × (u : Stage) × (fed ranks s (take count lines) ≡ Some u)
 outcome_before ranks s lines behind number line zero h few = (omega arith, s, refl)
 outcome_before ranks s [] behind number line (suc count) h few =
     absurd (omega (arith, end_stops s behind number line h, few))
@@ -192,7 +192,7 @@ outcome_before ranks s (l ∷ lines) behind number line (suc count) h few =
           (omega (arith, more.0), more.1, fed_some ranks s x.0 l (take count lines) x.1 ∙ more.2)
     ]
 
-outcome_least : (ranks : ℕ) (s : State) (lines : List (List ℕ)) (behind : List ℕ) (number line : ℕ)
+outcome_least : (ranks : ℕ) (s : Stage) (lines : List (List ℕ)) (behind : List ℕ) (number line : ℕ)
     → outcome ranks s lines behind number ≡ Err line → number ≤ line
 outcome_least ranks s [] behind number line h = omega (arith, end_stops s behind number line h)
 outcome_least ranks s (l ∷ lines) behind number line h =
@@ -208,7 +208,7 @@ outcome_least ranks s (l ∷ lines) behind number line h =
     ]
 
 -- and that line is not
-outcome_bad : (ranks : ℕ) (s : State) (lines : List (List ℕ)) (behind : List ℕ) (number line count : ℕ) (u : State)
+outcome_bad : (ranks : ℕ) (s : Stage) (lines : List (List ℕ)) (behind : List ℕ) (number line count : ℕ) (u : Stage)
     → outcome ranks s lines behind number ≡ Err line → line + 1 ≡ count + number → count ≤ length lines
     → fed ranks s (take count lines) ≡ Some u → ⊥
 outcome_bad ranks s [] behind number line count u h here some taken =
@@ -236,8 +236,8 @@ outcome_bad ranks s (l ∷ lines) behind number line (suc count) u h here some t
     ]
 
 -- the lines that begin a longer list that is taken are taken
-fed_front : (ranks : ℕ) (s : State) (front rest : List (List ℕ)) (t : State)
-    → fed ranks s (front ++ rest) ≡ Some t → (u : State) × (fed ranks s front ≡ Some u)
+fed_front : (ranks : ℕ) (s : Stage) (front rest : List (List ℕ)) (t : Stage)
+    → fed ranks s (front ++ rest) ≡ Some t → (u : Stage) × (fed ranks s front ≡ Some u)
 fed_front ranks s [] rest t h = (s, refl)
 fed_front ranks s (line ∷ front) rest t h =
     let b = bind_some (feed ranks s line) _ t h in
@@ -286,7 +286,7 @@ module _ (shape : Sizes) (few : shape.ranks ≤ 2 ^ 8) where
 
   -- lines with which a trace begins are taken
   begin_taken : (lines : List (List ℕ)) → Unfed lines → Begins shape (ended_lines lines)
-      → (u : State) × (fed shape.ranks start lines ≡ Some u)
+      → (u : Stage) × (fed shape.ranks start lines ≡ Some u)
   begin_taken lines unfed b =
       let run = b.0 in
       let rest = b.1 in
@@ -300,7 +300,7 @@ module _ (shape : Sizes) (few : shape.ranks ≤ 2 ^ 8) where
       (ap (λ (x : List (List ℕ)). fed shape.ranks start x) same ∙ whole)
 
   -- and lines that are taken begin one
-  taken_begin : (lines : List (List ℕ)) (u : State) → fed shape.ranks start lines ≡ Some u
+  taken_begin : (lines : List (List ℕ)) (u : Stage) → fed shape.ranks start lines ≡ Some u
       → Begins shape (ended_lines lines)
   taken_begin lines u h =
       let text = fed_text shape.ranks start lines u tt h in

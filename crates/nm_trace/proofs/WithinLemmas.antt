@@ -16,7 +16,7 @@ use Rattle.nm_words.proofs.StepLemmas.{chosen}
 use Rattle.nm_trace.specs.declared.notes.Note.{Note}
 use Rattle.nm_trace.specs.Answers.{is_due, given, given_what}
 use Rattle.nm_trace.specs.Events.{pair_of}
-use Rattle.nm_trace.specs.Machine.{State, Noting, Counting, Telling, Closing, Over}
+use Rattle.nm_trace.specs.Machine.{Stage, Noting, Counting, Telling, Closing, Over}
 use Rattle.nm_trace.specs.Machine.{ended, settled, is_next, with_given, telling, waits_of, next_note}
 use Rattle.nm_trace.specs.Machine.{cells_of, counting, end_of, feed, fed, last_rank, noting}
 use Rattle.nm_trace.specs.Notes.{BareIn, HasBytes, NoteIn, ToldIn, bare, bytes_in}
@@ -32,7 +32,7 @@ use Rattle.nm_trace.proofs.SoundLemmas.{true_or_false}
 use Rattle.nm_facts.proofs.Lists.{all_push}
 
 -- the numbers of what was told so far are within their types
-abbrev pub Within : State → Type 0
+abbrev pub Within : Stage → Type 0
 Within (Noting notes) = Unit {0}
 Within (Counting notes pairs) = AllByRecursion PairIn pairs
 Within (Telling pairs part) =
@@ -134,7 +134,7 @@ pub end_in : (events : List Event) (waits : Option ℕ) → AllByRecursion Event
 end_in events waits all h = record { events = all; waits = h; at = refl }
 
 given_within : (low ranks : ℕ) (pairs : List PairCount) (ends : List Ended) (events : List Event)
-    (due : List Note) (line : List ℕ) (s : State) → InOrder low ranks due → AllByRecursion PairIn pairs
+    (due : List Note) (line : List ℕ) (s : Stage) → InOrder low ranks due → AllByRecursion PairIn pairs
     → AllByRecursion EndIn ends → AllByRecursion EventIn events
     → with_given pairs ends events due line ≡ Some s → Within s
 given_within low ranks pairs ends events [] line s order p e all h = cc
@@ -145,7 +145,7 @@ given_within low ranks pairs ends events (note ∷ due) line s order p e all h =
     rw (← is) (p, e, all_push EventIn events b.0 all (event_in note line b.0 order.2 b.1))
 
 telling_within : (left ranks : ℕ) (pairs : List PairCount) (ends : List Ended) (events : List Event)
-    (due : List Note) (line : List ℕ) (s : State) → InOrder (length ends) ranks due
+    (due : List Note) (line : List ℕ) (s : Stage) → InOrder (length ends) ranks due
     → AllByRecursion PairIn pairs → AllByRecursion EndIn ends → AllByRecursion EventIn events
     → telling left pairs ends events due line ≡ Some s → Within s
 unfolding telling
@@ -181,7 +181,7 @@ telling_within (suc left) ranks pairs ends events due line s order p e all h =
           ]
     ]
 
-counting_within : (ranks : ℕ) (notes : List Note) (pairs : List PairCount) (line : List ℕ) (s : State)
+counting_within : (ranks : ℕ) (notes : List Note) (pairs : List PairCount) (line : List ℕ) (s : Stage)
     → InOrder 0 ranks notes → AllByRecursion PairIn pairs → counting ranks notes pairs line ≡ Some s → Within s
 unfolding counting
 counting_within ranks notes pairs line s order p h =
@@ -195,7 +195,7 @@ counting_within ranks notes pairs line s order p h =
       | inr w ↦ telling_within ranks ranks pairs [] [] notes line s order p tt tt w
     ]
 
-feed_within : (ranks : ℕ) (s : State) (line : List ℕ) (t : State) → Right ranks s → Within s
+feed_within : (ranks : ℕ) (s : Stage) (line : List ℕ) (t : Stage) → Right ranks s → Within s
     → feed ranks s line ≡ Some t → Within t
 unfolding feed noting
 feed_within ranks (Noting notes) line t right within h =
@@ -219,7 +219,7 @@ feed_within ranks (Closing pairs ends cells) line t right within h =
 feed_within ranks (Over trace) line t right within h = cc
 
 -- the numbers of what lines tell are within their types
-pub fed_within : (ranks : ℕ) (s : State) (lines : List (List ℕ)) (t : State) → Right ranks s → Within s
+pub fed_within : (ranks : ℕ) (s : Stage) (lines : List (List ℕ)) (t : Stage) → Right ranks s → Within s
     → fed ranks s lines ≡ Some t → Within t
 fed_within ranks s [] t right within h =
     let is : s ≡ t = cc in

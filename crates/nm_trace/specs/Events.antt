@@ -15,7 +15,7 @@ use Rattle.nm_history.specs.declared.events.Happened.TheVariants as what
 use Rattle.nm_report.specs.declared.pairs.PairCount.{PairCount}
 use Rattle.nm_words.specs.Decimal.{number_of}
 use Rattle.nm_trace.specs.declared.notes.Note.{Note}
-use Rattle.nm_trace.specs.declared.notes.Told.{Told}
+use Rattle.nm_trace.specs.declared.notes.Said.{Said}
 use Rattle.nm_trace.specs.declared.sorts.Sort.{Sort}
 use Rattle.nm_trace.specs.declared.sorts.Sort.TheVariants as sort
 use Rattle.nm_trace.specs.Sorts.{sort_of, lone_answer}
@@ -182,7 +182,7 @@ answer_of (name ∷ from_word ∷ tag_word ∷ len ∷ []) = do
 answer_of _ = None
 
 -- an answer and its line
-unfoldable pub ran_of : List (List ℕ) → Option Told
+unfoldable pub ran_of : List (List ℕ) → Option Said
 ran_of (line_word ∷ words) = do
   line ← number_of (2 ^ 32) line_word
   a ← answer_of words
@@ -210,13 +210,13 @@ is_answer sort.Ran = true
 is_answer _ = false
 
 -- an event of this sort
-unfoldable pub told_as : Sort → List (List ℕ) → Option Told
+unfoldable pub told_as : Sort → List (List ℕ) → Option Said
 told_as s words =
     if is_answer s then ran_of words
     else plain_of s words >>= λ what. Some (record { what = what; len = 0 })
 
 -- what happened, by its name and its other words
-unfoldable pub told_of : List ℕ → List (List ℕ) → Option Told
+unfoldable pub told_of : List ℕ → List (List ℕ) → Option Said
 told_of name words = sort_of name >>= λ s. told_as s words
 
 -- the event of a line: its rank, its stamp, and what happened

@@ -30,15 +30,15 @@ pub record Part : Type 0 where
 
 -- where the lines so far end: in the events, in the counts of packets, in the answers, behind the
 -- cells, or behind it all
-pub data State : Type 0 where
-  Noting : List Note → State
-  Counting : List Note → List PairCount → State
-  Telling : List PairCount → Part → State
-  Closing : List PairCount → List Ended → Account → State
-  Over : Trace → State
+pub data Stage : Type 0 where
+  Noting : List Note → Stage
+  Counting : List Note → List PairCount → Stage
+  Telling : List PairCount → Part → Stage
+  Closing : List PairCount → List Ended → Account → Stage
+  Over : Trace → Stage
 
 -- before the first line
-abbrev pub start : State
+abbrev pub start : Stage
 start = Noting []
 
 -- the rank of the last of these notes, of which the first stands behind one of this rank
@@ -103,7 +103,7 @@ is_next rank [] = false
 is_next rank (note ∷ due) = note.rank == rank
 
 -- the line gives the answer of the next note
-abbrev pub with_given : List PairCount → List Ended → List Event → List Note → List ℕ → Option State
+abbrev pub with_given : List PairCount → List Ended → List Event → List Note → List ℕ → Option Stage
 with_given pairs ends events [] line = None
 with_given pairs ends events (note ∷ due) line =
     if is_due note.event.what
@@ -119,7 +119,7 @@ or_else None other = other
 -- The line behind the answers so far, where this many ranks are left: the next answer that is due, or
 -- that the rank waits, or a line of a later rank, or that of the cells.
 unfoldable pub telling : ℕ → List PairCount → List Ended → List Event → List Note → List ℕ
-    → Option State
+    → Option Stage
 telling zero pairs ends events due line =
     cells_of (words_of line) >>= λ cells. Some (Closing pairs ends cells)
 telling (suc left) pairs ends events due line =
@@ -131,20 +131,20 @@ telling (suc left) pairs ends events due line =
     (telling left pairs (ends ++ ended s.0 None ∷ []) [] s.1 line)
 
 -- the line behind the counts of packets, or one more of them
-unfoldable pub counting : ℕ → List Note → List PairCount → List ℕ → Option State
+unfoldable pub counting : ℕ → List Note → List PairCount → List ℕ → Option Stage
 counting ranks notes pairs line =
     or_else (pair_of (words_of line) >>= λ pair. Some (Counting notes (pairs ++ pair ∷ [])))
     (telling ranks pairs [] [] notes line)
 
 -- the line behind the events, or one more of them
-unfoldable pub noting : ℕ → List Note → List ℕ → Option State
+unfoldable pub noting : ℕ → List Note → List ℕ → Option Stage
 noting ranks notes line =
     or_else (next_note ranks (last_rank 0 notes) (words_of line) >>= λ note.
     Some (Noting (notes ++ note ∷ [])))
     (counting ranks notes [] line)
 
 -- what a line makes of a state; none, if no trace begins so
-unfoldable pub feed : ℕ → State → List ℕ → Option State
+unfoldable pub feed : ℕ → Stage → List ℕ → Option Stage
 feed ranks (Noting notes) line = noting ranks notes line
 feed ranks (Counting notes pairs) line = counting ranks notes pairs line
 feed ranks (Telling pairs part) line =
@@ -155,6 +155,6 @@ feed ranks (Closing pairs ends cells) line =
 feed ranks (Over trace) line = None
 
 -- what lines make of a state
-abbrev pub fed : ℕ → State → List (List ℕ) → Option State
+abbrev pub fed : ℕ → Stage → List (List ℕ) → Option Stage
 fed ranks state [] = Some state
 fed ranks state (line ∷ lines) = feed ranks state line >>= λ next. fed ranks next lines

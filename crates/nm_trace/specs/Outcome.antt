@@ -9,11 +9,11 @@ use Rattle.nm_trace.specs.declared.faults.TraceFault.{TraceFault}
 use Rattle.nm_trace.specs.declared.faults.TraceFault.TheVariants as fault
 use Rattle.nm_trace.specs.declared.notes.Note.{Note}
 use Rattle.nm_trace.specs.Lines.{cut_lines, first_line}
-use Rattle.nm_trace.specs.Machine.{Trace, State, Telling, Over, feed}
+use Rattle.nm_trace.specs.Machine.{Trace, Stage, Telling, Over, feed}
 use Rattle.nm_trace.specs.Steps.{◌>>=◌}
 
 -- where no line is left: the trace is told if nothing stands behind its last line
-abbrev pub at_end : State → List ℕ → ℕ → Result Trace ℕ
+abbrev pub at_end : Stage → List ℕ → ℕ → Result Trace ℕ
 at_end (Over trace) [] number = Ok trace
 at_end state behind number = Err number
 
@@ -23,13 +23,13 @@ or_stop number (Some x) next = next x
 or_stop number None next = Err number
 
 -- what lines tell, of which the first has this number, with the bytes behind the last one
-abbrev pub outcome : ℕ → State → List (List ℕ) → List ℕ → ℕ → Result Trace ℕ
+abbrev pub outcome : ℕ → Stage → List (List ℕ) → List ℕ → ℕ → Result Trace ℕ
 outcome ranks state [] behind number = at_end state behind number
 outcome ranks state (line ∷ lines) behind number =
     or_stop number (feed ranks state line) (λ next. outcome ranks next lines behind (number + 1))
 
 -- what a text tells, of which the first line has this number
-unfoldable pub told : ℕ → State → List ℕ → ℕ → Result Trace ℕ
+unfoldable pub told : ℕ → Stage → List ℕ → ℕ → Result Trace ℕ
 told ranks state bytes number =
     outcome ranks state (cut_lines bytes).0 (cut_lines bytes).1 number
 
@@ -48,11 +48,11 @@ pub record Place : Type 0 where
   pub fewer : length ends < ranks
 
 -- the state at this place, with these events of its rank, and these notes that are left
-abbrev pub tells : Place → List Event → List Note → State
+abbrev pub tells : Place → List Event → List Note → Stage
 tells p events due = Telling p.pairs (record { ends = p.ends; events = events; due = due })
 
 -- the state where the rank of this place is whole
-abbrev pub tells_next : Place → Ended → List Note → State
+abbrev pub tells_next : Place → Ended → List Note → Stage
 tells_next p rank due =
     Telling p.pairs (record { ends = p.ends ++ rank ∷ []; events = []; due = due })
 

@@ -8,7 +8,7 @@ use Rattle.nm_report.specs.Ends.{ends_of}
 use Rattle.nm_report.specs.Events.{event_line, pair_line}
 use Rattle.nm_report.specs.Report.{ran_line, waits_line, cells_line, end_line}
 use Rattle.nm_trace.specs.declared.notes.Note.{Note}
-use Rattle.nm_trace.specs.Machine.{Trace, State, Noting, Counting, Telling, Closing, Over}
+use Rattle.nm_trace.specs.Machine.{Trace, Stage, Noting, Counting, Telling, Closing, Over}
 use Rattle.nm_trace.specs.Notes.{NoteIn, note_line}
 
 -- the events of the ranks, of which the first has this number
@@ -36,7 +36,7 @@ closing_text pairs ends =
     events_from 0 ends ++ flat_map pair_line pairs ++ answers_from 0 ends
 
 -- the lines of a state
-abbrev pub state_text : State → List ℕ
+abbrev pub state_text : Stage → List ℕ
 state_text (Noting notes) = flat_map note_line notes
 state_text (Counting notes pairs) = flat_map note_line notes ++ flat_map pair_line pairs
 state_text (Telling pairs part) = telling_text pairs part.ends part.events part.due
@@ -50,7 +50,7 @@ InOrder low ranks (note ∷ notes) =
     (low ≤ note.rank) × (note.rank < ranks) × NoteIn note × InOrder note.rank ranks notes
 
 -- what holds of each state that is reached
-abbrev pub Right : ℕ → State → Type 0
+abbrev pub Right : ℕ → Stage → Type 0
 Right ranks (Noting notes) = InOrder 0 ranks notes
 Right ranks (Counting notes pairs) = InOrder 0 ranks notes
 Right ranks (Telling pairs part) =

@@ -7,7 +7,7 @@ ghost use Rattle.nm_trace.specs.Events.{withdraw_of, undone_of, claim_of, match_
 ghost use Rattle.nm_trace.specs.Events.{is_answer, lone_of, send_with, showing_of, told_as};
 ghost use Rattle.nm_trace.specs.Events.{ran_of, plain_of, told_of, note_of, pair_of};
 
-use crate::notes::{Note, Told};
+use crate::notes::{Note, Said};
 use crate::numbers::{huge, large, middle, small};
 use crate::sorts::{Sort, lone_answer, sort_from};
 use nm_history::{Event, Happened};
@@ -16,6 +16,7 @@ use nm_types::{Answer, Arrival, Bytes, Envelope, How, Peer, Post, Seen, TagPick}
 use nm_words::number_up_to;
 use std::alloc::Global;
 
+/// The source that a receive names.
 #[tactic(auto, unfolding(crate::specs::Events::peer_of))]
 fn peer_from(word: &[u8]) -> Option<Peer>
     ensures { result ≡ peer_of word.now }
@@ -27,6 +28,7 @@ fn peer_from(word: &[u8]) -> Option<Peer>
     Some(Peer::One(rank))
 }
 
+/// The tag that a receive names.
 #[tactic(auto, unfolding(crate::specs::Events::pick_of))]
 fn pick_from(word: &[u8]) -> Option<TagPick>
     ensures { result ≡ pick_of word.now }
@@ -38,6 +40,7 @@ fn pick_from(word: &[u8]) -> Option<TagPick>
     Some(TagPick::One(tag))
 }
 
+/// How a message is sent.
 #[tactic(auto, unfolding(crate::specs::Events::how_of))]
 fn how_from(word: &[u8]) -> Option<How>
     ensures { result ≡ how_of word.now }
@@ -51,6 +54,7 @@ fn how_from(word: &[u8]) -> Option<How>
     }
 }
 
+/// Whether something was done, or too late.
 #[tactic(auto, unfolding(crate::specs::Events::done_of))]
 fn done_from(word: &[u8]) -> Option<bool>
     ensures { result ≡ done_of word.now }
@@ -95,6 +99,7 @@ fn send_with(
     })
 }
 
+/// A send, by the words behind its name.
 #[tactic(auto, unfolding(crate::specs::Events::send_of))]
 fn send_from(words: &[&[u8]]) -> Option<Happened>
     ensures { result ≡ send_of (map (λ word. word.now) words.now) }
@@ -105,6 +110,7 @@ fn send_from(words: &[&[u8]]) -> Option<Happened>
     }
 }
 
+/// A receive that was posted, by the words behind its name.
 #[tactic(auto, unfolding(crate::specs::Events::post_of))]
 fn post_from(words: &[&[u8]]) -> Option<Happened>
     ensures { result ≡ post_of (map (λ word. word.now) words.now) }
@@ -132,6 +138,7 @@ fn post_from(words: &[&[u8]]) -> Option<Happened>
     }
 }
 
+/// An arrival, by the words behind its name.
 #[tactic(auto, unfolding(crate::specs::Events::arrive_of))]
 fn arrive_from(words: &[&[u8]]) -> Option<Happened>
     ensures { result ≡ arrive_of (map (λ word. word.now) words.now) }
@@ -161,6 +168,7 @@ fn arrive_from(words: &[&[u8]]) -> Option<Happened>
     }
 }
 
+/// A message that is whole, by the words behind its name.
 #[tactic(auto, unfolding(crate::specs::Events::whole_of))]
 fn whole_from(words: &[&[u8]]) -> Option<Happened>
     ensures { result ≡ whole_of (map (λ word. word.now) words.now) }
@@ -175,6 +183,7 @@ fn whole_from(words: &[&[u8]]) -> Option<Happened>
     }
 }
 
+/// A message that is out, by the words behind its name.
 #[tactic(auto, unfolding(crate::specs::Events::out_of))]
 fn out_from(words: &[&[u8]]) -> Option<Happened>
     ensures { result ≡ out_of (map (λ word. word.now) words.now) }
@@ -189,6 +198,7 @@ fn out_from(words: &[&[u8]]) -> Option<Happened>
     }
 }
 
+/// A cancel, by the words behind its name.
 #[tactic(auto, unfolding(crate::specs::Events::cancel_of))]
 fn cancel_from(words: &[&[u8]]) -> Option<Happened>
     ensures { result ≡ cancel_of (map (λ word. word.now) words.now) }
@@ -203,6 +213,7 @@ fn cancel_from(words: &[&[u8]]) -> Option<Happened>
     }
 }
 
+/// A recall, by the words behind its name.
 #[tactic(auto, unfolding(crate::specs::Events::recall_of))]
 fn recall_from(words: &[&[u8]]) -> Option<Happened>
     ensures { result ≡ recall_of (map (λ word. word.now) words.now) }
@@ -217,6 +228,7 @@ fn recall_from(words: &[&[u8]]) -> Option<Happened>
     }
 }
 
+/// A withdrawal, by the words behind its name.
 #[tactic(auto, unfolding(crate::specs::Events::withdraw_of))]
 fn withdraw_from(words: &[&[u8]]) -> Option<Happened>
     ensures { result ≡ withdraw_of (map (λ word. word.now) words.now) }
@@ -232,6 +244,7 @@ fn withdraw_from(words: &[&[u8]]) -> Option<Happened>
     }
 }
 
+/// What became of a recall, by the words behind its name.
 #[tactic(auto, unfolding(crate::specs::Events::undone_of))]
 fn undone_from(words: &[&[u8]]) -> Option<Happened>
     ensures { result ≡ undone_of (map (λ word. word.now) words.now) }
@@ -247,6 +260,7 @@ fn undone_from(words: &[&[u8]]) -> Option<Happened>
     }
 }
 
+/// A claim, by the words behind its name.
 #[tactic(auto, unfolding(crate::specs::Events::claim_of))]
 fn claim_from(words: &[&[u8]]) -> Option<Happened>
     ensures { result ≡ claim_of (map (λ word. word.now) words.now) }
@@ -262,6 +276,7 @@ fn claim_from(words: &[&[u8]]) -> Option<Happened>
     }
 }
 
+/// A receive of a claimed message, by the words behind its name.
 #[tactic(auto, unfolding(crate::specs::Events::match_of))]
 fn match_from(words: &[&[u8]]) -> Option<Happened>
     ensures { result ≡ match_of (map (λ word. word.now) words.now) }
@@ -285,6 +300,7 @@ fn match_from(words: &[&[u8]]) -> Option<Happened>
     }
 }
 
+/// An answer of one word, without bytes.
 #[tactic(auto, unfolding(crate::specs::Events::lone_of))]
 fn lone_from(word: &[u8]) -> Option<(Answer, u64)>
     ensures { result ≡ lone_of word.now }
@@ -335,8 +351,9 @@ fn answer_from(alloc: Global, words: &[&[u8]]) -> Option<(Answer, u64)>
     }
 }
 
+/// A command that ran, by the words behind its name.
 #[tactic(auto, unfolding(crate::specs::Events::ran_of))]
-fn ran_from(alloc: Global, words: &[&[u8]]) -> Option<Told>
+fn ran_from(alloc: Global, words: &[&[u8]]) -> Option<Said>
     ensures { result ≡ ran_of (map (λ word. word.now) words.now) }
 {
     match words {
@@ -344,7 +361,7 @@ fn ran_from(alloc: Global, words: &[&[u8]]) -> Option<Told>
             let line = large(line)?;
             let (answer, len) = answer_from(alloc, rest)?;
             let what = Happened::Ran { line, answer };
-            Some(Told { what, len })
+            Some(Said { what, len })
         }
         _ => None,
     }
@@ -371,25 +388,28 @@ fn plain_from(sort: Sort, words: &[&[u8]]) -> Option<Happened>
     }
 }
 
+/// Whether an event of this name is an answer.
 fn is_answer(sort: Sort) -> bool
     ensures { result ≡ is_answer sort }
 {
     matches!(sort, Sort::Ran)
 }
 
+/// What happened, by its name and the other words.
 #[tactic(auto, unfolding(crate::specs::Events::told_as))]
-fn told_as(alloc: Global, sort: Sort, words: &[&[u8]]) -> Option<Told>
+fn told_as(alloc: Global, sort: Sort, words: &[&[u8]]) -> Option<Said>
     ensures { result ≡ told_as sort (map (λ word. word.now) words.now) }
 {
     if is_answer(sort) {
         return ran_from(alloc, words);
     }
     let what = plain_from(sort, words)?;
-    Some(Told { what, len: 0 })
+    Some(Said { what, len: 0 })
 }
 
+/// What happened, by all its words.
 #[tactic(auto, unfolding(crate::specs::Events::told_of))]
-fn told_from(alloc: Global, name: &[u8], words: &[&[u8]]) -> Option<Told>
+fn told_from(alloc: Global, name: &[u8], words: &[&[u8]]) -> Option<Said>
     ensures { result ≡ told_of name.now (map (λ word. word.now) words.now) }
 {
     let sort = sort_from(name)?;
@@ -408,7 +428,7 @@ pub fn note_from(alloc: Global, words: &[&[u8]]) -> Option<Note>
             }
             let rank = small(rank)?;
             let stamp = huge(stamp)?;
-            let Told { what, len } = told_from(alloc, name, rest)?;
+            let Said { what, len } = told_from(alloc, name, rest)?;
             let event = Event { stamp, what };
             Some(Note { rank, event, len })
         }

@@ -6,8 +6,8 @@
 //! (`IsFirstBad`). Two records are the same where they are `SameRun` of `nm_report`: they differ at
 //! most in the room of their histories.
 //! # What is proved
-//! - A record that `read_trace` gives is one whose trace with its report is exactly these bytes; and
-//!   the bytes of such a record give this record, or want of memory.
+//! - A record that `read_trace` gives is one whose trace with its report is exactly these bytes;
+//!   and the bytes of such a record give this record, or want of memory.
 //! - A line that it names is the first bad one; and where there is a first bad line, it names this
 //!   line, or is in want of memory.
 //! # How it is proved

@@ -5,7 +5,7 @@ use nm_history::{Event, Happened};
 /// What happened, by its words. The bytes that an answer got are told later: here it has none, and
 /// `len` is how many they are.
 #[derive(Debug, Drop)]
-pub struct Told {
+pub struct Said {
     pub what: Happened,
     pub len: u64,
 }

@@ -9,30 +9,21 @@ use nm_words::number_up_to;
 pub fn small(word: &[u8]) -> Option<u8>
     ensures { result ≡ number_of (2 ^ 8) word.now }
 {
-    match number_up_to(word, 255) {
-        Some(n) => Some(n as u8),
-        None => None,
-    }
+    number_up_to(word, 255).map(|n| n as u8)
 }
 
 /// A tag.
 pub fn middle(word: &[u8]) -> Option<u16>
     ensures { result ≡ number_of (2 ^ 16) word.now }
 {
-    match number_up_to(word, 65535) {
-        Some(n) => Some(n as u16),
-        None => None,
-    }
+    number_up_to(word, 65535).map(|n| n as u16)
 }
 
 /// A line, or a length.
 pub fn large(word: &[u8]) -> Option<u32>
     ensures { result ≡ number_of (2 ^ 32) word.now }
 {
-    match number_up_to(word, 4294967295) {
-        Some(n) => Some(n as u32),
-        None => None,
-    }
+    number_up_to(word, 4294967295).map(|n| n as u32)
 }
 
 /// A stamp, or a count.

@@ -224,7 +224,8 @@ fn read_cells<'a>(alloc: Global, text: Text<'a>) -> Result<(Account, Text<'a>), 
 /// Whether every rank is at its end, by the last line, behind which nothing stands.
 fn read_end(text: Text) -> Result<bool, TraceFault>
     ensures told { IfOk result (λ done. (ranks : ℕ) (pairs : List PairCount) (ends : List Ended)
-        (cells : Account) → told ranks (Closing pairs ends cells) text.entry.rest.now text.entry.number
+        (cells : Account) →
+        told ranks (Closing pairs ends cells) text.entry.rest.now text.entry.number
         ≡ Ok (record { ends = ends; pairs = pairs; cells = cells; done = done })) }
     ensures stops { IfErr result (λ fault. (ranks : ℕ) (pairs : List PairCount) (ends : List Ended)
         (cells : Account) →
@@ -269,14 +270,14 @@ fn read_record(alloc: Global, bytes: &[u8], shape: Shape) -> Result<RunRecord, T
     })
 }
 
-/// The record whose trace the bytes are: the text that `nm_report::text` writes of it with its trace.
+/// The record whose trace the bytes are: the text that `nm_report::trace` writes of it.
 /// The record has this shape, an account for each of its ranks, and counts in each the answers that
 /// its events have. `bytes` are at most 64 MiB, 67,108,864 bytes.
 ///
 /// # Errors
 /// `Bad` names the first line, counted from 1, such that the lines up to it begin no trace of this
-/// shape, or the line behind the last one where the text ends too soon. A last line without its line
-/// feed begins no trace. `Memory` is want of memory, and says nothing of the bytes.
+/// shape, or the line behind the last one where the text ends too soon. A last line without its
+/// line feed begins no trace. `Memory` is want of memory, and says nothing of the bytes.
 pub fn read_trace(alloc: Global, bytes: &[u8], shape: Shape) -> Result<RunRecord, TraceFault>
     requires { length bytes.now ≤ 67108864 }
     ensures taken { IfOk result (λ run. IsTraceOf shape bytes.now run) }

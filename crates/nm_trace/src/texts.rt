@@ -180,6 +180,7 @@ fn cells_with(name: &[u8], total: &[u8], word: &[u8], home: &[u8]) -> Option<Acc
     Some(Account { total, home })
 }
 
+/// The account of the cells, by the words of a line.
 #[tactic(auto, unfolding(crate::specs::Machine::cells_of))]
 fn cells_from(words: &[&[u8]]) -> Option<Account>
     ensures { result ≡ cells_of (map (λ word. word.now) words.now) }

@@ -1,14 +1,16 @@
 -- Lines, split and joined.
-use Rattle.std.proofs.Common.{◌≡◌, ℕ, zero, suc, ◌+◌, ◌-◌, ◌<◌, ◌⊎◌, inl, inr, Bool, true, false}
-use Rattle.std.proofs.Common.{◌&&◌, List, [], ◌∷◌, ◌++◌, length, get_or, take, drop, cond, nat_lt}
+use Rattle.std.proofs.Common.{◌≡◌, ℕ, zero, suc, ◌+◌, ◌-◌, ◌<◌, ◌≤◌, ◌⊎◌, inl, inr, Bool, true, false}
+use Rattle.std.proofs.Common.{◌&&◌, List, [], ◌∷◌, ◌++◌, length, get_or, take, drop, cond, nat_lt, Some, None}
 use Rattle.std.proofs.Common.{refl, sym}
 use Rattle.std.proofs.Common.{ap, ◌∙◌, arith, eqb, leb, add-one, append_assoc, flat_map, length-append}
 use Rattle.std.proofs.Common.{length-drop}
-use Rattle.std.specs.List.{onto_first, list_all}
-use Rattle.std.proofs.lemmas.Bool.{and_parts, eq-eqb, ne_eqb, eqb-true, lt-ltb}
+use Rattle.std.specs.List.{onto_first, list_all, position, position_or_len}
+use Rattle.std.proofs.lemmas.Bool.{and_parts, false≢true, eq-eqb, ne_eqb, eqb-true, lt-ltb}
 use Rattle.std.proofs.lemmas.Bool.Decides.{nat_tests}
 use Rattle.std.proofs.lemmas.List.{take_all}
 use Rattle.std.proofs.lemmas.List.Folds.{list_all-append}
+use Rattle.std.proofs.lemmas.List.Quantifiers.{position-Some}
+use Rattle.std.proofs.lemmas.List.Sums.{fails_before_first}
 use Rattle.nm_words.specs.Lines.{is_fed, is_printable, lines_of, text_len}
 use Rattle.nm_words.proofs.StepLemmas.{chosen}
 
@@ -29,6 +31,31 @@ lines_last (b ∷ []) some none = rw (ne_eqb b 10 (λ e. none 0 (omega arith) e)
 lines_last (b ∷ c ∷ bs) some none =
     let rest = lines_last (c ∷ bs) (omega arith) (λ k h e. none (suc k) (omega arith) e) in
     rw (ne_eqb b 10 (λ e. none 0 (omega arith) e)) (rw rest refl)
+
+-- a byte that isn't a line feed
+no_feed : (b : ℕ) → eqb b 10 ≡ false → b ≡ 10 → ⊥
+no_feed b other here = false≢true (sym other ∙ eq-eqb b 10 here)
+
+-- the lines of bytes whose first line feed stands at a place
+pub lines_at : (bs : List ℕ) (i : ℕ) → position (λ b. eqb b 10) bs ≡ Some i
+    → lines_of bs ≡ take i bs ∷ lines_of (drop (i + 1) bs)
+lines_at bs i found =
+    let p = position-Some (λ b. eqb b 10) bs i 0 found in
+    lines_cut bs i p.0 (λ k before here. no_feed (get_or bs k 0) (p.2 k before) here)
+    (eqb-true (get_or bs i 0) 10 p.1)
+
+-- and of bytes that have none
+pub lines_whole : (bs : List ℕ) → 0 < length bs → position (λ b. eqb b 10) bs ≡ None
+    → lines_of bs ≡ bs ∷ []
+lines_whole bs some none =
+    let past = position_or_len (λ b. eqb b 10) bs in
+    elim (chosen (nat_lt past (length bs)) (Some past) None None none) [
+      | inl p ↦ cc (p.1)
+      | inr p ↦
+          let all : length bs ≤ past = grind (arith, nat_tests, p.0) in
+          lines_last bs some (λ k within here.
+          no_feed (get_or bs k 0) (fails_before_first (λ b. eqb b 10) bs k 0 (omega (arith, all, within))) here)
+    ]
 
 -- the range of the code is what is left
 pub rest_is : (n : ℕ) (bs : List ℕ) → take (length bs - n) (drop n bs) ≡ drop n bs

@@ -5,7 +5,7 @@ ghost use Rattle.std.specs.List.{list_all};
 ghost use Rattle.nm_words.specs.Digits.{is_lower_digit};
 
 /// `0` to `9`, or `a` to `f`.
-pub fn is_lower_digit(byte: u8) -> bool
+fn is_lower_digit(byte: u8) -> bool
     ensures { result ≡ is_lower_digit byte }
 {
     byte.is_ascii_digit() || (byte >= b'a' && byte <= b'f')

@@ -1,6 +1,6 @@
 //! Lines and their words.
 
-ghost use Rattle.std.specs.Prelude.{◌≡◌, ◌<◌, ◌∷◌, length, map, IfOk};
+ghost use Rattle.std.specs.Prelude.{◌≡◌, ◌<◌, ◌∷◌, ◌==◌, length, map, position, IfOk};
 ghost use Rattle.nm_words.specs.Lines.{is_fed, is_printable, lines_of, words_of};
 
 use std::alloc::{AllocError, Global};
@@ -9,10 +9,14 @@ use std::alloc::{AllocError, Global};
 pub fn is_fed(bytes: &[u8]) -> bool
     ensures { result ≡ is_fed bytes.now }
 {
-    match bytes {
-        [.., b'\n'] => true,
-        _ => false,
-    }
+    matches!(bytes, [.., b'\n'])
+}
+
+/// The place of the first line feed.
+fn first_feed(bytes: &[u8]) -> Option<usize>
+    ensures { result ≡ position (λ b. b == 10) bytes.now }
+{
+    bytes.iter().position(|byte| *byte == b'\n')
 }
 
 /// The first line of the bytes, and what stands after its line feed.
@@ -21,12 +25,10 @@ pub fn split_line(bytes: &[u8]) -> (&[u8], &[u8])
     ensures lines { lines_of bytes.now ≡ result.0.now ∷ lines_of result.1.now }
     ensures shorter { length result.1.now < length bytes.now }
 {
-    for (at, byte) in bytes.iter().enumerate() {
-        if *byte == b'\n' {
-            return (&bytes[..at], &bytes[at + 1..]);
-        }
+    match first_feed(bytes) {
+        Some(at) => (&bytes[..at], &bytes[at + 1..]),
+        None => (bytes, &bytes[bytes.len()..]),
     }
-    (bytes, &bytes[bytes.len()..])
 }
 
 /// No byte is a control character, or above ASCII.

@@ -7,7 +7,7 @@ use Rattle.nm_command_line.proofs.arguments.next_argument.Goals as goal
 
 pub returns-then-cells-eq0-clause-finds : goal.returns-then-cells-eq0-clause-finds
 returns-then-cells-eq0-clause-finds c (Cells cells) others (some, few, is) =
-    let p = c.in-Some.ensures.finds cells others few is in
+    let p = c.in-Some.ensures.finds cells others (omega (arith, few, c.from.ensures)) is in
     omega (arith, p.0, some, c.if-cells-eq0.true)
 returns-then-cells-eq0-clause-finds c (Eager eager) others (few, is) =
     one_option _ _ _ _ _ (c.in-Some.ensures.found.1) is
@@ -16,7 +16,7 @@ returns-then-cells-eq0-clause-finds c (Number n) others (few, is) =
 
 pub returns-in-Some-clause-finds : goal.returns-in-Some-clause-finds
 returns-in-Some-clause-finds c (Cells cells) others (some, few, is) =
-    let p = c.in-Some.ensures.finds cells others few is in
+    let p = c.in-Some.ensures.finds cells others (omega (arith, few, c.from.ensures)) is in
     (ap Cells p.0, p.1)
 returns-in-Some-clause-finds c (Eager eager) others (few, is) =
     absurd (one_option _ _ _ _ _ (c.in-Some.ensures.found.1) is)
@@ -34,7 +34,7 @@ returns-in-Some-option-clause-finds c (Number n) others (few, is) =
 
 pub returns-in_err-number-clause-finds : goal.returns-in_err-number-clause-finds
 returns-in_err-number-clause-finds c (Cells cells) others (some, few, is) =
-    absurd (c.in_default.ensures.finds cells others few is)
+    absurd (c.in_default.ensures.finds cells others (omega (arith, few, c.from.ensures)) is)
 returns-in_err-number-clause-finds c (Eager eager) others (few, is) =
     absurd (c.in_default-option.ensures.finds eager others few is)
 returns-in_err-number-clause-finds c (Number n) others (few, is) =
@@ -52,7 +52,7 @@ returns-clause-found c =
 
 pub returns-clause-finds : goal.returns-clause-finds
 returns-clause-finds c (Cells cells) others (some, few, is) =
-    absurd (c.in_default.ensures.finds cells others few is)
+    absurd (c.in_default.ensures.finds cells others (omega (arith, few, c.from.ensures)) is)
 returns-clause-finds c (Eager eager) others (few, is) =
     absurd (c.in_default-option.ensures.finds eager others few is)
 returns-clause-finds c (Number n) others (few, is) =

@@ -3,9 +3,9 @@ use Rattle.nm_report.specs.Report.{ran_line}
 use Rattle.nm_report.proofs.reports.push_answers.Given as goal
 
 -- what is written and what is still to write are all
-abbrev pub invariant-loop-k : goal.invariant-loop-k
-invariant-loop-k l =
+abbrev pub invariant-loop-event : goal.invariant-loop-event
+invariant-loop-event l =
     string_bytes l.out
-    ++ flat_map (λ event. ran_line l.rank event.what) (drop l.k l.account.history.events)
+    ++ flat_map (λ event. ran_line l.rank event.what) (drop l.event-index l.account.history.events)
     ≡ string_bytes l.fn.out
     ++ flat_map (λ event. ran_line l.rank event.what) l.account.history.events

@@ -1,4 +1,4 @@
--- Reading gives each script of its text.
+-- The text of a script spells it.
 use Rattle.nm_script.proofs.ReadLemmas.{written_is_read}
 use Rattle.nm_script.proofs.laws.written_is_read.Goals as goal
 

@@ -1,12 +1,11 @@
-use Rattle.std.proofs.Common.{arith}
+use Rattle.std.proofs.Common.{sym}
 use Rattle.std.proofs.Math.Seq.{drop-length}
-use Rattle.nm_words.proofs.LineLemmas.{lines_cut, lines_last, rest_is}
+use Rattle.nm_words.proofs.LineLemmas.{lines_at, lines_whole, rest_is}
 use Rattle.nm_words.proofs.lines.split_line.Goals as goal
 
-pub returns-then-byte-eq10-clause-lines : goal.returns-then-byte-eq10-clause-lines
-returns-then-byte-eq10-clause-lines c = rw rest_is
-    (lines_cut c.args.bytes.now c.loop-at.at (omega arith) c.loop-at.invariant c.if-byte-eq10.true)
+pub returns-in-Some-clause-lines : goal.returns-in-Some-clause-lines
+returns-in-Some-clause-lines c = rw rest_is (lines_at c.args.bytes.now c.in-Some.at (sym c.in-Some.ensures))
 
-pub returns-clause-lines : goal.returns-clause-lines
-returns-clause-lines c = rw (rest_is, drop-length)
-    (lines_last c.args.bytes.now (omega arith) (λ k h. c.loop-at.invariant k (omega arith)))
+pub returns-in-None-clause-lines : goal.returns-in-None-clause-lines
+returns-in-None-clause-lines c = rw (rest_is, drop-length)
+    (lines_whole c.args.bytes.now c.requires (sym c.in-None.ensures))
