@@ -1,10 +1,7 @@
 -- What the answer of a command does to the line that a name or a handle stands for.
-use Rattle.std.proofs.Common.{◌≡◌, ℕ, ◌==◌, ◌&&◌, Bool, false, cond, Option, Some, None, List, ◌∷◌, []}
-use Rattle.std.proofs.Common.{◌++◌, refl, sym, ◌∙◌, ap}
-use Rattle.std.specs.Prelude.{nat_eq}
+use Rattle.std.proofs.Common.{◌≡◌, ℕ, ◌==◌, ◌&&◌, Bool, false, cond, Option, Some, None, List}
+use Rattle.std.proofs.Common.{refl, sym, ◌∙◌, ap}
 use Rattle.std.specs.Option.{option_map_or}
-use Rattle.std.proofs.lemmas.List.Sums.{fold_push}
-use Rattle.indexmap.specs.IndexMap.{IndexMap, get}
 use Rattle.nm_types.specs.declared.answers.Answer.{Answer}
 use Rattle.nm_types.specs.declared.messages.Peer.{Peer}
 use Rattle.nm_types.specs.declared.messages.TagPick.{TagPick}
@@ -12,13 +9,11 @@ use Rattle.nm_types.specs.declared.scripts.Body.{Body}
 use Rattle.nm_types.specs.declared.scripts.Command.{Command}
 use Rattle.nm_types.specs.declared.scripts.Command.TheVariants as command
 use Rattle.nm_types.specs.Commands.{Numbered}
-use Rattle.nm_history.specs.declared.events.Event.{Event}
 use Rattle.nm_history.specs.declared.events.Happened.{Happened}
 use Rattle.nm_history.specs.declared.events.Happened.TheVariants.{Ran}
-use Rattle.nm_history.specs.Answers.{claim_line_after, is_claim_for, is_question_of, is_receive_of, is_start_of}
+use Rattle.nm_history.specs.Answers.{is_claim_for, is_question_of, is_receive_of, is_start_of}
 use Rattle.nm_history.specs.Answers.{line_after}
-use Rattle.nm_history.proofs.AnswerLemmas.{line-push}
-use Rattle.nm_asked.specs.Asked.{AreHandles, AreNames, changed}
+use Rattle.nm_asked.specs.Asked.{changed}
 use Rattle.nm_asked.specs.declared.requests.Change.{Change}
 
 module _ (starts asks : ℕ → Command → Bool) (begun ended : Answer → Bool) where
@@ -97,26 +92,3 @@ pub no_answer : (commands : List Numbered) (q : ℕ) (was : Option ℕ) (what : 
     ((line : ℕ) (answer : Answer) → what ≡ Ran line answer → ⊥) → line_after commands q was what ≡ was
 no_answer commands q was (Ran line answer) not = absurd (not line answer refl)
 no_answer commands q was what not = refl
-
-pub no_answer_claims : (commands : List Numbered) (m : ℕ) (was : Option ℕ) (what : Happened) →
-    ((line : ℕ) (answer : Answer) → what ≡ Ran line answer → ⊥) → claim_line_after commands m was what ≡ was
-no_answer_claims commands m was (Ran line answer) not = absurd (not line answer refl)
-no_answer_claims commands m was what not = refl
-
--- the names after one event more
-pub names_after : {S : Type 0} (commands : List Numbered) (before : List Event) (e : Event) (old new : IndexMap ℕ ℕ S) →
-    AreNames commands before old →
-    ((q : ℕ) → get nat_eq new q ≡ line_after commands q (get nat_eq old q) e.what) →
-    AreNames commands (before ++ e ∷ []) new
-names_after commands before e old new named changes q =
-    changes q ∙ ap (λ (o : Option ℕ). line_after commands q o e.what) (named q) ∙ sym (line-push commands before e q)
-
--- the handles after one event more
-pub handles_after : {S : Type 0} (commands : List Numbered) (before : List Event) (e : Event)
-    (old new : IndexMap ℕ ℕ S) →
-    AreHandles commands before old →
-    ((m : ℕ) → get nat_eq new m ≡ claim_line_after commands m (get nat_eq old m) e.what) →
-    AreHandles commands (before ++ e ∷ []) new
-handles_after commands before e old new held changes m =
-    changes m ∙ ap (λ (o : Option ℕ). claim_line_after commands m o e.what) (held m)
-    ∙ sym (fold_push (λ line e. claim_line_after commands m line e.what) None before e)

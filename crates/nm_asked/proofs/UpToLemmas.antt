@@ -1,6 +1,6 @@
 -- What is said of each place of a history, one event after another.
 use Rattle.std.proofs.Common.{◌≡◌, ◌⊎◌, inl, inr, ◌++◌, length-append, ℕ, ◌+◌, ◌<◌, ◌≤◌, Option, Some}
-use Rattle.std.proofs.Common.{List, [], ◌∷◌, length, get_or, refl, sym, subst, arith}
+use Rattle.std.proofs.Common.{List, [], ◌∷◌, length, get_or, sym, subst, arith}
 use Rattle.std.specs.Prelude.{IsSomeAnd}
 use Rattle.std.specs.List.{slice_get}
 use Rattle.std.proofs.lemmas.Bool.{cases_lt}
@@ -17,9 +17,6 @@ module _ {X Y : Type 0} (P : ℕ → X → Y → Type 0) (xs : List X) where
   UpTo k ys =
       (length ys ≡ k)
       × ((t : ℕ) (x : X) → t < k → slice_get xs t ≡ Some x → IsSomeAnd (slice_get ys t) (P t x))
-
-  pub up_to_none : UpTo 0 []
-  up_to_none = (refl, λ t x low here. absurd (omega (arith, low)))
 
   -- .. and at this one
   pub up_to_next : (k : ℕ) (x : X) (ys : List Y) (y : Y) → slice_get xs k ≡ Some x → P k x y → UpTo k ys →

@@ -1,6 +1,5 @@
 //! What each command of a history asks for: the live request of its name and the live message of
-//! its
-//! handle, before its answer.
+//! its handle, before its answer.
 
 ghost use Rattle.std.specs.Prelude.{◌≡◌, ℕ, IfOk, OnOk, List, Option, Some, [], ◌∷◌, ◌++◌};
 ghost use Rattle.std.specs.Prelude.{option_and_then, option_map, slice_get, take};

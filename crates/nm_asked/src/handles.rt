@@ -28,10 +28,7 @@ use std::alloc::Global;
 pub fn is_seen(answer: &Answer) -> bool
     ensures { result ≡ is_seen_lem answer.now }
 {
-    match answer {
-        Answer::Seen(_) => true,
-        _ => false,
-    }
+    matches!(answer, Answer::Seen(_))
 }
 
 /// The message that an event claims.
@@ -51,10 +48,7 @@ fn message_there(events: &[Event], place: usize) -> Option<Message>
         IsTrue (is_claim_at line e.what) →
         option_map message_meant result ≡ message_claimed line e.what }
 {
-    if place >= events.len() {
-        return None;
-    }
-    message_taken(&events[place].what)
+    message_taken(&events.get(place)?.what)
 }
 
 /// The message that the command of a line claimed before a place.

@@ -45,10 +45,7 @@ fn request_there(events: &[Event], place: usize) -> Option<Request>
     ensures { (line : ℕ) (e : event.Event) → slice_get events.now place ≡ Some e →
         IsTrue (is_start_at line e.what) → option_map meant_by result ≡ request_of line e.what }
 {
-    if place >= events.len() {
-        return None;
-    }
-    request_made(&events[place].what)
+    request_made(&events.get(place)?.what)
 }
 
 /// The request that the start of a line made before a place.
@@ -83,12 +80,10 @@ pub enum Change {
 pub fn is_started(answer: &Answer) -> bool
     ensures { result ≡ is_started_lem answer.now }
 {
-    match answer {
-        Answer::Started => true,
-        _ => false,
-    }
+    matches!(answer, Answer::Started)
 }
 
+/// Whether a wait or a test ended its request.
 fn is_result(answer: &Answer) -> bool
     ensures { result ≡ is_result_lem answer.now }
 {
@@ -115,6 +110,7 @@ pub fn change_of_name(command: &Command, answer: &Answer) -> Change
     }
 }
 
+/// The change that makes the name stand for this line, if it is so.
 pub(crate) fn begins(q: u16, so: bool) -> Change
     ensures { (name line : ℕ) (was : Option ℕ) → changed name line was result
         ≡ (if q == name && so then Some line else was) }
@@ -122,6 +118,7 @@ pub(crate) fn begins(q: u16, so: bool) -> Change
     if so { Change::Begins(q) } else { Change::Keeps }
 }
 
+/// The change after which the name stands for no line, if it is so.
 pub(crate) fn ends(q: u16, so: bool) -> Change
     ensures { (name line : ℕ) (was : Option ℕ) → changed name line was result
         ≡ (if q == name && so then None else was) }

@@ -20,9 +20,11 @@ pub trait Called {
 /// The events of one kind since the last answer.
 #[derive(Clone, Copy, Debug, PartialEq, Eq)]
 pub enum Since {
+    /// There is none.
     Nothing,
     /// The one at this place.
     One(usize),
+    /// There are two or more.
     More,
 }
 
@@ -60,9 +62,6 @@ impl Since {
             IsSince p h k self →
             Decides result (of_kind p (take k h) ≡ []) }
     {
-        match self {
-            Since::Nothing => true,
-            _ => false,
-        }
+        matches!(self, Since::Nothing)
     }
 }

@@ -43,7 +43,8 @@ fn judge_pairs(
     requires tabled { EachTabled lines.now (ends_of ranks.now) tables.now }
     ensures { IfOk result (λ found. MatchOption found
         (EachPair (PairDelivered lines.now) (ends_of ranks.now))
-        (λ pair. BreaksPair lines.now (ends_of ranks.now) pair.from pair.broken.to pair.broken.clause)) }
+        (λ pair. BreaksPair lines.now (ends_of ranks.now) pair.from pair.broken.to
+        pair.broken.clause)) }
 {
     let marks = marks_of(alloc, lines, ranks, tables)?;
     Ok(first_pair(&marks))
@@ -60,7 +61,8 @@ fn judge_rest(
     requires tabled { EachTabled lines.now (ends_of ranks.now) tables.now }
     ensures { MatchOption result
         (AreQuiescent lines.now (ends_of ranks.now) (packets_of pairs.now))
-        (IsFirstBroken (KeepsRest lines.now (ends_of ranks.now) (packets_of pairs.now)) rest_order) }
+        (IsFirstBroken
+        (KeepsRest lines.now (ends_of ranks.now) (packets_of pairs.now)) rest_order) }
 {
     let arrived = has_all_arrived(tables);
     let eager = are_eager_over(ranks, tables);
@@ -86,8 +88,8 @@ fn judge_ends(run: &RunRecord) -> Verdict
     Verdict::Holds
 }
 
-/// Judges whether a record is of a run of a script: it holds exactly where it is, else the verdict is
-/// the first rule that is broken, rank by rank, then pair by pair, then of all ranks.
+/// Judges whether a record is of a run of a script: it holds exactly where it is, else the verdict
+/// is the first rule that is broken, rank by rank, then pair by pair, then of all ranks.
 pub fn judge(alloc: Global, script: &Script, run: &RunRecord) -> Result<Verdict, Memory>
     requires equal { run.now.shape.ranks ≡ script.now.ranks }
     requires whole { length run.now.ranks ≡ run.now.shape.ranks }

@@ -11,7 +11,8 @@ use nm_report::RankAccount;
 use nm_types::{Line, Memory, Shape};
 use std::alloc::Global;
 
-/// All ranks run their own commands, and what is looked up of them; or the first rule that is broken.
+/// All ranks run their own commands, and what is looked up of them; or the first rule that is
+/// broken.
 #[derive(Drop)]
 pub(crate) enum Ranked {
     Run(Vec<Tables>),

@@ -6,7 +6,8 @@ ghost use Rattle.nm_types.specs.Commands.{commands_of};
 ghost use Rattle.nm_history.specs.declared.events.Event as event;
 ghost use Rattle.nm_history.specs.Delivery.{AreDelivered};
 ghost use Rattle.nm_history.specs.Quiescence.{EachPair, EachRank, Ended};
-ghost use Rattle.nm_check_between.specs.Marked.{AreMarks, BreaksFirst, BreaksPair, EachMarked, history_of};
+ghost use Rattle.nm_check_between.specs.Marked.{AreMarks, BreaksFirst, BreaksPair, EachMarked};
+ghost use Rattle.nm_check_between.specs.Marked.{history_of};
 ghost use Rattle.nm_check_rank.specs.FirstBroken.{IsFirstBroken};
 ghost use Rattle.nm_check_between.specs.CarriedClauses.{KeepsCarried, PairDelivered, carried_order};
 
@@ -19,7 +20,8 @@ pub fn first_between(i: u8, j: u8, sender: &Marks, receiver: &Marks) -> Option<C
         history_of ranks i ≡ hi → history_of ranks j ≡ hj →
         AreMarks lines ranks i hi sender.now → AreMarks lines ranks j hj receiver.now →
         MatchOption result (AreDelivered i j (commands_of i lines) (commands_of j lines) hi hj)
-        (IsFirstBroken (KeepsCarried i j (commands_of i lines) (commands_of j lines) hi hj) carried_order) }
+        (IsFirstBroken
+        (KeepsCarried i j (commands_of i lines) (commands_of j lines) hi hj) carried_order) }
 {
     let messages = receiver.arrivals[i as usize];
     if messages {
@@ -55,7 +57,8 @@ pub struct Broken {
 pub fn first_from(i: u8, sender: &Marks, marks: &[Marks]) -> Option<Broken>
     requires { length marks.now ≤ 256 }
     ensures { (lines : List script_line.Line) (ranks : List Ended) (hi : List event.Event) →
-        history_of ranks i ≡ hi → AreMarks lines ranks i hi sender.now → EachMarked lines ranks marks.now →
+        history_of ranks i ≡ hi → AreMarks lines ranks i hi sender.now →
+        EachMarked lines ranks marks.now →
         MatchOption result (EachRank (λ j rank. PairDelivered lines i j hi rank.events) ranks)
         (λ broken. BreaksFirst lines ranks i hi broken.to broken.clause) }
 {
@@ -77,11 +80,12 @@ pub struct BrokenPair {
     pub broken: Broken,
 }
 
-/// The first pair of ranks, by sender and then receiver, between which a rule is broken, with the first
-/// such rule.
+/// The first pair of ranks, by sender and then receiver, between which a rule is broken, with the
+/// first such rule.
 pub fn first_pair(marks: &[Marks]) -> Option<BrokenPair>
     requires { length marks.now ≤ 256 }
-    ensures { (lines : List script_line.Line) (ranks : List Ended) → EachMarked lines ranks marks.now →
+    ensures { (lines : List script_line.Line) (ranks : List Ended) →
+        EachMarked lines ranks marks.now →
         MatchOption result (EachPair (PairDelivered lines) ranks)
         (λ pair. BreaksPair lines ranks pair.from pair.broken.to pair.broken.clause) }
 {

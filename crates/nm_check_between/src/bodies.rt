@@ -66,7 +66,7 @@ fn are_sent_by(bytes: &[u8], command: &Command) -> bool
     }
 }
 
-/// Whether they are those that the command of a rank's line sends.
+/// Whether bytes are those that the command of a rank's line sends.
 fn are_of_line(i: u8, lines: &[Line], line: u32, bytes: &[u8]) -> bool
     ensures { Decides result (IsSomeAnd (command_at (commands_of i lines.now) line)
         (λ c. bytes.now ≡ sent_bytes c)) }
@@ -80,7 +80,8 @@ fn are_of_line(i: u8, lines: &[Line], line: u32, bytes: &[u8]) -> bool
 /// Whether an event is a send of these bytes.
 fn is_send_with(i: u8, lines: &[Line], e: &Event, bytes: &[u8]) -> bool
     ensures { Decides result (IsSomeAnd (sent_of e.now.stamp e.now.what)
-        (λ s. IsSomeAnd (command_at (commands_of i lines.now) s.line) (λ c. bytes.now ≡ sent_bytes c))) }
+        (λ s. IsSomeAnd (command_at (commands_of i lines.now) s.line)
+        (λ c. bytes.now ≡ sent_bytes c))) }
 {
     match &e.what {
         Happened::Send { line, .. } => are_of_line(i, lines, *line, bytes),
@@ -88,11 +89,12 @@ fn is_send_with(i: u8, lines: &[Line], e: &Event, bytes: &[u8]) -> bool
     }
 }
 
-/// Whether the event at a place is one.
+/// Whether the event at a place is a send of these bytes.
 fn is_sent_at(i: u8, lines: &[Line], events: &[Event], place: usize, bytes: &[u8]) -> bool
     ensures { (e : event.Event) → slice_get events.now place ≡ Some e →
         Decides result (IsSomeAnd (sent_of e.stamp e.what)
-        (λ s. IsSomeAnd (command_at (commands_of i lines.now) s.line) (λ c. bytes.now ≡ sent_bytes c))) }
+        (λ s. IsSomeAnd (command_at (commands_of i lines.now) s.line)
+        (λ c. bytes.now ≡ sent_bytes c))) }
 {
     if place >= events.len() {
         return false;
@@ -113,7 +115,8 @@ fn were_sent(
     requires lawful { EachRank KeepsLocal (ends_of ranks.now) }
     requires tabled { AreTabled (ends_of ranks.now) tables.now }
     ensures { Decides result (IsSomeAnd (slice_get (sends (history_of (ends_of ranks.now) i) j) n)
-        (λ s. IsSomeAnd (command_at (commands_of i lines.now) s.line) (λ c. bytes.now ≡ sent_bytes c))) }
+        (λ s. IsSomeAnd (command_at (commands_of i lines.now) s.line)
+        (λ c. bytes.now ≡ sent_bytes c))) }
 {
     let k = i as usize;
     let count = ranks.len();
@@ -179,7 +182,8 @@ fn sender_not_shown(
 ) -> Option<u8>
     requires lawful { EachRank KeepsLocal (ends_of ranks.now) }
     requires tabled { AreTabled (ends_of ranks.now) tables.now }
-    ensures { (h : List event.Event) → AreTables j lines.now h own.now → slice_get h k ≡ Some e.now →
+    ensures { (h : List event.Event) → AreTables j lines.now h own.now →
+        slice_get h k ≡ Some e.now →
         Names (λ i. BodyAt i (commands_of i lines.now) (sends (history_of (ends_of ranks.now) i) j)
         (commands_of j lines.now) (take k h) e.now.what) result }
 {

@@ -15,7 +15,7 @@ pub fn is_asked(how: How) -> bool
     }
 }
 
-/// Whether it is sent at once.
+/// Whether a message is sent at once.
 pub fn is_eager(how: How) -> bool
     ensures { result ≡ not (is_ask how) }
 {

@@ -1,6 +1,7 @@
 //! The ranks with which each history breaks a rule on messages.
 
-ghost use Rattle.std.specs.Prelude.{◌≡◌, ◌<◌, ◌&&◌, if◌then◌else◌, ℕ, List, Some, None, slice_get, take, IsSomeAnd, IsTrue};
+ghost use Rattle.std.specs.Prelude.{◌≡◌, ◌<◌, ◌&&◌, if◌then◌else◌, ℕ, List, Some, None, slice_get};
+ghost use Rattle.std.specs.Prelude.{take, IsSomeAnd, IsTrue};
 ghost use Rattle.std.specs.Bool.{OnTrue};
 ghost use Rattle.nm_history.specs.declared.events.Event as event;
 ghost use Rattle.nm_history.specs.Completion.{is_taken};
@@ -29,8 +30,8 @@ use nm_types::{Arrival, How};
 /// How many ranks a number of 8 bits can name.
 pub const NAMES: usize = 256;
 
-/// The ranks with which a rank's history breaks each rule of the messages between two ranks: those of
-/// the messages that come to it, and those of the messages that it sends.
+/// The ranks with which a rank's history breaks each rule of the messages between two ranks: those
+/// of the messages that come to it, and those of the messages that it sends.
 #[derive(Drop)]
 pub struct Marks {
     pub arrivals: [bool; NAMES],
@@ -134,7 +135,8 @@ fn sender_not_followed(j: u8, e: &Event, ranks: &[RankAccount], tables: &[Tables
     requires lawful { EachRank KeepsLocal (ends_of ranks.now) }
     requires tabled { AreTabled (ends_of ranks.now) tables.now }
     ensures { (n : ℕ) (before : List event.Event) → NumberAt n before e.now.what →
-        Names (λ i. ArrivesNext i j (history_of (ends_of ranks.now) i) before e.now.stamp e.now.what) result }
+        Names (λ i. ArrivesNext i j (history_of (ends_of ranks.now) i)
+        before e.now.stamp e.now.what) result }
 {
     match &e.what {
         Happened::Arrive { a } => {
@@ -176,7 +178,8 @@ fn receiver_not_asked(
     requires lawful { EachRank KeepsLocal (ends_of ranks.now) }
     requires tabled { AreTabled (ends_of ranks.now) tables.now }
     ensures { (h : List event.Event) → ArePlaces h sent.now →
-        Names (λ j. OutAfterPair i j (history_of (ends_of ranks.now) j) (take k h) e.now.stamp e.now.what) result }
+        Names (λ j. OutAfterPair i j (history_of (ends_of ranks.now) j)
+        (take k h) e.now.stamp e.now.what) result }
 {
     match &e.what {
         Happened::Out { to, n } => {
@@ -192,7 +195,8 @@ fn receiver_not_asked(
 fn was_recalled(i: u8, j: u8, n: u64, stamp: u64, ranks: &[RankAccount], tables: &[Tables]) -> bool
     requires lawful { EachRank KeepsLocal (ends_of ranks.now) }
     requires tabled { AreTabled (ends_of ranks.now) tables.now }
-    ensures { result ≡ happened (is_recall j n) (earlier_than stamp (history_of (ends_of ranks.now) i)) }
+    ensures { result ≡ happened (is_recall j n)
+        (earlier_than stamp (history_of (ends_of ranks.now) i)) }
 {
     let k = i as usize;
     let count = ranks.len();
@@ -207,7 +211,8 @@ fn was_recalled(i: u8, j: u8, n: u64, stamp: u64, ranks: &[RankAccount], tables:
 fn sender_not_recalling(j: u8, e: &Event, ranks: &[RankAccount], tables: &[Tables]) -> Option<u8>
     requires lawful { EachRank KeepsLocal (ends_of ranks.now) }
     requires tabled { AreTabled (ends_of ranks.now) tables.now }
-    ensures { Names (λ i. WithdrawAfterRecall i j (history_of (ends_of ranks.now) i) e.now.stamp e.now.what) result }
+    ensures { Names (λ i. WithdrawAfterRecall i j
+        (history_of (ends_of ranks.now) i) e.now.stamp e.now.what) result }
 {
     match &e.what {
         Happened::Withdraw { from, n, .. } => {
@@ -229,7 +234,8 @@ fn was_withdrawn(
 ) -> bool
     requires lawful { EachRank KeepsLocal (ends_of ranks.now) }
     requires tabled { AreTabled (ends_of ranks.now) tables.now }
-    ensures { result ≡ happened (is_withdraw i n done) (earlier_than stamp (history_of (ends_of ranks.now) j)) }
+    ensures { result ≡ happened (is_withdraw i n done)
+        (earlier_than stamp (history_of (ends_of ranks.now) j)) }
 {
     let k = j as usize;
     let count = ranks.len();
@@ -249,7 +255,8 @@ fn was_withdrawn(
 fn receiver_not_telling(i: u8, e: &Event, ranks: &[RankAccount], tables: &[Tables]) -> Option<u8>
     requires lawful { EachRank KeepsLocal (ends_of ranks.now) }
     requires tabled { AreTabled (ends_of ranks.now) tables.now }
-    ensures { Names (λ j. UndoneAfterWithdraw i j (history_of (ends_of ranks.now) j) e.now.stamp e.now.what) result }
+    ensures { Names (λ j. UndoneAfterWithdraw i j
+        (history_of (ends_of ranks.now) j) e.now.stamp e.now.what) result }
 {
     match &e.what {
         Happened::Undone { to, n, done } => {
@@ -272,7 +279,8 @@ pub(crate) fn mark_arrivals(
     requires own { (n : ℕ) × Always (NumberAt n) events.now }
     requires lawful { EachRank KeepsLocal (ends_of ranks.now) }
     requires tabled { AreTabled (ends_of ranks.now) tables.now }
-    ensures { AreMarked (λ i before e. ArrivesNext i j (history_of (ends_of ranks.now) i) before e.stamp e.what)
+    ensures { AreMarked (λ i before e. ArrivesNext i j
+        (history_of (ends_of ranks.now) i) before e.stamp e.what)
         events.now result }
 {
     let mut marks = [false; NAMES];
@@ -295,7 +303,8 @@ pub(crate) fn mark_outs(
     requires placed { ArePlaces events.now sent.now }
     requires lawful { EachRank KeepsLocal (ends_of ranks.now) }
     requires tabled { AreTabled (ends_of ranks.now) tables.now }
-    ensures { AreMarked (λ j before e. OutAfterPair i j (history_of (ends_of ranks.now) j) before e.stamp e.what)
+    ensures { AreMarked (λ j before e. OutAfterPair i j
+        (history_of (ends_of ranks.now) j) before e.stamp e.what)
         events.now result }
 {
     let mut marks = [false; NAMES];
@@ -316,7 +325,8 @@ pub(crate) fn mark_withdrawals(
 ) -> [bool; NAMES]
     requires lawful { EachRank KeepsLocal (ends_of ranks.now) }
     requires tabled { AreTabled (ends_of ranks.now) tables.now }
-    ensures { AreMarked (λ i before e. WithdrawAfterRecall i j (history_of (ends_of ranks.now) i) e.stamp e.what)
+    ensures { AreMarked (λ i before e. WithdrawAfterRecall i j
+        (history_of (ends_of ranks.now) i) e.stamp e.what)
         events.now result }
 {
     let mut marks = [false; NAMES];
@@ -337,7 +347,8 @@ pub(crate) fn mark_answers(
 ) -> [bool; NAMES]
     requires lawful { EachRank KeepsLocal (ends_of ranks.now) }
     requires tabled { AreTabled (ends_of ranks.now) tables.now }
-    ensures { AreMarked (λ j before e. UndoneAfterWithdraw i j (history_of (ends_of ranks.now) j) e.stamp e.what)
+    ensures { AreMarked (λ j before e. UndoneAfterWithdraw i j
+        (history_of (ends_of ranks.now) j) e.stamp e.what)
         events.now result }
 {
     let mut marks = [false; NAMES];

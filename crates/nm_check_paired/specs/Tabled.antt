@@ -23,9 +23,8 @@ pub record AreTables (rank : ℕ) (lines : List Line) (h : List Event) (tables :
   pub tells : Tells rank lines h tables.pairing
   pub asked : IsAskedOf (commands_of rank lines) h tables.asked
 
--- The verdict on a rank's own run: its tables where it is a run of the rank's first commands,
--- else the
--- first of its rules that is broken.
+-- The verdict on a rank's own run: its tables where it is a run of the rank's first commands, else
+-- the first of its rules that is broken.
 abbrev pub IsJudged : Sizes → ℕ → List Line → ℕ → List Event → Judged → Type 0
 IsJudged shape rank lines at h (Runs tables) =
     IsRankRun shape (commands_of rank lines) at h × AreTables rank lines h tables

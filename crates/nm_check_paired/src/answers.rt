@@ -29,9 +29,8 @@ use nm_history::{Event, Happened};
 use nm_places::firsts::Message;
 use nm_types::{Answer, Arrival, Command, Line};
 
-/// The answer that a command has by what was found: the live request of its name, the live
-/// message of
-/// its handle, what it claimed, and the first free message that it selects.
+/// The answer that a command has by what was found: the live request of its name, the live message
+/// of its handle, what it claimed, and the first free message that it selects.
 fn answer_by(
     tables: &Tables,
     command: &Command,

@@ -158,8 +158,7 @@ fn is_canceller(command: &Command) -> bool
 }
 
 /// Whether the cancels since the last answer are those of the command of a line, which has its
-/// answer
-/// at a place.
+/// answer at a place.
 fn are_of_command(
     rank: u8,
     lines: &[Line],
@@ -237,8 +236,7 @@ fn is_cancel_right(
 }
 
 /// Whether each cancel of a live request has its event, a receive is cancelled where it is not
-/// paired
-/// and a send recalled once, and there are no others.
+/// paired and a send recalled once, and there are no others.
 pub fn cancels_hold(rank: u8, lines: &[Line], events: &[Event], tables: &Tables) -> bool
     requires { AreTables rank lines.now events.now tables.now }
     ensures { Decides result (CancelsHold (commands_of rank lines.now) events.now) }

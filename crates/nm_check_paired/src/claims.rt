@@ -91,8 +91,7 @@ fn is_called_line(claimed: Option<u32>, line: u32, called: bool) -> bool
 }
 
 /// Whether the claims since the last answer are the one of this line, or there is none where none
-/// is
-/// called for.
+/// is called for.
 fn are_claimed(since: Since, events: &[Event], line: u32, called: bool) -> bool
     ensures { (k : ℕ) → IsSince is_claiming events.now k since →
         Decides result
@@ -153,8 +152,7 @@ fn is_claim_right(
 }
 
 /// Whether each matched probe that showed a message has its one claim, of the first free message
-/// that
-/// it selects, and there are no others.
+/// that it selects, and there are no others.
 pub fn claims_hold(rank: u8, lines: &[Line], events: &[Event], pairing: &Pairing) -> bool
     requires { Tells rank lines.now events.now pairing.now }
     ensures { Decides result (Claims (commands_of rank lines.now) events.now) }

@@ -260,8 +260,7 @@ fn are_of_start(
 }
 
 /// Whether the sends and receives since the last answer are those of the command of a line, which
-/// has
-/// its answer at a place.
+/// has its answer at a place.
 fn are_of_command(
     rank: u8,
     lines: &[Line],

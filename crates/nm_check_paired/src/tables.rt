@@ -21,9 +21,8 @@ use nm_places::places::Places;
 use nm_types::{Command, Line, Memory};
 use std::alloc::Global;
 
-/// What is looked up of a rank: how many messages there were, where each thing happened first,
-/// what was
-/// paired with what, and what each command asks for.
+/// What is looked up of a rank: how many messages there were, where each thing happened first, what
+/// was paired with what, and what each command asks for.
 #[derive(Drop)]
 pub struct Tables {
     pub counts: Counts,

@@ -1,6 +1,6 @@
 -- The rules of single events, by what happened before.
 use mathlib.Core.Bool.{beq}
-use Rattle.std.proofs.Common.{◌≡◌, ℕ, Bool, true, false, not, ◌==◌, ◌&&◌, ◌||◌, List, length, take, refl, sym, ◌∙◌}
+use Rattle.std.proofs.Common.{◌≡◌, ℕ, Bool, true, false, not, ◌&&◌, ◌||◌, List, length, take, refl, sym, ◌∙◌}
 use Rattle.std.proofs.Common.{ap, subst, arith}
 use Rattle.std.proofs.lemmas.Bool.{false≢true}
 use Rattle.std.proofs.lemmas.List.{take_all}
@@ -13,7 +13,6 @@ use Rattle.nm_history.specs.Happens.{happened, is_send, is_arrival, is_whole, is
 use Rattle.nm_history.specs.Happens.{is_undone, is_claim}
 use Rattle.nm_history.specs.Matching.{is_free_message}
 use Rattle.nm_history.specs.Completion.{is_taken}
-use Rattle.nm_history.specs.Delivery.{UndoneAfterWithdraw, WithdrawAfterRecall, earlier_than}
 use Rattle.nm_history.specs.Quiescence.{IsAnswered}
 use Rattle.nm_history.specs.RankRun.{EndAt, WholeAt, is_asking}
 use Rattle.nm_places.specs.Deciding.{Decides}
@@ -110,27 +109,3 @@ same_decided true true = refl
 same_decided false false = refl
 same_decided true false = λ same. false≢true (sym same)
 same_decided false true = λ same. false≢true same
-
--- a withdrawal, by whether its recall is earlier
-pub withdrawn_at : (i j : ℕ) (hi : List Event) (stamp from n : ℕ) (done earlier r : Bool) →
-    earlier ≡ happened (is_recall j n) (earlier_than stamp hi) → Decides r (OnTrue (from == i) (IsTrue earlier)) →
-    Decides r (WithdrawAfterRecall i j hi stamp (happening.Withdraw from n done))
-withdrawn_at i j hi stamp from n done earlier r e right =
-    subst (λ (x : Bool). Decides r (OnTrue (from == i) (IsTrue x))) e right
-
-pub no_withdraw : (i j : ℕ) (hi : List Event) (stamp : ℕ) (what : Happened) →
-    ((from n : ℕ) (done : Bool) → what ≡ happening.Withdraw from n done → ⊥) → WithdrawAfterRecall i j hi stamp what
-no_withdraw i j hi stamp (happening.Withdraw from n done) not = absurd (not from n done refl)
-no_withdraw i j hi stamp what not = tt
-
--- the answer to a recall, by whether it is earlier
-pub told_at : (i j : ℕ) (hj : List Event) (stamp to n : ℕ) (done earlier r : Bool) →
-    earlier ≡ happened (is_withdraw i n done) (earlier_than stamp hj) → Decides r (OnTrue (to == j) (IsTrue earlier)) →
-    Decides r (UndoneAfterWithdraw i j hj stamp (happening.Undone to n done))
-told_at i j hj stamp to n done earlier r e right =
-    subst (λ (x : Bool). Decides r (OnTrue (to == j) (IsTrue x))) e right
-
-pub no_undone : (i j : ℕ) (hj : List Event) (stamp : ℕ) (what : Happened) →
-    ((to n : ℕ) (done : Bool) → what ≡ happening.Undone to n done → ⊥) → UndoneAfterWithdraw i j hj stamp what
-no_undone i j hj stamp (happening.Undone to n done) not = absurd (not to n done refl)
-no_undone i j hj stamp what not = tt

@@ -1,6 +1,6 @@
 //! Whether messages end once: withdrawn, left, and recalls answered.
 
-ghost use Rattle.std.specs.Prelude.{◌≡◌, Bool, false, not, ◌&&◌, List, IsTrue, take};
+ghost use Rattle.std.specs.Prelude.{◌≡◌, false, not, ◌&&◌, List, IsTrue, take};
 ghost use Rattle.nm_history.specs.declared.events.Event as event;
 ghost use Rattle.nm_history.specs.RankRun.{Always, EndAt};
 ghost use Rattle.nm_places.specs.Deciding.{Decides};
@@ -82,9 +82,8 @@ fn is_end_right(
     }
 }
 
-/// Whether a message is withdrawn once and where it is free, leaves once and after it was sent,
-/// and a
-/// recall is answered once.
+/// Whether a message is withdrawn once and where it is free, leaves once and after it was sent, and
+/// a recall is answered once.
 pub fn ends_hold(events: &[Event], places: &Places, taken: &IndexMap<Message, usize>) -> bool
     requires placed { ArePlaces events.now places.now }
     requires paired { AreTaken events.now taken.now }

@@ -2,12 +2,10 @@
 //!
 //! # What a contract sees
 //! Each rule has a judge of its own, whose contract is `Decides` (`specs/Deciding.antt` of
-//! `nm_places`)
-//! of the rule as `nm_history` defines it: it answers yes where the rule holds of the events, and
-//! no
-//! where it does not. `specs/OwnClauses.antt` names all rules of a rank's run, also those that
-//! are judged
-//! above, and their order; `specs/FirstBroken.antt` says which is the first that is broken.
+//! `nm_places`) of the rule as `nm_history` defines it: it answers yes where the rule holds of the
+//! events, and no where it does not. `specs/OwnClauses.antt` names all rules of a rank's run, also
+//! those that are judged above, and their order; `specs/FirstBroken.antt` says which is the first
+//! that is broken.
 //! # What is proved
 //! - Stamps (`stamps`), numbers (`numbers`), whole messages (`wholes`) and ends (`ends`) are judged
 //!   exactly; the last two by the places at which messages were paired, which are given.

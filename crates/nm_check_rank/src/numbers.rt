@@ -31,9 +31,8 @@ impl Counts {
         }
     }
 
-    /// Whether the number of a send, a receive or an arrival is the next one, and an arrival is
-    /// of one
-    /// of the ranks.
+    /// Whether the number of a send, a receive or an arrival is the next one, and an arrival is of
+    /// one of the ranks.
     fn is_next(&self, ranks: u8, what: &Happened) -> bool
         ensures { (before : List Event) → AreCounted before self.now →
             Decides result (NumberAt ranks before what.now) }

@@ -14,8 +14,7 @@ use nm_places::kinds::{Arrivals, Askings, Wholes};
 use nm_places::places::Places;
 
 /// Whether a message may become whole: it was not whole, it came, and it was paired where it is
-/// sent
-/// by asking.
+/// sent by asking.
 fn may_be_whole(whole: bool, came: bool, asking: bool, taken: bool) -> bool
     ensures { Decides result ((whole ≡ false) × IsTrue came × OnTrue asking (IsTrue taken)) }
 {

@@ -75,7 +75,8 @@ fn load_of_pair(pair: &Pair) -> Option<Load>
 
 /// Adds to the count of the load's rank.
 fn add(counts: &mut [u128; NAMES], load: Option<Load>)
-    ensures { (due : ℕ → ℕ) → AreDue counts.old due → AreDue counts.new (λ to. due to + load_to to load) }
+    ensures { (due : ℕ → ℕ) → AreDue counts.old due →
+        AreDue counts.new (λ to. due to + load_to to load) }
 {
     if let Some(load) = load {
         let place = load.rank as usize;
@@ -116,8 +117,10 @@ fn is_pair(pair: &PairCount, from: u8, to: u8, count: u128) -> bool
 /// The counts behind the first one, if it is of these ranks, and so many.
 fn behind<'a>(left: &'a [PairCount], from: u8, to: u8, count: u128) -> Option<&'a [PairCount]>
     ensures { (n : ℕ) → count ≡ at_most n → MatchOption result
-        ((rest : List Packets) → packets_of left.now ≡ record { from = from; to = to; count = n } ∷ rest → ⊥)
-        (λ others. packets_of left.now ≡ record { from = from; to = to; count = n } ∷ packets_of others.now) }
+        ((rest : List Packets) →
+        packets_of left.now ≡ record { from = from; to = to; count = n } ∷ rest → ⊥)
+        (λ others. packets_of left.now ≡ record { from = from; to = to; count = n }
+        ∷ packets_of others.now) }
 {
     let (pair, others) = left.split_first()?;
     if is_pair(pair, from, to, count) {

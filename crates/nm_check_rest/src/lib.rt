@@ -5,8 +5,8 @@
 //! definitions of `nm_history`.
 //! # What is proved
 //! - That all has arrived and that recalls are answered (`rest`), that eager and asked messages are
-//!   over (`over`), that each rank is at its end or waits for what can't come (`waits`), and that the
-//!   counts of packets are those that the histories call for (`counts`), is told exactly.
+//!   over (`over`), that each rank is at its end or waits for what can't come (`waits`), and that
+//!   the counts of packets are those that the histories call for (`counts`), is told exactly.
 //! - The first rule that is broken is named, by what was decided of each (`resting`).
 //!
 //! Each judge walks a history once, with look-ups for each event; that is not proved.

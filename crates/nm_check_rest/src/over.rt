@@ -42,7 +42,7 @@ fn is_message_over(i: u8, j: u8, n: u64, sent: &Places, got: &Places) -> bool
     both(out, whole)
 }
 
-/// Whether it has neither left nor is it whole.
+/// Whether a message of rank i to rank j has neither left nor is it whole.
 fn is_message_kept_back(i: u8, j: u8, n: u64, sent: &Places, got: &Places) -> bool
     ensures { (hi hj : List event.Event) → ArePlaces hi sent.now → ArePlaces hj got.now →
         result ≡ is_kept_back i j hi hj n }
@@ -70,7 +70,8 @@ fn are_implied(asked: bool, taken: bool, claimed: bool, over: bool, kept: bool) 
 
 /// Whether what happened at rank i is no eager send to one of the ranks, or its message is over.
 fn is_eager_over(i: u8, what: &Happened, sent: &Places, tables: &[Tables]) -> bool
-    ensures { (ranks : List Ended) (stamp : ℕ) (hi : List event.Event) → AreTabled ranks tables.now →
+    ensures { (ranks : List Ended) (stamp : ℕ) (hi : List event.Event) →
+        AreTabled ranks tables.now →
         ArePlaces hi sent.now →
         Decides result (SendKeeps (EagerIsOver i hi) ranks stamp what.now) }
 {
@@ -91,7 +92,8 @@ fn is_eager_over(i: u8, what: &Happened, sent: &Places, tables: &[Tables]) -> bo
 /// Whether what happened at rank i is no send by asking to one of the ranks, or its message is over
 /// where it is paired, and kept back where it is claimed and not received.
 fn is_asked_over(i: u8, what: &Happened, sent: &Places, tables: &[Tables]) -> bool
-    ensures { (ranks : List Ended) (stamp : ℕ) (hi : List event.Event) → AreTabled ranks tables.now →
+    ensures { (ranks : List Ended) (stamp : ℕ) (hi : List event.Event) →
+        AreTabled ranks tables.now →
         ArePlaces hi sent.now →
         Decides result (SendKeeps (AskedIsOver i hi) ranks stamp what.now) }
 {
@@ -157,8 +159,8 @@ pub fn are_eager_over(ranks: &[RankAccount], tables: &[Tables]) -> bool
     true
 }
 
-/// Whether each message that was sent by asking is over where it is paired, and kept back where it is
-/// claimed and not received.
+/// Whether each message that was sent by asking is over where it is paired, and kept back where it
+/// is claimed and not received.
 pub fn are_asked_over(ranks: &[RankAccount], tables: &[Tables]) -> bool
     requires few { length ranks.now < 256 }
     requires tabled { AreTabled (ends_of ranks.now) tables.now }

@@ -3,7 +3,8 @@
 ghost use Rattle.std.specs.Prelude.{◌≡◌, ◌≤◌, ◌||◌, List, IsTrue, is_none, length};
 ghost use Rattle.std.specs.List.{list_all};
 ghost use Rattle.nm_history.specs.declared.events.Event as event;
-ghost use Rattle.nm_history.specs.Quiescence.{EachPair, EachRank, Ended, IsAnswered, RecallsAnswered};
+ghost use Rattle.nm_history.specs.Quiescence.{EachPair, EachRank, Ended, IsAnswered};
+ghost use Rattle.nm_history.specs.Quiescence.{RecallsAnswered};
 ghost use Rattle.nm_history.specs.Sends.{arrivals, sends};
 ghost use Rattle.nm_report.specs.Cells.{AllCellsFree};
 ghost use Rattle.nm_report.specs.Ends.{are_done, ends_of};
@@ -58,8 +59,10 @@ pub fn are_answered(events: &[Event], places: &Places) -> bool
 /// Whether all that a rank sent has arrived.
 fn has_arrived_from(i: u8, sent: &Counts, tables: &[Tables]) -> bool
     requires { length tables.now ≤ 256 }
-    ensures { (ranks : List Ended) (hi : List event.Event) → AreTabled ranks tables.now → AreCounted hi sent.now →
-        Decides result (EachRank (λ j rank. length (arrivals rank.events i) ≡ length (sends hi j)) ranks) }
+    ensures { (ranks : List Ended) (hi : List event.Event) → AreTabled ranks tables.now →
+        AreCounted hi sent.now →
+        Decides result
+        (EachRank (λ j rank. length (arrivals rank.events i) ≡ length (sends hi j)) ranks) }
 {
     for (j, got) in tables.iter().enumerate() {
         if !has_arrived(i, j as u8, sent, &got.counts) {
@@ -73,7 +76,8 @@ fn has_arrived_from(i: u8, sent: &Counts, tables: &[Tables]) -> bool
 pub fn has_all_arrived(tables: &[Tables]) -> bool
     requires { length tables.now ≤ 256 }
     ensures { (ranks : List Ended) → AreTabled ranks tables.now →
-        Decides result (EachPair (λ i j hi hj. length (arrivals hj i) ≡ length (sends hi j)) ranks) }
+        Decides result
+        (EachPair (λ i j hi hj. length (arrivals hj i) ≡ length (sends hi j)) ranks) }
 {
     for (i, sent) in tables.iter().enumerate() {
         if !has_arrived_from(i as u8, &sent.counts, tables) {
@@ -86,7 +90,8 @@ pub fn has_all_arrived(tables: &[Tables]) -> bool
 /// Whether each recall of each rank has its answer.
 pub fn are_all_answered(ranks: &[RankAccount], tables: &[Tables]) -> bool
     requires { AreTabled (ends_of ranks.now) tables.now }
-    ensures { Decides result (EachRank (λ i rank. RecallsAnswered rank.events) (ends_of ranks.now)) }
+    ensures { Decides result
+        (EachRank (λ i rank. RecallsAnswered rank.events) (ends_of ranks.now)) }
 {
     for (i, rank) in ranks.iter().enumerate() {
         let events = rank.history.as_slice();

@@ -1,6 +1,7 @@
 //! Whether each rank is at its end, or waits at its next command, which can't go on.
 
-ghost use Rattle.std.specs.Prelude.{◌≡◌, ◌+◌, ◌<◌, IsSomeAnd, MatchOption, None, Some, length, slice_get};
+ghost use Rattle.std.specs.Prelude.{◌≡◌, ◌+◌, ◌<◌, IsSomeAnd, MatchOption, None, Some, length};
+ghost use Rattle.std.specs.Prelude.{slice_get};
 ghost use Rattle.nm_types.specs.Commands.{commands_of};
 ghost use Rattle.nm_history.specs.Quiescence.{EachRank, Stands};
 ghost use Rattle.nm_report.specs.Ends.{ends_of};
@@ -16,7 +17,8 @@ use nm_types::Line;
 fn next_place(rank: u8, lines: &[Line], at: u32) -> Option<usize>
     ensures { MatchOption result (slice_get (commands_of rank lines.now) at ≡ None)
         (λ k. IsSomeAnd (slice_get lines.now k)
-        (λ l. slice_get (commands_of rank lines.now) at ≡ Some (record { line = k + 2; command = l.command }))) }
+        (λ l. slice_get (commands_of rank lines.now) at
+        ≡ Some (record { line = k + 2; command = l.command }))) }
 {
     let mut left = at;
     for (k, line) in lines.iter().enumerate() {
@@ -44,7 +46,11 @@ fn is_waiting_at(waits: Option<u32>, k: usize) -> bool
 fn is_standing(rank: u8, lines: &[Line], account: &RankAccount, tables: &Tables) -> bool
     requires { AreTables rank lines.now account.now.history.events tables.now }
     ensures { Decides result (Stands (commands_of rank lines.now)
-        (record { at = account.now.at; waits = account.now.waits; events = account.now.history.events })) }
+        (record {
+          at = account.now.at;
+          waits = account.now.waits;
+          events = account.now.history.events;
+        })) }
 {
     match next_place(rank, lines, account.at) {
         None => account.waits.is_none(),

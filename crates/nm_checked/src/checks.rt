@@ -8,7 +8,8 @@ ghost use Rattle.nm_report.specs.declared.records.RunRecord as the_record;
 ghost use Rattle.nm_trace.specs.Traces.{IsTraceOf};
 ghost use Rattle.nm_check.specs.declared.verdicts.Verdict.TheVariants.{Holds};
 ghost use Rattle.nm_checked.specs.declared.checks.Checked.TheVariants.{Judged};
-ghost use Rattle.nm_checked.specs.Checks.{IsChecked, IsInput, IsScriptChecked, IsTraceChecked, sizes};
+ghost use Rattle.nm_checked.specs.Checks.{IsChecked, IsInput, IsScriptChecked, IsTraceChecked};
+ghost use Rattle.nm_checked.specs.Checks.{sizes};
 
 use crate::inputs::cut;
 use nm_check::{Verdict, judge};
@@ -47,7 +48,8 @@ fn check_trace(
     requires short { length rest.now ≤ 67108864 }
     ensures checked { IfOk result
         (IsTraceChecked (sizes cells eager script.now.ranks) script.now.lines rest.now) }
-    ensures holds { (run : the_record.RunRecord) → IsTraceOf (sizes cells eager script.now.ranks) rest.now run →
+    ensures holds { (run : the_record.RunRecord) →
+        IsTraceOf (sizes cells eager script.now.ranks) rest.now run →
         IsRunIn (sizes cells eager script.now.ranks) script.now.lines run →
         IfOk result (λ checked. checked ≡ Judged Holds) }
 {
@@ -77,7 +79,8 @@ fn check_script(
     ensures checked { IfOk result (IsScriptChecked cells eager front.now rest.now) }
     ensures holds { (ranks : ℕ) (lines : List script_line.Line) (run : the_record.RunRecord) →
         IsTextOf front.now ranks lines → IsTraceOf (sizes cells eager ranks) rest.now run →
-        IsRunIn (sizes cells eager ranks) lines run → IfOk result (λ checked. checked ≡ Judged Holds) }
+        IsRunIn (sizes cells eager ranks) lines run →
+        IfOk result (λ checked. checked ≡ Judged Holds) }
 {
     match nm_script::read(alloc, front) {
         Ok(script) => check_trace(alloc, &script, rest, cells, eager),
@@ -86,8 +89,8 @@ fn check_script(
     }
 }
 
-/// What is said of a script and the trace behind the first line `---`, for so many cells of each rank
-/// and this eager limit.
+/// What is said of a script and the trace behind the first line `---`, for so many cells of each
+/// rank and this eager limit.
 ///
 /// # Errors
 /// Want of memory says nothing of the bytes.
@@ -96,7 +99,8 @@ pub fn check(alloc: Global, bytes: &[u8], cells: u8, eager: u16) -> Result<Check
     requires few_cells { cells ≤ 64 }
     requires few_eager { eager ≤ 4096 }
     ensures checked { IfOk result (IsChecked cells eager bytes.now) }
-    ensures holds { (front rest : List ℕ) (ranks : ℕ) (lines : List script_line.Line) (run : the_record.RunRecord) →
+    ensures holds { (front rest : List ℕ) (ranks : ℕ) (lines : List script_line.Line)
+        (run : the_record.RunRecord) →
         IsInput bytes.now front rest → IsTextOf front ranks lines →
         IsTraceOf (sizes cells eager ranks) rest run → IsRunIn (sizes cells eager ranks) lines run →
         IfOk result (λ checked. checked ≡ Judged Holds) }

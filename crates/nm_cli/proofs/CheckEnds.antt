@@ -11,12 +11,12 @@ use Rattle.nm_cli.specs.Scripts.{Reads, Runs}
 use Rattle.nm_check.specs.declared.verdicts.Verdict.TheVariants.{Holds}
 use Rattle.nm_checked.specs.declared.checks.Checked.TheVariants.{Judged}
 use Rattle.nm_cli.specs.Answers.{WasRead}
-use Rattle.nm_cli.specs.declared.answers.Answer.{Answer}
-use Rattle.nm_cli.specs.declared.answers.Answer.TheVariants.{Usage, Unread, Refused, Ran}
-use Rattle.nm_cli.specs.declared.answers.Answer.TheVariants.{Free, Determinate, Checked, NoPlan, Planned, Logged}
+use Rattle.nm_cli.specs.declared.answers.Response.{Response}
+use Rattle.nm_cli.specs.declared.answers.Response.TheVariants.{Usage, Unread, Refused, Ran}
+use Rattle.nm_cli.specs.declared.answers.Response.TheVariants.{Free, Determinate, Checked, NoPlan, Planned, Logged}
 use Rattle.nm_cli.proofs.EndLemmas.{Ending, Ends, answered_for, or_unread, or_unwritten, other, to_fails}
 
-pub check_is : (s : Ending) (a : Answer) → Ends s a → (line : CommandLine) → IsTaken s.words line →
+pub check_is : (s : Ending) (a : Response) → Ends s a → (line : CommandLine) → IsTaken s.words line →
     line.mode ≡ Check → OrFails (IsCheckedEnd line s.input s.status s.before s.after) s.status
 check_is s Usage e line taken is = absurd (e.right line taken)
 check_is s Unread e line taken is = or_unread s e
@@ -39,7 +39,7 @@ check_is s (Logged t r log) e line taken is =
     absurd (other (λ m. m ≡ Multi t r) line.mode Check is (λ h. cc) (answered_for s (Logged t r log) e line taken).0)
 
 -- the trace of a run of the script holds
-pub holds_is : (s : Ending) (a : Answer) → Ends s a → (WasRead a → a ≡ Checked (Judged Holds)) →
+pub holds_is : (s : Ending) (a : Response) → Ends s a → (WasRead a → a ≡ Checked (Judged Holds)) →
     OrFails ((s.status ≡ 0) × Appends s.before s.after (codes "holds\n")) s.status
 holds_is s Unread e is = or_unread s e
 holds_is s a e is =

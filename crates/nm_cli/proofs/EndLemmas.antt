@@ -15,9 +15,9 @@ use Rattle.nm_checked.specs.declared.checks.Checked.{Checked as CheckedText}
 use Rattle.nm_checked.specs.declared.checks.Checked.TheVariants.{NoTrace, NoScript, BadTrace, Judged}
 use Rattle.nm_cli.specs.Checks.{checked_status}
 use Rattle.nm_cli.specs.Endings.{IsSaid, IsStatus, OrFails, OrUnwritten}
-use Rattle.nm_cli.specs.declared.answers.Answer.{Answer}
-use Rattle.nm_cli.specs.declared.answers.Answer.TheVariants.{Usage, Unread, Refused, Ran, Free, Determinate}
-use Rattle.nm_cli.specs.declared.answers.Answer.TheVariants.{Checked, NoPlan, Planned, Logged}
+use Rattle.nm_cli.specs.declared.answers.Response.{Response}
+use Rattle.nm_cli.specs.declared.answers.Response.TheVariants.{Usage, Unread, Refused, Ran, Free, Determinate}
+use Rattle.nm_cli.specs.declared.answers.Response.TheVariants.{Checked, NoPlan, Planned, Logged}
 
 -- What is seen of the program: its words, the bytes that the source told with its faults before and after,
 -- what the sink took before and after with its faults, and how it ended.
@@ -36,7 +36,7 @@ pub record Ending : Type 0 where
   pub log : Option Log
 
 -- The answer is right and was said, its parts are handed out, and the words ask for one thing at most.
-pub record Ends (s : Ending) (answer : Answer) : Type 0 where
+pub record Ends (s : Ending) (answer : Response) : Type 0 where
   pub right : IsAnswer s.words s.input s.read_old s.read_new answer
   pub said : IsSaid answer s.status s.before s.after (Rose s.write_old s.write_new)
   pub run_given : s.run ≡ run_of answer
@@ -49,7 +49,7 @@ pub other : (P : Mode → Type 0) (m n : Mode) → m ≡ n → (P n → ⊥) →
 other P m n is isnt h = isnt (subst P is h)
 
 -- the answer is right for what the words ask for
-pub answered_for : (s : Ending) (a : Answer) → Ends s a → (line : CommandLine) → IsTaken s.words line →
+pub answered_for : (s : Ending) (a : Response) → Ends s a → (line : CommandLine) → IsTaken s.words line →
     IsAnswerTo line s.input s.read_old s.read_new a
 answered_for s Usage e line taken = absurd (e.right line taken)
 answered_for s a e line taken =
@@ -57,17 +57,17 @@ answered_for s a e line taken =
     subst (λ l. IsAnswerTo l s.input s.read_old s.read_new a) same e.right.right
 
 -- an answer that was not cut off was said whole
-pub said_whole : (s : Ending) (a : Answer) → Ends s a → (s.status ≡ 5 → ⊥) →
+pub said_whole : (s : Ending) (a : Response) → Ends s a → (s.status ≡ 5 → ⊥) →
     (s.status ≡ status_of a) × Appends s.before s.after (text_of a)
 said_whole s a e other = elim e.said [ inl h ↦ h | inr h ↦ absurd (other h.0) ]
 
 -- it has its status, or the sink failed
-pub or_unwritten : {P : Type 0} (s : Ending) (a : Answer) → Ends s a →
+pub or_unwritten : {P : Type 0} (s : Ending) (a : Response) → Ends s a →
     (s.status ≡ status_of a → Appends s.before s.after (text_of a) → P) → OrUnwritten P s.status
 or_unwritten s a e make = elim e.said [ inl h ↦ inl (make h.0 h.1) | inr h ↦ inr (inl h.0) ]
 
 -- and the sink did not, where its count of faults did not rise
-pub unless_failed : {P : Type 0} (s : Ending) (a : Answer) → Ends s a → (Rose s.write_old s.write_new → ⊥) →
+pub unless_failed : {P : Type 0} (s : Ending) (a : Response) → Ends s a → (Rose s.write_old s.write_new → ⊥) →
     (s.status ≡ status_of a → Appends s.before s.after (text_of a) → P) → (s.status ≡ 6) ⊎ P
 unless_failed s a e write make = elim e.said [ inl h ↦ inr (make h.0 h.1) | inr h ↦ absurd (write h.1) ]
 
@@ -104,7 +104,7 @@ pub not_five : (s : Ending) (k : ℕ) → s.status ≡ k → (k ≡ 5 → ⊥) �
 not_five s k h other five = other (sym h ∙ five)
 
 -- words that are not taken
-pub usage_is : (s : Ending) (a : Answer) → Ends s a → s.status ≡ 2 → NotTaken s.words × Appends s.before s.after usage
+pub usage_is : (s : Ending) (a : Response) → Ends s a → s.status ≡ 2 → NotTaken s.words × Appends s.before s.after usage
 usage_is s Usage e h = (e.right, (said_whole s Usage e (not_five s 2 h (λ f. cc))).1)
 usage_is s (Checked c) e h =
     let p = said_whole s (Checked c) e (not_five s 2 h (λ f. cc)) in
@@ -120,12 +120,12 @@ usage_is s (Planned q r w) e h =
     absurd (no_run_status r.done s.status 2 p.0 h (λ z. cc) (λ z. cc))
 usage_is s a e h = absurd (omega (arith, h, (said_whole s a e (not_five s 2 h (λ f. cc))).0))
 
-pub not_taken_is : (s : Ending) (a : Answer) → Ends s a → NotTaken s.words → OrUnwritten (s.status ≡ 2) s.status
+pub not_taken_is : (s : Ending) (a : Response) → Ends s a → NotTaken s.words → OrUnwritten (s.status ≡ 2) s.status
 not_taken_is s Usage e none = or_unwritten s Usage e (λ h said. h)
 not_taken_is s a e none = absurd (none e.right.line e.right.taken)
 
 -- a source that failed
-pub unread_is : (s : Ending) (a : Answer) → Ends s a → s.status ≡ 4 →
+pub unread_is : (s : Ending) (a : Response) → Ends s a → s.status ≡ 4 →
     Rose s.read_old s.read_new × Appends s.before s.after unread
 unread_is s Unread e h = (e.right.right.1, (said_whole s Unread e (not_five s 4 h (λ f. cc))).1)
 unread_is s (Checked c) e h =
@@ -143,15 +143,15 @@ unread_is s (Planned q r w) e h =
 unread_is s a e h = absurd (omega (arith, h, (said_whole s a e (not_five s 4 h (λ f. cc))).0))
 
 -- a sink that failed
-no_five : (a : Answer) → 5 ≡ status_of a → ⊥
+no_five : (a : Response) → 5 ≡ status_of a → ⊥
 no_five (Checked c) h = checked_ends c 5 h (λ z. cc) (λ z. cc) (λ z. cc) (λ z. cc)
 no_five (Ran m r w) h = no_run_status r.done 5 5 h refl (λ z. cc) (λ z. cc)
 no_five (Determinate r) h = no_run_status r.done 5 5 h refl (λ z. cc) (λ z. cc)
 no_five (Planned q r w) h = no_run_status r.done 5 5 h refl (λ z. cc) (λ z. cc)
 no_five a h = omega (arith, h)
 
-pub unwritten_is : (s : Ending) (a : Answer) → Ends s a → s.status ≡ 5 →
-    Rose s.write_old s.write_new × (answer : Answer) × IsAnswer s.words s.input s.read_old s.read_new answer
+pub unwritten_is : (s : Ending) (a : Response) → Ends s a → s.status ≡ 5 →
+    Rose s.write_old s.write_new × (answer : Response) × IsAnswer s.words s.input s.read_old s.read_new answer
     × AppendsPart s.before s.after (text_of answer) × (s.run ≡ run_of answer) × (s.closed ≡ ways_of answer)
     × (s.log ≡ log_of answer)
 unwritten_is s a e h =
@@ -161,14 +161,14 @@ unwritten_is s a e h =
     ]
 
 -- an ending that was written is not for want of memory
-no_six : (a : Answer) → 6 ≡ status_of a → ⊥
+no_six : (a : Response) → 6 ≡ status_of a → ⊥
 no_six (Checked c) h = checked_ends c 6 h (λ z. cc) (λ z. cc) (λ z. cc) (λ z. cc)
 no_six (Ran m r w) h = no_run_status r.done 6 6 h refl (λ z. cc) (λ z. cc)
 no_six (Determinate r) h = no_run_status r.done 6 6 h refl (λ z. cc) (λ z. cc)
 no_six (Planned q r w) h = no_run_status r.done 6 6 h refl (λ z. cc) (λ z. cc)
 no_six a h = omega (arith, h)
 
-pub not_memory : (s : Ending) (a : Answer) → Ends s a → s.status ≡ 6 → ⊥
+pub not_memory : (s : Ending) (a : Response) → Ends s a → s.status ≡ 6 → ⊥
 not_memory s a e h =
     elim e.said [
       | inl p ↦ no_six a (sym h ∙ p.0)
@@ -176,7 +176,7 @@ not_memory s a e h =
     ]
 
 -- an answer has nothing to hand out, or its status is another one
-no_record_of : (s : Ending) (a : Answer) → Ends s a → (k : ℕ) → s.status ≡ k → (k ≡ 0 → ⊥) → (k ≡ 1 → ⊥) →
+no_record_of : (s : Ending) (a : Response) → Ends s a → (k : ℕ) → s.status ≡ k → (k ≡ 0 → ⊥) → (k ≡ 1 → ⊥) →
     (k ≡ 5 → ⊥) → (s.run ≡ None) × (s.closed ≡ None) × (s.log ≡ None)
 no_record_of s (Ran m r w) e k h zero one five =
     let p = said_whole s (Ran m r w) e (not_five s k h five) in
@@ -189,7 +189,7 @@ no_record_of s (Logged t r l) e k h zero one five =
     absurd (zero (sym h ∙ p.0))
 no_record_of s a e k h zero one five = (e.run_given, e.ways_given, e.log_given)
 
-pub no_record_is : (s : Ending) (a : Answer) → Ends s a → (s.status ≡ 2) ⊎ ((s.status ≡ 3) ⊎ (s.status ≡ 4)) →
+pub no_record_is : (s : Ending) (a : Response) → Ends s a → (s.status ≡ 2) ⊎ ((s.status ≡ 3) ⊎ (s.status ≡ 4)) →
     (s.run ≡ None) × (s.closed ≡ None) × (s.log ≡ None)
 no_record_is s a e (inl h) = no_record_of s a e 2 h (λ z. cc) (λ z. cc) (λ z. cc)
 no_record_is s a e (inr (inl h)) = no_record_of s a e 3 h (λ z. cc) (λ z. cc) (λ z. cc)
@@ -207,7 +207,7 @@ checked_is_status (BadTrace line) = inr (inr (inr (inr (inr (inr (inr (inr (inr 
 checked_is_status (Judged Holds) = inl refl
 checked_is_status (Judged v) = inr (inr (inr (inr (inr (inr (inr (inr (inl refl))))))))
 
-is_status : (a : Answer) → IsStatus (status_of a)
+is_status : (a : Response) → IsStatus (status_of a)
 is_status Usage = inr (inr (inl refl))
 is_status Unread = inr (inr (inr (inr (inl refl))))
 is_status (Refused n k) = inr (inr (inr (inl refl)))
@@ -219,7 +219,7 @@ is_status (NoPlan n k) = inr (inr (inr (inl refl)))
 is_status (Planned q r w) = run_is_status r.done
 is_status (Logged t r log) = inl refl
 
-pub status_is : (s : Ending) (a : Answer) → Ends s a → IsStatus s.status
+pub status_is : (s : Ending) (a : Response) → Ends s a → IsStatus s.status
 status_is s a e =
     elim e.said [
       | inl h ↦ subst IsStatus (sym h.0) (is_status a)

@@ -9,10 +9,10 @@ use Rattle.nm_cli.specs.Answers.{end_status}
 use Rattle.nm_cli.specs.Endings.{IsFree, IsSure, IsWorkedOut, OrFails}
 use Rattle.nm_cli.specs.Plains.{IsNotPlain, IsPlain, free_text}
 use Rattle.nm_cli.specs.Scripts.{Runs}
-use Rattle.nm_cli.specs.declared.answers.Answer.{Answer}
-use Rattle.nm_cli.specs.declared.answers.Answer.TheVariants.{Usage, Unread, Refused, Ran}
-use Rattle.nm_cli.specs.declared.answers.Answer.TheVariants.{Free, Determinate, Checked, NoPlan, Planned}
-use Rattle.nm_cli.specs.declared.answers.Answer.TheVariants.{Logged}
+use Rattle.nm_cli.specs.declared.answers.Response.{Response}
+use Rattle.nm_cli.specs.declared.answers.Response.TheVariants.{Usage, Unread, Refused, Ran}
+use Rattle.nm_cli.specs.declared.answers.Response.TheVariants.{Free, Determinate, Checked, NoPlan, Planned}
+use Rattle.nm_cli.specs.declared.answers.Response.TheVariants.{Logged}
 use Rattle.nm_cli.proofs.EndLemmas.{Ending, Ends, answered_for, or_unread, or_unwritten, other}
 use Rattle.nm_cli.proofs.EndLemmas.{run_status, to_fails}
 use Rattle.nm_cli.proofs.RunEnds.{was_refused}
@@ -29,7 +29,7 @@ sure_said line None before after text done status is ended said = tt
 sure_said line (Some bytes) before after text done status is ended said =
     record { text = text; done = done; plain = is; ended = ended; said = said }
 
-pub plain_is : (s : Ending) (a : Answer) → Ends s a → (line : CommandLine) → IsTaken s.words line →
+pub plain_is : (s : Ending) (a : Response) → Ends s a → (line : CommandLine) → IsTaken s.words line →
     line.mode ≡ Plain → OrFails (IsWorkedOut line s.input s.status s.before s.after) s.status
 plain_is s Usage e line taken is = absurd (e.right line taken)
 plain_is s Unread e line taken is = or_unread s e

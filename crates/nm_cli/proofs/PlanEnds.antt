@@ -11,10 +11,10 @@ use Rattle.nm_plans.specs.declared.faults.PlanKind.{PlanKind}
 use Rattle.nm_cli.specs.Endings.{IsPlanEnded, IsPlanRefused, OrFails}
 use Rattle.nm_cli.specs.Plans.{PlanRefuses, plan_fault_text}
 use Rattle.nm_cli.specs.Scripts.{Reads, Runs, read_of, sizes_for}
-use Rattle.nm_cli.specs.declared.answers.Answer.{Answer}
-use Rattle.nm_cli.specs.declared.answers.Answer.TheVariants.{Usage, Unread, Refused, Ran}
-use Rattle.nm_cli.specs.declared.answers.Answer.TheVariants.{Free, Determinate, Checked, NoPlan, Planned}
-use Rattle.nm_cli.specs.declared.answers.Answer.TheVariants.{Logged}
+use Rattle.nm_cli.specs.declared.answers.Response.{Response}
+use Rattle.nm_cli.specs.declared.answers.Response.TheVariants.{Usage, Unread, Refused, Ran}
+use Rattle.nm_cli.specs.declared.answers.Response.TheVariants.{Free, Determinate, Checked, NoPlan, Planned}
+use Rattle.nm_cli.specs.declared.answers.Response.TheVariants.{Logged}
 use Rattle.nm_cli.proofs.EndLemmas.{Ending, Ends, answered_for, or_unread, or_unwritten, other, to_fails}
 
 refused_said : (input before after : Option (List ℕ)) (n : ℕ) (k : PlanKind) →
@@ -23,7 +23,7 @@ refused_said : (input before after : Option (List ℕ)) (n : ℕ) (k : PlanKind)
 refused_said None before after n k is said = tt
 refused_said (Some bytes) before after n k is said = record { line = n; kind = k; told = is; said = said }
 
-pub parts_is : ReceivesShowTheirSends → (s : Ending) (a : Answer) → Ends s a →
+pub parts_is : ReceivesShowTheirSends → (s : Ending) (a : Response) → Ends s a →
     (line : CommandLine) → IsTaken s.words line →
     line.mode ≡ Parts → OrFails (IsPlanEnded line s.input s.status s.run s.closed s.before s.after) s.status
 parts_is law s Usage e line taken is = absurd (e.right line taken)

@@ -18,10 +18,10 @@ use Rattle.nm_cli.specs.Faults.{fault_text}
 use Rattle.nm_cli.specs.Plains.{IsNotPlain, IsPlain}
 use Rattle.nm_cli.specs.Scripts.{HandsOut, IsAsked, IsKnown, IsRunOfWords, Makes, Reads}
 use Rattle.nm_cli.specs.Scripts.{ReadsSource, Runs, read_of}
-use Rattle.nm_cli.specs.declared.answers.Answer.{Answer}
-use Rattle.nm_cli.specs.declared.answers.Answer.TheVariants.{Usage, Unread, Refused, Ran}
-use Rattle.nm_cli.specs.declared.answers.Answer.TheVariants.{Free, Determinate, Checked, NoPlan, Planned}
-use Rattle.nm_cli.specs.declared.answers.Answer.TheVariants.{Logged}
+use Rattle.nm_cli.specs.declared.answers.Response.{Response}
+use Rattle.nm_cli.specs.declared.answers.Response.TheVariants.{Usage, Unread, Refused, Ran}
+use Rattle.nm_cli.specs.declared.answers.Response.TheVariants.{Free, Determinate, Checked, NoPlan, Planned}
+use Rattle.nm_cli.specs.declared.answers.Response.TheVariants.{Logged}
 use Rattle.nm_cli.proofs.EndLemmas.{Ending, Ends, answered_for, no_run_status, not_five, or_unread, or_unwritten}
 use Rattle.nm_cli.proofs.EndLemmas.{other, run_status, said_whole, to_fails, unless_failed}
 use Rattle.nm_facts.proofs.Options.{if_all as always}
@@ -103,7 +103,7 @@ reported_of s line m r w e same of_words end said =
       said = subst (λ m. Appends s.before s.after (run_text m r)) same said;
     }
 
-pub refused_is : (s : Ending) (a : Answer) → Ends s a → s.status ≡ 3 → (line : CommandLine) × IsTaken s.words line
+pub refused_is : (s : Ending) (a : Response) → Ends s a → s.status ≡ 3 → (line : CommandLine) × IsTaken s.words line
     × (Reads line.mode → IfSome s.input (IsRefused s.before s.after))
 refused_is s (Refused n k) e h =
     let said = (said_whole s (Refused n k) e (not_five s 3 h (λ f. cc))).1 in
@@ -126,7 +126,7 @@ refused_is s (Planned q r w) e h =
     absurd (no_run_status r.done s.status 3 p.0 h (λ z. cc) (λ z. cc))
 refused_is s a e h = absurd (omega (arith, h, (said_whole s a e (not_five s 3 h (λ f. cc))).0))
 
-pub refuses_is : (s : Ending) (a : Answer) → Ends s a → (line : CommandLine) → IsTaken s.words line →
+pub refuses_is : (s : Ending) (a : Response) → Ends s a → (line : CommandLine) → IsTaken s.words line →
     Reads line.mode → IfSome s.input (λ bytes. SpellsNone (read_of bytes) → OrFails (s.status ≡ 3) s.status)
 refuses_is s Usage e line taken reads = absurd (e.right line taken)
 refuses_is s Unread e line taken reads = always s.input _ (λ bytes none. or_unread s e)
@@ -157,7 +157,7 @@ run_not_five : (status : ℕ) → (status ≡ 0) ⊎ (status ≡ 1) → status �
 run_not_five status (inl h) five = omega (arith, h, five)
 run_not_five status (inr h) five = omega (arith, h, five)
 
-pub reported_is : (s : Ending) (a : Answer) → Ends s a → (s.status ≡ 0) ⊎ (s.status ≡ 1) →
+pub reported_is : (s : Ending) (a : Response) → Ends s a → (s.status ≡ 0) ⊎ (s.status ≡ 1) →
     (line : CommandLine) × IsTaken s.words line
     × (Runs line.mode → IsReported line s.input s.status s.run s.closed s.before s.after)
 reported_is s (Ran m r w) e h =
@@ -179,7 +179,7 @@ reported_is s (Logged t r log) e h =
 reported_is s a e h =
     absurd (no_run s.status _ (said_whole s a e (run_not_five s.status h)).0 (omega arith) h)
 
-pub reports_is : (s : Ending) (a : Answer) → Ends s a → (line : CommandLine) → IsTaken s.words line →
+pub reports_is : (s : Ending) (a : Response) → Ends s a → (line : CommandLine) → IsTaken s.words line →
     Runs line.mode → (ranks : ℕ) (lines : List Line) → IsKnown line.mode s.input ranks lines →
     OrFails ((s.status ≡ 0) ⊎ (s.status ≡ 1)) s.status
 reports_is s Usage e line taken runs ranks lines known = absurd (e.right line taken)
@@ -202,7 +202,7 @@ reports_is s (Planned q r w) e line taken runs ranks lines known =
 reports_is s (Logged t r log) e line taken runs ranks lines known =
     absurd (other Runs line.mode (mode.Multi t r) (answered_for s (Logged t r log) e line taken).0 (λ r. r) runs)
 
-pub completes_is : (s : Ending) (a : Answer) → Ends s a → (line : CommandLine) → IsTaken s.words line →
+pub completes_is : (s : Ending) (a : Response) → Ends s a → (line : CommandLine) → IsTaken s.words line →
     Runs line.mode → (ranks : ℕ) (lines : List Line) → IsKnown line.mode s.input ranks lines →
     (Rose s.read_old s.read_new → ⊥) → (Rose s.write_old s.write_new → ⊥) →
     (s.status ≡ 6) ⊎ IsReported line s.input s.status s.run s.closed s.before s.after
@@ -232,7 +232,7 @@ abbrev pub Reading : ℕ → Type 0
 Reading status =
     (status ≡ 0) ⊎ ((status ≡ 1) ⊎ ((status ≡ 3) ⊎ ((status ≡ 8) ⊎ (status ≡ 9))))
 
-was_read : (s : Ending) (a : Answer) → Ends s a → Reading s.status → WasRead a
+was_read : (s : Ending) (a : Response) → Ends s a → Reading s.status → WasRead a
 was_read s Unread e (inl h) = omega (arith, h, (said_whole s Unread e (not_five s 0 h (λ f. cc))).0)
 was_read s Unread e (inr (inl h)) = omega (arith, h, (said_whole s Unread e (not_five s 1 h (λ f. cc))).0)
 was_read s Unread e (inr (inr (inl h))) = omega (arith, h, (said_whole s Unread e (not_five s 3 h (λ f. cc))).0)
@@ -242,10 +242,10 @@ was_read s Unread e (inr (inr (inr (inr h)))) =
     omega (arith, h, (said_whole s Unread e (not_five s 9 h (λ f. cc))).0)
 was_read s a e h = tt
 
-pub read_is : {P : Type 0} (s : Ending) (a : Answer) → Ends s a → Reading s.status → (WasRead a → P) → P
+pub read_is : {P : Type 0} (s : Ending) (a : Response) → Ends s a → Reading s.status → (WasRead a → P) → P
 read_is s a e h make = make (was_read s a e h)
 
-pub made_is : (s : Ending) (a : Answer) → Ends s a → (line : CommandLine) → IsTaken s.words line →
+pub made_is : (s : Ending) (a : Response) → Ends s a → (line : CommandLine) → IsTaken s.words line →
     Makes line.mode → OrUnwritten ((s.status ≡ 0) ⊎ (s.status ≡ 1)) s.status
 made_is s Usage e line taken makes = absurd (e.right line taken)
 made_is s Unread e line taken makes =
@@ -267,7 +267,7 @@ made_is s (Logged t r log) e line taken makes =
     absurd (other Makes line.mode (mode.Multi t r) (answered_for s (Logged t r log) e line taken).0 (λ r. r) makes)
 
 -- words that run no script hand out no record
-pub no_run_is : (s : Ending) (a : Answer) → Ends s a → (line : CommandLine) → IsTaken s.words line →
+pub no_run_is : (s : Ending) (a : Response) → Ends s a → (line : CommandLine) → IsTaken s.words line →
     (HandsOut line.mode → ⊥) → (s.run ≡ None) × (s.closed ≡ None)
 no_run_is s (Ran m r w) e line taken none =
     absurd (none (hands_out line.mode (answered_for s (Ran m r w) e line taken).0))

@@ -35,8 +35,8 @@ use Rattle.nm_checked.specs.declared.checks.Checked.{Checked}
 use Rattle.nm_cli.specs.Checks.{IsCheckedAs, IsWritten}
 use Rattle.nm_trace.specs.Traces.{IsTraceOf}
 use Rattle.nm_cli.specs.Scripts.{IsAsked, IsRunOfScript, Reads, ReadsSource, limit_of, read_of, sizes_for}
-use Rattle.nm_cli.specs.declared.answers.Answer.{Answer}
-use Rattle.nm_cli.specs.declared.answers.Answer.TheVariants as answer
+use Rattle.nm_cli.specs.declared.answers.Response.{Response}
+use Rattle.nm_cli.specs.declared.answers.Response.TheVariants as answer
 
 -- a run in the sizes that the words say
 pub ran : (line : CommandLine) (ranks : ℕ) (lines : List Line) (run : RunRecord) (ways : Ways) (shape : Sizes) →
@@ -77,7 +77,7 @@ sure line (Some bytes) ranks lines text done is plain reported ended =
 
 -- what is said of a script that was read answers the words
 pub answered : (line : CommandLine) (input : Option (List ℕ)) (old new ranks : ℕ) (lines : List Line) →
-    Reads line.mode → IfSome input (λ bytes. IsTextOf (read_of bytes) ranks lines) → (a : Answer) →
+    Reads line.mode → IfSome input (λ bytes. IsTextOf (read_of bytes) ranks lines) → (a : Response) →
     IsAnswerFor line ranks lines a → IsAnswerTo line input old new a
 answered line input old new ranks lines reads is (answer.Ran mode run ways) h =
     let asked_for = asked line.mode input ranks lines reads is in
@@ -89,7 +89,7 @@ answered line input old new ranks lines reads is (answer.Determinate run) h =
 answered line input old new ranks lines reads is a h = absurd h
 
 -- and can be told
-pub told : (line : CommandLine) (ranks : ℕ) (lines : List Line) (a : Answer) → IsAnswerFor line ranks lines a →
+pub told : (line : CommandLine) (ranks : ℕ) (lines : List Line) (a : Response) → IsAnswerFor line ranks lines a →
     CanBeTold a
 told line ranks lines (answer.Ran mode run ways) h = h.3
 told line ranks lines (answer.Free number) h = tt
@@ -98,7 +98,7 @@ told line ranks lines a h = absurd h
 
 -- a plan that the bytes spell, and its run
 pub plan_of_bytes : (line : CommandLine) (bytes : List ℕ) (ranks : ℕ) (lines : List PlanLine) →
-    IsPlanText bytes ranks lines → (a : Answer) → IsAnswerForPlan line ranks lines a → IsAnswerForBytes line bytes a
+    IsPlanText bytes ranks lines → (a : Response) → IsAnswerForPlan line ranks lines a → IsAnswerForBytes line bytes a
 plan_of_bytes line bytes ranks lines text (answer.Planned plan run ways) h =
     let spelled : IsPlanText bytes ranks plan.lines = subst (λ ls. IsPlanText bytes ranks ls) (sym h.0) text in
     let of_script : IsRunOfScript line ranks (expand plan.lines) run ways =
@@ -122,7 +122,7 @@ plan_refused (Some bytes) read e is refuses = subst (λ bytes. PlanRefuses bytes
 
 -- what the bytes that were read spell answers the words
 pub bytes_answered : (line : CommandLine) (input : Option (List ℕ)) (old new : ℕ) (read : List ℕ) →
-    line.mode ≡ Parts → IfSome input (λ bytes. read ≡ take 8388609 bytes) → (a : Answer) →
+    line.mode ≡ Parts → IfSome input (λ bytes. read ≡ take 8388609 bytes) → (a : Response) →
     IsAnswerForBytes line read a → IsAnswerTo line input old new a
 bytes_answered line input old new read parts is (answer.NoPlan n k) h =
     (parts, plan_refused input read (plan_fault.Bad n k) is h)
@@ -136,7 +136,7 @@ bytes_answered line input old new read parts is (answer.Planned plan run ways) h
     (parts, of_plan)
 bytes_answered line input old new read parts is a h = absurd h
 
-pub bytes_told : (line : CommandLine) (read : List ℕ) (a : Answer) → IsAnswerForBytes line read a → CanBeTold a
+pub bytes_told : (line : CommandLine) (read : List ℕ) (a : Response) → IsAnswerForBytes line read a → CanBeTold a
 bytes_told line read (answer.NoPlan n k) h = tt
 bytes_told line read (answer.Planned plan run ways) h = tt
 bytes_told line read a h = absurd h
@@ -147,9 +147,6 @@ reads_source Run reads = tt
 reads_source Trace reads = tt
 reads_source Plain reads = tt
 reads_source m reads = absurd reads
-
-pub parts_read : (m : Mode) → m ≡ Parts → ReadsSource m
-parts_read m is = subst ReadsSource (sym is) tt
 
 -- what was read spells the script
 pub spelled : (input : Option (List ℕ)) (read : List ℕ) (ranks : ℕ) (lines : List Line) →

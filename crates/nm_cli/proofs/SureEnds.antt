@@ -33,7 +33,7 @@ use Rattle.nm_cli.specs.Endings.{IsReported}
 use Rattle.nm_cli.specs.Plains.{IsDeterminate, all_home, sure_text}
 use Rattle.nm_cli.specs.Scripts.{IsAsked, IsKnown, Runs, read_of, sizes_for}
 use Rattle.nm_world.specs.declared.whole.Ways.{Ways}
-use Rattle.nm_cli.specs.declared.answers.Answer.{Answer}
+use Rattle.nm_cli.specs.declared.answers.Response.{Response}
 use Rattle.nm_cli.proofs.EndLemmas.{Ending, Ends}
 use Rattle.nm_cli.proofs.RunEnds.{reported_is}
 
@@ -151,7 +151,7 @@ reported_so laws line input before after status run closed ranks lines range pla
     let same = text_is line.mode shape lines r.record_of plain lawful.shaped home text told.0 told.1 in
     (r.ended ∙ ap end_status told.1, subst (λ t. Appends before after t) same r.said)
 
-pub determinate_is : Laws → (s : Ending) (a : Answer) → Ends s a → (line : CommandLine) → IsTaken s.words line →
+pub determinate_is : Laws → (s : Ending) (a : Response) → Ends s a → (line : CommandLine) → IsTaken s.words line →
     (ranks : ℕ) (lines : List Line) → IsKnown line.mode s.input ranks lines → IsDeterminate line.mode lines →
     (s.status ≡ 0) ⊎ (s.status ≡ 1) → (s.status ≡ end_status (plain_done (sizes_for line ranks) lines))
     × Appends s.before s.after (sure_text line.mode (sizes_for line ranks) lines)

@@ -10,10 +10,10 @@ use Rattle.nm_multi.specs.Programs.{IsWhole}
 use Rattle.nm_multi.specs.Text.{log_text}
 use Rattle.nm_cli.specs.Endings.{IsLogged, OrUnwritten}
 use Rattle.nm_cli.specs.Scripts.{Reads, ReadsSource, Runs}
-use Rattle.nm_cli.specs.declared.answers.Answer.{Answer}
-use Rattle.nm_cli.specs.declared.answers.Answer.TheVariants.{Usage, Unread, Refused, Ran}
-use Rattle.nm_cli.specs.declared.answers.Answer.TheVariants.{Free, Determinate, Checked, NoPlan, Planned}
-use Rattle.nm_cli.specs.declared.answers.Answer.TheVariants.{Logged}
+use Rattle.nm_cli.specs.declared.answers.Response.{Response}
+use Rattle.nm_cli.specs.declared.answers.Response.TheVariants.{Usage, Unread, Refused, Ran}
+use Rattle.nm_cli.specs.declared.answers.Response.TheVariants.{Free, Determinate, Checked, NoPlan, Planned}
+use Rattle.nm_cli.specs.declared.answers.Response.TheVariants.{Logged}
 use Rattle.nm_cli.proofs.EndLemmas.{Ending, Ends, answered_for, or_unwritten, other}
 
 same_numbers : (m : Mode) (t r threads rounds : ℕ) → m ≡ Multi t r → m ≡ Multi threads rounds →
@@ -30,7 +30,7 @@ logged_of s t r threads rounds log e same_threads same_rounds whole said =
     (subst (λ r. IsLogged t r s.log s.before s.after) same_rounds
     (record { log_of = log; given = e.log_given; whole = whole; said = said }))
 
-pub logged_is : (s : Ending) (a : Answer) → Ends s a → (line : CommandLine) → IsTaken s.words line →
+pub logged_is : (s : Ending) (a : Response) → Ends s a → (line : CommandLine) → IsTaken s.words line →
     (threads rounds : ℕ) → line.mode ≡ Multi threads rounds →
     OrUnwritten ((s.status ≡ 0) × IsLogged threads rounds s.log s.before s.after) s.status
 logged_is s Usage e line taken t r is = absurd (e.right line taken)
@@ -59,7 +59,7 @@ logged_is s (Logged its_t its_r log) e line taken t r is =
     (h, logged_of s its_t its_r t r log e same.0 same.1 right.1 said))
 
 -- other words hand out no log
-pub no_log_is : (s : Ending) (a : Answer) → Ends s a → (line : CommandLine) → IsTaken s.words line →
+pub no_log_is : (s : Ending) (a : Response) → Ends s a → (line : CommandLine) → IsTaken s.words line →
     ((threads rounds : ℕ) → line.mode ≢ Multi threads rounds) → s.log ≡ None
 no_log_is s (Logged t r log) e line taken none =
     absurd (none t r (answered_for s (Logged t r log) e line taken).0)

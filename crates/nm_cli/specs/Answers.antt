@@ -21,10 +21,10 @@ use Rattle.nm_multi.specs.Calls.{Logged as Log}
 use Rattle.nm_multi.specs.Programs.{IsWhole}
 use Rattle.nm_multi.specs.Text.{bytes_got, log_text}
 use Rattle.nm_world.specs.declared.whole.Ways.{Ways}
-use Rattle.nm_cli.specs.declared.answers.Answer.{Answer}
-use Rattle.nm_cli.specs.declared.answers.Answer.TheVariants.{Usage, Unread, Refused, Ran}
-use Rattle.nm_cli.specs.declared.answers.Answer.TheVariants.{Free, Determinate, Checked, NoPlan, Planned}
-use Rattle.nm_cli.specs.declared.answers.Answer.TheVariants.{Logged}
+use Rattle.nm_cli.specs.declared.answers.Response.{Response}
+use Rattle.nm_cli.specs.declared.answers.Response.TheVariants.{Usage, Unread, Refused, Ran}
+use Rattle.nm_cli.specs.declared.answers.Response.TheVariants.{Free, Determinate, Checked, NoPlan, Planned}
+use Rattle.nm_cli.specs.declared.answers.Response.TheVariants.{Logged}
 use Rattle.nm_sure.specs.Agree.{ArePlain}
 use Rattle.nm_sure.specs.Plain.{first_free}
 use Rattle.nm_sure.specs.PlainText.{plain_done, plain_text}
@@ -63,7 +63,7 @@ run_text (mode.Flood key ranks messages) run = summary_text key messages run
 run_text _ run = []
 
 -- the text of an answer
-abbrev pub text_of : Answer → List ℕ
+abbrev pub text_of : Response → List ℕ
 text_of Usage = usage
 text_of Unread = unread
 text_of (Refused line kind) = fault_text line kind
@@ -80,7 +80,7 @@ abbrev pub end_status : Bool → ℕ
 end_status done = if done then 0 else 1
 
 -- the status of an answer that was written
-abbrev pub status_of : Answer → ℕ
+abbrev pub status_of : Response → ℕ
 status_of Usage = 2
 status_of Unread = 4
 status_of (Refused line kind) = 3
@@ -93,31 +93,31 @@ status_of (Planned plan run ways) = end_status run.done
 status_of (Logged threads rounds log) = 0
 
 -- the record of an answer
-abbrev pub run_of : Answer → Option RunRecord
+abbrev pub run_of : Response → Option RunRecord
 run_of (Ran mode run ways) = Some run
 run_of (Planned plan run ways) = Some run
 run_of _ = None
 
 -- what the closed ports of its run kept
-abbrev pub ways_of : Answer → Option Ways
+abbrev pub ways_of : Response → Option Ways
 ways_of (Ran mode run ways) = Some ways
 ways_of (Planned plan run ways) = Some ways
 ways_of _ = None
 
 -- the log of an answer
-abbrev pub log_of : Answer → Option Log
+abbrev pub log_of : Response → Option Log
 log_of (Logged threads rounds log) = Some log
 log_of _ = None
 
 -- the numbers of a summary fit
-abbrev pub CanBeTold : Answer → Type 0
+abbrev pub CanBeTold : Response → Type 0
 CanBeTold (Ran mode run ways) = CountsFit (told_of run)
 CanBeTold (Logged threads rounds log) = bytes_got log.entries < 2 ^ 64
 CanBeTold _ = Unit {0}
 
 -- A script of these lines is answered by its run, whose numbers fit a summary, or, where only what all its
 -- runs report is asked for, by that, or by the line at which it is not plain.
-abbrev pub IsAnswerFor : CommandLine → ℕ → List Line → Answer → Type 0
+abbrev pub IsAnswerFor : CommandLine → ℕ → List Line → Response → Type 0
 IsAnswerFor line ranks lines (Ran mode run ways) =
     Runs line.mode × (mode ≡ line.mode) × IsRunOfScript line ranks lines run ways × CountsFit (told_of run)
 IsAnswerFor line ranks lines (Free number) = (line.mode ≡ mode.Plain) × (first_free lines ≡ Some number)
@@ -128,27 +128,27 @@ IsAnswerFor line ranks lines (Determinate run) =
 IsAnswerFor line ranks lines _ = ⊥
 
 -- the script of a plan ran
-abbrev pub IsAnswerForPlan : CommandLine → ℕ → List PlanLine → Answer → Type 0
+abbrev pub IsAnswerForPlan : CommandLine → ℕ → List PlanLine → Response → Type 0
 IsAnswerForPlan line ranks lines (Planned plan run ways) =
     (plan.lines ≡ lines) × IsRunOfScript line ranks (expand lines) run ways
 IsAnswerForPlan line ranks lines _ = ⊥
 
 -- the bytes spell a plan, whose script ran, or none
-abbrev pub IsAnswerForBytes : CommandLine → List ℕ → Answer → Type 0
+abbrev pub IsAnswerForBytes : CommandLine → List ℕ → Response → Type 0
 IsAnswerForBytes line bytes (NoPlan number kind) = PlanRefuses bytes (plan_fault.Bad number kind)
 IsAnswerForBytes line bytes (Planned plan run ways) =
     (ranks : ℕ) × IsPlanText bytes ranks plan.lines × IsRunOfScript line ranks (expand plan.lines) run ways
 IsAnswerForBytes line bytes _ = ⊥
 
 -- the log is that of so many threads of so many rounds, and its numbers fit a summary
-abbrev pub IsLogOf : ℕ → ℕ → Answer → Type 0
+abbrev pub IsLogOf : ℕ → ℕ → Response → Type 0
 IsLogOf many_threads many_rounds (Logged threads rounds log) =
     (threads ≡ many_threads) × (rounds ≡ many_rounds) × IsWhole threads rounds log.entries
     × (bytes_got log.entries < 2 ^ 64)
 IsLogOf many_threads many_rounds _ = ⊥
 
 -- the source was read
-abbrev pub WasRead : Answer → Type 0
+abbrev pub WasRead : Response → Type 0
 WasRead Unread = ⊥
 WasRead _ = Unit {0}
 
@@ -167,7 +167,7 @@ Refuses bytes fault.Memory = Unit {0}
 
 -- An answer to words that are taken is right: by what they ask for, by the bytes of the source where it
 -- tells them, and by its count of faults before and after.
-abbrev pub IsAnswerTo : CommandLine → Option (List ℕ) → ℕ → ℕ → Answer → Type 0
+abbrev pub IsAnswerTo : CommandLine → Option (List ℕ) → ℕ → ℕ → Response → Type 0
 IsAnswerTo line input old new Usage = ⊥
 IsAnswerTo line input old new Unread = ReadsSource line.mode × Rose old new
 IsAnswerTo line input old new (Refused number kind) =
@@ -187,13 +187,13 @@ IsAnswerTo line input old new (Logged threads rounds log) =
     (line.mode ≡ mode.Multi threads rounds) × IsWhole threads rounds log.entries
 
 -- the words ask for something, and the answer to it is right
-pub record IsAnswered (words : List (List ℕ)) (input : Option (List ℕ)) (old new : ℕ) (answer : Answer)
+pub record IsAnswered (words : List (List ℕ)) (input : Option (List ℕ)) (old new : ℕ) (answer : Response)
     : Type 0 where
   pub line : CommandLine
   pub taken : IsTaken words line
   pub right : IsAnswerTo line input old new answer
 
 -- the answer is right: the words are not taken, or they are answered
-abbrev pub IsAnswer : List (List ℕ) → Option (List ℕ) → ℕ → ℕ → Answer → Type 0
+abbrev pub IsAnswer : List (List ℕ) → Option (List ℕ) → ℕ → ℕ → Response → Type 0
 IsAnswer words input old new Usage = NotTaken words
 IsAnswer words input old new answer = IsAnswered words input old new answer

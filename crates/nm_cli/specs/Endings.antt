@@ -17,11 +17,11 @@ use Rattle.nm_plans.specs.declared.faults.PlanKind.{PlanKind}
 use Rattle.nm_plans.specs.declared.lines.PlanLine.{PlanLine}
 use Rattle.nm_cli.specs.Plans.{IsRunOfPlan, KeepsPromises, PlanRefuses, plan_fault_text}
 use Rattle.nm_cli.specs.Plains.{IsNotPlain, IsPlain, free_text}
-use Rattle.nm_cli.specs.declared.answers.Answer.{Answer}
+use Rattle.nm_cli.specs.declared.answers.Response.{Response}
 use Rattle.nm_cli.specs.Scripts.{IsRunOfWords, read_of}
 
 -- the text of an answer was written, whole and with its status, or the sink failed
-abbrev pub IsSaid : Answer → ℕ → Option (List ℕ) → Option (List ℕ) → Type 0 → Type 0
+abbrev pub IsSaid : Response → ℕ → Option (List ℕ) → Option (List ℕ) → Type 0 → Type 0
 IsSaid answer status old new fails =
     ((status ≡ status_of answer) × Appends old new (text_of answer))
     ⊎ ((status ≡ 5) × fails × AppendsPart old new (text_of answer))

@@ -25,7 +25,7 @@ use std::alloc::{AllocError, Global};
 
 /// What there is to say.
 #[derive(Drop)]
-pub enum Answer {
+pub enum Response {
     /// The words are not taken.
     Usage,
     /// The source failed.
@@ -82,21 +82,21 @@ const USAGE: &str = "usage: nemesis run [--cells N] [--eager N]
 ";
 
 /// The text of an answer, whole and in memory.
-pub fn text(alloc: Global, answer: &Answer) -> Result<Vec<u8>, Memory>
+pub fn text(alloc: Global, answer: &Response) -> Result<Vec<u8>, Memory>
     requires { CanBeTold answer.now }
     ensures { IfOk result (λ text. text.items ≡ text_of answer.now) }
 {
     match answer {
-        Answer::Usage => Ok(line(alloc, USAGE)?),
-        Answer::Unread => Ok(line(alloc, "fault read\n")?),
-        Answer::Refused { line, kind } => Ok(fault(alloc, *line, *kind)?),
-        Answer::Ran { mode, run, .. } => run_text(alloc, mode, run),
-        Answer::Free { line } => Ok(free_text(alloc, *line)?),
-        Answer::Determinate { run } => Ok(run.text.clone()?),
-        Answer::Checked { checked } => Ok(checked_text(alloc, *checked)?),
-        Answer::NoPlan { line, kind } => Ok(plan_fault_text(alloc, *line, *kind)?),
-        Answer::Planned { plan, run, .. } => nm_persist::text(alloc, plan, run),
-        Answer::Logged {
+        Response::Usage => Ok(line(alloc, USAGE)?),
+        Response::Unread => Ok(line(alloc, "fault read\n")?),
+        Response::Refused { line, kind } => Ok(fault(alloc, *line, *kind)?),
+        Response::Ran { mode, run, .. } => run_text(alloc, mode, run),
+        Response::Free { line } => Ok(free_text(alloc, *line)?),
+        Response::Determinate { run } => Ok(run.text.clone()?),
+        Response::Checked { checked } => Ok(checked_text(alloc, *checked)?),
+        Response::NoPlan { line, kind } => Ok(plan_fault_text(alloc, *line, *kind)?),
+        Response::Planned { plan, run, .. } => nm_persist::text(alloc, plan, run),
+        Response::Logged {
             threads,
             rounds,
             log,
@@ -110,28 +110,28 @@ fn run_text(alloc: Global, mode: &Mode, run: &RunRecord) -> Result<Vec<u8>, Memo
     ensures { IfOk result (λ text. text.items ≡ run_text_lem mode.now run.now) }
 {
     match mode {
-        Mode::Run => nm_report::text(alloc, run, false),
-        Mode::Trace => nm_report::text(alloc, run, true),
+        Mode::Run => nm_report::report(alloc, run),
+        Mode::Trace => nm_report::trace(alloc, run),
         Mode::Flood { key, messages, .. } => nm_report::summary(alloc, run, *key, *messages),
         Mode::Plain | Mode::Check | Mode::Parts | Mode::Multi { .. } => Ok(Vec::new(alloc)),
     }
 }
 
 /// The status of an answer that was written.
-pub fn status(answer: &Answer) -> u8
+pub fn status(answer: &Response) -> u8
     ensures { result ≡ status_of answer.now }
 {
     match answer {
-        Answer::Ran { run, .. } => end_status(run.done),
-        Answer::Free { .. } => 7,
-        Answer::Determinate { run } => end_status(run.done),
-        Answer::Checked { checked } => checked_status(*checked),
-        Answer::NoPlan { .. } => 3,
-        Answer::Planned { run, .. } => end_status(run.done),
-        Answer::Logged { .. } => 0,
-        Answer::Usage => 2,
-        Answer::Refused { .. } => 3,
-        Answer::Unread => 4,
+        Response::Ran { run, .. } => end_status(run.done),
+        Response::Free { .. } => 7,
+        Response::Determinate { run } => end_status(run.done),
+        Response::Checked { checked } => checked_status(*checked),
+        Response::NoPlan { .. } => 3,
+        Response::Planned { run, .. } => end_status(run.done),
+        Response::Logged { .. } => 0,
+        Response::Usage => 2,
+        Response::Refused { .. } => 3,
+        Response::Unread => 4,
     }
 }
 

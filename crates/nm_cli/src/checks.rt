@@ -7,9 +7,9 @@ ghost use Rattle.nm_command_line.specs.CommandLine.{InRange};
 ghost use Rattle.nm_command_line.specs.declared.Mode.TheVariants.{Check};
 ghost use Rattle.nm_cli.specs.Answers.{CanBeTold, IsAnswerTo, WasRead};
 ghost use Rattle.nm_cli.specs.Checks.{IsWritten};
-ghost use Rattle.nm_cli.specs.declared.answers.Answer.TheVariants.{Checked};
+ghost use Rattle.nm_cli.specs.declared.answers.Response.TheVariants.{Checked};
 
-use crate::answers::Answer;
+use crate::answers::Response;
 use nm_checked::check;
 use nm_command_line::CommandLine;
 use nm_outside::{Source, Unread, read_up_to};
@@ -24,7 +24,7 @@ pub fn answer_trace<S: Source>(
     alloc: Global,
     line: &CommandLine,
     source: &mut S,
-) -> Result<Answer, Memory>
+) -> Result<Response, Memory>
     requires range { InRange line.now }
     requires check { line.now.mode ≡ Check }
     ensures answer { IfOk result
@@ -38,9 +38,9 @@ pub fn answer_trace<S: Source>(
     match read_up_to(alloc, source, MAX_READ) {
         Ok(bytes) => {
             let checked = check(alloc, &bytes, line.cells, line.eager)?;
-            Ok(Answer::Checked { checked })
+            Ok(Response::Checked { checked })
         }
-        Err(Unread::Failed) => Ok(Answer::Unread),
+        Err(Unread::Failed) => Ok(Response::Unread),
         Err(Unread::Memory) => Err(Memory),
     }
 }

@@ -10,9 +10,9 @@ ghost use Rattle.nm_checked.specs.declared.checks.Checked.TheVariants.{Judged};
 ghost use Rattle.nm_cli.specs.Answers.{CanBeTold, IsAnswer, IsLogOf, NotTaken, WasRead};
 ghost use Rattle.nm_cli.specs.Checks.{IsWritten};
 ghost use Rattle.nm_cli.specs.Scripts.{ReadsSource, limit_of};
-ghost use Rattle.nm_cli.specs.declared.answers.Answer.TheVariants.{Checked};
+ghost use Rattle.nm_cli.specs.declared.answers.Response.TheVariants.{Checked};
 
-use crate::answers::Answer;
+use crate::answers::Response;
 use crate::checks::answer_trace;
 use crate::plans::answer_plan;
 use crate::runs::{answer_source, run_script};
@@ -31,27 +31,27 @@ fn run_threads<R: Threads + Wait + Sync, G: Gate + Sync>(
     threads: u8,
     rounds: u16,
     gate: &G,
-) -> Result<Answer, Memory>
+) -> Result<Response, Memory>
     requires { AreNumbers (Multi threads rounds) }
     ensures { IfOk result (IsLogOf threads rounds) }
 {
     let log = nm_multi::multi(rt, alloc, threads, rounds, gate)?;
-    Ok(Answer::Logged {
+    Ok(Response::Logged {
         threads,
         rounds,
         log,
     })
 }
 
-/// Finds the answer to the words: runs the script of the source, a flood or several threads, or has
-/// nothing to run.
+/// Finds the answer to the words: runs what they ask for, works out a plain script's report, or
+/// judges a trace.
 pub fn find_answer<R: Threads + Wait + Sync, S: Source, G: Gate + Sync>(
     rt: &R,
     alloc: Global,
     words: &[String],
     source: &mut S,
     gate: &G,
-) -> Result<Answer, Memory>
+) -> Result<Response, Memory>
     ensures answer { IfOk result (IsAnswer (map string_bytes words.now)
         (S.left source.old) (S.faults source.old) (S.faults source.new)) }
     ensures told { IfOk result CanBeTold }
@@ -69,7 +69,7 @@ pub fn find_answer<R: Threads + Wait + Sync, S: Source, G: Gate + Sync>(
         (λ answer. WasRead answer → answer ≡ Checked (Judged Holds)) }
 {
     let Some(line) = read(words) else {
-        return Ok(Answer::Usage);
+        return Ok(Response::Usage);
     };
     match line.mode {
         Mode::Flood {

@@ -5,15 +5,15 @@
 //!
 //! # What a contract sees
 //! The words as lists of bytes; the bytes that the source tells, of which at most 8,388,609 are
-//! read; the bytes that the sink tells; the status, the record of the run, what the closed ports
-//! kept, and the log of several threads. Each status has one clause that says what it means, and
-//! one that says when it comes; the words beside `run`, `trace` and `flood` have a clause each,
-//! which tells their cases apart.
+//! read, with `check` 67,108,865; the bytes that the sink tells; the status, the record of the run,
+//! what the closed ports kept, and the log of several threads. Statuses 0 to 6 have a clause each
+//! that says what they mean, and 0 to 3 one that says when they come; the words beside `run`,
+//! `trace` and `flood` have a clause each, which tells their cases apart.
 //! # What is proved
-//! - Status 2 exactly where the words are not taken, and then nothing was read; 3 exactly where a
-//!   script was to be read and the bytes spell none; 0 and 1 of a run exactly where they spell one,
-//!   or a flood was asked for, with the text that is due. Each yields to 5 and 6, and those of the
-//!   bytes to 4 too.
+//! - Status 2 exactly where the words are not taken, and then nothing was read; 3 with `run`,
+//!   `trace` and `plain` exactly where the bytes spell no script; 0 and 1 of a run exactly where
+//!   they spell one, or a flood was asked for, with the text that is due. Each yields to 5 and 6,
+//!   and those of the bytes to 4 too.
 //! - The record, at 0 and 1 and where its text could not be written: each rank's history is a run
 //!   of its commands, what it took of each sender is what was sent, all ranks are quiescent, all
 //!   cells are at home, the status is 0 exactly where no rank waits, and the closed ports carried
@@ -44,7 +44,7 @@ ghost use Rattle.nm_command_line.specs.declared.CommandLine.{CommandLine};
 ghost use Rattle.nm_command_line.specs.declared.Mode.TheVariants.{Check, Multi, Parts, Plain};
 ghost use Rattle.nm_sure.specs.PlainText.{plain_done};
 ghost use Rattle.nm_script.specs.Spelled.{SpellsNone};
-ghost use Rattle.nm_cli.specs.declared.answers.Answer.{Answer};
+ghost use Rattle.nm_cli.specs.declared.answers.Response.{Response};
 ghost use Rattle.nm_cli.specs.Answers.{IsAnswer, NotTaken, end_status, log_of, run_of, text_of};
 ghost use Rattle.nm_cli.specs.Answers.{unread, usage, ways_of};
 ghost use Rattle.nm_cli.specs.Endings.{IsLogged, IsRefused, IsReported, IsSaid, IsStatus};
@@ -60,7 +60,7 @@ mod finding;
 mod plans;
 mod runs;
 
-use answers::{Answer, status, text};
+use answers::{Response, status, text};
 use finding::find_answer;
 use nm_flood::laws::{floods_keep_the_limits, floods_name_their_messages};
 use nm_multi::CallLog;
@@ -78,9 +78,9 @@ use std::thread::Threads;
 #[derive(Drop)]
 pub struct Ended {
     /// 0 where every rank is at its end, 1 where one waits for what can't come, 2 where the words
-    /// are not taken, 3 where the bytes are no script, 4 where a read failed, 5 where a write
-    /// failed, 6 for want of memory, 7 where a script is not plain, 8 where a trace breaks a rule,
-    /// 9 where there is no trace.
+    /// are not taken, 3 where the bytes are no script or no plan, 4 where a read failed, 5 where a
+    /// write failed, 6 for want of memory, 7 where a script is not plain, 8 where a trace breaks a
+    /// rule, 9 where there is no trace.
     pub status: u8,
     /// The record of the run, where its text was due.
     pub run: Option<RunRecord>,
@@ -120,16 +120,16 @@ fn hand_out_run(status: u8, run: RunRecord, ways: Ways) -> Ended
 }
 
 // How it ends with an answer that was due.
-fn hand_out(status: u8, answer: Answer) -> Ended
+fn hand_out(status: u8, answer: Response) -> Ended
     ensures status { result.status ≡ status }
     ensures run { result.run ≡ run_of answer }
     ensures ways { result.closed ≡ ways_of answer }
     ensures log { result.log ≡ log_of answer }
 {
     match answer {
-        Answer::Ran { run, ways, .. } => hand_out_run(status, run, ways),
-        Answer::Planned { run, ways, .. } => hand_out_run(status, run, ways),
-        Answer::Logged { log, .. } => Ended {
+        Response::Ran { run, ways, .. } => hand_out_run(status, run, ways),
+        Response::Planned { run, ways, .. } => hand_out_run(status, run, ways),
+        Response::Logged { log, .. } => Ended {
             log: Some(log),
             ..hand_out_nothing(status)
         },
@@ -138,7 +138,7 @@ fn hand_out(status: u8, answer: Answer) -> Ended
 }
 
 // Writes what is due to the sink, and answers the status.
-fn deliver<K: Sink>(sink: &mut K, due: &[u8], answer: &Answer) -> u8
+fn deliver<K: Sink>(sink: &mut K, due: &[u8], answer: &Response) -> u8
     requires { due.now ≡ text_of answer.now }
     ensures { IsSaid answer.now result (K.taken sink.old) (K.taken sink.new)
         (Rose (K.faults sink.old) (K.faults sink.new)) }
@@ -251,7 +251,7 @@ pub fn nemesis<R: Threads + Wait + Sync, S: Source, K: Sink, G: Gate + Sync>(
 
     // The sink failed. What it took is a front of the text that was due.
     ensures unwritten { result.status ≡ 5 → Rose (K.faults sink.old) (K.faults sink.new)
-        × (answer : Answer) × IsAnswer (map string_bytes words.now)
+        × (answer : Response) × IsAnswer (map string_bytes words.now)
         (S.left source.old) (S.faults source.old) (S.faults source.new) answer
         × AppendsPart (K.taken sink.old) (K.taken sink.new) (text_of answer)
         × (result.run ≡ run_of answer) × (result.closed ≡ ways_of answer)

@@ -4,10 +4,11 @@ ghost use Rattle.std.specs.Prelude.{◌≡◌, Some, drop, IfErr, IfOk, IfSome};
 ghost use Rattle.nm_command_line.specs.CommandLine.{InRange};
 ghost use Rattle.nm_command_line.specs.declared.Mode.TheVariants.{Parts};
 ghost use Rattle.nm_persist.specs.Rules.{IsTextOf};
-ghost use Rattle.nm_cli.specs.Answers.{CanBeTold, IsAnswerForBytes, IsAnswerForPlan, IsAnswerTo, WasRead};
+ghost use Rattle.nm_cli.specs.Answers.{CanBeTold, IsAnswerForBytes, IsAnswerForPlan, IsAnswerTo};
+ghost use Rattle.nm_cli.specs.Answers.{WasRead};
 ghost use Rattle.nm_cli.specs.Plans.{PlanRefuses};
 
-use crate::answers::Answer;
+use crate::answers::Response;
 use crate::runs::{MAX_READ, run};
 use nm_command_line::CommandLine;
 use nm_outside::{Gate, Source, Unread, read_up_to};
@@ -36,13 +37,13 @@ fn run_plan<R: Threads + Wait + Sync, G: Gate + Sync>(
     line: &CommandLine,
     plan: Plan,
     gate: &G,
-) -> Result<Answer, Memory>
+) -> Result<Response, Memory>
     requires { InRange line.now }
     ensures { IfOk result (IsAnswerForPlan line.now plan.ranks plan.lines) }
 {
     let script = plan.expand(alloc)?;
     let (run, ways) = run(rt, alloc, line, &script, gate)?;
-    Ok(Answer::Planned { plan, run, ways })
+    Ok(Response::Planned { plan, run, ways })
 }
 
 // Runs the script of the plan that the bytes spell, or has their first fault.
@@ -52,13 +53,13 @@ fn answer_bytes<R: Threads + Wait + Sync, G: Gate + Sync>(
     line: &CommandLine,
     bytes: &[u8],
     gate: &G,
-) -> Result<Answer, Memory>
+) -> Result<Response, Memory>
     requires { InRange line.now }
     ensures { IfOk result (IsAnswerForBytes line.now bytes.now) }
 {
     match read_plan(alloc, bytes) {
         Ok(plan) => run_plan(rt, alloc, line, plan, gate),
-        Err(PlanFault::Bad { line, kind }) => Ok(Answer::NoPlan { line, kind }),
+        Err(PlanFault::Bad { line, kind }) => Ok(Response::NoPlan { line, kind }),
         Err(PlanFault::Memory) => Err(Memory),
     }
 }
@@ -70,7 +71,7 @@ pub fn answer_plan<R: Threads + Wait + Sync, S: Source, G: Gate + Sync>(
     line: &CommandLine,
     source: &mut S,
     gate: &G,
-) -> Result<Answer, Memory>
+) -> Result<Response, Memory>
     requires range { InRange line.now }
     requires parts { line.now.mode ≡ Parts }
     ensures answer { IfOk result
@@ -81,7 +82,7 @@ pub fn answer_plan<R: Threads + Wait + Sync, S: Source, G: Gate + Sync>(
 {
     match read_up_to(alloc, source, MAX_READ) {
         Ok(bytes) => answer_bytes(rt, alloc, line, &bytes, gate),
-        Err(Unread::Failed) => Ok(Answer::Unread),
+        Err(Unread::Failed) => Ok(Response::Unread),
         Err(Unread::Memory) => Err(Memory),
     }
 }

@@ -9,7 +9,7 @@ ghost use Rattle.nm_script.specs.Spelled.{IsTextOf};
 ghost use Rattle.nm_cli.specs.Answers.{CanBeTold, IsAnswerFor, IsAnswerTo, Refuses, WasRead};
 ghost use Rattle.nm_cli.specs.Scripts.{IsRunOfScript, Reads, Runs};
 
-use crate::answers::Answer;
+use crate::answers::Response;
 use nm_command_line::{CommandLine, Mode};
 use nm_outside::{Gate, Source, Unread, read_up_to};
 use nm_report::RunRecord;
@@ -62,13 +62,13 @@ pub fn run_script<R: Threads + Wait + Sync, G: Gate + Sync>(
     line: &CommandLine,
     script: &Script,
     gate: &G,
-) -> Result<Answer, Memory>
+) -> Result<Response, Memory>
     requires range { InRange line.now }
     requires runs { Runs line.now.mode }
     ensures { IfOk result (IsAnswerFor line.now script.now.ranks script.now.lines) }
 {
     let (run, ways) = run(rt, alloc, line, script, gate)?;
-    Ok(Answer::Ran {
+    Ok(Response::Ran {
         mode: line.mode,
         run,
         ways,
@@ -76,17 +76,17 @@ pub fn run_script<R: Threads + Wait + Sync, G: Gate + Sync>(
 }
 
 // Works out what all runs of a script report, or where it is not plain.
-fn work_out(alloc: Global, line: &CommandLine, script: &Script) -> Result<Answer, Memory>
+fn work_out(alloc: Global, line: &CommandLine, script: &Script) -> Result<Response, Memory>
     requires range { InRange line.now }
     requires plain { line.now.mode ≡ Plain }
     ensures { IfOk result (IsAnswerFor line.now script.now.ranks script.now.lines) }
 {
     if let Some(line) = first_free(script) {
-        return Ok(Answer::Free { line });
+        return Ok(Response::Free { line });
     }
     let shape = Shape::new(script.ranks, line.cells, line.eager).unwrap();
     let run = plain(alloc, script, shape)?;
-    Ok(Answer::Determinate { run })
+    Ok(Response::Determinate { run })
 }
 
 // Answers the words that ask for something of a script.
@@ -96,7 +96,7 @@ fn answer_script<R: Threads + Wait + Sync, G: Gate + Sync>(
     line: &CommandLine,
     script: &Script,
     gate: &G,
-) -> Result<Answer, Memory>
+) -> Result<Response, Memory>
     requires range { InRange line.now }
     requires reads { Reads line.now.mode }
     ensures { IfOk result (IsAnswerFor line.now script.now.ranks script.now.lines) }
@@ -114,7 +114,7 @@ pub fn answer_source<R: Threads + Wait + Sync, S: Source, G: Gate + Sync>(
     line: &CommandLine,
     source: &mut S,
     gate: &G,
-) -> Result<Answer, Memory>
+) -> Result<Response, Memory>
     requires range { InRange line.now }
     requires reads { Reads line.now.mode }
     ensures answer { IfOk result
@@ -125,12 +125,12 @@ pub fn answer_source<R: Threads + Wait + Sync, S: Source, G: Gate + Sync>(
 {
     let bytes = match read_up_to(alloc, source, MAX_READ) {
         Ok(bytes) => bytes,
-        Err(Unread::Failed) => return Ok(Answer::Unread),
+        Err(Unread::Failed) => return Ok(Response::Unread),
         Err(Unread::Memory) => return Err(Memory),
     };
     match read_text(alloc, &bytes) {
         Ok(script) => answer_script(rt, alloc, line, &script, gate),
-        Err(ScriptFault::Bad { line, kind }) => Ok(Answer::Refused { line, kind }),
+        Err(ScriptFault::Bad { line, kind }) => Ok(Response::Refused { line, kind }),
         Err(ScriptFault::Memory) => Err(Memory),
     }
 }

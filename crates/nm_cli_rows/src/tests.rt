@@ -1,3 +1,5 @@
+//! Words and bytes in, and what the program says of them.
+
 ghost use Rattle.std.specs.Prelude.{◌≡◌, ◌<◌};
 
 use nm_cli::{Ended, nemesis};
@@ -160,7 +162,7 @@ fn scripts_give_their_reports(rt: HostRuntime) -> Result<(), Fail> {
 }
 
 #[test]
-fn words_without_a_script_of_their_own(rt: HostRuntime) -> Result<(), Fail> {
+fn words_that_hand_out_no_run(rt: HostRuntime) -> Result<(), Fail> {
     let rows: [(&str, &[u8], u8, &[u8]); 5] = [
         (
             "multi 4 64",

@@ -1,8 +1,9 @@
 //! Where in a history each thing happened first.
 
-ghost use Rattle.std.specs.Prelude.{◌≡◌, ◌≤◌, ℕ, false, length, Bool, IfOk, OnOk, MatchOption, Some, List, position, slice_get, nat_eq, nat_lt, take};
+ghost use Rattle.std.specs.Prelude.{◌≡◌, ◌≤◌, ℕ, Bool, false, IfOk, List, MatchOption, OnOk, Some};
+ghost use Rattle.std.specs.Prelude.{length, nat_lt, slice_get, take};
 ghost use Rattle.indexmap.specs.IndexMap.{get, Updates};
-ghost use Rattle.nm_places.specs.Firsts.{same_message, is_named, is_numbered};
+ghost use Rattle.nm_places.specs.Firsts.{is_named, is_numbered};
 ghost use Rattle.nm_history.specs.declared.events.Event as event;
 ghost use Rattle.nm_history.specs.declared.events.Happened as occurrence;
 ghost use Rattle.nm_history.specs.Completion.{is_taken};
@@ -10,7 +11,7 @@ ghost use Rattle.nm_history.specs.AtEach.{AtEach};
 ghost use Rattle.nm_history.specs.Delivery.{earlier_than};
 ghost use Rattle.nm_history.specs.Happens.{happened};
 ghost use Rattle.nm_history.specs.RankRun.{StampAt};
-ghost use Rattle.nm_places.specs.Placed.{AreTaken};
+ghost use Rattle.nm_places.specs.Placed.{AreFirsts, AreNumberedFirsts, AreTaken};
 ghost use Rattle.nm_places.specs.declared.firsts.Message as message;
 
 use indexmap::IndexMap;
@@ -66,8 +67,7 @@ pub trait Kind {
 
 /// The first place of each message at which an event of this kind is of it.
 pub fn firsts<T: Kind>(alloc: Global, events: &[Event]) -> Result<IndexMap<Message, usize>, Memory>
-    ensures { IfOk result (λ places. (m : message.Message) → get same_message places m
-        ≡ position (λ e. T.is_of m.rank m.n e.what) events.now) }
+    ensures { IfOk result (λ places. AreFirsts T.is_of events.now places) }
 {
     let mut places = IndexMap::new(alloc);
     for (k, e) in events.iter().enumerate() {
@@ -80,8 +80,7 @@ pub fn firsts<T: Kind>(alloc: Global, events: &[Event]) -> Result<IndexMap<Messa
 
 /// Whether a message has a first place before this one.
 pub fn is_before<T: Kind>(places: &IndexMap<Message, usize>, rank: u8, n: u64, k: usize) -> bool
-    ensures { (h : List event.Event) → ((m : message.Message) → get same_message places.now m
-        ≡ position (λ e. T.is_of m.rank m.n e.what) h) →
+    ensures { (h : List event.Event) → AreFirsts T.is_of h places.now →
         result ≡ happened (T.is_of rank n) (take k h) }
 {
     match places.get(&Message { rank, n }) {
@@ -92,14 +91,10 @@ pub fn is_before<T: Kind>(places: &IndexMap<Message, usize>, rank: u8, n: u64, k
 
 /// Whether a message has a first place.
 pub fn is_ever<T: Kind>(places: &IndexMap<Message, usize>, rank: u8, n: u64) -> bool
-    ensures { (h : List event.Event) → ((m : message.Message) → get same_message places.now m
-        ≡ position (λ e. T.is_of m.rank m.n e.what) h) →
+    ensures { (h : List event.Event) → AreFirsts T.is_of h places.now →
         result ≡ happened (T.is_of rank n) h }
 {
-    match places.get(&Message { rank, n }) {
-        Some(_) => true,
-        None => false,
-    }
+    places.contains_key(&Message { rank, n })
 }
 
 /// Whether a message was paired before this place.
@@ -117,10 +112,7 @@ pub fn is_taken_before(taken: &IndexMap<Message, usize>, rank: u8, n: u64, k: us
 pub fn is_ever_taken(taken: &IndexMap<Message, usize>, rank: u8, n: u64) -> bool
     ensures { (h : List event.Event) → AreTaken h taken.now → result ≡ is_taken h rank n }
 {
-    match taken.get(&Message { rank, n }) {
-        Some(_) => true,
-        None => false,
-    }
+    taken.contains_key(&Message { rank, n })
 }
 
 /// Whether the event at a place has a smaller stamp than this one.
@@ -144,8 +136,7 @@ pub fn is_earlier<T: Kind>(
     stamp: u64,
 ) -> bool
     requires rising { AtEach (λ before e. StampAt before e.stamp) events.now }
-    requires firsts { (m : message.Message) → get same_message places.now m
-        ≡ position (λ e. T.is_of m.rank m.n e.what) events.now }
+    requires firsts { AreFirsts T.is_of events.now places.now }
     ensures { result ≡ happened (T.is_of rank n) (earlier_than stamp events.now) }
 {
     match places.get(&Message { rank, n }) {
@@ -168,8 +159,7 @@ pub fn numbered_firsts<T: Numbering>(
     alloc: Global,
     events: &[Event],
 ) -> Result<IndexMap<u64, usize>, Memory>
-    ensures { IfOk result (λ places. (n : ℕ) → get nat_eq places n
-        ≡ position (λ e. T.is_at n e.what) events.now) }
+    ensures { IfOk result (λ places. AreNumberedFirsts T.is_at events.now places) }
 {
     let mut places = IndexMap::new(alloc);
     for (k, e) in events.iter().enumerate() {
@@ -182,8 +172,7 @@ pub fn numbered_firsts<T: Numbering>(
 
 /// Whether a number has a first place before this one.
 pub fn is_number_before<T: Numbering>(places: &IndexMap<u64, usize>, number: u64, k: usize) -> bool
-    ensures { (h : List event.Event) → ((n : ℕ) → get nat_eq places.now n
-        ≡ position (λ e. T.is_at n e.what) h) →
+    ensures { (h : List event.Event) → AreNumberedFirsts T.is_at h places.now →
         result ≡ happened (T.is_at number) (take k h) }
 {
     match places.get(&number) {

@@ -37,7 +37,7 @@ impl Came {
     }
 }
 
-/// The first places at which it was settled what becomes of them.
+/// The first places at which it was settled what becomes of the messages of other ranks.
 #[derive(Drop)]
 pub struct Settled {
     pub withdrawn: IndexMap<Message, usize>,
@@ -96,7 +96,7 @@ impl Gone {
     }
 }
 
-/// The first places at which they were recalled, and the answers came.
+/// The first places at which messages to other ranks were recalled, and the answers came.
 #[derive(Drop)]
 pub struct Recalled {
     pub recalls: IndexMap<Message, usize>,
@@ -136,8 +136,8 @@ impl Outgoing {
     }
 }
 
-/// The first places of what happens to receives, by their number, and of what is done for a command, by
-/// its line.
+/// The first places of what happens to receives, by their number, and of what is done for a
+/// command, by its line.
 #[derive(Drop)]
 pub struct ByNumber {
     pub cancels: IndexMap<u64, usize>,

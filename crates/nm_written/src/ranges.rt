@@ -6,7 +6,8 @@ ghost use Rattle.std.specs.Prelude.{◌<◌, ◌^◌, length};
 ghost use Rattle.std.specs.List.{AllByRecursion};
 ghost use Rattle.nm_types.specs.declared.answers.Answer.TheVariants as told;
 ghost use Rattle.nm_report.specs.Ends.{ends_of};
-ghost use Rattle.nm_trace.specs.Traces.{AnswerIn, CellsIn, EventIn, PairIn, PeerIn, PickIn, WaitsIn, WhatIn};
+ghost use Rattle.nm_trace.specs.Traces.{AnswerIn, CellsIn, EventIn, PairIn, PeerIn, PickIn};
+ghost use Rattle.nm_trace.specs.Traces.{WaitsIn, WhatIn};
 ghost use Rattle.nm_written.specs.Ranges.{ArrivalIn, PostIn, ReadIn};
 
 use nm_history::{Event, Happened};

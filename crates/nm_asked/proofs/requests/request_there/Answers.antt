@@ -1,4 +1,4 @@
-use Rattle.std.proofs.Common.{◌≡◌, get_or, sym, subst}
+use Rattle.std.proofs.Common.{◌≡◌, ◌∙◌, sym, subst}
 use Rattle.std.specs.Prelude.{IsTrue, option_map}
 use Rattle.std.proofs.lemmas.Option.{get_or_from_slice_get}
 use Rattle.nm_history.specs.declared.events.Event.{Event}
@@ -9,7 +9,8 @@ use Rattle.nm_asked.proofs.requests.request_there.Goals as goal
 
 pub returns : goal.returns
 returns c = λ line e here start.
-    let same : get_or c.args.events.now c.args.place c.index-events-place.result ≡ e =
-    get_or_from_slice_get c.args.events.now c.args.place e c.index-events-place.result here in
+    let same : c.in_ok-get.field-0.now ≡ e =
+    c.in_ok-get.ensures.lookup.1
+    ∙ get_or_from_slice_get c.args.events.now c.args.place e c.in_ok-get.field-0.now here in
     subst (λ (x : Event). option_map meant_by c.request_made.result ≡ request_of line x.what) same
     (c.request_made.ensures line (subst (λ (x : Event). IsTrue (is_start_at line x.what)) (sym same) start))

@@ -1,7 +1,7 @@
 -- What was read is judged.
 use Rattle.std.proofs.Common.{sym, ap, subst}
 use Rattle.nm_checked.specs.Checks.{IsChecked, IsInput}
-use Rattle.nm_cli.specs.declared.answers.Answer.TheVariants.{Checked}
+use Rattle.nm_cli.specs.declared.answers.Response.TheVariants.{Checked}
 use Rattle.nm_cli.proofs.RunLemmas.{checked_as, holds_for, left_at}
 use Rattle.nm_cli.proofs.checks.answer_trace.Goals as goal
 
