@@ -15,13 +15,11 @@
 //! - The lines of each flood keep the limits of a script. Each is a send, a receive that names its
 //!   source and its tag, or a wait (`laws`).
 //! # What is only tested
-//! That `flood_script` succeeds with ample memory.
+//! That `flood_script` succeeds with ample memory (`nm_texts_rows`).
 #![tactic(auto)]
 
 pub mod laws;
 mod messages;
 mod scripts;
-#[cfg(test)]
-mod tests;
 
 pub use scripts::flood_script;

@@ -16,14 +16,12 @@
 //! - `put` takes no memory. It asks for room, which `reserve` makes; want of memory changes nothing but
 //!   the room.
 //! # What is only tested
-//! That `new` and `reserve` succeed with ample memory.
+//! That `new` and `reserve` succeed with ample memory (`nm_basics_rows`).
 #![tactic(auto)]
 
 pub mod laws;
 mod letters;
 mod outboxes;
-#[cfg(test)]
-mod tests;
 
 pub use letters::Letter;
 pub use outboxes::Outbox;

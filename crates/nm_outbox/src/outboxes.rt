@@ -17,7 +17,6 @@ use std::marker::Model;
 /// The packets that a rank has still to send.
 ///
 /// Each call but `new` and `reserve` takes constant time and no memory.
-#[derive(Drop)]
 pub struct Outbox {
     me: u8,
     letters: VecDeque<Letter>,
@@ -26,6 +25,18 @@ pub struct Outbox {
     put: Vec<u64>,
     // the greatest of the counts of those put
     most: u64,
+}
+
+impl Drop for Outbox {
+    fn drop(self) {
+        let Outbox {
+            me: _,
+            letters: _,
+            popped: _,
+            put: _,
+            most: _,
+        } = self;
+    }
 }
 
 impl Model for Outbox {

@@ -15,7 +15,8 @@
 //!   std writer, as far as std tells their bytes.
 //! # What is only tested
 //! That `read_up_to` and `MemorySink::new` succeed with ample memory, how large the buffers of
-//! `read_up_to` are, and that both loops do their work over a std reader and a std writer.
+//! `read_up_to` are, and that both loops do their work over a std reader and a std writer
+//! (`nm_basics_rows`).
 #![tactic(auto)]
 
 mod gate;
@@ -24,8 +25,6 @@ mod reading;
 mod real;
 mod sink;
 mod source;
-#[cfg(test)]
-mod tests;
 mod writing;
 
 pub use gate::{Gate, OpenGate, PairGate};

@@ -7,7 +7,7 @@ use crate::{Failed, Source};
 use std::alloc::{AllocError, Global};
 
 /// Why reading stopped before the end.
-#[derive(Clone, Copy, Debug, PartialEq, Eq)]
+#[derive(Clone, Copy, Debug, PartialEq)]
 pub enum Unread {
     /// Want of memory.
     Memory,

@@ -1,6 +1,7 @@
 -- What a side may be told after its first message, and after its recall.
-use Rattle.std.proofs.Common.{◌≡◌, ℕ, true, List, [], ◌∷◌, ◌++◌}
-use Rattle.std.proofs.Common.{refl, ap}
+use Rattle.std.proofs.Common.{◌≡◌, ℕ, ◌<◌, true, List, [], ◌∷◌, ◌++◌, length}
+use Rattle.std.proofs.Common.{refl, ap, sym, subst}
+use Rattle.std.specs.Prelude.{replicate}
 use Rattle.nm_types.specs.declared.messages.How.TheVariants.{Ask}
 use Rattle.nm_history.specs.declared.events.Event.{Event}
 use Rattle.nm_history.specs.declared.events.Happened.TheVariants.{Send, Recall}
@@ -10,6 +11,13 @@ use Rattle.nm_sending.specs.Departures.{SendingView}
 use Rattle.nm_sending.specs.Sent.{AreSent, Keeps, MayBeAnswered, MayBeCleared, MayBeRecalled}
 use Rattle.nm_sending.proofs.SentLemmas.{at}
 use Rattle.nm_sending.proofs.TurnLemmas.{numbers_to}
+
+-- a rank of two is within a list of two
+pub in_two_by_length : (xs : List ℕ) (to : ℕ) → to < 2 → length xs ≡ 2 → to < length xs
+in_two_by_length xs to low e = subst (λ n. to < n) (sym e) low
+
+pub in_two : (xs : List ℕ) (to : ℕ) → to < 2 → xs ≡ replicate 2 0 → to < length xs
+in_two xs to low e = in_two_by_length xs to low (ap length e)
 
 -- the history of one message that is sent by asking
 abbrev pub asked_once : ℕ → ℕ → ℕ → ℕ → ℕ → List Event

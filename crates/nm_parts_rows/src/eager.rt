@@ -21,31 +21,46 @@ fn join_next(
     Ok((p.payload.as_slice().len(), joined))
 }
 
-#[test]
-fn a_message_is_cut_and_joined(rt: HostRuntime) -> Result<(), Fail> {
-    let shape = Shape::new(2, 8, 1024)
-        .ok()
-        .expect(&rt, "the sizes are in range");
-    let mut joiner = Joiner::new(rt.alloc(), shape)?;
-    let mut cutter = Cutter::new(1, 0, 7, 0, Body::Gen(600));
-    assert_eq!(rt;
-        join_next(&rt, &mut cutter, &mut joiner)?,
-        (256, Joined::Begun)
-    );
-    assert_eq!(rt;
-        join_next(&rt, &mut cutter, &mut joiner)?,
-        (256, Joined::More)
-    );
-    assert_eq!(rt;
-        join_next(&rt, &mut cutter, &mut joiner)?,
-        (88, Joined::Whole)
-    );
+/// A message of 600 bytes comes in three packets.
+fn join_all(rt: &impl Abort, cutter: &mut Cutter, joiner: &mut Joiner) -> Result<(), Fail>
+    ensures { OnOk result (joiner.new.sizes ≡ joiner.old.sizes) }
+{
+    let first = join_next(rt, cutter, joiner)?;
+    let second = join_next(rt, cutter, joiner)?;
+    let third = join_next(rt, cutter, joiner)?;
+    assert_eq!(rt; first, (256, Joined::Begun));
+    assert_eq!(rt; second, (256, Joined::More));
+    assert_eq!(rt; third, (88, Joined::Whole));
     assert!(rt; cutter.next(3, 1).is_none());
+    Ok(())
+}
+
+/// Takes the whole message, and looks at its bytes.
+fn take_whole(rt: &impl Abort, joiner: &mut Joiner)
+    requires { joiner.old.sizes.ranks ≡ 2 }
+{
     assert!(rt; joiner.is_whole(1, 0));
     let bytes = joiner.take(1, 0);
     assert_eq!(rt; bytes.len(), 600);
     for (k, byte) in bytes.as_slice().iter().enumerate() {
         assert_eq!(rt; *byte as usize, (31 * k + 7) % 251);
     }
+}
+
+fn cut_and_join(rt: &impl Abort, joiner: &mut Joiner) -> Result<(), Fail>
+    requires { joiner.old.sizes.ranks ≡ 2 }
+{
+    let mut cutter = Cutter::new(1, 0, 7, 0, Body::Gen(600));
+    join_all(rt, &mut cutter, joiner)?;
+    take_whole(rt, joiner);
     Ok(())
+}
+
+#[test]
+fn a_message_is_cut_and_joined(rt: HostRuntime) -> Result<(), Fail> {
+    let shape = Shape::new(2, 8, 1024)
+        .ok()
+        .expect(&rt, "the sizes are in range");
+    let mut joiner = Joiner::new(rt.alloc(), shape)?;
+    cut_and_join(&rt, &mut joiner)
 }

@@ -1,6 +1,6 @@
 //! Strays, a stream with a packet of each kind, and the pieces of a message.
 
-ghost use Rattle.std.specs.Prelude.{◌≡◌, ◌<◌, ◌≤◌, length};
+ghost use Rattle.std.specs.Prelude.{◌≡◌, ◌<◌, ◌≤◌, [], length, replicate};
 ghost use Rattle.nm_types.specs.declared.limits.TheConstants.{MAX_PACKETS, MAX_PAYLOAD, MAX_STAMP};
 
 use nm_history::Happened;
@@ -102,9 +102,21 @@ fn strays_do_not_continue(rt: HostRuntime) {
     }
 }
 
-#[test]
-fn packets_make_things_happen(rt: HostRuntime) -> Result<(), Fail> {
-    let mut stream = Stream::new(rt.alloc());
+/// Takes a packet that continues its stream, and looks at what it made happen.
+fn take_case(
+    rt: &impl Abort,
+    stream: &mut Stream,
+    case: (What, usize, bool, bool, &'static str, &'static str),
+) -> Result<(), Fail> {
+    let (what, size, called_for, done_at_once, first, second) = case;
+    let made = take(rt, stream, what, size, called_for, done_at_once)?;
+    assert_eq!(rt; name(&made.first), first, "{what:?}");
+    assert_eq!(rt; name(&made.second), second, "{what:?}");
+    Ok(())
+}
+
+/// Takes a packet of each kind.
+fn take_each_kind(rt: &impl Abort, stream: &mut Stream) -> Result<(), Fail> {
     let packets = [
         (head(7, 300), 256, false, false, "arrives", "nothing"),
         (What::More { n: 0 }, 44, false, false, "whole", "nothing"),
@@ -125,11 +137,16 @@ fn packets_make_things_happen(rt: HostRuntime) -> Result<(), Fail> {
         (What::Clear { n: 0 }, 0, true, true, "out", "nothing"),
         (withdrawn(1), 0, true, false, "answered", "nothing"),
     ];
-    for (what, size, called_for, done_at_once, first, second) in packets {
-        let made = take(&rt, &mut stream, what, size, called_for, done_at_once)?;
-        assert_eq!(rt; name(&made.first), first, "{what:?}");
-        assert_eq!(rt; name(&made.second), second, "{what:?}");
+    for case in packets {
+        take_case(rt, stream, case)?;
     }
+    Ok(())
+}
+
+#[test]
+fn packets_make_things_happen(rt: HostRuntime) -> Result<(), Fail> {
+    let mut stream = Stream::new(rt.alloc());
+    take_each_kind(&rt, &mut stream)?;
     assert_eq!(rt; stream.count(), 5);
     assert_eq!(rt; stream.missing(), 0);
     let again = packet(What::Withdraw { n: 4 }, 0, 11, 1);
@@ -164,15 +181,29 @@ fn take_piece(
     Ok(name(&pieces::event(&piece, joined)))
 }
 
+/// Takes the pieces of a message of 1,500 bytes, and strays between them.
+fn take_pieces(rt: &impl Abort, grants: &mut Grants) -> Result<(), Fail>
+    requires { 0 < length grants.old.grants }
+{
+    assert_eq!(rt; take_piece(rt, grants, 1024, 476)?, "stray");
+    assert_eq!(rt; take_piece(rt, grants, 0, 1023)?, "stray");
+    assert_eq!(rt; take_piece(rt, grants, 0, 1024)?, "nothing");
+    assert_eq!(rt; take_piece(rt, grants, 0, 1024)?, "stray");
+    assert_eq!(rt; take_piece(rt, grants, 1024, 476)?, "whole");
+    assert_eq!(rt; take_piece(rt, grants, 1500, 0)?, "stray");
+    Ok(())
+}
+
+/// Grants a message of 1,500 bytes, and takes its pieces.
+fn grant_and_take(rt: &impl Abort, grants: &mut Grants) -> Result<(), Fail>
+    requires { grants.old.grants ≡ replicate 1 [] }
+{
+    grants.grant(0, 3, 1500)?;
+    take_pieces(rt, grants)
+}
+
 #[test]
 fn pieces_come_in_order(rt: HostRuntime) -> Result<(), Fail> {
     let mut grants = Grants::new(rt.alloc(), 1)?;
-    grants.grant(0, 3, 1500)?;
-    assert_eq!(rt; take_piece(&rt, &mut grants, 1024, 476)?, "stray");
-    assert_eq!(rt; take_piece(&rt, &mut grants, 0, 1023)?, "stray");
-    assert_eq!(rt; take_piece(&rt, &mut grants, 0, 1024)?, "nothing");
-    assert_eq!(rt; take_piece(&rt, &mut grants, 0, 1024)?, "stray");
-    assert_eq!(rt; take_piece(&rt, &mut grants, 1024, 476)?, "whole");
-    assert_eq!(rt; take_piece(&rt, &mut grants, 1500, 0)?, "stray");
-    Ok(())
+    grant_and_take(&rt, &mut grants)
 }

@@ -12,7 +12,7 @@
 //! - `get` and `free` answer `NoSuch` exactly where the request isn't live (clause `kind`).
 //! - Want of memory leaves everything as it was, and never comes where there is room.
 //! # What is only tested
-//! That `add` and `reserve` succeed with ample memory.
+//! That `add` and `reserve` succeed with ample memory (`nm_basics_rows`).
 #![tactic(auto)]
 
 ghost use Rattle.std.specs.Prelude.{◌≡◌, ◌<◌, ◌≤◌, ◌↔◌, ◌^◌, None, IsOk, IfOk, OnOk, OnErr, IsTrue};
@@ -36,14 +36,14 @@ pub fn limit()
 {}
 
 /// A request: the key under which it is kept, and how many requests were added before it.
-#[derive(Clone, Copy, Debug, PartialEq, Eq)]
+#[derive(Clone, Copy)]
 pub struct Req {
     pub key: usize,
     pub turn: u64,
 }
 
 /// What a request stands for.
-#[derive(Clone, Copy, Debug, PartialEq, Eq)]
+#[derive(Clone, Copy, Debug, PartialEq)]
 pub enum Kind {
     /// The send of message `n` to rank `to`.
     Send { to: u8, n: u64 },
@@ -52,14 +52,19 @@ pub enum Kind {
 }
 
 /// The request isn't live.
-#[derive(Clone, Copy, Debug, PartialEq, Eq)]
+#[derive(Clone, Copy, Debug, PartialEq)]
 pub struct NoSuch;
 
 /// The live requests of a rank.
-#[derive(Drop)]
 pub struct Requests {
     live: Slab<(u64, Kind)>,
     added: u64,
+}
+
+impl Drop for Requests {
+    fn drop(self) {
+        let Requests { live: _, added: _ } = self;
+    }
 }
 
 impl Model for Requests {
@@ -148,27 +153,5 @@ impl Requests {
         let kind = self.get(r)?;
         self.live.try_remove(r.key);
         Ok(kind)
-    }
-}
-
-#[cfg(test)]
-mod tests {
-    use super::*;
-    use std::test::Fail;
-
-    #[test]
-    fn a_freed_request_is_unknown(rt: HostRuntime) -> Result<(), Fail> {
-        let mut requests = Requests::new(rt.alloc());
-        requests.reserve()?;
-        let kind = Kind::Receive { number: 3 };
-        let first = requests.add(kind)?;
-        assert_eq!(rt; requests.free(first), Ok(kind));
-        assert_eq!(rt; requests.get(first), Err(NoSuch));
-        assert!(rt; !requests.is_worn());
-        let send = Kind::Send { to: 1, n: 0 };
-        let second = requests.add(send)?;
-        assert_eq!(rt; requests.get(second), Ok(send));
-        assert_eq!(rt; requests.get(first), Err(NoSuch));
-        Ok(())
     }
 }

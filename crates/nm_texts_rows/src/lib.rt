@@ -1,7 +1,13 @@
 //! The worked rows of texts: scripts, plans and traces that are read and written, texts that are
-//! refused, and reports.
+//! refused, reports, the script of a flood, and pictures.
 #![tactic(auto)]
 
+#[cfg(test)]
+mod charts;
+#[cfg(test)]
+mod diagrams;
+#[cfg(test)]
+mod floods;
 #[cfg(test)]
 mod plans;
 #[cfg(test)]

@@ -1,0 +1,231 @@
+//! Worked calls on the rings of two ranks, and two threads on one ring.
+
+ghost use Rattle.std.specs.Prelude.{◌≡◌, ◌<◌, ◌^◌, IfOk};
+ghost use Rattle.nm_copyring.specs.Ports.{IsNew, Owns};
+
+use nm_copyring::{RingAccount, RingPort, Rings, pull, push};
+use nm_seats::Steps;
+use nm_types::{Chunk, Memory, Piece, Shape};
+use std::alloc::Global;
+use std::marker::Brand;
+use std::sync::Wait;
+use std::sync::ledger::{Blank, Ledger};
+use std::test::Fail;
+use std::thread::{Threads, join};
+
+const PIECES: u64 = 20_000;
+
+// The rings of two ranks, with their ports.
+fn two_ranks(alloc: Global) -> Result<(Rings, RingPort, RingPort), Memory>
+    ensures { IfOk result (λ t. (t.0.ranks ≡ 2) × IsNew t.0 t.1 0 × IsNew t.0 t.2 1) }
+{
+    let Ok(shape) = Shape::new(2, 1, 0) else {
+        unreachable!()
+    };
+    let (rings, mut ports) = Rings::build(alloc, shape)?;
+    let b = ports.remove(1);
+    let a = ports.remove(0);
+    Ok((rings, a, b))
+}
+
+fn close_two(alloc: Global, rings: Rings, a: RingPort, b: RingPort) -> Result<RingAccount, Memory>
+    requires { (rings.ranks ≡ 2) × Owns rings a × (a.rank ≡ 0) × Owns rings b × (b.rank ≡ 1) }
+{
+    let mut ports = Vec::new(alloc);
+    ports.push(a)?;
+    ports.push(b)?;
+    Ok(rings.close(ports))
+}
+
+// A piece whose bytes spell its number.
+fn piece(from: u8, number: u64) -> Piece
+    requires { number < 2 ^ 60 }
+    ensures { (result.from ≡ from) × (result.number ≡ number) }
+{
+    Piece {
+        from,
+        number,
+        n: 0,
+        at: 0,
+        bytes: Chunk::of(&number.to_le_bytes()),
+    }
+}
+
+// Pushes the next piece to a rank, and gives the number of a piece that isn't pushed.
+fn push_next<L: Ledger>(r: &Rings, port: &mut RingPort, to: u8, steps: &mut Steps<L>) -> Option<u64>
+    requires { Owns r.now port.old × (to < r.now.ranks) }
+    ensures { Owns r.now port.new × (port.new.rank ≡ port.old.rank) }
+{
+    if !port.has_room(to) {
+        return None;
+    }
+    let next = piece(port.rank(), port.pushed(to));
+    if push(r, port, to, &next, steps) {
+        None
+    } else {
+        Some(next.number)
+    }
+}
+
+// Pulls the next piece of a rank, whose bytes spell the number that it gives.
+fn pull_next<L: Ledger>(
+    r: &Rings,
+    port: &mut RingPort,
+    sender: u8,
+    steps: &mut Steps<L>,
+) -> Option<u64>
+    requires { Owns r.now port.old × (sender < r.now.ranks) }
+    ensures { Owns r.now port.new × (port.new.rank ≡ port.old.rank) }
+{
+    let mut piece = Piece::blank();
+    if !pull(r, port, sender, &mut piece, steps) {
+        return None;
+    }
+    if piece.bytes.as_slice() == piece.number.to_le_bytes().as_slice() {
+        Some(piece.number)
+    } else {
+        Some(u64::MAX)
+    }
+}
+
+// Five pushes, a pull, a push, and five pulls.
+fn calls<L: Ledger>(
+    r: &Rings,
+    a: &mut RingPort,
+    b: &mut RingPort,
+    blank: Blank,
+) -> [Option<u64>; 12]
+    requires blank { (blank.name ≡ L.name) × (blank.parts ≡ L.parts) × (0 < L.parts) }
+    requires owns { (r.now.ranks ≡ 2) × Owns r.now a.old × Owns r.now b.old }
+    ensures owns { Owns r.now a.new × (a.new.rank ≡ a.old.rank) }
+    ensures other_owns { Owns r.now b.new × (b.new.rank ≡ b.old.rank) }
+{
+    let mut steps = Steps::<L>::new(blank);
+    let mut answers = [None; 12];
+    for k in 0..5 {
+        answers[k] = push_next(r, a, 1, &mut steps);
+    }
+    answers[5] = pull_next(r, b, 0, &mut steps);
+    answers[6] = push_next(r, a, 1, &mut steps);
+    for k in 7..12 {
+        answers[k] = pull_next(r, b, 0, &mut steps);
+    }
+    answers
+}
+
+#[test]
+fn a_fifth_piece_isnt_pushed(rt: HostRuntime) -> Result<(), Fail> {
+    let (rings, mut a, mut b) = two_ranks(rt.alloc())?;
+    let answers = calls::<Brand>(&rings, &mut a, &mut b, Blank::new(1));
+    let pushed = (a.rank(), a.pushed(1), a.full(1));
+    let pulled = (b.rank(), b.pulled(0), b.empty(0));
+    let left = close_two(rt.alloc(), rings, a, b)?.left();
+    let expected = [
+        None,
+        None,
+        None,
+        None,
+        Some(4),
+        Some(0),
+        None,
+        Some(1),
+        Some(2),
+        Some(3),
+        Some(4),
+        None,
+    ];
+    assert_eq!(rt; answers, expected);
+    assert_eq!(rt; pushed, (0, 5, 1));
+    assert_eq!(rt; pulled, (1, 5, 1));
+    assert_eq!(rt; left, 0);
+    Ok(())
+}
+
+#[test]
+fn sixty_four_ranks_have_rings(rt: HostRuntime) -> Result<(), Fail> {
+    let Ok(shape) = Shape::new(64, 1, 0) else {
+        unreachable!()
+    };
+    let (rings, ports) = Rings::build(rt.alloc(), shape)?;
+    let count = ports.len();
+    let left = rings.close(ports).left();
+    assert_eq!(rt; (count, left), (64, 0));
+    Ok(())
+}
+
+// Pushes so many pieces, each as often as its place is full.
+fn push_all<R: Wait, L: Ledger>(rt: &R, r: &Rings, mut port: RingPort, blank: Blank) -> RingPort
+    requires blank { (blank.name ≡ L.name) × (blank.parts ≡ L.parts) × (0 < L.parts) }
+    requires owns { (r.now.ranks ≡ 2) × Owns r.now port }
+    ensures { Owns r.now result × (result.rank ≡ port.rank) }
+{
+    let mut steps = Steps::<L>::new(blank);
+    for _try in rt.forever() {
+        if port.pushed(1) == PIECES {
+            return port;
+        }
+        push_next(r, &mut port, 1, &mut steps);
+    }
+    unreachable!()
+}
+
+fn sender<R: Wait>(rt: &R, r: &Rings, port: RingPort) -> RingPort
+    requires { (r.now.ranks ≡ 2) × Owns r.now port }
+    ensures { Owns r.now result × (result.rank ≡ port.rank) }
+{
+    push_all::<R, Brand>(rt, r, port, Blank::new(1))
+}
+
+// Pulls so many pieces, and counts those whose bytes spell the next number.
+fn pull_all<R: Wait, L: Ledger>(
+    rt: &R,
+    r: &Rings,
+    mut port: RingPort,
+    blank: Blank,
+) -> (RingPort, u64)
+    requires blank { (blank.name ≡ L.name) × (blank.parts ≡ L.parts) × (0 < L.parts) }
+    requires owns { (r.now.ranks ≡ 2) × Owns r.now port }
+    ensures { Owns r.now result.0 × (result.0.rank ≡ port.rank) }
+{
+    let mut steps = Steps::<L>::new(blank);
+    let mut in_order = 0;
+    for _try in rt.forever() {
+        if port.pulled(0) == PIECES {
+            return (port, in_order);
+        }
+        if pull_next(r, &mut port, 0, &mut steps) == Some(in_order) && in_order < PIECES {
+            in_order += 1;
+        }
+    }
+    unreachable!()
+}
+
+fn receiver<R: Wait>(rt: &R, r: &Rings, port: RingPort) -> (RingPort, u64)
+    requires { (r.now.ranks ≡ 2) × Owns r.now port }
+    ensures { Owns r.now result.0 × (result.0.rank ≡ port.rank) }
+{
+    pull_all::<R, Brand>(rt, r, port, Blank::new(1))
+}
+
+// The two ends at once, in two threads.
+fn at_once<R: Threads + Wait + Sync>(
+    rt: &R,
+    r: &Rings,
+    a: RingPort,
+    b: RingPort,
+) -> (RingPort, (RingPort, u64))
+    requires { (r.now.ranks ≡ 2) × Owns r.now a × Owns r.now b }
+    ensures sender { Owns r.now result.0 × (result.0.rank ≡ a.rank) }
+    ensures receiver { Owns r.now result.1.0 × (result.1.0.rank ≡ b.rank) }
+{
+    join(rt, move || sender(rt, r, a), move || receiver(rt, r, b))
+}
+
+#[test]
+fn pieces_cross_between_threads(rt: HostRuntime) -> Result<(), Fail> {
+    let (rings, a, b) = two_ranks(rt.alloc())?;
+    let (a, (b, in_order)) = at_once(&rt, &rings, a, b);
+    let left = close_two(rt.alloc(), rings, a, b)?.left();
+    assert_eq!(rt; (in_order, left), (PIECES, 0));
+    Ok(())
+}
