@@ -14,10 +14,18 @@ use std::alloc::Global;
 use std::marker::Model;
 
 /// The receiver's end of eager messages. It keeps bytes, and no packet.
-#[derive(Drop)]
 pub struct Joiner {
     shape: Shape,
     senders: Vec<Sender>,
+}
+
+impl Drop for Joiner {
+    fn drop(self) {
+        let Joiner {
+            shape: _,
+            senders: _,
+        } = self;
+    }
 }
 
 impl Model for Joiner {

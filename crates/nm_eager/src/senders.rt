@@ -16,13 +16,23 @@ use std::marker::Model;
 use std::mem;
 
 /// What came from one sender: the whole messages that weren't taken, and one that is unfinished.
-#[derive(Drop)]
 pub struct Sender {
     count: u64,
     whole: VecDeque<Message>,
     unfinished: Option<Message>,
     /// Empty: the next message that begins gets it.
     buffer: Vec<u8>,
+}
+
+impl Drop for Sender {
+    fn drop(self) {
+        let Sender {
+            count: _,
+            whole: _,
+            unfinished: _,
+            buffer: _,
+        } = self;
+    }
 }
 
 impl Model for Sender {

@@ -16,7 +16,7 @@ use std::alloc::Global;
 use std::collections::BTreeMap;
 
 /// What waits, in a bucket for each key. Each entry has an order number, which grows with age.
-#[derive(Debug, Drop)]
+#[derive(Drop)]
 pub struct Buckets<T> {
     pub map: IndexMap<Picks, BTreeMap<usize, T>>,
     pub len: usize,

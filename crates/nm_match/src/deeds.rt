@@ -7,7 +7,7 @@ ghost use Rattle.nm_match.specs.Deeds.{is_deed_of_receive, is_deed_of_message};
 use nm_types::{Arrival, Post};
 
 /// A deed of a matcher. Cancels and withdrawals that came too late are none.
-#[derive(Clone, Copy, Debug, PartialEq, Eq)]
+#[derive(Clone, Copy)]
 pub enum Deed {
     /// A receive was posted.
     Post(Post),

@@ -35,11 +35,20 @@ use std::marker::Model;
 /// under which order number, and what is cancelled or claimed: so `cancel`, `withdraw`,
 /// `is_claimed` and `take_claimed` walk nothing. `knows_post` and `knows_arrival` look through all
 /// deeds.
-#[derive(Debug, Drop)]
 pub struct Matcher {
     deeds: Vec<Deed>,
     posted: Posted,
     unexpected: Unexpected,
+}
+
+impl Drop for Matcher {
+    fn drop(self) {
+        let Matcher {
+            deeds: _,
+            posted: _,
+            unexpected: _,
+        } = self;
+    }
 }
 
 impl Model for Matcher {

@@ -7,7 +7,7 @@ use crate::picks::Picks;
 use nm_types::Arrival;
 
 /// A message: its sender, and its place among the messages of that sender.
-#[derive(Clone, Copy, Debug, Eq, Hash)]
+#[derive(Clone, Copy, Eq, Hash)]
 pub struct MessageId {
     pub from: u8,
     pub n: u64,
@@ -28,7 +28,7 @@ impl PartialEq for MessageId {
 }
 
 /// Where a receive or a message stands that is in no pair.
-#[derive(Clone, Copy, Debug, PartialEq, Eq)]
+#[derive(Clone, Copy)]
 pub enum Standing {
     /// It waits in the bucket of this key, under this order number.
     Waits { key: Picks, order: usize },

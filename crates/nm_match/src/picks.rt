@@ -6,7 +6,7 @@ ghost use Rattle.nm_match.specs.Picks.{picks_of_post, picks_of_arrival};
 use nm_types::{Arrival, Peer, Post, TagPick};
 
 /// What a receive names: a source, a tag and a context. What waits in one bucket has the same.
-#[derive(Clone, Copy, Debug, Eq, Hash)]
+#[derive(Clone, Copy, Eq, Hash)]
 pub struct Picks {
     pub from: Peer,
     pub tag: TagPick,

@@ -19,11 +19,19 @@ use nm_types::{Envelope, Memory, Peer, Post, TagPick};
 use std::alloc::Global;
 
 /// The receives that wait, and those that are cancelled.
-#[derive(Debug, Drop)]
 pub struct Posted {
     pub waiting: Buckets<Post>,
     /// Where each of them stands, by its number.
     pub standings: IndexMap<u64, Standing>,
+}
+
+impl Drop for Posted {
+    fn drop(self) {
+        let Posted {
+            waiting: _,
+            standings: _,
+        } = self;
+    }
 }
 
 /// Sets aside the receive of this number, if it waits.

@@ -23,11 +23,19 @@ use nm_types::{Arrival, Memory, Peer, TagPick};
 use std::alloc::Global;
 
 /// The messages that wait, and those that are claimed.
-#[derive(Debug, Drop)]
 pub struct Unexpected {
     pub waiting: Buckets<Arrival>,
     /// Where each of them stands.
     pub standings: IndexMap<MessageId, Standing>,
+}
+
+impl Drop for Unexpected {
+    fn drop(self) {
+        let Unexpected {
+            waiting: _,
+            standings: _,
+        } = self;
+    }
 }
 
 /// Whether a receive or a probe that names this selects the messages of a bucket.

@@ -28,7 +28,7 @@ impl Process {
     pub fn into_history(self) -> History
         ensures events { result.events ≡ self.rank.events }
     {
-        self.rank.into_history()
+        self.into_rank().into_history()
     }
 
     /// Takes the first packet away. Where it was the last one of an eager message, that one has

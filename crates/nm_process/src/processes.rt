@@ -29,7 +29,6 @@ use std::alloc::Global;
 use std::marker::Model;
 
 /// A process of a run.
-#[derive(Drop)]
 pub struct Process {
     pub(crate) me: u8,
     pub(crate) rank: Rank,
@@ -41,6 +40,19 @@ pub struct Process {
     pub(crate) next: usize,
     // how many of its commands ran
     pub(crate) at: u32,
+}
+
+impl Drop for Process {
+    fn drop(self) {
+        let Process {
+            me: _,
+            rank: _,
+            requests: _,
+            handles: _,
+            next: _,
+            at: _,
+        } = self;
+    }
 }
 
 impl Model for Process {
@@ -93,6 +105,21 @@ fn looks(command: Option<&Command>) -> bool
 }
 
 impl Process {
+    // Its rank, when the process is used no more.
+    pub(crate) fn into_rank(self) -> Rank
+        ensures { result ≡ self.rank }
+    {
+        let Process {
+            me: _,
+            rank,
+            requests: _,
+            handles: _,
+            next: _,
+            at: _,
+        } = self;
+        rank
+    }
+
     /// A process at its first command of a script, in a run of these sizes.
     pub fn new(alloc: Global, shape: Shape, me: u8, lines: &[Line]) -> Result<Process, Memory>
         requires { me < shape.ranks }

@@ -1,7 +1,7 @@
 //! What a process's next command comes to.
 
 /// What a process's next command came to.
-#[derive(Clone, Copy, Debug, PartialEq, Eq)]
+#[derive(Clone, Copy)]
 pub enum Step {
     /// It ran.
     Ran,
@@ -11,7 +11,7 @@ pub enum Step {
 
 /// The message that a matched probe claimed: its sender, and its number among the messages of that
 /// sender.
-#[derive(Clone, Copy, Debug, PartialEq, Eq)]
+#[derive(Clone, Copy)]
 pub struct Handle {
     pub from: u8,
     pub n: u64,

@@ -6,14 +6,14 @@ ghost use Rattle.nm_rank.specs.declared.answers.CancelFault.TheVariants as fault
 use nm_types::Memory;
 
 /// Whether a request is complete.
-#[derive(Clone, Copy, Debug, PartialEq, Eq)]
+#[derive(Clone, Copy)]
 pub enum State {
     Pending,
     Ready,
 }
 
 /// Why a request has no result.
-#[derive(Clone, Copy, Debug, PartialEq, Eq)]
+#[derive(Clone, Copy)]
 pub enum FinishFault {
     /// The request isn't live.
     NoSuch,
@@ -22,7 +22,7 @@ pub enum FinishFault {
 }
 
 /// What a cancel came to.
-#[derive(Clone, Copy, Debug, PartialEq, Eq)]
+#[derive(Clone, Copy, Debug, PartialEq)]
 pub enum Cancelled {
     /// The receive is cancelled.
     Done,
@@ -33,7 +33,7 @@ pub enum Cancelled {
 }
 
 /// Why nothing was cancelled.
-#[derive(Clone, Copy, Debug)]
+#[derive(Clone, Copy)]
 pub enum CancelFault {
     /// The request isn't live.
     NoSuch,

@@ -25,7 +25,6 @@ use std::marker::Model;
 const WORN: u64 = MAX_STAMP - 15;
 
 /// The core of one rank: everything that it does, without a thread and without a shared word.
-#[derive(Drop)]
 pub struct Rank {
     pub(crate) me: u8,
     pub(crate) shape: Shape,
@@ -38,6 +37,23 @@ pub struct Rank {
     pub(crate) took: Vec<u64>,
     pub(crate) pulled: Vec<u64>,
     pub(crate) strays: u64,
+}
+
+impl Drop for Rank {
+    fn drop(self) {
+        let Rank {
+            me: _,
+            shape: _,
+            journal: _,
+            requests: _,
+            sending: _,
+            receiving: _,
+            streams: _,
+            took: _,
+            pulled: _,
+            strays: _,
+        } = self;
+    }
 }
 
 impl Model for Rank {
@@ -123,7 +139,19 @@ impl Rank {
     pub fn into_history(self) -> History
         ensures events { result.events ≡ self.events }
     {
-        self.journal.into_history()
+        let Rank {
+            me: _,
+            shape: _,
+            journal,
+            requests: _,
+            sending: _,
+            receiving: _,
+            streams: _,
+            took: _,
+            pulled: _,
+            strays: _,
+        } = self;
+        journal.into_history()
     }
 
     /// How many packets to a rank have left.

@@ -10,7 +10,7 @@ use std::alloc::Global;
 use std::marker::Model;
 
 /// A message that came.
-#[derive(Clone, Copy, Debug)]
+#[derive(Clone, Copy)]
 pub struct Receipt {
     pub arrival: Arrival,
     /// Whether all of it is here.
@@ -18,7 +18,7 @@ pub struct Receipt {
 }
 
 /// A receive that was posted, or that took a claimed message.
-#[derive(Clone, Copy, Debug)]
+#[derive(Clone, Copy)]
 pub struct Receive {
     /// How many bytes it takes at most.
     pub cap: u32,
@@ -45,9 +45,14 @@ impl Receive {
 }
 
 /// The messages that came, by sender and number.
-#[derive(Drop)]
 pub(crate) struct Receipts {
     rows: Vec<Vec<Receipt>>,
+}
+
+impl Drop for Receipts {
+    fn drop(self) {
+        let Receipts { rows: _ } = self;
+    }
 }
 
 impl Model for Receipts {

@@ -45,21 +45,20 @@ use std::alloc::Global;
 use std::marker::Model;
 
 /// What a receive that was started is: its number, and the message that it took, if it took one.
-#[derive(Clone, Copy, Debug)]
+#[derive(Clone, Copy)]
 pub struct Started {
     pub number: u64,
     pub taken: Option<Arrival>,
 }
 
 /// What a piece did: whether it continued its message, and what that made happen.
-#[derive(Debug, Drop)]
+#[derive(Drop)]
 pub struct Drawn {
     pub continued: bool,
     pub event: Option<Happened>,
 }
 
 /// The receiving side of a rank: the messages that come to it, and its receives.
-#[derive(Drop)]
 pub struct Receiving {
     matcher: Matcher,
     joiner: Joiner,
@@ -69,6 +68,19 @@ pub struct Receiving {
     receives: Vec<Receive>,
     // by sender, how many pieces continued
     drawn: Vec<u64>,
+}
+
+impl Drop for Receiving {
+    fn drop(self) {
+        let Receiving {
+            matcher: _,
+            joiner: _,
+            grants: _,
+            receipts: _,
+            receives: _,
+            drawn: _,
+        } = self;
+    }
 }
 
 impl Model for Receiving {

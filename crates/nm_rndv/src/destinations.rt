@@ -19,10 +19,18 @@ use std::marker::Model;
 use std::mem;
 
 /// The messages asked of one destination and those recalled from it, each by its number, in order.
-#[derive(Drop)]
 pub struct Destination {
     asked: IndexMap<u64, State>,
     recalls: IndexMap<u64, Option<bool>>,
+}
+
+impl Drop for Destination {
+    fn drop(self) {
+        let Destination {
+            asked: _,
+            recalls: _,
+        } = self;
+    }
 }
 
 impl Model for Destination {

@@ -15,9 +15,14 @@ use std::alloc::Global;
 use std::marker::Model;
 
 /// The messages that a receiver has cleared to be sent, for all senders.
-#[derive(Drop)]
 pub struct Grants {
     senders: Vec<Sender>,
+}
+
+impl Drop for Grants {
+    fn drop(self) {
+        let Grants { senders: _ } = self;
+    }
 }
 
 impl Model for Grants {

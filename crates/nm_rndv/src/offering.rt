@@ -21,7 +21,6 @@ use std::alloc::Global;
 use std::marker::Model;
 
 /// The messages that a sender has asked to be cleared, for all destinations, and its recalls.
-#[derive(Drop)]
 pub struct Offers {
     destinations: Vec<Destination>,
     // Every message that was cleared, also those that are out.
@@ -30,6 +29,17 @@ pub struct Offers {
     first: usize,
     // How many places of the order are kept free: at least one for each message that waits.
     reserved: usize,
+}
+
+impl Drop for Offers {
+    fn drop(self) {
+        let Offers {
+            destinations: _,
+            order: _,
+            first: _,
+            reserved: _,
+        } = self;
+    }
 }
 
 impl Model for Offers {

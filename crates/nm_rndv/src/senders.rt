@@ -15,11 +15,19 @@ use std::alloc::Global;
 use std::marker::Model;
 
 /// The grants of one sender in order, each by its message's number.
-#[derive(Drop)]
 pub struct Sender {
     grants: IndexMap<u64, Grant>,
     // The place of the first that is not whole: an empty message may be whole behind it.
     first_open: usize,
+}
+
+impl Drop for Sender {
+    fn drop(self) {
+        let Sender {
+            grants: _,
+            first_open: _,
+        } = self;
+    }
 }
 
 impl Model for Sender {

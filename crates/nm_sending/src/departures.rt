@@ -7,7 +7,7 @@ ghost use Rattle.nm_sending.specs.Departures.{ending_of, fresh, is_over};
 use nm_types::{Answer, How};
 
 /// What became of a message that was sent.
-#[derive(Clone, Copy, Debug)]
+#[derive(Clone, Copy)]
 pub struct Departure {
     pub how: How,
     /// Its length in bytes.

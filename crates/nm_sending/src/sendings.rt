@@ -40,7 +40,6 @@ use std::alloc::Global;
 use std::marker::Model;
 
 /// The messages that a rank sent, to all ranks.
-#[derive(Drop)]
 pub struct Sending {
     me: u8,
     ranks: u8,
@@ -51,6 +50,20 @@ pub struct Sending {
     pushed: Vec<u64>,
     // how many messages have not left
     staying: u64,
+}
+
+impl Drop for Sending {
+    fn drop(self) {
+        let Sending {
+            me: _,
+            ranks: _,
+            outbox: _,
+            offers: _,
+            departures: _,
+            pushed: _,
+            staying: _,
+        } = self;
+    }
 }
 
 impl Model for Sending {

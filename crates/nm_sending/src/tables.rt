@@ -11,11 +11,16 @@ use std::alloc::Global;
 use std::marker::Model;
 
 /// What became of each message, by destination and number.
-#[derive(Drop)]
 pub(crate) struct Table {
     rows: Vec<Vec<Departure>>,
     // the most messages that there are to any rank
     most: u64,
+}
+
+impl Drop for Table {
+    fn drop(self) {
+        let Table { rows: _, most: _ } = self;
+    }
 }
 
 impl Model for Table {

@@ -6,7 +6,7 @@ ghost use Rattle.nm_protocol.specs.Effects.{whole_if as whole_if_lem};
 use nm_history::Happened;
 
 /// What a packet made happen: nothing, one thing, or two in this order.
-#[derive(Debug, Drop)]
+#[derive(Drop)]
 pub struct Made {
     pub first: Option<Happened>,
     pub second: Option<Happened>,

@@ -27,7 +27,6 @@ const WORN: u64 = MAX_STAMP - 15;
 /// What the packets of one rank tell the rank that takes them.
 ///
 /// Each call takes constant time, whatever came before.
-#[derive(Drop)]
 pub struct Stream {
     count: u64,
     // how many bytes the last message still lacks
@@ -37,6 +36,19 @@ pub struct Stream {
     answered: Numbers,
     // those answered that were withdrawn
     undone: Numbers,
+}
+
+impl Drop for Stream {
+    fn drop(self) {
+        let Stream {
+            count: _,
+            missing: _,
+            withdrawn: _,
+            cleared: _,
+            answered: _,
+            undone: _,
+        } = self;
+    }
 }
 
 impl Model for Stream {
