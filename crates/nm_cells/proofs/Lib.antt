@@ -12,4 +12,5 @@ pub mod NumberLemmas
 mod PassLemmas
 mod PathListLemmas
 pub mod PortLemmas
+mod StayLemmas
 mod TallyLemmas

@@ -1,6 +1,6 @@
 -- What a seat knows after the steps of a call.
-use Rattle.std.proofs.Common.{◌≡◌, ℕ, ◌%◌, ◌<◌, Some, None, List, [], ◌∷◌, length, sym, ap, ◌∙◌}
-use Rattle.std.proofs.Common.{subst, suc, ◌+◌, get_or, set, min, arith}
+use Rattle.std.proofs.Common.{refl, ◌≡◌, ℕ, ◌%◌, ◌<◌, Some, None, List, [], ◌∷◌, length, sym, ap, ◌∙◌}
+use Rattle.std.proofs.Common.{length-set, subst, suc, ◌+◌, get_or, set, min, arith}
 use Rattle.std.proofs.lemmas.Bool.Decides.{nat_tests}
 use Rattle.std.proofs.lemmas.List.{get_or-map, length-map, map-set}
 use mathlib.Core.Option as maybe
@@ -127,3 +127,20 @@ counts_lane e ts j f t counts is =
 pub counted_more : (k n m : ℕ) → n ≡ counted k → m ≡ min (n + 1) 18446744073709551615
     → m ≡ counted (suc k)
 counted_more k n m is more = grind (arith, nat_tests, is, more)
+
+-- what a port knows once a call changed what it has of one rank
+module _ (f : Lane → Lane) (j : ℕ) (e : Entry) (after : Knowing)
+    (is : after ≡ knowing (with_lane f j e)) where
+  pub lane_rests : e.work ≡ Idle → Rests after
+  lane_rests idle = subst Rests (sym is) (refl, idle)
+
+  pub lane_wide : length e.lanes ≡ e.ranks → length (mine after).lanes ≡ (mine after).ranks
+  lane_wide wide = subst (λ (m : Knowing). length (mine m).lanes ≡ (mine m).ranks) (sym is)
+      (length-set e.lanes j (f (lane e j)) ∙ wide)
+
+  pub lane_owned : (n : ℕ) → IsOne n e → IsOne n (mine after)
+  lane_owned n one = subst (λ (m : Knowing). IsOne n (mine m)) (sym is)
+      (one.0, one.1, length-set e.lanes j (f (lane e j)) ∙ one.2)
+
+  pub lane_counts : (ts : List Tally) → Counts (with_lane f j e) ts → Counts (mine after) ts
+  lane_counts ts counts = subst (λ (m : Knowing). Counts (mine m) ts) (sym is) counts

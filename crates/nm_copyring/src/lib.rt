@@ -42,8 +42,6 @@ mod slots;
 mod steps;
 mod table;
 mod tallies;
-#[cfg(test)]
-mod tests;
 
 pub use close::RingAccount;
 pub use pieces::{can_pull, can_push, pull, push};

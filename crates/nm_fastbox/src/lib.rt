@@ -23,7 +23,5 @@
 #![tactic(auto)]
 
 mod moves;
-#[cfg(test)]
-mod tests;
 
 pub use moves::{put, take};

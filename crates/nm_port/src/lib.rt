@@ -31,11 +31,7 @@
 
 mod cells;
 mod polls;
-#[cfg(test)]
-mod race;
 mod sends;
-#[cfg(test)]
-mod tests;
 
 pub use nm_cells::{Closed, Fabric, Port};
 pub use polls::poll;

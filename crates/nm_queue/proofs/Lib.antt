@@ -1,1 +1,1 @@
-mod MoveLemmas
+pub mod MoveLemmas

@@ -7,7 +7,8 @@ use Rattle.nm_table.specs.declared.table.Entry.{Entry}
 use Rattle.nm_table.specs.declared.table.Hand.TheVariants.{Away}
 use Rattle.nm_table.specs.declared.table.Heads.{Heads}
 use Rattle.nm_table.specs.declared.table.Look.{Look}
-use Rattle.nm_table.specs.Plays.{taken, heads_of, with_heads, with_look}
+use Rattle.nm_table.specs.declared.table.Look.TheVariants.{LinkEmpty}
+use Rattle.nm_table.specs.Plays.{taken, heads_of, with_heads, with_look, with_missed, link_miss}
 use Rattle.nm_cells.specs.declared.cell.Cell.{Cell}
 use Rattle.nm_cells.specs.Ports.{knows, holding, SameTaken, Stays, Leaves, Takes, arrivals}
 use Rattle.nm_table.specs.Rule.{Load, sender, number}
@@ -120,3 +121,76 @@ unmoved_heads b x f old mid new u is st h none = record {
   loose = st.3 ∙ u.loose;
   first = λ some. absurd (let z = none some in cc);
 }
+
+-- so what has no cell leaves the cells of the earlier port too
+pub leaves_since : (b : Bool) (old mid new : Port) → Unmoved b old mid → Leaves mid new
+    → Leaves old new
+leaves_since b old mid new u v = record {
+  hands = v.hands ∙ u.hands;
+  holding = v.holding ∙ u.holds;
+  taken = (v.taken.0 ∙ u.same.0, v.taken.1 ∙ u.same.1, v.taken.2 ∙ u.same.2);
+  loose = v.loose ∙ u.loose;
+}
+
+-- there is a shadow head, which is the one before where there was one
+pub record Begun (b : Bool) (old mid : Entry) : Type 0 where
+  pub heads : Heads
+  pub is : mid ≡ with_heads b heads old
+  pub some : 0 < heads.shadow
+  pub same : 0 < (heads_of b old).shadow → heads ≡ heads_of b old
+
+heads_kept : (b : Bool) (e : Entry) → e ≡ with_heads b (heads_of b e) e
+heads_kept true e = refl
+heads_kept false e = refl
+
+heads_twice : (b : Bool) (x y : Heads) (e : Entry)
+    → with_heads b y (with_heads b x e) ≡ with_heads b y e
+heads_twice true x y e = refl
+heads_twice false x y e = refl
+
+pub begun_still : (b : Bool) (e : Entry) → 0 < (heads_of b e).shadow → Begun b e e
+begun_still b e some = record {
+  heads = heads_of b e;
+  is = heads_kept b e;
+  some = some;
+  same = λ _. refl;
+}
+
+pub begun_anew : (b : Bool) (x y : Heads) (old loaded new : Entry) → loaded ≡ with_heads b x old
+    → new ≡ with_heads b y loaded → 0 < y.shadow
+    → (0 < (heads_of b old).shadow → false ≡ true) → Begun b old new
+begun_anew b x y old loaded new found hidden some none = record {
+  heads = y;
+  is = hidden ∙ ap (with_heads b y) found ∙ heads_twice b x y old;
+  some = some;
+  same = λ was. absurd (let z = none was in cc);
+}
+
+abbrev missing : Bool → Entry → Entry
+missing b e = with_look b (LinkEmpty 0) (with_missed b link_miss e)
+
+missing_heads : (b : Bool) (x : Heads) (l k : Look) (e : Entry)
+    → heads_of b (missing b (with_look b k (with_look b l (with_heads b x e)))) ≡ x
+missing_heads true x l k e = refl
+missing_heads false x l k e = refl
+
+missing_is : (b : Bool) (x : Heads) (l k : Look) (e : Entry)
+    → missing b (with_look b k (with_look b l (with_heads b x e))) ≡ missing b (with_heads b x e)
+missing_is true x l k e = refl
+missing_is false x l k e = refl
+
+-- the link of the first cell was 0 twice, although another cell was the tail
+module _ (b : Bool) (l k : Look) (old mid linked tailed last : Entry) (u : Begun b old mid)
+    (look : linked ≡ with_look b l mid) (tail : tailed ≡ with_look b k linked)
+    (again : last ≡ with_look b (LinkEmpty 0) (with_missed b link_miss tailed)) where
+  whole : last ≡ missing b (with_look b k (with_look b l (with_heads b u.heads old)))
+  whole = again ∙ ap (λ e. missing b e)
+      (tail ∙ ap (with_look b k) (look ∙ ap (with_look b l) u.is))
+
+  pub heads_stand : heads_of b last ≡ u.heads
+  heads_stand = ap (heads_of b) whole ∙ missing_heads b u.heads l k old
+
+  pub missed_since : last ≡ with_look b (LinkEmpty 0)
+      (with_missed b link_miss (with_heads b (heads_of b last) old))
+  missed_since = whole ∙ missing_is b u.heads l k old
+      ∙ ap (λ x. missing b (with_heads b x old)) (sym heads_stand)

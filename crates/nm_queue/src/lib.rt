@@ -24,7 +24,5 @@
 #![tactic(auto)]
 
 mod moves;
-#[cfg(test)]
-mod tests;
 
 pub use moves::{Miss, dequeue, enqueue};

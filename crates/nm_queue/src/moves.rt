@@ -19,7 +19,7 @@ use nm_seats::Steps;
 use std::sync::ledger::Ledger;
 
 /// Why there was no cell to take. A miss is no fault.
-#[derive(Clone, Copy, Debug, PartialEq, Eq, Drop)]
+#[derive(Clone, Copy, Drop)]
 pub enum Miss {
     /// The head was loaded as 0.
     HeadEmpty,

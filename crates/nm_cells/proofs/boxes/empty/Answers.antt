@@ -414,3 +414,65 @@ invariant_of-port-clause-kept g c =
     (far_apart q.loose (knows q) q.seat.me.1 q.kept slot
     (subst (λ k. length (knows q).hands ≤ k) (sym at₂) (calls.far f q o₂ j few false)))
     (subst (AreKept q.loose (knows q)) b.front q.kept))
+
+pub overflow_sub-port : goal.overflow_sub-port
+overflow_sub-port g c =
+    let f = c.args.f.now in let p = c.args.port.now in let o = c.requires.owns in
+    let few = c.requires.peer in let j = c.args.sender in let k = c.requires.taking in
+    let place = ap (λ (u : Tally). u.box_got) c.peer.ensures ∙ peer_box_got p j
+    (calls.few f p o j few) in
+    let at = c.box_at-slot.ensures.at ∙ calls.in_slot_is f p o j few c.peer.result.box_got place in
+    let y : Load = plays.box_load j (knows p) in
+    let there = calls.box_there f p o j few false c.box_at-slot.result at y k.0 in
+    let q = c.bring_slot.new.port in let b = c.bring_slot.ensures in let v = b.seat.1 in
+    let o₂ = calls.brought_owns f p q b.seat.0 v b.same.0 o in
+    let at₂ = at ∙ ap (λ u. next_box (sole u.entries) false j) (sym v) in
+    let was = ap (λ u. emptying_of (sole u.entries) j) v ∙ k.0 in
+    let next : number y ≡ taken_by q j = k.1 ∙ ap (λ ps. (peer_in ps.items j).taken) (sym b.same.1)
+    in let slot = c.box_at-slot.result in let w = plays.load_in slot p.seat.me.1 in
+    let then = subst (λ t. plays.got_boxed t c.empty_slot.new.seat.me c.store.new.seat.me)
+    (sym c.requires.told) c.store.ensures.2.1 in
+    let load : plays.box_load j (mine c.empty_slot.new.seat.me) ≡ y =
+    ap (λ m. plays.box_load j (mine m)) c.empty_slot.ensures.emptied
+    ∙ ap (λ u. plays.box_load j (sole u.entries)) v in
+    let is = then.0 ∙ (λ i. (
+      view (plays.with_got_box (load i ∷ [])
+          (plays.with_emptying j None (mine (c.empty_slot.ensures.emptied i))) ∷ []),
+      rest (c.empty_slot.ensures.emptied i).1,
+    )) in
+    let new = subst (λ (m : plays.Knowing). ¬ plays.Came (mine m) j (number y))
+    c.empty_slot.ensures.emptied
+    (subst (λ u. ¬ plays.Came (mine c.empty_slot.new.seat.me) j (number u)) load then.1) in
+    let some = calls.emptied_hands f q o₂ j few c.store.new.seat.me slot w b.front y at₂ was is in
+    omega arith
+
+pub returns-clause-hands : goal.returns-clause-hands
+returns-clause-hands g c =
+    let f = c.args.f.now in let p = c.args.port.now in let o = c.requires.owns in
+    let few = c.requires.peer in let j = c.args.sender in let k = c.requires.taking in
+    let place = ap (λ (u : Tally). u.box_got) c.peer.ensures ∙ peer_box_got p j
+    (calls.few f p o j few) in
+    let at = c.box_at-slot.ensures.at ∙ calls.in_slot_is f p o j few c.peer.result.box_got place in
+    let y : Load = plays.box_load j (knows p) in
+    let there = calls.box_there f p o j few false c.box_at-slot.result at y k.0 in
+    let q = c.bring_slot.new.port in let b = c.bring_slot.ensures in let v = b.seat.1 in
+    let o₂ = calls.brought_owns f p q b.seat.0 v b.same.0 o in
+    let at₂ = at ∙ ap (λ u. next_box (sole u.entries) false j) (sym v) in
+    let was = ap (λ u. emptying_of (sole u.entries) j) v ∙ k.0 in
+    let next : number y ≡ taken_by q j = k.1 ∙ ap (λ ps. (peer_in ps.items j).taken) (sym b.same.1)
+    in let slot = c.box_at-slot.result in let w = plays.load_in slot p.seat.me.1 in
+    let then = subst (λ t. plays.got_boxed t c.empty_slot.new.seat.me c.store.new.seat.me)
+    (sym c.requires.told) c.store.ensures.2.1 in
+    let load : plays.box_load j (mine c.empty_slot.new.seat.me) ≡ y =
+    ap (λ m. plays.box_load j (mine m)) c.empty_slot.ensures.emptied
+    ∙ ap (λ u. plays.box_load j (sole u.entries)) v in
+    let is = then.0 ∙ (λ i. (
+      view (plays.with_got_box (load i ∷ [])
+          (plays.with_emptying j None (mine (c.empty_slot.ensures.emptied i))) ∷ []),
+      rest (c.empty_slot.ensures.emptied i).1,
+    )) in
+    let new = subst (λ (m : plays.Knowing). ¬ plays.Came (mine m) j (number y))
+    c.empty_slot.ensures.emptied
+    (subst (λ u. ¬ plays.Came (mine c.empty_slot.new.seat.me) j (number u)) load then.1) in
+    let some = calls.emptied_hands f q o₂ j few c.store.new.seat.me slot w b.front y at₂ was is in
+    let same = b.same.3 in omega arith

@@ -291,3 +291,77 @@ invariant_of-port-clause-kept g c =
     (far_apart q.loose (knows q) q.seat.me.1 q.kept slot
     (subst (λ k. length (knows q).hands ≤ k) (sym at₂) (calls.far f q o₂ j few true)))
     (subst (AreKept q.loose (knows q)) b.front q.kept))
+
+pub overflow_sub-port : goal.overflow_sub-port
+overflow_sub-port g c =
+    let f = c.args.f.now in let p = c.args.port.now in let o = c.requires.owns in
+    let few = c.requires.peer in let j = c.args.to in
+    let place = ap (λ (u : Tally). u.box_put) c.peer.ensures ∙ peer_box_put p j
+    (calls.few f p o j few) in
+    let at = c.box_at-slot.ensures.at ∙ calls.out_slot_is f p o j few c.peer.result.box_put place in
+    let none : Load = None in
+    let there = calls.box_there f p o j few true c.box_at-slot.result at none
+    (ap to_fill c.requires.free) in
+    let q = c.bring_slot.new.port in let b = c.bring_slot.ensures in let v = b.seat.1 in
+    let o₂ = calls.brought_owns f p q b.seat.0 v b.same.0 o in
+    let at₂ = at ∙ ap (λ u. next_box (sole u.entries) true j) (sym v) in
+    let was = ap (λ u. filling_of (sole u.entries) j) v ∙ c.requires.free in
+    let slot = c.box_at-slot.result in let w = plays.load_in slot p.seat.me.1 in
+    let y : Load = Some c.args.packet.now in
+    let is = subst (λ t. plays.put_boxed t c.fill_slot.new.seat.me c.store.new.seat.me)
+    (sym c.requires.told) c.store.ensures.2.1 ∙ ap (λ m. (
+      view (plays.with_put_box ((j, plays.first_load m.1) ∷ [])
+          (plays.with_filling j false (mine m)) ∷ []),
+      rest m.1,
+    )) c.fill_slot.ensures.filled in
+    let some = calls.filled_hands f q o₂ j few c.store.new.seat.me slot w b.front y at₂ was is in
+    omega arith
+
+pub returns-clause-hands : goal.returns-clause-hands
+returns-clause-hands g c =
+    let f = c.args.f.now in let p = c.args.port.now in let o = c.requires.owns in
+    let few = c.requires.peer in let j = c.args.to in
+    let place = ap (λ (u : Tally). u.box_put) c.peer.ensures ∙ peer_box_put p j
+    (calls.few f p o j few) in
+    let at = c.box_at-slot.ensures.at ∙ calls.out_slot_is f p o j few c.peer.result.box_put place in
+    let none : Load = None in
+    let there = calls.box_there f p o j few true c.box_at-slot.result at none
+    (ap to_fill c.requires.free) in
+    let q = c.bring_slot.new.port in let b = c.bring_slot.ensures in let v = b.seat.1 in
+    let o₂ = calls.brought_owns f p q b.seat.0 v b.same.0 o in
+    let at₂ = at ∙ ap (λ u. next_box (sole u.entries) true j) (sym v) in
+    let was = ap (λ u. filling_of (sole u.entries) j) v ∙ c.requires.free in
+    let slot = c.box_at-slot.result in let w = plays.load_in slot p.seat.me.1 in
+    let y : Load = Some c.args.packet.now in
+    let is = subst (λ t. plays.put_boxed t c.fill_slot.new.seat.me c.store.new.seat.me)
+    (sym c.requires.told) c.store.ensures.2.1 ∙ ap (λ m. (
+      view (plays.with_put_box ((j, plays.first_load m.1) ∷ [])
+          (plays.with_filling j false (mine m)) ∷ []),
+      rest m.1,
+    )) c.fill_slot.ensures.filled in
+    let some = calls.filled_hands f q o₂ j few c.store.new.seat.me slot w b.front y at₂ was is in
+    let same = b.same.3 in omega arith
+
+pub returns-clause-put : goal.returns-clause-put
+returns-clause-put g c =
+    let f = c.args.f.now in let p = c.args.port.now in let o = c.requires.owns in
+    let few = c.requires.peer in let j = c.args.to in
+    let place = ap (λ (u : Tally). u.box_put) c.peer.ensures ∙ peer_box_put p j
+    (calls.few f p o j few) in
+    let at = c.box_at-slot.ensures.at ∙ calls.out_slot_is f p o j few c.peer.result.box_put place in
+    let none : Load = None in
+    let there = calls.box_there f p o j few true c.box_at-slot.result at none
+    (ap to_fill c.requires.free) in
+    let q = c.bring_slot.new.port in let b = c.bring_slot.ensures in let v = b.seat.1 in
+    let o₂ = calls.brought_owns f p q b.seat.0 v b.same.0 o in
+    let at₂ = at ∙ ap (λ u. next_box (sole u.entries) true j) (sym v) in
+    let was = ap (λ u. filling_of (sole u.entries) j) v ∙ c.requires.free in
+    let slot = c.box_at-slot.result in let w = plays.load_in slot p.seat.me.1 in
+    let y : Load = Some c.args.packet.now in
+    let is = subst (λ t. plays.put_boxed t c.fill_slot.new.seat.me c.store.new.seat.me)
+    (sym c.requires.told) c.store.ensures.2.1 ∙ ap (λ m. (
+      view (plays.with_put_box ((j, plays.first_load m.1) ∷ [])
+          (plays.with_filling j false (mine m)) ∷ []),
+      rest m.1,
+    )) c.fill_slot.ensures.filled in
+    ap mine is ∙ ap (λ u. plays.with_put_box ((j, y) ∷ []) (plays.with_filling j false (sole u.entries))) v

@@ -7,7 +7,8 @@ use Rattle.nm_cells.specs.declared.tallies.Tally.{Tally}
 use Rattle.nm_table.specs.Rule.{Rule}
 use Rattle.nm_table.specs.Plays as plays
 use Rattle.nm_table.specs.Plays.{mine}
-use Rattle.nm_cells.specs.Ports.{knows, taken_by}
+use Rattle.nm_cells.specs.Ports.{knows, taken_by, opens}
+use Rattle.nm_cells.specs.Carried.{held_in}
 use Rattle.nm_cells.specs.AtWork.{HoldsBoxes}
 use Rattle.nm_cells.specs.Counted.{peer_in, all_unpassed, one_miss, one_begun}
 use Rattle.nm_cells.proofs.PortLemmas.{CarriesFor, peer_low, peer_box_got}
@@ -332,3 +333,84 @@ invariant_of-port-2-clause-kept g c =
     ∙ sym (ap (λ (u : Tally). u.emptying) c.peer-peer.ensures) in
     kept_begun p.loose p.seat.me c.load-found.new.seat.me p.kept j c.box_at-slot.result
     _ _ (subst (λ k. length (knows p).hands ≤ k) (sym at) (calls.far f p o j few false)) told.3
+
+pub returns-then-found-peer-clause-missed : goal.returns-then-found-peer-clause-missed
+returns-then-found-peer-clause-missed g c _ =
+    let f = c.args.f.now in let p = c.args.port.now in let o = c.requires.owns in
+    let few = c.requires.peer in let j = c.args.sender in let t = c.requires.told in
+    let then = subst (λ k. plays.told_in k (taken_by p j) (step f.board.shared.table_id.slots
+    c.flag_word-word.result 0 0 maybe.none) p.seat.me c.load-found.result
+    c.load-found.new.seat.me) (sym t.0)
+    (subst (λ a. plays.told_in g.T.BoxStep.peer a (step f.board.shared.table_id.slots
+    c.flag_word-word.result 0 0 maybe.none) p.seat.me c.load-found.result
+    c.load-found.new.seat.me) (sym t.1) c.load-found.ensures.2.1) in
+    let same = ap (λ (u : Tally). u.taken) c.peer-peer.ensures in
+    let other = c.if-found-peer.true in
+    let is = then.1 (λ hit. other (let z : c.load-found.result ≡ c.peer-peer.result.taken + 1 =
+    omega arith in z)) in
+    (ap mine is, refl)
+
+pub returns-then-found-peer-clause-holding : goal.returns-then-found-peer-clause-holding
+returns-then-found-peer-clause-holding g c =
+    let f = c.args.f.now in let p = c.args.port.now in let o = c.requires.owns in
+    let few = c.requires.peer in let j = c.args.sender in let t = c.requires.told in
+    let then = subst (λ k. plays.told_in k (taken_by p j) (step f.board.shared.table_id.slots
+    c.flag_word-word.result 0 0 maybe.none) p.seat.me c.load-found.result
+    c.load-found.new.seat.me) (sym t.0)
+    (subst (λ a. plays.told_in g.T.BoxStep.peer a (step f.board.shared.table_id.slots
+    c.flag_word-word.result 0 0 maybe.none) p.seat.me c.load-found.result
+    c.load-found.new.seat.me) (sym t.1) c.load-found.ensures.2.1) in
+    let same = ap (λ (u : Tally). u.taken) c.peer-peer.ensures in
+    let other = c.if-found-peer.true in
+    let is = then.1 (λ hit. other (let z : c.load-found.result ≡ c.peer-peer.result.taken + 1 =
+    omega arith in z)) in
+    ap (λ (m : plays.Knowing). held_in (length (mine m).hands) m.1) is
+
+pub returns-clause-found : goal.returns-clause-found
+returns-clause-found g c _ =
+    let f = c.args.f.now in let p = c.args.port.now in let o = c.requires.owns in
+    let few = c.requires.peer in let j = c.args.sender in let t = c.requires.told in
+    let then = subst (λ k. plays.told_in k (taken_by p j) (step f.board.shared.table_id.slots
+    c.flag_word-word.result 0 0 maybe.none) p.seat.me c.load-found.result
+    c.load-found.new.seat.me) (sym t.0)
+    (subst (λ a. plays.told_in g.T.BoxStep.peer a (step f.board.shared.table_id.slots
+    c.flag_word-word.result 0 0 maybe.none) p.seat.me c.load-found.result
+    c.load-found.new.seat.me) (sym t.1) c.load-found.ensures.2.1) in
+    let same = ap (λ (u : Tally). u.taken) c.peer-peer.ensures in
+    let found = c.if-found-peer.false in
+    let rs = o.2 in let is_word = c.flag_word-word.ensures in let word : ℕ = c.flag_word-word.result in
+    let back : word - 4 * (knows p).ranks ≡ c.box_at-slot.result = omega arith in
+    let place = ap (λ (u : Tally). u.box_got) c.peer-peer.ensures ∙ peer_box_got p j
+    (calls.few f p o j few) in
+    let at = c.box_at-slot.ensures.at ∙ calls.in_slot_is f p o j few
+    c.peer-peer.result.box_got place in
+    let told = subst (λ k. plays.IsToEmpty j (taken_by p j) k p.seat.me c.load-found.new.seat.me) back
+    (then.0 (let z : c.load-found.result ≡ suc (taken_by p j) = omega arith in z)) in
+    let was = calls.is_emptying f p o j few in
+    let counted = ap (λ (u : Tally). u.emptying) c.peer-peer.ensures in (
+      (told.0, told.1, told.2),
+      ap mine told.3,
+      c.take_box.ensures.hands ∙ ap (λ b. p.hands + opens b) (counted ∙ was),
+    )
+
+pub returns-clause-holding : goal.returns-clause-holding
+returns-clause-holding g c =
+    let f = c.args.f.now in let p = c.args.port.now in let o = c.requires.owns in
+    let few = c.requires.peer in let j = c.args.sender in let t = c.requires.told in
+    let then = subst (λ k. plays.told_in k (taken_by p j) (step f.board.shared.table_id.slots
+    c.flag_word-word.result 0 0 maybe.none) p.seat.me c.load-found.result
+    c.load-found.new.seat.me) (sym t.0)
+    (subst (λ a. plays.told_in g.T.BoxStep.peer a (step f.board.shared.table_id.slots
+    c.flag_word-word.result 0 0 maybe.none) p.seat.me c.load-found.result
+    c.load-found.new.seat.me) (sym t.1) c.load-found.ensures.2.1) in
+    let same = ap (λ (u : Tally). u.taken) c.peer-peer.ensures in
+    let found = c.if-found-peer.false in
+    let rs = o.2 in let is_word = c.flag_word-word.ensures in let word : ℕ = c.flag_word-word.result in
+    let back : word - 4 * (knows p).ranks ≡ c.box_at-slot.result = omega arith in
+    let place = ap (λ (u : Tally). u.box_got) c.peer-peer.ensures ∙ peer_box_got p j
+    (calls.few f p o j few) in
+    let at = c.box_at-slot.ensures.at ∙ calls.in_slot_is f p o j few
+    c.peer-peer.result.box_got place in
+    let told = subst (λ k. plays.IsToEmpty j (taken_by p j) k p.seat.me c.load-found.new.seat.me) back
+    (then.0 (let z : c.load-found.result ≡ suc (taken_by p j) = omega arith in z)) in
+    calls.begun_holds f p o j few c.load-found.new.seat.me c.box_at-slot.result (taken_by p j) at told

@@ -6,7 +6,8 @@ use mathlib.Core.Option as maybe
 use Rattle.nm_table.specs.Rule.{Rule, filling_of}
 use Rattle.nm_table.specs.Plays as plays
 use Rattle.nm_table.specs.Plays.{mine}
-use Rattle.nm_cells.specs.Ports.{knows}
+use Rattle.nm_cells.specs.Ports.{knows, opens}
+use Rattle.nm_cells.specs.Carried.{held_in}
 use Rattle.nm_cells.specs.Counted.{peer_in, all_unpassed, one_full, one_opened}
 use Rattle.nm_cells.specs.declared.tallies.Tally.{Tally}
 use Rattle.nm_cells.specs.AtWork.{HoldsBoxes}
@@ -263,3 +264,64 @@ invariant_of-port-2-clause-kept g c =
     kept_opened p.loose p.seat.me c.load-found.new.seat.me p.kept c.args.to c.box_at-slot.result
     (filling_of (knows p) c.args.to)
     (subst (λ k. length (knows p).hands ≤ k) (sym at) (calls.far f p o c.args.to few true)) is
+
+pub returns-then-found-ne0-clause-full : goal.returns-then-found-ne0-clause-full
+returns-then-found-ne0-clause-full g c _ =
+    let f = c.args.f.now in let p = c.args.port.now in let o = c.requires.owns in
+    let few = c.requires.peer in
+    let then = subst (λ t. plays.told_out t (step f.board.shared.table_id.slots
+    c.flag_word-word.result 0 0 maybe.none) p.seat.me c.load-found.result
+    c.load-found.new.seat.me) (sym c.requires.told) c.load-found.ensures.2.1 in
+    let some = c.if-found-ne0.true in let is = then.1 (omega arith) in
+    (ap mine is, refl)
+
+pub returns-then-found-ne0-clause-holding : goal.returns-then-found-ne0-clause-holding
+returns-then-found-ne0-clause-holding g c =
+    let f = c.args.f.now in let p = c.args.port.now in let o = c.requires.owns in
+    let few = c.requires.peer in
+    let then = subst (λ t. plays.told_out t (step f.board.shared.table_id.slots
+    c.flag_word-word.result 0 0 maybe.none) p.seat.me c.load-found.result
+    c.load-found.new.seat.me) (sym c.requires.told) c.load-found.ensures.2.1 in
+    let some = c.if-found-ne0.true in let is = then.1 (omega arith) in
+    ap (λ (m : plays.Knowing). held_in (length (mine m).hands) m.1) is
+
+pub returns-clause-free : goal.returns-clause-free
+returns-clause-free g c _ =
+    let f = c.args.f.now in let p = c.args.port.now in let o = c.requires.owns in
+    let few = c.requires.peer in
+    let then = subst (λ t. plays.told_out t (step f.board.shared.table_id.slots
+    c.flag_word-word.result 0 0 maybe.none) p.seat.me c.load-found.result
+    c.load-found.new.seat.me) (sym c.requires.told) c.load-found.ensures.2.1 in
+    let none = c.if-found-ne0.false in let free = then.0 (omega arith) in
+    let was = calls.is_filling f p o c.args.to few in
+    let counted = ap (λ (u : Tally). u.filling) c.peer-peer.ensures in (
+      free.0,
+      ap mine free.1,
+      c.take_box.ensures.hands ∙ ap (λ b. p.hands + opens b) (counted ∙ was),
+    )
+
+pub returns-clause-holding : goal.returns-clause-holding
+returns-clause-holding g c =
+    let f = c.args.f.now in let p = c.args.port.now in let o = c.requires.owns in
+    let few = c.requires.peer in
+    let then = subst (λ t. plays.told_out t (step f.board.shared.table_id.slots
+    c.flag_word-word.result 0 0 maybe.none) p.seat.me c.load-found.result
+    c.load-found.new.seat.me) (sym c.requires.told) c.load-found.ensures.2.1 in
+    let none = c.if-found-ne0.false in let free = then.0 (omega arith) in
+    let rs = o.2 in let is_word = c.flag_word-word.ensures in let word : ℕ = c.flag_word-word.result in
+    let back : word - 4 * (knows p).ranks ≡ c.box_at-slot.result = omega arith in
+    let place = ap (λ (u : Tally). u.box_put) c.peer-peer.ensures ∙ peer_box_put p c.args.to
+    (calls.few f p o c.args.to few) in
+    let at = c.box_at-slot.ensures.at ∙ calls.out_slot_is f p o c.args.to few
+    c.peer-peer.result.box_put place in
+    let is = free.1 ∙ ap (λ k. (
+      view (plays.with_filling c.args.to true (knows p) ∷ []),
+      plays.slots_to_fill (filling_of (knows p) c.args.to) k p.seat.me.1,
+    )) back in
+    calls.free_holds f p o c.args.to few c.load-found.new.seat.me c.box_at-slot.result at is free.2
+    (filling_of (knows p) c.args.to) refl
+
+pub count_full-requires : goal.count_full-requires
+count_full-requires g c = let p = c.args.port.now in record {
+  to = peer_low p c.args.to (calls.few c.args.f.now p c.requires.owns c.args.to c.requires.peer);
+}

@@ -1,3 +1,5 @@
+use Rattle.std.proofs.Common.{◌∙◌, ◌≤◌, length}
+use Rattle.nm_cells.specs.Carried.{held_in}
 use Rattle.std.proofs.Common.{◌+◌, ◌-◌, ◌*◌, ◌<◌, sym, refl, ap, subst}
 use Rattle.std.proofs.Common.{arith}
 use Rattle.std.specs.Prelude.{vec_capacity}
@@ -106,3 +108,29 @@ returns-clause-next g c = let f = c.args.f.now in let p = c.args.port.now in
     let k = c.heads-shadow.result.shadow - 1 in let same = c.if-found-shadow.false in
     takes_shadow _ f p k k 0 c.compare_exchange-found.new.seat.me c.requires.owns
     (c.compare_exchange-found.ensures.2.3 same) refl
+
+pub returns-then-found-shadow-clause-owns : goal.returns-then-found-shadow-clause-owns
+returns-then-found-shadow-clause-owns g c = let o = c.requires.owns in
+    let is = c.compare_exchange-found.ensures.2.2 c.if-found-shadow.true in (
+      (
+        c.compare_exchange-found.ensures.0 ∙ o.0,
+        o.1,
+        ap (λ m. (mine m).ranks) is ∙ o.2,
+        ap (λ m. (mine m).each) is ∙ o.3,
+        ap (λ m. length (mine m).hands) is ∙ o.4,
+        ap (λ m. length (mine m).filling) is ∙ o.5,
+        ap (λ m. length (mine m).emptying) is ∙ o.6,
+      ),
+      refl,
+    )
+
+pub returns-then-found-shadow-clause-none : goal.returns-then-found-shadow-clause-none
+returns-then-found-shadow-clause-none g c = let is = c.compare_exchange-found.ensures.2.2 c.if-found-shadow.true in (
+  ap mine is,
+  record {
+    hands = refl;
+    holding = ap (λ (m : Knowing). held_in (length (mine m).hands) m.1) is;
+    taken = (refl, refl, refl);
+    loose = refl;
+  },
+)

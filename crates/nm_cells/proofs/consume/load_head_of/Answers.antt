@@ -1,3 +1,8 @@
+use Rattle.std.proofs.Common.{◌≡◌, ◌∙◌, refl}
+use Rattle.nm_cells.specs.Ports.{Stays, holding}
+use Rattle.nm_cells.proofs.StayLemmas.{heads_owns, heads_holds, missed_owns, missed_holds}
+use Rattle.nm_cells.proofs.consume.load_head_of.Goals.{then-this-ne0+then-found-eq0, then-this-ne0+else-found-eq0}
+use Rattle.nm_cells.proofs.consume.load_head_of.Goals.{else-this-ne0+then-found-eq0-2, else-this-ne0+else-found-eq0-2}
 use Rattle.std.proofs.Common.{sym, subst}
 use Rattle.std.proofs.Common.{◌<◌, arith}
 use Rattle.nm_table.proofs.ConsumerLemmas.{note_allowed}
@@ -63,3 +68,54 @@ invariant_of-port-else-found-eq0-2-clause-kept g c = let p = c.args.port.now in
     subst (λ (m : Knowing). AreKept p.loose (mine m) m.1)
     (sym (c.load-found.ensures.2.3 (let some = c.if-found-eq0-2.false in omega arith)))
     (kept_heads p.loose (mine p.seat.me) p.seat.me.1 p.kept _ _)
+
+pub returns-clause-stays : goal.returns-clause-stays
+returns-clause-stays g c = let f = c.args.f.now in let p = c.args.port.now in
+    let o = c.requires.owns in let table = c.load-found.ensures.0 ∙ o.0 in
+    let after = c.load-found.new.seat.me in elim c.if-this-ne0.branch [
+      | then-this-ne0+then-found-eq0 w ↦ subst (λ k. Stays f p k) (sym w.port-is) (
+        missed_owns f p o after table _ _ _ (c.load-found.ensures.2.2 w.if-found-eq0.true),
+        refl,
+        (refl, refl, refl),
+        refl,
+      )
+      | then-this-ne0+else-found-eq0 w ↦ subst (λ k. Stays f p k) (sym w.port-is) (
+        heads_owns f p o after table _ _ (c.load-found.ensures.2.3 (let some = w.if-found-eq0.false in omega arith)),
+        refl,
+        (refl, refl, refl),
+        refl,
+      )
+      | else-this-ne0+then-found-eq0-2 w ↦ subst (λ k. Stays f p k) (sym w.port-is) (
+        missed_owns f p o after table _ _ _ (c.load-found.ensures.2.2 w.if-found-eq0-2.true),
+        refl,
+        (refl, refl, refl),
+        refl,
+      )
+      | else-this-ne0+else-found-eq0-2 w ↦ subst (λ k. Stays f p k) (sym w.port-is) (
+        heads_owns f p o after table _ _ (c.load-found.ensures.2.3 (let some = w.if-found-eq0-2.false in omega arith)),
+        refl,
+        (refl, refl, refl),
+        refl,
+      )
+    ]
+
+pub returns-clause-hands : goal.returns-clause-hands
+returns-clause-hands g c = let f = c.args.f.now in let p = c.args.port.now in
+    let o = c.requires.owns in let after = c.load-found.new.seat.me in elim c.if-this-ne0.branch [
+      | then-this-ne0+then-found-eq0 w ↦ subst (λ k. (k.hands ≡ p.hands) × (holding k ≡ holding p)) (sym w.port-is) (
+        refl,
+        missed_holds f p o after _ _ _ (c.load-found.ensures.2.2 w.if-found-eq0.true),
+      )
+      | then-this-ne0+else-found-eq0 w ↦ subst (λ k. (k.hands ≡ p.hands) × (holding k ≡ holding p)) (sym w.port-is) (
+        refl,
+        heads_holds f p o after _ _ (c.load-found.ensures.2.3 (let some = w.if-found-eq0.false in omega arith)),
+      )
+      | else-this-ne0+then-found-eq0-2 w ↦ subst (λ k. (k.hands ≡ p.hands) × (holding k ≡ holding p)) (sym w.port-is) (
+        refl,
+        missed_holds f p o after _ _ _ (c.load-found.ensures.2.2 w.if-found-eq0-2.true),
+      )
+      | else-this-ne0+else-found-eq0-2 w ↦ subst (λ k. (k.hands ≡ p.hands) × (holding k ≡ holding p)) (sym w.port-is) (
+        refl,
+        heads_holds f p o after _ _ (c.load-found.ensures.2.3 (let some = w.if-found-eq0-2.false in omega arith)),
+      )
+    ]

@@ -1,3 +1,5 @@
+use Rattle.std.proofs.Common.{◌∙◌, ◌≤◌, length}
+use Rattle.nm_cells.specs.Carried.{held_in}
 use Rattle.std.proofs.Common.{sym, subst}
 use Rattle.std.proofs.Common.{◌≡◌, ◌+◌, ◌-◌, ◌*◌, ◌<◌, refl, ap}
 use Rattle.std.proofs.Common.{arith}
@@ -145,3 +147,29 @@ returns-clause-next g c = let f = c.args.f.now in let p = c.args.port.now in
     (sym (takes_shadow _ f p (c.link_word-word.result - 4 * (knows p).ranks) k c.load-found.result
     c.load-found.new.seat.me c.requires.owns (c.load-found.ensures.2.2 (omega arith)) at))
     (omega arith)
+
+pub returns-then-found-eq0-clause-owns : goal.returns-then-found-eq0-clause-owns
+returns-then-found-eq0-clause-owns g c = let o = c.requires.owns in
+    let is = c.load-found.ensures.2.1 c.if-found-eq0.true in (
+      (
+        c.load-found.ensures.0 ∙ o.0,
+        o.1,
+        ap (λ m. (mine m).ranks) is ∙ o.2,
+        ap (λ m. (mine m).each) is ∙ o.3,
+        ap (λ m. length (mine m).hands) is ∙ o.4,
+        ap (λ m. length (mine m).filling) is ∙ o.5,
+        ap (λ m. length (mine m).emptying) is ∙ o.6,
+      ),
+      refl,
+    )
+
+pub returns-then-found-eq0-clause-none : goal.returns-then-found-eq0-clause-none
+returns-then-found-eq0-clause-none g c = let is = c.load-found.ensures.2.1 c.if-found-eq0.true in (
+  ap mine is,
+  record {
+    hands = refl;
+    holding = ap (λ (m : Knowing). held_in (length (mine m).hands) m.1) is;
+    taken = (refl, refl, refl);
+    loose = refl;
+  },
+)

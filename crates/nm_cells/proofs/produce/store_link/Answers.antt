@@ -1,9 +1,10 @@
 use Rattle.std.proofs.Common.{◌≡◌, [], ◌∷◌, suc, ◌+◌, ◌-◌, ◌*◌, ◌<◌, sym, ap, ◌∙◌, subst}
-use Rattle.std.proofs.Common.{arith}
+use Rattle.std.proofs.Common.{arith, length, length-set, refl, ◌≤◌}
 use Rattle.std.specs.Prelude.{vec_capacity}
 use Rattle.nm_seats.specs.Spoken.{view}
 use Rattle.nm_table.specs.declared.table.Hand.TheVariants.{Away, Entering}
 use Rattle.nm_table.specs.Plays.{with_hand}
+use Rattle.nm_cells.specs.Carried.{held_in}
 use Rattle.nm_cells.specs.Ports.{knows}
 use Rattle.nm_table.proofs.ProducerLemmas.{link_allowed}
 use Rattle.nm_cells.proofs.PortLemmas.{finished_carries, some_in_hand}
@@ -51,3 +52,39 @@ invariant_of-port-clause-kept g c = let p = c.args.port.now in let e = c.args.en
     (subst (λ d. ¬ IsAmong p.loose d) (sym one)
     (entering_apart p.loose (knows p) p.seat.me.1 p.kept e.cell e.queue e.found
     c.requires.awaits.0.2)))
+
+pub overflow_sub-port : goal.overflow_sub-port
+overflow_sub-port g c = let p = c.args.port.now in let e = c.args.enqueue in
+    let a = c.requires.awaits in
+    let low = subst (λ n. e.cell < n) (sym c.requires.owns.4) a.0.0 in
+    let some = some_in_hand p.seat.me c.store.new.seat.me p.carried.items
+    (vec_capacity p.carried) p.hands p.carries e.cell e.queue e.found low a.0.2 in omega arith
+
+pub returns-clause-stays : goal.returns-clause-stays
+returns-clause-stays g c = let p = c.args.port.now in let o = c.requires.owns in
+    let is = c.store.ensures.2.1 in (
+      (
+        c.store.ensures.0 ∙ o.0,
+        o.1,
+        ap (λ m. (plays.mine m).ranks) is ∙ o.2,
+        ap (λ m. (plays.mine m).each) is ∙ o.3,
+        ap (λ m. length (plays.mine m).hands) is
+            ∙ length-set (knows p).hands ((c.args.enqueue.cell + 1) - 1) Away ∙ o.4,
+        ap (λ m. length (plays.mine m).filling) is ∙ o.5,
+        ap (λ m. length (plays.mine m).emptying) is ∙ o.6,
+      ),
+      refl,
+      (refl, refl, refl),
+      refl,
+    )
+
+pub returns-clause-finished : goal.returns-clause-finished
+returns-clause-finished g c = let p = c.args.port.now in let k = c.args.enqueue.cell in
+    let one : (k + 1) - 1 ≡ k = omega arith in
+    ap plays.mine c.store.ensures.2.1 ∙ ap (λ d. with_hand d Away (knows p)) one
+
+pub returns-clause-holding : goal.returns-clause-holding
+returns-clause-holding g c = let p = c.args.port.now in
+    ap (λ (m : plays.Knowing). held_in (length (plays.mine m).hands) m.1) c.store.ensures.2.1
+    ∙ ap (λ n. held_in n p.seat.me.1)
+    (length-set (knows p).hands ((c.args.enqueue.cell + 1) - 1) Away)

@@ -1,5 +1,5 @@
 use Rattle.std.proofs.Common.{◌≡◌, [], ◌∷◌, suc, ◌+◌, ◌-◌, ◌*◌, ◌<◌, None, length, sym, ap}
-use Rattle.std.proofs.Common.{◌∙◌, subst, arith, length-set}
+use Rattle.std.proofs.Common.{◌∙◌, ◌≤◌, refl, set, subst, arith, length-set, get_or-set_same}
 use Rattle.std.specs.Prelude.{vec_capacity, slice_index_or, remove}
 use Rattle.atomic_table.specs.Table.{rest}
 use Rattle.nm_chain.specs.Chain.{item}
@@ -172,3 +172,41 @@ invariant_of-port-clause-kept g c = let p = c.bring_cell.new.port in let e = kno
     (kept_pop p.loose e (rest p.seat.me.1) k (holding c.args.port.now k) out
     (subst (AreKept p.loose e) c.bring_cell.ensures.front p.kept)) ((k + 1) - 1) _
     (subst (λ d. ¬ IsAmong p.loose d) (sym one) out))
+
+pub returns-clause-pending : goal.returns-clause-pending
+returns-clause-pending g c = let p = c.bring_cell.new.port in let o = c.requires.owns in
+    let k = c.args.cell.number in let v = c.bring_cell.ensures.seat.1 in let e = knows p in
+    let found = c.swap-found.result in let n = c.number_of-queue.result in
+    let most = ap (λ u. length (sole u.entries).hands) v ∙ o.4 in
+    let one : (k + 1) - 1 ≡ k = omega arith in
+    let q = c.tail_word-word.result - 2 * e.ranks in
+    let same = ap (λ u. (sole u.entries).ranks) v ∙ o.2 in
+    let is_word = c.tail_word-word.ensures in let at : q ≡ n = omega arith in (
+      refl,
+      (
+        c.requires.in_hand.0,
+        c.number_of-queue.ensures.low,
+        ap (λ m. slice_index_or (mine m).hands k Away) c.swap-found.ensures.2.3
+            ∙ (λ i. slice_index_or (set e.hands (one i) (Entering (at i) found)) k Away)
+            ∙ get_or-set_same e.hands k (Entering n found) Away
+            (subst (λ m. k < m) (sym most) c.requires.in_hand.0),
+        subst (λ m. found ≤ m) most c.swap-found.ensures.2.2,
+      ),
+    )
+
+pub returns-clause-put : goal.returns-clause-put
+returns-clause-put g c = let f = c.args.f.now in let p = c.bring_cell.new.port in
+    let k = c.args.cell.number in let v = c.bring_cell.ensures.seat.1 in let e = knows p in
+    let q = c.tail_word-word.result - 2 * e.ranks in
+    let y = holding c.args.port.now k in let same = ap (λ u. (sole u.entries).ranks) v
+    ∙ c.requires.owns.2 in
+    let low = may_low f c.args.port.now c.args.q k y c.requires.may in
+    let one : (k + 1) - 1 ≡ k = omega arith in
+    let is_word = c.tail_word-word.ensures in let at : q ≡ c.number_of-queue.result = omega arith in
+    let posts : posted e.ranks q (first_load p.seat.me.1) ≡ posted_in c.args.q y =
+    (λ i. posted (same i) ((at ∙ c.number_of-queue.ensures.value) i)
+    (first_load (c.bring_cell.ensures.front i))) ∙ posted_is f.ranks c.args.q y low in
+    ap mine c.swap-found.ensures.2.3
+    ∙ (λ i. with_put (posts i) (with_hand (one i)
+    (Entering ((at ∙ c.number_of-queue.ensures.value) i) c.swap-found.result)
+    (sole (v i).entries)))
