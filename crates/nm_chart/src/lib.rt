@@ -13,13 +13,11 @@
 //! - `laws`: the trace of a record of any shape is taken.
 //! - At 5 the sink took a front of the text that was due. At 6 nothing was written.
 //! # What is only tested
-//! That it succeeds with ample memory.
+//! That it succeeds with ample memory (`nm_texts_rows`).
 #![tactic(auto)]
 
 mod answers;
 mod charts;
 pub mod laws;
-#[cfg(test)]
-mod tests;
 
 pub use charts::chart;

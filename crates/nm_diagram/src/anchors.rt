@@ -7,7 +7,7 @@ ghost use Rattle.nm_diagram.specs.Anchors.{is_anchor as is_anchor_lem};
 use nm_history::{Event, Happened};
 
 /// What an end of an arrow or a link stands at.
-#[derive(Clone, Copy, Debug, PartialEq, Eq)]
+#[derive(Clone, Copy)]
 pub enum Anchor {
     /// The send of message `n` to a rank.
     Send { to: usize, n: u64 },

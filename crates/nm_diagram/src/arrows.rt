@@ -19,7 +19,7 @@ use std::alloc::AllocError;
 const MAX_SEARCHED: usize = 20000;
 
 /// The arrow of a message: from its send at a rank to its arrival at a rank.
-#[derive(Clone, Copy, Debug, PartialEq, Eq)]
+#[derive(Clone, Copy)]
 pub struct Arrow {
     /// The rank that sent it.
     pub from: usize,

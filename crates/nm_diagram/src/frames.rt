@@ -18,7 +18,7 @@ const MAX_EVENTS: usize = 20000;
 const MAX_STAMP: u64 = 1000000;
 
 /// The frame of a picture.
-#[derive(Clone, Copy, Debug, PartialEq, Eq)]
+#[derive(Clone, Copy)]
 pub struct Frame {
     /// How many ranks have a lane.
     pub lanes: usize,

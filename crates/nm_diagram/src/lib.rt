@@ -12,7 +12,7 @@
 //!   to its arrival. In a run each arrival that is shown has one arrow, which goes forward. A run
 //!   has one picture, the same with silent ranks behind its own, and it is well-formed markup.
 //! # What is only tested
-//! That it succeeds with ample memory, and that a browser shows what is meant.
+//! That it succeeds with ample memory (`nm_texts_rows`), and that a browser shows what is meant.
 #![tactic(auto)]
 
 mod anchors;
@@ -24,8 +24,6 @@ mod marks;
 mod outlines;
 mod pictures;
 mod sheet;
-#[cfg(test)]
-mod tests;
 mod words;
 
 pub use pictures::picture;

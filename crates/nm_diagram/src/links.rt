@@ -16,7 +16,7 @@ use std::alloc::{AllocError, Global};
 const MAX_LINKED: usize = 4096;
 
 /// The link of a receive to the message that it took.
-#[derive(Clone, Copy, Debug, PartialEq, Eq)]
+#[derive(Clone, Copy)]
 pub struct Link {
     /// The rank of both.
     pub lane: usize,

@@ -16,7 +16,7 @@ use nm_types::Memory;
 use std::alloc::Global;
 
 /// What a line shows.
-#[derive(Clone, Copy, Debug)]
+#[derive(Clone, Copy)]
 pub enum Show {
     Nothing,
     /// Whether a part is here.
@@ -28,7 +28,7 @@ pub enum Show {
 }
 
 /// A line of a plan, by what it asks of the script's run.
-#[derive(Clone, Copy, Debug)]
+#[derive(Clone, Copy)]
 pub struct Asked {
     pub rank: u8,
     /// The line's number.

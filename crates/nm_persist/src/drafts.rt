@@ -17,7 +17,7 @@ use nm_types::Memory;
 use std::alloc::Global;
 
 /// Lines that were read, with their requests, the ends of these, and the size of their script.
-#[derive(Debug, Drop)]
+#[derive(Drop)]
 pub struct Draft {
     pub ranks: u8,
     pub lines: PlanLines,

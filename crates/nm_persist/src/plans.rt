@@ -13,7 +13,7 @@ use std::alloc::Global;
 ///
 /// It keeps that each line is in range, and has none of the faults that lines may have behind those
 /// before them.
-#[derive(Debug, Drop)]
+#[derive(Drop)]
 pub struct Plan {
     pub ranks: u8,
     pub lines: PlanLines,

@@ -9,7 +9,7 @@ use nm_types::{Command, Line, MAX_BODIES, MAX_LINES, MAX_TEXT};
 use nm_words::decimal_len;
 
 /// How many lines a script has behind its first, and how many bytes its bodies and its text have.
-#[derive(Clone, Copy, Debug)]
+#[derive(Clone, Copy)]
 pub struct Size {
     pub lines: u32,
     pub bodies: u32,

@@ -11,7 +11,7 @@ use nm_types::Memory;
 use std::alloc::Global;
 
 /// Which way a request goes, and whether it is partitioned.
-#[derive(Clone, Copy, Debug, Eq, Hash)]
+#[derive(Clone, Copy, Eq, Hash)]
 pub struct Sort {
     pub sends: bool,
     pub split: bool,
@@ -32,7 +32,7 @@ impl PartialEq for Sort {
 }
 
 /// A tag and a context, which way a request goes and whether it is in parts.
-#[derive(Clone, Copy, Debug, Hash)]
+#[derive(Clone, Copy, Hash)]
 pub struct Channel {
     pub tag: u16,
     pub ctx: u8,
@@ -58,7 +58,7 @@ impl Eq for Channel {
 }
 
 /// One end of a request: its rank, the other rank, and its channel.
-#[derive(Clone, Copy, Debug, Hash)]
+#[derive(Clone, Copy, Hash)]
 pub struct End {
     pub rank: u8,
     pub peer: u8,
@@ -146,7 +146,7 @@ pub fn parts_in(command: &PlanCommand) -> u8
 }
 
 /// The ends of all requests so far, each with its number of parts.
-#[derive(Debug, Drop)]
+#[derive(Drop)]
 pub struct Ends {
     pub map: IndexMap<End, u8>,
 }

@@ -12,7 +12,7 @@ use nm_types::{Body, Memory};
 use std::alloc::Global;
 
 /// The name of a request, which is the rank's own.
-#[derive(Clone, Copy, Debug, Eq, Hash)]
+#[derive(Clone, Copy, Eq, Hash)]
 pub struct Owner {
     pub rank: u8,
     pub p: u16,
@@ -33,7 +33,7 @@ impl PartialEq for Owner {
 }
 
 /// What a request does when it is started.
-#[derive(Debug, Drop)]
+#[derive(Drop)]
 pub enum Side {
     /// It sends this body.
     Sends(Body),
@@ -42,7 +42,7 @@ pub enum Side {
 }
 
 /// A request.
-#[derive(Debug, Drop)]
+#[derive(Drop)]
 pub struct Request {
     pub peer: u8,
     pub tag: u16,
@@ -152,7 +152,7 @@ fn made_by(command: &PlanCommand) -> Result<Option<Request>, Memory>
 }
 
 /// The requests of a plan so far.
-#[derive(Debug, Drop)]
+#[derive(Drop)]
 pub struct Requests {
     pub map: IndexMap<Owner, Request>,
 }

@@ -1,3 +1,4 @@
+mod CountLemmas
 pub mod GrammarLemmas
 pub mod ValueLemmas
 pub mod MakeLemmas

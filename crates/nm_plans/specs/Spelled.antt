@@ -1,5 +1,5 @@
 -- What the words of a line spell.
-use Rattle.std.specs.Prelude.{◌≡◌, ℕ, ◌<◌, true, List, [], ◌∷◌}
+use Rattle.std.specs.Prelude.{◌≡◌, ℕ, ◌<◌, true, List, ◌∷◌}
 use Rattle.nm_plans.specs.declared.keywords.PlanKeyword.{PlanKeyword}
 use Rattle.nm_plans.specs.declared.lines.PlanLine.{PlanLine}
 use Rattle.nm_plans.specs.Grammar.{Argument, Value, is_in_range, is_value, keyword_text, value_word}

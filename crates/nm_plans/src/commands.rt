@@ -1,6 +1,6 @@
 //! A rank and its command, by the words of a line.
 
-ghost use Rattle.std.specs.Prelude.{◌≡◌, ◌<◌, ◌≤◌, map, IfOk};
+ghost use Rattle.std.specs.Prelude.{◌≡◌, ◌<◌, ◌≤◌, [], ◌∷◌, map, IfOk};
 ghost use Rattle.nm_script.specs.Commands.{rank_of};
 ghost use Rattle.nm_plans.specs.declared.faults.PlanKind.TheVariants as kind;
 ghost use Rattle.nm_plans.specs.declared.keywords.PlanKeyword.TheVariants as key;
@@ -89,74 +89,138 @@ fn capacity_from(word: &[u8]) -> Result<u32, PlanKind>
     Ok(argument(word, u64::from(MAX_CAPACITY) + 1)? as u32)
 }
 
-/// A request that sends, by its arguments.
+/// A request that sends, by its five arguments.
 #[tactic(auto, unfolding(crate::specs::Commands::arguments_of))]
+fn send_with(
+    alloc: Global,
+    ranks: u8,
+    p: &[u8],
+    to: &[u8],
+    tag: &[u8],
+    ctx: &[u8],
+    body: &[u8],
+) -> Result<PlanCommand, LineFault>
+    ensures { Gives result (arguments_of ranks key.SendInit
+        (p.now ∷ to.now ∷ tag.now ∷ ctx.now ∷ body.now ∷ [])) }
+{
+    Ok(PlanCommand::SendInit {
+        p: request_from(p)?,
+        to: peer_from(ranks, to)?,
+        tag: tag_from(tag)?,
+        ctx: context_from(ctx)?,
+        body: body_from(alloc, body)?,
+    })
+}
+
+/// A request that sends, by its arguments.
 fn send_init(alloc: Global, ranks: u8, arguments: &[&[u8]]) -> Result<PlanCommand, LineFault>
     ensures { Gives result
         (arguments_of ranks key.SendInit (map (λ word. word.now) arguments.now)) }
 {
     match arguments {
-        [p, to, tag, ctx, body] => Ok(PlanCommand::SendInit {
-            p: request_from(p)?,
-            to: peer_from(ranks, to)?,
-            tag: tag_from(tag)?,
-            ctx: context_from(ctx)?,
-            body: body_from(alloc, body)?,
-        }),
+        [p, to, tag, ctx, body] => send_with(alloc, ranks, p, to, tag, ctx, body),
         _ => Err(LineFault::Bad(PlanKind::Count)),
     }
 }
 
-/// A request that receives.
+/// A request that receives, by its five arguments.
 #[tactic(auto, unfolding(crate::specs::Commands::arguments_of))]
+fn recv_with(
+    ranks: u8,
+    p: &[u8],
+    from: &[u8],
+    tag: &[u8],
+    ctx: &[u8],
+    cap: &[u8],
+) -> Result<PlanCommand, PlanKind>
+    ensures { result ≡ arguments_of ranks key.RecvInit
+        (p.now ∷ from.now ∷ tag.now ∷ ctx.now ∷ cap.now ∷ []) }
+{
+    Ok(PlanCommand::RecvInit {
+        p: request_from(p)?,
+        from: peer_from(ranks, from)?,
+        tag: tag_from(tag)?,
+        ctx: context_from(ctx)?,
+        cap: capacity_from(cap)?,
+    })
+}
+
+/// A request that receives.
 fn recv_init(ranks: u8, arguments: &[&[u8]]) -> Result<PlanCommand, PlanKind>
     ensures { result ≡ arguments_of ranks key.RecvInit (map (λ word. word.now) arguments.now) }
 {
     match arguments {
-        [p, from, tag, ctx, cap] => Ok(PlanCommand::RecvInit {
-            p: request_from(p)?,
-            from: peer_from(ranks, from)?,
-            tag: tag_from(tag)?,
-            ctx: context_from(ctx)?,
-            cap: capacity_from(cap)?,
-        }),
+        [p, from, tag, ctx, cap] => recv_with(ranks, p, from, tag, ctx, cap),
         _ => Err(PlanKind::Count),
     }
 }
 
-/// A request that sends in parts.
+/// A request that sends in parts, by its six arguments.
 #[tactic(auto, unfolding(crate::specs::Commands::arguments_of))]
+fn psend_with(
+    alloc: Global,
+    ranks: u8,
+    p: &[u8],
+    to: &[u8],
+    tag: &[u8],
+    ctx: &[u8],
+    parts: &[u8],
+    body: &[u8],
+) -> Result<PlanCommand, LineFault>
+    ensures { Gives result (arguments_of ranks key.PsendInit
+        (p.now ∷ to.now ∷ tag.now ∷ ctx.now ∷ parts.now ∷ body.now ∷ [])) }
+{
+    Ok(PlanCommand::PsendInit {
+        p: request_from(p)?,
+        to: peer_from(ranks, to)?,
+        tag: tag_from(tag)?,
+        ctx: context_from(ctx)?,
+        parts: parts_from(parts)?,
+        body: body_from(alloc, body)?,
+    })
+}
+
+/// A request that sends in parts.
 fn psend_init(alloc: Global, ranks: u8, arguments: &[&[u8]]) -> Result<PlanCommand, LineFault>
     ensures { Gives result
         (arguments_of ranks key.PsendInit (map (λ word. word.now) arguments.now)) }
 {
     match arguments {
-        [p, to, tag, ctx, parts, body] => Ok(PlanCommand::PsendInit {
-            p: request_from(p)?,
-            to: peer_from(ranks, to)?,
-            tag: tag_from(tag)?,
-            ctx: context_from(ctx)?,
-            parts: parts_from(parts)?,
-            body: body_from(alloc, body)?,
-        }),
+        [p, to, tag, ctx, parts, body] => psend_with(alloc, ranks, p, to, tag, ctx, parts, body),
         _ => Err(LineFault::Bad(PlanKind::Count)),
     }
 }
 
-/// A request that receives in parts.
+/// A request that receives in parts, by its six arguments.
 #[tactic(auto, unfolding(crate::specs::Commands::arguments_of))]
+fn precv_with(
+    ranks: u8,
+    p: &[u8],
+    from: &[u8],
+    tag: &[u8],
+    ctx: &[u8],
+    parts: &[u8],
+    cap: &[u8],
+) -> Result<PlanCommand, PlanKind>
+    ensures { result ≡ arguments_of ranks key.PrecvInit
+        (p.now ∷ from.now ∷ tag.now ∷ ctx.now ∷ parts.now ∷ cap.now ∷ []) }
+{
+    Ok(PlanCommand::PrecvInit {
+        p: request_from(p)?,
+        from: peer_from(ranks, from)?,
+        tag: tag_from(tag)?,
+        ctx: context_from(ctx)?,
+        parts: parts_from(parts)?,
+        cap: capacity_from(cap)?,
+    })
+}
+
+/// A request that receives in parts.
 fn precv_init(ranks: u8, arguments: &[&[u8]]) -> Result<PlanCommand, PlanKind>
     ensures { result ≡ arguments_of ranks key.PrecvInit (map (λ word. word.now) arguments.now) }
 {
     match arguments {
-        [p, from, tag, ctx, parts, cap] => Ok(PlanCommand::PrecvInit {
-            p: request_from(p)?,
-            from: peer_from(ranks, from)?,
-            tag: tag_from(tag)?,
-            ctx: context_from(ctx)?,
-            parts: parts_from(parts)?,
-            cap: capacity_from(cap)?,
-        }),
+        [p, from, tag, ctx, parts, cap] => precv_with(ranks, p, from, tag, ctx, parts, cap),
         _ => Err(PlanKind::Count),
     }
 }
@@ -267,6 +331,23 @@ fn command_from(
     }
 }
 
+/// A rank and its command, by the words of a line that has a command.
+#[tactic(auto, unfolding(crate::specs::Commands::line_of))]
+fn line_with(
+    alloc: Global,
+    ranks: u8,
+    first: &[u8],
+    name: &[u8],
+    arguments: &[&[u8]],
+) -> Result<PlanLine, LineFault>
+    ensures { Gives result
+        (line_of ranks (first.now ∷ name.now ∷ map (λ word. word.now) arguments.now)) }
+{
+    let rank = rank_from(ranks, first)?;
+    let command = command_from(alloc, ranks, name, arguments)?;
+    Ok(PlanLine { rank, command })
+}
+
 /// A line that isn't the first, by its words.
 #[tactic(auto, unfolding(crate::specs::Commands::line_of))]
 pub fn line_from(alloc: Global, ranks: u8, words: &[&[u8]]) -> Result<PlanLine, LineFault>
@@ -278,10 +359,6 @@ pub fn line_from(alloc: Global, ranks: u8, words: &[&[u8]]) -> Result<PlanLine, 
             rank_from(ranks, first)?;
             Err(LineFault::Bad(PlanKind::Command))
         }
-        [first, name, arguments @ ..] => {
-            let rank = rank_from(ranks, first)?;
-            let command = command_from(alloc, ranks, name, arguments)?;
-            Ok(PlanLine { rank, command })
-        }
+        [first, name, arguments @ ..] => line_with(alloc, ranks, first, name, arguments),
     }
 }

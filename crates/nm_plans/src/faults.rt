@@ -4,7 +4,7 @@ use nm_types::Memory;
 use std::alloc::AllocError;
 
 /// What is wrong with a plan's text. The first line with a fault has the first of these kinds.
-#[derive(Clone, Copy, Debug, PartialEq, Eq)]
+#[derive(Clone, Copy, Debug, PartialEq)]
 pub enum PlanKind {
     /// There are more bytes than a plan may have. This stands before all others.
     TooLong,
@@ -36,7 +36,7 @@ pub enum PlanKind {
 }
 
 /// Why no plan was read.
-#[derive(Clone, Copy, Debug, PartialEq, Eq)]
+#[derive(Clone, Copy, Debug, PartialEq)]
 pub enum PlanFault {
     /// The bytes spell no plan: the fault of a line, counted from 1, or of the whole text at 0.
     Bad { line: u32, kind: PlanKind },

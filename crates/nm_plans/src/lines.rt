@@ -8,7 +8,7 @@ use std::alloc::Global;
 use std::marker::Model;
 
 /// A command of a rank on one of its requests, which has the name `p`.
-#[derive(Debug, Drop)]
+#[derive(Drop)]
 pub enum PlanCommand {
     /// Makes a persistent request that sends (MPI 3.1, section 3.9).
     SendInit {
@@ -72,14 +72,14 @@ pub enum PlanCommand {
 }
 
 /// A command with the rank that runs it.
-#[derive(Debug, Drop)]
+#[derive(Drop)]
 pub struct PlanLine {
     pub rank: u8,
     pub command: PlanCommand,
 }
 
 /// A list of a plan's lines.
-#[derive(Debug, Drop)]
+#[derive(Drop)]
 pub struct PlanLines {
     items: Vec<PlanLine>,
 }

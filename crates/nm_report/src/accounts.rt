@@ -9,7 +9,6 @@ use std::alloc::Global;
 use std::marker::Model;
 
 /// What became of a rank.
-#[derive(Debug, Drop)]
 pub struct RankAccount {
     /// Its events.
     pub history: History,
@@ -19,10 +18,25 @@ pub struct RankAccount {
     pub waits: Option<u32>,
 }
 
+impl Drop for RankAccount {
+    fn drop(self) {
+        let RankAccount {
+            history: _,
+            at: _,
+            waits: _,
+        } = self;
+    }
+}
+
 /// A list of what became of the ranks, by rank.
-#[derive(Debug, Drop)]
 pub struct Accounts {
     items: Vec<RankAccount>,
+}
+
+impl Drop for Accounts {
+    fn drop(self) {
+        let Accounts { items: _ } = self;
+    }
 }
 
 impl Model for Accounts {
@@ -55,7 +69,8 @@ impl Accounts {
     pub fn into_vec(self) -> Vec<RankAccount>
         ensures { result.items ≡ self }
     {
-        self.items
+        let Accounts { items } = self;
+        items
     }
 
     /// Puts the account of the next rank at the end.

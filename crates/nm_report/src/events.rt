@@ -1,6 +1,6 @@
 //! Events and counts of packets as the lines of a trace.
 
-ghost use Rattle.std.specs.Prelude.{◌≡◌, ◌++◌, OnOk, string_bytes, flat_map};
+ghost use Rattle.std.specs.Prelude.{◌≡◌, [], ◌∷◌, ◌++◌, OnOk, decimal, string_bytes, flat_map};
 ghost use Rattle.std.specs.List.{join_with_byte};
 ghost use Rattle.nm_types.specs.Text.{peer_word, tag_word};
 ghost use Rattle.nm_report.specs.Layout.{by_rank};
@@ -10,7 +10,7 @@ ghost use Rattle.nm_report.specs.Events.{event_lines, pair_line};
 use crate::answers::push_answer;
 use crate::{PairCount, RankAccount};
 use nm_history::{Event, Happened};
-use nm_types::{Arrival, How, Peer, Post, TagPick};
+use nm_types::{Answer, Arrival, How, Peer, Post, TagPick};
 use std::alloc::AllocError;
 
 /// The word of how a message is sent: `eager`, or `ask`.
@@ -75,6 +75,88 @@ fn push_arrival(out: &mut String, a: &Arrival) -> Result<(), AllocError>
     )
 }
 
+/// Writes the words of a send.
+fn push_send(
+    out: &mut String,
+    to: u8,
+    n: u64,
+    tag: u16,
+    ctx: u8,
+    len: u32,
+    how: How,
+    line: u32,
+) -> Result<(), AllocError>
+    ensures ok { OnOk result (string_bytes out.new ≡ string_bytes out.old
+        ++ join_with_byte 32 (event_words (Happened.Send to n tag ctx len how line))) }
+{
+    let how = word_of_how(how);
+    write!(out, "send {to} {n} {tag} {ctx} {len} {how} {line}")
+}
+
+/// Writes a name, a rank, and the number of a message.
+fn push_message(out: &mut String, name: &str, rank: u8, n: u64) -> Result<(), AllocError>
+    ensures ok { OnOk result (string_bytes out.new ≡ string_bytes out.old
+        ++ join_with_byte 32 (name.now ∷ decimal rank ∷ decimal n ∷ [])) }
+{
+    write!(out, "{name} {rank} {n}")
+}
+
+/// Writes a name, a rank, the number of a message, and whether something was done.
+fn push_attempt(
+    out: &mut String,
+    name: &str,
+    rank: u8,
+    n: u64,
+    done: bool,
+) -> Result<(), AllocError>
+    ensures ok { OnOk result (string_bytes out.new ≡ string_bytes out.old
+        ++ join_with_byte 32 (name.now ∷ decimal rank ∷ decimal n ∷ done_word done ∷ [])) }
+{
+    let done = done_or_late(done);
+    write!(out, "{name} {rank} {n} {done}")
+}
+
+/// Writes the words of a cancel.
+fn push_cancel(out: &mut String, number: u64, done: bool) -> Result<(), AllocError>
+    ensures ok { OnOk result (string_bytes out.new ≡ string_bytes out.old
+        ++ join_with_byte 32 (event_words (Happened.Cancel number done))) }
+{
+    let done = done_or_late(done);
+    write!(out, "cancel {number} {done}")
+}
+
+/// Writes the words of a claim.
+fn push_claim(out: &mut String, from: u8, n: u64, line: u32) -> Result<(), AllocError>
+    ensures ok { OnOk result (string_bytes out.new ≡ string_bytes out.old
+        ++ join_with_byte 32 (event_words (Happened.Claim from n line))) }
+{
+    write!(out, "claim {from} {n} {line}")
+}
+
+/// Writes the words of a receive of a claimed message.
+fn push_match(
+    out: &mut String,
+    number: u64,
+    from: u8,
+    n: u64,
+    cap: u32,
+    line: u32,
+) -> Result<(), AllocError>
+    ensures ok { OnOk result (string_bytes out.new ≡ string_bytes out.old
+        ++ join_with_byte 32 (event_words (Happened.Match number from n cap line))) }
+{
+    write!(out, "match {number} {from} {n} {cap} {line}")
+}
+
+/// Writes the words of a command that ran.
+fn push_ran(out: &mut String, line: u32, answer: &Answer) -> Result<(), AllocError>
+    ensures ok { OnOk result (string_bytes out.new ≡ string_bytes out.old
+        ++ join_with_byte 32 (event_words (Happened.Ran line answer.now))) }
+{
+    write!(out, "ran {line} ")?;
+    push_answer(out, answer)
+}
+
 /// Writes the words of an event, as its line in the trace has them behind its rank and its stamp.
 pub fn push_happened(out: &mut String, what: &Happened) -> Result<(), AllocError>
     ensures ok { OnOk result (string_bytes out.new ≡ string_bytes out.old
@@ -89,34 +171,24 @@ pub fn push_happened(out: &mut String, what: &Happened) -> Result<(), AllocError
             len,
             how,
             line,
-        } => {
-            let how = word_of_how(*how);
-            write!(out, "send {to} {n} {tag} {ctx} {len} {how} {line}")
-        }
+        } => push_send(out, *to, *n, *tag, *ctx, *len, *how, *line),
         Happened::Post { post, line } => push_post(out, post, *line),
         Happened::Arrive { a } => push_arrival(out, a),
-        Happened::Whole { from, n } => write!(out, "whole {from} {n}"),
-        Happened::Out { to, n } => write!(out, "out {to} {n}"),
-        Happened::Cancel { number, done } => {
-            write!(out, "cancel {number} {}", done_or_late(*done))
-        }
-        Happened::Recall { to, n } => write!(out, "recall {to} {n}"),
-        Happened::Withdraw { from, n, done } => {
-            write!(out, "withdraw {from} {n} {}", done_or_late(*done))
-        }
-        Happened::Undone { to, n, done } => write!(out, "undone {to} {n} {}", done_or_late(*done)),
-        Happened::Claim { from, n, line } => write!(out, "claim {from} {n} {line}"),
+        Happened::Whole { from, n } => push_message(out, "whole", *from, *n),
+        Happened::Out { to, n } => push_message(out, "out", *to, *n),
+        Happened::Cancel { number, done } => push_cancel(out, *number, *done),
+        Happened::Recall { to, n } => push_message(out, "recall", *to, *n),
+        Happened::Withdraw { from, n, done } => push_attempt(out, "withdraw", *from, *n, *done),
+        Happened::Undone { to, n, done } => push_attempt(out, "undone", *to, *n, *done),
+        Happened::Claim { from, n, line } => push_claim(out, *from, *n, *line),
         Happened::Match {
             number,
             from,
             n,
             cap,
             line,
-        } => write!(out, "match {number} {from} {n} {cap} {line}"),
-        Happened::Ran { line, answer } => {
-            write!(out, "ran {line} ")?;
-            push_answer(out, answer)
-        }
+        } => push_match(out, *number, *from, *n, *cap, *line),
+        Happened::Ran { line, answer } => push_ran(out, *line, answer),
     }
 }
 

@@ -8,7 +8,7 @@ use std::alloc::Global;
 use std::marker::Model;
 
 /// How many packets went from one rank to another. Pieces of long messages aren't counted.
-#[derive(Clone, Copy, Debug, PartialEq, Eq)]
+#[derive(Clone, Copy)]
 pub struct PairCount {
     pub from: u8,
     pub to: u8,
@@ -16,9 +16,14 @@ pub struct PairCount {
 }
 
 /// A list of counts, by sender and then destination. A pair with no packet is left out.
-#[derive(Debug, Drop)]
 pub struct Pairs {
     items: Vec<PairCount>,
+}
+
+impl Drop for Pairs {
+    fn drop(self) {
+        let Pairs { items: _ } = self;
+    }
 }
 
 impl Model for Pairs {
@@ -51,7 +56,8 @@ impl Pairs {
     pub fn into_vec(self) -> Vec<PairCount>
         ensures { result.items ≡ self }
     {
-        self.items
+        let Pairs { items } = self;
+        items
     }
 
     /// Puts a count at the end.

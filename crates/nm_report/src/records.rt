@@ -4,7 +4,6 @@ use crate::{Accounts, Pairs};
 use nm_types::{Account, Shape};
 
 /// What became of a run.
-#[derive(Debug, Drop)]
 pub struct RunRecord {
     pub shape: Shape,
     /// What became of the ranks, by rank.
@@ -14,4 +13,16 @@ pub struct RunRecord {
     pub cells: Account,
     /// Whether every rank is at its end.
     pub done: bool,
+}
+
+impl Drop for RunRecord {
+    fn drop(self) {
+        let RunRecord {
+            shape: _,
+            ranks: _,
+            pairs: _,
+            cells: _,
+            done: _,
+        } = self;
+    }
 }

@@ -35,7 +35,7 @@ use Rattle.nm_script.specs.Keywords.{keyword_of, keyword_text}
 use Rattle.nm_script.specs.Spelled.{has_bytes}
 use Rattle.nm_script.proofs.BodyLemmas.{body_taken}
 use Rattle.nm_script.proofs.KeywordLemmas.{keyword_taken}
-use Rattle.nm_words.proofs.NumberLemmas.{own, number_taken}
+use Rattle.nm_words.proofs.NumberLemmas.{number_taken}
 use Rattle.nm_script.proofs.StepLemmas.{guard_ok, found, found_in}
 use Rattle.nm_words.proofs.StepLemmas.{bind_ok, chosen}
 use Rattle.nm_script.proofs.StepLemmas.{three_from, four_from, five_from}

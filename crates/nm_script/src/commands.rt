@@ -1,6 +1,6 @@
 //! A rank and its command, by the words of a line.
 
-ghost use Rattle.std.specs.Prelude.{◌≡◌, ◌<◌, map, IfOk};
+ghost use Rattle.std.specs.Prelude.{◌≡◌, ◌<◌, ◌∷◌, map, IfOk};
 ghost use Rattle.nm_script.specs.Faults.{Gives};
 ghost use Rattle.nm_script.specs.Commands.{rank_of, argument_of, name_of, peer_of, pick_of};
 ghost use Rattle.nm_script.specs.Commands.{selection_of, send_with, send_of, recv_with, recv_of};
@@ -281,6 +281,23 @@ fn command_from(
     }
 }
 
+/// A rank and its command, by the words of a line that has a command.
+#[tactic(auto, unfolding(crate::specs::Commands::line_of))]
+fn line_with(
+    alloc: Global,
+    ranks: u8,
+    first: &[u8],
+    name: &[u8],
+    arguments: &[&[u8]],
+) -> Result<Line, LineFault>
+    ensures { Gives result
+        (line_of ranks (first.now ∷ name.now ∷ map (λ word. word.now) arguments.now)) }
+{
+    let rank = rank_from(ranks, first)?;
+    let command = command_from(alloc, ranks, name, arguments)?;
+    Ok(Line { rank, command })
+}
+
 /// A line that isn't the first, by its words.
 #[tactic(auto, unfolding(crate::specs::Commands::line_of))]
 pub fn line_from(alloc: Global, ranks: u8, words: &[&[u8]]) -> Result<Line, LineFault>
@@ -292,10 +309,6 @@ pub fn line_from(alloc: Global, ranks: u8, words: &[&[u8]]) -> Result<Line, Line
             rank_from(ranks, first)?;
             Err(LineFault::Bad(Kind::Command))
         }
-        [first, name, arguments @ ..] => {
-            let rank = rank_from(ranks, first)?;
-            let command = command_from(alloc, ranks, name, arguments)?;
-            Ok(Line { rank, command })
-        }
+        [first, name, arguments @ ..] => line_with(alloc, ranks, first, name, arguments),
     }
 }

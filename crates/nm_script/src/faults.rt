@@ -4,7 +4,7 @@ use nm_types::Memory;
 use std::alloc::AllocError;
 
 /// What is wrong with a script's text. The first line with a fault has the first of these kinds.
-#[derive(Clone, Copy, Debug, PartialEq, Eq)]
+#[derive(Clone, Copy, Debug, PartialEq)]
 pub enum Kind {
     /// There are more bytes than a script may have. This stands before all others.
     TooLong,
@@ -29,7 +29,7 @@ pub enum Kind {
 }
 
 /// Why no script was read.
-#[derive(Clone, Copy, Debug, PartialEq, Eq)]
+#[derive(Clone, Copy, Debug, PartialEq)]
 pub enum ScriptFault {
     /// The bytes spell no script: the fault of a line, counted from 1, or of the whole text at 0.
     Bad { line: u32, kind: Kind },

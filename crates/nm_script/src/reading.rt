@@ -1,6 +1,6 @@
 //! The whole text: its length, its first line, and one line after the other.
 
-ghost use Rattle.std.specs.Prelude.{◌≡◌, ◌<◌, ◌^◌, ◌≤◌, ◌+◌, ℕ, List, map};
+ghost use Rattle.std.specs.Prelude.{◌≡◌, ◌<◌, ◌^◌, ◌≤◌, ◌+◌, ℕ, List, [], ◌∷◌, map};
 ghost use Rattle.std.specs.Prelude.{IfErr, IfOk, OnOk};
 ghost use Rattle.nm_types.specs.declared.scripts.Line.{Line};
 ghost use Rattle.nm_types.specs.Limits.{sent_len};
@@ -18,22 +18,27 @@ use nm_types::{Command, Line, Lines, MAX_BODIES, MAX_LINES, MAX_RANKS, Script};
 use nm_words::{is_printable, number, split_line, words};
 use std::alloc::Global;
 
+/// The number of ranks, by the two words of the first line.
+#[tactic(auto, unfolding(crate::specs::Reading::ranks_of))]
+fn ranks_with(name: &[u8], count: &[u8]) -> Result<u8, Kind>
+    ensures { result ≡ ranks_of (name.now ∷ count.now ∷ []) }
+{
+    if name != b"ranks".as_slice() {
+        return Err(Kind::First);
+    }
+    match number(count, u64::from(MAX_RANKS) + 1) {
+        None | Some(0) => Err(Kind::First),
+        Some(ranks) => Ok(ranks as u8),
+    }
+}
+
 /// The number of ranks, by the words of the first line.
 #[tactic(auto, unfolding(crate::specs::Reading::ranks_of))]
 fn ranks_from(words: &[&[u8]]) -> Result<u8, Kind>
     ensures { result ≡ ranks_of (map (λ word. word.now) words.now) }
 {
     match words {
-        [name, count] => {
-            if *name == b"ranks".as_slice() {
-                match number(count, u64::from(MAX_RANKS) + 1) {
-                    None | Some(0) => Err(Kind::First),
-                    Some(ranks) => Ok(ranks as u8),
-                }
-            } else {
-                Err(Kind::First)
-            }
-        }
+        [name, count] => ranks_with(name, count),
         _ => Err(Kind::First),
     }
 }

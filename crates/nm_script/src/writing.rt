@@ -76,6 +76,74 @@ fn push_probe(
     push_selection(out, from, tag, ctx)
 }
 
+/// Writes a send: its name and its arguments.
+fn push_send(
+    alloc: Global,
+    out: &mut String,
+    q: u16,
+    to: u8,
+    tag: u16,
+    ctx: u8,
+    body: &Body,
+    sync: bool,
+) -> Result<(), AllocError>
+    ensures ok { OnOk result (string_bytes out.new ≡ string_bytes out.old
+        ++ join_with_byte 32 (words_lem (Command.Send q to tag ctx body.now sync))) }
+    ensures of_bytes { OnOk result (are_bytes body.now ≡ true) }
+{
+    out.push_str(if sync { "issend" } else { "isend" })?;
+    write!(out, " {q} {to} {tag} {ctx} ")?;
+    push_body(alloc, out, body)
+}
+
+/// Writes a receive: its name and its arguments.
+fn push_recv(
+    out: &mut String,
+    q: u16,
+    from: Peer,
+    tag: TagPick,
+    ctx: u8,
+    cap: u32,
+) -> Result<(), AllocError>
+    ensures ok { OnOk result (string_bytes out.new ≡ string_bytes out.old
+        ++ join_with_byte 32 (words_lem (Command.Recv q from tag ctx cap))) }
+{
+    write!(out, "irecv {q} ")?;
+    push_selection(out, from, tag, ctx)?;
+    write!(out, " {cap}")
+}
+
+/// Writes a command about a request: its name and the request.
+fn push_lone(out: &mut String, name: &str, q: u16) -> Result<(), AllocError>
+    ensures ok { OnOk result (string_bytes out.new ≡ string_bytes out.old
+        ++ join_with_byte 32 (name.now ∷ decimal q ∷ [])) }
+{
+    write!(out, "{name} {q}")
+}
+
+/// Writes a probe that takes its message out of matching: its name and its arguments.
+fn push_mprobe(
+    out: &mut String,
+    m: u16,
+    from: Peer,
+    tag: TagPick,
+    ctx: u8,
+) -> Result<(), AllocError>
+    ensures ok { OnOk result (string_bytes out.new ≡ string_bytes out.old
+        ++ join_with_byte 32 (words_lem (Command.Mprobe m from tag ctx))) }
+{
+    write!(out, "mprobe {m} ")?;
+    push_selection(out, from, tag, ctx)
+}
+
+/// Writes a receive of a handle's message: its name and its arguments.
+fn push_mrecv(out: &mut String, q: u16, m: u16, cap: u32) -> Result<(), AllocError>
+    ensures ok { OnOk result (string_bytes out.new ≡ string_bytes out.old
+        ++ join_with_byte 32 (words_lem (Command.Mrecv q m cap))) }
+{
+    write!(out, "mrecv {q} {m} {cap}")
+}
+
 /// Writes a command: its name and its arguments.
 fn push_command(alloc: Global, out: &mut String, command: &Command) -> Result<(), AllocError>
     ensures ok { OnOk result (string_bytes out.new
@@ -90,32 +158,21 @@ fn push_command(alloc: Global, out: &mut String, command: &Command) -> Result<()
             ctx,
             body,
             sync,
-        } => {
-            out.push_str(if *sync { "issend" } else { "isend" })?;
-            write!(out, " {q} {to} {tag} {ctx} ")?;
-            push_body(alloc, out, body)
-        }
+        } => push_send(alloc, out, *q, *to, *tag, *ctx, body, *sync),
         Command::Recv {
             q,
             from,
             tag,
             ctx,
             cap,
-        } => {
-            write!(out, "irecv {q} ")?;
-            push_selection(out, *from, *tag, *ctx)?;
-            write!(out, " {cap}")
-        }
-        Command::Wait { q } => write!(out, "wait {q}"),
-        Command::Test { q } => write!(out, "test {q}"),
+        } => push_recv(out, *q, *from, *tag, *ctx, *cap),
+        Command::Wait { q } => push_lone(out, "wait", *q),
+        Command::Test { q } => push_lone(out, "test", *q),
         Command::Probe { from, tag, ctx } => push_probe(out, "probe", *from, *tag, *ctx),
         Command::Await { from, tag, ctx } => push_probe(out, "await", *from, *tag, *ctx),
-        Command::Cancel { q } => write!(out, "cancel {q}"),
-        Command::Mprobe { m, from, tag, ctx } => {
-            write!(out, "mprobe {m} ")?;
-            push_selection(out, *from, *tag, *ctx)
-        }
-        Command::Mrecv { q, m, cap } => write!(out, "mrecv {q} {m} {cap}"),
+        Command::Cancel { q } => push_lone(out, "cancel", *q),
+        Command::Mprobe { m, from, tag, ctx } => push_mprobe(out, *m, *from, *tag, *ctx),
+        Command::Mrecv { q, m, cap } => push_mrecv(out, *q, *m, *cap),
     }
 }
 

@@ -13,7 +13,7 @@ use std::alloc::Global;
 use std::collections::HashMap;
 
 /// A name of a rank.
-#[derive(Clone, Copy, Debug, PartialEq, Eq, Hash)]
+#[derive(Clone, Copy, PartialEq, Eq, Hash)]
 struct Name {
     rank: u8,
     q: u16,

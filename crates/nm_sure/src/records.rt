@@ -27,7 +27,7 @@ use nm_types::{Account, Answer, Body, Bytes, Command, Memory, Script, Shape};
 use std::alloc::Global;
 
 /// What the plain run of a script writes.
-#[derive(Debug, Drop)]
+#[derive(Drop)]
 pub struct PlainRun {
     /// The report, as bytes, each line ended by a line feed.
     pub text: Vec<u8>,

@@ -36,7 +36,6 @@ fn is_eager(command: &Command, eager: u16) -> bool
 }
 
 /// A script, with what its starts and names belong to.
-#[derive(Drop)]
 pub(crate) struct Plan<'a> {
     pub(crate) lines: &'a [Line],
     /// The lines of each rank's commands.
@@ -50,13 +49,30 @@ pub(crate) struct Plan<'a> {
     pub(crate) ghost right: { IsPlan lines.now ranks.items held.items partners.items },
 }
 
+impl Drop for Plan<'_> {
+    fn drop(self) {
+        let Plan {
+            lines: _,
+            ranks: _,
+            held: _,
+            partners: _,
+            eager: _,
+        } = self;
+    }
+}
+
 /// How far a run got.
-#[derive(Drop)]
 pub(crate) struct Reached {
     /// How many commands of each rank ran.
     pub(crate) at: Vec<u32>,
     /// Whether it ran, by line.
     ran: Vec<bool>,
+}
+
+impl Drop for Reached {
+    fn drop(self) {
+        let Reached { at: _, ran: _ } = self;
+    }
 }
 
 impl Plan<'_> {

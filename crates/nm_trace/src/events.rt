@@ -1,6 +1,6 @@
 //! Events and counts of packets by the words of their lines.
 
-ghost use Rattle.std.specs.Prelude.{◌≡◌, map};
+ghost use Rattle.std.specs.Prelude.{◌≡◌, [], ◌∷◌, map};
 ghost use Rattle.nm_trace.specs.Events.{peer_of, pick_of, how_of, done_of, send_of, post_of};
 ghost use Rattle.nm_trace.specs.Events.{arrive_of, whole_of, out_of, cancel_of, recall_of};
 ghost use Rattle.nm_trace.specs.Events.{withdraw_of, undone_of, claim_of, match_of, answer_of};
@@ -110,60 +110,86 @@ fn send_from(words: &[&[u8]]) -> Option<Happened>
     }
 }
 
-/// A receive that was posted, by the words behind its name.
+/// A receive that was posted, by its six words.
 #[tactic(auto, unfolding(crate::specs::Events::post_of))]
+fn post_with(
+    number: &[u8],
+    from: &[u8],
+    tag: &[u8],
+    ctx: &[u8],
+    cap: &[u8],
+    line: &[u8],
+) -> Option<Happened>
+    ensures { result ≡ post_of
+        (number.now ∷ from.now ∷ tag.now ∷ ctx.now ∷ cap.now ∷ line.now ∷ []) }
+{
+    let number = huge(number)?;
+    let from = peer_from(from)?;
+    let tag = pick_from(tag)?;
+    let ctx = small(ctx)?;
+    let cap = large(cap)?;
+    let line = large(line)?;
+    Some(Happened::Post {
+        post: Post {
+            number,
+            from,
+            tag,
+            ctx,
+            cap,
+        },
+        line,
+    })
+}
+
+/// A receive that was posted, by the words behind its name.
 fn post_from(words: &[&[u8]]) -> Option<Happened>
     ensures { result ≡ post_of (map (λ word. word.now) words.now) }
 {
     match words {
-        [number, from, tag, ctx, cap, line] => {
-            let number = huge(number)?;
-            let from = peer_from(from)?;
-            let tag = pick_from(tag)?;
-            let ctx = small(ctx)?;
-            let cap = large(cap)?;
-            let line = large(line)?;
-            Some(Happened::Post {
-                post: Post {
-                    number,
-                    from,
-                    tag,
-                    ctx,
-                    cap,
-                },
-                line,
-            })
-        }
+        [number, from, tag, ctx, cap, line] => post_with(number, from, tag, ctx, cap, line),
         _ => None,
     }
 }
 
-/// An arrival, by the words behind its name.
+/// An arrival, by its six words.
 #[tactic(auto, unfolding(crate::specs::Events::arrive_of))]
+fn arrive_with(
+    from: &[u8],
+    n: &[u8],
+    tag: &[u8],
+    ctx: &[u8],
+    len: &[u8],
+    how: &[u8],
+) -> Option<Happened>
+    ensures { result ≡ arrive_of
+        (from.now ∷ n.now ∷ tag.now ∷ ctx.now ∷ len.now ∷ how.now ∷ []) }
+{
+    let from = small(from)?;
+    let n = huge(n)?;
+    let tag = middle(tag)?;
+    let ctx = small(ctx)?;
+    let len = large(len)?;
+    let how = how_from(how)?;
+    Some(Happened::Arrive {
+        a: Arrival {
+            n,
+            env: Envelope {
+                from,
+                tag,
+                ctx,
+                len,
+                how,
+            },
+        },
+    })
+}
+
+/// An arrival, by the words behind its name.
 fn arrive_from(words: &[&[u8]]) -> Option<Happened>
     ensures { result ≡ arrive_of (map (λ word. word.now) words.now) }
 {
     match words {
-        [from, n, tag, ctx, len, how] => {
-            let from = small(from)?;
-            let n = huge(n)?;
-            let tag = middle(tag)?;
-            let ctx = small(ctx)?;
-            let len = large(len)?;
-            let how = how_from(how)?;
-            Some(Happened::Arrive {
-                a: Arrival {
-                    n,
-                    env: Envelope {
-                        from,
-                        tag,
-                        ctx,
-                        len,
-                        how,
-                    },
-                },
-            })
-        }
+        [from, n, tag, ctx, len, how] => arrive_with(from, n, tag, ctx, len, how),
         _ => None,
     }
 }
@@ -228,20 +254,37 @@ fn recall_from(words: &[&[u8]]) -> Option<Happened>
     }
 }
 
+/// A withdrawal, by its three words.
+#[tactic(auto, unfolding(crate::specs::Events::withdraw_of))]
+fn withdraw_with(from: &[u8], n: &[u8], done: &[u8]) -> Option<Happened>
+    ensures { result ≡ withdraw_of (from.now ∷ n.now ∷ done.now ∷ []) }
+{
+    let from = small(from)?;
+    let n = huge(n)?;
+    let done = done_from(done)?;
+    Some(Happened::Withdraw { from, n, done })
+}
+
 /// A withdrawal, by the words behind its name.
 #[tactic(auto, unfolding(crate::specs::Events::withdraw_of))]
 fn withdraw_from(words: &[&[u8]]) -> Option<Happened>
     ensures { result ≡ withdraw_of (map (λ word. word.now) words.now) }
 {
     match words {
-        [from, n, done] => {
-            let from = small(from)?;
-            let n = huge(n)?;
-            let done = done_from(done)?;
-            Some(Happened::Withdraw { from, n, done })
-        }
+        [from, n, done] => withdraw_with(from, n, done),
         _ => None,
     }
+}
+
+/// What became of a recall, by its three words.
+#[tactic(auto, unfolding(crate::specs::Events::undone_of))]
+fn undone_with(to: &[u8], n: &[u8], done: &[u8]) -> Option<Happened>
+    ensures { result ≡ undone_of (to.now ∷ n.now ∷ done.now ∷ []) }
+{
+    let to = small(to)?;
+    let n = huge(n)?;
+    let done = done_from(done)?;
+    Some(Happened::Undone { to, n, done })
 }
 
 /// What became of a recall, by the words behind its name.
@@ -250,14 +293,20 @@ fn undone_from(words: &[&[u8]]) -> Option<Happened>
     ensures { result ≡ undone_of (map (λ word. word.now) words.now) }
 {
     match words {
-        [to, n, done] => {
-            let to = small(to)?;
-            let n = huge(n)?;
-            let done = done_from(done)?;
-            Some(Happened::Undone { to, n, done })
-        }
+        [to, n, done] => undone_with(to, n, done),
         _ => None,
     }
+}
+
+/// A claim, by its three words.
+#[tactic(auto, unfolding(crate::specs::Events::claim_of))]
+fn claim_with(from: &[u8], n: &[u8], line: &[u8]) -> Option<Happened>
+    ensures { result ≡ claim_of (from.now ∷ n.now ∷ line.now ∷ []) }
+{
+    let from = small(from)?;
+    let n = huge(n)?;
+    let line = large(line)?;
+    Some(Happened::Claim { from, n, line })
 }
 
 /// A claim, by the words behind its name.
@@ -266,36 +315,36 @@ fn claim_from(words: &[&[u8]]) -> Option<Happened>
     ensures { result ≡ claim_of (map (λ word. word.now) words.now) }
 {
     match words {
-        [from, n, line] => {
-            let from = small(from)?;
-            let n = huge(n)?;
-            let line = large(line)?;
-            Some(Happened::Claim { from, n, line })
-        }
+        [from, n, line] => claim_with(from, n, line),
         _ => None,
     }
 }
 
-/// A receive of a claimed message, by the words behind its name.
+/// A receive of a claimed message, by its five words.
 #[tactic(auto, unfolding(crate::specs::Events::match_of))]
+fn match_with(number: &[u8], from: &[u8], n: &[u8], cap: &[u8], line: &[u8]) -> Option<Happened>
+    ensures { result ≡ match_of (number.now ∷ from.now ∷ n.now ∷ cap.now ∷ line.now ∷ []) }
+{
+    let number = huge(number)?;
+    let from = small(from)?;
+    let n = huge(n)?;
+    let cap = large(cap)?;
+    let line = large(line)?;
+    Some(Happened::Match {
+        number,
+        from,
+        n,
+        cap,
+        line,
+    })
+}
+
+/// A receive of a claimed message, by the words behind its name.
 fn match_from(words: &[&[u8]]) -> Option<Happened>
     ensures { result ≡ match_of (map (λ word. word.now) words.now) }
 {
     match words {
-        [number, from, n, cap, line] => {
-            let number = huge(number)?;
-            let from = small(from)?;
-            let n = huge(n)?;
-            let cap = large(cap)?;
-            let line = large(line)?;
-            Some(Happened::Match {
-                number,
-                from,
-                n,
-                cap,
-                line,
-            })
-        }
+        [number, from, n, cap, line] => match_with(number, from, n, cap, line),
         _ => None,
     }
 }
@@ -416,24 +465,52 @@ fn told_from(alloc: Global, name: &[u8], words: &[&[u8]]) -> Option<Said>
     told_as(alloc, sort, words)
 }
 
+/// The event of a line, by its first words and those behind its name.
+#[tactic(auto, unfolding(crate::specs::Events::note_of))]
+fn note_with(
+    alloc: Global,
+    at: &[u8],
+    rank: &[u8],
+    stamp: &[u8],
+    name: &[u8],
+    words: &[&[u8]],
+) -> Option<Note>
+    ensures { result ≡ note_of
+        (at.now ∷ rank.now ∷ stamp.now ∷ name.now ∷ map (λ word. word.now) words.now) }
+{
+    if at != b"@".as_slice() {
+        return None;
+    }
+    let rank = small(rank)?;
+    let stamp = huge(stamp)?;
+    let Said { what, len } = told_from(alloc, name, words)?;
+    let event = Event { stamp, what };
+    Some(Note { rank, event, len })
+}
+
 /// The event of a line.
 #[tactic(auto, unfolding(crate::specs::Events::note_of))]
 pub fn note_from(alloc: Global, words: &[&[u8]]) -> Option<Note>
     ensures { result ≡ note_of (map (λ word. word.now) words.now) }
 {
     match words {
-        [at, rank, stamp, name, rest @ ..] => {
-            if *at != b"@".as_slice() {
-                return None;
-            }
-            let rank = small(rank)?;
-            let stamp = huge(stamp)?;
-            let Said { what, len } = told_from(alloc, name, rest)?;
-            let event = Event { stamp, what };
-            Some(Note { rank, event, len })
-        }
+        [at, rank, stamp, name, rest @ ..] => note_with(alloc, at, rank, stamp, name, rest),
         _ => None,
     }
+}
+
+/// The count of packets of a line, by its four words.
+#[tactic(auto, unfolding(crate::specs::Events::pair_of))]
+fn pair_with(name: &[u8], from: &[u8], to: &[u8], packets: &[u8]) -> Option<PairCount>
+    ensures { result ≡ pair_of (name.now ∷ from.now ∷ to.now ∷ packets.now ∷ []) }
+{
+    if name != b"pair".as_slice() {
+        return None;
+    }
+    let from = small(from)?;
+    let to = small(to)?;
+    let packets = huge(packets)?;
+    Some(PairCount { from, to, packets })
 }
 
 /// The count of packets of a line.
@@ -442,15 +519,7 @@ pub fn pair_from(words: &[&[u8]]) -> Option<PairCount>
     ensures { result ≡ pair_of (map (λ word. word.now) words.now) }
 {
     match words {
-        [name, from, to, packets] => {
-            if *name != b"pair".as_slice() {
-                return None;
-            }
-            let from = small(from)?;
-            let to = small(to)?;
-            let packets = huge(packets)?;
-            Some(PairCount { from, to, packets })
-        }
+        [name, from, to, packets] => pair_with(name, from, to, packets),
         _ => None,
     }
 }

@@ -4,7 +4,7 @@ use nm_types::Memory;
 use std::alloc::{AllocError, AllocFailed};
 
 /// Why no record was read.
-#[derive(Clone, Copy, Debug, PartialEq, Eq)]
+#[derive(Clone, Copy)]
 pub enum TraceFault {
     /// The lines up to this one, counted from 1, begin no trace; or it is the line behind the last,
     /// where the text ends too soon.

@@ -104,7 +104,7 @@ fn read_event<'a>(
 }
 
 /// What a rank's commands did.
-#[derive(Debug, Drop)]
+#[derive(Drop)]
 struct Deeds {
     events: Vec<Event>,
     /// How many of the events are answers.

@@ -1,6 +1,6 @@
 //! The text that is left, and what its next line tells.
 
-ghost use Rattle.std.specs.Prelude.{◌≡◌, ◌≤◌, ◌<◌, ◌+◌, map, IfOk, IfSome, length};
+ghost use Rattle.std.specs.Prelude.{◌≡◌, ◌≤◌, ◌<◌, ◌+◌, [], ◌∷◌, map, IfOk, IfSome, length};
 ghost use Rattle.std.specs.Option.{option_map};
 ghost use Rattle.nm_words.specs.Lines.{words_of};
 ghost use Rattle.nm_trace.specs.declared.faults.TraceFault.TheVariants.{Bad};
@@ -128,18 +128,24 @@ pub fn next_given<'a>(
     }
 }
 
+/// The line at which a rank waits, by the three words of a line.
+#[tactic(auto, unfolding(crate::specs::Machine::waits_of))]
+fn waits_with(whose: &[u8], line: &[u8], name: &[u8], rank: u8) -> Option<u32>
+    ensures { result ≡ waits_of rank (whose.now ∷ line.now ∷ name.now ∷ []) }
+{
+    if small(whose)? != rank || name != b"waits".as_slice() {
+        return None;
+    }
+    large(line)
+}
+
 /// The line at which a rank waits, by the words of a line.
 #[tactic(auto, unfolding(crate::specs::Machine::waits_of))]
 fn waits_from(words: &[&[u8]], rank: u8) -> Option<u32>
     ensures { result ≡ waits_of rank (map (λ word. word.now) words.now) }
 {
     match words {
-        [r, line, name] => {
-            if small(r)? != rank || *name != b"waits".as_slice() {
-                return None;
-            }
-            large(line)
-        }
+        [whose, line, name] => waits_with(whose, line, name, rank),
         _ => None,
     }
 }
