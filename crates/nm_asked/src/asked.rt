@@ -133,7 +133,6 @@ fn rename(
 }
 
 /// What the commands of a history ask for.
-#[derive(Drop)]
 pub struct Asked {
     /// The request that each command asks for, by the place of its answer.
     pub requests: Vec<Option<Request>>,
@@ -141,6 +140,16 @@ pub struct Asked {
     pub messages: Vec<Option<Message>>,
     /// The lines of the starts that names stand for at the end.
     pub names: IndexMap<u16, u32>,
+}
+
+impl Drop for Asked {
+    fn drop(self) {
+        let Asked {
+            requests: _,
+            messages: _,
+            names: _,
+        } = self;
+    }
 }
 
 impl Asked {

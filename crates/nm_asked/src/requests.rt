@@ -19,7 +19,7 @@ use nm_places::places::ByNumber;
 use nm_types::{Answer, Command, Memory};
 
 /// A request: the send of message `n` to a rank, or the receive with a number.
-#[derive(Clone, Copy, Debug, PartialEq, Eq)]
+#[derive(Clone, Copy)]
 pub enum Request {
     Sending { to: u8, n: u64 },
     Receiving { number: u64 },
@@ -66,7 +66,7 @@ pub fn request_at(events: &[Event], places: &ByNumber, line: u32, k: usize) -> O
 }
 
 /// What the answer of a command does to the line that a name stands for.
-#[derive(Clone, Copy, Debug, PartialEq, Eq)]
+#[derive(Clone, Copy)]
 pub enum Change {
     /// The name stands for this command's line from now on.
     Begins(u16),

@@ -18,7 +18,7 @@ pub trait Called {
 }
 
 /// The events of one kind since the last answer.
-#[derive(Clone, Copy, Debug, PartialEq, Eq)]
+#[derive(Clone, Copy)]
 pub enum Since {
     /// There is none.
     Nothing,

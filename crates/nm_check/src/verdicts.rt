@@ -6,7 +6,7 @@ use nm_check_rest::clauses::RestClause;
 
 /// What a record is judged to be: a run, or one that breaks a rule. The rule is the first that is
 /// broken.
-#[derive(Clone, Copy, Debug, PartialEq, Eq)]
+#[derive(Clone, Copy)]
 pub enum Verdict {
     /// The record is of a run of the script.
     Holds,

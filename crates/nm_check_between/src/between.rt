@@ -47,7 +47,7 @@ pub fn first_between(i: u8, j: u8, sender: &Marks, receiver: &Marks) -> Option<C
 }
 
 /// A rule of the messages to a rank that is broken.
-#[derive(Clone, Copy, Debug, PartialEq, Eq)]
+#[derive(Clone, Copy)]
 pub struct Broken {
     pub to: u8,
     pub clause: CarriedClause,
@@ -74,7 +74,7 @@ pub fn first_from(i: u8, sender: &Marks, marks: &[Marks]) -> Option<Broken>
 }
 
 /// The first pair of ranks, by sender and then receiver, between which a rule is broken.
-#[derive(Clone, Copy, Debug, PartialEq, Eq)]
+#[derive(Clone, Copy)]
 pub struct BrokenPair {
     pub from: u8,
     pub broken: Broken,

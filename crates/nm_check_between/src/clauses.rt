@@ -4,7 +4,7 @@ ghost use Rattle.std.specs.Prelude.{◌≡◌};
 ghost use Rattle.nm_check_between.specs.CarriedClauses.{carried_letter};
 
 /// A rule of the messages from one rank to another (MPI 3.1, sections 3.4, 3.5 and 3.8.4).
-#[derive(Clone, Copy, Debug, PartialEq, Eq)]
+#[derive(Clone, Copy)]
 pub enum CarriedClause {
     /// The arrivals are the first of the sends, in order, each with its envelope and a later stamp.
     Messages,

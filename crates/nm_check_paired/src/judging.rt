@@ -119,9 +119,6 @@ fn first_by_tables(
     ))
 }
 
-/// Lets tables go.
-fn let_go(_tables: Tables) {}
-
 /// The verdict on a rank's own run, where stamps and numbers are right.
 fn judge_by_tables(
     alloc: Global,
@@ -136,16 +133,9 @@ fn judge_by_tables(
     ensures { IfOk result (IsJudged shape rank lines.now at events.now) }
 {
     let tables = Tables::of(alloc, rank, lines, events)?;
-    match first_by_tables(alloc, shape, rank, lines, at, events, &tables) {
-        Ok(None) => Ok(Judged::Runs(tables)),
-        Ok(Some(clause)) => {
-            let_go(tables);
-            Ok(Judged::Breaks(clause))
-        }
-        Err(Memory) => {
-            let_go(tables);
-            Err(Memory)
-        }
+    match first_by_tables(alloc, shape, rank, lines, at, events, &tables)? {
+        None => Ok(Judged::Runs(tables)),
+        Some(clause) => Ok(Judged::Breaks(clause)),
     }
 }
 

@@ -23,12 +23,22 @@ use std::alloc::Global;
 
 /// What is looked up of a rank: how many messages there were, where each thing happened first, what
 /// was paired with what, and what each command asks for.
-#[derive(Drop)]
 pub struct Tables {
     pub counts: Counts,
     pub places: Places,
     pub pairing: Pairing,
     pub asked: Asked,
+}
+
+impl Drop for Tables {
+    fn drop(self) {
+        let Tables {
+            counts: _,
+            places: _,
+            pairing: _,
+            asked: _,
+        } = self;
+    }
 }
 
 impl Tables {

@@ -12,7 +12,7 @@ use nm_history::plain::Pair;
 use nm_types::{Answer, Arrival};
 
 /// An answer, of whose bytes the number alone counts.
-#[derive(Clone, Copy, Debug, PartialEq, Eq)]
+#[derive(Clone, Copy, PartialEq)]
 pub(crate) enum Told {
     Started,
     Busy,

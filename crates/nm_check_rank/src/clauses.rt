@@ -4,7 +4,7 @@ ghost use Rattle.std.specs.Prelude.{◌≡◌};
 ghost use Rattle.nm_check_rank.specs.OwnClauses.{own_letter};
 
 /// A rule of a rank's run (MPI 3.1, chapter 3).
-#[derive(Clone, Copy, Debug, PartialEq, Eq)]
+#[derive(Clone, Copy)]
 pub enum OwnClause {
     /// The commands that ran are the first ones, in order, each with its answer.
     Answers,

@@ -4,7 +4,7 @@ ghost use Rattle.std.specs.Prelude.{◌≡◌};
 ghost use Rattle.nm_check_rest.specs.RestClauses.{rest_letter};
 
 /// A rule of all ranks at rest.
-#[derive(Clone, Copy, Debug, PartialEq, Eq)]
+#[derive(Clone, Copy)]
 pub enum RestClause {
     /// All that was sent has arrived.
     Arrived,

@@ -23,7 +23,7 @@ use nm_types::How;
 const NAMES: usize = 256;
 
 /// Packets to a rank.
-#[derive(Clone, Copy, Debug, PartialEq, Eq)]
+#[derive(Clone, Copy)]
 struct Load {
     rank: u8,
     packets: u32,

@@ -22,7 +22,7 @@ use std::alloc::Global;
 const MAX_INPUT: usize = 67_108_864;
 
 /// What there is to say of a script and a trace.
-#[derive(Clone, Copy, Debug, PartialEq, Eq)]
+#[derive(Clone, Copy)]
 pub enum Checked {
     /// The input is too long, or has no line `---`.
     NoTrace,

@@ -14,6 +14,7 @@ ghost use Rattle.nm_history.specs.RankRun.{Always, NumberAt};
 ghost use Rattle.nm_places.specs.Placed.{AreTaken};
 ghost use Rattle.nm_pairing.specs.Looks.{look_of};
 ghost use Rattle.nm_pairing.specs.Pairings.{AreTables, Tells};
+ghost use Rattle.nm_pairing.specs.Replays.{Replays};
 
 use crate::looks::look;
 use crate::replays::Replay;
@@ -34,11 +35,20 @@ pub(crate) struct Paired {
 }
 
 /// The pairs of a history, in order, and by their messages and their receives.
-#[derive(Drop)]
 pub(crate) struct Tables {
     pub pairs: Vec<Pair>,
     pub taken: IndexMap<Message, usize>,
     pub receives: IndexMap<u64, Paired>,
+}
+
+impl Drop for Tables {
+    fn drop(self) {
+        let Tables {
+            pairs: _,
+            taken: _,
+            receives: _,
+        } = self;
+    }
 }
 
 /// Keeps the first value of a key.
@@ -85,12 +95,98 @@ impl Tables {
     }
 }
 
+/// Replays a history from its start.
+fn replay_all(
+    replay: &mut Replay,
+    tables: &mut Tables,
+    looks: &mut Vec<Option<Arrival>>,
+    rank: u8,
+    lines: &[Line],
+    events: &[Event],
+) -> Result<(), Memory>
+    requires numbered { (ranks : ℕ) × Always (NumberAt ranks) events.now }
+    requires replay { Replays [] replay.old }
+    requires tables { AreTables [] tables.old }
+    requires looks { looks.old.items ≡ [] }
+    ensures { OnOk result (Tells rank lines.now events.now
+        (record { tables = tables.new; looks = looks.new; matcher = replay.new.matcher })) }
+{
+    for (k, e) in events.iter().enumerate() {
+        looks.push(look(rank, lines, &replay.matcher, &e.what))?;
+        if let Some(pair) = replay.take(&e.what)? {
+            tables.keep(k, pair)?;
+        }
+    }
+    Ok(())
+}
+
+/// What is made of a history while it is replayed.
+pub(crate) struct Work {
+    tables: Tables,
+    looks: Vec<Option<Arrival>>,
+    replay: Replay,
+}
+
+impl Drop for Work {
+    fn drop(self) {
+        let Work {
+            tables: _,
+            looks: _,
+            replay: _,
+        } = self;
+    }
+}
+
+impl Work {
+    /// Of no event.
+    fn new(alloc: Global) -> Work
+        ensures replay { Replays [] result.replay }
+        ensures tables { AreTables [] result.tables }
+        ensures looks { result.looks.items ≡ [] }
+    {
+        Work {
+            tables: Tables::new(alloc),
+            looks: Vec::new(alloc),
+            replay: Replay::new(alloc),
+        }
+    }
+
+    /// What it tells.
+    fn into_pairing(self) -> Pairing
+        ensures { result ≡ record {
+          tables = self.tables;
+          looks = self.looks;
+          matcher = self.replay.matcher;
+        } }
+    {
+        let Work {
+            tables,
+            looks,
+            replay,
+        } = self;
+        Pairing {
+            tables,
+            looks,
+            matcher: replay.into_matcher(),
+        }
+    }
+}
+
 /// What was paired with what before each event of a history, and what was free.
-#[derive(Drop)]
 pub struct Pairing {
     pub(crate) tables: Tables,
     pub(crate) looks: Vec<Option<Arrival>>,
     pub(crate) matcher: Matcher,
+}
+
+impl Drop for Pairing {
+    fn drop(self) {
+        let Pairing {
+            tables: _,
+            looks: _,
+            matcher: _,
+        } = self;
+    }
 }
 
 impl Pairing {
@@ -100,21 +196,16 @@ impl Pairing {
         requires numbered { (ranks : ℕ) × Always (NumberAt ranks) events.now }
         ensures { IfOk result (λ pairing. Tells rank lines.now events.now pairing) }
     {
-        let mut tables = Tables::new(alloc);
-        let mut looks = Vec::new(alloc);
-        let mut replay = Replay::new(alloc);
-        for (k, e) in events.iter().enumerate() {
-            looks.push(look(rank, lines, &replay.matcher, &e.what))?;
-            if let Some(pair) = replay.take(&e.what)? {
-                tables.keep(k, pair)?;
-            }
-        }
-        let Replay { matcher, .. } = replay;
-        Ok(Pairing {
-            tables,
-            looks,
-            matcher,
-        })
+        let mut work = Work::new(alloc);
+        replay_all(
+            &mut work.replay,
+            &mut work.tables,
+            &mut work.looks,
+            rank,
+            lines,
+            events,
+        )?;
+        Ok(work.into_pairing())
     }
 
     /// The pairs, in the order in which they were made.

@@ -23,13 +23,24 @@ use std::alloc::Global;
 
 /// What is known of the events so far: the two queues, the receives and the messages by their
 /// numbers, and which of them take no part in matching any more, come or not.
-#[derive(Drop)]
 pub(crate) struct Replay {
     pub matcher: Matcher,
     pub posts: IndexMap<u64, Post>,
     pub messages: IndexMap<Message, Arrival>,
     pub closed: IndexSet<u64>,
     pub gone: IndexSet<Message>,
+}
+
+impl Drop for Replay {
+    fn drop(self) {
+        let Replay {
+            matcher: _,
+            posts: _,
+            messages: _,
+            closed: _,
+            gone: _,
+        } = self;
+    }
 }
 
 impl Replay {
@@ -44,6 +55,20 @@ impl Replay {
             closed: IndexSet::new(alloc),
             gone: IndexSet::new(alloc),
         }
+    }
+
+    /// The two queues.
+    pub fn into_matcher(self) -> Matcher
+        ensures { result ≡ self.matcher }
+    {
+        let Replay {
+            matcher,
+            posts: _,
+            messages: _,
+            closed: _,
+            gone: _,
+        } = self;
+        matcher
     }
 
     // A receive and a message are paired.

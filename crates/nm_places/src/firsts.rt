@@ -21,7 +21,7 @@ use std::alloc::Global;
 use std::hash::Hash;
 
 /// A message, by the other rank of it and its number among those of the two.
-#[derive(Clone, Copy, Debug, Eq, Hash)]
+#[derive(Clone, Copy, Eq, Hash)]
 pub struct Message {
     pub rank: u8,
     pub n: u64,

@@ -15,11 +15,20 @@ use nm_types::Memory;
 use std::alloc::Global;
 
 /// The first places at which the messages of other ranks came.
-#[derive(Drop)]
 pub struct Came {
     pub arrivals: IndexMap<Message, usize>,
     pub askings: IndexMap<Message, usize>,
     pub wholes: IndexMap<Message, usize>,
+}
+
+impl Drop for Came {
+    fn drop(self) {
+        let Came {
+            arrivals: _,
+            askings: _,
+            wholes: _,
+        } = self;
+    }
 }
 
 impl Came {
@@ -38,11 +47,20 @@ impl Came {
 }
 
 /// The first places at which it was settled what becomes of the messages of other ranks.
-#[derive(Drop)]
 pub struct Settled {
     pub withdrawn: IndexMap<Message, usize>,
     pub refused: IndexMap<Message, usize>,
     pub claims: IndexMap<Message, usize>,
+}
+
+impl Drop for Settled {
+    fn drop(self) {
+        let Settled {
+            withdrawn: _,
+            refused: _,
+            claims: _,
+        } = self;
+    }
 }
 
 impl Settled {
@@ -61,10 +79,18 @@ impl Settled {
 }
 
 /// The first places of what happens to the messages of other ranks.
-#[derive(Drop)]
 pub struct Incoming {
     pub came: Came,
     pub settled: Settled,
+}
+
+impl Drop for Incoming {
+    fn drop(self) {
+        let Incoming {
+            came: _,
+            settled: _,
+        } = self;
+    }
 }
 
 impl Incoming {
@@ -78,11 +104,20 @@ impl Incoming {
 }
 
 /// The first places at which messages to other ranks were sent and left.
-#[derive(Drop)]
 pub struct Gone {
     pub sends: IndexMap<Message, usize>,
     pub asked: IndexMap<Message, usize>,
     pub outs: IndexMap<Message, usize>,
+}
+
+impl Drop for Gone {
+    fn drop(self) {
+        let Gone {
+            sends: _,
+            asked: _,
+            outs: _,
+        } = self;
+    }
 }
 
 impl Gone {
@@ -97,11 +132,20 @@ impl Gone {
 }
 
 /// The first places at which messages to other ranks were recalled, and the answers came.
-#[derive(Drop)]
 pub struct Recalled {
     pub recalls: IndexMap<Message, usize>,
     pub undone: IndexMap<Message, usize>,
     pub late: IndexMap<Message, usize>,
+}
+
+impl Drop for Recalled {
+    fn drop(self) {
+        let Recalled {
+            recalls: _,
+            undone: _,
+            late: _,
+        } = self;
+    }
 }
 
 impl Recalled {
@@ -120,10 +164,18 @@ impl Recalled {
 }
 
 /// The first places of what happens to the messages to other ranks.
-#[derive(Drop)]
 pub struct Outgoing {
     pub gone: Gone,
     pub recalled: Recalled,
+}
+
+impl Drop for Outgoing {
+    fn drop(self) {
+        let Outgoing {
+            gone: _,
+            recalled: _,
+        } = self;
+    }
 }
 
 impl Outgoing {
@@ -138,11 +190,20 @@ impl Outgoing {
 
 /// The first places of what happens to receives, by their number, and of what is done for a
 /// command, by its line.
-#[derive(Drop)]
 pub struct ByNumber {
     pub cancels: IndexMap<u64, usize>,
     pub starts: IndexMap<u64, usize>,
     pub claims: IndexMap<u64, usize>,
+}
+
+impl Drop for ByNumber {
+    fn drop(self) {
+        let ByNumber {
+            cancels: _,
+            starts: _,
+            claims: _,
+        } = self;
+    }
 }
 
 impl ByNumber {
@@ -161,11 +222,20 @@ impl ByNumber {
 }
 
 /// Where in a history each thing happened first.
-#[derive(Drop)]
 pub struct Places {
     pub incoming: Incoming,
     pub outgoing: Outgoing,
     pub by_number: ByNumber,
+}
+
+impl Drop for Places {
+    fn drop(self) {
+        let Places {
+            incoming: _,
+            outgoing: _,
+            by_number: _,
+        } = self;
+    }
 }
 
 impl Places {

@@ -1,5 +1,5 @@
 use Rattle.nm_pairing.proofs.WalkLemmas.{IsReplayed}
-use Rattle.nm_pairing.proofs.pairings.Pairing.of.Given as goal
+use Rattle.nm_pairing.proofs.pairings.replay_all.Given as goal
 
 -- what is known of the events so far
 abbrev pub invariant-loop-k : goal.invariant-loop-k

@@ -3,13 +3,13 @@ use Rattle.nm_pairing.specs.declared.pairings.Tables.{Tables}
 use Rattle.nm_pairing.specs.Pairings.{AreTables}
 use Rattle.nm_pairing.proofs.WalkLemmas.{new_at, pair_made, pair_place, replayed_all, replayed_more, replayed_none}
 use Rattle.nm_pairing.proofs.WalkLemmas.{tables_none_more}
-use Rattle.nm_pairing.proofs.pairings.Pairing.of.Goals as goal
-use Rattle.nm_pairing.proofs.pairings.Pairing.of.Goals.{in-Some+in_ok-keep, in_default}
+use Rattle.nm_pairing.proofs.pairings.replay_all.Goals as goal
+use Rattle.nm_pairing.proofs.pairings.replay_all.Goals.{in-Some+in_ok-keep, in_default}
 
 pub loop-k-init : goal.loop-k-init
 loop-k-init c =
-    replayed_none c.args.rank c.args.lines.now c.args.events.now c.new-replay.result c.new-tables.result
-    c.new-looks.result.items c.new-replay.ensures c.new-tables.ensures c.new-looks.ensures.items
+    replayed_none c.args.rank c.args.lines.now c.args.events.now c.args.replay.now c.args.tables.now
+    c.args.looks.now.items c.requires.replay c.requires.tables c.requires.looks
 
 pub take-requires : goal.take-requires
 take-requires c =
