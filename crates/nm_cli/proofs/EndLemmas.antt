@@ -103,44 +103,44 @@ checked_ends (Judged v) k h zero three eight nine = eight h
 pub not_five : (s : Ending) (k : ℕ) → s.status ≡ k → (k ≡ 5 → ⊥) → s.status ≡ 5 → ⊥
 not_five s k h other five = other (sym h ∙ five)
 
--- words that are not taken
+-- words that are not taken are all that ends with 2
+two_is_usage : (a : Response) → 2 ≡ status_of a → a ≡ Usage
+two_is_usage Usage h = refl
+two_is_usage (Checked c) h = absurd (checked_ends c 2 h (λ z. cc) (λ z. cc) (λ z. cc) (λ z. cc))
+two_is_usage (Ran m r w) h = absurd (no_run_status r.done 2 2 h refl (λ z. cc) (λ z. cc))
+two_is_usage (Determinate r) h = absurd (no_run_status r.done 2 2 h refl (λ z. cc) (λ z. cc))
+two_is_usage (Planned q r w) h = absurd (no_run_status r.done 2 2 h refl (λ z. cc) (λ z. cc))
+two_is_usage a h = absurd (omega (arith, h))
+
 pub usage_is : (s : Ending) (a : Response) → Ends s a → s.status ≡ 2 → NotTaken s.words × Appends s.before s.after usage
-usage_is s Usage e h = (e.right, (said_whole s Usage e (not_five s 2 h (λ f. cc))).1)
-usage_is s (Checked c) e h =
-    let p = said_whole s (Checked c) e (not_five s 2 h (λ f. cc)) in
-    absurd (checked_ends c 2 (sym h ∙ p.0) (λ z. cc) (λ z. cc) (λ z. cc) (λ z. cc))
-usage_is s (Ran m r w) e h =
-    let p = said_whole s (Ran m r w) e (not_five s 2 h (λ f. cc)) in
-    absurd (no_run_status r.done s.status 2 p.0 h (λ z. cc) (λ z. cc))
-usage_is s (Determinate r) e h =
-    let p = said_whole s (Determinate r) e (not_five s 2 h (λ f. cc)) in
-    absurd (no_run_status r.done s.status 2 p.0 h (λ z. cc) (λ z. cc))
-usage_is s (Planned q r w) e h =
-    let p = said_whole s (Planned q r w) e (not_five s 2 h (λ f. cc)) in
-    absurd (no_run_status r.done s.status 2 p.0 h (λ z. cc) (λ z. cc))
-usage_is s a e h = absurd (omega (arith, h, (said_whole s a e (not_five s 2 h (λ f. cc))).0))
+usage_is s a e h =
+    let told = said_whole s a e (not_five s 2 h (λ f. cc)) in
+    let is = two_is_usage a (sym h ∙ told.0) in (
+      (subst (λ b. Ends s b) is e).right,
+      subst (λ b. Appends s.before s.after (text_of b)) is told.1,
+    )
 
 pub not_taken_is : (s : Ending) (a : Response) → Ends s a → NotTaken s.words → OrUnwritten (s.status ≡ 2) s.status
 not_taken_is s Usage e none = or_unwritten s Usage e (λ h said. h)
 not_taken_is s a e none = absurd (none e.right.line e.right.taken)
 
--- a source that failed
+-- a source that failed is all that ends with 4
+four_is_unread : (a : Response) → 4 ≡ status_of a → a ≡ Unread
+four_is_unread Unread h = refl
+four_is_unread (Checked c) h = absurd (checked_ends c 4 h (λ z. cc) (λ z. cc) (λ z. cc) (λ z. cc))
+four_is_unread (Ran m r w) h = absurd (no_run_status r.done 4 4 h refl (λ z. cc) (λ z. cc))
+four_is_unread (Determinate r) h = absurd (no_run_status r.done 4 4 h refl (λ z. cc) (λ z. cc))
+four_is_unread (Planned q r w) h = absurd (no_run_status r.done 4 4 h refl (λ z. cc) (λ z. cc))
+four_is_unread a h = absurd (omega (arith, h))
+
 pub unread_is : (s : Ending) (a : Response) → Ends s a → s.status ≡ 4 →
     Rose s.read_old s.read_new × Appends s.before s.after unread
-unread_is s Unread e h = (e.right.right.1, (said_whole s Unread e (not_five s 4 h (λ f. cc))).1)
-unread_is s (Checked c) e h =
-    let p = said_whole s (Checked c) e (not_five s 4 h (λ f. cc)) in
-    absurd (checked_ends c 4 (sym h ∙ p.0) (λ z. cc) (λ z. cc) (λ z. cc) (λ z. cc))
-unread_is s (Ran m r w) e h =
-    let p = said_whole s (Ran m r w) e (not_five s 4 h (λ f. cc)) in
-    absurd (no_run_status r.done s.status 4 p.0 h (λ z. cc) (λ z. cc))
-unread_is s (Determinate r) e h =
-    let p = said_whole s (Determinate r) e (not_five s 4 h (λ f. cc)) in
-    absurd (no_run_status r.done s.status 4 p.0 h (λ z. cc) (λ z. cc))
-unread_is s (Planned q r w) e h =
-    let p = said_whole s (Planned q r w) e (not_five s 4 h (λ f. cc)) in
-    absurd (no_run_status r.done s.status 4 p.0 h (λ z. cc) (λ z. cc))
-unread_is s a e h = absurd (omega (arith, h, (said_whole s a e (not_five s 4 h (λ f. cc))).0))
+unread_is s a e h =
+    let told = said_whole s a e (not_five s 4 h (λ f. cc)) in
+    let is = four_is_unread a (sym h ∙ told.0) in (
+      (subst (λ b. Ends s b) is e).right.right.1,
+      subst (λ b. Appends s.before s.after (text_of b)) is told.1,
+    )
 
 -- a sink that failed
 no_five : (a : Response) → 5 ≡ status_of a → ⊥

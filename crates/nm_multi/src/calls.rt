@@ -9,7 +9,7 @@ use std::alloc::Global;
 use std::marker::Model;
 
 /// A call on the rank. The peer and the context of a start are 0, and a send is a standard one.
-#[derive(Debug, Drop)]
+#[derive(Drop)]
 pub enum Call {
     /// Starts a send.
     Isend { tag: u16, body: Body },
@@ -26,7 +26,7 @@ pub enum Call {
 }
 
 /// What a call replies.
-#[derive(Debug, Drop)]
+#[derive(Drop)]
 pub enum Reply {
     /// The request that was started.
     Started(Req),
@@ -49,7 +49,7 @@ pub enum Reply {
 }
 
 /// A call that was made, with the number of the one who made it, and its reply.
-#[derive(Debug, Drop)]
+#[derive(Drop)]
 pub struct Entry {
     pub who: u8,
     pub call: Call,
@@ -57,7 +57,7 @@ pub struct Entry {
 }
 
 /// The calls that were made, oldest first.
-#[derive(Debug, Drop)]
+#[derive(Drop)]
 pub struct CallLog {
     items: Vec<Entry>,
 }

@@ -93,10 +93,15 @@ fn reply_to(rank: &mut Rank, call: &Call) -> Result<Reply, Memory>
 }
 
 /// The one rank of a shape, beside the log of all calls made on it.
-#[derive(Drop)]
 pub struct Desk {
     rank: Rank,
     log: CallLog,
+}
+
+impl Drop for Desk {
+    fn drop(self) {
+        let Desk { rank: _, log: _ } = self;
+    }
 }
 
 impl Model for Desk {
@@ -153,6 +158,7 @@ impl Desk {
         ensures log { result.entries ≡ self.log }
         ensures replay { IsReplay self.rank.sizes self.log self.rank }
     {
-        self.log
+        let Desk { rank: _, log } = self;
+        log
     }
 }

@@ -126,13 +126,7 @@ fn settled(alloc: Global, turns: Turns, threads: u8, rounds: u16) -> Result<Turn
     if are_of(&turns, threads, rounds) {
         return Ok(turns);
     }
-    let_go(turns);
     Turns::new(alloc, one_rank(), threads, rounds)
-}
-
-// Lets turns go. How is shown here, and not among what `settled` has to show.
-fn let_go(turns: Turns) {
-    let _ = turns;
 }
 
 /// Runs the programs of so many threads, of so many rounds each, on one rank that they share. The

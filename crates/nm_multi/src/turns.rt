@@ -23,7 +23,7 @@ pub const MAX_ROUNDS: u16 = 1000;
 
 /// How far a thread is in its program: how many calls it made, and the requests that the last send
 /// and the last receive of it started, if they started one.
-#[derive(Clone, Copy, Debug, Drop)]
+#[derive(Clone, Copy, Drop)]
 pub struct Progress {
     pub made: u32,
     pub sent: Option<Req>,
@@ -118,13 +118,24 @@ impl Progress {
 }
 
 /// A desk, how many threads share it, how many rounds each makes, and how far each is.
-#[derive(Drop)]
 pub struct Turns {
     desk: Desk,
     shape: Shape,
     threads: u8,
     rounds: u16,
     progress: Vec<Progress>,
+}
+
+impl Drop for Turns {
+    fn drop(self) {
+        let Turns {
+            desk: _,
+            shape: _,
+            threads: _,
+            rounds: _,
+            progress: _,
+        } = self;
+    }
 }
 
 impl Model for Turns {
@@ -219,6 +230,13 @@ impl Turns {
         ensures replay { IsReplay self.desk.rank.sizes self.desk.log self.desk.rank }
         ensures programs { ArePrograms self.threads self.rounds self.desk.log }
     {
-        self.desk.into_log()
+        let Turns {
+            desk,
+            shape: _,
+            threads: _,
+            rounds: _,
+            progress: _,
+        } = self;
+        desk.into_log()
     }
 }

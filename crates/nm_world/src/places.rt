@@ -6,10 +6,18 @@ use std::marker::Model;
 /// A place for a packet and one for a piece. They stay as long as their actor, so that none is made
 /// for what comes or goes, and a turn in which nothing moves writes to neither. A contract sees
 /// nothing of what is in them.
-#[derive(Drop)]
 pub(crate) struct Places {
     packet: Packet,
     piece: Piece,
+}
+
+impl Drop for Places {
+    fn drop(self) {
+        let Places {
+            packet: _,
+            piece: _,
+        } = self;
+    }
 }
 
 impl Model for Places {

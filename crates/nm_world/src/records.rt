@@ -67,6 +67,37 @@ pub(crate) fn add<T: Drop>(list: &mut Vec<T>, x: T) -> Result<(), Memory>
     }
 }
 
+// The parts of one actor more. Its process goes first, so that a way out has little to let go.
+fn tell(parts: &mut Parts, actor: Actor, lines: &[Line], ranks: u8) -> Result<(), Memory>
+    requires few { length lines.now < MAX_LINES }
+    requires known { ranks ≤ (knows actor.port).ranks }
+    ensures ports { OnOk result
+        (parts.new.ports.items ≡ parts.old.ports.items ++ actor.port ∷ []) }
+    ensures rings { OnOk result
+        (parts.new.rings.items ≡ parts.old.rings.items ++ actor.ring ∷ []) }
+    ensures ends { OnOk result ((shape : Sizes) → IsAtWork shape lines.now actor.process →
+        ends_of parts.new.ranks
+        ≡ ends_of parts.old.ranks ++ ended_of lines.now actor.process ∷ []) }
+    ensures packets { OnOk result (packets_of parts.new.pairs
+        ≡ packets_of parts.old.pairs ++ counts_to ranks actor.port) }
+    ensures done { OnOk result (parts.old.done ≡ are_done (ends_of parts.old.ranks) →
+        parts.new.done ≡ are_done (ends_of parts.new.ranks)) }
+{
+    push_counts(&mut parts.pairs, ranks, &actor.port)?;
+    let Actor {
+        process,
+        port,
+        ring,
+        places: _,
+    } = actor;
+    let account = account(process, lines);
+    parts.done = parts.done & account.waits.is_none();
+    add(&mut parts.ports, port)?;
+    add(&mut parts.rings, ring)?;
+    parts.ranks.push(account)?;
+    Ok(())
+}
+
 /// The parts of actors.
 pub(crate) fn parts_of(
     alloc: Global,
@@ -83,30 +114,15 @@ pub(crate) fn parts_of(
     ensures packets { IfOk result (λ x. packets_of x.pairs ≡ counts_of ranks actors.items) }
     ensures done { IfOk result (λ x. x.done ≡ are_done (ends_of x.ranks)) }
 {
-    let mut ports = Vec::new(alloc);
-    let mut rings = Vec::new(alloc);
-    let mut accounts = Accounts::new(alloc);
-    let mut pairs = Pairs::new(alloc);
-    let mut done = true;
+    let mut parts = Parts {
+        ports: Vec::new(alloc),
+        rings: Vec::new(alloc),
+        ranks: Accounts::new(alloc),
+        pairs: Pairs::new(alloc),
+        done: true,
+    };
     for actor in actors {
-        push_counts(&mut pairs, ranks, &actor.port)?;
-        let Actor {
-            process,
-            port,
-            ring,
-            places: _,
-        } = actor;
-        add(&mut ports, port)?;
-        add(&mut rings, ring)?;
-        let account = account(process, lines);
-        done = done & account.waits.is_none();
-        accounts.push(account)?;
+        tell(&mut parts, actor, lines, ranks)?;
     }
-    Ok(Parts {
-        ports,
-        rings,
-        ranks: accounts,
-        pairs,
-        done,
-    })
+    Ok(parts)
 }

@@ -34,10 +34,15 @@ use std::sync::Wait;
 use std::thread::Threads;
 
 /// What the closed fabric and the closed rings keep.
-#[derive(Drop)]
 pub struct Ways {
     pub cells: Closed,
     pub rings: RingAccount,
+}
+
+impl Drop for Ways {
+    fn drop(self) {
+        let Ways { cells: _, rings: _ } = self;
+    }
 }
 
 /// How many turns each actor of a round makes at most.
