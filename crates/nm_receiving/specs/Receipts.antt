@@ -56,6 +56,7 @@ drawn_from v from = slice_index_or v.drawn from 0
 abbrev pub pair_with : ℕ → Receive → Option Pair
 pair_with number r = option_map (λ a. record { number = number; cap = r.cap; arrival = a }) r.taken
 
+-- the pair of the receive with this number
 abbrev pub pair_at : ReceivingView → ℕ → Option Pair
 pair_at v number = option_and_then (pair_with number) (slice_get v.receives number)
 

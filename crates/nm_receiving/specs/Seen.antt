@@ -3,6 +3,7 @@ use Rattle.nm_receiving.specs.declared.receivings.Receiving.TheInside.{Inside}
 use Rattle.nm_receiving.specs.Receipts.{ReceivingView}
 use Rattle.nm_receiving.specs.Steps.{streams_of}
 
+-- the side as contracts see it
 abbrev pub seen : Inside → ReceivingView
 seen a =
     record {

@@ -59,6 +59,7 @@ rows_after rows a =
 abbrev pub grants_with : List (List (ℕ × Granted)) → Option Arrival → List (List (ℕ × Granted))
 grants_with grants taken = option_map_or (grants_after grants) taken grants
 
+-- and the messages after it, where it took one
 abbrev pub rows_with : List (List Receipt) → Option Arrival → List (List Receipt)
 rows_with rows taken = option_map_or (rows_after rows) taken rows
 
@@ -66,6 +67,7 @@ rows_with rows taken = option_map_or (rows_after rows) taken rows
 abbrev pub has_ended : Receive → Receive
 has_ended r = record r { ended = true }
 
+-- the receives, of which the one with this number ended
 abbrev pub with_ended : List Receive → ℕ → List Receive
 with_ended rs k = option_map_or (λ r. slice_set rs k (has_ended r)) (slice_get rs k) rs
 
