@@ -39,7 +39,7 @@ use Rattle.nm_outbox.specs.Letters.{packets_for}
 use Rattle.nm_receiving.proofs.Facts.{Is_named, right_named}
 use Rattle.nm_receiving.proofs.Lists.{some_from}
 use Rattle.nm_rank.specs.Ranks.{IsFresh, RankView, request_of}
-use Rattle.nm_rank.specs.Requests.{IsResult, pair_with}
+use Rattle.nm_rank.specs.Requests.{Finishes, IsResult, pair_with}
 use Rattle.nm_channels.specs.Moments.{Moment, history_of, pulled_from, taken_from}
 use Rattle.nm_channels.specs.Sound.{bytes_of_message}
 use Rattle.nm_channels.proofs.Cutting.{sends_sized, sized_at}
@@ -49,7 +49,7 @@ use Rattle.nm_channels.proofs.Numbers.{SentBefore, arrivals_sent, messages_sent,
 use Rattle.nm_rank_log.specs.Calls.{ShowsLogged}
 use Rattle.nm_multi.specs.declared.calls.Call.TheVariants.{Finish}
 use Rattle.nm_multi.specs.declared.calls.Reply.TheVariants.{Ended}
-use Rattle.nm_multi.specs.Acts.{Ends, ShowsBody}
+use Rattle.nm_multi.specs.Acts.{ShowsBody}
 use Rattle.nm_multi.specs.Moves.{IsAlone}
 use Rattle.nm_multi.specs.Standing.{AreBodies, Stands}
 use Rattle.nm_multi.proofs.SoFar.{CameSoFar, came_so_far}
@@ -263,10 +263,10 @@ got_shown sent v r k from tag body st fresh alone right at is shows =
     ∙ ap (λ (o : Option Body). option_map_or bytes_of o []) b.1))
 
 pub shows_body : (sent : List Body) (v v' : RankView) (r : Req) (a : Answer) (st : Stands sent v) → IsFresh v →
-    IsAlone v → AreRight v.sizes.ranks [] v.events → Ends r a v v' →
+    IsAlone v → AreRight v.sizes.ranks [] v.events → Finishes r a v v' →
     ((k : Kind) → kind_of v.requests r ≡ Some k → ShowsLogged st.past.log v.events k a) →
     ShowsBody sent v (Finish r) (Ended a)
 shows_body sent v v' r (answer.Got from tag body) st fresh alone right ends shows =
-    let k = some_and (IsResult v (answer.Got from tag body)) (kind_of v.requests r) ends.finished.gives in
+    let k = some_and (IsResult v (answer.Got from tag body)) (kind_of v.requests r) ends.gives in
     got_shown sent v r k.0 from tag body st fresh alone right k.1 k.2 (shows k.0 k.1)
 shows_body sent v v' r a st fresh alone right ends shows = tt

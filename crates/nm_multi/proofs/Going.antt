@@ -12,18 +12,18 @@ use Rattle.nm_rank.specs.declared.answers.Cancelled.{Cancelled}
 use Rattle.nm_rank.specs.Calls.{TakesNone}
 use Rattle.nm_rank.specs.Pops.{PopsPacket}
 use Rattle.nm_rank.specs.Ranks.{IsFresh, RankView, count_of}
+use Rattle.nm_rank.specs.Requests.{Finishes}
 use Rattle.nm_multi.specs.declared.calls.Call.{Call}
 use Rattle.nm_multi.specs.declared.calls.Call.TheVariants as call
 use Rattle.nm_multi.specs.declared.calls.Entry.{Entry}
 use Rattle.nm_multi.specs.declared.calls.Reply.{Reply}
 use Rattle.nm_multi.specs.declared.calls.Reply.TheVariants as reply
-use Rattle.nm_multi.specs.Acts.{Acts, AreReplayed, Cancels, Ends, GoesOn, IsReplay, Leads, MovesAll, MovesSome}
+use Rattle.nm_multi.specs.Acts.{Acts, AreReplayed, Cancels, GoesOn, IsReplay, Leads, MovesAll, MovesSome}
 use Rattle.nm_multi.specs.Acts.{ShowsBody, StartsReceive, StartsSend, bodies_of, body_sent}
 use Rattle.nm_multi.specs.Moves.{IsAlone, MovesFirst, MovesMany}
 use Rattle.nm_multi.specs.Standing.{Stands}
 use Rattle.nm_multi.proofs.Alone.{moved_one}
 use Rattle.nm_types.specs.Bodies.{bytes_of}
-use Rattle.nm_sending.specs.Departures.{SendingView}
 use Rattle.std.specs.Prelude.{IfOk, OnErr, Ok, Err, Result}
 
 -- what is shown of each call with each reply that it can have
@@ -39,7 +39,7 @@ pub record Cases (P : Call → Reply → RankView → RankView → Type 0) : Typ
   pub moves_some :
       (k : ℕ) (old new : RankView) → MovesSome k old new → P call.Pump (reply.Short k) old new
   pub ends :
-      (r : Req) (a : Answer) (old new : RankView) → Ends r a old new →
+      (r : Req) (a : Answer) (old new : RankView) → Finishes r a old new →
       P (call.Finish r) (reply.Ended a) old new
   pub cancels :
       (r : Req) (a : Cancelled) (old new : RankView) → Cancels r a old new →
@@ -188,8 +188,9 @@ all_stay =
       moves = λ k old new is fresh alone. moved_many k old new alone is.0;
       moves_some = λ k old new is fresh alone. moved_many k old new alone is.0;
       ends = λ r a old new is fresh alone.
-          quiet old new fresh alone is.me is.finished.sizes is.finished.took
-          (ap (λ (s : SendingView). s.outbox.popped) is.sending);
+          quiet old new fresh alone (ap (λ (v : RankView). v.me) is.same)
+          (ap (λ (v : RankView). v.sizes) is.same) (ap (λ (v : RankView). v.took) is.same)
+          (ap (λ (v : RankView). v.sending.outbox.popped) is.same);
       cancels = λ r a old new is fresh alone.
           silent old new fresh alone is.takes (is.happened (λ _. [])).packets.popped;
       stays = λ c r old new is none fresh alone.
@@ -271,7 +272,7 @@ sizes_stay =
       receives = λ tag cap r old new is. (is.started (λ _. [])).takes.sizes;
       moves = λ k old new is. sizes_many k old new is.0;
       moves_some = λ k old new is. sizes_many k old new is.0;
-      ends = λ r a old new is. is.finished.sizes;
+      ends = λ r a old new is. ap (λ (v : RankView). v.sizes) is.same;
       cancels = λ r a old new is. is.takes.sizes;
       stays = λ c r old new is none. ap (λ (v : RankView). v.sizes) is;
     }

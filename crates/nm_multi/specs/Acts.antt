@@ -24,9 +24,8 @@ use Rattle.nm_rank.specs.declared.answers.State.TheVariants as state
 use Rattle.nm_rank.specs.Calls.{Happens, Starts, TakesNone}
 use Rattle.nm_rank.specs.New.{IsNew}
 use Rattle.nm_rank.specs.Ranks.{IsFresh, RankView, request_of}
-use Rattle.nm_rank.specs.Requests.{cancel_answer, cancel_events, offers_cancelled, pair_with}
+use Rattle.nm_rank.specs.Requests.{Finishes, cancel_answer, cancel_events, offers_cancelled, pair_with}
 use Rattle.nm_rank.specs.Sends.{event_of, next_send, offers_sent}
-use Rattle.nm_rank_log.specs.Calls.{Finishes}
 use Rattle.nm_multi.specs.declared.calls.Call.{Call}
 use Rattle.nm_multi.specs.declared.calls.Call.TheVariants as call
 use Rattle.nm_multi.specs.declared.calls.Entry.{Entry}
@@ -66,13 +65,6 @@ pub record StartsReceive (tag cap : ℕ) (r : Req) (old new : RankView) : Type 0
       (kind.Receive number) old new r
   pub offers : new.sending.offers ≡ old.sending.offers
 
--- The result of a request is taken, which is live no more, and what the rank sends stays.
-pub record Ends (r : Req) (answer : Answer) (old new : RankView) : Type 0 where
-  pub finished : Finishes r answer old new
-  pub sending : new.sending ≡ old.sending
-  pub strays : new.strays ≡ old.strays
-  pub me : new.me ≡ old.me
-
 -- A request is cancelled, as far as it can be.
 pub record Cancels (r : Req) (answer : Cancelled) (old new : RankView) : Type 0 where
   pub kind : Kind
@@ -108,7 +100,7 @@ GoesOn call.Pump (reply.Short k) old new = MovesSome k old new
 GoesOn (call.Test r) (reply.Is s) old new =
     IsSomeAnd (kind_of old.requests r) (λ k. s ≡ state_of old k) × (new ≡ old)
 GoesOn (call.Test r) reply.NoSuch old new = (kind_of old.requests r ≡ None) × (new ≡ old)
-GoesOn (call.Finish r) (reply.Ended answer) old new = Ends r answer old new
+GoesOn (call.Finish r) (reply.Ended answer) old new = Finishes r answer old new
 GoesOn (call.Finish r) reply.NotComplete old new =
     IsSomeAnd (kind_of old.requests r) (λ k. is_complete old.events (request_of k) ≡ false)
     × (new ≡ old)

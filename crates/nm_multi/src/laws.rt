@@ -12,11 +12,12 @@ ghost use Rattle.nm_request.specs.declared.Req.{Req};
 ghost use Rattle.nm_rank.specs.declared.answers.Cancelled.{Cancelled};
 ghost use Rattle.nm_rank.specs.New.{IsNew};
 ghost use Rattle.nm_rank.specs.Ranks.{IsFresh, RankView};
+ghost use Rattle.nm_rank.specs.Requests.{Finishes};
 ghost use Rattle.nm_multi.specs.declared.calls.Call.{Call};
 ghost use Rattle.nm_multi.specs.declared.calls.Call.TheVariants.{Finish, Isend};
 ghost use Rattle.nm_multi.specs.declared.calls.Reply.{Reply};
 ghost use Rattle.nm_multi.specs.declared.calls.Reply.TheVariants.{Ended};
-ghost use Rattle.nm_multi.specs.Acts.{Acts, Cancels, Ends, ShowsBody, StartsReceive};
+ghost use Rattle.nm_multi.specs.Acts.{Acts, Cancels, ShowsBody, StartsReceive};
 ghost use Rattle.nm_multi.specs.Acts.{StartsSend, body_sent};
 ghost use Rattle.nm_multi.specs.Calls.{IsInRange};
 ghost use Rattle.nm_multi.specs.Moves.{IsAlone, MovesFirst};
@@ -75,9 +76,9 @@ pub(crate) fn a_packet_goes_on()
 /// of its send. The history before it is right.
 pub(crate) fn a_result_goes_on()
     ensures kept { (sent : List Body) (v v' : RankView) (r : Req) (answer : Answer) → IsFresh v →
-        Ends r answer v v' → Stands sent v → Stands sent v' }
+        Finishes r answer v v' → Stands sent v → Stands sent v' }
     ensures shows { (sent : List Body) (v v' : RankView) (r : Req) (answer : Answer) → IsFresh v →
-        IsAlone v → AreRight v.sizes.ranks [] v.events → Ends r answer v v' → Stands sent v →
+        IsAlone v → AreRight v.sizes.ranks [] v.events → Finishes r answer v v' → Stands sent v →
         ShowsBody sent v (Finish r) (Ended answer) }
 {
     a_result_is_given();

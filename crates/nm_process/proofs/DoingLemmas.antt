@@ -1,6 +1,6 @@
 -- The rules of a rank's run that speak of commands, one event after another.
 use Rattle.std.specs.Prelude.{if◌then◌else◌}
-use Rattle.std.proofs.Common.{◌≡◌, ℕ, ◌+◌, ◌<◌, true, false, ◌&&◌, Option, Some, List, [], ◌∷◌}
+use Rattle.std.proofs.Common.{◌≡◌, ℕ, ◌+◌, true, false, ◌&&◌, Option, Some, List, [], ◌∷◌}
 use Rattle.std.proofs.Common.{◌++◌, map, sym, ◌∙◌, ap, subst, append-nil}
 use Rattle.std.proofs.Common.{append_assoc, arith}
 use Rattle.std.specs.List.{filter, filter_map, cons_option, list_all, slice_get}

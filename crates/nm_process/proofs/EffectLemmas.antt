@@ -20,8 +20,7 @@ use Rattle.nm_history.specs.Answers.{is_seen, is_start_of, is_started, live, liv
 use Rattle.nm_history.specs.Answers.{without_bytes}
 use Rattle.nm_history.specs.Answers as answers
 use Rattle.nm_history.specs.Underway.{is_answer}
-use Rattle.nm_history.specs.Completion.{Request}
-use Rattle.nm_history.specs.Happens.{happened}
+use Rattle.nm_history.specs.Completion.{Request, result_of}
 use Rattle.nm_history.specs.RankRun.{CancelsFor, is_cancelling, is_matched_probe}
 use Rattle.nm_history.specs.RankRun.{is_start, line_of_claim, start_of, without_number}
 use Rattle.nm_history.specs.Sends.{Sent, receives}
@@ -29,10 +28,11 @@ use Rattle.nm_protocol.specs.Clock.{stamped}
 use Rattle.nm_request.specs.declared.Kind.{Kind}
 use Rattle.nm_rndv.specs.Offers.{Offering}
 use Rattle.nm_rank.specs.Ranks.{RankView, request_of}
+use Rattle.nm_rank.proofs.ResultLemmas.{finished_as}
 use Rattle.nm_process.specs.Names.{handled, message_with, named, request_named}
 use Rattle.nm_process.specs.Places.{IsNext, IsPlaceFrom}
 use Rattle.nm_process.specs.Processes.{ProcessView}
-use Rattle.nm_process.specs.Starts.{HasAnswered, HasEnded}
+use Rattle.nm_process.specs.Starts.{Ends, HasAnswered, HasEnded}
 use Rattle.nm_process.specs.Starts.{HasStarted, IsBusy}
 use Rattle.nm_process.specs.Starts.{IsNull, KeepsHandles}
 use Rattle.nm_process.specs.Work.{IsAtWork, line_of}
@@ -50,6 +50,11 @@ and_false false = refl
 result_not_started : (a : Answer) → is_result a ≡ true → is_started a ≡ false
 result_not_started answer.Started is = cc
 result_not_started a is = refl
+
+-- a request that ended gave its result
+pub ended_result : (a b : ProcessView) (q : ℕ) (x : Answer) (e : Ends a b q x) →
+    Some (without_bytes x) ≡ result_of a.rank.events (request_of e.kind)
+ended_result a b q x e = (finished_as a.rank b.rank e.request x e.kind e.is e.finished).result
 
 -- how starts are answered
 busy_is : (o : Option Request) → IsSome o → Some (if is_some o then answer.Busy else answer.Started)
@@ -149,12 +154,13 @@ module _ (shape : Sizes) (lines : List Line) (a b : ProcessView) (place : ℕ) (
   ends c q same p right off start_names end_names claim_names no_probe =
       let none = mid_none shape lines a place l work is in
       let e = p.ends in
+      let same' = e.finished.same in
       let result : is_result p.answer ≡ true = sym (bytes_no_matter p.answer)
-      ∙ result_is_result h (request_of e.kind) (without_bytes p.answer) (sym e.gives.result) in
+      ∙ result_is_result h (request_of e.kind) (without_bytes p.answer) (sym (ended_result a p.mid q p.answer e)) in
       let not_started = result_not_started p.answer result in
       works shape lines a place l work is p.mid b c h p.answer [] [] [] same
-      (ap (λ (v : RankView). v.me) e.same) (ap (λ (v : RankView). v.sizes) e.same)
-      (ap (λ (v : RankView). v.events) e.same)
+      (ap (λ (v : RankView). v.me) same') (ap (λ (v : RankView). v.sizes) same')
+      (ap (λ (v : RankView). v.events) same')
       p.answered at next none right (rw not_started refl) off (rw no_probe refl)
       (ended_names shape lines a place l work is p.mid c h (p.mid.rank.clock + 1) p.answer [] [] [] q same
       none result start_names end_names e.names)

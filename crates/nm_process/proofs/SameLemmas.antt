@@ -44,8 +44,8 @@ started_run Fits offers ws k a b q line bodies fits p =
     answered_run a p.mid b line answer.Started takes.me takes.sizes p.answered
 
 ended_run : (a b : ProcessView) (q line : ℕ) → HasEnded a b q line → KeepsRun a b
-ended_run a b q line p = answered_run a p.mid b line p.answer (ap (λ (v : RankView). v.me) p.ends.same)
-    (ap (λ (v : RankView). v.sizes) p.ends.same) p.answered
+ended_run a b q line p = answered_run a p.mid b line p.answer (ap (λ (v : RankView). v.me) p.ends.finished.same)
+    (ap (λ (v : RankView). v.sizes) p.ends.finished.same) p.answered
 
 pub tried_run : (a b : ProcessView) (c : Command) (line : ℕ) (s : Step) → HasTried a b c line s →
     KeepsRun a b

@@ -8,7 +8,6 @@ use Rattle.std.specs.Map.{lookup}
 use Rattle.nm_types.specs.declared.answers.Answer.{Answer}
 use Rattle.nm_types.specs.declared.answers.Answer.TheVariants as answer
 use Rattle.nm_types.specs.declared.messages.Arrival.{Arrival}
-use Rattle.nm_types.specs.Sizes.{Sizes}
 use Rattle.nm_history.specs.declared.events.Event.{Event}
 use Rattle.nm_history.specs.declared.events.Happened.{Happened}
 use Rattle.nm_history.specs.declared.events.Happened.TheVariants.{Recall}
@@ -17,14 +16,12 @@ use Rattle.nm_history.specs.Happens.{happened, is_recall}
 use Rattle.nm_history.specs.Sends.{Sent}
 use Rattle.nm_protocol.specs.Clock.{stamped}
 use Rattle.nm_protocol.specs.Effects.{whole_if}
-use Rattle.nm_protocol.specs.Known.{Known}
 use Rattle.nm_request.specs.declared.Kind.{Kind}
 use Rattle.nm_request.specs.declared.Kind.TheVariants as kind
 use Rattle.nm_request.specs.declared.Req.{Req}
 use Rattle.nm_request.specs.Requests.{kind_of}
 use Rattle.nm_rndv.specs.Offers.{Offering}
 use Rattle.nm_receiving.specs.Receipts.{is_empty_ask, taken_events}
-use Rattle.nm_sending.specs.Departures.{SendingView}
 use Rattle.nm_rank.specs.Calls.{Starts}
 use Rattle.nm_rank.specs.Ranks.{RankView, request_of}
 use Rattle.nm_rank.specs.Requests.{cancel_events}
@@ -115,50 +112,6 @@ keeps_handles a mid b line x place same answered = record {
   );
   handles = ap (λ (v : ProcessView). v.handles) answered.others ∙ same;
 }
-
--- a rank of which all but what it receives and its requests is the same
-pub same_rank : (v w : RankView) → w.me ≡ v.me → w.sizes ≡ v.sizes → w.events ≡ v.events →
-    w.clock ≡ v.clock → w.sending ≡ v.sending → w.known ≡ v.known → w.took ≡ v.took →
-    w.pulled ≡ v.pulled → w.strays ≡ v.strays →
-    w ≡ record v { receiving = w.receiving; requests = w.requests }
-same_rank v w me sizes events clock sending known took pulled strays =
-    ap (λ (x : ℕ). record w { me = x }) me
-    ∙ ap (λ (x : Sizes). record w { me = v.me; sizes = x }) sizes
-    ∙ ap (λ (x : List Event). record w { me = v.me; sizes = v.sizes; events = x }) events
-    ∙ ap (λ (x : ℕ). record w { me = v.me; sizes = v.sizes; events = v.events; clock = x }) clock
-    ∙ ap (λ (x : SendingView). record w {
-      me = v.me;
-      sizes = v.sizes;
-      events = v.events;
-      clock =
-          v.clock;
-      sending = x;
-    }) sending
-    ∙ ap (λ (x : List Known). record v {
-      receiving = w.receiving;
-      requests = w.requests;
-      known = x;
-      took =
-          w.took;
-      pulled = w.pulled;
-      strays = w.strays;
-    }) known
-    ∙ ap (λ (x : List ℕ). record v {
-      receiving = w.receiving;
-      requests = w.requests;
-      took = x;
-      pulled =
-          w.pulled;
-      strays = w.strays;
-    }) took
-    ∙ ap (λ (x : List ℕ). record v {
-      receiving = w.receiving;
-      requests = w.requests;
-      pulled = x;
-      strays =
-          w.strays;
-    }) pulled
-    ∙ ap (λ (x : ℕ). record v { receiving = w.receiving; requests = w.requests; strays = x }) strays
 
 -- a cancel leaves each held message alone
 pub cancel_leaves : (x : Handle) (h : List Event) (clock : ℕ) (k : Kind) →

@@ -65,7 +65,7 @@ use Rattle.nm_process.proofs.PacketLemmas.{after_parts, are_of_packets, whole_of
 use Rattle.nm_protocol.proofs.Right.{right-numbers}
 use Rattle.nm_history.proofs.AppendLemmas.{happened-push}
 use Rattle.nm_process.proofs.EffectLemmas.{alone, and_false, busy, ends, kept_all, null, start_handles, started_is}
-use Rattle.nm_process.proofs.EffectLemmas.{starts}
+use Rattle.nm_process.proofs.EffectLemmas.{ended_result, starts}
 
 -- a request that is not complete has no result
 no_result : (h : List Event) (r : Request) → is_complete h r ≡ false → result_of h r ≡ None
@@ -187,7 +187,7 @@ module _ (shape : Sizes) (lines : List Line) (a b : ProcessView) (place : ℕ) (
       (λ none. work.cancels.no_others))
       (λ p. ends shape lines a b place l work is at next (command.Wait q) q same p
       (ap (λ (o : Option Request). option_map_or (result_of a.rank.events) o (Some answer.Null))
-      (sym (work.requests q) ∙ p.ends.live) ∙ sym p.ends.gives.result)
+      (sym (work.requests q) ∙ p.ends.live) ∙ sym (ended_result a p.mid q p.answer p.ends))
       work.cancels.no_others (λ k. refl) (λ k. refl) (λ k. refl) refl) tried
 
   tests_one : (q : ℕ) → l.command ≡ command.Test q →
@@ -200,7 +200,7 @@ module _ (shape : Sizes) (lines : List Line) (a b : ProcessView) (place : ℕ) (
       (ap (λ (o : Option Request). Some
       (option_map_or (λ request. unwrap_or (result_of a.rank.events request) answer.No) o
       answer.Null)) (sym (work.requests q) ∙ p.ends.live)
-      ∙ ap (λ (o : Option Answer). Some (unwrap_or o answer.No)) (sym p.ends.gives.result))
+      ∙ ap (λ (o : Option Answer). Some (unwrap_or o answer.No)) (sym (ended_result a p.mid q p.answer p.ends)))
       work.cancels.no_others (λ k. refl) (λ k. refl) (λ k. refl) refl)
       (λ p. alone shape lines a b place l work is at next (command.Test q) answer.No same p.answered
       (ap (λ (o : Option Request). Some

@@ -23,13 +23,12 @@ use Rattle.nm_request.specs.declared.Kind.TheVariants as kind
 use Rattle.nm_request.specs.declared.Req.{Req}
 use Rattle.nm_request.specs.Requests.{kind_of}
 use Rattle.nm_rndv.specs.Offers.{Offering, destined, with_asked, with_destined}
-use Rattle.nm_receiving.specs.Receipts.{SameOtherBytes, taken_events}
+use Rattle.nm_receiving.specs.Receipts.{taken_events}
 use Rattle.nm_rank.specs.declared.answers.Cancelled.{Cancelled}
 use Rattle.nm_rank.specs.declared.answers.Cancelled.TheVariants as cancelled
 use Rattle.nm_rank.specs.Calls.{Happens, Notes, Starts, TakesNone}
 use Rattle.nm_rank.specs.Ranks.{RankView, request_of}
-use Rattle.nm_rank.specs.Requests.{IsFreed, IsResult, cancel_answer, cancel_events, offers_cancelled}
-use Rattle.nm_rank.specs.Requests.{pair_with}
+use Rattle.nm_rank.specs.Requests.{Finishes, cancel_answer, cancel_events, offers_cancelled}
 use Rattle.nm_process.specs.declared.steps.Step.{Step}
 use Rattle.nm_process.specs.declared.steps.Step.TheVariants.{Waits, Ran as Took}
 use Rattle.nm_process.specs.Names.{handled, named}
@@ -142,13 +141,7 @@ pub record Ends (a b : ProcessView) (q : ℕ) (x : Answer) : Type 0 where
   pub kind : Kind
   pub is : kind_of a.rank.requests request ≡ Some kind
   pub live : named a q ≡ Some (request_of kind)
-  pub gives : IsResult a.rank x kind
-  pub freed : IsFreed a.rank.requests b.rank.requests request
-  pub bytes : SameOtherBytes (pair_with a.rank request) a.rank.receiving b.rank.receiving
-  pub drawn : b.rank.receiving.drawn ≡ a.rank.receiving.drawn
-  pub same :
-      b.rank
-      ≡ record a.rank { receiving = b.rank.receiving; requests = b.rank.requests }
+  pub finished : Finishes request x a.rank b.rank
   pub names : SetsName a b q None
   pub handles : KeepsHandles a b
 

@@ -1,5 +1,5 @@
 -- What the fields keep stays true where a rank does something by itself.
-use Rattle.std.proofs.Common.{◌≡◌, ℕ, ◌≤◌, Bool, true, false, Some, List, [], ◌++◌, length, sym, ◌∙◌, ap, subst}
+use Rattle.std.proofs.Common.{◌≡◌, ℕ, ◌≤◌, Bool, false, Some, List, [], ◌++◌, length, sym, ◌∙◌, ap, subst}
 use Rattle.std.specs.Prelude.{map, filter, ◌==◌, slice_index_or}
 use Rattle.std.specs.List.{slice_get, AllByRecursion}
 use Rattle.nm_types.specs.Sizes.{Sizes}

@@ -13,6 +13,7 @@ mod PutLemmas
 mod RoomLemmas
 pub mod ReceiveLemmas
 mod RequestLemmas
+pub mod ResultLemmas
 mod SendLemmas
 mod TakeLemmas
 mod ViewLemmas

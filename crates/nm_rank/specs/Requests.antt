@@ -22,7 +22,7 @@ use Rattle.nm_request.specs.Requests.{Live, kind_of}
 use Rattle.nm_rndv.specs.Offers.{Offering, destined, with_destined, with_recall}
 use Rattle.nm_sending.specs.Departures.{SendingView}
 use Rattle.nm_sending.specs.Sent.{AreSent, only_to}
-use Rattle.nm_receiving.specs.Receipts.{bytes_of}
+use Rattle.nm_receiving.specs.Receipts.{SameOtherBytes, bytes_of}
 use Rattle.nm_rank.specs.declared.answers.Cancelled.{Cancelled}
 use Rattle.nm_rank.specs.declared.answers.Cancelled.TheVariants.{Done, Late, Asked}
 use Rattle.nm_rank.specs.Ranks.{RankView, request_of}
@@ -85,3 +85,12 @@ pub record IsFreed (old new : Live) (r : Req) : Type 0 where
   pub counted : new.added ≡ old.added
   pub gone : kind_of new r ≡ None
   pub others : (q : Req) → q ≢ r → kind_of new q ≡ kind_of old q
+
+-- A request gave its result (MPI 3.1, 3.7.3), and is live no more. The bytes of no other message changed,
+-- and nothing else did.
+pub record Finishes (r : Req) (answer : Answer) (old new : RankView) : Type 0 where
+  pub gives : Gives old r answer
+  pub freed : IsFreed old.requests new.requests r
+  pub bytes : SameOtherBytes (pair_with old r) old.receiving new.receiving
+  pub drawn : new.receiving.drawn ≡ old.receiving.drawn
+  pub same : new ≡ record old { receiving = new.receiving; requests = new.requests }

@@ -22,7 +22,6 @@ ghost use Rattle.nm_request.specs.Requests.{kind_of};
 ghost use Rattle.nm_types.specs.declared.limits.TheConstants.{MAX_PACKETS, MAX_STAMP};
 ghost use Rattle.nm_outbox.specs.Outboxes.{put_to};
 ghost use Rattle.nm_sending.specs.Sent.{AreSent, Puts};
-ghost use Rattle.nm_receiving.specs.Receipts.{SameOtherBytes};
 ghost use Rattle.nm_receiving.specs.Received.{AreReceived};
 ghost use Rattle.nm_rank.specs.declared.answers.CancelFault.TheVariants as cancel_fault;
 ghost use Rattle.nm_rank.specs.declared.answers.Cancelled.TheVariants as cancelled;
@@ -31,8 +30,8 @@ ghost use Rattle.nm_rank.specs.declared.answers.State.TheVariants as state;
 ghost use Rattle.nm_rank.specs.Calls.{Happens, Notes, TakesNone};
 ghost use Rattle.nm_rank.specs.Fields.{endings};
 ghost use Rattle.nm_rank.specs.Ranks.{IsFresh, request_of};
-ghost use Rattle.nm_rank.specs.Requests.{cancel_events, cancel_answer, offers_cancelled, pair_with};
-ghost use Rattle.nm_rank.specs.Requests.{Gives, IsFreed, WasSent, withdrawal_of};
+ghost use Rattle.nm_rank.specs.Requests.{cancel_events, cancel_answer, offers_cancelled};
+ghost use Rattle.nm_rank.specs.Requests.{Finishes, WasSent, withdrawal_of};
 
 use crate::room::make_room;
 use crate::stays::sides_stay;
@@ -135,15 +134,7 @@ impl Rank {
         ensures not_complete { IfSome (kind_of self.old.requests r)
             (λ k. (is_complete self.old.events (request_of k) ≡ false)
             ↔ (result ≡ Err finish_fault.NotComplete)) }
-        ensures gives { IfOk result (Gives self.old r) }
-        ensures freed { OnOk result (IsFreed self.old.requests self.new.requests r) }
-        ensures bytes { SameOtherBytes (pair_with self.old r) self.old.receiving self.new.receiving }
-        ensures same { (self.new.events ≡ self.old.events) × (self.new.clock ≡ self.old.clock)
-            × (self.new.sending ≡ self.old.sending) × (self.new.known ≡ self.old.known)
-            × (self.new.receiving.drawn ≡ self.old.receiving.drawn)
-            × (self.new.took ≡ self.old.took) × (self.new.pulled ≡ self.old.pulled)
-            × (self.new.strays ≡ self.old.strays) × (self.new.me ≡ self.old.me)
-            × (self.new.sizes ≡ self.old.sizes) }
+        ensures finishes { IfOk result (λ answer. Finishes r answer self.old self.new) }
         ensures err { OnErr result (self.new ≡ self.old) }
     {
         let Ok(kind) = self.requests.get(r) else {

@@ -1,14 +1,13 @@
 -- A result that is given.
 use Rattle.std.proofs.Common.{◌≡◌, ℕ, ◌==◌, Bool, true, false, ◌||◌, cond, Option, Some, None, List, [], ◌∷◌}
 use Rattle.std.proofs.Common.{refl, sym, ◌∙◌, ap, subst}
-use Rattle.std.specs.Prelude.{IfSome, IsSomeAnd, option_and_then}
+use Rattle.std.specs.Prelude.{IfSome, option_and_then}
 use Rattle.std.specs.Option.{option_map_or}
 use Rattle.std.proofs.lemmas.List.Elements.{All-from_recursion}
 use Rattle.nm_types.specs.declared.answers.Answer.{Answer}
 use Rattle.nm_types.specs.declared.answers.Answer.TheVariants.{Got}
 use Rattle.nm_types.specs.declared.messages.Arrival.{Arrival}
 use Rattle.nm_types.specs.Commands.{Numbered}
-use Rattle.nm_types.specs.Sizes.{Sizes}
 use Rattle.nm_history.specs.declared.events.Event.{Event}
 use Rattle.nm_history.specs.declared.plain.Pair.{Pair}
 use Rattle.nm_history.specs.Completion.{pair_of_receive}
@@ -29,8 +28,9 @@ use Rattle.nm_request.specs.Requests.{kind_of}
 use Rattle.nm_channels.specs.Moments.{Moment, history_of, pulled_from, taken_from}
 use Rattle.nm_channels.specs.Sound.{bytes_of_message}
 use Rattle.nm_rank.specs.Ranks.{RankView, request_of}
-use Rattle.nm_rank.specs.Requests.{IsResult, ShowsBytes}
-use Rattle.nm_rank_log.specs.Calls.{Finishes, ShowsLogged, given_after}
+use Rattle.nm_rank.specs.Requests.{Finishes, ShowsBytes}
+use Rattle.nm_rank.proofs.ResultLemmas.{finished_as}
+use Rattle.nm_rank_log.specs.Calls.{ShowsLogged, given_after}
 use Rattle.nm_rank_log.specs.Logged.{HasBytes, IsLogged, IsNotOf, IsUngiven, came_by}
 use Rattle.nm_rank_log.proofs.Once.{one_receive, pairs_apart, pairs_named}
 use Rattle.nm_rank_log.proofs.Requests.{freed_request}
@@ -40,10 +40,10 @@ use Rattle.nm_facts.proofs.Numbers.{eq_true}
 kept : (v v' : RankView) (r : Req) (answer : Answer) → Finishes r answer v v' → IsKept v v'
 kept v v' r answer ends =
     record {
-      sizes = ends.sizes;
-      known = ends.known;
-      took = ends.took;
-      pulled = ends.pulled;
+      sizes = ap (λ (v : RankView). v.sizes) ends.same;
+      known = ap (λ (v : RankView). v.known) ends.same;
+      took = ap (λ (v : RankView). v.took) ends.same;
+      pulled = ap (λ (v : RankView). v.pulled) ends.same;
       drawn = ends.drawn;
     }
 
@@ -51,7 +51,8 @@ kept_bytes : (v v' : RankView) (log : List Moment) (given : List ℕ) (r : Req) 
     kind_of v.requests r ≡ Some k → Finishes r answer v v' → HasBytes v log given →
     HasBytes v' log (given_after k given)
 kept_bytes v v' log given r k answer is ends old a ungiven =
-    by_kind k is (subst (λ (h : List Event). IsUngiven h (given_after k given) a) ends.events ungiven)
+    by_kind k is (subst (λ (h : List Event). IsUngiven h (given_after k given) a)
+    (ap (λ (v : RankView). v.events) ends.same) ungiven)
   where
     by_kind : (k : Kind) → kind_of v.requests r ≡ Some k → IsUngiven v.events (given_after k given) a →
         came_of v'.receiving a ≡ came_by log a
@@ -69,15 +70,16 @@ pub result_kept : (eager : ℕ) (bodies : Sent → List ℕ) (commands : List Nu
     IsLogged eager bodies commands v log given → kind_of v.requests r ≡ Some k →
     Finishes r answer v v' → IsLogged eager bodies commands v' log (given_after k given)
 result_kept eager bodies commands v v' log given r k answer old is ends =
+    let events = ap (λ (v : RankView). v.events) ends.same in
     record {
       sound = old.sound;
-      limit = ap (λ (s : Sizes). s.eager) ends.sizes ∙ old.limit;
-      events = ends.events ∙ old.events;
-      clock = ends.clock ∙ old.clock;
+      limit = ap (λ (v : RankView). v.sizes.eager) ends.same ∙ old.limit;
+      events = events ∙ old.events;
+      clock = ap (λ (v : RankView). v.clock) ends.same ∙ old.clock;
       counts = kept_counts v v' (kept v v' r answer ends) old.counts;
       taken = kept_taken v v' log (kept v v' r answer ends) old.taken;
       bytes = kept_bytes v v' log given r k answer is ends old.bytes;
-      requests = freed_request v v' given r k ends.events is ends.freed old.requests;
+      requests = freed_request v v' given r k events is ends.freed old.requests;
     }
 
 -- the message of a receive whose result was not given was given by no receive
@@ -124,7 +126,7 @@ pub result_shows : (eager : ℕ) (bodies : Sent → List ℕ) (commands : List N
     IsLogged eager bodies commands v log given → AreRight v.sizes.ranks [] v.events →
     kind_of v.requests r ≡ Some k → Finishes r answer v v' → ShowsLogged log v.events k answer
 result_shows eager bodies commands v v' log given r k answer old right is ends =
-    by_answer answer (subst (λ (o : Option Kind). IsSomeAnd o (IsResult v answer)) is ends.gives).bytes
+    by_answer answer (finished_as v v' r answer k is ends).bytes
   where
     by_pair : (number : ℕ) (body : List ℕ) (o : Option Pair) → pair_of_receive v.events number ≡ o →
         has given number ≡ false → IfSome o (λ pair. bytes_of v.receiving pair.arrival ≡ Some body) →

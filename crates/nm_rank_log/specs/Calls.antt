@@ -8,25 +8,9 @@ use Rattle.nm_history.specs.Delivery.{asked_pair, pair_of_request}
 use Rattle.nm_history.specs.Sends.{receives}
 use Rattle.nm_request.specs.declared.Kind.{Kind}
 use Rattle.nm_request.specs.declared.Kind.TheVariants as kind
-use Rattle.nm_request.specs.declared.Req.{Req}
-use Rattle.nm_receiving.specs.Receipts.{SameOtherBytes}
 use Rattle.nm_channels.specs.Moments.{Moment}
 use Rattle.nm_channels.specs.Sound.{bytes_of_message}
-use Rattle.nm_rank.specs.Ranks.{RankView, request_of}
-use Rattle.nm_rank.specs.Requests.{Gives, IsFreed, pair_with}
-
--- what `Rank::finish` ensures where it gives a result
-pub record Finishes (r : Req) (answer : Answer) (old new : RankView) : Type 0 where
-  pub gives : Gives old r answer
-  pub freed : IsFreed old.requests new.requests r
-  pub bytes : SameOtherBytes (pair_with old r) old.receiving new.receiving
-  pub drawn : new.receiving.drawn ≡ old.receiving.drawn
-  pub events : new.events ≡ old.events
-  pub clock : new.clock ≡ old.clock
-  pub known : new.known ≡ old.known
-  pub took : new.took ≡ old.took
-  pub pulled : new.pulled ≡ old.pulled
-  pub sizes : new.sizes ≡ old.sizes
+use Rattle.nm_rank.specs.Ranks.{request_of}
 
 -- a started receive has the next number, and its start is in the longer history
 abbrev pub IsNext : List Event → List Event → Kind → Type 0

@@ -22,7 +22,8 @@ ghost use Rattle.nm_channels.specs.Sound.{MadeBy};
 ghost use Rattle.nm_rank.specs.Calls.{Notes, Starts, TakesNone, TakesPacket, TakesPiece};
 ghost use Rattle.nm_rank.specs.New.{IsNew};
 ghost use Rattle.nm_rank.specs.Ranks.{RankView};
-ghost use Rattle.nm_rank_log.specs.Calls.{Finishes, IsNext, ShowsLogged, given_after};
+ghost use Rattle.nm_rank.specs.Requests.{Finishes};
+ghost use Rattle.nm_rank_log.specs.Calls.{IsNext, ShowsLogged, given_after};
 ghost use Rattle.nm_rank_log.specs.Logged.{IsLogged};
 ghost use Rattle.nm_rank_log.specs.Moments.{acted, drew, took};
 

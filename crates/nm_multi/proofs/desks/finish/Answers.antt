@@ -4,26 +4,7 @@ use Rattle.nm_multi.proofs.Results.{unfinished}
 use Rattle.nm_multi.proofs.desks.finish.Goals as goal
 
 pub returns-in-Ok : goal.returns-in-Ok
-returns-in-Ok c =
-    let e = c.in-Ok.ensures in
-    let same = e.same in
-    record {
-      finished = record {
-        gives = e.gives;
-        freed = e.freed;
-        bytes = e.bytes;
-        drawn = same.4;
-        events = same.0;
-        clock = same.1;
-        known = same.3;
-        took = same.5;
-        pulled = same.6;
-        sizes = same.9;
-      };
-      sending = same.2;
-      strays = same.7;
-      me = same.8;
-    }
+returns-in-Ok c = c.in-Ok.ensures.finishes
 
 pub returns-in-Err-NoSuch : goal.returns-in-Err-NoSuch
 returns-in-Err-NoSuch c =

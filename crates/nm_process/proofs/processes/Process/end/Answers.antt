@@ -14,7 +14,6 @@ use Rattle.nm_process.specs.Names.{AreHeld}
 use Rattle.nm_process.specs.Processes.{ProcessView}
 use Rattle.nm_process.specs.Starts.{Ends, IsPending}
 use Rattle.nm_process.proofs.NameLemmas.{ended_others, ended_own, live_ended, older_named}
-use Rattle.nm_process.proofs.StartLemmas.{same_rank}
 use Rattle.nm_process.proofs.processes.Process.end.Goals as goal
 use Rattle.nm_facts.proofs.Options.{if_some, some_and, some_of}
 
@@ -22,14 +21,15 @@ pub invariant_of-self : goal.invariant_of-self
 invariant_of-self c =
     let p = c.self.inside in
     let i = c.self.invariant in
-    let same = c.in-Ok.ensures.same in
+    let finished = c.in-Ok.ensures.finishes in
     let named = subst (λ (v : ProcessView). lookup (nat_eq c.args.q) v.names ≡ Some c.args.request)
     (sym c.self.view_is) c.requires.named in (
-      live_ended p.rank.requests c.finish.new.self.requests c.args.request c.in-Ok.ensures.freed
+      live_ended p.rank.requests c.finish.new.self.requests c.args.request finished.freed
           p.requests.entries c.swap_remove.new.self.entries c.args.q i.0 named
           c.swap_remove.ensures.updates.0,
-      subst (λ (h : List Event). AreHeld h p.handles.entries) (sym same.0) i.1,
-      i.2 ∙ sym same.8,
+      subst (λ (h : List Event). AreHeld h p.handles.entries)
+          (sym (ap (λ (v : RankView). v.events) finished.same)) i.1,
+      i.2 ∙ sym (ap (λ (v : RankView). v.me) finished.same),
       i.3,
     )
 
@@ -39,8 +39,8 @@ returns-in-Ok-clause-some c =
     let w = c.finish.new.self in
     let q = c.args.q in
     let i = c.self.invariant in
-    let same = c.in-Ok.ensures.same in
-    let freed = c.in-Ok.ensures.freed in
+    let finished = c.in-Ok.ensures.finishes in
+    let freed = finished.freed in
     let sets = c.swap_remove.ensures.updates.0 in
     let a : ProcessView = record {
       rank = p.rank;
@@ -61,7 +61,7 @@ returns-in-Ok-clause-some c =
     let named = subst (λ (v : ProcessView). lookup (nat_eq q) v.names ≡ Some c.args.request)
     (sym c.self.view_is) c.requires.named in
     let result = some_and (IsResult p.rank c.in-Ok.answer) (kind_of p.rank.requests c.args.request)
-    c.in-Ok.ensures.gives in
+    finished.gives in
     let ends : Ends a b q c.in-Ok.answer = record {
       request = c.args.request;
       kind = result.0;
@@ -69,11 +69,7 @@ returns-in-Ok-clause-some c =
       live = ap (λ (o : Option Req). option_map request_of (option_and_then (kind_of p.rank.requests) o))
           named
           ∙ ap (λ (k : Option Kind). option_map request_of k) result.1;
-      gives = result.2;
-      freed = freed;
-      bytes = c.in-Ok.ensures.bytes;
-      drawn = same.4;
-      same = same_rank p.rank w same.8 same.9 same.0 same.1 same.2 same.3 same.5 same.6 same.7;
+      finished = finished;
       names = record {
         own = ended_own p.rank.requests w.requests c.args.request freed p.requests.entries b.names q i.0
             named sets;

@@ -1,8 +1,10 @@
-use Rattle.std.proofs.Common.{◌≡◌, Some, refl, sym, ◌∙◌, ap, subst}
+use Rattle.std.proofs.Common.{◌≡◌, Some, refl, sym, ◌∙◌, ap, subst, rules}
 use Rattle.nm_request.specs.declared.Kind.TheVariants as kind
 use Rattle.nm_request.specs.Requests.{kind_of, FreesRequest}
 use Rattle.nm_rank.specs.Ranks.{RankView}
-use Rattle.nm_rank.specs.Requests.{IsFreed}
+use Rattle.nm_rank.specs.contracts.ranks.Rank.{the_view}
+use Rattle.nm_receiving.specs.Receipts.{ReceivingView}
+use Rattle.nm_rank.specs.Requests.{Finishes}
 use Rattle.nm_rank.proofs.FinishLemmas.{fields-finish_send, fields-finish_receive, found, freed, not-ended}
 use Rattle.nm_rank.proofs.FinishLemmas.{was-started, frees-ok}
 use Rattle.nm_rank.proofs.ranks.Rank.finish.Goals as goal
@@ -43,21 +45,36 @@ invariant_of-self-in-Receive c = let a = c.self.inside in
     c.finish.ensures.kept (c.finish.ensures.ended (rw c.in-Some-finish.is refl)) c.finish.ensures.same
     c.finish.ensures.streams
 
-pub returns-in-Some-clause-freed : goal.returns-in-Some-clause-freed
-returns-in-Some-clause-freed c = let a = c.self.inside in
+pub returns-in-Some-clause-finishes : goal.returns-in-Some-clause-finishes
+returns-in-Some-clause-finishes c = let a = c.self.inside in
     let live = found (kind_of a.requests c.args.r) c.in-Ok.kind _ (sym c.in-Ok.is ∙ c.get.ensures.kind) in
-    subst (λ (v : RankView). IsFreed v.requests (record c.free.new.self { spare = 0 }) c.args.r)
-    c.self.view_is
-    (freed a.requests c.free.new.self c.args.r
-    (frees-ok (kind_of a.requests c.args.r) c.in-Ok.kind _ c.free.result
-    (FreesRequest a.requests c.free.new.self c.args.r) live c.free.ensures.kind c.free.ensures.ok))
+    subst (λ (v : RankView). Finishes c.args.r c.in-Some.answer v
+    (record (the_view a) { requests = record c.free.new.self { spare = 0 } })) c.self.view_is
+    (record {
+      gives = search rules;
+      freed = freed a.requests c.free.new.self c.args.r
+          (frees-ok (kind_of a.requests c.args.r) c.in-Ok.kind _ c.free.result
+          (FreesRequest a.requests c.free.new.self c.args.r) live c.free.ensures.kind c.free.ensures.ok);
+      bytes = λ m other. refl;
+      drawn = refl;
+      same = refl;
+    })
 
-pub returns-in-Some-finish-clause-freed : goal.returns-in-Some-finish-clause-freed
-returns-in-Some-finish-clause-freed c = let a = c.self.inside in
+pub returns-in-Some-finish-clause-finishes : goal.returns-in-Some-finish-clause-finishes
+returns-in-Some-finish-clause-finishes c = let a = c.self.inside in
     let live = found (kind_of a.requests c.args.r) c.in-Ok.kind _ (sym c.in-Ok.is ∙ c.get.ensures.kind) in
-    subst (λ (v : RankView). IsFreed v.requests (record c.free-in-Receive.new.self { spare = 0 }) c.args.r)
-    c.self.view_is
-    (freed a.requests c.free-in-Receive.new.self c.args.r
-    (frees-ok (kind_of a.requests c.args.r) c.in-Ok.kind _ c.free-in-Receive.result
-    (FreesRequest a.requests c.free-in-Receive.new.self c.args.r) live c.free-in-Receive.ensures.kind
-    c.free-in-Receive.ensures.ok))
+    subst (λ (v : RankView). Finishes c.args.r c.in-Some-finish.answer v
+    (record (the_view a) {
+      requests = record c.free-in-Receive.new.self { spare = 0 };
+      receiving = c.finish.new.self;
+    })) c.self.view_is
+    (record {
+      gives = search rules;
+      freed = freed a.requests c.free-in-Receive.new.self c.args.r
+          (frees-ok (kind_of a.requests c.args.r) c.in-Ok.kind _ c.free-in-Receive.result
+          (FreesRequest a.requests c.free-in-Receive.new.self c.args.r) live
+          c.free-in-Receive.ensures.kind c.free-in-Receive.ensures.ok);
+      bytes = search rules;
+      drawn = ap (λ (r : ReceivingView). r.drawn) c.finish.ensures.same;
+      same = refl;
+    })

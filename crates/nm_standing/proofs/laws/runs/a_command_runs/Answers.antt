@@ -41,7 +41,7 @@ use Rattle.nm_rank.specs.Ranks.{RankView, request_of}
 use Rattle.nm_rank_outgoing.specs.Left.{IsLeft}
 use Rattle.nm_rank_log.specs.Logged.{IsLogged}
 use Rattle.nm_rank.specs.Requests.{IsResult, cancel_answer, cancel_events}
-use Rattle.nm_rank_log.specs.Calls.{AnswersLogged, Finishes, ShowsLogged, given_after}
+use Rattle.nm_rank_log.specs.Calls.{AnswersLogged, ShowsLogged, given_after}
 use Rattle.nm_rank_log.specs.Moments.{acted}
 use Rattle.nm_process.specs.declared.steps.Step.TheVariants.{Ran as Took}
 use Rattle.nm_process.specs.Places.{IsNext}
@@ -125,35 +125,22 @@ returns c shape lines i a b past in_lines right standing ran =
       ends q may p =
           let e = p.ends in
           let mid = p.mid.rank in
-          let same = e.same in
+          let same = e.finished.same in
           let events : mid.events ≡ a.rank.events = ap (λ (v : RankView). v.events) same in
           let clock : mid.clock ≡ a.rank.clock = ap (λ (v : RankView). v.clock) same in
           let own : mid.me ≡ a.rank.me = ap (λ (v : RankView). v.me) same in
-          let finishes : Finishes e.request p.answer a.rank mid =
-          record {
-            gives = rw e.is e.gives;
-            freed = e.freed;
-            bytes = e.bytes;
-            drawn = e.drawn;
-            events = events;
-            clock = clock;
-            known = ap (λ (v : RankView). v.known) same;
-            took = ap (λ (v : RankView). v.took) same;
-            pulled = ap (λ (v : RankView). v.pulled) same;
-            sizes = ap (λ (v : RankView). v.sizes) same;
-          } in
           let now : Past = record past { given = given_after e.kind past.given } in
           let at : IsOf shape lines me mid now =
           record {
             me = own;
             logged = c.a_result_is_given.ensures.kept shape.eager bodies commands a.rank mid past.log
-                past.given e.request e.kind p.answer is.logged e.is finishes;
+                past.given e.request e.kind p.answer is.logged e.is e.finished;
             left = λ to within. c.answers_keep_left.ensures.given bodies a.rank mid to (past.left to)
                 events clock (ap (λ (v : RankView). v.sending) same) own (is.left to within);
           } in
           let shows : ShowsLogged past.log a.rank.events e.kind p.answer =
           c.a_result_is_given.ensures.shows shape.eager bodies commands a.rank mid past.log past.given
-          e.request e.kind p.answer is.logged right e.is finishes in
+          e.request e.kind p.answer is.logged right e.is e.finished in
           let recorded : AnswersLogged commands past.log a.rank.events line p.answer =
           may e.kind p.answer (sym (standing.work.requests q) ∙ e.live) shows in
           then_on shape lines me b.rank past now
