@@ -3,22 +3,25 @@ use Rattle.std.proofs.Common.{◌≡◌, ℕ, suc, ◌+◌, ◌-◌, ◌<◌, �
 use Rattle.std.proofs.Common.{cond, Option, Some, None, List, [], ◌∷◌, ◌++◌, length, map}
 use Rattle.std.proofs.Common.{refl, sym, ◌∙◌, ap, subst, append-nil, arith, slice_get, get_or}
 use Rattle.std.proofs.lemmas.List.{length-map, get_or-map}
-use Rattle.std.specs.Prelude.{nat_le, AllPairs}
+use Rattle.std.specs.Prelude.{nat_le, AllPairs, IsSome}
 use Rattle.std.specs.List.{All, filter, find}
-use Rattle.std.specs.Option.{option_map}
-use Rattle.std.specs.BTreeMap.{BTreeMap}
+use Rattle.std.specs.Option.{option_map, option_map_or}
+use Rattle.std.specs.BTreeMap.{BTreeMap, insert_entry}
+use Rattle.std.specs.Ordering.{match_ordering, nat_cmp}
+use Rattle.std.specs.declared.cmp.Ordering.{Ordering}
+use Rattle.std.specs.declared.cmp.Ordering.TheVariants.{Less, Equal, Greater}
 use Rattle.std.proofs.lemmas.Bool.{false≢true, false_from_ne_true}
 use Rattle.std.proofs.lemmas.Bool.Decides.{nat_tests}
 use Rattle.std.proofs.lemmas.List.Elements.{All-head, All-tail, All-cons, All-push, All-weaker}
 use Rattle.std.proofs.lemmas.List.Elements.{filter-append}
-use Rattle.indexmap.specs.IndexMap.{IndexMap}
+use Rattle.indexmap.specs.IndexMap.{IndexMap, get}
 use Rattle.nm_history.proofs.OnceLemmas.{find_among}
 use Rattle.nm_types.specs.declared.messages.Peer.{Peer}
 use Rattle.nm_types.specs.declared.messages.Peer.TheVariants as peer
 use Rattle.nm_types.specs.declared.messages.TagPick.{TagPick}
 use Rattle.nm_types.specs.declared.messages.TagPick.TheVariants as tag
 use Rattle.nm_match.specs.declared.picks.Picks.{Picks}
-use Rattle.nm_match.specs.Buckets.{AreBuckets, IsQueue, Rising, bucket_of, earlier_of}
+use Rattle.nm_match.specs.Buckets.{AreBuckets, AreFull, IsQueue, Rising, bucket_of, earlier_of}
 use Rattle.nm_match.specs.Picks.{same_peer, same_picks, same_tag}
 use Rattle.nm_match.specs.Queues.{without_first}
 use Rattle.nm_facts.proofs.Truth.{three_parts as three}
@@ -63,6 +66,56 @@ pub same_picks-flip : (a b : Picks) → same_picks a b ≡ false → same_picks 
 same_picks-flip a b apart = false_from_ne_true (same_picks b a) (λ same.
     false≢true (sym apart ∙ subst (λ (c : Picks). same_picks c b ≡ true) (same_picks-true b a same)
     (same_picks-self b)))
+
+module _ {X S : Type 0} (m n : IndexMap Picks (BTreeMap ℕ X) S) (key : Picks) (full : AreFull m) where
+  -- no bucket is empty where the one of this key is not, and the others are as they were
+  pub full_beside : ((k : Picks) → same_picks key k ≡ true → bucket_of n k ≡ [] → get same_picks n k ≡ None) →
+      ((k : Picks) → same_picks key k ≡ false → get same_picks n k ≡ get same_picks m k) → AreFull n
+  full_beside here others k empty = at (same_picks key k) refl
+    where
+      entries : Option (BTreeMap ℕ X) → List (ℕ × X)
+      entries o = option_map_or (λ b. b.entries) o []
+
+      at : (b : Bool) → same_picks key k ≡ b → get same_picks n k ≡ None
+      at true same = here k same empty
+      at false apart = others k apart ∙ full k (ap entries (sym (others k apart)) ∙ empty)
+
+  -- nor where it was written, and has an entry
+  pub full_written : (b : BTreeMap ℕ X) → (b.entries ≡ [] → ⊥) →
+      ((k : Picks) → get same_picks n k ≡ cond (same_picks key k) (Some b) (get same_picks m k)) → AreFull n
+  full_written b some written = full_beside
+      (λ k same empty. absurd (some (ap entries (sym (written k ∙ ap (λ t. cond t (Some b) (get same_picks m k)) same))
+      ∙ empty)))
+      (λ k apart. written k ∙ ap (λ t. cond t (Some b) (get same_picks m k)) apart)
+    where
+      entries : Option (BTreeMap ℕ X) → List (ℕ × X)
+      entries o = option_map_or (λ b. b.entries) o []
+
+-- a bucket that is there has an entry, and so has one with the same entries
+pub stays_filled : {X S : Type 0} (m : IndexMap Picks (BTreeMap ℕ X) S) (key : Picks) (b c : BTreeMap ℕ X) →
+    AreFull m → Some b ≡ get same_picks m key → c.entries ≡ b.entries → c.entries ≡ [] → ⊥
+stays_filled {X} m key b c full there same none =
+    let empty = full key (ap entries (sym there) ∙ sym same ∙ none) in
+    let gone : Some b ≡ None = there ∙ empty in absurd (grind arith)
+  where
+    entries : Option (BTreeMap ℕ X) → List (ℕ × X)
+    entries o = option_map_or (λ b. b.entries) o []
+
+-- what is there is some
+pub some_there : {X : Type 0} (x : X) (o : Option X) → Some x ≡ o → IsSome o
+some_there x None there = absurd (grind arith)
+some_there x (Some y) there = refl
+
+-- an entry that was put in is there
+pub put_in : {X : Type 0} (es : List (ℕ × X)) (order : ℕ) (item : X) → insert_entry nat_cmp es order item ≡ [] → ⊥
+put_in [] order item none = absurd (grind arith)
+put_in {X} (e ∷ es) order item none = at (nat_cmp order e.0) none
+  where
+    at : (o : Ordering) → match_ordering o ((order, item) ∷ e ∷ es) ((e.0, item) ∷ es)
+        (e ∷ insert_entry nat_cmp es order item) ≡ [] → ⊥
+    at Less none = absurd (grind arith)
+    at Equal none = absurd (grind arith)
+    at Greater none = absurd (grind arith)
 
 module _ {X : Type 0} (p q : X → Bool) where
   gone_here_at : (y : X) (ys : List X) (x : X) (b c : Bool) → p y ≡ b → q y ≡ c → q x ≡ true →
@@ -176,7 +229,7 @@ length_push (y ∷ ys) x = let e = length_push ys x in omega (arith, e)
 
 module _ {X S : Type 0} {key : X → Picks} {queue : List (ℕ × X)} {next : ℕ}
     {m : IndexMap Picks (BTreeMap ℕ X) S} {count : ℕ} (are : AreBuckets key queue next m count)
-    (m' : IndexMap Picks (BTreeMap ℕ X) S) (count' : ℕ) where
+    (m' : IndexMap Picks (BTreeMap ℕ X) S) (count' : ℕ) (full' : AreFull m → AreFull m') where
   taken_bucket : (test : ℕ × X → Bool) (x : ℕ × X) → find test queue ≡ Some x →
       bucket_of m' (key x.1) ≡ without_first test (bucket_of m (key x.1)) →
       ((k : Picks) → same_picks (key x.1) k ≡ false → bucket_of m' k ≡ bucket_of m k) →
@@ -205,6 +258,7 @@ module _ {X S : Type 0} {key : X → Picks} {queue : List (ℕ × X)} {next : �
         let was = are.len in omega (arith, left, was, less);
     below = All-without_first test (λ (y : ℕ × X). y.0 < next) queue are.below;
     rising = Rising-without_first test queue are.rising;
+    full = full' are.full;
   }
 
   put_bucket : (item : X) →
@@ -237,6 +291,7 @@ module _ {X S : Type 0} {key : X → Picks} {queue : List (ℕ × X)} {next : �
         (All-weaker (λ (y : ℕ × X). y.0 < next) (λ (y : ℕ × X). y.0 < later)
         (λ y below. omega (arith, below, before)) queue are.below) before;
     rising = Rising-push queue next item are.rising are.below;
+    full = full' are.full;
   }
 
   -- where no bucket changed
@@ -248,6 +303,7 @@ module _ {X S : Type 0} {key : X → Picks} {queue : List (ℕ × X)} {next : �
     below = All-weaker (λ (y : ℕ × X). y.0 < next) (λ (y : ℕ × X). y.0 < later)
         (λ y below. omega (arith, below, after)) queue are.below;
     rising = are.rising;
+    full = full' are.full;
   }
 
 le_self : (n : ℕ) → nat_le n n ≡ true

@@ -18,7 +18,7 @@ use Rattle.nm_match.specs.declared.names.MessageId.{MessageId}
 use Rattle.nm_match.specs.declared.names.Standing.{Standing}
 use Rattle.nm_match.specs.declared.names.Standing.TheVariants.{Waits, Aside}
 use Rattle.nm_match.specs.declared.picks.Picks.{Picks}
-use Rattle.nm_match.specs.Buckets.{AreBuckets, bucket_of}
+use Rattle.nm_match.specs.Buckets.{AreBuckets, AreFull, bucket_of}
 use Rattle.nm_match.specs.Deeds.{is_message}
 use Rattle.nm_match.specs.Names.{IsNamedQueue, has_one, id_of_arrival, is_aside, same_message, standing_of}
 use Rattle.nm_match.specs.Picks.{same_picks}
@@ -121,13 +121,14 @@ module _ {X K S T : Type 0} {same : K → K → Bool} {known : X → K → Bool}
   named_aged later after = record {
     is = record {
       queue = is.is.queue;
-      are = kept is.is.are m count later after (λ k. refl) refl;
+      are = kept is.is.are m count (λ full. full) later after (λ k. refl) refl;
       same = is.is.same;
     };
     stands = is.stands;
   }
 
-  module _ (m' : IndexMap Picks (BTreeMap ℕ X) S) (count' : ℕ) (standings' : IndexMap K Standing T) where
+  module _ (m' : IndexMap Picks (BTreeMap ℕ X) S) (count' : ℕ) (standings' : IndexMap K Standing T)
+      (full' : AreFull m → AreFull m') where
     -- where no bucket and no standing changed
     pub named_kept : ((k : Picks) → bucket_of m' k ≡ bucket_of m k) → count' ≡ count →
         ((name : K) → get same standings' name ≡ get same standings name) →
@@ -135,7 +136,7 @@ module _ {X K S T : Type 0} {same : K → K → Bool} {known : X → K → Bool}
     named_kept bucket len stands = record {
       is = record {
         queue = is.is.queue;
-        are = kept is.is.are m' count' next (omega arith) bucket len;
+        are = kept is.is.are m' count' full' next (omega arith) bucket len;
         same = is.is.same;
       };
       stands = λ name. stands name ∙ is.stands name;
@@ -157,7 +158,7 @@ module _ {X K S T : Type 0} {same : K → K → Bool} {known : X → K → Bool}
         queue = without_first t queue;
         are = subst (λ (l : List (ℕ × X)). AreBuckets key l next m' count')
             (order_left t queue x is.is.are.rising found)
-            (taken is.is.are m' count' (λ (y : ℕ × X). x.0 == y.0) x
+            (taken is.is.are m' count' full' (λ (y : ℕ × X). x.0 == y.0) x
             (order_found t queue x is.is.are.rising found) (own ∙ entry_left x.0 (bucket_of m (key x.1))) others less);
         same = map-without_first (λ (y : ℕ × X). y.1) test queue
             ∙ ap (λ (l : List X). without_first test l) is.is.same;
@@ -218,7 +219,7 @@ module _ {X K S T : Type 0} {same : K → K → Bool} {known : X → K → Bool}
     named_freed same_true id none bucket len aside' agree there elsewhere = record {
       is = record {
         queue = is.is.queue;
-        are = kept is.is.are m' count' next (omega arith) bucket len;
+        are = kept is.is.are m' count' full' next (omega arith) bucket len;
         same = is.is.same;
       };
       stands = λ name. at name (same id name) refl;
@@ -247,7 +248,7 @@ module _ {X K S T : Type 0} {same : K → K → Bool} {known : X → K → Bool}
     named_put item id is_id new own others more there elsewhere = record {
       is = record {
         queue = queue ++ (next, item) ∷ [];
-        are = put_last is.is.are m' count' item (next + 1) (omega arith)
+        are = put_last is.is.are m' count' full' item (next + 1) (omega arith)
             (own ∙ entry_last next item (bucket_of m (key item)) below) others more;
         same = map_push (λ (y : ℕ × X). y.1) queue (next, item) ∙ ap (λ (l : List X). l ++ item ∷ []) is.is.same;
       };
@@ -281,10 +282,10 @@ module _ {X K S T : Type 0} {same : K → K → Bool} {known : X → K → Bool}
 -- nothing waits in empty buckets
 pub named_none : {X K S T : Type 0} {same : K → K → Bool} {known : X → K → Bool} {key : X → Picks}
     {aside : K → Bool} {next : ℕ} {m : IndexMap Picks (BTreeMap ℕ X) S} {count : ℕ}
-    {standings : IndexMap K Standing T} → ((k : Picks) → bucket_of m k ≡ []) → count ≡ 0 →
+    {standings : IndexMap K Standing T} → ((k : Picks) → bucket_of m k ≡ []) → AreFull m → count ≡ 0 →
     ((name : K) → get same standings name ≡ None) → ((name : K) → aside name ≡ false) →
     IsNamedQueue same known key [] aside next m count standings
-named_none none empty nowhere no_one = record {
+named_none none full empty nowhere no_one = record {
   is = record {
     queue = [];
     are = record {
@@ -292,6 +293,7 @@ named_none none empty nowhere no_one = record {
       len = empty;
       below = λ k d inside. absurd (omega (arith, inside));
       rising = tt;
+      full = full;
     };
     same = refl;
   };

@@ -17,6 +17,10 @@ use Rattle.nm_match.specs.Picks.{same_picks}
 abbrev pub bucket_of : {X S : Type 0} → IndexMap Picks (BTreeMap ℕ X) S → Picks → List (ℕ × X)
 bucket_of m key = option_map_or (λ b. b.entries) (get same_picks m key) []
 
+-- no bucket is empty: where nothing waits under a key, there is no bucket for it
+abbrev pub AreFull : {X S : Type 0} → IndexMap Picks (BTreeMap ℕ X) S → Type 0
+AreFull m = (k : Picks) → bucket_of m k ≡ [] → get same_picks m k ≡ None
+
 -- the one with the smaller order number
 abbrev pub earlier_of : {X : Type 0} → Option (ℕ × X) → Option (ℕ × X) → Option (ℕ × X)
 earlier_of None b = b
@@ -42,13 +46,14 @@ Rising [] = Unit {0}
 Rising {X} (x ∷ xs) = All (λ (y : ℕ × X). x.0 < y.0) xs × Rising xs
 
 -- The buckets hold this queue, whose order numbers rise and are below the next one: each bucket has
--- what the queue has of its key, in the same order.
+-- what the queue has of its key, in the same order, and there is none without an entry.
 pub record AreBuckets {X S : Type 0} (key : X → Picks) (queue : List (ℕ × X)) (next : ℕ)
     (m : IndexMap Picks (BTreeMap ℕ X) S) (count : ℕ) : Type 0 where
   pub bucket : (k : Picks) → bucket_of m k ≡ filter (λ x. same_picks k (key x.1)) queue
   pub len : count ≡ length queue
   pub below : All (λ x. x.0 < next) queue
   pub rising : Rising queue
+  pub full : AreFull m
 
 -- the buckets hold these things in order of age
 pub record IsQueue {X S : Type 0} (key : X → Picks) (items : List X) (next : ℕ)

@@ -1,12 +1,13 @@
 //! Buckets of what waits: one for each key, each in order of age.
 
-ghost use Rattle.std.specs.Prelude.{◌≡◌, ◌+◌, ◌-◌, ◌<◌, ◌^◌, false, [], IsTrue, OnOk, OnErr};
+ghost use Rattle.std.specs.Prelude.{◌≡◌, ◌+◌, ◌-◌, ◌<◌, ◌^◌, false, [], IsTrue, OnOk, OnErr, None};
 ghost use Rattle.std.specs.Prelude.{slice_get};
 ghost use Rattle.std.specs.Ordering.{nat_cmp};
 ghost use Rattle.std.specs.BTreeMap.{insert_entry, is_at};
 ghost use Rattle.std.specs.Map.{remove_entry};
+ghost use Rattle.indexmap.specs.IndexMap.{get};
 ghost use Rattle.nm_match.specs.declared.picks.Picks as picks;
-ghost use Rattle.nm_match.specs.Buckets.{bucket_of, earlier_of};
+ghost use Rattle.nm_match.specs.Buckets.{AreFull, bucket_of, earlier_of};
 ghost use Rattle.nm_match.specs.Picks.{same_picks};
 
 use crate::picks::Picks;
@@ -54,6 +55,7 @@ fn add<T: Copy>(
     ensures others { (k : picks.Picks) → same_picks key k ≡ false →
         bucket_of map.new k ≡ bucket_of map.old k }
     ensures err { OnErr result (bucket_of map.new key ≡ bucket_of map.old key) }
+    ensures full { AreFull map.old → AreFull map.new }
 {
     match map.get_mut(&key) {
         Some(bucket) => {
@@ -75,8 +77,10 @@ fn drop_at<T: Copy>(map: &mut IndexMap<Picks, BTreeMap<usize, T>>, key: Picks, o
     ensures own { bucket_of map.new key
         ≡ remove_entry (is_at (nat_cmp order)) (bucket_of map.old key) }
     ensures others { (k : picks.Picks) → same_picks key k ≡ false →
-        bucket_of map.new k ≡ bucket_of map.old k }
+        get same_picks map.new k ≡ get same_picks map.old k }
     ensures emptied { IsTrue result → bucket_of map.new key ≡ [] }
+    ensures left { result ≡ false → bucket_of map.new key ≡ [] →
+        get same_picks map.new key ≡ None }
 {
     match map.get_mut(&key) {
         Some(bucket) => {
@@ -92,6 +96,7 @@ impl<T: Copy> Buckets<T> {
     pub(crate) fn new(alloc: Global) -> Self
         ensures none { (k : picks.Picks) → bucket_of result.map k ≡ [] }
         ensures len { result.len ≡ 0 }
+        ensures full { AreFull result.map }
     {
         Buckets {
             map: IndexMap::new(alloc),
@@ -116,6 +121,7 @@ impl<T: Copy> Buckets<T> {
         ensures err { OnErr result (bucket_of self.new.map key ≡ bucket_of self.old.map key) }
         ensures len { OnOk result (self.new.len ≡ self.old.len + 1) }
         ensures err_len { OnErr result (self.new.len ≡ self.old.len) }
+        ensures full { AreFull self.old.map → AreFull self.new.map }
     {
         add(&mut self.map, key, order, item)?;
         self.len += 1;
@@ -129,6 +135,7 @@ impl<T: Copy> Buckets<T> {
         ensures others { (k : picks.Picks) → same_picks key k ≡ false →
             bucket_of self.new.map k ≡ bucket_of self.old.map k }
         ensures len { self.new.len ≡ self.old.len - 1 }
+        ensures full { AreFull self.old.map → AreFull self.new.map }
     {
         let emptied = drop_at(&mut self.map, key, order);
         self.len = self.len.saturating_sub(1);

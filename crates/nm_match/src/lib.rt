@@ -26,7 +26,8 @@
 //! claim that names a source and a tag at one; a wildcard looks at the first message of each bucket
 //! of its queue. A cancel, a withdrawal, `is_claimed` and `take_claimed` look up one name. A bucket
 //! is found by hashing, and an entry leaves it in steps that grow with the logarithm of what is
-//! there. `knows_post` and `knows_arrival` look through all deeds.
+//! there; an emptied bucket goes, which the matcher's type says, so a wildcard looks at none that is
+//! empty. `knows_post` and `knows_arrival` look through all deeds.
 //! # What is only tested
 //! That `post`, `arrive`, `claim` and `take_claimed` succeed with ample memory.
 #![tactic(auto)]

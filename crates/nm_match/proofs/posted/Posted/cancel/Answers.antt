@@ -17,7 +17,7 @@ returns-in-Some-clause-found c = λ posts cancelled next is.
 
 pub returns-in-Some-clause-others : goal.returns-in-Some-clause-others
 returns-in-Some-clause-others c = λ yes posts cancelled next two is.
-    place_taken is c.take.new.self.map c.take.new.self.len c.set_aside.new.standings TwoReceives two
+    place_taken is c.take.new.self.map c.take.new.self.len c.set_aside.new.standings c.take.ensures.full TwoReceives two
     (λ p q number. posts_apart number p q) c.args.number c.in-Some.key c.in-Some.order c.in-Some.ensures.some
     (λ p here number. ap (λ n. nat_eq n number) (same_number-true p.number c.args.number here))
     c.take.ensures.own c.take.ensures.others c.take.ensures.len (is_one_of (cancelled ++ c.args.number ∷ []))

@@ -34,7 +34,7 @@ returns-clause-others c = λ arrivals claimed next two is.
     let waits = waits_by_name is TwoMessages two (λ a b id. messages_apart id.from id.n a b)
     (λ (x : ℕ × Arrival). fits_picks (record { from = c.args.from; tag = c.args.tag; ctx = c.args.ctx })
     (picks_of_arrival x.1)) (c.in_ok-order.order, c.in_ok-order.a) found id (message_itself id) in
-    named_taken is c.take.new.self.map c.take.new.self.len c.set_aside.new.standings TwoMessages two
+    named_taken is c.take.new.self.map c.take.new.self.len c.set_aside.new.standings c.take.ensures.full TwoMessages two
     (λ a b id. messages_apart id.from id.n a b) (λ (a : Arrival). matches c.args.from c.args.tag c.args.ctx a.env)
     (c.in_ok-order.order, c.in_ok-order.a)
     (selected_found is.is.queue c.args.from c.args.tag c.args.ctx (c.in_ok-order.order, c.in_ok-order.a) found)

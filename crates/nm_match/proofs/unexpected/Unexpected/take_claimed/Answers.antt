@@ -10,7 +10,8 @@ use Rattle.nm_match.proofs.unexpected.Unexpected.take_claimed.Goals as goal
 pub returns-clause-left : goal.returns-clause-left
 returns-clause-left c = λ arrivals claimed next is none.
     let updates = c.swap_remove.ensures.updates.0 in
-    named_freed is c.args.self.now.waiting.map c.args.self.now.waiting.len c.swap_remove.new.self same_message-true
+    named_freed is c.args.self.now.waiting.map c.args.self.now.waiting.len c.swap_remove.new.self (λ full. full)
+    same_message-true
     c.args.id none (λ k. refl) refl
     (has_one (filter (λ (a : Arrival). not (is_message c.args.id.from c.args.id.n a)) claimed))
     (λ id apart. left_other c.args.id id claimed apart)
