@@ -15,7 +15,10 @@ use Rattle.nm_seats.proofs.ListLemmas.{each_at}
 use Rattle.nm_seats.proofs.SpokenLemmas.{spoken_joins, spoken_seals}
 use Rattle.nm_seats.proofs.TotalLemmas.{total_along, total_rows, full_places}
 use Rattle.nm_copyring.specs.declared.table.Entry.{Entry}
-use Rattle.nm_copyring.specs.Rule.{Load, rank_of, is_filling, emptying, mark, place, Ring, Rule}
+use Rattle.nm_copyring.specs.declared.port.RingPort.{RingPort}
+use Rattle.nm_copyring.specs.Rule.{Load, rank_of, is_filling, emptying, lane, mark, place, Ring, Rule}
+use Rattle.nm_copyring.specs.Plays.{unlooked}
+use Rattle.nm_copyring.specs.Ports.{knows, sees}
 use Rattle.nm_copyring.specs.AtClose.{Gathered, Prefixed, entry, pushed_in, pulled_in, not_pulled}
 use Rattle.nm_copyring.proofs.ListLemmas.{joined}
 use Rattle.nm_copyring.proofs.RingLemmas.{marked}
@@ -29,6 +32,7 @@ merged n id other v w s R at ne there = record {
   knows = R.knows;
   long = R.long;
   rings = R.rings;
+  looks = R.looks;
 }
 
 pub sealed_off : (n id : ℕ) (v : View Entry) → Splits (Rule n) id v v (sealed v)
@@ -38,6 +42,7 @@ sealed_off n id v s R at = record {
   knows = R.knows;
   long = R.long;
   rings = R.rings;
+  looks = R.looks;
 }
 
 there : (es : List Entry) (k : ℕ) → k < length es → get_elem? es k ≡ maybe.some (entry es k)
@@ -103,3 +108,28 @@ pub one_more : (ws : List ℕ) (i x left new : ℕ) → get_elem? ws i ≡ maybe
 one_more ws i x left new at was is = let next : suc i ≡ i + 1 = omega arith in
     is ∙ (λ t. was t + sign (sym (at_word ws i x at) t))
     ∙ ap (λ k. total k (λ j. sign (slice_index ws j))) next
+
+-- the entry of a rank, whatever it found where it looked last
+entry_unlooked : (es : List Entry) (r : ℕ) → entry (map unlooked es) r ≡ unlooked (entry es r)
+entry_unlooked [] r = refl
+entry_unlooked (e ∷ es) zero = refl
+entry_unlooked (e ∷ es) (suc r) = entry_unlooked es r
+
+-- what is left is the same
+pub left_unlooked : (n : ℕ) (es : List Entry) → not_pulled n (map unlooked es) ≡ not_pulled n es
+left_unlooked n es = λ k. total n (λ i. total n
+    (λ j. length (lane (entry_unlooked es i k) j).pushed - length (lane (entry_unlooked es j k) i).pulled))
+
+pub prefix_unlooked : (n : ℕ) (es : List Entry) → Prefixed n es → Prefixed n (map unlooked es)
+prefix_unlooked n es holds i j li lj =
+    let was = holds i j li lj in (
+      was.0,
+      ap (λ (e : Entry). (lane e j).pushed) (entry_unlooked es i) ∙ was.1
+          ∙ ap (λ (e : Entry). (lane e i).pulled ++ was.0) (sym (entry_unlooked es j)),
+      was.2,
+    )
+
+-- what the ports knew is what they saw, whatever they found where they looked last
+pub known_seen : (ports : List RingPort) → map unlooked (map sees ports) ≡ map knows ports
+known_seen [] = refl
+known_seen (p ∷ ports) = ap (λ es. knows p ∷ es) (known_seen ports)

@@ -16,18 +16,19 @@ use Rattle.nm_seats.proofs.UpdateLemmas.{pick_yes, pick_no}
 use Rattle.nm_types.specs.declared.packets.Piece.{Piece}
 use Rattle.nm_copyring.specs.declared.table.Work.{Work}
 use Rattle.nm_copyring.specs.declared.table.Work.TheVariants.{Idle, Filling, Emptying}
+use Rattle.nm_copyring.specs.declared.table.Look.TheVariants.{Free, Full}
 use Rattle.nm_copyring.specs.declared.table.Lane.{Lane}
 use Rattle.nm_copyring.specs.declared.table.Entry.{Entry}
-use Rattle.nm_copyring.specs.Rule.{Load, lane, is_filling, emptying, Ring, Knows, Rule}
+use Rattle.nm_copyring.specs.Rule.{Holds, Load, lane, is_filling, emptying, Ring, Knows, Rule}
 use Rattle.nm_copyring.specs.Plays as plays
-use Rattle.nm_copyring.specs.Plays.{Knowing, with_work, with_lane, one_pushed, one_pulled, one_full}
+use Rattle.nm_copyring.specs.Plays.{Knowing, with_work, with_look, with_lane, one_pushed, one_pulled, one_full}
 use Rattle.nm_copyring.specs.Plays.{one_empty, next_out, next_in, IsOne}
 use Rattle.nm_copyring.proofs.ListLemmas.{one_place, place_low}
 use Rattle.nm_copyring.proofs.RingLemmas.{lane_else}
 use Rattle.nm_copyring.proofs.RingLemmas.{free_is_home, sender_opens, sender_fills}
 use Rattle.nm_copyring.proofs.RingLemmas.{receiver_opens, receiver_empties}
 use Rattle.nm_copyring.proofs.StepLemmas.{lane_keeps, ring_to, ring_of, only_counts}
-use Rattle.nm_copyring.proofs.StepLemmas.{sender_steps, receiver_steps}
+use Rattle.nm_copyring.proofs.StepLemmas.{holds_same, mine_holds, sender_steps, receiver_steps}
 
 small : (k : ℕ) → k % 4 < 4
 small k = mod_below k 4 (omega arith)
@@ -37,6 +38,15 @@ filling_is t u e = cc
 
 emptying_is : (t u : ℕ) (p q : Piece) → Emptying t p ≡ Emptying u q → (t ≡ u) × (p ≡ q)
 emptying_is t u p q e = (cc, cc)
+
+free_is : (t u : ℕ) → Free t ≡ Free u → t ≡ u
+free_is t u e = cc
+
+full_is : (t u : ℕ) → Full t ≡ Full u → t ≡ u
+full_is t u e = cc
+
+free_full : (t u : ℕ) → Free t ≡ Full u → ⊥
+free_full t u e = cc
 
 -- what is in the slot that was taken last
 front : List (ℕ × Load) → Load
@@ -116,17 +126,44 @@ module _ (slots id : ℕ) (e : Entry) (low : e.rank < e.ranks) (wide : length e.
         (counts_known one_full)
         (λ l. (refl, lane_keeps e peer in_lanes one_full (λ (x : Lane). x.pushed) (λ x. refl) l))
         (λ l. (refl, lane_keeps e peer in_lanes one_full (λ (x : Lane). x.pulled) (λ x. refl) l))
+        (holds_same slots id e low wide deep s R at (with_lane one_full peer e) refl refl
+        (lane_keeps e peer in_lanes one_full (λ (x : Lane). x.pushed) (λ x. refl))
+        (lane_keeps e peer in_lanes one_full (λ (x : Lane). x.pulled) (λ x. refl)))
 
     empty_counted : Counted (with_lane one_empty peer e)
     empty_counted = only_counts slots id e low wide deep s R at (with_lane one_empty peer e) w
         (counts_known one_empty)
         (λ l. (refl, lane_keeps e peer in_lanes one_empty (λ (x : Lane). x.pushed) (λ x. refl) l))
         (λ l. (refl, lane_keeps e peer in_lanes one_empty (λ (x : Lane). x.pulled) (λ x. refl) l))
+        (holds_same slots id e low wide deep s R at (with_lane one_empty peer e) refl refl
+        (lane_keeps e peer in_lanes one_empty (λ (x : Lane). x.pushed) (λ x. refl))
+        (lane_keeps e peer in_lanes one_empty (λ (x : Lane). x.pulled) (λ x. refl)))
 
-    -- a load that changes nothing
-    nothing_counted : Counted e
-    nothing_counted = only_counts slots id e low wide deep s R at e w (refl, refl, wide)
+    -- a load that finds the place free, or full, and notes it
+    free_noted : slice_index s.words out_at ≡ 0 → Counted (with_look (Free peer) e)
+    free_noted zeroed = only_counts slots id e low wide deep s R at (with_look (Free peer) e) w (refl, refl, wide)
         (λ l. (refl, refl)) (λ l. (refl, refl))
+        (λ j lj. (
+          (λ is. subst (λ u. slice_index s.words (next_out e u) ≡ 0) (free_is peer j is) zeroed),
+          (λ is. absurd (free_full peer j is)),
+        ))
+
+    full_noted : 0 < slice_index s.words in_at → Counted (with_look (Full peer) e)
+    full_noted full = only_counts slots id e low wide deep s R at (with_look (Full peer) e) w (refl, refl, wide)
+        (λ l. (refl, refl)) (λ l. (refl, refl))
+        (λ i li. (
+          (λ is. absurd (free_full i peer (sym is))),
+          (λ is. subst (λ u. 0 < slice_index s.words (next_in e u)) (full_is peer i is) full),
+        ))
+
+    -- where the rank found the place free, or full, it is so
+    still_free : (j : ℕ) → peer ≡ j → e.look ≡ Free j → slice_index s.words out_at ≡ 0
+    still_free j same found = (mine_holds slots id e low wide deep s R at peer few).0
+        (found ∙ ap (λ u. Free u) (sym same))
+
+    still_full : (i : ℕ) → peer ≡ i → e.look ≡ Full i → 0 < slice_index s.words in_at
+    still_full i same found = (mine_holds slots id e low wide deep s R at peer few).1
+        (found ∙ ap (λ u. Full u) (sym same))
 
   module _ (hs : List (ℕ × Load)) where
     -- a load of the flag of the next place for the peer
@@ -149,7 +186,7 @@ module _ (slots id : ℕ) (e : Entry) (low : e.rank < e.ranks) (wide : length e.
                     ∙ sym (idle_out idle l),
                 refl,
               ))
-              (λ l. (sym (idle_in idle l), refl))
+              (λ l. (sym (idle_in idle l), refl)) refl (λ some. some)
               (subst (λ ws. Ring n ws (set s.homes out_at maybe.none) e.rank peer
               (with_work (Filling peer) e) (R.ledger peer)) (sym (set-get_or s.words out_at 0))
               (sender_opens n s.words s.homes e.rank peer e (R.ledger peer) g (idle_out idle peer)
@@ -157,6 +194,7 @@ module _ (slots id : ℕ) (e : Entry) (low : e.rank < e.ranks) (wide : length e.
           λ j lj same. (
             (λ _. ap (λ u. here_after u) (only_out j lj same)),
             (λ pos. absurd (omega arith)),
+            (λ _. zeroed),
           ),
         ))
         (λ full. (
@@ -167,6 +205,7 @@ module _ (slots id : ℕ) (e : Entry) (low : e.rank < e.ranks) (wide : length e.
           λ j lj same. (
             (λ zeroed. absurd (full zeroed)),
             (λ _. ap (λ u. (view (with_lane one_full u e ∷ []), hs)) (only_out j lj same)),
+            (λ found. still_free s R at out_at j (only_out j lj same) found),
           ),
         )) where
           here_after : ℕ → Knowing
@@ -185,6 +224,7 @@ module _ (slots id : ℕ) (e : Entry) (low : e.rank < e.ranks) (wide : length e.
           λ i li same. (
             (λ _. ap (λ u. (view (with_lane one_empty u e ∷ []), hs)) (only_in i li same)),
             (λ pos. absurd (omega arith)),
+            (λ found. still_full s R at in_at i (only_in i li same) found),
           ),
         ))
         (λ full. let k : ℕ = length (lane e peer).pulled % 4 in
@@ -205,13 +245,14 @@ module _ (slots id : ℕ) (e : Entry) (low : e.rank < e.ranks) (wide : length e.
                 pick_no (Some (Some q)) None (λ x. ne (sym x)) (ℕ_discrete peer l)
                     ∙ sym (idle_in idle l),
                 refl,
-              ))
+              )) refl (λ none. none)
               (subst (λ ws. Ring n ws (set s.homes in_at maybe.none) peer e.rank (R.ledger peer)
               (with_work (Emptying peer q) e)) (sym (set-get_or s.words in_at 0)) found.4),
           λ i li same. (
             (λ zeroed. absurd (full zeroed)),
             (λ _. subst (λ u. plays.Found u in_at (here hs) (here_after q)) (only_in i li same)
                 (q, found.1, found.2, refl)),
+            (λ _. some),
           ),
         )) where
           here_after : Piece → Knowing
@@ -222,11 +263,14 @@ module _ (slots id : ℕ) (e : Entry) (low : e.rank < e.ranks) (wide : length e.
         (plays.peeked_out (step slots out_at 0 0 maybe.none) (here hs))
     peek_out_kept s R long at small_word = dite (ℕ_discrete (slice_index s.words out_at) 0)
         (λ zeroed. (
-          view (e ∷ []),
+          view (with_look (Free peer) e ∷ []),
           keeps,
           tt,
-          nothing_counted s R at out_at,
-          λ j lj same. ((λ _. refl), (λ pos. absurd (omega arith))),
+          free_noted s R at out_at zeroed,
+          λ j lj same. (
+            (λ _. ap (λ u. (view (with_look (Free u) e ∷ []), hs)) (only_out j lj same)),
+            (λ pos. absurd (omega arith)),
+          ),
         ))
         (λ full. (
           view (with_lane one_full peer e ∷ []),
@@ -254,11 +298,14 @@ module _ (slots id : ℕ) (e : Entry) (low : e.rank < e.ranks) (wide : length e.
           ),
         ))
         (λ full. (
-          view (e ∷ []),
+          view (with_look (Full peer) e ∷ []),
           keeps,
           tt,
-          nothing_counted s R at in_at,
-          λ i li same. ((λ zeroed. absurd (full zeroed)), (λ _. refl)),
+          full_noted s R at in_at (omega arith),
+          λ i li same. (
+            (λ zeroed. absurd (full zeroed)),
+            (λ _. ap (λ u. (view (with_look (Full u) e ∷ []), hs)) (only_in i li same)),
+          ),
         ))
 
   module _ (hs : List (ℕ × Load)) (q : Piece) where
@@ -286,7 +333,7 @@ module _ (slots id : ℕ) (e : Entry) (low : e.rank < e.ranks) (wide : length e.
                 sym (ap (λ w. emptying w l) busy),
                 lane_keeps (with_work Idle e) peer in_lanes
                     (one_pushed q) (λ (x : Lane). x.pulled) (λ x. refl) l,
-              ))
+              )) refl (λ _. omega arith)
               (sender_fills n s.words s.homes e.rank peer e (R.ledger peer) g
               (ap (λ w. is_filling w peer) busy ∙ pick_yes true false refl (ℕ_discrete peer peer))
               in_lanes (omega arith) (omega arith) q from number),
@@ -323,7 +370,7 @@ module _ (slots id : ℕ) (e : Entry) (low : e.rank < e.ranks) (wide : length e.
                 sym (ap (λ w. emptying w l) busy
                     ∙ pick_no (Some (Some q)) None (λ x. ne (sym x)) (ℕ_discrete peer l)),
                 ap (λ (x : Lane). x.pulled) (lane_else (with_work Idle e) peer l (one_pulled q) ne),
-              ))
+              )) refl (λ _. refl)
               (receiver_empties n s.words s.homes peer e.rank (R.ledger peer) e g q
               (ap (λ w. emptying w peer) busy
               ∙ pick_yes (Some (Some q)) None refl (ℕ_discrete peer peer))

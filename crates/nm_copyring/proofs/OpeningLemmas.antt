@@ -15,6 +15,7 @@ use Rattle.nm_copyring.specs.declared.table.Entry.{Entry}
 use Rattle.nm_copyring.specs.Rule.{Load, rank_of, new_lane, lane, place, AreOf, Ring, Rule}
 use Rattle.nm_copyring.specs.Rule.{newcomer, newcomers, first_view}
 use Rattle.nm_copyring.proofs.ListLemmas.{place_low}
+use Rattle.nm_copyring.proofs.RingLemmas.{fresh_free, fresh_full}
 
 false_true : false ≡ true → ⊥
 false_true e = cc
@@ -84,6 +85,7 @@ module _ (n : ℕ) where
     knows = λ r low. (refl, refl, length-replicate n new_lane);
     long = length-replicate count 0;
     rings = ring_new;
+    looks = λ r low j lj. ((λ is. absurd (fresh_free j is)), (λ is. absurd (fresh_full j is)));
   }
 
 -- the seat of the lowest rank is cut off
@@ -96,4 +98,5 @@ parted n id v e es is = subst (λ u. Splits (Rule n) id u (others_of u) (first_o
       knows = R.knows;
       long = R.long;
       rings = R.rings;
+      looks = R.looks;
     })

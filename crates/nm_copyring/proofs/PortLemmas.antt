@@ -9,18 +9,20 @@ use Rattle.nm_seats.specs.Spoken.{view}
 use Rattle.nm_types.specs.declared.packets.Piece.{Piece}
 use Rattle.nm_copyring.specs.declared.table.Work.{Work}
 use Rattle.nm_copyring.specs.declared.table.Work.TheVariants.{Idle, Filling, Emptying}
+use Rattle.nm_copyring.specs.declared.table.Look.{Look}
+use Rattle.nm_copyring.specs.declared.table.Look.TheVariants.{Fresh, Free, Full}
 use Rattle.nm_copyring.specs.declared.table.Entry.{Entry}
 use Rattle.nm_copyring.specs.declared.table.Lane.{Lane}
 use Rattle.nm_copyring.specs.declared.tallies.Tally.{Tally}
 use Rattle.nm_copyring.specs.Counted.{Counts, counted, tally}
 use Rattle.nm_copyring.specs.Rule.{Load, lane, new_lane, place}
-use Rattle.nm_copyring.specs.Plays.{Knowing, Rests, IsOne, mine, knowing, with_work, with_lane}
+use Rattle.nm_copyring.specs.Plays.{Knowing, Rests, IsOne, mine, knowing, unlooked, with_work, with_look, with_lane}
 use Rattle.nm_copyring.specs.Plays.{one_pushed, one_pulled, one_full, one_empty, next_out, next_in}
 use Rattle.nm_copyring.specs.Plays.{looked_out, looked_in, peeked_out, peeked_in, filled, emptied}
 
 -- it is at work no more
-idle_again : (e : Entry) (w : Work) → e.work ≡ Idle → with_work Idle (with_work w e) ≡ e
-idle_again e w idle = λ i. record e { work = sym idle i }
+idle_again : (e : Entry) (w : Work) → e.work ≡ Idle → with_work Idle (with_work w e) ≡ unlooked e
+idle_again e w idle = λ i. record e { work = sym idle i; look = Fresh }
 
 -- a seat that has one slot in hand
 abbrev pub working : Work → ℕ → Load → Entry → Knowing
@@ -54,6 +56,10 @@ module _ (n slots word peer : ℕ) (me : Knowing) (rests : Rests me) (one : IsOn
     full_found full = (told peer inside is).1 full
         ∙ ap (λ m. (view (with_lane one_full peer e ∷ []), m.1)) rests.0
 
+    -- the place that was found free is
+    pub sure_free : e.look ≡ Free peer → found ≡ 0
+    sure_free = (told peer inside is).2
+
   module _ (found : ℕ) (after : Knowing)
       (told : looked_in (step slots word 0 0 maybe.none) me found after)
       (is : word ≡ next_in e peer) where
@@ -71,21 +77,27 @@ module _ (n slots word peer : ℕ) (me : Knowing) (rests : Rests me) (one : IsOn
       f.3 ∙ ap (λ m. (view (with_work (Emptying peer f.0) e ∷ []), (word, Some f.0) ∷ m.1)) rests.0,
     )
 
+    -- the place that was found full is
+    pub sure_full : e.look ≡ Full peer → 0 < found
+    sure_full = (told peer inside is).2
+
   -- a seat that loaded a flag and no more
   pub peeked_out_after : (found : ℕ) (after : Knowing)
       → peeked_out (step slots word 0 0 maybe.none) me found after → word ≡ next_out e peer
-      → (found ≡ 0 → after ≡ me) × (0 < found → after ≡ knowing (with_lane one_full peer e))
+      → (found ≡ 0 → after ≡ knowing (with_look (Free peer) e))
+      × (0 < found → after ≡ knowing (with_lane one_full peer e))
   peeked_out_after found after told is = let t = told peer inside is in (
-    t.0,
+    λ free. t.0 free ∙ ap (λ m. (view (with_look (Free peer) e ∷ []), m.1)) rests.0,
     λ full. t.1 full ∙ ap (λ m. (view (with_lane one_full peer e ∷ []), m.1)) rests.0,
   )
 
   pub peeked_in_after : (found : ℕ) (after : Knowing)
       → peeked_in (step slots word 0 0 maybe.none) me found after → word ≡ next_in e peer
-      → (found ≡ 0 → after ≡ knowing (with_lane one_empty peer e)) × (0 < found → after ≡ me)
+      → (found ≡ 0 → after ≡ knowing (with_lane one_empty peer e))
+      × (0 < found → after ≡ knowing (with_look (Full peer) e))
   peeked_in_after found after told is = let t = told peer inside is in (
     λ none. t.0 none ∙ ap (λ m. (view (with_lane one_empty peer e ∷ []), m.1)) rests.0,
-    t.1,
+    λ full. t.1 full ∙ ap (λ m. (view (with_look (Full peer) e ∷ []), m.1)) rests.0,
   )
 
   -- the slot that a seat has is exchanged
@@ -96,7 +108,7 @@ module _ (n slots word peer : ℕ) (me : Knowing) (rests : Rests me) (one : IsOn
   pub pushed_after : (q : Piece) (before after : Knowing)
       → before ≡ working (Filling peer) word (Some q) e
       → filled (step slots word 1 0 maybe.none) before 1 after
-      → after ≡ knowing (with_lane (one_pushed q) peer e)
+      → after ≡ knowing (with_lane (one_pushed q) peer (unlooked e))
   pushed_after q before after was told = told peer q [] (ap (λ m. (mine m).work) was)
       (ap (λ m. m.1) was) ∙ ap (λ m. knowing (with_lane (one_pushed q) peer
       (with_work Idle (mine m)))) was
@@ -105,7 +117,7 @@ module _ (n slots word peer : ℕ) (me : Knowing) (rests : Rests me) (one : IsOn
   pub pulled_after : (q : Piece) (before after : Knowing)
       → before ≡ working (Emptying peer q) word None e
       → emptied (step slots word 0 0 maybe.none) before 0 after
-      → after ≡ knowing (with_lane (one_pulled q) peer e)
+      → after ≡ knowing (with_lane (one_pulled q) peer (unlooked e))
   pulled_after q before after was told = told peer q [] (ap (λ m. (mine m).work) was)
       (ap (λ m. m.1) was) ∙ ap (λ m. knowing (with_lane (one_pulled q) peer
       (with_work Idle (mine m)))) was
@@ -144,3 +156,17 @@ module _ (f : Lane → Lane) (j : ℕ) (e : Entry) (after : Knowing)
 
   pub lane_counts : (ts : List Tally) → Counts (with_lane f j e) ts → Counts (mine after) ts
   lane_counts ts counts = subst (λ (m : Knowing). Counts (mine m) ts) (sym is) counts
+
+-- what a port knows once it has looked at one place
+module _ (l : Look) (e : Entry) (after : Knowing) (is : after ≡ knowing (with_look l e)) where
+  pub look_rests : e.work ≡ Idle → Rests after
+  look_rests idle = subst Rests (sym is) (refl, idle)
+
+  pub look_wide : length e.lanes ≡ e.ranks → length (mine after).lanes ≡ (mine after).ranks
+  look_wide wide = subst (λ (m : Knowing). length (mine m).lanes ≡ (mine m).ranks) (sym is) wide
+
+  pub look_owned : (n : ℕ) → IsOne n e → IsOne n (mine after)
+  look_owned n one = subst (λ (m : Knowing). IsOne n (mine m)) (sym is) one
+
+  pub look_counts : (ts : List Tally) → Counts e ts → Counts (mine after) ts
+  look_counts ts counts = subst (λ (m : Knowing). Counts (mine m) ts) (sym is) counts

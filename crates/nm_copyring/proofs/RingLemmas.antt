@@ -14,11 +14,19 @@ use Rattle.nm_seats.proofs.WindowLemmas as windows
 use Rattle.nm_seats.proofs.UpdateLemmas.{pick_yes}
 use Rattle.nm_types.specs.declared.packets.Piece.{Piece}
 use Rattle.nm_copyring.specs.declared.table.Work.TheVariants.{Idle, Filling, Emptying}
+use Rattle.nm_copyring.specs.declared.table.Look.TheVariants.{Fresh, Free, Full}
 use Rattle.nm_copyring.specs.declared.table.Lane.{Lane}
 use Rattle.nm_copyring.specs.declared.table.Entry.{Entry}
 use Rattle.nm_copyring.specs.Rule.{Load, lane, new_lane, is_filling, emptying, mark, place, AreOf, Ring}
 use Rattle.nm_copyring.specs.Plays.{with_work, with_lane, one_pushed, one_pulled}
 use Rattle.nm_copyring.proofs.ListLemmas.{joined, more, first_is, none_first, at_middle}
+
+-- a rank that looks anew found nothing
+pub fresh_free : (j : ℕ) → Fresh ≡ Free j → ⊥
+fresh_free j is = cc
+
+pub fresh_full : (j : ℕ) → Fresh ≡ Full j → ⊥
+fresh_full j is = cc
 
 pub marked : (y : Load) → 0 < mark y
 marked y = omega arith

@@ -1,11 +1,17 @@
 -- What is known once all ranks are spoken for by one seat.
-use Rattle.std.specs.Prelude.{◌≡◌, ℕ, ◌++◌, ◌-◌, ◌<◌, ◌≤◌, List, length, slice_index_or}
+use Rattle.std.specs.Prelude.{◌≡◌, ℕ, ◌++◌, ◌-◌, ◌<◌, ◌≤◌, List, [], ◌∷◌, length, slice_index_or}
 use lib.ListN.{get_elem?}
 use mathlib.Core.Option as maybe
+use Rattle.nm_seats.specs.declared.views.View.{View}
 use Rattle.nm_seats.specs.Total.{total}
 use Rattle.nm_types.specs.declared.packets.Piece.{Piece}
 use Rattle.nm_copyring.specs.declared.table.Entry.{Entry}
 use Rattle.nm_copyring.specs.Rule.{lane, newcomer}
+
+-- what each rank knew, as a seat keeps it that was made when the table was sealed
+abbrev pub seen_in : List (View Entry) → List Entry
+seen_in [] = []
+seen_in (v ∷ vs) = v.seen
 
 -- the entry of each rank, in order
 abbrev pub Gathered : ℕ → List Entry → Type 0

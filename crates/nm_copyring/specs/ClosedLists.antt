@@ -1,19 +1,14 @@
 -- What closed rings keep of their ports.
-use Rattle.std.specs.Prelude.{ℕ, List, [], ◌∷◌}
-use Rattle.nm_seats.specs.declared.views.View.{View}
+use Rattle.std.specs.Prelude.{ℕ, List, map}
 use Rattle.nm_types.specs.declared.packets.Piece.{Piece}
 use Rattle.nm_copyring.specs.declared.table.Entry.{Entry}
 use Rattle.nm_copyring.specs.declared.close.RingAccount.{RingAccount}
-use Rattle.nm_copyring.specs.AtClose.{pushed_in, pulled_in}
-
--- what each rank knew, as a seat keeps it that was made when the table was sealed
-abbrev pub seen_in : List (View Entry) → List Entry
-seen_in [] = []
-seen_in (v ∷ vs) = v.seen
+use Rattle.nm_copyring.specs.AtClose.{pushed_in, pulled_in, seen_in}
+use Rattle.nm_copyring.specs.Plays.{unlooked}
 
 -- what each rank knew at the end, in rank order
 abbrev pub entries : RingAccount → List Entry
-entries a = seen_in a.badge.views
+entries a = map unlooked (seen_in a.badge.views)
 
 -- what the rank i pushed to the rank j
 abbrev pub pushed_list : RingAccount → ℕ → ℕ → List Piece

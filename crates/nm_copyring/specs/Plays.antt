@@ -6,6 +6,8 @@ use Rattle.nm_seats.specs.Spoken.{view}
 use Rattle.nm_types.specs.declared.packets.Piece.{Piece}
 use Rattle.nm_copyring.specs.declared.table.Work.{Work}
 use Rattle.nm_copyring.specs.declared.table.Work.TheVariants.{Idle, Filling, Emptying}
+use Rattle.nm_copyring.specs.declared.table.Look.{Look}
+use Rattle.nm_copyring.specs.declared.table.Look.TheVariants.{Fresh, Free, Full}
 use Rattle.nm_copyring.specs.declared.table.Lane.{Lane}
 use Rattle.nm_copyring.specs.declared.table.Entry.{Entry}
 use Rattle.nm_copyring.specs.Rule.{Load, lane, newcomer, place}
@@ -35,9 +37,17 @@ Rests me = (me ≡ knowing (mine me)) × ((mine me).work ≡ Idle)
 abbrev pub IsOne : ℕ → Entry → Type 0
 IsOne n e = (e.rank < n) × (e.ranks ≡ n) × (length e.lanes ≡ n)
 
--- the rank is at work on this
+-- the rank is at work on this, and what it found before counts no more
 abbrev pub with_work : Work → Entry → Entry
-with_work w e = record e { work = w }
+with_work w e = record e { work = w; look = Fresh }
+
+-- the rank found this where it looked last
+abbrev pub with_look : Look → Entry → Entry
+with_look l e = record e { look = l }
+
+-- what the rank knows without what it found where it looked last
+abbrev pub unlooked : Entry → Entry
+unlooked e = with_look Fresh e
 
 -- what the rank has of the rank j changes
 abbrev pub with_lane : (Lane → Lane) → ℕ → Entry → Entry
@@ -67,11 +77,13 @@ next_out e j = place e.ranks e.rank j (length (lane e j).pushed % 4)
 abbrev pub next_in : Entry → ℕ → ℕ
 next_in e i = place e.ranks i e.rank (length (lane e i).pulled % 4)
 
--- the flag of the next place for the rank j was loaded: where it is 0 the place is the rank's to fill
+-- the flag of the next place for the rank j was loaded: where it is 0 the place is the rank's to fill, and
+-- 0 it is where the rank found it so
 abbrev pub looked_out : Step Load → Knowing → ℕ → Knowing → Type 0
 looked_out s me found after = (j : ℕ) → j < (mine me).ranks → s.word ≡ next_out (mine me) j
     → (found ≡ 0 → after ≡ (view (with_work (Filling j) (mine me) ∷ []), (s.word, None) ∷ me.1))
     × (0 < found → after ≡ (view (with_lane one_full j (mine me) ∷ []), me.1))
+    × ((mine me).look ≡ Free j → found ≡ 0)
 
 -- the place is full, with this piece
 abbrev pub filled : Step Load → Knowing → ℕ → Knowing → Type 0
@@ -84,11 +96,13 @@ abbrev pub Found : ℕ → ℕ → Knowing → Knowing → Type 0
 Found i word me after = (p : Piece) × (p.from ≡ i) × (p.number ≡ length (lane (mine me) i).pulled)
     × (after ≡ (view (with_work (Emptying i p) (mine me) ∷ []), (word, Some p) ∷ me.1))
 
--- the flag of the next place of the rank i was loaded: where it isn't 0 the place is the rank's to empty
+-- the flag of the next place of the rank i was loaded: where it isn't 0 the place is the rank's to empty,
+-- and it isn't 0 where the rank found it so
 abbrev pub looked_in : Step Load → Knowing → ℕ → Knowing → Type 0
 looked_in s me found after = (i : ℕ) → i < (mine me).ranks → s.word ≡ next_in (mine me) i
     → (found ≡ 0 → after ≡ (view (with_lane one_empty i (mine me) ∷ []), me.1))
     × (0 < found → Found i s.word me after)
+    × ((mine me).look ≡ Full i → 0 < found)
 
 -- the place is empty, and its piece was pulled
 abbrev pub emptied : Step Load → Knowing → ℕ → Knowing → Type 0
@@ -96,14 +110,16 @@ emptied s me found after = (i : ℕ) (p : Piece) (hs : List (ℕ × Load))
     → (mine me).work ≡ Emptying i p → me.1 ≡ (s.word, None) ∷ hs
     → after ≡ (view (with_lane (one_pulled p) i (with_work Idle (mine me)) ∷ []), hs)
 
--- the flag of the next place for the rank j was loaded and no more: a full place is counted
+-- the flag of the next place for the rank j was loaded and no more: a free place is noted, and a full one
+-- counted
 abbrev pub peeked_out : Step Load → Knowing → ℕ → Knowing → Type 0
 peeked_out s me found after = (j : ℕ) → j < (mine me).ranks → s.word ≡ next_out (mine me) j
-    → (found ≡ 0 → after ≡ me)
+    → (found ≡ 0 → after ≡ (view (with_look (Free j) (mine me) ∷ []), me.1))
     × (0 < found → after ≡ (view (with_lane one_full j (mine me) ∷ []), me.1))
 
--- the flag of the next place of the rank i was loaded and no more: an empty place is counted
+-- the flag of the next place of the rank i was loaded and no more: a full place is noted, and an empty one
+-- counted
 abbrev pub peeked_in : Step Load → Knowing → ℕ → Knowing → Type 0
 peeked_in s me found after = (i : ℕ) → i < (mine me).ranks → s.word ≡ next_in (mine me) i
     → (found ≡ 0 → after ≡ (view (with_lane one_empty i (mine me) ∷ []), me.1))
-    × (0 < found → after ≡ me)
+    × (0 < found → after ≡ (view (with_look (Full i) (mine me) ∷ []), me.1))

@@ -5,11 +5,24 @@ use Rattle.nm_copyring.specs.declared.table.Entry.{Entry}
 use Rattle.nm_copyring.specs.declared.port.Rings.{Rings}
 use Rattle.nm_copyring.specs.declared.port.RingPort.{RingPort}
 use Rattle.nm_copyring.specs.Rule.{lane, newcomer}
-use Rattle.nm_copyring.specs.Plays.{IsOne, mine}
+use Rattle.nm_copyring.specs.declared.table.Look.TheVariants.{Free, Full}
+use Rattle.nm_copyring.specs.Plays.{IsOne, mine, unlooked}
 
--- what the port's seat knows
+-- what the port's seat has seen
+abbrev pub sees : RingPort → Entry
+sees p = mine p.seat.me
+
+-- what it knows, whatever it found where it looked last
 abbrev pub knows : RingPort → Entry
-knows p = mine p.seat.me
+knows p = unlooked (sees p)
+
+-- the port has looked: its next place for the rank j is free
+abbrev pub IsFree : RingPort → ℕ → Type 0
+IsFree p j = (sees p).look ≡ Free j
+
+-- the port has looked: its next place of the rank i is full
+abbrev pub IsFull : RingPort → ℕ → Type 0
+IsFull p i = (sees p).look ≡ Full i
 
 -- the pieces that the port pushed to the rank j
 abbrev pub pushed_to : RingPort → ℕ → List Piece

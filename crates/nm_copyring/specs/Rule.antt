@@ -1,7 +1,7 @@
 -- The rule of the rings.
 -- Of n ranks, the k-th of the four places from the rank i to the rank j has the number place n i j k. That is
 -- the number of the word that is its flag, and of the slot that holds its piece.
-use Rattle.std.specs.Prelude.{◌≡◌, ℕ, zero, suc, ◌+◌, ◌*◌, ◌<◌, Bool, true, false, Option, Some, None}
+use Rattle.std.specs.Prelude.{◌≡◌, ℕ, zero, suc, ◌+◌, ◌*◌, ◌%◌, ◌<◌, Bool, true, false, Option, Some, None}
 use Rattle.std.specs.Prelude.{List, [], ◌∷◌, length, map, replicate, slice_index, slice_index_or}
 use mathlib.Core.Option as maybe
 use native.Mathlib.Decide.{ℕ_discrete}
@@ -14,6 +14,7 @@ use Rattle.nm_seats.specs.Window.{Any, Window}
 use Rattle.nm_types.specs.declared.packets.Piece.{Piece}
 use Rattle.nm_copyring.specs.declared.table.Work.{Work}
 use Rattle.nm_copyring.specs.declared.table.Work.TheVariants.{Idle, Filling, Emptying}
+use Rattle.nm_copyring.specs.declared.table.Look.TheVariants.{Fresh, Free, Full}
 use Rattle.nm_copyring.specs.declared.table.Lane.{Lane}
 use Rattle.nm_copyring.specs.declared.table.Entry.{Entry}
 
@@ -71,18 +72,32 @@ pub record Ring (n : ℕ) (words : List ℕ) (homes : List (maybe.Option Load)) 
 abbrev pub Knows : ℕ → ℕ → Entry → Type 0
 Knows n r e = (e.rank ≡ r) × (e.ranks ≡ n) × (length e.lanes ≡ n)
 
--- What holds between any two steps of any ranks: each entry stands in one view, and the places of each
--- pair are a window of its pieces
+-- what a rank found where it looked last still holds: its next place for that rank is free, or its next
+-- place of that rank is full
+abbrev pub Holds : ℕ → List ℕ → Entry → Type 0
+Holds n words e = (j : ℕ) → j < n
+    → (e.look ≡ Free j → slice_index words (place n e.rank j (length (lane e j).pushed % 4)) ≡ 0)
+    × (e.look ≡ Full j → 0 < slice_index words (place n j e.rank (length (lane e j).pulled % 4)))
+
+-- What holds between any two steps of any ranks: each entry stands in one view, the places of each pair
+-- are a window of its pieces, and what a rank found holds until it steps on
 pub record Rule (n : ℕ) (s : State Load (View Entry)) : Type 0 where
   pub ledger : ℕ → Entry
   pub spoken : Spoken rank_of ledger s.views
   pub knows : (r : ℕ) → r < n → Knows n r (ledger r)
   pub long : length s.words ≡ 4 * (n * n)
   pub rings : (i j : ℕ) → i < n → j < n → Ring n s.words s.homes i j (ledger i) (ledger j)
+  pub looks : (r : ℕ) → r < n → Holds n s.words (ledger r)
 
 -- a rank of n at the start
 abbrev pub newcomer : ℕ → ℕ → Entry
-newcomer n r = record { rank = r; ranks = n; lanes = replicate n new_lane; work = Idle }
+newcomer n r = record {
+  rank = r;
+  ranks = n;
+  lanes = replicate n new_lane;
+  work = Idle;
+  look = Fresh;
+}
 
 -- the k ranks from r on
 abbrev pub newcomers : ℕ → ℕ → ℕ → List Entry

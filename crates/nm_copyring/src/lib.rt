@@ -18,7 +18,8 @@
 //!
 //! # What a contract sees
 //! What a port's seat knows (`knows`): for each rank the list of the pieces that were pushed to it and of
-//! those that were pulled from it, how often its next place was found full, and how often empty.
+//! those that were pulled from it, how often its next place was found full, and how often empty. Beside
+//! that what it found where it looked last (`IsFree`, `IsFull`).
 //!
 //! # What is proved
 //! - The rule of the shared table holds between any two steps of any ranks: what was pushed to a rank is
@@ -28,13 +29,16 @@
 //!   sets a place of its caller's to the next piece by number, or answers that there is none where it loaded
 //!   the flag of the next place as 0, and then the count of empty places rose.
 //! - `can_push` and `can_pull` load the same flag without a piece: they answer whether the place is the
-//!   caller's, and count it where it isn't.
+//!   caller's, and count it where it isn't. Where it is, the seat knows from this load, and from nothing
+//!   else, that it is, and a push or a pull that follows can't fail.
 //! - After `close` what each rank pulled from another is the beginning of what was pushed to it, at most
-//!   four pieces are left between the two, and `left` is the number of all that are left.
+//!   four pieces are left between the two, and `left` is the number of all that are left, which the account
+//!   says wherever it goes.
 #![tactic(auto)]
 
 mod build;
 mod close;
+mod closing;
 mod counts;
 mod pieces;
 mod port;
@@ -47,5 +51,5 @@ pub use close::RingAccount;
 pub use pieces::{can_pull, can_push, pull, push};
 pub use port::{RingPort, Rings};
 pub use slots::Slot;
-pub use table::{Entry, Lane, Work};
+pub use table::{Entry, Lane, Look, Work};
 pub use tallies::Tally;

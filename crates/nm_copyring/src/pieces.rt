@@ -3,7 +3,7 @@
 ghost use Rattle.std.specs.Prelude.{◌≡◌, ◌+◌, ◌<◌, ◌≤◌, length};
 ghost use Rattle.std.specs.Prelude.{true, false};
 ghost use Rattle.nm_copyring.specs.Plays.{one_empty, one_full, one_pulled, one_pushed, with_lane};
-ghost use Rattle.nm_copyring.specs.Ports.{Owns, knows, pushed_to, pulled_from};
+ghost use Rattle.nm_copyring.specs.Ports.{IsFree, IsFull, Owns, knows, pushed_to, pulled_from};
 
 use crate::counts::{count_empty, count_full, count_pulled, count_pushed};
 use crate::port::{RingPort, Rings};
@@ -13,12 +13,14 @@ use nm_types::Piece;
 use std::sync::ledger::Ledger;
 
 /// Loads the flag of the next place for a rank, which may be the port's own, and answers whether a piece
-/// can be pushed to it. Where it can't, the place is counted as full, as `push` counts it.
+/// can be pushed to it: the next `push` to it then can't fail. Where it can't, the place is counted as
+/// full, as `push` counts it.
 pub fn can_push<L: Ledger>(r: &Rings, port: &mut RingPort, to: u8, steps: &mut Steps<L>) -> bool
     requires owns { Owns r.now port.old }
     requires to { to < r.now.ranks }
     ensures owns { Owns r.now port.new × (port.new.rank ≡ port.old.rank) }
     ensures free { result ≡ true → knows port.new ≡ knows port.old }
+    ensures looked { result ≡ true → IsFree port.new to }
     ensures full { result ≡ false → knows port.new ≡ with_lane one_full to (knows port.old) }
     ensures cost { steps.new ≡ steps.old + 1 }
 {
@@ -31,12 +33,14 @@ pub fn can_push<L: Ledger>(r: &Rings, port: &mut RingPort, to: u8, steps: &mut S
 }
 
 /// Loads the flag of the next place of a rank, which may be the port's own, and answers whether a piece
-/// can be pulled from it. Where it can't, the place is counted as empty, as `pull` counts it.
+/// can be pulled from it: the next `pull` from it then can't fail. Where it can't, the place is counted
+/// as empty, as `pull` counts it.
 pub fn can_pull<L: Ledger>(r: &Rings, port: &mut RingPort, sender: u8, steps: &mut Steps<L>) -> bool
     requires owns { Owns r.now port.old }
     requires sender { sender < r.now.ranks }
     ensures owns { Owns r.now port.new × (port.new.rank ≡ port.old.rank) }
     ensures full { result ≡ true → knows port.new ≡ knows port.old }
+    ensures looked { result ≡ true → IsFull port.new sender }
     ensures empty { result ≡ false → knows port.new ≡ with_lane one_empty sender (knows port.old) }
     ensures cost { steps.new ≡ steps.old + 1 }
 {
@@ -65,6 +69,7 @@ pub fn push<L: Ledger>(
     ensures pushed { result ≡ true
         → knows port.new ≡ with_lane (one_pushed piece.now) to (knows port.old) }
     ensures refused { result ≡ false → knows port.new ≡ with_lane one_full to (knows port.old) }
+    ensures sure { IsFree port.old to → result ≡ true }
     ensures cost { (result ≡ true → steps.new ≡ steps.old + 2)
         × (result ≡ false → steps.new ≡ steps.old + 1) }
     ensures bound { steps.new ≤ steps.old + 2 }
@@ -95,6 +100,7 @@ pub fn pull<L: Ledger>(
     ensures pulled { result ≡ true
         → knows port.new ≡ with_lane (one_pulled into.new) sender (knows port.old) }
     ensures missed { result ≡ false → knows port.new ≡ with_lane one_empty sender (knows port.old) }
+    ensures sure { IsFull port.old sender → result ≡ true }
     ensures cost { (result ≡ true → steps.new ≡ steps.old + 2)
         × (result ≡ false → steps.new ≡ steps.old + 1) }
     ensures bound { steps.new ≤ steps.old + 2 }

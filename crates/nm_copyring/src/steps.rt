@@ -4,7 +4,8 @@ ghost use Rattle.std.specs.Prelude.{◌≡◌, ◌+◌, ◌*◌, ◌%◌, ◌<�
 ghost use Rattle.std.specs.Prelude.{true, false};
 ghost use Rattle.nm_copyring.specs.Rule.{lane, place};
 ghost use Rattle.nm_copyring.specs.Plays.{one_empty, one_full, one_pulled, one_pushed, with_lane};
-ghost use Rattle.nm_copyring.specs.Plays.{IsOne, Rests, knowing, mine};
+ghost use Rattle.nm_copyring.specs.Plays.{IsOne, Rests, knowing, mine, unlooked, with_look};
+ghost use Rattle.nm_copyring.specs.declared.table.Look.TheVariants.{Free, Full};
 
 use crate::port::Rings;
 use crate::slots::{Slot, empty_slot, fill_slot};
@@ -88,7 +89,8 @@ pub(crate) fn is_free<L: Ledger>(
     requires next { (rank ≡ (mine seat.old.me).rank)
         × (number ≡ length (lane (mine seat.old.me) to).pushed) }
     ensures same { seat.new.table_id ≡ seat.old.table_id }
-    ensures free { result ≡ true → seat.new.me ≡ seat.old.me }
+    ensures free { result ≡ true
+        → seat.new.me ≡ knowing (with_look (Free to) (mine seat.old.me)) }
     ensures full { result ≡ false
         → seat.new.me ≡ knowing (with_lane one_full to (mine seat.old.me)) }
     ensures cost { steps.new ≡ steps.old + 1 }
@@ -113,7 +115,8 @@ pub(crate) fn is_full<L: Ledger>(
     requires next { (rank ≡ (mine seat.old.me).rank)
         × (number ≡ length (lane (mine seat.old.me) sender).pulled) }
     ensures same { seat.new.table_id ≡ seat.old.table_id }
-    ensures full { result ≡ true → seat.new.me ≡ seat.old.me }
+    ensures full { result ≡ true
+        → seat.new.me ≡ knowing (with_look (Full sender) (mine seat.old.me)) }
     ensures empty { result ≡ false
         → seat.new.me ≡ knowing (with_lane one_empty sender (mine seat.old.me)) }
     ensures cost { steps.new ≡ steps.old + 1 }
@@ -139,9 +142,10 @@ pub(crate) fn fill_next<L: Ledger>(
         × (piece.now.number ≡ length (lane (mine seat.old.me) to).pushed) }
     ensures same { seat.new.table_id ≡ seat.old.table_id }
     ensures pushed { result ≡ true
-        → seat.new.me ≡ knowing (with_lane (one_pushed piece.now) to (mine seat.old.me)) }
+        → seat.new.me ≡ knowing (with_lane (one_pushed piece.now) to (unlooked (mine seat.old.me))) }
     ensures refused { result ≡ false
         → seat.new.me ≡ knowing (with_lane one_full to (mine seat.old.me)) }
+    ensures sure { (mine seat.old.me).look ≡ Free to → result ≡ true }
     ensures cost { (result ≡ true → steps.new ≡ steps.old + 2)
         × (result ≡ false → steps.new ≡ steps.old + 1) }
 {
@@ -175,9 +179,11 @@ pub(crate) fn empty_next<L: Ledger>(
     ensures same { seat.new.table_id ≡ seat.old.table_id }
     ensures next { result ≡ true → (into.new.from ≡ sender) × (into.new.number ≡ number) }
     ensures pulled { result ≡ true
-        → seat.new.me ≡ knowing (with_lane (one_pulled into.new) sender (mine seat.old.me)) }
+        → seat.new.me
+        ≡ knowing (with_lane (one_pulled into.new) sender (unlooked (mine seat.old.me))) }
     ensures missed { result ≡ false
         → seat.new.me ≡ knowing (with_lane one_empty sender (mine seat.old.me)) }
+    ensures sure { (mine seat.old.me).look ≡ Full sender → result ≡ true }
     ensures cost { (result ≡ true → steps.new ≡ steps.old + 2)
         × (result ≡ false → steps.new ≡ steps.old + 1) }
 {

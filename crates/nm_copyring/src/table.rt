@@ -16,6 +16,15 @@ pub enum Work {
     Emptying(u64, Piece),
 }
 
+/// What a rank found where it looked last, at a place that is still its own. No value of it is made.
+pub enum Look {
+    Fresh,
+    /// Its next place for this rank is free.
+    Free(u64),
+    /// Its next place of this rank is full.
+    Full(u64),
+}
+
 /// What a rank pushed to another one, and pulled from it. No value of it is made.
 pub struct Lane {
     pub pushed: LinkedList<Piece>,
@@ -33,6 +42,7 @@ pub struct Entry {
     /// One for each rank, its own among them.
     pub lanes: LinkedList<Lane>,
     pub work: Work,
+    pub look: Look,
 }
 
 /// The rule of the rings' table (`Rule`), and the view of its first seat.

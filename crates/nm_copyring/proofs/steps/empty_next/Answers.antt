@@ -5,7 +5,7 @@ use Rattle.atomic_table.specs.Table.{Allows, step, rest}
 use Rattle.nm_types.specs.declared.packets.Piece.{Piece}
 use Rattle.nm_copyring.specs.declared.table.Work.TheVariants.{Emptying}
 use Rattle.nm_copyring.specs.Rule.{Load, Rule}
-use Rattle.nm_copyring.specs.Plays.{Knowing, mine, knowing, emptied, with_lane, one_pulled}
+use Rattle.nm_copyring.specs.Plays.{Knowing, mine, knowing, emptied, unlooked, with_lane, one_pulled}
 use Rattle.nm_copyring.proofs.KeptLemmas.{look_in_allowed, empty_allowed, same_piece}
 use Rattle.nm_copyring.proofs.PortLemmas.{working, in_is, piece_found, exchanged, pulled_after}
 use Rattle.nm_copyring.proofs.steps.empty_next.Goals as goal
@@ -86,6 +86,6 @@ returns-clause-pulled g c is_true = let r = c.args.r.now in let seat = c.args.se
     (Emptying from q) (Some q) none c.load.new.seat.me c.empty_slot.new.seat.me there.3
     c.empty_slot.ensures.emptied in
     let found = same_piece word q c.empty_slot.new.into (ap (λ m. m.1) there.3) c.empty_slot.ensures.piece in
-    subst (λ piece. c.store.new.seat.me ≡ knowing (with_lane (one_pulled piece) from (mine seat.me))) found
+    subst (λ piece. c.store.new.seat.me ≡ knowing (with_lane (one_pulled piece) from (unlooked (mine seat.me)))) found
     (pulled_after r.ranks slots word from seat.me rests.0 rests.1 c.requires.sender q
     c.empty_slot.new.seat.me c.store.new.seat.me lies c.store.ensures.2)

@@ -8,8 +8,8 @@ use Rattle.nm_seats.specs.Total.{total, sign}
 use Rattle.nm_seats.proofs.TotalLemmas.{positive}
 use Rattle.nm_copyring.specs.AtClose.{Gathered, Prefixed, not_pulled}
 use Rattle.nm_copyring.proofs.ClosingLemmas.{prefixes, left_over, one_more}
-use Rattle.nm_copyring.proofs.close.settle.Goals as goal
-use Rattle.nm_copyring.proofs.close.settle.Goals.{then-word-ne0, else-word-ne0}
+use Rattle.nm_copyring.proofs.closing.settle.Goals as goal
+use Rattle.nm_copyring.proofs.closing.settle.Goals.{then-word-ne0, else-word-ne0}
 
 pub loop-i-preserved : goal.loop-i-preserved
 loop-i-preserved c = let inv = c.loop-i.invariant in let i : ℕ = c.loop-i.i in

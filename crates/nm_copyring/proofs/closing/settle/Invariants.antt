@@ -2,7 +2,7 @@ use Rattle.std.proofs.Common.{◌≡◌, ℕ, ◌<◌, ◌≤◌, true, false, g
 use Rattle.std.specs.Prelude.{slice_index}
 use Rattle.std.specs.Slots.{slots_filled, slots_items, slots_len}
 use Rattle.nm_seats.specs.Total.{total, sign}
-use Rattle.nm_copyring.proofs.close.settle.Given as goal
+use Rattle.nm_copyring.proofs.closing.settle.Given as goal
 
 abbrev pub invariant-loop-i : goal.invariant-loop-i
 invariant-loop-i l = (l.closed.words ≡ l.initial.closed.words)

@@ -3,10 +3,10 @@ use Rattle.std.proofs.Common.{subst, arith, append_assoc, option_to_list}
 use Rattle.std.proofs.lemmas.List.{map-append}
 use Rattle.std.specs.Prelude.{slice_get}
 use Rattle.nm_seats.specs.Spoken.{view}
-use Rattle.nm_copyring.specs.Ports.{knows}
+use Rattle.nm_copyring.specs.Ports.{sees}
 use Rattle.nm_copyring.proofs.ListLemmas.{place_low}
 use Rattle.nm_copyring.proofs.ClosingLemmas.{merged}
-use Rattle.nm_copyring.proofs.close.gather.Goals as goal
+use Rattle.nm_copyring.proofs.closing.gather.Goals as goal
 use Rattle.nm_facts.proofs.Lists.{get_before, get_last, no_items}
 
 pub loop-port-init : goal.loop-port-init
@@ -18,8 +18,8 @@ loop-port-init c = let p = c.in-Some.last in let left = c.pop.new.self.items in
     let seat = c.into_seat-seat.ensures in let me = ap (λ s. s.me) seat ∙ p.rests.0 in (
       ap (λ s. s.table_id) seat ∙ ok.0.0,
       me ∙ ap (λ m. (view m.0.entries, [])) (sym me),
-      ap (λ m. map knows left ++ m.0.entries) me
-          ∙ sym (ap (map knows) is ∙ map-append knows left (p ∷ [])),
+      ap (λ m. map sees left ++ m.0.entries) me
+          ∙ sym (ap (map sees) is ∙ map-append sees left (p ∷ [])),
       λ k x at. subst (λ l. slice_get l k ≡ Some x) (sym is) (get_before left (p ∷ []) k x at),
     )
 
@@ -50,9 +50,9 @@ loop-port-preserved c = let h = c.loop-port.invariant in let p = c.in-Some-pop.p
     let me = j.2 ∙ (λ i. (view ((own i).0.entries ++ old), (h.1 i).1)) in (
       j.0 ∙ h.0,
       me ∙ ap (λ m. (view m.0.entries, [])) (sym me),
-      ap (λ m. map knows left ++ m.0.entries) me
-          ∙ sym (append_assoc (map knows left) (knows p ∷ []) old) ∙ ap (λ u. u ++ old)
-          (sym (ap (map knows) is ∙ map-append knows left (p ∷ []))) ∙ h.2,
+      ap (λ m. map sees left ++ m.0.entries) me
+          ∙ sym (append_assoc (map sees left) (sees p ∷ []) old) ∙ ap (λ u. u ++ old)
+          (sym (ap (map sees) is ∙ map-append sees left (p ∷ []))) ∙ h.2,
       λ k x at. h.3 k x (subst (λ l. slice_get l k ≡ Some x) (sym is)
           (get_before left (p ∷ []) k x at)),
     )
@@ -61,6 +61,6 @@ pub returns-clause-all : goal.returns-clause-all
 returns-clause-all c = let h = c.loop-port.invariant in
     let none : length c.loop-port.ports.items ≡ 0 = search rules in
     let empty = no_items c.loop-port.ports.items none in
-    let all : c.loop-port.seat.me.0.entries ≡ map knows c.args.ports.items =
-    sym (ap (λ l. map knows l ++ c.loop-port.seat.me.0.entries) empty) ∙ h.2 in
+    let all : c.loop-port.seat.me.0.entries ≡ map sees c.args.ports.items =
+    sym (ap (λ l. map sees l ++ c.loop-port.seat.me.0.entries) empty) ∙ h.2 in
     h.1 ∙ ap (λ es. (view es, [])) all
