@@ -95,7 +95,7 @@ impl Fabric {
     /// passed on of another is the beginning of what that one sent to it. Where each packet that
     /// was sent was passed on, every cell is in its owner's free queue.
     pub fn close(self, ports: Vec<Port>) -> Closed
-        requires count { (length ports.items ≡ self.ranks) × (0 < self.ranks) }
+        requires count { length ports.items ≡ self.ranks }
         requires ports { (k : ℕ) (p : Port) → slice_get ports.items k ≡ Some p → Owns self p
             × (p.rank ≡ k) × (p.hands ≡ 0) }
         ensures entries { entries result ≡ map knows ports.items }

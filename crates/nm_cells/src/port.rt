@@ -27,6 +27,7 @@ pub struct Fabric {
         × (board.shared.table_id.slots ≡ ranks * each + 4 * (ranks * ranks)) },
     pub ghost room: { (counted.items ≡ []) × (ranks ≤ vec_capacity counted) },
     pub ghost small: { (ranks ≤ 64) × (0 < each) × (each ≤ 64) × (ranks * each ≤ 4096) },
+    pub ghost some: { 0 < ranks },
 }
 
 /// The token of one rank. It has a seat of the fabric's table, and what its program has to remember

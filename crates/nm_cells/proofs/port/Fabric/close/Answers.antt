@@ -15,7 +15,7 @@ use Rattle.nm_facts.proofs.Lists.{map_length}
 use Rattle.nm_seats.proofs.ListLemmas.{get_mapped}
 
 pub split_seat-requires : goal.split_seat-requires
-split_seat-requires c = let f = c.args.self in let z = f.sizes.0 in let some = c.requires.count.1 in
+split_seat-requires c = let f = c.args.self in let z = f.sizes.0 in let some = f.some in
     let seat = c.gather-seat in let low : 0 < f.board.shared.table_id.words = omega arith in (
       seat.ensures.table,
       low,
@@ -28,7 +28,7 @@ settle-cells-requires-clause-all c = let items = c.args.ports.items in
     ap (λ m. m.0) c.split_seat.ensures.2 ∙ ap (λ m. m.0) c.gather-seat.ensures.all in
     let is : c.split_seat.new.seat.me.0.entries ≡ map knows items = ap (λ v. v.entries) whole in (
       (
-        ap length is ∙ map_length knows items ∙ c.requires.count.0,
+        ap length is ∙ map_length knows items ∙ c.requires.count,
         λ k e at. let p = get_mapped knows items k e
             (subst (λ l. get_elem? l k ≡ maybe.some e) is at) in
             let ok = c.requires.ports k p.0 p.1 in (
@@ -86,7 +86,7 @@ invariant_of-result c = let f = c.args.self in let items = c.args.ports.items in
     let settled = subst (λ l. Settled f.board.shared.key l home)
     (is ∙ sym listed) c.settle-cells.ensures.settled in
     record {
-      tallied = tallied f items c.requires.count.0 c.requires.ports es ps home listed counted
+      tallied = tallied f items c.requires.count c.requires.ports es ps home listed counted
           settled;
     }
 
@@ -104,7 +104,7 @@ returns-clause-counts c = let f = c.args.self in let items = c.args.ports.items 
     let home = c.settle-cells.result.home in
     let settled = subst (λ l. Settled f.board.shared.key l home)
     (is ∙ sym listed) c.settle-cells.ensures.settled in
-    counts f items c.requires.count.0 c.requires.ports es ps home listed counted settled
+    counts f items c.requires.count c.requires.ports es ps home listed counted settled
 
 pub returns-clause-prefix : goal.returns-clause-prefix
 returns-clause-prefix c = let f = c.args.self in let items = c.args.ports.items in
@@ -120,7 +120,7 @@ returns-clause-prefix c = let f = c.args.self in let items = c.args.ports.items 
     let home = c.settle-cells.result.home in
     let settled = subst (λ l. Settled f.board.shared.key l home)
     (is ∙ sym listed) c.settle-cells.ensures.settled in
-    prefix f items c.requires.count.0 c.requires.ports es ps home listed counted settled
+    prefix f items c.requires.count c.requires.ports es ps home listed counted settled
 
 pub returns-clause-all_taken : goal.returns-clause-all_taken
 returns-clause-all_taken c even = let f = c.args.self in let items = c.args.ports.items in
@@ -137,4 +137,4 @@ returns-clause-all_taken c even = let f = c.args.self in let items = c.args.port
     let settled = subst (λ l. Settled f.board.shared.key l home)
     (is ∙ sym listed) c.settle-cells.ensures.settled in
     c.settle-cells.ensures.home (subst (AllCame f.ranks) (listed ∙ sym is)
-    (all_came f items c.requires.count.0 c.requires.ports es ps home listed counted settled even))
+    (all_came f items c.requires.count c.requires.ports es ps home listed counted settled even))
