@@ -1,6 +1,5 @@
 -- A new bucket leaves the others, and none is empty.
-use Rattle.std.proofs.Common.{rules, Option, Some, cond, ◌∙◌, sym, ap}
-use Rattle.std.specs.BTreeMap.{BTreeMap}
+use Rattle.std.proofs.Common.{rules, Some, cond, ◌∙◌, sym, ap}
 use Rattle.nm_match.specs.Picks.{same_picks}
 use Rattle.nm_match.proofs.BucketLemmas.{full_written, put_in, some_there, stays_filled}
 use Rattle.nm_match.proofs.buckets.add.Goals as goal
