@@ -165,7 +165,7 @@ commanded_from eager commands b (e ∷ events) each none =
         AllByRecursion (IsCommanded commands) (starts_since b)
         × (IsCommanded commands w × AllByRecursion (λ e. IsCommanded commands e.what) events)
     by_what (Ran line answer) right since later =
-        (run_starts eager commands b line (is_started answer) (starts_since b) right, (tt, later))
+        (run_starts eager commands b line (is_started answer) (starts_since b) right.0, (tt, later))
     by_what (Send to n tag ctx len how line) right since later =
         let parts = all_split (IsCommanded commands) (starts_since b) (Send to n tag ctx len how line ∷ [])
         (subst (λ (ws : List Happened). AllByRecursion (IsCommanded commands) ws)

@@ -1,6 +1,6 @@
 -- The rule on starts, by the sends and receives since the last answer.
-use Rattle.std.proofs.Common.{◌≡◌, ℕ, ◌≤◌, Bool, false, Option, Some, None, List, [], ◌∷◌, length, take}
-use Rattle.std.proofs.Common.{sym, ◌∙◌, ap}
+use Rattle.std.proofs.Common.{◌≡◌, ℕ, ◌≤◌, Bool, true, false, ◌&&◌, Option, Some, None, List, [], ◌∷◌, length, take}
+use Rattle.std.proofs.Common.{refl, sym, ◌∙◌, ap}
 use Rattle.std.proofs.Common.{subst, arith}
 use Rattle.std.specs.Prelude.{IsSomeAnd, IsTrue, map, option_and_then, option_map, if◌then◌else◌}
 use Rattle.std.specs.List.{slice_get}
@@ -14,13 +14,13 @@ use Rattle.nm_history.specs.declared.events.Event.{Event}
 use Rattle.nm_history.specs.declared.events.Happened.{Happened}
 use Rattle.nm_history.specs.declared.events.Happened.TheVariants as happening
 use Rattle.nm_history.specs.Answers.{Message as Claimed, is_started, live_message}
-use Rattle.nm_history.specs.RankRun.{StartAt, is_start, start_of, starts_since, without_number}
+use Rattle.nm_history.specs.RankRun.{StartAt, is_start, lacks_message, start_of, starts_since, without_number}
 use Rattle.nm_places.specs.Deciding.{Decides}
 use Rattle.nm_places.specs.declared.firsts.Message.{Message}
 use Rattle.nm_asked.specs.Asked.{asked_message, handle_of, message_meant}
 use Rattle.nm_asked.specs.SinceAnswer.{IsSince, of_kind}
 use Rattle.nm_asked.specs.declared.since.Since.TheVariants.{One}
-use Rattle.nm_check_paired.specs.Handles.{IsOfHandle}
+use Rattle.nm_check_paired.specs.Handles.{IsOfHandle, IsStart}
 use Rattle.nm_check_paired.proofs.DecideLemmas.{decides_by}
 use Rattle.nm_facts.proofs.Lists.{no_items}
 
@@ -50,34 +50,36 @@ few_started eager commands before line (command.Cancel q) = omega arith
 few_started eager commands before line (command.Mprobe m from tag ctx) = omega arith
 
 module _ (eager : ℕ) (commands : List Numbered) (h : List Event) (k line : ℕ) (c : Command) where
-  abbrev Called : List Happened
-  Called = start_of eager commands (take k h) line c
+  abbrev Called : List Happened → Type 0
+  Called starts = IsStart eager commands (take k h) line c starts
 
   pub more_started : 2 ≤ length (of_kind is_start (take k h)) →
-      map without_number (of_kind is_start (take k h)) ≡ Called → ⊥
-  more_started many same =
+      Called (map without_number (of_kind is_start (take k h))) → ⊥
+  more_started many called =
       let few = few_started eager commands (take k h) line c in
       let mapped : length (map without_number (of_kind is_start (take k h))) ≡ length (of_kind is_start (take k h)) =
       length-map (of_kind is_start (take k h)) without_number in
-      let lengths : length (map without_number (of_kind is_start (take k h))) ≡ length Called = ap length same in
+      let lengths : length (map without_number (of_kind is_start (take k h)))
+      ≡ length (start_of eager commands (take k h) line c) = ap length called.0 in
       omega (arith, few, mapped, lengths, many)
 
-  pub none_started : (r : Bool) → of_kind is_start (take k h) ≡ [] → Decides r ([] ≡ Called) →
-      Decides r (map without_number (of_kind is_start (take k h)) ≡ Called)
+  pub none_started : (r : Bool) → of_kind is_start (take k h) ≡ [] → Decides r (Called []) →
+      Decides r (Called (map without_number (of_kind is_start (take k h))))
   none_started r none right =
-      subst (λ (xs : List Happened). Decides r (map without_number xs ≡ Called)) (sym none) right
+      subst (λ (xs : List Happened). Decides r (Called (map without_number xs))) (sym none) right
 
   pub one_started : (r : Bool) (t : ℕ) → ((e : Event) → slice_get h t ≡ Some e →
-      Decides r (without_number e.what ∷ [] ≡ Called)) →
-      IsSince is_start h k (One t) → Decides r (map without_number (of_kind is_start (take k h)) ≡ Called)
+      Decides r (Called (without_number e.what ∷ []))) →
+      IsSince is_start h k (One t) → Decides r (Called (map without_number (of_kind is_start (take k h))))
   one_started r t right since = by_event (slice_get h t) right since
     where
-      by_event : (o : Option Event) → ((e : Event) → o ≡ Some e → Decides r (without_number e.what ∷ [] ≡ Called)) →
+      by_event : (o : Option Event) → ((e : Event) → o ≡ Some e → Decides r (Called (without_number e.what ∷ []))) →
           IsSomeAnd o (λ e. of_kind is_start (take k h) ≡ e.what ∷ []) →
-          Decides r (map without_number (of_kind is_start (take k h)) ≡ Called)
+          Decides r (Called (map without_number (of_kind is_start (take k h))))
       by_event None right since = absurd since
       by_event (Some e) right since =
-          subst (λ (xs : List Happened). Decides r (map without_number xs ≡ Called)) (sym since) (right e (λ i. Some e))
+          subst (λ (xs : List Happened). Decides r (Called (map without_number xs))) (sym since)
+          (right e (λ i. Some e))
 
 -- the message of the handle of the command of a line
 pub of_handle : (commands : List Numbered) (before : List Event) (line : ℕ) (answer : Answer) (c : Command)
@@ -91,28 +93,30 @@ of_handle commands before line answer c message at asked = λ m handle.
     ∙ ap (λ (o : Option ℕ). option_and_then (live_message commands before) o) handle
 
 module _ (eager : ℕ) (commands : List Numbered) (before : List Event) (line : ℕ) (answer : Answer) (r : Bool) where
+  abbrev Right : Bool → Option Command → Type 0
+  Right b o = (map without_number (starts_since before)
+      ≡ (if b then option_map_or (start_of eager commands before line) o [] else []))
+      × ((b && option_map_or (lacks_message commands before) o false) ≡ false)
+
   -- an answer that a start was taken
   pub taken_decided : (o : Option Command) → o ≡ command_at commands line → IsTrue (is_started answer) →
-      Decides r (map without_number (starts_since before) ≡ option_map_or (start_of eager commands before line) o []) →
-      Decides r (StartAt eager commands before (happening.Ran line answer))
+      Decides r (Right true o) → Decides r (StartAt eager commands before (happening.Ran line answer))
   taken_decided o at started right =
-      subst (λ (b : Bool). Decides r (map without_number (starts_since before)
-      ≡ (if b then option_map_or (start_of eager commands before line) (command_at commands line) [] else [])))
-      (sym started)
-      (subst (λ (o : Option Command). Decides r (map without_number (starts_since before)
-      ≡ option_map_or (start_of eager commands before line) o [])) at right)
+      subst (λ (b : Bool). Decides r (Right b (command_at commands line))) (sym started)
+      (subst (λ (o : Option Command). Decides r (Right true o)) at right)
 
-  pub empty_decided : Decides r (starts_since before ≡ []) → Decides r (map without_number (starts_since before) ≡ [])
+  -- .. of a line that is no command's
+  pub empty_decided : Decides r (starts_since before ≡ []) → Decides r (Right true None)
   empty_decided right =
-      decides_by r (λ none. ap (λ (xs : List Happened). map without_number xs) none)
+      decides_by r (λ none. (ap (λ (xs : List Happened). map without_number xs) none, refl))
       (λ none. no_items (starts_since before)
-      (sym (length-map (starts_since before) without_number) ∙ ap length none)) right
+      (sym (length-map (starts_since before) without_number) ∙ ap length none.0)) right
 
   -- .. that none was
   pub refused_decided : is_started answer ≡ false → Decides r (starts_since before ≡ []) →
       Decides r (StartAt eager commands before (happening.Ran line answer))
   refused_decided refused right =
-      subst (λ (b : Bool). Decides r (map without_number (starts_since before)
-      ≡ (if b then option_map_or (start_of eager commands before line) (command_at commands line) [] else [])))
-      (sym refused)
-      (empty_decided right)
+      subst (λ (b : Bool). Decides r (Right b (command_at commands line))) (sym refused)
+      (decides_by r (λ none. (ap (λ (xs : List Happened). map without_number xs) none, refl))
+      (λ none. no_items (starts_since before)
+      (sym (length-map (starts_since before) without_number) ∙ ap length none.0)) right)

@@ -1,7 +1,7 @@
 //! Whether starts have their sends and receives.
 
 ghost use Rattle.std.specs.Prelude.{◌≡◌, ◌&&◌, ℕ, not, IsTrue, List, Option, Some, [], ◌∷◌, map};
-ghost use Rattle.std.specs.Prelude.{option_map, slice_get, take};
+ghost use Rattle.std.specs.Prelude.{false, is_some, option_map, slice_get, take};
 ghost use Rattle.std.specs.Option.{option_map_or};
 ghost use Rattle.nm_types.specs.Bodies.{body_len};
 ghost use Rattle.nm_types.specs.Commands.{Numbered, commands_of};
@@ -10,12 +10,12 @@ ghost use Rattle.nm_types.specs.declared.scripts.Command as script_command;
 ghost use Rattle.nm_history.specs.declared.events.Event as event;
 ghost use Rattle.nm_history.specs.declared.events.Happened.TheVariants.{Match, Post, Ran, Send};
 ghost use Rattle.nm_history.specs.Answers.{is_started as is_started_lem};
-ghost use Rattle.nm_history.specs.RankRun.{StartAt, Starts, is_start, start_of, without_number};
+ghost use Rattle.nm_history.specs.RankRun.{StartAt, Starts, is_start, without_number};
 ghost use Rattle.nm_history.specs.RankRun.{how_of as how_of_lem};
 ghost use Rattle.nm_places.specs.Deciding.{Decides};
 ghost use Rattle.nm_asked.specs.Asked.{message_meant};
 ghost use Rattle.nm_asked.specs.SinceAnswer.{IsSince, of_kind};
-ghost use Rattle.nm_check_paired.specs.Handles.{IsOfHandle};
+ghost use Rattle.nm_check_paired.specs.Handles.{IsOfHandle, IsStart};
 ghost use Rattle.nm_check_paired.specs.Tabled.{AreTables};
 
 use crate::tables::Tables;
@@ -158,11 +158,11 @@ fn is_match_of(what: &Happened, message: Message, cap: u32, line: u32) -> bool
     }
 }
 
-/// Whether an event is the receive of this claimed message, but for its number.
+/// Whether there is a claimed message, and an event is the receive of it, but for its number.
 fn is_its_match(what: &Happened, message: Option<Message>, cap: u32, line: u32) -> bool
-    ensures { Decides result (without_number what.now ∷ []
+    ensures { Decides result ((without_number what.now ∷ []
         ≡ option_map_or (λ m. Match 0 m.from m.n cap line ∷ [])
-        (option_map message_meant message) []) }
+        (option_map message_meant message) []) × (not (is_some message) ≡ false)) }
 {
     match message {
         Some(message) => is_match_of(what, message, cap, line),
@@ -170,7 +170,8 @@ fn is_its_match(what: &Happened, message: Option<Message>, cap: u32, line: u32) 
     }
 }
 
-/// Whether an event is the one that the command of a line starts, but for its number.
+/// Whether an event is the one that the command of a line starts, but for its number. A matched receive
+/// starts none where its handle has no live message.
 fn is_start_of(
     what: &Happened,
     command: &Command,
@@ -181,7 +182,7 @@ fn is_start_of(
     ensures { (commands : List Numbered) (before : List event.Event) →
         IsOfHandle commands before command.now message →
         Decides result
-        (without_number what.now ∷ [] ≡ start_of eager commands before line command.now) }
+        (IsStart eager commands before line command.now (without_number what.now ∷ [])) }
 {
     match command {
         Command::Send {
@@ -218,22 +219,20 @@ fn is_start_there(
 ) -> bool
     ensures { (commands : List Numbered) (before : List event.Event) (e : event.Event) →
         slice_get events.now place ≡ Some e → IsOfHandle commands before command.now message →
-        Decides result
-        (without_number e.what ∷ [] ≡ start_of eager commands before line command.now) }
+        Decides result (IsStart eager commands before line command.now (without_number e.what ∷ [])) }
 {
     place < events.len() && is_start_of(&events[place].what, command, message, line, eager)
 }
 
 /// Whether a command starts nothing.
-fn starts_nothing(command: &Command, message: Option<Message>) -> bool
+fn starts_nothing(command: &Command) -> bool
     ensures { (eager line : ℕ) (commands : List Numbered) (before : List event.Event) →
-        IsOfHandle commands before command.now message →
-        Decides result ([] ≡ start_of eager commands before line command.now) }
+        Decides result (IsStart eager commands before line command.now []) }
 {
     match command {
         Command::Send { .. } => false,
         Command::Recv { .. } => false,
-        Command::Mrecv { .. } => message.is_none(),
+        Command::Mrecv { .. } => false,
         _ => true,
     }
 }
@@ -249,11 +248,11 @@ fn are_of_start(
 ) -> bool
     ensures { (commands : List Numbered) (k : ℕ) → IsSince is_start events.now k since →
         IsOfHandle commands (take k events.now) command.now message →
-        Decides result (map without_number (of_kind is_start (take k events.now))
-        ≡ start_of eager commands (take k events.now) line command.now) }
+        Decides result (IsStart eager commands (take k events.now) line command.now
+        (map without_number (of_kind is_start (take k events.now)))) }
 {
     match since {
-        Since::Nothing => starts_nothing(command, message),
+        Since::Nothing => starts_nothing(command),
         Since::One(place) => is_start_there(events, place, command, message, line, eager),
         Since::More => false,
     }

@@ -1,15 +1,20 @@
--- What a request came to is a result.
-use Rattle.std.proofs.Common.{◌≡◌, ℕ, Bool, true, false, cond, Option, Some, None, List, refl, subst, arith}
-use Rattle.std.specs.Prelude.{nat_lt, replicate}
+-- What a request came to is a result, and what a start that was taken has.
+use Rattle.std.proofs.Common.{◌≡◌, ℕ, Bool, true, false, ◌&&◌, not, cond, Option, Some, None, List, refl, sym, ◌∙◌, ap}
+use Rattle.std.proofs.Common.{subst, arith}
+use Rattle.std.specs.Prelude.{is_some, nat_lt, replicate}
 use Rattle.std.specs.Option.{option_and_then}
 use Rattle.nm_types.specs.declared.answers.Answer.{Answer}
 use Rattle.nm_types.specs.declared.answers.Answer.TheVariants as answer
+use Rattle.nm_types.specs.declared.scripts.Command.{Command}
+use Rattle.nm_types.specs.declared.scripts.Command.TheVariants as command
+use Rattle.nm_types.specs.Commands.{Numbered}
 use Rattle.nm_history.specs.declared.events.Event.{Event}
 use Rattle.nm_history.specs.declared.plain.Pair.{Pair}
-use Rattle.nm_history.specs.Answers.{is_result, without_bytes}
+use Rattle.nm_history.specs.Answers.{Message, answer_of, is_result, is_started, live, live_message, without_bytes}
 use Rattle.nm_history.specs.Completion.{Request, is_complete, is_here, pair_of_receive, result_of, shown}
 use Rattle.nm_history.specs.Completion.Request.{Sending, Receiving}
 use Rattle.nm_history.specs.Happens.{happened, is_cancel, is_undone}
+use Rattle.nm_history.specs.RankRun.{lacks_message}
 
 -- a result is one
 pub shown_is_result : (pair : Pair) (b : Bool) →
@@ -51,3 +56,30 @@ result_is_result h (Sending to n) a same =
 pub bytes_no_matter : (a : Answer) → is_result (without_bytes a) ≡ is_result a
 bytes_no_matter (answer.Got from tag body) = refl
 bytes_no_matter a = refl
+
+-- what is no yes to a start is none without its bytes, too
+not_started : (x y : Answer) → is_started y ≡ false → Some y ≡ Some (without_bytes x) → is_started x ≡ false
+not_started x y none same =
+    let is : y ≡ without_bytes x = cc in by_answer x (ap is_started (sym is) ∙ none)
+  where
+    by_answer : (x : Answer) → is_started (without_bytes x) ≡ false → is_started x ≡ false
+    by_answer (answer.Got from tag body) none = refl
+    by_answer x none = none
+
+never : (b : Bool) → (b && false) ≡ false
+never true = refl
+never false = refl
+
+-- a matched receive that was taken has a live message of its handle
+pub taken_has_message : (commands : List Numbered) (h : List Event) (line : ℕ) (x : Answer) (c : Command) →
+    answer_of commands h line c ≡ Some (without_bytes x) → (is_started x && lacks_message commands h c) ≡ false
+taken_has_message commands h line x (command.Mrecv q m cap) right =
+    by_message (is_some (live commands h q)) (live_message commands h m) right
+  where
+    by_message : (named : Bool) (o : Option Message) →
+        Some (cond named answer.Busy (cond (is_some o) answer.Started answer.Null)) ≡ Some (without_bytes x) →
+        (is_started x && not (is_some o)) ≡ false
+    by_message named (Some message) right = never (is_started x)
+    by_message true None right = ap (λ b. b && true) (not_started x answer.Busy refl right)
+    by_message false None right = ap (λ b. b && true) (not_started x answer.Null refl right)
+taken_has_message commands h line x c right = never (is_started x)

@@ -22,6 +22,7 @@ use Rattle.nm_history.proofs.RankRunLemmas.{since-push}
 use Rattle.nm_history.proofs.RankRunLemmas.{not_answer, no_answer, take_next, always, ran_lines-push}
 use Rattle.nm_facts.proofs.Truth.{and_left, and_right}
 use Rattle.nm_history.proofs.AppendLemmas.{since_grows}
+use Rattle.nm_history.proofs.ResultLemmas.{taken_has_message}
 
 -- a rank's history, in the middle of a command
 pub record Doing (eager : ℕ) (commands : List Numbered) (at : ℕ) (h : List Event) : Type 0 where
@@ -205,7 +206,8 @@ answered eager commands at stamp h x n s c l doing since here named right made o
       };
       starts = record {
         made = always (StartAt eager commands) h e doing.starts
-            (rw named (ap (λ (w : List Happened). map without_number w) since.starts ∙ made));
+            (rw named (ap (λ (w : List Happened). map without_number w) since.starts ∙ made,
+            taken_has_message commands h n.line x n.command right));
         no_others = ap (λ (w : List Happened). filter is_start w) (since-push h e);
       };
       cancels = record {

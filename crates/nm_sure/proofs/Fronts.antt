@@ -364,8 +364,8 @@ pub started_so : (eager : ℕ) (commands : List Numbered) (h : List Event) (line
     StartAt eager commands h (event.Ran line a) → command_at commands line ≡ Some c →
     map without_number (starts_since h) ≡ cond (is_started a) (start_of eager commands h line c) []
 started_so eager commands h line a c right at' =
-    right ∙ ap (λ (o : Option Command). cond (is_started a) (option_map_or (start_of eager commands h line) o []) [])
-    at'
+    right.0
+    ∙ ap (λ (o : Option Command). cond (is_started a) (option_map_or (start_of eager commands h line) o []) []) at'
 
 -- one event more
 front_step : (eager : ℕ) (commands : List Numbered) (h : List Event) (stamp : ℕ) (what : Happened) (lines : List ℕ)

@@ -9,7 +9,7 @@ pub returns-in-Nothing : goal.returns-in-Nothing
 returns-in-Nothing c = λ commands k since held.
     none_started c.args.eager commands c.args.events.now k c.args.line c.args.command.now c.starts_nothing.result
     (subst (λ (s : Since). IsSince is_start c.args.events.now k s) c.in-Nothing.is since)
-    (c.starts_nothing.ensures c.args.eager c.args.line commands (take k c.args.events.now) held)
+    (c.starts_nothing.ensures c.args.eager c.args.line commands (take k c.args.events.now))
 
 pub returns-in-One : goal.returns-in-One
 returns-in-One c = λ commands k since held.
