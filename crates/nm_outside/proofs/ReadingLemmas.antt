@@ -1,18 +1,19 @@
 -- What a source has lost while it was read.
 use Rattle.std.proofs.Common.{◌≡◌, ℕ, ◌+◌, ◌≤◌, List, length, drop, Option, Some, None, ap, sym, ◌∙◌}
 use Rattle.std.proofs.Math.Seq.{drop-append_seam, drop-append-add}
-use Rattle.nm_outside.specs.Told.{Moves, ReadSoFar, LosesAtMost}
+use Rattle.nm_outside.specs.Told.{Moves, ReadSoFar, Stays, LosesAtMost}
 
--- what was read is lost
+-- what was read is lost, and a failed read loses no more
 pub loses_read :
-    (limit : ℕ) (old new : Option (List ℕ)) (read : List ℕ)
-    → ReadSoFar old new read → length read ≤ limit
+    (limit : ℕ) (old mid new : Option (List ℕ)) (read : List ℕ)
+    → ReadSoFar old mid read → Stays mid new → length read ≤ limit
     → LosesAtMost limit old new
-loses_read limit (Some all) new read w within =
+loses_read limit (Some all) mid new read w stays within =
+    let left : Stays (Some w.0) new = rw w.1 at stays in
     let rest : drop (length read) all ≡ w.0 =
     ap (drop (length read)) w.2 ∙ drop-append_seam read w.0 in
-    (length read, within, w.1 ∙ ap Some (sym rest))
-loses_read limit None new read w within = w
+    (length read, within, left ∙ ap Some (sym rest))
+loses_read limit None mid new read w stays within = tt
 
 -- what was read is lost, and what one more read moved
 pub loses_piece :
@@ -24,4 +25,4 @@ loses_piece limit n (Some all) mid new read buffer w moved within =
     let rest : drop (length read + n) all ≡ drop n w.0 =
     ap (drop (length read + n)) w.2 ∙ drop-append-add read w.0 n in
     (length read + n, within, piece.2 ∙ ap Some (sym rest))
-loses_piece limit n None mid new read buffer w moved within = rw w at moved
+loses_piece limit n None mid new read buffer w moved within = tt

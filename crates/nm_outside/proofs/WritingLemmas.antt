@@ -27,4 +27,4 @@ more_written (Some o) mid new bytes rest count w within piece =
     (w.0 + count, fits, rest_is w.0 count bytes rest w.2, now ∙ ap Some whole)
 more_written None mid new bytes rest count w within piece =
     let fits : w.0 + count ≤ length bytes = omega (arith, length-drop w.0 bytes, ap length w.2) in
-    (w.0 + count, fits, rest_is w.0 count bytes rest w.2, rw w.3 at piece)
+    (w.0 + count, fits, rest_is w.0 count bytes rest w.2, tt)

@@ -1,6 +1,6 @@
 //! Reading to the end, or to a limit.
 
-ghost use Rattle.std.specs.Prelude.{◌≡◌, ◌≤◌, length, take, IfOk, IfSome};
+ghost use Rattle.std.specs.Prelude.{◌≡◌, ◌≢◌, ◌≤◌, length, take, IfOk, IfSome};
 ghost use Rattle.nm_outside.specs.Told.{Rose, ReadSoFar, LosesAtMost};
 
 use crate::{Failed, Source};
@@ -52,6 +52,7 @@ pub fn read_up_to<S: Source>(alloc: Global, source: &mut S, limit: usize) -> Res
         (λ read. ReadSoFar (S.left source.old) (S.left source.new) read.items) }
     ensures taken { LosesAtMost limit (S.left source.old) (S.left source.new) }
     ensures later { S.faults source.old ≤ S.faults source.new }
+    ensures quiet { result ≢ Err Unread.Failed → S.faults source.new ≡ S.faults source.old }
     ensures cause { result ≡ Err Unread.Failed
         → Rose (S.faults source.old) (S.faults source.new) }
 {

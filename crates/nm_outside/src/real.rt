@@ -1,13 +1,12 @@
 //! A std reader as a source, and a std writer as a sink.
 
-ghost use Rattle.std.specs.Prelude.{◌≡◌, ◌<◌, ◌≤◌, None, IsErr, IfOk, length};
-ghost use Rattle.std.specs.Io.KnownBytes.{ReadConsumes, WriteAppends};
-ghost use Rattle.nm_outside.specs.Told.{Rose};
+ghost use Rattle.std.specs.Prelude.{◌≡◌};
 
 use crate::{Failed, Sink, Source};
 use std::io::{Read, Write};
 
-/// A std reader. It tells no bytes, and counts the reader's errors.
+/// A std reader. It tells the bytes that the reader has left, where std knows them, and counts the
+/// reader's errors.
 #[derive(Drop)]
 pub struct RealSource<R> {
     pub reader: R,
@@ -24,18 +23,12 @@ impl<R: Read> RealSource<R> {
 }
 
 impl<R: Read> Source for RealSource<R> {
-    ghost left = { λ _. None };
+    ghost left = { λ s. R.remaining s.reader };
 
     ghost faults = { λ s. s.faults };
 
     /// Gives what one read of the reader gives.
-    fn read(&mut self, buf: &mut [u8]) -> Result<usize, Failed>
-        ensures within { IfOk result (λ n. n ≤ length buf.old) }
-        ensures given { ReadConsumes (R.remaining self.old.reader) (R.remaining self.new.reader)
-            result buf.new }
-        ensures later { self.old.faults ≤ self.new.faults }
-        ensures cause { IsErr result → Rose self.old.faults self.new.faults }
-    {
+    fn read(&mut self, buf: &mut [u8]) -> Result<usize, Failed> {
         match self.reader.read(buf) {
             Ok(count) => Ok(count),
             Err(_) => {
@@ -46,8 +39,8 @@ impl<R: Read> Source for RealSource<R> {
     }
 }
 
-/// A std writer. It tells no bytes, and counts the writer's errors. A writer that takes nothing of
-/// some bytes has failed.
+/// A std writer. It tells the bytes that the writer holds, where std knows them, and counts the
+/// writer's errors. A writer that takes nothing of some bytes has failed.
 #[derive(Drop)]
 pub struct RealSink<W> {
     pub writer: W,
@@ -64,19 +57,12 @@ impl<W: Write> RealSink<W> {
 }
 
 impl<W: Write> Sink for RealSink<W> {
-    ghost taken = { λ _. None };
+    ghost taken = { λ s. W.contents s.writer };
 
     ghost faults = { λ s. s.faults };
 
     /// Takes what one write of the writer takes.
-    fn write(&mut self, bytes: &[u8]) -> Result<usize, Failed>
-        ensures within { IfOk result (λ n. n ≤ length bytes.now) }
-        ensures some { 0 < length bytes.now → IfOk result (λ n. 0 < n) }
-        ensures written { WriteAppends (W.contents self.old.writer) (W.contents self.new.writer)
-            result bytes.now }
-        ensures later { self.old.faults ≤ self.new.faults }
-        ensures cause { IsErr result → Rose self.old.faults self.new.faults }
-    {
+    fn write(&mut self, bytes: &[u8]) -> Result<usize, Failed> {
         if bytes.is_empty() {
             return Ok(0);
         }

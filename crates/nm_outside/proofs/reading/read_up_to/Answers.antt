@@ -7,7 +7,7 @@ pub returns-in_err-count-clause-taken : goal.returns-in_err-count-clause-taken
 returns-in_err-count-clause-taken g c =
     let read = c.loop-buffer.read in
     let fits : length read.items ≤ c.args.limit = omega (arith, read.ok.0) in
-    rw c.in_err-count.ensures.failed (loses_read _ _ _ _ c.loop-buffer.invariant.read fits)
+    loses_read _ _ _ _ read.items c.loop-buffer.invariant.read c.in_err-count.ensures.failed fits
 
 pub returns-then-count-eq0-clause-taken : goal.returns-then-count-eq0-clause-taken
 returns-then-count-eq0-clause-taken g c =

@@ -1,4 +1,4 @@
-use Rattle.std.proofs.Common.{◌-◌, ◌≤◌, vec_len}
+use Rattle.std.proofs.Common.{◌≡◌, ◌-◌, ◌≤◌, vec_len}
 use Rattle.nm_outside.specs.Told.{ReadSoFar}
 use Rattle.nm_outside.proofs.reading.read_up_to.Given as goal
 
@@ -6,7 +6,7 @@ abbrev pub invariant-loop-buffer : goal.invariant-loop-buffer
 invariant-loop-buffer g l = record {
   read : ReadSoFar (g.S.Source.left l.fn.source) (g.S.Source.left l.source) l.read.items;
   within : vec_len l.read ≤ l.limit;
-  later : g.S.Source.faults l.fn.source ≤ g.S.Source.faults l.source;
+  quiet : g.S.Source.faults l.source ≡ g.S.Source.faults l.fn.source;
 }
 
 abbrev pub decreases-loop-buffer : goal.decreases-loop-buffer

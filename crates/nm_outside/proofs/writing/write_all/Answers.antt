@@ -1,4 +1,4 @@
-use Rattle.std.proofs.Common.{arith}
+use Rattle.std.proofs.Common.{◌∙◌}
 use Rattle.nm_outside.proofs.WritingLemmas.{more_written}
 use Rattle.nm_outside.proofs.writing.write_all.Goals as goal
 
@@ -9,5 +9,5 @@ loop-rest-preserved g c =
       written =
           more_written _ _ _ _ _ c.in_ok-count.count c.loop-rest.invariant.written piece.within
           piece.taken;
-      later = omega arith;
+      quiet = piece.quiet ∙ c.loop-rest.invariant.quiet;
     }
