@@ -1,2 +1,2 @@
-mod ReadingLemmas
+pub mod ReadingLemmas
 mod WritingLemmas

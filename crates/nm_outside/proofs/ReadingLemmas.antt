@@ -1,5 +1,7 @@
--- What a source has lost while it was read.
-use Rattle.std.proofs.Common.{◌≡◌, ℕ, ◌+◌, ◌≤◌, List, length, drop, Option, Some, None, ap, sym, ◌∙◌}
+-- What a source has lost while it was read, and what is left.
+use Rattle.std.proofs.Common.{◌≡◌, ℕ, ◌+◌, ◌≤◌, List, ◌++◌, length, take, drop, Option, Some, None, ap, sym, ◌∙◌}
+use Rattle.std.specs.Option.{IfSome}
+use Rattle.std.proofs.lemmas.List.{append_cancel_left, take-append-drop}
 use Rattle.std.proofs.Math.Seq.{drop-append_seam, drop-append-add}
 use Rattle.nm_outside.specs.Told.{Moves, ReadSoFar, Stays, LosesAtMost}
 
@@ -26,3 +28,15 @@ loses_piece limit n (Some all) mid new read buffer w moved within =
     ap (drop (length read + n)) w.2 ∙ drop-append-add read w.0 n in
     (length read + n, within, piece.2 ∙ ap Some (sym rest))
 loses_piece limit n None mid new read buffer w moved within = tt
+
+-- what is left of a source that was read to its end or to a limit
+pub left_at :
+    (limit : ℕ) (input left : Option (List ℕ)) (read : List ℕ)
+    → IfSome input (λ bytes. read ≡ take limit bytes) → ReadSoFar input left read
+    → IfSome input (λ bytes. left ≡ Some (drop limit bytes))
+left_at limit None left read is so_far = tt
+left_at limit (Some bytes) left read is (rest, left_is, whole) =
+    let halves = sym whole ∙ sym (take-append-drop limit bytes) in
+    let same : take limit bytes ++ rest ≡ take limit bytes ++ drop limit bytes =
+    ap (λ xs. xs ++ rest) (sym is) ∙ halves in
+    left_is ∙ ap Some (append_cancel_left (take limit bytes) rest (drop limit bytes) same)

@@ -2,20 +2,24 @@
 //!
 //! # What a contract sees
 //! A `Source` is the bytes that are left, a `Sink` the bytes that it took, each where it tells
-//! them, and each counts its faults. A `MemorySource` and a `MemorySink` tell their bytes, and also
-//! which of their calls fail. A `RealSource` and a `RealSink` tell none.
+//! them, and each counts its faults. Of bytes that are not told nothing is said. A `MemorySource`
+//! and a `MemorySink` tell their bytes, and also which of their calls fail. A `RealSource` and a
+//! `RealSink` tell what std knows of theirs: the bytes of a slice, a vector, a cursor or a deque,
+//! also behind a reference, a box or a buffer, and none of standard input, standard output, files
+//! and sockets.
 //! # What is proved
-//! - A read or a write fails only where its count of faults rose, or stands at its last value, and
-//!   has then moved nothing.
+//! - Where a read or a write fails, its count of faults rose, or stands at its last value, and it
+//!   has moved nothing. Where one succeeds, the count is as it was.
 //! - `read_up_to` gives all that was left, or its first `limit` bytes, and takes no more than these
-//!   whatever it answers.
-//! - `write_all` has written all, or a front of it where it fails.
+//!   whatever it answers. It passes over no failure: the count is as it was, but where it answers
+//!   that a read failed.
+//! - `write_all` has written all, or a front of it where it fails, and passes over no failure.
 //! - In memory exactly the calls that are named fail, and at a sink those that find no room.
-//! - A read of a `RealSource` is a read of its std reader, and a write of a `RealSink` one of its
-//!   std writer, as far as std tells their bytes.
 //! # What is only tested
 //! That `read_up_to` and `MemorySink::new` succeed with ample memory, how large the buffers of
-//! `read_up_to` are, and that both loops do their work over a std reader and a std writer
+//! `read_up_to` are; that a read of a `RealSource` is one read of its std reader and a write of a
+//! `RealSink` one write of all its bytes, and that each error of theirs is counted, since std's
+//! contracts tell no errors; and that `PairGate::met` is true only where both ranks met
 //! (`nm_basics_rows`).
 #![tactic(auto)]
 
