@@ -1,6 +1,6 @@
 mod MatcherLemmas
-mod HistoryLemmas
-mod ReplayLemmas
+pub mod HistoryLemmas
+pub mod ReplayLemmas
 mod EventLemmas
 mod IdleLemmas
 mod LookLemmas

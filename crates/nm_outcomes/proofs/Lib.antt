@@ -1,0 +1,16 @@
+mod Bodies
+pub mod CallLemmas
+pub mod DueLemmas
+mod Early
+pub mod EndLemmas
+pub mod FoundLemmas
+mod HappenedLemmas
+pub mod LogLemmas
+pub mod MoveLemmas
+pub mod PathLemmas
+pub mod PlaceLemmas
+mod QuietLemmas
+pub mod RestLemmas
+pub mod SearchLemmas
+mod SentLemmas
+pub mod SwapLemmas

@@ -1,0 +1,10 @@
+pub mod Due
+pub mod Logs
+pub mod Moves
+pub mod Outcomes
+pub mod Paths
+pub mod Places
+pub mod Queues
+pub mod Rests
+pub mod Results
+pub mod Searches
