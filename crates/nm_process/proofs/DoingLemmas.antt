@@ -206,8 +206,10 @@ answered eager commands at stamp h x n s c l doing since here named right made o
       };
       starts = record {
         made = always (StartAt eager commands) h e doing.starts
-            (rw named (ap (λ (w : List Happened). map without_number w) since.starts ∙ made,
-            taken_has_message commands h n.line x n.command right));
+            (rw named (
+              ap (λ (w : List Happened). map without_number w) since.starts ∙ made,
+              taken_has_message commands h n.line x n.command right,
+            ));
         no_others = ap (λ (w : List Happened). filter is_start w) (since-push h e);
       };
       cancels = record {
