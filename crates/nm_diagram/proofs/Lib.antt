@@ -1,8 +1,9 @@
-pub mod AlikeLemmas
 mod ArrowLemmas
 mod EscapeLemmas
 mod FrameLemmas
+mod LegendLemmas
 mod RunLemmas
 mod ShapeLemmas
 mod StampLemmas
 mod WellFormedLemmas
+pub mod AlikeLemmas

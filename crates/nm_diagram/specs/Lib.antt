@@ -3,6 +3,7 @@ pub mod Anchors
 pub mod Diagrams
 pub mod Frames
 pub mod Joined
+pub mod Legend
 pub mod Links
 pub mod Markup
 pub mod Pictures

@@ -1,12 +1,13 @@
 //! What follows from the lists of shapes. Each law is the contract of a function that does nothing.
 
 ghost use Rattle.std.specs.Prelude.{◌≡◌, ℕ, ◌<◌, ◌≤◌, ◌++◌, true, List, [], ◌∷◌, Some, slice_get};
-ghost use Rattle.std.specs.Prelude.{filter, length, map};
+ghost use Rattle.std.specs.Prelude.{Contains, codes, filter, length, map};
 ghost use Rattle.std.specs.List.{AllByRecursion};
 ghost use Rattle.nm_types.specs.declared.messages.Arrival.{Arrival};
 ghost use Rattle.nm_types.specs.declared.scripts.Line.{Line};
 ghost use Rattle.nm_types.specs.Sizes.{Sizes};
 ghost use Rattle.nm_history.specs.declared.events.Event.{Event};
+ghost use Rattle.nm_history.specs.declared.events.Happened.{Happened};
 ghost use Rattle.nm_history.specs.declared.events.Happened.TheVariants as what;
 ghost use Rattle.nm_history.specs.AtEach.{AtEach};
 ghost use Rattle.nm_history.specs.RankRun.{StampAt};
@@ -17,9 +18,12 @@ ghost use Rattle.nm_diagram.specs.declared.anchors.Anchor.TheVariants as anchor;
 ghost use Rattle.nm_diagram.specs.Alike.{AreAlike};
 ghost use Rattle.nm_diagram.specs.Anchors.{first_stamp};
 ghost use Rattle.nm_diagram.specs.Diagrams.{all_arrows, all_marks, arrows_at, mark_of, marks_of};
+ghost use Rattle.nm_diagram.specs.Diagrams.{sign_of};
 ghost use Rattle.nm_diagram.specs.declared.frames.Frame.{Frame};
 ghost use Rattle.nm_diagram.specs.Frames.{IsFrame, is_shown, shown_count};
 ghost use Rattle.nm_diagram.specs.Joined.{HasOneArrow, IsOfMessage, Rise};
+ghost use Rattle.nm_diagram.specs.Legend.{all_stand, are_explained, covers, legend, none_stands};
+ghost use Rattle.nm_diagram.specs.Legend.{strokes};
 ghost use Rattle.nm_diagram.specs.Markup.{escaped, is_plain};
 ghost use Rattle.nm_diagram.specs.Pictures.{IsPictureOf};
 ghost use Rattle.nm_diagram.specs.WellFormed.{IsWellFormed};
@@ -34,6 +38,18 @@ pub fn each_event_has_one_mark()
     ensures rise { (end rank : ℕ) (account : RankAccount) →
         Rise 0 (map (λ e. e.stamp) account.history.events) →
         Rise 0 (map (λ m. m.stamp) (marks_of end rank account)) }
+{}
+
+/// Each sign is drawn by the sheet, and its legend says in words what it stands for: that of each
+/// event, and that of a command that can't go on. The ways of messages and the links have their
+/// strokes, and no property that could hide a shape stands in the sheet.
+pub fn each_sign_is_explained()
+    ensures explained { are_explained legend ≡ true }
+    ensures of_events { (happened : Happened) →
+        Contains (map (λ line. line.sign) legend) (sign_of happened) }
+    ensures of_waits { Contains (map (λ line. line.sign) legend) (codes "waits") }
+    ensures drawn { all_stand strokes ≡ true }
+    ensures shown { none_stands covers ≡ true }
 {}
 
 /// Each arrow goes from the send of a message to its arrival, and both are shown.
