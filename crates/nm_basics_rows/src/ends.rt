@@ -1,13 +1,16 @@
-//! What no clause says: that calls succeed, how large the buffers are, and the std ends.
+//! What no clause says: that calls succeed, how large the buffers are, what the std ends hand on,
+//! and who met at a gate.
 
 ghost use Rattle.std.specs.Prelude.{◌<◌};
 
 use nm_outside::{
-    Failed, MemorySink, MemorySource, RealSink, RealSource, SINK_ROOM, Unread, read_up_to,
-    write_all,
+    Failed, Gate, MemorySink, MemorySource, PairGate, RealSink, RealSource, SINK_ROOM, Sink,
+    Source, Unread, read_up_to, write_all,
 };
 use nm_types::Memory;
 use std::alloc::Global;
+use std::io;
+use std::io::{Read, Write};
 use std::test::Fail;
 
 const TEXT: &[u8] = b"0 3 sent\n1 2 got 0 7 2 x0102\ncells 16\n";
@@ -98,4 +101,83 @@ fn a_std_writer_is_a_sink(rt: HostRuntime) -> Result<(), Fail> {
     assert_eq!(rt; full, Err(Failed));
     assert_eq!(rt; few.as_slice(), b"0 3 sent\n".as_slice());
     Ok(())
+}
+
+/// A reader and a writer of which the calls so far are counted. Each call fails until `fails` of
+/// them did; then each takes and gives all that it is handed.
+#[derive(Drop)]
+struct Counted {
+    calls: u64,
+    fails: u64,
+    longest: usize,
+}
+
+impl Counted {
+    fn new(fails: u64) -> Counted {
+        Counted {
+            calls: 0,
+            fails,
+            longest: 0,
+        }
+    }
+
+    fn call(&mut self, len: usize) -> io::Result<usize> {
+        self.calls = self.calls.saturating_add(1);
+        self.longest = self.longest.max(len);
+        if self.calls <= self.fails {
+            return Err(io::ErrorKind::Interrupted.into());
+        }
+        Ok(len)
+    }
+}
+
+impl Read for Counted {
+    fn read(&mut self, buf: &mut [u8]) -> io::Result<usize> {
+        self.call(buf.len())
+    }
+}
+
+impl Write for Counted {
+    fn write(&mut self, buf: &[u8]) -> io::Result<usize> {
+        self.call(buf.len())
+    }
+
+    fn flush(&mut self) -> io::Result<()> {
+        Ok(())
+    }
+}
+
+#[test]
+fn each_read_is_one_read_of_the_reader_and_each_error_is_counted(rt: HostRuntime) {
+    let mut source = RealSource::new(Counted::new(2));
+    let mut buffer = [0u8; 40];
+    assert_eq!(rt; source.read(&mut buffer), Err(Failed));
+    assert_eq!(rt; source.read(&mut buffer), Err(Failed));
+    assert_eq!(rt; source.read(&mut buffer), Ok(40));
+    let RealSource { reader, faults } = source;
+    assert_eq!(rt; (reader.calls, reader.longest, faults), (3, 40, 2));
+}
+
+#[test]
+fn each_write_is_one_write_of_all_and_each_error_is_counted(rt: HostRuntime) {
+    let mut sink = RealSink::new(Counted::new(1));
+    assert_eq!(rt; sink.write(TEXT), Err(Failed));
+    assert_eq!(rt; sink.write(TEXT), Ok(38));
+    let RealSink { writer, faults } = sink;
+    assert_eq!(rt; (writer.calls, writer.longest, faults), (2, 38, 1));
+}
+
+#[test]
+fn one_rank_alone_meets_nobody(rt: HostRuntime) {
+    let gate = PairGate::new(3);
+    assert!(rt; !gate.met());
+    gate.turn(0);
+    gate.turn(0);
+    gate.turn(2);
+    assert!(rt; !gate.met());
+    // the second finds the first one's mark, and the first, which looks on its first turn alone,
+    // has found none
+    gate.turn(1);
+    gate.turn(0);
+    assert!(rt; !gate.met());
 }

@@ -3,7 +3,7 @@ use Rattle.std.proofs.Common.{◌≡◌, ℕ, inl, inr, List, [], Option, Some, 
 use Rattle.std.specs.Option.{IfSome}
 use Rattle.nm_outside.specs.Told.{Appends, AppendsPart, Rose}
 use Rattle.nm_report.specs.declared.records.RunRecord.{RunRecord}
-use Rattle.nm_chart.specs.Answers.{IsAnswer, IsAnswerTo, IsSaid, Tells, status_of}
+use Rattle.nm_chart.specs.Answers.{IsAnswer, IsAnswerTo, IsRead, IsSaid, Tells, WasRead, status_of}
 use Rattle.nm_chart.specs.Endings.{IsBadTrace, IsDrawn, IsRefused, IsTrace, IsTraceOfOne, OrFails, OrUnwritten}
 use Rattle.nm_chart.specs.Endings.{read_of, unread, usage}
 use Rattle.nm_chart.specs.declared.answers.Response.{Response}
@@ -163,13 +163,21 @@ no_five (Drawn r) h = cc
 
 pub unwritten_is : {X : Type 0} {words : List X} {input before after : Option (List ℕ)} {old new : ℕ} {fails : Type 0}
     (answer : Response) (status : ℕ) → Ends words input old new before after fails answer status →
-    status ≡ 5 → fails × (answer : Response) × IsAnswer words input old new answer × (text : List ℕ)
-    × Tells answer text × AppendsPart before after text
-unwritten_is answer status e h =
+    (left : Option (List ℕ)) → IsRead words input left old new answer →
+    status ≡ 5 → fails × (answer : Response) × IsAnswer words input old new answer
+    × IsRead words input left old new answer × (text : List ℕ) × Tells answer text × AppendsPart before after text
+unwritten_is answer status e left read h =
     elim e.said.2 [
       | inl p ↦ absurd (no_five answer (sym h ∙ p.0))
-      | inr p ↦ (p.1, answer, e.right, e.said.0, e.said.1, p.2)
+      | inr p ↦ (p.1, answer, e.right, read, e.said.0, e.said.1, p.2)
     ]
+
+-- what holds where the source was not found to fail
+pub unless_unread : {X : Type 0} {words : List X} {input before after : Option (List ℕ)} {old new : ℕ} {fails : Type 0}
+    {P : Type 0} (answer : Response) (status : ℕ) → Ends words input old new before after fails answer status →
+    (WasRead answer → P) → OrFails P status
+unless_unread Unread status e make = elim e.said.2 [ inl p ↦ inr (inl p.0) | inr p ↦ inr (inr (inl p.0)) ]
+unless_unread answer status e make = inl (make tt)
 
 -- a status is never 6 where something was said
 pub not_six : {X : Type 0} {words : List X} {input before after : Option (List ℕ)} {old new : ℕ} {fails : Type 0}

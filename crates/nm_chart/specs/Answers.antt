@@ -1,5 +1,5 @@
 -- What the program answers: a text and a status.
-use Rattle.std.specs.Prelude.{◌≡◌, ℕ, ◌≤◌, ◌⊎◌, List, [], IfSome, Option, length}
+use Rattle.std.specs.Prelude.{◌≡◌, ℕ, ◌≤◌, ◌⊎◌, List, [], IfSome, Option, Some, drop, length}
 use Rattle.nm_outside.specs.Told.{Appends, AppendsPart, Rose}
 use Rattle.nm_chart.specs.declared.answers.Response.{Response}
 use Rattle.nm_chart.specs.declared.answers.Response.TheVariants.{Usage, Unread, Refused, Drawn}
@@ -39,6 +39,18 @@ IsAnswer words input old new Usage = ¬ (words ≡ [])
 IsAnswer words input old new Unread = (words ≡ []) × Rose old new
 IsAnswer words input old new answer =
     (words ≡ []) × IfSome input (λ bytes. IsAnswerTo (read_of bytes) answer)
+
+-- the source was not found to fail
+abbrev pub WasRead : Response → Type 0
+WasRead Unread = ⊥
+WasRead _ = Unit {0}
+
+-- Unless a read failed, the source was read to its end or to the limit, where there are no words, and its
+-- count of faults is as it was.
+pub record IsRead {X : Type 0} (words : List X) (input left : Option (List ℕ)) (old new : ℕ)
+    (answer : Response) : Type 0 where
+  pub quiet : WasRead answer → new ≡ old
+  pub whole : WasRead answer → words ≡ [] → IfSome input (λ bytes. left ≡ Some (drop 67108865 bytes))
 
 -- the text of an answer was written, whole and with its status, or the sink failed
 abbrev pub IsSaid : Response → ℕ → Option (List ℕ) → Option (List ℕ) → Type 0 → Type 0

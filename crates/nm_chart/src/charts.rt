@@ -2,10 +2,10 @@
 
 ghost use Rattle.std.specs.Prelude.{◌≡◌, ◌≤◌, ◌<◌, ◌⊎◌, ◌↔◌, ℕ, [], List, Some, take, drop, length};
 ghost use Rattle.std.specs.Prelude.{IfOk, IfSome};
-ghost use Rattle.nm_outside.specs.Told.{Appends, AppendsPart, Rose};
+ghost use Rattle.nm_outside.specs.Told.{Appends, AppendsPart, LosesAtMost, Rose};
 ghost use Rattle.nm_report.specs.declared.records.RunRecord.{RunRecord};
 ghost use Rattle.nm_chart.specs.declared.answers.Response.{Response};
-ghost use Rattle.nm_chart.specs.Answers.{CanBeDrawn, IsAnswer, IsAnswerTo, IsSaid, Tells};
+ghost use Rattle.nm_chart.specs.Answers.{CanBeDrawn, IsAnswer, IsAnswerTo, IsRead, IsSaid, Tells};
 ghost use Rattle.nm_chart.specs.Endings.{IsBadTrace, IsDrawn, IsRefused, IsStatus, IsTrace};
 ghost use Rattle.nm_chart.specs.Endings.{OrFails, OrUnwritten, read_of, unread, usage};
 
@@ -50,6 +50,9 @@ fn find_answer<S: Source>(
         (S.faults source.new)) }
     ensures drawn { IfOk result CanBeDrawn }
     ensures untouched { ¬ (words.now ≡ []) → source.new ≡ source.old }
+    ensures taken { words.now ≡ [] → LosesAtMost 67108865 (S.left source.old) (S.left source.new) }
+    ensures read { IfOk result (IsRead words.now (S.left source.old) (S.left source.new)
+        (S.faults source.old) (S.faults source.new)) }
 {
     if !words.is_empty() {
         return Ok(Response::Usage);
@@ -64,8 +67,9 @@ fn find_answer<S: Source>(
 // Writes what is due to the sink, and answers the status.
 fn deliver<K: Sink>(sink: &mut K, due: &[u8], answer: &Response) -> u8
     requires { Tells answer.now due.now }
-    ensures { IsSaid answer.now result (K.taken sink.old) (K.taken sink.new)
+    ensures said { IsSaid answer.now result (K.taken sink.old) (K.taken sink.new)
         (Rose (K.faults sink.old) (K.faults sink.new)) }
+    ensures quiet { (result ≡ 5) ⊎ (K.faults sink.new ≡ K.faults sink.old) }
 {
     match write_all(sink, due) {
         Ok(()) => status(answer),
@@ -104,6 +108,15 @@ pub fn chart<S: Source, K: Sink>(
     ensures draws { (words.now ≡ []) → IfSome (S.left source.old) (λ bytes. (run : RunRecord) →
         IsTrace (read_of bytes) run → OrFails (result ≡ 0) result) }
 
+    // The source is read to its end, or to the limit, and no more is taken however it ends.
+    ensures read { words.now ≡ [] → OrFails (IfSome (S.left source.old)
+        (λ bytes. S.left source.new ≡ Some (drop 67108865 bytes))) result }
+    ensures taken { words.now ≡ [] → LosesAtMost 67108865 (S.left source.old) (S.left source.new) }
+
+    // No failure is passed over.
+    ensures quiet { OrFails (S.faults source.new ≡ S.faults source.old) result }
+    ensures quiet_sink { (result ≡ 5) ⊎ (K.faults sink.new ≡ K.faults sink.old) }
+
     // The source failed.
     ensures unread { result ≡ 4 → Rose (S.faults source.old) (S.faults source.new)
         × Appends (K.taken sink.old) (K.taken sink.new) unread }
@@ -111,7 +124,8 @@ pub fn chart<S: Source, K: Sink>(
     // The sink failed. What it took is a front of the text that was due.
     ensures unwritten { result ≡ 5 → Rose (K.faults sink.old) (K.faults sink.new)
         × (answer : Response) × IsAnswer words.now (S.left source.old) (S.faults source.old)
-        (S.faults source.new) answer × (text : List ℕ) × Tells answer text
+        (S.faults source.new) answer × IsRead words.now (S.left source.old) (S.left source.new)
+        (S.faults source.old) (S.faults source.new) answer × (text : List ℕ) × Tells answer text
         × AppendsPart (K.taken sink.old) (K.taken sink.new) text }
 
     // Want of memory, before the first write.

@@ -11,6 +11,8 @@
 //!   picture of each record whose trace they are; 9 where they are none, with the first bad line; 2
 //!   where there are words. They yield to 4, 5 and 6.
 //! - `laws`: the trace of a record of any shape is taken.
+//! - The source is read to its end, or its first 67,108,865 bytes are, and more is taken at no
+//!   status. No failure of the source or the sink is passed over.
 //! - At 5 the sink took a front of the text that was due. At 6 nothing was written.
 //! # What is only tested
 //! That it succeeds with ample memory (`nm_texts_rows`).

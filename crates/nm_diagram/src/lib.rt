@@ -4,13 +4,14 @@
 //! The record of a run, and bytes as a list of numbers. `specs/` has the lists of what a picture
 //! shows: the process lines of the ranks and what they wait for, a mark for each event and an arrow
 //! for each message (`Diagrams`), a link for each receive that took a message (`Links`), and which
-//! events are shown (`Frames`). `Pictures` has their text, and `WellFormed` what well-formed markup
-//! is.
+//! events are shown (`Frames`). `Pictures` has their text, `Legend` the signs and what they stand for,
+//! and `WellFormed` what well-formed markup is.
 //! # What is proved
 //! - The picture is a function of the record: its text is exactly that of these lists, in order.
 //! - `laws`: each event that is shown has one mark, and each arrow goes from the send of a message
 //!   to its arrival. In a run each arrival that is shown has one arrow, which goes forward. A run
-//!   has one picture, the same with silent ranks behind its own, and it is well-formed markup.
+//!   has one picture, the same with silent ranks behind its own, and it is well-formed markup. Each
+//!   sign is drawn by the sheet and explained by its legend.
 //! # What is only tested
 //! That it succeeds with ample memory (`nm_texts_rows`), and that a browser shows what is meant.
 #![tactic(auto)]

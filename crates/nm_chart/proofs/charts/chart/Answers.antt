@@ -1,7 +1,7 @@
 -- How the program ends, clause by clause.
 use Rattle.nm_outside.specs.Told.{Rose}
 use Rattle.nm_chart.proofs.EndLemmas.{Ends, usage_is, not_taken_is, refused_is, refuses_is, drawn_is, draws_is}
-use Rattle.nm_chart.proofs.EndLemmas.{not_six, unread_is, unwritten_is}
+use Rattle.nm_chart.proofs.EndLemmas.{not_six, unless_unread, unread_is, unwritten_is}
 use Rattle.nm_chart.proofs.charts.chart.Goals as goal
 use Rattle.nm_chart.proofs.charts.chart.Goals.{Joined-answer-2}
 use Rattle.nm_chart.proofs.charts.chart.Given.{Over}
@@ -13,7 +13,7 @@ known : (g : Over) (c : Joined-answer-2 g) →
     (g.K.Sink.taken c.args.sink.now) (g.K.Sink.taken c.deliver.new.sink)
     (Rose (g.K.Sink.faults c.args.sink.now) (g.K.Sink.faults c.deliver.new.sink))
     c.in-Ok.answer c.deliver.result
-known g c = record { right = c.in-Ok.ensures.answer; said = c.deliver.ensures }
+known g c = record { right = c.in-Ok.ensures.answer; said = c.deliver.ensures.said }
 
 pub returns-clause-usage : goal.returns-clause-usage
 returns-clause-usage g c = usage_is c.in-Ok.answer c.deliver.result (known g c)
@@ -38,7 +38,15 @@ pub returns-clause-unread : goal.returns-clause-unread
 returns-clause-unread g c = unread_is c.in-Ok.answer c.deliver.result (known g c)
 
 pub returns-clause-unwritten : goal.returns-clause-unwritten
-returns-clause-unwritten g c = unwritten_is c.in-Ok.answer c.deliver.result (known g c)
+returns-clause-unwritten g c =
+    unwritten_is c.in-Ok.answer c.deliver.result (known g c) _ c.in-Ok.ensures.read
+
+pub returns-clause-read : goal.returns-clause-read
+returns-clause-read g c none =
+    unless_unread c.in-Ok.answer c.deliver.result (known g c) (λ read. c.in-Ok.ensures.read.whole read none)
+
+pub returns-clause-quiet : goal.returns-clause-quiet
+returns-clause-quiet g c = unless_unread c.in-Ok.answer c.deliver.result (known g c) c.in-Ok.ensures.read.quiet
 
 pub returns-clause-memory : goal.returns-clause-memory
 returns-clause-memory g c six = absurd (not_six c.in-Ok.answer c.deliver.result (known g c) six)
