@@ -85,7 +85,7 @@ module _ (eager : ℕ) (commands : List Numbered) (named : AreNamedLines command
       StartAt eager commands h (event.Ran line a) → CancelAt commands h (event.Ran line a) →
       ClaimAt commands h (event.Ran line a) → AllFit eager commands (since_command h)
   since_fits h line a answer start cancel claim =
-    by_command (command_at commands line) refl answer start.0 cancel claim
+      by_command (command_at commands line) refl answer start.0 cancel claim
     where
       by_command : (o : Option Command) → command_at commands line ≡ o →
           IsSomeAnd o (λ c. answer_of commands h line c ≡ Some (without_bytes a)) →
