@@ -306,6 +306,13 @@ did_halves n lines f r xs ys xs' ys' p q one two p_is q_is =
     (or_sum (done_of n xs) (done_of n ys) (done_of n xs') (done_of n ys') p q (all_up n lines f r xs xs' one)
     (all_up n lines f r ys ys' two) p_is q_is))
 
+-- from one to the next, of many
+pub did_any_on : (n : ℕ) (lines : List Line) (f : Fabric) (r : Rings) (xs ys zs : List Actor) (p q : Bool) →
+    AllKept lines f r xs ys → AllKept lines f r ys zs → p ≡ did_any n xs ys → q ≡ did_any n ys zs →
+    (p || q) ≡ did_any n xs zs
+did_any_on n lines f r xs ys zs p q one two = or_less (done_of n xs) (done_of n ys) (done_of n zs) p q
+    (all_up n lines f r xs ys one) (all_up n lines f r ys zs two)
+
 pub did_sole : (n : ℕ) (a b : Actor) → did n a b ≡ did_any n (a ∷ []) (b ∷ [])
 did_sole n a b =
     let one : done_by n a + 0 ≡ done_by n a = omega arith in

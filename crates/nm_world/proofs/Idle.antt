@@ -261,12 +261,14 @@ more_none a b d sender i one two same low before last = by (ℕ_discrete i sende
       (pieces_within a b d d sender one.ring same last (ring_same d.ring))
   by (no ne) = pieces_within a a b d i (ring_same a.ring) refl (before (omega (arith, low, ne))) two.ring
 
--- one turn more that moved nothing
-pub idle_next : (lines : List Line) (a b c : Actor) (p q : Bool) → Grows a b →
-    (p ≡ false → IsFresh a.process.rank → b.process ≡ a.process) →
-    (q ≡ false → IsFresh b.process.rank → Idle lines b c) →
-    (p || q) ≡ false → IsFresh a.process.rank → Idle lines a c
-idle_next lines a b c p q up still idle none fresh =
-    let both = neither p q none in
-    let same = still both.0 fresh in
-    idle_before lines a b c up same (idle both.1 (subst (λ (v : ProcessView). IsFresh v.rank) (sym same) fresh))
+-- what was idle up to an earlier moment is so up to a later one
+pub idle_after : (lines : List Line) (a b c : Actor) → Idle lines a b → Grows b c → c.process ≡ b.process →
+    Idle lines a c
+idle_after lines a b c idle up same = record {
+  process = same ∙ idle.process;
+  stuck = idle.stuck;
+  polled = none_within a.process.rank.sizes.ranks a.port a.port b.port c.port (port_same a.port) idle.polled up.port;
+  letter = back_within a a b c (port_same a.port) refl idle.letter up.port;
+  piece = piece_within a a b c (ring_same a.ring) refl idle.piece up.ring;
+  pieces = λ i low. pieces_within a a b c i (ring_same a.ring) refl (idle.pieces i low) up.ring;
+}

@@ -15,6 +15,8 @@ mod Grows
 mod Did
 -- why nothing was
 mod Idle
+-- sweeps over actors
+mod Sweeps
 -- loops over steps
 mod Loops
 -- how often an actor polled

@@ -4,3 +4,4 @@ pub mod Looks
 pub mod Records
 pub mod Rest
 pub mod Runs
+pub mod Sweeps

@@ -77,7 +77,7 @@ impl Actor {
             process,
             port,
             ring,
-            places: Places::blank(),
+            places: Places::blank(alloc),
         })
     }
 
@@ -109,6 +109,7 @@ impl Actor {
             return false;
         }
         self.process.pop_front();
+        self.places.call(to);
         // no step: the laws of a packet that leaves
         a_send_carries();
         a_packet_leaves();
@@ -156,6 +157,7 @@ impl Actor {
             return false;
         }
         self.process.pop_piece();
+        self.places.call(to);
         // no step: the law of a piece that leaves
         a_piece_leaves();
         true
@@ -187,6 +189,8 @@ impl Actor {
         a_poll_carries();
         a_packet_is_taken();
         self.process.take_packet(packet)?;
+        let source = packet.from;
+        self.places.call(source);
         Ok(true)
     }
 
@@ -233,6 +237,7 @@ impl Actor {
         // no step: the law of a piece that comes
         a_piece_is_taken();
         self.process.take_piece(piece)?;
+        self.places.call(sender);
         Ok(true)
     }
 

@@ -6,149 +6,86 @@ ghost use Rattle.std.specs.Thread.{IsSync};
 ghost use Rattle.nm_rank.specs.Ranks.{IsFresh};
 ghost use Rattle.nm_world.specs.Actors.{AllKept, Kept, SomeGrew, Stands, did, did_any};
 ghost use Rattle.nm_world.specs.Idle.{AllIdle, Idle};
+ghost use Rattle.nm_world.specs.Sweeps.{Swept};
 
 use crate::Actor;
+use crate::bells::{Bells, place_of};
 use nm_copyring::Rings;
 use nm_outside::Gate;
 use nm_port::Fabric;
 use nm_types::{Line, Memory};
-use std::sync::atomic::{AtomicU64, Ordering};
-use std::thread::{Threads, join_mut, yield_now};
+use std::sync::Wait;
+use std::thread::{Threads, available_parallelism, join_mut};
 
-// What all actors of a round share: how many of them there are, how many have begun, have nothing to
-// do, and have ended. It is a hint of when to end, and nothing depends on it.
-#[derive(Drop)]
-struct Pace {
-    all: u64,
-    begun: AtomicU64,
-    idle: AtomicU64,
-    ended: AtomicU64,
-}
-
-impl Pace {
-    // For how many turns to look on where so many have begun: for one where no other is at work.
-    fn patience(&self, begun: u64) -> u32 {
-        if begun < self.all {
-            PATIENCE_FOR_OTHERS
-        } else if self.ended.load(Ordering::SeqCst).saturating_add(1) >= self.all {
-            1
-        } else {
-            PATIENCE
-        }
-    }
-
-    // Ends the turns of all, since one of them was refused memory.
-    fn give_up(&self) {
-        self.idle.fetch_add(self.all, Ordering::SeqCst);
-    }
-}
-
-// How many turns in a row an actor looks on while none has anything to do. What one of them put
-// under way before it rested may not have been found yet by another.
-const PATIENCE: u32 = 32;
-
-// How many turns in a row it looks on while none of those that have begun has anything to do, and no
-// other begins: one may never, where a thread can't be had until another has ended.
-const PATIENCE_FOR_OTHERS: u32 = 512;
-
-// How an actor keeps pace with those that take turns beside it.
-#[derive(Drop)]
-struct Watch {
-    rests: bool,
-    quiet: u32,
-    begun: u64,
-}
-
-impl Watch {
-    fn begin(pace: &Pace) -> Watch {
-        pace.begun.fetch_add(1, Ordering::SeqCst);
-        Watch {
-            rests: false,
-            quiet: 0,
-            begun: 0,
-        }
-    }
-
-    // Counts a turn by whether it moved anything, and gives way where it moved nothing, but seldom
-    // while only others that have not begun can have anything to do. It answers whether the actor has
-    // looked on for long enough.
-    fn is_over(&mut self, pace: &Pace, moved: bool) -> bool {
-        self.note(pace, !moved);
-        if moved {
-            self.quiet = 0;
-            return false;
-        }
-        let begun = pace.begun.load(Ordering::SeqCst);
-        let is_quiet = begun == self.begun && pace.idle.load(Ordering::SeqCst) >= begun;
-        self.begun = begun;
-        self.quiet = if is_quiet {
-            self.quiet.saturating_add(1)
-        } else {
-            0
-        };
-        if begun >= pace.all || self.quiet % 128 == 0 {
-            yield_now();
-        }
-        self.quiet > pace.patience(begun)
-    }
-
-    // Counts the actor as one that has nothing to do, or has.
-    fn note(&mut self, pace: &Pace, rests: bool) {
-        if rests && !self.rests {
-            pace.idle.fetch_add(1, Ordering::SeqCst);
-        }
-        if !rests && self.rests {
-            pace.idle.fetch_sub(1, Ordering::SeqCst);
-        }
-        self.rests = rests;
-    }
-
-    // Counts the actor as one that takes no more turns.
-    fn end(&mut self, pace: &Pace) {
-        self.note(pace, true);
-        pace.ended.fetch_add(1, Ordering::SeqCst);
-    }
-}
-
-// Turns of one actor, at most so many, until no actor of the round has anything to do.
-fn turns_of<G: Gate>(
+// A turn of an actor, if its place is due or all make one. It answers whether that moved anything, and
+// which places of its crew are due then.
+fn visit<G: Gate>(
     actor: &mut Actor,
+    all: bool,
+    due: u64,
     lines: &[Line],
     f: &Fabric,
     r: &Rings,
     gate: &G,
-    turns: u32,
-    pace: &Pace,
-) -> Result<bool, Memory>
+    bells: &Bells,
+    crew: usize,
+) -> Result<(bool, u64), Memory>
     requires stands { Stands lines.now f.now r.now actor.old }
-    requires turns { 0 < turns }
     ensures kept { IfOk result (λ _. Kept lines.now f.now r.now actor.old actor.new) }
-    ensures moved { IfOk result (λ moved. moved ≡ did f.now.ranks actor.old actor.new) }
-    ensures idle { IfOk result (λ moved. moved ≡ false → IsFresh actor.old.process.rank →
+    ensures moved { IfOk result (λ x. x.0 ≡ did f.now.ranks actor.old actor.new) }
+    ensures still { IfOk result (λ x. x.0 ≡ false → IsFresh actor.old.process.rank →
+        actor.new.process ≡ actor.old.process) }
+    ensures idle { IfOk result (λ x. x.0 ≡ false → all ≡ true → IsFresh actor.old.process.rank →
         Idle lines.now actor.old actor.new) }
 {
-    let mut moved = false;
-    let mut watch = Watch::begin(pace);
-    for made in 0..turns {
-        let one = match actor.turn(lines, f, r, gate) {
-            Ok(one) => one,
-            Err(Memory) => {
-                pace.give_up();
-                return Err(Memory);
-            }
-        };
-        moved = moved | one;
-        if watch.is_over(pace, one) {
-            watch.end(pace);
-            return Ok(moved);
-        }
+    let place = place_of(actor.port.rank());
+    if !all && due & place == 0 {
+        return Ok((false, 0));
     }
-    watch.end(pace);
-    Ok(moved)
+    let moved = match actor.turn(lines, f, r, gate) {
+        Ok(moved) => moved,
+        Err(Memory) => {
+            bells.end();
+            return Err(Memory);
+        }
+    };
+    if !moved {
+        return Ok((false, 0));
+    }
+    let calls = actor.places.take_calls();
+    Ok((true, place | bells.ring(crew, calls)))
 }
 
-// Turns of these actors, each in a thread of its own where one can be made.
-fn halves<R: Threads + Sync, G: Gate + Sync>(
+// A turn of each actor of a crew whose place is due, or of all. It answers whether that moved anything,
+// and which places are due then.
+fn sweep<G: Gate>(
+    actors: &mut [Actor],
+    all: bool,
+    due: u64,
+    lines: &[Line],
+    f: &Fabric,
+    r: &Rings,
+    gate: &G,
+    bells: &Bells,
+    crew: usize,
+) -> Result<(bool, u64), Memory>
+    requires stands { All (Stands lines.now f.now r.now) actors.old }
+    ensures swept { IfOk result (λ x.
+        Swept f.now.ranks lines.now f.now r.now all x.0 actors.old actors.new) }
+{
+    let mut moved = false;
+    let mut next = 0;
+    for actor in actors.iter_mut() {
+        let (one, then) = visit(actor, all, due, lines, f, r, gate, bells, crew)?;
+        moved = moved | one;
+        next = next | then;
+    }
+    Ok((moved, next))
+}
+
+// Turns of the actors of a crew, of each at least one and at most so many, until no actor of the round
+// has anything to do.
+fn turns_of<R: Wait, G: Gate>(
     rt: &R,
     actors: &mut [Actor],
     lines: &[Line],
@@ -156,53 +93,97 @@ fn halves<R: Threads + Sync, G: Gate + Sync>(
     r: &Rings,
     gate: &G,
     turns: u32,
-    pace: &Pace,
+    bells: &Bells,
+    crew: usize,
 ) -> Result<bool, Memory>
     requires stands { All (Stands lines.now f.now r.now) actors.old }
-    requires turns { 0 < turns }
     ensures kept { IfOk result (λ _. AllKept lines.now f.now r.now actors.old actors.new) }
     ensures moved { IfOk result (λ moved. moved ≡ did_any f.now.ranks actors.old actors.new) }
     ensures idle { IfOk result (λ moved. moved ≡ false →
         AllIdle lines.now actors.old actors.new) }
 {
-    if actors.len() == 0 {
-        return Ok(false);
+    bells.begin();
+    let (mut moved, mut next) = sweep(actors, true, 0, lines, f, r, gate, bells, crew)?;
+    for made in 1..turns {
+        let Some(due) = bells.next(rt, crew, next) else {
+            return Ok(moved);
+        };
+        let (one, then) = sweep(actors, false, due, lines, f, r, gate, bells, crew)?;
+        moved = moved | one;
+        next = then;
     }
-    if actors.len() == 1 {
-        return turns_of(&mut actors[0], lines, f, r, gate, turns, pace);
+    bells.leave();
+    Ok(moved)
+}
+
+// Turns of these actors by so many crews from this one on, each in a thread of its own where one can be
+// made.
+fn halves<R: Threads + Wait + Sync, G: Gate + Sync>(
+    rt: &R,
+    actors: &mut [Actor],
+    lines: &[Line],
+    f: &Fabric,
+    r: &Rings,
+    gate: &G,
+    turns: u32,
+    bells: &Bells,
+    first: usize,
+    crews: usize,
+) -> Result<bool, Memory>
+    requires stands { All (Stands lines.now f.now r.now) actors.old }
+    ensures kept { IfOk result (λ _. AllKept lines.now f.now r.now actors.old actors.new) }
+    ensures moved { IfOk result (λ moved. moved ≡ did_any f.now.ranks actors.old actors.new) }
+    ensures idle { IfOk result (λ moved. moved ≡ false →
+        AllIdle lines.now actors.old actors.new) }
+{
+    if crews <= 1 {
+        return turns_of(rt, actors, lines, f, r, gate, turns, bells, first);
     }
-    let (front, back) = actors.split_at_mut(actors.len() / 2);
+    let low = crews / 2;
+    let high = crews - low;
+    let second = first.saturating_add(low);
+    let count = bells.actors_of(first, low).min(actors.len());
+    let (front, back) = actors.split_at_mut(count);
     let (one, other) = join_mut(
         rt,
         &mut || -> Result<bool, Memory>
-            requires { IsSync R.row × All (Stands lines.now f.now r.now) front.now × (0 < turns) }
+            requires { IsSync R.row × All (Stands lines.now f.now r.now) front.now }
             ensures kept { IfOk result (λ _. AllKept lines.entry.now f.entry.now r.entry.now
                 front.entry.now front.exit.now) }
             ensures moved { IfOk result (λ moved. moved
                 ≡ did_any f.entry.now.ranks front.entry.now front.exit.now) }
             ensures idle { IfOk result (λ moved. moved ≡ false →
                 AllIdle lines.entry.now front.entry.now front.exit.now) }
-        { halves(rt, front, lines, f, r, gate, turns, pace) },
+        { halves(rt, front, lines, f, r, gate, turns, bells, first, low) },
         &mut || -> Result<bool, Memory>
-            requires { IsSync R.row × All (Stands lines.now f.now r.now) back.now × (0 < turns) }
+            requires { IsSync R.row × All (Stands lines.now f.now r.now) back.now }
             ensures kept { IfOk result (λ _. AllKept lines.entry.now f.entry.now r.entry.now
                 back.entry.now back.exit.now) }
             ensures moved { IfOk result (λ moved. moved
                 ≡ did_any f.entry.now.ranks back.entry.now back.exit.now) }
             ensures idle { IfOk result (λ moved. moved ≡ false →
                 AllIdle lines.entry.now back.entry.now back.exit.now) }
-        { halves(rt, back, lines, f, r, gate, turns, pace) },
+        { halves(rt, back, lines, f, r, gate, turns, bells, second, high) },
     );
     let one = one?;
     let other = other?;
     Ok(one | other)
 }
 
-/// Turns of all the actors, each in a thread of its own where one can be made, until none of them
-/// has anything to do. Each makes at least one turn and at most so many. It answers whether anything
-/// grew of any actor; where nothing did, each actor's turn moved nothing since nothing could, or its
-/// rank is worn.
-pub fn round<R: Threads + Sync, G: Gate + Sync>(
+// In how many threads the turns of so many actors are made: as many as there are processors, at least
+// two, and at most one for each actor.
+pub(crate) fn crews_for<R: Threads>(rt: &R, actors: usize) -> usize {
+    match available_parallelism(rt) {
+        Ok(count) => count.get().max(2).min(actors),
+        Err(_) => actors.min(2),
+    }
+}
+
+/// Turns of all the actors, in as many threads as there are processors where they can be made, until
+/// none of them has anything to do. Each makes at least one turn and at most so many, which no clause
+/// counts. It answers whether anything grew of any actor; where nothing did, each actor's turn moved
+/// nothing since nothing could, or its rank is worn.
+pub fn round<R: Threads + Wait + Sync, G: Gate + Sync>(
     rt: &R,
     actors: &mut [Actor],
     lines: &[Line],
@@ -220,11 +201,33 @@ pub fn round<R: Threads + Sync, G: Gate + Sync>(
     ensures idle { IfOk result (λ moved. moved ≡ false →
         AllIdle lines.now actors.old actors.new) }
 {
-    let pace = Pace {
-        all: actors.len() as u64,
-        begun: AtomicU64::new(0),
-        idle: AtomicU64::new(0),
-        ended: AtomicU64::new(0),
+    let mut crews = crews_for(rt, actors.len());
+    round_in(rt, actors, lines, f, r, gate, turns, &mut crews)
+}
+
+/// The same in so many crews, and from then on in fewer where not all of their threads could be had.
+pub(crate) fn round_in<R: Threads + Wait + Sync, G: Gate + Sync>(
+    rt: &R,
+    actors: &mut [Actor],
+    lines: &[Line],
+    f: &Fabric,
+    r: &Rings,
+    gate: &G,
+    turns: u32,
+    crews: &mut usize,
+) -> Result<bool, Memory>
+    requires stands { All (Stands lines.now f.now r.now) actors.old }
+    requires turns { 0 < turns }
+    ensures kept { IfOk result (λ _. AllKept lines.now f.now r.now actors.old actors.new) }
+    ensures moved { IfOk result (λ moved. moved ≡ did_any f.now.ranks actors.old actors.new) }
+    ensures idle { IfOk result (λ moved. moved ≡ false →
+        AllIdle lines.now actors.old actors.new) }
+{
+    let Some(one) = actors.first() else {
+        return Ok(false);
     };
-    halves(rt, actors, lines, f, r, gate, turns, &pace)
+    let bells = Bells::new(one.places.allocator(), actors, *crews)?;
+    let moved = halves(rt, actors, lines, f, r, gate, turns, &bells, 0, *crews)?;
+    *crews = bells.crews_left(*crews);
+    Ok(moved)
 }

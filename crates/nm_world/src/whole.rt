@@ -23,7 +23,7 @@ ghost use Rattle.nm_world.specs.Runs.{IsStillAt, IsWhole, NewInOrder, PairAgrees
 use crate::Actor;
 use crate::laws::{a_still_actor_ends, actors_at_rest_make_a_run};
 use crate::records::{Parts, add, parts_of};
-use crate::rounds::round;
+use crate::rounds::{crews_for, round_in};
 use nm_copyring::{RingAccount, RingPort, Rings};
 use nm_outside::Gate;
 use nm_port::{Closed, Fabric, Port};
@@ -45,8 +45,8 @@ impl Drop for Ways {
     }
 }
 
-/// How many turns each actor of a round makes at most.
-const TURNS: u32 = 4096;
+// How many turns each actor of a round makes at most.
+const TURNS: u32 = 1000000;
 
 // Whether no actor can move.
 fn are_still(actors: &[Actor], lines: &[Line]) -> bool
@@ -113,8 +113,9 @@ fn settle<R: Threads + Wait + Sync, G: Gate + Sync>(
     ensures still { IfOk result (λ _. EachActor (λ i a. IsStillAt lines.now a) actors.new) }
     ensures agree { IfOk result (λ _. AllAgree actors.new) }
 {
+    let mut crews = crews_for(rt, actors.len());
     for _ in rt.forever() {
-        round(rt, actors, lines, f, r, gate, TURNS)?;
+        round_in(rt, actors, lines, f, r, gate, TURNS, &mut crews)?;
         let still = are_still(actors, lines);
         let agree = all_agree(actors, f);
         if still & agree {
@@ -221,7 +222,7 @@ fn run_lines<R: Threads + Wait + Sync, G: Gate + Sync>(
     ))
 }
 
-/// Runs a script, each rank in a thread of its own where one can be made, until it is at rest.
+/// Runs a script, in as many threads as there are processors where they can be had, until it is at rest.
 ///
 /// It calls `gate.turn(rank)` before each turn of a rank. The record tells a lawful run that is at
 /// rest, what went from rank to rank is what its histories call for, all cells are home, and `done`

@@ -9,29 +9,29 @@ loop-init g c = record {
   many = c.requires.many;
 }
 
-pub round-requires-clause-stands : goal.round-requires-clause-stands
-round-requires-clause-stands g c lifetimes outlive =
+pub round_in-requires-clause-stands : goal.round_in-requires-clause-stands
+round_in-requires-clause-stands g c lifetimes outlive =
     all_stand c.args.lines.now c.args.f.now c.args.r.now c.args.actors.now c.loop.actors c.loop.invariant.kept
 
 pub all_agree-agree-requires-clause-many : goal.all_agree-agree-requires-clause-many
 all_agree-agree-requires-clause-many g c =
-    kept_many c.args.lines.now c.args.f.now c.args.r.now c.loop.actors c.round.new.actors
-    c.in_ok-round.ensures.kept ∙ c.loop.invariant.many
+    kept_many c.args.lines.now c.args.f.now c.args.r.now c.loop.actors c.round_in.new.actors
+    c.in_ok-round_in.ensures.kept ∙ c.loop.invariant.many
 
 pub all_agree-agree-requires-clause-ranked : goal.all_agree-agree-requires-clause-ranked
 all_agree-agree-requires-clause-ranked g c =
-    all_ranked c.args.lines.now c.args.f.now c.args.r.now c.round.new.actors
-    (all_stand c.args.lines.now c.args.f.now c.args.r.now c.loop.actors c.round.new.actors c.in_ok-round.ensures.kept)
+    all_ranked c.args.lines.now c.args.f.now c.args.r.now c.round_in.new.actors
+    (all_stand c.args.lines.now c.args.f.now c.args.r.now c.loop.actors c.round_in.new.actors c.in_ok-round_in.ensures.kept)
 
 pub returns-then-still-agree-clause-kept : goal.returns-then-still-agree-clause-kept
 returns-then-still-agree-clause-kept g c =
-    all_kept_on c.args.lines.now c.args.f.now c.args.r.now c.args.actors.now c.loop.actors c.round.new.actors
-    c.loop.invariant.kept c.in_ok-round.ensures.kept
+    all_kept_on c.args.lines.now c.args.f.now c.args.r.now c.args.actors.now c.loop.actors c.round_in.new.actors
+    c.loop.invariant.kept c.in_ok-round_in.ensures.kept
 
 pub loop-preserved : goal.loop-preserved
 loop-preserved g c = record {
-  kept = all_kept_on c.args.lines.now c.args.f.now c.args.r.now c.args.actors.now c.loop.actors c.round.new.actors
-      c.loop.invariant.kept c.in_ok-round.ensures.kept;
-  many = kept_many c.args.lines.now c.args.f.now c.args.r.now c.loop.actors c.round.new.actors
-      c.in_ok-round.ensures.kept ∙ c.loop.invariant.many;
+  kept = all_kept_on c.args.lines.now c.args.f.now c.args.r.now c.args.actors.now c.loop.actors c.round_in.new.actors
+      c.loop.invariant.kept c.in_ok-round_in.ensures.kept;
+  many = kept_many c.args.lines.now c.args.f.now c.args.r.now c.loop.actors c.round_in.new.actors
+      c.in_ok-round_in.ensures.kept ∙ c.loop.invariant.many;
 }
