@@ -1,13 +1,16 @@
 -- A run that came to rest.
-use Rattle.std.proofs.Common.{◌≡◌, ℕ, Option, Some, None, List, length, map, refl, sym, ◌∙◌, subst, arith}
+use Rattle.std.proofs.Common.{◌≡◌, ℕ, Option, Some, None, List, length, map, refl, sym, ap, ◌∙◌, subst, arith}
 use Rattle.std.specs.Prelude.{IfSome}
+use Rattle.std.proofs.lemmas.List.{length-map}
 use Rattle.std.specs.List.{slice_get}
 use Rattle.nm_types.specs.declared.scripts.Line.{Line}
 use Rattle.nm_types.specs.Sizes.{Sizes}
 use Rattle.nm_history.specs.Quiescence.{Ended}
 use Rattle.nm_cells.specs.declared.closed.Closed.{Closed}
 use Rattle.nm_cells.specs.declared.port.Fabric.{Fabric}
-use Rattle.nm_cells.specs.ClosedLists.{AllTaken}
+use Rattle.nm_cells.specs.ClosedLists.{AllTaken, ranks_of}
+use Rattle.nm_cells.specs.Ports.{knows}
+use Rattle.nm_cells.specs.declared.port.Port.{Port}
 use Rattle.nm_copyring.specs.declared.close.RingAccount.{RingAccount}
 use Rattle.nm_copyring.specs.declared.port.Rings.{Rings}
 use Rattle.nm_world.specs.declared.actors.Actor.{Actor}
@@ -45,3 +48,9 @@ pub carried_of : (shape : Sizes) (lines : List Line) (actors : List Actor) (c : 
     (ends : List Ended) → HasRun shape lines actors c q ends → AreCarried shape lines c q ends
 carried_of shape lines actors c q ends run i j e within at =
     subst (λ (o : Option Ended). IfSome o (IsCarried lines c q i j)) at (run.carried i j within)
+
+pub closed_many : (n : ℕ) (actors : List Actor) (c : Closed) → IsClosed n (map (λ (a : Actor). a.port) actors) c →
+    length actors ≡ n → ranks_of c ≡ n
+closed_many n actors c closed many =
+    let ports = map (λ (a : Actor). a.port) actors in
+    ap length closed.entries ∙ length-map ports knows ∙ length-map actors (λ (a : Actor). a.port) ∙ many

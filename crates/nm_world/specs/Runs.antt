@@ -11,7 +11,7 @@ use Rattle.nm_report.specs.declared.records.RunRecord.{RunRecord}
 use Rattle.nm_cells.specs.declared.port.Fabric.{Fabric}
 use Rattle.nm_cells.specs.declared.port.Port.{Port}
 use Rattle.nm_cells.specs.declared.closed.Closed.{Closed}
-use Rattle.nm_cells.specs.ClosedLists.{sent_list, taken_list}
+use Rattle.nm_cells.specs.ClosedLists.{ranks_of, sent_list, taken_list}
 use Rattle.nm_cells.specs.Ports.{IsNew, knows, sent_by, taken_by}
 use Rattle.nm_copyring.specs.declared.close.RingAccount.{RingAccount}
 use Rattle.nm_copyring.specs.declared.port.RingPort.{RingPort}
@@ -55,11 +55,12 @@ abbrev pub count_between : List Packets → ℕ → ℕ → ℕ
 count_between packets i j =
     option_map_or (λ p. p.count) (find (λ p. p.from == i && p.to == j) packets) 0
 
--- The closed ports carried what the record tells, and no more: their account is the record's, from each
--- rank to each they sent and took as many packets as it counts, and these packets, and the pieces
--- pushed and pulled, are what its histories call for.
+-- The closed ports carried what the record tells, and no more: they are those of all ranks, their account
+-- is the record's, from each rank to each they sent and took as many packets as it counts, and these
+-- packets, and the pieces pushed and pulled, are what its histories call for.
 pub record HasCarried (shape : Sizes) (lines : List Line) (run : RunRecord) (c : Closed)
     (q : RingAccount) : Type 0 where
+  pub many : ranks_of c ≡ shape.ranks
   pub account : run.cells ≡ c.cells
   pub sent :
       (i j : ℕ) → i < shape.ranks → j < shape.ranks →

@@ -17,7 +17,7 @@ use Rattle.nm_world.specs.Records.{AreToTell, counts_of}
 use Rattle.nm_report.specs.Ends.{ends_of, packets_of}
 use Rattle.nm_world.specs.Runs.{AreCarried}
 use Rattle.nm_world.proofs.Accounts.{to_tell, told_run}
-use Rattle.nm_world.proofs.AtRest.{all_taken_of, carried_of, each_ends}
+use Rattle.nm_world.proofs.AtRest.{all_taken_of, carried_of, closed_many, each_ends}
 use Rattle.nm_world.proofs.Counted.{carried_counts}
 use Rattle.nm_world.proofs.Runs.{in_place_at, in_place_kept, in_place_stands, kept_many}
 use Rattle.nm_world.proofs.Runs.{placed_new}
@@ -147,6 +147,7 @@ returns-clause-run g c =
     record {
       lawful = told.0;
       carried = record {
+        many = closed_many c.args.shape.ranks actors c.close-closed.result closed (many ∙ ranks);
         account = c.account-cells.ensures;
         sent = λ i j low within. (counts i j low within).0;
         taken = λ i j low within. (counts i j low within).1;
