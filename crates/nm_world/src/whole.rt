@@ -235,7 +235,6 @@ pub fn run<R: Threads + Wait + Sync, G: Gate + Sync>(
     gate: &G,
 ) -> Result<(RunRecord, Ways), Memory>
     requires ranks { shape.ranks ≡ script.now.ranks }
-    requires lines { AreLines shape.ranks script.now.lines }
     ensures shaped { IfOk result (λ x. x.0.shape ≡ shape) }
     ensures run { IfOk result (λ x. IsWhole shape script.now.lines x.0 x.1.cells x.1.rings) }
     ensures home { IfOk result (λ x. AllCellsFree x.0) }
