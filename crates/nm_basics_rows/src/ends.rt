@@ -1,7 +1,7 @@
 //! What no clause says: that calls succeed, how large the buffers are, what the std ends hand on,
 //! and who met at a gate.
 
-ghost use Rattle.std.specs.Prelude.{◌<◌};
+ghost use Rattle.std.specs.Prelude.{◌≡◌, ◌<◌, IfOk};
 
 use nm_outside::{
     Failed, Gate, MemorySink, MemorySource, PairGate, RealSink, RealSource, SINK_ROOM, Sink,
@@ -121,7 +121,9 @@ impl Counted {
         }
     }
 
-    fn call(&mut self, len: usize) -> io::Result<usize> {
+    fn call(&mut self, len: usize) -> io::Result<usize>
+        ensures { IfOk result (λ count. count ≡ len) }
+    {
         self.calls = self.calls.saturating_add(1);
         self.longest = self.longest.max(len);
         if self.calls <= self.fails {

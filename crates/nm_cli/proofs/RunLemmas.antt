@@ -1,11 +1,11 @@
 -- What runs and reads say of an answer.
-use Rattle.std.proofs.Common.{◌≡◌, ℕ, Bool, List, ◌++◌, Option, Some, None, take, drop, refl, sym, ap, ◌∙◌, subst}
+use Rattle.std.proofs.Common.{◌≡◌, ℕ, Bool, List, Option, Some, None, take, drop, refl, sym, ap, ◌∙◌, subst}
 use Rattle.std.specs.Option.{IfSome, IsSomeAnd}
-use Rattle.std.proofs.lemmas.List.{append_cancel_left, take-append-drop}
 use Rattle.nm_types.specs.declared.scripts.Line.{Line}
 use Rattle.nm_types.specs.Limits.{IsScript}
 use Rattle.nm_types.specs.Sizes.{Sizes}
 use Rattle.nm_outside.specs.Told.{ReadSoFar}
+use Rattle.nm_outside.proofs.ReadingLemmas.{left_at}
 use Rattle.nm_command_line.specs.declared.CommandLine.{CommandLine}
 use Rattle.nm_command_line.specs.declared.Mode.{Mode}
 use Rattle.nm_command_line.specs.declared.Mode.TheVariants.{Run, Trace, Plain, Check, Parts}
@@ -155,17 +155,7 @@ pub spelled : (input : Option (List ℕ)) (read : List ℕ) (ranks : ℕ) (lines
 spelled None read ranks lines is text = tt
 spelled (Some bytes) read ranks lines is text = subst (λ bytes. IsTextOf bytes ranks lines) is text
 
--- what is left of a source that was read to its end or to a limit
-pub left_at : (limit : ℕ) (input left : Option (List ℕ)) (read : List ℕ) →
-    IfSome input (λ bytes. read ≡ take limit bytes) → ReadSoFar input left read →
-    IfSome input (λ bytes. left ≡ Some (drop limit bytes))
-left_at limit None left read is so_far = tt
-left_at limit (Some bytes) left read is (rest, left_is, whole) =
-    let halves = sym whole ∙ sym (take-append-drop limit bytes) in
-    let same : take limit bytes ++ rest ≡ take limit bytes ++ drop limit bytes =
-    ap (λ xs. xs ++ rest) (sym is) ∙ halves in
-    left_is ∙ ap Some (append_cancel_left (take limit bytes) rest (drop limit bytes) same)
-
+-- what is left of a source that was read to its end or to the limit of a script
 pub left_over : (input left : Option (List ℕ)) (read : List ℕ) →
     IfSome input (λ bytes. read ≡ take 8388609 bytes) → ReadSoFar input left read →
     IfSome input (λ bytes. left ≡ Some (drop 8388609 bytes))

@@ -2,7 +2,8 @@
 use Rattle.std.proofs.Common.{sym, ap, subst}
 use Rattle.nm_checked.specs.Checks.{IsChecked, IsInput}
 use Rattle.nm_cli.specs.declared.answers.Response.TheVariants.{Checked}
-use Rattle.nm_cli.proofs.RunLemmas.{checked_as, holds_for, left_at}
+use Rattle.nm_cli.proofs.RunLemmas.{checked_as, holds_for}
+use Rattle.nm_outside.proofs.ReadingLemmas.{left_at}
 use Rattle.nm_cli.proofs.checks.answer_trace.Goals as goal
 
 pub returns-in_ok-checked-in-Ok-clause-answer : goal.returns-in_ok-checked-in-Ok-clause-answer
