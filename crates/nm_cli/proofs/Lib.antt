@@ -1,6 +1,5 @@
 mod CheckEnds
 mod EndLemmas
-mod LineLemmas
 mod PlainEnds
 mod PlanEnds
 mod RunEnds
