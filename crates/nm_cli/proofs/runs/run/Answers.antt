@@ -1,21 +1,8 @@
 -- The run is one of the script, in the sizes that the words say.
-use Rattle.std.proofs.Common.{◌≡◌, ℕ, rules, subst, sym}
-use Rattle.nm_process.specs.Lines.{AreLines}
+use Rattle.std.proofs.Common.{◌≡◌, rules}
 use Rattle.nm_cli.specs.Scripts.{sizes_for}
 use Rattle.nm_cli.proofs.RunLemmas.{ran}
 use Rattle.nm_cli.proofs.runs.run.Goals as goal
-use Rattle.nm_types.proofs.BodyLemmas.{all_in_range}
-
--- the script's limits are what a run asks for
-pub run-requires-clause-lines : goal.run-requires-clause-lines
-run-requires-clause-lines g c lifetimes outlive =
-    let script = c.args.script.now in
-    let same : c.unwrap-shape.result.ranks ≡ script.ranks = search rules in
-    subst (λ (n : ℕ). AreLines n script.lines) (sym same)
-    (record {
-      few = script.limits.few_lines;
-      in_range = all_in_range script.ranks script.lines script.limits.lines_in_range;
-    })
 
 pub returns-clause-run : goal.returns-clause-run
 returns-clause-run g c =
