@@ -106,7 +106,7 @@ module _ (shape : Sizes) (commands : List Numbered) (at : ℕ) (h : List Event) 
         (sym (filter-append is_start (since_command before) (w ∷ map (λ (e : Event). e.what) next.mid))
         ∙ ap (λ (ws : List Happened). filter is_start ws) (sym next.since)
         ∙ nothing_mapped (starts_since (before ++ record { stamp = stamp; what = w } ∷ next.mid))
-        (next.starts
+        (next.starts.0
         ∙ ap (λ (o : Option Command). cond (is_started next.answer) (option_map_or (start_of shape.eager commands
         (before ++ record { stamp = stamp; what = w } ∷ next.mid) next.line) o []) []) (next.here
         ∙ ap (λ (c : Command). Some c) is)
@@ -197,7 +197,7 @@ module _ (shape : Sizes) (commands : List Numbered) (at : ℕ) (h : List Event) 
       Next before stamp (event.Match number from n cap line) → IsMatchOf commands before from n cap line
   matching before stamp number from n cap line next =
       by_started (is_started next.answer)
-      (ap (λ (ws : List Happened). map without_number (filter is_start ws)) (sym next.since) ∙ next.starts
+      (ap (λ (ws : List Happened). map without_number (filter is_start ws)) (sym next.since) ∙ next.starts.0
       ∙ ap (λ (o : Option Command). cond (is_started next.answer) (option_map_or (start_of shape.eager commands
       (before ++ e ∷ next.mid) next.line) o []) []) next.here)
     where

@@ -145,7 +145,7 @@ module _ (shape : Sizes) (commands : List Numbered) (at : ℕ) (stand : AreAtLin
       ap (λ (l : ℕ). command_at commands l) (sym due.line_is) ∙ stand (length (ran_lines h)) due.command due.next in
       let called : map without_number (pre ++ w ∷ mid)
       ≡ cond (is_started answer) (start_of shape.eager commands h line due.command.command) [] =
-      ap (λ (ws : List Happened). map without_number ws) (sym starts) ∙ start
+      ap (λ (ws : List Happened). map without_number ws) (sym starts) ∙ start.0
       ∙ ap (λ (o : Option Command). cond (is_started answer)
       (option_map_or (start_of shape.eager commands h line) o []) []) here in
       by_started due here (is_started answer) called
