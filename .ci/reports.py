@@ -1,6 +1,6 @@
-"""All reports that the runs of a small script can have, found event by event by the rules of docs/definitions.md: each rank
-keeps what its history tells in plain tuples, and every event that may come next is tried, quiet ones too. It shares no line
-with the program, which takes none but the events that a later answer can tell."""
+"""All reports that the runs of a small script can have, found event by event by the rules of docs/definitions.md: each
+rank keeps what its history tells in plain tuples, and each event that may come next is tried, quiet ones too. It shares
+no line with the program."""
 import collections
 
 CELLS = 8
@@ -14,13 +14,16 @@ def body_of(word):
 
 # A message, as its sender sent it. Its name is its sender, its receiver and its number between them.
 Message = collections.namedtuple("Message", "tag ctx body asks")
-# A receive: what it selects (None, where it is of a claimed message), its capacity, its message, and whether it was cancelled.
+# A receive: what it selects (None, where it is of a claimed message), its capacity, its message, and whether it was
+# cancelled.
 Receive = collections.namedtuple("Receive", "pick cap message cancelled")
 # What the history of a rank tells: how many commands ran; the request or the message of an event that stands before the
-# answer of the next one; the requests by name and the messages by handle; the receives, by number; the messages sent, by
-# destination; those that came, in order, with what became of each ("free", "paired", "claimed", "withdrawn"); of which
-# messages there was a Whole, an Out, a Recall; and the answers to withdrawals, as receiver and as sender.
-Rank = collections.namedtuple("Rank", "at begun names handles receives sent came whole out recalled withdrawn undone told")
+# answer of the next one; the requests by name and the messages by handle; the receives, by number; the messages sent,
+# by destination; those that came, in order, with what became of each ("free", "paired", "claimed", "withdrawn"); of
+# which messages there was a Whole, an Out, a Recall; the answers to withdrawals, as receiver and as sender; and the
+# answers so far.
+FIELDS = "at begun names handles receives sent came whole out recalled withdrawn undone told"
+Rank = collections.namedtuple("Rank", FIELDS)
 START = Rank(0, None, (), (), (), (), (), frozenset(), frozenset(), frozenset(), (), (), ())
 
 
@@ -37,7 +40,9 @@ def commands_of(script):
 
 def put(pairs, key, value):
     """A tuple of pairs with this value at the key, or without the key where the value is None."""
-    return tuple(sorted({**dict(pairs), key: value}.items())) if value is not None else tuple(p for p in pairs if p[0] != key)
+    if value is None:
+        return tuple(it for it in pairs if it[0] != key)
+    return tuple(sorted({**dict(pairs), key: value}.items()))
 
 
 def fits(pick, sender, message):
