@@ -1,8 +1,10 @@
 -- Ranks that are alike have one picture.
 use Rattle.std.proofs.Common.{◌≡◌, ℕ, ◌+◌, ◌-◌, ◌≤◌, ◌<◌, ◌⊎◌, zero, suc, List, [], ◌∷◌, ◌++◌, Bool, true, false}
+use Rattle.std.proofs.Common.{◌&&◌, ◌||◌}
 use Rattle.std.proofs.Common.{cond, refl, sym, ap, ◌∙◌, subst, arith, codes, count_by, drop, flat_map, length, min}
 use Rattle.std.proofs.Common.{sum_by, take, Option, None, nat_lt, ◌^◌}
-use Rattle.std.specs.List.{AllByRecursion, slice_get}
+use Rattle.std.specs.List.{AllByRecursion, filter, list_any, slice_get}
+use Rattle.std.specs.Option.{is_some}
 use Rattle.std.proofs.lemmas.Bool.{ltb-true, ltb-false}
 use Rattle.std.proofs.lemmas.List.Sums.{sum_by-cons}
 use Rattle.nm_history.specs.declared.events.Event.{Event}
@@ -21,8 +23,13 @@ use Rattle.nm_diagram.specs.Diagrams.{Lane, Mark, all_arrows, all_lanes, all_mar
 use Rattle.nm_diagram.specs.Diagrams.{arrows_of, from_lane, lane_of, marks_at, sent_by}
 use Rattle.nm_diagram.specs.Frames.{IsFrame, IsSilent, is_shown, latest, latest_of_all, shown_count}
 use Rattle.nm_diagram.specs.Links.{all_links, links_among}
-use Rattle.nm_diagram.specs.Pictures.{IsPictureOf, arrow_text, front_text, lane_text, link_text, mark_text}
-use Rattle.nm_diagram.specs.Pictures.{picture_text, shapes_text}
+use Rattle.nm_diagram.specs.declared.signs.Sign.{Sign}
+use Rattle.nm_diagram.specs.Labels.{labels_at}
+use Rattle.nm_diagram.specs.Legend.{has_sign, is_told, is_used, sheet_text}
+use Rattle.nm_diagram.specs.Pictures.{IsPictureOf, arrow_text, axis_text, front_text, has_room, head_text, label_text}
+use Rattle.nm_diagram.specs.Pictures.{labels_text, lane_text, link_text, mark_text, note_text, picture_text, rows_text}
+use Rattle.nm_diagram.specs.Pictures.{shapes_text}
+use Rattle.nm_diagram.specs.Signs.{all_signs, is_waits}
 
 -- being alike goes both ways
 alike-sym : (xs ys : List RankAccount) → AreAlike xs ys → AreAlike ys xs
@@ -187,33 +194,86 @@ links_none : (end rank : ℕ) → links_among end rank (take 4096 []) ≡ []
 unfolding matched_pairs
 links_none end rank = refl
 
+-- a sign stands in both or in none
+silent_any : (test : RankAccount → Bool) → ((x : RankAccount) → IsSilent x → test x ≡ false) →
+    (ys : List RankAccount) → AllByRecursion IsSilent ys → list_any test ys ≡ false
+silent_any test none [] h = refl
+silent_any test none (y ∷ ys) h =
+    ap (λ b. b || list_any test ys) (none y h.0) ∙ silent_any test none ys h.1
+
+alike_any : (test : RankAccount → Bool) → ((x : RankAccount) → IsSilent x → test x ≡ false) →
+    ((x y : RankAccount) → x.history.events ≡ y.history.events → x.waits ≡ y.waits → test x ≡ test y) →
+    (xs ys : List RankAccount) → AreAlike xs ys → list_any test xs ≡ list_any test ys
+alike_any test none same [] ys h = sym (silent_any test none ys h)
+alike_any test none same (x ∷ xs) [] h = silent_any test none (x ∷ xs) h
+alike_any test none same (x ∷ xs) (y ∷ ys) h =
+    ap (λ b. b || list_any test xs) (same x y h.0 h.1)
+    ∙ ap (λ b. test y || b) (alike_any test none same xs ys h.2)
+
+never_both : (b : Bool) → (b && false || false) ≡ false
+never_both true = refl
+never_both false = refl
+
+alike_used : (end : ℕ) (s : Sign) (xs ys : List RankAccount) → AreAlike xs ys → is_used end xs s ≡ is_used end ys s
+alike_used end s xs ys h = alike_any (has_sign end s) none same xs ys h where
+  by : List Event → Option ℕ → Bool
+  by events waits = is_waits s && is_some waits || list_any (is_told end s) events
+
+  none : (x : RankAccount) → IsSilent x → has_sign end s x ≡ false
+  none x h = ap (λ l. by l x.waits) h.0 ∙ ap (λ w. by [] w) h.1 ∙ never_both (is_waits s)
+
+  same : (x y : RankAccount) → x.history.events ≡ y.history.events → x.waits ≡ y.waits →
+      has_sign end s x ≡ has_sign end s y
+  same x y events waits = ap (λ l. by l x.waits) events ∙ ap (λ w. by y.history.events w) waits
+
+same_filter : (f g : Sign → Bool) → ((s : Sign) → f s ≡ g s) → (signs : List Sign) → filter f signs ≡ filter g signs
+same_filter f g same [] = refl
+same_filter f g same (s ∷ signs) =
+    ap (λ b. cond b (s ∷ filter f signs) (filter f signs)) (same s)
+    ∙ ap (λ l. cond (g s) (s ∷ l) l) (same_filter f g same signs)
+
+front-alike : (xs ys : List RankAccount) (frame : Frame) → AreAlike xs ys → front_text frame xs ≡ front_text frame ys
+unfolding front_text
+front-alike xs ys frame h =
+    ap (λ l. head_text frame ++ (sheet_text ++ (note_text frame.left_out ++ (rows_text 0 l ++ axis_text frame))))
+    (same_filter (is_used frame.end xs) (is_used frame.end ys) (λ s. alike_used frame.end s xs ys h) all_signs)
+
+labels-alike : (xs ys : List RankAccount) (frame : Frame) → AreAlike xs ys → labels_text frame xs ≡ labels_text frame ys
+unfolding labels_text
+labels-alike xs ys frame h =
+    ap (λ l. cond (has_room frame) (flat_map (label_text frame) l) [])
+    (alike_have (λ rank events. flat_map (labels_at frame.end rank) events) (λ rank. refl) 0 xs ys h)
+
 shapes-alike : (xs ys : List RankAccount) (frame : Frame) → frame.lanes ≤ length xs → frame.lanes ≤ length ys →
     AreAlike xs ys → shapes_text frame xs ≡ shapes_text frame ys
 unfolding shapes_text
 shapes-alike xs ys frame m n h =
     let end = frame.end in
-    let lanes : List Lane → List ℕ = λ l. flat_map (lane_text frame) l in
-    let links : List Link → List ℕ = λ l. flat_map link_text l in
-    let arrows : List Arrow → List ℕ = λ l. flat_map arrow_text l in
-    let marks : List Mark → List ℕ = λ l. flat_map mark_text l in
-    let rest_x : List ℕ = links (all_links end xs) ++ (arrows (all_arrows end xs) ++ marks (all_marks end xs)) in
-    ap (λ l. lanes l ++ rest_x) (alike_lanes frame.lanes 0 xs ys m n h)
-    ∙ ap (λ l. lanes (all_lanes (take frame.lanes ys)) ++
-    (links l ++ (arrows (all_arrows end xs) ++ marks (all_marks end xs))))
+    ap (λ l. all l (all_links end xs) (all_marks end xs) (all_arrows end xs) (labels_text frame xs))
+    (alike_lanes frame.lanes 0 xs ys m n h)
+    ∙ ap (λ l. all lanes l (all_marks end xs) (all_arrows end xs) (labels_text frame xs))
     (alike_have (λ rank events. links_among end rank (take 4096 events)) (links_none end) 0 xs ys h)
-    ∙ ap (λ l. lanes (all_lanes (take frame.lanes ys)) ++
-    (links (all_links end ys) ++ (arrows l ++ marks (all_marks end xs))))
+    ∙ ap (λ l. all lanes (all_links end ys) l (all_arrows end xs) (labels_text frame xs))
+    (alike_have (λ rank events. flat_map (marks_at end rank) events) (λ rank. refl) 0 xs ys h)
+    ∙ ap (λ l. all lanes (all_links end ys) (all_marks end ys) l (labels_text frame xs))
     (alike_arrows end 0 xs ys h 0 xs
     ∙ alike_have (λ rank events. flat_map (arrows_at end ys rank) events) (λ rank. refl) 0 xs ys h)
-    ∙ ap (λ l. lanes (all_lanes (take frame.lanes ys)) ++
-    (links (all_links end ys) ++ (arrows (all_arrows end ys) ++ marks l)))
-    (alike_have (λ rank events. flat_map (marks_at end rank) events) (λ rank. refl) 0 xs ys h)
+    ∙ ap (λ l. all lanes (all_links end ys) (all_marks end ys) (all_arrows end ys) l) (labels-alike xs ys frame h)
+  where
+    lanes : List Lane
+    lanes = all_lanes (take frame.lanes ys)
+
+    all : List Lane → List Link → List Mark → List Arrow → List ℕ → List ℕ
+    all lanes links marks arrows labels =
+        flat_map (lane_text frame) lanes ++ (flat_map (link_text frame) links
+        ++ (flat_map (mark_text frame) marks ++ (flat_map (arrow_text frame) arrows ++ labels)))
 
 picture-alike : (xs ys : List RankAccount) (frame : Frame) → frame.lanes ≤ length xs → frame.lanes ≤ length ys →
     AreAlike xs ys → picture_text frame xs ≡ picture_text frame ys
 unfolding picture_text
 picture-alike xs ys frame m n h =
-    ap (λ l. front_text frame ++ (l ++ codes "</svg>\n")) (shapes-alike xs ys frame m n h)
+    ap (λ l. l ++ (shapes_text frame xs ++ codes "</svg>\n")) (front-alike xs ys frame h)
+    ∙ ap (λ l. front_text frame ys ++ (l ++ codes "</svg>\n")) (shapes-alike xs ys frame m n h)
 
 pub alike-picture : (run other : RunRecord) (text : List ℕ) → AreAlike run.ranks other.ranks → IsPictureOf run text →
     IsPictureOf other text

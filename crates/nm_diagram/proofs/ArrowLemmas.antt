@@ -1,5 +1,5 @@
 -- The events at the ends of arrows.
-use Rattle.std.proofs.Common.{◌≡◌, ℕ, ◌+◌, ◌<◌, zero, suc, List, [], ◌∷◌, ◌++◌, Bool, true, false, cond, ◌&&◌, refl}
+use Rattle.std.proofs.Common.{◌≡◌, ℕ, ◌+◌, ◌<◌, zero, suc, List, [], ◌∷◌, Bool, true, false, cond, ◌&&◌, refl}
 use Rattle.std.proofs.Common.{sym, ap, ◌∙◌, subst, arith, take, flat_map, Option, Some, None}
 use Rattle.std.specs.List.{AllByRecursion, Contains, slice_get}
 use Rattle.std.proofs.lemmas.Bool.{and_parts, ltb-true}
@@ -17,10 +17,10 @@ use Rattle.nm_diagram.specs.Frames.{is_shown}
 use Rattle.nm_diagram.specs.Joined.{IsAt, IsOfMessage}
 use Rattle.nm_facts.proofs.Lists.{all_append as both}
 
-here : {X : Type 0} (x : X) (xs : List X) → Contains (x ∷ xs) x
+pub here : {X : Type 0} (x : X) (xs : List X) → Contains (x ∷ xs) x
 here x xs = (0, omega arith, refl)
 
-there : {X : Type 0} (x y : X) (xs : List X) → Contains xs y → Contains (x ∷ xs) y
+pub there : {X : Type 0} (x y : X) (xs : List X) → Contains xs y → Contains (x ∷ xs) y
 there x y xs c = (suc c.0, omega (arith, c.1), c.2)
 
 later : (end : ℕ) (e : Event) (events : List Event) (anchor : Anchor) (stamp : ℕ) →
@@ -44,7 +44,7 @@ next_found end e events anchor stamp rest true is found more =
     }
 next_found end e events anchor stamp rest false is found more = later end e events anchor stamp (more found)
 
-found_at : (end stamp : ℕ) (anchor : Anchor) (events : List Event) (k : ℕ) →
+pub found_at : (end stamp : ℕ) (anchor : Anchor) (events : List Event) (k : ℕ) →
     first_stamp end anchor (take k events) ≡ Some stamp → IsAt end events anchor stamp
 found_at end stamp anchor [] zero found = absurd cc
 found_at end stamp anchor [] (suc k) found = absurd cc

@@ -1,18 +1,39 @@
--- Every sign is drawn and explained.
-use Rattle.std.proofs.Common.{◌≡◌, true, refl, map, codes, arith}
-use Rattle.std.specs.Prelude.{Contains}
+-- Every sign that stands in a picture is drawn and explained.
+use Rattle.std.proofs.Common.{◌≡◌, ℕ, ◌+◌, ◌<◌, zero, suc, Bool, true, false, cond, ◌&&◌, List, [], ◌∷◌, refl, sym}
+use Rattle.std.proofs.Common.{ap, ◌∙◌, subst, arith, flat_map, take, Option, Some, None}
+use Rattle.std.specs.List.{AllByRecursion, Contains, filter, list_any, slice_get}
+use Rattle.std.specs.Option.{is_some}
+use Rattle.std.proofs.lemmas.Bool.{lt-ltb, or_left, or_right}
+use Rattle.nm_types.specs.declared.messages.Arrival.{Arrival}
+use Rattle.nm_types.specs.declared.messages.How.{How}
 use Rattle.nm_types.specs.declared.messages.How.TheVariants.{Eager, Ask}
+use Rattle.nm_history.specs.declared.events.Event.{Event}
 use Rattle.nm_history.specs.declared.events.Happened.{Happened}
 use Rattle.nm_history.specs.declared.events.Happened.TheVariants.{Send, Post, Arrive, Whole, Out}
 use Rattle.nm_history.specs.declared.events.Happened.TheVariants.{Cancel, Recall, Withdraw}
 use Rattle.nm_history.specs.declared.events.Happened.TheVariants.{Undone, Claim, Match, Ran}
-use Rattle.nm_diagram.specs.Diagrams.{sign_of}
-use Rattle.nm_diagram.specs.Legend.{all_stand, are_explained, covers, legend, none_stands, strokes}
-use Rattle.nm_diagram.specs.Pictures.{sheet_text}
+use Rattle.nm_history.specs.declared.plain.Pair.{Pair}
+use Rattle.nm_history.specs.Matching.{matched_pairs}
+use Rattle.nm_report.specs.declared.accounts.RankAccount.{RankAccount}
+use Rattle.nm_diagram.specs.declared.signs.Sign.{Sign}
+use Rattle.nm_diagram.specs.declared.signs.Sign.TheVariants as sign
+use Rattle.nm_diagram.specs.declared.anchors.Anchor.TheVariants as anchor
+use Rattle.nm_diagram.specs.declared.arrows.Arrow.{Arrow}
+use Rattle.nm_diagram.specs.declared.links.Link.{Link}
+use Rattle.nm_diagram.specs.Anchors.{first_stamp, is_anchor}
+use Rattle.nm_diagram.specs.Diagrams.{all_arrows, all_marks, arrow_from, arrow_of, arrows_at, from_lane, mark_of}
+use Rattle.nm_diagram.specs.Diagrams.{marks_at, sent_by, sign_of}
+use Rattle.nm_diagram.specs.Links.{all_links, link_from, link_of, links_of}
+use Rattle.nm_diagram.specs.Frames.{is_shown}
+use Rattle.nm_diagram.specs.Legend.{all_stand, are_drawn, covers, has_sign, is_told, is_used, legend_of, none_stands}
+use Rattle.nm_diagram.specs.Legend.{sheet_text, strokes}
+use Rattle.nm_diagram.specs.Signs.{all_signs, is_ask, is_eager, is_waits, tells, way_of}
+use Rattle.nm_diagram.proofs.ArrowLemmas.{found_at, here, there}
+use Rattle.nm_facts.proofs.Lists.{all_append as both}
 
-pub legend-explained : are_explained legend ≡ true
+pub signs-drawn : are_drawn all_signs ≡ true
 unfolding sheet_text
-legend-explained = refl
+signs-drawn = refl
 
 pub strokes-stand : all_stand strokes ≡ true
 unfolding sheet_text
@@ -22,20 +43,234 @@ pub covers-stand : none_stands covers ≡ true
 unfolding sheet_text
 covers-stand = refl
 
-pub sign-explained : (happened : Happened) → Contains (map (λ line. line.sign) legend) (sign_of happened)
-sign-explained (Send to n tag ctx len Eager line) = (0, omega arith, refl)
-sign-explained (Send to n tag ctx len Ask line) = (1, omega arith, refl)
-sign-explained (Post post line) = (2, omega arith, refl)
-sign-explained (Arrive a) = (3, omega arith, refl)
-sign-explained (Whole from n) = (4, omega arith, refl)
-sign-explained (Out to n) = (5, omega arith, refl)
-sign-explained (Cancel number done) = (6, omega arith, refl)
-sign-explained (Recall to n) = (7, omega arith, refl)
-sign-explained (Withdraw from n done) = (8, omega arith, refl)
-sign-explained (Undone to n done) = (9, omega arith, refl)
-sign-explained (Claim from n line) = (10, omega arith, refl)
-sign-explained (Match number from n cap line) = (11, omega arith, refl)
-sign-explained (Ran line answer) = (12, omega arith, refl)
+-- what passes stays
+kept_here : {X : Type 0} (test : X → Bool) (x : X) (xs : List X) (b : Bool) → b ≡ true →
+    Contains (cond b (x ∷ filter test xs) (filter test xs)) x
+kept_here test x xs true passes = here x (filter test xs)
+kept_here test x xs false passes = absurd cc
 
-pub waits-explained : Contains (map (λ line. line.sign) legend) (codes "waits")
-waits-explained = (13, omega arith, refl)
+kept_there : {X : Type 0} (test : X → Bool) (x y : X) (xs : List X) (b : Bool) → Contains (filter test xs) y →
+    Contains (cond b (x ∷ filter test xs) (filter test xs)) y
+kept_there test x y xs true c = there x y (filter test xs) c
+kept_there test x y xs false c = c
+
+pub kept : {X : Type 0} (test : X → Bool) (xs : List X) (y : X) → Contains xs y → test y ≡ true →
+    Contains (filter test xs) y
+kept test [] y (i, below, at) passes = absurd (omega (arith, below))
+kept test (x ∷ xs) y (zero, below, at) passes =
+    subst (λ z. Contains (cond (test x) (x ∷ filter test xs) (filter test xs)) z) at
+    (kept_here test x xs (test x) (ap test at ∙ passes))
+kept test (x ∷ xs) y (suc i, below, at) passes =
+    kept_there test x y xs (test x) (kept test xs y (i, omega (arith, below), at) passes)
+
+-- what one passes, some pass
+any_passes : {X : Type 0} (test : X → Bool) (xs : List X) (y : X) → Contains xs y → test y ≡ true →
+    list_any test xs ≡ true
+any_passes test [] y (i, below, at) passes = absurd (omega (arith, below))
+any_passes test (x ∷ xs) y (zero, below, at) passes = or_left (test x) (list_any test xs) (ap test at ∙ passes)
+any_passes test (x ∷ xs) y (suc i, below, at) passes =
+    or_right (test x) (list_any test xs) (any_passes test xs y (i, omega (arith, below), at) passes)
+
+-- each sign is in the list of all
+sign-listed : (s : Sign) → Contains all_signs s
+sign-listed sign.Send = (0, omega arith, refl)
+sign-listed sign.Ask = (1, omega arith, refl)
+sign-listed sign.Post = (2, omega arith, refl)
+sign-listed sign.Arrive = (3, omega arith, refl)
+sign-listed sign.Whole = (4, omega arith, refl)
+sign-listed sign.Out = (5, omega arith, refl)
+sign-listed sign.Cancel = (6, omega arith, refl)
+sign-listed sign.Recall = (7, omega arith, refl)
+sign-listed sign.Withdraw = (8, omega arith, refl)
+sign-listed sign.Undone = (9, omega arith, refl)
+sign-listed sign.Claim = (10, omega arith, refl)
+sign-listed sign.Match = (11, omega arith, refl)
+sign-listed sign.Ran = (12, omega arith, refl)
+sign-listed sign.Waits = (13, omega arith, refl)
+sign-listed sign.EagerWay = (14, omega arith, refl)
+sign-listed sign.AskWay = (15, omega arith, refl)
+sign-listed sign.Taken = (16, omega arith, refl)
+
+-- an event is told by its own sign
+own_sign : (w : Happened) → tells (sign_of w) w ≡ true
+own_sign (Send to n tag ctx len Eager line) = refl
+own_sign (Send to n tag ctx len Ask line) = refl
+own_sign (Post post line) = refl
+own_sign (Arrive a) = refl
+own_sign (Whole from n) = refl
+own_sign (Out to n) = refl
+own_sign (Cancel number done) = refl
+own_sign (Recall to n) = refl
+own_sign (Withdraw from n done) = refl
+own_sign (Undone to n done) = refl
+own_sign (Claim from n line) = refl
+own_sign (Match number from n cap line) = refl
+own_sign (Ran line answer) = refl
+
+-- a sign that tells an event which is shown stands in the legend
+pub told-explained : (end : ℕ) (ranks : List RankAccount) (s : Sign) (account : RankAccount) (e : Event) →
+    Contains ranks account → Contains account.history.events e → is_shown end e ≡ true → tells s e.what ≡ true →
+    Contains (legend_of end ranks) s
+told-explained end ranks s account e among within shown told =
+    let both_pass : (is_shown end e && tells s e.what) ≡ true =
+    ap (λ b. b && tells s e.what) shown ∙ told in
+    let of_rank = or_right (is_waits s && is_some account.waits) (list_any (is_told end s) account.history.events)
+    (any_passes (is_told end s) account.history.events e within both_pass) in
+    kept (is_used end ranks) all_signs s (sign-listed s) (any_passes (has_sign end s) ranks account among of_rank)
+
+pub sign-explained : (end : ℕ) (ranks : List RankAccount) (account : RankAccount) (e : Event) →
+    Contains ranks account → Contains account.history.events e → is_shown end e ≡ true →
+    Contains (legend_of end ranks) (sign_of e.what)
+sign-explained end ranks account e among within shown =
+    told-explained end ranks (sign_of e.what) account e among within shown (own_sign e.what)
+
+some_waits : (waits : Option ℕ) → ¬ (waits ≡ None) → is_some waits ≡ true
+some_waits None some = absurd (some refl)
+some_waits (Some line) some = refl
+
+pub waits-explained : (end : ℕ) (ranks : List RankAccount) (account : RankAccount) → Contains ranks account →
+    ¬ (account.waits ≡ None) → Contains (legend_of end ranks) sign.Waits
+waits-explained end ranks account among waits =
+    let of_rank = or_left (is_some account.waits) (list_any (is_told end sign.Waits) account.history.events)
+    (some_waits account.waits waits) in
+    kept (is_used end ranks) all_signs sign.Waits (sign-listed sign.Waits)
+    (any_passes (has_sign end sign.Waits) ranks account among of_rank)
+
+-- what holds of all that each event has, holds of all that some ranks have
+of_events : {X : Type 0} (P : X → Type 0) (has : Event → List X) (account : RankAccount) (events : List Event) →
+    ((e : Event) → Contains account.history.events e → AllByRecursion P (has e)) →
+    ((e : Event) → Contains events e → Contains account.history.events e) → AllByRecursion P (flat_map has events)
+of_events P has account [] each within = tt
+of_events P has account (e ∷ events) each within =
+    both P (has e) (flat_map has events) (each e (within e (here e events)))
+    (of_events P has account events each (λ x c. within x (there e x events c)))
+
+of_ranks : {X : Type 0} (P : X → Type 0) (has : ℕ → Event → List X) (rank : ℕ) (ranks accounts : List RankAccount) →
+    ((rank : ℕ) (account : RankAccount) (e : Event) → Contains ranks account → Contains account.history.events e →
+    AllByRecursion P (has rank e)) → ((x : RankAccount) → Contains accounts x → Contains ranks x) →
+    AllByRecursion P (from_lane (λ rank account. flat_map (has rank) account.history.events) rank accounts)
+of_ranks P has rank ranks [] each into = tt
+of_ranks P has rank ranks (account ∷ accounts) each into =
+    let among = into account (here account accounts) in
+    both P (flat_map (has rank) account.history.events)
+    (from_lane (λ rank account. flat_map (has rank) account.history.events) (rank + 1) accounts)
+    (of_events P (has rank) account account.history.events (λ e c. each rank account e among c) (λ e c. c))
+    (of_ranks P has (rank + 1) ranks accounts each (λ x c. into x (there account x accounts c)))
+
+-- marks
+one_mark : (end rank : ℕ) (ranks : List RankAccount) (account : RankAccount) (e : Event) → Contains ranks account →
+    Contains account.history.events e → (b : Bool) → is_shown end e ≡ b →
+    AllByRecursion (λ mark. Contains (legend_of end ranks) mark.sign) (cond b (mark_of rank e ∷ []) [])
+one_mark end rank ranks account e among within true shown =
+    (sign-explained end ranks account e among within shown, tt)
+one_mark end rank ranks account e among within false shown = tt
+
+pub marks-explained : (end : ℕ) (ranks : List RankAccount) →
+    AllByRecursion (λ mark. Contains (legend_of end ranks) mark.sign) (all_marks end ranks)
+marks-explained end ranks =
+    of_ranks (λ mark. Contains (legend_of end ranks) mark.sign) (marks_at end) 0 ranks ranks
+    (λ rank account e among within. one_mark end rank ranks account e among within (is_shown end e) refl) (λ x c. c)
+
+-- arrows
+way_told : (a : Arrival) (how : How) → a.env.how ≡ how → tells (way_of how) (Arrive a) ≡ true
+way_told a Eager is = ap is_eager is
+way_told a Ask is = ap is_ask is
+
+abbrev HasWay : ℕ → List RankAccount → Arrow → Type 0
+HasWay end ranks arrow = Contains (legend_of end ranks) (way_of arrow.how)
+
+way_of_arrow : (end rank stamp : ℕ) (ranks : List RankAccount) (a : Arrival) (sent : Option ℕ) →
+    Contains (legend_of end ranks) (way_of a.env.how) →
+    AllByRecursion (HasWay end ranks) (arrow_from a.env.from rank stamp a.n a.env.how sent)
+way_of_arrow end rank stamp ranks a None way = tt
+way_of_arrow end rank stamp ranks a (Some s) way = (way, tt)
+
+arrow_by_what : (end rank : ℕ) (ranks : List RankAccount) (account : RankAccount) (e : Event) (w : Happened) →
+    e.what ≡ w → Contains ranks account → Contains account.history.events e → is_shown end e ≡ true →
+    AllByRecursion (HasWay end ranks) (arrow_of end ranks rank e.stamp w)
+arrow_by_what end rank ranks account e (Arrive a) is among within shown =
+    way_of_arrow end rank e.stamp ranks a (sent_by end rank a.n (slice_get ranks a.env.from))
+    (told-explained end ranks (way_of a.env.how) account e among within shown
+    (subst (λ w. tells (way_of a.env.how) w ≡ true) (sym is) (way_told a a.env.how refl)))
+arrow_by_what end rank ranks account e _ is among within shown = tt
+
+one_arrow : (end rank : ℕ) (ranks : List RankAccount) (account : RankAccount) (e : Event) → Contains ranks account →
+    Contains account.history.events e → (b : Bool) → is_shown end e ≡ b →
+    AllByRecursion (HasWay end ranks) (cond b (arrow_of end ranks rank e.stamp e.what) [])
+one_arrow end rank ranks account e among within true shown =
+    arrow_by_what end rank ranks account e e.what refl among within shown
+one_arrow end rank ranks account e among within false shown = tt
+
+pub arrows-explained : (end : ℕ) (ranks : List RankAccount) →
+    AllByRecursion (λ arrow. Contains (legend_of end ranks) (way_of arrow.how)) (all_arrows end ranks)
+arrows-explained end ranks =
+    of_ranks (HasWay end ranks) (arrows_at end ranks) 0 ranks ranks
+    (λ rank account e among within. one_arrow end rank ranks account e among within (is_shown end e) refl) (λ x c. c)
+
+-- links
+abbrev IsTold : ℕ → List RankAccount → Link → Type 0
+IsTold end ranks link = Contains (legend_of end ranks) sign.Taken
+
+receive_told : (number : ℕ) (w : Happened) → is_anchor (anchor.Receive number) w ≡ true → tells sign.Taken w ≡ true
+receive_told number (Post post line) is = refl
+receive_told number (Match n from m cap line) is = refl
+receive_told number (Send to n tag ctx len how line) is = absurd cc
+receive_told number (Arrive a) is = absurd cc
+receive_told number (Whole from n) is = absurd cc
+receive_told number (Out to n) is = absurd cc
+receive_told number (Cancel n done) is = absurd cc
+receive_told number (Recall to n) is = absurd cc
+receive_told number (Withdraw from n done) is = absurd cc
+receive_told number (Undone to n done) is = absurd cc
+receive_told number (Claim from n line) is = absurd cc
+receive_told number (Ran line answer) is = absurd cc
+
+link_told : (end rank : ℕ) (ranks : List RankAccount) (account : RankAccount) (pair : Pair) →
+    Contains ranks account → (r a : Option ℕ) →
+    first_stamp end (anchor.Receive pair.number) (take 4096 account.history.events) ≡ r →
+    AllByRecursion (IsTold end ranks) (link_from rank pair r a)
+link_told end rank ranks account pair among None a found = tt
+link_told end rank ranks account pair among (Some r) None found = tt
+link_told end rank ranks account pair among (Some r) (Some a) found =
+    let it = found_at end r (anchor.Receive pair.number) account.history.events 4096 found in
+    let shown : is_shown end it.event ≡ true =
+    lt-ltb it.event.stamp end (subst (λ n. n < end) (sym it.at) it.shown) in (
+      told-explained end ranks sign.Taken account it.event among it.among shown
+          (receive_told pair.number it.event.what it.is_it),
+      tt,
+    )
+
+links_of_pairs : (end rank : ℕ) (ranks : List RankAccount) (account : RankAccount) (pairs : List Pair) →
+    Contains ranks account →
+    AllByRecursion (IsTold end ranks) (flat_map (link_of end rank (take 4096 account.history.events)) pairs)
+links_of_pairs end rank ranks account [] among = tt
+links_of_pairs end rank ranks account (pair ∷ pairs) among =
+    let events = take 4096 account.history.events in
+    both (IsTold end ranks) (link_of end rank events pair) (flat_map (link_of end rank events) pairs)
+    (link_told end rank ranks account pair among (first_stamp end (anchor.Receive pair.number) events)
+    (first_stamp end (anchor.Arrival pair.arrival.env.from pair.arrival.n) events) refl)
+    (links_of_pairs end rank ranks account pairs among)
+
+links_of_ranks : (end rank : ℕ) (ranks accounts : List RankAccount) →
+    ((x : RankAccount) → Contains accounts x → Contains ranks x) →
+    AllByRecursion (IsTold end ranks) (from_lane (links_of end) rank accounts)
+links_of_ranks end rank ranks [] into = tt
+links_of_ranks end rank ranks (account ∷ accounts) into =
+    both (IsTold end ranks) (links_of end rank account) (from_lane (links_of end) (rank + 1) accounts)
+    (links_of_pairs end rank ranks account (matched_pairs (take 4096 account.history.events))
+    (into account (here account accounts)))
+    (links_of_ranks end (rank + 1) ranks accounts (λ x c. into x (there account x accounts c)))
+
+pub links-explained : (end : ℕ) (ranks : List RankAccount) →
+    AllByRecursion (λ link. Contains (legend_of end ranks) sign.Taken) (all_links end ranks)
+links-explained end ranks = links_of_ranks end 0 ranks ranks (λ x c. c)
+
+-- and the legend has no other sign
+next_used : (test : Sign → Bool) (s : Sign) (b : Bool) (others : List Sign) → test s ≡ b →
+    AllByRecursion (λ s. test s ≡ true) others → AllByRecursion (λ s. test s ≡ true) (cond b (s ∷ others) others)
+next_used test s true others is rest = (is, rest)
+next_used test s false others is rest = rest
+
+pub only-used : (test : Sign → Bool) (signs : List Sign) → AllByRecursion (λ s. test s ≡ true) (filter test signs)
+only-used test [] = tt
+only-used test (s ∷ signs) = next_used test s (test s) (filter test signs) refl (only-used test signs)

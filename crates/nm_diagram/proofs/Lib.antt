@@ -1,4 +1,5 @@
 mod ArrowLemmas
+mod CountLemmas
 mod EscapeLemmas
 mod FrameLemmas
 mod LegendLemmas

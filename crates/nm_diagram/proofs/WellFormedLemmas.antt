@@ -1,34 +1,34 @@
 -- A picture is well formed, piece by piece.
-use Rattle.std.proofs.Common.{◌≡◌, ℕ, ◌+◌, ◌/◌, ◌%◌, ◌<◌, zero, suc, List, [], ◌∷◌, ◌++◌, Bool, true, false, cond}
+use Rattle.std.proofs.Common.{◌≡◌, ℕ, ◌+◌, ◌-◌, ◌*◌, ◌/◌, ◌%◌, ◌<◌, zero, suc, List, [], ◌∷◌, ◌++◌, Bool, true}
+use Rattle.std.proofs.Common.{false, cond}
 use Rattle.std.proofs.Common.{not, ◌&&◌, ◌||◌, ◌==◌, refl, sym, ap, ◌∙◌, subst, arith, codes, decimal, flat_map, take}
 use Rattle.std.proofs.Common.{max, Option, Some, None}
-use Rattle.std.specs.List.{AllByRecursion}
+use Rattle.std.specs.List.{AllByRecursion, range_with_len}
 use Rattle.std.specs.Fmt.{digits, digits_onto, digit_glyph}
 use Rattle.std.proofs.lemmas.Bool.{lt-ltb}
 use Rattle.std.proofs.lemmas.Nat.{mod_below}
-use Rattle.std.proofs.lemmas.Grind.{flat_map-append}
 use Rattle.nm_types.specs.declared.messages.How.{How}
 use Rattle.nm_types.specs.declared.messages.How.TheVariants.{Eager, Ask}
-use Rattle.nm_history.specs.declared.events.Event.{Event}
-use Rattle.nm_history.specs.declared.events.Happened.{Happened}
-use Rattle.nm_history.specs.declared.events.Happened.TheVariants.{Send, Post, Arrive, Whole, Out}
-use Rattle.nm_history.specs.declared.events.Happened.TheVariants.{Cancel, Recall, Withdraw}
-use Rattle.nm_history.specs.declared.events.Happened.TheVariants.{Undone, Claim, Match, Ran}
 use Rattle.nm_report.specs.Events.{how_word}
 use Rattle.nm_report.specs.declared.accounts.RankAccount.{RankAccount}
 use Rattle.nm_diagram.specs.declared.arrows.Arrow.{Arrow}
 use Rattle.nm_diagram.specs.declared.frames.Frame.{Frame}
 use Rattle.nm_diagram.specs.declared.links.Link.{Link}
-use Rattle.nm_diagram.specs.Diagrams.{Lane, all_arrows, all_lanes, all_marks, from_lane, mark_of, marks_at, marks_of}
-use Rattle.nm_diagram.specs.Diagrams.{sign_of, title_of}
-use Rattle.nm_diagram.specs.Frames.{is_shown}
+use Rattle.nm_diagram.specs.Diagrams.{Lane, Mark, all_arrows, all_lanes, all_marks}
+use Rattle.nm_diagram.specs.declared.signs.Sign.{Sign}
+use Rattle.nm_diagram.specs.declared.signs.Sign.TheVariants as sign
+use Rattle.nm_diagram.specs.Labels.{Label, all_labels}
+use Rattle.nm_diagram.specs.Legend.{legend_of, sheet_text}
+use Rattle.nm_diagram.specs.Signs.{name_of, words_of}
 use Rattle.nm_diagram.specs.Links.{all_links}
 use Rattle.nm_diagram.specs.Markup.{escaped, escaped_byte, is_printable}
-use Rattle.nm_diagram.specs.Pictures.{arrow_text, arrow_title, bow_text, front_text, head_text, lane_text, lane_x}
-use Rattle.nm_diagram.specs.Pictures.{left_out_text, line_text, link_text, link_title, mark_text, note_text}
-use Rattle.nm_diagram.specs.Pictures.{picture_text, process_line, rank_label, shaft_text, shapes_text, sheet_text}
-use Rattle.nm_diagram.specs.Pictures.{sign_text, size_text, stamp_y, title_text, wait_label, wait_sign, wait_text}
-use Rattle.nm_diagram.specs.Pictures.{aside_of, bow_x, foot_y}
+use Rattle.nm_diagram.specs.Pictures.{arrow_text, arrow_title, aside_of, axis_text, bow_text, bow_x, foot_y, front_text}
+use Rattle.nm_diagram.specs.Pictures.{has_room, head_text, label_text, labels_text, lane_text, lane_x, left_out_text}
+use Rattle.nm_diagram.specs.Pictures.{line_text, link_text, link_title, mark_text, name_count, name_text, note_text}
+use Rattle.nm_diagram.specs.Pictures.{picture_text, process_line, rank_label, row_sign, row_text, row_words, rows_text}
+use Rattle.nm_diagram.specs.Pictures.{shaft_text}
+use Rattle.nm_diagram.specs.Pictures.{shapes_text, short, sign_text, size_text, stamp_y, tag_text, tick_count, tick_text}
+use Rattle.nm_diagram.specs.Pictures.{title_text, wait_label, wait_sign, wait_text, width_of, words_width}
 use Rattle.nm_diagram.specs.WellFormed.{IsWellFormed, Place, is_text, read, step}
 use Rattle.nm_diagram.specs.WellFormed.Place.{Before, Between, Broken, Quoted, Opened, Reference, Value}
 
@@ -113,21 +113,45 @@ text-number : (name : List ℕ) (tags : List (List ℕ)) (n : ℕ) (ys : List �
 text-number name tags n ys = text-skip name tags (decimal n) ys (decimal-all (λ b. in_text b ≡ true) digit_in_text n)
 
 -- the words of values and texts
-value-sign : (tags : List (List ℕ)) (what : Happened) (ys : List ℕ) →
-    read (Value tags) (sign_of what ++ ys) ≡ read (Value tags) ys
-value-sign tags (Send to n tag ctx len Eager line) ys = refl
-value-sign tags (Send to n tag ctx len Ask line) ys = refl
-value-sign tags (Post post line) ys = refl
-value-sign tags (Arrive a) ys = refl
-value-sign tags (Whole from n) ys = refl
-value-sign tags (Out to n) ys = refl
-value-sign tags (Cancel number done) ys = refl
-value-sign tags (Recall to n) ys = refl
-value-sign tags (Withdraw from n done) ys = refl
-value-sign tags (Undone to n done) ys = refl
-value-sign tags (Claim from n line) ys = refl
-value-sign tags (Match number from n cap line) ys = refl
-value-sign tags (Ran line answer) ys = refl
+value-sign : (tags : List (List ℕ)) (sign : Sign) (ys : List ℕ) →
+    read (Value tags) (name_of sign ++ ys) ≡ read (Value tags) ys
+value-sign tags sign.Send ys = refl
+value-sign tags sign.Ask ys = refl
+value-sign tags sign.Post ys = refl
+value-sign tags sign.Arrive ys = refl
+value-sign tags sign.Whole ys = refl
+value-sign tags sign.Out ys = refl
+value-sign tags sign.Cancel ys = refl
+value-sign tags sign.Recall ys = refl
+value-sign tags sign.Withdraw ys = refl
+value-sign tags sign.Undone ys = refl
+value-sign tags sign.Claim ys = refl
+value-sign tags sign.Match ys = refl
+value-sign tags sign.Ran ys = refl
+value-sign tags sign.Waits ys = refl
+value-sign tags sign.EagerWay ys = refl
+value-sign tags sign.AskWay ys = refl
+value-sign tags sign.Taken ys = refl
+
+text-sign : (name : List ℕ) (tags : List (List ℕ)) (sign : Sign) (ys : List ℕ) →
+    read (Between (name ∷ tags)) (words_of sign ++ ys) ≡ read (Between (name ∷ tags)) ys
+text-sign name tags sign.Send ys = refl
+text-sign name tags sign.Ask ys = refl
+text-sign name tags sign.Post ys = refl
+text-sign name tags sign.Arrive ys = refl
+text-sign name tags sign.Whole ys = refl
+text-sign name tags sign.Out ys = refl
+text-sign name tags sign.Cancel ys = refl
+text-sign name tags sign.Recall ys = refl
+text-sign name tags sign.Withdraw ys = refl
+text-sign name tags sign.Undone ys = refl
+text-sign name tags sign.Claim ys = refl
+text-sign name tags sign.Match ys = refl
+text-sign name tags sign.Ran ys = refl
+text-sign name tags sign.Waits ys = refl
+text-sign name tags sign.EagerWay ys = refl
+text-sign name tags sign.AskWay ys = refl
+text-sign name tags sign.Taken ys = refl
 
 value-how : (tags : List (List ℕ)) (how : How) (ys : List ℕ) →
     read (Value tags) (how_word how ++ ys) ≡ read (Value tags) ys
@@ -196,13 +220,13 @@ keeps-map f each [] = refl
 keeps-map f each (x ∷ xs) = keeps-append (f x) (flat_map f xs) (each x) (keeps-map f each xs)
 
 -- marks
-sign-read : (rank : ℕ) (e : Event) → read (Between svg) (sign_text (mark_of rank e)) ≡ Between in_use
+sign-read : (frame : Frame) (mark : Mark) → read (Between svg) (sign_text frame mark) ≡ Between in_use
 unfolding sign_text
-sign-read rank e =
-    let last : List ℕ = codes "\" y=\"" ++ (decimal (stamp_y e.stamp) ++ codes "\">") in
-    value-sign in_use e.what (codes "\" x=\"" ++ (decimal (lane_x rank) ++ last))
-    ∙ value-number in_use (lane_x rank) last
-    ∙ value-number in_use (stamp_y e.stamp) (codes "\">")
+sign-read frame mark =
+    let last : List ℕ = codes "\" y=\"" ++ (decimal (stamp_y mark.stamp) ++ codes "\">") in
+    value-sign in_use mark.sign (codes "\" x=\"" ++ (decimal (lane_x frame mark.lane) ++ last))
+    ∙ value-number in_use (lane_x frame mark.lane) last
+    ∙ value-number in_use (stamp_y mark.stamp) (codes "\">")
 
 title-read : (name : List ℕ) (tags : List (List ℕ)) (words : List ℕ) →
     read (Between (name ∷ tags)) (title_text words) ≡ Between (name ∷ tags)
@@ -211,40 +235,20 @@ title-read name tags words =
     behind (Between (codes "title" ∷ name ∷ tags)) (Between (codes "title" ∷ name ∷ tags)) (escaped words)
     (codes "</title>") (text-escaped (codes "title") (name ∷ tags) words)
 
-mark-read : (rank : ℕ) (e : Event) → Keeps (mark_text (mark_of rank e))
+mark-read : (frame : Frame) (mark : Mark) → Keeps (mark_text frame mark)
 unfolding mark_text
-mark-read rank e =
-    behind (Between svg) (Between in_use) (sign_text (mark_of rank e))
-    (title_text (title_of rank e) ++ codes "</use>\n") (sign-read rank e)
-    ∙ behind (Between in_use) (Between in_use) (title_text (title_of rank e)) (codes "</use>\n")
-    (title-read (codes "use") svg (title_of rank e))
-
-marks-read : (end rank : ℕ) (events : List Event) → Keeps (flat_map mark_text (flat_map (marks_at end rank) events))
-marks-read end rank [] = refl
-marks-read end rank (e ∷ events) =
-    subst Keeps (sym (flat_map-append mark_text (marks_at end rank e) (flat_map (marks_at end rank) events)))
-    (keeps-append (flat_map mark_text (marks_at end rank e)) (flat_map mark_text (flat_map (marks_at end rank) events))
-    (one (is_shown end e)) (marks-read end rank events)) where
-      one : (b : Bool) → Keeps (flat_map mark_text (cond b (mark_of rank e ∷ []) []))
-      one true = keeps-append (mark_text (mark_of rank e)) [] (mark-read rank e) refl
-      one false = refl
-
-all_marks-read : (end rank : ℕ) (ranks : List RankAccount) →
-    Keeps (flat_map mark_text (from_lane (marks_of end) rank ranks))
-all_marks-read end rank [] = refl
-all_marks-read end rank (account ∷ accounts) =
-    let these = marks_of end rank account in
-    let others = from_lane (marks_of end) (rank + 1) accounts in
-    subst Keeps (sym (flat_map-append mark_text these others))
-    (keeps-append (flat_map mark_text these) (flat_map mark_text others)
-    (marks-read end rank account.history.events) (all_marks-read end (rank + 1) accounts))
+mark-read frame mark =
+    behind (Between svg) (Between in_use) (sign_text frame mark)
+    (title_text mark.title ++ codes "</use>\n") (sign-read frame mark)
+    ∙ behind (Between in_use) (Between in_use) (title_text mark.title) (codes "</use>\n")
+    (title-read (codes "use") svg mark.title)
 
 -- arrows
-shaft-read : (a : Arrow) → read (Between svg) (shaft_text a) ≡ Between in_line
+shaft-read : (frame : Frame) (a : Arrow) → read (Between svg) (shaft_text frame a) ≡ Between in_line
 unfolding shaft_text
-shaft-read a =
-    let x1 = lane_x a.from + aside_of a in
-    let x2 = lane_x a.to + aside_of a in
+shaft-read frame a =
+    let x1 = lane_x frame a.from + aside_of a in
+    let x2 = lane_x frame a.to + aside_of a in
     let fourth : List ℕ = codes "\" y2=\"" ++ (decimal (stamp_y a.arrived) ++ codes "\">") in
     let third : List ℕ = codes "\" x2=\"" ++ (decimal x2 ++ fourth) in
     let second : List ℕ = codes "\" y1=\"" ++ (decimal (stamp_y a.sent) ++ third) in
@@ -266,31 +270,31 @@ arrow_title-read a =
     ∙ text-number title in_line a.to third
     ∙ text-how title in_line a.how (codes "</title>")
 
-arrow-read : (a : Arrow) → Keeps (arrow_text a)
+arrow-read : (frame : Frame) (a : Arrow) → Keeps (arrow_text frame a)
 unfolding arrow_text
-arrow-read a =
-    behind (Between svg) (Between in_line) (shaft_text a) (arrow_title a ++ codes "</line>\n") (shaft-read a)
+arrow-read frame a =
+    behind (Between svg) (Between in_line) (shaft_text frame a) (arrow_title a ++ codes "</line>\n") (shaft-read frame a)
     ∙ behind (Between in_line) (Between in_line) (arrow_title a) (codes "</line>\n") (arrow_title-read a)
 
 -- links
-bow-read : (k : Link) → read (Between svg) (bow_text k) ≡ Between in_path
+bow-read : (frame : Frame) (k : Link) → read (Between svg) (bow_text frame k) ≡ Between in_path
 unfolding bow_text
-bow-read k =
-    let x = lane_x k.lane in
+bow-read frame k =
+    let x = lane_x frame k.lane in
     let y1 = stamp_y k.received in
     let y2 = stamp_y k.arrived in
     let seventh : List ℕ = codes " " ++ (decimal y2 ++ codes "\">") in
     let sixth : List ℕ = codes " " ++ (decimal x ++ seventh) in
     let fifth : List ℕ = codes " " ++ (decimal y2 ++ sixth) in
-    let fourth : List ℕ = codes " " ++ (decimal (bow_x k) ++ fifth) in
+    let fourth : List ℕ = codes " " ++ (decimal (bow_x frame k) ++ fifth) in
     let third : List ℕ = codes " " ++ (decimal y1 ++ fourth) in
-    let second : List ℕ = codes " C " ++ (decimal (bow_x k) ++ third) in
+    let second : List ℕ = codes " C " ++ (decimal (bow_x frame k) ++ third) in
     let first : List ℕ = codes " " ++ (decimal y1 ++ second) in
     value-number in_path x first
     ∙ value-number in_path y1 second
-    ∙ value-number in_path (bow_x k) third
+    ∙ value-number in_path (bow_x frame k) third
     ∙ value-number in_path y1 fourth
-    ∙ value-number in_path (bow_x k) fifth
+    ∙ value-number in_path (bow_x frame k) fifth
     ∙ value-number in_path y2 sixth
     ∙ value-number in_path x seventh
     ∙ value-number in_path y2 (codes "\">")
@@ -305,44 +309,57 @@ link_title-read k =
     ∙ text-number title in_path k.n second
     ∙ text-number title in_path k.from (codes "</title>")
 
-link-read : (k : Link) → Keeps (link_text k)
+link-read : (frame : Frame) (k : Link) → Keeps (link_text frame k)
 unfolding link_text
-link-read k =
-    behind (Between svg) (Between in_path) (bow_text k) (link_title k ++ codes "</path>\n") (bow-read k)
+link-read frame k =
+    behind (Between svg) (Between in_path) (bow_text frame k) (link_title k ++ codes "</path>\n") (bow-read frame k)
     ∙ behind (Between in_path) (Between in_path) (link_title k) (codes "</path>\n") (link_title-read k)
 
 -- lanes
 process-read : (frame : Frame) (rank : ℕ) → Keeps (process_line frame rank)
 unfolding process_line
 process-read frame rank =
-    let x = lane_x rank in
+    let x = lane_x frame rank in
     let last : List ℕ = codes "\" y2=\"" ++ (decimal (foot_y frame) ++ codes "\"></line>\n") in
     value-number in_line x (codes "\" y1=\"70\" x2=\"" ++ (decimal x ++ last))
     ∙ value-number in_line x last
     ∙ value-number in_line (foot_y frame) (codes "\"></line>\n")
 
-rank_label-read : (rank y : ℕ) → Keeps (rank_label rank y)
+-- a word in a text, where there is room for it
+text-short : (frame : Frame) (word ys : List ℕ) → AllByRecursion (λ b. in_text b ≡ true) word →
+    read (Between in_text_tag) (short frame word ++ ys) ≡ read (Between in_text_tag) ys
+text-short frame word ys plain = either_way (has_room frame) where
+  either_way : (b : Bool) → read (Between in_text_tag) (cond b word [] ++ ys) ≡ read (Between in_text_tag) ys
+  either_way true = text-skip (codes "text") svg word ys plain
+  either_way false = refl
+
+rank_label-read : (frame : Frame) (rank y : ℕ) → Keeps (rank_label frame rank y)
 unfolding rank_label
-rank_label-read rank y =
-    let words : List ℕ = codes "\">rank " ++ (decimal rank ++ codes "</text>\n") in
-    value-number in_text_tag (lane_x rank) (codes "\" y=\"" ++ (decimal y ++ words))
+rank_label-read frame rank y =
+    let number : List ℕ = decimal rank ++ codes "</text>\n" in
+    let words : List ℕ = codes "\">" ++ (short frame (codes "rank ") ++ number) in
+    value-number in_text_tag (lane_x frame rank) (codes "\" y=\"" ++ (decimal y ++ words))
     ∙ value-number in_text_tag y words
+    ∙ text-short frame (codes "rank ") number (refl, (refl, (refl, (refl, (refl, tt)))))
     ∙ text-number (codes "text") svg rank (codes "</text>\n")
 
 wait_sign-read : (frame : Frame) (rank line : ℕ) → Keeps (wait_sign frame rank line)
 unfolding wait_sign
 wait_sign-read frame rank line =
     let words : List ℕ = codes "\"><title>waits at line " ++ (decimal line ++ codes "</title></use>\n") in
-    value-number in_use (lane_x rank) (codes "\" y=\"" ++ (decimal (foot_y frame) ++ words))
+    value-number in_use (lane_x frame rank) (codes "\" y=\"" ++ (decimal (foot_y frame) ++ words))
     ∙ value-number in_use (foot_y frame) words
     ∙ text-number (codes "title") in_use line (codes "</title></use>\n")
 
 wait_label-read : (frame : Frame) (rank line : ℕ) → Keeps (wait_label frame rank line)
 unfolding wait_label
 wait_label-read frame rank line =
-    let words : List ℕ = codes "\">line " ++ (decimal line ++ codes "</text>\n") in
-    value-number in_text_tag (lane_x rank) (codes "\" y=\"" ++ (decimal (foot_y frame + 40) ++ words))
-    ∙ value-number in_text_tag (foot_y frame + 40) words
+    let y = foot_y frame + 40 + 14 * (rank % 2) in
+    let number : List ℕ = decimal line ++ codes "</text>\n" in
+    let words : List ℕ = codes "\">" ++ (short frame (codes "line ") ++ number) in
+    value-number in_text_tag (lane_x frame rank) (codes "\" y=\"" ++ (decimal y ++ words))
+    ∙ value-number in_text_tag y words
+    ∙ text-short frame (codes "line ") number (refl, (refl, (refl, (refl, (refl, tt)))))
     ∙ text-number (codes "text") svg line (codes "</text>\n")
 
 wait-read : (frame : Frame) (rank : ℕ) (waits : Option ℕ) → Keeps (wait_text frame rank waits)
@@ -352,12 +369,20 @@ wait-read frame rank (Some line) =
     keeps-append (wait_sign frame rank line) (wait_label frame rank line)
     (wait_sign-read frame rank line) (wait_label-read frame rank line)
 
+names-read : (frame : Frame) (rank : ℕ) (ks : List ℕ) → Keeps (flat_map (name_text frame rank) ks)
+names-read frame rank ks =
+    keeps-map (name_text frame rank) (λ k. rank_label-read frame rank (stamp_y (40 * k) - 20)) ks
+
 line-read : (frame : Frame) (rank : ℕ) → Keeps (line_text frame rank)
 unfolding line_text
 line-read frame rank =
     let foot = foot_y frame + 24 in
-    keeps-append (process_line frame rank) (rank_label rank 56 ++ rank_label rank foot) (process-read frame rank)
-    (keeps-append (rank_label rank 56) (rank_label rank foot) (rank_label-read rank 56) (rank_label-read rank foot))
+    let names : List ℕ = flat_map (name_text frame rank) (range_with_len 1 (name_count frame)) in
+    keeps-append (process_line frame rank) (rank_label frame rank 56 ++ (rank_label frame rank foot ++ names))
+    (process-read frame rank)
+    (keeps-append (rank_label frame rank 56) (rank_label frame rank foot ++ names) (rank_label-read frame rank 56)
+    (keeps-append (rank_label frame rank foot) names (rank_label-read frame rank foot)
+    (names-read frame rank (range_with_len 1 (name_count frame)))))
 
 lane-read : (frame : Frame) (lane : Lane) → Keeps (lane_text frame lane)
 unfolding lane_text
@@ -392,30 +417,100 @@ sheet-read : Keeps sheet_text
 unfolding sheet_text
 sheet-read = refl
 
-front-read : (frame : Frame) → read Before (front_text frame) ≡ Between svg
+-- the legend
+row_sign-read : (row : ℕ) (sign : Sign) → Keeps (row_sign row sign)
+unfolding row_sign
+row_sign-read row sign =
+    value-sign in_use sign (codes "\" x=\"32\" y=\"" ++ (decimal (106 + 20 * row) ++ codes "\"></use>"))
+    ∙ value-number in_use (106 + 20 * row) (codes "\"></use>")
+
+row_words-read : (row : ℕ) (sign : Sign) → Keeps (row_words row (words_of sign))
+unfolding row_words
+row_words-read row sign =
+    value-number in_text_tag (110 + 20 * row) (codes "\">" ++ (words_of sign ++ codes "</text>\n"))
+    ∙ text-sign (codes "text") svg sign (codes "</text>\n")
+
+row-read : (row : ℕ) (sign : Sign) → Keeps (row_text row sign)
+unfolding row_text
+row-read row sign =
+    keeps-append (row_sign row sign) (row_words row (words_of sign)) (row_sign-read row sign) (row_words-read row sign)
+
+rows-read : (row : ℕ) (signs : List Sign) → Keeps (rows_text row signs)
+rows-read row [] = refl
+rows-read row (sign ∷ signs) =
+    keeps-append (row_text row sign) (rows_text (row + 1) signs) (row-read row sign) (rows-read (row + 1) signs)
+
+-- the axis
+tick-read : (frame : Frame) (k : ℕ) → Keeps (tick_text frame k)
+unfolding tick_text
+tick-read frame k =
+    let number : List ℕ = decimal (5 * k) ++ codes "</text>\n" in
+    let third : List ℕ = decimal (stamp_y (5 * k) + 3) ++ (codes "\">" ++ number) in
+    let second : List ℕ = codes "\"></path><text class=\"axis\" x=\"290\" y=\"" ++ third in
+    value-number in_path (stamp_y (5 * k)) (codes " H " ++ (decimal (width_of frame) ++ second))
+    ∙ value-number in_path (width_of frame) second
+    ∙ value-number in_text_tag (stamp_y (5 * k) + 3) (codes "\">" ++ number)
+    ∙ text-number (codes "text") svg (5 * k) (codes "</text>\n")
+
+axis-read : (frame : Frame) → Keeps (axis_text frame)
+axis-read frame = keeps-map (tick_text frame) (tick-read frame) (range_with_len 1 (tick_count frame))
+
+-- labels
+tag-read : (frame : Frame) (l : Label) → read (Between svg) (tag_text frame l) ≡ Between in_text_tag
+unfolding tag_text
+tag-read frame l =
+    let third : List ℕ = codes "\" textLength=\"" ++ (decimal (words_width frame l.words) ++ codes "\">") in
+    let second : List ℕ = codes "\" y=\"" ++ (decimal (stamp_y l.stamp + l.drop - 1) ++ third) in
+    value-number in_text_tag (lane_x frame l.lane + 13) second
+    ∙ value-number in_text_tag (stamp_y l.stamp + l.drop - 1) third
+    ∙ value-number in_text_tag (words_width frame l.words) (codes "\">")
+
+label-read : (frame : Frame) (l : Label) → Keeps (label_text frame l)
+unfolding label_text
+label-read frame l =
+    behind (Between svg) (Between in_text_tag) (tag_text frame l) (escaped l.words ++ codes "</text>\n")
+    (tag-read frame l)
+    ∙ behind (Between in_text_tag) (Between in_text_tag) (escaped l.words) (codes "</text>\n")
+    (text-escaped (codes "text") svg l.words)
+
+labels-read : (frame : Frame) (ranks : List RankAccount) → Keeps (labels_text frame ranks)
+unfolding labels_text
+labels-read frame ranks = either_way (has_room frame) where
+  either_way : (b : Bool) → Keeps (cond b (flat_map (label_text frame) (all_labels frame.end ranks)) [])
+  either_way true = keeps-map (label_text frame) (label-read frame) (all_labels frame.end ranks)
+  either_way false = refl
+
+front-read : (frame : Frame) (ranks : List RankAccount) → read Before (front_text frame ranks) ≡ Between svg
 unfolding front_text head_text
-front-read frame =
-    let width = max (lane_x frame.lanes) 560 in
-    let height = max (foot_y frame + 60) 460 in
-    behind Before (Between svg) (size_text width height) (sheet_text ++ note_text frame.left_out)
-    (size-read width height)
-    ∙ keeps-append sheet_text (note_text frame.left_out) sheet-read (note-read frame.left_out)
+front-read frame ranks =
+    let height = max (foot_y frame + 74) 500 in
+    let rows : List ℕ = rows_text 0 (legend_of frame.end ranks) in
+    let notes : List ℕ = note_text frame.left_out ++ (rows ++ axis_text frame) in
+    behind Before (Between svg) (size_text (width_of frame) height) (sheet_text ++ notes)
+    (size-read (width_of frame) height)
+    ∙ keeps-append sheet_text notes sheet-read
+    (keeps-append (note_text frame.left_out) (rows ++ axis_text frame) (note-read frame.left_out)
+    (keeps-append rows (axis_text frame) (rows-read 0 (legend_of frame.end ranks)) (axis-read frame)))
 
 shapes-read : (frame : Frame) (ranks : List RankAccount) → Keeps (shapes_text frame ranks)
 unfolding shapes_text
 shapes-read frame ranks =
     let lanes : List ℕ = flat_map (lane_text frame) (all_lanes (take frame.lanes ranks)) in
-    let links : List ℕ = flat_map link_text (all_links frame.end ranks) in
-    let arrows : List ℕ = flat_map arrow_text (all_arrows frame.end ranks) in
-    let marks : List ℕ = flat_map mark_text (all_marks frame.end ranks) in
-    keeps-append lanes (links ++ (arrows ++ marks))
+    let links : List ℕ = flat_map (link_text frame) (all_links frame.end ranks) in
+    let marks : List ℕ = flat_map (mark_text frame) (all_marks frame.end ranks) in
+    let arrows : List ℕ = flat_map (arrow_text frame) (all_arrows frame.end ranks) in
+    let labels : List ℕ = labels_text frame ranks in
+    keeps-append lanes (links ++ (marks ++ (arrows ++ labels)))
     (keeps-map (lane_text frame) (lane-read frame) (all_lanes (take frame.lanes ranks)))
-    (keeps-append links (arrows ++ marks) (keeps-map link_text link-read (all_links frame.end ranks))
-    (keeps-append arrows marks (keeps-map arrow_text arrow-read (all_arrows frame.end ranks))
-    (all_marks-read frame.end 0 ranks)))
+    (keeps-append links (marks ++ (arrows ++ labels))
+    (keeps-map (link_text frame) (link-read frame) (all_links frame.end ranks))
+    (keeps-append marks (arrows ++ labels) (keeps-map (mark_text frame) (mark-read frame) (all_marks frame.end ranks))
+    (keeps-append arrows labels (keeps-map (arrow_text frame) (arrow-read frame) (all_arrows frame.end ranks))
+    (labels-read frame ranks))))
 
 pub picture-well_formed : (frame : Frame) (ranks : List RankAccount) → IsWellFormed (picture_text frame ranks)
 unfolding picture_text
 picture-well_formed frame ranks =
-    behind Before (Between svg) (front_text frame) (shapes_text frame ranks ++ codes "</svg>\n") (front-read frame)
+    behind Before (Between svg) (front_text frame ranks) (shapes_text frame ranks ++ codes "</svg>\n")
+    (front-read frame ranks)
     ∙ behind (Between svg) (Between svg) (shapes_text frame ranks) (codes "</svg>\n") (shapes-read frame ranks)

@@ -14,6 +14,8 @@ use Rattle.nm_report.specs.declared.accounts.RankAccount.{RankAccount}
 use Rattle.nm_report.specs.Events.{event_words}
 use Rattle.nm_diagram.specs.declared.anchors.Anchor.TheVariants as anchor
 use Rattle.nm_diagram.specs.declared.arrows.Arrow.{Arrow}
+use Rattle.nm_diagram.specs.declared.signs.Sign.{Sign}
+use Rattle.nm_diagram.specs.declared.signs.Sign.TheVariants as sign
 use Rattle.nm_diagram.specs.Anchors.{first_stamp}
 use Rattle.nm_diagram.specs.Frames.{is_shown}
 
@@ -26,24 +28,24 @@ from_lane has rank (account ∷ accounts) = has rank account ++ from_lane has (r
 pub record Mark : Type 0 where
   pub lane : ℕ
   pub stamp : ℕ
-  pub sign : List ℕ
+  pub sign : Sign
   pub title : List ℕ
 
 -- the sign of an event
-abbrev pub sign_of : Happened → List ℕ
-sign_of (Send to n tag ctx len Eager line) = codes "send"
-sign_of (Send to n tag ctx len Ask line) = codes "ask"
-sign_of (Post post line) = codes "post"
-sign_of (Arrive a) = codes "arrive"
-sign_of (Whole from n) = codes "whole"
-sign_of (Out to n) = codes "out"
-sign_of (Cancel number done) = codes "cancel"
-sign_of (Recall to n) = codes "recall"
-sign_of (Withdraw from n done) = codes "withdraw"
-sign_of (Undone to n done) = codes "undone"
-sign_of (Claim from n line) = codes "claim"
-sign_of (Match number from n cap line) = codes "match"
-sign_of (Ran line answer) = codes "ran"
+abbrev pub sign_of : Happened → Sign
+sign_of (Send to n tag ctx len Eager line) = sign.Send
+sign_of (Send to n tag ctx len Ask line) = sign.Ask
+sign_of (Post post line) = sign.Post
+sign_of (Arrive a) = sign.Arrive
+sign_of (Whole from n) = sign.Whole
+sign_of (Out to n) = sign.Out
+sign_of (Cancel number done) = sign.Cancel
+sign_of (Recall to n) = sign.Recall
+sign_of (Withdraw from n done) = sign.Withdraw
+sign_of (Undone to n done) = sign.Undone
+sign_of (Claim from n line) = sign.Claim
+sign_of (Match number from n cap line) = sign.Match
+sign_of (Ran line answer) = sign.Ran
 
 -- the title of an event: its rank, its stamp, and its words in the trace
 abbrev pub title_of : ℕ → Event → List ℕ

@@ -1,6 +1,34 @@
--- The signs of the marks, and what the legend says of each.
-use Rattle.std.specs.Prelude.{ℕ, Bool, true, false, not, ◌&&◌, ◌||◌, ◌==◌, List, [], ◌∷◌, ◌++◌, codes}
-use Rattle.nm_diagram.specs.Pictures.{sheet_text}
+-- The legend: the signs that stand in a picture, each with what it stands for.
+use Rattle.std.specs.Prelude.{ℕ, Bool, true, false, not, ◌&&◌, ◌||◌, ◌==◌, List, [], ◌∷◌, ◌++◌, codes, filter}
+use Rattle.std.specs.Option.{is_some}
+use Rattle.std.specs.List.{list_any}
+use Rattle.nm_history.specs.declared.events.Event.{Event}
+use Rattle.nm_report.specs.declared.accounts.RankAccount.{RankAccount}
+use Rattle.nm_diagram.specs.declared.signs.Sign.{Sign}
+use Rattle.nm_diagram.specs.declared.sheet.TheConstants.{SHEET}
+use Rattle.nm_diagram.specs.Frames.{is_shown}
+use Rattle.nm_diagram.specs.Signs.{all_signs, is_waits, name_of, tells}
+
+-- what stands in each picture
+unfoldable pub sheet_text : List ℕ
+sheet_text = SHEET.now
+
+-- an event is shown, and told by this sign
+abbrev pub is_told : ℕ → Sign → Event → Bool
+is_told end sign event = is_shown end event && tells sign event.what
+
+-- a rank has this sign
+abbrev pub has_sign : ℕ → Sign → RankAccount → Bool
+has_sign end sign account =
+    is_waits sign && is_some account.waits || list_any (is_told end sign) account.history.events
+
+-- a sign stands in the picture of these ranks
+abbrev pub is_used : ℕ → List RankAccount → Sign → Bool
+is_used end ranks sign = list_any (has_sign end sign) ranks
+
+-- the legend of these ranks: the signs that stand in their picture
+abbrev pub legend_of : ℕ → List RankAccount → List Sign
+legend_of end ranks = filter (is_used end ranks) all_signs
 
 -- the text begins with this part
 abbrev pub begins : List ℕ → List ℕ → Bool
@@ -14,51 +42,13 @@ stands_in part [] = begins part []
 stands_in part (b ∷ text) = begins part (b ∷ text) || stands_in part text
 
 -- the start tag of the group that draws a sign
-abbrev pub group_text : List ℕ → List ℕ
-group_text sign = codes "<g id=\"" ++ (sign ++ codes "\">")
+abbrev pub group_text : Sign → List ℕ
+group_text sign = codes "<g id=\"" ++ (name_of sign ++ codes "\">")
 
--- a line of the legend: a sign, how far from the top it and its words stand, and what it stands for
-pub record Entry : Type 0 where
-  pub sign : List ℕ
-  pub height : List ℕ
-  pub base : List ℕ
-  pub words : List ℕ
-
--- one of these parts
-abbrev pub entry : List ℕ → List ℕ → List ℕ → List ℕ → Entry
-entry sign height base words = record { sign = sign; height = height; base = base; words = words }
-
--- its text
-abbrev pub entry_text : Entry → List ℕ
-entry_text line =
-    codes "<use href=\"#" ++ (line.sign ++ (codes "\" x=\"32\" y=\"" ++ (line.height
-    ++ (codes "\"></use><text x=\"56\" y=\"" ++ (line.base ++ (codes "\">" ++ (line.words
-    ++ codes "</text>\n")))))))
-
--- the legend, line below line
-abbrev pub legend : List Entry
-legend =
-    entry (codes "send") (codes "52") (codes "56") (codes "a send of a message at once")
-    ∷ entry (codes "ask") (codes "72") (codes "76") (codes "a send that asks first")
-    ∷ entry (codes "post") (codes "92") (codes "96") (codes "a receive posted")
-    ∷ entry (codes "arrive") (codes "112") (codes "116") (codes "a message, or its asking, arrives")
-    ∷ entry (codes "whole") (codes "132") (codes "136") (codes "all bytes are here")
-    ∷ entry (codes "out") (codes "152") (codes "156") (codes "the last part has left")
-    ∷ entry (codes "cancel") (codes "172") (codes "176") (codes "a cancel of a receive")
-    ∷ entry (codes "recall") (codes "192") (codes "196") (codes "a withdrawal asked for")
-    ∷ entry (codes "withdraw") (codes "212") (codes "216") (codes "a withdrawal, done or late")
-    ∷ entry (codes "undone") (codes "232") (codes "236") (codes "the answer to a withdrawal")
-    ∷ entry (codes "claim") (codes "252") (codes "256") (codes "a message claimed by a probe")
-    ∷ entry (codes "match") (codes "272") (codes "276") (codes "a claimed message received")
-    ∷ entry (codes "ran") (codes "292") (codes "296") (codes "a command answered")
-    ∷ entry (codes "waits") (codes "312") (codes "316") (codes "a command that waits at the end") ∷ []
-
--- the sheet draws each of these signs, and shows it in its legend
-abbrev pub are_explained : List Entry → Bool
-are_explained [] = true
-are_explained (first ∷ others) =
-    stands_in (group_text first.sign) sheet_text
-    && (stands_in (entry_text first) sheet_text && are_explained others)
+-- the sheet draws each of these signs
+abbrev pub are_drawn : List Sign → Bool
+are_drawn [] = true
+are_drawn (first ∷ others) = stands_in (group_text first) sheet_text && are_drawn others
 
 -- how the ways of messages and the links are drawn
 abbrev pub strokes : List (List ℕ)

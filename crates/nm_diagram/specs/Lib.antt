@@ -3,8 +3,10 @@ pub mod Anchors
 pub mod Diagrams
 pub mod Frames
 pub mod Joined
+pub mod Labels
 pub mod Legend
 pub mod Links
 pub mod Markup
 pub mod Pictures
+pub mod Signs
 pub mod WellFormed

@@ -9,7 +9,7 @@ ghost use Rattle.nm_diagram.specs.Pictures.{arrow_text, arrow_title, aside_of, s
 
 use crate::anchors::{Anchor, first_stamp, front};
 use crate::frames::Frame;
-use crate::outlines::{x_of, y_of};
+use crate::places::{x_of, y_of};
 use nm_history::{Event, Happened};
 use nm_report::{RankAccount, word_of_how};
 use nm_types::How;
@@ -57,22 +57,24 @@ fn find_send(ranks: &[RankAccount], from: usize, end: u64, rank: usize, number: 
 
 /// How far an arrow stands aside: one that comes back to its own line does.
 fn aside(arrow: &Arrow) -> u64
-    ensures { result ≡ aside_of arrow.now }
+    ensures value { result ≡ aside_of arrow.now }
+    ensures within { result ≤ 8 }
 {
-    if arrow.from == arrow.to { 12 } else { 0 }
+    if arrow.from == arrow.to { 8 } else { 0 }
 }
 
 /// Writes the tag of an arrow.
 #[tactic(auto, unfolding(crate::specs::Pictures::shaft_text))]
-fn push_shaft(out: &mut String, arrow: &Arrow) -> Result<(), AllocError>
+fn push_shaft(out: &mut String, frame: &Frame, arrow: &Arrow) -> Result<(), AllocError>
+    requires lanes { frame.now.lanes ≤ 256 }
     requires few { (arrow.now.from ≤ 256) × (arrow.now.to ≤ 256) }
     requires low { (arrow.now.sent ≤ 1000000) × (arrow.now.arrived ≤ 1000000) }
     ensures ok { OnOk result
-        (string_bytes out.new ≡ string_bytes out.old ++ shaft_text arrow.now) }
+        (string_bytes out.new ≡ string_bytes out.old ++ shaft_text frame.now arrow.now) }
 {
     let how = word_of_how(arrow.how);
-    let x1 = x_of(arrow.from) + aside(arrow);
-    let x2 = x_of(arrow.to) + aside(arrow);
+    let x1 = x_of(frame, arrow.from) + aside(arrow);
+    let x2 = x_of(frame, arrow.to) + aside(arrow);
     let y1 = y_of(arrow.sent);
     let y2 = y_of(arrow.arrived);
     write!(
@@ -94,13 +96,14 @@ fn push_arrow_title(out: &mut String, arrow: &Arrow) -> Result<(), AllocError>
 
 /// Writes an arrow.
 #[tactic(auto, unfolding(crate::specs::Pictures::arrow_text))]
-fn push_arrow(out: &mut String, arrow: &Arrow) -> Result<(), AllocError>
+fn push_arrow(out: &mut String, frame: &Frame, arrow: &Arrow) -> Result<(), AllocError>
+    requires lanes { frame.now.lanes ≤ 256 }
     requires few { (arrow.now.from ≤ 256) × (arrow.now.to ≤ 256) }
     requires low { (arrow.now.sent ≤ 1000000) × (arrow.now.arrived ≤ 1000000) }
     ensures ok { OnOk result
-        (string_bytes out.new ≡ string_bytes out.old ++ arrow_text arrow.now) }
+        (string_bytes out.new ≡ string_bytes out.old ++ arrow_text frame.now arrow.now) }
 {
-    push_shaft(out, arrow)?;
+    push_shaft(out, frame, arrow)?;
     push_arrow_title(out, arrow)?;
     out.push_str("</line>\n")
 }
@@ -113,9 +116,10 @@ fn push_arrival(
     to: usize,
     event: &Event,
 ) -> Result<(), AllocError>
+    requires lanes { frame.now.lanes ≤ 256 }
     requires few { to ≤ 256 }
     requires low { (frame.now.end ≤ 1000001) × (event.now.stamp ≤ 1000000) }
-    ensures ok { OnOk result (string_bytes out.new ≡ string_bytes out.old ++ flat_map arrow_text
+    ensures ok { OnOk result (string_bytes out.new ≡ string_bytes out.old ++ flat_map (arrow_text frame.now)
         (arrow_of frame.now.end ranks.now to event.now.stamp event.now.what)) }
 {
     let Happened::Arrive { a } = &event.what else {
@@ -125,6 +129,7 @@ fn push_arrival(
     match find_send(ranks, from, frame.end, to, a.n) {
         Some(sent) => push_arrow(
             out,
+            frame,
             &Arrow {
                 from,
                 sent,
@@ -146,10 +151,11 @@ fn push_if_shown(
     rank: usize,
     event: &Event,
 ) -> Result<(), AllocError>
+    requires lanes { frame.now.lanes ≤ 256 }
     requires few { rank ≤ 256 }
     requires low { frame.now.end ≤ 1000001 }
     ensures ok { OnOk result (string_bytes out.new ≡ string_bytes out.old
-        ++ flat_map arrow_text (arrows_at frame.now.end ranks.now rank event.now)) }
+        ++ flat_map (arrow_text frame.now) (arrows_at frame.now.end ranks.now rank event.now)) }
 {
     if event.stamp < frame.end {
         push_arrival(out, frame, ranks, rank, event)
@@ -166,10 +172,11 @@ fn push_arrows_of_rank(
     rank: usize,
     account: &RankAccount,
 ) -> Result<(), AllocError>
+    requires lanes { frame.now.lanes ≤ 256 }
     requires few { rank ≤ 256 }
     requires low { frame.now.end ≤ 1000001 }
     ensures ok { OnOk result (string_bytes out.new ≡ string_bytes out.old
-        ++ flat_map arrow_text (arrows_of frame.now.end ranks.now rank account.now)) }
+        ++ flat_map (arrow_text frame.now) (arrows_of frame.now.end ranks.now rank account.now)) }
 {
     for event in account.history.as_slice() {
         push_if_shown(out, frame, ranks, rank, event)?;
@@ -179,10 +186,11 @@ fn push_arrows_of_rank(
 
 /// Writes the arrows of all messages whose arrival is shown.
 pub fn push_arrows(out: &mut String, frame: &Frame, ranks: &[RankAccount]) -> Result<(), AllocError>
+    requires lanes { frame.now.lanes ≤ 256 }
     requires few { length ranks.now ≤ 256 }
     requires low { frame.now.end ≤ 1000001 }
     ensures ok { OnOk result (string_bytes out.new
-        ≡ string_bytes out.old ++ flat_map arrow_text (all_arrows frame.now.end ranks.now)) }
+        ≡ string_bytes out.old ++ flat_map (arrow_text frame.now) (all_arrows frame.now.end ranks.now)) }
 {
     for (rank, account) in ranks.iter().enumerate() {
         push_arrows_of_rank(out, frame, ranks, rank, account)?;

@@ -1,7 +1,7 @@
 //! What follows from the lists of shapes. Each law is the contract of a function that does nothing.
 
-ghost use Rattle.std.specs.Prelude.{◌≡◌, ℕ, ◌<◌, ◌≤◌, ◌++◌, true, List, [], ◌∷◌, Some, slice_get};
-ghost use Rattle.std.specs.Prelude.{Contains, codes, filter, length, map};
+ghost use Rattle.std.specs.Prelude.{◌≡◌, ℕ, ◌<◌, ◌≤◌, ◌++◌, true, List, [], ◌∷◌, Some, None, slice_get};
+ghost use Rattle.std.specs.Prelude.{Contains, filter, length, map};
 ghost use Rattle.std.specs.List.{AllByRecursion};
 ghost use Rattle.nm_types.specs.declared.messages.Arrival.{Arrival};
 ghost use Rattle.nm_types.specs.declared.scripts.Line.{Line};
@@ -18,14 +18,16 @@ ghost use Rattle.nm_diagram.specs.declared.anchors.Anchor.TheVariants as anchor;
 ghost use Rattle.nm_diagram.specs.Alike.{AreAlike};
 ghost use Rattle.nm_diagram.specs.Anchors.{first_stamp};
 ghost use Rattle.nm_diagram.specs.Diagrams.{all_arrows, all_marks, arrows_at, mark_of, marks_of};
-ghost use Rattle.nm_diagram.specs.Diagrams.{sign_of};
 ghost use Rattle.nm_diagram.specs.declared.frames.Frame.{Frame};
 ghost use Rattle.nm_diagram.specs.Frames.{IsFrame, is_shown, shown_count};
 ghost use Rattle.nm_diagram.specs.Joined.{HasOneArrow, IsOfMessage, Rise};
-ghost use Rattle.nm_diagram.specs.Legend.{all_stand, are_explained, covers, legend, none_stands};
-ghost use Rattle.nm_diagram.specs.Legend.{strokes};
+ghost use Rattle.nm_diagram.specs.Legend.{all_stand, are_drawn, covers, is_used, legend_of};
+ghost use Rattle.nm_diagram.specs.Legend.{none_stands, strokes};
+ghost use Rattle.nm_diagram.specs.Links.{all_links};
 ghost use Rattle.nm_diagram.specs.Markup.{escaped, is_plain};
 ghost use Rattle.nm_diagram.specs.Pictures.{IsPictureOf};
+ghost use Rattle.nm_diagram.specs.declared.signs.Sign.TheVariants as sign;
+ghost use Rattle.nm_diagram.specs.Signs.{all_signs, way_of};
 ghost use Rattle.nm_diagram.specs.WellFormed.{IsWellFormed};
 
 /// Each event that is shown has exactly one mark, in the lane of its rank. The marks of a rank
@@ -40,15 +42,25 @@ pub fn each_event_has_one_mark()
         Rise 0 (map (λ m. m.stamp) (marks_of end rank account)) }
 {}
 
-/// Each sign is drawn by the sheet, and its legend says in words what it stands for: that of each
-/// event, and that of a command that can't go on. The ways of messages and the links have their
-/// strokes, and no property that could hide a shape stands in the sheet.
+/// Each sign that stands in the picture is explained beside it, and drawn: that of each mark, the
+/// way of each arrow, what a link tells, and that of a command that can't go on. The legend has no
+/// other sign, and the picture has a row for each of the legend's. The sheet draws each sign, and
+/// the ways of messages and the links have their strokes. No property that could hide a shape
+/// stands in the sheet.
 pub fn each_sign_is_explained()
-    ensures explained { are_explained legend ≡ true }
-    ensures of_events { (happened : Happened) →
-        Contains (map (λ line. line.sign) legend) (sign_of happened) }
-    ensures of_waits { Contains (map (λ line. line.sign) legend) (codes "waits") }
-    ensures drawn { all_stand strokes ≡ true }
+    ensures marks { (end : ℕ) (ranks : List RankAccount) →
+        AllByRecursion (λ mark. Contains (legend_of end ranks) mark.sign) (all_marks end ranks) }
+    ensures arrows { (end : ℕ) (ranks : List RankAccount) → AllByRecursion
+        (λ arrow. Contains (legend_of end ranks) (way_of arrow.how)) (all_arrows end ranks) }
+    ensures links { (end : ℕ) (ranks : List RankAccount) → AllByRecursion
+        (λ link. Contains (legend_of end ranks) sign.Taken) (all_links end ranks) }
+    ensures waits { (end : ℕ) (ranks : List RankAccount) (account : RankAccount) →
+        Contains ranks account → ¬ (account.waits ≡ None) →
+        Contains (legend_of end ranks) sign.Waits }
+    ensures used { (end : ℕ) (ranks : List RankAccount) →
+        AllByRecursion (λ sign. is_used end ranks sign ≡ true) (legend_of end ranks) }
+    ensures drawn { are_drawn all_signs ≡ true }
+    ensures strokes { all_stand strokes ≡ true }
     ensures shown { none_stands covers ≡ true }
 {}
 

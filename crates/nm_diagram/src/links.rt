@@ -2,11 +2,12 @@
 
 ghost use Rattle.std.specs.Prelude.{◌≡◌, ◌≤◌, ◌<◌, ◌++◌, OnOk, flat_map, length, string_bytes};
 ghost use Rattle.nm_diagram.specs.Links.{all_links, link_of, links_among, links_of};
-ghost use Rattle.nm_diagram.specs.Pictures.{bow_text, bow_x, link_text, link_title};
+ghost use Rattle.nm_diagram.specs.Pictures.{bend_of, bow_text, bow_x, link_text, link_title};
+ghost use Rattle.nm_diagram.specs.Pictures.{span_of};
 
 use crate::anchors::{Anchor, first_stamp, front};
 use crate::frames::Frame;
-use crate::outlines::{x_of, y_of};
+use crate::places::{gap_of, x_of, y_of};
 use nm_history::Event;
 use nm_history::plain::{Pair, all_pairs};
 use nm_report::RankAccount;
@@ -32,23 +33,47 @@ pub struct Link {
     pub n: u64,
 }
 
-/// How far from the left the bow of a link stands. Links of receives in a row stand apart.
-fn bow_of(link: &Link) -> u64
-    requires { link.now.lane ≤ 256 }
-    ensures { result ≡ bow_x link.now }
+/// How many stamps lie between the ends of a link.
+fn span(link: &Link) -> u64
+    requires low { (link.now.received ≤ 1000000) × (link.now.arrived ≤ 1000000) }
+    ensures value { result ≡ span_of link.now }
+    ensures within { result ≤ 1000000 }
 {
-    x_of(link.lane) - 14 - 6 * (link.number % 4)
+    link.received.max(link.arrived) - link.received.min(link.arrived)
+}
+
+/// How far the bow of a link bends: the farther, the more it spans.
+fn bend(frame: &Frame, link: &Link) -> u64
+    requires lanes { frame.now.lanes ≤ 256 }
+    requires low { (link.now.received ≤ 1000000) × (link.now.arrived ≤ 1000000) }
+    ensures value { result ≡ bend_of frame.now link.now }
+    ensures within { result ≤ 55 }
+{
+    let gap = gap_of(frame);
+    let span = span(link);
+    gap / 12 + (gap * span / (6 * span + 72)).min(25) + gap / 24 * (link.number % 4)
+}
+
+/// How far from the left the bow of a link stands.
+fn bow_of(frame: &Frame, link: &Link) -> u64
+    requires lanes { frame.now.lanes ≤ 256 }
+    requires few { link.now.lane ≤ 256 }
+    requires low { (link.now.received ≤ 1000000) × (link.now.arrived ≤ 1000000) }
+    ensures { result ≡ bow_x frame.now link.now }
+{
+    x_of(frame, link.lane) - bend(frame, link)
 }
 
 /// Writes the tag of a link.
 #[tactic(auto, unfolding(crate::specs::Pictures::bow_text))]
-fn push_bow(out: &mut String, link: &Link) -> Result<(), AllocError>
+fn push_bow(out: &mut String, frame: &Frame, link: &Link) -> Result<(), AllocError>
+    requires lanes { frame.now.lanes ≤ 256 }
     requires few { link.now.lane ≤ 256 }
     requires low { (link.now.received ≤ 1000000) × (link.now.arrived ≤ 1000000) }
-    ensures ok { OnOk result (string_bytes out.new ≡ string_bytes out.old ++ bow_text link.now) }
+    ensures ok { OnOk result (string_bytes out.new ≡ string_bytes out.old ++ bow_text frame.now link.now) }
 {
-    let x = x_of(link.lane);
-    let bow = bow_of(link);
+    let x = x_of(frame, link.lane);
+    let bow = bow_of(frame, link);
     let y1 = y_of(link.received);
     let y2 = y_of(link.arrived);
     write!(
@@ -76,12 +101,13 @@ fn push_link_title(out: &mut String, link: &Link) -> Result<(), AllocError>
 
 /// Writes a link.
 #[tactic(auto, unfolding(crate::specs::Pictures::link_text))]
-fn push_link(out: &mut String, link: &Link) -> Result<(), AllocError>
+fn push_link(out: &mut String, frame: &Frame, link: &Link) -> Result<(), AllocError>
+    requires lanes { frame.now.lanes ≤ 256 }
     requires few { link.now.lane ≤ 256 }
     requires low { (link.now.received ≤ 1000000) × (link.now.arrived ≤ 1000000) }
-    ensures ok { OnOk result (string_bytes out.new ≡ string_bytes out.old ++ link_text link.now) }
+    ensures ok { OnOk result (string_bytes out.new ≡ string_bytes out.old ++ link_text frame.now link.now) }
 {
-    push_bow(out, link)?;
+    push_bow(out, frame, link)?;
     push_link_title(out, link)?;
     out.push_str("</path>\n")
 }
@@ -89,15 +115,16 @@ fn push_link(out: &mut String, link: &Link) -> Result<(), AllocError>
 /// Writes the link of a pair, if its receive and its arrival are shown.
 fn push_pair(
     out: &mut String,
-    end: u64,
+    frame: &Frame,
     rank: usize,
     events: &[Event],
     pair: &Pair,
 ) -> Result<(), AllocError>
+    requires lanes { frame.now.lanes ≤ 256 }
     requires few { rank ≤ 256 }
-    requires low { end ≤ 1000001 }
+    requires low { frame.now.end ≤ 1000001 }
     ensures ok { OnOk result (string_bytes out.new
-        ≡ string_bytes out.old ++ flat_map link_text (link_of end rank events.now pair.now)) }
+        ≡ string_bytes out.old ++ flat_map (link_text frame.now) (link_of frame.now.end rank events.now pair.now)) }
 {
     let Pair {
         number,
@@ -106,14 +133,15 @@ fn push_pair(
     } = *pair;
     let from = arrival.env.from as usize;
     let n = arrival.n;
-    let Some(received) = first_stamp(events, end, Anchor::Receive { number }) else {
+    let Some(received) = first_stamp(events, frame.end, Anchor::Receive { number }) else {
         return Ok(());
     };
-    let Some(arrived) = first_stamp(events, end, Anchor::Arrival { from, n }) else {
+    let Some(arrived) = first_stamp(events, frame.end, Anchor::Arrival { from, n }) else {
         return Ok(());
     };
     push_link(
         out,
+        frame,
         &Link {
             lane: rank,
             received,
@@ -129,18 +157,19 @@ fn push_pair(
 fn push_links_among(
     alloc: Global,
     out: &mut String,
-    end: u64,
+    frame: &Frame,
     rank: usize,
     events: &[Event],
 ) -> Result<(), AllocError>
+    requires lanes { frame.now.lanes ≤ 256 }
     requires few { rank ≤ 256 }
-    requires low { end ≤ 1000001 }
+    requires low { frame.now.end ≤ 1000001 }
     ensures ok { OnOk result (string_bytes out.new
-        ≡ string_bytes out.old ++ flat_map link_text (links_among end rank events.now)) }
+        ≡ string_bytes out.old ++ flat_map (link_text frame.now) (links_among frame.now.end rank events.now)) }
 {
     let pairs = all_pairs(alloc, events)?;
     for pair in pairs.as_slice() {
-        push_pair(out, end, rank, events, pair)?;
+        push_pair(out, frame, rank, events, pair)?;
     }
     Ok(())
 }
@@ -153,13 +182,14 @@ fn push_links_of_rank(
     rank: usize,
     account: &RankAccount,
 ) -> Result<(), AllocError>
+    requires lanes { frame.now.lanes ≤ 256 }
     requires few { rank ≤ 256 }
     requires low { frame.now.end ≤ 1000001 }
     ensures ok { OnOk result (string_bytes out.new ≡ string_bytes out.old
-        ++ flat_map link_text (links_of frame.now.end rank account.now)) }
+        ++ flat_map (link_text frame.now) (links_of frame.now.end rank account.now)) }
 {
     let events = front(account.history.as_slice(), MAX_LINKED);
-    push_links_among(alloc, out, frame.end, rank, events)
+    push_links_among(alloc, out, frame, rank, events)
 }
 
 /// Writes the links of all ranks.
@@ -169,10 +199,11 @@ pub fn push_links(
     frame: &Frame,
     ranks: &[RankAccount],
 ) -> Result<(), AllocError>
+    requires lanes { frame.now.lanes ≤ 256 }
     requires few { length ranks.now ≤ 256 }
     requires low { frame.now.end ≤ 1000001 }
     ensures ok { OnOk result (string_bytes out.new
-        ≡ string_bytes out.old ++ flat_map link_text (all_links frame.now.end ranks.now)) }
+        ≡ string_bytes out.old ++ flat_map (link_text frame.now) (all_links frame.now.end ranks.now)) }
 {
     for (rank, account) in ranks.iter().enumerate() {
         push_links_of_rank(alloc, out, frame, rank, account)?;

@@ -1,51 +1,29 @@
 //! A mark for each event, on the line of its rank.
 
 ghost use Rattle.std.specs.Prelude.{◌≡◌, ◌≤◌, ◌<◌, ◌++◌, OnOk, flat_map, length, string_bytes};
-ghost use Rattle.nm_diagram.specs.Diagrams.{all_marks, mark_of, marks_at, marks_of, sign_of};
+ghost use Rattle.nm_diagram.specs.Diagrams.{all_marks, mark_of, marks_at, marks_of};
 ghost use Rattle.nm_diagram.specs.Pictures.{mark_text, sign_text, title_text};
 
 use crate::frames::Frame;
-use crate::outlines::{x_of, y_of};
+use crate::places::{x_of, y_of};
+use crate::signs::Sign;
 use crate::words::{push_escaped, title};
-use nm_history::{Event, Happened};
+use nm_history::Event;
 use nm_report::RankAccount;
-use nm_types::How;
 use std::alloc::{AllocError, Global};
-
-/// The name of the mark of an event.
-fn sign(what: &Happened) -> &'static str
-    ensures { result.now ≡ sign_of what.now }
-{
-    match what {
-        Happened::Send {
-            how: How::Eager,
-            ..
-        } => "send",
-        Happened::Send { how: How::Ask, .. } => "ask",
-        Happened::Post { .. } => "post",
-        Happened::Arrive { .. } => "arrive",
-        Happened::Whole { .. } => "whole",
-        Happened::Out { .. } => "out",
-        Happened::Cancel { .. } => "cancel",
-        Happened::Recall { .. } => "recall",
-        Happened::Withdraw { .. } => "withdraw",
-        Happened::Undone { .. } => "undone",
-        Happened::Claim { .. } => "claim",
-        Happened::Match { .. } => "match",
-        Happened::Ran { .. } => "ran",
-    }
-}
 
 /// Writes the start tag of the mark of an event.
 #[tactic(auto, unfolding(crate::specs::Pictures::sign_text))]
-fn push_sign(out: &mut String, rank: usize, event: &Event) -> Result<(), AllocError>
+fn push_sign(out: &mut String, frame: &Frame, rank: usize, event: &Event) -> Result<(), AllocError>
+    requires lanes { frame.now.lanes ≤ 256 }
     requires few { rank ≤ 256 }
     requires low { event.now.stamp ≤ 1000000 }
     ensures ok { OnOk result
-        (string_bytes out.new ≡ string_bytes out.old ++ sign_text (mark_of rank event.now)) }
+        (string_bytes out.new
+        ≡ string_bytes out.old ++ sign_text frame.now (mark_of rank event.now)) }
 {
-    let name = sign(&event.what);
-    let x = x_of(rank);
+    let name = Sign::of(&event.what).name();
+    let x = x_of(frame, rank);
     let y = y_of(event.stamp);
     write!(out, "<use href=\"#{name}\" x=\"{x}\" y=\"{y}\">")
 }
@@ -63,14 +41,22 @@ fn push_title(out: &mut String, words: &str) -> Result<(), AllocError>
 
 /// Writes the mark of an event.
 #[tactic(auto, unfolding(crate::specs::Pictures::mark_text))]
-fn push_mark(alloc: Global, out: &mut String, rank: usize, event: &Event) -> Result<(), AllocError>
+fn push_mark(
+    alloc: Global,
+    out: &mut String,
+    frame: &Frame,
+    rank: usize,
+    event: &Event,
+) -> Result<(), AllocError>
+    requires lanes { frame.now.lanes ≤ 256 }
     requires few { rank ≤ 256 }
     requires low { event.now.stamp ≤ 1000000 }
     ensures ok { OnOk result
-        (string_bytes out.new ≡ string_bytes out.old ++ mark_text (mark_of rank event.now)) }
+        (string_bytes out.new
+        ≡ string_bytes out.old ++ mark_text frame.now (mark_of rank event.now)) }
 {
     let words = title(alloc, rank, event)?;
-    push_sign(out, rank, event)?;
+    push_sign(out, frame, rank, event)?;
     push_title(out, words.as_str())?;
     out.push_str("</use>\n")
 }
@@ -83,13 +69,14 @@ fn push_if_shown(
     rank: usize,
     event: &Event,
 ) -> Result<(), AllocError>
+    requires lanes { frame.now.lanes ≤ 256 }
     requires few { rank ≤ 256 }
     requires low { frame.now.end ≤ 1000001 }
     ensures ok { OnOk result (string_bytes out.new ≡ string_bytes out.old
-        ++ flat_map mark_text (marks_at frame.now.end rank event.now)) }
+        ++ flat_map (mark_text frame.now) (marks_at frame.now.end rank event.now)) }
 {
     if event.stamp < frame.end {
-        push_mark(alloc, out, rank, event)
+        push_mark(alloc, out, frame, rank, event)
     } else {
         Ok(())
     }
@@ -103,10 +90,11 @@ fn push_marks_of_rank(
     rank: usize,
     account: &RankAccount,
 ) -> Result<(), AllocError>
+    requires lanes { frame.now.lanes ≤ 256 }
     requires few { rank ≤ 256 }
     requires low { frame.now.end ≤ 1000001 }
     ensures ok { OnOk result (string_bytes out.new ≡ string_bytes out.old
-        ++ flat_map mark_text (marks_of frame.now.end rank account.now)) }
+        ++ flat_map (mark_text frame.now) (marks_of frame.now.end rank account.now)) }
 {
     for event in account.history.as_slice() {
         push_if_shown(alloc, out, frame, rank, event)?;
@@ -121,10 +109,11 @@ pub fn push_marks(
     frame: &Frame,
     ranks: &[RankAccount],
 ) -> Result<(), AllocError>
+    requires lanes { frame.now.lanes ≤ 256 }
     requires few { length ranks.now ≤ 256 }
     requires low { frame.now.end ≤ 1000001 }
     ensures ok { OnOk result (string_bytes out.new
-        ≡ string_bytes out.old ++ flat_map mark_text (all_marks frame.now.end ranks.now)) }
+        ≡ string_bytes out.old ++ flat_map (mark_text frame.now) (all_marks frame.now.end ranks.now)) }
 {
     for (rank, account) in ranks.iter().enumerate() {
         push_marks_of_rank(alloc, out, frame, rank, account)?;

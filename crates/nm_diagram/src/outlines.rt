@@ -1,50 +1,29 @@
-//! Where things stand: the lanes of the ranks, and what stands at their ends.
+//! The lanes of the ranks, with the ranks' names, and what stands at their ends.
 
 ghost use Rattle.std.specs.Prelude.{◌≡◌, ◌≤◌, ◌++◌, OnOk, flat_map, length, string_bytes};
 ghost use Rattle.nm_diagram.specs.Diagrams.{all_lanes, lane_of};
-ghost use Rattle.nm_diagram.specs.Pictures.{foot_y, head_text, lane_text, lane_x, left_out_text};
-ghost use Rattle.nm_diagram.specs.Pictures.{line_text, note_text};
-ghost use Rattle.nm_diagram.specs.Pictures.{process_line, rank_label, size_text, stamp_y};
+ghost use Rattle.std.specs.List.{range_with_len};
+ghost use Rattle.nm_diagram.specs.Pictures.{head_text, lane_text, left_out_text, line_text};
+ghost use Rattle.nm_diagram.specs.Pictures.{name_count, name_text, note_text};
+ghost use Rattle.nm_diagram.specs.Pictures.{process_line, rank_label, size_text};
 ghost use Rattle.nm_diagram.specs.Pictures.{wait_label};
 ghost use Rattle.nm_diagram.specs.Pictures.{wait_sign, wait_text};
 
 use crate::frames::Frame;
+use crate::places::{foot, shortened, width, x_of, y_of};
 use nm_report::RankAccount;
 use std::alloc::AllocError;
-
-/// How far from the left the line of a rank stands.
-pub fn x_of(rank: usize) -> u64
-    requires { rank ≤ 256 }
-    ensures { result ≡ lane_x rank }
-{
-    300 + 72 * rank as u64
-}
-
-/// How far from the top a stamp stands.
-pub fn y_of(stamp: u64) -> u64
-    requires { stamp ≤ 1000001 }
-    ensures { result ≡ stamp_y stamp }
-{
-    70 + 18 * stamp
-}
-
-/// Where the lines of the ranks end.
-fn foot(frame: &Frame) -> u64
-    requires { frame.now.bottom ≤ 1000000 }
-    ensures { result ≡ foot_y frame.now }
-{
-    y_of(frame.bottom + 1)
-}
 
 /// Writes the sign of a command that can't go on.
 #[tactic(auto, unfolding(crate::specs::Pictures::wait_sign))]
 fn push_wait_sign(out: &mut String, frame: &Frame, rank: usize, line: u32) -> Result<(), AllocError>
     requires low { frame.now.bottom ≤ 1000000 }
+    requires lanes { frame.now.lanes ≤ 256 }
     requires few { rank ≤ 256 }
     ensures ok { OnOk result
         (string_bytes out.new ≡ string_bytes out.old ++ wait_sign frame.now rank line) }
 {
-    let x = x_of(rank);
+    let x = x_of(frame, rank);
     let y = foot(frame);
     write!(
         out,
@@ -61,15 +40,17 @@ fn push_wait_label(
     line: u32,
 ) -> Result<(), AllocError>
     requires low { frame.now.bottom ≤ 1000000 }
+    requires lanes { frame.now.lanes ≤ 256 }
     requires few { rank ≤ 256 }
     ensures ok { OnOk result (string_bytes out.new
         ≡ string_bytes out.old ++ wait_label frame.now rank line) }
 {
-    let x = x_of(rank);
-    let y = foot(frame) + 40;
+    let x = x_of(frame, rank);
+    let y = foot(frame) + 40 + 14 * (rank as u64 % 2);
+    let word = shortened(frame, "line ");
     write!(
         out,
-        "<text class=\"waits\" x=\"{x}\" y=\"{y}\">line {line}</text>\n"
+        "<text class=\"waits\" x=\"{x}\" y=\"{y}\">{word}{line}</text>\n"
     )
 }
 
@@ -82,6 +63,7 @@ fn push_wait(
     waits: Option<u32>,
 ) -> Result<(), AllocError>
     requires low { frame.now.bottom ≤ 1000000 }
+    requires lanes { frame.now.lanes ≤ 256 }
     requires few { rank ≤ 256 }
     ensures ok { OnOk result
         (string_bytes out.new ≡ string_bytes out.old ++ wait_text frame.now rank waits) }
@@ -99,11 +81,12 @@ fn push_wait(
 #[tactic(auto, unfolding(crate::specs::Pictures::process_line))]
 fn push_process(out: &mut String, frame: &Frame, rank: usize) -> Result<(), AllocError>
     requires low { frame.now.bottom ≤ 1000000 }
+    requires lanes { frame.now.lanes ≤ 256 }
     requires few { rank ≤ 256 }
     ensures ok { OnOk result
         (string_bytes out.new ≡ string_bytes out.old ++ process_line frame.now rank) }
 {
-    let x = x_of(rank);
+    let x = x_of(frame, rank);
     let y = foot(frame);
     write!(
         out,
@@ -113,28 +96,68 @@ fn push_process(out: &mut String, frame: &Frame, rank: usize) -> Result<(), Allo
 
 /// Writes the name of a rank.
 #[tactic(auto, unfolding(crate::specs::Pictures::rank_label))]
-fn push_rank_label(out: &mut String, rank: usize, y: u64) -> Result<(), AllocError>
+fn push_rank_label(out: &mut String, frame: &Frame, rank: usize, y: u64) -> Result<(), AllocError>
+    requires lanes { frame.now.lanes ≤ 256 }
     requires few { rank ≤ 256 }
-    ensures ok { OnOk result (string_bytes out.new ≡ string_bytes out.old ++ rank_label rank y) }
+    ensures ok { OnOk result (string_bytes out.new ≡ string_bytes out.old ++ rank_label frame.now rank y) }
 {
-    let x = x_of(rank);
+    let x = x_of(frame, rank);
+    let word = shortened(frame, "rank ");
     write!(
         out,
-        "<text class=\"rank\" x=\"{x}\" y=\"{y}\">rank {rank}</text>\n"
+        "<text class=\"rank\" x=\"{x}\" y=\"{y}\">{word}{rank}</text>\n"
     )
 }
 
-/// Writes the line of a rank, with its name at both ends.
+/// The most names of a rank between stamps.
+const MAX_NAMES: u64 = 1000;
+
+/// How often the names of the ranks stand between stamps.
+fn count_names(frame: &Frame) -> u64
+    ensures value { result ≡ name_count frame.now }
+    ensures within { result ≤ 1000 }
+{
+    (frame.bottom / 40).min(MAX_NAMES)
+}
+
+/// Writes the name of a rank before the stamp 40 * k.
+fn push_name(out: &mut String, frame: &Frame, rank: usize, k: u64) -> Result<(), AllocError>
+    requires lanes { frame.now.lanes ≤ 256 }
+    requires few { rank ≤ 256 }
+    requires low { k ≤ 1000 }
+    ensures ok { OnOk result
+        (string_bytes out.new ≡ string_bytes out.old ++ name_text frame.now rank k) }
+{
+    push_rank_label(out, frame, rank, y_of(40 * k) - 20)
+}
+
+/// Writes the name of a rank before each fortieth stamp.
+fn push_names(out: &mut String, frame: &Frame, rank: usize) -> Result<(), AllocError>
+    requires lanes { frame.now.lanes ≤ 256 }
+    requires few { rank ≤ 256 }
+    ensures ok { OnOk result (string_bytes out.new ≡ string_bytes out.old
+        ++ flat_map (name_text frame.now rank) (range_with_len 1 (name_count frame.now))) }
+{
+    let count = count_names(frame);
+    for k in 0..count {
+        push_name(out, frame, rank, k + 1)?;
+    }
+    Ok(())
+}
+
+/// Writes the line of a rank, with its name at both ends and before each fortieth stamp.
 #[tactic(auto, unfolding(crate::specs::Pictures::line_text))]
 fn push_line(out: &mut String, frame: &Frame, rank: usize) -> Result<(), AllocError>
     requires low { frame.now.bottom ≤ 1000000 }
+    requires lanes { frame.now.lanes ≤ 256 }
     requires few { rank ≤ 256 }
     ensures ok { OnOk result
         (string_bytes out.new ≡ string_bytes out.old ++ line_text frame.now rank) }
 {
     push_process(out, frame, rank)?;
-    push_rank_label(out, rank, 56)?;
-    push_rank_label(out, rank, foot(frame) + 24)
+    push_rank_label(out, frame, rank, 56)?;
+    push_rank_label(out, frame, rank, foot(frame) + 24)?;
+    push_names(out, frame, rank)
 }
 
 /// Writes the line of a rank, and where it waits.
@@ -146,6 +169,7 @@ fn push_lane(
     account: &RankAccount,
 ) -> Result<(), AllocError>
     requires low { frame.now.bottom ≤ 1000000 }
+    requires lanes { frame.now.lanes ≤ 256 }
     requires few { rank ≤ 256 }
     ensures ok { OnOk result (string_bytes out.new
         ≡ string_bytes out.old ++ flat_map (lane_text frame.now) (lane_of rank account.now)) }
@@ -157,6 +181,7 @@ fn push_lane(
 /// Writes the lines of the ranks.
 pub fn push_lanes(out: &mut String, frame: &Frame, ranks: &[RankAccount]) -> Result<(), AllocError>
     requires low { frame.now.bottom ≤ 1000000 }
+    requires lanes { frame.now.lanes ≤ 256 }
     requires few { length ranks.now ≤ 256 }
     ensures ok { OnOk result (string_bytes out.new
         ≡ string_bytes out.old ++ flat_map (lane_text frame.now) (all_lanes ranks.now)) }
@@ -175,7 +200,7 @@ fn push_count(out: &mut String, count: u64) -> Result<(), AllocError>
 {
     write!(
         out,
-        "<text class=\"note\" x=\"300\" y=\"26\">later events left out: {count}</text>\n"
+        "<text class=\"note\" x=\"340\" y=\"26\">later events left out: {count}</text>\n"
     )
 }
 
@@ -208,11 +233,10 @@ fn push_svg(out: &mut String, width: u64, height: u64) -> Result<(), AllocError>
 #[tactic(auto, unfolding(crate::specs::Pictures::head_text))]
 pub fn push_size(out: &mut String, frame: &Frame) -> Result<(), AllocError>
     requires low { frame.now.bottom ≤ 1000000 }
-    requires few { frame.now.lanes ≤ 256 }
+    requires lanes { frame.now.lanes ≤ 256 }
     ensures ok { OnOk result
         (string_bytes out.new ≡ string_bytes out.old ++ head_text frame.now) }
 {
-    let width = x_of(frame.lanes).max(560);
-    let height = (foot(frame) + 60).max(460);
-    push_svg(out, width, height)
+    let height = (foot(frame) + 74).max(500);
+    push_svg(out, width(frame), height)
 }

@@ -2,10 +2,13 @@
 
 ghost use Rattle.std.specs.Prelude.{◌≡◌, ◌≤◌, ◌++◌, IfOk, OnOk, length, string_bytes};
 ghost use Rattle.nm_diagram.specs.Pictures.{IsPictureOf, front_text, picture_text, shapes_text};
-ghost use Rattle.nm_diagram.specs.Pictures.{sheet_text};
+ghost use Rattle.nm_diagram.specs.Legend.{sheet_text};
 
 use crate::arrows::push_arrows;
+use crate::axis::push_axis;
 use crate::frames::Frame;
+use crate::labels::push_labels;
+use crate::legend::push_legend;
 use crate::links::push_links;
 use crate::marks::push_marks;
 use crate::outlines::{push_lanes, push_left_out, push_size};
@@ -15,7 +18,7 @@ use nm_types::Memory;
 use std::alloc::{AllocError, Global};
 
 /// Writes what stands in each picture.
-#[tactic(auto, unfolding(crate::specs::Pictures::sheet_text))]
+#[tactic(auto, unfolding(crate::specs::Legend::sheet_text))]
 fn push_sheet(out: &mut String) -> Result<(), AllocError>
     ensures ok { OnOk result (string_bytes out.new ≡ string_bytes out.old ++ sheet_text) }
 {
@@ -24,18 +27,20 @@ fn push_sheet(out: &mut String) -> Result<(), AllocError>
 
 /// Writes the front of the picture.
 #[tactic(auto, unfolding(crate::specs::Pictures::front_text))]
-fn push_front(out: &mut String, frame: &Frame) -> Result<(), AllocError>
+fn push_front(out: &mut String, frame: &Frame, ranks: &[RankAccount]) -> Result<(), AllocError>
     requires low { frame.now.bottom ≤ 1000000 }
-    requires few { frame.now.lanes ≤ 256 }
+    requires lanes { frame.now.lanes ≤ 256 }
     ensures ok { OnOk result
-        (string_bytes out.new ≡ string_bytes out.old ++ front_text frame.now) }
+        (string_bytes out.new ≡ string_bytes out.old ++ front_text frame.now ranks.now) }
 {
     push_size(out, frame)?;
     push_sheet(out)?;
-    push_left_out(out, frame)
+    push_left_out(out, frame)?;
+    push_legend(out, frame, ranks)?;
+    push_axis(out, frame)
 }
 
-/// Writes the shapes, the lines first and the marks last.
+/// Writes the shapes, the lines first, and the arrows in front of the marks.
 #[tactic(auto, unfolding(crate::specs::Pictures::shapes_text))]
 fn push_shapes(
     alloc: Global,
@@ -52,8 +57,9 @@ fn push_shapes(
 {
     push_lanes(out, frame, &ranks[..frame.lanes])?;
     push_links(alloc, out, frame, ranks)?;
+    push_marks(alloc, out, frame, ranks)?;
     push_arrows(out, frame, ranks)?;
-    push_marks(alloc, out, frame, ranks)
+    push_labels(alloc, out, frame, ranks)
 }
 
 /// Writes the whole picture.
@@ -71,7 +77,7 @@ fn push_all(
     ensures ok { OnOk result
         (string_bytes out.new ≡ string_bytes out.old ++ picture_text frame.now ranks.now) }
 {
-    push_front(out, frame)?;
+    push_front(out, frame, ranks)?;
     push_shapes(alloc, out, frame, ranks)?;
     out.push_str("</svg>\n")
 }

@@ -1,6 +1,6 @@
-//! What stands in each picture: its colours, its signs and its legend.
+//! What stands in each picture: its colours, its signs and its caption.
 
-/// The style of a picture, for light and dark backgrounds, the signs of the marks, and the legend.
+/// The style of a picture, for light and dark backgrounds and for print, the signs, and the caption.
 pub const SHEET: &str = "<style>
 svg { background: #ffffff; color: #1a1a1a; font-family: sans-serif; font-size: 12px; }
 text { fill: currentColor; }
@@ -24,7 +24,12 @@ text { fill: currentColor; }
 .ink { color: #1a1a1a; }
 .solid { fill: currentColor; }
 .hollow, .stroke { stroke: currentColor; }
-@media (prefers-color-scheme: dark) {
+.rank, .label { paint-order: stroke; stroke: #ffffff; stroke-width: 3; stroke-linejoin: round; }
+.axis, .label { font-size: 9px; }
+.label { font-family: monospace; }
+.axis { text-anchor: end; }
+.grid { stroke: #e8e8e8; stroke-width: 1; }
+@media screen and (prefers-color-scheme: dark) {
 svg { background: #161616; color: #ececec; }
 .hollow { fill: #161616; }
 .waits { fill: #ff9a4d; }
@@ -38,6 +43,17 @@ svg { background: #161616; color: #ececec; }
 .red { color: #ff7a2b; }
 .purple { color: #cc79a7; }
 .ink { color: #ececec; }
+.rank, .label { stroke: #161616; }
+.grid { stroke: #303030; }
+}
+@media print {
+svg { background: #ffffff; color: #000000; }
+.waits { fill: #000000; }
+.lane { stroke: #000000; }
+.eager, .ask, .link { stroke: #000000; }
+.link { stroke-dasharray: 2 2; }
+.blue, .orange, .green, .red, .purple, .ink { color: #000000; }
+.grid { stroke: #c8c8c8; }
 }
 </style>
 <defs>
@@ -57,25 +73,12 @@ svg { background: #161616; color: #ececec; }
 <g id=\"match\"><path d=\"M -7 0 L -3.5 -6 H 3.5 L 7 0 L 3.5 6 H -3.5 Z\" class=\"orange hollow\"></path></g>
 <g id=\"ran\"><circle r=\"2.5\" class=\"ink solid\"></circle></g>
 <g id=\"waits\"><path d=\"M -6 -7 H 6 L -6 7 H 6 Z\" class=\"red hollow\"></path></g>
+<g id=\"eagerway\"><path class=\"eager\" d=\"M -16 0 H 16\"></path></g>
+<g id=\"askway\"><path class=\"ask\" d=\"M -16 0 H 16\"></path></g>
+<g id=\"taken\"><path class=\"link\" d=\"M 6 -8 C -12 -8 -12 8 6 8\"></path></g>
 </defs>
 <text class=\"note\" x=\"20\" y=\"26\">Space-time diagram of a run</text>
-<use href=\"#send\" x=\"32\" y=\"52\"></use><text x=\"56\" y=\"56\">a send of a message at once</text>
-<use href=\"#ask\" x=\"32\" y=\"72\"></use><text x=\"56\" y=\"76\">a send that asks first</text>
-<use href=\"#post\" x=\"32\" y=\"92\"></use><text x=\"56\" y=\"96\">a receive posted</text>
-<use href=\"#arrive\" x=\"32\" y=\"112\"></use><text x=\"56\" y=\"116\">a message, or its asking, arrives</text>
-<use href=\"#whole\" x=\"32\" y=\"132\"></use><text x=\"56\" y=\"136\">all bytes are here</text>
-<use href=\"#out\" x=\"32\" y=\"152\"></use><text x=\"56\" y=\"156\">the last part has left</text>
-<use href=\"#cancel\" x=\"32\" y=\"172\"></use><text x=\"56\" y=\"176\">a cancel of a receive</text>
-<use href=\"#recall\" x=\"32\" y=\"192\"></use><text x=\"56\" y=\"196\">a withdrawal asked for</text>
-<use href=\"#withdraw\" x=\"32\" y=\"212\"></use><text x=\"56\" y=\"216\">a withdrawal, done or late</text>
-<use href=\"#undone\" x=\"32\" y=\"232\"></use><text x=\"56\" y=\"236\">the answer to a withdrawal</text>
-<use href=\"#claim\" x=\"32\" y=\"252\"></use><text x=\"56\" y=\"256\">a message claimed by a probe</text>
-<use href=\"#match\" x=\"32\" y=\"272\"></use><text x=\"56\" y=\"276\">a claimed message received</text>
-<use href=\"#ran\" x=\"32\" y=\"292\"></use><text x=\"56\" y=\"296\">a command answered</text>
-<use href=\"#waits\" x=\"32\" y=\"312\"></use><text x=\"56\" y=\"316\">a command that waits at the end</text>
-<path class=\"eager\" d=\"M 16 332 H 48\"></path><text x=\"56\" y=\"336\">the way of a message sent at once</text>
-<path class=\"ask\" d=\"M 16 352 H 48\"></path><text x=\"56\" y=\"356\">the way of an asking</text>
-<path class=\"link\" d=\"M 38 364 C 20 364 20 380 38 380\"></path><text x=\"56\" y=\"376\">a receive and what it took</text>
-<text x=\"20\" y=\"400\">Time runs downwards, by stamps.</text>
-<text x=\"20\" y=\"418\">Point at a shape to read what it is.</text>
+<text x=\"20\" y=\"46\">Time runs downwards, by stamps.</text>
+<text x=\"20\" y=\"62\">m message, t tag, b bytes, r receive;</text>
+<text x=\"20\" y=\"78\">a number alone: a line of the script.</text>
 ";

@@ -5,6 +5,7 @@ use nm_diagram::picture;
 use nm_history::{Event, Happened, History};
 use nm_report::{Accounts, Pairs, RankAccount, RunRecord};
 use nm_types::{Account, Arrival, Envelope, How, Peer, Post, Shape, TagPick};
+use std::alloc::Global;
 use std::test::Fail;
 
 fn sent(stamp: u64) -> Event {
@@ -58,16 +59,27 @@ fn account(events: Vec<Event>) -> RankAccount {
     }
 }
 
+fn waiting(alloc: Global) -> RankAccount {
+    RankAccount {
+        history: History::from_vec(Vec::new(alloc)),
+        at: 0,
+        waits: Some(9),
+    }
+}
+
 fn has(text: &[u8], part: &[u8]) -> bool {
     !part.is_empty() && text.windows(part.len()).any(|w| w == part)
 }
 
-#[test]
-fn a_message_and_its_receive_are_drawn(rt: HostRuntime) -> Result<(), Fail> {
-    let alloc = rt.alloc();
+/// The picture of a message of which the send and the receive have stamp 1 and the arrival this one,
+/// among so many ranks, of which the last one waits.
+fn drawn(alloc: Global, count: usize, arrival: u64) -> Result<Vec<u8>, Fail> {
     let mut ranks = Accounts::new(alloc);
     ranks.push(account(vec![in alloc; sent(1)]?))?;
-    ranks.push(account(vec![in alloc; posted(1), arrived(4)]?))?;
+    ranks.push(account(vec![in alloc; posted(1), arrived(arrival)]?))?;
+    for _rank in 2..count {
+        ranks.push(waiting(alloc))?;
+    }
     let run = RunRecord {
         shape: Shape::new(2, 8, 1024).ok().ok_or("shape")?,
         ranks,
@@ -78,8 +90,77 @@ fn a_message_and_its_receive_are_drawn(rt: HostRuntime) -> Result<(), Fail> {
         },
         done: false,
     };
-    let text = picture(alloc, &run)?;
-    assert!(rt; has(&text, b"x1=\"300\" y1=\"88\" x2=\"372\" y2=\"142\""));
-    assert!(rt; has(&text, b"d=\"M 372 88 C 358 88 358 142 372 142\""));
+    Ok(picture(alloc, &run)?)
+}
+
+// Two ranks: their lines stand 150 apart, and the link of receive 0 over three stamps bends by
+// 12 + 150 * 3 / 90 = 17.
+#[test]
+fn a_message_and_its_receive_are_drawn(rt: HostRuntime) -> Result<(), Fail> {
+    let text = drawn(rt.alloc(), 2, 4)?;
+    assert!(rt; has(&text, b"x1=\"340\" y1=\"88\" x2=\"490\" y2=\"142\""));
+    assert!(rt; has(&text, b"d=\"M 490 88 C 473 88 473 142 490 142\""));
+    Ok(())
+}
+
+// The label of the send stands above the arrow, that of the arrival below it.
+#[test]
+fn each_mark_is_labelled(rt: HostRuntime) -> Result<(), Fail> {
+    let text = drawn(rt.alloc(), 2, 4)?;
+    assert!(rt;
+        has(
+            &text,
+            b" x=\"353\" y=\"87\" textLength=\"40\">m0 t7 2b</text>"
+        )
+    );
+    assert!(rt;
+        has(
+            &text,
+            b" x=\"503\" y=\"91\" textLength=\"35\">r0 tany</text>"
+        )
+    );
+    assert!(rt;
+        has(
+            &text,
+            b" x=\"503\" y=\"149\" textLength=\"40\">m0 t7 2b</text>"
+        )
+    );
+    Ok(())
+}
+
+#[test]
+fn the_legend_has_the_signs_that_are_there(rt: HostRuntime) -> Result<(), Fail> {
+    let text = drawn(rt.alloc(), 2, 4)?;
+    assert!(rt; has(&text, b"<use href=\"#send\" x=\"32\" y=\"106\">"));
+    assert!(rt; has(&text, b"<use href=\"#post\" x=\"32\" y=\"126\">"));
+    assert!(rt; has(&text, b"<use href=\"#arrive\" x=\"32\" y=\"146\">"));
+    assert!(rt; has(&text, b"<use href=\"#eagerway\" x=\"32\" y=\"166\">"));
+    assert!(rt; has(&text, b"<use href=\"#taken\" x=\"32\" y=\"186\">"));
+    assert!(rt; !has(&text, b"x=\"32\" y=\"206\""));
+    assert!(rt; !has(&text, b"href=\"#cancel\""));
+    Ok(())
+}
+
+// Stamp 40 stands 70 + 18 * 40 + 30 = 820 from the top, and the names of the ranks 20 above it.
+#[test]
+fn names_and_stamps_repeat(rt: HostRuntime) -> Result<(), Fail> {
+    let text = drawn(rt.alloc(), 2, 40)?;
+    assert!(rt; has(&text, b"x=\"490\" y=\"800\">rank 1</text>"));
+    assert!(rt; has(&text, b"d=\"M 296 820 H 640\"></path>"));
+    assert!(rt; has(&text, b"x=\"290\" y=\"823\">40</text>"));
+    assert!(rt; !has(&text, b">45</text>"));
+    Ok(())
+}
+
+// 64 ranks stand 1240 / 65 = 19 apart: no labels, and the ranks and the lines at which they wait
+// are told by numbers alone.
+#[test]
+fn many_ranks_stand_close(rt: HostRuntime) -> Result<(), Fail> {
+    let text = drawn(rt.alloc(), 64, 4)?;
+    assert!(rt; has(&text, b" width=\"1556\" "));
+    assert!(rt; has(&text, b"x1=\"340\" y1=\"88\" x2=\"359\" y2=\"142\""));
+    assert!(rt; has(&text, b"x=\"1537\" y=\"56\">63</text>"));
+    assert!(rt; has(&text, b"x=\"1537\" y=\"214\">9</text>"));
+    assert!(rt; !has(&text, b"textLength"));
     Ok(())
 }

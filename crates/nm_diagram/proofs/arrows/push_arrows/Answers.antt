@@ -12,9 +12,10 @@ loop-rank-preserved c =
     let rank = c.loop-rank.rank in
     let account = c.index-ranks-rank in
     let arrows = arrows_of c.args.frame.now.end ranks in
+    let text = arrow_text c.args.frame.now in
     let found = slice_get_read ranks _ rank account.result refl c.loop-rank-test.true account.is in
-    next_written (λ l. flat_map arrow_text (from_lane arrows rank l))
-    (λ l. flat_map arrow_text (from_lane arrows (rank + 1) l))
-    (flat_map arrow_text (arrows rank account.result)) ranks rank account.result _ _ _ found
-    (flat_map-append arrow_text (arrows rank account.result) (from_lane arrows (rank + 1) (drop (rank + 1) ranks)))
+    next_written (λ l. flat_map text (from_lane arrows rank l))
+    (λ l. flat_map text (from_lane arrows (rank + 1) l))
+    (flat_map text (arrows rank account.result)) ranks rank account.result _ _ _ found
+    (flat_map-append text (arrows rank account.result) (from_lane arrows (rank + 1) (drop (rank + 1) ranks)))
     c.in_ok-push_arrows_of_rank.ensures.ok c.loop-rank.invariant

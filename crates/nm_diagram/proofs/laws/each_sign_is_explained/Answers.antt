@@ -1,19 +1,30 @@
 -- Each clause is a lemma.
-use Rattle.nm_diagram.proofs.LegendLemmas.{covers-stand, legend-explained, sign-explained, strokes-stand}
-use Rattle.nm_diagram.proofs.LegendLemmas.{waits-explained}
+use Rattle.nm_diagram.specs.Legend.{is_used}
+use Rattle.nm_diagram.specs.Signs.{all_signs}
+use Rattle.nm_diagram.proofs.LegendLemmas.{arrows-explained, covers-stand, links-explained, marks-explained, only-used}
+use Rattle.nm_diagram.proofs.LegendLemmas.{signs-drawn, strokes-stand, waits-explained}
 use Rattle.nm_diagram.proofs.laws.each_sign_is_explained.Goals as goal
 
-pub returns-clause-explained : goal.returns-clause-explained
-returns-clause-explained c = legend-explained
+pub returns-clause-marks : goal.returns-clause-marks
+returns-clause-marks c = marks-explained
 
-pub returns-clause-of_events : goal.returns-clause-of_events
-returns-clause-of_events c = sign-explained
+pub returns-clause-arrows : goal.returns-clause-arrows
+returns-clause-arrows c = arrows-explained
 
-pub returns-clause-of_waits : goal.returns-clause-of_waits
-returns-clause-of_waits c = waits-explained
+pub returns-clause-links : goal.returns-clause-links
+returns-clause-links c = links-explained
+
+pub returns-clause-waits : goal.returns-clause-waits
+returns-clause-waits c = waits-explained
+
+pub returns-clause-used : goal.returns-clause-used
+returns-clause-used c end ranks = only-used (is_used end ranks) all_signs
 
 pub returns-clause-drawn : goal.returns-clause-drawn
-returns-clause-drawn c = strokes-stand
+returns-clause-drawn c = signs-drawn
+
+pub returns-clause-strokes : goal.returns-clause-strokes
+returns-clause-strokes c = strokes-stand
 
 pub returns-clause-shown : goal.returns-clause-shown
 returns-clause-shown c = covers-stand

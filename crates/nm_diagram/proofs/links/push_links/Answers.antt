@@ -13,9 +13,10 @@ loop-rank-preserved c =
     let rank = c.loop-rank.rank in
     let account = c.index-ranks-rank in
     let links = links_of c.args.frame.now.end in
+    let text = link_text c.args.frame.now in
     let found = slice_get_read ranks _ rank account.result refl c.loop-rank-test.true account.is in
-    next_written (λ l. flat_map link_text (from_lane links rank l))
-    (λ l. flat_map link_text (from_lane links (rank + 1) l))
-    (flat_map link_text (links rank account.result)) ranks rank account.result _ _ _ found
-    (flat_map-append link_text (links rank account.result) (from_lane links (rank + 1) (drop (rank + 1) ranks)))
+    next_written (λ l. flat_map text (from_lane links rank l))
+    (λ l. flat_map text (from_lane links (rank + 1) l))
+    (flat_map text (links rank account.result)) ranks rank account.result _ _ _ found
+    (flat_map-append text (links rank account.result) (from_lane links (rank + 1) (drop (rank + 1) ranks)))
     c.in_ok-push_links_of_rank.ensures.ok c.loop-rank.invariant

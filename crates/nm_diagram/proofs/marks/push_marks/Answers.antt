@@ -12,9 +12,10 @@ loop-rank-preserved c =
     let rank = c.loop-rank.rank in
     let account = c.index-ranks-rank in
     let marks = marks_of c.args.frame.now.end in
+    let text = mark_text c.args.frame.now in
     let found = slice_get_read ranks _ rank account.result refl c.loop-rank-test.true account.is in
-    next_written (λ l. flat_map mark_text (from_lane marks rank l))
-    (λ l. flat_map mark_text (from_lane marks (rank + 1) l))
-    (flat_map mark_text (marks rank account.result)) ranks rank account.result _ _ _ found
-    (flat_map-append mark_text (marks rank account.result) (from_lane marks (rank + 1) (drop (rank + 1) ranks)))
+    next_written (λ l. flat_map text (from_lane marks rank l))
+    (λ l. flat_map text (from_lane marks (rank + 1) l))
+    (flat_map text (marks rank account.result)) ranks rank account.result _ _ _ found
+    (flat_map-append text (marks rank account.result) (from_lane marks (rank + 1) (drop (rank + 1) ranks)))
     c.in_ok-push_marks_of_rank.ensures.ok c.loop-rank.invariant

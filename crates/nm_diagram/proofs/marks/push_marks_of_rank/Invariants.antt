@@ -6,6 +6,6 @@ use Rattle.nm_diagram.proofs.marks.push_marks_of_rank.Given as goal
 -- what is written and what is still to write are all
 abbrev pub invariant-loop-event : goal.invariant-loop-event
 invariant-loop-event l =
-    string_bytes l.out ++ flat_map mark_text
+    string_bytes l.out ++ flat_map (mark_text l.frame)
     (flat_map (marks_at l.frame.end l.rank) (drop l.event-index l.account.history.events))
-    ≡ string_bytes l.fn.out ++ flat_map mark_text (flat_map (marks_at l.frame.end l.rank) l.account.history.events)
+    ≡ string_bytes l.fn.out ++ flat_map (mark_text l.frame) (flat_map (marks_at l.frame.end l.rank) l.account.history.events)

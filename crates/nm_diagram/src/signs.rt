@@ -1,0 +1,179 @@
+//! The signs of a picture, and what they stand for.
+
+ghost use Rattle.std.specs.Prelude.{◌≡◌};
+ghost use Rattle.nm_diagram.specs.Diagrams.{sign_of};
+ghost use Rattle.nm_diagram.specs.Signs.{is_ask, is_eager, is_waits, name_of, tells, words_of};
+
+use nm_history::Happened;
+use nm_types::How;
+
+/// What a shape of a picture stands for.
+#[derive(Clone, Copy)]
+pub enum Sign {
+    /// A send of a message at once.
+    Send,
+    /// A send that asks first.
+    Ask,
+    /// A receive posted.
+    Post,
+    /// The arrival of a message, or of its asking.
+    Arrive,
+    /// All bytes of a message are there.
+    Whole,
+    /// The last part of a message has left.
+    Out,
+    /// A cancel of a receive.
+    Cancel,
+    /// A withdrawal that was asked for.
+    Recall,
+    /// A withdrawal, done or late.
+    Withdraw,
+    /// The answer to a withdrawal.
+    Undone,
+    /// A message claimed by a probe.
+    Claim,
+    /// A claimed message received.
+    Match,
+    /// A command answered.
+    Ran,
+    /// A command that waits at the end.
+    Waits,
+    /// The way of a message sent at once.
+    EagerWay,
+    /// The way of an asking.
+    AskWay,
+    /// A receive and what it took.
+    Taken,
+}
+
+/// Whether a message was sent at once.
+fn is_eager(how: How) -> bool
+    ensures { result ≡ is_eager how }
+{
+    match how {
+        How::Eager => true,
+        How::Ask => false,
+    }
+}
+
+/// Whether a message was sent by asking.
+fn is_ask(how: How) -> bool
+    ensures { result ≡ is_ask how }
+{
+    match how {
+        How::Eager => false,
+        How::Ask => true,
+    }
+}
+
+impl Sign {
+    /// The sign of an event.
+    pub fn of(what: &Happened) -> Sign
+        ensures { result ≡ sign_of what.now }
+    {
+        match what {
+            Happened::Send {
+                how: How::Eager,
+                ..
+            } => Sign::Send,
+            Happened::Send { how: How::Ask, .. } => Sign::Ask,
+            Happened::Post { .. } => Sign::Post,
+            Happened::Arrive { .. } => Sign::Arrive,
+            Happened::Whole { .. } => Sign::Whole,
+            Happened::Out { .. } => Sign::Out,
+            Happened::Cancel { .. } => Sign::Cancel,
+            Happened::Recall { .. } => Sign::Recall,
+            Happened::Withdraw { .. } => Sign::Withdraw,
+            Happened::Undone { .. } => Sign::Undone,
+            Happened::Claim { .. } => Sign::Claim,
+            Happened::Match { .. } => Sign::Match,
+            Happened::Ran { .. } => Sign::Ran,
+        }
+    }
+
+    /// Whether an event is told by a sign.
+    pub fn tells(self, what: &Happened) -> bool
+        ensures { result ≡ tells self what.now }
+    {
+        match (self, what) {
+            (Sign::Send, Happened::Send { how, .. }) => is_eager(*how),
+            (Sign::Ask, Happened::Send { how, .. }) => is_ask(*how),
+            (Sign::Post, Happened::Post { .. }) => true,
+            (Sign::Arrive, Happened::Arrive { .. }) => true,
+            (Sign::Whole, Happened::Whole { .. }) => true,
+            (Sign::Out, Happened::Out { .. }) => true,
+            (Sign::Cancel, Happened::Cancel { .. }) => true,
+            (Sign::Recall, Happened::Recall { .. }) => true,
+            (Sign::Withdraw, Happened::Withdraw { .. }) => true,
+            (Sign::Undone, Happened::Undone { .. }) => true,
+            (Sign::Claim, Happened::Claim { .. }) => true,
+            (Sign::Match, Happened::Match { .. }) => true,
+            (Sign::Ran, Happened::Ran { .. }) => true,
+            (Sign::EagerWay, Happened::Arrive { a }) => is_eager(a.env.how),
+            (Sign::AskWay, Happened::Arrive { a }) => is_ask(a.env.how),
+            (Sign::Taken, Happened::Post { .. }) => true,
+            (Sign::Taken, Happened::Match { .. }) => true,
+            _ => false,
+        }
+    }
+
+    /// Whether a sign tells of a command that waits.
+    pub fn is_waits(self) -> bool
+        ensures { result ≡ is_waits self }
+    {
+        match self {
+            Sign::Waits => true,
+            _ => false,
+        }
+    }
+
+    /// The name of the group that draws a sign.
+    pub fn name(self) -> &'static str
+        ensures { result.now ≡ name_of self }
+    {
+        match self {
+            Sign::Send => "send",
+            Sign::Ask => "ask",
+            Sign::Post => "post",
+            Sign::Arrive => "arrive",
+            Sign::Whole => "whole",
+            Sign::Out => "out",
+            Sign::Cancel => "cancel",
+            Sign::Recall => "recall",
+            Sign::Withdraw => "withdraw",
+            Sign::Undone => "undone",
+            Sign::Claim => "claim",
+            Sign::Match => "match",
+            Sign::Ran => "ran",
+            Sign::Waits => "waits",
+            Sign::EagerWay => "eagerway",
+            Sign::AskWay => "askway",
+            Sign::Taken => "taken",
+        }
+    }
+
+    /// What a sign stands for, in words.
+    pub fn words(self) -> &'static str
+        ensures { result.now ≡ words_of self }
+    {
+        match self {
+            Sign::Send => "a send of a message at once",
+            Sign::Ask => "a send that asks first",
+            Sign::Post => "a receive posted",
+            Sign::Arrive => "a message, or its asking, arrives",
+            Sign::Whole => "all bytes are here",
+            Sign::Out => "the last part has left",
+            Sign::Cancel => "a cancel of a receive",
+            Sign::Recall => "a withdrawal asked for",
+            Sign::Withdraw => "a withdrawal, done or late",
+            Sign::Undone => "the answer to a withdrawal",
+            Sign::Claim => "a message claimed by a probe",
+            Sign::Match => "a claimed message received",
+            Sign::Ran => "a command answered",
+            Sign::Waits => "a command that waits at the end",
+            Sign::EagerWay => "the way of a message sent at once",
+            Sign::AskWay => "the way of an asking",
+            Sign::Taken => "a receive and what it took",
+        }
+    }
+}
