@@ -19,7 +19,7 @@ use Rattle.nm_copyring.specs.declared.table.Work.TheVariants.{Idle, Filling, Emp
 use Rattle.nm_copyring.specs.declared.table.Look.TheVariants.{Free, Full}
 use Rattle.nm_copyring.specs.declared.table.Lane.{Lane}
 use Rattle.nm_copyring.specs.declared.table.Entry.{Entry}
-use Rattle.nm_copyring.specs.Rule.{Holds, Load, lane, is_filling, emptying, Ring, Knows, Rule}
+use Rattle.nm_copyring.specs.Rule.{Load, lane, is_filling, emptying, Ring, Knows, Rule}
 use Rattle.nm_copyring.specs.Plays as plays
 use Rattle.nm_copyring.specs.Plays.{Knowing, with_work, with_look, with_lane, one_pushed, one_pulled, one_full}
 use Rattle.nm_copyring.specs.Plays.{one_empty, next_out, next_in, IsOne}

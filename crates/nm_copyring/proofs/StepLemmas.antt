@@ -16,7 +16,7 @@ use Rattle.nm_seats.specs.Spoken.{view}
 use Rattle.nm_seats.specs.Update.{update}
 use Rattle.nm_seats.proofs.SpokenLemmas.{spoken_of, spoken_steps}
 use Rattle.nm_seats.proofs.UpdateLemmas.{update_here, update_else}
-use Rattle.nm_copyring.specs.declared.table.Look.TheVariants.{Fresh, Free, Full}
+use Rattle.nm_copyring.specs.declared.table.Look.TheVariants.{Fresh}
 use Rattle.nm_copyring.specs.declared.table.Lane.{Lane}
 use Rattle.nm_copyring.specs.declared.table.Entry.{Entry}
 use Rattle.nm_copyring.specs.Rule.{Holds, Load, rank_of, lane, place, Ring, Knows, Rule}

@@ -1,8 +1,9 @@
 //! The copy ring: pieces of long messages between two ranks, without a queue.
 //!
 //! For each ordered pair of ranks there are four places, which its sender fills in turn and its receiver
-//! empties in turn. Each place has a flag, which is 1 where the place is full, and a slot for one piece, which
-//! keeps the room of a piece while it is empty: a piece is copied in and out by its own length.
+//! empties in turn. Each place has a flag, which is 1 where the place is full, and a slot for the box that a
+//! piece is in. Boxes are exchanged, and no piece is copied: a receiver leaves a box where it takes one out,
+//! and the sender takes that one for its next piece where it puts its own in. No call takes memory.
 //!
 //! ```text
 //!   sender                                                    receiver
@@ -24,10 +25,10 @@
 //! # What is proved
 //! - The rule of the shared table holds between any two steps of any ranks: what was pushed to a rank is
 //!   what that rank pulled, and then what is in the full places, by number.
-//! - `push` puts a piece equal to the one that it is lent behind those that were pushed, or answers that it
-//!   didn't where it loaded the flag of the next place as 1, and then the count of full places rose. `pull`
-//!   sets a place of its caller's to the next piece by number, or answers that there is none where it loaded
-//!   the flag of the next place as 0, and then the count of empty places rose.
+//! - `push` puts the piece that it is given behind those that were pushed, or gives it back where it loaded
+//!   the flag of the next place as 1, and then the count of full places rose. `pull` gives the next piece by
+//!   number, or none where it loaded the flag of the next place as 0, and then the count of empty places
+//!   rose.
 //! - `can_push` and `can_pull` load the same flag without a piece: they answer whether the place is the
 //!   caller's, and count it where it isn't. Where it is, the seat knows from this load, and from nothing
 //!   else, that it is, and a push or a pull that follows can't fail.

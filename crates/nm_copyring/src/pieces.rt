@@ -1,7 +1,7 @@
 //! Pieces through the rings. A call makes at most two steps, each on the flag of one place.
 
 ghost use Rattle.std.specs.Prelude.{◌≡◌, ◌+◌, ◌<◌, ◌≤◌, length};
-ghost use Rattle.std.specs.Prelude.{true, false};
+ghost use Rattle.std.specs.Prelude.{true, false, IfErr, IfOk, IsOk};
 ghost use Rattle.nm_copyring.specs.Plays.{one_empty, one_full, one_pulled, one_pushed, with_lane};
 ghost use Rattle.nm_copyring.specs.Ports.{IsFree, IsFull, Owns, knows, pushed_to, pulled_from};
 
@@ -52,65 +52,74 @@ pub fn can_pull<L: Ledger>(r: &Rings, port: &mut RingPort, sender: u8, steps: &m
     full
 }
 
-/// Pushes a piece to a rank, which may be the port's own. The piece is the next one by number. It isn't
-/// pushed where the flag of its place was loaded as 1: the piece of four numbers before is still there.
+/// Pushes a piece to a rank, which may be the port's own, and answers the box that its place kept, if
+/// there was one. The piece is the next one by number. It comes back where the flag of its place was
+/// loaded as 1: the piece of four numbers before is still there.
 pub fn push<L: Ledger>(
     r: &Rings,
     port: &mut RingPort,
     to: u8,
-    piece: &Piece,
+    piece: Box<Piece>,
     steps: &mut Steps<L>,
-) -> bool
+) -> Result<Option<Box<Piece>>, Box<Piece>>
     requires owns { Owns r.now port.old }
     requires to { to < r.now.ranks }
-    requires next { (piece.now.from ≡ port.old.rank)
-        × (piece.now.number ≡ length (pushed_to port.old to)) }
+    requires next { (piece.value.from ≡ port.old.rank)
+        × (piece.value.number ≡ length (pushed_to port.old to)) }
     ensures owns { Owns r.now port.new × (port.new.rank ≡ port.old.rank) }
-    ensures pushed { result ≡ true
-        → knows port.new ≡ with_lane (one_pushed piece.now) to (knows port.old) }
-    ensures refused { result ≡ false → knows port.new ≡ with_lane one_full to (knows port.old) }
-    ensures sure { IsFree port.old to → result ≡ true }
-    ensures cost { (result ≡ true → steps.new ≡ steps.old + 2)
-        × (result ≡ false → steps.new ≡ steps.old + 1) }
+    ensures pushed { IfOk result
+        (λ _. knows port.new ≡ with_lane (one_pushed piece.value) to (knows port.old)) }
+    ensures refused { IfErr result (λ back. (back ≡ piece)
+        × (knows port.new ≡ with_lane one_full to (knows port.old))) }
+    ensures sure { IsFree port.old to → IsOk result }
+    ensures cost { IfOk result (λ _. steps.new ≡ steps.old + 2)
+        × IfErr result (λ _. steps.new ≡ steps.old + 1) }
     ensures bound { steps.new ≤ steps.old + 2 }
 {
-    let pushed = fill_next(r, &mut port.seat, to, piece, steps);
-    if pushed {
-        count_pushed(&mut port.tallies, to as usize);
-    } else {
-        count_full(&mut port.tallies, to as usize);
+    match fill_next(r, &mut port.seat, to, piece, steps) {
+        Ok(spare) => {
+            count_pushed(&mut port.tallies, to as usize);
+            Ok(spare)
+        }
+        Err(back) => {
+            count_full(&mut port.tallies, to as usize);
+            Err(back)
+        }
     }
-    pushed
 }
 
-/// Pulls the next piece by number of a rank, which may be the port's own, into a place of the caller's.
-/// There is none where the flag of its place was loaded as 0.
+/// Pulls the next piece by number of a rank, which may be the port's own, and leaves a box in its place,
+/// if one is given. That comes back where there is no piece: the flag of its place was loaded as 0.
 pub fn pull<L: Ledger>(
     r: &Rings,
     port: &mut RingPort,
     sender: u8,
-    into: &mut Piece,
+    spare: Option<Box<Piece>>,
     steps: &mut Steps<L>,
-) -> bool
+) -> Result<Box<Piece>, Option<Box<Piece>>>
     requires owns { Owns r.now port.old }
     requires sender { sender < r.now.ranks }
     ensures owns { Owns r.now port.new × (port.new.rank ≡ port.old.rank) }
-    ensures next { result ≡ true → (into.new.from ≡ sender)
-        × (into.new.number ≡ length (pulled_from port.old sender)) }
-    ensures pulled { result ≡ true
-        → knows port.new ≡ with_lane (one_pulled into.new) sender (knows port.old) }
-    ensures missed { result ≡ false → knows port.new ≡ with_lane one_empty sender (knows port.old) }
-    ensures sure { IsFull port.old sender → result ≡ true }
-    ensures cost { (result ≡ true → steps.new ≡ steps.old + 2)
-        × (result ≡ false → steps.new ≡ steps.old + 1) }
+    ensures next { IfOk result (λ piece. (piece.value.from ≡ sender)
+        × (piece.value.number ≡ length (pulled_from port.old sender))) }
+    ensures pulled { IfOk result
+        (λ piece. knows port.new ≡ with_lane (one_pulled piece.value) sender (knows port.old)) }
+    ensures missed { IfErr result
+        (λ _. knows port.new ≡ with_lane one_empty sender (knows port.old)) }
+    ensures sure { IsFull port.old sender → IsOk result }
+    ensures cost { IfOk result (λ _. steps.new ≡ steps.old + 2)
+        × IfErr result (λ _. steps.new ≡ steps.old + 1) }
     ensures bound { steps.new ≤ steps.old + 2 }
 {
     let number = port.pulled(sender);
-    let pulled = empty_next(r, &mut port.seat, port.rank, sender, number, into, steps);
-    if pulled {
-        count_pulled(&mut port.tallies, sender as usize);
-    } else {
-        count_empty(&mut port.tallies, sender as usize);
+    match empty_next(r, &mut port.seat, port.rank, sender, number, spare, steps) {
+        Ok(piece) => {
+            count_pulled(&mut port.tallies, sender as usize);
+            Ok(piece)
+        }
+        Err(back) => {
+            count_empty(&mut port.tallies, sender as usize);
+            Err(back)
+        }
     }
-    pulled
 }

@@ -1,6 +1,6 @@
 //! The slots, each for one piece. No call here makes a step on a word.
 
-ghost use Rattle.std.specs.Prelude.{◌≡◌, ◌∷◌, Some, None, IsSome, IsTrue, ◌↔◌};
+ghost use Rattle.std.specs.Prelude.{◌≡◌, ◌∷◌, Some, None, IsSome};
 ghost use Rattle.atomic_table.specs.Table.{rest};
 ghost use Rattle.nm_types.specs.declared.packets.Piece.{Piece};
 ghost use Rattle.nm_copyring.specs.Rule.{Load};
@@ -8,13 +8,14 @@ ghost use Rattle.nm_copyring.specs.Rule.{Load};
 use crate::table::{Board, Place};
 use nm_types::Piece;
 use std::marker::Model;
+use std::mem::replace;
 
-/// A slot of the table: a piece, or nothing. While it is empty, the place of a piece stays, so that one
-/// is put in and taken out by its own length.
+/// A slot of the table: a piece, or nothing. While it is empty it keeps the box that it was given for its
+/// last piece, for whoever fills it next.
 #[derive(Drop)]
 pub struct Slot {
     full: bool,
-    piece: Piece,
+    place: Option<Box<Piece>>,
 }
 
 impl Model for Slot {
@@ -24,7 +25,7 @@ impl Model for Slot {
 
     ghost Value = { Option Piece };
 
-    ghost view = { λ s. load_of s.full s.piece };
+    ghost view = { λ s. load_of s.full s.place };
 }
 
 impl Slot {
@@ -34,53 +35,59 @@ impl Slot {
     {
         Slot {
             full: false,
-            piece: Piece::blank(),
+            place: None,
         }
     }
 
-    /// Whether there is nothing.
-    pub fn is_empty(&self) -> bool
-        ensures { IsTrue result ↔ (self.now ≡ None) }
+    /// Puts a piece in. It answers the box that was kept, if there was one.
+    pub fn fill(&mut self, piece: Box<Piece>) -> Option<Box<Piece>>
+        ensures { self.new ≡ Some piece.value }
     {
-        !self.full
-    }
-
-    /// Puts a piece equal to this one in.
-    pub fn fill(&mut self, piece: &Piece)
-        ensures { self.new ≡ Some piece.now }
-    {
-        self.piece.set(piece);
         self.full = true;
+        replace(&mut self.place, Some(piece))
     }
 
-    /// Takes the piece out, into a place of the caller's.
-    pub fn take(&mut self, into: &mut Piece)
+    /// Takes the piece out, and keeps this box, if there is one.
+    pub fn take(&mut self, spare: Option<Box<Piece>>) -> Box<Piece>
         requires { IsSome self.old }
-        ensures piece { self.old ≡ Some into.new }
+        ensures piece { self.old ≡ Some result.value }
         ensures empty { self.new ≡ None }
     {
-        into.set(&self.piece);
         self.full = false;
+        let Some(piece) = replace(&mut self.place, spare) else {
+            unreachable!()
+        };
+        piece
     }
 }
 
-// Puts a piece into the slot that was taken last, in its place there.
-pub(crate) fn fill_slot(board: &Board, seat: &mut Place, slot: usize, piece: &Piece)
+// Puts a piece into the slot that was taken last. It answers the box that was kept there.
+pub(crate) fn fill_slot(
+    board: &Board,
+    seat: &mut Place,
+    slot: usize,
+    piece: Box<Piece>,
+) -> Option<Box<Piece>>
     requires front { (seat.old.table_id ≡ board.now.shared.table_id)
         × ((old : Load) × (seat.old.me.1 ≡ (slot, old) ∷ rest seat.old.me.1)) }
     ensures seat { (seat.new.table_id ≡ seat.old.table_id) × (seat.new.id ≡ seat.old.id) }
-    ensures filled { seat.new.me ≡ (seat.old.me.0, (slot, Some piece.now) ∷ rest seat.old.me.1) }
+    ensures filled { seat.new.me ≡ (seat.old.me.0, (slot, Some piece.value) ∷ rest seat.old.me.1) }
 {
-    seat.slot_mut(&board.shared, slot).fill(piece);
+    seat.slot_mut(&board.shared, slot).fill(piece)
 }
 
-// Takes the piece out of the slot that was taken last, into a place of the caller's.
-pub(crate) fn empty_slot(board: &Board, seat: &mut Place, slot: usize, into: &mut Piece)
+// Takes the piece out of the slot that was taken last, and leaves a box there.
+pub(crate) fn empty_slot(
+    board: &Board,
+    seat: &mut Place,
+    slot: usize,
+    spare: Option<Box<Piece>>,
+) -> Box<Piece>
     requires table { seat.old.table_id ≡ board.now.shared.table_id }
     requires front { (found : Piece) × (seat.old.me.1 ≡ (slot, Some found) ∷ rest seat.old.me.1) }
     ensures seat { (seat.new.table_id ≡ seat.old.table_id) × (seat.new.id ≡ seat.old.id) }
-    ensures piece { seat.old.me.1 ≡ (slot, Some into.new) ∷ rest seat.old.me.1 }
+    ensures piece { seat.old.me.1 ≡ (slot, Some result.value) ∷ rest seat.old.me.1 }
     ensures emptied { seat.new.me ≡ (seat.old.me.0, (slot, None) ∷ rest seat.old.me.1) }
 {
-    seat.slot_mut(&board.shared, slot).take(into);
+    seat.slot_mut(&board.shared, slot).take(spare)
 }

@@ -1,7 +1,7 @@
 //! The steps on the flag of a place: a load at each end, the store of 1 and the store of 0.
 
 ghost use Rattle.std.specs.Prelude.{◌≡◌, ◌+◌, ◌*◌, ◌%◌, ◌<◌, length};
-ghost use Rattle.std.specs.Prelude.{true, false};
+ghost use Rattle.std.specs.Prelude.{true, false, IfErr, IfOk, IsOk};
 ghost use Rattle.nm_copyring.specs.Rule.{lane, place};
 ghost use Rattle.nm_copyring.specs.Plays.{one_empty, one_full, one_pulled, one_pushed, with_lane};
 ghost use Rattle.nm_copyring.specs.Plays.{IsOne, Rests, knowing, mine, unlooked, with_look};
@@ -126,74 +126,74 @@ pub(crate) fn is_full<L: Ledger>(
     r.board.shared.load::<PeeksIn>(seat, at) != 0
 }
 
-/// Puts a piece into the seat's next place for a rank. It answers that it didn't where that place is
-/// full.
+/// Puts a piece into the seat's next place for a rank, and answers the box that was kept there. The piece
+/// comes back where that place is full.
 pub(crate) fn fill_next<L: Ledger>(
     r: &Rings,
     seat: &mut Place,
     to: u8,
-    piece: &Piece,
+    piece: Box<Piece>,
     steps: &mut Steps<L>,
-) -> bool
+) -> Result<Option<Box<Piece>>, Box<Piece>>
     requires table { seat.old.table_id ≡ r.now.board.shared.table_id }
     requires rests { Rests seat.old.me × IsOne r.now.ranks (mine seat.old.me) }
     requires to { to < r.now.ranks }
-    requires next { (piece.now.from ≡ (mine seat.old.me).rank)
-        × (piece.now.number ≡ length (lane (mine seat.old.me) to).pushed) }
+    requires next { (piece.value.from ≡ (mine seat.old.me).rank)
+        × (piece.value.number ≡ length (lane (mine seat.old.me) to).pushed) }
     ensures same { seat.new.table_id ≡ seat.old.table_id }
-    ensures pushed { result ≡ true
-        → seat.new.me ≡ knowing (with_lane (one_pushed piece.now) to (unlooked (mine seat.old.me))) }
-    ensures refused { result ≡ false
-        → seat.new.me ≡ knowing (with_lane one_full to (mine seat.old.me)) }
-    ensures sure { (mine seat.old.me).look ≡ Free to → result ≡ true }
-    ensures cost { (result ≡ true → steps.new ≡ steps.old + 2)
-        × (result ≡ false → steps.new ≡ steps.old + 1) }
+    ensures pushed { IfOk result (λ _. seat.new.me
+        ≡ knowing (with_lane (one_pushed piece.value) to (unlooked (mine seat.old.me)))) }
+    ensures refused { IfErr result (λ back. (back ≡ piece)
+        × (seat.new.me ≡ knowing (with_lane one_full to (mine seat.old.me)))) }
+    ensures sure { (mine seat.old.me).look ≡ Free to → IsOk result }
+    ensures cost { IfOk result (λ _. steps.new ≡ steps.old + 2)
+        × IfErr result (λ _. steps.new ≡ steps.old + 1) }
 {
     let at = r.place(piece.from, to, piece.number);
     steps.tick();
     if r.board.shared.load::<LooksOut>(seat, at) != 0 {
-        return false;
+        return Err(piece);
     }
-    fill_slot(&r.board, seat, at, piece);
+    let spare = fill_slot(&r.board, seat, at, piece);
     steps.tick();
     r.board.shared.store::<Fills>(seat, at, 1);
-    true
+    Ok(spare)
 }
 
-/// Takes the piece out of the seat's next place of a rank, into a place of the caller's. It answers that
-/// there is none where the seat's place is empty. `number` is the number of that piece.
+/// Takes the piece out of the seat's next place of a rank, and leaves a box there. The box comes back
+/// where that place is empty. `number` is the number of that piece.
 pub(crate) fn empty_next<L: Ledger>(
     r: &Rings,
     seat: &mut Place,
     rank: u8,
     sender: u8,
     number: u64,
-    into: &mut Piece,
+    spare: Option<Box<Piece>>,
     steps: &mut Steps<L>,
-) -> bool
+) -> Result<Box<Piece>, Option<Box<Piece>>>
     requires table { seat.old.table_id ≡ r.now.board.shared.table_id }
     requires rests { Rests seat.old.me × IsOne r.now.ranks (mine seat.old.me) }
     requires sender { sender < r.now.ranks }
     requires next { (rank ≡ (mine seat.old.me).rank)
         × (number ≡ length (lane (mine seat.old.me) sender).pulled) }
     ensures same { seat.new.table_id ≡ seat.old.table_id }
-    ensures next { result ≡ true → (into.new.from ≡ sender) × (into.new.number ≡ number) }
-    ensures pulled { result ≡ true
-        → seat.new.me
-        ≡ knowing (with_lane (one_pulled into.new) sender (unlooked (mine seat.old.me))) }
-    ensures missed { result ≡ false
-        → seat.new.me ≡ knowing (with_lane one_empty sender (mine seat.old.me)) }
-    ensures sure { (mine seat.old.me).look ≡ Full sender → result ≡ true }
-    ensures cost { (result ≡ true → steps.new ≡ steps.old + 2)
-        × (result ≡ false → steps.new ≡ steps.old + 1) }
+    ensures next { IfOk result (λ piece. (piece.value.from ≡ sender)
+        × (piece.value.number ≡ number)) }
+    ensures pulled { IfOk result (λ piece. seat.new.me
+        ≡ knowing (with_lane (one_pulled piece.value) sender (unlooked (mine seat.old.me)))) }
+    ensures missed { IfErr result (λ _.
+        seat.new.me ≡ knowing (with_lane one_empty sender (mine seat.old.me))) }
+    ensures sure { (mine seat.old.me).look ≡ Full sender → IsOk result }
+    ensures cost { IfOk result (λ _. steps.new ≡ steps.old + 2)
+        × IfErr result (λ _. steps.new ≡ steps.old + 1) }
 {
     let at = r.place(sender, rank, number);
     steps.tick();
     if r.board.shared.load::<LooksIn>(seat, at) == 0 {
-        return false;
+        return Err(spare);
     }
-    empty_slot(&r.board, seat, at, into);
+    let piece = empty_slot(&r.board, seat, at, spare);
     steps.tick();
     r.board.shared.store::<Empties>(seat, at, 0);
-    true
+    Ok(piece)
 }

@@ -51,19 +51,26 @@ fn piece(from: u8, number: u64) -> Piece
     }
 }
 
-// Pushes the next piece to a rank, and gives the number of a piece that isn't pushed.
-fn push_next<L: Ledger>(r: &Rings, port: &mut RingPort, to: u8, steps: &mut Steps<L>) -> Option<u64>
+// Pushes the next piece to a rank, and gives the number of a piece that comes back.
+fn push_next<L: Ledger>(
+    alloc: Global,
+    r: &Rings,
+    port: &mut RingPort,
+    to: u8,
+    steps: &mut Steps<L>,
+) -> Result<Option<u64>, Memory>
     requires { Owns r.now port.old × (to < r.now.ranks) }
-    ensures { Owns r.now port.new × (port.new.rank ≡ port.old.rank) }
+    ensures { IfOk result (λ _. Owns r.now port.new × (port.new.rank ≡ port.old.rank)) }
 {
     if !port.has_room(to) {
-        return None;
+        return Ok(None);
     }
-    let next = piece(port.rank(), port.pushed(to));
-    if push(r, port, to, &next, steps) {
-        None
-    } else {
-        Some(next.number)
+    let Ok(next) = Box::new(alloc, piece(port.rank(), port.pushed(to))) else {
+        return Err(Memory);
+    };
+    match push(r, port, to, next, steps) {
+        Ok(_) => Ok(None),
+        Err(back) => Ok(Some(back.number)),
     }
 }
 
@@ -77,10 +84,9 @@ fn pull_next<L: Ledger>(
     requires { Owns r.now port.old × (sender < r.now.ranks) }
     ensures { Owns r.now port.new × (port.new.rank ≡ port.old.rank) }
 {
-    let mut piece = Piece::blank();
-    if !pull(r, port, sender, &mut piece, steps) {
+    let Ok(piece) = pull(r, port, sender, None, steps) else {
         return None;
-    }
+    };
     if piece.bytes.as_slice() == piece.number.to_le_bytes().as_slice() {
         Some(piece.number)
     } else {
@@ -90,33 +96,34 @@ fn pull_next<L: Ledger>(
 
 // Five pushes, a pull, a push, and five pulls.
 fn calls<L: Ledger>(
+    alloc: Global,
     r: &Rings,
     a: &mut RingPort,
     b: &mut RingPort,
     blank: Blank,
-) -> [Option<u64>; 12]
+) -> Result<[Option<u64>; 12], Memory>
     requires blank { (blank.name ≡ L.name) × (blank.parts ≡ L.parts) × (0 < L.parts) }
     requires owns { (r.now.ranks ≡ 2) × Owns r.now a.old × Owns r.now b.old }
-    ensures owns { Owns r.now a.new × (a.new.rank ≡ a.old.rank) }
-    ensures other_owns { Owns r.now b.new × (b.new.rank ≡ b.old.rank) }
+    ensures owns { IfOk result (λ _. Owns r.now a.new × (a.new.rank ≡ a.old.rank)) }
+    ensures other_owns { IfOk result (λ _. Owns r.now b.new × (b.new.rank ≡ b.old.rank)) }
 {
     let mut steps = Steps::<L>::new(blank);
     let mut answers = [None; 12];
     for k in 0..5 {
-        answers[k] = push_next(r, a, 1, &mut steps);
+        answers[k] = push_next(alloc, r, a, 1, &mut steps)?;
     }
     answers[5] = pull_next(r, b, 0, &mut steps);
-    answers[6] = push_next(r, a, 1, &mut steps);
+    answers[6] = push_next(alloc, r, a, 1, &mut steps)?;
     for k in 7..12 {
         answers[k] = pull_next(r, b, 0, &mut steps);
     }
-    answers
+    Ok(answers)
 }
 
 #[test]
 fn a_fifth_piece_isnt_pushed(rt: HostRuntime) -> Result<(), Fail> {
     let (rings, mut a, mut b) = two_ranks(rt.alloc())?;
-    let answers = calls::<Brand>(&rings, &mut a, &mut b, Blank::new(1));
+    let answers = calls::<Brand>(rt.alloc(), &rings, &mut a, &mut b, Blank::new(1))?;
     let pushed = (a.rank(), a.pushed(1), a.full(1));
     let pulled = (b.rank(), b.pulled(0), b.empty(0));
     let left = close_two(rt.alloc(), rings, a, b)?.left();
@@ -154,26 +161,32 @@ fn sixty_four_ranks_have_rings(rt: HostRuntime) -> Result<(), Fail> {
 }
 
 // Pushes so many pieces, each as often as its place is full.
-fn push_all<R: Wait, L: Ledger>(rt: &R, r: &Rings, mut port: RingPort, blank: Blank) -> RingPort
+fn push_all<R: Wait, L: Ledger>(
+    rt: &R,
+    alloc: Global,
+    r: &Rings,
+    mut port: RingPort,
+    blank: Blank,
+) -> Result<RingPort, Memory>
     requires blank { (blank.name ≡ L.name) × (blank.parts ≡ L.parts) × (0 < L.parts) }
     requires owns { (r.now.ranks ≡ 2) × Owns r.now port }
-    ensures { Owns r.now result × (result.rank ≡ port.rank) }
+    ensures { IfOk result (λ p. Owns r.now p × (p.rank ≡ port.rank)) }
 {
     let mut steps = Steps::<L>::new(blank);
     for _try in rt.forever() {
         if port.pushed(1) == PIECES {
-            return port;
+            return Ok(port);
         }
-        push_next(r, &mut port, 1, &mut steps);
+        push_next(alloc, r, &mut port, 1, &mut steps)?;
     }
     unreachable!()
 }
 
-fn sender<R: Wait>(rt: &R, r: &Rings, port: RingPort) -> RingPort
+fn sender<R: Wait>(rt: &R, alloc: Global, r: &Rings, port: RingPort) -> Result<RingPort, Memory>
     requires { (r.now.ranks ≡ 2) × Owns r.now port }
-    ensures { Owns r.now result × (result.rank ≡ port.rank) }
+    ensures { IfOk result (λ p. Owns r.now p × (p.rank ≡ port.rank)) }
 {
-    push_all::<R, Brand>(rt, r, port, Blank::new(1))
+    push_all::<R, Brand>(rt, alloc, r, port, Blank::new(1))
 }
 
 // Pulls so many pieces, and counts those whose bytes spell the next number.
@@ -210,21 +223,27 @@ fn receiver<R: Wait>(rt: &R, r: &Rings, port: RingPort) -> (RingPort, u64)
 // The two ends at once, in two threads.
 fn at_once<R: Threads + Wait + Sync>(
     rt: &R,
+    alloc: Global,
     r: &Rings,
     a: RingPort,
     b: RingPort,
-) -> (RingPort, (RingPort, u64))
+) -> (Result<RingPort, Memory>, (RingPort, u64))
     requires { (r.now.ranks ≡ 2) × Owns r.now a × Owns r.now b }
-    ensures sender { Owns r.now result.0 × (result.0.rank ≡ a.rank) }
+    ensures sender { IfOk result.0 (λ p. Owns r.now p × (p.rank ≡ a.rank)) }
     ensures receiver { Owns r.now result.1.0 × (result.1.0.rank ≡ b.rank) }
 {
-    join(rt, move || sender(rt, r, a), move || receiver(rt, r, b))
+    join(
+        rt,
+        move || sender(rt, alloc, r, a),
+        move || receiver(rt, r, b),
+    )
 }
 
 #[test]
 fn pieces_cross_between_threads(rt: HostRuntime) -> Result<(), Fail> {
     let (rings, a, b) = two_ranks(rt.alloc())?;
-    let (a, (b, in_order)) = at_once(&rt, &rings, a, b);
+    let (a, (b, in_order)) = at_once(&rt, rt.alloc(), &rings, a, b);
+    let a = a?;
     let left = close_two(rt.alloc(), rings, a, b)?.left();
     assert_eq!(rt; (in_order, left), (PIECES, 0));
     Ok(())

@@ -66,6 +66,7 @@ pub record LaneGrows (x y : Lane) : Type 0 where
   pub full : x.full ≤ y.full
   pub empty : x.empty ≤ y.empty
 
+-- and with all that a ring port has
 abbrev pub RingGrows : RingPort → RingPort → Type 0
 RingGrows p q = (k : ℕ) → LaneGrows (lane (ring.knows p) k) (lane (ring.knows q) k)
 
@@ -85,6 +86,7 @@ pub record Seat : Type 0 where
   pub rank : ℕ
   pub sizes : Sizes
 
+-- the seat of an actor
 abbrev pub seat_of : Actor → Seat
 seat_of a = record { rank = a.port.rank; sizes = a.process.rank.sizes }
 

@@ -17,6 +17,7 @@ ghost use Rattle.nm_world.specs.Idle.{GaveNone, Idle, IsDue, LetterBack, NoPiece
 ghost use Rattle.nm_world.specs.Looks.{LookedAround, PolledBefore, PolledUnlessWorn, looks_next};
 ghost use Rattle.nm_world.specs.Rest.{CanMove, IsStill};
 
+use crate::bells::Bells;
 use crate::places::Places;
 use crate::wires::{polled, pullable, pulled, pushable, pushed, sent};
 use nm_carried::laws::{a_poll_carries, a_send_carries};
@@ -30,7 +31,7 @@ use nm_standing::laws::passing::{
 };
 use nm_standing::laws::runs::a_command_runs;
 use nm_standing::laws::stands::a_process_begins;
-use nm_types::{Line, Memory, Shape};
+use nm_types::{Line, Memory, Piece, Shape};
 use std::alloc::Global;
 
 /// How many packets, pieces and commands of each kind a turn has room for.
@@ -117,30 +118,32 @@ impl Actor {
     }
 
     // Pushes the next piece, unless there is none or its place is full.
-    fn push_next(&mut self, r: &Rings) -> bool
+    fn push_next(&mut self, r: &Rings) -> Result<bool, Memory>
         ghost here: { Setting }
         requires stands { Stands here.lines here.fabric r.now self.old }
-        ensures kept { Kept here.lines here.fabric r.now self.old self.new }
-        ensures moved { result ≡ did here.fabric.ranks self.old self.new }
-        ensures stepped { Stepped result self.old self.new }
-        ensures back { result ≡ false → IsFresh self.old.process.rank →
-            PieceBack self.old self.new }
+        ensures kept { IfOk result (λ _. Kept here.lines here.fabric r.now self.old self.new) }
+        ensures moved { IfOk result (λ moved. moved ≡ did here.fabric.ranks self.old self.new) }
+        ensures stepped { IfOk result (λ moved. Stepped moved self.old self.new) }
+        ensures back { IfOk result (λ moved. moved ≡ false → IsFresh self.old.process.rank →
+            PieceBack self.old self.new) }
     {
         let rank = self.process.rank();
         let Some(to) = rank.piece_to() else {
-            return false;
+            return Ok(false);
         };
         if rank.is_worn() {
-            return false;
+            return Ok(false);
         }
         if !pushable(r, &mut self.ring, to) {
-            return false;
+            return Ok(false);
         }
-        self.push_front(r)
+        let place = self.places.piece()?;
+        Ok(self.push_front(r, place))
     }
 
-    // Pushes the next piece, unless there is none or its place is full. The rank isn't worn.
-    fn push_front(&mut self, r: &Rings) -> bool
+    // Pushes the next piece, which is built in this box, unless there is none or its place is full. The
+    // rank isn't worn.
+    fn push_front(&mut self, r: &Rings, mut piece: Box<Piece>) -> bool
         ghost here: { Setting }
         requires stands { Stands here.lines here.fabric r.now self.old }
         requires fresh { IsFresh self.old.process.rank }
@@ -149,14 +152,19 @@ impl Actor {
         ensures stepped { Stepped result self.old self.new }
         ensures back { result ≡ false → PieceBack self.old self.new }
     {
-        let piece = self.places.piece();
-        let Some(to) = self.process.rank().front_piece(piece) else {
+        let Some(to) = self.process.rank().front_piece(&mut piece) else {
+            self.places.keep(Some(piece));
             return false;
         };
-        if !pushed(r, &mut self.ring, to, piece) {
-            return false;
-        }
+        let spare = match pushed(r, &mut self.ring, to, piece) {
+            Ok(spare) => spare,
+            Err(back) => {
+                self.places.keep(Some(back));
+                return false;
+            }
+        };
         self.process.pop_piece();
+        self.places.keep(spare);
         self.places.call(to);
         // no step: the law of a piece that leaves
         a_piece_leaves();
@@ -230,13 +238,17 @@ impl Actor {
         ensures stepped { IfOk result (λ moved. Stepped moved self.old self.new) }
         ensures none { IfOk result (λ moved. moved ≡ false → NoPiece self.old self.new sender) }
     {
-        let piece = self.places.piece();
-        if !pulled(r, &mut self.ring, sender, piece) {
-            return Ok(false);
-        }
+        let piece = match pulled(r, &mut self.ring, sender, self.places.spare()) {
+            Ok(piece) => piece,
+            Err(spare) => {
+                self.places.keep(spare);
+                return Ok(false);
+            }
+        };
         // no step: the law of a piece that comes
         a_piece_is_taken();
-        self.process.take_piece(piece)?;
+        self.process.take_piece(&piece)?;
+        self.places.keep(Some(piece));
         self.places.call(sender);
         Ok(true)
     }
@@ -306,21 +318,21 @@ impl Actor {
     }
 
     // Pushes up to so many pieces. It answers whether any was pushed.
-    fn push_all(&mut self, r: &Rings) -> bool
+    fn push_all(&mut self, r: &Rings) -> Result<bool, Memory>
         ghost here: { Setting }
         requires stands { Stands here.lines here.fabric r.now self.old }
-        ensures kept { Kept here.lines here.fabric r.now self.old self.new }
-        ensures moved { result ≡ did here.fabric.ranks self.old self.new }
-        ensures stepped { Stepped result self.old self.new }
-        ensures back { result ≡ false → IsFresh self.old.process.rank →
-            PieceBack self.old self.new }
+        ensures kept { IfOk result (λ _. Kept here.lines here.fabric r.now self.old self.new) }
+        ensures moved { IfOk result (λ moved. moved ≡ did here.fabric.ranks self.old self.new) }
+        ensures stepped { IfOk result (λ moved. Stepped moved self.old self.new) }
+        ensures back { IfOk result (λ moved. moved ≡ false → IsFresh self.old.process.rank →
+            PieceBack self.old self.new) }
     {
         for pushed in 0..TURN {
-            if !self.push_next(r) {
-                return pushed > 0;
+            if !self.push_next(r)? {
+                return Ok(pushed > 0);
             }
         }
-        true
+        Ok(true)
     }
 
     // Takes up to so many pieces of a rank. It answers whether any was taken.
@@ -452,11 +464,18 @@ impl Actor {
         ensures looked { IfOk result (λ _. LookedAround lines.now self.old self.new) }
     {
         gate.turn(self.process.me());
-        self.move_all(lines, f, r)
+        self.move_all(lines, f, r, None)
     }
 
-    // What a turn sends, pushes, takes, pulls and runs. It answers whether that is anything.
-    fn move_all(&mut self, lines: &[Line], f: &Fabric, r: &Rings) -> Result<bool, Memory>
+    /// What a turn sends, pushes, takes, pulls and runs. It answers whether that is anything. Bells ring
+    /// at once for the ranks that something was sent or pushed to, or taken or pulled from.
+    pub(crate) fn move_all(
+        &mut self,
+        lines: &[Line],
+        f: &Fabric,
+        r: &Rings,
+        bells: Option<&Bells>,
+    ) -> Result<bool, Memory>
         ghost here: { Setting }
         requires here { here ≡ record { lines = lines.now; fabric = f.now; rings = r.now } }
         requires stands { Stands lines.now f.now r.now self.old }
@@ -466,11 +485,15 @@ impl Actor {
             Idle lines.now self.old self.new) }
         ensures looked { IfOk result (λ _. LookedAround lines.now self.old self.new) }
     {
+        let own = self.port.rank();
         let sent = self.send_all(f);
-        let pushed = self.push_all(r);
+        let pushed = self.push_all(r)?;
+        self.places.tell(own, bells);
         let took = self.take_all(f)?;
         let pulled = self.pull_all(f, r)?;
+        self.places.tell(own, bells);
         let ran = self.run_all(lines, f)?;
+        self.places.tell(own, bells);
         Ok(sent | pushed | took | pulled | ran)
     }
 }

@@ -195,12 +195,12 @@ impl Bells {
         }
     }
 
-    /// Rings for these ranks, but not for those of the crew itself. It answers the places of these.
-    pub fn ring(&self, own: usize, ranks: u64) -> u64 {
+    /// Rings for these ranks, but not for those of the crew of this one. It answers the places of these.
+    pub fn ring(&self, own: u8, ranks: u64) -> u64 {
         let mut here = 0;
-        for (k, crew) in self.crews.iter().enumerate() {
+        for crew in &self.crews {
             let places = crew.places_of(ranks);
-            if k == own {
+            if crew.ranks & bit_of(own) != 0 {
                 here = places;
             } else if places != 0 {
                 self.ring_at(crew, places);

@@ -28,7 +28,6 @@ fn visit<G: Gate>(
     r: &Rings,
     gate: &G,
     bells: &Bells,
-    crew: usize,
 ) -> Result<(bool, u64), Memory>
     requires stands { Stands lines.now f.now r.now actor.old }
     ensures kept { IfOk result (λ _. Kept lines.now f.now r.now actor.old actor.new) }
@@ -42,7 +41,8 @@ fn visit<G: Gate>(
     if !all && due & place == 0 {
         return Ok((false, 0));
     }
-    let moved = match actor.turn(lines, f, r, gate) {
+    gate.turn(actor.process.me());
+    let moved = match actor.move_all(lines, f, r, Some(bells)) {
         Ok(moved) => moved,
         Err(Memory) => {
             bells.end();
@@ -52,8 +52,7 @@ fn visit<G: Gate>(
     if !moved {
         return Ok((false, 0));
     }
-    let calls = actor.places.take_calls();
-    Ok((true, place | bells.ring(crew, calls)))
+    Ok((true, place | actor.places.take_due()))
 }
 
 // A turn of each actor of a crew whose place is due, or of all. It answers whether that moved anything,
@@ -67,7 +66,6 @@ fn sweep<G: Gate>(
     r: &Rings,
     gate: &G,
     bells: &Bells,
-    crew: usize,
 ) -> Result<(bool, u64), Memory>
     requires stands { All (Stands lines.now f.now r.now) actors.old }
     ensures swept { IfOk result (λ x.
@@ -76,7 +74,7 @@ fn sweep<G: Gate>(
     let mut moved = false;
     let mut next = 0;
     for actor in actors.iter_mut() {
-        let (one, then) = visit(actor, all, due, lines, f, r, gate, bells, crew)?;
+        let (one, then) = visit(actor, all, due, lines, f, r, gate, bells)?;
         moved = moved | one;
         next = next | then;
     }
@@ -103,12 +101,12 @@ fn turns_of<R: Wait, G: Gate>(
         AllIdle lines.now actors.old actors.new) }
 {
     bells.begin();
-    let (mut moved, mut next) = sweep(actors, true, 0, lines, f, r, gate, bells, crew)?;
+    let (mut moved, mut next) = sweep(actors, true, 0, lines, f, r, gate, bells)?;
     for made in 1..turns {
         let Some(due) = bells.next(rt, crew, next) else {
             return Ok(moved);
         };
-        let (one, then) = sweep(actors, false, due, lines, f, r, gate, bells, crew)?;
+        let (one, then) = sweep(actors, false, due, lines, f, r, gate, bells)?;
         moved = moved | one;
         next = then;
     }

@@ -1,7 +1,7 @@
 //! Calls of ports whose steps nobody counts.
 
 ghost use Rattle.std.specs.Prelude.{◌≡◌, ◌+◌, ◌<◌, ◌≤◌, ◌∷◌, [], Some, false};
-ghost use Rattle.std.specs.Prelude.{true, IfNone};
+ghost use Rattle.std.specs.Prelude.{true, IfErr, IfNone, IfOk};
 ghost use Rattle.std.specs.Prelude.{ℕ, length, slice_index};
 ghost use Rattle.nm_types.specs.declared.limits.TheConstants.{MAX_BOX};
 ghost use Rattle.nm_types.specs.declared.packets.Path.TheVariants.{Box, Cell};
@@ -105,32 +105,43 @@ pub(crate) fn polled(f: &Fabric, port: &mut Port, into: &mut Packet) -> bool
     polled_on::<Brand>(f, port, into, Blank::new(1))
 }
 
-fn pushed_on<L: Ledger>(r: &Rings, port: &mut RingPort, to: u8, piece: &Piece, blank: Blank) -> bool
+fn pushed_on<L: Ledger>(
+    r: &Rings,
+    port: &mut RingPort,
+    to: u8,
+    piece: Box<Piece>,
+    blank: Blank,
+) -> Result<Option<Box<Piece>>, Box<Piece>>
     requires owns { ring.Owns r.now port.old }
     requires to { to < r.now.ranks }
-    requires next { (piece.now.from ≡ port.old.rank)
-        × (piece.now.number ≡ length (ring.pushed_to port.old to)) }
+    requires next { (piece.value.from ≡ port.old.rank)
+        × (piece.value.number ≡ length (ring.pushed_to port.old to)) }
     requires name { (blank.name ≡ L.name) × (blank.parts ≡ L.parts) × (0 < L.parts) }
     ensures owns { ring.Owns r.now port.new × (port.new.rank ≡ port.old.rank) }
-    ensures pushed { result ≡ true
-        → ring.knows port.new ≡ with_lane (one_pushed piece.now) to (ring.knows port.old) }
-    ensures refused { result ≡ false
-        → ring.knows port.new ≡ with_lane one_full to (ring.knows port.old) }
+    ensures pushed { IfOk result (λ _.
+        ring.knows port.new ≡ with_lane (one_pushed piece.value) to (ring.knows port.old)) }
+    ensures refused { IfErr result (λ _.
+        ring.knows port.new ≡ with_lane one_full to (ring.knows port.old)) }
 {
     let mut steps = Steps::<L>::new(blank);
     push(r, port, to, piece, &mut steps)
 }
 
-pub(crate) fn pushed(r: &Rings, port: &mut RingPort, to: u8, piece: &Piece) -> bool
+pub(crate) fn pushed(
+    r: &Rings,
+    port: &mut RingPort,
+    to: u8,
+    piece: Box<Piece>,
+) -> Result<Option<Box<Piece>>, Box<Piece>>
     requires owns { ring.Owns r.now port.old }
     requires to { to < r.now.ranks }
-    requires next { (piece.now.from ≡ port.old.rank)
-        × (piece.now.number ≡ length (ring.pushed_to port.old to)) }
+    requires next { (piece.value.from ≡ port.old.rank)
+        × (piece.value.number ≡ length (ring.pushed_to port.old to)) }
     ensures owns { ring.Owns r.now port.new × (port.new.rank ≡ port.old.rank) }
-    ensures pushed { result ≡ true
-        → ring.knows port.new ≡ with_lane (one_pushed piece.now) to (ring.knows port.old) }
-    ensures refused { result ≡ false
-        → ring.knows port.new ≡ with_lane one_full to (ring.knows port.old) }
+    ensures pushed { IfOk result (λ _.
+        ring.knows port.new ≡ with_lane (one_pushed piece.value) to (ring.knows port.old)) }
+    ensures refused { IfErr result (λ _.
+        ring.knows port.new ≡ with_lane one_full to (ring.knows port.old)) }
 {
     pushed_on::<Brand>(r, port, to, piece, Blank::new(1))
 }
@@ -187,34 +198,39 @@ fn pulled_on<L: Ledger>(
     r: &Rings,
     port: &mut RingPort,
     sender: u8,
-    into: &mut Piece,
+    spare: Option<Box<Piece>>,
     blank: Blank,
-) -> bool
+) -> Result<Box<Piece>, Option<Box<Piece>>>
     requires owns { ring.Owns r.now port.old }
     requires sender { sender < r.now.ranks }
     requires name { (blank.name ≡ L.name) × (blank.parts ≡ L.parts) × (0 < L.parts) }
     ensures owns { ring.Owns r.now port.new × (port.new.rank ≡ port.old.rank) }
-    ensures next { result ≡ true → (into.new.from ≡ sender)
-        × (into.new.number ≡ length (ring.pulled_from port.old sender)) }
-    ensures pulled { result ≡ true
-        → ring.knows port.new ≡ with_lane (one_pulled into.new) sender (ring.knows port.old) }
-    ensures missed { result ≡ false
-        → ring.knows port.new ≡ with_lane one_empty sender (ring.knows port.old) }
+    ensures next { IfOk result (λ piece. (piece.value.from ≡ sender)
+        × (piece.value.number ≡ length (ring.pulled_from port.old sender))) }
+    ensures pulled { IfOk result (λ piece.
+        ring.knows port.new ≡ with_lane (one_pulled piece.value) sender (ring.knows port.old)) }
+    ensures missed { IfErr result (λ _.
+        ring.knows port.new ≡ with_lane one_empty sender (ring.knows port.old)) }
 {
     let mut steps = Steps::<L>::new(blank);
-    pull(r, port, sender, into, &mut steps)
+    pull(r, port, sender, spare, &mut steps)
 }
 
-pub(crate) fn pulled(r: &Rings, port: &mut RingPort, sender: u8, into: &mut Piece) -> bool
+pub(crate) fn pulled(
+    r: &Rings,
+    port: &mut RingPort,
+    sender: u8,
+    spare: Option<Box<Piece>>,
+) -> Result<Box<Piece>, Option<Box<Piece>>>
     requires owns { ring.Owns r.now port.old }
     requires sender { sender < r.now.ranks }
     ensures owns { ring.Owns r.now port.new × (port.new.rank ≡ port.old.rank) }
-    ensures next { result ≡ true → (into.new.from ≡ sender)
-        × (into.new.number ≡ length (ring.pulled_from port.old sender)) }
-    ensures pulled { result ≡ true
-        → ring.knows port.new ≡ with_lane (one_pulled into.new) sender (ring.knows port.old) }
-    ensures missed { result ≡ false
-        → ring.knows port.new ≡ with_lane one_empty sender (ring.knows port.old) }
+    ensures next { IfOk result (λ piece. (piece.value.from ≡ sender)
+        × (piece.value.number ≡ length (ring.pulled_from port.old sender))) }
+    ensures pulled { IfOk result (λ piece.
+        ring.knows port.new ≡ with_lane (one_pulled piece.value) sender (ring.knows port.old)) }
+    ensures missed { IfErr result (λ _.
+        ring.knows port.new ≡ with_lane one_empty sender (ring.knows port.old)) }
 {
-    pulled_on::<Brand>(r, port, sender, into, Blank::new(1))
+    pulled_on::<Brand>(r, port, sender, spare, Blank::new(1))
 }

@@ -5,76 +5,76 @@ use Rattle.nm_copyring.proofs.pieces.pull.Goals as goal
 
 pub invariant_of-port-clause-rests : goal.invariant_of-port-clause-rests
 invariant_of-port-clause-rests g c = let p = c.args.port.now in
-    let is = c.empty_next-pulled.ensures.pulled c.if-pulled.true in
-    lane_rests (one_pulled c.empty_next-pulled.new.into) c.args.sender (unlooked (mine p.seat.me))
-    c.empty_next-pulled.new.seat.me is p.rests.1
+    let is = c.in-Ok.ensures.pulled in
+    lane_rests (one_pulled c.in-Ok.piece.value) c.args.sender (unlooked (mine p.seat.me))
+    c.empty_next.new.seat.me is p.rests.1
 
 pub invariant_of-port-clause-wide : goal.invariant_of-port-clause-wide
 invariant_of-port-clause-wide g c = let p = c.args.port.now in
-    let is = c.empty_next-pulled.ensures.pulled c.if-pulled.true in
-    lane_wide (one_pulled c.empty_next-pulled.new.into) c.args.sender (unlooked (mine p.seat.me))
-    c.empty_next-pulled.new.seat.me is p.wide
+    let is = c.in-Ok.ensures.pulled in
+    lane_wide (one_pulled c.in-Ok.piece.value) c.args.sender (unlooked (mine p.seat.me))
+    c.empty_next.new.seat.me is p.wide
 
 pub invariant_of-port-clause-named : goal.invariant_of-port-clause-named
 invariant_of-port-clause-named g c =
-    ap (λ m. (mine m).rank) (c.empty_next-pulled.ensures.pulled c.if-pulled.true)
+    ap (λ m. (mine m).rank) (c.in-Ok.ensures.pulled)
     ∙ c.args.port.now.named
 
 pub invariant_of-port-clause-counts : goal.invariant_of-port-clause-counts
 invariant_of-port-clause-counts g c = let p = c.args.port.now in
-    let is = c.empty_next-pulled.ensures.pulled c.if-pulled.true in
-    lane_counts (one_pulled c.empty_next-pulled.new.into) c.args.sender (unlooked (mine p.seat.me))
-    c.empty_next-pulled.new.seat.me is
-    c.count_pulled.new.tallies.items (c.count_pulled.ensures (unlooked (mine p.seat.me)) c.empty_next-pulled.new.into p.counts)
+    let is = c.in-Ok.ensures.pulled in
+    lane_counts (one_pulled c.in-Ok.piece.value) c.args.sender (unlooked (mine p.seat.me))
+    c.empty_next.new.seat.me is
+    c.count_pulled.new.tallies.items (c.count_pulled.ensures (unlooked (mine p.seat.me)) c.in-Ok.piece.value p.counts)
 
-pub returns-then-pulled-clause-owns : goal.returns-then-pulled-clause-owns
-returns-then-pulled-clause-owns g c = let p = c.args.port.now in
-    let is = c.empty_next-pulled.ensures.pulled c.if-pulled.true in
+pub returns-in-Ok-clause-owns : goal.returns-in-Ok-clause-owns
+returns-in-Ok-clause-owns g c = let p = c.args.port.now in
+    let is = c.in-Ok.ensures.pulled in
     let o = c.requires.owns in (
       (
-        c.empty_next-pulled.ensures.same ∙ o.0,
-        lane_owned (one_pulled c.empty_next-pulled.new.into) c.args.sender (unlooked (mine p.seat.me))
-            c.empty_next-pulled.new.seat.me is
+        c.empty_next.ensures.same ∙ o.0,
+        lane_owned (one_pulled c.in-Ok.piece.value) c.args.sender (unlooked (mine p.seat.me))
+            c.empty_next.new.seat.me is
             c.args.r.now.ranks o.1,
       ),
       refl,
     )
 
-pub returns-then-pulled-clause-pulled : goal.returns-then-pulled-clause-pulled
-returns-then-pulled-clause-pulled g c _ = ap (λ m. unlooked (mine m)) (c.empty_next-pulled.ensures.pulled c.if-pulled.true)
+pub returns-in-Ok-clause-pulled : goal.returns-in-Ok-clause-pulled
+returns-in-Ok-clause-pulled g c = ap (λ m. unlooked (mine m)) (c.in-Ok.ensures.pulled)
 
-pub invariant_of-port-else-pulled-clause-rests : goal.invariant_of-port-else-pulled-clause-rests
-invariant_of-port-else-pulled-clause-rests g c = let p = c.args.port.now in
-    let is = c.empty_next-pulled.ensures.missed c.if-pulled.false in
-    lane_rests one_empty c.args.sender (mine p.seat.me) c.empty_next-pulled.new.seat.me is p.rests.1
+pub invariant_of-port-in-Err-clause-rests : goal.invariant_of-port-in-Err-clause-rests
+invariant_of-port-in-Err-clause-rests g c = let p = c.args.port.now in
+    let is = c.in-Err.ensures.missed in
+    lane_rests one_empty c.args.sender (mine p.seat.me) c.empty_next.new.seat.me is p.rests.1
 
-pub invariant_of-port-else-pulled-clause-wide : goal.invariant_of-port-else-pulled-clause-wide
-invariant_of-port-else-pulled-clause-wide g c = let p = c.args.port.now in
-    let is = c.empty_next-pulled.ensures.missed c.if-pulled.false in
-    lane_wide one_empty c.args.sender (mine p.seat.me) c.empty_next-pulled.new.seat.me is p.wide
+pub invariant_of-port-in-Err-clause-wide : goal.invariant_of-port-in-Err-clause-wide
+invariant_of-port-in-Err-clause-wide g c = let p = c.args.port.now in
+    let is = c.in-Err.ensures.missed in
+    lane_wide one_empty c.args.sender (mine p.seat.me) c.empty_next.new.seat.me is p.wide
 
-pub invariant_of-port-else-pulled-clause-named : goal.invariant_of-port-else-pulled-clause-named
-invariant_of-port-else-pulled-clause-named g c =
-    ap (λ m. (mine m).rank) (c.empty_next-pulled.ensures.missed c.if-pulled.false)
+pub invariant_of-port-in-Err-clause-named : goal.invariant_of-port-in-Err-clause-named
+invariant_of-port-in-Err-clause-named g c =
+    ap (λ m. (mine m).rank) (c.in-Err.ensures.missed)
     ∙ c.args.port.now.named
 
-pub invariant_of-port-else-pulled-clause-counts : goal.invariant_of-port-else-pulled-clause-counts
-invariant_of-port-else-pulled-clause-counts g c = let p = c.args.port.now in
-    let is = c.empty_next-pulled.ensures.missed c.if-pulled.false in
-    lane_counts one_empty c.args.sender (mine p.seat.me) c.empty_next-pulled.new.seat.me is
+pub invariant_of-port-in-Err-clause-counts : goal.invariant_of-port-in-Err-clause-counts
+invariant_of-port-in-Err-clause-counts g c = let p = c.args.port.now in
+    let is = c.in-Err.ensures.missed in
+    lane_counts one_empty c.args.sender (mine p.seat.me) c.empty_next.new.seat.me is
     c.count_empty.new.tallies.items (c.count_empty.ensures (mine p.seat.me) p.counts)
 
-pub returns-else-pulled-clause-owns : goal.returns-else-pulled-clause-owns
-returns-else-pulled-clause-owns g c = let p = c.args.port.now in
-    let is = c.empty_next-pulled.ensures.missed c.if-pulled.false in
+pub returns-in-Err-clause-owns : goal.returns-in-Err-clause-owns
+returns-in-Err-clause-owns g c = let p = c.args.port.now in
+    let is = c.in-Err.ensures.missed in
     let o = c.requires.owns in (
       (
-        c.empty_next-pulled.ensures.same ∙ o.0,
-        lane_owned one_empty c.args.sender (mine p.seat.me) c.empty_next-pulled.new.seat.me is
+        c.empty_next.ensures.same ∙ o.0,
+        lane_owned one_empty c.args.sender (mine p.seat.me) c.empty_next.new.seat.me is
             c.args.r.now.ranks o.1,
       ),
       refl,
     )
 
-pub returns-else-pulled-clause-missed : goal.returns-else-pulled-clause-missed
-returns-else-pulled-clause-missed g c _ = ap (λ m. unlooked (mine m)) (c.empty_next-pulled.ensures.missed c.if-pulled.false)
+pub returns-in-Err-clause-missed : goal.returns-in-Err-clause-missed
+returns-in-Err-clause-missed g c = ap (λ m. unlooked (mine m)) (c.in-Err.ensures.missed)

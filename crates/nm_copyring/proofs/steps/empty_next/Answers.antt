@@ -23,8 +23,8 @@ load-requires g c = let r = c.args.r.now in let seat = c.args.seat.now in let z 
           c.args.number c.place-at.ensures.at next.0 next.1) rest.0.1,
     )
 
-pub empty_slot-requires-clause-front : goal.empty_slot-requires-clause-front
-empty_slot-requires-clause-front g c = let r = c.args.r.now in let seat = c.args.seat.now in
+pub empty_slot-piece-requires-clause-front : goal.empty_slot-piece-requires-clause-front
+empty_slot-piece-requires-clause-front g c = let r = c.args.r.now in let seat = c.args.seat.now in
     let rests = c.requires.rests in let next = c.requires.next in let word : ℕ = c.place-at.result in
     let slots = r.board.shared.table_id.slots in let from = c.args.sender in
     let is = in_is r.ranks slots word from seat.me rests.0 rests.1 c.requires.sender c.args.rank
@@ -48,33 +48,33 @@ store-requires g c = let r = c.args.r.now in let seat = c.args.seat.now in let z
     c.load.result c.load.new.seat.me c.load.ensures.2 is (omega arith) in let q = there.0 in
     let none : Load = None in
     let lies = exchanged r.ranks slots word from seat.me rests.0 rests.1 c.requires.sender
-    (Emptying from q) (Some q) none c.load.new.seat.me c.empty_slot.new.seat.me there.3
-    c.empty_slot.ensures.emptied in let me : Knowing = working (Emptying from q) word none (mine seat.me)
+    (Emptying from q) (Some q) none c.load.new.seat.me c.empty_slot-piece.new.seat.me there.3
+    c.empty_slot-piece.ensures.emptied in let me : Knowing = working (Emptying from q) word none (mine seat.me)
     in (
-      c.empty_slot.ensures.seat.0 ∙ c.load.ensures.0 ∙ c.requires.table,
+      c.empty_slot-piece.ensures.seat.0 ∙ c.load.ensures.0 ∙ c.requires.table,
       few,
-      subst (λ m. Allows (Rule r.board.shared.key) slots c.empty_slot.new.seat.id m word (λ _. 0)
+      subst (λ m. Allows (Rule r.board.shared.key) slots c.empty_slot-piece.new.seat.id m word (λ _. 0)
           (λ _. emptied (step slots word 0 0 maybe.none) m 0)) (sym lies)
-          (empty_allowed r.board.shared.key r.ranks slots c.empty_slot.new.seat.id r.shape z.1 me
+          (empty_allowed r.board.shared.key r.ranks slots c.empty_slot-piece.new.seat.id r.shape z.1 me
           refl rests.1 from c.requires.sender word q [] is refl refl),
     )
 
 pub returns-clause-next : goal.returns-clause-next
-returns-clause-next g c is_true = let r = c.args.r.now in let seat = c.args.seat.now in
+returns-clause-next g c = let r = c.args.r.now in let seat = c.args.seat.now in
     let rests = c.requires.rests in let next = c.requires.next in let word : ℕ = c.place-at.result in
     let slots = r.board.shared.table_id.slots in let from = c.args.sender in
     let is = in_is r.ranks slots word from seat.me rests.0 rests.1 c.requires.sender c.args.rank
     c.args.number c.place-at.ensures.at next.0 next.1 in let full = c.if-load-eq0.false in
     let there = piece_found r.ranks slots word from seat.me rests.0 rests.1 c.requires.sender
     c.load.result c.load.new.seat.me c.load.ensures.2 is (omega arith) in
-    let found = same_piece word there.0 c.empty_slot.new.into (ap (λ m. m.1) there.3)
-    c.empty_slot.ensures.piece in (
+    let found = same_piece word there.0 c.empty_slot-piece.result.value (ap (λ m. m.1) there.3)
+    c.empty_slot-piece.ensures.piece in (
       sym (ap (λ (p : Piece). p.from) found) ∙ there.1,
       sym (ap (λ (p : Piece). p.number) found) ∙ there.2 ∙ sym next.1,
     )
 
 pub returns-clause-pulled : goal.returns-clause-pulled
-returns-clause-pulled g c is_true = let r = c.args.r.now in let seat = c.args.seat.now in
+returns-clause-pulled g c = let r = c.args.r.now in let seat = c.args.seat.now in
     let rests = c.requires.rests in let next = c.requires.next in let word : ℕ = c.place-at.result in
     let slots = r.board.shared.table_id.slots in let from = c.args.sender in
     let is = in_is r.ranks slots word from seat.me rests.0 rests.1 c.requires.sender c.args.rank
@@ -83,9 +83,10 @@ returns-clause-pulled g c is_true = let r = c.args.r.now in let seat = c.args.se
     c.load.result c.load.new.seat.me c.load.ensures.2 is (omega arith) in let q = there.0 in
     let none : Load = None in
     let lies = exchanged r.ranks slots word from seat.me rests.0 rests.1 c.requires.sender
-    (Emptying from q) (Some q) none c.load.new.seat.me c.empty_slot.new.seat.me there.3
-    c.empty_slot.ensures.emptied in
-    let found = same_piece word q c.empty_slot.new.into (ap (λ m. m.1) there.3) c.empty_slot.ensures.piece in
+    (Emptying from q) (Some q) none c.load.new.seat.me c.empty_slot-piece.new.seat.me there.3
+    c.empty_slot-piece.ensures.emptied in
+    let found = same_piece word q c.empty_slot-piece.result.value (ap (λ m. m.1) there.3)
+    c.empty_slot-piece.ensures.piece in
     subst (λ piece. c.store.new.seat.me ≡ knowing (with_lane (one_pulled piece) from (unlooked (mine seat.me)))) found
     (pulled_after r.ranks slots word from seat.me rests.0 rests.1 c.requires.sender q
-    c.empty_slot.new.seat.me c.store.new.seat.me lies c.store.ensures.2)
+    c.empty_slot-piece.new.seat.me c.store.new.seat.me lies c.store.ensures.2)

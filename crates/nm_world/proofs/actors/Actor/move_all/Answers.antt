@@ -15,8 +15,8 @@ pub send_all-sent-requires : goal.send_all-sent-requires
 send_all-sent-requires g c =
     subst (λ (x : Setting). Stands x.lines c.args.f.now x.rings c.args.self.now) (sym c.requires.0) c.requires.1
 
-pub push_all-pushed-requires : goal.push_all-pushed-requires
-push_all-pushed-requires g c =
+pub push_all-requires : goal.push_all-requires
+push_all-requires g c =
     let p = c.send_all-sent.new.self in
     subst (λ (x : Fabric). Stands g.here.lines x c.args.r.now p) (sym (ap (λ (x : Setting). x.fabric) c.requires.0))
     (subst (λ (x : Rings). Stands g.here.lines c.args.f.now x p) (ap (λ (x : Setting). x.rings) c.requires.0)
@@ -24,10 +24,10 @@ push_all-pushed-requires g c =
 
 pub take_all-requires : goal.take_all-requires
 take_all-requires g c =
-    let p = c.push_all-pushed.new.self in
+    let p = c.push_all.new.self in
     subst (λ (x : Rings). Stands g.here.lines c.args.f.now x p) (sym (ap (λ (x : Setting). x.rings) c.requires.0))
     (subst (λ (x : Fabric). Stands g.here.lines x c.args.r.now p) (ap (λ (x : Setting). x.fabric) c.requires.0)
-    c.push_all-pushed.ensures.kept.stands)
+    c.in_ok-pushed.ensures.kept.stands)
 
 pub pull_all-requires : goal.pull_all-requires
 pull_all-requires g c =
@@ -61,12 +61,12 @@ returns g c =
     let n = f.ranks in
     let a = c.args.self.now in
     let s = c.send_all-sent.new.self in
-    let p = c.push_all-pushed.new.self in
+    let p = c.push_all.new.self in
     let t = c.take_all.new.self in
     let u = c.pull_all.new.self in
     let e = c.run_all.new.self in
     let sent = c.send_all-sent.ensures in
-    let pushed = c.push_all-pushed.ensures in
+    let pushed = c.in_ok-pushed.ensures in
     let took = c.in_ok-took.ensures in
     let pulled = c.in_ok-pulled.ensures in
     let ran = c.in_ok-ran.ensures in
@@ -75,10 +75,10 @@ returns g c =
     let three = subst (λ (x : Setting). Kept x.lines f x.rings p t) here took.kept in
     let four = subst (λ (x : Setting). Kept x.lines x.fabric r t u) here pulled.kept in
     let five = subst (λ (x : Setting). Kept lines x.fabric x.rings u e) here ran.kept in
-    let push_moved = subst (λ (x : Setting). c.push_all-pushed.result ≡ did x.fabric.ranks s p) here pushed.moved in
+    let push_moved = subst (λ (x : Setting). c.in_ok-pushed.pushed ≡ did x.fabric.ranks s p) here pushed.moved in
     let pull_moved = subst (λ (x : Setting). c.in_ok-pulled.pulled ≡ did x.fabric.ranks t u) here pulled.moved in
     let run_moved = subst (λ (x : Setting). c.in_ok-ran.ran ≡ did x.fabric.ranks u e) here ran.moved in
-    let sp = kept_and n lines f r a s p c.send_all-sent.result c.push_all-pushed.result one two sent.moved push_moved in
+    let sp = kept_and n lines f r a s p c.send_all-sent.result c.in_ok-pushed.pushed one two sent.moved push_moved in
     let st = kept_and n lines f r a p t _ c.in_ok-took.took sp.0 three sp.1 took.moved in
     let su = kept_and n lines f r a t u _ c.in_ok-pulled.pulled st.0 four st.1 pull_moved in
     let se = kept_and n lines f r a u e _ c.in_ok-ran.ran su.0 five su.1 run_moved in
@@ -87,12 +87,12 @@ returns g c =
       kept = se.0;
       moved = se.1;
       idle = λ none fresh.
-          let n4 = neither (((c.send_all-sent.result || c.push_all-pushed.result) || c.in_ok-took.took)
+          let n4 = neither (((c.send_all-sent.result || c.in_ok-pushed.pushed) || c.in_ok-took.took)
           || c.in_ok-pulled.pulled) c.in_ok-ran.ran none in
-          let n3 = neither ((c.send_all-sent.result || c.push_all-pushed.result) || c.in_ok-took.took)
+          let n3 = neither ((c.send_all-sent.result || c.in_ok-pushed.pushed) || c.in_ok-took.took)
           c.in_ok-pulled.pulled n4.0 in
-          let n2 = neither (c.send_all-sent.result || c.push_all-pushed.result) c.in_ok-took.took n3.0 in
-          let n1 = neither c.send_all-sent.result c.push_all-pushed.result n2.0 in
+          let n2 = neither (c.send_all-sent.result || c.in_ok-pushed.pushed) c.in_ok-took.took n3.0 in
+          let n1 = neither c.send_all-sent.result c.in_ok-pushed.pushed n2.0 in
           let sa = sent.stepped.still n1.0 in
           let ps = pushed.stepped.still n1.1 in
           let tp = took.stepped.still n2.1 in

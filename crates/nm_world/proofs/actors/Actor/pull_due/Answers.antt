@@ -1,5 +1,7 @@
 -- The piece comes behind the others of its sender.
 use Rattle.std.proofs.Common.{ℕ, ◌<◌, true, false, length, sym, ap, subst, arith, refl}
+use Rattle.nm_types.specs.declared.packets.Piece.{Piece}
+use Rattle.nm_rank.specs.Calls.{TakesPiece}
 use Rattle.nm_process.specs.Processes.{ProcessView}
 use Rattle.nm_protocol.specs.Pieces.{due_pieces}
 use Rattle.nm_receiving.specs.Receipts.{drawn_from}
@@ -20,20 +22,22 @@ returns g c =
     let s = c.requires.0 in
     let a = c.args.self.now in
     let v = c.take_piece.new.self in
-    let q = c.pulled.new.into in
-    let next = c.pulled.ensures.next c.if-not-pulled.false in
-    let knew = c.pulled.ensures.pulled c.if-not-pulled.false in
+    let q = c.in-Ok.piece.value in
+    let next = c.in-Ok.ensures.next in
+    let knew = c.in-Ok.ensures.pulled in
     let shape = a.process.rank.sizes in
     let sender = c.requires.1.0 in
     let ranks = s.is.ranks.1 in
     let own = next.0 in
     let work = c.in_ok-take_piece.ensures.work shape g.here.lines s.is.standing.work in
     let due = c.requires.1.1.0 in
+    let taken = subst (λ (p : Piece). TakesPiece p a.process.rank v.rank) c.deref.ensures
+    c.in_ok-take_piece.ensures.taken in
     let on = c.a_piece_is_taken.ensures shape g.here.lines a.port.rank a.process.rank v.rank s.past q
     (omega (arith, own, sender, ranks))
     (subst (λ (k : ℕ). drawn_from a.process.rank.receiving k < length (due_pieces a.process.rank.events k))
     (sym own) due)
-    c.in_ok-take_piece.ensures.taken s.is.standing.rank in
+    taken s.is.standing.rank in
     let n = g.here.fabric.ranks in
     let wide = s.is.rings.1.2 in
     let cells = s.is.ranks.0 in
@@ -41,7 +45,7 @@ returns g c =
     let b : Actor = record { process = v; port = a.port; ring = port; places = tt } in
     let low : c.args.sender < length (ring.knows a.ring).lanes = omega (arith, sender, wide) in
     let grows : Grows a b = record {
-      events = (_, c.in_ok-take_piece.ensures.taken.happened.events);
+      events = (_, taken.happened.events);
       port = port_same a.port;
       ring = ring_up a.ring port (one_pulled q) c.args.sender low (pulled_up q) knew;
     } in
@@ -54,19 +58,19 @@ returns g c =
           (pulled_more (ring.knows a.ring) (ring.knows port) c.args.sender q low knew));
       kept = record {
         grows = grows;
-        seat = seat_is a v a.port.rank refl c.in_ok-take_piece.ensures.taken.sizes;
+        seat = seat_is a v a.port.rank refl taken.sizes;
         stands = pull_on g.here.lines g.here.fabric c.args.r.now a v port c.args.sender q s
             c.pulled.ensures.owns.0 c.pulled.ensures.owns.1 sender own knew work on;
       };
     }
 
-pub returns-then-not-pulled : goal.returns-then-not-pulled
-returns-then-not-pulled g c =
+pub returns-in-Err : goal.returns-in-Err
+returns-in-Err g c =
     let s = c.requires.0 in
     let a = c.args.self.now in
     let sender = c.requires.1.0 in
     let wide = s.is.rings.1.2 in
-    let missed = c.pulled.ensures.missed c.if-not-pulled.true in
+    let missed = c.in-Err.ensures.missed in
     let done = ring_missed g.here.lines g.here.fabric c.args.r.now a c.pulled.new.port one_empty c.args.sender s
     c.pulled.ensures.owns.0 c.pulled.ensures.owns.1 (omega (arith, sender, wide)) empty_up (λ l. (refl, refl))
     missed in

@@ -12,26 +12,26 @@ loop-pushed-init g c = loop_none g.here.fabric.ranks g.here.lines g.here.fabric 
 
 pub loop-pushed-preserved : goal.loop-pushed-preserved
 loop-pushed-preserved g c =
-    let e = c.push_next.ensures in
+    let e = c.in_ok-push_next.ensures in
     loop_more g.here.fabric.ranks g.here.lines g.here.fabric c.args.r.now c.args.self.now c.loop-pushed.pushed
     c.loop-pushed.self c.push_next.new.self
-    c.push_next.result c.if-not-push_next.false c.loop-pushed.invariant e.kept e.moved e.stepped
+    c.in_ok-push_next.field-0 c.if-not-branch.false c.loop-pushed.invariant e.kept e.moved e.stepped
 
-pub returns-then-not-push_next : goal.returns-then-not-push_next
-returns-then-not-push_next g c =
-    let e = c.push_next.ensures in
+pub returns-then-not-branch : goal.returns-then-not-branch
+returns-then-not-branch g c =
+    let e = c.in_ok-push_next.ensures in
     let a = c.args.self.now in
     let d = c.push_next.new.self in
     let done = loop_last g.here.fabric.ranks g.here.lines g.here.fabric c.args.r.now a c.loop-pushed.pushed
-    c.loop-pushed.self d c.push_next.result
-    c.if-not-push_next.true c.loop-pushed.invariant e.kept e.moved e.stepped in
+    c.loop-pushed.self d c.in_ok-push_next.field-0
+    c.if-not-branch.true c.loop-pushed.invariant e.kept e.moved e.stepped in
     record {
       kept = done.kept;
       moved = done.moved;
       stepped = done.stepped;
       back = λ none fresh. let same = done.sole none in
           subst (λ (x : Actor). PieceBack x d) same
-          (e.back c.if-not-push_next.true (subst (λ (x : Actor). IsFresh x.process.rank) (sym same) fresh));
+          (e.back c.if-not-branch.true (subst (λ (x : Actor). IsFresh x.process.rank) (sym same) fresh));
     }
 
 pub returns : goal.returns

@@ -31,7 +31,7 @@ returns g c =
     let shape = a.process.rank.sizes in
     let within = own.0 in
     let ranks = s.is.ranks.1 in
-    let knew = c.pushed.ensures.pushed c.if-not-pushed.false in
+    let knew = c.in-Ok.ensures.pushed in
     let work = p.work shape g.here.lines s.is.standing.work in
     let on = c.a_piece_leaves.ensures shape g.here.lines a.port.rank a.process.rank v.rank s.past
     (to, q) next own.1 own.2 pops s.is.standing.rank in
@@ -72,8 +72,8 @@ returns-in_default g c =
           (rw c.rank.ensures at c.in_default.ensures.next) tt;
     }
 
-pub returns-then-not-pushed : goal.returns-then-not-pushed
-returns-then-not-pushed g c =
+pub returns-in-Err : goal.returns-in-Err
+returns-in-Err g c =
     let s = c.requires.0 in
     let a = c.args.self.now in
     let to = c.in-Some.to in
@@ -82,7 +82,7 @@ returns-then-not-pushed g c =
     let ranks = s.is.ranks.1 in
     let wide = s.is.rings.1.2 in
     let low : to < length (ring.knows a.ring).lanes = omega (arith, within, ranks, wide) in
-    let knew = c.pushed.ensures.refused c.if-not-pushed.true in
+    let knew = c.in-Err.ensures.refused in
     let done = ring_missed g.here.lines g.here.fabric c.args.r.now a c.pushed.new.port one_full to s
     c.pushed.ensures.owns.0 c.pushed.ensures.owns.1 low full_up (λ l. (refl, refl)) knew in
     let fresh = c.requires.1 in
