@@ -9,7 +9,7 @@ use Rattle.nm_report.specs.declared.records.RunRecord.{RunRecord}
 use Rattle.nm_world.specs.declared.whole.Ways.{Ways}
 use Rattle.nm_multi.specs.Calls.{Logged as Log}
 use Rattle.nm_cli.specs.Answers.{IsAnswer, IsAnswerTo, NotTaken, end_status, log_of, run_of, status_of, text_of}
-use Rattle.nm_cli.specs.Answers.{unread, usage, ways_of}
+use Rattle.nm_cli.specs.Answers.{IsReadFor, WasRead, unread, usage, ways_of}
 use Rattle.nm_check.specs.declared.verdicts.Verdict.TheVariants.{Holds}
 use Rattle.nm_checked.specs.declared.checks.Checked.{Checked as CheckedText}
 use Rattle.nm_checked.specs.declared.checks.Checked.TheVariants.{NoTrace, NoScript, BadTrace, Judged}
@@ -78,6 +78,11 @@ to_fails status (inr h) = inr (inr h)
 -- the source failed
 pub or_unread : {P : Type 0} (s : Ending) → Ends s Unread → OrFails P s.status
 or_unread s e = elim e.said [ inl h ↦ inr (inl h.0) | inr h ↦ inr (inr (inl h.0)) ]
+
+-- what holds where no read failed
+pub unless_unread : {P : Type 0} (s : Ending) (a : Response) → Ends s a → (WasRead a → P) → OrFails P s.status
+unless_unread s Unread e make = or_unread s e
+unless_unread s a e make = inl (make tt)
 
 -- a run ends with 0 or 1
 pub run_status : (done : Bool) (status : ℕ) → status ≡ end_status done → (status ≡ 0) ⊎ (status ≡ 1)
@@ -150,14 +155,16 @@ no_five (Determinate r) h = no_run_status r.done 5 5 h refl (λ z. cc) (λ z. cc
 no_five (Planned q r w) h = no_run_status r.done 5 5 h refl (λ z. cc) (λ z. cc)
 no_five a h = omega (arith, h)
 
-pub unwritten_is : (s : Ending) (a : Response) → Ends s a → s.status ≡ 5 →
+pub unwritten_is : (s : Ending) (a : Response) → Ends s a → (left : Option (List ℕ)) →
+    IsReadFor s.words s.input left s.read_old s.read_new a → s.status ≡ 5 →
     Rose s.write_old s.write_new × (answer : Response) × IsAnswer s.words s.input s.read_old s.read_new answer
+    × IsReadFor s.words s.input left s.read_old s.read_new answer
     × AppendsPart s.before s.after (text_of answer) × (s.run ≡ run_of answer) × (s.closed ≡ ways_of answer)
     × (s.log ≡ log_of answer)
-unwritten_is s a e h =
+unwritten_is s a e left read h =
     elim e.said [
       | inl p ↦ absurd (no_five a (sym h ∙ p.0))
-      | inr p ↦ (p.1, a, e.right, p.2, e.run_given, e.ways_given, e.log_given)
+      | inr p ↦ (p.1, a, e.right, read, p.2, e.run_given, e.ways_given, e.log_given)
     ]
 
 -- an ending that was written is not for want of memory

@@ -12,7 +12,7 @@ use Rattle.nm_script.specs.declared.faults.Kind.{Kind}
 use Rattle.nm_script.specs.declared.faults.ScriptFault.TheVariants as fault
 use Rattle.nm_report.specs.declared.records.RunRecord.{RunRecord}
 use Rattle.nm_world.specs.declared.whole.Ways.{Ways}
-use Rattle.nm_cli.specs.Answers.{Refuses, WasRead, end_status, run_text}
+use Rattle.nm_cli.specs.Answers.{Refuses, end_status, run_text}
 use Rattle.nm_cli.specs.Endings.{IsRefused, IsReported, OrFails, OrUnwritten}
 use Rattle.nm_cli.specs.Faults.{fault_text}
 use Rattle.nm_cli.specs.Plains.{IsNotPlain, IsPlain}
@@ -226,24 +226,6 @@ completes_is s (Planned q r w) e line taken runs ranks lines known read write =
     absurd (other Runs line.mode mode.Parts (answered_for s (Planned q r w) e line taken).0 (λ r. r) runs)
 completes_is s (Logged t r log) e line taken runs ranks lines known read write =
     absurd (other Runs line.mode (mode.Multi t r) (answered_for s (Logged t r log) e line taken).0 (λ r. r) runs)
-
--- these statuses speak of what was read
-abbrev pub Reading : ℕ → Type 0
-Reading status =
-    (status ≡ 0) ⊎ ((status ≡ 1) ⊎ ((status ≡ 3) ⊎ ((status ≡ 8) ⊎ (status ≡ 9))))
-
-was_read : (s : Ending) (a : Response) → Ends s a → Reading s.status → WasRead a
-was_read s Unread e (inl h) = omega (arith, h, (said_whole s Unread e (not_five s 0 h (λ f. cc))).0)
-was_read s Unread e (inr (inl h)) = omega (arith, h, (said_whole s Unread e (not_five s 1 h (λ f. cc))).0)
-was_read s Unread e (inr (inr (inl h))) = omega (arith, h, (said_whole s Unread e (not_five s 3 h (λ f. cc))).0)
-was_read s Unread e (inr (inr (inr (inl h)))) =
-    omega (arith, h, (said_whole s Unread e (not_five s 8 h (λ f. cc))).0)
-was_read s Unread e (inr (inr (inr (inr h)))) =
-    omega (arith, h, (said_whole s Unread e (not_five s 9 h (λ f. cc))).0)
-was_read s a e h = tt
-
-pub read_is : {P : Type 0} (s : Ending) (a : Response) → Ends s a → Reading s.status → (WasRead a → P) → P
-read_is s a e h make = make (was_read s a e h)
 
 pub made_is : (s : Ending) (a : Response) → Ends s a → (line : CommandLine) → IsTaken s.words line →
     Makes line.mode → OrUnwritten ((s.status ≡ 0) ⊎ (s.status ≡ 1)) s.status

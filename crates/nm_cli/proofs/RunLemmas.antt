@@ -1,15 +1,18 @@
 -- What runs and reads say of an answer.
-use Rattle.std.proofs.Common.{◌≡◌, ℕ, Bool, List, Option, Some, None, take, drop, refl, sym, ap, ◌∙◌, subst}
+use Rattle.std.proofs.Common.{◌≡◌, ℕ, Bool, List, Option, Some, None, take, drop, refl, sym, ap, ◌∙◌, subst, arith}
 use Rattle.std.specs.Option.{IfSome, IsSomeAnd}
 use Rattle.nm_types.specs.declared.scripts.Line.{Line}
 use Rattle.nm_types.specs.Limits.{IsScript}
 use Rattle.nm_types.specs.Sizes.{Sizes}
-use Rattle.nm_outside.specs.Told.{ReadSoFar}
-use Rattle.nm_outside.proofs.ReadingLemmas.{left_at}
+use Rattle.nm_command_line.specs.CommandLine.{IsTaken}
 use Rattle.nm_command_line.specs.declared.CommandLine.{CommandLine}
 use Rattle.nm_command_line.specs.declared.Mode.{Mode}
-use Rattle.nm_command_line.specs.declared.Mode.TheVariants.{Run, Trace, Plain, Check, Parts}
+use Rattle.nm_command_line.specs.declared.Mode.TheVariants.{Run, Trace, Plain, Parts, Flood, Multi}
+use Rattle.nm_flood.specs.Flood.{flood_lines}
+use Rattle.nm_outside.specs.Told.{LosesAtMost}
 use Rattle.nm_script.specs.Spelled.{IsTextOf}
+use Rattle.nm_script.specs.declared.faults.ScriptFault.{ScriptFault}
+use Rattle.nm_script.specs.declared.faults.ScriptFault.TheVariants as fault
 use Rattle.nm_report.specs.Cells.{AllCellsFree}
 use Rattle.nm_report.specs.Ends.{are_done, ends_of}
 use Rattle.nm_report.specs.Lawful.{IsRunIn}
@@ -26,15 +29,15 @@ use Rattle.nm_persist.specs.Rules.{IsTextOf as IsPlanText}
 use Rattle.nm_plans.specs.declared.faults.PlanFault.{PlanFault}
 use Rattle.nm_plans.specs.declared.faults.PlanFault.TheVariants as plan_fault
 use Rattle.nm_plans.specs.declared.lines.PlanLine.{PlanLine}
-use Rattle.nm_cli.specs.Answers.{CanBeTold, IsAnswerFor, IsAnswerForPlan, IsAnswerTo}
+use Rattle.nm_cli.specs.Answers.{CanBeTold, IsAnswer, IsAnswerFor, IsAnswerForPlan, IsAnswerTo, Refuses}
 use Rattle.nm_cli.specs.Plains.{IsNotPlain, IsPlain}
-use Rattle.nm_cli.specs.Answers.{IsAnswerForBytes}
+use Rattle.nm_cli.specs.Answers.{IsAnswerForBytes, IsLogOf, IsRead, IsReadFor}
 use Rattle.nm_cli.specs.Plans.{IsRunOfPlan, PlanRefuses}
-use Rattle.nm_checked.specs.Checks.{IsChecked, IsInput}
+use Rattle.nm_checked.specs.Checks.{IsChecked}
 use Rattle.nm_checked.specs.declared.checks.Checked.{Checked}
-use Rattle.nm_cli.specs.Checks.{IsCheckedAs, IsWritten}
-use Rattle.nm_trace.specs.Traces.{IsTraceOf}
-use Rattle.nm_cli.specs.Scripts.{IsAsked, IsRunOfScript, Reads, ReadsSource, limit_of, read_of, sizes_for}
+use Rattle.nm_cli.specs.Checks.{IsCheckedAs, IsTraced, IsWritten}
+use Rattle.nm_cli.specs.Scripts.{IsAsked, IsRunOfScript, IsRunOfWords, Reads, ReadsSource, limit_of, read_of}
+use Rattle.nm_cli.specs.Scripts.{sizes_for}
 use Rattle.nm_cli.specs.declared.answers.Response.{Response}
 use Rattle.nm_cli.specs.declared.answers.Response.TheVariants as answer
 
@@ -76,7 +79,7 @@ sure line (Some bytes) ranks lines text done is plain reported ended =
     record { ranks = ranks; lines = lines; spelled = is; plain = plain; reported = reported; ended = ended }
 
 -- what is said of a script that was read answers the words
-pub answered : (line : CommandLine) (input : Option (List ℕ)) (old new ranks : ℕ) (lines : List Line) →
+answered : (line : CommandLine) (input : Option (List ℕ)) (old new ranks : ℕ) (lines : List Line) →
     Reads line.mode → IfSome input (λ bytes. IsTextOf (read_of bytes) ranks lines) → (a : Response) →
     IsAnswerFor line ranks lines a → IsAnswerTo line input old new a
 answered line input old new ranks lines reads is (answer.Ran mode run ways) h =
@@ -98,48 +101,111 @@ told line ranks lines a h = absurd h
 
 -- a plan that the bytes spell, and its run
 pub plan_of_bytes : (line : CommandLine) (bytes : List ℕ) (ranks : ℕ) (lines : List PlanLine) →
-    IsPlanText bytes ranks lines → (a : Response) → IsAnswerForPlan line ranks lines a → IsAnswerForBytes line bytes a
-plan_of_bytes line bytes ranks lines text (answer.Planned plan run ways) h =
+    line.mode ≡ Parts → IsPlanText bytes ranks lines → (a : Response) → IsAnswerForPlan line ranks lines a → IsAnswerForBytes line bytes a
+plan_of_bytes line bytes ranks lines parts text (answer.Planned plan run ways) h =
     let spelled : IsPlanText bytes ranks plan.lines = subst (λ ls. IsPlanText bytes ranks ls) (sym h.0) text in
     let of_script : IsRunOfScript line ranks (expand plan.lines) run ways =
     subst (λ ls. IsRunOfScript line ranks (expand ls) run ways) (sym h.0) h.1 in
-    (ranks, spelled, of_script)
-plan_of_bytes line bytes ranks lines text a h = absurd h
+    (parts, ranks, spelled, of_script)
+plan_of_bytes line bytes ranks lines parts text a h = absurd h
 
 -- what was read spells the plan
-pub plan_spelled : (input : Option (List ℕ)) (read : List ℕ) (ranks : ℕ) (lines : List PlanLine) →
+plan_spelled : (input : Option (List ℕ)) (read : List ℕ) (ranks : ℕ) (lines : List PlanLine) →
     IfSome input (λ bytes. read ≡ take 8388609 bytes) → IsPlanText read ranks lines →
     IfSome input (λ bytes. IsPlanText (read_of bytes) ranks lines)
 plan_spelled None read ranks lines is text = tt
 plan_spelled (Some bytes) read ranks lines is text = subst (λ bytes. IsPlanText bytes ranks lines) is text
 
 -- what was read is refused
-pub plan_refused : (input : Option (List ℕ)) (read : List ℕ) (e : PlanFault) →
+plan_refused : (input : Option (List ℕ)) (read : List ℕ) (e : PlanFault) →
     IfSome input (λ bytes. read ≡ take 8388609 bytes) → PlanRefuses read e →
     IfSome input (λ bytes. PlanRefuses (read_of bytes) e)
 plan_refused None read e is refuses = tt
 plan_refused (Some bytes) read e is refuses = subst (λ bytes. PlanRefuses bytes e) is refuses
 
--- what the bytes that were read spell answers the words
-pub bytes_answered : (line : CommandLine) (input : Option (List ℕ)) (old new : ℕ) (read : List ℕ) →
-    line.mode ≡ Parts → IfSome input (λ bytes. read ≡ take 8388609 bytes) → (a : Response) →
-    IsAnswerForBytes line read a → IsAnswerTo line input old new a
-bytes_answered line input old new read parts is (answer.NoPlan n k) h =
-    (parts, plan_refused input read (plan_fault.Bad n k) is h)
-bytes_answered line input old new read parts is (answer.Planned plan run ways) h =
-    let of_plan : IsRunOfPlan line input plan.lines run ways = record {
-      ranks = h.0;
-      plan = h.1.limits;
-      spelled = plan_spelled input read h.0 plan.lines is h.1;
-      of_script = h.2;
-    } in
-    (parts, of_plan)
-bytes_answered line input old new read parts is a h = absurd h
+-- what was read spells the script
+spelled : (input : Option (List ℕ)) (read : List ℕ) (ranks : ℕ) (lines : List Line) →
+    IfSome input (λ bytes. read ≡ take 8388609 bytes) → IsTextOf read ranks lines →
+    IfSome input (λ bytes. IsTextOf (read_of bytes) ranks lines)
+spelled None read ranks lines is text = tt
+spelled (Some bytes) read ranks lines is text = subst (λ bytes. IsTextOf bytes ranks lines) is text
 
+-- what was read is no script
+refused : (input : Option (List ℕ)) (read : List ℕ) (e : ScriptFault) →
+    IfSome input (λ bytes. read ≡ take 8388609 bytes) → Refuses read e →
+    IfSome input (λ bytes. Refuses (read_of bytes) e)
+refused None read e is refuses = tt
+refused (Some bytes) read e is refuses = subst (λ bytes. Refuses bytes e) is refuses
+
+-- what was said of the bytes read answers the words
+checked_as : (line : CommandLine) (input : Option (List ℕ)) (read : List ℕ) (checked : Checked) →
+    IfSome input (λ bytes. read ≡ take (limit_of line.mode) bytes) →
+    IsChecked line.cells line.eager read checked → IfSome input (IsCheckedAs line checked)
+checked_as line None read checked is h = tt
+checked_as line (Some bytes) read checked is h =
+    subst (λ xs. IsChecked line.cells line.eager xs checked) is h
+
+-- as much is read as a script may have
+script_limit : (m : Mode) → Reads m → limit_of m ≡ 8388609
+script_limit Run reads = refl
+script_limit Trace reads = refl
+script_limit Plain reads = refl
+script_limit m reads = absurd reads
+
+read_as : (limit other : ℕ) (input : Option (List ℕ)) (read : List ℕ) → limit ≡ other →
+    IfSome input (λ bytes. read ≡ take limit bytes) → IfSome input (λ bytes. read ≡ take other bytes)
+read_as limit other input read same is = subst (λ n. IfSome input (λ bytes. read ≡ take n bytes)) same is
+
+-- what the bytes that were read spell answers the words
+module _ (line : CommandLine) (input : Option (List ℕ)) (old new : ℕ) (read : List ℕ)
+    (is : IfSome input (λ bytes. read ≡ take (limit_of line.mode) bytes)) where
+  script_read : Reads line.mode → IfSome input (λ bytes. read ≡ take 8388609 bytes)
+  script_read reads = read_as (limit_of line.mode) 8388609 input read (script_limit line.mode reads) is
+
+  plan_read : line.mode ≡ Parts → IfSome input (λ bytes. read ≡ take 8388609 bytes)
+  plan_read parts = read_as (limit_of line.mode) 8388609 input read (ap limit_of parts) is
+
+  text_answered : (a : Response) → (ranks : ℕ) (lines : List Line) → Reads line.mode → IsTextOf read ranks lines →
+      IsAnswerFor line ranks lines a → IsAnswerTo line input old new a
+  text_answered a ranks lines reads text h =
+      answered line input old new ranks lines reads (spelled input read ranks lines (script_read reads) text) a h
+
+  pub bytes_answered : (a : Response) → IsAnswerForBytes line read a → IsAnswerTo line input old new a
+  bytes_answered (answer.Refused n k) h =
+      (h.0, refused input read (fault.Bad n k) (script_read h.0) h.1)
+  bytes_answered (answer.Checked checked) h = (h.0, checked_as line input read checked is h.1)
+  bytes_answered (answer.NoPlan n k) h =
+      (h.0, plan_refused input read (plan_fault.Bad n k) (plan_read h.0) h.1)
+  bytes_answered (answer.Planned plan run ways) h =
+      let of_plan : IsRunOfPlan line input plan.lines run ways = record {
+        ranks = h.1;
+        plan = h.2.limits;
+        spelled = plan_spelled input read h.1 plan.lines (plan_read h.0) h.2;
+        of_script = h.3;
+      } in
+      (h.0, of_plan)
+  bytes_answered (answer.Ran m r w) (reads, ranks, lines, text, h) =
+      text_answered (answer.Ran m r w) ranks lines reads text h
+  bytes_answered (answer.Free n) (reads, ranks, lines, text, h) =
+      text_answered (answer.Free n) ranks lines reads text h
+  bytes_answered (answer.Determinate r) (reads, ranks, lines, text, h) =
+      text_answered (answer.Determinate r) ranks lines reads text h
+  bytes_answered a (reads, ranks, lines, text, h) = absurd h
+
+-- and can be told
 pub bytes_told : (line : CommandLine) (read : List ℕ) (a : Response) → IsAnswerForBytes line read a → CanBeTold a
-bytes_told line read (answer.NoPlan n k) h = tt
-bytes_told line read (answer.Planned plan run ways) h = tt
-bytes_told line read a h = absurd h
+bytes_told line read (answer.Ran m r w) (reads, ranks, lines, text, h) = told line ranks lines (answer.Ran m r w) h
+bytes_told line read (answer.Logged t r log) (reads, ranks, lines, text, h) = absurd h
+bytes_told line read a h = tt
+
+-- a script that the bytes spell, and what is said of it
+pub script_of_bytes : (line : CommandLine) (bytes : List ℕ) (ranks : ℕ) (lines : List Line) →
+    Reads line.mode → IsTextOf bytes ranks lines → (a : Response) → IsAnswerFor line ranks lines a →
+    IsAnswerForBytes line bytes a
+script_of_bytes line bytes ranks lines reads text (answer.Ran m r w) h = (reads, ranks, lines, text, h)
+script_of_bytes line bytes ranks lines reads text (answer.Free n) h = (reads, ranks, lines, text, h)
+script_of_bytes line bytes ranks lines reads text (answer.Determinate r) h = (reads, ranks, lines, text, h)
+script_of_bytes line bytes ranks lines reads text a h = absurd h
 
 -- these words read the source
 pub reads_source : (m : Mode) → Reads m → ReadsSource m
@@ -148,39 +214,69 @@ reads_source Trace reads = tt
 reads_source Plain reads = tt
 reads_source m reads = absurd reads
 
--- what was read spells the script
-pub spelled : (input : Option (List ℕ)) (read : List ℕ) (ranks : ℕ) (lines : List Line) →
-    IfSome input (λ bytes. read ≡ take 8388609 bytes) → IsTextOf read ranks lines →
-    IfSome input (λ bytes. IsTextOf (read_of bytes) ranks lines)
-spelled None read ranks lines is text = tt
-spelled (Some bytes) read ranks lines is text = subst (λ bytes. IsTextOf bytes ranks lines) is text
-
--- what is left of a source that was read to its end or to the limit of a script
-pub left_over : (input left : Option (List ℕ)) (read : List ℕ) →
-    IfSome input (λ bytes. read ≡ take 8388609 bytes) → ReadSoFar input left read →
-    IfSome input (λ bytes. left ≡ Some (drop 8388609 bytes))
-left_over input left read is so_far = left_at 8388609 input left read is so_far
-
--- what was said of the bytes read answers the words
-pub checked_as : (line : CommandLine) (input : Option (List ℕ)) (read : List ℕ) (checked : Checked) →
-    line.mode ≡ Check → IfSome input (λ bytes. read ≡ take 67108865 bytes) →
-    IsChecked line.cells line.eager read checked → IfSome input (IsCheckedAs line checked)
-checked_as line None read checked mode is h = tt
-checked_as line (Some bytes) read checked mode is h =
-    let limit : limit_of line.mode ≡ 67108865 = ap limit_of mode in
-    subst (λ n. IsChecked line.cells line.eager (take n bytes) checked) (sym limit)
-    (subst (λ xs. IsChecked line.cells line.eager xs checked) is h)
-
 -- a script and the trace of one of its runs were read whole
-pub holds_for : {A : Type 0} (line : CommandLine) (input : Option (List ℕ)) (read : List ℕ) → line.mode ≡ Check →
-    IfSome input (λ bytes. read ≡ take 67108865 bytes) → IsSomeAnd input (IsWritten line) →
-    ((front rest : List ℕ) (ranks : ℕ) (lines : List Line) (run : RunRecord) → IsInput read front rest →
-    IsTextOf front ranks lines → IsTraceOf (sizes_for line ranks) rest run →
-    IsRunIn (sizes_for line ranks) lines run → A) → A
-holds_for line None read mode is written make = absurd written
-holds_for line (Some bytes) read mode is w make =
-    let limit : limit_of line.mode ≡ 67108865 = ap limit_of mode in
-    let whole : IsInput (take 67108865 bytes) w.front w.rest =
-    subst (λ n. IsInput (take n bytes) w.front w.rest) limit w.input in
-    make w.front w.rest w.ranks w.lines w.run (subst (λ xs. IsInput xs w.front w.rest) (sym is) whole)
-    w.script w.trace w.lawful
+pub traced : (line : CommandLine) (input : Option (List ℕ)) (read : List ℕ) →
+    IfSome input (λ bytes. read ≡ take (limit_of line.mode) bytes) → IsSomeAnd input (IsWritten line) →
+    IsTraced line read
+traced line None read is written = absurd written
+traced line (Some bytes) read is written = subst (IsTraced line) (sym is) written
+
+-- an answer for a command line that was taken answers the words
+pub line_answered : (words : List (List ℕ)) (line : CommandLine) → IsTaken words line → (input : Option (List ℕ))
+    (old new : ℕ) (a : Response) → IsAnswerTo line input old new a → IsAnswer words input old new a
+line_answered words line taken input old new answer.Usage h = absurd h
+line_answered words line taken input old new a h = record { line = line; taken = taken; right = h }
+
+-- and what was read for it was read for the words, which ask for one thing
+pub read_for : (words : List (List ℕ)) (line : CommandLine) →
+    ((other : CommandLine) → IsTaken words other → other ≡ line) → (input left : Option (List ℕ)) (old new : ℕ)
+    (a : Response) → IsRead line input left old new a → IsReadFor words input left old new a
+read_for words line one input left old new a h = record {
+  quiet = h.quiet;
+  whole = λ was other taken reads. subst (λ l. IfSome input (λ bytes. left ≡ Some (drop (limit_of l.mode) bytes)))
+      (sym (one other taken)) (h.whole was (subst (λ l. ReadsSource l.mode) (one other taken) reads));
+}
+
+-- what was made needs no source
+pub unread_source : {input : Option (List ℕ)} {count : ℕ} (line : CommandLine) (m : Mode) (a : Response) →
+    line.mode ≡ m → (ReadsSource m → ⊥) → IsRead line input input count count a
+unread_source line m a is none = record {
+  quiet = λ was. refl;
+  whole = λ was reads. absurd (none (subst ReadsSource is reads));
+}
+
+-- a source that was not read has lost nothing
+pub loses_none : (limit : ℕ) (input : Option (List ℕ)) → LosesAtMost limit input input
+loses_none limit None = tt
+loses_none limit (Some bytes) = (0, omega arith, refl)
+
+-- the run of a flood answers the words that ask for it
+pub flood_answered : (line : CommandLine) (input : Option (List ℕ)) (old new key ranks messages : ℕ) →
+    line.mode ≡ Flood key ranks messages → (a : Response) →
+    IsAnswerFor line ranks (flood_lines key ranks messages) a → IsAnswerTo line input old new a
+flood_answered line input old new key ranks messages is (answer.Ran m r w) h =
+    let asked_for : IsAsked line.mode input ranks (flood_lines key ranks messages) =
+    subst (λ m. IsAsked m input ranks (flood_lines key ranks messages)) (sym is) (refl, refl) in
+    let of_words : IsRunOfWords line input r w =
+    record { ranks = ranks; lines = flood_lines key ranks messages; asked = asked_for; of_script = h.2 } in
+    (h.0, h.1, of_words)
+flood_answered line input old new key ranks messages is (answer.Free n) h = absurd (apart (sym is ∙ h.0))
+  where
+    apart : Flood key ranks messages ≡ Plain → ⊥
+    apart same = cc
+flood_answered line input old new key ranks messages is (answer.Determinate r) h = absurd (apart (sym is ∙ h.0))
+  where
+    apart : Flood key ranks messages ≡ Plain → ⊥
+    apart same = cc
+flood_answered line input old new key ranks messages is a h = absurd h
+
+-- and so does the log of several threads
+pub log_answered : (line : CommandLine) (input : Option (List ℕ)) (old new threads rounds : ℕ) →
+    line.mode ≡ Multi threads rounds → (a : Response) → IsLogOf threads rounds a → IsAnswerTo line input old new a
+log_answered line input old new threads rounds is (answer.Logged t r log) h =
+    (is ∙ ap (λ n. Multi n rounds) (sym h.0) ∙ ap (λ n. Multi t n) (sym h.1), h.2)
+log_answered line input old new threads rounds is a h = absurd h
+
+pub log_told : (threads rounds : ℕ) (a : Response) → IsLogOf threads rounds a → CanBeTold a
+log_told threads rounds (answer.Logged t r log) h = h.3
+log_told threads rounds a h = absurd h

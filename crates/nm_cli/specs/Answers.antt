@@ -1,14 +1,13 @@
 -- What the program answers: a text, a status, the record of a run, and what the closed ports kept.
 use Rattle.std.specs.Prelude.{◌≡◌, ℕ, ◌^◌, ◌<◌, Bool, true, false, if◌then◌else◌, List, [], ◌++◌, IfSome, Option}
-use Rattle.std.specs.Prelude.{Some, None}
-use Rattle.std.specs.Prelude.{codes}
+use Rattle.std.specs.Prelude.{Some, None, codes, drop}
 use Rattle.nm_outside.specs.Told.{Rose}
 use Rattle.nm_command_line.specs.CommandLine.{IsTaken}
 use Rattle.nm_command_line.specs.declared.CommandLine.{CommandLine}
 use Rattle.nm_command_line.specs.declared.Mode.{Mode}
 use Rattle.nm_command_line.specs.declared.Mode.TheVariants as mode
 use Rattle.nm_script.specs.Rules.{IsFirstFault}
-use Rattle.nm_script.specs.Spelled.{SpellsNone}
+use Rattle.nm_script.specs.Spelled.{IsTextOf, SpellsNone}
 use Rattle.nm_script.specs.declared.faults.Kind.{Kind}
 use Rattle.nm_script.specs.declared.faults.ScriptFault.{ScriptFault}
 use Rattle.nm_script.specs.declared.faults.ScriptFault.TheVariants as fault
@@ -33,12 +32,13 @@ use Rattle.nm_plans.specs.declared.faults.PlanFault.TheVariants as plan_fault
 use Rattle.nm_plans.specs.declared.lines.PlanLine.{PlanLine}
 use Rattle.nm_persist.specs.Report.{run_text as plan_run_text}
 use Rattle.nm_persist.specs.Rules.{IsTextOf as IsPlanText}
+use Rattle.nm_checked.specs.Checks.{IsChecked}
 use Rattle.nm_cli.specs.Checks.{IsCheckedAs, checked_status, checked_text}
 use Rattle.nm_cli.specs.Faults.{fault_text}
 use Rattle.nm_cli.specs.Plains.{IsNotPlain, IsPlain, free_text}
 use Rattle.nm_cli.specs.Plans.{IsRunOfPlan, PlanRefuses, plan_fault_text}
 use Rattle.nm_cli.specs.Scripts.{IsRunOfScript, IsRunOfWords, Reads, ReadsSource, Runs}
-use Rattle.nm_cli.specs.Scripts.{read_of, sizes_for}
+use Rattle.nm_cli.specs.Scripts.{limit_of, read_of, sizes_for}
 
 -- what is said of words that are not taken
 abbrev pub usage : List ℕ
@@ -133,13 +133,6 @@ IsAnswerForPlan line ranks lines (Planned plan run ways) =
     (plan.lines ≡ lines) × IsRunOfScript line ranks (expand lines) run ways
 IsAnswerForPlan line ranks lines _ = ⊥
 
--- the bytes spell a plan, whose script ran, or none
-abbrev pub IsAnswerForBytes : CommandLine → List ℕ → Response → Type 0
-IsAnswerForBytes line bytes (NoPlan number kind) = PlanRefuses bytes (plan_fault.Bad number kind)
-IsAnswerForBytes line bytes (Planned plan run ways) =
-    (ranks : ℕ) × IsPlanText bytes ranks plan.lines × IsRunOfScript line ranks (expand plan.lines) run ways
-IsAnswerForBytes line bytes _ = ⊥
-
 -- the log is that of so many threads of so many rounds, and its numbers fit a summary
 abbrev pub IsLogOf : ℕ → ℕ → Response → Type 0
 IsLogOf many_threads many_rounds (Logged threads rounds log) =
@@ -151,6 +144,21 @@ IsLogOf many_threads many_rounds _ = ⊥
 abbrev pub WasRead : Response → Type 0
 WasRead Unread = ⊥
 WasRead _ = Unit {0}
+
+-- Unless a read failed, the source was read to its end or to the limit, where the words read it, and its
+-- count of faults is as it was.
+pub record IsRead (line : CommandLine) (input left : Option (List ℕ)) (old new : ℕ) (answer : Response)
+    : Type 0 where
+  pub quiet : WasRead answer → new ≡ old
+  pub whole : WasRead answer → ReadsSource line.mode →
+      IfSome input (λ bytes. left ≡ Some (drop (limit_of line.mode) bytes))
+
+-- and so it was for what the words ask for
+pub record IsReadFor (words : List (List ℕ)) (input left : Option (List ℕ)) (old new : ℕ)
+    (answer : Response) : Type 0 where
+  pub quiet : WasRead answer → new ≡ old
+  pub whole : WasRead answer → (line : CommandLine) → IsTaken words line → ReadsSource line.mode →
+      IfSome input (λ bytes. left ≡ Some (drop (limit_of line.mode) bytes))
 
 -- the words are not taken
 abbrev pub NotTaken : List (List ℕ) → Type 0
@@ -164,6 +172,21 @@ IsTold bytes line kind = IsFirstFault bytes line kind
 abbrev pub Refuses : List ℕ → ScriptFault → Type 0
 Refuses bytes (fault.Bad line kind) = IsTold bytes line kind × SpellsNone bytes
 Refuses bytes fault.Memory = Unit {0}
+
+-- An answer to the bytes that were read is right, by what the words ask for: the bytes spell no script or
+-- no plan, or they spell one, which is answered, or they are a script and a trace, or none.
+abbrev pub IsAnswerForBytes : CommandLine → List ℕ → Response → Type 0
+IsAnswerForBytes line bytes (Refused number kind) = Reads line.mode × Refuses bytes (fault.Bad number kind)
+IsAnswerForBytes line bytes (Checked checked) =
+    (line.mode ≡ mode.Check) × IsChecked line.cells line.eager bytes checked
+IsAnswerForBytes line bytes (NoPlan number kind) =
+    (line.mode ≡ mode.Parts) × PlanRefuses bytes (plan_fault.Bad number kind)
+IsAnswerForBytes line bytes (Planned plan run ways) =
+    (line.mode ≡ mode.Parts) × (ranks : ℕ) × IsPlanText bytes ranks plan.lines
+    × IsRunOfScript line ranks (expand plan.lines) run ways
+IsAnswerForBytes line bytes answer =
+    Reads line.mode × (ranks : ℕ) × (lines : List Line) × IsTextOf bytes ranks lines
+    × IsAnswerFor line ranks lines answer
 
 -- An answer to words that are taken is right: by what they ask for, by the bytes of the source where it
 -- tells them, and by its count of faults before and after.

@@ -47,14 +47,18 @@ pub record IsCheckedEnd (line : CommandLine) (input : Option (List ℕ)) (status
   pub ended : status ≡ checked_status checked
   pub said : Appends old new (checked_text checked)
 
--- the bytes are a script and the trace of one of its runs
-pub record IsWritten (line : CommandLine) (bytes : List ℕ) : Type 0 where
+-- what was read is a script and the trace of one of its runs
+pub record IsTraced (line : CommandLine) (read : List ℕ) : Type 0 where
   pub front : List ℕ
   pub rest : List ℕ
   pub ranks : ℕ
   pub lines : List Line
   pub run : RunRecord
-  pub input : IsInput (take (limit_of line.mode) bytes) front rest
+  pub input : IsInput read front rest
   pub script : IsTextOf front ranks lines
   pub trace : IsTraceOf (sizes_for line ranks) rest run
   pub lawful : IsRunIn (sizes_for line ranks) lines run
+
+-- the bytes are, as far as they are read
+abbrev pub IsWritten : CommandLine → List ℕ → Type 0
+IsWritten line bytes = IsTraced line (take (limit_of line.mode) bytes)

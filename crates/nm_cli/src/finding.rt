@@ -1,25 +1,27 @@
 //! The answer to the words.
 
-ghost use Rattle.std.specs.Prelude.{◌≡◌, List, Some, drop, map, string_bytes, IfOk, IfSome};
-ghost use Rattle.std.specs.Prelude.{IsSomeAnd};
-ghost use Rattle.nm_command_line.specs.CommandLine.{AreNumbers, IsTaken};
+ghost use Rattle.std.specs.Prelude.{◌≡◌, List, map, string_bytes, IfOk, IsSomeAnd};
+ghost use Rattle.nm_outside.specs.Told.{LosesAtMost};
+ghost use Rattle.nm_command_line.specs.CommandLine.{AreNumbers, InRange, IsTaken};
 ghost use Rattle.nm_command_line.specs.declared.CommandLine.{CommandLine};
-ghost use Rattle.nm_command_line.specs.declared.Mode.TheVariants.{Check, Multi};
+ghost use Rattle.nm_command_line.specs.declared.Mode.TheVariants.{Check, Flood, Multi};
+ghost use Rattle.nm_flood.specs.Flood.{flood_lines};
 ghost use Rattle.nm_check.specs.declared.verdicts.Verdict.TheVariants.{Holds};
 ghost use Rattle.nm_checked.specs.declared.checks.Checked.TheVariants.{Judged};
-ghost use Rattle.nm_cli.specs.Answers.{CanBeTold, IsAnswer, IsLogOf, NotTaken, WasRead};
-ghost use Rattle.nm_cli.specs.Checks.{IsWritten};
+ghost use Rattle.nm_cli.specs.Answers.{CanBeTold, IsAnswer, IsAnswerFor, IsAnswerForBytes};
+ghost use Rattle.nm_cli.specs.Answers.{IsAnswerTo, IsLogOf, IsRead, IsReadFor, NotTaken, WasRead};
+ghost use Rattle.nm_cli.specs.Checks.{IsTraced, IsWritten};
 ghost use Rattle.nm_cli.specs.Scripts.{ReadsSource, limit_of};
 ghost use Rattle.nm_cli.specs.declared.answers.Response.TheVariants.{Checked};
 
 use crate::answers::Response;
 use crate::checks::answer_trace;
 use crate::plans::answer_plan;
-use crate::runs::{answer_source, run_script};
-use nm_command_line::{Mode, read};
+use crate::runs::{answer_script, run_script};
+use nm_command_line::{CommandLine, Mode, read};
 use nm_flood::flood_script;
-use nm_outside::{Gate, Source};
-use nm_types::Memory;
+use nm_outside::{Gate, Source, Unread, read_up_to};
+use nm_types::{MAX_TEXT, Memory};
 use std::alloc::Global;
 use std::sync::Wait;
 use std::thread::Threads;
@@ -43,6 +45,112 @@ fn run_threads<R: Threads + Wait + Sync, G: Gate + Sync>(
     })
 }
 
+// The most bytes that are read for these words: one more than a script may have, and with check one
+// more than a script and its trace may.
+fn limit(mode: &Mode) -> usize
+    ensures { result ≡ limit_of mode.now }
+{
+    match mode {
+        Mode::Check => 67_108_865,
+        _ => MAX_TEXT as usize + 1,
+    }
+}
+
+// Answers the words by the bytes that were read.
+fn answer_bytes<R: Threads + Wait + Sync, G: Gate + Sync>(
+    rt: &R,
+    alloc: Global,
+    line: &CommandLine,
+    bytes: &[u8],
+    gate: &G,
+) -> Result<Response, Memory>
+    requires range { InRange line.now }
+    requires reads { ReadsSource line.now.mode }
+    ensures answer { IfOk result (IsAnswerForBytes line.now bytes.now) }
+    ensures holds { line.now.mode ≡ Check → IsTraced line.now bytes.now →
+        IfOk result (λ answer. answer ≡ Checked (Judged Holds)) }
+{
+    match line.mode {
+        Mode::Check => answer_trace(alloc, line, bytes),
+        Mode::Parts => answer_plan(rt, alloc, line, bytes, gate),
+        _ => answer_script(rt, alloc, line, bytes, gate),
+    }
+}
+
+// Reads the source, and answers the words by its bytes.
+fn answer_source<R: Threads + Wait + Sync, S: Source, G: Gate + Sync>(
+    rt: &R,
+    alloc: Global,
+    line: &CommandLine,
+    source: &mut S,
+    gate: &G,
+) -> Result<Response, Memory>
+    requires range { InRange line.now }
+    requires reads { ReadsSource line.now.mode }
+    ensures answer { IfOk result
+        (IsAnswerTo line.now (S.left source.old) (S.faults source.old) (S.faults source.new)) }
+    ensures told { IfOk result CanBeTold }
+    ensures taken { LosesAtMost (limit_of line.now.mode) (S.left source.old) (S.left source.new) }
+    ensures read { IfOk result (IsRead line.now (S.left source.old) (S.left source.new)
+        (S.faults source.old) (S.faults source.new)) }
+    ensures holds { line.now.mode ≡ Check → IsSomeAnd (S.left source.old) (IsWritten line.now) →
+        IfOk result (λ answer. WasRead answer → answer ≡ Checked (Judged Holds)) }
+{
+    match read_up_to(alloc, source, limit(&line.mode)) {
+        Ok(bytes) => answer_bytes(rt, alloc, line, &bytes, gate),
+        Err(Unread::Failed) => Ok(Response::Unread),
+        Err(Unread::Memory) => Err(Memory),
+    }
+}
+
+// Runs a flood.
+fn run_flood<R: Threads + Wait + Sync, G: Gate + Sync>(
+    rt: &R,
+    alloc: Global,
+    line: &CommandLine,
+    key: u16,
+    ranks: u8,
+    messages: u16,
+    gate: &G,
+) -> Result<Response, Memory>
+    requires range { InRange line.now }
+    requires flood { line.now.mode ≡ Flood key ranks messages }
+    ensures { IfOk result (IsAnswerFor line.now ranks (flood_lines key ranks messages)) }
+{
+    let script = flood_script(alloc, key, ranks, messages)?;
+    run_script(rt, alloc, line, &script, gate)
+}
+
+// Does what words that are taken ask for.
+fn answer_line<R: Threads + Wait + Sync, S: Source, G: Gate + Sync>(
+    rt: &R,
+    alloc: Global,
+    line: &CommandLine,
+    source: &mut S,
+    gate: &G,
+) -> Result<Response, Memory>
+    requires { InRange line.now }
+    ensures answer { IfOk result
+        (IsAnswerTo line.now (S.left source.old) (S.faults source.old) (S.faults source.new)) }
+    ensures told { IfOk result CanBeTold }
+    ensures untouched { ¬ (ReadsSource line.now.mode) → source.new ≡ source.old }
+    ensures taken { LosesAtMost (limit_of line.now.mode) (S.left source.old) (S.left source.new) }
+    ensures read { IfOk result (IsRead line.now (S.left source.old) (S.left source.new)
+        (S.faults source.old) (S.faults source.new)) }
+    ensures holds { line.now.mode ≡ Check → IsSomeAnd (S.left source.old) (IsWritten line.now) →
+        IfOk result (λ answer. WasRead answer → answer ≡ Checked (Judged Holds)) }
+{
+    match line.mode {
+        Mode::Flood {
+            key,
+            ranks,
+            messages,
+        } => run_flood(rt, alloc, line, key, ranks, messages, gate),
+        Mode::Multi { threads, rounds } => run_threads(rt, alloc, threads, rounds, gate),
+        _ => answer_source(rt, alloc, line, source, gate),
+    }
+}
+
 /// Finds the answer to the words: runs what they ask for, works out a plain script's report, or
 /// judges a trace.
 pub fn find_answer<R: Threads + Wait + Sync, S: Source, G: Gate + Sync>(
@@ -60,10 +168,10 @@ pub fn find_answer<R: Threads + Wait + Sync, S: Source, G: Gate + Sync>(
     ensures untouched { NotTaken (map string_bytes words.now) → source.new ≡ source.old }
     ensures made { (line : CommandLine) → IsTaken (map string_bytes words.now) line →
         ¬ (ReadsSource line.mode) → source.new ≡ source.old }
-    ensures read { (line : CommandLine) → IsTaken (map string_bytes words.now) line →
-        ReadsSource line.mode → IfOk result (λ answer. WasRead answer →
-        IfSome (S.left source.old)
-        (λ bytes. S.left source.new ≡ Some (drop (limit_of line.mode) bytes))) }
+    ensures taken { (line : CommandLine) → IsTaken (map string_bytes words.now) line →
+        LosesAtMost (limit_of line.mode) (S.left source.old) (S.left source.new) }
+    ensures read { IfOk result (IsReadFor (map string_bytes words.now) (S.left source.old)
+        (S.left source.new) (S.faults source.old) (S.faults source.new)) }
     ensures holds { (line : CommandLine) → IsTaken (map string_bytes words.now) line →
         line.mode ≡ Check → IsSomeAnd (S.left source.old) (IsWritten line) → IfOk result
         (λ answer. WasRead answer → answer ≡ Checked (Judged Holds)) }
@@ -71,20 +179,5 @@ pub fn find_answer<R: Threads + Wait + Sync, S: Source, G: Gate + Sync>(
     let Some(line) = read(words) else {
         return Ok(Response::Usage);
     };
-    match line.mode {
-        Mode::Flood {
-            key,
-            ranks,
-            messages,
-        } => {
-            let script = flood_script(alloc, key, ranks, messages)?;
-            run_script(rt, alloc, &line, &script, gate)
-        }
-        Mode::Multi { threads, rounds } => run_threads(rt, alloc, threads, rounds, gate),
-        Mode::Run => answer_source(rt, alloc, &line, source, gate),
-        Mode::Trace => answer_source(rt, alloc, &line, source, gate),
-        Mode::Plain => answer_source(rt, alloc, &line, source, gate),
-        Mode::Check => answer_trace(alloc, &line, source),
-        Mode::Parts => answer_plan(rt, alloc, &line, source, gate),
-    }
+    answer_line(rt, alloc, &line, source, gate)
 }

@@ -5,7 +5,7 @@
 //!
 //! # What a contract sees
 //! The words as lists of bytes; the bytes that the source tells, of which at most 8,388,609 are
-//! read, with `check` 67,108,865; the bytes that the sink tells; the status, the record of the run,
+//! taken, with `check` 67,108,865, however it ends; the bytes that the sink tells; the status, the record of the run,
 //! what the closed ports kept, and the log of several threads. Statuses 0 to 6 have a clause each
 //! that says what they mean, and 0 to 3 one that says when they come; the words beside `run`,
 //! `trace` and `flood` have a clause each, which tells their cases apart.
@@ -31,6 +31,9 @@
 //!   thread's whole program.
 //! - Status 4 and 5 only where the count of faults of the source or the sink rose, and at 5 the
 //!   sink took a front of the text that was due. At 6 nothing was written.
+//! - No failure is passed over: at other statuses than 4, 5 and 6 the count of the source is as it
+//!   was, and at others than 5 that of the sink; and there the source was read to its end, or to
+//!   the limit.
 //! # What is only tested
 //! That it succeeds with ample memory.
 #![tactic(auto)]
@@ -38,15 +41,15 @@
 ghost use Rattle.std.specs.Prelude.{◌≡◌, ◌≢◌, ℕ, ◌⊎◌, None, List, Some, codes, drop, map};
 ghost use Rattle.std.specs.Prelude.{string_bytes, IfSome, IsSomeAnd};
 ghost use Rattle.nm_types.specs.declared.scripts.Line.{Line};
-ghost use Rattle.nm_outside.specs.Told.{Appends, AppendsPart, Rose};
+ghost use Rattle.nm_outside.specs.Told.{Appends, AppendsPart, LosesAtMost, Rose};
 ghost use Rattle.nm_command_line.specs.CommandLine.{IsTaken};
 ghost use Rattle.nm_command_line.specs.declared.CommandLine.{CommandLine};
 ghost use Rattle.nm_command_line.specs.declared.Mode.TheVariants.{Check, Multi, Parts, Plain};
 ghost use Rattle.nm_sure.specs.PlainText.{plain_done};
 ghost use Rattle.nm_script.specs.Spelled.{SpellsNone};
 ghost use Rattle.nm_cli.specs.declared.answers.Response.{Response};
-ghost use Rattle.nm_cli.specs.Answers.{IsAnswer, NotTaken, end_status, log_of, run_of, text_of};
-ghost use Rattle.nm_cli.specs.Answers.{unread, usage, ways_of};
+ghost use Rattle.nm_cli.specs.Answers.{IsAnswer, IsReadFor, NotTaken, end_status, log_of, run_of};
+ghost use Rattle.nm_cli.specs.Answers.{text_of, unread, usage, ways_of};
 ghost use Rattle.nm_cli.specs.Endings.{IsLogged, IsRefused, IsReported, IsSaid, IsStatus};
 ghost use Rattle.nm_cli.specs.Endings.{IsPlanEnded, IsWorkedOut, OrFails, OrUnwritten};
 ghost use Rattle.nm_cli.specs.Plains.{IsDeterminate, sure_text};
@@ -140,8 +143,9 @@ fn hand_out(status: u8, answer: Response) -> Ended
 // Writes what is due to the sink, and answers the status.
 fn deliver<K: Sink>(sink: &mut K, due: &[u8], answer: &Response) -> u8
     requires { due.now ≡ text_of answer.now }
-    ensures { IsSaid answer.now result (K.taken sink.old) (K.taken sink.new)
+    ensures said { IsSaid answer.now result (K.taken sink.old) (K.taken sink.new)
         (Rose (K.faults sink.old) (K.faults sink.new)) }
+    ensures quiet { (result ≡ 5) ⊎ (K.faults sink.new ≡ K.faults sink.old) }
 {
     match write_all(sink, due) {
         Ok(()) => status(answer),
@@ -195,13 +199,13 @@ pub fn nemesis<R: Threads + Wait + Sync, S: Source, K: Sink, G: Gate + Sync>(
         ⊎ IsReported line (S.left source.old) result.status result.run result.closed
         (K.taken sink.old) (K.taken sink.new) }
 
-    // What is read: a script or a plan is read whole, or to the limit, and for a flood and for
-    // several threads nothing is.
-    ensures read { (result.status ≡ 0) ⊎ ((result.status ≡ 1) ⊎ ((result.status ≡ 3)
-        ⊎ ((result.status ≡ 8) ⊎ (result.status ≡ 9)))) →
-        (line : CommandLine) → IsTaken (map string_bytes words.now) line → ReadsSource line.mode →
-        IfSome (S.left source.old)
-        (λ bytes. S.left source.new ≡ Some (drop (limit_of line.mode) bytes)) }
+    // What is read: a script, a plan or a trace is read whole, or to the limit, no more is taken
+    // however it ends, and for a flood and for several threads nothing is.
+    ensures read { (line : CommandLine) → IsTaken (map string_bytes words.now) line →
+        ReadsSource line.mode → OrFails (IfSome (S.left source.old)
+        (λ bytes. S.left source.new ≡ Some (drop (limit_of line.mode) bytes))) result.status }
+    ensures taken { (line : CommandLine) → IsTaken (map string_bytes words.now) line →
+        LosesAtMost (limit_of line.mode) (S.left source.old) (S.left source.new) }
     ensures untouched { (line : CommandLine) → IsTaken (map string_bytes words.now) line →
         ¬ (ReadsSource line.mode) → source.new ≡ source.old }
 
@@ -245,6 +249,10 @@ pub fn nemesis<R: Threads + Wait + Sync, S: Source, K: Sink, G: Gate + Sync>(
         OrUnwritten ((result.status ≡ 0) × IsLogged threads rounds result.log
         (K.taken sink.old) (K.taken sink.new)) result.status }
 
+    // No failure is passed over.
+    ensures quiet { OrFails (S.faults source.new ≡ S.faults source.old) result.status }
+    ensures quiet_sink { (result.status ≡ 5) ⊎ (K.faults sink.new ≡ K.faults sink.old) }
+
     // The source failed.
     ensures unread { result.status ≡ 4 → Rose (S.faults source.old) (S.faults source.new)
         × Appends (K.taken sink.old) (K.taken sink.new) unread }
@@ -253,6 +261,8 @@ pub fn nemesis<R: Threads + Wait + Sync, S: Source, K: Sink, G: Gate + Sync>(
     ensures unwritten { result.status ≡ 5 → Rose (K.faults sink.old) (K.faults sink.new)
         × (answer : Response) × IsAnswer (map string_bytes words.now)
         (S.left source.old) (S.faults source.old) (S.faults source.new) answer
+        × IsReadFor (map string_bytes words.now) (S.left source.old) (S.left source.new)
+        (S.faults source.old) (S.faults source.new) answer
         × AppendsPart (K.taken sink.old) (K.taken sink.new) (text_of answer)
         × (result.run ≡ run_of answer) × (result.closed ≡ ways_of answer)
         × (result.log ≡ log_of answer) }

@@ -1,17 +1,16 @@
-//! The run of the plan that the source has.
+//! The run of a plan.
 
-ghost use Rattle.std.specs.Prelude.{◌≡◌, Some, drop, IfErr, IfOk, IfSome};
+ghost use Rattle.std.specs.Prelude.{◌≡◌, IfErr, IfOk};
 ghost use Rattle.nm_command_line.specs.CommandLine.{InRange};
 ghost use Rattle.nm_command_line.specs.declared.Mode.TheVariants.{Parts};
 ghost use Rattle.nm_persist.specs.Rules.{IsTextOf};
-ghost use Rattle.nm_cli.specs.Answers.{CanBeTold, IsAnswerForBytes, IsAnswerForPlan, IsAnswerTo};
-ghost use Rattle.nm_cli.specs.Answers.{WasRead};
+ghost use Rattle.nm_cli.specs.Answers.{IsAnswerForBytes, IsAnswerForPlan};
 ghost use Rattle.nm_cli.specs.Plans.{PlanRefuses};
 
 use crate::answers::Response;
-use crate::runs::{MAX_READ, run};
+use crate::runs::run;
 use nm_command_line::CommandLine;
-use nm_outside::{Gate, Source, Unread, read_up_to};
+use nm_outside::Gate;
 use nm_persist::{Plan, PlanFault};
 use nm_types::Memory;
 use std::alloc::Global;
@@ -46,43 +45,21 @@ fn run_plan<R: Threads + Wait + Sync, G: Gate + Sync>(
     Ok(Response::Planned { plan, run, ways })
 }
 
-// Runs the script of the plan that the bytes spell, or has their first fault.
-fn answer_bytes<R: Threads + Wait + Sync, G: Gate + Sync>(
+/// Runs the script of the plan that the bytes spell, or has their first fault.
+pub fn answer_plan<R: Threads + Wait + Sync, G: Gate + Sync>(
     rt: &R,
     alloc: Global,
     line: &CommandLine,
     bytes: &[u8],
     gate: &G,
 ) -> Result<Response, Memory>
-    requires { InRange line.now }
+    requires range { InRange line.now }
+    requires parts { line.now.mode ≡ Parts }
     ensures { IfOk result (IsAnswerForBytes line.now bytes.now) }
 {
     match read_plan(alloc, bytes) {
         Ok(plan) => run_plan(rt, alloc, line, plan, gate),
         Err(PlanFault::Bad { line, kind }) => Ok(Response::NoPlan { line, kind }),
         Err(PlanFault::Memory) => Err(Memory),
-    }
-}
-
-/// Reads a plan, and runs its script.
-pub fn answer_plan<R: Threads + Wait + Sync, S: Source, G: Gate + Sync>(
-    rt: &R,
-    alloc: Global,
-    line: &CommandLine,
-    source: &mut S,
-    gate: &G,
-) -> Result<Response, Memory>
-    requires range { InRange line.now }
-    requires parts { line.now.mode ≡ Parts }
-    ensures answer { IfOk result
-        (IsAnswerTo line.now (S.left source.old) (S.faults source.old) (S.faults source.new)) }
-    ensures told { IfOk result CanBeTold }
-    ensures read { IfOk result (λ answer. WasRead answer →
-        IfSome (S.left source.old) (λ bytes. S.left source.new ≡ Some (drop 8388609 bytes))) }
-{
-    match read_up_to(alloc, source, MAX_READ) {
-        Ok(bytes) => answer_bytes(rt, alloc, line, &bytes, gate),
-        Err(Unread::Failed) => Ok(Response::Unread),
-        Err(Unread::Memory) => Err(Memory),
     }
 }

@@ -1,28 +1,25 @@
 //! The run of a script, and what all its runs report.
 
-ghost use Rattle.std.specs.Prelude.{◌≡◌, Some, drop, IfErr, IfOk, IfSome};
+ghost use Rattle.std.specs.Prelude.{◌≡◌, IfErr, IfOk};
 ghost use Rattle.nm_command_line.specs.CommandLine.{InRange};
 ghost use Rattle.nm_command_line.specs.declared.Mode.TheVariants.{Plain};
 ghost use Rattle.nm_report.specs.Summary.{CountsFit};
 ghost use Rattle.nm_report.specs.Told.{told_of};
 ghost use Rattle.nm_script.specs.Spelled.{IsTextOf};
-ghost use Rattle.nm_cli.specs.Answers.{CanBeTold, IsAnswerFor, IsAnswerTo, Refuses, WasRead};
+ghost use Rattle.nm_cli.specs.Answers.{IsAnswerFor, IsAnswerForBytes, Refuses};
 ghost use Rattle.nm_cli.specs.Scripts.{IsRunOfScript, Reads, Runs};
 
 use crate::answers::Response;
 use nm_command_line::{CommandLine, Mode};
-use nm_outside::{Gate, Source, Unread, read_up_to};
+use nm_outside::Gate;
 use nm_report::RunRecord;
 use nm_script::ScriptFault;
 use nm_sure::{first_free, plain};
-use nm_types::{MAX_TEXT, Memory, Script, Shape};
+use nm_types::{Memory, Script, Shape};
 use nm_world::Ways;
 use std::alloc::Global;
 use std::sync::Wait;
 use std::thread::Threads;
-
-/// The most bytes that are read: one more than a script's text may have.
-pub const MAX_READ: usize = MAX_TEXT as usize + 1;
 
 // The script that the bytes spell, or their first fault.
 fn read_text(alloc: Global, bytes: &[u8]) -> Result<Script, ScriptFault>
@@ -90,7 +87,7 @@ fn work_out(alloc: Global, line: &CommandLine, script: &Script) -> Result<Respon
 }
 
 // Answers the words that ask for something of a script.
-fn answer_script<R: Threads + Wait + Sync, G: Gate + Sync>(
+fn answer_lines<R: Threads + Wait + Sync, G: Gate + Sync>(
     rt: &R,
     alloc: Global,
     line: &CommandLine,
@@ -107,29 +104,20 @@ fn answer_script<R: Threads + Wait + Sync, G: Gate + Sync>(
     }
 }
 
-/// Reads a script, and answers the words.
-pub fn answer_source<R: Threads + Wait + Sync, S: Source, G: Gate + Sync>(
+/// Answers the words by the script that the bytes spell, or has their first fault.
+pub fn answer_script<R: Threads + Wait + Sync, G: Gate + Sync>(
     rt: &R,
     alloc: Global,
     line: &CommandLine,
-    source: &mut S,
+    bytes: &[u8],
     gate: &G,
 ) -> Result<Response, Memory>
     requires range { InRange line.now }
     requires reads { Reads line.now.mode }
-    ensures answer { IfOk result
-        (IsAnswerTo line.now (S.left source.old) (S.faults source.old) (S.faults source.new)) }
-    ensures told { IfOk result CanBeTold }
-    ensures read { IfOk result (λ answer. WasRead answer →
-        IfSome (S.left source.old) (λ bytes. S.left source.new ≡ Some (drop 8388609 bytes))) }
+    ensures { IfOk result (IsAnswerForBytes line.now bytes.now) }
 {
-    let bytes = match read_up_to(alloc, source, MAX_READ) {
-        Ok(bytes) => bytes,
-        Err(Unread::Failed) => return Ok(Response::Unread),
-        Err(Unread::Memory) => return Err(Memory),
-    };
-    match read_text(alloc, &bytes) {
-        Ok(script) => answer_script(rt, alloc, line, &script, gate),
+    match read_text(alloc, bytes) {
+        Ok(script) => answer_lines(rt, alloc, line, &script, gate),
         Err(ScriptFault::Bad { line, kind }) => Ok(Response::Refused { line, kind }),
         Err(ScriptFault::Memory) => Err(Memory),
     }

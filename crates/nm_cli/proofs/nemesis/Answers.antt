@@ -3,9 +3,9 @@ use Rattle.std.proofs.Common.{◌≡◌, ℕ, ◌⊎◌, inl, inr, arith, map, s
 use Rattle.nm_outside.specs.Told.{Rose}
 use Rattle.nm_cli.specs.Endings.{IsSaid}
 use Rattle.nm_cli.proofs.EndLemmas.{Ending, Ends, usage_is, not_taken_is, unread_is, unwritten_is}
-use Rattle.nm_cli.proofs.EndLemmas.{not_memory}
+use Rattle.nm_cli.proofs.EndLemmas.{not_memory, unless_unread}
 use Rattle.nm_cli.proofs.EndLemmas.{no_record_is, status_is}
-use Rattle.nm_cli.proofs.RunEnds.{refused_is, refuses_is, reported_is, reports_is, completes_is, read_is, made_is}
+use Rattle.nm_cli.proofs.RunEnds.{refused_is, refuses_is, reported_is, reports_is, completes_is, made_is}
 use Rattle.nm_cli.proofs.RunEnds.{no_run_is}
 use Rattle.nm_cli.proofs.PlainEnds.{plain_is}
 use Rattle.nm_cli.proofs.CheckEnds.{check_is, holds_is}
@@ -27,6 +27,12 @@ returns-in_default-clause-reports g c line taken runs ranks lines known = inr (i
 pub returns-in_default-clause-completes : goal.returns-in_default-clause-completes
 returns-in_default-clause-completes g c line taken runs ranks lines known read write =
     inl (c.hand_out_nothing.ensures.0)
+
+pub returns-in_default-clause-read : goal.returns-in_default-clause-read
+returns-in_default-clause-read g c line taken reads = inr (inr (inr (c.hand_out_nothing.ensures.0)))
+
+pub returns-in_default-clause-quiet : goal.returns-in_default-clause-quiet
+returns-in_default-clause-quiet g c = inr (inr (inr (c.hand_out_nothing.ensures.0)))
 
 pub returns-in_default-clause-made : goal.returns-in_default-clause-made
 returns-in_default-clause-made g c line taken makes = inr (inr (c.hand_out_nothing.ensures.0))
@@ -57,6 +63,13 @@ returns-in_default-text-clause-reports g c line taken runs ranks lines known =
 pub returns-in_default-text-clause-completes : goal.returns-in_default-text-clause-completes
 returns-in_default-text-clause-completes g c line taken runs ranks lines known read write =
     inl (c.hand_out_nothing-in_default-text.ensures.0)
+
+pub returns-in_default-text-clause-read : goal.returns-in_default-text-clause-read
+returns-in_default-text-clause-read g c line taken reads =
+    inr (inr (inr (c.hand_out_nothing-in_default-text.ensures.0)))
+
+pub returns-in_default-text-clause-quiet : goal.returns-in_default-text-clause-quiet
+returns-in_default-text-clause-quiet g c = inr (inr (inr (c.hand_out_nothing-in_default-text.ensures.0)))
 
 pub returns-in_default-text-clause-made : goal.returns-in_default-text-clause-made
 returns-in_default-text-clause-made g c line taken makes = inr (inr (c.hand_out_nothing-in_default-text.ensures.0))
@@ -108,7 +121,7 @@ known g c =
       said = subst (λ status. IsSaid c.in-Ok.answer status (g.K.Sink.taken c.args.sink.now)
           (g.K.Sink.taken c.deliver-status.new.sink)
           (Rose (g.K.Sink.faults c.args.sink.now) (g.K.Sink.faults c.deliver-status.new.sink)))
-          (sym c.hand_out.ensures.status) c.deliver-status.ensures;
+          (sym c.hand_out.ensures.status) c.deliver-status.ensures.said;
       run_given = c.hand_out.ensures.run;
       ways_given = c.hand_out.ensures.ways;
       log_given = c.hand_out.ensures.log;
@@ -138,8 +151,17 @@ pub returns-clause-completes : goal.returns-clause-completes
 returns-clause-completes g c = completes_is (seen g c) c.in-Ok.answer (known g c)
 
 pub returns-clause-read : goal.returns-clause-read
-returns-clause-read g c h line taken reads =
-    read_is (seen g c) c.in-Ok.answer (known g c) h (c.in-Ok.ensures.read line taken reads)
+returns-clause-read g c line taken reads =
+    unless_unread (seen g c) c.in-Ok.answer (known g c) (λ read. c.in-Ok.ensures.read.whole read line taken reads)
+
+pub returns-clause-quiet : goal.returns-clause-quiet
+returns-clause-quiet g c = unless_unread (seen g c) c.in-Ok.answer (known g c) c.in-Ok.ensures.read.quiet
+
+pub returns-clause-quiet_sink : goal.returns-clause-quiet_sink
+returns-clause-quiet_sink g c =
+    subst (λ status. (status ≡ 5)
+    ⊎ (g.K.Sink.faults c.deliver-status.new.sink ≡ g.K.Sink.faults c.args.sink.now))
+    (sym c.hand_out.ensures.status) c.deliver-status.ensures.quiet
 
 pub returns-clause-made : goal.returns-clause-made
 returns-clause-made g c = made_is (seen g c) c.in-Ok.answer (known g c)
@@ -185,7 +207,7 @@ pub returns-clause-unread : goal.returns-clause-unread
 returns-clause-unread g c = unread_is (seen g c) c.in-Ok.answer (known g c)
 
 pub returns-clause-unwritten : goal.returns-clause-unwritten
-returns-clause-unwritten g c = unwritten_is (seen g c) c.in-Ok.answer (known g c)
+returns-clause-unwritten g c = unwritten_is (seen g c) c.in-Ok.answer (known g c) _ c.in-Ok.ensures.read
 
 pub returns-clause-no_record : goal.returns-clause-no_record
 returns-clause-no_record g c = no_record_is (seen g c) c.in-Ok.answer (known g c)
