@@ -9,10 +9,11 @@ use Rattle.std.proofs.lemmas.Bool.{ltb-true, ltb-false}
 use Rattle.std.proofs.lemmas.List.Sums.{sum_by-cons}
 use Rattle.nm_history.specs.declared.events.Event.{Event}
 use Rattle.nm_history.specs.declared.events.Happened.{Happened}
-use Rattle.nm_history.specs.declared.events.Happened.TheVariants.{Arrive}
+use Rattle.nm_history.specs.declared.events.Happened.TheVariants.{Arrive, Undone, Withdraw}
 use Rattle.nm_history.specs.Matching.{matched_pairs}
 use Rattle.nm_report.specs.declared.accounts.RankAccount.{RankAccount}
 use Rattle.nm_report.specs.declared.records.RunRecord.{RunRecord}
+use Rattle.nm_diagram.specs.declared.anchors.Anchor.{Anchor}
 use Rattle.nm_diagram.specs.declared.anchors.Anchor.TheVariants as anchor
 use Rattle.nm_diagram.specs.declared.arrows.Arrow.{Arrow}
 use Rattle.nm_diagram.specs.declared.frames.Frame.{Frame}
@@ -24,12 +25,16 @@ use Rattle.nm_diagram.specs.Diagrams.{arrows_of, from_lane, lane_of, marks_at, s
 use Rattle.nm_diagram.specs.Frames.{IsFrame, IsSilent, is_shown, latest, latest_of_all, shown_count}
 use Rattle.nm_diagram.specs.Links.{all_links, links_among}
 use Rattle.nm_diagram.specs.declared.signs.Sign.{Sign}
+use Rattle.nm_diagram.specs.declared.returns.Return.{Return}
 use Rattle.nm_diagram.specs.Labels.{labels_at}
+use Rattle.nm_diagram.specs.Left.{Ring, all_rings, are_few, has_left, rings_among, some_left}
 use Rattle.nm_diagram.specs.Legend.{has_sign, is_told, is_used, sheet_text}
 use Rattle.nm_diagram.specs.Pictures.{IsPictureOf, arrow_text, axis_text, front_text, has_room, head_text, label_text}
 use Rattle.nm_diagram.specs.Pictures.{labels_text, lane_text, link_text, mark_text, note_text, picture_text, rows_text}
 use Rattle.nm_diagram.specs.Pictures.{shapes_text}
-use Rattle.nm_diagram.specs.Signs.{all_signs, is_waits}
+use Rattle.nm_diagram.specs.Pictures.{arrows_text, marks_text, return_text, ring_text}
+use Rattle.nm_diagram.specs.Returns.{all_returns, found_by, return_from, return_of, returns_at, returns_of}
+use Rattle.nm_diagram.specs.Signs.{all_signs, is_of_left, is_waits}
 
 -- being alike goes both ways
 alike-sym : (xs ys : List RankAccount) → AreAlike xs ys → AreAlike ys xs
@@ -113,7 +118,7 @@ alike_arrow end rank stamp (Arrive a) xs ys h =
     ap (λ o. arrow_from a.env.from rank stamp a.n a.env.how o) (alike_sent end rank a.n a.env.from xs ys h)
 alike_arrow end rank stamp _ xs ys h = refl
 
-same_map : (f g : Event → List Arrow) → ((e : Event) → f e ≡ g e) →
+same_map : {X : Type 0} (f g : Event → List X) → ((e : Event) → f e ≡ g e) →
     (events : List Event) → flat_map f events ≡ flat_map g events
 same_map f g same [] = refl
 same_map f g same (e ∷ events) = ap (λ l. l ++ flat_map f events) (same e)
@@ -128,6 +133,38 @@ alike_arrows end rank xs ys h first (z ∷ zs) =
     (λ e. ap (λ (l : List Arrow). cond (is_shown end e) l []) (alike_arrow end first e.stamp e.what xs ys h))
     z.history.events)
     ∙ ap (λ l. arrows_of end ys first z ++ l) (alike_arrows end rank xs ys h (first + 1) zs)
+
+-- and so are the ways of withdrawals
+silent_found : (end i : ℕ) (what : Anchor) (ys : List RankAccount) → AllByRecursion IsSilent ys →
+    found_by end what (slice_get ys i) ≡ None
+silent_found end i what [] h = refl
+silent_found end zero what (y ∷ ys) h = ap (λ l. first_stamp end what (take 20000 l)) h.0.0
+silent_found end (suc i) what (y ∷ ys) h = silent_found end i what ys h.1
+
+alike_found : (end i : ℕ) (what : Anchor) (xs ys : List RankAccount) → AreAlike xs ys →
+    found_by end what (slice_get xs i) ≡ found_by end what (slice_get ys i)
+alike_found end i what [] ys h = sym (silent_found end i what ys h)
+alike_found end i what (x ∷ xs) [] h = silent_found end i what (x ∷ xs) h
+alike_found end zero what (x ∷ xs) (y ∷ ys) h = ap (λ l. first_stamp end what (take 20000 l)) h.0
+alike_found end (suc i) what (x ∷ xs) (y ∷ ys) h = alike_found end i what xs ys h.2
+
+alike_return : (end rank stamp : ℕ) (w : Happened) (xs ys : List RankAccount) → AreAlike xs ys →
+    return_of end xs rank stamp w ≡ return_of end ys rank stamp w
+alike_return end rank stamp (Withdraw from n done) xs ys h =
+    ap (λ o. return_from from rank stamp n o) (alike_found end from (anchor.Recall rank n) xs ys h)
+alike_return end rank stamp (Undone to n done) xs ys h =
+    ap (λ o. return_from to rank stamp n o) (alike_found end to (anchor.Withdraw rank n) xs ys h)
+alike_return end rank stamp _ xs ys h = refl
+
+alike_returns : (end : ℕ) (xs ys : List RankAccount) → AreAlike xs ys → (first : ℕ) (zs : List RankAccount) →
+    from_lane (returns_of end xs) first zs ≡ from_lane (returns_of end ys) first zs
+alike_returns end xs ys h first [] = refl
+alike_returns end xs ys h first (z ∷ zs) =
+    ap (λ l. l ++ from_lane (returns_of end xs) (first + 1) zs)
+    (same_map (returns_at end xs first) (returns_at end ys first)
+    (λ e. ap (λ (l : List Return). cond (is_shown end e) l []) (alike_return end first e.stamp e.what xs ys h))
+    z.history.events)
+    ∙ ap (λ l. returns_of end ys first z ++ l) (alike_returns end xs ys h (first + 1) zs)
 
 -- the lanes of the first ones, where both are as many
 alike_lanes : (k rank : ℕ) (xs ys : List RankAccount) → k ≤ length xs → k ≤ length ys → AreAlike xs ys →
@@ -215,16 +252,28 @@ never_both true = refl
 never_both false = refl
 
 alike_used : (end : ℕ) (s : Sign) (xs ys : List RankAccount) → AreAlike xs ys → is_used end xs s ≡ is_used end ys s
-alike_used end s xs ys h = alike_any (has_sign end s) none same xs ys h where
-  by : List Event → Option ℕ → Bool
-  by events waits = is_waits s && is_some waits || list_any (is_told end s) events
+alike_used end s xs ys h =
+    ap (λ b. is_of_left s && b || list_any (has_sign end s) xs) (alike_any (has_left end) no_left same_left xs ys h)
+    ∙ ap (λ b. is_of_left s && list_any (has_left end) ys || b) (alike_any (has_sign end s) none same xs ys h) where
+      left : List Event → Bool
+      left events = cond (are_few events) (some_left end events) false
 
-  none : (x : RankAccount) → IsSilent x → has_sign end s x ≡ false
-  none x h = ap (λ l. by l x.waits) h.0 ∙ ap (λ w. by [] w) h.1 ∙ never_both (is_waits s)
+      no_left : (x : RankAccount) → IsSilent x → has_left end x ≡ false
+      no_left x h = ap left h.0
 
-  same : (x y : RankAccount) → x.history.events ≡ y.history.events → x.waits ≡ y.waits →
-      has_sign end s x ≡ has_sign end s y
-  same x y events waits = ap (λ l. by l x.waits) events ∙ ap (λ w. by y.history.events w) waits
+      same_left : (x y : RankAccount) → x.history.events ≡ y.history.events → x.waits ≡ y.waits →
+          has_left end x ≡ has_left end y
+      same_left x y events waits = ap left events
+
+      by : List Event → Option ℕ → Bool
+      by events waits = is_waits s && is_some waits || list_any (is_told end s) events
+
+      none : (x : RankAccount) → IsSilent x → has_sign end s x ≡ false
+      none x h = ap (λ l. by l x.waits) h.0 ∙ ap (λ w. by [] w) h.1 ∙ never_both (is_waits s)
+
+      same : (x y : RankAccount) → x.history.events ≡ y.history.events → x.waits ≡ y.waits →
+          has_sign end s x ≡ has_sign end s y
+      same x y events waits = ap (λ l. by l x.waits) events ∙ ap (λ w. by y.history.events w) waits
 
 same_filter : (f g : Sign → Bool) → ((s : Sign) → f s ≡ g s) → (signs : List Sign) → filter f signs ≡ filter g signs
 same_filter f g same [] = refl
@@ -246,27 +295,42 @@ labels-alike xs ys frame h =
 
 shapes-alike : (xs ys : List RankAccount) (frame : Frame) → frame.lanes ≤ length xs → frame.lanes ≤ length ys →
     AreAlike xs ys → shapes_text frame xs ≡ shapes_text frame ys
-unfolding shapes_text
+unfolding arrows_text marks_text shapes_text
 shapes-alike xs ys frame m n h =
     let end = frame.end in
-    ap (λ l. all l (all_links end xs) (all_marks end xs) (all_arrows end xs) (labels_text frame xs))
-    (alike_lanes frame.lanes 0 xs ys m n h)
-    ∙ ap (λ l. all lanes l (all_marks end xs) (all_arrows end xs) (labels_text frame xs))
+    ap (λ l. all l (all_links end xs) (all_marks end xs) (all_rings end xs) (all_arrows end xs) (all_returns end xs)
+    (labels_text frame xs)) (alike_lanes frame.lanes 0 xs ys m n h)
+    ∙ ap (λ l. all lanes l (all_marks end xs) (all_rings end xs) (all_arrows end xs) (all_returns end xs)
+    (labels_text frame xs))
     (alike_have (λ rank events. links_among end rank (take 4096 events)) (links_none end) 0 xs ys h)
-    ∙ ap (λ l. all lanes (all_links end ys) l (all_arrows end xs) (labels_text frame xs))
+    ∙ ap (λ l. all lanes (all_links end ys) l (all_rings end xs) (all_arrows end xs) (all_returns end xs)
+    (labels_text frame xs))
     (alike_have (λ rank events. flat_map (marks_at end rank) events) (λ rank. refl) 0 xs ys h)
-    ∙ ap (λ l. all lanes (all_links end ys) (all_marks end ys) l (labels_text frame xs))
+    ∙ ap (λ l. all lanes (all_links end ys) (all_marks end ys) l (all_arrows end xs) (all_returns end xs)
+    (labels_text frame xs))
+    (alike_have (λ rank events. rings rank events) (λ rank. refl) 0 xs ys h)
+    ∙ ap (λ l. all lanes (all_links end ys) (all_marks end ys) (all_rings end ys) l (all_returns end xs)
+    (labels_text frame xs))
     (alike_arrows end 0 xs ys h 0 xs
     ∙ alike_have (λ rank events. flat_map (arrows_at end ys rank) events) (λ rank. refl) 0 xs ys h)
-    ∙ ap (λ l. all lanes (all_links end ys) (all_marks end ys) (all_arrows end ys) l) (labels-alike xs ys frame h)
+    ∙ ap (λ l. all lanes (all_links end ys) (all_marks end ys) (all_rings end ys) (all_arrows end ys) l
+    (labels_text frame xs))
+    (alike_returns end xs ys h 0 xs
+    ∙ alike_have (λ rank events. flat_map (returns_at end ys rank) events) (λ rank. refl) 0 xs ys h)
+    ∙ ap (λ l. all lanes (all_links end ys) (all_marks end ys) (all_rings end ys) (all_arrows end ys)
+    (all_returns end ys) l) (labels-alike xs ys frame h)
   where
     lanes : List Lane
     lanes = all_lanes (take frame.lanes ys)
 
-    all : List Lane → List Link → List Mark → List Arrow → List ℕ → List ℕ
-    all lanes links marks arrows labels =
-        flat_map (lane_text frame) lanes ++ (flat_map (link_text frame) links
-        ++ (flat_map (mark_text frame) marks ++ (flat_map (arrow_text frame) arrows ++ labels)))
+    rings : ℕ → List Event → List Ring
+    rings rank events = cond (are_few events) (rings_among frame.end rank events) []
+
+    all : List Lane → List Link → List Mark → List Ring → List Arrow → List Return → List ℕ → List ℕ
+    all lanes links marks rings arrows ways labels =
+        (flat_map (lane_text frame) lanes ++ (flat_map (link_text frame) links
+        ++ (flat_map (mark_text frame) marks ++ flat_map (ring_text frame) rings)))
+        ++ (flat_map (arrow_text frame) arrows ++ (flat_map (return_text frame) ways ++ labels))
 
 picture-alike : (xs ys : List RankAccount) (frame : Frame) → frame.lanes ≤ length xs → frame.lanes ≤ length ys →
     AreAlike xs ys → picture_text frame xs ≡ picture_text frame ys

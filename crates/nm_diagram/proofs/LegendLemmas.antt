@@ -23,11 +23,15 @@ use Rattle.nm_diagram.specs.declared.links.Link.{Link}
 use Rattle.nm_diagram.specs.Anchors.{first_stamp, is_anchor}
 use Rattle.nm_diagram.specs.Diagrams.{all_arrows, all_marks, arrow_from, arrow_of, arrows_at, from_lane, mark_of}
 use Rattle.nm_diagram.specs.Diagrams.{marks_at, sent_by, sign_of}
+use Rattle.nm_diagram.specs.declared.returns.Return.{Return}
+use Rattle.nm_diagram.specs.Left.{Ring, all_rings, are_few, has_left, is_left_at, ring_of, rings_among, rings_at}
+use Rattle.nm_diagram.specs.Left.{rings_of, some_left}
 use Rattle.nm_diagram.specs.Links.{all_links, link_from, link_of, links_of}
+use Rattle.nm_diagram.specs.Returns.{all_returns, found_by, return_from, return_of, returns_at}
 use Rattle.nm_diagram.specs.Frames.{is_shown}
 use Rattle.nm_diagram.specs.Legend.{all_stand, are_drawn, covers, has_sign, is_told, is_used, legend_of, none_stands}
 use Rattle.nm_diagram.specs.Legend.{sheet_text, strokes}
-use Rattle.nm_diagram.specs.Signs.{all_signs, is_ask, is_eager, is_waits, tells, way_of}
+use Rattle.nm_diagram.specs.Signs.{all_signs, is_ask, is_eager, is_of_left, is_waits, tells, way_of}
 use Rattle.nm_diagram.proofs.ArrowLemmas.{found_at, here, there}
 use Rattle.nm_facts.proofs.Lists.{all_append as both}
 
@@ -89,7 +93,9 @@ sign-listed sign.Ran = (12, omega arith, refl)
 sign-listed sign.Waits = (13, omega arith, refl)
 sign-listed sign.EagerWay = (14, omega arith, refl)
 sign-listed sign.AskWay = (15, omega arith, refl)
-sign-listed sign.Taken = (16, omega arith, refl)
+sign-listed sign.BackWay = (16, omega arith, refl)
+sign-listed sign.Taken = (17, omega arith, refl)
+sign-listed sign.Left = (18, omega arith, refl)
 
 -- an event is told by its own sign
 own_sign : (w : Happened) → tells (sign_of w) w ≡ true
@@ -116,7 +122,9 @@ told-explained end ranks s account e among within shown told =
     ap (λ b. b && tells s e.what) shown ∙ told in
     let of_rank = or_right (is_waits s && is_some account.waits) (list_any (is_told end s) account.history.events)
     (any_passes (is_told end s) account.history.events e within both_pass) in
-    kept (is_used end ranks) all_signs s (sign-listed s) (any_passes (has_sign end s) ranks account among of_rank)
+    kept (is_used end ranks) all_signs s (sign-listed s)
+    (or_right (is_of_left s && list_any (has_left end) ranks) (list_any (has_sign end s) ranks)
+    (any_passes (has_sign end s) ranks account among of_rank))
 
 pub sign-explained : (end : ℕ) (ranks : List RankAccount) (account : RankAccount) (e : Event) →
     Contains ranks account → Contains account.history.events e → is_shown end e ≡ true →
@@ -134,7 +142,8 @@ waits-explained end ranks account among waits =
     let of_rank = or_left (is_some account.waits) (list_any (is_told end sign.Waits) account.history.events)
     (some_waits account.waits waits) in
     kept (is_used end ranks) all_signs sign.Waits (sign-listed sign.Waits)
-    (any_passes (has_sign end sign.Waits) ranks account among of_rank)
+    (or_right (is_of_left sign.Waits && list_any (has_left end) ranks) (list_any (has_sign end sign.Waits) ranks)
+    (any_passes (has_sign end sign.Waits) ranks account among of_rank))
 
 -- what holds of all that each event has, holds of all that some ranks have
 of_events : {X : Type 0} (P : X → Type 0) (has : Event → List X) (account : RankAccount) (events : List Event) →
@@ -206,6 +215,91 @@ pub arrows-explained : (end : ℕ) (ranks : List RankAccount) →
 arrows-explained end ranks =
     of_ranks (HasWay end ranks) (arrows_at end ranks) 0 ranks ranks
     (λ rank account e among within. one_arrow end rank ranks account e among within (is_shown end e) refl) (λ x c. c)
+
+-- the ways of withdrawals
+abbrev HasBack : ℕ → List RankAccount → Return → Type 0
+HasBack end ranks way = Contains (legend_of end ranks) sign.BackWay
+
+back_of_way : (end from rank stamp n : ℕ) (ranks : List RankAccount) (left : Option ℕ) →
+    Contains (legend_of end ranks) sign.BackWay →
+    AllByRecursion (HasBack end ranks) (return_from from rank stamp n left)
+back_of_way end from rank stamp n ranks None way = tt
+back_of_way end from rank stamp n ranks (Some s) way = (way, tt)
+
+return_by_what : (end rank : ℕ) (ranks : List RankAccount) (account : RankAccount) (e : Event) (w : Happened) →
+    e.what ≡ w → Contains ranks account → Contains account.history.events e → is_shown end e ≡ true →
+    AllByRecursion (HasBack end ranks) (return_of end ranks rank e.stamp w)
+return_by_what end rank ranks account e (Withdraw from n done) is among within shown =
+    back_of_way end from rank e.stamp n ranks (found_by end (anchor.Recall rank n) (slice_get ranks from))
+    (told-explained end ranks sign.BackWay account e among within shown (ap (λ w. tells sign.BackWay w) is))
+return_by_what end rank ranks account e (Undone to n done) is among within shown =
+    back_of_way end to rank e.stamp n ranks (found_by end (anchor.Withdraw rank n) (slice_get ranks to))
+    (told-explained end ranks sign.BackWay account e among within shown (ap (λ w. tells sign.BackWay w) is))
+return_by_what end rank ranks account e _ is among within shown = tt
+
+one_return : (end rank : ℕ) (ranks : List RankAccount) (account : RankAccount) (e : Event) → Contains ranks account →
+    Contains account.history.events e → (b : Bool) → is_shown end e ≡ b →
+    AllByRecursion (HasBack end ranks) (cond b (return_of end ranks rank e.stamp e.what) [])
+one_return end rank ranks account e among within true shown =
+    return_by_what end rank ranks account e e.what refl among within shown
+one_return end rank ranks account e among within false shown = tt
+
+pub returns-explained : (end : ℕ) (ranks : List RankAccount) →
+    AllByRecursion (λ way. Contains (legend_of end ranks) sign.BackWay) (all_returns end ranks)
+returns-explained end ranks =
+    of_ranks (HasBack end ranks) (returns_at end ranks) 0 ranks ranks
+    (λ rank account e among within. one_return end rank ranks account e among within (is_shown end e) refl) (λ x c. c)
+
+-- rings
+abbrev HasRing : ℕ → List RankAccount → Ring → Type 0
+HasRing end ranks ring = Contains (legend_of end ranks) sign.Left
+
+left_explained : (end : ℕ) (ranks : List RankAccount) (account : RankAccount) → Contains ranks account →
+    has_left end account ≡ true → Contains (legend_of end ranks) sign.Left
+left_explained end ranks account among left =
+    kept (is_used end ranks) all_signs sign.Left (sign-listed sign.Left)
+    (or_left (list_any (has_left end) ranks) (list_any (has_sign end sign.Left) ranks)
+    (any_passes (has_left end) ranks account among left))
+
+rings_by : (end rank stamp : ℕ) (ranks : List RankAccount) (w : Happened) → Contains (legend_of end ranks) sign.Left →
+    AllByRecursion (HasRing end ranks) (ring_of rank stamp w)
+rings_by end rank stamp ranks (Arrive a) left = (left, tt)
+rings_by end rank stamp ranks _ left = tt
+
+one_ring : (end rank : ℕ) (ranks : List RankAccount) (account : RankAccount) (e : Event) → Contains ranks account →
+    are_few account.history.events ≡ true → Contains account.history.events e → (b : Bool) →
+    is_left_at end account.history.events (matched_pairs account.history.events) e ≡ b →
+    AllByRecursion (HasRing end ranks) (cond b (ring_of rank e.stamp e.what) [])
+one_ring end rank ranks account e among few within false left = tt
+one_ring end rank ranks account e among few within true left =
+    let events = account.history.events in
+    let test : Event → Bool = is_left_at end events (matched_pairs events) in
+    rings_by end rank e.stamp ranks e.what (left_explained end ranks account among
+    (ap (λ b. cond b (some_left end events) false) few ∙ any_passes test events e within left))
+
+few_rings : (end rank : ℕ) (ranks : List RankAccount) (account : RankAccount) → Contains ranks account → (b : Bool) →
+    are_few account.history.events ≡ b →
+    AllByRecursion (HasRing end ranks) (cond b (rings_among end rank account.history.events) [])
+few_rings end rank ranks account among false few = tt
+few_rings end rank ranks account among true few =
+    let events = account.history.events in
+    of_events (HasRing end ranks) (rings_at end rank events (matched_pairs events)) account events
+    (λ e within. one_ring end rank ranks account e among few within
+    (is_left_at end events (matched_pairs events) e) refl)
+    (λ e c. c)
+
+rings_of_ranks : (end rank : ℕ) (ranks accounts : List RankAccount) →
+    ((x : RankAccount) → Contains accounts x → Contains ranks x) →
+    AllByRecursion (HasRing end ranks) (from_lane (rings_of end) rank accounts)
+rings_of_ranks end rank ranks [] into = tt
+rings_of_ranks end rank ranks (account ∷ accounts) into =
+    both (HasRing end ranks) (rings_of end rank account) (from_lane (rings_of end) (rank + 1) accounts)
+    (few_rings end rank ranks account (into account (here account accounts)) (are_few account.history.events) refl)
+    (rings_of_ranks end (rank + 1) ranks accounts (λ x c. into x (there account x accounts c)))
+
+pub rings-explained : (end : ℕ) (ranks : List RankAccount) →
+    AllByRecursion (λ ring. Contains (legend_of end ranks) sign.Left) (all_rings end ranks)
+rings-explained end ranks = rings_of_ranks end 0 ranks ranks (λ x c. c)
 
 -- links
 abbrev IsTold : ℕ → List RankAccount → Link → Type 0

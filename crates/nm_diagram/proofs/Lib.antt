@@ -3,6 +3,7 @@ mod CountLemmas
 mod EscapeLemmas
 mod FrameLemmas
 mod LegendLemmas
+mod ReturnLemmas
 mod RunLemmas
 mod ShapeLemmas
 mod StampLemmas

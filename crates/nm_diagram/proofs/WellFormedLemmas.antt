@@ -18,7 +18,10 @@ use Rattle.nm_diagram.specs.Diagrams.{Lane, Mark, all_arrows, all_lanes, all_mar
 use Rattle.nm_diagram.specs.declared.signs.Sign.{Sign}
 use Rattle.nm_diagram.specs.declared.signs.Sign.TheVariants as sign
 use Rattle.nm_diagram.specs.Labels.{Label, all_labels}
+use Rattle.nm_diagram.specs.declared.returns.Return.{Return}
+use Rattle.nm_diagram.specs.Left.{Ring, all_rings}
 use Rattle.nm_diagram.specs.Legend.{legend_of, sheet_text}
+use Rattle.nm_diagram.specs.Returns.{all_returns}
 use Rattle.nm_diagram.specs.Signs.{name_of, words_of}
 use Rattle.nm_diagram.specs.Links.{all_links}
 use Rattle.nm_diagram.specs.Markup.{escaped, escaped_byte, is_printable}
@@ -28,6 +31,8 @@ use Rattle.nm_diagram.specs.Pictures.{line_text, link_text, link_title, mark_tex
 use Rattle.nm_diagram.specs.Pictures.{picture_text, process_line, rank_label, row_sign, row_text, row_words, rows_text}
 use Rattle.nm_diagram.specs.Pictures.{shaft_text}
 use Rattle.nm_diagram.specs.Pictures.{shapes_text, short, sign_text, size_text, stamp_y, tag_text, tick_count, tick_text}
+use Rattle.nm_diagram.specs.Pictures.{arrows_text, marks_text, return_shaft, return_text, return_title, ring_tag}
+use Rattle.nm_diagram.specs.Pictures.{ring_text, ring_title}
 use Rattle.nm_diagram.specs.Pictures.{title_text, wait_label, wait_sign, wait_text, width_of, words_width}
 use Rattle.nm_diagram.specs.WellFormed.{IsWellFormed, Place, is_text, read, step}
 use Rattle.nm_diagram.specs.WellFormed.Place.{Before, Between, Broken, Quoted, Opened, Reference, Value}
@@ -131,7 +136,9 @@ value-sign tags sign.Ran ys = refl
 value-sign tags sign.Waits ys = refl
 value-sign tags sign.EagerWay ys = refl
 value-sign tags sign.AskWay ys = refl
+value-sign tags sign.BackWay ys = refl
 value-sign tags sign.Taken ys = refl
+value-sign tags sign.Left ys = refl
 
 text-sign : (name : List ℕ) (tags : List (List ℕ)) (sign : Sign) (ys : List ℕ) →
     read (Between (name ∷ tags)) (words_of sign ++ ys) ≡ read (Between (name ∷ tags)) ys
@@ -151,7 +158,9 @@ text-sign name tags sign.Ran ys = refl
 text-sign name tags sign.Waits ys = refl
 text-sign name tags sign.EagerWay ys = refl
 text-sign name tags sign.AskWay ys = refl
+text-sign name tags sign.BackWay ys = refl
 text-sign name tags sign.Taken ys = refl
+text-sign name tags sign.Left ys = refl
 
 value-how : (tags : List (List ℕ)) (how : How) (ys : List ℕ) →
     read (Value tags) (how_word how ++ ys) ≡ read (Value tags) ys
@@ -243,6 +252,51 @@ mark-read frame mark =
     ∙ behind (Between in_use) (Between in_use) (title_text mark.title) (codes "</use>\n")
     (title-read (codes "use") svg mark.title)
 
+-- rings
+ring_tag-read : (frame : Frame) (ring : Ring) → read (Between svg) (ring_tag frame ring) ≡ Between in_use
+unfolding ring_tag
+ring_tag-read frame ring =
+    let last : List ℕ = codes "\" y=\"" ++ (decimal (stamp_y ring.stamp) ++ codes "\">") in
+    value-number in_use (lane_x frame ring.lane) last
+    ∙ value-number in_use (stamp_y ring.stamp) (codes "\">")
+
+ring_title-read : (n from : ℕ) → read (Between in_use) (ring_title n from) ≡ Between in_use
+unfolding ring_title
+ring_title-read n from =
+    text-number (codes "title") in_use n (codes " from " ++ (decimal from ++ codes "</title>"))
+    ∙ text-number (codes "title") in_use from (codes "</title>")
+
+ring-read : (frame : Frame) (ring : Ring) → Keeps (ring_text frame ring)
+unfolding ring_text
+ring-read frame ring =
+    behind (Between svg) (Between in_use) (ring_tag frame ring) (ring_title ring.n ring.from ++ codes "</use>\n")
+    (ring_tag-read frame ring)
+    ∙ behind (Between in_use) (Between in_use) (ring_title ring.n ring.from) (codes "</use>\n")
+    (ring_title-read ring.n ring.from)
+
+-- the ways of withdrawals
+return_shaft-read : (frame : Frame) (way : Return) → read (Between svg) (return_shaft frame way) ≡ Between in_line
+unfolding return_shaft
+return_shaft-read frame way =
+    let fourth : List ℕ = codes "\" y2=\"" ++ (decimal (stamp_y way.came) ++ codes "\">") in
+    let third : List ℕ = codes "\" x2=\"" ++ (decimal (lane_x frame way.to) ++ fourth) in
+    let second : List ℕ = codes "\" y1=\"" ++ (decimal (stamp_y way.left) ++ third) in
+    value-number in_line (lane_x frame way.from) second
+    ∙ value-number in_line (stamp_y way.left) third
+    ∙ value-number in_line (lane_x frame way.to) fourth
+    ∙ value-number in_line (stamp_y way.came) (codes "\">")
+
+return_title-read : (n : ℕ) → read (Between in_line) (return_title n) ≡ Between in_line
+unfolding return_title
+return_title-read n = text-number (codes "title") in_line n (codes "</title>")
+
+return-read : (frame : Frame) (way : Return) → Keeps (return_text frame way)
+unfolding return_text
+return-read frame way =
+    behind (Between svg) (Between in_line) (return_shaft frame way) (return_title way.n ++ codes "</line>\n")
+    (return_shaft-read frame way)
+    ∙ behind (Between in_line) (Between in_line) (return_title way.n) (codes "</line>\n") (return_title-read way.n)
+
 -- arrows
 shaft-read : (frame : Frame) (a : Arrow) → read (Between svg) (shaft_text frame a) ≡ Between in_line
 unfolding shaft_text
@@ -273,7 +327,8 @@ arrow_title-read a =
 arrow-read : (frame : Frame) (a : Arrow) → Keeps (arrow_text frame a)
 unfolding arrow_text
 arrow-read frame a =
-    behind (Between svg) (Between in_line) (shaft_text frame a) (arrow_title a ++ codes "</line>\n") (shaft-read frame a)
+    behind (Between svg) (Between in_line) (shaft_text frame a) (arrow_title a ++ codes "</line>\n")
+    (shaft-read frame a)
     ∙ behind (Between in_line) (Between in_line) (arrow_title a) (codes "</line>\n") (arrow_title-read a)
 
 -- links
@@ -492,21 +547,34 @@ front-read frame ranks =
     (keeps-append (note_text frame.left_out) (rows ++ axis_text frame) (note-read frame.left_out)
     (keeps-append rows (axis_text frame) (rows-read 0 (legend_of frame.end ranks)) (axis-read frame)))
 
-shapes-read : (frame : Frame) (ranks : List RankAccount) → Keeps (shapes_text frame ranks)
-unfolding shapes_text
-shapes-read frame ranks =
+marks_text-read : (frame : Frame) (ranks : List RankAccount) → Keeps (marks_text frame ranks)
+unfolding marks_text
+marks_text-read frame ranks =
     let lanes : List ℕ = flat_map (lane_text frame) (all_lanes (take frame.lanes ranks)) in
     let links : List ℕ = flat_map (link_text frame) (all_links frame.end ranks) in
     let marks : List ℕ = flat_map (mark_text frame) (all_marks frame.end ranks) in
-    let arrows : List ℕ = flat_map (arrow_text frame) (all_arrows frame.end ranks) in
-    let labels : List ℕ = labels_text frame ranks in
-    keeps-append lanes (links ++ (marks ++ (arrows ++ labels)))
+    let rings : List ℕ = flat_map (ring_text frame) (all_rings frame.end ranks) in
+    keeps-append lanes (links ++ (marks ++ rings))
     (keeps-map (lane_text frame) (lane-read frame) (all_lanes (take frame.lanes ranks)))
-    (keeps-append links (marks ++ (arrows ++ labels))
-    (keeps-map (link_text frame) (link-read frame) (all_links frame.end ranks))
-    (keeps-append marks (arrows ++ labels) (keeps-map (mark_text frame) (mark-read frame) (all_marks frame.end ranks))
-    (keeps-append arrows labels (keeps-map (arrow_text frame) (arrow-read frame) (all_arrows frame.end ranks))
-    (labels-read frame ranks))))
+    (keeps-append links (marks ++ rings) (keeps-map (link_text frame) (link-read frame) (all_links frame.end ranks))
+    (keeps-append marks rings (keeps-map (mark_text frame) (mark-read frame) (all_marks frame.end ranks))
+    (keeps-map (ring_text frame) (ring-read frame) (all_rings frame.end ranks))))
+
+arrows_text-read : (frame : Frame) (ranks : List RankAccount) → Keeps (arrows_text frame ranks)
+unfolding arrows_text
+arrows_text-read frame ranks =
+    let arrows : List ℕ = flat_map (arrow_text frame) (all_arrows frame.end ranks) in
+    let ways : List ℕ = flat_map (return_text frame) (all_returns frame.end ranks) in
+    keeps-append arrows (ways ++ labels_text frame ranks)
+    (keeps-map (arrow_text frame) (arrow-read frame) (all_arrows frame.end ranks))
+    (keeps-append ways (labels_text frame ranks)
+    (keeps-map (return_text frame) (return-read frame) (all_returns frame.end ranks)) (labels-read frame ranks))
+
+shapes-read : (frame : Frame) (ranks : List RankAccount) → Keeps (shapes_text frame ranks)
+unfolding shapes_text
+shapes-read frame ranks =
+    keeps-append (marks_text frame ranks) (arrows_text frame ranks) (marks_text-read frame ranks)
+    (arrows_text-read frame ranks)
 
 pub picture-well_formed : (frame : Frame) (ranks : List RankAccount) → IsWellFormed (picture_text frame ranks)
 unfolding picture_text

@@ -5,16 +5,19 @@ use Rattle.nm_history.specs.declared.events.Event.{Event}
 use Rattle.nm_history.specs.declared.events.Happened.{Happened}
 use Rattle.nm_history.specs.declared.events.Happened.TheVariants as what
 use Rattle.nm_diagram.specs.declared.anchors.Anchor.{Anchor}
-use Rattle.nm_diagram.specs.declared.anchors.Anchor.TheVariants.{Send, Arrival, Receive}
+use Rattle.nm_diagram.specs.declared.anchors.Anchor.TheVariants.{Send, Arrival, Receive, Recall, Withdraw, Undone}
 use Rattle.nm_diagram.specs.Frames.{is_shown}
 
 -- an event is an anchor: the send of a message to a rank, the arrival of one from a rank, or a receive,
--- posted or of a claimed message
+-- posted or of a claimed message; or the asking for a withdrawal, the withdrawal, or the answer to it
 abbrev pub is_anchor : Anchor → Happened → Bool
 is_anchor (Send rank number) (what.Send to n tag ctx len how line) = (to == rank) && (n == number)
 is_anchor (Arrival rank number) (what.Arrive a) = (a.env.from == rank) && (a.n == number)
 is_anchor (Receive number) (what.Post post line) = post.number == number
 is_anchor (Receive number) (what.Match m from n cap line) = m == number
+is_anchor (Recall rank number) (what.Recall to n) = (to == rank) && (n == number)
+is_anchor (Withdraw rank number) (what.Withdraw from n done) = (from == rank) && (n == number)
+is_anchor (Undone rank number) (what.Undone to n done) = (to == rank) && (n == number)
 is_anchor _ _ = false
 
 -- the stamp of the first event that is shown and is this anchor

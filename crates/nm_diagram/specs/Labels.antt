@@ -33,10 +33,11 @@ answer_label Done = codes "done"
 answer_label Late = codes "late"
 answer_label Asked = codes "asked"
 
--- a message by its number and the rank that it came from, or goes to
+-- a message by its number and the rank that it came from
 abbrev pub of_rank : ℕ → ℕ → List ℕ
 of_rank n from = codes "m" ++ (decimal n ++ (codes " of " ++ decimal from))
 
+-- and by the rank that it goes to
 abbrev pub to_rank : ℕ → ℕ → List ℕ
 to_rank n to = codes "m" ++ (decimal n ++ (codes " to " ++ decimal to))
 

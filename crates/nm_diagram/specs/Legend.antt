@@ -7,7 +7,8 @@ use Rattle.nm_report.specs.declared.accounts.RankAccount.{RankAccount}
 use Rattle.nm_diagram.specs.declared.signs.Sign.{Sign}
 use Rattle.nm_diagram.specs.declared.sheet.TheConstants.{SHEET}
 use Rattle.nm_diagram.specs.Frames.{is_shown}
-use Rattle.nm_diagram.specs.Signs.{all_signs, is_waits, name_of, tells}
+use Rattle.nm_diagram.specs.Left.{has_left}
+use Rattle.nm_diagram.specs.Signs.{all_signs, is_of_left, is_waits, name_of, tells}
 
 -- what stands in each picture
 unfoldable pub sheet_text : List ℕ
@@ -24,7 +25,8 @@ has_sign end sign account =
 
 -- a sign stands in the picture of these ranks
 abbrev pub is_used : ℕ → List RankAccount → Sign → Bool
-is_used end ranks sign = list_any (has_sign end sign) ranks
+is_used end ranks sign =
+    is_of_left sign && list_any (has_left end) ranks || list_any (has_sign end sign) ranks
 
 -- the legend of these ranks: the signs that stand in their picture
 abbrev pub legend_of : ℕ → List RankAccount → List Sign
@@ -56,7 +58,9 @@ strokes =
     codes "\n.eager, .ask { fill: none; stroke-width: 1.4; }\n"
     ∷ codes "\n.link { fill: none; stroke: #009e73; stroke-width: 1.4; }\n"
     ∷ codes "\n.eager { stroke: #0072b2; marker-end: url(#eager-head); }\n"
-    ∷ codes "\n.ask { stroke: #c77f00; stroke-dasharray: 6 3; marker-end: url(#ask-head); }\n" ∷ []
+    ∷ codes "\n.ask { stroke: #c77f00; stroke-dasharray: 6 3; marker-end: url(#ask-head); }\n"
+    ∷ codes "\n.back { fill: none; stroke: #b0568a; stroke-width: 1; stroke-dasharray: 2 3; marker-end: url(#back-head); }\n"
+    ∷ []
 
 -- what could hide a shape
 abbrev pub covers : List (List ℕ)

@@ -4,9 +4,11 @@ pub mod Diagrams
 pub mod Frames
 pub mod Joined
 pub mod Labels
+pub mod Left
 pub mod Legend
 pub mod Links
 pub mod Markup
 pub mod Pictures
+pub mod Returns
 pub mod Signs
 pub mod WellFormed

@@ -10,8 +10,11 @@ use Rattle.nm_diagram.specs.declared.arrows.Arrow.{Arrow}
 use Rattle.nm_diagram.specs.Diagrams.{Mark, Lane, all_marks, all_arrows, all_lanes}
 use Rattle.nm_diagram.specs.declared.links.Link.{Link}
 use Rattle.nm_diagram.specs.Labels.{Label, all_labels}
+use Rattle.nm_diagram.specs.Left.{Ring, all_rings}
 use Rattle.nm_diagram.specs.Legend.{legend_of, sheet_text}
 use Rattle.nm_diagram.specs.Links.{all_links}
+use Rattle.nm_diagram.specs.declared.returns.Return.{Return}
+use Rattle.nm_diagram.specs.Returns.{all_returns}
 use Rattle.nm_diagram.specs.declared.signs.Sign.{Sign}
 use Rattle.nm_diagram.specs.Signs.{name_of, words_of}
 use Rattle.nm_diagram.specs.Frames.{IsFrame}
@@ -118,6 +121,40 @@ link_title link =
 -- a link with its title
 unfoldable pub link_text : Frame → Link → List ℕ
 link_text frame link = bow_text frame link ++ (link_title link ++ codes "</path>\n")
+
+-- the start tag of the ring round the arrival of a message that nobody took
+unfoldable pub ring_tag : Frame → Ring → List ℕ
+ring_tag frame ring =
+    codes "<use" ++ attributes
+    ((codes "href", codes "#left") ∷ (codes "x", decimal (lane_x frame ring.lane))
+    ∷ (codes "y", decimal (stamp_y ring.stamp)) ∷ []) (codes ">")
+
+-- its title: the message
+unfoldable pub ring_title : ℕ → ℕ → List ℕ
+ring_title n from =
+    element (codes "title") []
+    (λ rest. codes "nobody took message " ++ (decimal n ++ (codes " from " ++ (decimal from ++ rest)))) []
+
+-- the ring
+unfoldable pub ring_text : Frame → Ring → List ℕ
+ring_text frame ring = ring_tag frame ring ++ (ring_title ring.n ring.from ++ codes "</use>\n")
+
+-- the start tag of the way of a withdrawal, or of its answer
+unfoldable pub return_shaft : Frame → Return → List ℕ
+return_shaft frame way =
+    codes "<line" ++ attributes
+    ((codes "class", codes "back") ∷ (codes "x1", decimal (lane_x frame way.from))
+    ∷ (codes "y1", decimal (stamp_y way.left)) ∷ (codes "x2", decimal (lane_x frame way.to))
+    ∷ (codes "y2", decimal (stamp_y way.came)) ∷ []) (codes ">")
+
+-- its title: the message
+unfoldable pub return_title : ℕ → List ℕ
+return_title n =
+    element (codes "title") [] (λ rest. codes "withdrawal of message " ++ (decimal n ++ rest)) []
+
+-- the way of a withdrawal, or of its answer
+unfoldable pub return_text : Frame → Return → List ℕ
+return_text frame way = return_shaft frame way ++ (return_title way.n ++ codes "</line>\n")
 
 -- a word and a number, before what follows
 abbrev pub counted : List ℕ → ℕ → List ℕ → List ℕ
@@ -267,13 +304,23 @@ front_text frame ranks =
     head_text frame ++ (sheet_text ++ (note_text frame.left_out
     ++ (rows_text 0 (legend_of frame.end ranks) ++ axis_text frame)))
 
--- its shapes: the lines, the links, the marks, the arrows and the labels
-unfoldable pub shapes_text : Frame → List RankAccount → List ℕ
-shapes_text frame ranks =
+-- its shapes: the lines, the links, and the marks with their rings
+unfoldable pub marks_text : Frame → List RankAccount → List ℕ
+marks_text frame ranks =
     flat_map (lane_text frame) (all_lanes (take frame.lanes ranks))
     ++ (flat_map (link_text frame) (all_links frame.end ranks)
     ++ (flat_map (mark_text frame) (all_marks frame.end ranks)
-    ++ (flat_map (arrow_text frame) (all_arrows frame.end ranks) ++ labels_text frame ranks)))
+    ++ flat_map (ring_text frame) (all_rings frame.end ranks)))
+
+-- and in front of them the arrows, the ways of withdrawals, and the labels
+unfoldable pub arrows_text : Frame → List RankAccount → List ℕ
+arrows_text frame ranks =
+    flat_map (arrow_text frame) (all_arrows frame.end ranks)
+    ++ (flat_map (return_text frame) (all_returns frame.end ranks) ++ labels_text frame ranks)
+
+-- all shapes
+unfoldable pub shapes_text : Frame → List RankAccount → List ℕ
+shapes_text frame ranks = marks_text frame ranks ++ arrows_text frame ranks
 
 -- the whole picture
 unfoldable pub picture_text : Frame → List RankAccount → List ℕ

@@ -12,7 +12,7 @@ abbrev pub all_signs : List Sign
 all_signs =
     sign.Send ∷ sign.Ask ∷ sign.Post ∷ sign.Arrive ∷ sign.Whole ∷ sign.Out ∷ sign.Cancel ∷ sign.Recall
     ∷ sign.Withdraw ∷ sign.Undone ∷ sign.Claim ∷ sign.Match ∷ sign.Ran ∷ sign.Waits ∷ sign.EagerWay
-    ∷ sign.AskWay ∷ sign.Taken ∷ []
+    ∷ sign.AskWay ∷ sign.BackWay ∷ sign.Taken ∷ sign.Left ∷ []
 
 -- the name of the group that draws a sign
 abbrev pub name_of : Sign → List ℕ
@@ -32,7 +32,9 @@ name_of sign.Ran = codes "ran"
 name_of sign.Waits = codes "waits"
 name_of sign.EagerWay = codes "eagerway"
 name_of sign.AskWay = codes "askway"
+name_of sign.BackWay = codes "backway"
 name_of sign.Taken = codes "taken"
+name_of sign.Left = codes "left"
 
 -- what a sign stands for, in words
 abbrev pub words_of : Sign → List ℕ
@@ -52,7 +54,9 @@ words_of sign.Ran = codes "a command answered"
 words_of sign.Waits = codes "a command that waits at the end"
 words_of sign.EagerWay = codes "the way of a message sent at once"
 words_of sign.AskWay = codes "the way of an asking"
+words_of sign.BackWay = codes "the way of a withdrawal"
 words_of sign.Taken = codes "a receive and what it took"
+words_of sign.Left = codes "a message that nobody took"
 
 -- the sign of the way of a message
 abbrev pub way_of : How → Sign
@@ -69,8 +73,8 @@ abbrev pub is_ask : How → Bool
 is_ask Eager = false
 is_ask Ask = true
 
--- an event is told by a sign: by its own, an arrival by that of its message's way, and a receive by that
--- of what it takes, too
+-- an event is told by a sign: by its own, an arrival by that of its message's way, a withdrawal and
+-- its answer by that of theirs, and a receive by that of what it takes, too
 abbrev pub tells : Sign → Happened → Bool
 tells sign.Send (what.Send to n tag ctx len how line) = is_eager how
 tells sign.Ask (what.Send to n tag ctx len how line) = is_ask how
@@ -87,6 +91,8 @@ tells sign.Match (what.Match number from n cap line) = true
 tells sign.Ran (what.Ran line answer) = true
 tells sign.EagerWay (what.Arrive a) = is_eager a.env.how
 tells sign.AskWay (what.Arrive a) = is_ask a.env.how
+tells sign.BackWay (what.Withdraw from n done) = true
+tells sign.BackWay (what.Undone to n done) = true
 tells sign.Taken (what.Post post line) = true
 tells sign.Taken (what.Match number from n cap line) = true
 tells _ _ = false
@@ -95,3 +101,8 @@ tells _ _ = false
 abbrev pub is_waits : Sign → Bool
 is_waits sign.Waits = true
 is_waits _ = false
+
+-- the sign of a ring tells of a message that nobody took
+abbrev pub is_of_left : Sign → Bool
+is_of_left sign.Left = true
+is_of_left _ = false

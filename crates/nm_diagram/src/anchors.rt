@@ -15,6 +15,12 @@ pub enum Anchor {
     Arrival { from: usize, n: u64 },
     /// The receive of this number, posted or of a claimed message.
     Receive { number: u64 },
+    /// The asking that a rank withdraws message `n`.
+    Recall { to: usize, n: u64 },
+    /// The withdrawal of message `n` of a rank.
+    Withdraw { from: usize, n: u64 },
+    /// The answer of a rank to the withdrawal of message `n`.
+    Undone { to: usize, n: u64 },
 }
 
 /// Whether an event is an anchor.
@@ -30,6 +36,15 @@ fn is_anchor(anchor: Anchor, what: &Happened) -> bool
         }
         (Anchor::Receive { number }, Happened::Post { post, .. }) => post.number == number,
         (Anchor::Receive { number }, Happened::Match { number: m, .. }) => *m == number,
+        (Anchor::Recall { to, n }, Happened::Recall { to: t, n: m }) => {
+            *t as usize == to && *m == n
+        }
+        (Anchor::Withdraw { from, n }, Happened::Withdraw { from: f, n: m, .. }) => {
+            *f as usize == from && *m == n
+        }
+        (Anchor::Undone { to, n }, Happened::Undone { to: t, n: m, .. }) => {
+            *t as usize == to && *m == n
+        }
         _ => false,
     }
 }

@@ -23,7 +23,9 @@ ghost use Rattle.nm_diagram.specs.Frames.{IsFrame, is_shown, shown_count};
 ghost use Rattle.nm_diagram.specs.Joined.{HasOneArrow, IsOfMessage, Rise};
 ghost use Rattle.nm_diagram.specs.Legend.{all_stand, are_drawn, covers, is_used, legend_of};
 ghost use Rattle.nm_diagram.specs.Legend.{none_stands, strokes};
+ghost use Rattle.nm_diagram.specs.Left.{all_rings};
 ghost use Rattle.nm_diagram.specs.Links.{all_links};
+ghost use Rattle.nm_diagram.specs.Returns.{IsOfWithdrawal, all_returns};
 ghost use Rattle.nm_diagram.specs.Markup.{escaped, is_plain};
 ghost use Rattle.nm_diagram.specs.Pictures.{IsPictureOf};
 ghost use Rattle.nm_diagram.specs.declared.signs.Sign.TheVariants as sign;
@@ -43,7 +45,7 @@ pub fn each_event_has_one_mark()
 {}
 
 /// Each sign that stands in the picture is explained beside it, and drawn: that of each mark, the
-/// way of each arrow, what a link tells, and that of a command that can't go on. The legend has no
+/// way of each arrow and of each withdrawal, what a link and a ring tell, and that of a command that can't go on. The legend has no
 /// other sign, and the picture has a row for each of the legend's. The sheet draws each sign, and
 /// the ways of messages and the links have their strokes. No property that could hide a shape
 /// stands in the sheet.
@@ -54,6 +56,10 @@ pub fn each_sign_is_explained()
         (λ arrow. Contains (legend_of end ranks) (way_of arrow.how)) (all_arrows end ranks) }
     ensures links { (end : ℕ) (ranks : List RankAccount) → AllByRecursion
         (λ link. Contains (legend_of end ranks) sign.Taken) (all_links end ranks) }
+    ensures returns { (end : ℕ) (ranks : List RankAccount) → AllByRecursion
+        (λ way. Contains (legend_of end ranks) sign.BackWay) (all_returns end ranks) }
+    ensures rings { (end : ℕ) (ranks : List RankAccount) → AllByRecursion
+        (λ ring. Contains (legend_of end ranks) sign.Left) (all_rings end ranks) }
     ensures waits { (end : ℕ) (ranks : List RankAccount) (account : RankAccount) →
         Contains ranks account → ¬ (account.waits ≡ None) →
         Contains (legend_of end ranks) sign.Waits }
@@ -68,6 +74,13 @@ pub fn each_sign_is_explained()
 pub fn each_arrow_is_of_a_message()
     ensures { (end : ℕ) (ranks : List RankAccount) →
         AllByRecursion (IsOfMessage end ranks) (all_arrows end ranks) }
+{}
+
+/// Each way of a withdrawal goes from the asking for it to the withdrawal, or from there to its
+/// answer.
+pub fn each_return_is_of_a_withdrawal()
+    ensures { (end : ℕ) (ranks : List RankAccount) →
+        AllByRecursion (IsOfWithdrawal end ranks) (all_returns end ranks) }
 {}
 
 /// An arrival that is shown has exactly one arrow, from the send of its message, where stamps rise

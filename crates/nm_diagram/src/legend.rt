@@ -1,6 +1,6 @@
 //! The legend: the signs that stand in a picture, each with what it stands for.
 
-ghost use Rattle.std.specs.Prelude.{◌≡◌, ◌≤◌, ◌&&◌, ◌++◌, OnOk, string_bytes};
+ghost use Rattle.std.specs.Prelude.{◌≡◌, ◌≤◌, ◌&&◌, ◌++◌, IfOk, OnOk, string_bytes};
 ghost use Rattle.std.specs.List.{list_any};
 ghost use Rattle.std.specs.Option.{is_some};
 ghost use Rattle.nm_diagram.specs.Legend.{has_sign, is_told, is_used, legend_of};
@@ -8,10 +8,11 @@ ghost use Rattle.nm_diagram.specs.Pictures.{row_sign, row_text, row_words, rows_
 ghost use Rattle.nm_diagram.specs.Signs.{all_signs, is_waits};
 
 use crate::frames::Frame;
+use crate::left::is_any_left;
 use crate::signs::Sign;
 use nm_history::Event;
 use nm_report::RankAccount;
-use std::alloc::AllocError;
+use std::alloc::{AllocError, Global};
 
 /// All signs, in the order of the legend.
 const SIGNS: &[Sign] = &[
@@ -31,7 +32,9 @@ const SIGNS: &[Sign] = &[
     Sign::Waits,
     Sign::EagerWay,
     Sign::AskWay,
+    Sign::BackWay,
     Sign::Taken,
+    Sign::Left,
 ];
 
 /// All signs, in the order of the legend.
@@ -69,11 +72,21 @@ fn is_of_rank(end: u64, sign: Sign, account: &RankAccount) -> bool
     is_of_wait(sign, account) || is_of_event(end, sign, account.history.as_slice())
 }
 
-/// Whether a sign stands in the picture of these ranks.
-fn stands(end: u64, sign: Sign, ranks: &[RankAccount]) -> bool
-    ensures { result ≡ is_used end ranks.now sign }
+/// Whether some of these ranks has a sign.
+fn is_of_some(end: u64, sign: Sign, ranks: &[RankAccount]) -> bool
+    ensures { result ≡ list_any (has_sign end sign) ranks.now }
 {
     ranks.iter().any(|account| is_of_rank(end, sign, account))
+}
+
+/// Whether a sign stands in the picture of these ranks.
+fn stands(alloc: Global, end: u64, sign: Sign, ranks: &[RankAccount]) -> Result<bool, AllocError>
+    ensures { IfOk result (λ found. found ≡ is_used end ranks.now sign) }
+{
+    if sign.is_of_left() && is_any_left(alloc, end, ranks)? {
+        return Ok(true);
+    }
+    Ok(is_of_some(end, sign, ranks))
 }
 
 /// Writes the sign of a row of the legend.
@@ -109,13 +122,18 @@ fn push_row(out: &mut String, row: u64, sign: Sign) -> Result<(), AllocError>
 }
 
 /// Writes the legend of these ranks.
-pub fn push_legend(out: &mut String, frame: &Frame, ranks: &[RankAccount]) -> Result<(), AllocError>
+pub fn push_legend(
+    alloc: Global,
+    out: &mut String,
+    frame: &Frame,
+    ranks: &[RankAccount],
+) -> Result<(), AllocError>
     ensures ok { OnOk result (string_bytes out.new
         ≡ string_bytes out.old ++ rows_text 0 (legend_of frame.now.end ranks.now)) }
 {
     let mut row = 0u64;
     for sign in signs() {
-        if stands(frame.end, *sign, ranks) {
+        if stands(alloc, frame.end, *sign, ranks)? {
             push_row(out, row, *sign)?;
             row += 1;
         }

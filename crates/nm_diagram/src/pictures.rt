@@ -1,17 +1,20 @@
 //! The whole picture.
 
 ghost use Rattle.std.specs.Prelude.{◌≡◌, ◌≤◌, ◌++◌, IfOk, OnOk, length, string_bytes};
-ghost use Rattle.nm_diagram.specs.Pictures.{IsPictureOf, front_text, picture_text, shapes_text};
+ghost use Rattle.nm_diagram.specs.Pictures.{IsPictureOf, arrows_text, front_text, marks_text};
+ghost use Rattle.nm_diagram.specs.Pictures.{picture_text, shapes_text};
 ghost use Rattle.nm_diagram.specs.Legend.{sheet_text};
 
 use crate::arrows::push_arrows;
 use crate::axis::push_axis;
 use crate::frames::Frame;
 use crate::labels::push_labels;
+use crate::left::push_rings;
 use crate::legend::push_legend;
 use crate::links::push_links;
 use crate::marks::push_marks;
 use crate::outlines::{push_lanes, push_left_out, push_size};
+use crate::returns::push_returns;
 use crate::sheet::SHEET;
 use nm_report::{RankAccount, RunRecord};
 use nm_types::Memory;
@@ -27,7 +30,12 @@ fn push_sheet(out: &mut String) -> Result<(), AllocError>
 
 /// Writes the front of the picture.
 #[tactic(auto, unfolding(crate::specs::Pictures::front_text))]
-fn push_front(out: &mut String, frame: &Frame, ranks: &[RankAccount]) -> Result<(), AllocError>
+fn push_front(
+    alloc: Global,
+    out: &mut String,
+    frame: &Frame,
+    ranks: &[RankAccount],
+) -> Result<(), AllocError>
     requires low { frame.now.bottom ≤ 1000000 }
     requires lanes { frame.now.lanes ≤ 256 }
     ensures ok { OnOk result
@@ -36,8 +44,49 @@ fn push_front(out: &mut String, frame: &Frame, ranks: &[RankAccount]) -> Result<
     push_size(out, frame)?;
     push_sheet(out)?;
     push_left_out(out, frame)?;
-    push_legend(out, frame, ranks)?;
+    push_legend(alloc, out, frame, ranks)?;
     push_axis(out, frame)
+}
+
+/// Writes the lines, the links, and the marks with their rings.
+#[tactic(auto, unfolding(crate::specs::Pictures::marks_text))]
+fn push_back(
+    alloc: Global,
+    out: &mut String,
+    frame: &Frame,
+    ranks: &[RankAccount],
+) -> Result<(), AllocError>
+    requires few { length ranks.now ≤ 256 }
+    requires lanes { frame.now.lanes ≤ length ranks.now }
+    requires end { frame.now.end ≤ 1000001 }
+    requires low { frame.now.bottom ≤ 1000000 }
+    ensures ok { OnOk result
+        (string_bytes out.new ≡ string_bytes out.old ++ marks_text frame.now ranks.now) }
+{
+    push_lanes(out, frame, &ranks[..frame.lanes])?;
+    push_links(alloc, out, frame, ranks)?;
+    push_marks(alloc, out, frame, ranks)?;
+    push_rings(alloc, out, frame, ranks)
+}
+
+/// Writes the arrows, the ways of withdrawals, and the labels.
+#[tactic(auto, unfolding(crate::specs::Pictures::arrows_text))]
+fn push_fore(
+    alloc: Global,
+    out: &mut String,
+    frame: &Frame,
+    ranks: &[RankAccount],
+) -> Result<(), AllocError>
+    requires few { length ranks.now ≤ 256 }
+    requires lanes { frame.now.lanes ≤ length ranks.now }
+    requires end { frame.now.end ≤ 1000001 }
+    requires low { frame.now.bottom ≤ 1000000 }
+    ensures ok { OnOk result
+        (string_bytes out.new ≡ string_bytes out.old ++ arrows_text frame.now ranks.now) }
+{
+    push_arrows(out, frame, ranks)?;
+    push_returns(out, frame, ranks)?;
+    push_labels(alloc, out, frame, ranks)
 }
 
 /// Writes the shapes, the lines first, and the arrows in front of the marks.
@@ -55,11 +104,8 @@ fn push_shapes(
     ensures ok { OnOk result
         (string_bytes out.new ≡ string_bytes out.old ++ shapes_text frame.now ranks.now) }
 {
-    push_lanes(out, frame, &ranks[..frame.lanes])?;
-    push_links(alloc, out, frame, ranks)?;
-    push_marks(alloc, out, frame, ranks)?;
-    push_arrows(out, frame, ranks)?;
-    push_labels(alloc, out, frame, ranks)
+    push_back(alloc, out, frame, ranks)?;
+    push_fore(alloc, out, frame, ranks)
 }
 
 /// Writes the whole picture.
@@ -77,7 +123,7 @@ fn push_all(
     ensures ok { OnOk result
         (string_bytes out.new ≡ string_bytes out.old ++ picture_text frame.now ranks.now) }
 {
-    push_front(out, frame, ranks)?;
+    push_front(alloc, out, frame, ranks)?;
     push_shapes(alloc, out, frame, ranks)?;
     out.push_str("</svg>\n")
 }

@@ -10,12 +10,14 @@ text { fill: currentColor; }
 .lane { stroke: #9a9a9a; stroke-width: 1; }
 .eager, .ask { fill: none; stroke-width: 1.4; }
 .link { fill: none; stroke: #009e73; stroke-width: 1.4; }
-.eager:hover, .ask:hover, .link:hover { stroke-width: 4; }
+.eager:hover, .ask:hover, .link:hover, .back:hover { stroke-width: 4; }
 .eager { stroke: #0072b2; marker-end: url(#eager-head); }
 .ask { stroke: #c77f00; stroke-dasharray: 6 3; marker-end: url(#ask-head); }
+.back { fill: none; stroke: #b0568a; stroke-width: 1; stroke-dasharray: 2 3; marker-end: url(#back-head); }
 .solid { stroke: none; }
 .hollow { fill: #ffffff; stroke-width: 2; }
 .stroke { fill: none; stroke-width: 3; }
+.ring { fill: none; stroke: currentColor; stroke-width: 1.4; stroke-dasharray: 3 2; }
 .blue { color: #0072b2; }
 .orange { color: #c77f00; }
 .green { color: #009e73; }
@@ -37,6 +39,7 @@ svg { background: #161616; color: #ececec; }
 .eager { stroke: #56b4e9; }
 .link { stroke: #1fc499; }
 .ask { stroke: #e69f00; }
+.back { stroke: #cc79a7; }
 .blue { color: #56b4e9; }
 .orange { color: #e69f00; }
 .green { color: #1fc499; }
@@ -50,7 +53,7 @@ svg { background: #161616; color: #ececec; }
 svg { background: #ffffff; color: #000000; }
 .waits { fill: #000000; }
 .lane { stroke: #000000; }
-.eager, .ask, .link { stroke: #000000; }
+.eager, .ask, .link, .back { stroke: #000000; }
 .link { stroke-dasharray: 2 2; }
 .blue, .orange, .green, .red, .purple, .ink { color: #000000; }
 .grid { stroke: #c8c8c8; }
@@ -59,6 +62,7 @@ svg { background: #ffffff; color: #000000; }
 <defs>
 <marker id=\"eager-head\" class=\"blue\" viewBox=\"0 0 8 8\" refX=\"13\" refY=\"4\" markerWidth=\"7\" markerHeight=\"7\" orient=\"auto\"><path d=\"M 0 0 L 8 4 L 0 8 Z\" class=\"solid\"></path></marker>
 <marker id=\"ask-head\" class=\"orange\" viewBox=\"0 0 8 8\" refX=\"13\" refY=\"4\" markerWidth=\"7\" markerHeight=\"7\" orient=\"auto\"><path d=\"M 0 0 L 8 4 L 0 8 Z\" class=\"solid\"></path></marker>
+<marker id=\"back-head\" class=\"purple\" viewBox=\"0 0 8 8\" refX=\"15\" refY=\"4\" markerWidth=\"8\" markerHeight=\"8\" orient=\"auto\"><path d=\"M 0 0 L 8 4 L 0 8 Z\" class=\"solid\"></path></marker>
 <g id=\"send\"><circle r=\"5.5\" class=\"blue solid\"></circle></g>
 <g id=\"ask\"><circle r=\"5\" class=\"orange hollow\"></circle></g>
 <g id=\"post\"><rect x=\"-5\" y=\"-5\" width=\"10\" height=\"10\" class=\"green hollow\"></rect></g>
@@ -75,6 +79,8 @@ svg { background: #ffffff; color: #000000; }
 <g id=\"waits\"><path d=\"M -6 -7 H 6 L -6 7 H 6 Z\" class=\"red hollow\"></path></g>
 <g id=\"eagerway\"><path class=\"eager\" d=\"M -16 0 H 16\"></path></g>
 <g id=\"askway\"><path class=\"ask\" d=\"M -16 0 H 16\"></path></g>
+<g id=\"backway\"><path class=\"back\" d=\"M -16 0 H 16\"></path></g>
+<g id=\"left\"><circle r=\"10\" class=\"red ring\"></circle></g>
 <g id=\"taken\"><path class=\"link\" d=\"M 6 -8 C -12 -8 -12 8 6 8\"></path></g>
 </defs>
 <text class=\"note\" x=\"20\" y=\"26\">Space-time diagram of a run</text>

@@ -2,7 +2,8 @@
 
 ghost use Rattle.std.specs.Prelude.{◌≡◌};
 ghost use Rattle.nm_diagram.specs.Diagrams.{sign_of};
-ghost use Rattle.nm_diagram.specs.Signs.{is_ask, is_eager, is_waits, name_of, tells, words_of};
+ghost use Rattle.nm_diagram.specs.Signs.{is_ask, is_eager, is_of_left, is_waits, name_of, tells};
+ghost use Rattle.nm_diagram.specs.Signs.{words_of};
 
 use nm_history::Happened;
 use nm_types::How;
@@ -42,8 +43,12 @@ pub enum Sign {
     EagerWay,
     /// The way of an asking.
     AskWay,
+    /// The way of a withdrawal, or of its answer.
+    BackWay,
     /// A receive and what it took.
     Taken,
+    /// A message that nobody took.
+    Left,
 }
 
 /// Whether a message was sent at once.
@@ -111,6 +116,8 @@ impl Sign {
             (Sign::Ran, Happened::Ran { .. }) => true,
             (Sign::EagerWay, Happened::Arrive { a }) => is_eager(a.env.how),
             (Sign::AskWay, Happened::Arrive { a }) => is_ask(a.env.how),
+            (Sign::BackWay, Happened::Withdraw { .. }) => true,
+            (Sign::BackWay, Happened::Undone { .. }) => true,
             (Sign::Taken, Happened::Post { .. }) => true,
             (Sign::Taken, Happened::Match { .. }) => true,
             _ => false,
@@ -123,6 +130,16 @@ impl Sign {
     {
         match self {
             Sign::Waits => true,
+            _ => false,
+        }
+    }
+
+    /// Whether a sign tells of a message that nobody took.
+    pub fn is_of_left(self) -> bool
+        ensures { result ≡ is_of_left self }
+    {
+        match self {
+            Sign::Left => true,
             _ => false,
         }
     }
@@ -148,7 +165,9 @@ impl Sign {
             Sign::Waits => "waits",
             Sign::EagerWay => "eagerway",
             Sign::AskWay => "askway",
+            Sign::BackWay => "backway",
             Sign::Taken => "taken",
+            Sign::Left => "left",
         }
     }
 
@@ -173,7 +192,9 @@ impl Sign {
             Sign::Waits => "a command that waits at the end",
             Sign::EagerWay => "the way of a message sent at once",
             Sign::AskWay => "the way of an asking",
+            Sign::BackWay => "the way of a withdrawal",
             Sign::Taken => "a receive and what it took",
+            Sign::Left => "a message that nobody took",
         }
     }
 }

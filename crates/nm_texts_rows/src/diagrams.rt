@@ -71,6 +71,83 @@ fn has(text: &[u8], part: &[u8]) -> bool {
     !part.is_empty() && text.windows(part.len()).any(|w| w == part)
 }
 
+fn at_stamp(stamp: u64, what: Happened) -> Event {
+    Event { stamp, what }
+}
+
+/// The picture of a run of two ranks that is not done.
+fn drawn_of(alloc: Global, first: Vec<Event>, second: Vec<Event>) -> Result<Vec<u8>, Fail> {
+    let mut ranks = Accounts::new(alloc);
+    ranks.push(account(first))?;
+    ranks.push(account(second))?;
+    let run = RunRecord {
+        shape: Shape::new(2, 8, 1024).ok().ok_or("shape")?,
+        ranks,
+        pairs: Pairs::new(alloc),
+        cells: Account {
+            total: 16,
+            home: 16,
+        },
+        done: false,
+    };
+    Ok(picture(alloc, &run)?)
+}
+
+// Nobody took the message, whose arrival stands at 70 + 18 * 4 = 142.
+#[test]
+fn a_message_that_nobody_took_has_a_ring(rt: HostRuntime) -> Result<(), Fail> {
+    let alloc = rt.alloc();
+    let text = drawn_of(alloc, vec![in alloc; sent(1)]?, vec![in alloc; arrived(4)]?)?;
+    assert!(rt;
+        has(
+            &text,
+            b"<use href=\"#left\" x=\"490\" y=\"142\"><title>nobody took message 0 from 0<"
+        )
+    );
+    assert!(rt; has(&text, b">a message that nobody took</text>"));
+    Ok(())
+}
+
+// The same message, withdrawn: from stamp 2 of rank 0 to stamp 5 of rank 1, and back to stamp 6.
+#[test]
+fn a_withdrawal_goes_and_comes_back(rt: HostRuntime) -> Result<(), Fail> {
+    let alloc = rt.alloc();
+    let recall = at_stamp(2, Happened::Recall { to: 1, n: 0 });
+    let withdraw = at_stamp(
+        5,
+        Happened::Withdraw {
+            from: 0,
+            n: 0,
+            done: true,
+        },
+    );
+    let undone = at_stamp(
+        6,
+        Happened::Undone {
+            to: 1,
+            n: 0,
+            done: true,
+        },
+    );
+    let sender = vec![in alloc; sent(1), recall, undone]?;
+    let receiver = vec![in alloc; arrived(4), withdraw]?;
+    let text = drawn_of(alloc, sender, receiver)?;
+    assert!(rt;
+        has(
+            &text,
+            b"<line class=\"back\" x1=\"340\" y1=\"106\" x2=\"490\" y2=\"160\">"
+        )
+    );
+    assert!(rt;
+        has(
+            &text,
+            b"<line class=\"back\" x1=\"490\" y1=\"160\" x2=\"340\" y2=\"178\">"
+        )
+    );
+    assert!(rt; !has(&text, b"nobody took"));
+    Ok(())
+}
+
 /// The picture of a message of which the send and the receive have stamp 1 and the arrival this one,
 /// among so many ranks, of which the last one waits.
 fn drawn(alloc: Global, count: usize, arrival: u64) -> Result<Vec<u8>, Fail> {

@@ -5,4 +5,5 @@ use Rattle.nm_diagram.proofs.axis.push_axis.Goals as goal
 
 pub loop-k-preserved : goal.loop-k-preserved
 loop-k-preserved c =
-    next_counted (tick_text c.args.frame.now) c.loop-k.k _ _ _ _ c.loop-k-test.true c.in_ok-push_tick.ensures.ok c.loop-k.invariant
+    next_counted (tick_text c.args.frame.now) c.loop-k.k _ _ _ _
+    c.loop-k-test.true c.in_ok-push_tick.ensures.ok c.loop-k.invariant

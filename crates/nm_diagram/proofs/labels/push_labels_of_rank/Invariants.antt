@@ -8,4 +8,5 @@ abbrev pub invariant-loop-event : goal.invariant-loop-event
 invariant-loop-event l =
     string_bytes l.out ++ flat_map (label_text l.frame)
     (flat_map (labels_at l.frame.end l.rank) (drop l.event-index l.account.history.events))
-    ≡ string_bytes l.fn.out ++ flat_map (label_text l.frame) (flat_map (labels_at l.frame.end l.rank) l.account.history.events)
+    ≡ string_bytes l.fn.out ++ flat_map (label_text l.frame)
+    (flat_map (labels_at l.frame.end l.rank) l.account.history.events)

@@ -2,6 +2,7 @@
 use Rattle.nm_diagram.specs.Legend.{is_used}
 use Rattle.nm_diagram.specs.Signs.{all_signs}
 use Rattle.nm_diagram.proofs.LegendLemmas.{arrows-explained, covers-stand, links-explained, marks-explained, only-used}
+use Rattle.nm_diagram.proofs.LegendLemmas.{returns-explained, rings-explained}
 use Rattle.nm_diagram.proofs.LegendLemmas.{signs-drawn, strokes-stand, waits-explained}
 use Rattle.nm_diagram.proofs.laws.each_sign_is_explained.Goals as goal
 
@@ -13,6 +14,12 @@ returns-clause-arrows c = arrows-explained
 
 pub returns-clause-links : goal.returns-clause-links
 returns-clause-links c = links-explained
+
+pub returns-clause-returns : goal.returns-clause-returns
+returns-clause-returns c = returns-explained
+
+pub returns-clause-rings : goal.returns-clause-rings
+returns-clause-rings c = rings-explained
 
 pub returns-clause-waits : goal.returns-clause-waits
 returns-clause-waits c = waits-explained
