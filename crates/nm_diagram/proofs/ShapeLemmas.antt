@@ -13,6 +13,7 @@ use Rattle.nm_diagram.specs.Anchors.{first_stamp, is_anchor}
 use Rattle.nm_diagram.specs.Diagrams.{Mark, all_marks, from_lane, mark_of, marks_at, marks_of, sent_by}
 use Rattle.nm_diagram.specs.Frames.{is_shown, shown_count, shown_of}
 use Rattle.nm_diagram.specs.Joined.{Rise}
+use Rattle.nm_diagram.specs.Labels.{labelled, labels_at}
 
 -- the marks of a rank are those of its events that are shown
 next_mark : (end rank : ℕ) (e : Event) (events : List Event) (b : Bool) →
@@ -26,6 +27,19 @@ pub marks-are : (end rank : ℕ) (events : List Event) →
     flat_map (marks_at end rank) events ≡ map (mark_of rank) (filter (is_shown end) events)
 marks-are end rank [] = refl
 marks-are end rank (e ∷ events) = next_mark end rank e events (is_shown end e) (marks-are end rank events)
+
+-- and so are its labels
+next_label : (end rank : ℕ) (e : Event) (events : List Event) (b : Bool) →
+    flat_map (labels_at end rank) events ≡ map (labelled rank) (filter (is_shown end) events) →
+    cond b (labelled rank e ∷ []) [] ++ flat_map (labels_at end rank) events
+    ≡ map (labelled rank) (cond b (e ∷ filter (is_shown end) events) (filter (is_shown end) events))
+next_label end rank e events true same = ap (λ l. labelled rank e ∷ l) same
+next_label end rank e events false same = same
+
+pub labels-are : (end rank : ℕ) (events : List Event) →
+    flat_map (labels_at end rank) events ≡ map (labelled rank) (filter (is_shown end) events)
+labels-are end rank [] = refl
+labels-are end rank (e ∷ events) = next_label end rank e events (is_shown end e) (labels-are end rank events)
 
 -- they are as many
 one_or_none : (mark : Mark) (b : Bool) (marks : List Mark) →

@@ -23,6 +23,7 @@ ghost use Rattle.nm_diagram.specs.Frames.{IsFrame, is_shown, shown_count};
 ghost use Rattle.nm_diagram.specs.Joined.{HasOneArrow, IsOfMessage, Rise};
 ghost use Rattle.nm_diagram.specs.Legend.{all_stand, are_drawn, covers, is_used, legend_of};
 ghost use Rattle.nm_diagram.specs.Legend.{none_stands, strokes};
+ghost use Rattle.nm_diagram.specs.Labels.{labelled, labels_of};
 ghost use Rattle.nm_diagram.specs.Left.{all_rings};
 ghost use Rattle.nm_diagram.specs.Links.{all_links};
 ghost use Rattle.nm_diagram.specs.Returns.{IsOfWithdrawal, all_returns};
@@ -42,6 +43,12 @@ pub fn each_event_has_one_mark()
     ensures rise { (end rank : ℕ) (account : RankAccount) →
         Rise 0 (map (λ e. e.stamp) account.history.events) →
         Rise 0 (map (λ m. m.stamp) (marks_of end rank account)) }
+{}
+
+/// Each event that is shown has exactly one label, in the lane of its rank.
+pub fn each_event_has_one_label()
+    ensures { (end rank : ℕ) (account : RankAccount) → labels_of end rank account
+        ≡ map (labelled rank) (filter (is_shown end) account.history.events) }
 {}
 
 /// Each sign that stands in the picture is explained beside it, and drawn: that of each mark, the
