@@ -49,8 +49,9 @@ svg { background: #161616; color: #ececec; }
 .rank, .label { stroke: #161616; }
 .grid { stroke: #303030; }
 }
+@page { size: landscape; margin: 8mm; }
 @media print {
-svg { background: #ffffff; color: #000000; }
+svg { background: #ffffff; color: #000000; max-width: 100%; height: auto; }
 .waits { fill: #000000; }
 .lane { stroke: #000000; }
 .eager, .ask, .link, .back { stroke: #000000; }
