@@ -7,12 +7,20 @@ ghost use Rattle.nm_seats.specs.Update.{update};
 ghost use Rattle.nm_table.specs.declared.table.Entry.{Entry};
 ghost use Rattle.nm_table.specs.Rule.{Load, from, put_to, sent_to};
 ghost use Rattle.nm_cells.specs.declared.closed.Closed.{Closed};
+ghost use Rattle.nm_cells.specs.declared.port.Fabric.{Fabric};
 ghost use Rattle.nm_cells.specs.declared.port.Port.{Port};
 ghost use Rattle.nm_cells.specs.Counted.{IsOneOf};
-ghost use Rattle.nm_cells.specs.Ports.{knows, sent_by, taken_by};
+ghost use Rattle.nm_cells.specs.Ports.{IsNew, knows, sent_by, taken_by};
 ghost use Rattle.nm_cells.specs.PathLists.{Begins};
 ghost use Rattle.nm_cells.specs.ClosedLists.{entries, ranks_of, sent_list, taken_list};
 ghost use Rattle.nm_carried.specs.Carried.{HasPassed, HasSent, one_more};
+
+/// A new port sent nothing and passed nothing on (`Fabric::build`).
+pub fn a_new_port_carries_nothing()
+    ensures sent { (f : Fabric) (p : Port) (k j : ℕ) → IsNew f p k → HasSent (knows p) j [] }
+    ensures passed { (f : Fabric) (p : Port) (k i : ℕ) → IsNew f p k →
+        HasPassed (knows p) (taken_by p i) i [] }
+{}
 
 /// By a send the packet comes behind the others for its receiver (`nm_port::send`).
 pub fn a_send_carries()
