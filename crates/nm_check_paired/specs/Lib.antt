@@ -1,3 +1,4 @@
+pub mod Fronts
 pub mod Handles
 pub mod Kinds
 pub mod Tabled

@@ -1,6 +1,6 @@
 //! Whether the commands that ran have their answers.
 
-ghost use Rattle.std.specs.Prelude.{◌≡◌, ℕ, List, Some, option_map, slice_get};
+ghost use Rattle.std.specs.Prelude.{◌≡◌, ℕ, IfOk, List, MatchOption, Some, map, option_map, slice_get};
 ghost use Rattle.std.specs.Prelude.{take};
 ghost use Rattle.nm_types.specs.Commands.{Numbered, command_at, commands_of};
 ghost use Rattle.nm_types.specs.declared.answers.Answer as given_answer;
@@ -10,6 +10,8 @@ ghost use Rattle.nm_history.specs.declared.events.Happened.TheVariants.{Ran};
 ghost use Rattle.nm_history.specs.Answers.{answer_of, without_bytes};
 ghost use Rattle.nm_history.specs.Answers.{arrival_claimed as arrival_claimed_lem};
 ghost use Rattle.nm_history.specs.RankRun.{Always, AnswerAt};
+ghost use Rattle.nm_check_rank.specs.Breaks.{BreaksFirstAt};
+ghost use Rattle.nm_check_rank.specs.OwnBreaks.{KeepsAnswers};
 ghost use Rattle.nm_pairing.specs.Looks.{found_by};
 ghost use Rattle.nm_places.specs.Deciding.{Decides};
 ghost use Rattle.nm_places.specs.Placed.{ArePlaces};
@@ -18,6 +20,7 @@ ghost use Rattle.nm_check_paired.specs.Tabled.{AreTables};
 ghost use Rattle.nm_check_paired.specs.Told.{untold};
 
 use crate::arrivals::arrival_claimed;
+use crate::order::{own_lines, ran_after};
 use crate::results::{cancel_answer, test_answer, wait_answer};
 use crate::tables::Tables;
 use crate::told::{
@@ -27,7 +30,8 @@ use nm_asked::commands::command_of_line;
 use nm_asked::requests::Request;
 use nm_history::{Event, Happened};
 use nm_places::firsts::Message;
-use nm_types::{Answer, Arrival, Command, Line};
+use nm_types::{Answer, Arrival, Command, Line, Memory};
+use std::alloc::Global;
 
 /// The answer that a command has by what was found: the live request of its name, the live message
 /// of its handle, what it claimed, and the first free message that it selects.
@@ -154,4 +158,50 @@ pub fn are_answered(rank: u8, lines: &[Line], events: &[Event], tables: &Tables)
         }
     }
     true
+}
+
+/// The first answer of another command than the next one, or that the events before do not give, by
+/// the lines of the rank's commands.
+fn first_of_lines(
+    rank: u8,
+    lines: &[Line],
+    events: &[Event],
+    tables: &Tables,
+    own: &[u64],
+) -> Option<usize>
+    requires told { AreTables rank lines.now events.now tables.now }
+    requires own { own.now ≡ map (λ c. c.line) (commands_of rank lines.now) }
+    ensures { MatchOption result
+        (KeepsAnswers (commands_of rank lines.now) events.now)
+        (BreaksFirstAt (KeepsAnswers (commands_of rank lines.now)) events.now) }
+{
+    let mut at = 0;
+    for (k, e) in events.iter().enumerate() {
+        let Some(after) = ran_after(own, at, &e.what) else {
+            return Some(k);
+        };
+        if !is_answer_right(rank, lines, events, tables, k, e) {
+            return Some(k);
+        }
+        at = after;
+    }
+    None
+}
+
+/// The first answer of another command than the rank's next one, or that the events before it do
+/// not give.
+pub fn first_answer(
+    alloc: Global,
+    rank: u8,
+    lines: &[Line],
+    events: &[Event],
+    tables: &Tables,
+) -> Result<Option<usize>, Memory>
+    requires { AreTables rank lines.now events.now tables.now }
+    ensures { IfOk result (λ found. MatchOption found
+        (KeepsAnswers (commands_of rank lines.now) events.now)
+        (BreaksFirstAt (KeepsAnswers (commands_of rank lines.now)) events.now)) }
+{
+    let own = own_lines(alloc, rank, lines)?;
+    Ok(first_of_lines(rank, lines, events, tables, &own))
 }

@@ -1,14 +1,15 @@
 //! Whether cancels have their events.
 
 ghost use Rattle.std.specs.Prelude.{◌≡◌, ℕ, not, false, All, IsTrue, List, Option, Some, [], ◌∷◌};
-ghost use Rattle.std.specs.Prelude.{option_map, slice_get, take};
+ghost use Rattle.std.specs.Prelude.{MatchOption, option_map, slice_get, take};
 ghost use Rattle.nm_types.specs.Commands.{Numbered, commands_of};
 ghost use Rattle.nm_types.specs.declared.answers.Answer.{Answer};
 ghost use Rattle.nm_types.specs.declared.scripts.Line as script_line;
 ghost use Rattle.nm_history.specs.declared.events.Event as event;
 ghost use Rattle.nm_history.specs.declared.events.Happened.TheVariants.{Cancel, Ran, Recall};
 ghost use Rattle.nm_history.specs.RankRun.{Always, CancelAt, Cancels as CancelsHold, CancelsOf};
-ghost use Rattle.nm_history.specs.RankRun.{is_cancelling};
+ghost use Rattle.nm_history.specs.RankRun.{cancels_since, is_cancelling};
+ghost use Rattle.nm_check_rank.specs.Breaks.{Breaks};
 ghost use Rattle.nm_places.specs.Deciding.{Decides};
 ghost use Rattle.nm_asked.specs.Asked.{meant_by};
 ghost use Rattle.nm_asked.specs.SinceAnswer.{IsSince, of_kind};
@@ -19,6 +20,7 @@ use crate::tables::Tables;
 use nm_asked::commands::command_of_line;
 use nm_asked::requests::Request;
 use nm_asked::since::{Called, Since};
+use nm_check_rank::breaks::Break;
 use nm_history::{Event, Happened};
 use nm_places::firsts::is_before;
 use nm_places::kinds::{Recalls, Sends};
@@ -235,18 +237,28 @@ fn is_cancel_right(
     }
 }
 
+/// Where an answer, a cancel or a recall breaks the rule first that each cancel has its one event.
+pub fn first_cancel(rank: u8, lines: &[Line], events: &[Event], tables: &Tables) -> Option<Break>
+    requires { AreTables rank lines.now events.now tables.now }
+    ensures { MatchOption result (CancelsHold (commands_of rank lines.now) events.now)
+        (Breaks (Always (CancelAt (commands_of rank lines.now))) (λ h. cancels_since h ≡ [])
+        events.now) }
+{
+    let mut since = Since::Nothing;
+    for (k, e) in events.iter().enumerate() {
+        if !is_cancel_right(rank, lines, events, tables, since, k, e) {
+            return Some(Break::At(k));
+        }
+        since = since.after::<Cancelling>(k, &e.what);
+    }
+    Break::unless(since.is_nothing())
+}
+
 /// Whether each cancel of a live request has its event, a receive is cancelled where it is not
 /// paired and a send recalled once, and there are no others.
 pub fn cancels_hold(rank: u8, lines: &[Line], events: &[Event], tables: &Tables) -> bool
     requires { AreTables rank lines.now events.now tables.now }
     ensures { Decides result (CancelsHold (commands_of rank lines.now) events.now) }
 {
-    let mut since = Since::Nothing;
-    for (k, e) in events.iter().enumerate() {
-        if !is_cancel_right(rank, lines, events, tables, since, k, e) {
-            return false;
-        }
-        since = since.after::<Cancelling>(k, &e.what);
-    }
-    since.is_nothing()
+    first_cancel(rank, lines, events, tables).is_none()
 }

@@ -1,15 +1,16 @@
 //! Whether matched probes have their claims.
 
 ghost use Rattle.std.specs.Prelude.{◌≡◌, ◌&&◌, ℕ, if◌then◌else◌, not, ◌==◌, false, IsSomeAnd};
-ghost use Rattle.std.specs.Prelude.{IsTrue};
+ghost use Rattle.std.specs.Prelude.{IsTrue, MatchOption};
 ghost use Rattle.std.specs.Prelude.{List, Some, [], ◌∷◌, option_to_list, slice_get, take};
 ghost use Rattle.std.specs.Option.{option_map_or};
 ghost use Rattle.nm_types.specs.Commands.{command_at, commands_of};
 ghost use Rattle.nm_history.specs.declared.events.Event as event;
 ghost use Rattle.nm_history.specs.Answers.{is_seen as is_seen_lem};
-ghost use Rattle.nm_history.specs.RankRun.{ClaimAt, Claims, claims_since, is_matched_probe};
+ghost use Rattle.nm_history.specs.RankRun.{Always, ClaimAt, Claims, claims_since, is_matched_probe};
 ghost use Rattle.nm_history.specs.RankRun.{line_of_claim};
 ghost use Rattle.nm_pairing.specs.Pairings.{Tells};
+ghost use Rattle.nm_check_rank.specs.Breaks.{Breaks};
 ghost use Rattle.nm_places.specs.Deciding.{Decides};
 ghost use Rattle.nm_asked.specs.SinceAnswer.{IsSince};
 ghost use Rattle.nm_check_paired.specs.Kinds.{is_claiming};
@@ -17,6 +18,7 @@ ghost use Rattle.nm_check_paired.specs.Kinds.{is_claiming};
 use nm_asked::commands::command_of_line;
 use nm_asked::handles::is_seen;
 use nm_asked::since::{Called, Since};
+use nm_check_rank::breaks::Break;
 use nm_history::{Event, Happened};
 use nm_pairing::Pairing;
 use nm_types::{Answer, Arrival, Command, Line};
@@ -151,18 +153,29 @@ fn is_claim_right(
     }
 }
 
+/// Where a matched probe or a claim breaks the rule first that each probe which showed a message has
+/// its one claim.
+pub fn first_claim(rank: u8, lines: &[Line], events: &[Event], pairing: &Pairing) -> Option<Break>
+    requires { Tells rank lines.now events.now pairing.now }
+    ensures { MatchOption result (Claims (commands_of rank lines.now) events.now)
+        (Breaks (Always (ClaimAt (commands_of rank lines.now))) (λ h. claims_since h ≡ [])
+        events.now) }
+{
+    let mut since = Since::Nothing;
+    for (k, e) in events.iter().enumerate() {
+        if !is_claim_right(rank, lines, events, pairing, since, k, e) {
+            return Some(Break::At(k));
+        }
+        since = since.after::<Claiming>(k, &e.what);
+    }
+    Break::unless(since.is_nothing())
+}
+
 /// Whether each matched probe that showed a message has its one claim, of the first free message
 /// that it selects, and there are no others.
 pub fn claims_hold(rank: u8, lines: &[Line], events: &[Event], pairing: &Pairing) -> bool
     requires { Tells rank lines.now events.now pairing.now }
     ensures { Decides result (Claims (commands_of rank lines.now) events.now) }
 {
-    let mut since = Since::Nothing;
-    for (k, e) in events.iter().enumerate() {
-        if !is_claim_right(rank, lines, events, pairing, since, k, e) {
-            return false;
-        }
-        since = since.after::<Claiming>(k, &e.what);
-    }
-    since.is_nothing()
+    first_claim(rank, lines, events, pairing).is_none()
 }

@@ -1,9 +1,12 @@
 //! Whether the commands that ran are the first ones of a rank, in order.
 
-ghost use Rattle.std.specs.Prelude.{◌≡◌, ◌≤◌, IfOk, length, map, take};
+ghost use Rattle.std.specs.Prelude.{◌≡◌, ◌≤◌, ◌∷◌, ◌++◌, [], ℕ, IfOk, List, MatchOption, length, map};
+ghost use Rattle.std.specs.Prelude.{take};
 ghost use Rattle.nm_types.specs.Commands.{commands_of};
+ghost use Rattle.nm_history.specs.declared.events.Event as event;
 ghost use Rattle.nm_history.specs.RankRun.{ran_lines, ran_of};
 ghost use Rattle.nm_places.specs.Deciding.{Decides};
+ghost use Rattle.nm_check_paired.specs.Fronts.{AreFirst};
 
 use nm_history::{Event, Happened};
 use nm_types::{Line, Memory};
@@ -33,7 +36,7 @@ fn lines_ran(alloc: Global, events: &[Event]) -> Result<Vec<u64>, Memory>
 }
 
 /// The lines of a rank's commands.
-fn own_lines(alloc: Global, rank: u8, lines: &[Line]) -> Result<Vec<u64>, Memory>
+pub(crate) fn own_lines(alloc: Global, rank: u8, lines: &[Line]) -> Result<Vec<u64>, Memory>
     ensures { IfOk result (λ own. own.items ≡ map (λ c. c.line) (commands_of rank lines.now)) }
 {
     let mut own = Vec::new(alloc);
@@ -43,6 +46,26 @@ fn own_lines(alloc: Global, rank: u8, lines: &[Line]) -> Result<Vec<u64>, Memory
         }
     }
     Ok(own)
+}
+
+/// How many commands ran up to an event, of so many before it; none where the event answers another
+/// command than the next one.
+pub(crate) fn ran_after(own: &[u64], at: usize, what: &Happened) -> Option<usize>
+    ensures { (before : List event.Event) (stamp : ℕ) → AreFirst own.now at before →
+        MatchOption result
+        ((n : ℕ) → ¬ AreFirst own.now n (before ++ record { stamp = stamp; what = what.now } ∷ []))
+        (λ n. AreFirst own.now n (before ++ record { stamp = stamp; what = what.now } ∷ [])) }
+{
+    match line_ran(what) {
+        Some(line) => {
+            if at < own.len() && own[at] == line {
+                Some(at + 1)
+            } else {
+                None
+            }
+        }
+        None => Some(at),
+    }
 }
 
 /// Whether a list is the front of another with this length.

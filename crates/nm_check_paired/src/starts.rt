@@ -1,7 +1,7 @@
 //! Whether starts have their sends and receives.
 
 ghost use Rattle.std.specs.Prelude.{◌≡◌, ◌&&◌, ℕ, not, IsTrue, List, Option, Some, [], ◌∷◌, map};
-ghost use Rattle.std.specs.Prelude.{false, is_some, option_map, slice_get, take};
+ghost use Rattle.std.specs.Prelude.{false, is_some, MatchOption, option_map, slice_get, take};
 ghost use Rattle.std.specs.Option.{option_map_or};
 ghost use Rattle.nm_types.specs.Bodies.{body_len};
 ghost use Rattle.nm_types.specs.Commands.{Numbered, commands_of};
@@ -10,8 +10,9 @@ ghost use Rattle.nm_types.specs.declared.scripts.Command as script_command;
 ghost use Rattle.nm_history.specs.declared.events.Event as event;
 ghost use Rattle.nm_history.specs.declared.events.Happened.TheVariants.{Match, Post, Ran, Send};
 ghost use Rattle.nm_history.specs.Answers.{is_started as is_started_lem};
-ghost use Rattle.nm_history.specs.RankRun.{StartAt, Starts, is_start, without_number};
-ghost use Rattle.nm_history.specs.RankRun.{how_of as how_of_lem};
+ghost use Rattle.nm_history.specs.RankRun.{Always, StartAt, Starts, is_start, starts_since};
+ghost use Rattle.nm_history.specs.RankRun.{how_of as how_of_lem, without_number};
+ghost use Rattle.nm_check_rank.specs.Breaks.{Breaks};
 ghost use Rattle.nm_places.specs.Deciding.{Decides};
 ghost use Rattle.nm_asked.specs.Asked.{message_meant};
 ghost use Rattle.nm_asked.specs.SinceAnswer.{IsSince, of_kind};
@@ -22,6 +23,7 @@ use crate::tables::Tables;
 use nm_asked::commands::command_of_line;
 use nm_asked::requests::is_started;
 use nm_asked::since::{Called, Since};
+use nm_check_rank::breaks::Break;
 use nm_history::{Event, Happened};
 use nm_places::firsts::{Message, is_before};
 use nm_places::kinds::Claims;
@@ -325,17 +327,34 @@ fn is_start_right(
     }
 }
 
+/// Where an answer or a receive breaks the rule first that each start which was taken has its one
+/// send or receive.
+pub fn first_start(
+    rank: u8,
+    lines: &[Line],
+    eager: u16,
+    events: &[Event],
+    tables: &Tables,
+) -> Option<Break>
+    requires { AreTables rank lines.now events.now tables.now }
+    ensures { MatchOption result (Starts eager (commands_of rank lines.now) events.now)
+        (Breaks (Always (StartAt eager (commands_of rank lines.now))) (λ h. starts_since h ≡ [])
+        events.now) }
+{
+    let mut since = Since::Nothing;
+    for (k, e) in events.iter().enumerate() {
+        if !is_start_right(rank, lines, events, tables, since, eager, k, e) {
+            return Some(Break::At(k));
+        }
+        since = since.after::<Starting>(k, &e.what);
+    }
+    Break::unless(since.is_nothing())
+}
+
 /// Whether each start that was taken has its one send or receive, and there are no others.
 pub fn starts_hold(rank: u8, lines: &[Line], eager: u16, events: &[Event], tables: &Tables) -> bool
     requires { AreTables rank lines.now events.now tables.now }
     ensures { Decides result (Starts eager (commands_of rank lines.now) events.now) }
 {
-    let mut since = Since::Nothing;
-    for (k, e) in events.iter().enumerate() {
-        if !is_start_right(rank, lines, events, tables, since, eager, k, e) {
-            return false;
-        }
-        since = since.after::<Starting>(k, &e.what);
-    }
-    since.is_nothing()
+    first_start(rank, lines, eager, events, tables).is_none()
 }

@@ -1,3 +1,4 @@
+pub mod BreakLemmas
 pub mod CountLemmas
 pub mod FirstBrokenLemmas
 pub mod RuleLemmas

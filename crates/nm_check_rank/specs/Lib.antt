@@ -1,3 +1,5 @@
+pub mod Breaks
 pub mod Counted
 pub mod FirstBroken
+pub mod OwnBreaks
 pub mod OwnClauses

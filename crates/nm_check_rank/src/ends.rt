@@ -1,8 +1,9 @@
 //! Whether messages end once: withdrawn, left, and recalls answered.
 
-ghost use Rattle.std.specs.Prelude.{◌≡◌, false, not, ◌&&◌, List, IsTrue, take};
+ghost use Rattle.std.specs.Prelude.{◌≡◌, false, not, ◌&&◌, List, IsTrue, MatchOption, take};
 ghost use Rattle.nm_history.specs.declared.events.Event as event;
 ghost use Rattle.nm_history.specs.RankRun.{Always, EndAt};
+ghost use Rattle.nm_check_rank.specs.Breaks.{BreaksFirstAt};
 ghost use Rattle.nm_places.specs.Deciding.{Decides};
 ghost use Rattle.nm_places.specs.Placed.{ArePlaces, AreTaken};
 
@@ -82,6 +83,26 @@ fn is_end_right(
     }
 }
 
+/// The first event at which a message is withdrawn or leaves, or a recall is answered, that may not
+/// be.
+pub fn first_end(
+    events: &[Event],
+    places: &Places,
+    taken: &IndexMap<Message, usize>,
+) -> Option<usize>
+    requires placed { ArePlaces events.now places.now }
+    requires paired { AreTaken events.now taken.now }
+    ensures { MatchOption result (Always EndAt events.now)
+        (BreaksFirstAt (Always EndAt) events.now) }
+{
+    for (k, e) in events.iter().enumerate() {
+        if !is_end_right(places, taken, k, &e.what) {
+            return Some(k);
+        }
+    }
+    None
+}
+
 /// Whether a message is withdrawn once and where it is free, leaves once and after it was sent, and
 /// a recall is answered once.
 pub fn ends_hold(events: &[Event], places: &Places, taken: &IndexMap<Message, usize>) -> bool
@@ -89,10 +110,5 @@ pub fn ends_hold(events: &[Event], places: &Places, taken: &IndexMap<Message, us
     requires paired { AreTaken events.now taken.now }
     ensures { Decides result (Always EndAt events.now) }
 {
-    for (k, e) in events.iter().enumerate() {
-        if !is_end_right(places, taken, k, &e.what) {
-            return false;
-        }
-    }
-    true
+    first_end(events, places, taken).is_none()
 }

@@ -16,6 +16,7 @@
 //! Nothing.
 #![tactic(auto)]
 
+pub mod breaks;
 pub mod clauses;
 pub mod ends;
 pub mod numbers;

@@ -1,7 +1,9 @@
 //! Whether messages and receives are numbered from 0.
 
 ghost use Rattle.std.specs.Prelude.{◌≡◌, ℕ, ◌+◌, ◌-◌, ◌<◌, ◌^◌, List, [], ◌∷◌, ◌++◌, length};
+ghost use Rattle.std.specs.Prelude.{MatchOption};
 ghost use Rattle.nm_places.specs.Deciding.{Decides};
+ghost use Rattle.nm_check_rank.specs.Breaks.{BreaksFirstAt};
 ghost use Rattle.nm_check_rank.specs.Counted.{AreCounted};
 ghost use Rattle.nm_history.specs.declared.events.Event.{Event};
 ghost use Rattle.nm_history.specs.RankRun.{Always, NumberAt};
@@ -69,19 +71,27 @@ impl Counts {
     }
 }
 
+/// The first send, receive or arrival that has not the next number, or comes from no rank.
+pub fn first_number(ranks: u8, events: &[Event]) -> Option<usize>
+    ensures { MatchOption result (Always (NumberAt ranks) events.now)
+        (BreaksFirstAt (Always (NumberAt ranks)) events.now) }
+{
+    let mut counts = Counts::none();
+    for (k, e) in events.iter().enumerate() {
+        if !counts.is_next(ranks, &e.what) {
+            return Some(k);
+        }
+        counts.add(&e.what);
+    }
+    None
+}
+
 /// Whether sends, receives and arrivals are numbered from 0, and messages come from one of the
 /// ranks.
 pub fn are_numbered(ranks: u8, events: &[Event]) -> bool
     ensures { Decides result (Always (NumberAt ranks) events.now) }
 {
-    let mut counts = Counts::none();
-    for e in events {
-        if !counts.is_next(ranks, &e.what) {
-            return false;
-        }
-        counts.add(&e.what);
-    }
-    true
+    first_number(ranks, events).is_none()
 }
 
 /// The counts of a history.

@@ -1,9 +1,10 @@
 //! Whether messages are whole once, after they came.
 
-ghost use Rattle.std.specs.Prelude.{◌≡◌, false, List, IsTrue, take};
+ghost use Rattle.std.specs.Prelude.{◌≡◌, false, List, IsTrue, MatchOption, take};
 ghost use Rattle.std.specs.Bool.{OnTrue};
 ghost use Rattle.nm_history.specs.declared.events.Event as event;
 ghost use Rattle.nm_history.specs.RankRun.{Always, WholeAt};
+ghost use Rattle.nm_check_rank.specs.Breaks.{BreaksFirstAt};
 ghost use Rattle.nm_places.specs.Deciding.{Decides};
 ghost use Rattle.nm_places.specs.Placed.{ArePlaces, AreTaken};
 
@@ -43,16 +44,30 @@ fn is_whole_right(
     }
 }
 
+/// The first event at which a message is whole that may not be.
+pub fn first_whole(
+    events: &[Event],
+    places: &Places,
+    taken: &IndexMap<Message, usize>,
+) -> Option<usize>
+    requires placed { ArePlaces events.now places.now }
+    requires paired { AreTaken events.now taken.now }
+    ensures { MatchOption result (Always WholeAt events.now)
+        (BreaksFirstAt (Always WholeAt) events.now) }
+{
+    for (k, e) in events.iter().enumerate() {
+        if !is_whole_right(places, taken, k, &e.what) {
+            return Some(k);
+        }
+    }
+    None
+}
+
 /// Whether a message is whole once, after it came, and one sent by asking after it was paired.
 pub fn wholes_hold(events: &[Event], places: &Places, taken: &IndexMap<Message, usize>) -> bool
     requires placed { ArePlaces events.now places.now }
     requires paired { AreTaken events.now taken.now }
     ensures { Decides result (Always WholeAt events.now) }
 {
-    for (k, e) in events.iter().enumerate() {
-        if !is_whole_right(places, taken, k, &e.what) {
-            return false;
-        }
-    }
-    true
+    first_whole(events, places, taken).is_none()
 }

@@ -19,4 +19,5 @@ mod inputs;
 mod texts;
 
 pub use checks::{Checked, check};
+pub use inputs::cut;
 pub use texts::{trace_fault_text, verdict_text};

@@ -1,53 +1,13 @@
-use Rattle.std.proofs.Common.{◌≡◌, List, length, take, refl, sym, ◌∙◌, ap}
-use Rattle.std.proofs.lemmas.List.{take_all}
-use Rattle.std.proofs.lemmas.Option.{slice_get_read}
+use Rattle.std.proofs.Common.{◌≡◌, List, []}
 use Rattle.nm_types.specs.Commands.{commands_of}
 use Rattle.nm_history.specs.declared.events.Event.{Event}
-use Rattle.nm_history.specs.RankRun.{CancelAt, cancels_since, is_cancelling}
-use Rattle.nm_places.proofs.StepLemmas.{all_kept, breaks, goes_on, none_yet}
-use Rattle.nm_check_paired.proofs.DecideLemmas.{decides_by}
+use Rattle.nm_history.specs.RankRun.{Cancels, CancelAt, cancels_since}
+use Rattle.nm_check_rank.proofs.BreakLemmas.{decided_whole}
 use Rattle.nm_check_paired.proofs.cancels.cancels_hold.Goals as goal
-
-pub loop-k-init : goal.loop-k-init
-loop-k-init c = (
-  refl,
-  none_yet (λ before e. CancelAt
-      (commands_of c.args.rank c.args.lines.now) before e.what) c.args.events.now,
-)
-
-pub is_cancel_right-requires-clause-since : goal.is_cancel_right-requires-clause-since
-is_cancel_right-requires-clause-since c = c.loop-k.invariant.0
-
-pub is_cancel_right-requires-clause-kept : goal.is_cancel_right-requires-clause-kept
-is_cancel_right-requires-clause-kept c = c.loop-k.invariant.1
-
-pub loop-k-preserved : goal.loop-k-preserved
-loop-k-preserved c = (
-  c.after-since.ensures c.args.events.now c.index-events-k.result
-      (slice_get_read c.args.events.now (length c.args.events.now) c.loop-k.k c.index-events-k.result refl
-      c.loop-k-test.true c.index-events-k.is)
-      refl c.loop-k.invariant.0,
-  goes_on (λ before e. CancelAt (commands_of c.args.rank c.args.lines.now) before e.what) c.args.events.now c.loop-k.k
-      c.index-events-k.result c.loop-k-test.true c.index-events-k.is c.loop-k.invariant.1
-      (rw c.if-not-is_cancel_right.false at c.is_cancel_right.ensures),
-)
-
-pub returns-then-not-is_cancel_right : goal.returns-then-not-is_cancel_right
-returns-then-not-is_cancel_right c = λ holds.
-    breaks (λ before e. CancelAt (commands_of c.args.rank c.args.lines.now) before e.what) c.args.events.now c.loop-k.k
-    c.index-events-k.result c.loop-k-test.true c.index-events-k.is
-    (rw c.if-not-is_cancel_right.true at c.is_cancel_right.ensures) holds.made
 
 pub returns : goal.returns
 returns c =
-    let h = c.args.events.now in
-    let k = c.loop-k.k in
-    let all : take k h ≡ h = take_all k h c.loop-k-test.false in
-    decides_by c.is_nothing.result
-    (λ none. record {
-      made = all_kept (λ before e. CancelAt (commands_of c.args.rank c.args.lines.now) before e.what) h k
-          c.loop-k-test.false c.loop-k.invariant.1;
-      no_others = ap (λ (g : List Event). cancels_since g) (sym all) ∙ none;
-    })
-    (λ holds. ap (λ (g : List Event). cancels_since g) all ∙ holds.no_others)
-    (c.is_nothing.ensures is_cancelling h k c.loop-k.invariant.0)
+    decided_whole (λ before e. CancelAt (commands_of c.args.rank c.args.lines.now) before e.what)
+    (λ (g : List Event). cancels_since g ≡ []) c.args.events.now
+    (Cancels (commands_of c.args.rank c.args.lines.now) c.args.events.now)
+    c.first_cancel.result c.is_none.result c.is_none.ensures (λ whole. whole.made) (λ whole. whole.no_others) c.first_cancel.ensures

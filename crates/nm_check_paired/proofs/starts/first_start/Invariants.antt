@@ -2,7 +2,7 @@ use Rattle.std.proofs.Common.{take}
 use Rattle.nm_types.specs.Commands.{commands_of}
 use Rattle.nm_history.specs.RankRun.{Always, StartAt, is_start}
 use Rattle.nm_asked.specs.SinceAnswer.{IsSince}
-use Rattle.nm_check_paired.proofs.starts.starts_hold.Given as goal
+use Rattle.nm_check_paired.proofs.starts.first_start.Given as goal
 
 -- the sends and receives since the last answer, and the events so far keep the rule
 abbrev pub invariant-loop-k : goal.invariant-loop-k

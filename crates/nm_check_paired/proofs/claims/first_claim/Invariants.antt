@@ -3,7 +3,7 @@ use Rattle.nm_types.specs.Commands.{commands_of}
 use Rattle.nm_history.specs.RankRun.{Always, ClaimAt}
 use Rattle.nm_asked.specs.SinceAnswer.{IsSince}
 use Rattle.nm_check_paired.specs.Kinds.{is_claiming}
-use Rattle.nm_check_paired.proofs.claims.claims_hold.Given as goal
+use Rattle.nm_check_paired.proofs.claims.first_claim.Given as goal
 
 -- the claims since the last answer, and the events so far keep the rule
 abbrev pub invariant-loop-k : goal.invariant-loop-k

@@ -2,7 +2,7 @@ use Rattle.std.proofs.Common.{take}
 use Rattle.nm_types.specs.Commands.{commands_of}
 use Rattle.nm_history.specs.RankRun.{Always, CancelAt, is_cancelling}
 use Rattle.nm_asked.specs.SinceAnswer.{IsSince}
-use Rattle.nm_check_paired.proofs.cancels.cancels_hold.Given as goal
+use Rattle.nm_check_paired.proofs.cancels.first_cancel.Given as goal
 
 -- the cancels since the last answer, and the events so far keep the rule
 abbrev pub invariant-loop-k : goal.invariant-loop-k

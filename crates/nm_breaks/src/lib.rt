@@ -1,0 +1,22 @@
+//! Where a trace breaks a rule of its script first.
+//!
+//! # What a contract sees
+//! `specs/Found.antt` says what each answer means (`IsFound`), by the definitions of `nm_checked`
+//! and of the crates below it: the verdict is the one of `nm_check`, and `specs/Places.antt` says
+//! what its place is. For a rule of a rank's own run it is the first event at which the rule breaks
+//! (`BreaksOwnAt` of `nm_check_rank`): the events before it keep the rule, and with it they break
+//! it.
+//! # What is proved
+//! - `find` tells the cases apart as `nm_checked::check` does, and its verdict is that of the same
+//!   definitions.
+//! - The place of a rule of a rank's own run is the first one.
+//! # What is only tested
+//! That `find` succeeds with ample memory.
+#![tactic(auto)]
+
+mod finding;
+mod own;
+mod places;
+
+pub use finding::{Found, find};
+pub use places::Place;
