@@ -1,24 +1,18 @@
 -- The first event at which a rule of each event breaks.
 use Rattle.std.proofs.Common.{◌≡◌, ℕ, ◌+◌, ◌<◌, Option, Some, None, List, [], ◌∷◌, ◌++◌, length, take, drop, get_or}
-use Rattle.std.proofs.Common.{Bool, true, false, cond, sym, ◌∙◌, ap, subst, append_assoc}
+use Rattle.std.proofs.Common.{Bool, true, false, cond, sym, subst}
 use Rattle.std.proofs.lemmas.List.{take-append-drop}
 use Rattle.std.proofs.lemmas.Bool.{false≢true}
 use Rattle.std.specs.Prelude.{is_some, not, MatchOption}
 use Rattle.nm_history.specs.declared.events.Event.{Event}
 use Rattle.nm_history.specs.AtEach.{AtEach}
-use Rattle.nm_history.proofs.AtEachLemmas.{AtEach-from_splits, AtEach-split}
+use Rattle.nm_history.proofs.AtEachLemmas.{AtEach-split}
+use Rattle.nm_history.proofs.EachLemmas.{AtEach-prefix}
 use Rattle.nm_facts.proofs.Lists.{take_next}
 use Rattle.nm_places.specs.Deciding.{Decides}
 use Rattle.nm_check_rank.specs.Breaks.{Breaks, BreaksFirstAt}
 use Rattle.nm_check_rank.specs.declared.breaks.Break.{Break}
 use Rattle.nm_check_rank.specs.declared.breaks.Break.TheVariants.{At, Behind}
-
--- what holds of each event of a history holds of each of its first events
-pub kept_before : (R : List Event → Event → Type 0) (xs ys : List Event) → AtEach R (xs ++ ys) → AtEach R xs
-kept_before R xs ys each = AtEach-from_splits R xs (λ before e after split.
-    AtEach-split R before e (after ++ ys)
-    (subst (λ (g : List Event). AtEach R g)
-    (ap (λ (g : List Event). g ++ ys) split ∙ append_assoc before (e ∷ after) ys) each))
 
 module _ (R : List Event → Event → Type 0) (h : List Event) where
   -- an event that breaks the rule, behind events that keep it
@@ -34,7 +28,7 @@ module _ (R : List Event → Event → Type 0) (h : List Event) where
   -- where there is such an event, not all keep the rule
   pub not_kept : (k : ℕ) → BreaksFirstAt (AtEach R) h k → AtEach R h → ⊥
   not_kept k first each = first.broken
-      (kept_before R (take (k + 1) h) (drop (k + 1) h)
+      (AtEach-prefix R (take (k + 1) h) (drop (k + 1) h)
       (subst (λ (g : List Event). AtEach R g) (sym (take-append-drop (k + 1) h)) each))
 
   -- whether there is none tells whether all keep the rule

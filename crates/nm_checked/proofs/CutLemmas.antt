@@ -51,7 +51,7 @@ all_push : (lines : List (List ℕ)) (line : List ℕ) → AllByRecursion IsBefo
 all_push [] line before here = (here, tt)
 all_push (l ∷ lines) line before here = (before.0, all_push lines line before.1 here)
 
-first_line_of : (l : List ℕ) (ls : List (List ℕ)) (behind : List ℕ) → ended_lines (l ∷ ls) ++ behind ≡ l ++ 10 ∷
+pub first_line_of : (l : List ℕ) (ls : List (List ℕ)) (behind : List ℕ) → ended_lines (l ∷ ls) ++ behind ≡ l ++ 10 ∷
     (ended_lines ls ++ behind)
 first_line_of l ls behind =
     ap (λ (x : List ℕ). x ++ behind) (flat_map-cons (λ (l : List ℕ). l ++ 10 ∷ []) l ls)

@@ -1,1 +1,1 @@
-mod CutLemmas
+pub mod CutLemmas

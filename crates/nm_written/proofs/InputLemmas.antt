@@ -3,7 +3,6 @@ use Rattle.std.proofs.Common.{◌≡◌, ◌≢◌, ℕ, ◌≤◌, inl, inr, Li
 use Rattle.std.proofs.Common.{Some, None, refl, sym, ◌∙◌, ap, subst, arith, append_assoc, map, codes, decimal, leb}
 use Rattle.std.specs.List.{AllByRecursion, join_with_byte}
 use Rattle.std.proofs.lemmas.Bool.{and_parts, leb-true, ne_eqb}
-use Rattle.std.proofs.lemmas.List.Concat.{flat_map-cons}
 use Rattle.std.proofs.lemmas.List.Folds.{flat_map-map}
 use Rattle.nm_types.specs.declared.limits.TheConstants.{MAX_RANKS}
 use Rattle.nm_types.specs.declared.scripts.Line.{Line}
@@ -14,19 +13,13 @@ use Rattle.nm_script.specs.Rules.{line_text, ranks_text}
 use Rattle.nm_script.proofs.CommandLemmas.{Fits, line_again}
 use Rattle.nm_script.proofs.ReadLemmas.{AllFit, first_fits, first_solid, script_lines}
 use Rattle.nm_trace.specs.Lines.{ended_lines, first_line}
+use Rattle.nm_checked.proofs.CutLemmas.{first_line_of}
 use Rattle.nm_checked.specs.Inputs.{Follows, IsBefore, IsOnlyCut}
 
 -- the first line of a text that begins with a line and its line feed
 first_of : (line x : List ℕ) → AllByRecursion (λ b. b ≢ 10) line → first_line (line ++ 10 ∷ x) ≡ Some (line, x)
 first_of [] x one = refl
 first_of (b ∷ line) x one = rw (ne_eqb b 10 one.0) (rw (first_of line x one.1) refl)
-
--- the lines, of which the first is this
-first_split : (l : List ℕ) (ls : List (List ℕ)) (x : List ℕ) →
-    ended_lines (l ∷ ls) ++ x ≡ l ++ 10 ∷ (ended_lines ls ++ x)
-first_split l ls x =
-    ap (λ t. t ++ x) (flat_map-cons (λ (l : List ℕ). l ++ 10 ∷ []) l ls)
-    ∙ append_assoc (l ++ 10 ∷ []) (ended_lines ls) x ∙ append_assoc l (10 ∷ []) (ended_lines ls ++ x)
 
 -- a line and what is behind it, in both parts
 same_parts : (p q : List ℕ × List ℕ) → Some p ≡ Some q → (p.0 ≡ q.0) × (p.1 ≡ q.1)
@@ -61,12 +54,12 @@ cuts_same : (ls ms : List (List ℕ)) (x y r s : List ℕ) → AllByRecursion Is
     Follows x r → Follows y s → ended_lines ls ++ x ≡ ended_lines ms ++ y → (ls ≡ ms) × (r ≡ s)
 cuts_same [] [] x y r s p q f g same = (refl, rest_same x y r s f g same)
 cuts_same [] (m ∷ ms) x y r s p q f g same =
-    absurd (not_before m (ended_lines ms ++ y) x r q.0 f (same ∙ first_split m ms y))
+    absurd (not_before m (ended_lines ms ++ y) x r q.0 f (same ∙ first_line_of m ms y))
 cuts_same (l ∷ ls) [] x y r s p q f g same =
-    absurd (not_before l (ended_lines ls ++ x) y s p.0 g (sym same ∙ first_split l ls x))
+    absurd (not_before l (ended_lines ls ++ x) y s p.0 g (sym same ∙ first_line_of l ls x))
 cuts_same (l ∷ ls) (m ∷ ms) x y r s p q f g same =
     let whole : l ++ 10 ∷ (ended_lines ls ++ x) ≡ m ++ 10 ∷ (ended_lines ms ++ y) =
-    sym (first_split l ls x) ∙ same ∙ first_split m ms y in
+    sym (first_line_of l ls x) ∙ same ∙ first_line_of m ms y in
     let both = same_parts (l, ended_lines ls ++ x) (m, ended_lines ms ++ y)
     (sym (first_of l (ended_lines ls ++ x) p.0.one) ∙ ap first_line whole
     ∙ first_of m (ended_lines ms ++ y) q.0.one) in
