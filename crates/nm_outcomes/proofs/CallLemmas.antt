@@ -18,6 +18,7 @@ use Rattle.nm_history.specs.Answers.{live, live_message}
 use Rattle.nm_history.specs.Completion.{Request}
 use Rattle.nm_history.specs.Completion.Request.{Receiving, Sending}
 use Rattle.nm_history.specs.RankRun.{CancelAt, CancelsFor, CancelsOf, ClaimAt, IsRankRun, StartAt, cancels_since}
+use Rattle.nm_history.specs.RankRun.{claims_since}
 use Rattle.nm_history.specs.RankRun.{is_cancelling, is_matched_probe, is_start, line_of_claim, ran_lines}
 use Rattle.nm_history.specs.RankRun.{since_command, start_of, starts_since, without_number}
 use Rattle.nm_history.proofs.AtEachLemmas.{AtEach-from_splits}
@@ -25,7 +26,7 @@ use Rattle.nm_history.proofs.RankRunLemmas.{rank_run-split}
 use Rattle.nm_outcomes.specs.Due.{AreAtLines, EventsAreDue, IsAnswerOf, IsCancelOf, IsDue, IsMatchOf}
 use Rattle.nm_outcomes.proofs.DueLemmas.{few_starts, is_ran, next_answer, one_only, started}
 use Rattle.nm_outcomes.proofs.QuietLemmas.{AreQuiet, HasAnswer, first_answer, since_quiet}
-use Rattle.nm_outcomes.proofs.QuietLemmas.{ran_quiet}
+use Rattle.nm_outcomes.proofs.QuietLemmas.{first_one, none_before, ran_quiet}
 use Rattle.nm_outcomes.proofs.QuietLemmas.{back_empty, live_quiet, message_quiet, not_kept, one_in}
 use Rattle.nm_outcomes.proofs.QuietLemmas.{all_in, claim_among, middle_empty, middle_one, nothing_mapped}
 use Rattle.nm_outcomes.proofs.QuietLemmas.{either_none}
@@ -35,6 +36,11 @@ abbrev IsOf : Happened → Request → Type 0
 IsOf (event.Cancel number done) (Receiving k) = number ≡ k
 IsOf (event.Recall to n) (Sending j m) = (to ≡ j) × (n ≡ m)
 IsOf _ _ = ⊥
+
+-- no cancel stands before that of a receive
+abbrev IsFirst : List Event → Request → Type 0
+IsFirst before (Receiving number) = cancels_since before ≡ []
+IsFirst before (Sending to n) = Unit {0}
 
 module _ (shape : Sizes) (commands : List Numbered) (at : ℕ) (h : List Event) (stand : AreAtLines commands)
     (run : IsRankRun shape commands at h) where
@@ -114,7 +120,7 @@ module _ (shape : Sizes) (commands : List Numbered) (at : ℕ) (h : List Event) 
         (none (before ++ record { stamp = stamp; what = w } ∷ next.mid) next.line)
         ∙ either_none (is_started next.answer)))
 
-    cancelling : is_cancelling w ≡ true → (r : Request) × IsCancelOf commands before r × IsOf w r
+    cancelling : is_cancelling w ≡ true → (r : Request) × IsCancelOf commands before r × IsOf w r × IsFirst before r
     cancelling passes =
         by_command next.due.command.command refl
         (subst (λ (o : Option Command). MatchOption o
@@ -149,7 +155,7 @@ module _ (shape : Sizes) (commands : List Numbered) (at : ℕ) (h : List Event) 
         by_live : (q : ℕ) → next.due.command.command ≡ command.Cancel q → (o : Option Request) →
             live commands (before ++ record { stamp = stamp; what = w } ∷ next.mid) q ≡ o →
             CancelsOf (before ++ record { stamp = stamp; what = w } ∷ next.mid) o →
-            (r : Request) × IsCancelOf commands before r × IsOf w r
+            (r : Request) × IsCancelOf commands before r × IsOf w r × IsFirst before r
         by_live q is None live_is cancels = absurd (some_cancel cancels)
         by_live q is (Some (Receiving number)) live_is cancels = (
           Receiving number,
@@ -158,6 +164,8 @@ module _ (shape : Sizes) (commands : List Numbered) (at : ℕ) (h : List Event) 
               (map (λ (e : Event). e.what) next.mid) w _
               passes
               (ap (λ (ws : List Happened). filter is_cancelling ws) (sym next.since) ∙ cancels)) refl,
+          none_before is_cancelling (since_command before) (map (λ (e : Event). e.what) next.mid) w _ passes
+              (ap (λ (ws : List Happened). filter is_cancelling ws) (sym next.since) ∙ cancels),
         )
         by_live q is (Some (Sending to n)) live_is cancels = (
           Sending to n,
@@ -168,23 +176,26 @@ module _ (shape : Sizes) (commands : List Numbered) (at : ℕ) (h : List Event) 
               (filter is_cancelling ws)) next.since
               (recursion_from_All (λ (what : Happened). what ≡ event.Recall to n)
               (cancels_since (before ++ record { stamp = stamp; what = w } ∷ next.mid)) cancels.1))),
+          tt,
         )
 
         by_command : (c : Command) → next.due.command.command ≡ c →
             CancelsFor commands (before ++ record { stamp = stamp; what = w } ∷ next.mid) c →
-            (r : Request) × IsCancelOf commands before r × IsOf w r
+            (r : Request) × IsCancelOf commands before r × IsOf w r × IsFirst before r
         by_command (command.Cancel q) is cancels =
             by_live q is (live commands (before ++ record { stamp = stamp; what = w } ∷ next.mid) q) refl cancels
         by_command c is cancels = absurd (some_cancel cancels)
 
   claiming : (before : List Event) (stamp from n line : ℕ) → Next before stamp (event.Claim from n line) →
-      IsAnswerOf commands before line
+      IsAnswerOf commands before line × (claims_since before ≡ [])
   claiming before stamp from n line next =
+      let one = sym (claim_among (since_command before) (map (λ (e : Event). e.what) next.mid) from n line)
+      ∙ ap (λ (ws : List Happened). filter_map line_of_claim ws) (sym next.since) ∙ next.claims in
       let same : line ≡ next.line = by_test (option_map_or is_matched_probe (command_at commands next.line) false
-      && is_seen next.answer) (sym (claim_among (since_command before)
-      (map (λ (e : Event). e.what) next.mid) from n line)
-      ∙ ap (λ (ws : List Happened). filter_map line_of_claim ws) (sym next.since) ∙ next.claims) in
-      record { command = next.due.command; next = next.due.next; line_is = next.due.line_is ∙ sym same }
+      && is_seen next.answer) one in (
+        record { command = next.due.command; next = next.due.next; line_is = next.due.line_is ∙ sym same },
+        first (option_map_or is_matched_probe (command_at commands next.line) false && is_seen next.answer) one,
+      )
     where
       by_test : (b : Bool) →
           filter_map line_of_claim (since_command before) ++ line
@@ -192,6 +203,13 @@ module _ (shape : Sizes) (commands : List Numbered) (at : ℕ) (h : List Event) 
           line ≡ next.line
       by_test true one = middle_one _ _ line next.line one
       by_test false none = absurd (middle_empty _ _ line none)
+
+      first : (b : Bool) →
+          filter_map line_of_claim (since_command before) ++ line
+          ∷ filter_map line_of_claim (map (λ (e : Event). e.what) next.mid) ≡ cond b (next.line ∷ []) [] →
+          claims_since before ≡ []
+      first true one = first_one _ _ line next.line one
+      first false none = absurd (middle_empty _ _ line none)
 
   matching : (before : List Event) (stamp number from n cap line : ℕ) →
       Next before stamp (event.Match number from n cap line) → IsMatchOf commands before from n cap line
@@ -315,11 +333,11 @@ module _ (shape : Sizes) (commands : List Numbered) (at : ℕ) (h : List Event) 
       (event.Cancel number done) refl
       (ap (λ (ws : List Happened). filter is_cancelling ws) (sym last) ∙ run.cancels.no_others))) refl)
     where
-      by_request : (r : Request) × IsCancelOf commands before r × IsOf (event.Cancel number done) r →
-          IsCancelOf commands before (Receiving number)
-      by_request (Receiving k, is, same) =
-          subst (λ (x : ℕ). IsCancelOf commands before (Receiving x)) (sym same) is
-      by_request (Sending to n, is, same) = absurd same
+      by_request : (r : Request) × IsCancelOf commands before r × IsOf (event.Cancel number done) r
+          × IsFirst before r → IsCancelOf commands before (Receiving number) × (cancels_since before ≡ [])
+      by_request (Receiving k, is, same, first) =
+          (subst (λ (x : ℕ). IsCancelOf commands before (Receiving x)) (sym same) is, first)
+      by_request (Sending to n, is, same, first) = absurd same
   due_at before stamp (event.Recall to n) after split =
       by_request (cancelling before stamp (event.Recall to n)
       (next_at before stamp (event.Recall to n) after split refl
@@ -327,10 +345,10 @@ module _ (shape : Sizes) (commands : List Numbered) (at : ℕ) (h : List Event) 
       (event.Recall to n) refl
       (ap (λ (ws : List Happened). filter is_cancelling ws) (sym last) ∙ run.cancels.no_others))) refl)
     where
-      by_request : (r : Request) × IsCancelOf commands before r × IsOf (event.Recall to n) r →
+      by_request : (r : Request) × IsCancelOf commands before r × IsOf (event.Recall to n) r × IsFirst before r →
           IsCancelOf commands before (Sending to n)
-      by_request (Receiving k, is, same) = absurd same
-      by_request (Sending j m, is, same) =
+      by_request (Receiving k, is, same, first) = absurd same
+      by_request (Sending j m, is, same, first) =
           subst (λ (x : ℕ). IsCancelOf commands before (Sending x n)) (sym same.0)
           (subst (λ (x : ℕ). IsCancelOf commands before (Sending j x)) (sym same.1) is)
   due_at before stamp (event.Claim from n line) after split =

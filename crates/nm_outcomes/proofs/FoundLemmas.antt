@@ -74,22 +74,24 @@ StandAtLines =
     (rank : ℕ) (lines : List Line) (k : ℕ) (c : Numbered) → slice_get (commands_of rank lines) k ≡ Some c →
     command_at (commands_of rank lines) c.line ≡ Some c.command
 
-script_commands : (ranks : ℕ) (lines : List Line) → StandAtLines → IsScript ranks lines → AreCommands ranks lines
+pub commands_in_range : (ranks : ℕ) (lines : List Line) → IsScript ranks lines → (i line : ℕ) (c : Command) →
+    command_at (commands_of i lines) line ≡ Some c → is_in_range ranks c ≡ true
+commands_in_range ranks lines script i line c here =
+    by_found (find (λ (c : Numbered). c.line == line) (commands_of i lines)) refl here
+  where
+    by_found : (o : Option Numbered) → find (λ (c : Numbered). c.line == line) (commands_of i lines) ≡ o →
+        option_map (λ (c : Numbered). c.command) o ≡ Some c → is_in_range ranks c ≡ true
+    by_found None found here = absurd (no_some c here)
+    by_found (Some x) found here =
+        subst (λ (c : Command). is_in_range ranks c ≡ true) (same_some x.command c here)
+        (found_of_all (λ (c : Numbered). is_in_range ranks c.command ≡ true) (λ (c : Numbered). c.line == line)
+        (commands_of i lines) x (in_range_from ranks i 2 lines script.lines_in_range) found)
+
+pub script_commands : (ranks : ℕ) (lines : List Line) → StandAtLines → IsScript ranks lines → AreCommands ranks lines
 script_commands ranks lines stand script = record {
   stand = λ i k c here. stand i lines k c here;
-  addressed = λ i line c here. by_found i line c (find (λ (c : Numbered). c.line == line)
-      (commands_of i lines)) refl here;
+  addressed = λ i line c here. sends_within ranks c (commands_in_range ranks lines script i line c here);
 }
-  where
-    by_found : (i line : ℕ) (c : Command) (o : Option Numbered) →
-        find (λ (c : Numbered). c.line == line) (commands_of i lines) ≡ o →
-        option_map (λ (c : Numbered). c.command) o ≡ Some c → IsAddressed ranks c
-    by_found i line c None found here = absurd (no_some c here)
-    by_found i line c (Some x) found here =
-        subst (λ (c : Command). IsAddressed ranks c) (same_some x.command c here)
-        (sends_within ranks x.command
-        (found_of_all (λ (c : Numbered). is_in_range ranks c.command ≡ true) (λ (c : Numbered). c.line == line)
-        (commands_of i lines) x (in_range_from ranks i 2 lines script.lines_in_range) found))
 
 -- where each element has what its number says, all have
 each_numbered : {A B : Type 0} (f : A → B) (T : ℕ → B) (n : ℕ) (xs : List A) →

@@ -1,10 +1,10 @@
-mod Bodies
+pub mod Bodies
 pub mod CallLemmas
 pub mod DueLemmas
 mod Early
 pub mod EndLemmas
 pub mod FoundLemmas
-mod HappenedLemmas
+pub mod HappenedLemmas
 pub mod LogLemmas
 pub mod MoveLemmas
 pub mod PathLemmas
@@ -12,5 +12,5 @@ pub mod PlaceLemmas
 mod QuietLemmas
 pub mod RestLemmas
 pub mod SearchLemmas
-mod SentLemmas
+pub mod SentLemmas
 pub mod SwapLemmas

@@ -424,9 +424,9 @@ module _ (shape : Sizes) (lines : List Line) (log : List Step) (w : ℕ → Plac
         not_so true is = absurd (false≢true is)
     by_event (event.Claim from n line) stamp own message asked bodies due = (
       record {
-        command = due.command;
-        next = ap (λ (k : ℕ). slice_get commands k) (are i).done ∙ due.next;
-        line_is = due.line_is;
+        command = due.0.command;
+        next = ap (λ (k : ℕ). slice_get commands k) (are i).done ∙ due.0.next;
+        line_is = due.0.line_is;
       },
       by_command (command_at commands line) own.claims,
     )
@@ -437,7 +437,7 @@ module _ (shape : Sizes) (lines : List Line) (log : List Step) (w : ℕ → Plac
         by_command None claims = absurd claims
         by_command (Some c) claims = claim_is i commands h (w i) (are i) line c ∙ claims
     by_event (event.Cancel number done) stamp own message asked bodies due =
-        (cancels_now (Receiving number) due, own.cancels ∙ ap not (sym (paired_is i commands h (w i) (are i) number)))
+        (cancels_now (Receiving number) due.0, own.cancels ∙ ap not (sym (paired_is i commands h (w i) (are i) number)))
     by_event (event.Recall to n) stamp own message asked bodies due =
         (cancels_now (Sending to n) due, (are i).recalled to n ∙ own.cancels.0)
     by_event (event.Withdraw from n done) stamp own message asked bodies due =

@@ -248,11 +248,11 @@ module _ (ranks eager : ℕ) (commands : List Numbered) (stand : AreAtLines comm
         (λ line to n asked. absurd (no_some (Sending to n) asked))
 
 -- the history of a rank, before a step, at it and behind it
-history_split : (before steps : List Step) (i : ℕ) →
+pub history_split : (before steps : List Step) (i : ℕ) →
     history_in (before ++ steps) i ≡ history_in before i ++ history_in steps i
 history_split before steps i = filter_map-append (λ (step : Step). event_of i step) before steps
 
-history_at : (step : Step) (steps : List Step) →
+pub history_at : (step : Step) (steps : List Step) →
     history_in (step ∷ steps) step.rank ≡ step.event ∷ history_in steps step.rank
 history_at step steps = rw (eqb_self step.rank) refl
 

@@ -206,6 +206,20 @@ one_in {X} test (x ∷ xs) ys w z passes one = by_test (test x) one (λ one. one
         let tail : filter test (xs ++ w ∷ ys) ≡ [] = cc in absurd (not_kept test xs ys w passes tail)
     by_test false one later = later one
 
+-- what passes before the only one that does
+pub none_before : {X : Type 0} (test : X → Bool) (xs ys : List X) (w z : X) → test w ≡ true →
+    filter test (xs ++ w ∷ ys) ≡ z ∷ [] → filter test xs ≡ []
+none_before test [] ys w z passes one = refl
+none_before {X} test (x ∷ xs) ys w z passes one =
+    by_test (test x) one (λ one. none_before test xs ys w z passes one)
+  where
+    by_test : (b : Bool) → cond b (x ∷ filter test (xs ++ w ∷ ys)) (filter test (xs ++ w ∷ ys)) ≡ z ∷ [] →
+        (filter test (xs ++ w ∷ ys) ≡ z ∷ [] → filter test xs ≡ []) →
+        cond b (x ∷ filter test xs) (filter test xs) ≡ []
+    by_test true one later =
+        let tail : filter test (xs ++ w ∷ ys) ≡ [] = cc in absurd (not_kept test xs ys w passes tail)
+    by_test false one later = later one
+
 pub all_in : {X : Type 0} (P : X → Type 0) (test : X → Bool) (xs ys : List X) (w : X) → test w ≡ true →
     AllByRecursion P (filter test (xs ++ w ∷ ys)) → P w
 all_in {X} P test [] ys w passes all = by_test (test w) passes all
@@ -233,6 +247,10 @@ middle_empty (y ∷ xs) ys x none = grind arith
 pub middle_one : (xs ys : List ℕ) (x z : ℕ) → xs ++ x ∷ ys ≡ z ∷ [] → x ≡ z
 middle_one [] ys x z one = cc
 middle_one (y ∷ xs) ys x z one = let tail : xs ++ x ∷ ys ≡ [] = cc in absurd (middle_empty xs ys x tail)
+
+pub first_one : (xs ys : List ℕ) (x z : ℕ) → xs ++ x ∷ ys ≡ z ∷ [] → xs ≡ []
+first_one [] ys x z one = refl
+first_one (y ∷ xs) ys x z one = let tail : xs ++ x ∷ ys ≡ [] = cc in absurd (middle_empty xs ys x tail)
 
 pub nothing_mapped : (ws : List Happened) → map without_number ws ≡ [] → ws ≡ []
 nothing_mapped [] none = refl

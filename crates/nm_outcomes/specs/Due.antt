@@ -13,7 +13,8 @@ use Rattle.nm_history.specs.Completion.{Request}
 use Rattle.nm_history.specs.Completion.Request.{Receiving, Sending}
 use Rattle.nm_types.specs.declared.scripts.Command.TheVariants as command
 use Rattle.nm_history.specs.AtEach.{AtEach}
-use Rattle.nm_history.specs.RankRun.{IsRankRun, ran_lines, start_of, starts_since, without_number}
+use Rattle.nm_history.specs.RankRun.{IsRankRun, cancels_since, claims_since, ran_lines, start_of, starts_since}
+use Rattle.nm_history.specs.RankRun.{without_number}
 
 -- the commands stand at their lines
 abbrev pub AreAtLines : List Numbered → Type 0
@@ -62,15 +63,18 @@ pub record IsMatchOf (commands : List Numbered) (before : List Event) (from n ca
   pub receives : command.command ≡ receive_of name handle cap
   pub message_is : live_message commands before handle ≡ Some (record { from = from; n = n })
 
--- what happens is what the next command calls for, if it comes of a command
+-- What happens is what the next command calls for, if it comes of a command. The cancel of a receive and
+-- a claim are the first of their command.
 abbrev pub IsDue : ℕ → List Numbered → List Event → Happened → Type 0
 IsDue eager commands before (Send to n tag ctx len how line) =
     IsStartOf eager commands before (Send to n tag ctx len how line)
 IsDue eager commands before (Post p line) = IsStartOf eager commands before (Post p line)
 IsDue eager commands before (Match number from n cap line) = IsMatchOf commands before from n cap line
-IsDue eager commands before (Cancel number done) = IsCancelOf commands before (Receiving number)
+IsDue eager commands before (Cancel number done) =
+    IsCancelOf commands before (Receiving number) × (cancels_since before ≡ [])
 IsDue eager commands before (Recall to n) = IsCancelOf commands before (Sending to n)
-IsDue eager commands before (Claim from n line) = IsAnswerOf commands before line
+IsDue eager commands before (Claim from n line) =
+    IsAnswerOf commands before line × (claims_since before ≡ [])
 IsDue eager commands before (Ran line answer) = IsAnswerOf commands before line
 IsDue eager commands before _ = Unit {0}
 

@@ -1,0 +1,11 @@
+-- Lists that grow.
+use Rattle.std.specs.Prelude.{◌≡◌, ℕ, Some, List}
+use Rattle.std.specs.List.{slice_get}
+
+-- the list has this element
+abbrev pub Has : {X : Type 0} → List X → X → Type 0
+Has xs x = (k : ℕ) × (slice_get xs k ≡ Some x)
+
+-- what stands in one list stands in the other one, at the same places
+abbrev pub Keeps : {X : Type 0} → List X → List X → Type 0
+Keeps {X} old new = (k : ℕ) (x : X) → slice_get old k ≡ Some x → slice_get new k ≡ Some x

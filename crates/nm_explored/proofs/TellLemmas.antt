@@ -1,0 +1,130 @@
+-- What each run tells is told at one of the ends.
+use Rattle.std.proofs.Common.{◌≡◌, ℕ, ◌<◌, ◌≤◌, Option, Some, List, [], map, refl, sym, ◌∙◌, ap, subst, arith}
+use Rattle.std.proofs.Common.{◌∷◌, zero, suc, length}
+use Rattle.std.specs.Prelude.{Contains, IfOk, Result, Ok, Err, option_map, slice_index_or}
+use Rattle.std.specs.List.{range_with_len, slice_get}
+use Rattle.nm_types.specs.declared.scripts.Line.{Line}
+use Rattle.nm_types.specs.Commands.{commands_of}
+use Rattle.nm_types.specs.declared.limits.TheConstants.{MAX_LINES}
+use Rattle.nm_types.specs.Limits.{IsScript}
+use Rattle.nm_types.specs.Sizes.{Sizes}
+use Rattle.nm_history.specs.declared.events.Event.{Event}
+use Rattle.nm_history.specs.AtEach.{AtEach}
+use Rattle.nm_report.specs.declared.records.RunRecord.{RunRecord}
+use Rattle.nm_report.specs.Ends.{ends_of, packets_of}
+use Rattle.nm_report.specs.Lawful.{IsRunIn}
+use Rattle.nm_report.specs.Told.{RankTold, told_of}
+use Rattle.nm_facts.proofs.Lists.{no_item, place_below}
+use Rattle.nm_facts.proofs.Options.{same_some}
+use Rattle.nm_outcomes.specs.Due.{IsDue}
+use Rattle.nm_outcomes.specs.Logs.{IsLogOf, Step, events_of, history_in}
+use Rattle.nm_outcomes.specs.Outcomes.{told_at}
+use Rattle.nm_outcomes.specs.Places.{IsPlaceOf}
+use Rattle.nm_outcomes.proofs.CallLemmas.{events_are_due}
+use Rattle.nm_outcomes.proofs.FoundLemmas.{StandAtLines, all_told as run_told, commands_in_range, script_commands}
+use Rattle.nm_outcomes.proofs.LogLemmas.{at_of, own_run, runs_have_logs}
+use Rattle.nm_outcomes.proofs.PathLemmas.{sent_within}
+use Rattle.nm_outcomes.proofs.RestLemmas.{at_rest as places_at_rest}
+use Rattle.nm_spots.specs.Spots.{IsSpotOf, Spot, first_spot}
+use Rattle.nm_choices.specs.Choices.{spot_in}
+use Rattle.nm_choices.specs.Lists.{Has}
+use Rattle.nm_choices.specs.Settings.{IsAt}
+use Rattle.nm_choices.proofs.ChoiceLemmas.{sends_short}
+use Rattle.nm_choices.proofs.PlacedLemmas.{are_placed, placed}
+use Rattle.nm_explored.specs.declared.ends.End.{End}
+use Rattle.nm_explored.specs.declared.ends.Explored.{Explored}
+use Rattle.nm_explored.specs.declared.ends.Explored.TheVariants.{All, TooMany}
+use Rattle.nm_explored.specs.Ends.{AreAtRest, AreEnds, AreShort, IfAll, TellsAll, all_told, told_at_end, told_in}
+use Rattle.nm_explored.specs.Stores.{IsExplored, Store}
+use Rattle.nm_explored.proofs.RestLemmas.{at_rest, told_each, told_here}
+use Rattle.nm_explored.proofs.WalkLemmas.{Found, first_is_spot, walk}
+
+get_is : {X : Type 0} (xs : List X) (k : ℕ) (x : X) → slice_get xs k ≡ Some x → slice_index_or xs k x ≡ x
+get_is [] k x here = absurd (no_item k x here)
+get_is (y ∷ ys) zero x here = same_some y x here
+get_is (y ∷ ys) (suc k) x here = get_is ys k x here
+
+contains : {X : Type 0} (xs : List X) (x y : X) → Has xs x → y ≡ x → Contains xs y
+contains {X} xs x y at same =
+    subst (λ (z : X). Contains xs z) (sym same)
+    (at.0, place_below xs at.0 x at.1, get_is xs at.0 x at.1)
+
+pub tells_all : StandAtLines → (shape : Sizes) (lines : List Line) → IsScript shape.ranks lines → (store : Store) →
+    IsExplored shape.eager shape.ranks lines store → (ends : List End) → AreEnds shape.ranks lines store ends →
+    TellsAll shape lines ends
+tells_all stand shape lines script store explored ends are run is =
+    let commands = script_commands shape.ranks lines stand script in
+    let log = runs_have_logs shape lines (ends_of run.ranks) (packets_of run.pairs) is.lawful in
+    let due : (i : ℕ) → AtEach (λ b e. IsDue shape.eager (commands_of i lines) b e.what) (history_in log.0 i) =
+    λ i. subst (λ (h : List Event). AtEach (λ b e. IsDue shape.eager (commands_of i lines) b e.what) h)
+    (sym (log.1.histories i))
+    (events_are_due shape (commands_of i lines)
+    (at_of shape lines (ends_of run.ranks) (packets_of run.pairs) is.lawful i) (events_of (ends_of run.ranks) i)
+    (commands.stand i) (own_run shape lines (ends_of run.ranks) (packets_of run.pairs) is.lawful i)) in
+    let found = walk shape lines commands script store explored [] log.0 explored.first tt log.1.steps due
+    (explored.found, λ j low. (first_spot, explored.idle j low, first_is_spot lines)) in
+    let v : ℕ → Option Spot = spot_in store.table found.0 in
+    let ends_are : (i : ℕ) → IsPlaceOf i (commands_of i lines) (events_of (ends_of run.ranks) i)
+    (placed lines log.0 i) =
+    λ i. subst (λ (h : List Event). IsPlaceOf i (commands_of i lines) h (placed lines log.0 i))
+    (log.1.histories i) (are_placed lines log.0 i) in
+    let rest = places_at_rest shape lines (ends_of run.ranks) (packets_of run.pairs) commands is.lawful log.0 log.1
+    (placed lines log.0) ends_are in
+    let at : (i : ℕ) → i < shape.ranks → (s : Spot) × IsAt shape lines log.0 v i s =
+    λ i low. (
+      (found.1.1 i low).0,
+      record {
+        script = script;
+        is_log = log.1.steps;
+        stands = found.1.1;
+        stand = commands.stand i;
+        within = sent_within shape.ranks shape.eager (commands_of i lines) (commands.stand i) (commands.addressed i)
+            (history_in log.0 i) (due i);
+        low = low;
+        here = (found.1.1 i low).1;
+        is = (found.1.1 i low).2;
+      },
+    ) in
+    let quiet : AreAtRest shape.ranks lines v =
+    λ i low. at_rest shape lines log.0 v i (at i low).0 (at i low).1 rest in
+    let told : all_told lines v shape.ranks ≡ map (told_at lines (placed lines log.0)) (range_with_len 0 shape.ranks) =
+    told_each (λ i. option_map (told_in lines i) (v i)) (told_at lines (placed lines log.0)) 0 shape.ranks
+    (λ i first last.
+    let low : i < shape.ranks = omega (arith, last) in
+    ap (λ (o : Option Spot). option_map (told_in lines i) o) (at i low).1.here
+    ∙ ap (λ (t : RankTold). Some t) (told_here shape lines log.0 v i (at i low).0 (at i low).1 rest)) in
+    let run_is : told_of run ≡ map (told_at lines (placed lines log.0)) (range_with_len 0 shape.ranks) =
+    run_told shape lines run commands is log.0 log.1 (placed lines log.0) ends_are in
+    contains (map told_at_end ends) (all_told lines v shape.ranks) (told_of run)
+    (are found.1.0.0 found.0 found.1.0.1 quiet) (run_is ∙ sym told)
+
+-- a script is short, and so is what it sends at once
+pub script_short : (ranks : ℕ) (lines : List Line) → IsScript ranks lines → AreShort lines
+script_short ranks lines script =
+    record {
+      sends = λ i line c here. sends_short ranks c (commands_in_range ranks lines script i line c here);
+      count = let few : length lines < MAX_LINES = script.few_lines in omega (arith, few);
+    }
+
+-- what follows of all ends
+pub all_weaker : (P Q : List End → Type 0) → ((ends : List End) → P ends → Q ends) → (e : Explored) → IfAll P e →
+    IfAll Q e
+all_weaker P Q follows (All ends) all = follows ends all
+all_weaker P Q follows TooMany all = tt
+
+pub ok_weaker : {X E : Type 0} (P Q : X → Type 0) → ((x : X) → P x → Q x) → (r : Result X E) → IfOk r P → IfOk r Q
+ok_weaker P Q follows (Ok x) right = follows x right
+ok_weaker P Q follows (Err e) right = tt
+
+-- .. of the ends of a search that found all states
+pub explore_tells : StandAtLines → (shape : Sizes) (lines : List Line) → IsScript shape.ranks lines →
+    (eager ranks : ℕ) (own : List Line) (store : Store) → eager ≡ shape.eager → ranks ≡ shape.ranks → own ≡ lines →
+    IsExplored eager ranks own store → (ends : List End) → AreEnds ranks own store ends → TellsAll shape lines ends
+explore_tells stand shape lines script eager ranks own store a b c explored ends are =
+    tells_all stand shape lines script store
+    (subst (λ (x : ℕ). IsExplored x shape.ranks lines store) a
+    (subst (λ (x : ℕ). IsExplored eager x lines store) b
+    (subst (λ (x : List Line). IsExplored eager ranks x store) c explored)))
+    ends
+    (subst (λ (x : ℕ). AreEnds x lines store ends) b
+    (subst (λ (x : List Line). AreEnds ranks x store ends) c are))

@@ -1,0 +1,233 @@
+-- A search that expands all states that it finds finds one for each moment of a run.
+use Rattle.std.proofs.Common.{◌≡◌, ℕ, ◌<◌, ◌==◌, ◌&&◌, ◌||◌, Bool, true, false, Option, Some, None, List, [], ◌∷◌}
+use Rattle.std.proofs.Common.{◌++◌, map, refl, sym, ◌∙◌, ap, subst, append-nil, append_assoc, length}
+use Rattle.std.specs.Prelude.{option_and_then}
+use Rattle.std.specs.List.{find, list_any, slice_get, slice_set}
+use Rattle.std.proofs.lemmas.Bool.{false≢true}
+use Rattle.std.proofs.Math.Bool.{or-false}
+use Rattle.nm_types.specs.declared.messages.Arrival.{Arrival}
+use Rattle.nm_types.specs.declared.scripts.Line.{Line}
+use Rattle.nm_types.specs.Commands.{commands_of}
+use Rattle.nm_types.specs.Limits.{IsScript}
+use Rattle.nm_types.specs.Sizes.{Sizes}
+use Rattle.nm_history.specs.declared.events.Event.{Event}
+use Rattle.nm_history.specs.declared.events.Happened.{Happened}
+use Rattle.nm_history.specs.declared.events.Happened.TheVariants as event
+use Rattle.nm_history.specs.AtEach.{AtEach}
+use Rattle.nm_history.specs.Happens.{happened, is_withdraw}
+use Rattle.nm_history.specs.Matching.{matched_pairs}
+use Rattle.nm_history.specs.Sends.{arrival_of}
+use Rattle.nm_history.specs.Underway.{is_of_packet}
+use Rattle.nm_history.proofs.AtEachLemmas.{AtEach-split}
+use Rattle.nm_history.proofs.EachLemmas.{AtEach-prefix}
+use Rattle.nm_pairing.specs.Queues.{free_messages, open_receives}
+use Rattle.nm_facts.proofs.Lists.{get_set_other, get_set_same, place_below}
+use Rattle.nm_facts.proofs.Numbers.{differ, same_number}
+use Rattle.nm_facts.proofs.Options.{no_some, same_some}
+use Rattle.nm_outcomes.specs.Due.{IsDue}
+use Rattle.nm_outcomes.specs.Logs.{IsLog, MayCome, MayComeAfter, Step, history_in}
+use Rattle.nm_outcomes.specs.Paths.{AreCommands}
+use Rattle.nm_outcomes.specs.Places.{IsProper, is_quiet, pair_by}
+use Rattle.nm_outcomes.proofs.LogLemmas.{grown_here, grown_other, log-push}
+use Rattle.nm_outcomes.proofs.PathLemmas.{history_at, history_split, sent_within}
+use Rattle.nm_spots.specs.Deeds.{post_of_lem}
+use Rattle.nm_spots.specs.Spots.{IsSpotOf, Spot, first_spot}
+use Rattle.nm_spots.proofs.SpotLemmas.{came_next, deeds_same, known_next, next, paired_next, place_at, taken_next}
+use Rattle.nm_choices.specs.Choices.{spot_in}
+use Rattle.nm_choices.specs.Lists.{Has}
+use Rattle.nm_choices.specs.Moves.{AreSpots, moved_at}
+use Rattle.nm_choices.proofs.ChoiceLemmas.{events_are_choices}
+use Rattle.nm_explored.specs.Stores.{IsExpanded, IsExplored, Store}
+
+and_none : (a b : Bool) → b ≡ false → (a && b) ≡ false
+and_none true b none = none
+and_none false b none = refl
+
+-- an event that is quiet changes no state
+module _ (lines : List Line) (h : List Event) (spot : Spot) (is : IsSpotOf lines h spot) (stamp : ℕ) where
+  still : (what : Happened) → IsProper h what → is_of_packet what ≡ true → pair_by (place_at h) what ≡ None →
+      arrival_of what ≡ None → ((from n : ℕ) → is_withdraw from n true what ≡ false) →
+      map post_of_lem spot.receives ≡ open_receives (h ++ record { stamp = stamp; what = what } ∷ []) →
+      spot.free ≡ free_messages (h ++ record { stamp = stamp; what = what } ∷ []) →
+      IsSpotOf lines (h ++ record { stamp = stamp; what = what } ∷ []) spot
+  still what fine packet none no_arrival stays opens frees = record {
+    deeds = deeds_same lines h spot is stamp what fine packet;
+    receives = opens;
+    free = frees;
+    paired = paired_next lines h spot is stamp what fine None none;
+    taken = taken_next lines h spot is stamp what fine None none;
+    known = known_next lines h spot is stamp what fine None no_arrival;
+    came = came_next lines h spot is stamp what fine None no_arrival;
+    withdrawn = λ from n. is.withdrawn from n ∙ sym (or-false _)
+        ∙ ap (λ (b : Bool). happened (is_withdraw from n true) h || b) (sym (stays from n))
+        ∙ (next lines h spot is stamp what fine).withdrawn from n;
+  }
+
+  quiet_spot : (what : Happened) → is_quiet what ≡ true →
+      IsSpotOf lines (h ++ record { stamp = stamp; what = what } ∷ []) spot
+  quiet_spot (event.Whole from n) quiet =
+      still (event.Whole from n) tt refl refl refl (λ i m. refl)
+      (is.receives ∙ (next lines h spot is stamp (event.Whole from n) tt).receives)
+      (is.free ∙ (next lines h spot is stamp (event.Whole from n) tt).messages)
+  quiet_spot (event.Out to n) quiet =
+      still (event.Out to n) tt refl refl refl (λ i m. refl)
+      (is.receives ∙ (next lines h spot is stamp (event.Out to n) tt).receives)
+      (is.free ∙ (next lines h spot is stamp (event.Out to n) tt).messages)
+  quiet_spot (event.Undone to n done) quiet =
+      still (event.Undone to n done) tt refl refl refl (λ i m. refl)
+      (is.receives ∙ (next lines h spot is stamp (event.Undone to n done) tt).receives)
+      (is.free ∙ (next lines h spot is stamp (event.Undone to n done) tt).messages)
+  quiet_spot (event.Withdraw from n false) quiet =
+      still (event.Withdraw from n false) tt refl refl refl (λ i m. and_none (from == i && n == m) false refl)
+      (is.receives ∙ (next lines h spot is stamp (event.Withdraw from n false) tt).receives)
+      (is.free ∙ (next lines h spot is stamp (event.Withdraw from n false) tt).messages)
+  quiet_spot (event.Withdraw from n true) quiet = absurd (false≢true quiet)
+  quiet_spot (event.Send to n tag ctx len how line) quiet = absurd (false≢true quiet)
+  quiet_spot (event.Post p line) quiet = absurd (false≢true quiet)
+  quiet_spot (event.Match number from n cap line) quiet = absurd (false≢true quiet)
+  quiet_spot (event.Cancel number done) quiet = absurd (false≢true quiet)
+  quiet_spot (event.Recall to n) quiet = absurd (false≢true quiet)
+  quiet_spot (event.Claim from n line) quiet = absurd (false≢true quiet)
+  quiet_spot (event.Ran line a) quiet = absurd (false≢true quiet)
+  quiet_spot (event.Arrive a) quiet = absurd (false≢true quiet)
+
+-- a rank of which nothing has happened
+pub first_is_spot : (lines : List Line) → IsSpotOf lines [] first_spot
+unfolding matched_pairs
+first_is_spot lines = record {
+  deeds = refl;
+  receives = refl;
+  free = refl;
+  paired = λ number. refl;
+  taken = λ from n. refl;
+  known = λ from n. refl;
+  came = λ from. refl;
+  withdrawn = λ from n. refl;
+}
+
+bound_some : {X Y : Type 0} (f : X → Option Y) (o : Option X) (y : Y) → option_and_then f o ≡ Some y →
+    (x : X) × (o ≡ Some x)
+bound_some f None y some = absurd (no_some y some)
+bound_some f (Some x) y some = (x, refl)
+
+module _ (shape : Sizes) (lines : List Line) (commands : AreCommands shape.ranks lines)
+    (script : IsScript shape.ranks lines) (store : Store)
+    (explored : IsExplored shape.eager shape.ranks lines store) where
+  abbrev pub AllDue : List Step → Type 0
+  AllDue log = (i : ℕ) → AtEach (λ b e. IsDue shape.eager (commands_of i lines) b e.what) (history_in log i)
+
+  -- a state is there, in which the ranks are after a log
+  abbrev pub Found : List Step → List ℕ → Type 0
+  Found log ids = Has store.states ids × AreSpots shape.ranks lines log (spot_in store.table ids)
+
+  -- in a state that was expanded the ranks are in the same states
+  agreed : (log : List Step) (ids : List ℕ) → AreSpots shape.ranks lines log (spot_in store.table ids) →
+      (e : IsExpanded shape.eager shape.ranks lines store ids) → AreSpots shape.ranks lines log e.states
+  agreed log ids are e j low =
+      let s = e.agrees.all j low in
+      let t = are j low in
+      let same : t.0 ≡ s.0 = same_some t.0 s.0 (sym t.1 ∙ e.agrees.same j s.0 s.1) in
+      (s.0, s.1, subst (λ (x : Spot). IsSpotOf lines (history_in log j) x) same t.2)
+
+  -- a rank went into another state
+  moved : (before : List Step) (s : Step) (ids : List ℕ) (id : ℕ) (t : Spot) → s.rank < shape.ranks →
+      slice_get store.table id ≡ Some t → AreSpots shape.ranks lines before (spot_in store.table ids) →
+      IsSpotOf lines (history_in before s.rank ++ s.event ∷ []) t →
+      AreSpots shape.ranks lines (before ++ s ∷ []) (spot_in store.table (slice_set ids s.rank id))
+  moved before s ids id t inside here are is j low = by_rank (s.rank == j) refl
+    where
+      below : s.rank < length ids
+      below =
+          let at = are s.rank inside in
+          let x = bound_some (λ (k : ℕ). slice_get store.table k) (slice_get ids s.rank) at.0 at.1 in
+          place_below ids s.rank x.0 x.1
+
+      at_rank : (x : Spot) × (spot_in store.table (slice_set ids s.rank id) s.rank ≡ Some x)
+          × IsSpotOf lines (history_in (before ++ s ∷ []) s.rank) x
+      at_rank = (
+        t,
+        ap (λ (o : Option ℕ). option_and_then (λ (k : ℕ). slice_get store.table k) o)
+            (get_set_same ids s.rank id below) ∙ here,
+        subst (λ (h : List Event). IsSpotOf lines h t) (sym (grown_here before s)) is,
+      )
+
+      by_rank : (b : Bool) → (s.rank == j) ≡ b →
+          (x : Spot) × (spot_in store.table (slice_set ids s.rank id) j ≡ Some x)
+          × IsSpotOf lines (history_in (before ++ s ∷ []) j) x
+      by_rank true same =
+          subst (λ (k : ℕ). (x : Spot) × (spot_in store.table (slice_set ids s.rank id) k ≡ Some x)
+          × IsSpotOf lines (history_in (before ++ s ∷ []) k) x) (same_number s.rank j same) at_rank
+      by_rank false other =
+          let x = are j low in (
+            x.0,
+            ap (λ (o : Option ℕ). option_and_then (λ (k : ℕ). slice_get store.table k) o)
+                (get_set_other ids s.rank j id (differ s.rank j other)) ∙ x.1,
+            subst (λ (h : List Event). IsSpotOf lines h x.0) (sym (grown_other before s j other)) x.2,
+          )
+
+  quiet_are : (before : List Step) (s : Step) (v : ℕ → Option Spot) → is_quiet s.event.what ≡ true →
+      AreSpots shape.ranks lines before v → AreSpots shape.ranks lines (before ++ s ∷ []) v
+  quiet_are before s v quiet are j low = by_rank (s.rank == j) refl (are j low)
+    where
+      by_rank : (b : Bool) → (s.rank == j) ≡ b →
+          (x : Spot) × (v j ≡ Some x) × IsSpotOf lines (history_in before j) x →
+          (x : Spot) × (v j ≡ Some x) × IsSpotOf lines (history_in (before ++ s ∷ []) j) x
+      by_rank true same at = (
+        at.0,
+        at.1,
+        subst (λ (k : ℕ). IsSpotOf lines (history_in (before ++ s ∷ []) k) at.0) (same_number s.rank j same)
+            (subst (λ (h : List Event). IsSpotOf lines h at.0) (sym (grown_here before s))
+            (quiet_spot lines (history_in before s.rank) at.0
+            (subst (λ (k : ℕ). IsSpotOf lines (history_in before k) at.0) (sym (same_number s.rank j same)) at.2)
+            s.event.stamp s.event.what quiet)),
+      )
+      by_rank false other at =
+          (at.0, at.1, subst (λ (h : List Event). IsSpotOf lines h at.0) (sym (grown_other before s j other)) at.2)
+
+  step : (before : List Step) (s : Step) (ids : List ℕ) → IsLog shape lines before →
+      MayCome shape lines (history_in before) s.rank s.event →
+      ((i : ℕ) → AtEach (λ b e. IsDue shape.eager (commands_of i lines) b e.what) (history_in before i)) →
+      IsDue shape.eager (commands_of s.rank lines) (history_in before s.rank) s.event.what →
+      Found before ids → (out : List ℕ) × Found (before ++ s ∷ []) out
+  step before s ids is may front due found = by_kind (is_quiet s.event.what) refl
+    where
+      by_kind : (b : Bool) → is_quiet s.event.what ≡ b → (out : List ℕ) × Found (before ++ s ∷ []) out
+      by_kind true quiet = (ids, (found.0, quiet_are before s (spot_in store.table ids) quiet found.1))
+      by_kind false loud =
+          let e = explored.expanded found.0.0 ids found.0.1 in
+          let spots = agreed before ids found.1 e in
+          let sp = e.agrees.all s.rank may.within in
+          let chosen = events_are_choices shape lines before e.states s.rank s.event sp.0 script is spots
+          (commands.stand s.rank)
+          (sent_within shape.ranks shape.eager (commands_of s.rank lines) (commands.stand s.rank)
+          (commands.addressed s.rank) (history_in before s.rank) (front s.rank)) may due loud sp.1 in
+          let lead = e.leads s.rank may.within sp.0 sp.1 chosen.by chosen.choice in (
+            slice_set ids s.rank lead.id,
+            (
+              lead.state,
+              moved before s ids lead.id (moved_at sp.0 chosen.by) may.within lead.spot found.1 chosen.state,
+            ),
+          )
+
+  pub walk : (before steps : List Step) (ids : List ℕ) → IsLog shape lines before →
+      MayComeAfter shape lines before steps → AllDue (before ++ steps) → Found before ids →
+      (out : List ℕ) × Found (before ++ steps) out
+  walk before [] ids is each due found =
+      (ids, subst (λ (log : List Step). Found log ids) (sym (append-nil before)) found)
+  walk before (s ∷ steps) ids is each due found =
+      let front : (i : ℕ) → AtEach (λ b e. IsDue shape.eager (commands_of i lines) b e.what) (history_in before i) =
+      λ i. AtEach-prefix (λ b e. IsDue shape.eager (commands_of i lines) b e.what) (history_in before i)
+      (history_in (s ∷ steps) i)
+      (subst (λ (h : List Event). AtEach (λ b e. IsDue shape.eager (commands_of i lines) b e.what) h)
+      (history_split before (s ∷ steps) i) (due i)) in
+      let now : IsDue shape.eager (commands_of s.rank lines) (history_in before s.rank) s.event.what =
+      AtEach-split (λ b e. IsDue shape.eager (commands_of s.rank lines) b e.what) (history_in before s.rank) s.event
+      (history_in steps s.rank)
+      (subst (λ (h : List Event). AtEach (λ b e. IsDue shape.eager (commands_of s.rank lines) b e.what) h)
+      (history_split before (s ∷ steps) s.rank
+      ∙ ap (λ (h : List Event). history_in before s.rank ++ h) (history_at s steps)) (due s.rank)) in
+      let next = step before s ids is each.0 front now found in
+      let rest = walk (before ++ s ∷ []) steps next.0 (log-push shape lines [] before s is each.0) each.1
+      (λ i. subst (λ (log : List Step). AtEach (λ b e. IsDue shape.eager (commands_of i lines) b e.what)
+      (history_in log i)) (sym (append_assoc before (s ∷ []) steps)) (due i)) next.1 in
+      (rest.0, subst (λ (log : List Step). Found log rest.0) (append_assoc before (s ∷ []) steps) rest.1)

@@ -1,0 +1,32 @@
+-- The ends of a search that found all states tell all.
+use Rattle.std.proofs.Common.{List, ℕ, sym, subst}
+use Rattle.nm_types.specs.declared.scripts.Line.{Line}
+use Rattle.nm_types.specs.Limits.{IsScript}
+use Rattle.nm_explored.specs.Ends.{AreEnds, AreShort, IfAll, TellsAll}
+use Rattle.nm_explored.proofs.StoreLemmas.{explored_by, first_whole}
+use Rattle.nm_explored.proofs.TellLemmas.{all_weaker, explore_tells, ok_weaker, script_short}
+use Rattle.nm_explored.proofs.ends.explore.Goals as goal
+
+pub all_ends-requires : goal.all_ends-requires
+all_ends-requires c =
+    subst (λ (ls : List Line). AreShort ls) (sym c.as_slice.ensures)
+    (script_short c.args.script.now.ranks c.args.script.now.lines c.args.script.now.limits)
+
+pub returns-then-all : goal.returns-then-all
+returns-then-all c =
+    let short : AreShort c.as_slice.result.now =
+    subst (λ (ls : List Line). AreShort ls) (sym c.as_slice.ensures)
+    (script_short c.args.script.now.ranks c.args.script.now.lines c.args.script.now.limits) in
+    let explored = explored_by c.eager.result c.ranks.result c.as_slice.result.now c.in_ok-search.search c.run.new.self
+    c.in_ok-search.ensures c.in_ok-all.ensures.grows
+    (c.in_ok-all.ensures.all short.count (first_whole c.ranks.result c.in_ok-search.search c.in_ok-search.ensures)
+    c.if-all.true) in
+    ok_weaker (IfAll (AreEnds c.ranks.result c.as_slice.result.now c.run.new.self))
+    (IfAll (TellsAll c.args.shape c.args.script.now.lines))
+    (all_weaker (AreEnds c.ranks.result c.as_slice.result.now c.run.new.self)
+    (TellsAll c.args.shape c.args.script.now.lines)
+    (λ ends are. explore_tells c.commands_stand_at_their_lines.ensures.own c.args.shape c.args.script.now.lines
+    (subst (λ (r : ℕ). IsScript r c.args.script.now.lines) (sym c.requires) c.args.script.now.limits)
+    c.eager.result c.ranks.result c.as_slice.result.now c.run.new.self c.eager.ensures.value c.ranks.ensures.value
+    c.as_slice.ensures explored ends are))
+    c.all_ends.result c.all_ends.ensures

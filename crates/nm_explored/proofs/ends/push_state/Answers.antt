@@ -1,0 +1,45 @@
+-- A state that is there, if it is an end.
+use Rattle.std.proofs.Common.{◌≡◌, ℕ, Some, List, map, ◌∙◌, ap, subst, arith}
+use Rattle.std.specs.Prelude.{OnOk, Result, Ok, Err}
+use Rattle.std.specs.List.{slice_get}
+use Rattle.nm_facts.proofs.Lists.{place_below}
+use Rattle.nm_spots.specs.Spots.{Spot}
+use Rattle.nm_choices.specs.Choices.{spot_in}
+use Rattle.nm_choices.specs.Lists.{Has}
+use Rattle.nm_explored.specs.Ends.{AreAtRest, all_told, told_at_end}
+use Rattle.nm_explored.specs.Stores.{Store}
+use Rattle.nm_explored.proofs.StoreLemmas.{looked_up}
+use Rattle.nm_explored.proofs.ends.push_state.Goals as goal
+
+on_ok : {X E P Q : Type 0} → (P → Q) → (r : Result X E) → OnOk r P → OnOk r Q
+on_ok follows (Ok x) right = follows right
+on_ok follows (Err e) right = tt
+
+pub returns-in-Some-clause-added : goal.returns-in-Some-clause-added
+returns-in-Some-clause-added c =
+    on_ok
+    (λ added ids here rest.
+    let table : c.as_slice-in-Some.result.now ≡ c.args.search.now.table =
+    c.as_slice-in-Some.ensures ∙ ap (λ (s : Store). s.table) c.search.view_is in
+    let states : c.as_slice.result.now ≡ c.args.search.now.states =
+    c.as_slice.ensures ∙ ap (λ (s : Store). s.states) c.search.view_is in
+    let own : c.as_slice-in-Some-2.result.now ≡ c.in-Some.state.now =
+    c.as_slice-in-Some-2.ensures.value ∙ c.state.view_is in
+    let same : c.in-Some.state.now ≡ ids =
+    looked_up c.as_slice.result.now c.args.k c.in-Some.state.now ids c.in-Some.ensures.lookup.3.0
+    c.in-Some.ensures.lookup.3.1 (ap (λ (ss : List (List ℕ)). slice_get ss c.args.k) states ∙ here) in
+    subst (λ (x : List Spot). AreAtRest c.args.of.ranks c.args.of.lines.now (spot_in x ids) →
+    Has (map told_at_end c.push_end.new.ends.items) (all_told c.args.of.lines.now (spot_in x ids) c.args.of.ranks)) table
+    (subst (λ (y : List ℕ). AreAtRest c.args.of.ranks c.args.of.lines.now (spot_in c.as_slice-in-Some.result.now y) →
+    Has (map told_at_end c.push_end.new.ends.items)
+    (all_told c.args.of.lines.now (spot_in c.as_slice-in-Some.result.now y) c.args.of.ranks)) (own ∙ same) added) rest)
+    c.push_end.result c.push_end.ensures.added
+
+pub returns-in-None-clause-added : goal.returns-in-None-clause-added
+returns-in-None-clause-added c ids here rest =
+    let states : c.as_slice.result.now ≡ c.args.search.now.states =
+    c.as_slice.ensures ∙ ap (λ (s : Store). s.states) c.search.view_is in
+    let past = c.in-None.ensures.lookup.3 in
+    let below = place_below c.as_slice.result.now c.args.k ids
+    (ap (λ (ss : List (List ℕ)). slice_get ss c.args.k) states ∙ here) in
+    absurd (omega (arith, past, below))

@@ -1,0 +1,47 @@
+-- The state that one move more leads to is there.
+use Rattle.std.proofs.Common.{◌≡◌, ℕ, ◌<◌, Some, List, length, ◌∙◌, ap, arith}
+use Rattle.std.specs.List.{slice_get}
+use Rattle.nm_facts.proofs.Lists.{place_below}
+use Rattle.nm_spots.specs.Spots.{Spot}
+use Rattle.nm_choices.specs.declared.moves.Turn.{Turn}
+use Rattle.nm_choices.specs.Choices.{spot_in}
+use Rattle.nm_choices.specs.Moves.{moved_at}
+use Rattle.nm_choices.proofs.KeptLemmas.{each_next}
+use Rattle.nm_explored.specs.Stores.{Leads}
+use Rattle.nm_explored.proofs.StoreLemmas.{expanded_now, follow_leads, grows_then, leads_kept, spot_kept}
+use Rattle.nm_explored.proofs.searches.Search.expand.Goals as goal
+
+pub loop-turn-preserved : goal.loop-turn-preserved
+loop-turn-preserved c =
+    record {
+      grows = grows_then c.args.self.now c.loop-turn.self c.follow.new.self c.loop-turn.invariant.grows
+          c.in_ok-follow.ensures.grows;
+      whole = λ ranks whole. c.in_ok-follow.ensures.whole ranks (c.loop-turn.invariant.whole ranks whole);
+      leads = λ ids here.
+          each_next
+          (λ (m : ℕ). (t : Turn) → slice_get c.deref-turn-items.result.now m ≡ Some t → (spot : Spot) →
+          spot_in c.args.self.now.table ids t.rank ≡ Some spot →
+          Leads c.follow.new.self ids t.rank (moved_at spot t.by)) c.loop-turn.turn-index
+          (λ m low t at spot there.
+          leads_kept c.loop-turn.self c.follow.new.self c.in_ok-follow.ensures.grows ids t.rank (moved_at spot t.by)
+          (c.loop-turn.invariant.leads ids here m low t at spot there))
+          (λ t at.
+          follow_leads c.follow.new.self ids c.deref-turn-items.result.now c.loop-turn.turn-index _ t
+          c.args.self.now.table at
+          (λ spot there.
+          c.in_ok-follow.ensures.leads ids spot (c.loop-turn.invariant.grows.states c.args.k ids here)
+          (spot_kept c.args.self.now.table c.loop-turn.self.table ids _ spot c.loop-turn.invariant.grows.table there)));
+    }
+
+pub returns-clause-expanded : goal.returns-clause-expanded
+returns-clause-expanded c few whole ids here =
+    let past = c.loop-turn-test.false in
+    let same = c.deref-turn-items.ensures.value in
+    expanded_now c.args.of.eager c.args.of.ranks c.args.of.lines.now c.args.self.now c.loop-turn.self
+    c.loop-turn.invariant.grows whole c.args.k ids here c.in_ok-turns.turns.items
+    (c.in_ok-turns.ensures few ids here)
+    (λ m t at spot there.
+    let inside = place_below c.in_ok-turns.turns.items m t at in
+    let long = ap (λ (ts : List Turn). length ts) same in
+    let low : m < c.loop-turn.turn-index = omega (arith, inside, long, past) in
+    c.loop-turn.invariant.leads ids here m low t (ap (λ (ts : List Turn). slice_get ts m) same ∙ at) spot there)

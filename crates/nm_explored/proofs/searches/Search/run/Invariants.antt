@@ -1,0 +1,13 @@
+-- The first states are expanded.
+use Rattle.std.proofs.Common.{ℕ, ◌<◌, length}
+use Rattle.nm_explored.specs.Stores.{AreExpanded, Grows, IsWhole}
+use Rattle.nm_explored.proofs.searches.Search.run.Given as goal
+
+abbrev pub invariant-loop-k : goal.invariant-loop-k
+invariant-loop-k l =
+    record {
+      grows : Grows l.fn.self l.self;
+      whole : (ranks : ℕ) → IsWhole ranks l.fn.self → IsWhole ranks l.self;
+      all : length l.of.lines.now < 4294967293 → IsWhole l.of.ranks l.fn.self →
+          AreExpanded l.of.eager l.of.ranks l.of.lines.now l.self l.k;
+    }

@@ -1,0 +1,84 @@
+-- The ends of a search, and what the ranks told there.
+use Rattle.std.specs.Prelude.{◌≡◌, ℕ, ◌<◌, Bool, true, false, Contains, Option, Some, None, List, count_by, filter_map}
+use Rattle.std.specs.Prelude.{length, map, option_map}
+use Rattle.std.specs.List.{range_with_len, slice_get}
+use Rattle.nm_types.specs.declared.scripts.Command.{Command}
+use Rattle.nm_types.specs.declared.scripts.Command.TheVariants as command
+use Rattle.nm_types.specs.declared.scripts.Line.{Line}
+use Rattle.nm_types.specs.Commands.{command_at, commands_of}
+use Rattle.nm_types.specs.Limits.{sent_len}
+use Rattle.nm_types.specs.Sizes.{Sizes}
+use Rattle.nm_report.specs.declared.records.RunRecord.{RunRecord}
+use Rattle.nm_report.specs.Lawful.{IsRunIn}
+use Rattle.nm_report.specs.Told.{RankTold, told_by, told_of, told_of_rank}
+use Rattle.nm_spots.specs.Deeds.{happening}
+use Rattle.nm_spots.specs.Looks.{is_answer_by}
+use Rattle.nm_spots.specs.Spots.{Spot}
+use Rattle.nm_choices.specs.Choices.{answer_in, is_withdrawn_next, message_next, spot_in}
+use Rattle.nm_choices.specs.Lists.{Has}
+use Rattle.nm_choices.specs.Lines.{line_in}
+use Rattle.nm_explored.specs.declared.ends.End.{End}
+use Rattle.nm_explored.specs.declared.ends.Explored.{Explored}
+use Rattle.nm_explored.specs.declared.ends.Explored.TheVariants.{All, TooMany}
+use Rattle.nm_explored.specs.Stores.{Store}
+
+-- a command that can be held up
+abbrev pub is_waiting : Command → Bool
+is_waiting (command.Wait q) = true
+is_waiting (command.Await from tag ctx) = true
+is_waiting _ = false
+
+-- the next command of a rank in this state has no answer
+abbrev pub IsHeldUp : List Line → (ℕ → Option Spot) → ℕ → Spot → Type 0
+IsHeldUp lines v i spot =
+    (line : ℕ) (c : Command) → line_in lines i (count_by is_answer_by spot.deeds) ≡ Some line →
+    command_at (commands_of i lines) line ≡ Some c →
+    (is_waiting c ≡ true) × (answer_in v lines i spot line c ≡ None)
+
+-- a rank has no move left, and is at its end or held up
+pub record IsAtRest (ranks : ℕ) (lines : List Line) (v : ℕ → Option Spot) (i : ℕ) : Type 0 where
+  pub held : (spot : Spot) → v i ≡ Some spot → IsHeldUp lines v i spot
+  pub messages : (from : ℕ) → from < ranks → message_next v i from ≡ None
+  pub free : (from n : ℕ) → is_withdrawn_next v i from n ≡ false
+
+-- no rank has a move left
+abbrev pub AreAtRest : ℕ → List Line → (ℕ → Option Spot) → Type 0
+AreAtRest ranks lines v = (i : ℕ) → i < ranks → IsAtRest ranks lines v i
+
+-- what a rank in this state told
+abbrev pub told_in : List Line → ℕ → Spot → RankTold
+told_in lines i spot =
+    record {
+      answers = filter_map (λ d. told_by (happening lines d)) spot.deeds;
+      waits = line_in lines i (count_by is_answer_by spot.deeds);
+    }
+
+-- what the first ranks in these states told
+abbrev pub all_told : List Line → (ℕ → Option Spot) → ℕ → List RankTold
+all_told lines v ranks = filter_map (λ i. option_map (told_in lines i) (v i)) (range_with_len 0 ranks)
+
+-- what an end tells, by rank
+abbrev pub told_at_end : End → List RankTold
+told_at_end end = map told_of_rank end.told
+
+-- these ends tell what is told at each state at which all ranks are at rest
+abbrev pub AreEnds : ℕ → List Line → Store → List End → Type 0
+AreEnds ranks lines store ends =
+    (k : ℕ) (ids : List ℕ) → slice_get store.states k ≡ Some ids →
+    AreAtRest ranks lines (spot_in store.table ids) →
+    Has (map told_at_end ends) (all_told lines (spot_in store.table ids) ranks)
+
+-- what a script sends at once is short, and so is the script
+pub record AreShort (lines : List Line) : Type 0 where
+  pub sends : (i line : ℕ) (c : Command) → command_at (commands_of i lines) line ≡ Some c → sent_len c < 4294967296
+  pub count : length lines < 4294967293
+
+-- each run of the script tells what one of these ends tells
+abbrev pub TellsAll : Sizes → List Line → List End → Type 0
+TellsAll shape lines ends =
+    (run : RunRecord) → IsRunIn shape lines run → Contains (map told_at_end ends) (told_of run)
+
+-- what holds of all ends, if there are not too many states
+abbrev pub IfAll : (List End → Type 0) → Explored → Type 0
+IfAll P (All ends) = P ends
+IfAll P TooMany = Unit {0}

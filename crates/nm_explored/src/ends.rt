@@ -1,0 +1,533 @@
+//! The ends of a search, and what the ranks told there.
+
+ghost use Rattle.std.specs.Prelude.{◌≡◌, ℕ, ◌<◌, ◌++◌, [], IfOk, IsTrue, List, None, OnOk, Some, filter_map};
+ghost use Rattle.std.specs.Prelude.{false, map, option_copied, option_map, slice_get};
+ghost use Rattle.std.specs.List.{cons_option};
+ghost use Rattle.nm_types.specs.Bodies as bodies;
+ghost use Rattle.nm_types.specs.Bodies.{body_len};
+ghost use Rattle.nm_report.specs.Told.{told_by, told_of_rank};
+ghost use Rattle.nm_spots.specs.Deeds.{answer_meant, happening as happening_lem};
+ghost use Rattle.nm_spots.specs.Deeds.{bytes_at as bytes_at_lem};
+ghost use Rattle.nm_choices.specs.Choices.{is_withdrawn_next, message_next, spot_in};
+ghost use Rattle.nm_choices.specs.Lists.{Has, Keeps};
+ghost use Rattle.nm_explored.specs.Ends.{AreAtRest, AreEnds, AreShort, IfAll, IsAtRest, IsHeldUp};
+ghost use Rattle.nm_explored.specs.Ends.{TellsAll, all_told, is_waiting as is_waiting_lem};
+ghost use Rattle.nm_explored.specs.Ends.{told_at_end, told_in};
+
+use crate::searches::{Search, Setting};
+use nm_asked::commands::command_of_line;
+use nm_choices::choices::{View, answer, line_at, may_withdraw, next_message};
+use nm_choices::moves::Move;
+use nm_history::{Event, Happened, History};
+use nm_report::{Accounts, RankAccount};
+use nm_spots::deeds::{Deed, Reply};
+use nm_spots::looks::{is_answer, ran};
+use nm_spots::ranks::Rank;
+use nm_types::laws::{bodies_have_their_length, commands_stand_at_their_lines};
+use nm_types::{Answer, Body, Bytes, Command, Line, Memory, Script, Shape};
+use std::alloc::Global;
+use std::marker::Model;
+
+/// What happens at a rank on the way to an end.
+pub struct Step {
+    pub rank: u8,
+    pub what: Happened,
+}
+
+impl Drop for Step {
+    fn drop(self) {
+        let Step { rank: _, what: _ } = self;
+    }
+}
+
+impl Step {
+    /// Its rank, and what happens.
+    pub fn into_parts(self) -> (u8, Happened) {
+        let Step { rank, what } = self;
+        (rank, what)
+    }
+}
+
+/// An end of a script, with a way to it.
+pub struct End {
+    /// What the ranks told: the answers of each, and the line that it waits at.
+    pub told: Accounts,
+    /// What happened, the oldest first.
+    pub path: Vec<Step>,
+}
+
+impl Drop for End {
+    fn drop(self) {
+        let End { told: _, path: _ } = self;
+    }
+}
+
+impl End {
+    /// What the ranks told, and the way.
+    pub fn into_parts(self) -> (Accounts, Vec<Step>) {
+        let End { told, path } = self;
+        (told, path)
+    }
+}
+
+/// The bytes of a body.
+fn bytes_of(alloc: Global, body: &Body) -> Result<Bytes, Memory>
+    requires { body_len body.now < 4294967296 }
+    ensures { IfOk result (λ bytes. bytes ≡ bodies.bytes_of body.now) }
+{
+    bodies_have_their_length();
+    let mut bytes = Vec::new(alloc);
+    for k in 0..body.len() {
+        bytes.push(body.byte(k))?;
+    }
+    Ok(Bytes::from_vec(bytes))
+}
+
+/// The bytes that the line of a rank sends.
+fn bytes_at(alloc: Global, lines: &[Line], from: u8, line: u32) -> Result<Bytes, Memory>
+    requires { AreShort lines.now }
+    ensures { IfOk result (λ bytes. bytes ≡ bytes_at_lem lines.now from line) }
+{
+    match command_of_line(lines, from, line) {
+        Some(Command::Send { body, .. }) => bytes_of(alloc, body),
+        _ => Ok(Bytes::new(alloc)),
+    }
+}
+
+/// The answer that a reply stands for.
+fn answer_of(alloc: Global, lines: &[Line], reply: Reply) -> Result<Answer, Memory>
+    requires { AreShort lines.now }
+    ensures { IfOk result (λ answer. answer ≡ answer_meant lines.now reply) }
+{
+    Ok(match reply {
+        Reply::Started => Answer::Started,
+        Reply::Busy => Answer::Busy,
+        Reply::Null => Answer::Null,
+        Reply::No => Answer::No,
+        Reply::Nothing => Answer::Nothing,
+        Reply::Sent => Answer::Sent,
+        Reply::Got { from, tag, line } => Answer::Got {
+            from,
+            tag,
+            body: bytes_at(alloc, lines, from, line)?,
+        },
+        Reply::Cut { from, tag, len } => Answer::Cut { from, tag, len },
+        Reply::Cancelled => Answer::Cancelled,
+        Reply::Seen(seen) => Answer::Seen(seen),
+        Reply::Done => Answer::Done,
+        Reply::Late => Answer::Late,
+        Reply::Asked => Answer::Asked,
+    })
+}
+
+/// What a deed stands for.
+fn happening(alloc: Global, lines: &[Line], deed: Deed) -> Result<Happened, Memory>
+    requires { AreShort lines.now }
+    ensures { IfOk result (λ what. what ≡ happening_lem lines.now deed) }
+{
+    Ok(match deed {
+        Deed::Send {
+            to,
+            n,
+            tag,
+            ctx,
+            len,
+            how,
+            line,
+        } => Happened::Send {
+            to,
+            n,
+            tag,
+            ctx,
+            len,
+            how,
+            line,
+        },
+        Deed::Post { receive, line } => Happened::Post {
+            post: receive.post(),
+            line,
+        },
+        Deed::Match {
+            number,
+            from,
+            n,
+            cap,
+            line,
+        } => Happened::Match {
+            number,
+            from,
+            n,
+            cap,
+            line,
+        },
+        Deed::Cancel { number, done } => Happened::Cancel { number, done },
+        Deed::Recall { to, n } => Happened::Recall { to, n },
+        Deed::Claim { from, n, line } => Happened::Claim { from, n, line },
+        Deed::Ran { line, reply } => Happened::Ran {
+            line,
+            answer: answer_of(alloc, lines, reply)?,
+        },
+    })
+}
+
+/// What a move stands for.
+fn step_of(alloc: Global, lines: &[Line], rank: u8, by: Move) -> Result<Step, Memory>
+    requires { AreShort lines.now }
+{
+    let what = match by {
+        Move::Act(deed) => happening(alloc, lines, deed)?,
+        Move::Arrive(a) => Happened::Arrive { a },
+        Move::Withdraw(message) => Happened::Withdraw {
+            from: message.rank,
+            n: message.n,
+            done: true,
+        },
+    };
+    Ok(Step { rank, what })
+}
+
+/// Adds an event for a deed, if it is an answer.
+fn push_answer(
+    alloc: Global,
+    lines: &[Line],
+    deed: Deed,
+    events: &mut Vec<Event>,
+) -> Result<(), Memory>
+    requires { AreShort lines.now }
+    ensures { OnOk result (filter_map (λ e. told_by e.what) events.new.items
+        ≡ filter_map (λ e. told_by e.what) events.old.items
+        ++ cons_option (told_by (happening_lem lines.now deed)) []) }
+{
+    if is_answer(&deed) {
+        let what = happening(alloc, lines, deed)?;
+        events.push(Event { stamp: 0, what })?;
+    }
+    Ok(())
+}
+
+/// The answers of a rank, as a history.
+fn history(alloc: Global, lines: &[Line], deeds: &[Deed]) -> Result<History, Memory>
+    requires { AreShort lines.now }
+    ensures { IfOk result (λ history. filter_map (λ e. told_by e.what) history.events
+        ≡ filter_map (λ d. told_by (happening_lem lines.now d)) deeds.now) }
+{
+    let mut events = Vec::new(alloc);
+    for deed in deeds {
+        push_answer(alloc, lines, *deed, &mut events)?;
+    }
+    Ok(History::from_vec(events))
+}
+
+/// What a rank told.
+fn account(alloc: Global, lines: &[Line], i: u8, rank: &Rank) -> Result<RankAccount, Memory>
+    requires { AreShort lines.now }
+    ensures { IfOk result (λ account. told_of_rank account ≡ told_in lines.now i rank.now) }
+{
+    let at = ran(rank.deeds());
+    let history = history(alloc, lines, rank.deeds())?;
+    let waits = line_at(lines, i, at);
+    Ok(RankAccount {
+        history,
+        at: u32::try_from(at).unwrap_or(u32::MAX),
+        waits,
+    })
+}
+
+/// Adds what a rank told, if it is there.
+fn push_account(
+    alloc: Global,
+    lines: &[Line],
+    i: u8,
+    rank: Option<&Rank>,
+    accounts: &mut Vec<RankAccount>,
+) -> Result<(), Memory>
+    requires { AreShort lines.now }
+    ensures { OnOk result (map told_of_rank accounts.new.items
+        ≡ map told_of_rank accounts.old.items
+        ++ cons_option (option_map (told_in lines.now i) (option_copied rank.entry)) []) }
+{
+    if let Some(rank) = rank {
+        accounts.push(account(alloc, lines, i, rank)?)?;
+    }
+    Ok(())
+}
+
+/// What the ranks of a state told.
+fn told(alloc: Global, view: View, ranks: u8) -> Result<Accounts, Memory>
+    requires { AreShort view.lines.now }
+    ensures { IfOk result (λ told. map told_of_rank told ≡ all_told view.entry.lines.now
+        (spot_in view.entry.table.now view.entry.ids.now) ranks) }
+{
+    let mut accounts = Vec::new(alloc);
+    for i in 0..ranks {
+        push_account(alloc, view.lines, i, view.rank(i), &mut accounts)?;
+    }
+    Ok(Accounts::from_vec(accounts))
+}
+
+/// Whether a command can be held up.
+fn is_waiting(command: &Command) -> bool
+    ensures { result ≡ is_waiting_lem command.now }
+{
+    matches!(command, Command::Wait { .. } | Command::Await { .. })
+}
+
+/// Whether the next command of a rank has no answer, if there is one.
+fn is_held_up(view: View, i: u8, rank: &Rank) -> bool
+    requires { AreShort view.lines.now }
+    ensures { IsHeldUp view.entry.lines.now (spot_in view.entry.table.now view.entry.ids.now) i
+        rank.now → IsTrue result }
+{
+    let Some(line) = line_at(view.lines, i, ran(rank.deeds())) else {
+        return true;
+    };
+    match command_of_line(view.lines, i, line) {
+        Some(command) => {
+            is_waiting(command) && answer(view, i, rank, line, command).is_none()
+        }
+        None => true,
+    }
+}
+
+/// Whether no message is under way to a rank.
+fn has_no_message(view: View, i: u8, ranks: u8) -> bool
+    ensures { ((from : ℕ) → from < ranks →
+        message_next (spot_in view.entry.table.now view.entry.ids.now) i from ≡ None) →
+        IsTrue result }
+{
+    for from in 0..ranks {
+        if next_message(view, i, from).is_some() {
+            return false;
+        }
+    }
+    true
+}
+
+/// Whether no message of a rank may be withdrawn.
+fn has_no_withdrawal(view: View, i: u8, rank: &Rank) -> bool
+    ensures { ((from n : ℕ) → is_withdrawn_next
+        (spot_in view.entry.table.now view.entry.ids.now) i from n ≡ false) → IsTrue result }
+{
+    for a in rank.came() {
+        if may_withdraw(view, i, a.env.from, a.n) {
+            return false;
+        }
+    }
+    true
+}
+
+/// Whether a rank has no move left, and is at its end or held up.
+fn is_at_rest(view: View, i: u8, ranks: u8) -> bool
+    requires { AreShort view.lines.now }
+    ensures { IsAtRest ranks view.entry.lines.now
+        (spot_in view.entry.table.now view.entry.ids.now) i → IsTrue result }
+{
+    match view.rank(i) {
+        Some(rank) => {
+            is_held_up(view, i, rank)
+                && has_no_message(view, i, ranks)
+                && has_no_withdrawal(view, i, rank)
+        }
+        None => true,
+    }
+}
+
+/// Whether no rank has a move left.
+fn is_end(view: View, ranks: u8) -> bool
+    requires { AreShort view.lines.now }
+    ensures { AreAtRest ranks view.entry.lines.now
+        (spot_in view.entry.table.now view.entry.ids.now) → IsTrue result }
+{
+    for i in 0..ranks {
+        if !is_at_rest(view, i, ranks) {
+            return false;
+        }
+    }
+    true
+}
+
+/// The way to a state, the last step first.
+fn way_back(
+    alloc: Global,
+    search: &Search,
+    lines: &[Line],
+    end: usize,
+) -> Result<Vec<Step>, Memory>
+    requires { AreShort lines.now }
+{
+    let mut steps = Vec::new(alloc);
+    let mut k = end;
+    for _ in 0..end {
+        let Some(state) = search.states.as_slice().get(k) else {
+            break;
+        };
+        let Some(way) = state.way else {
+            break;
+        };
+        steps.push(step_of(alloc, lines, way.rank, way.by)?)?;
+        k = way.before;
+    }
+    Ok(steps)
+}
+
+/// The end that a state is, with the way to it.
+fn end_at(
+    alloc: Global,
+    search: &Search,
+    k: usize,
+    view: View,
+    ranks: u8,
+) -> Result<End, Memory>
+    requires { AreShort view.lines.now }
+    ensures { IfOk result (λ end. told_at_end end ≡ all_told view.entry.lines.now
+        (spot_in view.entry.table.now view.entry.ids.now) ranks) }
+{
+    let mut path = way_back(alloc, search, view.lines, k)?;
+    path.reverse();
+    let told = told(alloc, view, ranks)?;
+    Ok(End { told, path })
+}
+
+/// Adds a state, if it is an end.
+fn push_end(
+    alloc: Global,
+    search: &Search,
+    k: usize,
+    view: View,
+    ranks: u8,
+    ends: &mut Vec<End>,
+) -> Result<(), Memory>
+    requires { AreShort view.lines.now }
+    ensures kept { OnOk result (Keeps (map told_at_end ends.old.items) (map told_at_end ends.new.items)) }
+    ensures added { OnOk result (AreAtRest ranks view.entry.lines.now
+        (spot_in view.entry.table.now view.entry.ids.now) → Has (map told_at_end ends.new.items)
+        (all_told view.entry.lines.now (spot_in view.entry.table.now view.entry.ids.now) ranks)) }
+{
+    if is_end(view, ranks) {
+        ends.push(end_at(alloc, search, k, view, ranks)?)?;
+    }
+    Ok(())
+}
+
+/// Adds the state with a number, if it is an end.
+fn push_state(
+    alloc: Global,
+    search: &Search,
+    of: Setting,
+    k: usize,
+    ends: &mut Vec<End>,
+) -> Result<(), Memory>
+    requires { AreShort of.lines.now }
+    ensures kept { OnOk result (Keeps (map told_at_end ends.old.items) (map told_at_end ends.new.items)) }
+    ensures added { OnOk result ((ids : List ℕ) → slice_get search.now.states k ≡ Some ids →
+        AreAtRest of.entry.ranks of.entry.lines.now (spot_in search.now.table ids) →
+        Has (map told_at_end ends.new.items)
+        (all_told of.entry.lines.now (spot_in search.now.table ids) of.entry.ranks)) }
+{
+    match search.states.as_slice().get(k) {
+        Some(state) => {
+            let view = View {
+                eager: of.eager,
+                lines: of.lines,
+                table: search.table.as_slice(),
+                ids: state.ids.as_slice(),
+            };
+            push_end(alloc, search, k, view, of.ranks, ends)
+        }
+        None => Ok(()),
+    }
+}
+
+/// All ends of a search.
+fn ends_of(alloc: Global, search: &Search, of: Setting) -> Result<Vec<End>, Memory>
+    requires { AreShort of.lines.now }
+    ensures { IfOk result (λ ends.
+        AreEnds of.entry.ranks of.entry.lines.now search.now ends.items) }
+{
+    let mut ends = Vec::new(alloc);
+    for k in 0..search.states.as_slice().len() {
+        push_state(alloc, search, of, k, &mut ends)?;
+    }
+    Ok(ends)
+}
+
+/// The ends of a script, in the order of the search.
+pub struct Ends {
+    items: Vec<End>,
+}
+
+impl Model for Ends {
+    ghost use Rattle.std.specs.Prelude.{List};
+    ghost use Rattle.nm_explored.specs.declared.ends.End.{End};
+
+    ghost Value = { List End };
+
+    ghost view = { λ a. a.items.items };
+}
+
+impl Drop for Ends {
+    fn drop(self) {
+        let Ends { items: _ } = self;
+    }
+}
+
+impl Ends {
+    /// The ends, given away.
+    pub fn into_vec(self) -> Vec<End>
+        ensures { result.items ≡ self }
+    {
+        let Ends { items } = self;
+        items
+    }
+
+    /// The ends, in order.
+    pub fn as_slice(&self) -> &[End]
+        ensures { result.now ≡ self.now }
+    {
+        self.items.as_slice()
+    }
+}
+
+/// What a search answers.
+pub enum Explored {
+    /// All ends.
+    All(Ends),
+    /// There are more states than the limit.
+    TooMany,
+}
+
+/// The ends of a search that found all states.
+fn all_ends(alloc: Global, search: &Search, of: Setting) -> Result<Explored, Memory>
+    requires { AreShort of.lines.now }
+    ensures { IfOk result
+        (IfAll (AreEnds of.entry.ranks of.entry.lines.now search.now)) }
+{
+    let items = ends_of(alloc, search, of)?;
+    Ok(Explored::All(Ends { items }))
+}
+
+/// The ends of a script: all that its ranks can tell, and a way to each. Where there are more than so
+/// many states, it answers that they are too many.
+pub fn explore(
+    alloc: Global,
+    script: &Script,
+    shape: Shape,
+    states: u32,
+) -> Result<Explored, Memory>
+    requires { shape.ranks ≡ script.now.ranks }
+    ensures { IfOk result (IfAll (TellsAll shape script.now.lines)) }
+{
+    commands_stand_at_their_lines();
+    let of = Setting {
+        lines: script.lines.as_slice(),
+        ranks: shape.ranks(),
+        eager: shape.eager(),
+    };
+    let mut search = Search::new(alloc, of.ranks)?;
+    let all = search.run(alloc, of, states)?;
+    if all {
+        all_ends(alloc, &search, of)
+    } else {
+        Ok(Explored::TooMany)
+    }
+}

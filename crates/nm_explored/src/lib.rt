@@ -1,0 +1,18 @@
+//! The search over the states that the runs of a script go through, and its ends.
+//!
+//! # What a contract sees
+//! `specs/Stores.antt` has the states that were found, and which of them are expanded. `specs/Ends.antt`
+//! says at which states the ranks are at rest, what they told there, and that ends tell all (`TellsAll`).
+//! # What is proved
+//! - What each lawful run of a script tells is told at one of the ends that `explore` finds, unless it
+//!   answers that there are too many states.
+//!
+//! Nothing is claimed of the way to an end: it is the judge's to say whether it is a run's.
+#![tactic(auto)]
+
+mod ends;
+mod hashes;
+mod searches;
+mod stores;
+
+pub use ends::{End, Ends, Explored, Step, explore};

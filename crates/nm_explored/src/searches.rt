@@ -1,0 +1,193 @@
+//! The search over the states of a script.
+
+ghost use Rattle.std.specs.Prelude.{◌≡◌, ◌⊎◌, ℕ, ◌<◌, ◌++◌, ◌∷◌, [], IfOk, IsTrue, List, OnOk, Some, length};
+ghost use Rattle.std.specs.Prelude.{option_copied, slice_get, slice_set};
+ghost use Rattle.nm_spots.specs.Spots as spots;
+ghost use Rattle.nm_choices.specs.Choices.{spot_in};
+ghost use Rattle.nm_choices.specs.Lists.{Has, Keeps};
+ghost use Rattle.nm_choices.specs.Moves.{AreMovesOf, moved_at};
+ghost use Rattle.nm_explored.specs.Stores.{AreExpanded, Grows, IsExpanded, IsFirst, IsWhole, Leads};
+
+use crate::stores::{States, Table, Way};
+use nm_choices::choices::View;
+use nm_choices::moves::{Turn, moved, turns};
+use nm_spots::ranks::Rank;
+use nm_types::{Line, Memory};
+use std::alloc::Global;
+use std::marker::Model;
+
+/// A script with its sizes.
+#[derive(Clone, Copy)]
+pub struct Setting<'a> {
+    pub lines: &'a [Line],
+    pub ranks: u8,
+    pub eager: u16,
+}
+
+/// What a search has found.
+pub struct Search {
+    pub table: Table,
+    pub states: States,
+}
+
+impl Drop for Search {
+    fn drop(self) {
+        let Search {
+            table: _,
+            states: _,
+        } = self;
+    }
+}
+
+impl Model for Search {
+    ghost use Rattle.nm_explored.specs.Stores.{Store};
+
+    ghost Value = { Store };
+
+    ghost view = { λ a. record { table = a.table; states = a.states } };
+}
+
+/// The numbers of a state after one of its ranks came into another one.
+fn with_id(alloc: Global, ids: &[usize], i: u8, id: usize) -> Result<Vec<usize>, Memory>
+    ensures { IfOk result (λ new. new.items ≡ slice_set ids.now i id) }
+{
+    let mut new = ids.to_vec(alloc)?;
+    if (i as usize) < new.len() {
+        new[i as usize] = id;
+    }
+    Ok(new)
+}
+
+impl Search {
+    /// The first state alone: no rank did anything.
+    pub fn new(alloc: Global, ranks: u8) -> Result<Search, Memory>
+        ensures { IfOk result (IsFirst ranks) }
+    {
+        let mut table = Table::new(alloc);
+        let mut states = States::new(alloc);
+        let id = table.number(Rank::new(alloc))?;
+        let ids = vec![in alloc; id; ranks as usize]?;
+        states.add(ids, None)?;
+        Ok(Search { table, states })
+    }
+
+    /// The moves at the state with a number.
+    fn turns_at(&self, alloc: Global, of: Setting, k: usize) -> Result<Vec<Turn>, Memory>
+        ensures { length of.entry.lines.now < 4294967293 → IfOk result (λ turns. (ids : List ℕ) →
+            slice_get self.now.states k ≡ Some ids → (i : ℕ) → i < of.entry.ranks →
+            AreMovesOf of.entry.eager of.entry.ranks of.entry.lines.now (spot_in self.now.table ids) i
+            turns.items) }
+    {
+        match self.states.as_slice().get(k) {
+            Some(state) => {
+                let view = View {
+                    eager: of.eager,
+                    lines: of.lines,
+                    table: self.table.as_slice(),
+                    ids: state.ids.as_slice(),
+                };
+                turns(alloc, view, of.ranks)
+            }
+            None => Ok(Vec::new(alloc)),
+        }
+    }
+
+    /// The state of a rank, by the number of the state of all.
+    fn rank_at(&self, k: usize, i: u8) -> Option<&Rank>
+        ensures { (ids : List ℕ) → slice_get self.now.states k ≡ Some ids →
+            option_copied result ≡ spot_in self.now.table ids i }
+    {
+        let state = self.states.as_slice().get(k)?;
+        let id = state.ids.get(i as usize)?;
+        self.table.as_slice().get(*id)
+    }
+
+    /// The state of a rank after a move.
+    fn after(&self, k: usize, turn: Turn) -> Result<Option<Rank>, Memory>
+        ensures { IfOk result (λ after. (ids : List ℕ) (spot : spots.Spot) →
+            slice_get self.now.states k ≡ Some ids →
+            spot_in self.now.table ids turn.rank ≡ Some spot →
+            after ≡ Some (moved_at spot turn.by)) }
+    {
+        match self.rank_at(k, turn.rank) {
+            Some(rank) => Ok(Some(moved(rank, turn.by)?)),
+            None => Ok(None),
+        }
+    }
+
+    /// Adds the state that comes of one where a rank goes into another state.
+    fn add(&mut self, alloc: Global, k: usize, turn: Turn, id: usize) -> Result<(), Memory>
+        ensures table { OnOk result (self.new.table ≡ self.old.table) }
+        ensures kept { OnOk result (Keeps self.old.states self.new.states) }
+        ensures there { OnOk result ((ids : List ℕ) → slice_get self.old.states k ≡ Some ids →
+            Has self.new.states (slice_set ids turn.rank id)) }
+        ensures only { OnOk result ((self.new.states ≡ self.old.states)
+            ⊎ ((ids : List ℕ) × (slice_get self.old.states k ≡ Some ids)
+            × (self.new.states ≡ self.old.states ++ slice_set ids turn.rank id ∷ []))) }
+    {
+        let ids = match self.states.as_slice().get(k) {
+            Some(state) => with_id(alloc, state.ids.as_slice(), turn.rank, id)?,
+            None => return Ok(()),
+        };
+        let way = Way {
+            before: k,
+            rank: turn.rank,
+            by: turn.by,
+        };
+        self.states.add(ids, Some(way))?;
+        Ok(())
+    }
+
+    /// Adds the state that a move leads to.
+    fn follow(&mut self, alloc: Global, k: usize, turn: Turn) -> Result<(), Memory>
+        ensures grows { OnOk result (Grows self.old self.new) }
+        ensures whole { OnOk result ((ranks : ℕ) → IsWhole ranks self.old → IsWhole ranks self.new) }
+        ensures leads { OnOk result ((ids : List ℕ) (spot : spots.Spot) →
+            slice_get self.old.states k ≡ Some ids →
+            spot_in self.old.table ids turn.rank ≡ Some spot →
+            Leads self.new ids turn.rank (moved_at spot turn.by)) }
+    {
+        let Some(after) = self.after(k, turn)? else {
+            return Ok(());
+        };
+        let id = self.table.number(after)?;
+        self.add(alloc, k, turn, id)?;
+        Ok(())
+    }
+
+    /// Adds all states that a move leads to.
+    fn expand(&mut self, alloc: Global, of: Setting, k: usize) -> Result<(), Memory>
+        ensures grows { OnOk result (Grows self.old self.new) }
+        ensures whole { OnOk result ((ranks : ℕ) → IsWhole ranks self.old → IsWhole ranks self.new) }
+        ensures expanded { length of.entry.lines.now < 4294967293 →
+            IsWhole of.entry.ranks self.old → OnOk result ((ids : List ℕ) →
+            slice_get self.old.states k ≡ Some ids →
+            IsExpanded of.entry.eager of.entry.ranks of.entry.lines.now self.new ids) }
+    {
+        let turns = self.turns_at(alloc, of, k)?;
+        for turn in turns.iter() {
+            self.follow(alloc, k, *turn)?;
+        }
+        Ok(())
+    }
+
+    /// Finds all states, unless they are more than the limit. Answers whether it found all.
+    pub fn run(&mut self, alloc: Global, of: Setting, limit: u32) -> Result<bool, Memory>
+        ensures grows { OnOk result (Grows self.old self.new) }
+        ensures all { length of.entry.lines.now < 4294967293 →
+            IsWhole of.entry.ranks self.old → IfOk result (λ all. IsTrue all →
+            AreExpanded of.entry.eager of.entry.ranks of.entry.lines.now self.new
+            (length self.new.states)) }
+    {
+        for k in 0..limit as usize {
+            if k >= self.states.as_slice().len() {
+                return Ok(true);
+            }
+            self.expand(alloc, of, k)?;
+            if self.states.as_slice().len() > limit as usize {
+                return Ok(false);
+            }
+        }
+        Ok(self.states.as_slice().len() <= limit as usize)
+    }
+}
