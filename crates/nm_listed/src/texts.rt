@@ -1,0 +1,88 @@
+//! Lists of texts.
+
+ghost use Rattle.std.specs.Prelude.{◌≡◌, ◌≤◌, ◌↔◌, [], ◌∷◌, ◌++◌, IsTrue, OnOk, OnErr, length, map, sum_by};
+ghost use Rattle.std.specs.Prelude.{vec_len};
+ghost use Rattle.nm_outcomes.specs.Outcomes.{AreRising};
+ghost use Rattle.nm_listed.specs.Texts.{SameTexts, bytes_of, total_length};
+
+use nm_types::Memory;
+use std::alloc::Global;
+use std::marker::Model;
+
+/// A list of texts.
+pub struct Texts {
+    items: Vec<Vec<u8>>,
+}
+
+impl Drop for Texts {
+    fn drop(self) {
+        let Texts { items: _ } = self;
+    }
+}
+
+impl Model for Texts {
+    ghost use Rattle.std.specs.Prelude.{List, ℕ, map};
+    ghost use Rattle.nm_listed.specs.Texts.{bytes_of};
+
+    ghost Value = { List (List ℕ) };
+
+    ghost view = { λ a. map bytes_of a.items.items };
+}
+
+impl Texts {
+    /// No text.
+    pub fn new(alloc: Global) -> Self
+        ensures { result ≡ [] }
+    {
+        Texts {
+            items: Vec::new(alloc),
+        }
+    }
+
+    /// Puts a text at the end.
+    pub fn push(&mut self, text: Vec<u8>) -> Result<(), Memory>
+        ensures ok { OnOk result (self.new ≡ self.old ++ text.items ∷ []) }
+        ensures err { OnErr result (self.new ≡ self.old) }
+    {
+        self.items.push(text)?;
+        Ok(())
+    }
+
+    /// The texts, in order.
+    pub fn as_slice(&self) -> &[Vec<u8>]
+        ensures { map bytes_of result.now ≡ self.now }
+    {
+        self.items.as_slice()
+    }
+
+    /// Whether the texts together have at most so many bytes.
+    pub(crate) fn is_within(&self, most: usize) -> bool
+        ensures { IsTrue result ↔ (total_length self.now ≤ most) }
+    {
+        are_within(self.items.as_slice(), most)
+    }
+
+    /// Puts the texts in the order of a dictionary, each once.
+    pub(crate) fn put_in_order(&mut self) -> Result<(), Memory>
+        ensures rising { OnOk result (AreRising self.new) }
+        ensures same { OnOk result (SameTexts self.old self.new) }
+    {
+        self.items.sort()?;
+        self.items.dedup();
+        Ok(())
+    }
+}
+
+/// Whether the texts together have at most so many bytes.
+fn are_within(texts: &[Vec<u8>], most: usize) -> bool
+    ensures { IsTrue result ↔ (sum_by (λ text. length (bytes_of text)) texts.now ≤ most) }
+{
+    let mut room = most;
+    for text in texts {
+        if text.len() > room {
+            return false;
+        }
+        room -= text.len();
+    }
+    true
+}

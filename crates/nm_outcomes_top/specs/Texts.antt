@@ -1,0 +1,62 @@
+-- What is said.
+use Rattle.std.specs.Prelude.{ℕ, ◌+◌, ◌++◌, Bool, List, [], ◌∷◌, codes, count_by, decimal, length, nat_eq}
+use Rattle.std.specs.Prelude.{if◌then◌else◌, nat_lt}
+use Rattle.std.specs.List.{ends_with}
+use Rattle.nm_script.specs.declared.faults.Kind.{Kind}
+use Rattle.nm_script.specs.declared.faults.Kind.TheVariants as kind
+
+-- a report whose last line says that a rank is stuck
+abbrev pub is_stuck : List ℕ → Bool
+is_stuck text = ends_with nat_eq text (codes "stuck\n")
+
+-- how many of some reports are
+abbrev pub stuck_count : List (List ℕ) → ℕ
+stuck_count texts = count_by is_stuck texts
+
+-- a report behind a line with its number
+abbrev pub outcome_text : ℕ → List ℕ → List ℕ
+outcome_text number text = codes "outcome " ++ (decimal number ++ (codes "\n" ++ text))
+
+-- these reports, of which the first has this number
+abbrev pub outcomes_from : ℕ → List (List ℕ) → List ℕ
+outcomes_from number [] = []
+outcomes_from number (text ∷ texts) = outcome_text number text ++ outcomes_from (number + 1) texts
+
+-- the last line: how many reports there are, and how many of them are stuck
+abbrev pub numbers_line : ℕ → ℕ → List ℕ
+numbers_line all stuck =
+    codes "outcomes " ++ (decimal all ++ (codes " stuck " ++ (decimal stuck ++ codes "\n")))
+
+-- all that is said of the reports of a script
+abbrev pub outcomes_text : List (List ℕ) → List ℕ
+outcomes_text texts = outcomes_from 1 texts ++ numbers_line (length texts) (stuck_count texts)
+
+-- what is said where there are too many
+abbrev pub outgrown_text : ℕ → List ℕ
+outgrown_text states = codes "fault outcomes " ++ (decimal states ++ codes "\n")
+
+-- what is said of words that are not taken
+abbrev pub usage : List ℕ
+usage = codes "usage: outcomes [--cells N] [--eager N] STATES <SCRIPT\n"
+
+-- what is said of a source that failed
+abbrev pub unread : List ℕ
+unread = codes "fault read\n"
+
+-- the name of a kind of fault
+abbrev pub kind_text : Kind → List ℕ
+kind_text kind.TooLong = codes "toolong"
+kind_text kind.NotAscii = codes "notascii"
+kind_text kind.Lines = codes "lines"
+kind_text kind.First = codes "first"
+kind_text kind.Rank = codes "rank"
+kind_text kind.Command = codes "command"
+kind_text kind.Count = codes "count"
+kind_text kind.Number = codes "number"
+kind_text kind.Body = codes "body"
+kind_text kind.BodyTotal = codes "bodytotal"
+
+-- what is said of a fault of the script
+abbrev pub fault_text : ℕ → Kind → List ℕ
+fault_text line kind =
+    codes "fault script " ++ (decimal line ++ (codes " " ++ (kind_text kind ++ codes "\n")))

@@ -1,0 +1,104 @@
+//! What there is to say of the words and the source, and how it is said.
+
+ghost use Rattle.std.specs.Prelude.{◌≡◌, IfOk};
+ghost use Rattle.nm_outcomes_top.specs.Answers.{listed_status as listed_status_lem, status_of, text_of};
+ghost use Rattle.nm_outcomes_top.specs.Texts.{fault_text, kind_text, outgrown_text};
+
+use crate::listing::{is_one_stuck, outcomes_text};
+use nm_listed::Texts;
+use nm_script::Kind;
+use nm_types::Memory;
+use std::alloc::{AllocError, Global};
+
+/// What there is to say.
+#[derive(Drop)]
+pub enum Response {
+    /// The words are not taken.
+    Usage,
+    /// The source failed.
+    Unread,
+    /// The bytes are no script.
+    Refused { line: u32, kind: Kind },
+    /// The search met too many states, or the reports are too long.
+    Outgrown { states: u32 },
+    /// These are all reports of the script.
+    Listed { texts: Texts },
+}
+
+/// What is said of words that are not taken.
+const USAGE: &str = "usage: outcomes [--cells N] [--eager N] STATES <SCRIPT
+";
+
+/// The bytes of a line.
+fn line(alloc: Global, text: &str) -> Result<Vec<u8>, AllocError>
+    ensures { IfOk result (λ bytes. bytes.items ≡ text.now) }
+{
+    Vec::from_slice(alloc, text.as_bytes())
+}
+
+/// The name of a kind of fault.
+fn kind_name(kind: Kind) -> &'static str
+    ensures { result.now ≡ kind_text kind }
+{
+    match kind {
+        Kind::TooLong => "toolong",
+        Kind::NotAscii => "notascii",
+        Kind::Lines => "lines",
+        Kind::First => "first",
+        Kind::Rank => "rank",
+        Kind::Command => "command",
+        Kind::Count => "count",
+        Kind::Number => "number",
+        Kind::Body => "body",
+        Kind::BodyTotal => "bodytotal",
+    }
+}
+
+/// What is said of a fault of the script.
+fn fault(alloc: Global, line: u32, kind: Kind) -> Result<Vec<u8>, AllocError>
+    ensures { IfOk result (λ bytes. bytes.items ≡ fault_text line kind) }
+{
+    let text = format!(in alloc; "fault script {} {}\n", line, kind_name(kind))?;
+    Ok(text.into_bytes())
+}
+
+/// What is said where there are too many states, or the reports are too long.
+fn outgrown(alloc: Global, states: u32) -> Result<Vec<u8>, AllocError>
+    ensures { IfOk result (λ bytes. bytes.items ≡ outgrown_text states) }
+{
+    let text = format!(in alloc; "fault outcomes {}\n", states)?;
+    Ok(text.into_bytes())
+}
+
+/// The text of an answer, whole and in memory.
+pub fn text(alloc: Global, answer: &Response) -> Result<Vec<u8>, Memory>
+    ensures { IfOk result (λ text. text.items ≡ text_of answer.now) }
+{
+    match answer {
+        Response::Usage => Ok(line(alloc, USAGE)?),
+        Response::Unread => Ok(line(alloc, "fault read\n")?),
+        Response::Refused { line, kind } => Ok(fault(alloc, *line, *kind)?),
+        Response::Outgrown { states } => Ok(outgrown(alloc, *states)?),
+        Response::Listed { texts } => outcomes_text(alloc, texts),
+    }
+}
+
+/// The status of reports that were listed.
+fn listed_status(texts: &Texts) -> u8
+    ensures { result ≡ listed_status_lem texts.now }
+{
+    if is_one_stuck(texts) { 1 } else { 0 }
+}
+
+/// The status of an answer that was written.
+pub fn status(answer: &Response) -> u8
+    ensures { result ≡ status_of answer.now }
+{
+    match answer {
+        Response::Listed { texts } => listed_status(texts),
+        Response::Usage => 2,
+        Response::Refused { .. } => 3,
+        Response::Unread => 4,
+        Response::Outgrown { .. } => 10,
+    }
+}

@@ -1,0 +1,98 @@
+//! The words of the command line of `outcomes`.
+//!
+//! Options stand as behind `nemesis run`, each at most once, in either spelling (`--cells 4` or
+//! `--cells=4`), and behind them stands the number of states.
+//!
+//! # What a contract sees
+//! The words as lists of bytes, and what they ask for (`Asked`).
+//! # What is proved
+//! `read` takes exactly the words of the grammar (`IsTaken`), and gives what they ask for, which is
+//! one thing. Unless memory runs out: it copies the words.
+#![tactic(auto)]
+
+ghost use Rattle.std.specs.Prelude.{◌≡◌, ℕ, ◌≤◌, ◌∷◌, Some, codes, decimal, map, string_bytes};
+ghost use Rattle.std.specs.Prelude.{IfOk, IfSome};
+ghost use Rattle.nm_outcomes_words.specs.Words.{InRange, IsTaken, as_run};
+ghost use Rattle.nm_outcomes_words.specs.declared.Asked.{Asked};
+
+use nm_command_line::{CommandLine, Mode};
+use nm_types::Memory;
+use nm_words::number_up_to;
+use std::alloc::Global;
+
+/// What the words ask for.
+#[derive(Clone, Copy)]
+pub struct Asked {
+    /// How many states the search may meet, at most 16,777,216.
+    pub states: u32,
+    /// How many cells each rank has, 1 to 64. 8 where no option says.
+    pub cells: u8,
+    /// Up to how many bytes a standard send is eager, at most 4,096. 1,024 where no option says.
+    pub eager: u16,
+}
+
+/// The most states of a search.
+const MAX_STATES: u64 = 16777216;
+
+/// The number of states that a word spells.
+fn number_of_states(word: &[u8]) -> Option<u32>
+    ensures found { IfSome result (λ n. (word.now ≡ decimal n) × (1 ≤ n) × (n ≤ 16777216)) }
+    ensures finds { (n : ℕ) → word.now ≡ decimal n → 1 ≤ n → n ≤ 16777216 → result ≡ Some n }
+{
+    match number_up_to(word, MAX_STATES) {
+        Some(n) if n > 0 => Some(n as u32),
+        _ => None,
+    }
+}
+
+/// The words `run` and these.
+fn behind_run(alloc: Global, words: &[String]) -> Result<Vec<String>, Memory>
+    ensures { IfOk result (λ all. map string_bytes all.items
+        ≡ codes "run" ∷ map string_bytes words.now) }
+{
+    let mut all = Vec::new(alloc);
+    all.push(String::from_str(alloc, "run")?)?;
+    for word in words {
+        all.push(word.clone()?)?;
+    }
+    Ok(all)
+}
+
+/// What is asked for, with the options of these words of `nemesis run`.
+fn with_states(line: CommandLine, states: u32) -> Option<Asked>
+    ensures asked { IfSome result (λ asked. (line ≡ as_run asked) × (asked.states ≡ states)) }
+    ensures asks { (asked : Asked) → line ≡ as_run asked → asked.states ≡ states →
+        result ≡ Some asked }
+{
+    match line.mode {
+        Mode::Run => Some(Asked {
+            states,
+            cells: line.cells,
+            eager: line.eager,
+        }),
+        _ => None,
+    }
+}
+
+/// What the words ask for, or `None` where they are not taken: the options of `nemesis run`, in
+/// their spellings and ranges, and behind them the number of states.
+///
+/// The words are those of the command line without the program's name.
+pub fn read(alloc: Global, words: &[String]) -> Result<Option<Asked>, Memory>
+    ensures taken { IfOk result (λ found. IfSome found (IsTaken (map string_bytes words.now))) }
+    ensures takes { IfOk result (λ found. (line : Asked) →
+        IsTaken (map string_bytes words.now) line → found ≡ Some line) }
+    ensures within { IfOk result (λ found. IfSome found InRange) }
+{
+    let Some((last, options)) = words.split_last() else {
+        return Ok(None);
+    };
+    let Some(states) = number_of_states(last.as_bytes()) else {
+        return Ok(None);
+    };
+    let words = behind_run(alloc, options)?;
+    match nm_command_line::read(&words) {
+        Some(line) => Ok(with_states(line, states)),
+        None => Ok(None),
+    }
+}
