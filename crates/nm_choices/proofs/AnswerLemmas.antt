@@ -58,10 +58,6 @@ one_mapped : (ws : List Happened) (x : Happened) → map without_number ws ≡ x
 one_mapped [] x one = absurd (grind arith)
 one_mapped (w ∷ ws) x one = (w, ws, refl)
 
-either : {X : Type 0} (b : Bool) → cond {A = List X} b [] [] ≡ []
-either true = refl
-either false = refl
-
 module _ (shape : Sizes) (lines : List Line) (log : List Step) (v : ℕ → Option Spot) (i : ℕ) (spot : Spot)
     (at : IsAt shape lines log v i spot) where
   abbrev h : List Event
@@ -371,7 +367,8 @@ module _ (shape : Sizes) (lines : List Line) (log : List Step) (v : ℕ → Opti
 
   no_starts : (b : Bool) → map without_number (starts_since h) ≡ cond {A = List Happened} b [] [] →
       starts_since h ≡ []
-  no_starts b starts = nothing_mapped (starts_since h) (starts ∙ either b)
+  no_starts true starts = nothing_mapped (starts_since h) starts
+  no_starts false starts = nothing_mapped (starts_since h) starts
 
   pub answered : (line : ℕ) (c : Command) (a : Answer) → Rules line c a → Answered line c a
   answered line (command.Send q to tag ctx body sync) a rules =

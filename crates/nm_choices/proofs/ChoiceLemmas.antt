@@ -83,7 +83,7 @@ last_of_five false b c d e is = absurd (false≢true is)
 -- what a command in range sends is short
 pub sends_short : (ranks : ℕ) (c : Command) → is_in_range ranks c ≡ true → sent_len c < 2 ^ 32
 sends_short ranks (command.Send q to tag ctx body sync) fine =
-    let x : body_len body ≤ MAX_BODY = le_true (body_len body) MAX_BODY 
+    let x : body_len body ≤ MAX_BODY = le_true (body_len body) MAX_BODY
     (last_of_five (nat_le q MAX_NAME) (nat_lt to ranks) (nat_le tag MAX_TAG) (nat_le ctx MAX_CONTEXT)
     (nat_le (body_len body) MAX_BODY) fine) in
     omega (arith, x)

@@ -14,6 +14,7 @@ use Rattle.nm_history.specs.declared.events.Happened.TheVariants as event
 use Rattle.nm_history.specs.RankRun.{cancels_since, claims_since, is_cancelling, is_start, line_of_claim, since_after}
 use Rattle.nm_history.specs.RankRun.{since_command, starts_since}
 use Rattle.nm_history.specs.Underway.{is_answer, is_of_packet}
+use Rattle.nm_history.proofs.AppendLemmas.{since_grows}
 use Rattle.nm_facts.proofs.Lists.{no_item}
 use Rattle.nm_facts.proofs.Options.{no_some, same_some}
 use Rattle.nm_facts.proofs.Truth.{neither, not_true, or_left, or_right}
@@ -27,10 +28,6 @@ use Rattle.nm_choices.specs.Choices.{is_idle_at}
 -- what happened since the last answer, where this happened since the last one before
 abbrev since_from : List Happened → List Event → List Happened
 since_from s h = fold (λ since (e : Event). since_after since e.what) s h
-
-after_other : (s : List Happened) (what : Happened) → is_answer what ≡ false → since_after s what ≡ s ++ what ∷ []
-after_other s (event.Ran line answer) none = absurd (false≢true (sym none))
-after_other s what none = refl
 
 after_answer : (s : List Happened) (what : Happened) → is_answer what ≡ true → since_after s what ≡ []
 after_answer s (event.Ran line answer) is = refl
@@ -72,7 +69,7 @@ stays test s (e ∷ h) none some =
         list_any test (since_from (since_after s e.what) h) ≡ true
     by_kind true packet none later =
         later none
-        (ap (λ (ws : List Happened). list_any test ws) (after_other s e.what (packet_other e.what packet))
+        (ap (λ (ws : List Happened). list_any test ws) (since_grows s e.what (packet_other e.what packet))
         ∙ kept_in test s e.what some)
     by_kind false own none later = absurd (not_empty e.what (own_of h) none)
 
@@ -98,7 +95,7 @@ last_in test s (e ∷ h) ws x own no_answer is =
         let rest : own_of h ≡ [] = cc in
         stays test (since_after s e.what) h rest
         (ap (λ (w : Happened). list_any test (since_after s w)) first
-        ∙ ap (λ (ws : List Happened). list_any test ws) (after_other s x no_answer) ∙ put_in test s x is)
+        ∙ ap (λ (ws : List Happened). list_any test ws) (since_grows s x no_answer) ∙ put_in test s x is)
     by_front (w ∷ ws) own later = let rest : own_of h ≡ ws ++ x ∷ [] = cc in later ws rest
 
     by_kind : (b : Bool) → cond (not b) (e.what ∷ own_of h) (own_of h) ≡ ws ++ x ∷ [] → Later →
@@ -122,7 +119,7 @@ none_added test never s (e ∷ h) own none =
         list_any test (since_from (since_after s e.what) h) ≡ false
     by_kind true packet own later =
         later own
-        (ap (λ (ws : List Happened). list_any test ws) (after_other s e.what (packet_other e.what packet))
+        (ap (λ (ws : List Happened). list_any test ws) (since_grows s e.what (packet_other e.what packet))
         ∙ not_in test s e.what none (never e.what packet))
     by_kind false command own later = absurd (not_empty e.what (own_of h) own)
 

@@ -23,14 +23,14 @@ ghost use Rattle.nm_spots.specs.Looks.{claim_in, is_cancelling_by, is_claim_any,
 ghost use Rattle.nm_spots.specs.Looks.{is_receive_by, is_send_by, is_starting_by, message_meant};
 ghost use Rattle.nm_spots.specs.Spots.{free_lem};
 
+use nm_asked::requests::Request;
+use nm_history::plain::Pair;
 use nm_spots::deeds::{Deed, Message, Receive, Reply};
 use nm_spots::looks::{
     came, claim_at, found, is_idle, is_recalled, is_unasked, live, live_message, received, send_at,
     sent,
 };
 use nm_spots::ranks::Rank;
-use nm_asked::requests::Request;
-use nm_history::plain::Pair;
 use nm_types::{Arrival, Body, Command, Envelope, How, Line, Peer, Seen, TagPick};
 
 /// The ranks of a state: each by its number in a table of them.
@@ -211,11 +211,11 @@ fn send(
 /// The receive that a command posts.
 fn post(deeds: &[Deed], line: u32, from: Peer, tag: TagPick, ctx: u8, cap: u32) -> Deed
     ensures { result ≡ Deed.Post (record {
-        number = count_by is_receive_by deeds.now;
-        from = from;
-        tag = tag;
-        ctx = ctx;
-        cap = cap;
+      number = count_by is_receive_by deeds.now;
+      from = from;
+      tag = tag;
+      ctx = ctx;
+      cap = cap;
     }) line }
 {
     Deed::Post {
@@ -251,16 +251,7 @@ pub fn start(
             body,
             sync,
             ..
-        } => Some(send(
-            deeds,
-            eager,
-            line,
-            *to,
-            *tag,
-            *ctx,
-            *sync,
-            body,
-        )),
+        } => Some(send(deeds, eager, line, *to, *tag, *ctx, *sync, body)),
         Command::Recv {
             from,
             tag,

@@ -102,8 +102,16 @@ fn push_command(
         (spot_in view.entry.table.now view.entry.ids.now) i rank.now line command.now d →
         Has turns.new.items (record { rank = i; by = Move.Act d })) }
 {
-    push_deed(turns, i, begin(view.lines, view.eager, i, rank, line, command))?;
-    push_deed(turns, i, replied(line, answer(view, i, rank, line, command)))?;
+    push_deed(
+        turns,
+        i,
+        begin(view.lines, view.eager, i, rank, line, command),
+    )?;
+    push_deed(
+        turns,
+        i,
+        replied(line, answer(view, i, rank, line, command)),
+    )?;
     push_deed(turns, i, denied(view.lines, i, rank, line, command))?;
     Ok(())
 }

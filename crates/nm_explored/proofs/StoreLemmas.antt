@@ -79,12 +79,11 @@ whole_more ranks table states new k ids i id s whole at there is m other here j 
               ∙ get_set_same ids i id (subst (λ (n : ℕ). n < length ids) (sym e) (own_place table ids j old.0 old.1)))
               ∙ there,
         )
-    by_rank false other =
-        (
-          old.0,
-          ap (λ (o : Option ℕ). option_and_then (λ id. slice_get table id) o)
-              (get_set_other ids i j id (differ i j other)) ∙ old.1,
-        )
+    by_rank false other = (
+      old.0,
+      ap (λ (o : Option ℕ). option_and_then (λ id. slice_get table id) o)
+          (get_set_other ids i j id (differ i j other)) ∙ old.1,
+    )
 
     by_place : (slice_get states m ≡ Some other)
         ⊎ ((m ≡ length states) × (slice_set ids i id ≡ other) × (true ≡ true)) →
@@ -174,12 +173,11 @@ module _ (eager ranks : ℕ) (lines : List Line) where
       }
 
 pub first_whole : (ranks : ℕ) (store : Store) → IsFirst ranks store → IsWhole ranks store
-first_whole ranks store first k ids here j low =
-    (
-      first_spot,
-      ap (λ (xs : List ℕ). spot_in store.table xs j)
-          (sym (only k (ap (λ (xs : List (List ℕ)). slice_get xs k) (sym first.only) ∙ here))) ∙ first.idle j low,
-    )
+first_whole ranks store first k ids here j low = (
+  first_spot,
+  ap (λ (xs : List ℕ). spot_in store.table xs j)
+      (sym (only k (ap (λ (xs : List (List ℕ)). slice_get xs k) (sym first.only) ∙ here))) ∙ first.idle j low,
+)
   where
     only : (k : ℕ) → slice_get (first.ids ∷ []) k ≡ Some ids → first.ids ≡ ids
     only zero here = same_some first.ids ids here

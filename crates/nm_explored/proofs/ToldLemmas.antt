@@ -1,5 +1,5 @@
 -- What some ranks and some deeds told, with one more.
-use Rattle.std.proofs.Common.{◌≡◌, ℕ, zero, suc, ◌+◌, ◌<◌, Option, Some, List, [], ◌∷◌, ◌++◌, length, take, get_or, refl, sym}
+use Rattle.std.proofs.Common.{◌≡◌, ℕ, zero, suc, ◌+◌, ◌<◌, Option, Some, None, List, [], ◌∷◌, ◌++◌, length, take, get_or, refl, sym}
 use Rattle.std.proofs.Common.{◌∙◌, ap, arith}
 use Rattle.std.specs.Prelude.{option_map}
 use Rattle.std.specs.List.{cons_option, filter_map, range_with_len, slice_get}
@@ -24,19 +24,25 @@ taken_told lines ds k d below =
     (take_more ds k (get_or ds k d) (slice_get-get_or ds k d below))
     ∙ filter_map-append (λ (d : Deed). told_by (happening lines d)) (take k ds) (get_or ds k d ∷ [])
 
-range_last : (a n : ℕ) → range_with_len a (n + 1) ≡ range_with_len a n ++ (a + n) ∷ []
-range_last a zero = let e : a ≡ a + 0 = omega arith in ap (λ (k : ℕ). k ∷ []) e
-range_last a (suc n) =
+cons_more : {X : Type 0} (o : Option X) (xs ys : List X) → cons_option o (xs ++ ys) ≡ cons_option o xs ++ ys
+cons_more None xs ys = refl
+cons_more (Some x) xs ys = refl
+
+-- what a range gives, with one number more
+range_more : (f : ℕ → Option RankTold) (a n : ℕ) →
+    filter_map f (range_with_len a (n + 1)) ≡ filter_map f (range_with_len a n) ++ cons_option (f (a + n)) []
+range_more f a zero = let e : a ≡ a + 0 = omega arith in ap (λ (k : ℕ). cons_option (f k) []) e
+range_more f a (suc n) =
     let e : suc n + 1 ≡ suc (n + 1) = omega arith in
-    let f : a + 1 + n ≡ a + suc n = omega arith in
-    ap (λ (k : ℕ). range_with_len a k) e
-    ∙ ap (λ (ks : List ℕ). a ∷ ks) (range_last (a + 1) n)
-    ∙ ap (λ (k : ℕ). a ∷ range_with_len (a + 1) n ++ k ∷ []) f
+    let g : a + 1 + n ≡ a + suc n = omega arith in
+    ap (λ (k : ℕ). filter_map f (range_with_len a k)) e
+    ∙ ap (λ (ts : List RankTold). cons_option (f a) ts) (range_more f (a + 1) n)
+    ∙ cons_more (f a) (filter_map f (range_with_len (a + 1) n)) (cons_option (f (a + 1 + n)) [])
+    ∙ ap (λ (k : ℕ). cons_option (f a) (filter_map f (range_with_len (a + 1) n)) ++ cons_option (f k) []) g
 
 pub told_more : (lines : List Line) (v : ℕ → Option Spot) (i : ℕ) →
     all_told lines v (i + 1) ≡ all_told lines v i ++ cons_option (option_map (told_in lines i) (v i)) []
 told_more lines v i =
     let e : 0 + i ≡ i = omega arith in
-    ap (λ (ks : List ℕ). filter_map (λ k. option_map (told_in lines k) (v k)) ks) (range_last 0 i)
-    ∙ filter_map-append (λ (k : ℕ). option_map (told_in lines k) (v k)) (range_with_len 0 i) ((0 + i) ∷ [])
+    range_more (λ (k : ℕ). option_map (told_in lines k) (v k)) 0 i
     ∙ ap (λ (k : ℕ). all_told lines v i ++ cons_option (option_map (told_in lines k) (v k)) []) e

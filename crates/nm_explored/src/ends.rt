@@ -282,9 +282,7 @@ fn is_held_up(view: View, i: u8, rank: &Rank) -> bool
         return true;
     };
     match command_of_line(view.lines, i, line) {
-        Some(command) => {
-            is_waiting(command) && answer(view, i, rank, line, command).is_none()
-        }
+        Some(command) => is_waiting(command) && answer(view, i, rank, line, command).is_none(),
         None => true,
     }
 }
@@ -347,12 +345,7 @@ fn is_end(view: View, ranks: u8) -> bool
 }
 
 /// The way to a state, the last step first.
-fn way_back(
-    alloc: Global,
-    search: &Search,
-    lines: &[Line],
-    end: usize,
-) -> Result<Vec<Step>, Memory>
+fn way_back(alloc: Global, search: &Search, lines: &[Line], end: usize) -> Result<Vec<Step>, Memory>
     requires { AreShort lines.now }
 {
     let mut steps = Vec::new(alloc);
@@ -371,13 +364,7 @@ fn way_back(
 }
 
 /// The end that a state is, with the way to it.
-fn end_at(
-    alloc: Global,
-    search: &Search,
-    k: usize,
-    view: View,
-    ranks: u8,
-) -> Result<End, Memory>
+fn end_at(alloc: Global, search: &Search, k: usize, view: View, ranks: u8) -> Result<End, Memory>
     requires { AreShort view.lines.now }
     ensures { IfOk result (λ end. told_at_end end ≡ all_told view.entry.lines.now
         (spot_in view.entry.table.now view.entry.ids.now) ranks) }

@@ -114,12 +114,11 @@ pub texts_more : (shape : Sizes) (lines : List Line) (texts new : List (List ℕ
     text ≡ text_of_told shape (told_at_end end) → IsReportOfRun shape lines text →
     (new ≡ map (λ end. text_of_told shape (told_at_end end)) (ends ++ end ∷ []))
     × All (IsReportOfRun shape lines) new
-texts_more shape lines texts new ends end text told lawful more is one =
-    (
-      more ∙ ap (λ (ts : List (List ℕ)). ts ++ text ∷ []) told
-          ∙ ap (λ (t : List ℕ). map (λ end. text_of_told shape (told_at_end end)) ends ++ t ∷ []) is
-          ∙ sym (map-append (λ (end : End). text_of_told shape (told_at_end end)) ends (end ∷ [])),
-      subst (All (IsReportOfRun shape lines)) (sym more)
-          (All-append (IsReportOfRun shape lines) texts (text ∷ []) lawful
-          (All-cons (IsReportOfRun shape lines) text [] one (All-nil (IsReportOfRun shape lines)))),
-    )
+texts_more shape lines texts new ends end text told lawful more is one = (
+  more ∙ ap (λ (ts : List (List ℕ)). ts ++ text ∷ []) told
+      ∙ ap (λ (t : List ℕ). map (λ end. text_of_told shape (told_at_end end)) ends ++ t ∷ []) is
+      ∙ sym (map-append (λ (end : End). text_of_told shape (told_at_end end)) ends (end ∷ [])),
+  subst (All (IsReportOfRun shape lines)) (sym more)
+      (All-append (IsReportOfRun shape lines) texts (text ∷ []) lawful
+      (All-cons (IsReportOfRun shape lines) text [] one (All-nil (IsReportOfRun shape lines)))),
+)

@@ -36,10 +36,10 @@ to_fails : {P : Type 0} (status : ℕ) → OrUnwritten P status → OrFails P st
 to_fails status (inl h) = inl h
 to_fails status (inr h) = inr (inr h)
 
-weaker : (input : Option (List ℕ)) (P Q : List ℕ → Type 0) → ((bytes : List ℕ) → P bytes → Q bytes) →
-    IfSome input P → IfSome input Q
+weaker : {X : Type 0} (input : Option X) (P Q : X → Type 0) → ((x : X) → P x → Q x) → IfSome input P →
+    IfSome input Q
 weaker None P Q h p = tt
-weaker (Some bytes) P Q h p = h bytes p
+weaker (Some x) P Q h p = h x p
 
 -- a listing has status 0 or 1
 is_low : (texts : List (List ℕ)) (status : ℕ) → status ≡ listed_status texts → (status ≡ 0) ⊎ (status ≡ 1)
@@ -269,10 +269,6 @@ answered_words words input old new asked taken (Listed t) h =
     record { asked = asked; taken = taken; right = h }
 
 -- of an answer that was found
-pub ok_weaker : {T E : Type 0} (r : Result T E) (P Q : T → Type 0) → ((x : T) → P x → Q x) → IfOk r P → IfOk r Q
-ok_weaker (Ok x) P Q h p = h x p
-ok_weaker (Err e) P Q h p = tt
-
 pub ok_always : {T E P : Type 0} (r : Result T E) → P → IfOk r (λ _. P)
 ok_always (Ok x) p = p
 ok_always (Err e) p = tt

@@ -25,10 +25,10 @@ pub loop-k-preserved : goal.loop-k-preserved
 loop-k-preserved c =
     let some : (c.is_own-own.result && nat_eq c.loop-k.left 0) ≡ false =
     elim c.else-own.branch [
-      else-own-via-then-own+else-left-eq0 w ↦
+      | else-own-via-then-own+else-left-eq0 w ↦
           ap (λ (b : Bool). c.is_own-own.result && b) (nat_unequal c.loop-k.left 0 w.if-left-eq0.false)
           ∙ and_false c.is_own-own.result
-    | else-own-via-else-own w ↦ ap (λ (b : Bool). b && nat_eq c.loop-k.left 0) w.if-own.false
+      | else-own-via-else-own w ↦ ap (λ (b : Bool). b && nat_eq c.loop-k.left 0) w.if-own.false
     ] in
     own_next c.args.rank c.args.lines.now c.loop-k.k c.loop-k-test.true c.is_own-own.result c.loop-k.left
     c.left_after-left.result (sym c.is_own-own.ensures) some c.left_after-left.ensures
