@@ -157,6 +157,9 @@ fn drawn(alloc: Global, count: usize, arrival: u64) -> Result<Vec<u8>, Fail> {
     for _rank in 2..count {
         ranks.push(waiting(alloc))?;
     }
+    if ranks.len() > 256 {
+        return Err(Fail::from("more than 256 ranks"));
+    }
     let run = RunRecord {
         shape: Shape::new(2, 8, 1024).ok().ok_or("shape")?,
         ranks,
