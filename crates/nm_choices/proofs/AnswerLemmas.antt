@@ -2,6 +2,7 @@
 use Rattle.std.proofs.Common.{◌≡◌, ◌⊎◌, inl, inr, ℕ, ◌<◌, ◌&&◌, not, Bool, true, false, cond, Option, Some, None, List, []}
 use Rattle.std.proofs.Common.{◌∷◌, map, refl, sym, ◌∙◌, ap, subst, arith}
 use Rattle.std.specs.Prelude.{if◌then◌else◌, IfSome, IsSomeAnd, MatchOption, is_some, option_and_then, option_map}
+use Rattle.std.specs.Prelude.{unwrap_or}
 use Rattle.std.specs.List.{find, list_any, slice_get}
 use Rattle.std.specs.Option.{option_map_or}
 use Rattle.std.proofs.lemmas.Bool.{false≢true}
@@ -19,10 +20,10 @@ use Rattle.nm_history.specs.declared.events.Event.{Event}
 use Rattle.nm_history.specs.declared.events.Happened.{Happened}
 use Rattle.nm_history.specs.declared.events.Happened.TheVariants as event
 use Rattle.nm_history.specs.declared.plain.Pair.{Pair}
-use Rattle.nm_history.specs.Answers.{Message, claim_at, is_seen, is_started, live, live_message, seen, without_bytes}
-use Rattle.nm_history.specs.Completion.{Request, pair_of_receive}
+use Rattle.nm_history.specs.Answers.{Message, answer_of, claim_at, is_seen, is_started, live, live_message, seen, without_bytes}
+use Rattle.nm_history.specs.Completion.{Request, is_here, pair_of_receive, result_of, shown}
 use Rattle.nm_history.specs.Completion.Request.{Receiving, Sending}
-use Rattle.nm_history.specs.Happens.{happened, is_recall}
+use Rattle.nm_history.specs.Happens.{happened, is_cancel, is_recall}
 use Rattle.nm_history.specs.Matching.{is_of_receive, matched_pairs}
 use Rattle.nm_history.specs.RankRun.{CancelsFor, CancelsOf, cancels_since, claims_since, is_matched_probe, start_of}
 use Rattle.nm_history.specs.RankRun.{starts_since, without_number}
@@ -41,13 +42,23 @@ use Rattle.nm_spots.specs.Deeds.{answer_meant, happening}
 use Rattle.nm_spots.specs.Looks.{IsSaid, claim_in, found_at, is_recall_by, live_in, message_in}
 use Rattle.nm_spots.specs.Spots.{Spot}
 use Rattle.nm_spots.proofs.SaidLemmas.{said}
-use Rattle.nm_choices.specs.Choices.{answer_in, cancelled_at, is_idle_at, probed_at, received_at, recalled_at}
+use Rattle.nm_spots.proofs.SpotLemmas.{off_is}
+use Rattle.nm_choices.specs.Choices.{answer_in, cancelled_at, is_idle_at, may_be_open, probed_at, received_at}
+use Rattle.nm_choices.specs.Choices.{recalled_at}
 use Rattle.nm_choices.specs.Choices.{result_in, seen_at, started_at}
 use Rattle.nm_choices.specs.Moves.{IsDeedOf, no_in, reply_in}
 use Rattle.nm_choices.specs.Settings.{IsAt}
 use Rattle.nm_choices.proofs.PlacedLemmas.{arrival_said, found_said, in_pairs, paired_said, placed}
 use Rattle.nm_choices.proofs.ResultLemmas.{Replies, is_got, plain_answer, replies_by, result_said}
 use Rattle.nm_choices.proofs.SinceLemmas.{busy_cancel, busy_claim, busy_start, idle}
+
+no_cancelled : answer.Cancelled ≡ answer.No → ⊥
+no_cancelled is = cc
+
+not_cancelled : (rest : Option Answer) (b : Bool) →
+    unwrap_or (if b then Some answer.Cancelled else rest) answer.No ≡ answer.No → not b ≡ true
+not_cancelled rest true is = absurd (no_cancelled is)
+not_cancelled rest false is = refl
 
 nothing_mapped : (ws : List Happened) → map without_number ws ≡ [] → ws ≡ []
 nothing_mapped [] none = refl
@@ -77,6 +88,7 @@ module _ (shape : Sizes) (lines : List Line) (log : List Step) (v : ℕ → Opti
     pub cancels : CancelsFor mine h c
     pub claims : claims_since h ≡ (if is_matched_probe c && is_seen a then line ∷ [] else [])
     pub shows : ShowsBytes shape lines (placed lines log) i a c
+    pub right : answer_of mine h line c ≡ Some (without_bytes a)
 
   -- the next command had nothing to do
   is_idle : {x : Bool} → x ≡ false → (ws : List Happened) →
@@ -340,7 +352,18 @@ module _ (shape : Sizes) (lines : List Line) (log : List Step) (v : ℕ → Opti
     inr (inl (ap (λ (o : Option Reply). option_map (λ r. deed.Ran line r) o) found.1)),
   )
 
+  -- a receive of which a test says no was not cancelled
+  open_still : (request : Request) → unwrap_or (result_of h request) answer.No ≡ answer.No →
+      may_be_open spot request ≡ true
+  open_still (Sending to n) says = refl
+  open_still (Receiving number) says =
+      ap not (off_is lines h spot at.is number)
+      ∙ not_cancelled
+      (option_and_then (λ pair. if is_here h pair then Some (shown pair) else None) (pair_of_receive h number))
+      (happened (is_cancel number) h) says
+
   tested : (q line : ℕ) (a : Answer) (o : Option Request) → live mine h q ≡ o →
+      option_map_or (λ request. unwrap_or (result_of h request) answer.No) o answer.Null ≡ without_bytes a →
       MatchOption o (without_bytes a ≡ answer.Null)
       (λ request. (without_bytes a ≡ answer.No)
       ⊎ (may_show (placed lines log) i request ≡ Some (without_bytes a))) →
@@ -348,21 +371,22 @@ module _ (shape : Sizes) (lines : List Line) (log : List Step) (v : ℕ → Opti
       (body : List ℕ) → a ≡ answer.Got pair.arrival.env.from pair.arrival.env.tag body →
       AreBytesOf shape lines (placed lines log) i body pair) →
       Answered line (command.Test q) a
-  tested q line a None here may bytes =
+  tested q line a None here right may bytes =
       by_reply line (command.Test q) a
       (replies_by lines _ _ a
       (ap (λ (o : Option Request). option_map_or (result_in v i spot) o (Some reply.Null)) (say.live i q ∙ here))
       (ended q a None here may bytes))
-  tested q line a (Some request) here (inr may) bytes =
+  tested q line a (Some request) here right (inr may) bytes =
       by_reply line (command.Test q) a
       (replies_by lines _ _ a
       (ap (λ (o : Option Request). option_map_or (result_in v i spot) o (Some reply.Null)) (say.live i q ∙ here))
       (ended q a (Some request) here may bytes))
-  tested q line a (Some request) here (inl says) bytes = (
+  tested q line a (Some request) here right (inl says) bytes = (
     deed.Ran line reply.No,
     ap (λ (x : Answer). event.Ran line x) (sym (plain_answer a answer.No refl (sym says))),
-    inr (inr (ap (λ (o : Option Request). if is_some o then Some (deed.Ran line reply.No) else None)
-        (say.live i q ∙ here))),
+    inr (inr (ap (λ (b : Bool). if b then Some (deed.Ran line reply.No) else None)
+        (ap (λ (o : Option Request). option_map_or (may_be_open spot) o false) (say.live i q ∙ here)
+        ∙ open_still request (right ∙ says)))),
   )
 
   no_starts : (b : Bool) → map without_number (starts_since h) ≡ cond {A = List Happened} b [] [] →
@@ -384,7 +408,7 @@ module _ (shape : Sizes) (lines : List Line) (log : List Step) (v : ℕ → Opti
       (ended q a (live mine h q) refl rules.may
       (bytes_shown q a (shown_bytes (command.Wait q) a rules.shows) (live mine h q) refl)))
   answered line (command.Test q) a rules =
-      tested q line a (live mine h q) refl rules.may
+      tested q line a (live mine h q) refl (same_some _ _ rules.right) rules.may
       (bytes_shown q a (shown_bytes (command.Test q) a rules.shows) (live mine h q) refl)
   answered line (command.Probe from tag ctx) a rules =
       by_reply line (command.Probe from tag ctx) a (probed from tag ctx a rules.may)

@@ -26,7 +26,8 @@ use Rattle.nm_types.specs.Sizes.{Sizes}
 use Rattle.nm_history.specs.declared.events.Event.{Event}
 use Rattle.nm_history.specs.declared.events.Happened.{Happened}
 use Rattle.nm_history.specs.declared.events.Happened.TheVariants as event
-use Rattle.nm_history.specs.Answers.{Message, is_seen, is_started, live, live_message}
+use Rattle.nm_history.specs.Answers.{Message, answer_of, is_seen, is_started, live, live_message}
+use Rattle.nm_history.specs.Answers.{without_bytes}
 use Rattle.nm_history.specs.Completion.{Request, is_taken}
 use Rattle.nm_history.specs.Completion.Request.{Receiving, Sending}
 use Rattle.nm_history.specs.Happens.{happened, is_claim, is_recall}
@@ -349,6 +350,8 @@ module _ (shape : Sizes) (lines : List Line) (log : List Step) (v : ℕ → Opti
             then line ∷ [] else []) here;
         shows = subst (λ (o : Option Command). IsSomeAnd o (ShowsBytes shape lines (placed lines log) i a)) here
             moves.1;
+        right = subst (λ (o : Option Command).
+            IsSomeAnd o (λ x. answer_of mine h line x ≡ Some (without_bytes a))) here own.answers;
       }) in
       by_deed stamp (event.Ran line a) tt c moves.0.next line moves.0.line_is found.0 found.1 found.2
 

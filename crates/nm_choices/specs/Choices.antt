@@ -161,9 +161,15 @@ answer_in w lines i spot line (command.Mprobe m from tag ctx) =
 answer_in w lines i spot line (command.Mrecv q m cap) =
     received_at (is_idle_at spot) (live_in lines i spot.deeds q) (message_in lines i spot.deeds m)
 
+-- a request may not be complete yet: a receive that was cancelled is
+abbrev pub may_be_open : Spot → Request → Bool
+may_be_open spot (Receiving number) = not (list_any (is_cancel_by number) spot.deeds)
+may_be_open spot (Sending to n) = true
+
 -- the command is a test of a live request, which may say that it is not complete
 abbrev pub is_test_of : List Line → ℕ → Spot → Command → Bool
-is_test_of lines i spot (command.Test q) = is_some (live_in lines i spot.deeds q)
+is_test_of lines i spot (command.Test q) =
+    option_map_or (may_be_open spot) (live_in lines i spot.deeds q) false
 is_test_of lines i spot _ = false
 
 -- the message that a deed of a rank sent, which is the n-th to another one

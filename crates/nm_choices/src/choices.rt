@@ -620,7 +620,11 @@ pub fn may_say_no(lines: &[Line], i: u8, rank: &Rank, command: &Command) -> bool
     ensures { result ≡ is_test_of lines.now i rank.now command.now }
 {
     match command {
-        Command::Test { q } => live(lines, i, rank.deeds(), *q).is_some(),
+        Command::Test { q } => match live(lines, i, rank.deeds(), *q) {
+            Some(Request::Receiving { number }) => !rank.is_off(number),
+            Some(Request::Sending { .. }) => true,
+            None => false,
+        },
         _ => false,
     }
 }
