@@ -3,81 +3,21 @@
 ghost use Rattle.std.specs.Prelude.{◌≡◌, ◌≤◌, ◌++◌, true, IfOk, OnOk, flat_map, length};
 ghost use Rattle.std.specs.Prelude.{string_bytes};
 ghost use Rattle.std.specs.List.{list_any};
-ghost use Rattle.nm_history.specs.Happens.{happened, is_claim, is_withdraw};
-ghost use Rattle.nm_history.specs.Matching.{is_free as is_free_lem, is_of_message};
 ghost use Rattle.nm_diagram.specs.Left.{all_rings, are_few, has_left, is_left, is_left_at};
 ghost use Rattle.nm_diagram.specs.Left.{ring_by, rings_among, rings_at, rings_of, some_left};
 ghost use Rattle.nm_diagram.specs.Pictures.{ring_tag, ring_text, ring_title};
 
 use crate::frames::Frame;
 use crate::places::{x_of, y_of};
-use nm_history::plain::{Pair, all_pairs};
+use nm_history::plain::Pair;
 use nm_history::{Event, Happened};
+use nm_pairs::{all_pairs, is_free};
 use nm_report::RankAccount;
 use nm_types::Arrival;
 use std::alloc::{AllocError, Global};
 
 /// How many events a rank has at most, among which messages that are left are looked for.
 const MAX_SEARCHED: usize = 4096;
-
-/// Whether a receive took a message.
-fn is_taken(pairs: &[Pair], from: u8, n: u64) -> bool
-    ensures { result ≡ list_any (is_of_message from n) pairs.now }
-{
-    pairs.iter().any(|pair| pair.arrival.env.from == from && pair.arrival.n == n)
-}
-
-/// Whether an event is the claim of a message.
-fn is_claim_of(from: u8, n: u64, what: &Happened) -> bool
-    ensures { result ≡ is_claim from n what.now }
-{
-    match what {
-        Happened::Claim {
-            from: f,
-            n: m,
-            line: _,
-        } => *f == from && *m == n,
-        _ => false,
-    }
-}
-
-/// Whether an event is the withdrawal of a message.
-fn is_withdrawal_of(from: u8, n: u64, what: &Happened) -> bool
-    ensures { result ≡ is_withdraw from n true what.now }
-{
-    match what {
-        Happened::Withdraw {
-            from: f,
-            n: m,
-            done,
-        } => *f == from && *m == n && *done,
-        _ => false,
-    }
-}
-
-/// Whether a probe claimed a message.
-fn is_claimed(events: &[Event], from: u8, n: u64) -> bool
-    ensures { result ≡ happened (is_claim from n) events.now }
-{
-    events.iter().any(|e| is_claim_of(from, n, &e.what))
-}
-
-/// Whether a message was withdrawn.
-fn is_withdrawn(events: &[Event], from: u8, n: u64) -> bool
-    ensures { result ≡ happened (is_withdraw from n true) events.now }
-{
-    events.iter().any(|e| is_withdrawal_of(from, n, &e.what))
-}
-
-/// Whether nobody took a message.
-#[tactic(auto, unfolding(nm_history::specs::Matching::is_free_message))]
-fn is_free(events: &[Event], pairs: &[Pair], a: &Arrival) -> bool
-    ensures { result ≡ is_free_lem events.now pairs.now a.now }
-{
-    !is_taken(pairs, a.env.from, a.n)
-        && !is_claimed(events, a.env.from, a.n)
-        && !is_withdrawn(events, a.env.from, a.n)
-}
 
 /// Whether an event is the arrival of a message that nobody took.
 fn is_of_left(events: &[Event], pairs: &[Pair], what: &Happened) -> bool

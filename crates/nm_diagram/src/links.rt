@@ -9,7 +9,8 @@ use crate::anchors::{Anchor, first_stamp, front};
 use crate::frames::Frame;
 use crate::places::{gap_of, x_of, y_of};
 use nm_history::Event;
-use nm_history::plain::{Pair, all_pairs};
+use nm_history::plain::Pair;
+use nm_pairs::all_pairs;
 use nm_report::RankAccount;
 use std::alloc::{AllocError, Global};
 
