@@ -1,7 +1,7 @@
 //! Events that come back in order, and what pairs in small histories.
 
-use nm_history::plain::{all_pairs, first_message};
 use nm_history::{Event, Happened, History};
+use nm_pairs::{all_pairs, first_message};
 use nm_types::{Answer, Arrival, Envelope, How, Peer, Post, TagPick};
 use std::test::Fail;
 
