@@ -14,8 +14,8 @@ use Rattle.nm_report.specs.Report.{answer_lines, cells_line, end_line, report_te
 use Rattle.nm_trace.specs.Traces.{EndIn, IsTraceOf}
 use Rattle.nm_diagram.specs.Alike.{AreAlike}
 use Rattle.nm_diagram.specs.Frames.{IsSilent}
-use Rattle.nm_diagram.specs.Pictures.{IsPictureOf}
-use Rattle.nm_diagram.proofs.AlikeLemmas.{alike-picture}
+use Rattle.nm_picture.specs.Pictures.{IsPictureOf}
+use Rattle.nm_picture.proofs.AlikeLemmas.{alike-picture}
 use Rattle.nm_chart.specs.Endings.{IsTraceOfOne, widest}
 use Rattle.nm_chart.specs.Widened.{silent, widened}
 

@@ -5,7 +5,7 @@ use Rattle.nm_types.specs.Sizes.{Sizes}
 use Rattle.nm_report.specs.declared.records.RunRecord.{RunRecord}
 use Rattle.nm_report.specs.Lawful.{SameRun}
 use Rattle.nm_trace.specs.Traces.{IsFirstBad, IsTraceOf}
-use Rattle.nm_diagram.specs.Pictures.{IsPictureOf}
+use Rattle.nm_picture.specs.Pictures.{IsPictureOf}
 
 -- what is read of a source: all of it, or one byte more than a trace may have
 abbrev pub read_of : List ℕ → List ℕ

@@ -4,7 +4,7 @@ ghost use Rattle.std.specs.Prelude.{◌≡◌, IfOk};
 ghost use Rattle.nm_chart.specs.Answers.{CanBeDrawn, Tells, status_of};
 ghost use Rattle.nm_chart.specs.Endings.{fault_text};
 
-use nm_diagram::picture;
+use nm_picture::picture;
 use nm_report::RunRecord;
 use nm_types::Memory;
 use std::alloc::{AllocError, Global};

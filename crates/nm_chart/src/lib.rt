@@ -5,7 +5,7 @@
 //!
 //! # What a contract sees
 //! Bytes as a list of numbers, the record that a trace's bytes stand for, and the text of its
-//! picture (`nm_diagram`).
+//! picture (`nm_picture`).
 //! # What is proved
 //! - Status 0 exactly where the bytes are the trace of a record, and then what was written is the
 //!   picture of each record whose trace they are; 9 where they are none, with the first bad line; 2

@@ -1,4 +1,4 @@
--- Ranks that are alike have one picture.
+-- Ranks that are alike have the same shapes.
 use Rattle.std.proofs.Common.{◌≡◌, ℕ, ◌+◌, ◌-◌, ◌≤◌, ◌<◌, ◌⊎◌, zero, suc, List, [], ◌∷◌, ◌++◌, Bool, true, false}
 use Rattle.std.proofs.Common.{◌&&◌, ◌||◌}
 use Rattle.std.proofs.Common.{cond, refl, sym, ap, ◌∙◌, subst, arith, codes, count_by, drop, flat_map, length, min}
@@ -12,7 +12,6 @@ use Rattle.nm_history.specs.declared.events.Happened.{Happened}
 use Rattle.nm_history.specs.declared.events.Happened.TheVariants.{Arrive, Undone, Withdraw}
 use Rattle.nm_history.specs.Matching.{matched_pairs}
 use Rattle.nm_report.specs.declared.accounts.RankAccount.{RankAccount}
-use Rattle.nm_report.specs.declared.records.RunRecord.{RunRecord}
 use Rattle.nm_diagram.specs.declared.anchors.Anchor.{Anchor}
 use Rattle.nm_diagram.specs.declared.anchors.Anchor.TheVariants as anchor
 use Rattle.nm_diagram.specs.declared.arrows.Arrow.{Arrow}
@@ -26,13 +25,10 @@ use Rattle.nm_diagram.specs.Frames.{IsFrame, IsSilent, is_shown, latest, latest_
 use Rattle.nm_diagram.specs.Links.{all_links, links_among}
 use Rattle.nm_diagram.specs.declared.signs.Sign.{Sign}
 use Rattle.nm_diagram.specs.declared.returns.Return.{Return}
-use Rattle.nm_diagram.specs.Labels.{labels_at}
-use Rattle.nm_diagram.specs.Left.{Ring, all_rings, are_few, has_left, rings_among, some_left}
-use Rattle.nm_diagram.specs.Legend.{has_sign, is_told, is_used, sheet_text}
-use Rattle.nm_diagram.specs.Pictures.{IsPictureOf, arrow_text, axis_text, front_text, has_room, head_text, label_text}
-use Rattle.nm_diagram.specs.Pictures.{labels_text, lane_text, link_text, mark_text, note_text, picture_text, rows_text}
-use Rattle.nm_diagram.specs.Pictures.{shapes_text}
-use Rattle.nm_diagram.specs.Pictures.{arrows_text, marks_text, return_text, ring_text}
+use Rattle.nm_diagram.specs.Labels.{all_labels, labels_at}
+use Rattle.nm_diagram.specs.declared.rings.Ring.{Ring}
+use Rattle.nm_diagram.specs.Left.{all_rings, are_few, has_left, rings_among, some_left}
+use Rattle.nm_diagram.specs.Legend.{has_sign, is_told, is_used, legend_of}
 use Rattle.nm_diagram.specs.Returns.{all_returns, found_by, return_from, return_of, returns_at, returns_of}
 use Rattle.nm_diagram.specs.Signs.{all_signs, is_of_left, is_waits}
 
@@ -167,7 +163,7 @@ alike_returns end xs ys h first (z ∷ zs) =
     ∙ ap (λ l. returns_of end ys first z ++ l) (alike_returns end xs ys h (first + 1) zs)
 
 -- the lanes of the first ones, where both are as many
-alike_lanes : (k rank : ℕ) (xs ys : List RankAccount) → k ≤ length xs → k ≤ length ys → AreAlike xs ys →
+pub alike_lanes : (k rank : ℕ) (xs ys : List RankAccount) → k ≤ length xs → k ≤ length ys → AreAlike xs ys →
     from_lane lane_of rank (take k xs) ≡ from_lane lane_of rank (take k ys)
 alike_lanes zero rank xs ys m n h = refl
 alike_lanes (suc k) rank [] ys m n h = absurd (omega (arith, m))
@@ -210,7 +206,7 @@ fits_too n m never = by_test (nat_lt m n) refl where
   by_test true is = absurd (never (ltb-true m n is))
   by_test false is = ltb-false m n is
 
-alike-frame : (xs ys : List RankAccount) (frame : Frame) → AreAlike xs ys → IsFrame xs frame → IsFrame ys frame
+pub alike-frame : (xs ys : List RankAccount) (frame : Frame) → AreAlike xs ys → IsFrame xs frame → IsFrame ys frame
 alike-frame xs ys frame h is =
     let counts : (end : ℕ) → shown_count end xs ≡ shown_count end ys = λ end. alike_sum
     (λ events. count_by (is_shown end) events) refl xs ys h in
@@ -281,70 +277,32 @@ same_filter f g same (s ∷ signs) =
     ap (λ b. cond b (s ∷ filter f signs) (filter f signs)) (same s)
     ∙ ap (λ l. cond (g s) (s ∷ l) l) (same_filter f g same signs)
 
-front-alike : (xs ys : List RankAccount) (frame : Frame) → AreAlike xs ys → front_text frame xs ≡ front_text frame ys
-unfolding front_text
-front-alike xs ys frame h =
-    ap (λ l. head_text frame ++ (sheet_text ++ (note_text frame.left_out ++ (rows_text 0 l ++ axis_text frame))))
-    (same_filter (is_used frame.end xs) (is_used frame.end ys) (λ s. alike_used frame.end s xs ys h) all_signs)
+-- so the lists of their shapes are the same
+pub legend-alike : (end : ℕ) (xs ys : List RankAccount) → AreAlike xs ys → legend_of end xs ≡ legend_of end ys
+legend-alike end xs ys h = same_filter (is_used end xs) (is_used end ys) (λ s. alike_used end s xs ys h) all_signs
 
-labels-alike : (xs ys : List RankAccount) (frame : Frame) → AreAlike xs ys → labels_text frame xs ≡ labels_text frame ys
-unfolding labels_text
-labels-alike xs ys frame h =
-    ap (λ l. cond (has_room frame) (flat_map (label_text frame) l) [])
-    (alike_have (λ rank events. flat_map (labels_at frame.end rank) events) (λ rank. refl) 0 xs ys h)
+pub labels-alike : (end : ℕ) (xs ys : List RankAccount) → AreAlike xs ys → all_labels end xs ≡ all_labels end ys
+labels-alike end xs ys h =
+    alike_have (λ rank events. flat_map (labels_at end rank) events) (λ rank. refl) 0 xs ys h
 
-shapes-alike : (xs ys : List RankAccount) (frame : Frame) → frame.lanes ≤ length xs → frame.lanes ≤ length ys →
-    AreAlike xs ys → shapes_text frame xs ≡ shapes_text frame ys
-unfolding arrows_text marks_text shapes_text
-shapes-alike xs ys frame m n h =
-    let end = frame.end in
-    ap (λ l. all l (all_links end xs) (all_marks end xs) (all_rings end xs) (all_arrows end xs) (all_returns end xs)
-    (labels_text frame xs)) (alike_lanes frame.lanes 0 xs ys m n h)
-    ∙ ap (λ l. all lanes l (all_marks end xs) (all_rings end xs) (all_arrows end xs) (all_returns end xs)
-    (labels_text frame xs))
-    (alike_have (λ rank events. links_among end rank (take 4096 events)) (links_none end) 0 xs ys h)
-    ∙ ap (λ l. all lanes (all_links end ys) l (all_rings end xs) (all_arrows end xs) (all_returns end xs)
-    (labels_text frame xs))
-    (alike_have (λ rank events. flat_map (marks_at end rank) events) (λ rank. refl) 0 xs ys h)
-    ∙ ap (λ l. all lanes (all_links end ys) (all_marks end ys) l (all_arrows end xs) (all_returns end xs)
-    (labels_text frame xs))
-    (alike_have (λ rank events. rings rank events) (λ rank. refl) 0 xs ys h)
-    ∙ ap (λ l. all lanes (all_links end ys) (all_marks end ys) (all_rings end ys) l (all_returns end xs)
-    (labels_text frame xs))
-    (alike_arrows end 0 xs ys h 0 xs
-    ∙ alike_have (λ rank events. flat_map (arrows_at end ys rank) events) (λ rank. refl) 0 xs ys h)
-    ∙ ap (λ l. all lanes (all_links end ys) (all_marks end ys) (all_rings end ys) (all_arrows end ys) l
-    (labels_text frame xs))
-    (alike_returns end xs ys h 0 xs
-    ∙ alike_have (λ rank events. flat_map (returns_at end ys rank) events) (λ rank. refl) 0 xs ys h)
-    ∙ ap (λ l. all lanes (all_links end ys) (all_marks end ys) (all_rings end ys) (all_arrows end ys)
-    (all_returns end ys) l) (labels-alike xs ys frame h)
-  where
-    lanes : List Lane
-    lanes = all_lanes (take frame.lanes ys)
+pub links-alike : (end : ℕ) (xs ys : List RankAccount) → AreAlike xs ys → all_links end xs ≡ all_links end ys
+links-alike end xs ys h =
+    alike_have (λ rank events. links_among end rank (take 4096 events)) (links_none end) 0 xs ys h
 
-    rings : ℕ → List Event → List Ring
-    rings rank events = cond (are_few events) (rings_among frame.end rank events) []
+pub marks-alike : (end : ℕ) (xs ys : List RankAccount) → AreAlike xs ys → all_marks end xs ≡ all_marks end ys
+marks-alike end xs ys h = alike_have (λ rank events. flat_map (marks_at end rank) events) (λ rank. refl) 0 xs ys h
 
-    all : List Lane → List Link → List Mark → List Ring → List Arrow → List Return → List ℕ → List ℕ
-    all lanes links marks rings arrows ways labels =
-        (flat_map (lane_text frame) lanes ++ (flat_map (link_text frame) links
-        ++ (flat_map (mark_text frame) marks ++ flat_map (ring_text frame) rings)))
-        ++ (flat_map (arrow_text frame) arrows ++ (flat_map (return_text frame) ways ++ labels))
+pub rings-alike : (end : ℕ) (xs ys : List RankAccount) → AreAlike xs ys → all_rings end xs ≡ all_rings end ys
+rings-alike end xs ys h = alike_have rings (λ rank. refl) 0 xs ys h where
+  rings : ℕ → List Event → List Ring
+  rings rank events = cond (are_few events) (rings_among end rank events) []
 
-picture-alike : (xs ys : List RankAccount) (frame : Frame) → frame.lanes ≤ length xs → frame.lanes ≤ length ys →
-    AreAlike xs ys → picture_text frame xs ≡ picture_text frame ys
-unfolding picture_text
-picture-alike xs ys frame m n h =
-    ap (λ l. l ++ (shapes_text frame xs ++ codes "</svg>\n")) (front-alike xs ys frame h)
-    ∙ ap (λ l. front_text frame ys ++ (l ++ codes "</svg>\n")) (shapes-alike xs ys frame m n h)
+pub arrows-alike : (end : ℕ) (xs ys : List RankAccount) → AreAlike xs ys → all_arrows end xs ≡ all_arrows end ys
+arrows-alike end xs ys h =
+    alike_arrows end 0 xs ys h 0 xs
+    ∙ alike_have (λ rank events. flat_map (arrows_at end ys rank) events) (λ rank. refl) 0 xs ys h
 
-pub alike-picture : (run other : RunRecord) (text : List ℕ) → AreAlike run.ranks other.ranks → IsPictureOf run text →
-    IsPictureOf other text
-alike-picture run other text alike p =
-    let too = alike-frame run.ranks other.ranks p.frame alike p.of_ranks in
-    record {
-      frame = p.frame;
-      of_ranks = too;
-      drawn = p.drawn ∙ picture-alike run.ranks other.ranks p.frame p.of_ranks.lanes too.lanes alike;
-    }
+pub returns-alike : (end : ℕ) (xs ys : List RankAccount) → AreAlike xs ys → all_returns end xs ≡ all_returns end ys
+returns-alike end xs ys h =
+    alike_returns end xs ys h 0 xs
+    ∙ alike_have (λ rank events. flat_map (returns_at end ys rank) events) (λ rank. refl) 0 xs ys h

@@ -1,4 +1,4 @@
--- Every sign that stands in a picture is drawn and explained.
+-- Every sign that stands in a picture is one of the legend's.
 use Rattle.std.proofs.Common.{◌≡◌, ℕ, ◌+◌, ◌<◌, zero, suc, Bool, true, false, cond, ◌&&◌, List, [], ◌∷◌, refl, sym}
 use Rattle.std.proofs.Common.{ap, ◌∙◌, subst, arith, flat_map, take, Option, Some, None}
 use Rattle.std.specs.List.{AllByRecursion, Contains, filter, list_any, slice_get}
@@ -24,28 +24,16 @@ use Rattle.nm_diagram.specs.Anchors.{first_stamp, is_anchor}
 use Rattle.nm_diagram.specs.Diagrams.{all_arrows, all_marks, arrow_from, arrow_of, arrows_at, from_lane, mark_of}
 use Rattle.nm_diagram.specs.Diagrams.{marks_at, sent_by, sign_of}
 use Rattle.nm_diagram.specs.declared.returns.Return.{Return}
-use Rattle.nm_diagram.specs.Left.{Ring, all_rings, are_few, has_left, is_left_at, ring_of, rings_among, rings_at}
+use Rattle.nm_diagram.specs.declared.rings.Ring.{Ring}
+use Rattle.nm_diagram.specs.Left.{all_rings, are_few, has_left, is_left_at, ring_of, rings_among, rings_at}
 use Rattle.nm_diagram.specs.Left.{rings_of, some_left}
 use Rattle.nm_diagram.specs.Links.{all_links, link_from, link_of, links_of}
 use Rattle.nm_diagram.specs.Returns.{all_returns, found_by, return_from, return_of, returns_at}
 use Rattle.nm_diagram.specs.Frames.{is_shown}
-use Rattle.nm_diagram.specs.Legend.{all_stand, are_drawn, covers, has_sign, is_told, is_used, legend_of, none_stands}
-use Rattle.nm_diagram.specs.Legend.{sheet_text, strokes}
+use Rattle.nm_diagram.specs.Legend.{has_sign, is_told, is_used, legend_of}
 use Rattle.nm_diagram.specs.Signs.{all_signs, is_ask, is_eager, is_of_left, is_waits, tells, way_of}
 use Rattle.nm_diagram.proofs.ArrowLemmas.{found_at, here, there}
 use Rattle.nm_facts.proofs.Lists.{all_append as both}
-
-pub signs-drawn : are_drawn all_signs ≡ true
-unfolding sheet_text
-signs-drawn = refl
-
-pub strokes-stand : all_stand strokes ≡ true
-unfolding sheet_text
-strokes-stand = refl
-
-pub covers-stand : none_stands covers ≡ true
-unfolding sheet_text
-covers-stand = refl
 
 -- what passes stays
 kept_here : {X : Type 0} (test : X → Bool) (x : X) (xs : List X) (b : Bool) → b ≡ true →

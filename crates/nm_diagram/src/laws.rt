@@ -15,23 +15,18 @@ ghost use Rattle.nm_report.specs.declared.accounts.RankAccount.{RankAccount};
 ghost use Rattle.nm_report.specs.declared.records.RunRecord.{RunRecord};
 ghost use Rattle.nm_report.specs.Lawful.{IsRunIn};
 ghost use Rattle.nm_diagram.specs.declared.anchors.Anchor.TheVariants as anchor;
-ghost use Rattle.nm_diagram.specs.Alike.{AreAlike};
 ghost use Rattle.nm_diagram.specs.Anchors.{first_stamp};
 ghost use Rattle.nm_diagram.specs.Diagrams.{all_arrows, all_marks, arrows_at, mark_of, marks_of};
 ghost use Rattle.nm_diagram.specs.declared.frames.Frame.{Frame};
 ghost use Rattle.nm_diagram.specs.Frames.{IsFrame, is_shown, shown_count};
 ghost use Rattle.nm_diagram.specs.Joined.{HasOneArrow, IsOfMessage, Rise};
-ghost use Rattle.nm_diagram.specs.Legend.{all_stand, are_drawn, covers, is_used, legend_of};
-ghost use Rattle.nm_diagram.specs.Legend.{none_stands, strokes};
+ghost use Rattle.nm_diagram.specs.Legend.{is_used, legend_of};
 ghost use Rattle.nm_diagram.specs.Labels.{labelled, labels_of};
 ghost use Rattle.nm_diagram.specs.Left.{all_rings};
 ghost use Rattle.nm_diagram.specs.Links.{all_links};
 ghost use Rattle.nm_diagram.specs.Returns.{IsOfWithdrawal, all_returns};
-ghost use Rattle.nm_diagram.specs.Markup.{escaped, is_plain};
-ghost use Rattle.nm_diagram.specs.Pictures.{IsPictureOf};
 ghost use Rattle.nm_diagram.specs.declared.signs.Sign.TheVariants as sign;
-ghost use Rattle.nm_diagram.specs.Signs.{all_signs, way_of};
-ghost use Rattle.nm_diagram.specs.WellFormed.{IsWellFormed};
+ghost use Rattle.nm_diagram.specs.Signs.{way_of};
 
 /// Each event that is shown has exactly one mark, in the lane of its rank. The marks of a rank
 /// stand in the order of its history, so their stamps rise where those of its events do.
@@ -51,11 +46,9 @@ pub fn each_event_has_one_label()
         ≡ map (labelled rank) (filter (is_shown end) account.history.events) }
 {}
 
-/// Each sign that stands in the picture is explained beside it, and drawn: that of each mark, the
-/// way of each arrow and of each withdrawal, what a link and a ring tell, and that of a command that can't go on. The legend has no
-/// other sign, and the picture has a row for each of the legend's. The sheet draws each sign, and
-/// the ways of messages and the links have their strokes. No property that could hide a shape
-/// stands in the sheet.
+/// Each sign that stands in the picture is one of the legend's: that of each mark, the way of each
+/// arrow and of each withdrawal, what a link and a ring tell, and that of a command that can't go
+/// on. The legend has no other sign.
 pub fn each_sign_is_explained()
     ensures marks { (end : ℕ) (ranks : List RankAccount) →
         AllByRecursion (λ mark. Contains (legend_of end ranks) mark.sign) (all_marks end ranks) }
@@ -72,9 +65,6 @@ pub fn each_sign_is_explained()
         Contains (legend_of end ranks) sign.Waits }
     ensures used { (end : ℕ) (ranks : List RankAccount) →
         AllByRecursion (λ sign. is_used end ranks sign ≡ true) (legend_of end ranks) }
-    ensures drawn { are_drawn all_signs ≡ true }
-    ensures strokes { all_stand strokes ≡ true }
-    ensures shown { none_stands covers ≡ true }
 {}
 
 /// Each arrow goes from the send of a message to its arrival, and both are shown.
@@ -126,25 +116,4 @@ pub fn each_message_goes_forward()
 pub fn stamps_of_a_run_rise()
     ensures { (h : List Event) → AtEach (λ before e. StampAt before e.stamp) h →
         Rise 0 (map (λ e. e.stamp) h) }
-{}
-
-/// A run has one picture.
-pub fn a_run_has_one_picture()
-    ensures { (run : RunRecord) (a b : List ℕ) → IsPictureOf run a → IsPictureOf run b → a ≡ b }
-{}
-
-/// Runs of the same ranks, but for silent ones at the end of either, have one picture.
-pub fn alike_runs_have_one_picture()
-    ensures { (run other : RunRecord) (text : List ℕ) → AreAlike run.ranks other.ranks →
-        IsPictureOf run text → IsPictureOf other text }
-{}
-
-/// A picture is well-formed markup: each tag is closed where it has to be, and no text holds one.
-pub fn a_picture_is_well_formed()
-    ensures { (run : RunRecord) (text : List ℕ) → IsPictureOf run text → IsWellFormed text }
-{}
-
-/// What is between tags holds no tag.
-pub fn escaped_text_has_no_tags()
-    ensures { (text : List ℕ) → AllByRecursion (λ b. is_plain b ≡ true) (escaped text) }
 {}

@@ -1,38 +1,35 @@
-//! The picture of a run: the space-time diagram of its record, as one SVG.
+//! What the picture of a run shows: the space-time diagram of its record, as lists of shapes.
+//!
+//! After Lamport, 'Time, Clocks, and the Ordering of Events', 1978. A shape has a rank and a stamp;
+//! where on a sheet that is, and what it looks like, `nm_picture` says.
 //!
 //! # What a contract sees
-//! The record of a run, and bytes as a list of numbers. `specs/` has the lists of what a picture
-//! shows: the process lines of the ranks and what they wait for, a mark for each event and an arrow
-//! for each message (`Diagrams`), a link for each receive that took a message (`Links`), what each
-//! event tells in short (`Labels`), and which events are shown (`Frames`). `Pictures` has their text,
-//! `Signs` the signs and what they stand for, `Legend` those that a picture has, and `WellFormed` what
-//! well-formed markup is.
+//! The record of a run (`nm_report`). `specs/` has the lists: the process lines of the ranks and what
+//! they wait for, a mark for each event and an arrow for each message (`Diagrams`), a link for each
+//! receive that took a message (`Links`), a ring round each message that nobody took (`Left`), the
+//! ways of withdrawals (`Returns`), what each event tells in short (`Labels`), which signs stand in
+//! the legend (`Signs`, `Legend`), and which events are shown (`Frames`).
 //! # What is proved
-//! - The picture is a function of the record: its text is exactly that of these lists, in order.
+//! - The code finds those shapes: the arrow, the way or the ring of an event, and the link of a pair.
 //! - `laws`: each event that is shown has one mark, and each arrow goes from the send of a message
-//!   to its arrival. In a run each arrival that is shown has one arrow, which goes forward. A run
-//!   has one picture, the same with silent ranks behind its own, and it is well-formed markup. Each
-//!   sign that stands in a picture is drawn, and explained by its legend, which has no other.
-//! # What is only tested
-//! That it succeeds with ample memory (`nm_texts_rows`), and that a browser shows what is meant.
+//!   to its arrival. In a run each arrival that is shown has one arrow, which goes forward. Each
+//!   sign that stands in a picture is one of its legend, which has no other.
 #![tactic(auto)]
 
 mod anchors;
 mod arrows;
-mod axis;
 mod frames;
-mod labels;
 pub mod laws;
-mod left;
-mod legend;
+mod legends;
 mod links;
-mod marks;
-mod outlines;
-mod pictures;
-mod places;
 mod returns;
-mod sheet;
+mod rings;
 mod signs;
-mod words;
 
-pub use pictures::picture;
+pub use arrows::{Arrow, arrow_at};
+pub use frames::Frame;
+pub use legends::{all_signs, stands};
+pub use links::{Link, link_at, linked_events};
+pub use returns::{Return, return_at};
+pub use rings::{Ring, is_short, ring_at};
+pub use signs::Sign;

@@ -1,18 +1,12 @@
 //! A link for each receive that took a message, in the lane of its rank.
 
-ghost use Rattle.std.specs.Prelude.{◌≡◌, ◌≤◌, ◌<◌, ◌++◌, OnOk, flat_map, length, string_bytes};
-ghost use Rattle.nm_diagram.specs.Links.{all_links, link_of, links_among, links_of};
-ghost use Rattle.nm_diagram.specs.Pictures.{bend_of, bow_text, bow_x, link_text, link_title};
-ghost use Rattle.nm_diagram.specs.Pictures.{span_of};
+ghost use Rattle.std.specs.Prelude.{◌≡◌, option_to_list, take};
+ghost use Rattle.nm_diagram.specs.Links.{link_from, link_of};
 
 use crate::anchors::{Anchor, first_stamp, front};
-use crate::frames::Frame;
-use crate::places::{gap_of, x_of, y_of};
 use nm_history::Event;
 use nm_history::plain::Pair;
-use nm_pairs::all_pairs;
 use nm_report::RankAccount;
-use std::alloc::{AllocError, Global};
 
 /// How many of a rank's first events are looked through for receives that took a message.
 const MAX_LINKED: usize = 4096;
@@ -21,7 +15,7 @@ const MAX_LINKED: usize = 4096;
 #[derive(Clone, Copy)]
 pub struct Link {
     /// The rank of both.
-    pub lane: usize,
+    pub lane: u8,
     /// When the receive was posted, or took the claimed message.
     pub received: u64,
     /// When the message arrived.
@@ -29,185 +23,41 @@ pub struct Link {
     /// The number of the receive.
     pub number: u64,
     /// The rank that sent the message.
-    pub from: usize,
+    pub from: u8,
     /// Its number among the messages of these two.
     pub n: u64,
 }
 
-/// How many stamps lie between the ends of a link.
-fn span(link: &Link) -> u64
-    requires low { (link.now.received ≤ 1000000) × (link.now.arrived ≤ 1000000) }
-    ensures value { result ≡ span_of link.now }
-    ensures within { result ≤ 1000000 }
+/// The events of a rank that are looked through for receives that took a message.
+pub fn linked_events(account: &RankAccount) -> &[Event]
+    ensures { result.now ≡ take 4096 account.now.history.events }
 {
-    link.received.max(link.arrived) - link.received.min(link.arrived)
+    front(account.history.as_slice(), MAX_LINKED)
 }
 
-/// How far the bow of a link bends: the farther, the more it spans.
-fn bend(frame: &Frame, link: &Link) -> u64
-    requires lanes { frame.now.lanes ≤ 256 }
-    requires low { (link.now.received ≤ 1000000) × (link.now.arrived ≤ 1000000) }
-    ensures value { result ≡ bend_of frame.now link.now }
-    ensures within { result ≤ 55 }
-{
-    let gap = gap_of(frame);
-    let span = span(link);
-    gap / 12 + (gap * span / (6 * span + 72)).min(25) + gap / 24 * (link.number % 4)
-}
-
-/// How far from the left the bow of a link stands.
-fn bow_of(frame: &Frame, link: &Link) -> u64
-    requires lanes { frame.now.lanes ≤ 256 }
-    requires few { link.now.lane ≤ 256 }
-    requires low { (link.now.received ≤ 1000000) × (link.now.arrived ≤ 1000000) }
-    ensures { result ≡ bow_x frame.now link.now }
-{
-    x_of(frame, link.lane) - bend(frame, link)
-}
-
-/// Writes the tag of a link.
-#[tactic(auto, unfolding(crate::specs::Pictures::bow_text))]
-fn push_bow(out: &mut String, frame: &Frame, link: &Link) -> Result<(), AllocError>
-    requires lanes { frame.now.lanes ≤ 256 }
-    requires few { link.now.lane ≤ 256 }
-    requires low { (link.now.received ≤ 1000000) × (link.now.arrived ≤ 1000000) }
-    ensures ok { OnOk result (string_bytes out.new ≡ string_bytes out.old ++ bow_text frame.now link.now) }
-{
-    let x = x_of(frame, link.lane);
-    let bow = bow_of(frame, link);
-    let y1 = y_of(link.received);
-    let y2 = y_of(link.arrived);
-    write!(
-        out,
-        "<path class=\"link\" d=\"M {x} {y1} C {bow} {y1} {bow} {y2} {x} {y2}\">"
-    )
-}
-
-/// Writes the title of a link.
-#[tactic(auto, unfolding(crate::specs::Pictures::link_title))]
-fn push_link_title(out: &mut String, link: &Link) -> Result<(), AllocError>
-    ensures ok { OnOk result (string_bytes out.new ≡ string_bytes out.old ++ link_title link.now) }
-{
-    let Link {
-        number,
-        from,
-        n,
-        ..
-    } = *link;
-    write!(
-        out,
-        "<title>receive {number} takes message {n} from {from}</title>"
-    )
-}
-
-/// Writes a link.
-#[tactic(auto, unfolding(crate::specs::Pictures::link_text))]
-fn push_link(out: &mut String, frame: &Frame, link: &Link) -> Result<(), AllocError>
-    requires lanes { frame.now.lanes ≤ 256 }
-    requires few { link.now.lane ≤ 256 }
-    requires low { (link.now.received ≤ 1000000) × (link.now.arrived ≤ 1000000) }
-    ensures ok { OnOk result (string_bytes out.new ≡ string_bytes out.old ++ link_text frame.now link.now) }
-{
-    push_bow(out, frame, link)?;
-    push_link_title(out, link)?;
-    out.push_str("</path>\n")
-}
-
-/// Writes the link of a pair, if its receive and its arrival are shown.
-fn push_pair(
-    out: &mut String,
-    frame: &Frame,
-    rank: usize,
-    events: &[Event],
-    pair: &Pair,
-) -> Result<(), AllocError>
-    requires lanes { frame.now.lanes ≤ 256 }
-    requires few { rank ≤ 256 }
-    requires low { frame.now.end ≤ 1000001 }
-    ensures ok { OnOk result (string_bytes out.new
-        ≡ string_bytes out.old ++ flat_map (link_text frame.now) (link_of frame.now.end rank events.now pair.now)) }
+/// The link of a pair of a rank's events, if its receive and its arrival are shown.
+pub fn link_at(end: u64, rank: u8, events: &[Event], pair: &Pair) -> Option<Link>
+    ensures { option_to_list result ≡ link_of end rank events.now pair.now }
 {
     let Pair {
         number,
         arrival,
         ..
     } = *pair;
-    let from = arrival.env.from as usize;
+    let from = arrival.env.from;
     let n = arrival.n;
-    let Some(received) = first_stamp(events, frame.end, Anchor::Receive { number }) else {
-        return Ok(());
+    let Some(received) = first_stamp(events, end, Anchor::Receive { number }) else {
+        return None;
     };
-    let Some(arrived) = first_stamp(events, frame.end, Anchor::Arrival { from, n }) else {
-        return Ok(());
+    let Some(arrived) = first_stamp(events, end, Anchor::Arrival { from, n }) else {
+        return None;
     };
-    push_link(
-        out,
-        frame,
-        &Link {
-            lane: rank,
-            received,
-            arrived,
-            number,
-            from,
-            n,
-        },
-    )
-}
-
-/// Writes the links of some events of a rank.
-fn push_links_among(
-    alloc: Global,
-    out: &mut String,
-    frame: &Frame,
-    rank: usize,
-    events: &[Event],
-) -> Result<(), AllocError>
-    requires lanes { frame.now.lanes ≤ 256 }
-    requires few { rank ≤ 256 }
-    requires low { frame.now.end ≤ 1000001 }
-    ensures ok { OnOk result (string_bytes out.new
-        ≡ string_bytes out.old ++ flat_map (link_text frame.now) (links_among frame.now.end rank events.now)) }
-{
-    let pairs = all_pairs(alloc, events)?;
-    for pair in pairs.as_slice() {
-        push_pair(out, frame, rank, events, pair)?;
-    }
-    Ok(())
-}
-
-/// Writes the links of a rank.
-fn push_links_of_rank(
-    alloc: Global,
-    out: &mut String,
-    frame: &Frame,
-    rank: usize,
-    account: &RankAccount,
-) -> Result<(), AllocError>
-    requires lanes { frame.now.lanes ≤ 256 }
-    requires few { rank ≤ 256 }
-    requires low { frame.now.end ≤ 1000001 }
-    ensures ok { OnOk result (string_bytes out.new ≡ string_bytes out.old
-        ++ flat_map (link_text frame.now) (links_of frame.now.end rank account.now)) }
-{
-    let events = front(account.history.as_slice(), MAX_LINKED);
-    push_links_among(alloc, out, frame, rank, events)
-}
-
-/// Writes the links of all ranks.
-pub fn push_links(
-    alloc: Global,
-    out: &mut String,
-    frame: &Frame,
-    ranks: &[RankAccount],
-) -> Result<(), AllocError>
-    requires lanes { frame.now.lanes ≤ 256 }
-    requires few { length ranks.now ≤ 256 }
-    requires low { frame.now.end ≤ 1000001 }
-    ensures ok { OnOk result (string_bytes out.new
-        ≡ string_bytes out.old ++ flat_map (link_text frame.now) (all_links frame.now.end ranks.now)) }
-{
-    for (rank, account) in ranks.iter().enumerate() {
-        push_links_of_rank(alloc, out, frame, rank, account)?;
-    }
-    Ok(())
+    Some(Link {
+        lane: rank,
+        received,
+        arrived,
+        number,
+        from,
+        n,
+    })
 }

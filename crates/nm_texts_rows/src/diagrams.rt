@@ -1,7 +1,7 @@
 //! What no clause says: that a picture is made with ample memory, and where shapes stand by numbers
 //! worked by hand.
 
-use nm_diagram::picture;
+use nm_picture::picture;
 use nm_history::{Event, Happened, History};
 use nm_report::{Accounts, Pairs, RankAccount, RunRecord};
 use nm_types::{Account, Arrival, Envelope, How, Peer, Post, Shape, TagPick};

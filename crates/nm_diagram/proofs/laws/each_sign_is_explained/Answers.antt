@@ -1,9 +1,8 @@
 -- Each clause is a lemma.
 use Rattle.nm_diagram.specs.Legend.{is_used}
 use Rattle.nm_diagram.specs.Signs.{all_signs}
-use Rattle.nm_diagram.proofs.LegendLemmas.{arrows-explained, covers-stand, links-explained, marks-explained, only-used}
-use Rattle.nm_diagram.proofs.LegendLemmas.{returns-explained, rings-explained}
-use Rattle.nm_diagram.proofs.LegendLemmas.{signs-drawn, strokes-stand, waits-explained}
+use Rattle.nm_diagram.proofs.LegendLemmas.{arrows-explained, links-explained, marks-explained, only-used}
+use Rattle.nm_diagram.proofs.LegendLemmas.{returns-explained, rings-explained, waits-explained}
 use Rattle.nm_diagram.proofs.laws.each_sign_is_explained.Goals as goal
 
 pub returns-clause-marks : goal.returns-clause-marks
@@ -26,12 +25,3 @@ returns-clause-waits c = waits-explained
 
 pub returns-clause-used : goal.returns-clause-used
 returns-clause-used c end ranks = only-used (is_used end ranks) all_signs
-
-pub returns-clause-drawn : goal.returns-clause-drawn
-returns-clause-drawn c = signs-drawn
-
-pub returns-clause-strokes : goal.returns-clause-strokes
-returns-clause-strokes c = strokes-stand
-
-pub returns-clause-shown : goal.returns-clause-shown
-returns-clause-shown c = covers-stand

@@ -1,9 +1,0 @@
--- Piece by piece.
-use Rattle.std.proofs.Common.{sym, subst}
-use Rattle.nm_diagram.specs.WellFormed.{IsWellFormed}
-use Rattle.nm_diagram.proofs.WellFormedLemmas.{picture-well_formed}
-use Rattle.nm_diagram.proofs.laws.a_picture_is_well_formed.Goals as goal
-
-pub returns : goal.returns
-returns c run text picture =
-    subst IsWellFormed (sym picture.drawn) (picture-well_formed picture.frame run.ranks)

@@ -1,6 +1,0 @@
--- Byte by byte.
-use Rattle.nm_diagram.proofs.EscapeLemmas.{escaped-plain}
-use Rattle.nm_diagram.proofs.laws.escaped_text_has_no_tags.Goals as goal
-
-pub returns : goal.returns
-returns c = escaped-plain

@@ -1,9 +1,0 @@
-use Rattle.std.proofs.Common.{◌≡◌, drop}
-use Rattle.std.specs.List.{list_any}
-use Rattle.nm_diagram.specs.Left.{has_left}
-use Rattle.nm_diagram.proofs.left.is_any_left.Given as goal
-
--- none was found so far
-abbrev pub invariant-loop-account : goal.invariant-loop-account
-invariant-loop-account l =
-    list_any (has_left l.end) (drop l.account-index l.ranks) ≡ list_any (has_left l.end) l.ranks

@@ -1,0 +1,93 @@
+//! The legend: which signs stand in a picture.
+
+ghost use Rattle.std.specs.Prelude.{◌≡◌, ◌&&◌, IfOk};
+ghost use Rattle.std.specs.List.{list_any};
+ghost use Rattle.std.specs.Option.{is_some};
+ghost use Rattle.nm_diagram.specs.Legend.{has_sign, is_told, is_used};
+ghost use Rattle.nm_diagram.specs.Signs.{all_signs as all_signs_lem, is_waits};
+
+use crate::rings::is_any_left;
+use crate::signs::Sign;
+use nm_history::Event;
+use nm_report::RankAccount;
+use std::alloc::{AllocError, Global};
+
+/// All signs, in the order of the legend.
+const SIGNS: &[Sign] = &[
+    Sign::Send,
+    Sign::Ask,
+    Sign::Post,
+    Sign::Arrive,
+    Sign::Whole,
+    Sign::Out,
+    Sign::Cancel,
+    Sign::Recall,
+    Sign::Withdraw,
+    Sign::Undone,
+    Sign::Claim,
+    Sign::Match,
+    Sign::Ran,
+    Sign::Waits,
+    Sign::EagerWay,
+    Sign::AskWay,
+    Sign::BackWay,
+    Sign::Taken,
+    Sign::Left,
+];
+
+/// All signs, in the order of the legend.
+pub fn all_signs() -> &'static [Sign]
+    ensures { result.now ≡ all_signs_lem }
+{
+    SIGNS
+}
+
+/// Whether an event is shown, and told by a sign.
+fn is_shown_by(end: u64, sign: Sign, event: &Event) -> bool
+    ensures { result ≡ is_told end sign event.now }
+{
+    event.stamp < end && sign.tells(&event.what)
+}
+
+/// Whether a sign tells that a rank waits, and it does.
+fn is_of_wait(sign: Sign, account: &RankAccount) -> bool
+    ensures { result ≡ (is_waits sign && is_some account.now.waits) }
+{
+    sign.is_waits() && account.waits.is_some()
+}
+
+/// Whether one of these events is shown, and told by a sign.
+fn is_of_event(end: u64, sign: Sign, events: &[Event]) -> bool
+    ensures { result ≡ list_any (is_told end sign) events.now }
+{
+    events.iter().any(|event| is_shown_by(end, sign, event))
+}
+
+/// Whether a rank has a sign.
+fn is_of_rank(end: u64, sign: Sign, account: &RankAccount) -> bool
+    ensures { result ≡ has_sign end sign account.now }
+{
+    is_of_wait(sign, account) || is_of_event(end, sign, account.history.as_slice())
+}
+
+/// Whether some of these ranks has a sign.
+fn is_of_some(end: u64, sign: Sign, ranks: &[RankAccount]) -> bool
+    ensures { result ≡ list_any (has_sign end sign) ranks.now }
+{
+    ranks.iter().any(|account| is_of_rank(end, sign, account))
+}
+
+/// Whether a sign stands in the picture of these ranks.
+pub fn stands(
+    alloc: Global,
+    end: u64,
+    sign: Sign,
+    ranks: &[RankAccount],
+) -> Result<bool, AllocError>
+    ensures { IfOk result (λ found. found ≡ is_used end ranks.now sign) }
+{
+    if sign.is_of_left() && is_any_left(alloc, end, ranks)? {
+        return Ok(true);
+    }
+    Ok(is_of_some(end, sign, ranks))
+}

@@ -1,0 +1,11 @@
+use Rattle.std.proofs.Common.{◌≡◌, ◌++◌, drop, flat_map, string_bytes}
+use Rattle.nm_diagram.specs.Diagrams.{arrows_of, from_lane}
+use Rattle.nm_picture.specs.Pictures.{arrow_text}
+use Rattle.nm_picture.proofs.arrows.push_arrows.Given as goal
+
+-- what is written and what is still to write are all
+abbrev pub invariant-loop-rank : goal.invariant-loop-rank
+invariant-loop-rank l =
+    string_bytes l.out ++ flat_map (arrow_text l.frame)
+    (from_lane (arrows_of l.frame.end l.ranks) l.rank (drop l.rank l.ranks))
+    ≡ string_bytes l.fn.out ++ flat_map (arrow_text l.frame) (from_lane (arrows_of l.frame.end l.ranks) 0 l.ranks)

@@ -1,0 +1,9 @@
+-- The text of the next number is written.
+use Rattle.nm_picture.specs.Pictures.{tick_text}
+use Rattle.nm_picture.proofs.CountLemmas.{next_counted}
+use Rattle.nm_picture.proofs.axis.push_axis.Goals as goal
+
+pub loop-k-preserved : goal.loop-k-preserved
+loop-k-preserved c =
+    next_counted (tick_text c.args.frame.now) c.loop-k.k _ _ _ _
+    c.loop-k-test.true c.in_ok-push_tick.ensures.ok c.loop-k.invariant

@@ -1,0 +1,12 @@
+use Rattle.std.proofs.Common.{◌≡◌, ◌++◌, drop, flat_map, string_bytes}
+use Rattle.nm_diagram.specs.Diagrams.{marks_at}
+use Rattle.nm_picture.specs.Pictures.{mark_text}
+use Rattle.nm_picture.proofs.marks.push_marks_of_rank.Given as goal
+
+-- what is written and what is still to write are all
+abbrev pub invariant-loop-event : goal.invariant-loop-event
+invariant-loop-event l =
+    string_bytes l.out ++ flat_map (mark_text l.frame)
+    (flat_map (marks_at l.frame.end l.rank) (drop l.event-index l.account.history.events))
+    ≡ string_bytes l.fn.out ++ flat_map (mark_text l.frame)
+    (flat_map (marks_at l.frame.end l.rank) l.account.history.events)

@@ -1,0 +1,4 @@
+pub mod Markup
+pub mod Pictures
+pub mod Sheet
+pub mod WellFormed

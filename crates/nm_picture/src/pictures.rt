@@ -1,0 +1,131 @@
+//! The whole picture.
+
+ghost use Rattle.std.specs.Prelude.{◌≡◌, ◌≤◌, ◌++◌, IfOk, OnOk, length, string_bytes};
+ghost use Rattle.nm_picture.specs.Pictures.{IsPictureOf, arrows_text, front_text, marks_text};
+ghost use Rattle.nm_picture.specs.Pictures.{picture_text, shapes_text};
+ghost use Rattle.nm_picture.specs.Sheet.{sheet_text};
+
+use crate::arrows::push_arrows;
+use crate::axis::push_axis;
+use crate::labels::push_labels;
+use crate::legend::push_legend;
+use crate::links::push_links;
+use crate::marks::push_marks;
+use crate::outlines::{push_lanes, push_left_out, push_size};
+use crate::returns::push_returns;
+use crate::rings::push_rings;
+use crate::sheet::SHEET;
+use nm_diagram::Frame;
+use nm_report::{RankAccount, RunRecord};
+use nm_types::Memory;
+use std::alloc::{AllocError, Global};
+
+/// Writes what stands in each picture.
+#[tactic(auto, unfolding(crate::specs::Sheet::sheet_text))]
+fn push_sheet(out: &mut String) -> Result<(), AllocError>
+    ensures ok { OnOk result (string_bytes out.new ≡ string_bytes out.old ++ sheet_text) }
+{
+    out.push_str(SHEET)
+}
+
+/// Writes the front of the picture.
+#[tactic(auto, unfolding(crate::specs::Pictures::front_text))]
+fn push_front(
+    alloc: Global,
+    out: &mut String,
+    frame: &Frame,
+    ranks: &[RankAccount],
+) -> Result<(), AllocError>
+    ensures ok { OnOk result
+        (string_bytes out.new ≡ string_bytes out.old ++ front_text frame.now ranks.now) }
+{
+    push_size(out, frame)?;
+    push_sheet(out)?;
+    push_left_out(out, frame)?;
+    push_legend(alloc, out, frame, ranks)?;
+    push_axis(out, frame)
+}
+
+/// Writes the lines, the links, and the marks with their rings.
+#[tactic(auto, unfolding(crate::specs::Pictures::marks_text))]
+fn push_back(
+    alloc: Global,
+    out: &mut String,
+    frame: &Frame,
+    ranks: &[RankAccount],
+) -> Result<(), AllocError>
+    requires few { length ranks.now ≤ 256 }
+    requires lanes { frame.now.lanes ≤ length ranks.now }
+    ensures ok { OnOk result
+        (string_bytes out.new ≡ string_bytes out.old ++ marks_text frame.now ranks.now) }
+{
+    push_lanes(out, frame, &ranks[..frame.lanes as usize])?;
+    push_links(alloc, out, frame, ranks)?;
+    push_marks(alloc, out, frame, ranks)?;
+    push_rings(alloc, out, frame, ranks)
+}
+
+/// Writes the arrows, the ways of withdrawals, and the labels.
+#[tactic(auto, unfolding(crate::specs::Pictures::arrows_text))]
+fn push_fore(
+    alloc: Global,
+    out: &mut String,
+    frame: &Frame,
+    ranks: &[RankAccount],
+) -> Result<(), AllocError>
+    requires few { length ranks.now ≤ 256 }
+    requires lanes { frame.now.lanes ≤ length ranks.now }
+    ensures ok { OnOk result
+        (string_bytes out.new ≡ string_bytes out.old ++ arrows_text frame.now ranks.now) }
+{
+    push_arrows(out, frame, ranks)?;
+    push_returns(out, frame, ranks)?;
+    push_labels(alloc, out, frame, ranks)
+}
+
+/// Writes the shapes, the lines first, and the arrows in front of the marks.
+#[tactic(auto, unfolding(crate::specs::Pictures::shapes_text))]
+fn push_shapes(
+    alloc: Global,
+    out: &mut String,
+    frame: &Frame,
+    ranks: &[RankAccount],
+) -> Result<(), AllocError>
+    requires few { length ranks.now ≤ 256 }
+    requires lanes { frame.now.lanes ≤ length ranks.now }
+    ensures ok { OnOk result
+        (string_bytes out.new ≡ string_bytes out.old ++ shapes_text frame.now ranks.now) }
+{
+    push_back(alloc, out, frame, ranks)?;
+    push_fore(alloc, out, frame, ranks)
+}
+
+/// Writes the whole picture.
+#[tactic(auto, unfolding(crate::specs::Pictures::picture_text))]
+fn push_all(
+    alloc: Global,
+    out: &mut String,
+    frame: &Frame,
+    ranks: &[RankAccount],
+) -> Result<(), AllocError>
+    requires few { length ranks.now ≤ 256 }
+    requires lanes { frame.now.lanes ≤ length ranks.now }
+    ensures ok { OnOk result
+        (string_bytes out.new ≡ string_bytes out.old ++ picture_text frame.now ranks.now) }
+{
+    push_front(alloc, out, frame, ranks)?;
+    push_shapes(alloc, out, frame, ranks)?;
+    out.push_str("</svg>\n")
+}
+
+/// The picture of a run.
+pub fn picture(alloc: Global, run: &RunRecord) -> Result<Vec<u8>, Memory>
+    requires { length run.now.ranks ≤ 256 }
+    ensures { IfOk result (λ text. IsPictureOf run.now text.items) }
+{
+    let ranks = run.ranks.as_slice();
+    let frame = Frame::of(ranks);
+    let mut out = String::new(alloc);
+    push_all(alloc, &mut out, &frame, ranks)?;
+    Ok(out.into_bytes())
+}
