@@ -8,6 +8,7 @@ mod FeedLemmas
 mod FieldLemmas
 mod GivenLemmas
 mod LineLemmas
+mod LoneLemmas
 mod NoteLemmas
 mod OutcomeLemmas
 mod ReportLemmas

@@ -1,6 +1,7 @@
 pub mod Answers
 pub mod Events
 pub mod Lines
+pub mod Lones
 pub mod Machine
 pub mod Notes
 pub mod Outcome

@@ -194,62 +194,82 @@ fn arrive_from(words: &[&[u8]]) -> Option<Happened>
     }
 }
 
-/// A message that is whole, by the words behind its name.
+/// A message that is whole, by its two words.
 #[tactic(auto, unfolding(crate::specs::Events::whole_of))]
+fn whole_with(from: &[u8], n: &[u8]) -> Option<Happened>
+    ensures { result ≡ whole_of (from.now ∷ n.now ∷ []) }
+{
+    let from = small(from)?;
+    let n = huge(n)?;
+    Some(Happened::Whole { from, n })
+}
+
+/// A message that is whole, by the words behind its name.
 fn whole_from(words: &[&[u8]]) -> Option<Happened>
     ensures { result ≡ whole_of (map (λ word. word.now) words.now) }
 {
     match words {
-        [from, n] => {
-            let from = small(from)?;
-            let n = huge(n)?;
-            Some(Happened::Whole { from, n })
-        }
+        [from, n] => whole_with(from, n),
         _ => None,
     }
 }
 
-/// A message that is out, by the words behind its name.
+/// A message that is out, by its two words.
 #[tactic(auto, unfolding(crate::specs::Events::out_of))]
+fn out_with(to: &[u8], n: &[u8]) -> Option<Happened>
+    ensures { result ≡ out_of (to.now ∷ n.now ∷ []) }
+{
+    let to = small(to)?;
+    let n = huge(n)?;
+    Some(Happened::Out { to, n })
+}
+
+/// A message that is out, by the words behind its name.
 fn out_from(words: &[&[u8]]) -> Option<Happened>
     ensures { result ≡ out_of (map (λ word. word.now) words.now) }
 {
     match words {
-        [to, n] => {
-            let to = small(to)?;
-            let n = huge(n)?;
-            Some(Happened::Out { to, n })
-        }
+        [to, n] => out_with(to, n),
         _ => None,
     }
 }
 
-/// A cancel, by the words behind its name.
+/// A cancel, by its two words.
 #[tactic(auto, unfolding(crate::specs::Events::cancel_of))]
+fn cancel_with(number: &[u8], done: &[u8]) -> Option<Happened>
+    ensures { result ≡ cancel_of (number.now ∷ done.now ∷ []) }
+{
+    let number = huge(number)?;
+    let done = done_from(done)?;
+    Some(Happened::Cancel { number, done })
+}
+
+/// A cancel, by the words behind its name.
 fn cancel_from(words: &[&[u8]]) -> Option<Happened>
     ensures { result ≡ cancel_of (map (λ word. word.now) words.now) }
 {
     match words {
-        [number, done] => {
-            let number = huge(number)?;
-            let done = done_from(done)?;
-            Some(Happened::Cancel { number, done })
-        }
+        [number, done] => cancel_with(number, done),
         _ => None,
     }
 }
 
-/// A recall, by the words behind its name.
+/// A recall, by its two words.
 #[tactic(auto, unfolding(crate::specs::Events::recall_of))]
+fn recall_with(to: &[u8], n: &[u8]) -> Option<Happened>
+    ensures { result ≡ recall_of (to.now ∷ n.now ∷ []) }
+{
+    let to = small(to)?;
+    let n = huge(n)?;
+    Some(Happened::Recall { to, n })
+}
+
+/// A recall, by the words behind its name.
 fn recall_from(words: &[&[u8]]) -> Option<Happened>
     ensures { result ≡ recall_of (map (λ word. word.now) words.now) }
 {
     match words {
-        [to, n] => {
-            let to = small(to)?;
-            let n = huge(n)?;
-            Some(Happened::Recall { to, n })
-        }
+        [to, n] => recall_with(to, n),
         _ => None,
     }
 }
@@ -266,7 +286,6 @@ fn withdraw_with(from: &[u8], n: &[u8], done: &[u8]) -> Option<Happened>
 }
 
 /// A withdrawal, by the words behind its name.
-#[tactic(auto, unfolding(crate::specs::Events::withdraw_of))]
 fn withdraw_from(words: &[&[u8]]) -> Option<Happened>
     ensures { result ≡ withdraw_of (map (λ word. word.now) words.now) }
 {
@@ -288,7 +307,6 @@ fn undone_with(to: &[u8], n: &[u8], done: &[u8]) -> Option<Happened>
 }
 
 /// What became of a recall, by the words behind its name.
-#[tactic(auto, unfolding(crate::specs::Events::undone_of))]
 fn undone_from(words: &[&[u8]]) -> Option<Happened>
     ensures { result ≡ undone_of (map (λ word. word.now) words.now) }
 {
@@ -310,7 +328,6 @@ fn claim_with(from: &[u8], n: &[u8], line: &[u8]) -> Option<Happened>
 }
 
 /// A claim, by the words behind its name.
-#[tactic(auto, unfolding(crate::specs::Events::claim_of))]
 fn claim_from(words: &[&[u8]]) -> Option<Happened>
     ensures { result ≡ claim_of (map (λ word. word.now) words.now) }
 {

@@ -1,7 +1,9 @@
 //! The names of the events, and the answers of one word.
 
-ghost use Rattle.std.specs.Prelude.{◌≡◌};
-ghost use Rattle.nm_trace.specs.Sorts.{sort_of, lone_answer};
+ghost use Rattle.std.specs.Prelude.{◌≡◌, find};
+ghost use Rattle.std.specs.Str.{bytes_eq};
+ghost use Rattle.nm_trace.specs.Lones.{answer_of, lones};
+ghost use Rattle.nm_trace.specs.Sorts.{sort_of, sort_text, sorts, lone_answer, lone_text};
 
 use nm_types::Answer;
 
@@ -22,66 +24,161 @@ pub enum Sort {
     Ran,
 }
 
+impl Sort {
+    /// The name.
+    fn name(self) -> &'static str
+        ensures { result.now ≡ sort_text self }
+    {
+        match self {
+            Sort::Send => "send",
+            Sort::Post => "post",
+            Sort::Arrive => "arrive",
+            Sort::Whole => "whole",
+            Sort::Out => "out",
+            Sort::Cancel => "cancel",
+            Sort::Recall => "recall",
+            Sort::Withdraw => "withdraw",
+            Sort::Undone => "undone",
+            Sort::Claim => "claim",
+            Sort::Match => "match",
+            Sort::Ran => "ran",
+        }
+    }
+
+    /// Whether it has this name.
+    fn is_named(self, word: &[u8]) -> bool
+        ensures { result ≡ bytes_eq word.now (sort_text self) }
+    {
+        word == self.name().as_bytes()
+    }
+}
+
+/// The events that there are.
+const SORTS: &[Sort] = &[
+    Sort::Send,
+    Sort::Post,
+    Sort::Arrive,
+    Sort::Whole,
+    Sort::Out,
+    Sort::Cancel,
+    Sort::Recall,
+    Sort::Withdraw,
+    Sort::Undone,
+    Sort::Claim,
+    Sort::Match,
+    Sort::Ran,
+];
+
+/// The events that there are.
+fn sorts() -> &'static [Sort]
+    ensures { result.now ≡ sorts }
+{
+    SORTS
+}
+
 /// The event that has this name.
 #[tactic(auto, unfolding(crate::specs::Sorts::sort_of))]
 pub fn sort_from(word: &[u8]) -> Option<Sort>
     ensures { result ≡ sort_of word.now }
 {
-    if word == b"send".as_slice() {
-        Some(Sort::Send)
-    } else if word == b"post".as_slice() {
-        Some(Sort::Post)
-    } else if word == b"arrive".as_slice() {
-        Some(Sort::Arrive)
-    } else if word == b"whole".as_slice() {
-        Some(Sort::Whole)
-    } else if word == b"out".as_slice() {
-        Some(Sort::Out)
-    } else if word == b"cancel".as_slice() {
-        Some(Sort::Cancel)
-    } else if word == b"recall".as_slice() {
-        Some(Sort::Recall)
-    } else if word == b"withdraw".as_slice() {
-        Some(Sort::Withdraw)
-    } else if word == b"undone".as_slice() {
-        Some(Sort::Undone)
-    } else if word == b"claim".as_slice() {
-        Some(Sort::Claim)
-    } else if word == b"match".as_slice() {
-        Some(Sort::Match)
-    } else if word == b"ran".as_slice() {
-        Some(Sort::Ran)
-    } else {
-        None
+    sorts().iter().copied().find(|sort| sort.is_named(word))
+}
+
+/// An answer of one word.
+#[derive(Clone, Copy)]
+enum Lone {
+    Started,
+    Busy,
+    Null,
+    No,
+    Nothing,
+    Sent,
+    Cancelled,
+    Done,
+    Late,
+    Asked,
+}
+
+impl Lone {
+    /// The answer.
+    fn answer(self) -> Answer
+        ensures { result ≡ answer_of self }
+    {
+        match self {
+            Lone::Started => Answer::Started,
+            Lone::Busy => Answer::Busy,
+            Lone::Null => Answer::Null,
+            Lone::No => Answer::No,
+            Lone::Nothing => Answer::Nothing,
+            Lone::Sent => Answer::Sent,
+            Lone::Cancelled => Answer::Cancelled,
+            Lone::Done => Answer::Done,
+            Lone::Late => Answer::Late,
+            Lone::Asked => Answer::Asked,
+        }
+    }
+
+    /// Its word.
+    fn word(self) -> &'static str
+        ensures { result.now ≡ lone_text (answer_of self) }
+    {
+        match self {
+            Lone::Started => "started",
+            Lone::Busy => "busy",
+            Lone::Null => "null",
+            Lone::No => "no",
+            Lone::Nothing => "none",
+            Lone::Sent => "sent",
+            Lone::Cancelled => "cancelled",
+            Lone::Done => "done",
+            Lone::Late => "late",
+            Lone::Asked => "asked",
+        }
+    }
+
+    /// Whether it is this word.
+    fn is(self, word: &[u8]) -> bool
+        ensures { result ≡ bytes_eq word.now (lone_text (answer_of self)) }
+    {
+        word == self.word().as_bytes()
     }
 }
 
+/// The answers of one word.
+const LONES: &[Lone] = &[
+    Lone::Started,
+    Lone::Busy,
+    Lone::Null,
+    Lone::No,
+    Lone::Nothing,
+    Lone::Sent,
+    Lone::Cancelled,
+    Lone::Done,
+    Lone::Late,
+    Lone::Asked,
+];
+
+/// The answers of one word.
+fn lones() -> &'static [Lone]
+    ensures { result.now ≡ lones }
+{
+    LONES
+}
+
+/// The answer of one word that is this word.
+fn find_lone(word: &[u8]) -> Option<Lone>
+    ensures { result ≡ find (λ a. bytes_eq word.now (lone_text (answer_of a))) lones }
+{
+    lones().iter().copied().find(|lone| lone.is(word))
+}
+
 /// The answer that is this word.
-#[tactic(auto, unfolding(crate::specs::Sorts::lone_answer))]
+#[tactic(auto, using(crate::proofs::LoneLemmas::lone_found))]
 pub fn lone_answer(word: &[u8]) -> Option<Answer>
     ensures { result ≡ lone_answer word.now }
 {
-    if word == b"started".as_slice() {
-        Some(Answer::Started)
-    } else if word == b"busy".as_slice() {
-        Some(Answer::Busy)
-    } else if word == b"null".as_slice() {
-        Some(Answer::Null)
-    } else if word == b"no".as_slice() {
-        Some(Answer::No)
-    } else if word == b"none".as_slice() {
-        Some(Answer::Nothing)
-    } else if word == b"sent".as_slice() {
-        Some(Answer::Sent)
-    } else if word == b"cancelled".as_slice() {
-        Some(Answer::Cancelled)
-    } else if word == b"done".as_slice() {
-        Some(Answer::Done)
-    } else if word == b"late".as_slice() {
-        Some(Answer::Late)
-    } else if word == b"asked".as_slice() {
-        Some(Answer::Asked)
-    } else {
-        None
+    match find_lone(word) {
+        Some(lone) => Some(lone.answer()),
+        None => None,
     }
 }
