@@ -94,7 +94,7 @@ module _ {V : Type 0} (fits : Picks → Bool) (t : Picks) where
       at false unfit = none_fits unfit es ∙ sym unfit
 
 module _ {X S : Type 0} {key : X → Picks} {queue : List (ℕ × X)} {next : ℕ}
-    {m : IndexMap Picks (BTreeMap ℕ X) S} {count : ℕ} (are : AreBuckets key queue next m count)
+    {m : IndexMap Picks (BTreeMap ℕ X) S} (are : AreBuckets key queue next m)
     (fits : Picks → Bool) where
   -- the oldest of the first buckets of the map whose key fits
   abbrev pub first_of : ℕ → Option (ℕ × X)

@@ -1,6 +1,6 @@
 -- A queue in buckets: what is found in it, and what is left after each change.
-use Rattle.std.proofs.Common.{◌≡◌, ℕ, suc, ◌+◌, ◌-◌, ◌<◌, ◌≤◌, ◌==◌, Bool, true, false, ◌||◌}
-use Rattle.std.proofs.Common.{cond, Option, Some, None, List, [], ◌∷◌, ◌++◌, length, map}
+use Rattle.std.proofs.Common.{◌≡◌, ℕ, suc, ◌<◌, ◌≤◌, ◌==◌, Bool, true, false, ◌||◌}
+use Rattle.std.proofs.Common.{cond, Option, Some, None, List, [], ◌∷◌, ◌++◌, map}
 use Rattle.std.proofs.Common.{refl, sym, ◌∙◌, ap, subst, append-nil, arith, slice_get, get_or}
 use Rattle.std.proofs.lemmas.List.{length-map, get_or-map}
 use Rattle.std.specs.Prelude.{nat_le, AllPairs, IsSome}
@@ -21,7 +21,7 @@ use Rattle.nm_types.specs.declared.messages.Peer.TheVariants as peer
 use Rattle.nm_types.specs.declared.messages.TagPick.{TagPick}
 use Rattle.nm_types.specs.declared.messages.TagPick.TheVariants as tag
 use Rattle.nm_match.specs.declared.picks.Picks.{Picks}
-use Rattle.nm_match.specs.Buckets.{AreBuckets, AreFull, IsQueue, Rising, bucket_of, earlier_of}
+use Rattle.nm_match.specs.Buckets.{AreBuckets, AreFull, Rising, bucket_of, earlier_of}
 use Rattle.nm_match.specs.Picks.{same_peer, same_picks, same_tag}
 use Rattle.nm_match.specs.Queues.{without_first}
 use Rattle.nm_facts.proofs.Truth.{three_parts as three}
@@ -153,18 +153,6 @@ module _ {X : Type 0} (p q : X → Bool) where
       (λ later. gone_there ys x later qx)
 
 module _ {X : Type 0} (p : X → Bool) where
-  length_at : (y : X) (ys : List X) (x : X) (b : Bool) → cond b (Some y) (find p ys) ≡ Some x →
-      (find p ys ≡ Some x → length (without_first p ys) + 1 ≡ length ys) →
-      length (cond b ys (y ∷ without_first p ys)) + 1 ≡ length (y ∷ ys)
-  length_at y ys x true found later = omega arith
-  length_at y ys x false found later = let e = later found in omega (arith, e)
-
-  -- one less is left
-  pub length-without_first : (xs : List X) (x : X) → find p xs ≡ Some x →
-      length (without_first p xs) + 1 ≡ length xs
-  length-without_first [] x found = absurd (grind arith)
-  length-without_first (y ∷ ys) x found = length_at y ys x (p y) found (length-without_first ys x)
-
   All_at : (P : X → Type 0) (y : X) (ys : List X) (b : Bool) → P y → All P ys →
       All P (without_first p ys) → All P (cond b ys (y ∷ without_first p ys))
   All_at P y ys true here all rest = all
@@ -223,13 +211,9 @@ pub map_push : {X Y : Type 0} (f : X → Y) (xs : List X) (x : X) → map f (xs 
 map_push f [] x = refl
 map_push {X} {Y} f (y ∷ ys) x = ap (λ (l : List Y). f y ∷ l) (map_push f ys x)
 
-length_push : {X : Type 0} (xs : List X) (x : X) → length (xs ++ x ∷ []) ≡ length xs + 1
-length_push [] x = refl
-length_push (y ∷ ys) x = let e = length_push ys x in omega (arith, e)
-
 module _ {X S : Type 0} {key : X → Picks} {queue : List (ℕ × X)} {next : ℕ}
-    {m : IndexMap Picks (BTreeMap ℕ X) S} {count : ℕ} (are : AreBuckets key queue next m count)
-    (m' : IndexMap Picks (BTreeMap ℕ X) S) (count' : ℕ) (full' : AreFull m → AreFull m') where
+    {m : IndexMap Picks (BTreeMap ℕ X) S} (are : AreBuckets key queue next m)
+    (m' : IndexMap Picks (BTreeMap ℕ X) S) (full' : AreFull m → AreFull m') where
   taken_bucket : (test : ℕ × X → Bool) (x : ℕ × X) → find test queue ≡ Some x →
       bucket_of m' (key x.1) ≡ without_first test (bucket_of m (key x.1)) →
       ((k : Picks) → same_picks (key x.1) k ≡ false → bucket_of m' k ≡ bucket_of m k) →
@@ -251,11 +235,9 @@ module _ {X S : Type 0} {key : X → Picks} {queue : List (ℕ × X)} {next : �
   pub taken : (test : ℕ × X → Bool) (x : ℕ × X) → find test queue ≡ Some x →
       bucket_of m' (key x.1) ≡ without_first test (bucket_of m (key x.1)) →
       ((k : Picks) → same_picks (key x.1) k ≡ false → bucket_of m' k ≡ bucket_of m k) →
-      count' ≡ count - 1 → AreBuckets key (without_first test queue) next m' count'
-  taken test x found own others less = record {
+      AreBuckets key (without_first test queue) next m'
+  taken test x found own others = record {
     bucket = λ k. taken_bucket test x found own others k (same_picks (key x.1) k) refl;
-    len = let left = length-without_first test queue x found in
-        let was = are.len in omega (arith, left, was, less);
     below = All-without_first test (λ (y : ℕ × X). y.0 < next) queue are.below;
     rising = Rising-without_first test queue are.rising;
     full = full' are.full;
@@ -283,10 +265,9 @@ module _ {X S : Type 0} {key : X → Picks} {queue : List (ℕ × X)} {next : �
   pub put_last : (item : X) (later : ℕ) → next < later →
       bucket_of m' (key item) ≡ bucket_of m (key item) ++ (next, item) ∷ [] →
       ((k : Picks) → same_picks (key item) k ≡ false → bucket_of m' k ≡ bucket_of m k) →
-      count' ≡ count + 1 → AreBuckets key (queue ++ (next, item) ∷ []) later m' count'
-  put_last item later before own others more = record {
+      AreBuckets key (queue ++ (next, item) ∷ []) later m'
+  put_last item later before own others = record {
     bucket = λ k. put_bucket item own others k (same_picks (key item) k) refl;
-    len = let was = are.len in let grown = length_push queue (next, item) in omega (arith, was, grown, more);
     below = All-push (λ (y : ℕ × X). y.0 < later) queue (next, item)
         (All-weaker (λ (y : ℕ × X). y.0 < next) (λ (y : ℕ × X). y.0 < later)
         (λ y below. omega (arith, below, before)) queue are.below) before;
@@ -295,11 +276,10 @@ module _ {X S : Type 0} {key : X → Picks} {queue : List (ℕ × X)} {next : �
   }
 
   -- where no bucket changed
-  pub kept : (later : ℕ) → next ≤ later → ((k : Picks) → bucket_of m' k ≡ bucket_of m k) → count' ≡ count →
-      AreBuckets key queue later m' count'
-  kept later after same len = record {
+  pub kept : (later : ℕ) → next ≤ later → ((k : Picks) → bucket_of m' k ≡ bucket_of m k) →
+      AreBuckets key queue later m'
+  kept later after same = record {
     bucket = λ k. same k ∙ are.bucket k;
-    len = len ∙ are.len;
     below = All-weaker (λ (y : ℕ × X). y.0 < next) (λ (y : ℕ × X). y.0 < later)
         (λ y below. omega (arith, below, after)) queue are.below;
     rising = are.rising;
@@ -379,10 +359,3 @@ pairs_unmap {X} {Y} R f xs two = λ i j d below inside.
     subst (λ (y : Y). R (f (get_or xs i d)) y) (get_or-map f xs j d (f d) inside)
     (subst (λ (y : Y). R y (get_or (map f xs) j (f d))) (get_or-map f xs i d (f d) (omega (arith, inside, below)))
     (two i j (f d) below (omega (arith, inside, len))))
-
-module _ {X S : Type 0} {key : X → Picks} {items : List X} {next : ℕ}
-    {m : IndexMap Picks (BTreeMap ℕ X) S} {count : ℕ} (is : IsQueue key items next m count) where
-  -- the number of what waits
-  pub queue_len : count ≡ length items
-  queue_len = is.are.len ∙ sym (length-map is.queue (λ (y : ℕ × X). y.1))
-      ∙ ap (λ (l : List X). length l) is.same

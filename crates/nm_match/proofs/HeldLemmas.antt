@@ -1,6 +1,6 @@
 -- What a matcher keeps, after each deed.
-use Rattle.std.proofs.Common.{◌≡◌, ◌≢◌, ℕ, ◌+◌, ◌==◌, Bool, true, false, Option, Some, None, is_some}
-use Rattle.std.proofs.Common.{List, [], ◌∷◌, ◌++◌, length, refl, sym, ◌∙◌, subst, arith}
+use Rattle.std.proofs.Common.{◌≡◌, ◌≢◌, ℕ, ◌==◌, Bool, true, false, Option, Some, None, is_some}
+use Rattle.std.proofs.Common.{List, refl, sym, subst}
 use Rattle.std.specs.List.{All, find}
 use Rattle.std.specs.Prelude.{AllPairs, Result, Ok, Err, OnErr}
 use Rattle.std.specs.BTreeMap.{BTreeMap}
@@ -14,19 +14,14 @@ use Rattle.nm_history.specs.Matching.{is_free, is_open, matched_pairs}
 use Rattle.nm_history.specs.Sends.{messages, posts}
 use Rattle.nm_match.specs.declared.deeds.Deed.{Deed}
 use Rattle.nm_match.specs.declared.picks.Picks.{Picks}
-use Rattle.nm_match.specs.Buckets.{IsQueue, bucket_of}
+use Rattle.nm_match.specs.Buckets.{bucket_of}
 use Rattle.nm_match.specs.Deeds.{history_of, is_known_message, is_known_receive, is_message}
 use Rattle.nm_match.specs.Picks.{same_picks}
-use Rattle.nm_match.specs.Queues.{AreQueuesOf, TwoMessages, TwoReceives, without_first}
-use Rattle.nm_match.proofs.BucketLemmas.{length-without_first, queue_len, same_picks-true}
+use Rattle.nm_match.specs.Queues.{AreQueuesOf, TwoMessages, TwoReceives}
+use Rattle.nm_match.proofs.BucketLemmas.{same_picks-true}
 use Rattle.nm_match.proofs.ListLemmas.{none_passes}
 use Rattle.nm_match.proofs.TurnLemmas.{others_message, others_number}
 use Rattle.nm_facts.proofs.Truth.{and_left, and_right}
-
--- one more in a list
-pub one_more : {X : Type 0} (xs : List X) (x : X) → length (xs ++ x ∷ []) ≡ length xs + 1
-one_more [] x = refl
-one_more (y ∷ ys) x = let e = one_more ys x in omega (arith, e)
 
 -- where the bucket of a key and the others are the same, all are
 pub all_same : {X S : Type 0} (m m' : IndexMap Picks (BTreeMap ℕ X) S) (k : Picks) →
@@ -53,19 +48,6 @@ module _ (deeds : List Deed) {posted : List post.Post} {unexpected claimed : Lis
   arrivals_apart = subst (λ (as' : List Arrival). AllPairs TwoMessages as') (sym queues.free_messages)
       (AllPairs-filter TwoMessages (is_free (history_of deeds) (matched_pairs (history_of deeds)))
       (messages (history_of deeds)) queues.in_turn.two_messages)
-
-module _ {X S : Type 0} {key : X → Picks} {next : ℕ} {m m' : IndexMap Picks (BTreeMap ℕ X) S} {count count' : ℕ} where
-  -- one that was found is one less
-  pub taken_count : (items : List X) (test : X → Bool) (x : X) → IsQueue key items next m count →
-      find test items ≡ Some x → IsQueue key (without_first test items) next m' count' → count' + 1 ≡ count
-  taken_count items test x is found left =
-      let was = queue_len is in let now = queue_len left in
-      let less = length-without_first test items x found in omega (arith, was, now, less)
-
-  -- where all stay they are as many
-  pub kept_count : (items : List X) → IsQueue key items next m count → IsQueue key items next m' count' →
-      count' ≡ count
-  kept_count items is left = queue_len left ∙ sym (queue_len is)
 
 module _ (deeds : List Deed) {posted : List post.Post} {unexpected claimed : List Arrival}
     {cancelled : List ℕ}

@@ -14,4 +14,5 @@ mod StepLemmas
 pub mod TurnLemmas
 mod EventLemmas
 mod SearchLemmas
+mod SeenLemmas
 pub mod InTurnLemmas

@@ -1,5 +1,5 @@
 -- A queue in buckets, whose names are known: what waits at a place, and what is left after each change.
-use Rattle.std.proofs.Common.{◌≡◌, ℕ, ◌+◌, ◌-◌, ◌<◌, ◌≤◌, ◌==◌, Bool, true, false, cond, Option, Some, None}
+use Rattle.std.proofs.Common.{◌≡◌, ℕ, ◌+◌, ◌<◌, ◌≤◌, ◌==◌, Bool, true, false, cond, Option, Some, None}
 use Rattle.std.proofs.Common.{List, [], ◌∷◌, ◌++◌, refl, sym, ◌∙◌, ap, subst, arith, not, ◌&&◌, ◌||◌, is_some}
 use Rattle.std.specs.BTreeMap.{BTreeMap, insert_entry, is_at}
 use Rattle.std.specs.List.{All, filter, find, list_any}
@@ -42,9 +42,9 @@ or_none None = refl
 or_none (Some x) = refl
 
 module _ {X K S T : Type 0} {same : K → K → Bool} {known : X → K → Bool} {key : X → Picks} {items : List X}
-    {aside : K → Bool} {next : ℕ} {m : IndexMap Picks (BTreeMap ℕ X) S} {count : ℕ}
+    {aside : K → Bool} {next : ℕ} {m : IndexMap Picks (BTreeMap ℕ X) S}
     {standings : IndexMap K Standing T}
-    (is : IsNamedQueue same known key items aside next m count standings) where
+    (is : IsNamedQueue same known key items aside next m standings) where
   abbrev standing : K → Option (ℕ × X) → Option Standing
   standing name o = option_map_or (λ (x : ℕ × X). Some (Waits (key x.1) x.0)) o (cond (aside name) (Some Aside) None)
 
@@ -117,26 +117,26 @@ module _ {X K S T : Type 0} {same : K → K → Bool} {known : X → K → Bool}
       ∙ sym (ap (λ (o : Option Standing). option_map (λ s. Aside) o) says)))) ∙ some))
 
   -- the same buckets after more deeds
-  pub named_aged : (later : ℕ) → next ≤ later → IsNamedQueue same known key items aside later m count standings
+  pub named_aged : (later : ℕ) → next ≤ later → IsNamedQueue same known key items aside later m standings
   named_aged later after = record {
     is = record {
       queue = is.is.queue;
-      are = kept is.is.are m count (λ full. full) later after (λ k. refl) refl;
+      are = kept is.is.are m (λ full. full) later after (λ k. refl);
       same = is.is.same;
     };
     stands = is.stands;
   }
 
-  module _ (m' : IndexMap Picks (BTreeMap ℕ X) S) (count' : ℕ) (standings' : IndexMap K Standing T)
+  module _ (m' : IndexMap Picks (BTreeMap ℕ X) S) (standings' : IndexMap K Standing T)
       (full' : AreFull m → AreFull m') where
     -- where no bucket and no standing changed
-    pub named_kept : ((k : Picks) → bucket_of m' k ≡ bucket_of m k) → count' ≡ count →
+    pub named_kept : ((k : Picks) → bucket_of m' k ≡ bucket_of m k) →
         ((name : K) → get same standings' name ≡ get same standings name) →
-        IsNamedQueue same known key items aside next m' count' standings'
-    named_kept bucket len stands = record {
+        IsNamedQueue same known key items aside next m' standings'
+    named_kept bucket stands = record {
       is = record {
         queue = is.is.queue;
-        are = kept is.is.are m' count' full' next (omega arith) bucket len;
+        are = kept is.is.are m' full' next (omega arith) bucket;
         same = is.is.same;
       };
       stands = λ name. stands name ∙ is.stands name;
@@ -148,18 +148,18 @@ module _ {X K S T : Type 0} {same : K → K → Bool} {known : X → K → Bool}
         (x : ℕ × X) → find (λ (y : ℕ × X). test y.1) is.is.queue ≡ Some x → (id : K) →
         ((name : K) → known x.1 name ≡ same id name) →
         bucket_of m' (key x.1) ≡ remove_entry (is_at (nat_cmp x.0)) (bucket_of m (key x.1)) →
-        ((k : Picks) → same_picks (key x.1) k ≡ false → bucket_of m' k ≡ bucket_of m k) → count' ≡ count - 1 →
+        ((k : Picks) → same_picks (key x.1) k ≡ false → bucket_of m' k ≡ bucket_of m k) →
         (aside' : K → Bool) → ((name : K) → same id name ≡ false → aside' name ≡ aside name) →
         ((name : K) → same id name ≡ true → get same standings' name ≡ cond (aside' name) (Some Aside) None) →
         ((name : K) → same id name ≡ false → get same standings' name ≡ get same standings name) →
-        IsNamedQueue same known key (without_first test items) aside' next m' count' standings'
-    named_taken R two apart test x found id is_id own others less aside' agree there elsewhere = record {
+        IsNamedQueue same known key (without_first test items) aside' next m' standings'
+    named_taken R two apart test x found id is_id own others aside' agree there elsewhere = record {
       is = record {
         queue = without_first t queue;
-        are = subst (λ (l : List (ℕ × X)). AreBuckets key l next m' count')
+        are = subst (λ (l : List (ℕ × X)). AreBuckets key l next m')
             (order_left t queue x is.is.are.rising found)
-            (taken is.is.are m' count' full' (λ (y : ℕ × X). x.0 == y.0) x
-            (order_found t queue x is.is.are.rising found) (own ∙ entry_left x.0 (bucket_of m (key x.1))) others less);
+            (taken is.is.are m' full' (λ (y : ℕ × X). x.0 == y.0) x
+            (order_found t queue x is.is.are.rising found) (own ∙ entry_left x.0 (bucket_of m (key x.1))) others);
         same = map-without_first (λ (y : ℕ × X). y.1) test queue
             ∙ ap (λ (l : List X). without_first test l) is.is.same;
       };
@@ -192,12 +192,12 @@ module _ {X K S T : Type 0} {same : K → K → Bool} {known : X → K → Bool}
         (k : Picks) (order : ℕ) → get same standings id ≡ Some (Waits k order) →
         ((x : X) → known x id ≡ true → (name : K) → known x name ≡ same id name) →
         bucket_of m' k ≡ remove_entry (is_at (nat_cmp order)) (bucket_of m k) →
-        ((l : Picks) → same_picks k l ≡ false → bucket_of m' l ≡ bucket_of m l) → count' ≡ count - 1 →
+        ((l : Picks) → same_picks k l ≡ false → bucket_of m' l ≡ bucket_of m l) →
         (aside' : K → Bool) → ((name : K) → same id name ≡ false → aside' name ≡ aside name) →
         ((name : K) → same id name ≡ true → get same standings' name ≡ cond (aside' name) (Some Aside) None) →
         ((name : K) → same id name ≡ false → get same standings' name ≡ get same standings name) →
-        IsNamedQueue same known key (without_first (λ x. known x id) items) aside' next m' count' standings'
-    place_taken R two apart id k order there is_id own others less aside' agree here elsewhere =
+        IsNamedQueue same known key (without_first (λ x. known x id) items) aside' next m' standings'
+    place_taken R two apart id k order there is_id own others aside' agree here elsewhere =
         let waits = at_place id k order there in
         let x : ℕ × X = waits.0 in
         let of_key : k ≡ key x.1 = sym waits.2 in
@@ -207,19 +207,19 @@ module _ {X K S T : Type 0} {same : K → K → Bool} {known : X → K → Bool}
         (subst (λ (n : ℕ). bucket_of m' (key x.1) ≡ remove_entry (is_at (nat_cmp n)) (bucket_of m (key x.1))) of_order
         (subst (λ (l : Picks). bucket_of m' l ≡ remove_entry (is_at (nat_cmp order)) (bucket_of m l)) of_key own))
         (subst (λ (k : Picks). (l : Picks) → same_picks k l ≡ false → bucket_of m' l ≡ bucket_of m l) of_key others)
-        less aside' agree here elsewhere
+        aside' agree here elsewhere
 
     -- after one was put aside no more
     pub named_freed : ((a b : K) → same a b ≡ true → a ≡ b) → (id : K) → find (λ x. known x id) items ≡ None →
-        ((k : Picks) → bucket_of m' k ≡ bucket_of m k) → count' ≡ count →
+        ((k : Picks) → bucket_of m' k ≡ bucket_of m k) →
         (aside' : K → Bool) → ((name : K) → same id name ≡ false → aside' name ≡ aside name) →
         ((name : K) → same id name ≡ true → get same standings' name ≡ cond (aside' name) (Some Aside) None) →
         ((name : K) → same id name ≡ false → get same standings' name ≡ get same standings name) →
-        IsNamedQueue same known key items aside' next m' count' standings'
-    named_freed same_true id none bucket len aside' agree there elsewhere = record {
+        IsNamedQueue same known key items aside' next m' standings'
+    named_freed same_true id none bucket aside' agree there elsewhere = record {
       is = record {
         queue = is.is.queue;
-        are = kept is.is.are m' count' full' next (omega arith) bucket len;
+        are = kept is.is.are m' full' next (omega arith) bucket;
         same = is.is.same;
       };
       stands = λ name. at name (same id name) refl;
@@ -241,15 +241,15 @@ module _ {X K S T : Type 0} {same : K → K → Bool} {known : X → K → Bool}
     pub named_put : (item : X) (id : K) → ((name : K) → known item name ≡ same id name) →
         ((name : K) → same id name ≡ true → find (λ x. known x name) items ≡ None) →
         bucket_of m' (key item) ≡ insert_entry nat_cmp (bucket_of m (key item)) next item →
-        ((k : Picks) → same_picks (key item) k ≡ false → bucket_of m' k ≡ bucket_of m k) → count' ≡ count + 1 →
+        ((k : Picks) → same_picks (key item) k ≡ false → bucket_of m' k ≡ bucket_of m k) →
         ((name : K) → same id name ≡ true → get same standings' name ≡ Some (Waits (key item) next)) →
         ((name : K) → same id name ≡ false → get same standings' name ≡ get same standings name) →
-        IsNamedQueue same known key (items ++ item ∷ []) aside (next + 1) m' count' standings'
-    named_put item id is_id new own others more there elsewhere = record {
+        IsNamedQueue same known key (items ++ item ∷ []) aside (next + 1) m' standings'
+    named_put item id is_id new own others there elsewhere = record {
       is = record {
         queue = queue ++ (next, item) ∷ [];
-        are = put_last is.is.are m' count' full' item (next + 1) (omega arith)
-            (own ∙ entry_last next item (bucket_of m (key item)) below) others more;
+        are = put_last is.is.are m' full' item (next + 1) (omega arith)
+            (own ∙ entry_last next item (bucket_of m (key item)) below) others;
         same = map_push (λ (y : ℕ × X). y.1) queue (next, item) ∙ ap (λ (l : List X). l ++ item ∷ []) is.is.same;
       };
       stands = λ name. at name (same id name) refl;
@@ -281,16 +281,15 @@ module _ {X K S T : Type 0} {same : K → K → Bool} {known : X → K → Bool}
 
 -- nothing waits in empty buckets
 pub named_none : {X K S T : Type 0} {same : K → K → Bool} {known : X → K → Bool} {key : X → Picks}
-    {aside : K → Bool} {next : ℕ} {m : IndexMap Picks (BTreeMap ℕ X) S} {count : ℕ}
-    {standings : IndexMap K Standing T} → ((k : Picks) → bucket_of m k ≡ []) → AreFull m → count ≡ 0 →
+    {aside : K → Bool} {next : ℕ} {m : IndexMap Picks (BTreeMap ℕ X) S}
+    {standings : IndexMap K Standing T} → ((k : Picks) → bucket_of m k ≡ []) → AreFull m →
     ((name : K) → get same standings name ≡ None) → ((name : K) → aside name ≡ false) →
-    IsNamedQueue same known key [] aside next m count standings
-named_none none full empty nowhere no_one = record {
+    IsNamedQueue same known key [] aside next m standings
+named_none none full nowhere no_one = record {
   is = record {
     queue = [];
     are = record {
       bucket = none;
-      len = empty;
       below = λ k d inside. absurd (omega (arith, inside));
       rising = tt;
       full = full;

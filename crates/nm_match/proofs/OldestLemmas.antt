@@ -69,8 +69,8 @@ four (peer.One r) (tag.One m) c from named ctx =
     rw (flip c ctx, flip r from, flip m named) (both_named (from == r) (named == m) (ctx == c))
 
 module _ {S : Type 0} {queue : List (ℕ × post.Post)} {next : ℕ}
-    {m : IndexMap Picks (BTreeMap ℕ post.Post) S} {count : ℕ}
-    (are : AreBuckets picks_of_post queue next m count) where
+    {m : IndexMap Picks (BTreeMap ℕ post.Post) S}
+    (are : AreBuckets picks_of_post queue next m) where
   front : (k : Picks) → slice_get (bucket_of m k) 0
       ≡ find (λ (x : ℕ × post.Post). same_picks k (picks_of_post x.1)) queue
   front k = ap (λ (l : List (ℕ × post.Post)). slice_get l 0) (are.bucket k)
@@ -96,7 +96,7 @@ module _ {S : Type 0} {queue : List (ℕ × post.Post)} {next : ℕ}
       (λ x. four x.1.from x.1.tag x.1.ctx env.from env.tag env.ctx)
 
 module _ {X S : Type 0} {key : X → Picks} {items : List X} {next : ℕ}
-    {m : IndexMap Picks (BTreeMap ℕ X) S} {count : ℕ} (is : IsQueue key items next m count) where
+    {m : IndexMap Picks (BTreeMap ℕ X) S} (is : IsQueue key items next m) where
   -- what is found, without its number
   pub queue_find : (test : X → Bool) → option_map (λ (y : ℕ × X). y.1) (find (λ (y : ℕ × X). test y.1) is.queue)
       ≡ find test items
@@ -104,7 +104,7 @@ module _ {X S : Type 0} {key : X → Picks} {items : List X} {next : ℕ}
 
 -- the receive that is found
 pub posted_found : {S : Type 0} {posts : List post.Post} {next : ℕ}
-    {m : IndexMap Picks (BTreeMap ℕ post.Post) S} {count : ℕ} (is : IsQueue picks_of_post posts next m count) →
+    {m : IndexMap Picks (BTreeMap ℕ post.Post) S} (is : IsQueue picks_of_post posts next m) →
     (env : Envelope) (o : Option (ℕ × post.Post)) → o ≡ oldest_of m env →
     option_map (λ (y : ℕ × post.Post). y.1) o ≡ find (λ p. matches p.from p.tag p.ctx env) posts
 posted_found is env o same =
@@ -121,8 +121,8 @@ arrival_fits (peer.One r) (tag.One m) ctx a = refl
 
 -- the message that is found
 pub arrival_found : {S : Type 0} {arrivals : List Arrival} {next : ℕ}
-    {m : IndexMap Picks (BTreeMap ℕ Arrival) S} {count : ℕ}
-    (is : IsQueue picks_of_arrival arrivals next m count) →
+    {m : IndexMap Picks (BTreeMap ℕ Arrival) S}
+    (is : IsQueue picks_of_arrival arrivals next m) →
     (f : Peer) (t : TagPick) (ctx : ℕ) (o : Option (ℕ × Arrival)) →
     o ≡ find (λ (x : ℕ × Arrival). fits_picks (record { from = f; tag = t; ctx = ctx }) (picks_of_arrival x.1))
     is.queue →
@@ -169,8 +169,8 @@ named_fits (peer.One r) (tag.One m) ctx named_from named_tag a =
 
 -- the oldest under its own key is the oldest that fits
 pub named_found : {S : Type 0} {queue : List (ℕ × Arrival)} {next : ℕ}
-    {m : IndexMap Picks (BTreeMap ℕ Arrival) S} {count : ℕ}
-    (are : AreBuckets picks_of_arrival queue next m count) → (f : Peer) (t : TagPick) (ctx : ℕ) →
+    {m : IndexMap Picks (BTreeMap ℕ Arrival) S}
+    (are : AreBuckets picks_of_arrival queue next m) → (f : Peer) (t : TagPick) (ctx : ℕ) →
     same_peer f peer.Any ≡ false → same_tag t tag.Any ≡ false →
     slice_get (bucket_of m (record { from = f; tag = t; ctx = ctx })) 0
     ≡ find (λ (x : ℕ × Arrival). fits_picks (record { from = f; tag = t; ctx = ctx }) (picks_of_arrival x.1)) queue
@@ -189,8 +189,8 @@ both_named_at false false h = (refl, refl)
 
 -- where a source and a tag are named, the bucket of these has the oldest that fits
 pub own_found : {S : Type 0} {queue : List (ℕ × Arrival)} {next : ℕ}
-    {m : IndexMap Picks (BTreeMap ℕ Arrival) S} {count : ℕ}
-    (are : AreBuckets picks_of_arrival queue next m count) → (w : Picks) → names_both w ≡ true →
+    {m : IndexMap Picks (BTreeMap ℕ Arrival) S}
+    (are : AreBuckets picks_of_arrival queue next m) → (w : Picks) → names_both w ≡ true →
     slice_get (bucket_of m w) 0 ≡ find (λ (x : ℕ × Arrival). fits_picks w (picks_of_arrival x.1)) queue
 own_found are w named =
     let both = both_named_at (same_peer w.from peer.Any) (same_tag w.tag tag.Any) named in

@@ -1,6 +1,6 @@
 -- What waits in buckets, and the queue that it makes.
 use Rattle.std.specs.Prelude.{◌≡◌, ℕ, ◌<◌, Bool, List, [], ◌∷◌, Option, Some, None}
-use Rattle.std.specs.Prelude.{if◌then◌else◌, length, map, nat_le, slice_get, filter}
+use Rattle.std.specs.Prelude.{if◌then◌else◌, map, nat_le, slice_get, filter}
 use Rattle.std.specs.List.{All}
 use Rattle.std.specs.Option.{option_map_or}
 use Rattle.std.specs.BTreeMap.{BTreeMap}
@@ -48,18 +48,17 @@ Rising {X} (x ∷ xs) = All (λ (y : ℕ × X). x.0 < y.0) xs × Rising xs
 -- The buckets hold this queue, whose order numbers rise and are below the next one: each bucket has
 -- what the queue has of its key, in the same order, and there is none without an entry.
 pub record AreBuckets {X S : Type 0} (key : X → Picks) (queue : List (ℕ × X)) (next : ℕ)
-    (m : IndexMap Picks (BTreeMap ℕ X) S) (count : ℕ) : Type 0 where
+    (m : IndexMap Picks (BTreeMap ℕ X) S) : Type 0 where
   pub bucket : (k : Picks) → bucket_of m k ≡ filter (λ x. same_picks k (key x.1)) queue
-  pub len : count ≡ length queue
   pub below : All (λ x. x.0 < next) queue
   pub rising : Rising queue
   pub full : AreFull m
 
 -- the buckets hold these things in order of age
 pub record IsQueue {X S : Type 0} (key : X → Picks) (items : List X) (next : ℕ)
-    (m : IndexMap Picks (BTreeMap ℕ X) S) (count : ℕ) : Type 0 where
+    (m : IndexMap Picks (BTreeMap ℕ X) S) : Type 0 where
   pub queue : List (ℕ × X)
-  pub are : AreBuckets key queue next m count
+  pub are : AreBuckets key queue next m
   pub same : map (λ x. x.1) queue ≡ items
 
 -- the oldest in the bucket at this place of the map, if its key fits

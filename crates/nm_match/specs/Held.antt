@@ -1,21 +1,26 @@
--- What a matcher keeps: the two queues in buckets.
-use Rattle.std.specs.Prelude.{ℕ, List, length}
+-- What a matcher keeps: the two queues in buckets, and which numbers are taken.
+use Rattle.std.specs.Prelude.{ℕ, List}
 use Rattle.nm_types.specs.declared.messages.Arrival.{Arrival}
 use Rattle.nm_types.specs.declared.messages.Post as post
 use Rattle.nm_match.specs.declared.deeds.Deed.{Deed}
 use Rattle.nm_match.specs.declared.posted.Posted.{Posted}
+use Rattle.nm_match.specs.declared.seen.Seen.{Seen}
 use Rattle.nm_match.specs.declared.unexpected.Unexpected.{Unexpected}
 use Rattle.nm_match.specs.Names.{ArePosted, AreUnexpected}
 use Rattle.nm_match.specs.Queues.{AreQueuesOf}
+use Rattle.nm_match.specs.Seen.{AreNames}
 
--- The posted receive queue and the unexpected message queue of these deeds are in buckets. The
--- order number of a receive or a message is the number of deeds before its own. Beside them stand
--- the messages that are claimed and not yet received, and the numbers of the cancelled receives.
-pub record AreHeld (deeds : List Deed) (p : Posted) (u : Unexpected) : Type 0 where
+-- The posted receive queue and the unexpected message queue of these deeds are in buckets. Each
+-- receive or message that waits has an order number, below the next one. Beside them stand the
+-- messages that are claimed and not yet received, the numbers of the cancelled receives, and the
+-- numbers that are taken.
+pub record AreHeld (deeds : List Deed) (next : ℕ) (p : Posted) (u : Unexpected) (r m : Seen)
+    : Type 0 where
   pub posted : List post.Post
   pub unexpected : List Arrival
   pub claimed : List Arrival
   pub cancelled : List ℕ
-  pub receives : ArePosted posted cancelled (length deeds) p
-  pub messages : AreUnexpected unexpected claimed (length deeds) u
+  pub receives : ArePosted posted cancelled next p
+  pub messages : AreUnexpected unexpected claimed next u
   pub queues : AreQueuesOf deeds posted unexpected claimed cancelled
+  pub names : AreNames deeds next r m

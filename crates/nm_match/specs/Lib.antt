@@ -4,4 +4,5 @@ pub mod Held
 pub mod Names
 pub mod Picks
 pub mod Queues
+pub mod Seen
 pub mod InTurn

@@ -25,6 +25,10 @@ same_message a b = a.from == b.from && a.n == b.n
 abbrev pub id_of_arrival : Arrival → MessageId
 id_of_arrival a = record { from = a.env.from; n = a.n }
 
+-- what a receive is known by: all receives are one group
+abbrev pub id_of_receive : ℕ → MessageId
+id_of_receive number = record { from = 0; n = number }
+
 -- the receive has this number
 abbrev pub has_number : post.Post → ℕ → Bool
 has_number p number = p.number == number
@@ -56,19 +60,19 @@ standing_of known key queue aside name =
 -- The buckets hold these things in order of age, and a map says of each name where it stands.
 pub record IsNamedQueue {X K S T : Type 0} (same : K → K → Bool) (known : X → K → Bool)
     (key : X → Picks) (items : List X) (aside : K → Bool) (next : ℕ)
-    (m : IndexMap Picks (BTreeMap ℕ X) S) (count : ℕ) (standings : IndexMap K Standing T)
+    (m : IndexMap Picks (BTreeMap ℕ X) S) (standings : IndexMap K Standing T)
     : Type 0 where
-  pub is : IsQueue key items next m count
+  pub is : IsQueue key items next m
   pub stands : (name : K) → get same standings name ≡ standing_of known key is.queue aside name
 
 -- these receives wait, and these numbers are of cancelled ones
 abbrev pub ArePosted : List post.Post → List ℕ → ℕ → Posted → Type 0
 ArePosted posts cancelled next p =
     IsNamedQueue nat_eq has_number picks_of_post posts (is_one_of cancelled) next p.waiting.map
-    p.waiting.len p.standings
+    p.standings
 
 -- these messages wait, and these are claimed
 abbrev pub AreUnexpected : List Arrival → List Arrival → ℕ → Unexpected → Type 0
 AreUnexpected arrivals claimed next u =
     IsNamedQueue same_message has_id picks_of_arrival arrivals (has_one claimed) next u.waiting.map
-    u.waiting.len u.standings
+    u.standings

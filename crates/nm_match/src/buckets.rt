@@ -1,6 +1,6 @@
 //! Buckets of what waits: one for each key, each in order of age.
 
-ghost use Rattle.std.specs.Prelude.{◌≡◌, ◌+◌, ◌-◌, ◌<◌, ◌^◌, false, [], IsTrue, OnOk, OnErr, None};
+ghost use Rattle.std.specs.Prelude.{◌≡◌, false, [], IsTrue, OnOk, OnErr, None};
 ghost use Rattle.std.specs.Prelude.{slice_get};
 ghost use Rattle.std.specs.Ordering.{nat_cmp};
 ghost use Rattle.std.specs.BTreeMap.{insert_entry, is_at};
@@ -19,12 +19,11 @@ use std::collections::BTreeMap;
 /// What waits, in a bucket for each key. Each entry has an order number, which grows with age.
 #[derive(Drop)]
 pub struct Buckets<T> {
-    pub map: IndexMap<Picks, BTreeMap<usize, T>>,
-    pub len: usize,
+    pub map: IndexMap<Picks, BTreeMap<u128, T>>,
 }
 
 /// The entry with the smaller order number.
-pub(crate) fn earlier<T: Copy>(a: Option<(usize, T)>, b: Option<(usize, T)>) -> Option<(usize, T)>
+pub(crate) fn earlier<T: Copy>(a: Option<(u128, T)>, b: Option<(u128, T)>) -> Option<(u128, T)>
     ensures { result ≡ earlier_of a b }
 {
     match (a, b) {
@@ -35,7 +34,7 @@ pub(crate) fn earlier<T: Copy>(a: Option<(usize, T)>, b: Option<(usize, T)>) -> 
 }
 
 /// The oldest entry of a bucket.
-pub(crate) fn first<T: Copy>(bucket: &BTreeMap<usize, T>) -> Option<(usize, T)>
+pub(crate) fn first<T: Copy>(bucket: &BTreeMap<u128, T>) -> Option<(u128, T)>
     ensures { result ≡ slice_get bucket.now.entries 0 }
 {
     let (order, item) = bucket.first_key_value()?;
@@ -45,9 +44,9 @@ pub(crate) fn first<T: Copy>(bucket: &BTreeMap<usize, T>) -> Option<(usize, T)>
 /// Puts an item at the place of its order number into the bucket of its key, which may be a new
 /// one.
 fn add<T: Copy>(
-    map: &mut IndexMap<Picks, BTreeMap<usize, T>>,
+    map: &mut IndexMap<Picks, BTreeMap<u128, T>>,
     key: Picks,
-    order: usize,
+    order: u128,
     item: T,
 ) -> Result<(), Memory>
     ensures own { OnOk result
@@ -73,7 +72,7 @@ fn add<T: Copy>(
 
 /// Takes the entry of this order number out of a bucket, and answers whether the bucket is empty
 /// now.
-fn drop_at<T: Copy>(map: &mut IndexMap<Picks, BTreeMap<usize, T>>, key: Picks, order: usize) -> bool
+fn drop_at<T: Copy>(map: &mut IndexMap<Picks, BTreeMap<u128, T>>, key: Picks, order: u128) -> bool
     ensures own { bucket_of map.new key
         ≡ remove_entry (is_at (nat_cmp order)) (bucket_of map.old key) }
     ensures others { (k : picks.Picks) → same_picks key k ≡ false →
@@ -95,50 +94,41 @@ impl<T: Copy> Buckets<T> {
     /// Buckets where nothing waits.
     pub(crate) fn new(alloc: Global) -> Self
         ensures none { (k : picks.Picks) → bucket_of result.map k ≡ [] }
-        ensures len { result.len ≡ 0 }
         ensures full { AreFull result.map }
     {
         Buckets {
             map: IndexMap::new(alloc),
-            len: 0,
         }
     }
 
     /// The oldest entry under a key.
-    pub(crate) fn front(&self, key: Picks) -> Option<(usize, T)>
+    pub(crate) fn front(&self, key: Picks) -> Option<(u128, T)>
         ensures { result ≡ slice_get (bucket_of self.now.map key) 0 }
     {
         first(self.map.get(&key)?)
     }
 
     /// Puts an item at the place of its order number into the bucket of its key.
-    pub(crate) fn put(&mut self, key: Picks, order: usize, item: T) -> Result<(), Memory>
-        requires { self.old.len < 2 ^ 63 }
+    pub(crate) fn put(&mut self, key: Picks, order: u128, item: T) -> Result<(), Memory>
         ensures own { OnOk result (bucket_of self.new.map key
             ≡ insert_entry nat_cmp (bucket_of self.old.map key) order item) }
         ensures others { (k : picks.Picks) → same_picks key k ≡ false →
             bucket_of self.new.map k ≡ bucket_of self.old.map k }
         ensures err { OnErr result (bucket_of self.new.map key ≡ bucket_of self.old.map key) }
-        ensures len { OnOk result (self.new.len ≡ self.old.len + 1) }
-        ensures err_len { OnErr result (self.new.len ≡ self.old.len) }
         ensures full { AreFull self.old.map → AreFull self.new.map }
     {
-        add(&mut self.map, key, order, item)?;
-        self.len += 1;
-        Ok(())
+        add(&mut self.map, key, order, item)
     }
 
     /// Takes the entry of this order number out of a bucket, and an emptied bucket with it.
-    pub(crate) fn take(&mut self, key: Picks, order: usize)
+    pub(crate) fn take(&mut self, key: Picks, order: u128)
         ensures own { bucket_of self.new.map key
             ≡ remove_entry (is_at (nat_cmp order)) (bucket_of self.old.map key) }
         ensures others { (k : picks.Picks) → same_picks key k ≡ false →
             bucket_of self.new.map k ≡ bucket_of self.old.map k }
-        ensures len { self.new.len ≡ self.old.len - 1 }
         ensures full { AreFull self.old.map → AreFull self.new.map }
     {
         let emptied = drop_at(&mut self.map, key, order);
-        self.len = self.len.saturating_sub(1);
         if emptied {
             let _ = self.map.swap_remove(&key);
         }

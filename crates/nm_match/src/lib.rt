@@ -8,9 +8,9 @@
 //! # What a contract sees
 //! The list of the deeds so far, oldest first: the receives that were posted, the messages that
 //! arrived, the cancels and withdrawals that were done, the claims, and the receives of claimed
-//! messages. `history_of` turns that list into the history that it stands for, and each answer is
-//! a definition of `nm_history` on that history. The code removes from its buckets; the
-//! definitions keep everything and look through the whole history.
+//! messages. It takes no place in the program. `history_of` turns that list into the history that it
+//! stands for, and each answer is a definition of `nm_history` on that history. The code forgets
+//! what no answer needs; the definitions keep everything and look through the whole history.
 //! # What is proved
 //! - `post`, `arrive`, `probe` and `claim` answer the oldest match, or none where nothing matches
 //!   (clause `oldest`).
@@ -27,18 +27,23 @@
 //! of its queue. A cancel, a withdrawal, `is_claimed` and `take_claimed` look up one name. A bucket
 //! is found by hashing, and an entry leaves it in steps that grow with the logarithm of what is
 //! there; an emptied bucket goes, which the matcher's type says, so a wildcard looks at none that is
-//! empty. `knows_post` and `knows_arrival` look through all deeds.
+//! empty. `knows_post` and `knows_arrival` look up one number.
+//! # What it holds
+//! What waits, what is claimed and not yet received, and the numbers of the cancelled receives. Which
+//! numbers are taken is known by the next of each, and by those that came before their time.
 //! # What is only tested
 //! That `post`, `arrive`, `claim` and `take_claimed` succeed with ample memory.
 #![tactic(auto)]
 
 mod buckets;
 mod deeds;
+mod done;
 pub mod laws;
 mod matching;
 mod names;
 mod picks;
 mod posted;
+mod seen;
 mod unexpected;
 
 pub use deeds::Deed;

@@ -11,9 +11,11 @@ ghost use Rattle.nm_history.specs.Sends.{message_of};
 ghost use Rattle.nm_match.specs.declared.deeds.Deed.TheVariants as deed;
 ghost use Rattle.nm_match.specs.Deeds.{history_of, is_known_message, is_known_receive};
 
-use crate::deeds::{Deed, has_arrival, has_receive};
-use crate::names::MessageId;
+use crate::deeds::Deed;
+use crate::done::Done;
+use crate::names::{MessageId, message_id, receive_id};
 use crate::posted::Posted;
+use crate::seen::Seen;
 use crate::unexpected::Unexpected;
 use nm_types::{Arrival, Memory, Peer, Post, TagPick};
 use std::alloc::Global;
@@ -33,37 +35,46 @@ use std::marker::Model;
 /// it, a source and a tag that are named at one bucket of messages, and a wildcard at the first
 /// message of each bucket. A map by numbers and one by messages say which bucket each is in, and
 /// under which order number, and what is cancelled or claimed: so `cancel`, `withdraw`,
-/// `is_claimed` and `take_claimed` walk nothing. `knows_post` and `knows_arrival` look through all
-/// deeds.
+/// `is_claimed` and `take_claimed` walk nothing.
+///
+/// What is paired, withdrawn or received takes no place. Which numbers are taken is known by the
+/// next of each, as long as they come in order, counted from 0, and a number that is before its
+/// time takes a place until those before it came. A cancelled receive takes a place for good, since
+/// `cancel` tells it from a paired one.
 pub struct Matcher {
-    deeds: Vec<Deed>,
+    done: Done,
     posted: Posted,
     unexpected: Unexpected,
+    receives: Seen,
+    messages: Seen,
+    /// The order number of the next that waits.
+    next: u128,
 }
 
 impl Drop for Matcher {
     fn drop(self) {
         let Matcher {
-            deeds: _,
+            done: _,
             posted: _,
             unexpected: _,
+            receives: _,
+            messages: _,
+            next: _,
         } = self;
     }
 }
 
 impl Model for Matcher {
-    ghost use Rattle.std.specs.Prelude.{List, ◌+◌, ◌≤◌, vec_capacity, vec_len};
+    ghost use Rattle.std.specs.Prelude.{List};
     ghost use Rattle.nm_match.specs.declared.deeds.Deed.{Deed};
     ghost use Rattle.nm_match.specs.Held.{AreHeld};
 
     ghost Value = { List Deed };
 
-    ghost view = { λ m. m.deeds.items };
+    ghost view = { λ m. m.done.deeds };
 
-    // there is room for one deed more of each open receive and of each free message
-    ghost invariant = { λ m. AreHeld m.deeds.items m.posted m.unexpected
-        × (vec_len m.deeds + (m.posted.waiting.len + m.unexpected.waiting.len)
-        ≤ vec_capacity m.deeds) };
+    ghost invariant = { λ m. AreHeld m.done.deeds m.next m.posted m.unexpected m.receives
+        m.messages };
 }
 
 impl Matcher {
@@ -72,16 +83,17 @@ impl Matcher {
         ensures { result ≡ [] }
     {
         Matcher {
-            deeds: Vec::new(alloc),
+            done: Done::new(),
             posted: Posted::new(alloc),
             unexpected: Unexpected::new(alloc),
+            receives: Seen::new(alloc),
+            messages: Seen::new(alloc),
+            next: 0,
         }
     }
 
     /// Posts a receive whose number is new, and answers the message that it takes: the oldest
     /// free one that it selects. Where there is none it joins the posted receive queue.
-    ///
-    /// It makes room for its own deed and for one later cancel of it, so `cancel` takes no memory.
     pub fn post(&mut self, p: Post) -> Result<Option<Arrival>, Memory>
         requires is_new { is_known_receive (history_of self.old) p.number ≡ false }
         ensures oldest { let h = history_of self.old in IfOk result
@@ -89,16 +101,19 @@ impl Matcher {
         ensures ok { OnOk result (self.new ≡ self.old ++ deed.Post p ∷ []) }
         ensures err { OnErr result (self.new ≡ self.old) }
     {
-        self.deeds
-            .reserve(self.posted.waiting.len + self.unexpected.waiting.len + 2)?;
+        let id = receive_id(p.number);
+        self.receives.make_room(id)?;
         match self.unexpected.take_oldest(p.from, p.tag, p.ctx) {
             Some(a) => {
-                self.deeds.push_reserved(Deed::Post(p));
+                self.receives.add(id);
+                self.done = self.done.then(&Deed::Post(p));
                 Ok(Some(a))
             }
             None => {
-                self.posted.put(self.deeds.len(), p)?;
-                self.deeds.push_reserved(Deed::Post(p));
+                self.posted.put(self.next, p)?;
+                self.next += 1;
+                self.receives.add(id);
+                self.done = self.done.then(&Deed::Post(p));
                 Ok(None)
             }
         }
@@ -107,9 +122,6 @@ impl Matcher {
     /// Brings a message that is new, and answers the number of the receive that takes it: the
     /// oldest open one that selects it. Where there is none it joins the unexpected message
     /// queue.
-    ///
-    /// It makes room for its own deed and for one later withdrawal or claim of it, so `withdraw`
-    /// takes no memory.
     pub fn arrive(&mut self, a: Arrival) -> Result<Option<u64>, Memory>
         requires is_new { is_known_message (history_of self.old) a.env.from a.n ≡ false }
         ensures oldest { let h = history_of self.old in IfOk result
@@ -118,16 +130,19 @@ impl Matcher {
         ensures ok { OnOk result (self.new ≡ self.old ++ deed.Arrive a ∷ []) }
         ensures err { OnErr result (self.new ≡ self.old) }
     {
-        self.deeds
-            .reserve(self.posted.waiting.len + self.unexpected.waiting.len + 2)?;
+        let id = message_id(a.env.from, a.n);
+        self.messages.make_room(id)?;
         match self.posted.take_oldest(&a.env) {
             Some(p) => {
-                self.deeds.push_reserved(Deed::Arrive(a));
+                self.messages.add(id);
+                self.done = self.done.then(&Deed::Arrive(a));
                 Ok(Some(p.number))
             }
             None => {
-                self.unexpected.put(self.deeds.len(), a)?;
-                self.deeds.push_reserved(Deed::Arrive(a));
+                self.unexpected.put(self.next, a)?;
+                self.next += 1;
+                self.messages.add(id);
+                self.done = self.done.then(&Deed::Arrive(a));
                 Ok(None)
             }
         }
@@ -145,7 +160,7 @@ impl Matcher {
             then self.old ++ deed.Cancel post ∷ [] else self.old) }
     {
         if self.posted.cancel(post) {
-            self.deeds.push_reserved(Deed::Cancel { number: post });
+            self.done = self.done.then(&Deed::Cancel { number: post });
             true
         } else {
             self.posted.is_cancelled(post)
@@ -164,7 +179,7 @@ impl Matcher {
     {
         let was_free = self.unexpected.withdraw(MessageId { from, n });
         if was_free {
-            self.deeds.push_reserved(Deed::Withdraw { from, n });
+            self.done = self.done.then(&Deed::Withdraw { from, n });
         }
         was_free
     }
@@ -189,7 +204,7 @@ impl Matcher {
     {
         match self.unexpected.claim_oldest(from, tag, ctx) {
             Some(a) => {
-                self.deeds.push_reserved(Deed::Claim {
+                self.done = self.done.then(&Deed::Claim {
                     from: a.env.from,
                     n: a.n,
                 });
@@ -217,25 +232,25 @@ impl Matcher {
         ensures ok { OnOk result (self.new ≡ self.old ++ deed.Match number from n ∷ []) }
         ensures err { OnErr result (self.new ≡ self.old) }
     {
-        self.deeds
-            .reserve(self.posted.waiting.len + self.unexpected.waiting.len + 1)?;
+        let id = receive_id(number);
+        self.receives.make_room(id)?;
         self.unexpected.take_claimed(MessageId { from, n });
-        self.deeds.push_reserved(Deed::Match { number, from, n });
+        self.receives.add(id);
+        self.done = self.done.then(&Deed::Match { number, from, n });
         Ok(())
     }
 
-    /// Whether a receive of this number was posted, or took a claimed message. It looks through
-    /// all deeds.
+    /// Whether a receive of this number was posted, or took a claimed message.
     pub fn knows_post(&self, post: u64) -> bool
         ensures { result ≡ is_known_receive (history_of self.now) post }
     {
-        has_receive(&self.deeds, post)
+        self.receives.contains(receive_id(post))
     }
 
-    /// Whether message `n` of a rank came. It looks through all deeds.
+    /// Whether message `n` of a rank came.
     pub fn knows_arrival(&self, from: u8, n: u64) -> bool
         ensures { result ≡ is_known_message (history_of self.now) from n }
     {
-        has_arrival(&self.deeds, from, n)
+        self.messages.contains(MessageId { from, n })
     }
 }

@@ -1,7 +1,7 @@
 //! What receives and messages are known by, and where they stand.
 
-ghost use Rattle.std.specs.Prelude.{◌≡◌};
-ghost use Rattle.nm_match.specs.Names.{id_of_arrival, is_aside as is_aside_lem};
+ghost use Rattle.std.specs.Prelude.{◌≡◌, ◌<◌, ◌^◌};
+ghost use Rattle.nm_match.specs.Names.{id_of_arrival, id_of_receive, is_aside as is_aside_lem};
 
 use crate::picks::Picks;
 use nm_types::Arrival;
@@ -31,7 +31,7 @@ impl PartialEq for MessageId {
 #[derive(Clone, Copy)]
 pub enum Standing {
     /// It waits in the bucket of this key, under this order number.
-    Waits { key: Picks, order: usize },
+    Waits { key: Picks, order: u128 },
     /// It waits no more: the receive is cancelled, the message is claimed.
     Aside,
 }
@@ -53,4 +53,20 @@ pub(crate) fn id_of(a: &Arrival) -> MessageId
         from: a.env.from,
         n: a.n,
     }
+}
+
+/// Message `n` of a rank.
+pub(crate) fn message_id(from: u8, n: u64) -> MessageId
+    ensures id { result ≡ record { from = from; n = n } }
+    ensures small { (from < 2 ^ 8) × (n < 2 ^ 64) }
+{
+    MessageId { from, n }
+}
+
+/// What a receive is known by: the receives of a rank are one group.
+pub(crate) fn receive_id(number: u64) -> MessageId
+    ensures id { result ≡ id_of_receive number }
+    ensures small { number < 2 ^ 64 }
+{
+    MessageId { from: 0, n: number }
 }

@@ -1,6 +1,6 @@
 //! The posted receive queue: the open receives, in buckets by what they name.
 
-ghost use Rattle.std.specs.Prelude.{◌≡◌, ℕ, ◌+◌, ◌<◌, ◌^◌, ◌++◌, [], ◌∷◌, ◌==◌, false, None};
+ghost use Rattle.std.specs.Prelude.{◌≡◌, ℕ, ◌+◌, ◌++◌, [], ◌∷◌, ◌==◌, false, None};
 ghost use Rattle.std.specs.Prelude.{AllPairs, IfSome, IsTrue, List, MatchOption, OnErr, OnOk, Some};
 ghost use Rattle.std.specs.Prelude.{find, is_some, nat_eq, option_map};
 ghost use Rattle.indexmap.specs.IndexMap.{get};
@@ -50,7 +50,6 @@ impl Posted {
     /// No receive was posted.
     pub(crate) fn new(alloc: Global) -> Self
         ensures none { (next : ℕ) → ArePosted [] [] next result }
-        ensures len { result.waiting.len ≡ 0 }
     {
         Posted {
             waiting: Buckets::new(alloc),
@@ -59,7 +58,7 @@ impl Posted {
     }
 
     /// The oldest receive that names this source and this tag, in the context of a message.
-    fn front(&self, from: Peer, tag: TagPick, env: &Envelope) -> Option<(usize, Post)>
+    fn front(&self, from: Peer, tag: TagPick, env: &Envelope) -> Option<(u128, Post)>
         ensures { result ≡ front_of self.now.waiting.map from tag env.now }
     {
         self.waiting.front(Picks {
@@ -70,7 +69,7 @@ impl Posted {
     }
 
     /// The oldest receive that selects a message: the oldest under the four keys that select it.
-    fn oldest(&self, env: &Envelope) -> Option<(usize, Post)>
+    fn oldest(&self, env: &Envelope) -> Option<(u128, Post)>
         ensures { result ≡ oldest_of self.now.waiting.map env.now }
     {
         let from = Peer::One(env.from);
@@ -84,16 +83,13 @@ impl Posted {
     }
 
     /// Puts a receive whose number is new last.
-    pub(crate) fn put(&mut self, order: usize, p: Post) -> Result<(), Memory>
-        requires { self.old.waiting.len < 2 ^ 63 }
+    pub(crate) fn put(&mut self, order: u128, p: Post) -> Result<(), Memory>
         ensures ok { OnOk result ((posts : List post.Post) (cancelled : List ℕ) →
             ArePosted posts cancelled order self.old →
             find (λ q. q.number == p.number) posts ≡ None →
             ArePosted (posts ++ p ∷ []) cancelled (order + 1) self.new) }
-        ensures len { OnOk result (self.new.waiting.len ≡ self.old.waiting.len + 1) }
         ensures err { OnErr result ((posts : List post.Post) (cancelled : List ℕ) (next : ℕ) →
             ArePosted posts cancelled next self.old → ArePosted posts cancelled next self.new) }
-        ensures err_len { OnErr result (self.new.waiting.len ≡ self.old.waiting.len) }
     {
         self.standings.reserve(1)?;
         let key = of_post(&p);
@@ -123,7 +119,7 @@ impl Posted {
     }
 
     /// The key of the bucket where the receive of this number waits, and its order number there.
-    fn place(&self, number: u64) -> Option<(Picks, usize)>
+    fn place(&self, number: u64) -> Option<(Picks, u128)>
         ensures some { IfSome result (λ r.
             get nat_eq self.now.standings number ≡ Some (standing.Waits r.0 r.1)) }
         ensures none { result ≡ None → get nat_eq self.now.standings number

@@ -1,7 +1,7 @@
 //! The unexpected message queue: the messages that no receive took yet, in buckets by what names
 //! them; and the messages that are claimed.
 
-ghost use Rattle.std.specs.Prelude.{◌≡◌, ℕ, ◌+◌, ◌<◌, ◌^◌, ◌++◌, [], ◌∷◌, false, None, AllPairs};
+ghost use Rattle.std.specs.Prelude.{◌≡◌, ℕ, ◌+◌, ◌++◌, [], ◌∷◌, false, None, AllPairs};
 ghost use Rattle.std.specs.Prelude.{IfSome, IsTrue, List, MatchOption, OnErr, OnOk, Some, filter};
 ghost use Rattle.std.specs.Prelude.{find, is_some, not, option_map};
 ghost use Rattle.indexmap.specs.IndexMap.{get};
@@ -55,7 +55,7 @@ fn is_named(wanted: &Picks) -> bool
 }
 
 /// The oldest message of the bucket at this place of the map, if it is selected.
-fn fitting(waiting: &Buckets<Arrival>, wanted: Picks, index: usize) -> Option<(usize, Arrival)>
+fn fitting(waiting: &Buckets<Arrival>, wanted: Picks, index: usize) -> Option<(u128, Arrival)>
     ensures { result ≡ fitting_at (fits_picks wanted) waiting.now.map index }
 {
     let (key, bucket) = waiting.map.get_index(index)?;
@@ -67,9 +67,9 @@ fn fitting(waiting: &Buckets<Arrival>, wanted: Picks, index: usize) -> Option<(u
 }
 
 /// The oldest of the first messages of all buckets that a receive or a probe selects.
-fn best(waiting: &Buckets<Arrival>, wanted: Picks) -> Option<(usize, Arrival)>
+fn best(waiting: &Buckets<Arrival>, wanted: Picks) -> Option<(u128, Arrival)>
     ensures { (queue : List (ℕ × arrival.Arrival)) (next : ℕ) →
-        AreBuckets picks_of_arrival queue next waiting.now.map waiting.now.len →
+        AreBuckets picks_of_arrival queue next waiting.now.map →
         result ≡ find (λ x. fits_picks wanted (picks_of_arrival x.1)) queue }
 {
     let mut best = None;
@@ -80,9 +80,9 @@ fn best(waiting: &Buckets<Arrival>, wanted: Picks) -> Option<(usize, Arrival)>
 }
 
 /// The oldest message that a receive or a probe selects, with its order number.
-fn selected(waiting: &Buckets<Arrival>, wanted: Picks) -> Option<(usize, Arrival)>
+fn selected(waiting: &Buckets<Arrival>, wanted: Picks) -> Option<(u128, Arrival)>
     ensures { (queue : List (ℕ × arrival.Arrival)) (next : ℕ) →
-        AreBuckets picks_of_arrival queue next waiting.now.map waiting.now.len →
+        AreBuckets picks_of_arrival queue next waiting.now.map →
         result ≡ find (λ x. fits_picks wanted (picks_of_arrival x.1)) queue }
 {
     if is_named(&wanted) {
@@ -108,7 +108,6 @@ impl Unexpected {
     /// No message came.
     pub(crate) fn new(alloc: Global) -> Self
         ensures none { (next : ℕ) → AreUnexpected [] [] next result }
-        ensures len { result.waiting.len ≡ 0 }
     {
         Unexpected {
             waiting: Buckets::new(alloc),
@@ -127,17 +126,14 @@ impl Unexpected {
     }
 
     /// Puts a message that is new last.
-    pub(crate) fn put(&mut self, order: usize, a: Arrival) -> Result<(), Memory>
-        requires { self.old.waiting.len < 2 ^ 63 }
+    pub(crate) fn put(&mut self, order: u128, a: Arrival) -> Result<(), Memory>
         ensures ok { OnOk result ((arrivals claimed : List arrival.Arrival) →
             AreUnexpected arrivals claimed order self.old →
             find (is_message a.env.from a.n) arrivals ≡ None →
             AreUnexpected (arrivals ++ a ∷ []) claimed (order + 1) self.new) }
-        ensures len { OnOk result (self.new.waiting.len ≡ self.old.waiting.len + 1) }
         ensures err { OnErr result ((arrivals claimed : List arrival.Arrival) (next : ℕ) →
             AreUnexpected arrivals claimed next self.old →
             AreUnexpected arrivals claimed next self.new) }
-        ensures err_len { OnErr result (self.new.waiting.len ≡ self.old.waiting.len) }
     {
         self.standings.reserve(1)?;
         let key = of_arrival(&a);
@@ -183,7 +179,7 @@ impl Unexpected {
     }
 
     /// The key of the bucket where a message waits, and its order number there.
-    fn place(&self, id: MessageId) -> Option<(Picks, usize)>
+    fn place(&self, id: MessageId) -> Option<(Picks, u128)>
         ensures some { IfSome result (λ r.
             get same_message self.now.standings id ≡ Some (standing.Waits r.0 r.1)) }
         ensures none { result ≡ None → get same_message self.now.standings id
@@ -237,7 +233,6 @@ impl Unexpected {
             AreUnexpected arrivals claimed next self.old →
             find (is_message id.from id.n) arrivals ≡ None → AreUnexpected arrivals
             (filter (λ a. not (is_message id.from id.n a)) claimed) next self.new }
-        ensures len { self.new.waiting.len ≡ self.old.waiting.len }
     {
         let _ = self.standings.swap_remove(&id);
     }

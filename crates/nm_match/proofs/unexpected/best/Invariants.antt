@@ -7,5 +7,5 @@ use Rattle.nm_match.proofs.unexpected.best.Given as goal
 
 abbrev pub invariant-loop-index : goal.invariant-loop-index
 invariant-loop-index l = (queue : List (ℕ × Arrival)) (next : ℕ)
-    (are : AreBuckets picks_of_arrival queue next l.waiting.map l.waiting.len) →
+    (are : AreBuckets picks_of_arrival queue next l.waiting.map) →
     l.best ≡ first_of are (fits_picks l.wanted) l.index

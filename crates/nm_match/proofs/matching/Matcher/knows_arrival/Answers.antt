@@ -4,5 +4,5 @@ use Rattle.nm_match.proofs.DeedLemmas.{is_known_message-deeds}
 use Rattle.nm_match.proofs.matching.Matcher.knows_arrival.Goals as goal
 
 pub returns : goal.returns
-returns c = rw (← c.self.view_is) (rw c.deref.ensures.value at c.has_arrival.ensures
-    ∙ is_known_message-deeds c.self.inside.deeds.items c.args.from c.args.n)
+returns c = rw (← c.self.view_is) (c.contains.ensures ∙ c.self.invariant.names.messages c.args.from c.args.n
+    ∙ is_known_message-deeds c.self.inside.done.deeds c.args.from c.args.n)

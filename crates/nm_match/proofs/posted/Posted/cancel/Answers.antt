@@ -17,10 +17,10 @@ returns-in-Some-clause-found c = λ posts cancelled next is.
 
 pub returns-in-Some-clause-others : goal.returns-in-Some-clause-others
 returns-in-Some-clause-others c = λ yes posts cancelled next two is.
-    place_taken is c.take.new.self.map c.take.new.self.len c.set_aside.new.standings c.take.ensures.full TwoReceives two
+    place_taken is c.take.new.self.map c.set_aside.new.standings c.take.ensures.full TwoReceives two
     (λ p q number. posts_apart number p q) c.args.number c.in-Some.key c.in-Some.order c.in-Some.ensures.some
     (λ p here number. ap (λ n. nat_eq n number) (same_number-true p.number c.args.number here))
-    c.take.ensures.own c.take.ensures.others c.take.ensures.len (is_one_of (cancelled ++ c.args.number ∷ []))
+    c.take.ensures.own c.take.ensures.others (is_one_of (cancelled ++ c.args.number ∷ []))
     (λ number other. any_other (λ m. m == number) cancelled c.args.number other)
     (there_at same_number-true (is_one_of (cancelled ++ c.args.number ∷ [])) c.set_aside.new.standings c.args.number
     (c.set_aside.ensures.own ∙ ap (λ (o : Option Standing). option_map (λ s. Aside) o) c.in-Some.ensures.some

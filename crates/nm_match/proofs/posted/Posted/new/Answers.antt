@@ -6,6 +6,8 @@ use Rattle.nm_match.specs.declared.names.Standing.{Standing}
 use Rattle.nm_match.proofs.NameLemmas.{named_none}
 use Rattle.nm_match.proofs.posted.Posted.new.Goals as goal
 
-pub returns-clause-none : goal.returns-clause-none
-returns-clause-none c = λ next. named_none c.new.ensures.none c.new.ensures.full c.new.ensures.len
-    (λ name. ap (λ (es : List (ℕ × Standing)). lookup (nat_eq name) es) c.new-2.ensures.empty) (λ name. refl)
+pub returns : goal.returns
+returns c = record {
+  none = λ next. named_none c.new.ensures.none c.new.ensures.full
+      (λ name. ap (λ (es : List (ℕ × Standing)). lookup (nat_eq name) es) c.new-2.ensures.empty) (λ name. refl);
+}

@@ -21,10 +21,10 @@ returns-clause-others c = λ posts cancelled next two is stays.
     let own = rw c.of_post.ensures at c.take.ensures.own in
     let others = rw c.of_post.ensures at c.take.ensures.others in
     let updates = c.swap_remove.ensures.updates.0 in
-    named_taken is c.take.new.self.map c.take.new.self.len c.swap_remove.new.self c.take.ensures.full TwoReceives two
+    named_taken is c.take.new.self.map c.swap_remove.new.self c.take.ensures.full TwoReceives two
     (λ p q number. posts_apart number p q) (λ (p : Post). matches p.from p.tag p.ctx c.args.env.now)
     (c.in_ok-order.order, c.in_ok-order.p) (sym (c.in_ok-order.ensures ∙ oldest_found is.is.are c.args.env.now))
-    c.in_ok-order.p.number (λ number. refl) own others c.take.ensures.len (is_one_of cancelled) (λ number other. refl)
+    c.in_ok-order.p.number (λ number. refl) own others (is_one_of cancelled) (λ number other. refl)
     (there_at same_number-true (is_one_of cancelled) c.swap_remove.new.self c.in_ok-order.p.number
     (updates c.in_ok-order.p.number ∙ rw (number_itself c.in_ok-order.p.number, stays) refl))
     (λ number other. updates number ∙ rw other refl)

@@ -34,11 +34,11 @@ returns-clause-others c = λ arrivals claimed next two is.
     let waits = waits_by_name is TwoMessages two (λ a b id. messages_apart id.from id.n a b)
     (λ (x : ℕ × Arrival). fits_picks (record { from = c.args.from; tag = c.args.tag; ctx = c.args.ctx })
     (picks_of_arrival x.1)) (c.in_ok-order.order, c.in_ok-order.a) found id (message_itself id) in
-    named_taken is c.take.new.self.map c.take.new.self.len c.set_aside.new.standings c.take.ensures.full TwoMessages two
+    named_taken is c.take.new.self.map c.set_aside.new.standings c.take.ensures.full TwoMessages two
     (λ a b id. messages_apart id.from id.n a b) (λ (a : Arrival). matches c.args.from c.args.tag c.args.ctx a.env)
     (c.in_ok-order.order, c.in_ok-order.a)
     (selected_found is.is.queue c.args.from c.args.tag c.args.ctx (c.in_ok-order.order, c.in_ok-order.a) found)
-    id (λ id. refl) own others c.take.ensures.len (has_one (claimed ++ c.in_ok-order.a ∷ []))
+    id (λ id. refl) own others (has_one (claimed ++ c.in_ok-order.a ∷ []))
     (λ other apart. any_other (is_message other.from other.n) claimed c.in_ok-order.a apart)
     (there_at same_message-true (has_one (claimed ++ c.in_ok-order.a ∷ [])) c.set_aside.new.standings id
     ((rw c.id_of.ensures at c.set_aside.ensures.own)

@@ -7,7 +7,9 @@ use Rattle.nm_match.specs.Names.{same_message}
 use Rattle.nm_match.proofs.NameLemmas.{named_none}
 use Rattle.nm_match.proofs.unexpected.Unexpected.new.Goals as goal
 
-pub returns-clause-none : goal.returns-clause-none
-returns-clause-none c = λ next. named_none c.new.ensures.none c.new.ensures.full c.new.ensures.len
-    (λ name. ap (λ (es : List (MessageId × Standing)). lookup (same_message name) es) c.new-2.ensures.empty)
-    (λ name. refl)
+pub returns : goal.returns
+returns c = record {
+  none = λ next. named_none c.new.ensures.none c.new.ensures.full
+      (λ name. ap (λ (es : List (MessageId × Standing)). lookup (same_message name) es) c.new-2.ensures.empty)
+      (λ name. refl);
+}

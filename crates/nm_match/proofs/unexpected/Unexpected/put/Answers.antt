@@ -12,15 +12,15 @@ use Rattle.nm_match.proofs.unexpected.Unexpected.put.Goals as goal
 
 pub returns-in_err-reserve-clause-err : goal.returns-in_err-reserve-clause-err
 returns-in_err-reserve-clause-err c = on_err c.from_residual.result (λ arrivals claimed next is.
-    named_kept is c.args.self.now.waiting.map c.args.self.now.waiting.len c.reserve.new.self (λ full. full)
-    (λ k. refl) refl
+    named_kept is c.args.self.now.waiting.map c.reserve.new.self (λ full. full)
+    (λ k. refl)
     (λ id. ap (λ (es : List (MessageId × Standing)). lookup (same_message id) es) c.reserve.ensures.entries))
 
 pub returns-in_err-put-clause-err : goal.returns-in_err-put-clause-err
 returns-in_err-put-clause-err c = on_err c.from_residual-in_err-put.result (λ arrivals claimed next is.
-    named_kept is c.put.new.self.map c.put.new.self.len c.reserve.new.self c.in_err-put.ensures.full
+    named_kept is c.put.new.self.map c.reserve.new.self c.in_err-put.ensures.full
     (all_same c.args.self.now.waiting.map c.put.new.self.map c.of_arrival-key.result c.in_err-put.ensures.err
-    c.in_err-put.ensures.others) c.in_err-put.ensures.err_len
+    c.in_err-put.ensures.others)
     (λ id. ap (λ (es : List (MessageId × Standing)). lookup (same_message id) es) c.reserve.ensures.entries))
 
 pub returns-clause-ok : goal.returns-clause-ok
@@ -29,10 +29,10 @@ returns-clause-ok c = λ arrivals claimed is none.
     let others = rw c.of_arrival-key.ensures at c.in_ok-put.ensures.others in
     let updates = rw (c.of_arrival-key.ensures, c.id_of.ensures) at
     (rw c.unwrap.ensures at c.insert.ensures.updates).0 in
-    named_put is c.put.new.self.map c.put.new.self.len c.insert.new.self c.in_ok-put.ensures.full
+    named_put is c.put.new.self.map c.insert.new.self c.in_ok-put.ensures.full
     c.args.a (id_of_arrival c.args.a) (λ id. refl)
     (λ id here. subst (λ (m : MessageId). find (is_message m.from m.n) arrivals ≡ None)
-    (same_message-true (id_of_arrival c.args.a) id here) none) own others c.in_ok-put.ensures.len
+    (same_message-true (id_of_arrival c.args.a) id here) none) own others
     (λ id here. updates id ∙ rw here refl)
     (λ id other. updates id
     ∙ rw other (ap (λ (es : List (MessageId × Standing)). lookup (same_message id) es) c.reserve.ensures.entries))

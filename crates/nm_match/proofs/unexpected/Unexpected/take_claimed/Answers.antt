@@ -7,16 +7,18 @@ use Rattle.nm_match.specs.Names.{has_one}
 use Rattle.nm_match.proofs.NameLemmas.{left_gone, left_other, message_itself, named_freed, same_message-true, there_at}
 use Rattle.nm_match.proofs.unexpected.Unexpected.take_claimed.Goals as goal
 
-pub returns-clause-left : goal.returns-clause-left
-returns-clause-left c = λ arrivals claimed next is none.
-    let updates = c.swap_remove.ensures.updates.0 in
-    named_freed is c.args.self.now.waiting.map c.args.self.now.waiting.len c.swap_remove.new.self (λ full. full)
-    same_message-true
-    c.args.id none (λ k. refl) refl
-    (has_one (filter (λ (a : Arrival). not (is_message c.args.id.from c.args.id.n a)) claimed))
-    (λ id apart. left_other c.args.id id claimed apart)
-    (there_at same_message-true
-    (has_one (filter (λ (a : Arrival). not (is_message c.args.id.from c.args.id.n a)) claimed))
-    c.swap_remove.new.self c.args.id
-    (updates c.args.id ∙ rw (message_itself c.args.id, left_gone c.args.id claimed) refl))
-    (λ id other. updates id ∙ rw other refl)
+pub returns : goal.returns
+returns c = record {
+  left = λ arrivals claimed next is none.
+      let updates = c.swap_remove.ensures.updates.0 in
+      named_freed is c.args.self.now.waiting.map c.swap_remove.new.self (λ full. full)
+      same_message-true
+      c.args.id none (λ k. refl)
+      (has_one (filter (λ (a : Arrival). not (is_message c.args.id.from c.args.id.n a)) claimed))
+      (λ id apart. left_other c.args.id id claimed apart)
+      (there_at same_message-true
+      (has_one (filter (λ (a : Arrival). not (is_message c.args.id.from c.args.id.n a)) claimed))
+      c.swap_remove.new.self c.args.id
+      (updates c.args.id ∙ rw (message_itself c.args.id, left_gone c.args.id claimed) refl))
+      (λ id other. updates id ∙ rw other refl);
+}

@@ -24,12 +24,12 @@ returns-clause-others c = λ arrivals claimed next two is stays.
     let own = rw c.of_arrival.ensures at c.take.ensures.own in
     let others = rw c.of_arrival.ensures at c.take.ensures.others in
     let updates = rw c.id_of.ensures at c.swap_remove.ensures.updates.0 in
-    named_taken is c.take.new.self.map c.take.new.self.len c.swap_remove.new.self c.take.ensures.full TwoMessages two
+    named_taken is c.take.new.self.map c.swap_remove.new.self c.take.ensures.full TwoMessages two
     (λ a b id. messages_apart id.from id.n a b) (λ (a : Arrival). matches c.args.from c.args.tag c.args.ctx a.env)
     (c.in_ok-order.order, c.in_ok-order.a)
     (selected_found is.is.queue c.args.from c.args.tag c.args.ctx (c.in_ok-order.order, c.in_ok-order.a)
     (sym (c.in_ok-order.ensures is.is.queue next is.is.are)))
-    (id_of_arrival c.in_ok-order.a) (λ id. refl) own others c.take.ensures.len (has_one claimed) (λ id other. refl)
+    (id_of_arrival c.in_ok-order.a) (λ id. refl) own others (has_one claimed) (λ id other. refl)
     (there_at same_message-true (has_one claimed) c.swap_remove.new.self (id_of_arrival c.in_ok-order.a)
     (updates (id_of_arrival c.in_ok-order.a) ∙ rw (message_itself (id_of_arrival c.in_ok-order.a), stays) refl))
     (λ id other. updates id ∙ rw other refl)

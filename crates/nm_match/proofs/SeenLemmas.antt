@@ -1,0 +1,202 @@
+-- Which numbers are taken after each deed, and how many there can be.
+use Rattle.std.proofs.Common.{◌≡◌, ◌≢◌, ℕ, ◌+◌, ◌*◌, ◌<◌, ◌≤◌, ◌^◌, Bool, true, false, ◌||◌}
+use Rattle.std.proofs.Common.{List, [], ◌∷◌, ◌++◌, length, map, sym, ◌∙◌, ap, subst, inl, inr, arith}
+use Rattle.std.specs.Prelude.{AllPairs, eqb}
+use Rattle.std.specs.List.{All, AllByRecursion, IsDistinct, cons_option, list_any}
+use Rattle.std.proofs.Math.Bool.{or-false}
+use Rattle.std.proofs.lemmas.Bool.{eqb-true, false≢true, false_from_ne_true, or_cases}
+use Rattle.std.proofs.lemmas.List.{length-append, length-map}
+use Rattle.std.proofs.lemmas.List.Elements.{All-append, All-cons, All-head, All-nil, All-tail}
+use Rattle.std.proofs.lemmas.List.Folds.{list_any-append}
+use Rattle.std.proofs.lemmas.Map.Steps.{length-le_from_distinct_below}
+use Rattle.nm_types.specs.declared.messages.Arrival.{Arrival}
+use Rattle.nm_types.specs.declared.messages.Post as post
+use Rattle.nm_history.specs.Sends.{messages, posts, post_of, arrival_of}
+use Rattle.nm_history.proofs.OnceLemmas.{posts-push, messages-push}
+use Rattle.nm_match.specs.declared.deeds.Deed.{Deed}
+use Rattle.nm_match.specs.declared.deeds.Deed.TheVariants as deed
+use Rattle.nm_match.specs.declared.names.MessageId.{MessageId}
+use Rattle.nm_match.specs.declared.seen.Seen.{Seen}
+use Rattle.nm_match.specs.Deeds.{event_of, happened_by, history_of, is_deed_of_message, is_deed_of_receive}
+use Rattle.nm_match.specs.Names.{id_of_arrival, id_of_receive, same_message}
+use Rattle.nm_match.specs.Queues.{TwoMessages, TwoReceives}
+use Rattle.nm_match.specs.Seen.{AreNames, has_seen}
+use Rattle.nm_match.proofs.BucketLemmas.{pairs_head, pairs_tail}
+use Rattle.nm_match.proofs.DeedLemmas.{history_of-push}
+
+-- a receive's number is below 2^64
+abbrev IsSmallPost : post.Post → Type 0
+IsSmallPost p = p.number < 2 ^ 64
+
+-- a sender is below 2^8, and its number below 2^64
+abbrev IsSmallMessage : Arrival → Type 0
+IsSmallMessage a = (a.env.from < 2 ^ 8) × (a.n < 2 ^ 64)
+
+posts_deed : (deeds : List Deed) (d : Deed) →
+    posts (history_of (deeds ++ d ∷ [])) ≡ posts (history_of deeds) ++ cons_option (post_of (happened_by d)) []
+posts_deed deeds d = ap posts (history_of-push deeds d) ∙ posts-push (history_of deeds) (event_of d)
+
+messages_deed : (deeds : List Deed) (d : Deed) →
+    messages (history_of (deeds ++ d ∷ [])) ≡ messages (history_of deeds) ++ cons_option
+    (arrival_of (happened_by d)) []
+messages_deed deeds d = ap messages (history_of-push deeds d) ∙ messages-push (history_of deeds) (event_of d)
+
+any_deed : (test : Deed → Bool) (deeds : List Deed) (d : Deed) (before : Bool) →
+    before ≡ list_any test deeds → (before || test d) ≡ list_any test (deeds ++ d ∷ [])
+any_deed test deeds d before same =
+    ap (λ b. b || test d) same
+    ∙ sym (list_any-append test deeds (d ∷ []) ∙ ap (λ b. list_any test deeds || b) (or-false (test d)))
+
+-- nothing is taken where nothing was done
+pub names_none : (r m : Seen) → ((i : MessageId) → has_seen r i ≡ false) → ((i : MessageId) → has_seen m i ≡ false) →
+    AreNames [] 0 r m
+unfolding history_of
+names_none r m no_receive no_message = record {
+  receives = λ number. no_receive (id_of_receive number);
+  messages = λ from n. no_message (record { from = from; n = n });
+  counted = omega arith;
+  small_receives = All-nil IsSmallPost;
+  small_messages = All-nil IsSmallMessage;
+}
+
+-- one name more, where room was made before
+pub seen_more : (r r1 r2 : Seen) {id id' : MessageId} → id ≡ id' →
+    ((i : MessageId) → has_seen r1 i ≡ has_seen r i) →
+    ((i : MessageId) → has_seen r2 i ≡ (has_seen r1 i || same_message id i)) → (i : MessageId) →
+    has_seen r2 i ≡ (has_seen r i || same_message id' i)
+seen_more r r1 r2 {id} {id'} same room add i =
+    add i ∙ ap (λ b. b || same_message id i) (room i)
+    ∙ ap (λ (m : MessageId). has_seen r i || same_message m i) same
+
+module _ (deeds : List Deed) {next : ℕ} {r m : Seen} (names : AreNames deeds next r m) where
+  -- room that was made takes no name
+  pub names_kept : (r' m' : Seen) → ((i : MessageId) → has_seen r' i ≡ has_seen r i) →
+      ((i : MessageId) → has_seen m' i ≡ has_seen m i) → AreNames deeds next r' m'
+  names_kept r' m' same_r same_m = record {
+    receives = λ number. same_r (id_of_receive number) ∙ names.receives number;
+    messages = λ from n. same_m (record { from = from; n = n }) ∙ names.messages from n;
+    counted = names.counted;
+    small_receives = names.small_receives;
+    small_messages = names.small_messages;
+  }
+
+  names_push : (d : Deed) (later : ℕ) (r' m' : Seen) →
+      later ≤ next + (length (cons_option (post_of (happened_by d)) [])
+      + length (cons_option (arrival_of (happened_by d)) [])) →
+      All IsSmallPost (cons_option (post_of (happened_by d)) []) →
+      All IsSmallMessage (cons_option (arrival_of (happened_by d)) []) →
+      ((number : ℕ) → has_seen r' (id_of_receive number)
+      ≡ (has_seen r (id_of_receive number) || is_deed_of_receive number d)) →
+      ((from n : ℕ) → has_seen m' (record { from = from; n = n })
+      ≡ (has_seen m (record { from = from; n = n }) || is_deed_of_message from n d)) →
+      AreNames (deeds ++ d ∷ []) later r' m'
+  names_push d later r' m' few small_post small_message seen_r seen_m = record {
+    receives = λ number. seen_r number
+        ∙ any_deed (is_deed_of_receive number) deeds d (has_seen r (id_of_receive number)) (names.receives number);
+    messages = λ from n. seen_m from n
+        ∙ any_deed (is_deed_of_message from n) deeds d (has_seen m (record { from = from; n = n }))
+        (names.messages from n);
+    counted =
+        let ps = length-append (posts (history_of deeds)) (cons_option (post_of (happened_by d)) []) in
+        let as' = length-append (messages (history_of deeds)) (cons_option (arrival_of (happened_by d)) []) in
+        let was = names.counted in
+        rw (posts_deed deeds d, messages_deed deeds d) (omega (arith, ps, as', was, few));
+    small_receives = rw (posts_deed deeds d) (All-append IsSmallPost (posts (history_of deeds))
+        (cons_option (post_of (happened_by d)) []) names.small_receives small_post);
+    small_messages = rw (messages_deed deeds d) (All-append IsSmallMessage (messages (history_of deeds))
+        (cons_option (arrival_of (happened_by d)) []) names.small_messages small_message);
+  }
+
+  -- after a receive was posted
+  pub names_post : (p : post.Post) (later : ℕ) (r' : Seen) → p.number < 2 ^ 64 → later ≤ next + 1 →
+      ((i : MessageId) → has_seen r' i ≡ (has_seen r i || same_message (id_of_receive p.number) i)) →
+      AreNames (deeds ++ deed.Post p ∷ []) later r' m
+  names_post p later r' small few seen =
+      names_push (deed.Post p) later r' m (omega (arith, few))
+      (All-cons IsSmallPost p [] small (All-nil IsSmallPost)) (All-nil IsSmallMessage)
+      (λ number. seen (id_of_receive number)) (λ from n. sym (or-false _))
+
+  -- after a message came
+  pub names_arrive : (a : Arrival) (later : ℕ) (m' : Seen) → a.env.from < 2 ^ 8 → a.n < 2 ^ 64 → later ≤ next + 1 →
+      ((i : MessageId) → has_seen m' i ≡ (has_seen m i || same_message (id_of_arrival a) i)) →
+      AreNames (deeds ++ deed.Arrive a ∷ []) later r m'
+  names_arrive a later m' small_from small_n few seen =
+      names_push (deed.Arrive a) later r m' (omega (arith, few)) (All-nil IsSmallPost)
+      (All-cons IsSmallMessage a [] (small_from, small_n) (All-nil IsSmallMessage))
+      (λ number. sym (or-false _)) (λ from n. seen (record { from = from; n = n }))
+
+  -- after a claimed message was received
+  pub names_matched : (number from n : ℕ) (r' : Seen) →
+      ((i : MessageId) → has_seen r' i ≡ (has_seen r i || same_message (id_of_receive number) i)) →
+      AreNames (deeds ++ deed.Match number from n ∷ []) next r' m
+  names_matched number from n r' seen =
+      names_push (deed.Match number from n) next r' m (omega arith) (All-nil IsSmallPost) (All-nil IsSmallMessage)
+      (λ other. seen (id_of_receive other)) (λ from n. sym (or-false _))
+
+  -- the other deeds take no number
+  pub names_cancel : (number : ℕ) → AreNames (deeds ++ deed.Cancel number ∷ []) next r m
+  names_cancel number =
+      names_push (deed.Cancel number) next r m (omega arith) (All-nil IsSmallPost) (All-nil IsSmallMessage)
+      (λ other. sym (or-false _)) (λ from n. sym (or-false _))
+
+  pub names_withdraw : (from n : ℕ) → AreNames (deeds ++ deed.Withdraw from n ∷ []) next r m
+  names_withdraw from n =
+      names_push (deed.Withdraw from n) next r m (omega arith) (All-nil IsSmallPost) (All-nil IsSmallMessage)
+      (λ other. sym (or-false _)) (λ from n. sym (or-false _))
+
+  pub names_claim : (from n : ℕ) → AreNames (deeds ++ deed.Claim from n ∷ []) next r m
+  names_claim from n =
+      names_push (deed.Claim from n) next r m (omega arith) (All-nil IsSmallPost) (All-nil IsSmallMessage)
+      (λ other. sym (or-false _)) (λ from n. sym (or-false _))
+
+module _ {X : Type 0} (f : X → ℕ) (R : X → X → Type 0) (P : X → Type 0)
+    (apart : (x y : X) → P x → P y → R x y → f x ≢ f y) where
+  each_apart : (x : X) (xs : List X) → P x → All P xs → All (λ y. R x y) xs →
+      AllByRecursion (λ y. eqb (f x) y ≡ false) (map f xs)
+  each_apart x [] here all others = tt
+  each_apart x (y ∷ ys) here all others = (
+    false_from_ne_true (eqb (f x) (f y)) (λ same. apart x y here (All-head P y ys all)
+        (All-head (λ z. R x z) y ys others) (eqb-true (f x) (f y) same)),
+    each_apart x ys here (All-tail P y ys all) (All-tail (λ z. R x z) y ys others),
+  )
+
+  distinct_map : (xs : List X) → All P xs → AllPairs R xs → IsDistinct eqb (map f xs)
+  unfolding IsDistinct
+  distinct_map [] all two = tt
+  distinct_map (x ∷ xs) all two = (
+    each_apart x xs (All-head P x xs all) (All-tail P x xs all) (pairs_head R x xs two),
+    distinct_map xs (All-tail P x xs all) (pairs_tail R x xs two),
+  )
+
+  below_map : (n : ℕ) → ((x : X) → P x → f x < n) → (xs : List X) → All P xs → (q : ℕ) →
+      list_any (eqb q) (map f xs) ≡ true → q < n
+  below_map n small [] all q never = absurd (false≢true never)
+  below_map n small (x ∷ xs) all q some = elim (or_cases (eqb q (f x)) (list_any (eqb q) (map f xs)) some) [
+    | inl here ↦ subst (λ k. k < n) (sym (eqb-true q (f x) here)) (small x (All-head P x xs all))
+    | inr later ↦ below_map n small xs (All-tail P x xs all) q later
+  ]
+
+  -- things that are apart by a number below n are at most n
+  few : (n : ℕ) → ((x : X) → P x → f x < n) → (xs : List X) → All P xs → AllPairs R xs → length xs ≤ n
+  few n small xs all two =
+      let bound = length-le_from_distinct_below (map f xs) n (distinct_map xs all two) (below_map n small xs all) in
+      subst (λ k. k ≤ n) (length-map xs f) bound
+
+-- the number of a message among all that there can be
+abbrev place : Arrival → ℕ
+place a = a.env.from * 18446744073709551616 + a.n
+
+-- the next order number is far below 2^128
+pub next_small : (deeds : List Deed) {next : ℕ} {r m : Seen} → AreNames deeds next r m →
+    AllPairs TwoReceives (posts (history_of deeds)) → AllPairs TwoMessages (messages (history_of deeds)) →
+    next < 2 ^ 73
+next_small deeds names two_receives two_messages =
+    let receives = few (λ (p : post.Post). p.number) TwoReceives IsSmallPost (λ p q small_p small_q two. two)
+    (2 ^ 64) (λ p small. small) (posts (history_of deeds)) names.small_receives two_receives in
+    let came = few place TwoMessages IsSmallMessage
+    (λ a b small_a small_b two same. two (omega (arith, small_a.1, small_b.1, same))
+    (omega (arith, small_a.1, small_b.1, same)))
+    (2 ^ 72) (λ a small. omega (arith, small.0, small.1)) (messages (history_of deeds)) names.small_messages
+    two_messages in
+    let counted = names.counted in
+    omega (arith, receives, came, counted)

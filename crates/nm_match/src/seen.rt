@@ -1,0 +1,118 @@
+//! Which numbers are taken, of receives and of each sender's messages.
+
+ghost use Rattle.std.specs.Prelude.{◌≡◌, ℕ, ◌+◌, ◌<◌, ◌&&◌, ◌||◌, ◌==◌, false, length};
+ghost use Rattle.std.specs.Prelude.{if◌then◌else◌, IsTrue, OnOk};
+ghost use Rattle.nm_match.specs.declared.names.MessageId as message;
+ghost use Rattle.nm_match.specs.Names.{same_message};
+ghost use Rattle.nm_match.specs.Seen.{HasRoom, has_seen, next_of};
+
+use crate::names::MessageId;
+use indexmap::IndexSet;
+use nm_types::Memory;
+use std::alloc::Global;
+
+/// The names that are taken, of up to 256 groups: a sender's messages are one, and so are a rank's
+/// receives.
+///
+/// Those that came in order, counted from 0, take no place: of each group the names below its next
+/// number are taken. Beside them stand those that came out of order, until the ones before them
+/// come.
+pub struct Seen {
+    pub next: Vec<u64>,
+    pub apart: IndexSet<MessageId>,
+}
+
+impl Drop for Seen {
+    fn drop(self) {
+        let Seen { next: _, apart: _ } = self;
+    }
+}
+
+impl Seen {
+    /// No name is taken.
+    pub(crate) fn new(alloc: Global) -> Self
+        ensures { (id : message.MessageId) → has_seen result id ≡ false }
+    {
+        Seen {
+            next: Vec::new(alloc),
+            apart: IndexSet::new(alloc),
+        }
+    }
+
+    /// The next number of a group: those below it are taken.
+    fn next_of(&self, group: u8) -> u64
+        ensures { result ≡ next_of self.now group }
+    {
+        match self.next.get(group as usize) {
+            Some(next) => *next,
+            None => 0,
+        }
+    }
+
+    /// Whether a name is taken.
+    pub(crate) fn contains(&self, id: MessageId) -> bool
+        ensures { result ≡ has_seen self.now id }
+    {
+        id.n < self.next_of(id.from) || self.apart.contains(&id)
+    }
+
+    /// Makes room for a name.
+    pub(crate) fn make_room(&mut self, id: MessageId) -> Result<(), Memory>
+        ensures same { (i : message.MessageId) → has_seen self.new i ≡ has_seen self.old i }
+        ensures room { OnOk result (HasRoom self.new id) }
+    {
+        let groups = id.from as usize + 1;
+        if self.next.len() < groups {
+            self.next.resize(groups, 0)?;
+        }
+        self.apart.reserve(1)?;
+        Ok(())
+    }
+
+    /// Counts a name where it is the next of its group and not the last number that there is, and
+    /// answers whether it did.
+    fn count(&mut self, id: MessageId) -> bool
+        requires { id.from < length self.old.next.items }
+        ensures counted { IsTrue result → id.n ≡ next_of self.old id.from }
+        ensures next { (group : ℕ) → next_of self.new group
+            ≡ (if result && id.from == group then id.n + 1 else next_of self.old group) }
+        ensures apart { self.new.apart ≡ self.old.apart }
+        ensures len { length self.new.next.items ≡ length self.old.next.items }
+    {
+        let next = self.next_of(id.from);
+        if id.n != next || next == u64::MAX {
+            return false;
+        }
+        self.next[id.from as usize] = next + 1;
+        true
+    }
+
+    /// Counts the name that stands apart and is the next of its group, if there is one.
+    fn absorb(&mut self, group: u8)
+        requires { group < length self.old.next.items }
+        ensures same { (i : message.MessageId) → has_seen self.new i ≡ has_seen self.old i }
+        ensures len { length self.new.next.items ≡ length self.old.next.items }
+    {
+        let next = MessageId {
+            from: group,
+            n: self.next_of(group),
+        };
+        if self.apart.contains(&next) && self.count(next) {
+            let _ = self.apart.swap_remove(&next);
+        }
+    }
+
+    /// Takes a name. Of those that stand apart up to two are counted, so that they are the fewer
+    /// the more names come.
+    pub(crate) fn add(&mut self, id: MessageId)
+        requires room { HasRoom self.old id }
+        ensures { (i : message.MessageId) →
+            has_seen self.new i ≡ (has_seen self.old i || same_message id i) }
+    {
+        if !self.count(id) {
+            self.apart.insert(id).unwrap();
+        }
+        self.absorb(id.from);
+        self.absorb(id.from);
+    }
+}
