@@ -1,14 +1,15 @@
 -- The steps of a packet that continues its stream.
 use Rattle.std.proofs.Common.{◌≡◌, ℕ, ◌+◌, ◌-◌, ◌<◌, ◌≤◌, true, List, ◌++◌, length, sym, ◌∙◌, ap, subst, arith}
-use Rattle.std.specs.Prelude.{map, max, option_to_list, Option, Some, None}
+use Rattle.std.specs.Prelude.{map, max, nat_lt, option_to_list, Option, Some, None}
 use Rattle.std.proofs.lemmas.List.{length-map}
+use Rattle.nm_facts.proofs.Truth.{and_left}
 use Rattle.nm_types.specs.Sizes.{Sizes}
-use Rattle.nm_types.specs.declared.limits.TheConstants.{MAX_PACKETS}
+use Rattle.nm_types.specs.declared.limits.TheConstants.{MAX_PACKETS, MAX_STAMP}
 use Rattle.nm_types.specs.declared.packets.Packet.{Packet}
 use Rattle.nm_history.specs.declared.events.Event.{Event}
 use Rattle.nm_history.specs.declared.events.Happened.{Happened}
 use Rattle.nm_protocol.specs.Clock.{stamped}
-use Rattle.nm_protocol.specs.Continues.{continues}
+use Rattle.nm_protocol.specs.Continues.{continues, WORN_STAMP}
 use Rattle.nm_protocol.specs.Known.{Known}
 use Rattle.nm_journal.specs.Journals.{JournalView}
 use Rattle.nm_outbox.specs.Outboxes.{OutboxView, put_to}
@@ -109,13 +110,6 @@ noted-clock j j' j'' j''' start None (Some y) raised c c' = let s = raised.clock
 noted-clock j j' j'' j''' start (Some x) None raised c c' = let s = raised.clock in omega arith
 noted-clock j j' j'' j''' start (Some x) (Some y) raised c c' = let s = raised.clock in omega arith
 
-pub noted-later : (j j' j'' j''' : JournalView) (stamp : ℕ) (first second : Option Happened)
-    → IsRaised j j' (max j.clock stamp)
-    → j''.clock ≡ j'.clock + length (option_to_list first)
-    → j'''.clock ≡ j''.clock + length (option_to_list second)
-    → j.clock ≤ j'''.clock
-noted-later j j' j'' j''' stamp first second raised c c' = let s = raised.clock in omega arith
-
 pub noted-room : (j j' j'' j''' : JournalView) (start : ℕ) (first second : Option Happened)
     → IsRaised j j' start
     → j'.spare ≤ j''.spare + length (option_to_list first)
@@ -123,3 +117,12 @@ pub noted-room : (j j' j'' j''' : JournalView) (start : ℕ) (first second : Opt
     → j.spare ≤ j'''.spare + 2
 noted-room j j' j'' j''' start first second raised room room' =
     let s = raised.spare in let one = at-most-one first in let two = at-most-one second in omega arith
+
+low : (a b : ℕ) → nat_lt a b ≡ true → a < b
+low a b e = grind arith
+
+-- a packet that continues its stream leaves room for the stamps of what it makes happen
+pub stamp-early : (eager : ℕ) (known : Known) (h : List Event) (p : Packet)
+    → continues eager known h p ≡ true → p.stamp + 2 ≤ MAX_STAMP
+stamp-early eager known h p cont =
+    let early = low p.stamp WORN_STAMP (and_left (nat_lt p.stamp WORN_STAMP) _ cont) in omega (arith, early)

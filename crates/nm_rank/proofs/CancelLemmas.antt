@@ -20,11 +20,12 @@ use Rattle.nm_protocol.proofs.Growing.{stamped-same}
 use Rattle.nm_eager.specs.Streams.{Stream, missing, nothing_came}
 use Rattle.nm_journal.specs.Journals.{JournalView}
 use Rattle.nm_request.specs.declared.Kind.{Kind}
-use Rattle.nm_request.specs.Requests.{Live}
-use Rattle.nm_receiving.specs.Receipts.{ReceivingView}
+use Rattle.nm_request.specs.Requests.{Live, SameRequests}
+use Rattle.nm_receiving.specs.Receipts.{ReceivingView, came_of}
 use Rattle.nm_receiving.specs.Received.{AreReceived, is_of_receiving}
-use Rattle.nm_rank.specs.Calls.{called_by}
+use Rattle.nm_rank.specs.Calls.{TakesNone, called_by}
 use Rattle.nm_rank.specs.Fields.{AreFields, endings}
+use Rattle.nm_rank.specs.Ranks.{seen}
 use Rattle.nm_rank.proofs.Goes.{acts, requests-more}
 use Rattle.nm_rank.proofs.LeaveLemmas.{StaysSent, StaysReceived}
 use Rattle.nm_outbox.specs.Outboxes.{OutboxView}
@@ -214,3 +215,25 @@ cancel-order h (kind.Send to n) v v' e = by_answer (happened (is_recall to n) h)
       → v'.order ≡ v.order
   by_answer true e = ap (λ (o : Offering). o.order) e
   by_answer false e = ap (λ (o : Offering). o.order) e
+
+-- no packet and no piece comes by a cancel, and no request is added or freed
+pub cancel-takes : (me : ℕ) (sizes : Sizes) (j j' : JournalView) (s s' : SendingView) (r r' : ReceivingView)
+    (known : List Known) (q q' : Live) (took pulled : List ℕ) (strays : ℕ)
+    → r' ≡ record r { deeds = r'.deeds; receives = r'.receives } → SameRequests q q'
+    → let v = seen me sizes j s r known q took pulled strays in
+    let v' = seen me sizes j' s' r' known q' took pulled strays in
+    TakesNone v v' × (v'.requests ≡ v.requests)
+cancel-takes me sizes j j' s s' r r' known q q' took pulled strays same requests = (
+  record {
+    me = refl;
+    sizes = refl;
+    known = refl;
+    took = refl;
+    pulled = refl;
+    drawn = ap (λ (u : ReceivingView). u.drawn) same;
+    streams = ap (λ (u : ReceivingView). u.streams) same;
+    bytes = λ a. ap (λ (u : ReceivingView). came_of u a) same;
+    strays = refl;
+  },
+  ap (λ (x : Live). record x { spare = 0 }) requests.requests,
+)

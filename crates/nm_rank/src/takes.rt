@@ -1,6 +1,6 @@
 //! Packets and pieces that come.
 
-ghost use Rattle.std.specs.Prelude.{◌≡◌, ◌+◌, ◌<◌, ◌≤◌, ℕ, true, None, List, ◌++◌, length, option_to_list};
+ghost use Rattle.std.specs.Prelude.{◌≡◌, ◌+◌, ◌<◌, ◌≤◌, ℕ, true, None, List, ◌++◌, length, max, option_to_list};
 ghost use Rattle.std.specs.Prelude.{IfOk, OnErr, OnOk};
 ghost use Rattle.nm_types.specs.declared.limits.TheConstants.{MAX_PACKETS, MAX_STAMP};
 ghost use Rattle.nm_history.specs.declared.events.Event.{Event};
@@ -24,7 +24,7 @@ use nm_history::Happened;
 use nm_journal::Journal;
 use nm_receiving::Receiving;
 use nm_sending::Sending;
-use nm_streams::Stream;
+use nm_streams::{Made, Stream};
 use nm_types::{Memory, Packet, Piece, What};
 
 /// Records what happened, if something did.
@@ -39,6 +39,23 @@ fn note(journal: &mut Journal, event: Option<Happened>)
     if let Some(event) = event {
         journal.add(event);
     }
+}
+
+/// Sets the clock forward to a packet's stamp, and records what the packet made happen.
+fn note_made(journal: &mut Journal, stamp: u64, made: Made)
+    requires room { 2 ≤ journal.old.spare }
+    requires in_time { journal.old.clock + 2 ≤ MAX_STAMP }
+    requires early { stamp + 2 ≤ MAX_STAMP }
+    ensures events { journal.new.events ≡ journal.old.events
+        ++ stamped (max journal.old.clock stamp)
+        (option_to_list made.first ++ option_to_list made.second) }
+    ensures clock { journal.new.clock ≡ max journal.old.clock stamp
+        + length (option_to_list made.first ++ option_to_list made.second) }
+    ensures room { journal.old.spare ≤ journal.new.spare + 2 }
+{
+    journal.raise(stamp);
+    note(journal, made.first);
+    note(journal, made.second);
 }
 
 /// Whether this rank called for a packet: it clears a message that was sent by asking, or answers a
@@ -142,9 +159,7 @@ impl Rank {
         let done_at_once = accept(&mut self.sending, &mut self.receiving, p)?;
         let made = stream.events(p, done_at_once);
         stream.learn(p);
-        self.journal.raise(p.stamp);
-        note(&mut self.journal, made.first);
-        note(&mut self.journal, made.second);
+        note_made(&mut self.journal, p.stamp, made);
         reply(&mut self.sending, p, n, done_at_once, self.journal.clock());
         self.took[p.from as usize] = p.seq + 1;
         Ok(())

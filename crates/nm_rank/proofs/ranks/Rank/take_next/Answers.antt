@@ -1,6 +1,7 @@
 use Rattle.std.proofs.Common.{◌≡◌, ◌<◌, ◌≤◌, ◌∙◌, ◌+◌, ◌++◌, ℕ, true, List, length, sym, ap, subst, rules, arith}
 use Rattle.std.specs.Prelude.{None, map, max, slice_set, option_to_list}
-use Rattle.nm_protocol.specs.Continues.{continues}
+use Rattle.nm_protocol.specs.Clock.{stamped}
+use Rattle.nm_protocol.specs.Continues.{continues, WORN_STAMP}
 use Rattle.nm_protocol.specs.Effects.{packet_events}
 use Rattle.nm_protocol.specs.Known.{Known}
 use Rattle.nm_sending.specs.Departures.{SendingView}
@@ -12,8 +13,7 @@ use Rattle.nm_rank.specs.Ranks.{RankView, IsFresh, known_from, count_of, seen}
 use Rattle.nm_rank.specs.Takes.{reply_of}
 use Rattle.nm_rank.proofs.TakeLemmas.{fields-take, known-same, known-at, known_of}
 use Rattle.nm_rank.proofs.TakenLemmas.{seen-room, known-set, takes-packet}
-use Rattle.nm_rank.proofs.AcceptedLemmas.{IsRaised, may-be-accepted, streams-low, few-put, sent-room, raised-as}
-use Rattle.nm_rank.proofs.AcceptedLemmas.{noted-twice, noted-clock, noted-later, noted-room}
+use Rattle.nm_rank.proofs.AcceptedLemmas.{may-be-accepted, streams-low, few-put, sent-room, stamp-early}
 use Rattle.nm_rank.proofs.RoomLemmas.{fields-room}
 use Rattle.nm_rank.proofs.ViewLemmas.{same-events, same-clock}
 use Rattle.nm_rank.proofs.ranks.Rank.take_next.Goals as goal
@@ -154,25 +154,19 @@ invariant_of-self-2 c = let a = c.self.inside in
     let first = c.events-made.result.first in
     let second = c.events-made.result.second in
     let start = max c.make_room.new.journal.clock p.stamp in
-    let raised = raised-as c.make_room.new.journal c.raise.new.self p.stamp c.raise.ensures in
-    subst (λ (k : List Known). AreFields a.me a.shape c.note-2.new.journal c.reply.new.sending
+    let clock = c.note_made.ensures.clock in
+    subst (λ (k : List Known). AreFields a.me a.shape c.note_made.new.journal c.reply.new.sending
     c.accept.new.receiving k c.make_room.new.requests (slice_set a.took.items p.from (p.seq + 1))
     a.pulled.items)
     (sym (known-set a.streams.items p.from c.index_mut-stream.result.now c.reserve.new.self c.learn.new.self
     p.what (length p.payload) low c.index_mut-stream.ensures.value c.reserve.ensures.same c.learn.ensures))
-    (fields-take a.me a.shape c.make_room.new.journal c.note-2.new.journal c.make_room.new.sending
+    (fields-take a.me a.shape c.make_room.new.journal c.note_made.new.journal c.make_room.new.sending
     c.accept.new.sending c.reply.new.sending a.receiving c.accept.new.receiving known
     c.make_room.new.requests a.took.items a.pulled.items p start
     (option_to_list first ++ option_to_list second) roomy within number cont'
     (made ∙ ap (λ (k : Known). packet_events k c.make_room.new.journal.events p.from p.what
     (length p.payload)) (sym here))
-    (noted-twice c.make_room.new.journal c.raise.new.self c.note.new.journal c.note-2.new.journal start
-    first second raised c.note.ensures.events c.note.ensures.clock c.note-2.ensures.events)
-    (noted-later c.make_room.new.journal c.raise.new.self c.note.new.journal c.note-2.new.journal p.stamp
-    first second raised c.note.ensures.clock c.note-2.ensures.clock)
-    c.in_ok-make_room.ensures.two
-    (noted-room c.make_room.new.journal c.raise.new.self c.note.new.journal c.note-2.new.journal start
-    first second raised c.note.ensures.room c.note-2.ensures.room)
+    c.note_made.ensures.events (omega (arith, clock)) c.in_ok-make_room.ensures.two c.note_made.ensures.room
     c.in_ok-done_at_once.ensures.accepts c.reply.ensures.same puts.me puts.popped)
 
 pub returns-clause-taken : goal.returns-clause-taken
@@ -196,17 +190,14 @@ returns-clause-taken c = let a = c.self.inside in
     let made = c.events-made.ensures a.journal.events at_once in
     let first = c.events-made.result.first in
     let second = c.events-made.result.second in
-    let start = max a.journal.clock p.stamp in
     let clock : c.make_room.new.journal.clock ≡ a.journal.clock =
     same-clock a.journal c.make_room.new.journal c.make_room.ensures.events in
-    let raised = subst (λ (k : ℕ). IsRaised c.make_room.new.journal c.raise.new.self (max k c.args.p.now.stamp))
-    clock (raised-as c.make_room.new.journal c.raise.new.self p.stamp c.raise.ensures) in
     subst (λ (v : RankView). TakesPacket c.args.p.now v
-    (seen a.me a.shape c.note-2.new.journal c.reply.new.sending c.accept.new.receiving
+    (seen a.me a.shape c.note_made.new.journal c.reply.new.sending c.accept.new.receiving
     (map known_of (slice_set a.streams.items c.args.p.now.from c.learn.new.self)) c.make_room.new.requests
     (slice_set a.took.items c.args.p.now.from (c.args.p.now.seq + 1)) a.pulled.items a.strays))
     c.self.view_is
-    (takes-packet a.me a.shape a.journal c.make_room.new.journal c.note-2.new.journal a.sending
+    (takes-packet a.me a.shape a.journal c.make_room.new.journal c.note_made.new.journal a.sending
     c.make_room.new.sending c.accept.new.sending c.reply.new.sending a.receiving c.accept.new.receiving known
     _ a.requests c.make_room.new.requests a.took.items a.pulled.items a.strays p
     (option_to_list first ++ option_to_list second) c.in_ok-done_at_once.done_at_once
@@ -216,10 +207,11 @@ returns-clause-taken c = let a = c.self.inside in
     at_once
     (c.count-n.ensures ∙ ap (λ (k : Known). k.count) (sym (known-at a.streams.items p.from
     c.index_mut-stream.result.now low c.index_mut-stream.ensures.value)))
-    (noted-twice c.make_room.new.journal c.raise.new.self c.note.new.journal c.note-2.new.journal start
-    first second raised c.note.ensures.events c.note.ensures.clock c.note-2.ensures.events)
-    (noted-clock c.make_room.new.journal c.raise.new.self c.note.new.journal c.note-2.new.journal start
-    first second raised c.note.ensures.clock c.note-2.ensures.clock)
+    (subst (λ (k : ℕ). c.note_made.new.journal.events
+    ≡ c.make_room.new.journal.events ++ stamped (max k p.stamp) (option_to_list first ++ option_to_list second))
+    clock c.note_made.ensures.events)
+    (subst (λ (k : ℕ). c.note_made.new.journal.clock
+    ≡ max k p.stamp + length (option_to_list first ++ option_to_list second)) clock c.note_made.ensures.clock)
     c.in_ok-done_at_once.ensures.accepts.outbox
     (subst (λ (t : ℕ). (called : ℕ) → called ≤ t →
     Puts (reply_of c.count-n.result p.from p.what c.in_ok-done_at_once.done_at_once called) None t
@@ -230,3 +222,16 @@ returns-clause-taken c = let a = c.self.inside in
     (known-set a.streams.items p.from c.index_mut-stream.result.now c.reserve.new.self c.learn.new.self
     p.what (length p.payload) low c.index_mut-stream.ensures.value c.reserve.ensures.same c.learn.ensures)
     number c.in_ok-done_at_once.ensures.accepts.drawn)
+
+pub note_made-requires-clause-in_time : goal.note_made-requires-clause-in_time
+note_made-requires-clause-in_time c = let a = c.self.inside in
+    let fresh = subst (λ (v : RankView). v.clock < WORN_STAMP) (sym c.self.view_is) c.requires.fresh.clock in
+    let clock = same-clock a.journal c.make_room.new.journal c.make_room.ensures.events in
+    omega (arith, fresh, clock)
+
+pub note_made-requires-clause-early : goal.note_made-requires-clause-early
+note_made-requires-clause-early c = let a = c.self.inside in
+    let p = c.args.p.now in
+    let cont = subst (λ (v : RankView). (taken_of v c.args.p.now).continued ≡ true) (sym c.self.view_is)
+    c.requires.continues in
+    stamp-early a.shape.eager (known_from (map known_of a.streams.items) p.from) a.journal.events p cont
