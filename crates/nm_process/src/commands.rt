@@ -1,12 +1,16 @@
 //! What each command does.
 
 ghost use Rattle.std.specs.Prelude.{◌≡◌, ◌≢◌, ◌<◌, ◌≤◌, ◌⊎◌, ℕ, Some, nat_eq, IfOk, IfSome, IfNone};
-ghost use Rattle.std.specs.Prelude.{OnOk, if◌then◌else◌};
+ghost use Rattle.std.specs.Prelude.{List, [], ◌∷◌, OnErr, OnOk, if◌then◌else◌};
 ghost use Rattle.std.specs.Map.{lookup};
 ghost use Rattle.nm_types.specs.declared.limits.TheConstants.{MAX_BODY, MAX_STAMP, MAX_TAG};
-ghost use Rattle.nm_types.specs.Bodies.{body_len};
+ghost use Rattle.nm_types.specs.Bodies.{body_len, bytes_of};
 ghost use Rattle.nm_history.specs.Answers.{seen as seen_lem};
+ghost use Rattle.nm_history.specs.Sends.{Sent};
+ghost use Rattle.nm_request.specs.declared.Kind.TheVariants as kind;
+ghost use Rattle.nm_rank.specs.Calls.{Starts};
 ghost use Rattle.nm_rank.specs.Ranks.{IsFresh};
+ghost use Rattle.nm_rank.specs.Sends.{event_of, next_send, offers_sent};
 ghost use Rattle.nm_process.specs.declared.steps.Step.TheVariants as step_is;
 ghost use Rattle.nm_process.specs.Names.{IsOlder};
 ghost use Rattle.nm_process.specs.Starts.{Ends, HasAnswered, HasCancelled, HasProbed};
@@ -16,7 +20,8 @@ ghost use Rattle.nm_process.specs.Starts.{HasTriedSend, HasTriedTest, HasTriedWa
 ghost use Rattle.nm_process.specs.Starts.{IsPending, answer_for as answer_for_lem};
 
 use crate::{Handle, Process, Step};
-use nm_rank::{CancelFault, Cancelled, FinishFault, Req};
+use indexmap::IndexMap;
+use nm_rank::{CancelFault, Cancelled, FinishFault, Rank, Req};
 use nm_types::{Answer, Arrival, Body, Memory, Peer, Seen, TagPick};
 
 /// What a probe shows of a message.
@@ -39,6 +44,45 @@ fn answer_for(cancelled: Cancelled) -> Answer
         Cancelled::Late => Answer::Late,
         Cancelled::Asked => Answer::Asked,
     }
+}
+
+/// The request of this name, if it has one.
+pub(crate) fn request_of_name(requests: &IndexMap<u16, Req>, q: u16) -> Option<Req>
+    ensures { result ≡ lookup (nat_eq q) requests.now.entries }
+{
+    requests.get(&q).copied()
+}
+
+/// The message of this handle, if it has one.
+fn message_of_handle(handles: &IndexMap<u16, Handle>, m: u16) -> Option<Handle>
+    ensures { result ≡ lookup (nat_eq m) handles.now.entries }
+{
+    handles.get(&m).copied()
+}
+
+/// Starts a send of an equal body.
+fn send_copy(
+    rank: &mut Rank,
+    to: u8,
+    tag: u16,
+    ctx: u8,
+    body: &Body,
+    sync: bool,
+    line: u32,
+) -> Result<Req, Memory>
+    requires to { to < rank.old.sizes.ranks }
+    requires tag { tag ≤ MAX_TAG }
+    requires short { body_len body.now ≤ MAX_BODY }
+    requires fresh { IsFresh rank.old }
+    ensures started { IfOk result (λ r. let s = next_send rank.old to tag ctx body.now sync line in
+        (bodies : Sent → List ℕ) → bodies s ≡ bytes_of body.now →
+        Starts bodies (event_of s ∷ []) (kind.Send to s.n) rank.old rank.new r) }
+    ensures offers { OnOk result (rank.new.sending.offers ≡ offers_sent rank.old.sending.offers
+        (next_send rank.old to tag ctx body.now sync line) body.now) }
+    ensures err { OnErr result (rank.new ≡ rank.old) }
+{
+    let body = body.copy()?;
+    rank.isend(to, tag, ctx, body, sync, line)
 }
 
 impl Process {
@@ -65,7 +109,7 @@ impl Process {
         if self.requests.contains_key(&q) {
             return self.answer(line, Answer::Busy);
         }
-        let request = self.rank.isend(to, tag, ctx, body.copy()?, sync, line)?;
+        let request = send_copy(&mut self.rank, to, tag, ctx, body, sync, line)?;
         self.name(q, request)?;
         self.answer(line, Answer::Started)
     }
@@ -100,7 +144,7 @@ impl Process {
         ensures places { (self.new.next ≡ self.old.next) × (self.new.at ≡ self.old.at) }
         ensures tried { IfOk result (HasTriedWait self.old self.new q line) }
     {
-        let Some(request) = self.requests.get(&q).copied() else {
+        let Some(request) = request_of_name(&self.requests, q) else {
             return self.answer(line, Answer::Null);
         };
         match self.end(q, request) {
@@ -116,7 +160,7 @@ impl Process {
         ensures ran { IfOk result (λ step. step ≡ step_is.Ran) }
         ensures tried { OnOk result (HasTriedTest self.old self.new q line) }
     {
-        let Some(request) = self.requests.get(&q).copied() else {
+        let Some(request) = request_of_name(&self.requests, q) else {
             return self.answer(line, Answer::Null);
         };
         match self.end(q, request) {
@@ -170,7 +214,7 @@ impl Process {
         ensures tried { OnOk result
             (IsNull self.old self.new q line ⊎ HasCancelled self.old self.new q line) }
     {
-        let Some(request) = self.requests.get(&q).copied() else {
+        let Some(request) = request_of_name(&self.requests, q) else {
             return self.answer(line, Answer::Null);
         };
         match self.rank.cancel(request) {
@@ -224,7 +268,7 @@ impl Process {
         if self.requests.contains_key(&q) {
             return self.answer(line, Answer::Busy);
         }
-        let Some(handle) = self.handles.get(&m).copied() else {
+        let Some(handle) = message_of_handle(&self.handles, m) else {
             return self.answer(line, Answer::Null);
         };
         let request = self.rank.imrecv(handle.from, handle.n, cap, line)?;

@@ -21,6 +21,7 @@ ghost use Rattle.nm_history.specs.Completion.{is_complete};
 ghost use Rattle.std.specs.Option.{option_map_or};
 ghost use Rattle.nm_process.specs.Work.{IsAtWork};
 
+use crate::commands::request_of_name;
 use crate::{Handle, Step};
 use indexmap::IndexMap;
 use nm_rank::{NoSuch, Rank, Req, State};
@@ -226,7 +227,7 @@ impl Process {
         ensures { result
             ≡ option_map_or (is_complete self.now.rank.events) (named self.now q) true }
     {
-        let Some(request) = self.requests.get(&q).copied() else {
+        let Some(request) = request_of_name(&self.requests, q) else {
             return true;
         };
         match self.rank.test(request) {

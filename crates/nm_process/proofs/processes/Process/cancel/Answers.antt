@@ -81,8 +81,8 @@ returns-in-Ok-clause-tried c =
     let mid : ProcessView = record a { rank = w } in
     let k = some_and (λ k. c.in-Ok.cancelled ≡ cancel_answer v.events k)
     (kind_of v.requests c.in-Some.request) c.in-Ok.ensures.answer in
-    let named : lookup (nat_eq q) p.requests.entries ≡ Some c.in-Some.request = sym c.get.ensures.value
-    ∙ sym c.in-Some.ensures in
+    let named : lookup (nat_eq q) p.requests.entries ≡ Some c.in-Some.request = sym c.request_of_name.ensures
+    ∙ c.in-Some.is in
     on_ok c.answer-in-Ok.result (λ answered.
     subst (λ (v : ProcessView). IsNull v b q c.args.line ⊎ HasCancelled v b q c.args.line) c.self.view_is
     (inr (record {

@@ -23,8 +23,8 @@ invariant_of-self-2 c =
     let x = c.in-Some.handle in
     let bodies : Sent → List ℕ = λ s. [] in
     let starts = c.in_ok-request.ensures.started bodies in
-    let named : lookup (nat_eq c.args.m) p.handles.entries ≡ Some x = sym c.get.ensures.value
-    ∙ sym c.in-Some.ensures in (
+    let named : lookup (nat_eq c.args.m) p.handles.entries ≡ Some x = sym c.message_of_handle.ensures
+    ∙ c.in-Some.is in (
       live_more p.rank.requests c.imrecv.new.self.requests c.in_ok-request.request _ starts.request
           p.requests.entries i.0,
       held_unset p.rank.events c.imrecv.new.self.events p.handles.entries c.swap_remove.new.self.entries
@@ -76,8 +76,8 @@ returns-clause-tried c =
     let places = c.in_ok-name.ensures.places in
     let free = none_found c.contains_key.result (lookup (nat_eq g.q) p.requests.entries)
     c.if-contains_key.false c.contains_key.ensures in
-    let named : lookup (nat_eq g.m) p.handles.entries ≡ Some x = sym c.get.ensures.value
-    ∙ sym c.in-Some.ensures in
+    let named : lookup (nat_eq g.m) p.handles.entries ≡ Some x = sym c.message_of_handle.ensures
+    ∙ c.in-Some.is in
     let held : IsHeld p.rank.events x = subst (λ (o : Option Handle). IfSome o (IsHeld p.rank.events))
     named (c.self.invariant.1.held g.m) in
     on_ok c.answer-2.result (λ answered.
