@@ -12,7 +12,7 @@ use Rattle.nm_process.specs.Processes.{ProcessView}
 use Rattle.nm_world.specs.declared.actors.Actor.{Actor}
 use Rattle.nm_world.specs.Actors.{AllKept, Kept, Stands, did, did_any}
 use Rattle.nm_world.specs.Idle.{AllIdle, Idle}
-use Rattle.nm_world.specs.Sweeps.{StaysUnlessWorn, Swept}
+use Rattle.nm_world.specs.Sweeps.{HasSwept, StaysUnlessWorn, Swept}
 use Rattle.nm_world.proofs.Did.{did_any_on, did_halves, did_sole}
 use Rattle.nm_world.proofs.Idle.{idle_after}
 use Rattle.nm_world.proofs.Lists.{all_zip_append, all_zip_both, all_zip_on}
@@ -81,13 +81,6 @@ module _ (n : ℕ) (lines : List Line) (f : Fabric) (r : Rings) (all : Bool) whe
       subst (λ (olds : List Actor). Swept n lines f r all p olds ys) (take_all k xs (omega (arith, past, many)))
       (subst (λ (news : List Actor). Swept n lines f r all p (take k xs) news) (take_all k ys past) s.swept)
 
--- what a crew tells after some sweeps
-pub record HasSwept (n : ℕ) (lines : List Line) (f : Fabric) (r : Rings) (p : Bool) (xs ys : List Actor)
-    : Type 0 where
-  pub kept : AllKept lines f r xs ys
-  pub moved : p ≡ did_any n xs ys
-  pub idle : p ≡ false → AllIdle lines xs ys
-
 pub swept_first : (n : ℕ) (lines : List Line) (f : Fabric) (r : Rings) (p : Bool) (xs ys : List Actor) →
     Swept n lines f r true p xs ys → HasSwept n lines f r p xs ys
 swept_first n lines f r p xs ys s = record { kept = s.kept; moved = s.moved; idle = λ none. s.idle none refl }
@@ -110,4 +103,15 @@ swept_on n lines f r all xs ys zs p q before one = record {
       all_zip_on (IdleUnlessWorn lines) (λ b c. Kept lines f r b c × StaysUnlessWorn b c) (IdleUnlessWorn lines)
       (idle_still lines f r) xs ys zs (before.idle both.0)
       (all_zip_both (Kept lines f r) StaysUnlessWorn ys zs one.kept (one.still both.1));
+}
+
+-- what two crews have told of their actors holds of all of them
+pub swept_halves : (n : ℕ) (lines : List Line) (f : Fabric) (r : Rings) (xs ys xs' ys' : List Actor) (p q : Bool) →
+    HasSwept n lines f r p xs xs' → HasSwept n lines f r q ys ys' →
+    HasSwept n lines f r (p || q) (xs ++ ys) (xs' ++ ys')
+swept_halves n lines f r xs ys xs' ys' p q one two = record {
+  kept = all_zip_append (Kept lines f r) xs ys xs' ys' one.kept two.kept;
+  moved = did_halves n lines f r xs ys xs' ys' p q one.kept two.kept one.moved two.moved;
+  idle = λ none. let both = neither p q none in
+      all_zip_append (IdleUnlessWorn lines) xs ys xs' ys' (one.idle both.0) (two.idle both.1);
 }

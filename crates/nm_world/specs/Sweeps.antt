@@ -21,3 +21,11 @@ pub record Swept (n : ℕ) (lines : List Line) (f : Fabric) (r : Rings) (all som
   pub moved : some ≡ did_any n old new
   pub still : some ≡ false → AllZip StaysUnlessWorn old new
   pub idle : some ≡ false → all ≡ true → AllIdle lines old new
+
+-- What a crew, or several, have told after some sweeps over these actors: each was kept, `some` tells
+-- whether one did something, and where none did, none could move.
+pub record HasSwept (n : ℕ) (lines : List Line) (f : Fabric) (r : Rings) (some : Bool) (old new : List Actor)
+    : Type 0 where
+  pub kept : AllKept lines f r old new
+  pub moved : some ≡ did_any n old new
+  pub idle : some ≡ false → AllIdle lines old new

@@ -6,7 +6,7 @@ ghost use Rattle.std.specs.Thread.{IsSync};
 ghost use Rattle.nm_rank.specs.Ranks.{IsFresh};
 ghost use Rattle.nm_world.specs.Actors.{AllKept, Kept, SomeGrew, Stands, did, did_any};
 ghost use Rattle.nm_world.specs.Idle.{AllIdle, Idle};
-ghost use Rattle.nm_world.specs.Sweeps.{Swept};
+ghost use Rattle.nm_world.specs.Sweeps.{HasSwept, Swept};
 
 use crate::Actor;
 use crate::bells::{Bells, place_of};
@@ -95,10 +95,8 @@ fn turns_of<R: Wait, G: Gate>(
     crew: usize,
 ) -> Result<bool, Memory>
     requires stands { All (Stands lines.now f.now r.now) actors.old }
-    ensures kept { IfOk result (λ _. AllKept lines.now f.now r.now actors.old actors.new) }
-    ensures moved { IfOk result (λ moved. moved ≡ did_any f.now.ranks actors.old actors.new) }
-    ensures idle { IfOk result (λ moved. moved ≡ false →
-        AllIdle lines.now actors.old actors.new) }
+    ensures swept { IfOk result (λ moved.
+        HasSwept f.now.ranks lines.now f.now r.now moved actors.old actors.new) }
 {
     bells.begin();
     let (mut moved, mut next) = sweep(actors, true, 0, lines, f, r, gate, bells)?;
@@ -129,10 +127,8 @@ fn halves<R: Threads + Wait + Sync, G: Gate + Sync>(
     crews: usize,
 ) -> Result<bool, Memory>
     requires stands { All (Stands lines.now f.now r.now) actors.old }
-    ensures kept { IfOk result (λ _. AllKept lines.now f.now r.now actors.old actors.new) }
-    ensures moved { IfOk result (λ moved. moved ≡ did_any f.now.ranks actors.old actors.new) }
-    ensures idle { IfOk result (λ moved. moved ≡ false →
-        AllIdle lines.now actors.old actors.new) }
+    ensures swept { IfOk result (λ moved.
+        HasSwept f.now.ranks lines.now f.now r.now moved actors.old actors.new) }
 {
     if crews <= 1 {
         return turns_of(rt, actors, lines, f, r, gate, turns, bells, first);
@@ -146,21 +142,13 @@ fn halves<R: Threads + Wait + Sync, G: Gate + Sync>(
         rt,
         &mut || -> Result<bool, Memory>
             requires { IsSync R.row × All (Stands lines.now f.now r.now) front.now }
-            ensures kept { IfOk result (λ _. AllKept lines.entry.now f.entry.now r.entry.now
-                front.entry.now front.exit.now) }
-            ensures moved { IfOk result (λ moved. moved
-                ≡ did_any f.entry.now.ranks front.entry.now front.exit.now) }
-            ensures idle { IfOk result (λ moved. moved ≡ false →
-                AllIdle lines.entry.now front.entry.now front.exit.now) }
+            ensures swept { IfOk result (λ moved. HasSwept f.entry.now.ranks lines.entry.now f.entry.now
+                r.entry.now moved front.entry.now front.exit.now) }
         { halves(rt, front, lines, f, r, gate, turns, bells, first, low) },
         &mut || -> Result<bool, Memory>
             requires { IsSync R.row × All (Stands lines.now f.now r.now) back.now }
-            ensures kept { IfOk result (λ _. AllKept lines.entry.now f.entry.now r.entry.now
-                back.entry.now back.exit.now) }
-            ensures moved { IfOk result (λ moved. moved
-                ≡ did_any f.entry.now.ranks back.entry.now back.exit.now) }
-            ensures idle { IfOk result (λ moved. moved ≡ false →
-                AllIdle lines.entry.now back.entry.now back.exit.now) }
+            ensures swept { IfOk result (λ moved. HasSwept f.entry.now.ranks lines.entry.now f.entry.now
+                r.entry.now moved back.entry.now back.exit.now) }
         { halves(rt, back, lines, f, r, gate, turns, bells, second, high) },
     );
     let one = one?;

@@ -1,4 +1,4 @@
-use Rattle.nm_world.proofs.Sweeps.{HasSwept}
+use Rattle.nm_world.specs.Sweeps.{HasSwept}
 use Rattle.nm_world.proofs.rounds.turns_of.Given as goal
 
 abbrev pub invariant-loop-made : goal.invariant-loop-made
