@@ -6,7 +6,7 @@ use nm_outside::{OpenGate, RealSink, RealSource};
 use std::io::ErrorKind;
 use std::process::ExitCode;
 use std::rt::Env;
-use std::{env, io};
+use std::{env, io, mem};
 
 const WANT_OF_MEMORY: u8 = 6;
 
@@ -31,5 +31,8 @@ fn main(rt: HostRuntime) -> ExitCode {
     let mut source = RealSource::new(rt.stdin());
     let mut sink = RealSink::new(io::writer(&rt));
     let ended = nemesis(&rt, rt.alloc(), &words, &mut source, &mut sink, &OpenGate);
-    ExitCode::from(ended.status)
+    let status = ended.status;
+    // the process ends here, so its memory goes back at once and not piece by piece
+    mem::forget(ended);
+    ExitCode::from(status)
 }

@@ -23,6 +23,7 @@ use nm_flood::flood_script;
 use nm_outside::{Gate, Source, Unread, read_up_to};
 use nm_types::{MAX_TEXT, Memory};
 use std::alloc::Global;
+use std::mem;
 use std::sync::Wait;
 use std::thread::Threads;
 
@@ -118,7 +119,10 @@ fn run_flood<R: Threads + Wait + Sync, G: Gate + Sync>(
     ensures { IfOk result (IsAnswerFor line.now ranks (flood_lines key ranks messages)) }
 {
     let script = flood_script(alloc, key, ranks, messages)?;
-    run_script(rt, alloc, line, &script, gate)
+    let answer = run_script(rt, alloc, line, &script, gate);
+    // it goes with the process, and not line by line
+    mem::forget(script);
+    answer
 }
 
 // Does what words that are taken ask for.

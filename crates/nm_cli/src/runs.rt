@@ -18,6 +18,7 @@ use nm_sure::{first_free, plain};
 use nm_types::{Memory, Script, Shape};
 use nm_world::Ways;
 use std::alloc::Global;
+use std::mem;
 use std::sync::Wait;
 use std::thread::Threads;
 
@@ -117,7 +118,12 @@ pub fn answer_script<R: Threads + Wait + Sync, G: Gate + Sync>(
     ensures { IfOk result (IsAnswerForBytes line.now bytes.now) }
 {
     match read_text(alloc, bytes) {
-        Ok(script) => answer_lines(rt, alloc, line, &script, gate),
+        Ok(script) => {
+            let answer = answer_lines(rt, alloc, line, &script, gate);
+            // it goes with the process, and not line by line
+            mem::forget(script);
+            answer
+        }
         Err(ScriptFault::Bad { line, kind }) => Ok(Response::Refused { line, kind }),
         Err(ScriptFault::Memory) => Err(Memory),
     }
