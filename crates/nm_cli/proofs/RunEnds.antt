@@ -202,6 +202,33 @@ reports_is s (Planned q r w) e line taken runs ranks lines known =
 reports_is s (Logged t r log) e line taken runs ranks lines known =
     absurd (other Runs line.mode (mode.Multi t r) (answered_for s (Logged t r log) e line taken).0 (λ r. r) runs)
 
+-- a run, or no script
+run_or_none : (status : ℕ) → (status ≡ 0) ⊎ (status ≡ 1) → (status ≡ 0) ⊎ ((status ≡ 1) ⊎ (status ≡ 3))
+run_or_none status (inl h) = inl h
+run_or_none status (inr h) = inr (inl h)
+
+pub ended_is : (s : Ending) (a : Response) → Ends s a → (line : CommandLine) → IsTaken s.words line →
+    Runs line.mode → OrFails ((s.status ≡ 0) ⊎ ((s.status ≡ 1) ⊎ (s.status ≡ 3))) s.status
+ended_is s Usage e line taken runs = absurd (e.right line taken)
+ended_is s Unread e line taken runs = or_unread s e
+ended_is s (Refused n k) e line taken runs =
+    to_fails s.status (or_unwritten s (Refused n k) e (λ h said. inr (inr h)))
+ended_is s (Ran m r w) e line taken runs =
+    to_fails s.status
+    (or_unwritten s (Ran m r w) e (λ h said. run_or_none s.status (run_status r.done s.status h)))
+ended_is s (Free n) e line taken runs =
+    absurd (other Runs line.mode mode.Plain (answered_for s (Free n) e line taken).0 (λ r. r) runs)
+ended_is s (Determinate r) e line taken runs =
+    absurd (other Runs line.mode mode.Plain (answered_for s (Determinate r) e line taken).0 (λ r. r) runs)
+ended_is s (Checked c) e line taken runs =
+    absurd (other Runs line.mode mode.Check (answered_for s (Checked c) e line taken).0 (λ r. r) runs)
+ended_is s (NoPlan n k) e line taken runs =
+    absurd (other Runs line.mode mode.Parts (answered_for s (NoPlan n k) e line taken).0 (λ r. r) runs)
+ended_is s (Planned q r w) e line taken runs =
+    absurd (other Runs line.mode mode.Parts (answered_for s (Planned q r w) e line taken).0 (λ r. r) runs)
+ended_is s (Logged t r log) e line taken runs =
+    absurd (other Runs line.mode (mode.Multi t r) (answered_for s (Logged t r log) e line taken).0 (λ r. r) runs)
+
 pub completes_is : (s : Ending) (a : Response) → Ends s a → (line : CommandLine) → IsTaken s.words line →
     Runs line.mode → (ranks : ℕ) (lines : List Line) → IsKnown line.mode s.input ranks lines →
     (Rose s.read_old s.read_new → ⊥) → (Rose s.write_old s.write_new → ⊥) →

@@ -199,6 +199,11 @@ pub fn nemesis<R: Threads + Wait + Sync, S: Source, K: Sink, G: Gate + Sync>(
         ⊎ IsReported line (S.left source.old) result.status result.run result.closed
         (K.taken sink.old) (K.taken sink.new) }
 
+    // With run, trace and flood, also where the source doesn't tell its bytes: a run, or no script.
+    ensures ended { (line : CommandLine) → IsTaken (map string_bytes words.now) line →
+        Runs line.mode → OrFails ((result.status ≡ 0) ⊎ ((result.status ≡ 1)
+        ⊎ (result.status ≡ 3))) result.status }
+
     // What is read: a script, a plan or a trace is read whole, or to the limit, no more is taken
     // however it ends, and for a flood and for several threads nothing is.
     ensures read { (line : CommandLine) → IsTaken (map string_bytes words.now) line →

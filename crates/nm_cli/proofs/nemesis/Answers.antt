@@ -6,7 +6,7 @@ use Rattle.nm_cli.proofs.EndLemmas.{Ending, Ends, usage_is, not_taken_is, unread
 use Rattle.nm_cli.proofs.EndLemmas.{not_memory, unless_unread}
 use Rattle.nm_cli.proofs.EndLemmas.{no_record_is, status_is}
 use Rattle.nm_cli.proofs.RunEnds.{refused_is, refuses_is, reported_is, reports_is, completes_is, made_is}
-use Rattle.nm_cli.proofs.RunEnds.{no_run_is}
+use Rattle.nm_cli.proofs.RunEnds.{ended_is, no_run_is}
 use Rattle.nm_cli.proofs.PlainEnds.{plain_is}
 use Rattle.nm_cli.proofs.CheckEnds.{check_is, holds_is}
 use Rattle.nm_cli.proofs.PlanEnds.{parts_is}
@@ -27,6 +27,9 @@ returns-in_default-clause-reports g c line taken runs ranks lines known = inr (i
 pub returns-in_default-clause-completes : goal.returns-in_default-clause-completes
 returns-in_default-clause-completes g c line taken runs ranks lines known read write =
     inl (c.hand_out_nothing.ensures.0)
+
+pub returns-in_default-clause-ended : goal.returns-in_default-clause-ended
+returns-in_default-clause-ended g c line taken runs = inr (inr (inr (c.hand_out_nothing.ensures.0)))
 
 pub returns-in_default-clause-read : goal.returns-in_default-clause-read
 returns-in_default-clause-read g c line taken reads = inr (inr (inr (c.hand_out_nothing.ensures.0)))
@@ -63,6 +66,10 @@ returns-in_default-text-clause-reports g c line taken runs ranks lines known =
 pub returns-in_default-text-clause-completes : goal.returns-in_default-text-clause-completes
 returns-in_default-text-clause-completes g c line taken runs ranks lines known read write =
     inl (c.hand_out_nothing-in_default-text.ensures.0)
+
+pub returns-in_default-text-clause-ended : goal.returns-in_default-text-clause-ended
+returns-in_default-text-clause-ended g c line taken runs =
+    inr (inr (inr (c.hand_out_nothing-in_default-text.ensures.0)))
 
 pub returns-in_default-text-clause-read : goal.returns-in_default-text-clause-read
 returns-in_default-text-clause-read g c line taken reads =
@@ -149,6 +156,9 @@ returns-clause-reports g c = reports_is (seen g c) c.in-Ok.answer (known g c)
 
 pub returns-clause-completes : goal.returns-clause-completes
 returns-clause-completes g c = completes_is (seen g c) c.in-Ok.answer (known g c)
+
+pub returns-clause-ended : goal.returns-clause-ended
+returns-clause-ended g c = ended_is (seen g c) c.in-Ok.answer (known g c)
 
 pub returns-clause-read : goal.returns-clause-read
 returns-clause-read g c line taken reads =
