@@ -1,2 +1,4 @@
 mod OrderLemmas
+mod PlaceLemmas
 mod ToldLemmas
+mod TraceLemmas

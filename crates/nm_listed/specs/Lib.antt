@@ -1,2 +1,4 @@
 pub mod Finding
+pub mod Places
 pub mod Texts
+pub mod Tracing

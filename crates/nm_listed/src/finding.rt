@@ -24,7 +24,7 @@ pub enum Found {
 }
 
 /// The most bytes of all reports together.
-const MAX_REPORTS: usize = 134217728;
+pub(crate) const MAX_REPORTS: usize = 134217728;
 
 /// The reports of these ends, where each is that of a run.
 fn end_texts(

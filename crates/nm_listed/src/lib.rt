@@ -8,17 +8,25 @@
 //!   reports that the script can have in these sizes, each once, in the order of a dictionary
 //!   (`AreOutcomes`).
 //! - It says of reports that they have more than 134,217,728 bytes where they have.
+//! - `trace_of` is given such ends and a number, and gives the trace of a lawful run whose report is the
+//!   one with this number among them (`IsOutcomeTrace`), or says how many they are where they are fewer.
+//! - `place_of` finds a text among others; of one that is none of them it tells the first line such
+//!   that none of them begins with it and the lines before it (`IsFirstNew`).
 //!
-//! It gives up where the record that it builds of a way to an end does not hold before the judge. No
-//! clause says how often that is.
+//! `reports` and `trace_of` give up where the record that is built of a way to an end does not hold
+//! before the judge. No clause says how often that is.
 //! # What is only tested
-//! That it never gives up on the ends of `nm_explored`, and that it succeeds with ample memory
+//! That they never give up on the ends of `nm_explored`, and that they succeed with ample memory
 //! (`.ci/outcomes`).
 #![tactic(auto)]
 
 mod finding;
+mod places;
 mod records;
 mod texts;
+mod tracing;
 
 pub use finding::{Found, reports};
+pub use places::{Place, place_of};
 pub use texts::Texts;
+pub use tracing::{Traced, trace_of};

@@ -1,8 +1,9 @@
 //! The text of an end of the search, and whether it is the report of a run.
 
-ghost use Rattle.std.specs.Prelude.{◌≡◌, IfOk, IfSome, IsTrue, is_none, map};
+ghost use Rattle.std.specs.Prelude.{◌≡◌, IfOk, IfSome, IsTrue, false, is_none, map};
 ghost use Rattle.std.specs.List.{list_all};
 ghost use Rattle.nm_report.specs.Lawful.{IsRunIn};
+ghost use Rattle.nm_report.specs.Report.{report_text};
 ghost use Rattle.nm_report.specs.Told.{told_of_rank};
 ghost use Rattle.nm_explored.specs.Ends.{told_at_end};
 ghost use Rattle.nm_outcomes.specs.Outcomes.{IsReportOfRun};
@@ -78,6 +79,62 @@ fn is_lawful(alloc: Global, script: &Script, shape: Shape, run: &RunRecord) -> R
     }
 }
 
+/// An end's report, and a run that has it.
+pub(crate) struct Witness {
+    pub text: Vec<u8>,
+    pub run: RunRecord,
+}
+
+impl Drop for Witness {
+    fn drop(self) {
+        let Witness { text: _, run: _ } = self;
+    }
+}
+
+impl Witness {
+    /// The report alone.
+    fn into_text(self) -> Vec<u8>
+        ensures { result ≡ self.text }
+    {
+        let Witness { text, run: _ } = self;
+        text
+    }
+
+    /// The report, and the run.
+    pub fn into_parts(self) -> (Vec<u8>, RunRecord)
+        ensures { result ≡ (self.text, self.run) }
+    {
+        let Witness { text, run } = self;
+        (text, run)
+    }
+}
+
+/// The report of an end and the record of its path, where that is of a run that has this report.
+pub(crate) fn end_run(
+    alloc: Global,
+    script: &Script,
+    shape: Shape,
+    end: End,
+) -> Result<Option<Witness>, Memory>
+    requires { shape.ranks ≡ script.now.ranks }
+    ensures told { IfOk result (λ found. IfSome found (λ witness.
+        witness.text.items ≡ text_of_told shape (told_at_end end))) }
+    ensures lawful { IfOk result (λ found. IfSome found (λ witness.
+        IsRunIn shape script.now.lines witness.run)) }
+    ensures reports { IfOk result (λ found. IfSome found (λ witness.
+        report_text false witness.run ≡ witness.text.items)) }
+{
+    let mut end = end;
+    let path = mem::replace(&mut end.path, Vec::new(alloc));
+    let told = mem::replace(&mut end.told, Accounts::new(alloc));
+    let text = text_of(alloc, shape, told)?;
+    let run = record_of(alloc, script.lines.as_slice(), shape, path)?;
+    if !is_lawful(alloc, script, shape, &run)? || report(alloc, &run)? != text {
+        return Ok(None);
+    }
+    Ok(Some(Witness { text, run }))
+}
+
 /// The report of an end, where the record of its path is of a run that has this report.
 pub(crate) fn end_text(
     alloc: Global,
@@ -91,13 +148,8 @@ pub(crate) fn end_text(
     ensures lawful { IfOk result (λ found. IfSome found (λ text.
         IsReportOfRun shape script.now.lines text.items)) }
 {
-    let mut end = end;
-    let path = mem::replace(&mut end.path, Vec::new(alloc));
-    let told = mem::replace(&mut end.told, Accounts::new(alloc));
-    let text = text_of(alloc, shape, told)?;
-    let run = record_of(alloc, script.lines.as_slice(), shape, path)?;
-    if !is_lawful(alloc, script, shape, &run)? || report(alloc, &run)? != text {
-        return Ok(None);
+    match end_run(alloc, script, shape, end)? {
+        Some(witness) => Ok(Some(witness.into_text())),
+        None => Ok(None),
     }
-    Ok(Some(text))
 }

@@ -1,7 +1,7 @@
 //! Lists of texts.
 
-ghost use Rattle.std.specs.Prelude.{◌≡◌, ◌≤◌, ◌↔◌, [], ◌∷◌, ◌++◌, IsTrue, OnOk, OnErr, length, map, sum_by};
-ghost use Rattle.std.specs.Prelude.{vec_len};
+ghost use Rattle.std.specs.Prelude.{◌≡◌, ◌≤◌, ◌-◌, ◌↔◌, [], ◌∷◌, ◌++◌, IsTrue, OnOk, OnErr, length, map, sum_by};
+ghost use Rattle.std.specs.Prelude.{Contains, IfOk, IfSome, None, Some, slice_get, vec_len};
 ghost use Rattle.nm_outcomes.specs.Outcomes.{AreRising};
 ghost use Rattle.nm_listed.specs.Texts.{SameTexts, bytes_of, total_length};
 
@@ -55,6 +55,22 @@ impl Texts {
         self.items.as_slice()
     }
 
+    /// The number of a text, 1 for the first.
+    pub(crate) fn number(&self, text: &[u8]) -> Option<usize>
+        ensures some { IfSome result (λ number. (1 ≤ number)
+            × (slice_get self.now (number - 1) ≡ Some text.now)) }
+        ensures none { result ≡ None → ¬ (Contains self.now text.now) }
+    {
+        number_among(self.items.as_slice(), text)
+    }
+
+    /// A list of the same texts.
+    pub(crate) fn copy(&self, alloc: Global) -> Result<Texts, Memory>
+        ensures { IfOk result (λ texts. texts ≡ self.now) }
+    {
+        copied(alloc, self.items.as_slice())
+    }
+
     /// Whether the texts together have at most so many bytes.
     pub(crate) fn is_within(&self, most: usize) -> bool
         ensures { IsTrue result ↔ (total_length self.now ≤ most) }
@@ -71,6 +87,31 @@ impl Texts {
         self.items.dedup();
         Ok(())
     }
+}
+
+/// The number of a text among others, 1 for the first.
+fn number_among(texts: &[Vec<u8>], text: &[u8]) -> Option<usize>
+    ensures some { IfSome result (λ number. (1 ≤ number)
+        × (slice_get (map bytes_of texts.now) (number - 1) ≡ Some text.now)) }
+    ensures none { result ≡ None → ¬ (Contains (map bytes_of texts.now) text.now) }
+{
+    for (at, other) in texts.iter().enumerate() {
+        if other.as_slice() == text {
+            return Some(at + 1);
+        }
+    }
+    None
+}
+
+/// A list of these texts.
+fn copied(alloc: Global, texts: &[Vec<u8>]) -> Result<Texts, Memory>
+    ensures { IfOk result (λ copy. copy ≡ map bytes_of texts.now) }
+{
+    let mut copy = Texts::new(alloc);
+    for text in texts {
+        copy.push(Vec::from_slice(alloc, text.as_slice())?)?;
+    }
+    Ok(copy)
 }
 
 /// Whether the texts together have at most so many bytes.
