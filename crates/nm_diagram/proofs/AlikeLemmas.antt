@@ -18,7 +18,7 @@ use Rattle.nm_diagram.specs.declared.arrows.Arrow.{Arrow}
 use Rattle.nm_diagram.specs.declared.frames.Frame.{Frame}
 use Rattle.nm_diagram.specs.declared.links.Link.{Link}
 use Rattle.nm_diagram.specs.Alike.{AreAlike}
-use Rattle.nm_diagram.specs.Anchors.{first_stamp}
+use Rattle.nm_diagram.specs.Anchors.{first_stamp, found_by}
 use Rattle.nm_diagram.specs.Diagrams.{Lane, Mark, all_arrows, all_lanes, all_marks, arrow_from, arrow_of, arrows_at}
 use Rattle.nm_diagram.specs.Diagrams.{arrows_of, from_lane, lane_of, marks_at, sent_by}
 use Rattle.nm_diagram.specs.Frames.{IsFrame, IsSilent, is_shown, latest, latest_of_all, shown_count}
@@ -29,7 +29,7 @@ use Rattle.nm_diagram.specs.Labels.{all_labels, labels_at}
 use Rattle.nm_diagram.specs.declared.rings.Ring.{Ring}
 use Rattle.nm_diagram.specs.Left.{all_rings, are_few, has_left, rings_among, some_left}
 use Rattle.nm_diagram.specs.Legend.{has_sign, is_told, is_used, legend_of}
-use Rattle.nm_diagram.specs.Returns.{all_returns, found_by, return_from, return_of, returns_at, returns_of}
+use Rattle.nm_diagram.specs.Returns.{all_returns, return_from, return_of, returns_at, returns_of}
 use Rattle.nm_diagram.specs.Signs.{all_signs, is_of_left, is_waits}
 
 -- being alike goes both ways

@@ -20,7 +20,7 @@ use Rattle.nm_diagram.specs.declared.signs.Sign.TheVariants as sign
 use Rattle.nm_diagram.specs.declared.anchors.Anchor.TheVariants as anchor
 use Rattle.nm_diagram.specs.declared.arrows.Arrow.{Arrow}
 use Rattle.nm_diagram.specs.declared.links.Link.{Link}
-use Rattle.nm_diagram.specs.Anchors.{first_stamp, is_anchor}
+use Rattle.nm_diagram.specs.Anchors.{first_stamp, found_by, is_anchor}
 use Rattle.nm_diagram.specs.Diagrams.{all_arrows, all_marks, arrow_from, arrow_of, arrows_at, from_lane, mark_of}
 use Rattle.nm_diagram.specs.Diagrams.{marks_at, sent_by, sign_of}
 use Rattle.nm_diagram.specs.declared.returns.Return.{Return}
@@ -28,7 +28,7 @@ use Rattle.nm_diagram.specs.declared.rings.Ring.{Ring}
 use Rattle.nm_diagram.specs.Left.{all_rings, are_few, has_left, is_left_at, ring_of, rings_among, rings_at}
 use Rattle.nm_diagram.specs.Left.{rings_of, some_left}
 use Rattle.nm_diagram.specs.Links.{all_links, link_from, link_of, links_of}
-use Rattle.nm_diagram.specs.Returns.{all_returns, found_by, return_from, return_of, returns_at}
+use Rattle.nm_diagram.specs.Returns.{all_returns, return_from, return_of, returns_at}
 use Rattle.nm_diagram.specs.Frames.{is_shown}
 use Rattle.nm_diagram.specs.Legend.{has_sign, is_told, is_used, legend_of}
 use Rattle.nm_diagram.specs.Signs.{all_signs, is_ask, is_eager, is_of_left, is_waits, tells, way_of}

@@ -9,11 +9,11 @@ use Rattle.nm_history.specs.declared.events.Happened.TheVariants.{Undone, Withdr
 use Rattle.nm_report.specs.declared.accounts.RankAccount.{RankAccount}
 use Rattle.nm_diagram.specs.declared.anchors.Anchor.{Anchor}
 use Rattle.nm_diagram.specs.declared.anchors.Anchor.TheVariants as anchor
-use Rattle.nm_diagram.specs.Anchors.{is_anchor}
+use Rattle.nm_diagram.specs.Anchors.{found_by, is_anchor}
 use Rattle.nm_diagram.specs.Diagrams.{from_lane}
 use Rattle.nm_diagram.specs.Frames.{is_shown}
 use Rattle.nm_diagram.specs.Joined.{IsAt}
-use Rattle.nm_diagram.specs.Returns.{IsOfWithdrawal, all_returns, found_by, return_from, return_of, returns_at, returns_of}
+use Rattle.nm_diagram.specs.Returns.{IsOfWithdrawal, all_returns, return_from, return_of, returns_at, returns_of}
 use Rattle.nm_facts.proofs.Lists.{all_append as both}
 use Rattle.nm_diagram.proofs.ArrowLemmas.{found_at, here, there}
 

@@ -1,9 +1,10 @@
 -- The events at which the ends of arrows and links stand.
 use Rattle.std.specs.Prelude.{ℕ, ◌==◌, ◌&&◌, Bool, false, if◌then◌else◌, List, [], ◌∷◌}
-use Rattle.std.specs.Prelude.{Option, Some, None}
+use Rattle.std.specs.Prelude.{Option, Some, None, take}
 use Rattle.nm_history.specs.declared.events.Event.{Event}
 use Rattle.nm_history.specs.declared.events.Happened.{Happened}
 use Rattle.nm_history.specs.declared.events.Happened.TheVariants as what
+use Rattle.nm_report.specs.declared.accounts.RankAccount.{RankAccount}
 use Rattle.nm_diagram.specs.declared.anchors.Anchor.{Anchor}
 use Rattle.nm_diagram.specs.declared.anchors.Anchor.TheVariants.{Send, Arrival, Receive, Recall, Withdraw, Undone}
 use Rattle.nm_diagram.specs.Frames.{is_shown}
@@ -26,3 +27,8 @@ first_stamp end anchor [] = None
 first_stamp end anchor (event ∷ events) =
     if is_shown end event && is_anchor anchor event.what then Some event.stamp
     else first_stamp end anchor events
+
+-- the stamp at which this happened at a rank: among its first 20,000 events
+abbrev pub found_by : ℕ → Anchor → Option RankAccount → Option ℕ
+found_by end anchor None = None
+found_by end anchor (Some account) = first_stamp end anchor (take 20000 account.history.events)

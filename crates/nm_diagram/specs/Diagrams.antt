@@ -1,7 +1,7 @@
 -- A space-time diagram as lists: the process lines of the ranks, a mark for each event, and an arrow for
 -- each message, after Lamport, 'Time, Clocks, and the Ordering of Events', 1978.
 use Rattle.std.specs.Prelude.{ℕ, ◌+◌, if◌then◌else◌, List, [], ◌∷◌, ◌++◌}
-use Rattle.std.specs.Prelude.{Option, Some, None, codes, decimal, flat_map, take, slice_get}
+use Rattle.std.specs.Prelude.{Option, Some, None, codes, decimal, flat_map, slice_get}
 use Rattle.std.specs.List.{join_with_byte}
 use Rattle.nm_types.specs.declared.messages.How.{How}
 use Rattle.nm_types.specs.declared.messages.How.TheVariants.{Eager, Ask}
@@ -16,7 +16,7 @@ use Rattle.nm_diagram.specs.declared.anchors.Anchor.TheVariants as anchor
 use Rattle.nm_diagram.specs.declared.arrows.Arrow.{Arrow}
 use Rattle.nm_diagram.specs.declared.signs.Sign.{Sign}
 use Rattle.nm_diagram.specs.declared.signs.Sign.TheVariants as sign
-use Rattle.nm_diagram.specs.Anchors.{first_stamp}
+use Rattle.nm_diagram.specs.Anchors.{found_by}
 use Rattle.nm_diagram.specs.Frames.{is_shown}
 
 -- what each of these ranks has in the picture, in order, of which the first has this number
@@ -81,11 +81,9 @@ arrow_from from to arrived n how None = []
 arrow_from from to arrived n how (Some sent) =
     record { from = from; sent = sent; to = to; arrived = arrived; n = n; how = how } ∷ []
 
--- the stamp at which a rank sent this message: among its first 20,000 events
+-- the stamp at which a rank sent this message
 abbrev pub sent_by : ℕ → ℕ → ℕ → Option RankAccount → Option ℕ
-sent_by end rank number None = None
-sent_by end rank number (Some sender) =
-    first_stamp end (anchor.Send rank number) (take 20000 sender.history.events)
+sent_by end rank number sender = found_by end (anchor.Send rank number) sender
 
 -- an arrival has one arrow, from its send
 abbrev pub arrow_of : ℕ → List RankAccount → ℕ → ℕ → Happened → List Arrow

@@ -1,14 +1,13 @@
 -- The way of a withdrawal: from where it is asked for to where it is done or late, and back with the answer.
 -- MPI 3.1, 3.8.4.
-use Rattle.std.specs.Prelude.{◌≡◌, ℕ, ◌⊎◌, if◌then◌else◌, List, [], ◌∷◌, Option, Some, None, flat_map, take, slice_get}
+use Rattle.std.specs.Prelude.{◌≡◌, ℕ, ◌⊎◌, if◌then◌else◌, List, [], ◌∷◌, Option, Some, None, flat_map, slice_get}
 use Rattle.nm_history.specs.declared.events.Event.{Event}
 use Rattle.nm_history.specs.declared.events.Happened.{Happened}
 use Rattle.nm_history.specs.declared.events.Happened.TheVariants.{Withdraw, Undone}
 use Rattle.nm_report.specs.declared.accounts.RankAccount.{RankAccount}
-use Rattle.nm_diagram.specs.declared.anchors.Anchor.{Anchor}
 use Rattle.nm_diagram.specs.declared.anchors.Anchor.TheVariants as anchor
 use Rattle.nm_diagram.specs.declared.returns.Return.{Return}
-use Rattle.nm_diagram.specs.Anchors.{first_stamp}
+use Rattle.nm_diagram.specs.Anchors.{found_by}
 use Rattle.nm_diagram.specs.Diagrams.{from_lane}
 use Rattle.nm_diagram.specs.Frames.{is_shown}
 use Rattle.nm_diagram.specs.Joined.{IsAt}
@@ -17,11 +16,6 @@ use Rattle.nm_diagram.specs.Joined.{IsAt}
 abbrev pub return_from : ℕ → ℕ → ℕ → ℕ → Option ℕ → List Return
 return_from from to came n None = []
 return_from from to came n (Some left) = record { from = from; left = left; to = to; came = came; n = n } ∷ []
-
--- the stamp at which this happened at a rank: among its first 20,000 events
-abbrev pub found_by : ℕ → Anchor → Option RankAccount → Option ℕ
-found_by end anchor None = None
-found_by end anchor (Some account) = first_stamp end anchor (take 20000 account.history.events)
 
 -- a withdrawal has one way, from its asking, and so has its answer, from the withdrawal
 abbrev pub return_of : ℕ → List RankAccount → ℕ → ℕ → Happened → List Return

@@ -1,10 +1,14 @@
 //! The events at which the ends of arrows and links stand.
 
-ghost use Rattle.std.specs.Prelude.{◌≡◌, take};
-ghost use Rattle.nm_diagram.specs.Anchors.{first_stamp as first_stamp_lem};
+ghost use Rattle.std.specs.Prelude.{◌≡◌, slice_get, take};
+ghost use Rattle.nm_diagram.specs.Anchors.{first_stamp as first_stamp_lem, found_by};
 ghost use Rattle.nm_diagram.specs.Anchors.{is_anchor as is_anchor_lem};
 
 use nm_history::{Event, Happened};
+use nm_report::RankAccount;
+
+/// How many of a rank's first events may hold the start of an arrow or a way that is shown.
+const MAX_SEARCHED: usize = 20000;
 
 /// What an end of an arrow or a link stands at.
 #[derive(Clone, Copy)]
@@ -58,4 +62,14 @@ pub fn front(events: &[Event], most: usize) -> &[Event]
     ensures { result.now ≡ take most events.now }
 {
     &events[..most.min(events.len())]
+}
+
+/// The stamp at which this happened at a rank, among its first events.
+pub fn find(ranks: &[RankAccount], rank: u8, end: u64, anchor: Anchor) -> Option<u64>
+    ensures { result ≡ found_by end anchor (slice_get ranks.now rank) }
+{
+    match ranks.get(rank as usize) {
+        Some(account) => first_stamp(front(account.history.as_slice(), MAX_SEARCHED), end, anchor),
+        None => None,
+    }
 }

@@ -1,15 +1,12 @@
 //! An arrow for each message, from its send to its arrival.
 
-ghost use Rattle.std.specs.Prelude.{◌≡◌, option_to_list, slice_get, take};
-ghost use Rattle.nm_diagram.specs.Diagrams.{arrow_of, arrows_at, sent_by};
+ghost use Rattle.std.specs.Prelude.{◌≡◌, option_to_list};
+ghost use Rattle.nm_diagram.specs.Diagrams.{arrow_of, arrows_at};
 
-use crate::anchors::{Anchor, first_stamp, front};
+use crate::anchors::{Anchor, find};
 use nm_history::{Event, Happened};
 use nm_report::RankAccount;
 use nm_types::How;
-
-/// How many of a rank's first events may hold the send of a message that is shown.
-const MAX_SEARCHED: usize = 20000;
 
 /// The arrow of a message: from its send at a rank to its arrival at a rank.
 #[derive(Clone, Copy)]
@@ -27,23 +24,6 @@ pub struct Arrow {
     pub how: How,
 }
 
-/// The stamp at which a rank sent this message, among its first events.
-fn find_send(ranks: &[RankAccount], from: u8, end: u64, rank: u8, number: u64) -> Option<u64>
-    ensures { result ≡ sent_by end rank number (slice_get ranks.now from) }
-{
-    match ranks.get(from as usize) {
-        Some(sender) => first_stamp(
-            front(sender.history.as_slice(), MAX_SEARCHED),
-            end,
-            Anchor::Send {
-                to: rank,
-                n: number,
-            },
-        ),
-        None => None,
-    }
-}
-
 /// The arrow of an event that is the arrival of a message, if its send is shown.
 fn arrow_to(end: u64, ranks: &[RankAccount], rank: u8, event: &Event) -> Option<Arrow>
     ensures { option_to_list result
@@ -52,7 +32,7 @@ fn arrow_to(end: u64, ranks: &[RankAccount], rank: u8, event: &Event) -> Option<
     let Happened::Arrive { a } = &event.what else {
         return None;
     };
-    match find_send(ranks, a.env.from, end, rank, a.n) {
+    match find(ranks, a.env.from, end, Anchor::Send { to: rank, n: a.n }) {
         Some(sent) => Some(Arrow {
             from: a.env.from,
             sent,

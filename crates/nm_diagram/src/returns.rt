@@ -1,14 +1,11 @@
 //! The way of a withdrawal, from where it is asked for and back with the answer.
 
-ghost use Rattle.std.specs.Prelude.{◌≡◌, option_to_list, slice_get};
-ghost use Rattle.nm_diagram.specs.Returns.{found_by, return_from, return_of, returns_at};
+ghost use Rattle.std.specs.Prelude.{◌≡◌, option_to_list};
+ghost use Rattle.nm_diagram.specs.Returns.{return_from, return_of, returns_at};
 
-use crate::anchors::{Anchor, first_stamp, front};
+use crate::anchors::{Anchor, find};
 use nm_history::{Event, Happened};
 use nm_report::RankAccount;
-
-/// How many of a rank's first events may hold the start of a way that is shown.
-const MAX_SEARCHED: usize = 20000;
 
 /// The way of a withdrawal or of its answer, from a rank to a rank.
 #[derive(Clone, Copy)]
@@ -23,16 +20,6 @@ pub struct Return {
     pub came: u64,
     /// The number of the message.
     pub n: u64,
-}
-
-/// The stamp at which this happened at a rank, among its first events.
-fn find(ranks: &[RankAccount], rank: u8, end: u64, anchor: Anchor) -> Option<u64>
-    ensures { result ≡ found_by end anchor (slice_get ranks.now rank) }
-{
-    match ranks.get(rank as usize) {
-        Some(account) => first_stamp(front(account.history.as_slice(), MAX_SEARCHED), end, anchor),
-        None => None,
-    }
 }
 
 /// The way that starts at a rank, if its start is shown.

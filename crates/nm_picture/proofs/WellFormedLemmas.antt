@@ -35,7 +35,7 @@ use Rattle.nm_picture.specs.Pictures.{shaft_text}
 use Rattle.nm_picture.specs.Pictures.{shapes_text, short, sign_text, size_text, stamp_y, tag_text, tick_count, tick_text}
 use Rattle.nm_picture.specs.Pictures.{arrows_text, marks_text, return_shaft, return_text, return_title, ring_tag}
 use Rattle.nm_picture.specs.Pictures.{ring_text, ring_title}
-use Rattle.nm_picture.specs.Pictures.{title_text, wait_label, wait_sign, wait_text, width_of, words_width}
+use Rattle.nm_picture.specs.Pictures.{title_text, use_tag, line_tag, wait_label, wait_sign, wait_text, width_of, words_width}
 use Rattle.nm_picture.specs.WellFormed.{IsWellFormed, Place, is_text, read, step}
 use Rattle.nm_picture.specs.WellFormed.Place.{Before, Between, Broken, Quoted, Opened, Reference, Value}
 
@@ -232,7 +232,7 @@ keeps-map f each (x ∷ xs) = keeps-append (f x) (flat_map f xs) (each x) (keeps
 
 -- marks
 sign-read : (frame : Frame) (mark : Mark) → read (Between svg) (sign_text frame mark) ≡ Between in_use
-unfolding sign_text
+unfolding use_tag
 sign-read frame mark =
     let last : List ℕ = codes "\" y=\"" ++ (decimal (stamp_y mark.stamp) ++ codes "\">") in
     value-sign in_use mark.sign (codes "\" x=\"" ++ (decimal (lane_x frame mark.lane) ++ last))
@@ -256,7 +256,7 @@ mark-read frame mark =
 
 -- rings
 ring_tag-read : (frame : Frame) (ring : Ring) → read (Between svg) (ring_tag frame ring) ≡ Between in_use
-unfolding ring_tag
+unfolding use_tag
 ring_tag-read frame ring =
     let last : List ℕ = codes "\" y=\"" ++ (decimal (stamp_y ring.stamp) ++ codes "\">") in
     value-number in_use (lane_x frame ring.lane) last
@@ -278,7 +278,7 @@ ring-read frame ring =
 
 -- the ways of withdrawals
 return_shaft-read : (frame : Frame) (way : Return) → read (Between svg) (return_shaft frame way) ≡ Between in_line
-unfolding return_shaft
+unfolding line_tag
 return_shaft-read frame way =
     let fourth : List ℕ = codes "\" y2=\"" ++ (decimal (stamp_y way.came) ++ codes "\">") in
     let third : List ℕ = codes "\" x2=\"" ++ (decimal (lane_x frame way.to) ++ fourth) in
@@ -301,7 +301,7 @@ return-read frame way =
 
 -- arrows
 shaft-read : (frame : Frame) (a : Arrow) → read (Between svg) (shaft_text frame a) ≡ Between in_line
-unfolding shaft_text
+unfolding line_tag
 shaft-read frame a =
     let x1 = lane_x frame a.from + aside_of a in
     let x2 = lane_x frame a.to + aside_of a in

@@ -51,16 +51,26 @@ foot_y frame = stamp_y (frame.bottom + 1)
 abbrev pub width_of : Frame → ℕ
 width_of frame = max (lane_x frame frame.lanes) 560
 
+-- the start tag of a sign at a place, by the name of the group that draws it
+unfoldable pub use_tag : List ℕ → ℕ → ℕ → List ℕ
+use_tag name x y =
+    codes "<use" ++ attributes
+    ((codes "href", codes "#" ++ name) ∷ (codes "x", decimal x) ∷ (codes "y", decimal y) ∷ []) (codes ">")
+
+-- the start tag of a line of a class, from a place to a place
+unfoldable pub line_tag : List ℕ → ℕ → ℕ → ℕ → ℕ → List ℕ
+line_tag class x1 y1 x2 y2 =
+    codes "<line" ++ attributes
+    ((codes "class", class) ∷ (codes "x1", decimal x1) ∷ (codes "y1", decimal y1) ∷ (codes "x2", decimal x2)
+    ∷ (codes "y2", decimal y2) ∷ []) (codes ">")
+
 -- a title between its tags
 unfoldable pub title_text : List ℕ → List ℕ
 title_text words = codes "<title>" ++ (escaped words ++ codes "</title>")
 
 -- the start tag of a mark: its sign, on the line of its rank, at its stamp
-unfoldable pub sign_text : Frame → Mark → List ℕ
-sign_text frame mark =
-    codes "<use" ++ attributes
-    ((codes "href", codes "#" ++ name_of mark.sign) ∷ (codes "x", decimal (lane_x frame mark.lane))
-    ∷ (codes "y", decimal (stamp_y mark.stamp)) ∷ []) (codes ">")
+abbrev pub sign_text : Frame → Mark → List ℕ
+sign_text frame mark = use_tag (name_of mark.sign) (lane_x frame mark.lane) (stamp_y mark.stamp)
 
 -- a mark with its title
 unfoldable pub mark_text : Frame → Mark → List ℕ
@@ -79,13 +89,10 @@ arrow_title arrow =
 
 -- the start tag of an arrow, from its send to its arrival: drawn otherwise where the message was sent by
 -- asking
-unfoldable pub shaft_text : Frame → Arrow → List ℕ
+abbrev pub shaft_text : Frame → Arrow → List ℕ
 shaft_text frame arrow =
-    codes "<line" ++ attributes
-    ((codes "class", how_word arrow.how) ∷ (codes "x1", decimal (lane_x frame arrow.from + aside_of arrow))
-    ∷ (codes "y1", decimal (stamp_y arrow.sent))
-    ∷ (codes "x2", decimal (lane_x frame arrow.to + aside_of arrow))
-    ∷ (codes "y2", decimal (stamp_y arrow.arrived)) ∷ []) (codes ">")
+    line_tag (how_word arrow.how) (lane_x frame arrow.from + aside_of arrow) (stamp_y arrow.sent)
+    (lane_x frame arrow.to + aside_of arrow) (stamp_y arrow.arrived)
 
 -- an arrow with its title
 unfoldable pub arrow_text : Frame → Arrow → List ℕ
@@ -126,11 +133,8 @@ unfoldable pub link_text : Frame → Link → List ℕ
 link_text frame link = bow_text frame link ++ (link_title link ++ codes "</path>\n")
 
 -- the start tag of the ring round the arrival of a message that nobody took
-unfoldable pub ring_tag : Frame → Ring → List ℕ
-ring_tag frame ring =
-    codes "<use" ++ attributes
-    ((codes "href", codes "#left") ∷ (codes "x", decimal (lane_x frame ring.lane))
-    ∷ (codes "y", decimal (stamp_y ring.stamp)) ∷ []) (codes ">")
+abbrev pub ring_tag : Frame → Ring → List ℕ
+ring_tag frame ring = use_tag (codes "left") (lane_x frame ring.lane) (stamp_y ring.stamp)
 
 -- its title: the message
 unfoldable pub ring_title : ℕ → ℕ → List ℕ
@@ -143,12 +147,9 @@ unfoldable pub ring_text : Frame → Ring → List ℕ
 ring_text frame ring = ring_tag frame ring ++ (ring_title ring.n ring.from ++ codes "</use>\n")
 
 -- the start tag of the way of a withdrawal, or of its answer
-unfoldable pub return_shaft : Frame → Return → List ℕ
+abbrev pub return_shaft : Frame → Return → List ℕ
 return_shaft frame way =
-    codes "<line" ++ attributes
-    ((codes "class", codes "back") ∷ (codes "x1", decimal (lane_x frame way.from))
-    ∷ (codes "y1", decimal (stamp_y way.left)) ∷ (codes "x2", decimal (lane_x frame way.to))
-    ∷ (codes "y2", decimal (stamp_y way.came)) ∷ []) (codes ">")
+    line_tag (codes "back") (lane_x frame way.from) (stamp_y way.left) (lane_x frame way.to) (stamp_y way.came)
 
 -- its title: the message
 unfoldable pub return_title : ℕ → List ℕ

@@ -5,6 +5,7 @@ ghost use Rattle.nm_diagram.specs.Diagrams.{all_arrows, arrows_at, arrows_of};
 ghost use Rattle.nm_picture.specs.Pictures.{arrow_text, arrow_title, aside_of, shaft_text};
 
 use crate::places::{x_of, y_of};
+use crate::tags::{Ends, push_line_tag};
 use nm_diagram::{Arrow, Frame, arrow_at};
 use nm_history::Event;
 use nm_report::{RankAccount, word_of_how};
@@ -19,20 +20,18 @@ fn aside(arrow: &Arrow) -> u64
 }
 
 /// Writes the tag of an arrow.
-#[tactic(auto, unfolding(crate::specs::Pictures::shaft_text))]
 fn push_shaft(out: &mut String, frame: &Frame, arrow: &Arrow) -> Result<(), AllocError>
     ensures ok { OnOk result
         (string_bytes out.new ≡ string_bytes out.old ++ shaft_text frame.now arrow.now) }
 {
-    let how = word_of_how(arrow.how);
-    let x1 = x_of(frame, arrow.from) + aside(arrow);
-    let x2 = x_of(frame, arrow.to) + aside(arrow);
-    let y1 = y_of(arrow.sent);
-    let y2 = y_of(arrow.arrived);
-    write!(
-        out,
-        "<line class=\"{how}\" x1=\"{x1}\" y1=\"{y1}\" x2=\"{x2}\" y2=\"{y2}\">"
-    )
+    let aside = aside(arrow);
+    let ends = Ends {
+        x1: x_of(frame, arrow.from) + aside,
+        y1: y_of(arrow.sent),
+        x2: x_of(frame, arrow.to) + aside,
+        y2: y_of(arrow.arrived),
+    };
+    push_line_tag(out, word_of_how(arrow.how), ends)
 }
 
 /// Writes the title of an arrow.

@@ -63,6 +63,59 @@ fn push_receive(out: &mut String, number: u64, tag: TagPick) -> Result<(), Alloc
     }
 }
 
+/// Writes a message, or what a receive takes, by a letter and a number, and what it is of.
+fn push_joined(
+    out: &mut String,
+    letter: &'static str,
+    number: u64,
+    word: &'static str,
+    other: u64,
+) -> Result<(), AllocError>
+    ensures ok { OnOk result (string_bytes out.new ≡ string_bytes out.old
+        ++ (letter.now ++ (decimal number ++ (word.now ++ decimal other)))) }
+{
+    write!(out, "{letter}{number}{word}{other}")
+}
+
+/// Writes whether something was done, or too late.
+fn push_done(out: &mut String, done: bool) -> Result<(), AllocError>
+    ensures ok { OnOk result
+        (string_bytes out.new ≡ string_bytes out.old ++ (codes " " ++ done_word done)) }
+{
+    write!(out, " {}", word_of_done(done))
+}
+
+/// Writes a message of or to a rank, and whether its withdrawal was done.
+fn push_withdrawal(
+    out: &mut String,
+    n: u64,
+    word: &'static str,
+    other: u64,
+    done: bool,
+) -> Result<(), AllocError>
+    ensures ok { OnOk result (string_bytes out.new ≡ string_bytes out.old
+        ++ ((codes "m" ++ (decimal n ++ (word.now ++ decimal other))) ++ (codes " " ++ done_word done))) }
+{
+    push_joined(out, "m", n, word, other)?;
+    push_done(out, done)
+}
+
+/// Writes a receive that was to be cancelled.
+fn push_cancel(out: &mut String, number: u64, done: bool) -> Result<(), AllocError>
+    ensures ok { OnOk result (string_bytes out.new ≡ string_bytes out.old
+        ++ (codes "r" ++ (decimal number ++ (codes " " ++ done_word done)))) }
+{
+    write!(out, "r{number} {}", word_of_done(done))
+}
+
+/// Writes a line of the script, and its answer.
+fn push_answer(out: &mut String, line: u32, answer: &Answer) -> Result<(), AllocError>
+    ensures ok { OnOk result (string_bytes out.new ≡ string_bytes out.old
+        ++ (decimal line ++ (codes " " ++ answer_label answer.now))) }
+{
+    write!(out, "{line} {}", word_of_answer(answer))
+}
+
 /// Writes what an event tells in short.
 fn push_short(out: &mut String, what: &Happened) -> Result<(), AllocError>
     ensures ok { OnOk result
@@ -72,17 +125,19 @@ fn push_short(out: &mut String, what: &Happened) -> Result<(), AllocError>
         Happened::Send { n, tag, len, .. } => push_message(out, *n, *tag, *len),
         Happened::Post { post, .. } => push_receive(out, post.number, post.tag),
         Happened::Arrive { a } => push_message(out, a.n, a.env.tag, a.env.len),
-        Happened::Whole { from, n } => write!(out, "m{n} of {from}"),
-        Happened::Out { to, n } => write!(out, "m{n} to {to}"),
-        Happened::Cancel { number, done } => write!(out, "r{number} {}", word_of_done(*done)),
-        Happened::Recall { to, n } => write!(out, "m{n} to {to}"),
+        Happened::Whole { from, n } => push_joined(out, "m", *n, " of ", u64::from(*from)),
+        Happened::Out { to, n } => push_joined(out, "m", *n, " to ", u64::from(*to)),
+        Happened::Cancel { number, done } => push_cancel(out, *number, *done),
+        Happened::Recall { to, n } => push_joined(out, "m", *n, " to ", u64::from(*to)),
         Happened::Withdraw { from, n, done } => {
-            write!(out, "m{n} of {from} {}", word_of_done(*done))
+            push_withdrawal(out, *n, " of ", u64::from(*from), *done)
         }
-        Happened::Undone { to, n, done } => write!(out, "m{n} to {to} {}", word_of_done(*done)),
-        Happened::Claim { from, n, .. } => write!(out, "m{n} of {from}"),
-        Happened::Match { number, n, .. } => write!(out, "r{number} m{n}"),
-        Happened::Ran { line, answer } => write!(out, "{line} {}", word_of_answer(answer)),
+        Happened::Undone { to, n, done } => {
+            push_withdrawal(out, *n, " to ", u64::from(*to), *done)
+        }
+        Happened::Claim { from, n, .. } => push_joined(out, "m", *n, " of ", u64::from(*from)),
+        Happened::Match { number, n, .. } => push_joined(out, "r", *number, " m", *n),
+        Happened::Ran { line, answer } => push_answer(out, *line, answer),
     }
 }
 

@@ -25,6 +25,7 @@ mod places;
 mod returns;
 mod rings;
 mod sheet;
+mod tags;
 mod words;
 
 pub use pictures::picture;

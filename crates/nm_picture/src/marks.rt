@@ -5,6 +5,7 @@ ghost use Rattle.nm_diagram.specs.Diagrams.{all_marks, mark_of, marks_at, marks_
 ghost use Rattle.nm_picture.specs.Pictures.{mark_text, sign_text, title_text};
 
 use crate::places::{x_of, y_of};
+use crate::tags::push_use;
 use crate::words::{push_escaped, title};
 use nm_diagram::{Frame, Sign};
 use nm_history::Event;
@@ -12,16 +13,13 @@ use nm_report::RankAccount;
 use std::alloc::{AllocError, Global};
 
 /// Writes the start tag of the mark of an event.
-#[tactic(auto, unfolding(crate::specs::Pictures::sign_text))]
 fn push_sign(out: &mut String, frame: &Frame, rank: u8, event: &Event) -> Result<(), AllocError>
     ensures ok { OnOk result
         (string_bytes out.new
         ≡ string_bytes out.old ++ sign_text frame.now (mark_of rank event.now)) }
 {
     let name = Sign::of(&event.what).name();
-    let x = x_of(frame, rank);
-    let y = y_of(event.stamp);
-    write!(out, "<use href=\"#{name}\" x=\"{x}\" y=\"{y}\">")
+    push_use(out, name, x_of(frame, rank), y_of(event.stamp))
 }
 
 /// Writes a title between its tags.

@@ -5,25 +5,24 @@ ghost use Rattle.nm_diagram.specs.Returns.{all_returns, returns_at, returns_of};
 ghost use Rattle.nm_picture.specs.Pictures.{return_shaft, return_text, return_title};
 
 use crate::places::{x_of, y_of};
+use crate::tags::{Ends, push_line_tag};
 use nm_diagram::{Frame, Return, return_at};
 use nm_history::Event;
 use nm_report::RankAccount;
 use std::alloc::AllocError;
 
 /// Writes the start tag of a way.
-#[tactic(auto, unfolding(crate::specs::Pictures::return_shaft))]
 fn push_shaft(out: &mut String, frame: &Frame, way: &Return) -> Result<(), AllocError>
     ensures ok { OnOk result
         (string_bytes out.new ≡ string_bytes out.old ++ return_shaft frame.now way.now) }
 {
-    let x1 = x_of(frame, way.from);
-    let y1 = y_of(way.left);
-    let x2 = x_of(frame, way.to);
-    let y2 = y_of(way.came);
-    write!(
-        out,
-        "<line class=\"back\" x1=\"{x1}\" y1=\"{y1}\" x2=\"{x2}\" y2=\"{y2}\">"
-    )
+    let ends = Ends {
+        x1: x_of(frame, way.from),
+        y1: y_of(way.left),
+        x2: x_of(frame, way.to),
+        y2: y_of(way.came),
+    };
+    push_line_tag(out, "back", ends)
 }
 
 /// Writes its title.

@@ -5,6 +5,7 @@ ghost use Rattle.nm_diagram.specs.Left.{all_rings, rings_among, rings_at, rings_
 ghost use Rattle.nm_picture.specs.Pictures.{ring_tag, ring_text, ring_title};
 
 use crate::places::{x_of, y_of};
+use crate::tags::push_use;
 use nm_diagram::{Frame, Ring, is_short, ring_at};
 use nm_history::Event;
 use nm_history::plain::Pair;
@@ -13,14 +14,11 @@ use nm_report::RankAccount;
 use std::alloc::{AllocError, Global};
 
 /// Writes the start tag of a ring.
-#[tactic(auto, unfolding(crate::specs::Pictures::ring_tag))]
 fn push_ring_tag(out: &mut String, frame: &Frame, ring: &Ring) -> Result<(), AllocError>
     ensures ok { OnOk result
         (string_bytes out.new ≡ string_bytes out.old ++ ring_tag frame.now ring.now) }
 {
-    let x = x_of(frame, ring.lane);
-    let y = y_of(ring.stamp);
-    write!(out, "<use href=\"#left\" x=\"{x}\" y=\"{y}\">")
+    push_use(out, "left", x_of(frame, ring.lane), y_of(ring.stamp))
 }
 
 /// Writes its title.
