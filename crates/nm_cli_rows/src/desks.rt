@@ -1,53 +1,14 @@
+//! A send and a receive by calls on a desk, and a cancel that comes too late.
+
 ghost use Rattle.std.specs.Prelude.{◌≤◌, IfOk};
 ghost use Rattle.nm_types.specs.declared.limits.TheConstants.{MAX_BODY};
 ghost use Rattle.nm_types.specs.Bodies.{body_len};
 
-use nm_multi::{Call, CallLog, Desk, Entry, Reply, multi, text};
-use nm_outside::{Gate, OpenGate, PairGate};
+use nm_multi::{Call, CallLog, Desk, Entry, Reply};
 use nm_rank::{Cancelled, Req, State};
 use nm_types::{Answer, Body, Bytes, Memory, Shape};
 use std::alloc::Global;
-use std::sync::Wait;
 use std::test::Fail;
-use std::thread::Threads;
-
-// The text of all calls of so many threads, of so many rounds each.
-fn text_of<R: Threads + Wait + Sync, G: Gate + Sync>(
-    rt: &R,
-    alloc: Global,
-    threads: u8,
-    rounds: u16,
-    gate: &G,
-) -> Result<Vec<u8>, Memory>
-    requires threads { (1 ≤ threads) × (threads ≤ 16) }
-    requires rounds { rounds ≤ 1000 }
-{
-    let log = multi(rt, alloc, threads, rounds, gate)?;
-    text(alloc, &log, threads, rounds)
-}
-
-#[test]
-fn two_threads_meet(rt: HostRuntime) -> Result<(), Fail> {
-    let gate = PairGate::new(500000000);
-    let text = text_of(&rt, rt.alloc(), 2, 1, &gate)?;
-    assert!(rt; gate.met());
-    assert!(rt; text.as_slice() == b"multi 2 1\ncalls 10\ngot 2 bytes 0\n".as_slice());
-    Ok(())
-}
-
-#[test]
-fn four_threads_make_all_their_calls(rt: HostRuntime) -> Result<(), Fail> {
-    let text = text_of(&rt, rt.alloc(), 4, 64, &OpenGate)?;
-    assert!(rt; text.as_slice() == b"multi 4 64\ncalls 1280\ngot 256 bytes 8064\n".as_slice());
-    Ok(())
-}
-
-#[test]
-fn no_round_makes_no_call(rt: HostRuntime) -> Result<(), Fail> {
-    let text = text_of(&rt, rt.alloc(), 1, 0, &OpenGate)?;
-    assert!(rt; text.as_slice() == b"multi 1 0\ncalls 0\ngot 0 bytes 0\n".as_slice());
-    Ok(())
-}
 
 // A body of this byte.
 fn body_of(alloc: Global, byte: u8) -> Result<Body, Memory>
