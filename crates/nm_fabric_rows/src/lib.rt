@@ -1,16 +1,11 @@
-//! The worked rows between ranks: queues of cells, fastboxes, ports and copy rings, by calls and in
-//! threads.
+//! The worked rows between ranks, by calls: queues of cells, ports and copy rings.
 #![tactic(auto)]
 
-#[cfg(test)]
-mod boxes;
 #[cfg(test)]
 mod ends;
 #[cfg(test)]
 mod ports;
 #[cfg(test)]
 mod queues;
-#[cfg(test)]
-mod races;
 #[cfg(test)]
 mod rings;

@@ -9,7 +9,8 @@ use nm_cells::{Fabric, Port, Queue, take_out};
 use nm_port::{poll, send};
 use nm_queue::{dequeue, enqueue};
 use nm_seats::Steps;
-use nm_types::{Packet, Path, Shape};
+use nm_types::{Account, Memory, Packet, Path, Shape};
+use std::alloc::Global;
 use std::marker::Brand;
 use std::sync::ledger::{Blank, Ledger};
 use std::test::Fail;
@@ -65,6 +66,24 @@ fn hold_first<L: Ledger>(f: &Fabric, port: &mut Port, steps: &mut Steps<L>) -> O
     Some(number)
 }
 
+// The same where the rank is to hold one.
+fn hold_where<L: Ledger>(
+    f: &Fabric,
+    port: &mut Port,
+    holds: bool,
+    steps: &mut Steps<L>,
+) -> Option<u64>
+    requires first { Owns f.now port.old × (port.old.rank ≡ 1) × (port.old.hands ≡ 0) }
+    requires nothing { (unpassed_by port.old ≡ 0) × (port.old.held ≡ None) }
+    ensures first { Owns f.now port.new × (port.new.rank ≡ 1) × (port.new.hands ≡ 0) }
+    ensures rest { HoldsTheRest port.new }
+{
+    if !holds {
+        return None;
+    }
+    hold_first(f, port, steps)
+}
+
 // The ways of so many packets of rank 0.
 fn ways<L: Ledger>(f: &Fabric, port: &mut Port, count: usize, blank: Blank) -> [Option<Path>; 6]
     requires blank { (blank.name ≡ L.name) × (blank.parts ≡ L.parts) × (0 < L.parts) }
@@ -81,33 +100,71 @@ fn ways<L: Ledger>(f: &Fabric, port: &mut Port, count: usize, blank: Blank) -> [
     ways
 }
 
-// The number of the packet that rank 1 holds first.
-fn held<L: Ledger>(f: &Fabric, port: &mut Port, blank: Blank) -> Option<u64>
-    requires blank { (blank.name ≡ L.name) × (blank.parts ≡ L.parts) × (0 < L.parts) }
-    requires first { Owns f.now port.old × (port.old.rank ≡ 1) × (port.old.hands ≡ 0) }
-    requires nothing { (unpassed_by port.old ≡ 0) × (port.old.held ≡ None) }
-    ensures first { Owns f.now port.new × (port.new.rank ≡ 1) × (port.new.hands ≡ 0) }
-    ensures rest { HoldsTheRest port.new }
-{
-    let mut steps = Steps::<L>::new(blank);
-    hold_first(f, port, &mut steps)
+// What rank 1 took.
+#[derive(Clone, Copy)]
+struct Taken {
+    // The number of the packet that it holds first, where it does.
+    held: Option<u64>,
+    // The numbers that seven polls give.
+    polled: [Option<u64>; 7],
 }
 
-// The numbers of what rank 1 polls in seven calls.
-fn numbers<L: Ledger>(f: &Fabric, port: &mut Port, blank: Blank) -> [Option<u64>; 7]
+// What rank 1 takes, where it holds the first packet of its queue, or none.
+fn take_all<L: Ledger>(f: &Fabric, port: &mut Port, holds: bool, blank: Blank) -> Taken
     requires blank { (blank.name ≡ L.name) × (blank.parts ≡ L.parts) × (0 < L.parts) }
     requires two { f.now.ranks ≡ 2 }
     requires first { Owns f.now port.old × (port.old.rank ≡ 1) × (port.old.hands ≡ 0) }
-    requires rest { HoldsTheRest port.old }
-    ensures first { Owns f.now port.new × (port.new.rank ≡ 1) × (port.new.hands ≡ 0) }
-    ensures rest { HoldsTheRest port.new }
+    requires nothing { (unpassed_by port.old ≡ 0) × (port.old.held ≡ None) }
+    ensures { Owns f.now port.new × (port.new.rank ≡ 1) × (port.new.hands ≡ 0) }
 {
     let mut steps = Steps::<L>::new(blank);
-    let mut numbers = [None; 7];
+    let held = hold_where(f, port, holds, &mut steps);
+    let mut polled = [None; 7];
     for k in 0..7 {
-        numbers[k] = poll_next(f, port, &mut steps);
+        polled[k] = poll_next(f, port, &mut steps);
     }
-    numbers
+    Taken { held, polled }
+}
+
+// What is seen of a row of calls, and where the cells are at its end.
+#[derive(Clone, Copy)]
+struct Seen {
+    sent: [Option<Path>; 6],
+    taken: Taken,
+    again: Option<Path>,
+    // How often a box was full, and the free queue empty, for what rank 0 sent first, and how many
+    // packets it had sent then.
+    counts: [u64; 3],
+    // How often the boxes of the two ranks missed, and the receive queue was empty, for rank 1.
+    misses: [u64; 3],
+    cells: Account,
+}
+
+// Rank 0 of two sends so many packets, rank 1 takes them, and rank 0 sends so many more.
+fn row(alloc: Global, cells: u8, count: usize, holds: bool, more: usize) -> Result<Seen, Memory>
+    requires { (1 ≤ cells) × (cells ≤ 64) × (count ≤ 6) × (more ≤ 6) }
+{
+    let shape = Shape::new(2, cells, 0).unwrap();
+    let (fabric, ports) = Fabric::build(alloc, shape)?;
+    let (mut a, mut b) = both(&fabric, ports, false);
+    let sent = ways::<Brand>(&fabric, &mut a, count, Blank::new(1));
+    let counts = [a.box_full(1), a.head_empty(Queue::Free(0)), a.sent(1)];
+    let taken = take_all::<Brand>(&fabric, &mut b, holds, Blank::new(1));
+    let misses = [
+        b.box_miss(0),
+        b.box_miss(1),
+        b.head_empty(Queue::Receive(1)),
+    ];
+    let again = ways::<Brand>(&fabric, &mut a, more, Blank::new(1))[0];
+    let cells = closed(alloc, fabric, a, b)?.account();
+    Ok(Seen {
+        sent,
+        taken,
+        again,
+        counts,
+        misses,
+        cells,
+    })
 }
 
 const BOX: Option<Path> = Some(Path::Box);
@@ -116,68 +173,32 @@ const CELL: Option<Path> = Some(Path::Cell);
 
 #[test]
 fn a_cell_ahead_of_the_boxes_waits_for_them(rt: HostRuntime) -> Result<(), Fail> {
-    let shape = Shape::new(2, 8, 0).unwrap();
-    let (fabric, ports) = Fabric::build(rt.alloc(), shape)?;
-    let (mut a, mut b) = both(&fabric, ports, false);
-    let sent = ways::<Brand>(&fabric, &mut a, 5, Blank::new(1));
-    let full = a.box_full(1);
-    let first = held::<Brand>(&fabric, &mut b, Blank::new(1));
-    let polled = numbers::<Brand>(&fabric, &mut b, Blank::new(1));
-    let misses = [b.box_miss(0), b.box_miss(1)];
-    let empty = b.head_empty(Queue::Receive(1));
-    let account = closed(rt.alloc(), fabric, a, b)?.account();
-    assert_eq!(rt; sent, [BOX, BOX, BOX, BOX, CELL, None]);
-    assert_eq!(rt; (full, first), (1, Some(4)));
-    let awaited = [Some(0), Some(1), Some(2), Some(3), Some(4), None, None];
-    assert_eq!(rt; polled, awaited);
-    assert_eq!(rt; (misses, empty), ([2, 2], 2));
-    assert_eq!(rt; (account.total, account.home), (16, 16));
+    let row = row(rt.alloc(), 8, 5, true, 0)?;
+    let polled = [Some(0), Some(1), Some(2), Some(3), Some(4), None, None];
+    assert_eq!(rt; row.sent, [BOX, BOX, BOX, BOX, CELL, None]);
+    assert_eq!(rt; (row.taken.held, row.taken.polled), (Some(4), polled));
+    assert_eq!(rt; (row.counts, row.misses), ([1, 0, 5], [2, 2, 2]));
+    assert_eq!(rt; (row.cells.total, row.cells.home), (16, 16));
     Ok(())
 }
 
 #[test]
 fn a_starved_port_gets_its_packet_back(rt: HostRuntime) -> Result<(), Fail> {
-    let shape = Shape::new(2, 1, 0).unwrap();
-    let (fabric, ports) = Fabric::build(rt.alloc(), shape)?;
-    let (mut a, mut b) = both(&fabric, ports, false);
-    let sent = ways::<Brand>(&fabric, &mut a, 6, Blank::new(1));
-    let counts = [a.box_full(1), a.head_empty(Queue::Free(0)), a.sent(1)];
-    let polled = numbers::<Brand>(&fabric, &mut b, Blank::new(1));
-    let again = ways::<Brand>(&fabric, &mut a, 1, Blank::new(1));
-    let all = a.sent(1);
-    let account = closed(rt.alloc(), fabric, a, b)?.account();
-    assert_eq!(rt; sent, [BOX, BOX, BOX, BOX, CELL, None]);
-    assert_eq!(rt; counts, [2, 1, 5]);
-    let awaited = [Some(0), Some(1), Some(2), Some(3), Some(4), None, None];
-    assert_eq!(rt; polled, awaited);
-    assert_eq!(rt; (again[0], all), (BOX, 6));
-    assert_eq!(rt; (account.total, account.home), (2, 2));
+    let row = row(rt.alloc(), 1, 6, false, 1)?;
+    let polled = [Some(0), Some(1), Some(2), Some(3), Some(4), None, None];
+    assert_eq!(rt; row.sent, [BOX, BOX, BOX, BOX, CELL, None]);
+    assert_eq!(rt; (row.taken.held, row.taken.polled), (None, polled));
+    assert_eq!(rt; (row.counts, row.again), ([2, 1, 5], BOX));
+    assert_eq!(rt; (row.cells.total, row.cells.home), (2, 2));
     Ok(())
 }
 
 #[test]
 fn a_long_hold_ends_in_order(rt: HostRuntime) -> Result<(), Fail> {
-    let shape = Shape::new(2, 8, 0).unwrap();
-    let (fabric, ports) = Fabric::build(rt.alloc(), shape)?;
-    let (mut a, mut b) = both(&fabric, ports, false);
-    let sent = ways::<Brand>(&fabric, &mut a, 6, Blank::new(1));
-    let first = held::<Brand>(&fabric, &mut b, Blank::new(1));
-    let polled = numbers::<Brand>(&fabric, &mut b, Blank::new(1));
-    let account = closed(rt.alloc(), fabric, a, b)?.account();
-    assert_eq!(rt; sent, [BOX, BOX, BOX, BOX, CELL, CELL]);
-    assert_eq!(rt; first, Some(4));
-    let awaited = [Some(0), Some(1), Some(2), Some(3), Some(4), Some(5), None];
-    assert_eq!(rt; polled, awaited);
-    assert_eq!(rt; (account.total, account.home), (16, 16));
-    Ok(())
-}
-
-#[test]
-fn sixty_four_ranks_have_ports(rt: HostRuntime) -> Result<(), Fail> {
-    let shape = Shape::new(64, 1, 0).unwrap();
-    let (fabric, ports) = Fabric::build(rt.alloc(), shape)?;
-    assert_eq!(rt; (fabric.ranks(), ports.len()), (64, 64));
-    let account = fabric.close(ports).account();
-    assert_eq!(rt; (account.total, account.home), (64, 64));
+    let row = row(rt.alloc(), 8, 6, true, 0)?;
+    let polled = [Some(0), Some(1), Some(2), Some(3), Some(4), Some(5), None];
+    assert_eq!(rt; row.sent, [BOX, BOX, BOX, BOX, CELL, CELL]);
+    assert_eq!(rt; (row.taken.held, row.taken.polled), (Some(4), polled));
+    assert_eq!(rt; (row.cells.total, row.cells.home), (16, 16));
     Ok(())
 }

@@ -1,4 +1,4 @@
-//! Worked calls on a queue, and two threads on one queue.
+//! Worked calls on a queue.
 
 ghost use Rattle.std.specs.Prelude.{◌≡◌, ◌+◌, ◌<◌, ◌^◌, IfSome, IfNone, None};
 ghost use Rattle.nm_types.specs.declared.limits.TheConstants.{MAX_PACKETS};
@@ -18,7 +18,6 @@ use std::alloc::Global;
 use std::marker::Brand;
 use std::sync::ledger::{Blank, Ledger};
 use std::test::Fail;
-use std::thread::{Threads, join};
 
 // A packet with no payload.
 fn packet(from: u8, seq: u64) -> Packet
@@ -50,24 +49,6 @@ fn filled<L: Ledger>(f: &Fabric, port: &mut Port, to: u8, steps: &mut Steps<L>) 
     let cell = dequeue(f, port, Queue::Free(own), steps).ok()?;
     put_in(f, port, &cell, &next);
     Some(cell)
-}
-
-// Sends so many packets to rank 1, waiting for cells to come home.
-fn send_all<L: Ledger>(f: &Fabric, mut port: Port, count: u64, blank: Blank) -> Port
-    requires blank { (blank.name ≡ L.name) × (blank.parts ≡ L.parts) × (0 < L.parts) }
-    requires owns { Owns f.now port × (port.rank ≡ 0) × (port.hands ≡ 0) × (1 < f.now.ranks) }
-    ensures { Owns f.now result × (result.rank ≡ 0) × (result.hands ≡ 0) }
-{
-    let mut steps = Steps::<L>::new(blank);
-    for _turn in 0..u64::MAX {
-        if port.sent(1) >= count || !port.has_room(1) {
-            break;
-        }
-        if let Some(cell) = filled(f, &mut port, 1, &mut steps) {
-            enqueue(f, &mut port, Queue::Receive(1), cell, &mut steps);
-        }
-    }
-    port
 }
 
 // The first two steps of an enqueue.
@@ -136,66 +117,6 @@ fn take_one<L: Ledger>(f: &Fabric, port: &mut Port, steps: &mut Steps<L>) -> Res
     let owner = cell.owner();
     enqueue(f, port, Queue::Free(owner), cell, steps);
     Ok(in_order)
-}
-
-// Takes so many packets, and answers whether they came in order.
-fn take_all<L: Ledger>(f: &Fabric, mut port: Port, count: u64, blank: Blank) -> (Port, bool)
-    requires blank { (blank.name ≡ L.name) × (blank.parts ≡ L.parts) × (0 < L.parts) }
-    requires owns { Owns f.now port × (port.rank ≡ 1) × (port.hands ≡ 0) × (port.held ≡ None) }
-    ensures { Owns f.now result.0 × (result.0.rank ≡ 1) × (result.0.hands ≡ 0) }
-{
-    let mut steps = Steps::<L>::new(blank);
-    let mut in_order = true;
-    for _turn in 0..u64::MAX {
-        if port.taken(0) >= count || !in_order {
-            break;
-        }
-        if let Ok(next) = take_one(f, &mut port, &mut steps) {
-            in_order = next;
-        }
-    }
-    (port, in_order)
-}
-
-// The same with a counter of its own.
-fn sender(f: &Fabric, port: Port, count: u64) -> Port
-    requires { Owns f.now port × (port.rank ≡ 0) × (port.hands ≡ 0) × (1 < f.now.ranks) }
-    ensures { Owns f.now result × (result.rank ≡ 0) × (result.hands ≡ 0) }
-{
-    send_all::<Brand>(f, port, count, Blank::new(1))
-}
-
-fn taker(f: &Fabric, port: Port, count: u64) -> (Port, bool)
-    requires { Owns f.now port × (port.rank ≡ 1) × (port.hands ≡ 0) × (port.held ≡ None) }
-    ensures { Owns f.now result.0 × (result.0.rank ≡ 1) × (result.0.hands ≡ 0) }
-{
-    take_all::<Brand>(f, port, count, Blank::new(1))
-}
-
-// Rank 0 sends on one thread while rank 1 takes on another.
-fn send_and_take<R: Threads + Sync>(
-    rt: &R,
-    f: &Fabric,
-    a: Port,
-    b: Port,
-    count: u64,
-) -> (Port, (Port, bool))
-    requires first { Owns f.now a × (a.rank ≡ 0) × (a.hands ≡ 0) × (1 < f.now.ranks) }
-    requires second { Owns f.now b × (b.rank ≡ 1) × (b.hands ≡ 0) × (b.held ≡ None) }
-    ensures first { Owns f.now result.0 × (result.0.rank ≡ 0) × (result.0.hands ≡ 0) }
-    ensures second { Owns f.now result.1.0 × (result.1.0.rank ≡ 1) × (result.1.0.hands ≡ 0) }
-{
-    join(
-        rt,
-        move || -> Port
-            requires { Owns f.now a × (a.rank ≡ 0) × (a.hands ≡ 0) × (1 < f.now.ranks) }
-            ensures { Owns f.entry.now result × (result.rank ≡ 0) × (result.hands ≡ 0) }
-        { sender(f, a, count) },
-        move || -> (Port, bool)
-            requires { Owns f.now b × (b.rank ≡ 1) × (b.hands ≡ 0) × (b.held ≡ None) }
-            ensures { Owns f.entry.now result.0 × (result.0.rank ≡ 1) × (result.0.hands ≡ 0) }
-        { taker(f, b, count) },
-    )
 }
 
 // Rank 0 sends a packet, between whose steps rank 1 tries to take one.
@@ -368,11 +289,9 @@ fn loose_cells_are_sent(rt: HostRuntime) -> Result<(), Fail> {
     let Some(seen) = race else {
         return Err(Fail::new("no cell"));
     };
-    assert_eq!(rt; hands, 2);
     assert_eq!(rt; seen.firsts, [true, false]);
-    assert_eq!(rt; seen.hands, 2);
+    assert_eq!(rt; [hands, seen.hands, seen.hands_after], [2, 2, 1]);
     assert_eq!(rt; seen.sent, 1);
-    assert_eq!(rt; seen.hands_after, 1);
     Ok(())
 }
 
@@ -386,31 +305,22 @@ fn misses_have_their_causes(rt: HostRuntime) -> Result<(), Fail> {
     let missing = b.link_missing(Queue::Receive(1));
     let account = closed(rt.alloc(), fabric, a, b)?.account();
     let (tries, firsts, counts) = seen.unwrap_or(([Ok(false); 5], [false; 2], [0; 3]));
-    assert!(rt; matches!(tries[0], Err(Miss::HeadEmpty)));
-    assert!(rt; matches!(tries[1], Err(Miss::HeadEmpty)));
-    assert!(rt; matches!(tries[2], Err(Miss::LinkMissing)));
-    assert!(rt; matches!(tries[3], Ok(true)));
-    assert!(rt; matches!(tries[4], Ok(true)));
-    assert_eq!(rt; firsts, [true, true]);
-    assert_eq!(rt; counts, [1, 2, 1]);
-    assert_eq!(rt; (empty, missing), (2, 1));
+    assert!(rt;
+        matches!(
+            tries,
+            [
+                Err(Miss::HeadEmpty),
+                Err(Miss::HeadEmpty),
+                Err(Miss::LinkMissing),
+                Ok(true),
+                Ok(true),
+            ]
+        )
+    );
+    assert_eq!(rt;
+        (firsts, counts, [empty, missing]),
+        ([true, true], [1, 2, 1], [2, 1])
+    );
     assert_eq!(rt; (account.total, account.home), (16, 16));
-    Ok(())
-}
-
-#[test]
-fn two_threads_share_a_queue(rt: HostRuntime) -> Result<(), Fail> {
-    let count = 5000;
-    let shape = Shape::new(2, 4, 0).unwrap();
-    let (fabric, ports) = Fabric::build(rt.alloc(), shape)?;
-    let (a, b) = both(&fabric, ports, false);
-    let (a, (b, in_order)) = send_and_take(&rt, &fabric, a, b, count);
-    let counted = (a.sent(1), b.taken(0));
-    let after = closed(rt.alloc(), fabric, a, b)?;
-    let account = after.account();
-    assert!(rt; in_order);
-    assert_eq!(rt; counted, (count, count));
-    assert_eq!(rt; (after.sent(0, 1), after.taken(0, 1)), (count, count));
-    assert_eq!(rt; (account.total, account.home), (8, 8));
     Ok(())
 }

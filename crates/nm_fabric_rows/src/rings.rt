@@ -1,4 +1,4 @@
-//! Worked calls on the rings of two ranks, and two threads on one ring.
+//! Worked calls on the rings of two ranks.
 
 ghost use Rattle.std.specs.Prelude.{◌≡◌, ◌<◌, ◌^◌, IfOk};
 ghost use Rattle.nm_copyring.specs.Ports.{IsNew, Owns};
@@ -8,12 +8,8 @@ use nm_seats::Steps;
 use nm_types::{Chunk, Memory, Piece, Shape};
 use std::alloc::Global;
 use std::marker::Brand;
-use std::sync::Wait;
 use std::sync::ledger::{Blank, Ledger};
 use std::test::Fail;
-use std::thread::{Threads, join};
-
-const PIECES: u64 = 20_000;
 
 // The rings of two ranks, with their ports.
 fn two_ranks(alloc: Global) -> Result<(Rings, RingPort, RingPort), Memory>
@@ -145,106 +141,5 @@ fn a_fifth_piece_isnt_pushed(rt: HostRuntime) -> Result<(), Fail> {
     assert_eq!(rt; pushed, (0, 5, 1));
     assert_eq!(rt; pulled, (1, 5, 1));
     assert_eq!(rt; left, 0);
-    Ok(())
-}
-
-#[test]
-fn sixty_four_ranks_have_rings(rt: HostRuntime) -> Result<(), Fail> {
-    let Ok(shape) = Shape::new(64, 1, 0) else {
-        unreachable!()
-    };
-    let (rings, ports) = Rings::build(rt.alloc(), shape)?;
-    let count = ports.len();
-    let left = rings.close(ports).left();
-    assert_eq!(rt; (count, left), (64, 0));
-    Ok(())
-}
-
-// Pushes so many pieces, each as often as its place is full.
-fn push_all<R: Wait, L: Ledger>(
-    rt: &R,
-    alloc: Global,
-    r: &Rings,
-    mut port: RingPort,
-    blank: Blank,
-) -> Result<RingPort, Memory>
-    requires blank { (blank.name ≡ L.name) × (blank.parts ≡ L.parts) × (0 < L.parts) }
-    requires owns { (r.now.ranks ≡ 2) × Owns r.now port }
-    ensures { IfOk result (λ p. Owns r.now p × (p.rank ≡ port.rank)) }
-{
-    let mut steps = Steps::<L>::new(blank);
-    for _try in rt.forever() {
-        if port.pushed(1) == PIECES {
-            return Ok(port);
-        }
-        push_next(alloc, r, &mut port, 1, &mut steps)?;
-    }
-    unreachable!()
-}
-
-fn sender<R: Wait>(rt: &R, alloc: Global, r: &Rings, port: RingPort) -> Result<RingPort, Memory>
-    requires { (r.now.ranks ≡ 2) × Owns r.now port }
-    ensures { IfOk result (λ p. Owns r.now p × (p.rank ≡ port.rank)) }
-{
-    push_all::<R, Brand>(rt, alloc, r, port, Blank::new(1))
-}
-
-// Pulls so many pieces, and counts those whose bytes spell the next number.
-fn pull_all<R: Wait, L: Ledger>(
-    rt: &R,
-    r: &Rings,
-    mut port: RingPort,
-    blank: Blank,
-) -> (RingPort, u64)
-    requires blank { (blank.name ≡ L.name) × (blank.parts ≡ L.parts) × (0 < L.parts) }
-    requires owns { (r.now.ranks ≡ 2) × Owns r.now port }
-    ensures { Owns r.now result.0 × (result.0.rank ≡ port.rank) }
-{
-    let mut steps = Steps::<L>::new(blank);
-    let mut in_order = 0;
-    for _try in rt.forever() {
-        if port.pulled(0) == PIECES {
-            return (port, in_order);
-        }
-        if pull_next(r, &mut port, 0, &mut steps) == Some(in_order) && in_order < PIECES {
-            in_order += 1;
-        }
-    }
-    unreachable!()
-}
-
-fn receiver<R: Wait>(rt: &R, r: &Rings, port: RingPort) -> (RingPort, u64)
-    requires { (r.now.ranks ≡ 2) × Owns r.now port }
-    ensures { Owns r.now result.0 × (result.0.rank ≡ port.rank) }
-{
-    pull_all::<R, Brand>(rt, r, port, Blank::new(1))
-}
-
-// The two ends at once, in two threads.
-fn at_once<R: Threads + Wait + Sync>(
-    rt: &R,
-    alloc: Global,
-    r: &Rings,
-    a: RingPort,
-    b: RingPort,
-) -> (Result<RingPort, Memory>, (RingPort, u64))
-    requires { (r.now.ranks ≡ 2) × Owns r.now a × Owns r.now b }
-    ensures sender { IfOk result.0 (λ p. Owns r.now p × (p.rank ≡ a.rank)) }
-    ensures receiver { Owns r.now result.1.0 × (result.1.0.rank ≡ b.rank) }
-{
-    join(
-        rt,
-        move || sender(rt, alloc, r, a),
-        move || receiver(rt, r, b),
-    )
-}
-
-#[test]
-fn pieces_cross_between_threads(rt: HostRuntime) -> Result<(), Fail> {
-    let (rings, a, b) = two_ranks(rt.alloc())?;
-    let (a, (b, in_order)) = at_once(&rt, rt.alloc(), &rings, a, b);
-    let a = a?;
-    let left = close_two(rt.alloc(), rings, a, b)?.left();
-    assert_eq!(rt; (in_order, left), (PIECES, 0));
     Ok(())
 }
