@@ -1,4 +1,4 @@
-//! What pairs with what, by age; many tags; claims, cancels and withdrawals.
+//! What pairs with what, by age, and many tags.
 
 ghost use Rattle.std.specs.Prelude.{◌≡◌};
 
@@ -61,52 +61,34 @@ fn cancels(rt: &impl Abort, m: &mut Matcher, number: u64) -> bool {
     m.cancel(number)
 }
 
-fn match_by_age(rt: &impl Abort, m: &mut Matcher) -> Result<(), Fail> {
+fn post_two(rt: &impl Abort, m: &mut Matcher) -> Result<(), Fail> {
     assert_eq!(rt; posts(rt, m, 0, Peer::Any, TagPick::Any)?, None);
     assert_eq!(rt; posts(rt, m, 1, Peer::One(2), TagPick::One(5))?, None);
+    Ok(())
+}
+
+fn bring_three(rt: &impl Abort, m: &mut Matcher) -> Result<(), Fail> {
     assert_eq!(rt; brings(rt, m, 2, 0, 5)?, Some(0));
     assert_eq!(rt; brings(rt, m, 2, 1, 5)?, Some(1));
     assert_eq!(rt; brings(rt, m, 3, 0, 9)?, None);
+    Ok(())
+}
+
+fn withdraw_one(rt: &impl Abort, m: &mut Matcher) {
     assert_eq!(rt; m.probe(Peer::Any, TagPick::Any, 0), Some(message(3, 0, 9)));
     assert!(rt; withdraws(rt, m, 3, 0));
     assert!(rt; !withdraws(rt, m, 3, 0));
     assert_eq!(rt; m.probe(Peer::Any, TagPick::Any, 0), None);
     assert!(rt; !cancels(rt, m, 0));
-    Ok(())
 }
 
 #[test]
 fn the_oldest_receive_and_the_oldest_message_match(rt: HostRuntime) -> Result<(), Fail> {
     let mut m = Matcher::new(rt.alloc());
-    match_by_age(&rt, &mut m)
-}
-
-fn leave_the_middle(rt: &impl Abort, m: &mut Matcher) -> Result<(), Fail> {
-    for number in 0..3u64 {
-        assert_eq!(rt; posts(rt, m, number, Peer::One(2), TagPick::One(5))?, None);
-    }
-    assert!(rt; cancels(rt, m, 1));
-    assert_eq!(rt; brings(rt, m, 2, 0, 5)?, Some(0));
-    assert_eq!(rt; brings(rt, m, 2, 1, 5)?, Some(2));
-    for n in 2..5u64 {
-        assert_eq!(rt; brings(rt, m, 2, n, 5)?, None);
-    }
-    assert!(rt; withdraws(rt, m, 2, 3));
-    assert_eq!(rt;
-        posts(rt, m, 3, Peer::Any, TagPick::Any)?,
-        Some(message(2, 2, 5))
-    );
-    assert_eq!(rt;
-        posts(rt, m, 4, Peer::Any, TagPick::One(5))?,
-        Some(message(2, 4, 5))
-    );
+    post_two(&rt, &mut m)?;
+    bring_three(&rt, &mut m)?;
+    withdraw_one(&rt, &mut m);
     Ok(())
-}
-
-#[test]
-fn what_leaves_the_middle_of_a_bucket_leaves_the_others(rt: HostRuntime) -> Result<(), Fail> {
-    let mut m = Matcher::new(rt.alloc());
-    leave_the_middle(&rt, &mut m)
 }
 
 fn post_rising(rt: &impl Abort, m: &mut Matcher) -> Result<(), Fail> {
@@ -132,34 +114,4 @@ fn each_of_many_tags_finds_its_own(rt: HostRuntime) -> Result<(), Fail> {
     let mut m = Matcher::new(rt.alloc());
     post_rising(&rt, &mut m)?;
     bring_falling(&rt, &mut m)
-}
-
-fn claim_one(rt: &impl Abort, m: &mut Matcher) -> Result<(), Fail> {
-    assert_eq!(rt; brings(rt, m, 2, 0, 5)?, None);
-    assert_eq!(rt;
-        m.claim(Peer::Any, TagPick::Any, 0)?,
-        Some(message(2, 0, 5))
-    );
-    assert_eq!(rt; m.claim(Peer::Any, TagPick::Any, 0)?, None);
-    assert!(rt; !withdraws(rt, m, 2, 0));
-    assert_eq!(rt; posts(rt, m, 0, Peer::Any, TagPick::Any)?, None);
-    Ok(())
-}
-
-fn receive_claimed(rt: &impl Abort, m: &mut Matcher) -> Result<(), Fail> {
-    assert!(rt; m.is_claimed(2, 0));
-    assert!(rt; !m.knows_post(1));
-    m.take_claimed(1, 2, 0)?;
-    assert!(rt; !m.is_claimed(2, 0));
-    assert!(rt; !cancels(rt, m, 1));
-    assert!(rt; cancels(rt, m, 0));
-    assert!(rt; cancels(rt, m, 0));
-    Ok(())
-}
-
-#[test]
-fn a_claimed_message_goes_to_its_matched_receive(rt: HostRuntime) -> Result<(), Fail> {
-    let mut m = Matcher::new(rt.alloc());
-    claim_one(&rt, &mut m)?;
-    receive_claimed(&rt, &mut m)
 }

@@ -1,0 +1,37 @@
+//! Texts of scripts: one that is read and written, and that of a small flood.
+
+use nm_flood::flood_script;
+use nm_script::{read, write};
+use std::alloc::Global;
+use std::test::Fail;
+
+const TEXT: &str = "ranks 2\n0: isend 0 1 1 0 xa1\n0: isend 1 1 2 0 xa2\n0: wait 0\n0: wait 1\n\
+    1: irecv 0 0 2 0 8\n1: wait 0\n1: irecv 0 0 1 0 8\n1: wait 0\n";
+
+// The text of the script that the bytes spell.
+fn again(alloc: Global, bytes: &[u8]) -> Result<String, Fail> {
+    let script = read(alloc, bytes)?;
+    Ok(write(alloc, &script)?)
+}
+
+#[test]
+fn a_text_is_read_and_written(rt: HostRuntime) -> Result<(), Fail> {
+    let bytes = TEXT.as_bytes();
+    assert_eq!(rt; again(rt.alloc(), bytes)?.as_str(), TEXT);
+    assert_eq!(rt;
+        again(rt.alloc(), &bytes[..bytes.len() - 1])?.as_str(),
+        TEXT
+    );
+    Ok(())
+}
+
+#[test]
+fn a_flood_has_its_text(rt: HostRuntime) -> Result<(), Fail> {
+    let script = flood_script(rt.alloc(), 5, 3, 4)?;
+    let want = "ranks 3\n0: isend 0 2 0 0 g85\n1: isend 1 0 1 1 g416\n2: isend 2 1 2 2 g747\n\
+        0: isend 3 0 3 0 g1078\n0: irecv 16387 0 3 0 2048\n1: irecv 16386 2 2 2 2048\n\
+        0: irecv 16385 1 1 1 2048\n2: irecv 16384 0 0 0 2048\n0: wait 0\n1: wait 1\n2: wait 2\n\
+        0: wait 3\n2: wait 16384\n0: wait 16385\n1: wait 16386\n0: wait 16387\n";
+    assert_eq!(rt; write(rt.alloc(), &script)?.as_str(), want);
+    Ok(())
+}
