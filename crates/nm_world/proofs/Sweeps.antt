@@ -10,8 +10,8 @@ use Rattle.nm_copyring.specs.declared.port.Rings.{Rings}
 use Rattle.nm_rank.specs.Ranks.{IsFresh}
 use Rattle.nm_process.specs.Processes.{ProcessView}
 use Rattle.nm_world.specs.declared.actors.Actor.{Actor}
-use Rattle.nm_world.specs.Actors.{AllKept, Kept, Stands, did, did_any}
-use Rattle.nm_world.specs.Idle.{AllIdle, Idle}
+use Rattle.nm_world.specs.Actors.{Kept, Stands, did}
+use Rattle.nm_world.specs.Idle.{Idle}
 use Rattle.nm_world.specs.Sweeps.{HasSwept, StaysUnlessWorn, Swept}
 use Rattle.nm_world.proofs.Did.{did_any_on, did_halves, did_sole}
 use Rattle.nm_world.proofs.Idle.{idle_after}
