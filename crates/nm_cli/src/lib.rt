@@ -14,6 +14,8 @@
 //!   `trace` and `plain` exactly where the bytes spell no script; 0 and 1 of a run exactly where
 //!   they spell one, or a flood was asked for, with the text that is due. Each yields to 5 and 6,
 //!   and those of the bytes to 4 too.
+//! - With `run`, `trace` and a flood no status but 0, 1, 3, 4, 5 and 6, also where the source
+//!   doesn't tell its bytes.
 //! - The record, at 0 and 1 and where its text could not be written: each rank's history is a run
 //!   of its commands, what it took of each sender is what was sent, all ranks are quiescent, all
 //!   cells are at home, the status is 0 exactly where no rank waits, and the closed ports carried
