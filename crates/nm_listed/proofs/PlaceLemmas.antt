@@ -1,11 +1,9 @@
 -- The line at which a text leaves all others.
 use Rattle.std.proofs.Common.{◌≡◌, ℕ, suc, ◌+◌, ◌-◌, ◌<◌, ◌≤◌, ◌⊎◌, Bool, true, false, inl, inr, refl, sym, ◌∙◌}
 use Rattle.std.proofs.Common.{ap, subst, arith, drop, drop-cons, get_or, map, take}
-use Rattle.std.specs.Prelude.{List, [], ◌∷◌, ◌++◌, Contains, Option, Some, None, cond, count_by, length, nat_eq, slice_get}
+use Rattle.std.specs.Prelude.{List, [], ◌∷◌, ◌++◌, Contains, cond, length, nat_eq}
 use Rattle.std.proofs.lemmas.List.Elements.{Contains-append_left, Contains-push, Contains-push_cases}
 use Rattle.std.proofs.lemmas.List.Recursion.{is_count_by}
-use Rattle.std.specs.Str.{bytes_eq}
-use Rattle.std.proofs.lemmas.Slice.Eq.{bytes_eq-Decides}
 use Rattle.std.proofs.lemmas.Bool.{eqb-true, eq-eqb}
 use Rattle.std.proofs.lemmas.Bool.Decides.{eqb_tells}
 use Rattle.std.proofs.lemmas.List.{map-append, take_more}
@@ -229,11 +227,3 @@ next_copied f texts i x text copy new below is same old longer =
     ∙ ap (λ (t : List ℕ). map f (take i texts) ++ t ∷ []) same
     ∙ sym (map-append f (take i texts) (x ∷ []))
     ∙ ap (map f) (ap (λ y. take i texts ++ y ∷ []) is ∙ sym (take_more texts i x below))
-
--- bytes that were compared
-pub same_bytes : {bytes other word : List ℕ} → bytes ≡ word → bytes_eq bytes other ≡ true → word ≡ other
-same_bytes {bytes = bytes} {other = other} is equal = sym is ∙ (bytes_eq-Decides bytes other).0 equal
-
-pub other_bytes : {bytes other : List ℕ} → bytes_eq bytes other ≡ false → bytes ≡ other → ⊥
-other_bytes {bytes = bytes} {other = other} differs same =
-    let equal = (bytes_eq-Decides bytes other).1 same in cc

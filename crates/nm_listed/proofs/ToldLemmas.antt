@@ -1,6 +1,6 @@
 -- What is told decides the report of a run.
-use Rattle.std.proofs.Common.{◌≡◌, ℕ, ◌*◌, ◌≤◌, ◌<◌, Bool, true, false, ◌&&◌, refl, sym, ◌∙◌, ap, subst, length, slice_index_or}
-use Rattle.std.specs.Prelude.{◌↔◌, ◌++◌, IsTrue, List, [], ◌∷◌, Contains, is_none, map, sum_by}
+use Rattle.std.proofs.Common.{◌≡◌, ℕ, ◌*◌, ◌≤◌, ◌<◌, Bool, true, false, ◌&&◌, refl, sym, ◌∙◌, ap, subst, slice_index_or}
+use Rattle.std.specs.Prelude.{◌↔◌, ◌++◌, IsTrue, List, [], ◌∷◌, Contains, is_none, map}
 use Rattle.std.specs.List.{All, list_all}
 use Rattle.std.proofs.lemmas.List.{map-append}
 use Rattle.std.proofs.lemmas.List.Elements.{All-append, All-cons, All-contains, All-nil, Contains-get_or}
@@ -14,12 +14,12 @@ use Rattle.nm_report.specs.declared.records.RunRecord.{RunRecord}
 use Rattle.nm_report.specs.Ends.{are_done, ends_of}
 use Rattle.nm_report.specs.Lawful.{IsRunIn}
 use Rattle.nm_report.specs.Report.{report_text}
-use Rattle.nm_report.specs.Told.{RankTold, told_of, told_of_rank, told_text}
+use Rattle.nm_report.specs.Told.{told_of, told_of_rank, told_text}
 use Rattle.nm_explored.specs.declared.ends.End.{End}
 use Rattle.nm_outcomes.specs.Outcomes.{AreOutcomes, AreRising, IsReportOfRun}
 use Rattle.nm_explored.specs.Ends.{TellsAll, told_at_end}
 use Rattle.nm_listed.specs.Finding.{all_home, text_of_told}
-use Rattle.nm_listed.specs.Texts.{SameTexts, total_length}
+use Rattle.nm_listed.specs.Texts.{SameTexts}
 use Rattle.nm_listed.proofs.OrderLemmas.{image_is_there}
 
 -- a report says what was told

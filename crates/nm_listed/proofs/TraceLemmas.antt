@@ -1,6 +1,6 @@
 -- Runs that have the reports of ends, and one of them that is traced.
 use Rattle.std.proofs.Common.{◌≡◌, ℕ, ◌-◌, ◌<◌, ◌≤◌, true, false, refl, sym, ◌∙◌, ap, subst, arith, get_or, length}
-use Rattle.std.specs.Prelude.{◌↔◌, List, [], ◌∷◌, ◌++◌, Contains, Option, Some, None, IfSome, map, slice_get}
+use Rattle.std.specs.Prelude.{List, [], ◌∷◌, ◌++◌, Contains, Option, Some, None, map, slice_get}
 use Rattle.std.specs.Option.{IsSome}
 use Rattle.std.specs.List.{All}
 use Rattle.std.proofs.lemmas.List.{map-append}
@@ -16,7 +16,7 @@ use Rattle.nm_report.specs.Report.{report_text}
 use Rattle.nm_explored.specs.declared.ends.End.{End}
 use Rattle.nm_explored.specs.Ends.{TellsAll, told_at_end}
 use Rattle.nm_outcomes.specs.Outcomes.{AreOutcomes, AreRising, IsReportOfRun}
-use Rattle.nm_listed.specs.Finding.{IsOutcomeTrace, IsTraced, text_of_told}
+use Rattle.nm_listed.specs.Finding.{IsTraced, text_of_told}
 use Rattle.nm_listed.specs.Texts.{SameTexts}
 use Rattle.nm_listed.specs.Tracing.{IsChosen, IsChosenTrace}
 use Rattle.nm_listed.specs.declared.tracing.Traced.{Traced}

@@ -1,6 +1,6 @@
 -- Where a given text stands among the reports that a script can have.
-use Rattle.std.specs.Prelude.{◌≡◌, ℕ, ◌+◌, ◌-◌, ◌<◌, ◌≤◌, Bool, List, [], ◌∷◌, ◌++◌, Contains, Some, count_by}
-use Rattle.std.specs.Prelude.{cond, nat_eq, slice_get}
+use Rattle.std.specs.Prelude.{◌≡◌, ℕ, ◌-◌, ◌<◌, ◌≤◌, List, ◌++◌, Contains, Some, count_by}
+use Rattle.std.specs.Prelude.{nat_eq, slice_get}
 use Rattle.nm_listed.specs.declared.places.Place.{Place}
 use Rattle.nm_listed.specs.declared.places.Place.TheVariants.{At, Not}
 

@@ -1,7 +1,6 @@
 -- How the program ends, answer by answer.
-use Rattle.std.proofs.Common.{◌≡◌, ℕ, ◌≤◌, ◌<◌, ◌⊎◌, inl, inr, List, Option, Some, None, sym, ◌∙◌, ap, subst, arith, take}
+use Rattle.std.proofs.Common.{◌≡◌, ℕ, ◌≤◌, ◌⊎◌, inl, inr, List, Option, Some, None, sym, ◌∙◌, subst, arith}
 use Rattle.std.specs.Option.{IfSome}
-use Rattle.std.specs.Prelude.{IfOk, Result, Ok, Err}
 use Rattle.nm_outside.specs.Told.{Appends, AppendsPart, Rose}
 use Rattle.nm_types.specs.declared.scripts.Line.{Line}
 use Rattle.nm_script.specs.declared.faults.Kind.{Kind}
@@ -9,14 +8,18 @@ use Rattle.nm_script.specs.Rules.{IsFirstFault}
 use Rattle.nm_script.specs.Spelled.{IsTextOf}
 use Rattle.nm_outcomes_words.specs.Words.{IsTaken, NotTaken}
 use Rattle.nm_outcomes_words.specs.declared.Asked.{Asked}
-use Rattle.nm_outcomes_top.specs.Answers.{IsAnswer, IsAnswerFor, IsAnswerOf, IsAnswerTo, IsAnswerToWords, IsSaid}
-use Rattle.nm_outcomes_top.specs.Answers.{IsSpelled}
-use Rattle.nm_outcomes_top.specs.Answers.{listed_status, read_of, status_of, text_of}
-use Rattle.nm_outcomes_top.specs.Endings.{IsListed, IsOutgrown, IsRefused, IsStatus, OrFails, OrUnwritten}
-use Rattle.nm_outcomes_top.specs.Texts.{outgrown_text, stuck_count, unread, usage}
+use Rattle.nm_outcomes_words.specs.declared.Question.TheVariants as question
+use Rattle.nm_outcomes_top.specs.Answers.{HasNoReport, IsAnswer, IsAnswerOf, IsAnswerTo}
+use Rattle.nm_outcomes_top.specs.Answers.{IsInputOf, IsSaid}
+use Rattle.nm_outcomes_top.specs.Answers.{read_of, status_of, text_of}
+use Rattle.nm_outcomes_top.specs.Endings.{GivesUp, IsOutgrown, IsRefused, IsSpoken, IsStatus, IsUnlawful, OrFails, OrUnwritten}
+use Rattle.nm_outcomes_top.specs.Endings.{Speaks}
+use Rattle.nm_outcomes_top.specs.Texts.{no_report, outgrown_text, unread, usage}
 use Rattle.nm_outcomes_top.specs.declared.answers.Response.{Response}
-use Rattle.nm_outcomes_top.specs.declared.answers.Response.TheVariants.{Listed, Outgrown, Refused, Unread, Usage}
-use Rattle.nm_outcomes_top.proofs.ListingLemmas.{low}
+use Rattle.nm_outcomes_top.specs.declared.answers.Response.TheVariants.{NoReport, Outgrown, Refused, Told, Unlawful, Unread, Usage}
+use Rattle.nm_outcomes_top.specs.declared.tellings.Telling.{Telling}
+use Rattle.nm_outcomes_top.proofs.InputLemmas.{no_input, one_input}
+use Rattle.nm_outcomes_top.proofs.TellingLemmas.{IsTold, not_told, speaks_of, spoken, telling_spoken}
 use Rattle.nm_facts.proofs.Options.{if_all as always}
 
 -- a script has no fault, and a text with a fault is no script
@@ -36,37 +39,30 @@ to_fails : {P : Type 0} (status : ℕ) → OrUnwritten P status → OrFails P st
 to_fails status (inl h) = inl h
 to_fails status (inr h) = inr (inr h)
 
-weaker : {X : Type 0} (input : Option X) (P Q : X → Type 0) → ((x : X) → P x → Q x) → IfSome input P →
+pub weaker : {X : Type 0} (input : Option X) (P Q : X → Type 0) → ((x : X) → P x → Q x) → IfSome input P →
     IfSome input Q
 weaker None P Q h p = tt
 weaker (Some x) P Q h p = h x p
 
--- a listing has status 0 or 1
-is_low : (texts : List (List ℕ)) (status : ℕ) → status ≡ listed_status texts → (status ≡ 0) ⊎ (status ≡ 1)
-is_low texts status h =
-    elim (low texts) [ inl p ↦ inl (h ∙ p) | inr p ↦ inr (h ∙ p) ]
-
--- another status is none of a listing
-not_low : (texts : List (List ℕ)) (k : ℕ) → 2 ≤ k → k ≡ listed_status texts → ⊥
-not_low texts k high h =
-    elim (low texts) [ inl p ↦ omega (arith, h, p) | inr p ↦ omega (arith, h, p) ]
-
 -- the status of an answer is one of the statuses
 status_of_answer : (answer : Response) (status : ℕ) → status ≡ status_of answer → IsStatus status
-status_of_answer Usage status h = inr (inr (inl h))
-status_of_answer Unread status h = inr (inr (inr (inr (inl h))))
-status_of_answer (Refused n k) status h = inr (inr (inr (inl h)))
-status_of_answer (Outgrown s) status h = inr (inr (inr (inr (inr (inr (inr h))))))
-status_of_answer (Listed t) status h =
-    elim (is_low t status h) [ inl none ↦ inl none | inr one ↦ inr (inl one) ]
+status_of_answer Usage status h = inr (inl h)
+status_of_answer Unread status h = inr (inr (inr (inl h)))
+status_of_answer NoReport status h = inr (inr (inr (inr (inr (inr (inl h))))))
+status_of_answer (Refused n k) status h = inr (inr (inl h))
+status_of_answer (Outgrown s) status h = inr (inr (inr (inr (inr (inr (inr (inl h)))))))
+status_of_answer Unlawful status h = inr (inr (inr (inr (inr (inr (inr (inr h)))))))
+status_of_answer (Told t) status h = inl (subst IsSpoken (sym h) (telling_spoken t))
 
 -- no answer has status 5
 no_five : (answer : Response) → 5 ≡ status_of answer → ⊥
 no_five Usage h = cc
 no_five Unread h = cc
+no_five NoReport h = cc
 no_five (Refused n k) h = cc
 no_five (Outgrown s) h = cc
-no_five (Listed t) h = not_low t 5 (omega arith) h
+no_five Unlawful h = cc
+no_five (Told t) h = not_told t 5 (inl (omega arith, omega arith)) h
 
 module _ {words : List (List ℕ)} {input before after : Option (List ℕ)} {old new : ℕ} {fails : Type 0} where
   -- a status that is none of 5 was said whole
@@ -84,127 +80,240 @@ module _ {words : List (List ℕ)} {input before after : Option (List ℕ)} {old
       status ≡ 2 → NotTaken words × Appends before after usage
   usage_is Usage status e h = (e.right, (whole e 2 h (λ f. cc)).1)
   usage_is Unread status e h = absurd (omega (arith, (whole e 2 h (λ f. cc)).0))
+  usage_is NoReport status e h = absurd (omega (arith, (whole e 2 h (λ f. cc)).0))
   usage_is (Refused n k) status e h = absurd (omega (arith, (whole e 2 h (λ f. cc)).0))
   usage_is (Outgrown s) status e h = absurd (omega (arith, (whole e 2 h (λ f. cc)).0))
-  usage_is (Listed t) status e h = absurd (not_low t 2 (omega arith) (whole e 2 h (λ f. cc)).0)
+  usage_is Unlawful status e h = absurd (omega (arith, (whole e 2 h (λ f. cc)).0))
+  usage_is (Told t) status e h = absurd (not_told t 2 (inl (omega arith, omega arith)) (whole e 2 h (λ f. cc)).0)
 
   pub not_taken_is : (answer : Response) (status : ℕ) → Ends words input old new before after fails answer status →
       NotTaken words → OrUnwritten (status ≡ 2) status
   not_taken_is Usage status e none = or_fails e (λ h. h)
   not_taken_is Unread status e none = absurd (none e.right.asked e.right.taken)
+  not_taken_is NoReport status e none = absurd (none e.right.asked e.right.taken)
   not_taken_is (Refused n k) status e none = absurd (none e.right.asked e.right.taken)
   not_taken_is (Outgrown s) status e none = absurd (none e.right.asked e.right.taken)
-  not_taken_is (Listed t) status e none = absurd (none e.right.asked e.right.taken)
+  not_taken_is Unlawful status e none = absurd (none e.right.asked e.right.taken)
+  not_taken_is (Told t) status e none = absurd (none e.right.asked e.right.taken)
 
   pub refused_is : (answer : Response) (status : ℕ) → Ends words input old new before after fails answer status →
-      status ≡ 3 → IfSome input (IsRefused before after)
-  refused_is Usage status e h = absurd (omega (arith, (whole e 3 h (λ f. cc)).0))
-  refused_is Unread status e h = absurd (omega (arith, (whole e 3 h (λ f. cc)).0))
-  refused_is (Refused n k) status e h =
+      (asked : Asked) → IsTaken words asked → status ≡ 3 → IfSome input (IsRefused asked before after)
+  refused_is Usage status e asked taken h = absurd (omega (arith, (whole e 3 h (λ f. cc)).0))
+  refused_is Unread status e asked taken h = absurd (omega (arith, (whole e 3 h (λ f. cc)).0))
+  refused_is NoReport status e asked taken h = absurd (omega (arith, (whole e 3 h (λ f. cc)).0))
+  refused_is (Refused n k) status e asked taken h =
       let said = (whole e 3 h (λ f. cc)).1 in
-      weaker input _ _ (λ bytes first. record { line = n; kind = k; first = first; said = said }) e.right.right
-  refused_is (Outgrown s) status e h = absurd (omega (arith, (whole e 3 h (λ f. cc)).0))
-  refused_is (Listed t) status e h = absurd (not_low t 3 (omega arith) (whole e 3 h (λ f. cc)).0)
+      let same : e.right.asked ≡ asked = e.one e.right.asked asked e.right.taken taken in
+      subst (λ (a : Asked). IfSome input (IsRefused a before after)) same
+      (weaker input _ _ (λ bytes p. record {
+        script = p.script;
+        report = p.report;
+        input = p.input;
+        line = n;
+        kind = k;
+        first = p.right;
+        said = said;
+      }) e.right.right)
+  refused_is (Outgrown s) status e asked taken h = absurd (omega (arith, (whole e 3 h (λ f. cc)).0))
+  refused_is Unlawful status e asked taken h = absurd (omega (arith, (whole e 3 h (λ f. cc)).0))
+  refused_is (Told t) status e asked taken h =
+      absurd (not_told t 3 (inl (omega arith, omega arith)) (whole e 3 h (λ f. cc)).0)
 
   -- a source that failed was answered by 4 or 5
   unread_fails : {P : Type 0} {status : ℕ} → Ends words input old new before after fails Unread status →
       OrFails P status
   unread_fails e = elim e.said [ inl p ↦ inr (inl p.0) | inr p ↦ inr (inr (inl p.0)) ]
 
+  -- what the bytes are, for the words that are taken
+  right_of : {answer : Response} {status : ℕ} → Ends words input old new before after fails answer status →
+      (asked : Asked) → IsTaken words asked → (other : Asked) → IsTaken words other →
+      IsAnswerOf other input old new answer → IsAnswerOf asked input old new answer
+  right_of {answer} e asked taken other also right =
+      subst (λ (a : Asked). IsAnswerOf a input old new answer) (e.one other asked also taken) right
+
   pub refuses_is : NotBoth → (answer : Response) (status : ℕ) →
       Ends words input old new before after fails answer status → (asked : Asked) → IsTaken words asked →
-      IfSome input (λ bytes. (line : ℕ) (kind : Kind) → IsFirstFault (read_of bytes) line kind →
+      IfSome input (λ bytes. (script report : List ℕ) (line : ℕ) (kind : Kind) →
+      IsInputOf asked.question (read_of asked.question bytes) script report → IsFirstFault script line kind →
       OrFails (status ≡ 3) status)
   refuses_is law Usage status e asked taken = absurd (e.right asked taken)
   refuses_is law Unread status e asked taken =
-      always input _ (λ bytes line kind first. unread_fails e)
+      always input _ (λ bytes script report line kind parts first. unread_fails e)
+  refuses_is law NoReport status e asked taken =
+      weaker input _ _ (λ bytes none script report line kind parts first.
+      absurd (no_input asked.question none.0 _ script report none.1 parts))
+      (right_of {answer = NoReport} e asked taken e.right.asked e.right.taken e.right.right)
   refuses_is law (Refused n k) status e asked taken =
-      always input _ (λ bytes line kind first. to_fails status (or_fails e (λ h. h)))
+      always input _ (λ bytes script report line kind parts first. to_fails status (or_fails e (λ h. h)))
   refuses_is law (Outgrown s) status e asked taken =
-      weaker input _ _ (λ bytes right line kind first.
-      absurd (law (read_of bytes) right.ranks line right.lines kind right.spelled first)) e.right.right
-  refuses_is law (Listed t) status e asked taken =
-      weaker input _ _ (λ bytes right line kind first.
-      absurd (law (read_of bytes) right.ranks line right.lines kind right.spelled first)) e.right.right
+      weaker input _ _ (λ bytes p script report line kind parts first.
+      absurd (law script p.right.ranks line p.right.lines kind
+      (subst (λ (text : List ℕ). IsTextOf text p.right.ranks p.right.lines)
+      (one_input asked.question _ p.script p.report script report p.input parts).0 p.right.spelled) first))
+      (right_of {answer = Outgrown s} e asked taken e.right.asked e.right.taken e.right.right)
+  refuses_is law Unlawful status e asked taken =
+      weaker input _ _ (λ bytes p script report line kind parts first.
+      absurd (law script p.right.ranks line p.right.lines kind
+      (subst (λ (text : List ℕ). IsTextOf text p.right.ranks p.right.lines)
+      (one_input asked.question _ p.script p.report script report p.input parts).0 p.right.spelled) first))
+      (right_of {answer = Unlawful} e asked taken e.right.asked e.right.taken e.right.right)
+  refuses_is law (Told t) status e asked taken =
+      weaker input _ _ (λ bytes p script report line kind parts first.
+      absurd (law script p.right.ranks line p.right.lines kind
+      (subst (λ (text : List ℕ). IsTextOf text p.right.ranks p.right.lines)
+      (one_input asked.question _ p.script p.report script report p.input parts).0 p.right.spelled) first))
+      (right_of {answer = Told t} e asked taken e.right.asked e.right.taken e.right.right)
 
-  pub lists_is : NotBoth → (answer : Response) (status : ℕ) →
+  -- what is told has a status of the question
+  told_speaks : (t : Telling) (status : ℕ) → Ends words input old new before after fails (Told t) status →
+      (asked : Asked) → IfSome input (λ bytes. IsAnswerTo asked (read_of asked.question bytes) (Told t)) →
+      IfSome input (λ bytes. (script report : List ℕ) (ranks : ℕ) (lines : List Line) →
+      IsInputOf asked.question (read_of asked.question bytes) script report → IsTextOf script ranks lines →
+      OrFails (Speaks asked.question status ⊎ GivesUp status) status)
+  told_speaks t status e asked right =
+      weaker input _ _ (λ bytes p script report ranks lines parts spelled.
+      to_fails status (or_fails e (λ h. inl (subst (Speaks asked.question) (sym h)
+      (speaks_of asked.question _ p.right.lines p.report t p.right.right))))) right
+
+  pub tells_is : NotBoth → (answer : Response) (status : ℕ) →
       Ends words input old new before after fails answer status → (asked : Asked) → IsTaken words asked →
-      IfSome input (λ bytes. (ranks : ℕ) (lines : List Line) → IsTextOf (read_of bytes) ranks lines →
-      OrFails (((status ≡ 0) ⊎ (status ≡ 1)) ⊎ (status ≡ 10)) status)
-  lists_is law Usage status e asked taken = absurd (e.right asked taken)
-  lists_is law Unread status e asked taken =
-      always input _ (λ bytes ranks lines spelled. unread_fails e)
-  lists_is law (Refused n k) status e asked taken =
-      weaker input _ _ (λ bytes first ranks lines spelled.
-      absurd (law (read_of bytes) ranks n lines k spelled first)) e.right.right
-  lists_is law (Outgrown s) status e asked taken =
-      always input _ (λ bytes ranks lines spelled. to_fails status (or_fails e (λ h. inr h)))
-  lists_is law (Listed t) status e asked taken =
-      always input _ (λ bytes ranks lines spelled.
-      to_fails status (or_fails e (λ h. inl (is_low t status h))))
+      IfSome input (λ bytes. (script report : List ℕ) (ranks : ℕ) (lines : List Line) →
+      IsInputOf asked.question (read_of asked.question bytes) script report → IsTextOf script ranks lines →
+      OrFails (Speaks asked.question status ⊎ GivesUp status) status)
+  tells_is law Usage status e asked taken = absurd (e.right asked taken)
+  tells_is law Unread status e asked taken =
+      always input _ (λ bytes script report ranks lines parts spelled. unread_fails e)
+  tells_is law NoReport status e asked taken =
+      weaker input _ _ (λ bytes none script report ranks lines parts spelled.
+      absurd (no_input asked.question none.0 _ script report none.1 parts))
+      (right_of {answer = NoReport} e asked taken e.right.asked e.right.taken e.right.right)
+  tells_is law (Refused n k) status e asked taken =
+      weaker input _ _ (λ bytes p script report ranks lines parts spelled.
+      absurd (law script ranks n lines k spelled
+      (subst (λ (text : List ℕ). IsFirstFault text n k)
+      (one_input asked.question _ p.script p.report script report p.input parts).0 p.right)))
+      (right_of {answer = Refused n k} e asked taken e.right.asked e.right.taken e.right.right)
+  tells_is law (Outgrown s) status e asked taken =
+      always input _ (λ bytes script report ranks lines parts spelled. to_fails status (or_fails e (λ h. inr (inl h))))
+  tells_is law Unlawful status e asked taken =
+      always input _ (λ bytes script report ranks lines parts spelled.
+      to_fails status (or_fails e (λ h. inr (inr h))))
+  tells_is law (Told t) status e asked taken =
+      told_speaks t status e asked
+      (right_of {answer = Told t} e asked taken e.right.asked e.right.taken e.right.right)
 
-  -- a status of a listing was said whole
-  whole_low : {answer : Response} {status : ℕ} → Ends words input old new before after fails answer status →
-      (status ≡ 0) ⊎ (status ≡ 1) → (status ≡ status_of answer) × Appends before after (text_of answer)
-  whole_low e small =
-      elim e.said [
-        | inl p ↦ p
-        | inr p ↦ absurd (elim small [ inl h ↦ omega (arith, h, p.0) | inr h ↦ omega (arith, h, p.0) ])
-      ]
+  -- a status at which it is said what was asked was said whole
+  whole_spoken : {answer : Response} {status : ℕ} → Ends words input old new before after fails answer status →
+      IsSpoken status → (status ≡ status_of answer) × Appends before after (text_of answer)
+  whole_spoken {answer} {status} e speaks =
+      elim e.said [ inl p ↦ p | inr p ↦ absurd (spoken status speaks 5 (inl (omega arith, omega arith)) p.0) ]
 
   -- such a status is no other answer's
   no_other : {answer : Response} {status : ℕ} → Ends words input old new before after fails answer status →
-      2 ≤ status_of answer → (status ≡ 0) ⊎ (status ≡ 1) → ⊥
-  no_other e high small =
-      let w = whole_low e small in
-      elim small [ inl h ↦ omega (arith, h, w.0, high) | inr h ↦ omega (arith, h, w.0, high) ]
+      IsSpoken status → (((2 ≤ status_of answer) × (status_of answer ≤ 6)) ⊎ (9 ≤ status_of answer)) → ⊥
+  no_other {answer} {status} e speaks apart =
+      spoken status speaks (status_of answer) apart (whole_spoken e speaks).0
 
-  pub listed_is : (answer : Response) (status : ℕ) → Ends words input old new before after fails answer status →
-      (asked : Asked) → IsTaken words asked → (status ≡ 0) ⊎ (status ≡ 1) →
-      IfSome input (IsListed asked status before after)
-  listed_is Usage status e asked taken small = absurd (no_other e (omega arith) small)
-  listed_is Unread status e asked taken small = absurd (no_other e (omega arith) small)
-  listed_is (Refused n k) status e asked taken small = absurd (no_other e (omega arith) small)
-  listed_is (Outgrown s) status e asked taken small = absurd (no_other e (omega arith) small)
-  listed_is (Listed t) status e asked taken small =
-      let w = whole_low e small in
-      let same : e.right.asked ≡ asked = e.one e.right.asked asked e.right.taken taken in
-      subst (λ (a : Asked). IfSome input (IsListed a status before after)) same
-      (weaker input _ _ (λ bytes right. record {
-        ranks = right.ranks;
-        lines = right.lines;
-        spelled = right.spelled;
-        texts = t;
-        reports = right.right;
+  pub told_is : (answer : Response) (status : ℕ) → Ends words input old new before after fails answer status →
+      (asked : Asked) → IsTaken words asked → IsSpoken status → IfSome input (IsTold asked status before after)
+  told_is Usage status e asked taken h = absurd (no_other e h (inl (omega arith, omega arith)))
+  told_is Unread status e asked taken h = absurd (no_other e h (inl (omega arith, omega arith)))
+  told_is NoReport status e asked taken h = absurd (no_other e h (inr (omega arith)))
+  told_is (Refused n k) status e asked taken h = absurd (no_other e h (inl (omega arith, omega arith)))
+  told_is (Outgrown s) status e asked taken h = absurd (no_other e h (inr (omega arith)))
+  told_is Unlawful status e asked taken h = absurd (no_other e h (inr (omega arith)))
+  told_is (Told t) status e asked taken h =
+      let w = whole_spoken e h in
+      weaker input _ _ (λ bytes p. record {
+        given =
+            record {
+              script = p.script;
+              report = p.report;
+              input = p.input;
+              ranks = p.right.ranks;
+              lines = p.right.lines;
+              spelled = p.right.spelled;
+            };
+        telling = t;
+        right = p.right.right;
         ended = w.0;
         said = w.1;
-      }) e.right.right)
+      }) (right_of {answer = Told t} e asked taken e.right.asked e.right.taken e.right.right)
+
+  pub no_report_is : (answer : Response) (status : ℕ) → Ends words input old new before after fails answer status →
+      (asked : Asked) → IsTaken words asked → status ≡ 9 →
+      IfSome input (λ bytes. (asked.question ≡ question.Among) × HasNoReport (read_of asked.question bytes))
+      × Appends before after no_report
+  no_report_is Usage status e asked taken h = absurd (omega (arith, (whole e 9 h (λ f. cc)).0))
+  no_report_is Unread status e asked taken h = absurd (omega (arith, (whole e 9 h (λ f. cc)).0))
+  no_report_is NoReport status e asked taken h = (
+    right_of {answer = NoReport} e asked taken e.right.asked e.right.taken e.right.right,
+    (whole e 9 h (λ f. cc)).1,
+  )
+  no_report_is (Refused n k) status e asked taken h = absurd (omega (arith, (whole e 9 h (λ f. cc)).0))
+  no_report_is (Outgrown s) status e asked taken h = absurd (omega (arith, (whole e 9 h (λ f. cc)).0))
+  no_report_is Unlawful status e asked taken h = absurd (omega (arith, (whole e 9 h (λ f. cc)).0))
+  no_report_is (Told t) status e asked taken h =
+      absurd (not_told t 9 (inr (omega arith)) (whole e 9 h (λ f. cc)).0)
 
   pub outgrown_is : (answer : Response) (status : ℕ) → Ends words input old new before after fails answer status →
       (asked : Asked) → IsTaken words asked → status ≡ 10 → IfSome input (IsOutgrown asked before after)
   outgrown_is Usage status e asked taken h = absurd (omega (arith, (whole e 10 h (λ f. cc)).0))
   outgrown_is Unread status e asked taken h = absurd (omega (arith, (whole e 10 h (λ f. cc)).0))
+  outgrown_is NoReport status e asked taken h = absurd (omega (arith, (whole e 10 h (λ f. cc)).0))
   outgrown_is (Refused n k) status e asked taken h = absurd (omega (arith, (whole e 10 h (λ f. cc)).0))
   outgrown_is (Outgrown s) status e asked taken h =
       let w = whole e 10 h (λ f. cc) in
-      let same : e.right.asked ≡ asked = e.one e.right.asked asked e.right.taken taken in
-      subst (λ (a : Asked). IfSome input (IsOutgrown a before after)) same
-      (weaker input _ _ (λ bytes right. record {
-        ranks = right.ranks;
-        lines = right.lines;
-        spelled = right.spelled;
-        said = subst (λ (n : ℕ). Appends before after (outgrown_text n)) right.right w.1;
-      }) e.right.right)
-  outgrown_is (Listed t) status e asked taken h =
-      absurd (not_low t 10 (omega arith) (whole e 10 h (λ f. cc)).0)
+      weaker input _ _ (λ bytes p. record {
+        given =
+            record {
+              script = p.script;
+              report = p.report;
+              input = p.input;
+              ranks = p.right.ranks;
+              lines = p.right.lines;
+              spelled = p.right.spelled;
+            };
+        said = subst (λ (n : ℕ). Appends before after (outgrown_text n)) p.right.right w.1;
+      }) (right_of {answer = Outgrown s} e asked taken e.right.asked e.right.taken e.right.right)
+  outgrown_is Unlawful status e asked taken h = absurd (omega (arith, (whole e 10 h (λ f. cc)).0))
+  outgrown_is (Told t) status e asked taken h =
+      absurd (not_told t 10 (inr (omega arith)) (whole e 10 h (λ f. cc)).0)
+
+  pub unlawful_is : (answer : Response) (status : ℕ) → Ends words input old new before after fails answer status →
+      (asked : Asked) → IsTaken words asked → status ≡ 11 → IfSome input (IsUnlawful asked before after)
+  unlawful_is Usage status e asked taken h = absurd (omega (arith, (whole e 11 h (λ f. cc)).0))
+  unlawful_is Unread status e asked taken h = absurd (omega (arith, (whole e 11 h (λ f. cc)).0))
+  unlawful_is NoReport status e asked taken h = absurd (omega (arith, (whole e 11 h (λ f. cc)).0))
+  unlawful_is (Refused n k) status e asked taken h = absurd (omega (arith, (whole e 11 h (λ f. cc)).0))
+  unlawful_is (Outgrown s) status e asked taken h = absurd (omega (arith, (whole e 11 h (λ f. cc)).0))
+  unlawful_is Unlawful status e asked taken h =
+      let w = whole e 11 h (λ f. cc) in
+      weaker input _ _ (λ bytes p. record {
+        given =
+            record {
+              script = p.script;
+              report = p.report;
+              input = p.input;
+              ranks = p.right.ranks;
+              lines = p.right.lines;
+              spelled = p.right.spelled;
+            };
+        said = w.1;
+      }) (right_of {answer = Unlawful} e asked taken e.right.asked e.right.taken e.right.right)
+  unlawful_is (Told t) status e asked taken h =
+      absurd (not_told t 11 (inr (omega arith)) (whole e 11 h (λ f. cc)).0)
 
   pub unread_is : (answer : Response) (status : ℕ) → Ends words input old new before after fails answer status →
       status ≡ 4 → Rose old new × Appends before after unread
   unread_is Usage status e h = absurd (omega (arith, (whole e 4 h (λ f. cc)).0))
   unread_is Unread status e h = (e.right.right, (whole e 4 h (λ f. cc)).1)
+  unread_is NoReport status e h = absurd (omega (arith, (whole e 4 h (λ f. cc)).0))
   unread_is (Refused n k) status e h = absurd (omega (arith, (whole e 4 h (λ f. cc)).0))
   unread_is (Outgrown s) status e h = absurd (omega (arith, (whole e 4 h (λ f. cc)).0))
-  unread_is (Listed t) status e h = absurd (not_low t 4 (omega arith) (whole e 4 h (λ f. cc)).0)
+  unread_is Unlawful status e h = absurd (omega (arith, (whole e 4 h (λ f. cc)).0))
+  unread_is (Told t) status e h =
+      absurd (not_told t 4 (inl (omega arith, omega arith)) (whole e 4 h (λ f. cc)).0)
 
   pub unwritten_is : (answer : Response) (status : ℕ) → Ends words input old new before after fails answer status →
       status ≡ 5 → fails × (answer : Response) × IsAnswer words input old new answer
@@ -220,62 +329,17 @@ module _ {words : List (List ℕ)} {input before after : Option (List ℕ)} {old
       status ≡ 6 → ⊥
   not_six Usage status e h = omega (arith, (whole e 6 h (λ f. cc)).0)
   not_six Unread status e h = omega (arith, (whole e 6 h (λ f. cc)).0)
+  not_six NoReport status e h = omega (arith, (whole e 6 h (λ f. cc)).0)
   not_six (Refused n k) status e h = omega (arith, (whole e 6 h (λ f. cc)).0)
   not_six (Outgrown s) status e h = omega (arith, (whole e 6 h (λ f. cc)).0)
-  not_six (Listed t) status e h = not_low t 6 (omega arith) (whole e 6 h (λ f. cc)).0
+  not_six Unlawful status e h = omega (arith, (whole e 6 h (λ f. cc)).0)
+  not_six (Told t) status e h = not_told t 6 (inl (omega arith, omega arith)) (whole e 6 h (λ f. cc)).0
 
   -- what was said has one of the statuses
   pub status_is : (answer : Response) (status : ℕ) → Ends words input old new before after fails answer status →
       IsStatus status
   status_is answer status e =
-      elim e.said [ inl p ↦ status_of_answer answer status p.0 | inr p ↦ inr (inr (inr (inr (inr (inl p.0))))) ]
-
--- an answer to the bytes that were read is one to the source
-pub answered : (asked : Asked) (input : Option (List ℕ)) (old new : ℕ) (bytes : List ℕ) →
-    IfSome input (λ all. bytes ≡ take 8388609 all) → (answer : Response) → IsAnswerTo asked bytes answer →
-    IsAnswerOf asked input old new answer
-answered asked input old new bytes read Usage h = absurd h
-answered asked input old new bytes read Unread h = absurd h
-answered asked input old new bytes read (Refused n k) h =
-    weaker input _ _ (λ all same. subst (λ (b : List ℕ). IsAnswerTo asked b (Refused n k)) same h) read
-answered asked input old new bytes read (Outgrown s) h =
-    weaker input _ _ (λ all same. subst (λ (b : List ℕ). IsAnswerTo asked b (Outgrown s)) same h) read
-answered asked input old new bytes read (Listed t) h =
-    weaker input _ _ (λ all same. subst (λ (b : List ℕ). IsAnswerTo asked b (Listed t)) same h) read
-
--- an answer for a script that the bytes spell is one to the bytes
-pub answered_to : (asked : Asked) (bytes : List ℕ) (ranks : ℕ) (lines : List Line) → IsTextOf bytes ranks lines →
-    (answer : Response) → IsAnswerFor asked ranks lines answer →
-    IsAnswerTo asked bytes answer
-answered_to asked bytes ranks lines spelled Usage h = absurd h
-answered_to asked bytes ranks lines spelled Unread h = absurd h
-answered_to asked bytes ranks lines spelled (Refused n k) h = absurd h
-answered_to asked bytes ranks lines spelled (Outgrown s) h =
-    record { ranks = ranks; lines = lines; spelled = spelled; right = h }
-answered_to asked bytes ranks lines spelled (Listed t) h =
-    record { ranks = ranks; lines = lines; spelled = spelled; right = h }
-
--- an answer to words that are taken is right
-pub answered_words : (words : List (List ℕ)) (input : Option (List ℕ)) (old new : ℕ) (asked : Asked) →
-    IsTaken words asked → (answer : Response) → IsAnswerOf asked input old new answer →
-    IsAnswer words input old new answer
-answered_words words input old new asked taken Usage h = absurd h
-answered_words words input old new asked taken Unread h = record { asked = asked; taken = taken; right = h }
-answered_words words input old new asked taken (Refused n k) h =
-    record { asked = asked; taken = taken; right = h }
-answered_words words input old new asked taken (Outgrown s) h =
-    record { asked = asked; taken = taken; right = h }
-answered_words words input old new asked taken (Listed t) h =
-    record { asked = asked; taken = taken; right = h }
-
--- of an answer that was found
-pub ok_always : {T E P : Type 0} (r : Result T E) → P → IfOk r (λ _. P)
-ok_always (Ok x) p = p
-ok_always (Err e) p = tt
-
--- what was found is one thing, or none
-pub one_of : (found : Option Asked) (a b : Asked) → found ≡ Some a → found ≡ Some b → a ≡ b
-one_of found a b p q = let both : Some a ≡ Some b = sym p ∙ q in cc
-
-pub no_line : (found : Option Asked) (a : Asked) → found ≡ None → found ≡ Some a → ⊥
-no_line found a none some = let both : None ≡ Some a = sym none ∙ some in cc
+      elim e.said [
+        | inl p ↦ status_of_answer answer status p.0
+        | inr p ↦ inr (inr (inr (inr (inl p.0))))
+      ]

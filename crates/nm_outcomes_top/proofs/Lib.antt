@@ -1,2 +1,4 @@
 mod EndLemmas
+mod InputLemmas
 mod ListingLemmas
+mod TellingLemmas

@@ -1,66 +1,158 @@
 -- What the program answers: a text and a status.
-use Rattle.std.specs.Prelude.{◌≡◌, ℕ, ◌⊎◌, List, Option, IfSome, if◌then◌else◌, nat_lt, take}
+use Rattle.std.specs.Prelude.{◌≡◌, ℕ, ◌<◌, ◌⊎◌, List, [], Option, IfSome, if◌then◌else◌, length, nat_lt, take}
 use Rattle.nm_outside.specs.Told.{Appends, AppendsPart, Rose}
 use Rattle.nm_types.specs.declared.scripts.Line.{Line}
+use Rattle.nm_types.specs.Sizes.{Sizes}
 use Rattle.nm_script.specs.Rules.{IsFirstFault}
 use Rattle.nm_script.specs.Spelled.{IsTextOf}
+use Rattle.nm_checked.specs.Checks.{IsInput}
+use Rattle.nm_checked.specs.Inputs.{HasNoCut}
 use Rattle.nm_outcomes.specs.Outcomes.{AreOutcomes}
+use Rattle.nm_listed.specs.Finding.{AreTooLong, HasFewer, IsOutcomeTrace}
+use Rattle.nm_listed.specs.Places.{IsPlace}
+use Rattle.nm_listed.specs.declared.places.Place.{Place}
+use Rattle.nm_listed.specs.declared.places.Place.TheVariants.{At, Not}
 use Rattle.nm_outcomes_top.specs.declared.answers.Response.{Response}
-use Rattle.nm_outcomes_top.specs.declared.answers.Response.TheVariants.{Listed, Outgrown, Refused, Unread, Usage}
+use Rattle.nm_outcomes_top.specs.declared.answers.Response.TheVariants.{NoReport, Outgrown, Refused, Told, Unlawful, Unread, Usage}
+use Rattle.nm_outcomes_top.specs.declared.asking.Finding.{Finding}
+use Rattle.nm_outcomes_top.specs.declared.asking.Finding.TheVariants as finding
+use Rattle.nm_outcomes_top.specs.declared.tellings.Telling.{Telling}
+use Rattle.nm_outcomes_top.specs.declared.tellings.Telling.TheVariants.{Fewer, Listed, Placed, Traced}
 use Rattle.nm_outcomes_words.specs.declared.Asked.{Asked}
-use Rattle.nm_outcomes_top.specs.Texts.{fault_text, outcomes_text, outgrown_text, stuck_count, unread, usage}
+use Rattle.nm_outcomes_words.specs.declared.Question.{Question}
+use Rattle.nm_outcomes_words.specs.declared.Question.TheVariants.{All, Trace, Among}
+use Rattle.nm_outcomes_top.specs.Texts.{fault_text, fewer_text, is_stuck, no_report, outcomes_text, outgrown_text}
+use Rattle.nm_outcomes_top.specs.Texts.{place_text, stuck_count, unlawful, unread, usage}
 use Rattle.nm_outcomes_words.specs.Words.{IsTaken, NotTaken, sizes_for}
 
--- what is read of a source: all of it, or one byte more than a script's text may have
-abbrev pub read_of : List ℕ → List ℕ
-read_of bytes = take 8388609 bytes
+-- how many bytes are read at most: one more than a script's text may have, or than a script and a report may
+abbrev pub limit_of : Question → ℕ
+limit_of Among = 67108865
+limit_of _ = 8388609
+
+-- what is read of a source: all of it, or as many bytes
+abbrev pub read_of : Question → List ℕ → List ℕ
+read_of question bytes = take (limit_of question) bytes
+
+-- what is told of the reports that a script can have
+abbrev pub telling_text : Telling → List ℕ
+telling_text (Listed texts) = outcomes_text texts
+telling_text (Traced trace) = trace.items
+telling_text (Fewer number count) = fewer_text number count
+telling_text (Placed place) = place_text place
 
 -- the text of an answer
 abbrev pub text_of : Response → List ℕ
 text_of Usage = usage
 text_of Unread = unread
+text_of NoReport = no_report
 text_of (Refused line kind) = fault_text line kind
 text_of (Outgrown states) = outgrown_text states
-text_of (Listed texts) = outcomes_text texts
+text_of Unlawful = unlawful
+text_of (Told telling) = telling_text telling
 
 -- the status of reports that were listed: whether one of them is stuck
 abbrev pub listed_status : List (List ℕ) → ℕ
 listed_status texts = if nat_lt 0 (stuck_count texts) then 1 else 0
 
+-- the status of a trace: whether its last line says that a rank is stuck
+abbrev pub traced_status : List ℕ → ℕ
+traced_status trace = if is_stuck trace then 1 else 0
+
+-- the status of a given report: whether it is one of those that the script can have
+abbrev pub placed_status : Place → ℕ
+placed_status (At number) = 0
+placed_status (Not line) = 8
+
+-- the status of what is told
+abbrev pub telling_status : Telling → ℕ
+telling_status (Listed texts) = listed_status texts
+telling_status (Traced trace) = traced_status trace.items
+telling_status (Fewer number count) = 7
+telling_status (Placed place) = placed_status place
+
 -- the status of an answer that was written
 abbrev pub status_of : Response → ℕ
 status_of Usage = 2
 status_of Unread = 4
+status_of NoReport = 9
 status_of (Refused line kind) = 3
 status_of (Outgrown states) = 10
-status_of (Listed texts) = listed_status texts
+status_of Unlawful = 11
+status_of (Told telling) = telling_status telling
 
--- an answer for a script is right: all reports that it can have, or that there are too many
-abbrev pub IsAnswerFor : Asked → ℕ → List Line → Response → Type 0
-IsAnswerFor asked ranks lines (Listed texts) = AreOutcomes (sizes_for asked ranks) lines texts
-IsAnswerFor asked ranks lines (Outgrown states) = states ≡ asked.states
-IsAnswerFor asked ranks lines _ = ⊥
+-- What is told is right, by what is asked of the reports that the script can have in these sizes: all of them; a trace
+-- of the one with this number, or that there are fewer; where the given report stands among them.
+abbrev pub IsTelling : Question → Sizes → List Line → List ℕ → Telling → Type 0
+IsTelling All shape lines report (Listed texts) = AreOutcomes shape lines texts
+IsTelling (Trace number) shape lines report (Traced trace) = IsOutcomeTrace shape lines number trace.items
+IsTelling (Trace number) shape lines report (Fewer other count) =
+    (other ≡ number) × HasFewer shape lines number count
+IsTelling Among shape lines report (Placed place) =
+    (texts : List (List ℕ)) × AreOutcomes shape lines texts × IsPlace texts report place
+IsTelling question shape lines report telling = ⊥
 
--- the bytes spell a script that has this answer
-pub record IsSpelled (asked : Asked) (bytes : List ℕ) (answer : Response) : Type 0 where
+-- What was found out is right: what is told, or that the reports that the script can have have too many bytes. Nothing
+-- is said where the record of a way to an end does not hold.
+abbrev pub IsFinding : Question → Sizes → List Line → List ℕ → Finding → Type 0
+IsFinding question shape lines report (finding.Told telling) = IsTelling question shape lines report telling
+IsFinding question shape lines report finding.TooLong = AreTooLong shape lines
+IsFinding question shape lines report finding.Unlawful = Unit {0}
+
+-- An answer for a script is right: what is asked of its reports, or that there are too many. Nothing is said where the
+-- record of a way to an end does not hold.
+abbrev pub IsAnswerFor : Asked → ℕ → List Line → List ℕ → Response → Type 0
+IsAnswerFor asked ranks lines report (Told telling) =
+    IsTelling asked.question (sizes_for asked ranks) lines report telling
+IsAnswerFor asked ranks lines report (Outgrown states) = states ≡ asked.states
+IsAnswerFor asked ranks lines report Unlawful = Unit {0}
+IsAnswerFor asked ranks lines report _ = ⊥
+
+-- the text of a script has this answer, with the given report
+pub record IsSpelled (asked : Asked) (script report : List ℕ) (answer : Response) : Type 0 where
   pub ranks : ℕ
   pub lines : List Line
-  pub spelled : IsTextOf bytes ranks lines
-  pub right : IsAnswerFor asked ranks lines answer
+  pub spelled : IsTextOf script ranks lines
+  pub right : IsAnswerFor asked ranks lines report answer
+
+-- an answer to the text of a script and a given report is right
+abbrev pub IsAnswerIn : Asked → List ℕ → List ℕ → Response → Type 0
+IsAnswerIn asked script report Usage = ⊥
+IsAnswerIn asked script report Unread = ⊥
+IsAnswerIn asked script report NoReport = ⊥
+IsAnswerIn asked script report (Refused line kind) = IsFirstFault script line kind
+IsAnswerIn asked script report answer = IsSpelled asked script report answer
+
+-- the bytes are the text of a script, and where a report is asked of, that stands behind the first line `---`
+abbrev pub IsInputOf : Question → List ℕ → List ℕ → List ℕ → Type 0
+IsInputOf Among bytes script report = IsInput bytes script report
+IsInputOf _ bytes script report = (script ≡ bytes) × (report ≡ [])
+
+-- the bytes are too long, or have no line `---`
+abbrev pub HasNoReport : List ℕ → Type 0
+HasNoReport bytes = (67108864 < length bytes) ⊎ HasNoCut bytes
+
+-- the answer is right for the parts of these bytes
+pub record IsParted (asked : Asked) (bytes : List ℕ) (answer : Response) : Type 0 where
+  pub script : List ℕ
+  pub report : List ℕ
+  pub input : IsInputOf asked.question bytes script report
+  pub right : IsAnswerIn asked script report answer
 
 -- an answer to bytes that were read is right
 abbrev pub IsAnswerTo : Asked → List ℕ → Response → Type 0
 IsAnswerTo asked bytes Usage = ⊥
 IsAnswerTo asked bytes Unread = ⊥
-IsAnswerTo asked bytes (Refused line kind) = IsFirstFault bytes line kind
-IsAnswerTo asked bytes answer = IsSpelled asked bytes answer
+IsAnswerTo asked bytes NoReport = (asked.question ≡ Among) × HasNoReport bytes
+IsAnswerTo asked bytes answer = IsParted asked bytes answer
 
 -- an answer to words that are taken is right: by the bytes of the source where it tells them, and by its
 -- count of faults before and after
 abbrev pub IsAnswerOf : Asked → Option (List ℕ) → ℕ → ℕ → Response → Type 0
 IsAnswerOf asked input old new Usage = ⊥
 IsAnswerOf asked input old new Unread = Rose old new
-IsAnswerOf asked input old new answer = IfSome input (λ bytes. IsAnswerTo asked (read_of bytes) answer)
+IsAnswerOf asked input old new answer =
+    IfSome input (λ bytes. IsAnswerTo asked (read_of asked.question bytes) answer)
 
 -- the words are taken and this is a right answer to them
 pub record IsAnswerToWords (words : List (List ℕ)) (input : Option (List ℕ)) (old new : ℕ)

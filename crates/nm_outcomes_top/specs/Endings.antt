@@ -1,46 +1,117 @@
 -- How the program ends: what was said, with which status.
-use Rattle.std.specs.Prelude.{◌≡◌, ℕ, ◌⊎◌, List, Option}
+use Rattle.std.specs.Prelude.{◌≡◌, ℕ, ◌-◌, ◌≤◌, ◌⊎◌, List, Contains, Option, Some, slice_get}
 use Rattle.nm_outside.specs.Told.{Appends}
 use Rattle.nm_types.specs.declared.scripts.Line.{Line}
 use Rattle.nm_script.specs.declared.faults.Kind.{Kind}
 use Rattle.nm_script.specs.Rules.{IsFirstFault}
 use Rattle.nm_script.specs.Spelled.{IsTextOf}
 use Rattle.nm_outcomes.specs.Outcomes.{AreOutcomes}
+use Rattle.nm_listed.specs.Finding.{HasFewer, IsOutcomeTrace}
+use Rattle.nm_listed.specs.Places.{IsFirstNew}
+use Rattle.nm_listed.specs.declared.places.Place.TheVariants.{At, Not}
 use Rattle.nm_outcomes_words.specs.declared.Asked.{Asked}
-use Rattle.nm_outcomes_top.specs.Answers.{listed_status, read_of}
-use Rattle.nm_outcomes_top.specs.Texts.{fault_text, outcomes_text, outgrown_text}
+use Rattle.nm_outcomes_words.specs.declared.Question.{Question}
+use Rattle.nm_outcomes_words.specs.declared.Question.TheVariants.{All, Trace, Among}
+use Rattle.nm_outcomes_top.specs.Answers.{IsInputOf, listed_status, read_of, traced_status}
+use Rattle.nm_outcomes_top.specs.Texts.{fault_text, fewer_text, outcomes_text, outgrown_text, place_text, unlawful}
 use Rattle.nm_outcomes_words.specs.Words.{sizes_for}
 
 -- the bytes spell no script, and their first fault was said
-pub record IsRefused (old new : Option (List ℕ)) (bytes : List ℕ) : Type 0 where
+pub record IsRefused (asked : Asked) (old new : Option (List ℕ)) (bytes : List ℕ) : Type 0 where
+  pub script : List ℕ
+  pub report : List ℕ
+  pub input : IsInputOf asked.question (read_of asked.question bytes) script report
   pub line : ℕ
   pub kind : Kind
-  pub first : IsFirstFault (read_of bytes) line kind
+  pub first : IsFirstFault script line kind
   pub said : Appends old new (fault_text line kind)
+
+-- the bytes spell this script, and give this report where one is asked of
+pub record IsGiven (asked : Asked) (bytes : List ℕ) : Type 0 where
+  pub script : List ℕ
+  pub report : List ℕ
+  pub input : IsInputOf asked.question (read_of asked.question bytes) script report
+  pub ranks : ℕ
+  pub lines : List Line
+  pub spelled : IsTextOf script ranks lines
 
 -- the bytes spell a script, and it was said that there are too many
 pub record IsOutgrown (asked : Asked) (old new : Option (List ℕ)) (bytes : List ℕ) : Type 0 where
-  pub ranks : ℕ
-  pub lines : List Line
-  pub spelled : IsTextOf (read_of bytes) ranks lines
+  pub given : IsGiven asked bytes
   pub said : Appends old new (outgrown_text asked.states)
+
+-- the bytes spell a script, and it was said that the record of a way to one of its ends does not hold
+pub record IsUnlawful (asked : Asked) (old new : Option (List ℕ)) (bytes : List ℕ) : Type 0 where
+  pub given : IsGiven asked bytes
+  pub said : Appends old new unlawful
 
 -- The bytes spell a script, and all reports that its runs in these sizes can have were written, each once. The
 -- status is 1 exactly where one of them is stuck.
 pub record IsListed (asked : Asked) (status : ℕ) (old new : Option (List ℕ)) (bytes : List ℕ) : Type 0 where
-  pub ranks : ℕ
-  pub lines : List Line
-  pub spelled : IsTextOf (read_of bytes) ranks lines
+  pub given : IsGiven asked bytes
   pub texts : List (List ℕ)
-  pub reports : AreOutcomes (sizes_for asked ranks) lines texts
+  pub reports : AreOutcomes (sizes_for asked given.ranks) given.lines texts
   pub ended : status ≡ listed_status texts
   pub said : Appends old new (outcomes_text texts)
+
+-- The bytes spell a script, and the trace of a lawful run was written whose report has this number among all reports
+-- that it can have. The status is 1 exactly where that report is stuck.
+pub record IsTraceSaid (asked : Asked) (number status : ℕ) (old new : Option (List ℕ)) (bytes : List ℕ)
+    : Type 0 where
+  pub given : IsGiven asked bytes
+  pub trace : List ℕ
+  pub one : IsOutcomeTrace (sizes_for asked given.ranks) given.lines number trace
+  pub ended : status ≡ traced_status trace
+  pub said : Appends old new trace
+
+-- the bytes spell a script, and it was said that it has fewer reports than this number, and how many
+pub record IsFewerSaid (asked : Asked) (number : ℕ) (old new : Option (List ℕ)) (bytes : List ℕ) : Type 0 where
+  pub given : IsGiven asked bytes
+  pub count : ℕ
+  pub fewer : HasFewer (sizes_for asked given.ranks) given.lines number count
+  pub said : Appends old new (fewer_text number count)
+
+-- the given report is one of all that the script can have, and its number was said
+pub record IsAmong (asked : Asked) (old new : Option (List ℕ)) (bytes : List ℕ) : Type 0 where
+  pub given : IsGiven asked bytes
+  pub texts : List (List ℕ)
+  pub outcomes : AreOutcomes (sizes_for asked given.ranks) given.lines texts
+  pub number : ℕ
+  pub some : 1 ≤ number
+  pub there : slice_get texts (number - 1) ≡ Some given.report
+  pub said : Appends old new (place_text (At number))
+
+-- The given report is none of all that the script can have, and it was said which line of it is the first that none of
+-- them has behind the lines before it.
+pub record IsNotAmong (asked : Asked) (old new : Option (List ℕ)) (bytes : List ℕ) : Type 0 where
+  pub given : IsGiven asked bytes
+  pub texts : List (List ℕ)
+  pub outcomes : AreOutcomes (sizes_for asked given.ranks) given.lines texts
+  pub none : ¬ (Contains texts given.report)
+  pub line : ℕ
+  pub first : IsFirstNew texts given.report line
+  pub said : Appends old new (place_text (Not line))
+
+-- the statuses at which it was said what was asked
+abbrev pub Speaks : Question → ℕ → Type 0
+Speaks All status = (status ≡ 0) ⊎ (status ≡ 1)
+Speaks (Trace number) status = (status ≡ 0) ⊎ ((status ≡ 1) ⊎ (status ≡ 7))
+Speaks Among status = (status ≡ 0) ⊎ (status ≡ 8)
+
+-- .. of any question
+abbrev pub IsSpoken : ℕ → Type 0
+IsSpoken status = (status ≡ 0) ⊎ ((status ≡ 1) ⊎ ((status ≡ 7) ⊎ (status ≡ 8)))
+
+-- the statuses at which nothing is said of a script but that the search gave up
+abbrev pub GivesUp : ℕ → Type 0
+GivesUp status = (status ≡ 10) ⊎ (status ≡ 11)
 
 -- the statuses that there are
 abbrev pub IsStatus : ℕ → Type 0
 IsStatus status =
-    (status ≡ 0) ⊎ ((status ≡ 1) ⊎ ((status ≡ 2) ⊎ ((status ≡ 3) ⊎ ((status ≡ 4)
-    ⊎ ((status ≡ 5) ⊎ ((status ≡ 6) ⊎ (status ≡ 10)))))))
+    IsSpoken status ⊎ ((status ≡ 2) ⊎ ((status ≡ 3) ⊎ ((status ≡ 4)
+    ⊎ ((status ≡ 5) ⊎ ((status ≡ 6) ⊎ ((status ≡ 9) ⊎ ((status ≡ 10)
+    ⊎ (status ≡ 11))))))))
 
 -- it is so, or a write failed, or memory ran out
 abbrev pub OrUnwritten : Type 0 → ℕ → Type 0

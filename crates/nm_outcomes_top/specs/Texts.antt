@@ -1,7 +1,8 @@
 -- What is said.
 use Rattle.std.specs.Prelude.{ℕ, ◌+◌, ◌++◌, Bool, List, [], ◌∷◌, codes, count_by, decimal, length, nat_eq}
-use Rattle.std.specs.Prelude.{if◌then◌else◌, nat_lt}
 use Rattle.std.specs.List.{ends_with}
+use Rattle.nm_listed.specs.declared.places.Place.{Place}
+use Rattle.nm_listed.specs.declared.places.Place.TheVariants.{At, Not}
 use Rattle.nm_script.specs.declared.faults.Kind.{Kind}
 use Rattle.nm_script.specs.declared.faults.Kind.TheVariants as kind
 
@@ -31,13 +32,34 @@ numbers_line all stuck =
 abbrev pub outcomes_text : List (List ℕ) → List ℕ
 outcomes_text texts = outcomes_from 1 texts ++ numbers_line (length texts) (stuck_count texts)
 
+-- what is said where the script has no report with this number, but so many
+abbrev pub fewer_text : ℕ → ℕ → List ℕ
+fewer_text number count =
+    codes "fault outcome " ++ (decimal number ++ (codes " " ++ (decimal count ++ codes "\n")))
+
+-- what is said of a given report: its number among all, or the first line that no report has behind those before it
+abbrev pub place_text : Place → List ℕ
+place_text (At number) = codes "outcome " ++ (decimal number ++ codes "\n")
+place_text (Not line) = codes "no outcome " ++ (decimal line ++ codes "\n")
+
+-- what is said of an input that is too long, or has no line `---`
+abbrev pub no_report : List ℕ
+no_report = codes "fault report\n"
+
 -- what is said where there are too many
 abbrev pub outgrown_text : ℕ → List ℕ
 outgrown_text states = codes "fault outcomes " ++ (decimal states ++ codes "\n")
 
+-- what is said where the record of a way to an end does not hold before the judge
+abbrev pub unlawful : List ℕ
+unlawful = codes "fault record\n"
+
 -- what is said of words that are not taken
 abbrev pub usage : List ℕ
-usage = codes "usage: outcomes [--cells N] [--eager N] STATES <SCRIPT\n"
+usage =
+    codes "usage: outcomes [--cells N] [--eager N] STATES <SCRIPT\n"
+    ++ codes "       outcomes --trace K [--cells N] [--eager N] STATES <SCRIPT\n"
+    ++ codes "       outcomes --among [--cells N] [--eager N] STATES <SCRIPT_AND_REPORT\n"
 
 -- what is said of a source that failed
 abbrev pub unread : List ℕ

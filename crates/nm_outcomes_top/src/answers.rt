@@ -1,11 +1,10 @@
 //! What there is to say of the words and the source, and how it is said.
 
 ghost use Rattle.std.specs.Prelude.{◌≡◌, IfOk};
-ghost use Rattle.nm_outcomes_top.specs.Answers.{listed_status as listed_status_lem, status_of, text_of};
+ghost use Rattle.nm_outcomes_top.specs.Answers.{status_of, text_of};
 ghost use Rattle.nm_outcomes_top.specs.Texts.{fault_text, kind_text, outgrown_text};
 
-use crate::listing::{is_one_stuck, outcomes_text};
-use nm_listed::Texts;
+use crate::tellings::{Telling, telling_status, telling_text};
 use nm_script::Kind;
 use nm_types::Memory;
 use std::alloc::{AllocError, Global};
@@ -17,16 +16,22 @@ pub enum Response {
     Usage,
     /// The source failed.
     Unread,
+    /// The input is too long, or has no line `---`, where a report is to stand behind it.
+    NoReport,
     /// The bytes are no script.
     Refused { line: u32, kind: Kind },
     /// The search met too many states, or the reports are too long.
     Outgrown { states: u32 },
-    /// These are all reports of the script.
-    Listed { texts: Texts },
+    /// The record of a way to one of the ends does not hold before the judge.
+    Unlawful,
+    /// What was asked of the reports of the script.
+    Told { telling: Telling },
 }
 
 /// What is said of words that are not taken.
 const USAGE: &str = "usage: outcomes [--cells N] [--eager N] STATES <SCRIPT
+       outcomes --trace K [--cells N] [--eager N] STATES <SCRIPT
+       outcomes --among [--cells N] [--eager N] STATES <SCRIPT_AND_REPORT
 ";
 
 /// The bytes of a line.
@@ -77,17 +82,12 @@ pub fn text(alloc: Global, answer: &Response) -> Result<Vec<u8>, Memory>
     match answer {
         Response::Usage => Ok(line(alloc, USAGE)?),
         Response::Unread => Ok(line(alloc, "fault read\n")?),
+        Response::NoReport => Ok(line(alloc, "fault report\n")?),
         Response::Refused { line, kind } => Ok(fault(alloc, *line, *kind)?),
         Response::Outgrown { states } => Ok(outgrown(alloc, *states)?),
-        Response::Listed { texts } => outcomes_text(alloc, texts),
+        Response::Unlawful => Ok(line(alloc, "fault record\n")?),
+        Response::Told { telling } => telling_text(alloc, telling),
     }
-}
-
-/// The status of reports that were listed.
-fn listed_status(texts: &Texts) -> u8
-    ensures { result ≡ listed_status_lem texts.now }
-{
-    if is_one_stuck(texts) { 1 } else { 0 }
 }
 
 /// The status of an answer that was written.
@@ -95,10 +95,12 @@ pub fn status(answer: &Response) -> u8
     ensures { result ≡ status_of answer.now }
 {
     match answer {
-        Response::Listed { texts } => listed_status(texts),
+        Response::Told { telling } => telling_status(telling),
         Response::Usage => 2,
         Response::Refused { .. } => 3,
         Response::Unread => 4,
+        Response::NoReport => 9,
         Response::Outgrown { .. } => 10,
+        Response::Unlawful => 11,
     }
 }

@@ -11,7 +11,7 @@ use nm_types::Memory;
 use std::alloc::{AllocError, Global};
 
 /// Whether a report says at its end that a rank is stuck.
-fn is_stuck(text: &[u8]) -> bool
+pub fn is_stuck(text: &[u8]) -> bool
     ensures { result ≡ is_stuck_lem text.now }
 {
     text.ends_with(b"stuck\n".as_slice())

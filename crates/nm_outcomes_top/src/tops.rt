@@ -1,33 +1,38 @@
 //! The whole program: words and a script in, reports and a status out.
 
-ghost use Rattle.std.specs.Prelude.{◌≡◌, ℕ, ◌⊎◌, List, map, string_bytes, IfOk, IfSome};
+ghost use Rattle.std.specs.Prelude.{◌≡◌, ℕ, ◌⊎◌, [], List, map, string_bytes, IfOk, IfSome};
 ghost use Rattle.nm_types.specs.declared.scripts.Line as script_line;
 ghost use Rattle.nm_outside.specs.Told.{Appends, AppendsPart, Rose};
 ghost use Rattle.nm_script.specs.Rules.{IsFirstFault};
 ghost use Rattle.nm_script.specs.Spelled.{IsTextOf};
 ghost use Rattle.nm_script.specs.declared.faults.Kind as fault_kind;
-ghost use Rattle.nm_explored.specs.Ends.{TellsAll};
 ghost use Rattle.nm_outcomes_top.specs.declared.answers.Response.{Response};
 ghost use Rattle.nm_outcomes_words.specs.declared.Asked.{Asked};
-ghost use Rattle.nm_outcomes_top.specs.Answers.{IsAnswer, IsAnswerFor, IsAnswerOf, IsAnswerTo};
-ghost use Rattle.nm_outcomes_top.specs.Answers.{IsSaid, read_of, text_of};
-ghost use Rattle.nm_outcomes_top.specs.Endings.{IsListed, IsOutgrown, IsRefused, IsStatus};
-ghost use Rattle.nm_outcomes_top.specs.Endings.{OrFails, OrUnwritten};
-ghost use Rattle.nm_outcomes_top.specs.Texts.{unread, usage};
-ghost use Rattle.nm_outcomes_words.specs.Words.{InRange, IsTaken, NotTaken, sizes_for};
+ghost use Rattle.nm_outcomes_words.specs.declared.Question.TheVariants as question;
+ghost use Rattle.nm_outcomes_top.specs.Answers.{HasNoReport, IsAnswer, IsAnswerFor, IsAnswerIn};
+ghost use Rattle.nm_outcomes_top.specs.Answers.{IsAnswerOf, IsAnswerTo, IsInputOf, IsSaid};
+ghost use Rattle.nm_outcomes_top.specs.Answers.{limit_of, read_of, text_of};
+ghost use Rattle.nm_outcomes_top.specs.Endings.{GivesUp, IsAmong, IsFewerSaid, IsListed, IsNotAmong};
+ghost use Rattle.nm_outcomes_top.specs.Endings.{IsOutgrown, IsRefused, IsStatus, IsTraceSaid, IsUnlawful};
+ghost use Rattle.nm_outcomes_top.specs.Endings.{OrFails, OrUnwritten, Speaks};
+ghost use Rattle.nm_outcomes_top.specs.Texts.{no_report, unread, usage};
+ghost use Rattle.nm_outcomes_words.specs.Words.{InRange, IsTaken, NotTaken};
 
 use crate::answers::{Response, status, text};
-use nm_explored::{End, Explored, explore};
-use nm_listed::{Found, reports};
-use nm_outcomes_words::{Asked, read};
+use crate::asking::answer_script;
+use nm_checked::cut;
+use nm_outcomes_words::{Asked, Question, read};
 use nm_outside::{Sink, Source, Unread, read_up_to, write_all};
 use nm_script::ScriptFault;
 use nm_script::laws::a_text_is_a_script_or_has_a_fault;
-use nm_types::{Memory, Script, Shape};
+use nm_types::Memory;
 use std::alloc::Global;
 
-/// The most bytes that are read: one more than a script's text may have.
-const MAX_READ: usize = 8388609;
+/// The most bytes that are read of a script: one more than its text may have.
+const MAX_SCRIPT_READ: usize = 8388609;
+
+/// The most bytes of a script and a report.
+const MAX_INPUT: usize = 67108864;
 
 /// The status where the sink failed.
 const SINK_FAILED: u8 = 5;
@@ -35,37 +40,45 @@ const SINK_FAILED: u8 = 5;
 /// The status for want of memory.
 const WANT_OF_MEMORY: u8 = 6;
 
-// The answer for a script whose search found these ends.
-fn answer_ends(
-    alloc: Global,
-    asked: Asked,
-    script: &Script,
-    shape: Shape,
-    ends: Vec<End>,
-) -> Result<Response, Memory>
-    requires sizes { shape ≡ sizes_for asked script.now.ranks }
-    requires tells { TellsAll shape script.now.lines ends.items }
-    ensures { IfOk result (IsAnswerFor asked script.now.ranks script.now.lines) }
+/// The most bytes that are read.
+fn limit(question: Question) -> usize
+    ensures { result ≡ limit_of question }
 {
-    match reports(alloc, script, shape, ends)? {
-        Found::All(texts) => Ok(Response::Listed { texts }),
-        _ => Ok(Response::Outgrown {
-            states: asked.states,
-        }),
+    match question {
+        Question::Among => MAX_INPUT + 1,
+        _ => MAX_SCRIPT_READ,
     }
 }
 
-// The answer for a script.
-fn answer_script(alloc: Global, asked: Asked, script: &Script) -> Result<Response, Memory>
+// The answer to the text of a script, with the report that is asked of.
+fn answer_parts(
+    alloc: Global,
+    asked: Asked,
+    bytes: &[u8],
+    report: &[u8],
+) -> Result<Response, Memory>
     requires { InRange asked }
-    ensures { IfOk result (IsAnswerFor asked script.now.ranks script.now.lines) }
+    ensures { IfOk result (IsAnswerIn asked bytes.now report.now) }
 {
-    let shape = Shape::new(script.ranks, asked.cells, asked.eager).unwrap();
-    match explore(alloc, script, shape, asked.states)? {
-        Explored::All(ends) => answer_ends(alloc, asked, script, shape, ends.into_vec()),
-        Explored::TooMany => Ok(Response::Outgrown {
-            states: asked.states,
-        }),
+    match nm_script::read(alloc, bytes) {
+        Ok(script) => answer_script(alloc, asked, &script, report),
+        Err(ScriptFault::Bad { line, kind }) => Ok(Response::Refused { line, kind }),
+        Err(ScriptFault::Memory) => Err(Memory),
+    }
+}
+
+// The answer to a script and a report behind the first line `---`.
+fn answer_pair(alloc: Global, asked: Asked, bytes: &[u8]) -> Result<Response, Memory>
+    requires range { InRange asked }
+    requires among { asked.question ≡ question.Among }
+    ensures { IfOk result (IsAnswerTo asked bytes.now) }
+{
+    if bytes.len() > MAX_INPUT {
+        return Ok(Response::NoReport);
+    }
+    match cut(bytes) {
+        Some((front, report)) => answer_parts(alloc, asked, front, report),
+        None => Ok(Response::NoReport),
     }
 }
 
@@ -74,10 +87,9 @@ fn answer_bytes(alloc: Global, asked: Asked, bytes: &[u8]) -> Result<Response, M
     requires { InRange asked }
     ensures { IfOk result (IsAnswerTo asked bytes.now) }
 {
-    match nm_script::read(alloc, bytes) {
-        Ok(script) => answer_script(alloc, asked, &script),
-        Err(ScriptFault::Bad { line, kind }) => Ok(Response::Refused { line, kind }),
-        Err(ScriptFault::Memory) => Err(Memory),
+    match asked.question {
+        Question::Among => answer_pair(alloc, asked, bytes),
+        _ => answer_parts(alloc, asked, bytes, b"".as_slice()),
     }
 }
 
@@ -87,7 +99,7 @@ fn answer_source<S: Source>(alloc: Global, asked: Asked, source: &mut S) -> Resu
     ensures { IfOk result (IsAnswerOf asked (S.left source.old) (S.faults source.old)
         (S.faults source.new)) }
 {
-    match read_up_to(alloc, source, MAX_READ) {
+    match read_up_to(alloc, source, limit(asked.question)) {
         Ok(bytes) => answer_bytes(alloc, asked, &bytes),
         Err(Unread::Failed) => Ok(Response::Unread),
         Err(Unread::Memory) => Err(Memory),
@@ -125,14 +137,21 @@ fn deliver<K: Sink>(sink: &mut K, due: &[u8], answer: &Response) -> u8
 }
 
 /// Does all that the program does: reads a script of the source, searches for every report that a
-/// lawful run of it can have, and writes them to the sink.
+/// lawful run of it can have, and writes to the sink what is asked of them.
 ///
-/// The words are those of the command line without the program's name: options, and behind them how
-/// many states the search may meet. The status is 0 where all reports were written and none is
-/// stuck, 1 where one is, 2 where the words are not taken, 3 where the bytes spell no script, 4
-/// where a read failed, 5 where a write failed, 6 for want of memory, and 10 where the search met
-/// more states or the reports have more than 134,217,728 bytes. The whole text is in memory before
-/// the first write.
+/// The words are those of the command line without the program's name: `--trace K`, `--among` or
+/// nothing, then options, and behind them how many states the search may meet. All reports are
+/// written where nothing more is asked; behind `--trace K` the trace of a lawful run whose report is
+/// the K-th of them, 1 for the first; behind `--among` the number of the report that stands in the
+/// source behind the script and a line `---`.
+///
+/// The status is 0 where that was written and no report of it is stuck, 1 where one is, 2 where the
+/// words are not taken, 3 where the bytes spell no script, 4 where a read failed, 5 where a write
+/// failed, 6 for want of memory, 7 where there are fewer than K reports, 8 where the given report is
+/// none of them, 9 where there is no line `---` or the source has more than 67,108,864 bytes, 10
+/// where the search met more states or the reports have more than 134,217,728 bytes, and 11 where the
+/// record of a way to an end does not hold before the judge, of which no case is known. The whole
+/// text is in memory before the first write.
 pub fn outcomes<S: Source, K: Sink>(
     alloc: Global,
     words: &[String],
@@ -146,25 +165,54 @@ pub fn outcomes<S: Source, K: Sink>(
         OrUnwritten (result ≡ 2) result × (source.new ≡ source.old) }
 
     // The bytes spell no script.
-    ensures refused { result ≡ 3 → IfSome (S.left source.old)
-        (IsRefused (K.taken sink.old) (K.taken sink.new)) }
+    ensures refused { (asked : Asked) → IsTaken (map string_bytes words.now) asked →
+        result ≡ 3 → IfSome (S.left source.old)
+        (IsRefused asked (K.taken sink.old) (K.taken sink.new)) }
     ensures refuses { (asked : Asked) → IsTaken (map string_bytes words.now) asked →
-        IfSome (S.left source.old) (λ bytes. (line : ℕ) (kind : fault_kind.Kind) →
-        IsFirstFault (read_of bytes) line kind → OrFails (result ≡ 3) result) }
+        IfSome (S.left source.old) (λ bytes. (script report : List ℕ) (line : ℕ)
+        (kind : fault_kind.Kind) →
+        IsInputOf asked.question (read_of asked.question bytes) script report →
+        IsFirstFault script line kind → OrFails (result ≡ 3) result) }
 
-    // They spell one, and all reports that its runs can have are written.
-    ensures listed { (asked : Asked) → IsTaken (map string_bytes words.now) asked →
-        (result ≡ 0) ⊎ (result ≡ 1) → IfSome (S.left source.old)
-        (IsListed asked result (K.taken sink.old) (K.taken sink.new)) }
+    // They spell one, and it is written what is asked of all reports that its runs can have.
     ensures lists { (asked : Asked) → IsTaken (map string_bytes words.now) asked →
-        IfSome (S.left source.old) (λ bytes. (ranks : ℕ) (lines : List script_line.Line) →
-        IsTextOf (read_of bytes) ranks lines →
-        OrFails (((result ≡ 0) ⊎ (result ≡ 1)) ⊎ (result ≡ 10)) result) }
+        IfSome (S.left source.old) (λ bytes. (script report : List ℕ) (ranks : ℕ)
+        (lines : List script_line.Line) →
+        IsInputOf asked.question (read_of asked.question bytes) script report →
+        IsTextOf script ranks lines →
+        OrFails (Speaks asked.question result ⊎ GivesUp result) result) }
+    ensures listed { (asked : Asked) → IsTaken (map string_bytes words.now) asked →
+        asked.question ≡ question.All → (result ≡ 0) ⊎ (result ≡ 1) → IfSome (S.left source.old)
+        (IsListed asked result (K.taken sink.old) (K.taken sink.new)) }
+
+    // A trace of the one with this number, or there are fewer.
+    ensures traced { (asked : Asked) (number : ℕ) → IsTaken (map string_bytes words.now) asked →
+        asked.question ≡ question.Trace number → (result ≡ 0) ⊎ (result ≡ 1) →
+        IfSome (S.left source.old)
+        (IsTraceSaid asked number result (K.taken sink.old) (K.taken sink.new)) }
+    ensures fewer { (asked : Asked) (number : ℕ) → IsTaken (map string_bytes words.now) asked →
+        asked.question ≡ question.Trace number → result ≡ 7 → IfSome (S.left source.old)
+        (IsFewerSaid asked number (K.taken sink.old) (K.taken sink.new)) }
+
+    // The given report is one of them, or none, or there is none given.
+    ensures among { (asked : Asked) → IsTaken (map string_bytes words.now) asked →
+        asked.question ≡ question.Among → result ≡ 0 → IfSome (S.left source.old)
+        (IsAmong asked (K.taken sink.old) (K.taken sink.new)) }
+    ensures not_among { (asked : Asked) → IsTaken (map string_bytes words.now) asked →
+        asked.question ≡ question.Among → result ≡ 8 → IfSome (S.left source.old)
+        (IsNotAmong asked (K.taken sink.old) (K.taken sink.new)) }
+    ensures no_report { (asked : Asked) → IsTaken (map string_bytes words.now) asked →
+        result ≡ 9 → IfSome (S.left source.old) (λ bytes. (asked.question ≡ question.Among)
+        × HasNoReport (read_of asked.question bytes))
+        × Appends (K.taken sink.old) (K.taken sink.new) no_report }
 
     // They spell one, and there are too many states, or the reports are too long.
     ensures outgrown { (asked : Asked) → IsTaken (map string_bytes words.now) asked →
         result ≡ 10 → IfSome (S.left source.old)
         (IsOutgrown asked (K.taken sink.old) (K.taken sink.new)) }
+    ensures unlawful { (asked : Asked) → IsTaken (map string_bytes words.now) asked →
+        result ≡ 11 → IfSome (S.left source.old)
+        (IsUnlawful asked (K.taken sink.old) (K.taken sink.new)) }
 
     // The source failed.
     ensures unread { result ≡ 4 → Rose (S.faults source.old) (S.faults source.new)

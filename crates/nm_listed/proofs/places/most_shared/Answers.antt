@@ -1,5 +1,5 @@
 -- One text more.
-use Rattle.std.proofs.Common.{◌≡◌, ℕ, ◌+◌, ◌≤◌, arith, inl, inr, length, map, refl, sym, subst, take}
+use Rattle.std.proofs.Common.{ℕ, ◌+◌, ◌≤◌, arith, inl, inr, length, map, refl, sym, subst, take}
 use Rattle.nm_listed.specs.Places.{IsFirstNew}
 use Rattle.nm_listed.specs.Texts.{bytes_of}
 use Rattle.nm_listed.proofs.PlaceLemmas.{next_text}

@@ -1,5 +1,5 @@
 -- The run whose report has the number.
-use Rattle.std.proofs.Common.{◌≡◌, ℕ, ◌-◌, ◌≤◌, ap, refl, sym, subst, ◌∙◌}
+use Rattle.std.proofs.Common.{◌≡◌, ◌-◌, ◌≤◌, ap, refl, sym, subst, ◌∙◌}
 use Rattle.std.specs.Prelude.{IfSome, Some, slice_get}
 use Rattle.nm_listed.specs.Texts.{bytes_of}
 use Rattle.nm_listed.proofs.TraceLemmas.{chosen_run, is_found, run_of, some_found, text_there}

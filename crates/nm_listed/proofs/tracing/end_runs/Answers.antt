@@ -1,5 +1,5 @@
 -- One run more.
-use Rattle.std.proofs.Common.{◌≡◌, [], ◌∷◌, ◌++◌, false, subst, sym, ap, ◌∙◌}
+use Rattle.std.proofs.Common.{◌≡◌, [], ◌∷◌, ◌++◌, false, subst, ap, ◌∙◌}
 use Rattle.std.specs.Prelude.{IfSome}
 use Rattle.nm_explored.specs.Ends.{told_at_end}
 use Rattle.nm_report.specs.Lawful.{IsRunIn}

@@ -1,12 +1,12 @@
 -- The run whose report has the number among all reports.
-use Rattle.std.proofs.Common.{◌≡◌, ℕ, List, ap, false, map, subst, sym, ◌∙◌}
+use Rattle.std.proofs.Common.{◌≡◌, ap, false, map, subst, sym, ◌∙◌}
 use Rattle.std.specs.Prelude.{All, IfSome}
 use Rattle.nm_explored.specs.Ends.{told_at_end}
 use Rattle.nm_explored.proofs.TellLemmas.{ok_weaker}
 use Rattle.nm_outcomes.specs.Outcomes.{AreOutcomes}
 use Rattle.nm_report.specs.Lawful.{IsRunIn}
 use Rattle.nm_report.specs.Report.{report_text}
-use Rattle.nm_listed.specs.Finding.{IsTraced, text_of_told}
+use Rattle.nm_listed.specs.Finding.{text_of_told}
 use Rattle.nm_listed.specs.Texts.{SameTexts}
 use Rattle.nm_listed.proofs.ToldLemmas.{not_within}
 use Rattle.nm_listed.proofs.TraceLemmas.{runs_outcomes, traced}

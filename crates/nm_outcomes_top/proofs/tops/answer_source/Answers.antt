@@ -1,8 +1,9 @@
 -- What was read of the source is answered.
-use Rattle.std.proofs.Common.{List, ℕ, subst}
+use Rattle.std.proofs.Common.{◌≡◌, List, ℕ, subst, take}
+use Rattle.std.specs.Option.{IfSome}
 use Rattle.nm_outcomes_top.specs.Answers.{IsAnswerTo}
 use Rattle.nm_explored.proofs.TellLemmas.{ok_weaker}
-use Rattle.nm_outcomes_top.proofs.EndLemmas.{answered}
+use Rattle.nm_outcomes_top.proofs.InputLemmas.{answered}
 use Rattle.nm_outcomes_top.proofs.tops.answer_source.Goals as goal
 
 pub returns-in-Ok : goal.returns-in-Ok
@@ -10,6 +11,7 @@ returns-in-Ok g c =
     ok_weaker _ _
     (λ answer right. answered c.args.asked (g.S.Source.left c.args.source.now)
     (g.S.Source.faults c.args.source.now) (g.S.Source.faults c.read_up_to.new.source) c.in-Ok.bytes.items
-    c.in-Ok.ensures.bytes answer
+    (subst (λ (n : ℕ). IfSome (g.S.Source.left c.args.source.now) (λ all. c.in-Ok.bytes.items ≡ take n all))
+    c.limit.ensures c.in-Ok.ensures.bytes) answer
     (subst (λ (b : List ℕ). IsAnswerTo c.args.asked b answer) c.deref.ensures.value right))
     c.answer_bytes.result c.answer_bytes.ensures

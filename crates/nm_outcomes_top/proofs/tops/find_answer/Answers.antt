@@ -1,5 +1,5 @@
 -- Words that are taken ask for one thing.
-use Rattle.nm_outcomes_top.proofs.EndLemmas.{no_line, ok_always, one_of}
+use Rattle.nm_outcomes_top.proofs.InputLemmas.{no_line, ok_always, one_of}
 use Rattle.nm_outcomes_top.proofs.tops.find_answer.Goals as goal
 
 pub returns-in-Some-clause-one : goal.returns-in-Some-clause-one

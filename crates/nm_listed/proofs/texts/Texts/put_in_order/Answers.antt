@@ -1,5 +1,5 @@
-use Rattle.std.proofs.Common.{◌≡◌, sym, subst}
-use Rattle.std.specs.Prelude.{List, Contains, Vec, map}
+use Rattle.std.proofs.Common.{sym, subst}
+use Rattle.std.specs.Prelude.{map}
 use Rattle.std.specs.Cmp.Lexicographic.{on_texts, texts_ties}
 use Rattle.std.proofs.lemmas.List.Filters.{dedup_is}
 use Rattle.std.proofs.lemmas.List.Kept.{IsStrictlySortedBy-dedup}

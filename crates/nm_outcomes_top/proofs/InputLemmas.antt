@@ -1,0 +1,120 @@
+-- The two parts of what was read, and answers that are right.
+use Rattle.std.proofs.Common.{◌≡◌, ℕ, inl, inr, List, Option, Some, None, sym, ◌∙◌, subst, arith}
+use Rattle.std.specs.Option.{IfSome}
+use Rattle.std.specs.Prelude.{IfOk, Result, Ok, Err}
+use Rattle.nm_types.specs.declared.scripts.Line.{Line}
+use Rattle.nm_script.specs.Spelled.{IsTextOf}
+use Rattle.nm_checked.specs.Checks.{IsInput}
+use Rattle.nm_outcomes_words.specs.Words.{IsTaken}
+use Rattle.nm_outcomes_words.specs.declared.Asked.{Asked}
+use Rattle.nm_outcomes_words.specs.declared.Question.{Question}
+use Rattle.nm_outcomes_words.specs.declared.Question.TheVariants.{All, Trace, Among}
+use Rattle.nm_outcomes_top.specs.Answers.{HasNoReport, IsAnswer, IsAnswerFor, IsAnswerIn, IsAnswerOf, IsAnswerTo}
+use Rattle.nm_outcomes_top.specs.Answers.{IsInputOf, read_of}
+use Rattle.nm_outcomes_top.specs.declared.answers.Response.{Response}
+use Rattle.nm_outcomes_top.specs.declared.answers.Response.TheVariants.{NoReport, Outgrown, Refused, Told, Unlawful, Unread, Usage}
+
+-- the bytes have one script and one report
+pub one_input : (question : Question) (bytes script report s r : List ℕ) → IsInputOf question bytes script report →
+    IsInputOf question bytes s r → (script ≡ s) × (report ≡ r)
+one_input All bytes script report s r one other = (one.0 ∙ sym other.0, one.1 ∙ sym other.1)
+one_input (Trace n) bytes script report s r one other = (one.0 ∙ sym other.0, one.1 ∙ sym other.1)
+one_input Among bytes script report s r one other =
+    let same = one.cut.only s r other.cut.cut in
+    (sym same.0, sym same.1)
+
+no_pair : (bytes script report : List ℕ) → HasNoReport bytes → IsInput bytes script report → ⊥
+no_pair bytes script report (inl long) parts = omega (arith, long, parts.short)
+no_pair bytes script report (inr none) parts = none script report parts.cut.cut
+
+-- where a report is asked of and none is given, the bytes have no parts
+pub no_input : (question : Question) → question ≡ Among → (bytes script report : List ℕ) → HasNoReport bytes →
+    IsInputOf question bytes script report → ⊥
+no_input question is bytes script report none parts =
+    no_pair bytes script report none (subst (λ (q : Question). IsInputOf q bytes script report) is parts)
+
+-- an answer to the bytes that were read is one to the source
+pub answered : (asked : Asked) (input : Option (List ℕ)) (old new : ℕ) (bytes : List ℕ) →
+    IfSome input (λ all. bytes ≡ read_of asked.question all) → (answer : Response) → IsAnswerTo asked bytes answer →
+    IsAnswerOf asked input old new answer
+answered asked input old new bytes read Usage h = absurd h
+answered asked input old new bytes read Unread h = absurd h
+answered asked None old new bytes read NoReport h = tt
+answered asked (Some all) old new bytes read NoReport h =
+    subst (λ (b : List ℕ). IsAnswerTo asked b NoReport) read h
+answered asked None old new bytes read (Refused n k) h = tt
+answered asked (Some all) old new bytes read (Refused n k) h =
+    subst (λ (b : List ℕ). IsAnswerTo asked b (Refused n k)) read h
+answered asked None old new bytes read (Outgrown s) h = tt
+answered asked (Some all) old new bytes read (Outgrown s) h =
+    subst (λ (b : List ℕ). IsAnswerTo asked b (Outgrown s)) read h
+answered asked None old new bytes read Unlawful h = tt
+answered asked (Some all) old new bytes read Unlawful h =
+    subst (λ (b : List ℕ). IsAnswerTo asked b Unlawful) read h
+answered asked None old new bytes read (Told t) h = tt
+answered asked (Some all) old new bytes read (Told t) h =
+    subst (λ (b : List ℕ). IsAnswerTo asked b (Told t)) read h
+
+-- an answer for a script that is spelled is one to its text
+pub answered_in : (asked : Asked) (script report : List ℕ) (ranks : ℕ) (lines : List Line) →
+    IsTextOf script ranks lines → (answer : Response) → IsAnswerFor asked ranks lines report answer →
+    IsAnswerIn asked script report answer
+answered_in asked script report ranks lines spelled Usage h = absurd h
+answered_in asked script report ranks lines spelled Unread h = absurd h
+answered_in asked script report ranks lines spelled NoReport h = absurd h
+answered_in asked script report ranks lines spelled (Refused n k) h = absurd h
+answered_in asked script report ranks lines spelled (Outgrown s) h =
+    record { ranks = ranks; lines = lines; spelled = spelled; right = h }
+answered_in asked script report ranks lines spelled Unlawful h =
+    record { ranks = ranks; lines = lines; spelled = spelled; right = h }
+answered_in asked script report ranks lines spelled (Told t) h =
+    record { ranks = ranks; lines = lines; spelled = spelled; right = h }
+
+-- an answer to the parts of the bytes is one to the bytes
+pub answered_to : (asked : Asked) (bytes script report : List ℕ) → IsInputOf asked.question bytes script report →
+    (answer : Response) → IsAnswerIn asked script report answer → IsAnswerTo asked bytes answer
+answered_to asked bytes script report parts Usage h = absurd h
+answered_to asked bytes script report parts Unread h = absurd h
+answered_to asked bytes script report parts NoReport h = absurd h
+answered_to asked bytes script report parts (Refused n k) h =
+    record { script = script; report = report; input = parts; right = h }
+answered_to asked bytes script report parts (Outgrown s) h =
+    record { script = script; report = report; input = parts; right = h }
+answered_to asked bytes script report parts Unlawful h =
+    record { script = script; report = report; input = parts; right = h }
+answered_to asked bytes script report parts (Told t) h =
+    record { script = script; report = report; input = parts; right = h }
+
+-- the parts of bytes for each question
+pub input_among : (question : Question) (bytes script report : List ℕ) → question ≡ Among →
+    IsInput bytes script report → IsInputOf question bytes script report
+input_among question bytes script report is parts =
+    subst (λ (q : Question). IsInputOf q bytes script report) (sym is) parts
+
+-- an answer to words that are taken is right
+pub answered_words : (words : List (List ℕ)) (input : Option (List ℕ)) (old new : ℕ) (asked : Asked) →
+    IsTaken words asked → (answer : Response) → IsAnswerOf asked input old new answer →
+    IsAnswer words input old new answer
+answered_words words input old new asked taken Usage h = absurd h
+answered_words words input old new asked taken Unread h = record { asked = asked; taken = taken; right = h }
+answered_words words input old new asked taken NoReport h = record { asked = asked; taken = taken; right = h }
+answered_words words input old new asked taken (Refused n k) h =
+    record { asked = asked; taken = taken; right = h }
+answered_words words input old new asked taken (Outgrown s) h =
+    record { asked = asked; taken = taken; right = h }
+answered_words words input old new asked taken Unlawful h =
+    record { asked = asked; taken = taken; right = h }
+answered_words words input old new asked taken (Told t) h =
+    record { asked = asked; taken = taken; right = h }
+
+-- of an answer that was found
+pub ok_always : {T E P : Type 0} (r : Result T E) → P → IfOk r (λ _. P)
+ok_always (Ok x) p = p
+ok_always (Err e) p = tt
+
+-- what was found is one thing, or none
+pub one_of : (found : Option Asked) (a b : Asked) → found ≡ Some a → found ≡ Some b → a ≡ b
+one_of found a b p q = let both : Some a ≡ Some b = sym p ∙ q in cc
+
+pub no_line : (found : Option Asked) (a : Asked) → found ≡ None → found ≡ Some a → ⊥
+no_line found a none some = let both : None ≡ Some a = sym none ∙ some in cc

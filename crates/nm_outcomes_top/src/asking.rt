@@ -1,0 +1,154 @@
+//! What is asked of the reports of a script.
+
+ghost use Rattle.std.specs.Prelude.{◌≡◌, ◌≤◌, ℕ, List, IfOk};
+ghost use Rattle.nm_explored.specs.Ends.{TellsAll};
+ghost use Rattle.nm_outcomes_top.specs.Answers.{IsAnswerFor, IsFinding};
+ghost use Rattle.nm_outcomes_words.specs.declared.Question.TheVariants as question;
+ghost use Rattle.nm_outcomes_words.specs.Words.{InRange, IsQuestion, sizes_for};
+
+use crate::answers::Response;
+use crate::tellings::Telling;
+use nm_explored::{End, Explored, explore};
+use nm_listed::{Found, Traced, place_of, reports, trace_of};
+use nm_outcomes_words::{Asked, Question};
+use nm_types::{Memory, Script, Shape};
+use std::alloc::Global;
+
+/// What was found out of the reports of a script.
+#[derive(Drop)]
+pub enum Finding {
+    /// What was asked of them.
+    Told { telling: Telling },
+    /// They have more than 134,217,728 bytes.
+    TooLong,
+    /// The record of a way to one of the ends does not hold before the judge.
+    Unlawful,
+}
+
+// All reports of a script whose search found these ends.
+fn tell_all(alloc: Global, script: &Script, shape: Shape, ends: Vec<End>) -> Result<Finding, Memory>
+    requires equal { shape.ranks ≡ script.now.ranks }
+    requires tells { TellsAll shape script.now.lines ends.items }
+    ensures { (report : List ℕ) → IfOk result
+        (IsFinding question.All shape script.now.lines report) }
+{
+    match reports(alloc, script, shape, ends)? {
+        Found::All(texts) => Ok(Finding::Told {
+            telling: Telling::Listed { texts },
+        }),
+        Found::TooLong => Ok(Finding::TooLong),
+        Found::Unlawful => Ok(Finding::Unlawful),
+    }
+}
+
+// A trace of the one with this number.
+fn tell_trace(
+    alloc: Global,
+    script: &Script,
+    shape: Shape,
+    ends: Vec<End>,
+    number: u32,
+) -> Result<Finding, Memory>
+    requires equal { shape.ranks ≡ script.now.ranks }
+    requires tells { TellsAll shape script.now.lines ends.items }
+    requires some { 1 ≤ number }
+    ensures { (report : List ℕ) → IfOk result
+        (IsFinding (question.Trace number) shape script.now.lines report) }
+{
+    match trace_of(alloc, script, shape, ends, number)? {
+        Traced::Trace(trace) => Ok(Finding::Told {
+            telling: Telling::Traced { trace },
+        }),
+        Traced::Fewer { count } => Ok(Finding::Told {
+            telling: Telling::Fewer { number, count },
+        }),
+        Traced::TooLong => Ok(Finding::TooLong),
+        Traced::Unlawful => Ok(Finding::Unlawful),
+    }
+}
+
+// Where a given report stands among them.
+fn tell_place(
+    alloc: Global,
+    script: &Script,
+    shape: Shape,
+    ends: Vec<End>,
+    report: &[u8],
+) -> Result<Finding, Memory>
+    requires equal { shape.ranks ≡ script.now.ranks }
+    requires tells { TellsAll shape script.now.lines ends.items }
+    ensures { IfOk result (IsFinding question.Among shape script.now.lines report.now) }
+{
+    match reports(alloc, script, shape, ends)? {
+        Found::All(texts) => Ok(Finding::Told {
+            telling: Telling::Placed {
+                place: place_of(&texts, report),
+            },
+        }),
+        Found::TooLong => Ok(Finding::TooLong),
+        Found::Unlawful => Ok(Finding::Unlawful),
+    }
+}
+
+// What is asked of the reports of a script whose search found these ends.
+fn tell(
+    alloc: Global,
+    question: Question,
+    script: &Script,
+    shape: Shape,
+    ends: Vec<End>,
+    report: &[u8],
+) -> Result<Finding, Memory>
+    requires equal { shape.ranks ≡ script.now.ranks }
+    requires tells { TellsAll shape script.now.lines ends.items }
+    requires number { IsQuestion question }
+    ensures { IfOk result (IsFinding question shape script.now.lines report.now) }
+{
+    match question {
+        Question::All => tell_all(alloc, script, shape, ends),
+        Question::Trace { number } => tell_trace(alloc, script, shape, ends, number),
+        Question::Among => tell_place(alloc, script, shape, ends, report),
+    }
+}
+
+// The answer for a script whose search found these ends.
+fn answer_ends(
+    alloc: Global,
+    asked: Asked,
+    script: &Script,
+    shape: Shape,
+    ends: Vec<End>,
+    report: &[u8],
+) -> Result<Response, Memory>
+    requires range { InRange asked }
+    requires sizes { shape ≡ sizes_for asked script.now.ranks }
+    requires tells { TellsAll shape script.now.lines ends.items }
+    ensures { IfOk result (IsAnswerFor asked script.now.ranks script.now.lines report.now) }
+{
+    match tell(alloc, asked.question, script, shape, ends, report)? {
+        Finding::Told { telling } => Ok(Response::Told { telling }),
+        Finding::TooLong => Ok(Response::Outgrown {
+            states: asked.states,
+        }),
+        Finding::Unlawful => Ok(Response::Unlawful),
+    }
+}
+
+/// The answer for a script, with the report that is asked of.
+pub fn answer_script(
+    alloc: Global,
+    asked: Asked,
+    script: &Script,
+    report: &[u8],
+) -> Result<Response, Memory>
+    requires { InRange asked }
+    ensures { IfOk result (IsAnswerFor asked script.now.ranks script.now.lines report.now) }
+{
+    let shape = Shape::new(script.ranks, asked.cells, asked.eager).unwrap();
+    match explore(alloc, script, shape, asked.states)? {
+        Explored::All(ends) => answer_ends(alloc, asked, script, shape, ends.into_vec(), report),
+        Explored::TooMany => Ok(Response::Outgrown {
+            states: asked.states,
+        }),
+    }
+}
