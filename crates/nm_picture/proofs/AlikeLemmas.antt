@@ -63,10 +63,10 @@ picture_same : (xs ys : List RankAccount) (frame : Frame) → frame.lanes ≤ le
     AreAlike xs ys → picture_text frame xs ≡ picture_text frame ys
 unfolding picture_text shapes_text
 picture_same xs ys frame m n h =
-    ap (λ l. l ++ ((marks_text frame xs ++ arrows_text frame xs) ++ codes "</svg>\n")) (front_same xs ys frame h)
-    ∙ ap (λ l. front_text frame ys ++ ((l ++ arrows_text frame xs) ++ codes "</svg>\n"))
+    ap (λ l. l ++ ((marks_text frame xs ++ arrows_text frame xs) ++ codes "</g>\n</svg>\n")) (front_same xs ys frame h)
+    ∙ ap (λ l. front_text frame ys ++ ((l ++ arrows_text frame xs) ++ codes "</g>\n</svg>\n"))
     (marks_same xs ys frame m n h)
-    ∙ ap (λ l. front_text frame ys ++ ((marks_text frame ys ++ l) ++ codes "</svg>\n"))
+    ∙ ap (λ l. front_text frame ys ++ ((marks_text frame ys ++ l) ++ codes "</g>\n</svg>\n"))
     (arrows_same xs ys frame h)
 
 pub alike-picture : (run other : RunRecord) (text : List ℕ) → AreAlike run.ranks other.ranks → IsPictureOf run text →

@@ -204,8 +204,11 @@ text-escaped name tags (b ∷ xs) =
     ∙ text-escaped name tags xs
 
 -- inside the picture, and in its shapes
+abbrev root : List (List ℕ)
+root = codes "svg" ∷ []
+
 abbrev svg : List (List ℕ)
-svg = codes "svg" ∷ []
+svg = codes "g" ∷ root
 
 abbrev in_use : List (List ℕ)
 in_use = codes "use" ∷ svg
@@ -451,13 +454,13 @@ lane-read frame lane =
 size-read : (width height : ℕ) → read Before (size_text width height) ≡ Between svg
 unfolding size_text
 size-read width height =
-    let third : List ℕ = codes " " ++ (decimal height ++ codes "\">\n") in
+    let third : List ℕ = codes " " ++ (decimal height ++ codes "\">\n<g>\n") in
     let second : List ℕ = codes "\" viewBox=\"0 0 " ++ (decimal width ++ third) in
     let first : List ℕ = codes "\" height=\"" ++ (decimal height ++ second) in
-    value-number svg width first
-    ∙ value-number svg height second
-    ∙ value-number svg width third
-    ∙ value-number svg height (codes "\">\n")
+    value-number root width first
+    ∙ value-number root height second
+    ∙ value-number root width third
+    ∙ value-number root height (codes "\">\n<g>\n")
 
 left_out-read : (count : ℕ) → Keeps (left_out_text count)
 unfolding left_out_text
@@ -581,6 +584,6 @@ shapes-read frame ranks =
 pub picture-well_formed : (frame : Frame) (ranks : List RankAccount) → IsWellFormed (picture_text frame ranks)
 unfolding picture_text
 picture-well_formed frame ranks =
-    behind Before (Between svg) (front_text frame ranks) (shapes_text frame ranks ++ codes "</svg>\n")
+    behind Before (Between svg) (front_text frame ranks) (shapes_text frame ranks ++ codes "</g>\n</svg>\n")
     (front-read frame ranks)
-    ∙ behind (Between svg) (Between svg) (shapes_text frame ranks) (codes "</svg>\n") (shapes-read frame ranks)
+    ∙ behind (Between svg) (Between svg) (shapes_text frame ranks) (codes "</g>\n</svg>\n") (shapes-read frame ranks)

@@ -233,12 +233,13 @@ left_out_text count =
 unfoldable pub note_text : ℕ → List ℕ
 note_text count = if count == 0 then [] else left_out_text count
 
--- the start tag of the picture, with its size
+-- the start tags of the picture, with its size, and of the one group that all of it stands in: a browser
+-- looks through the children of the root again for each part that it reads
 unfoldable pub size_text : ℕ → ℕ → List ℕ
 size_text width height =
     codes "<svg xmlns=\"http://www.w3.org/2000/svg\" width=\"" ++ (decimal width
     ++ (codes "\" height=\"" ++ (decimal height ++ (codes "\" viewBox=\"0 0 " ++ (decimal width
-    ++ (codes " " ++ (decimal height ++ codes "\">\n")))))))
+    ++ (codes " " ++ (decimal height ++ codes "\">\n<g>\n")))))))
 
 -- the start tag of a picture with this frame
 unfoldable pub head_text : Frame → List ℕ
@@ -328,7 +329,7 @@ shapes_text frame ranks = marks_text frame ranks ++ arrows_text frame ranks
 
 -- the whole picture
 unfoldable pub picture_text : Frame → List RankAccount → List ℕ
-picture_text frame ranks = front_text frame ranks ++ (shapes_text frame ranks ++ codes "</svg>\n")
+picture_text frame ranks = front_text frame ranks ++ (shapes_text frame ranks ++ codes "</g>\n</svg>\n")
 
 -- the text is the picture of this run
 pub record IsPictureOf (run : RunRecord) (text : List ℕ) : Type 0 where

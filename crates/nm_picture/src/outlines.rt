@@ -185,7 +185,7 @@ pub fn push_left_out(out: &mut String, frame: &Frame) -> Result<(), AllocError>
     }
 }
 
-/// Writes the start tag of a picture of this size.
+/// Writes the start tag of a picture of this size, and that of the group in it.
 #[tactic(auto, unfolding(crate::specs::Pictures::size_text))]
 fn push_svg(out: &mut String, width: u64, height: u64) -> Result<(), AllocError>
     ensures ok { OnOk result
@@ -193,7 +193,7 @@ fn push_svg(out: &mut String, width: u64, height: u64) -> Result<(), AllocError>
 {
     write!(
         out,
-        "<svg xmlns=\"http://www.w3.org/2000/svg\" width=\"{width}\" height=\"{height}\" viewBox=\"0 0 {width} {height}\">\n"
+        "<svg xmlns=\"http://www.w3.org/2000/svg\" width=\"{width}\" height=\"{height}\" viewBox=\"0 0 {width} {height}\">\n<g>\n"
     )
 }
 

@@ -115,7 +115,7 @@ fn push_all(
 {
     push_front(alloc, out, frame, ranks)?;
     push_shapes(alloc, out, frame, ranks)?;
-    out.push_str("</svg>\n")
+    out.push_str("</g>\n</svg>\n")
 }
 
 /// The picture of a run.
