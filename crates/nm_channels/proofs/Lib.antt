@@ -33,4 +33,3 @@ pub mod Bodies
 pub mod Settled
 pub mod Run
 pub mod SoFar
-mod OverNow

@@ -2,4 +2,3 @@
 
 pub mod logs;
 pub mod settled;
-pub mod so_far;

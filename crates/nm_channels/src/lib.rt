@@ -13,8 +13,6 @@
 //! `IsEnd` says that a rank has nothing left to send, `IsChannel` that a channel is empty, and
 //! `AreEnds` both of two ranks, which may be the same (`specs/Ends`).
 //! # What is proved
-//! - `so_far`: an eager message that is over by the packets taken so far has its body; what a packet
-//!   makes whole is over by it, and stays so.
 //! - `logs::moments_go_on`: a log stays sound by one moment more, and how what it shows grows.
 //! - `settled::ends_are_settled`: the messages between two ends are delivered, in order and with
 //!   their bodies; the eager ones, and those that were sent by asking and are paired, are over;
@@ -23,7 +21,8 @@
 //! - `settled::ends_make_a_run`: where this holds of each two ranks, and each rank is at its end or
 //!   waits for what can't come, the histories are a run of the script.
 //!
-//! The laws say what the lemmas of `proofs/` come to, which proofs above cite.
+//! The laws say what the lemmas of `proofs/` come to, which proofs above cite, as they do the lemma
+//! that an eager message has its body once it is over by the packets taken so far (`SoFar`).
 #![tactic(auto)]
 
 pub mod laws;

@@ -1,6 +1,4 @@
 //! Laws of the ranks of a run. Each is the contract of a function that does nothing.
 
-pub mod between;
-pub mod passing;
 pub mod rest;
 pub mod starts;

@@ -11,18 +11,12 @@
 //! `OneRank` is a rank with what no program keeps: its place among its commands, its log, the receives
 //! whose results were given, and what left it for each rank. `IsRankAt` says that it stands at its
 //! place, `IsPassed` that one rank took of another what left that one for it, and `HasNothingToSend`
-//! that nothing is left to send; `AreAtRest` says all of it of all ranks (`specs/Ranks`). `IsBetween`
-//! says what is between two ranks, which may be the same (`specs/Passing`).
+//! that nothing is left to send; `AreAtRest` says all of it of all ranks (`specs/Ranks`).
 //! # What is proved
 //! - `starts`: new ranks stand at their places, and nothing is between them.
-//! - `rest`: ranks at rest are ends of empty channels, and where each is at its end or waits for what
-//!   can't come, their histories are a run of the script. As many packets were popped as the histories
-//!   call for, and none that was taken was a stray; nor was a piece.
-//! - `between`: what leaves a rank comes between it and the receiver, behind the rest, and what is
-//!   taken was the first of it; and nothing else changes what is between two ranks. The first one has
-//!   the number that its receiver counts.
-//! - `passing`: where nothing is between any two ranks, so it is after one pops a packet or a piece and
-//!   its receiver takes it, and after a call by which nothing leaves and nothing is taken.
+//! - `rest`: where each of some ranks at rest is at its end or waits for what can't come, their
+//!   histories are a run of the script. As many packets were popped as the histories call for, and
+//!   none that was taken was a stray; nor was a piece.
 //!
 //! To use a law, call it.
 #![tactic(auto)]

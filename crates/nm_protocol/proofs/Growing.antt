@@ -80,13 +80,3 @@ stamped-same clock (w ∷ ws) = ap (λ (rest : List Happened). w ∷ rest) (stam
 pub stamped-count : (clock : ℕ) (ws : List Happened) → length (stamped clock ws) ≡ length ws
 stamped-count clock [] = refl
 stamped-count clock (w ∷ ws) = ap (λ (k : ℕ). suc k) (stamped-count (clock + 1) ws)
-
-pub stamped-only : (clock : ℕ) (events : List Event) → AreStamped clock events →
-    events ≡ stamped clock (happenings events)
-stamped-only clock [] stamps = refl
-stamped-only clock (e ∷ events) stamps =
-    let first : e ≡ record { stamp = clock + 1; what = e.what } = ap (λ (s : ℕ). record { stamp = s; what = e.what })
-    stamps.0 in
-    ap (λ (x : Event). x ∷ events) first
-    ∙ ap (λ (rest : List Event). record { stamp = clock + 1; what = e.what } ∷ rest)
-    (stamped-only (clock + 1) events stamps.1)

@@ -10,12 +10,9 @@ use Rattle.nm_history.specs.Delivery.{is_asked}
 use Rattle.nm_history.specs.RankRun.{Always, NumberAt, EndAt}
 use Rattle.nm_history.proofs.AtEachLemmas.{AtEach-split}
 use Rattle.nm_protocol.specs.Effects.{is_empty_send}
-use Rattle.nm_protocol.specs.Clearance.{left_of, pushed_out, to_push}
-use Rattle.std.proofs.lemmas.List.Elements.{filter_map-append}
-use Rattle.nm_protocol.specs.Known.{Known}
+use Rattle.nm_protocol.specs.Clearance.{left_of, pushed_out}
 use Rattle.nm_protocol.proofs.Sent.{sends_grow, sent_number, sends_numbered, any_within, sent_lasts}
 use Rattle.nm_facts.proofs.Numbers.{same_number}
-use Rattle.nm_facts.proofs.Lists.{all_along}
 use Rattle.nm_history.proofs.EachLemmas.{AtEach-prefix}
 
 -- what holds of each event by a split holds of each
@@ -96,22 +93,3 @@ left_lasts ranks j whole h of' =
           let early : n < length (sends h j) = omega (arith, first, to_j, grown, count) in
           rw (asked_lasts ranks j n whole h of' early, empty_lasts ranks j n whole h of' early) refl
     one b e after split w end' = refl
-
--- the messages that may be pushed stay those that were cleared
-pub to_push-append : (ranks to : ℕ) (h more : List Event) (known : Known) → Always (NumberAt ranks) (h ++ more) →
-    AllByRecursion (λ n. n < length (sends h to)) known.cleared → to_push (h ++ more) known to ≡ to_push h known to
-to_push-append ranks to h more known numbers early =
-    filter_same (λ n. not (is_empty_send (h ++ more) to n)) (λ n. not (is_empty_send h to n)) known.cleared
-    (all_along (λ n. n < length (sends h to)) (λ n. not (is_empty_send (h ++ more) to n) ≡ not (is_empty_send h to n))
-    known.cleared
-    (λ n before. ap (λ (b : Bool). not b)
-    (sym (sent_lasts ranks to n (λ (s : Sent). s.len == 0) (h ++ more) h more refl numbers before))) early)
-
--- those that left stay the first ones
-pub pushed_out-append : (ranks to : ℕ) (h more : List Event) → Always (NumberAt ranks) (h ++ more) →
-    Always EndAt (h ++ more) → pushed_out (h ++ more) to ≡ pushed_out h to ++ filter_map
-    (λ e. left_of (h ++ more) to e.what) more
-pushed_out-append ranks to h more numbers ends =
-    filter_map-append (λ (e : Event). left_of (h ++ more) to e.what) h more
-    ∙ ap (λ (ns : List ℕ). ns ++ filter_map (λ e. left_of (h ++ more) to e.what) more)
-    (sym (left_lasts ranks to (h ++ more) h (record { more = more; split = refl; numbers = numbers; ends = ends })))

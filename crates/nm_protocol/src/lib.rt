@@ -16,8 +16,9 @@
 //! - `to_push` has the messages that a rank may push in pieces, and `pushed_out` those that left.
 //! - `stamped` gives what happens the stamps that follow a clock.
 //! # What is proved
-//! `laws` has what follows when one packet, one piece or one event is added. The laws
-//! say what the lemmas of `proofs/` come to, which proofs above cite.
+//! `laws`: what is known of a rank agrees with the history of the rank that takes its packets, and
+//! stays so; and right events followed by right ones are right. What follows when one packet, one
+//! piece or one event is added stands in the lemmas of `proofs/`, which proofs above cite.
 #![tactic(auto)]
 
 pub mod laws;

@@ -12,10 +12,10 @@
 //! be gone once the result of its receive was given, so the relation has a list of the receives of
 //! which that is so.
 //! # What is proved
-//! - `moments`: a new rank has the empty log; what a rank does by itself, a packet and a piece that
-//!   it takes each add one moment, which may follow those before it; and a result adds none. A
-//!   result that shows a message shows the bytes of it that came by the log.
-//! - `calls`: the same for each call by which a rank acts by itself, from the clauses of that call.
+//! - `moments`: a new rank has the empty log; a packet and a piece that it takes each add one moment,
+//!   which may follow those before it; and a result adds none. A result that shows a message shows
+//!   the bytes of it that came by the log.
+//! - `calls`: each call by which a rank acts by itself adds one, from the clauses of that call.
 //!   An answer that shows a message may be recorded where it shows those bytes, and the result of a
 //!   request is such an answer to a wait or a test of it.
 //!

@@ -16,15 +16,12 @@
 //! - `learn` is the protocol's step, and takes no memory after `reserve`.
 //! - `events` gives what the protocol says that the packet makes happen, on every such history.
 //! - A piece continues where it is the first that is due, and its event is the protocol's.
-//! - Packet by packet, `learn` gives what is known by all packets that continued; and what was granted
-//!   stays what is due of a rank, piece by piece and grant by grant (`laws`).
 //! - After want of memory nothing that is known has changed.
 //! # What is only tested
 //! That calls which take memory succeed with ample memory.
 #![tactic(auto)]
 
 mod effects;
-pub mod laws;
 mod numbers;
 pub mod pieces;
 mod streams;

@@ -6,9 +6,7 @@ ghost use Rattle.nm_types.specs.declared.packets.Packet.{Packet};
 ghost use Rattle.nm_types.specs.declared.packets.Piece.{Piece};
 ghost use Rattle.nm_types.specs.Commands.{Numbered};
 ghost use Rattle.nm_types.specs.Sizes.{Sizes};
-ghost use Rattle.nm_history.specs.declared.events.Happened.{Happened};
 ghost use Rattle.nm_history.specs.Sends.{Sent};
-ghost use Rattle.nm_protocol.specs.Clock.{stamped};
 ghost use Rattle.nm_protocol.specs.Pieces.{due_pieces};
 ghost use Rattle.nm_protocol.specs.Rules.{AreRight};
 ghost use Rattle.nm_receiving.specs.Receipts.{drawn_from};
@@ -17,40 +15,18 @@ ghost use Rattle.nm_request.specs.declared.Kind.TheVariants as kind;
 ghost use Rattle.nm_request.specs.declared.Req.{Req};
 ghost use Rattle.nm_request.specs.Requests.{kind_of};
 ghost use Rattle.nm_channels.specs.Moments.{Moment};
-ghost use Rattle.nm_channels.specs.Moments.Cause.{Acted};
-ghost use Rattle.nm_channels.specs.Sound.{MadeBy};
-ghost use Rattle.nm_rank.specs.Calls.{Notes, Starts, TakesNone, TakesPacket, TakesPiece};
+ghost use Rattle.nm_rank.specs.Calls.{TakesPacket, TakesPiece};
 ghost use Rattle.nm_rank.specs.New.{IsNew};
 ghost use Rattle.nm_rank.specs.Ranks.{RankView};
 ghost use Rattle.nm_rank.specs.Requests.{Finishes};
-ghost use Rattle.nm_rank_log.specs.Calls.{IsNext, ShowsLogged, given_after};
+ghost use Rattle.nm_rank_log.specs.Calls.{ShowsLogged, given_after};
 ghost use Rattle.nm_rank_log.specs.Logged.{IsLogged};
-ghost use Rattle.nm_rank_log.specs.Moments.{acted, drew, took};
+ghost use Rattle.nm_rank_log.specs.Moments.{drew, took};
 
 /// A new rank has the empty log.
 pub fn a_log_begins()
     ensures { (bodies : Sent → List ℕ) (commands : List Numbered) (shape : Sizes) (me : ℕ)
         (v : RankView) → IsNew shape me v → IsLogged shape.eager bodies commands v [] [] }
-{}
-
-/// A call by which nothing comes and no request is added makes one moment, of what happened: where
-/// a rank may do that by itself.
-pub fn a_rank_acts()
-    ensures { (eager : ℕ) (bodies : Sent → List ℕ) (commands : List Numbered) (v v' : RankView)
-        (log : List Moment) (given : List ℕ) (ws : List Happened) →
-        IsLogged eager bodies commands v log given → Notes ws v v' → TakesNone v v' →
-        v'.requests ≡ v.requests → MadeBy eager bodies commands log Acted (stamped v.clock ws) →
-        IsLogged eager bodies commands v' (log ++ acted v ws ∷ []) given }
-{}
-
-/// So does a call that starts a send or a receive: the one with the next number.
-pub fn a_rank_starts()
-    ensures { (eager : ℕ) (bodies : Sent → List ℕ) (commands : List Numbered) (v v' : RankView)
-        (log : List Moment) (given : List ℕ) (ws : List Happened) (k : Kind) (r : Req) →
-        IsLogged eager bodies commands v log given → Starts bodies ws k v v' r →
-        IsNext v.events v'.events k →
-        MadeBy eager bodies commands log Acted (stamped v.clock ws) →
-        IsLogged eager bodies commands v' (log ++ acted v ws ∷ []) given }
 {}
 
 /// A packet that is taken makes one moment: it continues its stream or is a stray.

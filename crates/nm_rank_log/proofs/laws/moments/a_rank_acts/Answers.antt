@@ -1,6 +1,0 @@
--- By the lemma on this kind of moment.
-use Rattle.nm_rank_log.proofs.Moments.{rank_acts}
-use Rattle.nm_rank_log.proofs.laws.moments.a_rank_acts.Goals as goal
-
-pub returns : goal.returns
-returns c = rank_acts
