@@ -15,7 +15,7 @@
 //!   status. No failure of the source or the sink is passed over.
 //! - At 5 the sink took a front of the text that was due. At 6 nothing was written.
 //! # What is only tested
-//! That it succeeds with ample memory (`nm_texts_rows`).
+//! That it succeeds with ample memory (`.ci/examples`).
 #![tactic(auto)]
 
 mod answers;

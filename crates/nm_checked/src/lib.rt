@@ -11,7 +11,7 @@
 //! - The texts of a verdict and of a fault of the trace are those of the definitions.
 //! # What is only tested
 //! That `check` succeeds with ample memory, on a trace of one command and on one of a message, and
-//! on what a change of one line makes of them (`nm_check_rows`).
+//! on what a change of one line makes of them (`tests/traces`).
 #![tactic(auto)]
 
 mod checks;

@@ -15,7 +15,7 @@
 //! - The lines of each flood keep the limits of a script. Each is a send, a receive that names its
 //!   source and its tag, or a wait (`laws`).
 //! # What is only tested
-//! That `flood_script` succeeds with ample memory (`nm_texts_rows`).
+//! That `flood_script` succeeds with ample memory (`nm_rows`).
 #![tactic(auto)]
 
 pub mod laws;

@@ -12,7 +12,7 @@
 //! - `add` takes no memory. It asks for room, which `reserve` makes; want of memory changes nothing but
 //!   the room.
 //! # What is only tested
-//! That `reserve` succeeds with ample memory (`nm_basics_rows`).
+//! That `reserve` succeeds with ample memory (`.ci/examples`).
 #![tactic(auto)]
 
 mod journals;

@@ -16,7 +16,7 @@
 //! - `put` takes no memory. It asks for room, which `reserve` makes; want of memory changes nothing but
 //!   the room.
 //! # What is only tested
-//! That `new` and `reserve` succeed with ample memory (`nm_basics_rows`).
+//! That `new` and `reserve` succeed with ample memory (`.ci/examples`).
 #![tactic(auto)]
 
 pub mod laws;

@@ -9,7 +9,7 @@
 //! # What is proved
 //! Each call gives what the definition of its name says, and `all_pairs` the pairs of the history.
 //! # What is only tested
-//! That `all_pairs` succeeds with ample memory (`nm_basics_rows`).
+//! That `all_pairs` succeeds with ample memory (`.ci/examples`).
 #![tactic(auto)]
 
 mod pairs;

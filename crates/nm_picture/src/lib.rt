@@ -9,7 +9,7 @@
 //! - `laws`: a run has one picture, the same with silent ranks behind its own, and it is well-formed
 //!   markup. Each sign of the legend is drawn.
 //! # What is only tested
-//! That it succeeds with ample memory (`nm_texts_rows`), and that a browser shows what is meant.
+//! That it succeeds with ample memory (`.ci/examples`), and that a browser shows what is meant.
 #![tactic(auto)]
 
 mod arrows;

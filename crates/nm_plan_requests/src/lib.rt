@@ -11,7 +11,7 @@
 //! - `Request::allows` says whether a request is in a state for a command.
 //! - `push_lines_for` puts just the commands that a line stands for.
 //! # What is only tested
-//! That they succeed with ample memory, by the rows of `nm_texts_rows`.
+//! That they succeed with ample memory, by the plans of `.ci/examples`.
 #![tactic(auto)]
 
 mod ends;

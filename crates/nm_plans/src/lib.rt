@@ -26,7 +26,7 @@
 //! - A line is read from its words exactly as the table has it, or refused with the first fault that
 //!   it has for itself, unless memory runs out (`line_from`).
 //! # What is only tested
-//! That reading succeeds with ample memory, by the rows of `nm_texts_rows`.
+//! That reading succeeds with ample memory, by the plans of `.ci/examples`.
 #![tactic(auto)]
 
 mod bodies;

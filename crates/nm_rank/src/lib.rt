@@ -19,7 +19,7 @@
 //!   (`laws::pieces_are_due`).
 //! - After want of memory the rank is as it was (`err`).
 //! # What is only tested
-//! That calls which take memory succeed with ample memory (`nm_rank_rows`).
+//! That calls which take memory succeed with ample memory (`.ci/examples`).
 #![tactic(auto)]
 
 mod answers;
