@@ -4,6 +4,7 @@ use Rattle.std.proofs.Common.{List, [], ◌∷◌, ◌++◌, length, get_or, tak
 use Rattle.std.proofs.Common.{refl, sym, ◌∙◌, ap, subst, arith}
 use Rattle.std.specs.Prelude.{IsSomeAnd}
 use Rattle.std.specs.List.{AllByRecursion, find, list_any, slice_get}
+use Rattle.std.specs.Option.{option_map}
 use Rattle.std.proofs.Math.ListN.{set}
 use Rattle.std.proofs.Math.Seq.{take-suc}
 use Rattle.std.proofs.lemmas.Bool.{false≢true}
@@ -171,3 +172,14 @@ pub all_at : {X : Type 0} (P : X → Type 0) (xs : List X) (k : ℕ) (x : X) →
 all_at P [] k x each here = absurd (no_some x here)
 all_at P (y ∷ ys) zero x each here = subst P (same_some y x here) each.0
 all_at P (y ∷ ys) (suc k) x each here = all_at P ys k x each.1 here
+
+-- what is found of values is the value of what is found
+pub find-map : {A B : Type 0} (f : A → B) (test : B → Bool) (xs : List A) →
+    find test (map f xs) ≡ option_map f (find (λ x. test (f x)) xs)
+find-map f test [] = refl
+find-map {A} {B} f test (x ∷ xs) = by_test (test (f x)) (find-map f test xs)
+  where
+    by_test : (b : Bool) → find test (map f xs) ≡ option_map f (find (λ x. test (f x)) xs) →
+        cond b (Some (f x)) (find test (map f xs)) ≡ option_map f (cond b (Some x) (find (λ x. test (f x)) xs))
+    by_test true later = refl
+    by_test false later = later

@@ -131,16 +131,6 @@ count-placed_new {X} same test behind x xs = by_same (list_any same xs)
         ∙ length-append (filter test xs) (filter test (x ∷ []))
     by_same false = count-placed test behind x xs
 
-pub find-map : {A B : Type 0} (f : A → B) (test : B → Bool) (xs : List A) →
-    find test (map f xs) ≡ option_map f (find (λ x. test (f x)) xs)
-find-map f test [] = refl
-find-map {A} {B} f test (x ∷ xs) = by_test (test (f x)) (find-map f test xs)
-  where
-    by_test : (b : Bool) → find test (map f xs) ≡ option_map f (find (λ x. test (f x)) xs) →
-        cond b (Some (f x)) (find test (map f xs)) ≡ option_map f (cond b (Some x) (find (λ x. test (f x)) xs))
-    by_test true later = refl
-    by_test false later = later
-
 pub filter-map : {A B : Type 0} (f : A → B) (test : B → Bool) (xs : List A) →
     map f (filter (λ x. test (f x)) xs) ≡ filter test (map f xs)
 filter-map f test [] = refl

@@ -31,7 +31,8 @@ use Rattle.nm_spots.specs.Spots.{IsSpotOf, Spot, arrived_at, arrived_by, is_clos
 use Rattle.nm_spots.specs.Spots.{is_that}
 use Rattle.nm_spots.specs.Spots.{message_of_spot, posted_at, receive_of_spot, spot_after, taken_at}
 use Rattle.nm_spots.specs.Spots.{with_arrival, withdrawn_at, without_number}
-use Rattle.nm_spots.proofs.ListLemmas.{any-placed, filter-map, find-map}
+use Rattle.nm_facts.proofs.Lists.{find-map}
+use Rattle.nm_spots.proofs.ListLemmas.{any-placed, filter-map}
 use Rattle.nm_spots.proofs.SpotLemmas.{came_next, closed_is, deeds_next, deeds_same, gone_is}
 use Rattle.nm_spots.proofs.SpotLemmas.{is_withdraw_any}
 use Rattle.nm_spots.proofs.SpotLemmas.{known_next, next, paired_next, pairs_with, place_at, taken_next}
