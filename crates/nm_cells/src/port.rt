@@ -33,7 +33,6 @@ pub struct Fabric {
 /// The token of one rank. It has a seat of the fabric's table, and what its program has to remember
 /// of what the seat knows: the shadow heads, the counts, the slots in hand, the loose cells, and at
 /// most one held packet.
-#[derive(Drop)]
 pub struct Port {
     pub(crate) seat: BoardSeat,
     pub(crate) rank: u8,
@@ -64,6 +63,24 @@ pub struct Port {
     pub ghost boxes: { HoldsBoxes (mine seat.me) seat.me.1 },
     pub ghost counts: { ∥ CountsFor (mine seat.me) peers.items held ∥₁ },
     pub ghost kept: { AreKept loose (mine seat.me) seat.me.1 },
+}
+
+impl Drop for Port {
+    fn drop(self) {
+        let Port {
+            seat: _,
+            rank: _,
+            receive: _,
+            free: _,
+            receive_missed: _,
+            free_missed: _,
+            carried: _,
+            hands: _,
+            peers: _,
+            held: _,
+            loose: _,
+        } = self;
+    }
 }
 
 impl Port {

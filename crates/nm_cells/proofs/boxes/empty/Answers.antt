@@ -476,3 +476,63 @@ returns-clause-hands g c =
     (subst (λ u. ¬ plays.Came (mine c.empty_slot.new.seat.me) j (number u)) load then.1) in
     let some = calls.emptied_hands f q o₂ j few c.store.new.seat.me slot w b.front y at₂ was is in
     let same = b.same.3 in omega arith
+
+pub invariant_of-port-clause-alone : goal.invariant_of-port-clause-alone
+invariant_of-port-clause-alone g c =
+    let q = c.bring_slot.new.port in let j = c.args.sender in
+    let then = subst (λ t. plays.got_boxed t c.empty_slot.new.seat.me c.store.new.seat.me)
+    (sym c.requires.told) c.store.ensures.2.1 in
+    let is = then.0 ∙ ap (λ m. (
+      view (plays.with_got_box (plays.box_load j (mine m) ∷ [])
+          (plays.with_emptying j None (mine m)) ∷ []),
+      rest m.1,
+    )) c.empty_slot.ensures.emptied in
+    subst plays.Alone (sym is) refl
+
+pub invariant_of-port-clause-named : goal.invariant_of-port-clause-named
+invariant_of-port-clause-named g c =
+    let q = c.bring_slot.new.port in let j = c.args.sender in
+    let then = subst (λ t. plays.got_boxed t c.empty_slot.new.seat.me c.store.new.seat.me)
+    (sym c.requires.told) c.store.ensures.2.1 in
+    let is = then.0 ∙ ap (λ m. (
+      view (plays.with_got_box (plays.box_load j (mine m) ∷ [])
+          (plays.with_emptying j None (mine m)) ∷ []),
+      rest m.1,
+    )) c.empty_slot.ensures.emptied in
+    ap (λ m. (mine m).rank) is ∙ q.named
+
+pub invariant_of-port-clause-ends : goal.invariant_of-port-clause-ends
+invariant_of-port-clause-ends g c =
+    let q = c.bring_slot.new.port in let j = c.args.sender in
+    let then = subst (λ t. plays.got_boxed t c.empty_slot.new.seat.me c.store.new.seat.me)
+    (sym c.requires.told) c.store.ensures.2.1 in
+    let is = then.0 ∙ ap (λ m. (
+      view (plays.with_got_box (plays.box_load j (mine m) ∷ [])
+          (plays.with_emptying j None (mine m)) ∷ []),
+      rest m.1,
+    )) c.empty_slot.ensures.emptied in
+    (ap (λ m. (mine m).receive) is ∙ q.ends.0, ap (λ m. (mine m).free) is ∙ q.ends.1)
+
+pub invariant_of-port-clause-missed : goal.invariant_of-port-clause-missed
+invariant_of-port-clause-missed g c =
+    let q = c.bring_slot.new.port in let j = c.args.sender in
+    let then = subst (λ t. plays.got_boxed t c.empty_slot.new.seat.me c.store.new.seat.me)
+    (sym c.requires.told) c.store.ensures.2.1 in
+    let is = then.0 ∙ ap (λ m. (
+      view (plays.with_got_box (plays.box_load j (mine m) ∷ [])
+          (plays.with_emptying j None (mine m)) ∷ []),
+      rest m.1,
+    )) c.empty_slot.ensures.emptied in
+    (ap (λ m. (mine m).receive_missed) is ∙ q.missed.0, ap (λ m. (mine m).free_missed) is ∙ q.missed.1)
+
+pub invariant_of-port-clause-small : goal.invariant_of-port-clause-small
+invariant_of-port-clause-small g c =
+    let q = c.bring_slot.new.port in let j = c.args.sender in
+    let then = subst (λ t. plays.got_boxed t c.empty_slot.new.seat.me c.store.new.seat.me)
+    (sym c.requires.told) c.store.ensures.2.1 in
+    let is = then.0 ∙ ap (λ m. (
+      view (plays.with_got_box (plays.box_load j (mine m) ∷ [])
+          (plays.with_emptying j None (mine m)) ∷ []),
+      rest m.1,
+    )) c.empty_slot.ensures.emptied in
+    subst (λ n. (q.receive.shadow ≤ n) × (q.receive.seen ≤ n) × (q.free.shadow ≤ n) × (q.free.seen ≤ n)) (sym (ap (λ m. length (mine m).hands) is)) q.small

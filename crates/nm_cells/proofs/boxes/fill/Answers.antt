@@ -365,3 +365,58 @@ returns-clause-put g c =
       rest m.1,
     )) c.fill_slot.ensures.filled in
     ap mine is ∙ ap (λ u. plays.with_put_box ((j, y) ∷ []) (plays.with_filling j false (sole u.entries))) v
+
+pub invariant_of-port-clause-alone : goal.invariant_of-port-clause-alone
+invariant_of-port-clause-alone g c =
+    let q = c.bring_slot.new.port in let j = c.args.to in
+    let is = subst (λ t. plays.put_boxed t c.fill_slot.new.seat.me c.store.new.seat.me)
+    (sym c.requires.told) c.store.ensures.2.1 ∙ ap (λ m. (
+      view (plays.with_put_box ((j, plays.first_load m.1) ∷ [])
+          (plays.with_filling j false (mine m)) ∷ []),
+      rest m.1,
+    )) c.fill_slot.ensures.filled in
+    subst plays.Alone (sym is) refl
+
+pub invariant_of-port-clause-named : goal.invariant_of-port-clause-named
+invariant_of-port-clause-named g c =
+    let q = c.bring_slot.new.port in let j = c.args.to in
+    let is = subst (λ t. plays.put_boxed t c.fill_slot.new.seat.me c.store.new.seat.me)
+    (sym c.requires.told) c.store.ensures.2.1 ∙ ap (λ m. (
+      view (plays.with_put_box ((j, plays.first_load m.1) ∷ [])
+          (plays.with_filling j false (mine m)) ∷ []),
+      rest m.1,
+    )) c.fill_slot.ensures.filled in
+    ap (λ m. (mine m).rank) is ∙ q.named
+
+pub invariant_of-port-clause-ends : goal.invariant_of-port-clause-ends
+invariant_of-port-clause-ends g c =
+    let q = c.bring_slot.new.port in let j = c.args.to in
+    let is = subst (λ t. plays.put_boxed t c.fill_slot.new.seat.me c.store.new.seat.me)
+    (sym c.requires.told) c.store.ensures.2.1 ∙ ap (λ m. (
+      view (plays.with_put_box ((j, plays.first_load m.1) ∷ [])
+          (plays.with_filling j false (mine m)) ∷ []),
+      rest m.1,
+    )) c.fill_slot.ensures.filled in
+    (ap (λ m. (mine m).receive) is ∙ q.ends.0, ap (λ m. (mine m).free) is ∙ q.ends.1)
+
+pub invariant_of-port-clause-missed : goal.invariant_of-port-clause-missed
+invariant_of-port-clause-missed g c =
+    let q = c.bring_slot.new.port in let j = c.args.to in
+    let is = subst (λ t. plays.put_boxed t c.fill_slot.new.seat.me c.store.new.seat.me)
+    (sym c.requires.told) c.store.ensures.2.1 ∙ ap (λ m. (
+      view (plays.with_put_box ((j, plays.first_load m.1) ∷ [])
+          (plays.with_filling j false (mine m)) ∷ []),
+      rest m.1,
+    )) c.fill_slot.ensures.filled in
+    (ap (λ m. (mine m).receive_missed) is ∙ q.missed.0, ap (λ m. (mine m).free_missed) is ∙ q.missed.1)
+
+pub invariant_of-port-clause-small : goal.invariant_of-port-clause-small
+invariant_of-port-clause-small g c =
+    let q = c.bring_slot.new.port in let j = c.args.to in
+    let is = subst (λ t. plays.put_boxed t c.fill_slot.new.seat.me c.store.new.seat.me)
+    (sym c.requires.told) c.store.ensures.2.1 ∙ ap (λ m. (
+      view (plays.with_put_box ((j, plays.first_load m.1) ∷ [])
+          (plays.with_filling j false (mine m)) ∷ []),
+      rest m.1,
+    )) c.fill_slot.ensures.filled in
+    subst (λ n. (q.receive.shadow ≤ n) × (q.receive.seen ≤ n) × (q.free.shadow ≤ n) × (q.free.seen ≤ n)) (sym (ap (λ m. length (mine m).hands) is)) q.small

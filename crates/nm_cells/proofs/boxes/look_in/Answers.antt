@@ -414,3 +414,157 @@ returns-clause-holding g c =
     let told = subst (λ k. plays.IsToEmpty j (taken_by p j) k p.seat.me c.load-found.new.seat.me) back
     (then.0 (let z : c.load-found.result ≡ suc (taken_by p j) = omega arith in z)) in
     calls.begun_holds f p o j few c.load-found.new.seat.me c.box_at-slot.result (taken_by p j) at told
+
+pub invariant_of-port-clause-alone : goal.invariant_of-port-clause-alone
+invariant_of-port-clause-alone g c =
+    let p = c.args.port.now in let j = c.args.sender in let t = c.requires.told in
+    let then = subst (λ k. plays.told_in k (taken_by p j) (step c.args.f.now.board.shared.table_id.slots
+    c.flag_word-word.result 0 0 maybe.none) p.seat.me c.load-found.result
+    c.load-found.new.seat.me) (sym t.0)
+    (subst (λ a. plays.told_in g.T.BoxStep.peer a (step c.args.f.now.board.shared.table_id.slots
+    c.flag_word-word.result 0 0 maybe.none) p.seat.me c.load-found.result
+    c.load-found.new.seat.me) (sym t.1) c.load-found.ensures.2.1) in
+    let same = ap (λ (u : Tally). u.taken) c.peer-peer.ensures in
+    let other = c.if-found-peer.true in
+    let is = then.1 (λ hit. other (let z : c.load-found.result ≡ c.peer-peer.result.taken + 1 =
+    omega arith in z)) in
+    subst plays.Alone (sym is) refl
+
+pub invariant_of-port-clause-named : goal.invariant_of-port-clause-named
+invariant_of-port-clause-named g c =
+    let p = c.args.port.now in let j = c.args.sender in let t = c.requires.told in
+    let then = subst (λ k. plays.told_in k (taken_by p j) (step c.args.f.now.board.shared.table_id.slots
+    c.flag_word-word.result 0 0 maybe.none) p.seat.me c.load-found.result
+    c.load-found.new.seat.me) (sym t.0)
+    (subst (λ a. plays.told_in g.T.BoxStep.peer a (step c.args.f.now.board.shared.table_id.slots
+    c.flag_word-word.result 0 0 maybe.none) p.seat.me c.load-found.result
+    c.load-found.new.seat.me) (sym t.1) c.load-found.ensures.2.1) in
+    let same = ap (λ (u : Tally). u.taken) c.peer-peer.ensures in
+    let other = c.if-found-peer.true in
+    let is = then.1 (λ hit. other (let z : c.load-found.result ≡ c.peer-peer.result.taken + 1 =
+    omega arith in z)) in
+    ap (λ m. (mine m).rank) is ∙ p.named
+
+pub invariant_of-port-clause-ends : goal.invariant_of-port-clause-ends
+invariant_of-port-clause-ends g c =
+    let p = c.args.port.now in let j = c.args.sender in let t = c.requires.told in
+    let then = subst (λ k. plays.told_in k (taken_by p j) (step c.args.f.now.board.shared.table_id.slots
+    c.flag_word-word.result 0 0 maybe.none) p.seat.me c.load-found.result
+    c.load-found.new.seat.me) (sym t.0)
+    (subst (λ a. plays.told_in g.T.BoxStep.peer a (step c.args.f.now.board.shared.table_id.slots
+    c.flag_word-word.result 0 0 maybe.none) p.seat.me c.load-found.result
+    c.load-found.new.seat.me) (sym t.1) c.load-found.ensures.2.1) in
+    let same = ap (λ (u : Tally). u.taken) c.peer-peer.ensures in
+    let other = c.if-found-peer.true in
+    let is = then.1 (λ hit. other (let z : c.load-found.result ≡ c.peer-peer.result.taken + 1 =
+    omega arith in z)) in
+    (ap (λ m. (mine m).receive) is ∙ p.ends.0, ap (λ m. (mine m).free) is ∙ p.ends.1)
+
+pub invariant_of-port-clause-missed : goal.invariant_of-port-clause-missed
+invariant_of-port-clause-missed g c =
+    let p = c.args.port.now in let j = c.args.sender in let t = c.requires.told in
+    let then = subst (λ k. plays.told_in k (taken_by p j) (step c.args.f.now.board.shared.table_id.slots
+    c.flag_word-word.result 0 0 maybe.none) p.seat.me c.load-found.result
+    c.load-found.new.seat.me) (sym t.0)
+    (subst (λ a. plays.told_in g.T.BoxStep.peer a (step c.args.f.now.board.shared.table_id.slots
+    c.flag_word-word.result 0 0 maybe.none) p.seat.me c.load-found.result
+    c.load-found.new.seat.me) (sym t.1) c.load-found.ensures.2.1) in
+    let same = ap (λ (u : Tally). u.taken) c.peer-peer.ensures in
+    let other = c.if-found-peer.true in
+    let is = then.1 (λ hit. other (let z : c.load-found.result ≡ c.peer-peer.result.taken + 1 =
+    omega arith in z)) in (
+      ap (λ m. (mine m).receive_missed) is ∙ p.missed.0,
+      ap (λ m. (mine m).free_missed) is ∙ p.missed.1,
+    )
+
+pub invariant_of-port-clause-small : goal.invariant_of-port-clause-small
+invariant_of-port-clause-small g c =
+    let p = c.args.port.now in let j = c.args.sender in let t = c.requires.told in
+    let then = subst (λ k. plays.told_in k (taken_by p j) (step c.args.f.now.board.shared.table_id.slots
+    c.flag_word-word.result 0 0 maybe.none) p.seat.me c.load-found.result
+    c.load-found.new.seat.me) (sym t.0)
+    (subst (λ a. plays.told_in g.T.BoxStep.peer a (step c.args.f.now.board.shared.table_id.slots
+    c.flag_word-word.result 0 0 maybe.none) p.seat.me c.load-found.result
+    c.load-found.new.seat.me) (sym t.1) c.load-found.ensures.2.1) in
+    let same = ap (λ (u : Tally). u.taken) c.peer-peer.ensures in
+    let other = c.if-found-peer.true in
+    let is = then.1 (λ hit. other (let z : c.load-found.result ≡ c.peer-peer.result.taken + 1 =
+    omega arith in z)) in
+    subst (λ n. (p.receive.shadow ≤ n) × (p.receive.seen ≤ n) × (p.free.shadow ≤ n)
+    × (p.free.seen ≤ n)) (sym (ap (λ m. length (mine m).hands) is)) p.small
+
+pub invariant_of-port-2-clause-alone : goal.invariant_of-port-2-clause-alone
+invariant_of-port-2-clause-alone g c =
+    let p = c.args.port.now in let j = c.args.sender in let t = c.requires.told in
+    let then = subst (λ k. plays.told_in k (taken_by p j) (step c.args.f.now.board.shared.table_id.slots
+    c.flag_word-word.result 0 0 maybe.none) p.seat.me c.load-found.result
+    c.load-found.new.seat.me) (sym t.0)
+    (subst (λ a. plays.told_in g.T.BoxStep.peer a (step c.args.f.now.board.shared.table_id.slots
+    c.flag_word-word.result 0 0 maybe.none) p.seat.me c.load-found.result
+    c.load-found.new.seat.me) (sym t.1) c.load-found.ensures.2.1) in
+    let same = ap (λ (u : Tally). u.taken) c.peer-peer.ensures in
+    let found = c.if-found-peer.false in
+    let is = (then.0 (let z : c.load-found.result ≡ suc (taken_by p j) = omega arith in z)).3 in
+    subst plays.Alone (sym is) refl
+
+pub invariant_of-port-2-clause-named : goal.invariant_of-port-2-clause-named
+invariant_of-port-2-clause-named g c =
+    let p = c.args.port.now in let j = c.args.sender in let t = c.requires.told in
+    let then = subst (λ k. plays.told_in k (taken_by p j) (step c.args.f.now.board.shared.table_id.slots
+    c.flag_word-word.result 0 0 maybe.none) p.seat.me c.load-found.result
+    c.load-found.new.seat.me) (sym t.0)
+    (subst (λ a. plays.told_in g.T.BoxStep.peer a (step c.args.f.now.board.shared.table_id.slots
+    c.flag_word-word.result 0 0 maybe.none) p.seat.me c.load-found.result
+    c.load-found.new.seat.me) (sym t.1) c.load-found.ensures.2.1) in
+    let same = ap (λ (u : Tally). u.taken) c.peer-peer.ensures in
+    let found = c.if-found-peer.false in
+    let is = (then.0 (let z : c.load-found.result ≡ suc (taken_by p j) = omega arith in z)).3 in
+    ap (λ m. (mine m).rank) is ∙ p.named
+
+pub invariant_of-port-2-clause-ends : goal.invariant_of-port-2-clause-ends
+invariant_of-port-2-clause-ends g c =
+    let p = c.args.port.now in let j = c.args.sender in let t = c.requires.told in
+    let then = subst (λ k. plays.told_in k (taken_by p j) (step c.args.f.now.board.shared.table_id.slots
+    c.flag_word-word.result 0 0 maybe.none) p.seat.me c.load-found.result
+    c.load-found.new.seat.me) (sym t.0)
+    (subst (λ a. plays.told_in g.T.BoxStep.peer a (step c.args.f.now.board.shared.table_id.slots
+    c.flag_word-word.result 0 0 maybe.none) p.seat.me c.load-found.result
+    c.load-found.new.seat.me) (sym t.1) c.load-found.ensures.2.1) in
+    let same = ap (λ (u : Tally). u.taken) c.peer-peer.ensures in
+    let found = c.if-found-peer.false in
+    let is = (then.0 (let z : c.load-found.result ≡ suc (taken_by p j) = omega arith in z)).3 in
+    (ap (λ m. (mine m).receive) is ∙ p.ends.0, ap (λ m. (mine m).free) is ∙ p.ends.1)
+
+pub invariant_of-port-2-clause-missed : goal.invariant_of-port-2-clause-missed
+invariant_of-port-2-clause-missed g c =
+    let p = c.args.port.now in let j = c.args.sender in let t = c.requires.told in
+    let then = subst (λ k. plays.told_in k (taken_by p j) (step c.args.f.now.board.shared.table_id.slots
+    c.flag_word-word.result 0 0 maybe.none) p.seat.me c.load-found.result
+    c.load-found.new.seat.me) (sym t.0)
+    (subst (λ a. plays.told_in g.T.BoxStep.peer a (step c.args.f.now.board.shared.table_id.slots
+    c.flag_word-word.result 0 0 maybe.none) p.seat.me c.load-found.result
+    c.load-found.new.seat.me) (sym t.1) c.load-found.ensures.2.1) in
+    let same = ap (λ (u : Tally). u.taken) c.peer-peer.ensures in
+    let found = c.if-found-peer.false in
+    let is = (then.0 (let z : c.load-found.result ≡ suc (taken_by p j) = omega arith in z)).3 in (
+      ap (λ m. (mine m).receive_missed) is ∙ p.missed.0,
+      ap (λ m. (mine m).free_missed) is ∙ p.missed.1,
+    )
+
+pub invariant_of-port-2-clause-small : goal.invariant_of-port-2-clause-small
+invariant_of-port-2-clause-small g c =
+    let p = c.args.port.now in let j = c.args.sender in let t = c.requires.told in
+    let then = subst (λ k. plays.told_in k (taken_by p j) (step c.args.f.now.board.shared.table_id.slots
+    c.flag_word-word.result 0 0 maybe.none) p.seat.me c.load-found.result
+    c.load-found.new.seat.me) (sym t.0)
+    (subst (λ a. plays.told_in g.T.BoxStep.peer a (step c.args.f.now.board.shared.table_id.slots
+    c.flag_word-word.result 0 0 maybe.none) p.seat.me c.load-found.result
+    c.load-found.new.seat.me) (sym t.1) c.load-found.ensures.2.1) in
+    let same = ap (λ (u : Tally). u.taken) c.peer-peer.ensures in
+    let found = c.if-found-peer.false in
+    let is = (then.0 (let z : c.load-found.result ≡ suc (taken_by p j) = omega arith in z)).3 in
+    subst (λ n. (p.receive.shadow ≤ n) × (p.receive.seen ≤ n) × (p.free.shadow ≤ n)
+    × (p.free.seen ≤ n)) (sym (ap (λ m. length (mine m).hands) is)) p.small
+
+pub returns-clause-overtaken : goal.returns-clause-overtaken
+returns-clause-overtaken g c _ = refl

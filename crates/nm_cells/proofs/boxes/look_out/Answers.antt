@@ -325,3 +325,99 @@ pub count_full-requires : goal.count_full-requires
 count_full-requires g c = let p = c.args.port.now in record {
   to = peer_low p c.args.to (calls.few c.args.f.now p c.requires.owns c.args.to c.requires.peer);
 }
+
+pub invariant_of-port-clause-alone : goal.invariant_of-port-clause-alone
+invariant_of-port-clause-alone g c =
+    let p = c.args.port.now in
+    let then = subst (λ t. plays.told_out t (step c.args.f.now.board.shared.table_id.slots
+    c.flag_word-word.result 0 0 maybe.none) p.seat.me c.load-found.result
+    c.load-found.new.seat.me) (sym c.requires.told) c.load-found.ensures.2.1 in
+    let some = c.if-found-ne0.true in let is = then.1 (omega arith) in
+    subst plays.Alone (sym is) refl
+
+pub invariant_of-port-clause-named : goal.invariant_of-port-clause-named
+invariant_of-port-clause-named g c =
+    let p = c.args.port.now in
+    let then = subst (λ t. plays.told_out t (step c.args.f.now.board.shared.table_id.slots
+    c.flag_word-word.result 0 0 maybe.none) p.seat.me c.load-found.result
+    c.load-found.new.seat.me) (sym c.requires.told) c.load-found.ensures.2.1 in
+    let some = c.if-found-ne0.true in let is = then.1 (omega arith) in
+    ap (λ m. (mine m).rank) is ∙ p.named
+
+pub invariant_of-port-clause-ends : goal.invariant_of-port-clause-ends
+invariant_of-port-clause-ends g c =
+    let p = c.args.port.now in
+    let then = subst (λ t. plays.told_out t (step c.args.f.now.board.shared.table_id.slots
+    c.flag_word-word.result 0 0 maybe.none) p.seat.me c.load-found.result
+    c.load-found.new.seat.me) (sym c.requires.told) c.load-found.ensures.2.1 in
+    let some = c.if-found-ne0.true in let is = then.1 (omega arith) in
+    (ap (λ m. (mine m).receive) is ∙ p.ends.0, ap (λ m. (mine m).free) is ∙ p.ends.1)
+
+pub invariant_of-port-clause-missed : goal.invariant_of-port-clause-missed
+invariant_of-port-clause-missed g c =
+    let p = c.args.port.now in
+    let then = subst (λ t. plays.told_out t (step c.args.f.now.board.shared.table_id.slots
+    c.flag_word-word.result 0 0 maybe.none) p.seat.me c.load-found.result
+    c.load-found.new.seat.me) (sym c.requires.told) c.load-found.ensures.2.1 in
+    let some = c.if-found-ne0.true in let is = then.1 (omega arith) in (
+      ap (λ m. (mine m).receive_missed) is ∙ p.missed.0,
+      ap (λ m. (mine m).free_missed) is ∙ p.missed.1,
+    )
+
+pub invariant_of-port-clause-small : goal.invariant_of-port-clause-small
+invariant_of-port-clause-small g c =
+    let p = c.args.port.now in
+    let then = subst (λ t. plays.told_out t (step c.args.f.now.board.shared.table_id.slots
+    c.flag_word-word.result 0 0 maybe.none) p.seat.me c.load-found.result
+    c.load-found.new.seat.me) (sym c.requires.told) c.load-found.ensures.2.1 in
+    let some = c.if-found-ne0.true in let is = then.1 (omega arith) in
+    subst (λ n. (p.receive.shadow ≤ n) × (p.receive.seen ≤ n) × (p.free.shadow ≤ n)
+    × (p.free.seen ≤ n)) (sym (ap (λ m. length (mine m).hands) is)) p.small
+
+pub invariant_of-port-2-clause-alone : goal.invariant_of-port-2-clause-alone
+invariant_of-port-2-clause-alone g c =
+    let p = c.args.port.now in
+    let then = subst (λ t. plays.told_out t (step c.args.f.now.board.shared.table_id.slots
+    c.flag_word-word.result 0 0 maybe.none) p.seat.me c.load-found.result
+    c.load-found.new.seat.me) (sym c.requires.told) c.load-found.ensures.2.1 in
+    let none = c.if-found-ne0.false in let is = (then.0 (omega arith)).1 in
+    subst plays.Alone (sym is) refl
+
+pub invariant_of-port-2-clause-named : goal.invariant_of-port-2-clause-named
+invariant_of-port-2-clause-named g c =
+    let p = c.args.port.now in
+    let then = subst (λ t. plays.told_out t (step c.args.f.now.board.shared.table_id.slots
+    c.flag_word-word.result 0 0 maybe.none) p.seat.me c.load-found.result
+    c.load-found.new.seat.me) (sym c.requires.told) c.load-found.ensures.2.1 in
+    let none = c.if-found-ne0.false in let is = (then.0 (omega arith)).1 in
+    ap (λ m. (mine m).rank) is ∙ p.named
+
+pub invariant_of-port-2-clause-ends : goal.invariant_of-port-2-clause-ends
+invariant_of-port-2-clause-ends g c =
+    let p = c.args.port.now in
+    let then = subst (λ t. plays.told_out t (step c.args.f.now.board.shared.table_id.slots
+    c.flag_word-word.result 0 0 maybe.none) p.seat.me c.load-found.result
+    c.load-found.new.seat.me) (sym c.requires.told) c.load-found.ensures.2.1 in
+    let none = c.if-found-ne0.false in let is = (then.0 (omega arith)).1 in
+    (ap (λ m. (mine m).receive) is ∙ p.ends.0, ap (λ m. (mine m).free) is ∙ p.ends.1)
+
+pub invariant_of-port-2-clause-missed : goal.invariant_of-port-2-clause-missed
+invariant_of-port-2-clause-missed g c =
+    let p = c.args.port.now in
+    let then = subst (λ t. plays.told_out t (step c.args.f.now.board.shared.table_id.slots
+    c.flag_word-word.result 0 0 maybe.none) p.seat.me c.load-found.result
+    c.load-found.new.seat.me) (sym c.requires.told) c.load-found.ensures.2.1 in
+    let none = c.if-found-ne0.false in let is = (then.0 (omega arith)).1 in (
+      ap (λ m. (mine m).receive_missed) is ∙ p.missed.0,
+      ap (λ m. (mine m).free_missed) is ∙ p.missed.1,
+    )
+
+pub invariant_of-port-2-clause-small : goal.invariant_of-port-2-clause-small
+invariant_of-port-2-clause-small g c =
+    let p = c.args.port.now in
+    let then = subst (λ t. plays.told_out t (step c.args.f.now.board.shared.table_id.slots
+    c.flag_word-word.result 0 0 maybe.none) p.seat.me c.load-found.result
+    c.load-found.new.seat.me) (sym c.requires.told) c.load-found.ensures.2.1 in
+    let none = c.if-found-ne0.false in let is = (then.0 (omega arith)).1 in
+    subst (λ n. (p.receive.shadow ≤ n) × (p.receive.seen ≤ n) × (p.free.shadow ≤ n)
+    × (p.free.seen ≤ n)) (sym (ap (λ m. length (mine m).hands) is)) p.small

@@ -12,6 +12,7 @@ use Rattle.nm_cells.proofs.PortLemmas.{takes_own, takes_owner}
 use Rattle.nm_table.specs.Plays.{Knowing, mine}
 use Rattle.nm_cells.specs.AtWork.{HoldsBoxes}
 use Rattle.nm_cells.specs.LooseCells.{AreKept}
+use Rattle.nm_table.specs.Plays.{Alone}
 use Rattle.nm_cells.proofs.consume.load_link_of.Goals as goal
 
 pub load-found-requires : goal.load-found-requires
@@ -173,3 +174,28 @@ returns-then-found-eq0-clause-none g c = let is = c.load-found.ensures.2.1 c.if-
     loose = refl;
   },
 )
+
+pub invariant_of-port-clause-alone : goal.invariant_of-port-clause-alone
+invariant_of-port-clause-alone g c =
+    let p = c.args.port.now in let is = c.load-found.ensures.2.1 c.if-found-eq0.true in
+    subst Alone (sym is) refl
+
+pub invariant_of-port-clause-named : goal.invariant_of-port-clause-named
+invariant_of-port-clause-named g c =
+    let p = c.args.port.now in let is = c.load-found.ensures.2.1 c.if-found-eq0.true in
+    ap (λ m. (mine m).rank) is ∙ p.named
+
+pub invariant_of-port-clause-ends : goal.invariant_of-port-clause-ends
+invariant_of-port-clause-ends g c =
+    let p = c.args.port.now in let is = c.load-found.ensures.2.1 c.if-found-eq0.true in
+    (ap (λ m. (mine m).receive) is ∙ p.ends.0, ap (λ m. (mine m).free) is ∙ p.ends.1)
+
+pub invariant_of-port-clause-missed : goal.invariant_of-port-clause-missed
+invariant_of-port-clause-missed g c =
+    let p = c.args.port.now in let is = c.load-found.ensures.2.1 c.if-found-eq0.true in
+    (ap (λ m. (mine m).receive_missed) is ∙ p.missed.0, ap (λ m. (mine m).free_missed) is ∙ p.missed.1)
+
+pub invariant_of-port-clause-small : goal.invariant_of-port-clause-small
+invariant_of-port-clause-small g c =
+    let p = c.args.port.now in let is = c.load-found.ensures.2.1 c.if-found-eq0.true in
+    subst (λ n. (p.receive.shadow ≤ n) × (p.receive.seen ≤ n) × (p.free.shadow ≤ n) × (p.free.seen ≤ n)) (sym (ap (λ m. length (mine m).hands) is)) p.small

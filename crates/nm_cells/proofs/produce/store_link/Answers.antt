@@ -88,3 +88,28 @@ returns-clause-holding g c = let p = c.args.port.now in
     ap (λ (m : plays.Knowing). held_in (length (plays.mine m).hands) m.1) c.store.ensures.2.1
     ∙ ap (λ n. held_in n p.seat.me.1)
     (length-set (knows p).hands ((c.args.enqueue.cell + 1) - 1) Away)
+
+pub invariant_of-port-clause-alone : goal.invariant_of-port-clause-alone
+invariant_of-port-clause-alone g c =
+    let p = c.args.port.now in let is = c.store.ensures.2.1 in
+    subst plays.Alone (sym is) refl
+
+pub invariant_of-port-clause-named : goal.invariant_of-port-clause-named
+invariant_of-port-clause-named g c =
+    let p = c.args.port.now in let is = c.store.ensures.2.1 in
+    ap (λ m. (plays.mine m).rank) is ∙ p.named
+
+pub invariant_of-port-clause-ends : goal.invariant_of-port-clause-ends
+invariant_of-port-clause-ends g c =
+    let p = c.args.port.now in let is = c.store.ensures.2.1 in
+    (ap (λ m. (plays.mine m).receive) is ∙ p.ends.0, ap (λ m. (plays.mine m).free) is ∙ p.ends.1)
+
+pub invariant_of-port-clause-missed : goal.invariant_of-port-clause-missed
+invariant_of-port-clause-missed g c =
+    let p = c.args.port.now in let is = c.store.ensures.2.1 in
+    (ap (λ m. (plays.mine m).receive_missed) is ∙ p.missed.0, ap (λ m. (plays.mine m).free_missed) is ∙ p.missed.1)
+
+pub invariant_of-port-clause-small : goal.invariant_of-port-clause-small
+invariant_of-port-clause-small g c =
+    let p = c.args.port.now in let is = c.store.ensures.2.1 in
+    subst (λ n. (p.receive.shadow ≤ n) × (p.receive.seen ≤ n) × (p.free.shadow ≤ n) × (p.free.seen ≤ n)) (sym (ap (λ m. length (plays.mine m).hands) is ∙ length-set (knows p).hands ((c.args.enqueue.cell + 1) - 1) Away)) p.small
