@@ -6,5 +6,7 @@ mod SentLemmas
 pub mod TableLemmas
 mod WasLemmas
 mod BodyLemmas
+mod FirstLemmas
+mod ReadLemmas
 mod MarkedLemmas
 pub mod ItemLemmas

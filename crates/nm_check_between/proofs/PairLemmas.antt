@@ -8,7 +8,7 @@ use Rattle.nm_history.specs.declared.events.Event.{Event}
 use Rattle.nm_history.specs.Quiescence.{EachPair, EachRank, Ended}
 use Rattle.nm_types.specs.declared.scripts.Line.{Line}
 use Rattle.nm_types.specs.Commands.{commands_of}
-use Rattle.nm_check_between.specs.Marked.{AreMarks, BreaksFirst, BreaksPair, history_of}
+use Rattle.nm_check_between.specs.Marked.{AreMarks, BreaksTo, BreaksPair, history_of}
 use Rattle.nm_check_rank.specs.FirstBroken.{IsFirstBroken}
 use Rattle.nm_check_between.specs.CarriedClauses.{KeepsCarried, PairDelivered, StandsBefore, carried_order}
 use Rattle.nm_check_between.specs.declared.marks.Marks.{Marks}
@@ -56,7 +56,7 @@ pub breaks_pair : (lines : List Line) (ranks : List Ended) (i j : ℕ) (c : Carr
     IsSomeAnd (slice_get ranks i) (λ rank. AreMarks lines ranks i rank.events marks) →
     UpTo (λ i a. EachRank (λ j b. PairDelivered lines i j a.events b.events) ranks) ranks i →
     ((rank : Ended) → history_of ranks i ≡ rank.events → AreMarks lines ranks i rank.events marks →
-    BreaksFirst lines ranks i rank.events j c) →
+    BreaksTo lines ranks i rank.events j c) →
     BreaksPair lines ranks i j c
 breaks_pair lines ranks i j c marks there below breaks = by_rank (slice_get ranks i) refl there
   where
@@ -64,7 +64,7 @@ breaks_pair lines ranks i j c marks there below breaks = by_rank (slice_get rank
         IsSomeAnd o (λ rank. AreMarks lines ranks i rank.events marks) → BreaksPair lines ranks i j c
     by_rank None is there = absurd there
     by_rank (Some a) is there =
-        let first : BreaksFirst lines ranks i a.events j c =
+        let first : BreaksTo lines ranks i a.events j c =
         breaks a (ap (λ (o : Option Ended). option_map_or (λ rank. rank.events) o []) is) there in
         record {
           earlier = pairs_earlier (PairDelivered lines) ranks i j a is below first.earlier;

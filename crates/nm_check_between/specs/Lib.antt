@@ -1,3 +1,4 @@
+pub mod CarriedBreaks
 pub mod CarriedClauses
 pub mod Marked
 pub mod Tabled

@@ -66,7 +66,7 @@ pub record EachMarked (lines : List Line) (ranks : List Ended) (marks : List Mar
 
 -- The messages of rank i to the ranks before this one are delivered, and of the rules of those to this
 -- one it is the first that is broken.
-pub record BreaksFirst (lines : List Line) (ranks : List Ended) (i : ℕ) (hi : List Event) (j : ℕ)
+pub record BreaksTo (lines : List Line) (ranks : List Ended) (i : ℕ) (hi : List Event) (j : ℕ)
     (c : CarriedClause) : Type 0 where
   pub earlier : EachRank (λ l rank. l < j → PairDelivered lines i l hi rank.events) ranks
   pub first :

@@ -6,7 +6,7 @@ ghost use Rattle.nm_types.specs.Commands.{commands_of};
 ghost use Rattle.nm_history.specs.declared.events.Event as event;
 ghost use Rattle.nm_history.specs.Delivery.{AreDelivered};
 ghost use Rattle.nm_history.specs.Quiescence.{EachPair, EachRank, Ended};
-ghost use Rattle.nm_check_between.specs.Marked.{AreMarks, BreaksFirst, BreaksPair, EachMarked};
+ghost use Rattle.nm_check_between.specs.Marked.{AreMarks, BreaksTo, BreaksPair, EachMarked};
 ghost use Rattle.nm_check_between.specs.Marked.{history_of};
 ghost use Rattle.nm_check_rank.specs.FirstBroken.{IsFirstBroken};
 ghost use Rattle.nm_check_between.specs.CarriedClauses.{KeepsCarried, PairDelivered, carried_order};
@@ -60,7 +60,7 @@ pub fn first_from(i: u8, sender: &Marks, marks: &[Marks]) -> Option<Broken>
         history_of ranks i ≡ hi → AreMarks lines ranks i hi sender.now →
         EachMarked lines ranks marks.now →
         MatchOption result (EachRank (λ j rank. PairDelivered lines i j hi rank.events) ranks)
-        (λ broken. BreaksFirst lines ranks i hi broken.to broken.clause) }
+        (λ broken. BreaksTo lines ranks i hi broken.to broken.clause) }
 {
     for (j, receiver) in marks.iter().enumerate() {
         if let Some(clause) = first_between(i, j as u8, sender, receiver) {

@@ -171,7 +171,7 @@ fn sender_of_answer(
 }
 
 /// The sender whose message the event at a place of rank j does not show as it was sent.
-fn sender_not_shown(
+pub(crate) fn sender_not_shown(
     j: u8,
     k: usize,
     e: &Event,

@@ -10,6 +10,8 @@
 //!   each rank (`marking`, by `marks` and `bodies`).
 //! - The first pair of ranks between which a rule is broken, by sender and then receiver, is named
 //!   with the first such rule (`between`).
+//! - The event is found at which a rule between two ranks breaks first, as one reads the events of
+//!   rank after rank (`firsts`, by `specs/CarriedBreaks.antt`).
 //!
 //! Each walk takes a history once, with look-ups for each event; that is not proved.
 //! # What is only tested
@@ -19,6 +21,8 @@
 pub mod between;
 mod bodies;
 pub mod clauses;
+pub mod firsts;
 pub mod hows;
 pub mod marking;
 pub mod marks;
+pub mod tabling;

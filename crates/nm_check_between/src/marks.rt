@@ -131,7 +131,12 @@ fn was_sent(j: u8, a: &Arrival, stamp: u64, ranks: &[RankAccount], tables: &[Tab
 }
 
 /// The sender with which what happened at rank j breaks the order of arrivals.
-fn sender_not_followed(j: u8, e: &Event, ranks: &[RankAccount], tables: &[Tables]) -> Option<u8>
+pub(crate) fn sender_not_followed(
+    j: u8,
+    e: &Event,
+    ranks: &[RankAccount],
+    tables: &[Tables],
+) -> Option<u8>
     requires lawful { EachRank KeepsLocal (ends_of ranks.now) }
     requires tabled { AreTabled (ends_of ranks.now) tables.now }
     ensures { (n : ℕ) (before : List event.Event) → NumberAt n before e.now.what →
@@ -167,7 +172,7 @@ fn was_paired(i: u8, j: u8, n: u64, stamp: u64, ranks: &[RankAccount], tables: &
 }
 
 /// The receiver that had not paired the message that left rank i at this place.
-fn receiver_not_asked(
+pub(crate) fn receiver_not_asked(
     i: u8,
     k: usize,
     e: &Event,
@@ -208,7 +213,12 @@ fn was_recalled(i: u8, j: u8, n: u64, stamp: u64, ranks: &[RankAccount], tables:
 }
 
 /// The sender that had not recalled the message that rank j withdrew.
-fn sender_not_recalling(j: u8, e: &Event, ranks: &[RankAccount], tables: &[Tables]) -> Option<u8>
+pub(crate) fn sender_not_recalling(
+    j: u8,
+    e: &Event,
+    ranks: &[RankAccount],
+    tables: &[Tables],
+) -> Option<u8>
     requires lawful { EachRank KeepsLocal (ends_of ranks.now) }
     requires tabled { AreTabled (ends_of ranks.now) tables.now }
     ensures { Names (λ i. WithdrawAfterRecall i j
@@ -252,7 +262,12 @@ fn was_withdrawn(
 }
 
 /// The receiver that had not given the answer to a recall that rank i took.
-fn receiver_not_telling(i: u8, e: &Event, ranks: &[RankAccount], tables: &[Tables]) -> Option<u8>
+pub(crate) fn receiver_not_telling(
+    i: u8,
+    e: &Event,
+    ranks: &[RankAccount],
+    tables: &[Tables],
+) -> Option<u8>
     requires lawful { EachRank KeepsLocal (ends_of ranks.now) }
     requires tabled { AreTabled (ends_of ranks.now) tables.now }
     ensures { Names (λ j. UndoneAfterWithdraw i j
