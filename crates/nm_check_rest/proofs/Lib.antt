@@ -1,3 +1,4 @@
 mod OverLemmas
 mod WaitLemmas
 mod CountingLemmas
+mod FirstLemmas

@@ -1,3 +1,4 @@
 pub mod Counting
 pub mod Over
+pub mod RestBreaks
 pub mod RestClauses

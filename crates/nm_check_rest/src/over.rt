@@ -69,7 +69,7 @@ fn are_implied(asked: bool, taken: bool, claimed: bool, over: bool, kept: bool) 
 }
 
 /// Whether what happened at rank i is no eager send to one of the ranks, or its message is over.
-fn is_eager_over(i: u8, what: &Happened, sent: &Places, tables: &[Tables]) -> bool
+pub(crate) fn is_eager_over(i: u8, what: &Happened, sent: &Places, tables: &[Tables]) -> bool
     ensures { (ranks : List Ended) (stamp : ℕ) (hi : List event.Event) →
         AreTabled ranks tables.now →
         ArePlaces hi sent.now →
@@ -91,7 +91,7 @@ fn is_eager_over(i: u8, what: &Happened, sent: &Places, tables: &[Tables]) -> bo
 
 /// Whether what happened at rank i is no send by asking to one of the ranks, or its message is over
 /// where it is paired, and kept back where it is claimed and not received.
-fn is_asked_over(i: u8, what: &Happened, sent: &Places, tables: &[Tables]) -> bool
+pub(crate) fn is_asked_over(i: u8, what: &Happened, sent: &Places, tables: &[Tables]) -> bool
     ensures { (ranks : List Ended) (stamp : ℕ) (hi : List event.Event) →
         AreTabled ranks tables.now →
         ArePlaces hi sent.now →

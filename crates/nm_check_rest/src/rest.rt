@@ -28,7 +28,7 @@ fn is_either(undone: bool, late: bool) -> bool
 }
 
 /// Whether what happened is no recall, or one that was answered by this place.
-fn is_answered(places: &Places, end: usize, what: &Happened) -> bool
+pub(crate) fn is_answered(places: &Places, end: usize, what: &Happened) -> bool
     ensures { (h : List event.Event) → ArePlaces h places.now → length h ≡ end →
         Decides result (IsAnswered h what.now) }
 {

@@ -8,6 +8,7 @@ ghost use Rattle.nm_report.specs.Ends.{ends_of};
 ghost use Rattle.nm_places.specs.Deciding.{Decides};
 ghost use Rattle.nm_check_between.specs.Tabled.{EachTabled};
 ghost use Rattle.nm_check_paired.specs.Tabled.{AreTables};
+ghost use Rattle.nm_check_rest.specs.RestBreaks.{BreaksStanding};
 
 use nm_check_paired::tables::Tables;
 use nm_report::RankAccount;
@@ -65,6 +66,22 @@ fn is_standing(rank: u8, lines: &[Line], account: &RankAccount, tables: &Tables)
     }
 }
 
+/// The first rank that neither is at its end nor waits at its next command, which can't go on.
+pub fn first_not_standing(lines: &[Line], ranks: &[RankAccount], tables: &[Tables]) -> Option<u8>
+    requires few { length ranks.now < 256 }
+    requires tabled { EachTabled lines.now (ends_of ranks.now) tables.now }
+    ensures { MatchOption result
+        (EachRank (λ i rank. Stands (commands_of i lines.now) rank) (ends_of ranks.now))
+        (BreaksStanding lines.now (ends_of ranks.now)) }
+{
+    for (i, rank) in ranks.iter().enumerate() {
+        if !is_standing(i as u8, lines, rank, &tables[i]) {
+            return Some(i as u8);
+        }
+    }
+    None
+}
+
 /// Whether each rank is at its end, or waits at its next command, which can't go on.
 pub fn are_standing(lines: &[Line], ranks: &[RankAccount], tables: &[Tables]) -> bool
     requires few { length ranks.now < 256 }
@@ -72,10 +89,5 @@ pub fn are_standing(lines: &[Line], ranks: &[RankAccount], tables: &[Tables]) ->
     ensures { Decides result
         (EachRank (λ i rank. Stands (commands_of i lines.now) rank) (ends_of ranks.now)) }
 {
-    for (i, rank) in ranks.iter().enumerate() {
-        if !is_standing(i as u8, lines, rank, &tables[i]) {
-            return false;
-        }
-    }
-    true
+    first_not_standing(lines, ranks, tables).is_none()
 }

@@ -2,7 +2,7 @@ use Rattle.nm_types.specs.Commands.{commands_of}
 use Rattle.nm_history.specs.Quiescence.{Stands}
 use Rattle.nm_report.specs.Ends.{ends_of}
 use Rattle.nm_check_between.proofs.RankLemmas.{UpTo}
-use Rattle.nm_check_rest.proofs.waits.are_standing.Given as goal
+use Rattle.nm_check_rest.proofs.waits.first_not_standing.Given as goal
 
 -- the ranks so far are at their ends, or wait
 abbrev pub invariant-loop-i : goal.invariant-loop-i
