@@ -1,3 +1,4 @@
 mod EventLemmas
 mod OwnLemmas
 mod RankLemmas
+mod SpotLemmas

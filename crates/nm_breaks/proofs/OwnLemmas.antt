@@ -1,16 +1,14 @@
 -- The rules of a rank's own run, so far and as a whole.
-use Rattle.std.proofs.Common.{◌≡◌, ℕ, None, Some, Option, List, [], ◌∷◌, ◌++◌, length, sym, ap, subst}
-use Rattle.std.specs.Prelude.{All, MatchOption}
+use Rattle.std.proofs.Common.{◌≡◌, ℕ, List, [], ◌∷◌, ◌++◌, sym, subst}
+use Rattle.std.specs.Prelude.{All}
 use Rattle.std.proofs.lemmas.List.Elements.{All-head, All-tail}
 use Rattle.nm_types.specs.Commands.{Numbered}
 use Rattle.nm_types.specs.Sizes.{Sizes}
 use Rattle.nm_history.specs.declared.events.Event.{Event}
-use Rattle.nm_history.specs.RankRun.{Answers, ran_lines}
-use Rattle.nm_check_rank.specs.Breaks.{BreaksFirstAt}
+use Rattle.nm_history.specs.RankRun.{Answers}
 use Rattle.nm_check_rank.specs.FirstBroken.{IsFirstBroken}
-use Rattle.nm_check_rank.specs.OwnBreaks.{BreaksOwnAt, KeepsInTheEnd, KeepsSoFar}
+use Rattle.nm_check_rank.specs.OwnBreaks.{KeepsInTheEnd, KeepsSoFar}
 use Rattle.nm_check_rank.specs.OwnClauses.{KeepsOwn}
-use Rattle.nm_check_rank.specs.declared.breaks.Break.{Break}
 use Rattle.nm_check_rank.specs.declared.clauses.OwnClause.{OwnClause}
 use Rattle.nm_check_rank.specs.declared.clauses.OwnClause.TheVariants as own
 

@@ -3,19 +3,16 @@
 ghost use Rattle.std.specs.Prelude.{◌≡◌, ◌≤◌, ℕ, IfOk, List, length};
 ghost use Rattle.nm_types.specs.declared.scripts.Line as script_line;
 ghost use Rattle.nm_script.specs.Spelled.{IsTextOf};
-ghost use Rattle.nm_report.specs.Ends.{ends_of};
 ghost use Rattle.nm_report.specs.Lawful.{IsRunIn};
 ghost use Rattle.nm_report.specs.declared.records.RunRecord as the_record;
 ghost use Rattle.nm_trace.specs.Traces.{IsTraceOf};
 ghost use Rattle.nm_check.specs.declared.verdicts.Verdict.TheVariants.{Holds};
-ghost use Rattle.nm_check.specs.Verdicts.{Judges};
 ghost use Rattle.nm_checked.specs.declared.checks.Checked.TheVariants as checked;
 ghost use Rattle.nm_checked.specs.Checks.{IsChecked, IsInput, sizes};
 ghost use Rattle.nm_breaks.specs.Found.{IsFound, IsScriptFound, IsTraceFound, checked_of, lines_in};
-ghost use Rattle.nm_breaks.specs.Places.{IsPlace, events_in};
 
-use crate::own::own_break;
-use crate::places::{Place, place_in};
+use crate::places::Place;
+use crate::placing::trace_place;
 use nm_check::{Verdict, judge};
 use nm_checked::cut;
 use nm_report::RunRecord;
@@ -52,31 +49,6 @@ pub enum Found {
     },
 }
 
-/// Where a record breaks the rule of its verdict first.
-fn place_of(
-    alloc: Global,
-    script: &Script,
-    run: &RunRecord,
-    verdict: Verdict,
-) -> Result<Place, Memory>
-    requires judged { Judges script.now.lines run.now verdict }
-    requires short { events_in (ends_of run.now.ranks) ≤ 67108864 }
-    ensures { IfOk result (IsPlace script.now.lines run.now verdict) }
-{
-    let Verdict::Own { clause, rank } = verdict else {
-        return Ok(Place::Nowhere);
-    };
-    let i = rank as usize;
-    if i >= run.ranks.len() {
-        return Ok(Place::Nowhere);
-    }
-    let ranks = run.ranks.as_slice();
-    let events = ranks[i].history.as_slice();
-    let lines = script.lines.as_slice();
-    let place = own_break(alloc, run.shape, rank, lines, events, clause)?;
-    Ok(place_in(ranks, rank, events, place))
-}
-
 /// How many lines there are, each with its line feed.
 fn lines_in(bytes: &[u8]) -> u32
     requires { length bytes.now ≤ 67108864 }
@@ -109,7 +81,8 @@ fn find_in_trace(
     match read_trace(alloc, rest, shape) {
         Ok(run) => {
             let verdict = judge(alloc, script, &run)?;
-            let place = place_of(alloc, script, &run, verdict)?;
+            let count = lines_in(rest);
+            let place = trace_place(alloc, script, &run, verdict, count)?;
             Ok(Found::Judged {
                 before,
                 verdict,

@@ -5,11 +5,15 @@
 //! and of the crates below it: the verdict is the one of `nm_check`, and `specs/Places.antt` says
 //! what its place is. For a rule of a rank's own run it is the first event at which the rule breaks
 //! (`BreaksOwnAt` of `nm_check_rank`): the events before it keep the rule, and with it they break
-//! it.
+//! it. For a rule between two ranks it is the first event of both, as their lines are read
+//! (`BreaksCarriedAt` of `nm_check_between`); for a rule of rest the first event that is left
+//! unfinished, or the first rank that stands where it may not (`specs/RestBreaks.antt` of
+//! `nm_check_rest`). The cells and the end have the last two lines. Of what has not come, and of the
+//! counts of packets, no place is told.
 //! # What is proved
 //! - `find` tells the cases apart as `nm_checked::check` does, and its verdict is that of the same
 //!   definitions.
-//! - The place of a rule of a rank's own run is the first one.
+//! - The place is the first one.
 //! # What is only tested
 //! That `find` succeeds with ample memory.
 #![tactic(auto)]
@@ -17,6 +21,7 @@
 mod finding;
 mod own;
 mod places;
+mod placing;
 
 pub use finding::{Found, find};
 pub use places::Place;

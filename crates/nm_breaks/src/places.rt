@@ -3,8 +3,11 @@
 ghost use Rattle.std.specs.Prelude.{◌≡◌, ◌<◌, ◌≤◌, ℕ, length, option_and_then, slice_get};
 ghost use Rattle.nm_check_rank.specs.declared.breaks.Break.TheVariants.{At};
 ghost use Rattle.nm_report.specs.Ends.{ends_of};
+ghost use Rattle.nm_check_between.specs.Marked.{history_of};
+ghost use Rattle.nm_breaks.specs.Places as spec;
 ghost use Rattle.nm_breaks.specs.Places.{command_line, events_in, line_of, place_in};
 
+use nm_check_between::firsts::Spot;
 use nm_check_rank::breaks::Break;
 use nm_history::{Event, Happened};
 use nm_report::RankAccount;
@@ -26,6 +29,16 @@ pub enum Place {
     /// Behind the last event of this rank.
     Behind {
         rank: u8,
+    },
+    /// At the end of this rank, which is said to wait at the command in this line of the script, or
+    /// at none.
+    Standing {
+        rank: u8,
+        waits: Option<u32>,
+    },
+    /// In this line of the trace, counted from 1, which is one of the last two.
+    LastLine {
+        line: u32,
     },
 }
 
@@ -92,4 +105,16 @@ pub fn place_in(ranks: &[RankAccount], rank: u8, events: &[Event], place: Break)
         },
         Break::Behind => Place::Behind { rank },
     }
+}
+
+/// The place of an event.
+pub fn place_of_spot(ranks: &[RankAccount], spot: Spot) -> Place
+    requires known { spot.rank < length ranks.now }
+    requires short { events_in (ends_of ranks.now) ≤ 67108864 }
+    requires inside { spot.at < length (history_of (ends_of ranks.now) spot.rank) }
+    ensures { result ≡ spec.place_of_spot (ends_of ranks.now) spot }
+{
+    let i = spot.rank as usize;
+    let events = ranks[i].history.as_slice();
+    place_in(ranks, spot.rank, events, Break::At(spot.at))
 }

@@ -3,13 +3,18 @@
 ghost use Rattle.std.specs.Prelude.{◌≡◌, IfOk, string_bytes};
 ghost use Rattle.nm_verdict.specs.Texts.{bad_text as bad_text_lem};
 ghost use Rattle.nm_verdict.specs.Texts.{behind_text as behind_text_lem};
+ghost use Rattle.nm_verdict.specs.Texts.{carried_text as carried_text_lem};
 ghost use Rattle.nm_verdict.specs.Texts.{command_words as command_words_lem};
 ghost use Rattle.nm_verdict.specs.Texts.{found_text as found_text_lem, line_words as line_words_lem};
-ghost use Rattle.nm_verdict.specs.Texts.{own_text as own_text_lem, verdict_text as verdict_text_lem};
+ghost use Rattle.nm_verdict.specs.Texts.{last_text as last_text_lem};
+ghost use Rattle.nm_verdict.specs.Texts.{own_text as own_text_lem, rest_text as rest_text_lem};
+ghost use Rattle.nm_verdict.specs.Texts.{pair_words as pair_words_lem};
+ghost use Rattle.nm_verdict.specs.Texts.{standing_words as standing_words_lem};
+ghost use Rattle.nm_verdict.specs.Texts.{verdict_text as verdict_text_lem};
 
 use crate::sentences::{carried_words, kind_words, own_words, rest_words};
 use nm_breaks::{Found, Place};
-use nm_check::{OwnClause, Verdict};
+use nm_check::{CarriedClause, OwnClause, RestClause, Verdict};
 use std::alloc::{AllocError, Global};
 
 /// The number of a line of the whole input, and of the line behind `---`.
@@ -58,8 +63,100 @@ fn own_text(
                 at, of, rank, words
             )
         }
-        Place::Nowhere => behind_text(alloc, clause, rank),
-        Place::Behind { .. } => behind_text(alloc, clause, rank),
+        _ => behind_text(alloc, clause, rank),
+    }
+}
+
+/// A sender and a receiver.
+fn pair_words(alloc: Global, from: u8, to: u8) -> Result<String, AllocError>
+    ensures { IfOk result (λ text. string_bytes text ≡ pair_words_lem from to) }
+{
+    format!(in alloc; "rank {} to rank {}", from, to)
+}
+
+/// Where the messages from one rank to another break a rule first.
+fn carried_text(
+    alloc: Global,
+    before: u32,
+    clause: CarriedClause,
+    from: u8,
+    to: u8,
+    place: Place,
+) -> Result<String, AllocError>
+    ensures { IfOk result (λ text.
+        string_bytes text ≡ carried_text_lem before clause from to place) }
+{
+    let words = carried_words(clause);
+    let ranks = pair_words(alloc, from, to)?;
+    match place {
+        Place::Event { line, command, .. } => {
+            let at = line_words(alloc, before, line)?;
+            let of = command_words(alloc, command)?;
+            format!(in alloc;
+                "{}{} is the first at which the messages from {} break a rule: {}\n",
+                at, of, ranks, words
+            )
+        }
+        _ => format!(in alloc; "from {} a rule breaks: {}\n", ranks, words),
+    }
+}
+
+/// What a rank is said to do in the end.
+fn standing_words(alloc: Global, waits: Option<u32>) -> Result<String, AllocError>
+    ensures { IfOk result (λ text. string_bytes text ≡ standing_words_lem waits) }
+{
+    match waits {
+        Some(line) => format!(in alloc; "said to wait at the command in line {}", line),
+        None => format!(in alloc; "said to be at its end"),
+    }
+}
+
+/// Where the ranks at rest break a rule first.
+fn rest_text(
+    alloc: Global,
+    before: u32,
+    clause: RestClause,
+    place: Place,
+) -> Result<String, AllocError>
+    ensures { IfOk result (λ text. string_bytes text ≡ rest_text_lem before clause place) }
+{
+    let words = rest_words(clause);
+    match place {
+        Place::Event { line, command, .. } => {
+            let at = line_words(alloc, before, line)?;
+            let of = command_words(alloc, command)?;
+            format!(in alloc;
+                "{}{} is the first that breaks a rule of all ranks in the end: {}\n",
+                at, of, words
+            )
+        }
+        Place::Standing { rank, waits } => {
+            let says = standing_words(alloc, waits)?;
+            format!(in alloc;
+                "rank {}, {}, is the first that breaks a rule of all ranks in the end: {}\n",
+                rank, says, words
+            )
+        }
+        _ => format!(in alloc; "the ranks in the end break a rule: {}\n", words),
+    }
+}
+
+/// The rule of the cells.
+const HOME: &str = "as many cells as all ranks have by --cells are there, and all of them are home";
+
+/// The rule of the end.
+const DONE: &str = "it is `done` exactly where every rank is at its end";
+
+/// One of the last two lines breaks its rule.
+fn last_text(alloc: Global, before: u32, rule: &str, place: Place) -> Result<String, AllocError>
+    ensures { IfOk result (λ text. string_bytes text ≡ last_text_lem before rule.now place) }
+{
+    match place {
+        Place::LastLine { line } => {
+            let at = line_words(alloc, before, line)?;
+            format!(in alloc; "{} breaks a rule: {}\n", at, rule)
+        }
+        _ => format!(in alloc; "the end breaks a rule: {}\n", rule),
     }
 }
 
@@ -75,24 +172,12 @@ fn verdict_text(
     match verdict {
         Verdict::Holds => format!(in alloc; "holds\n"),
         Verdict::Own { clause, rank } => own_text(alloc, before, clause, rank, place),
-        Verdict::Carried { clause, from, to } => format!(in alloc;
-            "from rank {} to rank {} a rule breaks: {}\n",
-            from,
-            to,
-            carried_words(clause)
-        ),
-        Verdict::Rest { clause } => {
-            format!(in alloc;
-                "the ranks in the end break a rule: {}\n",
-                rest_words(clause)
-            )
+        Verdict::Carried { clause, from, to } => {
+            carried_text(alloc, before, clause, from, to, place)
         }
-        Verdict::Home => format!(in alloc;
-            "the cells in the end break a rule: as many as all ranks have by --cells are home\n"
-        ),
-        Verdict::Done => format!(in alloc;
-            "the last line breaks a rule: it is `done` exactly where every rank is at its end\n"
-        ),
+        Verdict::Rest { clause } => rest_text(alloc, before, clause, place),
+        Verdict::Home => last_text(alloc, before, HOME, place),
+        Verdict::Done => last_text(alloc, before, DONE, place),
     }
 }
 

@@ -1,9 +1,22 @@
-use Rattle.std.proofs.Common.{arith}
+use Rattle.std.proofs.Common.{◌≡◌, refl, subst, arith, rules}
+use Rattle.nm_types.specs.Sizes.{Sizes}
+use Rattle.nm_trace.specs.Traces.{IsTraceOf}
+use Rattle.nm_checked.specs.Checks.{sizes}
 use Rattle.nm_breaks.proofs.EventLemmas.{few_events}
 use Rattle.nm_breaks.proofs.finding.find_in_trace.Goals as goal
 
-pub place_of-requires-clause-short : goal.place_of-requires-clause-short
-place_of-requires-clause-short c =
+pub trace_place-requires-clause-short : goal.trace_place-requires-clause-short
+trace_place-requires-clause-short c =
     let few = few_events _ c.args.rest.now _ c.in-Ok.ensures.taken in
     let short = c.requires.short in
     omega (arith, few, short)
+
+pub returns-in_ok-place-in-Ok-clause-found : goal.returns-in_ok-place-in-Ok-clause-found
+returns-in_ok-place-in-Ok-clause-found c =
+    let sized : c.unwrap-shape.result ≡ sizes c.args.cells c.args.eager c.args.script.now.ranks = search rules in (
+      refl,
+      c.in-Ok.run',
+      subst (λ (s : Sizes). IsTraceOf s c.args.rest.now c.in-Ok.run') sized c.in-Ok.ensures.taken,
+      c.in_ok-verdict-in-Ok.ensures.first,
+      rw c.lines_in-count.ensures at c.in_ok-place-in-Ok.ensures,
+    )

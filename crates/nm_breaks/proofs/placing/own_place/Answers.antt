@@ -3,8 +3,9 @@ use Rattle.std.specs.Prelude.{slice_get}
 use Rattle.std.proofs.lemmas.Option.{slice_get_read}
 use Rattle.nm_history.specs.declared.events.Event.{Event}
 use Rattle.nm_report.specs.declared.accounts.RankAccount.{RankAccount}
+use Rattle.nm_check.specs.declared.verdicts.Verdict.TheVariants.{Own}
 use Rattle.nm_breaks.proofs.RankLemmas.{early_here, first_here, placed_here}
-use Rattle.nm_breaks.proofs.finding.place_of.Goals as goal
+use Rattle.nm_breaks.proofs.placing.own_place.Goals as goal
 
 -- the account of the rank
 here : (all ranks : List RankAccount) (i n : ℕ) (a : RankAccount) → ranks ≡ all → i < n → n ≡ length all →
@@ -22,42 +23,42 @@ events_here ranks i a es are is = are ∙ ap (λ (r : RankAccount). r.history.ev
 pub own_break-requires : goal.own_break-requires
 own_break-requires c =
     let a = c.index-ranks-i.result in
-    let i = c.in-Own.rank in
+    let i = c.args.rank in
     let ranks = c.as_slice-ranks.result.now in
     let there = here c.args.run.now.ranks ranks i c.len.result a c.as_slice-ranks.ensures c.if-i-len.false c.len.ensures
     c.index-ranks-i.is in
     let events = events_here ranks i a c.as_slice-events.result.now c.as_slice-events.ensures c.index-ranks-i.is in (
       a.at,
-      first_here c.args.script.now.lines c.as_slice-lines.result.now c.args.run.now c.in-Own.clause i c.args.verdict a
-          c.as_slice-events.result.now c.in-Own.is there c.as_slice-lines.ensures events c.requires.judged,
+      first_here c.args.script.now.lines c.as_slice-lines.result.now c.args.run.now c.args.clause i (Own c.args.clause i) a
+          c.as_slice-events.result.now refl there c.as_slice-lines.ensures events c.requires.judged,
     )
 
 pub place_in-requires-clause-early : goal.place_in-requires-clause-early
 place_in-requires-clause-early c =
     let a = c.index-ranks-i.result in
-    let i = c.in-Own.rank in
+    let i = c.args.rank in
     let ranks = c.as_slice-ranks.result.now in
     let there = here c.args.run.now.ranks ranks i c.len.result a c.as_slice-ranks.ensures c.if-i-len.false c.len.ensures
     c.index-ranks-i.is in
     let events = events_here ranks i a c.as_slice-events.result.now c.as_slice-events.ensures c.index-ranks-i.is in
-    let first = first_here c.args.script.now.lines c.as_slice-lines.result.now c.args.run.now c.in-Own.clause i
-    c.args.verdict a c.as_slice-events.result.now c.in-Own.is there c.as_slice-lines.ensures events
+    let first = first_here c.args.script.now.lines c.as_slice-lines.result.now c.args.run.now c.args.clause i
+    (Own c.args.clause i) a c.as_slice-events.result.now refl there c.as_slice-lines.ensures events
     c.requires.judged in
-    early_here c.args.script.now.lines c.as_slice-lines.result.now c.args.run.now c.in-Own.clause i c.args.verdict a
-    c.as_slice-events.result.now c.in-Own.is there c.as_slice-lines.ensures events c.requires.short c.in_ok-place.place
+    early_here c.args.script.now.lines c.as_slice-lines.result.now c.args.run.now c.args.clause i (Own c.args.clause i) a
+    c.as_slice-events.result.now refl there c.as_slice-lines.ensures events c.requires.short c.in_ok-place.place
     (c.in_ok-place.ensures a.at first.broken)
 
 pub returns : goal.returns
 returns c =
     let a = c.index-ranks-i.result in
-    let i = c.in-Own.rank in
+    let i = c.args.rank in
     let ranks = c.as_slice-ranks.result.now in
     let there = here c.args.run.now.ranks ranks i c.len.result a c.as_slice-ranks.ensures c.if-i-len.false c.len.ensures
     c.index-ranks-i.is in
     let events = events_here ranks i a c.as_slice-events.result.now c.as_slice-events.ensures c.index-ranks-i.is in
-    let first = first_here c.args.script.now.lines c.as_slice-lines.result.now c.args.run.now c.in-Own.clause i
-    c.args.verdict a c.as_slice-events.result.now c.in-Own.is there c.as_slice-lines.ensures events
+    let first = first_here c.args.script.now.lines c.as_slice-lines.result.now c.args.run.now c.args.clause i
+    (Own c.args.clause i) a c.as_slice-events.result.now refl there c.as_slice-lines.ensures events
     c.requires.judged in
-    placed_here c.args.script.now.lines c.as_slice-lines.result.now c.args.run.now c.in-Own.clause i c.args.verdict a
-    c.as_slice-events.result.now c.in-Own.is there c.as_slice-lines.ensures events c.in_ok-place.place c.place_in.result
+    placed_here c.args.script.now.lines c.as_slice-lines.result.now c.args.run.now c.args.clause i (Own c.args.clause i) a
+    c.as_slice-events.result.now refl there c.as_slice-lines.ensures events c.in_ok-place.place c.place_in.result
     ranks c.as_slice-ranks.ensures (c.in_ok-place.ensures a.at first.broken) c.place_in.ensures
