@@ -82,6 +82,7 @@ got_by pair (deed.Send to n tag ctx len how line) =
     Some (reply.Got pair.arrival.env.from pair.arrival.env.tag line)
 got_by pair _ = None
 
+-- what a receive shows of its message, by the states of all ranks
 abbrev pub shown_at : (ℕ → Option Spot) → ℕ → Pair → Option Reply
 shown_at w i pair =
     if nat_lt pair.cap pair.arrival.env.len
@@ -194,6 +195,7 @@ is_held_by last (deed.Cancel number done) = is_cancelling_by last
 is_held_by last (deed.Claim from n line) = is_claim_any last
 is_held_by last _ = false
 
+-- a deed may come behind these ones
 abbrev pub may_begin : List Deed → Deed → Bool
 may_begin deeds d = option_map_or (λ last. not (is_held_by last d)) (slice_get deeds (length deeds - 1)) true
 

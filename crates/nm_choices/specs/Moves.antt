@@ -81,6 +81,21 @@ AreMovesOf eager ranks lines v i turns =
     (spot : Spot) → v i ≡ Some spot → (by : Move) → IsChoiceOf eager ranks lines v i spot by →
     Has turns (record { rank = i; by = by })
 
+-- a rank in this state may make the move of a turn
+abbrev pub IsTurnOf : ℕ → ℕ → List Line → (ℕ → Option Spot) → ℕ → Spot → Turn → Type 0
+IsTurnOf eager ranks lines v i spot t = (t.rank ≡ i) × IsChoiceOf eager ranks lines v i spot t.by
+
+-- a turn is a move that its rank may make in these states
+pub record IsTurn (eager ranks : ℕ) (lines : List Line) (v : ℕ → Option Spot) (t : Turn) : Type 0 where
+  pub spot : Spot
+  pub here : v t.rank ≡ Some spot
+  pub choice : IsChoiceOf eager ranks lines v t.rank spot t.by
+
+-- what a script sends at once is short
+abbrev pub AreSendsShort : List Line → Type 0
+AreSendsShort lines =
+    (i line : ℕ) (c : Command) → command_at (commands_of i lines) line ≡ Some c → sent_len c < 4294967296
+
 -- the ranks are in these states after a log
 abbrev pub AreSpots : ℕ → List Line → List Step → (ℕ → Option Spot) → Type 0
 AreSpots ranks lines log v =

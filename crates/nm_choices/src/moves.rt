@@ -1,14 +1,18 @@
 //! The moves of a script's ranks.
 
-ghost use Rattle.std.specs.Prelude.{◌≡◌, ℕ, ◌<◌, IfOk, IfSome, IsTrue, OnOk, length, option_map};
+ghost use Rattle.std.specs.Prelude.{◌≡◌, ℕ, ◌<◌, ◌++◌, ◌∷◌, [], if◌then◌else◌, None, Some, IfOk, IfSome, IsTrue, OnOk};
+ghost use Rattle.std.specs.Prelude.{length, option_map};
+ghost use Rattle.std.specs.List.{cons_option};
+ghost use Rattle.nm_types.specs.Limits.{sent_len};
 ghost use Rattle.nm_types.specs.declared.messages.Arrival as arrival;
 ghost use Rattle.nm_spots.specs.declared.deeds.Deed as deed;
 ghost use Rattle.nm_spots.specs.declared.deeds.Message as message;
 ghost use Rattle.nm_choices.specs.declared.moves.Move as the_move;
+ghost use Rattle.nm_choices.specs.declared.moves.Turn as the_turn;
 ghost use Rattle.nm_choices.specs.Choices.{spot_in};
-ghost use Rattle.nm_choices.specs.Lists.{Has, Keeps};
-ghost use Rattle.nm_choices.specs.Moves.{AreMovesOf, IsAct, IsChoiceOf, IsDeedOf, IsNextMessage};
-ghost use Rattle.nm_choices.specs.Moves.{IsRecalled, moved_at, no_in};
+ghost use Rattle.nm_choices.specs.Lists.{AddsOnly, Has, Keeps};
+ghost use Rattle.nm_choices.specs.Moves.{AreMovesOf, AreSendsShort, IsAct, IsChoiceOf, IsDeedOf};
+ghost use Rattle.nm_choices.specs.Moves.{IsNextMessage, IsRecalled, IsTurn, IsTurnOf, moved_at, no_in};
 
 use crate::choices::{View, answer, begin, line_at, may_say_no, may_withdraw, next_message};
 use nm_asked::commands::command_of_line;
@@ -54,6 +58,8 @@ fn push_deed(turns: &mut Vec<Turn>, rank: u8, deed: Option<Deed>) -> Result<(), 
     ensures kept { OnOk result (Keeps turns.old.items turns.new.items) }
     ensures added { OnOk result (IfSome deed (λ d.
         Has turns.new.items (record { rank = rank; by = Move.Act d }))) }
+    ensures only { OnOk result (turns.new.items ≡ turns.old.items
+        ++ cons_option (option_map (λ d. record { rank = rank; by = Move.Act d }) deed) []) }
 {
     if let Some(d) = deed {
         turns.push(Turn {
@@ -101,6 +107,10 @@ fn push_command(
     ensures added { OnOk result ((d : deed.Deed) → IsDeedOf view.entry.eager view.entry.lines.now
         (spot_in view.entry.table.now view.entry.ids.now) i rank.now line command.now d →
         Has turns.new.items (record { rank = i; by = Move.Act d })) }
+    ensures only { sent_len command.now < 4294967296 → OnOk result (AddsOnly (λ t. (d : deed.Deed)
+        × (record { rank = i; by = Move.Act d } ≡ t) × IsDeedOf view.entry.eager view.entry.lines.now
+        (spot_in view.entry.table.now view.entry.ids.now) i rank.now line command.now d)
+        turns.old.items turns.new.items) }
 {
     push_deed(
         turns,
@@ -117,12 +127,18 @@ fn push_command(
 }
 
 /// Adds what the next command of a rank may do, and the answers that it may have.
+#[tactic(auto, using(crate::proofs::KeptLemmas::only_all))]
 fn push_deeds(view: View, i: u8, rank: &Rank, turns: &mut Vec<Turn>) -> Result<(), Memory>
     ensures kept { OnOk result (Keeps turns.old.items turns.new.items) }
     ensures added { length view.entry.lines.now < 4294967293 → OnOk result ((d : deed.Deed) →
         IsAct view.entry.eager view.entry.lines.now
         (spot_in view.entry.table.now view.entry.ids.now) i rank.now d →
         Has turns.new.items (record { rank = i; by = Move.Act d })) }
+    ensures only { length view.entry.lines.now < 4294967293 → AreSendsShort view.entry.lines.now →
+        OnOk result (AddsOnly (λ t. (d : deed.Deed) × (record { rank = i; by = Move.Act d } ≡ t)
+        × IsAct view.entry.eager view.entry.lines.now
+        (spot_in view.entry.table.now view.entry.ids.now) i rank.now d)
+        turns.old.items turns.new.items) }
 {
     let Some(line) = line_at(view.lines, i, ran(rank.deeds())) else {
         return Ok(());
@@ -139,6 +155,8 @@ fn push_arrival(turns: &mut Vec<Turn>, rank: u8, next: Option<Arrival>) -> Resul
     ensures kept { OnOk result (Keeps turns.old.items turns.new.items) }
     ensures added { OnOk result (IfSome next (λ a.
         Has turns.new.items (record { rank = rank; by = Move.Arrive a }))) }
+    ensures only { OnOk result (turns.new.items ≡ turns.old.items
+        ++ cons_option (option_map (λ a. record { rank = rank; by = Move.Arrive a }) next) []) }
 {
     if let Some(a) = next {
         turns.push(Turn {
@@ -150,11 +168,16 @@ fn push_arrival(turns: &mut Vec<Turn>, rank: u8, next: Option<Arrival>) -> Resul
 }
 
 /// Adds the messages that may arrive at a rank.
+#[tactic(auto, using(crate::proofs::KeptLemmas::only_all))]
 fn push_arrivals(view: View, i: u8, ranks: u8, turns: &mut Vec<Turn>) -> Result<(), Memory>
     ensures kept { OnOk result (Keeps turns.old.items turns.new.items) }
     ensures added { OnOk result ((a : arrival.Arrival) →
         IsNextMessage ranks (spot_in view.entry.table.now view.entry.ids.now) i a →
         Has turns.new.items (record { rank = i; by = Move.Arrive a })) }
+    ensures only { OnOk result (AddsOnly (λ t. (a : arrival.Arrival)
+        × (record { rank = i; by = Move.Arrive a } ≡ t)
+        × IsNextMessage ranks (spot_in view.entry.table.now view.entry.ids.now) i a)
+        turns.old.items turns.new.items) }
 {
     for from in 0..ranks {
         push_arrival(turns, i, next_message(view, i, from))?;
@@ -172,6 +195,8 @@ fn push_withdrawal(
     ensures kept { OnOk result (Keeps turns.old.items turns.new.items) }
     ensures added { OnOk result (IsTrue may →
         Has turns.new.items (record { rank = rank; by = Move.Withdraw message })) }
+    ensures only { OnOk result (turns.new.items ≡ turns.old.items ++ cons_option
+        (if may then Some (record { rank = rank; by = Move.Withdraw message }) else None) []) }
 {
     if may {
         turns.push(Turn {
@@ -183,11 +208,16 @@ fn push_withdrawal(
 }
 
 /// Adds the messages that may be withdrawn at a rank.
+#[tactic(auto, using(crate::proofs::KeptLemmas::only_all))]
 fn push_withdrawals(view: View, i: u8, rank: &Rank, turns: &mut Vec<Turn>) -> Result<(), Memory>
     ensures kept { OnOk result (Keeps turns.old.items turns.new.items) }
     ensures added { OnOk result ((m : message.Message) →
         IsRecalled (spot_in view.entry.table.now view.entry.ids.now) i rank.now m →
         Has turns.new.items (record { rank = i; by = Move.Withdraw m })) }
+    ensures only { OnOk result (AddsOnly (λ t. (m : message.Message)
+        × (record { rank = i; by = Move.Withdraw m } ≡ t)
+        × IsRecalled (spot_in view.entry.table.now view.entry.ids.now) i rank.now m)
+        turns.old.items turns.new.items) }
 {
     for a in rank.came() {
         let may = may_withdraw(view, i, a.env.from, a.n);
@@ -213,6 +243,10 @@ fn push_moves(
         IsChoiceOf view.entry.eager ranks view.entry.lines.now
         (spot_in view.entry.table.now view.entry.ids.now) i rank.now by →
         Has turns.new.items (record { rank = i; by = by })) }
+    ensures only { length view.entry.lines.now < 4294967293 → AreSendsShort view.entry.lines.now →
+        OnOk result (AddsOnly (IsTurnOf view.entry.eager ranks view.entry.lines.now
+        (spot_in view.entry.table.now view.entry.ids.now) i rank.now)
+        turns.old.items turns.new.items) }
 {
     push_deeds(view, i, rank, turns)?;
     push_arrivals(view, i, ranks, turns)?;
@@ -221,11 +255,15 @@ fn push_moves(
 }
 
 /// Adds the moves of a rank.
+#[tactic(auto, using(crate::proofs::KeptLemmas::only_all))]
 fn push_rank(view: View, i: u8, ranks: u8, turns: &mut Vec<Turn>) -> Result<(), Memory>
     ensures kept { OnOk result (Keeps turns.old.items turns.new.items) }
     ensures added { length view.entry.lines.now < 4294967293 →
         OnOk result (AreMovesOf view.entry.eager ranks view.entry.lines.now
         (spot_in view.entry.table.now view.entry.ids.now) i turns.new.items) }
+    ensures only { length view.entry.lines.now < 4294967293 → AreSendsShort view.entry.lines.now →
+        OnOk result (AddsOnly (IsTurn view.entry.eager ranks view.entry.lines.now
+        (spot_in view.entry.table.now view.entry.ids.now)) turns.old.items turns.new.items) }
 {
     if let Some(rank) = view.rank(i) {
         push_moves(view, i, rank, ranks, turns)?;
@@ -235,9 +273,13 @@ fn push_rank(view: View, i: u8, ranks: u8, turns: &mut Vec<Turn>) -> Result<(), 
 
 /// All moves of the ranks of a state.
 pub fn turns(alloc: Global, view: View, ranks: u8) -> Result<Vec<Turn>, Memory>
-    ensures { length view.entry.lines.now < 4294967293 → IfOk result (λ turns. (i : ℕ) → i < ranks →
+    ensures all { length view.entry.lines.now < 4294967293 → IfOk result (λ turns. (i : ℕ) → i < ranks →
         AreMovesOf view.entry.eager ranks view.entry.lines.now
         (spot_in view.entry.table.now view.entry.ids.now) i turns.items) }
+    ensures only { length view.entry.lines.now < 4294967293 → AreSendsShort view.entry.lines.now →
+        IfOk result (λ turns. (t : the_turn.Turn) → Has turns.items t →
+        IsTurn view.entry.eager ranks view.entry.lines.now
+        (spot_in view.entry.table.now view.entry.ids.now) t) }
 {
     let mut turns = Vec::new(alloc);
     for i in 0..ranks {

@@ -1,4 +1,6 @@
+pub mod MetLemmas
 pub mod RestLemmas
+pub mod SetLemmas
 pub mod StoreLemmas
 pub mod TellLemmas
 pub mod ToldLemmas

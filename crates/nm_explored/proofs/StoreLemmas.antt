@@ -50,7 +50,7 @@ pub whole_table : (ranks : ℕ) (xs ys : List Spot) (states : List (List ℕ)) �
 whole_table ranks xs ys states kept whole k ids here j low =
     let s = whole k ids here j low in (s.0, spot_kept xs ys ids j s.0 kept s.1)
 
-own_place : (table : List Spot) (ids : List ℕ) (i : ℕ) (s : Spot) → spot_in table ids i ≡ Some s → i < length ids
+pub own_place : (table : List Spot) (ids : List ℕ) (i : ℕ) (s : Spot) → spot_in table ids i ≡ Some s → i < length ids
 own_place table ids i s here = by_id (slice_get ids i) refl here
   where
     by_id : (o : Option ℕ) → slice_get ids i ≡ o → option_and_then (λ id. slice_get table id) o ≡ Some s →

@@ -8,6 +8,10 @@ use Rattle.nm_choices.specs.Choices.{spot_in}
 use Rattle.nm_choices.specs.Lists.{Has, Keeps}
 use Rattle.nm_choices.specs.Moves.{IsChoiceOf, moved_at}
 
+-- no element stands at two places
+abbrev pub StandOnce : {X : Type 0} → List X → Type 0
+StandOnce {X} xs = (j k : ℕ) (x : X) → slice_get xs j ≡ Some x → slice_get xs k ≡ Some x → j ≡ k
+
 -- the states of single ranks, by number, and the states of all ranks: the numbers of theirs
 pub record Store : Type 0 where
   pub table : List Spot

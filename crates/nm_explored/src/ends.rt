@@ -13,6 +13,7 @@ ghost use Rattle.nm_choices.specs.Lists.{Has, Keeps};
 ghost use Rattle.nm_explored.specs.Ends.{AreAtRest, AreEnds, AreShort, IfAll, IsAtRest, IsHeldUp};
 ghost use Rattle.nm_explored.specs.Ends.{TellsAll, all_told, is_waiting as is_waiting_lem};
 ghost use Rattle.nm_explored.specs.Ends.{told_at_end, told_in};
+ghost use Rattle.nm_explored.specs.Met.{AreTooMany, IfTooMany, IsAll};
 
 use crate::searches::{Search, Setting};
 use nm_asked::commands::command_of_line;
@@ -351,10 +352,7 @@ fn way_back(alloc: Global, search: &Search, lines: &[Line], end: usize) -> Resul
     let mut steps = Vec::new(alloc);
     let mut k = end;
     for _ in 0..end {
-        let Some(state) = search.states.as_slice().get(k) else {
-            break;
-        };
-        let Some(way) = state.way else {
+        let Some(way) = search.states.way(k) else {
             break;
         };
         steps.push(step_of(alloc, lines, way.rank, way.by)?)?;
@@ -417,7 +415,7 @@ fn push_state(
                 eager: of.eager,
                 lines: of.lines,
                 table: search.table.as_slice(),
-                ids: state.ids.as_slice(),
+                ids: state.as_slice(),
             };
             push_end(alloc, search, k, view, of.ranks, ends)
         }
@@ -479,22 +477,23 @@ impl Ends {
 pub enum Explored {
     /// All ends.
     All(Ends),
-    /// There are more states than the limit.
+    /// The ranks come into more states than the limit.
     TooMany,
 }
 
 /// The ends of a search that found all states.
 fn all_ends(alloc: Global, search: &Search, of: Setting) -> Result<Explored, Memory>
     requires { AreShort of.lines.now }
-    ensures { IfOk result
+    ensures all { IfOk result
         (IfAll (AreEnds of.entry.ranks of.entry.lines.now search.now)) }
+    ensures found { IfOk result IsAll }
 {
     let items = ends_of(alloc, search, of)?;
     Ok(Explored::All(Ends { items }))
 }
 
-/// The ends of a script: all that its ranks can tell, and a way to each. Where there are more than so
-/// many states, it answers that they are too many.
+/// The ends of a script: all that its ranks can tell, and a way to each. Where its ranks come into more
+/// than so many states, it answers that they are too many, and only there.
 pub fn explore(
     alloc: Global,
     script: &Script,
@@ -502,7 +501,9 @@ pub fn explore(
     states: u32,
 ) -> Result<Explored, Memory>
     requires { shape.ranks ≡ script.now.ranks }
-    ensures { IfOk result (IfAll (TellsAll shape script.now.lines)) }
+    ensures all { IfOk result (IfAll (TellsAll shape script.now.lines)) }
+    ensures many { IfOk result
+        (IfTooMany (AreTooMany shape.eager shape.ranks script.now.lines states)) }
 {
     commands_stand_at_their_lines();
     let of = Setting {

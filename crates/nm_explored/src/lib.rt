@@ -3,15 +3,17 @@
 //! # What a contract sees
 //! `specs/Stores.antt` has the states that were found, and which of them are expanded. `specs/Ends.antt`
 //! says at which states the ranks are at rest, what they told there, and that ends tell all (`TellsAll`).
+//! `specs/Met.antt` says which states moves lead to (`IsMet`), and that they are too many (`AreTooMany`).
 //! # What is proved
 //! - What each lawful run of a script tells is told at one of the ends that `explore` finds, unless it
 //!   answers that there are too many states.
+//! - It answers so only where moves lead from the first state to more states than the limit, which all
+//!   differ.
 //!
 //! Nothing is claimed of the way to an end: it is the judge's to say whether it is a run's.
 #![tactic(auto)]
 
 mod ends;
-mod hashes;
 mod searches;
 mod stores;
 

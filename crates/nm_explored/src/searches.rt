@@ -1,12 +1,16 @@
 //! The search over the states of a script.
 
-ghost use Rattle.std.specs.Prelude.{◌≡◌, ◌⊎◌, ℕ, ◌<◌, ◌++◌, ◌∷◌, [], IfOk, IsTrue, List, OnOk, Some, length};
-ghost use Rattle.std.specs.Prelude.{option_copied, slice_get, slice_set};
+ghost use Rattle.std.specs.Prelude.{◌≡◌, ◌⊎◌, ℕ, ◌<◌, ◌++◌, ◌∷◌, [], IfOk, IsFalse, IsTrue, List, OnOk, Some};
+ghost use Rattle.std.specs.Prelude.{length, option_copied, slice_get, slice_set};
+ghost use Rattle.nm_types.specs.declared.scripts.Line as script_line;
 ghost use Rattle.nm_spots.specs.Spots as spots;
 ghost use Rattle.nm_choices.specs.Choices.{spot_in};
 ghost use Rattle.nm_choices.specs.Lists.{Has, Keeps};
-ghost use Rattle.nm_choices.specs.Moves.{AreMovesOf, moved_at};
+ghost use Rattle.nm_choices.specs.declared.moves.Turn as the_turn;
+ghost use Rattle.nm_choices.specs.Moves.{AreMovesOf, AreSendsShort, IsTurn, moved_at};
+ghost use Rattle.nm_explored.specs.Met.{IsMade};
 ghost use Rattle.nm_explored.specs.Stores.{AreExpanded, Grows, IsExpanded, IsFirst, IsWhole, Leads};
+ghost use Rattle.nm_explored.specs.Stores.{StandOnce};
 
 use crate::stores::{States, Table, Way};
 use nm_choices::choices::View;
@@ -61,7 +65,9 @@ fn with_id(alloc: Global, ids: &[usize], i: u8, id: usize) -> Result<Vec<usize>,
 impl Search {
     /// The first state alone: no rank did anything.
     pub fn new(alloc: Global, ranks: u8) -> Result<Search, Memory>
-        ensures { IfOk result (IsFirst ranks) }
+        ensures first { IfOk result (IsFirst ranks) }
+        ensures made { IfOk result (λ search. (eager : ℕ) (lines : List script_line.Line) →
+            IsMade eager ranks lines search) }
     {
         let mut table = Table::new(alloc);
         let mut states = States::new(alloc);
@@ -73,10 +79,14 @@ impl Search {
 
     /// The moves at the state with a number.
     fn turns_at(&self, alloc: Global, of: Setting, k: usize) -> Result<Vec<Turn>, Memory>
-        ensures { length of.entry.lines.now < 4294967293 → IfOk result (λ turns. (ids : List ℕ) →
+        ensures all { length of.entry.lines.now < 4294967293 → IfOk result (λ turns. (ids : List ℕ) →
             slice_get self.now.states k ≡ Some ids → (i : ℕ) → i < of.entry.ranks →
             AreMovesOf of.entry.eager of.entry.ranks of.entry.lines.now (spot_in self.now.table ids) i
             turns.items) }
+        ensures only { length of.entry.lines.now < 4294967293 → AreSendsShort of.entry.lines.now →
+            IfOk result (λ turns. (ids : List ℕ) → slice_get self.now.states k ≡ Some ids →
+            (t : the_turn.Turn) → Has turns.items t →
+            IsTurn of.entry.eager of.entry.ranks of.entry.lines.now (spot_in self.now.table ids) t) }
     {
         match self.states.as_slice().get(k) {
             Some(state) => {
@@ -84,7 +94,7 @@ impl Search {
                     eager: of.eager,
                     lines: of.lines,
                     table: self.table.as_slice(),
-                    ids: state.ids.as_slice(),
+                    ids: state.as_slice(),
                 };
                 turns(alloc, view, of.ranks)
             }
@@ -98,7 +108,7 @@ impl Search {
             option_copied result ≡ spot_in self.now.table ids i }
     {
         let state = self.states.as_slice().get(k)?;
-        let id = state.ids.get(i as usize)?;
+        let id = state.as_slice().get(i as usize)?;
         self.table.as_slice().get(*id)
     }
 
@@ -124,9 +134,10 @@ impl Search {
         ensures only { OnOk result ((self.new.states ≡ self.old.states)
             ⊎ ((ids : List ℕ) × (slice_get self.old.states k ≡ Some ids)
             × (self.new.states ≡ self.old.states ++ slice_set ids turn.rank id ∷ []))) }
+        ensures once { StandOnce self.old.states → OnOk result (StandOnce self.new.states) }
     {
         let ids = match self.states.as_slice().get(k) {
-            Some(state) => with_id(alloc, state.ids.as_slice(), turn.rank, id)?,
+            Some(state) => with_id(alloc, state.as_slice(), turn.rank, id)?,
             None => return Ok(()),
         };
         let way = Way {
@@ -146,6 +157,11 @@ impl Search {
             slice_get self.old.states k ≡ Some ids →
             spot_in self.old.table ids turn.rank ≡ Some spot →
             Leads self.new ids turn.rank (moved_at spot turn.by)) }
+        ensures made { (eager ranks : ℕ) (lines : List script_line.Line) →
+            IsMade eager ranks lines self.old → ((ids : List ℕ) →
+            slice_get self.old.states k ≡ Some ids →
+            IsTurn eager ranks lines (spot_in self.old.table ids) turn) →
+            OnOk result (IsMade eager ranks lines self.new) }
     {
         let Some(after) = self.after(k, turn)? else {
             return Ok(());
@@ -163,6 +179,9 @@ impl Search {
             IsWhole of.entry.ranks self.old → OnOk result ((ids : List ℕ) →
             slice_get self.old.states k ≡ Some ids →
             IsExpanded of.entry.eager of.entry.ranks of.entry.lines.now self.new ids) }
+        ensures made { length of.entry.lines.now < 4294967293 → AreSendsShort of.entry.lines.now →
+            k < length self.old.states → IsMade of.entry.eager of.entry.ranks of.entry.lines.now self.old →
+            OnOk result (IsMade of.entry.eager of.entry.ranks of.entry.lines.now self.new) }
     {
         let turns = self.turns_at(alloc, of, k)?;
         for turn in turns.iter() {
@@ -178,6 +197,10 @@ impl Search {
             IsWhole of.entry.ranks self.old → IfOk result (λ all. IsTrue all →
             AreExpanded of.entry.eager of.entry.ranks of.entry.lines.now self.new
             (length self.new.states)) }
+        ensures made { length of.entry.lines.now < 4294967293 → AreSendsShort of.entry.lines.now →
+            IsMade of.entry.eager of.entry.ranks of.entry.lines.now self.old →
+            OnOk result (IsMade of.entry.eager of.entry.ranks of.entry.lines.now self.new) }
+        ensures over { IfOk result (λ all. IsFalse all → limit < length self.new.states) }
     {
         for k in 0..limit as usize {
             if k >= self.states.as_slice().len() {

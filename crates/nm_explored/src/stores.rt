@@ -1,14 +1,15 @@
 //! States, each of them once.
 
-ghost use Rattle.std.specs.Prelude.{◌≡◌, ◌⊎◌, [], ◌∷◌, ◌++◌, IfOk, IfSome, IsTrue, OnOk, Some, slice_get};
+ghost use Rattle.std.specs.Prelude.{◌≡◌, ◌⊎◌, [], ◌∷◌, ◌++◌, IfOk, OnOk, Some, slice_get};
 ghost use Rattle.nm_choices.specs.Lists.{Has, Keeps};
+ghost use Rattle.nm_explored.specs.Stores.{StandOnce};
 
-use crate::hashes::{of_list, of_rank};
-use indexmap::IndexMap;
+use indexmap::IndexSet;
 use nm_choices::moves::Move;
 use nm_spots::ranks::Rank;
 use nm_types::Memory;
 use std::alloc::Global;
+use std::hash::{Hash, Hasher};
 use std::marker::Model;
 
 /// How a state was found: by which move of which rank, at which state.
@@ -19,62 +20,14 @@ pub struct Way {
     pub by: Move,
 }
 
-/// Numbers under which things stand, by a hash.
-pub struct Buckets {
-    map: IndexMap<u64, Vec<usize>>,
-}
-
-impl Drop for Buckets {
-    fn drop(self) {
-        let Buckets { map: _ } = self;
-    }
-}
-
-impl Buckets {
-    /// No number.
-    pub fn new(alloc: Global) -> Buckets {
-        Buckets {
-            map: IndexMap::new(alloc),
-        }
-    }
-
-    /// Puts a number under a hash.
-    pub fn add(&mut self, hash: u64, id: usize) -> Result<(), Memory> {
-        match self.map.get_mut(&hash) {
-            Some(ids) => {
-                ids.push(id)?;
-                Ok(())
-            }
-            None => {
-                let mut ids = Vec::new(*self.map.allocator());
-                ids.push(id)?;
-                self.map.insert(hash, ids)?;
-                Ok(())
-            }
-        }
-    }
-
-    /// The numbers under a hash.
-    pub fn get(&self, hash: u64) -> &[usize] {
-        match self.map.get(&hash) {
-            Some(ids) => ids.as_slice(),
-            None => &[],
-        }
-    }
-}
-
 /// States of single ranks, each once.
 pub struct Table {
-    items: Vec<Rank>,
-    places: Buckets,
+    items: IndexSet<Rank>,
 }
 
 impl Drop for Table {
     fn drop(self) {
-        let Table {
-            items: _,
-            places: _,
-        } = self;
+        let Table { items: _ } = self;
     }
 }
 
@@ -84,7 +37,7 @@ impl Model for Table {
 
     ghost Value = { List Spot };
 
-    ghost view = { λ a. a.items.items };
+    ghost view = { λ a. a.items.keys };
 }
 
 impl Table {
@@ -93,8 +46,7 @@ impl Table {
         ensures { result ≡ [] }
     {
         Table {
-            items: Vec::new(alloc),
-            places: Buckets::new(alloc),
+            items: IndexSet::new(alloc),
         }
     }
 
@@ -105,54 +57,26 @@ impl Table {
         self.items.as_slice()
     }
 
-    /// The number of a state under this hash, if it is there.
-    fn find(&self, hash: u64, rank: &Rank) -> Option<usize>
-        ensures { IfSome result (λ id. slice_get self.now id ≡ Some rank.now) }
-    {
-        for id in self.places.get(hash) {
-            if let Some(other) = self.items.get(*id) {
-                if rank.is_same(other) {
-                    return Some(*id);
-                }
-            }
-        }
-        None
-    }
-
-    /// Adds a state.
-    fn push(&mut self, hash: u64, rank: Rank) -> Result<usize, Memory>
-        ensures there { IfOk result (λ id. slice_get self.new id ≡ Some rank) }
-        ensures kept { OnOk result (Keeps self.old self.new) }
-    {
-        let id = self.items.len();
-        self.places.add(hash, id)?;
-        self.items.push(rank)?;
-        Ok(id)
-    }
-
     /// The number of a state, which may be a new one.
+    #[tactic(auto, using(crate::proofs::SetLemmas::spots_once, crate::proofs::SetLemmas::spots_keep, crate::proofs::SetLemmas::spot_there))]
     pub fn number(&mut self, rank: Rank) -> Result<usize, Memory>
         ensures there { IfOk result (λ id. slice_get self.new id ≡ Some rank) }
         ensures kept { OnOk result (Keeps self.old self.new) }
+        ensures once { OnOk result (StandOnce self.new) }
     {
-        let hash = of_rank(&rank);
-        match self.find(hash, &rank) {
-            Some(id) => Ok(id),
-            None => self.push(hash, rank),
-        }
+        let (id, _) = self.items.insert_full(rank)?;
+        Ok(id)
     }
 }
 
 /// A state: the numbers of its ranks' states.
 pub struct State {
-    pub ids: Vec<usize>,
-    /// How it was found. The first state was not.
-    pub way: Option<Way>,
+    ids: Vec<usize>,
 }
 
 impl Drop for State {
     fn drop(self) {
-        let State { ids: _, way: _ } = self;
+        let State { ids: _ } = self;
     }
 }
 
@@ -164,25 +88,60 @@ impl Model for State {
     ghost view = { λ a. a.ids.items };
 }
 
-/// Whether two lists of numbers are the same.
-fn same_ids(a: &[usize], b: &[usize]) -> bool
-    ensures { IsTrue result → a.now ≡ b.now }
-{
-    a == b
+impl PartialEq for State {
+    ghost use Rattle.std.proofs.Common.{rules};
+    ghost use Rattle.std.specs.Cmp.Lexicographic.{pointwise};
+    ghost use Rattle.std.specs.Cmp.Rules.{comparing};
+    ghost use Rattle.std.specs.Prelude.{nat_eq};
+
+    ghost eq = { pointwise nat_eq };
+
+    ghost laws = { Prim.search (comparing, rules) };
+
+    fn eq(&self, other: &State) -> bool {
+        self.ids == other.ids
+    }
 }
 
-/// The states of all ranks that were found, each once.
+impl Eq for State {
+    ghost use Rattle.std.proofs.Common.{rules};
+    ghost use Rattle.std.specs.Cmp.Rules.{comparing};
+
+    ghost laws = { Prim.search (comparing, rules) };
+}
+
+impl Hash for State {
+    ghost use Rattle.std.proofs.Common.{rules};
+    ghost use Rattle.std.specs.Cmp.Rules.{hashing};
+    ghost use Rattle.std.specs.Hash as fed;
+
+    ghost hash_input = { λ a. fed.slice fed.usize a };
+
+    ghost respects_eq = { Prim.search (hashing, rules) };
+
+    fn hash<H: Hasher>(&self, state: &mut H) {
+        self.ids.hash(state);
+    }
+}
+
+impl State {
+    /// The numbers, by rank.
+    pub fn as_slice(&self) -> &[usize]
+        ensures { result.now ≡ self.now }
+    {
+        self.ids.as_slice()
+    }
+}
+
+/// The states of all ranks that were found, each once, and how each was found.
 pub struct States {
-    items: Vec<State>,
-    places: Buckets,
+    items: IndexSet<State>,
+    ways: Vec<Option<Way>>,
 }
 
 impl Drop for States {
     fn drop(self) {
-        let States {
-            items: _,
-            places: _,
-        } = self;
+        let States { items: _, ways: _ } = self;
     }
 }
 
@@ -191,7 +150,7 @@ impl Model for States {
 
     ghost Value = { List (List ℕ) };
 
-    ghost view = { λ a. a.items.items };
+    ghost view = { λ a. a.items.keys };
 }
 
 impl States {
@@ -200,8 +159,8 @@ impl States {
         ensures { result ≡ [] }
     {
         States {
-            items: Vec::new(alloc),
-            places: Buckets::new(alloc),
+            items: IndexSet::new(alloc),
+            ways: Vec::new(alloc),
         }
     }
 
@@ -212,40 +171,26 @@ impl States {
         self.items.as_slice()
     }
 
-    /// Whether a state is there under this hash.
-    fn has(&self, hash: u64, ids: &[usize]) -> bool
-        ensures { IsTrue result → Has self.now ids.now }
-    {
-        for id in self.places.get(hash) {
-            if let Some(other) = self.items.get(*id) {
-                if same_ids(other.ids.as_slice(), ids) {
-                    return true;
-                }
-            }
+    /// How the state with a number was found. The first one was not.
+    pub fn way(&self, k: usize) -> Option<Way> {
+        match self.ways.get(k) {
+            Some(way) => *way,
+            None => None,
         }
-        false
-    }
-
-    /// Adds a state that is not there.
-    fn push(&mut self, hash: u64, ids: Vec<usize>, way: Option<Way>) -> Result<(), Memory>
-        ensures { OnOk result (self.new ≡ self.old ++ ids.items ∷ []) }
-    {
-        let id = self.items.len();
-        self.places.add(hash, id)?;
-        self.items.push(State { ids, way })?;
-        Ok(())
     }
 
     /// Adds a state, unless it is there.
+    #[tactic(auto, using(crate::proofs::SetLemmas::ids_once, crate::proofs::SetLemmas::ids_added, crate::proofs::SetLemmas::ids_keep, crate::proofs::SetLemmas::ids_there))]
     pub fn add(&mut self, ids: Vec<usize>, way: Option<Way>) -> Result<(), Memory>
         ensures there { OnOk result (Has self.new ids.items) }
         ensures kept { OnOk result (Keeps self.old self.new) }
         ensures added { OnOk result ((self.new ≡ self.old) ⊎ (self.new ≡ self.old ++ ids.items ∷ [])) }
+        ensures once { OnOk result (StandOnce self.new) }
     {
-        let hash = of_list(&ids);
-        if self.has(hash, &ids) {
-            return Ok(());
+        let (_, new) = self.items.insert_full(State { ids })?;
+        if new {
+            self.ways.push(way)?;
         }
-        self.push(hash, ids, way)
+        Ok(())
     }
 }

@@ -1,6 +1,5 @@
 pub mod ListLemmas
 pub mod LookLemmas
 pub mod SaidLemmas
-pub mod SameLemmas
 pub mod SpotLemmas
 pub mod StepLemmas

@@ -35,6 +35,7 @@ abbrev pub name_in : List Line → ℕ → List Deed → ℕ → Option ℕ
 name_in lines rank deeds q =
     fold (λ line d. line_after (commands_of rank lines) q line (happening lines d)) None deeds
 
+-- the line that a handle stands for
 abbrev pub handle_in : List Line → ℕ → List Deed → ℕ → Option ℕ
 handle_in lines rank deeds m =
     fold (λ line d. claim_line_after (commands_of rank lines) m line (happening lines d)) None deeds
@@ -46,6 +47,7 @@ is_start_by line (deed.Post r own) = own == line
 is_start_by line (deed.Match number from n cap own) = own == line
 is_start_by line _ = false
 
+-- a deed claims the message of a line
 abbrev pub is_claim_at : ℕ → Deed → Bool
 is_claim_at line (deed.Claim from n own) = own == line
 is_claim_at line _ = false
@@ -54,6 +56,7 @@ is_claim_at line _ = false
 abbrev pub request_in : List Deed → ℕ → Option Request
 request_in deeds line = option_and_then (λ d. request_of line (happening [] d)) (find (is_start_by line) deeds)
 
+-- the message that a line claimed
 abbrev pub claim_in : List Deed → ℕ → Option Claimed
 claim_in deeds line = option_and_then (λ d. message_claimed line (happening [] d)) (find (is_claim_at line) deeds)
 
@@ -61,6 +64,7 @@ claim_in deeds line = option_and_then (λ d. message_claimed line (happening [] 
 abbrev pub live_in : List Line → ℕ → List Deed → ℕ → Option Request
 live_in lines rank deeds q = option_and_then (request_in deeds) (name_in lines rank deeds q)
 
+-- the live message of a handle
 abbrev pub message_in : List Line → ℕ → List Deed → ℕ → Option Claimed
 message_in lines rank deeds m = option_and_then (claim_in deeds) (handle_in lines rank deeds m)
 
@@ -73,11 +77,13 @@ abbrev pub is_answer_by : Deed → Bool
 is_answer_by (deed.Ran line reply) = true
 is_answer_by _ = false
 
+-- a deed starts a receive
 abbrev pub is_receive_by : Deed → Bool
 is_receive_by (deed.Post r line) = true
 is_receive_by (deed.Match number from n cap line) = true
 is_receive_by _ = false
 
+-- a deed sends to a rank
 abbrev pub is_send_by : ℕ → Deed → Bool
 is_send_by to (deed.Send to' n tag ctx len how line) = to' == to
 is_send_by to _ = false
@@ -89,11 +95,13 @@ is_starting_by (deed.Post r line) = true
 is_starting_by (deed.Match number from n cap line) = true
 is_starting_by _ = false
 
+-- a deed is a cancel or a recall
 abbrev pub is_cancelling_by : Deed → Bool
 is_cancelling_by (deed.Cancel number done) = true
 is_cancelling_by (deed.Recall to n) = true
 is_cancelling_by _ = false
 
+-- a deed is a claim
 abbrev pub is_claim_any : Deed → Bool
 is_claim_any (deed.Claim from n line) = true
 is_claim_any _ = false
@@ -103,6 +111,7 @@ abbrev pub is_unasked_by : ℕ → ℕ → Deed → Bool
 is_unasked_by to n (deed.Send to' n' tag ctx len how line) = to' == to && (n' == n && not (is_ask how))
 is_unasked_by to n _ = false
 
+-- a deed recalls message n to a rank
 abbrev pub is_recall_by : ℕ → ℕ → Deed → Bool
 is_recall_by to n (deed.Recall to' n') = to' == to && n' == n
 is_recall_by to n _ = false
@@ -121,5 +130,6 @@ pub record IsSaid (lines : List Line) (h : List Event) (spot : Spot) : Type 0 wh
   pub unasked : (to n : ℕ) → list_any (is_unasked_by to n) spot.deeds ≡ is_unasked (sends h to) n
   pub recalled : (to n : ℕ) → list_any (is_recall_by to n) spot.deeds ≡ happened (is_recall to n) h
 
+-- so each state says of its history
 abbrev pub StatesSay : Type 0
 StatesSay = (lines : List Line) (h : List Event) (spot : Spot) → IsSpotOf lines h spot → IsSaid lines h spot

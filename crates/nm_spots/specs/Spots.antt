@@ -74,6 +74,7 @@ is_behind from n rank m = nat_lt from rank || (rank == from && nat_lt n m)
 abbrev pub message_of_spot : Spot → Receive → Option Arrival
 message_of_spot spot r = find (λ a. matches r.from r.tag r.ctx a.env) spot.free
 
+-- the oldest open receive that selects a message
 abbrev pub receive_of_spot : Spot → Arrival → Option Receive
 receive_of_spot spot a = find (λ r. matches r.from r.tag r.ctx a.env) spot.receives
 
@@ -82,6 +83,7 @@ abbrev pub is_cancel_by : ℕ → Deed → Bool
 is_cancel_by number (deed.Cancel number' done) = number' == number && done
 is_cancel_by number _ = false
 
+-- a deed claims message n of a rank
 abbrev pub is_claim_by : ℕ → ℕ → Deed → Bool
 is_claim_by from n (deed.Claim from' n' line) = from' == from && n' == n
 is_claim_by from n _ = false
@@ -101,6 +103,7 @@ is_gone_at spot from n =
 abbrev pub without_number : ℕ → List Receive → List Receive
 without_number number rs = filter (λ r. not (number == r.number)) rs
 
+-- the pairs with one more, by number
 abbrev pub with_pair : Pair → List Pair → List Pair
 with_pair pair pairs =
     placed_new (is_of_receive pair.number) (λ p. nat_lt pair.number p.number) pair pairs
@@ -145,10 +148,12 @@ arrived_by spot a (Some r) = record spot {
   pairs = with_pair (record { number = r.number; cap = r.cap; arrival = a }) spot.pairs;
 }
 
+-- the messages that came with one more, by sender and number
 abbrev pub with_arrival : Arrival → List Arrival → List Arrival
 with_arrival a came =
     placed_new (is_message a.env.from a.n) (λ b. is_behind a.env.from a.n b.env.from b.n) a came
 
+-- the rank after a message came
 abbrev pub arrived_at : Spot → Arrival → Spot
 arrived_at spot a =
     let s = arrived_by spot a (receive_of_spot spot a) in

@@ -10,11 +10,11 @@
 //!   `Rank::arrive` and `Rank::withdraw` make just that state.
 //! - What a state says of live requests and messages, of how many commands ran, messages were sent and
 //!   receives were started, and of recalls is what the definitions say of its history (`laws::states_say`).
-//! - Two states of a rank are taken for one only where they are equal (`Rank::is_same`).
+//! - Two states of a rank are taken for one where they are equal, and only there (`==` of `Rank`).
 #![tactic(auto)]
 
 pub mod deeds;
+mod hashes;
 pub mod laws;
 pub mod looks;
 pub mod ranks;
-mod sames;

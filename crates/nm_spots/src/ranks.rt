@@ -1,6 +1,6 @@
 //! The state of a rank: what it did, and what matching has of it.
 
-ghost use Rattle.std.specs.Prelude.{◌≡◌, ◌≤◌, IfOk, IsTrue, OnOk, find, length};
+ghost use Rattle.std.specs.Prelude.{◌≡◌, ◌≤◌, IfOk, OnOk, find, length};
 ghost use Rattle.std.specs.Prelude.{nat_lt, position, unwrap_or};
 ghost use Rattle.std.specs.List.{list_any};
 ghost use Rattle.nm_history.specs.Matching.{is_of_message, is_of_receive};
@@ -13,10 +13,11 @@ ghost use Rattle.nm_spots.specs.Spots.{receive_of_spot, settled_at, spot_after, 
 ghost use Rattle.nm_spots.specs.Spots.{with_arrival, with_pair, withdrawn_at, without_number};
 
 use crate::deeds::{Deed, Message, Receive};
-use crate::sames::{same_arrivals, same_deeds, same_messages, same_pairs, same_receives};
+use crate::hashes::of_rank;
 use nm_history::plain::{Pair, selects};
 use nm_types::{Arrival, Memory};
 use std::alloc::Global;
+use std::hash::{Hash, Hasher};
 use std::marker::Model;
 
 /// A rank at some moment.
@@ -59,6 +60,46 @@ impl Model for Rank {
       came = a.came.items;
       withdrawn = a.withdrawn.items;
     } };
+}
+
+/// Two ranks are equal where they are in one state.
+impl PartialEq for Rank {
+    ghost use Rattle.std.specs.Cmp.{partial_equiv_from_equiv};
+    ghost use Rattle.nm_spots.specs.Sames.{same_spots};
+    ghost use Rattle.nm_spots.specs.SameLaws.{spots_equiv};
+
+    ghost eq = { λ a b. same_spots a b };
+
+    ghost laws = { partial_equiv_from_equiv spots_equiv };
+
+    fn eq(&self, other: &Rank) -> bool {
+        self.deeds == other.deeds
+            && self.receives == other.receives
+            && self.free == other.free
+            && self.pairs == other.pairs
+            && self.came == other.came
+            && self.withdrawn == other.withdrawn
+    }
+}
+
+impl Eq for Rank {
+    ghost use Rattle.nm_spots.specs.SameLaws.{spots_equiv};
+
+    ghost laws = { spots_equiv };
+}
+
+impl Hash for Rank {
+    ghost use Rattle.std.specs.Hash as fed;
+    ghost use Rattle.nm_spots.specs.Numbers.{spot_number};
+    ghost use Rattle.nm_spots.specs.SameLaws.{spots_alike};
+
+    ghost hash_input = { λ a. fed.u64 (spot_number a) };
+
+    ghost respects_eq = { spots_alike.fed };
+
+    fn hash<H: Hasher>(&self, state: &mut H) {
+        state.write_u64(of_rank(self));
+    }
 }
 
 impl Rank {
@@ -123,18 +164,6 @@ impl Rank {
         ensures { result.now ≡ self.now.withdrawn }
     {
         self.withdrawn.as_slice()
-    }
-
-    /// Whether two ranks are in one state.
-    pub fn is_same(&self, other: &Rank) -> bool
-        ensures { IsTrue result → self.now ≡ other.now }
-    {
-        same_deeds(&self.deeds, &other.deeds)
-            && same_receives(&self.receives, &other.receives)
-            && same_arrivals(&self.free, &other.free)
-            && same_pairs(&self.pairs, &other.pairs)
-            && same_arrivals(&self.came, &other.came)
-            && same_messages(&self.withdrawn, &other.withdrawn)
     }
 
     /// Puts a pair at the place of its number.

@@ -3,7 +3,8 @@ use Rattle.std.proofs.Common.{◌≡◌, ℕ, ◌<◌, Some}
 use Rattle.nm_types.specs.declared.messages.Arrival as arrival
 use Rattle.nm_choices.specs.declared.moves.Move.TheVariants.{Arrive}
 use Rattle.nm_choices.specs.Choices.{message_next, spot_in}
-use Rattle.nm_choices.specs.Lists.{Has, Keeps}
+use Rattle.nm_choices.specs.Lists.{AddsOnly, Has, Keeps}
+use Rattle.nm_choices.specs.Moves.{IsNextMessage}
 use Rattle.nm_choices.proofs.moves.push_arrivals.Given as goal
 
 abbrev pub invariant-loop-from : goal.invariant-loop-from
@@ -13,4 +14,7 @@ invariant-loop-from l =
       added : (from : ℕ) → from < l.from → (a : arrival.Arrival) →
           message_next (spot_in l.view.table.now l.view.ids.now) l.i from ≡ Some a →
           Has l.turns.items (record { rank = l.i; by = Arrive a });
+      only : AddsOnly
+          (λ t. (a : arrival.Arrival) × (record { rank = l.i; by = Arrive a } ≡ t)
+          × IsNextMessage l.ranks (spot_in l.view.table.now l.view.ids.now) l.i a) l.fn.turns.items l.turns.items;
     }

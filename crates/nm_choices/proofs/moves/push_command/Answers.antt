@@ -10,7 +10,7 @@ use Rattle.nm_choices.specs.declared.moves.Move.TheVariants.{Act}
 use Rattle.nm_choices.specs.Choices.{begun_in, spot_in}
 use Rattle.nm_choices.specs.Lists.{Has}
 use Rattle.nm_choices.specs.Moves.{IsDeedOf, no_in, reply_in}
-use Rattle.nm_choices.proofs.KeptLemmas.{has_kept}
+use Rattle.nm_choices.proofs.KeptLemmas.{deeds_only, has_kept}
 use Rattle.nm_choices.proofs.moves.push_command.Goals as goal
 
 pub returns-clause-added : goal.returns-clause-added
@@ -33,3 +33,14 @@ returns-clause-added c d is = by_kind is
     by_kind (inr (inr denies)) =
         if_some (λ (d : Deed). Has c.push_deed-3.new.turns.items (record { rank = c.args.i; by = Act d }))
         c.denied.result d (c.denied.ensures ∙ denies) c.in_ok-push_deed-3.ensures.added
+
+-- .. and nothing else
+pub returns-clause-only : goal.returns-clause-only
+returns-clause-only c short =
+    deeds_only c.args.view.eager c.args.view.lines.now (spot_in c.args.view.table.now c.args.view.ids.now) c.args.i
+    c.args.rank.now c.args.line c.args.command.now c.args.turns.now.items c.push_deed.new.turns.items
+    c.push_deed-2.new.turns.items c.push_deed-3.new.turns.items c.begin.result c.replied.result c.denied.result short
+    (c.begin.ensures short)
+    (c.replied.ensures ∙ ap (λ (o : Option Reply). option_map (λ r. deed.Ran c.args.line r) o) c.answer.ensures)
+    c.denied.ensures c.in_ok-push_deed.ensures.only c.in_ok-push_deed-2.ensures.only
+    c.in_ok-push_deed-3.ensures.only

@@ -3,6 +3,8 @@ use Rattle.std.proofs.Common.{List, ℕ, sym, subst}
 use Rattle.nm_types.specs.declared.scripts.Line.{Line}
 use Rattle.nm_types.specs.Limits.{IsScript}
 use Rattle.nm_explored.specs.Ends.{AreEnds, AreShort, IfAll, TellsAll}
+use Rattle.nm_explored.specs.Met.{AreTooMany, IfTooMany, IsAll}
+use Rattle.nm_explored.proofs.MetLemmas.{all_not_many, too_many_of}
 use Rattle.nm_explored.proofs.StoreLemmas.{explored_by, first_whole}
 use Rattle.nm_explored.proofs.TellLemmas.{all_weaker, explore_tells, ok_weaker, script_short}
 use Rattle.nm_explored.proofs.ends.explore.Goals as goal
@@ -12,14 +14,14 @@ all_ends-requires c =
     subst (λ (ls : List Line). AreShort ls) (sym c.as_slice.ensures)
     (script_short c.args.script.now.ranks c.args.script.now.lines c.args.script.now.limits)
 
-pub returns-then-all : goal.returns-then-all
-returns-then-all c =
+pub returns-then-all-clause-all : goal.returns-then-all-clause-all
+returns-then-all-clause-all c =
     let short : AreShort c.as_slice.result.now =
     subst (λ (ls : List Line). AreShort ls) (sym c.as_slice.ensures)
     (script_short c.args.script.now.ranks c.args.script.now.lines c.args.script.now.limits) in
     let explored = explored_by c.eager.result c.ranks.result c.as_slice.result.now c.in_ok-search.search c.run.new.self
-    c.in_ok-search.ensures c.in_ok-all.ensures.grows
-    (c.in_ok-all.ensures.all short.count (first_whole c.ranks.result c.in_ok-search.search c.in_ok-search.ensures)
+    c.in_ok-search.ensures.first c.in_ok-all.ensures.grows
+    (c.in_ok-all.ensures.all short.count (first_whole c.ranks.result c.in_ok-search.search c.in_ok-search.ensures.first)
     c.if-all.true) in
     ok_weaker (IfAll (AreEnds c.ranks.result c.as_slice.result.now c.run.new.self))
     (IfAll (TellsAll c.args.shape c.args.script.now.lines))
@@ -29,4 +31,23 @@ returns-then-all c =
     (subst (λ (r : ℕ). IsScript r c.args.script.now.lines) (sym c.requires) c.args.script.now.limits)
     c.eager.result c.ranks.result c.as_slice.result.now c.run.new.self c.eager.ensures.value c.ranks.ensures.value
     c.as_slice.ensures explored ends are))
-    c.all_ends.result c.all_ends.ensures
+    c.all_ends.result c.all_ends.ensures.all
+
+-- .. and one that gave up met too many states
+pub returns-clause-many : goal.returns-clause-many
+returns-clause-many c =
+    let short : AreShort c.as_slice.result.now =
+    subst (λ (ls : List Line). AreShort ls) (sym c.as_slice.ensures)
+    (script_short c.args.script.now.ranks c.args.script.now.lines c.args.script.now.limits) in
+    too_many_of c.args.shape c.args.script.now.lines c.eager.result c.ranks.result c.as_slice.result.now
+    c.run.new.self c.args.states c.eager.ensures.value c.ranks.ensures.value c.as_slice.ensures
+    (c.in_ok-all.ensures.made short.count short.sends
+    (c.in_ok-search.ensures.made c.eager.result c.as_slice.result.now))
+    (c.in_ok-all.ensures.over c.if-all.false)
+
+pub returns-then-all-clause-many : goal.returns-then-all-clause-many
+returns-then-all-clause-many c =
+    ok_weaker IsAll
+    (IfTooMany (AreTooMany c.args.shape.eager c.args.shape.ranks c.args.script.now.lines c.args.states))
+    (all_not_many (AreTooMany c.args.shape.eager c.args.shape.ranks c.args.script.now.lines c.args.states))
+    c.all_ends.result c.all_ends.ensures.found

@@ -24,7 +24,7 @@ returns-in-Some-clause-added c =
     let states : c.as_slice.result.now ≡ c.args.search.now.states =
     c.as_slice.ensures ∙ ap (λ (s : Store). s.states) c.search.view_is in
     let own : c.as_slice-in-Some-2.result.now ≡ c.in-Some.state.now =
-    c.as_slice-in-Some-2.ensures.value ∙ c.state.view_is in
+    c.as_slice-in-Some-2.ensures in
     let same : c.in-Some.state.now ≡ ids =
     looked_up c.as_slice.result.now c.args.k c.in-Some.state.now ids c.in-Some.ensures.lookup.3.0
     c.in-Some.ensures.lookup.3.1 (ap (λ (ss : List (List ℕ)). slice_get ss c.args.k) states ∙ here) in

@@ -8,6 +8,7 @@ use Rattle.nm_choices.specs.Choices.{spot_in}
 use Rattle.nm_choices.specs.Moves.{moved_at}
 use Rattle.nm_choices.proofs.KeptLemmas.{each_next}
 use Rattle.nm_explored.specs.Stores.{Leads}
+use Rattle.nm_explored.proofs.MetLemmas.{got_has, turn_here}
 use Rattle.nm_explored.proofs.StoreLemmas.{expanded_now, follow_leads, grows_then, leads_kept, spot_kept}
 use Rattle.nm_explored.proofs.searches.Search.expand.Goals as goal
 
@@ -31,6 +32,15 @@ loop-turn-preserved c =
           (λ spot there.
           c.in_ok-follow.ensures.leads ids spot (c.loop-turn.invariant.grows.states c.args.k ids here)
           (spot_kept c.args.self.now.table c.loop-turn.self.table ids _ spot c.loop-turn.invariant.grows.table there)));
+      made = λ few short inside made.
+          c.in_ok-follow.ensures.made c.args.of.eager c.args.of.ranks c.args.of.lines.now
+          (c.loop-turn.invariant.made few short inside made)
+          (turn_here c.args.of.eager c.args.of.ranks c.args.of.lines.now c.args.self.now c.loop-turn.self c.args.k _
+          c.loop-turn.invariant.grows made inside
+          (λ ids here.
+          c.in_ok-turns.ensures.only few short ids here _
+          (got_has c.deref-turn-items.result.now c.in_ok-turns.turns.items c.loop-turn.turn-index _
+          c.deref-turn-items.ensures.value c.loop-turn-test.true)));
     }
 
 pub returns-clause-expanded : goal.returns-clause-expanded
@@ -39,7 +49,7 @@ returns-clause-expanded c few whole ids here =
     let same = c.deref-turn-items.ensures.value in
     expanded_now c.args.of.eager c.args.of.ranks c.args.of.lines.now c.args.self.now c.loop-turn.self
     c.loop-turn.invariant.grows whole c.args.k ids here c.in_ok-turns.turns.items
-    (c.in_ok-turns.ensures few ids here)
+    (c.in_ok-turns.ensures.all few ids here)
     (λ m t at spot there.
     let inside = place_below c.in_ok-turns.turns.items m t at in
     let long = ap (λ (ts : List Turn). length ts) same in

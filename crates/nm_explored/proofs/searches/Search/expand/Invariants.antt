@@ -1,10 +1,11 @@
 -- The states that the first moves lead to are there.
-use Rattle.std.proofs.Common.{◌≡◌, ℕ, ◌<◌, Some, List}
+use Rattle.std.proofs.Common.{◌≡◌, ℕ, ◌<◌, Some, List, length}
 use Rattle.std.specs.List.{slice_get}
 use Rattle.nm_spots.specs.Spots.{Spot}
 use Rattle.nm_choices.specs.declared.moves.Turn.{Turn}
 use Rattle.nm_choices.specs.Choices.{spot_in}
-use Rattle.nm_choices.specs.Moves.{moved_at}
+use Rattle.nm_choices.specs.Moves.{AreSendsShort, moved_at}
+use Rattle.nm_explored.specs.Met.{IsMade}
 use Rattle.nm_explored.specs.Stores.{Grows, IsWhole, Leads}
 use Rattle.nm_explored.proofs.searches.Search.expand.Given as goal
 
@@ -16,4 +17,6 @@ invariant-loop-turn l =
       leads : (ids : List ℕ) → slice_get l.fn.self.states l.k ≡ Some ids → (m : ℕ) → m < l.turn-index → (t : Turn) →
           slice_get l.turn-items m ≡ Some t → (spot : Spot) → spot_in l.fn.self.table ids t.rank ≡ Some spot →
           Leads l.self ids t.rank (moved_at spot t.by);
+      made : length l.of.lines.now < 4294967293 → AreSendsShort l.of.lines.now →
+          l.k < length l.fn.self.states → IsMade l.of.eager l.of.ranks l.of.lines.now l.fn.self → IsMade l.of.eager l.of.ranks l.of.lines.now l.self;
     }

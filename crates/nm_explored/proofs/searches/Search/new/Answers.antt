@@ -1,13 +1,17 @@
 -- One state, in which no rank did anything.
-use Rattle.std.proofs.Common.{ℕ, Option, Some, List, ◌∙◌, ap}
+use Rattle.std.proofs.Common.{◌≡◌, ℕ, zero, suc, Option, Some, List, [], ◌∷◌, replicate, sym, ◌∙◌, ap, subst}
 use Rattle.std.specs.Prelude.{option_and_then}
 use Rattle.std.specs.List.{slice_get}
+use Rattle.nm_facts.proofs.Lists.{no_item}
+use Rattle.nm_facts.proofs.Options.{same_some}
 use Rattle.nm_spots.specs.Spots.{Spot}
+use Rattle.nm_explored.specs.Met.{IsSound}
+use Rattle.nm_explored.proofs.MetLemmas.{sound_first}
 use Rattle.nm_explored.proofs.StoreLemmas.{get_replicate, one_state}
 use Rattle.nm_explored.proofs.searches.Search.new.Goals as goal
 
-pub returns : goal.returns
-returns c =
+pub returns-clause-first : goal.returns-clause-first
+returns-clause-first c =
     record {
       ids = c.in_ok-ids.ids.items;
       only = one_state c.new-states.result c.add.new.self c.in_ok-ids.ids.items c.new-states.ensures
@@ -19,3 +23,32 @@ returns c =
           (get_replicate c.args.ranks c.in_ok-id.id j low)
           ∙ c.in_ok-id.ensures.there ∙ ap (λ (s : Spot). Some s) c.new.ensures;
     }
+
+-- .. and no moves lead to it
+pub returns-clause-made : goal.returns-clause-made
+returns-clause-made c eager lines =
+    record {
+      table = c.in_ok-id.ensures.once;
+      states = c.in_ok-add.ensures.once;
+      sound = λ k other here. sound_only k other (ap (λ (xs : List (List ℕ)). slice_get xs k) (sym only) ∙ here);
+    }
+  where
+    only : c.add.new.self ≡ c.in_ok-ids.ids.items ∷ []
+    only =
+        one_state c.new-states.result c.add.new.self c.in_ok-ids.ids.items c.new-states.ensures
+        c.in_ok-add.ensures.there c.in_ok-add.ensures.added
+
+    alike : c.in_ok-ids.ids.items ≡ replicate c.args.ranks c.in_ok-id.id
+    alike = c.in_ok-ids.ensures.items_if_clones_equal (λ y is. is)
+
+    sound : IsSound eager c.args.ranks lines c.number.new.self c.in_ok-ids.ids.items
+    sound =
+        subst (λ (ids : List ℕ). IsSound eager c.args.ranks lines c.number.new.self ids) (sym alike)
+        (sound_first eager c.args.ranks lines c.number.new.self c.in_ok-id.id
+        (c.in_ok-id.ensures.there ∙ ap (λ (s : Spot). Some s) c.new.ensures))
+
+    sound_only : (k : ℕ) (other : List ℕ) → slice_get (c.in_ok-ids.ids.items ∷ []) k ≡ Some other →
+        IsSound eager c.args.ranks lines c.number.new.self other
+    sound_only zero other here =
+        subst (λ (ids : List ℕ). IsSound eager c.args.ranks lines c.number.new.self ids) (same_some _ _ here) sound
+    sound_only (suc k) other here = absurd (no_item k other here)

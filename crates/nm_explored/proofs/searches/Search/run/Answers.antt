@@ -17,4 +17,5 @@ loop-k-preserved c =
       all = λ few whole. run_next c.args.of.eager c.args.of.ranks c.args.of.lines.now c.loop-k.self c.expand.new.self
           c.loop-k.k c.in_ok-expand.ensures.grows below (c.loop-k.invariant.all few whole)
           (c.in_ok-expand.ensures.expanded few (c.loop-k.invariant.whole c.args.of.ranks whole));
+      made = λ few short made. c.in_ok-expand.ensures.made few short below (c.loop-k.invariant.made few short made);
     }

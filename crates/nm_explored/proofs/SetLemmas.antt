@@ -1,0 +1,39 @@
+-- Sets of states.
+use Rattle.std.proofs.Common.{◌≡◌, ◌⊎◌, ℕ, Bool, true, Some, List, [], ◌∷◌, ◌++◌, sym, ◌∙◌, ap}
+use Rattle.std.specs.Prelude.{nat_eq}
+use Rattle.std.specs.Cmp.Lexicographic.{pointwise}
+use Rattle.std.specs.List.{IsDistinct, slice_get}
+use Rattle.std.proofs.lemmas.Cmp.{nat_list_eq_equiv}
+use Rattle.indexmap.specs.IndexSet.{insert_key}
+use Rattle.nm_facts.proofs.Numbers.{same_number}
+use Rattle.nm_facts.proofs.Truth.{and_left, and_right}
+use Rattle.nm_spots.specs.SameLaws.{same_spot, spots_equiv}
+use Rattle.nm_spots.specs.Sames.{same_spots}
+use Rattle.nm_spots.specs.Spots.{Spot}
+use Rattle.nm_choices.specs.Lists.{Has, Keeps}
+use Rattle.nm_explored.specs.Stores.{StandOnce}
+use Rattle.nm_explored.proofs.MetLemmas.{inserted, kept_in, once_in, same_lists}
+
+pub spots_once : (xs : List Spot) → IsDistinct same_spots xs → StandOnce xs
+spots_once xs distinct = once_in same_spots spots_equiv.refl xs distinct
+
+pub spots_keep : (xs ys : List Spot) (x : Spot) → ys ≡ insert_key same_spots xs x → Keeps xs ys
+spots_keep xs ys x is = kept_in xs ys x (inserted same_spots xs ys x is)
+
+pub spot_there : (ys : List Spot) (id : ℕ) (x : Spot) →
+    (k : Spot) × (slice_get ys id ≡ Some k) × (same_spots x k ≡ true) → slice_get ys id ≡ Some x
+spot_there ys id x at = at.1 ∙ ap (λ (s : Spot). Some s) (sym ((same_spot x at.0).0 at.2))
+
+pub ids_once : (xs : List (List ℕ)) → IsDistinct (pointwise nat_eq) xs → StandOnce xs
+ids_once xs distinct = once_in (pointwise nat_eq) nat_list_eq_equiv.refl xs distinct
+
+pub ids_added : (xs ys : List (List ℕ)) (x : List ℕ) → ys ≡ insert_key (pointwise nat_eq) xs x →
+    (ys ≡ xs) ⊎ (ys ≡ xs ++ x ∷ [])
+ids_added xs ys x is = inserted (pointwise nat_eq) xs ys x is
+
+pub ids_keep : (xs ys : List (List ℕ)) (x : List ℕ) → ys ≡ insert_key (pointwise nat_eq) xs x → Keeps xs ys
+ids_keep xs ys x is = kept_in xs ys x (ids_added xs ys x is)
+
+pub ids_there : (ys : List (List ℕ)) (id : ℕ) (x : List ℕ) →
+    (k : List ℕ) × (slice_get ys id ≡ Some k) × (pointwise nat_eq x k ≡ true) → Has ys x
+ids_there ys id x at = (id, at.1 ∙ ap (λ (s : List ℕ). Some s) (sym (same_lists x at.0 at.2)))

@@ -1,0 +1,55 @@
+-- The moves at the state with a number.
+use Rattle.std.proofs.Common.{◌≡◌, ℕ, Some, List, ◌∙◌, ap, subst, arith}
+use Rattle.std.specs.List.{slice_get}
+use Rattle.nm_facts.proofs.Lists.{place_below}
+use Rattle.nm_spots.specs.Spots.{Spot}
+use Rattle.nm_choices.specs.Choices.{spot_in}
+use Rattle.nm_choices.specs.Moves.{AreMovesOf, IsTurn}
+use Rattle.nm_explored.specs.Stores.{Store}
+use Rattle.nm_explored.proofs.StoreLemmas.{looked_up}
+use Rattle.nm_explored.proofs.TellLemmas.{ok_weaker}
+use Rattle.nm_explored.proofs.searches.Search.turns_at.Goals as goal
+
+pub returns-in-Some-clause-all : goal.returns-in-Some-clause-all
+returns-in-Some-clause-all c few =
+    let table : c.as_slice-in-Some.result.now ≡ c.args.self.now.table =
+    c.as_slice-in-Some.ensures ∙ ap (λ (s : Store). s.table) c.self.view_is in
+    let states : c.as_slice.result.now ≡ c.args.self.now.states =
+    c.as_slice.ensures ∙ ap (λ (s : Store). s.states) c.self.view_is in
+    ok_weaker _ _
+    (λ turns are ids here i low.
+    let same : c.in-Some.state.now ≡ ids =
+    looked_up c.as_slice.result.now c.args.k c.in-Some.state.now ids c.in-Some.ensures.lookup.3.0
+    c.in-Some.ensures.lookup.3.1 (ap (λ (ss : List (List ℕ)). slice_get ss c.args.k) states ∙ here) in
+    subst (λ (x : List Spot). AreMovesOf c.args.of.eager c.args.of.ranks c.args.of.lines.now (spot_in x ids) i turns.items)
+    table
+    (subst
+    (λ (y : List ℕ). AreMovesOf c.args.of.eager c.args.of.ranks c.args.of.lines.now
+    (spot_in c.as_slice-in-Some.result.now y) i turns.items) (c.as_slice-in-Some-2.ensures ∙ same) (are i low)))
+    c.turns.result (c.turns.ensures.all few)
+
+pub returns-in-Some-clause-only : goal.returns-in-Some-clause-only
+returns-in-Some-clause-only c few short =
+    let table : c.as_slice-in-Some.result.now ≡ c.args.self.now.table =
+    c.as_slice-in-Some.ensures ∙ ap (λ (s : Store). s.table) c.self.view_is in
+    let states : c.as_slice.result.now ≡ c.args.self.now.states =
+    c.as_slice.ensures ∙ ap (λ (s : Store). s.states) c.self.view_is in
+    ok_weaker _ _
+    (λ turns are ids here t at.
+    let same : c.in-Some.state.now ≡ ids =
+    looked_up c.as_slice.result.now c.args.k c.in-Some.state.now ids c.in-Some.ensures.lookup.3.0
+    c.in-Some.ensures.lookup.3.1 (ap (λ (ss : List (List ℕ)). slice_get ss c.args.k) states ∙ here) in
+    subst (λ (x : List Spot). IsTurn c.args.of.eager c.args.of.ranks c.args.of.lines.now (spot_in x ids) t) table
+    (subst
+    (λ (y : List ℕ). IsTurn c.args.of.eager c.args.of.ranks c.args.of.lines.now
+    (spot_in c.as_slice-in-Some.result.now y) t) (c.as_slice-in-Some-2.ensures ∙ same) (are t at)))
+    c.turns.result (c.turns.ensures.only few short)
+
+pub returns-in-None-clause-all : goal.returns-in-None-clause-all
+returns-in-None-clause-all c few ids here i low spot at by choice =
+    let states : c.as_slice.result.now ≡ c.args.self.now.states =
+    c.as_slice.ensures ∙ ap (λ (s : Store). s.states) c.self.view_is in
+    let past = c.in-None.ensures.lookup.3 in
+    let below = place_below c.as_slice.result.now c.args.k ids
+    (ap (λ (ss : List (List ℕ)). slice_get ss c.args.k) states ∙ here) in
+    absurd (omega (arith, past, below))

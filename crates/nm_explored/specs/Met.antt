@@ -1,0 +1,55 @@
+-- States that the ranks of a script come into, and how many there are.
+use Rattle.std.specs.Prelude.{◌≡◌, ℕ, ◌<◌, Some, List, [], ◌∷◌, length, map, replicate}
+use Rattle.std.specs.List.{slice_get, slice_index_or, slice_set}
+use Rattle.nm_types.specs.declared.scripts.Line.{Line}
+use Rattle.nm_spots.specs.Spots.{Spot, first_spot}
+use Rattle.nm_choices.specs.declared.moves.Turn.{Turn}
+use Rattle.nm_choices.specs.Moves.{IsTurn, moved_at}
+use Rattle.nm_explored.specs.declared.ends.Explored.{Explored}
+use Rattle.nm_explored.specs.declared.ends.Explored.TheVariants.{All, TooMany}
+use Rattle.nm_explored.specs.Stores.{StandOnce, Store}
+
+-- these moves, the newest first, lead to a state from the first one, in which no rank did anything
+abbrev pub IsWay : ℕ → ℕ → List Line → List Turn → List Spot → Type 0
+IsWay eager ranks lines [] state = state ≡ replicate ranks first_spot
+IsWay eager ranks lines (t ∷ ts) state =
+    (before : List Spot) × IsWay eager ranks lines ts before
+    × (turn : IsTurn eager ranks lines (λ i. slice_get before i) t)
+    × (state ≡ slice_set before t.rank (moved_at turn.spot t.by))
+
+-- a state of all ranks that moves lead to
+abbrev pub IsMet : ℕ → ℕ → List Line → List Spot → Type 0
+IsMet eager ranks lines state = (ts : List Turn) × IsWay eager ranks lines ts state
+
+-- moves lead to more states than the bound, which differ
+pub record AreTooMany (eager ranks : ℕ) (lines : List Line) (bound : ℕ) : Type 0 where
+  pub states : List (List Spot)
+  pub many : bound < length states
+  pub differ : StandOnce states
+  pub met : (k : ℕ) (state : List Spot) → slice_get states k ≡ Some state → IsMet eager ranks lines state
+
+-- what holds where there are too many states
+abbrev pub IfTooMany : Type 0 → Explored → Type 0
+IfTooMany P (All ends) = Unit {0}
+IfTooMany P TooMany = P
+
+-- there are not too many states
+abbrev pub IsAll : Explored → Type 0
+IsAll (All ends) = Unit {0}
+IsAll TooMany = ⊥
+
+-- the states of the ranks, of which these are the numbers
+abbrev pub states_in : List Spot → List ℕ → List Spot
+states_in table ids = map (λ id. slice_index_or table id first_spot) ids
+
+-- the states of the ranks are in the table, and moves lead to them
+pub record IsSound (eager ranks : ℕ) (lines : List Line) (table : List Spot) (ids : List ℕ) : Type 0 where
+  pub low : (j id : ℕ) → slice_get ids j ≡ Some id → id < length table
+  pub met : IsMet eager ranks lines (states_in table ids)
+
+-- each state is there once, and moves lead to it
+pub record IsMade (eager ranks : ℕ) (lines : List Line) (store : Store) : Type 0 where
+  pub table : StandOnce store.table
+  pub states : StandOnce store.states
+  pub sound : (k : ℕ) (ids : List ℕ) → slice_get store.states k ≡ Some ids →
+      IsSound eager ranks lines store.table ids
