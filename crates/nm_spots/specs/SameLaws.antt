@@ -6,6 +6,7 @@ use Rattle.std.specs.Cmp.Lexicographic.{pointwise}
 use Rattle.std.specs.Hash.{Alike, u64}
 use Rattle.std.proofs.lemmas.Bool.{false≢true}
 use denote.Enum.Bare.{sameb}
+use Rattle.nm_facts.proofs.Truth.{and_left as first, and_right as second, both as and_so}
 use Rattle.nm_types.specs.declared.messages.Arrival.{Arrival}
 use Rattle.nm_types.specs.declared.messages.How.{How}
 use Rattle.nm_types.specs.declared.messages.How.TheVariants as how
@@ -36,18 +37,6 @@ use Rattle.nm_spots.specs.Spots.{Spot}
 -- a test tells which values are equal
 abbrev Tells : {X : Type 0} → (X → X → Bool) → Type 0
 Tells {X} E = (x y : X) → Decides (E x y) (x ≡ y)
-
-first : (a b : Bool) → (a && b) ≡ true → a ≡ true
-first true b so = refl
-first false b so = so
-
-second : (a b : Bool) → (a && b) ≡ true → b ≡ true
-second true b so = so
-second false b so = absurd (false≢true so)
-
-and_so : (a b : Bool) → a ≡ true → b ≡ true → (a && b) ≡ true
-and_so true b one two = two
-and_so false b one two = one
 
 -- two tests of the parts of a pair
 module _ {A B : Type 0} {E : A → A → Bool} {F : B → B → Bool} where
