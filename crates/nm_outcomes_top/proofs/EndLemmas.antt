@@ -274,7 +274,8 @@ module _ {words : List (List ℕ)} {input before after : Option (List ℕ)} {old
               lines = p.right.lines;
               spelled = p.right.spelled;
             };
-        said = subst (λ (n : ℕ). Appends before after (outgrown_text n)) p.right.right w.1;
+        cause = p.right.right.1;
+        said = subst (λ (n : ℕ). Appends before after (outgrown_text n)) p.right.right.0 w.1;
       }) (right_of {answer = Outgrown s} e asked taken e.right.asked e.right.taken e.right.right)
   outgrown_is Unlawful status e asked taken h = absurd (omega (arith, (whole e 10 h (λ f. cc)).0))
   outgrown_is (Told t) status e asked taken h =

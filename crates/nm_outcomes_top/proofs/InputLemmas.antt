@@ -1,11 +1,15 @@
 -- The two parts of what was read, and answers that are right.
-use Rattle.std.proofs.Common.{◌≡◌, ℕ, inl, inr, List, Option, Some, None, sym, ◌∙◌, subst, arith}
+use Rattle.std.proofs.Common.{◌≡◌, ℕ, inl, inr, List, Option, Some, None, refl, sym, ◌∙◌, subst}
+use Rattle.std.proofs.Common.{arith}
 use Rattle.std.specs.Option.{IfSome}
 use Rattle.std.specs.Prelude.{IfOk, Result, Ok, Err}
 use Rattle.nm_types.specs.declared.scripts.Line.{Line}
+use Rattle.nm_types.specs.Sizes.{Sizes}
 use Rattle.nm_script.specs.Spelled.{IsTextOf}
 use Rattle.nm_checked.specs.Checks.{IsInput}
-use Rattle.nm_outcomes_words.specs.Words.{IsTaken}
+use Rattle.nm_explored.specs.Met.{AreTooMany}
+use Rattle.nm_listed.specs.Finding.{AreTooLong}
+use Rattle.nm_outcomes_words.specs.Words.{IsTaken, sizes_for}
 use Rattle.nm_outcomes_words.specs.declared.Asked.{Asked}
 use Rattle.nm_outcomes_words.specs.declared.Question.{Question}
 use Rattle.nm_outcomes_words.specs.declared.Question.TheVariants.{All, Trace, Among}
@@ -118,3 +122,16 @@ one_of found a b p q = let both : Some a ≡ Some b = sym p ∙ q in cc
 
 pub no_line : (found : Option Asked) (a : Asked) → found ≡ None → found ≡ Some a → ⊥
 no_line found a none some = let both : None ≡ Some a = sym none ∙ some in cc
+
+-- the causes of an answer that there are too many
+pub outgrown_long : (asked : Asked) (ranks : ℕ) (lines : List Line) (report : List ℕ) (shape : Sizes) →
+    shape ≡ sizes_for asked ranks → AreTooLong shape lines →
+    IsAnswerFor asked ranks lines report (Outgrown asked.states)
+outgrown_long asked ranks lines report shape same long =
+    (refl, inr (subst (λ (s : Sizes). AreTooLong s lines) same long))
+
+pub outgrown_many : (asked : Asked) (ranks : ℕ) (lines : List Line) (report : List ℕ) (shape : Sizes) →
+    shape ≡ sizes_for asked ranks → AreTooMany shape.eager shape.ranks lines asked.states →
+    IsAnswerFor asked ranks lines report (Outgrown asked.states)
+outgrown_many asked ranks lines report shape same many =
+    (refl, inl (subst (λ (s : Sizes). AreTooMany s.eager s.ranks lines asked.states) same many))

@@ -8,6 +8,7 @@ use Rattle.nm_script.specs.Spelled.{IsTextOf}
 use Rattle.nm_checked.specs.Checks.{IsInput}
 use Rattle.nm_checked.specs.Inputs.{HasNoCut}
 use Rattle.nm_outcomes.specs.Outcomes.{AreOutcomes}
+use Rattle.nm_explored.specs.Met.{AreTooMany}
 use Rattle.nm_listed.specs.Finding.{AreTooLong, HasFewer, IsOutcomeTrace}
 use Rattle.nm_listed.specs.Places.{IsPlace}
 use Rattle.nm_listed.specs.declared.places.Place.{Place}
@@ -99,12 +100,18 @@ IsFinding question shape lines report (finding.Told telling) = IsTelling questio
 IsFinding question shape lines report finding.TooLong = AreTooLong shape lines
 IsFinding question shape lines report finding.Unlawful = Unit {0}
 
--- An answer for a script is right: what is asked of its reports, or that there are too many. Nothing is said where the
--- record of a way to an end does not hold.
+-- the ranks come into more states than the words allow, or all reports that the script can have have too many bytes
+abbrev pub IsOutgrowing : Asked → Sizes → List Line → Type 0
+IsOutgrowing asked shape lines =
+    AreTooMany shape.eager shape.ranks lines asked.states ⊎ AreTooLong shape lines
+
+-- An answer for a script is right: what is asked of its reports, or that there are too many states or bytes. Nothing
+-- is said where the record of a way to an end does not hold.
 abbrev pub IsAnswerFor : Asked → ℕ → List Line → List ℕ → Response → Type 0
 IsAnswerFor asked ranks lines report (Told telling) =
     IsTelling asked.question (sizes_for asked ranks) lines report telling
-IsAnswerFor asked ranks lines report (Outgrown states) = states ≡ asked.states
+IsAnswerFor asked ranks lines report (Outgrown states) =
+    (states ≡ asked.states) × IsOutgrowing asked (sizes_for asked ranks) lines
 IsAnswerFor asked ranks lines report Unlawful = Unit {0}
 IsAnswerFor asked ranks lines report _ = ⊥
 

@@ -12,7 +12,7 @@ use Rattle.nm_listed.specs.declared.places.Place.TheVariants.{At, Not}
 use Rattle.nm_outcomes_words.specs.declared.Asked.{Asked}
 use Rattle.nm_outcomes_words.specs.declared.Question.{Question}
 use Rattle.nm_outcomes_words.specs.declared.Question.TheVariants.{All, Trace, Among}
-use Rattle.nm_outcomes_top.specs.Answers.{IsInputOf, listed_status, read_of, traced_status}
+use Rattle.nm_outcomes_top.specs.Answers.{IsInputOf, IsOutgrowing, listed_status, read_of, traced_status}
 use Rattle.nm_outcomes_top.specs.Texts.{fault_text, fewer_text, outcomes_text, outgrown_text, place_text, unlawful}
 use Rattle.nm_outcomes_words.specs.Words.{sizes_for}
 
@@ -35,9 +35,11 @@ pub record IsGiven (asked : Asked) (bytes : List ℕ) : Type 0 where
   pub lines : List Line
   pub spelled : IsTextOf script ranks lines
 
--- the bytes spell a script, and it was said that there are too many
+-- The bytes spell a script, and it was said that there are too many states or bytes. So it is: moves lead from the
+-- first state to more states than the words allow, or all reports that the script can have have too many bytes.
 pub record IsOutgrown (asked : Asked) (old new : Option (List ℕ)) (bytes : List ℕ) : Type 0 where
   pub given : IsGiven asked bytes
+  pub cause : IsOutgrowing asked (sizes_for asked given.ranks) given.lines
   pub said : Appends old new (outgrown_text asked.states)
 
 -- the bytes spell a script, and it was said that the record of a way to one of its ends does not hold

@@ -112,6 +112,7 @@ fn tell(
 }
 
 // The answer for a script whose search found these ends.
+#[tactic(auto, using(crate::proofs::InputLemmas::outgrown_long))]
 fn answer_ends(
     alloc: Global,
     asked: Asked,
@@ -135,6 +136,7 @@ fn answer_ends(
 }
 
 /// The answer for a script, with the report that is asked of.
+#[tactic(auto, using(crate::proofs::InputLemmas::outgrown_many))]
 pub fn answer_script(
     alloc: Global,
     asked: Asked,

@@ -24,12 +24,12 @@
 //!   bytes spell no script, with the first fault. They yield to 5 and 6, and 3 to 4.
 //! - Where the bytes spell a script the status is one of these, 10 or 11, or a read, a write or memory
 //!   failed; 10 and 11 come only there, and then nothing was written of the reports.
+//! - Status 10 only where moves lead from the first state to more states than the words allow, or all
+//!   reports that the script can have have more than 134,217,728 bytes.
 //! - Status 4 and 5 only where the count of faults of the source or the sink rose, and at 5 the
 //!   sink took a front of the text that was due. At 6 nothing was written.
 //! # What is only tested
-//! That 10 comes only where the search met more states than the words allow or the reports have more
-//! than 134,217,728 bytes, that 11 never comes, and that it succeeds with ample memory
-//! (`.ci/outcomes`).
+//! That 11 never comes, and that it succeeds with ample memory (`.ci/outcomes`).
 #![tactic(auto)]
 
 mod answers;
