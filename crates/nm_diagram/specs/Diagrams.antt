@@ -1,7 +1,7 @@
 -- A space-time diagram as lists: the process lines of the ranks, a mark for each event, and an arrow for
 -- each message, after Lamport, 'Time, Clocks, and the Ordering of Events', 1978.
 use Rattle.std.specs.Prelude.{ℕ, ◌+◌, if◌then◌else◌, List, [], ◌∷◌, ◌++◌}
-use Rattle.std.specs.Prelude.{Option, Some, None, codes, decimal, flat_map, slice_get}
+use Rattle.std.specs.Prelude.{Bool, false, Option, Some, None, codes, decimal, flat_map, get_or, slice_get}
 use Rattle.std.specs.List.{join_with_byte}
 use Rattle.nm_types.specs.declared.messages.How.{How}
 use Rattle.nm_types.specs.declared.messages.How.TheVariants.{Eager, Ask}
@@ -12,6 +12,7 @@ use Rattle.nm_history.specs.declared.events.Happened.TheVariants.{Cancel, Recall
 use Rattle.nm_history.specs.declared.events.Happened.TheVariants.{Undone, Claim, Match, Ran}
 use Rattle.nm_report.specs.declared.accounts.RankAccount.{RankAccount}
 use Rattle.nm_report.specs.Events.{event_words}
+use Rattle.nm_diagram.specs.declared.frames.Span.{Span}
 use Rattle.nm_diagram.specs.declared.anchors.Anchor.TheVariants as anchor
 use Rattle.nm_diagram.specs.declared.arrows.Arrow.{Arrow}
 use Rattle.nm_diagram.specs.declared.signs.Sign.{Sign}
@@ -64,16 +65,16 @@ mark_of rank event =
     }
 
 -- an event that is shown has one mark
-abbrev pub marks_at : ℕ → ℕ → Event → List Mark
-marks_at end rank event = if is_shown end event then mark_of rank event ∷ [] else []
+abbrev pub marks_at : Span → ℕ → Event → List Mark
+marks_at span rank event = if is_shown span event then mark_of rank event ∷ [] else []
 
 -- the marks of a rank
-abbrev pub marks_of : ℕ → ℕ → RankAccount → List Mark
-marks_of end rank account = flat_map (marks_at end rank) account.history.events
+abbrev pub marks_of : Span → ℕ → RankAccount → List Mark
+marks_of span rank account = flat_map (marks_at span rank) account.history.events
 
 -- the marks of all ranks
-abbrev pub all_marks : ℕ → List RankAccount → List Mark
-all_marks end ranks = from_lane (marks_of end) 0 ranks
+abbrev pub all_marks : Span → List RankAccount → List Mark
+all_marks span ranks = from_lane (marks_of span) 0 ranks
 
 -- an arrow, where there is a send
 abbrev pub arrow_from : ℕ → ℕ → ℕ → ℕ → How → Option ℕ → List Arrow
@@ -82,28 +83,28 @@ arrow_from from to arrived n how (Some sent) =
     record { from = from; sent = sent; to = to; arrived = arrived; n = n; how = how } ∷ []
 
 -- the stamp at which a rank sent this message
-abbrev pub sent_by : ℕ → ℕ → ℕ → Option RankAccount → Option ℕ
-sent_by end rank number sender = found_by end (anchor.Send rank number) sender
+abbrev pub sent_by : Span → ℕ → ℕ → Option RankAccount → Option ℕ
+sent_by span rank number sender = found_by span (anchor.Send rank number) sender
 
 -- an arrival has one arrow, from its send
-abbrev pub arrow_of : ℕ → List RankAccount → ℕ → ℕ → Happened → List Arrow
-arrow_of end ranks rank stamp (Arrive a) =
+abbrev pub arrow_of : Span → List RankAccount → ℕ → ℕ → Happened → List Arrow
+arrow_of span ranks rank stamp (Arrive a) =
     arrow_from a.env.from rank stamp a.n a.env.how
-    (sent_by end rank a.n (slice_get ranks a.env.from))
-arrow_of end ranks rank stamp _ = []
+    (sent_by span rank a.n (slice_get ranks a.env.from))
+arrow_of span ranks rank stamp _ = []
 
 -- and so has an arrival that is shown
-abbrev pub arrows_at : ℕ → List RankAccount → ℕ → Event → List Arrow
-arrows_at end ranks rank event =
-    if is_shown end event then arrow_of end ranks rank event.stamp event.what else []
+abbrev pub arrows_at : Span → List RankAccount → ℕ → Event → List Arrow
+arrows_at span ranks rank event =
+    if is_shown span event then arrow_of span ranks rank event.stamp event.what else []
 
 -- the arrows that end at a rank
-abbrev pub arrows_of : ℕ → List RankAccount → ℕ → RankAccount → List Arrow
-arrows_of end ranks rank account = flat_map (arrows_at end ranks rank) account.history.events
+abbrev pub arrows_of : Span → List RankAccount → ℕ → RankAccount → List Arrow
+arrows_of span ranks rank account = flat_map (arrows_at span ranks rank) account.history.events
 
 -- all arrows, by the ranks at which they end
-abbrev pub all_arrows : ℕ → List RankAccount → List Arrow
-all_arrows end ranks = from_lane (arrows_of end ranks) 0 ranks
+abbrev pub all_arrows : Span → List RankAccount → List Arrow
+all_arrows span ranks = from_lane (arrows_of span ranks) 0 ranks
 
 -- the process line of a rank, and where it waits
 pub record Lane : Type 0 where
@@ -114,6 +115,10 @@ pub record Lane : Type 0 where
 abbrev pub lane_of : ℕ → RankAccount → List Lane
 lane_of rank account = record { rank = rank; waits = account.waits } ∷ []
 
--- the process lines of all ranks
-abbrev pub all_lanes : List RankAccount → List Lane
-all_lanes ranks = from_lane lane_of 0 ranks
+-- and a rank that is chosen has it
+abbrev pub lanes_at : List Bool → ℕ → RankAccount → List Lane
+lanes_at chosen rank account = if get_or chosen rank false then lane_of rank account else []
+
+-- the process lines of the chosen ranks
+abbrev pub all_lanes : List Bool → List RankAccount → List Lane
+all_lanes chosen ranks = from_lane (lanes_at chosen) 0 ranks

@@ -9,6 +9,7 @@ use Rattle.nm_history.specs.declared.events.Happened.{Happened}
 use Rattle.nm_history.specs.declared.events.Happened.TheVariants as what
 use Rattle.nm_report.specs.declared.accounts.RankAccount.{RankAccount}
 use Rattle.nm_report.specs.Events.{done_word}
+use Rattle.nm_diagram.specs.declared.frames.Span.{Span}
 use Rattle.nm_diagram.specs.Diagrams.{from_lane}
 use Rattle.nm_diagram.specs.Frames.{is_shown}
 
@@ -76,13 +77,13 @@ labelled rank event =
     record { lane = rank; stamp = event.stamp; drop = drop_of event.what; words = label_of event.what }
 
 -- an event that is shown has one label
-abbrev pub labels_at : ℕ → ℕ → Event → List Label
-labels_at end rank event = if is_shown end event then labelled rank event ∷ [] else []
+abbrev pub labels_at : Span → ℕ → Event → List Label
+labels_at span rank event = if is_shown span event then labelled rank event ∷ [] else []
 
 -- the labels of a rank
-abbrev pub labels_of : ℕ → ℕ → RankAccount → List Label
-labels_of end rank account = flat_map (labels_at end rank) account.history.events
+abbrev pub labels_of : Span → ℕ → RankAccount → List Label
+labels_of span rank account = flat_map (labels_at span rank) account.history.events
 
 -- the labels of all ranks
-abbrev pub all_labels : ℕ → List RankAccount → List Label
-all_labels end ranks = from_lane (labels_of end) 0 ranks
+abbrev pub all_labels : Span → List RankAccount → List Label
+all_labels span ranks = from_lane (labels_of span) 0 ranks

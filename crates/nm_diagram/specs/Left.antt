@@ -8,6 +8,7 @@ use Rattle.nm_history.specs.declared.events.Happened.TheVariants.{Arrive}
 use Rattle.nm_history.specs.declared.plain.Pair.{Pair}
 use Rattle.nm_history.specs.Matching.{is_free, matched_pairs}
 use Rattle.nm_report.specs.declared.accounts.RankAccount.{RankAccount}
+use Rattle.nm_diagram.specs.declared.frames.Span.{Span}
 use Rattle.nm_diagram.specs.declared.rings.Ring.{Ring}
 use Rattle.nm_diagram.specs.Diagrams.{from_lane}
 use Rattle.nm_diagram.specs.Frames.{is_shown}
@@ -18,8 +19,8 @@ is_left events pairs (Arrive a) = is_free events pairs a
 is_left events pairs _ = false
 
 -- the same, and it is shown
-abbrev pub is_left_at : ℕ → List Event → List Pair → Event → Bool
-is_left_at end events pairs event = is_shown end event && is_left events pairs event.what
+abbrev pub is_left_at : Span → List Event → List Pair → Event → Bool
+is_left_at span events pairs event = is_shown span event && is_left events pairs event.what
 
 -- the ring of an arrival
 abbrev pub ring_by : ℕ → ℕ → Arrival → Ring
@@ -31,31 +32,31 @@ ring_of rank stamp (Arrive a) = ring_by rank stamp a ∷ []
 ring_of rank stamp _ = []
 
 -- an arrival of a message that is left has one ring
-abbrev pub rings_at : ℕ → ℕ → List Event → List Pair → Event → List Ring
-rings_at end rank events pairs event =
-    if is_left_at end events pairs event then ring_of rank event.stamp event.what else []
+abbrev pub rings_at : Span → ℕ → List Event → List Pair → Event → List Ring
+rings_at span rank events pairs event =
+    if is_left_at span events pairs event then ring_of rank event.stamp event.what else []
 
 -- a rank has at most 4,096 events, among which messages that are left are looked for
 abbrev pub are_few : List Event → Bool
 are_few events = nat_le (length events) 4096
 
 -- the rings of these events
-abbrev pub rings_among : ℕ → ℕ → List Event → List Ring
-rings_among end rank events = flat_map (rings_at end rank events (matched_pairs events)) events
+abbrev pub rings_among : Span → ℕ → List Event → List Ring
+rings_among span rank events = flat_map (rings_at span rank events (matched_pairs events)) events
 
 -- the rings of a rank
-abbrev pub rings_of : ℕ → ℕ → RankAccount → List Ring
-rings_of end rank account =
-    if are_few account.history.events then rings_among end rank account.history.events else []
+abbrev pub rings_of : Span → ℕ → RankAccount → List Ring
+rings_of span rank account =
+    if are_few account.history.events then rings_among span rank account.history.events else []
 
 -- the rings of all ranks
-abbrev pub all_rings : ℕ → List RankAccount → List Ring
-all_rings end ranks = from_lane (rings_of end) 0 ranks
+abbrev pub all_rings : Span → List RankAccount → List Ring
+all_rings span ranks = from_lane (rings_of span) 0 ranks
 
 -- some message of these events is left
-abbrev pub some_left : ℕ → List Event → Bool
-some_left end events = list_any (is_left_at end events (matched_pairs events)) events
+abbrev pub some_left : Span → List Event → Bool
+some_left span events = list_any (is_left_at span events (matched_pairs events)) events
 
 -- a rank has a message that is left
-abbrev pub has_left : ℕ → RankAccount → Bool
-has_left end account = if are_few account.history.events then some_left end account.history.events else false
+abbrev pub has_left : Span → RankAccount → Bool
+has_left span account = if are_few account.history.events then some_left span account.history.events else false

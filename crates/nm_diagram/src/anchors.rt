@@ -2,12 +2,14 @@
 
 ghost use Rattle.std.specs.Prelude.{◌≡◌, slice_get, take};
 ghost use Rattle.nm_diagram.specs.Anchors.{first_stamp as first_stamp_lem, found_by};
-ghost use Rattle.nm_diagram.specs.Anchors.{is_anchor as is_anchor_lem};
+ghost use Rattle.nm_diagram.specs.Anchors.{is_anchor as is_anchor_lem, since as since_lem};
 
+use crate::frames::Span;
 use nm_history::{Event, Happened};
 use nm_report::RankAccount;
 
-/// How many of a rank's first events may hold the start of an arrow or a way that is shown.
+/// How many of a rank's events, from the first on that may be shown, may hold the start of an arrow
+/// or a way.
 const MAX_SEARCHED: usize = 20000;
 
 /// What an end of an arrow or a link stands at.
@@ -46,11 +48,11 @@ fn is_anchor(anchor: Anchor, what: &Happened) -> bool
 }
 
 /// The stamp of the first event that is shown and is this anchor.
-pub fn first_stamp(events: &[Event], end: u64, anchor: Anchor) -> Option<u64>
-    ensures { result ≡ first_stamp_lem end anchor events.now }
+pub fn first_stamp(events: &[Event], span: Span, anchor: Anchor) -> Option<u64>
+    ensures { result ≡ first_stamp_lem span anchor events.now }
 {
     for event in events {
-        if event.stamp < end && is_anchor(anchor, &event.what) {
+        if span.shows(event) && is_anchor(anchor, &event.what) {
             return Some(event.stamp);
         }
     }
@@ -64,12 +66,27 @@ pub fn front(events: &[Event], most: usize) -> &[Event]
     &events[..most.min(events.len())]
 }
 
-/// The stamp at which this happened at a rank, among its first events.
-pub fn find(ranks: &[RankAccount], rank: u8, end: u64, anchor: Anchor) -> Option<u64>
-    ensures { result ≡ found_by end anchor (slice_get ranks.now rank) }
+/// The events from the first one on that has this stamp or a later one.
+fn since(events: &[Event], first: u64) -> &[Event]
+    ensures { result.now ≡ since_lem first events.now }
+{
+    for (at, event) in events.iter().enumerate() {
+        if first <= event.stamp {
+            return &events[at..];
+        }
+    }
+    &events[events.len()..]
+}
+
+/// The stamp at which this happened at a rank, among the first events that may be shown.
+pub fn find(ranks: &[RankAccount], rank: u8, span: Span, anchor: Anchor) -> Option<u64>
+    ensures { result ≡ found_by span anchor (slice_get ranks.now rank) }
 {
     match ranks.get(rank as usize) {
-        Some(account) => first_stamp(front(account.history.as_slice(), MAX_SEARCHED), end, anchor),
+        Some(account) => {
+            let events = since(account.history.as_slice(), span.first);
+            first_stamp(front(events, MAX_SEARCHED), span, anchor)
+        }
         None => None,
     }
 }

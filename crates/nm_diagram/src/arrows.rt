@@ -4,6 +4,7 @@ ghost use Rattle.std.specs.Prelude.{◌≡◌, option_to_list};
 ghost use Rattle.nm_diagram.specs.Diagrams.{arrow_of, arrows_at};
 
 use crate::anchors::{Anchor, find};
+use crate::frames::Span;
 use nm_history::{Event, Happened};
 use nm_report::RankAccount;
 use nm_types::How;
@@ -25,14 +26,14 @@ pub struct Arrow {
 }
 
 /// The arrow of an event that is the arrival of a message, if its send is shown.
-fn arrow_to(end: u64, ranks: &[RankAccount], rank: u8, event: &Event) -> Option<Arrow>
+fn arrow_to(span: Span, ranks: &[RankAccount], rank: u8, event: &Event) -> Option<Arrow>
     ensures { option_to_list result
-        ≡ arrow_of end ranks.now rank event.now.stamp event.now.what }
+        ≡ arrow_of span ranks.now rank event.now.stamp event.now.what }
 {
     let Happened::Arrive { a } = &event.what else {
         return None;
     };
-    match find(ranks, a.env.from, end, Anchor::Send { to: rank, n: a.n }) {
+    match find(ranks, a.env.from, span, Anchor::Send { to: rank, n: a.n }) {
         Some(sent) => Some(Arrow {
             from: a.env.from,
             sent,
@@ -46,11 +47,11 @@ fn arrow_to(end: u64, ranks: &[RankAccount], rank: u8, event: &Event) -> Option<
 }
 
 /// The arrow of an event of a rank, if it is shown and has one.
-pub fn arrow_at(end: u64, ranks: &[RankAccount], rank: u8, event: &Event) -> Option<Arrow>
-    ensures { option_to_list result ≡ arrows_at end ranks.now rank event.now }
+pub fn arrow_at(span: Span, ranks: &[RankAccount], rank: u8, event: &Event) -> Option<Arrow>
+    ensures { option_to_list result ≡ arrows_at span ranks.now rank event.now }
 {
-    if event.stamp < end {
-        arrow_to(end, ranks, rank, event)
+    if span.shows(event) {
+        arrow_to(span, ranks, rank, event)
     } else {
         None
     }

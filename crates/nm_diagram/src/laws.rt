@@ -1,6 +1,6 @@
 //! What follows from the lists of shapes. Each law is the contract of a function that does nothing.
 
-ghost use Rattle.std.specs.Prelude.{◌≡◌, ℕ, ◌<◌, ◌≤◌, ◌++◌, true, List, [], ◌∷◌, Some, None, slice_get};
+ghost use Rattle.std.specs.Prelude.{◌≡◌, ℕ, ◌≤◌, ◌⊎◌, ◌++◌, true, List, [], ◌∷◌, Some, None, slice_get};
 ghost use Rattle.std.specs.Prelude.{Contains, filter, length, map};
 ghost use Rattle.std.specs.List.{AllByRecursion};
 ghost use Rattle.nm_types.specs.declared.messages.Arrival.{Arrival};
@@ -18,8 +18,10 @@ ghost use Rattle.nm_diagram.specs.declared.anchors.Anchor.TheVariants as anchor;
 ghost use Rattle.nm_diagram.specs.Anchors.{first_stamp};
 ghost use Rattle.nm_diagram.specs.Diagrams.{all_arrows, all_marks, arrows_at, mark_of, marks_of};
 ghost use Rattle.nm_diagram.specs.declared.frames.Frame.{Frame};
-ghost use Rattle.nm_diagram.specs.Frames.{IsFrame, is_shown, shown_count};
-ghost use Rattle.nm_diagram.specs.Joined.{HasOneArrow, IsOfMessage, Rise};
+ghost use Rattle.nm_diagram.specs.declared.frames.Part.{Part};
+ghost use Rattle.nm_diagram.specs.declared.frames.Span.{Span};
+ghost use Rattle.nm_diagram.specs.Frames.{IsFrame, IsIn, is_shown, shown_count};
+ghost use Rattle.nm_diagram.specs.Joined.{HasOneArrow, IsOfMessage, IsSentBefore, Rise};
 ghost use Rattle.nm_diagram.specs.Legend.{is_used, legend_of};
 ghost use Rattle.nm_diagram.specs.Labels.{labelled, labels_of};
 ghost use Rattle.nm_diagram.specs.Left.{all_rings};
@@ -31,64 +33,64 @@ ghost use Rattle.nm_diagram.specs.Signs.{way_of};
 /// Each event that is shown has exactly one mark, in the lane of its rank. The marks of a rank
 /// stand in the order of its history, so their stamps rise where those of its events do.
 pub fn each_event_has_one_mark()
-    ensures lane { (end rank : ℕ) (account : RankAccount) → marks_of end rank account
-        ≡ map (mark_of rank) (filter (is_shown end) account.history.events) }
-    ensures count { (end : ℕ) (ranks : List RankAccount) →
-        length (all_marks end ranks) ≡ shown_count end ranks }
-    ensures rise { (end rank : ℕ) (account : RankAccount) →
+    ensures lane { (span : Span) (rank : ℕ) (account : RankAccount) → marks_of span rank account
+        ≡ map (mark_of rank) (filter (is_shown span) account.history.events) }
+    ensures count { (span : Span) (ranks : List RankAccount) →
+        length (all_marks span ranks) ≡ shown_count span ranks }
+    ensures rise { (span : Span) (rank : ℕ) (account : RankAccount) →
         Rise 0 (map (λ e. e.stamp) account.history.events) →
-        Rise 0 (map (λ m. m.stamp) (marks_of end rank account)) }
+        Rise 0 (map (λ m. m.stamp) (marks_of span rank account)) }
 {}
 
 /// Each event that is shown has exactly one label, in the lane of its rank.
 pub fn each_event_has_one_label()
-    ensures { (end rank : ℕ) (account : RankAccount) → labels_of end rank account
-        ≡ map (labelled rank) (filter (is_shown end) account.history.events) }
+    ensures { (span : Span) (rank : ℕ) (account : RankAccount) → labels_of span rank account
+        ≡ map (labelled rank) (filter (is_shown span) account.history.events) }
 {}
 
 /// Each sign that stands in the picture is one of the legend's: that of each mark, the way of each
 /// arrow and of each withdrawal, what a link and a ring tell, and that of a command that can't go
 /// on. The legend has no other sign.
 pub fn each_sign_is_explained()
-    ensures marks { (end : ℕ) (ranks : List RankAccount) →
-        AllByRecursion (λ mark. Contains (legend_of end ranks) mark.sign) (all_marks end ranks) }
-    ensures arrows { (end : ℕ) (ranks : List RankAccount) → AllByRecursion
-        (λ arrow. Contains (legend_of end ranks) (way_of arrow.how)) (all_arrows end ranks) }
-    ensures links { (end : ℕ) (ranks : List RankAccount) → AllByRecursion
-        (λ link. Contains (legend_of end ranks) sign.Taken) (all_links end ranks) }
-    ensures returns { (end : ℕ) (ranks : List RankAccount) → AllByRecursion
-        (λ way. Contains (legend_of end ranks) sign.BackWay) (all_returns end ranks) }
-    ensures rings { (end : ℕ) (ranks : List RankAccount) → AllByRecursion
-        (λ ring. Contains (legend_of end ranks) sign.Left) (all_rings end ranks) }
-    ensures waits { (end : ℕ) (ranks : List RankAccount) (account : RankAccount) →
+    ensures marks { (span : Span) (ranks : List RankAccount) →
+        AllByRecursion (λ mark. Contains (legend_of span ranks) mark.sign) (all_marks span ranks) }
+    ensures arrows { (span : Span) (ranks : List RankAccount) → AllByRecursion
+        (λ arrow. Contains (legend_of span ranks) (way_of arrow.how)) (all_arrows span ranks) }
+    ensures links { (span : Span) (ranks : List RankAccount) → AllByRecursion
+        (λ link. Contains (legend_of span ranks) sign.Taken) (all_links span ranks) }
+    ensures returns { (span : Span) (ranks : List RankAccount) → AllByRecursion
+        (λ way. Contains (legend_of span ranks) sign.BackWay) (all_returns span ranks) }
+    ensures rings { (span : Span) (ranks : List RankAccount) → AllByRecursion
+        (λ ring. Contains (legend_of span ranks) sign.Left) (all_rings span ranks) }
+    ensures waits { (span : Span) (ranks : List RankAccount) (account : RankAccount) →
         Contains ranks account → ¬ (account.waits ≡ None) →
-        Contains (legend_of end ranks) sign.Waits }
-    ensures used { (end : ℕ) (ranks : List RankAccount) →
-        AllByRecursion (λ sign. is_used end ranks sign ≡ true) (legend_of end ranks) }
+        Contains (legend_of span ranks) sign.Waits }
+    ensures used { (span : Span) (ranks : List RankAccount) →
+        AllByRecursion (λ sign. is_used span ranks sign ≡ true) (legend_of span ranks) }
 {}
 
 /// Each arrow goes from the send of a message to its arrival, and both are shown.
 pub fn each_arrow_is_of_a_message()
-    ensures { (end : ℕ) (ranks : List RankAccount) →
-        AllByRecursion (IsOfMessage end ranks) (all_arrows end ranks) }
+    ensures { (span : Span) (ranks : List RankAccount) →
+        AllByRecursion (IsOfMessage span ranks) (all_arrows span ranks) }
 {}
 
 /// Each way of a withdrawal goes from the asking for it to the withdrawal, or from there to its
 /// answer.
 pub fn each_return_is_of_a_withdrawal()
-    ensures { (end : ℕ) (ranks : List RankAccount) →
-        AllByRecursion (IsOfWithdrawal end ranks) (all_returns end ranks) }
+    ensures { (span : Span) (ranks : List RankAccount) →
+        AllByRecursion (IsOfWithdrawal span ranks) (all_returns span ranks) }
 {}
 
 /// An arrival that is shown has exactly one arrow, from the send of its message, where stamps rise
 /// at the sender and the picture has room for what it shows. No other event has one.
 pub fn each_arrival_has_one_arrow()
-    ensures arrival { (end rank stamp sent : ℕ) (ranks : List RankAccount) (sender : RankAccount)
-        (a : Arrival) → stamp < end → shown_count end ranks ≤ 20000 →
+    ensures arrival { (span : Span) (rank stamp sent : ℕ) (ranks : List RankAccount) (sender : RankAccount)
+        (a : Arrival) → IsIn span stamp → shown_count span ranks ≤ 20000 →
         slice_get ranks a.env.from ≡ Some sender →
         Rise 0 (map (λ e. e.stamp) sender.history.events) →
-        first_stamp end (anchor.Send rank a.n) sender.history.events ≡ Some sent →
-        arrows_at end ranks rank (record { stamp = stamp; what = what.Arrive a })
+        first_stamp span (anchor.Send rank a.n) sender.history.events ≡ Some sent →
+        arrows_at span ranks rank (record { stamp = stamp; what = what.Arrive a })
         ≡ record {
           from = a.env.from;
           sent = sent;
@@ -97,19 +99,20 @@ pub fn each_arrival_has_one_arrow()
           n = a.n;
           how = a.env.how;
         } ∷ [] }
-    ensures other { (end rank : ℕ) (ranks : List RankAccount) (event : Event) →
-        ((a : Arrival) → ¬ (event.what ≡ what.Arrive a)) → arrows_at end ranks rank event ≡ [] }
+    ensures other { (span : Span) (rank : ℕ) (ranks : List RankAccount) (event : Event) →
+        ((a : Arrival) → ¬ (event.what ≡ what.Arrive a)) → arrows_at span ranks rank event ≡ [] }
 {}
 
 /// In the run of a script each arrival that is shown has one arrow, and it comes from an earlier
-/// stamp.
+/// stamp, unless its message was sent before the first stamp of the part that is shown.
 pub fn each_message_goes_forward()
-    ensures { (shape : Sizes) (lines : List Line) (run : RunRecord) (frame : Frame) →
-        IsRunIn shape lines run → IsFrame run.ranks frame →
+    ensures { (shape : Sizes) (lines : List Line) (run : RunRecord) (part : Part) (frame : Frame) →
+        IsRunIn shape lines run → IsFrame part run.ranks frame →
         (rank stamp : ℕ) (receiver : RankAccount)
         (a : Arrival) (before after : List Event) → slice_get run.ranks rank ≡ Some receiver →
         receiver.history.events ≡ before ++ record { stamp = stamp; what = what.Arrive a } ∷ after →
-        stamp < frame.end → HasOneArrow frame.end run.ranks rank stamp a }
+        IsIn frame.span stamp → (IsSentBefore frame.span.first run.ranks rank a
+        ⊎ HasOneArrow frame.span run.ranks rank stamp a) }
 {}
 
 /// The stamps of a rank's run rise, by the rule of its clock.

@@ -6,6 +6,7 @@ ghost use Rattle.std.specs.Option.{is_some};
 ghost use Rattle.nm_diagram.specs.Legend.{has_sign, is_told, is_used};
 ghost use Rattle.nm_diagram.specs.Signs.{all_signs as all_signs_lem, is_waits};
 
+use crate::frames::Span;
 use crate::rings::is_any_left;
 use crate::signs::Sign;
 use nm_history::Event;
@@ -43,10 +44,10 @@ pub fn all_signs() -> &'static [Sign]
 }
 
 /// Whether an event is shown, and told by a sign.
-fn is_shown_by(end: u64, sign: Sign, event: &Event) -> bool
-    ensures { result ≡ is_told end sign event.now }
+fn is_shown_by(span: Span, sign: Sign, event: &Event) -> bool
+    ensures { result ≡ is_told span sign event.now }
 {
-    event.stamp < end && sign.tells(&event.what)
+    span.shows(event) && sign.tells(&event.what)
 }
 
 /// Whether a sign tells that a rank waits, and it does.
@@ -57,37 +58,37 @@ fn is_of_wait(sign: Sign, account: &RankAccount) -> bool
 }
 
 /// Whether one of these events is shown, and told by a sign.
-fn is_of_event(end: u64, sign: Sign, events: &[Event]) -> bool
-    ensures { result ≡ list_any (is_told end sign) events.now }
+fn is_of_event(span: Span, sign: Sign, events: &[Event]) -> bool
+    ensures { result ≡ list_any (is_told span sign) events.now }
 {
-    events.iter().any(|event| is_shown_by(end, sign, event))
+    events.iter().any(|event| is_shown_by(span, sign, event))
 }
 
 /// Whether a rank has a sign.
-fn is_of_rank(end: u64, sign: Sign, account: &RankAccount) -> bool
-    ensures { result ≡ has_sign end sign account.now }
+fn is_of_rank(span: Span, sign: Sign, account: &RankAccount) -> bool
+    ensures { result ≡ has_sign span sign account.now }
 {
-    is_of_wait(sign, account) || is_of_event(end, sign, account.history.as_slice())
+    is_of_wait(sign, account) || is_of_event(span, sign, account.history.as_slice())
 }
 
 /// Whether some of these ranks has a sign.
-fn is_of_some(end: u64, sign: Sign, ranks: &[RankAccount]) -> bool
-    ensures { result ≡ list_any (has_sign end sign) ranks.now }
+fn is_of_some(span: Span, sign: Sign, ranks: &[RankAccount]) -> bool
+    ensures { result ≡ list_any (has_sign span sign) ranks.now }
 {
-    ranks.iter().any(|account| is_of_rank(end, sign, account))
+    ranks.iter().any(|account| is_of_rank(span, sign, account))
 }
 
 /// Whether a sign stands in the picture of these ranks.
 pub fn stands(
     alloc: Global,
-    end: u64,
+    span: Span,
     sign: Sign,
     ranks: &[RankAccount],
 ) -> Result<bool, AllocError>
-    ensures { IfOk result (λ found. found ≡ is_used end ranks.now sign) }
+    ensures { IfOk result (λ found. found ≡ is_used span ranks.now sign) }
 {
-    if sign.is_of_left() && is_any_left(alloc, end, ranks)? {
+    if sign.is_of_left() && is_any_left(alloc, span, ranks)? {
         return Ok(true);
     }
-    Ok(is_of_some(end, sign, ranks))
+    Ok(is_of_some(span, sign, ranks))
 }

@@ -8,12 +8,13 @@
 //! they wait for, a mark for each event and an arrow for each message (`Diagrams`), a link for each
 //! receive that took a message (`Links`), a ring round each message that nobody took (`Left`), the
 //! ways of withdrawals (`Returns`), what each event tells in short (`Labels`), which signs stand in
-//! the legend (`Signs`, `Legend`), and which events are shown (`Frames`).
+//! the legend (`Signs`, `Legend`), and which part of the trace is shown (`Frames`).
 //! # What is proved
 //! - The code finds those shapes: the arrow, the way or the ring of an event, and the link of a pair.
-//! - `laws`: each event that is shown has one mark, and each arrow goes from the send of a message
-//!   to its arrival. In a run each arrival that is shown has one arrow, which goes forward. Each
-//!   sign that stands in a picture is one of its legend, which has no other.
+//! - `laws`, of the stamps of any part: each event that is shown has one mark, and each arrow goes
+//!   from the send of a message to its arrival. In a run each arrival that is shown has one arrow,
+//!   which goes forward, or its message was sent before the part. Each sign that stands in a picture
+//!   is one of its legend, which has no other.
 #![tactic(auto)]
 
 mod anchors;
@@ -27,7 +28,7 @@ mod rings;
 mod signs;
 
 pub use arrows::{Arrow, arrow_at};
-pub use frames::Frame;
+pub use frames::{Frame, Part, Span};
 pub use legends::{all_signs, stands};
 pub use links::{Link, link_at, linked_events};
 pub use returns::{Return, return_at};

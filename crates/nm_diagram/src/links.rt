@@ -4,6 +4,7 @@ ghost use Rattle.std.specs.Prelude.{◌≡◌, option_to_list, take};
 ghost use Rattle.nm_diagram.specs.Links.{link_from, link_of};
 
 use crate::anchors::{Anchor, first_stamp, front};
+use crate::frames::Span;
 use nm_history::Event;
 use nm_history::plain::Pair;
 use nm_report::RankAccount;
@@ -36,8 +37,8 @@ pub fn linked_events(account: &RankAccount) -> &[Event]
 }
 
 /// The link of a pair of a rank's events, if its receive and its arrival are shown.
-pub fn link_at(end: u64, rank: u8, events: &[Event], pair: &Pair) -> Option<Link>
-    ensures { option_to_list result ≡ link_of end rank events.now pair.now }
+pub fn link_at(span: Span, rank: u8, events: &[Event], pair: &Pair) -> Option<Link>
+    ensures { option_to_list result ≡ link_of span rank events.now pair.now }
 {
     let Pair {
         number,
@@ -46,10 +47,10 @@ pub fn link_at(end: u64, rank: u8, events: &[Event], pair: &Pair) -> Option<Link
     } = *pair;
     let from = arrival.env.from;
     let n = arrival.n;
-    let Some(received) = first_stamp(events, end, Anchor::Receive { number }) else {
+    let Some(received) = first_stamp(events, span, Anchor::Receive { number }) else {
         return None;
     };
-    let Some(arrived) = first_stamp(events, end, Anchor::Arrival { from, n }) else {
+    let Some(arrived) = first_stamp(events, span, Anchor::Arrival { from, n }) else {
         return None;
     };
     Some(Link {

@@ -4,6 +4,7 @@ ghost use Rattle.std.specs.Prelude.{◌≡◌, option_to_list};
 ghost use Rattle.nm_diagram.specs.Returns.{return_from, return_of, returns_at};
 
 use crate::anchors::{Anchor, find};
+use crate::frames::Span;
 use nm_history::{Event, Happened};
 use nm_report::RankAccount;
 
@@ -39,17 +40,17 @@ fn way_from(from: u8, to: u8, came: u64, n: u64, left: Option<u64>) -> Option<Re
 }
 
 /// The way that ends at an event, if it has one.
-fn way_to(end: u64, ranks: &[RankAccount], rank: u8, event: &Event) -> Option<Return>
+fn way_to(span: Span, ranks: &[RankAccount], rank: u8, event: &Event) -> Option<Return>
     ensures { option_to_list result
-        ≡ return_of end ranks.now rank event.now.stamp event.now.what }
+        ≡ return_of span ranks.now rank event.now.stamp event.now.what }
 {
     match &event.what {
         Happened::Withdraw { from, n, .. } => {
-            let left = find(ranks, *from, end, Anchor::Recall { to: rank, n: *n });
+            let left = find(ranks, *from, span, Anchor::Recall { to: rank, n: *n });
             way_from(*from, rank, event.stamp, *n, left)
         }
         Happened::Undone { to, n, .. } => {
-            let left = find(ranks, *to, end, Anchor::Withdraw { from: rank, n: *n });
+            let left = find(ranks, *to, span, Anchor::Withdraw { from: rank, n: *n });
             way_from(*to, rank, event.stamp, *n, left)
         }
         _ => None,
@@ -57,11 +58,11 @@ fn way_to(end: u64, ranks: &[RankAccount], rank: u8, event: &Event) -> Option<Re
 }
 
 /// The way that ends at an event of a rank, if it is shown and has one.
-pub fn return_at(end: u64, ranks: &[RankAccount], rank: u8, event: &Event) -> Option<Return>
-    ensures { option_to_list result ≡ returns_at end ranks.now rank event.now }
+pub fn return_at(span: Span, ranks: &[RankAccount], rank: u8, event: &Event) -> Option<Return>
+    ensures { option_to_list result ≡ returns_at span ranks.now rank event.now }
 {
-    if event.stamp < end {
-        way_to(end, ranks, rank, event)
+    if span.shows(event) {
+        way_to(span, ranks, rank, event)
     } else {
         None
     }

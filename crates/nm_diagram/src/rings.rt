@@ -5,6 +5,7 @@ ghost use Rattle.std.specs.List.{list_any};
 ghost use Rattle.nm_diagram.specs.Left.{are_few, has_left, is_left, is_left_at, ring_of, rings_at};
 ghost use Rattle.nm_diagram.specs.Left.{some_left};
 
+use crate::frames::Span;
 use nm_history::plain::Pair;
 use nm_history::{Event, Happened};
 use nm_pairs::{all_pairs, is_free};
@@ -38,10 +39,10 @@ fn is_of_left(events: &[Event], pairs: &[Pair], what: &Happened) -> bool
 }
 
 /// The same, and it is shown.
-fn is_shown_left(end: u64, events: &[Event], pairs: &[Pair], event: &Event) -> bool
-    ensures { result ≡ is_left_at end events.now pairs.now event.now }
+fn is_shown_left(span: Span, events: &[Event], pairs: &[Pair], event: &Event) -> bool
+    ensures { result ≡ is_left_at span events.now pairs.now event.now }
 {
-    event.stamp < end && is_of_left(events, pairs, &event.what)
+    span.shows(event) && is_of_left(events, pairs, &event.what)
 }
 
 /// Whether a rank's events are so few that messages that are left are looked for.
@@ -52,40 +53,40 @@ pub fn is_short(events: &[Event]) -> bool
 }
 
 /// Whether nobody took some message of these events, with their pairs.
-fn is_any_among(end: u64, events: &[Event], pairs: &[Pair]) -> bool
-    ensures { result ≡ list_any (is_left_at end events.now pairs.now) events.now }
+fn is_any_among(span: Span, events: &[Event], pairs: &[Pair]) -> bool
+    ensures { result ≡ list_any (is_left_at span events.now pairs.now) events.now }
 {
     events
         .iter()
-        .any(|event| is_shown_left(end, events, pairs, event))
+        .any(|event| is_shown_left(span, events, pairs, event))
 }
 
 /// Whether nobody took some message of these events.
-fn are_left(alloc: Global, end: u64, events: &[Event]) -> Result<bool, AllocError>
-    ensures { IfOk result (λ found. found ≡ some_left end events.now) }
+fn are_left(alloc: Global, span: Span, events: &[Event]) -> Result<bool, AllocError>
+    ensures { IfOk result (λ found. found ≡ some_left span events.now) }
 {
     let pairs = all_pairs(alloc, events)?;
-    Ok(is_any_among(end, events, pairs.as_slice()))
+    Ok(is_any_among(span, events, pairs.as_slice()))
 }
 
 /// Whether nobody took some message of a rank.
-fn is_left_by(alloc: Global, end: u64, account: &RankAccount) -> Result<bool, AllocError>
-    ensures { IfOk result (λ found. found ≡ has_left end account.now) }
+fn is_left_by(alloc: Global, span: Span, account: &RankAccount) -> Result<bool, AllocError>
+    ensures { IfOk result (λ found. found ≡ has_left span account.now) }
 {
     let events = account.history.as_slice();
     if is_short(events) {
-        are_left(alloc, end, events)
+        are_left(alloc, span, events)
     } else {
         Ok(false)
     }
 }
 
 /// Whether nobody took some message of these ranks.
-pub fn is_any_left(alloc: Global, end: u64, ranks: &[RankAccount]) -> Result<bool, AllocError>
-    ensures { IfOk result (λ found. found ≡ list_any (has_left end) ranks.now) }
+pub fn is_any_left(alloc: Global, span: Span, ranks: &[RankAccount]) -> Result<bool, AllocError>
+    ensures { IfOk result (λ found. found ≡ list_any (has_left span) ranks.now) }
 {
     for account in ranks {
-        if is_left_by(alloc, end, account)? {
+        if is_left_by(alloc, span, account)? {
             return Ok(true);
         }
     }
@@ -108,10 +109,16 @@ fn ring_to(rank: u8, event: &Event) -> Option<Ring>
 }
 
 /// The ring of an event among some events of a rank with their pairs, if it has one.
-pub fn ring_at(end: u64, rank: u8, events: &[Event], pairs: &[Pair], event: &Event) -> Option<Ring>
-    ensures { option_to_list result ≡ rings_at end rank events.now pairs.now event.now }
+pub fn ring_at(
+    span: Span,
+    rank: u8,
+    events: &[Event],
+    pairs: &[Pair],
+    event: &Event,
+) -> Option<Ring>
+    ensures { option_to_list result ≡ rings_at span rank events.now pairs.now event.now }
 {
-    if is_shown_left(end, events, pairs, event) {
+    if is_shown_left(span, events, pairs, event) {
         ring_to(rank, event)
     } else {
         None

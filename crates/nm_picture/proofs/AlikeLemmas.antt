@@ -1,21 +1,23 @@
 -- Ranks that are alike have one picture.
-use Rattle.std.proofs.Common.{◌≡◌, ℕ, ◌≤◌, List, [], ◌++◌, cond, ap, ◌∙◌, codes, flat_map, length, take}
+use Rattle.std.proofs.Common.{◌≡◌, ℕ, ◌≤◌, List, [], ◌++◌, cond, ap, ◌∙◌, arith, codes, flat_map, length, take}
 use Rattle.nm_report.specs.declared.accounts.RankAccount.{RankAccount}
 use Rattle.nm_report.specs.declared.records.RunRecord.{RunRecord}
 use Rattle.nm_diagram.specs.declared.arrows.Arrow.{Arrow}
 use Rattle.nm_diagram.specs.declared.frames.Frame.{Frame}
+use Rattle.nm_diagram.specs.declared.frames.Part.{Part}
 use Rattle.nm_diagram.specs.declared.links.Link.{Link}
 use Rattle.nm_diagram.specs.declared.returns.Return.{Return}
 use Rattle.nm_diagram.specs.declared.rings.Ring.{Ring}
 use Rattle.nm_diagram.specs.Alike.{AreAlike}
 use Rattle.nm_diagram.specs.Diagrams.{Lane, Mark, all_arrows, all_lanes, all_marks}
+use Rattle.nm_diagram.specs.Frames.{whole}
 use Rattle.nm_diagram.specs.Left.{all_rings}
 use Rattle.nm_diagram.specs.Links.{all_links}
 use Rattle.nm_diagram.specs.Returns.{all_returns}
 use Rattle.nm_diagram.proofs.AlikeLemmas.{alike-frame, alike_lanes, arrows-alike, labels-alike, legend-alike}
 use Rattle.nm_diagram.proofs.AlikeLemmas.{links-alike, marks-alike, returns-alike, rings-alike}
 use Rattle.nm_picture.specs.Sheet.{sheet_text}
-use Rattle.nm_picture.specs.Pictures.{IsPictureOf, arrow_text, arrows_text, axis_text, front_text, has_room}
+use Rattle.nm_picture.specs.Pictures.{IsPictureIn, IsPictureOf, arrow_text, arrows_text, axis_text, front_text, has_room}
 use Rattle.nm_picture.specs.Pictures.{head_text, label_text, labels_text, lane_text, link_text, mark_text}
 use Rattle.nm_picture.specs.Pictures.{marks_text, note_text, picture_text, return_text, ring_text, rows_text}
 use Rattle.nm_picture.specs.Pictures.{shapes_text}
@@ -24,23 +26,23 @@ front_same : (xs ys : List RankAccount) (frame : Frame) → AreAlike xs ys → f
 unfolding front_text
 front_same xs ys frame h =
     ap (λ l. head_text frame ++ (sheet_text ++ (note_text frame.left_out ++ (rows_text 0 l ++ axis_text frame))))
-    (legend-alike frame.end xs ys h)
+    (legend-alike frame.span xs ys h)
 
 labels_same : (xs ys : List RankAccount) (frame : Frame) → AreAlike xs ys → labels_text frame xs ≡ labels_text frame ys
 unfolding labels_text
 labels_same xs ys frame h =
-    ap (λ l. cond (has_room frame) (flat_map (label_text frame) l) []) (labels-alike frame.end xs ys h)
+    ap (λ l. cond (has_room frame) (flat_map (label_text frame) l) []) (labels-alike frame.span xs ys h)
 
 marks_same : (xs ys : List RankAccount) (frame : Frame) → frame.lanes ≤ length xs → frame.lanes ≤ length ys →
     AreAlike xs ys → marks_text frame xs ≡ marks_text frame ys
 unfolding marks_text
 marks_same xs ys frame m n h =
-    let end = frame.end in
-    let lanes = all_lanes (take frame.lanes ys) in
-    ap (λ l. all l (all_links end xs) (all_marks end xs) (all_rings end xs)) (alike_lanes frame.lanes 0 xs ys m n h)
-    ∙ ap (λ l. all lanes l (all_marks end xs) (all_rings end xs)) (links-alike end xs ys h)
-    ∙ ap (λ l. all lanes (all_links end ys) l (all_rings end xs)) (marks-alike end xs ys h)
-    ∙ ap (λ l. all lanes (all_links end ys) (all_marks end ys) l) (rings-alike end xs ys h)
+    let span = frame.span in
+    let lanes = all_lanes frame.chosen (take frame.lanes ys) in
+    ap (λ l. all l (all_links span xs) (all_marks span xs) (all_rings span xs)) (alike_lanes frame.chosen frame.lanes 0 xs ys m n h)
+    ∙ ap (λ l. all lanes l (all_marks span xs) (all_rings span xs)) (links-alike span xs ys h)
+    ∙ ap (λ l. all lanes (all_links span ys) l (all_rings span xs)) (marks-alike span xs ys h)
+    ∙ ap (λ l. all lanes (all_links span ys) (all_marks span ys) l) (rings-alike span xs ys h)
   where
     all : List Lane → List Link → List Mark → List Ring → List ℕ
     all lanes links marks rings =
@@ -50,10 +52,10 @@ marks_same xs ys frame m n h =
 arrows_same : (xs ys : List RankAccount) (frame : Frame) → AreAlike xs ys → arrows_text frame xs ≡ arrows_text frame ys
 unfolding arrows_text
 arrows_same xs ys frame h =
-    let end = frame.end in
-    ap (λ l. all l (all_returns end xs) (labels_text frame xs)) (arrows-alike end xs ys h)
-    ∙ ap (λ l. all (all_arrows end ys) l (labels_text frame xs)) (returns-alike end xs ys h)
-    ∙ ap (λ l. all (all_arrows end ys) (all_returns end ys) l) (labels_same xs ys frame h)
+    let span = frame.span in
+    ap (λ l. all l (all_returns span xs) (labels_text frame xs)) (arrows-alike span xs ys h)
+    ∙ ap (λ l. all (all_arrows span ys) l (labels_text frame xs)) (returns-alike span xs ys h)
+    ∙ ap (λ l. all (all_arrows span ys) (all_returns span ys) l) (labels_same xs ys frame h)
   where
     all : List Arrow → List Return → List ℕ → List ℕ
     all arrows ways labels =
@@ -69,12 +71,16 @@ picture_same xs ys frame m n h =
     ∙ ap (λ l. front_text frame ys ++ ((marks_text frame ys ++ l) ++ codes "</g>\n</svg>\n"))
     (arrows_same xs ys frame h)
 
-pub alike-picture : (run other : RunRecord) (text : List ℕ) → AreAlike run.ranks other.ranks → IsPictureOf run text →
-    IsPictureOf other text
-alike-picture run other text alike p =
-    let too = alike-frame run.ranks other.ranks p.frame alike p.of_ranks in
+pub alike-part : (part : Part) (run other : RunRecord) (text : List ℕ) → part.lanes ≤ length other.ranks →
+    AreAlike run.ranks other.ranks → IsPictureIn part run text → IsPictureIn part other text
+alike-part part run other text room alike p =
+    let too = alike-frame part run.ranks other.ranks p.frame room alike p.of_ranks in
     record {
       frame = p.frame;
       of_ranks = too;
       drawn = p.drawn ∙ picture_same run.ranks other.ranks p.frame p.of_ranks.lanes too.lanes alike;
     }
+
+pub alike-picture : (run other : RunRecord) (text : List ℕ) → AreAlike run.ranks other.ranks → IsPictureOf run text →
+    IsPictureOf other text
+alike-picture run other text = alike-part whole run other text (omega arith)

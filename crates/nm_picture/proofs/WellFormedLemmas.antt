@@ -31,11 +31,12 @@ use Rattle.nm_picture.specs.Pictures.{arrow_text, arrow_title, aside_of, axis_te
 use Rattle.nm_picture.specs.Pictures.{has_room, head_text, label_text, labels_text, lane_text, lane_x, left_out_text}
 use Rattle.nm_picture.specs.Pictures.{line_text, link_text, link_title, mark_text, name_count, name_text, note_text}
 use Rattle.nm_picture.specs.Pictures.{picture_text, process_line, rank_label, row_sign, row_text, row_words, rows_text}
-use Rattle.nm_picture.specs.Pictures.{shaft_text}
+use Rattle.nm_picture.specs.Pictures.{next_tick, passed_ticks, row_y, shaft_text}
 use Rattle.nm_picture.specs.Pictures.{shapes_text, short, sign_text, size_text, stamp_y, tag_text, tick_count, tick_text}
 use Rattle.nm_picture.specs.Pictures.{arrows_text, marks_text, return_shaft, return_text, return_title, ring_tag}
 use Rattle.nm_picture.specs.Pictures.{ring_text, ring_title}
-use Rattle.nm_picture.specs.Pictures.{title_text, use_tag, line_tag, wait_label, wait_sign, wait_text, width_of, words_width}
+use Rattle.nm_picture.specs.Pictures.{title_text, use_tag, line_tag, wait_label, wait_sign, wait_sign_at, wait_text, width_of}
+use Rattle.nm_picture.specs.Pictures.{words_width}
 use Rattle.nm_picture.specs.WellFormed.{IsWellFormed, Place, is_text, read, step}
 use Rattle.nm_picture.specs.WellFormed.Place.{Before, Between, Broken, Quoted, Opened, Reference, Value}
 
@@ -237,10 +238,10 @@ keeps-map f each (x ∷ xs) = keeps-append (f x) (flat_map f xs) (each x) (keeps
 sign-read : (frame : Frame) (mark : Mark) → read (Between svg) (sign_text frame mark) ≡ Between in_use
 unfolding use_tag
 sign-read frame mark =
-    let last : List ℕ = codes "\" y=\"" ++ (decimal (stamp_y mark.stamp) ++ codes "\">") in
+    let last : List ℕ = codes "\" y=\"" ++ (decimal (stamp_y frame mark.stamp) ++ codes "\">") in
     value-sign in_use mark.sign (codes "\" x=\"" ++ (decimal (lane_x frame mark.lane) ++ last))
     ∙ value-number in_use (lane_x frame mark.lane) last
-    ∙ value-number in_use (stamp_y mark.stamp) (codes "\">")
+    ∙ value-number in_use (stamp_y frame mark.stamp) (codes "\">")
 
 title-read : (name : List ℕ) (tags : List (List ℕ)) (words : List ℕ) →
     read (Between (name ∷ tags)) (title_text words) ≡ Between (name ∷ tags)
@@ -261,9 +262,9 @@ mark-read frame mark =
 ring_tag-read : (frame : Frame) (ring : Ring) → read (Between svg) (ring_tag frame ring) ≡ Between in_use
 unfolding use_tag
 ring_tag-read frame ring =
-    let last : List ℕ = codes "\" y=\"" ++ (decimal (stamp_y ring.stamp) ++ codes "\">") in
+    let last : List ℕ = codes "\" y=\"" ++ (decimal (stamp_y frame ring.stamp) ++ codes "\">") in
     value-number in_use (lane_x frame ring.lane) last
-    ∙ value-number in_use (stamp_y ring.stamp) (codes "\">")
+    ∙ value-number in_use (stamp_y frame ring.stamp) (codes "\">")
 
 ring_title-read : (n from : ℕ) → read (Between in_use) (ring_title n from) ≡ Between in_use
 unfolding ring_title
@@ -283,13 +284,13 @@ ring-read frame ring =
 return_shaft-read : (frame : Frame) (way : Return) → read (Between svg) (return_shaft frame way) ≡ Between in_line
 unfolding line_tag
 return_shaft-read frame way =
-    let fourth : List ℕ = codes "\" y2=\"" ++ (decimal (stamp_y way.came) ++ codes "\">") in
+    let fourth : List ℕ = codes "\" y2=\"" ++ (decimal (stamp_y frame way.came) ++ codes "\">") in
     let third : List ℕ = codes "\" x2=\"" ++ (decimal (lane_x frame way.to) ++ fourth) in
-    let second : List ℕ = codes "\" y1=\"" ++ (decimal (stamp_y way.left) ++ third) in
+    let second : List ℕ = codes "\" y1=\"" ++ (decimal (stamp_y frame way.left) ++ third) in
     value-number in_line (lane_x frame way.from) second
-    ∙ value-number in_line (stamp_y way.left) third
+    ∙ value-number in_line (stamp_y frame way.left) third
     ∙ value-number in_line (lane_x frame way.to) fourth
-    ∙ value-number in_line (stamp_y way.came) (codes "\">")
+    ∙ value-number in_line (stamp_y frame way.came) (codes "\">")
 
 return_title-read : (n : ℕ) → read (Between in_line) (return_title n) ≡ Between in_line
 unfolding return_title
@@ -308,14 +309,14 @@ unfolding line_tag
 shaft-read frame a =
     let x1 = lane_x frame a.from + aside_of a in
     let x2 = lane_x frame a.to + aside_of a in
-    let fourth : List ℕ = codes "\" y2=\"" ++ (decimal (stamp_y a.arrived) ++ codes "\">") in
+    let fourth : List ℕ = codes "\" y2=\"" ++ (decimal (stamp_y frame a.arrived) ++ codes "\">") in
     let third : List ℕ = codes "\" x2=\"" ++ (decimal x2 ++ fourth) in
-    let second : List ℕ = codes "\" y1=\"" ++ (decimal (stamp_y a.sent) ++ third) in
+    let second : List ℕ = codes "\" y1=\"" ++ (decimal (stamp_y frame a.sent) ++ third) in
     value-how in_line a.how (codes "\" x1=\"" ++ (decimal x1 ++ second))
     ∙ value-number in_line x1 second
-    ∙ value-number in_line (stamp_y a.sent) third
+    ∙ value-number in_line (stamp_y frame a.sent) third
     ∙ value-number in_line x2 fourth
-    ∙ value-number in_line (stamp_y a.arrived) (codes "\">")
+    ∙ value-number in_line (stamp_y frame a.arrived) (codes "\">")
 
 arrow_title-read : (a : Arrow) → read (Between in_line) (arrow_title a) ≡ Between in_line
 unfolding arrow_title
@@ -341,8 +342,8 @@ bow-read : (frame : Frame) (k : Link) → read (Between svg) (bow_text frame k) 
 unfolding bow_text
 bow-read frame k =
     let x = lane_x frame k.lane in
-    let y1 = stamp_y k.received in
-    let y2 = stamp_y k.arrived in
+    let y1 = stamp_y frame k.received in
+    let y2 = stamp_y frame k.arrived in
     let seventh : List ℕ = codes " " ++ (decimal y2 ++ codes "\">") in
     let sixth : List ℕ = codes " " ++ (decimal x ++ seventh) in
     let fifth : List ℕ = codes " " ++ (decimal y2 ++ sixth) in
@@ -404,7 +405,7 @@ rank_label-read frame rank y =
     ∙ text-number (codes "text") svg rank (codes "</text>\n")
 
 wait_sign-read : (frame : Frame) (rank line : ℕ) → Keeps (wait_sign frame rank line)
-unfolding wait_sign
+unfolding wait_sign_at
 wait_sign-read frame rank line =
     let words : List ℕ = codes "\"><title>waits at line " ++ (decimal line ++ codes "</title></use>\n") in
     value-number in_use (lane_x frame rank) (codes "\" y=\"" ++ (decimal (foot_y frame) ++ words))
@@ -431,7 +432,7 @@ wait-read frame rank (Some line) =
 
 names-read : (frame : Frame) (rank : ℕ) (ks : List ℕ) → Keeps (flat_map (name_text frame rank) ks)
 names-read frame rank ks =
-    keeps-map (name_text frame rank) (λ k. rank_label-read frame rank (stamp_y (40 * k) - 20)) ks
+    keeps-map (name_text frame rank) (λ k. rank_label-read frame rank (row_y (40 * k) - 20)) ks
 
 line-read : (frame : Frame) (rank : ℕ) → Keeps (line_text frame rank)
 unfolding line_text
@@ -505,24 +506,25 @@ tick-read : (frame : Frame) (k : ℕ) → Keeps (tick_text frame k)
 unfolding tick_text
 tick-read frame k =
     let number : List ℕ = decimal (5 * k) ++ codes "</text>\n" in
-    let third : List ℕ = decimal (stamp_y (5 * k) + 3) ++ (codes "\">" ++ number) in
+    let third : List ℕ = decimal (stamp_y frame (5 * k) + 3) ++ (codes "\">" ++ number) in
     let second : List ℕ = codes "\"></path><text class=\"axis\" x=\"290\" y=\"" ++ third in
-    value-number in_path (stamp_y (5 * k)) (codes " H " ++ (decimal (width_of frame) ++ second))
+    value-number in_path (stamp_y frame (5 * k)) (codes " H " ++ (decimal (width_of frame) ++ second))
     ∙ value-number in_path (width_of frame) second
-    ∙ value-number in_text_tag (stamp_y (5 * k) + 3) (codes "\">" ++ number)
+    ∙ value-number in_text_tag (stamp_y frame (5 * k) + 3) (codes "\">" ++ number)
     ∙ text-number (codes "text") svg (5 * k) (codes "</text>\n")
 
 axis-read : (frame : Frame) → Keeps (axis_text frame)
-axis-read frame = keeps-map (tick_text frame) (tick-read frame) (range_with_len 1 (tick_count frame))
+axis-read frame =
+    keeps-map (next_tick frame) (λ k. tick-read frame (passed_ticks frame + k)) (range_with_len 1 (tick_count frame))
 
 -- labels
 tag-read : (frame : Frame) (l : Label) → read (Between svg) (tag_text frame l) ≡ Between in_text_tag
 unfolding tag_text
 tag-read frame l =
     let third : List ℕ = codes "\" textLength=\"" ++ (decimal (words_width frame l.words) ++ codes "\">") in
-    let second : List ℕ = codes "\" y=\"" ++ (decimal (stamp_y l.stamp + l.drop - 1) ++ third) in
+    let second : List ℕ = codes "\" y=\"" ++ (decimal (stamp_y frame l.stamp + l.drop - 1) ++ third) in
     value-number in_text_tag (lane_x frame l.lane + 13) second
-    ∙ value-number in_text_tag (stamp_y l.stamp + l.drop - 1) third
+    ∙ value-number in_text_tag (stamp_y frame l.stamp + l.drop - 1) third
     ∙ value-number in_text_tag (words_width frame l.words) (codes "\">")
 
 label-read : (frame : Frame) (l : Label) → Keeps (label_text frame l)
@@ -536,44 +538,44 @@ label-read frame l =
 labels-read : (frame : Frame) (ranks : List RankAccount) → Keeps (labels_text frame ranks)
 unfolding labels_text
 labels-read frame ranks = either_way (has_room frame) where
-  either_way : (b : Bool) → Keeps (cond b (flat_map (label_text frame) (all_labels frame.end ranks)) [])
-  either_way true = keeps-map (label_text frame) (label-read frame) (all_labels frame.end ranks)
+  either_way : (b : Bool) → Keeps (cond b (flat_map (label_text frame) (all_labels frame.span ranks)) [])
+  either_way true = keeps-map (label_text frame) (label-read frame) (all_labels frame.span ranks)
   either_way false = refl
 
 front-read : (frame : Frame) (ranks : List RankAccount) → read Before (front_text frame ranks) ≡ Between svg
 unfolding front_text head_text
 front-read frame ranks =
     let height = max (foot_y frame + 74) 500 in
-    let rows : List ℕ = rows_text 0 (legend_of frame.end ranks) in
+    let rows : List ℕ = rows_text 0 (legend_of frame.span ranks) in
     let notes : List ℕ = note_text frame.left_out ++ (rows ++ axis_text frame) in
     behind Before (Between svg) (size_text (width_of frame) height) (sheet_text ++ notes)
     (size-read (width_of frame) height)
     ∙ keeps-append sheet_text notes sheet-read
     (keeps-append (note_text frame.left_out) (rows ++ axis_text frame) (note-read frame.left_out)
-    (keeps-append rows (axis_text frame) (rows-read 0 (legend_of frame.end ranks)) (axis-read frame)))
+    (keeps-append rows (axis_text frame) (rows-read 0 (legend_of frame.span ranks)) (axis-read frame)))
 
 marks_text-read : (frame : Frame) (ranks : List RankAccount) → Keeps (marks_text frame ranks)
 unfolding marks_text
 marks_text-read frame ranks =
-    let lanes : List ℕ = flat_map (lane_text frame) (all_lanes (take frame.lanes ranks)) in
-    let links : List ℕ = flat_map (link_text frame) (all_links frame.end ranks) in
-    let marks : List ℕ = flat_map (mark_text frame) (all_marks frame.end ranks) in
-    let rings : List ℕ = flat_map (ring_text frame) (all_rings frame.end ranks) in
+    let lanes : List ℕ = flat_map (lane_text frame) (all_lanes frame.chosen (take frame.lanes ranks)) in
+    let links : List ℕ = flat_map (link_text frame) (all_links frame.span ranks) in
+    let marks : List ℕ = flat_map (mark_text frame) (all_marks frame.span ranks) in
+    let rings : List ℕ = flat_map (ring_text frame) (all_rings frame.span ranks) in
     keeps-append lanes (links ++ (marks ++ rings))
-    (keeps-map (lane_text frame) (lane-read frame) (all_lanes (take frame.lanes ranks)))
-    (keeps-append links (marks ++ rings) (keeps-map (link_text frame) (link-read frame) (all_links frame.end ranks))
-    (keeps-append marks rings (keeps-map (mark_text frame) (mark-read frame) (all_marks frame.end ranks))
-    (keeps-map (ring_text frame) (ring-read frame) (all_rings frame.end ranks))))
+    (keeps-map (lane_text frame) (lane-read frame) (all_lanes frame.chosen (take frame.lanes ranks)))
+    (keeps-append links (marks ++ rings) (keeps-map (link_text frame) (link-read frame) (all_links frame.span ranks))
+    (keeps-append marks rings (keeps-map (mark_text frame) (mark-read frame) (all_marks frame.span ranks))
+    (keeps-map (ring_text frame) (ring-read frame) (all_rings frame.span ranks))))
 
 arrows_text-read : (frame : Frame) (ranks : List RankAccount) → Keeps (arrows_text frame ranks)
 unfolding arrows_text
 arrows_text-read frame ranks =
-    let arrows : List ℕ = flat_map (arrow_text frame) (all_arrows frame.end ranks) in
-    let ways : List ℕ = flat_map (return_text frame) (all_returns frame.end ranks) in
+    let arrows : List ℕ = flat_map (arrow_text frame) (all_arrows frame.span ranks) in
+    let ways : List ℕ = flat_map (return_text frame) (all_returns frame.span ranks) in
     keeps-append arrows (ways ++ labels_text frame ranks)
-    (keeps-map (arrow_text frame) (arrow-read frame) (all_arrows frame.end ranks))
+    (keeps-map (arrow_text frame) (arrow-read frame) (all_arrows frame.span ranks))
     (keeps-append ways (labels_text frame ranks)
-    (keeps-map (return_text frame) (return-read frame) (all_returns frame.end ranks)) (labels-read frame ranks))
+    (keeps-map (return_text frame) (return-read frame) (all_returns frame.span ranks)) (labels-read frame ranks))
 
 shapes-read : (frame : Frame) (ranks : List RankAccount) → Keeps (shapes_text frame ranks)
 unfolding shapes_text

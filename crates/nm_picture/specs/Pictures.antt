@@ -1,11 +1,12 @@
 -- The text of a picture, shape by shape.
 use Rattle.std.specs.Prelude.{◌≡◌, ℕ, ◌+◌, ◌-◌, ◌*◌, ◌/◌, ◌%◌, ◌==◌, Bool, nat_le, if◌then◌else◌, max, min, List, []}
-use Rattle.std.specs.Prelude.{◌∷◌, ◌++◌, Option, Some, None, codes, decimal, flat_map, length, take}
+use Rattle.std.specs.Prelude.{◌∷◌, ◌++◌, Option, Some, None, codes, count_by, decimal, flat_map, length, take}
 use Rattle.std.specs.List.{range_with_len}
 use Rattle.nm_report.specs.Events.{how_word}
 use Rattle.nm_report.specs.declared.accounts.RankAccount.{RankAccount}
 use Rattle.nm_report.specs.declared.records.RunRecord.{RunRecord}
 use Rattle.nm_diagram.specs.declared.frames.Frame.{Frame}
+use Rattle.nm_diagram.specs.declared.frames.Part.{Part}
 use Rattle.nm_diagram.specs.declared.arrows.Arrow.{Arrow}
 use Rattle.nm_diagram.specs.Diagrams.{Mark, Lane, all_marks, all_arrows, all_lanes}
 use Rattle.nm_diagram.specs.declared.links.Link.{Link}
@@ -18,13 +19,17 @@ use Rattle.nm_diagram.specs.declared.returns.Return.{Return}
 use Rattle.nm_diagram.specs.Returns.{all_returns}
 use Rattle.nm_diagram.specs.declared.signs.Sign.{Sign}
 use Rattle.nm_diagram.specs.Signs.{name_of, words_of}
-use Rattle.nm_diagram.specs.Frames.{IsFrame}
+use Rattle.nm_diagram.specs.Frames.{IsFrame, whole}
 use Rattle.nm_picture.specs.Markup.{attributes, element, empty, escaped}
 use Rattle.nm_picture.specs.Sheet.{sheet_text}
 
+-- how many lines stand before that of a rank: those of the chosen ranks before it
+abbrev pub column_of : Frame → ℕ → ℕ
+column_of frame rank = count_by (λ chosen. chosen) (take rank frame.chosen)
+
 -- how far apart the lines of ranks stand: they share 1,240 units, and none takes more than 150
 abbrev pub lane_gap : Frame → ℕ
-lane_gap frame = min 150 (1240 / (frame.lanes + 1))
+lane_gap frame = min 150 (1240 / (column_of frame frame.lanes + 1))
 
 -- the lines stand so far apart that labels have room between them
 abbrev pub has_room : Frame → Bool
@@ -36,16 +41,25 @@ short frame word = if has_room frame then word else []
 
 -- how far from the left the line of a rank stands
 abbrev pub lane_x : Frame → ℕ → ℕ
-lane_x frame rank = 340 + lane_gap frame * rank
+lane_x frame rank = 340 + lane_gap frame * column_of frame rank
 
--- how far from the top a stamp stands: before each fortieth there is room for the names of the ranks. No stamp that
--- is shown is above 1,000,000
-abbrev pub stamp_y : ℕ → ℕ
-stamp_y stamp = 70 + 18 * min stamp 1000001 + 30 * (min stamp 1000001 / 40)
+-- how far from the top a row stands, of which each stamp has one: before each fortieth there is room for the names
+-- of the ranks. No picture has more than 1,000,000
+abbrev pub row_y : ℕ → ℕ
+row_y row = 70 + 18 * min row 1000001 + 30 * (min row 1000001 / 40)
+
+-- the stamp before the first one of a picture, where the lines of the ranks begin. No picture begins behind
+-- 1,000,000
+abbrev pub top_of : Frame → ℕ
+top_of frame = min (frame.span.first - 1) 1000000
+
+-- how far from the top a stamp stands
+abbrev pub stamp_y : Frame → ℕ → ℕ
+stamp_y frame stamp = row_y (stamp - top_of frame)
 
 -- where the process lines end
 abbrev pub foot_y : Frame → ℕ
-foot_y frame = stamp_y (frame.bottom + 1)
+foot_y frame = stamp_y frame (frame.bottom + 1)
 
 -- how wide a picture is
 abbrev pub width_of : Frame → ℕ
@@ -70,7 +84,7 @@ title_text words = codes "<title>" ++ (escaped words ++ codes "</title>")
 
 -- the start tag of a mark: its sign, on the line of its rank, at its stamp
 abbrev pub sign_text : Frame → Mark → List ℕ
-sign_text frame mark = use_tag (name_of mark.sign) (lane_x frame mark.lane) (stamp_y mark.stamp)
+sign_text frame mark = use_tag (name_of mark.sign) (lane_x frame mark.lane) (stamp_y frame mark.stamp)
 
 -- a mark with its title
 unfoldable pub mark_text : Frame → Mark → List ℕ
@@ -91,8 +105,8 @@ arrow_title arrow =
 -- asking
 abbrev pub shaft_text : Frame → Arrow → List ℕ
 shaft_text frame arrow =
-    line_tag (how_word arrow.how) (lane_x frame arrow.from + aside_of arrow) (stamp_y arrow.sent)
-    (lane_x frame arrow.to + aside_of arrow) (stamp_y arrow.arrived)
+    line_tag (how_word arrow.how) (lane_x frame arrow.from + aside_of arrow) (stamp_y frame arrow.sent)
+    (lane_x frame arrow.to + aside_of arrow) (stamp_y frame arrow.arrived)
 
 -- an arrow with its title
 unfoldable pub arrow_text : Frame → Arrow → List ℕ
@@ -116,10 +130,10 @@ bow_x frame link = lane_x frame link.lane - bend_of frame link
 unfoldable pub bow_text : Frame → Link → List ℕ
 bow_text frame link =
     codes "<path class=\"link\" d=\"M " ++ (decimal (lane_x frame link.lane) ++ (codes " "
-    ++ (decimal (stamp_y link.received) ++ (codes " C " ++ (decimal (bow_x frame link) ++ (codes " "
-    ++ (decimal (stamp_y link.received) ++ (codes " " ++ (decimal (bow_x frame link) ++ (codes " "
-    ++ (decimal (stamp_y link.arrived) ++ (codes " " ++ (decimal (lane_x frame link.lane) ++ (codes " "
-    ++ (decimal (stamp_y link.arrived) ++ codes "\">")))))))))))))))
+    ++ (decimal (stamp_y frame link.received) ++ (codes " C " ++ (decimal (bow_x frame link) ++ (codes " "
+    ++ (decimal (stamp_y frame link.received) ++ (codes " " ++ (decimal (bow_x frame link) ++ (codes " "
+    ++ (decimal (stamp_y frame link.arrived) ++ (codes " " ++ (decimal (lane_x frame link.lane) ++ (codes " "
+    ++ (decimal (stamp_y frame link.arrived) ++ codes "\">")))))))))))))))
 
 -- the title of a link: the receive, and the message that it took
 unfoldable pub link_title : Link → List ℕ
@@ -134,7 +148,7 @@ link_text frame link = bow_text frame link ++ (link_title link ++ codes "</path>
 
 -- the start tag of the ring round the arrival of a message that nobody took
 abbrev pub ring_tag : Frame → Ring → List ℕ
-ring_tag frame ring = use_tag (codes "left") (lane_x frame ring.lane) (stamp_y ring.stamp)
+ring_tag frame ring = use_tag (codes "left") (lane_x frame ring.lane) (stamp_y frame ring.stamp)
 
 -- its title: the message
 unfoldable pub ring_title : ℕ → ℕ → List ℕ
@@ -149,7 +163,7 @@ ring_text frame ring = ring_tag frame ring ++ (ring_title ring.n ring.from ++ co
 -- the start tag of the way of a withdrawal, or of its answer
 abbrev pub return_shaft : Frame → Return → List ℕ
 return_shaft frame way =
-    line_tag (codes "back") (lane_x frame way.from) (stamp_y way.left) (lane_x frame way.to) (stamp_y way.came)
+    line_tag (codes "back") (lane_x frame way.from) (stamp_y frame way.left) (lane_x frame way.to) (stamp_y frame way.came)
 
 -- its title: the message
 unfoldable pub return_title : ℕ → List ℕ
@@ -170,13 +184,16 @@ label class x y words =
     element (codes "text")
     ((codes "class", class) ∷ (codes "x", decimal x) ∷ (codes "y", decimal y) ∷ []) words (codes "\n")
 
--- the sign of a command that can't go on
-unfoldable pub wait_sign : Frame → ℕ → ℕ → List ℕ
-wait_sign frame rank line =
+-- the sign of a command that can't go on, at a place
+unfoldable pub wait_sign_at : ℕ → ℕ → ℕ → List ℕ
+wait_sign_at x y line =
     element (codes "use")
-    ((codes "href", codes "#waits") ∷ (codes "x", decimal (lane_x frame rank))
-    ∷ (codes "y", decimal (foot_y frame)) ∷ [])
+    ((codes "href", codes "#waits") ∷ (codes "x", decimal x) ∷ (codes "y", decimal y) ∷ [])
     (element (codes "title") [] (counted (codes "waits at line ") line)) (codes "\n")
+
+-- at the end of the rank's line
+abbrev pub wait_sign : Frame → ℕ → ℕ → List ℕ
+wait_sign frame rank line = wait_sign_at (lane_x frame rank) (foot_y frame) line
 
 -- and the words below it, and below the rank's name
 unfoldable pub wait_label : Frame → ℕ → ℕ → List ℕ
@@ -204,15 +221,15 @@ rank_label frame rank y =
     label (codes "rank") (lane_x frame rank) y
     (counted (short frame (codes "rank ")) rank)
 
--- the name of a rank before the stamp 40 * k
+-- the name of a rank before the row 40 * k
 abbrev pub name_text : Frame → ℕ → ℕ → List ℕ
-name_text frame rank k = rank_label frame rank (stamp_y (40 * k) - 20)
+name_text frame rank k = rank_label frame rank (row_y (40 * k) - 20)
 
--- how often the names of the ranks stand between stamps
+-- how often the names of the ranks stand between rows
 abbrev pub name_count : Frame → ℕ
-name_count frame = min 1000 (frame.bottom / 40)
+name_count frame = min 1000 ((frame.bottom - top_of frame) / 40)
 
--- a process line, with the rank's name at both ends and before each fortieth stamp
+-- a process line, with the rank's name at both ends and before each fortieth row
 unfoldable pub line_text : Frame → ℕ → List ℕ
 line_text frame rank =
     process_line frame rank ++ (rank_label frame rank 56 ++ (rank_label frame rank (foot_y frame + 24)
@@ -270,17 +287,25 @@ rows_text row (sign ∷ signs) = row_text row sign ++ rows_text (row + 1) signs
 -- a fifth stamp: its number at the left, and a line through the lanes
 unfoldable pub tick_text : Frame → ℕ → List ℕ
 tick_text frame k =
-    codes "<path class=\"grid\" d=\"M 296 " ++ (decimal (stamp_y (5 * k)) ++ (codes " H "
+    codes "<path class=\"grid\" d=\"M 296 " ++ (decimal (stamp_y frame (5 * k)) ++ (codes " H "
     ++ (decimal (width_of frame) ++ (codes "\"></path><text class=\"axis\" x=\"290\" y=\""
-    ++ (decimal (stamp_y (5 * k) + 3) ++ (codes "\">" ++ (decimal (5 * k) ++ codes "</text>\n")))))))
+    ++ (decimal (stamp_y frame (5 * k) + 3) ++ (codes "\">" ++ (decimal (5 * k) ++ codes "</text>\n")))))))
+
+-- how many fifth stamps stand above the first row
+abbrev pub passed_ticks : Frame → ℕ
+passed_ticks frame = top_of frame / 5
 
 -- how many stamps are numbered
 abbrev pub tick_count : Frame → ℕ
-tick_count frame = min 8000 (frame.bottom / 5)
+tick_count frame = min 8000 (frame.bottom / 5 - passed_ticks frame)
+
+-- the fifth stamp of this number below the first row
+abbrev pub next_tick : Frame → ℕ → List ℕ
+next_tick frame k = tick_text frame (passed_ticks frame + k)
 
 -- the axis of stamps
 abbrev pub axis_text : Frame → List ℕ
-axis_text frame = flat_map (tick_text frame) (range_with_len 1 (tick_count frame))
+axis_text frame = flat_map (next_tick frame) (range_with_len 1 (tick_count frame))
 
 -- how wide the words of a label are: five units for each byte, or all the room that there is
 abbrev pub words_width : Frame → List ℕ → ℕ
@@ -290,7 +315,7 @@ words_width frame words = min (5 * length words) (lane_gap frame / 2 + 2)
 unfoldable pub tag_text : Frame → Label → List ℕ
 tag_text frame label =
     codes "<text class=\"label\" lengthAdjust=\"spacingAndGlyphs\"" ++ attributes
-    ((codes "x", decimal (lane_x frame label.lane + 13)) ∷ (codes "y", decimal (stamp_y label.stamp + label.drop - 1))
+    ((codes "x", decimal (lane_x frame label.lane + 13)) ∷ (codes "y", decimal (stamp_y frame label.stamp + label.drop - 1))
     ∷ (codes "textLength", decimal (words_width frame label.words)) ∷ []) (codes ">")
 
 -- a label
@@ -300,28 +325,28 @@ label_text frame label = tag_text frame label ++ (escaped label.words ++ codes "
 -- the labels, where they have room
 unfoldable pub labels_text : Frame → List RankAccount → List ℕ
 labels_text frame ranks =
-    if has_room frame then flat_map (label_text frame) (all_labels frame.end ranks) else []
+    if has_room frame then flat_map (label_text frame) (all_labels frame.span ranks) else []
 
 -- the front of the picture: its size, what stands in each picture, what is left out, the legend and the
 -- axis
 unfoldable pub front_text : Frame → List RankAccount → List ℕ
 front_text frame ranks =
     head_text frame ++ (sheet_text ++ (note_text frame.left_out
-    ++ (rows_text 0 (legend_of frame.end ranks) ++ axis_text frame)))
+    ++ (rows_text 0 (legend_of frame.span ranks) ++ axis_text frame)))
 
 -- its shapes: the lines, the links, and the marks with their rings
 unfoldable pub marks_text : Frame → List RankAccount → List ℕ
 marks_text frame ranks =
-    flat_map (lane_text frame) (all_lanes (take frame.lanes ranks))
-    ++ (flat_map (link_text frame) (all_links frame.end ranks)
-    ++ (flat_map (mark_text frame) (all_marks frame.end ranks)
-    ++ flat_map (ring_text frame) (all_rings frame.end ranks)))
+    flat_map (lane_text frame) (all_lanes frame.chosen (take frame.lanes ranks))
+    ++ (flat_map (link_text frame) (all_links frame.span ranks)
+    ++ (flat_map (mark_text frame) (all_marks frame.span ranks)
+    ++ flat_map (ring_text frame) (all_rings frame.span ranks)))
 
 -- and in front of them the arrows, the ways of withdrawals, and the labels
 unfoldable pub arrows_text : Frame → List RankAccount → List ℕ
 arrows_text frame ranks =
-    flat_map (arrow_text frame) (all_arrows frame.end ranks)
-    ++ (flat_map (return_text frame) (all_returns frame.end ranks) ++ labels_text frame ranks)
+    flat_map (arrow_text frame) (all_arrows frame.span ranks)
+    ++ (flat_map (return_text frame) (all_returns frame.span ranks) ++ labels_text frame ranks)
 
 -- all shapes
 unfoldable pub shapes_text : Frame → List RankAccount → List ℕ
@@ -331,8 +356,12 @@ shapes_text frame ranks = marks_text frame ranks ++ arrows_text frame ranks
 unfoldable pub picture_text : Frame → List RankAccount → List ℕ
 picture_text frame ranks = front_text frame ranks ++ (shapes_text frame ranks ++ codes "</g>\n</svg>\n")
 
--- the text is the picture of this run
-pub record IsPictureOf (run : RunRecord) (text : List ℕ) : Type 0 where
+-- the text is the picture of this part of a run
+pub record IsPictureIn (part : Part) (run : RunRecord) (text : List ℕ) : Type 0 where
   pub frame : Frame
-  pub of_ranks : IsFrame run.ranks frame
+  pub of_ranks : IsFrame part run.ranks frame
   pub drawn : text ≡ picture_text frame run.ranks
+
+-- the text is the picture of the whole of a run
+abbrev pub IsPictureOf : RunRecord → List ℕ → Type 0
+IsPictureOf run text = IsPictureIn whole run text

@@ -27,9 +27,9 @@ fn push_shaft(out: &mut String, frame: &Frame, arrow: &Arrow) -> Result<(), Allo
     let aside = aside(arrow);
     let ends = Ends {
         x1: x_of(frame, arrow.from) + aside,
-        y1: y_of(arrow.sent),
+        y1: y_of(frame, arrow.sent),
         x2: x_of(frame, arrow.to) + aside,
-        y2: y_of(arrow.arrived),
+        y2: y_of(frame, arrow.arrived),
     };
     push_line_tag(out, word_of_how(arrow.how), ends)
 }
@@ -65,9 +65,9 @@ fn push_at(
     event: &Event,
 ) -> Result<(), AllocError>
     ensures ok { OnOk result (string_bytes out.new ≡ string_bytes out.old
-        ++ flat_map (arrow_text frame.now) (arrows_at frame.now.end ranks.now rank event.now)) }
+        ++ flat_map (arrow_text frame.now) (arrows_at frame.now.span ranks.now rank event.now)) }
 {
-    match arrow_at(frame.end, ranks, rank, event) {
+    match arrow_at(frame.span, ranks, rank, event) {
         Some(arrow) => push_arrow(out, frame, &arrow),
         None => Ok(()),
     }
@@ -82,7 +82,7 @@ fn push_arrows_of_rank(
     account: &RankAccount,
 ) -> Result<(), AllocError>
     ensures ok { OnOk result (string_bytes out.new ≡ string_bytes out.old
-        ++ flat_map (arrow_text frame.now) (arrows_of frame.now.end ranks.now rank account.now)) }
+        ++ flat_map (arrow_text frame.now) (arrows_of frame.now.span ranks.now rank account.now)) }
 {
     for event in account.history.as_slice() {
         push_at(out, frame, ranks, rank, event)?;
@@ -94,7 +94,7 @@ fn push_arrows_of_rank(
 pub fn push_arrows(out: &mut String, frame: &Frame, ranks: &[RankAccount]) -> Result<(), AllocError>
     requires few { length ranks.now ≤ 256 }
     ensures ok { OnOk result (string_bytes out.new
-        ≡ string_bytes out.old ++ flat_map (arrow_text frame.now) (all_arrows frame.now.end ranks.now)) }
+        ≡ string_bytes out.old ++ flat_map (arrow_text frame.now) (all_arrows frame.now.span ranks.now)) }
 {
     for (rank, account) in ranks.iter().enumerate() {
         push_arrows_of_rank(out, frame, ranks, rank as u8, account)?;

@@ -175,7 +175,7 @@ fn push_tag(
         ≡ string_bytes out.old ++ tag_text frame.now (labelled rank event.now)) }
 {
     let x = x_of(frame, rank) + 13;
-    let y = y_of(event.stamp) + drop_of(&event.what) - 1;
+    let y = y_of(frame, event.stamp) + drop_of(&event.what) - 1;
     let width = width_of_words(frame, words);
     write!(
         out,
@@ -219,9 +219,9 @@ fn push_if_shown(
     event: &Event,
 ) -> Result<(), AllocError>
     ensures ok { OnOk result (string_bytes out.new ≡ string_bytes out.old
-        ++ flat_map (label_text frame.now) (labels_at frame.now.end rank event.now)) }
+        ++ flat_map (label_text frame.now) (labels_at frame.now.span rank event.now)) }
 {
-    if event.stamp < frame.end {
+    if frame.span.shows(event) {
         push_label(alloc, out, frame, rank, event)
     } else {
         Ok(())
@@ -237,7 +237,7 @@ fn push_labels_of_rank(
     account: &RankAccount,
 ) -> Result<(), AllocError>
     ensures ok { OnOk result (string_bytes out.new ≡ string_bytes out.old
-        ++ flat_map (label_text frame.now) (labels_of frame.now.end rank account.now)) }
+        ++ flat_map (label_text frame.now) (labels_of frame.now.span rank account.now)) }
 {
     for event in account.history.as_slice() {
         push_if_shown(alloc, out, frame, rank, event)?;
@@ -254,7 +254,7 @@ fn push_all_labels(
 ) -> Result<(), AllocError>
     requires few { length ranks.now ≤ 256 }
     ensures ok { OnOk result (string_bytes out.new ≡ string_bytes out.old
-        ++ flat_map (label_text frame.now) (all_labels frame.now.end ranks.now)) }
+        ++ flat_map (label_text frame.now) (all_labels frame.now.span ranks.now)) }
 {
     for (rank, account) in ranks.iter().enumerate() {
         push_labels_of_rank(alloc, out, frame, rank as u8, account)?;

@@ -1,12 +1,13 @@
 //! What follows from the text of a picture. Each law is the contract of a function that does nothing.
 
-ghost use Rattle.std.specs.Prelude.{◌≡◌, ℕ, true, List};
+ghost use Rattle.std.specs.Prelude.{◌≡◌, ℕ, ◌≤◌, true, List, length};
 ghost use Rattle.std.specs.List.{AllByRecursion};
 ghost use Rattle.nm_report.specs.declared.records.RunRecord.{RunRecord};
+ghost use Rattle.nm_diagram.specs.declared.frames.Part.{Part};
 ghost use Rattle.nm_diagram.specs.Alike.{AreAlike};
 ghost use Rattle.nm_diagram.specs.Signs.{all_signs};
 ghost use Rattle.nm_picture.specs.Markup.{escaped, is_plain};
-ghost use Rattle.nm_picture.specs.Pictures.{IsPictureOf};
+ghost use Rattle.nm_picture.specs.Pictures.{IsPictureIn, IsPictureOf};
 ghost use Rattle.nm_picture.specs.Sheet.{all_stand, are_drawn, covers, none_stands, strokes};
 ghost use Rattle.nm_picture.specs.WellFormed.{IsWellFormed};
 
@@ -18,20 +19,25 @@ pub fn each_sign_is_drawn()
     ensures shown { none_stands covers ≡ true }
 {}
 
-/// A run has one picture.
+/// A part of a run has one picture.
 pub fn a_run_has_one_picture()
-    ensures { (run : RunRecord) (a b : List ℕ) → IsPictureOf run a → IsPictureOf run b → a ≡ b }
+    ensures { (part : Part) (run : RunRecord) (a b : List ℕ) → IsPictureIn part run a →
+        IsPictureIn part run b → a ≡ b }
 {}
 
 /// Runs of the same ranks, but for silent ones at the end of either, have one picture.
 pub fn alike_runs_have_one_picture()
-    ensures { (run other : RunRecord) (text : List ℕ) → AreAlike run.ranks other.ranks →
+    ensures whole { (run other : RunRecord) (text : List ℕ) → AreAlike run.ranks other.ranks →
         IsPictureOf run text → IsPictureOf other text }
+    ensures part { (part : Part) (run other : RunRecord) (text : List ℕ) →
+        part.lanes ≤ length other.ranks → AreAlike run.ranks other.ranks →
+        IsPictureIn part run text → IsPictureIn part other text }
 {}
 
 /// A picture is well-formed markup: each tag is closed where it has to be, and no text holds one.
 pub fn a_picture_is_well_formed()
-    ensures { (run : RunRecord) (text : List ℕ) → IsPictureOf run text → IsWellFormed text }
+    ensures { (part : Part) (run : RunRecord) (text : List ℕ) → IsPictureIn part run text →
+        IsWellFormed text }
 {}
 
 /// What is between tags holds no tag.

@@ -48,11 +48,11 @@ pub fn push_legend(
     ranks: &[RankAccount],
 ) -> Result<(), AllocError>
     ensures ok { OnOk result (string_bytes out.new
-        ≡ string_bytes out.old ++ rows_text 0 (legend_of frame.now.end ranks.now)) }
+        ≡ string_bytes out.old ++ rows_text 0 (legend_of frame.now.span ranks.now)) }
 {
     let mut row = 0u64;
     for sign in all_signs() {
-        if stands(alloc, frame.end, *sign, ranks)? {
+        if stands(alloc, frame.span, *sign, ranks)? {
             push_row(out, row, *sign)?;
             row += 1;
         }

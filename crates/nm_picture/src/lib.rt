@@ -6,8 +6,8 @@
 //! what stands in each picture, and `WellFormed` what well-formed markup is.
 //! # What is proved
 //! - The picture is a function of the record: its text is exactly that of those lists, in order.
-//! - `laws`: a run has one picture, the same with silent ranks behind its own, and it is well-formed
-//!   markup. Each sign of the legend is drawn.
+//! - `laws`: a part of a run has one picture, the same with silent ranks behind its own, and it is
+//!   well-formed markup. Each sign of the legend is drawn.
 //! # What is only tested
 //! That it succeeds with ample memory (`.ci/examples`), and that a browser shows what is meant.
 #![tactic(auto)]
@@ -28,4 +28,4 @@ mod sheet;
 mod tags;
 mod words;
 
-pub use pictures::picture;
+pub use pictures::{picture, picture_in};

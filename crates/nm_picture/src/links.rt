@@ -48,8 +48,8 @@ fn push_bow(out: &mut String, frame: &Frame, link: &Link) -> Result<(), AllocErr
 {
     let x = x_of(frame, link.lane);
     let bow = bow_of(frame, link);
-    let y1 = y_of(link.received);
-    let y2 = y_of(link.arrived);
+    let y1 = y_of(frame, link.received);
+    let y2 = y_of(frame, link.arrived);
     write!(
         out,
         "<path class=\"link\" d=\"M {x} {y1} C {bow} {y1} {bow} {y2} {x} {y2}\">"
@@ -92,9 +92,9 @@ fn push_pair(
     pair: &Pair,
 ) -> Result<(), AllocError>
     ensures ok { OnOk result (string_bytes out.new ≡ string_bytes out.old
-        ++ flat_map (link_text frame.now) (link_of frame.now.end rank events.now pair.now)) }
+        ++ flat_map (link_text frame.now) (link_of frame.now.span rank events.now pair.now)) }
 {
-    match link_at(frame.end, rank, events, pair) {
+    match link_at(frame.span, rank, events, pair) {
         Some(link) => push_link(out, frame, &link),
         None => Ok(()),
     }
@@ -109,7 +109,7 @@ fn push_links_among(
     events: &[Event],
 ) -> Result<(), AllocError>
     ensures ok { OnOk result (string_bytes out.new
-        ≡ string_bytes out.old ++ flat_map (link_text frame.now) (links_among frame.now.end rank events.now)) }
+        ≡ string_bytes out.old ++ flat_map (link_text frame.now) (links_among frame.now.span rank events.now)) }
 {
     let pairs = all_pairs(alloc, events)?;
     for pair in pairs.as_slice() {
@@ -127,7 +127,7 @@ fn push_links_of_rank(
     account: &RankAccount,
 ) -> Result<(), AllocError>
     ensures ok { OnOk result (string_bytes out.new ≡ string_bytes out.old
-        ++ flat_map (link_text frame.now) (links_of frame.now.end rank account.now)) }
+        ++ flat_map (link_text frame.now) (links_of frame.now.span rank account.now)) }
 {
     push_links_among(alloc, out, frame, rank, linked_events(account))
 }
@@ -141,7 +141,7 @@ pub fn push_links(
 ) -> Result<(), AllocError>
     requires few { length ranks.now ≤ 256 }
     ensures ok { OnOk result (string_bytes out.new
-        ≡ string_bytes out.old ++ flat_map (link_text frame.now) (all_links frame.now.end ranks.now)) }
+        ≡ string_bytes out.old ++ flat_map (link_text frame.now) (all_links frame.now.span ranks.now)) }
 {
     for (rank, account) in ranks.iter().enumerate() {
         push_links_of_rank(alloc, out, frame, rank as u8, account)?;

@@ -19,7 +19,7 @@ fn push_sign(out: &mut String, frame: &Frame, rank: u8, event: &Event) -> Result
         ≡ string_bytes out.old ++ sign_text frame.now (mark_of rank event.now)) }
 {
     let name = Sign::of(&event.what).name();
-    push_use(out, name, x_of(frame, rank), y_of(event.stamp))
+    push_use(out, name, x_of(frame, rank), y_of(frame, event.stamp))
 }
 
 /// Writes a title between its tags.
@@ -61,9 +61,9 @@ fn push_if_shown(
     event: &Event,
 ) -> Result<(), AllocError>
     ensures ok { OnOk result (string_bytes out.new ≡ string_bytes out.old
-        ++ flat_map (mark_text frame.now) (marks_at frame.now.end rank event.now)) }
+        ++ flat_map (mark_text frame.now) (marks_at frame.now.span rank event.now)) }
 {
-    if event.stamp < frame.end {
+    if frame.span.shows(event) {
         push_mark(alloc, out, frame, rank, event)
     } else {
         Ok(())
@@ -79,7 +79,7 @@ fn push_marks_of_rank(
     account: &RankAccount,
 ) -> Result<(), AllocError>
     ensures ok { OnOk result (string_bytes out.new ≡ string_bytes out.old
-        ++ flat_map (mark_text frame.now) (marks_of frame.now.end rank account.now)) }
+        ++ flat_map (mark_text frame.now) (marks_of frame.now.span rank account.now)) }
 {
     for event in account.history.as_slice() {
         push_if_shown(alloc, out, frame, rank, event)?;
@@ -96,7 +96,7 @@ pub fn push_marks(
 ) -> Result<(), AllocError>
     requires few { length ranks.now ≤ 256 }
     ensures ok { OnOk result (string_bytes out.new
-        ≡ string_bytes out.old ++ flat_map (mark_text frame.now) (all_marks frame.now.end ranks.now)) }
+        ≡ string_bytes out.old ++ flat_map (mark_text frame.now) (all_marks frame.now.span ranks.now)) }
 {
     for (rank, account) in ranks.iter().enumerate() {
         push_marks_of_rank(alloc, out, frame, rank as u8, account)?;

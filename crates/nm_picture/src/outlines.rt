@@ -1,31 +1,38 @@
 //! The lanes of the ranks, with the ranks' names, and what stands at their ends.
 
-ghost use Rattle.std.specs.Prelude.{◌≡◌, ◌≤◌, ◌++◌, OnOk, flat_map, length, string_bytes};
-ghost use Rattle.nm_diagram.specs.Diagrams.{all_lanes, lane_of};
+ghost use Rattle.std.specs.Prelude.{◌≡◌, ◌≤◌, ◌++◌, OnOk, false, flat_map, get_or};
+ghost use Rattle.std.specs.Prelude.{length, string_bytes};
+ghost use Rattle.nm_diagram.specs.Diagrams.{all_lanes, lane_of, lanes_at};
 ghost use Rattle.std.specs.List.{range_with_len};
 ghost use Rattle.nm_picture.specs.Pictures.{head_text, lane_text, left_out_text, line_text};
 ghost use Rattle.nm_picture.specs.Pictures.{name_count, name_text, note_text};
 ghost use Rattle.nm_picture.specs.Pictures.{process_line, rank_label, size_text};
 ghost use Rattle.nm_picture.specs.Pictures.{wait_label};
-ghost use Rattle.nm_picture.specs.Pictures.{wait_sign, wait_text};
+ghost use Rattle.nm_picture.specs.Pictures.{wait_sign, wait_sign_at, wait_text};
 
-use crate::places::{foot, shortened, width, x_of, y_of};
+use crate::places::{foot, row_of, shortened, top, width, x_of};
 use nm_diagram::Frame;
 use nm_report::RankAccount;
 use std::alloc::AllocError;
 
-/// Writes the sign of a command that can't go on.
-#[tactic(auto, unfolding(crate::specs::Pictures::wait_sign))]
-fn push_wait_sign(out: &mut String, frame: &Frame, rank: u8, line: u32) -> Result<(), AllocError>
+/// Writes the sign of a command that can't go on, at a place.
+#[tactic(auto, unfolding(crate::specs::Pictures::wait_sign_at))]
+fn push_wait_sign_at(out: &mut String, x: u64, y: u64, line: u32) -> Result<(), AllocError>
     ensures ok { OnOk result
-        (string_bytes out.new ≡ string_bytes out.old ++ wait_sign frame.now rank line) }
+        (string_bytes out.new ≡ string_bytes out.old ++ wait_sign_at x y line) }
 {
-    let x = x_of(frame, rank);
-    let y = foot(frame);
     write!(
         out,
         "<use href=\"#waits\" x=\"{x}\" y=\"{y}\"><title>waits at line {line}</title></use>\n"
     )
+}
+
+/// Writes the sign at the end of a rank's line.
+fn push_wait_sign(out: &mut String, frame: &Frame, rank: u8, line: u32) -> Result<(), AllocError>
+    ensures ok { OnOk result
+        (string_bytes out.new ≡ string_bytes out.old ++ wait_sign frame.now rank line) }
+{
+    push_wait_sign_at(out, x_of(frame, rank), foot(frame), line)
 }
 
 /// Writes the words beside it.
@@ -90,26 +97,27 @@ fn push_rank_label(out: &mut String, frame: &Frame, rank: u8, y: u64) -> Result<
     )
 }
 
-/// The most names of a rank between stamps.
+/// The most names of a rank between rows.
 const MAX_NAMES: u32 = 1000;
 
-/// How often the names of the ranks stand between stamps.
+/// How often the names of the ranks stand between rows.
 fn count_names(frame: &Frame) -> u32
     ensures value { result ≡ name_count frame.now }
     ensures within { result ≤ 1000 }
 {
-    (frame.bottom / 40).min(MAX_NAMES)
+    let rows = frame.bottom.saturating_sub(top(frame));
+    (rows / 40).min(MAX_NAMES)
 }
 
-/// Writes the name of a rank before the stamp 40 * k.
+/// Writes the name of a rank before the row 40 * k.
 fn push_name(out: &mut String, frame: &Frame, rank: u8, k: u32) -> Result<(), AllocError>
     ensures ok { OnOk result
         (string_bytes out.new ≡ string_bytes out.old ++ name_text frame.now rank k) }
 {
-    push_rank_label(out, frame, rank, y_of(40 * k as u64) - 20)
+    push_rank_label(out, frame, rank, row_of(40 * k as u64) - 20)
 }
 
-/// Writes the name of a rank before each fortieth stamp.
+/// Writes the name of a rank before each fortieth row.
 fn push_names(out: &mut String, frame: &Frame, rank: u8) -> Result<(), AllocError>
     ensures ok { OnOk result (string_bytes out.new ≡ string_bytes out.old
         ++ flat_map (name_text frame.now rank) (range_with_len 1 (name_count frame.now))) }
@@ -121,7 +129,7 @@ fn push_names(out: &mut String, frame: &Frame, rank: u8) -> Result<(), AllocErro
     Ok(())
 }
 
-/// Writes the line of a rank, with its name at both ends and before each fortieth stamp.
+/// Writes the line of a rank, with its name at both ends and before each fortieth row.
 #[tactic(auto, unfolding(crate::specs::Pictures::line_text))]
 fn push_line(out: &mut String, frame: &Frame, rank: u8) -> Result<(), AllocError>
     ensures ok { OnOk result
@@ -148,14 +156,38 @@ fn push_lane(
     push_wait(out, frame, rank, account.waits)
 }
 
-/// Writes the lines of the ranks.
+/// Whether a rank is chosen.
+fn is_chosen(frame: &Frame, rank: u8) -> bool
+    ensures { result ≡ get_or frame.now.chosen rank false }
+{
+    frame.chosen[rank as usize]
+}
+
+/// Writes the line of a rank, if it is chosen.
+fn push_if_chosen(
+    out: &mut String,
+    frame: &Frame,
+    rank: u8,
+    account: &RankAccount,
+) -> Result<(), AllocError>
+    ensures ok { OnOk result (string_bytes out.new ≡ string_bytes out.old
+        ++ flat_map (lane_text frame.now) (lanes_at frame.now.chosen rank account.now)) }
+{
+    if is_chosen(frame, rank) {
+        push_lane(out, frame, rank, account)
+    } else {
+        Ok(())
+    }
+}
+
+/// Writes the lines of the chosen ranks.
 pub fn push_lanes(out: &mut String, frame: &Frame, ranks: &[RankAccount]) -> Result<(), AllocError>
     requires few { length ranks.now ≤ 256 }
-    ensures ok { OnOk result (string_bytes out.new
-        ≡ string_bytes out.old ++ flat_map (lane_text frame.now) (all_lanes ranks.now)) }
+    ensures ok { OnOk result (string_bytes out.new ≡ string_bytes out.old
+        ++ flat_map (lane_text frame.now) (all_lanes frame.now.chosen ranks.now)) }
 {
     for (rank, account) in ranks.iter().enumerate() {
-        push_lane(out, frame, rank as u8, account)?;
+        push_if_chosen(out, frame, rank as u8, account)?;
     }
     Ok(())
 }

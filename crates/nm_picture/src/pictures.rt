@@ -1,8 +1,8 @@
 //! The whole picture.
 
 ghost use Rattle.std.specs.Prelude.{◌≡◌, ◌≤◌, ◌++◌, IfOk, OnOk, length, string_bytes};
-ghost use Rattle.nm_picture.specs.Pictures.{IsPictureOf, arrows_text, front_text, marks_text};
-ghost use Rattle.nm_picture.specs.Pictures.{picture_text, shapes_text};
+ghost use Rattle.nm_picture.specs.Pictures.{IsPictureIn, IsPictureOf, arrows_text, front_text};
+ghost use Rattle.nm_picture.specs.Pictures.{marks_text, picture_text, shapes_text};
 ghost use Rattle.nm_picture.specs.Sheet.{sheet_text};
 
 use crate::arrows::push_arrows;
@@ -15,7 +15,7 @@ use crate::outlines::{push_lanes, push_left_out, push_size};
 use crate::returns::push_returns;
 use crate::rings::push_rings;
 use crate::sheet::SHEET;
-use nm_diagram::Frame;
+use nm_diagram::{Frame, Part};
 use nm_report::{RankAccount, RunRecord};
 use nm_types::Memory;
 use std::alloc::{AllocError, Global};
@@ -118,14 +118,24 @@ fn push_all(
     out.push_str("</g>\n</svg>\n")
 }
 
+/// The picture of a part of a run.
+pub fn picture_in(alloc: Global, run: &RunRecord, part: Part) -> Result<Vec<u8>, Memory>
+    requires few { length run.now.ranks ≤ 256 }
+    requires in_range { (part.span.first ≤ 1000000) × (part.span.end ≤ 1000001) }
+    requires lanes { part.lanes ≤ length run.now.ranks }
+    ensures { IfOk result (λ text. IsPictureIn part run.now text.items) }
+{
+    let ranks = run.ranks.as_slice();
+    let frame = Frame::of(ranks, part);
+    let mut out = String::new(alloc);
+    push_all(alloc, &mut out, &frame, ranks)?;
+    Ok(out.into_bytes())
+}
+
 /// The picture of a run.
 pub fn picture(alloc: Global, run: &RunRecord) -> Result<Vec<u8>, Memory>
     requires { length run.now.ranks ≤ 256 }
     ensures { IfOk result (λ text. IsPictureOf run.now text.items) }
 {
-    let ranks = run.ranks.as_slice();
-    let frame = Frame::of(ranks);
-    let mut out = String::new(alloc);
-    push_all(alloc, &mut out, &frame, ranks)?;
-    Ok(out.into_bytes())
+    picture_in(alloc, run, Part::whole())
 }

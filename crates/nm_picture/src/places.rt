@@ -1,20 +1,53 @@
 //! Where things stand: how far from the left and from the top.
 
-ghost use Rattle.std.specs.Prelude.{◌≡◌, ◌≤◌};
-ghost use Rattle.nm_picture.specs.Pictures.{foot_y, has_room, lane_gap, lane_x, short, stamp_y};
-ghost use Rattle.nm_picture.specs.Pictures.{width_of};
+ghost use Rattle.std.specs.Prelude.{◌≡◌, ◌≤◌, count_by, length, take};
+ghost use Rattle.nm_picture.specs.Pictures.{column_of as column_of_lem, foot_y, has_room, lane_gap, lane_x, row_y, short, stamp_y};
+ghost use Rattle.nm_picture.specs.Pictures.{top_of, width_of};
 
 use nm_diagram::Frame;
 
-/// The greatest stamp that a picture has a place for, and one more.
-const MAX_STAMP: u64 = 1_000_001;
+/// The most rows that a picture has a place for, and one more.
+const MAX_ROW: u64 = 1_000_001;
+
+/// The greatest stamp before the first one of a picture.
+const MAX_TOP: u64 = 1_000_000;
+
+/// How many of these ranks are chosen.
+fn count_chosen(ranks: &[bool]) -> usize
+    ensures value { result ≡ count_by (λ chosen. chosen) ranks.now }
+    ensures within { result ≤ length ranks.now }
+{
+    let mut count = 0usize;
+    for chosen in ranks {
+        if *chosen {
+            count += 1;
+        }
+    }
+    count
+}
+
+/// The first so many of these ranks, or all.
+fn front(ranks: &[bool], most: usize) -> &[bool]
+    ensures value { result.now ≡ take most ranks.now }
+    ensures within { length result.now ≤ length ranks.now }
+{
+    &ranks[..most.min(ranks.len())]
+}
+
+/// How many lines stand before that of a rank.
+fn column_of(frame: &Frame, rank: u16) -> u64
+    ensures value { result ≡ column_of_lem frame.now rank }
+    ensures within { result ≤ 256 }
+{
+    count_chosen(front(&frame.chosen, rank as usize)) as u64
+}
 
 /// How far apart the lines of ranks stand.
 pub fn gap_of(frame: &Frame) -> u64
     ensures value { result ≡ lane_gap frame.now }
     ensures within { result ≤ 150 }
 {
-    (1240 / (frame.lanes as u64 + 1)).min(150)
+    (1240 / (column_of(frame, frame.lanes) + 1)).min(150)
 }
 
 /// Whether labels have room between the lines of ranks.
@@ -36,16 +69,32 @@ pub fn x_of(frame: &Frame, rank: u8) -> u64
     ensures value { result ≡ lane_x frame.now rank }
     ensures within { (340 ≤ result) × (result ≤ 38740) }
 {
-    340 + gap_of(frame) * rank as u64
+    340 + gap_of(frame) * column_of(frame, rank as u16)
+}
+
+/// How far from the top a row stands.
+pub fn row_of(row: u64) -> u64
+    ensures value { result ≡ row_y row }
+    ensures within { (70 ≤ result) × (result ≤ 20000000) }
+{
+    let row = row.min(MAX_ROW);
+    70 + 18 * row + 30 * (row / 40)
+}
+
+/// The stamp before the first one of a picture, where the lines of the ranks begin.
+pub fn top(frame: &Frame) -> u32
+    ensures value { result ≡ top_of frame.now }
+    ensures within { result ≤ 1000000 }
+{
+    frame.span.first.saturating_sub(1).min(MAX_TOP) as u32
 }
 
 /// How far from the top a stamp stands.
-pub fn y_of(stamp: u64) -> u64
-    ensures value { result ≡ stamp_y stamp }
+pub fn y_of(frame: &Frame, stamp: u64) -> u64
+    ensures value { result ≡ stamp_y frame.now stamp }
     ensures within { (70 ≤ result) × (result ≤ 20000000) }
 {
-    let row = stamp.min(MAX_STAMP);
-    70 + 18 * row + 30 * (row / 40)
+    row_of(stamp.saturating_sub(top(frame) as u64))
 }
 
 /// Where the lines of the ranks end.
@@ -53,12 +102,12 @@ pub fn foot(frame: &Frame) -> u64
     ensures value { result ≡ foot_y frame.now }
     ensures within { result ≤ 20000000 }
 {
-    y_of(frame.bottom as u64 + 1)
+    y_of(frame, frame.bottom as u64 + 1)
 }
 
 /// How wide the picture is.
 pub fn width(frame: &Frame) -> u64
     ensures { result ≡ width_of frame.now }
 {
-    (340 + gap_of(frame) * frame.lanes as u64).max(560)
+    (340 + gap_of(frame) * column_of(frame, frame.lanes)).max(560)
 }

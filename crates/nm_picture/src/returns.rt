@@ -18,9 +18,9 @@ fn push_shaft(out: &mut String, frame: &Frame, way: &Return) -> Result<(), Alloc
 {
     let ends = Ends {
         x1: x_of(frame, way.from),
-        y1: y_of(way.left),
+        y1: y_of(frame, way.left),
         x2: x_of(frame, way.to),
-        y2: y_of(way.came),
+        y2: y_of(frame, way.came),
     };
     push_line_tag(out, "back", ends)
 }
@@ -53,9 +53,9 @@ fn push_at(
     event: &Event,
 ) -> Result<(), AllocError>
     ensures ok { OnOk result (string_bytes out.new ≡ string_bytes out.old
-        ++ flat_map (return_text frame.now) (returns_at frame.now.end ranks.now rank event.now)) }
+        ++ flat_map (return_text frame.now) (returns_at frame.now.span ranks.now rank event.now)) }
 {
-    match return_at(frame.end, ranks, rank, event) {
+    match return_at(frame.span, ranks, rank, event) {
         Some(way) => push_return(out, frame, &way),
         None => Ok(()),
     }
@@ -70,7 +70,7 @@ fn push_returns_of_rank(
     account: &RankAccount,
 ) -> Result<(), AllocError>
     ensures ok { OnOk result (string_bytes out.new ≡ string_bytes out.old
-        ++ flat_map (return_text frame.now) (returns_of frame.now.end ranks.now rank account.now)) }
+        ++ flat_map (return_text frame.now) (returns_of frame.now.span ranks.now rank account.now)) }
 {
     for event in account.history.as_slice() {
         push_at(out, frame, ranks, rank, event)?;
@@ -86,7 +86,7 @@ pub fn push_returns(
 ) -> Result<(), AllocError>
     requires few { length ranks.now ≤ 256 }
     ensures ok { OnOk result (string_bytes out.new ≡ string_bytes out.old
-        ++ flat_map (return_text frame.now) (all_returns frame.now.end ranks.now)) }
+        ++ flat_map (return_text frame.now) (all_returns frame.now.span ranks.now)) }
 {
     for (rank, account) in ranks.iter().enumerate() {
         push_returns_of_rank(out, frame, ranks, rank as u8, account)?;

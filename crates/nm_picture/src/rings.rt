@@ -18,7 +18,7 @@ fn push_ring_tag(out: &mut String, frame: &Frame, ring: &Ring) -> Result<(), All
     ensures ok { OnOk result
         (string_bytes out.new ≡ string_bytes out.old ++ ring_tag frame.now ring.now) }
 {
-    push_use(out, "left", x_of(frame, ring.lane), y_of(ring.stamp))
+    push_use(out, "left", x_of(frame, ring.lane), y_of(frame, ring.stamp))
 }
 
 /// Writes its title.
@@ -52,9 +52,9 @@ fn push_at(
 ) -> Result<(), AllocError>
     ensures ok { OnOk result (string_bytes out.new ≡ string_bytes out.old
         ++ flat_map (ring_text frame.now)
-        (rings_at frame.now.end rank events.now pairs.now event.now)) }
+        (rings_at frame.now.span rank events.now pairs.now event.now)) }
 {
-    match ring_at(frame.end, rank, events, pairs, event) {
+    match ring_at(frame.span, rank, events, pairs, event) {
         Some(ring) => push_ring(out, frame, &ring),
         None => Ok(()),
     }
@@ -69,7 +69,7 @@ fn push_rings_among(
     events: &[Event],
 ) -> Result<(), AllocError>
     ensures ok { OnOk result (string_bytes out.new ≡ string_bytes out.old
-        ++ flat_map (ring_text frame.now) (rings_among frame.now.end rank events.now)) }
+        ++ flat_map (ring_text frame.now) (rings_among frame.now.span rank events.now)) }
 {
     let pairs = all_pairs(alloc, events)?;
     for event in events {
@@ -87,7 +87,7 @@ fn push_rings_of_rank(
     account: &RankAccount,
 ) -> Result<(), AllocError>
     ensures ok { OnOk result (string_bytes out.new ≡ string_bytes out.old
-        ++ flat_map (ring_text frame.now) (rings_of frame.now.end rank account.now)) }
+        ++ flat_map (ring_text frame.now) (rings_of frame.now.span rank account.now)) }
 {
     let events = account.history.as_slice();
     if is_short(events) {
@@ -106,7 +106,7 @@ pub fn push_rings(
 ) -> Result<(), AllocError>
     requires few { length ranks.now ≤ 256 }
     ensures ok { OnOk result (string_bytes out.new ≡ string_bytes out.old
-        ++ flat_map (ring_text frame.now) (all_rings frame.now.end ranks.now)) }
+        ++ flat_map (ring_text frame.now) (all_rings frame.now.span ranks.now)) }
 {
     for (rank, account) in ranks.iter().enumerate() {
         push_rings_of_rank(alloc, out, frame, rank as u8, account)?;

@@ -5,4 +5,4 @@ use Rattle.nm_diagram.proofs.anchors.first_stamp.Given as goal
 -- it is not among those that were looked at
 abbrev pub invariant-loop-event : goal.invariant-loop-event
 invariant-loop-event l =
-    first_stamp l.end l.anchor (drop l.event-index l.events) ≡ first_stamp l.end l.anchor l.events
+    first_stamp l.span l.anchor (drop l.event-index l.events) ≡ first_stamp l.span l.anchor l.events

@@ -1,7 +1,7 @@
 use Rattle.std.proofs.Common.{◌≡◌, ◌-◌, ◌^◌, min, take, sum_by}
-use Rattle.nm_diagram.specs.Frames.{hidden_of}
+use Rattle.nm_diagram.specs.Frames.{later_count}
 use Rattle.nm_diagram.proofs.frames.count_left_out.Given as goal
 
 abbrev pub invariant-loop-account : goal.invariant-loop-account
 invariant-loop-account l =
-    l.count ≡ min (sum_by (hidden_of l.end) (take l.account-index l.ranks)) (2 ^ 64 - 1)
+    l.count ≡ min (sum_by (later_count l.end) (take l.account-index l.ranks)) (2 ^ 64 - 1)

@@ -5,6 +5,7 @@ use Rattle.nm_diagram.proofs.frames.find_bottom.Given as goal
 abbrev pub invariant-loop-account : goal.invariant-loop-account
 invariant-loop-account l =
     record {
-      so_far : latest_of_all l.end l.bottom (drop l.account-index l.ranks) ≡ latest_of_all l.end 0 l.ranks;
+      so_far : latest_of_all l.span l.bottom (drop l.account-index l.ranks)
+          ≡ latest_of_all l.span l.span.first l.ranks;
       within : l.bottom ≤ 1000000;
     }

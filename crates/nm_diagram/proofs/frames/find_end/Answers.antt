@@ -6,6 +6,6 @@ pub loop-beyond-init : goal.loop-beyond-init
 loop-beyond-init c = record {
   apart = omega arith;
   within = omega arith;
-  few = omega (arith, none_shown_at_all c.args.ranks.now);
+  few = omega (arith, none_shown_at_all c.args.asked.first c.args.ranks.now);
   most = inl refl;
 }

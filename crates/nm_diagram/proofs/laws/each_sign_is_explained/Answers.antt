@@ -24,4 +24,4 @@ pub returns-clause-waits : goal.returns-clause-waits
 returns-clause-waits c = waits-explained
 
 pub returns-clause-used : goal.returns-clause-used
-returns-clause-used c end ranks = only-used (is_used end ranks) all_signs
+returns-clause-used c span ranks = only-used (is_used span ranks) all_signs

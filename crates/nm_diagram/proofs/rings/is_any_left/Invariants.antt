@@ -6,4 +6,4 @@ use Rattle.nm_diagram.proofs.rings.is_any_left.Given as goal
 -- none was found so far
 abbrev pub invariant-loop-account : goal.invariant-loop-account
 invariant-loop-account l =
-    list_any (has_left l.end) (drop l.account-index l.ranks) ≡ list_any (has_left l.end) l.ranks
+    list_any (has_left l.span) (drop l.account-index l.ranks) ≡ list_any (has_left l.span) l.ranks

@@ -11,7 +11,7 @@ loop-rank-preserved c =
     let ranks = c.args.ranks.now in
     let rank = c.loop-rank.rank in
     let account = c.index-ranks-rank in
-    let arrows = arrows_of c.args.frame.now.end ranks in
+    let arrows = arrows_of c.args.frame.now.span ranks in
     let text = arrow_text c.args.frame.now in
     let found = slice_get_read ranks _ rank account.result refl c.loop-rank-test.true account.is in
     next_written (λ l. flat_map text (from_lane arrows rank l))

@@ -7,5 +7,5 @@ use Rattle.nm_picture.proofs.arrows.push_arrows.Given as goal
 abbrev pub invariant-loop-rank : goal.invariant-loop-rank
 invariant-loop-rank l =
     string_bytes l.out ++ flat_map (arrow_text l.frame)
-    (from_lane (arrows_of l.frame.end l.ranks) l.rank (drop l.rank l.ranks))
-    ≡ string_bytes l.fn.out ++ flat_map (arrow_text l.frame) (from_lane (arrows_of l.frame.end l.ranks) 0 l.ranks)
+    (from_lane (arrows_of l.frame.span l.ranks) l.rank (drop l.rank l.ranks))
+    ≡ string_bytes l.fn.out ++ flat_map (arrow_text l.frame) (from_lane (arrows_of l.frame.span l.ranks) 0 l.ranks)

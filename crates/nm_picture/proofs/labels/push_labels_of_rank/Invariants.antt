@@ -7,6 +7,6 @@ use Rattle.nm_picture.proofs.labels.push_labels_of_rank.Given as goal
 abbrev pub invariant-loop-event : goal.invariant-loop-event
 invariant-loop-event l =
     string_bytes l.out ++ flat_map (label_text l.frame)
-    (flat_map (labels_at l.frame.end l.rank) (drop l.event-index l.account.history.events))
+    (flat_map (labels_at l.frame.span l.rank) (drop l.event-index l.account.history.events))
     ≡ string_bytes l.fn.out ++ flat_map (label_text l.frame)
-    (flat_map (labels_at l.frame.end l.rank) l.account.history.events)
+    (flat_map (labels_at l.frame.span l.rank) l.account.history.events)

@@ -5,7 +5,7 @@ use Rattle.nm_diagram.proofs.FrameLemmas.{frame-same}
 use Rattle.nm_picture.proofs.laws.a_run_has_one_picture.Goals as goal
 
 pub returns : goal.returns
-returns c run a b p q =
+returns c part run a b p q =
     p.drawn
-    ∙ ap (λ f. picture_text f run.ranks) (frame-same run.ranks p.frame q.frame p.of_ranks q.of_ranks)
+    ∙ ap (λ f. picture_text f run.ranks) (frame-same part run.ranks p.frame q.frame p.of_ranks q.of_ranks)
     ∙ sym q.drawn

@@ -1,6 +1,9 @@
--- The law is a lemma.
-use Rattle.nm_picture.proofs.AlikeLemmas.{alike-picture}
+-- The laws are lemmas.
+use Rattle.nm_picture.proofs.AlikeLemmas.{alike-part, alike-picture}
 use Rattle.nm_picture.proofs.laws.alike_runs_have_one_picture.Goals as goal
 
-pub returns : goal.returns
-returns c = alike-picture
+pub returns-clause-whole : goal.returns-clause-whole
+returns-clause-whole c = alike-picture
+
+pub returns-clause-part : goal.returns-clause-part
+returns-clause-part c = alike-part

@@ -12,7 +12,7 @@ loop-rank-preserved c =
     let ranks = c.args.ranks.now in
     let rank = c.loop-rank.rank in
     let account = c.index-ranks-rank in
-    let links = links_of c.args.frame.now.end in
+    let links = links_of c.args.frame.now.span in
     let text = link_text c.args.frame.now in
     let found = slice_get_read ranks _ rank account.result refl c.loop-rank-test.true account.is in
     next_written (λ l. flat_map text (from_lane links rank l))

@@ -8,6 +8,6 @@ use Rattle.nm_picture.proofs.links.push_links_among.Given as goal
 abbrev pub invariant-loop-pair : goal.invariant-loop-pair
 invariant-loop-pair l =
     string_bytes l.out ++ flat_map (link_text l.frame)
-    (flat_map (link_of l.frame.end l.rank l.events) (drop l.pair-index l.pair-items))
+    (flat_map (link_of l.frame.span l.rank l.events) (drop l.pair-index l.pair-items))
     ≡ string_bytes l.fn.out ++ flat_map (link_text l.frame)
-    (flat_map (link_of l.frame.end l.rank l.events) (matched_pairs l.events))
+    (flat_map (link_of l.frame.span l.rank l.events) (matched_pairs l.events))

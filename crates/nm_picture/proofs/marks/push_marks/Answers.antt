@@ -11,7 +11,7 @@ loop-rank-preserved c =
     let ranks = c.args.ranks.now in
     let rank = c.loop-rank.rank in
     let account = c.index-ranks-rank in
-    let marks = marks_of c.args.frame.now.end in
+    let marks = marks_of c.args.frame.now.span in
     let text = mark_text c.args.frame.now in
     let found = slice_get_read ranks _ rank account.result refl c.loop-rank-test.true account.is in
     next_written (λ l. flat_map text (from_lane marks rank l))

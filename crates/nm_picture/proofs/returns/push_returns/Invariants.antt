@@ -8,5 +8,5 @@ use Rattle.nm_picture.proofs.returns.push_returns.Given as goal
 abbrev pub invariant-loop-rank : goal.invariant-loop-rank
 invariant-loop-rank l =
     string_bytes l.out ++ flat_map (return_text l.frame)
-    (from_lane (returns_of l.frame.end l.ranks) l.rank (drop l.rank l.ranks))
-    ≡ string_bytes l.fn.out ++ flat_map (return_text l.frame) (from_lane (returns_of l.frame.end l.ranks) 0 l.ranks)
+    (from_lane (returns_of l.frame.span l.ranks) l.rank (drop l.rank l.ranks))
+    ≡ string_bytes l.fn.out ++ flat_map (return_text l.frame) (from_lane (returns_of l.frame.span l.ranks) 0 l.ranks)

@@ -7,6 +7,6 @@ use Rattle.nm_picture.proofs.returns.push_returns_of_rank.Given as goal
 abbrev pub invariant-loop-event : goal.invariant-loop-event
 invariant-loop-event l =
     string_bytes l.out ++ flat_map (return_text l.frame)
-    (flat_map (returns_at l.frame.end l.ranks l.rank) (drop l.event-index l.account.history.events))
+    (flat_map (returns_at l.frame.span l.ranks l.rank) (drop l.event-index l.account.history.events))
     ≡ string_bytes l.fn.out ++ flat_map (return_text l.frame)
-    (flat_map (returns_at l.frame.end l.ranks l.rank) l.account.history.events)
+    (flat_map (returns_at l.frame.span l.ranks l.rank) l.account.history.events)

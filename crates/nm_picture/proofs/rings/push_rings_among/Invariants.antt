@@ -8,6 +8,6 @@ use Rattle.nm_picture.proofs.rings.push_rings_among.Given as goal
 abbrev pub invariant-loop-event : goal.invariant-loop-event
 invariant-loop-event l =
     string_bytes l.out ++ flat_map (ring_text l.frame)
-    (flat_map (rings_at l.frame.end l.rank l.events (matched_pairs l.events)) (drop l.event-index l.events))
+    (flat_map (rings_at l.frame.span l.rank l.events (matched_pairs l.events)) (drop l.event-index l.events))
     ≡ string_bytes l.fn.out ++ flat_map (ring_text l.frame)
-    (flat_map (rings_at l.frame.end l.rank l.events (matched_pairs l.events)) l.events)
+    (flat_map (rings_at l.frame.span l.rank l.events (matched_pairs l.events)) l.events)
