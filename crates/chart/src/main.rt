@@ -1,7 +1,7 @@
 //! Traces on standard input, pictures on standard output.
 #![tactic(auto)]
 
-use nm_chart::chart;
+use nm_chart::{chart, chart_part};
 use nm_outside::{RealSink, RealSource};
 use std::io::ErrorKind;
 use std::process::ExitCode;
@@ -11,8 +11,8 @@ use std::{env, io};
 /// The status for want of memory.
 const WANT_OF_MEMORY: u8 = 6;
 
-/// The command line's words without the program's name. Where one is no text, it is an empty one:
-/// then no words are taken either way.
+/// The command line's words without the program's name. Where one is no text, they are an empty one:
+/// then they are not taken either way.
 fn words<R: Env + AllocGlobal>(rt: &R) -> io::Result<Vec<String>> {
     let mut words = Vec::new(rt.alloc());
     let all = match env::args(rt) {
@@ -34,5 +34,10 @@ fn main(rt: HostRuntime) -> ExitCode {
     };
     let mut source = RealSource::new(rt.stdin());
     let mut sink = RealSink::new(io::writer(&rt));
-    ExitCode::from(chart(rt.alloc(), &words, &mut source, &mut sink))
+    let status = if words.is_empty() {
+        chart(rt.alloc(), &words, &mut source, &mut sink)
+    } else {
+        chart_part(rt.alloc(), &words, &mut source, &mut sink)
+    };
+    ExitCode::from(status)
 }

@@ -1,2 +1,4 @@
 mod EndLemmas
+mod KeptLemmas
+mod PartLemmas
 mod WidenedLemmas

@@ -27,14 +27,14 @@ const USAGE: &str = "usage: chart <TRACE >PICTURE
 ";
 
 /// The bytes of a line.
-fn line(alloc: Global, text: &str) -> Result<Vec<u8>, AllocError>
+pub fn line(alloc: Global, text: &str) -> Result<Vec<u8>, AllocError>
     ensures { IfOk result (λ bytes. bytes.items ≡ text.now) }
 {
     Vec::from_slice(alloc, text.as_bytes())
 }
 
 /// The line of a trace's first bad line.
-fn fault(alloc: Global, line: u32) -> Result<Vec<u8>, AllocError>
+pub fn fault(alloc: Global, line: u32) -> Result<Vec<u8>, AllocError>
     ensures { IfOk result (λ bytes. bytes.items ≡ fault_text line) }
 {
     let text = format!(in alloc; "fault trace {}\n", line)?;

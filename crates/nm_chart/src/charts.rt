@@ -16,16 +16,16 @@ use nm_types::{Memory, Shape};
 use std::alloc::Global;
 
 /// The most bytes of a trace.
-const MAX_TRACE: usize = 67108864;
+pub const MAX_TRACE: usize = 67108864;
 
 /// The status where the sink failed.
-const SINK_FAILED: u8 = 5;
+pub const SINK_FAILED: u8 = 5;
 
 /// The status for want of memory.
-const WANT_OF_MEMORY: u8 = 6;
+pub const WANT_OF_MEMORY: u8 = 6;
 
-// The record whose trace the bytes are, or their first bad line.
-fn read_bytes(alloc: Global, bytes: &[u8]) -> Result<Response, Memory>
+/// The record whose trace the bytes are, or their first bad line.
+pub fn read_bytes(alloc: Global, bytes: &[u8]) -> Result<Response, Memory>
     ensures answer { IfOk result (IsAnswerTo bytes.now) }
     ensures drawn { IfOk result CanBeDrawn }
 {

@@ -1,0 +1,11 @@
+-- What was found was said.
+use Rattle.std.proofs.Common.{inr}
+use Rattle.nm_chart.proofs.parts.chart_part.Goals as goal
+
+pub returns-clause-done : goal.returns-clause-done
+returns-clause-done g c = inr (record {
+  outcome = c.in-Ok.outcome;
+  right = c.in-Ok.ensures.outcome;
+  read = c.in-Ok.ensures.read;
+  spoken = c.deliver_outcome.ensures.spoken;
+})

@@ -1,0 +1,90 @@
+-- What the program answers where it has words: the picture of the part that they ask for.
+use Rattle.std.specs.Prelude.{◌≡◌, ℕ, ◌<◌, ◌⊎◌, Bool, true, false, List, IfSome, Option, Some, None, codes, drop}
+use Rattle.std.specs.Prelude.{get_or, length}
+use Rattle.nm_outside.specs.Told.{Appends, AppendsPart, Rose}
+use Rattle.nm_report.specs.declared.accounts.RankAccount.{RankAccount}
+use Rattle.nm_report.specs.declared.records.RunRecord.{RunRecord}
+use Rattle.nm_diagram.specs.declared.frames.Part.{Part}
+use Rattle.nm_diagram.specs.Frames.{IsSilent}
+use Rattle.nm_picture.specs.Pictures.{IsPictureIn}
+use Rattle.nm_chart_words.specs.Words.{InRange, asked_of}
+use Rattle.nm_chart.specs.declared.outcomes.Outcome.{Outcome}
+use Rattle.nm_chart.specs.declared.outcomes.Outcome.TheVariants.{Usage, Unread, Refused, Drawn}
+use Rattle.nm_chart.specs.Endings.{IsBadTrace, IsTraceOfOne, fault_text, read_of, unread}
+
+-- what is left of a rank: all where it is chosen, and nothing where it is not
+abbrev pub IsKept : Bool → RankAccount → RankAccount → Type 0
+IsKept true old new = new ≡ old
+IsKept false old new = IsSilent new
+
+-- the same of each of these ranks
+pub record AreKept (chosen : List Bool) (old new : List RankAccount) : Type 0 where
+  pub many : length new ≡ length old
+  pub each : (rank : ℕ) (none : RankAccount) → rank < length old →
+      IsKept (get_or chosen rank false) (get_or old rank none) (get_or new rank none)
+
+-- what is said of words that are not taken
+abbrev pub part_usage : List ℕ
+part_usage = codes "usage: chart [--from STAMP] [--to STAMP] [--ranks A,B,..] [--of N] <TRACE >PICTURE\n"
+
+-- the text is that of the outcome
+abbrev pub Says : Outcome → List ℕ → Type 0
+Says Usage text = text ≡ part_usage
+Says Unread text = text ≡ unread
+Says (Refused line) text = text ≡ fault_text line
+Says (Drawn run part) text = IsPictureIn part run text
+
+-- the status of an outcome that was written
+abbrev pub outcome_status : Outcome → ℕ
+outcome_status (Drawn run part) = 0
+outcome_status Usage = 2
+outcome_status Unread = 4
+outcome_status (Refused line) = 9
+
+-- a picture has room for the ranks, and the part is one
+abbrev pub CanBeShown : Outcome → Type 0
+CanBeShown (Drawn run part) = (length run.ranks ≡ 64) × InRange part
+CanBeShown _ = Unit {0}
+
+-- an outcome of bytes that were read is right: what is drawn is this part of the record whose trace they are,
+-- with nothing of the ranks that are not chosen
+abbrev pub IsFoundIn : Part → List ℕ → Outcome → Type 0
+IsFoundIn part bytes (Drawn kept drawn) =
+    (drawn ≡ part) × (run : RunRecord) × IsTraceOfOne bytes run × AreKept part.chosen run.ranks kept.ranks
+IsFoundIn part bytes (Refused line) = IsBadTrace bytes line
+IsFoundIn part bytes _ = ⊥
+
+-- an outcome is right: by the words, by the bytes of the source where it tells them, and by its count of faults
+-- before and after
+abbrev pub IsOutcome : List (List ℕ) → Option (List ℕ) → ℕ → ℕ → Outcome → Type 0
+IsOutcome words input old new Usage = asked_of words ≡ None
+IsOutcome words input old new Unread = ((part : Part) × (asked_of words ≡ Some part)) × Rose old new
+IsOutcome words input old new outcome =
+    (part : Part) × (asked_of words ≡ Some part) × IfSome input (λ bytes. IsFoundIn part (read_of bytes) outcome)
+
+-- the source was read
+abbrev pub WasTaken : Outcome → Type 0
+WasTaken Usage = ⊥
+WasTaken Unread = ⊥
+WasTaken _ = Unit {0}
+
+-- Unless a read failed, the count of faults of the source is as it was, and where it was read, then to its end or
+-- to the limit.
+pub record IsTakenIn (words : List (List ℕ)) (input left : Option (List ℕ)) (old new : ℕ) (outcome : Outcome)
+    : Type 0 where
+  pub quiet : (outcome ≡ Unread → ⊥) → new ≡ old
+  pub whole : WasTaken outcome → IfSome input (λ bytes. left ≡ Some (drop 67108865 bytes))
+
+-- the text of an outcome was written, whole and with its status, or the sink failed, which took a front of it
+abbrev pub IsSpoken : Outcome → ℕ → Option (List ℕ) → Option (List ℕ) → Type 0 → Type 0
+IsSpoken outcome status old new fails = (text : List ℕ) × Says outcome text ×
+    (((status ≡ outcome_status outcome) × Appends old new text)
+    ⊎ ((status ≡ 5) × fails × AppendsPart old new text))
+
+-- what is right to say of the words and the bytes was said
+pub record IsDone (words : List (List ℕ)) (input left : Option (List ℕ)) (old new : ℕ)
+    (before after : Option (List ℕ)) (fails : Type 0) (status : ℕ) : Type 0 where
+  pub outcome : Outcome
+  pub right : IsOutcome words input old new outcome
+  pub read : IsTakenIn words input left old new outcome
+  pub spoken : IsSpoken outcome status before after fails
