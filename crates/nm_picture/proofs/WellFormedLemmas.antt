@@ -22,6 +22,9 @@ use Rattle.nm_diagram.specs.declared.returns.Return.{Return}
 use Rattle.nm_diagram.specs.declared.rings.Ring.{Ring}
 use Rattle.nm_diagram.specs.Left.{all_rings}
 use Rattle.nm_diagram.specs.Legend.{legend_of}
+use Rattle.nm_picture.specs.declared.flags.Flag.{Flag}
+use Rattle.nm_picture.specs.declared.flags.Flag.TheVariants.{Event, Behind}
+use Rattle.nm_picture.specs.Flags.{behind_note, event_note, flag_ring, flag_text, flagged_text, has_lane, is_place_in}
 use Rattle.nm_picture.specs.Sheet.{sheet_text}
 use Rattle.nm_diagram.specs.Returns.{all_returns}
 use Rattle.nm_diagram.specs.Signs.{name_of, words_of}
@@ -589,3 +592,47 @@ picture-well_formed frame ranks =
     behind Before (Between svg) (front_text frame ranks) (shapes_text frame ranks ++ codes "</g>\n</svg>\n")
     (front-read frame ranks)
     ∙ behind (Between svg) (Between svg) (shapes_text frame ranks) (codes "</g>\n</svg>\n") (shapes-read frame ranks)
+
+-- flags
+abbrev in_circle : List (List ℕ)
+in_circle = codes "circle" ∷ svg
+
+flag_ring-read : (x y : ℕ) → Keeps (flag_ring x y)
+unfolding flag_ring
+flag_ring-read x y =
+    value-number in_circle x (codes "\" cy=\"" ++ (decimal y ++ codes "\"></circle>\n"))
+    ∙ value-number in_circle y (codes "\"></circle>\n")
+
+event_note-read : (line : ℕ) → Keeps (event_note line)
+unfolding event_note
+event_note-read line = text-number (codes "text") svg line (codes " breaks a rule</text>\n")
+
+behind_note-read : (rank : ℕ) → Keeps (behind_note rank)
+unfolding behind_note
+behind_note-read rank = text-number (codes "text") svg rank (codes " breaks a rule at its end</text>\n")
+
+keeps-if : (b : Bool) (text : List ℕ) → Keeps text → Keeps (cond b text [])
+keeps-if true text h = h
+keeps-if false text h = refl
+
+flag-read : (frame : Frame) (flag : Option Flag) → Keeps (flag_text frame flag)
+flag-read frame None = refl
+flag-read frame (Some (Event rank stamp line)) =
+    let ring = flag_ring (lane_x frame rank) (stamp_y frame stamp) in
+    keeps-append (event_note line) (cond (is_place_in frame rank stamp) ring []) (event_note-read line)
+    (keeps-if (is_place_in frame rank stamp) ring (flag_ring-read (lane_x frame rank) (stamp_y frame stamp)))
+flag-read frame (Some (Behind rank)) =
+    let ring = flag_ring (lane_x frame rank) (foot_y frame) in
+    keeps-append (behind_note rank) (cond (has_lane frame rank) ring []) (behind_note-read rank)
+    (keeps-if (has_lane frame rank) ring (flag_ring-read (lane_x frame rank) (foot_y frame)))
+
+pub flagged-well_formed : (frame : Frame) (ranks : List RankAccount) (flag : Option Flag) →
+    IsWellFormed (flagged_text frame ranks flag)
+unfolding flagged_text
+flagged-well_formed frame ranks flag =
+    let last : List ℕ = codes "</g>\n</svg>\n" in
+    behind Before (Between svg) (front_text frame ranks) (shapes_text frame ranks ++ (flag_text frame flag ++ last))
+    (front-read frame ranks)
+    ∙ behind (Between svg) (Between svg) (shapes_text frame ranks) (flag_text frame flag ++ last)
+    (shapes-read frame ranks)
+    ∙ behind (Between svg) (Between svg) (flag_text frame flag) last (flag-read frame flag)

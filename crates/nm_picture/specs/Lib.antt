@@ -1,3 +1,4 @@
+pub mod Flags
 pub mod Markup
 pub mod Pictures
 pub mod Sheet

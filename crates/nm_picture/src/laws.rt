@@ -1,11 +1,13 @@
 //! What follows from the text of a picture. Each law is the contract of a function that does nothing.
 
-ghost use Rattle.std.specs.Prelude.{◌≡◌, ℕ, ◌≤◌, true, List, length};
+ghost use Rattle.std.specs.Prelude.{◌≡◌, ℕ, ◌≤◌, true, List, Option, length};
 ghost use Rattle.std.specs.List.{AllByRecursion};
 ghost use Rattle.nm_report.specs.declared.records.RunRecord.{RunRecord};
 ghost use Rattle.nm_diagram.specs.declared.frames.Part.{Part};
 ghost use Rattle.nm_diagram.specs.Alike.{AreAlike};
 ghost use Rattle.nm_diagram.specs.Signs.{all_signs};
+ghost use Rattle.nm_picture.specs.declared.flags.Flag.{Flag};
+ghost use Rattle.nm_picture.specs.Flags.{IsFlaggedIn};
 ghost use Rattle.nm_picture.specs.Markup.{escaped, is_plain};
 ghost use Rattle.nm_picture.specs.Pictures.{IsPictureIn, IsPictureOf};
 ghost use Rattle.nm_picture.specs.Sheet.{all_stand, are_drawn, covers, none_stands, strokes};
@@ -36,8 +38,10 @@ pub fn alike_runs_have_one_picture()
 
 /// A picture is well-formed markup: each tag is closed where it has to be, and no text holds one.
 pub fn a_picture_is_well_formed()
-    ensures { (part : Part) (run : RunRecord) (text : List ℕ) → IsPictureIn part run text →
+    ensures plain { (part : Part) (run : RunRecord) (text : List ℕ) → IsPictureIn part run text →
         IsWellFormed text }
+    ensures flagged { (part : Part) (flag : Option Flag) (run : RunRecord) (text : List ℕ) →
+        IsFlaggedIn part flag run text → IsWellFormed text }
 {}
 
 /// What is between tags holds no tag.

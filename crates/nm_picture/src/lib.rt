@@ -3,7 +3,8 @@
 //! # What a contract sees
 //! The record of a run, and bytes as a list of numbers. What a picture shows, `nm_diagram` says, by
 //! lists of shapes. `specs/Pictures` has the text of each shape, and of all of them in order, `Sheet`
-//! what stands in each picture, and `WellFormed` what well-formed markup is.
+//! what stands in each picture, `Flags` the flag at a place, which a picture may have, and
+//! `WellFormed` what well-formed markup is.
 //! # What is proved
 //! - The picture is a function of the record: its text is exactly that of those lists, in order.
 //! - `laws`: a part of a run has one picture, the same with silent ranks behind its own, and it is
@@ -14,6 +15,7 @@
 
 mod arrows;
 mod axis;
+mod flags;
 mod labels;
 pub mod laws;
 mod legend;
@@ -28,4 +30,5 @@ mod sheet;
 mod tags;
 mod words;
 
-pub use pictures::{picture, picture_in};
+pub use flags::Flag;
+pub use pictures::{flagged_picture, picture, picture_in};

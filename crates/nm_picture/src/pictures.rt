@@ -3,10 +3,12 @@
 ghost use Rattle.std.specs.Prelude.{◌≡◌, ◌≤◌, ◌++◌, IfOk, OnOk, length, string_bytes};
 ghost use Rattle.nm_picture.specs.Pictures.{IsPictureIn, IsPictureOf, arrows_text, front_text};
 ghost use Rattle.nm_picture.specs.Pictures.{marks_text, picture_text, shapes_text};
+ghost use Rattle.nm_picture.specs.Flags.{IsFlaggedIn, flagged_text};
 ghost use Rattle.nm_picture.specs.Sheet.{sheet_text};
 
 use crate::arrows::push_arrows;
 use crate::axis::push_axis;
+use crate::flags::{Flag, push_flag};
 use crate::labels::push_labels;
 use crate::legend::push_legend;
 use crate::links::push_links;
@@ -116,6 +118,45 @@ fn push_all(
     push_front(alloc, out, frame, ranks)?;
     push_shapes(alloc, out, frame, ranks)?;
     out.push_str("</g>\n</svg>\n")
+}
+
+/// Writes the whole picture, with a flag.
+#[tactic(auto, unfolding(crate::specs::Flags::flagged_text))]
+fn push_flagged(
+    alloc: Global,
+    out: &mut String,
+    frame: &Frame,
+    ranks: &[RankAccount],
+    flag: Option<Flag>,
+) -> Result<(), AllocError>
+    requires few { length ranks.now ≤ 256 }
+    requires lanes { frame.now.lanes ≤ length ranks.now }
+    ensures ok { OnOk result
+        (string_bytes out.new ≡ string_bytes out.old ++ flagged_text frame.now ranks.now flag) }
+{
+    push_front(alloc, out, frame, ranks)?;
+    push_shapes(alloc, out, frame, ranks)?;
+    push_flag(out, frame, flag)?;
+    out.push_str("</g>\n</svg>\n")
+}
+
+/// The picture of a part of a run, with a flag where the run breaks a rule first.
+pub fn flagged_picture(
+    alloc: Global,
+    run: &RunRecord,
+    part: Part,
+    flag: Option<Flag>,
+) -> Result<Vec<u8>, Memory>
+    requires few { length run.now.ranks ≤ 256 }
+    requires in_range { (part.span.first ≤ 1000000) × (part.span.end ≤ 1000001) }
+    requires lanes { part.lanes ≤ length run.now.ranks }
+    ensures { IfOk result (λ text. IsFlaggedIn part flag run.now text.items) }
+{
+    let ranks = run.ranks.as_slice();
+    let frame = Frame::of(ranks, part);
+    let mut out = String::new(alloc);
+    push_flagged(alloc, &mut out, &frame, ranks, flag)?;
+    Ok(out.into_bytes())
 }
 
 /// The picture of a part of a run.
