@@ -2,6 +2,7 @@
 #![tactic(auto)]
 
 use nm_chart::{chart, chart_part};
+use nm_chart_check::chart_check;
 use nm_outside::{RealSink, RealSource};
 use std::io::ErrorKind;
 use std::process::ExitCode;
@@ -34,10 +35,12 @@ fn main(rt: HostRuntime) -> ExitCode {
     };
     let mut source = RealSource::new(rt.stdin());
     let mut sink = RealSink::new(io::writer(&rt));
-    let status = if words.is_empty() {
-        chart(rt.alloc(), &words, &mut source, &mut sink)
-    } else {
-        chart_part(rt.alloc(), &words, &mut source, &mut sink)
+    let status = match words.first() {
+        None => chart(rt.alloc(), &words, &mut source, &mut sink),
+        Some(word) if word.as_bytes() == b"check".as_slice() => {
+            chart_check(rt.alloc(), &words, &mut source, &mut sink)
+        }
+        Some(_) => chart_part(rt.alloc(), &words, &mut source, &mut sink),
     };
     ExitCode::from(status)
 }
