@@ -1,4 +1,7 @@
 mod EventLemmas
+mod LineLemmas
 mod OwnLemmas
 mod RankLemmas
 mod SpotLemmas
+mod StandLemmas
+mod TextLemmas

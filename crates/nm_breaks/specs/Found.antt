@@ -11,6 +11,7 @@ use Rattle.nm_checked.specs.Checks.{IsInput, sizes}
 use Rattle.nm_checked.specs.Inputs.{HasNoCut}
 use Rattle.nm_checked.specs.declared.checks.Checked.{Checked}
 use Rattle.nm_checked.specs.declared.checks.Checked.TheVariants as checked
+use Rattle.nm_breaks.specs.Lines.{StandsAt}
 use Rattle.nm_breaks.specs.Places.{IsTracePlace}
 use Rattle.nm_breaks.specs.declared.finding.Found.{Found}
 use Rattle.nm_breaks.specs.declared.finding.Found.TheVariants.{NoTrace, NoScript, BadTrace, Judged}
@@ -31,7 +32,7 @@ abbrev pub IsTraceFound : Sizes → List Line → ℕ → List ℕ → Found →
 IsTraceFound shape lines before rest (BadTrace front line) = (front ≡ before) × IsFirstBad shape rest line
 IsTraceFound shape lines before rest (Judged front verdict place) =
     (front ≡ before) × (run : RunRecord) × IsTraceOf shape rest run × Judges lines run verdict
-    × IsTracePlace (lines_in rest) lines run verdict place
+    × IsTracePlace (lines_in rest) lines run verdict place × StandsAt rest run place
 IsTraceFound shape lines before rest _ = ⊥
 
 -- the lines before it are no script, or the trace is judged by it

@@ -13,7 +13,8 @@
 //! # What is proved
 //! - `find` tells the cases apart as `nm_checked::check` does, and its verdict is that of the same
 //!   definitions.
-//! - The place is the first one.
+//! - The place is the first one, and where it is an event, the line that is told is the one on which
+//!   it stands (`StandsAt`, `specs/Lines.antt`).
 //! # What is only tested
 //! That `find` succeeds with ample memory.
 #![tactic(auto)]
