@@ -4,4 +4,5 @@ mod OwnLemmas
 mod RankLemmas
 mod SpotLemmas
 mod StandLemmas
+mod StopLemmas
 mod TextLemmas

@@ -1,5 +1,5 @@
 -- What is found of a script and a trace in one text.
-use Rattle.std.specs.Prelude.{◌≡◌, ◌==◌, ℕ, ◌<◌, ◌⊎◌, List, filter, length}
+use Rattle.std.specs.Prelude.{◌≡◌, ℕ, ◌<◌, ◌⊎◌, List, length}
 use Rattle.nm_types.specs.declared.scripts.Line.{Line}
 use Rattle.nm_types.specs.Sizes.{Sizes}
 use Rattle.nm_script.specs.Rules.{IsFirstFault}
@@ -13,6 +13,7 @@ use Rattle.nm_checked.specs.declared.checks.Checked.{Checked}
 use Rattle.nm_checked.specs.declared.checks.Checked.TheVariants as checked
 use Rattle.nm_breaks.specs.Lines.{StandsAt}
 use Rattle.nm_breaks.specs.Places.{IsTracePlace}
+use Rattle.nm_breaks.specs.Stops.{IsStop, lines_in}
 use Rattle.nm_breaks.specs.declared.finding.Found.{Found}
 use Rattle.nm_breaks.specs.declared.finding.Found.TheVariants.{NoTrace, NoScript, BadTrace, Judged}
 
@@ -20,16 +21,13 @@ use Rattle.nm_breaks.specs.declared.finding.Found.TheVariants.{NoTrace, NoScript
 abbrev pub checked_of : Found → Checked
 checked_of NoTrace = checked.NoTrace
 checked_of (NoScript line kind) = checked.NoScript line kind
-checked_of (BadTrace before line) = checked.BadTrace line
+checked_of (BadTrace before line stop) = checked.BadTrace line
 checked_of (Judged before verdict place) = checked.Judged verdict
-
--- how many lines there are, each with its line feed
-abbrev pub lines_in : List ℕ → ℕ
-lines_in bytes = length (filter (λ b. b == 10) bytes)
 
 -- behind so many lines, the trace is judged by the script's lines, and breaks the rule there first; or it is none
 abbrev pub IsTraceFound : Sizes → List Line → ℕ → List ℕ → Found → Type 0
-IsTraceFound shape lines before rest (BadTrace front line) = (front ≡ before) × IsFirstBad shape rest line
+IsTraceFound shape lines before rest (BadTrace front line stop) =
+    (front ≡ before) × IsFirstBad shape rest line × IsStop shape rest line stop
 IsTraceFound shape lines before rest (Judged front verdict place) =
     (front ≡ before) × (run : RunRecord) × IsTraceOf shape rest run × Judges lines run verdict
     × IsTracePlace (lines_in rest) lines run verdict place × StandsAt rest run place

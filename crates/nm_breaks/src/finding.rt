@@ -1,6 +1,6 @@
 //! What is found of a script and a trace in one text.
 
-ghost use Rattle.std.specs.Prelude.{◌≡◌, ◌≤◌, ℕ, IfOk, List, length};
+ghost use Rattle.std.specs.Prelude.{◌≡◌, ◌<◌, ◌≤◌, ℕ, IfOk, List, length};
 ghost use Rattle.nm_types.specs.declared.scripts.Line as script_line;
 ghost use Rattle.nm_script.specs.Spelled.{IsTextOf};
 ghost use Rattle.nm_report.specs.Lawful.{IsRunIn};
@@ -9,10 +9,11 @@ ghost use Rattle.nm_trace.specs.Traces.{IsTraceOf};
 ghost use Rattle.nm_check.specs.declared.verdicts.Verdict.TheVariants.{Holds};
 ghost use Rattle.nm_checked.specs.declared.checks.Checked.TheVariants as checked;
 ghost use Rattle.nm_checked.specs.Checks.{IsChecked, IsInput, sizes};
-ghost use Rattle.nm_breaks.specs.Found.{IsFound, IsScriptFound, IsTraceFound, checked_of, lines_in};
+ghost use Rattle.nm_breaks.specs.Found.{IsFound, IsScriptFound, IsTraceFound, checked_of};
 
 use crate::places::Place;
 use crate::placing::trace_place;
+use crate::stops::{Stop, lines_in, stop_at};
 use nm_check::{Verdict, judge};
 use nm_checked::cut;
 use nm_report::RunRecord;
@@ -34,11 +35,12 @@ pub enum Found {
         line: u32,
         kind: Kind,
     },
-    /// The lines behind it are no trace: those up to this one, counted behind it from 1, begin none.
-    /// So many lines stand before it.
+    /// The lines behind it are no trace: those up to this one, counted behind it from 1, begin none,
+    /// for this cause. So many lines stand before it.
     BadTrace {
         before: u32,
         line: u32,
+        stop: Stop,
     },
     /// The verdict on the trace, and where it breaks the rule first. So many lines stand before
     /// the line `---`.
@@ -47,14 +49,6 @@ pub enum Found {
         verdict: Verdict,
         place: Place,
     },
-}
-
-/// How many lines there are, each with its line feed.
-fn lines_in(bytes: &[u8]) -> u32
-    requires { length bytes.now ≤ 67108864 }
-    ensures { result ≡ lines_in bytes.now }
-{
-    bytes.iter().filter(|byte| **byte == b'\n').count() as u32
 }
 
 /// Judges the trace by its script, before which so many lines stand.
@@ -69,7 +63,7 @@ fn find_in_trace(
     requires some_cell { 1 ≤ cells }
     requires few_cells { cells ≤ 64 }
     requires few_eager { eager ≤ 4096 }
-    requires short { length rest.now ≤ 67108864 }
+    requires short { length rest.now < 67108864 }
     ensures found { IfOk result
         (IsTraceFound (sizes cells eager script.now.ranks) script.now.lines before rest.now) }
     ensures holds { (run : the_record.RunRecord) →
@@ -89,7 +83,10 @@ fn find_in_trace(
                 place,
             })
         }
-        Err(TraceFault::Bad { line }) => Ok(Found::BadTrace { before, line }),
+        Err(TraceFault::Bad { line }) => {
+            let stop = stop_at(alloc, shape, rest, line)?;
+            Ok(Found::BadTrace { before, line, stop })
+        }
         Err(TraceFault::Memory) => Err(Memory),
     }
 }
@@ -105,7 +102,7 @@ fn find_in_script(
     requires some_cell { 1 ≤ cells }
     requires few_cells { cells ≤ 64 }
     requires few_eager { eager ≤ 4096 }
-    requires short { length rest.now ≤ 67108864 }
+    requires short { length rest.now < 67108864 }
     requires short_front { length front.now ≤ 67108864 }
     ensures found { IfOk result (IsScriptFound cells eager front.now rest.now) }
     ensures holds { (ranks : ℕ) (lines : List script_line.Line) (run : the_record.RunRecord) →

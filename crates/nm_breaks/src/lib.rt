@@ -9,12 +9,16 @@
 //! (`BreaksCarriedAt` of `nm_check_between`); for a rule of rest the first event that is left
 //! unfinished, or the first rank that stands where it may not (`specs/RestBreaks.antt` of
 //! `nm_check_rest`). The cells and the end have the last two lines. Of what has not come, and of the
-//! counts of packets, no place is told.
+//! counts of packets, no place is told. `specs/Stops.antt` says what stops a text that is no trace.
 //! # What is proved
 //! - `find` tells the cases apart as `nm_checked::check` does, and its verdict is that of the same
 //!   definitions.
 //! - The place is the first one, and where it is an event, the line that is told is the one on which
 //!   it stands (`StandsAt`, `specs/Lines.antt`).
+//! - Of a text that is no trace it tells the first bad line, and what stops the text there (`IsStop`):
+//!   that there is no such line, that its line feed is missing, that it begins some trace but stands
+//!   behind lines which it can't follow, that it begins one with other numbers, that it names an event
+//!   which there isn't, or none of these.
 //! # What is only tested
 //! That `find` succeeds with ample memory.
 #![tactic(auto)]
@@ -23,6 +27,8 @@ mod finding;
 mod own;
 mod places;
 mod placing;
+mod stops;
 
 pub use finding::{Found, find};
 pub use places::Place;
+pub use stops::Stop;

@@ -67,13 +67,13 @@ never_bad bytes front rest line wide has only bad =
 no_usage : (bytes : List ℕ) (what : Found) → IsFindingOf bytes what Usage → ⊥
 no_usage bytes found.NoTrace h = cc
 no_usage bytes (found.NoScript line kind) h = cc
-no_usage bytes (found.BadTrace before line) h = cc
+no_usage bytes (found.BadTrace before line stop) h = cc
 no_usage bytes (found.Judged before verdict place) h = h
 
 no_unread : (bytes : List ℕ) (what : Found) → IsFindingOf bytes what Unread → ⊥
 no_unread bytes found.NoTrace h = cc
 no_unread bytes (found.NoScript line kind) h = cc
-no_unread bytes (found.BadTrace before line) h = cc
+no_unread bytes (found.BadTrace before line stop) h = cc
 no_unread bytes (found.Judged before verdict place) h = h
 
 -- what there is to say of the bytes that were read is what there is to say of those of the source

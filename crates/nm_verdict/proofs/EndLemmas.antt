@@ -39,7 +39,7 @@ judged_spoken Done k h = inr (inr (inl h))
 spoken : (found : Found) (k : ℕ) → k ≡ found_status found → IsSpoken k
 spoken NoTrace k h = inr (inr (inr h))
 spoken (NoScript line kind) k h = inr (inl h)
-spoken (BadTrace before line) k h = inr (inr (inr h))
+spoken (BadTrace before line stop) k h = inr (inr (inr h))
 spoken (Judged before verdict place) k h = judged_spoken verdict k h
 
 not_spoken : (k : ℕ) → (k ≡ 0 → ⊥) → (k ≡ 3 → ⊥) → (k ≡ 8 → ⊥) → (k ≡ 9 → ⊥) → IsSpoken k → ⊥
@@ -173,7 +173,7 @@ found_of line (Some all) bytes found read checked placed =
 pub zero_of : (found : Found) → checked_of found ≡ checked.Judged Holds → found_status found ≡ 0
 zero_of NoTrace h = absurd cc
 zero_of (NoScript line kind) h = absurd cc
-zero_of (BadTrace before line) h = absurd cc
+zero_of (BadTrace before line stop) h = absurd cc
 zero_of (Judged before verdict place) h = let same : verdict ≡ Holds = cc in ap verdict_status same
 
 -- a script and a trace of one of its runs that were read hold

@@ -41,7 +41,7 @@ verdict_status _ = 8
 abbrev pub found_status : Found → ℕ
 found_status NoTrace = 9
 found_status (NoScript line kind) = 3
-found_status (BadTrace before line) = 9
+found_status (BadTrace before line stop) = 9
 found_status (Judged before verdict place) = verdict_status verdict
 
 -- the status of an answer that was written

@@ -2,6 +2,8 @@
 use Rattle.std.specs.Prelude.{ℕ, List, codes}
 use Rattle.nm_script.specs.declared.faults.Kind.{Kind}
 use Rattle.nm_script.specs.declared.faults.Kind.TheVariants as kind
+use Rattle.nm_breaks.specs.declared.stops.Stop.{Stop}
+use Rattle.nm_breaks.specs.declared.stops.Stop.TheVariants as stop
 use Rattle.nm_check_rank.specs.declared.clauses.OwnClause.{OwnClause}
 use Rattle.nm_check_rank.specs.declared.clauses.OwnClause.TheVariants as own
 use Rattle.nm_check_between.specs.declared.clauses.CarriedClause.{CarriedClause}
@@ -76,3 +78,18 @@ kind_words kind.Body =
     codes "the body is not spelled right, or is too long"
 kind_words kind.BodyTotal =
     codes "all bodies up to here are longer than 67,108,864 bytes"
+
+-- what stops a text that is no trace
+abbrev pub stop_words : Stop → List ℕ
+stop_words stop.Short =
+    codes "the trace ends too soon"
+stop_words stop.Unfed =
+    codes "the last line has no line feed"
+stop_words stop.Order =
+    codes "it is out of order"
+stop_words stop.Number =
+    codes "a number in it is out of range"
+stop_words stop.Event =
+    codes "there is no such event"
+stop_words stop.Line =
+    codes "no trace begins so"

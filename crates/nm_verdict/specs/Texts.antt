@@ -9,7 +9,8 @@ use Rattle.nm_breaks.specs.declared.finding.Found.{Found}
 use Rattle.nm_breaks.specs.declared.finding.Found.TheVariants.{NoTrace, NoScript, BadTrace, Judged}
 use Rattle.nm_breaks.specs.declared.places.Place.{Place}
 use Rattle.nm_breaks.specs.declared.places.Place.TheVariants.{Event, Standing, LastLine}
-use Rattle.nm_verdict.specs.Sentences.{carried_words, kind_words, own_words, rest_words}
+use Rattle.nm_breaks.specs.declared.stops.Stop.{Stop}
+use Rattle.nm_verdict.specs.Sentences.{carried_words, kind_words, own_words, rest_words, stop_words}
 
 -- the number of a line of the whole input, by how many stand before `---`, and of the line behind it
 abbrev pub line_words : ℕ → ℕ → List ℕ
@@ -85,8 +86,8 @@ verdict_text before Done place =
     last_text before (codes "it is `done` exactly where every rank is at its end") place
 
 -- what is said of a trace that is none, behind so many lines
-abbrev pub bad_text : ℕ → ℕ → List ℕ
-bad_text before line = line_words before line ++ codes ": no trace begins so\n"
+abbrev pub bad_text : ℕ → ℕ → Stop → List ℕ
+bad_text before line stop = line_words before line ++ (codes ": " ++ (stop_words stop ++ codes "\n"))
 
 -- what is said of what was found
 abbrev pub found_text : Found → List ℕ
@@ -95,5 +96,5 @@ found_text NoTrace =
 found_text (NoScript line kind) =
     codes "line " ++ (decimal line ++ (codes " is no script: "
     ++ (kind_words kind ++ codes "\n")))
-found_text (BadTrace before line) = bad_text before line
+found_text (BadTrace before line stop) = bad_text before line stop
 found_text (Judged before verdict place) = verdict_text before verdict place

@@ -5,7 +5,9 @@ ghost use Rattle.nm_verdict.specs.Sentences.{own_words as own_words_lem};
 ghost use Rattle.nm_verdict.specs.Sentences.{carried_words as carried_words_lem};
 ghost use Rattle.nm_verdict.specs.Sentences.{rest_words as rest_words_lem};
 ghost use Rattle.nm_verdict.specs.Sentences.{kind_words as kind_words_lem};
+ghost use Rattle.nm_verdict.specs.Sentences.{stop_words as stop_words_lem};
 
+use nm_breaks::Stop;
 use nm_check::{CarriedClause, OwnClause, RestClause};
 use nm_script::Kind;
 
@@ -92,5 +94,19 @@ pub fn kind_words(clause: Kind) -> &'static str
         Kind::Number => { "an argument is no number of its range" }
         Kind::Body => { "the body is not spelled right, or is too long" }
         Kind::BodyTotal => { "all bodies up to here are longer than 67,108,864 bytes" }
+    }
+}
+
+/// What stops a text that is no trace.
+pub fn stop_words(stop: Stop) -> &'static str
+    ensures { result.now ≡ stop_words_lem stop }
+{
+    match stop {
+        Stop::Short => { "the trace ends too soon" }
+        Stop::Unfed => { "the last line has no line feed" }
+        Stop::Order => { "it is out of order" }
+        Stop::Number => { "a number in it is out of range" }
+        Stop::Event => { "there is no such event" }
+        Stop::Line => { "no trace begins so" }
     }
 }

@@ -12,8 +12,8 @@ ghost use Rattle.nm_verdict.specs.Texts.{pair_words as pair_words_lem};
 ghost use Rattle.nm_verdict.specs.Texts.{standing_words as standing_words_lem};
 ghost use Rattle.nm_verdict.specs.Texts.{verdict_text as verdict_text_lem};
 
-use crate::sentences::{carried_words, kind_words, own_words, rest_words};
-use nm_breaks::{Found, Place};
+use crate::sentences::{carried_words, kind_words, own_words, rest_words, stop_words};
+use nm_breaks::{Found, Place, Stop};
 use nm_check::{CarriedClause, OwnClause, RestClause, Verdict};
 use std::alloc::{AllocError, Global};
 
@@ -182,11 +182,11 @@ fn verdict_text(
 }
 
 /// The sentence of a trace that is none, behind so many lines.
-fn bad_text(alloc: Global, before: u32, line: u32) -> Result<String, AllocError>
-    ensures { IfOk result (λ text. string_bytes text ≡ bad_text_lem before line) }
+fn bad_text(alloc: Global, before: u32, line: u32, stop: Stop) -> Result<String, AllocError>
+    ensures { IfOk result (λ text. string_bytes text ≡ bad_text_lem before line stop) }
 {
     let at = line_words(alloc, before, line)?;
-    format!(in alloc; "{}: no trace begins so\n", at)
+    format!(in alloc; "{}: {}\n", at, stop_words(stop))
 }
 
 /// The sentence of what was found.
@@ -200,7 +200,7 @@ fn sentence(alloc: Global, found: Found) -> Result<String, AllocError>
         Found::NoScript { line, kind } => {
             format!(in alloc; "line {} is no script: {}\n", line, kind_words(kind))
         }
-        Found::BadTrace { before, line } => bad_text(alloc, before, line),
+        Found::BadTrace { before, line, stop } => bad_text(alloc, before, line, stop),
         Found::Judged {
             before,
             verdict,

@@ -2,7 +2,7 @@ use Rattle.std.proofs.Common.{◌≡◌, ◌<◌, ◌^◌, refl, subst, arith, r
 use Rattle.nm_types.specs.Sizes.{Sizes}
 use Rattle.nm_trace.specs.Traces.{IsTraceOf}
 use Rattle.nm_checked.specs.Checks.{sizes}
-use Rattle.nm_breaks.specs.Found.{lines_in}
+use Rattle.nm_breaks.specs.Stops.{lines_in}
 use Rattle.nm_breaks.specs.Places.{IsTracePlace}
 use Rattle.nm_breaks.proofs.EventLemmas.{few_events}
 use Rattle.nm_breaks.proofs.StandLemmas.{stands}
