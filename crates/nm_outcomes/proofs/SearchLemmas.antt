@@ -27,6 +27,10 @@ module _ {S : Type 0} (Goes : S → S → Type 0) (Ends : S → Type 0) (At : S 
               subst (λ (m : ℕ). IsPath Goes m swapped.0 e) rest.1 (rest.2, swapped.2, rest.4),
             )
 
+-- where at each state all moves are made, or those of one choice that are enough
+module _ {S X : Type 0} (Goes : S → S → Type 0) (Ends : S → Type 0) (At : X → S → Type 0)
+    (Chosen : X → S → S → Type 0) (enough : (x : X) → AreEnough Goes Ends (At x) (Chosen x))
+  where
     pub ends_found : (Found : S → Type 0) → ((s : S) → Found s → IsExplored Goes At Chosen Found s) →
         (n : ℕ) (s e : S) → Found s → IsPath Goes n s e → Ends e → Found e
     ends_found Found explored zero s e found path ends = subst Found path found
@@ -36,6 +40,6 @@ module _ {S : Type 0} (Goes : S → S → Type 0) (Ends : S → Type 0) (At : S 
         by_kind : IsExplored Goes At Chosen Found s → ((t : S) → Found t → IsPath Goes n t e → Found e) → Found e
         by_kind (inl all) more = more path.0 (all path.0 path.1) path.2
         by_kind (inr some) more =
-            let first = chosen_first (suc n) s e some.0 path ends in
+            let first = chosen_first Goes Ends (At some.0) (Chosen some.0) (enough some.0) (suc n) s e some.1 path ends in
             let same : first.0 ≡ n = (let one = first.1 in omega (arith, one)) in
-            more first.2 (some.1 first.2 first.3) (subst (λ (m : ℕ). IsPath Goes m first.2 e) same first.4)
+            more first.2 (some.2 first.2 first.3) (subst (λ (m : ℕ). IsPath Goes m first.2 e) same first.4)
