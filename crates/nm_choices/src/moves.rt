@@ -128,7 +128,7 @@ fn push_command(
 
 /// Adds what the next command of a rank may do, and the answers that it may have.
 #[tactic(auto, using(crate::proofs::KeptLemmas::only_all))]
-fn push_deeds(view: View, i: u8, rank: &Rank, turns: &mut Vec<Turn>) -> Result<(), Memory>
+pub fn push_deeds(view: View, i: u8, rank: &Rank, turns: &mut Vec<Turn>) -> Result<(), Memory>
     ensures kept { OnOk result (Keeps turns.old.items turns.new.items) }
     ensures added { length view.entry.lines.now < 4294967293 → OnOk result ((d : deed.Deed) →
         IsAct view.entry.eager view.entry.lines.now

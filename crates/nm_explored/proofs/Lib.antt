@@ -1,5 +1,9 @@
+mod CalmLemmas
+mod ChosenLemmas
+mod ExpandLemmas
 pub mod MetLemmas
 pub mod RestLemmas
+mod SeenLemmas
 pub mod SetLemmas
 pub mod StoreLemmas
 pub mod TellLemmas

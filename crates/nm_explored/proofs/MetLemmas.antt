@@ -26,8 +26,8 @@ use Rattle.nm_choices.specs.Moves.{IsChoiceOf, IsTurn, moved_at}
 use Rattle.nm_choices.proofs.KeptLemmas.{has_push, keeps_push}
 use Rattle.nm_explored.specs.declared.ends.Explored.{Explored}
 use Rattle.nm_explored.specs.declared.ends.Explored.TheVariants.{All, TooMany}
-use Rattle.nm_explored.specs.Met.{AreTooMany, IfTooMany, IsAll, IsMade, IsMet, IsSound, states_in}
-use Rattle.nm_explored.specs.Stores.{Grows, StandOnce, Store}
+use Rattle.nm_explored.specs.Met.{AreTooMany, IfTooMany, IsAll, IsMade, IsMet, IsSound}
+use Rattle.nm_explored.specs.Stores.{AreLow, Grows, StandOnce, Store, states_in}
 use Rattle.nm_explored.proofs.StoreLemmas.{get_replicate, own_place}
 
 -- a set has each element once
@@ -68,14 +68,11 @@ same_lists (x ∷ xs) (y ∷ ys) so =
     λ i. same_number x y (and_left (nat_eq x y) (pointwise nat_eq xs ys) so) i
     ∷ same_lists xs ys (and_right (nat_eq x y) (pointwise nat_eq xs ys) so) i
 
-abbrev AreLow : List Spot → List ℕ → Type 0
-AreLow table ids = (j id : ℕ) → slice_get ids j ≡ Some id → id < length table
-
 low_tail : (table : List Spot) (id : ℕ) (ids : List ℕ) → AreLow table (id ∷ ids) → AreLow table ids
 low_tail table id ids low j x here = low (suc j) x here
 
 -- the states of the ranks, as a list and by rank
-state_at : (table : List Spot) (ids : List ℕ) → AreLow table ids → (i : ℕ) →
+pub state_at : (table : List Spot) (ids : List ℕ) → AreLow table ids → (i : ℕ) →
     slice_get (states_in table ids) i ≡ spot_in table ids i
 state_at table ids low i =
     slice_get-map (λ (id : ℕ). get_or table id first_spot) ids i ∙ by_id (slice_get ids i) refl
@@ -97,7 +94,7 @@ id_kept old new id kept low =
     get_or_from_slice_get new id (get_or old id first_spot) first_spot
     (kept id (get_or old id first_spot) (slice_get-get_or old id first_spot low))
 
-states_kept : (old new : List Spot) (ids : List ℕ) → Keeps old new → AreLow old ids →
+pub states_kept : (old new : List Spot) (ids : List ℕ) → Keeps old new → AreLow old ids →
     states_in new ids ≡ states_in old ids
 states_kept old new [] kept low = refl
 states_kept old new (id ∷ ids) kept low =
@@ -117,7 +114,7 @@ spots_kept old new ids kept low j = by_id (slice_get ids j) refl
         ∙ kept id x.0 x.1 ∙ sym x.1
         ∙ sym (ap (λ (o : Option ℕ). option_and_then (λ id. slice_get old id) o) is)
 
-low_kept : (old new : List Spot) (ids : List ℕ) → Keeps old new → AreLow old ids → AreLow new ids
+pub low_kept : (old new : List Spot) (ids : List ℕ) → Keeps old new → AreLow old ids → AreLow new ids
 low_kept old new ids kept low j id here =
     let x = get_some old id (low j id here) in place_below new id x.0 (kept id x.0 x.1)
 
@@ -154,7 +151,7 @@ same_ids table once (x ∷ a) (y ∷ b) low_a low_b same =
     tails : states_in table a ≡ states_in table b
     tails = ap (λ (ss : List Spot). behind_first ss) same
 
-low_set : (table : List Spot) (ids : List ℕ) (i id : ℕ) → AreLow table ids → i < length ids → id < length table →
+pub low_set : (table : List Spot) (ids : List ℕ) (i id : ℕ) → AreLow table ids → i < length ids → id < length table →
     AreLow table (slice_set ids i id)
 low_set table ids i id low inside below j x here = by_rank (i == j) refl
   where

@@ -20,24 +20,29 @@ use Rattle.nm_outcomes.specs.Due.{IsDue}
 use Rattle.nm_outcomes.specs.Logs.{IsLogOf, Step, events_of, history_in}
 use Rattle.nm_outcomes.specs.Outcomes.{told_at}
 use Rattle.nm_outcomes.specs.Places.{IsPlaceOf}
+use Rattle.nm_outcomes.specs.Searches as searches
 use Rattle.nm_outcomes.proofs.CallLemmas.{events_are_due}
 use Rattle.nm_outcomes.proofs.FoundLemmas.{StandAtLines, all_told as run_told, commands_in_range, script_commands}
 use Rattle.nm_outcomes.proofs.LogLemmas.{at_of, own_run, runs_have_logs}
 use Rattle.nm_outcomes.proofs.PathLemmas.{sent_within}
 use Rattle.nm_outcomes.proofs.RestLemmas.{at_rest as places_at_rest}
+use Rattle.nm_outcomes.proofs.SearchLemmas.{ends_found}
 use Rattle.nm_spots.specs.Spots.{IsSpotOf, Spot, first_spot}
 use Rattle.nm_choices.specs.Choices.{spot_in}
 use Rattle.nm_choices.specs.Lists.{Has}
 use Rattle.nm_choices.specs.Settings.{IsAt}
 use Rattle.nm_choices.proofs.ChoiceLemmas.{sends_short}
 use Rattle.nm_choices.proofs.PlacedLemmas.{are_placed, placed}
+use Rattle.nm_explored.specs.Chosen.{Acts, Goes, LetsAct}
 use Rattle.nm_explored.specs.declared.ends.End.{End}
 use Rattle.nm_explored.specs.declared.ends.Explored.{Explored}
 use Rattle.nm_explored.specs.declared.ends.Explored.TheVariants.{All, TooMany}
 use Rattle.nm_explored.specs.Ends.{AreAtRest, AreEnds, AreShort, IfAll, TellsAll, all_told, told_at_end, told_in}
-use Rattle.nm_explored.specs.Stores.{IsExplored, Store}
+use Rattle.nm_explored.specs.Stores.{IsExplored, IsThere, Store, states_in}
+use Rattle.nm_explored.proofs.ChosenLemmas.{acts_are_enough}
+use Rattle.nm_explored.proofs.MetLemmas.{state_at}
 use Rattle.nm_explored.proofs.RestLemmas.{at_rest, told_each, told_here}
-use Rattle.nm_explored.proofs.WalkLemmas.{Found, first_is_spot, walk}
+use Rattle.nm_explored.proofs.WalkLemmas.{first_is_spot, walk}
 
 get_is : {X : Type 0} (xs : List X) (k : ℕ) (x : X) → slice_get xs k ≡ Some x → slice_index_or xs k x ≡ x
 get_is [] k x here = absurd (no_item k x here)
@@ -48,6 +53,28 @@ contains : {X : Type 0} (xs : List X) (x y : X) → Has xs x → y ≡ x → Con
 contains {X} xs x y at same =
     subst (λ (z : X). Contains xs z) (sym same)
     (at.0, place_below xs at.0 x at.1, get_is xs at.0 x at.1)
+
+-- a state that is there is explored
+there_explored : (eager ranks : ℕ) (lines : List Line) (store : Store) → IsExplored eager ranks lines store →
+    (s : List Spot) → IsThere store s →
+    searches.IsExplored (Goes eager ranks lines) (LetsAct ranks lines) (Acts eager lines) (IsThere store) s
+there_explored eager ranks lines store explored s there =
+    let e = explored.expanded there.1.0 there.0 there.1.1 in
+    subst (λ (u : List Spot). searches.IsExplored (Goes eager ranks lines) (LetsAct ranks lines) (Acts eager lines)
+    (IsThere store) u) (sym e.is ∙ there.3) e.leads
+
+-- what is told at a state at rest that is there
+end_told : (ranks : ℕ) (lines : List Line) (store : Store) (ends : List End) → AreEnds ranks lines store ends →
+    (s : List Spot) → IsThere store s → AreAtRest ranks lines (λ i. slice_get s i) →
+    Has (map told_at_end ends) (all_told lines (λ i. slice_get s i) ranks)
+end_told ranks lines store ends are s there rest =
+    subst (λ (v : ℕ → Option Spot). Has (map told_at_end ends) (all_told lines v ranks)) (λ k i. same i k)
+    (are there.1.0 there.0 there.1.1
+    (subst (λ (v : ℕ → Option Spot). AreAtRest ranks lines v) (λ k i. sym (same i) k) rest))
+  where
+    same : (i : ℕ) → spot_in store.table there.0 i ≡ slice_get s i
+    same i =
+        sym (state_at store.table there.0 there.2 i) ∙ ap (λ (u : List Spot). slice_get u i) there.3
 
 pub tells_all : StandAtLines → (shape : Sizes) (lines : List Line) → IsScript shape.ranks lines → (store : Store) →
     IsExplored shape.eager shape.ranks lines store → (ends : List End) → AreEnds shape.ranks lines store ends →
@@ -61,9 +88,15 @@ tells_all stand shape lines script store explored ends are run is =
     (events_are_due shape (commands_of i lines)
     (at_of shape lines (ends_of run.ranks) (packets_of run.pairs) is.lawful i) (events_of (ends_of run.ranks) i)
     (commands.stand i) (own_run shape lines (ends_of run.ranks) (packets_of run.pairs) is.lawful i)) in
-    let found = walk shape lines commands script store explored [] log.0 explored.first tt log.1.steps due
-    (explored.found, λ j low. (first_spot, explored.idle j low, first_is_spot lines)) in
-    let v : ℕ → Option Spot = spot_in store.table found.0 in
+    let first = explored.expanded explored.found.0 explored.first explored.found.1 in
+    let start : List Spot = states_in store.table explored.first in
+    let path = walk shape lines commands script [] log.0 start tt log.1.steps due
+    (λ j low. (
+      first_spot,
+      state_at store.table explored.first first.low j ∙ explored.idle j low,
+      first_is_spot lines,
+    )) in
+    let v : ℕ → Option Spot = λ i. slice_get path.1 i in
     let ends_are : (i : ℕ) → IsPlaceOf i (commands_of i lines) (events_of (ends_of run.ranks) i)
     (placed lines log.0 i) =
     λ i. subst (λ (h : List Event). IsPlaceOf i (commands_of i lines) h (placed lines log.0 i))
@@ -72,17 +105,17 @@ tells_all stand shape lines script store explored ends are run is =
     (placed lines log.0) ends_are in
     let at : (i : ℕ) → i < shape.ranks → (s : Spot) × IsAt shape lines log.0 v i s =
     λ i low. (
-      (found.1.1 i low).0,
+      (path.3 i low).0,
       record {
         script = script;
         is_log = log.1.steps;
-        stands = found.1.1;
+        stands = path.3;
         stand = commands.stand i;
         within = sent_within shape.ranks shape.eager (commands_of i lines) (commands.stand i) (commands.addressed i)
             (history_in log.0 i) (due i);
         low = low;
-        here = (found.1.1 i low).1;
-        is = (found.1.1 i low).2;
+        here = (path.3 i low).1;
+        is = (path.3 i low).2;
       },
     ) in
     let quiet : AreAtRest shape.ranks lines v =
@@ -95,8 +128,13 @@ tells_all stand shape lines script store explored ends are run is =
     ∙ ap (λ (t : RankTold). Some t) (told_here shape lines log.0 v i (at i low).0 (at i low).1 rest)) in
     let run_is : told_of run ≡ map (told_at lines (placed lines log.0)) (range_with_len 0 shape.ranks) =
     run_told shape lines run commands is log.0 log.1 (placed lines log.0) ends_are in
+    let found = ends_found (Goes shape.eager shape.ranks lines)
+    (λ s. AreAtRest shape.ranks lines (λ i. slice_get s i)) (LetsAct shape.ranks lines) (Acts shape.eager lines)
+    (acts_are_enough shape.eager shape.ranks lines) (IsThere store)
+    (λ s there. there_explored shape.eager shape.ranks lines store explored s there) path.0 start path.1
+    (explored.first, explored.found, first.low, refl) path.2 quiet in
     contains (map told_at_end ends) (all_told lines v shape.ranks) (told_of run)
-    (are found.1.0.0 found.0 found.1.0.1 quiet) (run_is ∙ sym told)
+    (end_told shape.ranks lines store ends are path.1 found quiet) (run_is ∙ sym told)
 
 -- a script is short, and so is what it sends at once
 pub script_short : (ranks : ℕ) (lines : List Line) → IsScript ranks lines → AreShort lines

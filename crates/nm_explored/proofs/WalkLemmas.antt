@@ -1,7 +1,6 @@
--- A search that expands all states that it finds finds one for each moment of a run.
-use Rattle.std.proofs.Common.{◌≡◌, ℕ, ◌<◌, ◌==◌, ◌&&◌, ◌||◌, Bool, true, false, Option, Some, None, List, [], ◌∷◌}
-use Rattle.std.proofs.Common.{◌++◌, map, refl, sym, ◌∙◌, ap, subst, append-nil, append_assoc, length}
-use Rattle.std.specs.Prelude.{option_and_then}
+-- A run is a path of moves over the states of its ranks.
+use Rattle.std.proofs.Common.{◌≡◌, ◌⊎◌, inl, inr, ℕ, suc, ◌<◌, ◌==◌, ◌&&◌, ◌||◌, Bool, true, false, Option, Some, None}
+use Rattle.std.proofs.Common.{List, [], ◌∷◌, ◌++◌, map, refl, sym, ◌∙◌, ap, subst, append-nil, append_assoc, length}
 use Rattle.std.specs.List.{find, list_any, slice_get, slice_set}
 use Rattle.std.proofs.lemmas.Bool.{false≢true}
 use Rattle.std.proofs.Math.Bool.{or-false}
@@ -23,21 +22,19 @@ use Rattle.nm_history.proofs.EachLemmas.{AtEach-prefix}
 use Rattle.nm_pairing.specs.Queues.{free_messages, open_receives}
 use Rattle.nm_facts.proofs.Lists.{get_set_other, get_set_same, place_below}
 use Rattle.nm_facts.proofs.Numbers.{differ, same_number}
-use Rattle.nm_facts.proofs.Options.{no_some, same_some}
 use Rattle.nm_outcomes.specs.Due.{IsDue}
 use Rattle.nm_outcomes.specs.Logs.{IsLog, MayCome, MayComeAfter, Step, history_in}
 use Rattle.nm_outcomes.specs.Paths.{AreCommands}
 use Rattle.nm_outcomes.specs.Places.{IsProper, is_quiet, pair_by}
+use Rattle.nm_outcomes.specs.Searches.{IsPath}
 use Rattle.nm_outcomes.proofs.LogLemmas.{grown_here, grown_other, log-push}
 use Rattle.nm_outcomes.proofs.PathLemmas.{history_at, history_split, sent_within}
 use Rattle.nm_spots.specs.Deeds.{post_of_lem}
 use Rattle.nm_spots.specs.Spots.{IsSpotOf, Spot, first_spot}
 use Rattle.nm_spots.proofs.SpotLemmas.{came_next, deeds_same, known_next, next, paired_next, place_at, taken_next}
-use Rattle.nm_choices.specs.Choices.{spot_in}
-use Rattle.nm_choices.specs.Lists.{Has}
 use Rattle.nm_choices.specs.Moves.{AreSpots, moved_at}
 use Rattle.nm_choices.proofs.ChoiceLemmas.{events_are_choices}
-use Rattle.nm_explored.specs.Stores.{IsExpanded, IsExplored, Store}
+use Rattle.nm_explored.specs.Chosen.{Goes}
 
 and_none : (a b : Bool) → b ≡ false → (a && b) ≡ false
 and_none true b none = none
@@ -105,63 +102,43 @@ first_is_spot lines = record {
   withdrawn = λ from n. refl;
 }
 
-bound_some : {X Y : Type 0} (f : X → Option Y) (o : Option X) (y : Y) → option_and_then f o ≡ Some y →
-    (x : X) × (o ≡ Some x)
-bound_some f None y some = absurd (no_some y some)
-bound_some f (Some x) y some = (x, refl)
-
 module _ (shape : Sizes) (lines : List Line) (commands : AreCommands shape.ranks lines)
-    (script : IsScript shape.ranks lines) (store : Store)
-    (explored : IsExplored shape.eager shape.ranks lines store) where
+    (script : IsScript shape.ranks lines) where
   abbrev pub AllDue : List Step → Type 0
   AllDue log = (i : ℕ) → AtEach (λ b e. IsDue shape.eager (commands_of i lines) b e.what) (history_in log i)
 
-  -- a state is there, in which the ranks are after a log
-  abbrev pub Found : List Step → List ℕ → Type 0
-  Found log ids = Has store.states ids × AreSpots shape.ranks lines log (spot_in store.table ids)
+  -- the ranks are in these states after a log
+  abbrev pub AreHere : List Step → List Spot → Type 0
+  AreHere log s = AreSpots shape.ranks lines log (λ i. slice_get s i)
 
-  -- in a state that was expanded the ranks are in the same states
-  agreed : (log : List Step) (ids : List ℕ) → AreSpots shape.ranks lines log (spot_in store.table ids) →
-      (e : IsExpanded shape.eager shape.ranks lines store ids) → AreSpots shape.ranks lines log e.states
-  agreed log ids are e j low =
-      let s = e.agrees.all j low in
-      let t = are j low in
-      let same : t.0 ≡ s.0 = same_some t.0 s.0 (sym t.1 ∙ e.agrees.same j s.0 s.1) in
-      (s.0, s.1, subst (λ (x : Spot). IsSpotOf lines (history_in log j) x) same t.2)
+  -- so many moves lead from these states to those
+  abbrev pub IsPathOf : ℕ → List Spot → List Spot → Type 0
+  IsPathOf n s e = IsPath (Goes shape.eager shape.ranks lines) n s e
 
   -- a rank went into another state
-  moved : (before : List Step) (s : Step) (ids : List ℕ) (id : ℕ) (t : Spot) → s.rank < shape.ranks →
-      slice_get store.table id ≡ Some t → AreSpots shape.ranks lines before (spot_in store.table ids) →
+  moved : (before : List Step) (s : Step) (states : List Spot) (t : Spot) → s.rank < shape.ranks → AreHere before states →
       IsSpotOf lines (history_in before s.rank ++ s.event ∷ []) t →
-      AreSpots shape.ranks lines (before ++ s ∷ []) (spot_in store.table (slice_set ids s.rank id))
-  moved before s ids id t inside here are is j low = by_rank (s.rank == j) refl
+      AreHere (before ++ s ∷ []) (slice_set states s.rank t)
+  moved before s states t inside are is j low = by_rank (s.rank == j) refl
     where
-      below : s.rank < length ids
-      below =
-          let at = are s.rank inside in
-          let x = bound_some (λ (k : ℕ). slice_get store.table k) (slice_get ids s.rank) at.0 at.1 in
-          place_below ids s.rank x.0 x.1
-
-      at_rank : (x : Spot) × (spot_in store.table (slice_set ids s.rank id) s.rank ≡ Some x)
+      at_rank : (x : Spot) × (slice_get (slice_set states s.rank t) s.rank ≡ Some x)
           × IsSpotOf lines (history_in (before ++ s ∷ []) s.rank) x
       at_rank = (
         t,
-        ap (λ (o : Option ℕ). option_and_then (λ (k : ℕ). slice_get store.table k) o)
-            (get_set_same ids s.rank id below) ∙ here,
+        get_set_same states s.rank t (let at = are s.rank inside in place_below states s.rank at.0 at.1),
         subst (λ (h : List Event). IsSpotOf lines h t) (sym (grown_here before s)) is,
       )
 
       by_rank : (b : Bool) → (s.rank == j) ≡ b →
-          (x : Spot) × (spot_in store.table (slice_set ids s.rank id) j ≡ Some x)
+          (x : Spot) × (slice_get (slice_set states s.rank t) j ≡ Some x)
           × IsSpotOf lines (history_in (before ++ s ∷ []) j) x
       by_rank true same =
-          subst (λ (k : ℕ). (x : Spot) × (spot_in store.table (slice_set ids s.rank id) k ≡ Some x)
+          subst (λ (k : ℕ). (x : Spot) × (slice_get (slice_set states s.rank t) k ≡ Some x)
           × IsSpotOf lines (history_in (before ++ s ∷ []) k) x) (same_number s.rank j same) at_rank
       by_rank false other =
           let x = are j low in (
             x.0,
-            ap (λ (o : Option ℕ). option_and_then (λ (k : ℕ). slice_get store.table k) o)
-                (get_set_other ids s.rank j id (differ s.rank j other)) ∙ x.1,
+            get_set_other states s.rank j t (differ s.rank j other) ∙ x.1,
             subst (λ (h : List Event). IsSpotOf lines h x.0) (sym (grown_other before s j other)) x.2,
           )
 
@@ -184,37 +161,44 @@ module _ (shape : Sizes) (lines : List Line) (commands : AreCommands shape.ranks
       by_rank false other at =
           (at.0, at.1, subst (λ (h : List Event). IsSpotOf lines h at.0) (sym (grown_other before s j other)) at.2)
 
-  step : (before : List Step) (s : Step) (ids : List ℕ) → IsLog shape lines before →
+  -- no move or one leads to the states after one step more
+  step : (before : List Step) (s : Step) (states : List Spot) → IsLog shape lines before →
       MayCome shape lines (history_in before) s.rank s.event →
       ((i : ℕ) → AtEach (λ b e. IsDue shape.eager (commands_of i lines) b e.what) (history_in before i)) →
       IsDue shape.eager (commands_of s.rank lines) (history_in before s.rank) s.event.what →
-      Found before ids → (out : List ℕ) × Found (before ++ s ∷ []) out
-  step before s ids is may front due found = by_kind (is_quiet s.event.what) refl
+      AreHere before states →
+      AreHere (before ++ s ∷ []) states
+      ⊎ ((u : List Spot) × Goes shape.eager shape.ranks lines states u × AreHere (before ++ s ∷ []) u)
+  step before s states is may front due are = by_kind (is_quiet s.event.what) refl
     where
-      by_kind : (b : Bool) → is_quiet s.event.what ≡ b → (out : List ℕ) × Found (before ++ s ∷ []) out
-      by_kind true quiet = (ids, (found.0, quiet_are before s (spot_in store.table ids) quiet found.1))
+      by_kind : (b : Bool) → is_quiet s.event.what ≡ b →
+          AreHere (before ++ s ∷ []) states
+          ⊎ ((u : List Spot) × Goes shape.eager shape.ranks lines states u × AreHere (before ++ s ∷ []) u)
+      by_kind true quiet = inl (quiet_are before s (λ i. slice_get states i) quiet are)
       by_kind false loud =
-          let e = explored.expanded found.0.0 ids found.0.1 in
-          let spots = agreed before ids found.1 e in
-          let sp = e.agrees.all s.rank may.within in
-          let chosen = events_are_choices shape lines before e.states s.rank s.event sp.0 script is spots
+          let sp = are s.rank may.within in
+          let chosen = events_are_choices shape lines before (λ i. slice_get states i) s.rank s.event sp.0 script is are
           (commands.stand s.rank)
           (sent_within shape.ranks shape.eager (commands_of s.rank lines) (commands.stand s.rank)
           (commands.addressed s.rank) (history_in before s.rank) (front s.rank)) may due loud sp.1 in
-          let lead = e.leads s.rank may.within sp.0 sp.1 chosen.by chosen.choice in (
-            slice_set ids s.rank lead.id,
+          inr (
+            slice_set states s.rank (moved_at sp.0 chosen.by),
             (
-              lead.state,
-              moved before s ids lead.id (moved_at sp.0 chosen.by) may.within lead.spot found.1 chosen.state,
+              record { rank = s.rank; by = chosen.by },
+              may.within,
+              record { spot = sp.0; here = sp.1; choice = chosen.choice },
+              refl,
             ),
+            moved before s states (moved_at sp.0 chosen.by) may.within are chosen.state,
           )
 
-  pub walk : (before steps : List Step) (ids : List ℕ) → IsLog shape lines before →
-      MayComeAfter shape lines before steps → AllDue (before ++ steps) → Found before ids →
-      (out : List ℕ) × Found (before ++ steps) out
-  walk before [] ids is each due found =
-      (ids, subst (λ (log : List Step). Found log ids) (sym (append-nil before)) found)
-  walk before (s ∷ steps) ids is each due found =
+  -- moves lead to the states after all steps
+  pub walk : (before steps : List Step) (states : List Spot) → IsLog shape lines before →
+      MayComeAfter shape lines before steps → AllDue (before ++ steps) → AreHere before states →
+      (n : ℕ) × (u : List Spot) × IsPathOf n states u × AreHere (before ++ steps) u
+  walk before [] states is each due are =
+      (0, states, refl, subst (λ (log : List Step). AreHere log states) (sym (append-nil before)) are)
+  walk before (s ∷ steps) states is each due are =
       let front : (i : ℕ) → AtEach (λ b e. IsDue shape.eager (commands_of i lines) b e.what) (history_in before i) =
       λ i. AtEach-prefix (λ b e. IsDue shape.eager (commands_of i lines) b e.what) (history_in before i)
       (history_in (s ∷ steps) i)
@@ -226,8 +210,27 @@ module _ (shape : Sizes) (lines : List Line) (commands : AreCommands shape.ranks
       (subst (λ (h : List Event). AtEach (λ b e. IsDue shape.eager (commands_of s.rank lines) b e.what) h)
       (history_split before (s ∷ steps) s.rank
       ∙ ap (λ (h : List Event). history_in before s.rank ++ h) (history_at s steps)) (due s.rank)) in
-      let next = step before s ids is each.0 front now found in
-      let rest = walk (before ++ s ∷ []) steps next.0 (log-push shape lines [] before s is each.0) each.1
+      by_step (step before s states is each.0 front now are)
+      (λ u here. walk (before ++ s ∷ []) steps u (log-push shape lines [] before s is each.0) each.1
       (λ i. subst (λ (log : List Step). AtEach (λ b e. IsDue shape.eager (commands_of i lines) b e.what)
-      (history_in log i)) (sym (append_assoc before (s ∷ []) steps)) (due i)) next.1 in
-      (rest.0, subst (λ (log : List Step). Found log rest.0) (append_assoc before (s ∷ []) steps) rest.1)
+      (history_in log i)) (sym (append_assoc before (s ∷ []) steps)) (due i)) here)
+    where
+      by_step : AreHere (before ++ s ∷ []) states
+          ⊎ ((u : List Spot) × Goes shape.eager shape.ranks lines states u × AreHere (before ++ s ∷ []) u) →
+          ((u : List Spot) → AreHere (before ++ s ∷ []) u →
+          (n : ℕ) × (w : List Spot) × IsPathOf n u w × AreHere ((before ++ s ∷ []) ++ steps) w) →
+          (n : ℕ) × (u : List Spot) × IsPathOf n states u × AreHere (before ++ s ∷ steps) u
+      by_step (inl quiet) later =
+          let rest = later states quiet in (
+            rest.0,
+            rest.1,
+            rest.2,
+            subst (λ (log : List Step). AreHere log rest.1) (append_assoc before (s ∷ []) steps) rest.3,
+          )
+      by_step (inr go) later =
+          let rest = later go.0 go.2 in (
+            suc rest.0,
+            rest.1,
+            (go.0, go.1, rest.2),
+            subst (λ (log : List Step). AreHere log rest.1) (append_assoc before (s ∷ []) steps) rest.3,
+          )

@@ -1,13 +1,13 @@
 -- States that the ranks of a script come into, and how many there are.
-use Rattle.std.specs.Prelude.{◌≡◌, ℕ, ◌<◌, Some, List, [], ◌∷◌, length, map, replicate}
-use Rattle.std.specs.List.{slice_get, slice_index_or, slice_set}
+use Rattle.std.specs.Prelude.{◌≡◌, ℕ, ◌<◌, Some, List, [], ◌∷◌, length, replicate}
+use Rattle.std.specs.List.{slice_get, slice_set}
 use Rattle.nm_types.specs.declared.scripts.Line.{Line}
 use Rattle.nm_spots.specs.Spots.{Spot, first_spot}
 use Rattle.nm_choices.specs.declared.moves.Turn.{Turn}
 use Rattle.nm_choices.specs.Moves.{IsTurn, moved_at}
 use Rattle.nm_explored.specs.declared.ends.Explored.{Explored}
 use Rattle.nm_explored.specs.declared.ends.Explored.TheVariants.{All, TooMany}
-use Rattle.nm_explored.specs.Stores.{StandOnce, Store}
+use Rattle.nm_explored.specs.Stores.{AreLow, StandOnce, Store, states_in}
 
 -- these moves, the newest first, lead to a state from the first one, in which no rank did anything
 abbrev pub IsWay : ℕ → ℕ → List Line → List Turn → List Spot → Type 0
@@ -38,13 +38,9 @@ abbrev pub IsAll : Explored → Type 0
 IsAll (All ends) = Unit {0}
 IsAll TooMany = ⊥
 
--- the states of the ranks, of which these are the numbers
-abbrev pub states_in : List Spot → List ℕ → List Spot
-states_in table ids = map (λ id. slice_index_or table id first_spot) ids
-
 -- the states of the ranks are in the table, and moves lead to them
 pub record IsSound (eager ranks : ℕ) (lines : List Line) (table : List Spot) (ids : List ℕ) : Type 0 where
-  pub low : (j id : ℕ) → slice_get ids j ≡ Some id → id < length table
+  pub low : AreLow table ids
   pub met : IsMet eager ranks lines (states_in table ids)
 
 -- each state is there once, and moves lead to it

@@ -1,12 +1,12 @@
 -- The states that a search has found.
-use Rattle.std.specs.Prelude.{◌≡◌, ℕ, ◌<◌, Option, Some, List, [], ◌∷◌}
-use Rattle.std.specs.List.{slice_get, slice_set}
+use Rattle.std.specs.Prelude.{◌≡◌, ℕ, ◌<◌, Some, List, [], ◌∷◌, length, map}
+use Rattle.std.specs.List.{slice_get, slice_index_or, slice_set}
 use Rattle.nm_types.specs.declared.scripts.Line.{Line}
+use Rattle.nm_outcomes.specs.Searches as searches
 use Rattle.nm_spots.specs.Spots.{Spot, first_spot}
-use Rattle.nm_choices.specs.declared.moves.Move.{Move}
 use Rattle.nm_choices.specs.Choices.{spot_in}
 use Rattle.nm_choices.specs.Lists.{Has, Keeps}
-use Rattle.nm_choices.specs.Moves.{IsChoiceOf, moved_at}
+use Rattle.nm_explored.specs.Chosen.{Acts, Goes, LetsAct}
 
 -- no element stands at two places
 abbrev pub StandOnce : {X : Type 0} → List X → Type 0
@@ -22,11 +22,18 @@ pub record Grows (old new : Store) : Type 0 where
   pub table : Keeps old.table new.table
   pub states : Keeps old.states new.states
 
--- each rank of each state is in some state
-abbrev pub IsWhole : ℕ → Store → Type 0
-IsWhole ranks store =
-    (k : ℕ) (ids : List ℕ) → slice_get store.states k ≡ Some ids → (j : ℕ) → j < ranks →
-    (s : Spot) × (spot_in store.table ids j ≡ Some s)
+-- the states of the ranks, of which these are the numbers
+abbrev pub states_in : List Spot → List ℕ → List Spot
+states_in table ids = map (λ id. slice_index_or table id first_spot) ids
+
+-- these are numbers of states in the table
+abbrev pub AreLow : List Spot → List ℕ → Type 0
+AreLow table ids = (j id : ℕ) → slice_get ids j ≡ Some id → id < length table
+
+-- a state of all ranks is there
+abbrev pub IsThere : Store → List Spot → Type 0
+IsThere store state =
+    (ids : List ℕ) × Has store.states ids × AreLow store.table ids × (states_in store.table ids ≡ state)
 
 -- the state is there that comes of this one where rank i goes into another state
 pub record Leads (store : Store) (ids : List ℕ) (i : ℕ) (s : Spot) : Type 0 where
@@ -34,18 +41,12 @@ pub record Leads (store : Store) (ids : List ℕ) (i : ℕ) (s : Spot) : Type 0 
   pub spot : slice_get store.table id ≡ Some s
   pub state : Has store.states (slice_set ids i id)
 
--- these are the states of the ranks
-pub record Agrees (ranks : ℕ) (store : Store) (ids : List ℕ) (v : ℕ → Option Spot) : Type 0 where
-  pub all : (j : ℕ) → j < ranks → (s : Spot) × (v j ≡ Some s)
-  pub same : (j : ℕ) (s : Spot) → v j ≡ Some s → spot_in store.table ids j ≡ Some s
-
--- all moves of a state lead to states that are there
+-- The moves of a state lead to states that are there: all of them, or those that are enough.
 pub record IsExpanded (eager ranks : ℕ) (lines : List Line) (store : Store) (ids : List ℕ) : Type 0 where
-  pub states : ℕ → Option Spot
-  pub agrees : Agrees ranks store ids states
-  pub leads :
-      (i : ℕ) → i < ranks → (spot : Spot) → states i ≡ Some spot → (by : Move) →
-      IsChoiceOf eager ranks lines states i spot by → Leads store ids i (moved_at spot by)
+  pub state : List Spot
+  pub low : AreLow store.table ids
+  pub is : states_in store.table ids ≡ state
+  pub leads : searches.IsExplored (Goes eager ranks lines) (LetsAct ranks lines) (Acts eager lines) (IsThere store) state
 
 -- each of the first states is expanded
 abbrev pub AreExpanded : ℕ → ℕ → List Line → Store → ℕ → Type 0
@@ -59,7 +60,8 @@ pub record IsFirst (ranks : ℕ) (store : Store) : Type 0 where
   pub only : store.states ≡ ids ∷ []
   pub idle : (j : ℕ) → j < ranks → spot_in store.table ids j ≡ Some first_spot
 
--- all states are there that moves lead to from the first one, in which no rank did anything
+-- A state is there, in which no rank did anything, and of each state that is there, all that its moves, or
+-- those of them that are enough, lead to.
 pub record IsExplored (eager ranks : ℕ) (lines : List Line) (store : Store) : Type 0 where
   pub first : List ℕ
   pub found : Has store.states first

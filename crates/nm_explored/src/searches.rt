@@ -7,14 +7,16 @@ ghost use Rattle.nm_spots.specs.Spots as spots;
 ghost use Rattle.nm_choices.specs.Choices.{spot_in};
 ghost use Rattle.nm_choices.specs.Lists.{Has, Keeps};
 ghost use Rattle.nm_choices.specs.declared.moves.Turn as the_turn;
-ghost use Rattle.nm_choices.specs.Moves.{AreMovesOf, AreSendsShort, IsTurn, moved_at};
+ghost use Rattle.nm_choices.specs.Moves.{AreSendsShort, IsTurn, moved_at};
+ghost use Rattle.nm_explored.specs.Chosen.{AreEnoughTurns};
 ghost use Rattle.nm_explored.specs.Met.{IsMade};
-ghost use Rattle.nm_explored.specs.Stores.{AreExpanded, Grows, IsExpanded, IsFirst, IsWhole, Leads};
+ghost use Rattle.nm_explored.specs.Stores.{AreExpanded, Grows, IsExpanded, IsFirst, Leads};
 ghost use Rattle.nm_explored.specs.Stores.{StandOnce};
 
+use crate::chosen::enough;
 use crate::stores::{States, Table, Way};
 use nm_choices::choices::View;
-use nm_choices::moves::{Turn, moved, turns};
+use nm_choices::moves::{Turn, moved};
 use nm_spots::ranks::Rank;
 use nm_types::{Line, Memory};
 use std::alloc::Global;
@@ -77,12 +79,11 @@ impl Search {
         Ok(Search { table, states })
     }
 
-    /// The moves at the state with a number.
+    /// Moves that are enough at the state with a number.
     fn turns_at(&self, alloc: Global, of: Setting, k: usize) -> Result<Vec<Turn>, Memory>
-        ensures all { length of.entry.lines.now < 4294967293 → IfOk result (λ turns. (ids : List ℕ) →
-            slice_get self.now.states k ≡ Some ids → (i : ℕ) → i < of.entry.ranks →
-            AreMovesOf of.entry.eager of.entry.ranks of.entry.lines.now (spot_in self.now.table ids) i
-            turns.items) }
+        ensures enough { length of.entry.lines.now < 4294967293 → IfOk result (λ turns. (ids : List ℕ) →
+            slice_get self.now.states k ≡ Some ids → AreEnoughTurns of.entry.eager of.entry.ranks
+            of.entry.lines.now (spot_in self.now.table ids) turns.items) }
         ensures only { length of.entry.lines.now < 4294967293 → AreSendsShort of.entry.lines.now →
             IfOk result (λ turns. (ids : List ℕ) → slice_get self.now.states k ≡ Some ids →
             (t : the_turn.Turn) → Has turns.items t →
@@ -96,7 +97,7 @@ impl Search {
                     table: self.table.as_slice(),
                     ids: state.as_slice(),
                 };
-                turns(alloc, view, of.ranks)
+                enough(alloc, view, of.ranks)
             }
             None => Ok(Vec::new(alloc)),
         }
@@ -152,7 +153,6 @@ impl Search {
     /// Adds the state that a move leads to.
     fn follow(&mut self, alloc: Global, k: usize, turn: Turn) -> Result<(), Memory>
         ensures grows { OnOk result (Grows self.old self.new) }
-        ensures whole { OnOk result ((ranks : ℕ) → IsWhole ranks self.old → IsWhole ranks self.new) }
         ensures leads { OnOk result ((ids : List ℕ) (spot : spots.Spot) →
             slice_get self.old.states k ≡ Some ids →
             spot_in self.old.table ids turn.rank ≡ Some spot →
@@ -171,12 +171,11 @@ impl Search {
         Ok(())
     }
 
-    /// Adds all states that a move leads to.
+    /// Adds the states that enough moves lead to.
     fn expand(&mut self, alloc: Global, of: Setting, k: usize) -> Result<(), Memory>
         ensures grows { OnOk result (Grows self.old self.new) }
-        ensures whole { OnOk result ((ranks : ℕ) → IsWhole ranks self.old → IsWhole ranks self.new) }
         ensures expanded { length of.entry.lines.now < 4294967293 →
-            IsWhole of.entry.ranks self.old → OnOk result ((ids : List ℕ) →
+            IsMade of.entry.eager of.entry.ranks of.entry.lines.now self.old → OnOk result ((ids : List ℕ) →
             slice_get self.old.states k ≡ Some ids →
             IsExpanded of.entry.eager of.entry.ranks of.entry.lines.now self.new ids) }
         ensures made { length of.entry.lines.now < 4294967293 → AreSendsShort of.entry.lines.now →
@@ -190,11 +189,12 @@ impl Search {
         Ok(())
     }
 
-    /// Finds all states, unless they are more than the limit. Answers whether it found all.
+    /// Finds the states that enough moves lead to, unless they are more than the limit. Answers whether it
+    /// found all of these.
     pub fn run(&mut self, alloc: Global, of: Setting, limit: u32) -> Result<bool, Memory>
         ensures grows { OnOk result (Grows self.old self.new) }
-        ensures all { length of.entry.lines.now < 4294967293 →
-            IsWhole of.entry.ranks self.old → IfOk result (λ all. IsTrue all →
+        ensures all { length of.entry.lines.now < 4294967293 → AreSendsShort of.entry.lines.now →
+            IsMade of.entry.eager of.entry.ranks of.entry.lines.now self.old → IfOk result (λ all. IsTrue all →
             AreExpanded of.entry.eager of.entry.ranks of.entry.lines.now self.new
             (length self.new.states)) }
         ensures made { length of.entry.lines.now < 4294967293 → AreSendsShort of.entry.lines.now →

@@ -5,7 +5,7 @@ use Rattle.nm_types.specs.Limits.{IsScript}
 use Rattle.nm_explored.specs.Ends.{AreEnds, AreShort, IfAll, TellsAll}
 use Rattle.nm_explored.specs.Met.{AreTooMany, IfTooMany, IsAll}
 use Rattle.nm_explored.proofs.MetLemmas.{all_not_many, too_many_of}
-use Rattle.nm_explored.proofs.StoreLemmas.{explored_by, first_whole}
+use Rattle.nm_explored.proofs.ExpandLemmas.{explored_by}
 use Rattle.nm_explored.proofs.TellLemmas.{all_weaker, explore_tells, ok_weaker, script_short}
 use Rattle.nm_explored.proofs.ends.explore.Goals as goal
 
@@ -21,8 +21,8 @@ returns-then-all-clause-all c =
     (script_short c.args.script.now.ranks c.args.script.now.lines c.args.script.now.limits) in
     let explored = explored_by c.eager.result c.ranks.result c.as_slice.result.now c.in_ok-search.search c.run.new.self
     c.in_ok-search.ensures.first c.in_ok-all.ensures.grows
-    (c.in_ok-all.ensures.all short.count (first_whole c.ranks.result c.in_ok-search.search c.in_ok-search.ensures.first)
-    c.if-all.true) in
+    (c.in_ok-all.ensures.all short.count short.sends
+    (c.in_ok-search.ensures.made c.eager.result c.as_slice.result.now) c.if-all.true) in
     ok_weaker (IfAll (AreEnds c.ranks.result c.as_slice.result.now c.run.new.self))
     (IfAll (TellsAll c.args.shape c.args.script.now.lines))
     (all_weaker (AreEnds c.ranks.result c.as_slice.result.now c.run.new.self)

@@ -8,8 +8,9 @@ use Rattle.nm_choices.specs.Choices.{spot_in}
 use Rattle.nm_choices.specs.Moves.{moved_at}
 use Rattle.nm_choices.proofs.KeptLemmas.{each_next}
 use Rattle.nm_explored.specs.Stores.{Leads}
+use Rattle.nm_explored.proofs.ExpandLemmas.{expanded_now}
 use Rattle.nm_explored.proofs.MetLemmas.{got_has, turn_here}
-use Rattle.nm_explored.proofs.StoreLemmas.{expanded_now, follow_leads, grows_then, leads_kept, spot_kept}
+use Rattle.nm_explored.proofs.StoreLemmas.{follow_leads, grows_then, leads_kept, spot_kept}
 use Rattle.nm_explored.proofs.searches.Search.expand.Goals as goal
 
 pub loop-turn-preserved : goal.loop-turn-preserved
@@ -17,7 +18,6 @@ loop-turn-preserved c =
     record {
       grows = grows_then c.args.self.now c.loop-turn.self c.follow.new.self c.loop-turn.invariant.grows
           c.in_ok-follow.ensures.grows;
-      whole = λ ranks whole. c.in_ok-follow.ensures.whole ranks (c.loop-turn.invariant.whole ranks whole);
       leads = λ ids here.
           each_next
           (λ (m : ℕ). (t : Turn) → slice_get c.deref-turn-items.result.now m ≡ Some t → (spot : Spot) →
@@ -44,14 +44,14 @@ loop-turn-preserved c =
     }
 
 pub returns-clause-expanded : goal.returns-clause-expanded
-returns-clause-expanded c few whole ids here =
+returns-clause-expanded c few made ids here =
     let past = c.loop-turn-test.false in
     let same = c.deref-turn-items.ensures.value in
     expanded_now c.args.of.eager c.args.of.ranks c.args.of.lines.now c.args.self.now c.loop-turn.self
-    c.loop-turn.invariant.grows whole c.args.k ids here c.in_ok-turns.turns.items
-    (c.in_ok-turns.ensures.all few ids here)
+    c.loop-turn.invariant.grows made c.args.k ids here c.in_ok-turns.turns.items
     (λ m t at spot there.
     let inside = place_below c.in_ok-turns.turns.items m t at in
     let long = ap (λ (ts : List Turn). length ts) same in
     let low : m < c.loop-turn.turn-index = omega (arith, inside, long, past) in
     c.loop-turn.invariant.leads ids here m low t (ap (λ (ts : List Turn). slice_get ts m) same ∙ at) spot there)
+    (c.in_ok-turns.ensures.enough few ids here)

@@ -6,14 +6,13 @@ use Rattle.nm_choices.specs.declared.moves.Turn.{Turn}
 use Rattle.nm_choices.specs.Choices.{spot_in}
 use Rattle.nm_choices.specs.Moves.{AreSendsShort, moved_at}
 use Rattle.nm_explored.specs.Met.{IsMade}
-use Rattle.nm_explored.specs.Stores.{Grows, IsWhole, Leads}
+use Rattle.nm_explored.specs.Stores.{Grows, Leads}
 use Rattle.nm_explored.proofs.searches.Search.expand.Given as goal
 
 abbrev pub invariant-loop-turn : goal.invariant-loop-turn
 invariant-loop-turn l =
     record {
       grows : Grows l.fn.self l.self;
-      whole : (ranks : ℕ) → IsWhole ranks l.fn.self → IsWhole ranks l.self;
       leads : (ids : List ℕ) → slice_get l.fn.self.states l.k ≡ Some ids → (m : ℕ) → m < l.turn-index → (t : Turn) →
           slice_get l.turn-items m ≡ Some t → (spot : Spot) → spot_in l.fn.self.table ids t.rank ≡ Some spot →
           Leads l.self ids t.rank (moved_at spot t.by);

@@ -1,4 +1,4 @@
--- Where each rank of each state is in some state, so it is after a move.
+-- Moves lead to the new state.
 use Rattle.std.proofs.Common.{◌≡◌, ◌⊎◌, List, [], ◌∷◌, ◌++◌, Some, sym, ◌∙◌, ap, subst, ℕ}
 use Rattle.std.specs.List.{slice_get, slice_set}
 use Rattle.nm_facts.proofs.Options.{same_some}
@@ -6,22 +6,8 @@ use Rattle.nm_spots.specs.Spots.{Spot}
 use Rattle.nm_choices.specs.Lists.{Keeps}
 use Rattle.nm_explored.specs.Stores.{StandOnce, Store}
 use Rattle.nm_explored.proofs.MetLemmas.{made_next}
-use Rattle.nm_explored.proofs.StoreLemmas.{whole_followed}
 use Rattle.nm_explored.proofs.searches.Search.follow.Goals as goal
 
-pub returns-clause-whole : goal.returns-clause-whole
-returns-clause-whole c ranks whole =
-    whole_followed ranks c.args.self.now c.add.new.self c.number.new.self c.args.k c.args.turn.rank c.in_ok-id.id
-    c.in-Some.after whole
-    (subst (λ (t : List Spot). Keeps t c.number.new.self) (ap (λ (s : Store). s.table) c.self.view_is)
-    c.in_ok-id.ensures.kept)
-    c.in_ok-id.ensures.there c.in_ok-add.ensures.table
-    (subst (λ (ss : List (List ℕ)). (c.add.new.self.states ≡ ss)
-    ⊎ ((ids : List ℕ) × (slice_get ss c.args.k ≡ Some ids)
-    × (c.add.new.self.states ≡ ss ++ slice_set ids c.args.turn.rank c.in_ok-id.id ∷ [])))
-    (ap (λ (s : Store). s.states) c.self.view_is) c.in_ok-add.ensures.only)
-
--- .. and moves lead to the new state
 pub returns-clause-made : goal.returns-clause-made
 returns-clause-made c eager ranks lines made turns =
     made_next eager ranks lines c.args.self.now c.add.new.self c.args.k c.args.turn c.in_ok-id.id c.in-Some.after made

@@ -2,16 +2,15 @@
 use Rattle.std.proofs.Common.{ℕ, ◌<◌, length}
 use Rattle.nm_choices.specs.Moves.{AreSendsShort}
 use Rattle.nm_explored.specs.Met.{IsMade}
-use Rattle.nm_explored.specs.Stores.{AreExpanded, Grows, IsWhole}
+use Rattle.nm_explored.specs.Stores.{AreExpanded, Grows}
 use Rattle.nm_explored.proofs.searches.Search.run.Given as goal
 
 abbrev pub invariant-loop-k : goal.invariant-loop-k
 invariant-loop-k l =
     record {
       grows : Grows l.fn.self l.self;
-      whole : (ranks : ℕ) → IsWhole ranks l.fn.self → IsWhole ranks l.self;
-      all : length l.of.lines.now < 4294967293 → IsWhole l.of.ranks l.fn.self →
-          AreExpanded l.of.eager l.of.ranks l.of.lines.now l.self l.k;
+      all : length l.of.lines.now < 4294967293 → AreSendsShort l.of.lines.now →
+          IsMade l.of.eager l.of.ranks l.of.lines.now l.fn.self → AreExpanded l.of.eager l.of.ranks l.of.lines.now l.self l.k;
       made : length l.of.lines.now < 4294967293 → AreSendsShort l.of.lines.now →
           IsMade l.of.eager l.of.ranks l.of.lines.now l.fn.self → IsMade l.of.eager l.of.ranks l.of.lines.now l.self;
     }

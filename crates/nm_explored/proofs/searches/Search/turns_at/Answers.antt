@@ -4,29 +4,30 @@ use Rattle.std.specs.List.{slice_get}
 use Rattle.nm_facts.proofs.Lists.{place_below}
 use Rattle.nm_spots.specs.Spots.{Spot}
 use Rattle.nm_choices.specs.Choices.{spot_in}
-use Rattle.nm_choices.specs.Moves.{AreMovesOf, IsTurn}
+use Rattle.nm_choices.specs.Moves.{IsTurn}
+use Rattle.nm_explored.specs.Chosen.{AreEnoughTurns}
 use Rattle.nm_explored.specs.Stores.{Store}
 use Rattle.nm_explored.proofs.StoreLemmas.{looked_up}
 use Rattle.nm_explored.proofs.TellLemmas.{ok_weaker}
 use Rattle.nm_explored.proofs.searches.Search.turns_at.Goals as goal
 
-pub returns-in-Some-clause-all : goal.returns-in-Some-clause-all
-returns-in-Some-clause-all c few =
+pub returns-in-Some-clause-enough : goal.returns-in-Some-clause-enough
+returns-in-Some-clause-enough c few =
     let table : c.as_slice-in-Some.result.now ≡ c.args.self.now.table =
     c.as_slice-in-Some.ensures ∙ ap (λ (s : Store). s.table) c.self.view_is in
     let states : c.as_slice.result.now ≡ c.args.self.now.states =
     c.as_slice.ensures ∙ ap (λ (s : Store). s.states) c.self.view_is in
     ok_weaker _ _
-    (λ turns are ids here i low.
+    (λ turns are ids here.
     let same : c.in-Some.state.now ≡ ids =
     looked_up c.as_slice.result.now c.args.k c.in-Some.state.now ids c.in-Some.ensures.lookup.3.0
     c.in-Some.ensures.lookup.3.1 (ap (λ (ss : List (List ℕ)). slice_get ss c.args.k) states ∙ here) in
-    subst (λ (x : List Spot). AreMovesOf c.args.of.eager c.args.of.ranks c.args.of.lines.now (spot_in x ids) i turns.items)
-    table
+    subst (λ (x : List Spot). AreEnoughTurns c.args.of.eager c.args.of.ranks c.args.of.lines.now (spot_in x ids)
+    turns.items) table
     (subst
-    (λ (y : List ℕ). AreMovesOf c.args.of.eager c.args.of.ranks c.args.of.lines.now
-    (spot_in c.as_slice-in-Some.result.now y) i turns.items) (c.as_slice-in-Some-2.ensures ∙ same) (are i low)))
-    c.turns.result (c.turns.ensures.all few)
+    (λ (y : List ℕ). AreEnoughTurns c.args.of.eager c.args.of.ranks c.args.of.lines.now
+    (spot_in c.as_slice-in-Some.result.now y) turns.items) (c.as_slice-in-Some-2.ensures ∙ same) are))
+    c.enough.result (c.enough.ensures.enough few)
 
 pub returns-in-Some-clause-only : goal.returns-in-Some-clause-only
 returns-in-Some-clause-only c few short =
@@ -43,10 +44,10 @@ returns-in-Some-clause-only c few short =
     (subst
     (λ (y : List ℕ). IsTurn c.args.of.eager c.args.of.ranks c.args.of.lines.now
     (spot_in c.as_slice-in-Some.result.now y) t) (c.as_slice-in-Some-2.ensures ∙ same) (are t at)))
-    c.turns.result (c.turns.ensures.only few short)
+    c.enough.result (c.enough.ensures.only few short)
 
-pub returns-in-None-clause-all : goal.returns-in-None-clause-all
-returns-in-None-clause-all c few ids here i low spot at by choice =
+pub returns-in-None-clause-enough : goal.returns-in-None-clause-enough
+returns-in-None-clause-enough c few ids here =
     let states : c.as_slice.result.now ≡ c.args.self.now.states =
     c.as_slice.ensures ∙ ap (λ (s : Store). s.states) c.self.view_is in
     let past = c.in-None.ensures.lookup.3 in

@@ -1,0 +1,126 @@
+//! Which moves are enough at a state.
+
+ghost use Rattle.std.specs.Prelude.{◌≡◌, ℕ, ◌<◌, IfOk, IfSome, IsTrue, Some, length, not};
+ghost use Rattle.std.specs.List.{list_all};
+ghost use Rattle.nm_spots.specs.declared.deeds.Deed as deed;
+ghost use Rattle.nm_spots.specs.Spots as spots;
+ghost use Rattle.nm_choices.specs.declared.moves.Move.TheVariants.{Act};
+ghost use Rattle.nm_choices.specs.declared.moves.Turn as the_turn;
+ghost use Rattle.nm_choices.specs.Choices.{spot_in};
+ghost use Rattle.nm_choices.specs.Lists.{Has};
+ghost use Rattle.nm_choices.specs.Moves.{AreSendsShort, IsAct, IsTurn};
+ghost use Rattle.nm_explored.specs.Chosen.{AreEnoughTurns, IsSettled, IsSettledBy};
+ghost use Rattle.nm_explored.specs.Chosen.{is_cancel as is_cancel_lem};
+
+use nm_asked::commands::command_of_line;
+use nm_choices::choices::{View, answer, line_at};
+use nm_choices::moves::{Turn, push_deeds, turns};
+use nm_spots::looks::ran;
+use nm_spots::ranks::Rank;
+use nm_types::{Command, Line, Memory};
+use std::alloc::Global;
+
+/// Whether a command is a cancel.
+fn is_cancel(command: &Command) -> bool
+    ensures { result ≡ is_cancel_lem command.now }
+{
+    matches!(command, Command::Cancel { .. })
+}
+
+/// Whether no command of a script is a cancel.
+fn has_no_cancel(lines: &[Line]) -> bool
+    ensures { result ≡ list_all (λ line. not (is_cancel_lem line.command)) lines.now }
+{
+    lines.iter().all(|line| !is_cancel(&line.command))
+}
+
+/// Whether no move of others changes what a command does or answers.
+fn is_settled_by(view: View, i: u8, rank: &Rank, line: u32, command: &Command) -> bool
+    ensures { IsTrue result → IsSettledBy (spot_in view.entry.table.now view.entry.ids.now)
+        view.entry.lines.now i rank.now line command.now }
+{
+    match command {
+        Command::Send { .. } => true,
+        Command::Wait { .. } => answer(view, i, rank, line, command).is_some(),
+        _ => false,
+    }
+}
+
+/// Whether no move of others changes what the next command of a rank does or answers.
+fn is_settled(view: View, i: u8, rank: &Rank) -> bool
+    ensures { length view.entry.lines.now < 4294967293 → IsTrue result →
+        IsSettled view.entry.lines.now (spot_in view.entry.table.now view.entry.ids.now) i rank.now }
+{
+    let Some(line) = line_at(view.lines, i, ran(rank.deeds())) else {
+        return false;
+    };
+    match command_of_line(view.lines, i, line) {
+        Some(command) => is_settled_by(view, i, rank, line, command),
+        None => false,
+    }
+}
+
+/// Whether a rank of a state may make the moves of its next command, and the others wait.
+fn may_lead(view: View, i: u8) -> bool
+    ensures { length view.entry.lines.now < 4294967293 → IsTrue result → (spot : spots.Spot)
+        × (spot_in view.entry.table.now view.entry.ids.now i ≡ Some spot)
+        × IsSettled view.entry.lines.now (spot_in view.entry.table.now view.entry.ids.now) i spot }
+{
+    match view.rank(i) {
+        Some(rank) => is_settled(view, i, rank),
+        None => false,
+    }
+}
+
+/// The first rank that may make the moves of its next command, and the others wait.
+fn leader(view: View, ranks: u8) -> Option<u8>
+    ensures { length view.entry.lines.now < 4294967293 → IfSome result (λ i. (i < ranks)
+        × (spot : spots.Spot) × (spot_in view.entry.table.now view.entry.ids.now i ≡ Some spot)
+        × IsSettled view.entry.lines.now (spot_in view.entry.table.now view.entry.ids.now) i spot) }
+{
+    for i in 0..ranks {
+        if may_lead(view, i) {
+            return Some(i);
+        }
+    }
+    None
+}
+
+/// The moves of the next command of a rank.
+fn acts(alloc: Global, view: View, i: u8, rank: &Rank) -> Result<Vec<Turn>, Memory>
+    ensures all { length view.entry.lines.now < 4294967293 → IfOk result (λ turns. (d : deed.Deed) →
+        IsAct view.entry.eager view.entry.lines.now
+        (spot_in view.entry.table.now view.entry.ids.now) i rank.now d →
+        Has turns.items (record { rank = i; by = Act d })) }
+    ensures only { length view.entry.lines.now < 4294967293 → AreSendsShort view.entry.lines.now →
+        IfOk result (λ turns. (t : the_turn.Turn) → Has turns.items t → (d : deed.Deed)
+        × (record { rank = i; by = Act d } ≡ t) × IsAct view.entry.eager view.entry.lines.now
+        (spot_in view.entry.table.now view.entry.ids.now) i rank.now d) }
+{
+    let mut turns = Vec::new(alloc);
+    push_deeds(view, i, rank, &mut turns)?;
+    Ok(turns)
+}
+
+/// Moves that are enough at a state: those of the next command of one rank, where no other move changes
+/// which they are, or all moves.
+pub fn enough(alloc: Global, view: View, ranks: u8) -> Result<Vec<Turn>, Memory>
+    ensures enough { length view.entry.lines.now < 4294967293 →
+        IfOk result (λ turns. AreEnoughTurns view.entry.eager ranks view.entry.lines.now
+        (spot_in view.entry.table.now view.entry.ids.now) turns.items) }
+    ensures only { length view.entry.lines.now < 4294967293 → AreSendsShort view.entry.lines.now →
+        IfOk result (λ turns. (t : the_turn.Turn) → Has turns.items t →
+        IsTurn view.entry.eager ranks view.entry.lines.now
+        (spot_in view.entry.table.now view.entry.ids.now) t) }
+{
+    if !has_no_cancel(view.lines) {
+        return turns(alloc, view, ranks);
+    }
+    match leader(view, ranks) {
+        Some(i) => match view.rank(i) {
+            Some(rank) => acts(alloc, view, i, rank),
+            None => turns(alloc, view, ranks),
+        },
+        None => turns(alloc, view, ranks),
+    }
+}
