@@ -9,6 +9,8 @@ use Rattle.std.proofs.lemmas.List.{set_comm}
 use Rattle.std.proofs.lemmas.List.Folds.{list_any-append}
 use Rattle.std.proofs.Math.Bool.{or-false}
 use Rattle.nm_types.specs.declared.messages.Arrival.{Arrival}
+use Rattle.nm_types.specs.declared.messages.Peer.{Peer}
+use Rattle.nm_types.specs.declared.messages.TagPick.{TagPick}
 use Rattle.nm_types.specs.declared.scripts.Body.{Body}
 use Rattle.nm_types.specs.declared.scripts.Command.{Command}
 use Rattle.nm_types.specs.declared.scripts.Command.TheVariants as command
@@ -40,61 +42,15 @@ use Rattle.nm_choices.specs.Lines.{line_in}
 use Rattle.nm_choices.specs.Moves.{IsAct, IsChoiceOf, IsDeedOf, IsTurn, moved_at}
 use Rattle.nm_explored.specs.Chosen.{Acts, AreCalm, Goes, HasNoCancel, IsSettled, IsSettledBy, LetsAct}
 use Rattle.nm_explored.specs.Ends.{AreAtRest, is_waiting}
+use Rattle.nm_explored.specs.Orderly.{HasNoClaim, IsOrderly, came_of}
+use Rattle.nm_explored.proofs.BehindLemmas.{arrive_behind, deed_behind, is_plain}
 use Rattle.nm_explored.proofs.CalmLemmas.{calm_next, no_withdrawal}
+use Rattle.nm_explored.proofs.OrderlyLemmas.{common_deed, new_number, orderly_next}
 use Rattle.nm_explored.proofs.SeenLemmas.{AreSeen, IsLater, act_kept, after_arrival, after_deed, later_self, next_kept}
 use Rattle.nm_explored.proofs.SeenLemmas.{seen_arrival, seen_deed, set_seen, wait_kept}
 
--- a deed that changes no queue
-abbrev is_plain : Deed → Bool
-is_plain (deed.Send to n tag ctx len how line) = true
-is_plain (deed.Ran line r) = true
-is_plain _ = false
-
--- such a deed and a message that comes may be swapped
-swapped : (x : Spot) (a : Arrival) (d : Deed) → is_claim_by a.env.from a.n d ≡ false →
-    (let s = arrived_by (record x { deeds = x.deeds ++ d ∷ [] }) a (receive_of_spot x a) in
-    record s { came = with_arrival a s.came })
-    ≡ (let s = arrived_at x a in record s { deeds = s.deeds ++ d ∷ [] })
-swapped x a d other = by_receive (receive_of_spot x a)
-  where
-    same : list_any (is_claim_by a.env.from a.n) (x.deeds ++ d ∷ []) ≡ list_any (is_claim_by a.env.from a.n) x.deeds
-    same =
-        list_any-append (is_claim_by a.env.from a.n) x.deeds (d ∷ [])
-        ∙ ap (λ (b : Bool). list_any (is_claim_by a.env.from a.n) x.deeds || (b || false)) other
-        ∙ or-false (list_any (is_claim_by a.env.from a.n) x.deeds)
-
-    by_gone : (b : Bool) →
-        (let s = cond b (record x { deeds = x.deeds ++ d ∷ [] })
-        (record x { deeds = x.deeds ++ d ∷ []; free = x.free ++ a ∷ [] }) in record s { came = with_arrival a s.came })
-        ≡ (let s = (let s = cond b x (record x { free = x.free ++ a ∷ [] }) in
-        record s { came = with_arrival a s.came }) in record s { deeds = s.deeds ++ d ∷ [] })
-    by_gone true = refl
-    by_gone false = refl
-
-    by_receive : (o : Option Receive) →
-        (let s = arrived_by (record x { deeds = x.deeds ++ d ∷ [] }) a o in record s { came = with_arrival a s.came })
-        ≡ (let s = (let s = arrived_by x a o in record s { came = with_arrival a s.came }) in
-        record s { deeds = s.deeds ++ d ∷ [] })
-    by_receive (Some r) = refl
-    by_receive None =
-        ap (λ (b : Bool). let s = cond (list_any (is_of_message a.env.from a.n) x.pairs || b
-        || list_any (is_that a.env.from a.n) x.withdrawn) (record x { deeds = x.deeds ++ d ∷ [] })
-        (record x { deeds = x.deeds ++ d ∷ []; free = x.free ++ a ∷ [] }) in record s { came = with_arrival a s.came })
-        same
-        ∙ by_gone (is_gone_at x a.env.from a.n)
-
-arrive_behind : (x : Spot) (a : Arrival) (d : Deed) → is_plain d ≡ true →
-    arrived_at (spot_after x d) a ≡ spot_after (arrived_at x a) d
-arrive_behind x a (deed.Send to n tag ctx len how line) plain = swapped x a (deed.Send to n tag ctx len how line) refl
-arrive_behind x a (deed.Ran line r) plain = swapped x a (deed.Ran line r) refl
-arrive_behind x a (deed.Post r line) plain = absurd (false≢true plain)
-arrive_behind x a (deed.Match number from n cap line) plain = absurd (false≢true plain)
-arrive_behind x a (deed.Cancel number done) plain = absurd (false≢true plain)
-arrive_behind x a (deed.Recall to n) plain = absurd (false≢true plain)
-arrive_behind x a (deed.Claim from n line) plain = absurd (false≢true plain)
-
 -- behind a message that came, a rank has its deeds and its pairs
-arrival_later : (x : Spot) (a : Arrival) → IsLater x (arrived_at x a)
+pub arrival_later : (x : Spot) (a : Arrival) → IsLater x (arrived_at x a)
 arrival_later x a =
     let form = after_arrival x a in
     subst (λ (y : Spot). IsLater x y) (sym form.3) (record {
@@ -112,6 +68,11 @@ arrival_later x a =
         (subst (λ (k : ℕ). list_any (is_of_receive k) x.pairs ≡ false) (same_number pair.number number passes) none))
         ∙ ap (λ (o : Option Pair). or_else o (find (is_of_receive number) (pair ∷ []))) here
 
+-- it and a message that comes may be swapped
+abbrev IsBehind : Spot → Deed → Type 0
+IsBehind x d =
+    (a : Arrival) → a.n ≡ came_of x a.env.from → arrived_at (spot_after x d) a ≡ spot_after (arrived_at x a) d
+
 module _ (eager ranks : ℕ) (lines : List Line) (v w : ℕ → Option Spot) (seen : AreSeen v w) (i : ℕ) (x y : Spot)
     (later : IsLater x y) (is : IsSettled lines v i x)
   where
@@ -128,7 +89,7 @@ module _ (eager ranks : ℕ) (lines : List Line) (v w : ℕ → Option Spot) (se
         by_command : (c : Command) → IsSettledBy v lines i x is.line c → IsSettledBy w lines i y is.line c
         by_command (command.Send q to tag ctx body sync) settled = tt
         by_command (command.Wait q) settled = (settled.0, wait_kept v w seen i lines x y later q settled.0 settled.1)
-        by_command (command.Recv q from tag ctx cap) settled = absurd settled
+        by_command (command.Recv q from tag ctx cap) settled = settled
         by_command (command.Test q) settled = absurd settled
         by_command (command.Probe from tag ctx) settled = absurd settled
         by_command (command.Await from tag ctx) settled = absurd settled
@@ -136,12 +97,12 @@ module _ (eager ranks : ℕ) (lines : List Line) (v w : ℕ → Option Spot) (se
         by_command (command.Mprobe m from tag ctx) settled = absurd settled
         by_command (command.Mrecv q m cap) settled = absurd settled
 
-    module _ (d : Deed) where
+    module _ (orderly : HasNoClaim lines → IsOrderly x) (d : Deed) where
       abbrev IsBefore : Command → Type 0
-      IsBefore c = IsDeedOf eager lines v i x is.line c d × (is_plain d ≡ true)
+      IsBefore c = IsDeedOf eager lines v i x is.line c d × IsBehind x d
 
-      plain_as : (e : Deed) → is_plain e ≡ true → e ≡ d → is_plain d ≡ true
-      plain_as e plain same = subst (λ (z : Deed). is_plain z ≡ true) same plain
+      plain_as : (e : Deed) → is_plain e ≡ true → e ≡ d → IsBehind x d
+      plain_as e plain same = subst (λ (z : Deed). IsBehind x z) same (λ a new. arrive_behind x a e plain)
 
       send_before : (q to tag ctx : ℕ) (body : Body) (sync : Bool) →
           IsDeedOf eager lines w i y is.line (command.Send q to tag ctx body sync) d →
@@ -157,16 +118,26 @@ module _ (eager ranks : ℕ) (lines : List Line) (v w : ℕ → Option Spot) (se
               deed.Send to (count_by (is_send_by to) y.deeds) tag ctx (body_len body) (how_of eager sync (body_len body))
               is.line
 
-          by_held : (e : Deed) (b : Bool) → (if b then Some e else None) ≡ Some d → is_plain e ≡ true → is_plain d ≡ true
+          by_held : (e : Deed) (b : Bool) → (if b then Some e else None) ≡ Some d → is_plain e ≡ true → IsBehind x d
           by_held e true begins plain = plain_as e plain (same_some e d begins)
           by_held e false begins plain = absurd (no_some d begins)
 
-          by_kind : IsDeedOf eager lines w i y is.line (command.Send q to tag ctx body sync) d → is_plain d ≡ true
+          by_kind : IsDeedOf eager lines w i y is.line (command.Send q to tag ctx body sync) d → IsBehind x d
           by_kind (inl begins) = by_held sent (may_begin y.deeds sent) begins.1 refl
           by_kind (inr (inl says)) =
               let r = mapped_some (λ (r : Reply). deed.Ran is.line r)
               (answer_in w lines i y is.line (command.Send q to tag ctx body sync)) d says in plain_as (deed.Ran is.line r.0) refl r.2
           by_kind (inr (inr denies)) = absurd (no_some d denies)
+
+      recv_before : (q : ℕ) (from : Peer) (tag : TagPick) (ctx cap : ℕ) → HasNoClaim lines →
+          IsDeedOf eager lines w i y is.line (command.Recv q from tag ctx cap) d →
+          IsBefore (command.Recv q from tag ctx cap)
+      recv_before q from tag ctx cap none does =
+          let before : IsDeedOf eager lines v i x is.line (command.Recv q from tag ctx cap) d =
+          subst (λ (ds : List Deed). IsDeedOf eager lines v i (record y { deeds = ds }) is.line
+          (command.Recv q from tag ctx cap) d) later.deeds does in
+          let common = common_deed eager lines v i x is.line d (command.Recv q from tag ctx cap) refl refl before in
+          (before, λ a new. deed_behind x (orderly none) a new d common.0 common.1)
 
       wait_before : (q : ℕ) → IsSettledBy v lines i x is.line (command.Wait q) →
           IsDeedOf eager lines w i y is.line (command.Wait q) d → IsBefore (command.Wait q)
@@ -182,7 +153,7 @@ module _ (eager ranks : ℕ) (lines : List Line) (v w : ℕ → Option Spot) (se
       wait_before q settled (inr (inr denies)) = absurd (no_some d denies)
 
       -- what it does or answers, it could have done or answered before
-      act_before : IsAct eager lines w i y d → IsAct eager lines v i x d × (is_plain d ≡ true)
+      act_before : IsAct eager lines w i y d → IsAct eager lines v i x d × IsBehind x d
       act_before act = (
         record {
           line = is.line;
@@ -213,7 +184,7 @@ module _ (eager ranks : ℕ) (lines : List Line) (v w : ℕ → Option Spot) (se
               IsBefore c
           by_command (command.Send q to tag ctx body sync) settled does = send_before q to tag ctx body sync does
           by_command (command.Wait q) settled does = wait_before q settled does
-          by_command (command.Recv q from tag ctx cap) settled does = absurd settled
+          by_command (command.Recv q from tag ctx cap) settled does = recv_before q from tag ctx cap settled does
           by_command (command.Test q) settled does = absurd settled
           by_command (command.Probe from tag ctx) settled does = absurd settled
           by_command (command.Await from tag ctx) settled does = absurd settled
@@ -235,13 +206,14 @@ module _ (eager ranks : ℕ) (lines : List Line) (i : ℕ) (s : List Spot) (at :
   -- where all others see the rank's state so, the rank's command is settled as before
   moved_on : (u : List Spot) (y : Spot) → Goes eager ranks lines s u → AreSeen (λ k. slice_get s k) (λ k. slice_get u k) →
       slice_get u i ≡ Some y → IsLater at.spot y →
-      ((d : Deed) → is_plain d ≡ true → Goes eager ranks lines (slice_set s i (spot_after at.spot d))
+      ((d : Deed) → IsBehind at.spot d → Goes eager ranks lines (slice_set s i (spot_after at.spot d))
       (slice_set u i (spot_after y d))) → IsOther u
   moved_on u y go seen here later back =
       inr (
         record {
           no_cancel = at.no_cancel;
           calm = calm_next eager ranks lines at.no_cancel s u at.calm go;
+          orderly = λ none. orderly_next eager ranks lines at.no_cancel none s u at.calm (at.orderly none) go;
           inside = at.inside;
           spot = y;
           here = here;
@@ -251,7 +223,7 @@ module _ (eager ranks : ℕ) (lines : List Line) (i : ℕ) (s : List Spot) (at :
             let same : acts.0 ≡ y = same_some acts.0 y (sym acts.1 ∙ here) in
             let act : IsAct eager lines (λ k. slice_get u k) i y acts.2 =
             subst (λ (z : Spot). IsAct eager lines (λ k. slice_get u k) i z acts.2) same acts.3 in
-            let before = act_before eager ranks lines (λ k. slice_get s k) (λ k. slice_get u k) seen i at.spot y later at.settled
+            let before = act_before eager ranks lines (λ k. slice_get s k) (λ k. slice_get u k) seen i at.spot y later at.settled (λ none. at.orderly none i at.spot at.here)
             acts.2 act in (
               slice_set s i (spot_after at.spot acts.2),
               (at.spot, at.here, acts.2, before.0, refl),
@@ -315,7 +287,7 @@ module _ (eager ranks : ℕ) (lines : List Line) (i : ℕ) (s : List Spot) (at :
               (spot_after at.spot d) at.here there (ap (λ (y : Spot). y.came) (after_deed at.spot d).3) a choice;
         },
         set_twice s i (arrived_at at.spot a) (spot_after (arrived_at at.spot a) d)
-            ∙ ap (λ (y : Spot). slice_set s i y) (sym (arrive_behind at.spot a d plain))
+            ∙ ap (λ (y : Spot). slice_set s i y) (sym (plain a (new_number ranks (λ k. slice_get s k) i at.spot at.here a choice)))
             ∙ sym (set_twice s i (spot_after at.spot d) (arrived_at (spot_after at.spot d) a)),
       )))
     where
@@ -363,7 +335,7 @@ module _ (eager ranks : ℕ) (lines : List Line) (i : ℕ) (s : List Spot) (at :
           is_waiting c ≡ true → answer_in (λ k. slice_get s k) lines i at.spot at.settled.line c ≡ None → ⊥
       by_command (command.Wait q) settled waits none = no_some settled.0 (sym none ∙ settled.1)
       by_command (command.Send q to tag ctx body sync) settled waits none = false≢true waits
-      by_command (command.Recv q from tag ctx cap) settled waits none = settled
+      by_command (command.Recv q from tag ctx cap) settled waits none = false≢true waits
       by_command (command.Test q) settled waits none = settled
       by_command (command.Probe from tag ctx) settled waits none = settled
       by_command (command.Await from tag ctx) settled waits none = settled

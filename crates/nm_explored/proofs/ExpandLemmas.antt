@@ -4,25 +4,29 @@ use Rattle.std.proofs.Common.{Option, get_or, length}
 use Rattle.std.specs.List.{slice_get, slice_set}
 use Rattle.std.proofs.lemmas.List.{map-set}
 use Rattle.std.proofs.lemmas.Option.{get_or_from_slice_get}
+use Rattle.nm_types.specs.declared.messages.Arrival.{Arrival}
 use Rattle.nm_types.specs.declared.scripts.Line.{Line}
 use Rattle.nm_facts.proofs.Lists.{get_some, place_below}
 use Rattle.nm_facts.proofs.Options.{same_some}
 use Rattle.nm_outcomes.specs.Searches as searches
 use Rattle.nm_spots.specs.declared.deeds.Deed.{Deed}
-use Rattle.nm_spots.specs.Spots.{Spot, first_spot, spot_after}
+use Rattle.nm_spots.specs.Spots.{Spot, arrived_at, first_spot, spot_after}
 use Rattle.nm_choices.specs.declared.moves.Move.{Move}
 use Rattle.nm_choices.specs.declared.moves.Move.TheVariants as move
 use Rattle.nm_choices.specs.declared.moves.Turn.{Turn}
-use Rattle.nm_choices.specs.Choices.{spot_in}
+use Rattle.nm_choices.specs.Choices.{message_next, spot_in}
 use Rattle.nm_choices.specs.Lists.{Has}
 use Rattle.nm_choices.specs.Moves.{AreMovesOf, IsAct, moved_at}
 use Rattle.nm_choices.proofs.KeptLemmas.{each_next, has_kept}
-use Rattle.nm_explored.specs.Chosen.{Acts, AreActsOfOne, AreEnoughTurns, Goes, IsSettled, LetsAct}
+use Rattle.nm_explored.specs.Chosen.{AreActsOfOne, Goes, IsSettled}
+use Rattle.nm_explored.specs.Coming.{AreEnoughAt, AreEnoughTurns, IsNamed, Makes}
+use Rattle.nm_explored.specs.Coming.Choice.{Acting, Arriving}
 use Rattle.nm_explored.specs.Met.{IsMade}
 use Rattle.nm_explored.specs.Stores.{AreExpanded, AreLow, Grows, IsExpanded, IsExplored, IsFirst, IsThere, Leads, Store}
 use Rattle.nm_explored.specs.Stores.{states_in}
 use Rattle.nm_explored.proofs.CalmLemmas.{met_calm}
 use Rattle.nm_explored.proofs.MetLemmas.{low_kept, low_set, state_at, states_kept, turn_same}
+use Rattle.nm_explored.proofs.OrderlyLemmas.{met_orderly}
 use Rattle.nm_explored.proofs.StoreLemmas.{own_place, spot_kept}
 
 pub there_kept : (a b : Store) → Grows a b → (u : List Spot) → IsThere a u → IsThere b u
@@ -49,7 +53,8 @@ leads_there store ids i x y low here lead = (
 module _ (eager ranks : ℕ) (lines : List Line) where
   abbrev AreLed : Store → List Spot → Type 0
   AreLed store state =
-      searches.IsExplored (Goes eager ranks lines) (LetsAct ranks lines) (Acts eager lines) (IsThere store) state
+      searches.IsExplored (Goes eager ranks lines) (AreEnoughAt ranks lines) (Makes eager lines) (IsThere store)
+      state
 
   led_kept : (a b : Store) → Grows a b → (state : List Spot) → AreLed a state → AreLed b state
   led_kept a b grows state (inl all) = inl (λ u go. there_kept a b grows u (all u go))
@@ -93,18 +98,32 @@ module _ (eager ranks : ℕ) (lines : List Line) where
           (spot_kept old.table new.table ids t.rank spot grows.table is)
           (leads made_it.0 t made_it.1 spot is))
 
+      named : (i from : ℕ) (a : Arrival) → IsNamed ranks (spot_in old.table ids) i from a →
+          IsNamed ranks (λ k. slice_get state k) i from a
+      named i from a is = record {
+        inside = is.inside;
+        low = is.low;
+        spot = is.spot;
+        here = at i ∙ is.here;
+        next = ap (λ (v : ℕ → Option Spot). message_next v i from) (λ j k. at k j) ∙ is.next;
+        receive = is.receive;
+        to = is.to;
+        named = is.named;
+      }
+
       by_turns : AreEnoughTurns eager ranks lines (spot_in old.table ids) turns → AreLed new state
       by_turns (inl all) =
           inl (λ u go.
           let turn = turn_same eager ranks lines (λ i. slice_get state i) (spot_in old.table ids) go.0 at go.2 in
           led go.0 go.2.spot (sym (at go.0.rank) ∙ go.2.here)
           (all go.0.rank go.1 turn.0.spot turn.0.here go.0.by turn.0.choice) u go.3)
-      by_turns (inr one) =
+      by_turns (inr (inl one)) =
           inr (
-            one.rank,
+            Acting one.rank,
             record {
               no_cancel = one.no_cancel;
               calm = met_calm eager ranks lines one.no_cancel state (made.sound k ids here).met;
+              orderly = λ none. met_orderly eager ranks lines one.no_cancel none state (made.sound k ids here).met;
               inside = one.inside;
               spot = one.spot;
               here = at one.rank ∙ one.here;
@@ -117,6 +136,28 @@ module _ (eager ranks : ℕ) (lines : List Line) where
                 (subst (λ (v : ℕ → Option Spot). IsAct eager lines v one.rank acts.0 acts.2) (λ j i. at i j) acts.3) in
                 led (record { rank = one.rank; by = move.Act acts.2 }) one.spot one.here (one.all acts.2 act) u
                 (acts.4 ∙ ap (λ (x : Spot). slice_set state one.rank (spot_after x acts.2)) is),
+          )
+      by_turns (inr (inr one)) =
+          inr (
+            Arriving one.turn.rank one.is.1,
+            record {
+              no_cancel = one.no_cancel;
+              no_claim = one.no_claim;
+              calm = met_calm eager ranks lines one.no_cancel state (made.sound k ids here).met;
+              orderly = met_orderly eager ranks lines one.no_cancel one.no_claim state (made.sound k ids here).met;
+              arrival = one.is.0;
+              is = named one.turn.rank one.is.1 one.is.0 one.is.2;
+            },
+            λ u comes.
+                let spot_is : comes.0 ≡ one.is.2.spot = same_some comes.0 one.is.2.spot
+                (sym comes.1 ∙ at one.turn.rank ∙ one.is.2.here) in
+                let is : comes.2 ≡ one.is.0 = same_some comes.2 one.is.0
+                (sym comes.3 ∙ ap (λ (v : ℕ → Option Spot). message_next v one.turn.rank one.is.1) (λ j i. at i j)
+                ∙ one.is.2.next) in
+                led one.turn one.is.2.spot one.is.2.here one.has u
+                (comes.4 ∙ ap (λ (x : Spot). slice_set state one.turn.rank (arrived_at x comes.2)) spot_is
+                ∙ ap (λ (a : Arrival). slice_set state one.turn.rank (arrived_at one.is.2.spot a)) is
+                ∙ ap (λ (m : Move). slice_set state one.turn.rank (moved_at one.is.2.spot m)) (sym one.is.3)),
           )
 
       pub expanded_now : AreEnoughTurns eager ranks lines (spot_in old.table ids) turns →

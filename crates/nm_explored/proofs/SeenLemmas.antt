@@ -392,7 +392,7 @@ module _ (v w : ℕ → Option Spot) (seen : AreSeen v w) (i : ℕ) where
     in_states u o =
         option_and_then (λ (spot : Spot). option_and_then (λ (other : Spot). at_count spot.came other) (u from)) o
 
-    coming_kept : (came : List Arrival) (a : Arrival) →
+    pub coming_kept : (came : List Arrival) (a : Arrival) →
         option_and_then (λ (other : Spot). at_count came other) (v from) ≡ Some a →
         option_and_then (λ (other : Spot). at_count came other) (w from) ≡ Some a
     coming_kept came a = by_other (v from) refl

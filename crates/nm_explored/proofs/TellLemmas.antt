@@ -33,13 +33,14 @@ use Rattle.nm_choices.specs.Lists.{Has}
 use Rattle.nm_choices.specs.Settings.{IsAt}
 use Rattle.nm_choices.proofs.ChoiceLemmas.{sends_short}
 use Rattle.nm_choices.proofs.PlacedLemmas.{are_placed, placed}
-use Rattle.nm_explored.specs.Chosen.{Acts, Goes, LetsAct}
+use Rattle.nm_explored.specs.Chosen.{Goes}
+use Rattle.nm_explored.specs.Coming.{AreEnoughAt, Makes}
 use Rattle.nm_explored.specs.declared.ends.End.{End}
 use Rattle.nm_explored.specs.declared.ends.Explored.{Explored}
 use Rattle.nm_explored.specs.declared.ends.Explored.TheVariants.{All, TooMany}
 use Rattle.nm_explored.specs.Ends.{AreAtRest, AreEnds, AreShort, IfAll, TellsAll, all_told, told_at_end, told_in}
 use Rattle.nm_explored.specs.Stores.{IsExplored, IsThere, Store, states_in}
-use Rattle.nm_explored.proofs.ChosenLemmas.{acts_are_enough}
+use Rattle.nm_explored.proofs.ComeLemmas.{choices_are_enough}
 use Rattle.nm_explored.proofs.MetLemmas.{state_at}
 use Rattle.nm_explored.proofs.RestLemmas.{at_rest, told_each, told_here}
 use Rattle.nm_explored.proofs.WalkLemmas.{first_is_spot, walk}
@@ -57,10 +58,10 @@ contains {X} xs x y at same =
 -- a state that is there is explored
 there_explored : (eager ranks : ℕ) (lines : List Line) (store : Store) → IsExplored eager ranks lines store →
     (s : List Spot) → IsThere store s →
-    searches.IsExplored (Goes eager ranks lines) (LetsAct ranks lines) (Acts eager lines) (IsThere store) s
+    searches.IsExplored (Goes eager ranks lines) (AreEnoughAt ranks lines) (Makes eager lines) (IsThere store) s
 there_explored eager ranks lines store explored s there =
     let e = explored.expanded there.1.0 there.0 there.1.1 in
-    subst (λ (u : List Spot). searches.IsExplored (Goes eager ranks lines) (LetsAct ranks lines) (Acts eager lines)
+    subst (λ (u : List Spot). searches.IsExplored (Goes eager ranks lines) (AreEnoughAt ranks lines) (Makes eager lines)
     (IsThere store) u) (sym e.is ∙ there.3) e.leads
 
 -- what is told at a state at rest that is there
@@ -129,8 +130,9 @@ tells_all stand shape lines script store explored ends are run is =
     let run_is : told_of run ≡ map (told_at lines (placed lines log.0)) (range_with_len 0 shape.ranks) =
     run_told shape lines run commands is log.0 log.1 (placed lines log.0) ends_are in
     let found = ends_found (Goes shape.eager shape.ranks lines)
-    (λ s. AreAtRest shape.ranks lines (λ i. slice_get s i)) (LetsAct shape.ranks lines) (Acts shape.eager lines)
-    (acts_are_enough shape.eager shape.ranks lines) (IsThere store)
+    (λ s. AreAtRest shape.ranks lines (λ i. slice_get s i)) (AreEnoughAt shape.ranks lines)
+    (Makes shape.eager lines)
+    (choices_are_enough shape.eager shape.ranks lines) (IsThere store)
     (λ s there. there_explored shape.eager shape.ranks lines store explored s there) path.0 start path.1
     (explored.first, explored.found, first.low, refl) path.2 quiet in
     contains (map told_at_end ends) (all_told lines v shape.ranks) (told_of run)

@@ -1,6 +1,6 @@
 -- Which moves are enough at a state: those of the next command of one rank, where no other move changes
 -- which they are or what they do.
-use Rattle.std.specs.Prelude.{◌≡◌, ◌⊎◌, ℕ, ◌<◌, Bool, true, false, not, Option, Some, List, count_by}
+use Rattle.std.specs.Prelude.{◌≡◌, ℕ, ◌<◌, Bool, true, false, not, Option, Some, List, count_by}
 use Rattle.std.specs.List.{list_all, list_any, slice_get, slice_set}
 use Rattle.nm_types.specs.declared.scripts.Command.{Command}
 use Rattle.nm_types.specs.declared.scripts.Command.TheVariants as command
@@ -15,7 +15,8 @@ use Rattle.nm_choices.specs.declared.moves.Turn.{Turn}
 use Rattle.nm_choices.specs.Choices.{answer_in}
 use Rattle.nm_choices.specs.Lines.{line_in}
 use Rattle.nm_choices.specs.Lists.{Has}
-use Rattle.nm_choices.specs.Moves.{AreMovesOf, IsAct, IsTurn, moved_at}
+use Rattle.nm_choices.specs.Moves.{IsAct, IsTurn, moved_at}
+use Rattle.nm_explored.specs.Orderly.{AreOrderly, HasNoClaim}
 
 -- some rank makes a move, which leads from these states of all ranks to others
 abbrev pub Goes : ℕ → ℕ → List Line → List Spot → List Spot → Type 0
@@ -36,12 +37,14 @@ HasNoCancel lines = list_all (λ line. not (is_cancel line.command)) lines ≡ t
 abbrev pub AreCalm : List Spot → Type 0
 AreCalm s = (i : ℕ) (spot : Spot) → slice_get s i ≡ Some spot → list_any is_cancelling_by spot.deeds ≡ false
 
--- The command is a send, or a wait of a request that may end. In a script without cancels no move of
--- another rank, and no message that comes, changes what it does or answers, nor is it in their way.
+-- The command is a send, a receive, or a wait of a request that may end. In a script without cancels no
+-- move of another rank, and no message that comes, changes what it does or answers, nor is it in their way;
+-- of a receive this is said where no message is claimed.
 abbrev pub IsSettledBy : (ℕ → Option Spot) → List Line → ℕ → Spot → ℕ → Command → Type 0
 IsSettledBy v lines i spot line (command.Send q to tag ctx body sync) = Unit {0}
 IsSettledBy v lines i spot line (command.Wait q) =
     (r : Reply) × (answer_in v lines i spot line (command.Wait q) ≡ Some r)
+IsSettledBy v lines i spot line (command.Recv q from tag ctx cap) = HasNoClaim lines
 IsSettledBy v lines i spot line _ = ⊥
 
 -- so it is with the next command of a rank in this state
@@ -56,6 +59,7 @@ pub record IsSettled (lines : List Line) (v : ℕ → Option Spot) (i : ℕ) (sp
 pub record LetsAct (ranks : ℕ) (lines : List Line) (i : ℕ) (s : List Spot) : Type 0 where
   pub no_cancel : HasNoCancel lines
   pub calm : AreCalm s
+  pub orderly : HasNoClaim lines → AreOrderly s
   pub inside : i < ranks
   pub spot : Spot
   pub here : slice_get s i ≡ Some spot
@@ -76,8 +80,3 @@ pub record AreActsOfOne (eager ranks : ℕ) (lines : List Line) (v : ℕ → Opt
   pub no_cancel : HasNoCancel lines
   pub settled : IsSettled lines v rank spot
   pub all : (d : Deed) → IsAct eager lines v rank spot d → Has turns (record { rank = rank; by = move.Act d })
-
--- these moves are enough: all are among them, or all of the next command of one rank, which is settled
-abbrev pub AreEnoughTurns : ℕ → ℕ → List Line → (ℕ → Option Spot) → List Turn → Type 0
-AreEnoughTurns eager ranks lines v turns =
-    ((i : ℕ) → i < ranks → AreMovesOf eager ranks lines v i turns) ⊎ AreActsOfOne eager ranks lines v turns

@@ -6,7 +6,8 @@ use Rattle.nm_outcomes.specs.Searches as searches
 use Rattle.nm_spots.specs.Spots.{Spot, first_spot}
 use Rattle.nm_choices.specs.Choices.{spot_in}
 use Rattle.nm_choices.specs.Lists.{Has, Keeps}
-use Rattle.nm_explored.specs.Chosen.{Acts, Goes, LetsAct}
+use Rattle.nm_explored.specs.Chosen.{Goes}
+use Rattle.nm_explored.specs.Coming.{AreEnoughAt, Makes}
 
 -- no element stands at two places
 abbrev pub StandOnce : {X : Type 0} → List X → Type 0
@@ -46,7 +47,8 @@ pub record IsExpanded (eager ranks : ℕ) (lines : List Line) (store : Store) (i
   pub state : List Spot
   pub low : AreLow store.table ids
   pub is : states_in store.table ids ≡ state
-  pub leads : searches.IsExplored (Goes eager ranks lines) (LetsAct ranks lines) (Acts eager lines) (IsThere store) state
+  pub leads : searches.IsExplored (Goes eager ranks lines) (AreEnoughAt ranks lines) (Makes eager lines) (IsThere store)
+      state
 
 -- each of the first states is expanded
 abbrev pub AreExpanded : ℕ → ℕ → List Line → Store → ℕ → Type 0

@@ -1,23 +1,28 @@
 //! Which moves are enough at a state.
 
-ghost use Rattle.std.specs.Prelude.{◌≡◌, ℕ, ◌<◌, IfOk, IfSome, IsTrue, Some, length, not};
+ghost use Rattle.std.specs.Prelude.{◌≡◌, ℕ, ◌<◌, ◌∷◌, [], IfOk, IfSome, IsTrue, Some, length, not};
 ghost use Rattle.std.specs.List.{list_all};
 ghost use Rattle.nm_spots.specs.declared.deeds.Deed as deed;
+ghost use Rattle.nm_spots.specs.declared.deeds.Receive as receive;
 ghost use Rattle.nm_spots.specs.Spots as spots;
+ghost use Rattle.nm_spots.specs.Spots.{receive_of_spot};
 ghost use Rattle.nm_choices.specs.declared.moves.Move.TheVariants.{Act};
 ghost use Rattle.nm_choices.specs.declared.moves.Turn as the_turn;
-ghost use Rattle.nm_choices.specs.Choices.{spot_in};
+ghost use Rattle.nm_choices.specs.Choices.{message_next, spot_in};
 ghost use Rattle.nm_choices.specs.Lists.{Has};
 ghost use Rattle.nm_choices.specs.Moves.{AreSendsShort, IsAct, IsTurn};
-ghost use Rattle.nm_explored.specs.Chosen.{AreEnoughTurns, IsSettled, IsSettledBy};
+ghost use Rattle.nm_explored.specs.Chosen.{IsSettled, IsSettledBy};
+ghost use Rattle.nm_explored.specs.Coming.{AreEnoughTurns, IsNamed, IsNamedTurn};
 ghost use Rattle.nm_explored.specs.Chosen.{is_cancel as is_cancel_lem};
+ghost use Rattle.nm_explored.specs.Orderly.{is_claiming as is_claiming_lem};
 
 use nm_asked::commands::command_of_line;
-use nm_choices::choices::{View, answer, line_at};
-use nm_choices::moves::{Turn, push_deeds, turns};
+use nm_choices::choices::{View, answer, line_at, next_message};
+use nm_choices::moves::{Move, Turn, push_deeds, turns};
+use nm_spots::deeds::Receive;
 use nm_spots::looks::ran;
 use nm_spots::ranks::Rank;
-use nm_types::{Command, Line, Memory};
+use nm_types::{Arrival, Command, Line, Memory, Peer};
 use std::alloc::Global;
 
 /// Whether a command is a cancel.
@@ -34,6 +39,20 @@ fn has_no_cancel(lines: &[Line]) -> bool
     lines.iter().all(|line| !is_cancel(&line.command))
 }
 
+/// Whether a command is a matched probe or a matched receive.
+fn is_claiming(command: &Command) -> bool
+    ensures { result ≡ is_claiming_lem command.now }
+{
+    matches!(command, Command::Mprobe { .. } | Command::Mrecv { .. })
+}
+
+/// Whether no command of a script is one of these.
+fn has_no_claim(lines: &[Line]) -> bool
+    ensures { result ≡ list_all (λ line. not (is_claiming_lem line.command)) lines.now }
+{
+    lines.iter().all(|line| !is_claiming(&line.command))
+}
+
 /// Whether no move of others changes what a command does or answers.
 fn is_settled_by(view: View, i: u8, rank: &Rank, line: u32, command: &Command) -> bool
     ensures { IsTrue result → IsSettledBy (spot_in view.entry.table.now view.entry.ids.now)
@@ -41,6 +60,7 @@ fn is_settled_by(view: View, i: u8, rank: &Rank, line: u32, command: &Command) -
 {
     match command {
         Command::Send { .. } => true,
+        Command::Recv { .. } => has_no_claim(view.lines),
         Command::Wait { .. } => answer(view, i, rank, line, command).is_some(),
         _ => false,
     }
@@ -102,6 +122,108 @@ fn acts(alloc: Global, view: View, i: u8, rank: &Rank) -> Result<Vec<Turn>, Memo
     Ok(turns)
 }
 
+/// Whether a receive of this peer names a rank.
+fn names(peer: Peer, from: u8) -> bool
+    ensures { IsTrue result → peer ≡ Peer.One from }
+{
+    match peer {
+        Peer::One(rank) => rank == from,
+        Peer::Any => false,
+    }
+}
+
+/// The receive that takes a message, if it names this rank.
+fn named_receive(rank: &Rank, a: &Arrival, from: u8) -> Option<Receive>
+    ensures { IfSome result (λ r. (receive_of_spot rank.now a.now ≡ Some r) × (r.from ≡ Peer.One from)) }
+{
+    match rank.receive_for(a) {
+        Some(r) => if names(r.from, from) { Some(r) } else { None },
+        None => None,
+    }
+}
+
+/// The next message from a rank to a rank in this state, if it goes to a receive that names its sender.
+fn named_next(view: View, i: u8, rank: &Rank, from: u8) -> Option<Arrival>
+    ensures { IfSome result (λ a. (message_next (spot_in view.entry.table.now view.entry.ids.now) i from ≡ Some a)
+        × (r : receive.Receive) × (receive_of_spot rank.now a ≡ Some r) × (r.from ≡ Peer.One from)) }
+{
+    match next_message(view, i, from) {
+        Some(a) => match named_receive(rank, &a, from) {
+            Some(_) => Some(a),
+            None => None,
+        },
+        None => None,
+    }
+}
+
+/// The next message from a rank, if it goes to a receive that names its sender.
+fn named_arrival(view: View, i: u8, from: u8, ranks: u8) -> Option<Arrival>
+    ensures { i < ranks → from < ranks → IfSome result
+        (λ a. IsNamed ranks (spot_in view.entry.table.now view.entry.ids.now) i from a) }
+{
+    match view.rank(i) {
+        Some(rank) => named_next(view, i, rank, from),
+        None => None,
+    }
+}
+
+/// The first message to a rank that goes to a receive that names its sender.
+fn first_named(view: View, i: u8, ranks: u8) -> Option<Arrival>
+    ensures { i < ranks → IfSome result (λ a. (from : ℕ)
+        × IsNamed ranks (spot_in view.entry.table.now view.entry.ids.now) i from a) }
+{
+    for from in 0..ranks {
+        if let Some(a) = named_arrival(view, i, from, ranks) {
+            return Some(a);
+        }
+    }
+    None
+}
+
+/// The arrival of the first message that goes to a receive that names its sender.
+fn coming(view: View, ranks: u8) -> Option<Turn>
+    ensures { IfSome result (IsNamedTurn ranks (spot_in view.entry.table.now view.entry.ids.now)) }
+{
+    for i in 0..ranks {
+        if let Some(a) = first_named(view, i, ranks) {
+            return Some(Turn {
+                rank: i,
+                by: Move::Arrive(a),
+            });
+        }
+    }
+    None
+}
+
+/// The one move.
+fn only(alloc: Global, turn: Turn) -> Result<Vec<Turn>, Memory>
+    ensures { IfOk result (λ turns. turns.items ≡ turn ∷ []) }
+{
+    let mut turns = Vec::new(alloc);
+    turns.push(turn)?;
+    Ok(turns)
+}
+
+/// The arrival of a message that goes to a receive that names its sender, or all moves.
+fn arrivals(alloc: Global, view: View, ranks: u8) -> Result<Vec<Turn>, Memory>
+    ensures enough { IsTrue (list_all (λ line. not (is_cancel_lem line.command)) view.entry.lines.now) →
+        length view.entry.lines.now < 4294967293 →
+        IfOk result (λ turns. AreEnoughTurns view.entry.eager ranks view.entry.lines.now
+        (spot_in view.entry.table.now view.entry.ids.now) turns.items) }
+    ensures only { length view.entry.lines.now < 4294967293 → AreSendsShort view.entry.lines.now →
+        IfOk result (λ turns. (t : the_turn.Turn) → Has turns.items t →
+        IsTurn view.entry.eager ranks view.entry.lines.now
+        (spot_in view.entry.table.now view.entry.ids.now) t) }
+{
+    if !has_no_claim(view.lines) {
+        return turns(alloc, view, ranks);
+    }
+    match coming(view, ranks) {
+        Some(turn) => only(alloc, turn),
+        None => turns(alloc, view, ranks),
+    }
+}
+
 /// Moves that are enough at a state: those of the next command of one rank, where no other move changes
 /// which they are, or all moves.
 pub fn enough(alloc: Global, view: View, ranks: u8) -> Result<Vec<Turn>, Memory>
@@ -121,6 +243,6 @@ pub fn enough(alloc: Global, view: View, ranks: u8) -> Result<Vec<Turn>, Memory>
             Some(rank) => acts(alloc, view, i, rank),
             None => turns(alloc, view, ranks),
         },
-        None => turns(alloc, view, ranks),
+        None => arrivals(alloc, view, ranks),
     }
 }

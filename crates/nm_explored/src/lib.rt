@@ -4,15 +4,18 @@
 //! `specs/Stores.antt` has the states that were found, and which of them are expanded. `specs/Ends.antt`
 //! says at which states the ranks are at rest, what they told there, and that ends tell all (`TellsAll`).
 //! `specs/Met.antt` says which states moves lead to (`IsMet`), and that they are too many (`AreTooMany`).
-//! `specs/Chosen.antt` says which moves are enough at a state, and the others may wait (`LetsAct`).
+//! `specs/Chosen.antt` and `specs/Coming.antt` say which moves are enough at a state, and the others may
+//! wait (`LetsAct`, `LetsCome`).
 //! # What is proved
 //! - What each lawful run of a script tells is told at one of the ends that `explore` finds, unless it
 //!   answers that there are too many states.
-//! - Where the next command of a rank is a send, or a wait that may end, in a script without cancels, only
-//!   its moves are made: each other move may as well come behind them, and leads to the same state. So it
-//!   finds fewer states, and the same ends.
 //! - It answers so only where moves lead from the first state to more states than the limit, which all
 //!   differ.
+//! - At each state all moves are made, or those that are enough: where the next command of a rank is a send,
+//!   a receive, or a wait that may end, in a script without cancels (for a receive also without matched
+//!   probes and matched receives), the moves of that command; and the arrival of a message that goes
+//!   to a receive that names its sender, in a script without all of these. Each other move may as well come
+//!   behind them, and leads to the same state.
 //!
 //! Nothing is claimed of the way to an end: it is the judge's to say whether it is a run's.
 #![tactic(auto)]

@@ -8,7 +8,7 @@ ghost use Rattle.nm_choices.specs.Choices.{spot_in};
 ghost use Rattle.nm_choices.specs.Lists.{Has, Keeps};
 ghost use Rattle.nm_choices.specs.declared.moves.Turn as the_turn;
 ghost use Rattle.nm_choices.specs.Moves.{AreSendsShort, IsTurn, moved_at};
-ghost use Rattle.nm_explored.specs.Chosen.{AreEnoughTurns};
+ghost use Rattle.nm_explored.specs.Coming.{AreEnoughTurns};
 ghost use Rattle.nm_explored.specs.Met.{IsMade};
 ghost use Rattle.nm_explored.specs.Stores.{AreExpanded, Grows, IsExpanded, IsFirst, Leads};
 ghost use Rattle.nm_explored.specs.Stores.{StandOnce};

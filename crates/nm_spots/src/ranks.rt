@@ -205,7 +205,7 @@ impl Rank {
     }
 
     /// The oldest open receive that selects a message.
-    fn receive_for(&self, a: &Arrival) -> Option<Receive>
+    pub fn receive_for(&self, a: &Arrival) -> Option<Receive>
         ensures { result ≡ receive_of_spot self.now a.now }
     {
         self.receives

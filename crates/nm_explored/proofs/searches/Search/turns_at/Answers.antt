@@ -5,7 +5,7 @@ use Rattle.nm_facts.proofs.Lists.{place_below}
 use Rattle.nm_spots.specs.Spots.{Spot}
 use Rattle.nm_choices.specs.Choices.{spot_in}
 use Rattle.nm_choices.specs.Moves.{IsTurn}
-use Rattle.nm_explored.specs.Chosen.{AreEnoughTurns}
+use Rattle.nm_explored.specs.Coming.{AreEnoughTurns}
 use Rattle.nm_explored.specs.Stores.{Store}
 use Rattle.nm_explored.proofs.StoreLemmas.{looked_up}
 use Rattle.nm_explored.proofs.TellLemmas.{ok_weaker}

@@ -1,0 +1,77 @@
+-- The arrival of a message that goes to a receive that names its sender is enough, too.
+use Rattle.std.specs.Prelude.{◌≡◌, ◌⊎◌, ℕ, ◌<◌, Option, Some, List}
+use Rattle.std.specs.List.{slice_get, slice_set}
+use Rattle.nm_types.specs.declared.messages.Arrival.{Arrival}
+use Rattle.nm_types.specs.declared.messages.Peer.TheVariants as peer
+use Rattle.nm_types.specs.declared.scripts.Line.{Line}
+use Rattle.nm_spots.specs.declared.deeds.Receive.{Receive}
+use Rattle.nm_spots.specs.Spots.{Spot, arrived_at, receive_of_spot}
+use Rattle.nm_choices.specs.declared.moves.Move.TheVariants as move
+use Rattle.nm_choices.specs.declared.moves.Turn.{Turn}
+use Rattle.nm_choices.specs.Choices.{message_next}
+use Rattle.nm_choices.specs.Lists.{Has}
+use Rattle.nm_choices.specs.Moves.{AreMovesOf}
+use Rattle.nm_explored.specs.Chosen.{Acts, AreActsOfOne, AreCalm, HasNoCancel, LetsAct}
+use Rattle.nm_explored.specs.Orderly.{AreOrderly, HasNoClaim}
+
+-- this is the next message from a rank, and goes to a receive that names the rank
+pub record IsNamed (ranks : ℕ) (v : ℕ → Option Spot) (i from : ℕ) (a : Arrival) : Type 0 where
+  pub inside : i < ranks
+  pub low : from < ranks
+  pub spot : Spot
+  pub here : v i ≡ Some spot
+  pub next : message_next v i from ≡ Some a
+  pub receive : Receive
+  pub to : receive_of_spot spot a ≡ Some receive
+  pub named : receive.from ≡ peer.One from
+
+-- In these states of all ranks it is enough that this message arrives: in a script without cancels,
+-- matched probes and matched receives.
+pub record LetsCome (ranks : ℕ) (lines : List Line) (i from : ℕ) (s : List Spot) : Type 0 where
+  pub no_cancel : HasNoCancel lines
+  pub no_claim : HasNoClaim lines
+  pub calm : AreCalm s
+  pub orderly : AreOrderly s
+  pub arrival : Arrival
+  pub is : IsNamed ranks (λ k. slice_get s k) i from arrival
+
+-- the next message from a rank arrives
+abbrev pub Comes : ℕ → ℕ → List Spot → List Spot → Type 0
+Comes i from s u =
+    (spot : Spot) × (slice_get s i ≡ Some spot) × (a : Arrival) × (message_next (λ k. slice_get s k) i from ≡ Some a)
+    × (u ≡ slice_set s i (arrived_at spot a))
+
+-- which moves are made at a state, and the others wait: those of the next command of a rank, or the arrival
+-- of the next message from a rank
+pub data Choice : Type 0 where
+  Acting : (i : ℕ) → Choice
+  Arriving : (i from : ℕ) → Choice
+
+-- in these states of all ranks they are enough
+abbrev pub AreEnoughAt : ℕ → List Line → Choice → List Spot → Type 0
+AreEnoughAt ranks lines (Acting i) s = LetsAct ranks lines i s
+AreEnoughAt ranks lines (Arriving i from) s = LetsCome ranks lines i from s
+
+-- one of them is made
+abbrev pub Makes : ℕ → List Line → Choice → List Spot → List Spot → Type 0
+Makes eager lines (Acting i) s u = Acts eager lines i s u
+Makes eager lines (Arriving i from) s u = Comes i from s u
+
+-- a message that goes to a receive that names its sender arrives
+abbrev pub IsNamedTurn : ℕ → (ℕ → Option Spot) → Turn → Type 0
+IsNamedTurn ranks v t = (a : Arrival) × (from : ℕ) × IsNamed ranks v t.rank from a × (t.by ≡ move.Arrive a)
+
+-- such an arrival is among these
+pub record HasNamed (ranks : ℕ) (lines : List Line) (v : ℕ → Option Spot) (turns : List Turn) : Type 0 where
+  pub no_cancel : HasNoCancel lines
+  pub no_claim : HasNoClaim lines
+  pub turn : Turn
+  pub is : IsNamedTurn ranks v turn
+  pub has : Has turns turn
+
+-- These moves are enough: all are among them, or all of the next command of one rank, which is settled, or
+-- the arrival of a message that goes to a receive that names its sender.
+abbrev pub AreEnoughTurns : ℕ → ℕ → List Line → (ℕ → Option Spot) → List Turn → Type 0
+AreEnoughTurns eager ranks lines v turns =
+    ((i : ℕ) → i < ranks → AreMovesOf eager ranks lines v i turns)
+    ⊎ (AreActsOfOne eager ranks lines v turns ⊎ HasNamed ranks lines v turns)
