@@ -2,7 +2,7 @@
 #![tactic(auto)]
 
 use nm_chart::{chart, chart_part};
-use nm_chart_check::chart_check;
+use nm_chart::check::chart_check;
 use nm_outside::{RealSink, RealSource};
 use std::io::ErrorKind;
 use std::process::ExitCode;

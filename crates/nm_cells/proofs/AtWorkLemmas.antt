@@ -5,18 +5,18 @@ use Rattle.std.proofs.Common.{inl, inr, subst, ⊎_elim, arith}
 use Rattle.std.proofs.lemmas.Nat.{mod_below}
 use mathlib.Core.Logic.{dite}
 use native.Mathlib.Decide.{ℕ_discrete}
-use Rattle.nm_seats.proofs.UpdateLemmas.{pick_yes, pick_no}
-use Rattle.nm_table.specs.declared.table.Entry.{Entry}
-use Rattle.nm_table.specs.Rule.{Load, put_to, from, box_slot}
-use Rattle.nm_table.specs.Plays.{load_in}
+use Rattle.nm_chain.proofs.UpdateLemmas.{pick_yes, pick_no}
+use Rattle.nm_chain.specs.declared.table.table.Entry.{Entry}
+use Rattle.nm_chain.specs.Rule.{Load, put_to, from, box_slot}
+use Rattle.nm_chain.specs.Plays.{load_in}
 use Rattle.nm_cells.specs.Carried.{times, empties}
-use Rattle.nm_table.specs.NextBox.{next_box, work, BoxesApart}
+use Rattle.nm_chain.specs.NextBox.{next_box, work, BoxesApart}
 use Rattle.nm_cells.specs.AtWork.{sum_to, one_at, all_at, Holds}
 use Rattle.nm_cells.proofs.CarriedLemmas.{times_else}
 use Rattle.nm_cells.proofs.HoldingLemmas.{load_first, load_behind, turned_by, times_by, load_by}
-use Rattle.nm_facts.proofs.Options.{no_some}
-use Rattle.nm_seats.proofs.PairLemmas.{one_pair}
-use Rattle.nm_table.proofs.BoxLemmas.{some_is}
+use Rattle.nm_types.proofs.OptionLemmas.{no_some}
+use Rattle.nm_chain.proofs.PairLemmas.{one_pair}
+use Rattle.nm_chain.proofs.BoxLemmas.{some_is}
 
 abbrev numbers : List (ℕ × Load) → List ℕ
 numbers l = map (λ (x : ℕ × Load). x.0) l

@@ -10,14 +10,14 @@ use Rattle.std.proofs.Math.Nat.{div-mul-le_self, lt-div-mul-add}
 use Rattle.std.specs.Prelude.{sum_by, slice_index_or}
 use mathlib.Core.Logic.{dite}
 use native.Mathlib.Decide.{ℕ_discrete, dec_le}
-use Rattle.nm_seats.specs.Spoken.{view}
-use Rattle.nm_table.specs.declared.table.Hand.{Hand}
-use Rattle.nm_table.specs.declared.table.Hand.TheVariants.{Away, Loose, Held}
-use Rattle.nm_table.specs.declared.table.Entry.{Entry}
-use Rattle.nm_table.specs.Rule.{Load, hand, first_hands, newcomer, beginner}
-use Rattle.nm_table.specs.Plays.{Knowing, mine, with_hand, load_in}
-use Rattle.nm_table.proofs.OpeningLemmas.{first_long, first_at}
-use Rattle.nm_table.proofs.QueueLemmas.{pick_yes, pick_no}
+use Rattle.nm_chain.specs.Spoken.{view}
+use Rattle.nm_chain.specs.declared.table.table.Hand.{Hand}
+use Rattle.nm_chain.specs.declared.table.table.Hand.TheVariants.{Away, Loose, Held}
+use Rattle.nm_chain.specs.declared.table.table.Entry.{Entry}
+use Rattle.nm_chain.specs.Rule.{Load, hand, first_hands, newcomer, beginner}
+use Rattle.nm_chain.specs.Plays.{Knowing, mine, with_hand, load_in}
+use Rattle.nm_chain.proofs.OpeningLemmas.{first_long, first_at}
+use Rattle.nm_chain.proofs.QueueLemmas.{pick_yes, pick_no}
 use Rattle.nm_cells.specs.declared.port.Port.{Port}
 use Rattle.nm_cells.specs.declared.port.Fabric.{Fabric}
 use Rattle.nm_cells.specs.Ports.{Owns, IsFresh, knows, taken_by, unpassed_by}
@@ -31,7 +31,7 @@ use Rattle.nm_cells.proofs.CarriedLemmas.{cell_picked, within, roomier}
 use Rattle.nm_cells.proofs.HoldingLemmas.{load_first}
 use Rattle.nm_cells.proofs.LooseLemmas.{kept_hand, kept_push, loose_apart}
 use Rattle.nm_cells.proofs.PortLemmas.{CarriesFor}
-use Rattle.nm_seats.specs.Update.{pick}
+use Rattle.nm_chain.specs.Update.{pick}
 
 -- the slot of a loose cell is taken
 module _ (me after : Knowing) (c : ℕ) (low : c < length (mine me).hands)

@@ -7,19 +7,19 @@ use Rattle.std.proofs.Props.{props}
 use Rattle.std.proofs.lemmas.List.Sums.{sum_by-set}
 use Rattle.std.specs.Prelude.{remove, vec_len, vec_capacity}
 use Rattle.atomic_table.specs.Table.{rest}
-use Rattle.nm_seats.specs.Spoken.{view}
-use Rattle.nm_seats.specs.Update.{update}
-use Rattle.nm_seats.proofs.UpdateLemmas.{update_here, update_else}
+use Rattle.nm_chain.specs.Spoken.{view}
+use Rattle.nm_chain.specs.Update.{update}
+use Rattle.nm_chain.proofs.UpdateLemmas.{update_here, update_else}
 use Rattle.nm_cells.specs.declared.tallies.Tally.{Tally}
-use Rattle.nm_table.specs.declared.table.Entry.{Entry}
+use Rattle.nm_chain.specs.declared.table.table.Entry.{Entry}
 use Rattle.nm_cells.specs.declared.port.Port.{Port}
 use Rattle.nm_cells.specs.declared.port.Fabric.{Fabric}
-use Rattle.nm_table.specs.Rule.{Load, put_to, from, box_slot, filling_of, emptying_of, sender}
-use Rattle.nm_table.specs.Rule.{number}
-use Rattle.nm_table.specs.Plays as plays
-use Rattle.nm_table.specs.Plays.{Knowing, mine, with_filling, with_emptying, with_box_full}
-use Rattle.nm_table.specs.Plays.{with_box_miss, with_put_box, with_got_box, slots_to_fill, slots_to_empty, IsToEmpty}
-use Rattle.nm_table.specs.NextBox.{next_box, work, BoxesApart}
+use Rattle.nm_chain.specs.Rule.{Load, put_to, from, box_slot, filling_of, emptying_of, sender}
+use Rattle.nm_chain.specs.Rule.{number}
+use Rattle.nm_chain.specs.Plays as plays
+use Rattle.nm_chain.specs.Plays.{Knowing, mine, with_filling, with_emptying, with_box_full}
+use Rattle.nm_chain.specs.Plays.{with_box_miss, with_put_box, with_got_box, slots_to_fill, slots_to_empty, IsToEmpty}
+use Rattle.nm_chain.specs.NextBox.{next_box, work, BoxesApart}
 use Rattle.nm_cells.specs.AtWork.{HoldsBoxes}
 use Rattle.nm_cells.specs.Carried.{times, held_in}
 use Rattle.nm_cells.specs.Counted.{CountsFor, peer_in, new_tally, all_unpassed, with_peer, one_full}

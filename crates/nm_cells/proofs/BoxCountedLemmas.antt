@@ -7,8 +7,8 @@ use Rattle.std.proofs.Common.{get_or-set_other}
 use Rattle.std.specs.Prelude.{slice_index}
 use Rattle.nm_types.specs.declared.packets.Packet.{Packet}
 use Rattle.nm_cells.specs.declared.tallies.Tally.{Tally}
-use Rattle.nm_table.specs.Rule.{Load}
-use Rattle.nm_table.specs.Plays.{raised}
+use Rattle.nm_chain.specs.Rule.{Load}
+use Rattle.nm_chain.specs.Plays.{raised}
 use Rattle.nm_cells.specs.Counted.{CountsOne}
 use Rattle.nm_cells.specs.Counted.{Counts, with_peer, one_opened}
 use Rattle.nm_cells.specs.Counted.{one_begun, one_full, one_miss}

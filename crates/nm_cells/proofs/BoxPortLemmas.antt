@@ -5,21 +5,21 @@ use Rattle.std.proofs.Common.{ap, ◌∙◌, subst, get_or-set_same, get_or-set_
 use Rattle.std.specs.Prelude.{slice_index_or}
 use mathlib.Core.Logic.{dite}
 use native.Mathlib.Decide.{ℕ_discrete}
-use Rattle.nm_table.specs.declared.table.Entry.{Entry}
-use Rattle.nm_table.specs.declared.table.Heads.{Heads}
-use Rattle.nm_table.specs.Rule.{Load, sender, box_slot, filling_of, emptying_of}
-use Rattle.nm_table.specs.Rule.{newcomer}
-use Rattle.nm_table.specs.Plays as plays
-use Rattle.nm_table.specs.Plays.{Knowing, mine, Took}
+use Rattle.nm_chain.specs.declared.table.table.Entry.{Entry}
+use Rattle.nm_chain.specs.declared.table.table.Heads.{Heads}
+use Rattle.nm_chain.specs.Rule.{Load, sender, box_slot, filling_of, emptying_of}
+use Rattle.nm_chain.specs.Rule.{newcomer}
+use Rattle.nm_chain.specs.Plays as plays
+use Rattle.nm_chain.specs.Plays.{Knowing, mine, Took}
 use Rattle.nm_cells.specs.Carried.{times}
-use Rattle.nm_table.specs.NextBox.{to_fill, next_box, work, BoxesApart}
+use Rattle.nm_chain.specs.NextBox.{to_fill, next_box, work, BoxesApart}
 use Rattle.nm_cells.specs.AtWork.{one_at, HoldsBoxes}
 use Rattle.nm_cells.proofs.CountedLemmas.{lids_new}
 use Rattle.nm_cells.proofs.NumberLemmas.{put_other, from_other}
 use Rattle.nm_cells.proofs.HoldingLemmas.{turned_by}
 use Rattle.nm_cells.proofs.AtWorkLemmas as at_work
 use Rattle.nm_cells.proofs.AtWorkLemmas.{Distinct, distinct_of, behind_of}
-use Rattle.nm_facts.proofs.Options.{no_some}
+use Rattle.nm_types.proofs.OptionLemmas.{no_some}
 
 abbrev numbers : List (ℕ × Load) → List ℕ
 numbers l = map (λ (x : ℕ × Load). x.0) l

@@ -8,11 +8,11 @@ use Rattle.std.proofs.lemmas.List.{length-map}
 use Rattle.std.specs.Prelude.{slice_index_or, sum_by, remove}
 use mathlib.Core.Logic.{dite}
 use native.Mathlib.Decide.{ℕ_discrete}
-use Rattle.nm_seats.proofs.UpdateLemmas.{pick_yes, pick_no}
-use Rattle.nm_table.specs.declared.table.Hand.{Hand}
-use Rattle.nm_table.specs.declared.table.Hand.TheVariants.{Away, Loose, Held, Ready, Entering}
-use Rattle.nm_table.specs.Rule.{Load}
-use Rattle.nm_table.specs.Plays.{InHand}
+use Rattle.nm_chain.proofs.UpdateLemmas.{pick_yes, pick_no}
+use Rattle.nm_chain.specs.declared.table.table.Hand.{Hand}
+use Rattle.nm_chain.specs.declared.table.table.Hand.TheVariants.{Away, Loose, Held, Ready, Entering}
+use Rattle.nm_chain.specs.Rule.{Load}
+use Rattle.nm_chain.specs.Plays.{InHand}
 use Rattle.nm_cells.specs.Carried.{times, slots_with, in_hand, fills, empties, open_boxes, Carries}
 
 pub times_here : (c : ℕ) (xs : List ℕ) → times c (c ∷ xs) ≡ suc (times c xs)

@@ -8,23 +8,23 @@ use native.Mathlib.Decide.{ℕ_discrete, dec_le}
 use lib.ListN.{get_elem?}
 use Rattle.atomic_table.specs.Table.{State, Joins, Splits}
 use Rattle.atomic_table.proofs.Lists.{set_else}
-use Rattle.nm_seats.specs.declared.views.View.{View}
-use Rattle.nm_seats.specs.Spoken.{view, sealed, Each as EachEntry, IsOf}
-use Rattle.nm_seats.proofs.SpokenLemmas.{spoken_joins, spoken_seals}
+use Rattle.nm_chain.specs.declared.seats.views.View.{View}
+use Rattle.nm_chain.specs.Spoken.{view, sealed, Each as EachEntry, IsOf}
+use Rattle.nm_chain.proofs.SpokenLemmas.{spoken_joins, spoken_seals}
 use Rattle.nm_chain.specs.Chain.{Item, Has, Each, queued}
 use Rattle.nm_chain.specs.Sequence.{Got}
 use Rattle.nm_chain.specs.Sequence as turn
 use Rattle.nm_chain.proofs.SequenceLemmas.{behind, each_has, has_left, has_right}
 use Rattle.nm_types.specs.Sizes.{Sizes}
 use Rattle.nm_types.specs.declared.packets.Packet.{Packet}
-use Rattle.nm_table.specs.declared.table.Hand.TheVariants.{Away}
-use Rattle.nm_table.specs.declared.table.Entry.{Entry}
-use Rattle.nm_table.specs.Rule.{Load, Chain, hand, rank_of, World, sender, number, from, loads}
-use Rattle.nm_table.specs.Rule.{sent_to, Fits, QueuesHold, AllInSequence, Rule, put_to}
+use Rattle.nm_chain.specs.declared.table.table.Hand.TheVariants.{Away}
+use Rattle.nm_chain.specs.declared.table.table.Entry.{Entry}
+use Rattle.nm_chain.specs.Rule.{Load, Chain, hand, rank_of, World, sender, number, from, loads}
+use Rattle.nm_chain.specs.Rule.{sent_to, Fits, QueuesHold, AllInSequence, Rule, put_to}
 use Rattle.nm_cells.specs.AtClose.{Gathered, Prefixed, AllCame, homed, home_count, vacant}
 use Rattle.nm_cells.specs.AtClose.{vacant_at, Settled}
-use Rattle.nm_table.proofs.QueueLemmas.{pick_yes, pick_no}
-use Rattle.nm_table.proofs.CountingLemmas.{in_queue}
+use Rattle.nm_chain.proofs.QueueLemmas.{pick_yes, pick_no}
+use Rattle.nm_chain.proofs.CountingLemmas.{in_queue}
 
 pub merged : (key : Sizes) (id other : ℕ) (v w : View Entry)
     → Joins (Rule key) id v other w (view (w.entries ++ v.entries)) (view [])

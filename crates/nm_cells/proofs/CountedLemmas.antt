@@ -13,11 +13,11 @@ use Rattle.nm_chain.specs.Sequence.{Each, Has, Rises, Got}
 use Rattle.nm_chain.proofs.SequenceLemmas.{each_along, each_append, rises_append}
 use Rattle.nm_chain.proofs.SequenceLemmas.{has_left, has_right}
 use Rattle.nm_cells.specs.declared.tallies.Tally.{Tally}
-use Rattle.nm_table.specs.Rule.{Load, put_to, from, number, sender}
+use Rattle.nm_chain.specs.Rule.{Load, put_to, from, number, sender}
 use Rattle.nm_cells.specs.Counted.{new_tally, peer_in, not_below, IsOneOf, IsUnpassedOf, CountsOne}
 use Rattle.nm_cells.specs.Counted.{Counts, with_peer, one_sent, one_arrived, one_boxed}
 use Rattle.nm_cells.specs.Counted.{one_unboxed, one_passed}
-use Rattle.nm_table.proofs.QueueLemmas.{from_append}
+use Rattle.nm_chain.proofs.QueueLemmas.{from_append}
 use Rattle.nm_cells.proofs.NumberLemmas.{number_small, numbers_small, rises_short}
 use Rattle.nm_cells.proofs.NumberLemmas.{not_below_length, not_below_append, not_below_gone}
 use Rattle.nm_cells.proofs.NumberLemmas.{not_below_one, one_of_append, one_of_has, one_number}

@@ -8,12 +8,12 @@ use Rattle.std.specs.Prelude.{slice_index, slice_index_or}
 use mathlib.Core.Logic.{dite}
 use native.Mathlib.Decide.{ℕ_discrete, dec_le}
 use Rattle.atomic_table.specs.Table.{turned}
-use Rattle.nm_seats.specs.Update.{pick, update}
-use Rattle.nm_seats.proofs.UpdateLemmas.{pick_yes, pick_no, update_here, update_else}
-use Rattle.nm_table.specs.Rule.{Load, if_below}
-use Rattle.nm_table.specs.Plays.{load_in}
-use Rattle.nm_table.specs.declared.table.Hand.{Hand}
-use Rattle.nm_table.specs.declared.table.Hand.TheVariants.{Away}
+use Rattle.nm_chain.specs.Update.{pick, update}
+use Rattle.nm_chain.proofs.UpdateLemmas.{pick_yes, pick_no, update_here, update_else}
+use Rattle.nm_chain.specs.Rule.{Load, if_below}
+use Rattle.nm_chain.specs.Plays.{load_in}
+use Rattle.nm_chain.specs.declared.table.table.Hand.{Hand}
+use Rattle.nm_chain.specs.declared.table.table.Hand.TheVariants.{Away}
 use Rattle.nm_cells.specs.Carried.{times, held_in, slots_with, Carries}
 use Rattle.nm_cells.proofs.CarriedLemmas.{times_here, times_else, slots_one}
 

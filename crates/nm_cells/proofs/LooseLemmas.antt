@@ -1,14 +1,14 @@
 -- What each kind of step does to the loose cells: nothing.
 use Rattle.std.proofs.Common.{◌≡◌, ◌≢◌, ℕ, ◌<◌, ◌≤◌, Bool, true, false, Option, Some, None}
 use Rattle.std.proofs.Common.{List, [], ◌∷◌, length, map, sym, ◌∙◌, subst, arith, length-set, get_or-set_other}
-use Rattle.nm_seats.specs.Spoken.{view}
-use Rattle.nm_table.specs.declared.table.Hand.{Hand}
-use Rattle.nm_table.specs.declared.table.Hand.TheVariants.{Away, Loose, Held, Ready, Entering}
-use Rattle.nm_table.specs.declared.table.Heads.{Heads}
-use Rattle.nm_table.specs.declared.table.Entry.{Entry}
-use Rattle.nm_table.specs.Rule.{Load, hand}
-use Rattle.nm_table.specs.Plays as plays
-use Rattle.nm_table.specs.Plays.{Knowing, mine, with_hand, Took}
+use Rattle.nm_chain.specs.Spoken.{view}
+use Rattle.nm_chain.specs.declared.table.table.Hand.{Hand}
+use Rattle.nm_chain.specs.declared.table.table.Hand.TheVariants.{Away, Loose, Held, Ready, Entering}
+use Rattle.nm_chain.specs.declared.table.table.Heads.{Heads}
+use Rattle.nm_chain.specs.declared.table.table.Entry.{Entry}
+use Rattle.nm_chain.specs.Rule.{Load, hand}
+use Rattle.nm_chain.specs.Plays as plays
+use Rattle.nm_chain.specs.Plays.{Knowing, mine, with_hand, Took}
 use Rattle.nm_cells.specs.Carried.{times}
 use Rattle.nm_cells.specs.declared.loose.LooseCells.{LooseCells}
 use Rattle.nm_cells.specs.LooseCells.{IsAmong, AreKept}

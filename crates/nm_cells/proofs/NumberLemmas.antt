@@ -9,10 +9,10 @@ use native.Mathlib.Decide.{ℕ_discrete, dec_le}
 use Rattle.nm_chain.specs.Sequence.{Each, Has, Rises, Got}
 use Rattle.nm_chain.proofs.SequenceLemmas.{each_along, each_has}
 use Rattle.nm_chain.proofs.SequenceLemmas.{has_left}
-use Rattle.nm_table.specs.Rule.{Load, put_to, from, number, sender, if_below}
+use Rattle.nm_chain.specs.Rule.{Load, put_to, from, number, sender, if_below}
 use Rattle.nm_cells.specs.Counted.{not_below, IsOneOf}
-use Rattle.nm_table.proofs.QueueLemmas.{from_append, put_append, pick_yes, pick_no, below_yes}
-use Rattle.nm_table.proofs.QueueLemmas.{below_no}
+use Rattle.nm_chain.proofs.QueueLemmas.{from_append, put_append, pick_yes, pick_no, below_yes}
+use Rattle.nm_chain.proofs.QueueLemmas.{below_no}
 
 -- a number of a packet is in range
 pub number_small : (y : Load) → number y < 1152921504606846976

@@ -6,8 +6,8 @@ use Rattle.std.proofs.lemmas.List.Sums.{sum_by-set}
 use mathlib.Core.Logic.{dite}
 use native.Mathlib.Decide.{ℕ_discrete}
 use Rattle.nm_types.specs.declared.packets.Packet.{Packet}
-use Rattle.nm_seats.specs.Update.{update}
-use Rattle.nm_seats.proofs.UpdateLemmas.{update_here, update_else}
+use Rattle.nm_chain.specs.Update.{update}
+use Rattle.nm_chain.proofs.UpdateLemmas.{update_here, update_else}
 use Rattle.nm_cells.specs.declared.tallies.Tally.{Tally}
 use Rattle.nm_cells.specs.declared.port.Port.{Port}
 use Rattle.nm_cells.specs.Counted.{new_tally, peer_in, with_peer, one_passed, all_unpassed}

@@ -11,8 +11,8 @@ use lib.ListN.{get_elem?}
 use Rattle.nm_types.specs.declared.packets.Packet.{Packet}
 use Rattle.nm_chain.specs.Sequence.{Each, Has, Rises, Got, Numbered, InSequence}
 use Rattle.nm_chain.proofs.SequenceLemmas.{each_has, has_left, has_right, behind}
-use Rattle.nm_table.specs.Rule.{Load, sender, number, from}
-use Rattle.nm_table.proofs.QueueLemmas.{pick_yes, pick_no}
+use Rattle.nm_chain.specs.Rule.{Load, sender, number, from}
+use Rattle.nm_chain.proofs.QueueLemmas.{pick_yes, pick_no}
 use Rattle.nm_cells.specs.PathLists.{packets, numbered, by_number, Begins}
 
 -- the numbers of packets

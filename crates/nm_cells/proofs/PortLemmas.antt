@@ -6,21 +6,21 @@ use Rattle.std.proofs.Common.{get_or-set_same}
 use Rattle.std.proofs.Math.Logic.{∥∥₁_map, ∥∥₁_elim}
 use Rattle.std.proofs.Props.{props}
 use Rattle.std.specs.Prelude.{remove, slice_index, vec_len, vec_capacity}
-use Rattle.nm_seats.proofs.UpdateLemmas.{update_here}
-use Rattle.nm_table.proofs.BoxLemmas.{owner_below}
+use Rattle.nm_chain.proofs.UpdateLemmas.{update_here}
+use Rattle.nm_chain.proofs.BoxLemmas.{owner_below}
 use native.Mathlib.Decide.{dec_le}
 use Rattle.atomic_table.specs.Table.{rest}
 use Rattle.nm_types.specs.declared.packets.Packet.{Packet}
-use Rattle.nm_seats.specs.Spoken.{view}
-use Rattle.nm_seats.specs.Update.{update}
+use Rattle.nm_chain.specs.Spoken.{view}
+use Rattle.nm_chain.specs.Update.{update}
 use Rattle.nm_cells.specs.declared.tallies.Tally.{Tally}
-use Rattle.nm_table.specs.declared.table.Heads.{Heads}
-use Rattle.nm_table.specs.declared.table.Hand.{Hand}
-use Rattle.nm_table.specs.declared.table.Hand.TheVariants.{Away, Loose, Held, Ready, Entering}
+use Rattle.nm_chain.specs.declared.table.table.Heads.{Heads}
+use Rattle.nm_chain.specs.declared.table.table.Hand.{Hand}
+use Rattle.nm_chain.specs.declared.table.table.Hand.TheVariants.{Away, Loose, Held, Ready, Entering}
 use Rattle.nm_chain.specs.Chain.{item}
-use Rattle.nm_table.specs.Rule.{Load, Suits, hand, sender, number, sent_to, posted, put_to, from}
-use Rattle.nm_table.specs.Plays as plays
-use Rattle.nm_table.specs.Plays.{Knowing, mine, InHand, with_hand, with_put, Took}
+use Rattle.nm_chain.specs.Rule.{Load, Suits, hand, sender, number, sent_to, posted, put_to, from}
+use Rattle.nm_chain.specs.Plays as plays
+use Rattle.nm_chain.specs.Plays.{Knowing, mine, InHand, with_hand, with_put, Took}
 use Rattle.nm_cells.specs.Carried.{times, slots_with, in_hand, Carries, held_in}
 use Rattle.nm_cells.specs.declared.cell.Queue as cells
 use Rattle.nm_cells.specs.declared.cell.Queue.TheVariants.{Receive, Free}
@@ -32,9 +32,9 @@ use Rattle.nm_cells.specs.Ports.{posted_in, sent_into, HasRoomFor, MayJoin}
 use Rattle.std.proofs.lemmas.List.Sums.{sum_by-set}
 use Rattle.nm_cells.specs.Counted.{CountsFor, counted_after, peer_in, new_tally, all_unpassed}
 use Rattle.nm_cells.specs.Counted.{Counts, with_peer, one_sent, one_arrived, IsUnpassedOf, IsOneOf}
-use Rattle.nm_table.specs.declared.table.Entry.{Entry}
+use Rattle.nm_chain.specs.declared.table.table.Entry.{Entry}
 use mathlib.Core.Logic.{dite}
-use Rattle.nm_table.proofs.QueueLemmas.{below_yes, below_no}
+use Rattle.nm_chain.proofs.QueueLemmas.{below_yes, below_no}
 use Rattle.nm_cells.proofs.CarriedLemmas.{none_in_hand, within, count_within, hand_changes}
 use Rattle.nm_cells.proofs.CarriedLemmas.{cell_taken, cell_given, in_hand_one, in_hand_below}
 use Rattle.nm_cells.proofs.CarriedLemmas.{first_removed, roomier}

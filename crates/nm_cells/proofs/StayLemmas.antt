@@ -1,9 +1,9 @@
 -- What a step on the head of an own queue leaves of a port.
 use Rattle.std.proofs.Common.{◌≡◌, ℕ, ◌*◌, ◌<◌, Bool, true, false, [], ◌∷◌, length, ap, ◌∙◌}
-use Rattle.nm_seats.specs.Spoken.{view}
-use Rattle.nm_table.specs.declared.table.Heads.{Heads}
-use Rattle.nm_table.specs.declared.table.Misses.{Misses}
-use Rattle.nm_table.specs.Plays.{Knowing, mine, with_heads, with_missed}
+use Rattle.nm_chain.specs.Spoken.{view}
+use Rattle.nm_chain.specs.declared.table.table.Heads.{Heads}
+use Rattle.nm_chain.specs.declared.table.table.Misses.{Misses}
+use Rattle.nm_chain.specs.Plays.{Knowing, mine, with_heads, with_missed}
 use Rattle.nm_cells.specs.declared.port.Port.{Port}
 use Rattle.nm_cells.specs.declared.port.Fabric.{Fabric}
 use Rattle.nm_cells.specs.Carried.{held_in}

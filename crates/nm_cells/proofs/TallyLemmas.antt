@@ -9,9 +9,9 @@ use lib.ListN.{get_elem?}
 use Rattle.nm_types.specs.Sizes.{Sizes}
 use Rattle.nm_types.specs.declared.packets.Packet.{Packet}
 use Rattle.nm_chain.specs.Sequence.{Got, InSequence}
-use Rattle.nm_table.specs.declared.table.Entry.{Entry}
-use Rattle.nm_table.specs.Rule.{Rule, World, sender, number, from, put_to, sent_to, loads}
-use Rattle.nm_table.specs.Plays.{AllBelow, no_entry}
+use Rattle.nm_chain.specs.declared.table.table.Entry.{Entry}
+use Rattle.nm_chain.specs.Rule.{Rule, World, sender, number, from, put_to, sent_to, loads}
+use Rattle.nm_chain.specs.Plays.{AllBelow, no_entry}
 use Rattle.nm_cells.specs.declared.tallies.Tally.{Tally}
 use Rattle.nm_cells.specs.declared.port.Fabric.{Fabric}
 use Rattle.nm_cells.specs.declared.port.Port.{Port}
@@ -24,9 +24,9 @@ use Rattle.nm_cells.proofs.PathListLemmas.{numbers, packets_append, full_numbers
 use Rattle.nm_cells.proofs.PathListLemmas.{all_sent, all_taken, taken_begin}
 use Rattle.nm_cells.proofs.PortLemmas.{peer_sent}
 use Rattle.nm_cells.proofs.BoxCallLemmas.{all_below}
-use Rattle.nm_facts.proofs.Lists.{get_some as there, get_map, map_length, no_item}
-use Rattle.nm_facts.proofs.Options.{same_some}
-use Rattle.nm_seats.proofs.ListLemmas.{get_mapped}
+use Rattle.nm_types.proofs.ListLemmas.{get_some as there, get_map, map_length, no_item}
+use Rattle.nm_types.proofs.OptionLemmas.{same_some}
+use Rattle.nm_chain.proofs.ListLemmas.{get_mapped}
 
 -- the rank i knew e at the end, and the rank j knew g
 module _ (key : Sizes) (es : List Entry) (home : ℕ) (S : Settled key es home) (i j : ℕ)

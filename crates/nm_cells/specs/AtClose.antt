@@ -4,14 +4,14 @@ use mathlib.Core.Option as maybe
 use native.Mathlib.Decide.{ℕ_discrete}
 use lib.ListN.{get_elem?}
 use Rattle.atomic_table.specs.Table.{State}
-use Rattle.nm_seats.specs.declared.views.View.{View}
+use Rattle.nm_chain.specs.declared.seats.views.View.{View}
 use Rattle.nm_chain.specs.Chain.{Has, loose, held, ready, entering, queued}
 use Rattle.nm_types.specs.Sizes.{Sizes}
-use Rattle.nm_table.specs.declared.table.Hand.TheVariants.{Away}
-use Rattle.nm_table.specs.declared.table.Entry.{Entry}
-use Rattle.nm_table.specs.Rule.{put_to, from, Load, Place, hand, sent_to, Rule}
-use Rattle.nm_table.specs.Plays.{AllBelow}
-use Rattle.nm_seats.specs.Update.{pick}
+use Rattle.nm_chain.specs.declared.table.table.Hand.TheVariants.{Away}
+use Rattle.nm_chain.specs.declared.table.table.Entry.{Entry}
+use Rattle.nm_chain.specs.Rule.{put_to, from, Load, Place, hand, sent_to, Rule}
+use Rattle.nm_chain.specs.Plays.{AllBelow}
+use Rattle.nm_chain.specs.Update.{pick}
 
 -- the entry of each rank, in order, of which none has a cell in hand
 abbrev pub Gathered : ℕ → ℕ → List Entry → Type 0

@@ -2,12 +2,12 @@
 use Rattle.std.specs.Prelude.{◌≡◌, ℕ, zero, suc, ◌+◌, ◌*◌, ◌<◌, ◌≤◌, Bool, true, false}
 use Rattle.std.specs.Prelude.{Option, Some, List, map}
 use native.Mathlib.Decide.{ℕ_discrete}
-use Rattle.nm_seats.specs.Update.{pick}
-use Rattle.nm_table.specs.declared.table.Entry.{Entry}
-use Rattle.nm_table.specs.Rule.{Load}
-use Rattle.nm_table.specs.Plays.{load_in}
+use Rattle.nm_chain.specs.Update.{pick}
+use Rattle.nm_chain.specs.declared.table.table.Entry.{Entry}
+use Rattle.nm_chain.specs.Rule.{Load}
+use Rattle.nm_chain.specs.Plays.{load_in}
 use Rattle.nm_cells.specs.Carried.{times, empties}
-use Rattle.nm_table.specs.NextBox.{next_box, work, BoxesApart}
+use Rattle.nm_chain.specs.NextBox.{next_box, work, BoxesApart}
 
 -- f 0 + f 1 + .. , of the first n
 abbrev pub sum_to : (ℕ → ℕ) → ℕ → ℕ

@@ -2,11 +2,11 @@
 use Rattle.std.specs.Prelude.{◌≡◌, ℕ, suc, ◌+◌, ◌<◌, ◌≤◌, Bool, true, false, Option, Some, None}
 use Rattle.std.specs.Prelude.{List, [], ◌∷◌, length, map, sum_by, slice_index_or}
 use native.Mathlib.Decide.{ℕ_discrete, dec_le}
-use Rattle.nm_seats.specs.Update.{pick}
-use Rattle.nm_table.specs.declared.table.Hand.{Hand}
-use Rattle.nm_table.specs.declared.table.Hand.TheVariants.{Away, Loose, Held, Ready, Entering}
-use Rattle.nm_table.specs.Rule.{Load, if_below}
-use Rattle.nm_table.specs.Plays.{load_in}
+use Rattle.nm_chain.specs.Update.{pick}
+use Rattle.nm_chain.specs.declared.table.table.Hand.{Hand}
+use Rattle.nm_chain.specs.declared.table.table.Hand.TheVariants.{Away, Loose, Held, Ready, Entering}
+use Rattle.nm_chain.specs.Rule.{Load, if_below}
+use Rattle.nm_chain.specs.Plays.{load_in}
 
 -- how often the number k stands among these
 abbrev pub times : ℕ → List ℕ → ℕ

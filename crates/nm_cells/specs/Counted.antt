@@ -8,9 +8,9 @@ use Rattle.nm_types.specs.declared.limits.TheConstants.{MAX_PACKETS}
 use Rattle.nm_types.specs.declared.packets.Packet.{Packet}
 use Rattle.nm_chain.specs.Sequence.{Each, Rises, Got}
 use Rattle.nm_cells.specs.declared.tallies.Tally.{Tally}
-use Rattle.nm_table.specs.declared.table.Entry.{Entry}
-use Rattle.nm_table.specs.Rule.{Load, put_to, from, number, sent_to, if_below}
-use Rattle.nm_table.specs.Plays.{raised}
+use Rattle.nm_chain.specs.declared.table.table.Entry.{Entry}
+use Rattle.nm_chain.specs.Rule.{Load, put_to, from, number, sent_to, if_below}
+use Rattle.nm_chain.specs.Plays.{raised}
 
 -- a rank of which nothing came and to which nothing went
 abbrev pub new_tally : Tally

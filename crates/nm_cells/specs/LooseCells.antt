@@ -1,9 +1,9 @@
 -- The cells of a port that are loose.
 use Rattle.std.specs.Prelude.{◌≡◌, ℕ, ◌/◌, ◌<◌, ◌≤◌, None, List, length}
-use Rattle.nm_table.specs.declared.table.Hand.TheVariants.{Held}
-use Rattle.nm_table.specs.declared.table.Entry.{Entry}
-use Rattle.nm_table.specs.Rule.{Load, hand}
-use Rattle.nm_table.specs.Plays.{load_in}
+use Rattle.nm_chain.specs.declared.table.table.Hand.TheVariants.{Held}
+use Rattle.nm_chain.specs.declared.table.table.Entry.{Entry}
+use Rattle.nm_chain.specs.Rule.{Load, hand}
+use Rattle.nm_chain.specs.Plays.{load_in}
 use Rattle.nm_cells.specs.declared.loose.LooseCells.{LooseCells}
 
 -- the cell c is one of these

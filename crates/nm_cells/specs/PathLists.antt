@@ -2,13 +2,13 @@
 use Rattle.std.specs.Prelude.{◌≡◌, ℕ, zero, suc, ◌<◌, Some, None, List, [], ◌∷◌, ◌++◌, length, slice_index_or}
 use native.Mathlib.Decide.{ℕ_discrete}
 use Rattle.nm_types.specs.declared.packets.Packet.{Packet}
-use Rattle.nm_seats.specs.declared.views.View.{View}
-use Rattle.nm_table.specs.declared.table.Entry.{Entry}
-use Rattle.nm_table.specs.Rule.{Load, put_to, from, sent_to}
-use Rattle.nm_table.specs.Plays.{no_entry}
+use Rattle.nm_chain.specs.declared.seats.views.View.{View}
+use Rattle.nm_chain.specs.declared.table.table.Entry.{Entry}
+use Rattle.nm_chain.specs.Rule.{Load, put_to, from, sent_to}
+use Rattle.nm_chain.specs.Plays.{no_entry}
 use Rattle.nm_cells.specs.declared.tallies.Tally.{Tally}
 use Rattle.nm_cells.specs.Counted.{peer_in}
-use Rattle.nm_seats.specs.Update.{pick}
+use Rattle.nm_chain.specs.Update.{pick}
 
 -- the packets among these
 abbrev pub packets : List Load → List Packet

@@ -3,21 +3,21 @@ use Rattle.std.specs.Prelude.{◌≡◌, ◌≢◌, ℕ, suc, ◌+◌, ◌*◌, 
 use Rattle.std.specs.Prelude.{Some, None, IsSome, List, [], ◌∷◌, length}
 use Rattle.nm_types.specs.declared.limits.TheConstants.{MAX_PACKETS}
 use Rattle.nm_types.specs.declared.packets.Packet.{Packet}
-use Rattle.nm_seats.specs.Update.{update}
-use Rattle.nm_table.specs.declared.table.Hand.TheVariants.{Away, Entering}
-use Rattle.nm_table.specs.declared.table.Entry.{Entry}
+use Rattle.nm_chain.specs.Update.{update}
+use Rattle.nm_chain.specs.declared.table.table.Hand.TheVariants.{Away, Entering}
+use Rattle.nm_chain.specs.declared.table.table.Entry.{Entry}
 use Rattle.nm_cells.specs.declared.port.Port.{Port}
 use Rattle.nm_cells.specs.declared.port.Fabric.{Fabric}
 use Rattle.nm_cells.specs.declared.cell.Cell.{Cell}
 use Rattle.nm_cells.specs.declared.cell.Pending as pending
 use Rattle.nm_cells.specs.declared.cell.Queue as queues
 use Rattle.nm_cells.specs.declared.cell.Queue.TheVariants.{Receive, Free}
-use Rattle.nm_table.specs.declared.table.Look.{Look}
-use Rattle.nm_table.specs.Rule.{Load, hand, sender, number, sent_to}
-use Rattle.nm_table.specs.Rule.{emptying_of}
-use Rattle.nm_table.specs.Rule.{newcomer}
-use Rattle.nm_table.specs.Plays.{mine, InHand, heads_of, taken, box_load}
-use Rattle.nm_table.specs.Looks.{look_in}
+use Rattle.nm_chain.specs.declared.table.table.Look.{Look}
+use Rattle.nm_chain.specs.Rule.{Load, hand, sender, number, sent_to}
+use Rattle.nm_chain.specs.Rule.{emptying_of}
+use Rattle.nm_chain.specs.Rule.{newcomer}
+use Rattle.nm_chain.specs.Plays.{mine, InHand, heads_of, taken, box_load}
+use Rattle.nm_chain.specs.Looks.{look_in}
 use Rattle.nm_cells.specs.Carried.{held_in}
 use Rattle.nm_cells.specs.LooseCells.{IsAmong}
 use Rattle.nm_cells.specs.declared.tallies.Tally.{Tally}

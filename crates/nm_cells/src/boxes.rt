@@ -7,10 +7,10 @@
 ghost use Rattle.std.specs.Prelude.{◌≡◌, ℕ, ◌+◌, ◌*◌, ◌%◌, ◌<◌, ◌≤◌, ◌∷◌, [], Some, None};
 ghost use Rattle.std.specs.Prelude.{true, false, length, is_some, vec_len, vec_capacity};
 ghost use Rattle.nm_types.specs.declared.limits.TheConstants.{MAX_BOX};
-ghost use Rattle.nm_seats.specs.Update.{update};
-ghost use Rattle.nm_table.specs.Rule.{box_slot, filling_of, emptying_of};
-ghost use Rattle.nm_table.specs.Plays.{with_filling, with_emptying, with_box_full, with_box_miss};
-ghost use Rattle.nm_table.specs.Plays.{with_put_box, with_got_box, box_load, Overtaken};
+ghost use Rattle.nm_chain.specs.Update.{update};
+ghost use Rattle.nm_chain.specs.Rule.{box_slot, filling_of, emptying_of};
+ghost use Rattle.nm_chain.specs.Plays.{with_filling, with_emptying, with_box_full, with_box_miss};
+ghost use Rattle.nm_chain.specs.Plays.{with_put_box, with_got_box, box_load, Overtaken};
 ghost use Rattle.nm_cells.specs.Ports.{Owns, Stays, knows, holding, sent_by, taken_by};
 ghost use Rattle.nm_cells.specs.Ports.{unpassed_by, Empties, opens, unless};
 
@@ -19,8 +19,8 @@ use crate::slots::{bring_slot, carry, empty_slot, fill_slot};
 use crate::tallies::{
     count_boxed, count_full, count_miss, count_unboxed, note_emptying, note_filling,
 };
-use nm_seats::Steps;
-use nm_table::{BoxStep, Fills, LooksIn, LooksOut, Vacates, flag_word};
+use nm_chain::seats::Steps;
+use nm_chain::table::{BoxStep, Fills, LooksIn, LooksOut, Vacates, flag_word};
 use nm_types::Packet;
 use std::marker::Brand;
 use std::sync::ledger::Ledger;

@@ -3,7 +3,7 @@
 ghost use Rattle.std.specs.Prelude.{◌≡◌, ℕ, ◌+◌, ◌*◌, ◌<◌, ◌≤◌, [], ◌∷◌, Some, length, map};
 ghost use Rattle.std.specs.Prelude.{slice_get};
 ghost use Rattle.std.specs.Prelude.{vec_len, vec_capacity};
-ghost use Rattle.nm_seats.specs.Spoken.{view};
+ghost use Rattle.nm_chain.specs.Spoken.{view};
 ghost use Rattle.nm_cells.specs.declared.port.Port.{Port};
 ghost use Rattle.nm_cells.specs.AtClose.{Gathered, Prefixed, AllCame, Settled};
 ghost use Rattle.nm_cells.specs.Ports.{Owns, knows, sent_by, taken_by};
@@ -13,8 +13,8 @@ ghost use Rattle.nm_cells.specs.ClosedLists.{entries, sent_list, taken_list, All
 use crate::closed::Closed;
 use crate::port::{Fabric, Port};
 use crate::tallies::Tally;
-use nm_seats::{Joins, Seals};
-use nm_table::{Board, BoardSeat};
+use nm_chain::seats::{Joins, Seals};
+use nm_chain::table::{Board, BoardSeat};
 use nm_types::Account;
 
 // One more port's counts, before those of the others.

@@ -5,8 +5,8 @@ ghost use Rattle.nm_cells.specs.PathLists.{seen_in, Tallied};
 
 use crate::tallies::Tally;
 use atomic_table::Badge;
-use nm_seats::View;
-use nm_table::Entry;
+use nm_chain::seats::View;
+use nm_chain::table::Entry;
 use nm_types::Account;
 
 /// A fabric that is closed. It keeps what its ports knew, of which no value is made, and what they

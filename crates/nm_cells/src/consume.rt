@@ -6,21 +6,21 @@
 ghost use Rattle.std.specs.Prelude.{true, false, ◌≡◌, ◌≢◌, ℕ, suc, ◌+◌, ◌-◌, ◌*◌, ◌/◌, ◌<◌, ◌≤◌};
 ghost use Rattle.std.specs.Prelude.{◌^◌, ◌∷◌};
 ghost use Rattle.std.specs.Prelude.{◌↔◌, IsTrue, IfSome, IfNone, length, vec_len, vec_capacity};
-ghost use Rattle.nm_table.specs.Plays.{queue, heads_of, with_heads, heads_at, with_missed};
-ghost use Rattle.nm_table.specs.Plays.{with_look, with_link_empty};
-ghost use Rattle.nm_table.specs.Looks.{IsLinkEmpty};
+ghost use Rattle.nm_chain.specs.Plays.{queue, heads_of, with_heads, heads_at, with_missed};
+ghost use Rattle.nm_chain.specs.Plays.{with_look, with_link_empty};
+ghost use Rattle.nm_chain.specs.Looks.{IsLinkEmpty};
 ghost use Rattle.nm_cells.specs.Counted.{peer_in, counted_after};
-ghost use Rattle.nm_table.specs.Plays.{head_miss, link_miss};
+ghost use Rattle.nm_chain.specs.Plays.{head_miss, link_miss};
 ghost use Rattle.nm_cells.specs.Ports.{Owns, Stays, knows, holding, Takes, Leaves, look_of};
 ghost use Rattle.nm_cells.specs.Ports.{IsOwn, is_receive};
-ghost use Rattle.nm_table.specs.declared.table.Look.TheVariants.{LinkEmpty, TailElsewhere};
+ghost use Rattle.nm_chain.specs.declared.table.table.Look.TheVariants.{LinkEmpty, TailElsewhere};
 
 use crate::cell::{Cell, Queue};
 use crate::port::{Fabric, Port};
 use crate::slots::carry;
 use crate::tallies::{Tally, count_arrived};
-use nm_seats::Steps;
-use nm_table::{
+use nm_chain::seats::Steps;
+use nm_chain::table::{
     ClearsHead, Drains, Heads, LoadsHead, Passes, Reloads, head_word, link_word, tail_word,
 };
 use std::sync::ledger::Ledger;

@@ -2,10 +2,10 @@
 
 ghost use Rattle.std.specs.Prelude.{◌≡◌, ◌≢◌, ◌+◌, ◌<◌, ◌↔◌, ◌^◌, IsTrue, Some, None};
 ghost use Rattle.std.specs.Prelude.{option_copied, slice_index, length};
-ghost use Rattle.nm_seats.specs.Update.{update};
+ghost use Rattle.nm_chain.specs.Update.{update};
 ghost use Rattle.nm_cells.specs.Counted.{peer_in};
-ghost use Rattle.nm_table.specs.Rule.{put_to, from as from_rank};
-ghost use Rattle.nm_table.specs.Plays.{heads_of, missed_of, capped};
+ghost use Rattle.nm_chain.specs.Rule.{put_to, from as from_rank};
+ghost use Rattle.nm_chain.specs.Plays.{heads_of, missed_of, capped};
 ghost use Rattle.nm_cells.specs.Ports.{knows, sent_by, taken_by, unpassed_by, IsOwn, IsUnpassed};
 ghost use Rattle.nm_cells.specs.Ports.{is_receive};
 

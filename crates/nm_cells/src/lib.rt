@@ -32,7 +32,7 @@
 //! number (`sent_list`, `taken_list`).
 //!
 //! # What is proved
-//! - The rule of the shared table (`nm_table`) holds between any two steps of any ranks: each cell
+//! - The rule of the shared table (`nm_chain::table`) holds between any two steps of any ranks: each cell
 //!   is loose, in one hand or in one chain, each chain has its words and links, free chains hold
 //!   their owners' empty cells, and what was put on each way is what was got and what is under way,
 //!   in order.

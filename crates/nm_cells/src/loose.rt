@@ -2,15 +2,15 @@
 //! `loose` gave them.
 
 ghost use Rattle.std.specs.Prelude.{◌≡◌, ◌↔◌, ◌+◌, ◌/◌, ◌<◌, ◌≤◌, ℕ, None, IfSome, IfNone};
-ghost use Rattle.nm_table.specs.declared.table.Hand.TheVariants.{Held, Loose};
-ghost use Rattle.nm_table.specs.Rule.{hand};
-ghost use Rattle.nm_table.specs.Plays.{with_hand};
+ghost use Rattle.nm_chain.specs.declared.table.table.Hand.TheVariants.{Held, Loose};
+ghost use Rattle.nm_chain.specs.Rule.{hand};
+ghost use Rattle.nm_chain.specs.Plays.{with_hand};
 ghost use Rattle.nm_cells.specs.Ports.{Owns, SameTaken, knows, cells_of, IsLoose, Frees};
 
 use crate::cell::Cell;
 use crate::port::{Fabric, Port};
 use crate::slots::carry;
-use nm_table::{Picks, link_word};
+use nm_chain::table::{Picks, link_word};
 
 /// The cells with numbers from `first` on and below `end`.
 #[derive(Clone, Copy)]

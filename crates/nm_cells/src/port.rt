@@ -1,7 +1,7 @@
 //! The fabric, and the port of a rank.
 
 ghost use Rattle.std.specs.Prelude.{◌≡◌, ℕ, ◌+◌, ◌*◌, ◌<◌, ◌≤◌, length, vec_capacity, []};
-ghost use Rattle.nm_table.specs.Plays.{Alone, mine};
+ghost use Rattle.nm_chain.specs.Plays.{Alone, mine};
 ghost use Rattle.nm_cells.specs.Carried.{Carries};
 ghost use Rattle.nm_cells.specs.AtWork.{HoldsBoxes};
 ghost use Rattle.nm_cells.specs.Counted.{CountsFor};
@@ -9,7 +9,7 @@ ghost use Rattle.nm_cells.specs.LooseCells.{AreKept};
 
 use crate::loose::LooseCells;
 use crate::tallies::Tally;
-use nm_table::{Board, BoardSeat, Heads, Misses};
+use nm_chain::table::{Board, BoardSeat, Heads, Misses};
 use nm_types::Packet;
 
 /// The cells, boxes and queues that the ranks share.

@@ -1,10 +1,10 @@
 //! The calls of a producer: the three steps of an enqueue.
 
 ghost use Rattle.std.specs.Prelude.{◌≡◌, suc, ◌+◌, ◌-◌, ◌*◌, ◌<◌, ◌≤◌, ◌^◌, None};
-ghost use Rattle.nm_seats.specs.Update.{update};
-ghost use Rattle.nm_table.specs.declared.table.Hand.TheVariants.{Away, Ready, Entering};
-ghost use Rattle.nm_table.specs.Rule.{hand};
-ghost use Rattle.nm_table.specs.Plays.{with_hand, with_put};
+ghost use Rattle.nm_chain.specs.Update.{update};
+ghost use Rattle.nm_chain.specs.declared.table.table.Hand.TheVariants.{Away, Ready, Entering};
+ghost use Rattle.nm_chain.specs.Rule.{hand};
+ghost use Rattle.nm_chain.specs.Plays.{with_hand, with_put};
 ghost use Rattle.nm_cells.specs.Ports.{Owns, Stays, knows, holding, HasCell, Awaits, MayJoin};
 ghost use Rattle.nm_cells.specs.Ports.{queue_of, rank_of_queue, posted_in, sent_into, HasRoomFor};
 
@@ -12,8 +12,8 @@ use crate::cell::{Cell, Pending, Queue};
 use crate::port::{Fabric, Port};
 use crate::slots::bring_cell;
 use crate::tallies::{Tally, count_sent};
-use nm_seats::Steps;
-use nm_table::{Clears, Finishes, Swaps, head_word, link_word, tail_word};
+use nm_chain::seats::Steps;
+use nm_chain::table::{Clears, Finishes, Swaps, head_word, link_word, tail_word};
 use std::sync::ledger::Ledger;
 
 impl Fabric {

@@ -4,15 +4,15 @@ ghost use Rattle.std.specs.Prelude.{◌≡◌, ◌+◌, ◌<◌, ◌≤◌, ◌�
 ghost use Rattle.std.specs.Prelude.{take, drop};
 ghost use Rattle.std.specs.Prelude.{IsSome, slice_index, vec_len, vec_capacity};
 ghost use Rattle.atomic_table.specs.Table.{rest};
-ghost use Rattle.nm_seats.specs.Update.{update};
-ghost use Rattle.nm_table.specs.Rule.{Load, hand};
-ghost use Rattle.nm_table.specs.Plays.{InHand, first_load, load_in};
+ghost use Rattle.nm_chain.specs.Update.{update};
+ghost use Rattle.nm_chain.specs.Rule.{Load, hand};
+ghost use Rattle.nm_chain.specs.Plays.{InHand, first_load, load_in};
 ghost use Rattle.nm_cells.specs.Carried.{times};
 ghost use Rattle.nm_cells.specs.Ports.{Owns, Stays, HasCell, knows, slots, holding};
 
 use crate::cell::Cell;
 use crate::port::{Fabric, Port};
-use nm_table::{Board, BoardSeat};
+use nm_chain::table::{Board, BoardSeat};
 use nm_types::Packet;
 
 // One more slot is in hand.

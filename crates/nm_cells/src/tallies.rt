@@ -5,7 +5,7 @@ ghost use Rattle.nm_cells.specs.Counted.{peer_in, with_peer, one_sent, one_arriv
 ghost use Rattle.nm_cells.specs.Counted.{one_opened, one_begun, one_unboxed, one_full, one_miss};
 ghost use Rattle.nm_cells.specs.Counted.{one_passed};
 
-use nm_table::one_more;
+use nm_chain::table::one_more;
 
 /// What a port counts of one rank, which may be its own.
 #[derive(Clone, Copy)]

@@ -3,8 +3,8 @@ use Rattle.std.proofs.Common.{◌≡◌, ◌≢◌, ℕ, suc, ◌⊎◌, List, [
 use Rattle.std.proofs.Common.{inr, subst, ⊎_elim, arith}
 use mathlib.Core.Logic.{dite}
 use native.Mathlib.Decide.{ℕ_discrete}
-use Rattle.nm_seats.specs.Update.{update}
-use Rattle.nm_seats.proofs.UpdateLemmas.{update_here, update_else}
+use Rattle.nm_chain.specs.Update.{update}
+use Rattle.nm_chain.proofs.UpdateLemmas.{update_here, update_else}
 use Rattle.nm_chain.specs.Chain.{Item, Place, held, entering, queued, item, IsIn, Each, Has, Lacks}
 use Rattle.nm_chain.specs.Chain.{Once, last_from, tail_of, Begins, Follows, Linked, IsChain}
 

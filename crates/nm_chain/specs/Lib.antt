@@ -1,2 +1,11 @@
 pub mod Chain
+pub mod Looks
+pub mod NextBox
+pub mod Plays
+pub mod Rule
 pub mod Sequence
+pub mod Slots
+pub mod Spoken
+pub mod Total
+pub mod Update
+pub mod Window

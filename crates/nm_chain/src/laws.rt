@@ -1,7 +1,7 @@
 //! Laws of the definitions. Each is the contract of a function that does nothing.
 
 ghost use Rattle.std.specs.Prelude.{◌≡◌, ◌≢◌, ℕ, suc, ◌<◌, ◌⊎◌, List, [], ◌∷◌, ◌++◌};
-ghost use Rattle.nm_seats.specs.Update.{update};
+ghost use Rattle.nm_chain.specs.Update.{update};
 ghost use Rattle.nm_chain.specs.Chain.{Place, held, entering, queued, Item, item, IsIn};
 ghost use Rattle.nm_chain.specs.Chain.{Has as Stands, IsChain};
 ghost use Rattle.nm_chain.specs.Sequence.{Has, Got, InSequence};

@@ -26,3 +26,5 @@
 #![tactic(auto)]
 
 pub mod laws;
+pub mod seats;
+pub mod table;

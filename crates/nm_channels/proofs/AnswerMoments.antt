@@ -11,15 +11,15 @@ use Rattle.nm_history.specs.declared.events.Happened.TheVariants.{Out}
 use Rattle.nm_history.specs.AtEach.{AtEach, AtEachAfter}
 use Rattle.nm_history.specs.Sends.{Sent}
 use Rattle.nm_history.specs.Underway.{is_answer}
-use Rattle.nm_protocol.specs.Known.{Known, known_by}
-use Rattle.nm_protocol.specs.Effects.{happenings, packet_events, whole_if, is_empty_send}
-use Rattle.nm_protocol.specs.Pieces.{Pulled, Due, piece_makes, is_due}
+use Rattle.nm_history.specs.Known.{Known, known_by}
+use Rattle.nm_history.specs.Effects.{happenings, packet_events, whole_if, is_empty_send}
+use Rattle.nm_history.specs.Pieces.{Pulled, Due, piece_makes, is_due}
 use Rattle.nm_channels.specs.Moments.{Moment, Cause, history_of, taken_from, EachMomentAfter}
 use Rattle.nm_channels.specs.Moments.Cause.{Acted, Took, Drew}
 use Rattle.nm_channels.specs.Sound.{AreSound, MayHappen, MadeBy, OwnEvent}
 use Rattle.nm_channels.proofs.Delivering.{history-push}
-use Rattle.nm_facts.proofs.Lists.{all_append}
-use Rattle.nm_protocol.proofs.Right.{append_after}
+use Rattle.nm_types.proofs.ListLemmas.{all_append}
+use Rattle.nm_history.proofs.Right.{append_after}
 
 -- the moment of an event that the rank did by itself
 pub record OwnMoment (eager : ℕ) (bodies : Sent → List ℕ) (commands : List Numbered) (log : List Moment)

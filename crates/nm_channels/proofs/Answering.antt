@@ -17,18 +17,18 @@ use Rattle.nm_channels.proofs.Streams.{clashes, NoClash}
 use Rattle.nm_channels.specs.Moments.{Moment, Cause, history_of, taken_from, taken_of, clock_at, clock_after, clock_of}
 use Rattle.nm_channels.specs.Moments.{EachMomentAfter}
 use Rattle.nm_channels.specs.Sound.{AreSound, MayHappen, MadeBy}
-use Rattle.nm_protocol.specs.Clock.{AreStamped}
+use Rattle.nm_history.specs.Clock.{AreStamped}
 use Rattle.std.proofs.lemmas.List.Folds.{list_any-append}
-use Rattle.nm_protocol.specs.Continues.{has, is_of_stream, continues_stream, continues_answer, WORN_STAMP}
-use Rattle.nm_protocol.specs.Known.{Known, Taken, known_by, known_after, learned}
+use Rattle.nm_history.specs.Continues.{has, is_of_stream, continues_stream, continues_answer, WORN_STAMP}
+use Rattle.nm_history.specs.Known.{Known, Taken, known_by, known_after, learned}
 use Rattle.nm_channels.specs.Moments.Cause.{Acted, Took, Drew}
 use Rattle.nm_channels.proofs.Arriving.{known-push}
 use Rattle.nm_channels.proofs.Delivering.{history-push}
-use Rattle.nm_protocol.proofs.Basic.{lt_true}
-use Rattle.nm_protocol.proofs.Growing.{fold-append}
+use Rattle.nm_history.proofs.Basic.{lt_true}
+use Rattle.nm_history.proofs.Growing.{fold-append}
 use Rattle.nm_history.specs.Outgoing.{bare}
-use Rattle.nm_facts.proofs.Numbers.{eq_true, lt_false, same_number}
-use Rattle.nm_facts.proofs.Lists.{all_append, all_along}
+use Rattle.nm_types.proofs.NumberLemmas.{eq_true, lt_false, same_number}
+use Rattle.nm_types.proofs.ListLemmas.{all_append, all_along}
 
 -- a send by asking of message n to this rank
 abbrev pub is_asked_send : ℕ → ℕ → Happened → Bool

@@ -18,14 +18,14 @@ use Rattle.nm_channels.proofs.Streams.{Announced, announced_as, announced_by, an
 use Rattle.nm_channels.specs.Moments.{Moment, Cause, history_of, taken_from, taken_of, clock_at, clock_of}
 use Rattle.nm_channels.specs.Moments.{EachMomentAfter}
 use Rattle.nm_channels.specs.Sound.{MayHappen, MadeBy, OwnEvent}
-use Rattle.nm_protocol.specs.Clock.{AreStamped}
-use Rattle.nm_protocol.specs.Continues.{WORN_STAMP, continues_stream, is_of_stream}
-use Rattle.nm_protocol.specs.Effects.{happenings, packet_makes, ask_ends, whole_if}
-use Rattle.nm_protocol.specs.Known.{Known, Taken, known_by, known_after, nothing_known}
-use Rattle.nm_protocol.specs.Pieces.{Pulled, piece_makes, Due, is_due}
+use Rattle.nm_history.specs.Clock.{AreStamped}
+use Rattle.nm_history.specs.Continues.{WORN_STAMP, continues_stream, is_of_stream}
+use Rattle.nm_history.specs.Effects.{happenings, packet_makes, ask_ends, whole_if}
+use Rattle.nm_history.specs.Known.{Known, Taken, known_by, known_after, nothing_known}
+use Rattle.nm_history.specs.Pieces.{Pulled, piece_makes, Due, is_due}
 use Rattle.nm_channels.specs.Moments.Cause.{Acted, Took, Drew}
-use Rattle.nm_protocol.proofs.Growing.{fold-append}
-use Rattle.nm_facts.proofs.Numbers.{same_number}
+use Rattle.nm_history.proofs.Growing.{fold-append}
+use Rattle.nm_types.proofs.NumberLemmas.{same_number}
 use Rattle.nm_history.proofs.AppendLemmas.{arrivals-append}
 
 -- an arrival is that of an announced message, and has a greater stamp

@@ -28,10 +28,10 @@ use Rattle.nm_history.specs.Outgoing.{CalledPiece, AreCalledPieces}
 use Rattle.nm_history.specs.RankRun.{Always, AnswerAt, WholeAt}
 use Rattle.nm_history.proofs.AtEachLemmas.{AtEach-split, AtEach-from_splits}
 use Rattle.nm_history.proofs.OnceLemmas.{find_among}
-use Rattle.nm_protocol.specs.Effects.{happenings}
-use Rattle.nm_protocol.specs.Pieces.{Pulled, Due, count_continued}
+use Rattle.nm_history.specs.Effects.{happenings}
+use Rattle.nm_history.specs.Pieces.{Pulled, Due, count_continued}
 use Rattle.nm_channels.specs.Moments.{Moment, history_of, EachMomentAfter}
-use Rattle.nm_protocol.proofs.Basic.{self_true, on_test}
+use Rattle.nm_history.proofs.Basic.{self_true, on_test}
 use Rattle.nm_channels.proofs.Numbers.{SentBefore, pairs_came, send_at}
 use Rattle.nm_channels.proofs.Granting.{same_sent}
 use Rattle.nm_channels.proofs.Cutting.{Matches}
@@ -42,10 +42,10 @@ use Rattle.nm_channels.proofs.AnswerMoments.{OwnMoment}
 use Rattle.nm_channels.proofs.Recalls.{all_at}
 use Rattle.nm_history.specs.Underway.{is_answer}
 use Rattle.std.proofs.lemmas.List.Folds.{list_any-append}
-use Rattle.nm_protocol.proofs.Sent.{happened-append}
-use Rattle.nm_facts.proofs.Truth.{or_left, both, or_right, and_left, and_right}
-use Rattle.nm_facts.proofs.Numbers.{same_number}
-use Rattle.nm_facts.proofs.Lists.{find_passes, find_some, front_empty}
+use Rattle.nm_history.proofs.Sent.{happened-append}
+use Rattle.nm_types.proofs.TruthLemmas.{or_left, both, or_right, and_left, and_right}
+use Rattle.nm_types.proofs.NumberLemmas.{same_number}
+use Rattle.nm_types.proofs.ListLemmas.{find_passes, find_some, front_empty}
 use Rattle.nm_history.proofs.EachLemmas.{pieces_count as called_count}
 
 -- the rest of a sound log

@@ -9,15 +9,15 @@ use Rattle.nm_history.specs.Happens.{happened, is_whole}
 use Rattle.nm_history.specs.Matching.{matched_pairs}
 use Rattle.nm_history.specs.Outgoing.{CalledPiece, AreCalledPieces}
 use Rattle.nm_history.specs.Once.{TwoMessages}
-use Rattle.nm_protocol.specs.Known.{Taken, known_by, nothing_known}
-use Rattle.nm_protocol.specs.Continues.{has}
-use Rattle.nm_protocol.specs.Pieces.{Pulled, Due, due_pieces, granted, count_continued}
-use Rattle.nm_protocol.specs.Bytes.{eager_bytes, piece_bytes}
+use Rattle.nm_history.specs.Known.{Taken, known_by, nothing_known}
+use Rattle.nm_history.specs.Continues.{has}
+use Rattle.nm_history.specs.Pieces.{Pulled, Due, due_pieces, granted, count_continued}
+use Rattle.nm_history.specs.Bytes.{eager_bytes, piece_bytes}
 use Rattle.nm_channels.specs.Moments.{Moment, Cause, history_of, taken_from, taken_of, pulled_from, pulled_of}
 use Rattle.nm_channels.specs.Moments.{EachMomentAfter}
 use Rattle.nm_channels.specs.Moments.Cause.{Acted}
 use Rattle.nm_channels.specs.Sound.{AreSound, MayHappen}
-use Rattle.nm_protocol.proofs.Basic.{refuted, any_gives}
+use Rattle.nm_history.proofs.Basic.{refuted, any_gives}
 use Rattle.nm_channels.proofs.Streams.{StreamIsRight, completed, eager_numbers}
 use Rattle.nm_channels.proofs.Streaming.{InTime}
 use Rattle.nm_channels.proofs.Wholes.{IsHere, log_completes}
@@ -31,10 +31,10 @@ use Rattle.nm_channels.proofs.PieceBytes.{numbers_in, granted_distinct, granted_
 use Rattle.nm_channels.proofs.Bodies.{sound_rest, called_parts, zip_parts, pieces_count}
 use Rattle.nm_types.specs.declared.packets.Piece.{Piece}
 use Rattle.std.proofs.lemmas.List.{map-append}
-use Rattle.nm_protocol.proofs.Sent.{NumberedFrom}
-use Rattle.nm_facts.proofs.Numbers.{eq_true, same_number}
-use Rattle.nm_facts.proofs.Truth.{or_left, or_right, and_left, and_right}
-use Rattle.nm_facts.proofs.Lists.{all_split, all_along}
+use Rattle.nm_history.proofs.Sent.{NumberedFrom}
+use Rattle.nm_types.proofs.NumberLemmas.{eq_true, same_number}
+use Rattle.nm_types.proofs.TruthLemmas.{or_left, or_right, and_left, and_right}
+use Rattle.nm_types.proofs.ListLemmas.{all_split, all_along}
 
 -- a moment of the rank's own takes no packet and no piece
 pub taken_around : (i : ℕ) (before : List Moment) (m : Moment) (after : List Moment) → m.cause ≡ Acted →

@@ -16,10 +16,10 @@ use Rattle.nm_history.specs.Sends.{Sent, is_ask}
 use Rattle.nm_history.specs.Matching.{matched_pairs, new_pair}
 use Rattle.nm_history.specs.Outgoing.{Called, outgoing, packets_by, send_packets, eager_packets, clear_packets}
 use Rattle.nm_history.specs.Outgoing.{is_clear, bare}
-use Rattle.nm_protocol.specs.Known.{Taken}
+use Rattle.nm_history.specs.Known.{Taken}
 use Rattle.nm_channels.proofs.Streaming.{Carries}
-use Rattle.nm_facts.proofs.Lists.{all_append, all_along}
-use Rattle.nm_facts.proofs.Numbers.{same_number}
+use Rattle.nm_types.proofs.ListLemmas.{all_append, all_along}
+use Rattle.nm_types.proofs.NumberLemmas.{same_number}
 
 -- the event that such a packet to this rank is of, after the events before it
 abbrev pub Origin : ℕ → List Event → Happened → What → Type 0

@@ -20,13 +20,13 @@ use Rattle.nm_history.specs.Outgoing.{Called, packets_by, send_packets, eager_pa
 use Rattle.nm_history.specs.RankRun.{EndAt}
 use Rattle.nm_history.proofs.MatchingLemmas.{matched_pairs-push, matched_pairs-append}
 use Rattle.nm_channels.proofs.Streams.{clashes, NoClash, FreshAt}
-use Rattle.nm_protocol.specs.Continues.{is_of_stream}
+use Rattle.nm_history.specs.Continues.{is_of_stream}
 use Rattle.nm_channels.proofs.Causes.{Origin, event_calls}
 use Rattle.nm_channels.proofs.Ordered.{is_cleared}
-use Rattle.nm_protocol.proofs.Basic.{self_true, or_true, same_done, refuted, all_of}
-use Rattle.nm_facts.proofs.Lists.{all_append, all_along}
-use Rattle.nm_facts.proofs.Truth.{or_left, and_left, and_right}
-use Rattle.nm_facts.proofs.Numbers.{same_number}
+use Rattle.nm_history.proofs.Basic.{self_true, or_true, same_done, refuted, all_of}
+use Rattle.nm_types.proofs.ListLemmas.{all_append, all_along}
+use Rattle.nm_types.proofs.TruthLemmas.{or_left, and_left, and_right}
+use Rattle.nm_types.proofs.NumberLemmas.{same_number}
 
 -- what a history shows of an answer that was called for
 abbrev Given : ℕ → List Event → What → Type 0

@@ -15,9 +15,9 @@ use Rattle.nm_history.specs.Matching.{matched_pairs, new_pair}
 use Rattle.nm_history.specs.Delivery.{earlier_than}
 use Rattle.nm_history.specs.RankRun.{StampAt}
 use Rattle.nm_history.proofs.MatchingLemmas.{matched_pairs-push}
-use Rattle.nm_protocol.specs.Known.{Taken}
-use Rattle.nm_protocol.specs.Continues.{is_of_stream}
-use Rattle.nm_protocol.proofs.Basic.{by-both}
+use Rattle.nm_history.specs.Known.{Taken}
+use Rattle.nm_history.specs.Continues.{is_of_stream}
+use Rattle.nm_history.proofs.Basic.{by-both}
 use Rattle.nm_channels.proofs.Numbers.{SentAs, SentBefore, messages_sent, pairs_came, send_at}
 use Rattle.nm_channels.proofs.Causes.{Source, HasSource}
 use Rattle.nm_channels.proofs.Ordered.{rise, happened_at}
@@ -26,9 +26,9 @@ use Rattle.nm_channels.proofs.Recalls.{earlier_more}
 use Rattle.nm_channels.proofs.Streams.{StreamContinued, UndoneContinued}
 use Rattle.nm_types.specs.declared.messages.Envelope.{Envelope}
 use Rattle.std.specs.Bool.{OnTrue}
-use Rattle.nm_facts.proofs.Numbers.{eq_true, same_number}
-use Rattle.nm_facts.proofs.Lists.{all_append, all_split, all_along}
-use Rattle.nm_facts.proofs.Truth.{and_left, and_right}
+use Rattle.nm_types.proofs.NumberLemmas.{eq_true, same_number}
+use Rattle.nm_types.proofs.ListLemmas.{all_append, all_split, all_along}
+use Rattle.nm_types.proofs.TruthLemmas.{and_left, and_right}
 use Rattle.nm_history.proofs.AppendLemmas.{arrivals-append}
 
 -- the message of a pair that an event makes was sent before that event

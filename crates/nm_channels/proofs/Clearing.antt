@@ -16,8 +16,8 @@ use Rattle.nm_history.specs.Sends.{Sent}
 use Rattle.nm_history.specs.Matching.{matched_pairs, new_pair}
 use Rattle.nm_history.specs.Outgoing.{Called, outgoing, packets_by, send_packets, clear_packets, is_clear, bare}
 use Rattle.nm_history.proofs.MatchingLemmas.{matched_pairs-push}
-use Rattle.nm_protocol.specs.Known.{Taken, known_by, nothing_known}
-use Rattle.nm_protocol.specs.Continues.{is_of_stream}
+use Rattle.nm_history.specs.Known.{Taken, known_by, nothing_known}
+use Rattle.nm_history.specs.Continues.{is_of_stream}
 use Rattle.nm_channels.proofs.Streams.{clear_of, cleared_by}
 use Rattle.nm_channels.proofs.Streaming.{Carries}
 use Rattle.nm_channels.proofs.Clashing.{send_stream}

@@ -18,16 +18,16 @@ use Rattle.nm_history.specs.Outgoing.{CalledPiece, ring, pieces_by, send_pieces,
 use Rattle.nm_history.specs.Delivery.{is_asked}
 use Rattle.nm_history.specs.RankRun.{Always, NumberAt, EndAt}
 use Rattle.nm_history.proofs.AtEachLemmas.{AtEach-split}
-use Rattle.nm_protocol.specs.Effects.{is_empty_send}
-use Rattle.nm_protocol.specs.Clearance.{left_of, pushed_out}
-use Rattle.nm_protocol.specs.Pieces.{Due, due_from, due_of, due_of_all, is_granted}
-use Rattle.nm_protocol.proofs.Basic.{lt_true}
+use Rattle.nm_history.specs.Effects.{is_empty_send}
+use Rattle.nm_history.specs.Clearance.{left_of, pushed_out}
+use Rattle.nm_history.specs.Pieces.{Due, due_from, due_of, due_of_all, is_granted}
+use Rattle.nm_history.proofs.Basic.{lt_true}
 use Rattle.nm_channels.proofs.Arriving.{zip-append}
 use Rattle.nm_channels.proofs.Granting.{PairsSent}
 use Rattle.nm_channels.proofs.Streams.{SenderAt}
-use Rattle.nm_protocol.proofs.Sent.{sends-cons, sent_number, NumberedFrom, sends_numbered, any_at}
-use Rattle.nm_facts.proofs.Numbers.{eq_true, lt_false, same_number, eq_less}
-use Rattle.nm_facts.proofs.Lists.{get_front}
+use Rattle.nm_history.proofs.Sent.{sends-cons, sent_number, NumberedFrom, sends_numbered, any_at}
+use Rattle.nm_types.proofs.NumberLemmas.{eq_true, lt_false, same_number, eq_less}
+use Rattle.nm_types.proofs.ListLemmas.{get_front}
 use Rattle.nm_history.proofs.EachLemmas.{AtEach-prefix}
 use Rattle.nm_history.proofs.AppendLemmas.{sends-append}
 

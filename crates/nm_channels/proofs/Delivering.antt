@@ -18,21 +18,21 @@ use Rattle.nm_history.specs.RankRun.{Always, NumberAt, CancelAt}
 use Rattle.nm_history.specs.Delivery.{ArriveInOrder}
 use Rattle.nm_history.proofs.AtEachLemmas.{AtEach-split, AtEach-from_splits}
 use Rattle.nm_history.proofs.DeliveryLemmas.{AtEach-along, sends-push}
-use Rattle.nm_protocol.specs.Rules.{IsRightAt}
+use Rattle.nm_history.specs.Rules.{IsRightAt}
 use Rattle.nm_channels.proofs.Streams.{Announced, announced, StreamIsRight, completed, Announces, StreamGoes, SenderAt}
 use Rattle.nm_channels.proofs.Streams.{eager_numbers, StreamContinued}
 use Rattle.nm_channels.specs.Moments.{Moment, Cause, history_of, taken_from, EachMomentAfter}
 use Rattle.nm_channels.specs.Sound.{AreSound, MayHappen, MadeBy, OwnEvent, IsSendable}
-use Rattle.nm_protocol.specs.Effects.{happenings, packet_makes, ask_ends, whole_if}
-use Rattle.nm_protocol.specs.Known.{Known, Taken, nothing_known, known_by}
-use Rattle.nm_protocol.specs.Pieces.{piece_makes, Due, is_due}
+use Rattle.nm_history.specs.Effects.{happenings, packet_makes, ask_ends, whole_if}
+use Rattle.nm_history.specs.Known.{Known, Taken, nothing_known, known_by}
+use Rattle.nm_history.specs.Pieces.{piece_makes, Due, is_due}
 use Rattle.nm_channels.specs.Moments.Cause.{Acted, Took, Drew}
 use Rattle.nm_channels.proofs.Arriving.{ArrivedAs, arrivals_announced, stream_is_right}
 use Rattle.nm_channels.proofs.Streaming.{Between, Carries, InTime, event_goes}
-use Rattle.nm_protocol.proofs.Basic.{or_false}
-use Rattle.nm_protocol.proofs.Sent.{sends-cons, sent_number}
-use Rattle.nm_facts.proofs.Lists.{all_append}
-use Rattle.nm_protocol.proofs.Right.{append_after}
+use Rattle.nm_history.proofs.Basic.{or_false}
+use Rattle.nm_history.proofs.Sent.{sends-cons, sent_number}
+use Rattle.nm_types.proofs.ListLemmas.{all_append}
+use Rattle.nm_history.proofs.Right.{append_after}
 use Rattle.nm_history.proofs.EachLemmas.{AtEach-prefix}
 
 recall-push : (before : List Event) (e : Event) (j n : ℕ) → happened (is_recall j n) (before ++ e ∷ [])

@@ -23,18 +23,18 @@ use Rattle.nm_history.specs.Matching.{matched_pairs, new_pair}
 use Rattle.nm_history.specs.Outgoing.{Called, outgoing, packets_by, send_packets, eager_packets, clear_packets}
 use Rattle.nm_history.specs.Outgoing.{is_clear, bare, part_at, further_packets}
 use Rattle.nm_history.proofs.DeliveryLemmas.{sends-push}
-use Rattle.nm_protocol.specs.Known.{Known, Taken, known_by, known_after, learned, nothing_known}
-use Rattle.nm_protocol.specs.Bytes.{bytes_in, taken_bytes, eager_bytes}
-use Rattle.nm_protocol.proofs.Basic.{at_true, lt_true, or_false}
+use Rattle.nm_history.specs.Known.{Known, Taken, known_by, known_after, learned, nothing_known}
+use Rattle.nm_history.specs.Bytes.{bytes_in, taken_bytes, eager_bytes}
+use Rattle.nm_history.proofs.Basic.{at_true, lt_true, or_false}
 use Rattle.nm_channels.proofs.Streams.{SenderAt, StreamIsRight, completed, completes}
 use Rattle.nm_channels.proofs.Streaming.{Carries, InTime}
-use Rattle.nm_protocol.specs.Continues.{WORN_STAMP, continues_stream, is_of_stream}
+use Rattle.nm_history.specs.Continues.{WORN_STAMP, continues_stream, is_of_stream}
 use Rattle.std.proofs.lemmas.Bool.Decides.{nat_tests}
 use Rattle.std.proofs.lemmas.List.Folds.{list_any-append}
-use Rattle.nm_protocol.proofs.Sent.{sends-cons, NumberedFrom}
-use Rattle.nm_facts.proofs.Numbers.{eq_true, same_number, eq_less, eq_false}
-use Rattle.nm_facts.proofs.Lists.{all_split}
-use Rattle.nm_facts.proofs.Truth.{and_left, and_right}
+use Rattle.nm_history.proofs.Sent.{sends-cons, NumberedFrom}
+use Rattle.nm_types.proofs.NumberLemmas.{eq_true, same_number, eq_less, eq_false}
+use Rattle.nm_types.proofs.ListLemmas.{all_split}
+use Rattle.nm_types.proofs.TruthLemmas.{and_left, and_right}
 
 -- the parts of a body at these places
 abbrev pub joined : ℕ → List ℕ → List ℕ → List ℕ

@@ -27,13 +27,13 @@ use Rattle.nm_history.specs.Once.{TwoMessages}
 use Rattle.nm_history.proofs.AtEachLemmas.{AtEach-split, AtEach-from_splits}
 use Rattle.nm_history.proofs.MatchingLemmas.{matched_pairs-push}
 use Rattle.nm_history.proofs.OnceLemmas.{arrivals-push, one_to_one}
-use Rattle.nm_protocol.proofs.Basic.{or_false, refuted}
+use Rattle.nm_history.proofs.Basic.{or_false, refuted}
 use Rattle.nm_channels.proofs.Streams.{FreshAt}
-use Rattle.nm_protocol.proofs.Sent.{happened-append}
-use Rattle.nm_facts.proofs.Truth.{or_left, and_left, and_right}
-use Rattle.nm_facts.proofs.Numbers.{same_number}
-use Rattle.nm_facts.proofs.Options.{mapped_some}
-use Rattle.nm_facts.proofs.Lists.{find_passes}
+use Rattle.nm_history.proofs.Sent.{happened-append}
+use Rattle.nm_types.proofs.TruthLemmas.{or_left, and_left, and_right}
+use Rattle.nm_types.proofs.NumberLemmas.{same_number}
+use Rattle.nm_types.proofs.OptionLemmas.{mapped_some}
+use Rattle.nm_types.proofs.ListLemmas.{find_passes}
 use Rattle.nm_history.proofs.EachLemmas.{AtEach-prefix}
 
 -- what came before an event had come before the end

@@ -11,16 +11,16 @@ use Rattle.nm_history.specs.Sends.{Sent, sends, is_ask, Arrived, arrivals, messa
 use Rattle.nm_history.specs.Happens.{happened, is_out}
 use Rattle.nm_history.specs.Matching.{is_of_message}
 use Rattle.nm_history.specs.Outgoing.{is_clear}
-use Rattle.nm_protocol.specs.Effects.{is_empty_send}
-use Rattle.nm_protocol.specs.Clearance.{left_of}
-use Rattle.nm_protocol.specs.Pieces.{is_granted}
+use Rattle.nm_history.specs.Effects.{is_empty_send}
+use Rattle.nm_history.specs.Clearance.{left_of}
+use Rattle.nm_history.specs.Pieces.{is_granted}
 use Rattle.nm_channels.proofs.Numbers.{SentAs, SentBefore, messages_sent, at_seam}
 use Rattle.nm_channels.proofs.Clearing.{asked_numbers}
 use Rattle.nm_history.specs.Delivery.{is_asked}
-use Rattle.nm_protocol.proofs.Sent.{NumberedFrom, any_at}
-use Rattle.nm_facts.proofs.Truth.{or_left, or_right}
-use Rattle.nm_facts.proofs.Numbers.{same_number}
-use Rattle.nm_facts.proofs.Lists.{all_along}
+use Rattle.nm_history.proofs.Sent.{NumberedFrom, any_at}
+use Rattle.nm_types.proofs.TruthLemmas.{or_left, or_right}
+use Rattle.nm_types.proofs.NumberLemmas.{same_number}
+use Rattle.nm_types.proofs.ListLemmas.{all_along}
 
 -- a stamp that no event of a history passes
 pub last_of : (h : List Event) → (stamp : ℕ) × AllByRecursion (λ e. e.stamp ≤ stamp) h

@@ -19,17 +19,17 @@ use Rattle.nm_channels.proofs.Streams.{clear_of, cleared_by}
 use Rattle.nm_channels.specs.Moments.{Moment, Cause, history_of, taken_from, taken_of, clock_at, clock_after, clock_of}
 use Rattle.nm_channels.specs.Moments.{EachMomentAfter}
 use Rattle.nm_channels.specs.Sound.{AreSound, MayHappen, MadeBy, OwnEvent}
-use Rattle.nm_protocol.specs.Clearance.{to_push, pushed_out}
-use Rattle.nm_protocol.specs.Clock.{AreStamped}
-use Rattle.nm_protocol.specs.Effects.{happenings, packet_makes, ask_ends, whole_if, is_empty_send}
-use Rattle.nm_protocol.specs.Known.{Known, Taken, known_by, known_after, learned, nothing_known}
-use Rattle.nm_protocol.specs.Pieces.{Pulled, piece_makes, Due, is_due}
+use Rattle.nm_history.specs.Clearance.{to_push, pushed_out}
+use Rattle.nm_history.specs.Clock.{AreStamped}
+use Rattle.nm_history.specs.Effects.{happenings, packet_makes, ask_ends, whole_if, is_empty_send}
+use Rattle.nm_history.specs.Known.{Known, Taken, known_by, known_after, learned, nothing_known}
+use Rattle.nm_history.specs.Pieces.{Pulled, piece_makes, Due, is_due}
 use Rattle.nm_channels.specs.Moments.Cause.{Acted, Took, Drew}
 use Rattle.nm_channels.proofs.Delivering.{history-push}
-use Rattle.nm_protocol.proofs.Basic.{at_true}
-use Rattle.nm_protocol.proofs.Growing.{fold-append}
-use Rattle.nm_facts.proofs.Lists.{all_append, all_along}
-use Rattle.nm_protocol.proofs.Right.{append_after}
+use Rattle.nm_history.proofs.Basic.{at_true}
+use Rattle.nm_history.proofs.Growing.{fold-append}
+use Rattle.nm_types.proofs.ListLemmas.{all_append, all_along}
+use Rattle.nm_history.proofs.Right.{append_after}
 
 -- a packet of this kind came before this stamp
 pub record CameBy (P : Taken → Type 0) (stamp : ℕ) (w : What) : Type 0 where

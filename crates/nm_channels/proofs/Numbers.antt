@@ -17,8 +17,8 @@ use Rattle.nm_history.specs.Once.{IsOfReceive}
 use Rattle.nm_history.specs.RankRun.{Always, NumberAt}
 use Rattle.nm_history.proofs.OnceLemmas.{arrivals-push}
 use Rattle.nm_history.proofs.SelectionLemmas.{matched_pairs_of_receives}
-use Rattle.nm_protocol.proofs.Sent.{filter-cons, sends-cons, NumberedFrom, next_numbers, new_sends, sends_numbered}
-use Rattle.nm_facts.proofs.Numbers.{eq_true, same_number}
+use Rattle.nm_history.proofs.Sent.{filter-cons, sends-cons, NumberedFrom, next_numbers, new_sends, sends_numbered}
+use Rattle.nm_types.proofs.NumberLemmas.{eq_true, same_number}
 
 -- the arrivals of an event
 abbrev new_arrivals : ℕ → ℕ → Happened → List Arrived

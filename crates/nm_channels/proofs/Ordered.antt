@@ -28,10 +28,10 @@ use Rattle.nm_channels.specs.Moments.{Moment, history_of, taken_from}
 use Rattle.nm_channels.specs.Sound.{AreSound}
 use Rattle.nm_channels.proofs.Causes.{Source, HasSource}
 use Rattle.nm_channels.proofs.Made.{MadeAt, MadeByPacket, packets_made}
-use Rattle.nm_protocol.proofs.Basic.{self_true, lt_true, or_true, same_done, on_test, true_is}
-use Rattle.nm_protocol.proofs.Growing.{fold-append}
-use Rattle.nm_facts.proofs.Numbers.{same_number}
-use Rattle.nm_facts.proofs.Truth.{and_left, and_right}
+use Rattle.nm_history.proofs.Basic.{self_true, lt_true, or_true, same_done, on_test, true_is}
+use Rattle.nm_history.proofs.Growing.{fold-append}
+use Rattle.nm_types.proofs.NumberLemmas.{same_number}
+use Rattle.nm_types.proofs.TruthLemmas.{and_left, and_right}
 use Rattle.nm_history.proofs.EachLemmas.{each_event}
 
 -- what happened at an event had happened before every greater stamp

@@ -25,11 +25,11 @@ use Rattle.nm_history.specs.Quiescence.{AskedOver, is_over, is_kept_back}
 use Rattle.nm_history.specs.RankRun.{Always, NumberAt, EndAt, WholeAt, is_asking}
 use Rattle.nm_history.proofs.AtEachLemmas.{AtEach-split}
 use Rattle.nm_history.proofs.MatchingLemmas.{matched_pairs-append, matched_pairs-push}
-use Rattle.nm_protocol.specs.Known.{Known}
-use Rattle.nm_protocol.specs.Effects.{is_empty_send}
-use Rattle.nm_protocol.specs.Clearance.{to_push, pushed_out}
-use Rattle.nm_protocol.specs.Pieces.{Due, due_from, due_of, due_of_all, is_granted}
-use Rattle.nm_protocol.proofs.Basic.{lt_true, at_true, on_test, any_gives, or_true}
+use Rattle.nm_history.specs.Known.{Known}
+use Rattle.nm_history.specs.Effects.{is_empty_send}
+use Rattle.nm_history.specs.Clearance.{to_push, pushed_out}
+use Rattle.nm_history.specs.Pieces.{Due, due_from, due_of, due_of_all, is_granted}
+use Rattle.nm_history.proofs.Basic.{lt_true, at_true, on_test, any_gives, or_true}
 use Rattle.nm_channels.proofs.Numbers.{SentBefore}
 use Rattle.nm_channels.proofs.Clearing.{asked_numbers}
 use Rattle.nm_channels.proofs.Granting.{PairsSent, taken_is_asked, out_of_left, filter_has, each_at, send_is, same_sent}
@@ -41,10 +41,10 @@ use Rattle.nm_types.specs.declared.packets.What.{What}
 use Rattle.nm_types.specs.declared.packets.What.TheVariants as what
 use Rattle.std.proofs.lemmas.List.Elements.{filter_map-append}
 use Rattle.std.specs.Option.{option_to_list}
-use Rattle.nm_protocol.proofs.Sent.{sent_number, NumberedFrom, sends_numbered, sent_lasts}
-use Rattle.nm_facts.proofs.Truth.{or_left, both, and_left, and_right}
-use Rattle.nm_facts.proofs.Numbers.{same_number}
-use Rattle.nm_facts.proofs.Lists.{all_split, all_along}
+use Rattle.nm_history.proofs.Sent.{sent_number, NumberedFrom, sends_numbered, sent_lasts}
+use Rattle.nm_types.proofs.TruthLemmas.{or_left, both, and_left, and_right}
+use Rattle.nm_types.proofs.NumberLemmas.{same_number}
+use Rattle.nm_types.proofs.ListLemmas.{all_split, all_along}
 use Rattle.nm_history.proofs.EachLemmas.{AtEach-prefix}
 
 -- a message to this rank that was sent by asking and is paired has left

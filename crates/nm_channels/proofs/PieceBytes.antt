@@ -15,17 +15,17 @@ use Rattle.nm_history.specs.declared.plain.Pair.{Pair}
 use Rattle.nm_history.specs.Sends.{Sent}
 use Rattle.nm_history.specs.Outgoing.{CalledPiece, AreCalledPieces, message_pieces, part_at, is_clear}
 use Rattle.nm_history.specs.Once.{TwoMessages}
-use Rattle.nm_protocol.specs.Continues.{has}
-use Rattle.nm_protocol.specs.Pieces.{Pulled, Due, due_from, due_of, due_of_all, is_granted}
-use Rattle.nm_protocol.specs.Bytes.{piece_bytes, pulled_bytes}
-use Rattle.nm_protocol.proofs.Basic.{self_true, or_false, refuted}
+use Rattle.nm_history.specs.Continues.{has}
+use Rattle.nm_history.specs.Pieces.{Pulled, Due, due_from, due_of, due_of_all, is_granted}
+use Rattle.nm_history.specs.Bytes.{piece_bytes, pulled_bytes}
+use Rattle.nm_history.proofs.Basic.{self_true, or_false, refuted}
 use Rattle.nm_channels.proofs.Cutting.{Matches, Sized, sized_at, pieces_of_all}
 use Rattle.nm_channels.proofs.EagerBytes.{joined, joined_all}
 use Rattle.nm_channels.proofs.Over.{last_gives}
-use Rattle.nm_protocol.proofs.Sent.{NumberedFrom, numbered_at}
-use Rattle.nm_facts.proofs.Numbers.{eq_true, lt_false, same_number}
-use Rattle.nm_facts.proofs.Truth.{or_left, or_right, and_left, and_right}
-use Rattle.nm_facts.proofs.Lists.{all_along}
+use Rattle.nm_history.proofs.Sent.{NumberedFrom, numbered_at}
+use Rattle.nm_types.proofs.NumberLemmas.{eq_true, lt_false, same_number}
+use Rattle.nm_types.proofs.TruthLemmas.{or_left, or_right, and_left, and_right}
+use Rattle.nm_types.proofs.ListLemmas.{all_along}
 
 -- the bytes of message n that pieces carry which are called for
 abbrev pub ring_bytes : ℕ → List CalledPiece → List ℕ

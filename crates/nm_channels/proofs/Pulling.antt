@@ -12,20 +12,20 @@ use Rattle.nm_history.specs.declared.events.Happened.{Happened}
 use Rattle.nm_history.specs.Sends.{Sent}
 use Rattle.nm_history.specs.Happens.{happened, is_whole}
 use Rattle.nm_history.specs.Outgoing.{CalledPiece, AreCalledPieces, IsCalledPiece}
-use Rattle.nm_protocol.specs.Effects.{happenings, whole_if}
-use Rattle.nm_protocol.specs.Pieces.{Pulled, Due, due_pieces, count_continued, is_due, piece_makes}
-use Rattle.nm_protocol.proofs.Growing.{due_pieces-append, count_continued-push}
+use Rattle.nm_history.specs.Effects.{happenings, whole_if}
+use Rattle.nm_history.specs.Pieces.{Pulled, Due, due_pieces, count_continued, is_due, piece_makes}
+use Rattle.nm_history.proofs.Growing.{due_pieces-append, count_continued-push}
 use Rattle.nm_channels.specs.Moments.{Moment, Cause, history_of, pulled_from, pulled_of, EachMomentAfter}
 use Rattle.nm_channels.specs.Moments.Cause.{Acted, Took, Drew}
 use Rattle.nm_channels.specs.Sound.{AreSound, MayHappen, MadeBy}
-use Rattle.nm_protocol.proofs.Basic.{self_true, happened_in}
+use Rattle.nm_history.proofs.Basic.{self_true, happened_in}
 use Rattle.nm_channels.proofs.Delivering.{history-push}
 use Rattle.nm_channels.proofs.Numbers.{at_seam}
 use Rattle.nm_channels.proofs.Cutting.{Matches}
-use Rattle.nm_protocol.proofs.Sent.{happened-append}
-use Rattle.nm_facts.proofs.Numbers.{eq_true, same_number}
-use Rattle.nm_facts.proofs.Truth.{or_left, or_right}
-use Rattle.nm_facts.proofs.Lists.{all_along, get_front}
+use Rattle.nm_history.proofs.Sent.{happened-append}
+use Rattle.nm_types.proofs.NumberLemmas.{eq_true, same_number}
+use Rattle.nm_types.proofs.TruthLemmas.{or_left, or_right}
+use Rattle.nm_types.proofs.ListLemmas.{all_along, get_front}
 
 -- the last piece of a message made it whole
 abbrev pub LastIsWhole : ℕ → List Event → Due → Type 0

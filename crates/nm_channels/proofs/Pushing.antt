@@ -18,26 +18,26 @@ use Rattle.nm_history.specs.Happens.{happened, is_out}
 use Rattle.nm_history.specs.Delivery.{is_asked}
 use Rattle.nm_history.specs.RankRun.{Always, NumberAt, EndAt}
 use Rattle.nm_history.proofs.AtEachLemmas.{AtEach-split}
-use Rattle.nm_protocol.specs.Known.{Known, Taken, known_by, known_after}
-use Rattle.nm_protocol.specs.Continues.{continues, continues_answer, continues_stream, is_of_stream}
-use Rattle.nm_protocol.specs.Effects.{happenings, is_empty_send, packet_events, whole_if}
-use Rattle.nm_protocol.specs.Clearance.{to_push, left_of, pushed_out}
-use Rattle.nm_protocol.specs.Pieces.{Pulled, Due, piece_makes, is_due}
+use Rattle.nm_history.specs.Known.{Known, Taken, known_by, known_after}
+use Rattle.nm_history.specs.Continues.{continues, continues_answer, continues_stream, is_of_stream}
+use Rattle.nm_history.specs.Effects.{happenings, is_empty_send, packet_events, whole_if}
+use Rattle.nm_history.specs.Clearance.{to_push, left_of, pushed_out}
+use Rattle.nm_history.specs.Pieces.{Pulled, Due, piece_makes, is_due}
 use Rattle.nm_channels.specs.Moments.{Moment, Cause, history_of, taken_from, taken_of, EachMomentAfter}
 use Rattle.nm_channels.specs.Moments.Cause.{Acted, Took, Drew}
 use Rattle.nm_channels.specs.Sound.{AreSound, MayHappen, MadeBy, OwnEvent}
 use Rattle.nm_channels.specs.Ends.{ClearedHaveLeft}
-use Rattle.nm_protocol.proofs.Basic.{self_true, at_true, happened_in}
+use Rattle.nm_history.proofs.Basic.{self_true, at_true, happened_in}
 use Rattle.nm_channels.proofs.Arriving.{known-push}
 use Rattle.nm_channels.proofs.Delivering.{history-push}
 use Rattle.nm_channels.proofs.Made.{clear_parts, known_cleared}
 use Rattle.nm_channels.proofs.Streams.{clear_of}
-use Rattle.nm_protocol.proofs.Sent.{happened-append, sends_grow, sent_number}
-use Rattle.nm_protocol.proofs.Lasting.{filter_same, IsFront, early_numbers, empty_lasts, asked_lasts, asked_early}
-use Rattle.nm_protocol.proofs.Lasting.{left_lasts}
-use Rattle.nm_facts.proofs.Lists.{all_append, all_along}
-use Rattle.nm_facts.proofs.Truth.{or_left, or_right, and_left, and_right}
-use Rattle.nm_facts.proofs.Numbers.{same_number}
+use Rattle.nm_history.proofs.Sent.{happened-append, sends_grow, sent_number}
+use Rattle.nm_history.proofs.Lasting.{filter_same, IsFront, early_numbers, empty_lasts, asked_lasts, asked_early}
+use Rattle.nm_history.proofs.Lasting.{left_lasts}
+use Rattle.nm_types.proofs.ListLemmas.{all_append, all_along}
+use Rattle.nm_types.proofs.TruthLemmas.{or_left, or_right, and_left, and_right}
+use Rattle.nm_types.proofs.NumberLemmas.{same_number}
 
 -- of the messages that were cleared those with a body leave in their turn, and the others at once
 record Pushes (whole : List Event) (j : ℕ) (h : List Event) (known : Known) : Type 0 where

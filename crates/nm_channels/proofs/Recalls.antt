@@ -22,18 +22,18 @@ use Rattle.nm_channels.proofs.Streams.{NoClash, FreshAt, StreamContinued, Undone
 use Rattle.nm_channels.specs.Moments.{Moment, Cause, history_of, taken_from, taken_of, EachMomentAfter}
 use Rattle.nm_channels.specs.Settled.{RecallAnswered}
 use Rattle.nm_channels.specs.Sound.{AreSound, MayHappen, MadeBy}
-use Rattle.nm_protocol.specs.Continues.{is_of_stream, WORN_STAMP}
-use Rattle.nm_protocol.specs.Effects.{happenings, packet_makes, ask_ends}
-use Rattle.nm_protocol.specs.Known.{Known, Taken, known_by}
+use Rattle.nm_history.specs.Continues.{is_of_stream, WORN_STAMP}
+use Rattle.nm_history.specs.Effects.{happenings, packet_makes, ask_ends}
+use Rattle.nm_history.specs.Known.{Known, Taken, known_by}
 use Rattle.nm_channels.specs.Moments.Cause.{Acted, Took, Drew}
 use Rattle.nm_channels.proofs.Streaming.{Carries}
 use Rattle.nm_channels.proofs.Causes.{Source, HasSource}
 use Rattle.nm_channels.proofs.Clashing.{history_clashes, history_bare, BareCalled}
 use Rattle.nm_channels.proofs.Answering.{Goes, Bare, answers_go, asks}
-use Rattle.nm_protocol.proofs.Basic.{self_true, at_true, by-both, happened_in, any_gives}
-use Rattle.nm_facts.proofs.Truth.{or_left, or_right, and_left, and_right}
-use Rattle.nm_facts.proofs.Numbers.{same_number}
-use Rattle.nm_facts.proofs.Lists.{all_along}
+use Rattle.nm_history.proofs.Basic.{self_true, at_true, by-both, happened_in, any_gives}
+use Rattle.nm_types.proofs.TruthLemmas.{or_left, or_right, and_left, and_right}
+use Rattle.nm_types.proofs.NumberLemmas.{same_number}
+use Rattle.nm_types.proofs.ListLemmas.{all_along}
 
 carried_whats : (i num : ℕ) (called : List Called) (ts : List Taken) → Carries i num called ts →
     map (λ c. c.what) called ≡ map (λ t. t.packet.what) ts

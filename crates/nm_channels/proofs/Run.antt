@@ -27,16 +27,16 @@ use Rattle.nm_channels.specs.Moments.{history_of}
 use Rattle.nm_channels.specs.Ends.{AreEnds}
 use Rattle.nm_channels.specs.Finished.{Finished, ended_of, AreAllEnds}
 use Rattle.nm_channels.specs.Settled.{AreSettled, RecallAnswered}
-use Rattle.nm_protocol.proofs.Basic.{self_true, at_true}
+use Rattle.nm_history.proofs.Basic.{self_true, at_true}
 use Rattle.nm_channels.proofs.Over.{Found, found_at}
 use Rattle.nm_channels.proofs.Recalls.{all_at}
 use Rattle.nm_channels.proofs.Shown.{IsCommanded, SendsTo, sends_commanded}
 use Rattle.nm_channels.proofs.Settled.{ends_settle}
 use Rattle.nm_history.specs.Delivery.{AreDelivered}
 use Rattle.nm_history.specs.Sends.{arrivals, sends}
-use Rattle.nm_protocol.proofs.Lasting.{by_splits}
-use Rattle.nm_facts.proofs.Numbers.{same_number}
-use Rattle.nm_facts.proofs.Truth.{and_left, and_right}
+use Rattle.nm_history.proofs.Lasting.{by_splits}
+use Rattle.nm_types.proofs.NumberLemmas.{same_number}
+use Rattle.nm_types.proofs.TruthLemmas.{and_left, and_right}
 
 -- the commands of a script are in range
 in_range_from : (ranks rank number : ℕ) (lines : List Line) →

@@ -12,7 +12,7 @@ use Rattle.nm_channels.proofs.Streams.{eager_numbers, completed, StreamContinued
 use Rattle.nm_channels.specs.Ends.{AreEnds}
 use Rattle.nm_channels.specs.Moments.{Moment, history_of, taken_from, pulled_from}
 use Rattle.nm_channels.specs.Settled.{AreSettled, RecallAnswered}
-use Rattle.nm_protocol.specs.Known.{nothing_known, known_by}
+use Rattle.nm_history.specs.Known.{nothing_known, known_by}
 use Rattle.nm_channels.proofs.Causes.{HasSource, taken_sources}
 use Rattle.nm_channels.proofs.Ordered.{withdrawals_in_order, outs_in_order}
 use Rattle.nm_history.specs.Quiescence.{EagerOver, AskedOver}
@@ -38,9 +38,9 @@ use Rattle.nm_history.specs.Matching.{matched_pairs}
 use Rattle.nm_history.specs.Outgoing.{CalledPiece, ring}
 use Rattle.nm_history.specs.declared.events.Event.{Event}
 use Rattle.nm_history.specs.declared.plain.Pair.{Pair}
-use Rattle.nm_protocol.specs.Clearance.{pushed_out, to_push}
-use Rattle.nm_protocol.specs.Effects.{is_empty_send}
-use Rattle.nm_protocol.specs.Pieces.{due_pieces, granted, Pulled, is_granted}
+use Rattle.nm_history.specs.Clearance.{pushed_out, to_push}
+use Rattle.nm_history.specs.Effects.{is_empty_send}
+use Rattle.nm_history.specs.Pieces.{due_pieces, granted, Pulled, is_granted}
 use Rattle.nm_channels.proofs.Bodies.{asked_among, message_how, own_messages, pair_came, shows, whole_once}
 use Rattle.nm_channels.proofs.EagerBytes.{eager_all, eager_body_at}
 use Rattle.nm_channels.proofs.AnswerMoments.{AnswerIn, OwnMoment, answers_have_moments}
@@ -56,16 +56,16 @@ use Rattle.nm_history.specs.Completion.{is_here}
 use Rattle.nm_history.specs.RankRun.{Always, WholeAt}
 use Rattle.nm_history.specs.declared.events.Happened.{Happened}
 use Rattle.nm_history.specs.declared.events.Happened.TheVariants.{Ran}
-use Rattle.nm_protocol.specs.Bytes.{eager_bytes, piece_bytes}
-use Rattle.nm_protocol.specs.Continues.{has}
+use Rattle.nm_history.specs.Bytes.{eager_bytes, piece_bytes}
+use Rattle.nm_history.specs.Continues.{has}
 use Rattle.nm_types.specs.declared.messages.Arrival.{Arrival}
 use Rattle.nm_types.specs.declared.messages.Envelope.{Envelope}
 use Rattle.nm_types.specs.declared.scripts.Command.{Command}
 use Rattle.std.specs.Prelude.{IfSome, option_and_then}
-use Rattle.nm_protocol.proofs.Sent.{happened-append, NumberedFrom, sends_numbered}
-use Rattle.nm_facts.proofs.Numbers.{eq_true, same_number}
-use Rattle.nm_facts.proofs.Lists.{all_split, all_along, front_empty}
-use Rattle.nm_facts.proofs.Truth.{or_right}
+use Rattle.nm_history.proofs.Sent.{happened-append, NumberedFrom, sends_numbered}
+use Rattle.nm_types.proofs.NumberLemmas.{eq_true, same_number}
+use Rattle.nm_types.proofs.ListLemmas.{all_split, all_along, front_empty}
+use Rattle.nm_types.proofs.TruthLemmas.{or_right}
 
 pub messages_settled : (shape : Sizes) (i j : ℕ) (ci cj : List Numbered) (ati atj : ℕ) (li lj : List Moment) →
     AreEnds shape i j ci cj ati atj li lj →

@@ -22,9 +22,9 @@ use Rattle.nm_history.specs.Answers.{live, answer_of, Message, live_message, is_
 use Rattle.nm_history.specs.Delivery.{asked_pair, pair_of_request}
 use Rattle.nm_history.specs.RankRun.{StartAt, Starts, start_of, starts_since, since_command, since_after, is_start}
 use Rattle.nm_history.specs.RankRun.{without_number}
-use Rattle.nm_protocol.proofs.Growing.{fold-append}
+use Rattle.nm_history.proofs.Growing.{fold-append}
 use Rattle.nm_history.specs.Sends.{sends}
-use Rattle.nm_facts.proofs.Lists.{all_split}
+use Rattle.nm_types.proofs.ListLemmas.{all_split}
 
 -- a receive's result that shows a message is of one that is here
 result_here : (h : List Event) (number source tag : ℕ) (body : List ℕ) (pair : Pair) →

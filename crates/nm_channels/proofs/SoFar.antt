@@ -13,15 +13,15 @@ use Rattle.nm_history.specs.declared.events.Event.{Event}
 use Rattle.nm_history.specs.AtEach.{AtEach, in_turn}
 use Rattle.nm_history.specs.Outgoing.{AreCalled, outgoing}
 use Rattle.nm_history.specs.Sends.{Sent, is_ask, sends}
-use Rattle.nm_protocol.specs.Bytes.{bytes_in, eager_bytes}
-use Rattle.nm_protocol.specs.Continues.{WORN_STAMP, continues_stream, is_of_stream}
-use Rattle.nm_protocol.specs.Known.{Known, Taken, known_after, known_by, learned, nothing_known}
-use Rattle.nm_protocol.proofs.Sent.{NumberedFrom}
+use Rattle.nm_history.specs.Bytes.{bytes_in, eager_bytes}
+use Rattle.nm_history.specs.Continues.{WORN_STAMP, continues_stream, is_of_stream}
+use Rattle.nm_history.specs.Known.{Known, Taken, known_after, known_by, learned, nothing_known}
+use Rattle.nm_history.proofs.Sent.{NumberedFrom}
 use Rattle.nm_channels.proofs.Delivering.{all_go}
 use Rattle.nm_channels.proofs.EagerBytes.{Complete, eager_all, eager_body_at, eager_bytes-append, none_after_complete}
 use Rattle.nm_channels.proofs.Streaming.{Carries, InTime}
 use Rattle.nm_channels.proofs.Streams.{SenderAt, StreamContinued, StreamIsRight}
-use Rattle.nm_facts.proofs.Lists.{all_append}
+use Rattle.nm_types.proofs.ListLemmas.{all_append}
 
 -- these packets as they would be taken
 abbrev would : ℕ → Known → List Packet → List Taken

@@ -25,10 +25,10 @@ use Rattle.nm_history.specs.declared.plain.Pair.{Pair}
 use Rattle.nm_history.specs.Matching.{matched_pairs, new_pair}
 use Rattle.nm_channels.proofs.Streams.{Announced, announced_as, announced_by, announced, StreamIsRight, completes}
 use Rattle.nm_channels.proofs.Streams.{completed, Announces, StreamGoes, SenderAt, eager_numbers}
-use Rattle.nm_protocol.specs.Continues.{continues_stream, is_of_stream, WORN_STAMP}
-use Rattle.nm_protocol.specs.Known.{Known, Taken, known_after, learned}
-use Rattle.nm_protocol.proofs.Basic.{lt_true, le_true, at_true, or_false}
-use Rattle.nm_facts.proofs.Numbers.{eq_true, same_number, eq_false}
+use Rattle.nm_history.specs.Continues.{continues_stream, is_of_stream, WORN_STAMP}
+use Rattle.nm_history.specs.Known.{Known, Taken, known_after, learned}
+use Rattle.nm_history.proofs.Basic.{lt_true, le_true, at_true, or_false}
+use Rattle.nm_types.proofs.NumberLemmas.{eq_true, same_number, eq_false}
 
 -- no packet has a stamp past the last
 abbrev pub InTime : List Taken → Type 0

@@ -14,8 +14,8 @@ use Rattle.nm_history.specs.declared.plain.Pair.{Pair}
 use Rattle.nm_history.specs.Sends.{Sent, sends, is_ask, envelope}
 use Rattle.nm_history.specs.Happens.{happened, is_recall, is_withdraw}
 use Rattle.nm_history.specs.Matching.{matched_pairs, new_pair, is_of_message}
-use Rattle.nm_protocol.specs.Known.{Known, Taken, known_after}
-use Rattle.nm_protocol.specs.Continues.{WORN_STAMP, is_of_stream, continues_stream}
+use Rattle.nm_history.specs.Known.{Known, Taken, known_after}
+use Rattle.nm_history.specs.Continues.{WORN_STAMP, is_of_stream, continues_stream}
 use Rattle.nm_channels.specs.Sound.{IsSendable}
 
 -- a message that was announced: the stamp of its packet, and its envelope

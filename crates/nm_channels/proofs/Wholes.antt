@@ -14,17 +14,17 @@ use Rattle.nm_history.specs.Sends.{Sent, sends, sent_of, is_ask}
 use Rattle.nm_history.specs.Happens.{happened, is_whole, is_out}
 use Rattle.nm_history.specs.Quiescence.{EagerOver, is_over}
 use Rattle.nm_channels.proofs.Streams.{completes, completed, eager_numbers}
-use Rattle.nm_protocol.specs.Rest.{EagerHaveLeft}
+use Rattle.nm_history.specs.Rest.{EagerHaveLeft}
 use Rattle.nm_channels.specs.Moments.{Moment, Cause, history_of, taken_from, taken_of, EachMomentAfter}
 use Rattle.nm_channels.specs.Sound.{AreSound, MayHappen, MadeBy}
-use Rattle.nm_protocol.specs.Effects.{happenings, packet_makes, ask_ends, whole_if}
-use Rattle.nm_protocol.specs.Known.{Known, known_by, known_after, nothing_known}
+use Rattle.nm_history.specs.Effects.{happenings, packet_makes, ask_ends, whole_if}
+use Rattle.nm_history.specs.Known.{Known, known_by, known_after, nothing_known}
 use Rattle.nm_channels.specs.Moments.Cause.{Acted, Took, Drew}
 use Rattle.nm_channels.proofs.Arriving.{known-push}
-use Rattle.nm_protocol.proofs.Basic.{self_true, happened_in}
-use Rattle.nm_facts.proofs.Truth.{or_left, both, or_right}
-use Rattle.nm_facts.proofs.Numbers.{same_number}
-use Rattle.nm_facts.proofs.Lists.{all_along}
+use Rattle.nm_history.proofs.Basic.{self_true, happened_in}
+use Rattle.nm_types.proofs.TruthLemmas.{or_left, both, or_right}
+use Rattle.nm_types.proofs.NumberLemmas.{same_number}
+use Rattle.nm_types.proofs.ListLemmas.{all_along}
 
 whole_here : (from n m : ℕ) (b : Bool) (rest : List Happened) → cond b (Some m) None ≡ Some n →
     list_any (is_whole from n) (whole_if b from m ++ rest) ≡ true

@@ -8,10 +8,10 @@ use Rattle.nm_history.specs.declared.events.Event.{Event}
 use Rattle.nm_history.specs.Sends.{sent_body}
 use Rattle.nm_history.specs.Outgoing.{outgoing, ring, AreCalled, AreCalledPieces}
 use Rattle.nm_history.specs.RankRun.{IsRankRun}
-use Rattle.nm_protocol.specs.Known.{known_by}
-use Rattle.nm_protocol.specs.Continues.{WORN_STAMP}
-use Rattle.nm_protocol.specs.Clearance.{to_push, pushed_out}
-use Rattle.nm_protocol.specs.Rest.{EagerHaveLeft, EmptyAreHere}
+use Rattle.nm_history.specs.Known.{known_by}
+use Rattle.nm_history.specs.Continues.{WORN_STAMP}
+use Rattle.nm_history.specs.Clearance.{to_push, pushed_out}
+use Rattle.nm_history.specs.Rest.{EagerHaveLeft, EmptyAreHere}
 use Rattle.nm_channels.specs.Moments.{Moment, history_of, taken_from, pulled_from}
 use Rattle.nm_channels.specs.Sound.{AreSound}
 

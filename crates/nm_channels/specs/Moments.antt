@@ -3,8 +3,8 @@
 use Rattle.std.specs.Prelude.{ℕ, ◌+◌, ◌==◌, max, if◌then◌else◌, Option, Some, None, List, [], ◌∷◌}
 use Rattle.std.specs.Prelude.{◌++◌, length, fold, filter_map}
 use Rattle.nm_history.specs.declared.events.Event.{Event}
-use Rattle.nm_protocol.specs.Known.{Taken}
-use Rattle.nm_protocol.specs.Pieces.{Pulled}
+use Rattle.nm_history.specs.Known.{Taken}
+use Rattle.nm_history.specs.Pieces.{Pulled}
 
 -- why something happened at a rank: by a command or by what left it, or by a packet or a piece that
 -- it took

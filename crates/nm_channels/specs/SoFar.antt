@@ -1,6 +1,6 @@
 -- What has come of a message so far.
 use Rattle.std.specs.Prelude.{◌≡◌, ℕ, ◌+◌, ◌<◌}
-use Rattle.nm_protocol.specs.Known.{Known}
+use Rattle.nm_history.specs.Known.{Known}
 
 -- Message n of a rank was announced, and lacks nothing: each one before the last does, and the last
 -- one where no bytes are missing.

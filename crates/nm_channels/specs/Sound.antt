@@ -15,13 +15,13 @@ use Rattle.nm_history.specs.declared.events.Happened.TheVariants.{Undone, Ran}
 use Rattle.nm_history.specs.AtEach.{AtEachAfter}
 use Rattle.nm_history.specs.Sends.{Sent, sends, is_ask, message_of}
 use Rattle.nm_history.specs.Delivery.{asked_pair, is_asked}
-use Rattle.nm_protocol.specs.Known.{known_by, nothing_known}
-use Rattle.nm_protocol.specs.Continues.{continues}
-use Rattle.nm_protocol.specs.Effects.{happenings, taken_events}
-use Rattle.nm_protocol.specs.Pieces.{due_pieces, count_continued, is_due, piece_makes}
-use Rattle.nm_protocol.specs.Clearance.{to_push, pushed_out}
-use Rattle.nm_protocol.specs.Bytes.{eager_bytes, piece_bytes}
-use Rattle.nm_protocol.specs.Clock.{AreStamped}
+use Rattle.nm_history.specs.Known.{known_by, nothing_known}
+use Rattle.nm_history.specs.Continues.{continues}
+use Rattle.nm_history.specs.Effects.{happenings, taken_events}
+use Rattle.nm_history.specs.Pieces.{due_pieces, count_continued, is_due, piece_makes}
+use Rattle.nm_history.specs.Clearance.{to_push, pushed_out}
+use Rattle.nm_history.specs.Bytes.{eager_bytes, piece_bytes}
+use Rattle.nm_history.specs.Clock.{AreStamped}
 use Rattle.nm_channels.specs.Moments.{Cause, Moment, EachMoment, history_of, taken_from, pulled_from}
 use Rattle.nm_channels.specs.Moments.{clock_at, clock_of}
 use Rattle.nm_channels.specs.Moments.Cause.{Acted, Took, Drew}

@@ -26,3 +26,5 @@
 #![tactic(auto)]
 
 pub mod laws;
+pub mod worked;
+pub mod worked_channels;

@@ -9,7 +9,7 @@ use Rattle.nm_chart.specs.Endings.{read_of, unread, usage}
 use Rattle.nm_chart.specs.declared.answers.Response.{Response}
 use Rattle.nm_chart.specs.declared.answers.Response.TheVariants.{Usage, Unread, Refused, Drawn}
 use Rattle.nm_chart.proofs.WidenedLemmas.{picture_of_each}
-use Rattle.nm_facts.proofs.Options.{if_all as always}
+use Rattle.nm_types.proofs.OptionLemmas.{if_all as always}
 
 -- what is known at the end: the answer is right and was said
 pub record Ends {X : Type 0} (words : List X) (input : Option (List ℕ)) (old new : ℕ)

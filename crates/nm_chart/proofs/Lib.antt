@@ -1,4 +1,6 @@
 mod EndLemmas
+mod FindingLemmas
 mod KeptLemmas
 mod PartLemmas
 mod WidenedLemmas
+mod WordLemmas

@@ -3,7 +3,7 @@ use Rattle.std.proofs.Common.{◌≡◌, ℕ, List, Option, Some, None, refl, su
 use Rattle.std.specs.Option.{IfSome}
 use Rattle.nm_diagram.specs.declared.frames.Part.{Part}
 use Rattle.nm_report.specs.declared.records.RunRecord.{RunRecord}
-use Rattle.nm_chart_words.specs.Words.{InRange, asked_of}
+use Rattle.nm_chart.specs.PartWords.{InRange, asked_of}
 use Rattle.nm_chart.specs.Endings.{IsTraceOfOne, read_of}
 use Rattle.nm_chart.specs.Parts.{AreKept, CanBeShown, IsFoundIn, IsOutcome}
 use Rattle.nm_chart.specs.declared.outcomes.Outcome.{Outcome}

@@ -7,7 +7,7 @@ use Rattle.nm_report.specs.declared.records.RunRecord.{RunRecord}
 use Rattle.nm_diagram.specs.declared.frames.Part.{Part}
 use Rattle.nm_diagram.specs.Frames.{IsSilent}
 use Rattle.nm_picture.specs.Pictures.{IsPictureIn}
-use Rattle.nm_chart_words.specs.Words.{InRange, asked_of}
+use Rattle.nm_chart.specs.PartWords.{InRange, asked_of}
 use Rattle.nm_chart.specs.declared.outcomes.Outcome.{Outcome}
 use Rattle.nm_chart.specs.declared.outcomes.Outcome.TheVariants.{Usage, Unread, Refused, Drawn}
 use Rattle.nm_chart.specs.Endings.{IsBadTrace, IsTraceOfOne, fault_text, read_of, unread}

@@ -2,7 +2,7 @@
 //!
 //! `chart` is the top call. It takes the words of the command line, of which there are none, reads a
 //! trace, and writes its picture to the sink. `chart_part` is the one where there are words: it
-//! writes the picture of the part that they ask for (`nm_chart_words`).
+//! writes the picture of the part that they ask for (`nm_chart::words`).
 //!
 //! # What a contract sees
 //! Bytes as a list of numbers, the record that a trace's bytes stand for, and the text of its
@@ -24,10 +24,12 @@
 
 mod answers;
 mod charts;
+pub mod check;
 mod choosing;
 pub mod laws;
 mod outcomes;
 mod parts;
+pub mod words;
 
 pub use charts::chart;
 pub use parts::chart_part;

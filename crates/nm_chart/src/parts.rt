@@ -2,7 +2,7 @@
 
 ghost use Rattle.std.specs.Prelude.{◌≡◌, ◌⊎◌, None, map, string_bytes, IfOk};
 ghost use Rattle.nm_outside.specs.Told.{LosesAtMost, Rose};
-ghost use Rattle.nm_chart_words.specs.Words.{InRange, asked_of};
+ghost use Rattle.nm_chart.specs.PartWords.{InRange, asked_of};
 ghost use Rattle.nm_chart.specs.Parts.{CanBeShown, IsDone, IsFoundIn, IsOutcome, IsSpoken};
 ghost use Rattle.nm_chart.specs.Parts.{IsTakenIn, Says};
 
@@ -47,7 +47,7 @@ fn find_outcome<S: Source>(
     ensures read { IfOk result (IsTakenIn (map string_bytes words.now) (S.left source.old)
         (S.left source.new) (S.faults source.old) (S.faults source.new)) }
 {
-    let asked = nm_chart_words::read(alloc, words)?;
+    let asked = crate::words::read(alloc, words)?;
     let Some(part) = asked else {
         return Ok(Outcome::Usage);
     };
@@ -74,7 +74,7 @@ fn deliver_outcome<K: Sink>(sink: &mut K, due: &[u8], outcome: &Outcome) -> u8
 /// Does all that the program does where it has words: reads a trace of the source, and writes the
 /// picture of the part that the words ask for to the sink.
 ///
-/// The words are those of the command line without the program's name: options, as `nm_chart_words`
+/// The words are those of the command line without the program's name: options, as `nm_chart::words`
 /// reads them. The status is 0 where the picture was written, 2 where the words are not taken, 4
 /// where a read failed, 5 where a write failed, 6 for want of memory, and 9 where the bytes are no
 /// trace. A trace has at most 67,108,864 bytes: of longer ones it says line 0. The whole text is in

@@ -6,9 +6,9 @@ use Rattle.nm_types.specs.declared.scripts.Line.{Line}
 use Rattle.nm_history.specs.Quiescence.{Ended}
 use Rattle.nm_report.specs.declared.accounts.RankAccount.{RankAccount}
 use Rattle.nm_report.specs.Ends.{ends_of}
-use Rattle.nm_check_paired.specs.Tabled.{AreTables}
-use Rattle.nm_check_paired.specs.declared.tables.Tables.{Tables}
-use Rattle.nm_check_between.proofs.RankLemmas.{end_at, ended}
+use Rattle.nm_check_rank.specs.Tabled.{AreTables}
+use Rattle.nm_check_rank.specs.declared.paired.tables.Tables.{Tables}
+use Rattle.nm_check_ranks.proofs.RankLemmas.{end_at, ended}
 
 -- the tables of the rank at a place
 abbrev pub TabledAt : List Line → List Ended → ℕ → Tables → Type 0

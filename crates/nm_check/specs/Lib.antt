@@ -1,2 +1,14 @@
+pub mod Answers
+pub mod Checks
+pub mod Endings
+pub mod Found
+pub mod Inputs
+pub mod Lines
+pub mod Places
+pub mod Ranges
 pub mod Ranked
+pub mod Sentences
+pub mod Stops
+pub mod Texts
+pub mod VerdictTexts
 pub mod Verdicts

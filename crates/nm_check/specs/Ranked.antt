@@ -3,7 +3,7 @@ use Rattle.std.specs.Prelude.{List}
 use Rattle.nm_types.specs.declared.scripts.Line.{Line}
 use Rattle.nm_types.specs.Sizes.{Sizes}
 use Rattle.nm_history.specs.Quiescence.{EachRank, Ended}
-use Rattle.nm_check_between.specs.Tabled.{EachTabled}
+use Rattle.nm_check_ranks.specs.Tabled.{EachTabled}
 use Rattle.nm_check.specs.Verdicts.{BreaksOwn, RunsItsOwn}
 use Rattle.nm_check.specs.declared.ranking.Ranked.{Ranked}
 use Rattle.nm_check.specs.declared.ranking.Ranked.TheVariants.{Run, Breaks}

@@ -14,11 +14,11 @@ use Rattle.nm_report.specs.Lawful.{IsRunIn}
 use Rattle.nm_check_rank.specs.FirstBroken.{IsFirstBroken}
 use Rattle.nm_check_rank.specs.OwnClauses.{KeepsOwn, own_order}
 use Rattle.nm_check_rank.specs.declared.clauses.OwnClause.{OwnClause}
-use Rattle.nm_check_between.specs.CarriedClauses.{KeepsCarried, PairDelivered, StandsBefore}
-use Rattle.nm_check_between.specs.CarriedClauses.{carried_order}
-use Rattle.nm_check_between.specs.declared.clauses.CarriedClause.{CarriedClause}
-use Rattle.nm_check_rest.specs.RestClauses.{KeepsRest, rest_order}
-use Rattle.nm_check_rest.specs.declared.clauses.RestClause.{RestClause}
+use Rattle.nm_check_ranks.specs.CarriedClauses.{KeepsCarried, PairDelivered, StandsBefore}
+use Rattle.nm_check_ranks.specs.CarriedClauses.{carried_order}
+use Rattle.nm_check_ranks.specs.declared.clauses.CarriedClause.{CarriedClause}
+use Rattle.nm_check_ranks.specs.RestClauses.{KeepsRest, rest_order}
+use Rattle.nm_check_ranks.specs.declared.rest.clauses.RestClause.{RestClause}
 use Rattle.nm_check.specs.declared.verdicts.Verdict.{Verdict}
 use Rattle.nm_check.specs.declared.verdicts.Verdict.TheVariants.{Holds, Own, Carried, Rest, Home, Done}
 

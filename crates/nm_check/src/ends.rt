@@ -4,7 +4,7 @@ ghost use Rattle.std.specs.Prelude.{◌≡◌, is_none};
 ghost use Rattle.std.specs.List.{list_all};
 ghost use Rattle.nm_report.specs.Cells.{AllCellsFree};
 ghost use Rattle.nm_report.specs.Ends.{are_done, ends_of};
-ghost use Rattle.nm_places.specs.Deciding.{Decides};
+ghost use Rattle.nm_lookups.specs.Deciding.{Decides};
 
 use nm_report::{RankAccount, RunRecord};
 

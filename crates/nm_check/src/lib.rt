@@ -16,13 +16,17 @@
 //! That `judge` succeeds with ample memory.
 #![tactic(auto)]
 
+pub mod breaks;
+pub mod checked;
 mod ends;
 mod judging;
 mod ranking;
+pub mod verdict;
 mod verdicts;
+pub mod written;
 
 pub use judging::judge;
-pub use nm_check_between::clauses::CarriedClause;
+pub use nm_check_ranks::clauses::CarriedClause;
 pub use nm_check_rank::clauses::OwnClause;
-pub use nm_check_rest::clauses::RestClause;
+pub use nm_check_ranks::rest::clauses::RestClause;
 pub use verdicts::Verdict;

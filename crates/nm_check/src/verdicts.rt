@@ -1,8 +1,8 @@
 //! What can be said of a record.
 
-use nm_check_between::clauses::CarriedClause;
+use nm_check_ranks::clauses::CarriedClause;
 use nm_check_rank::clauses::OwnClause;
-use nm_check_rest::clauses::RestClause;
+use nm_check_ranks::rest::clauses::RestClause;
 
 /// What a record is judged to be: a run, or one that breaks a rule. The rule is the first that is
 /// broken.

@@ -8,8 +8,8 @@ use Rattle.nm_history.specs.declared.events.Event.{Event}
 use Rattle.nm_history.specs.AtEach.{AtEach}
 use Rattle.nm_history.proofs.AtEachLemmas.{AtEach-split}
 use Rattle.nm_history.proofs.EachLemmas.{AtEach-prefix}
-use Rattle.nm_facts.proofs.Lists.{take_next}
-use Rattle.nm_places.specs.Deciding.{Decides}
+use Rattle.nm_types.proofs.ListLemmas.{take_next}
+use Rattle.nm_lookups.specs.Deciding.{Decides}
 use Rattle.nm_check_rank.specs.Breaks.{Breaks, BreaksFirstAt}
 use Rattle.nm_check_rank.specs.declared.breaks.Break.{Break}
 use Rattle.nm_check_rank.specs.declared.breaks.Break.TheVariants.{At, Behind}

@@ -14,7 +14,7 @@ use Rattle.nm_history.specs.declared.events.Event.{Event}
 use Rattle.nm_history.specs.declared.events.Happened.{Happened}
 use Rattle.nm_history.specs.declared.events.Happened.TheVariants as happened
 use Rattle.nm_history.specs.Sends.{Sent, Arrived, sends, sent_of, arrivals, arrived_of, receives, receive_of}
-use Rattle.nm_places.specs.Deciding.{Decides}
+use Rattle.nm_lookups.specs.Deciding.{Decides}
 use Rattle.nm_history.proofs.DeliveryLemmas.{sends-push}
 use Rattle.nm_history.proofs.OnceLemmas.{arrivals-push}
 

@@ -1,4 +1,16 @@
+mod AnswerLemmas
+mod ArrivalLemmas
 pub mod BreakLemmas
+mod CancelLemmas
+mod ClaimLemmas
 pub mod CountLemmas
+mod DecideLemmas
 pub mod FirstBrokenLemmas
+mod GivenLemmas
+mod KindLemmas
+mod OrderLemmas
+mod PushLemmas
+mod ResultLemmas
 pub mod RuleLemmas
+mod StartLemmas
+mod ToldLemmas

@@ -15,7 +15,7 @@ use Rattle.nm_history.specs.Matching.{is_free_message}
 use Rattle.nm_history.specs.Completion.{is_taken}
 use Rattle.nm_history.specs.Quiescence.{IsAnswered}
 use Rattle.nm_history.specs.RankRun.{EndAt, WholeAt, is_asking}
-use Rattle.nm_places.specs.Deciding.{Decides}
+use Rattle.nm_lookups.specs.Deciding.{Decides}
 
 pub whole_at : (before : List Event) (from n : ℕ) (whole came asking taken r : Bool) →
     whole ≡ happened (is_whole from n) before → came ≡ happened (is_arrival from n) before →

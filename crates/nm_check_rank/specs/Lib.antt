@@ -1,5 +1,10 @@
 pub mod Breaks
 pub mod Counted
 pub mod FirstBroken
+pub mod Fronts
+pub mod Handles
+pub mod Kinds
 pub mod OwnBreaks
 pub mod OwnClauses
+pub mod Tabled
+pub mod Told

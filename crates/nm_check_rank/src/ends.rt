@@ -4,14 +4,14 @@ ghost use Rattle.std.specs.Prelude.{◌≡◌, false, not, ◌&&◌, List, IsTru
 ghost use Rattle.nm_history.specs.declared.events.Event as event;
 ghost use Rattle.nm_history.specs.RankRun.{Always, EndAt};
 ghost use Rattle.nm_check_rank.specs.Breaks.{BreaksFirstAt};
-ghost use Rattle.nm_places.specs.Deciding.{Decides};
-ghost use Rattle.nm_places.specs.Placed.{ArePlaces, AreTaken};
+ghost use Rattle.nm_lookups.specs.Deciding.{Decides};
+ghost use Rattle.nm_lookups.specs.Placed.{ArePlaces, AreTaken};
 
 use indexmap::IndexMap;
 use nm_history::{Event, Happened};
-use nm_places::firsts::{Message, is_before, is_taken_before};
-use nm_places::kinds::{Arrivals, Claims, Late, Outs, Recalls, Refused, Sends, Undone, Withdrawn};
-use nm_places::places::Places;
+use nm_lookups::firsts::{Message, is_before, is_taken_before};
+use nm_lookups::kinds::{Arrivals, Claims, Late, Outs, Recalls, Refused, Sends, Undone, Withdrawn};
+use nm_lookups::places::Places;
 
 /// Whether a message may be withdrawn with this answer: it was not before, it came, and the answer
 /// says whether it is free.

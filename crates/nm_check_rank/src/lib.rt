@@ -2,7 +2,7 @@
 //!
 //! # What a contract sees
 //! Each rule has a judge of its own, whose contract is `Decides` (`specs/Deciding.antt` of
-//! `nm_places`) of the rule as `nm_history` defines it: it answers yes where the rule holds of the
+//! `nm_lookups`) of the rule as `nm_history` defines it: it answers yes where the rule holds of the
 //! events, and no where it does not. `specs/OwnClauses.antt` names all rules of a rank's run, also
 //! those that are judged above, and their order; `specs/FirstBroken.antt` says which is the first
 //! that is broken.
@@ -20,5 +20,6 @@ pub mod breaks;
 pub mod clauses;
 pub mod ends;
 pub mod numbers;
+pub mod paired;
 pub mod stamps;
 pub mod wholes;

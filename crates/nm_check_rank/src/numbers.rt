@@ -2,7 +2,7 @@
 
 ghost use Rattle.std.specs.Prelude.{◌≡◌, ℕ, ◌+◌, ◌-◌, ◌<◌, ◌^◌, List, [], ◌∷◌, ◌++◌, length};
 ghost use Rattle.std.specs.Prelude.{MatchOption};
-ghost use Rattle.nm_places.specs.Deciding.{Decides};
+ghost use Rattle.nm_lookups.specs.Deciding.{Decides};
 ghost use Rattle.nm_check_rank.specs.Breaks.{BreaksFirstAt};
 ghost use Rattle.nm_check_rank.specs.Counted.{AreCounted};
 ghost use Rattle.nm_history.specs.declared.events.Event.{Event};

@@ -1,7 +1,7 @@
 //! Whether stamps rise.
 
 ghost use Rattle.std.specs.Prelude.{MatchOption};
-ghost use Rattle.nm_places.specs.Deciding.{Decides};
+ghost use Rattle.nm_lookups.specs.Deciding.{Decides};
 ghost use Rattle.nm_check_rank.specs.Breaks.{BreaksFirstAt};
 ghost use Rattle.nm_history.specs.AtEach.{AtEach};
 ghost use Rattle.nm_history.specs.RankRun.{StampAt};

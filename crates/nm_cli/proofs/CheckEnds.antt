@@ -2,14 +2,14 @@
 use Rattle.std.proofs.Common.{◌≡◌, subst}
 use Rattle.std.specs.Prelude.{codes}
 use Rattle.nm_outside.specs.Told.{Appends}
-use Rattle.nm_command_line.specs.CommandLine.{IsTaken}
-use Rattle.nm_command_line.specs.declared.CommandLine.{CommandLine}
-use Rattle.nm_command_line.specs.declared.Mode.TheVariants.{Check, Parts, Plain, Multi}
+use Rattle.nm_script.specs.CommandWords.{IsTaken}
+use Rattle.nm_script.specs.declared.command_line.CommandLine.{CommandLine}
+use Rattle.nm_script.specs.declared.command_line.Mode.TheVariants.{Check, Parts, Plain, Multi}
 use Rattle.nm_cli.specs.Checks.{IsCheckedEnd}
 use Rattle.nm_cli.specs.Endings.{OrFails}
 use Rattle.nm_cli.specs.Scripts.{Reads, Runs}
 use Rattle.nm_check.specs.declared.verdicts.Verdict.TheVariants.{Holds}
-use Rattle.nm_checked.specs.declared.checks.Checked.TheVariants.{Judged}
+use Rattle.nm_check.specs.declared.checked.checks.Checked.TheVariants.{Judged}
 use Rattle.nm_cli.specs.Answers.{WasRead}
 use Rattle.nm_cli.specs.declared.answers.Response.{Response}
 use Rattle.nm_cli.specs.declared.answers.Response.TheVariants.{Usage, Unread, Refused, Ran}

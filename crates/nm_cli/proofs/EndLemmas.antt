@@ -2,17 +2,17 @@
 use Rattle.std.proofs.Common.{◌≡◌, ℕ, ◌⊎◌, inl, inr, Bool, true, false, List, Option, None, refl, sym, ◌∙◌}
 use Rattle.std.proofs.Common.{arith, subst}
 use Rattle.nm_outside.specs.Told.{Appends, AppendsPart, Rose}
-use Rattle.nm_command_line.specs.CommandLine.{IsTaken}
-use Rattle.nm_command_line.specs.declared.CommandLine.{CommandLine}
-use Rattle.nm_command_line.specs.declared.Mode.{Mode}
+use Rattle.nm_script.specs.CommandWords.{IsTaken}
+use Rattle.nm_script.specs.declared.command_line.CommandLine.{CommandLine}
+use Rattle.nm_script.specs.declared.command_line.Mode.{Mode}
 use Rattle.nm_report.specs.declared.records.RunRecord.{RunRecord}
 use Rattle.nm_world.specs.declared.whole.Ways.{Ways}
 use Rattle.nm_multi.specs.Calls.{Logged as Log}
 use Rattle.nm_cli.specs.Answers.{IsAnswer, IsAnswerTo, NotTaken, end_status, log_of, run_of, status_of, text_of}
 use Rattle.nm_cli.specs.Answers.{IsReadFor, WasRead, unread, usage, ways_of}
 use Rattle.nm_check.specs.declared.verdicts.Verdict.TheVariants.{Holds}
-use Rattle.nm_checked.specs.declared.checks.Checked.{Checked as CheckedText}
-use Rattle.nm_checked.specs.declared.checks.Checked.TheVariants.{NoTrace, NoScript, BadTrace, Judged}
+use Rattle.nm_check.specs.declared.checked.checks.Checked.{Checked as CheckedText}
+use Rattle.nm_check.specs.declared.checked.checks.Checked.TheVariants.{NoTrace, NoScript, BadTrace, Judged}
 use Rattle.nm_cli.specs.Checks.{checked_status}
 use Rattle.nm_cli.specs.Endings.{IsSaid, IsStatus, OrFails, OrUnwritten}
 use Rattle.nm_cli.specs.declared.answers.Response.{Response}

@@ -2,10 +2,10 @@
 use Rattle.std.proofs.Common.{◌≡◌, ℕ, inl, inr, List, Option, Some, None}
 use Rattle.std.specs.Option.{IfSome}
 use Rattle.nm_outside.specs.Told.{Appends}
-use Rattle.nm_command_line.specs.CommandLine.{IsTaken}
-use Rattle.nm_command_line.specs.declared.CommandLine.{CommandLine}
-use Rattle.nm_command_line.specs.declared.Mode.TheVariants.{Plain, Check, Parts, Multi}
-use Rattle.nm_persist_runs.specs.Promises.{ReceivesShowTheirSends}
+use Rattle.nm_script.specs.CommandWords.{IsTaken}
+use Rattle.nm_script.specs.declared.command_line.CommandLine.{CommandLine}
+use Rattle.nm_script.specs.declared.command_line.Mode.TheVariants.{Plain, Check, Parts, Multi}
+use Rattle.nm_persist.specs.Promises.{ReceivesShowTheirSends}
 use Rattle.nm_plans.specs.declared.faults.PlanFault.TheVariants as plan_fault
 use Rattle.nm_plans.specs.declared.faults.PlanKind.{PlanKind}
 use Rattle.nm_cli.specs.Endings.{IsPlanEnded, IsPlanRefused, OrFails}

@@ -3,10 +3,10 @@ use Rattle.std.proofs.Common.{◌≡◌, ℕ, ◌<◌, ◌⊎◌, inl, inr, Bool
 use Rattle.std.specs.Option.{IfSome, IsSomeAnd}
 use Rattle.nm_types.specs.declared.scripts.Line.{Line}
 use Rattle.nm_outside.specs.Told.{Appends, Rose}
-use Rattle.nm_command_line.specs.CommandLine.{IsTaken}
-use Rattle.nm_command_line.specs.declared.CommandLine.{CommandLine}
-use Rattle.nm_command_line.specs.declared.Mode.{Mode}
-use Rattle.nm_command_line.specs.declared.Mode.TheVariants as mode
+use Rattle.nm_script.specs.CommandWords.{IsTaken}
+use Rattle.nm_script.specs.declared.command_line.CommandLine.{CommandLine}
+use Rattle.nm_script.specs.declared.command_line.Mode.{Mode}
+use Rattle.nm_script.specs.declared.command_line.Mode.TheVariants as mode
 use Rattle.nm_script.specs.Spelled.{IsTextOf, SpellsNone}
 use Rattle.nm_script.specs.declared.faults.Kind.{Kind}
 use Rattle.nm_script.specs.declared.faults.ScriptFault.TheVariants as fault
@@ -24,7 +24,7 @@ use Rattle.nm_cli.specs.declared.answers.Response.TheVariants.{Free, Determinate
 use Rattle.nm_cli.specs.declared.answers.Response.TheVariants.{Logged}
 use Rattle.nm_cli.proofs.EndLemmas.{Ending, Ends, answered_for, no_run_status, not_five, or_unread, or_unwritten}
 use Rattle.nm_cli.proofs.EndLemmas.{other, run_status, said_whole, to_fails, unless_failed}
-use Rattle.nm_facts.proofs.Options.{if_all as always}
+use Rattle.nm_types.proofs.OptionLemmas.{if_all as always}
 
 -- nothing is read for a flood
 made_unread : (m : Mode) → Makes m → ReadsSource m → ⊥

@@ -4,11 +4,11 @@ use Rattle.std.specs.Option.{IfSome, IsSomeAnd}
 use Rattle.nm_types.specs.declared.scripts.Line.{Line}
 use Rattle.nm_types.specs.Limits.{IsScript}
 use Rattle.nm_types.specs.Sizes.{Sizes}
-use Rattle.nm_command_line.specs.CommandLine.{IsTaken}
-use Rattle.nm_command_line.specs.declared.CommandLine.{CommandLine}
-use Rattle.nm_command_line.specs.declared.Mode.{Mode}
-use Rattle.nm_command_line.specs.declared.Mode.TheVariants.{Run, Trace, Plain, Parts, Flood, Multi}
-use Rattle.nm_flood.specs.Flood.{flood_lines}
+use Rattle.nm_script.specs.CommandWords.{IsTaken}
+use Rattle.nm_script.specs.declared.command_line.CommandLine.{CommandLine}
+use Rattle.nm_script.specs.declared.command_line.Mode.{Mode}
+use Rattle.nm_script.specs.declared.command_line.Mode.TheVariants.{Run, Trace, Plain, Parts, Flood, Multi}
+use Rattle.nm_script.specs.FloodScripts.{flood_lines}
 use Rattle.nm_outside.specs.Told.{LosesAtMost}
 use Rattle.nm_script.specs.Spelled.{IsTextOf}
 use Rattle.nm_script.specs.declared.faults.ScriptFault.{ScriptFault}
@@ -24,7 +24,7 @@ use Rattle.nm_world.specs.declared.whole.Ways.{Ways}
 use Rattle.nm_sure.specs.Agree.{ArePlain}
 use Rattle.nm_sure.specs.Plain.{first_free}
 use Rattle.nm_sure.specs.PlainText.{plain_done, plain_text}
-use Rattle.nm_plan_requests.specs.Expansion.{expand}
+use Rattle.nm_plans.specs.Expansion.{expand}
 use Rattle.nm_persist.specs.Rules.{IsTextOf as IsPlanText}
 use Rattle.nm_plans.specs.declared.faults.PlanFault.{PlanFault}
 use Rattle.nm_plans.specs.declared.faults.PlanFault.TheVariants as plan_fault
@@ -33,8 +33,8 @@ use Rattle.nm_cli.specs.Answers.{CanBeTold, IsAnswer, IsAnswerFor, IsAnswerForPl
 use Rattle.nm_cli.specs.Plains.{IsNotPlain, IsPlain}
 use Rattle.nm_cli.specs.Answers.{IsAnswerForBytes, IsLogOf, IsRead, IsReadFor}
 use Rattle.nm_cli.specs.Plans.{IsRunOfPlan, PlanRefuses}
-use Rattle.nm_checked.specs.Checks.{IsChecked}
-use Rattle.nm_checked.specs.declared.checks.Checked.{Checked}
+use Rattle.nm_check.specs.Checks.{IsChecked}
+use Rattle.nm_check.specs.declared.checked.checks.Checked.{Checked}
 use Rattle.nm_cli.specs.Checks.{IsCheckedAs, IsTraced, IsWritten}
 use Rattle.nm_cli.specs.Scripts.{IsAsked, IsRunOfScript, IsRunOfWords, Reads, ReadsSource, limit_of, read_of}
 use Rattle.nm_cli.specs.Scripts.{sizes_for}

@@ -13,11 +13,11 @@ use Rattle.nm_types.specs.declared.scripts.Line.{Line}
 use Rattle.nm_types.specs.Limits.{IsScript}
 use Rattle.nm_types.specs.Sizes.{Sizes}
 use Rattle.nm_outside.specs.Told.{Appends}
-use Rattle.nm_command_line.specs.CommandLine.{AreNumbers, IsTaken}
-use Rattle.nm_command_line.specs.declared.CommandLine.{CommandLine}
-use Rattle.nm_command_line.specs.declared.Mode.{Mode}
-use Rattle.nm_command_line.specs.declared.Mode.TheVariants as mode
-use Rattle.nm_flood.specs.Flood.{flood_lines}
+use Rattle.nm_script.specs.CommandWords.{AreNumbers, IsTaken}
+use Rattle.nm_script.specs.declared.command_line.CommandLine.{CommandLine}
+use Rattle.nm_script.specs.declared.command_line.Mode.{Mode}
+use Rattle.nm_script.specs.declared.command_line.Mode.TheVariants as mode
+use Rattle.nm_script.specs.FloodScripts.{flood_lines}
 use Rattle.nm_script.specs.Spelled.{IsTextOf}
 use Rattle.nm_report.specs.Cells.{AllCellsFree}
 use Rattle.nm_report.specs.Lawful.{IsRunIn}

@@ -1,10 +1,10 @@
 -- How several threads that shared one rank end.
 use Rattle.std.proofs.Common.{◌≡◌, ◌≢◌, ℕ, None, sym, ◌∙◌, subst}
 use Rattle.nm_outside.specs.Told.{Appends}
-use Rattle.nm_command_line.specs.CommandLine.{IsTaken}
-use Rattle.nm_command_line.specs.declared.CommandLine.{CommandLine}
-use Rattle.nm_command_line.specs.declared.Mode.{Mode}
-use Rattle.nm_command_line.specs.declared.Mode.TheVariants.{Plain, Check, Parts, Multi}
+use Rattle.nm_script.specs.CommandWords.{IsTaken}
+use Rattle.nm_script.specs.declared.command_line.CommandLine.{CommandLine}
+use Rattle.nm_script.specs.declared.command_line.Mode.{Mode}
+use Rattle.nm_script.specs.declared.command_line.Mode.TheVariants.{Plain, Check, Parts, Multi}
 use Rattle.nm_multi.specs.Calls.{Logged as Log}
 use Rattle.nm_multi.specs.Programs.{IsWhole}
 use Rattle.nm_multi.specs.Text.{log_text}

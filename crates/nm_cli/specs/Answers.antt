@@ -2,10 +2,10 @@
 use Rattle.std.specs.Prelude.{◌≡◌, ℕ, ◌^◌, ◌<◌, Bool, true, false, if◌then◌else◌, List, [], ◌++◌, IfSome, Option}
 use Rattle.std.specs.Prelude.{Some, None, codes, drop}
 use Rattle.nm_outside.specs.Told.{Rose}
-use Rattle.nm_command_line.specs.CommandLine.{IsTaken}
-use Rattle.nm_command_line.specs.declared.CommandLine.{CommandLine}
-use Rattle.nm_command_line.specs.declared.Mode.{Mode}
-use Rattle.nm_command_line.specs.declared.Mode.TheVariants as mode
+use Rattle.nm_script.specs.CommandWords.{IsTaken}
+use Rattle.nm_script.specs.declared.command_line.CommandLine.{CommandLine}
+use Rattle.nm_script.specs.declared.command_line.Mode.{Mode}
+use Rattle.nm_script.specs.declared.command_line.Mode.TheVariants as mode
 use Rattle.nm_script.specs.Rules.{IsFirstFault}
 use Rattle.nm_script.specs.Spelled.{IsTextOf, SpellsNone}
 use Rattle.nm_script.specs.declared.faults.Kind.{Kind}
@@ -27,12 +27,12 @@ use Rattle.nm_cli.specs.declared.answers.Response.TheVariants.{Logged}
 use Rattle.nm_sure.specs.Agree.{ArePlain}
 use Rattle.nm_sure.specs.Plain.{first_free}
 use Rattle.nm_sure.specs.PlainText.{plain_done, plain_text}
-use Rattle.nm_plan_requests.specs.Expansion.{expand}
+use Rattle.nm_plans.specs.Expansion.{expand}
 use Rattle.nm_plans.specs.declared.faults.PlanFault.TheVariants as plan_fault
 use Rattle.nm_plans.specs.declared.lines.PlanLine.{PlanLine}
 use Rattle.nm_persist.specs.Report.{run_text as plan_run_text}
 use Rattle.nm_persist.specs.Rules.{IsTextOf as IsPlanText}
-use Rattle.nm_checked.specs.Checks.{IsChecked}
+use Rattle.nm_check.specs.Checks.{IsChecked}
 use Rattle.nm_cli.specs.Checks.{IsCheckedAs, checked_status, checked_text}
 use Rattle.nm_cli.specs.Faults.{fault_text}
 use Rattle.nm_cli.specs.Plains.{IsNotPlain, IsPlain, free_text}

@@ -2,17 +2,17 @@
 use Rattle.std.specs.Prelude.{◌≡◌, ℕ, List, take, Option, IfSome}
 use Rattle.nm_types.specs.declared.scripts.Line.{Line}
 use Rattle.nm_outside.specs.Told.{Appends}
-use Rattle.nm_command_line.specs.declared.CommandLine.{CommandLine}
+use Rattle.nm_script.specs.declared.command_line.CommandLine.{CommandLine}
 use Rattle.nm_script.specs.Spelled.{IsTextOf}
 use Rattle.nm_report.specs.Lawful.{IsRunIn}
 use Rattle.nm_report.specs.declared.records.RunRecord.{RunRecord}
 use Rattle.nm_trace.specs.Traces.{IsTraceOf}
 use Rattle.nm_check.specs.declared.verdicts.Verdict.{Verdict}
 use Rattle.nm_check.specs.declared.verdicts.Verdict.TheVariants.{Holds}
-use Rattle.nm_checked.specs.Checks.{IsChecked, IsInput}
-use Rattle.nm_checked.specs.Texts.{trace_fault_text, verdict_text}
-use Rattle.nm_checked.specs.declared.checks.Checked.{Checked}
-use Rattle.nm_checked.specs.declared.checks.Checked.TheVariants.{NoTrace, NoScript, BadTrace, Judged}
+use Rattle.nm_check.specs.Checks.{IsChecked, IsInput}
+use Rattle.nm_check.specs.Texts.{trace_fault_text, verdict_text}
+use Rattle.nm_check.specs.declared.checked.checks.Checked.{Checked}
+use Rattle.nm_check.specs.declared.checked.checks.Checked.TheVariants.{NoTrace, NoScript, BadTrace, Judged}
 use Rattle.nm_cli.specs.Faults.{fault_text}
 use Rattle.nm_cli.specs.Scripts.{limit_of, sizes_for}
 

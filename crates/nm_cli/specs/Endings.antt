@@ -1,7 +1,7 @@
 -- How the program ends: what was said, with which status, and what is handed out.
 use Rattle.std.specs.Prelude.{◌≡◌, ℕ, ◌⊎◌, Bool, List, Option, Some, IfSome}
 use Rattle.nm_outside.specs.Told.{Appends, AppendsPart}
-use Rattle.nm_command_line.specs.declared.CommandLine.{CommandLine}
+use Rattle.nm_script.specs.declared.command_line.CommandLine.{CommandLine}
 use Rattle.nm_script.specs.declared.faults.Kind.{Kind}
 use Rattle.nm_script.specs.declared.faults.ScriptFault.TheVariants as fault
 use Rattle.nm_report.specs.declared.records.RunRecord.{RunRecord}

@@ -3,9 +3,9 @@ use Rattle.std.specs.Prelude.{◌≡◌, ℕ, ◌*◌, Bool, List, ◌++◌, Som
 use Rattle.nm_types.specs.declared.answers.Account.{Account}
 use Rattle.nm_types.specs.declared.scripts.Line.{Line}
 use Rattle.nm_types.specs.Sizes.{Sizes}
-use Rattle.nm_command_line.specs.declared.CommandLine.{CommandLine}
-use Rattle.nm_command_line.specs.declared.Mode.{Mode}
-use Rattle.nm_command_line.specs.declared.Mode.TheVariants.{Run, Flood}
+use Rattle.nm_script.specs.declared.command_line.CommandLine.{CommandLine}
+use Rattle.nm_script.specs.declared.command_line.Mode.{Mode}
+use Rattle.nm_script.specs.declared.command_line.Mode.TheVariants.{Run, Flood}
 use Rattle.nm_script.specs.Spelled.{IsTextOf}
 use Rattle.nm_report.specs.Summary.{told_summary}
 use Rattle.nm_sure.specs.Agree.{ArePlain}

@@ -1,11 +1,11 @@
 -- What is said of a plan: a script of persistent and partitioned requests.
 use Rattle.std.specs.Prelude.{◌≡◌, ℕ, List, ◌++◌, Option, Some, IfSome, codes, decimal, slice_get}
 use Rattle.std.specs.List.{AllByRecursion}
-use Rattle.nm_command_line.specs.declared.CommandLine.{CommandLine}
-use Rattle.nm_plan_requests.specs.Expansion.{expand}
+use Rattle.nm_script.specs.declared.command_line.CommandLine.{CommandLine}
+use Rattle.nm_plans.specs.Expansion.{expand}
 use Rattle.nm_persist.specs.Plans.{IsPlan}
 use Rattle.nm_persist.specs.Rules.{IsFirstFault, IsTextOf}
-use Rattle.nm_persist_runs.specs.Promises.{IsKept, shown_of}
+use Rattle.nm_persist.specs.Promises.{IsKept, shown_of}
 use Rattle.nm_plans.specs.declared.faults.PlanFault.{PlanFault}
 use Rattle.nm_plans.specs.declared.faults.PlanFault.TheVariants as fault
 use Rattle.nm_plans.specs.declared.faults.PlanKind.{PlanKind}

@@ -2,11 +2,11 @@
 use Rattle.std.specs.Prelude.{◌≡◌, ℕ, List, take, Option, IfSome, IsSomeAnd}
 use Rattle.nm_types.specs.declared.scripts.Line.{Line}
 use Rattle.nm_types.specs.Sizes.{Sizes}
-use Rattle.nm_command_line.specs.declared.CommandLine.{CommandLine}
-use Rattle.nm_command_line.specs.declared.Mode.{Mode}
-use Rattle.nm_command_line.specs.declared.Mode.TheVariants.{Run, Trace, Plain, Check, Parts, Flood}
-use Rattle.nm_command_line.specs.declared.Mode.TheVariants.{Multi}
-use Rattle.nm_flood.specs.Flood.{flood_lines}
+use Rattle.nm_script.specs.declared.command_line.CommandLine.{CommandLine}
+use Rattle.nm_script.specs.declared.command_line.Mode.{Mode}
+use Rattle.nm_script.specs.declared.command_line.Mode.TheVariants.{Run, Trace, Plain, Check, Parts, Flood}
+use Rattle.nm_script.specs.declared.command_line.Mode.TheVariants.{Multi}
+use Rattle.nm_script.specs.FloodScripts.{flood_lines}
 use Rattle.nm_script.specs.Spelled.{IsTextOf}
 use Rattle.nm_report.specs.Lawful.{IsRunIn}
 use Rattle.nm_report.specs.declared.records.RunRecord.{RunRecord}

@@ -12,8 +12,8 @@ ghost use Rattle.nm_cli.specs.Plans.{plan_fault_text as plan_fault_text_lem, pla
 ghost use Rattle.nm_cli.specs.Plains.{free_text as free_text_lem};
 
 use nm_check::Verdict;
-use nm_checked::{Checked, trace_fault_text, verdict_text};
-use nm_command_line::Mode;
+use nm_check::checked::{Checked, trace_fault_text, verdict_text};
+use nm_script::command_line::Mode;
 use nm_multi::CallLog;
 use nm_persist::{Plan, PlanKind};
 use nm_report::RunRecord;

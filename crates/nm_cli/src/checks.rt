@@ -2,16 +2,16 @@
 
 ghost use Rattle.std.specs.Prelude.{◌≡◌, IfOk};
 ghost use Rattle.nm_check.specs.declared.verdicts.Verdict.TheVariants.{Holds};
-ghost use Rattle.nm_checked.specs.declared.checks.Checked.TheVariants.{Judged};
-ghost use Rattle.nm_command_line.specs.CommandLine.{InRange};
-ghost use Rattle.nm_command_line.specs.declared.Mode.TheVariants.{Check};
+ghost use Rattle.nm_check.specs.declared.checked.checks.Checked.TheVariants.{Judged};
+ghost use Rattle.nm_script.specs.CommandWords.{InRange};
+ghost use Rattle.nm_script.specs.declared.command_line.Mode.TheVariants.{Check};
 ghost use Rattle.nm_cli.specs.Answers.{IsAnswerForBytes};
 ghost use Rattle.nm_cli.specs.Checks.{IsTraced};
 ghost use Rattle.nm_cli.specs.declared.answers.Response.TheVariants.{Checked};
 
 use crate::answers::Response;
-use nm_checked::check;
-use nm_command_line::CommandLine;
+use nm_check::checked::check;
+use nm_script::command_line::CommandLine;
 use nm_types::Memory;
 use std::alloc::Global;
 

@@ -2,12 +2,12 @@
 
 ghost use Rattle.std.specs.Prelude.{◌≡◌, List, map, string_bytes, IfOk, IsSomeAnd};
 ghost use Rattle.nm_outside.specs.Told.{LosesAtMost};
-ghost use Rattle.nm_command_line.specs.CommandLine.{AreNumbers, InRange, IsTaken};
-ghost use Rattle.nm_command_line.specs.declared.CommandLine.{CommandLine};
-ghost use Rattle.nm_command_line.specs.declared.Mode.TheVariants.{Check, Flood, Multi};
-ghost use Rattle.nm_flood.specs.Flood.{flood_lines};
+ghost use Rattle.nm_script.specs.CommandWords.{AreNumbers, InRange, IsTaken};
+ghost use Rattle.nm_script.specs.declared.command_line.CommandLine.{CommandLine};
+ghost use Rattle.nm_script.specs.declared.command_line.Mode.TheVariants.{Check, Flood, Multi};
+ghost use Rattle.nm_script.specs.FloodScripts.{flood_lines};
 ghost use Rattle.nm_check.specs.declared.verdicts.Verdict.TheVariants.{Holds};
-ghost use Rattle.nm_checked.specs.declared.checks.Checked.TheVariants.{Judged};
+ghost use Rattle.nm_check.specs.declared.checked.checks.Checked.TheVariants.{Judged};
 ghost use Rattle.nm_cli.specs.Answers.{CanBeTold, IsAnswer, IsAnswerFor, IsAnswerForBytes};
 ghost use Rattle.nm_cli.specs.Answers.{IsAnswerTo, IsLogOf, IsRead, IsReadFor, NotTaken, WasRead};
 ghost use Rattle.nm_cli.specs.Checks.{IsTraced, IsWritten};
@@ -18,8 +18,8 @@ use crate::answers::Response;
 use crate::checks::answer_trace;
 use crate::plans::answer_plan;
 use crate::runs::{answer_script, run_script};
-use nm_command_line::{CommandLine, Mode, read};
-use nm_flood::flood_script;
+use nm_script::command_line::{CommandLine, Mode, read};
+use nm_script::flood::flood_script;
 use nm_outside::{Gate, Source, Unread, read_up_to};
 use nm_types::{MAX_TEXT, Memory};
 use std::alloc::Global;

@@ -44,9 +44,9 @@ ghost use Rattle.std.specs.Prelude.{◌≡◌, ◌≢◌, ℕ, ◌⊎◌, None, 
 ghost use Rattle.std.specs.Prelude.{string_bytes, IfSome, IsSomeAnd};
 ghost use Rattle.nm_types.specs.declared.scripts.Line.{Line};
 ghost use Rattle.nm_outside.specs.Told.{Appends, AppendsPart, LosesAtMost, Rose};
-ghost use Rattle.nm_command_line.specs.CommandLine.{IsTaken};
-ghost use Rattle.nm_command_line.specs.declared.CommandLine.{CommandLine};
-ghost use Rattle.nm_command_line.specs.declared.Mode.TheVariants.{Check, Multi, Parts, Plain};
+ghost use Rattle.nm_script.specs.CommandWords.{IsTaken};
+ghost use Rattle.nm_script.specs.declared.command_line.CommandLine.{CommandLine};
+ghost use Rattle.nm_script.specs.declared.command_line.Mode.TheVariants.{Check, Multi, Parts, Plain};
 ghost use Rattle.nm_sure.specs.PlainText.{plain_done};
 ghost use Rattle.nm_script.specs.Spelled.{SpellsNone};
 ghost use Rattle.nm_cli.specs.declared.answers.Response.{Response};
@@ -67,10 +67,10 @@ mod runs;
 
 use answers::{Response, status, text};
 use finding::find_answer;
-use nm_flood::laws::{floods_keep_the_limits, floods_name_their_messages};
+use nm_script::flood::laws::{floods_keep_the_limits, floods_name_their_messages};
 use nm_multi::CallLog;
 use nm_outside::{Gate, Sink, Source, write_all};
-use nm_persist_runs::receives_show_their_sends;
+use nm_persist::runs::receives_show_their_sends;
 use nm_report::RunRecord;
 use nm_script::laws::one_script;
 use nm_sure::plain_runs_agree;

@@ -1,15 +1,15 @@
 //! The run of a plan.
 
 ghost use Rattle.std.specs.Prelude.{◌≡◌, IfErr, IfOk};
-ghost use Rattle.nm_command_line.specs.CommandLine.{InRange};
-ghost use Rattle.nm_command_line.specs.declared.Mode.TheVariants.{Parts};
+ghost use Rattle.nm_script.specs.CommandWords.{InRange};
+ghost use Rattle.nm_script.specs.declared.command_line.Mode.TheVariants.{Parts};
 ghost use Rattle.nm_persist.specs.Rules.{IsTextOf};
 ghost use Rattle.nm_cli.specs.Answers.{IsAnswerForBytes, IsAnswerForPlan};
 ghost use Rattle.nm_cli.specs.Plans.{PlanRefuses};
 
 use crate::answers::Response;
 use crate::runs::run;
-use nm_command_line::CommandLine;
+use nm_script::command_line::CommandLine;
 use nm_outside::Gate;
 use nm_persist::{Plan, PlanFault};
 use nm_types::Memory;

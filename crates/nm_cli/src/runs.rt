@@ -1,8 +1,8 @@
 //! The run of a script, and what all its runs report.
 
 ghost use Rattle.std.specs.Prelude.{◌≡◌, IfErr, IfOk};
-ghost use Rattle.nm_command_line.specs.CommandLine.{InRange};
-ghost use Rattle.nm_command_line.specs.declared.Mode.TheVariants.{Plain};
+ghost use Rattle.nm_script.specs.CommandWords.{InRange};
+ghost use Rattle.nm_script.specs.declared.command_line.Mode.TheVariants.{Plain};
 ghost use Rattle.nm_report.specs.Summary.{CountsFit};
 ghost use Rattle.nm_report.specs.Told.{told_of};
 ghost use Rattle.nm_script.specs.Spelled.{IsTextOf};
@@ -10,7 +10,7 @@ ghost use Rattle.nm_cli.specs.Answers.{IsAnswerFor, IsAnswerForBytes, Refuses};
 ghost use Rattle.nm_cli.specs.Scripts.{IsRunOfScript, Reads, Runs};
 
 use crate::answers::Response;
-use nm_command_line::{CommandLine, Mode};
+use nm_script::command_line::{CommandLine, Mode};
 use nm_outside::Gate;
 use nm_report::RunRecord;
 use nm_script::ScriptFault;

@@ -7,13 +7,13 @@ use mathlib.Core.Option as maybe
 use lib.ListN.{get_elem?}
 use Rattle.atomic_table.specs.Table.{State, Joins, Splits}
 use Rattle.atomic_table.proofs.Lists.{set_else}
-use Rattle.nm_seats.specs.declared.views.View.{View}
-use Rattle.nm_seats.specs.Spoken.{view, sealed, IsOf}
-use Rattle.nm_seats.specs.Total.{total, sign}
-use Rattle.nm_seats.specs.Window.{Any}
-use Rattle.nm_seats.proofs.ListLemmas.{each_at}
-use Rattle.nm_seats.proofs.SpokenLemmas.{spoken_joins, spoken_seals}
-use Rattle.nm_seats.proofs.TotalLemmas.{total_along, total_rows, full_places}
+use Rattle.nm_chain.specs.declared.seats.views.View.{View}
+use Rattle.nm_chain.specs.Spoken.{view, sealed, IsOf}
+use Rattle.nm_chain.specs.Total.{total, sign}
+use Rattle.nm_chain.specs.Window.{Any}
+use Rattle.nm_chain.proofs.ListLemmas.{each_at}
+use Rattle.nm_chain.proofs.SpokenLemmas.{spoken_joins, spoken_seals}
+use Rattle.nm_chain.proofs.TotalLemmas.{total_along, total_rows, full_places}
 use Rattle.nm_copyring.specs.declared.table.Entry.{Entry}
 use Rattle.nm_copyring.specs.declared.port.RingPort.{RingPort}
 use Rattle.nm_copyring.specs.Rule.{Load, rank_of, is_filling, emptying, lane, mark, place, Ring, Rule}

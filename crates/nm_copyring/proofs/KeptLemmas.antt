@@ -10,9 +10,9 @@ use mathlib.Core.Logic.{dite}
 use native.Mathlib.Decide.{ℕ_discrete}
 use lib.ListN.{get_elem?}
 use Rattle.atomic_table.specs.Table.{State, step, keeps, takes, gives, rest, Allows}
-use Rattle.nm_seats.specs.declared.views.View.{View}
-use Rattle.nm_seats.specs.Spoken.{view}
-use Rattle.nm_seats.proofs.UpdateLemmas.{pick_yes, pick_no}
+use Rattle.nm_chain.specs.declared.seats.views.View.{View}
+use Rattle.nm_chain.specs.Spoken.{view}
+use Rattle.nm_chain.proofs.UpdateLemmas.{pick_yes, pick_no}
 use Rattle.nm_types.specs.declared.packets.Piece.{Piece}
 use Rattle.nm_copyring.specs.declared.table.Work.{Work}
 use Rattle.nm_copyring.specs.declared.table.Work.TheVariants.{Idle, Filling, Emptying}

@@ -4,7 +4,7 @@ use Rattle.std.proofs.Common.{length, map, sym, refl, ap, ◌∙◌, arith}
 use Rattle.std.proofs.lemmas.List.{map-append}
 use mathlib.Core.Option as maybe
 use lib.ListN.{get_elem?}
-use Rattle.nm_seats.proofs.PairLemmas.{one_pair, pair_low}
+use Rattle.nm_chain.proofs.PairLemmas.{one_pair, pair_low}
 use Rattle.nm_types.specs.declared.packets.Piece.{Piece}
 use Rattle.nm_copyring.specs.Rule.{Load, place}
 

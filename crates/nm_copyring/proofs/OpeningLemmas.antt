@@ -6,10 +6,10 @@ use Rattle.std.proofs.lemmas.Nat.{mod_below}
 use Rattle.std.proofs.lemmas.List.{length-replicate, get_or-replicate}
 use mathlib.Core.Option as maybe
 use Rattle.atomic_table.specs.Table.{Splits, opening}
-use Rattle.nm_seats.specs.declared.views.View.{View}
-use Rattle.nm_seats.specs.Spoken.{view, others_of, first_of, Each, Apart}
-use Rattle.nm_seats.proofs.ListLemmas.{at_replicate}
-use Rattle.nm_seats.proofs.SpokenLemmas.{spoken_first, spoken_splits}
+use Rattle.nm_chain.specs.declared.seats.views.View.{View}
+use Rattle.nm_chain.specs.Spoken.{view, others_of, first_of, Each, Apart}
+use Rattle.nm_chain.proofs.ListLemmas.{at_replicate}
+use Rattle.nm_chain.proofs.SpokenLemmas.{spoken_first, spoken_splits}
 use Rattle.nm_copyring.specs.declared.table.Lane.{Lane}
 use Rattle.nm_copyring.specs.declared.table.Entry.{Entry}
 use Rattle.nm_copyring.specs.Rule.{Load, rank_of, new_lane, lane, place, AreOf, Ring, Rule}

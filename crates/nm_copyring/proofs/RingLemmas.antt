@@ -9,9 +9,9 @@ use mathlib.Core.Option as maybe
 use native.Mathlib.Decide.{ℕ_discrete}
 use lib.ListN.{get_elem?}
 use Rattle.atomic_table.proofs.Lists.{set_here, set_else}
-use Rattle.nm_seats.specs.Window.{Any, Window}
-use Rattle.nm_seats.proofs.WindowLemmas as windows
-use Rattle.nm_seats.proofs.UpdateLemmas.{pick_yes}
+use Rattle.nm_chain.specs.Window.{Any, Window}
+use Rattle.nm_chain.proofs.WindowLemmas as windows
+use Rattle.nm_chain.proofs.UpdateLemmas.{pick_yes}
 use Rattle.nm_types.specs.declared.packets.Piece.{Piece}
 use Rattle.nm_copyring.specs.declared.table.Work.TheVariants.{Idle, Filling, Emptying}
 use Rattle.nm_copyring.specs.declared.table.Look.TheVariants.{Fresh, Free, Full}

@@ -11,11 +11,11 @@ use native.Mathlib.Decide.{ℕ_discrete}
 use lib.ListN.{get_elem?}
 use Rattle.atomic_table.specs.Table.{State}
 use Rattle.atomic_table.proofs.Lists.{set_else}
-use Rattle.nm_seats.specs.declared.views.View.{View}
-use Rattle.nm_seats.specs.Spoken.{view}
-use Rattle.nm_seats.specs.Update.{update}
-use Rattle.nm_seats.proofs.SpokenLemmas.{spoken_of, spoken_steps}
-use Rattle.nm_seats.proofs.UpdateLemmas.{update_here, update_else}
+use Rattle.nm_chain.specs.declared.seats.views.View.{View}
+use Rattle.nm_chain.specs.Spoken.{view}
+use Rattle.nm_chain.specs.Update.{update}
+use Rattle.nm_chain.proofs.SpokenLemmas.{spoken_of, spoken_steps}
+use Rattle.nm_chain.proofs.UpdateLemmas.{update_here, update_else}
 use Rattle.nm_copyring.specs.declared.table.Look.TheVariants.{Fresh}
 use Rattle.nm_copyring.specs.declared.table.Lane.{Lane}
 use Rattle.nm_copyring.specs.declared.table.Entry.{Entry}

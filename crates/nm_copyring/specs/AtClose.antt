@@ -2,8 +2,8 @@
 use Rattle.std.specs.Prelude.{◌≡◌, ℕ, ◌++◌, ◌-◌, ◌<◌, ◌≤◌, List, [], ◌∷◌, length, slice_index_or}
 use lib.ListN.{get_elem?}
 use mathlib.Core.Option as maybe
-use Rattle.nm_seats.specs.declared.views.View.{View}
-use Rattle.nm_seats.specs.Total.{total}
+use Rattle.nm_chain.specs.declared.seats.views.View.{View}
+use Rattle.nm_chain.specs.Total.{total}
 use Rattle.nm_types.specs.declared.packets.Piece.{Piece}
 use Rattle.nm_copyring.specs.declared.table.Entry.{Entry}
 use Rattle.nm_copyring.specs.Rule.{lane, newcomer}

@@ -7,10 +7,10 @@ use mathlib.Core.Option as maybe
 use native.Mathlib.Decide.{ℕ_discrete}
 use lib.ListN.{get_elem?}
 use Rattle.atomic_table.specs.Table.{State}
-use Rattle.nm_seats.specs.declared.views.View.{View}
-use Rattle.nm_seats.specs.Spoken.{view, Spoken}
-use Rattle.nm_seats.specs.Update.{pick}
-use Rattle.nm_seats.specs.Window.{Any, Window}
+use Rattle.nm_chain.specs.declared.seats.views.View.{View}
+use Rattle.nm_chain.specs.Spoken.{view, Spoken}
+use Rattle.nm_chain.specs.Update.{pick}
+use Rattle.nm_chain.specs.Window.{Any, Window}
 use Rattle.nm_types.specs.declared.packets.Piece.{Piece}
 use Rattle.nm_copyring.specs.declared.table.Work.{Work}
 use Rattle.nm_copyring.specs.declared.table.Work.TheVariants.{Idle, Filling, Emptying}

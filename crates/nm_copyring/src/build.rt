@@ -1,7 +1,7 @@
 //! Rings at the start.
 
 ghost use Rattle.std.specs.Prelude.{◌≡◌, ℕ, suc, ◌-◌, ◌*◌, ◌<◌, ◌≤◌, [], IfOk, Some, None, length, replicate, slice_get};
-ghost use Rattle.nm_seats.specs.Spoken.{view};
+ghost use Rattle.nm_chain.specs.Spoken.{view};
 ghost use Rattle.nm_copyring.specs.declared.port.RingPort.{RingPort};
 ghost use Rattle.nm_copyring.specs.Rule.{new_lane, newcomers};
 ghost use Rattle.nm_copyring.specs.Counted.{tally};
@@ -11,7 +11,7 @@ use crate::port::{RingPort, Rings};
 use crate::slots::Slot;
 use crate::table::{Board, Place};
 use crate::tallies::Tally;
-use nm_seats::GivesFirst;
+use nm_chain::seats::GivesFirst;
 use nm_types::{Memory, Shape};
 use std::alloc::Global;
 

@@ -5,7 +5,7 @@ ghost use Rattle.nm_copyring.specs.AtClose.{not_pulled, seen_in};
 
 use crate::table::Entry;
 use atomic_table::Badge;
-use nm_seats::View;
+use nm_chain::seats::View;
 
 /// Rings that are closed. It keeps what the ports knew, of which no value is made, and how many of
 /// the pieces that were pushed were not pulled.

@@ -1,7 +1,7 @@
 //! The end of the rings.
 
 ghost use Rattle.std.specs.Prelude.{◌≡◌, ℕ, ◌+◌, ◌*◌, ◌<◌, ◌≤◌, List, [], ◌∷◌, ◌++◌, Some, length, map, slice_get};
-ghost use Rattle.nm_seats.specs.Spoken.{view};
+ghost use Rattle.nm_chain.specs.Spoken.{view};
 ghost use Rattle.nm_copyring.specs.declared.port.RingPort.{RingPort};
 ghost use Rattle.nm_copyring.specs.AtClose.{Gathered, Prefixed, not_pulled};
 ghost use Rattle.nm_copyring.specs.ClosedLists.{entries, pulled_list, pushed_list};
@@ -11,7 +11,7 @@ ghost use Rattle.nm_copyring.specs.Ports.{Owns, knows, sees};
 use crate::close::RingAccount;
 use crate::port::{RingPort, Rings};
 use crate::table::{Board, Place};
-use nm_seats::{Joins, Seals};
+use nm_chain::seats::{Joins, Seals};
 
 impl RingAccount {
     /// The pieces that were pushed and not pulled.

@@ -8,7 +8,7 @@ ghost use Rattle.nm_copyring.specs.Ports.{IsFree, IsFull, Owns, knows, pushed_to
 use crate::counts::{count_empty, count_full, count_pulled, count_pushed};
 use crate::port::{RingPort, Rings};
 use crate::steps::{empty_next, fill_next, is_free, is_full};
-use nm_seats::Steps;
+use nm_chain::seats::Steps;
 use nm_types::Piece;
 use std::sync::ledger::Ledger;
 

@@ -11,7 +11,7 @@ use crate::port::Rings;
 use crate::slots::{Slot, empty_slot, fill_slot};
 use crate::table::{Entry, Place};
 use atomic_table::Play;
-use nm_seats::{Steps, View};
+use nm_chain::seats::{Steps, View};
 use nm_types::Piece;
 use std::sync::ledger::Ledger;
 

@@ -2,7 +2,7 @@
 
 use crate::slots::Slot;
 use atomic_table::{Seat, Table, TableRule};
-use nm_seats::View;
+use nm_chain::seats::View;
 use nm_types::Piece;
 use std::alloc::Global;
 use std::collections::LinkedList;

@@ -16,7 +16,7 @@ use Rattle.nm_diagram.specs.Anchors.{first_stamp, is_anchor, since}
 use Rattle.nm_diagram.specs.Diagrams.{all_arrows, arrow_from, arrow_of, arrows_at, arrows_of, from_lane, sent_by}
 use Rattle.nm_diagram.specs.Frames.{IsIn, is_shown}
 use Rattle.nm_diagram.specs.Joined.{IsAt, IsOfMessage}
-use Rattle.nm_facts.proofs.Lists.{all_append as both}
+use Rattle.nm_types.proofs.ListLemmas.{all_append as both}
 use Rattle.nm_diagram.proofs.FrameLemmas.{shown-in}
 
 pub here : {X : Type 0} (x : X) (xs : List X) → Contains (x ∷ xs) x

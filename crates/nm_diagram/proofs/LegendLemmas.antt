@@ -35,7 +35,7 @@ use Rattle.nm_diagram.specs.Legend.{has_sign, is_told, is_used, legend_of}
 use Rattle.nm_diagram.specs.Signs.{all_signs, is_ask, is_eager, is_of_left, is_waits, tells, way_of}
 use Rattle.nm_diagram.proofs.ArrowLemmas.{found_at, here, there}
 use Rattle.nm_diagram.proofs.FrameLemmas.{in-shown}
-use Rattle.nm_facts.proofs.Lists.{all_append as both}
+use Rattle.nm_types.proofs.ListLemmas.{all_append as both}
 
 -- what passes stays
 kept_here : {X : Type 0} (test : X → Bool) (x : X) (xs : List X) (b : Bool) → b ≡ true →

@@ -14,7 +14,7 @@ use Rattle.nm_diagram.specs.Diagrams.{from_lane}
 use Rattle.nm_diagram.specs.Frames.{is_shown}
 use Rattle.nm_diagram.specs.Joined.{IsAt}
 use Rattle.nm_diagram.specs.Returns.{IsOfWithdrawal, all_returns, return_from, return_of, returns_at, returns_of}
-use Rattle.nm_facts.proofs.Lists.{all_append as both}
+use Rattle.nm_types.proofs.ListLemmas.{all_append as both}
 use Rattle.nm_diagram.proofs.ArrowLemmas.{found_behind, here, there}
 use Rattle.nm_diagram.proofs.FrameLemmas.{shown-in}
 

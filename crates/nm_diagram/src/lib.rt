@@ -23,6 +23,7 @@ mod frames;
 pub mod laws;
 mod legends;
 mod links;
+pub mod pairs;
 mod returns;
 mod rings;
 mod signs;

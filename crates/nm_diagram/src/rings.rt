@@ -8,7 +8,7 @@ ghost use Rattle.nm_diagram.specs.Left.{some_left};
 use crate::frames::Span;
 use nm_history::plain::Pair;
 use nm_history::{Event, Happened};
-use nm_pairs::{all_pairs, is_free};
+use crate::pairs::{all_pairs, is_free};
 use nm_report::RankAccount;
 use std::alloc::{AllocError, Global};
 

@@ -12,7 +12,7 @@ use Rattle.nm_types.specs.declared.packets.What.TheVariants as what
 use Rattle.nm_history.specs.Sends.{Sent}
 use Rattle.nm_history.specs.Outgoing.{Called, eager_packets, further_packets, part_at}
 use Rattle.nm_eager.specs.Cutting.{Cutting, packet_count, next_what, IsMessageOf, IsNext}
-use Rattle.nm_facts.proofs.Numbers.{unequal}
+use Rattle.nm_types.proofs.NumberLemmas.{unequal}
 
 -- the bytes that were copied one by one are the part
 pub part_is : (bytes copied : List ℕ) (start size : ℕ) → length copied ≡ 256

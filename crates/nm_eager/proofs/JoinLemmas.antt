@@ -19,7 +19,7 @@ use Rattle.nm_eager.specs.Streams.{Incoming, Stream, lacking, missing, with_more
 use Rattle.nm_eager.specs.Streams.{AllContinue, AreNumbered, goes_on, is_kept, bytes_ahead}
 use Rattle.nm_eager.specs.Streams.{groups, messages}
 use Rattle.nm_eager.proofs.MessageLemmas.{Lacks-below, map-lacks}
-use Rattle.nm_facts.proofs.Numbers.{eq_true}
+use Rattle.nm_types.proofs.NumberLemmas.{eq_true}
 
 -- the packets that a message may need
 abbrev kept : List Packet → List Packet

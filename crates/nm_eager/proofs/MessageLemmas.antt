@@ -4,7 +4,7 @@ use Rattle.std.proofs.Common.{[], ◌∷◌, ◌++◌, map, filter, find, Some, 
 use Rattle.std.proofs.Common.{◌∙◌, refl, arith, subst, slice_get, zero, suc}
 use Rattle.std.specs.List.{AllByRecursion, All, remove}
 use Rattle.nm_eager.specs.Streams.{Incoming, AreNumbered, with_more}
-use Rattle.nm_facts.proofs.Numbers.{unequal, eq_true}
+use Rattle.nm_types.proofs.NumberLemmas.{unequal, eq_true}
 
 -- the bounds may be wider
 pub AreNumbered-wider : (low low' high high' : ℕ) (ms : List Incoming) → low' ≤ low → high ≤ high'

@@ -9,7 +9,7 @@ use Rattle.std.proofs.lemmas.Bool.{cases_eq}
 use Rattle.nm_eager.specs.Streams.{Incoming, Stream, missing, lacking, with_more, begun, carried_on}
 use Rattle.nm_eager.specs.Streams.{without, AreNumbered, IsWholeOrLast, IsStream, IsWholeIn}
 use Rattle.nm_eager.proofs.MessageLemmas.{AreNumbered-low, Lacks-above, filter-lacks}
-use Rattle.nm_facts.proofs.Numbers.{unequal, eq_true}
+use Rattle.nm_types.proofs.NumberLemmas.{unequal, eq_true}
 
 pub missing-begun : (stream : Stream) (len : ℕ) (bytes : List ℕ)
     → missing (begun stream len bytes) ≡ missing stream + (len - length bytes)

@@ -18,7 +18,7 @@ use Rattle.nm_eager.proofs.MessageLemmas.{AreNumbered-at, AreNumbered-filter, Al
 use Rattle.nm_eager.proofs.MessageLemmas.{AllByRecursion-push, AllByRecursion-at}
 use Rattle.nm_eager.proofs.MessageLemmas.{Lacks-below, Lacks-from_All, find-lacks}
 use Rattle.nm_eager.proofs.MessageLemmas.{map-lacks, find-at, filter-at}
-use Rattle.nm_facts.proofs.Numbers.{unequal, eq_true}
+use Rattle.nm_types.proofs.NumberLemmas.{unequal, eq_true}
 
 -- whole messages lack nothing
 pub lacking-whole : (whole : List Incoming) → AllByRecursion (λ m. length m.bytes ≡ m.len) whole

@@ -14,7 +14,7 @@ use Rattle.nm_eager.specs.Streams.{after_all, AllContinue, eager_from, stream_of
 use Rattle.nm_eager.specs.Streams.{nothing_came}
 use Rattle.nm_eager.proofs.MessageLemmas.{AreNumbered-push, AreNumbered-wider, Lacks-below}
 use Rattle.nm_eager.proofs.MessageLemmas.{map-lacks}
-use Rattle.nm_facts.proofs.Numbers.{eq_true}
+use Rattle.nm_types.proofs.NumberLemmas.{eq_true}
 
 -- the packets that a message may need
 abbrev kept : List Packet → List Packet

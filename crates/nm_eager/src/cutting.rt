@@ -9,7 +9,7 @@ ghost use Rattle.nm_history.specs.Sends.{Sent};
 ghost use Rattle.nm_history.specs.Outgoing.{part_at};
 ghost use Rattle.nm_eager.specs.Cutting.{IsMessageOf, IsNext, next_what, packet_count};
 
-use nm_bodies::copy_range;
+use nm_types::ranges::copy_range;
 use nm_types::{Body, MAX_PAYLOAD, Packet, Payload, What, laws};
 use std::marker::Model;
 

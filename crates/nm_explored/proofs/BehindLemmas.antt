@@ -8,12 +8,12 @@ use Rattle.std.proofs.lemmas.List.Folds.{list_any-append}
 use Rattle.std.proofs.Math.Bool.{or-false}
 use Rattle.nm_types.specs.declared.messages.Arrival.{Arrival}
 use Rattle.nm_history.specs.Matching.{is_of_message}
-use Rattle.nm_spots.specs.declared.deeds.Deed.{Deed}
-use Rattle.nm_spots.specs.declared.deeds.Deed.TheVariants as deed
-use Rattle.nm_spots.specs.declared.deeds.Receive.{Receive}
-use Rattle.nm_spots.specs.Looks.{is_receive_by}
-use Rattle.nm_spots.specs.Spots.{Spot, arrived_at, arrived_by, is_claim_by, is_gone_at, is_that, receive_of_spot}
-use Rattle.nm_spots.specs.Spots.{spot_after, with_arrival}
+use Rattle.nm_outcomes.specs.declared.spots.deeds.Deed.{Deed}
+use Rattle.nm_outcomes.specs.declared.spots.deeds.Deed.TheVariants as deed
+use Rattle.nm_outcomes.specs.declared.spots.deeds.Receive.{Receive}
+use Rattle.nm_outcomes.specs.Looks.{is_receive_by}
+use Rattle.nm_outcomes.specs.RankStates.{Spot, arrived_at, arrived_by, is_claim_by, is_gone_at, is_that, receive_of_spot}
+use Rattle.nm_outcomes.specs.RankStates.{spot_after, with_arrival}
 use Rattle.nm_explored.specs.Orderly.{IsOrderly, came_of, is_rare_by}
 use Rattle.nm_explored.proofs.OrderlyLemmas.{IsNewDeed, no_cancel, not_gone}
 use Rattle.nm_explored.proofs.PostLemmas.{post_behind}

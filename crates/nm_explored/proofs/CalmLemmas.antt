@@ -15,21 +15,21 @@ use Rattle.nm_types.specs.Commands.{Numbered, command_at, commands_from, command
 use Rattle.nm_history.specs.Answers.{Message as Claimed}
 use Rattle.nm_history.specs.Matching.{is_of_message}
 use Rattle.nm_match.specs.Deeds.{is_message}
-use Rattle.nm_facts.proofs.Lists.{get_set_other, get_set_same, no_item, place_below}
-use Rattle.nm_facts.proofs.Numbers.{differ, same_number}
-use Rattle.nm_facts.proofs.Options.{mapped_some, no_some, same_some}
-use Rattle.nm_facts.proofs.Truth.{and_left, and_right, or_left, or_right}
-use Rattle.nm_spots.specs.declared.deeds.Deed.{Deed}
-use Rattle.nm_spots.specs.declared.deeds.Deed.TheVariants as deed
-use Rattle.nm_spots.specs.declared.deeds.Reply.{Reply}
-use Rattle.nm_spots.specs.declared.deeds.Reply.TheVariants as reply
-use Rattle.nm_spots.specs.Looks.{found_at, is_cancelling_by, is_recall_by, is_receive_by, message_in}
-use Rattle.nm_spots.specs.Spots.{Spot, first_spot, free_lem}
-use Rattle.nm_choices.specs.declared.moves.Move.{Move}
-use Rattle.nm_choices.specs.declared.moves.Move.TheVariants as move
-use Rattle.nm_choices.specs.declared.moves.Turn.{Turn}
-use Rattle.nm_choices.specs.Choices.{answer_in, is_test_of, is_withdrawn_next, match_at, may_begin, start_in}
-use Rattle.nm_choices.specs.Moves.{IsChoiceOf, IsDeedOf, IsTurn, moved_at}
+use Rattle.nm_types.proofs.ListLemmas.{get_set_other, get_set_same, no_item, place_below}
+use Rattle.nm_types.proofs.NumberLemmas.{differ, same_number}
+use Rattle.nm_types.proofs.OptionLemmas.{mapped_some, no_some, same_some}
+use Rattle.nm_types.proofs.TruthLemmas.{and_left, and_right, or_left, or_right}
+use Rattle.nm_outcomes.specs.declared.spots.deeds.Deed.{Deed}
+use Rattle.nm_outcomes.specs.declared.spots.deeds.Deed.TheVariants as deed
+use Rattle.nm_outcomes.specs.declared.spots.deeds.Reply.{Reply}
+use Rattle.nm_outcomes.specs.declared.spots.deeds.Reply.TheVariants as reply
+use Rattle.nm_outcomes.specs.Looks.{found_at, is_cancelling_by, is_recall_by, is_receive_by, message_in}
+use Rattle.nm_outcomes.specs.RankStates.{Spot, first_spot, free_lem}
+use Rattle.nm_explored.specs.declared.choices.moves.Move.{Move}
+use Rattle.nm_explored.specs.declared.choices.moves.Move.TheVariants as move
+use Rattle.nm_explored.specs.declared.choices.moves.Turn.{Turn}
+use Rattle.nm_explored.specs.Successors.{answer_in, is_test_of, is_withdrawn_next, match_at, may_begin, start_in}
+use Rattle.nm_explored.specs.Moves.{IsChoiceOf, IsDeedOf, IsTurn, moved_at}
 use Rattle.nm_explored.specs.Chosen.{AreCalm, Goes, HasNoCancel, is_cancel}
 use Rattle.nm_explored.specs.Met.{IsMet, IsWay}
 use Rattle.nm_explored.proofs.SeenLemmas.{after_arrival, after_deed}

@@ -20,26 +20,26 @@ use Rattle.nm_types.specs.Commands.{command_at, commands_of}
 use Rattle.nm_history.specs.declared.plain.Pair.{Pair}
 use Rattle.nm_history.specs.Matching.{is_of_message, is_of_receive}
 use Rattle.nm_history.specs.RankRun.{how_of}
-use Rattle.nm_facts.proofs.Lists.{find_nothing, get_set_other, get_set_same, place_below, set_twice}
-use Rattle.nm_facts.proofs.Numbers.{differ, same_number}
-use Rattle.nm_facts.proofs.Options.{mapped_some, no_some, same_some}
+use Rattle.nm_types.proofs.ListLemmas.{find_nothing, get_set_other, get_set_same, place_below, set_twice}
+use Rattle.nm_types.proofs.NumberLemmas.{differ, same_number}
+use Rattle.nm_types.proofs.OptionLemmas.{mapped_some, no_some, same_some}
 use Rattle.nm_outcomes.specs.Places.{or_else}
 use Rattle.nm_outcomes.specs.Searches.{AreEnough}
-use Rattle.nm_spots.specs.declared.deeds.Deed.{Deed}
-use Rattle.nm_spots.specs.declared.deeds.Deed.TheVariants as deed
-use Rattle.nm_spots.specs.declared.deeds.Receive.{Receive}
-use Rattle.nm_spots.specs.declared.deeds.Reply.{Reply}
-use Rattle.nm_spots.specs.Looks.{is_answer_by, is_send_by}
-use Rattle.nm_spots.specs.Spots.{Spot, arrived_at, arrived_by, is_claim_by, is_gone_at, is_that, receive_of_spot}
-use Rattle.nm_spots.specs.Spots.{spot_after, with_arrival}
-use Rattle.nm_spots.proofs.ListLemmas.{find-placed_new}
-use Rattle.nm_spots.proofs.SpotLemmas.{pairs_with}
-use Rattle.nm_choices.specs.declared.moves.Move.{Move}
-use Rattle.nm_choices.specs.declared.moves.Move.TheVariants as move
-use Rattle.nm_choices.specs.declared.moves.Turn.{Turn}
-use Rattle.nm_choices.specs.Choices.{answer_in, may_begin}
-use Rattle.nm_choices.specs.Lines.{line_in}
-use Rattle.nm_choices.specs.Moves.{IsAct, IsChoiceOf, IsDeedOf, IsTurn, moved_at}
+use Rattle.nm_outcomes.specs.declared.spots.deeds.Deed.{Deed}
+use Rattle.nm_outcomes.specs.declared.spots.deeds.Deed.TheVariants as deed
+use Rattle.nm_outcomes.specs.declared.spots.deeds.Receive.{Receive}
+use Rattle.nm_outcomes.specs.declared.spots.deeds.Reply.{Reply}
+use Rattle.nm_outcomes.specs.Looks.{is_answer_by, is_send_by}
+use Rattle.nm_outcomes.specs.RankStates.{Spot, arrived_at, arrived_by, is_claim_by, is_gone_at, is_that, receive_of_spot}
+use Rattle.nm_outcomes.specs.RankStates.{spot_after, with_arrival}
+use Rattle.nm_outcomes.proofs.ListLemmas.{find-placed_new}
+use Rattle.nm_outcomes.proofs.SpotLemmas.{pairs_with}
+use Rattle.nm_explored.specs.declared.choices.moves.Move.{Move}
+use Rattle.nm_explored.specs.declared.choices.moves.Move.TheVariants as move
+use Rattle.nm_explored.specs.declared.choices.moves.Turn.{Turn}
+use Rattle.nm_explored.specs.Successors.{answer_in, may_begin}
+use Rattle.nm_explored.specs.Lines.{line_in}
+use Rattle.nm_explored.specs.Moves.{IsAct, IsChoiceOf, IsDeedOf, IsTurn, moved_at}
 use Rattle.nm_explored.specs.Chosen.{Acts, AreCalm, Goes, HasNoCancel, IsSettled, IsSettledBy, LetsAct}
 use Rattle.nm_explored.specs.Ends.{AreAtRest, is_waiting}
 use Rattle.nm_explored.specs.Orderly.{HasNoClaim, IsOrderly, came_of}

@@ -20,30 +20,30 @@ use Rattle.nm_history.specs.Matching.{is_of_message, is_of_receive}
 use Rattle.nm_history.specs.Selection.{matches, matches_source, matches_tag}
 use Rattle.nm_match.proofs.ListLemmas.{filter-filter}
 use Rattle.nm_match.specs.Deeds.{is_message}
-use Rattle.nm_facts.proofs.Lists.{find_passes, get_set_other, get_set_same, place_below, set_twice}
-use Rattle.nm_facts.proofs.Numbers.{differ, eq_true, same_number, unequal}
-use Rattle.nm_facts.proofs.Options.{mapped_some, no_some, same_some}
-use Rattle.nm_facts.proofs.Truth.{and_left, and_right, not_true, or_left}
+use Rattle.nm_types.proofs.ListLemmas.{find_passes, get_set_other, get_set_same, place_below, set_twice}
+use Rattle.nm_types.proofs.NumberLemmas.{differ, eq_true, same_number, unequal}
+use Rattle.nm_types.proofs.OptionLemmas.{mapped_some, no_some, same_some}
+use Rattle.nm_types.proofs.TruthLemmas.{and_left, and_right, not_true, or_left}
 use Rattle.nm_outcomes.specs.Places.{or_else}
 use Rattle.nm_outcomes.specs.Searches.{AreEnough}
 use Rattle.nm_outcomes.proofs.PlaceLemmas.{find-append}
-use Rattle.nm_spots.specs.declared.deeds.Deed.{Deed}
-use Rattle.nm_spots.specs.declared.deeds.Deed.TheVariants as deed
-use Rattle.nm_spots.specs.declared.deeds.Message.{Message}
-use Rattle.nm_spots.specs.declared.deeds.Receive.{Receive}
-use Rattle.nm_spots.specs.declared.deeds.Reply.{Reply}
-use Rattle.nm_spots.specs.declared.deeds.Reply.TheVariants as reply
-use Rattle.nm_spots.specs.Looks.{found_at, is_answer_by, is_receive_by, is_send_by, live_in}
-use Rattle.nm_spots.specs.Spots.{Spot, arrived_at, is_behind, is_cancel_by, is_claim_by, is_gone_at, is_that}
-use Rattle.nm_spots.specs.Spots.{message_of_spot, receive_of_spot, spot_after}
-use Rattle.nm_spots.specs.Spots.{with_arrival, with_pair, without_number}
-use Rattle.nm_spots.proofs.ListLemmas.{count-placed_new}
-use Rattle.nm_choices.specs.declared.moves.Move.{Move}
-use Rattle.nm_choices.specs.declared.moves.Move.TheVariants as move
-use Rattle.nm_choices.specs.declared.moves.Turn.{Turn}
-use Rattle.nm_choices.specs.Choices.{answer_in, arrival_by, message_next, result_in, seen_at}
-use Rattle.nm_choices.specs.Lines.{line_in}
-use Rattle.nm_choices.specs.Moves.{IsAct, IsChoiceOf, IsDeedOf, IsNextMessage, IsTurn, moved_at}
+use Rattle.nm_outcomes.specs.declared.spots.deeds.Deed.{Deed}
+use Rattle.nm_outcomes.specs.declared.spots.deeds.Deed.TheVariants as deed
+use Rattle.nm_outcomes.specs.declared.spots.deeds.Message.{Message}
+use Rattle.nm_outcomes.specs.declared.spots.deeds.Receive.{Receive}
+use Rattle.nm_outcomes.specs.declared.spots.deeds.Reply.{Reply}
+use Rattle.nm_outcomes.specs.declared.spots.deeds.Reply.TheVariants as reply
+use Rattle.nm_outcomes.specs.Looks.{found_at, is_answer_by, is_receive_by, is_send_by, live_in}
+use Rattle.nm_outcomes.specs.RankStates.{Spot, arrived_at, is_behind, is_cancel_by, is_claim_by, is_gone_at, is_that}
+use Rattle.nm_outcomes.specs.RankStates.{message_of_spot, receive_of_spot, spot_after}
+use Rattle.nm_outcomes.specs.RankStates.{with_arrival, with_pair, without_number}
+use Rattle.nm_outcomes.proofs.ListLemmas.{count-placed_new}
+use Rattle.nm_explored.specs.declared.choices.moves.Move.{Move}
+use Rattle.nm_explored.specs.declared.choices.moves.Move.TheVariants as move
+use Rattle.nm_explored.specs.declared.choices.moves.Turn.{Turn}
+use Rattle.nm_explored.specs.Successors.{answer_in, arrival_by, message_next, result_in, seen_at}
+use Rattle.nm_explored.specs.Lines.{line_in}
+use Rattle.nm_explored.specs.Moves.{IsAct, IsChoiceOf, IsDeedOf, IsNextMessage, IsTurn, moved_at}
 use Rattle.nm_explored.specs.Chosen.{Goes, is_cancel}
 use Rattle.nm_explored.specs.Coming.{AreEnoughAt, Choice, Comes, IsNamed, LetsCome, Makes}
 use Rattle.nm_explored.specs.Coming.Choice.{Acting, Arriving}

@@ -6,18 +6,18 @@ use Rattle.std.proofs.lemmas.List.{map-set}
 use Rattle.std.proofs.lemmas.Option.{get_or_from_slice_get}
 use Rattle.nm_types.specs.declared.messages.Arrival.{Arrival}
 use Rattle.nm_types.specs.declared.scripts.Line.{Line}
-use Rattle.nm_facts.proofs.Lists.{get_some, place_below}
-use Rattle.nm_facts.proofs.Options.{same_some}
+use Rattle.nm_types.proofs.ListLemmas.{get_some, place_below}
+use Rattle.nm_types.proofs.OptionLemmas.{same_some}
 use Rattle.nm_outcomes.specs.Searches as searches
-use Rattle.nm_spots.specs.declared.deeds.Deed.{Deed}
-use Rattle.nm_spots.specs.Spots.{Spot, arrived_at, first_spot, spot_after}
-use Rattle.nm_choices.specs.declared.moves.Move.{Move}
-use Rattle.nm_choices.specs.declared.moves.Move.TheVariants as move
-use Rattle.nm_choices.specs.declared.moves.Turn.{Turn}
-use Rattle.nm_choices.specs.Choices.{message_next, spot_in}
-use Rattle.nm_choices.specs.Lists.{Has}
-use Rattle.nm_choices.specs.Moves.{AreMovesOf, IsAct, moved_at}
-use Rattle.nm_choices.proofs.KeptLemmas.{each_next, has_kept}
+use Rattle.nm_outcomes.specs.declared.spots.deeds.Deed.{Deed}
+use Rattle.nm_outcomes.specs.RankStates.{Spot, arrived_at, first_spot, spot_after}
+use Rattle.nm_explored.specs.declared.choices.moves.Move.{Move}
+use Rattle.nm_explored.specs.declared.choices.moves.Move.TheVariants as move
+use Rattle.nm_explored.specs.declared.choices.moves.Turn.{Turn}
+use Rattle.nm_explored.specs.Successors.{message_next, spot_in}
+use Rattle.nm_explored.specs.Lists.{Has}
+use Rattle.nm_explored.specs.Moves.{AreMovesOf, IsAct, moved_at}
+use Rattle.nm_explored.proofs.KeptLemmas.{each_next, has_kept}
 use Rattle.nm_explored.specs.Chosen.{AreActsOfOne, Goes, IsSettled}
 use Rattle.nm_explored.specs.Coming.{AreEnoughAt, AreEnoughTurns, IsNamed, Makes}
 use Rattle.nm_explored.specs.Coming.Choice.{Acting, Arriving}

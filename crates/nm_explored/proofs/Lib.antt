@@ -1,14 +1,22 @@
+pub mod AnswerLemmas
 mod BehindLemmas
 mod CalmLemmas
+pub mod ChoiceLemmas
 mod ChosenLemmas
 mod ComeLemmas
 mod ExpandLemmas
+pub mod KeptLemmas
+pub mod LineLemmas
 pub mod MetLemmas
 mod OrderlyLemmas
+pub mod PlacedLemmas
 mod PostLemmas
 pub mod RestLemmas
+pub mod ResultLemmas
 mod SeenLemmas
+pub mod SendLemmas
 pub mod SetLemmas
+pub mod SinceLemmas
 pub mod StoreLemmas
 pub mod TellLemmas
 pub mod ToldLemmas

@@ -12,18 +12,18 @@ use Rattle.std.proofs.lemmas.Option.{get_or_from_slice_get, slice_get-get_or, sl
 use Rattle.indexmap.specs.IndexSet.{insert_key}
 use Rattle.nm_types.specs.declared.scripts.Line.{Line}
 use Rattle.nm_types.specs.Sizes.{Sizes}
-use Rattle.nm_facts.proofs.Lists.{get_from_map, get_set_other, get_set_same, get_some, map_length, no_item}
-use Rattle.nm_facts.proofs.Lists.{place_below}
-use Rattle.nm_facts.proofs.Numbers.{differ, same_number}
-use Rattle.nm_facts.proofs.Options.{same_some}
-use Rattle.nm_facts.proofs.Truth.{and_left, and_right}
+use Rattle.nm_types.proofs.ListLemmas.{get_from_map, get_set_other, get_set_same, get_some, map_length, no_item}
+use Rattle.nm_types.proofs.ListLemmas.{place_below}
+use Rattle.nm_types.proofs.NumberLemmas.{differ, same_number}
+use Rattle.nm_types.proofs.OptionLemmas.{same_some}
+use Rattle.nm_types.proofs.TruthLemmas.{and_left, and_right}
 use Rattle.nm_outcomes.proofs.SentLemmas.{get_more}
-use Rattle.nm_spots.specs.Spots.{Spot, first_spot}
-use Rattle.nm_choices.specs.declared.moves.Turn.{Turn}
-use Rattle.nm_choices.specs.Choices.{spot_in}
-use Rattle.nm_choices.specs.Lists.{Has, Keeps}
-use Rattle.nm_choices.specs.Moves.{IsChoiceOf, IsTurn, moved_at}
-use Rattle.nm_choices.proofs.KeptLemmas.{has_push, keeps_push}
+use Rattle.nm_outcomes.specs.RankStates.{Spot, first_spot}
+use Rattle.nm_explored.specs.declared.choices.moves.Turn.{Turn}
+use Rattle.nm_explored.specs.Successors.{spot_in}
+use Rattle.nm_explored.specs.Lists.{Has, Keeps}
+use Rattle.nm_explored.specs.Moves.{IsChoiceOf, IsTurn, moved_at}
+use Rattle.nm_explored.proofs.KeptLemmas.{has_push, keeps_push}
 use Rattle.nm_explored.specs.declared.ends.Explored.{Explored}
 use Rattle.nm_explored.specs.declared.ends.Explored.TheVariants.{All, TooMany}
 use Rattle.nm_explored.specs.Met.{AreTooMany, IfTooMany, IsAll, IsMade, IsMet, IsSound}

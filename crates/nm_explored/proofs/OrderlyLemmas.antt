@@ -17,28 +17,28 @@ use Rattle.nm_history.specs.declared.plain.Pair.{Pair}
 use Rattle.nm_history.specs.Matching.{is_of_message, is_of_receive}
 use Rattle.nm_history.specs.Selection.{matches}
 use Rattle.nm_match.specs.Deeds.{is_message}
-use Rattle.nm_pairing.specs.Queues.{without_message}
-use Rattle.nm_facts.proofs.Lists.{get_set_other, get_set_same, no_item, place_below}
-use Rattle.nm_facts.proofs.Numbers.{differ, eq_less, eq_true, same_number}
-use Rattle.nm_facts.proofs.Options.{mapped_some, no_some, same_some}
-use Rattle.nm_facts.proofs.Truth.{and_left, and_right, not_true}
+use Rattle.nm_lookups.specs.Queues.{without_message}
+use Rattle.nm_types.proofs.ListLemmas.{get_set_other, get_set_same, no_item, place_below}
+use Rattle.nm_types.proofs.NumberLemmas.{differ, eq_less, eq_true, same_number}
+use Rattle.nm_types.proofs.OptionLemmas.{mapped_some, no_some, same_some}
+use Rattle.nm_types.proofs.TruthLemmas.{and_left, and_right, not_true}
 use Rattle.nm_outcomes.proofs.SentLemmas.{get_more}
-use Rattle.nm_spots.specs.declared.deeds.Deed.{Deed}
-use Rattle.nm_spots.specs.declared.deeds.Deed.TheVariants as deed
-use Rattle.nm_spots.specs.declared.deeds.Message.{Message}
-use Rattle.nm_spots.specs.declared.deeds.Receive.{Receive}
-use Rattle.nm_spots.specs.declared.deeds.Reply.{Reply}
-use Rattle.nm_spots.specs.declared.deeds.Reply.TheVariants as reply
-use Rattle.nm_spots.specs.Looks.{is_cancelling_by, is_receive_by, is_send_by}
-use Rattle.nm_spots.specs.Spots.{Spot, arrived_at, first_spot, is_behind, is_cancel_by, is_claim_by, is_gone_at}
-use Rattle.nm_spots.specs.Spots.{is_that, message_of_spot, receive_of_spot, spot_after, with_arrival, without_number}
-use Rattle.nm_spots.proofs.ListLemmas.{count-placed_new}
-use Rattle.nm_choices.specs.declared.moves.Move.{Move}
-use Rattle.nm_choices.specs.declared.moves.Move.TheVariants as move
-use Rattle.nm_choices.specs.declared.moves.Turn.{Turn}
-use Rattle.nm_choices.specs.Choices.{answer_in, arrival_by, is_test_of, may_begin, start_in}
-use Rattle.nm_choices.specs.Lists.{Has}
-use Rattle.nm_choices.specs.Moves.{IsChoiceOf, IsDeedOf, IsNextMessage, IsTurn, moved_at}
+use Rattle.nm_outcomes.specs.declared.spots.deeds.Deed.{Deed}
+use Rattle.nm_outcomes.specs.declared.spots.deeds.Deed.TheVariants as deed
+use Rattle.nm_outcomes.specs.declared.spots.deeds.Message.{Message}
+use Rattle.nm_outcomes.specs.declared.spots.deeds.Receive.{Receive}
+use Rattle.nm_outcomes.specs.declared.spots.deeds.Reply.{Reply}
+use Rattle.nm_outcomes.specs.declared.spots.deeds.Reply.TheVariants as reply
+use Rattle.nm_outcomes.specs.Looks.{is_cancelling_by, is_receive_by, is_send_by}
+use Rattle.nm_outcomes.specs.RankStates.{Spot, arrived_at, first_spot, is_behind, is_cancel_by, is_claim_by, is_gone_at}
+use Rattle.nm_outcomes.specs.RankStates.{is_that, message_of_spot, receive_of_spot, spot_after, with_arrival, without_number}
+use Rattle.nm_outcomes.proofs.ListLemmas.{count-placed_new}
+use Rattle.nm_explored.specs.declared.choices.moves.Move.{Move}
+use Rattle.nm_explored.specs.declared.choices.moves.Move.TheVariants as move
+use Rattle.nm_explored.specs.declared.choices.moves.Turn.{Turn}
+use Rattle.nm_explored.specs.Successors.{answer_in, arrival_by, is_test_of, may_begin, start_in}
+use Rattle.nm_explored.specs.Lists.{Has}
+use Rattle.nm_explored.specs.Moves.{IsChoiceOf, IsDeedOf, IsNextMessage, IsTurn, moved_at}
 use Rattle.nm_explored.specs.Chosen.{AreCalm, Goes, HasNoCancel, is_cancel}
 use Rattle.nm_explored.specs.Met.{IsMet, IsWay}
 use Rattle.nm_explored.specs.Orderly.{AreOrderly, HasNoClaim, IsOrderly, came_of, is_claiming, is_numbered, is_rare_by}

@@ -13,21 +13,21 @@ use Rattle.nm_history.specs.declared.plain.Pair.{Pair}
 use Rattle.nm_history.specs.Matching.{is_of_message, is_of_receive}
 use Rattle.nm_history.specs.Selection.{matches}
 use Rattle.nm_match.specs.Deeds.{is_message}
-use Rattle.nm_pairing.specs.Queues.{without_message}
-use Rattle.nm_facts.proofs.Lists.{find_passes}
-use Rattle.nm_facts.proofs.Numbers.{eq_true, same_number}
-use Rattle.nm_facts.proofs.Options.{no_some, same_some}
-use Rattle.nm_facts.proofs.Truth.{and_left, and_right, neither, not_true, same_test}
+use Rattle.nm_lookups.specs.Queues.{without_message}
+use Rattle.nm_types.proofs.ListLemmas.{find_passes}
+use Rattle.nm_types.proofs.NumberLemmas.{eq_true, same_number}
+use Rattle.nm_types.proofs.OptionLemmas.{no_some, same_some}
+use Rattle.nm_types.proofs.TruthLemmas.{and_left, and_right, neither, not_true, same_test}
 use Rattle.nm_outcomes.specs.Places.{or_else}
 use Rattle.nm_outcomes.proofs.PlaceLemmas.{find-append}
-use Rattle.nm_spots.specs.declared.deeds.Deed.{Deed}
-use Rattle.nm_spots.specs.declared.deeds.Deed.TheVariants as deed
-use Rattle.nm_spots.specs.declared.deeds.Receive.{Receive}
-use Rattle.nm_spots.specs.Spots.{Spot, arrived_at, arrived_by, is_cancel_by, is_claim_by, is_closed_at, is_gone_at}
-use Rattle.nm_spots.specs.Spots.{is_that, message_of_spot, placed, placed_new, posted_at, receive_of_spot, spot_after, with_arrival}
-use Rattle.nm_spots.specs.Spots.{with_pair, without_number}
-use Rattle.nm_spots.proofs.ListLemmas.{any-placed, any-placed_new}
-use Rattle.nm_choices.specs.Lists.{Has}
+use Rattle.nm_outcomes.specs.declared.spots.deeds.Deed.{Deed}
+use Rattle.nm_outcomes.specs.declared.spots.deeds.Deed.TheVariants as deed
+use Rattle.nm_outcomes.specs.declared.spots.deeds.Receive.{Receive}
+use Rattle.nm_outcomes.specs.RankStates.{Spot, arrived_at, arrived_by, is_cancel_by, is_claim_by, is_closed_at, is_gone_at}
+use Rattle.nm_outcomes.specs.RankStates.{is_that, message_of_spot, placed, placed_new, posted_at, receive_of_spot, spot_after, with_arrival}
+use Rattle.nm_outcomes.specs.RankStates.{with_pair, without_number}
+use Rattle.nm_outcomes.proofs.ListLemmas.{any-placed, any-placed_new}
+use Rattle.nm_explored.specs.Lists.{Has}
 use Rattle.nm_explored.specs.Orderly.{is_numbered}
 
 -- lists in which nothing passes a test

@@ -28,29 +28,29 @@ use Rattle.nm_history.specs.RankRun.{ran_lines}
 use Rattle.nm_history.specs.Sends.{arrivals, envelope, sends}
 use Rattle.nm_history.specs.Underway.{is_of_packet}
 use Rattle.nm_match.specs.Deeds.{is_message}
-use Rattle.nm_facts.proofs.Lists.{map_length}
-use Rattle.nm_facts.proofs.Options.{mapped_none, mapped_some, no_some, same_some}
+use Rattle.nm_types.proofs.ListLemmas.{map_length}
+use Rattle.nm_types.proofs.OptionLemmas.{mapped_none, mapped_some, no_some, same_some}
 use Rattle.nm_report.specs.Told.{RankTold, Told, told_by}
 use Rattle.nm_outcomes.specs.Logs.{Step, history_in}
 use Rattle.nm_outcomes.specs.Moves.{is_free_in, may_show}
 use Rattle.nm_outcomes.specs.Outcomes.{told_at}
 use Rattle.nm_outcomes.specs.Rests.{AreAtRest as PlacesAreAtRest, IsHeldUp as IsPlaceHeldUp}
 use Rattle.nm_outcomes.proofs.SentLemmas.{came_within}
-use Rattle.nm_spots.specs.declared.deeds.Deed.{Deed}
-use Rattle.nm_spots.specs.declared.deeds.Reply.{Reply}
-use Rattle.nm_spots.specs.declared.deeds.Reply.TheVariants as reply
-use Rattle.nm_spots.specs.Deeds.{happening}
-use Rattle.nm_spots.specs.Looks.{IsSaid, is_answer_by, is_recall_by, is_send_by}
-use Rattle.nm_spots.specs.Spots.{IsSpotOf, Spot, free_lem}
-use Rattle.nm_spots.proofs.SaidLemmas.{first_own, said}
-use Rattle.nm_spots.proofs.SpotLemmas.{off_is}
-use Rattle.nm_choices.specs.Choices.{answer_in, arrival_by, is_withdrawn_next, message_next, result_in, seen_at}
-use Rattle.nm_choices.specs.Choices.{sent_at, shown_at}
-use Rattle.nm_choices.specs.Lines.{line_in}
-use Rattle.nm_choices.specs.Settings.{IsAt}
-use Rattle.nm_choices.proofs.PlacedLemmas.{came_said, found_said, free_said, numbers_in, placed}
-use Rattle.nm_choices.proofs.ResultLemmas.{ends}
-use Rattle.nm_choices.proofs.SendLemmas.{sent_many}
+use Rattle.nm_outcomes.specs.declared.spots.deeds.Deed.{Deed}
+use Rattle.nm_outcomes.specs.declared.spots.deeds.Reply.{Reply}
+use Rattle.nm_outcomes.specs.declared.spots.deeds.Reply.TheVariants as reply
+use Rattle.nm_outcomes.specs.Deeds.{happening}
+use Rattle.nm_outcomes.specs.Looks.{IsSaid, is_answer_by, is_recall_by, is_send_by}
+use Rattle.nm_outcomes.specs.RankStates.{IsSpotOf, Spot, free_lem}
+use Rattle.nm_outcomes.proofs.SaidLemmas.{first_own, said}
+use Rattle.nm_outcomes.proofs.SpotLemmas.{off_is}
+use Rattle.nm_explored.specs.Successors.{answer_in, arrival_by, is_withdrawn_next, message_next, result_in, seen_at}
+use Rattle.nm_explored.specs.Successors.{sent_at, shown_at}
+use Rattle.nm_explored.specs.Lines.{line_in}
+use Rattle.nm_explored.specs.Settings.{IsAt}
+use Rattle.nm_explored.proofs.PlacedLemmas.{came_said, found_said, free_said, numbers_in, placed}
+use Rattle.nm_explored.proofs.ResultLemmas.{ends}
+use Rattle.nm_explored.proofs.SendLemmas.{sent_many}
 use Rattle.nm_explored.specs.Ends.{IsAtRest, IsHeldUp, all_told, is_waiting, told_in}
 
 some_none : {X : Type 0} (x : X) → Some x ≡ None → ⊥

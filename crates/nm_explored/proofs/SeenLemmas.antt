@@ -16,24 +16,24 @@ use Rattle.nm_history.specs.Completion.{Request}
 use Rattle.nm_history.specs.Completion.Request.{Receiving, Sending}
 use Rattle.nm_history.specs.Matching.{is_of_message, is_of_receive}
 use Rattle.nm_match.specs.Deeds.{is_message}
-use Rattle.nm_pairing.specs.Queues.{without_message}
-use Rattle.nm_facts.proofs.Lists.{get_before, get_set_other, get_set_same, place_below}
-use Rattle.nm_facts.proofs.Numbers.{differ, same_number}
-use Rattle.nm_facts.proofs.Options.{mapped_some, no_some, same_some}
-use Rattle.nm_facts.proofs.Truth.{and_left, and_right, both, or_left, or_right}
-use Rattle.nm_spots.specs.declared.deeds.Deed.{Deed}
-use Rattle.nm_spots.specs.declared.deeds.Deed.TheVariants as deed
-use Rattle.nm_spots.specs.declared.deeds.Receive.{Receive}
-use Rattle.nm_spots.specs.declared.deeds.Reply.{Reply}
-use Rattle.nm_spots.specs.declared.deeds.Reply.TheVariants as reply
-use Rattle.nm_spots.specs.Looks.{is_recall_by, is_send_by, is_unasked_by, live_in}
-use Rattle.nm_spots.specs.Spots.{Spot, arrived_at, arrived_by, is_cancel_by, is_claim_by, is_closed_at, is_gone_at}
-use Rattle.nm_spots.specs.Spots.{is_that, message_of_spot, posted_at, receive_of_spot, spot_after, taken_at}
-use Rattle.nm_spots.specs.Spots.{with_arrival, without_number}
-use Rattle.nm_spots.proofs.ListLemmas.{any-placed_new}
-use Rattle.nm_spots.proofs.SpotLemmas.{pairs_with}
-use Rattle.nm_choices.specs.Choices.{answer_in, arrival_by, got_by, message_next, result_in, sent_at, shown_at}
-use Rattle.nm_choices.specs.Moves.{IsAct, IsDeedOf, IsNextMessage, no_in}
+use Rattle.nm_lookups.specs.Queues.{without_message}
+use Rattle.nm_types.proofs.ListLemmas.{get_before, get_set_other, get_set_same, place_below}
+use Rattle.nm_types.proofs.NumberLemmas.{differ, same_number}
+use Rattle.nm_types.proofs.OptionLemmas.{mapped_some, no_some, same_some}
+use Rattle.nm_types.proofs.TruthLemmas.{and_left, and_right, both, or_left, or_right}
+use Rattle.nm_outcomes.specs.declared.spots.deeds.Deed.{Deed}
+use Rattle.nm_outcomes.specs.declared.spots.deeds.Deed.TheVariants as deed
+use Rattle.nm_outcomes.specs.declared.spots.deeds.Receive.{Receive}
+use Rattle.nm_outcomes.specs.declared.spots.deeds.Reply.{Reply}
+use Rattle.nm_outcomes.specs.declared.spots.deeds.Reply.TheVariants as reply
+use Rattle.nm_outcomes.specs.Looks.{is_recall_by, is_send_by, is_unasked_by, live_in}
+use Rattle.nm_outcomes.specs.RankStates.{Spot, arrived_at, arrived_by, is_cancel_by, is_claim_by, is_closed_at, is_gone_at}
+use Rattle.nm_outcomes.specs.RankStates.{is_that, message_of_spot, posted_at, receive_of_spot, spot_after, taken_at}
+use Rattle.nm_outcomes.specs.RankStates.{with_arrival, without_number}
+use Rattle.nm_outcomes.proofs.ListLemmas.{any-placed_new}
+use Rattle.nm_outcomes.proofs.SpotLemmas.{pairs_with}
+use Rattle.nm_explored.specs.Successors.{answer_in, arrival_by, got_by, message_next, result_in, sent_at, shown_at}
+use Rattle.nm_explored.specs.Moves.{IsAct, IsDeedOf, IsNextMessage, no_in}
 
 -- truth values that grow
 pub and_more : (a b x y : Bool) → (a ≡ true → x ≡ true) → (b ≡ true → y ≡ true) → (a && b) ≡ true → (x && y) ≡ true

@@ -5,12 +5,12 @@ use Rattle.std.specs.Cmp.Lexicographic.{pointwise}
 use Rattle.std.specs.List.{IsDistinct, slice_get}
 use Rattle.std.proofs.lemmas.Cmp.{nat_list_eq_equiv}
 use Rattle.indexmap.specs.IndexSet.{insert_key}
-use Rattle.nm_facts.proofs.Numbers.{same_number}
-use Rattle.nm_facts.proofs.Truth.{and_left, and_right}
-use Rattle.nm_spots.specs.SameLaws.{same_spot, spots_equiv}
-use Rattle.nm_spots.specs.Sames.{same_spots}
-use Rattle.nm_spots.specs.Spots.{Spot}
-use Rattle.nm_choices.specs.Lists.{Has, Keeps}
+use Rattle.nm_types.proofs.NumberLemmas.{same_number}
+use Rattle.nm_types.proofs.TruthLemmas.{and_left, and_right}
+use Rattle.nm_outcomes.specs.SameLaws.{same_spot, spots_equiv}
+use Rattle.nm_outcomes.specs.Sames.{same_spots}
+use Rattle.nm_outcomes.specs.RankStates.{Spot}
+use Rattle.nm_explored.specs.Lists.{Has, Keeps}
 use Rattle.nm_explored.specs.Stores.{StandOnce}
 use Rattle.nm_explored.proofs.MetLemmas.{inserted, kept_in, once_in, same_lists}
 

@@ -5,17 +5,17 @@ use Rattle.std.specs.Prelude.{option_and_then}
 use Rattle.std.specs.List.{slice_get, slice_set}
 use Rattle.std.proofs.lemmas.Option.{slice_get-get_or}
 use Rattle.nm_types.specs.declared.scripts.Line.{Line}
-use Rattle.nm_facts.proofs.Lists.{get_set_other, get_set_same, get_some, no_item, place_below}
-use Rattle.nm_facts.proofs.Numbers.{differ, same_number}
-use Rattle.nm_facts.proofs.Options.{no_some, same_some}
+use Rattle.nm_types.proofs.ListLemmas.{get_set_other, get_set_same, get_some, no_item, place_below}
+use Rattle.nm_types.proofs.NumberLemmas.{differ, same_number}
+use Rattle.nm_types.proofs.OptionLemmas.{no_some, same_some}
 use Rattle.nm_outcomes.proofs.SentLemmas.{get_more}
-use Rattle.nm_spots.specs.Spots.{Spot, first_spot}
-use Rattle.nm_choices.specs.declared.moves.Move.{Move}
-use Rattle.nm_choices.specs.declared.moves.Turn.{Turn}
-use Rattle.nm_choices.specs.Choices.{spot_in}
-use Rattle.nm_choices.specs.Lists.{Has, Keeps}
-use Rattle.nm_choices.specs.Moves.{AreMovesOf, moved_at}
-use Rattle.nm_choices.proofs.KeptLemmas.{each_next, has_kept}
+use Rattle.nm_outcomes.specs.RankStates.{Spot, first_spot}
+use Rattle.nm_explored.specs.declared.choices.moves.Move.{Move}
+use Rattle.nm_explored.specs.declared.choices.moves.Turn.{Turn}
+use Rattle.nm_explored.specs.Successors.{spot_in}
+use Rattle.nm_explored.specs.Lists.{Has, Keeps}
+use Rattle.nm_explored.specs.Moves.{AreMovesOf, moved_at}
+use Rattle.nm_explored.proofs.KeptLemmas.{each_next, has_kept}
 use Rattle.nm_explored.specs.Stores.{Grows, Leads, Store}
 
 pub grows_all : (a : Store) → Grows a a

@@ -14,8 +14,8 @@ use Rattle.nm_report.specs.declared.records.RunRecord.{RunRecord}
 use Rattle.nm_report.specs.Ends.{ends_of, packets_of}
 use Rattle.nm_report.specs.Lawful.{IsRunIn}
 use Rattle.nm_report.specs.Told.{RankTold, told_of}
-use Rattle.nm_facts.proofs.Lists.{no_item, place_below}
-use Rattle.nm_facts.proofs.Options.{same_some}
+use Rattle.nm_types.proofs.ListLemmas.{no_item, place_below}
+use Rattle.nm_types.proofs.OptionLemmas.{same_some}
 use Rattle.nm_outcomes.specs.Due.{IsDue}
 use Rattle.nm_outcomes.specs.Logs.{IsLogOf, Step, events_of, history_in}
 use Rattle.nm_outcomes.specs.Outcomes.{told_at}
@@ -27,12 +27,12 @@ use Rattle.nm_outcomes.proofs.LogLemmas.{at_of, own_run, runs_have_logs}
 use Rattle.nm_outcomes.proofs.PathLemmas.{sent_within}
 use Rattle.nm_outcomes.proofs.RestLemmas.{at_rest as places_at_rest}
 use Rattle.nm_outcomes.proofs.SearchLemmas.{ends_found}
-use Rattle.nm_spots.specs.Spots.{IsSpotOf, Spot, first_spot}
-use Rattle.nm_choices.specs.Choices.{spot_in}
-use Rattle.nm_choices.specs.Lists.{Has}
-use Rattle.nm_choices.specs.Settings.{IsAt}
-use Rattle.nm_choices.proofs.ChoiceLemmas.{sends_short}
-use Rattle.nm_choices.proofs.PlacedLemmas.{are_placed, placed}
+use Rattle.nm_outcomes.specs.RankStates.{IsSpotOf, Spot, first_spot}
+use Rattle.nm_explored.specs.Successors.{spot_in}
+use Rattle.nm_explored.specs.Lists.{Has}
+use Rattle.nm_explored.specs.Settings.{IsAt}
+use Rattle.nm_explored.proofs.ChoiceLemmas.{sends_short}
+use Rattle.nm_explored.proofs.PlacedLemmas.{are_placed, placed}
 use Rattle.nm_explored.specs.Chosen.{Goes}
 use Rattle.nm_explored.specs.Coming.{AreEnoughAt, Makes}
 use Rattle.nm_explored.specs.declared.ends.End.{End}

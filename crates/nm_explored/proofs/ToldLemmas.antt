@@ -6,11 +6,11 @@ use Rattle.std.specs.List.{cons_option, filter_map, range_with_len, slice_get}
 use Rattle.std.proofs.lemmas.List.Elements.{filter_map-append}
 use Rattle.std.proofs.lemmas.Option.{slice_get-get_or}
 use Rattle.nm_types.specs.declared.scripts.Line.{Line}
-use Rattle.nm_facts.proofs.Lists.{take_more}
+use Rattle.nm_types.proofs.ListLemmas.{take_more}
 use Rattle.nm_report.specs.Told.{RankTold, Told, told_by}
-use Rattle.nm_spots.specs.declared.deeds.Deed.{Deed}
-use Rattle.nm_spots.specs.Deeds.{happening}
-use Rattle.nm_spots.specs.Spots.{Spot}
+use Rattle.nm_outcomes.specs.declared.spots.deeds.Deed.{Deed}
+use Rattle.nm_outcomes.specs.Deeds.{happening}
+use Rattle.nm_outcomes.specs.RankStates.{Spot}
 use Rattle.nm_explored.specs.Ends.{all_told, told_in}
 
 pub taken_told : (lines : List Line) (ds : List Deed) (k : ℕ) (d : Deed) → k < length ds →

@@ -19,9 +19,9 @@ use Rattle.nm_history.specs.Sends.{arrival_of}
 use Rattle.nm_history.specs.Underway.{is_of_packet}
 use Rattle.nm_history.proofs.AtEachLemmas.{AtEach-split}
 use Rattle.nm_history.proofs.EachLemmas.{AtEach-prefix}
-use Rattle.nm_pairing.specs.Queues.{free_messages, open_receives}
-use Rattle.nm_facts.proofs.Lists.{get_set_other, get_set_same, place_below}
-use Rattle.nm_facts.proofs.Numbers.{differ, same_number}
+use Rattle.nm_lookups.specs.Queues.{free_messages, open_receives}
+use Rattle.nm_types.proofs.ListLemmas.{get_set_other, get_set_same, place_below}
+use Rattle.nm_types.proofs.NumberLemmas.{differ, same_number}
 use Rattle.nm_outcomes.specs.Due.{IsDue}
 use Rattle.nm_outcomes.specs.Logs.{IsLog, MayCome, MayComeAfter, Step, history_in}
 use Rattle.nm_outcomes.specs.Paths.{AreCommands}
@@ -29,11 +29,11 @@ use Rattle.nm_outcomes.specs.Places.{IsProper, is_quiet, pair_by}
 use Rattle.nm_outcomes.specs.Searches.{IsPath}
 use Rattle.nm_outcomes.proofs.LogLemmas.{grown_here, grown_other, log-push}
 use Rattle.nm_outcomes.proofs.PathLemmas.{history_at, history_split, sent_within}
-use Rattle.nm_spots.specs.Deeds.{post_of_lem}
-use Rattle.nm_spots.specs.Spots.{IsSpotOf, Spot, first_spot}
-use Rattle.nm_spots.proofs.SpotLemmas.{came_next, deeds_same, known_next, next, paired_next, place_at, taken_next}
-use Rattle.nm_choices.specs.Moves.{AreSpots, moved_at}
-use Rattle.nm_choices.proofs.ChoiceLemmas.{events_are_choices}
+use Rattle.nm_outcomes.specs.Deeds.{post_of_lem}
+use Rattle.nm_outcomes.specs.RankStates.{IsSpotOf, Spot, first_spot}
+use Rattle.nm_outcomes.proofs.SpotLemmas.{came_next, deeds_same, known_next, next, paired_next, place_at, taken_next}
+use Rattle.nm_explored.specs.Moves.{AreSpots, moved_at}
+use Rattle.nm_explored.proofs.ChoiceLemmas.{events_are_choices}
 use Rattle.nm_explored.specs.Chosen.{Goes}
 
 and_none : (a b : Bool) → b ≡ false → (a && b) ≡ false

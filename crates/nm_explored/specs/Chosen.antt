@@ -6,16 +6,16 @@ use Rattle.nm_types.specs.declared.scripts.Command.{Command}
 use Rattle.nm_types.specs.declared.scripts.Command.TheVariants as command
 use Rattle.nm_types.specs.declared.scripts.Line.{Line}
 use Rattle.nm_types.specs.Commands.{command_at, commands_of}
-use Rattle.nm_spots.specs.declared.deeds.Deed.{Deed}
-use Rattle.nm_spots.specs.declared.deeds.Reply.{Reply}
-use Rattle.nm_spots.specs.Looks.{is_answer_by, is_cancelling_by}
-use Rattle.nm_spots.specs.Spots.{Spot, spot_after}
-use Rattle.nm_choices.specs.declared.moves.Move.TheVariants as move
-use Rattle.nm_choices.specs.declared.moves.Turn.{Turn}
-use Rattle.nm_choices.specs.Choices.{answer_in}
-use Rattle.nm_choices.specs.Lines.{line_in}
-use Rattle.nm_choices.specs.Lists.{Has}
-use Rattle.nm_choices.specs.Moves.{IsAct, IsTurn, moved_at}
+use Rattle.nm_outcomes.specs.declared.spots.deeds.Deed.{Deed}
+use Rattle.nm_outcomes.specs.declared.spots.deeds.Reply.{Reply}
+use Rattle.nm_outcomes.specs.Looks.{is_answer_by, is_cancelling_by}
+use Rattle.nm_outcomes.specs.RankStates.{Spot, spot_after}
+use Rattle.nm_explored.specs.declared.choices.moves.Move.TheVariants as move
+use Rattle.nm_explored.specs.declared.choices.moves.Turn.{Turn}
+use Rattle.nm_explored.specs.Successors.{answer_in}
+use Rattle.nm_explored.specs.Lines.{line_in}
+use Rattle.nm_explored.specs.Lists.{Has}
+use Rattle.nm_explored.specs.Moves.{IsAct, IsTurn, moved_at}
 use Rattle.nm_explored.specs.Orderly.{AreOrderly, HasNoClaim}
 
 -- some rank makes a move, which leads from these states of all ranks to others

@@ -4,13 +4,13 @@ use Rattle.std.specs.List.{slice_get, slice_set}
 use Rattle.nm_types.specs.declared.messages.Arrival.{Arrival}
 use Rattle.nm_types.specs.declared.messages.Peer.TheVariants as peer
 use Rattle.nm_types.specs.declared.scripts.Line.{Line}
-use Rattle.nm_spots.specs.declared.deeds.Receive.{Receive}
-use Rattle.nm_spots.specs.Spots.{Spot, arrived_at, receive_of_spot}
-use Rattle.nm_choices.specs.declared.moves.Move.TheVariants as move
-use Rattle.nm_choices.specs.declared.moves.Turn.{Turn}
-use Rattle.nm_choices.specs.Choices.{message_next}
-use Rattle.nm_choices.specs.Lists.{Has}
-use Rattle.nm_choices.specs.Moves.{AreMovesOf}
+use Rattle.nm_outcomes.specs.declared.spots.deeds.Receive.{Receive}
+use Rattle.nm_outcomes.specs.RankStates.{Spot, arrived_at, receive_of_spot}
+use Rattle.nm_explored.specs.declared.choices.moves.Move.TheVariants as move
+use Rattle.nm_explored.specs.declared.choices.moves.Turn.{Turn}
+use Rattle.nm_explored.specs.Successors.{message_next}
+use Rattle.nm_explored.specs.Lists.{Has}
+use Rattle.nm_explored.specs.Moves.{AreMovesOf}
 use Rattle.nm_explored.specs.Chosen.{Acts, AreActsOfOne, AreCalm, HasNoCancel, LetsAct}
 use Rattle.nm_explored.specs.Orderly.{AreOrderly, HasNoClaim}
 

@@ -11,12 +11,12 @@ use Rattle.nm_types.specs.Sizes.{Sizes}
 use Rattle.nm_report.specs.declared.records.RunRecord.{RunRecord}
 use Rattle.nm_report.specs.Lawful.{IsRunIn}
 use Rattle.nm_report.specs.Told.{RankTold, told_by, told_of, told_of_rank}
-use Rattle.nm_spots.specs.Deeds.{happening}
-use Rattle.nm_spots.specs.Looks.{is_answer_by}
-use Rattle.nm_spots.specs.Spots.{Spot}
-use Rattle.nm_choices.specs.Choices.{answer_in, is_withdrawn_next, message_next, spot_in}
-use Rattle.nm_choices.specs.Lists.{Has}
-use Rattle.nm_choices.specs.Lines.{line_in}
+use Rattle.nm_outcomes.specs.Deeds.{happening}
+use Rattle.nm_outcomes.specs.Looks.{is_answer_by}
+use Rattle.nm_outcomes.specs.RankStates.{Spot}
+use Rattle.nm_explored.specs.Successors.{answer_in, is_withdrawn_next, message_next, spot_in}
+use Rattle.nm_explored.specs.Lists.{Has}
+use Rattle.nm_explored.specs.Lines.{line_in}
 use Rattle.nm_explored.specs.declared.ends.End.{End}
 use Rattle.nm_explored.specs.declared.ends.Explored.{Explored}
 use Rattle.nm_explored.specs.declared.ends.Explored.TheVariants.{All, TooMany}

@@ -1,6 +1,11 @@
 pub mod Chosen
 pub mod Coming
 pub mod Ends
+pub mod Lines
+pub mod Lists
 pub mod Met
+pub mod Moves
 pub mod Orderly
+pub mod Settings
 pub mod Stores
+pub mod Successors

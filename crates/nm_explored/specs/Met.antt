@@ -2,9 +2,9 @@
 use Rattle.std.specs.Prelude.{◌≡◌, ℕ, ◌<◌, Some, List, [], ◌∷◌, length, replicate}
 use Rattle.std.specs.List.{slice_get, slice_set}
 use Rattle.nm_types.specs.declared.scripts.Line.{Line}
-use Rattle.nm_spots.specs.Spots.{Spot, first_spot}
-use Rattle.nm_choices.specs.declared.moves.Turn.{Turn}
-use Rattle.nm_choices.specs.Moves.{IsTurn, moved_at}
+use Rattle.nm_outcomes.specs.RankStates.{Spot, first_spot}
+use Rattle.nm_explored.specs.declared.choices.moves.Turn.{Turn}
+use Rattle.nm_explored.specs.Moves.{IsTurn, moved_at}
 use Rattle.nm_explored.specs.declared.ends.Explored.{Explored}
 use Rattle.nm_explored.specs.declared.ends.Explored.TheVariants.{All, TooMany}
 use Rattle.nm_explored.specs.Stores.{AreLow, StandOnce, Store, states_in}

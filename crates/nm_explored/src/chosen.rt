@@ -2,26 +2,26 @@
 
 ghost use Rattle.std.specs.Prelude.{◌≡◌, ℕ, ◌<◌, ◌∷◌, [], IfOk, IfSome, IsTrue, Some, length, not};
 ghost use Rattle.std.specs.List.{list_all};
-ghost use Rattle.nm_spots.specs.declared.deeds.Deed as deed;
-ghost use Rattle.nm_spots.specs.declared.deeds.Receive as receive;
-ghost use Rattle.nm_spots.specs.Spots as spots;
-ghost use Rattle.nm_spots.specs.Spots.{receive_of_spot};
-ghost use Rattle.nm_choices.specs.declared.moves.Move.TheVariants.{Act};
-ghost use Rattle.nm_choices.specs.declared.moves.Turn as the_turn;
-ghost use Rattle.nm_choices.specs.Choices.{message_next, spot_in};
-ghost use Rattle.nm_choices.specs.Lists.{Has};
-ghost use Rattle.nm_choices.specs.Moves.{AreSendsShort, IsAct, IsTurn};
+ghost use Rattle.nm_outcomes.specs.declared.spots.deeds.Deed as deed;
+ghost use Rattle.nm_outcomes.specs.declared.spots.deeds.Receive as receive;
+ghost use Rattle.nm_outcomes.specs.RankStates as spots;
+ghost use Rattle.nm_outcomes.specs.RankStates.{receive_of_spot};
+ghost use Rattle.nm_explored.specs.declared.choices.moves.Move.TheVariants.{Act};
+ghost use Rattle.nm_explored.specs.declared.choices.moves.Turn as the_turn;
+ghost use Rattle.nm_explored.specs.Successors.{message_next, spot_in};
+ghost use Rattle.nm_explored.specs.Lists.{Has};
+ghost use Rattle.nm_explored.specs.Moves.{AreSendsShort, IsAct, IsTurn};
 ghost use Rattle.nm_explored.specs.Chosen.{IsSettled, IsSettledBy};
 ghost use Rattle.nm_explored.specs.Coming.{AreEnoughTurns, IsNamed, IsNamedTurn};
 ghost use Rattle.nm_explored.specs.Chosen.{is_cancel as is_cancel_lem};
 ghost use Rattle.nm_explored.specs.Orderly.{is_claiming as is_claiming_lem};
 
-use nm_asked::commands::command_of_line;
-use nm_choices::choices::{View, answer, line_at, next_message};
-use nm_choices::moves::{Move, Turn, push_deeds, turns};
-use nm_spots::deeds::Receive;
-use nm_spots::looks::ran;
-use nm_spots::ranks::Rank;
+use nm_lookups::asked::commands::command_of_line;
+use crate::choices::choices::{View, answer, line_at, next_message};
+use crate::choices::moves::{Move, Turn, push_deeds, turns};
+use nm_outcomes::spots::deeds::Receive;
+use nm_outcomes::spots::looks::ran;
+use nm_outcomes::spots::ranks::Rank;
 use nm_types::{Arrival, Command, Line, Memory, Peer};
 use std::alloc::Global;
 

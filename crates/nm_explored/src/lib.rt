@@ -20,6 +20,7 @@
 //! Nothing is claimed of the way to an end: it is the judge's to say whether it is a run's.
 #![tactic(auto)]
 
+pub mod choices;
 mod chosen;
 mod ends;
 mod searches;

@@ -1,12 +1,12 @@
 //! States, each of them once.
 
 ghost use Rattle.std.specs.Prelude.{◌≡◌, ◌⊎◌, [], ◌∷◌, ◌++◌, IfOk, OnOk, Some, slice_get};
-ghost use Rattle.nm_choices.specs.Lists.{Has, Keeps};
+ghost use Rattle.nm_explored.specs.Lists.{Has, Keeps};
 ghost use Rattle.nm_explored.specs.Stores.{StandOnce};
 
 use indexmap::IndexSet;
-use nm_choices::moves::Move;
-use nm_spots::ranks::Rank;
+use crate::choices::moves::Move;
+use nm_outcomes::spots::ranks::Rank;
 use nm_types::Memory;
 use std::alloc::Global;
 use std::hash::{Hash, Hasher};
@@ -33,7 +33,7 @@ impl Drop for Table {
 
 impl Model for Table {
     ghost use Rattle.std.specs.Prelude.{List};
-    ghost use Rattle.nm_spots.specs.Spots.{Spot};
+    ghost use Rattle.nm_outcomes.specs.RankStates.{Spot};
 
     ghost Value = { List Spot };
 

@@ -3,10 +3,10 @@ use Rattle.std.proofs.Common.{◌≡◌, ℕ, ◌+◌, List, [], ◌∷◌, ◌+
 use Rattle.std.proofs.Common.{arith, length-append}
 use mathlib.Core.Logic.{dite}
 use native.Mathlib.Decide.{ℕ_discrete}
-use Rattle.nm_seats.specs.Update.{update}
-use Rattle.nm_seats.proofs.UpdateLemmas.{update_here, update_else}
-use Rattle.nm_table.specs.Rule.{Load, put_to, sent_to}
-use Rattle.nm_table.proofs.QueueLemmas.{put_append, pick_yes}
+use Rattle.nm_chain.specs.Update.{update}
+use Rattle.nm_chain.proofs.UpdateLemmas.{update_here, update_else}
+use Rattle.nm_chain.specs.Rule.{Load, put_to, sent_to}
+use Rattle.nm_chain.proofs.QueueLemmas.{put_append, pick_yes}
 use Rattle.nm_cells.proofs.NumberLemmas.{put_other}
 
 put_longer : (i j : ℕ) (y : Load) (xs : List (ℕ × Load)) → i ≡ j

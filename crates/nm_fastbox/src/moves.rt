@@ -3,15 +3,15 @@
 ghost use Rattle.std.specs.Prelude.{◌≡◌, ◌+◌, ◌<◌, ◌≤◌, ◌∷◌, [], Some, None};
 ghost use Rattle.std.specs.Prelude.{length, true, false, is_some};
 ghost use Rattle.nm_types.specs.declared.limits.TheConstants.{MAX_BOX};
-ghost use Rattle.nm_seats.specs.Update.{update};
-ghost use Rattle.nm_table.specs.Rule.{filling_of, emptying_of};
-ghost use Rattle.nm_table.specs.Plays.{with_filling, with_emptying, with_box_full, with_box_miss};
-ghost use Rattle.nm_table.specs.Plays.{with_put_box, with_got_box, Overtaken};
+ghost use Rattle.nm_chain.specs.Update.{update};
+ghost use Rattle.nm_chain.specs.Rule.{filling_of, emptying_of};
+ghost use Rattle.nm_chain.specs.Plays.{with_filling, with_emptying, with_box_full, with_box_miss};
+ghost use Rattle.nm_chain.specs.Plays.{with_put_box, with_got_box, Overtaken};
 ghost use Rattle.nm_cells.specs.Ports.{Owns, Stays, knows, holding, sent_by, taken_by};
 ghost use Rattle.nm_cells.specs.Ports.{unpassed_by, opens};
 
 use nm_cells::{Fabric, Port, empty_box, fill_box, load_box_in, load_box_out};
-use nm_seats::Steps;
+use nm_chain::seats::Steps;
 use nm_types::Packet;
 use std::sync::ledger::Ledger;
 

@@ -6,8 +6,8 @@ use Rattle.std.specs.List.{AllByRecursion, slice_get}
 use Rattle.std.proofs.lemmas.Bool.{cases_eq}
 use Rattle.std.proofs.lemmas.Option.{same_Some, slice_get-map, slice_get_within}
 use Rattle.nm_global.specs.Ranks.{Each, EachTwo, OneRank}
-use Rattle.nm_facts.proofs.Options.{if_some, if_each}
-use Rattle.nm_facts.proofs.Lists.{get_set_other, get_set_same}
+use Rattle.nm_types.proofs.OptionLemmas.{if_some, if_each}
+use Rattle.nm_types.proofs.ListLemmas.{get_set_other, get_set_same}
 
 if_mapped : {X Y : Type 0} (f : X → Y) (P : Y → Type 0) (o : Option X) → IfSome o (λ x. P (f x)) →
     IfSome (option_map f o) P

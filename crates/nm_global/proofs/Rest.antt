@@ -18,17 +18,17 @@ use Rattle.nm_history.specs.RankRun.{IsRankRun}
 use Rattle.nm_history.specs.Run.{IsRunOf}
 use Rattle.nm_history.specs.Sends.{Sent, sent_body}
 use Rattle.nm_history.proofs.OutgoingLemmas.{outgoing_count}
-use Rattle.nm_protocol.specs.Clearance.{pushed_out, to_push}
-use Rattle.nm_protocol.specs.Continues.{WORN_STAMP}
-use Rattle.nm_protocol.specs.Known.{Known, known_by}
-use Rattle.nm_protocol.specs.Rest.{EagerHaveLeft, EmptyAreHere}
+use Rattle.nm_history.specs.Clearance.{pushed_out, to_push}
+use Rattle.nm_history.specs.Continues.{WORN_STAMP}
+use Rattle.nm_history.specs.Known.{Known, known_by}
+use Rattle.nm_history.specs.Rest.{EagerHaveLeft, EmptyAreHere}
 use Rattle.nm_rndv.specs.Offers.{AllOut}
-use Rattle.nm_outbox.specs.declared.letters.Letter.{Letter}
-use Rattle.nm_outbox.specs.Letters.{packets_for}
-use Rattle.nm_outbox.specs.Outboxes.{popped_to}
+use Rattle.nm_sending.specs.declared.outbox.letters.Letter.{Letter}
+use Rattle.nm_sending.specs.Letters.{packets_for}
+use Rattle.nm_sending.specs.Outboxes.{popped_to}
 use Rattle.nm_rank.specs.Ranks.{RankView}
-use Rattle.nm_rank_outgoing.specs.Left.{IsLeft, Left}
-use Rattle.nm_rank_outgoing.proofs.Packets.{count_is}
+use Rattle.nm_global.specs.Emitted.{IsLeft, Left}
+use Rattle.nm_global.proofs.Packets.{count_is}
 use Rattle.nm_channels.specs.Ends.{AreEnds, ClearedHaveLeft, IsChannel, IsEnd}
 use Rattle.nm_channels.specs.Finished.{AreAllEnds, ended_of}
 use Rattle.nm_channels.specs.Moments.{history_of, taken_from}
@@ -38,8 +38,8 @@ use Rattle.nm_channels.proofs.Settled.{ends_settle}
 use Rattle.nm_global.specs.Ranks.{AreAtRest, Each, EachTwo, HasNothingToSend, IsPassed, IsRankAt, OneRank}
 use Rattle.nm_global.specs.Ranks.{finished_of, recorded_of}
 use Rattle.nm_global.proofs.Places.{along_map, mapped_at, of_two, two_of}
-use Rattle.nm_facts.proofs.Lists.{all_split, all_along}
-use Rattle.nm_facts.proofs.Options.{if_some, if_each}
+use Rattle.nm_types.proofs.ListLemmas.{all_split, all_along}
+use Rattle.nm_types.proofs.OptionLemmas.{if_some, if_each}
 
 -- where nothing is left to send, what left is all that the history calls for
 pub record HaveAllLeft : Type 0 where

@@ -7,15 +7,15 @@ use Rattle.nm_types.specs.Sizes.{Sizes}
 use Rattle.nm_history.specs.Quiescence.{Ended}
 use Rattle.nm_history.specs.RankRun.{IsRankRun}
 use Rattle.nm_history.specs.Sends.{sent_body}
-use Rattle.nm_protocol.specs.Clearance.{pushed_out, to_push}
-use Rattle.nm_protocol.specs.Continues.{WORN_STAMP}
-use Rattle.nm_protocol.specs.Rest.{EagerHaveLeft, EmptyAreHere}
+use Rattle.nm_history.specs.Clearance.{pushed_out, to_push}
+use Rattle.nm_history.specs.Continues.{WORN_STAMP}
+use Rattle.nm_history.specs.Rest.{EagerHaveLeft, EmptyAreHere}
 use Rattle.nm_rndv.specs.Offers.{AllOut}
 use Rattle.nm_rank.specs.Ranks.{RankView, known_from}
-use Rattle.nm_rank_outgoing.specs.Left.{IsLeft, Left, nothing}
+use Rattle.nm_global.specs.Emitted.{IsLeft, Left, nothing}
 use Rattle.nm_channels.specs.Finished.{Finished}
 use Rattle.nm_channels.specs.Moments.{Moment, pulled_from, taken_from}
-use Rattle.nm_rank_log.specs.Logged.{IsLogged}
+use Rattle.nm_global.specs.Logged.{IsLogged}
 
 -- One rank of a run: what it is seen as, how many of its commands ran, the line of one that waits,
 -- its log, the receives whose results were given, and what left it for each rank.

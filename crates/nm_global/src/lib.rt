@@ -1,6 +1,6 @@
 //! The ranks of a run: where each stands, and that nothing is between them at its end.
 //!
-//! `nm_rank_log` ties a rank to the moments of its calls, `nm_rank_outgoing` to what left it, and
+//! `nm_global::log` ties a rank to the moments of its calls, `nm_global::outgoing` to what left it, and
 //! `nm_channels` says what ranks owe one another that have nothing left to send. This crate puts the
 //! three together for all the ranks of a run. Whatever runs them, on one thread or on many, shows at
 //! its end that each rank stands at its place, that each took what the others sent it, and that
@@ -22,3 +22,6 @@
 #![tactic(auto)]
 
 pub mod laws;
+pub mod log;
+pub mod outgoing;
+pub mod standing;

@@ -7,7 +7,7 @@ use Rattle.std.proofs.lemmas.List.{map-append}
 use Rattle.std.proofs.lemmas.List.Elements.{All-append, All-cons, All-get_or, All-map, All-nil}
 use Rattle.std.proofs.lemmas.List.Elements.{All-same, All-weaker, Contains-get_or}
 use Rattle.std.proofs.lemmas.Option.{get_or_from_slice_get, slice_get_read, slice_get_within}
-use Rattle.nm_facts.proofs.Lists.{get_from_map, get_map, map_length}
+use Rattle.nm_types.proofs.ListLemmas.{get_from_map, get_map, map_length}
 use Rattle.nm_types.specs.declared.scripts.Line.{Line}
 use Rattle.nm_types.specs.Sizes.{Sizes}
 use Rattle.nm_report.specs.declared.records.RunRecord.{RunRecord}

@@ -23,6 +23,7 @@
 mod finding;
 mod places;
 mod records;
+pub mod retold;
 mod texts;
 mod tracing;
 

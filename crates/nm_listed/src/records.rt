@@ -13,7 +13,7 @@ use nm_check::{Verdict, judge};
 use nm_explored::{End, Step};
 use nm_report::laws::reports_say_what_was_told;
 use nm_report::{Accounts, Pairs, RankAccount, RunRecord, report};
-use nm_retold::Retelling;
+use crate::retold::Retelling;
 use nm_types::{Account, Line, Memory, Script, Shape};
 use std::alloc::Global;
 use std::mem;

@@ -24,7 +24,7 @@ use Rattle.nm_match.specs.declared.picks.Picks.{Picks}
 use Rattle.nm_match.specs.Buckets.{AreBuckets, AreFull, Rising, bucket_of, earlier_of}
 use Rattle.nm_match.specs.Picks.{same_peer, same_picks, same_tag}
 use Rattle.nm_match.specs.Queues.{without_first}
-use Rattle.nm_facts.proofs.Truth.{three_parts as three}
+use Rattle.nm_types.proofs.TruthLemmas.{three_parts as three}
 
 same_peer-true : (a b : Peer) → same_peer a b ≡ true → a ≡ b
 same_peer-true peer.Any peer.Any h = refl

@@ -29,8 +29,8 @@ use Rattle.nm_match.proofs.ListLemmas.{find-filter, without_first-none}
 use Rattle.nm_match.proofs.QueueLemmas.{open_means, posted_open, unexpected_free}
 use Rattle.nm_match.proofs.StepLemmas.{arrived_alone, arrived_taking, cancelled_one, claimed_one}
 use Rattle.nm_match.proofs.StepLemmas.{posted_alone, posted_taking, received_one, withdrawn_one}
-use Rattle.nm_facts.proofs.Lists.{find_passes, find_some}
-use Rattle.nm_facts.proofs.Truth.{and_left, and_right}
+use Rattle.nm_types.proofs.ListLemmas.{find_passes, find_some}
+use Rattle.nm_types.proofs.TruthLemmas.{and_left, and_right}
 
 pub history_of-push : (deeds : List Deed) (d : Deed) →
     history_of (deeds ++ d ∷ []) ≡ history_of deeds ++ event_of d ∷ []

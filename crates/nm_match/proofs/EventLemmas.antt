@@ -31,7 +31,7 @@ use Rattle.nm_match.proofs.TurnLemmas.{others_number}
 use Rattle.nm_history.specs.declared.events.Happened.TheVariants as event
 use Rattle.nm_history.specs.declared.events.Happened.{Happened}
 use Rattle.nm_match.specs.InTurn.{is_plain_event}
-use Rattle.nm_facts.proofs.Truth.{and_left, and_right}
+use Rattle.nm_types.proofs.TruthLemmas.{and_left, and_right}
 use Rattle.nm_history.proofs.AppendLemmas.{happened-push}
 
 -- a receive is posted; a message arrives

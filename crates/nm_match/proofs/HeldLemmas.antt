@@ -21,7 +21,7 @@ use Rattle.nm_match.specs.Queues.{AreQueuesOf, TwoMessages, TwoReceives}
 use Rattle.nm_match.proofs.BucketLemmas.{same_picks-true}
 use Rattle.nm_match.proofs.ListLemmas.{none_passes}
 use Rattle.nm_match.proofs.TurnLemmas.{others_message, others_number}
-use Rattle.nm_facts.proofs.Truth.{and_left, and_right}
+use Rattle.nm_types.proofs.TruthLemmas.{and_left, and_right}
 
 -- where the bucket of a key and the others are the same, all are
 pub all_same : {X S : Type 0} (m m' : IndexMap Picks (BTreeMap ℕ X) S) (k : Picks) →

@@ -37,7 +37,7 @@ use Rattle.nm_match.specs.InTurn.{is_plain_event, paired}
 use Rattle.nm_match.proofs.EventLemmas.{arrived_alone, arrived_taking, came_at, other_stays, posted_alone}
 use Rattle.nm_match.proofs.EventLemmas.{posted_at, posted_taking, queues-start}
 use Rattle.nm_match.proofs.SearchLemmas.{first_kept, nothing_kept, others_all, others_kept}
-use Rattle.nm_facts.proofs.Lists.{find_passes}
+use Rattle.nm_types.proofs.ListLemmas.{find_passes}
 
 -- three numbers that are those of a channel
 agree3 : (a b d c i t p q r : ℕ) → (a == c && b == i && d == t) ≡ true →

@@ -29,9 +29,9 @@ use Rattle.nm_match.proofs.ListLemmas.{list_any-filter, list_any_agree}
 use Rattle.nm_match.proofs.OldestLemmas.{queue_find}
 use Rattle.nm_match.proofs.OrderLemmas.{entry_last, entry_left, find_gone, find_only, find_others, order_found}
 use Rattle.nm_match.proofs.OrderLemmas.{order_left}
-use Rattle.nm_facts.proofs.Options.{mapped_none}
-use Rattle.nm_facts.proofs.Lists.{find_passes}
-use Rattle.nm_facts.proofs.Truth.{and_left, and_right}
+use Rattle.nm_types.proofs.OptionLemmas.{mapped_none}
+use Rattle.nm_types.proofs.ListLemmas.{find_passes}
+use Rattle.nm_types.proofs.TruthLemmas.{and_left, and_right}
 
 or_true : (b : Bool) → (b || true) ≡ true
 or_true true = refl

@@ -22,7 +22,7 @@ use Rattle.nm_match.specs.Picks.{same_tag}
 use Rattle.nm_match.specs.Deeds.{is_message}
 use Rattle.nm_match.specs.Queues.{TwoMessages, TwoReceives}
 use Rattle.nm_match.proofs.BucketLemmas.{find-map, find_either, find_same, front_is_found}
-use Rattle.nm_facts.proofs.Truth.{and_left, and_right}
+use Rattle.nm_types.proofs.TruthLemmas.{and_left, and_right}
 
 flip : (a b : ℕ) → (a == b) ≡ (b == a)
 flip a b = grind (arith, nat_tests)

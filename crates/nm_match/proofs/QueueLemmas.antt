@@ -24,7 +24,7 @@ use Rattle.nm_match.proofs.ListLemmas.{without_first-filter}
 use Rattle.nm_match.proofs.PushLemmas.{closes, takes, free_messages-push, is_claimed-push}
 use Rattle.nm_match.proofs.PushLemmas.{open_receives-push}
 use Rattle.nm_match.proofs.TurnLemmas.{MayCome, false_when, in_turn-push}
-use Rattle.nm_facts.proofs.Truth.{and_left, and_right}
+use Rattle.nm_types.proofs.TruthLemmas.{and_left, and_right}
 use Rattle.nm_history.proofs.AppendLemmas.{happened-push}
 
 abbrev same_receive : post.Post → post.Post → Bool

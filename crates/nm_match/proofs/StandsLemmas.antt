@@ -31,8 +31,8 @@ use Rattle.nm_match.specs.declared.deeds.Deed.TheVariants as deed
 use Rattle.nm_match.specs.Deeds.{Stands, deeds_after, deeds_of, event_of, history_of, is_known_message}
 use Rattle.nm_match.specs.Deeds.{is_known_receive, is_message, is_of_matching}
 use Rattle.nm_match.proofs.DeedLemmas.{history_of-push}
-use Rattle.nm_facts.proofs.Lists.{find_agree}
-use Rattle.nm_facts.proofs.Truth.{and_left}
+use Rattle.nm_types.proofs.ListLemmas.{find_agree}
+use Rattle.nm_types.proofs.TruthLemmas.{and_left}
 use Rattle.nm_history.proofs.AppendLemmas.{happened-push}
 
 -- two histories, with their pairs, are the same to matching

@@ -30,8 +30,8 @@ use Rattle.nm_match.proofs.QueueLemmas.{posted_stay, queues-push, unexpected_fre
 use Rattle.nm_match.proofs.QueueLemmas.{without_message, without_receive}
 use Rattle.nm_match.proofs.TurnLemmas.{MayCome, came_later, false_when, known_later, others_message}
 use Rattle.nm_match.proofs.TurnLemmas.{others_number}
-use Rattle.nm_facts.proofs.Lists.{find_passes}
-use Rattle.nm_facts.proofs.Truth.{and_left, and_right}
+use Rattle.nm_types.proofs.ListLemmas.{find_passes}
+use Rattle.nm_types.proofs.TruthLemmas.{and_left, and_right}
 use Rattle.nm_history.proofs.AppendLemmas.{happened-push}
 
 -- the pairs that an event makes are of a known receive that is not cancelled, and of a message that came

@@ -2,18 +2,18 @@
 use Rattle.std.proofs.Common.{◌≡◌, ℕ, suc, ◌+◌, ◌<◌, ◌≤◌, ◌⊎◌, None, Some, List, [], ◌∷◌, ◌++◌, length, inl}
 use Rattle.std.proofs.Common.{inr}
 use Rattle.std.proofs.Common.{sym, ◌∙◌, ap, subst, arith, length-append}
-use Rattle.nm_protocol.specs.Rules.{AreRight}
+use Rattle.nm_history.specs.Rules.{AreRight}
 use Rattle.std.specs.Prelude.{MatchOption, slice_get, slice_index_or, slice_set}
 use Rattle.std.proofs.lemmas.List.{get_or-set_same, length-set}
 use Rattle.nm_types.specs.declared.packets.Packet.{Packet}
 use Rattle.nm_types.specs.Sizes.{Sizes}
-use Rattle.nm_outbox.specs.declared.letters.Letter.{Letter}
-use Rattle.nm_outbox.specs.Outboxes.{OutboxView, popped_to}
+use Rattle.nm_sending.specs.declared.outbox.letters.Letter.{Letter}
+use Rattle.nm_sending.specs.Outboxes.{OutboxView, popped_to}
 use Rattle.nm_rank.specs.Calls.{TakesPacket}
 use Rattle.nm_rank.specs.Pops.{PopsPacket}
 use Rattle.nm_rank.specs.Ranks.{IsFresh, RankView, count_of}
 use Rattle.nm_multi.specs.Moves.{IsAlone, IsMoving, MovesFirst, MovesMany}
-use Rattle.nm_outbox.proofs.LetterLemmas.{first_letter}
+use Rattle.nm_sending.proofs.LetterLemmas.{first_letter}
 
 -- the one count after it was set
 set_to : (xs ys : List ℕ) (k x : ℕ) → length xs ≡ 1 → k ≡ 0 → ys ≡ slice_set xs k x →

@@ -26,16 +26,16 @@ use Rattle.nm_history.specs.Matching.{is_of_receive, matched_pairs}
 use Rattle.nm_history.specs.Outgoing.{AreCalled, outgoing}
 use Rattle.nm_history.specs.Sends.{Sent, arrivals, envelope, is_ask, message_of, messages, sends}
 use Rattle.nm_history.proofs.OnceLemmas.{find_among}
-use Rattle.nm_protocol.specs.Bytes.{eager_bytes, piece_bytes}
-use Rattle.nm_protocol.specs.Continues.{WORN_STAMP}
-use Rattle.nm_protocol.specs.Known.{nothing_known}
-use Rattle.nm_protocol.specs.Pieces.{Pulled}
-use Rattle.nm_protocol.specs.Rules.{AreRight, IsRightAt}
-use Rattle.nm_protocol.proofs.Right.{right-numbers}
+use Rattle.nm_history.specs.Bytes.{eager_bytes, piece_bytes}
+use Rattle.nm_history.specs.Continues.{WORN_STAMP}
+use Rattle.nm_history.specs.Known.{nothing_known}
+use Rattle.nm_history.specs.Pieces.{Pulled}
+use Rattle.nm_history.specs.Rules.{AreRight, IsRightAt}
+use Rattle.nm_history.proofs.Right.{right-numbers}
 use Rattle.nm_request.specs.declared.Kind.{Kind}
 use Rattle.nm_request.specs.declared.Req.{Req}
 use Rattle.nm_request.specs.Requests.{kind_of}
-use Rattle.nm_outbox.specs.Letters.{packets_for}
+use Rattle.nm_sending.specs.Letters.{packets_for}
 use Rattle.nm_receiving.proofs.Facts.{Is_named, right_named}
 use Rattle.nm_receiving.proofs.Lists.{some_from}
 use Rattle.nm_rank.specs.Ranks.{IsFresh, RankView, request_of}
@@ -46,15 +46,15 @@ use Rattle.nm_channels.proofs.Cutting.{sends_sized, sized_at}
 use Rattle.nm_channels.proofs.Delivering.{sender_right}
 use Rattle.nm_channels.proofs.Granting.{last_of}
 use Rattle.nm_channels.proofs.Numbers.{SentBefore, arrivals_sent, messages_sent, pairs_came}
-use Rattle.nm_rank_log.specs.Calls.{ShowsLogged}
+use Rattle.nm_global.specs.Calls.{ShowsLogged}
 use Rattle.nm_multi.specs.declared.calls.Call.TheVariants.{Finish}
 use Rattle.nm_multi.specs.declared.calls.Reply.TheVariants.{Ended}
 use Rattle.nm_multi.specs.Acts.{ShowsBody}
 use Rattle.nm_multi.specs.Moves.{IsAlone}
 use Rattle.nm_multi.specs.Standing.{AreBodies, Stands}
 use Rattle.nm_multi.proofs.SoFar.{CameSoFar, came_so_far}
-use Rattle.nm_facts.proofs.Lists.{all_along}
-use Rattle.nm_facts.proofs.Options.{some_and}
+use Rattle.nm_types.proofs.ListLemmas.{all_along}
+use Rattle.nm_types.proofs.OptionLemmas.{some_and}
 
 -- the body of each send, by its number
 abbrev pub bodies_by : List Body → Sent → List ℕ

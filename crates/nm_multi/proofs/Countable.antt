@@ -26,9 +26,9 @@ use Rattle.nm_multi.specs.Programs.{Follows, IsWhole, entries_of, finish_or_pump
 use Rattle.nm_multi.specs.Programs.{progress_after}
 use Rattle.nm_multi.specs.Text.{bytes_got, shown}
 use Rattle.nm_multi.proofs.Going.{more_sent}
-use Rattle.nm_facts.proofs.Numbers.{eq_true}
-use Rattle.nm_facts.proofs.Lists.{all_append}
-use Rattle.nm_facts.proofs.Options.{some_and}
+use Rattle.nm_types.proofs.NumberLemmas.{eq_true}
+use Rattle.nm_types.proofs.ListLemmas.{all_append}
+use Rattle.nm_types.proofs.OptionLemmas.{some_and}
 
 -- a body has fewer than 64 bytes
 abbrev IsShort : Body → Type 0

@@ -13,15 +13,15 @@ use Rattle.nm_history.specs.AtEach.{AtEach}
 use Rattle.nm_history.specs.Delivery.{ArriveInOrder}
 use Rattle.nm_history.specs.Outgoing.{AreCalled, Called, outgoing}
 use Rattle.nm_history.specs.Sends.{Arrived, Sent, arrivals, is_ask, sends}
-use Rattle.nm_protocol.specs.Bytes.{eager_bytes}
-use Rattle.nm_protocol.specs.Clock.{stamped}
-use Rattle.nm_protocol.specs.Continues.{WORN_STAMP, continues}
-use Rattle.nm_protocol.specs.Effects.{taken_events}
-use Rattle.nm_protocol.specs.Known.{Known, Taken, known_by, nothing_known}
-use Rattle.nm_protocol.specs.Rules.{AreRight}
-use Rattle.nm_protocol.proofs.Growing.{stamped-follow, stamped-same}
-use Rattle.nm_protocol.proofs.Right.{right-numbers}
-use Rattle.nm_protocol.proofs.Sent.{sends_numbered}
+use Rattle.nm_history.specs.Bytes.{eager_bytes}
+use Rattle.nm_history.specs.Clock.{stamped}
+use Rattle.nm_history.specs.Continues.{WORN_STAMP, continues}
+use Rattle.nm_history.specs.Effects.{taken_events}
+use Rattle.nm_history.specs.Known.{Known, Taken, known_by, nothing_known}
+use Rattle.nm_history.specs.Rules.{AreRight}
+use Rattle.nm_history.proofs.Growing.{stamped-follow, stamped-same}
+use Rattle.nm_history.proofs.Right.{right-numbers}
+use Rattle.nm_history.proofs.Sent.{sends_numbered}
 use Rattle.nm_channels.specs.Moments.{Moment, clock_of, history_of, taken_from, taken_of}
 use Rattle.nm_channels.specs.Moments.Cause.{Took}
 use Rattle.nm_channels.specs.Sound.{AreSound, MayHappen}
@@ -29,7 +29,7 @@ use Rattle.nm_channels.proofs.Delivering.{history-append, sender_right, stream_a
 use Rattle.nm_channels.proofs.EagerBytes.{eager_all, eager_body_at, eager_bytes-append}
 use Rattle.nm_channels.proofs.Logs.{sound-push}
 use Rattle.nm_channels.proofs.Streaming.{Carries, InTime}
-use Rattle.nm_facts.proofs.Numbers.{eq_true}
+use Rattle.nm_types.proofs.NumberLemmas.{eq_true}
 use Rattle.nm_channels.proofs.SoFar.{same_bytes, continuing_packets, continuing_go}
 use Rattle.nm_history.proofs.AppendLemmas.{arrivals-append}
 

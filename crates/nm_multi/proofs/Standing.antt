@@ -15,9 +15,9 @@ use Rattle.nm_history.specs.declared.events.Happened.{Happened}
 use Rattle.nm_history.specs.declared.events.Happened.TheVariants.{Out, Recall}
 use Rattle.nm_history.specs.Happens.{happened, is_recall}
 use Rattle.nm_history.specs.Sends.{Sent, sends, sent_of}
-use Rattle.nm_protocol.specs.Clock.{stamped}
-use Rattle.nm_protocol.specs.Effects.{is_empty_send, packet_events, whole_if}
-use Rattle.nm_protocol.specs.Known.{Known, Taken}
+use Rattle.nm_history.specs.Clock.{stamped}
+use Rattle.nm_history.specs.Effects.{is_empty_send, packet_events, whole_if}
+use Rattle.nm_history.specs.Known.{Known, Taken}
 use Rattle.nm_request.specs.declared.Kind.{Kind}
 use Rattle.nm_request.specs.declared.Kind.TheVariants as kind
 use Rattle.nm_sending.specs.Sent.{outs}
@@ -28,12 +28,12 @@ use Rattle.nm_rank.specs.Ranks.{IsFresh, RankView, known_from}
 use Rattle.nm_rank.specs.Requests.{cancel_events}
 use Rattle.nm_channels.specs.Moments.{Moment, pulled_from, pulled_of, taken_from, taken_of}
 use Rattle.nm_channels.proofs.BytesCame.{pulled_around, taken_around}
-use Rattle.nm_rank_log.specs.Logged.{IsLogged}
-use Rattle.nm_rank_log.specs.Moments.{acted, took}
-use Rattle.nm_rank_outgoing.specs.Left.{IsLeft, Left, with_packet}
+use Rattle.nm_global.specs.Logged.{IsLogged}
+use Rattle.nm_global.specs.Moments.{acted, took}
+use Rattle.nm_global.specs.Emitted.{IsLeft, Left, with_packet}
 use Rattle.nm_multi.specs.Standing.{AreBodies, Stands}
-use Rattle.nm_facts.proofs.Numbers.{eq_true}
-use Rattle.nm_facts.proofs.Lists.{all_append}
+use Rattle.nm_types.proofs.NumberLemmas.{eq_true}
+use Rattle.nm_types.proofs.ListLemmas.{all_append}
 use Rattle.nm_history.proofs.AppendLemmas.{sends-append}
 
 -- a moment of the rank's own takes no packet and no piece

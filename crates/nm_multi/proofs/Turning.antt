@@ -22,8 +22,8 @@ use Rattle.nm_multi.specs.Programs.{ArePrograms, AreTurns, Follows, HasMadeAll, 
 use Rattle.nm_multi.specs.Programs.{entries_of, next_call}
 use Rattle.nm_multi.specs.Programs.{finish_or_pump, no_progress, progress_after, progress_from, progress_of}
 use Rattle.nm_multi.proofs.Going.{same_sizes}
-use Rattle.nm_facts.proofs.Lists.{all_append}
-use Rattle.nm_facts.proofs.Numbers.{same_number, differ}
+use Rattle.nm_types.proofs.ListLemmas.{all_append}
+use Rattle.nm_types.proofs.NumberLemmas.{same_number, differ}
 
 -- one call more follows the others
 follows_on : (t : ℕ) (p : Progress) (es : List Entry) (e : Entry) → Follows t p es →

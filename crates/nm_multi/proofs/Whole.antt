@@ -10,7 +10,7 @@ use Rattle.nm_types.specs.Sizes.{Sizes}
 use Rattle.nm_multi.specs.Acts.{IsReplay, is_short}
 use Rattle.nm_multi.specs.Programs.{AreOf, ArePrograms, HasMadeAll, IsWhole, SameTurns, TurnsView}
 use Rattle.nm_multi.specs.Programs.{entries_of}
-use Rattle.nm_facts.proofs.Numbers.{differ}
+use Rattle.nm_types.proofs.NumberLemmas.{differ}
 
 -- the calls of all but one
 rest_whose : (k : ℕ) (log : List Entry) → AllByRecursion (λ e. e.who < suc k) log →

@@ -4,8 +4,8 @@ use Rattle.nm_types.specs.declared.scripts.Body.{Body}
 use Rattle.nm_types.specs.Bodies.{bytes_of}
 use Rattle.nm_history.specs.Sends.{Sent, sends}
 use Rattle.nm_channels.specs.Moments.{Moment, pulled_from, taken_from}
-use Rattle.nm_rank_log.specs.Logged.{IsLogged}
-use Rattle.nm_rank_outgoing.specs.Left.{IsLeft, Left}
+use Rattle.nm_global.specs.Logged.{IsLogged}
+use Rattle.nm_global.specs.Emitted.{IsLeft, Left}
 use Rattle.nm_rank.specs.Ranks.{IsFresh, RankView}
 
 -- these are the bodies of the sends, by their numbers

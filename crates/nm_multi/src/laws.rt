@@ -7,7 +7,7 @@ ghost use Rattle.std.specs.List.{cons_option};
 ghost use Rattle.nm_types.specs.declared.answers.Answer.{Answer};
 ghost use Rattle.nm_types.specs.declared.scripts.Body.{Body};
 ghost use Rattle.nm_types.specs.Sizes.{Sizes};
-ghost use Rattle.nm_protocol.specs.Rules.{AreRight};
+ghost use Rattle.nm_history.specs.Rules.{AreRight};
 ghost use Rattle.nm_request.specs.declared.Req.{Req};
 ghost use Rattle.nm_rank.specs.declared.answers.Cancelled.{Cancelled};
 ghost use Rattle.nm_rank.specs.New.{IsNew};
@@ -23,15 +23,15 @@ ghost use Rattle.nm_multi.specs.Calls.{IsInRange};
 ghost use Rattle.nm_multi.specs.Moves.{IsAlone, MovesFirst};
 ghost use Rattle.nm_multi.specs.Standing.{Stands};
 
-use nm_rank_log::laws::calls::{
+use nm_global::log::laws::calls::{
     a_packet_leaves, a_receive_starts, a_request_is_cancelled, a_send_starts,
 };
-use nm_rank_log::laws::moments::{a_log_begins, a_packet_is_taken, a_result_is_given};
-use nm_rank_outgoing::laws::leaves::packets_leave;
-use nm_rank_outgoing::laws::starts::{
+use nm_global::log::laws::moments::{a_log_begins, a_packet_is_taken, a_result_is_given};
+use nm_global::outgoing::laws::leaves::packets_leave;
+use nm_global::outgoing::laws::starts::{
     cancels_keep_left, nothing_left, receives_keep_left, sends_keep_left,
 };
-use nm_rank_outgoing::laws::takes::{answers_keep_left, taken_packets_keep_left};
+use nm_global::outgoing::laws::takes::{answers_keep_left, taken_packets_keep_left};
 
 /// At a new rank nothing was sent (`Rank::new`).
 pub(crate) fn a_desk_begins()

@@ -28,12 +28,12 @@ use Rattle.nm_history.proofs.OnceLemmas.{eqb_self, none_passes}
 use Rattle.nm_history.proofs.SelectionLemmas.{find_contains, matched_pairs_of_receives}
 use Rattle.nm_match.specs.Deeds.{is_known_message, is_message}
 use Rattle.nm_match.proofs.NumberLemmas.{messages_numbered}
-use Rattle.nm_facts.proofs.Lists.{get_some}
-use Rattle.nm_facts.proofs.Numbers.{same_number}
-use Rattle.nm_facts.proofs.Options.{no_some, same_some}
-use Rattle.nm_facts.proofs.Truth.{both}
+use Rattle.nm_types.proofs.ListLemmas.{get_some}
+use Rattle.nm_types.proofs.NumberLemmas.{same_number}
+use Rattle.nm_types.proofs.OptionLemmas.{no_some, same_some}
+use Rattle.nm_types.proofs.TruthLemmas.{both}
 use Rattle.nm_outcomes.proofs.Early.{is_below, place_early, sends_late}
-use Rattle.nm_facts.proofs.Lists.{all_at}
+use Rattle.nm_types.proofs.ListLemmas.{all_at}
 
 -- the pair that a wait or a test shows is of a message that came
 pub pair_came : (h : List Event) (pair : Pair) → Contains (matched_pairs h) pair → Contains (messages h) pair.arrival

@@ -19,7 +19,7 @@ use Rattle.nm_history.specs.Answers.{Message, is_started, live_message}
 use Rattle.nm_history.specs.RankRun.{IsRankRun, StartAt, is_start, ran_lines, ran_of, since_after, since_command}
 use Rattle.nm_history.specs.RankRun.{start_of, starts_since, without_number}
 use Rattle.nm_history.proofs.RankRunLemmas.{since-push}
-use Rattle.nm_facts.proofs.Lists.{get_before, get_behind, get_from_map}
+use Rattle.nm_types.proofs.ListLemmas.{get_before, get_behind, get_from_map}
 use Rattle.nm_outcomes.specs.Due.{AreAtLines, IsAnswerOf, IsNext, IsStartOf}
 
 -- one more answer, and the command that it is of

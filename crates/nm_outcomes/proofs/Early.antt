@@ -8,7 +8,7 @@ use Rattle.nm_history.specs.declared.events.Happened.{Happened}
 use Rattle.nm_history.specs.declared.events.Happened.TheVariants as event
 use Rattle.nm_history.specs.Delivery.{earlier_than}
 use Rattle.nm_history.specs.Sends.{Sent, sends, sent_of}
-use Rattle.nm_facts.proofs.Lists.{all_at}
+use Rattle.nm_types.proofs.ListLemmas.{all_at}
 
 pub is_below : (a b : ℕ) → ltb a b ≡ true → a < b
 is_below a b is = grind (arith, nat_tests)

@@ -31,9 +31,9 @@ use Rattle.nm_history.proofs.AtEachLemmas.{AtEach-push, AtEach-split}
 use Rattle.nm_history.proofs.DeliveryLemmas.{AtEach-along}
 use Rattle.nm_history.proofs.EarlierLemmas.{earlier_is_front}
 use Rattle.nm_history.proofs.MatchingLemmas.{matched_pairs-append}
-use Rattle.nm_facts.proofs.Numbers.{same_number}
-use Rattle.nm_facts.proofs.Options.{no_some}
-use Rattle.nm_facts.proofs.Truth.{and_left, and_right, both, or_left, or_right}
+use Rattle.nm_types.proofs.NumberLemmas.{same_number}
+use Rattle.nm_types.proofs.OptionLemmas.{no_some}
+use Rattle.nm_types.proofs.TruthLemmas.{and_left, and_right, both, or_left, or_right}
 use Rattle.nm_outcomes.specs.Logs.{IsLog, MayCome, Step, history_in}
 use Rattle.nm_outcomes.specs.Results.{ResultsMayCome, is_past_recall, is_unasked, may_have_left}
 use Rattle.nm_outcomes.proofs.Early.{all_behind}

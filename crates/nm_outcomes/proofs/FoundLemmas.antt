@@ -17,9 +17,9 @@ use Rattle.nm_report.specs.declared.records.RunRecord.{RunRecord}
 use Rattle.nm_report.specs.Ends.{ends_of, packets_of}
 use Rattle.nm_report.specs.Lawful.{IsRunIn}
 use Rattle.nm_report.specs.Told.{Told, told_of, told_of_rank}
-use Rattle.nm_facts.proofs.Lists.{get_map, map_length}
-use Rattle.nm_facts.proofs.Options.{no_some, same_some}
-use Rattle.nm_facts.proofs.Truth.{and_left, and_right, second_of_five}
+use Rattle.nm_types.proofs.ListLemmas.{get_map, map_length}
+use Rattle.nm_types.proofs.OptionLemmas.{no_some, same_some}
+use Rattle.nm_types.proofs.TruthLemmas.{and_left, and_right, second_of_five}
 use Rattle.nm_outcomes.specs.Logs.{Step}
 use Rattle.nm_outcomes.specs.Outcomes.{RunsAreFound, told_at}
 use Rattle.nm_outcomes.specs.Paths.{AreCommands, IsAddressed, first_place, moved_by}

@@ -20,8 +20,8 @@ use Rattle.nm_history.specs.Sends.{Sent, is_ask, sends, sent_of}
 use Rattle.nm_history.proofs.AppendLemmas.{happened-push}
 use Rattle.nm_history.proofs.MatchingLemmas.{matched_pairs-push}
 use Rattle.nm_history.proofs.SelectionLemmas.{free_before}
-use Rattle.nm_facts.proofs.Numbers.{same_number}
-use Rattle.nm_facts.proofs.Truth.{and_left, and_right, both, or_left, or_right}
+use Rattle.nm_types.proofs.NumberLemmas.{same_number}
+use Rattle.nm_types.proofs.TruthLemmas.{and_left, and_right, both, or_left, or_right}
 use Rattle.nm_outcomes.specs.Results.{is_past_recall, is_unasked}
 
 -- what happened stands somewhere

@@ -33,8 +33,8 @@ use Rattle.nm_history.proofs.EachLemmas.{AtEach-prefix}
 use Rattle.nm_history.proofs.EarlierLemmas.{earlier_is_front, one_more}
 use Rattle.nm_history.proofs.OnceLemmas.{eqb_self}
 use Rattle.nm_history.proofs.RankRunLemmas.{rank_run-none, rank_run-split}
-use Rattle.nm_facts.proofs.Lists.{get_some, place_below}
-use Rattle.nm_facts.proofs.Numbers.{same_number}
+use Rattle.nm_types.proofs.ListLemmas.{get_some, place_below}
+use Rattle.nm_types.proofs.NumberLemmas.{same_number}
 use Rattle.nm_outcomes.specs.Logs.{IsLog, IsLogOf, LogsDeliver, MayCome, MayComeAfter, RunsHaveLogs, Step}
 use Rattle.nm_outcomes.specs.Logs.{event_of, events_of, history_in}
 use Rattle.nm_outcomes.proofs.Bodies.{body_early}

@@ -8,7 +8,7 @@ use Rattle.std.specs.Bool.{OnTrue}
 use Rattle.std.specs.List.{find, list_any, slice_get}
 use Rattle.std.specs.Option.{option_map_or}
 use Rattle.std.proofs.lemmas.Bool.{false≢true}
-use Rattle.nm_facts.proofs.Truth.{and_right}
+use Rattle.nm_types.proofs.TruthLemmas.{and_right}
 use Rattle.nm_types.specs.declared.answers.Answer.{Answer}
 use Rattle.nm_types.specs.declared.answers.Answer.TheVariants as answer
 use Rattle.nm_types.specs.declared.messages.Arrival.{Arrival}
@@ -38,9 +38,9 @@ use Rattle.nm_history.specs.Selection.{matches}
 use Rattle.nm_history.specs.Sends.{Sent, arrivals, envelope, message_of, sends, sent_bytes}
 use Rattle.nm_history.specs.Underway.{MayFollow}
 use Rattle.nm_history.proofs.OnceLemmas.{eqb_self}
-use Rattle.nm_pairing.proofs.ReplayLemmas.{found_any, first_free}
-use Rattle.nm_facts.proofs.Lists.{get_map}
-use Rattle.nm_facts.proofs.Options.{no_some, same_some}
+use Rattle.nm_lookups.proofs.ReplayLemmas.{found_any, first_free}
+use Rattle.nm_types.proofs.ListLemmas.{get_map}
+use Rattle.nm_types.proofs.OptionLemmas.{no_some, same_some}
 use Rattle.nm_outcomes.specs.Due.{AreAtLines, IsAnswerOf, IsCancelOf, IsDue, IsMatchOf, IsStartOf}
 use Rattle.nm_outcomes.specs.Moves.{AreBytesOf, Cancels, Matches, ShowsBytes, asked_in, pair_in}
 use Rattle.nm_outcomes.specs.Logs.{IsLog, MayCome, Step, history_in}

@@ -37,10 +37,10 @@ use Rattle.nm_history.proofs.SelectionLemmas.{find_contains}
 use Rattle.nm_match.specs.Deeds.{is_known_message, is_known_receive}
 use Rattle.nm_match.proofs.NumberLemmas.{messages_numbered, receives_numbered}
 use Rattle.nm_match.proofs.PushLemmas.{is_known_message-push}
-use Rattle.nm_pairing.proofs.ReplayLemmas.{is_some-message_of}
-use Rattle.nm_facts.proofs.Numbers.{same_number}
-use Rattle.nm_facts.proofs.Options.{no_some}
-use Rattle.nm_facts.proofs.Truth.{and_left, and_right, or_left}
+use Rattle.nm_lookups.proofs.ReplayLemmas.{is_some-message_of}
+use Rattle.nm_types.proofs.NumberLemmas.{same_number}
+use Rattle.nm_types.proofs.OptionLemmas.{no_some}
+use Rattle.nm_types.proofs.TruthLemmas.{and_left, and_right, or_left}
 use Rattle.nm_outcomes.specs.Due.{AreAtLines, IsDue}
 use Rattle.nm_outcomes.specs.Logs.{IsLogOf, IsLog, MayCome, MayComeAfter, Step, event_of, events_of, history_in}
 use Rattle.nm_outcomes.specs.Moves.{ArePlaces, MayMove}

@@ -37,16 +37,16 @@ use Rattle.nm_history.proofs.DeliveryLemmas.{sends-push}
 use Rattle.nm_history.proofs.MatchingLemmas.{matched_pairs-push}
 use Rattle.nm_history.proofs.OnceLemmas.{arrivals-push, messages-push}
 use Rattle.nm_history.proofs.RankRunLemmas.{ran_lines-push, since-push}
-use Rattle.nm_pairing.specs.Queues.{free_messages, is_closed, is_gone, open_receives, posted_after_arrival}
-use Rattle.nm_pairing.specs.Queues.{posted_after_post, unexpected_after_arrival, unexpected_after_post}
-use Rattle.nm_pairing.specs.Queues.{without_message, without_receive}
+use Rattle.nm_lookups.specs.Queues.{free_messages, is_closed, is_gone, open_receives, posted_after_arrival}
+use Rattle.nm_lookups.specs.Queues.{posted_after_post, unexpected_after_arrival, unexpected_after_post}
+use Rattle.nm_lookups.specs.Queues.{without_message, without_receive}
 use Rattle.nm_match.specs.Deeds.{is_message}
 use Rattle.nm_match.proofs.PushLemmas.{closes}
-use Rattle.nm_pairing.proofs.HistoryLemmas.{free_arrived, free_left, free_posted, free_same, open_arrived, open_left}
-use Rattle.nm_pairing.proofs.HistoryLemmas.{open_posted, open_same, others_open}
-use Rattle.nm_pairing.proofs.ReplayLemmas.{first_free, first_open, found_any}
-use Rattle.nm_facts.proofs.Lists.{find_passes}
-use Rattle.nm_facts.proofs.Truth.{and_left, and_right}
+use Rattle.nm_lookups.proofs.HistoryLemmas.{free_arrived, free_left, free_posted, free_same, open_arrived, open_left}
+use Rattle.nm_lookups.proofs.HistoryLemmas.{open_posted, open_same, others_open}
+use Rattle.nm_lookups.proofs.ReplayLemmas.{first_free, first_open, found_any}
+use Rattle.nm_types.proofs.ListLemmas.{find_passes}
+use Rattle.nm_types.proofs.TruthLemmas.{and_left, and_right}
 use Rattle.nm_report.specs.Told.{Told, told_by}
 use Rattle.nm_outcomes.specs.Results.{is_unasked}
 use Rattle.nm_outcomes.specs.Places.{is_quiet}

@@ -40,10 +40,10 @@ use Rattle.nm_history.proofs.DeliveryLemmas.{AtEach-along}
 use Rattle.nm_history.proofs.OnceLemmas.{eqb_self}
 use Rattle.nm_history.proofs.SelectionLemmas.{find_contains}
 use Rattle.nm_match.proofs.NumberLemmas.{is_known_message-arrived, messages_numbered}
-use Rattle.nm_facts.proofs.Lists.{get_some}
-use Rattle.nm_facts.proofs.Numbers.{same_number}
-use Rattle.nm_facts.proofs.Options.{no_some, same_some}
-use Rattle.nm_facts.proofs.Truth.{and_left, and_right, both, or_left, or_right}
+use Rattle.nm_types.proofs.ListLemmas.{get_some}
+use Rattle.nm_types.proofs.NumberLemmas.{same_number}
+use Rattle.nm_types.proofs.OptionLemmas.{no_some, same_some}
+use Rattle.nm_types.proofs.TruthLemmas.{and_left, and_right, both, or_left, or_right}
 use Rattle.nm_report.specs.Told.{told_by}
 use Rattle.nm_outcomes.specs.Logs.{IsLogOf, Step, events_of, history_in}
 use Rattle.nm_outcomes.specs.Moves.{ArePlaces, may_show, request_now}

@@ -25,11 +25,11 @@ use Rattle.nm_history.specs.RankRun.{NumberAt}
 use Rattle.nm_history.specs.Sends.{Sent, is_ask, sends, sent_of}
 use Rattle.nm_history.proofs.DeliveryLemmas.{sends-push}
 use Rattle.nm_history.proofs.OnceLemmas.{eqb_self}
-use Rattle.nm_facts.proofs.Numbers.{same_number}
-use Rattle.nm_facts.proofs.Options.{no_some, same_some}
-use Rattle.nm_facts.proofs.Truth.{and_left, and_right, both, or_left, or_right}
+use Rattle.nm_types.proofs.NumberLemmas.{same_number}
+use Rattle.nm_types.proofs.OptionLemmas.{no_some, same_some}
+use Rattle.nm_types.proofs.TruthLemmas.{and_left, and_right, both, or_left, or_right}
 use Rattle.nm_outcomes.specs.Results.{is_unasked, may_have_left}
-use Rattle.nm_facts.proofs.Lists.{all_at}
+use Rattle.nm_types.proofs.ListLemmas.{all_at}
 use Rattle.nm_sure.proofs.Lists.{any_at}
 use Rattle.nm_outcomes.proofs.HappenedLemmas.{history_induction, last_or_before}
 use Rattle.nm_outcomes.proofs.HappenedLemmas.{sent_so}

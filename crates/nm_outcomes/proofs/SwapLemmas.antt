@@ -5,7 +5,7 @@ use Rattle.std.specs.List.{find}
 use Rattle.nm_types.specs.declared.messages.Arrival.{Arrival}
 use Rattle.nm_types.specs.declared.messages.Post as post
 use Rattle.nm_match.specs.Queues.{without_first}
-use Rattle.nm_facts.proofs.Options.{no_some}
+use Rattle.nm_types.proofs.OptionLemmas.{no_some}
 use Rattle.nm_outcomes.specs.Queues.{IsSwapped, ReceivesAndMessagesSwap, after_arrival, after_post}
 use Rattle.nm_outcomes.specs.Queues.{selects}
 

@@ -1,10 +1,16 @@
+pub mod Deeds
 pub mod Due
 pub mod Logs
+pub mod Looks
 pub mod Moves
+pub mod Numbers
 pub mod Outcomes
 pub mod Paths
 pub mod Places
 pub mod Queues
+pub mod RankStates
 pub mod Rests
 pub mod Results
+pub mod SameLaws
+pub mod Sames
 pub mod Searches

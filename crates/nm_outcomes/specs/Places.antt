@@ -22,9 +22,9 @@ use Rattle.nm_history.specs.Selection.{matches}
 use Rattle.nm_history.specs.Sends.{arrival_of, arrivals, arrived_of, envelope, message_of, sends, sent_of}
 use Rattle.nm_history.specs.Underway.{is_answer}
 use Rattle.nm_match.specs.Deeds.{is_known_message, is_known_receive, is_message}
-use Rattle.nm_pairing.specs.Queues.{free_messages, open_receives, posted_after_arrival}
-use Rattle.nm_pairing.specs.Queues.{posted_after_post, unexpected_after_arrival, unexpected_after_post}
-use Rattle.nm_pairing.specs.Queues.{without_message, without_receive}
+use Rattle.nm_lookups.specs.Queues.{free_messages, open_receives, posted_after_arrival}
+use Rattle.nm_lookups.specs.Queues.{posted_after_post, unexpected_after_arrival, unexpected_after_post}
+use Rattle.nm_lookups.specs.Queues.{without_message, without_receive}
 use Rattle.nm_report.specs.Told.{Told, told_by}
 use Rattle.nm_outcomes.specs.Results.{is_unasked}
 

@@ -6,9 +6,9 @@ use Rattle.nm_types.specs.declared.scripts.Line.{Line}
 use Rattle.nm_script.specs.declared.faults.Kind.{Kind}
 use Rattle.nm_script.specs.Rules.{IsFirstFault}
 use Rattle.nm_script.specs.Spelled.{IsTextOf}
-use Rattle.nm_outcomes_words.specs.Words.{IsTaken, NotTaken}
-use Rattle.nm_outcomes_words.specs.declared.Asked.{Asked}
-use Rattle.nm_outcomes_words.specs.declared.Question.TheVariants as question
+use Rattle.nm_outcomes_top.specs.OptionWords.{IsTaken, NotTaken}
+use Rattle.nm_outcomes_top.specs.declared.words.Asked.{Asked}
+use Rattle.nm_outcomes_top.specs.declared.words.Question.TheVariants as question
 use Rattle.nm_outcomes_top.specs.Answers.{HasNoReport, IsAnswer, IsAnswerOf, IsAnswerTo}
 use Rattle.nm_outcomes_top.specs.Answers.{IsInputOf, IsSaid}
 use Rattle.nm_outcomes_top.specs.Answers.{read_of, status_of, text_of}
@@ -20,7 +20,7 @@ use Rattle.nm_outcomes_top.specs.declared.answers.Response.TheVariants.{NoReport
 use Rattle.nm_outcomes_top.specs.declared.tellings.Telling.{Telling}
 use Rattle.nm_outcomes_top.proofs.InputLemmas.{no_input, one_input}
 use Rattle.nm_outcomes_top.proofs.TellingLemmas.{IsTold, not_told, speaks_of, spoken, telling_spoken}
-use Rattle.nm_facts.proofs.Options.{if_all as always}
+use Rattle.nm_types.proofs.OptionLemmas.{if_all as always}
 
 -- a script has no fault, and a text with a fault is no script
 abbrev pub NotBoth : Type 0

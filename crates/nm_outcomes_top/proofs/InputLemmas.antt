@@ -6,13 +6,13 @@ use Rattle.std.specs.Prelude.{IfOk, Result, Ok, Err}
 use Rattle.nm_types.specs.declared.scripts.Line.{Line}
 use Rattle.nm_types.specs.Sizes.{Sizes}
 use Rattle.nm_script.specs.Spelled.{IsTextOf}
-use Rattle.nm_checked.specs.Checks.{IsInput}
+use Rattle.nm_check.specs.Checks.{IsInput}
 use Rattle.nm_explored.specs.Met.{AreTooMany}
 use Rattle.nm_listed.specs.Finding.{AreTooLong}
-use Rattle.nm_outcomes_words.specs.Words.{IsTaken, sizes_for}
-use Rattle.nm_outcomes_words.specs.declared.Asked.{Asked}
-use Rattle.nm_outcomes_words.specs.declared.Question.{Question}
-use Rattle.nm_outcomes_words.specs.declared.Question.TheVariants.{All, Trace, Among}
+use Rattle.nm_outcomes_top.specs.OptionWords.{IsTaken, sizes_for}
+use Rattle.nm_outcomes_top.specs.declared.words.Asked.{Asked}
+use Rattle.nm_outcomes_top.specs.declared.words.Question.{Question}
+use Rattle.nm_outcomes_top.specs.declared.words.Question.TheVariants.{All, Trace, Among}
 use Rattle.nm_outcomes_top.specs.Answers.{HasNoReport, IsAnswer, IsAnswerFor, IsAnswerIn, IsAnswerOf, IsAnswerTo}
 use Rattle.nm_outcomes_top.specs.Answers.{IsInputOf, read_of}
 use Rattle.nm_outcomes_top.specs.declared.answers.Response.{Response}

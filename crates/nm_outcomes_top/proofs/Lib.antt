@@ -2,3 +2,4 @@ mod EndLemmas
 mod InputLemmas
 mod ListingLemmas
 mod TellingLemmas
+mod WordLemmas

@@ -5,10 +5,10 @@ use Rattle.nm_outside.specs.Told.{Appends}
 use Rattle.nm_types.specs.declared.scripts.Line.{Line}
 use Rattle.nm_types.specs.Sizes.{Sizes}
 use Rattle.nm_listed.specs.declared.places.Place.TheVariants.{At, Not}
-use Rattle.nm_outcomes_words.specs.Words.{sizes_for}
-use Rattle.nm_outcomes_words.specs.declared.Asked.{Asked}
-use Rattle.nm_outcomes_words.specs.declared.Question.{Question}
-use Rattle.nm_outcomes_words.specs.declared.Question.TheVariants.{All, Trace, Among}
+use Rattle.nm_outcomes_top.specs.OptionWords.{sizes_for}
+use Rattle.nm_outcomes_top.specs.declared.words.Asked.{Asked}
+use Rattle.nm_outcomes_top.specs.declared.words.Question.{Question}
+use Rattle.nm_outcomes_top.specs.declared.words.Question.TheVariants.{All, Trace, Among}
 use Rattle.nm_outcomes_top.specs.Answers.{IsTelling, telling_status, telling_text, traced_status}
 use Rattle.nm_outcomes_top.specs.Endings.{IsAmong, IsFewerSaid, IsGiven, IsListed, IsNotAmong, IsSpoken, IsTraceSaid}
 use Rattle.nm_outcomes_top.specs.Endings.{Speaks}

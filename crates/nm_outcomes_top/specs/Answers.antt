@@ -5,8 +5,8 @@ use Rattle.nm_types.specs.declared.scripts.Line.{Line}
 use Rattle.nm_types.specs.Sizes.{Sizes}
 use Rattle.nm_script.specs.Rules.{IsFirstFault}
 use Rattle.nm_script.specs.Spelled.{IsTextOf}
-use Rattle.nm_checked.specs.Checks.{IsInput}
-use Rattle.nm_checked.specs.Inputs.{HasNoCut}
+use Rattle.nm_check.specs.Checks.{IsInput}
+use Rattle.nm_check.specs.Inputs.{HasNoCut}
 use Rattle.nm_outcomes.specs.Outcomes.{AreOutcomes}
 use Rattle.nm_explored.specs.Met.{AreTooMany}
 use Rattle.nm_listed.specs.Finding.{AreTooLong, HasFewer, IsOutcomeTrace}
@@ -19,12 +19,12 @@ use Rattle.nm_outcomes_top.specs.declared.asking.Finding.{Finding}
 use Rattle.nm_outcomes_top.specs.declared.asking.Finding.TheVariants as finding
 use Rattle.nm_outcomes_top.specs.declared.tellings.Telling.{Telling}
 use Rattle.nm_outcomes_top.specs.declared.tellings.Telling.TheVariants.{Fewer, Listed, Placed, Traced}
-use Rattle.nm_outcomes_words.specs.declared.Asked.{Asked}
-use Rattle.nm_outcomes_words.specs.declared.Question.{Question}
-use Rattle.nm_outcomes_words.specs.declared.Question.TheVariants.{All, Trace, Among}
+use Rattle.nm_outcomes_top.specs.declared.words.Asked.{Asked}
+use Rattle.nm_outcomes_top.specs.declared.words.Question.{Question}
+use Rattle.nm_outcomes_top.specs.declared.words.Question.TheVariants.{All, Trace, Among}
 use Rattle.nm_outcomes_top.specs.Texts.{fault_text, fewer_text, is_stuck, no_report, outcomes_text, outgrown_text}
 use Rattle.nm_outcomes_top.specs.Texts.{place_text, stuck_count, unlawful, unread, usage}
-use Rattle.nm_outcomes_words.specs.Words.{IsTaken, NotTaken, sizes_for}
+use Rattle.nm_outcomes_top.specs.OptionWords.{IsTaken, NotTaken, sizes_for}
 
 -- how many bytes are read at most: one more than a script's text may have, or than a script and a report may
 abbrev pub limit_of : Question → ℕ

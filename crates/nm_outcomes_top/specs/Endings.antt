@@ -9,12 +9,12 @@ use Rattle.nm_outcomes.specs.Outcomes.{AreOutcomes}
 use Rattle.nm_listed.specs.Finding.{HasFewer, IsOutcomeTrace}
 use Rattle.nm_listed.specs.Places.{IsFirstNew}
 use Rattle.nm_listed.specs.declared.places.Place.TheVariants.{At, Not}
-use Rattle.nm_outcomes_words.specs.declared.Asked.{Asked}
-use Rattle.nm_outcomes_words.specs.declared.Question.{Question}
-use Rattle.nm_outcomes_words.specs.declared.Question.TheVariants.{All, Trace, Among}
+use Rattle.nm_outcomes_top.specs.declared.words.Asked.{Asked}
+use Rattle.nm_outcomes_top.specs.declared.words.Question.{Question}
+use Rattle.nm_outcomes_top.specs.declared.words.Question.TheVariants.{All, Trace, Among}
 use Rattle.nm_outcomes_top.specs.Answers.{IsInputOf, IsOutgrowing, listed_status, read_of, traced_status}
 use Rattle.nm_outcomes_top.specs.Texts.{fault_text, fewer_text, outcomes_text, outgrown_text, place_text, unlawful}
-use Rattle.nm_outcomes_words.specs.Words.{sizes_for}
+use Rattle.nm_outcomes_top.specs.OptionWords.{sizes_for}
 
 -- the bytes spell no script, and their first fault was said
 pub record IsRefused (asked : Asked) (old new : Option (List ℕ)) (bytes : List ℕ) : Type 0 where

@@ -3,14 +3,14 @@
 ghost use Rattle.std.specs.Prelude.{◌≡◌, ◌≤◌, ℕ, List, IfOk};
 ghost use Rattle.nm_explored.specs.Ends.{TellsAll};
 ghost use Rattle.nm_outcomes_top.specs.Answers.{IsAnswerFor, IsFinding};
-ghost use Rattle.nm_outcomes_words.specs.declared.Question.TheVariants as question;
-ghost use Rattle.nm_outcomes_words.specs.Words.{InRange, IsQuestion, sizes_for};
+ghost use Rattle.nm_outcomes_top.specs.declared.words.Question.TheVariants as question;
+ghost use Rattle.nm_outcomes_top.specs.OptionWords.{InRange, IsQuestion, sizes_for};
 
 use crate::answers::Response;
 use crate::tellings::Telling;
 use nm_explored::{End, Explored, explore};
 use nm_listed::{Found, Traced, place_of, reports, trace_of};
-use nm_outcomes_words::{Asked, Question};
+use crate::words::{Asked, Question};
 use nm_types::{Memory, Script, Shape};
 use std::alloc::Global;
 

@@ -37,5 +37,6 @@ mod asking;
 mod listing;
 mod tellings;
 mod tops;
+pub mod words;
 
 pub use tops::outcomes;

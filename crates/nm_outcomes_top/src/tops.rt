@@ -7,8 +7,8 @@ ghost use Rattle.nm_script.specs.Rules.{IsFirstFault};
 ghost use Rattle.nm_script.specs.Spelled.{IsTextOf};
 ghost use Rattle.nm_script.specs.declared.faults.Kind as fault_kind;
 ghost use Rattle.nm_outcomes_top.specs.declared.answers.Response.{Response};
-ghost use Rattle.nm_outcomes_words.specs.declared.Asked.{Asked};
-ghost use Rattle.nm_outcomes_words.specs.declared.Question.TheVariants as question;
+ghost use Rattle.nm_outcomes_top.specs.declared.words.Asked.{Asked};
+ghost use Rattle.nm_outcomes_top.specs.declared.words.Question.TheVariants as question;
 ghost use Rattle.nm_outcomes_top.specs.Answers.{HasNoReport, IsAnswer, IsAnswerFor, IsAnswerIn};
 ghost use Rattle.nm_outcomes_top.specs.Answers.{IsAnswerOf, IsAnswerTo, IsInputOf, IsSaid};
 ghost use Rattle.nm_outcomes_top.specs.Answers.{limit_of, read_of, text_of};
@@ -16,12 +16,12 @@ ghost use Rattle.nm_outcomes_top.specs.Endings.{GivesUp, IsAmong, IsFewerSaid, I
 ghost use Rattle.nm_outcomes_top.specs.Endings.{IsOutgrown, IsRefused, IsStatus, IsTraceSaid, IsUnlawful};
 ghost use Rattle.nm_outcomes_top.specs.Endings.{OrFails, OrUnwritten, Speaks};
 ghost use Rattle.nm_outcomes_top.specs.Texts.{no_report, unread, usage};
-ghost use Rattle.nm_outcomes_words.specs.Words.{InRange, IsTaken, NotTaken};
+ghost use Rattle.nm_outcomes_top.specs.OptionWords.{InRange, IsTaken, NotTaken};
 
 use crate::answers::{Response, status, text};
 use crate::asking::answer_script;
-use nm_checked::cut;
-use nm_outcomes_words::{Asked, Question, read};
+use nm_check::checked::cut;
+use crate::words::{Asked, Question, read};
 use nm_outside::{Sink, Source, Unread, read_up_to, write_all};
 use nm_script::ScriptFault;
 use nm_script::laws::a_text_is_a_script_or_has_a_fault;

@@ -20,7 +20,7 @@
 //! `read_up_to` are; that a read of a `RealSource` is one read of its std reader and a write of a
 //! `RealSink` one write of all its bytes, and that each error of theirs is counted, since std's
 //! contracts tell no errors; and that `PairGate::met` is true only where both ranks met
-//! (`nm_rows`, `nm_cli_rows`).
+//! (`nm_rows`, `nm_rows::cli`).
 #![tactic(auto)]
 
 mod gate;

@@ -11,13 +11,13 @@ use Rattle.nm_persist.specs.Sizes.{IsSizeOf}
 use Rattle.std.specs.Prelude.{is_none}
 use Rattle.std.proofs.Math.Bool.{and-true, and_assoc}
 use Rattle.std.proofs.lemmas.List.{append-nil}
-use Rattle.nm_plan_requests.specs.declared.ends.End.{End}
+use Rattle.nm_plans.specs.declared.requests.ends.End.{End}
 use Rattle.nm_plans.specs.declared.lines.PlanLine.{PlanLine}
-use Rattle.nm_plan_requests.specs.declared.requests.Owner.{Owner}
-use Rattle.nm_plan_requests.specs.Ends.{parts_at, parts_behind, same_end}
-use Rattle.nm_plan_requests.specs.Expansion.{expand}
-use Rattle.nm_plan_requests.specs.Requests.{request_at, request_behind, same_owner}
-use Rattle.nm_plan_requests.proofs.RequestLemmas.{parts_at-more, request_at-more}
+use Rattle.nm_plans.specs.declared.requests.requests.Owner.{Owner}
+use Rattle.nm_plans.specs.Ends.{parts_at, parts_behind, same_end}
+use Rattle.nm_plans.specs.Expansion.{expand}
+use Rattle.nm_plans.specs.PlanRequests.{request_at, request_behind, same_owner}
+use Rattle.nm_plans.proofs.RequestLemmas.{parts_at-more, request_at-more}
 use Rattle.nm_persist.specs.Table.{are_sound, fault_in, has_other_parts, is_out_of_order, is_past, is_taken}
 
 -- lines and one more are sound where the lines are and the one more has no fault

@@ -1,8 +1,31 @@
+mod Aligned
+mod Described
 mod DraftLemmas
+mod EndsMade
+mod Fitting
+mod Items
+mod Joined
+mod Keeping
+mod Kept
+mod Lawfully
+mod LinesRead
+mod Owned
+mod Partnering
+mod Quiet
 pub mod RangeLemmas
-pub mod ReadyLemmas
 mod ReadLemmas
+pub mod ReadyLemmas
+mod Received
 mod ReportLemmas
 mod ResultLemmas
 mod RuleLemmas
+mod Shown
+mod Single
 mod SizeLemmas
+mod States
+mod Taking
+mod Tracked
+mod Tracking
+mod Waited
+mod Walk
+mod Walked

@@ -22,17 +22,17 @@ use Rattle.nm_plans.specs.declared.lines.PlanCommand.TheVariants.{SendInit, Recv
 use Rattle.nm_plans.specs.declared.lines.PlanCommand.TheVariants.{PrecvInit, Fill, Start, Ready}
 use Rattle.nm_plans.specs.declared.lines.PlanCommand.TheVariants.{Arrived, Wait}
 use Rattle.nm_plans.specs.declared.lines.PlanLine.{PlanLine}
-use Rattle.nm_plan_requests.specs.declared.requests.Owner.{Owner}
-use Rattle.nm_plan_requests.specs.declared.requests.Request.{Request}
-use Rattle.nm_plan_requests.specs.declared.requests.Side.{Side}
-use Rattle.nm_plan_requests.specs.declared.requests.Side.TheVariants.{Sends, Receives}
-use Rattle.nm_plan_requests.specs.Expansion.{commands_for, context_of, each_part}
-use Rattle.nm_plan_requests.specs.Expansion.{is_split_send, line_at, name_of}
-use Rattle.nm_plan_requests.specs.Expansion.{part_body, part_start, start_of, wait_of}
+use Rattle.nm_plans.specs.declared.requests.requests.Owner.{Owner}
+use Rattle.nm_plans.specs.declared.requests.requests.Request.{Request}
+use Rattle.nm_plans.specs.declared.requests.requests.Side.{Side}
+use Rattle.nm_plans.specs.declared.requests.requests.Side.TheVariants.{Sends, Receives}
+use Rattle.nm_plans.specs.Expansion.{commands_for, context_of, each_part}
+use Rattle.nm_plans.specs.Expansion.{is_split_send, line_at, name_of}
+use Rattle.nm_plans.specs.Expansion.{part_body, part_start, start_of, wait_of}
 use Rattle.nm_plans.specs.Grammar.{is_in_range}
-use Rattle.nm_plan_requests.specs.Requests.{IsSmall, changed_by, is_about, made_by, part_count, request_after}
-use Rattle.nm_plan_requests.specs.Requests.{request_at, request_behind, side_len}
-use Rattle.nm_plan_requests.specs.States.{allows}
+use Rattle.nm_plans.specs.PlanRequests.{IsSmall, changed_by, is_about, made_by, part_count, request_after}
+use Rattle.nm_plans.specs.PlanRequests.{request_at, request_behind, side_len}
+use Rattle.nm_plans.specs.States.{allows}
 use Rattle.nm_types.proofs.BodyLemmas.{bytes_count}
 
 -- the capacity of a side that receives

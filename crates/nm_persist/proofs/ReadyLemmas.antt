@@ -17,9 +17,9 @@ use Rattle.nm_types.specs.declared.limits.TheConstants.{MAX_RANKS, MAX_TEXT}
 use Rattle.nm_types.specs.declared.scripts.Line.{Line}
 use Rattle.nm_types.specs.Limits.{IsScript, is_in_range as is_command, sent_len}
 use Rattle.nm_types.specs.Text.{script_text}
-use Rattle.nm_words.proofs.NumberLemmas.{few_digits}
+use Rattle.nm_script.proofs.NumberLemmas.{few_digits}
 use Rattle.nm_script.proofs.CommandTakenLemmas.{sent_fits}
-use Rattle.nm_facts.proofs.Truth.{three_parts}
+use Rattle.nm_types.proofs.TruthLemmas.{three_parts}
 use Rattle.nm_script.proofs.StepLemmas.{three_from}
 use Rattle.nm_plans.specs.declared.faults.PlanKind.{PlanKind}
 use Rattle.nm_plans.specs.declared.faults.PlanKind.TheVariants as kind
@@ -28,18 +28,18 @@ use Rattle.nm_plans.specs.declared.lines.PlanCommand.TheVariants.{SendInit, Recv
 use Rattle.nm_plans.specs.declared.lines.PlanCommand.TheVariants.{PrecvInit, Fill, Start, Ready}
 use Rattle.nm_plans.specs.declared.lines.PlanCommand.TheVariants.{Arrived, Wait}
 use Rattle.nm_plans.specs.declared.lines.PlanLine.{PlanLine}
-use Rattle.nm_plan_requests.specs.declared.requests.Owner.{Owner}
-use Rattle.nm_plan_requests.specs.declared.requests.Request.{Request}
-use Rattle.nm_plan_requests.specs.Expansion.{expand, expand_behind}
-use Rattle.nm_plan_requests.specs.Expansion.{lines_for}
+use Rattle.nm_plans.specs.declared.requests.requests.Owner.{Owner}
+use Rattle.nm_plans.specs.declared.requests.requests.Request.{Request}
+use Rattle.nm_plans.specs.Expansion.{expand, expand_behind}
+use Rattle.nm_plans.specs.Expansion.{lines_for}
 use Rattle.nm_plans.specs.Grammar.{is_in_range}
-use Rattle.nm_plan_requests.specs.Requests.{IsSmall, owner_of}
-use Rattle.nm_plan_requests.specs.Requests.{request_at}
+use Rattle.nm_plans.specs.PlanRequests.{IsSmall, owner_of}
+use Rattle.nm_plans.specs.PlanRequests.{request_at}
 use Rattle.nm_plans.specs.Grammar.{request_in}
-use Rattle.nm_plan_requests.specs.Ends.{end_in}
+use Rattle.nm_plans.specs.Ends.{end_in}
 use Rattle.nm_persist.specs.Plans.{AreReady, IsPlan}
 use Rattle.nm_persist.specs.Table.{are_sound, fault_in, fits, has_other_parts, is_out_of_order, is_past}
-use Rattle.nm_plan_requests.specs.States.{allows}
+use Rattle.nm_plans.specs.States.{allows}
 use Rattle.nm_persist.specs.Table.{is_taken}
 use Rattle.nm_persist.proofs.RangeLemmas.{IsInRange, requests_in_range, OkLine, line_in_range}
 

@@ -9,7 +9,7 @@ use Rattle.nm_plans.specs.declared.lines.PlanCommand.TheVariants.{PrecvInit, Fil
 use Rattle.nm_plans.specs.declared.lines.PlanCommand.TheVariants.{Arrived, Wait}
 use Rattle.nm_plans.specs.declared.lines.PlanLine.{PlanLine}
 use Rattle.nm_plans.specs.Grammar.{is_in_range}
-use Rattle.nm_plan_requests.specs.Requests.{owner_of, request_at}
+use Rattle.nm_plans.specs.PlanRequests.{owner_of, request_at}
 use Rattle.nm_persist.specs.declared.asked.Asked.{Asked}
 use Rattle.nm_persist.specs.Report.{asked_behind, asked_by, first_name}
 use Rattle.nm_persist.proofs.ReadyLemmas.{name_small}

@@ -18,7 +18,7 @@ use Rattle.nm_persist.specs.declared.asked.Asked.{Asked}
 use Rattle.nm_persist.specs.Report.{Named, named_from, rank_lines, result_behind}
 use Rattle.nm_persist.specs.Report.{shown_line, shown_words}
 use Rattle.nm_persist.specs.Results.{AreResults, found}
-use Rattle.nm_facts.proofs.Lists.{take_next}
+use Rattle.nm_types.proofs.ListLemmas.{take_next}
 
 -- answers more are kept
 pub results_more : {S : Type 0} (before more : List Named) (old new : IndexMap ℕ (Bor Answer) S)

@@ -7,9 +7,9 @@ use Rattle.std.specs.Option.{ok_or}
 use Rattle.std.proofs.lemmas.Bool.{le-ltb, ltb-true, ltb-false}
 use Rattle.std.proofs.lemmas.List.{length-map}
 use Rattle.nm_types.specs.declared.limits.TheConstants.{MAX_RANKS, MAX_LINES}
-use Rattle.nm_words.specs.Lines.{is_printable, words_of}
-use Rattle.nm_words.proofs.StepLemmas.{bind_ok, chosen}
-use Rattle.nm_words.proofs.WordLemmas.{line_is, joined_printable, words_again}
+use Rattle.nm_script.specs.Lines.{is_printable, words_of}
+use Rattle.nm_script.proofs.WordsStepLemmas.{bind_ok, chosen}
+use Rattle.nm_script.proofs.WordLemmas.{line_is, joined_printable, words_again}
 use Rattle.nm_script.specs.declared.faults.Kind.TheVariants as script
 use Rattle.nm_script.specs.Commands.{rank_of}
 use Rattle.nm_script.specs.Faults.{◌>>=◌}

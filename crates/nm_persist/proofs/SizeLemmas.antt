@@ -14,7 +14,7 @@ use Rattle.nm_types.specs.Text.{command_line, script_text, text_line}
 use Rattle.nm_persist.specs.declared.sizes.Size.{Size}
 use Rattle.nm_persist.specs.Sizes.{IsGrown, IsSizeOf, are_within, is_past_with}
 use Rattle.nm_persist.specs.Table.{fits}
-use Rattle.nm_facts.proofs.Truth.{not_true, three_parts}
+use Rattle.nm_types.proofs.TruthLemmas.{not_true, three_parts}
 use Rattle.nm_script.proofs.StepLemmas.{three_from}
 
 -- how long a text of more lines is

@@ -4,17 +4,17 @@ use Rattle.std.specs.Prelude.{List, [], ◌∷◌, ◌++◌, Result, Ok, Err}
 use Rattle.std.specs.List.{list_all}
 use Rattle.indexmap.specs.IndexMap.{IndexMap, get}
 use Rattle.nm_persist.specs.declared.drafts.Draft.{Draft}
-use Rattle.nm_plan_requests.specs.declared.ends.End.{End}
+use Rattle.nm_plans.specs.declared.requests.ends.End.{End}
 use Rattle.nm_plans.specs.declared.faults.LineFault.{LineFault}
 use Rattle.nm_plans.specs.declared.faults.LineFault.TheVariants as fault
 use Rattle.nm_plans.specs.declared.faults.PlanFault.{PlanFault}
 use Rattle.nm_plans.specs.declared.faults.PlanFault.TheVariants as plan
 use Rattle.nm_plans.specs.declared.faults.PlanKind.{PlanKind}
 use Rattle.nm_plans.specs.declared.lines.PlanLine.{PlanLine}
-use Rattle.nm_plan_requests.specs.Ends.{parts_at, same_end}
-use Rattle.nm_plan_requests.specs.Expansion.{expand}
+use Rattle.nm_plans.specs.Ends.{parts_at, same_end}
+use Rattle.nm_plans.specs.Expansion.{expand}
 use Rattle.nm_plans.specs.Grammar.{is_in_range}
-use Rattle.nm_plan_requests.specs.Requests.{AreRequests}
+use Rattle.nm_plans.specs.PlanRequests.{AreRequests}
 use Rattle.nm_persist.specs.Sizes.{IsSizeOf}
 use Rattle.nm_persist.specs.Table.{are_sound}
 

@@ -1,8 +1,11 @@
 pub mod Drafts
+pub mod Names
 pub mod Plans
+pub mod Promises
 pub mod Reading
 pub mod Report
 pub mod Results
 pub mod Rules
 pub mod Sizes
+pub mod Starts
 pub mod Table

@@ -2,7 +2,7 @@
 use Rattle.std.specs.Prelude.{ℕ, ◌+◌, List, [], ◌∷◌, ◌++◌, Option, Some, None, length}
 use Rattle.std.specs.Prelude.{Result, Ok, Err, nat_lt, if◌then◌else◌}
 use Rattle.nm_types.specs.declared.limits.TheConstants.{MAX_LINES, MAX_TEXT}
-use Rattle.nm_words.specs.Lines.{is_printable, lines_of, text_len, words_of}
+use Rattle.nm_script.specs.Lines.{is_printable, lines_of, text_len, words_of}
 use Rattle.nm_script.specs.Faults.{◌>>=◌}
 use Rattle.nm_script.specs.Reading.{ranks_of}
 use Rattle.nm_plans.specs.declared.faults.PlanKind.{PlanKind}

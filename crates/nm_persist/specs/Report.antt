@@ -17,10 +17,10 @@ use Rattle.nm_persist.specs.declared.asked.Show.TheVariants as show
 use Rattle.nm_plans.specs.declared.lines.PlanCommand.{PlanCommand}
 use Rattle.nm_plans.specs.declared.lines.PlanCommand.TheVariants.{Ready, Arrived, Wait}
 use Rattle.nm_plans.specs.declared.lines.PlanLine.{PlanLine}
-use Rattle.nm_plan_requests.specs.declared.requests.Request.{Request}
-use Rattle.nm_plan_requests.specs.Expansion.{commands_of, name_of}
+use Rattle.nm_plans.specs.declared.requests.requests.Request.{Request}
+use Rattle.nm_plans.specs.Expansion.{commands_of, name_of}
 use Rattle.nm_plans.specs.Grammar.{request_in}
-use Rattle.nm_plan_requests.specs.Requests.{is_sending, owner_of, request_at}
+use Rattle.nm_plans.specs.PlanRequests.{is_sending, owner_of, request_at}
 
 -- what a line shows: of a wait, whether its request sends, or from whom and with which tag it receives
 abbrev pub shows : PlanCommand → Request → Show

@@ -3,7 +3,7 @@ use Rattle.std.specs.Prelude.{◌≡◌, ℕ, ◌+◌, ◌≤◌, ◌<◌, ◌�
 use Rattle.std.specs.Prelude.{◌++◌, length, map, Result, Ok, Err}
 use Rattle.std.specs.List.{list_all}
 use Rattle.nm_types.specs.declared.limits.TheConstants.{MAX_RANKS, MAX_LINES, MAX_TEXT}
-use Rattle.nm_words.specs.Lines.{is_printable, lines_of, text_len, words_of}
+use Rattle.nm_script.specs.Lines.{is_printable, lines_of, text_len, words_of}
 use Rattle.nm_script.specs.Rules.{HasRank, behind, first_of, ranks_text}
 use Rattle.nm_plans.specs.declared.faults.PlanFault.{PlanFault}
 use Rattle.nm_plans.specs.declared.faults.PlanFault.TheVariants as fault

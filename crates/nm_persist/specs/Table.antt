@@ -10,10 +10,10 @@ use Rattle.nm_types.specs.Text.{script_text}
 use Rattle.nm_plans.specs.declared.faults.PlanKind.{PlanKind}
 use Rattle.nm_plans.specs.declared.faults.PlanKind.TheVariants as kind
 use Rattle.nm_plans.specs.declared.lines.PlanLine.{PlanLine}
-use Rattle.nm_plan_requests.specs.Ends.{end_in, other_end, parts_at, parts_in}
-use Rattle.nm_plan_requests.specs.Expansion.{expand}
-use Rattle.nm_plan_requests.specs.Requests.{owner_of, request_at}
-use Rattle.nm_plan_requests.specs.States.{allows}
+use Rattle.nm_plans.specs.Ends.{end_in, other_end, parts_at, parts_in}
+use Rattle.nm_plans.specs.Expansion.{expand}
+use Rattle.nm_plans.specs.PlanRequests.{owner_of, request_at}
+use Rattle.nm_plans.specs.States.{allows}
 
 -- an init names a request that its rank has made, or its rank has made one with the same end
 abbrev pub is_taken : List PlanLine → PlanLine → Bool

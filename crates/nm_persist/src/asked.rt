@@ -4,13 +4,13 @@ ghost use Rattle.std.specs.Prelude.{◌≡◌, ◌<◌, ◌^◌, ◌++◌, ◌�
 ghost use Rattle.std.specs.Prelude.{option_copied};
 ghost use Rattle.nm_types.specs.declared.limits.TheConstants.{MAX_LINES};
 ghost use Rattle.nm_persist.specs.Plans.{AreReady};
-ghost use Rattle.nm_plan_requests.specs.Expansion.{commands_for};
+ghost use Rattle.nm_plans.specs.Expansion.{commands_for};
 ghost use Rattle.nm_persist.specs.Report.{asked_behind, asked_by as asked_by_lem};
 ghost use Rattle.nm_persist.specs.declared.asked.Asked as questions;
 ghost use Rattle.nm_persist.specs.Results.{AreRows};
 ghost use Rattle.nm_persist.specs.Report.{first_name as first_name_lem, shows as shows_lem};
 
-use nm_plan_requests::{Request, Requests};
+use nm_plans::requests::{Request, Requests};
 use nm_plans::{PlanCommand, PlanLine};
 use nm_types::Memory;
 use std::alloc::Global;
@@ -52,7 +52,7 @@ fn first_name(command: &PlanCommand) -> u16
 }
 
 /// How many commands a command stands for, by the request that it is about.
-#[tactic(auto, using(std::proofs::lemmas::Grind::common_steps, nm_plan_requests::proofs::PartLemmas::part_lengths))]
+#[tactic(auto, using(std::proofs::lemmas::Grind::common_steps, nm_plans::proofs::PartLemmas::part_lengths))]
 fn count(command: &PlanCommand, request: &Request) -> u8
     ensures { result ≡ length (commands_for command.now request.now) }
 {

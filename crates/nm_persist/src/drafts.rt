@@ -5,13 +5,13 @@ ghost use Rattle.std.specs.Prelude.{OnOk, IfOk};
 ghost use Rattle.std.specs.Prelude.{Err, MatchOption};
 ghost use Rattle.nm_plans.specs.declared.faults.PlanKind as kind;
 ghost use Rattle.nm_persist.specs.Drafts.{IsDraft};
-ghost use Rattle.nm_plan_requests.specs.Expansion.{expand};
+ghost use Rattle.nm_plans.specs.Expansion.{expand};
 ghost use Rattle.nm_persist.specs.Sizes.{IsSizeOf};
 ghost use Rattle.nm_plans.specs.Grammar.{is_in_range};
 ghost use Rattle.nm_persist.specs.Table as table;
 
 use crate::sizes::Size;
-use nm_plan_requests::{End, Ends, Requests, parts_in, push_lines_for};
+use nm_plans::requests::{End, Ends, Requests, parts_in, push_lines_for};
 use nm_plans::{LineFault, PlanKind, PlanLine, PlanLines};
 use nm_types::Memory;
 use std::alloc::Global;

@@ -23,7 +23,7 @@
 //! (`Plans`); the rules of lines, one for each kind of fault, and the first fault of a text
 //! (`Rules`); the text of a plan's run, by the answers to the commands that its lines stand for
 //! (`Report`). The commands and the text of a plan stand in `nm_plans`, its requests and its script
-//! in `nm_plan_requests`.
+//! in `nm_plans::requests`.
 //! # What is proved
 //! - What is read is spelled by the bytes, within the limits (clause `taken`); whatever bytes spell
 //!   is read as just that, unless memory runs out (clause `takes`).
@@ -43,6 +43,7 @@ mod drafts;
 mod plans;
 mod reading;
 mod results;
+pub mod runs;
 mod sizes;
 mod texts;
 

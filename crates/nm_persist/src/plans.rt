@@ -2,9 +2,9 @@
 
 ghost use Rattle.std.specs.Prelude.{◌≡◌, IfOk};
 ghost use Rattle.nm_persist.specs.Plans.{AreReady, IsPlan};
-ghost use Rattle.nm_plan_requests.specs.Expansion.{expand};
+ghost use Rattle.nm_plans.specs.Expansion.{expand};
 
-use nm_plan_requests::{Requests, push_lines_for};
+use nm_plans::requests::{Requests, push_lines_for};
 use nm_plans::{PlanLine, PlanLines};
 use nm_types::{Lines, Memory, Script};
 use std::alloc::Global;

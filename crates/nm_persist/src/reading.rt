@@ -2,7 +2,7 @@
 
 ghost use Rattle.std.specs.Prelude.{◌≡◌, ◌≤◌, ◌+◌, ◌<◌, ◌^◌, ℕ, List, [], length, map, nat_lt};
 ghost use Rattle.std.specs.Prelude.{IfErr, IfOk, OnOk};
-ghost use Rattle.nm_words.specs.Lines.{lines_of, text_len};
+ghost use Rattle.nm_script.specs.Lines.{lines_of, text_len};
 ghost use Rattle.nm_script.specs.Reading.{ranks_of};
 ghost use Rattle.nm_plans.specs.declared.faults.PlanKind as kinds;
 ghost use Rattle.nm_plans.specs.declared.faults.PlanKind.TheVariants as kind;
@@ -16,7 +16,7 @@ use crate::drafts::Draft;
 use crate::plans::Plan;
 use nm_plans::{LineFault, PlanFault, PlanKind, line_from};
 use nm_types::{MAX_LINES, MAX_RANKS, MAX_TEXT};
-use nm_words::{is_printable, number, split_line, words};
+use nm_script::words::{is_printable, number, split_line, words};
 use std::alloc::Global;
 
 /// The text is longer than a plan may be. A line feed that its last line lacks counts as a byte.

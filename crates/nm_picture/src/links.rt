@@ -9,7 +9,7 @@ use crate::places::{gap_of, x_of, y_of};
 use nm_diagram::{Frame, Link, link_at, linked_events};
 use nm_history::Event;
 use nm_history::plain::Pair;
-use nm_pairs::all_pairs;
+use nm_diagram::pairs::all_pairs;
 use nm_report::RankAccount;
 use std::alloc::{AllocError, Global};
 

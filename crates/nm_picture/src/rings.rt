@@ -9,7 +9,7 @@ use crate::tags::push_use;
 use nm_diagram::{Frame, Ring, is_short, ring_at};
 use nm_history::Event;
 use nm_history::plain::Pair;
-use nm_pairs::all_pairs;
+use nm_diagram::pairs::all_pairs;
 use nm_report::RankAccount;
 use std::alloc::{AllocError, Global};
 

@@ -7,9 +7,9 @@ use Rattle.std.specs.Option.{ok_or}
 use Rattle.std.specs.Str.{bytes_eq}
 use Rattle.std.proofs.lemmas.Bool.{leb-true, le-leb}
 use Rattle.std.proofs.lemmas.Slice.Eq.{bytes_eq-Decides}
-use Rattle.nm_words.specs.Decimal.{number_of}
-use Rattle.nm_words.proofs.NumberLemmas.{number_taken, number_again}
-use Rattle.nm_words.proofs.WordLemmas.{is_solid}
+use Rattle.nm_script.specs.Decimal.{number_of}
+use Rattle.nm_script.proofs.NumberLemmas.{number_taken, number_again}
+use Rattle.nm_script.proofs.WordLemmas.{is_solid}
 use Rattle.nm_plans.specs.declared.faults.PlanKind.{PlanKind}
 use Rattle.nm_plans.specs.declared.faults.PlanKind.TheVariants as kind
 use Rattle.nm_plans.specs.declared.keywords.PlanKeyword.{PlanKeyword}
@@ -17,7 +17,7 @@ use Rattle.nm_plans.specs.declared.keywords.PlanKeyword.TheVariants as key
 use Rattle.nm_plans.specs.Commands.{plan_argument}
 use Rattle.nm_plans.specs.Faults.{or_kind}
 use Rattle.nm_plans.specs.Grammar.{keyword_of, keyword_text, keywords}
-use Rattle.nm_facts.proofs.Lists.{find_passes}
+use Rattle.nm_types.proofs.ListLemmas.{find_passes}
 
 -- ---- names
 

@@ -1,4 +1,6 @@
 mod CountLemmas
 pub mod GrammarLemmas
-pub mod ValueLemmas
 pub mod MakeLemmas
+pub mod PartLemmas
+pub mod RequestLemmas
+pub mod ValueLemmas

@@ -7,8 +7,8 @@ use Rattle.std.proofs.lemmas.Bool.{and_from, and_parts, eqb-true, eq-eqb}
 use Rattle.std.proofs.lemmas.List.{length-map}
 use Rattle.std.proofs.lemmas.List.Folds.{list_all-append}
 use Rattle.nm_types.specs.declared.limits.TheConstants.{MAX_RANKS}
-use Rattle.nm_words.proofs.StepLemmas.{bind_ok, chosen}
-use Rattle.nm_words.proofs.WordLemmas.{is_solid, Solid, decimal_solid}
+use Rattle.nm_script.proofs.WordsStepLemmas.{bind_ok, chosen}
+use Rattle.nm_script.proofs.WordLemmas.{is_solid, Solid, decimal_solid}
 use Rattle.nm_script.specs.Commands.{rank_of}
 use Rattle.nm_script.specs.Faults.{◌>>=◌}
 use Rattle.nm_script.proofs.CommandLemmas.{rank_again}

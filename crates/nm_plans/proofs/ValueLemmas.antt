@@ -10,9 +10,9 @@ use Rattle.nm_types.specs.declared.scripts.Body.{Body}
 use Rattle.nm_types.specs.declared.scripts.Body.TheVariants.{Hex, Gen}
 use Rattle.nm_types.specs.Bodies.{body_len}
 use Rattle.nm_types.specs.Text.{body_word}
-use Rattle.nm_words.proofs.DigitLemmas.{all_lower, bytes_are}
-use Rattle.nm_words.proofs.StepLemmas.{bind_ok, chosen}
-use Rattle.nm_words.proofs.WordLemmas.{is_solid, Solid, decimal_solid, lower_solid}
+use Rattle.nm_script.proofs.DigitLemmas.{all_lower, bytes_are}
+use Rattle.nm_script.proofs.WordsStepLemmas.{bind_ok, chosen}
+use Rattle.nm_script.proofs.WordLemmas.{is_solid, Solid, decimal_solid, lower_solid}
 use Rattle.nm_script.specs.Bodies.{body_of}
 use Rattle.nm_script.specs.Faults.{◌>>=◌}
 use Rattle.nm_script.specs.Spelled.{are_bytes}

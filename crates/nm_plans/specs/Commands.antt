@@ -6,7 +6,7 @@ use Rattle.std.specs.Option.{ok_or}
 use Rattle.nm_types.specs.declared.limits.TheConstants.{MAX_CAPACITY}
 use Rattle.nm_types.specs.declared.scripts.Body.{Body}
 use Rattle.nm_types.specs.declared.scripts.Body.TheVariants.{Gen}
-use Rattle.nm_words.specs.Decimal.{number_of}
+use Rattle.nm_script.specs.Decimal.{number_of}
 use Rattle.nm_script.specs.Bodies.{body_of}
 use Rattle.nm_script.specs.Commands.{rank_of}
 use Rattle.nm_script.specs.Faults.{◌>>=◌}

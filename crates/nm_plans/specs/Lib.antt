@@ -1,5 +1,9 @@
 pub mod Commands
+pub mod Ends
+pub mod Expansion
 pub mod Faults
 pub mod Grammar
+pub mod PlanRequests
 pub mod Spelled
+pub mod States
 pub mod Text

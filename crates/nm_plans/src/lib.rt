@@ -35,6 +35,7 @@ mod faults;
 mod keywords;
 mod limits;
 mod lines;
+pub mod requests;
 
 pub use commands::line_from;
 pub use faults::{LineFault, PlanFault, PlanKind};

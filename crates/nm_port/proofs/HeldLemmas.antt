@@ -16,12 +16,12 @@ use Rattle.nm_chain.specs.Sequence.{Has}
 use Rattle.nm_chain.proofs.SequenceLemmas.{each_has}
 use Rattle.nm_cells.specs.declared.tallies.Tally.{Tally}
 use Rattle.nm_cells.specs.declared.port.Port.{Port}
-use Rattle.nm_table.specs.Rule.{Load, from, number}
-use Rattle.nm_table.specs.Plays.{Overtaken}
+use Rattle.nm_chain.specs.Rule.{Load, from, number}
+use Rattle.nm_chain.specs.Plays.{Overtaken}
 use Rattle.nm_cells.specs.Counted.{new_tally, peer_in, not_below, IsOneOf}
 use Rattle.nm_cells.specs.Counted.{all_unpassed}
 use Rattle.nm_cells.specs.Ports.{knows, taken_by, unpassed_by, IsUnpassed}
-use Rattle.nm_table.proofs.QueueLemmas.{below_yes, below_no}
+use Rattle.nm_chain.proofs.QueueLemmas.{below_yes, below_no}
 use Rattle.nm_cells.proofs.NumberLemmas.{one_of_has, one_number}
 use Rattle.nm_cells.proofs.PortLemmas.{peer_low}
 use Rattle.nm_port.specs.Polls.{count_held, HoldsTheRest, NotOvertaken}

@@ -1,3 +1,5 @@
 mod SendLemmas
 mod HeldLemmas
 pub mod PollLemmas
+-- lists by number
+mod Listed

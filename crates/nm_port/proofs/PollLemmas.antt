@@ -8,15 +8,15 @@ use Rattle.std.specs.Prelude.{slice_index, IfSome, IfNone}
 use mathlib.Core.Logic.{dite}
 use native.Mathlib.Decide.{ℕ_discrete, dec_le}
 use Rattle.nm_types.specs.declared.packets.Packet.{Packet}
-use Rattle.nm_seats.specs.Update.{update}
-use Rattle.nm_table.specs.declared.table.Entry.{Entry}
-use Rattle.nm_table.specs.declared.table.Heads.{Heads}
-use Rattle.nm_table.specs.Plays.{with_got, with_heads, with_look}
-use Rattle.nm_table.specs.declared.table.Look.TheVariants.{Fresh}
+use Rattle.nm_chain.specs.Update.{update}
+use Rattle.nm_chain.specs.declared.table.table.Entry.{Entry}
+use Rattle.nm_chain.specs.declared.table.table.Heads.{Heads}
+use Rattle.nm_chain.specs.Plays.{with_got, with_heads, with_look}
+use Rattle.nm_chain.specs.declared.table.table.Look.TheVariants.{Fresh}
 use Rattle.nm_cells.specs.declared.port.Port.{Port}
 use Rattle.nm_cells.specs.declared.port.Fabric.{Fabric}
-use Rattle.nm_table.specs.Rule.{Load, from, emptying_of, if_below}
-use Rattle.nm_table.specs.Plays.{mine, raised, with_box_miss, with_emptying, with_got_box, Overtaken}
+use Rattle.nm_chain.specs.Rule.{Load, from, emptying_of, if_below}
+use Rattle.nm_chain.specs.Plays.{mine, raised, with_box_miss, with_emptying, with_got_box, Overtaken}
 use Rattle.nm_cells.specs.Counted.{IsOneOf, peer_in, all_unpassed}
 use Rattle.nm_cells.specs.Carried.{held_in}
 use Rattle.nm_cells.specs.Ports.{Owns, knows, holding, taken_by, unpassed_by, IsUnpassed, opens}

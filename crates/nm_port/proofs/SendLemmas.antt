@@ -4,23 +4,23 @@ use Rattle.std.proofs.Common.{List, [], ◌∷◌, length, sym, refl, ap, ◌∙
 use Rattle.std.proofs.Common.{arith, set, get_or, append-nil, ⊎_elim}
 use Rattle.std.proofs.lemmas.List.{set-set, set-get_or}
 use native.Mathlib.Decide.{dec_le}
-use Rattle.nm_seats.specs.Update.{update}
-use Rattle.nm_seats.proofs.UpdateLemmas.{update_else}
-use Rattle.nm_table.specs.declared.table.Hand.{Hand}
-use Rattle.nm_table.specs.declared.table.Hand.TheVariants.{Away, Held}
-use Rattle.nm_table.specs.declared.table.Entry.{Entry}
-use Rattle.nm_table.specs.Rule.{Load, hand, sent_to, fetched}
-use Rattle.nm_table.specs.declared.table.Heads.{Heads}
-use Rattle.nm_table.specs.Plays.{InHand, with_hand, heads_of, with_heads, heads_at, with_got, with_put}
-use Rattle.nm_table.specs.Plays.{taken, queue, with_box_full, with_look}
-use Rattle.nm_table.specs.declared.table.Look.TheVariants.{Fresh}
+use Rattle.nm_chain.specs.Update.{update}
+use Rattle.nm_chain.proofs.UpdateLemmas.{update_else}
+use Rattle.nm_chain.specs.declared.table.table.Hand.{Hand}
+use Rattle.nm_chain.specs.declared.table.table.Hand.TheVariants.{Away, Held}
+use Rattle.nm_chain.specs.declared.table.table.Entry.{Entry}
+use Rattle.nm_chain.specs.Rule.{Load, hand, sent_to, fetched}
+use Rattle.nm_chain.specs.declared.table.table.Heads.{Heads}
+use Rattle.nm_chain.specs.Plays.{InHand, with_hand, heads_of, with_heads, heads_at, with_got, with_put}
+use Rattle.nm_chain.specs.Plays.{taken, queue, with_box_full, with_look}
+use Rattle.nm_chain.specs.declared.table.table.Look.TheVariants.{Fresh}
 use Rattle.nm_cells.specs.declared.port.Port.{Port}
 use Rattle.nm_cells.specs.Ports.{knows, holding, opens}
 use Rattle.nm_port.specs.Sends.{tried, HadMiss, HoldSame}
 use Rattle.std.specs.Prelude.{Result, Ok, Err, IfOk, IfErr}
 use Rattle.nm_queue.specs.declared.moves.Miss.{Miss}
 use Rattle.nm_queue.specs.declared.moves.Miss.TheVariants.{HeadEmpty, LinkMissing}
-use Rattle.nm_table.proofs.QueueLemmas.{below_yes, below_no}
+use Rattle.nm_chain.proofs.QueueLemmas.{below_yes, below_no}
 
 set_away : (xs : List Hand) (k : ℕ) → get_or xs k Away ≡ Away → set xs k Away ≡ xs
 set_away xs k away = ap (set xs k) (sym away) ∙ set-get_or xs k Away

@@ -1,2 +1,3 @@
-pub mod Sends
+pub mod CarriedPackets
 pub mod Polls
+pub mod Sends

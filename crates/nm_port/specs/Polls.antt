@@ -1,12 +1,12 @@
 -- What a poll gives, and what it leaves behind.
 use Rattle.std.specs.Prelude.{◌≡◌, ℕ, zero, suc, ◌+◌, ◌<◌, ◌⊎◌, Option, Some, None, List, [], ◌∷◌, ◌++◌, map}
 use Rattle.nm_types.specs.declared.packets.Packet.{Packet}
-use Rattle.nm_seats.specs.Update.{update}
-use Rattle.nm_table.specs.declared.table.Entry.{Entry}
+use Rattle.nm_chain.specs.Update.{update}
+use Rattle.nm_chain.specs.declared.table.table.Entry.{Entry}
 use Rattle.nm_cells.specs.declared.port.Port.{Port}
 use Rattle.nm_cells.specs.declared.port.Fabric.{Fabric}
-use Rattle.nm_table.specs.Rule.{Load, from, emptying_of}
-use Rattle.nm_table.specs.Plays.{raised, Overtaken}
+use Rattle.nm_chain.specs.Rule.{Load, from, emptying_of}
+use Rattle.nm_chain.specs.Plays.{raised, Overtaken}
 use Rattle.nm_cells.specs.Counted.{IsOneOf}
 use Rattle.nm_cells.specs.Ports.{knows, holding, taken_by, unpassed_by}
 

@@ -2,12 +2,12 @@
 use Rattle.std.specs.Prelude.{◌≡◌, ℕ, ◌<◌, ◌⊎◌, Bool}
 use native.Mathlib.Decide.{dec_le}
 use Rattle.nm_types.specs.declared.limits.TheConstants.{MAX_BOX}
-use Rattle.nm_table.specs.declared.table.Entry.{Entry}
+use Rattle.nm_chain.specs.declared.table.table.Entry.{Entry}
 use Rattle.nm_cells.specs.declared.port.Port.{Port}
-use Rattle.nm_table.specs.Rule.{hand, if_below}
-use Rattle.nm_table.specs.Plays.{InHand, with_box_full, heads_of, with_heads, heads_at, with_missed}
-use Rattle.nm_table.specs.Plays.{head_miss, link_miss, with_look}
-use Rattle.nm_table.specs.declared.table.Look.TheVariants.{LinkEmpty}
+use Rattle.nm_chain.specs.Rule.{hand, if_below}
+use Rattle.nm_chain.specs.Plays.{InHand, with_box_full, heads_of, with_heads, heads_at, with_missed}
+use Rattle.nm_chain.specs.Plays.{head_miss, link_miss, with_look}
+use Rattle.nm_chain.specs.declared.table.table.Look.TheVariants.{LinkEmpty}
 use Rattle.nm_cells.specs.Ports.{knows, holding}
 
 -- a payload of this length was to go to the rank j: where it fits a box, the next one was found full

@@ -29,6 +29,7 @@
 //!   `hands`).
 #![tactic(auto)]
 
+pub mod carried;
 mod cells;
 mod polls;
 mod sends;

@@ -3,11 +3,11 @@
 ghost use Rattle.std.specs.Prelude.{◌≡◌, ◌≢◌, ℕ, ◌+◌, ◌<◌, ◌≤◌, ◌⊎◌, ◌∷◌, [], Some, None, true};
 ghost use Rattle.std.specs.Prelude.{false, slice_index};
 ghost use Rattle.nm_types.specs.declared.packets.Packet.{Packet};
-ghost use Rattle.nm_seats.specs.Update.{update};
-ghost use Rattle.nm_table.specs.Rule.{emptying_of};
-ghost use Rattle.nm_table.specs.Plays.{with_emptying, with_got, with_got_box, heads_of, with_heads};
-ghost use Rattle.nm_table.specs.Plays.{with_look};
-ghost use Rattle.nm_table.specs.declared.table.Look.TheVariants.{Fresh};
+ghost use Rattle.nm_chain.specs.Update.{update};
+ghost use Rattle.nm_chain.specs.Rule.{emptying_of};
+ghost use Rattle.nm_chain.specs.Plays.{with_emptying, with_got, with_got_box, heads_of, with_heads};
+ghost use Rattle.nm_chain.specs.Plays.{with_look};
+ghost use Rattle.nm_chain.specs.declared.table.table.Look.TheVariants.{Fresh};
 ghost use Rattle.nm_cells.specs.Ports.{Owns, knows, taken_by, unpassed_by, IsUnpassed, holding};
 ghost use Rattle.nm_port.specs.Sends.{HadMiss, HoldSame};
 ghost use Rattle.nm_port.specs.Polls.{HoldsTheRest, with_all_missed, NotOvertaken, EmptiesNone};
@@ -17,7 +17,7 @@ use crate::cells::take_cell;
 use nm_cells::{Fabric, Port, Queue, empty_box, load_box_in, take_out};
 use nm_fastbox::take;
 use nm_queue::enqueue;
-use nm_seats::Steps;
+use nm_chain::seats::Steps;
 use nm_types::Packet;
 use std::sync::ledger::Ledger;
 

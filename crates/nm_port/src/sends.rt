@@ -4,11 +4,11 @@ ghost use Rattle.std.specs.Prelude.{◌≡◌, ◌≢◌, ◌+◌, ◌<◌, ◌�
 ghost use Rattle.std.specs.Prelude.{length, false};
 ghost use Rattle.nm_types.specs.declared.limits.TheConstants.{MAX_BOX};
 ghost use Rattle.nm_types.specs.declared.packets.Path.TheVariants.{Box, Cell};
-ghost use Rattle.nm_seats.specs.Update.{update};
-ghost use Rattle.nm_table.specs.Rule.{filling_of};
-ghost use Rattle.nm_table.specs.Plays.{with_filling, with_put, with_put_box, heads_of, with_heads};
-ghost use Rattle.nm_table.specs.Plays.{with_look};
-ghost use Rattle.nm_table.specs.declared.table.Look.TheVariants.{Fresh};
+ghost use Rattle.nm_chain.specs.Update.{update};
+ghost use Rattle.nm_chain.specs.Rule.{filling_of};
+ghost use Rattle.nm_chain.specs.Plays.{with_filling, with_put, with_put_box, heads_of, with_heads};
+ghost use Rattle.nm_chain.specs.Plays.{with_look};
+ghost use Rattle.nm_chain.specs.declared.table.table.Look.TheVariants.{Fresh};
 ghost use Rattle.nm_cells.specs.Ports.{Owns, SameTaken, knows, sent_by};
 ghost use Rattle.nm_port.specs.Sends.{tried, HadMiss, HoldSame};
 
@@ -16,7 +16,7 @@ use crate::cells::take_cell;
 use nm_cells::{Fabric, Port, Queue, put_in};
 use nm_fastbox::put;
 use nm_queue::enqueue;
-use nm_seats::Steps;
+use nm_chain::seats::Steps;
 use nm_types::{Packet, Path};
 use std::sync::ledger::Ledger;
 

@@ -20,7 +20,7 @@ use Rattle.nm_history.specs.RankRun.{since_command, start_of, starts_since, with
 use Rattle.nm_history.specs.Underway.{is_answer, is_of_packet}
 use Rattle.nm_history.proofs.RankRunLemmas.{since-push}
 use Rattle.nm_history.proofs.RankRunLemmas.{not_answer, no_answer, take_next, always, ran_lines-push}
-use Rattle.nm_facts.proofs.Truth.{and_left, and_right}
+use Rattle.nm_types.proofs.TruthLemmas.{and_left, and_right}
 use Rattle.nm_history.proofs.AppendLemmas.{since_grows}
 use Rattle.nm_history.proofs.ResultLemmas.{taken_has_message}
 

@@ -24,7 +24,7 @@ use Rattle.nm_history.specs.Completion.{Request, result_of}
 use Rattle.nm_history.specs.RankRun.{CancelsFor, is_cancelling, is_matched_probe}
 use Rattle.nm_history.specs.RankRun.{is_start, line_of_claim, start_of, without_number}
 use Rattle.nm_history.specs.Sends.{Sent, receives}
-use Rattle.nm_protocol.specs.Clock.{stamped}
+use Rattle.nm_history.specs.Clock.{stamped}
 use Rattle.nm_request.specs.declared.Kind.{Kind}
 use Rattle.nm_rndv.specs.Offers.{Offering}
 use Rattle.nm_rank.specs.Ranks.{RankView, request_of}

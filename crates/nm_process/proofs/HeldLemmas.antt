@@ -36,8 +36,8 @@ use Rattle.nm_match.proofs.QueueLemmas.{free_means}
 use Rattle.nm_process.specs.declared.steps.Handle.{Handle}
 use Rattle.nm_process.specs.Names.{AreHeld, IsHeld, message_with}
 use Rattle.nm_process.proofs.NameLemmas.{key_self, other_key, same_key}
-use Rattle.nm_facts.proofs.Lists.{find_passes}
-use Rattle.nm_facts.proofs.Truth.{and_left, and_right}
+use Rattle.nm_types.proofs.ListLemmas.{find_passes}
+use Rattle.nm_types.proofs.TruthLemmas.{and_left, and_right}
 use Rattle.nm_history.proofs.AppendLemmas.{happened-push}
 
 -- an event leaves a held message alone

@@ -20,8 +20,8 @@ use Rattle.nm_history.specs.RankRun.{is_start, line_of_claim}
 use Rattle.nm_history.specs.Underway.{is_answer, is_of_packet}
 use Rattle.nm_history.proofs.AnswerLemmas.{handle_same, line-push, line_kept, live_same, no_request}
 use Rattle.nm_process.specs.Work.{are_below, line_of}
-use Rattle.nm_facts.proofs.Truth.{both, and_left, and_right}
-use Rattle.nm_facts.proofs.Numbers.{eq_less}
+use Rattle.nm_types.proofs.TruthLemmas.{both, and_left, and_right}
+use Rattle.nm_types.proofs.NumberLemmas.{eq_less}
 use Rattle.nm_history.proofs.RankRunLemmas.{not_answer}
 use Rattle.nm_history.proofs.AnswerLemmas.{claim_line_kept}
 

@@ -24,7 +24,7 @@ use Rattle.nm_history.specs.RankRun.{start_of, without_number}
 use Rattle.nm_history.specs.Underway.{is_answer, is_of_packet}
 use Rattle.nm_history.proofs.AnswerLemmas.{handle_claimed, handle_kept, handle_received, handle_same}
 use Rattle.nm_history.proofs.AnswerLemmas.{live_ended, live_kept, live_same, live_started}
-use Rattle.nm_protocol.specs.Clock.{stamped}
+use Rattle.nm_history.specs.Clock.{stamped}
 use Rattle.nm_rank.specs.Ranks.{RankView}
 use Rattle.nm_process.specs.Names.{handled, named, request_named}
 use Rattle.nm_process.specs.Places.{IsNext, IsOwnLine, IsPlaceFrom}

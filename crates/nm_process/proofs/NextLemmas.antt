@@ -9,7 +9,7 @@ use Rattle.nm_types.specs.Commands.{Numbered, commands_of}
 use Rattle.nm_types.specs.Sizes.{Sizes}
 use Rattle.nm_history.specs.Answers.{can_go_on}
 use Rattle.nm_history.specs.Completion.{Request, is_complete}
-use Rattle.nm_protocol.specs.Rules.{AreRight}
+use Rattle.nm_history.specs.Rules.{AreRight}
 use Rattle.nm_process.specs.declared.steps.Step.{Step}
 use Rattle.nm_process.specs.declared.steps.Step.TheVariants.{Waits, Ran as Took}
 use Rattle.nm_process.specs.Places.{IsNext, IsPlaceFrom, NoneBetween}

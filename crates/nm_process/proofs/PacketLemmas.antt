@@ -12,19 +12,19 @@ use Rattle.nm_history.specs.declared.events.Happened.TheVariants.{Out}
 use Rattle.nm_history.specs.AtEach.{AtEachAfter}
 use Rattle.nm_history.specs.RankRun.{NumberAt}
 use Rattle.nm_history.specs.Underway.{is_of_packet}
-use Rattle.nm_protocol.specs.Clock.{stamped}
-use Rattle.nm_protocol.specs.Effects.{ask_ends, is_empty_send, packet_events, packet_makes, taken_events}
-use Rattle.nm_protocol.specs.Effects.{whole_if}
-use Rattle.nm_protocol.specs.Known.{Known, Taken}
-use Rattle.nm_protocol.specs.Pieces.{Due, is_due, piece_makes}
-use Rattle.nm_protocol.specs.Rules.{AreRight, IsRightAt}
+use Rattle.nm_history.specs.Clock.{stamped}
+use Rattle.nm_history.specs.Effects.{ask_ends, is_empty_send, packet_events, packet_makes, taken_events}
+use Rattle.nm_history.specs.Effects.{whole_if}
+use Rattle.nm_history.specs.Known.{Known, Taken}
+use Rattle.nm_history.specs.Pieces.{Due, is_due, piece_makes}
+use Rattle.nm_history.specs.Rules.{AreRight, IsRightAt}
 use Rattle.nm_sending.specs.Sent.{outs}
 use Rattle.nm_rank.specs.Ranks.{RankView}
 use Rattle.nm_process.specs.declared.steps.Handle.{Handle}
 use Rattle.nm_process.specs.Names.{AreHeld}
 use Rattle.nm_process.proofs.HeldLemmas.{all_held, held_after, packets_leave}
-use Rattle.nm_facts.proofs.Truth.{both, and_left, and_right}
-use Rattle.nm_protocol.proofs.Right.{right-numbers}
+use Rattle.nm_types.proofs.TruthLemmas.{both, and_left, and_right}
+use Rattle.nm_history.proofs.Right.{right-numbers}
 
 -- all of what happened comes of packets
 abbrev pub are_of_packets : List Happened → Bool

@@ -14,7 +14,7 @@ use Rattle.nm_types.specs.declared.scripts.Line.{Line}
 use Rattle.nm_types.specs.Commands.{Numbered, commands_from, commands_of, command_at}
 use Rattle.nm_process.specs.Places.{IsNext, IsOwnLine, NoneBetween}
 use Rattle.nm_process.specs.Steps.{is_look}
-use Rattle.nm_facts.proofs.Truth.{and_left, and_right}
+use Rattle.nm_types.proofs.TruthLemmas.{and_left, and_right}
 
 abbrev numbered : ℕ → Line → Numbered
 numbered number l = record { line = number; command = l.command }

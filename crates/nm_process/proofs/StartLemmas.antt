@@ -14,8 +14,8 @@ use Rattle.nm_history.specs.declared.events.Happened.TheVariants.{Recall}
 use Rattle.nm_history.specs.AtEach.{AtEachAfter}
 use Rattle.nm_history.specs.Happens.{happened, is_recall}
 use Rattle.nm_history.specs.Sends.{Sent}
-use Rattle.nm_protocol.specs.Clock.{stamped}
-use Rattle.nm_protocol.specs.Effects.{whole_if}
+use Rattle.nm_history.specs.Clock.{stamped}
+use Rattle.nm_history.specs.Effects.{whole_if}
 use Rattle.nm_request.specs.declared.Kind.{Kind}
 use Rattle.nm_request.specs.declared.Kind.TheVariants as kind
 use Rattle.nm_request.specs.declared.Req.{Req}

@@ -38,8 +38,8 @@ use Rattle.nm_history.specs.Sends.{message_of, messages, receives, sends}
 use Rattle.nm_history.proofs.AtEachLemmas.{AtEach-split}
 use Rattle.nm_history.proofs.MatchingLemmas.{matched_pairs-push_other}
 use Rattle.nm_history.proofs.OnceLemmas.{eqb_self, messages-push}
-use Rattle.nm_protocol.specs.Clock.{stamped}
-use Rattle.nm_protocol.specs.Rules.{AreRight, IsRightAt}
+use Rattle.nm_history.specs.Clock.{stamped}
+use Rattle.nm_history.specs.Rules.{AreRight, IsRightAt}
 use Rattle.nm_request.specs.declared.Kind.{Kind}
 use Rattle.nm_request.specs.declared.Kind.TheVariants as kind
 use Rattle.nm_receiving.specs.Receipts.{is_empty_ask, taken_events}
@@ -62,7 +62,7 @@ use Rattle.nm_process.proofs.MidLemmas.{Mid, below_line, claimed_handles, found}
 use Rattle.nm_process.proofs.MidLemmas.{kept_handles, kept_names, mid_line, mid_none, mid_other}
 use Rattle.nm_process.proofs.MidLemmas.{received_handles, works}
 use Rattle.nm_process.proofs.PacketLemmas.{after_parts, are_of_packets, whole_of_packets}
-use Rattle.nm_protocol.proofs.Right.{right-numbers}
+use Rattle.nm_history.proofs.Right.{right-numbers}
 use Rattle.nm_history.proofs.AppendLemmas.{happened-push}
 use Rattle.nm_process.proofs.EffectLemmas.{alone, and_false, busy, ends, kept_all, null, start_handles, started_is}
 use Rattle.nm_process.proofs.EffectLemmas.{ended_result, starts}

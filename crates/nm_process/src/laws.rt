@@ -5,8 +5,8 @@ ghost use Rattle.nm_types.specs.declared.scripts.Line.{Line};
 ghost use Rattle.nm_types.specs.Commands.{commands_of};
 ghost use Rattle.nm_types.specs.Sizes.{Sizes};
 ghost use Rattle.nm_history.specs.RankRun.{IsRankRun};
-ghost use Rattle.nm_protocol.specs.Rules.{AreRight};
-ghost use Rattle.nm_journal.specs.Journals.{IsJournal};
+ghost use Rattle.nm_history.specs.Rules.{AreRight};
+ghost use Rattle.nm_rank.specs.Journals.{IsJournal};
 ghost use Rattle.nm_process.specs.Processes.{ProcessView};
 ghost use Rattle.nm_process.specs.Work.{IsAtWork};
 

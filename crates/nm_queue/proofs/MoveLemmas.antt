@@ -2,16 +2,16 @@
 use Rattle.std.proofs.Common.{◌≡◌, ℕ, suc, ◌+◌, Bool, true, false, sym, refl}
 use Rattle.std.proofs.Common.{ap, ◌∙◌, ◌<◌, subst}
 use Rattle.std.specs.Prelude.{slice_index_or}
-use Rattle.nm_seats.specs.Update.{update}
-use Rattle.nm_table.specs.declared.table.Entry.{Entry}
-use Rattle.nm_table.specs.declared.table.Hand.TheVariants.{Away}
-use Rattle.nm_table.specs.declared.table.Heads.{Heads}
-use Rattle.nm_table.specs.declared.table.Look.{Look}
-use Rattle.nm_table.specs.declared.table.Look.TheVariants.{LinkEmpty}
-use Rattle.nm_table.specs.Plays.{taken, heads_of, with_heads, with_look, with_missed, link_miss}
+use Rattle.nm_chain.specs.Update.{update}
+use Rattle.nm_chain.specs.declared.table.table.Entry.{Entry}
+use Rattle.nm_chain.specs.declared.table.table.Hand.TheVariants.{Away}
+use Rattle.nm_chain.specs.declared.table.table.Heads.{Heads}
+use Rattle.nm_chain.specs.declared.table.table.Look.{Look}
+use Rattle.nm_chain.specs.declared.table.table.Look.TheVariants.{LinkEmpty}
+use Rattle.nm_chain.specs.Plays.{taken, heads_of, with_heads, with_look, with_missed, link_miss}
 use Rattle.nm_cells.specs.declared.cell.Cell.{Cell}
 use Rattle.nm_cells.specs.Ports.{knows, holding, SameTaken, Stays, Leaves, Takes, arrivals}
-use Rattle.nm_table.specs.Rule.{Load, sender, number}
+use Rattle.nm_chain.specs.Rule.{Load, sender, number}
 use Rattle.nm_cells.specs.declared.port.Port.{Port}
 use Rattle.nm_cells.specs.declared.port.Fabric.{Fabric}
 use Rattle.nm_cells.specs.declared.cell.Queue as queues

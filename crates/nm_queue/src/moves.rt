@@ -1,13 +1,13 @@
 //! The two moves of a queue.
 
 ghost use Rattle.std.specs.Prelude.{◌≡◌, ◌+◌, ◌<◌, ◌≤◌, ◌⊎◌, None, IfOk, Err};
-ghost use Rattle.nm_seats.specs.Update.{update};
+ghost use Rattle.nm_chain.specs.Update.{update};
 ghost use Rattle.nm_queue.specs.declared.moves.Miss.TheVariants.{HeadEmpty, LinkMissing};
-ghost use Rattle.nm_table.specs.declared.table.Hand.TheVariants.{Away};
-ghost use Rattle.nm_table.specs.declared.table.Look.TheVariants.{LinkEmpty};
-ghost use Rattle.nm_table.specs.Plays.{with_hand, with_look, with_put};
-ghost use Rattle.nm_table.specs.Plays.{heads_of, with_heads, heads_at, with_missed, head_miss};
-ghost use Rattle.nm_table.specs.Plays.{link_miss};
+ghost use Rattle.nm_chain.specs.declared.table.table.Hand.TheVariants.{Away};
+ghost use Rattle.nm_chain.specs.declared.table.table.Look.TheVariants.{LinkEmpty};
+ghost use Rattle.nm_chain.specs.Plays.{with_hand, with_look, with_put};
+ghost use Rattle.nm_chain.specs.Plays.{heads_of, with_heads, heads_at, with_missed, head_miss};
+ghost use Rattle.nm_chain.specs.Plays.{link_miss};
 ghost use Rattle.nm_cells.specs.Ports.{Owns, Stays, Leaves, knows, holding, HasCell, MayJoin};
 ghost use Rattle.nm_cells.specs.Ports.{posted_in, IsOwn, is_receive, Takes};
 
@@ -15,7 +15,7 @@ use nm_cells::{
     Cell, Fabric, Port, Queue, clear_head, clear_link, drop_tail, load_head, load_link,
     reload_link, store_head, store_link, swap_tail,
 };
-use nm_seats::Steps;
+use nm_chain::seats::Steps;
 use std::sync::ledger::Ledger;
 
 /// Why there was no cell to take. A miss is no fault.

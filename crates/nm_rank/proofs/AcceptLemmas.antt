@@ -15,12 +15,12 @@ use Rattle.nm_history.specs.declared.events.Happened.TheVariants as event
 use Rattle.nm_history.specs.Happens.{happened, is_arrival, is_recall, is_undone, is_withdraw}
 use Rattle.nm_history.specs.Matching.{is_free_message, matched_pairs}
 use Rattle.nm_history.specs.Sends.{is_ask}
-use Rattle.nm_protocol.specs.Bytes.{bytes_in}
-use Rattle.nm_protocol.specs.Continues.{has, WORN_STAMP}
-use Rattle.nm_protocol.specs.Effects.{happenings, packet_events, whole_if, is_empty_send}
-use Rattle.nm_protocol.specs.Known.{Known, learned}
-use Rattle.nm_protocol.specs.Rules.{AreRight}
-use Rattle.nm_protocol.proofs.Basic.{self_true}
+use Rattle.nm_history.specs.Bytes.{bytes_in}
+use Rattle.nm_history.specs.Continues.{has, WORN_STAMP}
+use Rattle.nm_history.specs.Effects.{happenings, packet_events, whole_if, is_empty_send}
+use Rattle.nm_history.specs.Known.{Known, learned}
+use Rattle.nm_history.specs.Rules.{AreRight}
+use Rattle.nm_history.proofs.Basic.{self_true}
 use Rattle.nm_eager.specs.Streams.{Stream, missing, nothing_came, is_kept, after}
 use Rattle.nm_rndv.specs.Offers.{Offering, destined, with_answer, with_clearance, with_destined}
 use Rattle.nm_sending.specs.Departures.{SendingView}
@@ -32,9 +32,9 @@ use Rattle.nm_rank.specs.Fields.{endings}
 use Rattle.nm_rank.specs.Takes.{Accepts, MayBeAccepted}
 use Rattle.nm_rank.proofs.Goes.{cleared_in}
 use Rattle.nm_rank.proofs.LeaveLemmas.{StaysSent, StaysReceived}
-use Rattle.nm_facts.proofs.Numbers.{unequal}
-use Rattle.nm_facts.proofs.Lists.{all_append}
-use Rattle.nm_facts.proofs.Truth.{neither, and_right}
+use Rattle.nm_types.proofs.NumberLemmas.{unequal}
+use Rattle.nm_types.proofs.ListLemmas.{all_append}
+use Rattle.nm_types.proofs.TruthLemmas.{neither, and_right}
 
 -- what holds of all that happened holds of the events
 pub each-event : (P : Happened → Type 0) (events : List Event) → AllByRecursion P (happenings events)

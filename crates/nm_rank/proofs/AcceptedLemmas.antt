@@ -2,19 +2,19 @@
 use Rattle.std.proofs.Common.{◌≡◌, ℕ, ◌+◌, ◌-◌, ◌<◌, ◌≤◌, true, List, ◌++◌, length, sym, ◌∙◌, ap, subst, arith}
 use Rattle.std.specs.Prelude.{map, max, nat_lt, option_to_list, Option, Some, None}
 use Rattle.std.proofs.lemmas.List.{length-map}
-use Rattle.nm_facts.proofs.Truth.{and_left}
+use Rattle.nm_types.proofs.TruthLemmas.{and_left}
 use Rattle.nm_types.specs.Sizes.{Sizes}
 use Rattle.nm_types.specs.declared.limits.TheConstants.{MAX_PACKETS, MAX_STAMP}
 use Rattle.nm_types.specs.declared.packets.Packet.{Packet}
 use Rattle.nm_history.specs.declared.events.Event.{Event}
 use Rattle.nm_history.specs.declared.events.Happened.{Happened}
-use Rattle.nm_protocol.specs.Clock.{stamped}
-use Rattle.nm_protocol.specs.Continues.{continues, WORN_STAMP}
-use Rattle.nm_protocol.specs.Known.{Known}
-use Rattle.nm_journal.specs.Journals.{JournalView}
-use Rattle.nm_outbox.specs.Outboxes.{OutboxView, put_to}
+use Rattle.nm_history.specs.Clock.{stamped}
+use Rattle.nm_history.specs.Continues.{continues, WORN_STAMP}
+use Rattle.nm_history.specs.Known.{Known}
+use Rattle.nm_rank.specs.Journals.{JournalView}
+use Rattle.nm_sending.specs.Outboxes.{OutboxView, put_to}
 use Rattle.nm_request.specs.Requests.{Live}
-use Rattle.nm_streams.specs.Streams.{Told}
+use Rattle.nm_receiving.specs.StreamViews.{Told}
 use Rattle.nm_sending.specs.Departures.{SendingView}
 use Rattle.nm_sending.specs.Sent.{AreSent}
 use Rattle.nm_receiving.specs.Receipts.{ReceivingView}

@@ -7,18 +7,18 @@ use Rattle.nm_history.specs.declared.events.Event.{Event}
 use Rattle.nm_history.specs.declared.events.Happened.{Happened}
 use Rattle.nm_history.specs.declared.events.Happened.TheVariants as event
 use Rattle.nm_history.specs.Happens.{happened, is_recall}
-use Rattle.nm_protocol.specs.Effects.{happenings}
-use Rattle.nm_protocol.specs.Rules.{AreRight}
+use Rattle.nm_history.specs.Effects.{happenings}
+use Rattle.nm_history.specs.Rules.{AreRight}
 use Rattle.std.specs.Prelude.{slice_index_or}
 use Rattle.std.specs.List.{AllByRecursion}
 use Rattle.nm_types.specs.Sizes.{Sizes}
 use Rattle.nm_history.specs.Sends.{Sent}
-use Rattle.nm_protocol.specs.Agreement.{tells}
-use Rattle.nm_protocol.specs.Clock.{stamped}
-use Rattle.nm_protocol.specs.Known.{Known}
-use Rattle.nm_protocol.proofs.Growing.{stamped-same}
+use Rattle.nm_history.specs.Agreement.{tells}
+use Rattle.nm_history.specs.Clock.{stamped}
+use Rattle.nm_history.specs.Known.{Known}
+use Rattle.nm_history.proofs.Growing.{stamped-same}
 use Rattle.nm_eager.specs.Streams.{Stream, missing, nothing_came}
-use Rattle.nm_journal.specs.Journals.{JournalView}
+use Rattle.nm_rank.specs.Journals.{JournalView}
 use Rattle.nm_request.specs.declared.Kind.{Kind}
 use Rattle.nm_request.specs.Requests.{Live, SameRequests}
 use Rattle.nm_receiving.specs.Receipts.{ReceivingView, came_of}
@@ -28,7 +28,7 @@ use Rattle.nm_rank.specs.Fields.{AreFields, endings}
 use Rattle.nm_rank.specs.Ranks.{seen}
 use Rattle.nm_rank.proofs.Goes.{acts, requests-more}
 use Rattle.nm_rank.proofs.LeaveLemmas.{StaysSent, StaysReceived}
-use Rattle.nm_outbox.specs.Outboxes.{OutboxView}
+use Rattle.nm_sending.specs.Outboxes.{OutboxView}
 use Rattle.nm_request.specs.declared.Kind.TheVariants as kind
 use Rattle.nm_sending.specs.Departures.{SendingView}
 use Rattle.nm_sending.specs.Sent.{AreSent, Keeps, Puts, only_to}

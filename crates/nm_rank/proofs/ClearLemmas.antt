@@ -14,10 +14,10 @@ use Rattle.nm_history.specs.declared.plain.Pair.{Pair}
 use Rattle.nm_history.specs.Matching.{first_message, matched_pairs, pair_of, pair_of_claimed}
 use Rattle.nm_history.specs.Outgoing.{Called, clear_packets, bare}
 use Rattle.nm_history.specs.Sends.{Sent, is_ask, message_of}
-use Rattle.nm_protocol.specs.Clock.{stamped}
-use Rattle.nm_protocol.specs.Effects.{whole_if}
-use Rattle.nm_protocol.specs.Known.{Known}
-use Rattle.nm_journal.specs.Journals.{JournalView}
+use Rattle.nm_history.specs.Clock.{stamped}
+use Rattle.nm_history.specs.Effects.{whole_if}
+use Rattle.nm_history.specs.Known.{Known}
+use Rattle.nm_rank.specs.Journals.{JournalView}
 use Rattle.nm_request.specs.declared.Req.{Req}
 use Rattle.nm_request.specs.declared.Kind.TheVariants as kind
 use Rattle.nm_request.specs.Requests.{Live, AddsRequest, SameRequests}

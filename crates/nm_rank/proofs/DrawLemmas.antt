@@ -9,16 +9,16 @@ use native.Mathlib.Decide.{ℕ_discrete}
 use Rattle.nm_types.specs.Sizes.{Sizes}
 use Rattle.nm_history.specs.declared.events.Event.{Event}
 use Rattle.nm_history.specs.declared.events.Happened.{Happened}
-use Rattle.nm_protocol.specs.Clock.{stamped}
-use Rattle.nm_protocol.specs.Known.{Known}
-use Rattle.nm_protocol.specs.Pieces.{Due, is_due, piece_makes}
-use Rattle.nm_protocol.specs.Rules.{AreRight}
-use Rattle.nm_protocol.proofs.Agreeing.{agrees-piece}
-use Rattle.nm_protocol.proofs.Growing.{stamped-same}
-use Rattle.nm_protocol.proofs.Right.{right-append}
+use Rattle.nm_history.specs.Clock.{stamped}
+use Rattle.nm_history.specs.Known.{Known}
+use Rattle.nm_history.specs.Pieces.{Due, is_due, piece_makes}
+use Rattle.nm_history.specs.Rules.{AreRight}
+use Rattle.nm_history.proofs.Agreeing.{agrees-piece}
+use Rattle.nm_history.proofs.Growing.{stamped-same}
+use Rattle.nm_history.proofs.Right.{right-append}
 use Rattle.nm_types.specs.declared.packets.Piece.{Piece}
 use Rattle.nm_eager.specs.Streams.{Stream, missing, nothing_came}
-use Rattle.nm_journal.specs.Journals.{JournalView}
+use Rattle.nm_rank.specs.Journals.{JournalView}
 use Rattle.nm_request.specs.Requests.{Live}
 use Rattle.nm_sending.specs.Departures.{SendingView}
 use Rattle.nm_sending.specs.Sent.{is_of_sending}

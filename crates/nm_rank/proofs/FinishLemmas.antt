@@ -7,9 +7,9 @@ use Rattle.std.specs.Option.{ok_or, option_map_or}
 use Rattle.std.proofs.lemmas.Option.{slice_get-map, slice_get_within}
 use Rattle.nm_types.specs.Sizes.{Sizes}
 use Rattle.nm_history.specs.declared.events.Event.{Event}
-use Rattle.nm_protocol.specs.Known.{Known}
+use Rattle.nm_history.specs.Known.{Known}
 use Rattle.nm_eager.specs.Streams.{missing}
-use Rattle.nm_journal.specs.Journals.{JournalView}
+use Rattle.nm_rank.specs.Journals.{JournalView}
 use Rattle.nm_request.specs.declared.NoSuch.{NoSuch}
 use Rattle.nm_request.specs.declared.Req.{Req}
 use Rattle.nm_request.specs.declared.Kind.{Kind}

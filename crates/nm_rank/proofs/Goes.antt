@@ -9,16 +9,16 @@ use Rattle.std.proofs.lemmas.List.{length-map}
 use Rattle.std.proofs.lemmas.List.FromFn.{length-range_with_len}
 use Rattle.nm_history.specs.Happens.{is_send}
 use Rattle.nm_history.specs.Sends.{sends}
-use Rattle.nm_protocol.specs.Agreement.{tells}
-use Rattle.nm_protocol.specs.Clock.{stamped}
-use Rattle.nm_protocol.specs.Known.{Known}
-use Rattle.nm_protocol.specs.Rules.{AreRight}
-use Rattle.nm_protocol.proofs.Agreeing.{agrees-other}
-use Rattle.nm_protocol.proofs.Growing.{stamped-same}
-use Rattle.nm_protocol.proofs.Right.{right-append}
+use Rattle.nm_history.specs.Agreement.{tells}
+use Rattle.nm_history.specs.Clock.{stamped}
+use Rattle.nm_history.specs.Known.{Known}
+use Rattle.nm_history.specs.Rules.{AreRight}
+use Rattle.nm_history.proofs.Agreeing.{agrees-other}
+use Rattle.nm_history.proofs.Growing.{stamped-same}
+use Rattle.nm_history.proofs.Right.{right-append}
 use Rattle.nm_eager.specs.Streams.{missing}
-use Rattle.nm_journal.specs.Journals.{JournalView}
-use Rattle.nm_outbox.specs.Outboxes.{OutboxView}
+use Rattle.nm_rank.specs.Journals.{JournalView}
+use Rattle.nm_sending.specs.Outboxes.{OutboxView}
 use Rattle.nm_request.specs.Requests.{Live}
 use Rattle.nm_sending.specs.Departures.{SendingView, departures_to}
 use Rattle.nm_sending.specs.Sent.{AreSent}

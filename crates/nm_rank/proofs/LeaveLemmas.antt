@@ -9,15 +9,15 @@ use Rattle.nm_types.specs.declared.answers.Answer.{Answer}
 use Rattle.nm_history.specs.declared.events.Event.{Event}
 use Rattle.nm_history.specs.declared.events.Happened.{Happened}
 use Rattle.nm_history.specs.declared.events.Happened.TheVariants as event
-use Rattle.nm_protocol.specs.Agreement.{tells}
-use Rattle.nm_protocol.specs.Clock.{stamped}
-use Rattle.nm_protocol.specs.Known.{Known}
-use Rattle.nm_protocol.specs.Rules.{AreRight}
-use Rattle.nm_protocol.proofs.Growing.{stamped-same}
+use Rattle.nm_history.specs.Agreement.{tells}
+use Rattle.nm_history.specs.Clock.{stamped}
+use Rattle.nm_history.specs.Known.{Known}
+use Rattle.nm_history.specs.Rules.{AreRight}
+use Rattle.nm_history.proofs.Growing.{stamped-same}
 use Rattle.nm_eager.specs.Streams.{Stream, missing, nothing_came}
-use Rattle.nm_journal.specs.Journals.{JournalView}
-use Rattle.nm_outbox.specs.declared.letters.Letter.{Letter}
-use Rattle.nm_outbox.specs.Outboxes.{OutboxView, popped_to}
+use Rattle.nm_rank.specs.Journals.{JournalView}
+use Rattle.nm_sending.specs.declared.outbox.letters.Letter.{Letter}
+use Rattle.nm_sending.specs.Outboxes.{OutboxView, popped_to}
 use Rattle.nm_request.specs.Requests.{Live}
 use Rattle.nm_rndv.specs.Offers.{Offering, first_leaving, next_offered, with_popped}
 use Rattle.nm_sending.specs.Departures.{SendingView}

@@ -1,19 +1,20 @@
 mod AcceptLemmas
 mod AcceptedLemmas
-mod TakenLemmas
 mod CancelLemmas
 mod ClearLemmas
 mod DrawLemmas
 mod FinishLemmas
 mod Goes
+mod JournalLemmas
 mod LeaveLemmas
 mod NewLemmas
 mod PieceLemmas
 mod PutLemmas
-mod RoomLemmas
 pub mod ReceiveLemmas
 mod RequestLemmas
 pub mod ResultLemmas
+mod RoomLemmas
 mod SendLemmas
 mod TakeLemmas
+mod TakenLemmas
 mod ViewLemmas

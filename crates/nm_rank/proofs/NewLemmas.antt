@@ -3,10 +3,10 @@ use Rattle.std.proofs.Common.{◌≡◌, ℕ, zero, suc, ◌<◌, Some, None, Li
 use Rattle.std.proofs.Common.{arith}
 use Rattle.std.specs.Prelude.{map, filter, ◌==◌}
 use Rattle.nm_types.specs.Sizes.{Sizes}
-use Rattle.nm_protocol.specs.Known.{Known, nothing_known}
-use Rattle.nm_protocol.proofs.Agreeing.{agrees-none}
+use Rattle.nm_history.specs.Known.{Known, nothing_known}
+use Rattle.nm_history.proofs.Agreeing.{agrees-none}
 use Rattle.nm_eager.specs.Streams.{nothing_came}
-use Rattle.nm_journal.specs.Journals.{JournalView}
+use Rattle.nm_rank.specs.Journals.{JournalView}
 use Rattle.nm_request.specs.declared.Req.{Req}
 use Rattle.nm_request.specs.declared.Kind.{Kind}
 use Rattle.nm_request.specs.Requests.{Live, kind_of}

@@ -4,10 +4,10 @@ use Rattle.std.proofs.Common.{◌++◌, is_some, length, map, refl, sym, ◌∙�
 use Rattle.std.specs.Prelude.{IfSome, IsNone, IsSome, filter, find, option_map, option_and_then}
 use Rattle.nm_types.specs.declared.packets.Piece.{Piece}
 use Rattle.nm_history.specs.declared.events.Event.{Event}
-use Rattle.nm_protocol.specs.Clearance.{pushed_out, to_push}
-use Rattle.nm_protocol.specs.Effects.{is_empty_send}
-use Rattle.nm_protocol.specs.Known.{Known}
-use Rattle.nm_protocol.proofs.Basic.{self_true}
+use Rattle.nm_history.specs.Clearance.{pushed_out, to_push}
+use Rattle.nm_history.specs.Effects.{is_empty_send}
+use Rattle.nm_history.specs.Known.{Known}
+use Rattle.nm_history.proofs.Basic.{self_true}
 use Rattle.nm_rndv.specs.Offers.{AllOut, Destined, Offered, first_leaving, leaves, next_in, next_offered, offered}
 use Rattle.nm_rndv.specs.Offers.{offered_of, state_at}
 use Rattle.nm_sending.specs.Departures.{SendingView, cleared_to, leaving_to}

@@ -12,11 +12,11 @@ use Rattle.nm_history.specs.declared.events.Happened.TheVariants as event
 use Rattle.nm_history.specs.Happens.{happened, is_recall}
 use Rattle.nm_history.specs.Outgoing.{Called}
 use Rattle.nm_history.specs.Sends.{is_ask}
-use Rattle.nm_protocol.specs.Effects.{is_empty_send, packet_events, whole_if}
-use Rattle.nm_protocol.specs.Known.{Known}
+use Rattle.nm_history.specs.Effects.{is_empty_send, packet_events, whole_if}
+use Rattle.nm_history.specs.Known.{Known}
 use Rattle.nm_request.specs.declared.Kind.{Kind}
 use Rattle.nm_request.specs.declared.Kind.TheVariants as kind
-use Rattle.nm_outbox.specs.Outboxes.{OutboxView}
+use Rattle.nm_sending.specs.Outboxes.{OutboxView}
 use Rattle.nm_sending.specs.Sent.{Puts, only_to}
 use Rattle.nm_receiving.specs.Receipts.{is_empty_ask, taken_events}
 use Rattle.nm_rank.specs.Calls.{clearance_of, eager_sent}

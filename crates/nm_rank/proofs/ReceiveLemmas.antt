@@ -7,16 +7,16 @@ use Rattle.nm_types.specs.Sizes.{Sizes}
 use Rattle.nm_types.specs.declared.messages.Arrival.{Arrival}
 use Rattle.nm_history.specs.declared.events.Event.{Event}
 use Rattle.nm_history.specs.declared.events.Happened.{Happened}
-use Rattle.nm_protocol.specs.Agreement.{tells}
-use Rattle.nm_protocol.specs.Clock.{stamped}
-use Rattle.nm_protocol.specs.Effects.{whole_if}
-use Rattle.nm_protocol.specs.Known.{Known}
-use Rattle.nm_protocol.specs.Rules.{AreRight}
-use Rattle.nm_protocol.proofs.Growing.{stamped-same}
+use Rattle.nm_history.specs.Agreement.{tells}
+use Rattle.nm_history.specs.Clock.{stamped}
+use Rattle.nm_history.specs.Effects.{whole_if}
+use Rattle.nm_history.specs.Known.{Known}
+use Rattle.nm_history.specs.Rules.{AreRight}
+use Rattle.nm_history.proofs.Growing.{stamped-same}
 use Rattle.std.proofs.lemmas.List.{length-map}
 use Rattle.std.specs.Prelude.{slice_index_or}
 use Rattle.nm_eager.specs.Streams.{Stream, missing, nothing_came}
-use Rattle.nm_journal.specs.Journals.{JournalView}
+use Rattle.nm_rank.specs.Journals.{JournalView}
 use Rattle.nm_request.specs.declared.Req.{Req}
 use Rattle.nm_request.specs.declared.Kind.TheVariants as kind
 use Rattle.nm_request.specs.Requests.{Live, AddsRequest}

@@ -1,8 +1,8 @@
 -- The fields with more room.
 use Rattle.std.proofs.Common.{◌≡◌, ℕ, ◌≤◌, List, sym, subst, arith}
 use Rattle.nm_types.specs.Sizes.{Sizes}
-use Rattle.nm_protocol.specs.Known.{Known}
-use Rattle.nm_journal.specs.Journals.{JournalView}
+use Rattle.nm_history.specs.Known.{Known}
+use Rattle.nm_rank.specs.Journals.{JournalView}
 use Rattle.nm_request.specs.Requests.{Live, SameRequests}
 use Rattle.nm_sending.specs.Departures.{SendingView}
 use Rattle.nm_receiving.specs.Receipts.{ReceivingView}

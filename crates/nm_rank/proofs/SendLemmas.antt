@@ -7,13 +7,13 @@ use Rattle.nm_types.specs.declared.scripts.Body.{Body}
 use Rattle.nm_history.specs.declared.events.Event.{Event}
 use Rattle.nm_history.specs.declared.events.Happened.TheVariants as event
 use Rattle.nm_history.specs.Happens.{happened, is_send}
-use Rattle.nm_protocol.specs.Clock.{stamped}
-use Rattle.nm_protocol.specs.Known.{Known}
+use Rattle.nm_history.specs.Clock.{stamped}
+use Rattle.nm_history.specs.Known.{Known}
 use Rattle.nm_history.specs.declared.events.Happened.{Happened}
-use Rattle.nm_protocol.proofs.Basic.{self_true, or_true}
-use Rattle.nm_protocol.proofs.Growing.{stamped-same}
-use Rattle.nm_protocol.proofs.Sent.{happened-append}
-use Rattle.nm_journal.specs.Journals.{JournalView}
+use Rattle.nm_history.proofs.Basic.{self_true, or_true}
+use Rattle.nm_history.proofs.Growing.{stamped-same}
+use Rattle.nm_history.proofs.Sent.{happened-append}
+use Rattle.nm_rank.specs.Journals.{JournalView}
 use Rattle.nm_request.specs.declared.Req.{Req}
 use Rattle.nm_request.specs.declared.Kind.TheVariants as kind
 use Rattle.nm_request.specs.Requests.{Live, AddsRequest}

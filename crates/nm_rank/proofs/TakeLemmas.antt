@@ -12,25 +12,25 @@ use Rattle.nm_types.specs.declared.packets.What.{What}
 use Rattle.nm_types.specs.declared.packets.What.TheVariants as what
 use Rattle.nm_history.specs.declared.events.Event.{Event}
 use Rattle.nm_history.specs.declared.events.Happened.{Happened}
-use Rattle.nm_protocol.specs.Agreement.{Agrees}
-use Rattle.nm_protocol.specs.Clock.{stamped}
-use Rattle.nm_protocol.specs.Continues.{continues}
-use Rattle.nm_protocol.specs.Effects.{happenings, packet_events}
-use Rattle.nm_protocol.specs.Known.{Known, Taken, learned, nothing_known}
-use Rattle.nm_protocol.specs.Rules.{AreRight}
-use Rattle.nm_protocol.proofs.Agreeing.{agrees-packet, agrees-elsewhere}
-use Rattle.nm_protocol.proofs.Growing.{stamped-same}
-use Rattle.nm_protocol.proofs.Right.{right-append}
-use Rattle.nm_journal.specs.Journals.{JournalView}
+use Rattle.nm_history.specs.Agreement.{Agrees}
+use Rattle.nm_history.specs.Clock.{stamped}
+use Rattle.nm_history.specs.Continues.{continues}
+use Rattle.nm_history.specs.Effects.{happenings, packet_events}
+use Rattle.nm_history.specs.Known.{Known, Taken, learned, nothing_known}
+use Rattle.nm_history.specs.Rules.{AreRight}
+use Rattle.nm_history.proofs.Agreeing.{agrees-packet, agrees-elsewhere}
+use Rattle.nm_history.proofs.Growing.{stamped-same}
+use Rattle.nm_history.proofs.Right.{right-append}
+use Rattle.nm_rank.specs.Journals.{JournalView}
 use Rattle.nm_request.specs.Requests.{Live}
-use Rattle.nm_streams.specs.Streams.{Told}
+use Rattle.nm_receiving.specs.StreamViews.{Told}
 use Rattle.nm_sending.specs.Departures.{SendingView}
 use Rattle.nm_sending.specs.Sent.{AreSent}
 use Rattle.nm_receiving.specs.Receipts.{ReceivingView}
 use Rattle.nm_rank.specs.Fields.{AreFields}
 use Rattle.nm_rank.specs.Ranks.{known_from, count_of}
 use Rattle.nm_rank.specs.Takes.{Accepts, Tells}
-use Rattle.nm_outbox.specs.Outboxes.{OutboxView}
+use Rattle.nm_sending.specs.Outboxes.{OutboxView}
 use Rattle.nm_rank.proofs.Goes.{cleared_in, requests-more, sent-outbox}
 
 abbrev pub known_of : Told → Known

@@ -18,15 +18,15 @@ use Rattle.nm_history.specs.declared.events.Happened.TheVariants as event
 use Rattle.nm_history.specs.Matching.{first_receive, matched_pairs, pair_of}
 use Rattle.nm_history.specs.Outgoing.{clear_packets, bare}
 use Rattle.nm_history.specs.Sends.{Sent, is_ask}
-use Rattle.nm_protocol.specs.Bytes.{bytes_in}
-use Rattle.nm_protocol.specs.Clock.{stamped}
-use Rattle.nm_protocol.specs.Effects.{packet_events, whole_if, is_empty_send, next_arrival}
-use Rattle.nm_protocol.specs.Known.{Known, learned, nothing_known}
-use Rattle.nm_journal.specs.Journals.{JournalView}
-use Rattle.nm_outbox.specs.Outboxes.{OutboxView}
+use Rattle.nm_history.specs.Bytes.{bytes_in}
+use Rattle.nm_history.specs.Clock.{stamped}
+use Rattle.nm_history.specs.Effects.{packet_events, whole_if, is_empty_send, next_arrival}
+use Rattle.nm_history.specs.Known.{Known, learned, nothing_known}
+use Rattle.nm_rank.specs.Journals.{JournalView}
+use Rattle.nm_sending.specs.Outboxes.{OutboxView}
 use Rattle.nm_rndv.specs.Offers.{Offering}
 use Rattle.nm_request.specs.Requests.{Live, SameRequests}
-use Rattle.nm_streams.specs.Streams.{Told, is_done_at_once}
+use Rattle.nm_receiving.specs.StreamViews.{Told, is_done_at_once}
 use Rattle.nm_sending.specs.Departures.{SendingView}
 use Rattle.nm_sending.specs.Sent.{Puts, only_to}
 use Rattle.nm_receiving.specs.Receipts.{AddsBytes, ReceivingView, came_of, of_eager, stream_of}

@@ -9,7 +9,7 @@ use Rattle.nm_history.specs.declared.events.Happened.{Happened}
 use Rattle.nm_history.specs.declared.events.Happened.TheVariants as event
 use Rattle.nm_history.specs.Outgoing.{Called, packets_by, send_packets}
 use Rattle.nm_history.specs.Sends.{Sent, is_ask}
-use Rattle.nm_protocol.specs.Clock.{stamped}
+use Rattle.nm_history.specs.Clock.{stamped}
 use Rattle.nm_request.specs.declared.Req.{Req}
 use Rattle.nm_request.specs.declared.Kind.{Kind}
 use Rattle.nm_request.specs.declared.Kind.TheVariants as kind
@@ -17,9 +17,9 @@ use Rattle.nm_request.specs.Requests.{Live, AddsRequest, SameRequests}
 use Rattle.nm_sending.specs.Departures.{SendingView}
 use Rattle.nm_sending.specs.Sent.{Puts}
 use Rattle.nm_rank.specs.Calls.{Happens, Starts, TakesNone, called_by, eager_sent}
-use Rattle.nm_journal.specs.Journals.{JournalView}
+use Rattle.nm_rank.specs.Journals.{JournalView}
 use Rattle.nm_types.specs.Sizes.{Sizes}
-use Rattle.nm_protocol.specs.Known.{Known}
+use Rattle.nm_history.specs.Known.{Known}
 use Rattle.nm_receiving.specs.Receipts.{ReceivingView}
 use Rattle.nm_rank.specs.Ranks.{RankView, roomless, seen}
 use Rattle.nm_rank.proofs.PutLemmas.{puts-same, send-leaves}

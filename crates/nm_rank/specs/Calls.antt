@@ -14,12 +14,12 @@ use Rattle.nm_history.specs.declared.events.Happened.TheVariants.{Send}
 use Rattle.nm_history.specs.AtEach.{in_turn_after}
 use Rattle.nm_history.specs.Outgoing.{Called, packets_by}
 use Rattle.nm_history.specs.Sends.{Sent, is_ask}
-use Rattle.nm_protocol.specs.Bytes.{pulled_bytes, taken_bytes}
-use Rattle.nm_protocol.specs.Clock.{stamped}
-use Rattle.nm_protocol.specs.Continues.{continues}
-use Rattle.nm_protocol.specs.Effects.{taken_events}
-use Rattle.nm_protocol.specs.Known.{Taken, known_after}
-use Rattle.nm_protocol.specs.Pieces.{Due, due_pieces, is_due, piece_makes}
+use Rattle.nm_history.specs.Bytes.{pulled_bytes, taken_bytes}
+use Rattle.nm_history.specs.Clock.{stamped}
+use Rattle.nm_history.specs.Continues.{continues}
+use Rattle.nm_history.specs.Effects.{taken_events}
+use Rattle.nm_history.specs.Known.{Taken, known_after}
+use Rattle.nm_history.specs.Pieces.{Due, due_pieces, is_due, piece_makes}
 use Rattle.nm_request.specs.declared.Req.{Req}
 use Rattle.nm_request.specs.declared.Kind.{Kind}
 use Rattle.nm_request.specs.Requests.{AddsRequest}

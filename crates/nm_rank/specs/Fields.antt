@@ -4,14 +4,14 @@ use Rattle.std.specs.List.{slice_get}
 use Rattle.nm_types.specs.Sizes.{Sizes}
 use Rattle.nm_history.specs.declared.events.Event.{Event}
 use Rattle.nm_history.specs.Happens.{happened, is_send}
-use Rattle.nm_protocol.specs.Agreement.{Agrees}
-use Rattle.nm_protocol.specs.Known.{Known}
-use Rattle.nm_protocol.specs.Rules.{AreRight}
+use Rattle.nm_history.specs.Agreement.{Agrees}
+use Rattle.nm_history.specs.Known.{Known}
+use Rattle.nm_history.specs.Rules.{AreRight}
 use Rattle.nm_eager.specs.Streams.{missing}
 use Rattle.nm_request.specs.declared.Req.{Req}
 use Rattle.nm_request.specs.declared.Kind.TheVariants as kind
 use Rattle.nm_request.specs.Requests.{Live, kind_of}
-use Rattle.nm_journal.specs.Journals.{JournalView}
+use Rattle.nm_rank.specs.Journals.{JournalView}
 use Rattle.nm_sending.specs.Departures.{SendingView, cleared_to}
 use Rattle.nm_sending.specs.Sent.{AreSent}
 use Rattle.nm_receiving.specs.Receipts.{ReceivingView, stream_of, drawn_from}

@@ -1,8 +1,9 @@
-pub mod Ranks
 pub mod Calls
 pub mod Fields
-pub mod Requests
-pub mod Takes
+pub mod Journals
 pub mod New
 pub mod Pops
+pub mod Ranks
+pub mod Requests
 pub mod Sends
+pub mod Takes

@@ -2,7 +2,7 @@
 use Rattle.std.specs.Prelude.{◌≡◌, ℕ, None, [], length, replicate}
 use Rattle.nm_types.specs.declared.messages.Arrival.{Arrival}
 use Rattle.nm_types.specs.Sizes.{Sizes}
-use Rattle.nm_protocol.specs.Known.{nothing_known}
+use Rattle.nm_history.specs.Known.{nothing_known}
 use Rattle.nm_request.specs.declared.Req.{Req}
 use Rattle.nm_request.specs.Requests.{kind_of}
 use Rattle.nm_rndv.specs.Offers.{no_offers}

@@ -3,8 +3,8 @@ use Rattle.std.specs.Prelude.{◌≡◌, ℕ, ◌+◌, false, IfSome, Option, So
 use Rattle.std.specs.Prelude.{option_and_then, slice_get, slice_set}
 use Rattle.nm_history.specs.Delivery.{is_asked}
 use Rattle.nm_history.specs.Sends.{sends}
-use Rattle.nm_protocol.specs.Clearance.{pushed_out, to_push}
-use Rattle.nm_outbox.specs.Outboxes.{popped_to}
+use Rattle.nm_history.specs.Clearance.{pushed_out, to_push}
+use Rattle.nm_sending.specs.Outboxes.{popped_to}
 use Rattle.nm_rndv.specs.Offers.{first_leaving, out_by_piece, with_popped}
 use Rattle.nm_sending.specs.Departures.{ended_by, pushed_to}
 use Rattle.nm_sending.specs.Sent.{outs}

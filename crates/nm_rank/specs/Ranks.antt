@@ -6,14 +6,14 @@ use Rattle.nm_history.specs.declared.events.Event.{Event}
 use Rattle.nm_history.specs.Completion.{Request}
 use Rattle.nm_history.specs.Completion.Request.{Sending, Receiving}
 use Rattle.nm_history.specs.Sends.{sends}
-use Rattle.nm_protocol.specs.Continues.{WORN_STAMP}
-use Rattle.nm_protocol.specs.Known.{Known, nothing_known}
-use Rattle.nm_journal.specs.Journals.{JournalView}
+use Rattle.nm_history.specs.Continues.{WORN_STAMP}
+use Rattle.nm_history.specs.Known.{Known, nothing_known}
+use Rattle.nm_rank.specs.Journals.{JournalView}
 use Rattle.nm_request.specs.Requests.{Live}
 use Rattle.nm_request.specs.declared.Kind.{Kind}
 use Rattle.nm_request.specs.declared.Kind.TheVariants as kind
 use Rattle.nm_request.specs.declared.TheConstants.{MAX_REQUESTS}
-use Rattle.nm_outbox.specs.Outboxes.{put_to}
+use Rattle.nm_sending.specs.Outboxes.{put_to}
 use Rattle.nm_sending.specs.declared.TheConstants.{MAX_MESSAGES}
 use Rattle.nm_sending.specs.Departures.{SendingView}
 use Rattle.nm_receiving.specs.Receipts.{ReceivingView}

@@ -6,12 +6,12 @@ use Rattle.nm_types.specs.declared.packets.What.{What}
 use Rattle.nm_types.specs.declared.packets.What.TheVariants as what
 use Rattle.nm_history.specs.declared.events.Event.{Event}
 use Rattle.nm_history.specs.Outgoing.{Called}
-use Rattle.nm_protocol.specs.Agreement.{Agrees}
-use Rattle.nm_protocol.specs.Bytes.{bytes_in}
-use Rattle.nm_protocol.specs.Continues.{continues}
-use Rattle.nm_protocol.specs.Effects.{happenings, packet_events}
-use Rattle.nm_protocol.specs.Known.{Known, learned}
-use Rattle.nm_protocol.specs.Rules.{AreRight}
+use Rattle.nm_history.specs.Agreement.{Agrees}
+use Rattle.nm_history.specs.Bytes.{bytes_in}
+use Rattle.nm_history.specs.Continues.{continues}
+use Rattle.nm_history.specs.Effects.{happenings, packet_events}
+use Rattle.nm_history.specs.Known.{Known, learned}
+use Rattle.nm_history.specs.Rules.{AreRight}
 use Rattle.nm_sending.specs.Departures.{SendingView, cleared_to}
 use Rattle.nm_sending.specs.Sent.{AreSent, only_to}
 use Rattle.nm_receiving.specs.Receipts.{AddsBytes, ReceivingView, of_eager, stream_of}

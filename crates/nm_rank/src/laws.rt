@@ -2,8 +2,8 @@
 
 ghost use Rattle.std.specs.Prelude.{◌≡◌, ◌<◌, ◌-◌, ◌^◌, ◌↔◌, ℕ, true, nat_lt, length};
 ghost use Rattle.nm_history.specs.Sends.{sends};
-ghost use Rattle.nm_protocol.specs.Pieces.{due_pieces};
-ghost use Rattle.nm_outbox.specs.Outboxes.{put_to};
+ghost use Rattle.nm_history.specs.Pieces.{due_pieces};
+ghost use Rattle.nm_sending.specs.Outboxes.{put_to};
 ghost use Rattle.nm_receiving.specs.Receipts.{drawn_from};
 ghost use Rattle.nm_receiving.specs.Received.{IsOwed};
 ghost use Rattle.nm_rank.specs.Ranks.{IsFresh, RankView};

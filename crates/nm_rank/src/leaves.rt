@@ -2,10 +2,10 @@
 
 ghost use Rattle.std.specs.Prelude.{◌≡◌, ◌<◌, ◌↔◌, ℕ, true, false, None, Some, length, slice_get};
 ghost use Rattle.std.specs.Prelude.{nat_lt, option_map, IfSome, IfNone, IsNone, IsSome, IsSomeAnd, MatchOption};
-ghost use Rattle.nm_protocol.specs.Clearance.{pushed_out, to_push};
-ghost use Rattle.nm_protocol.specs.Pieces.{due_pieces};
-ghost use Rattle.nm_protocol.specs.Rest.{EagerHaveLeft};
-ghost use Rattle.nm_outbox.specs.Outboxes.{popped_to};
+ghost use Rattle.nm_history.specs.Clearance.{pushed_out, to_push};
+ghost use Rattle.nm_history.specs.Pieces.{due_pieces};
+ghost use Rattle.nm_history.specs.Rest.{EagerHaveLeft};
+ghost use Rattle.nm_sending.specs.Outboxes.{popped_to};
 ghost use Rattle.nm_rndv.specs.Offers.{AllOut, next_offered, offered};
 ghost use Rattle.nm_sending.specs.Departures.{pushed_to};
 ghost use Rattle.nm_receiving.specs.Receipts.{drawn_from};

@@ -6,7 +6,7 @@
 //!
 //! # What a contract sees
 //! Its history and clock, its sending and its receiving side (`nm_sending`, `nm_receiving`), what
-//! the packets of each rank tell (`nm_protocol`), its live requests, and the counts of packets,
+//! the packets of each rank tell (`nm_history::protocol`), its live requests, and the counts of packets,
 //! pieces and strays. Room is not seen.
 //! # What is proved
 //! - Each call says exactly which events it adds, and which packets it puts for each rank: those
@@ -23,6 +23,7 @@
 #![tactic(auto)]
 
 mod answers;
+pub mod journal;
 pub mod laws;
 mod leaves;
 mod ranks;

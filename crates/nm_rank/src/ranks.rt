@@ -2,21 +2,21 @@
 
 ghost use Rattle.std.specs.Prelude.{◌≡◌, ◌<◌, ◌↔◌, false, [], map, replicate, IfOk};
 ghost use Rattle.nm_types.specs.declared.limits.TheConstants.{MAX_STAMP};
-ghost use Rattle.nm_protocol.specs.Known.{nothing_known};
-ghost use Rattle.nm_protocol.specs.Rest.{EmptyAreHere};
-ghost use Rattle.nm_protocol.specs.Rules.{AreRight};
-ghost use Rattle.nm_outbox.specs.Outboxes.{popped_to};
+ghost use Rattle.nm_history.specs.Known.{nothing_known};
+ghost use Rattle.nm_history.specs.Rest.{EmptyAreHere};
+ghost use Rattle.nm_history.specs.Rules.{AreRight};
+ghost use Rattle.nm_sending.specs.Outboxes.{popped_to};
 ghost use Rattle.nm_sending.specs.Departures.{pushed_to};
-ghost use Rattle.nm_journal.specs.Journals.{IsJournal};
+ghost use Rattle.nm_rank.specs.Journals.{IsJournal};
 ghost use Rattle.nm_rank.specs.New.{IsNew};
 ghost use Rattle.nm_rank.specs.Ranks.{IsFresh, count_of};
 
 use nm_history::History;
-use nm_journal::Journal;
+use crate::journal::Journal;
 use nm_receiving::Receiving;
 use nm_request::Requests;
 use nm_sending::Sending;
-use nm_streams::Stream;
+use nm_receiving::streams::Stream;
 use nm_types::{MAX_STAMP, Memory, Shape};
 use std::alloc::Global;
 use std::marker::Model;

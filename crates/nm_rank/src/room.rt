@@ -4,7 +4,7 @@ ghost use Rattle.std.specs.Prelude.{◌≡◌, ◌+◌, ◌<◌, ◌≤◌, OnOk
 ghost use Rattle.nm_types.specs.declared.limits.TheConstants.{MAX_STAMP};
 ghost use Rattle.nm_request.specs.Requests.{SameRequests};
 
-use nm_journal::Journal;
+use crate::journal::Journal;
 use nm_request::Requests;
 use nm_sending::Sending;
 use nm_types::Memory;

@@ -5,10 +5,10 @@ ghost use Rattle.std.specs.Prelude.{IfOk, OnErr, OnOk};
 ghost use Rattle.nm_types.specs.declared.limits.TheConstants.{MAX_PACKETS, MAX_STAMP};
 ghost use Rattle.nm_history.specs.declared.events.Event.{Event};
 ghost use Rattle.nm_history.specs.Sends.{Sent};
-ghost use Rattle.nm_protocol.specs.Clock.{stamped};
-ghost use Rattle.nm_protocol.specs.Known.{Known};
-ghost use Rattle.nm_outbox.specs.Outboxes.{put_to};
-ghost use Rattle.nm_streams.specs.Streams.{is_called_for as is_called_for_lem, is_done_at_once};
+ghost use Rattle.nm_history.specs.Clock.{stamped};
+ghost use Rattle.nm_history.specs.Known.{Known};
+ghost use Rattle.nm_sending.specs.Outboxes.{put_to};
+ghost use Rattle.nm_receiving.specs.StreamViews.{is_called_for as is_called_for_lem, is_done_at_once};
 ghost use Rattle.nm_sending.specs.Departures.{cleared_to};
 ghost use Rattle.nm_sending.specs.Sent.{AreSent, Puts};
 ghost use Rattle.nm_receiving.specs.Receipts.{stream_of};
@@ -21,10 +21,10 @@ use crate::Rank;
 use crate::room::make_room;
 use crate::stays::sides_stay;
 use nm_history::Happened;
-use nm_journal::Journal;
+use crate::journal::Journal;
 use nm_receiving::Receiving;
 use nm_sending::Sending;
-use nm_streams::{Made, Stream};
+use nm_receiving::streams::{Made, Stream};
 use nm_types::{Memory, Packet, Piece, What};
 
 /// Records what happened, if something did.

@@ -12,11 +12,11 @@ use Rattle.nm_history.specs.declared.events.Event.{Event}
 use Rattle.nm_history.specs.declared.plain.Pair.{Pair}
 use Rattle.nm_history.specs.Completion.{is_complete, is_here, pair_of_receive}
 use Rattle.nm_history.specs.Completion.Request.{Receiving}
-use Rattle.nm_protocol.specs.Pieces.{Due, due_pieces}
+use Rattle.nm_history.specs.Pieces.{Due, due_pieces}
 use Rattle.nm_rndv.specs.Grants.{Granted, expected_in, first_unfinished}
-use Rattle.nm_streams.specs.Pieces.{AreDue}
-use Rattle.nm_streams.proofs.DueLemmas.{due-first}
-use Rattle.nm_streams.proofs.PieceLemmas.{due_of_grants-first}
+use Rattle.nm_receiving.specs.Pieces.{AreDue}
+use Rattle.nm_receiving.proofs.DueLemmas.{due-first}
+use Rattle.nm_receiving.proofs.PieceLemmas.{due_of_grants-first}
 use Rattle.nm_receiving.specs.declared.receipts.Receipt.{Receipt}
 use Rattle.nm_receiving.specs.declared.receipts.Receive.{Receive}
 use Rattle.nm_receiving.specs.Kept.{IsKept}
@@ -24,8 +24,8 @@ use Rattle.nm_receiving.specs.Receipts.{ReceivingView, pair_with, receipt_of}
 use Rattle.nm_receiving.specs.Received.{AreReceived}
 use Rattle.nm_receiving.proofs.Dues.{pair}
 use Rattle.nm_receiving.proofs.Stood.{is_cancelled_at, is_whole_at}
-use Rattle.nm_facts.proofs.Lists.{get_some}
-use Rattle.nm_facts.proofs.Options.{some_mapped}
+use Rattle.nm_types.proofs.ListLemmas.{get_some}
+use Rattle.nm_types.proofs.OptionLemmas.{some_mapped}
 
 some_inside : {X : Type 0} (xs : List X) (k : ℕ) → is_some (slice_get xs k) ≡ nat_lt k (length xs)
 some_inside {X} xs k = by (cases_lt k (length xs)) (slice_get xs k) refl

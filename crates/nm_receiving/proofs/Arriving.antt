@@ -40,7 +40,7 @@ use Rattle.nm_receiving.proofs.Stood.{Stood, stood_of}
 use Rattle.nm_receiving.proofs.TablesCome.{AreLonger, owed-came, tables-came}
 use Rattle.nm_receiving.proofs.TablesMark.{MayMark, owed-marked, tables-marked}
 use Rattle.nm_receiving.proofs.Taking.{IsAtOnce, IsNext, keeps-came, marked_if}
-use Rattle.nm_facts.proofs.Options.{mapped_none, mapped_some, some_and}
+use Rattle.nm_types.proofs.OptionLemmas.{mapped_none, mapped_some, some_and}
 
 -- the posted receive that takes a message is there
 pub receive_caps : (v : ReceivingView) (kept : IsKept v) (a : Arrival) (o : Option post.Post)

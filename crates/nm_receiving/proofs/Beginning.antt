@@ -15,7 +15,7 @@ use Rattle.nm_history.specs.Matching.{matched_pairs}
 use Rattle.nm_eager.specs.Joining.{Joining, stream_from}
 use Rattle.nm_eager.specs.Streams.{Stream, nothing_came}
 use Rattle.nm_rndv.specs.Grants.{Granted}
-use Rattle.nm_streams.specs.Pieces.{AreDue}
+use Rattle.nm_receiving.specs.Pieces.{AreDue}
 use Rattle.nm_receiving.specs.declared.receipts.Receipt.{Receipt}
 use Rattle.nm_receiving.specs.declared.receipts.Receive.{Receive}
 use Rattle.nm_receiving.specs.Kept.{AreTables, IsCleared, IsKept}

@@ -14,8 +14,8 @@ use Rattle.nm_types.specs.declared.packets.Piece.{Piece}
 use Rattle.nm_types.specs.declared.packets.What.{What}
 use Rattle.nm_types.specs.declared.packets.What.TheVariants as what
 use Rattle.nm_history.specs.Sends.{is_ask}
-use Rattle.nm_protocol.specs.Bytes.{bytes_in, pulled_bytes}
-use Rattle.nm_protocol.specs.Known.{Known}
+use Rattle.nm_history.specs.Bytes.{bytes_in, pulled_bytes}
+use Rattle.nm_history.specs.Known.{Known}
 use Rattle.nm_eager.specs.Streams.{Incoming, IsStream, IsWholeOrLast, Stream, after, begun, carried_on}
 use Rattle.nm_eager.specs.Streams.{continues, is_eager, lacking, message_of, missing, nothing_came}
 use Rattle.nm_eager.specs.Streams.{with_more as with_more_bytes}
@@ -29,8 +29,8 @@ use Rattle.nm_receiving.proofs.Grants.{grant_set, granted_new, self}
 use Rattle.nm_receiving.proofs.Lists.{find-first_more, find-none_more, row-other}
 use Rattle.nm_receiving.proofs.Lists.{row-same}
 use Rattle.nm_receiving.proofs.TablesCarry.{carried}
-use Rattle.nm_facts.proofs.Numbers.{unequal, eq_true, nat_unequal as differs}
-use Rattle.nm_facts.proofs.Lists.{find_passes}
+use Rattle.nm_types.proofs.NumberLemmas.{unequal, eq_true, nat_unequal as differs}
+use Rattle.nm_types.proofs.ListLemmas.{find_passes}
 
 abbrev Row : Type 0
 Row = List (ℕ × Granted)

@@ -19,8 +19,8 @@ use Rattle.nm_receiving.proofs.Grow.{at, arrivals_still, happened_now, happened_
 use Rattle.nm_receiving.proofs.Grow.{message_still, pair_still, pairs_still}
 use Rattle.nm_receiving.proofs.Dues.{due-with}
 use Rattle.nm_receiving.proofs.Stood.{Stood, is_cancelled_at, stood-quiet}
-use Rattle.nm_facts.proofs.Numbers.{unequal, eq_true}
-use Rattle.nm_facts.proofs.Lists.{get_set_other, get_set_same}
+use Rattle.nm_types.proofs.NumberLemmas.{unequal, eq_true}
+use Rattle.nm_types.proofs.ListLemmas.{get_set_other, get_set_same}
 use Rattle.nm_history.proofs.AppendLemmas.{receives_still}
 
 -- the receive is cancelled

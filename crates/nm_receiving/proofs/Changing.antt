@@ -11,9 +11,9 @@ use Rattle.nm_history.specs.Happens.{is_cancel, is_whole}
 use Rattle.nm_history.specs.Matching.{is_free_message, is_matching, matched_pairs}
 use Rattle.nm_history.specs.Sends.{arrival_of, receive_of}
 use Rattle.nm_history.proofs.MatchingLemmas.{matched_pairs-push_other}
-use Rattle.nm_protocol.specs.Effects.{happenings}
-use Rattle.nm_protocol.specs.Rest.{EmptyAreHere}
-use Rattle.nm_protocol.specs.Rules.{AreRight, IsRightAt}
+use Rattle.nm_history.specs.Effects.{happenings}
+use Rattle.nm_history.specs.Rest.{EmptyAreHere}
+use Rattle.nm_history.specs.Rules.{AreRight, IsRightAt}
 use Rattle.nm_match.specs.declared.deeds.Deed.{Deed}
 use Rattle.nm_match.specs.Deeds.{deeds_after}
 use Rattle.nm_receiving.specs.declared.receipts.Receive.{Receive}
@@ -31,8 +31,8 @@ use Rattle.nm_history.specs.declared.events.Happened.TheVariants.{Post, Cancel, 
 use Rattle.nm_history.specs.Matching.{is_of_receive}
 use Rattle.nm_rndv.specs.Grants.{Granted, due_in, expected_in, is_open_in, is_whole_in, taken_in, with_piece}
 use Rattle.nm_rndv.specs.Pieces.{piece_size}
-use Rattle.nm_streams.specs.Pieces.{AreDue}
-use Rattle.nm_streams.proofs.DueLemmas.{due-piece, due-taken}
+use Rattle.nm_receiving.specs.Pieces.{AreDue}
+use Rattle.nm_receiving.proofs.DueLemmas.{due-piece, due-taken}
 use Rattle.nm_match.proofs.StandsLemmas.{paired-stands}
 use Rattle.nm_match.specs.Deeds.{history_of}
 use Rattle.nm_receiving.specs.Receipts.{drawn_from, granted_to, pair_with}
@@ -41,7 +41,7 @@ use Rattle.nm_receiving.specs.Steps.{has_ended, rows_from}
 use Rattle.nm_receiving.proofs.Cancelling.{has_cancelled, stood-cancelled, stood-late}
 use Rattle.nm_receiving.proofs.Lists.{row-other, row-same}
 use Rattle.nm_receiving.proofs.Stood.{is_cancelled_at, stood-quiet, with_deeds}
-use Rattle.nm_facts.proofs.Lists.{get_set_other, get_set_same}
+use Rattle.nm_types.proofs.ListLemmas.{get_set_other, get_set_same}
 
 -- an event that makes no pair
 still_empty : (h : List Event) (e : Event) → is_matching e.what ≡ false → EmptyAreHere h → EmptyAreHere (h ++ e ∷ [])

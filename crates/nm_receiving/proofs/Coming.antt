@@ -36,8 +36,8 @@ use Rattle.nm_history.specs.Sends.{posts}
 use Rattle.nm_match.proofs.QueueLemmas.{open_means}
 use Rattle.nm_receiving.specs.Steps.{rows_from}
 use Rattle.nm_receiving.proofs.Stood.{Stood, is_cancelled_at, is_whole_at}
-use Rattle.nm_facts.proofs.Lists.{find_passes, get_set_other, get_set_same, find_nothing}
-use Rattle.nm_facts.proofs.Truth.{and_right}
+use Rattle.nm_types.proofs.ListLemmas.{find_passes, get_set_other, get_set_same, find_nothing}
+use Rattle.nm_types.proofs.TruthLemmas.{and_right}
 use Rattle.nm_history.proofs.AppendLemmas.{receives_still}
 
 -- a message of this rank came

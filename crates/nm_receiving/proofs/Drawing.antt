@@ -18,17 +18,17 @@ use Rattle.nm_history.specs.declared.events.Event.{Event}
 use Rattle.nm_history.specs.declared.events.Happened.{Happened}
 use Rattle.nm_history.specs.declared.events.Happened.TheVariants.{Whole}
 use Rattle.nm_history.proofs.SelectionLemmas.{find_contains}
-use Rattle.nm_protocol.specs.Bytes.{pulled_bytes}
-use Rattle.nm_protocol.specs.Effects.{whole_if}
-use Rattle.nm_protocol.specs.Pieces.{Due, due_pieces, is_due, piece_makes}
-use Rattle.nm_protocol.specs.Rules.{AreRight}
+use Rattle.nm_history.specs.Bytes.{pulled_bytes}
+use Rattle.nm_history.specs.Effects.{whole_if}
+use Rattle.nm_history.specs.Pieces.{Due, due_pieces, is_due, piece_makes}
+use Rattle.nm_history.specs.Rules.{AreRight}
 use Rattle.nm_rndv.specs.Grants.{Continues, Granted, Granting, came as came_of, due_in, due_of, expected_in}
 use Rattle.nm_rndv.specs.Grants.{first_unfinished, grant_in, grants_from}
 use Rattle.nm_rndv.specs.Grants.{is_open, is_open_in, is_unfinished, joined_by, with_piece}
 use Rattle.nm_rndv.specs.Pieces.{piece_size}
-use Rattle.nm_streams.specs.Pieces.{due_of_grants}
-use Rattle.nm_streams.proofs.DueLemmas.{due-first}
-use Rattle.nm_streams.proofs.GrantLemmas.{fits-first, joined-made}
+use Rattle.nm_receiving.specs.Pieces.{due_of_grants}
+use Rattle.nm_receiving.proofs.DueLemmas.{due-first}
+use Rattle.nm_receiving.proofs.GrantLemmas.{fits-first, joined-made}
 use Rattle.nm_receiving.specs.declared.receipts.Receipt.{Receipt}
 use Rattle.nm_receiving.specs.Kept.{AreTables, IsKept}
 use Rattle.nm_receiving.specs.Receipts.{AddsBytes, ReceivingView, drawn_from, granted_to, of_asked}
@@ -46,7 +46,7 @@ use Rattle.nm_receiving.proofs.TablesMark.{owed-marked, tables-marked}
 use Rattle.nm_receiving.proofs.TablesPiece.{IsExpected, expected_is, owed-others, owed-piece, piece_may_mark}
 use Rattle.nm_receiving.proofs.TablesPiece.{tables-piece}
 use Rattle.nm_receiving.proofs.Taking.{MayEnd, keeps-marked, marked_if}
-use Rattle.nm_facts.proofs.Options.{mapped_some as mapped}
+use Rattle.nm_types.proofs.OptionLemmas.{mapped_some as mapped}
 
 -- what is due of a rank at a history, by what was granted to it
 pub due_at : (v : ReceivingView) (h : List Event) → AreReceived v h → (from : ℕ)

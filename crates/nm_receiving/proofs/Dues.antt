@@ -11,14 +11,14 @@ use Rattle.nm_history.specs.declared.events.Event.{Event}
 use Rattle.nm_history.specs.declared.plain.Pair.{Pair}
 use Rattle.nm_history.specs.Matching.{matched_pairs}
 use Rattle.nm_history.specs.Sends.{is_ask}
-use Rattle.nm_protocol.specs.Pieces.{granted, is_granted}
+use Rattle.nm_history.specs.Pieces.{granted, is_granted}
 use Rattle.nm_rndv.specs.Grants.{Granted, fresh}
-use Rattle.nm_streams.specs.Pieces.{AreDue}
-use Rattle.nm_streams.proofs.DueLemmas.{due-empty, due-grant, due-other}
+use Rattle.nm_receiving.specs.Pieces.{AreDue}
+use Rattle.nm_receiving.proofs.DueLemmas.{due-empty, due-grant, due-other}
 use Rattle.nm_receiving.specs.Steps.{grants_after, grants_with}
 use Rattle.nm_receiving.proofs.Grow.{granted_more}
 use Rattle.nm_receiving.proofs.Lists.{row-other, row-same}
-use Rattle.nm_facts.proofs.Numbers.{unequal, eq_true}
+use Rattle.nm_types.proofs.NumberLemmas.{unequal, eq_true}
 
 -- the pair of a receive with this number and capacity
 abbrev pub pair : ℕ → ℕ → Arrival → Pair

@@ -6,8 +6,8 @@ use Rattle.nm_history.specs.declared.events.Event.{Event}
 use Rattle.nm_history.specs.declared.events.Happened.{Happened}
 use Rattle.nm_history.specs.Completion.{is_taken}
 use Rattle.nm_history.specs.Matching.{first_receive, matched_pairs}
-use Rattle.nm_protocol.specs.Effects.{happenings}
-use Rattle.nm_protocol.specs.Rules.{AreRight, IsRightAt}
+use Rattle.nm_history.specs.Effects.{happenings}
+use Rattle.nm_history.specs.Rules.{AreRight, IsRightAt}
 use Rattle.nm_match.specs.declared.deeds.Deed.{Deed}
 use Rattle.nm_match.specs.Deeds.{Stands}
 use Rattle.nm_match.proofs.StandsLemmas.{first_receive-stands, taken-stands}

@@ -26,19 +26,19 @@ use Rattle.nm_history.specs.Sends.{arrivals, arrival_of, is_ask, messages, messa
 use Rattle.nm_history.proofs.AtEachLemmas.{AtEach-push}
 use Rattle.nm_history.proofs.OnceLemmas.{find_among, messages-push, not_true}
 use Rattle.nm_history.proofs.SelectionLemmas.{find_contains, matched_pairs_of_receives}
-use Rattle.nm_protocol.specs.Rest.{EmptyAreHere}
-use Rattle.nm_protocol.specs.Rules.{AreRight}
-use Rattle.nm_protocol.proofs.Basic.{any_gives}
-use Rattle.nm_protocol.proofs.Right.{right-numbers}
+use Rattle.nm_history.specs.Rest.{EmptyAreHere}
+use Rattle.nm_history.specs.Rules.{AreRight}
+use Rattle.nm_history.proofs.Basic.{any_gives}
+use Rattle.nm_history.proofs.Right.{right-numbers}
 use Rattle.nm_match.specs.Deeds.{is_known_message}
 use Rattle.nm_match.proofs.NumberLemmas.{is_known_message-arrived, messages_numbered}
 use Rattle.nm_match.proofs.QueueLemmas.{free_means}
 use Rattle.nm_receiving.specs.Receipts.{is_empty_ask}
 use Rattle.nm_receiving.proofs.Grow.{at, message_more, messages_still}
 use Rattle.nm_receiving.proofs.Lists.{any_from_found, find-still}
-use Rattle.nm_facts.proofs.Lists.{all_append, all_along, find_passes, find_nothing, find_some}
-use Rattle.nm_facts.proofs.Numbers.{same_number}
-use Rattle.nm_facts.proofs.Truth.{and_left, and_right}
+use Rattle.nm_types.proofs.ListLemmas.{all_append, all_along, find_passes, find_nothing, find_some}
+use Rattle.nm_types.proofs.NumberLemmas.{same_number}
+use Rattle.nm_types.proofs.TruthLemmas.{and_left, and_right}
 
 -- each message is the one of its name, and of a rank of the run
 abbrev pub Is_named : ℕ → List Event → Arrival → Type 0

@@ -41,9 +41,9 @@ use Rattle.nm_receiving.proofs.Tables.{took}
 use Rattle.nm_receiving.proofs.TablesRest.{AreRemoved, later_set, like_itself, owed-removed, owed-still}
 use Rattle.nm_receiving.proofs.TablesRest.{tables-receives, tables-removed}
 use Rattle.nm_receiving.proofs.Taking.{streams_apart}
-use Rattle.nm_facts.proofs.Numbers.{unequal, eq_true, nat_unequal as differs}
-use Rattle.nm_facts.proofs.Lists.{get_set_other, find_agree, get_set_same}
-use Rattle.nm_facts.proofs.Options.{some_and}
+use Rattle.nm_types.proofs.NumberLemmas.{unequal, eq_true, nat_unequal as differs}
+use Rattle.nm_types.proofs.ListLemmas.{get_set_other, find_agree, get_set_same}
+use Rattle.nm_types.proofs.OptionLemmas.{some_and}
 
 -- a receive that ended
 pub ended_is : (rs : List Receive) (number : ℕ) (r : Receive) → slice_get rs number ≡ Some r →

@@ -19,9 +19,9 @@ use Rattle.nm_history.specs.Matching.{matched_pairs}
 use Rattle.nm_history.specs.Selection.{matches}
 use Rattle.nm_history.specs.Sends.{arrivals, message_of, messages, post_of, receives}
 use Rattle.nm_history.proofs.MatchingLemmas.{matched_pairs-push_other}
-use Rattle.nm_protocol.specs.Rules.{AreRight}
-use Rattle.nm_protocol.proofs.Right.{right-append, right-numbers}
-use Rattle.nm_protocol.proofs.Sent.{happened-append}
+use Rattle.nm_history.specs.Rules.{AreRight}
+use Rattle.nm_history.proofs.Right.{right-append, right-numbers}
+use Rattle.nm_history.proofs.Sent.{happened-append}
 use Rattle.nm_match.specs.declared.deeds.Deed.{Deed}
 use Rattle.nm_match.specs.declared.deeds.Deed.TheVariants as deed
 use Rattle.nm_match.specs.Deeds.{deeds_after, history_of, is_known_message, is_known_receive}
@@ -42,8 +42,8 @@ use Rattle.nm_receiving.proofs.Facts.{arrived_from, message_name}
 use Rattle.nm_receiving.proofs.Grow.{at, posts_still}
 use Rattle.nm_receiving.proofs.Stood.{with_deeds}
 use Rattle.nm_receiving.proofs.TablesMark.{IsLike}
-use Rattle.nm_facts.proofs.Lists.{find_passes}
-use Rattle.nm_facts.proofs.Truth.{and_right}
+use Rattle.nm_types.proofs.ListLemmas.{find_passes}
+use Rattle.nm_types.proofs.TruthLemmas.{and_right}
 use Rattle.nm_receiving.proofs.TablesRest.{later_same, later_set, owed-still, tables-receives}
 
 -- a receipt stands at the name of its message

@@ -23,7 +23,7 @@ use Rattle.nm_rndv.proofs.StateLemmas.{equal}
 use Rattle.nm_receiving.specs.Kept.{HasOpen}
 use Rattle.nm_receiving.specs.Steps.{grants_after, grants_with}
 use Rattle.nm_receiving.proofs.Lists.{row-other, row-same, some_from}
-use Rattle.nm_facts.proofs.Options.{some_and}
+use Rattle.nm_types.proofs.OptionLemmas.{some_and}
 
 abbrev Row : Type 0
 Row = List (ℕ × Granted)

@@ -7,8 +7,8 @@ use Rattle.std.specs.List.{find, filter, list_any, cons_option}
 use Rattle.std.specs.Option.{option_to_list}
 use Rattle.std.proofs.lemmas.Bool.{cases_eq, true≢false}
 use Rattle.std.proofs.lemmas.Option.{same_Some}
-use Rattle.nm_protocol.proofs.Basic.{or_false, or_true}
-use Rattle.nm_protocol.proofs.Sent.{happened-append}
+use Rattle.nm_history.proofs.Basic.{or_false, or_true}
+use Rattle.nm_history.proofs.Sent.{happened-append}
 use Rattle.std.proofs.lemmas.List.Elements.{filter-append}
 use Rattle.std.proofs.lemmas.List.Folds.{list_any-append}
 use Rattle.nm_types.specs.declared.messages.Arrival.{Arrival}
@@ -23,9 +23,9 @@ use Rattle.nm_history.specs.Matching.{is_matching, is_of_message, is_of_receive,
 use Rattle.nm_history.specs.Sends.{Arrived, arrivals, arrival_of, arrived_of, messages, message_of, posts, post_of}
 use Rattle.nm_history.proofs.MatchingLemmas.{matched_pairs-push_other}
 use Rattle.nm_history.proofs.OnceLemmas.{arrivals-push, messages-push, posts-push}
-use Rattle.nm_protocol.specs.Pieces.{granted, is_granted}
+use Rattle.nm_history.specs.Pieces.{granted, is_granted}
 use Rattle.nm_receiving.proofs.Lists.{find-first_more, find-none_more}
-use Rattle.nm_facts.proofs.Numbers.{unequal, eq_true}
+use Rattle.nm_types.proofs.NumberLemmas.{unequal, eq_true}
 use Rattle.nm_history.proofs.AppendLemmas.{happened-push}
 
 -- what happened, with its stamp

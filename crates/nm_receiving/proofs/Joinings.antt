@@ -19,7 +19,7 @@ use Rattle.nm_receiving.proofs.Beginning.{stream_at, streams_length}
 use Rattle.nm_receiving.proofs.Coming.{newcomer}
 use Rattle.nm_receiving.proofs.Lists.{find-first_more, find-none_more, some_from}
 use Rattle.nm_receiving.proofs.TablesCome.{AreLonger}
-use Rattle.nm_facts.proofs.Numbers.{unequal, eq_true}
+use Rattle.nm_types.proofs.NumberLemmas.{unequal, eq_true}
 
 -- one stream changed, and no other
 module _ (old new : Joining) (from : ℕ) (s : Stream) (sizes : new.sizes ≡ old.sizes) (inside : from < old.sizes.ranks)

@@ -14,8 +14,8 @@ use Rattle.nm_history.specs.Matching.{matched_pairs, new_pair}
 use Rattle.nm_history.specs.RankRun.{is_asking}
 use Rattle.nm_history.specs.Sends.{arrival_of, message_of, receive_of}
 use Rattle.nm_history.proofs.MatchingLemmas.{matched_pairs-push, matched_pairs-push_other}
-use Rattle.nm_protocol.specs.Effects.{whole_if}
-use Rattle.nm_protocol.specs.Rules.{AreRight, IsRightAt}
+use Rattle.nm_history.specs.Effects.{whole_if}
+use Rattle.nm_history.specs.Rules.{AreRight, IsRightAt}
 use Rattle.nm_match.specs.declared.deeds.Deed.{Deed}
 use Rattle.nm_match.specs.Deeds.{deeds_after}
 use Rattle.nm_receiving.specs.declared.receipts.Receipt.{Receipt}
@@ -28,7 +28,7 @@ use Rattle.nm_receiving.proofs.Facts.{arrived_from, empty_more}
 use Rattle.nm_receiving.proofs.Grow.{at, happened_later, happened_now, happened_still, taken_now}
 use Rattle.nm_receiving.proofs.Marking.{marked, stood-marked}
 use Rattle.nm_receiving.proofs.Stood.{Stood, begun, is_whole_at, received_of, stood-begun, stood_of}
-use Rattle.nm_facts.proofs.Numbers.{eq_true}
+use Rattle.nm_types.proofs.NumberLemmas.{eq_true}
 
 -- a receive begins with the event w, whatever the stamp
 pub record IsBegin (v : ReceivingView) (w : Happened) (d : Deed) (number cap : ℕ) (taken : Option Arrival) : Type 0

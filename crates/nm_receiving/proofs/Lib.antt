@@ -5,25 +5,29 @@ mod CameLemmas
 mod Cancelling
 mod Changing
 mod Coming
+mod ContinueLemmas
 mod Drawing
+pub mod DueLemmas
 mod Dues
 mod Events
 pub mod Facts
 mod Finishing
 mod Goings
+pub mod GrantLemmas
 mod Grants
 pub mod Grow
 mod Joinings
 mod Keeping
 pub mod Lists
 mod Marking
+mod NumberLemmas
 mod Owing
 mod Packets
+pub mod PieceLemmas
 mod Results
 mod Rows
 mod Showing
 mod Starting
-mod Told
 mod Stood
 mod Tables
 mod TablesCarry
@@ -31,5 +35,6 @@ mod TablesCome
 mod TablesMark
 mod TablesPiece
 mod TablesRest
-mod Wholes
 mod Taking
+mod Told
+mod Wholes

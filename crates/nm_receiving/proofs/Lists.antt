@@ -12,8 +12,8 @@ use Rattle.std.proofs.lemmas.List.{get_or-set_same, get_or-set_other, get_or_pas
 use Rattle.std.proofs.lemmas.List.Folds.{find-append}
 use Rattle.std.proofs.lemmas.List.Sums.{sum_by-cons}
 use Rattle.std.proofs.lemmas.Option.{slice_get_past}
-use Rattle.nm_protocol.proofs.Basic.{or_true}
-use Rattle.nm_facts.proofs.Lists.{get_front}
+use Rattle.nm_history.proofs.Basic.{or_true}
+use Rattle.nm_types.proofs.ListLemmas.{get_front}
 use Rattle.nm_match.proofs.NameLemmas.{or_none}
 
 pub slice_get-last : {X : Type 0} (xs : List X) (x : X) (k : ℕ) → k ≡ length xs → slice_get (xs ++ x ∷ []) k ≡ Some x

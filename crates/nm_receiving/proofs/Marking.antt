@@ -20,8 +20,8 @@ use Rattle.nm_receiving.proofs.Grow.{message_still, pair_still, pairs_still}
 use Rattle.nm_receiving.proofs.Lists.{row-other, row-same}
 use Rattle.nm_receiving.proofs.Lists.{row_inside}
 use Rattle.nm_receiving.proofs.Stood.{Stood, is_whole_at}
-use Rattle.nm_facts.proofs.Numbers.{unequal, eq_true}
-use Rattle.nm_facts.proofs.Lists.{get_set_other, get_set_same}
+use Rattle.nm_types.proofs.NumberLemmas.{unequal, eq_true}
+use Rattle.nm_types.proofs.ListLemmas.{get_set_other, get_set_same}
 use Rattle.nm_history.proofs.AppendLemmas.{receives_still}
 
 -- message n of this rank is whole

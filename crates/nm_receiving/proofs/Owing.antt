@@ -25,7 +25,7 @@ use Rattle.nm_receiving.proofs.Grants.{grant_among}
 use Rattle.nm_receiving.proofs.Lists.{some_from}
 use Rattle.nm_receiving.proofs.Stood.{is_whole_at}
 use Rattle.nm_receiving.proofs.TablesPiece.{expected_is}
-use Rattle.nm_facts.proofs.Options.{mapped_some, some_and, some_of}
+use Rattle.nm_types.proofs.OptionLemmas.{mapped_some, some_and, some_of}
 
 -- where a grant is open, one is expected to go on
 open_expected : (row : List (ℕ × Granted)) (n : ℕ) → HasOpen row n → is_some (expected_in row) ≡ true

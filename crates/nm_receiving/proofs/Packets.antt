@@ -23,7 +23,7 @@ use Rattle.nm_history.specs.declared.events.Event.{Event}
 use Rattle.nm_history.specs.declared.events.Happened.TheVariants.{Arrive, Whole}
 use Rattle.nm_history.specs.Matching.{first_receive, matched_pairs}
 use Rattle.nm_history.specs.Sends.{is_ask}
-use Rattle.nm_protocol.specs.Effects.{packet_events, whole_if}
+use Rattle.nm_history.specs.Effects.{packet_events, whole_if}
 use Rattle.nm_match.specs.declared.deeds.Deed.{Deed}
 use Rattle.nm_match.specs.declared.deeds.Deed.TheVariants as deed
 use Rattle.nm_match.specs.Deeds.{history_of}
@@ -51,7 +51,7 @@ use Rattle.nm_receiving.proofs.TablesCarry.{AreCarried, carried_may_mark, goes_o
 use Rattle.nm_receiving.proofs.TablesMark.{owed-marked, tables-marked}
 use Rattle.nm_receiving.proofs.TablesRest.{like_itself, owed-still}
 use Rattle.nm_receiving.proofs.Taking.{IsAtOnce, IsNext, MayEnd, keeps-came, keeps-marked, marked_if, streams_apart}
-use Rattle.nm_facts.proofs.Options.{if_each}
+use Rattle.nm_types.proofs.OptionLemmas.{if_each}
 
 -- the receive that takes a message is among the receives
 pub taker_inside : (v : ReceivingView) (kept : IsKept v) (a : Arrival) (taker : Option ℕ)

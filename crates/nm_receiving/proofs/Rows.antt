@@ -13,7 +13,7 @@ use Rattle.std.specs.Option.{option_map_or}
 use Rattle.std.proofs.lemmas.Option.{slice_get_read}
 use Rattle.nm_receiving.specs.declared.receipts.Receipt.{Receipt}
 use Rattle.nm_receiving.specs.Steps.{made_whole, with_whole}
-use Rattle.nm_facts.proofs.Rows.{row_at}
+use Rattle.nm_types.proofs.RowLemmas.{row_at}
 
 -- an element that is there stands inside the list
 some_inside : {X : Type 0} (xs : List X) (k : ℕ) (o : Option X) → slice_get xs k ≡ o → IsSome o

@@ -17,7 +17,7 @@ use Rattle.nm_history.specs.Happens.{happened, is_withdraw}
 use Rattle.nm_history.specs.Matching.{first_message, is_claimed, matched_pairs}
 use Rattle.nm_history.specs.Sends.{is_ask, message_of, posts, post_of}
 use Rattle.nm_history.proofs.OnceLemmas.{posts-push}
-use Rattle.nm_protocol.specs.Rules.{AreRight}
+use Rattle.nm_history.specs.Rules.{AreRight}
 use Rattle.nm_match.specs.declared.deeds.Deed.{Deed}
 use Rattle.nm_match.specs.declared.deeds.Deed.TheVariants as deed
 use Rattle.nm_match.specs.Deeds.{history_of}
@@ -40,7 +40,7 @@ use Rattle.nm_receiving.proofs.Marking.{marked}
 use Rattle.nm_receiving.proofs.Stood.{begun}
 use Rattle.nm_receiving.proofs.Tables.{IsFree, no_grant, owed-begun, tables-begun}
 use Rattle.nm_receiving.proofs.TablesMark.{MayMark, owed-marked, tables-marked}
-use Rattle.nm_facts.proofs.Options.{mapped_some as mapped, some_and, if_each, some_of, one_option}
+use Rattle.nm_types.proofs.OptionLemmas.{mapped_some as mapped, some_and, if_each, some_of, one_option}
 
 -- a message that may be taken is here
 pub is_free : (v : ReceivingView) (kept : IsKept v) (a : Arrival) → IsTakeable v.sizes.ranks kept.history a →

@@ -13,11 +13,11 @@ use Rattle.nm_history.specs.Completion.{pair_of_receive}
 use Rattle.nm_history.specs.Happens.{happened, is_cancel, is_whole}
 use Rattle.nm_history.specs.Matching.{is_matching, matched_pairs}
 use Rattle.nm_history.specs.Sends.{arrivals, arrival_of, message_of, receives, receive_of}
-use Rattle.nm_protocol.specs.Rest.{EmptyAreHere}
+use Rattle.nm_history.specs.Rest.{EmptyAreHere}
 use Rattle.nm_match.specs.declared.deeds.Deed.{Deed}
 use Rattle.nm_match.specs.Deeds.{Stands, deeds_after}
 use Rattle.nm_match.proofs.StandsLemmas.{stands_push}
-use Rattle.nm_streams.specs.Pieces.{AreDue}
+use Rattle.nm_receiving.specs.Pieces.{AreDue}
 use Rattle.nm_receiving.specs.declared.receipts.Receipt.{Receipt}
 use Rattle.nm_receiving.specs.declared.receipts.Receive.{Receive}
 use Rattle.nm_receiving.specs.Receipts.{ReceivingView, receipts_from, receipt_of, granted_to, drawn_from, pair_at}

@@ -31,9 +31,9 @@ use Rattle.nm_receiving.proofs.Grants.{granted_length, granted_new, once_push, o
 use Rattle.nm_receiving.proofs.Grow.{newly_taken, taken_later, taken_now}
 use Rattle.nm_receiving.proofs.Lists.{any_of_found, slice_get-last, slice_get-push_other, some_from}
 use Rattle.nm_receiving.proofs.Stood.{begun}
-use Rattle.nm_facts.proofs.Numbers.{eq_true}
-use Rattle.nm_facts.proofs.Lists.{get_front}
-use Rattle.nm_facts.proofs.Options.{mapped_some, some_and}
+use Rattle.nm_types.proofs.NumberLemmas.{eq_true}
+use Rattle.nm_types.proofs.ListLemmas.{get_front}
+use Rattle.nm_types.proofs.OptionLemmas.{mapped_some, some_and}
 
 -- a receive that has a message has it in the history
 pub took : (v : ReceivingView) (h : List Event) → AreReceived v h → (k : ℕ) (receive : Receive) (a : Arrival)

@@ -21,7 +21,7 @@ use Rattle.nm_receiving.proofs.Tables.{bytes_along}
 use Rattle.nm_receiving.proofs.TablesMark.{MayMark}
 use Rattle.nm_eager.specs.Streams.{IsStream}
 use Rattle.nm_eager.proofs.MissingLemmas.{missing-carried_on}
-use Rattle.nm_facts.proofs.Options.{some_and}
+use Rattle.nm_types.proofs.OptionLemmas.{some_and}
 
 -- a message of a stream that goes on
 keeps_number : (n : ℕ) (bytes : List ℕ) (m : Incoming) → (with_more_bytes n bytes m).n ≡ m.n

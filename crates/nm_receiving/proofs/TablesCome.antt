@@ -34,8 +34,8 @@ use Rattle.nm_receiving.proofs.Coming.{came, came_here, came_other, newcomer, ta
 use Rattle.nm_receiving.proofs.Lists.{row-other, row-same}
 use Rattle.nm_receiving.proofs.Stood.{Stood}
 use Rattle.nm_receiving.proofs.Tables.{awaited_before, bytes_along, still_cleared, untaken_before}
-use Rattle.nm_facts.proofs.Lists.{get_set_other, get_set_same}
-use Rattle.nm_facts.proofs.Options.{some_and}
+use Rattle.nm_types.proofs.ListLemmas.{get_set_other, get_set_same}
+use Rattle.nm_types.proofs.OptionLemmas.{some_and}
 
 -- the stream of a rank with one message more
 pub record IsLonger (s s' : Stream) (a : Arrival) : Type 0 where

@@ -24,7 +24,7 @@ use Rattle.nm_receiving.specs.Steps.{made_whole, with_whole}
 use Rattle.nm_receiving.proofs.Marking.{marked, marked_here, marked_length, marked_other}
 use Rattle.nm_receiving.proofs.Stood.{Stood}
 use Rattle.nm_receiving.proofs.Tables.{awaited_before}
-use Rattle.nm_facts.proofs.Options.{some_and}
+use Rattle.nm_types.proofs.OptionLemmas.{some_and}
 
 -- the same pairs and posts
 pub record IsLike (h h' : List Event) : Type 0 where

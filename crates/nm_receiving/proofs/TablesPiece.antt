@@ -36,8 +36,8 @@ use Rattle.std.proofs.lemmas.Bool.Decides.{nat_tests}
 use Rattle.nm_rndv.specs.Grants.{expected_in, is_unfinished}
 use Rattle.nm_rndv.proofs.GrantLemmas.{expected_is_open}
 use Rattle.nm_rndv.proofs.StateLemmas.{equal}
-use Rattle.nm_facts.proofs.Options.{some_and}
-use Rattle.nm_facts.proofs.Numbers.{nat_unequal as differs}
+use Rattle.nm_types.proofs.OptionLemmas.{some_and}
+use Rattle.nm_types.proofs.NumberLemmas.{nat_unequal as differs}
 
 -- an open grant has bytes
 open_bytes : (g : Granted) → is_open g ≡ true → (bytes : List ℕ) × (g.bytes ≡ Some bytes) × (length bytes < g.len)

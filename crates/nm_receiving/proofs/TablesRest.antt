@@ -25,8 +25,8 @@ use Rattle.nm_eager.specs.Streams.{Stream, nothing_came}
 use Rattle.nm_receiving.proofs.Grants.{open_still}
 use Rattle.nm_receiving.proofs.Tables.{awaited_before, bytes_along}
 use Rattle.nm_receiving.proofs.TablesMark.{IsLike, like_cleared, like_taken}
-use Rattle.nm_facts.proofs.Lists.{get_set_other, get_set_same}
-use Rattle.nm_facts.proofs.Options.{some_and}
+use Rattle.nm_types.proofs.ListLemmas.{get_set_other, get_set_same}
+use Rattle.nm_types.proofs.OptionLemmas.{some_and}
 
 -- a receive afterwards took the same message, and did not end before unless it ended
 pub record IsLater (was now : Receive) : Type 0 where

@@ -14,8 +14,8 @@ use Rattle.nm_history.specs.Matching.{first_receive, matched_pairs, pair_of}
 use Rattle.nm_history.specs.RankRun.{is_asking}
 use Rattle.nm_history.specs.Sends.{is_ask, message_of}
 use Rattle.nm_history.proofs.MatchingLemmas.{matched_pairs-push, matched_pairs-push_other}
-use Rattle.nm_protocol.specs.Effects.{happenings, whole_if}
-use Rattle.nm_protocol.specs.Rules.{AreRight, IsRightAt}
+use Rattle.nm_history.specs.Effects.{happenings, whole_if}
+use Rattle.nm_history.specs.Rules.{AreRight, IsRightAt}
 use Rattle.nm_eager.specs.Streams.{Stream}
 use Rattle.nm_receiving.specs.declared.receipts.Receipt.{Receipt}
 use Rattle.nm_receiving.specs.declared.receipts.Receive.{Receive}
@@ -32,7 +32,7 @@ use Rattle.nm_receiving.proofs.Keeping.{right-whole}
 use Rattle.std.proofs.lemmas.Bool.{false_from_ne_true}
 use Rattle.std.proofs.lemmas.Option.{slice_get_past}
 use Rattle.std.proofs.Common.{arith}
-use Rattle.nm_facts.proofs.Numbers.{eq_true}
+use Rattle.nm_types.proofs.NumberLemmas.{eq_true}
 
 -- what came of eager messages plays no part
 pub streams_apart : (v : ReceivingView) (streams : List Stream) (h : List Event) → AreReceived v h

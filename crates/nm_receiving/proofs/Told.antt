@@ -6,7 +6,7 @@ use Rattle.std.proofs.lemmas.List.{get_or-set_same}
 use Rattle.nm_types.specs.declared.limits.TheConstants.{MAX_PAYLOAD}
 use Rattle.nm_types.specs.declared.packets.What.{What}
 use Rattle.nm_types.specs.declared.packets.What.TheVariants as what
-use Rattle.nm_protocol.specs.Known.{Known, learned}
+use Rattle.nm_history.specs.Known.{Known, learned}
 use Rattle.nm_eager.specs.Streams.{IsStream, Stream, after, begun, carried_on, continues, is_kept, missing}
 use Rattle.nm_eager.specs.Streams.{nothing_came}
 use Rattle.nm_receiving.specs.Receipts.{ReceivingView, stream_of}

@@ -5,7 +5,7 @@ use Rattle.std.proofs.lemmas.List.Elements.{All-from_recursion}
 use Rattle.nm_history.proofs.OnceLemmas.{find_among}
 use Rattle.nm_eager.specs.Streams.{Incoming, IsStream, IsWholeIn, IsWholeOrLast, Stream, message_of}
 use Rattle.nm_receiving.proofs.Lists.{some_from}
-use Rattle.nm_facts.proofs.Options.{some_and}
+use Rattle.nm_types.proofs.OptionLemmas.{some_and}
 
 -- a message with as many bytes as it has at most is whole
 pub whole_in : (s : Stream) (n : ℕ) → IsStream s → IsSomeAnd (message_of s n) (λ m. m.len ≤ length m.bytes) →

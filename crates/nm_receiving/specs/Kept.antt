@@ -8,7 +8,7 @@ use Rattle.nm_history.specs.declared.events.Event.{Event}
 use Rattle.nm_history.specs.Completion.{is_taken}
 use Rattle.nm_history.specs.Happens.{happened, is_withdraw}
 use Rattle.nm_history.specs.Sends.{is_ask, posts}
-use Rattle.nm_protocol.specs.Rules.{AreRight}
+use Rattle.nm_history.specs.Rules.{AreRight}
 use Rattle.nm_eager.specs.Streams.{Incoming, message_of, missing}
 use Rattle.nm_rndv.specs.Grants.{Granted, grant_in, is_open}
 use Rattle.nm_receiving.specs.declared.receipts.Receipt.{Receipt}

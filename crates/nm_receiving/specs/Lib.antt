@@ -1,5 +1,8 @@
 pub mod Kept
-pub mod Received
+pub mod Made
+pub mod Pieces
 pub mod Receipts
+pub mod Received
 pub mod Seen
 pub mod Steps
+pub mod StreamViews

@@ -12,7 +12,7 @@ use Rattle.nm_history.specs.declared.events.Happened.{Happened}
 use Rattle.nm_history.specs.declared.plain.Pair.{Pair}
 use Rattle.nm_history.specs.Matching.{is_of_message}
 use Rattle.nm_history.specs.Sends.{is_ask}
-use Rattle.nm_protocol.specs.Effects.{whole_if}
+use Rattle.nm_history.specs.Effects.{whole_if}
 use Rattle.nm_match.specs.declared.deeds.Deed.{Deed}
 use Rattle.nm_eager.specs.Streams.{Stream, nothing_came}
 use Rattle.nm_rndv.specs.Grants.{Granted}

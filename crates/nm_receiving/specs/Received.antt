@@ -12,13 +12,13 @@ use Rattle.nm_history.specs.Happens.{happened, is_whole, is_cancel}
 use Rattle.nm_history.specs.Matching.{matched_pairs, is_claimed}
 use Rattle.nm_history.specs.Sends.{arrivals, is_ask, receives, message_of}
 use Rattle.nm_types.specs.declared.packets.Packet.{Packet}
-use Rattle.nm_protocol.specs.Effects.{happenings, packet_events}
-use Rattle.nm_protocol.specs.Known.{Known}
-use Rattle.nm_protocol.specs.Rest.{EmptyAreHere}
-use Rattle.nm_protocol.specs.Rules.{AreRight}
+use Rattle.nm_history.specs.Effects.{happenings, packet_events}
+use Rattle.nm_history.specs.Known.{Known}
+use Rattle.nm_history.specs.Rest.{EmptyAreHere}
+use Rattle.nm_history.specs.Rules.{AreRight}
 use Rattle.nm_match.specs.Deeds.{Stands}
 use Rattle.nm_eager.specs.Streams.{Stream, missing}
-use Rattle.nm_streams.specs.Pieces.{AreDue}
+use Rattle.nm_receiving.specs.Pieces.{AreDue}
 use Rattle.nm_receiving.specs.Receipts.{ReceivingView, receipts_from, receipt_of, granted_to, drawn_from}
 use Rattle.nm_receiving.specs.Receipts.{pair_at, stream_of}
 

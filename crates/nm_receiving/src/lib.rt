@@ -29,6 +29,7 @@ mod bytes;
 pub mod laws;
 mod receipts;
 mod receivings;
+pub mod streams;
 mod telling;
 
 pub use receipts::{Receipt, Receive};

@@ -17,12 +17,12 @@ ghost use Rattle.nm_history.specs.Happens.{happened, is_arrival};
 ghost use Rattle.nm_history.specs.Matching.{first_message, is_claimed as is_claimed_lem};
 ghost use Rattle.nm_history.specs.Matching.{is_free_message, is_of_receive, matched_pairs};
 ghost use Rattle.nm_history.specs.Sends.{message_of};
-ghost use Rattle.nm_protocol.specs.Bytes.{bytes_in, pulled_bytes};
-ghost use Rattle.nm_protocol.specs.Effects.{happenings};
-ghost use Rattle.nm_protocol.specs.Known.{Known, learned};
-ghost use Rattle.nm_protocol.specs.Pieces.{due_pieces, is_due as is_due_lem, piece_makes};
+ghost use Rattle.nm_history.specs.Bytes.{bytes_in, pulled_bytes};
+ghost use Rattle.nm_history.specs.Effects.{happenings};
+ghost use Rattle.nm_history.specs.Known.{Known, learned};
+ghost use Rattle.nm_history.specs.Pieces.{due_pieces, is_due as is_due_lem, piece_makes};
 ghost use Rattle.nm_eager.specs.Streams.{after, continues, is_kept, missing, nothing_came};
-ghost use Rattle.nm_streams.specs.Streams.{is_done_at_once};
+ghost use Rattle.nm_receiving.specs.StreamViews.{is_done_at_once};
 ghost use Rattle.nm_receiving.specs.Receipts.{AddsBytes, SameBytes, SameOtherBytes, ShowsBytes, came_of};
 ghost use Rattle.nm_receiving.specs.Receipts.{drawn_from, of_asked, of_eager, pair_at, receipt_of};
 ghost use Rattle.nm_receiving.specs.Receipts.{receipts_from, stream_of, taken_events};
@@ -37,7 +37,7 @@ use nm_eager::Joiner;
 use nm_history::Happened;
 use nm_match::Matcher;
 use nm_rndv::Grants;
-use nm_streams::pieces;
+use crate::streams::pieces;
 use nm_types::{
     Answer, Arrival, Envelope, How, Memory, Packet, Peer, Piece, Post, Shape, TagPick, What,
 };

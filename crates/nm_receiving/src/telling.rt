@@ -1,7 +1,7 @@
 //! What the packets of a rank tell of its messages, and what came of these.
 
 ghost use Rattle.std.specs.Prelude.{◌≡◌, ◌<◌, ℕ, true, length};
-ghost use Rattle.nm_protocol.specs.Known.{Known, learned};
+ghost use Rattle.nm_history.specs.Known.{Known, learned};
 ghost use Rattle.nm_eager.specs.Joining.{stream_from};
 ghost use Rattle.nm_eager.specs.Streams.{after, continues, is_kept, missing};
 ghost use Rattle.nm_receiving.specs.Received.{IsTold};

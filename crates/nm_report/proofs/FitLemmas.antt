@@ -46,8 +46,8 @@ use Rattle.nm_report.specs.Told.{told_of, told_of_rank}
 use Rattle.nm_report.specs.Totals.{answer_in, answers_in}
 use Rattle.nm_report.proofs.GotLemmas.{ShowsPair, got_shown, low_senders}
 use Rattle.nm_report.proofs.TotalsLemmas.{all_answers}
-use Rattle.nm_facts.proofs.Options.{mapped_some}
-use Rattle.nm_facts.proofs.Truth.{and_left, and_right}
+use Rattle.nm_types.proofs.OptionLemmas.{mapped_some}
+use Rattle.nm_types.proofs.TruthLemmas.{and_left, and_right}
 
 -- the laws of bodies and of pairs
 abbrev pub HaveTheirLength : Type 0

@@ -3,9 +3,13 @@
 #![tactic(auto)]
 
 #[cfg(test)]
+mod cli;
+#[cfg(test)]
 mod eager;
 #[cfg(test)]
 mod ends;
+#[cfg(test)]
+mod fabric;
 #[cfg(test)]
 mod matching;
 #[cfg(test)]
@@ -16,3 +20,5 @@ mod scripts;
 mod strays;
 #[cfg(test)]
 mod values;
+#[cfg(test)]
+mod world;

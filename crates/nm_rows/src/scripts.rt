@@ -1,6 +1,6 @@
 //! Texts of scripts: one that is read and written, and that of a small flood.
 
-use nm_flood::flood_script;
+use nm_script::flood::flood_script;
 use nm_script::{read, write};
 use std::alloc::Global;
 use std::test::Fail;

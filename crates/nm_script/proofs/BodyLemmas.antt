@@ -14,13 +14,13 @@ use Rattle.nm_types.specs.Bodies.{body_len}
 use Rattle.nm_types.specs.Text.{body_word}
 use Rattle.nm_script.specs.declared.faults.Kind.TheVariants as kind
 use Rattle.nm_script.specs.Bodies.{hex_body, hex_of, generated_body, generated_of, body_of}
-use Rattle.nm_words.specs.Decimal.{number_of}
-use Rattle.nm_words.specs.Digits.{is_lower_digit}
-use Rattle.nm_words.proofs.DigitLemmas.{all_lower, bytes_are, bytes_pass, lower_pairs}
+use Rattle.nm_script.specs.Decimal.{number_of}
+use Rattle.nm_script.specs.Digits.{is_lower_digit}
+use Rattle.nm_script.proofs.DigitLemmas.{all_lower, bytes_are, bytes_pass, lower_pairs}
 use Rattle.nm_script.specs.Spelled.{are_bytes}
-use Rattle.nm_words.proofs.NumberLemmas.{number_taken, number_again}
+use Rattle.nm_script.proofs.NumberLemmas.{number_taken, number_again}
 use Rattle.nm_script.proofs.StepLemmas.{guard_ok}
-use Rattle.nm_words.proofs.StepLemmas.{chosen}
+use Rattle.nm_script.proofs.WordsStepLemmas.{chosen}
 
 hex_body_ok : (r : Result (List ℕ) FromHexError) (body : Body) → hex_body r ≡ Ok body
     → (bytes : List ℕ) × (r ≡ Ok bytes) × (Hex bytes ≡ body)

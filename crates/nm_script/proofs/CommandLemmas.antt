@@ -34,12 +34,12 @@ use Rattle.nm_script.specs.Commands.{command_of, line_of}
 use Rattle.nm_script.specs.Keywords.{keyword_text}
 use Rattle.nm_script.specs.Spelled.{are_bytes, has_bytes}
 use Rattle.nm_script.proofs.BodyLemmas.{body_again}
-use Rattle.nm_words.proofs.DigitLemmas.{all_lower, bytes_are}
+use Rattle.nm_script.proofs.DigitLemmas.{all_lower, bytes_are}
 use Rattle.nm_script.proofs.KeywordLemmas.{keyword_again}
-use Rattle.nm_words.proofs.NumberLemmas.{own, number_again}
+use Rattle.nm_script.proofs.NumberLemmas.{own, number_again}
 use Rattle.nm_script.proofs.StepLemmas.{four_parts, five_parts}
-use Rattle.nm_words.proofs.WordLemmas.{is_solid, Solid, decimal_solid, lower_solid}
-use Rattle.nm_facts.proofs.Truth.{three_parts, not_true}
+use Rattle.nm_script.proofs.WordLemmas.{is_solid, Solid, decimal_solid, lower_solid}
+use Rattle.nm_types.proofs.TruthLemmas.{three_parts, not_true}
 
 -- the words of a line
 abbrev pub line_words : ℕ → Command → List (List ℕ)

@@ -29,15 +29,15 @@ use Rattle.nm_script.specs.Commands.{rank_of, argument_of, name_of, peer_of, pic
 use Rattle.nm_script.specs.Commands.{send_with, send_of, recv_with, recv_of, lone_of, probe_of}
 use Rattle.nm_script.specs.Commands.{mprobe_with, mprobe_of, mrecv_with, mrecv_of, arguments_of}
 use Rattle.nm_script.specs.Commands.{command_of, line_of}
-use Rattle.nm_words.specs.Decimal.{number_of}
+use Rattle.nm_script.specs.Decimal.{number_of}
 use Rattle.nm_script.specs.Faults.{◌>>=◌}
 use Rattle.nm_script.specs.Keywords.{keyword_of, keyword_text}
 use Rattle.nm_script.specs.Spelled.{has_bytes}
 use Rattle.nm_script.proofs.BodyLemmas.{body_taken}
 use Rattle.nm_script.proofs.KeywordLemmas.{keyword_taken}
-use Rattle.nm_words.proofs.NumberLemmas.{number_taken}
+use Rattle.nm_script.proofs.NumberLemmas.{number_taken}
 use Rattle.nm_script.proofs.StepLemmas.{guard_ok, found, found_in}
-use Rattle.nm_words.proofs.StepLemmas.{bind_ok, chosen}
+use Rattle.nm_script.proofs.WordsStepLemmas.{bind_ok, chosen}
 use Rattle.nm_script.proofs.StepLemmas.{three_from, four_from, five_from}
 use Rattle.nm_script.proofs.CommandLemmas.{line_words, Fits, keyword_in, arguments_in, words_are}
 

@@ -26,8 +26,8 @@ use Rattle.nm_script.specs.Commands.{rank_of, argument_of, name_of, peer_of, pic
 use Rattle.nm_script.specs.Commands.{send_with, send_of, recv_with, recv_of, lone_of, probe_of}
 use Rattle.nm_script.specs.Commands.{mprobe_with, mprobe_of, mrecv_with, mrecv_of, arguments_of}
 use Rattle.nm_script.specs.Commands.{command_of, line_of}
-use Rattle.nm_words.specs.Digits.{is_lower_digit}
-use Rattle.nm_words.specs.Decimal.{number_of}
+use Rattle.nm_script.specs.Digits.{is_lower_digit}
+use Rattle.nm_script.specs.Decimal.{number_of}
 use Rattle.nm_script.specs.Faults.{◌>>=◌}
 use Rattle.nm_script.specs.Keywords.{keyword_of, keyword_text}
 use Rattle.nm_script.specs.Rules.{HasRank, IsFirstOf, Keeps}
@@ -38,7 +38,7 @@ use Rattle.nm_script.proofs.CommandLemmas.{pick_again, rank_again}
 use Rattle.nm_script.proofs.CommandTakenLemmas.{peer_taken, pick_taken, rank_taken}
 use Rattle.nm_script.proofs.KeywordLemmas.{keyword_taken, keyword_again}
 use Rattle.nm_script.proofs.StepLemmas.{bind_err, err_or, found_in}
-use Rattle.nm_words.proofs.StepLemmas.{bind_ok, chosen}
+use Rattle.nm_script.proofs.WordsStepLemmas.{bind_ok, chosen}
 
 -- ---- words that are refused
 

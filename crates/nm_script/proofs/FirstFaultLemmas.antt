@@ -13,7 +13,7 @@ use Rattle.nm_script.specs.declared.faults.Kind.TheVariants as kind
 use Rattle.nm_script.specs.declared.faults.ScriptFault.{ScriptFault}
 use Rattle.nm_script.specs.declared.faults.ScriptFault.TheVariants as fault
 use Rattle.nm_script.specs.Faults.{at_line, GivesAt}
-use Rattle.nm_words.specs.Lines.{lines_of, text_len, words_of}
+use Rattle.nm_script.specs.Lines.{lines_of, text_len, words_of}
 use Rattle.nm_script.specs.Reading.{ranks_at, line_at, lines_from, script_of, read_of, parts}
 use Rattle.nm_script.specs.Rules.{line_text, ranks_text, IsLine, Keeps, FirstKeeps, first_kinds, line_kinds}
 use Rattle.nm_script.specs.Rules.{IsFirstOf, first_of, IsFaultBehind, IsFaultOf, IsFirstFault, IsFault, IsRefused}
@@ -23,7 +23,7 @@ use Rattle.nm_script.proofs.ReadLemmas.{AllFit, IsLineAt, first_fits, line_at_ag
 use Rattle.nm_script.proofs.ReadLemmas.{ranks_again, ranks_taken, read_again, read_taken}
 use Rattle.nm_script.proofs.RuleLemmas.{line_fault, line_kept, none_first, one_first, ranks_fault, ranks_kept}
 use Rattle.nm_script.proofs.StepLemmas.{at_line_ok, bind_err}
-use Rattle.nm_words.proofs.StepLemmas.{chosen}
+use Rattle.nm_script.proofs.WordsStepLemmas.{chosen}
 
 -- how long the bodies of lines are together
 abbrev sent : List Line → ℕ

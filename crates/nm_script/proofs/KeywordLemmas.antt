@@ -5,7 +5,7 @@ use Rattle.std.proofs.lemmas.Slice.Eq.{bytes_eq-Decides}
 use Rattle.nm_script.specs.declared.keywords.Keyword.{Keyword}
 use Rattle.nm_script.specs.declared.keywords.Keyword.TheVariants as key
 use Rattle.nm_script.specs.Keywords.{keyword_text, keywords, keyword_of}
-use Rattle.nm_facts.proofs.Lists.{find_passes}
+use Rattle.nm_types.proofs.ListLemmas.{find_passes}
 
 -- a name that is taken is the command's
 pub keyword_taken : (word : List ℕ) (k : Keyword) → keyword_of word ≡ Some k → word ≡ keyword_text k

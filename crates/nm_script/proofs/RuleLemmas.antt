@@ -21,10 +21,10 @@ use Rattle.nm_script.specs.declared.faults.Kind.TheVariants as kind
 use Rattle.nm_script.specs.declared.keywords.Keyword.{Keyword}
 use Rattle.nm_script.specs.Arguments.{arguments, Each, IsBodyThere, IsSpelled, IsUpTo}
 use Rattle.nm_script.specs.Commands.{line_of}
-use Rattle.nm_words.specs.Decimal.{number_of}
+use Rattle.nm_script.specs.Decimal.{number_of}
 use Rattle.nm_script.specs.Faults.{◌>>=◌}
 use Rattle.nm_script.specs.Keywords.{keyword_text}
-use Rattle.nm_words.specs.Lines.{is_printable, words_of}
+use Rattle.nm_script.specs.Lines.{is_printable, words_of}
 use Rattle.nm_script.specs.Reading.{positive, ranks_of, ranks_at, fitting, line_at}
 use Rattle.nm_script.specs.Rules.{ranks_text, IsLine, Keeps, FirstKeeps, first_kinds, line_kinds}
 use Rattle.nm_script.specs.Rules.{IsFirstOf, AllKept}
@@ -35,9 +35,9 @@ use Rattle.nm_script.proofs.CommandLemmas.{words_are}
 use Rattle.nm_script.proofs.FaultLemmas.{one_keyword, words_fault}
 use Rattle.nm_script.proofs.ReadLemmas.{first_solid, line_at_taken, ranks_again}
 use Rattle.nm_script.proofs.StepLemmas.{bind_err, four_parts, five_parts}
-use Rattle.nm_words.proofs.StepLemmas.{chosen}
-use Rattle.nm_words.proofs.WordLemmas.{line_is, joined_printable, words_again}
-use Rattle.nm_facts.proofs.Truth.{three_parts}
+use Rattle.nm_script.proofs.WordsStepLemmas.{chosen}
+use Rattle.nm_script.proofs.WordLemmas.{line_is, joined_printable, words_again}
+use Rattle.nm_types.proofs.TruthLemmas.{three_parts}
 
 -- ---- a command's words
 

@@ -5,7 +5,7 @@ use Rattle.std.specs.Option.{ok_or}
 use Rattle.std.proofs.lemmas.Bool.{and_from, and_parts}
 use Rattle.nm_script.specs.declared.faults.Kind.{Kind}
 use Rattle.nm_script.specs.Faults.{◌>>=◌, at_line}
-use Rattle.nm_facts.proofs.Truth.{three_parts}
+use Rattle.nm_types.proofs.TruthLemmas.{three_parts}
 
 -- the first step failed, or the second did
 pub bind_err : {E A B : Type 0} (r : Result A E) (f : A → Result B E) (e : E) → (r >>= f) ≡ Err e

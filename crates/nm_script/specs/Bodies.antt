@@ -9,8 +9,8 @@ use Rattle.nm_types.specs.declared.scripts.Body.{Body}
 use Rattle.nm_types.specs.declared.scripts.Body.TheVariants.{Hex, Gen}
 use Rattle.nm_script.specs.declared.faults.Kind.{Kind}
 use Rattle.nm_script.specs.declared.faults.Kind.TheVariants as kind
-use Rattle.nm_words.specs.Decimal.{number_of}
-use Rattle.nm_words.specs.Digits.{is_lower_digit}
+use Rattle.nm_script.specs.Decimal.{number_of}
+use Rattle.nm_script.specs.Digits.{is_lower_digit}
 
 -- the body of the bytes, if there are any
 abbrev pub hex_body : Result (List ℕ) FromHexError → Result Body Kind

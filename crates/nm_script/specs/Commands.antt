@@ -19,7 +19,7 @@ use Rattle.nm_script.specs.declared.faults.Kind.TheVariants as kind
 use Rattle.nm_script.specs.declared.keywords.Keyword.{Keyword}
 use Rattle.nm_script.specs.declared.keywords.Keyword.TheVariants as key
 use Rattle.nm_script.specs.Bodies.{body_of}
-use Rattle.nm_words.specs.Decimal.{number_of}
+use Rattle.nm_script.specs.Decimal.{number_of}
 use Rattle.nm_script.specs.Faults.{◌>>=◌}
 use Rattle.nm_script.specs.Keywords.{keyword_of}
 

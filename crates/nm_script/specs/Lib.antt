@@ -1,9 +1,15 @@
+pub mod ArgumentWords
 pub mod Arguments
 pub mod Bodies
+pub mod CommandWords
 pub mod Commands
+pub mod Decimal
+pub mod Digits
 pub mod Faults
+pub mod FloodScripts
 pub mod Keywords
 pub mod Lengths
+pub mod Lines
 pub mod Reading
 pub mod Rules
 pub mod Spelled

@@ -9,9 +9,9 @@ use Rattle.nm_types.specs.Limits.{sent_len}
 use Rattle.nm_script.specs.declared.faults.Kind.{Kind}
 use Rattle.nm_script.specs.declared.faults.Kind.TheVariants as kind
 use Rattle.nm_script.specs.Commands.{line_of}
-use Rattle.nm_words.specs.Decimal.{number_of}
+use Rattle.nm_script.specs.Decimal.{number_of}
 use Rattle.nm_script.specs.Faults.{◌>>=◌, at_line}
-use Rattle.nm_words.specs.Lines.{is_printable, lines_of, text_len, words_of}
+use Rattle.nm_script.specs.Lines.{is_printable, lines_of, text_len, words_of}
 
 -- one rank or more
 abbrev pub positive : Option ℕ → Result ℕ Kind

@@ -14,7 +14,7 @@ use Rattle.nm_script.specs.declared.faults.ScriptFault.TheVariants as fault
 use Rattle.nm_script.specs.declared.keywords.Keyword.{Keyword}
 use Rattle.nm_script.specs.Arguments.{arguments, Each, IsBodyThere, IsSpelled}
 use Rattle.nm_script.specs.Keywords.{keyword_text}
-use Rattle.nm_words.specs.Lines.{is_printable, lines_of, text_len, words_of}
+use Rattle.nm_script.specs.Lines.{is_printable, lines_of, text_len, words_of}
 use Rattle.nm_script.specs.Spelled.{has_bytes}
 
 -- the text of a command's line, without its line feed

@@ -11,7 +11,7 @@ use crate::bodies::body_from;
 use crate::faults::{Kind, LineFault};
 use crate::keywords::{Keyword, keyword_from};
 use nm_types::{Command, Line, MAX_CAPACITY, MAX_CONTEXT, MAX_NAME, MAX_TAG, Peer, TagPick};
-use nm_words::number;
+use crate::words::number;
 use std::alloc::Global;
 
 /// Which messages a command is about.

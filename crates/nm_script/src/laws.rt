@@ -6,7 +6,7 @@ ghost use Rattle.nm_types.specs.declared.limits.TheConstants.{MAX_BODIES, MAX_LI
 ghost use Rattle.nm_types.specs.declared.scripts.Line.{Line};
 ghost use Rattle.nm_types.specs.Limits.{IsScript, sent_len};
 ghost use Rattle.nm_types.specs.Text.{script_text};
-ghost use Rattle.nm_words.specs.Lines.{with_feed, words_of};
+ghost use Rattle.nm_script.specs.Lines.{with_feed, words_of};
 ghost use Rattle.nm_script.specs.declared.faults.Kind.{Kind};
 ghost use Rattle.nm_script.specs.Rules.{AllKept, IsFirstFault, IsLine, Keeps, line_kinds};
 ghost use Rattle.nm_script.specs.Spelled.{IsTextOf, has_bytes};

@@ -41,12 +41,15 @@
 #![tactic(auto)]
 
 mod bodies;
+pub mod command_line;
 mod commands;
 mod faults;
+pub mod flood;
 mod keywords;
 pub mod laws;
 mod lengths;
 mod reading;
+pub mod words;
 mod writing;
 
 pub use bodies::body_from;

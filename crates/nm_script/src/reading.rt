@@ -5,7 +5,7 @@ ghost use Rattle.std.specs.Prelude.{IfErr, IfOk, OnOk};
 ghost use Rattle.nm_types.specs.declared.scripts.Line.{Line};
 ghost use Rattle.nm_types.specs.Limits.{sent_len};
 ghost use Rattle.nm_script.specs.Faults.{Gives, GivesAt, at_line};
-ghost use Rattle.nm_words.specs.Lines.{lines_of};
+ghost use Rattle.nm_script.specs.Lines.{lines_of};
 ghost use Rattle.nm_script.specs.Reading.{ranks_of, ranks_at, line_at, lines_from, read_of, parts};
 ghost use Rattle.nm_script.specs.declared.faults.Kind.{Kind};
 ghost use Rattle.nm_script.specs.Rules.{IsFault, IsFirstFault, IsRefused};
@@ -15,7 +15,7 @@ use crate::commands::line_from;
 use crate::faults::{Kind, LineFault, ScriptFault};
 use crate::lengths::is_too_long;
 use nm_types::{Command, Line, Lines, MAX_BODIES, MAX_LINES, MAX_RANKS, Script};
-use nm_words::{is_printable, number, split_line, words};
+use crate::words::{is_printable, number, split_line, words};
 use std::alloc::Global;
 
 /// The number of ranks, by the two words of the first line.

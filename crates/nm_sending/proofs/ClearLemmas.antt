@@ -13,10 +13,10 @@ use Rattle.nm_history.specs.declared.events.Event.{Event}
 use Rattle.nm_history.specs.declared.events.Happened.TheVariants as event
 use Rattle.nm_history.specs.Delivery.{is_asked}
 use Rattle.nm_history.specs.Sends.{sends, is_ask}
-use Rattle.nm_protocol.specs.Clearance.{pushed_out}
-use Rattle.nm_protocol.proofs.Basic.{or_true, refuted}
-use Rattle.nm_protocol.specs.Continues.{has}
-use Rattle.nm_protocol.specs.Effects.{is_empty_send}
+use Rattle.nm_history.specs.Clearance.{pushed_out}
+use Rattle.nm_history.proofs.Basic.{or_true, refuted}
+use Rattle.nm_history.specs.Continues.{has}
+use Rattle.nm_history.specs.Effects.{is_empty_send}
 use Rattle.nm_rndv.specs.Cuts.{start_of}
 use Rattle.nm_rndv.specs.declared.asked.State.{State}
 use Rattle.nm_rndv.specs.declared.asked.State.TheVariants.{Asked, Cleared, Out, Withdrawn}
@@ -42,7 +42,7 @@ use Rattle.nm_sending.proofs.TableLemmas.{tables-change, asked-states, recalls-s
 use Rattle.nm_sending.proofs.TableLemmas.{out-counted}
 use Rattle.nm_sending.proofs.TurnLemmas.{InTurn, numbers-push, has-append}
 use Rattle.nm_sending.proofs.WaitingLemmas.{weight}
-use Rattle.nm_facts.proofs.Numbers.{eq_true, same_number}
+use Rattle.nm_types.proofs.NumberLemmas.{eq_true, same_number}
 
 -- a message that waits for its clearance, and its body
 pub record Asks (v : SendingView) (to n : ℕ) : Type 0 where

@@ -5,7 +5,7 @@ use Rattle.std.specs.Prelude.{replicate}
 use Rattle.std.specs.List.{cons_option, filter_map}
 use Rattle.std.proofs.lemmas.List.{replicate_more}
 use Rattle.std.proofs.lemmas.List.Elements.{filter_map-append}
-use Rattle.nm_outbox.specs.declared.letters.Letter.{Letter}
+use Rattle.nm_sending.specs.declared.outbox.letters.Letter.{Letter}
 use Rattle.nm_sending.specs.Departures.{ends_to}
 use Rattle.nm_sending.specs.Sent.{last_ends}
 

@@ -9,11 +9,11 @@ use Rattle.nm_history.specs.declared.events.Happened.TheVariants.{Out}
 use Rattle.nm_history.specs.Delivery.{is_asked}
 use Rattle.nm_history.specs.Sends.{Sent, sends, sent_of}
 use Rattle.nm_history.proofs.DeliveryLemmas.{sends-push}
-use Rattle.nm_protocol.proofs.Basic.{all_of}
-use Rattle.nm_protocol.proofs.Lasting.{filter_map_same}
-use Rattle.nm_protocol.specs.Clearance.{left_of, pushed_out}
-use Rattle.nm_protocol.specs.Effects.{is_empty_send}
-use Rattle.nm_facts.proofs.Numbers.{same_number}
+use Rattle.nm_history.proofs.Basic.{all_of}
+use Rattle.nm_history.proofs.Lasting.{filter_map_same}
+use Rattle.nm_history.specs.Clearance.{left_of, pushed_out}
+use Rattle.nm_history.specs.Effects.{is_empty_send}
+use Rattle.nm_types.proofs.NumberLemmas.{same_number}
 
 -- an event that is no send
 pub sends-same : (h : List Event) (e : Event) (to : ℕ) → sent_of e.stamp e.what ≡ None

@@ -7,18 +7,18 @@ use Rattle.std.specs.Prelude.{option_and_then}
 use Rattle.std.proofs.Math.ListN.{set}
 use Rattle.nm_history.specs.declared.events.Event.{Event}
 use Rattle.nm_history.specs.Delivery.{is_asked}
-use Rattle.nm_protocol.specs.Effects.{is_empty_send}
+use Rattle.nm_history.specs.Effects.{is_empty_send}
 use Rattle.std.specs.List.{slice_get, cons_option}
 use Rattle.nm_types.specs.declared.messages.How.{How}
 use Rattle.nm_types.specs.declared.messages.How.TheVariants.{Eager, Ask}
 use Rattle.nm_history.specs.declared.events.Happened.TheVariants.{Out}
 use Rattle.nm_history.specs.Sends.{sends, is_ask}
-use Rattle.nm_protocol.proofs.Basic.{self_true, or_false}
-use Rattle.nm_protocol.specs.Continues.{has}
+use Rattle.nm_history.proofs.Basic.{self_true, or_false}
+use Rattle.nm_history.specs.Continues.{has}
 use Rattle.nm_rndv.specs.declared.asked.State.{State}
 use Rattle.nm_rndv.specs.Offers.{state_of, recall_in, destined}
-use Rattle.nm_outbox.specs.declared.letters.Letter.{Letter}
-use Rattle.nm_outbox.specs.Outboxes.{OutboxView}
+use Rattle.nm_sending.specs.declared.outbox.letters.Letter.{Letter}
+use Rattle.nm_sending.specs.Outboxes.{OutboxView}
 use Rattle.nm_sending.specs.declared.departures.Departure.{Departure}
 use Rattle.nm_sending.specs.Departures.{SendingView, row_of, with_departure, departures_to}
 use Rattle.nm_sending.specs.Departures.{departure_of, passes}
@@ -32,7 +32,7 @@ use Rattle.nm_sending.proofs.TableLemmas.{Change, change-row, change-steps, chan
 use Rattle.nm_sending.proofs.TableLemmas.{states-step}
 use Rattle.nm_sending.proofs.TableLemmas.{tables-change, unchanged, or_nothing, is_at, out-counted}
 use Rattle.nm_sending.proofs.WaitingLemmas.{First, waiting_first, weight}
-use Rattle.nm_facts.proofs.Numbers.{same_number}
+use Rattle.nm_types.proofs.NumberLemmas.{same_number}
 
 -- an eager message that waits
 pub waits_eager : (d : Departure) → waits d ≡ true → is_ask d.how ≡ false

@@ -1,23 +1,24 @@
-mod RowLemmas
-mod EndLemmas
-mod MostLemmas
-mod PlaceLemmas
-mod EventLemmas
-pub mod TurnLemmas
-pub mod SentLemmas
-mod OfferLemmas
-mod LeavingLemmas
-mod WaitingLemmas
-mod TableLemmas
-mod FrontLemmas
-mod PieceLemmas
-mod PopLemmas
-mod ClearLemmas
-mod RecallLemmas
-mod UndoLemmas
-pub mod PutLemmas
-mod OtherLemmas
 mod AnswerLemmas
-mod RestLemmas
+mod ClearLemmas
+mod EndLemmas
+mod EventLemmas
+mod FrontLemmas
+mod LeavingLemmas
+pub mod LetterLemmas
 mod MessageLemmas
+mod MostLemmas
+mod OfferLemmas
+mod OtherLemmas
+mod PieceLemmas
+mod PlaceLemmas
+mod PopLemmas
+pub mod PutLemmas
+mod RecallLemmas
+mod RestLemmas
+mod RowLemmas
 mod SendLemmas
+pub mod SentLemmas
+mod TableLemmas
+pub mod TurnLemmas
+mod UndoLemmas
+mod WaitingLemmas

@@ -18,13 +18,13 @@ use Rattle.nm_history.specs.Outgoing.{AreCalled, Called, bare, part_at, eager_pa
 use Rattle.nm_history.specs.Outgoing.{further_packets, packets_by, send_packets}
 use Rattle.nm_history.specs.Sends.{Sent, is_ask}
 use Rattle.nm_eager.specs.Cutting.{Cutting, IsMessageOf, packet_count}
-use Rattle.nm_outbox.specs.Letters.{packets_for}
-use Rattle.nm_outbox.specs.Outboxes.{OutboxView, put_to}
+use Rattle.nm_sending.specs.Letters.{packets_for}
+use Rattle.nm_sending.specs.Outboxes.{OutboxView, put_to}
 use Rattle.nm_sending.specs.Departures.{ends_to}
 use Rattle.nm_sending.specs.Sent.{Puts, PutsFirst, last_ends, only_to}
 use Rattle.nm_sending.proofs.EndLemmas.{ends-append, left_each, left_last}
 use Rattle.nm_sending.proofs.PutLemmas.{for_receiver, ends_receiver, puts-reserved}
-use Rattle.nm_facts.proofs.Numbers.{eq_true, same_number}
+use Rattle.nm_types.proofs.NumberLemmas.{eq_true, same_number}
 use Rattle.nm_types.proofs.BodyLemmas.{bytes_count}
 
 -- how many packets an eager message calls for

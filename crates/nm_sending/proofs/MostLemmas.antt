@@ -6,7 +6,7 @@ use Rattle.std.proofs.Math.Nat.{le-max_left, le-max_right}
 use Rattle.nm_sending.specs.declared.departures.Departure.{Departure}
 use Rattle.nm_sending.specs.Departures.{IsMost, row_of, with_departure}
 use Rattle.nm_sending.proofs.PlaceLemmas.{length-departure_push, length-departure_set}
-use Rattle.nm_facts.proofs.Numbers.{same_number}
+use Rattle.nm_types.proofs.NumberLemmas.{same_number}
 
 module _ (rows : List (List Departure)) (to most : ℕ) (below : to < length rows)
     (is : IsMost rows most) where

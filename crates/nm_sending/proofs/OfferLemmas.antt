@@ -16,7 +16,7 @@ use Rattle.nm_rndv.specs.Offers.{with_step, with_asked, with_recall, with_answer
 use Rattle.nm_rndv.proofs.StateLemmas.{state-set_value, asked-with_step, equal}
 use Rattle.nm_sending.specs.Tables.{allowed}
 use Rattle.nm_sending.proofs.PlaceLemmas.{eq_swap, row-set}
-use Rattle.nm_facts.proofs.Numbers.{same_number}
+use Rattle.nm_types.proofs.NumberLemmas.{same_number}
 
 -- one entry more, where there was none
 pub lookup-push : {X : Type 0} (n q : ℕ) (es : List (ℕ × X)) (x : X) → lookup (nat_eq n) es ≡ None

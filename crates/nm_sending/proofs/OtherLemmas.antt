@@ -9,8 +9,8 @@ use Rattle.nm_history.specs.declared.events.Happened.TheVariants.{Send, Out, Rec
 use Rattle.nm_history.specs.Delivery.{is_asked}
 use Rattle.nm_history.specs.Happens.{happened, is_send, is_out, is_recall, is_undone}
 use Rattle.nm_history.specs.Sends.{Sent, sends, sent_of}
-use Rattle.nm_protocol.proofs.Basic.{or_false}
-use Rattle.nm_protocol.specs.Clearance.{left_of}
+use Rattle.nm_history.proofs.Basic.{or_false}
+use Rattle.nm_history.specs.Clearance.{left_of}
 use Rattle.nm_sending.specs.Departures.{SendingView}
 use Rattle.nm_sending.specs.Sent.{AreSent, is_of_sending}
 use Rattle.nm_sending.proofs.EventLemmas.{sends-same, pushed_out-same}

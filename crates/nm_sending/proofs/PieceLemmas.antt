@@ -9,7 +9,7 @@ use Rattle.std.proofs.lemmas.Map.Entries.{sum_by-set_value}
 use Rattle.nm_types.specs.declared.messages.How.{How}
 use Rattle.nm_types.specs.declared.messages.How.TheVariants.{Eager, Ask}
 use Rattle.nm_history.specs.Sends.{is_ask}
-use Rattle.nm_protocol.specs.Continues.{has}
+use Rattle.nm_history.specs.Continues.{has}
 use Rattle.nm_rndv.specs.Cuts.{Cut}
 use Rattle.nm_rndv.specs.declared.asked.State.{State}
 use Rattle.nm_rndv.specs.declared.asked.State.TheVariants.{Cleared, Out}

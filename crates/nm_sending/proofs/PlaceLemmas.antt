@@ -11,8 +11,8 @@ use Rattle.std.proofs.lemmas.List.{get_or-set_other, get_or_push, length-set, le
 use Rattle.std.proofs.lemmas.Option.{slice_get-get_or, slice_get_past}
 use Rattle.nm_sending.specs.declared.departures.Departure.{Departure}
 use Rattle.nm_sending.specs.Departures.{row_of, with_departure, passes}
-use Rattle.nm_facts.proofs.Numbers.{same_number, differ}
-use Rattle.nm_facts.proofs.Truth.{and_left, and_right}
+use Rattle.nm_types.proofs.NumberLemmas.{same_number, differ}
+use Rattle.nm_types.proofs.TruthLemmas.{and_left, and_right}
 
 pub eq_swap : (x y : ℕ) → (x == y) ≡ (y == x)
 eq_swap x y = grind (arith, nat_tests)

@@ -14,10 +14,10 @@ use Rattle.nm_history.specs.declared.events.Event.{Event}
 use Rattle.nm_history.specs.declared.events.Happened.TheVariants as event
 use Rattle.nm_history.specs.Delivery.{is_asked}
 use Rattle.nm_history.specs.Sends.{sends, is_ask}
-use Rattle.nm_protocol.proofs.Basic.{or_false}
-use Rattle.nm_protocol.specs.Clearance.{pushed_out}
-use Rattle.nm_protocol.specs.Continues.{has}
-use Rattle.nm_protocol.specs.Effects.{is_empty_send}
+use Rattle.nm_history.proofs.Basic.{or_false}
+use Rattle.nm_history.specs.Clearance.{pushed_out}
+use Rattle.nm_history.specs.Continues.{has}
+use Rattle.nm_history.specs.Effects.{is_empty_send}
 use Rattle.nm_rndv.specs.Cuts.{Cut, rest_of}
 use Rattle.nm_rndv.specs.declared.asked.State.{State}
 use Rattle.nm_rndv.specs.declared.asked.State.TheVariants.{Cleared}
@@ -43,8 +43,8 @@ use Rattle.nm_sending.proofs.TableLemmas.{change-none, row_there}
 use Rattle.nm_sending.proofs.TableLemmas.{tables-change, asked-states, recalls-still, unanswered-at, is_at}
 use Rattle.nm_sending.proofs.TableLemmas.{or_nothing, out-counted, unchanged}
 use Rattle.nm_sending.proofs.WaitingLemmas.{weight}
-use Rattle.nm_facts.proofs.Numbers.{same_number}
-use Rattle.nm_facts.proofs.Lists.{find_passes}
+use Rattle.nm_types.proofs.NumberLemmas.{same_number}
+use Rattle.nm_types.proofs.ListLemmas.{find_passes}
 
 -- a message that was sent by asking waits for no packet
 pub asked_waits : (d : Departure) → is_ask d.how ≡ true → waits d ≡ false

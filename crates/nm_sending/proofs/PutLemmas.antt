@@ -15,15 +15,15 @@ use Rattle.nm_history.specs.Outgoing.{AreCalled, Called, IsCalled, eager_packets
 use Rattle.nm_history.specs.Sends.{Sent}
 use Rattle.nm_history.proofs.OutgoingLemmas.{called-append}
 use Rattle.nm_eager.specs.Cutting.{Cutting, IsMessageOf, IsNext, packet_count}
-use Rattle.nm_outbox.specs.declared.letters.Letter.{Letter}
-use Rattle.nm_outbox.specs.Letters.{packets_for}
-use Rattle.nm_outbox.specs.Outboxes.{OutboxView, popped_to, put_to}
-use Rattle.nm_protocol.proofs.Basic.{self_true}
+use Rattle.nm_sending.specs.declared.outbox.letters.Letter.{Letter}
+use Rattle.nm_sending.specs.Letters.{packets_for}
+use Rattle.nm_sending.specs.Outboxes.{OutboxView, popped_to, put_to}
+use Rattle.nm_history.proofs.Basic.{self_true}
 use Rattle.nm_sending.specs.Departures.{ends_to}
 use Rattle.nm_sending.specs.Sent.{Puts, PutsFirst, last_ends}
 use Rattle.nm_sending.proofs.EndLemmas.{last-more}
-use Rattle.nm_facts.proofs.Lists.{all_append}
-use Rattle.nm_outbox.proofs.LetterLemmas.{for-append}
+use Rattle.nm_types.proofs.ListLemmas.{all_append}
+use Rattle.nm_sending.proofs.LetterLemmas.{for-append}
 
 puts-room : (called : ℕ → List Called) (ends : Option ℕ) (stamp spare : ℕ) (old new : OutboxView)
     → Puts called ends stamp (record old { spare = spare }) new → Puts called ends stamp old new

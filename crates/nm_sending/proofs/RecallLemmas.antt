@@ -9,14 +9,14 @@ use Rattle.nm_types.specs.declared.messages.How.{How}
 use Rattle.nm_types.specs.declared.messages.How.TheVariants.{Eager, Ask}
 use Rattle.nm_history.specs.declared.events.Event.{Event}
 use Rattle.nm_history.specs.declared.events.Happened.TheVariants.{Recall}
-use Rattle.nm_protocol.proofs.Basic.{or_false}
-use Rattle.nm_protocol.specs.Continues.{has}
+use Rattle.nm_history.proofs.Basic.{or_false}
+use Rattle.nm_history.specs.Continues.{has}
 use Rattle.nm_rndv.specs.declared.asked.State.{State}
 use Rattle.nm_rndv.specs.declared.asked.State.TheVariants.{Asked, Cleared, Out, Withdrawn}
 use Rattle.nm_rndv.specs.Offers.{Destined, destined, state_of}
 use Rattle.nm_rndv.specs.Offers.{recall_in, is_leaving}
 use Rattle.nm_rndv.specs.Offers.{with_destined, with_recall}
-use Rattle.nm_outbox.specs.Outboxes.{OutboxView}
+use Rattle.nm_sending.specs.Outboxes.{OutboxView}
 use Rattle.nm_sending.specs.declared.departures.Departure.{Departure}
 use Rattle.nm_sending.specs.Departures.{SendingView, with_departure, departure_of, passes}
 use Rattle.nm_sending.specs.Departures.{cleared_to, ends_to}

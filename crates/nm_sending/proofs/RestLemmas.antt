@@ -12,16 +12,16 @@ use Rattle.nm_history.specs.declared.events.Event.{Event}
 use Rattle.nm_history.specs.Delivery.{is_asked}
 use Rattle.nm_history.specs.Happens.{happened, is_out}
 use Rattle.nm_history.specs.Sends.{Sent, sends, sent_of, is_ask}
-use Rattle.nm_protocol.proofs.Basic.{self_true, on_test}
-use Rattle.nm_protocol.proofs.Sent.{NumberedFrom, numbered_at, any_at}
-use Rattle.nm_protocol.specs.Rest.{EagerHaveLeft}
-use Rattle.nm_outbox.specs.declared.letters.Letter.{Letter}
+use Rattle.nm_history.proofs.Basic.{self_true, on_test}
+use Rattle.nm_history.proofs.Sent.{NumberedFrom, numbered_at, any_at}
+use Rattle.nm_history.specs.Rest.{EagerHaveLeft}
+use Rattle.nm_sending.specs.declared.outbox.letters.Letter.{Letter}
 use Rattle.nm_sending.specs.declared.departures.Departure.{Departure}
 use Rattle.nm_sending.specs.Departures.{SendingView, departures_to, departure_of, passes, ends_to}
 use Rattle.nm_sending.specs.Sent.{AreSent}
 use Rattle.nm_sending.specs.Tables.{AreTables, waits}
 use Rattle.nm_sending.proofs.WaitingLemmas.{none_waits}
-use Rattle.nm_facts.proofs.Lists.{get_behind}
+use Rattle.nm_types.proofs.ListLemmas.{get_behind}
 
 -- what holds of each element by its place holds of all
 by_places : {X : Type 0} (P : X → Type 0) (all before xs : List X) → all ≡ before ++ xs

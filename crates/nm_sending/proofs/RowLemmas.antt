@@ -3,7 +3,7 @@ use Rattle.std.proofs.Common.{◌≡◌, ℕ, ◌<◌, List, [], length, map, ge
 use Rattle.std.proofs.Common.{sym, ◌∙◌, ap}
 use Rattle.std.proofs.Math.ListN.{set}
 use Rattle.std.proofs.lemmas.List.{map-set}
-use Rattle.nm_facts.proofs.Rows.{row_at}
+use Rattle.nm_types.proofs.RowLemmas.{row_at}
 
 -- an element of a row is replaced
 pub row-set : {X Z : Type 0} (f : X → List Z) (rows : List X) (i k : ℕ) (row new : X) (z : Z)

@@ -27,17 +27,17 @@ use Rattle.nm_history.specs.Delivery.{is_asked}
 use Rattle.nm_history.specs.Happens.{happened, is_send, is_out, is_recall, is_undone}
 use Rattle.nm_history.specs.Sends.{Sent, sends, is_ask}
 use Rattle.nm_history.proofs.DeliveryLemmas.{sends-push}
-use Rattle.nm_protocol.proofs.Basic.{or_false}
-use Rattle.nm_protocol.specs.Clearance.{left_of, pushed_out}
-use Rattle.nm_protocol.specs.Continues.{has}
-use Rattle.nm_protocol.specs.Effects.{is_empty_send}
-use Rattle.nm_protocol.specs.Rules.{IsRightAt}
+use Rattle.nm_history.proofs.Basic.{or_false}
+use Rattle.nm_history.specs.Clearance.{left_of, pushed_out}
+use Rattle.nm_history.specs.Continues.{has}
+use Rattle.nm_history.specs.Effects.{is_empty_send}
+use Rattle.nm_history.specs.Rules.{IsRightAt}
 use Rattle.nm_rndv.specs.declared.asked.State.{State}
 use Rattle.nm_rndv.specs.declared.asked.State.TheVariants.{Asked}
 use Rattle.nm_rndv.specs.Offers.{Destined, Offering, untold, destined, state_of}
 use Rattle.nm_rndv.specs.Offers.{recall_in, leaves}
 use Rattle.nm_rndv.specs.Offers.{is_leaving, with_asked, with_destined}
-use Rattle.nm_outbox.specs.Outboxes.{OutboxView}
+use Rattle.nm_sending.specs.Outboxes.{OutboxView}
 use Rattle.nm_sending.specs.declared.TheConstants.{MAX_MESSAGES}
 use Rattle.nm_sending.specs.declared.departures.Departure.{Departure}
 use Rattle.nm_sending.specs.Departures.{SendingView, fresh, row_of, departures_to, departure_of}
@@ -54,7 +54,7 @@ use Rattle.nm_sending.proofs.TableLemmas.{is_at, at_place, unchanged, or_nothing
 use Rattle.nm_sending.proofs.TableLemmas.{unanswered-step}
 use Rattle.nm_sending.proofs.TurnLemmas.{InTurn, filter-apart}
 use Rattle.nm_sending.proofs.WaitingLemmas.{waiting-push, staying_in, staying-push}
-use Rattle.nm_facts.proofs.Numbers.{same_number}
+use Rattle.nm_types.proofs.NumberLemmas.{same_number}
 use Rattle.nm_history.proofs.AppendLemmas.{happened-push}
 
 -- one number more

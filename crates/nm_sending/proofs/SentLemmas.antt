@@ -10,9 +10,9 @@ use Rattle.nm_history.specs.declared.events.Happened.TheVariants.{Out, Recall, U
 use Rattle.nm_history.specs.Delivery.{is_asked}
 use Rattle.nm_history.specs.Happens.{happened, is_send, is_out, is_recall, is_undone, is_same}
 use Rattle.nm_history.specs.Sends.{Sent, sent_of, is_ask}
-use Rattle.nm_protocol.proofs.Basic.{or_false}
-use Rattle.nm_protocol.specs.Rules.{IsRightAt}
-use Rattle.nm_outbox.specs.Outboxes.{OutboxView}
+use Rattle.nm_history.proofs.Basic.{or_false}
+use Rattle.nm_history.specs.Rules.{IsRightAt}
+use Rattle.nm_sending.specs.Outboxes.{OutboxView}
 use Rattle.nm_sending.specs.declared.departures.Departure.{Departure}
 use Rattle.nm_sending.specs.Departures.{SendingView, departures_to, departure_of, passes, was_undone}
 use Rattle.nm_sending.specs.Departures.{row_of}

@@ -14,10 +14,10 @@ use Rattle.nm_history.specs.Sends.{is_ask}
 use Rattle.std.proofs.Common.{◌⊎◌, inl, inr}
 use Rattle.std.proofs.lemmas.Bool.{cases_lt}
 use Rattle.std.proofs.lemmas.List.{get_or_past, length-set, set-get_or}
-use Rattle.nm_outbox.specs.Outboxes.{OutboxView}
+use Rattle.nm_sending.specs.Outboxes.{OutboxView}
 use Rattle.std.proofs.lemmas.Option.{slice_get_within, get_or_from_slice_get}
-use Rattle.nm_protocol.proofs.Basic.{or_false}
-use Rattle.nm_protocol.specs.Continues.{has}
+use Rattle.nm_history.proofs.Basic.{or_false}
+use Rattle.nm_history.specs.Continues.{has}
 use Rattle.nm_rndv.specs.declared.asked.State.{State}
 use Rattle.nm_rndv.specs.Offers.{destined, recall_in, state_of}
 use Rattle.nm_sending.specs.declared.TheConstants.{MAX_MESSAGES}
@@ -29,8 +29,8 @@ use Rattle.nm_sending.specs.Tables.{IsOfferBy, IsStateOf}
 use Rattle.nm_sending.specs.Tables.{AreTables, AreApart, IsOffer, allowed, recall_of, waiting_from, waits}
 use Rattle.nm_sending.proofs.PlaceLemmas.{Steps, row-set, departure-set, length-departure_set}
 use Rattle.nm_sending.proofs.WaitingLemmas.{staying_in, weight, staying-set, waiting-set}
-use Rattle.nm_facts.proofs.Numbers.{same_number}
-use Rattle.nm_facts.proofs.Truth.{and_left, and_right}
+use Rattle.nm_types.proofs.NumberLemmas.{same_number}
+use Rattle.nm_types.proofs.TruthLemmas.{and_left, and_right}
 
 -- the place that changes
 abbrev pub is_at : ℕ → ℕ → ℕ → ℕ → Bool

@@ -12,8 +12,8 @@ use Rattle.nm_types.specs.declared.messages.How.TheVariants.{Eager, Ask}
 use Rattle.nm_history.specs.declared.events.Event.{Event}
 use Rattle.nm_history.specs.declared.events.Happened.TheVariants.{Undone}
 use Rattle.nm_history.specs.Happens.{is_same}
-use Rattle.nm_protocol.proofs.Basic.{or_false}
-use Rattle.nm_protocol.specs.Continues.{has}
+use Rattle.nm_history.proofs.Basic.{or_false}
+use Rattle.nm_history.specs.Continues.{has}
 use Rattle.nm_rndv.specs.declared.asked.State.{State}
 use Rattle.nm_rndv.specs.declared.asked.State.TheVariants.{Asked, Cleared, Out, Withdrawn}
 use Rattle.nm_rndv.specs.Offers.{Destined, destined, state_of, state_in}
@@ -36,7 +36,7 @@ use Rattle.nm_sending.proofs.PieceLemmas.{allowed-step}
 use Rattle.nm_sending.proofs.SentLemmas.{at, keeps-one, right-undone, sent-undone}
 use Rattle.nm_sending.proofs.TableLemmas.{Change, change-steps, change-lens, change-waiting, row_there}
 use Rattle.nm_sending.proofs.TableLemmas.{tables-change, states-step, or_nothing, is_at, at_place}
-use Rattle.nm_facts.proofs.Numbers.{same_number}
+use Rattle.nm_types.proofs.NumberLemmas.{same_number}
 
 -- a message that was recalled, and whose recall has no answer
 pub record Recalled (v : SendingView) (to n : ℕ) (done : Bool) : Type 0 where

@@ -1,3 +1,5 @@
 pub mod Departures
+pub mod Letters
+pub mod Outboxes
 pub mod Sent
 pub mod Tables

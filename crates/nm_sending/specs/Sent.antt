@@ -12,13 +12,13 @@ use Rattle.nm_history.specs.Happens.{happened, is_send, is_out, is_recall, is_un
 use Rattle.nm_history.specs.Outgoing.{Called, AreCalled, bare, eager_packets}
 use Rattle.nm_history.specs.Sends.{Sent, sends, is_ask}
 use Rattle.nm_eager.specs.Cutting.{Cutting, IsMessageOf, packet_count}
-use Rattle.nm_protocol.specs.Clearance.{pushed_out}
-use Rattle.nm_protocol.specs.Continues.{has}
-use Rattle.nm_protocol.specs.Effects.{is_empty_send, happenings}
-use Rattle.nm_protocol.specs.Rules.{AreRight}
-use Rattle.nm_outbox.specs.declared.letters.Letter.{Letter}
-use Rattle.nm_outbox.specs.Letters.{packets_for}
-use Rattle.nm_outbox.specs.Outboxes.{OutboxView, put_to}
+use Rattle.nm_history.specs.Clearance.{pushed_out}
+use Rattle.nm_history.specs.Continues.{has}
+use Rattle.nm_history.specs.Effects.{is_empty_send, happenings}
+use Rattle.nm_history.specs.Rules.{AreRight}
+use Rattle.nm_sending.specs.declared.outbox.letters.Letter.{Letter}
+use Rattle.nm_sending.specs.Letters.{packets_for}
+use Rattle.nm_sending.specs.Outboxes.{OutboxView, put_to}
 use Rattle.nm_sending.specs.Departures.{SendingView, departures_to, departure_of, passes, was_undone}
 use Rattle.nm_sending.specs.Departures.{cleared_to, leaving_to}
 

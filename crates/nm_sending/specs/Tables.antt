@@ -8,7 +8,7 @@ use Rattle.nm_types.specs.declared.limits.TheConstants.{MAX_BODY, MAX_PIECE}
 use Rattle.nm_types.specs.declared.messages.How.{How}
 use Rattle.nm_types.specs.declared.messages.How.TheVariants.{Eager, Ask}
 use Rattle.nm_history.specs.Sends.{is_ask}
-use Rattle.nm_protocol.specs.Continues.{has}
+use Rattle.nm_history.specs.Continues.{has}
 use Rattle.nm_rndv.specs.declared.asked.State.{State}
 use Rattle.nm_rndv.specs.declared.asked.State.TheVariants.{Asked, Cleared, Out, Withdrawn}
 use Rattle.nm_rndv.specs.Offers.{Destined, destined, recall_in, state_of}

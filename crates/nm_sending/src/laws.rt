@@ -3,7 +3,7 @@
 ghost use Rattle.std.specs.Prelude.{◌≡◌, ◌^◌, ℕ, false, List, ◌++◌};
 ghost use Rattle.std.specs.List.{AllByRecursion};
 ghost use Rattle.nm_history.specs.declared.events.Event.{Event};
-ghost use Rattle.nm_outbox.specs.Outboxes.{OutboxView};
+ghost use Rattle.nm_sending.specs.Outboxes.{OutboxView};
 ghost use Rattle.nm_sending.specs.declared.TheConstants.{MAX_MESSAGES};
 ghost use Rattle.nm_sending.specs.Departures.{SendingView};
 ghost use Rattle.nm_sending.specs.Sent.{AreSent, is_of_sending};

@@ -29,12 +29,13 @@
 
 mod departures;
 pub mod laws;
+pub mod outbox;
 mod putting;
 mod sendings;
 mod tables;
 
 pub use departures::Departure;
-pub use nm_outbox::Letter;
+pub use crate::outbox::Letter;
 pub use sendings::Sending;
 
 /// How many messages a rank sends to another at most.

@@ -11,12 +11,12 @@ ghost use Rattle.nm_history.specs.Outgoing.{further_packets, packets_by};
 ghost use Rattle.nm_history.specs.Sends.{is_ask};
 ghost use Rattle.nm_eager.specs.Cutting.{packet_count};
 ghost use Rattle.nm_rndv.specs.Offers.{destined, state_of, with_asked, with_destined};
-ghost use Rattle.nm_outbox.specs.Outboxes.{put_to};
+ghost use Rattle.nm_sending.specs.Outboxes.{put_to};
 ghost use Rattle.nm_sending.specs.Departures.{ends_to};
 ghost use Rattle.nm_sending.specs.Sent.{Puts, PutsFirst, only_to};
 
 use nm_eager::Cutter;
-use nm_outbox::{Letter, Outbox};
+use crate::outbox::{Letter, Outbox};
 use nm_rndv::Offers;
 use nm_types::{Body, How, MAX_PAYLOAD, Memory, What};
 

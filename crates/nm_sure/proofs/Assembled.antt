@@ -25,10 +25,10 @@ use Rattle.nm_sure.proofs.Floor.{floor}
 use Rattle.nm_sure.proofs.Fuel.{at_start, ended}
 use Rattle.nm_sure.proofs.Reached.{plain_from}
 use Rattle.nm_sure.proofs.Worlds.{IsWithin, PlainRun, line_place}
-use Rattle.nm_facts.proofs.Lists.{get_some}
-use Rattle.nm_facts.proofs.Numbers.{same_number}
-use Rattle.nm_facts.proofs.Options.{if_some, no_some, same_some}
-use Rattle.nm_facts.proofs.Truth.{second_of_five as second, and_left, and_right}
+use Rattle.nm_types.proofs.ListLemmas.{get_some}
+use Rattle.nm_types.proofs.NumberLemmas.{same_number}
+use Rattle.nm_types.proofs.OptionLemmas.{if_some, no_some, same_some}
+use Rattle.nm_types.proofs.TruthLemmas.{second_of_five as second, and_left, and_right}
 
 -- the law of a rank's commands, and that of a run without events
 abbrev pub StandAtLines : Type 0

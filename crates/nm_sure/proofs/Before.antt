@@ -14,9 +14,9 @@ use Rattle.nm_types.specs.Commands.{Numbered, commands_from, commands_of}
 use Rattle.nm_sure.specs.declared.names.Name as key
 use Rattle.nm_sure.specs.Held.{before, held_at, held_for, held_in, name_by, name_of, own_lines, same_name}
 use Rattle.nm_sure.specs.Names.{holder, holder_by}
-use Rattle.nm_facts.proofs.Numbers.{same_number}
-use Rattle.nm_facts.proofs.Options.{no_some}
-use Rattle.nm_facts.proofs.Lists.{take_more}
+use Rattle.nm_types.proofs.NumberLemmas.{same_number}
+use Rattle.nm_types.proofs.OptionLemmas.{no_some}
+use Rattle.nm_types.proofs.ListLemmas.{take_more}
 
 -- so many stand before a place that is taken
 pub taken_before : {X : Type 0} (xs : List X) (k : ℕ) (x : X) → slice_get xs k ≡ Some x → length (take k xs) ≡ k

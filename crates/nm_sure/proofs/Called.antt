@@ -36,9 +36,9 @@ use Rattle.nm_sure.proofs.Fitting.{Fits}
 use Rattle.nm_sure.proofs.Gathered.{receives_it}
 use Rattle.nm_sure.proofs.Gathered.{sends_it}
 use Rattle.nm_sure.proofs.Lists.{kept_from, place_behind}
-use Rattle.nm_facts.proofs.Lists.{all_split}
-use Rattle.nm_facts.proofs.Numbers.{same_number}
-use Rattle.nm_facts.proofs.Options.{no_some, same_some}
+use Rattle.nm_types.proofs.ListLemmas.{all_split}
+use Rattle.nm_types.proofs.NumberLemmas.{same_number}
+use Rattle.nm_types.proofs.OptionLemmas.{no_some, same_some}
 use Rattle.nm_history.proofs.EachLemmas.{after_prefix}
 
 -- the tests of the channel's receives and of its sends

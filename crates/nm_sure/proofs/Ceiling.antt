@@ -55,8 +55,8 @@ use Rattle.nm_sure.proofs.Made.{sends_told_by_lines}
 use Rattle.nm_sure.proofs.Reached.{receives_kept, sends_kept}
 use Rattle.nm_sure.proofs.Worlds.{PlainRun, Seen, answers_counted, fits, fits_early}
 use Rattle.nm_sure.proofs.Worlds.{plain_events, plain_lines, seen}
-use Rattle.nm_facts.proofs.Lists.{get_some, get_map, place_below}
-use Rattle.nm_facts.proofs.Options.{same_some}
+use Rattle.nm_types.proofs.ListLemmas.{get_some, get_map, place_below}
+use Rattle.nm_types.proofs.OptionLemmas.{same_some}
 use Rattle.nm_history.proofs.AppendLemmas.{arrivals-append, sends-append}
 use Rattle.nm_sure.proofs.Called.{front_numbers, front_plain, is_posting, partner, result_complete, same_command}
 use Rattle.nm_sure.proofs.Called.{sent_for}

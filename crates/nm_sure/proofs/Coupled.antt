@@ -24,10 +24,10 @@ use Rattle.nm_match.proofs.InTurnLemmas.{paired_in_turn, selects_these}
 use Rattle.nm_sure.proofs.Lists.{any_at, at_any, at_found, found_at, kept_at, kept_from}
 use Rattle.nm_sure.proofs.Lists.{paired_at, paired_from}
 use Rattle.nm_sure.proofs.Numbering.{arrivals_numbered, posts_numbered}
-use Rattle.nm_facts.proofs.Numbers.{same_number}
-use Rattle.nm_facts.proofs.Options.{no_some, same_some}
-use Rattle.nm_facts.proofs.Lists.{get_from_map, all_at}
-use Rattle.nm_facts.proofs.Truth.{and_left, and_right}
+use Rattle.nm_types.proofs.NumberLemmas.{same_number}
+use Rattle.nm_types.proofs.OptionLemmas.{no_some, same_some}
+use Rattle.nm_types.proofs.ListLemmas.{get_from_map, all_at}
+use Rattle.nm_types.proofs.TruthLemmas.{and_left, and_right}
 
 -- the receives of a channel, and its messages
 abbrev pub channel_posts : List Event → ℕ → ℕ → ℕ → List post.Post

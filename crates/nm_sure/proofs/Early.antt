@@ -52,10 +52,10 @@ use Rattle.nm_sure.proofs.Reached.{reached, receives_kept, sends_kept}
 use Rattle.nm_sure.proofs.Rising.{commands_rise, front_run, position_at}
 use Rattle.nm_sure.proofs.Worlds.{PlainRun, fits, fits_early, no_cancel, no_recall, on_true}
 use Rattle.nm_sure.proofs.Worlds.{plain_events, seen}
-use Rattle.nm_facts.proofs.Lists.{get_some, get_before, get_from_map, place_below}
-use Rattle.nm_facts.proofs.Numbers.{same_number}
-use Rattle.nm_facts.proofs.Options.{same_some}
-use Rattle.nm_facts.proofs.Truth.{and_left, and_right}
+use Rattle.nm_types.proofs.ListLemmas.{get_some, get_before, get_from_map, place_below}
+use Rattle.nm_types.proofs.NumberLemmas.{same_number}
+use Rattle.nm_types.proofs.OptionLemmas.{same_some}
+use Rattle.nm_types.proofs.TruthLemmas.{and_left, and_right}
 use Rattle.nm_history.proofs.AppendLemmas.{arrivals-append, sends-append}
 use Rattle.nm_sure.proofs.Called.{called_for, early_all, front_numbers, front_plain, has_message, partner}
 use Rattle.nm_sure.proofs.Called.{received_complete, send_in, sent_complete, sent_for, split_any}

@@ -20,7 +20,7 @@ use Rattle.nm_history.specs.RankRun.{cancels_since, claims_since, starts_since, 
 use Rattle.nm_history.specs.RankRun.{is_cancelling, is_matched_probe, is_start, line_of_claim, start_of, without_number}
 use Rattle.nm_history.proofs.RankRunLemmas.{since-push}
 use Rattle.nm_sure.specs.Plain.{is_plain}
-use Rattle.nm_facts.proofs.Lists.{all_split}
+use Rattle.nm_types.proofs.ListLemmas.{all_split}
 
 -- a command of a line calls for this start
 pub record Calls (eager : ℕ) (commands : List Numbered) (line : ℕ) (w : Happened) : Type 0 where

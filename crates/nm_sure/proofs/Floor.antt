@@ -54,9 +54,9 @@ use Rattle.nm_sure.proofs.Numbering.{arrivals_numbered, sends_numbered}
 use Rattle.nm_sure.proofs.Reached.{plain_at, receives_kept, sends_kept, told_whole}
 use Rattle.nm_sure.proofs.Rising.{Rising, commands_rise, front_run, position_at, run_front}
 use Rattle.nm_sure.proofs.Worlds.{PlainRun, Seen, answers_counted, fits, no_recall, on_true, plain_events, seen}
-use Rattle.nm_facts.proofs.Lists.{get_some, get_map, find_passes, get_from_map, all_at, place_below}
-use Rattle.nm_facts.proofs.Options.{same_some}
-use Rattle.nm_facts.proofs.Truth.{and_left, and_right}
+use Rattle.nm_types.proofs.ListLemmas.{get_some, get_map, find_passes, get_from_map, all_at, place_below}
+use Rattle.nm_types.proofs.OptionLemmas.{same_some}
+use Rattle.nm_types.proofs.TruthLemmas.{and_left, and_right}
 
 -- what is among the first is among more
 any_more : {X : Type 0} (test : X → Bool) (n m : ℕ) (xs : List X) → n ≤ m → list_any test (take n xs) ≡ true →

@@ -12,7 +12,7 @@ use Rattle.nm_history.specs.Delivery.{ArriveInOrder, earlier_than}
 use Rattle.nm_history.specs.Sends.{Arrived, Sent, arrivals, arrived_of, envelope, sends, sent_of}
 use Rattle.nm_sure.proofs.Carried.{came_in, same_channel, sent_in}
 use Rattle.nm_sure.proofs.Made.{channel_sends}
-use Rattle.nm_facts.proofs.Options.{no_some, same_some}
+use Rattle.nm_types.proofs.OptionLemmas.{no_some, same_some}
 
 -- a send of the channel
 abbrev pub goes_in : ℕ → ℕ → Sent → Bool

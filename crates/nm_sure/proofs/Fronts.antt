@@ -35,7 +35,7 @@ use Rattle.nm_sure.specs.Placed.{Placed, at_place, placed_at, placed_from, place
 use Rattle.nm_sure.specs.Plain.{is_plain}
 use Rattle.nm_sure.proofs.Named.{IsNamed, is_live, names_told, request_lasts, started_fact}
 use Rattle.nm_sure.proofs.PlacedLemmas.{IsPlacedSo, placed-answer, placed-push}
-use Rattle.nm_facts.proofs.Numbers.{same_number}
+use Rattle.nm_types.proofs.NumberLemmas.{same_number}
 use Rattle.nm_history.proofs.RankRunLemmas.{no_answer}
 
 -- something of these asks for the request of a line

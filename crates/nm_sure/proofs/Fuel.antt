@@ -12,9 +12,9 @@ use Rattle.nm_types.specs.Commands.{Numbered, commands_from, commands_of}
 use Rattle.nm_sure.specs.Plain.{at_of, can_run, goes_on, next_of, next_rank, plain_after, with_one_more}
 use Rattle.nm_sure.proofs.Floor.{more_at}
 use Rattle.nm_sure.proofs.Lists.{found_at}
-use Rattle.nm_facts.proofs.Numbers.{same_number}
-use Rattle.nm_facts.proofs.Options.{no_some, same_some}
-use Rattle.nm_facts.proofs.Lists.{place_below}
+use Rattle.nm_types.proofs.NumberLemmas.{same_number}
+use Rattle.nm_types.proofs.OptionLemmas.{no_some, same_some}
+use Rattle.nm_types.proofs.ListLemmas.{place_below}
 
 -- the sum over some ranks, from the last one on
 abbrev pub sum_over : (ℕ → ℕ) → List ℕ → ℕ

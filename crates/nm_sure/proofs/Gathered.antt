@@ -17,7 +17,7 @@ use Rattle.nm_sure.specs.Names.{is_taken, started_after}
 use Rattle.nm_sure.specs.Placed.{Placed, at_place, placed, placed_at, placed_from, start_entry}
 use Rattle.nm_sure.specs.Plain.{is_plain}
 use Rattle.nm_sure.proofs.PlacedLemmas.{IsPlacedSo}
-use Rattle.nm_facts.proofs.Truth.{and_left, and_right}
+use Rattle.nm_types.proofs.TruthLemmas.{and_left, and_right}
 
 -- the line, if the test passes
 abbrev pub if_some : Bool → ℕ → Option ℕ

@@ -9,8 +9,8 @@ use Rattle.nm_types.specs.declared.messages.Post as post
 use Rattle.nm_history.specs.declared.plain.Pair.{Pair}
 use Rattle.nm_history.specs.Matching.{pair_of}
 use Rattle.nm_match.specs.InTurn.{paired}
-use Rattle.nm_facts.proofs.Options.{no_some, same_some}
-use Rattle.nm_facts.proofs.Truth.{and_left, and_right}
+use Rattle.nm_types.proofs.OptionLemmas.{no_some, same_some}
+use Rattle.nm_types.proofs.TruthLemmas.{and_left, and_right}
 
 pub of_some_and : {X : Type 0} (P : X → Type 0) (o : Option X) (x : X) → o ≡ Some x → IsSomeAnd o P → P x
 of_some_and P None x same holds = absurd holds

@@ -17,8 +17,8 @@ use Rattle.nm_match.specs.InTurn.{is_for}
 use Rattle.nm_sure.proofs.Coupled.{channel_posts}
 use Rattle.nm_sure.proofs.Fitting.{EachFits, Fits}
 use Rattle.nm_sure.proofs.Gathered.{if_some, post_line, send_line}
-use Rattle.nm_facts.proofs.Numbers.{same_number}
-use Rattle.nm_facts.proofs.Options.{no_some}
+use Rattle.nm_types.proofs.NumberLemmas.{same_number}
+use Rattle.nm_types.proofs.OptionLemmas.{no_some}
 
 -- the lines of a channel's receives, and of its sends
 abbrev pub post_lines : List Event → ℕ → ℕ → ℕ → List ℕ

@@ -21,7 +21,7 @@ use Rattle.std.proofs.Math.Bool.{and-true}
 use Rattle.nm_history.proofs.AnswerLemmas.{line-push}
 use Rattle.nm_sure.specs.Names.{holder, holder_by}
 use Rattle.nm_sure.specs.Plain.{is_plain}
-use Rattle.nm_facts.proofs.Numbers.{same_number}
+use Rattle.nm_types.proofs.NumberLemmas.{same_number}
 use Rattle.nm_history.proofs.ResultLemmas.{result_is_result, bytes_no_matter}
 
 -- a request that was made stays made

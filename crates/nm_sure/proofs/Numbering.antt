@@ -14,8 +14,8 @@ use Rattle.nm_history.specs.Sends.{Arrived, Sent, arrivals, arrived_of, posts, r
 use Rattle.nm_history.proofs.OnceLemmas.{arrivals-push, posts-push, receives-push}
 use Rattle.nm_match.specs.InTurn.{ArePlainEvents, is_plain_event}
 use Rattle.nm_sure.proofs.Lists.{AreNumbered, numbered-push}
-use Rattle.nm_facts.proofs.Numbers.{same_number}
-use Rattle.nm_facts.proofs.Options.{no_some}
+use Rattle.nm_types.proofs.NumberLemmas.{same_number}
+use Rattle.nm_types.proofs.OptionLemmas.{no_some}
 
 none_numbered : {X : Type 0} (number : X → ℕ) → AreNumbered number []
 none_numbered number k x here = absurd (no_some x here)

@@ -17,8 +17,8 @@ use Rattle.nm_sure.specs.Ways.{place_for, place_in}
 use Rattle.nm_sure.specs.Ways.{receive_lines, receive_way, send_lines, send_way}
 use Rattle.nm_sure.proofs.Fuel.{in_range}
 use Rattle.nm_sure.proofs.Wayside.{receives_more, sends_more}
-use Rattle.nm_facts.proofs.Lists.{get_map}
-use Rattle.nm_facts.proofs.Options.{same_some}
+use Rattle.nm_types.proofs.ListLemmas.{get_map}
+use Rattle.nm_types.proofs.OptionLemmas.{same_some}
 
 -- what stands at a place of a list that a function gives
 pub given_at : {X : Type 0} (f : ℕ → X) (n k : ℕ) (xs : List X) → xs ≡ map f (range_with_len 0 n) → k < n →

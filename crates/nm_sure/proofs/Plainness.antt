@@ -4,7 +4,7 @@ use Rattle.std.proofs.Common.{refl, sym, ◌∙◌, ap, arith}
 use Rattle.std.specs.Prelude.{suc}
 use Rattle.std.specs.List.{list_all, position, position_or_len}
 use Rattle.std.proofs.lemmas.Bool.Decides.{nat_tests}
-use Rattle.nm_facts.proofs.Options.{no_some}
+use Rattle.nm_types.proofs.OptionLemmas.{no_some}
 
 -- the first place that fails is past the end just where none fails
 fails_below : {X : Type 0} (p : X → Bool) (xs : List X) → ltb (position_or_len (λ x. not (p x)) xs) (length xs) ≡ not

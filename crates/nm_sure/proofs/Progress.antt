@@ -19,7 +19,7 @@ use Rattle.nm_sure.specs.Plain.{is_plain}
 use Rattle.nm_sure.proofs.Fronts.{AreAtLines, Stood, answered, is_taken_by, no_start, start_any, started_so}
 use Rattle.nm_sure.proofs.Fronts.{stood_other}
 use Rattle.nm_sure.proofs.PlacedLemmas.{starts_grow}
-use Rattle.nm_facts.proofs.Lists.{front_empty}
+use Rattle.nm_types.proofs.ListLemmas.{front_empty}
 
 -- nothing, or one thing
 abbrev AtMostOne : List Happened → Type 0

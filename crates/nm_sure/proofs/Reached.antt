@@ -25,8 +25,8 @@ use Rattle.nm_sure.proofs.Fronts.{Stood}
 use Rattle.nm_sure.proofs.Gathered.{ReadsCommands, ReadsStarts, channel_lines, receives_it, sends_it}
 use Rattle.nm_sure.proofs.Progress.{IsUnderWay}
 use Rattle.nm_sure.proofs.Rising.{starts_split}
-use Rattle.nm_facts.proofs.Options.{no_some, same_some}
-use Rattle.nm_facts.proofs.Truth.{and_left, and_right}
+use Rattle.nm_types.proofs.OptionLemmas.{no_some, same_some}
+use Rattle.nm_types.proofs.TruthLemmas.{and_left, and_right}
 
 -- each of these commands is plain
 abbrev pub ArePlainCommands : List Numbered → Type 0

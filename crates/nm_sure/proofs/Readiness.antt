@@ -28,9 +28,9 @@ use Rattle.nm_sure.proofs.Lists.{kept_from, place_behind}
 use Rattle.nm_sure.proofs.Rising.{commands_rise, position_at, started_from, starts_split}
 use Rattle.nm_sure.proofs.Standing.{OwnFrom, before_split, own_at}
 use Rattle.nm_sure.proofs.Wayside.{receives_more, same_way_self, sends_more}
-use Rattle.nm_facts.proofs.Truth.{or_left}
-use Rattle.nm_facts.proofs.Lists.{get_before, get_from_map}
-use Rattle.nm_facts.proofs.Options.{no_some, same_some}
+use Rattle.nm_types.proofs.TruthLemmas.{or_left}
+use Rattle.nm_types.proofs.ListLemmas.{get_before, get_from_map}
+use Rattle.nm_types.proofs.OptionLemmas.{no_some, same_some}
 
 -- the starts of a rank that pass a test
 abbrev pub passing : (Numbered → Bool) → List Numbered → List Numbered

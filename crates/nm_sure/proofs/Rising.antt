@@ -10,9 +10,9 @@ use Rattle.nm_types.specs.Commands.{Numbered, commands_from, commands_of}
 use Rattle.nm_history.proofs.OnceLemmas.{eqb_self}
 use Rattle.nm_sure.specs.Names.{is_taken, started, started_after}
 use Rattle.nm_sure.proofs.Lists.{any_at, at_any, kept_from, place_behind, place_split}
-use Rattle.nm_facts.proofs.Numbers.{same_number, eq_later}
-use Rattle.nm_facts.proofs.Lists.{get_before, place_below}
-use Rattle.nm_facts.proofs.Options.{no_some, same_some}
+use Rattle.nm_types.proofs.NumberLemmas.{same_number, eq_later}
+use Rattle.nm_types.proofs.ListLemmas.{get_before, place_below}
+use Rattle.nm_types.proofs.OptionLemmas.{no_some, same_some}
 
 -- each line is at least this number, and greater than the one before
 abbrev pub Rising : ℕ → List Numbered → Type 0

@@ -31,9 +31,9 @@ use Rattle.nm_sure.proofs.Lists.{passes_at}
 use Rattle.nm_sure.proofs.Partnered.{given_at, given_read}
 use Rattle.nm_sure.proofs.Readiness.{lines_in, partner_stands, passing, sends, takes}
 use Rattle.nm_sure.proofs.Standing.{OwnFrom, held_start, own_at}
-use Rattle.nm_facts.proofs.Lists.{get_map, get_from_map, place_below}
-use Rattle.nm_facts.proofs.Options.{no_some, same_some}
-use Rattle.nm_facts.proofs.Truth.{and_right}
+use Rattle.nm_types.proofs.ListLemmas.{get_map, get_from_map, place_below}
+use Rattle.nm_types.proofs.OptionLemmas.{no_some, same_some}
+use Rattle.nm_types.proofs.TruthLemmas.{and_right}
 
 -- what `get` of a slice gives
 pub got_at : {X : Type 0} (xs : List X) (n : ℕ) (o : Option (Bor X)) → is_some o ≡ ltb n (length xs) →

@@ -23,7 +23,7 @@ use Rattle.nm_history.specs.Sends.{Sent, sends, sent_bytes}
 use Rattle.nm_sure.proofs.Fitting.{EachFits, Fits}
 use Rattle.nm_sure.proofs.Floor.{is_sending}
 use Rattle.nm_sure.proofs.Worlds.{fits}
-use Rattle.nm_facts.proofs.Options.{no_some, same_some}
+use Rattle.nm_types.proofs.OptionLemmas.{no_some, same_some}
 
 -- the law of bodies: their length is the number of their bytes
 abbrev pub HaveTheirLength : Type 0

@@ -59,8 +59,8 @@ use Rattle.nm_sure.proofs.Reached.{receives_kept, sends_kept}
 use Rattle.nm_sure.proofs.Rising.{front_run, started_from}
 use Rattle.nm_sure.proofs.Worlds.{PlainRun, answers_counted, fits, lined, no_cancel, no_undone, on_true, plain_events}
 use Rattle.nm_sure.proofs.Worlds.{seen}
-use Rattle.nm_facts.proofs.Lists.{get_map, all_split, get_before, get_from_map, place_below}
-use Rattle.nm_facts.proofs.Options.{if_some, no_some, same_some}
+use Rattle.nm_types.proofs.ListLemmas.{get_map, all_split, get_before, get_from_map, place_below}
+use Rattle.nm_types.proofs.OptionLemmas.{if_some, no_some, same_some}
 use Rattle.nm_history.proofs.AppendLemmas.{arrivals-append}
 use Rattle.nm_sure.proofs.Shown.{HaveTheirLength, sent_fits, length_sent, cap_called, answer_shown, plain_as_it_is}
 

@@ -16,9 +16,9 @@ use Rattle.nm_sure.specs.Names.{holder, holder_by, is_taken, started_name}
 use Rattle.nm_sure.specs.Planned.{IsStart}
 use Rattle.nm_sure.proofs.Before.{held_here, numbered}
 use Rattle.nm_sure.proofs.Fronts.{held_after}
-use Rattle.nm_facts.proofs.Numbers.{same_number}
-use Rattle.nm_facts.proofs.Lists.{get_before, place_below}
-use Rattle.nm_facts.proofs.Options.{no_some, same_some}
+use Rattle.nm_types.proofs.NumberLemmas.{same_number}
+use Rattle.nm_types.proofs.ListLemmas.{get_before, place_below}
+use Rattle.nm_types.proofs.OptionLemmas.{no_some, same_some}
 
 -- the command at a place of a rank stands at a line of the script, and those before it at lines before
 pub record OwnFrom (lines : List Line) (rank number n : ℕ) (c : Numbered) : Type 0 where

@@ -21,9 +21,9 @@ use Rattle.nm_sure.proofs.Assembled.{from_line}
 use Rattle.nm_sure.proofs.Floor.{more_at}
 use Rattle.nm_sure.proofs.Fuel.{at_start, end_length, next_in}
 use Rattle.nm_sure.proofs.Standing.{OwnFrom, own_at}
-use Rattle.nm_facts.proofs.Numbers.{same_number}
-use Rattle.nm_facts.proofs.Options.{no_some, same_some}
-use Rattle.nm_facts.proofs.Lists.{take_more, place_below}
+use Rattle.nm_types.proofs.NumberLemmas.{same_number}
+use Rattle.nm_types.proofs.OptionLemmas.{no_some, same_some}
+use Rattle.nm_types.proofs.ListLemmas.{take_more, place_below}
 
 -- a place that was set, and the others
 set_here : {X : Type 0} (xs : List X) (i : ℕ) (v : X) → i < length xs → slice_get (slice_set xs i v) i ≡ Some v

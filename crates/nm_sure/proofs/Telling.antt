@@ -44,8 +44,8 @@ use Rattle.nm_sure.proofs.Before.{held_here}
 use Rattle.nm_sure.proofs.Readiness.{NumberOf, StandAtPlaces, partner_of_receive, partner_stands, sends}
 use Rattle.nm_sure.proofs.Running.{line_number, names_of, same_command}
 use Rattle.nm_sure.proofs.Standing.{own_at}
-use Rattle.nm_facts.proofs.Lists.{get_some, get_map, take_more}
-use Rattle.nm_facts.proofs.Options.{no_some, same_some}
+use Rattle.nm_types.proofs.ListLemmas.{get_some, get_map, take_more}
+use Rattle.nm_types.proofs.OptionLemmas.{no_some, same_some}
 
 -- what holds of a value holds of what was made of it
 pub if_ok : {A E : Type 0} (P Q : A → Type 0) (r : Result A E) → ((a : A) → P a → Q a) → IfOk r P → IfOk r Q

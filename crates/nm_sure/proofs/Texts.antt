@@ -26,8 +26,8 @@ use Rattle.nm_sure.proofs.Assembled.{Begins, StandAtLines, as_far, assembled, at
 use Rattle.nm_sure.proofs.Fuel.{end_length}
 use Rattle.nm_sure.proofs.Shown.{HaveTheirLength}
 use Rattle.nm_sure.proofs.ShownAnswers.{told_all}
-use Rattle.nm_facts.proofs.Lists.{get_map}
-use Rattle.nm_facts.proofs.Options.{if_some}
+use Rattle.nm_types.proofs.ListLemmas.{get_map}
+use Rattle.nm_types.proofs.OptionLemmas.{if_some}
 
 -- the law of reports
 abbrev pub SayWhatWasTold : Type 0

@@ -25,7 +25,7 @@ use Rattle.nm_sure.specs.Ways.{send_way}
 use Rattle.nm_sure.specs.Ways.{way_of_receive, way_of_send}
 use Rattle.nm_sure.proofs.Before.{before_more, held_here, numbered, own_of}
 use Rattle.nm_sure.proofs.Rising.{starts_split}
-use Rattle.nm_facts.proofs.Numbers.{same_number}
+use Rattle.nm_types.proofs.NumberLemmas.{same_number}
 
 -- the lines of one channel's starts
 abbrev pub lines_by : (Command → Bool) → List Numbered → List ℕ

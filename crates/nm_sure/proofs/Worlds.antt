@@ -34,10 +34,10 @@ use Rattle.nm_sure.proofs.Fronts.{AreAtLines, Front, Stood, front_after}
 use Rattle.nm_sure.proofs.Lists.{found_at, place_behind}
 use Rattle.nm_sure.proofs.Progress.{IsUnderWay, under_way}
 use Rattle.nm_sure.proofs.Reached.{ArePlainCommands, plain_at}
-use Rattle.nm_facts.proofs.Lists.{all_append}
-use Rattle.nm_facts.proofs.Numbers.{same_number}
-use Rattle.nm_facts.proofs.Options.{no_some, same_some}
-use Rattle.nm_facts.proofs.Truth.{and_left}
+use Rattle.nm_types.proofs.ListLemmas.{all_append}
+use Rattle.nm_types.proofs.NumberLemmas.{same_number}
+use Rattle.nm_types.proofs.OptionLemmas.{no_some, same_some}
+use Rattle.nm_types.proofs.TruthLemmas.{and_left}
 
 -- a command's other rank is one of the run
 abbrev pub IsWithin : ℕ → Command → Type 0

@@ -6,8 +6,8 @@ use Rattle.std.specs.List.{AllByRecursion}
 use Rattle.std.specs.Str.{bytes_eq}
 use Rattle.nm_types.specs.declared.answers.Answer.{Answer}
 use Rattle.nm_types.specs.declared.answers.Answer.TheVariants as answer
-use Rattle.nm_words.specs.Decimal.{number_of}
-use Rattle.nm_words.proofs.StepLemmas.{chosen}
+use Rattle.nm_script.specs.Decimal.{number_of}
+use Rattle.nm_script.proofs.WordsStepLemmas.{chosen}
 use Rattle.nm_trace.specs.Events.{answer_of, lone_of, showing_of}
 use Rattle.nm_trace.specs.Sorts.{lone_answer, lone_answers, lone_text}
 use Rattle.nm_trace.specs.Notes.{spoken_words, BareIn}

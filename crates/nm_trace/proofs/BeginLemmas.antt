@@ -32,7 +32,7 @@ use Rattle.nm_trace.proofs.ReportLemmas.{report_is}
 use Rattle.nm_trace.proofs.SoundLemmas.{closed, more_ranks, none_left, raised, true_or_false}
 use Rattle.nm_trace.proofs.TextLemmas.{event_more, rank_more}
 use Rattle.nm_trace.proofs.WithinLemmas.{Within, end_in}
-use Rattle.nm_facts.proofs.Lists.{all_push}
+use Rattle.nm_types.proofs.ListLemmas.{all_push}
 
 -- the answer with as many bytes as are due, all of them zero
 abbrev filled : Answer → ℕ → Answer

@@ -13,7 +13,7 @@ use Rattle.nm_history.specs.declared.events.Happened.{Happened}
 use Rattle.nm_history.specs.declared.events.Happened.TheVariants as what
 use Rattle.nm_history.specs.Quiescence.{Ended}
 use Rattle.nm_report.specs.declared.pairs.PairCount.{PairCount}
-use Rattle.nm_words.specs.Lines.{words_of}
+use Rattle.nm_script.specs.Lines.{words_of}
 use Rattle.nm_trace.specs.declared.notes.Note.{Note}
 use Rattle.nm_trace.specs.Answers.{given, given_what, is_due}
 use Rattle.nm_trace.specs.Events.{note_of, pair_of}

@@ -5,8 +5,8 @@ use Rattle.std.specs.Str.{bytes_eq}
 use Rattle.std.proofs.lemmas.Bool.{and_parts, eq-eqb, eqb-true}
 use Rattle.nm_types.specs.declared.answers.Account.{Account}
 use Rattle.nm_report.specs.declared.pairs.PairCount.{PairCount}
-use Rattle.nm_words.specs.Decimal.{number_of}
-use Rattle.nm_words.proofs.StepLemmas.{chosen}
+use Rattle.nm_script.specs.Decimal.{number_of}
+use Rattle.nm_script.proofs.WordsStepLemmas.{chosen}
 use Rattle.nm_trace.specs.Events.{pair_of}
 use Rattle.nm_trace.specs.Machine.{waits_of, cells_of, cells_with, end_of}
 use Rattle.nm_trace.specs.Notes.{pair_words, waits_words, cells_words, end_word}

@@ -8,7 +8,7 @@ use Rattle.nm_history.specs.declared.events.Happened.{Happened}
 use Rattle.nm_history.specs.declared.events.Happened.TheVariants as what
 use Rattle.nm_report.specs.Answers.{answer_words}
 use Rattle.nm_report.specs.Events.{how_word, done_word}
-use Rattle.nm_words.specs.Decimal.{number_of}
+use Rattle.nm_script.specs.Decimal.{number_of}
 use Rattle.nm_trace.specs.declared.sorts.Sort.{Sort}
 use Rattle.nm_trace.specs.declared.sorts.Sort.TheVariants as sort
 use Rattle.nm_trace.specs.Events.{send_with}

@@ -10,9 +10,9 @@ use Rattle.nm_history.specs.Quiescence.{Ended}
 use Rattle.nm_report.specs.declared.pairs.PairCount.{PairCount}
 use Rattle.nm_report.specs.Events.{pair_line}
 use Rattle.nm_report.specs.Report.{cells_line, end_line}
-use Rattle.nm_words.specs.Lines.{words_of}
-use Rattle.nm_words.proofs.StepLemmas.{chosen}
-use Rattle.nm_words.proofs.WordLemmas.{line_is}
+use Rattle.nm_script.specs.Lines.{words_of}
+use Rattle.nm_script.proofs.WordsStepLemmas.{chosen}
+use Rattle.nm_script.proofs.WordLemmas.{line_is}
 use Rattle.nm_trace.specs.declared.notes.Note.{Note}
 use Rattle.nm_trace.specs.Answers.{is_due, given}
 use Rattle.nm_trace.specs.Events.{note_of, pair_of}

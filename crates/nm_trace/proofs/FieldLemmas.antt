@@ -12,9 +12,9 @@ use Rattle.nm_types.specs.declared.messages.TagPick.{TagPick}
 use Rattle.nm_types.specs.declared.messages.TagPick.TheVariants as pick
 use Rattle.nm_types.specs.Text.{peer_word, tag_word}
 use Rattle.nm_report.specs.Events.{how_word, done_word}
-use Rattle.nm_words.specs.Decimal.{number_of}
-use Rattle.nm_words.proofs.NumberLemmas.{number_taken, number_again}
-use Rattle.nm_words.proofs.StepLemmas.{chosen}
+use Rattle.nm_script.specs.Decimal.{number_of}
+use Rattle.nm_script.proofs.NumberLemmas.{number_taken, number_again}
+use Rattle.nm_script.proofs.WordsStepLemmas.{chosen}
 use Rattle.nm_trace.specs.Events.{peer_of, pick_of, how_of, done_of}
 use Rattle.nm_trace.specs.Steps.{◌>>=◌}
 use Rattle.nm_trace.specs.Traces.{PeerIn, PickIn}

@@ -16,8 +16,8 @@ use Rattle.nm_types.specs.declared.answers.Answer.TheVariants as answer
 use Rattle.nm_history.specs.declared.events.Happened.{Happened}
 use Rattle.nm_history.specs.declared.events.Happened.TheVariants as what
 use Rattle.nm_report.specs.Answers.{answer_words, body_word}
-use Rattle.nm_words.specs.Digits.{is_lower_digit}
-use Rattle.nm_words.proofs.DigitLemmas.{all_lower, lower_pairs}
+use Rattle.nm_script.specs.Digits.{is_lower_digit}
+use Rattle.nm_script.proofs.DigitLemmas.{all_lower, lower_pairs}
 use Rattle.nm_trace.specs.Answers.{has_line, start_words, answer_start, behind, decoded}
 use Rattle.nm_trace.specs.Answers.{bytes_of, given_answer, given_what}
 use Rattle.nm_trace.specs.Notes.{BareIn, bare, bytes_in, answer_text, IsGiven, HasBytes}

@@ -3,7 +3,7 @@ use Rattle.std.proofs.Common.{◌≡◌, ℕ, Bool, true, false, cond, List, [],
 use Rattle.std.specs.Option.{option_map}
 use Rattle.std.specs.Prelude.{find}
 use Rattle.std.specs.Str.{bytes_eq}
-use Rattle.nm_facts.proofs.Lists.{find-map}
+use Rattle.nm_types.proofs.ListLemmas.{find-map}
 use Rattle.nm_trace.specs.Lones.{answer_of, lones}
 use Rattle.nm_trace.specs.Sorts.{lone_answer, lone_text}
 

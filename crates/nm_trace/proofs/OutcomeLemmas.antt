@@ -1,12 +1,12 @@
 -- What a text tells, line by line.
 use Rattle.std.proofs.Common.{◌≡◌, ℕ, ◌+◌, ◌⊎◌, inl, inr, false, List, [], ◌∷◌, Option, Some}
 use Rattle.std.proofs.Common.{None, Err, refl, sym, ap, ◌∙◌, eqb}
-use Rattle.nm_words.proofs.StepLemmas.{chosen}
+use Rattle.nm_script.proofs.WordsStepLemmas.{chosen}
 use Rattle.nm_trace.specs.Lines.{cut_lines, first_line}
 use Rattle.nm_trace.specs.Machine.{Stage, feed}
 use Rattle.nm_trace.specs.Outcome.{at_end, told, line_as}
 use Rattle.nm_trace.proofs.FieldLemmas.{bind_some}
-use Rattle.nm_facts.proofs.Options.{mapped_none, mapped_some}
+use Rattle.nm_types.proofs.OptionLemmas.{mapped_none, mapped_some}
 
 abbrev some_of : {A B : Type 0} → A × B → Option (A × B) → A × B
 some_of other None = other

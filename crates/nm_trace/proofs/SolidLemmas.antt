@@ -22,13 +22,13 @@ use Rattle.nm_history.specs.declared.events.Happened.{Happened}
 use Rattle.nm_history.specs.declared.events.Happened.TheVariants as what
 use Rattle.nm_report.specs.Answers.{answer_words, body_word}
 use Rattle.nm_report.specs.Events.{done_word, event_words, how_word}
-use Rattle.nm_words.specs.Lines.{is_printable, words_of}
-use Rattle.nm_words.proofs.DigitLemmas.{all_lower}
-use Rattle.nm_words.proofs.WordLemmas.{Solid, decimal_solid, is_solid, joined_printable, lower_solid}
+use Rattle.nm_script.specs.Lines.{is_printable, words_of}
+use Rattle.nm_script.proofs.DigitLemmas.{all_lower}
+use Rattle.nm_script.proofs.WordLemmas.{Solid, decimal_solid, is_solid, joined_printable, lower_solid}
 use Rattle.nm_trace.specs.declared.notes.Note.{Note}
 use Rattle.nm_trace.specs.Notes.{BareIn, NoteIn, ToldIn, note_words, spoken_words, told_words}
 use Rattle.nm_trace.specs.Traces.{AnswerIn, PeerIn, PickIn, WhatIn}
-use Rattle.nm_words.proofs.WordLemmas.{solid_no_space}
+use Rattle.nm_script.proofs.WordLemmas.{solid_no_space}
 
 -- a word whose bytes may all stand in one
 abbrev pub IsWord : List ℕ → Type 0

@@ -12,9 +12,9 @@ use Rattle.nm_history.specs.Quiescence.{Ended}
 use Rattle.nm_report.specs.declared.pairs.PairCount.{PairCount}
 use Rattle.nm_report.specs.Events.{event_line, pair_line}
 use Rattle.nm_report.specs.Report.{ran_line, waits_line, cells_line}
-use Rattle.nm_words.specs.Lines.{words_of}
-use Rattle.nm_words.proofs.StepLemmas.{chosen}
-use Rattle.nm_words.proofs.WordLemmas.{line_is}
+use Rattle.nm_script.specs.Lines.{words_of}
+use Rattle.nm_script.proofs.WordsStepLemmas.{chosen}
+use Rattle.nm_script.proofs.WordLemmas.{line_is}
 use Rattle.nm_trace.specs.declared.notes.Note.{Note}
 use Rattle.nm_trace.specs.Answers.{is_due, given}
 use Rattle.nm_trace.specs.Machine.{Stage, Telling, Closing, ended, settled, is_next, with_given}

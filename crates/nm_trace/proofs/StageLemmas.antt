@@ -8,7 +8,7 @@ use Rattle.nm_history.specs.Quiescence.{Ended}
 use Rattle.nm_report.specs.declared.accounts.RankAccount.{RankAccount}
 use Rattle.nm_report.specs.declared.pairs.PairCount.{PairCount}
 use Rattle.nm_report.specs.Ends.{ends_of}
-use Rattle.nm_words.specs.Lines.{words_of}
+use Rattle.nm_script.specs.Lines.{words_of}
 use Rattle.nm_trace.specs.declared.notes.Note.{Note}
 use Rattle.nm_trace.specs.Answers.{is_due, given}
 use Rattle.nm_trace.specs.Events.{pair_of}

@@ -12,8 +12,8 @@ use Rattle.nm_history.specs.declared.events.Happened.TheVariants as what
 use Rattle.nm_history.specs.Quiescence.{Ended}
 use Rattle.nm_report.specs.declared.pairs.PairCount.{PairCount}
 use Rattle.nm_report.specs.Answers.{answer_words, body_word}
-use Rattle.nm_words.specs.Lines.{is_printable, words_of}
-use Rattle.nm_words.proofs.WordLemmas.{Solid, decimal_solid, joined_printable, line_is, words_again}
+use Rattle.nm_script.specs.Lines.{is_printable, words_of}
+use Rattle.nm_script.proofs.WordLemmas.{Solid, decimal_solid, joined_printable, line_is, words_again}
 use Rattle.nm_trace.specs.declared.notes.Note.{Note}
 use Rattle.nm_trace.specs.Answers.{is_due}
 use Rattle.nm_trace.specs.Events.{note_of, pair_of}

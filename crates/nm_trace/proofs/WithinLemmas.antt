@@ -11,8 +11,8 @@ use Rattle.nm_history.specs.declared.events.Happened.{Happened}
 use Rattle.nm_history.specs.declared.events.Happened.TheVariants as what
 use Rattle.nm_history.specs.Quiescence.{Ended}
 use Rattle.nm_report.specs.declared.pairs.PairCount.{PairCount}
-use Rattle.nm_words.specs.Lines.{words_of}
-use Rattle.nm_words.proofs.StepLemmas.{chosen}
+use Rattle.nm_script.specs.Lines.{words_of}
+use Rattle.nm_script.proofs.WordsStepLemmas.{chosen}
 use Rattle.nm_trace.specs.declared.notes.Note.{Note}
 use Rattle.nm_trace.specs.Answers.{is_due, given, given_what}
 use Rattle.nm_trace.specs.Events.{pair_of}
@@ -29,7 +29,7 @@ use Rattle.nm_trace.proofs.FieldLemmas.{bind_some, guard_some}
 use Rattle.nm_trace.proofs.GivenLemmas.{line_taken}
 use Rattle.nm_trace.proofs.SoundLemmas.{more_ranks, or_cases, raised, settle_same}
 use Rattle.nm_trace.proofs.SoundLemmas.{true_or_false}
-use Rattle.nm_facts.proofs.Lists.{all_push}
+use Rattle.nm_types.proofs.ListLemmas.{all_push}
 
 -- the numbers of what was told so far are within their types
 abbrev pub Within : Stage → Type 0

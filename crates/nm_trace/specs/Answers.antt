@@ -12,7 +12,7 @@ use Rattle.nm_history.specs.declared.events.Event.{Event}
 use Rattle.nm_history.specs.declared.events.Happened.{Happened}
 use Rattle.nm_history.specs.declared.events.Happened.TheVariants as what
 use Rattle.nm_report.specs.Answers.{answer_words}
-use Rattle.nm_words.specs.Digits.{is_lower_digit}
+use Rattle.nm_script.specs.Digits.{is_lower_digit}
 use Rattle.nm_trace.specs.declared.notes.Note.{Note}
 use Rattle.nm_trace.specs.Steps.{◌>>=◌}
 

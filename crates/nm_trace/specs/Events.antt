@@ -13,7 +13,7 @@ use Rattle.nm_types.specs.declared.messages.TagPick.TheVariants as pick
 use Rattle.nm_history.specs.declared.events.Happened.{Happened}
 use Rattle.nm_history.specs.declared.events.Happened.TheVariants as what
 use Rattle.nm_report.specs.declared.pairs.PairCount.{PairCount}
-use Rattle.nm_words.specs.Decimal.{number_of}
+use Rattle.nm_script.specs.Decimal.{number_of}
 use Rattle.nm_trace.specs.declared.notes.Note.{Note}
 use Rattle.nm_trace.specs.declared.notes.Said.{Said}
 use Rattle.nm_trace.specs.declared.sorts.Sort.{Sort}

@@ -7,8 +7,8 @@ use Rattle.nm_types.specs.declared.answers.Account.{Account}
 use Rattle.nm_history.specs.declared.events.Event.{Event}
 use Rattle.nm_history.specs.Quiescence.{Ended}
 use Rattle.nm_report.specs.declared.pairs.PairCount.{PairCount}
-use Rattle.nm_words.specs.Decimal.{number_of}
-use Rattle.nm_words.specs.Lines.{words_of}
+use Rattle.nm_script.specs.Decimal.{number_of}
+use Rattle.nm_script.specs.Lines.{words_of}
 use Rattle.nm_trace.specs.declared.notes.Note.{Note}
 use Rattle.nm_trace.specs.Answers.{is_due, is_ran, given}
 use Rattle.nm_trace.specs.Events.{note_of, pair_of}

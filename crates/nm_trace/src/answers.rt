@@ -9,7 +9,7 @@ use crate::notes::Note;
 use nm_history::{Event, Happened};
 use nm_report::push_answer;
 use nm_types::{Answer, Bytes};
-use nm_words::are_lower_digits;
+use nm_script::words::are_lower_digits;
 use std::alloc::{AllocError, Global};
 
 /// A line behind the events gives this answer.

@@ -1,9 +1,9 @@
 //! Numbers in decimal.
 
 ghost use Rattle.std.specs.Prelude.{◌≡◌, ◌^◌};
-ghost use Rattle.nm_words.specs.Decimal.{number_of};
+ghost use Rattle.nm_script.specs.Decimal.{number_of};
 
-use nm_words::number_up_to;
+use nm_script::words::number_up_to;
 
 /// A rank, or a context.
 pub fn small(word: &[u8]) -> Option<u8>

@@ -2,7 +2,7 @@
 
 ghost use Rattle.std.specs.Prelude.{◌≡◌, ◌≤◌, ◌<◌, ◌+◌, [], ◌∷◌, map, IfOk, IfSome, length};
 ghost use Rattle.std.specs.Option.{option_map};
-ghost use Rattle.nm_words.specs.Lines.{words_of};
+ghost use Rattle.nm_script.specs.Lines.{words_of};
 ghost use Rattle.nm_trace.specs.declared.faults.TraceFault.TheVariants.{Bad};
 ghost use Rattle.nm_trace.specs.Answers.{given};
 ghost use Rattle.nm_trace.specs.Events.{pair_of};
@@ -19,7 +19,7 @@ use crate::numbers::{large, small};
 use nm_history::Event;
 use nm_report::PairCount;
 use nm_types::Account;
-use nm_words::words;
+use nm_script::words::words;
 use std::alloc::{AllocError, Global};
 
 /// What is left of the text, and the number of its first line.

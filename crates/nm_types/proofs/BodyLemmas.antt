@@ -3,7 +3,7 @@ use Rattle.std.proofs.Common.{◌≡◌, ℕ, Bool, true, ◌&&◌, List, [], �
 use Rattle.std.specs.Prelude.{nat_lt}
 use Rattle.std.specs.List.{list_all}
 use Rattle.std.proofs.lemmas.List.FromFn.{length-map-range_with_len}
-use Rattle.nm_facts.proofs.Truth.{both, and_left, and_right}
+use Rattle.nm_types.proofs.TruthLemmas.{both, and_left, and_right}
 use Rattle.nm_types.specs.Bodies.{body_len, bytes_of, generated_byte}
 use Rattle.nm_types.specs.Limits.{is_in_range}
 use Rattle.nm_types.specs.declared.scripts.Body.{Body}

@@ -5,7 +5,7 @@ use Rattle.std.specs.List.{find, slice_get}
 use Rattle.std.proofs.lemmas.Bool.Decides.{nat_tests}
 use Rattle.nm_types.specs.declared.scripts.Line.{Line}
 use Rattle.nm_types.specs.Commands.{Numbered, command_at, commands_from, commands_of}
-use Rattle.nm_facts.proofs.Numbers.{eq_later}
+use Rattle.nm_types.proofs.NumberLemmas.{eq_later}
 
 abbrev numbered : ℕ → Line → Numbered
 numbered number l = record { line = number; command = l.command }

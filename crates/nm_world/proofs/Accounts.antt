@@ -34,7 +34,7 @@ use Rattle.nm_world.specs.Records.{AreToTell, counts_of, counts_to, ended_of}
 use Rattle.nm_world.specs.Rest.{HasRun, IsCarried, IsClosed}
 use Rattle.nm_world.specs.Runs.{InPlace}
 use Rattle.nm_world.proofs.Runs.{in_place_at}
-use Rattle.nm_facts.proofs.Lists.{get_map, place_below}
+use Rattle.nm_types.proofs.ListLemmas.{get_map, place_below}
 use Rattle.nm_sending.proofs.PutLemmas.{called_length}
 
 -- the counts to one rank more

@@ -18,7 +18,7 @@ use Rattle.nm_world.specs.Actors.{Stands}
 use Rattle.nm_world.specs.Rest.{EachActor, EndsAt, HasRun, IsCarried, IsClosed, IsStill}
 use Rattle.nm_world.specs.Runs.{AllAgree, AreCarried, InPlace, IsStillAt}
 use Rattle.nm_world.proofs.Runs.{in_place_at}
-use Rattle.nm_facts.proofs.Lists.{get_some, get_map}
+use Rattle.nm_types.proofs.ListLemmas.{get_some, get_map}
 
 pub each_ends : ((lines : List Line) (f : Fabric) (r : Rings) (a : Actor) → Stands lines f r a →
     IsStill lines a.process → EndsAt a.process.rank.sizes lines f r a.port.rank a) →

@@ -3,8 +3,8 @@ use Rattle.std.proofs.Common.{◌≡◌, ℕ, ◌<◌, List, sym, ap, ◌∙◌,
 use Rattle.std.proofs.lemmas.List.{get_or-replicate}
 use Rattle.nm_types.specs.declared.scripts.Line.{Line}
 use Rattle.nm_types.specs.Sizes.{Sizes}
-use Rattle.nm_table.specs.declared.table.Entry.{Entry}
-use Rattle.nm_table.specs.Rule.{sent_to}
+use Rattle.nm_chain.specs.declared.table.table.Entry.{Entry}
+use Rattle.nm_chain.specs.Rule.{sent_to}
 use Rattle.nm_cells.specs.declared.port.Fabric.{Fabric}
 use Rattle.nm_cells.specs.declared.port.Port.{Port}
 use Rattle.nm_cells.specs.Ports.{IsNew}
@@ -17,7 +17,7 @@ use Rattle.nm_copyring.specs.Rule as ring_rule
 use Rattle.nm_copyring.specs.Ports as ring
 use Rattle.nm_process.specs.Lines.{AreLines}
 use Rattle.nm_process.specs.Processes.{ProcessView}
-use Rattle.nm_standing.specs.Standing.{IsStanding, no_past}
+use Rattle.nm_global.specs.ProcessInvariant.{IsStanding, no_past}
 use Rattle.nm_world.specs.Actors.{Stands}
 use Rattle.nm_world.proofs.Steps.{stands_of}
 

@@ -18,8 +18,8 @@ use Rattle.nm_cells.specs.declared.closed.Closed.{Closed}
 use Rattle.nm_cells.specs.ClosedLists.{sent_list, taken_list}
 use Rattle.nm_copyring.specs.declared.close.RingAccount.{RingAccount}
 use Rattle.nm_world.specs.Runs.{AreCarried, count_between}
-use Rattle.nm_facts.proofs.Numbers.{unequal, eq_true}
-use Rattle.nm_facts.proofs.Lists.{get_some}
+use Rattle.nm_types.proofs.NumberLemmas.{unequal, eq_true}
+use Rattle.nm_types.proofs.ListLemmas.{get_some}
 use Rattle.nm_sending.proofs.PutLemmas.{called_length}
 
 abbrev is_of : ℕ → ℕ → Packets → Bool

@@ -10,15 +10,15 @@ use native.Mathlib.Decide.{ℕ_discrete, dec_le}
 use Rattle.nm_types.specs.declared.packets.Packet.{Packet}
 use Rattle.nm_types.specs.declared.packets.Piece.{Piece}
 use Rattle.nm_history.specs.declared.events.Event.{Event}
-use Rattle.nm_seats.specs.Update.{pick, update}
-use Rattle.nm_table.specs.declared.table.Entry.{Entry}
-use Rattle.nm_table.specs.declared.table.Heads.{Heads}
-use Rattle.nm_table.specs.declared.table.Misses.{Misses}
-use Rattle.nm_table.specs.Rule.{Load, if_below, put_to, sent_to}
-use Rattle.nm_table.specs.Plays.{missed_of, raised, with_box_full, with_filling, with_heads, with_put, with_put_box}
-use Rattle.nm_table.specs.Plays.{heads_at, heads_of, head_miss, link_miss, with_look, with_missed}
-use Rattle.nm_table.specs.declared.table.Look.TheVariants.{Fresh, LinkEmpty}
-use Rattle.nm_table.proofs.QueueLemmas.{pick_yes, put_append}
+use Rattle.nm_chain.specs.Update.{pick, update}
+use Rattle.nm_chain.specs.declared.table.table.Entry.{Entry}
+use Rattle.nm_chain.specs.declared.table.table.Heads.{Heads}
+use Rattle.nm_chain.specs.declared.table.table.Misses.{Misses}
+use Rattle.nm_chain.specs.Rule.{Load, if_below, put_to, sent_to}
+use Rattle.nm_chain.specs.Plays.{missed_of, raised, with_box_full, with_filling, with_heads, with_put, with_put_box}
+use Rattle.nm_chain.specs.Plays.{heads_at, heads_of, head_miss, link_miss, with_look, with_missed}
+use Rattle.nm_chain.specs.declared.table.table.Look.TheVariants.{Fresh, LinkEmpty}
+use Rattle.nm_chain.proofs.QueueLemmas.{pick_yes, put_append}
 use Rattle.nm_types.specs.declared.limits.TheConstants.{MAX_BOX}
 use Rattle.nm_cells.specs.declared.port.Port.{Port}
 use Rattle.nm_cells.specs.Ports.{SameTaken, knows, sent_by, taken_by}
@@ -35,7 +35,7 @@ use Rattle.nm_world.specs.Actors.{Grew, Grows, LaneGrows, MissesGrow, PortGrows,
 use Rattle.nm_world.specs.Actors.{AllKept, Kept, SomeGrew, Stands, did_any, done_by, done_of, sum_below}
 use Rattle.nm_types.specs.declared.scripts.Line.{Line}
 use Rattle.nm_types.specs.Sizes.{Sizes}
-use Rattle.nm_standing.specs.Standing.{GoesOn}
+use Rattle.nm_global.specs.ProcessInvariant.{GoesOn}
 use Rattle.nm_cells.specs.declared.port.Fabric.{Fabric}
 use Rattle.nm_copyring.specs.declared.port.Rings.{Rings}
 use Rattle.nm_world.specs.Actors.Grew.{events, sent, taken, pushed, pulled}

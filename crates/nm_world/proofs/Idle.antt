@@ -10,15 +10,15 @@ use native.Mathlib.Decide.{ℕ_discrete, dec_le}
 use Rattle.nm_types.specs.declared.packets.Piece.{Piece}
 use Rattle.nm_types.specs.declared.scripts.Line.{Line}
 use Rattle.nm_types.specs.Commands.{commands_of}
-use Rattle.nm_outbox.specs.declared.letters.Letter.{Letter}
+use Rattle.nm_sending.specs.declared.outbox.letters.Letter.{Letter}
 use Rattle.nm_rndv.specs.Offers.{Offered, next_offered, offered}
 use Rattle.nm_rank.specs.Ranks.{IsFresh}
-use Rattle.nm_table.specs.declared.table.Entry.{Entry}
-use Rattle.nm_table.specs.declared.table.Heads.{Heads}
-use Rattle.nm_table.specs.Rule.{if_below}
-use Rattle.nm_table.specs.Plays.{missed_of, raised, with_box_full, with_heads, with_missed}
-use Rattle.nm_table.specs.Plays.{heads_at, heads_of, head_miss, link_miss, with_look}
-use Rattle.nm_table.specs.declared.table.Look.TheVariants.{LinkEmpty}
+use Rattle.nm_chain.specs.declared.table.table.Entry.{Entry}
+use Rattle.nm_chain.specs.declared.table.table.Heads.{Heads}
+use Rattle.nm_chain.specs.Rule.{if_below}
+use Rattle.nm_chain.specs.Plays.{missed_of, raised, with_box_full, with_heads, with_missed}
+use Rattle.nm_chain.specs.Plays.{heads_at, heads_of, head_miss, link_miss, with_look}
+use Rattle.nm_chain.specs.declared.table.table.Look.TheVariants.{LinkEmpty}
 use Rattle.nm_cells.specs.declared.port.Port.{Port}
 use Rattle.nm_cells.specs.Ports.{knows}
 use Rattle.nm_port.specs.Polls.{with_all_missed}
@@ -36,7 +36,7 @@ use Rattle.nm_world.specs.Actors.{Grows, PortGrows, RingGrows}
 use Rattle.nm_world.specs.Idle.{CameBack, GaveNone, Idle, IsDue, LetterBack, NoPiece, PieceBack, QueueMissed}
 use Rattle.nm_world.specs.Idle.{Rose, Stepped}
 use Rattle.nm_world.proofs.Grows.{port_same, ring_same}
-use Rattle.nm_facts.proofs.Truth.{neither}
+use Rattle.nm_types.proofs.TruthLemmas.{neither}
 use Rattle.nm_port.proofs.PollLemmas.{queue_misses, misses_long}
 
 -- a count that rose within

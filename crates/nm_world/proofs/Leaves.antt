@@ -10,14 +10,14 @@ use Rattle.nm_types.specs.declared.packets.Path.TheVariants.{Box, Cell}
 use Rattle.nm_types.specs.declared.packets.Piece.{Piece}
 use Rattle.nm_types.specs.declared.scripts.Line.{Line}
 use Rattle.nm_history.specs.declared.events.Event.{Event}
-use Rattle.nm_protocol.specs.Known.{Taken}
-use Rattle.nm_protocol.specs.Pieces.{Pulled}
-use Rattle.nm_table.specs.declared.table.Entry.{Entry}
-use Rattle.nm_table.specs.declared.table.Heads.{Heads}
-use Rattle.nm_table.specs.Rule.{from, sent_to}
-use Rattle.nm_table.specs.Plays.{heads_of, with_filling, with_heads, with_put, with_put_box}
-use Rattle.nm_table.specs.Plays.{with_look}
-use Rattle.nm_table.specs.declared.table.Look.TheVariants.{Fresh}
+use Rattle.nm_history.specs.Known.{Taken}
+use Rattle.nm_history.specs.Pieces.{Pulled}
+use Rattle.nm_chain.specs.declared.table.table.Entry.{Entry}
+use Rattle.nm_chain.specs.declared.table.table.Heads.{Heads}
+use Rattle.nm_chain.specs.Rule.{from, sent_to}
+use Rattle.nm_chain.specs.Plays.{heads_of, with_filling, with_heads, with_put, with_put_box}
+use Rattle.nm_chain.specs.Plays.{with_look}
+use Rattle.nm_chain.specs.declared.table.table.Look.TheVariants.{Fresh}
 use Rattle.nm_cells.specs.declared.port.Fabric.{Fabric}
 use Rattle.nm_cells.specs.declared.port.Port.{Port}
 use Rattle.nm_cells.specs.Ports.{Owns, SameTaken, knows, taken_by}
@@ -30,21 +30,21 @@ use Rattle.nm_copyring.specs.declared.table.Lane.{Lane}
 use Rattle.nm_copyring.specs.Rule.{lane}
 use Rattle.nm_copyring.specs.Plays.{one_pushed, with_lane}
 use Rattle.nm_copyring.specs.Ports as ring
-use Rattle.nm_rank_outgoing.specs.Left.{Left, with_packet, with_piece}
+use Rattle.nm_global.specs.Emitted.{Left, with_packet, with_piece}
 use Rattle.nm_channels.specs.Moments.{Moment, taken_from}
 use Rattle.nm_channels.specs.Moments.Cause.{Acted}
-use Rattle.nm_rank_log.specs.Moments.{pulled}
-use Rattle.nm_rank_log.proofs.Shown.{pulled_still, taken_still}
+use Rattle.nm_global.specs.Moments.{pulled}
+use Rattle.nm_global.proofs.Shown.{pulled_still, taken_still}
 use Rattle.nm_process.specs.Processes.{ProcessView}
 use Rattle.nm_process.specs.Work.{IsAtWork}
-use Rattle.nm_carried.specs.Carried.{HasPassed, HasSent, one_more}
-use Rattle.nm_standing.specs.Standing.{IsOf, IsStanding, with_moment, with_packet_left}
-use Rattle.nm_standing.specs.Standing.{with_piece_left}
+use Rattle.nm_port.specs.CarriedPackets.{HasPassed, HasSent, one_more}
+use Rattle.nm_global.specs.ProcessInvariant.{IsOf, IsStanding, with_moment, with_packet_left}
+use Rattle.nm_global.specs.ProcessInvariant.{with_piece_left}
 use Rattle.nm_world.specs.declared.actors.Actor.{Actor}
 use Rattle.nm_world.specs.Actors.{Stands}
 use Rattle.nm_world.proofs.Steps.{SameGot, got_same, lane_else, lane_here, stands_of}
 use Rattle.nm_world.proofs.Steps.{tried_got, tried_sent}
-use Rattle.nm_facts.proofs.Numbers.{same_number, differ}
+use Rattle.nm_types.proofs.NumberLemmas.{same_number, differ}
 
 -- the lists of a packet that was sent, by either way
 pub data SentBy (e e' : Entry) (to : ℕ) (p : Packet) : Type 0 where

@@ -32,7 +32,7 @@ use Rattle.nm_world.proofs.Did.{did_same, sum_more, sum_up}
 use Rattle.nm_world.proofs.Grows.{kept_on, port_same}
 use Rattle.nm_world.proofs.Loops.{HasLooped}
 use Rattle.nm_world.proofs.Results.{clash}
-use Rattle.nm_facts.proofs.Lists.{take_more}
+use Rattle.nm_types.proofs.ListLemmas.{take_more}
 
 -- ports
 polls_up : (n : ℕ) (p q : Port) → PortGrows p q → polls_of n p ≤ polls_of n q

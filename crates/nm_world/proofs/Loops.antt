@@ -12,7 +12,7 @@ use Rattle.nm_world.specs.Idle.{Stepped}
 use Rattle.nm_world.proofs.Did.{did_on, did_same, or_none}
 use Rattle.nm_world.proofs.Grows.{kept_on, kept_same}
 use Rattle.nm_world.proofs.Idle.{stepped_none, stepped_on}
-use Rattle.nm_facts.proofs.Truth.{or_right}
+use Rattle.nm_types.proofs.TruthLemmas.{or_right}
 
 -- after k steps that moved something
 pub record HasLooped (n : ℕ) (lines : List Line) (f : Fabric) (r : Rings) (k : ℕ) (a b : Actor) : Type 0 where

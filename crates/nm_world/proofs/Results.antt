@@ -3,7 +3,7 @@ use Rattle.std.proofs.Common.{◌≡◌, ◌<◌, true, false, Option, Some, Non
 use Rattle.std.proofs.Common.{is_some, length, refl, sym, ap, ◌∙◌, arith}
 use Rattle.std.specs.Prelude.{IfNone, IfSome, IsSome, IsSomeAnd, MatchOption}
 use Rattle.std.specs.List.{slice_get}
-use Rattle.nm_outbox.specs.declared.letters.Letter.{Letter}
+use Rattle.nm_sending.specs.declared.outbox.letters.Letter.{Letter}
 
 pub at_none : {A : Type 0} (o : Option A) (P : Type 0) → IfNone o P → is_some o ≡ false → P
 at_none None P is none = is

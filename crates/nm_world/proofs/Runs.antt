@@ -20,7 +20,7 @@ use Rattle.nm_world.specs.Actors.{AllKept, Seat, Stands, seat_of}
 use Rattle.nm_world.specs.Runs.{AreRanked, InPlace, NewInOrder, PairAgrees}
 use Rattle.nm_world.proofs.Chosen.{same_there}
 use Rattle.nm_world.proofs.Grows.{kept_on, kept_same}
-use Rattle.nm_facts.proofs.Lists.{place_below}
+use Rattle.nm_types.proofs.ListLemmas.{place_below}
 
 and_both : (p q : Bool) → (p && q) ≡ true → (p ≡ true) × (q ≡ true)
 and_both true q e = (refl, e)

@@ -10,12 +10,12 @@ use Rattle.nm_types.specs.declared.packets.Packet.{Packet}
 use Rattle.nm_types.specs.declared.packets.Piece.{Piece}
 use Rattle.nm_types.specs.declared.scripts.Line.{Line}
 use Rattle.nm_types.specs.Sizes.{Sizes}
-use Rattle.nm_protocol.specs.Known.{Taken}
-use Rattle.nm_protocol.specs.Pieces.{Pulled}
-use Rattle.nm_seats.specs.Update.{update}
-use Rattle.nm_table.specs.declared.table.Entry.{Entry}
-use Rattle.nm_table.specs.Rule.{Load, if_below, from}
-use Rattle.nm_table.specs.Plays.{with_box_full}
+use Rattle.nm_history.specs.Known.{Taken}
+use Rattle.nm_history.specs.Pieces.{Pulled}
+use Rattle.nm_chain.specs.Update.{update}
+use Rattle.nm_chain.specs.declared.table.table.Entry.{Entry}
+use Rattle.nm_chain.specs.Rule.{Load, if_below, from}
+use Rattle.nm_chain.specs.Plays.{with_box_full}
 use Rattle.nm_cells.specs.declared.port.Fabric.{Fabric}
 use Rattle.nm_cells.specs.declared.port.Port.{Port}
 use Rattle.nm_cells.specs.Ports.{Owns, knows, taken_by}
@@ -30,19 +30,19 @@ use Rattle.nm_copyring.specs.declared.table.Lane.{Lane}
 use Rattle.nm_copyring.specs.Rule.{lane, new_lane}
 use Rattle.nm_copyring.specs.Plays.{one_pulled, with_lane}
 use Rattle.nm_copyring.specs.Ports as ring
-use Rattle.nm_rank_outgoing.specs.Left.{Left}
+use Rattle.nm_global.specs.Emitted.{Left}
 use Rattle.nm_channels.specs.Moments.{Moment, pulled_from, taken_from}
 use Rattle.nm_rank.specs.Calls.{taken_of}
 use Rattle.nm_rank.specs.Ranks.{RankView}
-use Rattle.nm_rank_log.specs.Moments.{drew, pulled, took}
-use Rattle.nm_rank_log.proofs.Shown.{pulled_still, taken-push, taken_still}
+use Rattle.nm_global.specs.Moments.{drew, pulled, took}
+use Rattle.nm_global.proofs.Shown.{pulled_still, taken-push, taken_still}
 use Rattle.nm_process.specs.Processes.{ProcessView}
 use Rattle.nm_process.specs.Work.{IsAtWork}
-use Rattle.nm_carried.specs.Carried.{HasPassed, HasSent, one_more}
-use Rattle.nm_standing.specs.Standing.{GoesOn, IsOf, IsStanding, Past, with_moment}
+use Rattle.nm_port.specs.CarriedPackets.{HasPassed, HasSent, one_more}
+use Rattle.nm_global.specs.ProcessInvariant.{GoesOn, IsOf, IsStanding, Past, with_moment}
 use Rattle.nm_world.specs.declared.actors.Actor.{Actor}
 use Rattle.nm_world.specs.Actors.{IsActor, Seat, Stands, seat_of}
-use Rattle.nm_facts.proofs.Numbers.{same_number, differ}
+use Rattle.nm_types.proofs.NumberLemmas.{same_number, differ}
 use Rattle.nm_channels.proofs.Pulling.{pulled-push}
 
 pub stands_of : (shape : Sizes) (lines : List Line) (f : Fabric) (r : Rings) (a : Actor) (past : Past) →

@@ -17,7 +17,7 @@ use Rattle.nm_world.proofs.Did.{did_any_on, did_halves, did_sole}
 use Rattle.nm_world.proofs.Idle.{idle_after}
 use Rattle.nm_world.proofs.Lists.{all_zip_append, all_zip_both, all_zip_on}
 use Rattle.nm_world.proofs.Runs.{all_kept_on}
-use Rattle.nm_facts.proofs.Truth.{neither}
+use Rattle.nm_types.proofs.TruthLemmas.{neither}
 
 abbrev IdleUnlessWorn : List Line → Actor → Actor → Type 0
 IdleUnlessWorn lines a b = IsFresh a.process.rank → Idle lines a b

@@ -6,8 +6,8 @@ use Rattle.nm_types.specs.declared.scripts.Line.{Line}
 use Rattle.nm_types.specs.Sizes.{Sizes}
 use Rattle.nm_channels.specs.Moments.{pulled_from as pulled_in, taken_from as taken_in}
 use Rattle.nm_history.specs.declared.events.Event.{Event}
-use Rattle.nm_table.specs.declared.table.Misses.{Misses}
-use Rattle.nm_table.specs.Plays.{missed_of}
+use Rattle.nm_chain.specs.declared.table.table.Misses.{Misses}
+use Rattle.nm_chain.specs.Plays.{missed_of}
 use Rattle.nm_cells.specs.declared.port.Fabric.{Fabric}
 use Rattle.nm_cells.specs.declared.port.Port.{Port}
 use Rattle.nm_cells.specs.Ports.{Owns, knows, sent_by, taken_by}
@@ -17,8 +17,8 @@ use Rattle.nm_copyring.specs.declared.port.Rings.{Rings}
 use Rattle.nm_copyring.specs.declared.table.Lane.{Lane}
 use Rattle.nm_copyring.specs.Rule.{lane}
 use Rattle.nm_copyring.specs.Ports as ring
-use Rattle.nm_carried.specs.Carried.{HasPassed, HasSent}
-use Rattle.nm_standing.specs.Standing.{IsStanding, Past}
+use Rattle.nm_port.specs.CarriedPackets.{HasPassed, HasSent}
+use Rattle.nm_global.specs.ProcessInvariant.{IsStanding, Past}
 use Rattle.nm_process.specs.Lines.{AreLines}
 use Rattle.nm_world.specs.declared.actors.Actor.{Actor}
 

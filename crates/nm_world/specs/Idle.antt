@@ -3,12 +3,12 @@ use Rattle.std.specs.Prelude.{◌≡◌, ◌⊎◌, ℕ, ◌<◌, ◌≤◌, Boo
 use Rattle.std.specs.List.{AllZip, slice_get}
 use Rattle.nm_types.specs.declared.scripts.Line.{Line}
 use Rattle.nm_types.specs.Commands.{commands_of}
-use Rattle.nm_protocol.specs.Pieces.{due_pieces}
-use Rattle.nm_outbox.specs.declared.letters.Letter.{Letter}
+use Rattle.nm_history.specs.Pieces.{due_pieces}
+use Rattle.nm_sending.specs.declared.outbox.letters.Letter.{Letter}
 use Rattle.nm_rndv.specs.Offers.{next_offered}
 use Rattle.nm_receiving.specs.Receipts.{drawn_from}
 use Rattle.nm_rank.specs.Ranks.{IsFresh, RankView}
-use Rattle.nm_table.specs.Plays.{missed_of}
+use Rattle.nm_chain.specs.Plays.{missed_of}
 use Rattle.nm_cells.specs.declared.port.Port.{Port}
 use Rattle.nm_cells.specs.Ports.{knows}
 use Rattle.nm_copyring.specs.declared.port.RingPort.{RingPort}

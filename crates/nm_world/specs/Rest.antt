@@ -8,14 +8,14 @@ use Rattle.nm_history.specs.Outgoing.{AreCalled, AreCalledPieces, outgoing, ring
 use Rattle.nm_history.specs.Quiescence.{Ended, Stands as StandsAt, packets_of}
 use Rattle.nm_history.specs.Run.{IsRunOf}
 use Rattle.nm_history.specs.Sends.{sent_body}
-use Rattle.nm_protocol.specs.Clearance.{pushed_out, to_push}
-use Rattle.nm_protocol.specs.Rest.{EagerHaveLeft, EmptyAreHere}
-use Rattle.nm_protocol.specs.Rules.{AreRight}
+use Rattle.nm_history.specs.Clearance.{pushed_out, to_push}
+use Rattle.nm_history.specs.Rest.{EagerHaveLeft, EmptyAreHere}
+use Rattle.nm_history.specs.Rules.{AreRight}
 use Rattle.nm_rndv.specs.Offers.{AllOut, next_offered}
 use Rattle.nm_rank.specs.Ranks.{IsFresh, known_from}
 use Rattle.nm_process.specs.Processes.{ProcessView}
 use Rattle.nm_process.specs.Steps.{goes_on}
-use Rattle.nm_journal.specs.Journals.{IsJournal}
+use Rattle.nm_rank.specs.Journals.{IsJournal}
 use Rattle.nm_cells.specs.declared.closed.Closed.{Closed}
 use Rattle.nm_cells.specs.declared.port.Fabric.{Fabric}
 use Rattle.nm_cells.specs.declared.port.Port.{Port}
@@ -29,7 +29,7 @@ use Rattle.nm_copyring.specs.AtClose.{Prefixed}
 use Rattle.nm_copyring.specs.ClosedLists as closed_ring
 use Rattle.nm_copyring.specs.Ports as ring_port
 use Rattle.nm_global.specs.Ranks.{HasNothingToSend}
-use Rattle.nm_standing.specs.Standing.{Past, rank_of}
+use Rattle.nm_global.specs.ProcessInvariant.{Past, rank_of}
 use Rattle.nm_world.specs.declared.actors.Actor.{Actor}
 use Rattle.nm_world.specs.Actors.{IsActor}
 

@@ -15,8 +15,8 @@
 //! - `run` answers the record of a run of the script, and what the closed ports carried is what its
 //!   histories call for (`run`: `run`, `home`, `done`).
 //! # What is only tested
-//! That a probe sees the packet that came last (`nm_world_rows`), that two ranks are at work at the same
-//! time (`nm_cli_rows`), and that no crew sleeps for good (`.ci/small`). Why it doesn't stands in
+//! That a probe sees the packet that came last (`nm_rows::world`), that two ranks are at work at the same
+//! time (`nm_rows::cli`), and that no crew sleeps for good (`.ci/small`). Why it doesn't stands in
 //! `bells`.
 #![tactic(auto)]
 

@@ -2,7 +2,7 @@
 #![tactic(auto)]
 
 use nm_outside::{RealSink, RealSource};
-use nm_verdict::verdict;
+use nm_check::verdict::verdict;
 use std::io::ErrorKind;
 use std::process::ExitCode;
 use std::rt::Env;

@@ -4,7 +4,7 @@ ghost use Rattle.std.specs.Prelude.{◌≡◌, ℕ, List, [], ◌∷◌, ◌++�
 ghost use Rattle.std.specs.List.{cons_option};
 ghost use Rattle.nm_types.specs.Commands.{Numbered};
 ghost use Rattle.nm_history.specs.Sends.{Sent};
-ghost use Rattle.nm_protocol.specs.Known.{known_by, known_after};
+ghost use Rattle.nm_history.specs.Known.{known_by, known_after};
 ghost use Rattle.nm_channels.specs.Moments.{Moment, history_of, taken_from, taken_of, pulled_from};
 ghost use Rattle.nm_channels.specs.Moments.{pulled_of, clock_of, clock_after};
 ghost use Rattle.nm_channels.specs.Sound.{AreSound, MayHappen};

@@ -8,11 +8,11 @@ ghost use Rattle.nm_types.specs.Sizes.{Sizes};
 ghost use Rattle.nm_history.specs.Outgoing.{packets_to};
 ghost use Rattle.nm_history.specs.Quiescence.{EachRank, Packets, Stands, packets_of};
 ghost use Rattle.nm_history.specs.Run.{IsRunOf};
-ghost use Rattle.nm_outbox.specs.Outboxes.{popped_to};
+ghost use Rattle.nm_sending.specs.Outboxes.{popped_to};
 ghost use Rattle.nm_channels.specs.Settled.{HasNoStray};
 ghost use Rattle.nm_global.specs.Ranks.{AreAtRest, Each, EachTwo, OneRank, recorded_of};
 
-use nm_rank_outgoing::laws::leaves::all_left;
+use crate::outgoing::laws::leaves::all_left;
 
 /// Where each is at its end or waits for what can't come, and the counts of packets are those that
 /// the histories call for, the histories are a run of the script.

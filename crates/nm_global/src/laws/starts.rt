@@ -8,8 +8,8 @@ ghost use Rattle.nm_rank.specs.Ranks.{RankView};
 ghost use Rattle.nm_global.specs.Ranks.{IsPassed, IsRankAt, new_rank};
 
 use nm_history::laws::rank_run_begins;
-use nm_rank_log::laws::moments::a_log_begins;
-use nm_rank_outgoing::laws::starts::nothing_left;
+use crate::log::laws::moments::a_log_begins;
+use crate::outgoing::laws::starts::nothing_left;
 
 /// A new rank stands at its place (`Rank::new`), and nothing is between any two.
 pub fn new_ranks_stand()

@@ -3,17 +3,17 @@ use Rattle.std.proofs.Common.{length, sym, refl, ap, ◌∙◌, subst, arith, le
 use Rattle.std.specs.Prelude.{vec_capacity}
 use Rattle.atomic_table.specs.Table.{Allows, step, rest}
 use mathlib.Core.Option as maybe
-use Rattle.nm_seats.specs.Spoken.{view}
-use Rattle.nm_seats.specs.Update.{update}
+use Rattle.nm_chain.specs.Spoken.{view}
+use Rattle.nm_chain.specs.Update.{update}
 use Rattle.nm_cells.specs.declared.tallies.Tally.{Tally}
-use Rattle.nm_table.specs.Rule.{Load, Rule, from, emptying_of, sender, number}
-use Rattle.nm_table.specs.Plays as plays
-use Rattle.nm_table.specs.Plays.{mine, sole}
-use Rattle.nm_table.specs.NextBox.{next_box}
+use Rattle.nm_chain.specs.Rule.{Load, Rule, from, emptying_of, sender, number}
+use Rattle.nm_chain.specs.Plays as plays
+use Rattle.nm_chain.specs.Plays.{mine, sole}
+use Rattle.nm_chain.specs.NextBox.{next_box}
 use Rattle.nm_cells.specs.Ports.{knows, taken_by}
 use Rattle.nm_cells.specs.Counted.{peer_in, all_unpassed}
 use Rattle.nm_cells.proofs.PortLemmas.{peer_low, peer_box_got}
-use Rattle.nm_table.proofs.BoxStepLemmas.{empty_allowed}
+use Rattle.nm_chain.proofs.BoxStepLemmas.{empty_allowed}
 use Rattle.nm_cells.proofs.BoxCallLemmas as calls
 use Rattle.nm_cells.specs.LooseCells.{AreKept}
 use Rattle.nm_cells.proofs.LooseLemmas.{far_apart, kept_pop}

@@ -3,16 +3,16 @@ use Rattle.std.proofs.Common.{length, sym, refl, ap, ◌∙◌, subst, arith, le
 use Rattle.std.specs.Prelude.{vec_capacity}
 use Rattle.atomic_table.specs.Table.{Allows, step, rest}
 use mathlib.Core.Option as maybe
-use Rattle.nm_seats.specs.Spoken.{view}
+use Rattle.nm_chain.specs.Spoken.{view}
 use Rattle.nm_cells.specs.declared.tallies.Tally.{Tally}
-use Rattle.nm_table.specs.Rule.{Load, Rule, put_to, filling_of, sent_to}
-use Rattle.nm_table.specs.Plays as plays
-use Rattle.nm_table.specs.Plays.{mine, sole}
-use Rattle.nm_table.specs.NextBox.{to_fill, next_box}
+use Rattle.nm_chain.specs.Rule.{Load, Rule, put_to, filling_of, sent_to}
+use Rattle.nm_chain.specs.Plays as plays
+use Rattle.nm_chain.specs.Plays.{mine, sole}
+use Rattle.nm_chain.specs.NextBox.{to_fill, next_box}
 use Rattle.nm_cells.specs.Ports.{knows}
 use Rattle.nm_cells.specs.Counted.{peer_in, all_unpassed, one_boxed}
 use Rattle.nm_cells.proofs.PortLemmas.{peer_low, peer_box_put}
-use Rattle.nm_table.proofs.BoxStepLemmas.{fill_allowed}
+use Rattle.nm_chain.proofs.BoxStepLemmas.{fill_allowed}
 use Rattle.nm_cells.proofs.BoxCallLemmas as calls
 use Rattle.nm_cells.specs.LooseCells.{AreKept}
 use Rattle.nm_cells.proofs.LooseLemmas.{far_apart, kept_pop}

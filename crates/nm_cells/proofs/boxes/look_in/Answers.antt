@@ -4,15 +4,15 @@ use Rattle.std.specs.Prelude.{vec_capacity}
 use Rattle.atomic_table.specs.Table.{Allows, step}
 use mathlib.Core.Option as maybe
 use Rattle.nm_cells.specs.declared.tallies.Tally.{Tally}
-use Rattle.nm_table.specs.Rule.{Rule}
-use Rattle.nm_table.specs.Plays as plays
-use Rattle.nm_table.specs.Plays.{mine}
+use Rattle.nm_chain.specs.Rule.{Rule}
+use Rattle.nm_chain.specs.Plays as plays
+use Rattle.nm_chain.specs.Plays.{mine}
 use Rattle.nm_cells.specs.Ports.{knows, taken_by, opens}
 use Rattle.nm_cells.specs.Carried.{held_in}
 use Rattle.nm_cells.specs.AtWork.{HoldsBoxes}
 use Rattle.nm_cells.specs.Counted.{peer_in, all_unpassed, one_miss, one_begun}
 use Rattle.nm_cells.proofs.PortLemmas.{CarriesFor, peer_low, peer_box_got}
-use Rattle.nm_table.proofs.BoxStepLemmas.{look_in_allowed}
+use Rattle.nm_chain.proofs.BoxStepLemmas.{look_in_allowed}
 use Rattle.nm_cells.proofs.BoxCallLemmas as calls
 use Rattle.nm_cells.specs.LooseCells.{AreKept}
 use Rattle.nm_cells.proofs.LooseLemmas.{kept_begun}

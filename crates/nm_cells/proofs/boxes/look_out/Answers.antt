@@ -3,18 +3,18 @@ use Rattle.std.proofs.Common.{arith, length-set}
 use Rattle.std.specs.Prelude.{vec_capacity}
 use Rattle.atomic_table.specs.Table.{Allows, step}
 use mathlib.Core.Option as maybe
-use Rattle.nm_table.specs.Rule.{Rule, filling_of}
-use Rattle.nm_table.specs.Plays as plays
-use Rattle.nm_table.specs.Plays.{mine}
+use Rattle.nm_chain.specs.Rule.{Rule, filling_of}
+use Rattle.nm_chain.specs.Plays as plays
+use Rattle.nm_chain.specs.Plays.{mine}
 use Rattle.nm_cells.specs.Ports.{knows, opens}
 use Rattle.nm_cells.specs.Carried.{held_in}
 use Rattle.nm_cells.specs.Counted.{peer_in, all_unpassed, one_full, one_opened}
 use Rattle.nm_cells.specs.declared.tallies.Tally.{Tally}
 use Rattle.nm_cells.specs.AtWork.{HoldsBoxes}
-use Rattle.nm_seats.specs.Spoken.{view}
+use Rattle.nm_chain.specs.Spoken.{view}
 use Rattle.nm_cells.proofs.PortLemmas.{CarriesFor}
 use Rattle.nm_cells.proofs.PortLemmas.{peer_low, peer_box_put}
-use Rattle.nm_table.proofs.BoxStepLemmas.{look_out_allowed}
+use Rattle.nm_chain.proofs.BoxStepLemmas.{look_out_allowed}
 use Rattle.nm_cells.proofs.BoxCallLemmas as calls
 use Rattle.nm_cells.specs.LooseCells.{AreKept}
 use Rattle.nm_cells.proofs.LooseLemmas.{kept_opened}

@@ -2,9 +2,9 @@ use Rattle.std.proofs.Common.{◌≡◌, [], ◌*◌, ◌<◌, replicate, inl, i
 use Rattle.std.proofs.Common.{get_or-set_same, get_or-set_other}
 use native.Mathlib.Decide.{ℕ_discrete}
 use mathlib.Core.Logic.{dite}
-use Rattle.nm_table.specs.declared.table.Hand.TheVariants.{Away}
-use Rattle.nm_table.specs.Rule.{hand, newcomer}
-use Rattle.nm_table.specs.Plays.{mine, with_hand, with_put}
+use Rattle.nm_chain.specs.declared.table.table.Hand.TheVariants.{Away}
+use Rattle.nm_chain.specs.Rule.{hand, newcomer}
+use Rattle.nm_chain.specs.Plays.{mine, with_hand, with_put}
 use Rattle.nm_cells.specs.Ports.{knows}
 use Rattle.nm_cells.specs.Counted.{peer_in, all_unpassed}
 use Rattle.nm_cells.specs.LooseCells.{IsAmong}

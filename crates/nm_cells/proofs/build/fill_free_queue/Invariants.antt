@@ -1,6 +1,6 @@
 use Rattle.std.proofs.Common.{ℕ, ◌<◌, ◌≡◌, ◌⊎◌}
-use Rattle.nm_table.specs.declared.table.Hand.TheVariants.{Away}
-use Rattle.nm_table.specs.Rule.{hand}
+use Rattle.nm_chain.specs.declared.table.table.Hand.TheVariants.{Away}
+use Rattle.nm_chain.specs.Rule.{hand}
 use Rattle.nm_cells.specs.Ports.{knows, cells_of, IsFresh, IsLoose}
 use Rattle.nm_cells.proofs.build.fill_free_queue.Given as goal
 

@@ -1,8 +1,8 @@
 use Rattle.std.proofs.Common.{◌≡◌, ◌/◌, sym, ap, ◌∙◌, arith}
 use Rattle.std.proofs.Common.{get_or-set_other}
-use Rattle.nm_table.specs.declared.table.Hand.TheVariants.{Away, Held}
-use Rattle.nm_table.specs.Rule.{hand}
-use Rattle.nm_table.specs.Plays.{with_hand}
+use Rattle.nm_chain.specs.declared.table.table.Hand.TheVariants.{Away, Held}
+use Rattle.nm_chain.specs.Rule.{hand}
+use Rattle.nm_chain.specs.Plays.{with_hand}
 use Rattle.nm_cells.specs.Ports.{knows}
 use Rattle.nm_cells.proofs.BeginLemmas.{row_of, in_row, row_low, fresh_then}
 use Rattle.nm_cells.proofs.build.loosen.Goals as goal

@@ -1,6 +1,6 @@
 use Rattle.std.proofs.Common.{◌≡◌, ℕ, ◌+◌, ◌*◌, ◌/◌, ◌<◌, ◌≤◌}
-use Rattle.nm_table.specs.declared.table.Hand.TheVariants.{Loose}
-use Rattle.nm_table.specs.Rule.{hand}
+use Rattle.nm_chain.specs.declared.table.table.Hand.TheVariants.{Loose}
+use Rattle.nm_chain.specs.Rule.{hand}
 use Rattle.nm_cells.specs.Ports.{knows, cells_of, IsFresh}
 use Rattle.nm_cells.proofs.build.loosen.Given as goal
 

@@ -2,18 +2,18 @@ use Rattle.std.proofs.Common.{◌≡◌, Option, None, false, [], ◌∷◌, suc
 use Rattle.std.proofs.Common.{◌∙◌, length, sym, refl, ap, subst, arith}
 use Rattle.std.proofs.lemmas.List.{length-replicate}
 use Rattle.std.specs.Prelude.{vec_capacity}
-use Rattle.nm_seats.specs.Spoken.{view, first_of}
-use Rattle.nm_table.specs.Plays.{Knowing, mine}
+use Rattle.nm_chain.specs.Spoken.{view, first_of}
+use Rattle.nm_chain.specs.Plays.{Knowing, mine}
 use Rattle.nm_cells.specs.AtWork.{HoldsBoxes}
 use Rattle.nm_cells.proofs.BoxPortLemmas.{boxes_new}
 use Rattle.nm_types.specs.declared.packets.Packet.{Packet}
 use Rattle.nm_cells.specs.Counted.{CountsFor, peer_in, all_unpassed}
 use Rattle.nm_cells.proofs.CountedLemmas.{counts_new}
-use Rattle.nm_table.specs.Rule.{Load, hand, newcomer, beginner, beginners}
+use Rattle.nm_chain.specs.Rule.{Load, hand, newcomer, beginner, beginners}
 use Rattle.nm_cells.proofs.BeginLemmas.{begins_carries, begins_loose, begins_away}
 use Rattle.nm_cells.proofs.BeginLemmas.{none_taken, none_unpassed}
 use Rattle.nm_cells.proofs.PortLemmas.{CarriesFor}
-use Rattle.nm_table.proofs.OpeningLemmas.{parted, first_long}
+use Rattle.nm_chain.proofs.OpeningLemmas.{parted, first_long}
 use Rattle.nm_cells.proofs.build.port_of.Goals as goal
 
 pub split_seat-seat-requires : goal.split_seat-seat-requires

@@ -1,11 +1,11 @@
 use Rattle.std.proofs.Common.{◌≡◌, suc, ◌+◌, ◌-◌, [], ◌∷◌, length, Some, sym, ap, ◌∙◌, subst}
 use Rattle.std.proofs.Common.{⊎_elim, arith, length-append}
 use Rattle.std.specs.Prelude.{slice_get}
-use Rattle.nm_seats.specs.Spoken.{view}
-use Rattle.nm_table.specs.Rule.{beginners}
+use Rattle.nm_chain.specs.Spoken.{view}
+use Rattle.nm_chain.specs.Rule.{beginners}
 use Rattle.nm_cells.specs.Ports.{Begins}
 use Rattle.nm_cells.proofs.build.ports_of.Goals as goal
-use Rattle.nm_seats.proofs.ListLemmas.{get_snoc}
+use Rattle.nm_chain.proofs.ListLemmas.{get_snoc}
 
 pub port_of-requires-clause-lowest : goal.port_of-requires-clause-lowest
 port_of-requires-clause-lowest c = let f = c.args.f.now in let r = c.loop-rank.rank in

@@ -1,8 +1,8 @@
 use Rattle.std.proofs.Common.{◌≡◌, ℕ, ◌-◌, [], Some, length}
 use Rattle.std.specs.Prelude.{slice_get}
-use Rattle.nm_seats.specs.Spoken.{view}
+use Rattle.nm_chain.specs.Spoken.{view}
 use Rattle.nm_cells.specs.declared.port.Port.{Port}
-use Rattle.nm_table.specs.Rule.{beginners}
+use Rattle.nm_chain.specs.Rule.{beginners}
 use Rattle.nm_cells.specs.Ports.{Begins}
 use Rattle.nm_cells.proofs.build.ports_of.Given as goal
 

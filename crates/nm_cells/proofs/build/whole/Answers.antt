@@ -1,7 +1,7 @@
 use Rattle.std.proofs.Common.{List, ◌+◌, ◌*◌, None, replicate, sym, ◌∙◌, subst}
 use Rattle.atomic_table.specs.Table.{opening}
-use Rattle.nm_table.specs.Rule.{Load, Rule, first_view}
-use Rattle.nm_table.proofs.OpeningLemmas.{starts}
+use Rattle.nm_chain.specs.Rule.{Load, Rule, first_view}
+use Rattle.nm_chain.proofs.OpeningLemmas.{starts}
 use Rattle.nm_cells.proofs.build.whole.Goals as goal
 
 pub new-requires : goal.new-requires

@@ -1,7 +1,7 @@
 use Rattle.std.proofs.Common.{◌≡◌, ℕ, ◌+◌, ◌≤◌, [], ◌++◌, map, length, Some, vec_capacity}
 use Rattle.std.specs.Prelude.{slice_get}
 use Rattle.nm_cells.specs.declared.port.Port.{Port}
-use Rattle.nm_seats.specs.Spoken.{view}
+use Rattle.nm_chain.specs.Spoken.{view}
 use Rattle.nm_cells.specs.Ports.{knows}
 use Rattle.nm_cells.proofs.close.gather.Given as goal
 

@@ -1,9 +1,9 @@
 use Rattle.std.proofs.Common.{◌∙◌, ap, refl}
 use Rattle.std.proofs.Common.{sym, subst}
 use Rattle.std.proofs.Common.{◌<◌, arith}
-use Rattle.nm_table.proofs.ConsumerLemmas.{hide_allowed}
+use Rattle.nm_chain.proofs.ConsumerLemmas.{hide_allowed}
 use Rattle.nm_cells.specs.AtWork.{HoldsBoxes}
-use Rattle.nm_table.specs.Plays.{Knowing, mine}
+use Rattle.nm_chain.specs.Plays.{Knowing, mine}
 use Rattle.nm_cells.proofs.BoxPortLemmas.{boxes_heads}
 use Rattle.nm_cells.proofs.StayLemmas.{heads_owns, heads_holds}
 use Rattle.nm_cells.specs.LooseCells.{AreKept}

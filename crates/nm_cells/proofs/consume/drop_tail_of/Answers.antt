@@ -3,14 +3,14 @@ use Rattle.nm_cells.specs.Carried.{held_in}
 use Rattle.std.proofs.Common.{◌+◌, ◌-◌, ◌*◌, ◌<◌, sym, refl, ap, subst}
 use Rattle.std.proofs.Common.{arith}
 use Rattle.std.specs.Prelude.{vec_capacity}
-use Rattle.nm_table.proofs.ConsumerLemmas.{drain_allowed}
+use Rattle.nm_chain.proofs.ConsumerLemmas.{drain_allowed}
 use Rattle.nm_cells.proofs.PortLemmas.{takes_room, takes_carries, takes_hands}
 use Rattle.nm_cells.proofs.PortLemmas.{takes_boxes, takes_kept, takes_count, takes_counts, takes_made}
 use Rattle.nm_cells.proofs.PortLemmas.{takes_own, takes_owner, takes_shadow}
-use Rattle.nm_table.specs.Plays.{Knowing, mine}
+use Rattle.nm_chain.specs.Plays.{Knowing, mine}
 use Rattle.nm_cells.specs.AtWork.{HoldsBoxes}
 use Rattle.nm_cells.specs.LooseCells.{AreKept}
-use Rattle.nm_table.specs.Plays.{Alone}
+use Rattle.nm_chain.specs.Plays.{Alone}
 use Rattle.nm_cells.proofs.consume.drop_tail_of.Goals as goal
 
 pub compare_exchange-found-requires : goal.compare_exchange-found-requires

@@ -5,9 +5,9 @@ use Rattle.nm_cells.proofs.consume.load_head_of.Goals.{then-this-ne0+then-found-
 use Rattle.nm_cells.proofs.consume.load_head_of.Goals.{else-this-ne0+then-found-eq0-2, else-this-ne0+else-found-eq0-2}
 use Rattle.std.proofs.Common.{sym, subst}
 use Rattle.std.proofs.Common.{◌<◌, arith}
-use Rattle.nm_table.proofs.ConsumerLemmas.{note_allowed}
+use Rattle.nm_chain.proofs.ConsumerLemmas.{note_allowed}
 use Rattle.nm_cells.specs.AtWork.{HoldsBoxes}
-use Rattle.nm_table.specs.Plays.{Knowing, mine}
+use Rattle.nm_chain.specs.Plays.{Knowing, mine}
 use Rattle.nm_cells.proofs.BoxPortLemmas.{boxes_heads}
 use Rattle.nm_cells.specs.LooseCells.{AreKept}
 use Rattle.nm_cells.proofs.LooseLemmas.{kept_heads}

@@ -5,14 +5,14 @@ use Rattle.std.proofs.Common.{◌≡◌, ◌+◌, ◌-◌, ◌*◌, ◌<◌, ref
 use Rattle.std.proofs.Common.{arith}
 use Rattle.std.specs.Prelude.{vec_capacity}
 use Rattle.nm_cells.specs.Ports.{knows}
-use Rattle.nm_table.proofs.ConsumerLemmas.{reload_allowed}
+use Rattle.nm_chain.proofs.ConsumerLemmas.{reload_allowed}
 use Rattle.nm_cells.proofs.PortLemmas.{shadow_below, takes_shadow, takes_room, takes_carries, takes_hands}
 use Rattle.nm_cells.proofs.PortLemmas.{takes_boxes, takes_kept, takes_count, takes_counts, takes_made}
 use Rattle.nm_cells.proofs.PortLemmas.{takes_own, takes_owner}
-use Rattle.nm_table.specs.Plays.{Knowing, mine}
+use Rattle.nm_chain.specs.Plays.{Knowing, mine}
 use Rattle.nm_cells.specs.AtWork.{HoldsBoxes}
 use Rattle.nm_cells.specs.LooseCells.{AreKept}
-use Rattle.nm_table.specs.Plays.{Alone}
+use Rattle.nm_chain.specs.Plays.{Alone}
 use Rattle.nm_cells.proofs.consume.reload_link_of.Goals as goal
 
 pub load-found-requires : goal.load-found-requires

@@ -1,9 +1,9 @@
 use Rattle.std.proofs.Common.{◌≡◌, [], ◌∷◌, ◌+◌, ◌-◌, ◌*◌, ◌/◌, ◌<◌, None, sym, ap, ◌∙◌, subst, arith}
 use Rattle.std.specs.Prelude.{vec_capacity}
-use Rattle.nm_seats.specs.Spoken.{view}
-use Rattle.nm_table.specs.declared.table.Hand.TheVariants.{Held}
-use Rattle.nm_table.specs.Plays.{with_hand}
-use Rattle.nm_table.proofs.ProducerLemmas.{pick_allowed}
+use Rattle.nm_chain.specs.Spoken.{view}
+use Rattle.nm_chain.specs.declared.table.table.Hand.TheVariants.{Held}
+use Rattle.nm_chain.specs.Plays.{with_hand}
+use Rattle.nm_chain.proofs.ProducerLemmas.{pick_allowed}
 use Rattle.nm_cells.specs.Ports.{knows}
 use Rattle.nm_cells.proofs.BeginLemmas.{picked_room, picked_carries, picked_boxes, picked_kept}
 use Rattle.nm_cells.proofs.PortLemmas.{CarriesFor}

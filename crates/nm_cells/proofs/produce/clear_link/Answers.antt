@@ -1,14 +1,14 @@
 use Rattle.std.proofs.Common.{◌≡◌, [], ◌∷◌, ◌+◌, ◌-◌, ◌*◌, ◌<◌, length, sym, ap, ◌∙◌, subst, arith}
 use Rattle.std.specs.Prelude.{vec_capacity}
-use Rattle.nm_seats.specs.Spoken.{view}
-use Rattle.nm_table.specs.declared.table.Hand.TheVariants.{Ready}
-use Rattle.nm_table.specs.Plays.{mine, with_hand, load_in}
+use Rattle.nm_chain.specs.Spoken.{view}
+use Rattle.nm_chain.specs.declared.table.table.Hand.TheVariants.{Ready}
+use Rattle.nm_chain.specs.Plays.{mine, with_hand, load_in}
 use Rattle.nm_cells.specs.Ports.{knows}
-use Rattle.nm_table.proofs.ProducerLemmas.{clear_allowed}
+use Rattle.nm_chain.proofs.ProducerLemmas.{clear_allowed}
 use Rattle.nm_cells.proofs.HoldingLemmas.{held_here}
 use Rattle.nm_cells.proofs.PortLemmas.{cleared_carries}
 use Rattle.nm_cells.specs.AtWork.{HoldsBoxes}
-use Rattle.nm_table.specs.Plays as plays
+use Rattle.nm_chain.specs.Plays as plays
 use Rattle.nm_cells.specs.LooseCells.{IsAmong, AreKept}
 use Rattle.nm_cells.proofs.LooseLemmas.{kept_hand}
 use Rattle.nm_cells.proofs.produce.clear_link.Goals as goal

@@ -1,15 +1,15 @@
 use Rattle.std.proofs.Common.{◌≡◌, [], ◌∷◌, ◌+◌, ◌-◌, ◌<◌, sym, ap, ◌∙◌, subst, arith, length}
 use Rattle.std.proofs.Common.{length-set, refl, ◌≤◌}
 use Rattle.std.specs.Prelude.{vec_capacity}
-use Rattle.nm_seats.specs.Spoken.{view}
-use Rattle.nm_table.specs.declared.table.Hand.TheVariants.{Away, Entering}
-use Rattle.nm_table.specs.Plays.{with_hand}
+use Rattle.nm_chain.specs.Spoken.{view}
+use Rattle.nm_chain.specs.declared.table.table.Hand.TheVariants.{Away, Entering}
+use Rattle.nm_chain.specs.Plays.{with_hand}
 use Rattle.nm_cells.specs.Carried.{held_in}
 use Rattle.nm_cells.specs.Ports.{knows}
-use Rattle.nm_table.proofs.ProducerLemmas.{head_allowed}
+use Rattle.nm_chain.proofs.ProducerLemmas.{head_allowed}
 use Rattle.nm_cells.proofs.PortLemmas.{finished_carries, some_in_hand}
 use Rattle.nm_cells.specs.AtWork.{HoldsBoxes}
-use Rattle.nm_table.specs.Plays as plays
+use Rattle.nm_chain.specs.Plays as plays
 use Rattle.nm_cells.specs.LooseCells.{IsAmong, AreKept}
 use Rattle.nm_cells.proofs.LooseLemmas.{entering_apart, kept_hand}
 use Rattle.nm_cells.proofs.produce.store_head.Goals as goal

@@ -3,19 +3,19 @@ use Rattle.std.proofs.Common.{◌∙◌, ◌≤◌, refl, set, subst, arith, len
 use Rattle.std.specs.Prelude.{vec_capacity, slice_index_or, remove}
 use Rattle.atomic_table.specs.Table.{rest}
 use Rattle.nm_chain.specs.Chain.{item}
-use Rattle.nm_seats.specs.Spoken.{view}
-use Rattle.nm_seats.specs.Update.{update}
-use Rattle.nm_table.specs.declared.table.Hand.TheVariants.{Away, Entering}
-use Rattle.nm_table.specs.Rule.{Suits, sender, number, sent_to, posted}
-use Rattle.nm_table.specs.Plays.{mine, sole, with_hand, with_put, first_load}
+use Rattle.nm_chain.specs.Spoken.{view}
+use Rattle.nm_chain.specs.Update.{update}
+use Rattle.nm_chain.specs.declared.table.table.Hand.TheVariants.{Away, Entering}
+use Rattle.nm_chain.specs.Rule.{Suits, sender, number, sent_to, posted}
+use Rattle.nm_chain.specs.Plays.{mine, sole, with_hand, with_put, first_load}
 use Rattle.nm_cells.specs.Ports.{knows, holding, rank_of_queue, posted_in}
 use Rattle.nm_cells.specs.Ports.{HasRoomFor}
 use Rattle.nm_cells.specs.Counted.{CountsFor, peer_in, all_unpassed}
-use Rattle.nm_table.proofs.ProducerLemmas.{swap_allowed}
+use Rattle.nm_chain.proofs.ProducerLemmas.{swap_allowed}
 use Rattle.nm_cells.proofs.PortLemmas.{CarriesFor, swapped_carries, swapped_holds, posted_is}
 use Rattle.nm_cells.proofs.PortLemmas.{sent_counts, room_for, sent_taken, may_suits, may_low}
 use Rattle.nm_cells.specs.AtWork.{HoldsBoxes}
-use Rattle.nm_table.specs.Plays.{Knowing}
+use Rattle.nm_chain.specs.Plays.{Knowing}
 use Rattle.nm_cells.proofs.BoxPortLemmas.{boxes_popped}
 use Rattle.nm_cells.specs.LooseCells.{IsAmong, AreKept}
 use Rattle.nm_cells.proofs.LooseLemmas.{kept_hand, kept_pop}

@@ -2,7 +2,7 @@ use Rattle.std.proofs.Common.{◌∷◌, length, sym, ap, ◌∙◌, subst, arit
 use Rattle.std.proofs.lemmas.List.{length-map}
 use Rattle.std.specs.Prelude.{slice_index, slice_index_or, vec_capacity}
 use Rattle.atomic_table.specs.Table.{rest}
-use Rattle.nm_table.specs.Plays.{sole, load_in}
+use Rattle.nm_chain.specs.Plays.{sole, load_in}
 use Rattle.nm_cells.specs.Ports.{knows}
 use Rattle.nm_cells.specs.AtWork.{HoldsBoxes}
 use Rattle.nm_cells.specs.Carried.{Carries, held_in, times}
@@ -10,7 +10,7 @@ use Rattle.nm_cells.specs.Counted.{CountsFor}
 use Rattle.nm_cells.proofs.HoldingLemmas.{turned_by, carries_turned, front_at, still_held}
 use Rattle.nm_cells.proofs.HoldingLemmas.{found_at}
 use Rattle.nm_cells.proofs.BoxPortLemmas.{boxes_turned}
-use Rattle.nm_table.specs.declared.table.Hand.TheVariants.{Away}
+use Rattle.nm_chain.specs.declared.table.table.Hand.TheVariants.{Away}
 use Rattle.nm_cells.specs.LooseCells.{AreKept}
 use Rattle.nm_cells.proofs.CarriedLemmas.{slots_one}
 use Rattle.nm_cells.proofs.LooseLemmas.{kept_turned}

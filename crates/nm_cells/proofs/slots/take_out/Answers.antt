@@ -1,8 +1,8 @@
 use Rattle.std.proofs.Common.{◌*◌, ◌<◌, None, length, sym, ap, ◌∙◌, subst}
 use Rattle.std.specs.Prelude.{vec_capacity, IsSome}
 use Rattle.atomic_table.specs.Table.{rest}
-use Rattle.nm_seats.specs.Update.{update}
-use Rattle.nm_table.specs.Plays.{Knowing, mine, sole, first_load}
+use Rattle.nm_chain.specs.Update.{update}
+use Rattle.nm_chain.specs.Plays.{Knowing, mine, sole, first_load}
 use Rattle.nm_cells.specs.AtWork.{HoldsBoxes}
 use Rattle.nm_cells.proofs.BoxPortLemmas.{boxes_exchanged}
 use Rattle.nm_cells.specs.Ports.{knows}

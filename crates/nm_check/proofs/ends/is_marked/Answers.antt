@@ -5,7 +5,7 @@ use Rattle.std.specs.List.{list_all}
 use Rattle.std.proofs.lemmas.List.Folds.{list_all-map}
 use Rattle.nm_history.specs.Quiescence.{Ended}
 use Rattle.nm_report.specs.declared.accounts.RankAccount.{RankAccount}
-use Rattle.nm_places.specs.Deciding.{Decides}
+use Rattle.nm_lookups.specs.Deciding.{Decides}
 use Rattle.nm_check_rank.proofs.RuleLemmas.{same_decided}
 use Rattle.nm_check.proofs.ends.is_marked.Goals as goal
 

@@ -3,8 +3,8 @@ use Rattle.std.proofs.lemmas.List.{length-map}
 use Rattle.nm_history.specs.Quiescence.{AreQuiescent, EachPair, EachRank}
 use Rattle.nm_report.specs.Ends.{ends_of, packets_of}
 use Rattle.nm_check.specs.Verdicts.{Judges, RunsItsOwn}
-use Rattle.nm_check_between.specs.CarriedClauses.{PairDelivered}
-use Rattle.nm_check_between.proofs.RankLemmas.{ended}
+use Rattle.nm_check_ranks.specs.CarriedClauses.{PairDelivered}
+use Rattle.nm_check_ranks.proofs.RankLemmas.{ended}
 use Rattle.nm_check.proofs.ExactLemmas.{only_holds}
 use Rattle.nm_check.proofs.judging.judge.Goals as goal
 

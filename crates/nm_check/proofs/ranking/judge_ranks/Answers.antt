@@ -3,13 +3,13 @@ use Rattle.std.proofs.lemmas.List.{length-map}
 use Rattle.nm_types.specs.Commands.{commands_of}
 use Rattle.nm_history.specs.RankRun.{IsRankRun}
 use Rattle.nm_report.specs.Ends.{ends_of}
-use Rattle.nm_check_paired.specs.Tabled.{AreTables}
-use Rattle.nm_check_paired.specs.declared.tables.Tables.{Tables}
+use Rattle.nm_check_rank.specs.Tabled.{AreTables}
+use Rattle.nm_check_rank.specs.declared.paired.tables.Tables.{Tables}
 use Rattle.nm_check_rank.specs.FirstBroken.{IsFirstBroken}
 use Rattle.nm_check_rank.specs.OwnClauses.{KeepsOwn, own_order}
 use Rattle.nm_check.specs.Verdicts.{RunsItsOwn}
-use Rattle.nm_check_between.proofs.ItemLemmas.{EachItem, no_item, one_more}
-use Rattle.nm_check_between.proofs.RankLemmas.{all_ranks, below, ended, next_rank, none_yet}
+use Rattle.nm_check_ranks.proofs.ItemLemmas.{EachItem, no_item, one_more}
+use Rattle.nm_check_ranks.proofs.RankLemmas.{all_ranks, below, ended, next_rank, none_yet}
 use Rattle.nm_check.proofs.RankedLemmas.{TabledAt, of_end}
 use Rattle.nm_check.proofs.ranking.judge_ranks.Goals as goal
 

@@ -1,8 +1,8 @@
 use Rattle.std.proofs.Common.{◌≡◌, length}
 use Rattle.nm_report.specs.Ends.{ends_of}
 use Rattle.nm_check.specs.Verdicts.{RunsItsOwn}
-use Rattle.nm_check_between.proofs.ItemLemmas.{EachItem}
-use Rattle.nm_check_between.proofs.RankLemmas.{UpTo}
+use Rattle.nm_check_ranks.proofs.ItemLemmas.{EachItem}
+use Rattle.nm_check_ranks.proofs.RankLemmas.{UpTo}
 use Rattle.nm_check.proofs.RankedLemmas.{TabledAt}
 use Rattle.nm_check.proofs.ranking.judge_ranks.Given as goal
 

@@ -1,5 +1,5 @@
 use Rattle.nm_history.specs.RankRun.{EndAt}
-use Rattle.nm_places.proofs.StepLemmas.{all_kept, goes_on, none_yet}
+use Rattle.nm_lookups.proofs.StepLemmas.{all_kept, goes_on, none_yet}
 use Rattle.nm_check_rank.proofs.BreakLemmas.{breaks_first}
 use Rattle.nm_check_rank.proofs.ends.first_end.Goals as goal
 

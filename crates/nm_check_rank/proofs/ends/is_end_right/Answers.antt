@@ -1,6 +1,6 @@
 use Rattle.std.proofs.Common.{◌≡◌, Bool, false, take, subst}
 use Rattle.std.specs.Prelude.{IsTrue}
-use Rattle.nm_places.specs.Deciding.{Decides}
+use Rattle.nm_lookups.specs.Deciding.{Decides}
 use Rattle.nm_check_rank.proofs.RuleLemmas.{no_end, out_at, undone_at, withdraw_at}
 use Rattle.nm_check_rank.proofs.ends.is_end_right.Goals as goal
 

@@ -3,7 +3,7 @@ use Rattle.std.proofs.lemmas.List.{length-take-le, take_all}
 use Rattle.nm_history.specs.declared.events.Event.{Event}
 use Rattle.nm_check_rank.specs.Counted.{AreCounted}
 use Rattle.nm_check_rank.proofs.numbers.counted.Goals as goal
-use Rattle.nm_facts.proofs.Lists.{take_next}
+use Rattle.nm_types.proofs.ListLemmas.{take_next}
 
 pub loop-e-init : goal.loop-e-init
 loop-e-init c = c.none-counts.ensures

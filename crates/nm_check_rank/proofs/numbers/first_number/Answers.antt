@@ -3,10 +3,10 @@ use Rattle.std.proofs.lemmas.List.{length-take-le}
 use Rattle.nm_history.specs.declared.events.Event.{Event}
 use Rattle.nm_history.specs.RankRun.{NumberAt}
 use Rattle.nm_check_rank.specs.Counted.{AreCounted}
-use Rattle.nm_places.proofs.StepLemmas.{all_kept, goes_on, none_yet}
+use Rattle.nm_lookups.proofs.StepLemmas.{all_kept, goes_on, none_yet}
 use Rattle.nm_check_rank.proofs.BreakLemmas.{breaks_first}
 use Rattle.nm_check_rank.proofs.numbers.first_number.Goals as goal
-use Rattle.nm_facts.proofs.Lists.{take_next}
+use Rattle.nm_types.proofs.ListLemmas.{take_next}
 
 pub loop-k-init : goal.loop-k-init
 loop-k-init c = (c.none-counts.ensures, none_yet (λ before e. NumberAt c.args.ranks before e.what) c.args.events.now)

@@ -1,10 +1,10 @@
 use Rattle.std.proofs.Common.{◌≡◌, ℕ, ◌<◌, arith, refl, sym, ◌∙◌, ap, subst, length, take, get_or}
 use Rattle.nm_history.specs.RankRun.{StampAt, last_stamp}
 use Rattle.nm_history.proofs.EarlierLemmas.{last_stamp-push}
-use Rattle.nm_places.proofs.StepLemmas.{all_kept, goes_on, none_yet}
+use Rattle.nm_lookups.proofs.StepLemmas.{all_kept, goes_on, none_yet}
 use Rattle.nm_check_rank.proofs.BreakLemmas.{breaks_first}
 use Rattle.nm_check_rank.proofs.stamps.first_stamp.Goals as goal
-use Rattle.nm_facts.proofs.Lists.{take_next}
+use Rattle.nm_types.proofs.ListLemmas.{take_next}
 
 pub loop-k-init : goal.loop-k-init
 loop-k-init c = (refl, none_yet (λ before e. StampAt before e.stamp) c.args.events.now)

@@ -1,7 +1,7 @@
 -- What was asked for is done, and a flood and several threads need no source.
 use Rattle.std.proofs.Common.{◌≡◌, sym, ◌∙◌}
 use Rattle.std.proofs.lemmas.Result.{IfOk-weaker}
-use Rattle.nm_command_line.specs.declared.Mode.TheVariants.{Flood, Multi, Check}
+use Rattle.nm_script.specs.declared.command_line.Mode.TheVariants.{Flood, Multi, Check}
 use Rattle.nm_cli.proofs.RunLemmas.{flood_answered, log_answered, log_told, loses_none, told, unread_source}
 use Rattle.nm_cli.proofs.finding.answer_line.Goals as goal
 

@@ -3,8 +3,8 @@ use Rattle.std.proofs.Common.{◌≡◌, None, Some, sym, ◌∙◌, refl, map, 
 use Rattle.std.specs.Prelude.{IsSomeAnd}
 use Rattle.std.proofs.lemmas.Result.{IfOk-weaker}
 use Rattle.nm_outside.specs.Told.{LosesAtMost}
-use Rattle.nm_command_line.specs.declared.CommandLine.{CommandLine}
-use Rattle.nm_command_line.specs.declared.Mode.TheVariants.{Check}
+use Rattle.nm_script.specs.declared.command_line.CommandLine.{CommandLine}
+use Rattle.nm_script.specs.declared.command_line.Mode.TheVariants.{Check}
 use Rattle.nm_cli.specs.Checks.{IsWritten}
 use Rattle.nm_cli.specs.Scripts.{ReadsSource, limit_of}
 use Rattle.nm_cli.proofs.RunLemmas.{line_answered, read_for}

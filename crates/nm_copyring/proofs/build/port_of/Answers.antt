@@ -1,6 +1,6 @@
 use Rattle.std.proofs.Common.{◌≡◌, suc, ◌-◌, ◌<◌, [], length, sym, refl, ap, ◌∙◌, subst, arith}
 use Rattle.std.proofs.lemmas.List.{length-replicate}
-use Rattle.nm_seats.specs.Spoken.{first_of}
+use Rattle.nm_chain.specs.Spoken.{first_of}
 use Rattle.nm_copyring.specs.declared.table.Entry.{Entry}
 use Rattle.nm_copyring.specs.Counted.{Counts, tally}
 use Rattle.nm_copyring.specs.Plays.{Rests, knowing, mine}

@@ -1,10 +1,10 @@
 use Rattle.std.proofs.Common.{◌≡◌, suc, ◌+◌, ◌-◌, [], ◌∷◌, length, Some, sym, ap, ◌∙◌, subst}
 use Rattle.std.proofs.Common.{⊎_elim, arith, length-append}
 use Rattle.std.specs.Prelude.{slice_get}
-use Rattle.nm_seats.specs.Spoken.{view}
+use Rattle.nm_chain.specs.Spoken.{view}
 use Rattle.nm_copyring.specs.Rule.{newcomers}
 use Rattle.nm_copyring.specs.Ports.{IsNew}
-use Rattle.nm_seats.proofs.ListLemmas.{get_snoc}
+use Rattle.nm_chain.proofs.ListLemmas.{get_snoc}
 use Rattle.nm_copyring.proofs.build.ports_of.Goals as goal
 
 pub port_of-requires-clause-lowest : goal.port_of-requires-clause-lowest

@@ -2,12 +2,12 @@ use Rattle.std.proofs.Common.{rules, ◌≡◌, ◌<◌, [], ◌∷◌, ◌++◌
 use Rattle.std.proofs.Common.{subst, arith, append_assoc, option_to_list}
 use Rattle.std.proofs.lemmas.List.{map-append}
 use Rattle.std.specs.Prelude.{slice_get}
-use Rattle.nm_seats.specs.Spoken.{view}
+use Rattle.nm_chain.specs.Spoken.{view}
 use Rattle.nm_copyring.specs.Ports.{sees}
 use Rattle.nm_copyring.proofs.ListLemmas.{place_low}
 use Rattle.nm_copyring.proofs.ClosingLemmas.{merged}
 use Rattle.nm_copyring.proofs.closing.gather.Goals as goal
-use Rattle.nm_facts.proofs.Lists.{get_before, get_last, no_items}
+use Rattle.nm_types.proofs.ListLemmas.{get_before, get_last, no_items}
 
 pub loop-port-init : goal.loop-port-init
 loop-port-init c = let p = c.in-Some.last in let left = c.pop.new.self.items in

@@ -1,6 +1,6 @@
 use Rattle.std.proofs.Common.{◌≡◌, ℕ, [], ◌++◌, map, length, Some}
 use Rattle.std.specs.Prelude.{slice_get}
-use Rattle.nm_seats.specs.Spoken.{view}
+use Rattle.nm_chain.specs.Spoken.{view}
 use Rattle.nm_copyring.specs.declared.port.RingPort.{RingPort}
 use Rattle.nm_copyring.specs.Ports.{sees}
 use Rattle.nm_copyring.proofs.closing.gather.Given as goal

@@ -4,8 +4,8 @@ use Rattle.std.specs.Prelude.{slice_index}
 use Rattle.std.specs.Slots.{slots_filled, slots_items, slots_len}
 use mathlib.Core.Option as maybe
 use lib.ListN.{get_elem?}
-use Rattle.nm_seats.specs.Total.{total, sign}
-use Rattle.nm_seats.proofs.TotalLemmas.{positive}
+use Rattle.nm_chain.specs.Total.{total, sign}
+use Rattle.nm_chain.proofs.TotalLemmas.{positive}
 use Rattle.nm_copyring.specs.AtClose.{Gathered, Prefixed, not_pulled}
 use Rattle.nm_copyring.proofs.ClosingLemmas.{prefixes, left_over, one_more}
 use Rattle.nm_copyring.proofs.closing.settle.Goals as goal

@@ -1,7 +1,7 @@
 use Rattle.std.proofs.Common.{◌≡◌, ℕ, ◌<◌, ◌≤◌, true, false, get_or}
 use Rattle.std.specs.Prelude.{slice_index}
 use Rattle.std.specs.Slots.{slots_filled, slots_items, slots_len}
-use Rattle.nm_seats.specs.Total.{total, sign}
+use Rattle.nm_chain.specs.Total.{total, sign}
 use Rattle.nm_copyring.proofs.closing.settle.Given as goal
 
 abbrev pub invariant-loop-i : goal.invariant-loop-i

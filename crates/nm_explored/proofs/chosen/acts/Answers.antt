@@ -1,11 +1,11 @@
 -- The moves of a rank's next command are there, and nothing else.
 use Rattle.std.proofs.Common.{◌≡◌}
-use Rattle.nm_spots.specs.declared.deeds.Deed.{Deed}
-use Rattle.nm_choices.specs.declared.moves.Move.TheVariants.{Act}
-use Rattle.nm_choices.specs.declared.moves.Turn.{Turn}
-use Rattle.nm_choices.specs.Choices.{spot_in}
-use Rattle.nm_choices.specs.Moves.{IsAct}
-use Rattle.nm_choices.proofs.KeptLemmas.{has_nothing, or_more}
+use Rattle.nm_outcomes.specs.declared.spots.deeds.Deed.{Deed}
+use Rattle.nm_explored.specs.declared.choices.moves.Move.TheVariants.{Act}
+use Rattle.nm_explored.specs.declared.choices.moves.Turn.{Turn}
+use Rattle.nm_explored.specs.Successors.{spot_in}
+use Rattle.nm_explored.specs.Moves.{IsAct}
+use Rattle.nm_explored.proofs.KeptLemmas.{has_nothing, or_more}
 use Rattle.nm_explored.proofs.chosen.acts.Goals as goal
 
 pub returns-clause-only : goal.returns-clause-only

@@ -1,8 +1,8 @@
 -- The moves of one rank are moves that it may make.
 use Rattle.std.proofs.Common.{◌≡◌, Some, sym, ◌∙◌, ap}
 use Rattle.std.specs.Prelude.{option_copied}
-use Rattle.nm_choices.specs.Choices.{spot_in}
-use Rattle.nm_choices.proofs.KeptLemmas.{acts, turn_of}
+use Rattle.nm_explored.specs.Successors.{spot_in}
+use Rattle.nm_explored.proofs.KeptLemmas.{acts, turn_of}
 use Rattle.nm_explored.proofs.TellLemmas.{ok_weaker}
 use Rattle.nm_explored.proofs.chosen.enough.Goals as goal
 

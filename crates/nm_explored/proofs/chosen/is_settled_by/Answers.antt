@@ -2,8 +2,8 @@
 use Rattle.std.proofs.Common.{◌≡◌, sym, ◌∙◌, ap, subst}
 use Rattle.std.specs.Prelude.{IsTrue}
 use Rattle.nm_types.specs.declared.scripts.Command.{Command}
-use Rattle.nm_facts.proofs.Options.{some_of}
-use Rattle.nm_choices.specs.Choices.{answer_in, spot_in}
+use Rattle.nm_types.proofs.OptionLemmas.{some_of}
+use Rattle.nm_explored.specs.Successors.{answer_in, spot_in}
 use Rattle.nm_explored.specs.Chosen.{IsSettledBy}
 use Rattle.nm_explored.proofs.chosen.is_settled_by.Goals as goal
 

@@ -1,8 +1,8 @@
 -- What is told at the first states that are at rest is told at an end.
 use Rattle.std.proofs.Common.{◌≡◌, ℕ, ◌<◌, Some, List, map}
 use Rattle.std.specs.List.{slice_get}
-use Rattle.nm_choices.specs.Choices.{spot_in}
-use Rattle.nm_choices.specs.Lists.{Has}
+use Rattle.nm_explored.specs.Successors.{spot_in}
+use Rattle.nm_explored.specs.Lists.{Has}
 use Rattle.nm_explored.specs.Ends.{AreAtRest, all_told, told_at_end}
 use Rattle.nm_explored.proofs.ends.ends_of.Given as goal
 

@@ -3,7 +3,7 @@ use Rattle.std.proofs.Common.{◌≡◌, ◌+◌, take, sym}
 use Rattle.std.specs.List.{filter_map}
 use Rattle.nm_history.specs.declared.events.Event.{Event}
 use Rattle.nm_report.specs.Told.{told_by}
-use Rattle.nm_spots.specs.Deeds.{happening}
+use Rattle.nm_outcomes.specs.Deeds.{happening}
 use Rattle.nm_explored.proofs.ToldLemmas.{taken_told}
 use Rattle.nm_explored.proofs.ends.history.Goals as goal
 

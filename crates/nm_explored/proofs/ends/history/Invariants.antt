@@ -2,7 +2,7 @@
 use Rattle.std.proofs.Common.{◌≡◌, take}
 use Rattle.std.specs.List.{filter_map}
 use Rattle.nm_report.specs.Told.{told_by}
-use Rattle.nm_spots.specs.Deeds.{happening}
+use Rattle.nm_outcomes.specs.Deeds.{happening}
 use Rattle.nm_explored.proofs.ends.history.Given as goal
 
 abbrev pub invariant-loop-deed : goal.invariant-loop-deed

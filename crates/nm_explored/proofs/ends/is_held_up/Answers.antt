@@ -1,9 +1,9 @@
 -- A command that is held up can be.
 use Rattle.std.proofs.Common.{◌≡◌, Some, List, sym, ◌∙◌, ap}
 use Rattle.std.specs.Prelude.{count_by}
-use Rattle.nm_spots.specs.declared.deeds.Deed.{Deed}
-use Rattle.nm_spots.specs.Looks.{is_answer_by}
-use Rattle.nm_choices.specs.Lines.{line_in}
+use Rattle.nm_outcomes.specs.declared.spots.deeds.Deed.{Deed}
+use Rattle.nm_outcomes.specs.Looks.{is_answer_by}
+use Rattle.nm_explored.specs.Lines.{line_in}
 use Rattle.nm_explored.proofs.ends.is_held_up.Goals as goal
 
 pub returns-else-is_waiting : goal.returns-else-is_waiting

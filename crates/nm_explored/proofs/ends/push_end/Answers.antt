@@ -2,8 +2,8 @@
 use Rattle.std.proofs.Common.{◌≡◌, List, [], ◌∷◌, ◌++◌, map, ◌∙◌, ap, subst}
 use Rattle.std.proofs.lemmas.List.{map-append}
 use Rattle.nm_report.specs.Told.{RankTold}
-use Rattle.nm_choices.specs.Lists.{Has}
-use Rattle.nm_choices.proofs.KeptLemmas.{has_push, keeps_push}
+use Rattle.nm_explored.specs.Lists.{Has}
+use Rattle.nm_explored.proofs.KeptLemmas.{has_push, keeps_push}
 use Rattle.nm_explored.specs.declared.ends.End.{End}
 use Rattle.nm_explored.specs.Ends.{told_at_end}
 use Rattle.nm_explored.proofs.ends.push_end.Goals as goal

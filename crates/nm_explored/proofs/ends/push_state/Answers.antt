@@ -2,10 +2,10 @@
 use Rattle.std.proofs.Common.{◌≡◌, ℕ, Some, List, map, ◌∙◌, ap, subst, arith}
 use Rattle.std.specs.Prelude.{OnOk, Result, Ok, Err}
 use Rattle.std.specs.List.{slice_get}
-use Rattle.nm_facts.proofs.Lists.{place_below}
-use Rattle.nm_spots.specs.Spots.{Spot}
-use Rattle.nm_choices.specs.Choices.{spot_in}
-use Rattle.nm_choices.specs.Lists.{Has}
+use Rattle.nm_types.proofs.ListLemmas.{place_below}
+use Rattle.nm_outcomes.specs.RankStates.{Spot}
+use Rattle.nm_explored.specs.Successors.{spot_in}
+use Rattle.nm_explored.specs.Lists.{Has}
 use Rattle.nm_explored.specs.Ends.{AreAtRest, all_told, told_at_end}
 use Rattle.nm_explored.specs.Stores.{Store}
 use Rattle.nm_explored.proofs.StoreLemmas.{looked_up}

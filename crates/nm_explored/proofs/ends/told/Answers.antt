@@ -1,7 +1,7 @@
 -- One rank more.
 use Rattle.std.proofs.Common.{◌≡◌, ◌+◌, map, sym}
 use Rattle.nm_report.specs.Told.{told_of_rank}
-use Rattle.nm_choices.specs.Choices.{spot_in}
+use Rattle.nm_explored.specs.Successors.{spot_in}
 use Rattle.nm_explored.specs.Ends.{all_told}
 use Rattle.nm_explored.proofs.ToldLemmas.{told_more}
 use Rattle.nm_explored.proofs.ends.told.Goals as goal

@@ -1,7 +1,7 @@
 -- What the ranks so far told.
 use Rattle.std.proofs.Common.{◌≡◌, map}
 use Rattle.nm_report.specs.Told.{told_of_rank}
-use Rattle.nm_choices.specs.Choices.{spot_in}
+use Rattle.nm_explored.specs.Successors.{spot_in}
 use Rattle.nm_explored.specs.Ends.{all_told}
 use Rattle.nm_explored.proofs.ends.told.Given as goal
 

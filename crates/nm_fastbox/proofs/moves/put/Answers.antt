@@ -1,7 +1,7 @@
 use Rattle.std.proofs.Common.{ℕ, List, [], ◌∷◌, Some, true, false, refl, ap, ◌∙◌, arith}
 use Rattle.std.proofs.lemmas.List.{set-set}
-use Rattle.nm_table.specs.Plays.{with_filling, with_put_box}
-use Rattle.nm_table.specs.Rule.{Load, sent_to}
+use Rattle.nm_chain.specs.Plays.{with_filling, with_put_box}
+use Rattle.nm_chain.specs.Rule.{Load, sent_to}
 use Rattle.nm_cells.specs.Ports.{knows}
 use Rattle.nm_fastbox.proofs.PutLemmas.{sent_box}
 use Rattle.nm_fastbox.proofs.moves.put.Goals as goal

@@ -1,7 +1,7 @@
 use Rattle.std.proofs.Common.{ℕ, ◌+◌, [], ◌∷◌, Some, None, sym, refl, ap, ◌∙◌, subst, arith}
 use Rattle.std.proofs.lemmas.List.{set-set}
-use Rattle.nm_seats.specs.Update.{update}
-use Rattle.nm_table.specs.Plays.{with_emptying, with_got_box, box_load}
+use Rattle.nm_chain.specs.Update.{update}
+use Rattle.nm_chain.specs.Plays.{with_emptying, with_got_box, box_load}
 use Rattle.nm_cells.specs.Ports.{knows, Empties}
 use Rattle.nm_fastbox.proofs.moves.take.Goals as goal
 

@@ -2,7 +2,7 @@
 use Rattle.std.proofs.Common.{ap, arith, refl, List, [], length}
 use Rattle.nm_history.specs.declared.events.Event.{Event}
 use Rattle.nm_history.specs.Sends.{sends}
-use Rattle.nm_rank_outgoing.specs.Left.{nothing}
+use Rattle.nm_global.specs.Emitted.{nothing}
 use Rattle.nm_multi.proofs.laws.a_desk_begins.Goals as goal
 
 pub returns : goal.returns

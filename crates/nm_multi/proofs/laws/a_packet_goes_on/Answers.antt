@@ -3,15 +3,15 @@ use Rattle.std.proofs.Common.{◌≡◌, ℕ, ◌+◌, ◌⊎◌, max, inl, inr,
 use Rattle.std.proofs.Common.{sym, ◌∙◌, ap, subst, arith}
 use Rattle.nm_types.specs.declared.packets.Packet.{Packet}
 use Rattle.nm_history.specs.Sends.{Sent, sends}
-use Rattle.nm_protocol.specs.Known.{Taken}
+use Rattle.nm_history.specs.Known.{Taken}
 use Rattle.nm_sending.specs.Sent.{outs}
 use Rattle.nm_rank.specs.Calls.{made_of}
 use Rattle.nm_rank.specs.Pops.{PopsPacket, out_with_packet}
 use Rattle.nm_rank.specs.Ranks.{IsFresh, RankView}
 use Rattle.nm_channels.specs.Moments.{Moment}
-use Rattle.nm_rank_log.specs.Logged.{IsLogged}
-use Rattle.nm_rank_log.specs.Moments.{acted, took}
-use Rattle.nm_rank_outgoing.specs.Left.{IsLeft, with_packet}
+use Rattle.nm_global.specs.Logged.{IsLogged}
+use Rattle.nm_global.specs.Moments.{acted, took}
+use Rattle.nm_global.specs.Emitted.{IsLeft, with_packet}
 use Rattle.nm_multi.specs.Standing.{AreBodies, Stands}
 use Rattle.nm_multi.proofs.Alone.{still_first}
 use Rattle.nm_multi.proofs.Standing.{left_more, made_none, outs_none, pulled_more, pulled_still, sent_still}

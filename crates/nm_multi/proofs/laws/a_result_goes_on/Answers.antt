@@ -5,10 +5,10 @@ use Rattle.nm_history.specs.Sends.{sends}
 use Rattle.nm_request.specs.Requests.{kind_of}
 use Rattle.nm_rank.specs.Ranks.{RankView}
 use Rattle.nm_rank.specs.Requests.{IsResult}
-use Rattle.nm_rank_log.specs.Calls.{given_after}
+use Rattle.nm_global.specs.Calls.{given_after}
 use Rattle.nm_multi.proofs.Bodies.{are_by, bodies_by, shows_body}
 use Rattle.nm_multi.proofs.laws.a_result_goes_on.Goals as goal
-use Rattle.nm_facts.proofs.Options.{some_and}
+use Rattle.nm_types.proofs.OptionLemmas.{some_and}
 
 pub returns-clause-kept : goal.returns-clause-kept
 returns-clause-kept c = λ sent v v' r answer fresh is st.

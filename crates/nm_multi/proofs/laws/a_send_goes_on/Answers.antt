@@ -6,7 +6,7 @@ use Rattle.nm_types.specs.Bodies.{bytes_of}
 use Rattle.nm_history.specs.declared.events.Event.{Event}
 use Rattle.nm_history.specs.declared.events.Happened.TheVariants as event
 use Rattle.nm_history.specs.Sends.{Sent, sends}
-use Rattle.nm_protocol.specs.Clock.{stamped}
+use Rattle.nm_history.specs.Clock.{stamped}
 use Rattle.nm_receiving.proofs.Lists.{slice_get-last}
 use Rattle.nm_request.specs.declared.Req.{Req}
 use Rattle.nm_rank.specs.Ranks.{RankView}
@@ -14,7 +14,7 @@ use Rattle.nm_multi.specs.Acts.{StartsSend, sent_by}
 use Rattle.nm_multi.specs.Standing.{AreBodies}
 use Rattle.nm_multi.proofs.Standing.{acted_on}
 use Rattle.nm_multi.proofs.laws.a_send_goes_on.Goals as goal
-use Rattle.nm_facts.proofs.Lists.{get_front}
+use Rattle.nm_types.proofs.ListLemmas.{get_front}
 use Rattle.nm_history.proofs.AppendLemmas.{sends-append}
 
 one_sent : (sent : List Body) (v v' : RankView) (tag : ℕ) (body : Body) (r : Req) → StartsSend tag body r v v' →

@@ -2,7 +2,7 @@
 use Rattle.std.proofs.Common.{◌≡◌, ℕ, zero, suc, ◌⊎◌, inl, inr, Option, None, List, [], ◌++◌, sym, subst, append-nil}
 use Rattle.std.specs.List.{cons_option}
 use Rattle.nm_types.specs.declared.scripts.Body.{Body}
-use Rattle.nm_protocol.specs.Rules.{AreRight}
+use Rattle.nm_history.specs.Rules.{AreRight}
 use Rattle.nm_rank.specs.Ranks.{IsFresh, RankView}
 use Rattle.nm_multi.specs.declared.calls.Call.{Call}
 use Rattle.nm_multi.specs.declared.calls.Call.TheVariants as call

@@ -1,7 +1,7 @@
 -- What is told, by the question.
 use Rattle.std.proofs.Common.{subst, sym}
 use Rattle.std.specs.Prelude.{IfOk}
-use Rattle.nm_outcomes_words.specs.declared.Question.{Question}
+use Rattle.nm_outcomes_top.specs.declared.words.Question.{Question}
 use Rattle.nm_outcomes_top.specs.Answers.{IsFinding}
 use Rattle.nm_outcomes_top.proofs.asking.tell.Goals as goal
 

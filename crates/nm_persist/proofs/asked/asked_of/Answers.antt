@@ -2,15 +2,15 @@
 use Rattle.std.proofs.Common.{◌≡◌, ◌+◌, ◌∙◌, sym, ap, subst, List, [], ◌∷◌, ◌++◌, take, length, arith}
 use Rattle.std.proofs.lemmas.List.{length-take-le}
 use Rattle.nm_plans.specs.declared.lines.PlanLine.{PlanLine}
-use Rattle.nm_plan_requests.specs.Requests.{owner_of, request_at, request_behind}
-use Rattle.nm_plan_requests.proofs.RequestLemmas.{request_at-more}
+use Rattle.nm_plans.specs.PlanRequests.{owner_of, request_at, request_behind}
+use Rattle.nm_plans.proofs.RequestLemmas.{request_at-more}
 use Rattle.nm_persist.specs.declared.asked.Asked.{Asked}
 use Rattle.nm_persist.specs.Report.{asked_behind, asked_by}
 use Rattle.nm_persist.specs.Results.{AreRows}
 use Rattle.nm_persist.proofs.ReadyLemmas.{ready_at}
 use Rattle.nm_persist.proofs.ReportLemmas.{asked-more, first_small}
 use Rattle.nm_persist.proofs.asked.asked_of.Goals as goal
-use Rattle.nm_facts.proofs.Lists.{take_next}
+use Rattle.nm_types.proofs.ListLemmas.{take_next}
 
 pub loop-place-init : goal.loop-place-init
 unfolding request_at

@@ -1,5 +1,5 @@
 use Rattle.std.proofs.Common.{◌≡◌, [], length, take}
-use Rattle.nm_plan_requests.specs.Requests.{AreRequests}
+use Rattle.nm_plans.specs.PlanRequests.{AreRequests}
 use Rattle.nm_persist.specs.Report.{asked_behind}
 use Rattle.nm_persist.specs.Results.{AreRows}
 use Rattle.nm_persist.proofs.asked.asked_of.Given as goal

@@ -2,14 +2,14 @@
 use Rattle.std.proofs.Common.{◌≡◌, ◌∙◌, sym, ap, subst, true, Option, List, ◌++◌, take, arith}
 use Rattle.std.specs.Prelude.{IfSome}
 use Rattle.nm_plans.specs.declared.lines.PlanLine.{PlanLine}
-use Rattle.nm_plan_requests.specs.declared.requests.Request.{Request}
-use Rattle.nm_plan_requests.specs.Expansion.{expand, lines_for}
-use Rattle.nm_plan_requests.specs.Requests.{IsSmall, owner_of, request_at, request_behind}
-use Rattle.nm_plan_requests.specs.States.{allows}
-use Rattle.nm_plan_requests.proofs.RequestLemmas.{expand-more, request_at-more}
+use Rattle.nm_plans.specs.declared.requests.requests.Request.{Request}
+use Rattle.nm_plans.specs.Expansion.{expand, lines_for}
+use Rattle.nm_plans.specs.PlanRequests.{IsSmall, owner_of, request_at, request_behind}
+use Rattle.nm_plans.specs.States.{allows}
+use Rattle.nm_plans.proofs.RequestLemmas.{expand-more, request_at-more}
 use Rattle.nm_persist.proofs.ReadyLemmas.{name_small, ready_allows, ready_at, requests_small}
 use Rattle.nm_persist.proofs.plans.expand_lines.Goals as goal
-use Rattle.nm_facts.proofs.Lists.{take_next}
+use Rattle.nm_types.proofs.ListLemmas.{take_next}
 
 pub loop-line-init : goal.loop-line-init
 unfolding expand request_at

@@ -1,6 +1,6 @@
 use Rattle.std.proofs.Common.{◌≡◌, take}
-use Rattle.nm_plan_requests.specs.Expansion.{expand}
-use Rattle.nm_plan_requests.specs.Requests.{AreRequests}
+use Rattle.nm_plans.specs.Expansion.{expand}
+use Rattle.nm_plans.specs.PlanRequests.{AreRequests}
 use Rattle.nm_persist.proofs.plans.expand_lines.Given as goal
 
 -- the script so far is that of the lines so far, and the requests are theirs

@@ -3,7 +3,7 @@ use Rattle.std.proofs.Common.{◌≡◌, length, arith, sym, ap, ◌∙◌, [], 
 use Rattle.std.proofs.lemmas.List.{nil_from_length}
 use Rattle.std.proofs.lemmas.Result.{err_from_is_err_and}
 use Rattle.std.proofs.lemmas.Bool.Decides.{nat_tests}
-use Rattle.nm_words.specs.Lines.{lines_of}
+use Rattle.nm_script.specs.Lines.{lines_of}
 use Rattle.nm_persist.specs.Reading.{line_at, lines_from}
 use Rattle.nm_persist.proofs.ReadLemmas.{ends, goes_on}
 use Rattle.nm_persist.proofs.reading.other_lines.Goals as goal

@@ -1,6 +1,6 @@
 use Rattle.std.proofs.Common.{◌≡◌, ◌<◌, length, []}
 use Rattle.nm_types.specs.declared.limits.TheConstants.{MAX_LINES}
-use Rattle.nm_words.specs.Lines.{lines_of}
+use Rattle.nm_script.specs.Lines.{lines_of}
 use Rattle.nm_persist.specs.Drafts.{IsDraft}
 use Rattle.nm_persist.specs.Reading.{lines_from}
 use Rattle.nm_persist.proofs.reading.other_lines.Given as goal

@@ -1,5 +1,5 @@
 -- A plan that is read keeps its limits.
-use Rattle.nm_words.specs.Lines.{lines_of}
+use Rattle.nm_script.specs.Lines.{lines_of}
 use Rattle.nm_persist.specs.Reading.{ranks_at}
 use Rattle.nm_persist.proofs.ReadLemmas.{at_line_ok, read_of_parts, read_taken}
 use Rattle.nm_persist.proofs.RuleLemmas.{ranks_taken}

@@ -5,7 +5,7 @@ use Rattle.nm_cells.specs.Ports.{taken_by, unpassed_by}
 use Rattle.nm_port.specs.Polls.{count_held}
 use Rattle.nm_port.proofs.HeldLemmas.{held_unpassed}
 use Rattle.nm_port.proofs.PollLemmas.{unpassed_there, peers_taken, peers_unpassed, passed_next}
-use Rattle.nm_seats.specs.Update.{update}
+use Rattle.nm_chain.specs.Update.{update}
 use Rattle.nm_port.proofs.polls.pass_held.Goals as goal
 
 pub taken-requires : goal.taken-requires

@@ -1,6 +1,6 @@
 use Rattle.std.proofs.Common.{◌≡◌, ℕ, ◌<◌, inr, sym, ap, ◌∙◌, subst, arith}
 use Rattle.std.specs.Prelude.{Some, None, [], ◌∷◌}
-use Rattle.nm_table.specs.Plays.{mine, with_emptying, with_got_box}
+use Rattle.nm_chain.specs.Plays.{mine, with_emptying, with_got_box}
 use Rattle.nm_types.specs.declared.packets.Packet.{Packet}
 use Rattle.nm_cells.specs.Ports.{unpassed_by, IsUnpassed}
 use Rattle.nm_port.proofs.HeldLemmas.{is_overtaken}

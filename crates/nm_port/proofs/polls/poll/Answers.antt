@@ -1,6 +1,6 @@
 use Rattle.std.proofs.Common.{◌<◌, ◌≤◌, true, refl, ap, ◌∙◌, subst}
 use Rattle.nm_cells.specs.declared.port.Port.{Port}
-use Rattle.nm_table.specs.declared.table.Entry.{Entry}
+use Rattle.nm_chain.specs.declared.table.table.Entry.{Entry}
 use Rattle.nm_cells.specs.Ports.{knows, holding, taken_by, unpassed_by}
 use Rattle.std.specs.Prelude.{slice_index}
 use Rattle.nm_port.specs.Sends.{HadMiss}

@@ -1,7 +1,7 @@
 use Rattle.std.proofs.Common.{true, refl, ap, ◌∙◌}
-use Rattle.nm_table.specs.Plays.{heads_of}
+use Rattle.nm_chain.specs.Plays.{heads_of}
 use Rattle.nm_cells.specs.Ports.{knows}
-use Rattle.nm_table.specs.declared.table.Entry.{Entry}
+use Rattle.nm_chain.specs.declared.table.table.Entry.{Entry}
 use Rattle.nm_port.proofs.PollLemmas.{still_next, way_of, polled_of, got_of}
 use Rattle.nm_port.proofs.PollLemmas.{queue_misses, way_misses}
 use Rattle.nm_port.proofs.polls.receive_next.Goals as goal

@@ -3,15 +3,15 @@ use Rattle.std.proofs.Common.{sym, ap, ◌∙◌, arith, subst}
 use Rattle.std.proofs.Common.{ℕ, None}
 use Rattle.std.proofs.lemmas.Bool.{false≢true}
 use Rattle.std.proofs.lemmas.List.{set-set}
-use Rattle.nm_seats.specs.Update.{update}
-use Rattle.nm_table.specs.Plays.{with_emptying, with_got_box, box_load}
+use Rattle.nm_chain.specs.Update.{update}
+use Rattle.nm_chain.specs.Plays.{with_emptying, with_got_box, box_load}
 use Rattle.nm_cells.specs.Ports.{Empties}
-use Rattle.nm_table.specs.Rule.{emptying_of}
+use Rattle.nm_chain.specs.Rule.{emptying_of}
 use Rattle.nm_cells.specs.Ports.{knows}
 use Rattle.nm_port.specs.Polls.{Missed}
 use Rattle.nm_port.proofs.PollLemmas.{missed_later, missed_next, all_missed, still_next, next_by}
 use Rattle.nm_port.proofs.PollLemmas.{box_came}
-use Rattle.nm_table.specs.declared.table.Entry.{Entry}
+use Rattle.nm_chain.specs.declared.table.table.Entry.{Entry}
 use Rattle.nm_port.proofs.PollLemmas.{box_polled, polled_by, polled_on, emptied_hands, came_since}
 use Rattle.nm_port.proofs.polls.take_first.Goals as goal
 

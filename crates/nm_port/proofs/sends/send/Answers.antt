@@ -4,10 +4,10 @@ use Rattle.std.specs.Prelude.{Option}
 use Rattle.nm_port.proofs.PollLemmas.{if_none}
 use Rattle.nm_types.specs.declared.packets.Path.{Path}
 use Rattle.nm_types.specs.declared.packets.Path.TheVariants.{Box, Cell}
-use Rattle.nm_seats.specs.Update.{update}
-use Rattle.nm_table.specs.Rule.{sent_to, filling_of}
-use Rattle.nm_table.specs.Plays.{heads_of, with_heads, with_look, with_put}
-use Rattle.nm_table.specs.declared.table.Look.TheVariants.{Fresh}
+use Rattle.nm_chain.specs.Update.{update}
+use Rattle.nm_chain.specs.Rule.{sent_to, filling_of}
+use Rattle.nm_chain.specs.Plays.{heads_of, with_heads, with_look, with_put}
+use Rattle.nm_chain.specs.declared.table.table.Look.TheVariants.{Fresh}
 use Rattle.nm_cells.specs.Ports.{knows, sent_by}
 use Rattle.nm_port.specs.Sends.{HadMiss}
 use Rattle.nm_port.proofs.SendLemmas.{box_hands, hold_since, was_tried}

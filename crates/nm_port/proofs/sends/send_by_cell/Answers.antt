@@ -1,9 +1,9 @@
 use Rattle.std.proofs.Common.{suc, [], ◌∷◌, Some, None, refl, false, sym}
 use Rattle.std.proofs.Common.{ap, ◌∙◌, arith, subst}
-use Rattle.nm_seats.proofs.UpdateLemmas.{update_here}
-use Rattle.nm_table.specs.declared.table.Hand.TheVariants.{Away}
-use Rattle.nm_table.specs.Rule.{hand, sender, number, sent_to}
-use Rattle.nm_table.specs.Plays.{InHand, with_hand, with_put, heads_of}
+use Rattle.nm_chain.proofs.UpdateLemmas.{update_here}
+use Rattle.nm_chain.specs.declared.table.table.Hand.TheVariants.{Away}
+use Rattle.nm_chain.specs.Rule.{hand, sender, number, sent_to}
+use Rattle.nm_chain.specs.Plays.{InHand, with_hand, with_put, heads_of}
 use Rattle.nm_cells.specs.LooseCells.{IsAmong}
 use Rattle.nm_cells.specs.Ports.{knows, holding}
 use Rattle.nm_port.proofs.SendLemmas.{cell_sent, cell_same, miss_sent}

@@ -2,10 +2,10 @@
 use Rattle.std.proofs.Common.{[]}
 use Rattle.nm_history.specs.AtEach.{AtEach}
 use Rattle.nm_history.specs.RankRun.{EndAt, WholeAt}
-use Rattle.nm_protocol.specs.Rules.{IsRightAt}
+use Rattle.nm_history.specs.Rules.{IsRightAt}
 use Rattle.nm_process.proofs.PacketLemmas.{after_weaker}
 use Rattle.nm_process.proofs.laws.a_process_runs.Goals as goal
-use Rattle.nm_protocol.proofs.Right.{right-numbers}
+use Rattle.nm_history.proofs.Right.{right-numbers}
 
 pub returns : goal.returns
 unfolding AtEach

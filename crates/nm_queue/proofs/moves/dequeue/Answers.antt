@@ -1,6 +1,6 @@
 use Rattle.std.proofs.Common.{◌<◌, ◌∙◌, refl, sym, subst}
-use Rattle.nm_table.specs.declared.table.Heads.{Heads}
-use Rattle.nm_table.specs.declared.table.Look.TheVariants.{TailElsewhere}
+use Rattle.nm_chain.specs.declared.table.table.Heads.{Heads}
+use Rattle.nm_chain.specs.declared.table.table.Look.TheVariants.{TailElsewhere}
 use Rattle.nm_cells.specs.Ports.{is_receive, knows}
 use Rattle.nm_queue.proofs.MoveLemmas.{Unmoved, unmoved, unmoved_heads, unmoved_look, takes_since}
 use Rattle.nm_queue.proofs.MoveLemmas.{leaves_since, Begun, begun_still, begun_anew, heads_stand}

@@ -1,11 +1,11 @@
 use Rattle.std.proofs.Common.{◌<◌, set, sym, ap, ◌∙◌, subst, get_or-set_same}
-use Rattle.nm_table.specs.declared.table.Hand.TheVariants.{Away, Ready, Entering}
-use Rattle.nm_table.specs.Rule.{hand, sent_to}
-use Rattle.nm_table.specs.Plays.{with_hand, with_put}
+use Rattle.nm_chain.specs.declared.table.table.Hand.TheVariants.{Away, Ready, Entering}
+use Rattle.nm_chain.specs.Rule.{hand, sent_to}
+use Rattle.nm_chain.specs.Plays.{with_hand, with_put}
 use Rattle.nm_cells.specs.Ports.{knows, holding, posted_in, queue_of}
 use Rattle.nm_queue.proofs.MoveLemmas.{may_still}
 use Rattle.nm_queue.proofs.moves.enqueue.Goals as goal
-use Rattle.nm_facts.proofs.Lists.{set_twice}
+use Rattle.nm_types.proofs.ListLemmas.{set_twice}
 
 pub swap_tail-pending-requires-clause-ready : goal.swap_tail-pending-requires-clause-ready
 swap_tail-pending-requires-clause-ready g c = let p = c.args.port.now in

@@ -1,6 +1,6 @@
 -- What the receiving side says of the rank's own history.
 use Rattle.std.proofs.Common.{◌≡◌, ℕ, ◌↔◌, Bool, true, nat_lt, length, subst}
-use Rattle.nm_protocol.specs.Pieces.{due_pieces}
+use Rattle.nm_history.specs.Pieces.{due_pieces}
 use Rattle.nm_receiving.specs.Receipts.{drawn_from}
 use Rattle.nm_receiving.specs.Received.{IsOwed}
 use Rattle.nm_rank.specs.Ranks.{RankView}

@@ -1,5 +1,5 @@
 use Rattle.std.proofs.Common.{◌≡◌, map, replicate}
-use Rattle.nm_protocol.specs.Known.{nothing_known}
+use Rattle.nm_history.specs.Known.{nothing_known}
 use Rattle.nm_rank.proofs.ranks.new_streams.Given as goal
 
 abbrev pub invariant-loop-rank : goal.invariant-loop-rank

@@ -3,7 +3,7 @@ use Rattle.std.proofs.Common.{◌≡◌, length, arith}
 use Rattle.std.proofs.lemmas.List.{nil_from_length}
 use Rattle.std.proofs.lemmas.Result.{err_from_is_err_and}
 use Rattle.std.proofs.lemmas.Bool.Decides.{nat_tests}
-use Rattle.nm_words.specs.Lines.{lines_of}
+use Rattle.nm_script.specs.Lines.{lines_of}
 use Rattle.nm_script.proofs.ReadingLoop.{goes_on, ends, is_done}
 use Rattle.nm_script.proofs.reading.other_lines.Goals as goal
 

@@ -1,6 +1,6 @@
 use Rattle.std.proofs.Common.{◌≡◌, ◌≤◌, ◌+◌, length}
 use Rattle.nm_types.specs.declared.limits.TheConstants.{MAX_LINES, MAX_BODIES}
-use Rattle.nm_words.specs.Lines.{lines_of}
+use Rattle.nm_script.specs.Lines.{lines_of}
 use Rattle.nm_script.specs.Reading.{lines_from}
 use Rattle.nm_script.proofs.ReadingLoop.{with_front}
 use Rattle.nm_script.proofs.reading.other_lines.Given as goal

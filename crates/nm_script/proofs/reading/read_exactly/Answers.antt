@@ -1,5 +1,5 @@
 -- A script that is read keeps its limits.
-use Rattle.nm_words.specs.Lines.{lines_of}
+use Rattle.nm_script.specs.Lines.{lines_of}
 use Rattle.nm_script.proofs.ReadLemmas.{read_of_parts, read_taken}
 use Rattle.nm_script.proofs.reading.read_exactly.Goals as goal
 

@@ -1,6 +1,6 @@
 -- Bytes are below 256.
 use Rattle.std.proofs.Common.{arith}
-use Rattle.nm_words.proofs.DigitLemmas.{bytes_within}
+use Rattle.nm_script.proofs.DigitLemmas.{bytes_within}
 use Rattle.nm_script.proofs.writing.push_hex.Goals as goal
 
 pub returns-clause-of_bytes : goal.returns-clause-of_bytes

@@ -1,6 +1,6 @@
 -- A packet without bytes ends no message.
 use Rattle.std.proofs.Common.{ap, refl, ◌∙◌}
-use Rattle.nm_outbox.specs.Outboxes.{OutboxView}
+use Rattle.nm_sending.specs.Outboxes.{OutboxView}
 use Rattle.nm_sending.specs.Departures.{ends_to}
 use Rattle.nm_sending.proofs.EndLemmas.{ends-push_none}
 use Rattle.nm_sending.proofs.putting.put_bare.Goals as goal

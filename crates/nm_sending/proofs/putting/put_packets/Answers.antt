@@ -4,7 +4,7 @@ use Rattle.std.proofs.Common.{◌∙◌, ap, subst, arith}
 use Rattle.nm_types.specs.declared.packets.Packet.{Packet}
 use Rattle.nm_history.specs.Sends.{Sent}
 use Rattle.nm_eager.specs.Cutting.{Cutting, IsMessageOf, IsNext}
-use Rattle.nm_outbox.specs.Outboxes.{OutboxView}
+use Rattle.nm_sending.specs.Outboxes.{OutboxView}
 use Rattle.nm_sending.proofs.PutLemmas.{puts_none, puts_number, puts_more, next_is}
 use Rattle.nm_sending.proofs.putting.put_packets.Goals as goal
 

@@ -1,5 +1,5 @@
 use Rattle.std.proofs.Common.{arith, sym}
-use Rattle.nm_words.proofs.LineLemmas.{rest_is}
+use Rattle.nm_script.proofs.LineLemmas.{rest_is}
 use Rattle.nm_trace.proofs.LineLemmas.{first_cut, first_none}
 use Rattle.nm_trace.proofs.lines.next_line.Goals as goal
 

@@ -17,13 +17,13 @@ use Rattle.nm_copyring.specs.ClosedLists as closed_ring
 use Rattle.nm_copyring.specs.Ports as ring_port
 use Rattle.nm_copyring.specs.Rule.{lane}
 use Rattle.nm_global.specs.Ranks.{AreAtRest, Each, HasNothingToSend, IsPassed, IsRankAt, OneRank, recorded_of}
-use Rattle.nm_standing.specs.Standing.{IsStanding}
+use Rattle.nm_global.specs.ProcessInvariant.{IsStanding}
 use Rattle.nm_world.specs.declared.actors.Actor.{Actor}
 use Rattle.nm_world.specs.Rest.{EndsAt, HasRun, IsCarried}
 use Rattle.nm_world.proofs.Chosen.{chosen, chosen_each, chosen_length, chosen_map, each_map, for_each}
 use Rattle.nm_world.proofs.Chosen.{map_twice, placed, same_there}
 use Rattle.nm_world.proofs.laws.actors_at_rest_make_a_run.Goals as goal
-use Rattle.nm_facts.proofs.Lists.{get_some, get_map, place_below, map_length}
+use Rattle.nm_types.proofs.ListLemmas.{get_some, get_map, place_below, map_length}
 
 entry_is : (ports : List RingPort) (i : ℕ) (p : RingPort) → slice_get ports i ≡ Some p →
     entry (map ring_port.knows ports) i ≡ ring_port.knows p

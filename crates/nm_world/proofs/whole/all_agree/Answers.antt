@@ -2,7 +2,7 @@
 use Rattle.std.proofs.Common.{arith}
 use Rattle.nm_world.proofs.Runs.{rows_more}
 use Rattle.nm_world.proofs.whole.all_agree.Goals as goal
-use Rattle.nm_facts.proofs.Lists.{place_below}
+use Rattle.nm_types.proofs.ListLemmas.{place_below}
 
 pub loop-i-preserved : goal.loop-i-preserved
 loop-i-preserved c =

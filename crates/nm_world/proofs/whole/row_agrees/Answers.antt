@@ -3,7 +3,7 @@ use Rattle.std.proofs.Common.{length, refl, arith}
 use Rattle.std.proofs.lemmas.Option.{slice_get_read}
 use Rattle.nm_world.proofs.Runs.{row_more}
 use Rattle.nm_world.proofs.whole.row_agrees.Goals as goal
-use Rattle.nm_facts.proofs.Lists.{place_below}
+use Rattle.nm_types.proofs.ListLemmas.{place_below}
 
 pub loop-j-preserved : goal.loop-j-preserved
 loop-j-preserved c =

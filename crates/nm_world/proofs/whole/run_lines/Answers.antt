@@ -22,7 +22,7 @@ use Rattle.nm_world.proofs.Counted.{carried_counts}
 use Rattle.nm_world.proofs.Runs.{in_place_at, in_place_kept, in_place_stands, kept_many}
 use Rattle.nm_world.proofs.Runs.{placed_new}
 use Rattle.nm_world.proofs.whole.run_lines.Goals as goal
-use Rattle.nm_facts.proofs.Lists.{get_from_map}
+use Rattle.nm_types.proofs.ListLemmas.{get_from_map}
 
 -- the actors at the start, and at the end
 pub cast-requires : goal.cast-requires

@@ -1,7 +1,7 @@
 use Rattle.std.proofs.Common.{[], length, sym, ap, ◌∙◌, arith}
 use Rattle.nm_cells.proofs.TallyLemmas.{row_at}
 use Rattle.nm_cells.proofs.closed.Closed.peer.Goals as goal
-use Rattle.nm_facts.proofs.Lists.{map_length}
+use Rattle.nm_types.proofs.ListLemmas.{map_length}
 
 pub index-requires-2 : goal.index-requires-2
 index-requires-2 c = let s = c.args.self.now in let rows = s.counted.items in

@@ -1,8 +1,8 @@
 use Rattle.std.proofs.Common.{◌≡◌, ◌<◌, List, length, map, sym, ap, ◌∙◌, subst, arith}
 use mathlib.Core.Option as maybe
 use lib.ListN.{get_elem?}
-use Rattle.nm_seats.specs.Spoken.{view}
-use Rattle.nm_table.specs.Rule.{hand}
+use Rattle.nm_chain.specs.Spoken.{view}
+use Rattle.nm_chain.specs.Rule.{hand}
 use Rattle.nm_cells.specs.AtClose.{AllCame, Prefixed, Settled}
 use Rattle.nm_cells.specs.Ports.{knows}
 use Rattle.nm_cells.specs.declared.tallies.Tally.{Tally}
@@ -11,8 +11,8 @@ use Rattle.nm_cells.proofs.PortLemmas.{idle}
 use Rattle.nm_cells.proofs.ClosingLemmas.{sealed_off}
 use Rattle.nm_cells.proofs.TallyLemmas.{counts_of, tallied, counts, prefix, all_came}
 use Rattle.nm_cells.proofs.port.Fabric.close.Goals as goal
-use Rattle.nm_facts.proofs.Lists.{map_length}
-use Rattle.nm_seats.proofs.ListLemmas.{get_mapped}
+use Rattle.nm_types.proofs.ListLemmas.{map_length}
+use Rattle.nm_chain.proofs.ListLemmas.{get_mapped}
 
 pub split_seat-requires : goal.split_seat-requires
 split_seat-requires c = let f = c.args.self in let z = f.sizes.0 in let some = f.some in

@@ -1,5 +1,5 @@
 use Rattle.std.proofs.Common.{◌/◌, ◌<◌, length, refl, sym, ap, ◌∙◌, subst, arith}
-use Rattle.nm_table.specs.Plays.{InHand}
+use Rattle.nm_chain.specs.Plays.{InHand}
 use Rattle.nm_cells.specs.Ports.{knows}
 use Rattle.nm_cells.proofs.HoldingLemmas.{held_here}
 use Rattle.nm_cells.proofs.port.Port.loose.Goals as goal

@@ -1,7 +1,7 @@
 use Rattle.std.proofs.Common.{◌≡◌, ℕ, ◌+◌, take, sum_by, ap, ◌∙◌, arith, min}
 use Rattle.std.proofs.lemmas.List.Sums.{sum_by_more}
 use Rattle.nm_cells.specs.declared.tallies.Tally.{Tally}
-use Rattle.nm_table.specs.Plays.{capped}
+use Rattle.nm_chain.specs.Plays.{capped}
 use Rattle.nm_cells.proofs.port.Port.unpassed.Goals as goal
 
 more : (a b t m : ℕ) → t ≡ min a m → min (t + b) m ≡ min (a + b) m

@@ -6,7 +6,7 @@ use Rattle.nm_channels.proofs.Logs.{sound-push}
 use Rattle.nm_channels.proofs.Arriving.{known-push}
 use Rattle.nm_channels.proofs.Delivering.{history-push}
 use Rattle.nm_channels.proofs.laws.logs.moments_go_on.Goals as goal
-use Rattle.nm_protocol.proofs.Growing.{fold-append}
+use Rattle.nm_history.proofs.Growing.{fold-append}
 
 pub returns-clause-sound : goal.returns-clause-sound
 returns-clause-sound c = sound-push

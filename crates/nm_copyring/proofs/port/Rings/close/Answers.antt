@@ -2,13 +2,13 @@ use Rattle.std.proofs.Common.{◌≡◌, ◌<◌, length, map, sym, ap, ◌∙�
 use Rattle.std.proofs.lemmas.List.{length-map}
 use mathlib.Core.Option as maybe
 use lib.ListN.{get_elem?}
-use Rattle.nm_seats.specs.Spoken.{view}
+use Rattle.nm_chain.specs.Spoken.{view}
 use Rattle.nm_copyring.specs.AtClose.{Prefixed, not_pulled, seen_in}
 use Rattle.nm_copyring.specs.declared.table.Entry.{Entry}
 use Rattle.nm_copyring.specs.Plays.{unlooked}
 use Rattle.nm_copyring.specs.Ports.{sees}
 use Rattle.nm_copyring.proofs.ListLemmas.{place_low}
-use Rattle.nm_seats.proofs.ListLemmas.{get_mapped}
+use Rattle.nm_chain.proofs.ListLemmas.{get_mapped}
 use Rattle.nm_copyring.proofs.ClosingLemmas.{known_seen, left_unlooked, prefix_unlooked, sealed_off}
 use Rattle.nm_copyring.proofs.port.Rings.close.Goals as goal
 

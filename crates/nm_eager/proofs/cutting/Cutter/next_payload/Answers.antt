@@ -1,6 +1,6 @@
 use Rattle.std.proofs.Common.{◌≡◌, ◌-◌, ◌*◌, length, take, drop, min, ap, ◌∙◌, arith}
 use Rattle.nm_types.specs.Bodies.{bytes_of}
-use Rattle.nm_bodies.proofs.RangeLemmas.{up_to_the_end}
+use Rattle.nm_types.proofs.RangeLemmas.{up_to_the_end}
 use Rattle.nm_eager.specs.Cutting.{Cutting}
 use Rattle.nm_eager.proofs.cutting.Cutter.next_payload.Goals as goal
 

@@ -1,12 +1,12 @@
 -- The state that one move more leads to is there.
 use Rattle.std.proofs.Common.{◌≡◌, ℕ, ◌<◌, Some, List, length, ◌∙◌, ap, arith}
 use Rattle.std.specs.List.{slice_get}
-use Rattle.nm_facts.proofs.Lists.{place_below}
-use Rattle.nm_spots.specs.Spots.{Spot}
-use Rattle.nm_choices.specs.declared.moves.Turn.{Turn}
-use Rattle.nm_choices.specs.Choices.{spot_in}
-use Rattle.nm_choices.specs.Moves.{moved_at}
-use Rattle.nm_choices.proofs.KeptLemmas.{each_next}
+use Rattle.nm_types.proofs.ListLemmas.{place_below}
+use Rattle.nm_outcomes.specs.RankStates.{Spot}
+use Rattle.nm_explored.specs.declared.choices.moves.Turn.{Turn}
+use Rattle.nm_explored.specs.Successors.{spot_in}
+use Rattle.nm_explored.specs.Moves.{moved_at}
+use Rattle.nm_explored.proofs.KeptLemmas.{each_next}
 use Rattle.nm_explored.specs.Stores.{Leads}
 use Rattle.nm_explored.proofs.ExpandLemmas.{expanded_now}
 use Rattle.nm_explored.proofs.MetLemmas.{got_has, turn_here}

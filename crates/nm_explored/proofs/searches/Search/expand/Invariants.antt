@@ -1,10 +1,10 @@
 -- The states that the first moves lead to are there.
 use Rattle.std.proofs.Common.{◌≡◌, ℕ, ◌<◌, Some, List, length}
 use Rattle.std.specs.List.{slice_get}
-use Rattle.nm_spots.specs.Spots.{Spot}
-use Rattle.nm_choices.specs.declared.moves.Turn.{Turn}
-use Rattle.nm_choices.specs.Choices.{spot_in}
-use Rattle.nm_choices.specs.Moves.{AreSendsShort, moved_at}
+use Rattle.nm_outcomes.specs.RankStates.{Spot}
+use Rattle.nm_explored.specs.declared.choices.moves.Turn.{Turn}
+use Rattle.nm_explored.specs.Successors.{spot_in}
+use Rattle.nm_explored.specs.Moves.{AreSendsShort, moved_at}
 use Rattle.nm_explored.specs.Met.{IsMade}
 use Rattle.nm_explored.specs.Stores.{Grows, Leads}
 use Rattle.nm_explored.proofs.searches.Search.expand.Given as goal

@@ -1,9 +1,9 @@
 -- Moves lead to the new state.
 use Rattle.std.proofs.Common.{◌≡◌, ◌⊎◌, List, [], ◌∷◌, ◌++◌, Some, sym, ◌∙◌, ap, subst, ℕ}
 use Rattle.std.specs.List.{slice_get, slice_set}
-use Rattle.nm_facts.proofs.Options.{same_some}
-use Rattle.nm_spots.specs.Spots.{Spot}
-use Rattle.nm_choices.specs.Lists.{Keeps}
+use Rattle.nm_types.proofs.OptionLemmas.{same_some}
+use Rattle.nm_outcomes.specs.RankStates.{Spot}
+use Rattle.nm_explored.specs.Lists.{Keeps}
 use Rattle.nm_explored.specs.Stores.{StandOnce, Store}
 use Rattle.nm_explored.proofs.MetLemmas.{made_next}
 use Rattle.nm_explored.proofs.searches.Search.follow.Goals as goal

@@ -2,9 +2,9 @@
 use Rattle.std.proofs.Common.{◌≡◌, ℕ, zero, suc, Option, Some, List, [], ◌∷◌, replicate, sym, ◌∙◌, ap, subst}
 use Rattle.std.specs.Prelude.{option_and_then}
 use Rattle.std.specs.List.{slice_get}
-use Rattle.nm_facts.proofs.Lists.{no_item}
-use Rattle.nm_facts.proofs.Options.{same_some}
-use Rattle.nm_spots.specs.Spots.{Spot}
+use Rattle.nm_types.proofs.ListLemmas.{no_item}
+use Rattle.nm_types.proofs.OptionLemmas.{same_some}
+use Rattle.nm_outcomes.specs.RankStates.{Spot}
 use Rattle.nm_explored.specs.Met.{IsSound}
 use Rattle.nm_explored.proofs.MetLemmas.{sound_first}
 use Rattle.nm_explored.proofs.StoreLemmas.{get_replicate, one_state}

@@ -1,6 +1,6 @@
 -- The first states are expanded.
 use Rattle.std.proofs.Common.{ℕ, ◌<◌, length}
-use Rattle.nm_choices.specs.Moves.{AreSendsShort}
+use Rattle.nm_explored.specs.Moves.{AreSendsShort}
 use Rattle.nm_explored.specs.Met.{IsMade}
 use Rattle.nm_explored.specs.Stores.{AreExpanded, Grows}
 use Rattle.nm_explored.proofs.searches.Search.run.Given as goal

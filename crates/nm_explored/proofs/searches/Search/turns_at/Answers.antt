@@ -1,10 +1,10 @@
 -- The moves at the state with a number.
 use Rattle.std.proofs.Common.{◌≡◌, ℕ, Some, List, ◌∙◌, ap, subst, arith}
 use Rattle.std.specs.List.{slice_get}
-use Rattle.nm_facts.proofs.Lists.{place_below}
-use Rattle.nm_spots.specs.Spots.{Spot}
-use Rattle.nm_choices.specs.Choices.{spot_in}
-use Rattle.nm_choices.specs.Moves.{IsTurn}
+use Rattle.nm_types.proofs.ListLemmas.{place_below}
+use Rattle.nm_outcomes.specs.RankStates.{Spot}
+use Rattle.nm_explored.specs.Successors.{spot_in}
+use Rattle.nm_explored.specs.Moves.{IsTurn}
 use Rattle.nm_explored.specs.Coming.{AreEnoughTurns}
 use Rattle.nm_explored.specs.Stores.{Store}
 use Rattle.nm_explored.proofs.StoreLemmas.{looked_up}

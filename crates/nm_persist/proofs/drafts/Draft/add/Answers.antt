@@ -1,5 +1,5 @@
 use Rattle.std.proofs.Common.{◌∙◌, sym, ap, refl, not, ◌++◌, ◌∷◌, []}
-use Rattle.nm_plan_requests.specs.Expansion.{expand}
+use Rattle.nm_plans.specs.Expansion.{expand}
 use Rattle.nm_persist.specs.Sizes.{IsSizeOf}
 use Rattle.nm_persist.proofs.DraftLemmas.{draft_more, none_of}
 use Rattle.nm_persist.proofs.SizeLemmas.{size_fits}

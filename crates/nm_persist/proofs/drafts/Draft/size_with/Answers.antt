@@ -2,11 +2,11 @@ use Rattle.std.proofs.Common.{◌≡◌, ◌∙◌, sym, ap, ◌++◌, ◌∷◌
 use Rattle.std.specs.Prelude.{IfSome}
 use Rattle.std.specs.List.{list_all}
 use Rattle.nm_types.specs.declared.scripts.Line.{Line}
-use Rattle.nm_plan_requests.specs.declared.requests.Request.{Request}
-use Rattle.nm_plan_requests.specs.Expansion.{expand, lines_for}
+use Rattle.nm_plans.specs.declared.requests.requests.Request.{Request}
+use Rattle.nm_plans.specs.Expansion.{expand, lines_for}
 use Rattle.indexmap.specs.IndexMap.{get}
-use Rattle.nm_plan_requests.specs.Requests.{IsSmall, owner_of, request_at, same_owner}
-use Rattle.nm_plan_requests.proofs.RequestLemmas.{expand-more}
+use Rattle.nm_plans.specs.PlanRequests.{IsSmall, owner_of, request_at, same_owner}
+use Rattle.nm_plans.proofs.RequestLemmas.{expand-more}
 use Rattle.nm_persist.proofs.RangeLemmas.{OkLine}
 use Rattle.nm_persist.proofs.ReadyLemmas.{lines_short, order_lines, requests_small}
 use Rattle.nm_persist.proofs.SizeLemmas.{size_said}

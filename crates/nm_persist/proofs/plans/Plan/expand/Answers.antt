@@ -2,7 +2,7 @@
 use Rattle.std.proofs.Common.{sym, ap, ◌∙◌, subst, List}
 use Rattle.nm_types.specs.declared.scripts.Line.{Line}
 use Rattle.nm_types.specs.Limits.{IsScript}
-use Rattle.nm_plan_requests.specs.Expansion.{expand}
+use Rattle.nm_plans.specs.Expansion.{expand}
 use Rattle.nm_persist.proofs.ReadyLemmas.{plan_script}
 use Rattle.nm_persist.proofs.plans.Plan.expand.Goals as goal
 

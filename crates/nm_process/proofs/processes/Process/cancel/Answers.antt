@@ -18,7 +18,7 @@ use Rattle.nm_process.specs.Starts.{HasAnswered, HasCancelled, IsNull, answer_fo
 use Rattle.nm_process.proofs.HeldLemmas.{all_held, held_after}
 use Rattle.nm_process.proofs.StartLemmas.{cancel_leaves, cancel_short, on_ok}
 use Rattle.nm_process.proofs.processes.Process.cancel.Goals as goal
-use Rattle.nm_facts.proofs.Options.{if_some, some_and}
+use Rattle.nm_types.proofs.OptionLemmas.{if_some, some_and}
 
 pub invariant_of-self : goal.invariant_of-self
 invariant_of-self c =

@@ -15,7 +15,7 @@ use Rattle.nm_process.specs.Processes.{ProcessView}
 use Rattle.nm_process.specs.Starts.{Ends, IsPending}
 use Rattle.nm_process.proofs.NameLemmas.{ended_others, ended_own, live_ended, older_named}
 use Rattle.nm_process.proofs.processes.Process.end.Goals as goal
-use Rattle.nm_facts.proofs.Options.{if_some, some_and, some_of}
+use Rattle.nm_types.proofs.OptionLemmas.{if_some, some_and, some_of}
 
 pub invariant_of-self : goal.invariant_of-self
 invariant_of-self c =

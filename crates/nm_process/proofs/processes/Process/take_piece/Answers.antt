@@ -1,6 +1,6 @@
 -- A piece comes.
 use Rattle.std.proofs.Common.{sym, subst, ◌∙◌}
-use Rattle.nm_protocol.specs.Pieces.{piece_makes}
+use Rattle.nm_history.specs.Pieces.{piece_makes}
 use Rattle.nm_rank.specs.Calls.{next_due}
 use Rattle.nm_request.specs.Requests.{Live}
 use Rattle.nm_process.specs.Names.{AreLive}

@@ -3,7 +3,7 @@ use Rattle.std.proofs.Common.{inl, inr}
 use Rattle.nm_process.specs.Starts.{Ends}
 use Rattle.nm_process.proofs.StartLemmas.{on_ok}
 use Rattle.nm_process.proofs.processes.Process.test.Goals as goal
-use Rattle.nm_facts.proofs.Options.{if_some}
+use Rattle.nm_types.proofs.OptionLemmas.{if_some}
 
 pub returns-in-Some-end-clause-tried : goal.returns-in-Some-end-clause-tried
 returns-in-Some-end-clause-tried c =

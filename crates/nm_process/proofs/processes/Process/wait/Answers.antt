@@ -4,7 +4,7 @@ use Rattle.nm_process.specs.declared.steps.Step.TheVariants as step_is
 use Rattle.nm_process.specs.Starts.{Ends, HasTriedWait}
 use Rattle.nm_process.proofs.StartLemmas.{ok_step}
 use Rattle.nm_process.proofs.processes.Process.wait.Goals as goal
-use Rattle.nm_facts.proofs.Options.{if_some}
+use Rattle.nm_types.proofs.OptionLemmas.{if_some}
 
 pub returns-in-Some-end-clause-tried : goal.returns-in-Some-end-clause-tried
 returns-in-Some-end-clause-tried c =

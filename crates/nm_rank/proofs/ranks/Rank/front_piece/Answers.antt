@@ -1,6 +1,6 @@
 use Rattle.std.proofs.Common.{◌≡◌, ℕ, ◌<◌, ◌↔◌, subst}
 use Rattle.std.specs.Prelude.{IfSome, IsNone, map}
-use Rattle.nm_protocol.specs.Clearance.{pushed_out, to_push}
+use Rattle.nm_history.specs.Clearance.{pushed_out, to_push}
 use Rattle.nm_rank.specs.Ranks.{RankView, known_from}
 use Rattle.nm_rank.proofs.PieceLemmas.{all_left, none_next}
 use Rattle.nm_rank.proofs.ranks.Rank.front_piece.Goals as goal

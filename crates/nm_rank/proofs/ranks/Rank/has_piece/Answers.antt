@@ -1,7 +1,7 @@
 -- What its sending side tells of where the next piece goes.
 use Rattle.std.proofs.Common.{◌≡◌, ℕ, ◌<◌, ◌↔◌, true, false, sym, subst, ◌∙◌}
 use Rattle.std.specs.Prelude.{IfSome, IsSome, None, map}
-use Rattle.nm_protocol.specs.Clearance.{pushed_out, to_push}
+use Rattle.nm_history.specs.Clearance.{pushed_out, to_push}
 use Rattle.nm_rndv.specs.Offers.{AllOut, next_offered}
 use Rattle.nm_rank.specs.Ranks.{RankView, known_from}
 use Rattle.nm_rank.proofs.PieceLemmas.{all_left, is_none, isnt_some, none_goes, none_there, some_there}

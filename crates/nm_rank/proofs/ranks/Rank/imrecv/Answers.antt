@@ -6,7 +6,7 @@ use Rattle.nm_history.specs.Sends.{message_of, receives}
 use Rattle.nm_request.specs.declared.Kind.TheVariants as kind
 use Rattle.nm_sending.specs.Departures.{SendingView}
 use Rattle.nm_receiving.specs.Receipts.{taken_events}
-use Rattle.nm_protocol.specs.Clock.{stamped}
+use Rattle.nm_history.specs.Clock.{stamped}
 use Rattle.nm_rank.specs.Calls.{Starts, called_by, clearance_of}
 use Rattle.nm_rank.specs.Ranks.{RankView, seen}
 use Rattle.nm_rank.proofs.ClearLemmas.{match-calls, starts-receive, starts-as}

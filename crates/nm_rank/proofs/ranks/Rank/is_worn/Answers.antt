@@ -1,7 +1,7 @@
 use Rattle.std.proofs.Common.{◌≡◌, ◌<◌, ℕ, false, sym, ◌∙◌, subst, rules}
 use Rattle.std.proofs.Math.Arith.{lt_of_le-ne}
 use Rattle.std.proofs.lemmas.Bool.{false≢true}
-use Rattle.nm_protocol.specs.Continues.{WORN_STAMP}
+use Rattle.nm_history.specs.Continues.{WORN_STAMP}
 use Rattle.nm_request.specs.declared.TheConstants.{MAX_REQUESTS}
 use Rattle.nm_sending.specs.declared.TheConstants.{MAX_MESSAGES}
 use Rattle.nm_rank.specs.Ranks.{RankView, IsFresh}

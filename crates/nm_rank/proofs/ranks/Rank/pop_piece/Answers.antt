@@ -2,7 +2,7 @@ use Rattle.std.proofs.Common.{length, sym, ap, subst, append-nil, arith}
 use Rattle.std.specs.Prelude.{Some, None, IsSome}
 use Rattle.nm_rank.specs.Ranks.{RankView}
 use Rattle.nm_rndv.specs.Offers.{next_offered}
-use Rattle.nm_outbox.specs.Outboxes.{OutboxView}
+use Rattle.nm_sending.specs.Outboxes.{OutboxView}
 use Rattle.nm_rank.proofs.LeaveLemmas.{fields-leave, order-popped}
 use Rattle.nm_rank.proofs.ranks.Rank.pop_piece.Goals as goal
 

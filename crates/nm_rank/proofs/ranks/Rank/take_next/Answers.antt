@@ -1,9 +1,9 @@
 use Rattle.std.proofs.Common.{◌≡◌, ◌<◌, ◌≤◌, ◌∙◌, ◌+◌, ◌++◌, ℕ, true, List, length, sym, ap, subst, rules, arith}
 use Rattle.std.specs.Prelude.{None, map, max, slice_set, option_to_list}
-use Rattle.nm_protocol.specs.Clock.{stamped}
-use Rattle.nm_protocol.specs.Continues.{continues, WORN_STAMP}
-use Rattle.nm_protocol.specs.Effects.{packet_events}
-use Rattle.nm_protocol.specs.Known.{Known}
+use Rattle.nm_history.specs.Clock.{stamped}
+use Rattle.nm_history.specs.Continues.{continues, WORN_STAMP}
+use Rattle.nm_history.specs.Effects.{packet_events}
+use Rattle.nm_history.specs.Known.{Known}
 use Rattle.nm_sending.specs.Departures.{SendingView}
 use Rattle.nm_sending.specs.Sent.{Puts}
 use Rattle.nm_receiving.specs.Receipts.{ReceivingView}

@@ -1,7 +1,7 @@
 use Rattle.std.proofs.Common.{◌≡◌, ◌<◌, ◌∙◌, ◌+◌, ℕ, length, sym, ap, subst}
 use Rattle.std.specs.Prelude.{map, slice_set}
-use Rattle.nm_protocol.specs.Continues.{continues}
-use Rattle.nm_protocol.specs.Known.{Known}
+use Rattle.nm_history.specs.Continues.{continues}
+use Rattle.nm_history.specs.Known.{Known}
 use Rattle.nm_rank.specs.Calls.{TakesPacket}
 use Rattle.nm_rank.specs.Ranks.{RankView, known_from, count_of, seen}
 use Rattle.nm_rank.proofs.AcceptedLemmas.{streams-low}

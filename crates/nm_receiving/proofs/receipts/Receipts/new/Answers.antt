@@ -1,7 +1,7 @@
 use Rattle.std.proofs.Common.{◌≡◌, ℕ, List, [], Vec, Global, ◌∙◌, ap, arith, replicate}
 use Rattle.nm_receiving.specs.declared.receipts.Receipt.{Receipt}
 use Rattle.nm_receiving.proofs.receipts.Receipts.new.Goals as goal
-use Rattle.nm_facts.proofs.Rows.{rows-push}
+use Rattle.nm_types.proofs.RowLemmas.{rows-push}
 
 pub loop-preserved : goal.loop-preserved
 loop-preserved c = rw (c.in_ok-push.ensures.items)

@@ -2,7 +2,7 @@ use Rattle.std.proofs.Common.{◌<◌, length, sym, subst, Vec, Global}
 use Rattle.nm_receiving.specs.declared.receipts.Receipt.{Receipt}
 use Rattle.nm_receiving.specs.Steps.{ReceiptsView}
 use Rattle.nm_receiving.proofs.receipts.Receipts.push.Goals as goal
-use Rattle.nm_facts.proofs.Rows.{row-push, row_inside}
+use Rattle.nm_types.proofs.RowLemmas.{row-push, row_inside}
 
 pub returns : goal.returns
 returns c =

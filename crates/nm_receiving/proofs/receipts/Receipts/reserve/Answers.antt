@@ -3,7 +3,7 @@ use Rattle.std.specs.Vec.{vec_capacity, vec_len}
 use Rattle.nm_receiving.specs.declared.receipts.Receipt.{Receipt}
 use Rattle.nm_receiving.specs.Steps.{ReceiptsView}
 use Rattle.nm_receiving.proofs.receipts.Receipts.reserve.Goals as goal
-use Rattle.nm_facts.proofs.Rows.{row-same, row-new, row_inside}
+use Rattle.nm_types.proofs.RowLemmas.{row-same, row-new, row_inside}
 
 pub returns-in_err-reserve-clause-rows : goal.returns-in_err-reserve-clause-rows
 returns-in_err-reserve-clause-rows c =

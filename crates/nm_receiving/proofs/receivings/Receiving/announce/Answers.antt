@@ -12,7 +12,7 @@ use Rattle.nm_types.specs.declared.packets.What.{What}
 use Rattle.nm_history.specs.Matching.{first_receive, matched_pairs}
 use Rattle.nm_match.specs.Deeds.{history_of, is_known_message}
 use Rattle.nm_match.proofs.StandsLemmas.{first_receive-stands}
-use Rattle.nm_streams.specs.Streams.{is_done_at_once}
+use Rattle.nm_receiving.specs.StreamViews.{is_done_at_once}
 use Rattle.nm_eager.specs.Senders.{Received}
 use Rattle.nm_eager.specs.Streams.{Stream, after, continues, missing, skipped}
 use Rattle.nm_receiving.specs.declared.receipts.Receipt.{Receipt}
@@ -30,12 +30,12 @@ use Rattle.nm_receiving.proofs.Packets.{takes-ask}
 use Rattle.nm_receiving.proofs.Packets.{taken_ended, taker_inside, then_taken}
 use Rattle.std.proofs.Common.{get_or}
 use Rattle.std.proofs.lemmas.Bool.{true≢false}
-use Rattle.nm_protocol.specs.Bytes.{bytes_in}
-use Rattle.nm_protocol.specs.Known.{Known}
+use Rattle.nm_history.specs.Bytes.{bytes_in}
+use Rattle.nm_history.specs.Known.{Known}
 use Rattle.nm_eager.specs.Streams.{is_eager}
 use Rattle.nm_receiving.proofs.CameLemmas.{asked_came, granted-came, packet-came}
 use Rattle.nm_receiving.proofs.receivings.Receiving.announce.Goals as goal
-use Rattle.nm_facts.proofs.Options.{some_mapped}
+use Rattle.nm_types.proofs.OptionLemmas.{some_mapped}
 
 pub arrive-requires : goal.arrive-requires
 arrive-requires c =

@@ -24,8 +24,8 @@ use Rattle.nm_receiving.proofs.Goings.{next_message}
 use Rattle.nm_receiving.proofs.Joinings.{room_same, stream_stepped}
 use Rattle.nm_receiving.proofs.Packets.{finished, head_is, head_view, kept-head, takes-head, taken_ended, taker_inside}
 use Rattle.nm_receiving.proofs.Results.{ok_gives}
-use Rattle.nm_protocol.specs.Bytes.{bytes_in}
-use Rattle.nm_protocol.specs.Known.{Known}
+use Rattle.nm_history.specs.Bytes.{bytes_in}
+use Rattle.nm_history.specs.Known.{Known}
 use Rattle.nm_receiving.proofs.CameLemmas.{packet-came}
 use Rattle.nm_receiving.proofs.receivings.Receiving.begin.Goals as goal
 

@@ -5,8 +5,8 @@ use Rattle.std.proofs.Math.ListN.{set}
 use Rattle.std.proofs.lemmas.List.{get_or_read, set-get_or}
 use Rattle.nm_types.specs.declared.messages.Arrival.{Arrival}
 use Rattle.nm_types.specs.declared.packets.Piece.{Piece}
-use Rattle.nm_protocol.specs.Bytes.{pulled_bytes}
-use Rattle.nm_protocol.specs.Pieces.{Due, due_pieces, is_due, piece_makes}
+use Rattle.nm_history.specs.Bytes.{pulled_bytes}
+use Rattle.nm_history.specs.Pieces.{Due, due_pieces, is_due, piece_makes}
 use Rattle.std.specs.List.{slice_get}
 use Rattle.nm_receiving.specs.Kept.{IsKept}
 use Rattle.nm_receiving.specs.Receipts.{AddsBytes, ReceivingView, drawn_from, of_asked}

@@ -13,8 +13,8 @@ use Rattle.nm_receiving.specs.Steps.{streams_of}
 use Rattle.nm_receiving.proofs.Beginning.{stream_at}
 use Rattle.nm_receiving.proofs.Joinings.{stream_stepped}
 use Rattle.nm_receiving.proofs.Packets.{kept-more, more_came, more_is, more_view, takes-more}
-use Rattle.nm_protocol.specs.Bytes.{bytes_in}
-use Rattle.nm_protocol.specs.Known.{Known}
+use Rattle.nm_history.specs.Bytes.{bytes_in}
+use Rattle.nm_history.specs.Known.{Known}
 use Rattle.nm_receiving.proofs.CameLemmas.{packet-came}
 use Rattle.nm_receiving.proofs.receivings.Receiving.go_on.Goals as goal
 

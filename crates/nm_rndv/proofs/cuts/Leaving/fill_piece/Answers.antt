@@ -1,6 +1,6 @@
 use Rattle.std.proofs.Common.{◌≡◌, ◌-◌, ◌*◌, length, take, drop, min, sym, ap, ◌∙◌, arith}
 use Rattle.nm_types.specs.Bodies.{bytes_of}
-use Rattle.nm_bodies.proofs.RangeLemmas.{up_to_the_end}
+use Rattle.nm_types.proofs.RangeLemmas.{up_to_the_end}
 use Rattle.nm_rndv.specs.Cuts.{Cut, offset_of}
 use Rattle.nm_rndv.proofs.cuts.Leaving.fill_piece.Goals as goal
 

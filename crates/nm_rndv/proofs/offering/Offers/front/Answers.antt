@@ -4,7 +4,7 @@ use Rattle.nm_rndv.proofs.KeptLemmas.{all_out}
 use Rattle.nm_rndv.proofs.StateLemmas.{leaving_within}
 use Rattle.nm_rndv.proofs.Places.{find-first, passes_there}
 use Rattle.nm_rndv.proofs.offering.Offers.front.Goals as goal
-use Rattle.nm_facts.proofs.Options.{if_each}
+use Rattle.nm_types.proofs.OptionLemmas.{if_each}
 
 pub returns-clause-first : goal.returns-clause-first
 returns-clause-first c =

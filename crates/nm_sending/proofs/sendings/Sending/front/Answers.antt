@@ -3,7 +3,7 @@ use Rattle.std.proofs.Common.{◌≡◌, Some, None, List, [], ◌∷◌, refl, 
 use Rattle.std.proofs.Common.{Bor, true≢false}
 use Rattle.std.specs.Prelude.{IsNone, option_copied}
 use Rattle.std.specs.List.{slice_get}
-use Rattle.nm_outbox.specs.declared.letters.Letter.{Letter}
+use Rattle.nm_sending.specs.declared.outbox.letters.Letter.{Letter}
 use Rattle.nm_sending.specs.contracts.sendings.Sending.{the_view}
 use Rattle.nm_sending.specs.Departures.{SendingView}
 use Rattle.nm_sending.specs.Sent.{AreSent}

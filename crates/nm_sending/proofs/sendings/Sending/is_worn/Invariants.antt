@@ -1,6 +1,6 @@
 use Rattle.std.proofs.Common.{ℕ, ◌<◌, ◌-◌, length}
 use Rattle.nm_types.specs.declared.limits.TheConstants.{MAX_PACKETS}
-use Rattle.nm_outbox.specs.Outboxes.{put_to}
+use Rattle.nm_sending.specs.Outboxes.{put_to}
 use Rattle.nm_sending.specs.declared.TheConstants.{MAX_MESSAGES}
 use Rattle.nm_sending.specs.Departures.{departures_to}
 use Rattle.nm_sending.proofs.sendings.Sending.is_worn.Given as goal

@@ -7,7 +7,7 @@ use Rattle.nm_history.specs.declared.events.Event.{Event}
 use Rattle.nm_history.specs.declared.events.Happened.TheVariants.{Out}
 use Rattle.nm_history.specs.Delivery.{is_asked}
 use Rattle.nm_history.specs.Sends.{sends}
-use Rattle.nm_outbox.specs.Outboxes.{OutboxView}
+use Rattle.nm_sending.specs.Outboxes.{OutboxView}
 use Rattle.nm_sending.specs.contracts.sendings.Sending.{the_view}
 use Rattle.nm_sending.specs.declared.departures.Departure.{Departure}
 use Rattle.nm_sending.specs.Departures.{SendingView, with_departure}

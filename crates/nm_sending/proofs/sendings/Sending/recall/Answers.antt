@@ -6,7 +6,7 @@ use Rattle.std.proofs.lemmas.Option.{slice_get_within}
 use Rattle.nm_types.specs.declared.limits.TheConstants.{MAX_PACKETS}
 use Rattle.nm_history.specs.declared.events.Happened.TheVariants.{Recall}
 use Rattle.nm_rndv.specs.Offers.{Offering, destined, with_destined, with_recall}
-use Rattle.nm_outbox.specs.Outboxes.{OutboxView, put_to}
+use Rattle.nm_sending.specs.Outboxes.{OutboxView, put_to}
 use Rattle.nm_sending.specs.contracts.sendings.Sending.{the_view}
 use Rattle.nm_sending.specs.Departures.{SendingView, ends_to}
 use Rattle.nm_sending.specs.Sent.{Keeps, Puts, MayBeRecalled, only_to}

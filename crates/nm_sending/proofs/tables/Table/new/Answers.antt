@@ -2,7 +2,7 @@
 use Rattle.std.proofs.Common.{◌≡◌, ℕ, List, [], Vec, Global, ◌∙◌, ap, arith, replicate}
 use Rattle.nm_sending.specs.declared.departures.Departure.{Departure}
 use Rattle.nm_sending.proofs.tables.Table.new.Goals as goal
-use Rattle.nm_facts.proofs.Rows.{rows-push}
+use Rattle.nm_types.proofs.RowLemmas.{rows-push}
 
 pub loop-preserved : goal.loop-preserved
 loop-preserved c = rw (c.in_ok-push.ensures.items)

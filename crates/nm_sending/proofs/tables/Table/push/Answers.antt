@@ -7,7 +7,7 @@ use Rattle.nm_sending.specs.declared.departures.Departure.{Departure}
 use Rattle.nm_sending.specs.Departures.{IsMost, TableView, row_of}
 use Rattle.nm_sending.proofs.MostLemmas.{most-push}
 use Rattle.nm_sending.proofs.tables.Table.push.Goals as goal
-use Rattle.nm_facts.proofs.Rows.{row-push, row_at, row_inside}
+use Rattle.nm_types.proofs.RowLemmas.{row-push, row_at, row_inside}
 
 pub returns : goal.returns
 returns c =

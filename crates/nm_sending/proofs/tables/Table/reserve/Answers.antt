@@ -4,7 +4,7 @@ use Rattle.std.specs.Vec.{vec_capacity, vec_len}
 use Rattle.nm_sending.specs.declared.departures.Departure.{Departure}
 use Rattle.nm_sending.specs.Departures.{IsMost, TableView}
 use Rattle.nm_sending.proofs.tables.Table.reserve.Goals as goal
-use Rattle.nm_facts.proofs.Rows.{row-same, row-new, row_inside}
+use Rattle.nm_types.proofs.RowLemmas.{row-same, row-new, row_inside}
 
 pub returns-in_err-reserve-clause-rows : goal.returns-in_err-reserve-clause-rows
 returns-in_err-reserve-clause-rows c =

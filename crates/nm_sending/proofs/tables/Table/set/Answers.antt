@@ -6,7 +6,7 @@ use Rattle.nm_sending.specs.Departures.{IsMost, TableView}
 use Rattle.nm_sending.proofs.MostLemmas.{most-set}
 use Rattle.nm_sending.proofs.RowLemmas.{row-set}
 use Rattle.nm_sending.proofs.tables.Table.set.Goals as goal
-use Rattle.nm_facts.proofs.Rows.{row_inside}
+use Rattle.nm_types.proofs.RowLemmas.{row_inside}
 
 pub returns : goal.returns
 returns c =

@@ -9,7 +9,7 @@ use Rattle.nm_world.specs.Actors.{Kept, Setting, Stands, did}
 use Rattle.nm_world.proofs.Did.{kept_and}
 use Rattle.nm_world.proofs.Turn.{turn_idle, turn_looked}
 use Rattle.nm_world.proofs.actors.Actor.move_all.Goals as goal
-use Rattle.nm_facts.proofs.Truth.{neither}
+use Rattle.nm_types.proofs.TruthLemmas.{neither}
 
 pub send_all-sent-requires : goal.send_all-sent-requires
 send_all-sent-requires g c =

@@ -7,7 +7,7 @@ use Rattle.nm_world.proofs.Did.{did_on, did_same}
 use Rattle.nm_world.proofs.Grows.{kept_on, kept_same}
 use Rattle.nm_world.proofs.Idle.{more_none, stepped_none, stepped_on}
 use Rattle.nm_world.proofs.actors.Actor.pull_all.Goals as goal
-use Rattle.nm_facts.proofs.Truth.{neither}
+use Rattle.nm_types.proofs.TruthLemmas.{neither}
 
 pub loop-sender-init : goal.loop-sender-init
 loop-sender-init g c = record {

@@ -3,7 +3,7 @@ use Rattle.std.proofs.Common.{ℕ, ◌<◌, true, false, length, sym, ap, subst,
 use Rattle.nm_types.specs.declared.packets.Piece.{Piece}
 use Rattle.nm_rank.specs.Calls.{TakesPiece}
 use Rattle.nm_process.specs.Processes.{ProcessView}
-use Rattle.nm_protocol.specs.Pieces.{due_pieces}
+use Rattle.nm_history.specs.Pieces.{due_pieces}
 use Rattle.nm_receiving.specs.Receipts.{drawn_from}
 use Rattle.nm_copyring.specs.Plays.{one_empty, one_pulled}
 use Rattle.nm_copyring.specs.Ports as ring

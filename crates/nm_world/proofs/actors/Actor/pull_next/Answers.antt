@@ -2,7 +2,7 @@
 use Rattle.std.proofs.Common.{◌≡◌, ℕ, ◌<◌, ◌≤◌, true, false, length, sym, ◌∙◌, subst, arith, refl}
 use Rattle.std.specs.Prelude.{nat_lt}
 use Rattle.std.proofs.lemmas.Bool.Decides.{nat_tests}
-use Rattle.nm_protocol.specs.Pieces.{due_pieces}
+use Rattle.nm_history.specs.Pieces.{due_pieces}
 use Rattle.nm_receiving.specs.Receipts.{drawn_from}
 use Rattle.nm_copyring.specs.Plays.{one_empty}
 use Rattle.nm_copyring.specs.Ports as ring

@@ -16,7 +16,7 @@ use Rattle.nm_world.proofs.Looks.{looked_last, looked_more, looked_none}
 use Rattle.nm_world.proofs.Loops.{all_made, is_first, none_ran, or_swap, some_more, stays_worn}
 use Rattle.nm_world.proofs.Results.{clash}
 use Rattle.nm_world.proofs.actors.Actor.run_all.Goals as goal
-use Rattle.nm_facts.proofs.Truth.{or_right, neither}
+use Rattle.nm_types.proofs.TruthLemmas.{or_right, neither}
 
 pub loop-ran-init : goal.loop-ran-init
 loop-ran-init g c =

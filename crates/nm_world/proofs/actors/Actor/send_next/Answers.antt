@@ -4,15 +4,15 @@ use Rattle.nm_types.specs.declared.packets.Packet.{Packet}
 use Rattle.nm_cells.specs.Ports.{knows}
 use Rattle.nm_port.specs.Polls.{count_held}
 use Rattle.nm_port.specs.Sends.{HadMiss, tried}
-use Rattle.nm_rank_log.specs.Moments.{acted}
+use Rattle.nm_global.specs.Moments.{acted}
 use Rattle.nm_sending.specs.Departures.{ended_by}
 use Rattle.nm_sending.specs.Sent.{outs}
 use Rattle.std.specs.Prelude.{false, IfSome, length, slice_get}
-use Rattle.nm_outbox.specs.declared.letters.Letter.{Letter}
+use Rattle.nm_sending.specs.declared.outbox.letters.Letter.{Letter}
 use Rattle.nm_process.specs.Processes.{ProcessView}
 use Rattle.nm_world.specs.Idle.{CameBack}
-use Rattle.nm_standing.specs.Standing.{IsOf, with_moment, with_packet_left}
-use Rattle.nm_table.specs.Rule.{Load, sent_to}
+use Rattle.nm_global.specs.ProcessInvariant.{IsOf, with_moment, with_packet_left}
+use Rattle.nm_chain.specs.Rule.{Load, sent_to}
 use Rattle.nm_world.specs.declared.actors.Actor.{Actor}
 use Rattle.nm_world.specs.Actors.{Grows}
 use Rattle.nm_world.specs.Actors.Grew.{sent}
@@ -24,7 +24,7 @@ use Rattle.nm_world.proofs.Leaves.{SentBy, send_carries, send_on, sent_by_way}
 use Rattle.nm_world.proofs.Results.{at_none, clash, none_first}
 use Rattle.nm_world.proofs.Steps.{back_got, back_sent, nothing_carried, seat_is}
 use Rattle.nm_world.proofs.actors.Actor.send_next.Goals as goal
-use Rattle.nm_outbox.proofs.LetterLemmas.{first_letter}
+use Rattle.nm_sending.proofs.LetterLemmas.{first_letter}
 
 pub returns-then-is_worn : goal.returns-then-is_worn
 returns-then-is_worn g c =

@@ -2,10 +2,10 @@
 use Rattle.std.proofs.Common.{◌<◌, ℕ, ◌+◌, List, [], true, false, inl, inr, sym, ap, ◌∙◌, arith, refl}
 use Rattle.nm_rank.specs.Ranks.{IsFresh}
 use Rattle.nm_process.specs.Processes.{ProcessView}
-use Rattle.nm_table.specs.Rule.{Load, sent_to}
+use Rattle.nm_chain.specs.Rule.{Load, sent_to}
 use Rattle.nm_cells.specs.Ports.{knows, taken_by}
 use Rattle.nm_port.specs.Polls.{with_all_missed}
-use Rattle.nm_seats.proofs.UpdateLemmas.{update_here}
+use Rattle.nm_chain.proofs.UpdateLemmas.{update_here}
 use Rattle.nm_world.specs.declared.actors.Actor.{Actor}
 use Rattle.nm_world.specs.Actors.{Grows, PortGrows}
 use Rattle.nm_world.specs.Actors.Grew.{taken}

@@ -1,4 +1,0 @@
-pub mod Found
-pub mod Lines
-pub mod Places
-pub mod Stops

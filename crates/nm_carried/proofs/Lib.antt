@@ -1,2 +1,0 @@
--- lists by number
-mod Listed

@@ -1,0 +1,38 @@
+-- Refused: an end where an eager message came and has not left.
+use Rattle.std.specs.Prelude.{false, None, List, [], ◌∷◌}
+use Rattle.nm_types.specs.declared.messages.How.TheVariants.{Eager}
+use Rattle.nm_types.specs.declared.scripts.Body.TheVariants.{Hex}
+use Rattle.nm_types.specs.declared.scripts.Command.TheVariants as command
+use Rattle.nm_types.specs.declared.scripts.Line.{Line}
+use Rattle.nm_types.specs.declared.answers.Answer.TheVariants as answer
+use Rattle.nm_history.specs.declared.events.Event.{Event}
+use Rattle.nm_history.specs.declared.events.Happened.TheVariants.{Send, Arrive, Whole, Ran}
+use Rattle.nm_history.specs.Quiescence.{AreQuiescent}
+use Rattle.nm_channels.specs.Small.{at, rank_line}
+
+-- the script
+abbrev pub script : List Line
+script = rank_line 0 (command.Send 0 1 7 0 (Hex (1 ∷ [])) false) ∷ []
+
+-- the first rank
+abbrev pub first : List Event
+first =
+    at 1 (Send 1 0 7 0 1 Eager 2)
+    ∷ at 2 (Ran 2 answer.Started) ∷ []
+
+-- the second rank
+abbrev pub second : List Event
+second =
+    at 2 (Arrive (record { n = 0; env = record { from = 0; tag = 7; ctx = 0; len = 1; how = Eager } }))
+    ∷ at 3 (Whole 0 0) ∷ []
+
+-- the rule that it breaks
+abbrev pub IsLawful : Type 0
+IsLawful =
+    AreQuiescent script (record { at = 1; waits = None; events = first } ∷ record {
+      at = 0;
+      waits = None;
+      events =
+          second;
+    } ∷ [])
+    (record { from = 0; to = 1; count = 1 } ∷ [])

@@ -1,0 +1,61 @@
+-- A paired receive and a message that was taken are not cancelled.
+use Rattle.std.specs.Prelude.{false, None, List, [], ◌∷◌}
+use Rattle.nm_types.specs.declared.messages.How.TheVariants.{Eager}
+use Rattle.nm_types.specs.declared.messages.Peer.TheVariants as peer
+use Rattle.nm_types.specs.declared.messages.TagPick.TheVariants as pick
+use Rattle.nm_types.specs.declared.scripts.Body.TheVariants.{Hex}
+use Rattle.nm_types.specs.declared.scripts.Command.TheVariants as command
+use Rattle.nm_types.specs.declared.scripts.Line.{Line}
+use Rattle.nm_types.specs.declared.answers.Answer.TheVariants as answer
+use Rattle.nm_history.specs.declared.events.Event.{Event}
+use Rattle.nm_history.specs.declared.events.Happened.TheVariants.{Send, Post, Arrive, Whole, Out, Cancel, Recall}
+use Rattle.nm_history.specs.declared.events.Happened.TheVariants.{Withdraw, Undone, Ran}
+use Rattle.nm_history.specs.Quiescence.{Ended, Packets}
+use Rattle.nm_history.specs.Run.{IsRunOf}
+use Rattle.nm_channels.specs.Small.{at, run_on, rank_line}
+
+-- the script
+abbrev pub script : List Line
+script =
+    rank_line 0 (command.Send 0 0 2 0 (Hex (5 ∷ [])) false)
+    ∷ rank_line 0 (command.Await (peer.One 0) (pick.One 2) 0)
+    ∷ rank_line 0 (command.Recv 1 (peer.One 0) (pick.One 2) 0 1)
+    ∷ rank_line 0 (command.Cancel 1)
+    ∷ rank_line 0 (command.Wait 1)
+    ∷ rank_line 0 (command.Cancel 0)
+    ∷ rank_line 0 (command.Wait 0)
+    ∷ rank_line 0 (command.Cancel 0) ∷ []
+
+-- the only rank
+abbrev pub only : List Event
+only =
+    at 1 (Send 0 0 2 0 1 Eager 2)
+    ∷ at 2 (Ran 2 answer.Started)
+    ∷ at 3 (Out 0 0)
+    ∷ at 4 (Arrive (record { n = 0; env = record { from = 0; tag = 2; ctx = 0; len = 1; how = Eager } }))
+    ∷ at 5 (Whole 0 0)
+    ∷ at 6 (Ran 3 (answer.Seen (record { from = 0; tag = 2; len = 1 })))
+    ∷ at 7 (Post (record { number = 0; from = peer.One 0; tag = pick.One 2; ctx = 0; cap = 1 }) 4)
+    ∷ at 8 (Ran 4 answer.Started)
+    ∷ at 9 (Cancel 0 false)
+    ∷ at 10 (Ran 5 answer.Late)
+    ∷ at 11 (Ran 6 (answer.Got 0 2 (5 ∷ [])))
+    ∷ at 12 (Recall 0 0)
+    ∷ at 13 (Ran 7 answer.Asked)
+    ∷ at 14 (Withdraw 0 0 false)
+    ∷ at 15 (Undone 0 0 false)
+    ∷ at 16 (Ran 8 answer.Sent)
+    ∷ at 17 (Ran 9 answer.Null) ∷ []
+
+-- where each rank stands at the end, and what happened there
+abbrev pub ranks : List Ended
+ranks = record { at = 8; waits = None; events = only } ∷ []
+
+-- how many packets went from rank to rank
+abbrev pub packets : List Packets
+packets = record { from = 0; to = 0; count = 3 } ∷ []
+
+-- it is a run of its script
+abbrev pub IsLawful : Type 0
+IsLawful =
+    IsRunOf (run_on 1) script ranks packets

@@ -1,0 +1,40 @@
+-- Refused: a synchronous send that is complete when its asking has left.
+use Rattle.std.specs.Prelude.{true, List, [], ◌∷◌}
+use Rattle.nm_types.specs.Commands.{commands_of}
+use Rattle.nm_types.specs.declared.messages.How.TheVariants.{Ask}
+use Rattle.nm_types.specs.declared.messages.Peer.TheVariants as peer
+use Rattle.nm_types.specs.declared.messages.TagPick.TheVariants as pick
+use Rattle.nm_types.specs.declared.scripts.Body.TheVariants.{Hex}
+use Rattle.nm_types.specs.declared.scripts.Command.TheVariants as command
+use Rattle.nm_types.specs.declared.scripts.Line.{Line}
+use Rattle.nm_types.specs.declared.answers.Answer.TheVariants as answer
+use Rattle.nm_history.specs.declared.events.Event.{Event}
+use Rattle.nm_history.specs.declared.events.Happened.TheVariants.{Send, Arrive, Out, Ran}
+use Rattle.nm_history.specs.Delivery.{AreDelivered}
+use Rattle.nm_channels.specs.Small.{at, rank_line}
+
+-- the script
+abbrev pub script : List Line
+script =
+    rank_line 0 (command.Send 0 1 0 0 (Hex []) true)
+    ∷ rank_line 0 (command.Wait 0)
+    ∷ rank_line 1 (command.Recv 0 (peer.One 0) (pick.One 0) 0 0)
+    ∷ rank_line 1 (command.Wait 0) ∷ []
+
+-- the first rank
+abbrev pub first : List Event
+first =
+    at 1 (Send 1 0 0 0 0 Ask 2)
+    ∷ at 2 (Ran 2 answer.Started)
+    ∷ at 3 (Out 1 0)
+    ∷ at 4 (Ran 3 answer.Sent) ∷ []
+
+-- the second rank
+abbrev pub second : List Event
+second =
+    at 2 (Arrive (record { n = 0; env = record { from = 0; tag = 0; ctx = 0; len = 0; how = Ask } })) ∷ []
+
+-- the rule that it breaks
+abbrev pub IsLawful : Type 0
+IsLawful =
+    AreDelivered 0 1 (commands_of 0 script) (commands_of 1 script) first second

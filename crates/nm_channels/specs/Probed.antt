@@ -1,0 +1,60 @@
+-- Probes of a message that is there, and of none.
+use Rattle.std.specs.Prelude.{false, None, List, [], ◌∷◌}
+use Rattle.nm_types.specs.declared.messages.How.TheVariants.{Eager}
+use Rattle.nm_types.specs.declared.messages.Peer.TheVariants as peer
+use Rattle.nm_types.specs.declared.messages.TagPick.TheVariants as pick
+use Rattle.nm_types.specs.declared.scripts.Body.TheVariants.{Hex}
+use Rattle.nm_types.specs.declared.scripts.Command.TheVariants as command
+use Rattle.nm_types.specs.declared.scripts.Line.{Line}
+use Rattle.nm_types.specs.declared.answers.Answer.TheVariants as answer
+use Rattle.nm_history.specs.declared.events.Event.{Event}
+use Rattle.nm_history.specs.declared.events.Happened.TheVariants.{Send, Post, Arrive, Whole, Out, Ran}
+use Rattle.nm_history.specs.Quiescence.{Ended, Packets}
+use Rattle.nm_history.specs.Run.{IsRunOf}
+use Rattle.nm_channels.specs.Small.{at, run_on, rank_line}
+
+-- the script
+abbrev pub script : List Line
+script =
+    rank_line 0 (command.Send 0 1 6 2 (Hex (190 ∷ 239 ∷ [])) false)
+    ∷ rank_line 0 (command.Wait 0)
+    ∷ rank_line 1 (command.Await peer.Any pick.Any 2)
+    ∷ rank_line 1 (command.Probe (peer.One 0) (pick.One 6) 2)
+    ∷ rank_line 1 (command.Probe (peer.One 0) (pick.One 5) 2)
+    ∷ rank_line 1 (command.Recv 0 peer.Any pick.Any 2 2)
+    ∷ rank_line 1 (command.Wait 0)
+    ∷ rank_line 1 (command.Probe peer.Any pick.Any 2) ∷ []
+
+-- the first rank
+abbrev pub first : List Event
+first =
+    at 1 (Send 1 0 6 2 2 Eager 2)
+    ∷ at 2 (Ran 2 answer.Started)
+    ∷ at 3 (Out 1 0)
+    ∷ at 4 (Ran 3 answer.Sent) ∷ []
+
+-- the second rank
+abbrev pub second : List Event
+second =
+    at 2 (Arrive (record { n = 0; env = record { from = 0; tag = 6; ctx = 2; len = 2; how = Eager } }))
+    ∷ at 3 (Whole 0 0)
+    ∷ at 4 (Ran 4 (answer.Seen (record { from = 0; tag = 6; len = 2 })))
+    ∷ at 5 (Ran 5 (answer.Seen (record { from = 0; tag = 6; len = 2 })))
+    ∷ at 6 (Ran 6 answer.Nothing)
+    ∷ at 7 (Post (record { number = 0; from = peer.Any; tag = pick.Any; ctx = 2; cap = 2 }) 7)
+    ∷ at 8 (Ran 7 answer.Started)
+    ∷ at 9 (Ran 8 (answer.Got 0 6 (190 ∷ 239 ∷ [])))
+    ∷ at 10 (Ran 9 answer.Nothing) ∷ []
+
+-- where each rank stands at the end, and what happened there
+abbrev pub ranks : List Ended
+ranks = record { at = 2; waits = None; events = first } ∷ record { at = 6; waits = None; events = second } ∷ []
+
+-- how many packets went from rank to rank
+abbrev pub packets : List Packets
+packets = record { from = 0; to = 1; count = 1 } ∷ []
+
+-- it is a run of its script
+abbrev pub IsLawful : Type 0
+IsLawful =
+    IsRunOf (run_on 2) script ranks packets

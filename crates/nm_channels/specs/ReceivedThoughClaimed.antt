@@ -1,0 +1,41 @@
+-- Refused: a later receive that takes a claimed message.
+use Rattle.std.specs.Prelude.{false, List, [], ◌∷◌}
+use Rattle.nm_types.specs.Commands.{commands_of}
+use Rattle.nm_types.specs.declared.messages.How.TheVariants.{Eager}
+use Rattle.nm_types.specs.declared.messages.Peer.TheVariants as peer
+use Rattle.nm_types.specs.declared.messages.TagPick.TheVariants as pick
+use Rattle.nm_types.specs.declared.scripts.Body.TheVariants.{Hex}
+use Rattle.nm_types.specs.declared.scripts.Command.TheVariants as command
+use Rattle.nm_types.specs.declared.scripts.Line.{Line}
+use Rattle.nm_types.specs.declared.answers.Answer.TheVariants as answer
+use Rattle.nm_history.specs.declared.events.Event.{Event}
+use Rattle.nm_history.specs.declared.events.Happened.TheVariants.{Send, Post, Arrive, Whole, Out, Claim, Ran}
+use Rattle.nm_history.specs.RankRun.{IsRankRun}
+use Rattle.nm_channels.specs.Small.{at, run_on, rank_line}
+
+-- the script
+abbrev pub script : List Line
+script =
+    rank_line 0 (command.Send 0 0 4 0 (Hex (10 ∷ [])) false)
+    ∷ rank_line 0 (command.Mprobe 3 peer.Any pick.Any 0)
+    ∷ rank_line 0 (command.Recv 1 (peer.One 0) (pick.One 4) 0 1)
+    ∷ rank_line 0 (command.Wait 1) ∷ []
+
+-- the first rank
+abbrev pub first : List Event
+first =
+    at 1 (Send 0 0 4 0 1 Eager 2)
+    ∷ at 2 (Ran 2 answer.Started)
+    ∷ at 3 (Out 0 0)
+    ∷ at 4 (Arrive (record { n = 0; env = record { from = 0; tag = 4; ctx = 0; len = 1; how = Eager } }))
+    ∷ at 5 (Whole 0 0)
+    ∷ at 6 (Claim 0 0 3)
+    ∷ at 7 (Ran 3 (answer.Seen (record { from = 0; tag = 4; len = 1 })))
+    ∷ at 8 (Post (record { number = 0; from = peer.One 0; tag = pick.One 4; ctx = 0; cap = 1 }) 4)
+    ∷ at 9 (Ran 4 answer.Started)
+    ∷ at 10 (Ran 5 (answer.Got 0 4 (10 ∷ []))) ∷ []
+
+-- the rule that it breaks
+abbrev pub IsLawful : Type 0
+IsLawful =
+    IsRankRun (run_on 1) (commands_of 0 script) 4 first

@@ -1,0 +1,48 @@
+-- A rank that sends itself an empty message, into a receive of capacity 0.
+use Rattle.std.specs.Prelude.{false, None, List, [], ◌∷◌}
+use Rattle.nm_types.specs.declared.messages.How.TheVariants.{Eager}
+use Rattle.nm_types.specs.declared.messages.Peer.TheVariants as peer
+use Rattle.nm_types.specs.declared.messages.TagPick.TheVariants as pick
+use Rattle.nm_types.specs.declared.scripts.Body.TheVariants.{Hex}
+use Rattle.nm_types.specs.declared.scripts.Command.TheVariants as command
+use Rattle.nm_types.specs.declared.scripts.Line.{Line}
+use Rattle.nm_types.specs.declared.answers.Answer.TheVariants as answer
+use Rattle.nm_history.specs.declared.events.Event.{Event}
+use Rattle.nm_history.specs.declared.events.Happened.TheVariants.{Send, Post, Arrive, Whole, Out, Ran}
+use Rattle.nm_history.specs.Quiescence.{Ended, Packets}
+use Rattle.nm_history.specs.Run.{IsRunOf}
+use Rattle.nm_channels.specs.Small.{at, run_on, rank_line}
+
+-- the script
+abbrev pub script : List Line
+script =
+    rank_line 0 (command.Send 0 0 0 0 (Hex []) false)
+    ∷ rank_line 0 (command.Recv 1 (peer.One 0) (pick.One 0) 0 0)
+    ∷ rank_line 0 (command.Wait 0)
+    ∷ rank_line 0 (command.Wait 1) ∷ []
+
+-- the only rank
+abbrev pub only : List Event
+only =
+    at 1 (Send 0 0 0 0 0 Eager 2)
+    ∷ at 2 (Ran 2 answer.Started)
+    ∷ at 3 (Post (record { number = 0; from = peer.One 0; tag = pick.One 0; ctx = 0; cap = 0 }) 3)
+    ∷ at 4 (Ran 3 answer.Started)
+    ∷ at 5 (Out 0 0)
+    ∷ at 6 (Arrive (record { n = 0; env = record { from = 0; tag = 0; ctx = 0; len = 0; how = Eager } }))
+    ∷ at 7 (Whole 0 0)
+    ∷ at 8 (Ran 4 answer.Sent)
+    ∷ at 9 (Ran 5 (answer.Got 0 0 [])) ∷ []
+
+-- where each rank stands at the end, and what happened there
+abbrev pub ranks : List Ended
+ranks = record { at = 4; waits = None; events = only } ∷ []
+
+-- how many packets went from rank to rank
+abbrev pub packets : List Packets
+packets = record { from = 0; to = 0; count = 1 } ∷ []
+
+-- it is a run of its script
+abbrev pub IsLawful : Type 0
+IsLawful =
+    IsRunOf (run_on 1) script ranks packets

@@ -1,0 +1,44 @@
+-- Refused: two events of one stamp.
+use Rattle.std.specs.Prelude.{false, List, [], ◌∷◌}
+use Rattle.nm_types.specs.Commands.{commands_of}
+use Rattle.nm_types.specs.declared.messages.How.TheVariants.{Eager}
+use Rattle.nm_types.specs.declared.messages.Peer.TheVariants as peer
+use Rattle.nm_types.specs.declared.messages.TagPick.TheVariants as pick
+use Rattle.nm_types.specs.declared.scripts.Body.TheVariants.{Hex}
+use Rattle.nm_types.specs.declared.scripts.Command.TheVariants as command
+use Rattle.nm_types.specs.declared.scripts.Line.{Line}
+use Rattle.nm_types.specs.declared.answers.Answer.TheVariants as answer
+use Rattle.nm_history.specs.declared.events.Event.{Event}
+use Rattle.nm_history.specs.declared.events.Happened.TheVariants.{Send, Post, Arrive, Whole, Out, Ran}
+use Rattle.nm_history.specs.RankRun.{IsRankRun}
+use Rattle.nm_channels.specs.Small.{at, run_on, rank_line}
+
+-- the script
+abbrev pub script : List Line
+script =
+    rank_line 0 (command.Send 0 1 7 0 (Hex (104 ∷ [])) false)
+    ∷ rank_line 0 (command.Wait 0)
+    ∷ rank_line 1 (command.Recv 0 (peer.One 0) (pick.One 7) 0 16)
+    ∷ rank_line 1 (command.Wait 0) ∷ []
+
+-- the first rank
+abbrev pub first : List Event
+first =
+    at 1 (Send 1 0 7 0 1 Eager 2)
+    ∷ at 2 (Ran 2 answer.Started)
+    ∷ at 2 (Out 1 0)
+    ∷ at 4 (Ran 3 answer.Sent) ∷ []
+
+-- the second rank
+abbrev pub second : List Event
+second =
+    at 1 (Post (record { number = 0; from = peer.One 0; tag = pick.One 7; ctx = 0; cap = 16 }) 4)
+    ∷ at 2 (Ran 4 answer.Started)
+    ∷ at 3 (Arrive (record { n = 0; env = record { from = 0; tag = 7; ctx = 0; len = 1; how = Eager } }))
+    ∷ at 4 (Whole 0 0)
+    ∷ at 5 (Ran 5 (answer.Got 0 7 (104 ∷ []))) ∷ []
+
+-- the rule that it breaks
+abbrev pub IsLawful : Type 0
+IsLawful =
+    IsRankRun (run_on 2) (commands_of 0 script) 2 first

@@ -1,0 +1,39 @@
+-- Refused: the body of a message that was sent by asking and that no receive took.
+use Rattle.std.specs.Prelude.{true, List, [], ◌∷◌}
+use Rattle.nm_types.specs.Commands.{commands_of}
+use Rattle.nm_types.specs.declared.messages.How.TheVariants.{Ask}
+use Rattle.nm_types.specs.declared.messages.Peer.TheVariants as peer
+use Rattle.nm_types.specs.declared.messages.TagPick.TheVariants as pick
+use Rattle.nm_types.specs.declared.scripts.Body.TheVariants.{Hex}
+use Rattle.nm_types.specs.declared.scripts.Command.TheVariants as command
+use Rattle.nm_types.specs.declared.scripts.Line.{Line}
+use Rattle.nm_types.specs.declared.answers.Answer.TheVariants as answer
+use Rattle.nm_history.specs.declared.events.Event.{Event}
+use Rattle.nm_history.specs.declared.events.Happened.TheVariants.{Send, Arrive, Whole, Ran}
+use Rattle.nm_history.specs.RankRun.{IsRankRun}
+use Rattle.nm_channels.specs.Small.{at, run_on, rank_line}
+
+-- the script
+abbrev pub script : List Line
+script =
+    rank_line 0 (command.Send 0 1 0 0 (Hex []) true)
+    ∷ rank_line 0 (command.Wait 0)
+    ∷ rank_line 1 (command.Recv 0 (peer.One 0) (pick.One 0) 0 0)
+    ∷ rank_line 1 (command.Wait 0) ∷ []
+
+-- the first rank
+abbrev pub first : List Event
+first =
+    at 1 (Send 1 0 0 0 0 Ask 2)
+    ∷ at 2 (Ran 2 answer.Started) ∷ []
+
+-- the second rank
+abbrev pub second : List Event
+second =
+    at 2 (Arrive (record { n = 0; env = record { from = 0; tag = 0; ctx = 0; len = 0; how = Ask } }))
+    ∷ at 3 (Whole 0 0) ∷ []
+
+-- the rule that it breaks
+abbrev pub IsLawful : Type 0
+IsLawful =
+    IsRankRun (run_on 2) (commands_of 1 script) 0 second

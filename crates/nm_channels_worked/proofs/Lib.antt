@@ -1,6 +1,0 @@
-mod Two
-mod LongMessage
-mod CancelledSend
-mod ClaimedAlone
-mod Stray
-mod ToOneself

@@ -1,0 +1,142 @@
+-- What there is to say of a script and a trace, and the flag in its picture.
+use Rattle.std.specs.Prelude.{◌≡◌, ℕ, ◌≤◌, ◌⊎◌, List, ◌++◌, IfSome, Option, Some, None, codes, decimal, drop, length}
+use Rattle.std.specs.Prelude.{slice_get}
+use Rattle.nm_types.specs.Sizes.{Sizes}
+use Rattle.nm_history.specs.declared.events.Event.{Event}
+use Rattle.nm_outside.specs.Told.{Appends, AppendsPart, Rose}
+use Rattle.nm_script.specs.CommandWords.{IsTaken as AreTaken}
+use Rattle.nm_script.specs.declared.command_line.CommandLine.{CommandLine}
+use Rattle.nm_script.specs.declared.command_line.Mode.TheVariants.{Check}
+use Rattle.nm_report.specs.declared.accounts.RankAccount.{RankAccount}
+use Rattle.nm_report.specs.declared.records.RunRecord.{RunRecord}
+use Rattle.nm_trace.specs.Traces.{IsTraceOf}
+use Rattle.nm_check.specs.Checks.{IsInput}
+use Rattle.nm_diagram.specs.Frames.{whole}
+use Rattle.nm_picture.specs.declared.flags.Flag.{Flag}
+use Rattle.nm_picture.specs.declared.flags.Flag.TheVariants as flag
+use Rattle.nm_picture.specs.Flags.{IsFlaggedIn}
+use Rattle.nm_chart.specs.Endings.{read_of, unread, widest}
+use Rattle.nm_check.specs.Found.{IsFound}
+use Rattle.nm_check.specs.declared.breaks.finding.Found.{Found}
+use Rattle.nm_check.specs.declared.breaks.finding.Found.TheVariants as found
+use Rattle.nm_check.specs.declared.breaks.places.Place.{Place}
+use Rattle.nm_check.specs.declared.breaks.places.Place.TheVariants as place
+use Rattle.nm_chart.specs.declared.check.findings.Finding.{Finding}
+use Rattle.nm_chart.specs.declared.check.findings.Finding.TheVariants.{Usage, Unread, NoScript, NoTrace, Drawn}
+
+-- the flag at an event of a rank, in this line of the trace
+abbrev pub event_flag : ℕ → ℕ → Option Event → Option Flag
+event_flag rank line None = None
+event_flag rank line (Some event) = Some (flag.Event rank event.stamp line)
+
+-- the flag at an event of a rank, where there is that rank
+abbrev pub flag_at : ℕ → ℕ → ℕ → Option RankAccount → Option Flag
+flag_at rank at line None = None
+flag_at rank at line (Some account) = event_flag rank line (slice_get account.history.events at)
+
+-- the flag at a place: at an event, or at the end of a rank
+abbrev pub flag_of : List RankAccount → Place → Option Flag
+flag_of ranks (place.Event rank at line command) = flag_at rank at line (slice_get ranks rank)
+flag_of ranks (place.Behind rank) = Some (flag.Behind rank)
+flag_of ranks (place.Standing rank waits) = Some (flag.Behind rank)
+flag_of ranks _ = None
+
+-- what is said of words that are not taken
+abbrev pub usage : List ℕ
+usage = codes "usage: chart check [--cells N] [--eager N] <SCRIPT_AND_TRACE >PICTURE\n"
+
+-- what is said of a script or a trace that is none
+abbrev pub fault_text : List ℕ → ℕ → List ℕ
+fault_text of line = codes "fault " ++ (of ++ (codes " " ++ (decimal line ++ codes "\n")))
+
+-- the text is that of a finding
+abbrev pub Says : Finding → List ℕ → Type 0
+Says Usage text = text ≡ usage
+Says Unread text = text ≡ unread
+Says (NoScript line) text = text ≡ fault_text (codes "script") line
+Says (NoTrace line) text = text ≡ fault_text (codes "trace") line
+Says (Drawn run its_flag) text = IsFlaggedIn whole its_flag run text
+
+-- the status of a finding that was written
+abbrev pub status_of : Finding → ℕ
+status_of (Drawn run its_flag) = 0
+status_of Usage = 2
+status_of (NoScript line) = 3
+status_of Unread = 4
+status_of (NoTrace line) = 9
+
+-- a picture has room for the ranks
+abbrev pub CanBeDrawn : Finding → Type 0
+CanBeDrawn (Drawn run its_flag) = length run.ranks ≤ 256
+CanBeDrawn _ = Unit {0}
+
+-- what stands behind the first line `---` is the trace of a record of some shape
+abbrev pub HasTrace : List ℕ → Type 0
+HasTrace bytes =
+    (front : List ℕ) × (rest : List ℕ) × IsInput bytes front rest × (shape : Sizes) × (shape.ranks ≤ 64)
+    × (run : RunRecord) × IsTraceOf shape rest run
+
+-- this is found of the bytes in some sizes
+abbrev pub IsFoundIn : List ℕ → Found → Type 0
+IsFoundIn bytes what = (cells : ℕ) × (eager : ℕ) × IsFound cells eager bytes what
+
+-- the trace behind the first line `---` is that of this record, and has its flag at this place
+abbrev pub IsFinding : List ℕ → Place → Finding → Type 0
+IsFinding bytes where_broken (Drawn run its_flag) =
+    (front : List ℕ) × (rest : List ℕ) × IsInput bytes front rest × IsTraceOf widest rest run
+    × (its_flag ≡ flag_of run.ranks where_broken)
+IsFinding bytes where_broken _ = ⊥
+
+-- what there is to say of what was found
+abbrev pub IsFindingOf : List ℕ → Found → Finding → Type 0
+IsFindingOf bytes found.NoTrace finding = finding ≡ NoTrace 0
+IsFindingOf bytes (found.NoScript line kind) finding = finding ≡ NoScript line
+IsFindingOf bytes (found.BadTrace before line stop) finding = finding ≡ NoTrace line
+IsFindingOf bytes (found.Judged before verdict where_broken) finding = IsFinding bytes where_broken finding
+
+-- the words are those of a check
+abbrev pub IsAsked : List (List ℕ) → CommandLine → Type 0
+IsAsked words line = AreTaken words line × (line.mode ≡ Check)
+
+-- they are not
+abbrev pub NotAsked : List (List ℕ) → Type 0
+NotAsked words = (line : CommandLine) → ¬ (IsAsked words line)
+
+-- what there is to say of bytes in these sizes
+pub record IsAnswerIn (line : CommandLine) (finding : Finding) (bytes : List ℕ) : Type 0 where
+  pub what : Found
+  pub right : IsFound line.cells line.eager bytes what
+  pub said : IsFindingOf bytes what finding
+
+-- an answer is right: by the words, by the bytes of the source, and by its count of faults before and after
+abbrev pub IsAnswer : List (List ℕ) → Option (List ℕ) → ℕ → ℕ → Finding → Type 0
+IsAnswer words input old new Usage = NotAsked words
+IsAnswer words input old new Unread = ((line : CommandLine) × IsAsked words line) × Rose old new
+IsAnswer words input old new finding =
+    (line : CommandLine) × IsAsked words line × IfSome input (λ bytes. IsAnswerIn line finding (read_of bytes))
+
+-- the source was read
+abbrev pub WasRead : Finding → Type 0
+WasRead Usage = ⊥
+WasRead Unread = ⊥
+WasRead _ = Unit {0}
+
+-- Unless a read failed, the count of faults of the source is as it was, and where it was read, then to its end or
+-- to the limit.
+pub record IsTaken (input left : Option (List ℕ)) (old new : ℕ) (finding : Finding) : Type 0 where
+  pub quiet : (finding ≡ Unread → ⊥) → new ≡ old
+  pub whole : WasRead finding → IfSome input (λ bytes. left ≡ Some (drop 67108865 bytes))
+
+-- the text of a finding was written, whole and with its status, or the sink failed, which took a front of it
+abbrev pub IsSaid : Finding → ℕ → Option (List ℕ) → Option (List ℕ) → Type 0 → Type 0
+IsSaid finding status old new fails = (text : List ℕ) × Says finding text ×
+    (((status ≡ status_of finding) × Appends old new text)
+    ⊎ ((status ≡ 5) × fails × AppendsPart old new text))
+
+-- what is right to say of the words and the bytes was said
+pub record IsDone (words : List (List ℕ)) (input left : Option (List ℕ)) (old new : ℕ)
+    (before after : Option (List ℕ)) (fails : Type 0) (status : ℕ) : Type 0 where
+  pub finding : Finding
+  pub right : IsAnswer words input old new finding
+  pub read : IsTaken input left old new finding
+  pub said : IsSaid finding status before after fails

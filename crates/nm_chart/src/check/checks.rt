@@ -1,0 +1,175 @@
+//! The whole program: words, a script and a trace in, a picture and a status out.
+
+ghost use Rattle.std.specs.Prelude.{◌≡◌, ◌≤◌, ◌⊎◌, length, map, string_bytes};
+ghost use Rattle.std.specs.Prelude.{IfErr, IfOk, IfSome, MatchOption};
+ghost use Rattle.nm_script.specs.CommandWords.{InRange};
+ghost use Rattle.nm_outside.specs.Told.{LosesAtMost, Rose};
+ghost use Rattle.nm_trace.specs.Traces.{IsTraceOf, Names};
+ghost use Rattle.nm_chart.specs.Endings.{widest};
+ghost use Rattle.nm_chart.specs.Findings.{CanBeDrawn, HasTrace, IsAnswer, IsAnswerIn, IsAsked, IsDone};
+ghost use Rattle.nm_chart.specs.Findings.{IsFinding, IsFindingOf, IsFoundIn, IsSaid, IsTaken};
+ghost use Rattle.nm_chart.specs.Findings.{NotAsked, Says};
+
+use crate::check::findings::{Finding, status, text};
+use crate::check::places::flag_of;
+use nm_check::breaks::{Found, Place, find};
+use crate::laws::one_shape_serves_for_all;
+use nm_check::checked::cut;
+use nm_script::command_line::{CommandLine, Mode};
+use nm_outside::{Sink, Source, Unread, read_up_to, write_all};
+use nm_report::RunRecord;
+use nm_trace::{TraceFault, read_trace};
+use nm_types::{Memory, Shape};
+use std::alloc::Global;
+
+/// The most bytes that are read: one more than a script and its trace may have.
+const MAX_READ: usize = 67_108_865;
+
+/// The status where the sink failed.
+const SINK_FAILED: u8 = 5;
+
+/// The status for want of memory.
+const WANT_OF_MEMORY: u8 = 6;
+
+/// The sizes that the words ask for, if they are those of a check.
+fn asked(words: &[String]) -> Option<CommandLine>
+    ensures asked { MatchOption result (NotAsked (map string_bytes words.now))
+        (IsAsked (map string_bytes words.now)) }
+    ensures within { IfSome result InRange }
+{
+    match nm_script::command_line::read(words) {
+        Some(line) => match line.mode {
+            Mode::Check => Some(line),
+            _ => None,
+        },
+        None => None,
+    }
+}
+
+/// The record of which these bytes are the trace, for ranks of any number.
+fn read_widest(alloc: Global, bytes: &[u8]) -> Result<RunRecord, TraceFault>
+    requires { length bytes.now ≤ 67108864 }
+    ensures taken { IfOk result (IsTraceOf widest bytes.now) }
+    ensures bad { IfErr result (Names widest bytes.now) }
+{
+    let shape = Shape::new(64, 1, 0).unwrap();
+    read_trace(alloc, bytes, shape)
+}
+
+/// The record of the trace behind the first line `---`, with a flag at a place.
+fn drawn(alloc: Global, bytes: &[u8], place: Place) -> Result<Finding, Memory>
+    requires { HasTrace bytes.now }
+    ensures finding { IfOk result (IsFinding bytes.now place) }
+    ensures drawn { IfOk result CanBeDrawn }
+{
+    one_shape_serves_for_all();
+    let Some((_, rest)) = cut(bytes) else {
+        return Ok(Finding::NoTrace { line: 0 });
+    };
+    match read_widest(alloc, rest) {
+        Ok(run) => {
+            let flag = flag_of(run.ranks.as_slice(), place);
+            Ok(Finding::Drawn { run, flag })
+        }
+        Err(TraceFault::Bad { line }) => Ok(Finding::NoTrace { line }),
+        Err(TraceFault::Memory) => Err(Memory),
+    }
+}
+
+/// What there is to say of what was found.
+fn finding_of(alloc: Global, bytes: &[u8], found: Found) -> Result<Finding, Memory>
+    requires { IsFoundIn bytes.now found }
+    ensures finding { IfOk result (IsFindingOf bytes.now found) }
+    ensures drawn { IfOk result CanBeDrawn }
+{
+    match found {
+        Found::NoTrace => Ok(Finding::NoTrace { line: 0 }),
+        Found::NoScript { line, .. } => Ok(Finding::NoScript { line }),
+        Found::BadTrace { line, .. } => Ok(Finding::NoTrace { line }),
+        Found::Judged { place, .. } => drawn(alloc, bytes, place),
+    }
+}
+
+/// What there is to say of a script and a trace in these sizes.
+fn finding_in(alloc: Global, bytes: &[u8], line: CommandLine) -> Result<Finding, Memory>
+    requires { InRange line }
+    ensures finding { IfOk result (λ finding. IsAnswerIn line finding bytes.now) }
+    ensures drawn { IfOk result CanBeDrawn }
+{
+    let found = find(alloc, bytes, line.cells, line.eager)?;
+    finding_of(alloc, bytes, found)
+}
+
+/// Finds the answer to the words and the source.
+fn find_finding<S: Source>(
+    alloc: Global,
+    words: &[String],
+    source: &mut S,
+) -> Result<Finding, Memory>
+    ensures answer { IfOk result (IsAnswer (map string_bytes words.now) (S.left source.old)
+        (S.faults source.old) (S.faults source.new)) }
+    ensures drawn { IfOk result CanBeDrawn }
+    ensures untouched { NotAsked (map string_bytes words.now) → source.new ≡ source.old }
+    ensures taken { LosesAtMost 67108865 (S.left source.old) (S.left source.new) }
+    ensures read { IfOk result (IsTaken (S.left source.old) (S.left source.new)
+        (S.faults source.old) (S.faults source.new)) }
+{
+    let Some(line) = asked(words) else {
+        return Ok(Finding::Usage);
+    };
+    match read_up_to(alloc, source, MAX_READ) {
+        Ok(bytes) => finding_in(alloc, &bytes, line),
+        Err(Unread::Failed) => Ok(Finding::Unread),
+        Err(Unread::Memory) => Err(Memory),
+    }
+}
+
+/// Writes what is due to the sink, and answers the status.
+fn deliver<K: Sink>(sink: &mut K, due: &[u8], finding: &Finding) -> u8
+    requires { Says finding.now due.now }
+    ensures said { IsSaid finding.now result (K.taken sink.old) (K.taken sink.new)
+        (Rose (K.faults sink.old) (K.faults sink.new)) }
+    ensures quiet { (result ≡ 5) ⊎ (K.faults sink.new ≡ K.faults sink.old) }
+{
+    match write_all(sink, due) {
+        Ok(()) => status(finding),
+        Err(_) => SINK_FAILED,
+    }
+}
+
+/// Reads a script and a trace of the source, with a line `---` between, and writes the picture of the
+/// trace to the sink, with a flag where the trace breaks a rule first.
+///
+/// The words are those of `nemesis check`, with that first word. The status is 0 where the picture
+/// was written, 2 where the words are not taken, 3 where there is no script, 4 where a read failed, 5
+/// where a write failed, 6 for want of memory, and 9 where there is no trace, or more than 67,108,864
+/// bytes. The whole text is in memory before the first write.
+pub fn chart_check<S: Source, K: Sink>(
+    alloc: Global,
+    words: &[String],
+    source: &mut S,
+    sink: &mut K,
+) -> u8
+    // What is right to say of the words and the bytes was said, or memory ran out before the first
+    // write.
+    ensures done { ((result ≡ 6) × (K.taken sink.new ≡ K.taken sink.old))
+        ⊎ IsDone (map string_bytes words.now) (S.left source.old) (S.left source.new)
+        (S.faults source.old) (S.faults source.new) (K.taken sink.old) (K.taken sink.new)
+        (Rose (K.faults sink.old) (K.faults sink.new)) result }
+
+    // Where the words are not taken, nothing is read, and no more is taken than may be read however
+    // it ends.
+    ensures not_taken { NotAsked (map string_bytes words.now) → source.new ≡ source.old }
+    ensures taken { LosesAtMost 67108865 (S.left source.old) (S.left source.new) }
+
+    // No failure of the sink is passed over.
+    ensures quiet_sink { (result ≡ 5) ⊎ (K.faults sink.new ≡ K.faults sink.old) }
+{
+    let Ok(finding) = find_finding(alloc, words, source) else {
+        return WANT_OF_MEMORY;
+    };
+    let Ok(due) = text(alloc, &finding) else {
+        return WANT_OF_MEMORY;
+    };
+    deliver(sink, &due, &finding)
+}

@@ -1,5 +1,0 @@
-use Rattle.std.proofs.Common.{length}
-use Rattle.nm_chart_words.proofs.options.+rest.Given as goal
-
-abbrev pub decreases-rest : goal.decreases-rest
-decreases-rest l = length l.words.now

@@ -1,0 +1,183 @@
+-- Events by their ranks and places.
+use Rattle.std.proofs.Common.{◌≡◌, ◌⊎◌, inl, inr, ℕ, zero, suc, ◌<◌, ◌≤◌, Option, Some, None, List, [], ◌∷◌, length}
+use Rattle.std.proofs.Common.{refl, sym, ap, subst, arith}
+use Rattle.std.specs.Prelude.{IfOk, IfSome, IsSomeAnd, Result, option_and_then, slice_get}
+use Rattle.std.specs.Option.{option_map_or}
+use Rattle.std.proofs.lemmas.List.{length-map}
+use Rattle.nm_types.specs.declared.scripts.Line.{Line}
+use Rattle.nm_types.specs.Commands.{commands_of}
+use Rattle.nm_types.specs.Sizes.{Sizes}
+use Rattle.nm_history.specs.declared.events.Event.{Event}
+use Rattle.nm_history.specs.Quiescence.{EachRank, Ended, Stands}
+use Rattle.nm_report.specs.declared.accounts.RankAccount.{RankAccount}
+use Rattle.nm_report.specs.Ends.{ends_of}
+use Rattle.nm_types.proofs.OptionLemmas.{no_some}
+use Rattle.nm_check_rank.specs.Breaks.{BreaksFirstAt}
+use Rattle.nm_check_rank.specs.FirstBroken.{IsFirstBroken}
+use Rattle.nm_check_ranks.specs.CarriedBreaks.{BreaksBetweenAt}
+use Rattle.nm_check_ranks.specs.CarriedClauses.{KeepsCarried, carried_order}
+use Rattle.nm_check_ranks.specs.Marked.{KeepsLocal, history_of}
+use Rattle.nm_check_ranks.specs.declared.clauses.CarriedClause.{CarriedClause}
+use Rattle.nm_check_ranks.specs.declared.firsts.Spot.{Spot}
+use Rattle.nm_check_ranks.specs.RestBreaks.{BreaksRestAt, BreaksStanding, KeepRestAt, rest_clause}
+use Rattle.nm_check_ranks.specs.declared.rest.clauses.RestClause.{RestClause}
+use Rattle.nm_check_ranks.specs.declared.rest.clauses.RestClause.TheVariants as rest
+use Rattle.nm_check_ranks.specs.declared.rest.firsts.EventRule.{EventRule}
+use Rattle.nm_check_ranks.specs.declared.rest.firsts.EventRule.TheVariants as rule
+use Rattle.nm_check.specs.Verdicts.{BreaksCarried, RunsItsOwn}
+use Rattle.nm_check.specs.declared.verdicts.Verdict.{Verdict}
+use Rattle.nm_check.specs.declared.verdicts.Verdict.TheVariants.{Holds, Own, Carried, Rest, Home, Done}
+use Rattle.nm_report.specs.declared.records.RunRecord.{RunRecord}
+use Rattle.nm_types.specs.declared.lists.Memory.{Memory}
+use Rattle.nm_check.specs.Places.{IsEventPlace, IsPlace, IsRestPlace, IsTracePlace, event_rule, events_in}
+use Rattle.nm_check.specs.declared.breaks.places.Place.{Place}
+use Rattle.nm_check.specs.declared.breaks.places.Place.TheVariants.{Nowhere}
+use Rattle.nm_check.proofs.EventLemmas.{end_of, rank_le}
+
+-- ranks that run their own commands are numbered, and their stamps rise
+pub are_local : (shape : Sizes) (lines : List Line) (ranks : List Ended) → EachRank (RunsItsOwn shape lines) ranks →
+    EachRank KeepsLocal ranks
+are_local shape lines ranks each x = by_rank (slice_get ranks x) (each x)
+  where
+    by_rank : (o : Option Ended) → IfSome o (RunsItsOwn shape lines x) → IfSome o (KeepsLocal x)
+    by_rank None here = tt
+    by_rank (Some rank) here = record { ranks = shape.ranks; numbers = here.numbers; stamps = here.stamps }
+
+-- the history of a rank, if there is one
+abbrev events_of : Option Ended → List Event
+events_of o = option_map_or (λ rank. rank.events) o []
+
+-- a rule of the messages between two ranks that is broken is not kept
+pub not_carried : (shape : Sizes) (lines : List Line) (ranks : List Ended) (c : CarriedClause) (i j : ℕ) →
+    BreaksCarried shape lines ranks c i j →
+    KeepsCarried i j (commands_of i lines) (commands_of j lines) (history_of ranks i) (history_of ranks j) c → ⊥
+not_carried shape lines ranks c i j breaks = by_ranks (slice_get ranks i) (slice_get ranks j) breaks.first
+  where
+    by_ranks : (a b : Option Ended) → IsSomeAnd a (λ a. IsSomeAnd b (λ b. IsFirstBroken
+        (KeepsCarried i j (commands_of i lines) (commands_of j lines) a.events b.events) carried_order c)) →
+        KeepsCarried i j (commands_of i lines) (commands_of j lines) (events_of a) (events_of b) c → ⊥
+    by_ranks None b there keeps = there
+    by_ranks (Some a) None there keeps = there
+    by_ranks (Some a) (Some b) there keeps = there.broken keeps
+
+-- the event is one of its rank
+pub spot_inside : (lines : List Line) (ranks : List Ended) (i j : ℕ) (c : CarriedClause) (spot : Spot) →
+    BreaksBetweenAt lines ranks i j c spot → spot.at < length (history_of ranks spot.rank)
+spot_inside lines ranks i j c spot breaks = by_side breaks.inside
+  where
+    by_side : ((spot.rank ≡ i) × (spot.at < length (history_of ranks i)))
+        ⊎ ((spot.rank ≡ j) × (spot.at < length (history_of ranks j))) →
+        spot.at < length (history_of ranks spot.rank)
+    by_side (inl here) = subst (λ (x : ℕ). spot.at < length (history_of ranks x)) (sym here.0) here.1
+    by_side (inr here) = subst (λ (x : ℕ). spot.at < length (history_of ranks x)) (sym here.0) here.1
+
+-- .. which is one of the two
+pub spot_known : (lines : List Line) (ranks : List Ended) (i j n : ℕ) (c : CarriedClause) (spot : Spot) →
+    BreaksBetweenAt lines ranks i j c spot → i < n → j < n → spot.rank < n
+spot_known lines ranks i j n c spot breaks low_i low_j = by_side breaks.inside
+  where
+    by_side : ((spot.rank ≡ i) × (spot.at < length (history_of ranks i)))
+        ⊎ ((spot.rank ≡ j) × (spot.at < length (history_of ranks j))) → spot.rank < n
+    by_side (inl here) = subst (λ (x : ℕ). x < n) (sym here.0) low_i
+    by_side (inr here) = subst (λ (x : ℕ). x < n) (sym here.0) low_j
+
+-- a rank of which something is so is one of the ranks
+pub some_inside : (ranks : List Ended) (i : ℕ) (P : Ended → Type 0) → IsSomeAnd (slice_get ranks i) P →
+    i < length ranks
+some_inside [] i P there = absurd there
+some_inside (r ∷ ranks) zero P there = omega arith
+some_inside (r ∷ ranks) (suc i) P there = let low = some_inside ranks i P there in omega (arith, low)
+
+-- no history has more events than all ranks have
+pub history_le : (ranks : List Ended) (i : ℕ) → length (history_of ranks i) ≤ events_in ranks
+history_le ranks i = by_rank (slice_get ranks i) refl
+  where
+    by_rank : (o : Option Ended) → slice_get ranks i ≡ o → length (events_of o) ≤ events_in ranks
+    by_rank None is = omega arith
+    by_rank (Some e) is = rank_le ranks i e is
+
+-- the two ranks of a rule that breaks between them
+pub carried_ranks : (shape : Sizes) (lines : List Line) (ranks : List Ended) (c : CarriedClause) (i j : ℕ) →
+    BreaksCarried shape lines ranks c i j → (i < length ranks) × (j < length ranks)
+carried_ranks shape lines ranks c i j breaks = (
+  some_inside ranks i (λ a. IsSomeAnd (slice_get ranks j) (λ b. IsFirstBroken
+      (KeepsCarried i j (commands_of i lines) (commands_of j lines) a.events b.events) carried_order c))
+      breaks.first,
+  receiver (slice_get ranks i) breaks.first,
+)
+  where
+    receiver : (a : Option Ended) → IsSomeAnd a (λ a. IsSomeAnd (slice_get ranks j) (λ b. IsFirstBroken
+        (KeepsCarried i j (commands_of i lines) (commands_of j lines) a.events b.events) carried_order c)) →
+        j < length ranks
+    receiver None there = absurd there
+    receiver (Some a) there = some_inside ranks j (λ b. IsFirstBroken
+        (KeepsCarried i j (commands_of i lines) (commands_of j lines) a.events b.events) carried_order c) there
+
+-- the rank of an event that breaks a rule of rest
+pub rest_known : (r : EventRule) (ranks : List Ended) (spot : Spot) → BreaksRestAt r ranks spot →
+    spot.rank < length ranks
+rest_known r ranks spot breaks =
+    some_inside ranks spot.rank (λ rank. BreaksFirstAt (KeepRestAt r ranks spot.rank rank.events) rank.events spot.at)
+    breaks.first
+
+-- .. of a rank that stands where it may not
+pub standing_known : (lines : List Line) (ranks : List Ended) (i : ℕ) → BreaksStanding lines ranks i → i < length ranks
+standing_known lines ranks i breaks =
+    some_inside ranks i (λ rank. Stands (commands_of i lines) rank → ⊥) breaks.first
+
+-- .. and its place
+pub rest_inside : (r : EventRule) (ranks : List Ended) (spot : Spot) → BreaksRestAt r ranks spot →
+    spot.at < length (history_of ranks spot.rank)
+rest_inside r ranks spot breaks = by_rank (slice_get ranks spot.rank) breaks.first
+  where
+    by_rank : (o : Option Ended) → IsSomeAnd o (λ rank. BreaksFirstAt (KeepRestAt r ranks spot.rank rank.events)
+        rank.events spot.at) → spot.at < length (events_of o)
+    by_rank None there = absurd there
+    by_rank (Some rank) there = there.inside
+
+-- as many ranks as accounts
+pub many_ends : (ranks : List RankAccount) → length (ends_of ranks) ≡ length ranks
+many_ends ranks = length-map ranks end_of
+
+-- where a rank waits
+pub waits_here : (ranks : List Ended) (i : ℕ) (e : Ended) → slice_get ranks i ≡ Some e →
+    option_and_then (λ (e : Ended). e.waits) (slice_get ranks i) ≡ e.waits
+waits_here ranks i e is = ap (λ (o : Option Ended). option_and_then (λ (e : Ended). e.waits) o) is
+
+-- the rule that is asked of events
+pub rule_of : (c : RestClause) (o : Option EventRule) → o ≡ event_rule c → IfSome o (λ r. c ≡ rest_clause r)
+rule_of rest.Eager o is = subst (λ (o : Option EventRule). IfSome o (λ r. rest.Eager ≡ rest_clause r)) (sym is) refl
+rule_of rest.Asked o is = subst (λ (o : Option EventRule). IfSome o (λ r. rest.Asked ≡ rest_clause r)) (sym is) refl
+rule_of rest.Recalls o is =
+    subst (λ (o : Option EventRule). IfSome o (λ r. rest.Recalls ≡ rest_clause r)) (sym is) refl
+rule_of rest.Arrived o is = subst (λ (o : Option EventRule). IfSome o (λ r. rest.Arrived ≡ rest_clause r)) (sym is) tt
+rule_of rest.Waits o is = subst (λ (o : Option EventRule). IfSome o (λ r. rest.Waits ≡ rest_clause r)) (sym is) tt
+rule_of rest.Counts o is = subst (λ (o : Option EventRule). IfSome o (λ r. rest.Counts ≡ rest_clause r)) (sym is) tt
+
+-- its place
+pub event_placed : (lines : List Line) (ranks : List Ended) (r : EventRule) (place : Place) →
+    IsEventPlace r ranks place → IsRestPlace lines ranks (rest_clause r) place
+event_placed lines ranks rule.Eager place is = is
+event_placed lines ranks rule.Asked place is = is
+event_placed lines ranks rule.Recalls place is = is
+
+-- any other rule but that on waiting has none
+pub no_place : (lines : List Line) (ranks : List Ended) (c : RestClause) → event_rule c ≡ None →
+    (c ≡ rest.Waits → ⊥) → IsRestPlace lines ranks c Nowhere
+no_place lines ranks rest.Eager none not = absurd (no_some _ (sym none))
+no_place lines ranks rest.Asked none not = absurd (no_some _ (sym none))
+no_place lines ranks rest.Recalls none not = absurd (no_some _ (sym none))
+no_place lines ranks rest.Arrived none not = refl
+no_place lines ranks rest.Waits none not = absurd (not refl)
+no_place lines ranks rest.Counts none not = refl
+
+-- the place of a verdict but for those on the last lines
+pub inside_trace : (count : ℕ) (lines : List Line) (run : RunRecord) (verdict : Verdict)
+    (placed : Result Place Memory) → (verdict ≡ Home → ⊥) → (verdict ≡ Done → ⊥) →
+    IfOk placed (IsPlace lines run verdict) → IfOk placed (IsTracePlace count lines run verdict)
+inside_trace count lines run Holds placed not_home not_done is = is
+inside_trace count lines run (Own c i) placed not_home not_done is = is
+inside_trace count lines run (Carried c i j) placed not_home not_done is = is
+inside_trace count lines run (Rest c) placed not_home not_done is = is
+inside_trace count lines run Home placed not_home not_done is = absurd (not_home refl)
+inside_trace count lines run Done placed not_home not_done is = absurd (not_done refl)

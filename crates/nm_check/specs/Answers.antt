@@ -1,0 +1,97 @@
+-- What the program answers: a text and a status.
+use Rattle.std.specs.Prelude.{◌≡◌, ℕ, ◌⊎◌, List, IfSome, Option, Some, codes, drop, take}
+use Rattle.nm_script.specs.CommandWords.{IsTaken}
+use Rattle.nm_script.specs.declared.command_line.CommandLine.{CommandLine}
+use Rattle.nm_script.specs.declared.command_line.Mode.TheVariants.{Check}
+use Rattle.nm_outside.specs.Told.{Appends, AppendsPart, Rose}
+use Rattle.nm_check.specs.declared.verdicts.Verdict.{Verdict}
+use Rattle.nm_check.specs.declared.verdicts.Verdict.TheVariants.{Holds}
+use Rattle.nm_check.specs.Checks.{IsChecked}
+use Rattle.nm_check.specs.Found.{IsFound, checked_of}
+use Rattle.nm_check.specs.declared.breaks.finding.Found.{Found}
+use Rattle.nm_check.specs.declared.breaks.finding.Found.TheVariants.{NoTrace, NoScript, BadTrace, Judged}
+use Rattle.nm_check.specs.VerdictTexts.{found_text}
+use Rattle.nm_check.specs.declared.verdict.answers.Response.{Response}
+use Rattle.nm_check.specs.declared.verdict.answers.Response.TheVariants.{Usage, Unread, Told}
+
+-- what is read of a source: all of it, or one byte more than a script and its trace may have
+abbrev pub read_of : List ℕ → List ℕ
+read_of bytes = take 67108865 bytes
+
+-- what is said of words that are not taken
+abbrev pub usage : List ℕ
+usage = codes "usage: verdict [--cells N] [--eager N] <SCRIPT_AND_TRACE\n"
+
+-- what is said of a source that failed
+abbrev pub unread : List ℕ
+unread = codes "fault read\n"
+
+-- the text of an answer
+abbrev pub text_of : Response → List ℕ
+text_of Usage = usage
+text_of Unread = unread
+text_of (Told found) = found_text found
+
+-- the status of a verdict: whether the trace holds
+abbrev pub verdict_status : Verdict → ℕ
+verdict_status Holds = 0
+verdict_status _ = 8
+
+-- the status of what was found
+abbrev pub found_status : Found → ℕ
+found_status NoTrace = 9
+found_status (NoScript line kind) = 3
+found_status (BadTrace before line stop) = 9
+found_status (Judged before verdict place) = verdict_status verdict
+
+-- the status of an answer that was written
+abbrev pub status_of : Response → ℕ
+status_of Usage = 2
+status_of Unread = 4
+status_of (Told found) = found_status found
+
+-- the words ask for a verdict: they are those of a check
+abbrev pub IsAsked : List (List ℕ) → CommandLine → Type 0
+IsAsked words line = IsTaken words line × (line.mode ≡ Check)
+
+-- they do not
+abbrev pub NotAsked : List (List ℕ) → Type 0
+NotAsked words = (line : CommandLine) → ¬ (IsAsked words line)
+
+-- It is what these bytes are, in the sizes of the words: what a check says of them, and where they break the
+-- rule first.
+pub record IsFoundIn (line : CommandLine) (found : Found) (bytes : List ℕ) : Type 0 where
+  pub checked : IsChecked line.cells line.eager bytes (checked_of found)
+  pub placed : IsFound line.cells line.eager bytes found
+
+-- .. of the bytes of a source where it tells them
+abbrev pub IsFoundOf : CommandLine → Option (List ℕ) → Found → Type 0
+IsFoundOf line input found = IfSome input (λ bytes. IsFoundIn line found (read_of bytes))
+
+-- an answer is right: by the words, by the bytes of the source, and by its count of faults before and after
+abbrev pub IsAnswer : List (List ℕ) → Option (List ℕ) → ℕ → ℕ → Response → Type 0
+IsAnswer words input old new Usage = NotAsked words
+IsAnswer words input old new Unread = ((line : CommandLine) × IsAsked words line) × Rose old new
+IsAnswer words input old new (Told found) = (line : CommandLine) × IsAsked words line × IsFoundOf line input found
+
+-- the source was read
+abbrev pub WasRead : Response → Type 0
+WasRead Unread = ⊥
+WasRead _ = Unit {0}
+
+-- the words ask for a verdict
+abbrev pub AreAsked : List (List ℕ) → Type 0
+AreAsked words = (line : CommandLine) × IsAsked words line
+
+-- Unless a read failed, the source was read to its end or to the limit, where the words ask for a verdict, and
+-- its count of faults is as it was.
+pub record IsRead (words : List (List ℕ)) (input left : Option (List ℕ)) (old new : ℕ) (answer : Response)
+    : Type 0 where
+  pub quiet : WasRead answer → new ≡ old
+  pub whole : WasRead answer → AreAsked words → IfSome input (λ bytes. left ≡ Some (drop 67108865 bytes))
+
+-- the text of an answer was written, whole and with its status, or the sink failed
+abbrev pub IsSaid : Response → ℕ → Option (List ℕ) → Option (List ℕ) → Type 0 → Type 0
+IsSaid answer status old new fails =
+    ((status ≡ status_of answer) × Appends old new (text_of answer))
+    ⊎ ((status ≡ 5) × fails × AppendsPart old new (text_of answer))

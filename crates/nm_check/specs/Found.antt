@@ -1,0 +1,48 @@
+-- What is found of a script and a trace in one text.
+use Rattle.std.specs.Prelude.{◌≡◌, ℕ, ◌<◌, ◌⊎◌, List, length}
+use Rattle.nm_types.specs.declared.scripts.Line.{Line}
+use Rattle.nm_types.specs.Sizes.{Sizes}
+use Rattle.nm_script.specs.Rules.{IsFirstFault}
+use Rattle.nm_script.specs.Spelled.{IsTextOf}
+use Rattle.nm_report.specs.declared.records.RunRecord.{RunRecord}
+use Rattle.nm_trace.specs.Traces.{IsFirstBad, IsTraceOf}
+use Rattle.nm_check.specs.Verdicts.{Judges}
+use Rattle.nm_check.specs.Checks.{IsInput, sizes}
+use Rattle.nm_check.specs.Inputs.{HasNoCut}
+use Rattle.nm_check.specs.declared.checked.checks.Checked.{Checked}
+use Rattle.nm_check.specs.declared.checked.checks.Checked.TheVariants as checked
+use Rattle.nm_check.specs.Lines.{StandsAt}
+use Rattle.nm_check.specs.Places.{IsTracePlace}
+use Rattle.nm_check.specs.Stops.{IsStop, lines_in}
+use Rattle.nm_check.specs.declared.breaks.finding.Found.{Found}
+use Rattle.nm_check.specs.declared.breaks.finding.Found.TheVariants.{NoTrace, NoScript, BadTrace, Judged}
+
+-- what `check` says of it
+abbrev pub checked_of : Found → Checked
+checked_of NoTrace = checked.NoTrace
+checked_of (NoScript line kind) = checked.NoScript line kind
+checked_of (BadTrace before line stop) = checked.BadTrace line
+checked_of (Judged before verdict place) = checked.Judged verdict
+
+-- behind so many lines, the trace is judged by the script's lines, and breaks the rule there first; or it is none
+abbrev pub IsTraceFound : Sizes → List Line → ℕ → List ℕ → Found → Type 0
+IsTraceFound shape lines before rest (BadTrace front line stop) =
+    (front ≡ before) × IsFirstBad shape rest line × IsStop shape rest line stop
+IsTraceFound shape lines before rest (Judged front verdict place) =
+    (front ≡ before) × (run : RunRecord) × IsTraceOf shape rest run × Judges lines run verdict
+    × IsTracePlace (lines_in rest) lines run verdict place × StandsAt rest run place
+IsTraceFound shape lines before rest _ = ⊥
+
+-- the lines before it are no script, or the trace is judged by it
+abbrev pub IsScriptFound : ℕ → ℕ → List ℕ → List ℕ → Found → Type 0
+IsScriptFound cells eager front rest (NoScript line kind) = IsFirstFault front line kind
+IsScriptFound cells eager front rest NoTrace = ⊥
+IsScriptFound cells eager front rest found =
+    (ranks : ℕ) × (lines : List Line) × IsTextOf front ranks lines
+    × IsTraceFound (sizes cells eager ranks) lines (lines_in front) rest found
+
+-- the input is too long or has no line `---`, or its two parts are found to be this
+abbrev pub IsFound : ℕ → ℕ → List ℕ → Found → Type 0
+IsFound cells eager bytes NoTrace = (67108864 < length bytes) ⊎ HasNoCut bytes
+IsFound cells eager bytes found =
+    (front : List ℕ) × (rest : List ℕ) × IsInput bytes front rest × IsScriptFound cells eager front rest found

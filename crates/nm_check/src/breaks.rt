@@ -1,0 +1,33 @@
+//! Where a trace breaks a rule of its script first.
+//!
+//! # What a contract sees
+//! `specs/Found.antt` says what each answer means (`IsFound`), by the definitions of `nm_check::checked`
+//! and of the crates below it: the verdict is the one of `nm_check`, and `specs/Places.antt` says
+//! what its place is. For a rule of a rank's own run it is the first event at which the rule breaks
+//! (`BreaksOwnAt` of `nm_check_rank`): the events before it keep the rule, and with it they break
+//! it. For a rule between two ranks it is the first event of both, as their lines are read
+//! (`BreaksCarriedAt` of `nm_check_ranks`); for a rule of rest the first event that is left
+//! unfinished, or the first rank that stands where it may not (`specs/RestBreaks.antt` of
+//! `nm_check_ranks::rest`). The cells and the end have the last two lines. Of what has not come, and of the
+//! counts of packets, no place is told. `specs/Stops.antt` says what stops a text that is no trace.
+//! # What is proved
+//! - `find` tells the cases apart as `nm_check::checked::check` does, and its verdict is that of the same
+//!   definitions.
+//! - The place is the first one, and where it is an event, the line that is told is the one on which
+//!   it stands (`StandsAt`, `specs/Lines.antt`).
+//! - Of a text that is no trace it tells the first bad line, and what stops the text there (`IsStop`):
+//!   that there is no such line, that its line feed is missing, that it begins some trace but stands
+//!   behind lines which it can't follow, that it begins one with other numbers, that it names an event
+//!   which there isn't, or none of these.
+//! # What is only tested
+//! That `find` succeeds with ample memory.
+
+mod finding;
+mod own;
+mod places;
+mod placing;
+mod stops;
+
+pub use finding::{Found, find};
+pub use places::Place;
+pub use stops::Stop;

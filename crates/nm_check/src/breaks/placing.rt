@@ -1,0 +1,206 @@
+//! Where a record breaks the rule of its verdict.
+
+ghost use Rattle.std.specs.Prelude.{◌≡◌, ◌<◌, ◌≤◌, ℕ, IfOk, List, None, length};
+ghost use Rattle.nm_types.specs.declared.scripts.Line as script_line;
+ghost use Rattle.nm_history.specs.Quiescence.{Packets};
+ghost use Rattle.nm_report.specs.Ends.{ends_of};
+ghost use Rattle.nm_check.specs.declared.verdicts.Verdict.TheVariants.{Carried, Own, Rest};
+ghost use Rattle.nm_check.specs.Verdicts.{Judges};
+ghost use Rattle.nm_check_ranks.specs.Tabled.{AreTabled, EachTabled};
+ghost use Rattle.nm_check_ranks.specs.RestBreaks.{rest_clause};
+ghost use Rattle.nm_check_ranks.specs.RestClauses.{KeepsRest};
+ghost use Rattle.nm_check_ranks.specs.declared.rest.clauses.RestClause.TheVariants as rest;
+ghost use Rattle.nm_check.specs.Places.{IsEventPlace, IsPlace, IsRestPlace, IsStandPlace};
+ghost use Rattle.nm_check.specs.Places.{IsTracePlace, events_in};
+ghost use Rattle.nm_check.specs.Places.{event_rule as event_rule_lem};
+
+use crate::breaks::own::own_break;
+use crate::breaks::places::{Place, place_in, place_of_spot};
+use crate::{CarriedClause, OwnClause, RestClause, Verdict};
+use nm_check_ranks::firsts::first_between_at;
+use nm_check_ranks::tabling::tables_of;
+use nm_check_rank::paired::tables::Tables;
+use nm_check_ranks::rest::firsts::{EventRule, first_rest_at};
+use nm_check_ranks::rest::waits::first_not_standing;
+use nm_report::{RankAccount, RunRecord};
+use nm_types::{Line, Memory, Script};
+use std::alloc::Global;
+
+/// Where a rank breaks a rule of its own run first.
+fn own_place(
+    alloc: Global,
+    script: &Script,
+    run: &RunRecord,
+    clause: OwnClause,
+    rank: u8,
+) -> Result<Place, Memory>
+    requires judged { Judges script.now.lines run.now (Own clause rank) }
+    requires short { events_in (ends_of run.now.ranks) ≤ 67108864 }
+    ensures { IfOk result (IsPlace script.now.lines run.now (Own clause rank)) }
+{
+    let i = rank as usize;
+    if i >= run.ranks.len() {
+        return Ok(Place::Nowhere);
+    }
+    let ranks = run.ranks.as_slice();
+    let events = ranks[i].history.as_slice();
+    let lines = script.lines.as_slice();
+    let place = own_break(alloc, run.shape, rank, lines, events, clause)?;
+    Ok(place_in(ranks, rank, events, place))
+}
+
+/// Where the messages from one rank to another break a rule first.
+fn carried_place(
+    alloc: Global,
+    script: &Script,
+    run: &RunRecord,
+    clause: CarriedClause,
+    from: u8,
+    to: u8,
+) -> Result<Place, Memory>
+    requires judged { Judges script.now.lines run.now (Carried clause from to) }
+    requires few { length run.now.ranks < 256 }
+    requires short { events_in (ends_of run.now.ranks) ≤ 67108864 }
+    ensures { IfOk result (IsPlace script.now.lines run.now (Carried clause from to)) }
+{
+    let ranks = run.ranks.as_slice();
+    let lines = script.lines.as_slice();
+    let tables = tables_of(alloc, lines, ranks)?;
+    let own = tables.as_slice();
+    match first_between_at(clause, from, to, lines, ranks, own) {
+        Some(spot) => Ok(place_of_spot(ranks, spot)),
+        None => Ok(Place::Nowhere),
+    }
+}
+
+/// The first event that breaks a rule of rest.
+fn event_place(rule: EventRule, ranks: &[RankAccount], tables: &[Tables]) -> Place
+    requires few { length ranks.now < 256 }
+    requires short { events_in (ends_of ranks.now) ≤ 67108864 }
+    requires tabled { AreTabled (ends_of ranks.now) tables.now }
+    requires broken { (lines : List script_line.Line) × (packets : List Packets)
+        × (¬ KeepsRest lines (ends_of ranks.now) packets (rest_clause rule)) }
+    ensures { IsEventPlace rule (ends_of ranks.now) result }
+{
+    match first_rest_at(rule, ranks, tables) {
+        Some(spot) => place_of_spot(ranks, spot),
+        None => Place::Nowhere,
+    }
+}
+
+/// The first rank that neither is at its end nor waits for what can't come.
+fn stand_place(lines: &[Line], ranks: &[RankAccount], tables: &[Tables]) -> Place
+    requires few { length ranks.now < 256 }
+    requires tabled { EachTabled lines.now (ends_of ranks.now) tables.now }
+    requires broken { (packets : List Packets)
+        × (¬ KeepsRest lines.now (ends_of ranks.now) packets rest.Waits) }
+    ensures { IsStandPlace lines.now (ends_of ranks.now) result }
+{
+    match first_not_standing(lines, ranks, tables) {
+        Some(rank) => {
+            let i = rank as usize;
+            let waits = ranks[i].waits;
+            Place::Standing { rank, waits }
+        }
+        None => Place::Nowhere,
+    }
+}
+
+/// The rule of rest as one that is asked of each event, if it is.
+fn event_rule(clause: RestClause) -> Option<EventRule>
+    ensures { result ≡ event_rule_lem clause }
+{
+    match clause {
+        RestClause::Eager => Some(EventRule::Eager),
+        RestClause::Asked => Some(EventRule::Asked),
+        RestClause::Recalls => Some(EventRule::Recalls),
+        _ => None,
+    }
+}
+
+/// Where a rule of rest breaks that is not asked of events.
+fn other_place(
+    clause: RestClause,
+    lines: &[Line],
+    ranks: &[RankAccount],
+    tables: &[Tables],
+) -> Place
+    requires few { length ranks.now < 256 }
+    requires tabled { EachTabled lines.now (ends_of ranks.now) tables.now }
+    requires other { event_rule_lem clause ≡ None }
+    requires broken { (packets : List Packets)
+        × (¬ KeepsRest lines.now (ends_of ranks.now) packets clause) }
+    ensures { IsRestPlace lines.now (ends_of ranks.now) clause result }
+{
+    match clause {
+        RestClause::Waits => stand_place(lines, ranks, tables),
+        _ => Place::Nowhere,
+    }
+}
+
+/// Where the ranks break a rule of rest first.
+fn rest_place(
+    alloc: Global,
+    script: &Script,
+    run: &RunRecord,
+    clause: RestClause,
+) -> Result<Place, Memory>
+    requires judged { Judges script.now.lines run.now (Rest clause) }
+    requires few { length run.now.ranks < 256 }
+    requires short { events_in (ends_of run.now.ranks) ≤ 67108864 }
+    ensures { IfOk result (IsPlace script.now.lines run.now (Rest clause)) }
+{
+    let ranks = run.ranks.as_slice();
+    let lines = script.lines.as_slice();
+    let tables = tables_of(alloc, lines, ranks)?;
+    let own = tables.as_slice();
+    match event_rule(clause) {
+        Some(rule) => Ok(event_place(rule, ranks, own)),
+        None => Ok(other_place(clause, lines, ranks, own)),
+    }
+}
+
+/// Where a record breaks the rule of its verdict first.
+fn place_of(
+    alloc: Global,
+    script: &Script,
+    run: &RunRecord,
+    verdict: Verdict,
+) -> Result<Place, Memory>
+    requires judged { Judges script.now.lines run.now verdict }
+    requires few { length run.now.ranks < 256 }
+    requires short { events_in (ends_of run.now.ranks) ≤ 67108864 }
+    ensures { IfOk result (IsPlace script.now.lines run.now verdict) }
+{
+    match verdict {
+        Verdict::Own { clause, rank } => own_place(alloc, script, run, clause, rank),
+        Verdict::Carried { clause, from, to } => {
+            carried_place(alloc, script, run, clause, from, to)
+        }
+        Verdict::Rest { clause } => rest_place(alloc, script, run, clause),
+        _ => Ok(Place::Nowhere),
+    }
+}
+
+/// Where a trace of so many lines breaks the rule of its verdict first. Its last line but one has the
+/// cells, and its last line the end.
+pub fn trace_place(
+    alloc: Global,
+    script: &Script,
+    run: &RunRecord,
+    verdict: Verdict,
+    count: u32,
+) -> Result<Place, Memory>
+    requires judged { Judges script.now.lines run.now verdict }
+    requires few { length run.now.ranks < 256 }
+    requires short { events_in (ends_of run.now.ranks) ≤ 67108864 }
+    ensures { IfOk result (IsTracePlace count script.now.lines run.now verdict) }
+{
+    match verdict {
+        Verdict::Home => Ok(Place::LastLine {
+            line: count.saturating_sub(1),
+        }),
+        Verdict::Done => Ok(Place::LastLine { line: count }),
+        _ => place_of(alloc, script, run, verdict),
+    }
+}

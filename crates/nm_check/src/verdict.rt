@@ -1,0 +1,25 @@
+//! Traces in, verdicts out: where a trace breaks a rule of its script first, in plain words.
+//!
+//! `verdict` is the one top call. It takes the words of `nemesis check`, reads a script and a trace,
+//! and writes one line.
+//!
+//! # What a contract sees
+//! Bytes as a list of numbers. `nm_check::breaks` says what is found of them; `specs/Texts.antt` has the
+//! sentence of each finding, `specs/Sentences.antt` the words of each rule.
+//! # What is proved
+//! - The program says `holds` exactly where `nm_check::checked::check` does, the rule that it names is the
+//!   same, and the place is the one of `nm_check::breaks`. The statuses are those of `check`: 0 where the
+//!   trace holds, 8 where it breaks a rule, 3 and 9 where there is no script or no trace, 2 where
+//!   the words are not taken. They yield to 4, 5 and 6.
+//! - The source is read to its end, or its first 67,108,865 bytes are, and more is taken at no
+//!   status. No failure of the source or the sink is passed over.
+//! - At 5 the sink took a front of the text that was due. At 6 nothing was written.
+//! # What is only tested
+//! That it succeeds with ample memory.
+
+mod answers;
+mod sentences;
+mod texts;
+mod verdicts;
+
+pub use verdicts::verdict;

@@ -1,0 +1,68 @@
+//! What there is to say of the words and the source, and how it is said.
+
+ghost use Rattle.std.specs.Prelude.{◌≡◌, IfOk};
+ghost use Rattle.nm_check.specs.Answers.{found_status as found_status_lem, status_of, text_of};
+
+use crate::verdict::texts::found_text;
+use crate::breaks::Found;
+use crate::Verdict;
+use std::alloc::{AllocError, Global};
+
+/// What there is to say.
+#[derive(Clone, Copy)]
+pub enum Response {
+    /// The words are not taken.
+    Usage,
+    /// The source failed.
+    Unread,
+    /// What was found of the bytes.
+    Told { found: Found },
+}
+
+/// What is said of words that are not taken.
+const USAGE: &str = "usage: verdict [--cells N] [--eager N] <SCRIPT_AND_TRACE
+";
+
+/// The bytes of a line.
+fn line(alloc: Global, text: &str) -> Result<Vec<u8>, AllocError>
+    ensures { IfOk result (λ bytes. bytes.items ≡ text.now) }
+{
+    Vec::from_slice(alloc, text.as_bytes())
+}
+
+/// The text of an answer, whole and in memory.
+pub fn text(alloc: Global, answer: Response) -> Result<Vec<u8>, AllocError>
+    ensures { IfOk result (λ text. text.items ≡ text_of answer) }
+{
+    match answer {
+        Response::Usage => line(alloc, USAGE),
+        Response::Unread => line(alloc, "fault read\n"),
+        Response::Told { found } => found_text(alloc, found),
+    }
+}
+
+/// The status of what was found.
+fn found_status(found: Found) -> u8
+    ensures { result ≡ found_status_lem found }
+{
+    match found {
+        Found::NoTrace => 9,
+        Found::NoScript { .. } => 3,
+        Found::BadTrace { .. } => 9,
+        Found::Judged { verdict, .. } => match verdict {
+            Verdict::Holds => 0,
+            _ => 8,
+        },
+    }
+}
+
+/// The status of an answer that was written.
+pub fn status(answer: Response) -> u8
+    ensures { result ≡ status_of answer }
+{
+    match answer {
+        Response::Usage => 2,
+        Response::Unread => 4,
+        Response::Told { found } => found_status(found),
+    }
+}

@@ -1,0 +1,112 @@
+//! The words of each rule.
+
+ghost use Rattle.std.specs.Prelude.{◌≡◌};
+ghost use Rattle.nm_check.specs.Sentences.{own_words as own_words_lem};
+ghost use Rattle.nm_check.specs.Sentences.{carried_words as carried_words_lem};
+ghost use Rattle.nm_check.specs.Sentences.{rest_words as rest_words_lem};
+ghost use Rattle.nm_check.specs.Sentences.{kind_words as kind_words_lem};
+ghost use Rattle.nm_check.specs.Sentences.{stop_words as stop_words_lem};
+
+use crate::breaks::Stop;
+use crate::{CarriedClause, OwnClause, RestClause};
+use nm_script::Kind;
+
+/// The rule of a rank's own run.
+pub fn own_words(clause: OwnClause) -> &'static str
+    ensures { result.now ≡ own_words_lem clause }
+{
+    match clause {
+        OwnClause::Stamps => {
+            "the stamps of a rank are at least 1 and rise, and this one is not greater than the one before"
+        }
+        OwnClause::Numbers => {
+            "the sends to each rank, the arrivals from each and the receives are numbered from 0, and this number is not the next, or the rank is none of the script's"
+        }
+        OwnClause::Claims => {
+            "a matched probe that shows a message has its one claim, of the first free message that it selects, and there is no other claim"
+        }
+        OwnClause::Starts => {
+            "a start that was taken has its one send or receive since the answer before, with the arguments of its line, asking exactly where it is synchronous or longer than --eager says, and there is no other"
+        }
+        OwnClause::Cancels => {
+            "a cancel has its one event since the answer before, and there is no other, and that of a receive is done exactly where the receive has no message"
+        }
+        OwnClause::Wholes => {
+            "a message is whole once, after it came, and after a receive took it where it was sent by asking"
+        }
+        OwnClause::Ends => {
+            "a message leaves once, after its send, is withdrawn once, after it came, done exactly where it is free, and a recall is answered once"
+        }
+        OwnClause::Answers => {
+            "the commands of a rank run in order, each with the answer that matching gives it on the events before"
+        }
+    }
+}
+
+/// The rule of the messages from one rank to another.
+pub fn carried_words(clause: CarriedClause) -> &'static str
+    ensures { result.now ≡ carried_words_lem clause }
+{
+    match clause {
+        CarriedClause::Messages => {
+            "the messages that came are the first that were sent, in order, each with its envelope and a greater stamp"
+        }
+        CarriedClause::Bodies => { "a receive shows the body of the send that it is paired with" }
+        CarriedClause::Outs => {
+            "a message that was sent by asking leaves only after a receive took it, by stamps"
+        }
+        CarriedClause::Withdrawals => {
+            "a withdrawal comes after its recall, and the answer to a recall after its withdrawal, with the same word"
+        }
+    }
+}
+
+/// The rule of all ranks at rest.
+pub fn rest_words(clause: RestClause) -> &'static str
+    ensures { result.now ≡ rest_words_lem clause }
+{
+    match clause {
+        RestClause::Arrived => { "all that was sent has come" }
+        RestClause::Eager => { "each message that was sent without asking has left and is whole" }
+        RestClause::Asked => {
+            "each message that was sent by asking and that a receive took has left and is whole, and one that is claimed alone has done neither"
+        }
+        RestClause::Recalls => { "each recall is answered" }
+        RestClause::Waits => {
+            "each rank is at its end, or waits at its next command, which can't go on"
+        }
+        RestClause::Counts => { "the counts of packets are those that the events call for" }
+    }
+}
+
+/// Why a line is none of a script.
+pub fn kind_words(clause: Kind) -> &'static str
+    ensures { result.now ≡ kind_words_lem clause }
+{
+    match clause {
+        Kind::TooLong => { "the script is longer than 8,388,608 bytes" }
+        Kind::NotAscii => { "it has a byte that is no printable character of ASCII" }
+        Kind::Lines => { "a script has at most 65,536 lines" }
+        Kind::First => { "the first line is to be `ranks N`" }
+        Kind::Rank => { "it is to begin with a rank of the script and a colon" }
+        Kind::Command => { "there is no such command" }
+        Kind::Count => { "the command has another number of arguments" }
+        Kind::Number => { "an argument is no number of its range" }
+        Kind::Body => { "the body is not spelled right, or is too long" }
+        Kind::BodyTotal => { "all bodies up to here are longer than 67,108,864 bytes" }
+    }
+}
+
+/// What stops a text that is no trace.
+pub fn stop_words(stop: Stop) -> &'static str
+    ensures { result.now ≡ stop_words_lem stop }
+{
+    match stop {
+        Stop::Short => { "the trace ends too soon" }
+        Stop::Unfed => { "the last line has no line feed" }
+        Stop::Order => { "it is out of order" }
+        Stop::Number => { "a number in it is out of range" }
+        Stop::Event => { "there is no such event" }
+        Stop::Line => { "no trace begins so" }
+    }
+}

@@ -1,0 +1,218 @@
+//! The sentence of what was found.
+
+ghost use Rattle.std.specs.Prelude.{◌≡◌, IfOk, string_bytes};
+ghost use Rattle.nm_check.specs.VerdictTexts.{bad_text as bad_text_lem};
+ghost use Rattle.nm_check.specs.VerdictTexts.{behind_text as behind_text_lem};
+ghost use Rattle.nm_check.specs.VerdictTexts.{carried_text as carried_text_lem};
+ghost use Rattle.nm_check.specs.VerdictTexts.{command_words as command_words_lem};
+ghost use Rattle.nm_check.specs.VerdictTexts.{found_text as found_text_lem, line_words as line_words_lem};
+ghost use Rattle.nm_check.specs.VerdictTexts.{last_text as last_text_lem};
+ghost use Rattle.nm_check.specs.VerdictTexts.{own_text as own_text_lem, rest_text as rest_text_lem};
+ghost use Rattle.nm_check.specs.VerdictTexts.{pair_words as pair_words_lem};
+ghost use Rattle.nm_check.specs.VerdictTexts.{standing_words as standing_words_lem};
+ghost use Rattle.nm_check.specs.VerdictTexts.{verdict_text as verdict_text_lem};
+
+use crate::verdict::sentences::{carried_words, kind_words, own_words, rest_words, stop_words};
+use crate::breaks::{Found, Place, Stop};
+use crate::{CarriedClause, OwnClause, RestClause, Verdict};
+use std::alloc::{AllocError, Global};
+
+/// The number of a line of the whole input, and of the line behind `---`.
+fn line_words(alloc: Global, before: u32, line: u32) -> Result<String, AllocError>
+    ensures { IfOk result (λ text. string_bytes text ≡ line_words_lem before line) }
+{
+    let whole = u64::from(before) + 1 + u64::from(line);
+    format!(in alloc; "line {}, which is line {} behind ---", whole, line)
+}
+
+/// The command of an event, if it names one.
+fn command_words(alloc: Global, command: Option<u32>) -> Result<String, AllocError>
+    ensures { IfOk result (λ text. string_bytes text ≡ command_words_lem command) }
+{
+    match command {
+        Some(line) => format!(in alloc; ", of the command in line {},", line),
+        None => format!(in alloc; ""),
+    }
+}
+
+/// A rank keeps a rule of its own run at each event, and breaks it in the end.
+fn behind_text(alloc: Global, clause: OwnClause, rank: u8) -> Result<String, AllocError>
+    ensures { IfOk result (λ text. string_bytes text ≡ behind_text_lem clause rank) }
+{
+    let words = own_words(clause);
+    format!(in alloc; "in the end of rank {} a rule breaks: {}\n", rank, words)
+}
+
+/// Where a rank breaks a rule of its own run first.
+fn own_text(
+    alloc: Global,
+    before: u32,
+    clause: OwnClause,
+    rank: u8,
+    place: Place,
+) -> Result<String, AllocError>
+    ensures { IfOk result (λ text. string_bytes text ≡ own_text_lem before clause rank place) }
+{
+    let words = own_words(clause);
+    match place {
+        Place::Event { line, command, .. } => {
+            let at = line_words(alloc, before, line)?;
+            let of = command_words(alloc, command)?;
+            format!(in alloc;
+                "{}{} is the first at which rank {} breaks a rule: {}\n",
+                at, of, rank, words
+            )
+        }
+        _ => behind_text(alloc, clause, rank),
+    }
+}
+
+/// A sender and a receiver.
+fn pair_words(alloc: Global, from: u8, to: u8) -> Result<String, AllocError>
+    ensures { IfOk result (λ text. string_bytes text ≡ pair_words_lem from to) }
+{
+    format!(in alloc; "rank {} to rank {}", from, to)
+}
+
+/// Where the messages from one rank to another break a rule first.
+fn carried_text(
+    alloc: Global,
+    before: u32,
+    clause: CarriedClause,
+    from: u8,
+    to: u8,
+    place: Place,
+) -> Result<String, AllocError>
+    ensures { IfOk result (λ text.
+        string_bytes text ≡ carried_text_lem before clause from to place) }
+{
+    let words = carried_words(clause);
+    let ranks = pair_words(alloc, from, to)?;
+    match place {
+        Place::Event { line, command, .. } => {
+            let at = line_words(alloc, before, line)?;
+            let of = command_words(alloc, command)?;
+            format!(in alloc;
+                "{}{} is the first at which the messages from {} break a rule: {}\n",
+                at, of, ranks, words
+            )
+        }
+        _ => format!(in alloc; "from {} a rule breaks: {}\n", ranks, words),
+    }
+}
+
+/// What a rank is said to do in the end.
+fn standing_words(alloc: Global, waits: Option<u32>) -> Result<String, AllocError>
+    ensures { IfOk result (λ text. string_bytes text ≡ standing_words_lem waits) }
+{
+    match waits {
+        Some(line) => format!(in alloc; "said to wait at the command in line {}", line),
+        None => format!(in alloc; "said to be at its end"),
+    }
+}
+
+/// Where the ranks at rest break a rule first.
+fn rest_text(
+    alloc: Global,
+    before: u32,
+    clause: RestClause,
+    place: Place,
+) -> Result<String, AllocError>
+    ensures { IfOk result (λ text. string_bytes text ≡ rest_text_lem before clause place) }
+{
+    let words = rest_words(clause);
+    match place {
+        Place::Event { line, command, .. } => {
+            let at = line_words(alloc, before, line)?;
+            let of = command_words(alloc, command)?;
+            format!(in alloc;
+                "{}{} is the first that breaks a rule of all ranks in the end: {}\n",
+                at, of, words
+            )
+        }
+        Place::Standing { rank, waits } => {
+            let says = standing_words(alloc, waits)?;
+            format!(in alloc;
+                "rank {}, {}, is the first that breaks a rule of all ranks in the end: {}\n",
+                rank, says, words
+            )
+        }
+        _ => format!(in alloc; "the ranks in the end break a rule: {}\n", words),
+    }
+}
+
+/// The rule of the cells.
+const HOME: &str = "as many cells as all ranks have by --cells are there, and all of them are home";
+
+/// The rule of the end.
+const DONE: &str = "it is `done` exactly where every rank is at its end";
+
+/// One of the last two lines breaks its rule.
+fn last_text(alloc: Global, before: u32, rule: &str, place: Place) -> Result<String, AllocError>
+    ensures { IfOk result (λ text. string_bytes text ≡ last_text_lem before rule.now place) }
+{
+    match place {
+        Place::LastLine { line } => {
+            let at = line_words(alloc, before, line)?;
+            format!(in alloc; "{} breaks a rule: {}\n", at, rule)
+        }
+        _ => format!(in alloc; "the end breaks a rule: {}\n", rule),
+    }
+}
+
+/// What is said of a verdict and its place, behind so many lines.
+fn verdict_text(
+    alloc: Global,
+    before: u32,
+    verdict: Verdict,
+    place: Place,
+) -> Result<String, AllocError>
+    ensures { IfOk result (λ text. string_bytes text ≡ verdict_text_lem before verdict place) }
+{
+    match verdict {
+        Verdict::Holds => format!(in alloc; "holds\n"),
+        Verdict::Own { clause, rank } => own_text(alloc, before, clause, rank, place),
+        Verdict::Carried { clause, from, to } => {
+            carried_text(alloc, before, clause, from, to, place)
+        }
+        Verdict::Rest { clause } => rest_text(alloc, before, clause, place),
+        Verdict::Home => last_text(alloc, before, HOME, place),
+        Verdict::Done => last_text(alloc, before, DONE, place),
+    }
+}
+
+/// The sentence of a trace that is none, behind so many lines.
+fn bad_text(alloc: Global, before: u32, line: u32, stop: Stop) -> Result<String, AllocError>
+    ensures { IfOk result (λ text. string_bytes text ≡ bad_text_lem before line stop) }
+{
+    let at = line_words(alloc, before, line)?;
+    format!(in alloc; "{}: {}\n", at, stop_words(stop))
+}
+
+/// The sentence of what was found.
+fn sentence(alloc: Global, found: Found) -> Result<String, AllocError>
+    ensures { IfOk result (λ text. string_bytes text ≡ found_text_lem found) }
+{
+    match found {
+        Found::NoTrace => format!(in alloc;
+            "there is no trace: the input has no line ---, or more than 67,108,864 bytes\n"
+        ),
+        Found::NoScript { line, kind } => {
+            format!(in alloc; "line {} is no script: {}\n", line, kind_words(kind))
+        }
+        Found::BadTrace { before, line, stop } => bad_text(alloc, before, line, stop),
+        Found::Judged {
+            before,
+            verdict,
+            place,
+        } => verdict_text(alloc, before, verdict, place),
+    }
+}
+
+/// What is said of what was found.
+pub fn found_text(alloc: Global, found: Found) -> Result<Vec<u8>, AllocError>
+    ensures { IfOk result (λ bytes. bytes.items ≡ found_text_lem found) }
+{
+    let text = sentence(alloc, found)?;
+    Ok(text.into_bytes())
+}

@@ -1,4 +1,0 @@
-pub mod CarriedBreaks
-pub mod CarriedClauses
-pub mod Marked
-pub mod Tabled

@@ -1,0 +1,31 @@
+//! Whether a rank's history is a run of its commands, rule by rule, and which rule is the first
+//! that is broken.
+//!
+//! # What a contract sees
+//! `judging::judge_rank` answers what `IsJudged` says (`specs/Tabled.antt`): that the history is a
+//! run of the rank's first commands, as `nm_history` defines it, or the first rule that is broken,
+//! by `nm_check_rank`'s names and order of the rules. `AreTables` says what is looked up of a
+//! history. Claims, starts, cancels and answers have a judge each, whose contract is `Decides` of
+//! the rule. `specs/Told.antt` has the answers without their bytes, `specs/Handles.antt` what a
+//! name and a handle stand for.
+//! # What is proved
+//! - A rank's history is judged to be a run exactly where it is one, else the first rule that is
+//!   broken is named, or its judging is in want of memory.
+//! - The tables tell of the whole history what the definitions say. By them it is told which pair a
+//!   wait or a test shows (`Tables::pair_asked`), and whether a command can go on at the end
+//!   (`Tables::can_go_on`).
+//!
+//! Each judge walks a history once, with look-ups for each event; that is not proved.
+//! # What is only tested
+//! Nothing.
+
+pub mod answers;
+mod arrivals;
+pub mod cancels;
+pub mod claims;
+pub mod judging;
+mod order;
+mod results;
+pub mod starts;
+pub mod tables;
+mod told;

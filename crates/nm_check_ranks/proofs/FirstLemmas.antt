@@ -1,0 +1,141 @@
+-- The event at which a rule of the messages between two ranks breaks first.
+use Rattle.std.proofs.Common.{◌≡◌, ◌⊎◌, inl, inr, ℕ, ◌+◌, ◌<◌, ◌≤◌, Bool, true, false, cond, Option, Some, None, List, take}
+use Rattle.std.proofs.Common.{refl, sym, ◌∙◌, subst, arith}
+use Rattle.std.specs.Prelude.{MatchBool}
+use Rattle.nm_types.specs.declared.scripts.Line.{Line}
+use Rattle.nm_types.specs.Commands.{commands_of}
+use Rattle.nm_history.specs.declared.events.Event.{Event}
+use Rattle.nm_history.specs.AtEach.{AtEach}
+use Rattle.nm_history.specs.Delivery.{ArriveInOrder, BodyAt, OutAfterPair, UndoneAfterWithdraw}
+use Rattle.nm_history.specs.Delivery.{WithdrawAfterRecall}
+use Rattle.nm_history.specs.Quiescence.{Ended}
+use Rattle.nm_history.specs.RankRun.{Always}
+use Rattle.nm_history.specs.Sends.{arrivals, sends}
+use Rattle.nm_history.proofs.EachLemmas.{each_event}
+use Rattle.nm_check_rank.specs.Breaks.{BreaksFirstAt}
+use Rattle.nm_check_ranks.specs.CarriedBreaks.{BreaksBetweenAt, FirstAt, IsFirstBetween, PartAt, first_read}
+use Rattle.nm_check_ranks.specs.CarriedBreaks.{is_read_before, read_of}
+use Rattle.nm_check_ranks.specs.Marked.{Names, history_of, is_rank}
+use Rattle.nm_check_ranks.specs.declared.clauses.CarriedClause.TheVariants as carried
+use Rattle.nm_check_ranks.specs.declared.firsts.Part.TheVariants as part
+use Rattle.nm_check_ranks.specs.declared.firsts.Spot.{Spot}
+use Rattle.nm_check_ranks.proofs.MarkLemmas.{at_each_event}
+use Rattle.nm_check_ranks.proofs.ReadLemmas.{Before, NotBefore, order, read_early, read_kept, read_own}
+use Rattle.nm_check_ranks.proofs.SentLemmas.{each_next, in_order}
+
+-- whether a rank is named tells whether the rule breaks with it
+pub named_keeps : (R : ℕ → Type 0) (named : Option ℕ) (y : ℕ) (b : Bool) → b ≡ is_rank named y → Names R named →
+    MatchBool b (R y → ⊥) (R y)
+named_keeps R named y b is names = subst (λ (t : Bool). MatchBool t (R y → ⊥) (R y)) (sym is) (names y)
+
+early : (s t : Spot) (x : ℕ) → t.rank ≡ x → Before s t → (s.rank < x) ⊎ ((s.rank ≡ x) × (s.at ≤ t.at))
+early s t x here (inl low) = inl (omega (arith, low, here))
+early s t x here (inr same) = let low = same.1 in inr (same.0 ∙ here, omega (arith, low))
+
+not_late : (s t : Spot) (x : ℕ) → s.rank ≡ x → NotBefore s t → (t.rank < x) ⊎ ((t.rank ≡ x) × (t.at ≤ s.at))
+not_late s t x here (inl low) = inl (omega (arith, low, here))
+not_late s t x here (inr same) = inr (same.0 ∙ here, same.1)
+
+module _ (lines : List Line) (ranks : List Ended) (i j : ℕ) where
+  abbrev hi : List Event
+  hi = history_of ranks i
+
+  abbrev hj : List Event
+  hj = history_of ranks j
+
+  pub messages_first : (found : Option Spot) → FirstAt lines ranks part.Arrivals j i found →
+      IsFirstBetween lines ranks i j carried.Messages found
+  messages_first None each = in_order i j hi hj each
+  messages_first (Some spot) first = record {
+    inside = inr (first.0, first.1.inside);
+    kept = subst (λ (g : List Event). ArriveInOrder i (sends hi j) (arrivals g i))
+        (sym (read_own spot.rank spot.at j hj first.0)) (in_order i j hi (take spot.at hj) first.1.kept);
+    broken = λ right. first.1.broken (each_next i j hi (take (spot.at + 1) hj)
+        (subst (λ (g : List Event). ArriveInOrder i (sends hi j) (arrivals g i))
+        (read_own spot.rank (spot.at + 1) j hj first.0) right));
+  }
+
+  pub bodies_first : (found : Option Spot) → FirstAt lines ranks part.Bodies j i found →
+      IsFirstBetween lines ranks i j carried.Bodies found
+  bodies_first None each = each
+  bodies_first (Some spot) first = record {
+    inside = inr (first.0, first.1.inside);
+    kept = subst (λ (g : List Event). Always (BodyAt i (commands_of i lines) (sends hi j) (commands_of j lines)) g)
+        (sym (read_own spot.rank spot.at j hj first.0)) first.1.kept;
+    broken = λ right. first.1.broken
+        (subst (λ (g : List Event). Always (BodyAt i (commands_of i lines) (sends hi j) (commands_of j lines)) g)
+        (read_own spot.rank (spot.at + 1) j hj first.0) right);
+  }
+
+  pub outs_first : (found : Option Spot) → FirstAt lines ranks part.Outs i j found →
+      IsFirstBetween lines ranks i j carried.Outs found
+  outs_first None each = each
+  outs_first (Some spot) first = record {
+    inside = inl (first.0, first.1.inside);
+    kept = subst (λ (g : List Event). AtEach (λ before e. OutAfterPair i j hj before e.stamp e.what) g)
+        (sym (read_own spot.rank spot.at i hi first.0)) first.1.kept;
+    broken = λ right. first.1.broken
+        (subst (λ (g : List Event). AtEach (λ before e. OutAfterPair i j hj before e.stamp e.what) g)
+        (read_own spot.rank (spot.at + 1) i hi first.0) right);
+  }
+
+  -- a withdrawal that is not asked for, where the answers that are read were given
+  asked_first : (spot : Spot) → spot.rank ≡ j → BreaksFirstAt (AtEach (PartAt part.Withdrawals lines ranks j i)) hj
+      spot.at → AtEach (PartAt part.Answers lines ranks i j) (read_of spot.rank spot.at i hi) →
+      BreaksBetweenAt lines ranks i j carried.Withdrawals spot
+  asked_first spot here first others = record {
+    inside = inr (here, first.inside);
+    kept = (
+      each_event (WithdrawAfterRecall i j hi) (read_of spot.rank spot.at j hj)
+          (subst (λ (g : List Event). AtEach (PartAt part.Withdrawals lines ranks j i) g)
+          (sym (read_own spot.rank spot.at j hj here)) first.kept),
+      each_event (UndoneAfterWithdraw i j hj) (read_of spot.rank spot.at i hi) others,
+    );
+    broken = λ right. first.broken
+        (subst (λ (g : List Event). AtEach (PartAt part.Withdrawals lines ranks j i) g)
+        (read_own spot.rank (spot.at + 1) j hj here)
+        (at_each_event (WithdrawAfterRecall i j hi) (read_of spot.rank (spot.at + 1) j hj) right.0));
+  }
+
+  -- an answer that was not given, where the withdrawals that are read were asked for
+  answered_first : (spot : Spot) → spot.rank ≡ i → BreaksFirstAt (AtEach (PartAt part.Answers lines ranks i j)) hi
+      spot.at → AtEach (PartAt part.Withdrawals lines ranks j i) (read_of spot.rank spot.at j hj) →
+      BreaksBetweenAt lines ranks i j carried.Withdrawals spot
+  answered_first spot here first others = record {
+    inside = inl (here, first.inside);
+    kept = (
+      each_event (WithdrawAfterRecall i j hi) (read_of spot.rank spot.at j hj) others,
+      each_event (UndoneAfterWithdraw i j hj) (read_of spot.rank spot.at i hi)
+          (subst (λ (g : List Event). AtEach (PartAt part.Answers lines ranks i j) g)
+          (sym (read_own spot.rank spot.at i hi here)) first.kept),
+    );
+    broken = λ right. first.broken
+        (subst (λ (g : List Event). AtEach (PartAt part.Answers lines ranks i j) g)
+        (read_own spot.rank (spot.at + 1) i hi here)
+        (at_each_event (UndoneAfterWithdraw i j hj) (read_of spot.rank (spot.at + 1) i hi) right.1));
+  }
+
+  pub withdrawals_first : (a b : Option Spot) → FirstAt lines ranks part.Withdrawals j i a → FirstAt lines ranks part.Answers i j b →
+      IsFirstBetween lines ranks i j carried.Withdrawals (first_read a b)
+  withdrawals_first None None asked answered = record {
+    asked = each_event (WithdrawAfterRecall i j hi) hj asked;
+    answered = each_event (UndoneAfterWithdraw i j hj) hi answered;
+  }
+  withdrawals_first (Some s) None first answered =
+      asked_first s first.0 first.1 (read_kept (PartAt part.Answers lines ranks i j) hi s.rank s.at i answered)
+  withdrawals_first None (Some t) asked first =
+      answered_first t first.0 first.1
+      (read_kept (PartAt part.Withdrawals lines ranks j i) hj t.rank t.at j asked)
+  withdrawals_first (Some s) (Some t) asked answered =
+      by_order (is_read_before s t) (order s t (is_read_before s t) refl)
+    where
+      by_order : (b : Bool) → MatchBool b (Before s t) (NotBefore s t) →
+          IsFirstBetween lines ranks i j carried.Withdrawals (cond b (Some s) (Some t))
+      by_order true before =
+          asked_first s asked.0 asked.1
+          (read_early (PartAt part.Answers lines ranks i j) hi s.rank s.at i t.at answered.1
+          (early s t i answered.0 before))
+      by_order false not =
+          answered_first t answered.0 answered.1
+          (read_early (PartAt part.Withdrawals lines ranks j i) hj t.rank t.at j s.at asked.1
+          (not_late s t j asked.0 not))

@@ -1,0 +1,16 @@
+mod BetweenLemmas
+mod BodyLemmas
+mod CountingLemmas
+mod FirstLemmas
+pub mod ItemLemmas
+mod MarkLemmas
+mod MarkedLemmas
+mod OverLemmas
+mod PairLemmas
+pub mod RankLemmas
+mod ReadLemmas
+mod RestFirstLemmas
+mod SentLemmas
+pub mod TableLemmas
+mod WaitLemmas
+mod WasLemmas

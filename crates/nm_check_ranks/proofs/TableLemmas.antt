@@ -1,0 +1,96 @@
+-- The tables of each rank.
+use Rattle.std.proofs.Common.{◌≡◌, ℕ, ◌<◌, ◌≤◌, Option, Some, None, List, [], length, get_or, refl, sym, ap, subst, arith}
+use Rattle.std.specs.Prelude.{IfSome, IsSomeAnd}
+use Rattle.std.specs.List.{slice_get}
+use Rattle.std.specs.Option.{option_map_or}
+use Rattle.std.proofs.lemmas.List.{length-map}
+use Rattle.std.proofs.lemmas.Option.{MatchOption-from_none, slice_get_past}
+use Rattle.std.specs.Prelude.{Bool}
+use Rattle.nm_types.specs.declared.scripts.Line.{Line}
+use Rattle.nm_history.specs.Quiescence.{Ended}
+use Rattle.nm_report.specs.declared.accounts.RankAccount.{RankAccount}
+use Rattle.nm_report.specs.Ends.{ends_of}
+use Rattle.nm_lookups.specs.Deciding.{Decides}
+use Rattle.nm_check_ranks.specs.Marked.{AreMarks, history_of}
+use Rattle.nm_check_rank.specs.Tabled.{AreTables}
+use Rattle.nm_check_ranks.specs.Tabled.{AreTabled}
+use Rattle.nm_check_ranks.specs.declared.marks.Marks.{Marks}
+use Rattle.nm_check_rank.specs.declared.paired.tables.Tables.{Tables}
+use Rattle.nm_check_ranks.proofs.RankLemmas.{end_at, ended, no_end}
+
+-- there are as many tables as ranks
+pub table_inside : (ranks : List RankAccount) (tables : List Tables) (i : ℕ) → AreTabled (ends_of ranks) tables →
+    i < length ranks → i < length tables
+table_inside ranks tables i tabled inside =
+    let same : length (ends_of ranks) ≡ length ranks = length-map ranks ended in
+    let many : length tables ≡ length (ends_of ranks) = tabled.1.as_many in
+    omega (arith, same, many, inside)
+
+-- the tables of the rank at a place
+pub tables_at : (ranks : List RankAccount) (tables : List Tables) (i : ℕ) (a : RankAccount) (t : Tables)
+    (tabled : AreTabled (ends_of ranks) tables) →
+    i < length ranks → a ≡ get_or ranks i a → t ≡ get_or tables i t → AreTables i tabled.0 a.history.events t
+tables_at ranks tables i a t tabled inside is its =
+    subst (λ (o : Option Ended). IsSomeAnd o (λ rank. AreTables i tabled.0 rank.events t)) (end_at ranks i a inside is)
+    (tabled.1.each i t (table_inside ranks tables i tabled inside) its)
+
+-- the history of the rank at a place
+pub history_at : (ranks : List RankAccount) (i : ℕ) (a : RankAccount) → i < length ranks → a ≡ get_or ranks i a →
+    history_of (ends_of ranks) i ≡ a.history.events
+history_at ranks i a inside is = ap (λ (o : Option Ended). option_map_or (λ rank. rank.events) o [])
+    (end_at ranks i a inside is)
+
+-- there is none behind the last
+pub no_history : (ranks : List RankAccount) (i : ℕ) → length ranks ≤ i → history_of (ends_of ranks) i ≡ []
+no_history ranks i over = ap (λ (o : Option Ended). option_map_or (λ rank. rank.events) o []) (no_end ranks i over)
+
+-- what is decided for the rank that there is
+pub decided_at : {X : Type 0} (r : Bool) (A Q : X → Type 0) (o : Option X) → IsSomeAnd o A →
+    ((x : X) → A x → Decides r (Q x)) → Decides r (IfSome o Q)
+decided_at r A Q None there f = absurd there
+decided_at r A Q (Some x) there f = f x there
+
+-- nothing is asked of a rank behind the last
+pub none_asked : (ranks : List Ended) (tables : List Tables) (i : ℕ) (Q : Ended → Type 0) → AreTabled ranks tables →
+    length tables ≤ i → IfSome (slice_get ranks i) Q
+none_asked ranks tables i Q tabled over =
+    let many : length tables ≡ length ranks = tabled.1.as_many in
+    MatchOption-from_none (slice_get ranks i) Q (slice_get_past ranks i (omega (arith, many, over)))
+
+-- what is so of the rank that there is, with its marks
+pub marked_at : (lines : List Line) (ranks : List Ended) (i : ℕ) (marks : Marks) (Q : Ended → Type 0) →
+    IsSomeAnd (slice_get ranks i) (λ rank. AreMarks lines ranks i rank.events marks) →
+    ((rank : Ended) → history_of ranks i ≡ rank.events → AreMarks lines ranks i rank.events marks → Q rank) →
+    IfSome (slice_get ranks i) Q
+marked_at lines ranks i marks Q there f = by_rank (slice_get ranks i) refl there
+  where
+    by_rank : (o : Option Ended) → slice_get ranks i ≡ o →
+        IsSomeAnd o (λ rank. AreMarks lines ranks i rank.events marks) → IfSome o Q
+    by_rank None is there = tt
+    by_rank (Some rank) is there = f rank (ap (λ (o : Option Ended). option_map_or (λ rank. rank.events) o []) is) there
+
+pub marked_some : (lines : List Line) (ranks : List Ended) (i : ℕ) (marks : Marks) (Q : Ended → Type 0) →
+    IsSomeAnd (slice_get ranks i) (λ rank. AreMarks lines ranks i rank.events marks) →
+    ((rank : Ended) → history_of ranks i ≡ rank.events → AreMarks lines ranks i rank.events marks → Q rank) →
+    IsSomeAnd (slice_get ranks i) Q
+marked_some lines ranks i marks Q there f = by_rank (slice_get ranks i) refl there
+  where
+    by_rank : (o : Option Ended) → slice_get ranks i ≡ o →
+        IsSomeAnd o (λ rank. AreMarks lines ranks i rank.events marks) → IsSomeAnd o Q
+    by_rank None is there = absurd there
+    by_rank (Some rank) is there = f rank (ap (λ (o : Option Ended). option_map_or (λ rank. rank.events) o []) is) there
+
+-- no marks: what stands for those of a rank that there is not
+abbrev pub blank : Marks
+blank = record { arrivals = []; bodies = []; outs = []; withdrawals = []; answers = [] }
+
+-- the tables of the rank at a place
+abbrev pub TabledAt : List Line → List Ended → ℕ → Tables → Type 0
+TabledAt lines ranks i tables = IsSomeAnd (slice_get ranks i) (λ rank. AreTables i lines rank.events tables)
+
+pub tabled_rank : (lines : List Line) (ranks : List RankAccount) (i : ℕ) (a : RankAccount) (t : Tables) →
+    i < length ranks → a ≡ get_or ranks i a → AreTables i lines a.history.events t →
+    TabledAt lines (ends_of ranks) i t
+tabled_rank lines ranks i a t inside is its =
+    subst (λ (o : Option Ended). IsSomeAnd o (λ rank. AreTables i lines rank.events t)) (sym (end_at ranks i a inside is))
+    its

@@ -1,0 +1,11 @@
+use Rattle.std.proofs.Common.{length, take, ◌≡◌}
+use Rattle.nm_history.specs.Delivery.{UndoneAfterWithdraw}
+use Rattle.nm_report.specs.Ends.{ends_of}
+use Rattle.nm_check_ranks.specs.Marked.{AreMarked, history_of}
+use Rattle.nm_check_ranks.proofs.marks.mark_answers.Given as goal
+
+-- the ranks are marked with which the events so far break the rule
+abbrev pub invariant-loop-e : goal.invariant-loop-e
+invariant-loop-e l = (length l.marks ≡ 256)
+    × AreMarked (λ j before e. UndoneAfterWithdraw l.i j (history_of (ends_of l.ranks) j) e.stamp e.what)
+    (take l.e-index l.events) l.marks

@@ -1,0 +1,7 @@
+use Rattle.std.proofs.Common.{take}
+use Rattle.nm_check_ranks.specs.Counting.{AreDue, packets_of_events}
+use Rattle.nm_check_ranks.proofs.rest.counts.counts_of_events.Given as goal
+
+-- the events so far are counted
+abbrev pub invariant-loop-e : goal.invariant-loop-e
+invariant-loop-e l = AreDue l.counts (λ to. packets_of_events to (take l.e-index l.events))

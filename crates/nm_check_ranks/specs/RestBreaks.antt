@@ -1,0 +1,43 @@
+-- The first event at which a rule of rest breaks that is asked of each event: of each send and each recall.
+use Rattle.std.specs.Prelude.{ℕ, ◌<◌, IsSomeAnd, List, slice_get}
+use Rattle.nm_history.specs.declared.events.Event.{Event}
+use Rattle.nm_history.specs.declared.events.Happened.{Happened}
+use Rattle.nm_history.specs.AtEach.{AtEach}
+use Rattle.nm_types.specs.declared.scripts.Line.{Line}
+use Rattle.nm_types.specs.Commands.{commands_of}
+use Rattle.nm_history.specs.Quiescence.{EachRank, Ended, IsAnswered, Stands}
+use Rattle.nm_check_rank.specs.Breaks.{BreaksFirstAt}
+use Rattle.nm_check_ranks.specs.declared.firsts.Spot.{Spot}
+use Rattle.nm_check_ranks.specs.Over.{AskedIsOver, EagerIsOver, SendKeeps}
+use Rattle.nm_check_ranks.specs.declared.rest.clauses.RestClause.{RestClause}
+use Rattle.nm_check_ranks.specs.declared.rest.clauses.RestClause.TheVariants as rest
+use Rattle.nm_check_ranks.specs.declared.rest.firsts.EventRule.{EventRule}
+use Rattle.nm_check_ranks.specs.declared.rest.firsts.EventRule.TheVariants as rule
+
+-- what an event of rank x keeps of such a rule, by all that the rank did and all that the other ones did
+abbrev pub RestAt : EventRule → List Ended → ℕ → List Event → ℕ → Happened → Type 0
+RestAt rule.Eager ranks x h stamp what = SendKeeps (EagerIsOver x h) ranks stamp what
+RestAt rule.Asked ranks x h stamp what = SendKeeps (AskedIsOver x h) ranks stamp what
+RestAt rule.Recalls ranks x h stamp what = IsAnswered h what
+
+-- the events of rank x keep the rule, of which these are the first ones
+abbrev pub KeepRestAt : EventRule → List Ended → ℕ → List Event → List Event → Type 0
+KeepRestAt r ranks x h = AtEach (λ before e. RestAt r ranks x h e.stamp e.what)
+
+-- The events of all ranks before this one keep the rule, and of the rank itself it is the first that does not.
+pub record BreaksRestAt (r : EventRule) (ranks : List Ended) (spot : Spot) : Type 0 where
+  pub earlier : EachRank (λ x rank. x < spot.rank → KeepRestAt r ranks x rank.events rank.events) ranks
+  pub first :
+      IsSomeAnd (slice_get ranks spot.rank)
+      (λ rank. BreaksFirstAt (KeepRestAt r ranks spot.rank rank.events) rank.events spot.at)
+
+-- the rule as one of those of rest
+abbrev pub rest_clause : EventRule → RestClause
+rest_clause rule.Eager = rest.Eager
+rest_clause rule.Asked = rest.Asked
+rest_clause rule.Recalls = rest.Recalls
+
+-- The ranks before this one are at their ends, or wait for what can't come, and this one is not.
+pub record BreaksStanding (lines : List Line) (ranks : List Ended) (i : ℕ) : Type 0 where
+  pub earlier : EachRank (λ x rank. x < i → Stands (commands_of x lines) rank) ranks
+  pub first : IsSomeAnd (slice_get ranks i) (λ rank. ¬ Stands (commands_of i lines) rank)

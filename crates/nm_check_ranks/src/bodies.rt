@@ -1,0 +1,221 @@
+//! Whether receives show the bodies that were sent.
+
+ghost use Rattle.std.specs.Prelude.{◌≡◌, ℕ, List, Some, IsSomeAnd, slice_get, take};
+ghost use Rattle.nm_types.specs.Bodies.{bytes_of, generated_byte};
+ghost use Rattle.nm_types.specs.Commands.{command_at, commands_of};
+ghost use Rattle.nm_types.specs.declared.answers.Answer as the_answer;
+ghost use Rattle.nm_types.specs.declared.scripts.Body.TheVariants.{Gen};
+ghost use Rattle.nm_history.specs.declared.events.Event as event;
+ghost use Rattle.nm_history.specs.declared.events.Happened.TheVariants.{Ran};
+ghost use Rattle.nm_history.specs.Delivery.{BodyAt};
+ghost use Rattle.nm_history.specs.Quiescence.{EachRank};
+ghost use Rattle.nm_history.specs.Sends.{sends, sent_bytes, sent_of};
+ghost use Rattle.nm_report.specs.Ends.{ends_of};
+ghost use Rattle.nm_lookups.specs.Deciding.{Decides};
+ghost use Rattle.nm_check_rank.specs.Tabled.{AreTables};
+ghost use Rattle.nm_check_ranks.specs.Marked.{AreMarked, KeepsLocal, Names, history_of};
+ghost use Rattle.nm_check_ranks.specs.Tabled.{AreTabled};
+
+use crate::marks::{NAMES, named_unless};
+use nm_lookups::asked::commands::command_of_line;
+use nm_check_rank::paired::tables::Tables;
+use nm_history::{Event, Happened};
+use nm_lookups::firsts::Message;
+use nm_report::RankAccount;
+use nm_types::{Answer, Body, Command, Line};
+
+/// The byte at place k of a generated body.
+fn generated(k: u32) -> u8
+    ensures { result ≡ generated_byte k }
+{
+    ((31 * u64::from(k) + 7) % 251) as u8
+}
+
+/// Whether bytes are those of a generated body.
+fn are_generated(bytes: &[u8], len: u32) -> bool
+    ensures { Decides result (bytes.now ≡ bytes_of (Gen len)) }
+{
+    if bytes.len() as u64 != u64::from(len) {
+        return false;
+    }
+    for (k, byte) in bytes.iter().enumerate() {
+        if *byte != generated(k as u32) {
+            return false;
+        }
+    }
+    true
+}
+
+/// Whether bytes are those of a body.
+fn are_of_body(bytes: &[u8], body: &Body) -> bool
+    ensures { Decides result (bytes.now ≡ bytes_of body.now) }
+{
+    match body {
+        Body::Hex(own) => bytes == own.as_slice(),
+        Body::Gen(len) => are_generated(bytes, *len),
+    }
+}
+
+/// Whether bytes are those that a command sends.
+fn are_sent_by(bytes: &[u8], command: &Command) -> bool
+    ensures { Decides result (bytes.now ≡ sent_bytes command.now) }
+{
+    match command {
+        Command::Send { body, .. } => are_of_body(bytes, body),
+        _ => bytes.is_empty(),
+    }
+}
+
+/// Whether bytes are those that the command of a rank's line sends.
+fn are_of_line(i: u8, lines: &[Line], line: u32, bytes: &[u8]) -> bool
+    ensures { Decides result (IsSomeAnd (command_at (commands_of i lines.now) line)
+        (λ c. bytes.now ≡ sent_bytes c)) }
+{
+    match command_of_line(lines, i, line) {
+        Some(command) => are_sent_by(bytes, command),
+        None => false,
+    }
+}
+
+/// Whether an event is a send of these bytes.
+fn is_send_with(i: u8, lines: &[Line], e: &Event, bytes: &[u8]) -> bool
+    ensures { Decides result (IsSomeAnd (sent_of e.now.stamp e.now.what)
+        (λ s. IsSomeAnd (command_at (commands_of i lines.now) s.line)
+        (λ c. bytes.now ≡ sent_bytes c))) }
+{
+    match &e.what {
+        Happened::Send { line, .. } => are_of_line(i, lines, *line, bytes),
+        _ => false,
+    }
+}
+
+/// Whether the event at a place is a send of these bytes.
+fn is_sent_at(i: u8, lines: &[Line], events: &[Event], place: usize, bytes: &[u8]) -> bool
+    ensures { (e : event.Event) → slice_get events.now place ≡ Some e →
+        Decides result (IsSomeAnd (sent_of e.stamp e.what)
+        (λ s. IsSomeAnd (command_at (commands_of i lines.now) s.line)
+        (λ c. bytes.now ≡ sent_bytes c))) }
+{
+    if place >= events.len() {
+        return false;
+    }
+    is_send_with(i, lines, &events[place], bytes)
+}
+
+/// Whether these are the bytes of message n of rank i to rank j.
+fn were_sent(
+    i: u8,
+    j: u8,
+    n: u64,
+    bytes: &[u8],
+    lines: &[Line],
+    ranks: &[RankAccount],
+    tables: &[Tables],
+) -> bool
+    requires lawful { EachRank KeepsLocal (ends_of ranks.now) }
+    requires tabled { AreTabled (ends_of ranks.now) tables.now }
+    ensures { Decides result (IsSomeAnd (slice_get (sends (history_of (ends_of ranks.now) i) j) n)
+        (λ s. IsSomeAnd (command_at (commands_of i lines.now) s.line)
+        (λ c. bytes.now ≡ sent_bytes c))) }
+{
+    let k = i as usize;
+    let count = ranks.len();
+    if k >= count {
+        return false;
+    }
+    let events = ranks[k].history.as_slice();
+    match tables[k]
+        .places
+        .outgoing
+        .gone
+        .sends
+        .get(&Message { rank: j, n })
+    {
+        Some(place) => is_sent_at(i, lines, events, *place, bytes),
+        None => false,
+    }
+}
+
+/// The sender whose message the answer of a line at rank j does not show as it was sent.
+fn sender_of_answer(
+    j: u8,
+    k: usize,
+    line: u32,
+    answer: &Answer,
+    own: &Tables,
+    lines: &[Line],
+    ranks: &[RankAccount],
+    tables: &[Tables],
+) -> Option<u8>
+    requires lawful { EachRank KeepsLocal (ends_of ranks.now) }
+    requires tabled { AreTabled (ends_of ranks.now) tables.now }
+    ensures { (h : List event.Event) (e : event.Event) → AreTables j lines.now h own.now →
+        slice_get h k ≡ Some e → e.what ≡ Ran line answer.now →
+        Names (λ i. BodyAt i (commands_of i lines.now) (sends (history_of (ends_of ranks.now) i) j)
+        (commands_of j lines.now) (take k h) (Ran line answer.now)) result }
+{
+    let Answer::Got { body, .. } = answer else {
+        return None;
+    };
+    match own.pair_asked(j, lines, k, line) {
+        Some(pair) => {
+            let from = pair.arrival.env.from;
+            let bytes = body.as_slice();
+            named_unless(
+                were_sent(from, j, pair.arrival.n, bytes, lines, ranks, tables),
+                from,
+            )
+        }
+        None => None,
+    }
+}
+
+/// The sender whose message the event at a place of rank j does not show as it was sent.
+pub(crate) fn sender_not_shown(
+    j: u8,
+    k: usize,
+    e: &Event,
+    own: &Tables,
+    lines: &[Line],
+    ranks: &[RankAccount],
+    tables: &[Tables],
+) -> Option<u8>
+    requires lawful { EachRank KeepsLocal (ends_of ranks.now) }
+    requires tabled { AreTabled (ends_of ranks.now) tables.now }
+    ensures { (h : List event.Event) → AreTables j lines.now h own.now →
+        slice_get h k ≡ Some e.now →
+        Names (λ i. BodyAt i (commands_of i lines.now) (sends (history_of (ends_of ranks.now) i) j)
+        (commands_of j lines.now) (take k h) e.now.what) result }
+{
+    match &e.what {
+        Happened::Ran { line, answer } => {
+            sender_of_answer(j, k, *line, answer, own, lines, ranks, tables)
+        }
+        _ => None,
+    }
+}
+
+/// The senders whose messages rank j does not show as they were sent.
+pub(crate) fn mark_bodies(
+    j: u8,
+    events: &[Event],
+    own: &Tables,
+    lines: &[Line],
+    ranks: &[RankAccount],
+    tables: &[Tables],
+) -> [bool; NAMES]
+    requires own { AreTables j lines.now events.now own.now }
+    requires lawful { EachRank KeepsLocal (ends_of ranks.now) }
+    requires tabled { AreTabled (ends_of ranks.now) tables.now }
+    ensures { AreMarked (λ i before e. BodyAt i (commands_of i lines.now)
+        (sends (history_of (ends_of ranks.now) i) j) (commands_of j lines.now) before e.what)
+        events.now result }
+{
+    let mut marks = [false; NAMES];
+    for (k, e) in events.iter().enumerate() {
+        if let Some(i) = sender_not_shown(j, k, e, own, lines, ranks, tables) {
+            marks[i as usize] = true;
+        }
+    }
+    marks
+}

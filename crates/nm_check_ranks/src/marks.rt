@@ -1,0 +1,376 @@
+//! The ranks with which each history breaks a rule on messages.
+
+ghost use Rattle.std.specs.Prelude.{◌≡◌, ◌<◌, ◌&&◌, if◌then◌else◌, ℕ, List, Some, None, slice_get};
+ghost use Rattle.std.specs.Prelude.{take, IsSomeAnd, IsTrue};
+ghost use Rattle.std.specs.Bool.{OnTrue};
+ghost use Rattle.nm_history.specs.declared.events.Event as event;
+ghost use Rattle.nm_history.specs.Completion.{is_taken};
+ghost use Rattle.nm_history.specs.Delivery.{OutAfterPair, UndoneAfterWithdraw, WithdrawAfterRecall};
+ghost use Rattle.nm_history.specs.Delivery.{earlier_than};
+ghost use Rattle.nm_history.specs.Happens.{happened, is_recall, is_withdraw};
+ghost use Rattle.nm_history.specs.Growing.{ArrivesNext};
+ghost use Rattle.nm_history.specs.Quiescence.{EachRank};
+ghost use Rattle.nm_history.specs.RankRun.{Always, NumberAt};
+ghost use Rattle.nm_history.specs.Sends.{envelope, sends, sent_of};
+ghost use Rattle.nm_report.specs.Ends.{ends_of};
+ghost use Rattle.nm_lookups.specs.Deciding.{Decides};
+ghost use Rattle.nm_lookups.specs.Placed.{ArePlaces};
+ghost use Rattle.nm_check_ranks.specs.Marked.{AreMarked, KeepsLocal, Names, history_of};
+ghost use Rattle.nm_check_ranks.specs.Tabled.{AreTabled};
+
+use crate::hows::is_eager;
+use nm_check_rank::paired::tables::Tables;
+use nm_history::{Event, Happened};
+use nm_lookups::firsts::{Message, is_before, is_earlier, is_taken_earlier};
+use nm_lookups::kinds::{AskedSends, Recalls, Refused, Withdrawn};
+use nm_lookups::places::Places;
+use nm_report::RankAccount;
+use nm_types::{Arrival, How};
+
+/// How many ranks a number of 8 bits can name.
+pub const NAMES: usize = 256;
+
+/// The ranks with which a rank's history breaks each rule of the messages between two ranks: those
+/// of the messages that come to it, and those of the messages that it sends.
+#[derive(Drop)]
+pub struct Marks {
+    pub arrivals: [bool; NAMES],
+    pub bodies: [bool; NAMES],
+    pub outs: [bool; NAMES],
+    pub withdrawals: [bool; NAMES],
+    pub answers: [bool; NAMES],
+}
+
+/// This rank, unless it keeps the rule.
+pub(crate) fn named_unless(keeps: bool, rank: u8) -> Option<u8>
+    ensures { result ≡ (if keeps then None else Some rank) }
+{
+    if keeps { None } else { Some(rank) }
+}
+
+/// Whether a message may leave: it is not sent by asking, or is paired.
+fn is_allowed(asked: bool, paired: bool) -> bool
+    ensures { Decides result (OnTrue asked (IsTrue paired)) }
+{
+    !asked || paired
+}
+
+fn is_same_how(a: How, b: How) -> bool
+    ensures { Decides result (a ≡ b) }
+{
+    let first = is_eager(a);
+    let second = is_eager(b);
+    first == second
+}
+
+fn are_all(tag: bool, ctx: bool, len: bool, how: bool, earlier: bool) -> bool
+    ensures { result ≡ (tag && ctx && len && how && earlier) }
+{
+    tag && ctx && len && how && earlier
+}
+
+/// Whether an event is the send of an arrival, with a smaller stamp.
+fn is_send_of(e: &Event, a: &Arrival, stamp: u64) -> bool
+    ensures { Decides result (IsSomeAnd (sent_of e.now.stamp e.now.what)
+        (λ s. (a.now.env ≡ envelope a.now.env.from s) × (s.stamp < stamp))) }
+{
+    match &e.what {
+        Happened::Send {
+            tag,
+            ctx,
+            len,
+            how,
+            ..
+        } => are_all(
+            a.env.tag == *tag,
+            a.env.ctx == *ctx,
+            a.env.len == *len,
+            is_same_how(a.env.how, *how),
+            e.stamp < stamp,
+        ),
+        _ => false,
+    }
+}
+
+/// Whether the event at a place is the send of an arrival, with a smaller stamp.
+fn is_sent_there(events: &[Event], place: usize, a: &Arrival, stamp: u64) -> bool
+    ensures { (e : event.Event) → slice_get events.now place ≡ Some e →
+        Decides result (IsSomeAnd (sent_of e.stamp e.what)
+        (λ s. (a.now.env ≡ envelope a.now.env.from s) × (s.stamp < stamp))) }
+{
+    if place >= events.len() {
+        return false;
+    }
+    is_send_of(&events[place], a, stamp)
+}
+
+/// Whether the sender of an arrival at rank j sent it before.
+fn was_sent(j: u8, a: &Arrival, stamp: u64, ranks: &[RankAccount], tables: &[Tables]) -> bool
+    requires lawful { EachRank KeepsLocal (ends_of ranks.now) }
+    requires tabled { AreTabled (ends_of ranks.now) tables.now }
+    ensures { Decides result
+        (IsSomeAnd (slice_get (sends (history_of (ends_of ranks.now) a.now.env.from) j) a.now.n)
+        (λ s. (a.now.env ≡ envelope a.now.env.from s) × (s.stamp < stamp))) }
+{
+    let i = a.env.from as usize;
+    let count = ranks.len();
+    if i >= count {
+        return false;
+    }
+    let events = ranks[i].history.as_slice();
+    match tables[i]
+        .places
+        .outgoing
+        .gone
+        .sends
+        .get(&Message { rank: j, n: a.n })
+    {
+        Some(place) => is_sent_there(events, *place, a, stamp),
+        None => false,
+    }
+}
+
+/// The sender with which what happened at rank j breaks the order of arrivals.
+pub(crate) fn sender_not_followed(
+    j: u8,
+    e: &Event,
+    ranks: &[RankAccount],
+    tables: &[Tables],
+) -> Option<u8>
+    requires lawful { EachRank KeepsLocal (ends_of ranks.now) }
+    requires tabled { AreTabled (ends_of ranks.now) tables.now }
+    ensures { (n : ℕ) (before : List event.Event) → NumberAt n before e.now.what →
+        Names (λ i. ArrivesNext i j (history_of (ends_of ranks.now) i)
+        before e.now.stamp e.now.what) result }
+{
+    match &e.what {
+        Happened::Arrive { a } => {
+            named_unless(was_sent(j, a, e.stamp, ranks, tables), a.env.from)
+        }
+        _ => None,
+    }
+}
+
+/// Whether rank j paired a message of rank i before a stamp.
+fn was_paired(i: u8, j: u8, n: u64, stamp: u64, ranks: &[RankAccount], tables: &[Tables]) -> bool
+    requires lawful { EachRank KeepsLocal (ends_of ranks.now) }
+    requires tabled { AreTabled (ends_of ranks.now) tables.now }
+    ensures { result ≡ is_taken (earlier_than stamp (history_of (ends_of ranks.now) j)) i n }
+{
+    let k = j as usize;
+    let count = ranks.len();
+    if k >= count {
+        return false;
+    }
+    is_taken_earlier(
+        tables[k].pairing.taken(),
+        ranks[k].history.as_slice(),
+        i,
+        n,
+        stamp,
+    )
+}
+
+/// The receiver that had not paired the message that left rank i at this place.
+pub(crate) fn receiver_not_asked(
+    i: u8,
+    k: usize,
+    e: &Event,
+    sent: &Places,
+    ranks: &[RankAccount],
+    tables: &[Tables],
+) -> Option<u8>
+    requires lawful { EachRank KeepsLocal (ends_of ranks.now) }
+    requires tabled { AreTabled (ends_of ranks.now) tables.now }
+    ensures { (h : List event.Event) → ArePlaces h sent.now →
+        Names (λ j. OutAfterPair i j (history_of (ends_of ranks.now) j)
+        (take k h) e.now.stamp e.now.what) result }
+{
+    match &e.what {
+        Happened::Out { to, n } => {
+            let asked = is_before::<AskedSends>(&sent.outgoing.gone.asked, *to, *n, k);
+            let paired = was_paired(i, *to, *n, e.stamp, ranks, tables);
+            named_unless(is_allowed(asked, paired), *to)
+        }
+        _ => None,
+    }
+}
+
+/// Whether rank i recalled a message to rank j before a stamp.
+fn was_recalled(i: u8, j: u8, n: u64, stamp: u64, ranks: &[RankAccount], tables: &[Tables]) -> bool
+    requires lawful { EachRank KeepsLocal (ends_of ranks.now) }
+    requires tabled { AreTabled (ends_of ranks.now) tables.now }
+    ensures { result ≡ happened (is_recall j n)
+        (earlier_than stamp (history_of (ends_of ranks.now) i)) }
+{
+    let k = i as usize;
+    let count = ranks.len();
+    if k >= count {
+        return false;
+    }
+    let recalls = &tables[k].places.outgoing.recalled.recalls;
+    is_earlier::<Recalls>(recalls, ranks[k].history.as_slice(), j, n, stamp)
+}
+
+/// The sender that had not recalled the message that rank j withdrew.
+pub(crate) fn sender_not_recalling(
+    j: u8,
+    e: &Event,
+    ranks: &[RankAccount],
+    tables: &[Tables],
+) -> Option<u8>
+    requires lawful { EachRank KeepsLocal (ends_of ranks.now) }
+    requires tabled { AreTabled (ends_of ranks.now) tables.now }
+    ensures { Names (λ i. WithdrawAfterRecall i j
+        (history_of (ends_of ranks.now) i) e.now.stamp e.now.what) result }
+{
+    match &e.what {
+        Happened::Withdraw { from, n, .. } => {
+            named_unless(was_recalled(*from, j, *n, e.stamp, ranks, tables), *from)
+        }
+        _ => None,
+    }
+}
+
+/// Whether rank j withdrew a message of rank i before a stamp, with this answer.
+fn was_withdrawn(
+    i: u8,
+    j: u8,
+    n: u64,
+    done: bool,
+    stamp: u64,
+    ranks: &[RankAccount],
+    tables: &[Tables],
+) -> bool
+    requires lawful { EachRank KeepsLocal (ends_of ranks.now) }
+    requires tabled { AreTabled (ends_of ranks.now) tables.now }
+    ensures { result ≡ happened (is_withdraw i n done)
+        (earlier_than stamp (history_of (ends_of ranks.now) j)) }
+{
+    let k = j as usize;
+    let count = ranks.len();
+    if k >= count {
+        return false;
+    }
+    let got = &tables[k].places.incoming.settled;
+    let events = ranks[k].history.as_slice();
+    if done {
+        is_earlier::<Withdrawn>(&got.withdrawn, events, i, n, stamp)
+    } else {
+        is_earlier::<Refused>(&got.refused, events, i, n, stamp)
+    }
+}
+
+/// The receiver that had not given the answer to a recall that rank i took.
+pub(crate) fn receiver_not_telling(
+    i: u8,
+    e: &Event,
+    ranks: &[RankAccount],
+    tables: &[Tables],
+) -> Option<u8>
+    requires lawful { EachRank KeepsLocal (ends_of ranks.now) }
+    requires tabled { AreTabled (ends_of ranks.now) tables.now }
+    ensures { Names (λ j. UndoneAfterWithdraw i j
+        (history_of (ends_of ranks.now) j) e.now.stamp e.now.what) result }
+{
+    match &e.what {
+        Happened::Undone { to, n, done } => {
+            named_unless(
+                was_withdrawn(i, *to, *n, *done, e.stamp, ranks, tables),
+                *to,
+            )
+        }
+        _ => None,
+    }
+}
+
+/// The senders whose messages did not come to rank j as they were sent.
+pub(crate) fn mark_arrivals(
+    j: u8,
+    events: &[Event],
+    ranks: &[RankAccount],
+    tables: &[Tables],
+) -> [bool; NAMES]
+    requires own { (n : ℕ) × Always (NumberAt n) events.now }
+    requires lawful { EachRank KeepsLocal (ends_of ranks.now) }
+    requires tabled { AreTabled (ends_of ranks.now) tables.now }
+    ensures { AreMarked (λ i before e. ArrivesNext i j
+        (history_of (ends_of ranks.now) i) before e.stamp e.what)
+        events.now result }
+{
+    let mut marks = [false; NAMES];
+    for e in events {
+        if let Some(i) = sender_not_followed(j, e, ranks, tables) {
+            marks[i as usize] = true;
+        }
+    }
+    marks
+}
+
+/// The receivers that had not paired messages that had left rank i.
+pub(crate) fn mark_outs(
+    i: u8,
+    events: &[Event],
+    sent: &Places,
+    ranks: &[RankAccount],
+    tables: &[Tables],
+) -> [bool; NAMES]
+    requires placed { ArePlaces events.now sent.now }
+    requires lawful { EachRank KeepsLocal (ends_of ranks.now) }
+    requires tabled { AreTabled (ends_of ranks.now) tables.now }
+    ensures { AreMarked (λ j before e. OutAfterPair i j
+        (history_of (ends_of ranks.now) j) before e.stamp e.what)
+        events.now result }
+{
+    let mut marks = [false; NAMES];
+    for (k, e) in events.iter().enumerate() {
+        if let Some(j) = receiver_not_asked(i, k, e, sent, ranks, tables) {
+            marks[j as usize] = true;
+        }
+    }
+    marks
+}
+
+/// The senders that had not recalled messages that rank j withdrew.
+pub(crate) fn mark_withdrawals(
+    j: u8,
+    events: &[Event],
+    ranks: &[RankAccount],
+    tables: &[Tables],
+) -> [bool; NAMES]
+    requires lawful { EachRank KeepsLocal (ends_of ranks.now) }
+    requires tabled { AreTabled (ends_of ranks.now) tables.now }
+    ensures { AreMarked (λ i before e. WithdrawAfterRecall i j
+        (history_of (ends_of ranks.now) i) e.stamp e.what)
+        events.now result }
+{
+    let mut marks = [false; NAMES];
+    for e in events {
+        if let Some(i) = sender_not_recalling(j, e, ranks, tables) {
+            marks[i as usize] = true;
+        }
+    }
+    marks
+}
+
+/// The receivers that had not given the answers that rank i took.
+pub(crate) fn mark_answers(
+    i: u8,
+    events: &[Event],
+    ranks: &[RankAccount],
+    tables: &[Tables],
+) -> [bool; NAMES]
+    requires lawful { EachRank KeepsLocal (ends_of ranks.now) }
+    requires tabled { AreTabled (ends_of ranks.now) tables.now }
+    ensures { AreMarked (λ j before e. UndoneAfterWithdraw i j
+        (history_of (ends_of ranks.now) j) e.stamp e.what)
+        events.now result }
+{
+    let mut marks = [false; NAMES];
+    for e in events {
+        if let Some(j) = receiver_not_telling(i, e, ranks, tables) {
+            marks[j as usize] = true;
+        }
+    }
+    marks
+}

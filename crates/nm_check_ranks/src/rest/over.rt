@@ -1,0 +1,176 @@
+//! Whether messages are over: eager ones, and those sent by asking that are paired.
+
+ghost use Rattle.std.specs.Prelude.{◌≡◌, ◌<◌, ◌&&◌, ℕ, not, List, IsTrue, length};
+ghost use Rattle.std.specs.Bool.{OnTrue};
+ghost use Rattle.nm_history.specs.declared.events.Event as event;
+ghost use Rattle.nm_history.specs.Quiescence.{AskedOver, EachPair, EachRank, EagerOver, Ended};
+ghost use Rattle.nm_history.specs.Quiescence.{is_kept_back, is_over};
+ghost use Rattle.nm_history.specs.Sends.{is_ask};
+ghost use Rattle.nm_report.specs.Ends.{ends_of};
+ghost use Rattle.nm_lookups.specs.Deciding.{Decides};
+ghost use Rattle.nm_lookups.specs.Placed.{ArePlaces};
+ghost use Rattle.nm_check_ranks.specs.Over.{AskedIsOver, EagerIsOver, SendKeeps};
+ghost use Rattle.nm_check_ranks.specs.Tabled.{AreTabled};
+
+use crate::hows::{is_asked, is_eager};
+use nm_check_rank::paired::tables::Tables;
+use nm_history::{Event, Happened};
+use nm_lookups::firsts::{is_ever, is_ever_taken};
+use nm_lookups::kinds::{Claims, Outs, Wholes};
+use nm_lookups::places::Places;
+use nm_report::RankAccount;
+
+fn both(a: bool, b: bool) -> bool
+    ensures { result ≡ (a && b) }
+{
+    a && b
+}
+
+fn neither(a: bool, b: bool) -> bool
+    ensures { result ≡ (not a && not b) }
+{
+    !a && !b
+}
+
+/// Whether a message of rank i to rank j has left and is whole.
+fn is_message_over(i: u8, j: u8, n: u64, sent: &Places, got: &Places) -> bool
+    ensures { (hi hj : List event.Event) → ArePlaces hi sent.now → ArePlaces hj got.now →
+        result ≡ is_over i j hi hj n }
+{
+    let out = is_ever::<Outs>(&sent.outgoing.gone.outs, j, n);
+    let whole = is_ever::<Wholes>(&got.incoming.came.wholes, i, n);
+    both(out, whole)
+}
+
+/// Whether a message of rank i to rank j has neither left nor is it whole.
+fn is_message_kept_back(i: u8, j: u8, n: u64, sent: &Places, got: &Places) -> bool
+    ensures { (hi hj : List event.Event) → ArePlaces hi sent.now → ArePlaces hj got.now →
+        result ≡ is_kept_back i j hi hj n }
+{
+    let out = is_ever::<Outs>(&sent.outgoing.gone.outs, j, n);
+    let whole = is_ever::<Wholes>(&got.incoming.came.wholes, i, n);
+    neither(out, whole)
+}
+
+fn is_implied(asked: bool, holds: bool) -> bool
+    ensures { Decides result (OnTrue asked (IsTrue holds)) }
+{
+    !asked || holds
+}
+
+fn are_implied(asked: bool, taken: bool, claimed: bool, over: bool, kept: bool) -> bool
+    ensures { Decides result (OnTrue (asked && taken) (IsTrue over)
+        × OnTrue (asked && (claimed && not taken)) (IsTrue kept)) }
+{
+    if !asked {
+        return true;
+    }
+    if taken { over } else { !claimed || kept }
+}
+
+/// Whether what happened at rank i is no eager send to one of the ranks, or its message is over.
+pub(crate) fn is_eager_over(i: u8, what: &Happened, sent: &Places, tables: &[Tables]) -> bool
+    ensures { (ranks : List Ended) (stamp : ℕ) (hi : List event.Event) →
+        AreTabled ranks tables.now →
+        ArePlaces hi sent.now →
+        Decides result (SendKeeps (EagerIsOver i hi) ranks stamp what.now) }
+{
+    match what {
+        Happened::Send { to, n, how, .. } => {
+            let j = *to as usize;
+            let count = tables.len();
+            if j >= count {
+                return true;
+            }
+            let over = is_message_over(i, *to, *n, sent, &tables[j].places);
+            is_implied(is_eager(*how), over)
+        }
+        _ => true,
+    }
+}
+
+/// Whether what happened at rank i is no send by asking to one of the ranks, or its message is over
+/// where it is paired, and kept back where it is claimed and not received.
+pub(crate) fn is_asked_over(i: u8, what: &Happened, sent: &Places, tables: &[Tables]) -> bool
+    ensures { (ranks : List Ended) (stamp : ℕ) (hi : List event.Event) →
+        AreTabled ranks tables.now →
+        ArePlaces hi sent.now →
+        Decides result (SendKeeps (AskedIsOver i hi) ranks stamp what.now) }
+{
+    match what {
+        Happened::Send { to, n, how, .. } => {
+            let j = *to as usize;
+            let count = tables.len();
+            if j >= count {
+                return true;
+            }
+            let got = &tables[j];
+            let taken = is_ever_taken(got.pairing.taken(), i, *n);
+            let claimed = is_ever::<Claims>(&got.places.incoming.settled.claims, i, *n);
+            let over = is_message_over(i, *to, *n, sent, &got.places);
+            let kept = is_message_kept_back(i, *to, *n, sent, &got.places);
+            are_implied(is_asked(*how), taken, claimed, over, kept)
+        }
+        _ => true,
+    }
+}
+
+/// Whether the eager messages of rank i to each rank are over.
+fn eager_over_from(i: u8, events: &[Event], sent: &Places, tables: &[Tables]) -> bool
+    requires { ArePlaces events.now sent.now }
+    ensures { (ranks : List Ended) → AreTabled ranks tables.now →
+        Decides result (EachRank (λ j rank. EagerOver i j events.now rank.events) ranks) }
+{
+    for e in events {
+        if !is_eager_over(i, &e.what, sent, tables) {
+            return false;
+        }
+    }
+    true
+}
+
+/// Whether the messages of rank i that were sent by asking are over where they are paired, and kept
+/// back where they are claimed and not received.
+fn asked_over_from(i: u8, events: &[Event], sent: &Places, tables: &[Tables]) -> bool
+    requires { ArePlaces events.now sent.now }
+    ensures { (ranks : List Ended) → AreTabled ranks tables.now →
+        Decides result (EachRank (λ j rank. AskedOver i j events.now rank.events) ranks) }
+{
+    for e in events {
+        if !is_asked_over(i, &e.what, sent, tables) {
+            return false;
+        }
+    }
+    true
+}
+
+/// Whether each eager message is over.
+pub fn are_eager_over(ranks: &[RankAccount], tables: &[Tables]) -> bool
+    requires few { length ranks.now < 256 }
+    requires tabled { AreTabled (ends_of ranks.now) tables.now }
+    ensures { Decides result (EachPair EagerOver (ends_of ranks.now)) }
+{
+    for (i, rank) in ranks.iter().enumerate() {
+        let events = rank.history.as_slice();
+        if !eager_over_from(i as u8, events, &tables[i].places, tables) {
+            return false;
+        }
+    }
+    true
+}
+
+/// Whether each message that was sent by asking is over where it is paired, and kept back where it
+/// is claimed and not received.
+pub fn are_asked_over(ranks: &[RankAccount], tables: &[Tables]) -> bool
+    requires few { length ranks.now < 256 }
+    requires tabled { AreTabled (ends_of ranks.now) tables.now }
+    ensures { Decides result (EachPair AskedOver (ends_of ranks.now)) }
+{
+    for (i, rank) in ranks.iter().enumerate() {
+        let events = rank.history.as_slice();
+        if !asked_over_from(i as u8, events, &tables[i].places, tables) {
+            return false;
+        }
+    }
+    true
+}

@@ -1,4 +1,0 @@
-mod OverLemmas
-mod WaitLemmas
-mod CountingLemmas
-mod FirstLemmas

@@ -1,9 +1,0 @@
-use Rattle.nm_report.specs.Ends.{ends_of}
-use Rattle.nm_check_between.proofs.RankLemmas.{UpTo}
-use Rattle.nm_check_rest.specs.RestBreaks.{KeepRestAt}
-use Rattle.nm_check_rest.proofs.firsts.first_rest_at.Given as goal
-
--- the ranks so far keep the rule
-abbrev pub invariant-loop-i : goal.invariant-loop-i
-invariant-loop-i l =
-    UpTo (λ x rank. KeepRestAt l.rule (ends_of l.ranks) x rank.events rank.events) (ends_of l.ranks) l.i

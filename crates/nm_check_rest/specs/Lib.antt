@@ -1,4 +1,0 @@
-pub mod Counting
-pub mod Over
-pub mod RestBreaks
-pub mod RestClauses

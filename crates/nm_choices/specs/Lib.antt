@@ -1,5 +1,0 @@
-pub mod Choices
-pub mod Lines
-pub mod Lists
-pub mod Moves
-pub mod Settings

@@ -1,4 +1,0 @@
-mod ArgumentLemmas
-mod FoundLemmas
-mod OptionLemmas
-mod RangeLemmas

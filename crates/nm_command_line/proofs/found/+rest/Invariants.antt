@@ -1,5 +1,0 @@
-use Rattle.std.proofs.Common.{length}
-use Rattle.nm_command_line.proofs.found.+rest.Given as goal
-
-abbrev pub decreases-rest : goal.decreases-rest
-decreases-rest l = length l.words.now

@@ -1,0 +1,18 @@
+//! What may happen next at the ranks of a script, by the states of all of them.
+//!
+//! # What a contract sees
+//! `specs/Choices.antt` has what the next command of a rank does, which answers it can have, which message
+//! comes next and which may be withdrawn; `specs/Moves.antt` has the moves that these are.
+//! # What is proved
+//! - `begin`, `answer`, `may_say_no`, `next_message` and `may_withdraw` are as defined.
+//! - `turns` has all moves of the ranks of a state and nothing else, and `moved` the state of a rank after
+//!   a move.
+//! - What may come next in a run, and is not quiet, is a move of the ranks' states
+//!   (`laws::events_are_choices`).
+//!
+//! That each of these moves is one of a run is not claimed: it is the judge's to say whether a way is a
+//! run's.
+
+pub mod choices;
+pub mod laws;
+pub mod moves;

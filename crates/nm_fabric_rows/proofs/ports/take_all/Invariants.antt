@@ -1,8 +1,0 @@
-use Rattle.std.proofs.Common.{◌≡◌}
-use Rattle.nm_cells.specs.Ports.{Owns}
-use Rattle.nm_port.specs.Polls.{HoldsTheRest}
-use Rattle.nm_fabric_rows.proofs.ports.take_all.Given as goal
-
-abbrev pub invariant-loop-k : goal.invariant-loop-k
-invariant-loop-k g l = Owns l.f l.port × (l.port.rank ≡ 1) × (l.port.hands ≡ 0)
-    × HoldsTheRest l.port

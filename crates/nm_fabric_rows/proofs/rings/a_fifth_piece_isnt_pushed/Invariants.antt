@@ -1,4 +1,0 @@
-use Rattle.nm_fabric_rows.proofs.rings.a_fifth_piece_isnt_pushed.Given as goal
-
-abbrev pub ghosts-calls : goal.ghosts-calls
-ghosts-calls g a = record { name = a.blank.name; parts = a.blank.parts }

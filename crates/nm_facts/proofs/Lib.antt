@@ -1,5 +1,0 @@
-pub mod Truth
-pub mod Numbers
-pub mod Options
-pub mod Lists
-pub mod Rows

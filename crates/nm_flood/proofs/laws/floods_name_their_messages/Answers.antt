@@ -1,6 +1,0 @@
--- The law is a lemma.
-use Rattle.nm_flood.proofs.LimitLemmas.{flood_passes}
-use Rattle.nm_flood.proofs.laws.floods_name_their_messages.Goals as goal
-
-pub returns : goal.returns
-returns c = flood_passes

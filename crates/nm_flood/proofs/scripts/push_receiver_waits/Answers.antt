@@ -1,6 +1,0 @@
-use Rattle.nm_flood.proofs.PushLemmas.{one_more}
-use Rattle.nm_flood.proofs.scripts.push_receiver_waits.Goals as goal
-
-pub loop-k-preserved : goal.loop-k-preserved
-loop-k-preserved c =
-    one_more _ _ _ _ c.loop-k.k _ c.receiver_waits.ensures c.loop-k.invariant c.in_ok-push.ensures.items

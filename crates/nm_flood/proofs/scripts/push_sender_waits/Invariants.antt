@@ -1,9 +1,0 @@
-use Rattle.std.proofs.Common.{◌≡◌, ◌++◌, map}
-use Rattle.std.specs.List.{range_with_len}
-use Rattle.nm_flood.specs.Flood.{sender_waits}
-use Rattle.nm_flood.proofs.scripts.push_sender_waits.Given as goal
-
--- the lines of the messages so far are put
-abbrev pub invariant-loop-k : goal.invariant-loop-k
-invariant-loop-k l =
-    l.lines.items ≡ l.fn.lines.items ++ map (sender_waits l.ranks) (range_with_len 0 l.k)

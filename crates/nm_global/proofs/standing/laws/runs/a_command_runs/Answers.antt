@@ -1,0 +1,334 @@
+-- Each command adds the moments of its calls, of which the last one records its answer.
+use Rattle.std.proofs.Common.{◌≡◌, ℕ, ◌+◌, ◌<◌, ◌≤◌, Bool, true, false, Option, Some, None, List, []}
+use Rattle.std.proofs.Common.{append-nil, ◌∷◌, ◌++◌, length, refl, sym, subst, ap, ◌∙◌, ⊎_elim, arith}
+use Rattle.std.specs.Prelude.{◌⊎◌, nat_le, nat_lt, ◌&&◌}
+use Rattle.std.specs.Option.{option_map_or}
+use Rattle.std.proofs.lemmas.Bool.Decides.{nat_tests}
+use Rattle.nm_types.specs.declared.answers.Answer.{Answer}
+use Rattle.nm_types.specs.declared.answers.Answer.TheVariants as answer
+use Rattle.nm_types.specs.declared.limits.TheConstants.{MAX_BODY, MAX_CONTEXT, MAX_NAME, MAX_TAG}
+use Rattle.nm_types.specs.declared.messages.Arrival.{Arrival}
+use Rattle.nm_types.specs.declared.messages.Peer.{Peer}
+use Rattle.nm_types.specs.declared.messages.Post.{Post}
+use Rattle.nm_types.specs.declared.messages.TagPick.{TagPick}
+use Rattle.nm_types.specs.declared.scripts.Body.{Body}
+use Rattle.nm_types.specs.declared.scripts.Command.{Command}
+use Rattle.nm_types.specs.declared.scripts.Command.TheVariants as command
+use Rattle.nm_types.specs.declared.scripts.Line.{Line}
+use Rattle.nm_types.specs.Bodies.{body_len, bytes_of}
+use Rattle.nm_types.specs.Commands.{Numbered, command_at, commands_of}
+use Rattle.nm_types.specs.Limits.{is_in_range}
+use Rattle.nm_types.specs.Sizes.{Sizes}
+use Rattle.nm_history.specs.declared.events.Event.{Event}
+use Rattle.nm_history.specs.declared.events.Happened.{Happened}
+use Rattle.nm_history.specs.declared.events.Happened.TheVariants as event
+use Rattle.nm_history.specs.Answers.{live, seen}
+use Rattle.nm_history.specs.Matching.{first_message, matched_pairs}
+use Rattle.nm_history.specs.RankRun.{how_of}
+use Rattle.nm_history.specs.Sends.{Sent, message_of, receives as of_receives, sent_body, sent_bytes}
+use Rattle.nm_history.specs.Sends.{sends as of_sends}
+use Rattle.nm_history.specs.Clock.{stamped}
+use Rattle.nm_history.specs.Rules.{AreRight}
+use Rattle.nm_request.specs.declared.Kind.{Kind}
+use Rattle.nm_request.specs.declared.Kind.TheVariants as kind
+use Rattle.nm_request.specs.declared.Req.{Req}
+use Rattle.nm_rndv.specs.Offers.{Offering}
+use Rattle.nm_receiving.specs.Receipts.{taken_events}
+use Rattle.nm_rank.specs.declared.answers.Cancelled.{Cancelled}
+use Rattle.nm_rank.specs.declared.answers.Cancelled.TheVariants as cancelled
+use Rattle.nm_rank.specs.Calls.{Starts}
+use Rattle.nm_rank.specs.Ranks.{RankView, request_of}
+use Rattle.nm_global.specs.Emitted.{IsLeft}
+use Rattle.nm_global.specs.Logged.{IsLogged}
+use Rattle.nm_rank.specs.Requests.{IsResult, cancel_answer, cancel_events}
+use Rattle.nm_global.specs.Calls.{AnswersLogged, ShowsLogged, given_after}
+use Rattle.nm_global.specs.Moments.{acted}
+use Rattle.nm_process.specs.declared.steps.Step.TheVariants.{Ran as Took}
+use Rattle.nm_process.specs.Places.{IsNext}
+use Rattle.nm_process.specs.Processes.{ProcessView}
+use Rattle.nm_process.specs.Starts.{Ends, HasAnswered, HasAwaited, HasCancelled, HasClaimed, HasEnded}
+use Rattle.nm_process.specs.Starts.{HasFoundNone, HasMatched, HasNoResult, HasStarted, HasTried}
+use Rattle.nm_process.specs.Starts.{HasTriedMprobe, HasTriedMrecv, HasTriedReceive, HasTriedSend}
+use Rattle.nm_process.specs.Starts.{HasTriedTest, IsBusy, IsHandleBusy, KeepsHandles, offers_sent}
+use Rattle.nm_process.specs.Starts.{IsHandleNull, IsNull, answer_for, message_probed, sent_now}
+use Rattle.nm_process.proofs.PlaceLemmas.{all_at, next_found}
+use Rattle.nm_global.specs.ProcessInvariant.{GoesOn, IsOf, Past, Same, with_moment}
+use Rattle.nm_global.proofs.Still.{history_longer, own_same, then_on}
+use Rattle.nm_global.proofs.standing.laws.runs.a_command_runs.Goals as goal
+
+-- an answer that shows no message
+shows_cancel : (commands : List Numbered) (past : Past) (h : List Event) (line : ℕ) (x : Cancelled) →
+    AnswersLogged commands past.log h line (answer_for x)
+shows_cancel commands past h line cancelled.Done = tt
+shows_cancel commands past h line cancelled.Late = tt
+shows_cancel commands past h line cancelled.Asked = tt
+
+shows_probe : (commands : List Numbered) (past : Past) (h : List Event) (line : ℕ) (o : Option Arrival) →
+    AnswersLogged commands past.log h line (option_map_or seen o answer.Nothing)
+shows_probe commands past h line None = tt
+shows_probe commands past h line (Some a) = tt
+
+tag_below : (a b c d e : Bool) (tag : ℕ) → c ≡ nat_le tag MAX_TAG → (a && b && c && d && e) ≡ true →
+    tag ≤ MAX_TAG
+tag_below a b c d e tag is all = grind (arith, nat_tests)
+
+body_below : (a b c d e : Bool) (len : ℕ) → e ≡ nat_le len MAX_BODY → (a && b && c && d && e) ≡ true →
+    len ≤ MAX_BODY
+body_below a b c d e len is all = grind (arith, nat_tests)
+
+pub returns : goal.returns
+returns c shape lines i a b past in_lines right standing ran =
+    subst (λ (k : ℕ). GoesOn shape lines k b.rank past) standing.rank.me
+    (by_command ran.line.command refl ran.tried) where
+      me : ℕ
+      me = a.rank.me
+
+      is : IsOf shape lines me a.rank past
+      is = subst (λ (k : ℕ). IsOf shape lines k a.rank past) (sym standing.rank.me) standing.rank
+
+      line : ℕ
+      line = ran.place + 2
+
+      commands : List Numbered
+      commands = commands_of me lines
+
+      bodies : Sent → List ℕ
+      bodies = sent_body commands
+
+      b' : ProcessView
+      b' = record b { at = a.at; next = a.next }
+
+      found : command_at commands line ≡ Some ran.line.command
+      found = next_found lines me a.next ran.place ran.line ran.is
+
+      answers : (v : ProcessView) (now : Past) (x : Answer) → IsOf shape lines me v.rank now →
+          AnswersLogged commands now.log v.rank.events line x → HasAnswered v b' line x →
+          GoesOn shape lines me b.rank now
+      answers v now x at shows answered =
+          record {
+            after = with_moment now (acted v.rank (event.Ran line x ∷ []));
+            is = record {
+              me = answered.takes.me ∙ at.me;
+              logged = c.an_answer_is_recorded.ensures shape.eager bodies commands v.rank b.rank now.log
+                  now.given line x at.logged shows answered.noted answered.takes answered.requests;
+              left = λ to within. c.answers_keep_left.ensures.ran bodies v.rank b.rank to line x
+                  (now.left to) answered.noted answered.takes answered.sending (at.left to within);
+            };
+            same = own_same now (stamped v.rank.clock (event.Ran line x ∷ []));
+            grew = let sum = history_longer now.log (acted v.rank (event.Ran line x ∷ [])) in omega (arith, sum);
+          }
+
+      ends : (q : ℕ) →
+          ((k : Kind) (x : Answer) → live commands a.rank.events q ≡ Some (request_of k) →
+          ShowsLogged past.log a.rank.events k x → AnswersLogged commands past.log a.rank.events line x) →
+          HasEnded a b' q line → GoesOn shape lines me b.rank past
+      ends q may p =
+          let e = p.ends in
+          let mid = p.mid.rank in
+          let same = e.finished.same in
+          let events : mid.events ≡ a.rank.events = ap (λ (v : RankView). v.events) same in
+          let clock : mid.clock ≡ a.rank.clock = ap (λ (v : RankView). v.clock) same in
+          let own : mid.me ≡ a.rank.me = ap (λ (v : RankView). v.me) same in
+          let now : Past = record past { given = given_after e.kind past.given } in
+          let at : IsOf shape lines me mid now =
+          record {
+            me = own;
+            logged = c.a_result_is_given.ensures.kept shape.eager bodies commands a.rank mid past.log
+                past.given e.request e.kind p.answer is.logged e.is e.finished;
+            left = λ to within. c.answers_keep_left.ensures.given bodies a.rank mid to (past.left to)
+                events clock (ap (λ (v : RankView). v.sending) same) own (is.left to within);
+          } in
+          let shows : ShowsLogged past.log a.rank.events e.kind p.answer =
+          c.a_result_is_given.ensures.shows shape.eager bodies commands a.rank mid past.log past.given
+          e.request e.kind p.answer is.logged right e.is e.finished in
+          let recorded : AnswersLogged commands past.log a.rank.events line p.answer =
+          may e.kind p.answer (sym (standing.work.requests q) ∙ e.live) shows in
+          then_on shape lines me b.rank past now
+          (record { taken = λ from. refl; pulled = λ from. refl; left = λ to. refl; front = ([], sym (append-nil _)) })
+          (answers p.mid now p.answer at
+          (subst (λ (h : List Event). AnswersLogged commands past.log h line p.answer) (sym events)
+          recorded) p.answered)
+
+      is_null : (q : ℕ) → IsNull a b' q line → GoesOn shape lines me b.rank past
+      is_null q p = answers a past answer.Null is tt p.answered
+
+      is_busy : (q : ℕ) → IsBusy a b' q line → GoesOn shape lines me b.rank past
+      is_busy q p = answers a past answer.Busy is tt p.answered
+
+      -- a start, and its answer
+      begins : (Fits : (Sent → List ℕ) → Type 0) (offers : Offering) (ws : List Happened) (k : Kind)
+          (q : ℕ) → Fits bodies →
+          ((mid : RankView) (r : Req) → Starts bodies ws k a.rank mid r →
+          IsLogged shape.eager bodies commands mid (past.log ++ acted a.rank ws ∷ []) past.given) →
+          ((mid : RankView) (r : Req) → Starts bodies ws k a.rank mid r → mid.sending.offers ≡ offers →
+          (to : ℕ) → to < shape.ranks → IsLeft bodies mid to (past.left to)) →
+          HasStarted Fits offers ws k a b' q line → GoesOn shape lines me b.rank past
+      begins Fits offers ws k q fits logged left s =
+          let g = s.begun in
+          let mid = s.mid in
+          let starts : Starts bodies ws k a.rank mid.rank g.request = g.starts bodies fits in
+          let now : Past = with_moment past (acted a.rank ws) in
+          let at : IsOf shape lines me mid.rank now =
+          record {
+            me = starts.takes.me;
+            logged = logged mid.rank g.request starts;
+            left = left mid.rank g.request starts g.asked;
+          } in
+          then_on shape lines me b.rank past now (own_same past (stamped a.rank.clock ws))
+          (answers mid now answer.Started at tt s.answered)
+
+      sends : (q to tag ctx : ℕ) (body : Body) (sync : Bool) →
+          ran.line.command ≡ command.Send q to tag ctx body sync →
+          HasTriedSend a b' q to tag ctx body sync line → GoesOn shape lines me b.rank past
+      sends q to tag ctx body sync same tried = ⊎_elim (is_busy q) started tried where
+        all : is_in_range a.rank.sizes.ranks (command.Send q to tag ctx body sync) ≡ true
+        all = ap (is_in_range a.rank.sizes.ranks) (sym same)
+            ∙ all_at (λ x. is_in_range a.rank.sizes.ranks x.command) lines ran.place ran.line
+            in_lines.in_range ran.is.here
+
+        own : bodies (sent_now a.rank to tag ctx body sync line) ≡ bytes_of body
+        own = ap (λ (o : Option Command). option_map_or sent_bytes o []) (found ∙ ap Some same)
+
+        n : ℕ
+        n = length (of_sends a.rank.events to)
+
+        started : (HasStarted (λ bodies. bodies (sent_now a.rank to tag ctx body sync line) ≡ bytes_of body)
+            (offers_sent a.rank to body sync)
+            (event.Send to n tag ctx (body_len body) (how_of a.rank.sizes.eager sync (body_len body)) line
+            ∷ [])
+            (kind.Send to n) a b' q line) × KeepsHandles a b' → GoesOn shape lines me b.rank past
+        started p = begins (λ bodies. bodies (sent_now a.rank to tag ctx body sync line) ≡ bytes_of body)
+            (offers_sent a.rank to body sync)
+            (event.Send to n tag ctx (body_len body) (how_of a.rank.sizes.eager sync (body_len body)) line
+            ∷ [])
+            (kind.Send to n) q own
+            (λ mid r starts. c.a_send_starts.ensures shape.eager bodies commands a.rank mid past.log
+            past.given to tag ctx line body sync r is.logged
+            (tag_below (nat_le q MAX_NAME) (nat_lt to a.rank.sizes.ranks) (nat_le tag MAX_TAG)
+            (nat_le ctx MAX_CONTEXT) (nat_le (body_len body) MAX_BODY) tag refl all)
+            (body_below (nat_le q MAX_NAME) (nat_lt to a.rank.sizes.ranks) (nat_le tag MAX_TAG)
+            (nat_le ctx MAX_CONTEXT) (nat_le (body_len body) MAX_BODY) (body_len body) refl all)
+            own starts)
+            (λ mid r starts offers t within. c.sends_keep_left.ensures bodies a.rank mid t to tag ctx line
+            body sync r (past.left t) right own starts offers (is.left t within))
+            p.0
+
+      receives : (q : ℕ) (from : Peer) (tag : TagPick) (ctx room : ℕ) →
+          HasTriedReceive a b' q from tag ctx room line → GoesOn shape lines me b.rank past
+      receives q from tag ctx room tried = ⊎_elim (is_busy q) started tried where
+        h : List Event
+        h = a.rank.events
+
+        post : Post
+        post = record {
+          number = length (of_receives h);
+          from = from;
+          tag = tag;
+          ctx = ctx;
+          cap = room;
+        }
+
+        ws : List Happened
+        ws = event.Post post line ∷ taken_events (first_message h (matched_pairs h) from tag ctx)
+
+        started : (HasStarted (λ bodies. Unit {0}) a.rank.sending.offers ws
+            (kind.Receive (length (of_receives h))) a b' q line) × KeepsHandles a b' →
+            GoesOn shape lines me b.rank past
+        started p = begins (λ bodies. Unit {0}) a.rank.sending.offers ws
+            (kind.Receive (length (of_receives h))) q tt
+            (λ mid r starts. c.a_receive_starts.ensures shape.eager bodies commands a.rank mid past.log
+            past.given from tag ctx room line r is.logged starts)
+            (λ mid r starts offers t within. c.receives_keep_left.ensures.posted bodies a.rank mid t line
+            post (first_message h (matched_pairs h) from tag ctx) (kind.Receive (length (of_receives h))) r
+            (past.left t) starts offers (is.left t within))
+            p.0
+
+      tests : (q : ℕ) → ran.line.command ≡ command.Test q → HasTriedTest a b' q line →
+          GoesOn shape lines me b.rank past
+      tests q same tried = ⊎_elim (is_null q) (λ rest. ⊎_elim (ends q (λ k x is shows.
+          c.a_result_may_be_recorded.ensures.test commands past.log a.rank.events line q k x
+          (found ∙ ap Some same) is shows)) none rest) tried where
+            none : HasNoResult a b' q line → GoesOn shape lines me b.rank past
+            none p = answers a past answer.No is tt p.answered
+
+      cancels : (q : ℕ) → (IsNull a b' q line ⊎ HasCancelled a b' q line) →
+          GoesOn shape lines me b.rank past
+      cancels q tried = ⊎_elim (is_null q) some tried where
+        some : HasCancelled a b' q line → GoesOn shape lines me b.rank past
+        some p =
+            let mid = p.mid in
+            let ws = cancel_events a.rank.events p.kind in
+            let now : Past = with_moment past (acted a.rank ws) in
+            let at : IsOf shape lines me mid.rank now =
+            record {
+              me = p.takes.me;
+              logged = c.a_request_is_cancelled.ensures shape.eager bodies commands a.rank mid.rank past.log
+                  past.given p.kind is.logged (p.happened bodies) p.takes p.requests;
+              left = λ t within. c.cancels_keep_left.ensures bodies a.rank mid.rank t p.kind (past.left t)
+                  (p.happened bodies) p.offers p.takes (is.left t within);
+            } in
+            then_on shape lines me b.rank past now (own_same past (stamped a.rank.clock ws))
+            (answers mid now (answer_for (cancel_answer a.rank.events p.kind)) at
+            (shows_cancel commands now mid.rank.events line (cancel_answer a.rank.events p.kind)) p.answered)
+
+      claims : (m : ℕ) (from : Peer) (tag : TagPick) (ctx : ℕ) →
+          HasTriedMprobe a b' m from tag ctx line → GoesOn shape lines me b.rank past
+      claims m from tag ctx tried = ⊎_elim busy (λ rest. ⊎_elim nothing some rest) tried where
+        busy : IsHandleBusy a b' m line → GoesOn shape lines me b.rank past
+        busy p = answers a past answer.Busy is tt p.answered
+
+        nothing : HasFoundNone a b' m from tag ctx line → GoesOn shape lines me b.rank past
+        nothing p = answers a past answer.Nothing is tt p.answered
+
+        some : HasClaimed a b' m from tag ctx line → GoesOn shape lines me b.rank past
+        some p =
+            let mid = p.mid in
+            let x = p.message in
+            let ws : List Happened = event.Claim x.env.from x.n line ∷ [] in
+            let now : Past = with_moment past (acted a.rank ws) in
+            let at : IsOf shape lines me mid.rank now =
+            record {
+              me = p.takes.me;
+              logged = c.a_message_is_claimed.ensures shape.eager bodies commands a.rank mid.rank past.log
+                  past.given x line is.logged p.claimed p.takes p.requests;
+              left = λ t within. c.answers_keep_left.ensures.claimed bodies a.rank mid.rank t x.env.from x.n
+                  line (past.left t) p.claimed p.takes p.sending (is.left t within);
+            } in
+            then_on shape lines me b.rank past now (own_same past (stamped a.rank.clock ws))
+            (answers mid now (seen x) at tt p.answered)
+
+      matches : (q m room : ℕ) → HasTriedMrecv a b' q m room line → GoesOn shape lines me b.rank past
+      matches q m room tried = ⊎_elim (is_busy q) (λ rest. ⊎_elim nothing some rest) tried where
+        nothing : IsHandleNull a b' q m line → GoesOn shape lines me b.rank past
+        nothing p = answers a past answer.Null is tt p.answered
+
+        some : HasMatched a b' q m room line → GoesOn shape lines me b.rank past
+        some p =
+            let x = p.message in
+            let number : ℕ = length (of_receives a.rank.events) in
+            begins (λ bodies. Unit {0}) a.rank.sending.offers
+            (event.Match number x.from x.n room line
+            ∷ taken_events (message_of a.rank.events x.from x.n))
+            (kind.Receive number) q tt
+            (λ mid r starts. c.a_claimed_receive_starts.ensures shape.eager bodies commands a.rank mid
+            past.log past.given x.from x.n room line r is.logged starts)
+            (λ mid r starts offers t within. c.receives_keep_left.ensures.matched bodies a.rank mid t number
+            x.from x.n room line (message_of a.rank.events x.from x.n) (kind.Receive number) r (past.left t)
+            starts offers (is.left t within))
+            p.started
+
+      by_command : (x : Command) → ran.line.command ≡ x → HasTried a b' x line Took →
+          GoesOn shape lines me b.rank past
+      by_command (command.Send q to tag ctx body sync) same t = sends q to tag ctx body sync same t.1
+      by_command (command.Recv q from tag ctx room) same t = receives q from tag ctx room t.1
+      by_command (command.Wait q) same t = ⊎_elim (is_null q) (ends q (λ k x is shows.
+          c.a_result_may_be_recorded.ensures.wait commands past.log a.rank.events line q k x
+          (found ∙ ap Some same) is shows)) t
+      by_command (command.Test q) same t = tests q same t.1
+      by_command (command.Probe from tag ctx) same t =
+          answers a past (option_map_or seen (message_probed a from tag ctx) answer.Nothing) is
+          (shows_probe commands past a.rank.events line (message_probed a from tag ctx)) t.1
+      by_command (command.Await from tag ctx) same t = answers a past (seen t.message) is tt t.answered
+      by_command (command.Cancel q) same t = cancels q t.1
+      by_command (command.Mprobe m from tag ctx) same t = claims m from tag ctx t.1
+      by_command (command.Mrecv q m room) same t = matches q m room t.1

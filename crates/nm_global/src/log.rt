@@ -1,0 +1,25 @@
+//! The log of a rank: what its calls did, one after another, as moments that are sound.
+//!
+//! The laws of `nm_channels` speak of a log, a list of moments, that stands in no program. This crate
+//! ties it to a rank (`nm_rank`). A new rank has the empty log, and each call of it adds one moment
+//! or none. So one who holds a rank, and made any calls on it, has a sound log of it, whose history
+//! and clock are those of the rank. MPI 3.1, chapter 3.
+//!
+//! # What a contract sees
+//! `IsLogged` is the relation between a rank's view and a log (`specs/Logged`). The history and the
+//! clock are those of the log. What is known of each other rank is what its packets tell, and its
+//! packets and pieces are counted. Each message has the bytes that came of it by the log. Those may
+//! be gone once the result of its receive was given, so the relation has a list of the receives of
+//! which that is so.
+//! # What is proved
+//! - `moments`: a new rank has the empty log; a packet and a piece that it takes each add one moment,
+//!   which may follow those before it; and a result adds none. A result that shows a message shows
+//!   the bytes of it that came by the log.
+//! - `calls`: each call by which a rank acts by itself adds one, from the clauses of that call.
+//!   An answer that shows a message may be recorded where it shows those bytes, and the result of a
+//!   request is such an answer to a wait or a test of it.
+//!
+//! A piece makes a moment only where one of its rank is due (`Rank::is_piece_due`). A call that
+//! changes nothing needs no law. To use a law, call it.
+
+pub mod laws;

@@ -1,0 +1,77 @@
+//! Packets and pieces that leave and come.
+
+ghost use Rattle.std.specs.Prelude.{◌≡◌, ◌<◌, ℕ, Some, List, []};
+ghost use Rattle.std.specs.Prelude.{length, slice_get};
+ghost use Rattle.nm_types.specs.declared.packets.Packet.{Packet};
+ghost use Rattle.nm_types.specs.declared.packets.Piece.{Piece};
+ghost use Rattle.nm_types.specs.declared.scripts.Line.{Line};
+ghost use Rattle.nm_types.specs.Sizes.{Sizes};
+ghost use Rattle.nm_history.specs.Pieces.{due_pieces};
+ghost use Rattle.nm_history.specs.Rules.{AreRight};
+ghost use Rattle.nm_rndv.specs.Offers.{next_offered, offered};
+ghost use Rattle.nm_sending.specs.declared.outbox.letters.Letter.{Letter};
+ghost use Rattle.nm_sending.specs.Departures.{pushed_to};
+ghost use Rattle.nm_sending.specs.Sent.{outs};
+ghost use Rattle.nm_receiving.specs.Receipts.{drawn_from};
+ghost use Rattle.nm_rank.specs.Calls.{TakesPacket, TakesPiece};
+ghost use Rattle.nm_rank.specs.Pops.{PopsPacket, PopsPiece, out_with_packet, out_with_piece};
+ghost use Rattle.nm_rank.specs.Ranks.{RankView};
+ghost use Rattle.nm_global.specs.Moments.{acted, drew, took};
+ghost use Rattle.nm_global.specs.ProcessInvariant.{IsOf, Past, with_moment, with_packet_left};
+ghost use Rattle.nm_global.specs.ProcessInvariant.{with_piece_left};
+
+use crate::log::laws::calls::{a_packet_leaves as packet_logged, a_piece_leaves as piece_logged};
+use crate::log::laws::moments::{
+    a_packet_is_taken as packet_taken, a_piece_is_taken as piece_taken,
+};
+use crate::outgoing::laws::leaves::{packets_leave, pieces_leave};
+use crate::outgoing::laws::takes::{taken_packets_keep_left, taken_pieces_keep_left};
+
+/// `Process::pop_front`.
+pub fn a_packet_leaves()
+    ensures { (shape : Sizes) (lines : List Line) (i : ℕ) (v v' : RankView) (past : Past)
+        (letter : Letter) → slice_get v.sending.outbox.letters 0 ≡ Some letter →
+        PopsPacket v v' → IsOf shape lines i v past →
+        IsOf shape lines i v'
+        (with_moment (with_packet_left past (letter.to, letter.packet))
+        (acted v (outs (out_with_packet v)))) }
+{
+    packet_logged();
+    packets_leave();
+}
+
+/// `Process::pop_piece`.
+pub fn a_piece_leaves()
+    ensures { (shape : Sizes) (lines : List Line) (i : ℕ) (v v' : RankView) (past : Past)
+        (piece : ℕ × Piece) → Some (offered piece) ≡ next_offered v.sending.offers →
+        piece.1.from ≡ v.me → piece.1.number ≡ pushed_to v.sending piece.0 →
+        PopsPiece v v' → IsOf shape lines i v past →
+        IsOf shape lines i v'
+        (with_moment (with_piece_left past piece) (acted v (outs (out_with_piece v)))) }
+{
+    piece_logged();
+    pieces_leave();
+}
+
+/// `Process::take_packet`.
+pub fn a_packet_is_taken()
+    ensures { (shape : Sizes) (lines : List Line) (i : ℕ) (v v' : RankView) (past : Past)
+        (p : Packet) → AreRight v.sizes.ranks [] v.events → p.from < v.sizes.ranks →
+        TakesPacket p v v' → IsOf shape lines i v past →
+        IsOf shape lines i v' (with_moment past (took v p)) }
+{
+    packet_taken();
+    taken_packets_keep_left();
+}
+
+/// `Process::take_piece`, where one of its rank was due (`Rank::is_piece_due`).
+pub fn a_piece_is_taken()
+    ensures { (shape : Sizes) (lines : List Line) (i : ℕ) (v v' : RankView) (past : Past)
+        (q : Piece) → q.from < v.sizes.ranks →
+        drawn_from v.receiving q.from < length (due_pieces v.events q.from) →
+        TakesPiece q v v' → IsOf shape lines i v past →
+        IsOf shape lines i v' (with_moment past (drew v q)) }
+{
+    piece_taken();
+    taken_pieces_keep_left();
+}

@@ -1,8 +1,0 @@
-use Rattle.nm_journal.proofs.JournalLemmas.{added}
-use Rattle.nm_journal.proofs.journals.Journal.add.Goals as goal
-
-pub invariant_of-self : goal.invariant_of-self
-invariant_of-self c =
-    let j = c.self.inside in
-    added j.history.events c.push.new.self.events j.clock c.args.what c.self.invariant
-    (rw (← c.self.view_is) at c.requires.in_time) (rw c.unwrap.ensures at c.push.ensures.ok)

@@ -1,0 +1,9 @@
+pub mod AskedFor
+pub mod Deciding
+pub mod Firsts
+pub mod Looks
+pub mod Pairings
+pub mod Placed
+pub mod Queues
+pub mod Replays
+pub mod SinceAnswer

@@ -1,0 +1,59 @@
+-- Numbers that tell states apart, mostly.
+use Rattle.std.specs.Prelude.{ℕ, ◌+◌, ◌*◌, ◌%◌, ◌^◌, List, fold}
+use Rattle.nm_types.specs.declared.messages.Arrival.{Arrival}
+use Rattle.nm_history.specs.declared.plain.Pair.{Pair}
+use Rattle.nm_outcomes.specs.declared.spots.deeds.Deed.{Deed}
+use Rattle.nm_outcomes.specs.declared.spots.deeds.Deed.TheVariants as deed
+use Rattle.nm_outcomes.specs.declared.spots.deeds.Reply.{Reply}
+use Rattle.nm_outcomes.specs.declared.spots.deeds.Reply.TheVariants as reply
+use Rattle.nm_outcomes.specs.RankStates.{Spot}
+
+-- a number of two numbers
+abbrev pub mixed_lem : ℕ → ℕ → ℕ
+mixed_lem a b = ((a * 11400714819323198485) % 2 ^ 64 + b) % 2 ^ 64
+
+-- a number of an answer
+abbrev pub reply_number : Reply → ℕ
+reply_number reply.Started = 1
+reply_number reply.Busy = 2
+reply_number reply.Null = 3
+reply_number reply.No = 4
+reply_number reply.Nothing = 5
+reply_number reply.Sent = 6
+reply_number (reply.Got from tag line) = mixed_lem (mixed_lem 7 from) line
+reply_number (reply.Cut from tag len) = mixed_lem 8 from
+reply_number reply.Cancelled = 9
+reply_number (reply.Seen seen) = mixed_lem (mixed_lem 10 seen.from) seen.tag
+reply_number reply.Done = 11
+reply_number reply.Late = 12
+reply_number reply.Asked = 13
+
+-- a number of a deed
+abbrev pub deed_number : Deed → ℕ
+deed_number (deed.Send to n tag ctx len how line) = mixed_lem 1 line
+deed_number (deed.Post receive line) = mixed_lem 2 line
+deed_number (deed.Match number from n cap line) = mixed_lem (mixed_lem 3 from) n
+deed_number (deed.Cancel number done) = mixed_lem 4 number
+deed_number (deed.Recall to n) = mixed_lem (mixed_lem 5 to) n
+deed_number (deed.Claim from n line) = mixed_lem (mixed_lem 6 from) n
+deed_number (deed.Ran line r) = mixed_lem (mixed_lem 7 line) (reply_number r)
+
+-- a number of a message
+abbrev pub arrival_number : Arrival → ℕ
+arrival_number a = mixed_lem a.env.from a.n
+
+-- a number of a receive with its message
+abbrev pub pair_number : Pair → ℕ
+pair_number p = mixed_lem p.number (arrival_number p.arrival)
+
+-- a number of messages, in order
+abbrev pub arrivals_number : List Arrival → ℕ
+arrivals_number xs = fold (λ sum a. mixed_lem sum (arrival_number a)) 2 xs
+
+-- a number of the state of a rank
+abbrev pub spot_number : Spot → ℕ
+spot_number spot =
+    mixed_lem
+    (mixed_lem (fold (λ sum d. mixed_lem sum (deed_number d)) 1 spot.deeds)
+    (fold (λ sum p. mixed_lem sum (pair_number p)) 3 spot.pairs))
+    (mixed_lem (arrivals_number spot.free) (arrivals_number spot.came))

@@ -1,0 +1,287 @@
+-- The test whether two states are the same tells whether they are equal.
+use Rattle.std.proofs.Common.{◌≡◌, ℕ, ◌==◌, ◌&&◌, Bool, true, false, List, [], ◌∷◌, refl, sym, ◌∙◌, ap, subst}
+use Rattle.std.specs.Bool.{Decides}
+use Rattle.std.specs.Cmp.{IsEquivalence, unsigned_Decides}
+use Rattle.std.specs.Cmp.Lexicographic.{pointwise}
+use Rattle.std.specs.Hash.{Alike, u64}
+use Rattle.std.proofs.lemmas.Bool.{false≢true}
+use denote.Enum.Bare.{sameb}
+use Rattle.nm_types.proofs.TruthLemmas.{and_left as first, and_right as second, both as and_so}
+use Rattle.nm_types.specs.declared.messages.Arrival.{Arrival}
+use Rattle.nm_types.specs.declared.messages.How.{How}
+use Rattle.nm_types.specs.declared.messages.How.TheVariants as how
+use Rattle.nm_types.specs.declared.messages.Peer.{Peer}
+use Rattle.nm_types.specs.declared.messages.Peer.TheVariants as peer
+use Rattle.nm_types.specs.declared.messages.TagPick.{TagPick}
+use Rattle.nm_types.specs.declared.messages.TagPick.TheVariants as pick
+use Rattle.nm_types.specs.contracts.messages.ArrivalPartialEq.TheImpl.{ghosts as arrival_eq}
+use Rattle.nm_types.specs.contracts.messages.How.{the_type as how_type}
+use Rattle.nm_types.specs.contracts.messages.PeerPartialEq.TheImpl.{ghosts as peer_eq}
+use Rattle.nm_types.specs.contracts.messages.TagPickPartialEq.TheImpl.{ghosts as pick_eq}
+use Rattle.nm_history.specs.declared.plain.Pair.{Pair}
+use Rattle.nm_history.specs.contracts.plain.PairPartialEq.TheImpl.{ghosts as pair_eq}
+use Rattle.nm_outcomes.specs.declared.spots.deeds.Deed.{Deed}
+use Rattle.nm_outcomes.specs.declared.spots.deeds.Deed.TheVariants as deed
+use Rattle.nm_outcomes.specs.declared.spots.deeds.Message.{Message}
+use Rattle.nm_outcomes.specs.declared.spots.deeds.Receive.{Receive}
+use Rattle.nm_outcomes.specs.declared.spots.deeds.Reply.{Reply}
+use Rattle.nm_outcomes.specs.declared.spots.deeds.Reply.TheVariants as reply
+use Rattle.nm_outcomes.specs.contracts.spots.deeds.DeedPartialEq.TheImpl.{ghosts as deed_eq}
+use Rattle.nm_outcomes.specs.contracts.spots.deeds.MessagePartialEq.TheImpl.{ghosts as message_eq}
+use Rattle.nm_outcomes.specs.contracts.spots.deeds.ReceivePartialEq.TheImpl.{ghosts as receive_eq}
+use Rattle.nm_outcomes.specs.contracts.spots.deeds.ReplyPartialEq.TheImpl.{ghosts as reply_eq}
+use Rattle.nm_outcomes.specs.Numbers.{spot_number}
+use Rattle.nm_outcomes.specs.Sames.{same_spots}
+use Rattle.nm_outcomes.specs.RankStates.{Spot}
+
+-- a test tells which values are equal
+abbrev Tells : {X : Type 0} → (X → X → Bool) → Type 0
+Tells {X} E = (x y : X) → Decides (E x y) (x ≡ y)
+
+-- two tests of the parts of a pair
+module _ {A B : Type 0} {E : A → A → Bool} {F : B → B → Bool} where
+  both : Tells E → Tells F → Tells (λ (x y : A × B). E x.0 y.0 && F x.1 y.1)
+  both one two x y = (
+    λ so i. ((one x.0 y.0).0 (first (E x.0 y.0) (F x.1 y.1) so) i, (two x.1 y.1).0 (second (E x.0 y.0) (F x.1 y.1) so) i),
+    λ is. and_so (E x.0 y.0) (F x.1 y.1) ((one x.0 y.0).1 (ap (λ (p : A × B). p.0) is))
+        ((two x.1 y.1).1 (ap (λ (p : A × B). p.1) is)),
+  )
+
+-- the test of what a value is made of
+by_parts : {X T : Type 0} {F : T → T → Bool} (f : X → T) (g : T → X) → ((x : X) → g (f x) ≡ x) → Tells F →
+    Tells (λ (x y : X). F (f x) (f y))
+by_parts {X} {T} f g back tells x y = (
+  λ so. sym (back x) ∙ ap g ((tells (f x) (f y)).0 so) ∙ back y,
+  λ is. (tells (f x) (f y)).1 (ap f is),
+)
+
+-- a test that is true only of equal values, and of each value and itself
+of_self : {X : Type 0} {E : X → X → Bool} → ((x y : X) → E x y ≡ true → x ≡ y) → ((x : X) → E x x ≡ true) → Tells E
+of_self {X} {E} same self x y = (same x y, λ is. subst (λ (z : X). E x z ≡ true) is (self x))
+
+-- lists, element by element
+module _ {X : Type 0} {E : X → X → Bool} (tells : Tells E) where
+  same_items : (xs ys : List X) → pointwise E xs ys ≡ true → xs ≡ ys
+  same_items [] [] so = refl
+  same_items [] (y ∷ ys) so = absurd (false≢true so)
+  same_items (x ∷ xs) [] so = absurd (false≢true so)
+  same_items (x ∷ xs) (y ∷ ys) so =
+      λ i. (tells x y).0 (first (E x y) (pointwise E xs ys) so) i
+      ∷ same_items xs ys (second (E x y) (pointwise E xs ys) so) i
+
+  own_items : (xs : List X) → pointwise E xs xs ≡ true
+  own_items [] = refl
+  own_items (x ∷ xs) = and_so (E x x) (pointwise E xs xs) ((tells x x).1 refl) (own_items xs)
+
+  lists : Tells (pointwise E)
+  lists = of_self same_items own_items
+
+numbers : Tells (λ (x y : ℕ). x == y)
+numbers = unsigned_Decides
+
+same_how : (x y : How) → sameb how_type x y ≡ true → x ≡ y
+same_how how.Eager how.Eager so = refl
+same_how how.Eager how.Ask so = absurd (false≢true so)
+same_how how.Ask how.Eager so = absurd (false≢true so)
+same_how how.Ask how.Ask so = refl
+
+own_how : (x : How) → sameb how_type x x ≡ true
+own_how how.Eager = refl
+own_how how.Ask = refl
+
+hows : Tells (sameb how_type)
+hows = of_self same_how own_how
+
+same_peer : (x y : Peer) → peer_eq.eq x y ≡ true → x ≡ y
+same_peer peer.Any peer.Any so = refl
+same_peer (peer.One a) (peer.One b) so = ap peer.One ((numbers a b).0 so)
+same_peer x y so = absurd (false≢true so)
+
+own_peer : (x : Peer) → peer_eq.eq x x ≡ true
+own_peer peer.Any = refl
+own_peer (peer.One a) = (numbers a a).1 refl
+
+peers : Tells peer_eq.eq
+peers = of_self same_peer own_peer
+
+same_pick : (x y : TagPick) → pick_eq.eq x y ≡ true → x ≡ y
+same_pick pick.Any pick.Any so = refl
+same_pick (pick.One a) (pick.One b) so = ap pick.One ((numbers a b).0 so)
+same_pick x y so = absurd (false≢true so)
+
+own_pick : (x : TagPick) → pick_eq.eq x x ≡ true
+own_pick pick.Any = refl
+own_pick (pick.One a) = (numbers a a).1 refl
+
+picks : Tells pick_eq.eq
+picks = of_self same_pick own_pick
+
+messages : Tells message_eq.eq
+messages =
+    by_parts (λ (m : Message). (m.rank, m.n)) (λ p. record { rank = p.0; n = p.1 }) (λ m. refl) (both numbers numbers)
+
+arrivals : Tells arrival_eq.eq
+arrivals =
+    by_parts (λ (a : Arrival). (a.n, (a.env.from, (a.env.tag, (a.env.ctx, (a.env.len, a.env.how))))))
+    (λ p. record {
+      n = p.0;
+      env = record { from = p.1.0; tag = p.1.1.0; ctx = p.1.1.1.0; len = p.1.1.1.1.0; how = p.1.1.1.1.1 };
+    })
+    (λ a. refl) (both numbers (both numbers (both numbers (both numbers (both numbers hows)))))
+
+pairs : Tells pair_eq.eq
+pairs =
+    by_parts (λ (p : Pair). (p.number, (p.cap, p.arrival)))
+    (λ p. record { number = p.0; cap = p.1.0; arrival = p.1.1 }) (λ p. refl)
+    (both numbers (both numbers arrivals))
+
+receives : Tells receive_eq.eq
+receives =
+    by_parts (λ (r : Receive). (r.number, (r.from, (r.tag, (r.ctx, r.cap)))))
+    (λ p. record { number = p.0; from = p.1.0; tag = p.1.1.0; ctx = p.1.1.1.0; cap = p.1.1.1.1 }) (λ r. refl)
+    (both numbers (both peers (both picks (both numbers numbers))))
+
+two_numbers : Tells (λ (x y : ℕ × ℕ). x.0 == y.0 && x.1 == y.1)
+two_numbers = both numbers numbers
+
+three_numbers : Tells (λ (x y : ℕ × (ℕ × ℕ)). x.0 == y.0 && (x.1.0 == y.1.0 && x.1.1 == y.1.1))
+three_numbers = both numbers two_numbers
+
+same_reply : (x y : Reply) → reply_eq.eq x y ≡ true → x ≡ y
+same_reply reply.Started reply.Started so = refl
+same_reply reply.Busy reply.Busy so = refl
+same_reply reply.Null reply.Null so = refl
+same_reply reply.No reply.No so = refl
+same_reply reply.Nothing reply.Nothing so = refl
+same_reply reply.Sent reply.Sent so = refl
+same_reply (reply.Got a b c) (reply.Got d e f) so =
+    ap (λ (p : ℕ × (ℕ × ℕ)). reply.Got p.0 p.1.0 p.1.1) ((three_numbers (a, (b, c)) (d, (e, f))).0 so)
+same_reply (reply.Cut a b c) (reply.Cut d e f) so =
+    ap (λ (p : ℕ × (ℕ × ℕ)). reply.Cut p.0 p.1.0 p.1.1) ((three_numbers (a, (b, c)) (d, (e, f))).0 so)
+same_reply reply.Cancelled reply.Cancelled so = refl
+same_reply (reply.Seen s) (reply.Seen t) so =
+    ap (λ (p : ℕ × (ℕ × ℕ)). reply.Seen (record { from = p.0; tag = p.1.0; len = p.1.1 }))
+    ((three_numbers (s.from, (s.tag, s.len)) (t.from, (t.tag, t.len))).0 so)
+same_reply reply.Done reply.Done so = refl
+same_reply reply.Late reply.Late so = refl
+same_reply reply.Asked reply.Asked so = refl
+same_reply x y so = absurd (false≢true so)
+
+own_reply : (r : Reply) → reply_eq.eq r r ≡ true
+own_reply reply.Started = refl
+own_reply reply.Busy = refl
+own_reply reply.Null = refl
+own_reply reply.No = refl
+own_reply reply.Nothing = refl
+own_reply reply.Sent = refl
+own_reply (reply.Got a b c) = (three_numbers (a, (b, c)) (a, (b, c))).1 refl
+own_reply (reply.Cut a b c) = (three_numbers (a, (b, c)) (a, (b, c))).1 refl
+own_reply reply.Cancelled = refl
+own_reply (reply.Seen s) = (three_numbers (s.from, (s.tag, s.len)) (s.from, (s.tag, s.len))).1 refl
+own_reply reply.Done = refl
+own_reply reply.Late = refl
+own_reply reply.Asked = refl
+
+replies : Tells reply_eq.eq
+replies = of_self same_reply own_reply
+
+-- what a send, a matched receive and a start are made of
+sends : Tells
+    (λ (x y : ℕ × (ℕ × (ℕ × (ℕ × (ℕ × (How × ℕ)))))).
+    x.0 == y.0
+    && (x.1.0 == y.1.0
+    && (x.1.1.0 == y.1.1.0
+    && (x.1.1.1.0 == y.1.1.1.0
+    && (x.1.1.1.1.0 == y.1.1.1.1.0
+    && (sameb how_type x.1.1.1.1.1.0 y.1.1.1.1.1.0 && x.1.1.1.1.1.1 == y.1.1.1.1.1.1))))))
+sends = both numbers (both numbers (both numbers (both numbers (both numbers (both hows numbers)))))
+
+five_numbers : Tells
+    (λ (x y : ℕ × (ℕ × (ℕ × (ℕ × ℕ)))).
+    x.0 == y.0
+    && (x.1.0 == y.1.0 && (x.1.1.0 == y.1.1.0 && (x.1.1.1.0 == y.1.1.1.0 && x.1.1.1.1 == y.1.1.1.1))))
+five_numbers = both numbers (both numbers three_numbers)
+
+posts : Tells (λ (x y : Receive × ℕ). receive_eq.eq x.0 y.0 && x.1 == y.1)
+posts = both receives numbers
+
+ends : Tells (λ (x y : ℕ × Reply). x.0 == y.0 && reply_eq.eq x.1 y.1)
+ends = both numbers replies
+
+same_cancel : (n m : ℕ) (c d : Bool) → deed_eq.eq (deed.Cancel n c) (deed.Cancel m d) ≡ true →
+    deed.Cancel n c ≡ deed.Cancel m d
+same_cancel n m true true so = ap (λ (k : ℕ). deed.Cancel k true) ((numbers n m).0 (first (n == m) true so))
+same_cancel n m false false so = ap (λ (k : ℕ). deed.Cancel k false) ((numbers n m).0 (first (n == m) true so))
+same_cancel n m true false so = absurd (false≢true (second (n == m) false so))
+same_cancel n m false true so = absurd (false≢true (second (n == m) false so))
+
+same_deed : (x y : Deed) → deed_eq.eq x y ≡ true → x ≡ y
+same_deed (deed.Send a b c d e h l) (deed.Send a' b' c' d' e' h' l') so =
+    ap
+    (λ (p : ℕ × (ℕ × (ℕ × (ℕ × (ℕ × (How × ℕ)))))).
+    deed.Send p.0 p.1.0 p.1.1.0 p.1.1.1.0 p.1.1.1.1.0 p.1.1.1.1.1.0 p.1.1.1.1.1.1)
+    ((sends (a, (b, (c, (d, (e, (h, l)))))) (a', (b', (c', (d', (e', (h', l'))))))).0 so)
+same_deed (deed.Post r l) (deed.Post r' l') so =
+    ap (λ (p : Receive × ℕ). deed.Post p.0 p.1) ((posts (r, l) (r', l')).0 so)
+same_deed (deed.Match a b c d e) (deed.Match a' b' c' d' e') so =
+    ap (λ (p : ℕ × (ℕ × (ℕ × (ℕ × ℕ)))). deed.Match p.0 p.1.0 p.1.1.0 p.1.1.1.0 p.1.1.1.1)
+    ((five_numbers (a, (b, (c, (d, e)))) (a', (b', (c', (d', e'))))).0 so)
+same_deed (deed.Cancel n c) (deed.Cancel m d) so = same_cancel n m c d so
+same_deed (deed.Recall a b) (deed.Recall a' b') so =
+    ap (λ (p : ℕ × ℕ). deed.Recall p.0 p.1) ((two_numbers (a, b) (a', b')).0 so)
+same_deed (deed.Claim a b c) (deed.Claim a' b' c') so =
+    ap (λ (p : ℕ × (ℕ × ℕ)). deed.Claim p.0 p.1.0 p.1.1) ((three_numbers (a, (b, c)) (a', (b', c'))).0 so)
+same_deed (deed.Ran l r) (deed.Ran l' r') so =
+    ap (λ (p : ℕ × Reply). deed.Ran p.0 p.1) ((ends (l, r) (l', r')).0 so)
+same_deed x y so = absurd (false≢true so)
+
+own_deed : (d : Deed) → deed_eq.eq d d ≡ true
+own_deed (deed.Send a b c d e h l) = (sends (a, (b, (c, (d, (e, (h, l)))))) (a, (b, (c, (d, (e, (h, l))))))).1 refl
+own_deed (deed.Post r l) = (posts (r, l) (r, l)).1 refl
+own_deed (deed.Match a b c d e) = (five_numbers (a, (b, (c, (d, e)))) (a, (b, (c, (d, e))))).1 refl
+own_deed (deed.Cancel n true) = and_so (n == n) true ((numbers n n).1 refl) refl
+own_deed (deed.Cancel n false) = and_so (n == n) true ((numbers n n).1 refl) refl
+own_deed (deed.Recall a b) = (two_numbers (a, b) (a, b)).1 refl
+own_deed (deed.Claim a b c) = (three_numbers (a, (b, c)) (a, (b, c))).1 refl
+own_deed (deed.Ran l r) = (ends (l, r) (l, r)).1 refl
+
+deeds : Tells deed_eq.eq
+deeds = of_self same_deed own_deed
+
+-- the test tells which states are equal
+pub same_spot : Tells same_spots
+same_spot =
+    by_parts (λ (s : Spot). (s.deeds, (s.receives, (s.free, (s.pairs, (s.came, s.withdrawn))))))
+    (λ p. record {
+      deeds = p.0;
+      receives = p.1.0;
+      free = p.1.1.0;
+      pairs = p.1.1.1.0;
+      came = p.1.1.1.1.0;
+      withdrawn = p.1.1.1.1.1;
+    })
+    (λ s. refl)
+    (both (lists deeds)
+    (both (lists receives) (both (lists arrivals) (both (lists pairs) (both (lists arrivals) (lists messages))))))
+
+-- a test that tells which values are equal is an equivalence
+module _ {X : Type 0} {E : X → X → Bool} (tells : Tells E) where
+  turned : (x y : X) (a b : Bool) → E x y ≡ a → E y x ≡ b → E x y ≡ E y x
+  turned x y true b one two = subst (λ (z : X). E x z ≡ E z x) ((tells x y).0 one) refl
+  turned x y false true one two = subst (λ (z : X). E z y ≡ E y z) ((tells y x).0 two) refl
+  turned x y false false one two = one ∙ sym two
+
+  equivalence : IsEquivalence E
+  equivalence =
+      record {
+        refl = λ x. (tells x x).1 refl;
+        symm = λ x y. turned x y (E x y) (E y x) refl refl;
+        congr = λ x y z so. ap (λ (w : X). E w z) ((tells x y).0 so);
+      }
+
+pub spots_equiv : IsEquivalence same_spots
+spots_equiv = equivalence same_spot
+
+-- equal states have one number
+pub spots_alike : Alike same_spots (λ (a : Spot). u64 (spot_number a))
+spots_alike = record { fed = λ x y so. ap (λ (a : Spot). u64 (spot_number a)) ((same_spot x y).0 so) }

@@ -1,0 +1,98 @@
+//! Numbers that tell states apart, mostly.
+
+ghost use Rattle.std.specs.Prelude.{◌≡◌, fold};
+ghost use Rattle.nm_outcomes.specs.Numbers.{arrival_number, arrivals_number, deed_number, mixed_lem};
+ghost use Rattle.nm_outcomes.specs.Numbers.{pair_number, reply_number, spot_number};
+
+use crate::spots::deeds::{Deed, Reply};
+use crate::spots::ranks::Rank;
+use nm_history::plain::Pair;
+use nm_types::Arrival;
+
+/// A number of two numbers.
+fn mixed(a: u64, b: u64) -> u64
+    ensures { result ≡ mixed_lem a b }
+{
+    a.wrapping_mul(11_400_714_819_323_198_485).wrapping_add(b)
+}
+
+/// A number of an answer.
+fn of_reply(reply: Reply) -> u64
+    ensures { result ≡ reply_number reply }
+{
+    match reply {
+        Reply::Started => 1,
+        Reply::Busy => 2,
+        Reply::Null => 3,
+        Reply::No => 4,
+        Reply::Nothing => 5,
+        Reply::Sent => 6,
+        Reply::Got { from, line, .. } => mixed(mixed(7, u64::from(from)), u64::from(line)),
+        Reply::Cut { from, .. } => mixed(8, u64::from(from)),
+        Reply::Cancelled => 9,
+        Reply::Seen(seen) => mixed(mixed(10, u64::from(seen.from)), u64::from(seen.tag)),
+        Reply::Done => 11,
+        Reply::Late => 12,
+        Reply::Asked => 13,
+    }
+}
+
+/// A number of a deed.
+fn of_deed(deed: &Deed) -> u64
+    ensures { result ≡ deed_number deed.now }
+{
+    match deed {
+        Deed::Send { line, .. } => mixed(1, u64::from(*line)),
+        Deed::Post { line, .. } => mixed(2, u64::from(*line)),
+        Deed::Match { from, n, .. } => mixed(mixed(3, u64::from(*from)), *n),
+        Deed::Cancel { number, .. } => mixed(4, *number),
+        Deed::Recall { to, n } => mixed(mixed(5, u64::from(*to)), *n),
+        Deed::Claim { from, n, .. } => mixed(mixed(6, u64::from(*from)), *n),
+        Deed::Ran { line, reply } => mixed(mixed(7, u64::from(*line)), of_reply(*reply)),
+    }
+}
+
+/// A number of a message.
+fn of_arrival(a: &Arrival) -> u64
+    ensures { result ≡ arrival_number a.now }
+{
+    mixed(u64::from(a.env.from), a.n)
+}
+
+/// A number of a receive with its message.
+fn of_pair(p: &Pair) -> u64
+    ensures { result ≡ pair_number p.now }
+{
+    mixed(p.number, of_arrival(&p.arrival))
+}
+
+/// A number of messages, in order.
+fn of_arrivals(messages: &[Arrival]) -> u64
+    ensures { result ≡ arrivals_number messages.now }
+{
+    messages.iter().fold(2, |sum, a| mixed(sum, of_arrival(a)))
+}
+
+/// A number of deeds, in order.
+fn of_deeds(deeds: &[Deed]) -> u64
+    ensures { result ≡ fold (λ sum d. mixed_lem sum (deed_number d)) 1 deeds.now }
+{
+    deeds.iter().fold(1, |sum, d| mixed(sum, of_deed(d)))
+}
+
+/// A number of receives with their messages, in order.
+fn of_pairs(pairs: &[Pair]) -> u64
+    ensures { result ≡ fold (λ sum p. mixed_lem sum (pair_number p)) 3 pairs.now }
+{
+    pairs.iter().fold(3, |sum, p| mixed(sum, of_pair(p)))
+}
+
+/// A number of a rank's state.
+pub fn of_rank(rank: &Rank) -> u64
+    ensures { result ≡ spot_number rank.now }
+{
+    mixed(
+        mixed(of_deeds(rank.deeds()), of_pairs(rank.pairs())),
+        mixed(of_arrivals(rank.free()), of_arrivals(rank.came())),
+    )
+}

@@ -1,7 +1,0 @@
-use Rattle.std.proofs.Common.{◌∙◌}
-use Rattle.nm_pairing.proofs.ReplayLemmas.{first_message-followed}
-use Rattle.nm_pairing.proofs.pairings.Pairing.first_message.Goals as goal
-
-pub returns : goal.returns
-returns c = λ rank lines h tells.
-    c.probe.ensures.oldest ∙ first_message-followed h tells.queues c.args.from c.args.tag c.args.ctx

@@ -1,6 +1,0 @@
-use Rattle.nm_pairing.proofs.WalkLemmas.{IsReplayed}
-use Rattle.nm_pairing.proofs.pairings.replay_all.Given as goal
-
--- what is known of the events so far
-abbrev pub invariant-loop-k : goal.invariant-loop-k
-invariant-loop-k l = IsReplayed l.rank l.lines l.events l.k l.replay l.tables l.looks.items

@@ -1,7 +1,0 @@
-use Rattle.nm_pairing.proofs.EventLemmas.{withdrawn_takes}
-use Rattle.nm_pairing.proofs.replays.Replay.withdraw.Goals as goal
-
-pub returns : goal.returns
-returns c = λ h stamp replays.
-    withdrawn_takes replays c.let_go.new.self c.let_go.result stamp c.args.from c.args.n c.let_go.ensures.gone
-    (c.let_go.ensures.queues h replays) c.let_go.ensures.others

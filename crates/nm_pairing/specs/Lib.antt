@@ -1,4 +1,0 @@
-pub mod Looks
-pub mod Pairings
-pub mod Queues
-pub mod Replays

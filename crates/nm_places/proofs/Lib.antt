@@ -1,4 +1,0 @@
-pub mod EachLemmas
-mod EarlyLemmas
-pub mod FirstLemmas
-pub mod StepLemmas

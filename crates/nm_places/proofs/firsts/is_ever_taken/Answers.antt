@@ -1,8 +1,0 @@
-use Rattle.std.proofs.Common.{◌∙◌}
-use Rattle.nm_places.proofs.FirstLemmas.{ever_taken}
-use Rattle.nm_places.proofs.firsts.is_ever_taken.Goals as goal
-
-pub returns : goal.returns
-returns c = λ h taken.
-    c.contains_key.ensures
-    ∙ ever_taken h c.args.rank c.args.n _ (taken (record { rank = c.args.rank; n = c.args.n }))

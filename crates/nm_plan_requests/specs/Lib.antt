@@ -1,4 +1,0 @@
-pub mod Ends
-pub mod Expansion
-pub mod Requests
-pub mod States

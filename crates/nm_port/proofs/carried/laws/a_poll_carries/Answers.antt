@@ -1,0 +1,69 @@
+-- The packet is one of those that came, and has the next number.
+use Rattle.std.proofs.Common.{◌≡◌, ◌⊎◌, ℕ, ◌+◌, ◌==◌, Bool, true, false, cond, Some, List, [], ◌∷◌, ◌++◌}
+use Rattle.std.proofs.Common.{length, refl, sym, ap, ◌∙◌, subst, arith, length-append}
+use Rattle.std.proofs.lemmas.Bool.Decides.{nat_tests}
+use native.Mathlib.Decide.{ℕ_discrete}
+use Rattle.nm_types.specs.declared.packets.Packet.{Packet}
+use Rattle.nm_chain.specs.Update.{pick, update}
+use Rattle.nm_chain.specs.declared.table.table.Entry.{Entry}
+use Rattle.nm_chain.specs.Rule.{Load, from}
+use Rattle.nm_chain.proofs.QueueLemmas.{from_append}
+use Rattle.nm_cells.specs.Counted.{IsOneOf}
+use Rattle.nm_port.specs.CarriedPackets.{AreListed, HasPassed}
+use Rattle.nm_port.proofs.Listed.{listed_more, listed_push}
+use Rattle.nm_port.proofs.carried.laws.a_poll_carries.Goals as goal
+
+listed_on : (e e' : Entry) (boxes cells : List Load) (i : ℕ) (ps : List Packet) →
+    e'.got_box ≡ e.got_box ++ boxes → e'.got ≡ e.got ++ cells →
+    AreListed (from i e.got_box) (from i e.got) ps → AreListed (from i e'.got_box) (from i e'.got) ps
+listed_on e e' boxes cells i ps box cell is =
+    rw (ap (from i) box ∙ from_append i e.got_box boxes, ap (from i) cell ∙ from_append i e.got cells)
+    (listed_more (from i e.got_box) (from i e.got) (from i boxes) (from i cells) ps is)
+
+updated_here : (f : ℕ → ℕ) (k j y : ℕ) → (k == j) ≡ true → update f k y j ≡ y
+updated_here f k j y same = by (ℕ_discrete j k) where
+  by : (d : Dec (j ≡ k)) → pick d y (f j) ≡ y
+  by (yes e) = refl
+  by (no ne) = absurd (ne (is k j same)) where
+    is : (k j : ℕ) → (k == j) ≡ true → j ≡ k
+    is k j same = grind (arith, nat_tests)
+
+updated_else : (f : ℕ → ℕ) (k j y : ℕ) → (k == j) ≡ false → update f k y j ≡ f j
+updated_else f k j y other = by (ℕ_discrete j k) where
+  by : (d : Dec (j ≡ k)) → pick d y (f j) ≡ f j
+  by (no ne) = refl
+  by (yes e) = absurd (isnt k j other e) where
+    isnt : (k j : ℕ) → (k == j) ≡ false → j ≡ k → ⊥
+    isnt k j other e = let equal : (k == j) ≡ true = grind (arith, nat_tests) in clash (k == j) other equal where
+      clash : (b : Bool) → b ≡ false → b ≡ true → ⊥
+      clash b one two = cc
+
+pub returns-clause-some : goal.returns-clause-some
+returns-clause-some c e e' taken taken' boxes cells i p ps box cell number counts there is = by (p.from == i) refl where
+  is_from : (from i : ℕ) → (from == i) ≡ true → from ≡ i
+  is_from from i same = grind (arith, nat_tests)
+
+  by : (b : Bool) → (p.from == i) ≡ b → HasPassed e' (taken' i) i (cond b (ps ++ p ∷ []) ps)
+  by true equal =
+      let own : p.from ≡ i = is_from p.from i equal in
+      let count : taken' i ≡ taken p.from + 1 = ap (λ (f : ℕ → ℕ). f i) counts
+      ∙ updated_here taken p.from i (taken p.from + 1) equal in
+      let before : length ps ≡ taken p.from = is.many ∙ ap taken (sym own) in
+      let longer = length-append ps (p ∷ []) in
+      record {
+        listed = listed_push (from i e'.got_box) (from i e'.got) ps p (number ∙ sym before)
+            (subst (λ k. IsOneOf (Some p) (from k e'.got_box) ⊎ IsOneOf (Some p) (from k e'.got)) own there)
+            (listed_on e e' boxes cells i ps box cell is.listed);
+        many = omega (arith, count, before, longer);
+      }
+  by false differs =
+      let count : taken' i ≡ taken i = ap (λ (f : ℕ → ℕ). f i) counts
+      ∙ updated_else taken p.from i (taken p.from + 1) differs in
+      record {
+        listed = listed_on e e' boxes cells i ps box cell is.listed;
+        many = is.many ∙ sym count;
+      }
+
+pub returns-clause-none : goal.returns-clause-none
+returns-clause-none c e e' t i boxes cells ps box cell is =
+    record { listed = listed_on e e' boxes cells i ps box cell is.listed; many = is.many }

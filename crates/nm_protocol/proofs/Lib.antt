@@ -1,6 +1,0 @@
-pub mod Basic
-pub mod Growing
-pub mod Agreeing
-pub mod Sent
-pub mod Lasting
-pub mod Right

@@ -1,0 +1,106 @@
+//! A history with the clock that stamps its events.
+
+ghost use Rattle.std.specs.Prelude.{◌≡◌, ◌+◌, ◌-◌, ◌<◌, ◌≤◌, [], ◌∷◌, ◌++◌, max, OnOk};
+ghost use Rattle.nm_types.specs.declared.limits.TheConstants.{MAX_STAMP};
+ghost use Rattle.nm_history.specs.Clock.{stamped};
+ghost use Rattle.nm_rank.specs.Journals.{IsJournal};
+
+use nm_history::{Event, Happened, History};
+use nm_types::{MAX_STAMP, Memory};
+use std::alloc::Global;
+use std::marker::Model;
+
+/// What happened at a rank, and its clock, which is 0 at the start.
+pub struct Journal {
+    history: History,
+    clock: u64,
+}
+
+impl Drop for Journal {
+    fn drop(self) {
+        let Journal {
+            history: _,
+            clock: _,
+        } = self;
+    }
+}
+
+impl Model for Journal {
+    ghost use Rattle.nm_rank.specs.Journals.{IsJournal, JournalView};
+
+    ghost Value = { JournalView };
+
+    ghost view = { λ j.
+        record { events = j.history.events; clock = j.clock; spare = j.history.spare } };
+
+    ghost invariant = { λ j. IsJournal j.history.events j.clock };
+}
+
+impl Journal {
+    /// Nothing happened.
+    pub fn new(alloc: Global) -> Self
+        ensures events { result.events ≡ [] }
+        ensures clock { result.clock ≡ 0 }
+    {
+        Journal {
+            history: History::new(alloc),
+            clock: 0,
+        }
+    }
+
+    /// The clock: the stamp of the last event, or a greater one that a packet brought.
+    pub fn clock(&self) -> u64
+        ensures value { result ≡ self.now.clock }
+        ensures in_time { self.now.clock ≤ MAX_STAMP }
+    {
+        self.clock
+    }
+
+    /// What happened, oldest first.
+    pub fn history(&self) -> &History
+        ensures events { result.now.events ≡ self.now.events }
+        ensures lawful { IsJournal self.now.events self.now.clock }
+    {
+        &self.history
+    }
+
+    /// What happened, oldest first, when the journal is used no more.
+    pub fn into_history(self) -> History
+        ensures events { result.events ≡ self.events }
+        ensures lawful { IsJournal self.events self.clock }
+    {
+        let Journal { history, clock: _ } = self;
+        history
+    }
+
+    /// Makes room for this many events more.
+    pub fn reserve(&mut self, extra: usize) -> Result<(), Memory>
+        ensures same { self.new ≡ record self.old { spare = self.new.spare } }
+        ensures kept { self.old.spare ≤ self.new.spare }
+        ensures ok { OnOk result (extra ≤ self.new.spare) }
+    {
+        self.history.reserve(extra)
+    }
+
+    /// Sets the clock forward to a packet's stamp, if it isn't there yet.
+    pub fn raise(&mut self, stamp: u64)
+        requires { stamp ≤ MAX_STAMP }
+        ensures { self.new ≡ record self.old { clock = max self.old.clock stamp } }
+    {
+        self.clock = self.clock.max(stamp);
+    }
+
+    /// Records what happened, one tick later. There is room for it.
+    pub fn add(&mut self, what: Happened)
+        requires room { 0 < self.old.spare }
+        requires in_time { self.old.clock < MAX_STAMP }
+        ensures events { self.new.events
+            ≡ self.old.events ++ stamped self.old.clock (what ∷ []) }
+        ensures clock { self.new.clock ≡ self.old.clock + 1 }
+        ensures room { self.old.spare ≤ self.new.spare + 1 }
+    {
+        self.clock += 1;
+        let stamp = self.clock;
+        self.history.push(Event { stamp, what }).unwrap();
+    }
+}

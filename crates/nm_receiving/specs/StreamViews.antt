@@ -1,0 +1,64 @@
+-- What contracts see of what a rank knows of another, and what must be asked of its own history.
+use Rattle.std.specs.Prelude.{◌≡◌, ℕ, ◌<◌, Bool, true, false, is_some, List}
+use Rattle.nm_types.specs.declared.messages.How.TheVariants as how
+use Rattle.nm_types.specs.declared.packets.Packet.{Packet}
+use Rattle.nm_types.specs.declared.packets.What.{What}
+use Rattle.nm_types.specs.declared.packets.What.TheVariants.{Ask, Clear}
+use Rattle.nm_types.specs.declared.packets.What.TheVariants.{Withdraw, Withdrawn}
+use Rattle.nm_history.specs.declared.events.Event.{Event}
+use Rattle.nm_history.specs.Delivery.{is_asked}
+use Rattle.nm_history.specs.Happens.{happened, is_recall}
+use Rattle.nm_history.specs.Matching.{first_receive, is_free_message, matched_pairs}
+use Rattle.nm_history.specs.Sends.{sends}
+use Rattle.nm_history.specs.Continues.{continues}
+use Rattle.nm_history.specs.Effects.{is_empty_send}
+use Rattle.nm_history.specs.Known.{Known}
+
+-- numbers of messages, and the room for more
+pub record Noted : Type 0 where
+  pub numbers : List ℕ
+  pub spare : ℕ
+
+-- the room for more in each list of what is known
+pub record Room : Type 0 where
+  pub withdrawn : ℕ
+  pub cleared : ℕ
+  pub answered : ℕ
+  pub undone : ℕ
+
+-- what the packets of a rank told, and the room for more
+pub record Told : Type 0 where
+  pub known : Known
+  pub room : Room
+
+-- there is room for what the packet tells
+abbrev pub HasRoom : Room → What → Type 0
+HasRoom room (Clear n) = 0 < room.cleared
+HasRoom room (Withdraw n) = 0 < room.withdrawn
+HasRoom room (Withdrawn n done) = (0 < room.answered) × (0 < room.undone)
+HasRoom room _ = Unit {0}
+
+-- the packet continues its stream: by this eager limit, at a rank with this history
+pub record IsContinued (known : Known) (p : Packet) : Type 0 where
+  pub eager : ℕ
+  pub history : List Event
+  pub continued : continues eager known history p ≡ true
+
+-- The rank with this history called for the packet: it clears a message that was sent by asking, or
+-- answers a recall. No packet of its sender's own messages was called for.
+abbrev pub is_called_for : List Event → ℕ → What → Bool
+is_called_for h from (Clear n) = is_asked (sends h from) n
+is_called_for h from (Withdrawn n done) = happened (is_recall from n) h
+is_called_for h from _ = false
+
+-- What the packet asks of the rank with this history is done at once: an open receive takes the
+-- announced message, the cleared one has an empty body, the one to be withdrawn is free. No other
+-- packet asks for anything.
+abbrev pub is_done_at_once : List Event → ℕ → What → Bool
+is_done_at_once h from (Ask tag ctx len) =
+    is_some
+    (first_receive h (matched_pairs h)
+    (record { from = from; tag = tag; ctx = ctx; len = len; how = how.Ask }))
+is_done_at_once h from (Clear n) = is_empty_send h from n
+is_done_at_once h from (Withdraw n) = is_free_message h (matched_pairs h) from n
+is_done_at_once h from _ = false

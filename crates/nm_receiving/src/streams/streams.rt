@@ -1,0 +1,273 @@
+//! What a rank knows of another by its packets.
+
+ghost use Rattle.std.specs.Prelude.{◌≡◌, ◌≤◌, ◌==◌, ◌&&◌, List, length, min, not, IsTrue, OnOk};
+ghost use Rattle.nm_types.specs.declared.limits.TheConstants.{MAX_PAYLOAD};
+ghost use Rattle.nm_history.specs.declared.events.Event.{Event};
+ghost use Rattle.nm_history.specs.Continues.{continues as continues_lem};
+ghost use Rattle.nm_history.specs.Continues.{has};
+ghost use Rattle.nm_history.specs.Continues.{continues_stream as continues_stream_lem};
+ghost use Rattle.nm_history.specs.declared.events.Happened.TheVariants as event;
+ghost use Rattle.nm_history.specs.Effects.{next_arrival, packet_events};
+ghost use Rattle.nm_history.specs.Known.{learned, nothing_known};
+ghost use Rattle.nm_receiving.specs.Made.{all_made};
+ghost use Rattle.nm_receiving.specs.StreamViews.{HasRoom, IsContinued, is_called_for, is_done_at_once};
+
+use crate::streams::effects::{Made, whole_if};
+use crate::streams::numbers::Numbers;
+use nm_history::Happened;
+use nm_types::{
+    Arrival, Envelope, How, MAX_BODY, MAX_PAYLOAD, MAX_STAMP, MAX_TAG, Memory, Packet, What,
+};
+use std::alloc::Global;
+use std::marker::Model;
+
+/// From this stamp on a packet is a stray.
+const WORN: u64 = MAX_STAMP - 15;
+
+/// What the packets of one rank tell the rank that takes them.
+///
+/// Each call takes constant time, whatever came before.
+pub struct Stream {
+    count: u64,
+    // how many bytes the last message still lacks
+    missing: u32,
+    withdrawn: Numbers,
+    cleared: Numbers,
+    answered: Numbers,
+    // those answered that were withdrawn
+    undone: Numbers,
+}
+
+impl Drop for Stream {
+    fn drop(self) {
+        let Stream {
+            count: _,
+            missing: _,
+            withdrawn: _,
+            cleared: _,
+            answered: _,
+            undone: _,
+        } = self;
+    }
+}
+
+impl Model for Stream {
+    ghost use Rattle.std.specs.Prelude.{◌≡◌, ℕ, true};
+    ghost use Rattle.nm_history.specs.Continues.{has};
+    ghost use Rattle.nm_receiving.specs.StreamViews.{Told};
+
+    ghost Value = { Told };
+
+    ghost view = { λ s.
+        record {
+          known = record {
+            count = s.count;
+            missing = s.missing;
+            withdrawn = s.withdrawn.numbers;
+            cleared = s.cleared.numbers;
+            answered = s.answered.numbers;
+            undone = s.undone.numbers;
+          };
+          room = record {
+            withdrawn = s.withdrawn.spare;
+            cleared = s.cleared.spare;
+            answered = s.answered.spare;
+            undone = s.undone.spare;
+          };
+        } };
+
+    ghost invariant = { λ s.
+        (n : ℕ) → has s.undone.numbers n ≡ true → has s.answered.numbers n ≡ true };
+}
+
+/// How many bytes the next packet carries of a message that lacks so many.
+fn part_of(missing: u32) -> usize
+    ensures { result ≡ min MAX_PAYLOAD missing }
+{
+    u32::from(MAX_PAYLOAD).min(missing) as usize
+}
+
+impl Stream {
+    /// Nothing came.
+    pub fn new(alloc: Global) -> Self
+        ensures { result.known ≡ nothing_known }
+    {
+        Stream {
+            count: 0,
+            missing: 0,
+            withdrawn: Numbers::new(alloc),
+            cleared: Numbers::new(alloc),
+            answered: Numbers::new(alloc),
+            undone: Numbers::new(alloc),
+        }
+    }
+
+    /// How many messages were announced. The next one has this number.
+    pub fn count(&self) -> u64
+        ensures { result ≡ self.now.known.count }
+    {
+        self.count
+    }
+
+    /// How many bytes the last message still lacks; 0 where none is unfinished.
+    pub fn missing(&self) -> u32
+        ensures { result ≡ self.now.known.missing }
+    {
+        self.missing
+    }
+
+    /// Whether a packet continues its stream, at a rank with this eager limit, in bytes.
+    /// `called_for` is whether the rank called for the packet, which only the rank's own history
+    /// says: it clears a message that was sent by asking, or answers a recall.
+    pub fn continues(&self, eager: u16, packet: &Packet, called_for: bool) -> bool
+        ensures value { (h : List Event)
+            → called_for ≡ is_called_for h packet.now.from packet.now.what
+            → result ≡ continues_lem eager self.now.known h packet.now }
+        ensures continued { IsTrue result → IsContinued self.now.known packet.now }
+    {
+        let size = packet.payload.as_slice().len();
+        if packet.stamp >= WORN {
+            return false;
+        }
+        match packet.what {
+            What::Clear { n } => called_for && self.can_clear(n, size),
+            What::Withdrawn { n, done } => called_for && self.can_answer(n, done, size),
+            _ => self.continues_own(eager, packet.what, size),
+        }
+    }
+
+    /// Whether a message can be cleared: it is not, and was not withdrawn.
+    fn can_clear(&self, n: u64, size: usize) -> bool
+        ensures { result
+            ≡ (not (has self.now.known.cleared n) && not (has self.now.known.undone n)
+            && size == 0) }
+    {
+        !self.cleared.has(n) && !self.undone.has(n) && size == 0
+    }
+
+    /// Whether a recall can be answered so: it has no answer, and no cleared message is withdrawn.
+    fn can_answer(&self, n: u64, done: bool, size: usize) -> bool
+        ensures { result
+            ≡ (not (has self.now.known.answered n)
+            && not (done && has self.now.known.cleared n) && size == 0) }
+    {
+        !self.answered.has(n) && !(done && self.cleared.has(n)) && size == 0
+    }
+
+    /// Whether a packet of its sender's own messages continues, with a payload of this size.
+    fn continues_own(&self, eager: u16, what: What, size: usize) -> bool
+        ensures { result ≡ continues_stream_lem eager self.now.known what size }
+    {
+        match what {
+            What::Head { tag, len, .. } => {
+                self.missing == 0
+                    && len <= u32::from(eager)
+                    && tag <= MAX_TAG
+                    && size == part_of(len)
+            }
+            What::More { n } => {
+                0 < self.missing
+                    && n < self.count
+                    && n + 1 == self.count
+                    && size == part_of(self.missing)
+            }
+            What::Ask { tag, len, .. } => {
+                self.missing == 0 && len <= MAX_BODY && tag <= MAX_TAG && size == 0
+            }
+            What::Withdraw { n } => {
+                self.missing == 0 && n < self.count && !self.withdrawn.has(n) && size == 0
+            }
+            What::Clear { .. } | What::Withdrawn { .. } => false,
+        }
+    }
+
+    /// Makes room for what a packet tells. What is known stays.
+    pub fn reserve(&mut self, what: What) -> Result<(), Memory>
+        ensures ready { OnOk result (HasRoom self.new.room what) }
+        ensures same { self.new.known ≡ self.old.known }
+    {
+        match what {
+            What::Clear { .. } => self.cleared.reserve()?,
+            What::Withdraw { .. } => self.withdrawn.reserve()?,
+            What::Withdrawn { .. } => {
+                self.answered.reserve()?;
+                self.undone.reserve()?;
+            }
+            What::Head { .. } | What::More { .. } | What::Ask { .. } => {}
+        }
+        Ok(())
+    }
+
+    /// Learns what a packet tells that continues its stream. No more messages were announced than
+    /// packets came before it.
+    pub fn learn(&mut self, packet: &Packet)
+        requires continues { IsContinued self.old.known packet.now }
+        requires in_turn { self.old.known.count ≤ packet.now.seq }
+        requires room { HasRoom self.old.room packet.now.what }
+        ensures { self.new.known
+            ≡ learned self.old.known packet.now.what (length packet.now.payload) }
+    {
+        let size = packet.payload.as_slice().len() as u32;
+        match packet.what {
+            What::Head { len, .. } => {
+                self.count += 1;
+                self.missing = len.saturating_sub(size);
+            }
+            What::More { .. } => self.missing = self.missing.saturating_sub(size),
+            What::Ask { .. } => self.count += 1,
+            What::Clear { n } => self.cleared.add(n),
+            What::Withdraw { n } => self.withdrawn.add(n),
+            What::Withdrawn { n, done } => {
+                self.answered.add(n);
+                if done {
+                    self.undone.add(n);
+                }
+            }
+        }
+    }
+
+    /// The next message, as its sender announces it.
+    fn arrival(&self, from: u8, tag: u16, ctx: u8, len: u32, how: How) -> Option<Happened>
+        ensures { result ≡ Some (event.Arrive (next_arrival self.now.known from tag ctx len how)) }
+    {
+        let env = Envelope {
+            from,
+            tag,
+            ctx,
+            len,
+            how,
+        };
+        let a = Arrival { n: self.count, env };
+        Some(Happened::Arrive { a })
+    }
+
+    /// What a packet makes happen that continues its stream, before it is learned, at a rank where
+    /// what it asks for is done at once or is not.
+    pub fn events(&self, packet: &Packet, done_at_once: bool) -> Made
+        ensures { (h : List Event)
+            → done_at_once ≡ is_done_at_once h packet.now.from packet.now.what
+            → all_made result ≡ packet_events self.now.known h packet.now.from packet.now.what
+            (length packet.now.payload) }
+    {
+        let from = packet.from;
+        let size = packet.payload.as_slice().len() as u32;
+        match packet.what {
+            What::Head { tag, ctx, len } => Made {
+                first: self.arrival(from, tag, ctx, len, How::Eager),
+                second: whole_if(len == size, from, self.count),
+            },
+            What::More { n } => Made::one(whole_if(self.missing == size, from, n)),
+            What::Ask { tag, ctx, len } => Made {
+                first: self.arrival(from, tag, ctx, len, How::Ask),
+                second: whole_if(len == 0 && done_at_once, from, self.count),
+            },
+            What::Clear { n } if done_at_once => Made::one(Some(Happened::Out { to: from, n })),
+            What::Clear { .. } => Made::one(None),
+            What::Withdraw { n } => {
+                let done = done_at_once;
+                Made::one(Some(Happened::Withdraw { from, n, done }))
+            }
+            What::Withdrawn { n, done } => Made::one(Some(Happened::Undone { to: from, n, done })),
+        }
+    }
+}

@@ -1,0 +1,12 @@
+-- A new actor stands at its first command.
+use Rattle.std.proofs.Common.{ℕ, sym, subst}
+use Rattle.nm_cells.specs.Ports.{IsNew}
+use Rattle.nm_copyring.specs.Ports as ring_port
+use Rattle.nm_rows.proofs.world.tests.sender_at.Goals as goal
+
+pub three_turns-requires : goal.three_turns-requires
+three_turns-requires c =
+    let own = sym c.requires.new.0.1 in
+    c.in_ok-sender.ensures.stands c.args.f.now c.args.r.now c.requires.lines c.requires.ranks
+    (subst (λ (n : ℕ). IsNew c.args.f.now c.args.port n) own c.requires.new.0)
+    (subst (λ (n : ℕ). ring_port.IsNew c.args.r.now c.args.ring n) own c.requires.new.1)

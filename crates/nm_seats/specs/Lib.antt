@@ -1,4 +1,0 @@
-pub mod Spoken
-pub mod Total
-pub mod Update
-pub mod Window

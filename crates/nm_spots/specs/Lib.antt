@@ -1,6 +1,0 @@
-pub mod Deeds
-pub mod Looks
-pub mod Numbers
-pub mod SameLaws
-pub mod Sames
-pub mod Spots

@@ -1,2 +1,0 @@
--- what stays the same
-mod Still

@@ -1,5 +1,0 @@
-mod ContinueLemmas
-pub mod DueLemmas
-pub mod GrantLemmas
-mod NumberLemmas
-pub mod PieceLemmas

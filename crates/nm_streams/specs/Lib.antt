@@ -1,3 +1,0 @@
-pub mod Made
-pub mod Pieces
-pub mod Streams

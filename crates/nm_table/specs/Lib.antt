@@ -1,5 +1,0 @@
-pub mod Slots
-pub mod Looks
-pub mod NextBox
-pub mod Plays
-pub mod Rule

@@ -1,4 +1,0 @@
-pub mod Answers
-pub mod Endings
-pub mod Sentences
-pub mod Texts

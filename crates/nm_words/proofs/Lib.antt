@@ -1,5 +1,0 @@
-pub mod DigitLemmas
-pub mod LineLemmas
-pub mod NumberLemmas
-pub mod StepLemmas
-pub mod WordLemmas

@@ -1,3 +1,0 @@
-pub mod Decimal
-pub mod Digits
-pub mod Lines

@@ -1,8 +1,0 @@
--- Refused: a synchronous send that is complete when its asking has left.
-use Rattle.nm_history.specs.Matching.{matched_pairs, is_free_message}
-use Rattle.nm_history.specs.AtEach.{AtEach, in_turn}
-use Rattle.nm_worked.specs.LeftUntaken.{IsLawful}
-
-pub wrong : ¬ IsLawful
-unfolding matched_pairs is_free_message AtEach in_turn
-wrong r = let h = r.outs in cc

@@ -1,8 +1,0 @@
--- Refused: a message that is withdrawn though its sender did not ask for it.
-use Rattle.nm_history.specs.Matching.{matched_pairs, is_free_message}
-use Rattle.nm_history.specs.AtEach.{AtEach, in_turn}
-use Rattle.nm_worked.specs.WithdrawnUnasked.{IsLawful}
-
-pub wrong : ¬ IsLawful
-unfolding matched_pairs is_free_message AtEach in_turn
-wrong r = let h = r.withdrawals.asked in cc

@@ -1,2 +1,0 @@
-mod PairLemmas
-mod LineLemmas

@@ -1,8 +1,0 @@
-//! The worked rows of turns by calls, in which an actor's probe sees the packet that came last, and of
-//! calls on the desk that several threads share.
-#![tactic(auto)]
-
-#[cfg(test)]
-mod desks;
-#[cfg(test)]
-mod tests;

@@ -1,0 +1,7 @@
+mod Fronts
+mod Lanes
+mod QueueFronts
+mod StandingLemmas
+mod StepLemmas
+mod StoryLemmas
+mod Ways

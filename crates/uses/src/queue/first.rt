@@ -1,0 +1,30 @@
+//! The first cell of an own queue.
+
+ghost use Rattle.std.specs.Prelude.{◌≡◌, IfNone, IfSome};
+ghost use Rattle.nm_cells.specs.Ports.{Owns, IsOwn, Takes, is_receive, knows};
+ghost use Rattle.uses.specs.QueueCrossings.{SameLists};
+
+use nm_cells::{Cell, Fabric, Port, Queue};
+use nm_queue::dequeue;
+use nm_chain::seats::Steps;
+use std::sync::ledger::Ledger;
+
+/// Takes the first cell of an own queue, or none where that one had a miss.
+pub fn take_first<L: Ledger>(
+    f: &Fabric,
+    port: &mut Port,
+    q: Queue,
+    steps: &mut Steps<L>,
+) -> Option<Cell>
+    requires owns { Owns f.now port.old }
+    requires own { IsOwn port.old q }
+    ensures owns { Owns f.now port.new × (port.new.rank ≡ port.old.rank) }
+    ensures took { IfSome result (Takes (is_receive q) f.now port.old port.new) }
+    ensures none { IfNone result (SameLists (knows port.old) (knows port.new)
+        × (port.new.hands ≡ port.old.hands)) }
+{
+    match dequeue(f, port, q, steps) {
+        Ok(cell) => Some(cell),
+        Err(_) => None,
+    }
+}
