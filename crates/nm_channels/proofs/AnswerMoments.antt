@@ -14,7 +14,7 @@ use Rattle.nm_history.specs.Underway.{is_answer}
 use Rattle.nm_history.specs.Known.{Known, known_by}
 use Rattle.nm_history.specs.Effects.{happenings, packet_events, whole_if, is_empty_send}
 use Rattle.nm_history.specs.Pieces.{Pulled, Due, piece_makes, is_due}
-use Rattle.nm_channels.specs.Moments.{Moment, Cause, history_of, taken_from, EachMomentAfter}
+use Rattle.nm_channels.specs.Moments.{LogEntry, Cause, history_of, taken_from, EachMomentAfter}
 use Rattle.nm_channels.specs.Moments.Cause.{Acted, Took, Drew}
 use Rattle.nm_channels.specs.Sound.{AreSound, MayHappen, MadeBy, OwnEvent}
 use Rattle.nm_channels.proofs.Delivering.{history-push}
@@ -22,11 +22,11 @@ use Rattle.nm_types.proofs.ListLemmas.{all_append}
 use Rattle.nm_history.proofs.Right.{append_after}
 
 -- the moment of an event that the rank did by itself
-pub record OwnMoment (eager : ℕ) (bodies : Sent → List ℕ) (commands : List Numbered) (log : List Moment)
+pub record OwnMoment (eager : ℕ) (bodies : Sent → List ℕ) (commands : List Numbered) (log : List LogEntry)
     (h : List Event) (e : Event) : Type 0 where
-  pub before : List Moment
-  pub moment : Moment
-  pub after : List Moment
+  pub before : List LogEntry
+  pub moment : LogEntry
+  pub after : List LogEntry
   pub split : log ≡ before ++ moment ∷ after
   pub acted : moment.cause ≡ Acted
   pub early : List Event
@@ -38,14 +38,14 @@ pub record OwnMoment (eager : ℕ) (bodies : Sent → List ℕ) (commands : List
   pub own : OwnEvent eager bodies commands before h e.stamp e.what
 
 -- an answer is of such a moment
-abbrev pub AnswerIn : ℕ → (Sent → List ℕ) → List Numbered → List Moment → List Event → Event → Type 0
+abbrev pub AnswerIn : ℕ → (Sent → List ℕ) → List Numbered → List LogEntry → List Event → Event → Type 0
 AnswerIn eager bodies commands log h e = is_answer e.what ≡ true → OwnMoment eager bodies commands log h e
 
 -- what happens is no answer
 abbrev NoAnswer : Happened → Type 0
 NoAnswer w = is_answer w ≡ false
 
-none_answers : (eager : ℕ) (bodies : Sent → List ℕ) (commands : List Numbered) (log : List Moment)
+none_answers : (eager : ℕ) (bodies : Sent → List ℕ) (commands : List Numbered) (log : List LogEntry)
     (h events : List Event) → AllByRecursion NoAnswer (happenings events) →
     AtEachAfter (AnswerIn eager bodies commands log) h events
 none_answers eager bodies commands log h [] none = tt
@@ -55,8 +55,8 @@ none_answers eager bodies commands log h (e ∷ events) none = (
       (h ++ e ∷ []) events none.1,
 )
 
-own_answers : (eager : ℕ) (bodies : Sent → List ℕ) (commands : List Numbered) (log before : List Moment)
-    (moment : Moment) (after : List Moment) → log ≡ before ++ moment ∷ after → moment.cause ≡ Acted →
+own_answers : (eager : ℕ) (bodies : Sent → List ℕ) (commands : List Numbered) (log before : List LogEntry)
+    (moment : LogEntry) (after : List LogEntry) → log ≡ before ++ moment ∷ after → moment.cause ≡ Acted →
     AtEachAfter (λ h e. OwnEvent eager bodies commands before h e.stamp e.what) (history_of before) moment.events →
     (early events : List Event) → moment.events ≡ early ++ events →
     AtEachAfter (λ h e. OwnEvent eager bodies commands before h e.stamp e.what) (history_of before ++ early) events →
@@ -107,7 +107,7 @@ piece_no_answer : (from : ℕ) (o : Option Due) (d : Pulled) → AllByRecursion 
 piece_no_answer from None d = tt
 piece_no_answer from (Some due) d = whole_no_answer (is_due d.piece due && due.last) from d.piece.n
 
-log_answers : (eager : ℕ) (bodies : Sent → List ℕ) (commands : List Numbered) (whole before log : List Moment) →
+log_answers : (eager : ℕ) (bodies : Sent → List ℕ) (commands : List Numbered) (whole before log : List LogEntry) →
     whole ≡ before ++ log → EachMomentAfter (MayHappen eager bodies commands) before log →
     AtEachAfter (AnswerIn eager bodies commands whole) (history_of before) (history_of log)
 log_answers eager bodies commands whole before [] split sound = tt
@@ -140,7 +140,7 @@ log_answers eager bodies commands whole before (m ∷ log) split sound =
         (subst (λ (ws : List Happened). AllByRecursion NoAnswer ws) (sym made.2) (piece_no_answer d.piece.from _ d))
 
 -- each answer of a log has its moment
-pub answers_have_moments : (eager : ℕ) (bodies : Sent → List ℕ) (commands : List Numbered) (log : List Moment) →
+pub answers_have_moments : (eager : ℕ) (bodies : Sent → List ℕ) (commands : List Numbered) (log : List LogEntry) →
     AreSound eager bodies commands log → AtEach (AnswerIn eager bodies commands log) (history_of log)
 unfolding AtEach
 answers_have_moments eager bodies commands log sound = log_answers eager bodies commands log [] log refl sound

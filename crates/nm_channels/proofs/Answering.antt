@@ -14,7 +14,7 @@ use Rattle.nm_history.specs.Sends.{Sent, sends, sent_of, is_ask}
 use Rattle.nm_history.specs.Happens.{happened, is_recall}
 use Rattle.nm_history.specs.Delivery.{is_asked, earlier_than}
 use Rattle.nm_channels.proofs.Streams.{clashes, NoClash}
-use Rattle.nm_channels.specs.Moments.{Moment, Cause, history_of, taken_from, taken_of, clock_at, clock_after, clock_of}
+use Rattle.nm_channels.specs.Moments.{LogEntry, Cause, history_of, taken_from, taken_of, clock_at, clock_after, clock_of}
 use Rattle.nm_channels.specs.Moments.{EachMomentAfter}
 use Rattle.nm_channels.specs.Sound.{AreSound, MayHappen, MadeBy}
 use Rattle.nm_history.specs.Clock.{AreStamped}
@@ -176,7 +176,7 @@ clock_past clock (Took t) = omega arith
 clock_past clock (Drew d) = omega arith
 
 -- later moments have greater stamps
-later_stamps : (eager : ℕ) (bodies : Sent → List ℕ) (commands : List Numbered) (before log : List Moment) →
+later_stamps : (eager : ℕ) (bodies : Sent → List ℕ) (commands : List Numbered) (before log : List LogEntry) →
     EachMomentAfter (MayHappen eager bodies commands) before log → AllByRecursion (λ e. clock_of before < e.stamp)
     (history_of log)
 later_stamps eager bodies commands before [] sound = tt
@@ -221,7 +221,7 @@ one_goes eager i known before late whole seen t source same after made is apart 
     made ∙ rw (lt_true t.packet.stamp WORN_STAMP in_time, other) fits
 
 log_answers : (eager : ℕ) (bodies : Sent → List ℕ) (commands : List Numbered) (i : ℕ) (whole : List Event)
-    (before log : List Moment) → EachMomentAfter (MayHappen eager bodies commands) before log →
+    (before log : List LogEntry) → EachMomentAfter (MayHappen eager bodies commands) before log →
     history_of before ++ history_of log ≡ whole →
     (seen : List What) → KnownSeen (known_by (taken_from i before)) seen → NoClash seen (whats (taken_from i log)) →
     AllByRecursion Bare (taken_from i log) → AllByRecursion (λ t. t.packet.stamp < WORN_STAMP) (taken_from i log) →
@@ -292,7 +292,7 @@ log_answers eager bodies commands i whole before (m ∷ log) sound same seen is 
             )
 
 -- the answers of a rank that were asked for continued
-pub answers_go : (eager : ℕ) (bodies : Sent → List ℕ) (commands : List Numbered) (i : ℕ) (log : List Moment) →
+pub answers_go : (eager : ℕ) (bodies : Sent → List ℕ) (commands : List Numbered) (i : ℕ) (log : List LogEntry) →
     AreSound eager bodies commands log → NoClash [] (whats (taken_from i log)) →
     AllByRecursion Bare (taken_from i log) →
     AllByRecursion (λ t. t.packet.stamp < WORN_STAMP) (taken_from i log) → AllByRecursion (Goes i (history_of log))

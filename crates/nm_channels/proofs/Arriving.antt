@@ -15,7 +15,7 @@ use Rattle.nm_history.specs.declared.events.Happened.TheVariants.{Arrive, Out}
 use Rattle.nm_history.specs.AtEach.{AtEachAfter}
 use Rattle.nm_history.specs.Sends.{Sent, Arrived, arrivals, arrived_of, arrival_of}
 use Rattle.nm_channels.proofs.Streams.{Announced, announced_as, announced_by, announced, StreamIsRight}
-use Rattle.nm_channels.specs.Moments.{Moment, Cause, history_of, taken_from, taken_of, clock_at, clock_of}
+use Rattle.nm_channels.specs.Moments.{LogEntry, Cause, history_of, taken_from, taken_of, clock_at, clock_of}
 use Rattle.nm_channels.specs.Moments.{EachMomentAfter}
 use Rattle.nm_channels.specs.Sound.{MayHappen, MadeBy, OwnEvent}
 use Rattle.nm_history.specs.Clock.{AreStamped}
@@ -57,7 +57,7 @@ no_whole_arrives : (b : Bool) (from n : ℕ) → arrivals_in (whole_if b from n)
 no_whole_arrives true from n = refl
 no_whole_arrives false from n = refl
 
-pub own_none : (eager : ℕ) (bodies : Sent → List ℕ) (commands : List Numbered) (log : List Moment)
+pub own_none : (eager : ℕ) (bodies : Sent → List ℕ) (commands : List Numbered) (log : List LogEntry)
     (h events : List Event) → AtEachAfter (λ h e. OwnEvent eager bodies commands log h e.stamp e.what) h events →
     arrivals_in (happenings events) ≡ []
 own_none eager bodies commands log h [] own = refl
@@ -156,7 +156,7 @@ here_announced i t = by_source (t.packet.from == i) where
   by_source true = refl
   by_source false = refl
 
-cause_arrives : (eager : ℕ) (bodies : Sent → List ℕ) (commands : List Numbered) (before : List Moment) (i clock : ℕ)
+cause_arrives : (eager : ℕ) (bodies : Sent → List ℕ) (commands : List Numbered) (before : List LogEntry) (i clock : ℕ)
     (c : Cause) (events : List Event) →
     MadeBy eager bodies commands before c events → AreStamped (clock_at clock c) events →
     AllZip ArrivedAs (announced (cons_option (taken_of i c) [])) (arrivals events i)
@@ -179,7 +179,7 @@ announced-cons i c packets = by_option (taken_of i c) where
     by_packet (Some m) = refl
 
 -- the arrivals of a rank are the messages that its packets announced
-pub arrivals_announced : (eager : ℕ) (bodies : Sent → List ℕ) (commands : List Numbered) (before log : List Moment)
+pub arrivals_announced : (eager : ℕ) (bodies : Sent → List ℕ) (commands : List Numbered) (before log : List LogEntry)
     (i : ℕ) → EachMomentAfter (MayHappen eager bodies commands) before log →
     AllZip ArrivedAs (announced (taken_from i log)) (arrivals (history_of log) i)
 arrivals_announced eager bodies commands before [] i sound = tt
@@ -189,10 +189,10 @@ arrivals_announced eager bodies commands before (m ∷ log) i sound =
     sound.0.made sound.0.stamped)
     (arrivals_announced eager bodies commands (before ++ m ∷ []) log i sound.1))
 
-pub known-push : (before : List Moment) (m : Moment) (i : ℕ) → known_by (taken_from i (before ++ m ∷ []))
+pub known-push : (before : List LogEntry) (m : LogEntry) (i : ℕ) → known_by (taken_from i (before ++ m ∷ []))
     ≡ fold known_after (known_by (taken_from i before)) (cons_option (taken_of i m.cause) [])
 known-push before m i =
-    ap (λ (ts : List Taken). known_by ts) (filter_map-append (λ (m : Moment). taken_of i m.cause) before (m ∷ []))
+    ap (λ (ts : List Taken). known_by ts) (filter_map-append (λ (m : LogEntry). taken_of i m.cause) before (m ∷ []))
     ∙ fold-append known_after nothing_known (taken_from i before) (cons_option (taken_of i m.cause) [])
 
 stream_test : (eager : ℕ) (known : Known) (h : List Event) (from size : ℕ) (worn : Bool) (w : What) (continued : Bool)
@@ -208,7 +208,7 @@ stream_test eager known h from size false w continued other same = by_kind (is_o
   by_kind false = tt
 
 -- of the packets of a rank's own messages those continued that continue by the packets before
-pub stream_is_right : (eager : ℕ) (bodies : Sent → List ℕ) (commands : List Numbered) (before log : List Moment)
+pub stream_is_right : (eager : ℕ) (bodies : Sent → List ℕ) (commands : List Numbered) (before log : List LogEntry)
     (i : ℕ) → EachMomentAfter (MayHappen eager bodies commands) before log →
     StreamIsRight eager (known_by (taken_from i before)) (taken_from i log)
 stream_is_right eager bodies commands before [] i sound = tt

@@ -30,7 +30,7 @@ use Rattle.nm_history.proofs.AtEachLemmas.{AtEach-split, AtEach-from_splits}
 use Rattle.nm_history.proofs.OnceLemmas.{find_among}
 use Rattle.nm_history.specs.Effects.{happenings}
 use Rattle.nm_history.specs.Pieces.{Pulled, Due, count_continued}
-use Rattle.nm_channels.specs.Moments.{Moment, history_of, EachMomentAfter}
+use Rattle.nm_channels.specs.Moments.{LogEntry, history_of, EachMomentAfter}
 use Rattle.nm_history.proofs.Basic.{self_true, on_test}
 use Rattle.nm_channels.proofs.Numbers.{SentBefore, pairs_came, send_at}
 use Rattle.nm_channels.proofs.Granting.{same_sent}
@@ -49,10 +49,10 @@ use Rattle.nm_types.proofs.ListLemmas.{find_passes, find_some, front_empty}
 use Rattle.nm_history.proofs.EachLemmas.{pieces_count as called_count}
 
 -- the rest of a sound log
-pub sound_rest : (R : List Moment → Moment → Type 0) (before xs ys : List Moment) → EachMomentAfter R before
+pub sound_rest : (R : List LogEntry → LogEntry → Type 0) (before xs ys : List LogEntry) → EachMomentAfter R before
     (xs ++ ys) → EachMomentAfter R (before ++ xs) ys
-sound_rest R before [] ys sound = subst (λ (l : List Moment). EachMomentAfter R l ys) (sym (append-nil before)) sound
-sound_rest R before (x ∷ xs) ys sound = subst (λ (l : List Moment). EachMomentAfter R l ys)
+sound_rest R before [] ys sound = subst (λ (l : List LogEntry). EachMomentAfter R l ys) (sym (append-nil before)) sound
+sound_rest R before (x ∷ xs) ys sound = subst (λ (l : List LogEntry). EachMomentAfter R l ys)
     (append_assoc before (x ∷ []) xs) (sound_rest R (before ++ x ∷ []) xs ys sound.1)
 
 -- a message is whole once
@@ -201,7 +201,7 @@ messages_in [] = refl
 messages_in (e ∷ events) = ap (λ (as' : List Arrival). cons_option (arrival_of e.what) as') (messages_in events)
 
 -- within a moment of its own a rank takes no message in
-pub own_messages : (eager : ℕ) (bodies : Sent → List ℕ) (commands : List Numbered) (log : List Moment)
+pub own_messages : (eager : ℕ) (bodies : Sent → List ℕ) (commands : List Numbered) (log : List LogEntry)
     (h : List Event) (e : Event) (own : OwnMoment eager bodies commands log h e) →
     messages h ≡ messages (history_of own.before)
 own_messages eager bodies commands log h e own =

@@ -13,7 +13,7 @@ use Rattle.nm_history.specs.Known.{Taken, known_by, nothing_known}
 use Rattle.nm_history.specs.Continues.{has}
 use Rattle.nm_history.specs.Pieces.{Pulled, Due, due_pieces, granted, count_continued}
 use Rattle.nm_history.specs.Bytes.{eager_bytes, piece_bytes}
-use Rattle.nm_channels.specs.Moments.{Moment, Cause, history_of, taken_from, taken_of, pulled_from, pulled_of}
+use Rattle.nm_channels.specs.Moments.{LogEntry, Cause, history_of, taken_from, taken_of, pulled_from, pulled_of}
 use Rattle.nm_channels.specs.Moments.{EachMomentAfter}
 use Rattle.nm_channels.specs.Moments.Cause.{Acted}
 use Rattle.nm_channels.specs.Sound.{AreSound, MayHappen}
@@ -37,24 +37,24 @@ use Rattle.nm_types.proofs.TruthLemmas.{or_left, or_right, and_left, and_right}
 use Rattle.nm_types.proofs.ListLemmas.{all_split, all_along}
 
 -- a moment of the rank's own takes no packet and no piece
-pub taken_around : (i : ℕ) (before : List Moment) (m : Moment) (after : List Moment) → m.cause ≡ Acted →
+pub taken_around : (i : ℕ) (before : List LogEntry) (m : LogEntry) (after : List LogEntry) → m.cause ≡ Acted →
     taken_from i (before ++ m ∷ after) ≡ taken_from i before ++ taken_from i after
 taken_around i before m after acted =
-    filter_map-append (λ (m : Moment). taken_of i m.cause) before (m ∷ after)
+    filter_map-append (λ (m : LogEntry). taken_of i m.cause) before (m ∷ after)
     ∙ ap (λ (c : Cause). taken_from i before ++ cons_option (taken_of i c) (taken_from i after)) acted
 
-pub pulled_around : (i : ℕ) (before : List Moment) (m : Moment) (after : List Moment) → m.cause ≡ Acted →
+pub pulled_around : (i : ℕ) (before : List LogEntry) (m : LogEntry) (after : List LogEntry) → m.cause ≡ Acted →
     pulled_from i (before ++ m ∷ after) ≡ pulled_from i before ++ pulled_from i after
 pulled_around i before m after acted =
-    filter_map-append (λ (m : Moment). pulled_of i m.cause) before (m ∷ after)
+    filter_map-append (λ (m : LogEntry). pulled_of i m.cause) before (m ∷ after)
     ∙ ap (λ (c : Cause). pulled_from i before ++ cons_option (pulled_of i c) (pulled_from i after)) acted
 
-sound_after : (eager : ℕ) (bodies : Sent → List ℕ) (commands : List Numbered) (log before : List Moment) (m : Moment)
-    (after : List Moment) → AreSound eager bodies commands log → log ≡ before ++ m ∷ after →
+sound_after : (eager : ℕ) (bodies : Sent → List ℕ) (commands : List Numbered) (log before : List LogEntry) (m : LogEntry)
+    (after : List LogEntry) → AreSound eager bodies commands log → log ≡ before ++ m ∷ after →
     EachMomentAfter (MayHappen eager bodies commands) (before ++ m ∷ []) after
 sound_after eager bodies commands log before m after sound split =
     sound_rest (MayHappen eager bodies commands) [] (before ++ m ∷ []) after
-    (subst (λ (l : List Moment). EachMomentAfter (MayHappen eager bodies commands) [] l)
+    (subst (λ (l : List LogEntry). EachMomentAfter (MayHappen eager bodies commands) [] l)
     (split ∙ sym (append_assoc before (m ∷ []) after)) sound)
 
 eager_has : (n : ℕ) (ss : List Sent) (k i : ℕ) (s : Sent) → n ≡ k + i → NumberedFrom (λ (s : Sent). s.n) k ss →
@@ -74,8 +74,8 @@ eager_has n (x ∷ ss) k (suc i) s is numbered at eager = skip (not (is_ask x.ho
       skip false found = found
 
 -- all bytes of an eager message that is whole have come
-pub eager_came : (eager i n : ℕ) (bodies : Sent → List ℕ) (commands : List Numbered) (log before : List Moment)
-    (m : Moment) (after : List Moment) (ss : List Sent) (s : Sent) → AreSound eager bodies commands log →
+pub eager_came : (eager i n : ℕ) (bodies : Sent → List ℕ) (commands : List Numbered) (log before : List LogEntry)
+    (m : LogEntry) (after : List LogEntry) (ss : List Sent) (s : Sent) → AreSound eager bodies commands log →
     log ≡ before ++ m ∷ after → m.cause ≡ Acted →
     InTime (taken_from i log) → completed nothing_known (taken_from i log) ≡ eager_numbers ss →
     NumberedFrom (λ (s : Sent). s.n) 0 ss → slice_get ss n ≡ Some s → is_ask s.how ≡ false →
@@ -84,7 +84,7 @@ pub eager_came : (eager i n : ℕ) (bodies : Sent → List ℕ) (commands : List
 eager_came eager i n bodies commands log before m after ss s sound split acted in_time complete numbered at how_is
     never =
     let taken : taken_from i log ≡ taken_from i before ++ taken_from i after =
-    ap (λ (l : List Moment). taken_from i l) split ∙ taken_around i before m after acted in
+    ap (λ (l : List LogEntry). taken_from i l) split ∙ taken_around i before m after acted in
     let known_here : taken_from i (before ++ m ∷ []) ≡ taken_from i before = taken_around i before m [] acted
     ∙ append-nil (taken_from i before) in
     let later = subst (λ (ts : List Taken). AllByRecursion (IsHere i (history_of after))
@@ -110,8 +110,8 @@ eager_came eager i n bodies commands log before m after ss s sound split acted i
     ∙ ap (λ (ts : List Taken). eager_bytes n nothing_known ts) (sym taken)
 
 -- all bytes of a message with a body that is whole have come in its pieces
-pub pieces_came : (eager i n : ℕ) (bodies : Sent → List ℕ) (commands : List Numbered) (log before : List Moment)
-    (m : Moment) (after : List Moment) (cs : List CalledPiece) → AreSound eager bodies commands log →
+pub pieces_came : (eager i n : ℕ) (bodies : Sent → List ℕ) (commands : List Numbered) (log before : List LogEntry)
+    (m : LogEntry) (after : List LogEntry) (cs : List CalledPiece) → AreSound eager bodies commands log →
     log ≡ before ++ m ∷ after → m.cause ≡ Acted →
     AllPairs TwoMessages (matched_pairs (history_of log)) → AllZip Matches cs (due_pieces (history_of log) i) →
     AreCalledPieces i 0 cs (map (λ d. d.piece) (pulled_from i log)) → AllByRecursion (λ d. d.continued ≡ true)
@@ -121,7 +121,7 @@ pub pieces_came : (eager i n : ℕ) (bodies : Sent → List ℕ) (commands : Lis
     piece_bytes n (pulled_from i before) ≡ piece_bytes n (pulled_from i log)
 pieces_came eager i n bodies commands log before m after cs sound split acted two zip called goes found never =
     let pulled : pulled_from i log ≡ pulled_from i before ++ pulled_from i after =
-    ap (λ (l : List Moment). pulled_from i l) split ∙ pulled_around i before m after acted in
+    ap (λ (l : List LogEntry). pulled_from i l) split ∙ pulled_around i before m after acted in
     let here : pulled_from i (before ++ m ∷ []) ≡ pulled_from i before = pulled_around i before m [] acted
     ∙ append-nil (pulled_from i before) in
     let goes_parts = all_split (λ (d : Pulled). d.continued ≡ true) (pulled_from i before) (pulled_from i after)

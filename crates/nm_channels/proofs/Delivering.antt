@@ -21,7 +21,7 @@ use Rattle.nm_history.proofs.DeliveryLemmas.{AtEach-along, sends-push}
 use Rattle.nm_history.specs.Rules.{IsRightAt}
 use Rattle.nm_channels.proofs.Streams.{Announced, announced, StreamIsRight, completed, Announces, StreamGoes, SenderAt}
 use Rattle.nm_channels.proofs.Streams.{eager_numbers, StreamContinued}
-use Rattle.nm_channels.specs.Moments.{Moment, Cause, history_of, taken_from, EachMomentAfter}
+use Rattle.nm_channels.specs.Moments.{LogEntry, Cause, history_of, taken_from, EachMomentAfter}
 use Rattle.nm_channels.specs.Sound.{AreSound, MayHappen, MadeBy, OwnEvent, IsSendable}
 use Rattle.nm_history.specs.Effects.{happenings, packet_makes, ask_ends, whole_if}
 use Rattle.nm_history.specs.Known.{Known, Taken, nothing_known, known_by}
@@ -88,7 +88,7 @@ in_order i (s ∷ ss) (m ∷ ms) (a ∷ as') announced arrived =
 
 -- the sender's packets continued, and its messages arrived
 pub stream_arrives : (eager i j : ℕ) (bodies bodies' : Sent → List ℕ) (commands : List Numbered) (hi : List Event)
-    (log : List Moment) →
+    (log : List LogEntry) →
     AtEach (λ before e. SenderAt eager bodies before e.stamp e.what) hi → AreSound eager bodies' commands log →
     Carries i 0 (outgoing bodies hi j) (taken_from i log) → InTime (taken_from i log) →
     AllByRecursion StreamContinued (taken_from i log) × ArriveInOrder i (sends hi j) (arrivals (history_of log) i)
@@ -127,7 +127,7 @@ no_sends eager bodies before (e ∷ events) none =
       by_what (Send to n tag ctx len how line) none = absurd none
       by_what w none = tt
 
-own_sends : (eager : ℕ) (bodies : Sent → List ℕ) (commands : List Numbered) (log : List Moment)
+own_sends : (eager : ℕ) (bodies : Sent → List ℕ) (commands : List Numbered) (log : List LogEntry)
     (h events : List Event) → AtEachAfter (λ h e. OwnEvent eager bodies commands log h e.stamp e.what) h events →
     AtEachAfter (LogSenderAt eager bodies) h events
 own_sends eager bodies commands log h [] own = tt
@@ -155,7 +155,7 @@ packet_sends_none known h from size (what.Clear m) = all_append IsNoSend _ [] (b
 packet_sends_none known h from size (what.Withdraw m) = (tt, tt)
 packet_sends_none known h from size (what.Withdrawn m done) = (tt, tt)
 
-cause_sends : (eager : ℕ) (bodies : Sent → List ℕ) (commands : List Numbered) (before : List Moment) (c : Cause)
+cause_sends : (eager : ℕ) (bodies : Sent → List ℕ) (commands : List Numbered) (before : List LogEntry) (c : Cause)
     (events : List Event) → MadeBy eager bodies commands before c events → AtEachAfter (LogSenderAt eager bodies)
     (history_of before) events
 cause_sends eager bodies commands before Acted events made = own_sends eager bodies commands before
@@ -176,15 +176,15 @@ cause_sends eager bodies commands before (Drew d) events made = no_sends eager b
       by_due None = tt
       by_due (Some due) = no_whole_sends (is_due d.piece due && due.last) d.piece.from d.piece.n
 
-pub history-append : (log more : List Moment) → history_of (log ++ more) ≡ history_of log ++ history_of more
+pub history-append : (log more : List LogEntry) → history_of (log ++ more) ≡ history_of log ++ history_of more
 history-append [] more = refl
 history-append (m ∷ log) more = ap (λ (h : List Event). m.events ++ h) (history-append log more)
     ∙ sym (append_assoc m.events (history_of log) (history_of more))
 
-pub history-push : (log : List Moment) (m : Moment) → history_of (log ++ m ∷ []) ≡ history_of log ++ m.events
+pub history-push : (log : List LogEntry) (m : LogEntry) → history_of (log ++ m ∷ []) ≡ history_of log ++ m.events
 history-push log m = history-append log (m ∷ []) ∙ ap (λ (h : List Event). history_of log ++ h) (append-nil m.events)
 
-log_sends : (eager : ℕ) (bodies : Sent → List ℕ) (commands : List Numbered) (before log : List Moment) →
+log_sends : (eager : ℕ) (bodies : Sent → List ℕ) (commands : List Numbered) (before log : List LogEntry) →
     EachMomentAfter (MayHappen eager bodies commands) before log → AtEachAfter (LogSenderAt eager bodies)
     (history_of before) (history_of log)
 log_sends eager bodies commands before [] sound = tt
@@ -194,13 +194,13 @@ log_sends eager bodies commands before (m ∷ log) sound =
     (subst (λ (k : List Event). AtEachAfter (LogSenderAt eager bodies) k (history_of log)) (history-push before m)
     (log_sends eager bodies commands (before ++ m ∷ []) log sound.1))
 
-sound_sends : (eager : ℕ) (bodies : Sent → List ℕ) (commands : List Numbered) (log : List Moment) →
+sound_sends : (eager : ℕ) (bodies : Sent → List ℕ) (commands : List Numbered) (log : List LogEntry) →
     AreSound eager bodies commands log → AtEach (LogSenderAt eager bodies) (history_of log)
 unfolding AtEach
 sound_sends eager bodies commands log sound = log_sends eager bodies commands [] log sound
 
 -- the sends and recalls of a rank's run are in order
-pub sender_at : (eager ranks : ℕ) (bodies : Sent → List ℕ) (commands : List Numbered) (log : List Moment) →
+pub sender_at : (eager ranks : ℕ) (bodies : Sent → List ℕ) (commands : List Numbered) (log : List LogEntry) →
     AreSound eager bodies commands log → Always (NumberAt ranks) (history_of log) → Always (CancelAt commands)
     (history_of log) →
     AtEach (λ before e. SenderAt eager bodies before e.stamp e.what) (history_of log)
@@ -227,7 +227,7 @@ sender_at eager ranks bodies commands log sound numbers cancels =
     all_three before stamp w numbers own number cancel = tt
 
 -- the same by the rules that commands play no part in
-pub sender_right : (eager ranks : ℕ) (bodies : Sent → List ℕ) (commands : List Numbered) (log : List Moment) →
+pub sender_right : (eager ranks : ℕ) (bodies : Sent → List ℕ) (commands : List Numbered) (log : List LogEntry) →
     AreSound eager bodies commands log → AtEach (λ before e. IsRightAt ranks before e.what) (history_of log) →
     AtEach (λ before e. SenderAt eager bodies before e.stamp e.what) (history_of log)
 sender_right eager ranks bodies commands log sound right =

@@ -16,7 +16,7 @@ use Rattle.nm_history.specs.AtEach.{AtEach, AtEachAfter}
 use Rattle.nm_history.specs.Sends.{Sent, sends}
 use Rattle.nm_history.specs.Delivery.{is_asked}
 use Rattle.nm_channels.proofs.Streams.{clear_of, cleared_by}
-use Rattle.nm_channels.specs.Moments.{Moment, Cause, history_of, taken_from, taken_of, clock_at, clock_after, clock_of}
+use Rattle.nm_channels.specs.Moments.{LogEntry, Cause, history_of, taken_from, taken_of, clock_at, clock_after, clock_of}
 use Rattle.nm_channels.specs.Moments.{EachMomentAfter}
 use Rattle.nm_channels.specs.Sound.{AreSound, MayHappen, MadeBy, OwnEvent}
 use Rattle.nm_history.specs.Clearance.{to_push, pushed_out}
@@ -172,7 +172,7 @@ abbrev Past : (Taken → Type 0) → ℕ → Taken → Type 0
 Past P clock t = P t × (t.packet.stamp ≤ clock)
 
 own_made : (eager : ℕ) (bodies : Sent → List ℕ) (commands : List Numbered) (P : Taken → Type 0) (i : ℕ)
-    (log : List Moment) (clock now : ℕ) (h events : List Event) → clock ≤ now → AllByRecursion (Past P clock)
+    (log : List LogEntry) (clock now : ℕ) (h events : List Event) → clock ≤ now → AllByRecursion (Past P clock)
     (taken_from i log) →
     AtEachAfter (λ h e. OwnEvent eager bodies commands log h e.stamp e.what) h events → AreStamped now events →
     AtEachAfter (MadeAt P i) h events
@@ -220,7 +220,7 @@ past_max : (clock stamp : ℕ) → stamp ≤ max clock stamp
 past_max clock stamp = omega arith
 
 cause_made : (eager : ℕ) (bodies : Sent → List ℕ) (commands : List Numbered) (P : Taken → Type 0) (i : ℕ)
-    (before : List Moment) (c : Cause) (events : List Event) → MadeBy eager bodies commands before c events →
+    (before : List LogEntry) (c : Cause) (events : List Event) → MadeBy eager bodies commands before c events →
     AreStamped (clock_at (clock_of before) c) events → AllByRecursion P (cons_option (taken_of i c) []) →
     AllByRecursion (Past P (clock_of before)) (taken_from i before) → AtEachAfter (MadeAt P i)
     (history_of before) events
@@ -250,7 +250,7 @@ split_cons : (P : Taken → Type 0) (o : Option Taken) (ts : List Taken) → All
 split_cons P None ts each = (tt, each)
 split_cons P (Some t) ts each = ((each.0, tt), each.1)
 
-new_past : (P : Taken → Type 0) (i clock : ℕ) (m : Moment) → AllByRecursion P (cons_option (taken_of i m.cause) []) →
+new_past : (P : Taken → Type 0) (i clock : ℕ) (m : LogEntry) → AllByRecursion P (cons_option (taken_of i m.cause) []) →
     AllByRecursion (Past P (clock_after clock m)) (cons_option (taken_of i m.cause) [])
 new_past P i clock m new = by_cause m.cause new where
   by_cause : (c : Cause) → AllByRecursion P (cons_option (taken_of i c) []) →
@@ -263,7 +263,7 @@ new_past P i clock m new = by_cause m.cause new where
     by_test true new = ((new.0, omega arith), tt)
     by_test false new = tt
 
-clock_rises : (clock : ℕ) (m : Moment) → clock ≤ clock_after clock m
+clock_rises : (clock : ℕ) (m : LogEntry) → clock ≤ clock_after clock m
 clock_rises clock m = by_cause m.cause where
   by_cause : (c : Cause) → clock ≤ clock_at clock c + length m.events
   by_cause (Took t) = omega arith
@@ -271,7 +271,7 @@ clock_rises clock m = by_cause m.cause where
   by_cause (Drew d) = omega arith
 
 log_made : (eager : ℕ) (bodies : Sent → List ℕ) (commands : List Numbered) (P : Taken → Type 0) (i : ℕ)
-    (before log : List Moment) → EachMomentAfter (MayHappen eager bodies commands) before log →
+    (before log : List LogEntry) → EachMomentAfter (MayHappen eager bodies commands) before log →
     AllByRecursion P (taken_from i log) →
     AllByRecursion (Past P (clock_of before)) (taken_from i before) → AtEachAfter (MadeAt P i) (history_of before)
     (history_of log)
@@ -290,11 +290,11 @@ log_made eager bodies commands P i before (m ∷ log) sound each past =
     (log_made eager bodies commands P i (before ++ m ∷ []) log sound.1 parts.1
     (subst (λ (c : ℕ). AllByRecursion (Past P c) (taken_from i (before ++ m ∷ []))) (sym clock)
     (subst (λ (ts : List Taken). AllByRecursion (Past P (clock_after (clock_of before) m)) ts)
-    (sym (filter_map-append (λ (m : Moment). taken_of i m.cause) before (m ∷ []))) all))))
+    (sym (filter_map-append (λ (m : LogEntry). taken_of i m.cause) before (m ∷ []))) all))))
 
 -- the packets that made a rank's withdrawals, answers to recalls and departures
 pub packets_made : (eager : ℕ) (bodies : Sent → List ℕ) (commands : List Numbered) (P : Taken → Type 0) (i : ℕ)
-    (log : List Moment) → AreSound eager bodies commands log → AllByRecursion P (taken_from i log) →
+    (log : List LogEntry) → AreSound eager bodies commands log → AllByRecursion P (taken_from i log) →
     AtEach (MadeAt P i) (history_of log)
 unfolding AtEach
 packets_made eager bodies commands P i log sound each = log_made eager bodies commands P i [] log sound each tt

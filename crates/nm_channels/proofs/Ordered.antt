@@ -24,7 +24,7 @@ use Rattle.nm_history.specs.Delivery.{is_asked, earlier_than, WithdrawAfterRecal
 use Rattle.nm_history.specs.Delivery.{Withdrawals}
 use Rattle.nm_history.proofs.MatchingLemmas.{matched_pairs-push, matched_pairs-append}
 use Rattle.nm_history.proofs.DeliveryLemmas.{AtEach-along}
-use Rattle.nm_channels.specs.Moments.{Moment, history_of, taken_from}
+use Rattle.nm_channels.specs.Moments.{LogEntry, history_of, taken_from}
 use Rattle.nm_channels.specs.Sound.{AreSound}
 use Rattle.nm_channels.proofs.Causes.{Source, HasSource}
 use Rattle.nm_channels.proofs.Made.{MadeAt, MadeByPacket, packets_made}
@@ -141,7 +141,7 @@ left i j hj before stamp w stamps made = tt
 
 -- withdrawals and answers are in order
 pub withdrawals_in_order : (eager : ℕ) (i j : ℕ) (bi bj : Sent → List ℕ) (ci cj : List Numbered)
-    (li lj : List Moment) → AreSound eager bi ci li → AreSound eager bj cj lj →
+    (li lj : List LogEntry) → AreSound eager bi ci li → AreSound eager bj cj lj →
     AllByRecursion (HasSource j (history_of li)) (taken_from i lj) → AllByRecursion (HasSource i (history_of lj))
     (taken_from j li) → Withdrawals i j (history_of li) (history_of lj)
 withdrawals_in_order eager i j bi bj ci cj li lj sound_i sound_j there back =
@@ -159,7 +159,7 @@ withdrawals_in_order eager i j bi bj ci cj li lj sound_i sound_j there back =
     }
 
 -- asked messages leave after they were paired
-pub outs_in_order : (eager : ℕ) (i j : ℕ) (bi : Sent → List ℕ) (ci : List Numbered) (li : List Moment)
+pub outs_in_order : (eager : ℕ) (i j : ℕ) (bi : Sent → List ℕ) (ci : List Numbered) (li : List LogEntry)
     (hj : List Event) → AreSound eager bi ci li → AtEach (λ before e. StampAt before e.stamp) hj →
     AllByRecursion (HasSource i hj) (taken_from j li) → AtEach (λ before e. OutAfterPair i j hj before e.stamp e.what)
     (history_of li)

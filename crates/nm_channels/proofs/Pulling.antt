@@ -15,7 +15,7 @@ use Rattle.nm_history.specs.Outgoing.{CalledPiece, AreCalledPieces, IsCalledPiec
 use Rattle.nm_history.specs.Effects.{happenings, whole_if}
 use Rattle.nm_history.specs.Pieces.{Pulled, Due, due_pieces, count_continued, is_due, piece_makes}
 use Rattle.nm_history.proofs.Growing.{due_pieces-append, count_continued-push}
-use Rattle.nm_channels.specs.Moments.{Moment, Cause, history_of, pulled_from, pulled_of, EachMomentAfter}
+use Rattle.nm_channels.specs.Moments.{LogEntry, Cause, history_of, pulled_from, pulled_of, EachMomentAfter}
 use Rattle.nm_channels.specs.Moments.Cause.{Acted, Took, Drew}
 use Rattle.nm_channels.specs.Sound.{AreSound, MayHappen, MadeBy}
 use Rattle.nm_history.proofs.Basic.{self_true, happened_in}
@@ -44,9 +44,9 @@ is_due_one i num c due q matches called =
       eq_true (length q.bytes) due.size (ap (λ (bytes : List ℕ). length bytes) called.same ∙ matches.size),
     ) refl
 
-pub pulled-push : (i : ℕ) (before : List Moment) (m : Moment) → pulled_from i (before ++ m ∷ [])
+pub pulled-push : (i : ℕ) (before : List LogEntry) (m : LogEntry) → pulled_from i (before ++ m ∷ [])
     ≡ pulled_from i before ++ cons_option (pulled_of i m.cause) []
-pulled-push i before m = filter_map-append (λ (m : Moment). pulled_of i m.cause) before (m ∷ [])
+pulled-push i before m = filter_map-append (λ (m : LogEntry). pulled_of i m.cause) before (m ∷ [])
 
 later_whole : (i : ℕ) (events h : List Event) (dues : List Due) → AllByRecursion (LastIsWhole i h) dues →
     AllByRecursion (LastIsWhole i (events ++ h)) dues
@@ -127,7 +127,7 @@ last_pull i whole before num [] past (due ∷ dues) is count zip called = absurd
 last_pull i whole before num (c ∷ rest) past dues is count zip called = absurd called
 
 pub log_pulls : (eager : ℕ) (bodies : Sent → List ℕ) (commands : List Numbered) (i : ℕ) (whole : List Event)
-    (before log : List Moment) → EachMomentAfter (MayHappen eager bodies commands) before log →
+    (before log : List LogEntry) → EachMomentAfter (MayHappen eager bodies commands) before log →
     whole ≡ history_of before ++ history_of log →
     Pulls i whole (pulled_from i before) (pulled_from i log) (history_of log)
 log_pulls eager bodies commands i whole before [] sound split = last_pull i whole (pulled_from i before)
@@ -167,7 +167,7 @@ log_pulls eager bodies commands i whole before (m ∷ log) sound split =
 
 -- the pieces of a rank that are those due all continued, and each message whose last piece was due
 -- is whole
-pub pieces_go : (eager : ℕ) (bodies : Sent → List ℕ) (commands : List Numbered) (i : ℕ) (log : List Moment)
+pub pieces_go : (eager : ℕ) (bodies : Sent → List ℕ) (commands : List Numbered) (i : ℕ) (log : List LogEntry)
     (called : List CalledPiece) → AreSound eager bodies commands log →
     AllZip Matches called (due_pieces (history_of log) i) →
     AreCalledPieces i 0 called (map (λ d. d.piece) (pulled_from i log)) → AllByRecursion (λ d. d.continued ≡ true)

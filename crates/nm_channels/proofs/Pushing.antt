@@ -23,7 +23,7 @@ use Rattle.nm_history.specs.Continues.{continues, continues_answer, continues_st
 use Rattle.nm_history.specs.Effects.{happenings, is_empty_send, packet_events, whole_if}
 use Rattle.nm_history.specs.Clearance.{to_push, left_of, pushed_out}
 use Rattle.nm_history.specs.Pieces.{Pulled, Due, piece_makes, is_due}
-use Rattle.nm_channels.specs.Moments.{Moment, Cause, history_of, taken_from, taken_of, EachMomentAfter}
+use Rattle.nm_channels.specs.Moments.{LogEntry, Cause, history_of, taken_from, taken_of, EachMomentAfter}
 use Rattle.nm_channels.specs.Moments.Cause.{Acted, Took, Drew}
 use Rattle.nm_channels.specs.Sound.{AreSound, MayHappen, MadeBy, OwnEvent}
 use Rattle.nm_channels.specs.Ends.{ClearedHaveLeft}
@@ -111,7 +111,7 @@ turn_push whole j h e known n leaves turn was =
 
 -- an event of the rank's own
 own_push : (ranks eager : ℕ) (bodies : Sent → List ℕ) (commands : List Numbered) (whole : List Event) (j : ℕ)
-    (log : List Moment) (h : List Event) (e : Event) → IsFront ranks whole h →
+    (log : List LogEntry) (h : List Event) (e : Event) → IsFront ranks whole h →
     OwnEvent eager bodies commands log h e.stamp e.what → EndAt h e.what →
     Pushes whole j h (known_by (taken_from j log)) → Pushes whole j (h ++ e ∷ []) (known_by (taken_from j log))
 own_push ranks eager bodies commands whole j log h e of' own end' was = by_left (left_of whole j e.what) refl where
@@ -161,7 +161,7 @@ own_push ranks eager bodies commands whole j log h e of' own end' was = by_left 
   by_left (Some n) leaves = turn_push whole j h e known n leaves (in_turn e.what n own end' leaves) was
 
 own_pushes : (ranks eager : ℕ) (bodies : Sent → List ℕ) (commands : List Numbered) (whole : List Event) (j : ℕ)
-    (log : List Moment) (h events : List Event) → IsFront ranks whole (h ++ events) →
+    (log : List LogEntry) (h events : List Event) → IsFront ranks whole (h ++ events) →
     AtEachAfter (λ h e. OwnEvent eager bodies commands log h e.stamp e.what) h events →
     Pushes whole j h (known_by (taken_from j log)) → Pushes whole j (h ++ events) (known_by (taken_from j log))
 own_pushes ranks eager bodies commands whole j log h [] of' own was =
@@ -268,7 +268,7 @@ new_each P j t holds = by_from (t.packet.from == j) refl where
 
 -- a moment
 cause_push : (ranks eager : ℕ) (bodies : Sent → List ℕ) (commands : List Numbered) (whole : List Event) (j : ℕ)
-    (before : List Moment) (c : Cause) (events : List Event) → IsFront ranks whole (history_of before ++ events) →
+    (before : List LogEntry) (c : Cause) (events : List Event) → IsFront ranks whole (history_of before ++ events) →
     MadeBy eager bodies commands before c events → Pushes whole j (history_of before)
     (known_by (taken_from j before)) → Pushes whole j (history_of before ++ events)
     (fold known_after (known_by (taken_from j before)) (cons_option (taken_of j c) []))
@@ -333,7 +333,7 @@ cause_push ranks eager bodies commands whole j before (Took t) events of' made w
         ∙ ap (λ (k : ℕ). is_empty_send (history_of before) k n) (sym from) ∙ empty)
 
 log_pushes : (ranks eager : ℕ) (bodies : Sent → List ℕ) (commands : List Numbered) (whole : List Event) (j : ℕ)
-    (before log : List Moment) → EachMomentAfter (MayHappen eager bodies commands) before log →
+    (before log : List LogEntry) → EachMomentAfter (MayHappen eager bodies commands) before log →
     whole ≡ history_of before ++ history_of log → Always (NumberAt ranks) whole → Always EndAt whole →
     Pushes whole j (history_of before) (known_by (taken_from j before)) →
     Pushes whole j whole (known_by (taken_from j before ++ taken_from j log))
@@ -357,9 +357,9 @@ log_pushes ranks eager bodies commands whole j before (m ∷ log) sound split nu
     (subst (λ (known : Known). Pushes whole j (history_of before ++ m.events) known) (sym (known-push before m j))
     step) in
     let taken : taken_from j (before ++ m ∷ []) ++ taken_from j log ≡ taken_from j before ++ taken_from j (m ∷ log) =
-    sym (filter_map-append (λ (m : Moment). taken_of j m.cause) (before ++ m ∷ []) log)
-    ∙ ap (λ (l : List Moment). taken_from j l) (append_assoc before (m ∷ []) log)
-    ∙ filter_map-append (λ (m : Moment). taken_of j m.cause) before (m ∷ log) in
+    sym (filter_map-append (λ (m : LogEntry). taken_of j m.cause) (before ++ m ∷ []) log)
+    ∙ ap (λ (l : List LogEntry). taken_from j l) (append_assoc before (m ∷ []) log)
+    ∙ filter_map-append (λ (m : LogEntry). taken_of j m.cause) before (m ∷ log) in
     subst (λ (ts : List Taken). Pushes whole j whole (known_by ts)) taken
     (log_pushes ranks eager bodies commands whole j (before ++ m ∷ []) log sound.1
     (of'.split ∙ ap (λ (h : List Event). h ++ history_of log) (sym (history-push before m))) numbers ends next)
@@ -371,7 +371,7 @@ no_rest xs ys (x ∷ rest) same count = let more : length ys ≡ length xs + len
 
 -- the messages with a body that left are those that were cleared, and each empty message that was
 -- cleared has left
-pub all_pushed : (ranks eager : ℕ) (bodies : Sent → List ℕ) (commands : List Numbered) (j : ℕ) (log : List Moment) →
+pub all_pushed : (ranks eager : ℕ) (bodies : Sent → List ℕ) (commands : List Numbered) (j : ℕ) (log : List LogEntry) →
     AreSound eager bodies commands log → Always (NumberAt ranks) (history_of log) → Always EndAt (history_of log) →
     ClearedHaveLeft log j →
     (to_push (history_of log) (known_by (taken_from j log)) j ≡ pushed_out (history_of log) j)

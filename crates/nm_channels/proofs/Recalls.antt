@@ -19,7 +19,7 @@ use Rattle.nm_history.specs.Outgoing.{Called, outgoing, packets_by, bare}
 use Rattle.nm_history.specs.RankRun.{Always, EndAt}
 use Rattle.nm_history.specs.Delivery.{earlier_than, EachEvent, WithdrawAfterRecall}
 use Rattle.nm_channels.proofs.Streams.{NoClash, FreshAt, StreamContinued, UndoneContinued}
-use Rattle.nm_channels.specs.Moments.{Moment, Cause, history_of, taken_from, taken_of, EachMomentAfter}
+use Rattle.nm_channels.specs.Moments.{LogEntry, Cause, history_of, taken_from, taken_of, EachMomentAfter}
 use Rattle.nm_channels.specs.Settled.{RecallAnswered}
 use Rattle.nm_channels.specs.Sound.{AreSound, MayHappen, MadeBy}
 use Rattle.nm_history.specs.Continues.{is_of_stream, WORN_STAMP}
@@ -57,7 +57,7 @@ carried_bare i num (c ∷ called) (t ∷ ts) carries each = (
 
 -- the answers that a history calls for continue where they were asked for
 pub carried_go : (eager i j : ℕ) (bodies bodies' : Sent → List ℕ) (commands : List Numbered) (h : List Event)
-    (log : List Moment) → AreSound eager bodies' commands log → Carries j 0 (outgoing bodies h i) (taken_from j log) →
+    (log : List LogEntry) → AreSound eager bodies' commands log → Carries j 0 (outgoing bodies h i) (taken_from j log) →
     AllByRecursion (λ t. t.packet.stamp < WORN_STAMP) (taken_from j log) → Always FreshAt h → Always EndAt h →
     AllByRecursion (Goes j (history_of log)) (taken_from j log)
 unfolding AtEach in_turn
@@ -195,7 +195,7 @@ packet_leaves known h from n size (what.Withdraw m) rest = ((λ is. rw (self_tru
 packet_leaves known h from n size (what.Withdrawn m done) rest = ((λ is. cc), (λ is. rw (self_true from, is) refl))
 packet_leaves known h from n size w rest = ((λ is. cc), (λ is. cc))
 
-log_leaves : (eager : ℕ) (bodies : Sent → List ℕ) (commands : List Numbered) (i : ℕ) (before log : List Moment) →
+log_leaves : (eager : ℕ) (bodies : Sent → List ℕ) (commands : List Numbered) (i : ℕ) (before log : List LogEntry) →
     EachMomentAfter (MayHappen eager bodies commands) before log → AllByRecursion (Leaves i (history_of log))
     (taken_from i log)
 log_leaves eager bodies commands i before [] sound = tt
@@ -272,7 +272,7 @@ answered_is (e ∷ h) to n found = by_what e.what found (answered_is h to n) whe
   by_what w found later = later found
 
 -- a recalled message has its answer
-pub recall_answered : (eager i j n : ℕ) (bi bj : Sent → List ℕ) (ci cj : List Numbered) (li lj : List Moment) →
+pub recall_answered : (eager i j n : ℕ) (bi bj : Sent → List ℕ) (ci cj : List Numbered) (li lj : List LogEntry) →
     AreSound eager bi ci li → AreSound eager bj cj lj → Carries i 0 (outgoing bi (history_of li) j)
     (taken_from i lj) → Carries j 0 (outgoing bj (history_of lj) i) (taken_from j li) →
     AllByRecursion (λ t. is_withdrawal n t.packet.what ≡ true → t.continued ≡ true) (taken_from i lj) →

@@ -17,7 +17,7 @@ use Rattle.nm_history.specs.declared.events.Event.{Event}
 use Rattle.nm_history.specs.declared.events.Happened.{Happened}
 use Rattle.nm_history.specs.declared.events.Happened.TheVariants.{Send, Recall}
 use Rattle.nm_history.specs.Happens.{happened, is_send}
-use Rattle.nm_history.specs.Quiescence.{Ended, Packets, EachRank, EachPair, IsAnswered, RecallsAnswered, Stands}
+use Rattle.nm_history.specs.Quiescence.{Ended, Packets, EachRank, EachPair, IsAnswered, RecallsAnswered, IsStopped}
 use Rattle.nm_history.specs.Quiescence.{packets_of, AskedOver, EagerOver}
 use Rattle.nm_history.specs.RankRun.{IsRankRun, Always, CancelAt}
 use Rattle.nm_history.specs.Run.{IsRunOf}
@@ -187,7 +187,7 @@ recalls_in shape lines ranks i a script count run each =
 -- the histories of all ranks are a run of the script
 pub all_settle : (shape : Sizes) (lines : List Line) (ranks : List Finished) (packets : List Packets) →
     IsScript shape.ranks lines → length ranks ≡ shape.ranks → AreAllEnds shape lines ranks →
-    EachRank (λ i rank. Stands (commands_of i lines) rank) (map ended_of ranks) → packets ≡ packets_of lines
+    EachRank (λ i rank. IsStopped (commands_of i lines) rank) (map ended_of ranks) → packets ≡ packets_of lines
     (map ended_of ranks) → IsRunOf shape lines (map ended_of ranks) packets
 all_settle shape lines ranks packets script count all waits counts = record {
   one_each = length-map ranks ended_of ∙ count;

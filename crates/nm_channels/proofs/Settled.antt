@@ -10,7 +10,7 @@ use Rattle.nm_history.specs.Delivery.{ArriveInOrder, OutAfterPair, Withdrawals, 
 use Rattle.nm_history.specs.AtEach.{AtEach}
 use Rattle.nm_channels.proofs.Streams.{eager_numbers, completed, StreamContinued, UndoneContinued}
 use Rattle.nm_channels.specs.Ends.{AreEnds}
-use Rattle.nm_channels.specs.Moments.{Moment, history_of, taken_from, pulled_from}
+use Rattle.nm_channels.specs.Moments.{LogEntry, history_of, taken_from, pulled_from}
 use Rattle.nm_channels.specs.Settled.{AreSettled, RecallAnswered}
 use Rattle.nm_history.specs.Known.{nothing_known, known_by}
 use Rattle.nm_channels.proofs.Causes.{HasSource, taken_sources}
@@ -67,7 +67,7 @@ use Rattle.nm_types.proofs.NumberLemmas.{eq_true, same_number}
 use Rattle.nm_types.proofs.ListLemmas.{all_split, all_along, front_empty}
 use Rattle.nm_types.proofs.TruthLemmas.{or_right}
 
-pub messages_settled : (shape : Sizes) (i j : ℕ) (ci cj : List Numbered) (ati atj : ℕ) (li lj : List Moment) →
+pub messages_settled : (shape : Sizes) (i j : ℕ) (ci cj : List Numbered) (ati atj : ℕ) (li lj : List LogEntry) →
     AreEnds shape i j ci cj ati atj li lj →
     AllByRecursion StreamContinued (taken_from i lj) × ArriveInOrder i (sends (history_of li) j)
     (arrivals (history_of lj) i) × (length (arrivals (history_of lj) i) ≡ length (sends (history_of li) j))
@@ -79,7 +79,7 @@ messages_settled shape i j ci cj ati atj li lj ends =
     ends.receiver.sound ends.there.packets ends.there.in_time
 
 -- the packets that were taken have their sources
-sources_settled : (shape : Sizes) (i j : ℕ) (ci cj : List Numbered) (ati atj : ℕ) (li lj : List Moment) →
+sources_settled : (shape : Sizes) (i j : ℕ) (ci cj : List Numbered) (ati atj : ℕ) (li lj : List LogEntry) →
     AreEnds shape i j ci cj ati atj li lj →
     AllByRecursion (HasSource j (history_of li)) (taken_from i lj) × AllByRecursion (HasSource i (history_of lj))
     (taken_from j li)
@@ -89,28 +89,28 @@ sources_settled shape i j ci cj ati atj li lj ends = (
       (sent_body cj) j i (history_of lj) (taken_from j li) ends.back.packets,
 )
 
-pub withdrawals_settled : (shape : Sizes) (i j : ℕ) (ci cj : List Numbered) (ati atj : ℕ) (li lj : List Moment) →
+pub withdrawals_settled : (shape : Sizes) (i j : ℕ) (ci cj : List Numbered) (ati atj : ℕ) (li lj : List LogEntry) →
     AreEnds shape i j ci cj ati atj li lj → Withdrawals i j (history_of li) (history_of lj)
 withdrawals_settled shape i j ci cj ati atj li lj ends =
     let sources = sources_settled shape i j ci cj ati atj li lj ends in
     withdrawals_in_order shape.eager i j (sent_body ci) (sent_body cj) ci cj li lj ends.sender.sound
     ends.receiver.sound sources.0 sources.1
 
-pub outs_settled : (shape : Sizes) (i j : ℕ) (ci cj : List Numbered) (ati atj : ℕ) (li lj : List Moment) →
+pub outs_settled : (shape : Sizes) (i j : ℕ) (ci cj : List Numbered) (ati atj : ℕ) (li lj : List LogEntry) →
     AreEnds shape i j ci cj ati atj li lj →
     AtEach (λ before e. OutAfterPair i j (history_of lj) before e.stamp e.what) (history_of li)
 outs_settled shape i j ci cj ati atj li lj ends =
     outs_in_order shape.eager i j (sent_body ci) ci li (history_of lj) ends.sender.sound ends.receiver.run.stamps
     (sources_settled shape i j ci cj ati atj li lj ends).1
 
-pub eager_settled : (shape : Sizes) (i j : ℕ) (ci cj : List Numbered) (ati atj : ℕ) (li lj : List Moment) →
+pub eager_settled : (shape : Sizes) (i j : ℕ) (ci cj : List Numbered) (ati atj : ℕ) (li lj : List LogEntry) →
     AreEnds shape i j ci cj ati atj li lj → EagerOver i j (history_of li) (history_of lj)
 eager_settled shape i j ci cj ati atj li lj ends =
     eager_over i j (history_of li) (history_of lj) ends.sender.eager
     (eager_here shape.eager (sent_body cj) cj i lj (sends (history_of li) j) ends.receiver.sound
     (messages_settled shape i j ci cj ati atj li lj ends).3)
 
-undone_settled : (shape : Sizes) (i j : ℕ) (ci cj : List Numbered) (ati atj : ℕ) (li lj : List Moment) →
+undone_settled : (shape : Sizes) (i j : ℕ) (ci cj : List Numbered) (ati atj : ℕ) (li lj : List LogEntry) →
     AreEnds shape i j ci cj ati atj li lj → AllByRecursion UndoneContinued (taken_from j li)
 undone_settled shape i j ci cj ati atj li lj ends =
     undone_go i j (history_of li) (history_of lj) (taken_from j li)
@@ -120,11 +120,11 @@ undone_settled shape i j ci cj ati atj li lj ends =
     ends.back.packets ends.back.in_time (fresh_at shape cj atj (history_of lj) ends.receiver.run)
     ends.receiver.run.ends)
 
-pub undone_no_stray : (shape : Sizes) (i j : ℕ) (ci cj : List Numbered) (ati atj : ℕ) (li lj : List Moment) →
+pub undone_no_stray : (shape : Sizes) (i j : ℕ) (ci cj : List Numbered) (ati atj : ℕ) (li lj : List LogEntry) →
     AreEnds shape i j ci cj ati atj li lj → AllByRecursion UndoneContinued (taken_from j li)
 undone_no_stray shape i j ci cj ati atj li lj ends = undone_settled shape i j ci cj ati atj li lj ends
 
-pub recalls_settled : (shape : Sizes) (i j : ℕ) (ci cj : List Numbered) (ati atj : ℕ) (li lj : List Moment) →
+pub recalls_settled : (shape : Sizes) (i j : ℕ) (ci cj : List Numbered) (ati atj : ℕ) (li lj : List LogEntry) →
     AreEnds shape i j ci cj ati atj li lj → AllByRecursion (λ e. RecallAnswered j (history_of li) e.what)
     (history_of li)
 recalls_settled shape i j ci cj ati atj li lj ends =
@@ -136,7 +136,7 @@ recalls_settled shape i j ci cj ati atj li lj ends =
     (answer_goes n) (undone_settled shape i j ci cj ati atj li lj ends)))
 
 -- the two ends, the other way
-pub swapped : (shape : Sizes) (i j : ℕ) (ci cj : List Numbered) (ati atj : ℕ) (li lj : List Moment) →
+pub swapped : (shape : Sizes) (i j : ℕ) (ci cj : List Numbered) (ati atj : ℕ) (li lj : List LogEntry) →
     AreEnds shape i j ci cj ati atj li lj → AreEnds shape j i cj ci atj ati lj li
 swapped shape i j ci cj ati atj li lj ends = record {
   sender = ends.receiver;
@@ -147,14 +147,14 @@ swapped shape i j ci cj ati atj li lj ends = record {
 }
 
 -- each message of i that arrived at j was sent
-pub sent_settled : (shape : Sizes) (i j : ℕ) (ci cj : List Numbered) (ati atj : ℕ) (li lj : List Moment) →
+pub sent_settled : (shape : Sizes) (i j : ℕ) (ci cj : List Numbered) (ati atj : ℕ) (li lj : List LogEntry) →
     AreEnds shape i j ci cj ati atj li lj →
     AllByRecursion (λ (x : Arrived). SentAs i (sends (history_of li) j) x.stamp x.arrival) (arrivals (history_of lj) i)
 sent_settled shape i j ci cj ati atj li lj ends =
     arrivals_sent shape.ranks i j (history_of li) (history_of lj) ends.sender.run.numbers ends.receiver.run.numbers
     (messages_settled shape i j ci cj ati atj li lj ends).1
 
-clears_settled : (shape : Sizes) (i j : ℕ) (ci cj : List Numbered) (ati atj : ℕ) (li lj : List Moment) →
+clears_settled : (shape : Sizes) (i j : ℕ) (ci cj : List Numbered) (ati atj : ℕ) (li lj : List LogEntry) →
     AreEnds shape i j ci cj ati atj li lj → AllByRecursion ClearContinued (taken_from j li)
 clears_settled shape i j ci cj ati atj li lj ends =
     clears_go i j (history_of li) (history_of lj) (taken_from j li) ends.receiver.run.stamps
@@ -164,7 +164,7 @@ clears_settled shape i j ci cj ati atj li lj ends =
     ends.receiver.run.ends)
 
 -- no packet was a stray
-pub packets_settled : (shape : Sizes) (i j : ℕ) (ci cj : List Numbered) (ati atj : ℕ) (li lj : List Moment) →
+pub packets_settled : (shape : Sizes) (i j : ℕ) (ci cj : List Numbered) (ati atj : ℕ) (li lj : List LogEntry) →
     AreEnds shape i j ci cj ati atj li lj → AllByRecursion (λ t. t.continued ≡ true) (taken_from i lj)
 packets_settled shape i j ci cj ati atj li lj ends =
     let other = swapped shape i j ci cj ati atj li lj ends in
@@ -172,7 +172,7 @@ packets_settled shape i j ci cj ati atj li lj ends =
     (undone_settled shape j i cj ci atj ati lj li other) (clears_settled shape j i cj ci atj ati lj li other)
 
 -- what the two ends know of the messages from i to j
-record Knows (i j : ℕ) (ci : List Numbered) (li lj : List Moment) : Type 0 where
+record Knows (i j : ℕ) (ci : List Numbered) (li lj : List LogEntry) : Type 0 where
   stamp : ℕ
   sent : AllByRecursion (SentBefore i (sends (history_of li) j) stamp) (messages (history_of lj))
   pairs : PairsSent i (sends (history_of li) j) stamp (matched_pairs (history_of lj))
@@ -183,7 +183,7 @@ record Knows (i j : ℕ) (ci : List Numbered) (li lj : List Moment) : Type 0 whe
   empty : AllByRecursion (λ n. is_empty_send (history_of li) j n ≡ true → happened (is_out j n) (history_of li)
       ≡ true) (known_by (taken_from j li)).cleared
 
-known_settled : (shape : Sizes) (i j : ℕ) (ci cj : List Numbered) (ati atj : ℕ) (li lj : List Moment) →
+known_settled : (shape : Sizes) (i j : ℕ) (ci cj : List Numbered) (ati atj : ℕ) (li lj : List LogEntry) →
     AreEnds shape i j ci cj ati atj li lj → Knows i j ci li lj
 known_settled shape i j ci cj ati atj li lj ends =
     let hi : List Event = history_of li in
@@ -206,7 +206,7 @@ known_settled shape i j ci cj ati atj li lj ends =
     }
 
 -- the pieces that the sender pushes are those of the messages that the receiver paired
-ring_numbers : (shape : Sizes) (i j : ℕ) (ci cj : List Numbered) (ati atj : ℕ) (li lj : List Moment) →
+ring_numbers : (shape : Sizes) (i j : ℕ) (ci cj : List Numbered) (ati atj : ℕ) (li lj : List LogEntry) →
     AreEnds shape i j ci cj ati atj li lj →
     ring (sent_body ci) (history_of li) j ≡ pieces_of_all (sent_body ci) (sends (history_of li) j)
     (numbers_in (granted (history_of lj) i))
@@ -220,7 +220,7 @@ ring_numbers shape i j ci cj ati atj li lj ends =
     ∙ ap (λ (ns : List ℕ). pieces_of_all (sent_body ci) (sends hi j) ns) numbers
 
 -- and those that are due
-ring_settled : (shape : Sizes) (i j : ℕ) (ci cj : List Numbered) (ati atj : ℕ) (li lj : List Moment) →
+ring_settled : (shape : Sizes) (i j : ℕ) (ci cj : List Numbered) (ati atj : ℕ) (li lj : List LogEntry) →
     AreEnds shape i j ci cj ati atj li lj → AllZip Matches (ring (sent_body ci) (history_of li) j)
     (due_pieces (history_of lj) i)
 ring_settled shape i j ci cj ati atj li lj ends =
@@ -230,7 +230,7 @@ ring_settled shape i j ci cj ati atj li lj ends =
     (pairs_match i j knows.stamp (sent_body ci) (sends (history_of li) j) (matched_pairs (history_of lj)) knows.sized
     knows.pairs)
 
-pieces_done : (shape : Sizes) (i j : ℕ) (ci cj : List Numbered) (ati atj : ℕ) (li lj : List Moment) →
+pieces_done : (shape : Sizes) (i j : ℕ) (ci cj : List Numbered) (ati atj : ℕ) (li lj : List LogEntry) →
     AreEnds shape i j ci cj ati atj li lj →
     AllByRecursion (λ d. d.continued ≡ true) (pulled_from i lj) × AllByRecursion (LastIsWhole i (history_of lj))
     (due_pieces (history_of lj) i)
@@ -239,13 +239,13 @@ pieces_done shape i j ci cj ati atj li lj ends =
     (ring_settled shape i j ci cj ati atj li lj ends) ends.there.pieces
 
 -- no piece was a stray
-pub pieces_settled : (shape : Sizes) (i j : ℕ) (ci cj : List Numbered) (ati atj : ℕ) (li lj : List Moment) →
+pub pieces_settled : (shape : Sizes) (i j : ℕ) (ci cj : List Numbered) (ati atj : ℕ) (li lj : List LogEntry) →
     AreEnds shape i j ci cj ati atj li lj → AllByRecursion (λ d. d.continued ≡ true) (pulled_from i lj)
 pieces_settled shape i j ci cj ati atj li lj ends = (pieces_done shape i j ci cj ati atj li lj ends).0
 
 -- messages that were sent by asking are over where they are paired, and kept back where they are
 -- claimed alone
-pub asked_settled : (shape : Sizes) (i j : ℕ) (ci cj : List Numbered) (ati atj : ℕ) (li lj : List Moment) →
+pub asked_settled : (shape : Sizes) (i j : ℕ) (ci cj : List Numbered) (ati atj : ℕ) (li lj : List LogEntry) →
     AreEnds shape i j ci cj ati atj li lj → AskedOver i j (history_of li) (history_of lj)
 asked_settled shape i j ci cj ati atj li lj ends =
     let hi : List Event = history_of li in
@@ -266,7 +266,7 @@ asked_settled shape i j ci cj ati atj li lj ends =
     whole)
 
 -- what is whole before a moment of the rank's own is not made whole after it
-never_later : (eager i n : ℕ) (bodies : Sent → List ℕ) (commands : List Numbered) (log : List Moment) (h : List Event)
+never_later : (eager i n : ℕ) (bodies : Sent → List ℕ) (commands : List Numbered) (log : List LogEntry) (h : List Event)
     (e : Event) → Always WholeAt (history_of log) → (own : OwnMoment eager bodies commands log h e) →
     happened (is_whole i n) h ≡ true →
     happened (is_whole i n) (history_of own.after) ≡ true → true ≡ false
@@ -281,7 +281,7 @@ never_later eager i n bodies commands log h e wholes own first later =
     (happened-append (is_whole i n) (e ∷ own.late) (history_of own.after) ∙ or_right _ _ later)
 
 -- the bytes of a message that is whole are those of its send
-whole_bytes : (shape : Sizes) (i j : ℕ) (ci cj : List Numbered) (ati atj : ℕ) (li lj : List Moment) →
+whole_bytes : (shape : Sizes) (i j : ℕ) (ci cj : List Numbered) (ati atj : ℕ) (li lj : List LogEntry) →
     AreEnds shape i j ci cj ati atj li lj → (h : List Event) (e : Event) →
     (own : OwnMoment shape.eager (sent_body cj) cj lj h e) →
     (n : ℕ) (s : Sent) → slice_get (sends (history_of li) j) n ≡ Some s → happened (is_whole i n) h ≡ true →
@@ -319,7 +319,7 @@ whole_bytes shape i j ci cj ati atj li lj ends h e own n s at whole grants = by_
       front_empty (piece_bytes n (pulled_from i own.before)) (piece_bytes n (pulled_from i own.after))
       (sym (piece_bytes-append n (pulled_from i own.before) (pulled_from i own.after))
       ∙ ap (λ (ds : List Pulled). piece_bytes n ds)
-      (sym (ap (λ (l : List Moment). pulled_from i l) own.split ∙ pulled_around i own.before own.moment own.after
+      (sym (ap (λ (l : List LogEntry). pulled_from i l) own.split ∙ pulled_around i own.before own.moment own.after
       own.acted)) ∙ all) ∙ sym empty
     where
       length_none : (xs : List ℕ) → length xs ≡ 0 → xs ≡ []
@@ -356,7 +356,7 @@ whole_bytes shape i j ci cj ati atj li lj ends h e own n s at whole grants = by_
   by_how false is = eager is
 
 -- a result that shows a message shows the body of its send
-pub bodies_settled : (shape : Sizes) (i j : ℕ) (ci cj : List Numbered) (ati atj : ℕ) (li lj : List Moment) →
+pub bodies_settled : (shape : Sizes) (i j : ℕ) (ci cj : List Numbered) (ati atj : ℕ) (li lj : List LogEntry) →
     AreEnds shape i j ci cj ati atj li lj → Always (BodyAt i ci (sends (history_of li) j) cj) (history_of lj)
 bodies_settled shape i j ci cj ati atj li lj ends =
     shows i j ci cj hi hj (sends_commanded shape.eager ci hi ends.sender.run.starts) ends.receiver.run.answers.right
@@ -433,7 +433,7 @@ bodies_settled shape i j ci cj ati atj li lj ends =
         )
 
 -- the law of both ends
-pub ends_settle : (shape : Sizes) (i j : ℕ) (ci cj : List Numbered) (ati atj : ℕ) (li lj : List Moment) →
+pub ends_settle : (shape : Sizes) (i j : ℕ) (ci cj : List Numbered) (ati atj : ℕ) (li lj : List LogEntry) →
     AreEnds shape i j ci cj ati atj li lj → AreSettled i j ci cj li lj
 ends_settle shape i j ci cj ati atj li lj ends =
     let messages = messages_settled shape i j ci cj ati atj li lj ends in

@@ -15,7 +15,7 @@ use Rattle.nm_history.specs.Happens.{happened, is_whole, is_out}
 use Rattle.nm_history.specs.Quiescence.{EagerOver, is_over}
 use Rattle.nm_channels.proofs.Streams.{completes, completed, eager_numbers}
 use Rattle.nm_history.specs.Rest.{EagerHaveLeft}
-use Rattle.nm_channels.specs.Moments.{Moment, Cause, history_of, taken_from, taken_of, EachMomentAfter}
+use Rattle.nm_channels.specs.Moments.{LogEntry, Cause, history_of, taken_from, taken_of, EachMomentAfter}
 use Rattle.nm_channels.specs.Sound.{AreSound, MayHappen, MadeBy}
 use Rattle.nm_history.specs.Effects.{happenings, packet_makes, ask_ends, whole_if}
 use Rattle.nm_history.specs.Known.{Known, known_by, known_after, nothing_known}
@@ -52,7 +52,7 @@ with_new P None ns new each = each
 with_new P (Some n) ns new each = (new n refl, each)
 
 pub log_completes : (eager : ℕ) (bodies : Sent → List ℕ) (commands : List Numbered) (i : ℕ)
-    (before log : List Moment) → EachMomentAfter (MayHappen eager bodies commands) before log →
+    (before log : List LogEntry) → EachMomentAfter (MayHappen eager bodies commands) before log →
     AllByRecursion (IsHere i (history_of log)) (completed (known_by (taken_from i before)) (taken_from i log))
 log_completes eager bodies commands i before [] sound = tt
 log_completes eager bodies commands i before (m ∷ log) sound =
@@ -104,7 +104,7 @@ log_completes eager bodies commands i before (m ∷ log) sound =
           (by_goes t.continued refl (same_number t.packet.from i test)) later
 
 -- eager messages of which all packets came are here
-pub eager_here : (eager : ℕ) (bodies : Sent → List ℕ) (commands : List Numbered) (i : ℕ) (log : List Moment)
+pub eager_here : (eager : ℕ) (bodies : Sent → List ℕ) (commands : List Numbered) (i : ℕ) (log : List LogEntry)
     (ss : List Sent) → AreSound eager bodies commands log → completed nothing_known (taken_from i log)
     ≡ eager_numbers ss →
     AllByRecursion (IsHere i (history_of log)) (eager_numbers ss)

@@ -9,7 +9,7 @@ use Rattle.nm_types.specs.declared.scripts.Line.{Line}
 use Rattle.nm_types.specs.declared.answers.Answer.TheVariants as answer
 use Rattle.nm_history.specs.declared.events.Happened.TheVariants.{Send, Arrive, Whole, Out, Recall}
 use Rattle.nm_history.specs.declared.events.Happened.TheVariants.{Withdraw, Undone, Ran}
-use Rattle.nm_channels.specs.Moments.{Moment}
+use Rattle.nm_channels.specs.Moments.{LogEntry}
 use Rattle.nm_channels.specs.Finished.{Finished, AreAllEnds}
 use Rattle.nm_channels.specs.SmallLogs.{at, run_on, rank_line, packet, acts, takes}
 
@@ -21,7 +21,7 @@ script =
     ∷ rank_line 0 (command.Wait 0) ∷ []
 
 -- the moments of the first rank
-abbrev pub first : List Moment
+abbrev pub first : List LogEntry
 first =
     acts (at 1 (Send 1 0 0 0 1 Eager 2) ∷ [])
     ∷ acts (at 2 (Ran 2 answer.Started) ∷ [])
@@ -33,7 +33,7 @@ first =
     ∷ acts (at 7 (Ran 4 answer.Cancelled) ∷ []) ∷ []
 
 -- the moments of the second rank
-abbrev pub second : List Moment
+abbrev pub second : List LogEntry
 second =
     takes (packet 0 0 1 (what.Head 0 0 1) (1 ∷ []) (lit< tt) (lit≤ tt))
     (at 2

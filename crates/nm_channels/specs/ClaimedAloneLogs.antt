@@ -10,7 +10,7 @@ use Rattle.nm_types.specs.declared.scripts.Command.TheVariants as command
 use Rattle.nm_types.specs.declared.scripts.Line.{Line}
 use Rattle.nm_types.specs.declared.answers.Answer.TheVariants as answer
 use Rattle.nm_history.specs.declared.events.Happened.TheVariants.{Send, Arrive, Claim, Ran}
-use Rattle.nm_channels.specs.Moments.{Moment}
+use Rattle.nm_channels.specs.Moments.{LogEntry}
 use Rattle.nm_channels.specs.Finished.{Finished, AreAllEnds}
 use Rattle.nm_channels.specs.SmallLogs.{at, run_on, rank_line, packet, acts, takes}
 
@@ -22,12 +22,12 @@ script =
     ∷ rank_line 1 (command.Mprobe 3 peer.Any pick.Any 0) ∷ []
 
 -- the moments of the first rank
-abbrev pub first : List Moment
+abbrev pub first : List LogEntry
 first =
     acts (at 1 (Send 1 0 0 0 1 Ask 2) ∷ []) ∷ acts (at 2 (Ran 2 answer.Started) ∷ []) ∷ []
 
 -- the moments of the second rank
-abbrev pub second : List Moment
+abbrev pub second : List LogEntry
 second =
     takes (packet 0 0 1 (what.Ask 0 0 1) [] (lit< tt) (lit≤ tt))
     (at 2

@@ -12,18 +12,18 @@ use Rattle.nm_history.specs.Known.{known_by}
 use Rattle.nm_history.specs.Continues.{WORN_STAMP}
 use Rattle.nm_history.specs.Clearance.{to_push, pushed_out}
 use Rattle.nm_history.specs.Rest.{EagerHaveLeft, EmptyAreHere}
-use Rattle.nm_channels.specs.Moments.{Moment, history_of, taken_from, pulled_from}
+use Rattle.nm_channels.specs.Moments.{LogEntry, history_of, taken_from, pulled_from}
 use Rattle.nm_channels.specs.Sound.{AreSound}
 
 -- each cleared message with a body that this rank sent has left
-abbrev pub ClearedHaveLeft : List Moment → ℕ → Type 0
+abbrev pub ClearedHaveLeft : List LogEntry → ℕ → Type 0
 ClearedHaveLeft log to =
     length (pushed_out (history_of log) to)
     ≡ length (to_push (history_of log) (known_by (taken_from to log)) to)
 
 -- One rank with nothing left to send: its history is a run of its commands and that of sound
 -- moments, its eager messages have left, and what it paired without a body is here.
-pub record IsEnd (shape : Sizes) (commands : List Numbered) (at : ℕ) (log : List Moment)
+pub record IsEnd (shape : Sizes) (commands : List Numbered) (at : ℕ) (log : List LogEntry)
     : Type 0 where
   pub run : IsRankRun shape commands at (history_of log)
   pub sound : AreSound shape.eager (sent_body commands) commands log
@@ -33,7 +33,7 @@ pub record IsEnd (shape : Sizes) (commands : List Numbered) (at : ℕ) (log : Li
 -- The channel from rank i to rank j is empty: the packets and pieces that j took from i are those
 -- that the history of i calls for, each message that j cleared has left i, and no packet has a
 -- stamp past the last.
-pub record IsChannel (i j : ℕ) (commands : List Numbered) (li lj : List Moment) : Type 0 where
+pub record IsChannel (i j : ℕ) (commands : List Numbered) (li lj : List LogEntry) : Type 0 where
   pub packets :
       AreCalled i 0 (outgoing (sent_body commands) (history_of li) j)
       (map (λ t. t.packet) (taken_from i lj))
@@ -45,7 +45,7 @@ pub record IsChannel (i j : ℕ) (commands : List Numbered) (li lj : List Moment
 
 -- two ranks, which may be the same, with both channels between them
 pub record AreEnds (shape : Sizes) (i j : ℕ) (ci cj : List Numbered) (ati atj : ℕ)
-    (li lj : List Moment) : Type 0 where
+    (li lj : List LogEntry) : Type 0 where
   pub sender : IsEnd shape ci ati li
   pub receiver : IsEnd shape cj atj lj
   pub there : IsChannel i j ci li lj

@@ -5,14 +5,14 @@ use Rattle.nm_types.specs.declared.scripts.Line.{Line}
 use Rattle.nm_types.specs.Commands.{commands_of}
 use Rattle.nm_types.specs.Sizes.{Sizes}
 use Rattle.nm_history.specs.Quiescence.{Ended}
-use Rattle.nm_channels.specs.Moments.{Moment, history_of}
+use Rattle.nm_channels.specs.Moments.{LogEntry, history_of}
 use Rattle.nm_channels.specs.Ends.{AreEnds}
 
 -- a rank at the end of a run: how many of its commands ran, the line of one that waits, and its log
 pub record Finished : Type 0 where
   pub at : ℕ
   pub waits : Option ℕ
-  pub log : List Moment
+  pub log : List LogEntry
 
 -- what is recorded of it
 abbrev pub ended_of : Finished → Ended

@@ -11,7 +11,7 @@ use Rattle.nm_types.specs.declared.scripts.Line.{Line}
 use Rattle.nm_types.specs.declared.answers.Answer.TheVariants as answer
 use Rattle.nm_history.specs.declared.events.Happened.TheVariants.{Send, Post, Arrive, Whole, Out}
 use Rattle.nm_history.specs.declared.events.Happened.TheVariants.{Ran}
-use Rattle.nm_channels.specs.Moments.{Moment}
+use Rattle.nm_channels.specs.Moments.{LogEntry}
 use Rattle.nm_history.specs.Quiescence.{Packets}
 use Rattle.nm_history.specs.Run.{IsRunOf}
 use Rattle.nm_channels.specs.Finished.{Finished, AreAllEnds, ended_of}
@@ -30,7 +30,7 @@ script =
     ∷ rank_line 1 (command.Wait 0) ∷ []
 
 -- the sender: the message leaves once it was cleared
-abbrev pub patient : List Moment
+abbrev pub patient : List LogEntry
 patient =
     acts (at 1 (Send 1 0 0 0 9 Ask 2) ∷ [])
     ∷ acts (at 2 (Ran 2 answer.Started) ∷ [])
@@ -39,7 +39,7 @@ patient =
     ∷ acts (at 5 (Ran 3 answer.Sent) ∷ []) ∷ []
 
 -- a sender whose message leaves before it was cleared
-abbrev pub hasty : List Moment
+abbrev pub hasty : List LogEntry
 hasty =
     acts (at 1 (Send 1 0 0 0 9 Ask 2) ∷ [])
     ∷ acts (at 2 (Ran 2 answer.Started) ∷ [])
@@ -48,7 +48,7 @@ hasty =
     ∷ acts (at 4 (Ran 3 answer.Sent) ∷ []) ∷ []
 
 -- the receiver: when the message arrives, where its piece begins, and which bytes are shown
-abbrev pub receives : ℕ → ℕ → List ℕ → List Moment
+abbrev pub receives : ℕ → ℕ → List ℕ → List LogEntry
 receives stamp place shown =
     takes (packet 0 0 1 (what.Ask 0 0 9) [] (lit< tt) (lit≤ tt))
     (at stamp
@@ -61,11 +61,11 @@ receives stamp place shown =
     ∷ acts (at 6 (Ran 5 (answer.Got 0 0 shown)) ∷ []) ∷ []
 
 -- a rank with these moments, at the end of its commands
-abbrev pub done : List Moment → Finished
+abbrev pub done : List LogEntry → Finished
 done log = record { at = 2; waits = None; log = log }
 
 -- these two logs are the ends of their channels
-abbrev pub AreEnded : List Moment → List Moment → Type 0
+abbrev pub AreEnded : List LogEntry → List LogEntry → Type 0
 AreEnded first second = AreAllEnds (run_on 2) script (done first ∷ done second ∷ [])
 
 -- how many packets went each way

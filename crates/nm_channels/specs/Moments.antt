@@ -14,12 +14,12 @@ pub data Cause : Type 0 where
   Drew : (d : Pulled) → Cause
 
 -- a moment of a rank: its cause, and the events that it made
-pub record Moment : Type 0 where
+pub record LogEntry : Type 0 where
   pub cause : Cause
   pub events : List Event
 
 -- the history of a rank with these moments
-abbrev pub history_of : List Moment → List Event
+abbrev pub history_of : List LogEntry → List Event
 history_of [] = []
 history_of (m ∷ log) = m.events ++ history_of log
 
@@ -34,11 +34,11 @@ pulled_of from (Drew d) = if d.piece.from == from then Some d else None
 pulled_of from _ = None
 
 -- the packets that were taken from a rank
-abbrev pub taken_from : ℕ → List Moment → List Taken
+abbrev pub taken_from : ℕ → List LogEntry → List Taken
 taken_from from log = filter_map (λ m. taken_of from m.cause) log
 
 -- the pieces that were taken from a rank
-abbrev pub pulled_from : ℕ → List Moment → List Pulled
+abbrev pub pulled_from : ℕ → List LogEntry → List Pulled
 pulled_from from log = filter_map (λ m. pulled_of from m.cause) log
 
 -- a packet sets the clock forward to its stamp
@@ -47,18 +47,18 @@ clock_at clock (Took t) = max clock t.packet.stamp
 clock_at clock _ = clock
 
 -- the clock after one moment more: each event adds 1
-abbrev pub clock_after : ℕ → Moment → ℕ
+abbrev pub clock_after : ℕ → LogEntry → ℕ
 clock_after clock m = clock_at clock m.cause + length m.events
 
 -- the clock after these moments
-abbrev pub clock_of : List Moment → ℕ
+abbrev pub clock_of : List LogEntry → ℕ
 clock_of log = fold clock_after 0 log
 
 -- R holds of each of these moments and the moments before it, of which the first ones are given
-abbrev pub EachMomentAfter : (List Moment → Moment → Type 0) → List Moment → List Moment → Type 0
+abbrev pub EachMomentAfter : (List LogEntry → LogEntry → Type 0) → List LogEntry → List LogEntry → Type 0
 EachMomentAfter R before [] = Unit {0}
 EachMomentAfter R before (m ∷ log) = R before m × EachMomentAfter R (before ++ m ∷ []) log
 
 -- R holds of each moment and the moments before it
-abbrev pub EachMoment : (List Moment → Moment → Type 0) → List Moment → Type 0
+abbrev pub EachMoment : (List LogEntry → LogEntry → Type 0) → List LogEntry → Type 0
 EachMoment R log = EachMomentAfter R [] log

@@ -9,7 +9,7 @@ use Rattle.nm_types.specs.declared.scripts.Line.{Line}
 use Rattle.nm_types.specs.Sizes.{Sizes}
 use Rattle.nm_history.specs.declared.events.Event.{Event}
 use Rattle.nm_history.specs.declared.events.Happened.{Happened}
-use Rattle.nm_channels.specs.Moments.{Moment}
+use Rattle.nm_channels.specs.Moments.{LogEntry}
 use Rattle.nm_channels.specs.Moments.Cause.{Acted, Took, Drew}
 
 -- what happened, with its stamp
@@ -51,13 +51,13 @@ piece from number n at bytes few =
     }
 
 -- a moment of the rank's own
-abbrev pub acts : List Event → Moment
+abbrev pub acts : List Event → LogEntry
 acts events = record { cause = Acted; events = events }
 
 -- a packet that continues its stream
-abbrev pub takes : Packet → List Event → Moment
+abbrev pub takes : Packet → List Event → LogEntry
 takes p events = record { cause = Took (record { packet = p; continued = true }); events = events }
 
 -- a piece that continues its message
-abbrev pub draws : Piece → List Event → Moment
+abbrev pub draws : Piece → List Event → LogEntry
 draws q events = record { cause = Drew (record { piece = q; continued = true }); events = events }

@@ -22,12 +22,12 @@ use Rattle.nm_history.specs.Pieces.{due_pieces, count_continued, is_due, piece_m
 use Rattle.nm_history.specs.Clearance.{to_push, pushed_out}
 use Rattle.nm_history.specs.Bytes.{eager_bytes, piece_bytes}
 use Rattle.nm_history.specs.Clock.{AreStamped}
-use Rattle.nm_channels.specs.Moments.{Cause, Moment, EachMoment, history_of, taken_from, pulled_from}
+use Rattle.nm_channels.specs.Moments.{Cause, LogEntry, EachMoment, history_of, taken_from, pulled_from}
 use Rattle.nm_channels.specs.Moments.{clock_at, clock_of}
 use Rattle.nm_channels.specs.Moments.Cause.{Acted, Took, Drew}
 
 -- the bytes of message n of a rank that came, in its packets or in its pieces
-abbrev pub bytes_of_message : List Moment → ℕ → ℕ → List ℕ
+abbrev pub bytes_of_message : List LogEntry → ℕ → ℕ → List ℕ
 bytes_of_message log from n =
     if option_map_or (λ a. is_ask a.env.how) (message_of (history_of log) from n) false
     then piece_bytes n (pulled_from from log)
@@ -43,7 +43,7 @@ pub record IsSendable (eager : ℕ) (bodies : Sent → List ℕ) (s : Sent) : Ty
 -- and answers no recall, a send is in range, a message that was sent by asking and has a body
 -- leaves in its turn among those that were cleared, and a result shows the bytes that came.
 abbrev pub OwnEvent :
-    ℕ → (Sent → List ℕ) → List Numbered → List Moment → List Event → ℕ → Happened → Type 0
+    ℕ → (Sent → List ℕ) → List Numbered → List LogEntry → List Event → ℕ → Happened → Type 0
 OwnEvent eager bodies commands log h stamp (Arrive a) = ⊥
 OwnEvent eager bodies commands log h stamp (Withdraw from n done) = ⊥
 OwnEvent eager bodies commands log h stamp (Undone to n done) = ⊥
@@ -69,7 +69,7 @@ OwnEvent eager bodies commands log h stamp _ = Unit {0}
 
 -- The events of a moment, by its cause. A packet continues its stream or is a stray; a piece is
 -- taken only where one is due, and continues where it is that one.
-abbrev pub MadeBy : ℕ → (Sent → List ℕ) → List Numbered → List Moment → Cause → List Event → Type 0
+abbrev pub MadeBy : ℕ → (Sent → List ℕ) → List Numbered → List LogEntry → Cause → List Event → Type 0
 MadeBy eager bodies commands before Acted events =
     AtEachAfter (λ h e. OwnEvent eager bodies commands before h e.stamp e.what) (history_of before)
     events
@@ -86,10 +86,10 @@ MadeBy eager bodies commands before (Drew d) events =
 
 -- a moment may follow others: its events are those of its cause, and have the next stamps
 pub record MayHappen (eager : ℕ) (bodies : Sent → List ℕ) (commands : List Numbered)
-    (before : List Moment) (m : Moment) : Type 0 where
+    (before : List LogEntry) (m : LogEntry) : Type 0 where
   pub made : MadeBy eager bodies commands before m.cause m.events
   pub stamped : AreStamped (clock_at (clock_of before) m.cause) m.events
 
 -- the moments of a rank are sound: each may follow those before it
-abbrev pub AreSound : ℕ → (Sent → List ℕ) → List Numbered → List Moment → Type 0
+abbrev pub AreSound : ℕ → (Sent → List ℕ) → List Numbered → List LogEntry → Type 0
 AreSound eager bodies commands log = EachMoment (MayHappen eager bodies commands) log

@@ -7,18 +7,18 @@ use Rattle.nm_types.specs.declared.packets.What.TheVariants as what
 use Rattle.nm_history.specs.declared.events.Event.{Event}
 use Rattle.nm_history.specs.declared.events.Happened.TheVariants.{Arrive, Whole, Ran}
 use Rattle.nm_types.specs.declared.answers.Answer.TheVariants as answer
-use Rattle.nm_channels.specs.Moments.{Moment}
+use Rattle.nm_channels.specs.Moments.{LogEntry}
 use Rattle.nm_channels.specs.Moments.Cause.{Took}
 use Rattle.nm_channels.specs.Sound.{AreSound}
 use Rattle.nm_channels.specs.SmallLogs.{at, packet, acts, takes}
 
 -- a packet that doesn't continue its stream
-abbrev pub strays : Packet → List Event → Moment
+abbrev pub strays : Packet → List Event → LogEntry
 strays p events =
     record { cause = Took (record { packet = p; continued = false }); events = events }
 
 -- the stray makes these happen, and then a command ran
-abbrev pub log : List Event → Moment → List Moment
+abbrev pub log : List Event → LogEntry → List LogEntry
 log events later =
     takes (packet 3 0 7 (what.Head 1 0 0) [] (lit< tt) (lit≤ tt))
     (at 8

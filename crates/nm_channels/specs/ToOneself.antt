@@ -11,7 +11,7 @@ use Rattle.nm_types.specs.declared.scripts.Line.{Line}
 use Rattle.nm_types.specs.declared.answers.Answer.TheVariants as answer
 use Rattle.nm_history.specs.declared.events.Happened.TheVariants.{Send, Post, Arrive, Whole, Out}
 use Rattle.nm_history.specs.declared.events.Happened.TheVariants.{Ran}
-use Rattle.nm_channels.specs.Moments.{Moment}
+use Rattle.nm_channels.specs.Moments.{LogEntry}
 use Rattle.nm_channels.specs.Finished.{Finished, AreAllEnds}
 use Rattle.nm_channels.specs.SmallLogs.{at, run_on, rank_line, packet, piece, acts, takes, draws}
 
@@ -24,7 +24,7 @@ script =
     ∷ rank_line 0 (command.Wait 1) ∷ []
 
 -- the moments of the only rank
-abbrev pub only : List Moment
+abbrev pub only : List LogEntry
 only =
     acts
     (at 1 (Post (record { number = 0; from = peer.One 0; tag = pick.One 0; ctx = 0; cap = 1 }) 2)

@@ -7,7 +7,7 @@ use Rattle.std.proofs.Math.Seq.{take-append_seam}
 use Rattle.std.proofs.lemmas.List.{drop_all}
 use Rattle.std.proofs.lemmas.List.Concat.{flat_map-append, flat_map-cons}
 use Rattle.nm_trace.specs.Lines.{ended_lines}
-use Rattle.nm_check.specs.Inputs.{Follows, HasNoCut, IsBefore, IsCut, IsOnlyCut}
+use Rattle.nm_check.specs.Inputs.{IsDivider, HasNoCut, IsBefore, IsCut, IsOnlyCut}
 
 abbrev pub HasNoFeed : List ℕ → Type 0
 HasNoFeed line = AllByRecursion (λ b. b ≢ 10) line
@@ -60,7 +60,7 @@ first_line_of l ls behind =
 -- a cut at its first line: the line between, or one before it
 module _ (bytes f r : List ℕ) (is : IsCut bytes f r) where
   abbrev pub AtOnce : Type 0
-  AtOnce = (f ≡ []) × Follows bytes r
+  AtOnce = (f ≡ []) × IsDivider bytes r
 
   abbrev pub Later : Type 0
   Later = (l : List ℕ) × (ls : List (List ℕ)) × IsBefore l × AllByRecursion IsBefore ls × (f ≡ ended_lines (l ∷ ls))
@@ -72,7 +72,7 @@ module _ (bytes f r : List ℕ) (is : IsCut bytes f r) where
       by_lines : (ls : List (List ℕ)) → AllByRecursion IsBefore ls → f ≡ ended_lines ls → AtOnce ⊎ Later
       by_lines [] before front =
           let whole : bytes ≡ is.behind = is.split ∙ ap (λ (x : List ℕ). x ++ is.behind) front in
-          inl (front, subst (λ (x : List ℕ). Follows x r) (sym whole) is.follows)
+          inl (front, subst (λ (x : List ℕ). IsDivider x r) (sym whole) is.follows)
       by_lines (l ∷ ls) before front =
           inr (
             l,
@@ -89,7 +89,7 @@ cut_behind : (line rest f r : List ℕ) → HasNoFeed line → line ≢ codes "-
     (g : List ℕ) × IsCut rest g r × (f ≡ (line ++ 10 ∷ []) ++ g)
 cut_behind line rest f r one other is = by_first (at_first (line ++ 10 ∷ rest) f r is)
   where
-    at_once : Follows (line ++ 10 ∷ rest) r → ⊥
+    at_once : IsDivider (line ++ 10 ∷ rest) r → ⊥
     at_once (inl fed) = other (first_only line (codes "---") rest r one between_no_feed fed).0
     at_once (inr last) = no_feed line rest (subst (λ (x : List ℕ). HasNoFeed x) (sym last.0) between_no_feed)
 
@@ -146,7 +146,7 @@ none_last bytes rest line so_far one other is f r cut =
     let own : IsCut line passed.0 r = subst (λ (x : List ℕ). IsCut x passed.0 r) is passed.1 in
     by_first passed.0 own (at_first line passed.0 r own)
   where
-    at_once : Follows line r → ⊥
+    at_once : IsDivider line r → ⊥
     at_once (inl fed) = no_feed (codes "---") r (subst (λ (x : List ℕ). HasNoFeed x) fed one)
     at_once (inr last) = other last.0
 
@@ -162,7 +162,7 @@ front_taken bytes front rest is =
     ap (λ (n : ℕ). take n bytes) many ∙ ap (λ (x : List ℕ). take (length front) x) is ∙ take-append_seam front rest
 
 -- the line between is here
-pub cut_here : (bytes rest behind : List ℕ) → Reached bytes rest → Follows rest behind →
+pub cut_here : (bytes rest behind : List ℕ) → Reached bytes rest → IsDivider rest behind →
     IsOnlyCut bytes (take (length bytes - length rest) bytes) behind
 cut_here bytes rest behind so_far is =
     let front : take (length bytes - length rest) bytes ≡ ended_lines so_far.lines = front_taken bytes
@@ -179,7 +179,7 @@ cut_here bytes rest behind so_far is =
       only = λ f r cut. same front f r (so_far.passes f r cut);
     }
   where
-    rests : (r : List ℕ) → Follows rest r → Follows rest behind → r ≡ behind
+    rests : (r : List ℕ) → IsDivider rest r → IsDivider rest behind → r ≡ behind
     rests r (inl a) (inl b) =
         sym ((first_only (codes "---") (codes "---") behind r between_no_feed between_no_feed (sym b ∙ a)).1)
     rests r (inl a) (inr b) =
@@ -188,7 +188,7 @@ cut_here bytes rest behind so_far is =
         absurd (no_feed (codes "---") behind (subst (λ (x : List ℕ). HasNoFeed x) (sym a.0 ∙ b) between_no_feed))
     rests r (inr a) (inr b) = a.1 ∙ sym b.1
 
-    not_later : (l x : List ℕ) → IsBefore l → rest ≡ l ++ 10 ∷ x → Follows rest behind → ⊥
+    not_later : (l x : List ℕ) → IsBefore l → rest ≡ l ++ 10 ∷ x → IsDivider rest behind → ⊥
     not_later l x before whole (inl fed) = before.other
         (sym ((first_only (codes "---") l behind x between_no_feed before.one (sym fed ∙ whole)).0))
     not_later l x before whole (inr last) = no_feed l x

@@ -14,7 +14,7 @@ use Rattle.nm_script.proofs.CommandLemmas.{Fits, line_again}
 use Rattle.nm_script.proofs.ReadLemmas.{AllFit, first_fits, first_solid, script_lines}
 use Rattle.nm_trace.specs.Lines.{ended_lines, first_line}
 use Rattle.nm_check.proofs.CutLemmas.{first_line_of}
-use Rattle.nm_check.specs.Inputs.{Follows, IsBefore, IsOnlyCut}
+use Rattle.nm_check.specs.Inputs.{IsDivider, IsBefore, IsOnlyCut}
 
 -- the first line of a text that begins with a line and its line feed
 first_of : (line x : List ℕ) → AllByRecursion (λ b. b ≢ 10) line → first_line (line ++ 10 ∷ x) ≡ Some (line, x)
@@ -31,7 +31,7 @@ none_some : (p : List ℕ × List ℕ) → None ≡ Some p → ⊥
 none_some p h = cc
 
 -- the line between is no line before it
-not_before : (l z x r : List ℕ) → IsBefore l → Follows x r → x ≡ l ++ 10 ∷ z → ⊥
+not_before : (l z x r : List ℕ) → IsBefore l → IsDivider x r → x ≡ l ++ 10 ∷ z → ⊥
 not_before l z x r before (inl fed) is =
     let both = same_parts (codes "---", r) (l, z)
     (sym (ap first_line fed) ∙ ap first_line is ∙ first_of l z before.one) in
@@ -40,7 +40,7 @@ not_before l z x r before (inr last) is =
     none_some (l, z) (sym (ap first_line last.0) ∙ ap first_line is ∙ first_of l z before.one)
 
 -- what stands behind the line between is one text
-rest_same : (x y r s : List ℕ) → Follows x r → Follows y s → x ≡ y → r ≡ s
+rest_same : (x y r s : List ℕ) → IsDivider x r → IsDivider y s → x ≡ y → r ≡ s
 rest_same x y r s (inl a) (inl b) same =
     (same_parts (codes "---", r) (codes "---", s) (sym (ap first_line a) ∙ ap first_line same ∙ ap first_line b)).1
 rest_same x y r s (inl a) (inr b) same =
@@ -51,7 +51,7 @@ rest_same x y r s (inr a) (inr b) same = a.1 ∙ sym b.1
 
 -- two cuts of one text are the same
 cuts_same : (ls ms : List (List ℕ)) (x y r s : List ℕ) → AllByRecursion IsBefore ls → AllByRecursion IsBefore ms →
-    Follows x r → Follows y s → ended_lines ls ++ x ≡ ended_lines ms ++ y → (ls ≡ ms) × (r ≡ s)
+    IsDivider x r → IsDivider y s → ended_lines ls ++ x ≡ ended_lines ms ++ y → (ls ≡ ms) × (r ≡ s)
 cuts_same [] [] x y r s p q f g same = (refl, rest_same x y r s f g same)
 cuts_same [] (m ∷ ms) x y r s p q f g same =
     absurd (not_before m (ended_lines ms ++ y) x r q.0 f (same ∙ first_line_of m ms y))

@@ -8,7 +8,7 @@ use Rattle.nm_types.specs.declared.scripts.Line.{Line}
 use Rattle.nm_types.specs.Commands.{commands_of}
 use Rattle.nm_types.specs.Sizes.{Sizes}
 use Rattle.nm_history.specs.declared.events.Event.{Event}
-use Rattle.nm_history.specs.Quiescence.{EachRank, Ended, Stands}
+use Rattle.nm_history.specs.Quiescence.{EachRank, Ended, IsStopped}
 use Rattle.nm_report.specs.declared.accounts.RankAccount.{RankAccount}
 use Rattle.nm_report.specs.Ends.{ends_of}
 use Rattle.nm_types.proofs.OptionLemmas.{no_some}
@@ -123,7 +123,7 @@ rest_known r ranks spot breaks =
 -- .. of a rank that stands where it may not
 pub standing_known : (lines : List Line) (ranks : List Ended) (i : ℕ) → BreaksStanding lines ranks i → i < length ranks
 standing_known lines ranks i breaks =
-    some_inside ranks i (λ rank. Stands (commands_of i lines) rank → ⊥) breaks.first
+    some_inside ranks i (λ rank. IsStopped (commands_of i lines) rank → ⊥) breaks.first
 
 -- .. and its place
 pub rest_inside : (r : EventRule) (ranks : List Ended) (spot : Spot) → BreaksRestAt r ranks spot →

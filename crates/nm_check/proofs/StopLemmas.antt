@@ -16,7 +16,7 @@ use Rattle.nm_script.specs.Lines.{is_fed, lines_of, text_len}
 use Rattle.nm_script.proofs.LineLemmas.{ended_lines as ended, text_len-lines}
 use Rattle.nm_trace.specs.Lines.{cut_lines, ended_lines, onto_lines, whole_lines}
 use Rattle.nm_trace.specs.Traces.{Begins, IsFirstBad, IsTraceOf}
-use Rattle.nm_check.specs.Inputs.{Follows, IsCut}
+use Rattle.nm_check.specs.Inputs.{IsDivider, IsCut}
 use Rattle.nm_check.specs.Stops.{IsLineStop, IsStop, lines_in, zeroed}
 use Rattle.nm_check.specs.declared.breaks.stops.Stop.{Stop}
 use Rattle.nm_check.specs.declared.breaks.stops.Stop.TheVariants as stop
@@ -148,7 +148,7 @@ zeroed_le behind (b ∷ line) = by_byte (is_ascii_digit b) behind (zeroed_le (is
 pub rest_less : (bytes front rest : List ℕ) → IsCut bytes front rest → length rest < length bytes
 rest_less bytes front rest cut = by_end cut.follows
   where
-    by_end : Follows cut.behind rest → length rest < length bytes
+    by_end : IsDivider cut.behind rest → length rest < length bytes
     by_end (inl is) =
         let whole = ap (λ (xs : List ℕ). length xs) cut.split ∙ length-append front cut.behind in
         let behind = ap (λ (xs : List ℕ). length xs) is ∙ length-append (codes "---\n") rest in

@@ -9,8 +9,8 @@ pub record IsBefore (line : List ℕ) : Type 0 where
   pub other : line ≢ codes "---"
 
 -- the line between, with its line feed, or at the end without it
-abbrev pub Follows : List ℕ → List ℕ → Type 0
-Follows bytes rest = (bytes ≡ codes "---\n" ++ rest) ⊎ ((bytes ≡ codes "---") × (rest ≡ []))
+abbrev pub IsDivider : List ℕ → List ℕ → Type 0
+IsDivider bytes rest = (bytes ≡ codes "---\n" ++ rest) ⊎ ((bytes ≡ codes "---") × (rest ≡ []))
 
 -- The first line `---` of the bytes stands behind this front, and this rest behind it.
 pub record IsCut (bytes front rest : List ℕ) : Type 0 where
@@ -19,7 +19,7 @@ pub record IsCut (bytes front rest : List ℕ) : Type 0 where
   pub before : AllByRecursion IsBefore lines
   pub front_is : front ≡ ended_lines lines
   pub split : bytes ≡ front ++ behind
-  pub follows : Follows behind rest
+  pub follows : IsDivider behind rest
 
 -- no line of the bytes is `---`
 abbrev pub HasNoCut : List ℕ → Type 0

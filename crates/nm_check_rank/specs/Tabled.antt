@@ -16,7 +16,7 @@ use Rattle.nm_check_rank.specs.declared.paired.judging.Judged.TheVariants.{Break
 use Rattle.nm_check_rank.specs.declared.paired.tables.Tables.{Tables}
 
 -- these are the tables of a history, of the rank with this number in a script of these lines
-pub record AreTables (rank : ℕ) (lines : List Line) (h : List Event) (tables : Tables) :
+pub record AreRankTables (rank : ℕ) (lines : List Line) (h : List Event) (tables : Tables) :
     Type 0 where
   pub counts : AreCounted h tables.counts
   pub places : ArePlaces h tables.places
@@ -27,6 +27,6 @@ pub record AreTables (rank : ℕ) (lines : List Line) (h : List Event) (tables :
 -- the first of its rules that is broken.
 abbrev pub IsJudged : Sizes → ℕ → List Line → ℕ → List Event → Judged → Type 0
 IsJudged shape rank lines at h (Runs tables) =
-    IsRankRun shape (commands_of rank lines) at h × AreTables rank lines h tables
+    IsRankRun shape (commands_of rank lines) at h × AreRankTables rank lines h tables
 IsJudged shape rank lines at h (Breaks clause) =
     IsFirstBroken (KeepsOwn shape (commands_of rank lines) at h) own_order clause

@@ -6,7 +6,7 @@ use Rattle.nm_lookups.specs.Deciding.{Decides}
 use Rattle.std.specs.List.{slice_get}
 use Rattle.std.proofs.lemmas.Bool.{false≢true}
 use Rattle.nm_types.specs.declared.scripts.Line.{Line}
-use Rattle.nm_history.specs.Quiescence.{EachRank, Ended, Packets, Stands}
+use Rattle.nm_history.specs.Quiescence.{EachRank, Ended, Packets, IsStopped}
 use Rattle.nm_history.proofs.EachLemmas.{each_event}
 use Rattle.nm_check_ranks.specs.Over.{AskedIsOver, EagerIsOver}
 use Rattle.nm_check_ranks.specs.RestBreaks.{BreaksStanding, KeepRestAt, RestAt, rest_clause}
@@ -49,10 +49,10 @@ first_decides (Some x) true Breaks is first never = absurd (false≢true (sym is
 first_decides (Some x) false Breaks is first never = never x first
 
 pub not_standing : (lines : List Line) (ranks : List Ended) (i : ℕ) → BreaksStanding lines ranks i →
-    EachRank (λ i rank. Stands (commands_of i lines) rank) ranks → ⊥
+    EachRank (λ i rank. IsStopped (commands_of i lines) rank) ranks → ⊥
 not_standing lines ranks i breaks each = by_rank (slice_get ranks i) breaks.first (each i)
   where
-    by_rank : (o : Option Ended) → IsSomeAnd o (λ rank. Stands (commands_of i lines) rank → ⊥) →
-        IfSome o (λ rank. Stands (commands_of i lines) rank) → ⊥
+    by_rank : (o : Option Ended) → IsSomeAnd o (λ rank. IsStopped (commands_of i lines) rank → ⊥) →
+        IfSome o (λ rank. IsStopped (commands_of i lines) rank) → ⊥
     by_rank None there here = there
     by_rank (Some rank) never here = never here

@@ -12,7 +12,7 @@ use Rattle.nm_report.specs.declared.accounts.RankAccount.{RankAccount}
 use Rattle.nm_report.specs.Ends.{ends_of}
 use Rattle.nm_lookups.specs.Deciding.{Decides}
 use Rattle.nm_check_ranks.specs.Marked.{AreMarks, history_of}
-use Rattle.nm_check_rank.specs.Tabled.{AreTables}
+use Rattle.nm_check_rank.specs.Tabled.{AreRankTables}
 use Rattle.nm_check_ranks.specs.Tabled.{AreTabled}
 use Rattle.nm_check_ranks.specs.declared.marks.Marks.{Marks}
 use Rattle.nm_check_rank.specs.declared.paired.tables.Tables.{Tables}
@@ -29,9 +29,9 @@ table_inside ranks tables i tabled inside =
 -- the tables of the rank at a place
 pub tables_at : (ranks : List RankAccount) (tables : List Tables) (i : ℕ) (a : RankAccount) (t : Tables)
     (tabled : AreTabled (ends_of ranks) tables) →
-    i < length ranks → a ≡ get_or ranks i a → t ≡ get_or tables i t → AreTables i tabled.0 a.history.events t
+    i < length ranks → a ≡ get_or ranks i a → t ≡ get_or tables i t → AreRankTables i tabled.0 a.history.events t
 tables_at ranks tables i a t tabled inside is its =
-    subst (λ (o : Option Ended). IsSomeAnd o (λ rank. AreTables i tabled.0 rank.events t)) (end_at ranks i a inside is)
+    subst (λ (o : Option Ended). IsSomeAnd o (λ rank. AreRankTables i tabled.0 rank.events t)) (end_at ranks i a inside is)
     (tabled.1.each i t (table_inside ranks tables i tabled inside) its)
 
 -- the history of the rank at a place
@@ -86,11 +86,11 @@ blank = record { arrivals = []; bodies = []; outs = []; withdrawals = []; answer
 
 -- the tables of the rank at a place
 abbrev pub TabledAt : List Line → List Ended → ℕ → Tables → Type 0
-TabledAt lines ranks i tables = IsSomeAnd (slice_get ranks i) (λ rank. AreTables i lines rank.events tables)
+TabledAt lines ranks i tables = IsSomeAnd (slice_get ranks i) (λ rank. AreRankTables i lines rank.events tables)
 
 pub tabled_rank : (lines : List Line) (ranks : List RankAccount) (i : ℕ) (a : RankAccount) (t : Tables) →
-    i < length ranks → a ≡ get_or ranks i a → AreTables i lines a.history.events t →
+    i < length ranks → a ≡ get_or ranks i a → AreRankTables i lines a.history.events t →
     TabledAt lines (ends_of ranks) i t
 tabled_rank lines ranks i a t inside is its =
-    subst (λ (o : Option Ended). IsSomeAnd o (λ rank. AreTables i lines rank.events t)) (sym (end_at ranks i a inside is))
+    subst (λ (o : Option Ended). IsSomeAnd o (λ rank. AreRankTables i lines rank.events t)) (sym (end_at ranks i a inside is))
     its

@@ -5,7 +5,7 @@ use Rattle.nm_history.specs.declared.events.Happened.{Happened}
 use Rattle.nm_history.specs.AtEach.{AtEach}
 use Rattle.nm_types.specs.declared.scripts.Line.{Line}
 use Rattle.nm_types.specs.Commands.{commands_of}
-use Rattle.nm_history.specs.Quiescence.{EachRank, Ended, IsAnswered, Stands}
+use Rattle.nm_history.specs.Quiescence.{EachRank, Ended, IsAnswered, IsStopped}
 use Rattle.nm_check_rank.specs.Breaks.{BreaksFirstAt}
 use Rattle.nm_check_ranks.specs.declared.firsts.Spot.{Spot}
 use Rattle.nm_check_ranks.specs.Over.{AskedIsOver, EagerIsOver, SendKeeps}
@@ -39,5 +39,5 @@ rest_clause rule.Recalls = rest.Recalls
 
 -- The ranks before this one are at their ends, or wait for what can't come, and this one is not.
 pub record BreaksStanding (lines : List Line) (ranks : List Ended) (i : ℕ) : Type 0 where
-  pub earlier : EachRank (λ x rank. x < i → Stands (commands_of x lines) rank) ranks
-  pub first : IsSomeAnd (slice_get ranks i) (λ rank. ¬ Stands (commands_of i lines) rank)
+  pub earlier : EachRank (λ x rank. x < i → IsStopped (commands_of x lines) rank) ranks
+  pub first : IsSomeAnd (slice_get ranks i) (λ rank. ¬ IsStopped (commands_of i lines) rank)

@@ -3,7 +3,7 @@ use Rattle.std.specs.Prelude.{◌≡◌, ℕ, List, [], ◌∷◌, length}
 use Rattle.nm_types.specs.declared.scripts.Line.{Line}
 use Rattle.nm_types.specs.Commands.{commands_of}
 use Rattle.nm_history.specs.Quiescence.{Ended, Packets, EachRank, EachPair, EagerOver}
-use Rattle.nm_history.specs.Quiescence.{AskedOver, RecallsAnswered, Stands, packets_of as packets_due}
+use Rattle.nm_history.specs.Quiescence.{AskedOver, RecallsAnswered, IsStopped, packets_of as packets_due}
 use Rattle.nm_history.specs.Sends.{sends, arrivals}
 use Rattle.nm_check_ranks.specs.declared.rest.clauses.RestClause.{RestClause}
 use Rattle.nm_check_ranks.specs.declared.rest.clauses.RestClause.TheVariants as rest
@@ -17,7 +17,7 @@ KeepsRest lines ranks packets rest.Asked = EachPair AskedOver ranks
 KeepsRest lines ranks packets rest.Recalls =
     EachRank (λ i rank. RecallsAnswered rank.events) ranks
 KeepsRest lines ranks packets rest.Waits =
-    EachRank (λ i rank. Stands (commands_of i lines) rank) ranks
+    EachRank (λ i rank. IsStopped (commands_of i lines) rank) ranks
 KeepsRest lines ranks packets rest.Counts = packets ≡ packets_due lines ranks
 
 -- the order in which they are judged

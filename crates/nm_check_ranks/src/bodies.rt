@@ -12,7 +12,7 @@ ghost use Rattle.nm_history.specs.Quiescence.{EachRank};
 ghost use Rattle.nm_history.specs.Sends.{sends, sent_bytes, sent_of};
 ghost use Rattle.nm_report.specs.Ends.{ends_of};
 ghost use Rattle.nm_lookups.specs.Deciding.{Decides};
-ghost use Rattle.nm_check_rank.specs.Tabled.{AreTables};
+ghost use Rattle.nm_check_rank.specs.Tabled.{AreRankTables};
 ghost use Rattle.nm_check_ranks.specs.Marked.{AreMarked, KeepsLocal, Names, history_of};
 ghost use Rattle.nm_check_ranks.specs.Tabled.{AreTabled};
 
@@ -149,7 +149,7 @@ fn sender_of_answer(
 ) -> Option<u8>
     requires lawful { EachRank KeepsLocal (ends_of ranks.now) }
     requires tabled { AreTabled (ends_of ranks.now) tables.now }
-    ensures { (h : List event.Event) (e : event.Event) → AreTables j lines.now h own.now →
+    ensures { (h : List event.Event) (e : event.Event) → AreRankTables j lines.now h own.now →
         slice_get h k ≡ Some e → e.what ≡ Ran line answer.now →
         Names (λ i. BodyAt i (commands_of i lines.now) (sends (history_of (ends_of ranks.now) i) j)
         (commands_of j lines.now) (take k h) (Ran line answer.now)) result }
@@ -182,7 +182,7 @@ pub(crate) fn sender_not_shown(
 ) -> Option<u8>
     requires lawful { EachRank KeepsLocal (ends_of ranks.now) }
     requires tabled { AreTabled (ends_of ranks.now) tables.now }
-    ensures { (h : List event.Event) → AreTables j lines.now h own.now →
+    ensures { (h : List event.Event) → AreRankTables j lines.now h own.now →
         slice_get h k ≡ Some e.now →
         Names (λ i. BodyAt i (commands_of i lines.now) (sends (history_of (ends_of ranks.now) i) j)
         (commands_of j lines.now) (take k h) e.now.what) result }
@@ -204,7 +204,7 @@ pub(crate) fn mark_bodies(
     ranks: &[RankAccount],
     tables: &[Tables],
 ) -> [bool; NAMES]
-    requires own { AreTables j lines.now events.now own.now }
+    requires own { AreRankTables j lines.now events.now own.now }
     requires lawful { EachRank KeepsLocal (ends_of ranks.now) }
     requires tabled { AreTabled (ends_of ranks.now) tables.now }
     ensures { AreMarked (λ i before e. BodyAt i (commands_of i lines.now)

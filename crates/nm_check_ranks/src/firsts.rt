@@ -7,7 +7,7 @@ ghost use Rattle.nm_history.specs.Quiescence.{EachRank};
 ghost use Rattle.nm_history.specs.RankRun.{Always, NumberAt};
 ghost use Rattle.nm_report.specs.Ends.{ends_of};
 ghost use Rattle.nm_check_rank.specs.Breaks.{BreaksFirstAt};
-ghost use Rattle.nm_check_rank.specs.Tabled.{AreTables};
+ghost use Rattle.nm_check_rank.specs.Tabled.{AreRankTables};
 ghost use Rattle.nm_check_ranks.specs.CarriedBreaks as spec;
 ghost use Rattle.nm_check_ranks.specs.CarriedBreaks.{FirstAt, IsFirstBetween, PartAt};
 ghost use Rattle.nm_check_ranks.specs.declared.clauses.CarriedClause.TheVariants as carried;
@@ -69,7 +69,7 @@ fn broken_with(
 ) -> Option<u8>
     requires lawful { EachRank KeepsLocal (ends_of ranks.now) }
     requires tabled { AreTabled (ends_of ranks.now) tables.now }
-    ensures { (n : ℕ) (h : List event.Event) → AreTables x lines.now h own.now →
+    ensures { (n : ℕ) (h : List event.Event) → AreRankTables x lines.now h own.now →
         slice_get h k ≡ Some e.now → NumberAt n (take k h) e.now.what →
         Names (λ y. PartAt part lines.now (ends_of ranks.now) x y (take k h) e.now) result }
 {
@@ -94,7 +94,7 @@ fn first_part(
     tables: &[Tables],
 ) -> Option<usize>
     requires numbered { (n : ℕ) × Always (NumberAt n) events.now }
-    requires own { AreTables x lines.now events.now own.now }
+    requires own { AreRankTables x lines.now events.now own.now }
     requires lawful { EachRank KeepsLocal (ends_of ranks.now) }
     requires tabled { AreTabled (ends_of ranks.now) tables.now }
     ensures { MatchOption result

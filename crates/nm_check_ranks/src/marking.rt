@@ -4,7 +4,7 @@ ghost use Rattle.std.specs.Prelude.{◌<◌, ℕ, IfOk, length};
 ghost use Rattle.nm_history.specs.Quiescence.{EachRank};
 ghost use Rattle.nm_history.specs.RankRun.{Always, NumberAt};
 ghost use Rattle.nm_report.specs.Ends.{ends_of};
-ghost use Rattle.nm_check_rank.specs.Tabled.{AreTables};
+ghost use Rattle.nm_check_rank.specs.Tabled.{AreRankTables};
 ghost use Rattle.nm_check_ranks.specs.Marked.{AreMarks, EachMarked, KeepsLocal};
 ghost use Rattle.nm_check_ranks.specs.Tabled.{AreTabled, EachTabled};
 
@@ -26,7 +26,7 @@ fn marks_at(
     tables: &[Tables],
 ) -> Marks
     requires numbered { (n : ℕ) × Always (NumberAt n) events.now }
-    requires own { AreTables x lines.now events.now own.now }
+    requires own { AreRankTables x lines.now events.now own.now }
     requires lawful { EachRank KeepsLocal (ends_of ranks.now) }
     requires tabled { AreTabled (ends_of ranks.now) tables.now }
     ensures { AreMarks lines.now (ends_of ranks.now) x events.now result }

@@ -5,7 +5,7 @@ use Rattle.nm_script.specs.declared.command_line.CommandLine.{CommandLine}
 use Rattle.nm_plans.specs.Expansion.{expand}
 use Rattle.nm_persist.specs.Plans.{IsPlan}
 use Rattle.nm_persist.specs.Rules.{IsFirstFault, IsTextOf}
-use Rattle.nm_persist.specs.Promises.{IsKept, shown_of}
+use Rattle.nm_persist.specs.Promises.{KeepsPromise, shown_of}
 use Rattle.nm_plans.specs.declared.faults.PlanFault.{PlanFault}
 use Rattle.nm_plans.specs.declared.faults.PlanFault.TheVariants as fault
 use Rattle.nm_plans.specs.declared.faults.PlanKind.{PlanKind}
@@ -56,4 +56,4 @@ pub record IsRunOfPlan (line : CommandLine) (input : Option (List ℕ)) (lines :
 abbrev pub KeepsPromises : List PlanLine → RunRecord → Type 0
 KeepsPromises lines run =
     (rank : ℕ) (account : RankAccount) → slice_get run.ranks rank ≡ Some account →
-    AllByRecursion (IsKept lines rank) (shown_of lines rank account)
+    AllByRecursion (KeepsPromise lines rank) (shown_of lines rank account)

@@ -11,7 +11,7 @@ use Rattle.nm_types.specs.declared.packets.Packet.{Packet}
 use Rattle.nm_types.specs.declared.packets.What.TheVariants as what
 use Rattle.nm_history.specs.Sends.{Sent}
 use Rattle.nm_history.specs.Outgoing.{Called, eager_packets, further_packets, part_at}
-use Rattle.nm_eager.specs.Cutting.{Cutting, packet_count, next_what, IsMessageOf, IsNext}
+use Rattle.nm_eager.specs.Cutting.{Cutting, packet_count, next_what, IsMessageOf, IsNextPacket}
 use Rattle.nm_types.proofs.NumberLemmas.{unequal}
 
 -- the bytes that were copied one by one are the part
@@ -52,7 +52,7 @@ packet-at s body (suc k) h =
 -- the packet that a cutter gives is the next one called for
 pub is_next : (c : Cutting) (s : Sent) (seq : ℕ) (p : Packet) → IsMessageOf c s → s.stamp ≤ p.stamp
     → c.given < packet_count c → p.from ≡ c.from → p.seq ≡ seq → p.what ≡ next_what c
-    → p.payload ≡ part_at MAX_PAYLOAD c.body c.given → IsNext c s seq p
+    → p.payload ≡ part_at MAX_PAYLOAD c.body c.given → IsNextPacket c s seq p
 is_next c s seq p m later l f q w b =
     let few : c.given < 1 + further_packets s.len = rw m.len l in
     rw (packet-at s c.body c.given few) (record {

@@ -35,7 +35,7 @@ pub record IsMessageOf (cutting : Cutting) (s : Sent) : Type 0 where
   pub len : s.len ≡ length cutting.body
 
 -- the packet is the next one that a send of the message calls for, with this number
-abbrev pub IsNext : Cutting → Sent → ℕ → Packet → Type 0
-IsNext cutting s number p =
+abbrev pub IsNextPacket : Cutting → Sent → ℕ → Packet → Type 0
+IsNextPacket cutting s number p =
     IsSomeAnd (slice_get (eager_packets s cutting.body) cutting.given)
     (λ called. IsCalled cutting.from number called p)

@@ -7,7 +7,7 @@ ghost use Rattle.nm_types.specs.declared.limits.TheConstants.{MAX_STAMP};
 ghost use Rattle.nm_types.specs.Bodies.{bytes_of, body_len};
 ghost use Rattle.nm_history.specs.Sends.{Sent};
 ghost use Rattle.nm_history.specs.Outgoing.{part_at};
-ghost use Rattle.nm_eager.specs.Cutting.{IsMessageOf, IsNext, next_what, packet_count};
+ghost use Rattle.nm_eager.specs.Cutting.{IsMessageOf, IsNextPacket, next_what, packet_count};
 
 use nm_types::ranges::copy_range;
 use nm_types::{Body, MAX_PAYLOAD, Packet, Payload, What, laws};
@@ -74,7 +74,7 @@ impl Cutter {
         requires seq_in_range { seq < MAX_PACKETS }
         requires stamp_in_range { stamp ≤ MAX_STAMP }
         ensures called { IfSome result (λ p.
-            (s : Sent) → IsMessageOf self.old s → s.stamp ≤ stamp → IsNext self.old s seq p) }
+            (s : Sent) → IsMessageOf self.old s → s.stamp ≤ stamp → IsNextPacket self.old s seq p) }
         ensures stamped { IfSome result (λ p. p.stamp ≡ stamp) }
         ensures count { OnSome result (self.new ≡ record self.old { given = self.old.given + 1 }) }
         ensures none { IsNone result ↔ (packet_count self.old ≤ self.old.given) }

@@ -17,24 +17,24 @@ use Rattle.nm_outcomes.specs.RankStates.{Spot}
 use Rattle.nm_explored.specs.declared.choices.moves.Move.TheVariants as move
 use Rattle.nm_explored.specs.declared.choices.moves.Turn.{Turn}
 use Rattle.nm_explored.specs.Successors.{begun_in, is_withdrawn_next}
-use Rattle.nm_explored.specs.Lists.{AddsOnly, Has, Keeps}
+use Rattle.nm_explored.specs.Lists.{AddsOnly, Has, Extends}
 use Rattle.nm_explored.specs.Moves.{IsAct, IsChoiceOf, IsDeedOf, IsNextMessage, IsRecalled, IsTurn, IsTurnOf}
 use Rattle.nm_explored.specs.Moves.{no_in, reply_in}
 
-pub keeps_all : {X : Type 0} (xs : List X) → Keeps xs xs
+pub keeps_all : {X : Type 0} (xs : List X) → Extends xs xs
 keeps_all xs k x here = here
 
-pub keeps_then : {X : Type 0} (xs ys zs : List X) → Keeps xs ys → Keeps ys zs → Keeps xs zs
+pub keeps_then : {X : Type 0} (xs ys zs : List X) → Extends xs ys → Extends ys zs → Extends xs zs
 keeps_then xs ys zs one two k x here = two k x (one k x here)
 
-pub keeps_push : {X : Type 0} (xs ys : List X) (y : X) → ys ≡ xs ++ y ∷ [] → Keeps xs ys
+pub keeps_push : {X : Type 0} (xs ys : List X) (y : X) → ys ≡ xs ++ y ∷ [] → Extends xs ys
 keeps_push xs ys y is k x here =
     ap (λ zs. slice_get zs k) is ∙ get_before xs (y ∷ []) k x here
 
 pub has_push : {X : Type 0} (xs ys : List X) (y : X) → ys ≡ xs ++ y ∷ [] → Has ys y
 has_push xs ys y is = (length xs, ap (λ zs. slice_get zs (length xs)) is ∙ get_last xs y)
 
-pub has_kept : {X : Type 0} (xs ys : List X) (x : X) → Keeps xs ys → Has xs x → Has ys x
+pub has_kept : {X : Type 0} (xs ys : List X) (x : X) → Extends xs ys → Has xs x → Has ys x
 has_kept xs ys x kept at = (at.0, kept at.0 x at.1)
 
 -- what holds below a number and at it

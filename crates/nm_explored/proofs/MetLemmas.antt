@@ -21,7 +21,7 @@ use Rattle.nm_outcomes.proofs.SentLemmas.{get_more}
 use Rattle.nm_outcomes.specs.RankStates.{Spot, first_spot}
 use Rattle.nm_explored.specs.declared.choices.moves.Turn.{Turn}
 use Rattle.nm_explored.specs.Successors.{spot_in}
-use Rattle.nm_explored.specs.Lists.{Has, Keeps}
+use Rattle.nm_explored.specs.Lists.{Has, Extends}
 use Rattle.nm_explored.specs.Moves.{IsChoiceOf, IsTurn, moved_at}
 use Rattle.nm_explored.proofs.KeptLemmas.{has_push, keeps_push}
 use Rattle.nm_explored.specs.declared.ends.Explored.{Explored}
@@ -55,7 +55,7 @@ inserted {X} E xs ys x is = by_test (list_any (E x) xs) refl
     by_test true so = inl (is ∙ ap (λ (c : Bool). if c then xs else xs ++ x ∷ []) so)
     by_test false so = inr (is ∙ ap (λ (c : Bool). if c then xs else xs ++ x ∷ []) so)
 
-pub kept_in : {X : Type 0} (xs ys : List X) (x : X) → (ys ≡ xs) ⊎ (ys ≡ xs ++ x ∷ []) → Keeps xs ys
+pub kept_in : {X : Type 0} (xs ys : List X) (x : X) → (ys ≡ xs) ⊎ (ys ≡ xs ++ x ∷ []) → Extends xs ys
 kept_in {X} xs ys x (inl same) k y here = ap (λ (zs : List X). slice_get zs k) same ∙ here
 kept_in {X} xs ys x (inr more) k y here = keeps_push xs ys x more k y here
 
@@ -88,19 +88,19 @@ state_at table ids low i =
         ∙ sym (ap (λ (o : Option ℕ). option_and_then (λ id. slice_get table id) o) is)
 
 -- .. in a table with more
-id_kept : (old new : List Spot) (id : ℕ) → Keeps old new → id < length old →
+id_kept : (old new : List Spot) (id : ℕ) → Extends old new → id < length old →
     get_or new id first_spot ≡ get_or old id first_spot
 id_kept old new id kept low =
     get_or_from_slice_get new id (get_or old id first_spot) first_spot
     (kept id (get_or old id first_spot) (slice_get-get_or old id first_spot low))
 
-pub states_kept : (old new : List Spot) (ids : List ℕ) → Keeps old new → AreLow old ids →
+pub states_kept : (old new : List Spot) (ids : List ℕ) → Extends old new → AreLow old ids →
     states_in new ids ≡ states_in old ids
 states_kept old new [] kept low = refl
 states_kept old new (id ∷ ids) kept low =
     λ i. id_kept old new id kept (low 0 id refl) i ∷ states_kept old new ids kept (low_tail old id ids low) i
 
-spots_kept : (old new : List Spot) (ids : List ℕ) → Keeps old new → AreLow old ids → (j : ℕ) →
+spots_kept : (old new : List Spot) (ids : List ℕ) → Extends old new → AreLow old ids → (j : ℕ) →
     spot_in new ids j ≡ spot_in old ids j
 spots_kept old new ids kept low j = by_id (slice_get ids j) refl
   where
@@ -114,7 +114,7 @@ spots_kept old new ids kept low j = by_id (slice_get ids j) refl
         ∙ kept id x.0 x.1 ∙ sym x.1
         ∙ sym (ap (λ (o : Option ℕ). option_and_then (λ id. slice_get old id) o) is)
 
-pub low_kept : (old new : List Spot) (ids : List ℕ) → Keeps old new → AreLow old ids → AreLow new ids
+pub low_kept : (old new : List Spot) (ids : List ℕ) → Extends old new → AreLow old ids → AreLow new ids
 low_kept old new ids kept low j id here =
     let x = get_some old id (low j id here) in place_below new id x.0 (kept id x.0 x.1)
 
@@ -188,7 +188,7 @@ module _ (eager ranks : ℕ) (lines : List Line) where
     refl,
   )
 
-  pub sound_kept : (old new : List Spot) (ids : List ℕ) → Keeps old new → IsSound eager ranks lines old ids →
+  pub sound_kept : (old new : List Spot) (ids : List ℕ) → Extends old new → IsSound eager ranks lines old ids →
       IsSound eager ranks lines new ids
   sound_kept old new ids kept sound =
       record {
@@ -233,7 +233,7 @@ module _ (eager ranks : ℕ) (lines : List Line) where
           (λ i. sym (state_at table ids sound.low i)) turn
 
   -- a move that may be made is one where the table has more
-  pub turn_kept : (old new : Store) (ids : List ℕ) (t : Turn) → Keeps old.table new.table →
+  pub turn_kept : (old new : Store) (ids : List ℕ) (t : Turn) → Extends old.table new.table →
       IsSound eager ranks lines old.table ids → IsTurn eager ranks lines (spot_in old.table ids) t →
       IsTurn eager ranks lines (spot_in new.table ids) t
   turn_kept old new ids t kept sound turn =
@@ -251,7 +251,7 @@ module _ (eager ranks : ℕ) (lines : List Line) where
       (turn_kept old now x.0 t grows.table (made.sound k x.0 x.1) (turns x.0 x.1))
 
   -- one state more, or none
-  pub made_more : (old new : Store) (ids : List ℕ) → IsMade eager ranks lines old → Keeps old.table new.table →
+  pub made_more : (old new : Store) (ids : List ℕ) → IsMade eager ranks lines old → Extends old.table new.table →
       StandOnce new.table → StandOnce new.states → IsSound eager ranks lines new.table ids →
       (new.states ≡ old.states) ⊎ (new.states ≡ old.states ++ ids ∷ []) → IsMade eager ranks lines new
   made_more old new ids made kept table states sound is =
@@ -279,7 +279,7 @@ module _ (eager ranks : ℕ) (lines : List Line) where
 
   -- the state of a move that was followed
   pub made_next : (old new : Store) (k : ℕ) (t : Turn) (id : ℕ) (s : Spot) → IsMade eager ranks lines old →
-      Keeps old.table new.table → StandOnce new.table → StandOnce new.states → slice_get new.table id ≡ Some s →
+      Extends old.table new.table → StandOnce new.table → StandOnce new.states → slice_get new.table id ≡ Some s →
       ((ids : List ℕ) → slice_get old.states k ≡ Some ids → IsTurn eager ranks lines (spot_in old.table ids) t) →
       ((ids : List ℕ) (spot : Spot) → slice_get old.states k ≡ Some ids →
       spot_in old.table ids t.rank ≡ Some spot → s ≡ moved_at spot t.by) →

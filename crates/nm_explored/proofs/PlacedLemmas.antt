@@ -28,7 +28,7 @@ use Rattle.nm_lookups.proofs.ReplayLemmas.{first_free, found_any, is_some-messag
 use Rattle.nm_report.specs.Told.{told_by}
 use Rattle.nm_outcomes.specs.Logs.{IsLog, Step, history_in}
 use Rattle.nm_outcomes.specs.Moves.{ArePlaces}
-use Rattle.nm_outcomes.specs.Places.{IsPlaceOf, Place, envelopes_to}
+use Rattle.nm_outcomes.specs.Places.{IsPlaceOf, RankPoint, envelopes_to}
 use Rattle.nm_outcomes.specs.Results.{is_unasked}
 use Rattle.nm_outcomes.proofs.EndLemmas.{all_follow}
 use Rattle.nm_outcomes.specs.Looks.{claim_in, found_at}
@@ -37,7 +37,7 @@ use Rattle.nm_outcomes.proofs.SaidLemmas.{said}
 use Rattle.nm_outcomes.proofs.SpotLemmas.{gone_is}
 
 -- the place of a history
-abbrev pub place_of : ℕ → List Numbered → List Event → Place
+abbrev pub place_of : ℕ → List Numbered → List Event → RankPoint
 place_of me commands h = record {
   told = filter_map (λ (e : Event). told_by e.what) h;
   done = length (ran_lines h);
@@ -89,7 +89,7 @@ is_place_of me commands h = record {
 }
 
 -- the places of all ranks after a log
-abbrev pub placed : List Line → List Step → ℕ → Place
+abbrev pub placed : List Line → List Step → ℕ → RankPoint
 placed lines log j = place_of j (commands_of j lines) (history_in log j)
 
 pub are_placed : (lines : List Line) (log : List Step) → ArePlaces lines log (placed lines log)

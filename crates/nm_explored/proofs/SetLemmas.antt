@@ -10,14 +10,14 @@ use Rattle.nm_types.proofs.TruthLemmas.{and_left, and_right}
 use Rattle.nm_outcomes.specs.SameLaws.{same_spot, spots_equiv}
 use Rattle.nm_outcomes.specs.Sames.{same_spots}
 use Rattle.nm_outcomes.specs.RankStates.{Spot}
-use Rattle.nm_explored.specs.Lists.{Has, Keeps}
+use Rattle.nm_explored.specs.Lists.{Has, Extends}
 use Rattle.nm_explored.specs.Stores.{StandOnce}
 use Rattle.nm_explored.proofs.MetLemmas.{inserted, kept_in, once_in, same_lists}
 
 pub spots_once : (xs : List Spot) → IsDistinct same_spots xs → StandOnce xs
 spots_once xs distinct = once_in same_spots spots_equiv.refl xs distinct
 
-pub spots_keep : (xs ys : List Spot) (x : Spot) → ys ≡ insert_key same_spots xs x → Keeps xs ys
+pub spots_keep : (xs ys : List Spot) (x : Spot) → ys ≡ insert_key same_spots xs x → Extends xs ys
 spots_keep xs ys x is = kept_in xs ys x (inserted same_spots xs ys x is)
 
 pub spot_there : (ys : List Spot) (id : ℕ) (x : Spot) →
@@ -31,7 +31,7 @@ pub ids_added : (xs ys : List (List ℕ)) (x : List ℕ) → ys ≡ insert_key (
     (ys ≡ xs) ⊎ (ys ≡ xs ++ x ∷ [])
 ids_added xs ys x is = inserted (pointwise nat_eq) xs ys x is
 
-pub ids_keep : (xs ys : List (List ℕ)) (x : List ℕ) → ys ≡ insert_key (pointwise nat_eq) xs x → Keeps xs ys
+pub ids_keep : (xs ys : List (List ℕ)) (x : List ℕ) → ys ≡ insert_key (pointwise nat_eq) xs x → Extends xs ys
 ids_keep xs ys x is = kept_in xs ys x (ids_added xs ys x is)
 
 pub ids_there : (ys : List (List ℕ)) (id : ℕ) (x : List ℕ) →

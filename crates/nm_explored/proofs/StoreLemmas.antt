@@ -13,7 +13,7 @@ use Rattle.nm_outcomes.specs.RankStates.{Spot, first_spot}
 use Rattle.nm_explored.specs.declared.choices.moves.Move.{Move}
 use Rattle.nm_explored.specs.declared.choices.moves.Turn.{Turn}
 use Rattle.nm_explored.specs.Successors.{spot_in}
-use Rattle.nm_explored.specs.Lists.{Has, Keeps}
+use Rattle.nm_explored.specs.Lists.{Has, Extends}
 use Rattle.nm_explored.specs.Moves.{AreMovesOf, moved_at}
 use Rattle.nm_explored.proofs.KeptLemmas.{each_next, has_kept}
 use Rattle.nm_explored.specs.Stores.{Grows, Leads, Store}
@@ -28,7 +28,7 @@ grows_then a b c one two =
       states = λ k x here. two.states k x (one.states k x here);
     }
 
-pub spot_kept : (xs ys : List Spot) (ids : List ℕ) (j : ℕ) (s : Spot) → Keeps xs ys → spot_in xs ids j ≡ Some s →
+pub spot_kept : (xs ys : List Spot) (ids : List ℕ) (j : ℕ) (s : Spot) → Extends xs ys → spot_in xs ids j ≡ Some s →
     spot_in ys ids j ≡ Some s
 spot_kept xs ys ids j s kept here = by_id (slice_get ids j) here
   where

@@ -7,8 +7,8 @@ abbrev pub Has : {X : Type 0} → List X → X → Type 0
 Has xs x = (k : ℕ) × (slice_get xs k ≡ Some x)
 
 -- what stands in one list stands in the other one, at the same places
-abbrev pub Keeps : {X : Type 0} → List X → List X → Type 0
-Keeps {X} old new = (k : ℕ) (x : X) → slice_get old k ≡ Some x → slice_get new k ≡ Some x
+abbrev pub Extends : {X : Type 0} → List X → List X → Type 0
+Extends {X} old new = (k : ℕ) (x : X) → slice_get old k ≡ Some x → slice_get new k ≡ Some x
 
 -- each element of the new list stood in the old one, or is such a one
 abbrev pub AddsOnly : {X : Type 0} → (X → Type 0) → List X → List X → Type 0

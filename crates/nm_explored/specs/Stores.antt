@@ -5,7 +5,7 @@ use Rattle.nm_types.specs.declared.scripts.Line.{Line}
 use Rattle.nm_outcomes.specs.Searches as searches
 use Rattle.nm_outcomes.specs.RankStates.{Spot, first_spot}
 use Rattle.nm_explored.specs.Successors.{spot_in}
-use Rattle.nm_explored.specs.Lists.{Has, Keeps}
+use Rattle.nm_explored.specs.Lists.{Has, Extends}
 use Rattle.nm_explored.specs.Chosen.{Goes}
 use Rattle.nm_explored.specs.Coming.{AreEnoughAt, Makes}
 
@@ -20,8 +20,8 @@ pub record Store : Type 0 where
 
 -- what one store has, the other one has too, under the same numbers
 pub record Grows (old new : Store) : Type 0 where
-  pub table : Keeps old.table new.table
-  pub states : Keeps old.states new.states
+  pub table : Extends old.table new.table
+  pub states : Extends old.states new.states
 
 -- the states of the ranks, of which these are the numbers
 abbrev pub states_in : List Spot → List ℕ → List Spot

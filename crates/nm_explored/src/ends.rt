@@ -9,7 +9,7 @@ ghost use Rattle.nm_report.specs.Told.{told_by, told_of_rank};
 ghost use Rattle.nm_outcomes.specs.Deeds.{answer_meant, happening as happening_lem};
 ghost use Rattle.nm_outcomes.specs.Deeds.{bytes_at as bytes_at_lem};
 ghost use Rattle.nm_explored.specs.Successors.{is_withdrawn_next, message_next, spot_in};
-ghost use Rattle.nm_explored.specs.Lists.{Has, Keeps};
+ghost use Rattle.nm_explored.specs.Lists.{Has, Extends};
 ghost use Rattle.nm_explored.specs.Ends.{AreAtRest, AreEnds, AreShort, IfAll, IsAtRest, IsHeldUp};
 ghost use Rattle.nm_explored.specs.Ends.{TellsAll, all_told, is_waiting as is_waiting_lem};
 ghost use Rattle.nm_explored.specs.Ends.{told_at_end, told_in};
@@ -383,7 +383,7 @@ fn push_end(
     ends: &mut Vec<End>,
 ) -> Result<(), Memory>
     requires { AreShort view.lines.now }
-    ensures kept { OnOk result (Keeps (map told_at_end ends.old.items) (map told_at_end ends.new.items)) }
+    ensures kept { OnOk result (Extends (map told_at_end ends.old.items) (map told_at_end ends.new.items)) }
     ensures added { OnOk result (AreAtRest ranks view.entry.lines.now
         (spot_in view.entry.table.now view.entry.ids.now) → Has (map told_at_end ends.new.items)
         (all_told view.entry.lines.now (spot_in view.entry.table.now view.entry.ids.now) ranks)) }
@@ -403,7 +403,7 @@ fn push_state(
     ends: &mut Vec<End>,
 ) -> Result<(), Memory>
     requires { AreShort of.lines.now }
-    ensures kept { OnOk result (Keeps (map told_at_end ends.old.items) (map told_at_end ends.new.items)) }
+    ensures kept { OnOk result (Extends (map told_at_end ends.old.items) (map told_at_end ends.new.items)) }
     ensures added { OnOk result ((ids : List ℕ) → slice_get search.now.states k ≡ Some ids →
         AreAtRest of.entry.ranks of.entry.lines.now (spot_in search.now.table ids) →
         Has (map told_at_end ends.new.items)

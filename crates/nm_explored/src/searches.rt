@@ -5,7 +5,7 @@ ghost use Rattle.std.specs.Prelude.{length, option_copied, slice_get, slice_set}
 ghost use Rattle.nm_types.specs.declared.scripts.Line as script_line;
 ghost use Rattle.nm_outcomes.specs.RankStates as spots;
 ghost use Rattle.nm_explored.specs.Successors.{spot_in};
-ghost use Rattle.nm_explored.specs.Lists.{Has, Keeps};
+ghost use Rattle.nm_explored.specs.Lists.{Has, Extends};
 ghost use Rattle.nm_explored.specs.declared.choices.moves.Turn as the_turn;
 ghost use Rattle.nm_explored.specs.Moves.{AreSendsShort, IsTurn, moved_at};
 ghost use Rattle.nm_explored.specs.Coming.{AreEnoughTurns};
@@ -129,7 +129,7 @@ impl Search {
     /// Adds the state that comes of one where a rank goes into another state.
     fn add(&mut self, alloc: Global, k: usize, turn: Turn, id: usize) -> Result<(), Memory>
         ensures table { OnOk result (self.new.table ≡ self.old.table) }
-        ensures kept { OnOk result (Keeps self.old.states self.new.states) }
+        ensures kept { OnOk result (Extends self.old.states self.new.states) }
         ensures there { OnOk result ((ids : List ℕ) → slice_get self.old.states k ≡ Some ids →
             Has self.new.states (slice_set ids turn.rank id)) }
         ensures only { OnOk result ((self.new.states ≡ self.old.states)

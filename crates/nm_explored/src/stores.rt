@@ -1,7 +1,7 @@
 //! States, each of them once.
 
 ghost use Rattle.std.specs.Prelude.{◌≡◌, ◌⊎◌, [], ◌∷◌, ◌++◌, IfOk, OnOk, Some, slice_get};
-ghost use Rattle.nm_explored.specs.Lists.{Has, Keeps};
+ghost use Rattle.nm_explored.specs.Lists.{Has, Extends};
 ghost use Rattle.nm_explored.specs.Stores.{StandOnce};
 
 use indexmap::IndexSet;
@@ -61,7 +61,7 @@ impl Table {
     #[tactic(auto, using(crate::proofs::SetLemmas::spots_once, crate::proofs::SetLemmas::spots_keep, crate::proofs::SetLemmas::spot_there))]
     pub fn number(&mut self, rank: Rank) -> Result<usize, Memory>
         ensures there { IfOk result (λ id. slice_get self.new id ≡ Some rank) }
-        ensures kept { OnOk result (Keeps self.old self.new) }
+        ensures kept { OnOk result (Extends self.old self.new) }
         ensures once { OnOk result (StandOnce self.new) }
     {
         let (id, _) = self.items.insert_full(rank)?;
@@ -183,7 +183,7 @@ impl States {
     #[tactic(auto, using(crate::proofs::SetLemmas::ids_once, crate::proofs::SetLemmas::ids_added, crate::proofs::SetLemmas::ids_keep, crate::proofs::SetLemmas::ids_there))]
     pub fn add(&mut self, ids: Vec<usize>, way: Option<Way>) -> Result<(), Memory>
         ensures there { OnOk result (Has self.new ids.items) }
-        ensures kept { OnOk result (Keeps self.old self.new) }
+        ensures kept { OnOk result (Extends self.old self.new) }
         ensures added { OnOk result ((self.new ≡ self.old) ⊎ (self.new ≡ self.old ++ ids.items ∷ [])) }
         ensures once { OnOk result (StandOnce self.new) }
     {

@@ -14,7 +14,7 @@ use Rattle.nm_history.specs.Known.{Known, Taken, nothing_known}
 use Rattle.nm_history.specs.Pieces.{Pulled}
 use Rattle.nm_history.proofs.Growing.{eager_bytes-push, piece_bytes-push}
 use Rattle.nm_receiving.specs.Receipts.{of_asked, of_eager}
-use Rattle.nm_channels.specs.Moments.{Moment, pulled_from, taken_from}
+use Rattle.nm_channels.specs.Moments.{LogEntry, pulled_from, taken_from}
 use Rattle.nm_rank.specs.Calls.{TakesNone, TakesPacket, TakesPiece, taken_of}
 use Rattle.nm_rank.specs.Ranks.{RankView, known_from}
 use Rattle.nm_global.specs.Logged.{HasBytes, HasTaken, came_by}
@@ -24,7 +24,7 @@ use Rattle.nm_global.proofs.Shown.{came_still, pulled_still, taken-push, taken_s
 use Rattle.nm_types.proofs.NumberLemmas.{same_number}
 use Rattle.nm_channels.proofs.Pulling.{pulled-push}
 
-pub acts_bytes : (v v' : RankView) (log : List Moment) (given : List ℕ) (ws : List Happened)
+pub acts_bytes : (v v' : RankView) (log : List LogEntry) (given : List ℕ) (ws : List Happened)
     (more : List Event) → v'.events ≡ v.events ++ more → TakesNone v v' → HasBytes v log given →
     HasBytes v' (log ++ acted v ws ∷ []) given
 acts_bytes v v' log given ws more grown takes old a ungiven =
@@ -51,7 +51,7 @@ none_of true old bytes = sym (append-nil old)
 none_of false old bytes = sym (append-nil old)
 
 -- what a packet carries of a message, by the log
-packet_came : (p : Packet) (v : RankView) (log : List Moment) (a : Arrival) → HasTaken v log →
+packet_came : (p : Packet) (v : RankView) (log : List LogEntry) (a : Arrival) → HasTaken v log →
     came_by (log ++ took v p ∷ []) a ≡ came_by log a ++ of_eager p.from (carried v p) a
 packet_came p v log a taken = by_how (is_ask a.env.how) where
   before : List Taken
@@ -83,7 +83,7 @@ packet_came p v log a taken = by_how (is_ask a.env.how) where
       ∙ ap (λ (b : Bool). in_packets a (before ++ new b)) (swap_test p.from a.env.from)
       ∙ by_from (a.env.from == p.from) refl
 
-pub packet_bytes : (p : Packet) (v v' : RankView) (log : List Moment) (given : List ℕ)
+pub packet_bytes : (p : Packet) (v v' : RankView) (log : List LogEntry) (given : List ℕ)
     (more : List Event) → v'.events ≡ v.events ++ more → HasTaken v log → TakesPacket p v v' →
     HasBytes v log given → HasBytes v' (log ++ took v p ∷ []) given
 packet_bytes p v v' log given more grown taken takes old a ungiven =
@@ -93,7 +93,7 @@ packet_bytes p v v' log given more grown taken takes old a ungiven =
     ∙ sym (packet_came p v log a taken)
 
 -- what a piece carries of a message, by the log
-piece_came : (q : Piece) (v : RankView) (log : List Moment) (a : Arrival) →
+piece_came : (q : Piece) (v : RankView) (log : List LogEntry) (a : Arrival) →
     came_by (log ++ drew v q ∷ []) a
     ≡ came_by log a ++ of_asked q.from (λ n. pulled_bytes n (pulled v q)) a
 piece_came q v log a = by_how (is_ask a.env.how) where
@@ -123,7 +123,7 @@ piece_came q v log a = by_how (is_ask a.env.how) where
       ∙ none_of (a.env.from == q.from) (in_packets a (taken_from a.env.from log))
       (pulled_bytes a.n (pulled v q))
 
-pub piece_bytes_came : (q : Piece) (v v' : RankView) (log : List Moment) (given : List ℕ)
+pub piece_bytes_came : (q : Piece) (v v' : RankView) (log : List LogEntry) (given : List ℕ)
     (more : List Event) → v'.events ≡ v.events ++ more → TakesPiece q v v' →
     HasBytes v log given → HasBytes v' (log ++ drew v q ∷ []) given
 piece_bytes_came q v v' log given more grown takes old a ungiven =

@@ -19,7 +19,7 @@ use Rattle.nm_rank.specs.Calls.{Happens, eager_sent}
 use Rattle.nm_rank.specs.Calls.{called_by}
 use Rattle.nm_rank.specs.Ranks.{RankView}
 use Rattle.nm_rank.specs.Requests.{cancel_events, offers_cancelled}
-use Rattle.nm_global.specs.Emitted.{IsEager, IsLeft, Left}
+use Rattle.nm_global.specs.Emitted.{IsEager, IsEmitted, Emitted}
 use Rattle.nm_global.proofs.Packets.{OfBoth, is_silent, outgoing_same, packets_happen, packets_stay}
 use Rattle.nm_global.proofs.Destinations.{Going, Grows, recall_goes, stay}
 use Rattle.nm_global.proofs.Pieces.{eager_still, ends_put, is_leave, no_pieces, pieces_at}
@@ -29,19 +29,19 @@ use Rattle.nm_types.proofs.ListLemmas.{all_along}
 
 -- the history of a rank grows by what happens
 abbrev pub happening : {bodies : Sent → List ℕ} {start : ℕ} {ws : List Happened} {v v' : RankView} {to : ℕ}
-    {left : Left} → IsLeft bodies v to left → v'.me ≡ v.me → Happens bodies start ws v v' →
+    {left : Emitted} → IsEmitted bodies v to left → v'.me ≡ v.me → Happens bodies start ws v v' →
     Grows bodies v v' to left.pieces
 happening {bodies} {start} {ws} is own happens =
     record { are = is.pieces; own = own; more = stamped start ws; events = happens.events }
 
 -- what happens puts the packets that it calls for, and no piece leaves
 pub put_go : OfBoth → {bodies : Sent → List ℕ} {start : ℕ} {ws : List Happened} {v v' : RankView}
-    {to : ℕ} {left : Left} → IsLeft bodies v to left → v'.me ≡ v.me → v.clock ≤ start →
+    {to : ℕ} {left : Emitted} → IsEmitted bodies v to left → v'.me ≡ v.me → v.clock ≤ start →
     Happens bodies start ws v v' →
     (called_by bodies to v.events (stamped start ws) ≡ [])
     ⊎ IfSome (eager_sent ws) (IsEager (sends v'.events to)) →
     in_turn_after (pieces_at bodies to) v.events (stamped start ws) ≡ [] →
-    (o' : Offering) → v'.sending.offers ≡ o' → Going bodies v v' to o' → IsLeft bodies v' to left
+    (o' : Offering) → v'.sending.offers ≡ o' → Going bodies v v' to o' → IsEmitted bodies v' to left
 put_go both {bodies} {start} {ws} {v} {v'} {to} is own later happens eager quiet o' same going =
     let g = happening is own happens in
     record {
@@ -53,20 +53,20 @@ put_go both {bodies} {start} {ws} {v} {v'} {to} is own later happens eager quiet
 
 -- where what happens sends no eager message
 pub happens_go : OfBoth → {bodies : Sent → List ℕ} {start : ℕ} {ws : List Happened} {v v' : RankView}
-    {to : ℕ} {left : Left} → IsLeft bodies v to left → v'.me ≡ v.me → v.clock ≤ start →
+    {to : ℕ} {left : Emitted} → IsEmitted bodies v to left → v'.me ≡ v.me → v.clock ≤ start →
     Happens bodies start ws v v' →
     eager_sent ws ≡ None → in_turn_after (pieces_at bodies to) v.events (stamped start ws) ≡ [] →
-    (o' : Offering) → v'.sending.offers ≡ o' → Going bodies v v' to o' → IsLeft bodies v' to left
+    (o' : Offering) → v'.sending.offers ≡ o' → Going bodies v v' to o' → IsEmitted bodies v' to left
 happens_go both {v' = v'} {to = to} is own later happens none quiet o' same going =
     put_go both is own later happens
     (inr (subst (λ (o : Option ℕ). IfSome o (IsEager (sends v'.events to))) (sym none) tt)) quiet o' same
     going
 
 -- where what happens calls for nothing, and the sending side is the same, what left is the same
-pub same_go : {bodies : Sent → List ℕ} {v v' : RankView} {to : ℕ} {left : Left}
-    → IsLeft bodies v to left → v'.me ≡ v.me → v.clock ≤ v'.clock → (clock : ℕ) (ws : List Happened) →
+pub same_go : {bodies : Sent → List ℕ} {v v' : RankView} {to : ℕ} {left : Emitted}
+    → IsEmitted bodies v to left → v'.me ≡ v.me → v.clock ≤ v'.clock → (clock : ℕ) (ws : List Happened) →
     v'.events ≡ v.events ++ stamped clock ws → AllByRecursion (λ w. is_silent w ≡ true) ws →
-    AllByRecursion (λ w. is_leave to w ≡ false) ws → v'.sending ≡ v.sending → IsLeft bodies v' to left
+    AllByRecursion (λ w. is_leave to w ≡ false) ws → v'.sending ≡ v.sending → IsEmitted bodies v' to left
 same_go {bodies} {v} {v'} {to} {left} is own later clock ws grown silent quiet same =
     let g : Grows bodies v v' to left.pieces =
     record { are = is.pieces; own = own; more = stamped clock ws; events = grown } in
@@ -118,19 +118,19 @@ whole_other false from n = tt
 
 -- a receive
 pub receives_go : OfBoth → {bodies : Sent → List ℕ} {start : ℕ} {v v' : RankView} {to : ℕ}
-    {left : Left} → IsLeft bodies v to left → v'.me ≡ v.me → v.clock ≤ start → (ws : List Happened) →
+    {left : Emitted} → IsEmitted bodies v to left → v'.me ≡ v.me → v.clock ≤ start → (ws : List Happened) →
     AllByRecursion (λ w. is_of_sending w ≡ false) ws → Happens bodies start ws v v' →
-    v'.sending.offers ≡ v.sending.offers → IsLeft bodies v' to left
+    v'.sending.offers ≡ v.sending.offers → IsEmitted bodies v' to left
 receives_go both {bodies} {start} {v} {v'} {to} is own later ws others happens same =
     happens_go both is own later happens (no_own_sent ws others)
     (no_pieces bodies to v.events start ws (no_own_leave to ws others)) v.sending.offers same
     (stay (happening is own happens))
 
 -- a cancel
-pub cancels_go : OfBoth → {bodies : Sent → List ℕ} {v v' : RankView} {to : ℕ} {left : Left}
-    → IsLeft bodies v to left → v'.me ≡ v.me → (k : Kind) →
+pub cancels_go : OfBoth → {bodies : Sent → List ℕ} {v v' : RankView} {to : ℕ} {left : Emitted}
+    → IsEmitted bodies v to left → v'.me ≡ v.me → (k : Kind) →
     Happens bodies v.clock (cancel_events v.events k) v v' →
-    v'.sending.offers ≡ offers_cancelled v.events k v.sending.offers → IsLeft bodies v' to left
+    v'.sending.offers ≡ offers_cancelled v.events k v.sending.offers → IsEmitted bodies v' to left
 cancels_go both is own (kind.Receive number) happens same =
     receives_go both is own (omega arith) _ (refl, tt) happens same
 cancels_go both {bodies} {v} {v'} {to} {left} is own (kind.Send to' n) happens same =
@@ -139,7 +139,7 @@ cancels_go both {bodies} {v} {v'} {to} {left} is own (kind.Send to' n) happens s
     by : (b : Bool) → Happens bodies v.clock (cond b [] (event.Recall to' n ∷ [])) v v' →
         v'.sending.offers ≡ cond b v.sending.offers
         (with_destined v.sending.offers to' (with_recall (destined v.sending.offers to') n)) →
-        IsLeft bodies v' to left
+        IsEmitted bodies v' to left
     by true happens same = receives_go both is own (omega arith) [] tt happens same
     by false happens same =
         happens_go both is own (omega arith) happens refl

@@ -16,7 +16,7 @@ use Rattle.nm_sending.specs.Departures.{ended_by, ends_to}
 use Rattle.nm_sending.specs.Sent.{outs}
 use Rattle.nm_rank.specs.Calls.{Notes}
 use Rattle.nm_rank.specs.Ranks.{RankView}
-use Rattle.nm_global.specs.Emitted.{ArePiecesLeft, IsEager, IsLeft, Left, sent_in}
+use Rattle.nm_global.specs.Emitted.{ArePiecesLeft, IsEager, IsEmitted, Emitted, sent_in}
 use Rattle.nm_global.specs.Emitted.{with_packet}
 use Rattle.nm_global.proofs.Destinations.{Grows, stay}
 use Rattle.nm_global.proofs.Pieces.{each_later, eager_pieces, eager_still, pieces_at, pieces_go}
@@ -24,7 +24,7 @@ use Rattle.nm_global.proofs.Pieces.{same_pushed}
 use Rattle.nm_global.proofs.Packets.{OfBoth, OfOne, outgoing_same, outs_silent, packets_pop}
 
 -- what is behind the first letter leaves with no message that was sent by asking, nor does that
-module _ (bodies : Sent → List ℕ) (v v' : RankView) (to : ℕ) (letter : Letter) (left : Left)
+module _ (bodies : Sent → List ℕ) (v v' : RankView) (to : ℕ) (letter : Letter) (left : Emitted)
     (are : ArePiecesLeft bodies v to left.pieces)
     (letters : v.sending.outbox.letters ≡ letter ∷ v'.sending.outbox.letters) where
   parts : IfSome (cond (letter.to == to) letter.ends None) (IsEager (sends v.events to))
@@ -67,13 +67,13 @@ module _ (bodies : Sent → List ℕ) (v v' : RankView) (to : ℕ) (letter : Let
 
 -- the first packet leaves
 pub packet_leaves : OfOne → OfBoth → (bodies : Sent → List ℕ) (v v' : RankView) (to : ℕ)
-    (letter : Letter) (left : Left) → v'.me ≡ v.me → Notes (outs (ended_by (Some letter))) v v' →
+    (letter : Letter) (left : Emitted) → v'.me ≡ v.me → Notes (outs (ended_by (Some letter))) v v' →
     v.sending.outbox.letters ≡ letter ∷ v'.sending.outbox.letters →
     v'.sending.outbox ≡ record v.sending.outbox {
       letters = v'.sending.outbox.letters;
       popped = set v.sending.outbox.popped letter.to (popped_to v.sending.outbox letter.to + 1);
     } → v'.sending.offers ≡ v.sending.offers → v'.sending.pushed ≡ v.sending.pushed →
-    IsLeft bodies v to left → IsLeft bodies v' to (with_packet to (letter.to, letter.packet) left)
+    IsEmitted bodies v to left → IsEmitted bodies v' to (with_packet to (letter.to, letter.packet) left)
 packet_leaves one both bodies v v' to letter left own notes letters outbox offers pushed is =
     record {
       packets = packets_pop one both bodies v v' to letter left own
@@ -86,7 +86,7 @@ packet_leaves one both bodies v v' to letter left own notes letters outbox offer
   where
     by : (b : Bool) →
         left.pieces
-        ≡ (let l : Left = cond b (record left { packets = left.packets ++ letter.packet ∷ [] }) left in
+        ≡ (let l : Emitted = cond b (record left { packets = left.packets ++ letter.packet ∷ [] }) left in
         l.pieces)
     by true = refl
     by false = refl

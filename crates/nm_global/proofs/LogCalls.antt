@@ -30,7 +30,7 @@ use Rattle.nm_receiving.specs.Receipts.{is_empty_ask, taken_events}
 use Rattle.nm_request.specs.declared.Kind.{Kind}
 use Rattle.nm_request.specs.declared.Kind.TheVariants as kind
 use Rattle.nm_sending.specs.Sent.{outs}
-use Rattle.nm_channels.specs.Moments.{Moment, history_of, taken_from}
+use Rattle.nm_channels.specs.Moments.{LogEntry, history_of, taken_from}
 use Rattle.nm_channels.specs.Moments.Cause.{Acted}
 use Rattle.nm_channels.specs.Sound.{IsSendable, MadeBy, OwnEvent}
 use Rattle.nm_rank.specs.Ranks.{RankView, known_from}
@@ -59,12 +59,12 @@ send_made eager bodies v s body sync limit tagged short len_is how_is same sized
     }
 
 -- each of these happenings is what a rank may do by itself
-abbrev AreOwn : ℕ → (Sent → List ℕ) → List Numbered → List Moment → List Event → ℕ → List Happened → Type 0
+abbrev AreOwn : ℕ → (Sent → List ℕ) → List Numbered → List LogEntry → List Event → ℕ → List Happened → Type 0
 AreOwn eager bodies commands log h clock ws =
     AtEachAfter (λ h e. OwnEvent eager bodies commands log h e.stamp e.what) h (stamped clock ws)
 
 -- what follows where a receive takes a message
-follows_made : (eager : ℕ) (bodies : Sent → List ℕ) (commands : List Numbered) (log : List Moment)
+follows_made : (eager : ℕ) (bodies : Sent → List ℕ) (commands : List Numbered) (log : List LogEntry)
     (h : List Event) (clock : ℕ) (o : Option Arrival) →
     AreOwn eager bodies commands log h clock (taken_events o)
 follows_made eager bodies commands log h clock None = tt
@@ -73,7 +73,7 @@ follows_made eager bodies commands log h clock (Some a) = by_whole (is_empty_ask
   by_whole true = (tt, tt)
   by_whole false = tt
 
-pub receive_made : (eager : ℕ) (bodies : Sent → List ℕ) (commands : List Numbered) (log : List Moment)
+pub receive_made : (eager : ℕ) (bodies : Sent → List ℕ) (commands : List Numbered) (log : List LogEntry)
     (clock : ℕ) (w : Happened) (o : Option Arrival) →
     OwnEvent eager bodies commands log (history_of log) (clock + 1) w →
     MadeBy eager bodies commands log Acted (stamped clock (w ∷ taken_events o))
@@ -83,7 +83,7 @@ receive_made eager bodies commands log clock w o own = (
       (history_of log ++ record { stamp = clock + 1; what = w } ∷ []) (clock + 1) o,
 )
 
-pub cancel_made : (eager : ℕ) (bodies : Sent → List ℕ) (commands : List Numbered) (log : List Moment)
+pub cancel_made : (eager : ℕ) (bodies : Sent → List ℕ) (commands : List Numbered) (log : List LogEntry)
     (h : List Event) (clock : ℕ) (k : Kind) →
     MadeBy eager bodies commands log Acted (stamped clock (cancel_events h k))
 cancel_made eager bodies commands log h clock (kind.Receive number) = (tt, tt)
@@ -93,7 +93,7 @@ cancel_made eager bodies commands log h clock (kind.Send to n) = by_recall (happ
   by_recall true = tt
   by_recall false = (tt, tt)
 
-pub answer_made : (eager : ℕ) (bodies : Sent → List ℕ) (commands : List Numbered) (log : List Moment)
+pub answer_made : (eager : ℕ) (bodies : Sent → List ℕ) (commands : List Numbered) (log : List LogEntry)
     (h : List Event) (clock line : ℕ) (answer : Answer) → h ≡ history_of log →
     AnswersLogged commands log h line answer →
     MadeBy eager bodies commands log Acted (stamped clock (Ran line answer ∷ []))
@@ -106,7 +106,7 @@ answer_made eager bodies commands log h clock line answer same shows =
     by_answer answer shows = tt
 
 pub packet_leaves_made : (eager : ℕ) (bodies : Sent → List ℕ) (commands : List Numbered)
-    (log : List Moment) (h : List Event) (clock : ℕ) (left : Option (ℕ × ℕ)) → h ≡ history_of log →
+    (log : List LogEntry) (h : List Event) (clock : ℕ) (left : Option (ℕ × ℕ)) → h ≡ history_of log →
     IfSome left (λ m. is_asked (sends h m.0) m.1 ≡ false) →
     MadeBy eager bodies commands log Acted (stamped clock (outs left))
 packet_leaves_made eager bodies commands log h clock None same eager_one = tt
@@ -123,7 +123,7 @@ abbrev IsInTurn : List Event → Known → ℕ × ℕ → Type 0
 IsInTurn h known m = slice_get (to_push h known m.0) (length (pushed_out h m.0)) ≡ Some m.1
 
 pub piece_leaves_made : (eager : ℕ) (bodies : Sent → List ℕ) (commands : List Numbered)
-    (log : List Moment) (v : RankView) (left : Option (ℕ × ℕ)) → v.events ≡ history_of log →
+    (log : List LogEntry) (v : RankView) (left : Option (ℕ × ℕ)) → v.events ≡ history_of log →
     HasTaken v log →
     IfSome left (λ m. IsInTurn v.events (known_from v.known m.0) m) →
     MadeBy eager bodies commands log Acted (stamped v.clock (outs left))

@@ -13,7 +13,7 @@ use Rattle.nm_history.specs.Known.{Known, Taken, known_after, known_by}
 use Rattle.nm_history.specs.Pieces.{Pulled, count_continued}
 use Rattle.nm_history.proofs.Growing.{count_continued-push}
 use Rattle.nm_channels.specs.Moments as moment
-use Rattle.nm_channels.specs.Moments.{Cause, Moment, pulled_from, pulled_of, taken_from}
+use Rattle.nm_channels.specs.Moments.{Cause, LogEntry, pulled_from, pulled_of, taken_from}
 use Rattle.nm_channels.specs.Moments.Cause.{Acted}
 use Rattle.nm_channels.proofs.Arriving.{known-push}
 use Rattle.nm_rank.specs.Calls.{TakesNone, TakesPacket, TakesPiece, is_next_due, taken_of}
@@ -43,7 +43,7 @@ kept_counts v v' kept old =
       drawn = ap (λ (ns : List ℕ). length ns) kept.drawn ∙ old.drawn ∙ ranks;
     }
 
-pub kept_taken : (v v' : RankView) (log : List Moment) → IsKept v v' → HasTaken v log → HasTaken v' log
+pub kept_taken : (v v' : RankView) (log : List LogEntry) → IsKept v v' → HasTaken v log → HasTaken v' log
 kept_taken v v' log kept old =
     record {
       known = λ from. ap (λ (ks : List Known). known_from ks from) kept.known ∙ old.known from;
@@ -53,7 +53,7 @@ kept_taken v v' log kept old =
     }
 
 -- a moment that takes no packet and no piece
-idle_taken : (v : RankView) (log : List Moment) (m : Moment) → m.cause ≡ Acted → HasTaken v log →
+idle_taken : (v : RankView) (log : List LogEntry) (m : LogEntry) → m.cause ≡ Acted → HasTaken v log →
     HasTaken v (log ++ m ∷ [])
 idle_taken v log m idle old =
     let packets = λ (i : ℕ). sym (taken_still i log m (ap (λ (c : Cause). moment.taken_of i c) idle)) in
@@ -78,7 +78,7 @@ acts_kept v v' takes =
 pub acts_counts : (v v' : RankView) → TakesNone v v' → HasCounts v → HasCounts v'
 acts_counts v v' takes = kept_counts v v' (acts_kept v v' takes)
 
-pub acts_taken : (v v' : RankView) (log : List Moment) (ws : List Happened) → TakesNone v v' →
+pub acts_taken : (v v' : RankView) (log : List LogEntry) (ws : List Happened) → TakesNone v v' →
     HasTaken v log → HasTaken v' (log ++ acted v ws ∷ [])
 acts_taken v v' log ws takes old =
     idle_taken v' log (acted v ws) refl (kept_taken v v' log (acts_kept v v' takes) old)
@@ -108,7 +108,7 @@ at_place xs xs' i j x d set within =
     by_place false other =
         get_or-set_other xs i j x d (λ same. true≢false (sym (eq_true i j (sym same)) ∙ other))
 
-pub packet_taken : (p : Packet) (v v' : RankView) (log : List Moment) → p.from < v.sizes.ranks →
+pub packet_taken : (p : Packet) (v v' : RankView) (log : List LogEntry) → p.from < v.sizes.ranks →
     HasCounts v → TakesPacket p v v' → HasTaken v log → HasTaken v' (log ++ took v p ∷ [])
 packet_taken p v v' log within counts takes old =
     let t : Taken = taken_of v p in
@@ -155,7 +155,7 @@ piece_counts q v v' takes old =
           ∙ old.drawn ∙ ranks;
     }
 
-pub piece_taken : (q : Piece) (v v' : RankView) (log : List Moment) → q.from < v.sizes.ranks →
+pub piece_taken : (q : Piece) (v v' : RankView) (log : List LogEntry) → q.from < v.sizes.ranks →
     HasCounts v → TakesPiece q v v' → HasTaken v log → HasTaken v' (log ++ drew v q ∷ [])
 piece_taken q v v' log within counts takes old =
     record {

@@ -19,14 +19,14 @@ use Rattle.nm_history.proofs.Growing.{stamped-count, stamped-follow, stamped-sam
 use Rattle.nm_receiving.specs.Receipts.{drawn_from}
 use Rattle.nm_request.specs.declared.Kind.{Kind}
 use Rattle.nm_request.specs.declared.Req.{Req}
-use Rattle.nm_channels.specs.Moments.{Moment, history_of, pulled_from, taken_from}
+use Rattle.nm_channels.specs.Moments.{LogEntry, history_of, pulled_from, taken_from}
 use Rattle.nm_channels.specs.Moments.Cause.{Acted}
 use Rattle.nm_channels.specs.Sound.{MadeBy, MayHappen}
 use Rattle.nm_channels.proofs.Logs.{sound-push}
 use Rattle.nm_rank.specs.Calls.{Notes, Starts, TakesNone, TakesPacket, TakesPiece, made_of}
 use Rattle.nm_rank.specs.Calls.{next_due, taken_of}
 use Rattle.nm_rank.specs.Ranks.{RankView, known_from}
-use Rattle.nm_global.specs.Calls.{IsNext}
+use Rattle.nm_global.specs.Calls.{IsNextReceive}
 use Rattle.nm_global.specs.Logged.{AreGiven, IsLogged}
 use Rattle.nm_global.specs.Moments.{acted, drew, took}
 use Rattle.nm_global.proofs.Bytes.{acts_bytes, packet_bytes, piece_bytes_came}
@@ -40,7 +40,7 @@ one_more : (clock clock' : ℕ) (ws : List Happened) → clock' ≡ clock + leng
 one_more clock clock' ws grown = grown ∙ ap (λ (k : ℕ). clock + k) (sym (stamped-count clock ws))
 
 acts : (eager : ℕ) (bodies : Sent → List ℕ) (commands : List Numbered) (v v' : RankView)
-    (log : List Moment) (given : List ℕ) (ws : List Happened) →
+    (log : List LogEntry) (given : List ℕ) (ws : List Happened) →
     IsLogged eager bodies commands v log given → v'.events ≡ v.events ++ stamped v.clock ws →
     v'.clock ≡ v.clock + length ws → TakesNone v v' → AreGiven v' given →
     MadeBy eager bodies commands log Acted (stamped v.clock ws) →
@@ -63,7 +63,7 @@ acts eager bodies commands v v' log given ws old grown later takes requests made
     }
 
 pub rank_acts : (eager : ℕ) (bodies : Sent → List ℕ) (commands : List Numbered) (v v' : RankView)
-    (log : List Moment) (given : List ℕ) (ws : List Happened) →
+    (log : List LogEntry) (given : List ℕ) (ws : List Happened) →
     IsLogged eager bodies commands v log given → Notes ws v v' → TakesNone v v' →
     v'.requests ≡ v.requests → MadeBy eager bodies commands log Acted (stamped v.clock ws) →
     IsLogged eager bodies commands v' (log ++ acted v ws ∷ []) given
@@ -72,9 +72,9 @@ rank_acts eager bodies commands v v' log given ws old notes takes same =
     (same_requests v v' given (stamped v.clock ws) notes.events same old.requests)
 
 pub rank_starts : (eager : ℕ) (bodies : Sent → List ℕ) (commands : List Numbered) (v v' : RankView)
-    (log : List Moment) (given : List ℕ) (ws : List Happened) (k : Kind) (r : Req) →
+    (log : List LogEntry) (given : List ℕ) (ws : List Happened) (k : Kind) (r : Req) →
     IsLogged eager bodies commands v log given → Starts bodies ws k v v' r →
-    IsNext v.events v'.events k → MadeBy eager bodies commands log Acted (stamped v.clock ws) →
+    IsNextReceive v.events v'.events k → MadeBy eager bodies commands log Acted (stamped v.clock ws) →
     IsLogged eager bodies commands v' (log ++ acted v ws ∷ []) given
 rank_starts eager bodies commands v v' log given ws k r old starts next =
     acts eager bodies commands v v' log given ws old starts.happened.events starts.happened.clock
@@ -83,7 +83,7 @@ rank_starts eager bodies commands v v' log given ws k r old starts next =
     old.requests)
 
 packet_may : (eager : ℕ) (bodies : Sent → List ℕ) (commands : List Numbered) (v : RankView)
-    (log : List Moment) (given : List ℕ) (p : Packet) → IsLogged eager bodies commands v log given →
+    (log : List LogEntry) (given : List ℕ) (p : Packet) → IsLogged eager bodies commands v log given →
     MayHappen eager bodies commands log (took v p)
 packet_may eager bodies commands v log given p old =
     let t : Taken = taken_of v p in
@@ -102,7 +102,7 @@ packet_may eager bodies commands v log given p old =
     }
 
 pub packet_is_taken : (eager : ℕ) (bodies : Sent → List ℕ) (commands : List Numbered)
-    (v v' : RankView) (log : List Moment) (given : List ℕ) (p : Packet) →
+    (v v' : RankView) (log : List LogEntry) (given : List ℕ) (p : Packet) →
     IsLogged eager bodies commands v log given → p.from < v.sizes.ranks → TakesPacket p v v' →
     IsLogged eager bodies commands v' (log ++ took v p ∷ []) given
 packet_is_taken eager bodies commands v v' log given p old within takes =
@@ -122,7 +122,7 @@ packet_is_taken eager bodies commands v v' log given p old within takes =
     }
 
 piece_may : (eager : ℕ) (bodies : Sent → List ℕ) (commands : List Numbered) (v : RankView)
-    (log : List Moment) (given : List ℕ) (q : Piece) → IsLogged eager bodies commands v log given →
+    (log : List LogEntry) (given : List ℕ) (q : Piece) → IsLogged eager bodies commands v log given →
     drawn_from v.receiving q.from < length (due_pieces v.events q.from) →
     MayHappen eager bodies commands log (drew v q)
 piece_may eager bodies commands v log given q old due =
@@ -143,7 +143,7 @@ piece_may eager bodies commands v log given q old due =
     }
 
 pub piece_is_taken : (eager : ℕ) (bodies : Sent → List ℕ) (commands : List Numbered)
-    (v v' : RankView) (log : List Moment) (given : List ℕ) (q : Piece) →
+    (v v' : RankView) (log : List LogEntry) (given : List ℕ) (q : Piece) →
     IsLogged eager bodies commands v log given → q.from < v.sizes.ranks →
     drawn_from v.receiving q.from < length (due_pieces v.events q.from) → TakesPiece q v v' →
     IsLogged eager bodies commands v' (log ++ drew v q ∷ []) given

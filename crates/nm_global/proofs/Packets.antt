@@ -19,7 +19,7 @@ use Rattle.nm_sending.specs.Outboxes.{OutboxView, popped_to, put_to}
 use Rattle.nm_sending.specs.Sent.{outs}
 use Rattle.nm_rank.specs.Calls.{Happens, called_by}
 use Rattle.nm_rank.specs.Ranks.{RankView}
-use Rattle.nm_global.specs.Emitted.{ArePacketsLeft, Left, with_packet}
+use Rattle.nm_global.specs.Emitted.{ArePacketsLeft, Emitted, with_packet}
 use Rattle.nm_global.proofs.Turns.{at-set, in_turn-append, turn-none}
 use Rattle.nm_types.proofs.ListLemmas.{all_append, all_along}
 use Rattle.nm_types.proofs.NumberLemmas.{same_number}
@@ -162,7 +162,7 @@ outs_silent (Some m) = (refl, tt)
 
 -- the first packet leaves
 pub packets_pop : OfOne → OfBoth → (bodies : Sent → List ℕ) (v v' : RankView) (to : ℕ)
-    (letter : Letter) (left : Left) →
+    (letter : Letter) (left : Emitted) →
     v'.me ≡ v.me → v.clock ≤ v'.clock → outgoing bodies v'.events to ≡ outgoing bodies v.events to →
     v.sending.outbox.letters ≡ letter ∷ v'.sending.outbox.letters →
     v'.sending.outbox ≡ record v.sending.outbox {
@@ -190,7 +190,7 @@ packets_pop one both bodies v v' to letter left own later same letters outbox ar
 
     after : Bool → List Packet
     after b =
-        let l : Left = cond b (record left { packets = left.packets ++ letter.packet ∷ [] }) left in
+        let l : Emitted = cond b (record left { packets = left.packets ++ letter.packet ∷ [] }) left in
         l.packets
 
     front : (b : Bool) → (letter.to == to) ≡ b →

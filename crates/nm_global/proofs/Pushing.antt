@@ -32,8 +32,8 @@ use Rattle.nm_sending.specs.Departures.{cleared_to, ends_to, pushed_to}
 use Rattle.nm_sending.specs.Sent.{outs}
 use Rattle.nm_rank.specs.Calls.{Notes}
 use Rattle.nm_rank.specs.Ranks.{RankView}
-use Rattle.nm_global.specs.Emitted.{AreOffered, ArePacketsLeft, ArePiecesLeft, IsBody, IsEager, IsLeft}
-use Rattle.nm_global.specs.Emitted.{Left, begun}
+use Rattle.nm_global.specs.Emitted.{AreOffered, ArePacketsLeft, ArePiecesLeft, IsBody, IsEager, IsEmitted}
+use Rattle.nm_global.specs.Emitted.{Emitted, begun}
 use Rattle.nm_global.specs.Emitted.{begun_of, first_of, sent_in}
 use Rattle.nm_global.specs.Emitted.{with_piece}
 use Rattle.nm_global.proofs.Turns.{at-set}
@@ -111,8 +111,8 @@ next_is v piece next = by (first_leaving v.sending.offers) refl next where
       (m, leaving.0, record { first = first; state = leaving.1; same = cc })
 
 -- the next piece leaves
-module _ (bodies : Sent → List ℕ) (v v' : RankView) (to : ℕ) (piece : ℕ × Piece) (left : Left)
-    (is : IsLeft bodies v to left) (m : ℕ × ℕ) (cut : Cut) (next : IsNext v piece m cut)
+module _ (bodies : Sent → List ℕ) (v v' : RankView) (to : ℕ) (piece : ℕ × Piece) (left : Emitted)
+    (is : IsEmitted bodies v to left) (m : ℕ × ℕ) (cut : Cut) (next : IsNext v piece m cut)
     (from : piece.1.from ≡ v.me) (number : piece.1.number ≡ pushed_to v.sending piece.0)
     (notes : Notes (outs (option_and_then (out_by_piece v.sending.offers)
     (first_leaving v.sending.offers))) v v')
@@ -307,7 +307,7 @@ module _ (bodies : Sent → List ℕ) (v v' : RankView) (to : ℕ) (piece : ℕ 
           eager = eager;
         }
 
-  pub piece_leaves : IsLeft bodies v' to (with_piece to piece left)
+  pub piece_leaves : IsEmitted bodies v' to (with_piece to piece left)
   piece_leaves =
       record {
         packets = subst (λ (ps : List Packet). ArePacketsLeft bodies v' to ps) (same (piece.0 == to))
@@ -320,12 +320,12 @@ module _ (bodies : Sent → List ℕ) (v v' : RankView) (to : ℕ) (piece : ℕ 
     where
       same : (b : Bool) →
           left.packets
-          ≡ (let l : Left = cond b (record left { pieces = left.pieces ++ piece.1 ∷ [] }) left in
+          ≡ (let l : Emitted = cond b (record left { pieces = left.pieces ++ piece.1 ∷ [] }) left in
           l.packets)
       same true = refl
       same false = refl
 
       by : (b : Bool) → (piece.0 == to) ≡ b → ArePiecesLeft bodies v' to
-          (let l : Left = cond b (record left { pieces = left.pieces ++ piece.1 ∷ [] }) left in l.pieces)
+          (let l : Emitted = cond b (record left { pieces = left.pieces ++ piece.1 ∷ [] }) left in l.pieces)
       by true same = piece_here (sym receiver ∙ same_number piece.0 to same)
       by false other = piece_elsewhere (ap (λ (k : ℕ). k == to) (sym receiver) ∙ other)

@@ -15,7 +15,7 @@ use Rattle.nm_request.specs.declared.Req.{Req}
 use Rattle.nm_request.specs.Requests.{AddsRequest, Live, kind_of}
 use Rattle.nm_rank.specs.Ranks.{RankView}
 use Rattle.nm_rank.specs.Requests.{IsFreed}
-use Rattle.nm_global.specs.Calls.{IsNext, given_after}
+use Rattle.nm_global.specs.Calls.{IsNextReceive, given_after}
 use Rattle.nm_global.specs.Logged.{AreGiven}
 use Rattle.nm_global.proofs.Receives.{receives_grow}
 use Rattle.nm_types.proofs.NumberLemmas.{same_number, eq_less}
@@ -60,7 +60,7 @@ has_none (n ∷ given) number below = rw (eq_less n number below.0) (has_none gi
 
 pub added_request : (v v' : RankView) (given : List ℕ) (more : List Event) (r : Req) (k : Kind) →
     v'.events ≡ v.events ++ more → AddsRequest v.requests v'.requests r k →
-    IsNext v.events v'.events k → AreGiven v given → AreGiven v' given
+    IsNextReceive v.events v'.events k → AreGiven v given → AreGiven v' given
 added_request v v' given more r k grown adds next old =
     record {
       started = started_later v.events v'.events more given grown old.started;
@@ -75,7 +75,7 @@ added_request v v' given more r k grown adds next old =
         let both : Some k ≡ Some (kind.Receive number) =
         sym adds.live ∙ ap (λ (x : Req). kind_of v'.requests x) (sym same) ∙ is in
         let k_is : k ≡ kind.Receive number = cc in
-        subst (λ (x : Kind). IsNext v.events v'.events x) k_is next
+        subst (λ (x : Kind). IsNextReceive v.events v'.events x) k_is next
 
     by_live : (q : Req) (number : ℕ) → kind_of v'.requests q ≡ Some (kind.Receive number) →
         (q ≡ r) ⊎ (q ≢ r) → (has given number ≡ false) × (number < length (receives v'.events))

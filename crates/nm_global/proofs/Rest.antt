@@ -13,7 +13,7 @@ use Rattle.nm_types.specs.Limits.{IsScript}
 use Rattle.nm_types.specs.Sizes.{Sizes}
 use Rattle.nm_history.specs.declared.events.Event.{Event}
 use Rattle.nm_history.specs.Outgoing.{AreCalled, AreCalledPieces, outgoing, packets_to, ring}
-use Rattle.nm_history.specs.Quiescence.{EachRank, Ended, Packets, Stands, packets_of}
+use Rattle.nm_history.specs.Quiescence.{EachRank, Ended, Packets, IsStopped, packets_of}
 use Rattle.nm_history.specs.RankRun.{IsRankRun}
 use Rattle.nm_history.specs.Run.{IsRunOf}
 use Rattle.nm_history.specs.Sends.{Sent, sent_body}
@@ -27,7 +27,7 @@ use Rattle.nm_sending.specs.declared.outbox.letters.Letter.{Letter}
 use Rattle.nm_sending.specs.Letters.{packets_for}
 use Rattle.nm_sending.specs.Outboxes.{popped_to}
 use Rattle.nm_rank.specs.Ranks.{RankView}
-use Rattle.nm_global.specs.Emitted.{IsLeft, Left}
+use Rattle.nm_global.specs.Emitted.{IsEmitted, Emitted}
 use Rattle.nm_global.proofs.Packets.{count_is}
 use Rattle.nm_channels.specs.Ends.{AreEnds, ClearedHaveLeft, IsChannel, IsEnd}
 use Rattle.nm_channels.specs.Finished.{AreAllEnds, ended_of}
@@ -35,7 +35,7 @@ use Rattle.nm_channels.specs.Moments.{history_of, taken_from}
 use Rattle.nm_channels.specs.Settled.{HasNoStray}
 use Rattle.nm_channels.proofs.Run.{all_settle}
 use Rattle.nm_channels.proofs.Settled.{ends_settle}
-use Rattle.nm_global.specs.Ranks.{AreAtRest, Each, EachTwo, HasNothingToSend, IsPassed, IsRankAt, OneRank}
+use Rattle.nm_global.specs.Ranks.{AreAtRest, Each, EachTwo, HasNothingToSend, IsPassed, RankInvariant, OneRank}
 use Rattle.nm_global.specs.Ranks.{finished_of, recorded_of}
 use Rattle.nm_global.proofs.Places.{along_map, mapped_at, of_two, two_of}
 use Rattle.nm_types.proofs.ListLemmas.{all_split, all_along}
@@ -44,19 +44,19 @@ use Rattle.nm_types.proofs.OptionLemmas.{if_some, if_each}
 -- where nothing is left to send, what left is all that the history calls for
 pub record HaveAllLeft : Type 0 where
   pub packets :
-      (bodies : Sent → List ℕ) (v : RankView) (to : ℕ) (left : Left) →
-      v.sending.outbox.letters ≡ [] → IsLeft bodies v to left →
+      (bodies : Sent → List ℕ) (v : RankView) (to : ℕ) (left : Emitted) →
+      v.sending.outbox.letters ≡ [] → IsEmitted bodies v to left →
       AreCalled v.me 0 (outgoing bodies v.events to) left.packets
   pub pieces :
-      (bodies : Sent → List ℕ) (v : RankView) (to : ℕ) (left : Left) →
-      AllOut v.sending.offers → IsLeft bodies v to left →
+      (bodies : Sent → List ℕ) (v : RankView) (to : ℕ) (left : Emitted) →
+      AllOut v.sending.offers → IsEmitted bodies v to left →
       AreCalledPieces v.me 0 (ring bodies v.events to) left.pieces
 
 below : (stamp clock limit : ℕ) → stamp ≤ clock → clock < limit → stamp < limit
 below stamp clock limit early less = omega arith
 
 module _ (all : HaveAllLeft) (shape : Sizes) (lines : List Line) where
-  end_of : (i : ℕ) (r : OneRank) → IsRankAt shape lines i r → HasNothingToSend r →
+  end_of : (i : ℕ) (r : OneRank) → RankInvariant shape lines i r → HasNothingToSend r →
       IsEnd shape (commands_of i lines) r.at r.log
   end_of i r stands none =
       let same = stands.logged.events in
@@ -67,7 +67,7 @@ module _ (all : HaveAllLeft) (shape : Sizes) (lines : List Line) where
         empty = subst (λ (h : List Event). EmptyAreHere h) same none.empty;
       }
 
-  cleared_left : (i j : ℕ) (r : OneRank) → IsRankAt shape lines i r → HasNothingToSend r → j < shape.ranks →
+  cleared_left : (i j : ℕ) (r : OneRank) → RankInvariant shape lines i r → HasNothingToSend r → j < shape.ranks →
       ClearedHaveLeft r.log j
   cleared_left i j r stands none within =
       let here : j < r.view.sizes.ranks = subst (λ (s : Sizes). j < s.ranks) (sym stands.sizes) within in
@@ -76,7 +76,7 @@ module _ (all : HaveAllLeft) (shape : Sizes) (lines : List Line) where
       (subst (λ (k : Known). length (pushed_out r.view.events j) ≡ length (to_push r.view.events k j))
       (stands.logged.taken.known j) (ap (λ (ns : List ℕ). length ns) (none.cleared j here)))
 
-  channel : (i j : ℕ) (a b : OneRank) → IsRankAt shape lines i a → HasNothingToSend a → j < shape.ranks →
+  channel : (i j : ℕ) (a b : OneRank) → RankInvariant shape lines i a → HasNothingToSend a → j < shape.ranks →
       IsPassed i j a b → IsChannel i j (commands_of i lines) a.log b.log
   channel i j a b stands none within passed =
       let bodies = sent_body (commands_of i lines) in
@@ -109,8 +109,8 @@ module _ (all : HaveAllLeft) (shape : Sizes) (lines : List Line) where
   TwoEnds i j a b = AreEnds shape i j (commands_of i lines) (commands_of j lines) a.at b.at a.log b.log
 
   module _ (ranks : List OneRank) (rest : AreAtRest shape lines ranks) where
-    pub stands_at : (i : ℕ) (r : OneRank) → slice_get ranks i ≡ Some r → IsRankAt shape lines i r
-    stands_at i r is = if_some (IsRankAt shape lines i) (slice_get ranks i) r is (rest.standing i)
+    pub stands_at : (i : ℕ) (r : OneRank) → slice_get ranks i ≡ Some r → RankInvariant shape lines i r
+    stands_at i r is = if_some (RankInvariant shape lines i) (slice_get ranks i) r is (rest.standing i)
 
     pub rests_at : (i : ℕ) (r : OneRank) → slice_get ranks i ≡ Some r → HasNothingToSend r
     rests_at i r is = if_some HasNothingToSend (slice_get ranks i) r is (rest.resting i)
@@ -154,7 +154,7 @@ recorded (r ∷ ranks) each =
 -- the histories are a run of the script
 pub rest_is_run : HaveAllLeft → (shape : Sizes) (lines : List Line) (ranks : List OneRank)
     (packets : List Packets) → IsScript shape.ranks lines → AreAtRest shape lines ranks →
-    EachRank (λ i rank. Stands (commands_of i lines) rank) (map recorded_of ranks) →
+    EachRank (λ i rank. IsStopped (commands_of i lines) rank) (map recorded_of ranks) →
     packets ≡ packets_of lines (map recorded_of ranks) → IsRunOf shape lines (map recorded_of ranks) packets
 rest_is_run all shape lines ranks packets script rest stand counts =
     let same : map recorded_of ranks ≡ map ended_of (map finished_of ranks) =
@@ -163,12 +163,12 @@ rest_is_run all shape lines ranks packets script rest stand counts =
     subst (λ (es : List Ended). IsRunOf shape lines es packets) (sym same)
     (all_settle shape lines (map finished_of ranks) packets script (length-map ranks finished_of ∙ rest.many)
     (all_ends all shape lines ranks rest)
-    (subst (λ (es : List Ended). EachRank (λ i rank. Stands (commands_of i lines) rank) es) same stand)
+    (subst (λ (es : List Ended). EachRank (λ i rank. IsStopped (commands_of i lines) rank) es) same stand)
     (counts ∙ ap (λ (es : List Ended). packets_of lines es) same))
 
 -- as many packets were popped as the history calls for
-counted : (bodies : Sent → List ℕ) (v : RankView) (to : ℕ) (left : Left) → v.sending.outbox.letters ≡ [] →
-    IsLeft bodies v to left → popped_to v.sending.outbox to ≡ packets_to v.events to
+counted : (bodies : Sent → List ℕ) (v : RankView) (to : ℕ) (left : Emitted) → v.sending.outbox.letters ≡ [] →
+    IsEmitted bodies v to left → popped_to v.sending.outbox to ≡ packets_to v.events to
 counted bodies v to left none is =
     let put = count_is bodies v to left.packets is.packets in
     let called = outgoing_count bodies v.events to in
@@ -183,6 +183,6 @@ rest_counts shape lines ranks rest i =
     if_each (λ r. (to : ℕ) → to < shape.ranks →
     popped_to r.view.sending.outbox to ≡ packets_to r.view.events to) (slice_get ranks i)
     (λ r is to within.
-    let stands = if_some (IsRankAt shape lines i) (slice_get ranks i) r is (rest.standing i) in
+    let stands = if_some (RankInvariant shape lines i) (slice_get ranks i) r is (rest.standing i) in
     let none = if_some HasNothingToSend (slice_get ranks i) r is (rest.resting i) in
     counted (sent_body (commands_of i lines)) r.view to (r.left to) none.outbox (stands.left to within))

@@ -25,7 +25,7 @@ use Rattle.nm_request.specs.declared.Kind.{Kind}
 use Rattle.nm_request.specs.declared.Kind.TheVariants as kind
 use Rattle.nm_request.specs.declared.Req.{Req}
 use Rattle.nm_request.specs.Requests.{kind_of}
-use Rattle.nm_channels.specs.Moments.{Moment, history_of, pulled_from, taken_from}
+use Rattle.nm_channels.specs.Moments.{LogEntry, history_of, pulled_from, taken_from}
 use Rattle.nm_channels.specs.Sound.{bytes_of_message}
 use Rattle.nm_rank.specs.Ranks.{RankView, request_of}
 use Rattle.nm_rank.specs.Requests.{Finishes, ShowsBytes}
@@ -47,7 +47,7 @@ kept v v' r answer ends =
       drawn = ends.drawn;
     }
 
-kept_bytes : (v v' : RankView) (log : List Moment) (given : List ℕ) (r : Req) (k : Kind) (answer : Answer) →
+kept_bytes : (v v' : RankView) (log : List LogEntry) (given : List ℕ) (r : Req) (k : Kind) (answer : Answer) →
     kind_of v.requests r ≡ Some k → Finishes r answer v v' → HasBytes v log given →
     HasBytes v' log (given_after k given)
 kept_bytes v v' log given r k answer is ends old a ungiven =
@@ -66,7 +66,7 @@ kept_bytes v v' log given r k answer is ends old a ungiven =
         ∙ old a ungiven.1
 
 pub result_kept : (eager : ℕ) (bodies : Sent → List ℕ) (commands : List Numbered) (v v' : RankView)
-    (log : List Moment) (given : List ℕ) (r : Req) (k : Kind) (answer : Answer) →
+    (log : List LogEntry) (given : List ℕ) (r : Req) (k : Kind) (answer : Answer) →
     IsLogged eager bodies commands v log given → kind_of v.requests r ≡ Some k →
     Finishes r answer v v' → IsLogged eager bodies commands v' log (given_after k given)
 result_kept eager bodies commands v v' log given r k answer old is ends =
@@ -105,7 +105,7 @@ ungiven ranks h number pair right found (g ∷ given) none =
     by_test false is none later = (by_pair (pair_of_receive h g) refl is, later none)
 
 -- a message's bytes by the log, by its number and by its arrival
-bytes_are : (log : List Moment) (h : List Event) (a : Arrival) → h ≡ history_of log →
+bytes_are : (log : List LogEntry) (h : List Event) (a : Arrival) → h ≡ history_of log →
     message_of h a.env.from a.n ≡ Some a → came_by log a ≡ bytes_of_message log a.env.from a.n
 bytes_are log h a same named =
     ap (λ (o : Option Arrival). cond (option_map_or (λ a. is_ask a.env.how) o false)
@@ -118,11 +118,11 @@ abbrev IsNamed : List Event → Pair → Type 0
 IsNamed h pair = message_of h pair.arrival.env.from pair.arrival.n ≡ Some pair.arrival
 
 -- the bytes of a pair's message by the log
-abbrev bytes_with : List Moment → Pair → List ℕ
+abbrev bytes_with : List LogEntry → Pair → List ℕ
 bytes_with log pair = bytes_of_message log pair.arrival.env.from pair.arrival.n
 
 pub result_shows : (eager : ℕ) (bodies : Sent → List ℕ) (commands : List Numbered) (v v' : RankView)
-    (log : List Moment) (given : List ℕ) (r : Req) (k : Kind) (answer : Answer) →
+    (log : List LogEntry) (given : List ℕ) (r : Req) (k : Kind) (answer : Answer) →
     IsLogged eager bodies commands v log given → AreRight v.sizes.ranks [] v.events →
     kind_of v.requests r ≡ Some k → Finishes r answer v v' → ShowsLogged log v.events k answer
 result_shows eager bodies commands v v' log given r k answer old right is ends =

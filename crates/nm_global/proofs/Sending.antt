@@ -21,7 +21,7 @@ use Rattle.nm_rndv.specs.Offers.{Offering, destined, with_asked, with_destined}
 use Rattle.nm_sending.specs.Departures.{cleared_to}
 use Rattle.nm_rank.specs.Calls.{Happens, called_by, eager_sent}
 use Rattle.nm_rank.specs.Ranks.{RankView}
-use Rattle.nm_global.specs.Emitted.{IsEager, IsLeft, Left, sent_in}
+use Rattle.nm_global.specs.Emitted.{IsEager, IsEmitted, Emitted, sent_in}
 use Rattle.nm_global.proofs.Packets.{OfBoth}
 use Rattle.nm_global.proofs.Destinations.{Going, asked_goes, other_goes, stay}
 use Rattle.nm_global.proofs.Calls.{happening, put_go}
@@ -59,8 +59,8 @@ pub record IsSend (bodies : Sent → List ℕ) (v v' : RankView) (to tag ctx lin
       ≡ cond (is_ask how) (with_destined v.sending.offers to
       (with_asked (destined v.sending.offers to) (length (sends v.events to)) body)) v.sending.offers
 
-module _ (both : OfBoth) (bodies : Sent → List ℕ) (v v' : RankView) (to : ℕ) (left : Left)
-    (is : IsLeft bodies v to left) (tag ctx line : ℕ) (how : How) (body : Body) where
+module _ (both : OfBoth) (bodies : Sent → List ℕ) (v v' : RankView) (to : ℕ) (left : Emitted)
+    (is : IsEmitted bodies v to left) (tag ctx line : ℕ) (how : How) (body : Body) where
   abbrev events_of : ℕ → List Event
   events_of receiver = stamped v.clock (by_send v receiver tag ctx how line body)
 
@@ -75,7 +75,7 @@ module _ (both : OfBoth) (bodies : Sent → List ℕ) (v v' : RankView) (to : �
       Going bodies v v' to (cond (is_ask how) (asked_of receiver) v.sending.offers) →
       (called_by bodies to v.events (events_of receiver) ≡ [])
       ⊎ IfSome (eager_sent (by_send v receiver tag ctx how line body)) (IsEager (sends v'.events to)) →
-      IsLeft bodies v' to left
+      IsEmitted bodies v' to left
   send_go receiver sent going eager =
       put_go both is sent.own (omega arith) sent.happens eager refl
       (cond (is_ask how) (asked_of receiver) v.sending.offers)
@@ -83,7 +83,7 @@ module _ (both : OfBoth) (bodies : Sent → List ℕ) (v v' : RankView) (to : �
 
   -- a send to another rank
   send_elsewhere : (receiver : ℕ) → IsSend bodies v v' receiver tag ctx line how body →
-      (receiver == to) ≡ false → IsLeft bodies v' to left
+      (receiver == to) ≡ false → IsEmitted bodies v' to left
   send_elsewhere receiver sent other = send_go receiver sent (by (is_ask how)) (inl (rw other refl)) where
     by : (b : Bool) → Going bodies v v' to (cond b (asked_of receiver) v.sending.offers)
     by true =
@@ -131,18 +131,18 @@ module _ (both : OfBoth) (bodies : Sent → List ℕ) (v v' : RankView) (to : �
     leaves_with Eager eager =
         subst (λ (o : Option Sent). IsSomeAnd o (λ s. is_ask s.how ≡ false)) (sym found) (ap is_ask eager)
 
-    send_here : IsLeft bodies v' to left
+    send_here : IsEmitted bodies v' to left
     send_here = send_go to sent (goes (is_ask how) refl) (inr (leaves_with how refl))
 
 -- by a send nothing leaves
 pub sends_go : OfBoth → (bodies : Sent → List ℕ) (v v' : RankView) (to receiver tag ctx line : ℕ)
-    (how : How) (body : Body) (left : Left) → AreRight v.sizes.ranks [] v.events →
+    (how : How) (body : Body) (left : Emitted) → AreRight v.sizes.ranks [] v.events →
     IsSend bodies v v' receiver tag ctx line how body →
-    IsLeft bodies v to left → IsLeft bodies v' to left
+    IsEmitted bodies v to left → IsEmitted bodies v' to left
 sends_go both bodies v v' to receiver tag ctx line how body left right sent is =
     by (receiver == to) refl
   where
-    by : (b : Bool) → (receiver == to) ≡ b → IsLeft bodies v' to left
+    by : (b : Bool) → (receiver == to) ≡ b → IsEmitted bodies v' to left
     by true same =
         send_here both bodies v v' to left is tag ctx line how body
         (subst (λ (t : ℕ). IsSend bodies v v' t tag ctx line how body) (same_number receiver to same) sent)

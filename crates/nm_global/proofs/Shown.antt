@@ -9,18 +9,18 @@ use Rattle.nm_history.specs.Bytes.{eager_bytes, piece_bytes}
 use Rattle.nm_history.specs.Known.{Taken, nothing_known}
 use Rattle.nm_history.specs.Pieces.{Pulled}
 use Rattle.nm_history.proofs.Growing.{fold-append}
-use Rattle.nm_channels.specs.Moments.{Moment, clock_after, clock_of, history_of, pulled_from, pulled_of}
+use Rattle.nm_channels.specs.Moments.{LogEntry, clock_after, clock_of, history_of, pulled_from, pulled_of}
 use Rattle.nm_channels.specs.Moments.{taken_from, taken_of}
 use Rattle.nm_channels.proofs.Delivering.{history-push}
 use Rattle.nm_global.specs.Logged.{came_by}
 use Rattle.nm_channels.proofs.Pulling.{pulled-push}
 
-pub taken-push : (i : ℕ) (log : List Moment) (m : Moment) →
+pub taken-push : (i : ℕ) (log : List LogEntry) (m : LogEntry) →
     taken_from i (log ++ m ∷ []) ≡ taken_from i log ++ cons_option (taken_of i m.cause) []
-taken-push i log m = filter_map-append (λ (m : Moment). taken_of i m.cause) log (m ∷ [])
+taken-push i log m = filter_map-append (λ (m : LogEntry). taken_of i m.cause) log (m ∷ [])
 
 -- a moment that takes no packet of a rank
-pub taken_still : (i : ℕ) (log : List Moment) (m : Moment) → taken_of i m.cause ≡ None →
+pub taken_still : (i : ℕ) (log : List LogEntry) (m : LogEntry) → taken_of i m.cause ≡ None →
     taken_from i (log ++ m ∷ []) ≡ taken_from i log
 taken_still i log m none =
     taken-push i log m
@@ -28,7 +28,7 @@ taken_still i log m none =
     ∙ append-nil (taken_from i log)
 
 -- a moment that takes no piece of a rank
-pub pulled_still : (i : ℕ) (log : List Moment) (m : Moment) → pulled_of i m.cause ≡ None →
+pub pulled_still : (i : ℕ) (log : List LogEntry) (m : LogEntry) → pulled_of i m.cause ≡ None →
     pulled_from i (log ++ m ∷ []) ≡ pulled_from i log
 pulled_still i log m none =
     pulled-push i log m
@@ -36,7 +36,7 @@ pulled_still i log m none =
     ∙ append-nil (pulled_from i log)
 
 -- a moment that takes nothing of a rank brings its messages no bytes
-pub came_still : (log : List Moment) (m : Moment) (a : Arrival) →
+pub came_still : (log : List LogEntry) (m : LogEntry) (a : Arrival) →
     taken_of a.env.from m.cause ≡ None → pulled_of a.env.from m.cause ≡ None →
     came_by (log ++ m ∷ []) a ≡ came_by log a
 came_still log m a no_packet no_piece =
@@ -47,12 +47,12 @@ came_still log m a no_packet no_piece =
     (piece_bytes a.n ds) (eager_bytes a.n nothing_known (taken_from a.env.from log)))
     (pulled_still a.env.from log m no_piece)
 
-pub history_next : (log : List Moment) (m : Moment) (h h' : List Event) → h ≡ history_of log →
+pub history_next : (log : List LogEntry) (m : LogEntry) (h h' : List Event) → h ≡ history_of log →
     h' ≡ h ++ m.events → h' ≡ history_of (log ++ m ∷ [])
 history_next log m h h' same grown =
     grown ∙ ap (λ (k : List Event). k ++ m.events) same ∙ sym (history-push log m)
 
-pub clock_next : (log : List Moment) (m : Moment) (clock clock' : ℕ) → clock ≡ clock_of log →
+pub clock_next : (log : List LogEntry) (m : LogEntry) (clock clock' : ℕ) → clock ≡ clock_of log →
     clock' ≡ clock_after clock m → clock' ≡ clock_of (log ++ m ∷ [])
 clock_next log m clock clock' same grown =
     grown ∙ ap (λ (k : ℕ). clock_after k m) same ∙ sym (fold-append clock_after 0 log (m ∷ []))

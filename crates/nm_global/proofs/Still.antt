@@ -5,14 +5,14 @@ use Rattle.nm_types.specs.declared.scripts.Line.{Line}
 use Rattle.nm_types.specs.Sizes.{Sizes}
 use Rattle.nm_history.specs.declared.events.Event.{Event}
 use Rattle.nm_rank.specs.Ranks.{RankView}
-use Rattle.nm_channels.specs.Moments.{Moment, history_of}
+use Rattle.nm_channels.specs.Moments.{LogEntry, history_of}
 use Rattle.nm_channels.specs.Moments.Cause.{Acted}
 use Rattle.nm_global.proofs.Shown.{pulled_still, taken_still}
-use Rattle.nm_global.specs.ProcessInvariant.{GoesOn, Past, Same, with_moment}
+use Rattle.nm_global.specs.ProcessInvariant.{GoesOn, GhostHistory, Same, with_moment}
 use Rattle.nm_channels.proofs.Delivering.{history-push}
 
 -- a moment's events come behind the history
-pub history_longer : (log : List Moment) (m : Moment) →
+pub history_longer : (log : List LogEntry) (m : LogEntry) →
     length (history_of (log ++ m ∷ [])) ≡ length (history_of log) + length m.events
 history_longer [] m = length-append m.events [] ∙ omega arith
 history_longer (x ∷ log) m =
@@ -22,7 +22,7 @@ history_longer (x ∷ log) m =
     omega (arith, rest, one, two)
 
 -- nothing comes by what a rank does by itself
-pub own_same : (past : Past) (events : List Event) →
+pub own_same : (past : GhostHistory) (events : List Event) →
     Same past (with_moment past (record { cause = Acted; events = events }))
 own_same past events =
     record {
@@ -32,7 +32,7 @@ own_same past events =
       front = (events, history-push past.log (record { cause = Acted; events = events }));
     }
 
-pub same_on : (a b c : Past) → Same a b → Same b c → Same a c
+pub same_on : (a b c : GhostHistory) → Same a b → Same b c → Same a c
 same_on a b c one two =
     record {
       taken = λ from. two.taken from ∙ one.taken from;
@@ -45,7 +45,7 @@ same_on a b c one two =
       );
     }
 
-pub then_on : (shape : Sizes) (lines : List Line) (i : ℕ) (v : RankView) (a b : Past) → Same a b →
+pub then_on : (shape : Sizes) (lines : List Line) (i : ℕ) (v : RankView) (a b : GhostHistory) → Same a b →
     GoesOn shape lines i v b → GoesOn shape lines i v a
 then_on shape lines i v a b same on =
     record {

@@ -25,7 +25,7 @@ use Rattle.nm_history.proofs.Sent.{sends_numbered}
 use Rattle.nm_sending.specs.Sent.{is_of_sending}
 use Rattle.nm_rank.specs.Calls.{Happens, TakesPacket, eager_sent, offers_by, taken_of}
 use Rattle.nm_rank.specs.Ranks.{RankView, known_from}
-use Rattle.nm_global.specs.Emitted.{IsLeft, Left, sent_in}
+use Rattle.nm_global.specs.Emitted.{IsEmitted, Emitted, sent_in}
 use Rattle.nm_global.proofs.Packets.{OfBoth}
 use Rattle.nm_global.proofs.Offers.{some_lasts}
 use Rattle.nm_global.proofs.Destinations.{answer_goes, clearance_goes, lasts}
@@ -52,8 +52,8 @@ empty_pieces bodies s empty = by (is_ask s.how) where
   by true = none
   by false = refl
 
-module _ (both : OfBoth) (bodies : Sent → List ℕ) (v v' : RankView) (to : ℕ) (left : Left)
-    (own : v'.me ≡ v.me) (is : IsLeft bodies v to left) (start : ℕ) (later : v.clock ≤ start) where
+module _ (both : OfBoth) (bodies : Sent → List ℕ) (v v' : RankView) (to : ℕ) (left : Emitted)
+    (own : v'.me ≡ v.me) (is : IsEmitted bodies v to left) (start : ℕ) (later : v.clock ≤ start) where
   -- by the clearance of an empty message none of its pieces leaves
   cleared_quiet : (from n : ℕ) → AreRight v.sizes.ranks [] v.events → (e : Bool) →
       is_empty_send v.events from n ≡ e →
@@ -83,7 +83,7 @@ module _ (both : OfBoth) (bodies : Sent → List ℕ) (v v' : RankView) (to : �
   taken_go : (p : Packet) (known : Known) (w : What) → AreRight v.sizes.ranks [] v.events →
       continues v.sizes.eager known v.events (record p { what = w }) ≡ true →
       Happens bodies start (packet_events known v.events p.from w (length p.payload)) v v' →
-      v'.sending.offers ≡ offers_by v.sending.offers p.from w → IsLeft bodies v' to left
+      v'.sending.offers ≡ offers_by v.sending.offers p.from w → IsEmitted bodies v' to left
   taken_go p known (what.Head tag ctx len) right goes happens same =
       receives_go both is own later _
       (all_append (λ w. is_of_sending w ≡ false) (packet_makes known v.events p.from (what.Head tag ctx len)
@@ -127,10 +127,10 @@ module _ (both : OfBoth) (bodies : Sent → List ℕ) (v v' : RankView) (to : �
 
 -- by a packet that is taken nothing leaves
 pub packets_taken : OfBoth → (bodies : Sent → List ℕ) (v v' : RankView) (to : ℕ) (p : Packet)
-    (left : Left) → AreRight v.sizes.ranks [] v.events → TakesPacket p v v' →
-    IsLeft bodies v to left → IsLeft bodies v' to left
+    (left : Emitted) → AreRight v.sizes.ranks [] v.events → TakesPacket p v v' →
+    IsEmitted bodies v to left → IsEmitted bodies v' to left
 packets_taken both bodies v v' to p left right takes is = by (taken_of v p).continued refl where
-  by : (b : Bool) → (taken_of v p).continued ≡ b → IsLeft bodies v' to left
+  by : (b : Bool) → (taken_of v p).continued ≡ b → IsEmitted bodies v' to left
   by true goes =
       taken_go both bodies v v' to left takes.me is (max v.clock p.stamp) (omega arith) p
       (known_from v.known p.from) p.what right goes

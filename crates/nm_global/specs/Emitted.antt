@@ -21,21 +21,21 @@ use Rattle.nm_sending.specs.Departures.{cleared_to, ends_to, pushed_to}
 use Rattle.nm_rank.specs.Ranks.{RankView}
 
 -- what left a rank for another one: its packets and its pieces, each in the order in which they left
-pub record Left : Type 0 where
+pub record Emitted : Type 0 where
   pub packets : List Packet
   pub pieces : List Piece
 
 -- nothing left
-abbrev pub nothing : Left
+abbrev pub nothing : Emitted
 nothing = record { packets = []; pieces = [] }
 
 -- what left for a rank, after this packet for one
-abbrev pub with_packet : ℕ → ℕ × Packet → Left → Left
+abbrev pub with_packet : ℕ → ℕ × Packet → Emitted → Emitted
 with_packet to packet left =
     if packet.0 == to then record left { packets = left.packets ++ packet.1 ∷ [] } else left
 
 -- what left for a rank, after this piece for one
-abbrev pub with_piece : ℕ → ℕ × Piece → Left → Left
+abbrev pub with_piece : ℕ → ℕ × Piece → Emitted → Emitted
 with_piece to piece left =
     if piece.0 == to then record left { pieces = left.pieces ++ piece.1 ∷ [] } else left
 
@@ -124,6 +124,6 @@ pub record ArePiecesLeft (bodies : Sent → List ℕ) (v : RankView) (to : ℕ) 
       AllByRecursion (IsEager (sends v.events to)) (ends_to to v.sending.outbox.letters)
 
 -- What left a rank for this one is what its history calls for, where its sends have these bodies.
-pub record IsLeft (bodies : Sent → List ℕ) (v : RankView) (to : ℕ) (left : Left) : Type 0 where
+pub record IsEmitted (bodies : Sent → List ℕ) (v : RankView) (to : ℕ) (left : Emitted) : Type 0 where
   pub packets : ArePacketsLeft bodies v to left.packets
   pub pieces : ArePiecesLeft bodies v to left.pieces

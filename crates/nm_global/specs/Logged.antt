@@ -16,12 +16,12 @@ use Rattle.nm_request.specs.declared.Req.{Req}
 use Rattle.nm_request.specs.declared.Kind.TheVariants as kind
 use Rattle.nm_request.specs.Requests.{kind_of}
 use Rattle.nm_receiving.specs.Receipts.{came_of, drawn_from}
-use Rattle.nm_channels.specs.Moments.{Moment, clock_of, history_of, pulled_from, taken_from}
+use Rattle.nm_channels.specs.Moments.{LogEntry, clock_of, history_of, pulled_from, taken_from}
 use Rattle.nm_channels.specs.Sound.{AreSound}
 use Rattle.nm_rank.specs.Ranks.{RankView, count_of, known_from}
 
 -- the bytes of a message that came, in its packets or in its pieces, by a log
-abbrev pub came_by : List Moment → Arrival → List ℕ
+abbrev pub came_by : List LogEntry → Arrival → List ℕ
 came_by log a =
     if is_ask a.env.how
     then piece_bytes a.n (pulled_from a.env.from log)
@@ -44,14 +44,14 @@ pub record HasCounts (v : RankView) : Type 0 where
   pub drawn : length v.receiving.drawn ≡ v.sizes.ranks
 
 -- what is known of each rank is what its packets tell, and its packets and pieces are counted
-pub record HasTaken (v : RankView) (log : List Moment) : Type 0 where
+pub record HasTaken (v : RankView) (log : List LogEntry) : Type 0 where
   pub known : (from : ℕ) → known_from v.known from ≡ known_by (taken_from from log)
   pub took : (from : ℕ) → count_of v.took from ≡ length (taken_from from log)
   pub pulled : (from : ℕ) → count_of v.pulled from ≡ length (pulled_from from log)
   pub drawn : (from : ℕ) → drawn_from v.receiving from ≡ count_continued (pulled_from from log)
 
 -- each message that no receive of these numbers took has the bytes that came
-abbrev pub HasBytes : RankView → List Moment → List ℕ → Type 0
+abbrev pub HasBytes : RankView → List LogEntry → List ℕ → Type 0
 HasBytes v log given =
     (a : Arrival) → IsUngiven v.events given a → came_of v.receiving a ≡ came_by log a
 
@@ -70,7 +70,7 @@ pub record AreGiven (v : RankView) (given : List ℕ) : Type 0 where
 -- what it knows, counts and holds. The results of the receives of the given numbers were given,
 -- with the bytes of their messages.
 pub record IsLogged (eager : ℕ) (bodies : Sent → List ℕ) (commands : List Numbered) (v : RankView)
-    (log : List Moment) (given : List ℕ) : Type 0 where
+    (log : List LogEntry) (given : List ℕ) : Type 0 where
   pub sound : AreSound eager bodies commands log
   pub limit : v.sizes.eager ≡ eager
   pub events : v.events ≡ history_of log

@@ -12,9 +12,9 @@ use Rattle.nm_history.specs.Continues.{WORN_STAMP}
 use Rattle.nm_history.specs.Rest.{EagerHaveLeft, EmptyAreHere}
 use Rattle.nm_rndv.specs.Offers.{AllOut}
 use Rattle.nm_rank.specs.Ranks.{RankView, known_from}
-use Rattle.nm_global.specs.Emitted.{IsLeft, Left, nothing}
+use Rattle.nm_global.specs.Emitted.{IsEmitted, Emitted, nothing}
 use Rattle.nm_channels.specs.Finished.{Finished}
-use Rattle.nm_channels.specs.Moments.{Moment, pulled_from, taken_from}
+use Rattle.nm_channels.specs.Moments.{LogEntry, pulled_from, taken_from}
 use Rattle.nm_global.specs.Logged.{IsLogged}
 
 -- One rank of a run: what it is seen as, how many of its commands ran, the line of one that waits,
@@ -23,9 +23,9 @@ pub record OneRank : Type 0 where
   pub view : RankView
   pub at : ℕ
   pub waits : Option ℕ
-  pub log : List Moment
+  pub log : List LogEntry
   pub given : List ℕ
-  pub left : ℕ → Left
+  pub left : ℕ → Emitted
 
 -- a rank at the start, seen as this: none of its commands ran, and nothing left it
 abbrev pub new_rank : RankView → OneRank
@@ -50,7 +50,7 @@ EachTwo R ranks = Each (λ i a. Each (λ j b. R i j a b) ranks) ranks
 
 -- Rank i stands at its place in a run of these lines: its history is a run of its commands, its log
 -- is sound, and what left it for each rank is what its history calls for.
-pub record IsRankAt (shape : Sizes) (lines : List Line) (i : ℕ) (r : OneRank) : Type 0 where
+pub record RankInvariant (shape : Sizes) (lines : List Line) (i : ℕ) (r : OneRank) : Type 0 where
   pub me : r.view.me ≡ i
   pub sizes : r.view.sizes ≡ shape
   pub run : IsRankRun shape (commands_of i lines) r.at r.view.events
@@ -58,7 +58,7 @@ pub record IsRankAt (shape : Sizes) (lines : List Line) (i : ℕ) (r : OneRank) 
       IsLogged shape.eager (sent_body (commands_of i lines)) (commands_of i lines) r.view r.log
       r.given
   pub left :
-      (to : ℕ) → to < shape.ranks → IsLeft (sent_body (commands_of i lines)) r.view to (r.left to)
+      (to : ℕ) → to < shape.ranks → IsEmitted (sent_body (commands_of i lines)) r.view to (r.left to)
 
 -- What rank j took of rank i is what left that one for it: nothing is between them.
 pub record IsPassed (i j : ℕ) (a b : OneRank) : Type 0 where
@@ -80,6 +80,6 @@ pub record HasNothingToSend (r : OneRank) : Type 0 where
 -- The ranks of a run of these lines, where nothing is left to send and nothing is between them.
 pub record AreAtRest (shape : Sizes) (lines : List Line) (ranks : List OneRank) : Type 0 where
   pub many : length ranks ≡ shape.ranks
-  pub standing : Each (IsRankAt shape lines) ranks
+  pub standing : Each (RankInvariant shape lines) ranks
   pub passed : EachTwo IsPassed ranks
   pub resting : Each (λ i r. HasNothingToSend r) ranks

@@ -31,10 +31,10 @@ use Rattle.nm_match.proofs.TurnLemmas.{others_number}
 use Rattle.nm_lookups.specs.declared.firsts.Message.{Message}
 use Rattle.nm_lookups.specs.declared.pairing.replays.Replay.{Replay}
 use Rattle.nm_lookups.specs.Firsts.{same_message}
-use Rattle.nm_lookups.specs.Queues.{Keeps, free_messages, is_closed, is_gone, is_posted, open_receives}
+use Rattle.nm_lookups.specs.Queues.{HasQueues, free_messages, is_closed, is_gone, is_posted, open_receives}
 use Rattle.nm_lookups.specs.Queues.{posted_after_arrival, posted_after_post, unexpected_after_arrival}
 use Rattle.nm_lookups.specs.Queues.{unexpected_after_post, without_message, without_receive}
-use Rattle.nm_lookups.specs.Replays.{HasSameQueues, HasSameReceives, Replays, Takes}
+use Rattle.nm_lookups.specs.Replays.{HasSameQueues, HasSameReceives, Replays, IsNextReplay}
 use Rattle.nm_lookups.proofs.HistoryLemmas.{closed-push, free_arrived, free_left, free_posted, free_same, gone-push}
 use Rattle.nm_lookups.proofs.HistoryLemmas.{open_arrived, open_left, open_posted, open_same, others_open}
 use Rattle.nm_lookups.proofs.ReplayLemmas.{cond-or, first_free, first_open, follows, is_posted-push}
@@ -77,19 +77,19 @@ module _ {h : List Event} {old : Replay} (replays : Replays h old) (new : Replay
   -- the queues after an event, and those of the matcher
   pub in_step : (e : Event) (posted' : List post.Post) (unexpected' : List Arrival) →
       open_receives (h ++ e ∷ []) ≡ posted' → free_messages (h ++ e ∷ []) ≡ unexpected' →
-      Keeps posted' unexpected' (is_posted h) (is_known_message h) new.matcher →
-      Keeps (open_receives (h ++ e ∷ [])) (free_messages (h ++ e ∷ [])) (is_posted h) (is_known_message h) new.matcher
+      HasQueues posted' unexpected' (is_posted h) (is_known_message h) new.matcher →
+      HasQueues (open_receives (h ++ e ∷ [])) (free_messages (h ++ e ∷ [])) (is_posted h) (is_known_message h) new.matcher
   in_step e posted' unexpected' opened freed keeps =
-      subst (λ (ps : List post.Post). Keeps ps (free_messages (h ++ e ∷ [])) (is_posted h)
+      subst (λ (ps : List post.Post). HasQueues ps (free_messages (h ++ e ∷ [])) (is_posted h)
       (is_known_message h) new.matcher) (sym opened)
-      (subst (λ (ms : List Arrival). Keeps posted' ms (is_posted h) (is_known_message h) new.matcher) (sym freed) keeps)
+      (subst (λ (ms : List Arrival). HasQueues posted' ms (is_posted h) (is_known_message h) new.matcher) (sym freed) keeps)
 
   -- a receive is cancelled
   pub cancel_takes : (stamp number : ℕ) → new.posts ≡ old.posts → new.messages ≡ old.messages → new.gone ≡ old.gone →
       set.Updates ◌==◌ old.closed new.closed number true →
-      Keeps (without_receive number (open_receives h)) (free_messages h) (is_posted h)
+      HasQueues (without_receive number (open_receives h)) (free_messages h) (is_posted h)
       (is_known_message h) new.matcher →
-      Takes h (record { stamp = stamp; what = Cancel number true }) None new
+      IsNextReplay h (record { stamp = stamp; what = Cancel number true }) None new
   cancel_takes stamp number same_posts same_messages same_gone closed keeps =
       let e : Event = record { stamp = stamp; what = Cancel number true } in record {
         made_is = refl;
@@ -105,9 +105,9 @@ module _ {h : List Event} {old : Replay} (replays : Replays h old) (new : Replay
   pub claim_takes : (stamp from n line : ℕ) → new.posts ≡ old.posts → new.messages ≡ old.messages →
       new.closed ≡ old.closed →
       set.Updates same_message old.gone new.gone (record { rank = from; n = n }) true →
-      Keeps (open_receives h) (without_message from n (free_messages h)) (is_posted h)
+      HasQueues (open_receives h) (without_message from n (free_messages h)) (is_posted h)
       (is_known_message h) new.matcher →
-      Takes h (record { stamp = stamp; what = Claim from n line }) None new
+      IsNextReplay h (record { stamp = stamp; what = Claim from n line }) None new
   claim_takes stamp from n line same_posts same_messages same_closed gone keeps =
       let e : Event = record { stamp = stamp; what = Claim from n line } in record {
         made_is = refl;
@@ -124,9 +124,9 @@ module _ {h : List Event} {old : Replay} (replays : Replays h old) (new : Replay
   pub withdrawal_takes : (stamp from n : ℕ) → new.posts ≡ old.posts → new.messages ≡ old.messages →
       new.closed ≡ old.closed →
       set.Updates same_message old.gone new.gone (record { rank = from; n = n }) true →
-      Keeps (open_receives h) (without_message from n (free_messages h)) (is_posted h)
+      HasQueues (open_receives h) (without_message from n (free_messages h)) (is_posted h)
       (is_known_message h) new.matcher →
-      Takes h (record { stamp = stamp; what = Withdraw from n true }) None new
+      IsNextReplay h (record { stamp = stamp; what = Withdraw from n true }) None new
   withdrawal_takes stamp from n same_posts same_messages same_closed gone keeps =
       let e : Event = record { stamp = stamp; what = Withdraw from n true } in record {
         made_is = refl;
@@ -144,9 +144,9 @@ module _ {h : List Event} {old : Replay} (replays : Replays h old) (new : Replay
       message_of h from n ≡ Some a → new.posts ≡ old.posts → new.messages ≡ old.messages →
       set.Updates ◌==◌ old.closed new.closed number true →
       set.Updates same_message old.gone new.gone (record { rank = from; n = n }) true →
-      Keeps (open_receives h) (without_message from n (free_messages h)) (is_posted h)
+      HasQueues (open_receives h) (without_message from n (free_messages h)) (is_posted h)
       (is_known_message h) new.matcher →
-      Takes h (record { stamp = stamp; what = Match number from n cap line }) (Some (pair_of_claimed number cap a)) new
+      IsNextReplay h (record { stamp = stamp; what = Match number from n cap line }) (Some (pair_of_claimed number cap a)) new
   match_takes stamp number from n cap line a new_number is same_posts same_messages closed gone keeps =
       let e : Event = record { stamp = stamp; what = Match number from n cap line } in
       let more : List Pair = pair_of_claimed number cap a ∷ [] in
@@ -175,20 +175,20 @@ module _ {h : List Event} {old : Replay} (replays : Replays h old) (new : Replay
   -- a message is claimed, or withdrawn, if there was memory for it
   pub claimed_takes : (r : Result (Unit {0}) E) (stamp from n line : ℕ) →
       OnOk r (set.Updates same_message old.gone new.gone (record { rank = from; n = n }) true) →
-      OnOk r (Keeps (open_receives h) (without_message from n (free_messages h)) (is_posted h)
+      OnOk r (HasQueues (open_receives h) (without_message from n (free_messages h)) (is_posted h)
       (is_known_message h) new.matcher) →
       OnOk r (HasSameReceives old new) →
-      OnOk r (Takes h (record { stamp = stamp; what = Claim from n line }) None new)
+      OnOk r (IsNextReplay h (record { stamp = stamp; what = Claim from n line }) None new)
   claimed_takes (Ok done) stamp from n line gone keeps same =
       claim_takes replays new stamp from n line same.posts same.messages same.closed gone keeps
   claimed_takes (Err e) stamp from n line gone keeps same = tt
 
   pub withdrawn_takes : (r : Result (Unit {0}) E) (stamp from n : ℕ) →
       OnOk r (set.Updates same_message old.gone new.gone (record { rank = from; n = n }) true) →
-      OnOk r (Keeps (open_receives h) (without_message from n (free_messages h)) (is_posted h)
+      OnOk r (HasQueues (open_receives h) (without_message from n (free_messages h)) (is_posted h)
       (is_known_message h) new.matcher) →
       OnOk r (HasSameReceives old new) →
-      OnOk r (Takes h (record { stamp = stamp; what = Withdraw from n true }) None new)
+      OnOk r (IsNextReplay h (record { stamp = stamp; what = Withdraw from n true }) None new)
   withdrawn_takes (Ok done) stamp from n gone keeps same =
       withdrawal_takes replays new stamp from n same.posts same.messages same.closed gone keeps
   withdrawn_takes (Err e) stamp from n gone keeps same = tt
@@ -232,9 +232,9 @@ module _ {h : List Event} {old : Replay} (replays : Replays h old) (new : Replay
       ((m : Message) →
       contains same_message new.gone m ≡ (is_gone h m.rank m.n || takes (Post p line)
       (option_to_list (option_map (λ a. pair_of p a) taken)) m.rank m.n)) →
-      Keeps (posted_after_post p cancelled (open_receives h) taken) (unexpected_after_post (free_messages h) taken)
+      HasQueues (posted_after_post p cancelled (open_receives h) taken) (unexpected_after_post (free_messages h) taken)
       (λ number. is_posted h number || p.number == number) (is_known_message h) new.matcher →
-      Takes h (record { stamp = stamp; what = Post p line }) (option_map (λ a. pair_of p a) taken) new
+      IsNextReplay h (record { stamp = stamp; what = Post p line }) (option_map (λ a. pair_of p a) taken) new
   post_takes stamp line p taken cancelled is_new first was_closed table same_messages closed gone keeps =
       let e : Event = record { stamp = stamp; what = Post p line } in
       let made_is = ap (λ (o : Option Arrival). option_map (λ a. pair_of p a) o) first in
@@ -293,10 +293,10 @@ module _ {h : List Event} {old : Replay} (replays : Replays h old) (new : Replay
       ≡ (is_closed h m || closes (Arrive a) (option_to_list (option_map (λ p. pair_of p a) taken)) m)) →
       ((m : Message) → contains same_message new.gone m
       ≡ (is_gone h m.rank m.n || takes (Arrive a) (option_to_list (option_map (λ p. pair_of p a) taken)) m.rank m.n)) →
-      Keeps (posted_after_arrival (open_receives h) (option_map (λ p. p.number) taken))
+      HasQueues (posted_after_arrival (open_receives h) (option_map (λ p. p.number) taken))
       (unexpected_after_arrival a gone_before (free_messages h) (option_map (λ p. p.number) taken)) (is_posted h)
       (λ from n. is_known_message h from n || (a.env.from == from && a.n == n)) new.matcher →
-      Takes h (record { stamp = stamp; what = Arrive a }) (option_map (λ p. pair_of p a) taken) new
+      IsNextReplay h (record { stamp = stamp; what = Arrive a }) (option_map (λ p. pair_of p a) taken) new
   arrival_takes stamp a taken gone_before is_new first was_gone table same_posts closed gone keeps =
       let e : Event = record { stamp = stamp; what = Arrive a } in
       let made_is = ap (λ (o : Option post.Post). option_map (λ p. pair_of p a) o) first in
@@ -340,7 +340,7 @@ module _ {h : List Event} {old : Replay} (replays : Replays h old) where
   abbrev PostTold : post.Post → Bool → Option Arrival → List Deed → Type 0
   PostTold p cancelled taken deeds =
       (taken ≡ find (λ a. matches p.from p.tag p.ctx a.env) (free_messages h))
-      × Keeps (posted_after_post p cancelled (open_receives h) taken) (unexpected_after_post (free_messages h) taken)
+      × HasQueues (posted_after_post p cancelled (open_receives h) taken) (unexpected_after_post (free_messages h) taken)
       (λ number. is_posted h number || p.number == number) (is_known_message h) deeds
 
   -- a receive is posted, and takes a message
@@ -350,10 +350,10 @@ module _ {h : List Event} {old : Replay} (replays : Replays h old) where
       Updates ◌==◌ old.posts between.posts p.number (Some p) → between.messages ≡ old.messages →
       HasSameQueues between new → set.Updates ◌==◌ old.closed new.closed p.number true →
       set.Updates same_message old.gone new.gone (name_of a) true → pair ≡ pair_of p a →
-      Takes h (record { stamp = stamp; what = Post p line }) (Some pair) new
+      IsNextReplay h (record { stamp = stamp; what = Post p line }) (Some pair) new
   post_some_takes stamp line p cancelled taken a between new pair is_new closed_before told is table messages
       same closed gone made =
-      subst (λ (pair : Pair). Takes h (record { stamp = stamp; what = Post p line }) (Some pair) new) (sym made)
+      subst (λ (pair : Pair). IsNextReplay h (record { stamp = stamp; what = Post p line }) (Some pair) new) (sym made)
       (post_takes replays new stamp line p (Some a) cancelled is_new
       (sym (first_free h p.from p.tag p.ctx) ∙ sym told.0 ∙ is) (closed_before ∙ replays.closed p.number)
       (rw (← same.posts) at table) (same.messages ∙ messages)
@@ -362,7 +362,7 @@ module _ {h : List Event} {old : Replay} (replays : Replays h old) where
       (λ m. gone_more replays new a.env.from a.n gone m
       ∙ ap (λ b. is_gone h m.rank m.n || b)
       (sym (or-false _ ∙ or-false _ ∙ or-false (a.env.from == m.rank && a.n == m.n))))
-      (subst (λ (o : Option Arrival). Keeps (posted_after_post p cancelled (open_receives h) o)
+      (subst (λ (o : Option Arrival). HasQueues (posted_after_post p cancelled (open_receives h) o)
       (unexpected_after_post (free_messages h) o) (λ number. is_posted h number || p.number == number)
       (is_known_message h) new.matcher) is (rw (← same.matcher) at told.1)))
 
@@ -371,12 +371,12 @@ module _ {h : List Event} {old : Replay} (replays : Replays h old) where
       is_known_receive h p.number ≡ false → cancelled ≡ contains ◌==◌ old.closed p.number →
       PostTold p cancelled taken new.matcher → taken ≡ None → Updates ◌==◌ old.posts new.posts p.number (Some p) →
       new.messages ≡ old.messages → new.closed ≡ old.closed → new.gone ≡ old.gone →
-      Takes h (record { stamp = stamp; what = Post p line }) None new
+      IsNextReplay h (record { stamp = stamp; what = Post p line }) None new
   post_none_takes stamp line p cancelled taken new is_new closed_before told is table messages closed gone =
       post_takes replays new stamp line p None cancelled is_new
       (sym (first_free h p.from p.tag p.ctx) ∙ sym told.0 ∙ is) (closed_before ∙ replays.closed p.number) table messages
       (closed_same replays new closed) (gone_same replays new gone)
-      (subst (λ (o : Option Arrival). Keeps (posted_after_post p cancelled (open_receives h) o)
+      (subst (λ (o : Option Arrival). HasQueues (posted_after_post p cancelled (open_receives h) o)
       (unexpected_after_post (free_messages h) o) (λ number. is_posted h number || p.number == number)
       (is_known_message h) new.matcher) is told.1)
 
@@ -384,7 +384,7 @@ module _ {h : List Event} {old : Replay} (replays : Replays h old) where
   abbrev ArrivalTold : Arrival → Bool → Option ℕ → List Deed → Type 0
   ArrivalTold a gone taken deeds =
       (taken ≡ option_map (λ p. p.number) (find (λ p. matches p.from p.tag p.ctx a.env) (open_receives h)))
-      × Keeps (posted_after_arrival (open_receives h) taken) (unexpected_after_arrival a gone (free_messages h) taken)
+      × HasQueues (posted_after_arrival (open_receives h) taken) (unexpected_after_arrival a gone (free_messages h) taken)
       (is_posted h) (λ from n. is_known_message h from n || (a.env.from == from && a.n == n)) deeds
 
   -- the receive of that number is the first that selects the message
@@ -412,7 +412,7 @@ module _ {h : List Event} {old : Replay} (replays : Replays h old) where
       Updates same_message old.messages between.messages (name_of a) (Some a) → between.posts ≡ old.posts →
       HasSameQueues between new → set.Updates ◌==◌ old.closed new.closed number true →
       set.Updates same_message old.gone new.gone (name_of a) true →
-      pair ≡ pair_of_claimed number p.cap a → Takes h (record { stamp = stamp; what = Arrive a }) (Some pair) new
+      pair ≡ pair_of_claimed number p.cap a → IsNextReplay h (record { stamp = stamp; what = Arrive a }) (Some pair) new
   arrival_some_takes stamp a gone_before taken number p between new pair is_new before told is look table
       posts same closed gone made =
       let first = first_of_number a taken number (Some p) told.0 is look in
@@ -422,7 +422,7 @@ module _ {h : List Event} {old : Replay} (replays : Replays h old) where
       let numbers : p.number ≡ number = ap (λ (r : post.Post). r.number) one ∙ of_number in
       let of_pair : pair_of q a ≡ pair =
       ap (λ (r : post.Post). pair_of r a) (sym one) ∙ ap (λ m. pair_of_claimed m p.cap a) numbers ∙ sym made in
-      subst (λ (pair : Pair). Takes h (record { stamp = stamp; what = Arrive a }) (Some pair) new) of_pair
+      subst (λ (pair : Pair). IsNextReplay h (record { stamp = stamp; what = Arrive a }) (Some pair) new) of_pair
       (arrival_takes replays new stamp a (Some q) gone_before is_new first.1 (before ∙ replays.gone (name_of a))
       (rw (← same.messages) at table) (same.posts ∙ posts)
       (λ m. closed_more replays new number closed m
@@ -430,7 +430,7 @@ module _ {h : List Event} {old : Replay} (replays : Replays h old) where
       (λ m. gone_more replays new a.env.from a.n gone m
       ∙ ap (λ b. is_gone h m.rank m.n || b)
       (sym (or-false _ ∙ or-false _ ∙ or-false (a.env.from == m.rank && a.n == m.n))))
-      (subst (λ (o : Option ℕ). Keeps (posted_after_arrival (open_receives h) o)
+      (subst (λ (o : Option ℕ). HasQueues (posted_after_arrival (open_receives h) o)
       (unexpected_after_arrival a gone_before (free_messages h) o) (is_posted h)
       (λ from n. is_known_message h from n || (a.env.from == from && a.n == n)) new.matcher)
       (is ∙ ap Some (sym of_number)) (rw (← same.matcher) at told.1)))
@@ -441,13 +441,13 @@ module _ {h : List Event} {old : Replay} (replays : Replays h old) where
       ArrivalTold a gone_before taken new.matcher → taken ≡ None →
       Updates same_message old.messages new.messages (name_of a) (Some a) → new.posts ≡ old.posts →
       new.closed ≡ old.closed → new.gone ≡ old.gone →
-      Takes h (record { stamp = stamp; what = Arrive a }) None new
+      IsNextReplay h (record { stamp = stamp; what = Arrive a }) None new
   arrival_none_takes stamp a gone_before taken new is_new before told is table posts closed gone =
       arrival_takes replays new stamp a None gone_before is_new
       (sym (first_open h a.env) ∙ mapped_none (λ (p : post.Post). p.number)
       (find (λ p. matches p.from p.tag p.ctx a.env) (open_receives h)) (sym told.0 ∙ is))
       (before ∙ replays.gone (name_of a)) table posts (closed_same replays new closed) (gone_same replays new gone)
-      (subst (λ (o : Option ℕ). Keeps (posted_after_arrival (open_receives h) o)
+      (subst (λ (o : Option ℕ). HasQueues (posted_after_arrival (open_receives h) o)
       (unexpected_after_arrival a gone_before (free_messages h) o) (is_posted h)
       (λ from n. is_known_message h from n || (a.env.from == from && a.n == n)) new.matcher) is told.1)
 

@@ -17,7 +17,7 @@ use Rattle.nm_history.specs.Sends.{arrival_of, message_of, post_of, posts}
 use Rattle.nm_match.proofs.PushLemmas.{closes, takes}
 use Rattle.nm_lookups.specs.declared.pairing.replays.Replay.{Replay}
 use Rattle.nm_lookups.specs.Queues.{free_messages, is_closed, is_gone, open_receives}
-use Rattle.nm_lookups.specs.Replays.{Replays, Takes}
+use Rattle.nm_lookups.specs.Replays.{Replays, IsNextReplay}
 use Rattle.nm_lookups.proofs.HistoryLemmas.{free_same}
 use Rattle.nm_lookups.proofs.HistoryLemmas.{open_same}
 use Rattle.nm_lookups.proofs.ReplayLemmas.{quietly}
@@ -27,7 +27,7 @@ use Rattle.nm_lookups.proofs.EventLemmas.{is_idle, in_step}
 module _ {h : List Event} {old : Replay} (replays : Replays h old) where
   quiet_takes : (e : Event) → new_pair h (matched_pairs h) e.what ≡ None → post_of e.what ≡ None →
       arrival_of e.what ≡ None →
-      ((m : ℕ) → closes e.what [] m ≡ false) → ((i m : ℕ) → takes e.what [] i m ≡ false) → Takes h e None old
+      ((m : ℕ) → closes e.what [] m ≡ false) → ((i m : ℕ) → takes e.what [] i m ≡ false) → IsNextReplay h e None old
   quiet_takes e no_pair no_post no_arrival closed taken = record {
     made_is = sym no_pair;
     replays = quietly replays e [] (ap (λ (o : Option Pair). option_to_list o) no_pair) old no_post no_arrival refl refl
@@ -43,7 +43,7 @@ module _ {h : List Event} {old : Replay} (replays : Replays h old) where
 
   -- a matched receive of a message that did not come
   pub match_none_takes : (stamp number from n cap line : ℕ) → message_of h from n ≡ None →
-      Takes h (record { stamp = stamp; what = Match number from n cap line }) None old
+      IsNextReplay h (record { stamp = stamp; what = Match number from n cap line }) None old
   match_none_takes stamp number from n cap line none =
       quiet_takes (record { stamp = stamp; what = Match number from n cap line })
       (ap (λ (o : Option Arrival). option_map (λ a. pair_of_claimed number cap a) o) none) refl refl (λ m. refl)
@@ -51,7 +51,7 @@ module _ {h : List Event} {old : Replay} (replays : Replays h old) where
 
   -- an event that is none of those of matching, or was late
   pub other_takes : (stamp : ℕ) (what : Happened) → is_idle what ≡ true →
-      Takes h (record { stamp = stamp; what = what }) None old
+      IsNextReplay h (record { stamp = stamp; what = what }) None old
   other_takes stamp (Send to n tag ctx len how line) idle = quiet_takes _ refl refl refl (λ m. refl) (λ i m. refl)
   other_takes stamp (Post p line) idle = absurd (false≢true idle)
   other_takes stamp (Arrive a) idle = absurd (false≢true idle)

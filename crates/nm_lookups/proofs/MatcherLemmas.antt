@@ -27,7 +27,7 @@ use Rattle.nm_match.proofs.PushLemmas.{is_known_message-push, is_known_receive-p
 use Rattle.nm_match.proofs.QueueLemmas.{each_posted, each_unexpected}
 use Rattle.nm_match.proofs.QueueLemmas as queue
 use Rattle.nm_match.proofs.TurnLemmas.{others_message, others_number}
-use Rattle.nm_lookups.specs.Queues.{Keeps, posted_after_arrival, posted_after_post}
+use Rattle.nm_lookups.specs.Queues.{HasQueues, posted_after_arrival, posted_after_post}
 use Rattle.nm_lookups.specs.Queues.{unexpected_after_arrival, unexpected_after_post, without_message, without_receive}
 use Rattle.nm_types.proofs.ListLemmas.{find_passes}
 use Rattle.nm_types.proofs.TruthLemmas.{and_left, and_right}
@@ -86,10 +86,10 @@ either_fails true = refl
 either_fails false = refl
 
 module _ {posted : List post.Post} {unexpected : List Arrival} {knows : ℕ → Bool} {came : ℕ → ℕ → Bool}
-    {deeds : List Deed} (keeps : Keeps posted unexpected knows came deeds) where
+    {deeds : List Deed} (keeps : HasQueues posted unexpected knows came deeds) where
   -- the same, said in other words
   pub keeps_agree : (knows' : ℕ → Bool) (came' : ℕ → ℕ → Bool) → ((number : ℕ) → knows number ≡ knows' number) →
-      ((from n : ℕ) → came from n ≡ came' from n) → Keeps posted unexpected knows' came' deeds
+      ((from n : ℕ) → came from n ≡ came' from n) → HasQueues posted unexpected knows' came' deeds
   keeps_agree knows' came' same_receives same_messages = record {
     claimed = keeps.claimed;
     cancelled = keeps.cancelled;
@@ -99,11 +99,11 @@ module _ {posted : List post.Post} {unexpected : List Arrival} {knows : ℕ → 
   }
 
 module _ {posted : List post.Post} {unexpected : List Arrival} {knows : ℕ → Bool} {came : ℕ → ℕ → Bool}
-    {deeds : List Deed} (keeps : Keeps posted unexpected knows came deeds) where
+    {deeds : List Deed} (keeps : HasQueues posted unexpected knows came deeds) where
   -- one deed more
   pub keeps-push : (d : Deed) (posted' : List post.Post) (unexpected' claimed' : List Arrival) (cancelled' : List ℕ) →
       AreQueuesOf (deeds ++ d ∷ []) posted' unexpected' claimed' cancelled' →
-      Keeps posted' unexpected' (λ number. knows number || new_receive d number)
+      HasQueues posted' unexpected' (λ number. knows number || new_receive d number)
       (λ from n. came from n || new_message d from n) (deeds ++ d ∷ [])
   keeps-push d posted' unexpected' claimed' cancelled' are = record {
     claimed = claimed';
@@ -119,7 +119,7 @@ module _ {posted : List post.Post} {unexpected : List Arrival} {knows : ℕ → 
   keeps-quiet : (d : Deed) (posted' : List post.Post) (unexpected' claimed' : List Arrival) (cancelled' : List ℕ) →
       receive_of (happened_by d) ≡ None → arrival_of (happened_by d) ≡ None →
       AreQueuesOf (deeds ++ d ∷ []) posted' unexpected' claimed' cancelled' →
-      Keeps posted' unexpected' knows came (deeds ++ d ∷ [])
+      HasQueues posted' unexpected' knows came (deeds ++ d ∷ [])
   keeps-quiet d posted' unexpected' claimed' cancelled' no_receive no_message are = record {
     claimed = claimed';
     cancelled = cancelled';
@@ -136,7 +136,7 @@ module _ {posted : List post.Post} {unexpected : List Arrival} {knows : ℕ → 
 
   -- a free message is withdrawn
   keeps_withdrawn : (from n : ℕ) (a : Arrival) → find (is_message from n) unexpected ≡ Some a →
-      Keeps posted (without_message from n unexpected) knows came (deeds ++ deed.Withdraw from n ∷ [])
+      HasQueues posted (without_message from n unexpected) knows came (deeds ++ deed.Withdraw from n ∷ [])
   keeps_withdrawn from n a is_first =
       let passes = find_passes (is_message from n) unexpected a is_first in
       let same_from : a.env.from ≡ from = eqb-true a.env.from from (and_left (a.env.from == from) (a.n == n) passes) in
@@ -152,7 +152,7 @@ module _ {posted : List post.Post} {unexpected : List Arrival} {knows : ℕ → 
 
   -- an open receive is cancelled
   keeps_cancelled : (number : ℕ) (p : post.Post) → find (λ p. p.number == number) posted ≡ Some p →
-      Keeps (without_receive number posted) unexpected knows came (deeds ++ deed.Cancel number ∷ [])
+      HasQueues (without_receive number posted) unexpected knows came (deeds ++ deed.Cancel number ∷ [])
   keeps_cancelled number p is_first =
       let test : post.Post → Bool = λ p. p.number == number in
       let same : p.number ≡ number = eqb-true p.number number (find_passes test posted p is_first) in
@@ -169,22 +169,22 @@ module _ {posted : List post.Post} {unexpected : List Arrival} {knows : ℕ → 
       is_known_message (history_of deeds) from n ≡ true →
       done ≡ is_free_message (history_of deeds) (matched_pairs (history_of deeds)) from n →
       new ≡ cond done (deeds ++ deed.Withdraw from n ∷ []) deeds →
-      Keeps posted (without_message from n unexpected) knows came new
+      HasQueues posted (without_message from n unexpected) knows came new
   withdrawal_keeps from n done new known free are = by_first (find (is_message from n) unexpected) refl
     where
       by_first : (o : Option Arrival) → find (is_message from n) unexpected ≡ o →
-          Keeps posted (without_message from n unexpected) knows came new
+          HasQueues posted (without_message from n unexpected) knows came new
       by_first None none =
           let late : done ≡ false = free ∙ message_late keeps.queues from n known none in
           let same : new ≡ deeds = are ∙ ap (λ b. cond b (deeds ++ deed.Withdraw from n ∷ []) deeds) late in
-          subst (λ (ds : List Deed). Keeps posted (without_message from n unexpected) knows came ds) (sym same)
-          (subst (λ (ms : List Arrival). Keeps posted ms knows came deeds)
+          subst (λ (ds : List Deed). HasQueues posted (without_message from n unexpected) knows came ds) (sym same)
+          (subst (λ (ms : List Arrival). HasQueues posted ms knows came deeds)
           (nothing_named (is_message from n) (is_message from n) unexpected none (λ a. refl)) keeps)
       by_first (Some a) is_first =
           let early : done ≡ true = free ∙ message_free keeps.queues from n a is_first in
           let more : new ≡ deeds ++ deed.Withdraw from n ∷ [] =
           are ∙ ap (λ b. cond b (deeds ++ deed.Withdraw from n ∷ []) deeds) early in
-          subst (λ (ds : List Deed). Keeps posted (without_message from n unexpected) knows came ds) (sym more)
+          subst (λ (ds : List Deed). HasQueues posted (without_message from n unexpected) knows came ds) (sym more)
           (keeps_withdrawn from n a is_first)
 
   -- what a cancel leaves, whether the receive was open or not
@@ -192,11 +192,11 @@ module _ {posted : List post.Post} {unexpected : List Arrival} {knows : ℕ → 
       done ≡ not (list_any (is_of_receive number) (matched_pairs (history_of deeds))) →
       new ≡ cond (done && not (happened (is_cancel number) (history_of deeds)))
       (deeds ++ deed.Cancel number ∷ []) deeds →
-      Keeps (without_receive number posted) unexpected knows came new
+      HasQueues (without_receive number posted) unexpected knows came new
   cancel_keeps number done new known late are = by_first (find (λ p. p.number == number) posted) refl
     where
       by_first : (o : Option post.Post) → find (λ p. p.number == number) posted ≡ o →
-          Keeps (without_receive number posted) unexpected knows came new
+          HasQueues (without_receive number posted) unexpected knows came new
       by_first None none =
           let paired : Bool = list_any (is_of_receive number) (matched_pairs (history_of deeds)) in
           let closed : happened (is_cancel number) (history_of deeds) ≡ not paired =
@@ -204,8 +204,8 @@ module _ {posted : List post.Post} {unexpected : List Arrival} {knows : ℕ → 
           let quiet : (done && not (happened (is_cancel number) (history_of deeds))) ≡ false =
           rw (late, closed) (either_fails paired) in
           let same : new ≡ deeds = are ∙ ap (λ b. cond b (deeds ++ deed.Cancel number ∷ []) deeds) quiet in
-          subst (λ (ds : List Deed). Keeps (without_receive number posted) unexpected knows came ds) (sym same)
-          (subst (λ (ps : List post.Post). Keeps ps unexpected knows came deeds)
+          subst (λ (ds : List Deed). HasQueues (without_receive number posted) unexpected knows came ds) (sym same)
+          (subst (λ (ps : List post.Post). HasQueues ps unexpected knows came deeds)
           (nothing_named (λ p. p.number == number) (λ p. number == p.number) posted none
           (λ p. number_both_ways number p.number)) keeps)
       by_first (Some p) is_first =
@@ -214,21 +214,21 @@ module _ {posted : List post.Post} {unexpected : List Arrival} {knows : ℕ → 
           rw (late, open'.0, open'.1) refl in
           let more : new ≡ deeds ++ deed.Cancel number ∷ [] =
           are ∙ ap (λ b. cond b (deeds ++ deed.Cancel number ∷ []) deeds) told in
-          subst (λ (ds : List Deed). Keeps (without_receive number posted) unexpected knows came ds) (sym more)
+          subst (λ (ds : List Deed). HasQueues (without_receive number posted) unexpected knows came ds) (sym more)
           (keeps_cancelled number p is_first)
 
   said : (p : post.Post) (posted' : List post.Post) (unexpected' : List Arrival) →
-      Keeps posted' unexpected' (λ number. knows number || new_receive (deed.Post p) number)
+      HasQueues posted' unexpected' (λ number. knows number || new_receive (deed.Post p) number)
       (λ from n. came from n || new_message (deed.Post p) from n) (deeds ++ deed.Post p ∷ []) →
-      Keeps posted' unexpected' (λ number. knows number || p.number == number) came (deeds ++ deed.Post p ∷ [])
+      HasQueues posted' unexpected' (λ number. knows number || p.number == number) came (deeds ++ deed.Post p ∷ [])
   said p posted' unexpected' kept =
       keeps_agree kept (λ number. knows number || p.number == number) came
       (λ number. ap (λ b. knows number || b) (or-false (p.number == number))) (λ from n. or-false (came from n))
 
   brought : (a : Arrival) (posted' : List post.Post) (unexpected' : List Arrival) →
-      Keeps posted' unexpected' (λ number. knows number || new_receive (deed.Arrive a) number)
+      HasQueues posted' unexpected' (λ number. knows number || new_receive (deed.Arrive a) number)
       (λ from n. came from n || new_message (deed.Arrive a) from n) (deeds ++ deed.Arrive a ∷ []) →
-      Keeps posted' unexpected' knows (λ from n. came from n || (a.env.from == from && a.n == n))
+      HasQueues posted' unexpected' knows (λ from n. came from n || (a.env.from == from && a.n == n))
       (deeds ++ deed.Arrive a ∷ [])
   brought a posted' unexpected' kept =
       keeps_agree kept knows (λ from n. came from n || (a.env.from == from && a.n == n))
@@ -246,7 +246,7 @@ module _ {posted : List post.Post} {unexpected : List Arrival} {knows : ℕ → 
   -- a receive is posted, and takes this message, or none
   pub posted_keeps : (p : post.Post) (taken : Option Arrival) → is_known_receive (history_of deeds) p.number ≡ false →
       find (λ a. matches p.from p.tag p.ctx a.env) unexpected ≡ taken →
-      Keeps (posted_after_post p false posted taken) (unexpected_after_post unexpected taken)
+      HasQueues (posted_after_post p false posted taken) (unexpected_after_post unexpected taken)
       (λ number. knows number || p.number == number) came (deeds ++ deed.Post p ∷ [])
   posted_keeps p None new none =
       let test : Arrival → Bool = λ a. matches p.from p.tag p.ctx a.env in
@@ -287,7 +287,7 @@ module _ {posted : List post.Post} {unexpected : List Arrival} {knows : ℕ → 
   pub arrived_keeps : (a : Arrival) (taken : Option post.Post) →
       is_known_message (history_of deeds) a.env.from a.n ≡ false →
       find (λ p. matches p.from p.tag p.ctx a.env) posted ≡ taken →
-      Keeps (posted_after_arrival posted (option_map (λ p. p.number) taken))
+      HasQueues (posted_after_arrival posted (option_map (λ p. p.number) taken))
       (unexpected_after_arrival a false unexpected (option_map (λ p. p.number) taken))
       knows (λ from n. came from n || (a.env.from == from && a.n == n)) (deeds ++ deed.Arrive a ∷ [])
   arrived_keeps a None new none =
@@ -323,13 +323,13 @@ module _ {posted : List post.Post} {unexpected : List Arrival} {knows : ℕ → 
       taken ≡ first_message (history_of deeds) (matched_pairs (history_of deeds)) p.from p.tag p.ctx →
       new ≡ deeds ++ deed.Post p ∷ [] →
       (taken ≡ find (λ a. matches p.from p.tag p.ctx a.env) unexpected)
-      × Keeps (posted_after_post p false posted taken) (unexpected_after_post unexpected taken)
+      × HasQueues (posted_after_post p false posted taken) (unexpected_after_post unexpected taken)
       (λ number. knows number || p.number == number) came new
   post_keeps p taken new is_new is more =
       let first : find (λ a. matches p.from p.tag p.ctx a.env) unexpected ≡ taken =
       first_message-queue keeps.queues p.from p.tag p.ctx ∙ sym is in (
         sym first,
-        subst (λ (ds : List Deed). Keeps (posted_after_post p false posted taken)
+        subst (λ (ds : List Deed). HasQueues (posted_after_post p false posted taken)
             (unexpected_after_post unexpected taken)
             (λ number. knows number || p.number == number) came ds) (sym more) (posted_keeps p taken is_new first),
       )
@@ -338,20 +338,20 @@ module _ {posted : List post.Post} {unexpected : List Arrival} {knows : ℕ → 
   pub post_cancelled : (p : post.Post) (cancelled : Bool) (new : List Deed) →
       is_known_receive (history_of deeds) p.number ≡ false →
       cancelled ≡ true →
-      Keeps (without_receive p.number (posted ++ p ∷ [])) unexpected
+      HasQueues (without_receive p.number (posted ++ p ∷ [])) unexpected
       (λ number. knows number || p.number == number) came new →
-      Keeps (posted_after_post p cancelled posted None) unexpected
+      HasQueues (posted_after_post p cancelled posted None) unexpected
       (λ number. knows number || p.number == number) came new
   post_cancelled p cancelled new is_new was kept =
-      subst (λ (ps : List post.Post). Keeps ps unexpected (λ number. knows number || p.number == number) came new)
+      subst (λ (ps : List post.Post). HasQueues ps unexpected (λ number. knows number || p.number == number) came new)
       (posted_left p is_new ∙ ap (λ b. cond b posted (posted ++ p ∷ [])) (sym was)) kept
 
   pub post_open : (p : post.Post) (cancelled : Bool) (new : List Deed) → cancelled ≡ false →
-      Keeps (posted ++ p ∷ []) unexpected (λ number. knows number || p.number == number) came new →
-      Keeps (posted_after_post p cancelled posted None) unexpected
+      HasQueues (posted ++ p ∷ []) unexpected (λ number. knows number || p.number == number) came new →
+      HasQueues (posted_after_post p cancelled posted None) unexpected
       (λ number. knows number || p.number == number) came new
   post_open p cancelled new was kept =
-      subst (λ (ps : List post.Post). Keeps ps unexpected (λ number. knows number || p.number == number) came new)
+      subst (λ (ps : List post.Post). HasQueues ps unexpected (λ number. knows number || p.number == number) came new)
       (ap (λ b. cond b posted (posted ++ p ∷ [])) (sym was)) kept
 
   -- what an arrival answers and leaves
@@ -360,17 +360,17 @@ module _ {posted : List post.Post} {unexpected : List Arrival} {knows : ℕ → 
       taken ≡ option_map (λ p. p.number) (first_receive (history_of deeds) (matched_pairs (history_of deeds)) a.env) →
       new ≡ deeds ++ deed.Arrive a ∷ [] →
       (taken ≡ option_map (λ p. p.number) (find (λ p. matches p.from p.tag p.ctx a.env) posted))
-      × Keeps (posted_after_arrival posted taken) (unexpected_after_arrival a false unexpected taken) knows
+      × HasQueues (posted_after_arrival posted taken) (unexpected_after_arrival a false unexpected taken) knows
       (λ from n. came from n || (a.env.from == from && a.n == n)) new
   arrive_keeps a taken new is_new is more =
       let same : taken ≡ option_map (λ p. p.number) (find (λ p. matches p.from p.tag p.ctx a.env) posted) =
       is ∙ ap (λ (o : Option post.Post). option_map (λ p. p.number) o)
       (sym (first_receive-queue keeps.queues a.env)) in (
         same,
-        subst (λ (ds : List Deed). Keeps (posted_after_arrival posted taken)
+        subst (λ (ds : List Deed). HasQueues (posted_after_arrival posted taken)
             (unexpected_after_arrival a false unexpected taken) knows
             (λ from n. came from n || (a.env.from == from && a.n == n)) ds) (sym more)
-            (subst (λ (o : Option ℕ). Keeps (posted_after_arrival posted o)
+            (subst (λ (o : Option ℕ). HasQueues (posted_after_arrival posted o)
             (unexpected_after_arrival a false unexpected o) knows
             (λ from n. came from n || (a.env.from == from && a.n == n)) (deeds ++ deed.Arrive a ∷ [])) (sym same)
             (arrived_keeps a (find (λ p. matches p.from p.tag p.ctx a.env) posted) is_new refl)),
@@ -380,21 +380,21 @@ module _ {posted : List post.Post} {unexpected : List Arrival} {knows : ℕ → 
   pub arrive_gone : (a : Arrival) (gone : Bool) (new : List Deed) →
       is_known_message (history_of deeds) a.env.from a.n ≡ false →
       gone ≡ true →
-      Keeps posted (without_message a.env.from a.n (unexpected ++ a ∷ [])) knows
+      HasQueues posted (without_message a.env.from a.n (unexpected ++ a ∷ [])) knows
       (λ from n. came from n || (a.env.from == from && a.n == n)) new →
-      Keeps posted (unexpected_after_arrival a gone unexpected None) knows
+      HasQueues posted (unexpected_after_arrival a gone unexpected None) knows
       (λ from n. came from n || (a.env.from == from && a.n == n)) new
   arrive_gone a gone new is_new was kept =
-      subst (λ (ms : List Arrival). Keeps posted ms knows
+      subst (λ (ms : List Arrival). HasQueues posted ms knows
       (λ from n. came from n || (a.env.from == from && a.n == n)) new)
       (arrived_left a is_new ∙ ap (λ b. cond b unexpected (unexpected ++ a ∷ [])) (sym was)) kept
 
   pub arrive_free : (a : Arrival) (gone : Bool) (new : List Deed) → gone ≡ false →
-      Keeps posted (unexpected ++ a ∷ []) knows (λ from n. came from n || (a.env.from == from && a.n == n)) new →
-      Keeps posted (unexpected_after_arrival a gone unexpected None) knows
+      HasQueues posted (unexpected ++ a ∷ []) knows (λ from n. came from n || (a.env.from == from && a.n == n)) new →
+      HasQueues posted (unexpected_after_arrival a gone unexpected None) knows
       (λ from n. came from n || (a.env.from == from && a.n == n)) new
   arrive_free a gone new was kept =
-      subst (λ (ms : List Arrival). Keeps posted ms knows
+      subst (λ (ms : List Arrival). HasQueues posted ms knows
       (λ from n. came from n || (a.env.from == from && a.n == n)) new)
       (ap (λ b. cond b unexpected (unexpected ++ a ∷ [])) (sym was)) kept
 

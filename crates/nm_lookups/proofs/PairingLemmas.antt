@@ -21,7 +21,7 @@ use Rattle.nm_lookups.specs.declared.firsts.Message.{Message}
 use Rattle.nm_lookups.specs.declared.pairing.pairings.Paired.{Paired}
 use Rattle.nm_lookups.specs.declared.pairing.pairings.Tables.{Tables}
 use Rattle.nm_lookups.specs.Firsts.{same_message}
-use Rattle.nm_lookups.specs.Pairings.{ArePaired, AreTables, pair_before}
+use Rattle.nm_lookups.specs.Pairings.{ArePaired, ArePairTables, pair_before}
 use Rattle.nm_lookups.specs.Placed.{AreTaken}
 use Rattle.nm_types.proofs.NumberLemmas.{lt_false}
 use Rattle.nm_lookups.proofs.FirstLemmas.{message_same}
@@ -233,7 +233,7 @@ module _ {S : Type 0} (h : List Event) (e : Event) where
 
 -- all tables, where the event makes no pair, and where it makes one
 pub tables_stay : (h : List Event) (e : Event) (tables : Tables) → None ≡ new_pair h (matched_pairs h) e.what →
-    AreTables h tables → AreTables (h ++ e ∷ []) tables
+    ArePairTables h tables → ArePairTables (h ++ e ∷ []) tables
 tables_stay h e tables none are = record {
   pairs = are.pairs ∙ sym (matched_pairs-push h e
       ∙ ap (λ (o : Option Pair). matched_pairs h ++ option_to_list o) (sym none) ∙ append-nil (matched_pairs h));
@@ -248,7 +248,7 @@ pub tables_keep : (h : List Event) (e : Event) (old new : Tables) (pair : Pair) 
     (Updates same_message old.taken new.taken (message_paired pair) (Some (length h))) (λ _. new.taken ≡ old.taken) →
     MatchOption (get ◌==◌ old.receives pair.number)
     (Updates ◌==◌ old.receives new.receives pair.number (Some (entry h pair))) (λ _. new.receives ≡ old.receives) →
-    AreTables h old → AreTables (h ++ e ∷ []) new
+    ArePairTables h old → ArePairTables (h ++ e ∷ []) new
 tables_keep h e old new pair made pushed taken received are = record {
   pairs = pushed ∙ ap (λ (ps : List Pair). ps ++ pair ∷ []) are.pairs ∙ sym (matched_pairs-push h e
       ∙ ap (λ (o : Option Pair). matched_pairs h ++ option_to_list o) (sym made));
@@ -258,7 +258,7 @@ tables_keep h e old new pair made pushed taken received are = record {
 
 -- no tables, of no event
 pub tables_none : (tables : Tables) → tables.pairs.items ≡ [] → tables.taken.entries ≡ [] →
-    tables.receives.entries ≡ [] → AreTables [] tables
+    tables.receives.entries ≡ [] → ArePairTables [] tables
 unfolding matched_pairs
 tables_none tables no_pair none_taken none_paired = record {
   pairs = no_pair;

@@ -30,7 +30,7 @@ use Rattle.nm_match.proofs.TurnLemmas.{others_number}
 use Rattle.nm_lookups.specs.declared.firsts.Message.{Message}
 use Rattle.nm_lookups.specs.declared.pairing.replays.Replay.{Replay}
 use Rattle.nm_lookups.specs.Firsts.{same_message}
-use Rattle.nm_lookups.specs.Queues.{Follows, Keeps, free_messages, is_closed, is_gone, is_posted, open_receives}
+use Rattle.nm_lookups.specs.Queues.{HasQueuesOf, HasQueues, free_messages, is_closed, is_gone, is_posted, open_receives}
 use Rattle.nm_lookups.specs.Queues.{without_message, without_receive}
 use Rattle.nm_lookups.specs.Replays.{Replays}
 use Rattle.nm_lookups.proofs.HistoryLemmas.{closed-push, gone-push, is_free-gone, is_open-closed}
@@ -120,7 +120,7 @@ first_open h env = find-filter (λ (p : post.Post). matches p.from p.tag p.ctx e
     (posts h)
 
 -- what a matcher that follows a history answers is what the definitions say of that history
-pub first_message-followed : {deeds : List Deed} (h : List Event) → Follows h deeds →
+pub first_message-followed : {deeds : List Deed} (h : List Event) → HasQueuesOf h deeds →
     (from : Peer) (tag : TagPick) (ctx : ℕ) →
     first_message (history_of deeds) (matched_pairs (history_of deeds)) from tag ctx
     ≡ first_message h (matched_pairs h) from tag ctx
@@ -130,13 +130,13 @@ first_message-followed h keeps from tag ctx =
 -- a matcher with the queues of a history follows it
 pub follows : {posted' : List post.Post} {unexpected' : List Arrival} {knows' : ℕ → Bool} {came' : ℕ → ℕ →
     Bool} {deeds : List Deed} →
-    Keeps posted' unexpected' knows' came' deeds → (h : List Event) → open_receives h ≡ posted' →
+    HasQueues posted' unexpected' knows' came' deeds → (h : List Event) → open_receives h ≡ posted' →
     free_messages h ≡ unexpected' →
     ((number : ℕ) → knows' number ≡ is_posted h number) → ((from n : ℕ) → came' from n ≡ is_known_message h from n) →
-    Follows h deeds
+    HasQueuesOf h deeds
 follows {posted' = posted'} {deeds = deeds} keeps h opened freed known came =
-    subst (λ (ps : List post.Post). Keeps ps (free_messages h) (is_posted h) (is_known_message h) deeds) (sym opened)
-    (subst (λ (ms : List Arrival). Keeps posted' ms (is_posted h) (is_known_message h) deeds) (sym freed)
+    subst (λ (ps : List post.Post). HasQueues ps (free_messages h) (is_posted h) (is_known_message h) deeds) (sym opened)
+    (subst (λ (ms : List Arrival). HasQueues posted' ms (is_posted h) (is_known_message h) deeds) (sym freed)
     (keeps_agree keeps (is_posted h) (is_known_message h) known came))
 
 pub is_posted-push : (h : List Event) (e : Event) (number : ℕ) → is_posted (h ++ e ∷ []) number
@@ -171,7 +171,7 @@ module _ {h : List Event} {old : Replay} (replays : Replays h old) (e : Event) (
     (new : Replay) where
   -- an event that posts and brings nothing
   pub quietly : post_of e.what ≡ None → arrival_of e.what ≡ None → new.posts ≡ old.posts → new.messages ≡ old.messages →
-      Keeps (open_receives (h ++ e ∷ [])) (free_messages (h ++ e ∷ [])) (is_posted h) (is_known_message h) new.matcher →
+      HasQueues (open_receives (h ++ e ∷ [])) (free_messages (h ++ e ∷ [])) (is_posted h) (is_known_message h) new.matcher →
       ((number : ℕ) → contains ◌==◌ new.closed number ≡ (is_closed h number || closes e.what more number)) →
       ((m : Message) → contains same_message new.gone m ≡ (is_gone h m.rank m.n || takes e.what more m.rank m.n)) →
       Replays (h ++ e ∷ []) new
@@ -199,31 +199,31 @@ cond-or false false = refl
 -- what is closed, or was not posted, needs no cancel; what is gone, or did not come, no withdrawal
 module _ {h : List Event} {old : Replay} (replays : Replays h old) where
   untouched_receive : (number : ℕ) → (not (is_closed h number) && is_posted h number) ≡ false →
-      Keeps (without_receive number (open_receives h)) (free_messages h) (is_posted h) (is_known_message h) old.matcher
+      HasQueues (without_receive number (open_receives h)) (free_messages h) (is_posted h) (is_known_message h) old.matcher
   untouched_receive number not_open =
-      subst (λ (ps : List post.Post). Keeps ps (free_messages h) (is_posted h) (is_known_message h) old.matcher)
+      subst (λ (ps : List post.Post). HasQueues ps (free_messages h) (is_posted h) (is_known_message h) old.matcher)
       (untouched_open h number not_open) replays.queues
 
   pub closed_keeps : (number : ℕ) → true ≡ contains ◌==◌ old.closed number →
-      Keeps (without_receive number (open_receives h)) (free_messages h) (is_posted h) (is_known_message h) old.matcher
+      HasQueues (without_receive number (open_receives h)) (free_messages h) (is_posted h) (is_known_message h) old.matcher
   closed_keeps number closed =
       untouched_receive number (ap (λ b. not b && is_posted h number) (sym (closed ∙ replays.closed number)))
 
   pub unposted_keeps : (number : ℕ) → false ≡ is_some (get ◌==◌ old.posts number) →
-      Keeps (without_receive number (open_receives h)) (free_messages h) (is_posted h) (is_known_message h) old.matcher
+      HasQueues (without_receive number (open_receives h)) (free_messages h) (is_posted h) (is_known_message h) old.matcher
   unposted_keeps number none =
       untouched_receive number (ap (λ b. not (is_closed h number) && b) (sym (none ∙ replays.posted number))
       ∙ and-false (not (is_closed h number)))
 
   untouched_message : (m : Message) → (not (is_gone h m.rank m.n) && is_known_message h m.rank m.n) ≡ false →
-      Keeps (open_receives h) (without_message m.rank m.n (free_messages h)) (is_posted h)
+      HasQueues (open_receives h) (without_message m.rank m.n (free_messages h)) (is_posted h)
       (is_known_message h) old.matcher
   untouched_message m not_free =
-      subst (λ (ms : List Arrival). Keeps (open_receives h) ms (is_posted h) (is_known_message h) old.matcher)
+      subst (λ (ms : List Arrival). HasQueues (open_receives h) ms (is_posted h) (is_known_message h) old.matcher)
       (untouched_free h m.rank m.n not_free) replays.queues
 
   pub gone_keeps : (m : Message) → true ≡ contains same_message old.gone m →
-      Keeps (open_receives h) (without_message m.rank m.n (free_messages h)) (is_posted h)
+      HasQueues (open_receives h) (without_message m.rank m.n (free_messages h)) (is_posted h)
       (is_known_message h) old.matcher
   gone_keeps m gone =
       untouched_message m (ap (λ b. not b && is_known_message h m.rank m.n) (sym (gone ∙ replays.gone m)))
@@ -233,7 +233,7 @@ module _ {h : List Event} {old : Replay} (replays : Replays h old) where
   came_here m = ap is_some (replays.messages m) ∙ is_some-message_of h m.rank m.n
 
   pub missing_keeps : (m : Message) → false ≡ is_some (get same_message old.messages m) →
-      Keeps (open_receives h) (without_message m.rank m.n (free_messages h)) (is_posted h)
+      HasQueues (open_receives h) (without_message m.rank m.n (free_messages h)) (is_posted h)
       (is_known_message h) old.matcher
   missing_keeps m none =
       untouched_message m (ap (λ b. not (is_gone h m.rank m.n) && b) (sym (none ∙ came_here m))

@@ -27,16 +27,16 @@ use Rattle.nm_history.specs.declared.plain.Pair.{Pair}
 use Rattle.nm_lookups.specs.declared.pairing.pairings.Pairing.{Pairing}
 use Rattle.nm_lookups.specs.declared.pairing.pairings.Tables.{Tables}
 use Rattle.nm_lookups.specs.declared.pairing.replays.Replay.{Replay}
-use Rattle.nm_lookups.specs.Pairings.{AreTables, Tells}
-use Rattle.nm_lookups.specs.Queues.{Follows, IsNew}
-use Rattle.nm_lookups.specs.Replays.{Replays, Takes}
+use Rattle.nm_lookups.specs.Pairings.{ArePairTables, Tells}
+use Rattle.nm_lookups.specs.Queues.{HasQueuesOf, IsFirstOfItsKind}
+use Rattle.nm_lookups.specs.Replays.{Replays, IsNextReplay}
 use Rattle.nm_lookups.proofs.PairingLemmas.{tables_stay}
 use Rattle.nm_types.proofs.ListLemmas.{take_next, split_at}
 use Rattle.nm_history.proofs.EachLemmas.{AtEach-prefix as front}
 
 -- where events are numbered, the next one is new
 new_event : (ranks : ℕ) (h : List Event) (what : Happened) → NumberAt ranks h what → Always (NumberAt ranks) h →
-    IsNew h what
+    IsFirstOfItsKind h what
 new_event ranks h (Send to n tag ctx len how line) at numbers = tt
 new_event ranks h (Post p line) at numbers =
     let above : length (receives h) ≤ p.number = omega (arith, at) in
@@ -60,7 +60,7 @@ new_event ranks h (Ran line answer) at numbers = tt
 -- each event of a history whose numbers are right is new
 pub new_at : (ranks : ℕ) (h : List Event) (k : ℕ) (e : Event) → k < length h → e ≡ get_or h k e →
     Always (NumberAt ranks) h →
-    IsNew (take k h) e.what
+    IsFirstOfItsKind (take k h) e.what
 new_at ranks h k e inside is numbers =
     let R : List Event → Event → Type 0 = λ before e. NumberAt ranks before e.what in
     let split : AtEach R (take k h ++ e ∷ drop (k + 1) h) =
@@ -141,13 +141,13 @@ look_missing looks noted k told same past is =
 pub record IsReplayed (rank : ℕ) (lines : List Line) (h : List Event) (k : ℕ) (replay : Replay) (tables : Tables)
     (looks : List (Option Arrival)) : Type 0 where
   pub followed : Replays (take k h) replay
-  pub kept : AreTables (take k h) tables
+  pub kept : ArePairTables (take k h) tables
   pub noted : AreLooksTo rank lines h k looks
 
 module _ (rank : ℕ) (lines : List Line) (h : List Event) where
   -- of no event
   pub replayed_none : (replay : Replay) (tables : Tables) (looks : List (Option Arrival)) → Replays [] replay →
-      AreTables [] tables → looks ≡ [] → IsReplayed rank lines h 0 replay tables looks
+      ArePairTables [] tables → looks ≡ [] → IsReplayed rank lines h 0 replay tables looks
   replayed_none replay tables looks replays are none = record {
     followed = replays;
     kept = are;
@@ -158,26 +158,26 @@ module _ (rank : ℕ) (lines : List Line) (h : List Event) where
       {looks : List (Option Arrival)} (known : IsReplayed rank lines h k replay tables looks) where
     -- of one event more
     pub replayed_more : (made : Option Pair) (found : Option Arrival) (replay' : Replay) (tables' : Tables)
-        (looks' : List (Option Arrival)) → Takes (take k h) e made replay' →
-        AreTables (take k h ++ e ∷ []) tables' → looks' ≡ looks ++ found ∷ [] →
+        (looks' : List (Option Arrival)) → IsNextReplay (take k h) e made replay' →
+        ArePairTables (take k h ++ e ∷ []) tables' → looks' ≡ looks ++ found ∷ [] →
         found ≡ look_at rank lines h k e → IsReplayed rank lines h (k + 1) replay' tables' looks'
     replayed_more made found replay' tables' looks' takes are pushed seen =
         let next : take k h ++ e ∷ [] ≡ take (k + 1) h = sym (take_next h k e inside is) in record {
           followed = subst (λ (g : List Event). Replays g replay') next takes.replays;
-          kept = subst (λ (g : List Event). AreTables g tables') next are;
+          kept = subst (λ (g : List Event). ArePairTables g tables') next are;
           noted = subst (λ (xs : List (Option Arrival)). AreLooksTo rank lines h (k + 1) xs)
               (sym (pushed ∙ ap (λ (o : Option Arrival). looks ++ o ∷ []) seen))
               (looks_more rank lines h k looks e inside is known.noted);
         }
 
     -- the tables of one event more, which makes no pair
-    pub tables_none_more : (made : Option Pair) (replay' : Replay) → Takes (take k h) e made replay' → made ≡ None →
-        AreTables (take k h ++ e ∷ []) tables
+    pub tables_none_more : (made : Option Pair) (replay' : Replay) → IsNextReplay (take k h) e made replay' → made ≡ None →
+        ArePairTables (take k h ++ e ∷ []) tables
     tables_none_more made replay' takes none =
         tables_stay (take k h) e tables (sym none ∙ takes.made_is) known.kept
 
     -- the pair that it makes, and its place
-    pub pair_made : (made : Option Pair) (replay' : Replay) → Takes (take k h) e made replay' → (pair : Pair) →
+    pub pair_made : (made : Option Pair) (replay' : Replay) → IsNextReplay (take k h) e made replay' → (pair : Pair) →
         made ≡ Some pair → Some pair ≡ new_pair (take k h) (matched_pairs (take k h)) e.what
     pair_made made replay' takes pair some = sym some ∙ takes.made_is
 
@@ -190,8 +190,8 @@ module _ (rank : ℕ) (lines : List Line) (h : List Event) where
       Tells rank lines h pairing
   replayed_all k replay pairing past known same =
       let all : take k h ≡ h = take_all k h past in record {
-        tables = subst (λ (g : List Event). AreTables g pairing.tables) all known.kept;
+        tables = subst (λ (g : List Event). ArePairTables g pairing.tables) all known.kept;
         looks = λ j e here. known.noted.told j e (omega (arith, past, slice_get_within h j e here)) here;
-        queues = subst (λ (ds : List Deed). Follows h ds) same
-            (subst (λ (g : List Event). Follows g replay.matcher) all known.followed.queues);
+        queues = subst (λ (ds : List Deed). HasQueuesOf h ds) same
+            (subst (λ (g : List Event). HasQueuesOf g replay.matcher) all known.followed.queues);
       }

@@ -14,7 +14,7 @@ use Rattle.nm_lookups.specs.declared.pairing.pairings.Paired.{Paired}
 use Rattle.nm_lookups.specs.declared.pairing.pairings.Pairing.{Pairing}
 use Rattle.nm_lookups.specs.declared.pairing.pairings.Tables.{Tables}
 use Rattle.nm_lookups.specs.Looks.{look_of}
-use Rattle.nm_lookups.specs.Queues.{Follows}
+use Rattle.nm_lookups.specs.Queues.{HasQueuesOf}
 
 -- the pair, if it was made before this place
 abbrev pub pair_before : ℕ → Option Paired → Option Pair
@@ -33,13 +33,13 @@ AreLooks rank lines h looks =
     slice_get looks k ≡ Some (look_of (commands_of rank lines) (take k h) e.what)
 
 -- the pairs of a history, in order and by name
-pub record AreTables (h : List Event) (tables : Tables) : Type 0 where
+pub record ArePairTables (h : List Event) (tables : Tables) : Type 0 where
   pub pairs : tables.pairs.items ≡ matched_pairs h
   pub taken : AreTaken h tables.taken
   pub receives : ArePaired h tables.receives
 
 -- what was paired with what before each event of a history, and what was free
 pub record Tells (rank : ℕ) (lines : List Line) (h : List Event) (pairing : Pairing) : Type 0 where
-  pub tables : AreTables h pairing.tables
+  pub tables : ArePairTables h pairing.tables
   pub looks : AreLooks rank lines h pairing.looks.items
-  pub queues : Follows h pairing.matcher
+  pub queues : HasQueuesOf h pairing.matcher

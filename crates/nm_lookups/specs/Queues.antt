@@ -46,7 +46,7 @@ abbrev pub without_message : ℕ → ℕ → List Arrival → List Arrival
 without_message from n unexpected = filter (λ a. not (is_message from n a)) unexpected
 
 -- A matcher with these deeds has these queues, and knows these receives and these messages.
-pub record Keeps (posted : List post.Post) (unexpected : List Arrival) (knows : ℕ → Bool)
+pub record HasQueues (posted : List post.Post) (unexpected : List Arrival) (knows : ℕ → Bool)
     (came : ℕ → ℕ → Bool) (deeds : List Deed) : Type 0 where
   pub claimed : List Arrival
   pub cancelled : List ℕ
@@ -79,13 +79,13 @@ unexpected_after_arrival a gone unexpected None =
 unexpected_after_arrival a gone unexpected (Some number) = unexpected
 
 -- A matcher whose deeds may be others than the events of a history has the queues of that history.
-abbrev pub Follows : List Event → List Deed → Type 0
-Follows h deeds =
-    Keeps (open_receives h) (free_messages h) (is_posted h) (is_known_message h) deeds
+abbrev pub HasQueuesOf : List Event → List Deed → Type 0
+HasQueuesOf h deeds =
+    HasQueues (open_receives h) (free_messages h) (is_posted h) (is_known_message h) deeds
 
 -- the event posts a receive or brings a message that did not come before
-abbrev pub IsNew : List Event → Happened → Type 0
-IsNew h (Post p line) = is_known_receive h p.number ≡ false
-IsNew h (Match number from n cap line) = is_known_receive h number ≡ false
-IsNew h (Arrive a) = is_known_message h a.env.from a.n ≡ false
-IsNew h _ = Unit {0}
+abbrev pub IsFirstOfItsKind : List Event → Happened → Type 0
+IsFirstOfItsKind h (Post p line) = is_known_receive h p.number ≡ false
+IsFirstOfItsKind h (Match number from n cap line) = is_known_receive h number ≡ false
+IsFirstOfItsKind h (Arrive a) = is_known_message h a.env.from a.n ≡ false
+IsFirstOfItsKind h _ = Unit {0}

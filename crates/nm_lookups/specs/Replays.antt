@@ -11,12 +11,12 @@ use Rattle.nm_history.specs.Sends.{message_of, posts as posted_receives}
 use Rattle.nm_lookups.specs.declared.firsts.Message.{Message}
 use Rattle.nm_lookups.specs.declared.pairing.replays.Replay.{Replay}
 use Rattle.nm_lookups.specs.Firsts.{same_message}
-use Rattle.nm_lookups.specs.Queues.{Follows, is_closed, is_gone, is_posted}
+use Rattle.nm_lookups.specs.Queues.{HasQueuesOf, is_closed, is_gone, is_posted}
 
 -- The replay has the queues of this history, its receives and its messages by their numbers, and
 -- which of them take no part in matching any more.
 pub record Replays (h : List Event) (replay : Replay) : Type 0 where
-  pub queues : Follows h replay.matcher
+  pub queues : HasQueuesOf h replay.matcher
   pub kept : All (λ p. get ◌==◌ replay.posts p.number ≡ Some p) (posted_receives h)
   pub posted : (number : ℕ) → is_some (get ◌==◌ replay.posts number) ≡ is_posted h number
   pub messages :
@@ -25,7 +25,7 @@ pub record Replays (h : List Event) (replay : Replay) : Type 0 where
   pub gone : (m : Message) → contains same_message replay.gone m ≡ is_gone h m.rank m.n
 
 -- the replay after one event more, which made this pair, or none
-pub record Takes (h : List Event) (e : Event) (made : Option Pair) (replay : Replay) : Type 0 where
+pub record IsNextReplay (h : List Event) (e : Event) (made : Option Pair) (replay : Replay) : Type 0 where
   pub made_is : made ≡ new_pair h (matched_pairs h) e.what
   pub replays : Replays (h ++ e ∷ []) replay
 

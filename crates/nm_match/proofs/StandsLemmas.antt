@@ -28,7 +28,7 @@ use Rattle.nm_history.proofs.MatchingLemmas.{matched_pairs-push}
 use Rattle.nm_history.proofs.OnceLemmas.{messages-push, posts-push, receives-push}
 use Rattle.nm_match.specs.declared.deeds.Deed.{Deed}
 use Rattle.nm_match.specs.declared.deeds.Deed.TheVariants as deed
-use Rattle.nm_match.specs.Deeds.{Stands, deeds_after, deeds_of, event_of, history_of, is_known_message}
+use Rattle.nm_match.specs.Deeds.{Represents, deeds_after, deeds_of, event_of, history_of, is_known_message}
 use Rattle.nm_match.specs.Deeds.{is_known_receive, is_message, is_of_matching}
 use Rattle.nm_match.proofs.DeedLemmas.{history_of-push}
 use Rattle.nm_types.proofs.ListLemmas.{find_agree}
@@ -293,8 +293,8 @@ unfolding deeds_of
 deeds_of-push h e = fold-append (λ (deeds : List Deed) (e : Event). deeds_after deeds e.what) [] h (e ∷ [])
 
 -- a history that stands for these deeds, with one event more
-pub stands_push : (deeds : List Deed) (h : List Event) (e : Event) → Stands deeds h →
-    Stands (deeds_after deeds e.what) (h ++ e ∷ [])
+pub stands_push : (deeds : List Deed) (h : List Event) (e : Event) → Represents deeds h →
+    Represents (deeds_after deeds e.what) (h ++ e ∷ [])
 stands_push deeds h e stands = ap (λ (ds : List Deed). deeds_after ds e.what) stands ∙ sym (deeds_of-push h e)
 
 no_deed : (deeds : List Deed) (what : Happened) → is_of_matching what ≡ false → deeds_after deeds what ≡ deeds
@@ -308,10 +308,10 @@ no_deed deeds what none = refl
 
 -- an event that takes no part in matching
 pub stands_other : (deeds : List Deed) (h : List Event) (e : Event) → is_of_matching e.what ≡ false →
-    Stands deeds h → Stands deeds (h ++ e ∷ [])
+    Represents deeds h → Represents deeds (h ++ e ∷ [])
 stands_other deeds h e none stands = sym (no_deed deeds e.what none) ∙ stands_push deeds h e stands
 
-module _ (deeds : List Deed) (h : List Event) (stands : Stands deeds h) where
+module _ (deeds : List Deed) (h : List Event) (stands : Represents deeds h) where
   alike_stands : AlikeOf h deeds
   alike_stands = rw stands (alike_deeds h)
 

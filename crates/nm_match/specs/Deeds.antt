@@ -83,5 +83,5 @@ unfoldable pub deeds_of : List Event → List Deed
 deeds_of h = fold (λ deeds e. deeds_after deeds e.what) [] h
 
 -- this history stands for these deeds
-abbrev pub Stands : List Deed → List Event → Type 0
-Stands deeds h = deeds ≡ deeds_of h
+abbrev pub Represents : List Deed → List Event → Type 0
+Represents deeds h = deeds ≡ deeds_of h

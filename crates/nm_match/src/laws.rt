@@ -18,7 +18,7 @@ ghost use Rattle.nm_history.specs.RankRun.{Always, NumberAt};
 ghost use Rattle.nm_history.specs.Sends.{arrivals, message_of, receives};
 ghost use Rattle.nm_match.specs.declared.deeds.Deed.{Deed};
 ghost use Rattle.nm_match.specs.declared.deeds.Deed.TheVariants as deed;
-ghost use Rattle.nm_match.specs.Deeds.{Stands, event_of, history_of, is_known_message};
+ghost use Rattle.nm_match.specs.Deeds.{Represents, event_of, history_of, is_known_message};
 ghost use Rattle.nm_match.specs.Deeds.{is_known_receive, is_of_matching};
 ghost use Rattle.nm_match.specs.InTurn.{ArePairedInTurn, ArePlainEvents};
 
@@ -32,63 +32,63 @@ pub fn history_grows()
 /// The deeds that a history of any stamps, lines and other events stands for, one event after
 /// another. Of the cancels of one receive the first alone is a deed.
 pub fn stands_grows()
-    ensures none { Stands [] [] }
+    ensures none { Represents [] [] }
     ensures post { (deeds : List Deed) (h : List Event) (stamp line : ℕ) (p : post.Post) →
-        Stands deeds h → Stands (deeds ++ deed.Post p ∷ [])
+        Represents deeds h → Represents (deeds ++ deed.Post p ∷ [])
         (h ++ record { stamp = stamp; what = event.Post p line } ∷ []) }
     ensures arrive { (deeds : List Deed) (h : List Event) (stamp : ℕ) (a : Arrival) →
-        Stands deeds h → Stands (deeds ++ deed.Arrive a ∷ [])
+        Represents deeds h → Represents (deeds ++ deed.Arrive a ∷ [])
         (h ++ record { stamp = stamp; what = event.Arrive a } ∷ []) }
     ensures cancel { (deeds : List Deed) (h : List Event) (stamp number : ℕ) (done : Bool) →
-        Stands deeds h → Stands (if done && not (happened (is_cancel number) (history_of deeds))
+        Represents deeds h → Represents (if done && not (happened (is_cancel number) (history_of deeds))
         then deeds ++ deed.Cancel number ∷ [] else deeds)
         (h ++ record { stamp = stamp; what = event.Cancel number done } ∷ []) }
     ensures withdraw { (deeds : List Deed) (h : List Event) (stamp from n : ℕ) (done : Bool) →
-        Stands deeds h → Stands (if done then deeds ++ deed.Withdraw from n ∷ [] else deeds)
+        Represents deeds h → Represents (if done then deeds ++ deed.Withdraw from n ∷ [] else deeds)
         (h ++ record { stamp = stamp; what = event.Withdraw from n done } ∷ []) }
     ensures claim { (deeds : List Deed) (h : List Event) (stamp from n line : ℕ) →
-        Stands deeds h → Stands (deeds ++ deed.Claim from n ∷ [])
+        Represents deeds h → Represents (deeds ++ deed.Claim from n ∷ [])
         (h ++ record { stamp = stamp; what = event.Claim from n line } ∷ []) }
     ensures matched { (deeds : List Deed) (h : List Event) (stamp number from n cap line : ℕ) →
-        Stands deeds h → Stands (deeds ++ deed.Match number from n ∷ [])
+        Represents deeds h → Represents (deeds ++ deed.Match number from n ∷ [])
         (h ++ record { stamp = stamp; what = event.Match number from n cap line } ∷ []) }
     ensures other { (deeds : List Deed) (h : List Event) (e : Event) →
-        is_of_matching e.what ≡ false → Stands deeds h → Stands deeds (h ++ e ∷ []) }
+        is_of_matching e.what ≡ false → Represents deeds h → Represents deeds (h ++ e ∷ []) }
 {}
 
 /// Matching is the same on a history and on the deeds that it stands for: what a matcher with these
 /// deeds answers is what the definitions say of that history.
 pub fn matching_agrees()
-    ensures message { (deeds : List Deed) (h : List Event) → Stands deeds h →
+    ensures message { (deeds : List Deed) (h : List Event) → Represents deeds h →
         (from : Peer) (tag : TagPick) (ctx : ℕ) → first_message h (matched_pairs h) from tag ctx
         ≡ first_message (history_of deeds) (matched_pairs (history_of deeds)) from tag ctx }
-    ensures receive { (deeds : List Deed) (h : List Event) → Stands deeds h → (env : Envelope) →
+    ensures receive { (deeds : List Deed) (h : List Event) → Represents deeds h → (env : Envelope) →
         first_receive h (matched_pairs h) env
         ≡ first_receive (history_of deeds) (matched_pairs (history_of deeds)) env }
-    ensures free { (deeds : List Deed) (h : List Event) → Stands deeds h → (from n : ℕ) →
+    ensures free { (deeds : List Deed) (h : List Event) → Represents deeds h → (from n : ℕ) →
         is_free_message h (matched_pairs h) from n
         ≡ is_free_message (history_of deeds) (matched_pairs (history_of deeds)) from n }
-    ensures claimed { (deeds : List Deed) (h : List Event) → Stands deeds h → (from n : ℕ) →
+    ensures claimed { (deeds : List Deed) (h : List Event) → Represents deeds h → (from n : ℕ) →
         is_claimed h (matched_pairs h) from n
         ≡ is_claimed (history_of deeds) (matched_pairs (history_of deeds)) from n }
-    ensures open_receive { (deeds : List Deed) (h : List Event) → Stands deeds h →
+    ensures open_receive { (deeds : List Deed) (h : List Event) → Represents deeds h →
         (p : post.Post) → is_open h (matched_pairs h) p
         ≡ is_open (history_of deeds) (matched_pairs (history_of deeds)) p }
-    ensures paired { (deeds : List Deed) (h : List Event) → Stands deeds h → (number : ℕ) →
+    ensures paired { (deeds : List Deed) (h : List Event) → Represents deeds h → (number : ℕ) →
         list_any (is_of_receive number) (matched_pairs h)
         ≡ list_any (is_of_receive number) (matched_pairs (history_of deeds)) }
-    ensures taken { (deeds : List Deed) (h : List Event) → Stands deeds h → (from n : ℕ) →
+    ensures taken { (deeds : List Deed) (h : List Event) → Represents deeds h → (from n : ℕ) →
         list_any (is_of_message from n) (matched_pairs h)
         ≡ list_any (is_of_message from n) (matched_pairs (history_of deeds)) }
-    ensures cancelled { (deeds : List Deed) (h : List Event) → Stands deeds h → (number : ℕ) →
+    ensures cancelled { (deeds : List Deed) (h : List Event) → Represents deeds h → (number : ℕ) →
         happened (is_cancel number) h ≡ happened (is_cancel number) (history_of deeds) }
-    ensures known_receive { (deeds : List Deed) (h : List Event) → Stands deeds h →
+    ensures known_receive { (deeds : List Deed) (h : List Event) → Represents deeds h →
         (number : ℕ) → is_known_receive h number
         ≡ is_known_receive (history_of deeds) number }
-    ensures known_message { (deeds : List Deed) (h : List Event) → Stands deeds h →
+    ensures known_message { (deeds : List Deed) (h : List Event) → Represents deeds h →
         (from n : ℕ) → is_known_message h from n
         ≡ is_known_message (history_of deeds) from n }
-    ensures message_named { (deeds : List Deed) (h : List Event) → Stands deeds h →
+    ensures message_named { (deeds : List Deed) (h : List Event) → Represents deeds h →
         (from n : ℕ) → message_of h from n ≡ message_of (history_of deeds) from n }
 {}
 

@@ -6,10 +6,10 @@ use Rattle.nm_rank.specs.New.{IsNew}
 use Rattle.nm_rank.specs.Ranks.{RankView}
 use Rattle.nm_multi.specs.declared.calls.Entry.{Entry}
 use Rattle.nm_multi.specs.Acts.{AreReplayed}
-use Rattle.nm_multi.specs.Standing.{Stands}
+use Rattle.nm_multi.specs.Standing.{DeskInvariant}
 
 -- no call was made, and the only rank took all packets that left it: none
-pub begun : (shape : Sizes) (v : RankView) (log : List Entry) → shape.ranks ≡ 1 → IsNew shape 0 v → Stands [] v →
+pub begun : (shape : Sizes) (v : RankView) (log : List Entry) → shape.ranks ≡ 1 → IsNew shape 0 v → DeskInvariant [] v →
     log ≡ [] → AreReplayed v log
 begun shape v log one new stands none =
     subst (λ (es : List Entry). AreReplayed v es) (sym none) (record {

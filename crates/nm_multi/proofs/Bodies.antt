@@ -40,7 +40,7 @@ use Rattle.nm_receiving.proofs.Facts.{Is_named, right_named}
 use Rattle.nm_receiving.proofs.Lists.{some_from}
 use Rattle.nm_rank.specs.Ranks.{IsFresh, RankView, request_of}
 use Rattle.nm_rank.specs.Requests.{Finishes, IsResult, pair_with}
-use Rattle.nm_channels.specs.Moments.{Moment, history_of, pulled_from, taken_from}
+use Rattle.nm_channels.specs.Moments.{LogEntry, history_of, pulled_from, taken_from}
 use Rattle.nm_channels.specs.Sound.{bytes_of_message}
 use Rattle.nm_channels.proofs.Cutting.{sends_sized, sized_at}
 use Rattle.nm_channels.proofs.Delivering.{sender_right}
@@ -51,7 +51,7 @@ use Rattle.nm_multi.specs.declared.calls.Call.TheVariants.{Finish}
 use Rattle.nm_multi.specs.declared.calls.Reply.TheVariants.{Ended}
 use Rattle.nm_multi.specs.Acts.{ShowsBody}
 use Rattle.nm_multi.specs.Moves.{IsAlone}
-use Rattle.nm_multi.specs.Standing.{AreBodies, Stands}
+use Rattle.nm_multi.specs.Standing.{AreBodies, DeskInvariant}
 use Rattle.nm_multi.proofs.SoFar.{CameSoFar, came_so_far}
 use Rattle.nm_types.proofs.ListLemmas.{all_along}
 use Rattle.nm_types.proofs.OptionLemmas.{some_and}
@@ -166,7 +166,7 @@ whole_front xs ys zs same long =
     ∙ ap (λ (l : List ℕ). xs ++ l) (sym (no_length ys (omega (arith, both, long)))) ∙ same
 
 -- what a message shows is its body, where it has the length of that
-body_is : (bodies : Sent → List ℕ) (log : List Moment) (pair : Pair) (body : List ℕ) →
+body_is : (bodies : Sent → List ℕ) (log : List LogEntry) (pair : Pair) (body : List ℕ) →
     CameSoFar bodies log → (is : IsSent (history_of log) pair) →
     length (bodies is.send) ≡ is.send.len → pulled_from 0 log ≡ [] →
     body ≡ bytes_of_message log pair.arrival.env.from pair.arrival.n →
@@ -206,7 +206,7 @@ some_at (b ∷ sent) zero below = (b, refl)
 some_at (b ∷ sent) (suc k) below = some_at sent k (omega (arith, below))
 
 -- what came so far of what was sent at a desk
-stands_so_far : (sent : List Body) (v : RankView) (st : Stands sent v) → IsFresh v → IsAlone v →
+stands_so_far : (sent : List Body) (v : RankView) (st : DeskInvariant sent v) → IsFresh v → IsAlone v →
     AreRight v.sizes.ranks [] (history_of st.past.log) → CameSoFar (bodies_by sent) st.past.log
 stands_so_far sent v st fresh alone right =
     let bodies = bodies_by sent in
@@ -230,7 +230,7 @@ unfolding AtEach
 right_each ranks h right = right
 
 got_shown : (sent : List Body) (v : RankView) (r : Req) (k : Kind) (from tag : ℕ) (body : List ℕ)
-    (st : Stands sent v) → IsFresh v → IsAlone v → AreRight v.sizes.ranks [] v.events →
+    (st : DeskInvariant sent v) → IsFresh v → IsAlone v → AreRight v.sizes.ranks [] v.events →
     kind_of v.requests r ≡ Some k → IsResult v (answer.Got from tag body) k →
     ShowsLogged st.past.log v.events k (answer.Got from tag body) →
     IsSomeAnd (pair_with v r)
@@ -262,7 +262,7 @@ got_shown sent v r k from tag body st fresh alone right at is shows =
     (whole ∙ ap (λ (k : ℕ). option_map_or bytes_of (slice_get sent k) []) was.number
     ∙ ap (λ (o : Option Body). option_map_or bytes_of o []) b.1))
 
-pub shows_body : (sent : List Body) (v v' : RankView) (r : Req) (a : Answer) (st : Stands sent v) → IsFresh v →
+pub shows_body : (sent : List Body) (v v' : RankView) (r : Req) (a : Answer) (st : DeskInvariant sent v) → IsFresh v →
     IsAlone v → AreRight v.sizes.ranks [] v.events → Finishes r a v v' →
     ((k : Kind) → kind_of v.requests r ≡ Some k → ShowsLogged st.past.log v.events k a) →
     ShowsBody sent v (Finish r) (Ended a)

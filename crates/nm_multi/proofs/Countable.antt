@@ -22,7 +22,7 @@ use Rattle.nm_multi.specs.declared.calls.Reply.{Reply}
 use Rattle.nm_multi.specs.declared.calls.Reply.TheVariants as reply
 use Rattle.nm_multi.specs.declared.turns.Progress.{Progress}
 use Rattle.nm_multi.specs.Acts.{Acts, Leads, ShowsBody, bodies_of, body_sent}
-use Rattle.nm_multi.specs.Programs.{Follows, IsWhole, entries_of, finish_or_pump, next_call, no_progress}
+use Rattle.nm_multi.specs.Programs.{FollowsProgram, IsWhole, entries_of, finish_or_pump, next_call, no_progress}
 use Rattle.nm_multi.specs.Programs.{progress_after}
 use Rattle.nm_multi.specs.Text.{bytes_got, shown}
 use Rattle.nm_multi.proofs.Going.{more_sent}
@@ -59,7 +59,7 @@ next_short t p =
     chosen_short t n p.received p.sent (p.made % 5 == 0) (p.made % 5 == 1) (p.made % 5 == 2)
     (p.made % 5 == 3) (omega (arith, long))
 
-follow_short : (t : ℕ) (p : Progress) (es : List Entry) → Follows t p es →
+follow_short : (t : ℕ) (p : Progress) (es : List Entry) → FollowsProgram t p es →
     AllByRecursion (λ e. SendsShort e.call) es
 follow_short t p [] follows = tt
 follow_short t p (e ∷ es) follows = (

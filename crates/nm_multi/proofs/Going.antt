@@ -21,7 +21,7 @@ use Rattle.nm_multi.specs.declared.calls.Reply.TheVariants as reply
 use Rattle.nm_multi.specs.Acts.{Acts, AreReplayed, Cancels, GoesOn, IsReplay, Leads, MovesAll, MovesSome}
 use Rattle.nm_multi.specs.Acts.{ShowsBody, StartsReceive, StartsSend, bodies_of, body_sent}
 use Rattle.nm_multi.specs.Moves.{IsAlone, MovesFirst, MovesMany}
-use Rattle.nm_multi.specs.Standing.{Stands}
+use Rattle.nm_multi.specs.Standing.{DeskInvariant}
 use Rattle.nm_multi.proofs.Alone.{moved_one}
 use Rattle.nm_types.specs.Bodies.{bytes_of}
 use Rattle.std.specs.Prelude.{IfOk, OnErr, Ok, Err, Result}
@@ -233,13 +233,13 @@ more_sent log e = filter_map-append (λ (e : Entry). body_sent e.call e.reply) l
 
 pub replayed : (v v' : RankView) (log log' : List Entry) (e : Entry) → AreReplayed v log →
     Acts e.call e.reply v v' → ShowsBody (bodies_of log) v e.call e.reply →
-    Stands (bodies_of log ++ cons_option (body_sent e.call e.reply) []) v' → log' ≡ log ++ e ∷ [] →
+    DeskInvariant (bodies_of log ++ cons_option (body_sent e.call e.reply) []) v' → log' ≡ log ++ e ∷ [] →
     AreReplayed v' log'
 replayed v v' log log' e are acts shows stands is =
     let stays = stays_alone e.call e.reply v v' acts are.alone in
     record {
       alone = stays.0;
-      stands = subst (λ (bs : List Body). Stands bs v')
+      stands = subst (λ (bs : List Body). DeskInvariant bs v')
           (sym (more_sent log e) ∙ ap (λ (es : List Entry). bodies_of es) (sym is)) stands;
       replay = subst (λ (s : Sizes). IsReplay s log' v') (sym stays.1)
           (subst (λ (es : List Entry). IsReplay v.sizes es v') (sym is) (record {

@@ -22,7 +22,7 @@ use Rattle.nm_history.specs.Rules.{AreRight}
 use Rattle.nm_history.proofs.Growing.{stamped-follow, stamped-same}
 use Rattle.nm_history.proofs.Right.{right-numbers}
 use Rattle.nm_history.proofs.Sent.{sends_numbered}
-use Rattle.nm_channels.specs.Moments.{Moment, clock_of, history_of, taken_from, taken_of}
+use Rattle.nm_channels.specs.Moments.{LogEntry, clock_of, history_of, taken_from, taken_of}
 use Rattle.nm_channels.specs.Moments.Cause.{Took}
 use Rattle.nm_channels.specs.Sound.{AreSound, MayHappen}
 use Rattle.nm_channels.proofs.Delivering.{history-append, sender_right, stream_arrives}
@@ -34,7 +34,7 @@ use Rattle.nm_channels.proofs.SoFar.{same_bytes, continuing_packets, continuing_
 use Rattle.nm_history.proofs.AppendLemmas.{arrivals-append}
 
 -- the moment of a rank that takes this packet next
-abbrev next : ℕ → List Moment → Packet → Moment
+abbrev next : ℕ → List LogEntry → Packet → LogEntry
 next eager log p =
     let known : Known = known_by (taken_from p.from log) in
     let t : Taken = record { packet = p; continued = continues eager known (history_of log) p } in
@@ -44,11 +44,11 @@ next eager log p =
     }
 
 -- the moments of one that takes these next
-abbrev future : ℕ → List Moment → List Packet → List Moment
+abbrev future : ℕ → List LogEntry → List Packet → List LogEntry
 future eager log [] = []
 future eager log (p ∷ ps) = next eager log p ∷ future eager (log ++ next eager log p ∷ []) ps
 
-next_may : (eager : ℕ) (bodies : Sent → List ℕ) (log : List Moment) (p : Packet) →
+next_may : (eager : ℕ) (bodies : Sent → List ℕ) (log : List LogEntry) (p : Packet) →
     MayHappen eager bodies [] log (next eager log p)
 next_may eager bodies log p =
     record {
@@ -56,18 +56,18 @@ next_may eager bodies log p =
       stamped = stamped-follow (max (clock_of log) p.stamp) _;
     }
 
-future_sound : (eager : ℕ) (bodies : Sent → List ℕ) (log : List Moment) (ps : List Packet) →
+future_sound : (eager : ℕ) (bodies : Sent → List ℕ) (log : List LogEntry) (ps : List Packet) →
     AreSound eager bodies [] log → AreSound eager bodies [] (log ++ future eager log ps)
 future_sound eager bodies log [] sound =
-    subst (λ (l : List Moment). AreSound eager bodies [] l) (sym (append-nil log)) sound
+    subst (λ (l : List LogEntry). AreSound eager bodies [] l) (sym (append-nil log)) sound
 future_sound eager bodies log (p ∷ ps) sound =
-    let m : Moment = next eager log p in
-    subst (λ (l : List Moment). AreSound eager bodies [] l)
+    let m : LogEntry = next eager log p in
+    subst (λ (l : List LogEntry). AreSound eager bodies [] l)
     (append_assoc log (m ∷ []) (future eager (log ++ m ∷ []) ps))
     (future_sound eager bodies (log ++ m ∷ []) ps
     (sound-push eager bodies [] log m sound (next_may eager bodies log p)))
 
-future_taken : (eager : ℕ) (log : List Moment) (ps : List Packet) → AllByRecursion (λ p. p.from ≡ 0) ps →
+future_taken : (eager : ℕ) (log : List LogEntry) (ps : List Packet) → AllByRecursion (λ p. p.from ≡ 0) ps →
     map (λ t. t.packet) (taken_from 0 (future eager log ps)) ≡ ps
 future_taken eager log [] own = refl
 future_taken eager log (p ∷ ps) own =
@@ -100,23 +100,23 @@ order_front (s ∷ ss) (a ∷ as') more is = (is.0, is.1, order_front ss as' mor
 
 -- The messages that came are the first of those that were sent, and the bytes of an eager one that came
 -- are the first of its body.
-pub record CameSoFar (bodies : Sent → List ℕ) (log : List Moment) : Type 0 where
+pub record CameSoFar (bodies : Sent → List ℕ) (log : List LogEntry) : Type 0 where
   pub in_order : ArriveInOrder 0 (sends (history_of log) 0) (arrivals (history_of log) 0)
   pub bytes :
       (n : ℕ) (s : Sent) → slice_get (sends (history_of log) 0) n ≡ Some s → is_ask s.how ≡ false →
       (rest : List ℕ) × (eager_bytes n nothing_known (taken_from 0 log) ++ rest ≡ bodies s)
 
 -- what came, and then what is to come
-whole_taken : (eager : ℕ) (log : List Moment) (more : List Packet) → AllByRecursion (λ p. p.from ≡ 0) more →
+whole_taken : (eager : ℕ) (log : List LogEntry) (more : List Packet) → AllByRecursion (λ p. p.from ≡ 0) more →
     map (λ t. t.packet) (taken_from 0 (log ++ future eager log more))
     ≡ map (λ t. t.packet) (taken_from 0 log) ++ more
 whole_taken eager log more own =
     ap (λ (ts : List Taken). map (λ t. t.packet) ts)
-    (filter_map-append (λ (m : Moment). taken_of 0 m.cause) log (future eager log more))
+    (filter_map-append (λ (m : LogEntry). taken_of 0 m.cause) log (future eager log more))
     ∙ map-append (λ (t : Taken). t.packet) (taken_from 0 log) (taken_from 0 (future eager log more))
     ∙ ap (λ (ps : List Packet). map (λ t. t.packet) (taken_from 0 log) ++ ps) (future_taken eager log more own)
 
-pub came_so_far : (eager ranks : ℕ) (bodies : Sent → List ℕ) (log : List Moment) (more : List Packet) →
+pub came_so_far : (eager ranks : ℕ) (bodies : Sent → List ℕ) (log : List LogEntry) (more : List Packet) →
     AreSound eager bodies [] log → AreRight ranks [] (history_of log) →
     AreCalled 0 0 (outgoing bodies (history_of log) 0) (map (λ t. t.packet) (taken_from 0 log) ++ more) →
     AllByRecursion (λ p. p.stamp < WORN_STAMP) (map (λ t. t.packet) (taken_from 0 log) ++ more) →
@@ -143,7 +143,7 @@ came_so_far eager ranks bodies log more sound right called early =
         eager_bytes n (known_by (taken_from 0 log)) (taken_from 0 (future eager log more)),
         sym (eager_bytes-append n nothing_known (taken_from 0 log) (taken_from 0 (future eager log more)))
             ∙ ap (λ (ts : List Taken). eager_bytes n nothing_known ts)
-            (sym (filter_map-append (λ (m : Moment). taken_of 0 m.cause) log (future eager log more)))
+            (sym (filter_map-append (λ (m : LogEntry). taken_of 0 m.cause) log (future eager log more)))
             ∙ same_bytes n nothing_known nothing_known full refl goes.0
             ∙ eager_all eager 0 n 0 bodies h (map continuing full) each
             (subst (λ (ps : List Packet). AreCalled 0 0 (outgoing bodies h 0) ps) (sym (continuing_packets full))

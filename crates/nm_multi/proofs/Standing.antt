@@ -26,40 +26,40 @@ use Rattle.nm_rank.specs.Calls.{made_of}
 use Rattle.nm_rank.specs.Calls.{taken_of as taken_here}
 use Rattle.nm_rank.specs.Ranks.{IsFresh, RankView, known_from}
 use Rattle.nm_rank.specs.Requests.{cancel_events}
-use Rattle.nm_channels.specs.Moments.{Moment, pulled_from, pulled_of, taken_from, taken_of}
+use Rattle.nm_channels.specs.Moments.{LogEntry, pulled_from, pulled_of, taken_from, taken_of}
 use Rattle.nm_channels.proofs.BytesCame.{pulled_around, taken_around}
 use Rattle.nm_global.specs.Logged.{IsLogged}
 use Rattle.nm_global.specs.Moments.{acted, took}
-use Rattle.nm_global.specs.Emitted.{IsLeft, Left, with_packet}
-use Rattle.nm_multi.specs.Standing.{AreBodies, Stands}
+use Rattle.nm_global.specs.Emitted.{IsEmitted, Emitted, with_packet}
+use Rattle.nm_multi.specs.Standing.{AreBodies, DeskInvariant}
 use Rattle.nm_types.proofs.NumberLemmas.{eq_true}
 use Rattle.nm_types.proofs.ListLemmas.{all_append}
 use Rattle.nm_history.proofs.AppendLemmas.{sends-append}
 
 -- a moment of the rank's own takes no packet and no piece
-pub taken_still : (log : List Moment) (v : RankView) (ws : List Happened) →
+pub taken_still : (log : List LogEntry) (v : RankView) (ws : List Happened) →
     taken_from 0 (log ++ acted v ws ∷ []) ≡ taken_from 0 log
 taken_still log v ws = taken_around 0 log (acted v ws) [] refl ∙ append-nil (taken_from 0 log)
 
-pub pulled_still : (log : List Moment) (v : RankView) (ws : List Happened) →
+pub pulled_still : (log : List LogEntry) (v : RankView) (ws : List Happened) →
     pulled_from 0 (log ++ acted v ws ∷ []) ≡ pulled_from 0 log
 pulled_still log v ws = pulled_around 0 log (acted v ws) [] refl ∙ append-nil (pulled_from 0 log)
 
 -- a packet of its own that the rank takes
-pub taken_more : (log : List Moment) (v : RankView) (p : Packet) → p.from ≡ 0 →
+pub taken_more : (log : List LogEntry) (v : RankView) (p : Packet) → p.from ≡ 0 →
     map (λ t. t.packet) (taken_from 0 (log ++ took v p ∷ []))
     ≡ map (λ t. t.packet) (taken_from 0 log) ++ p ∷ []
 taken_more log v p own =
     ap (λ (ts : List Taken). map (λ t. t.packet) ts)
-    (filter_map-append (λ (m : Moment). taken_of 0 m.cause) log (took v p ∷ [])
+    (filter_map-append (λ (m : LogEntry). taken_of 0 m.cause) log (took v p ∷ [])
     ∙ ap (λ (b : Bool). taken_from 0 log ++ cons_option (cond b (Some (taken_here v p)) None) [])
     (eq_true p.from 0 own))
     ∙ map-append (λ (t : Taken). t.packet) (taken_from 0 log) (taken_here v p ∷ [])
 
-pub pulled_more : (log : List Moment) (v : RankView) (p : Packet) →
+pub pulled_more : (log : List LogEntry) (v : RankView) (p : Packet) →
     pulled_from 0 (log ++ took v p ∷ []) ≡ pulled_from 0 log
 pulled_more log v p =
-    filter_map-append (λ (m : Moment). pulled_of 0 m.cause) log (took v p ∷ [])
+    filter_map-append (λ (m : LogEntry). pulled_of 0 m.cause) log (took v p ∷ [])
     ∙ append-nil (pulled_from 0 log)
 
 -- what happens is no send
@@ -122,12 +122,12 @@ made_none v p = by (taken_here v p).continued where
   by false = tt
 
 -- a rank stands where one moment of its own is added, by which nothing leaves
-pub acted_on : (sent sent' : List Body) (v v' : RankView) (st : Stands sent v) (ws : List Happened) →
+pub acted_on : (sent sent' : List Body) (v v' : RankView) (st : DeskInvariant sent v) (ws : List Happened) →
     IsFresh v → length (sends v'.events 0) ≡ length sent' →
     ((bodies : Sent → List ℕ) → AreBodies bodies sent' →
     IsLogged st.past.eager bodies [] v' (st.past.log ++ acted v ws ∷ []) st.past.given) →
-    ((bodies : Sent → List ℕ) → AreBodies bodies sent' → IsLeft bodies v' 0 st.past.left) →
-    Stands sent' v'
+    ((bodies : Sent → List ℕ) → AreBodies bodies sent' → IsEmitted bodies v' 0 st.past.left) →
+    DeskInvariant sent' v'
 acted_on sent sent' v v' st ws fresh many logged left =
     record {
       past = record {
@@ -145,7 +145,7 @@ acted_on sent sent' v v' st ws fresh many logged left =
     }
 
 -- what left for the rank itself, after one packet more
-pub left_more : (to : ℕ) (p : Packet) (left : Left) → to ≡ 0 →
+pub left_more : (to : ℕ) (p : Packet) (left : Emitted) → to ≡ 0 →
     (with_packet 0 (to, p) left).packets ≡ left.packets ++ p ∷ []
 left_more to p left own =
     ap (λ (b : Bool). (cond b (record left { packets = left.packets ++ p ∷ [] }) left).packets)

@@ -18,7 +18,7 @@ use Rattle.nm_multi.specs.declared.turns.Progress.{Progress}
 use Rattle.nm_multi.specs.Acts.{DeskView, Makes}
 use Rattle.nm_multi.specs.Calls.{IsInRange}
 use Rattle.nm_request.specs.declared.Req.{Req}
-use Rattle.nm_multi.specs.Programs.{ArePrograms, AreTurns, Follows, HasMadeAll, SameTurns, TurnsView, call_of}
+use Rattle.nm_multi.specs.Programs.{ArePrograms, AreTurns, FollowsProgram, HasMadeAll, SameTurns, TurnsView, call_of}
 use Rattle.nm_multi.specs.Programs.{entries_of, next_call}
 use Rattle.nm_multi.specs.Programs.{finish_or_pump, no_progress, progress_after, progress_from, progress_of}
 use Rattle.nm_multi.proofs.Going.{same_sizes}
@@ -26,8 +26,8 @@ use Rattle.nm_types.proofs.ListLemmas.{all_append}
 use Rattle.nm_types.proofs.NumberLemmas.{same_number, differ}
 
 -- one call more follows the others
-follows_on : (t : ℕ) (p : Progress) (es : List Entry) (e : Entry) → Follows t p es →
-    e.call ≡ next_call t (progress_from p es) → Follows t p (es ++ e ∷ [])
+follows_on : (t : ℕ) (p : Progress) (es : List Entry) (e : Entry) → FollowsProgram t p es →
+    e.call ≡ next_call t (progress_from p es) → FollowsProgram t p (es ++ e ∷ [])
 follows_on t p [] e f is = (is, tt)
 follows_on t p (x ∷ es) e f is = (f.0, follows_on t (progress_after p x.reply) es e f.1 is)
 
@@ -84,7 +84,7 @@ programs_on v t e are is =
     record {
       whose = all_append (λ e. e.who < v.threads) v.desk.log (e ∷ []) are.whose
           (subst (λ (k : ℕ). k < v.threads) (sym is.who) is.within, tt);
-      follow = λ s within. by_thread v t e (λ s es. s < v.threads → Follows s no_progress es) is
+      follow = λ s within. by_thread v t e (λ s es. s < v.threads → FollowsProgram s no_progress es) is
           (λ within. follows_on t no_progress (entries_of t v.desk.log) e (are.follow t within) is.call) s
           (λ _. are.follow s) within;
       few = λ s within. by_thread v t e (λ s es. s < v.threads → length es ≤ 5 * v.rounds) is
@@ -256,7 +256,7 @@ none_made shape v items sizes empty all =
       sizes = sizes;
       programs = record {
         whose = subst (λ (log : List Entry). AllByRecursion (λ e. e.who < v.threads) log) (sym empty) tt;
-        follow = λ t within. subst (λ (log : List Entry). Follows t no_progress (entries_of t log)) (sym empty) tt;
+        follow = λ t within. subst (λ (log : List Entry). FollowsProgram t no_progress (entries_of t log)) (sym empty) tt;
         few = λ t within. subst (λ (log : List Entry). length (entries_of t log) ≤ 5 * v.rounds) (sym empty)
             (omega arith);
       };

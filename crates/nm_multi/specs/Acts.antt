@@ -32,7 +32,7 @@ use Rattle.nm_multi.specs.declared.calls.Entry.{Entry}
 use Rattle.nm_multi.specs.declared.calls.Reply.{Reply}
 use Rattle.nm_multi.specs.declared.calls.Reply.TheVariants as reply
 use Rattle.nm_multi.specs.Moves.{IsAlone, MovesMany}
-use Rattle.nm_multi.specs.Standing.{Stands}
+use Rattle.nm_multi.specs.Standing.{DeskInvariant}
 
 -- the send to itself that a rank starts with this tag and this body
 abbrev pub sent_by : RankView → ℕ → Body → Sent
@@ -166,5 +166,5 @@ pub record IsReplay (shape : Sizes) (log : List Entry) (v : RankView) : Type 0 w
 -- the rank is the only one, and the one to which the log leads, with the sends of the log
 pub record AreReplayed (v : RankView) (log : List Entry) : Type 0 where
   pub alone : IsAlone v
-  pub stands : Stands (bodies_of log) v
+  pub stands : DeskInvariant (bodies_of log) v
   pub replay : IsReplay v.sizes log v

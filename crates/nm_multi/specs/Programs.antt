@@ -53,9 +53,9 @@ progress_from p [] = p
 progress_from p (e ∷ es) = progress_from (progress_after p e.reply) es
 
 -- each of these calls of a thread is the next one of its program
-abbrev pub Follows : ℕ → Progress → List Entry → Type 0
-Follows t p [] = Unit {0}
-Follows t p (e ∷ es) = (e.call ≡ next_call t p) × Follows t (progress_after p e.reply) es
+abbrev pub FollowsProgram : ℕ → Progress → List Entry → Type 0
+FollowsProgram t p [] = Unit {0}
+FollowsProgram t p (e ∷ es) = (e.call ≡ next_call t p) × FollowsProgram t (progress_after p e.reply) es
 
 -- the calls of a thread in a log
 abbrev pub entries_of : ℕ → List Entry → List Entry
@@ -69,7 +69,7 @@ progress_of t log = progress_from no_progress (entries_of t log)
 -- of so many rounds.
 pub record ArePrograms (threads rounds : ℕ) (log : List Entry) : Type 0 where
   pub whose : AllByRecursion (λ e. e.who < threads) log
-  pub follow : (t : ℕ) → t < threads → Follows t no_progress (entries_of t log)
+  pub follow : (t : ℕ) → t < threads → FollowsProgram t no_progress (entries_of t log)
   pub few : (t : ℕ) → t < threads → length (entries_of t log) ≤ 5 * rounds
 
 -- the desk, and the numbers of threads and rounds

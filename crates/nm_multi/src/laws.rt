@@ -21,7 +21,7 @@ ghost use Rattle.nm_multi.specs.Acts.{Acts, Cancels, ShowsBody, StartsReceive};
 ghost use Rattle.nm_multi.specs.Acts.{StartsSend, body_sent};
 ghost use Rattle.nm_multi.specs.Calls.{IsInRange};
 ghost use Rattle.nm_multi.specs.Moves.{IsAlone, MovesFirst};
-ghost use Rattle.nm_multi.specs.Standing.{Stands};
+ghost use Rattle.nm_multi.specs.Standing.{DeskInvariant};
 
 use nm_global::log::laws::calls::{
     a_packet_leaves, a_receive_starts, a_request_is_cancelled, a_send_starts,
@@ -35,7 +35,7 @@ use nm_global::outgoing::laws::takes::{answers_keep_left, taken_packets_keep_lef
 
 /// At a new rank nothing was sent (`Rank::new`).
 pub(crate) fn a_desk_begins()
-    ensures { (shape : Sizes) (v : RankView) → shape.ranks ≡ 1 → IsNew shape 0 v → Stands [] v }
+    ensures { (shape : Sizes) (v : RankView) → shape.ranks ≡ 1 → IsNew shape 0 v → DeskInvariant [] v }
 {
     a_log_begins();
     nothing_left();
@@ -45,7 +45,7 @@ pub(crate) fn a_desk_begins()
 pub(crate) fn a_send_goes_on()
     ensures { (sent : List Body) (v v' : RankView) (tag : ℕ) (body : Body) (r : Req) →
         IsInRange (Isend tag body) → AreRight v.sizes.ranks [] v.events → IsFresh v →
-        StartsSend tag body r v v' → Stands sent v → Stands (sent ++ body ∷ []) v' }
+        StartsSend tag body r v v' → DeskInvariant sent v → DeskInvariant (sent ++ body ∷ []) v' }
 {
     a_send_starts();
     sends_keep_left();
@@ -54,7 +54,7 @@ pub(crate) fn a_send_goes_on()
 /// None by a receive (`Rank::irecv`).
 pub(crate) fn a_receive_goes_on()
     ensures { (sent : List Body) (v v' : RankView) (tag cap : ℕ) (r : Req) → IsFresh v →
-        StartsReceive tag cap r v v' → Stands sent v → Stands sent v' }
+        StartsReceive tag cap r v v' → DeskInvariant sent v → DeskInvariant sent v' }
 {
     a_receive_starts();
     receives_keep_left();
@@ -63,8 +63,8 @@ pub(crate) fn a_receive_goes_on()
 /// None by a packet that the rank takes of itself, which then leaves (`Rank::take_packet`,
 /// `Rank::pop_front`).
 pub(crate) fn a_packet_goes_on()
-    ensures { (sent : List Body) (v v' : RankView) → IsAlone v → MovesFirst v v' → Stands sent v →
-        Stands sent v' }
+    ensures { (sent : List Body) (v v' : RankView) → IsAlone v → MovesFirst v v' → DeskInvariant sent v →
+        DeskInvariant sent v' }
 {
     a_packet_is_taken();
     taken_packets_keep_left();
@@ -76,9 +76,9 @@ pub(crate) fn a_packet_goes_on()
 /// of its send. The history before it is right.
 pub(crate) fn a_result_goes_on()
     ensures kept { (sent : List Body) (v v' : RankView) (r : Req) (answer : Answer) → IsFresh v →
-        Finishes r answer v v' → Stands sent v → Stands sent v' }
+        Finishes r answer v v' → DeskInvariant sent v → DeskInvariant sent v' }
     ensures shows { (sent : List Body) (v v' : RankView) (r : Req) (answer : Answer) → IsFresh v →
-        IsAlone v → AreRight v.sizes.ranks [] v.events → Finishes r answer v v' → Stands sent v →
+        IsAlone v → AreRight v.sizes.ranks [] v.events → Finishes r answer v v' → DeskInvariant sent v →
         ShowsBody sent v (Finish r) (Ended answer) }
 {
     a_result_is_given();
@@ -88,7 +88,7 @@ pub(crate) fn a_result_goes_on()
 /// None by a cancel (`Rank::cancel`).
 pub(crate) fn a_cancel_goes_on()
     ensures { (sent : List Body) (v v' : RankView) (r : Req) (answer : Cancelled) → IsFresh v →
-        Cancels r answer v v' → Stands sent v → Stands sent v' }
+        Cancels r answer v v' → DeskInvariant sent v → DeskInvariant sent v' }
 {
     a_request_is_cancelled();
     cancels_keep_left();
@@ -97,10 +97,10 @@ pub(crate) fn a_cancel_goes_on()
 /// So it is with each call, with the reply that it has.
 pub(crate) fn calls_go_on()
     ensures kept { (sent : List Body) (v v' : RankView) (c : Call) (r : Reply) → IsInRange c →
-        AreRight v.sizes.ranks [] v.events → IsAlone v → Acts c r v v' → Stands sent v →
-        Stands (sent ++ cons_option (body_sent c r) []) v' }
+        AreRight v.sizes.ranks [] v.events → IsAlone v → Acts c r v v' → DeskInvariant sent v →
+        DeskInvariant (sent ++ cons_option (body_sent c r) []) v' }
     ensures shows { (sent : List Body) (v v' : RankView) (c : Call) (r : Reply) →
-        AreRight v.sizes.ranks [] v.events → IsAlone v → Acts c r v v' → Stands sent v →
+        AreRight v.sizes.ranks [] v.events → IsAlone v → Acts c r v v' → DeskInvariant sent v →
         ShowsBody sent v c r }
 {
     a_send_goes_on();

@@ -20,7 +20,7 @@ use Rattle.nm_history.specs.RankRun.{IsRankRun, StartAt, is_start, ran_lines, ra
 use Rattle.nm_history.specs.RankRun.{start_of, starts_since, without_number}
 use Rattle.nm_history.proofs.RankRunLemmas.{since-push}
 use Rattle.nm_types.proofs.ListLemmas.{get_before, get_behind, get_from_map}
-use Rattle.nm_outcomes.specs.Due.{AreAtLines, IsAnswerOf, IsNext, IsStartOf}
+use Rattle.nm_outcomes.specs.Due.{AreAtLines, IsAnswerOf, IsNextCommand, IsStartOf}
 
 -- one more answer, and the command that it is of
 pub next_answer : (commands : List Numbered) (at : ℕ) (before after : List Event) (stamp line : ℕ) (answer : Answer) →
@@ -131,7 +131,7 @@ ran-push h stamp what none =
 module _ (shape : Sizes) (commands : List Numbered) (at : ℕ) (stand : AreAtLines commands) (before : List Event)
     (w : Happened) (posting : is_posting (without_number w) ≡ true) where
   abbrev Start : Type 0
-  Start = (c : Numbered) × IsNext commands before c
+  Start = (c : Numbered) × IsNextCommand commands before c
       × (without_number w ∷ [] ≡ start_of shape.eager commands before c.line c.command)
 
   at_answer : (h rest : List Event) (stamp line : ℕ) (answer : Answer) (pre mid : List Happened) →

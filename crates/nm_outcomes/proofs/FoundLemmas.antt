@@ -23,7 +23,7 @@ use Rattle.nm_types.proofs.TruthLemmas.{and_left, and_right, second_of_five}
 use Rattle.nm_outcomes.specs.Logs.{Step}
 use Rattle.nm_outcomes.specs.Outcomes.{RunsAreFound, told_at}
 use Rattle.nm_outcomes.specs.Paths.{AreCommands, IsAddressed, first_place, moved_by}
-use Rattle.nm_outcomes.specs.Places.{Place}
+use Rattle.nm_outcomes.specs.Places.{RankPoint}
 use Rattle.nm_outcomes.proofs.Early.{is_below}
 use Rattle.nm_history.specs.declared.events.Event.{Event}
 use Rattle.nm_outcomes.specs.Logs.{IsLogOf, events_of}
@@ -114,7 +114,7 @@ end_of a = record { at = a.at; waits = a.waits; events = a.history.events }
 
 module _ (shape : Sizes) (lines : List Line) (run : RunRecord) (commands : AreCommands shape.ranks lines)
     (is : IsRunIn shape lines run) (log : List Step) (log_of : IsLogOf shape lines (ends_of run.ranks) log)
-    (w : ℕ → Place) (ends : (i : ℕ) → IsPlaceOf i (commands_of i lines) (events_of (ends_of run.ranks) i) (w i))
+    (w : ℕ → RankPoint) (ends : (i : ℕ) → IsPlaceOf i (commands_of i lines) (events_of (ends_of run.ranks) i) (w i))
   where
     rank_told : (k : ℕ) (a : RankAccount) → slice_get run.ranks k ≡ Some a → told_of_rank a ≡ told_at lines w k
     rank_told k a here =
@@ -142,7 +142,7 @@ runs_are_found stand shape lines run script is =
     let commands = script_commands shape.ranks lines stand script in
     let log = runs_have_logs shape lines (ends_of run.ranks) (packets_of run.pairs) is.lawful in
     let loud = loud_path shape lines (ends_of run.ranks) (packets_of run.pairs) commands is.lawful log.0 log.1 in
-    let w : ℕ → Place = moved_by lines (λ i. first_place) loud.0 in
+    let w : ℕ → RankPoint = moved_by lines (λ i. first_place) loud.0 in
     let ends : (i : ℕ) → IsPlaceOf i (commands_of i lines) (events_of (ends_of run.ranks) i) (w i) =
     λ i. subst (λ (h : List Event). IsPlaceOf i (commands_of i lines) h (w i)) (log.1.histories i) (loud.1.2 i) in (
       loud.0,

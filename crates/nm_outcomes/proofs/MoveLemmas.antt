@@ -47,7 +47,7 @@ use Rattle.nm_outcomes.specs.Logs.{IsLog, MayCome, Step, history_in}
 use Rattle.nm_outcomes.specs.Moves.{Answers, AreWithin, ArePlaces, MayAnswer, MayMove, Starts, StepsAreMoves}
 use Rattle.nm_outcomes.specs.Moves.{answer_in}
 use Rattle.nm_outcomes.specs.Moves.{cancel_in, claim_in, found_in, is_free_in, may_show, message_now, request_now}
-use Rattle.nm_outcomes.specs.Places.{IsPlaceOf, Place}
+use Rattle.nm_outcomes.specs.Places.{IsPlaceOf, RankPoint}
 use Rattle.nm_outcomes.specs.Results.{IsWithin, is_unasked, may_end_with}
 use Rattle.nm_outcomes.proofs.DueLemmas.{start_fresh}
 use Rattle.nm_outcomes.proofs.EndLemmas.{all_rising, happened_early, results_may_come}
@@ -61,7 +61,7 @@ looked_up {X} f g same o p is = ap (λ (o : Option ℕ). option_and_then f o) is
     by_place None = refl
     by_place (Some k) = same k
 
-module _ (me : ℕ) (commands : List Numbered) (h : List Event) (place : Place) (is : IsPlaceOf me commands h place)
+module _ (me : ℕ) (commands : List Numbered) (h : List Event) (place : RankPoint) (is : IsPlaceOf me commands h place)
   where
     pub request_is : (q : ℕ) → request_now place q ≡ live commands h q
     request_is q = looked_up place.requests (request_at h) is.requests (place.named q) (line_of_name commands h q)
@@ -165,7 +165,7 @@ module _ (me : ℕ) (commands : List Numbered) (h : List Event) (place : Place) 
     claim_is line c = refl
 
 -- what a request may end with, by the places
-module _ (lines : List Line) (log : List Step) (w : ℕ → Place) (are : ArePlaces lines log w) where
+module _ (lines : List Line) (log : List Step) (w : ℕ → RankPoint) (are : ArePlaces lines log w) where
   pub show_is : (i : ℕ) (request : Request) → may_show w i request ≡ may_end_with (history_in log) i request
   show_is i (Receiving number) =
       ap (λ (b : Bool). if b then Some answer.Cancelled else option_map shown ((w i).pairs number))
@@ -188,7 +188,7 @@ module _ (lines : List Line) (log : List Step) (w : ℕ → Place) (are : ArePla
           else if (b' || c') && (not d' || (e' && not f')) then Some answer.Sent else None)
       ends a a' b b' c c' d d' e e' f f' p q r s t u = rw (p, q, r, s, t, u) refl
 
-module _ (shape : Sizes) (lines : List Line) (log : List Step) (w : ℕ → Place) (i : ℕ) (e : Event)
+module _ (shape : Sizes) (lines : List Line) (log : List Step) (w : ℕ → RankPoint) (i : ℕ) (e : Event)
     (is : IsLog shape lines log) (are : ArePlaces lines log w) (stand : AreAtLines (commands_of i lines))
     (within : AreWithin shape.ranks (w i)) (next : MayCome shape lines (history_in log) i e)
   where

@@ -46,7 +46,7 @@ use Rattle.nm_outcomes.specs.Logs.{IsLogOf, IsLog, MayCome, MayComeAfter, Step, 
 use Rattle.nm_outcomes.specs.Moves.{ArePlaces, MayMove}
 use Rattle.nm_outcomes.specs.Paths.{AreCommands, AreMoves, IsAddressed, RunsArePaths, first_place, moved}
 use Rattle.nm_outcomes.specs.Paths.{moved_by}
-use Rattle.nm_outcomes.specs.Places.{IsPlaceOf, IsProper, Place, after, or_else}
+use Rattle.nm_outcomes.specs.Places.{IsPlaceOf, IsProper, RankPoint, after, or_else}
 use Rattle.nm_outcomes.proofs.Bodies.{came_known}
 use Rattle.nm_outcomes.proofs.CallLemmas.{events_are_due}
 use Rattle.nm_outcomes.proofs.Early.{above_is}
@@ -261,7 +261,7 @@ module _ (shape : Sizes) (lines : List Line) (commands : AreCommands shape.ranks
   AllDue log = (i : ℕ) → AtEach (λ b e. IsDue shape.eager (commands_of i lines) b e.what) (history_in log i)
 
   -- the places after a step
-  moved_are : (before : List Step) (s : Step) (w : ℕ → Place) → IsLog shape lines before → ArePlaces lines before w →
+  moved_are : (before : List Step) (s : Step) (w : ℕ → RankPoint) → IsLog shape lines before → ArePlaces lines before w →
       MayCome shape lines (history_in before) s.rank s.event → ArePlaces lines (before ++ s ∷ []) (moved lines w s)
   moved_are before s w is are next i = by_rank (s.rank == i) refl
     where
@@ -280,7 +280,7 @@ module _ (shape : Sizes) (lines : List Line) (commands : AreCommands shape.ranks
           subst (λ (h : List Event). IsPlaceOf i (commands_of i lines) h (w i))
           (sym (grown_other before s i other)) (are i)
 
-  walk : (before steps : List Step) (w : ℕ → Place) → IsLog shape lines before →
+  walk : (before steps : List Step) (w : ℕ → RankPoint) → IsLog shape lines before →
       MayComeAfter shape lines before steps →
       AllDue (before ++ steps) → ArePlaces lines before w →
       AreMoves shape lines w steps × ArePlaces lines (before ++ steps) (moved_by lines w steps)
@@ -313,7 +313,7 @@ module _ (shape : Sizes) (lines : List Line) (commands : AreCommands shape.ranks
       )
 
   -- the same, with the quiet events left out
-  quiet_are : (before : List Step) (s : Step) (w : ℕ → Place) → ArePlaces lines before w →
+  quiet_are : (before : List Step) (s : Step) (w : ℕ → RankPoint) → ArePlaces lines before w →
       is_quiet s.event.what ≡ true → ArePlaces lines (before ++ s ∷ []) w
   quiet_are before s w are quiet i = by_rank (s.rank == i) refl
     where
@@ -330,12 +330,12 @@ module _ (shape : Sizes) (lines : List Line) (commands : AreCommands shape.ranks
           subst (λ (h : List Event). IsPlaceOf i (commands_of i lines) h (w i))
           (sym (grown_other before s i other)) (are i)
 
-  abbrev pub IsLoud : List Step → (ℕ → Place) → List Step → Type 0
+  abbrev pub IsLoud : List Step → (ℕ → RankPoint) → List Step → Type 0
   IsLoud log w loud =
       AreMoves shape lines w loud × AllByRecursion (λ (s : Step). is_quiet s.event.what ≡ false) loud
       × ArePlaces lines log (moved_by lines w loud)
 
-  skip : (before steps : List Step) (w : ℕ → Place) → IsLog shape lines before →
+  skip : (before steps : List Step) (w : ℕ → RankPoint) → IsLog shape lines before →
       MayComeAfter shape lines before steps →
       AllDue (before ++ steps) → ArePlaces lines before w → (loud : List Step) × IsLoud (before ++ steps) w loud
   skip before [] w is each due are =
@@ -348,7 +348,7 @@ module _ (shape : Sizes) (lines : List Line) (commands : AreCommands shape.ranks
       (sym (append_assoc before (s ∷ []) steps)) (due i)) there)
     where
       by_kind : (b : Bool) → is_quiet s.event.what ≡ b → MayMove shape lines w s.rank s.event.what →
-          ((v : ℕ → Place) → ArePlaces lines (before ++ s ∷ []) v →
+          ((v : ℕ → RankPoint) → ArePlaces lines (before ++ s ∷ []) v →
           (loud : List Step) × IsLoud ((before ++ s ∷ []) ++ steps) v loud) →
           (loud : List Step) × IsLoud (before ++ s ∷ steps) w loud
       by_kind true quiet move later =

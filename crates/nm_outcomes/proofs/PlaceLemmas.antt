@@ -50,7 +50,7 @@ use Rattle.nm_types.proofs.TruthLemmas.{and_left, and_right}
 use Rattle.nm_report.specs.Told.{Told, told_by}
 use Rattle.nm_outcomes.specs.Results.{is_unasked}
 use Rattle.nm_outcomes.specs.Places.{is_quiet}
-use Rattle.nm_outcomes.specs.Places.{IsPlaceOf, IsProper, Place, PlacesFollow, after, message_for, messages_after}
+use Rattle.nm_outcomes.specs.Places.{IsPlaceOf, IsProper, RankPoint, PlacesFollow, after, message_for, messages_after}
 use Rattle.nm_outcomes.specs.Places.{or_else, pair_by, receive_for, receives_after}
 
 -- a search in two lists, and what comes first of two lists
@@ -187,7 +187,7 @@ test-push : (test : Happened → Bool) (h : List Event) (e : Event) (b : Bool) �
     (b || test e.what) ≡ happened test (h ++ e ∷ [])
 test-push test h e b is = ap (λ (c : Bool). c || test e.what) is ∙ sym (happened-push test h e)
 
-module _ (me : ℕ) (commands : List Numbered) (h : List Event) (place : Place) (is : IsPlaceOf me commands h place)
+module _ (me : ℕ) (commands : List Numbered) (h : List Event) (place : RankPoint) (is : IsPlaceOf me commands h place)
   where
     found_message : (p : post.Post) → message_for place p ≡ first_message h (matched_pairs h) p.from p.tag p.ctx
     found_message p =
@@ -390,7 +390,7 @@ plus_none : (n : ℕ) → n + 0 ≡ n
 plus_none n = omega arith
 
 -- an event that is no move leaves the place as it was
-module _ (me : ℕ) (commands : List Numbered) (h : List Event) (e : Event) (place : Place) where
+module _ (me : ℕ) (commands : List Numbered) (h : List Event) (e : Event) (place : RankPoint) where
   left_out : (to n : ℕ) → IsPlaceOf me commands (h ++ e ∷ []) (after me commands place (event.Out to n)) →
       IsPlaceOf me commands (h ++ e ∷ []) place
   left_out to n f = record {

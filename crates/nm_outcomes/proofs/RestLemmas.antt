@@ -31,7 +31,7 @@ use Rattle.nm_history.specs.Happens.{happened, is_arrival, is_cancel, is_out, is
 use Rattle.nm_history.specs.Happens.{is_withdraw}
 use Rattle.nm_history.specs.Matching.{first_message, is_free_message, is_of_receive}
 use Rattle.nm_history.specs.Matching.{matched_pairs}
-use Rattle.nm_history.specs.Quiescence.{AskedOver, EagerOver, Ended, IsAnswered, Packets, RecallsAnswered, Stands}
+use Rattle.nm_history.specs.Quiescence.{AskedOver, EagerOver, Ended, IsAnswered, Packets, RecallsAnswered, IsStopped}
 use Rattle.nm_history.specs.Quiescence.{EachPair, EachRank}
 use Rattle.nm_history.specs.RankRun.{EndAt, IsRankRun, NumberAt}
 use Rattle.nm_history.specs.Run.{IsRunOf}
@@ -48,7 +48,7 @@ use Rattle.nm_report.specs.Told.{told_by}
 use Rattle.nm_outcomes.specs.Logs.{IsLogOf, Step, events_of, history_in}
 use Rattle.nm_outcomes.specs.Moves.{ArePlaces, may_show, request_now}
 use Rattle.nm_outcomes.specs.Paths.{AreCommands, first_place, moved_by}
-use Rattle.nm_outcomes.specs.Places.{IsPlaceOf, Place}
+use Rattle.nm_outcomes.specs.Places.{IsPlaceOf, RankPoint}
 use Rattle.nm_outcomes.specs.Rests.{AreAtRest, IsHeldUp, RunsComeToRest}
 use Rattle.nm_outcomes.specs.Results.{is_past_recall, is_unasked, may_end_with, may_have_left}
 use Rattle.nm_outcomes.proofs.Bodies.{came_known, pair_came, sent_before}
@@ -268,7 +268,7 @@ each_two R ranks i j each low below =
 
 module _ (shape : Sizes) (lines : List Line) (ranks : List Ended) (packets : List Packets)
     (commands : AreCommands shape.ranks lines) (run : IsRunOf shape lines ranks packets) (log : List Step)
-    (log_of : IsLogOf shape lines ranks log) (w : ℕ → Place)
+    (log_of : IsLogOf shape lines ranks log) (w : ℕ → RankPoint)
     (ends : (i : ℕ) → IsPlaceOf i (commands_of i lines) (events_of ranks i) (w i))
   where
     abbrev hist : ℕ → List Event
@@ -364,8 +364,8 @@ module _ (shape : Sizes) (lines : List Line) (ranks : List Ended) (packets : Lis
     waits i low c next =
         held_up i c.command low (by_stand (slice_get (commands_of i lines) a.0.at) refl a.2)
       where
-        a : (rank : Ended) × (slice_get ranks i ≡ Some rank) × Stands (commands_of i lines) rank
-        a = each_one (λ i rank. Stands (commands_of i lines) rank) ranks i run.quiescent.waits (within i low)
+        a : (rank : Ended) × (slice_get ranks i ≡ Some rank) × IsStopped (commands_of i lines) rank
+        a = each_one (λ i rank. IsStopped (commands_of i lines) rank) ranks i run.quiescent.waits (within i low)
 
         at_is : (w i).done ≡ a.0.at
         at_is =
@@ -409,7 +409,7 @@ module _ (shape : Sizes) (lines : List Line) (ranks : List Ended) (packets : Lis
         rank.waits ≡ option_map (λ (c : Numbered). c.line) (slice_get (commands_of i lines) (w i).done)
     waits_is i rank here =
         by_stand (slice_get (commands_of i lines) rank.at)
-        (subst (λ (o : Option Ended). IfSome o (λ rank. Stands (commands_of i lines) rank)) here
+        (subst (λ (o : Option Ended). IfSome o (λ rank. IsStopped (commands_of i lines) rank)) here
         (run.quiescent.waits i))
         ∙ ap (λ (k : ℕ). option_map (λ (c : Numbered). c.line) (slice_get (commands_of i lines) k))
         (sym (done_is i rank here))

@@ -30,7 +30,7 @@ use Rattle.nm_types.proofs.NumberLemmas.{same_number}
 use Rattle.nm_types.proofs.TruthLemmas.{and_left, and_right}
 use Rattle.nm_report.specs.Told.{told_by}
 use Rattle.nm_outcomes.specs.Results.{is_unasked}
-use Rattle.nm_outcomes.specs.Places.{IsPlaceOf, IsProper, Place, after, envelopes_to}
+use Rattle.nm_outcomes.specs.Places.{IsPlaceOf, IsProper, RankPoint, after, envelopes_to}
 use Rattle.nm_outcomes.specs.Places.{or_else, pair_by}
 use Rattle.nm_outcomes.proofs.PlaceLemmas.{or_none, places_follow}
 use Rattle.nm_outcomes.specs.declared.spots.deeds.Deed.{Deed}
@@ -44,7 +44,7 @@ use Rattle.nm_outcomes.proofs.ListLemmas.{find-placed_new}
 use Rattle.std.specs.Prelude.{filter_map}
 
 -- the place of a history
-abbrev pub place_at : List Event → Place
+abbrev pub place_at : List Event → RankPoint
 place_at h = record {
   told = filter_map (λ (e : Event). told_by e.what) h;
   done = length (ran_lines h);

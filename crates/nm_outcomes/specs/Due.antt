@@ -22,20 +22,20 @@ AreAtLines commands =
     (k : ℕ) (c : Numbered) → slice_get commands k ≡ Some c → command_at commands c.line ≡ Some c.command
 
 -- the rank's next command
-abbrev pub IsNext : List Numbered → List Event → Numbered → Type 0
-IsNext commands before c = slice_get commands (length (ran_lines before)) ≡ Some c
+abbrev pub IsNextCommand : List Numbered → List Event → Numbered → Type 0
+IsNextCommand commands before c = slice_get commands (length (ran_lines before)) ≡ Some c
 
 -- a send or a receive is the start of the next command, and its first
 pub record IsStartOf (eager : ℕ) (commands : List Numbered) (before : List Event) (what : Happened) : Type 0 where
   pub command : Numbered
-  pub next : IsNext commands before command
+  pub next : IsNextCommand commands before command
   pub first : starts_since before ≡ []
   pub start : without_number what ∷ [] ≡ start_of eager commands before command.line command.command
 
 -- an answer is that of the next command
 pub record IsAnswerOf (commands : List Numbered) (before : List Event) (line : ℕ) : Type 0 where
   pub command : Numbered
-  pub next : IsNext commands before command
+  pub next : IsNextCommand commands before command
   pub line_is : command.line ≡ line
 
 -- the commands that cancel the request of a name, and that receive the message of a handle
@@ -48,7 +48,7 @@ receive_of name handle cap = command.Mrecv name handle cap
 -- a cancel or a recall is of the live request of the next command, which cancels
 pub record IsCancelOf (commands : List Numbered) (before : List Event) (request : Request) : Type 0 where
   pub command : Numbered
-  pub next : IsNext commands before command
+  pub next : IsNextCommand commands before command
   pub name : ℕ
   pub cancels : command.command ≡ cancel_of name
   pub live_is : live commands before name ≡ Some request
@@ -56,7 +56,7 @@ pub record IsCancelOf (commands : List Numbered) (before : List Event) (request 
 -- a receive of a claimed message is that of the next command, of the message of its handle
 pub record IsMatchOf (commands : List Numbered) (before : List Event) (from n cap line : ℕ) : Type 0 where
   pub command : Numbered
-  pub next : IsNext commands before command
+  pub next : IsNextCommand commands before command
   pub line_is : command.line ≡ line
   pub name : ℕ
   pub handle : ℕ

@@ -27,26 +27,26 @@ use Rattle.nm_history.specs.Sends.{sent_bytes}
 use Rattle.nm_history.specs.declared.plain.Pair.{Pair}
 use Rattle.nm_outcomes.specs.Due.{AreAtLines, IsDue, cancel_of, receive_of}
 use Rattle.nm_outcomes.specs.Logs.{IsLog, MayCome, Step, history_in}
-use Rattle.nm_outcomes.specs.Places.{IsPlaceOf, Place}
+use Rattle.nm_outcomes.specs.Places.{IsPlaceOf, RankPoint}
 use Rattle.nm_history.specs.declared.events.Event.{Event}
 
 -- the live request of a name, and the live message of a handle
-abbrev pub request_now : Place → ℕ → Option Request
+abbrev pub request_now : RankPoint → ℕ → Option Request
 request_now place q = option_and_then place.requests (place.named q)
 
-abbrev pub message_now : Place → ℕ → Option Message
+abbrev pub message_now : RankPoint → ℕ → Option Message
 message_now place m = option_and_then place.claims (place.handled m)
 
 -- the oldest free message that is selected
-abbrev pub found_in : Place → Peer → TagPick → ℕ → Option Arrival
+abbrev pub found_in : RankPoint → Peer → TagPick → ℕ → Option Arrival
 found_in place from tag ctx = find (λ a. matches from tag ctx a.env) place.messages
 
 -- a message is free
-abbrev pub is_free_in : Place → ℕ → ℕ → Bool
+abbrev pub is_free_in : RankPoint → ℕ → ℕ → Bool
 is_free_in place from n = not (place.taken from n) && not (place.claimed from n) && not (place.withdrawn from n)
 
 -- what a request of rank i may end with by now
-abbrev pub may_show : (ℕ → Place) → ℕ → Request → Option Answer
+abbrev pub may_show : (ℕ → RankPoint) → ℕ → Request → Option Answer
 may_show w i (Receiving number) =
     if (w i).off number then Some answer.Cancelled else option_map shown ((w i).pairs number)
 may_show w i (Sending j n) =
@@ -57,12 +57,12 @@ may_show w i (Sending j n) =
     else None
 
 -- the answer to a cancel
-abbrev pub cancel_in : Place → Request → Answer
+abbrev pub cancel_in : RankPoint → Request → Answer
 cancel_in place (Receiving number) = if is_some (place.pairs number) then answer.Late else answer.Done
 cancel_in place (Sending to n) = answer.Asked
 
 -- the answer of a command that is no wait and no test
-abbrev pub answer_in : Place → ℕ → Command → Option Answer
+abbrev pub answer_in : RankPoint → ℕ → Command → Option Answer
 answer_in place line (command.Send q to tag ctx body sync) =
     Some (if is_some (request_now place q) then answer.Busy else answer.Started)
 answer_in place line (command.Recv q from tag ctx cap) =
@@ -86,7 +86,7 @@ answer_in place line (command.Mrecv q m cap) =
     else answer.Null)
 
 -- the command of a line of rank i may have this answer
-abbrev pub MayAnswer : (ℕ → Place) → ℕ → ℕ → Command → Answer → Type 0
+abbrev pub MayAnswer : (ℕ → RankPoint) → ℕ → ℕ → Command → Answer → Type 0
 MayAnswer w i line (command.Wait q) a =
     MatchOption (request_now (w i) q) (a ≡ answer.Null) (λ request. may_show w i request ≡ Some a)
 MayAnswer w i line (command.Test q) a =
@@ -95,56 +95,56 @@ MayAnswer w i line (command.Test q) a =
 MayAnswer w i line c a = answer_in (w i) line c ≡ Some a
 
 -- a start is that of the next command, and its first
-pub record Starts (eager : ℕ) (commands : List Numbered) (place : Place) (what : Happened) : Type 0 where
+pub record Starts (eager : ℕ) (commands : List Numbered) (place : RankPoint) (what : Happened) : Type 0 where
   pub command : Numbered
   pub next : slice_get commands place.done ≡ Some command
   pub first : place.begun ≡ []
   pub start : without_number what ∷ [] ≡ start_of eager commands [] command.line command.command
 
 -- an answer is one that the next command may have
-pub record Answers (w : ℕ → Place) (i : ℕ) (commands : List Numbered) (line : ℕ) (a : Answer) : Type 0 where
+pub record Answers (w : ℕ → RankPoint) (i : ℕ) (commands : List Numbered) (line : ℕ) (a : Answer) : Type 0 where
   pub command : Numbered
   pub next : slice_get commands (w i).done ≡ Some command
   pub line_is : command.line ≡ line
   pub may : MayAnswer w i line command.command (without_bytes a)
 
 -- what a matched probe claims
-abbrev pub claim_in : Place → ℕ → Command → List Happened
+abbrev pub claim_in : RankPoint → ℕ → Command → List Happened
 claim_in place line (command.Mprobe m from tag ctx) =
     option_map_or (λ a. Claim a.env.from a.n line ∷ []) (found_in place from tag ctx) []
 claim_in place line _ = []
 
 -- the message of a receive, and the one whose bytes a wait or a test shows
-abbrev pub pair_in : Place → Request → Option Pair
+abbrev pub pair_in : RankPoint → Request → Option Pair
 pair_in place (Receiving number) = place.pairs number
 pair_in place (Sending to n) = None
 
-abbrev pub asked_in : Place → Command → Option Pair
+abbrev pub asked_in : RankPoint → Command → Option Pair
 asked_in place (command.Wait q) = option_and_then (pair_in place) (request_now place q)
 asked_in place (command.Test q) = option_and_then (pair_in place) (request_now place q)
 asked_in place _ = None
 
 -- the bytes are those that the line of the message's send says
-abbrev pub AreBytesOf : Sizes → List Line → (ℕ → Place) → ℕ → List ℕ → Pair → Type 0
+abbrev pub AreBytesOf : Sizes → List Line → (ℕ → RankPoint) → ℕ → List ℕ → Pair → Type 0
 AreBytesOf shape lines w i body pair =
     pair.arrival.env.from < shape.ranks →
     IsSomeAnd (slice_get ((w pair.arrival.env.from).lines i) pair.arrival.n)
     (λ line. IsSomeAnd (command_at (commands_of pair.arrival.env.from lines) line) (λ c. body ≡ sent_bytes c))
 
 -- an answer that has bytes has those of its message
-abbrev pub ShowsBytes : Sizes → List Line → (ℕ → Place) → ℕ → Answer → Command → Type 0
+abbrev pub ShowsBytes : Sizes → List Line → (ℕ → RankPoint) → ℕ → Answer → Command → Type 0
 ShowsBytes shape lines w i (answer.Got source tag body) c =
     IfSome (asked_in (w i) c) (AreBytesOf shape lines w i body)
 ShowsBytes shape lines w i _ c = Unit {0}
 
 -- the next command stands at this line
-pub record IsAtLine (commands : List Numbered) (place : Place) (line : ℕ) : Type 0 where
+pub record IsAtLine (commands : List Numbered) (place : RankPoint) (line : ℕ) : Type 0 where
   pub command : Numbered
   pub next : slice_get commands place.done ≡ Some command
   pub line_is : command.line ≡ line
 
 -- the next command cancels this live request
-pub record Cancels (commands : List Numbered) (place : Place) (request : Request) : Type 0 where
+pub record Cancels (commands : List Numbered) (place : RankPoint) (request : Request) : Type 0 where
   pub command : Numbered
   pub next : slice_get commands place.done ≡ Some command
   pub name : ℕ
@@ -152,7 +152,7 @@ pub record Cancels (commands : List Numbered) (place : Place) (request : Request
   pub live_is : request_now place name ≡ Some request
 
 -- the next command, of this line, receives message n of this rank, which its handle stands for
-pub record Matches (commands : List Numbered) (place : Place) (from n cap line : ℕ) : Type 0 where
+pub record Matches (commands : List Numbered) (place : RankPoint) (from n cap line : ℕ) : Type 0 where
   pub command : Numbered
   pub next : slice_get commands place.done ≡ Some command
   pub line_is : command.line ≡ line
@@ -164,7 +164,7 @@ pub record Matches (commands : List Numbered) (place : Place) (from n cap line :
 
 -- This may happen next at a rank. That a message is whole, has left, or that the answer to a recall
 -- came, is no move, and changes nothing.
-abbrev pub MayMove : Sizes → List Line → (ℕ → Place) → ℕ → Happened → Type 0
+abbrev pub MayMove : Sizes → List Line → (ℕ → RankPoint) → ℕ → Happened → Type 0
 MayMove shape lines w i (Send to n tag ctx len how line) =
     Starts shape.eager (commands_of i lines) (w i) (Send to n tag ctx len how line)
 MayMove shape lines w i (Post p line) = Starts shape.eager (commands_of i lines) (w i) (Post p line)
@@ -189,18 +189,18 @@ MayMove shape lines w i (Ran line a) =
 MayMove shape lines w i _ = Unit {0}
 
 -- the ranks are at these places after a log
-abbrev pub ArePlaces : List Line → List Step → (ℕ → Place) → Type 0
+abbrev pub ArePlaces : List Line → List Step → (ℕ → RankPoint) → Type 0
 ArePlaces lines log w = (i : ℕ) → IsPlaceOf i (commands_of i lines) (history_in log i) (w i)
 
 -- the requests of rank i are of ranks of the run
-abbrev pub AreWithin : ℕ → Place → Type 0
+abbrev pub AreWithin : ℕ → RankPoint → Type 0
 AreWithin ranks place =
     (line to n : ℕ) → place.requests line ≡ Some (Sending to n) → to < ranks
 
 -- the next step of a run is a move of the ranks' places
 abbrev pub StepsAreMoves : Type 0
 StepsAreMoves =
-    (shape : Sizes) (lines : List Line) (log : List Step) (w : ℕ → Place) (i : ℕ) (e : Event) →
+    (shape : Sizes) (lines : List Line) (log : List Step) (w : ℕ → RankPoint) (i : ℕ) (e : Event) →
     IsLog shape lines log → ArePlaces lines log w → AreAtLines (commands_of i lines) →
     AreWithin shape.ranks (w i) → MayCome shape lines (history_in log) i e →
     IsDue shape.eager (commands_of i lines) (history_in log i) e.what →

@@ -11,7 +11,7 @@ use Rattle.nm_types.specs.Commands.{commands_of}
 use Rattle.nm_types.specs.Limits.{IsScript}
 use Rattle.nm_outcomes.specs.Logs.{Step}
 use Rattle.nm_outcomes.specs.Paths.{AreMoves, first_place, moved_by}
-use Rattle.nm_outcomes.specs.Places.{Place, is_quiet}
+use Rattle.nm_outcomes.specs.Places.{RankPoint, is_quiet}
 use Rattle.nm_outcomes.specs.Rests.{AreAtRest}
 
 -- some run of the script in these sizes has this report
@@ -40,7 +40,7 @@ pub record AreOutcomes (shape : Sizes) (lines : List Line) (texts : List (List �
       (run : RunRecord) → IsRunIn shape lines run → Contains texts (report_text false run)
 
 -- what a rank at a place told, and the line of its next command
-abbrev pub told_at : List Line → (ℕ → Place) → ℕ → RankTold
+abbrev pub told_at : List Line → (ℕ → RankPoint) → ℕ → RankTold
 told_at lines w i =
     record {
       answers = (w i).told;

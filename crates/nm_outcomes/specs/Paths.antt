@@ -10,10 +10,10 @@ use Rattle.nm_history.specs.Run.{IsRunOf}
 use Rattle.nm_outcomes.specs.Due.{AreAtLines}
 use Rattle.nm_outcomes.specs.Logs.{IsLogOf, Step, events_of}
 use Rattle.nm_outcomes.specs.Moves.{MayMove}
-use Rattle.nm_outcomes.specs.Places.{IsPlaceOf, Place, after}
+use Rattle.nm_outcomes.specs.Places.{IsPlaceOf, RankPoint, after}
 
 -- a rank of which nothing has happened
-abbrev pub first_place : Place
+abbrev pub first_place : RankPoint
 first_place =
     record {
       told = [];
@@ -40,17 +40,17 @@ first_place =
     }
 
 -- the places after a step
-abbrev pub moved : List Line → (ℕ → Place) → Step → ℕ → Place
+abbrev pub moved : List Line → (ℕ → RankPoint) → Step → ℕ → RankPoint
 moved lines w step i =
     if step.rank == i then after i (commands_of i lines) (w i) step.event.what else w i
 
 -- the places after some steps
-abbrev pub moved_by : List Line → (ℕ → Place) → List Step → ℕ → Place
+abbrev pub moved_by : List Line → (ℕ → RankPoint) → List Step → ℕ → RankPoint
 moved_by lines w [] = w
 moved_by lines w (step ∷ steps) = moved_by lines (moved lines w step) steps
 
 -- each step is a move of the places that the steps before it led to
-abbrev pub AreMoves : Sizes → List Line → (ℕ → Place) → List Step → Type 0
+abbrev pub AreMoves : Sizes → List Line → (ℕ → RankPoint) → List Step → Type 0
 AreMoves shape lines w [] = Unit {0}
 AreMoves shape lines w (step ∷ steps) =
     MayMove shape lines w step.rank step.event.what × AreMoves shape lines (moved lines w step) steps

@@ -29,7 +29,7 @@ use Rattle.nm_report.specs.Told.{Told, told_by}
 use Rattle.nm_outcomes.specs.Results.{is_unasked}
 
 -- a rank at some moment
-pub record Place : Type 0 where
+pub record RankPoint : Type 0 where
   -- the answers of its commands, how many they are, and what the next one has started
   pub told : List Told
   pub done : ℕ
@@ -64,7 +64,7 @@ abbrev pub envelopes_to : ℕ → List Event → ℕ → List Envelope
 envelopes_to me h to = map (envelope me) (sends h to)
 
 -- the rank is here after these events
-pub record IsPlaceOf (me : ℕ) (commands : List Numbered) (h : List Event) (place : Place) : Type 0 where
+pub record IsPlaceOf (me : ℕ) (commands : List Numbered) (h : List Event) (place : RankPoint) : Type 0 where
   pub told : place.told ≡ filter_map (λ e. told_by e.what) h
   pub done : place.done ≡ length (ran_lines h)
   pub begun : place.begun ≡ starts_since h
@@ -93,14 +93,14 @@ or_else None b = b
 or_else (Some a) b = Some a
 
 -- the oldest free message that a receive selects, and the oldest open receive that selects a message
-abbrev pub message_for : Place → post.Post → Option Arrival
+abbrev pub message_for : RankPoint → post.Post → Option Arrival
 message_for place p = find (λ a. matches p.from p.tag p.ctx a.env) place.messages
 
-abbrev pub receive_for : Place → Arrival → Option post.Post
+abbrev pub receive_for : RankPoint → Arrival → Option post.Post
 receive_for place a = find (λ p. matches p.from p.tag p.ctx a.env) place.receives
 
 -- the pair that an event makes
-abbrev pub pair_by : Place → Happened → Option Pair
+abbrev pub pair_by : RankPoint → Happened → Option Pair
 pair_by place (Post p line) = option_map (λ a. pair_of p a) (message_for place p)
 pair_by place (Arrive a) = option_map (λ p. pair_of p a) (receive_for place a)
 pair_by place (Match number from n cap line) =
@@ -108,7 +108,7 @@ pair_by place (Match number from n cap line) =
 pair_by place _ = None
 
 -- the open receives after it; one that was paired or cancelled before is not open
-abbrev pub receives_after : Place → Happened → List post.Post
+abbrev pub receives_after : RankPoint → Happened → List post.Post
 receives_after place (Post p line) =
     posted_after_post p (is_some (place.pairs p.number) || place.off p.number) place.receives (message_for place p)
 receives_after place (Arrive a) =
@@ -118,7 +118,7 @@ receives_after place (Cancel number done) =
 receives_after place _ = place.receives
 
 -- the free messages after it; one that was taken, claimed or withdrawn before is not free
-abbrev pub messages_after : Place → Happened → List Arrival
+abbrev pub messages_after : RankPoint → Happened → List Arrival
 messages_after place (Post p line) = unexpected_after_post place.messages (message_for place p)
 messages_after place (Arrive a) =
     unexpected_after_arrival a
@@ -131,7 +131,7 @@ messages_after place (Match number from n cap line) = without_message from n pla
 messages_after place _ = place.messages
 
 -- the rank after an event
-abbrev pub after : ℕ → List Numbered → Place → Happened → Place
+abbrev pub after : ℕ → List Numbered → RankPoint → Happened → RankPoint
 after me commands place what =
     record {
       told = place.told ++ cons_option (told_by what) [];
@@ -175,7 +175,7 @@ IsProper h _ = Unit {0}
 -- the place of a rank follows its history
 abbrev pub PlacesFollow : Type 0
 PlacesFollow =
-    (me : ℕ) (commands : List Numbered) (h : List Event) (e : Event) (place : Place) →
+    (me : ℕ) (commands : List Numbered) (h : List Event) (e : Event) (place : RankPoint) →
     IsProper h e.what → IsPlaceOf me commands h place →
     IsPlaceOf me commands (h ++ e ∷ []) (after me commands place e.what)
 

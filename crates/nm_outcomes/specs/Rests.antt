@@ -12,10 +12,10 @@ use Rattle.nm_history.specs.Run.{IsRunOf}
 use Rattle.nm_outcomes.specs.Logs.{Step}
 use Rattle.nm_outcomes.specs.Moves.{found_in, is_free_in, may_show, request_now}
 use Rattle.nm_outcomes.specs.Paths.{AreCommands, IsPathOf, first_place, moved_by}
-use Rattle.nm_outcomes.specs.Places.{Place}
+use Rattle.nm_outcomes.specs.Places.{RankPoint}
 
 -- a command has no answer: a wait of a request that can't end by now, or an await that finds nothing
-abbrev pub IsHeldUp : (ℕ → Place) → ℕ → Command → Type 0
+abbrev pub IsHeldUp : (ℕ → RankPoint) → ℕ → Command → Type 0
 IsHeldUp w i (command.Wait q) =
     (request : Request) × (request_now (w i) q ≡ Some request) × (may_show w i request ≡ None)
 IsHeldUp w i (command.Await from tag ctx) = found_in (w i) from tag ctx ≡ None
@@ -23,7 +23,7 @@ IsHeldUp w i _ = ⊥
 
 -- No move is left: nothing is under way, no message that was recalled is free, and each rank is at its
 -- end, or its next command has no answer.
-pub record AreAtRest (shape : Sizes) (lines : List Line) (w : ℕ → Place) : Type 0 where
+pub record AreAtRest (shape : Sizes) (lines : List Line) (w : ℕ → RankPoint) : Type 0 where
   pub came : (i j : ℕ) → i < shape.ranks → j < shape.ranks → (w j).came i ≡ length ((w i).sent j)
   pub recalls :
       (i j n : ℕ) → i < shape.ranks → j < shape.ranks → (w i).recalled j n ≡ true →

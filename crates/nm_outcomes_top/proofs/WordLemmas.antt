@@ -108,7 +108,7 @@ argument_begins (Number n) word words rest others (few, h) is =
     (no_dash n (omega arith)))
 
 -- the first word of arguments begins so
-follows_begins : (f h : Found) (words : List (List ℕ)) → nemesis.Follows f words h → (word : List ℕ)
+follows_begins : (f h : Found) (words : List (List ℕ)) → nemesis.ReadsArguments f words h → (word : List ℕ)
     (rest : List (List ℕ)) → words ≡ word ∷ rest → BeginsArgument word
 follows_begins f _ _ (nemesis.ends _) word rest is = cc
 follows_begins f h words (nemesis.more a _ others _ g _ argument takes further) word rest is =

@@ -34,7 +34,7 @@ use Rattle.nm_persist.specs.declared.asked.Show.TheVariants as show
 use Rattle.nm_persist.specs.Report.{Named, arrived_word, asked_at, asked_behind, asked_by, first_answer, first_name}
 use Rattle.nm_persist.specs.Report.{last_result, named_from, received, result_behind, shows, words_shown}
 use Rattle.nm_persist.specs.Names.{Done, are_apart, end_after, last_end}
-use Rattle.nm_persist.specs.Promises.{Entry, IsKept, IsHere, IsWaited, Promised, PromisedOf, ShowsBody, entries}
+use Rattle.nm_persist.specs.Promises.{Entry, KeepsPromise, IsHere, IsWaited, Promised, PromisedOf, ShowsBody, entries}
 use Rattle.nm_persist.specs.Promises.{entry_words}
 use Rattle.nm_persist.proofs.Items.{part_in}
 use Rattle.nm_persist.proofs.Aligned.{answers, cmds, cut_at, drop_map, results_same, take_map}
@@ -193,7 +193,7 @@ module _ (shape : Sizes) (lines : List PlanLine) (at : ℕ → ℕ) (hist : ℕ 
       AllByRecursion (λ (d : Done). starts_one d.own.command ≡ true → is_started d.answer ≡ true) back →
       (told : List Named) →
       ((q : ℕ) → last_result told q ≡ last_end q front) →
-      AllByRecursion (λ e. IsKept lines j e) (entries (asked_at j (asked_behind before rest)) told (answers back))
+      AllByRecursion (λ e. KeepsPromise lines j e) (entries (asked_at j (asked_behind before rest)) told (answers back))
   kept_rest before [] split front back M cut done left taken told same = tt
   kept_rest before (line ∷ rest) split front back M cut done left taken told same =
       by_rank (line.rank == j) refl
@@ -214,7 +214,7 @@ module _ (shape : Sizes) (lines : List PlanLine) (at : ℕ → ℕ) (hist : ℕ 
           cmds back' ++ M ≡ own_commands j (expand_behind (before ++ line ∷ []) rest) →
           AllByRecursion (λ (d : Done). starts_one d.own.command ≡ true → is_started d.answer ≡ true) back' →
           ((q : ℕ) → last_result told' q ≡ last_end q front') →
-          AllByRecursion (λ e. IsKept lines j e) (entries (asked_at j (asked_behind (before ++ line ∷ []) rest)) told'
+          AllByRecursion (λ e. KeepsPromise lines j e) (entries (asked_at j (asked_behind (before ++ line ∷ []) rest)) told'
           (answers back'))
 
       n : ℕ
@@ -246,7 +246,7 @@ module _ (shape : Sizes) (lines : List PlanLine) (at : ℕ → ℕ) (hist : ℕ 
       le_of a b is = grind (arith, nat_tests)
 
       by_enough : (line.rank == j) ≡ true → (b : Bool) → nat_lt (length (answers back)) n ≡ b → Later →
-          AllByRecursion (λ e. IsKept lines j e) (cond b []
+          AllByRecursion (λ e. KeepsPromise lines j e) (cond b []
           (record {
             asked = asked_by number line o;
             own = take n (answers back);
@@ -280,11 +280,11 @@ module _ (shape : Sizes) (lines : List PlanLine) (at : ℕ → ℕ) (hist : ℕ 
           (named_from (first_name line.command) (answers block))) (same q)
           ∙ results_same q line.command o block (last_end q front) block_is taken2.0
           ∙ sym (fold-append (end_after q) None front block) in
-          subst (λ (own : List Answer). AllByRecursion (λ e. IsKept lines j e)
+          subst (λ (own : List Answer). AllByRecursion (λ e. KeepsPromise lines j e)
           (record { asked = asked_by number line o; own = own; told = told ++ named_from (first_name line.command) own }
           ∷ entries rest_at (told ++ named_from (first_name line.command) own) (drop n (answers back))))
           (sym (take_map (λ (d : Done). d.answer) n back))
-          (subst (λ (others : List Answer). AllByRecursion (λ e. IsKept lines j e)
+          (subst (λ (others : List Answer). AllByRecursion (λ e. KeepsPromise lines j e)
           (record { asked = asked_by number line o; own = answers block; told = told' } ∷ entries rest_at told'
           others)) (sym (drop_map (λ (d : Done). d.answer) n back)) (
             record {
@@ -303,7 +303,7 @@ module _ (shape : Sizes) (lines : List PlanLine) (at : ℕ → ℕ) (hist : ℕ 
           ))
 
       by_rank : (b : Bool) → (line.rank == j) ≡ b → Later →
-          AllByRecursion (λ e. IsKept lines j e) (entries (cond b (asked_by number line o ∷ rest_at) rest_at) told
+          AllByRecursion (λ e. KeepsPromise lines j e) (entries (cond b (asked_by number line o ∷ rest_at) rest_at) told
           (answers back))
       by_rank false other later =
           later front back told cut (done ∙ sym (done_by false other ∙ append-nil (own_commands j (expand before))))
@@ -312,6 +312,6 @@ module _ (shape : Sizes) (lines : List PlanLine) (at : ℕ → ℕ) (hist : ℕ 
 
   -- all lines of a rank
   pub kept_all : (M : List Command) → cmds ran ++ M ≡ own_commands j (expand lines) →
-      AllByRecursion (λ e. IsKept lines j e) (entries (asked_at j (asked_behind [] lines)) [] (answers ran))
+      AllByRecursion (λ e. KeepsPromise lines j e) (entries (asked_at j (asked_behind [] lines)) [] (answers ran))
   unfolding expand
   kept_all M left = kept_rest [] lines refl [] ran M refl refl left begun [] (λ q. refl)

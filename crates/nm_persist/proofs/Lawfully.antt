@@ -34,7 +34,7 @@ use Rattle.nm_persist.specs.Plans.{IsPlan}
 use Rattle.nm_persist.specs.Report.{asked_at, asked_behind}
 use Rattle.nm_persist.proofs.ReadyLemmas.{plan_script}
 use Rattle.nm_persist.specs.Names.{Done, are_apart, is_named}
-use Rattle.nm_persist.specs.Promises.{IsKept, answers_of, entries, shown_of}
+use Rattle.nm_persist.specs.Promises.{KeepsPromise, answers_of, entries, shown_of}
 use Rattle.nm_persist.proofs.Described.{IsDescribed, described}
 use Rattle.nm_persist.proofs.Items.{apart_own}
 use Rattle.nm_persist.proofs.Kept.{kept_all}
@@ -149,7 +149,7 @@ module _ (shape : Sizes) (lines : List PlanLine) (record' : RunRecord) (stand : 
   lasts i inside = let w = walk_of i inside in (w.list, (inside, commands_rise i (expand lines), apart i, w.last))
 
   pub keeps : (rank : ℕ) (account : RankAccount) → slice_get record'.ranks rank ≡ Some account →
-      AllByRecursion (IsKept lines rank) (shown_of lines rank account)
+      AllByRecursion (KeepsPromise lines rank) (shown_of lines rank account)
   keeps j account here =
       let at' : slice_get ranks j ≡ Some
       (record { at = account.at; waits = account.waits; events = account.history.events }) =
@@ -170,7 +170,7 @@ module _ (shape : Sizes) (lines : List PlanLine) (record' : RunRecord) (stand : 
       ∙ sym (map-append (λ (c : Numbered). c.command) (take n (cs j)) (drop n (cs j)))
       ∙ ap (λ (xs : List Numbered). map (λ (c : Numbered). c.command) xs) (take-append-drop n (cs j))
       ∙ commands_are j 2 (expand lines) in
-      subst (λ (as' : List Answer). AllByRecursion (IsKept lines j)
+      subst (λ (as' : List Answer). AllByRecursion (KeepsPromise lines j)
       (entries (asked_at j (asked_behind [] lines)) [] as')) told
       (kept_all shape lines (at_in ranks) (hist_in ranks) run lengths fine (λ i. commands_rise i (expand lines)) lasts
       j inside

@@ -31,7 +31,7 @@ use Rattle.nm_persist.specs.Plans.{IsPlan}
 use Rattle.nm_persist.specs.Reading.{line_at, lines_from, parts, plan_of, ranks_at, read_of}
 use Rattle.nm_persist.specs.Rules.{FirstKeeps, IsFault, IsFaultBehind, IsFaultOf, IsFirstFault}
 use Rattle.nm_plans.specs.Spelled.{IsLine}
-use Rattle.nm_persist.specs.Rules.{IsRefused, IsTextOf, Keeps, Takes, first_kinds, line_kinds}
+use Rattle.nm_persist.specs.Rules.{IsRefused, IsTextOf, KeepsRule, AnswersPlan, first_kinds, line_kinds}
 use Rattle.nm_persist.specs.Table.{are_sound, fault_in}
 use Rattle.nm_plans.specs.Text.{SpellsPlan, line_text, line_words, plan_text, words}
 use Rattle.nm_plans.proofs.MakeLemmas.{line_again}
@@ -150,7 +150,7 @@ module _ (ranks : ℕ) (few : ranks ≤ MAX_RANKS) where
     texts_are : texts ≡ map line_text lines ++ text ∷ after
     follow : Follow ranks before lines
     number_is : number ≡ length before + length lines + 2
-    here : IsFirstOf (Keeps ranks (before ++ lines) text (words_of text)) line_kinds e
+    here : IsFirstOf (KeepsRule ranks (before ++ lines) text (words_of text)) line_kinds e
 
   lines_fault : (before : List PlanLine) (texts : List (List ℕ)) (number : ℕ) (e : PlanKind)
       → length before < MAX_LINES → lines_from ranks before texts ≡ Err (number, e)
@@ -167,7 +167,7 @@ module _ (ranks : ℕ) (few : ranks ≤ MAX_RANKS) where
               texts_are = refl;
               follow = none_follow ranks before inside;
               number_is = omega (arith, p.0);
-              here = subst (λ bs. IsFirstOf (Keeps ranks bs text (words_of text)) line_kinds e)
+              here = subst (λ bs. IsFirstOf (KeepsRule ranks bs text (words_of text)) line_kinds e)
                   (sym (append-nil before)) (line_fault ranks few before text e p.1);
             }
         | inr p ↦
@@ -182,29 +182,29 @@ module _ (ranks : ℕ) (few : ranks ≤ MAX_RANKS) where
               texts_are = ap (λ t. t ∷ texts) here.is.text_is ∙ ap (λ ts. line_text p.0 ∷ ts) rest.texts_are;
               follow = one_follows before rest.lines text p.0 here rest.follow;
               number_is = omega (arith, rest.number_is, count);
-              here = subst (λ bs. IsFirstOf (Keeps ranks bs rest.text (words_of rest.text)) line_kinds e)
+              here = subst (λ bs. IsFirstOf (KeepsRule ranks bs rest.text (words_of rest.text)) line_kinds e)
                   (regrouped before rest.lines p.0) rest.here;
             }
       ]
 
   line_refused : (before : List PlanLine) (text : List ℕ) (e : PlanKind)
-      → IsFirstOf (Keeps ranks before text (words_of text)) line_kinds e
+      → IsFirstOf (KeepsRule ranks before text (words_of text)) line_kinds e
       → (r : Result PlanLine PlanKind) → line_at ranks before text ≡ r → r ≡ Err e
   line_refused before text e first (Ok line) h =
       let here = line_at_taken ranks few before text line h in
-      absurd (none_first (Keeps ranks before text (words_of text)) line_kinds e
+      absurd (none_first (KeepsRule ranks before text (words_of text)) line_kinds e
       (line_kept ranks few before text line here.is here.in_lines here.sound) first)
   line_refused before text e first (Err d) h =
-      ap Err (one_first (Keeps ranks before text (words_of text)) line_kinds d e
+      ap Err (one_first (KeepsRule ranks before text (words_of text)) line_kinds d e
       (line_fault ranks few before text d h) first)
 
   lines_refused : (before lines : List PlanLine) (text : List ℕ) (after : List (List ℕ)) (e : PlanKind)
-      → Follow ranks before lines → IsFirstOf (Keeps ranks (before ++ lines) text (words_of text)) line_kinds e
+      → Follow ranks before lines → IsFirstOf (KeepsRule ranks (before ++ lines) text (words_of text)) line_kinds e
       → lines_from ranks before (map line_text lines ++ text ∷ after) ≡ Err (length before + length lines + 2, e)
   lines_refused before [] text after e h first =
       let n : length before + 2 ≡ length before + length {A = PlanLine} [] + 2 = omega arith in
       let here = line_refused before text e
-      (subst (λ bs. IsFirstOf (Keeps ranks bs text (words_of text)) line_kinds e) (append-nil before) first)
+      (subst (λ bs. IsFirstOf (KeepsRule ranks bs text (words_of text)) line_kinds e) (append-nil before) first)
       (line_at ranks before text) refl in
       rw here (ap (λ m. Err (m, e)) n)
   lines_refused before (line ∷ lines) text after e h first =
@@ -213,7 +213,7 @@ module _ (ranks : ℕ) (few : ranks ≤ MAX_RANKS) where
       omega (arith, length-append before (line ∷ [])) in
       rw (line_at_again ranks few before (line_text line) line p.0)
       (lines_refused (before ++ line ∷ []) lines text after e p.1
-      (subst (λ bs. IsFirstOf (Keeps ranks bs text (words_of text)) line_kinds e)
+      (subst (λ bs. IsFirstOf (KeepsRule ranks bs text (words_of text)) line_kinds e)
       (sym (regrouped before lines line)) first) ∙ ap (λ m. Err (m, e)) n)
 
 -- ---- the lines of a plan's text
@@ -458,7 +458,7 @@ taken_from bytes (Ok p) gives = read_taken bytes p.ranks p.lines gives
 taken_from bytes (Err e) gives = tt
 
 pub takes_from : (bytes : List ℕ) (r : Result Plan PlanFault) → GivesAt parts r (read_of bytes)
-    → (ranks : ℕ) (lines : List PlanLine) → IsTextOf bytes ranks lines → Takes r ranks lines
+    → (ranks : ℕ) (lines : List PlanLine) → IsTextOf bytes ranks lines → AnswersPlan r ranks lines
 takes_from bytes (Ok p) gives ranks lines is =
     let pair : ◌≡◌ {A = ℕ × List PlanLine} (p.ranks, p.lines) (ranks, lines) = cc
     (read_again bytes ranks lines is, gives) in

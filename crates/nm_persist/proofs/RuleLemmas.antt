@@ -31,7 +31,7 @@ use Rattle.nm_persist.specs.Reading.{line_at, ranks_at, unless}
 use Rattle.nm_persist.specs.Rules.{FirstKeeps}
 use Rattle.nm_plans.specs.Faults.{AllKept, IsFirstOf}
 use Rattle.nm_plans.specs.Spelled.{Each, IsBodyThere, IsLine, IsNumberThere}
-use Rattle.nm_persist.specs.Rules.{Keeps, first_kinds, line_kinds}
+use Rattle.nm_persist.specs.Rules.{KeepsRule, first_kinds, line_kinds}
 use Rattle.nm_persist.specs.Table.{fault_in, has_other_parts, is_out_of_order, is_past, is_taken}
 use Rattle.nm_plans.specs.Text.{line_words, words}
 use Rattle.nm_plans.proofs.GrammarLemmas.{err_none, keyword_again, keyword_taken}
@@ -104,7 +104,7 @@ module _ (ranks : ℕ) (few : ranks ≤ MAX_RANKS) where
   arguments_break : (before : List PlanLine) (text first name : List ℕ) (k : PlanKeyword)
       (ws : List (List ℕ)) (e : PlanKind) → name ≡ keyword_text k
       → IsFirstOf (Kept ranks few k ws) (kind.Count ∷ kind.Number ∷ kind.Body ∷ []) e
-      → IsFirstOf (Keeps ranks before text (first ∷ name ∷ ws)) (kind.Count ∷ kind.Number ∷ kind.Body
+      → IsFirstOf (KeepsRule ranks before text (first ∷ name ∷ ws)) (kind.Count ∷ kind.Number ∷ kind.Body
       ∷ table_kinds) e
   arguments_break before text first name k ws e word faulty =
       let every : (P : PlanKeyword → Type 0) → P k → (j : PlanKeyword) → name ≡ keyword_text j →
@@ -143,7 +143,7 @@ module _ (ranks : ℕ) (few : ranks ≤ MAX_RANKS) where
   -- the first rule that the words of a line break, behind those of its bytes and its place
   pub words_fault : (before : List PlanLine) (text : List ℕ) (ws : List (List ℕ)) (e : PlanKind)
       → line_of ranks ws ≡ Err e
-      → IsFirstOf (Keeps ranks before text ws) (kind.Rank ∷ kind.Command ∷ kind.Count ∷ kind.Number
+      → IsFirstOf (KeepsRule ranks before text ws) (kind.Rank ∷ kind.Command ∷ kind.Count ∷ kind.Number
       ∷ kind.Body ∷ table_kinds) e
   unfolding line_of command_of
   words_fault before text [] e h = inl (cc, λ never. never)
@@ -186,7 +186,7 @@ module _ (ranks : ℕ) (few : ranks ≤ MAX_RANKS) where
 
   -- the words of a command's line keep the rules of words
   words_kept : (before : List PlanLine) (text : List ℕ) (line : PlanLine) → IsLine ranks text line
-      → AllKept (Keeps ranks before text (line_words line)) word_kinds
+      → AllKept (KeepsRule ranks before text (line_words line)) word_kinds
   words_kept before text line is =
       let k = keyword_in line.command in
       let vs = values line.command in
@@ -214,13 +214,13 @@ module _ (ranks : ℕ) (few : ranks ≤ MAX_RANKS) where
       )
 
   line_words_kept : (before : List PlanLine) (text : List ℕ) (line : PlanLine) → IsLine ranks text line
-      → AllKept (Keeps ranks before text (words_of text)) word_kinds
+      → AllKept (KeepsRule ranks before text (words_of text)) word_kinds
   line_words_kept before text line is =
       let back = line_again ranks few line is.own is.range in
       let first = decimal line.rank ++ codes ":" in
       let split : words_of text ≡ line_words line =
       ap words_of is.text_is ∙ words_again first (words line.command) back.1 in
-      subst (λ ws. AllKept (Keeps ranks before text ws) word_kinds) (sym split) (words_kept before text line is)
+      subst (λ ws. AllKept (KeepsRule ranks before text ws) word_kinds) (sym split) (words_kept before text line is)
 
   -- ---- the table
 
@@ -240,7 +240,7 @@ module _ (ranks : ℕ) (few : ranks ≤ MAX_RANKS) where
 
   table_kept : (before : List PlanLine) (text : List ℕ) (ws : List (List ℕ)) (line : PlanLine)
       → IsLine ranks text line → fault_in ranks before line ≡ None
-      → AllKept (Keeps ranks before text ws) table_kinds
+      → AllKept (KeepsRule ranks before text ws) table_kinds
   table_kept before text ws line is h =
       let p = table_none (is_taken before line) (has_other_parts before line) (is_out_of_order before line)
       (is_past ranks before line) h in (
@@ -256,7 +256,7 @@ module _ (ranks : ℕ) (few : ranks ≤ MAX_RANKS) where
 
   table_fault : (before : List PlanLine) (text : List ℕ) (ws : List (List ℕ)) (line : PlanLine) (e : PlanKind)
       → IsLine ranks text line → fault_in ranks before line ≡ Some e
-      → IsFirstOf (Keeps ranks before text ws) table_kinds e
+      → IsFirstOf (KeepsRule ranks before text ws) table_kinds e
   table_fault before text ws line e is h =
       elim (chosen (is_taken before line) (Some kind.Taken) _ (Some e) h) [
         | inl p ↦ inl (cc (p.1), λ all. cc (all line is, p.0))
@@ -285,7 +285,7 @@ module _ (ranks : ℕ) (few : ranks ≤ MAX_RANKS) where
 
   pub line_kept : (before : List PlanLine) (text : List ℕ) (line : PlanLine) → IsLine ranks text line
       → length before + 2 ≤ MAX_LINES → fault_in ranks before line ≡ None
-      → AllKept (Keeps ranks before text (words_of text)) line_kinds
+      → AllKept (KeepsRule ranks before text (words_of text)) line_kinds
   line_kept before text line is in_lines sound =
       let w = line_words_kept before text line is in (
         (is_read text line is).printable,
@@ -321,7 +321,7 @@ module _ (ranks : ℕ) (few : ranks ≤ MAX_RANKS) where
 
   read_fault : (before : List PlanLine) (text : List ℕ) (line : PlanLine) (e : PlanKind)
       → line_of ranks (words_of text) ≡ Ok line → fault_in ranks before line ≡ Some e
-      → IsFirstOf (Keeps ranks before text (words_of text)) (kind.Rank ∷ kind.Command ∷ kind.Count ∷ kind.Number
+      → IsFirstOf (KeepsRule ranks before text (words_of text)) (kind.Rank ∷ kind.Command ∷ kind.Count ∷ kind.Number
       ∷ kind.Body ∷ table_kinds) e
   read_fault before text line e read f =
       let is = read_is text line read in
@@ -344,7 +344,7 @@ module _ (ranks : ℕ) (few : ranks ≤ MAX_RANKS) where
       )
 
   pub line_fault : (before : List PlanLine) (text : List ℕ) (e : PlanKind) → line_at ranks before text ≡ Err e
-      → IsFirstOf (Keeps ranks before text (words_of text)) line_kinds e
+      → IsFirstOf (KeepsRule ranks before text (words_of text)) line_kinds e
   unfolding line_at
   line_fault before text e h =
       let number = length before + 2 in

@@ -107,7 +107,7 @@ PromisedOf lines before owner c None e = Unit {0}
 PromisedOf lines before owner c (Some r) e = Promised lines before owner c r r.side e
 
 -- it is a line of the plan of this rank, and keeps what its command promises
-pub record IsKept (lines : List PlanLine) (rank : ℕ) (e : Entry) : Type 0 where
+pub record KeepsPromise (lines : List PlanLine) (rank : ℕ) (e : Entry) : Type 0 where
   pub before : List PlanLine
   pub line : PlanLine
   pub after : List PlanLine
@@ -141,4 +141,4 @@ ReceivesShowTheirSends =
     (shape : Sizes) (lines : List PlanLine) (run : RunRecord) → IsPlan shape.ranks lines →
     IsRunIn shape (expand lines) run →
     (rank : ℕ) (account : RankAccount) → slice_get run.ranks rank ≡ Some account →
-    AllByRecursion (IsKept lines rank) (shown_of lines rank account)
+    AllByRecursion (KeepsPromise lines rank) (shown_of lines rank account)

@@ -20,26 +20,26 @@ use Rattle.nm_persist.specs.Table.{are_sound, has_other_parts, is_out_of_order, 
 use Rattle.nm_plans.specs.Text.{SpellsPlan, line_text}
 
 -- a line other than the first, behind the lines before it and by its words, keeps the rule of a kind
-abbrev pub Keeps : ℕ → List PlanLine → List ℕ → List (List ℕ) → PlanKind → Type 0
-Keeps ranks before text ws kind.NotAscii = is_printable text ≡ true
-Keeps ranks before text ws kind.Lines = length before + 2 ≤ MAX_LINES
-Keeps ranks before text ws kind.Rank = HasRank ranks ws
-Keeps ranks before text ws kind.Command = (keyword : PlanKeyword) × Names keyword ws
-Keeps ranks before text ws kind.Count =
+abbrev pub KeepsRule : ℕ → List PlanLine → List ℕ → List (List ℕ) → PlanKind → Type 0
+KeepsRule ranks before text ws kind.NotAscii = is_printable text ≡ true
+KeepsRule ranks before text ws kind.Lines = length before + 2 ≤ MAX_LINES
+KeepsRule ranks before text ws kind.Rank = HasRank ranks ws
+KeepsRule ranks before text ws kind.Command = (keyword : PlanKeyword) × Names keyword ws
+KeepsRule ranks before text ws kind.Count =
     (keyword : PlanKeyword) → Names keyword ws → length (behind ws) ≡ length (arguments keyword)
-Keeps ranks before text ws kind.Number =
+KeepsRule ranks before text ws kind.Number =
     (keyword : PlanKeyword) → Names keyword ws → Each (IsNumberThere ranks) (arguments keyword) (behind ws)
-Keeps ranks before text ws kind.Body =
+KeepsRule ranks before text ws kind.Body =
     (keyword : PlanKeyword) → Names keyword ws → Each (IsBodyThere ranks) (arguments keyword) (behind ws)
-Keeps ranks before text ws kind.Taken =
+KeepsRule ranks before text ws kind.Taken =
     (line : PlanLine) → IsLine ranks text line → is_taken before line ≡ false
-Keeps ranks before text ws kind.Parts =
+KeepsRule ranks before text ws kind.Parts =
     (line : PlanLine) → IsLine ranks text line → has_other_parts before line ≡ false
-Keeps ranks before text ws kind.Order =
+KeepsRule ranks before text ws kind.Order =
     (line : PlanLine) → IsLine ranks text line → is_out_of_order before line ≡ false
-Keeps ranks before text ws kind.Size =
+KeepsRule ranks before text ws kind.Size =
     (line : PlanLine) → IsLine ranks text line → is_past ranks before line ≡ false
-Keeps ranks before text ws _ = Unit {0}
+KeepsRule ranks before text ws _ = Unit {0}
 
 -- the first line keeps the rule of a kind
 abbrev pub FirstKeeps : List ℕ → PlanKind → Type 0
@@ -72,7 +72,7 @@ pub record IsFaultBehind (texts : List (List ℕ)) (number : ℕ) (k : PlanKind)
   pub sound : are_sound ranks [] before ≡ true
   pub few_lines : length before < MAX_LINES
   pub number_is : number ≡ length before + 2
-  pub here : IsFirstOf (Keeps ranks before text (words_of text)) line_kinds k
+  pub here : IsFirstOf (KeepsRule ranks before text (words_of text)) line_kinds k
 
 -- the first fault of these lines
 abbrev pub IsFaultOf : List (List ℕ) → ℕ → PlanKind → Type 0
@@ -103,7 +103,7 @@ pub record IsTextOf (bytes : List ℕ) (ranks : ℕ) (lines : List PlanLine) : T
   pub limits : IsPlan ranks lines
 
 -- the answer is this plan, unless memory ran out
-abbrev pub Takes : Result Plan PlanFault → ℕ → List PlanLine → Type 0
-Takes (Ok plan) ranks lines = (plan.ranks ≡ ranks) × (plan.lines ≡ lines)
-Takes (Err fault.Memory) ranks lines = Unit {0}
-Takes (Err (fault.Bad line e)) ranks lines = ⊥
+abbrev pub AnswersPlan : Result Plan PlanFault → ℕ → List PlanLine → Type 0
+AnswersPlan (Ok plan) ranks lines = (plan.ranks ≡ ranks) × (plan.lines ≡ lines)
+AnswersPlan (Err fault.Memory) ranks lines = Unit {0}
+AnswersPlan (Err (fault.Bad line e)) ranks lines = ⊥

@@ -10,7 +10,7 @@ ghost use Rattle.nm_plans.specs.declared.lines.PlanLine as plan_line;
 ghost use Rattle.nm_persist.specs.Drafts.{Adds, AddsAt, IsDraft};
 ghost use Rattle.nm_plans.specs.Faults.{Gives, GivesAt, at_line, or_kind};
 ghost use Rattle.nm_persist.specs.Reading.{line_at, lines_from, parts, ranks_at, read_of};
-ghost use Rattle.nm_persist.specs.Rules.{IsFault, IsFirstFault, IsRefused, IsTextOf, Takes};
+ghost use Rattle.nm_persist.specs.Rules.{IsFault, IsFirstFault, IsRefused, IsTextOf, AnswersPlan};
 
 use crate::drafts::Draft;
 use crate::plans::Plan;
@@ -161,7 +161,7 @@ fn read_exactly(alloc: Global, bytes: &[u8]) -> Result<Plan, PlanFault>
 pub fn read(alloc: Global, bytes: &[u8]) -> Result<Plan, PlanFault>
     ensures taken { IfOk result (λ plan. IsTextOf bytes.now plan.ranks plan.lines) }
     ensures takes { (ranks : ℕ) (lines : List plan_line.PlanLine) →
-        IsTextOf bytes.now ranks lines → Takes result ranks lines }
+        IsTextOf bytes.now ranks lines → AnswersPlan result ranks lines }
     ensures fault { IfErr result (IsFault bytes.now) }
     ensures faults { (line : ℕ) (e : kinds.PlanKind) →
         IsFirstFault bytes.now line e → IsRefused result line e }

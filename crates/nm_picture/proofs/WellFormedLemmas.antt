@@ -40,15 +40,15 @@ use Rattle.nm_picture.specs.Pictures.{arrows_text, marks_text, return_shaft, ret
 use Rattle.nm_picture.specs.Pictures.{ring_text, ring_title}
 use Rattle.nm_picture.specs.Pictures.{title_text, use_tag, line_tag, wait_label, wait_sign, wait_sign_at, wait_text, width_of}
 use Rattle.nm_picture.specs.Pictures.{words_width}
-use Rattle.nm_picture.specs.WellFormed.{IsWellFormed, Place, is_text, read, step}
-use Rattle.nm_picture.specs.WellFormed.Place.{Before, Between, Broken, Quoted, Opened, Reference, Value}
+use Rattle.nm_picture.specs.WellFormed.{IsWellFormed, ReaderState, is_text, read, step}
+use Rattle.nm_picture.specs.WellFormed.ReaderState.{Before, Between, Broken, Quoted, Opened, Reference, Value}
 
-pub read-append : (p : Place) (xs ys : List ℕ) → read p (xs ++ ys) ≡ read (read p xs) ys
+pub read-append : (p : ReaderState) (xs ys : List ℕ) → read p (xs ++ ys) ≡ read (read p xs) ys
 read-append p [] ys = refl
 read-append p (x ∷ xs) ys = read-append (step p x) xs ys
 
 -- what is read first ends where the rest begins
-behind : (p q : Place) (xs ys : List ℕ) → read p xs ≡ q → read p (xs ++ ys) ≡ read q ys
+behind : (p q : ReaderState) (xs ys : List ℕ) → read p xs ≡ q → read p (xs ++ ys) ≡ read q ys
 behind p q xs ys h = read-append p xs ys ∙ ap (λ r. read r ys) h
 
 -- a byte that a value goes on with, and one that a text does

@@ -7,19 +7,19 @@ use Rattle.nm_picture.specs.Markup.{is_printable}
 -- before the first tag; between tags; behind `<`; in a start tag's name, of which so much is read; before an
 -- attribute, in its name, behind its equals sign, in its value, and behind it; behind `&`; where this byte
 -- has to come, and then these ones; or nowhere, since the text is not well formed
-pub data Place : Type 0 where
-  Before : Place
-  Between : List (List ℕ) → Place
-  Opened : List (List ℕ) → Place
-  Named : List ℕ → List (List ℕ) → Place
-  Spaced : List (List ℕ) → Place
-  Attribute : List (List ℕ) → Place
-  Equals : List (List ℕ) → Place
-  Value : List (List ℕ) → Place
-  Quoted : List (List ℕ) → Place
-  Reference : List (List ℕ) → Place
-  Expects : ℕ → List ℕ → List (List ℕ) → Place
-  Broken : Place
+pub data ReaderState : Type 0 where
+  Before : ReaderState
+  Between : List (List ℕ) → ReaderState
+  Opened : List (List ℕ) → ReaderState
+  Named : List ℕ → List (List ℕ) → ReaderState
+  Spaced : List (List ℕ) → ReaderState
+  Attribute : List (List ℕ) → ReaderState
+  Equals : List (List ℕ) → ReaderState
+  Value : List (List ℕ) → ReaderState
+  Quoted : List (List ℕ) → ReaderState
+  Reference : List (List ℕ) → ReaderState
+  Expects : ℕ → List ℕ → List (List ℕ) → ReaderState
+  Broken : ReaderState
 
 -- a letter
 abbrev pub is_letter : ℕ → Bool
@@ -34,21 +34,21 @@ abbrev pub is_text : ℕ → Bool
 is_text b = is_printable b && not (b == 62) || b == 10
 
 -- these bytes have to come, and then the text goes on between tags
-abbrev pub expects : List ℕ → List (List ℕ) → Place
+abbrev pub expects : List ℕ → List (List ℕ) → ReaderState
 expects [] tags = Between tags
 expects (b ∷ rest) tags = Expects b rest tags
 
 -- behind the `/` of an end tag: it is that of the innermost element
-abbrev pub ends : List (List ℕ) → Place
+abbrev pub ends : List (List ℕ) → ReaderState
 ends [] = Broken
 ends (name ∷ tags) = expects (name ++ 62 ∷ []) tags
 
 -- behind a name or a value in a start tag: the tag ends, or there is a further attribute
-abbrev pub goes_on : ℕ → List (List ℕ) → Place
+abbrev pub goes_on : ℕ → List (List ℕ) → ReaderState
 goes_on b tags = if b == 62 then Between tags else (if b == 32 then Spaced tags else Broken)
 
 -- the place behind one byte more
-abbrev pub step : Place → ℕ → Place
+abbrev pub step : ReaderState → ℕ → ReaderState
 step Before b = if b == 60 then Opened [] else Broken
 step (Between []) b = if b == 10 then Between [] else Broken
 step (Between (name ∷ tags)) b =
@@ -71,7 +71,7 @@ step (Expects first rest tags) b = if b == first then expects rest tags else Bro
 step Broken b = Broken
 
 -- the place behind some bytes more
-abbrev pub read : Place → List ℕ → Place
+abbrev pub read : ReaderState → List ℕ → ReaderState
 read place [] = place
 read place (b ∷ bytes) = read (step place b) bytes
 

@@ -30,7 +30,7 @@ use Rattle.nm_rndv.specs.Offers.{Offering}
 use Rattle.nm_rank.specs.Ranks.{RankView, request_of}
 use Rattle.nm_rank.proofs.ResultLemmas.{finished_as}
 use Rattle.nm_process.specs.Names.{handled, message_with, named, request_named}
-use Rattle.nm_process.specs.Places.{IsNext, IsPlaceFrom}
+use Rattle.nm_process.specs.Places.{IsNextLine, IsPlaceFrom}
 use Rattle.nm_process.specs.Processes.{ProcessView}
 use Rattle.nm_process.specs.Starts.{Ends, HasAnswered, HasEnded}
 use Rattle.nm_process.specs.Starts.{HasStarted, IsBusy}
@@ -63,7 +63,7 @@ busy_is (Some r) some = refl
 busy_is None some = cc
 
 module _ (shape : Sizes) (lines : List Line) (a b : ProcessView) (place : ℕ) (l : Line)
-    (work : IsAtWork shape lines a) (is : IsNext lines a.rank.me a.next place l)
+    (work : IsAtWork shape lines a) (is : IsNextLine lines a.rank.me a.next place l)
     (at : b.at ≡ a.at + 1) (next : IsPlaceFrom lines a.rank.me (place + 1) b.next) where
   abbrev commands : List Numbered
   commands = commands_of a.rank.me lines

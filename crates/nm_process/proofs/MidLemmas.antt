@@ -27,7 +27,7 @@ use Rattle.nm_history.proofs.AnswerLemmas.{live_ended, live_kept, live_same, liv
 use Rattle.nm_history.specs.Clock.{stamped}
 use Rattle.nm_rank.specs.Ranks.{RankView}
 use Rattle.nm_process.specs.Names.{handled, named, request_named}
-use Rattle.nm_process.specs.Places.{IsNext, IsOwnLine, IsPlaceFrom}
+use Rattle.nm_process.specs.Places.{IsNextLine, IsOwnLine, IsPlaceFrom}
 use Rattle.nm_process.specs.Processes.{ProcessView}
 use Rattle.nm_process.specs.Starts.{HasAnswered, SetsHandle, SetsName}
 use Rattle.nm_process.specs.Work.{IsAtWork, are_below, line_of}
@@ -111,7 +111,7 @@ pub record Mid (shape : Sizes) (lines : List Line) (a : ProcessView) (place : �
   pub message_is : (m : ℕ) → live_message (commands_of a.rank.me lines) h m ≡ handled a m
 
 module _ (shape : Sizes) (lines : List Line) (a : ProcessView) (place : ℕ) (l : Line)
-    (work : IsAtWork shape lines a) (is : IsNext lines a.rank.me a.next place l) where
+    (work : IsAtWork shape lines a) (is : IsNextLine lines a.rank.me a.next place l) where
   abbrev commands : List Numbered
   commands = commands_of a.rank.me lines
 

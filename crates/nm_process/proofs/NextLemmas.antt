@@ -12,7 +12,7 @@ use Rattle.nm_history.specs.Completion.{Request, is_complete}
 use Rattle.nm_history.specs.Rules.{AreRight}
 use Rattle.nm_process.specs.declared.steps.Step.{Step}
 use Rattle.nm_process.specs.declared.steps.Step.TheVariants.{Waits, Ran as Took}
-use Rattle.nm_process.specs.Places.{IsNext, IsPlaceFrom, NoneBetween}
+use Rattle.nm_process.specs.Places.{IsNextLine, IsPlaceFrom, NoneBetween}
 use Rattle.nm_process.specs.Processes.{ProcessView}
 use Rattle.nm_process.specs.Starts.{HasTried}
 use Rattle.nm_process.specs.Steps.{HasStepped, can_go_on_by, goes_on}
@@ -25,7 +25,7 @@ waits_not_ran : Waits ≡ Took → ⊥
 waits_not_ran is = cc
 
 pub waited : (shape : Sizes) (lines : List Line) (a b : ProcessView) (place : ℕ) (l : Line) →
-    IsAtWork shape lines a → IsNext lines a.rank.me a.next place l →
+    IsAtWork shape lines a → IsNextLine lines a.rank.me a.next place l →
     HasTried a b l.command (place + 2) Waits →
     goes_on (commands_of a.rank.me lines) a ≡ false
 waited shape lines a b place l work is tried =
@@ -57,7 +57,7 @@ by_names shape lines a (command.Mprobe m from tag ctx) work = refl
 by_names shape lines a (command.Mrecv q m room) work = refl
 
 pub next_goes_on : (shape : Sizes) (lines : List Line) (a : ProcessView) (place : ℕ) (l : Line) →
-    IsAtWork shape lines a → IsNext lines a.rank.me a.next place l →
+    IsAtWork shape lines a → IsNextLine lines a.rank.me a.next place l →
     can_go_on_by a l.command ≡ goes_on (commands_of a.rank.me lines) a
 next_goes_on shape lines a place l work is = by_names shape lines a l.command work
     ∙ sym (ap (λ (o : Option Numbered). option_map_or
@@ -81,7 +81,7 @@ tried_counted a v c line s at next tried =
 
 -- what a step that is no waiting came to
 pub stepped : (lines : List Line) (a b : ProcessView) (place : ℕ) (l : Line) (s : Step) →
-    IsNext lines a.rank.me a.next place l → (s ≡ Waits → ⊥) → b.at ≡ a.at + 1 →
+    IsNextLine lines a.rank.me a.next place l → (s ≡ Waits → ⊥) → b.at ≡ a.at + 1 →
     IsPlaceFrom lines a.rank.me (place + 1) b.next →
     HasTried a (record b { at = a.at; next = a.next }) l.command (place + 2) s → HasStepped lines a b s
 stepped lines a b place l Waits is moves at next tried = absurd (moves refl)
@@ -96,7 +96,7 @@ stepped lines a b place l Took is moves at next tried = record {
 }
 
 pub ran_step : (shape : Sizes) (lines : List Line) (a b : ProcessView) (place : ℕ) (l : Line) (s : Step) →
-    IsAtWork shape lines a → IsNext lines a.rank.me a.next place l → (s ≡ Waits → ⊥) →
+    IsAtWork shape lines a → IsNextLine lines a.rank.me a.next place l → (s ≡ Waits → ⊥) →
     b.at ≡ a.at + 1 → IsPlaceFrom lines a.rank.me (place + 1) b.next → AreRight b.rank.sizes.ranks [] b.rank.events →
     HasTried a (record b { at = a.at; next = a.next }) l.command (place + 2) s → IsAtWork shape lines b
 ran_step shape lines a b place l Waits work is moves at next right tried = absurd (moves refl)

@@ -12,7 +12,7 @@ use Rattle.std.proofs.lemmas.Option.{slice_get_cases, slice_get_read, slice_get_
 use Rattle.nm_types.specs.declared.scripts.Command.{Command}
 use Rattle.nm_types.specs.declared.scripts.Line.{Line}
 use Rattle.nm_types.specs.Commands.{Numbered, commands_from, commands_of, command_at}
-use Rattle.nm_process.specs.Places.{IsNext, IsOwnLine, NoneBetween}
+use Rattle.nm_process.specs.Places.{IsNextLine, IsOwnLine, NoneBetween}
 use Rattle.nm_process.specs.Steps.{is_look}
 use Rattle.nm_types.proofs.TruthLemmas.{and_left, and_right}
 
@@ -110,7 +110,7 @@ found_here me number (suc place) (x ∷ lines) l here mine =
 -- a place at which the loop finds a line of the rank
 pub next_here : (lines : List Line) (me next place : ℕ) (x : Line) → place < length lines →
     x ≡ get_or lines place x → x.rank ≡ me → next ≤ place → NoneBetween lines me next place →
-    IfSome (slice_get lines place) (IsNext lines me next place)
+    IfSome (slice_get lines place) (IsNextLine lines me next place)
 next_here lines me next place x inside is rank past first =
     let here : slice_get lines place ≡ Some x = slice_get_read lines (length lines) place x refl inside is
     in
@@ -154,7 +154,7 @@ none_left lines me next place past first =
     ∙ sym (take_all place lines past)) ∙ first
 
 -- the command of a rank's next place, its line and the count after it
-pub next_command : (lines : List Line) (me next place at : ℕ) (l : Line) → IsNext lines me next place l →
+pub next_command : (lines : List Line) (me next place at : ℕ) (l : Line) → IsNextLine lines me next place l →
     length (commands_of me (take next lines)) ≡ at →
     slice_get (commands_of me lines) at ≡ Some (record { line = place + 2; command = l.command })
 next_command lines me next place at l is counted =
@@ -162,7 +162,7 @@ next_command lines me next place at l is counted =
     ∙ command_here me 2 place lines l is.here is.mine
     ∙ ap (λ (k : ℕ). Some (numbered k l)) (omega arith)
 
-pub next_found : (lines : List Line) (me next place : ℕ) (l : Line) → IsNext lines me next place l →
+pub next_found : (lines : List Line) (me next place : ℕ) (l : Line) → IsNextLine lines me next place l →
     command_at (commands_of me lines) (place + 2) ≡ Some l.command
 next_found lines me next place l is =
     let sum : 2 + place ≡ place + 2 = omega arith in
@@ -170,7 +170,7 @@ next_found lines me next place l is =
     (subst (λ (k : ℕ). find (λ (c : Numbered). c.line == k) (commands_from me 2 lines) ≡ Some
     (numbered k l)) sum (found_here me 2 place lines l is.here is.mine))
 
-pub next_counted : (lines : List Line) (me next place at : ℕ) (l : Line) → IsNext lines me next place l →
+pub next_counted : (lines : List Line) (me next place at : ℕ) (l : Line) → IsNextLine lines me next place l →
     length (commands_of me (take next lines)) ≡ at →
     length (commands_of me (take (place + 1) lines)) ≡ at + 1
 next_counted lines me next place at l is counted =
@@ -204,7 +204,7 @@ all_at test (l ∷ lines) (suc place) x all here = all_at test lines place x
 
 -- the line of a rank's next command
 pub line_of_next : (lines : List Line) (me next place at : ℕ) → place < length lines →
-    IfSome (slice_get lines place) (IsNext lines me next place) →
+    IfSome (slice_get lines place) (IsNextLine lines me next place) →
     length (commands_of me (take next lines)) ≡ at →
     option_map (λ c. c.line) (slice_get (commands_of me lines) at) ≡ Some (place + 2)
 line_of_next lines me next place at inside is counted = by_case (slice_get_cases lines place).1 where
@@ -213,7 +213,7 @@ line_of_next lines me next place at inside is counted = by_case (slice_get_cases
       option_map (λ c. c.line) (slice_get (commands_of me lines) at) ≡ Some (place + 2)
   by_case (inl there) = ap (λ (o : Option Numbered). option_map (λ c. c.line) o)
       (next_command lines me next place at there.0
-      (subst (λ (o : Option Line). IfSome o (IsNext lines me next place)) there.2 is) counted)
+      (subst (λ (o : Option Line). IfSome o (IsNextLine lines me next place)) there.2 is) counted)
   by_case (inr past) = let none : place < place = omega (arith, inside, past.0) in absurd (omega arith)
 
 -- whether the next command looks at what came

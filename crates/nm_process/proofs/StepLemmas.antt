@@ -47,7 +47,7 @@ use Rattle.nm_rank.specs.Ranks.{request_of}
 use Rattle.nm_rank.specs.Requests.{cancel_answer as cancelled, cancel_events}
 use Rattle.nm_process.specs.declared.steps.Step.TheVariants.{Ran as Took}
 use Rattle.nm_process.specs.Names.{handled, named}
-use Rattle.nm_process.specs.Places.{IsNext, IsPlaceFrom}
+use Rattle.nm_process.specs.Places.{IsNextLine, IsPlaceFrom}
 use Rattle.nm_process.specs.Processes.{ProcessView}
 use Rattle.nm_process.specs.Starts.{HasAnswered, HasAwaited, HasCancelled, HasClaimed, HasEnded}
 use Rattle.nm_process.specs.Starts.{HasFoundNone, HasMatched, HasProbed, HasStarted, HasTried, IsBusy}
@@ -101,7 +101,7 @@ right_front ranks h e f k is right =
     (subst (λ (k : List Event). AreRight ranks [] k) (is ∙ append_assoc h (e ∷ []) (f ∷ [])) right)).0
 
 module _ (shape : Sizes) (lines : List Line) (a b : ProcessView) (place : ℕ) (l : Line)
-    (work : IsAtWork shape lines a) (is : IsNext lines a.rank.me a.next place l)
+    (work : IsAtWork shape lines a) (is : IsNextLine lines a.rank.me a.next place l)
     (at : b.at ≡ a.at + 1) (next : IsPlaceFrom lines a.rank.me (place + 1) b.next) where
   sends_one : (q to tag ctx : ℕ) (body : Body) (sync : Bool) →
       l.command ≡ command.Send q to tag ctx body sync →

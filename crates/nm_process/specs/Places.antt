@@ -20,7 +20,7 @@ pub record IsPlaceFrom (lines : List Line) (me from place : ℕ) : Type 0 where
   pub own : IsOwnLine lines me place
 
 -- the rank's next command stands at this place
-pub record IsNext (lines : List Line) (me next place : ℕ) (l : Line) : Type 0 where
+pub record IsNextLine (lines : List Line) (me next place : ℕ) (l : Line) : Type 0 where
   pub here : slice_get lines place ≡ Some l
   pub mine : (l.rank == me) ≡ true
   pub past : next ≤ place

@@ -12,7 +12,7 @@ ghost use Rattle.nm_request.specs.declared.Req.{Req};
 ghost use Rattle.nm_rank.specs.New.{IsNew};
 ghost use Rattle.nm_rank.specs.Ranks.{IsFresh};
 ghost use Rattle.nm_process.specs.Lines.{AreLines};
-ghost use Rattle.nm_process.specs.Places.{IsNext, IsPlaceFrom, NoneBetween};
+ghost use Rattle.nm_process.specs.Places.{IsNextLine, IsPlaceFrom, NoneBetween};
 ghost use Rattle.nm_process.specs.Starts.{HasTried};
 ghost use Rattle.nm_process.specs.Steps.{HasStepped, can_go_on_by, goes_on, is_look, looks_on};
 ghost use Rattle.nm_process.specs.Names.{named};
@@ -176,7 +176,7 @@ impl Process {
     fn next_place(&self, lines: &[Line]) -> Option<usize>
         ensures some { IfSome result (λ place. (place < length lines.now)
             × IfSome (slice_get lines.now place)
-            (IsNext lines.now self.now.rank.me self.now.next place)) }
+            (IsNextLine lines.now self.now.rank.me self.now.next place)) }
         ensures none { IfNone result ((shape : Sizes) → IsAtWork shape lines.now self.now →
             NoneBetween lines.now self.now.rank.me self.now.next (length lines.now)) }
     {

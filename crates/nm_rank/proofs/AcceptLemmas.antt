@@ -24,9 +24,9 @@ use Rattle.nm_history.proofs.Basic.{self_true}
 use Rattle.nm_eager.specs.Streams.{Stream, missing, nothing_came, is_kept, after}
 use Rattle.nm_rndv.specs.Offers.{Offering, destined, with_answer, with_clearance, with_destined}
 use Rattle.nm_sending.specs.Departures.{SendingView}
-use Rattle.nm_sending.specs.Sent.{AreSent, Keeps, MayBeAnswered, is_of_sending}
+use Rattle.nm_sending.specs.Sent.{AreSent, Preserves, MayBeAnswered, is_of_sending}
 use Rattle.nm_receiving.specs.Receipts.{AddsBytes, ReceivingView, came_of, of_eager, stream_of}
-use Rattle.nm_receiving.specs.Received.{AreReceived, Follows, TakesPacket, is_of_receiving}
+use Rattle.nm_receiving.specs.Received.{AreReceived, PreservesSender, TakesPacket, is_of_receiving}
 use Rattle.nm_rank.specs.Calls.{offers_by}
 use Rattle.nm_rank.specs.Fields.{endings}
 use Rattle.nm_rank.specs.Takes.{Accepts, MayBeAccepted}
@@ -112,7 +112,7 @@ pub accepts-take : (p : Packet) (s : SendingView) (r r' : ReceivingView) → is_
     → r'.streams ≡ slice_set r.streams p.from (after (stream_of r p.from) p.what p.payload)
     → ((known : Known) → known.count ≡ (stream_of r p.from).count →
     known.missing ≡ missing (stream_of r p.from) →
-    Follows r' p.from (learned known p.what (length p.payload)))
+    PreservesSender r' p.from (learned known p.what (length p.payload)))
     → ((known : Known) → known.count ≡ (stream_of r p.from).count →
     AddsBytes (of_eager p.from (λ n. bytes_in n known p.what p.payload)) r r')
     → r'.sizes ≡ r.sizes → r'.drawn ≡ r.drawn → endings r' ≡ endings r → StaysSent
@@ -181,7 +181,7 @@ pub accepts-ok : (res : Result Bool Memory) (p : Packet) (s : SendingView) (r r'
     → OnOk res (r'.streams ≡ slice_set r.streams p.from (after (stream_of r p.from) p.what p.payload))
     → OnOk res ((known : Known) → known.count ≡ (stream_of r p.from).count →
     known.missing ≡ missing (stream_of r p.from) →
-    Follows r' p.from (learned known p.what (length p.payload)))
+    PreservesSender r' p.from (learned known p.what (length p.payload)))
     → OnOk res ((known : Known) → known.count ≡ (stream_of r p.from).count →
     AddsBytes (of_eager p.from (λ n. bytes_in n known p.what p.payload)) r r')
     → OnOk res (r'.sizes ≡ r.sizes) → OnOk res (r'.drawn ≡ r.drawn) → OnOk res (endings r' ≡ endings r)
@@ -205,7 +205,7 @@ clear-length false from n = refl
 pub accepts-clear : (p : Packet) (n : ℕ) (s s' : SendingView) (r : ReceivingView) (b : Bool)
     → p.what ≡ what.Clear n
     → ((h : List Event) → AreSent s h → b ≡ is_empty_send h p.from n)
-    → Keeps s s' (if b then event.Out p.from n ∷ [] else [])
+    → Preserves s s' (if b then event.Out p.from n ∷ [] else [])
     → s'.offers ≡ with_clearance s.offers p.from n
     → s.staying ≡ s'.staying + (if b then 1 else 0) → s'.outbox ≡ s.outbox → s'.pushed ≡ s.pushed
     → StaysReceived
@@ -379,7 +379,7 @@ may-undo s r p n done e m =
 
 pub accepts-undo : (p : Packet) (n : ℕ) (done : Bool) (s s' : SendingView) (r : ReceivingView)
     → p.what ≡ what.Withdrawn n done
-    → Keeps s s' (event.Undone p.from n done ∷ [])
+    → Preserves s s' (event.Undone p.from n done ∷ [])
     → s'.staying ≡ s.staying
     → s'.offers ≡ with_destined s.offers p.from (with_answer (destined s.offers p.from) n done)
     → s'.outbox ≡ s.outbox → s'.pushed ≡ s.pushed

@@ -31,7 +31,7 @@ use Rattle.nm_rank.proofs.LeaveLemmas.{StaysSent, StaysReceived}
 use Rattle.nm_sending.specs.Outboxes.{OutboxView}
 use Rattle.nm_request.specs.declared.Kind.TheVariants as kind
 use Rattle.nm_sending.specs.Departures.{SendingView}
-use Rattle.nm_sending.specs.Sent.{AreSent, Keeps, Puts, only_to}
+use Rattle.nm_sending.specs.Sent.{AreSent, Preserves, Puts, only_to}
 use Rattle.nm_rndv.specs.Offers.{Offering, destined, with_destined, with_recall}
 use Rattle.nm_rank.specs.Requests.{cancel_events, offers_cancelled, withdrawal_of}
 use Rattle.nm_rank.proofs.PutLemmas.{puts-same}
@@ -55,7 +55,7 @@ again s to n h events was e a =
 -- one that was not is recalled now
 pub first : (s s' : SendingView) (to n : ℕ) (h events : List Event) → happened (is_recall to n) h ≡ false
     → happenings events ≡ cancel_events h (kind.Send to n) → AreSent s h
-    → Keeps s s' (event.Recall to n ∷ [])
+    → Preserves s s' (event.Recall to n ∷ [])
     → AreSent s' (h ++ events) × ((ranks : ℕ) → AreRight ranks h events)
 first s s' to n h events was e a kept = kept h events (rw was at e) a
 

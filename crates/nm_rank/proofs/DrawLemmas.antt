@@ -23,7 +23,7 @@ use Rattle.nm_request.specs.Requests.{Live}
 use Rattle.nm_sending.specs.Departures.{SendingView}
 use Rattle.nm_sending.specs.Sent.{is_of_sending}
 use Rattle.nm_receiving.specs.Receipts.{ReceivingView, drawn_from}
-use Rattle.nm_receiving.specs.Received.{Keeps}
+use Rattle.nm_receiving.specs.Received.{Preserves}
 use Rattle.nm_rank.specs.Fields.{AreFields, endings}
 use Rattle.nm_rank.specs.Ranks.{known_from, count_of}
 use Rattle.nm_rank.proofs.Goes.{requests-more}
@@ -74,7 +74,7 @@ pub fields-draw : (me : ℕ) (sizes : Sizes) (j j' : JournalView) (s : SendingVi
     → j'.events ≡ j.events ++ stamped j.clock ws
     → j'.clock ≡ j.clock + length ws → j.spare ≤ j'.spare + length ws → s.staying + 2 ≤ j.spare
     → ws ≡ piece_makes p.from due p
-    → Keeps r r' ws
+    → Preserves r r' ws
     → r' ≡ record r { grants = r'.grants; receipts = r'.receipts; drawn = r'.drawn }
     → r'.drawn ≡ slice_set r.drawn p.from (drawn_from r p.from + (if continued then 1 else 0))
     → p.from < sizes.ranks → p.number ≡ count_of pulled p.from → StaysSent

@@ -21,7 +21,7 @@ use Rattle.nm_sending.specs.Outboxes.{OutboxView, popped_to}
 use Rattle.nm_request.specs.Requests.{Live}
 use Rattle.nm_rndv.specs.Offers.{Offering, first_leaving, next_offered, with_popped}
 use Rattle.nm_sending.specs.Departures.{SendingView}
-use Rattle.nm_sending.specs.Sent.{AreSent, Keeps, outs, is_of_sending}
+use Rattle.nm_sending.specs.Sent.{AreSent, Preserves, outs, is_of_sending}
 use Rattle.nm_receiving.specs.Receipts.{ReceivingView}
 use Rattle.nm_receiving.specs.Received as received
 use Rattle.nm_receiving.specs.Received.{AreReceived, is_of_receiving}
@@ -55,7 +55,7 @@ pub fields-leave : (me : ℕ) (sizes : Sizes) (j j' : JournalView) (s s' : Sendi
     → j'.events ≡ j.events ++ stamped j.clock (outs m)
     → j.clock ≤ j'.clock → j.spare ≤ j'.spare + length (outs m)
     → s.staying ≡ s'.staying + length (outs m)
-    → Keeps s s' (outs m)
+    → Preserves s s' (outs m)
     → s'.outbox.me ≡ s.outbox.me → length s'.outbox.popped ≡ length s.outbox.popped
     → s'.offers.order ≡ s.offers.order
     → StaysReceived
@@ -158,7 +158,7 @@ pub fields-claim : (me : ℕ) (sizes : Sizes) (j j' : JournalView) (s : SendingV
     → AreFields me sizes j s r known q took pulled
     → j'.events ≡ j.events ++ stamped j.clock (event.Claim from n line ∷ [])
     → j'.clock ≡ j.clock + 1 → j.spare ≤ j'.spare + 1 → s.staying + 2 ≤ j.spare
-    → StaysSent → received.Keeps r r' (event.Claim from n line ∷ [])
+    → StaysSent → received.Preserves r r' (event.Claim from n line ∷ [])
     → r' ≡ record r { deeds = r'.deeds }
     → AreFields me sizes j' s r' known q took pulled
 fields-claim me sizes j j' s r r' known q took pulled from n line a e c room two sent kept same =

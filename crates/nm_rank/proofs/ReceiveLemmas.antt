@@ -24,7 +24,7 @@ use Rattle.nm_sending.specs.Departures.{SendingView}
 use Rattle.nm_sending.specs.Sent.{AreSent, is_of_sending}
 use Rattle.nm_receiving.specs.declared.receipts.Receive.{Receive}
 use Rattle.nm_receiving.specs.Receipts.{ReceivingView, is_empty_ask, taken_events}
-use Rattle.nm_receiving.specs.Received.{Keeps}
+use Rattle.nm_receiving.specs.Received.{Preserves}
 use Rattle.nm_rank.specs.Fields.{AreFields, endings}
 use Rattle.nm_rank.proofs.Goes.{acts, requests-more, sent-outbox}
 use Rattle.nm_rank.proofs.RequestLemmas.{adds-receive}
@@ -92,7 +92,7 @@ pub fields-receive : (me : ℕ) (sizes : Sizes) (j j' j'' : JournalView) (s s' :
     → ((i : ℕ) → tells i w ≡ false) → is_of_sending w ≡ false
     → ((v : SendingView) (h events : List Event)
     → AllByRecursion (λ e. is_of_sending e.what ≡ false) events → AreSent v h → AreSent v (h ++ events))
-    → Keeps r r' (w ∷ taken_events t)
+    → Preserves r r' (w ∷ taken_events t)
     → r'.sizes ≡ r.sizes → r'.streams ≡ r.streams → r'.drawn ≡ r.drawn
     → r'.receives ≡ r.receives ++ v ∷ [] → v.ended ≡ false → number ≡ length r.receives
     → AddsRequest q q' x (kind.Receive number)

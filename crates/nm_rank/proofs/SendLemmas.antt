@@ -19,7 +19,7 @@ use Rattle.nm_request.specs.declared.Kind.TheVariants as kind
 use Rattle.nm_request.specs.Requests.{Live, AddsRequest}
 use Rattle.nm_rndv.specs.Offers.{Offering, destined, with_asked, with_destined}
 use Rattle.nm_sending.specs.Departures.{SendingView}
-use Rattle.nm_sending.specs.Sent.{Keeps}
+use Rattle.nm_sending.specs.Sent.{Preserves}
 use Rattle.nm_receiving.specs.Receipts.{ReceivingView}
 use Rattle.nm_receiving.specs.Received.{AreReceived}
 use Rattle.nm_rank.specs.Fields.{AreFields}
@@ -50,7 +50,7 @@ pub fields-send : (me : ℕ) (sizes : Sizes) (j j' : JournalView) (s s' : Sendin
     → j'.events ≡ j.events ++ stamped j.clock (event.Send to n tag ctx len how line ∷ [])
     → j'.clock ≡ j.clock + 1 → j.spare ≤ j'.spare + 1 → s.staying + 2 ≤ j.spare
     → s'.staying ≡ s.staying + 1
-    → Keeps s s' (event.Send to n tag ctx len how line ∷ [])
+    → Preserves s s' (event.Send to n tag ctx len how line ∷ [])
     → s'.outbox.me ≡ s.outbox.me → s'.outbox.popped ≡ s.outbox.popped
     → s'.offers.order ≡ s.offers.order
     → AreReceived r (j.events ++ stamped j.clock (event.Send to n tag ctx len how line ∷ []))

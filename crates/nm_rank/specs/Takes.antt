@@ -15,13 +15,13 @@ use Rattle.nm_history.specs.Rules.{AreRight}
 use Rattle.nm_sending.specs.Departures.{SendingView, cleared_to}
 use Rattle.nm_sending.specs.Sent.{AreSent, only_to}
 use Rattle.nm_receiving.specs.Receipts.{AddsBytes, ReceivingView, of_eager, stream_of}
-use Rattle.nm_receiving.specs.Received.{AreReceived, Follows}
+use Rattle.nm_receiving.specs.Received.{AreReceived, PreservesSender}
 use Rattle.nm_rank.specs.Calls.{offers_by}
 use Rattle.nm_rank.specs.Fields.{endings}
 
 -- what the packets of a rank tell is what came of its messages, and which messages it cleared
 pub record Tells (known : Known) (from : ℕ) (s : SendingView) (r : ReceivingView) : Type 0 where
-  pub told : Follows r from known
+  pub told : PreservesSender r from known
   pub cleared : known.cleared ≡ cleared_to s from
 
 -- The packet continues its stream, by some history and by what is known of its sender.

@@ -19,7 +19,7 @@ use Rattle.nm_receiving.proofs.DueLemmas.{due-first}
 use Rattle.nm_receiving.proofs.PieceLemmas.{due_of_grants-first}
 use Rattle.nm_receiving.specs.declared.receipts.Receipt.{Receipt}
 use Rattle.nm_receiving.specs.declared.receipts.Receive.{Receive}
-use Rattle.nm_receiving.specs.Kept.{IsKept}
+use Rattle.nm_receiving.specs.Kept.{ReceivingInvariant}
 use Rattle.nm_receiving.specs.Receipts.{ReceivingView, pair_with, receipt_of}
 use Rattle.nm_receiving.specs.Received.{AreReceived}
 use Rattle.nm_receiving.proofs.Dues.{pair}
@@ -72,7 +72,7 @@ complete_none v h received number none =
     (sym (received.pairs number) ∙ ap (λ (o : Option Receive). option_and_then (pair_with number) o) none)
 
 -- the message that a receive took is here
-pub taken_here : (v : ReceivingView) → IsKept v → (number : ℕ) (r : Receive) → slice_get v.receives number ≡ Some r
+pub taken_here : (v : ReceivingView) → ReceivingInvariant v → (number : ℕ) (r : Receive) → slice_get v.receives number ≡ Some r
     → IfSome r.taken (λ a. IsSome (receipt_of v a.env.from a.n))
 taken_here v kept number r here = by r.taken refl
   where

@@ -26,7 +26,7 @@ use Rattle.nm_eager.specs.Streams.{Stream, missing}
 use Rattle.nm_rndv.specs.Grants.{Granted, fresh, grant_in, is_open}
 use Rattle.nm_receiving.specs.declared.receipts.Receipt.{Receipt}
 use Rattle.nm_receiving.specs.declared.receipts.Receive.{Receive}
-use Rattle.nm_receiving.specs.Kept.{AreGrantedFor, AreTables, HasBytes, IsCleared, IsKept}
+use Rattle.nm_receiving.specs.Kept.{AreGrantedFor, TablesAgree, HasBytes, IsCleared, ReceivingInvariant}
 use Rattle.nm_receiving.specs.Receipts.{ReceivingView, granted_to, receipt_of, receipts_from, stream_of}
 use Rattle.nm_receiving.specs.Steps.{made_whole, rows_from, rows_with_whole, with_whole}
 use Rattle.nm_receiving.proofs.Coming.{HasCap, came, came_here, newcomer, stood-came, taken_by, with_newcomer}
@@ -43,7 +43,7 @@ use Rattle.nm_receiving.proofs.Taking.{IsAtOnce, IsNext, keeps-came, marked_if}
 use Rattle.nm_types.proofs.OptionLemmas.{mapped_none, mapped_some, some_and}
 
 -- the posted receive that takes a message is there
-pub receive_caps : (v : ReceivingView) (kept : IsKept v) (a : Arrival) (o : Option post.Post)
+pub receive_caps : (v : ReceivingView) (kept : ReceivingInvariant v) (a : Arrival) (o : Option post.Post)
     → first_receive (history_of v.deeds) (matched_pairs (history_of v.deeds)) a.env ≡ o
     → (p : post.Post) → o ≡ Some p → (r : Receive) × HasCap v.receives p r
 receive_caps v kept a o oldest p is =
@@ -55,7 +55,7 @@ receive_caps v kept a o oldest p is =
     (first_receive-stands v.deeds h kept.received.stands a.env ∙ oldest ∙ is)) in
     (there.0, record { there = there.1; cap = there.2 })
 
-module _ (v : ReceivingView) (kept : IsKept v) (streams : List Stream) (a : Arrival) (o : Option post.Post)
+module _ (v : ReceivingView) (kept : ReceivingInvariant v) (streams : List Stream) (a : Arrival) (o : Option post.Post)
     (next : IsNext v a)
     (long : AreLonger v streams a) (oldest : first_receive (history_of v.deeds) (matched_pairs (history_of v.deeds))
     a.env ≡ o) where
@@ -104,7 +104,7 @@ module _ (v : ReceivingView) (kept : IsKept v) (streams : List Stream) (a : Arri
       by None is = absurd (let h' : ⊥ = cc in h')
       by (Some p) is = refl
 
-  tables1 : AreTables v1 h1
+  tables1 : TablesAgree v1 h1
   tables1 = tables-came v h h1 stood0 streams a taker kept.tables next.receipts next.grants next.next long
       (names_of v h kept.received) (option_to_list (option_map (λ p. pair_of p a) o)) grown1 paired
       (posts_still h e refl)
@@ -185,7 +185,7 @@ module _ (v : ReceivingView) (kept : IsKept v) (streams : List Stream) (a : Arri
   }
 
   pub kept-came : (b : Bool) → IsAtOnce a o b → (b ≡ true → MayMark v1 h1 a.env.from a.n (newcomer a)) →
-      IsKept (marked_if b v1 a.env.from a.n)
+      ReceivingInvariant (marked_if b v1 a.env.from a.n)
   kept-came false at_once may =
       goes_on v v1 kept (e ∷ []) refl
       (keeps-came v streams a o false next at_once (receive_caps v kept a o oldest) h kept.received kept.right oldest0
@@ -197,7 +197,7 @@ module _ (v : ReceivingView) (kept : IsKept v) (streams : List Stream) (a : Arri
       (keeps-came v streams a o true next at_once (receive_caps v kept a o oldest) h kept.received kept.right oldest0
       (e ∷ x ∷ []) refl)
       (λ i k. refl)
-      (subst (λ (k : List Event). AreTables (marked v1 a.env.from a.n) k) (append_assoc h (e ∷ []) (x ∷ []))
+      (subst (λ (k : List Event). TablesAgree (marked v1 a.env.from a.n) k) (append_assoc h (e ∷ []) (x ∷ []))
       (tables-marked v1 h1 (h1 ++ x ∷ []) stood1 a.env.from a.n (newcomer a) tables1 (like-push h1 x refl refl)
       (may refl)))
       (subst (λ (k : List Event). AreGrantedFor (marked v1 a.env.from a.n) k) (append_assoc h (e ∷ []) (x ∷ []))
@@ -226,7 +226,7 @@ row_came rows a true inside next =
     whole_last row r n last = rw (slice_get-last row r n last) (set_at row r [] (made_whole r) n (sym last))
 
 -- the next message of a rank has no grant yet
-pub none_granted_yet : (v : ReceivingView) (kept : IsKept v) (from n : ℕ) → n ≡ length (receipts_from v from) →
+pub none_granted_yet : (v : ReceivingView) (kept : ReceivingInvariant v) (from n : ℕ) → n ≡ length (receipts_from v from) →
     grant_in (granted_to v from) n ≡ None
 none_granted_yet v kept from n next = by (grant_in (granted_to v from) n) refl
   where

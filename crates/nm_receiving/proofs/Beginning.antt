@@ -10,7 +10,7 @@ use Rattle.std.proofs.lemmas.List.Elements.{All-nil}
 use Rattle.std.proofs.lemmas.List.FromFn.{get_or-map-range_with_len, length-map-range_with_len}
 use Rattle.std.specs.Prelude.{IsSomeAnd}
 use Rattle.nm_types.specs.declared.messages.Post as post
-use Rattle.nm_match.specs.Deeds.{Stands, deeds_of}
+use Rattle.nm_match.specs.Deeds.{Represents, deeds_of}
 use Rattle.nm_history.specs.Matching.{matched_pairs}
 use Rattle.nm_eager.specs.Joining.{Joining, stream_from}
 use Rattle.nm_eager.specs.Streams.{Stream, nothing_came}
@@ -18,7 +18,7 @@ use Rattle.nm_rndv.specs.Grants.{Granted}
 use Rattle.nm_receiving.specs.Pieces.{AreDue}
 use Rattle.nm_receiving.specs.declared.receipts.Receipt.{Receipt}
 use Rattle.nm_receiving.specs.declared.receipts.Receive.{Receive}
-use Rattle.nm_receiving.specs.Kept.{AreTables, IsCleared, IsKept}
+use Rattle.nm_receiving.specs.Kept.{TablesAgree, IsCleared, ReceivingInvariant}
 use Rattle.nm_receiving.specs.Receipts.{ReceivingView, drawn_from, granted_to, receipt_of, receipts_from, stream_of}
 use Rattle.nm_receiving.specs.Received.{AreReceived}
 use Rattle.nm_receiving.specs.Steps.{streams_of}
@@ -88,7 +88,7 @@ module _ (v : ReceivingView) (empty : IsEmpty v) where
   never_receive : {P : Type 0} (k : ℕ) (r : Receive) → slice_get v.receives k ≡ Some r → P
   never_receive k r is = let none = no_receive k in absurd (let h : ⊥ = cc in h)
 
-  stands-none : Stands v.deeds []
+  stands-none : Represents v.deeds []
   unfolding deeds_of
   stands-none = empty.deeds
 
@@ -110,7 +110,7 @@ module _ (v : ReceivingView) (empty : IsEmpty v) where
     empty = tt;
   }
 
-  tables-none : AreTables v []
+  tables-none : TablesAgree v []
   tables-none = record {
     streams = empty.streams';
     grants = ap length empty.grants ∙ length-replicate v.sizes.ranks [];
@@ -131,7 +131,7 @@ module _ (v : ReceivingView) (empty : IsEmpty v) where
     caps = All-nil (λ (p : post.Post). IsSomeAnd (slice_get v.receives p.number) (λ r. r.cap ≡ p.cap));
   }
 
-  pub kept-none : IsKept v
+  pub kept-none : ReceivingInvariant v
   kept-none = record {
     history = [];
     received = received-none;

@@ -21,7 +21,7 @@ use Rattle.nm_eager.specs.Streams.{continues, is_eager, lacking, message_of, mis
 use Rattle.nm_eager.specs.Streams.{with_more as with_more_bytes}
 use Rattle.nm_eager.proofs.MessageLemmas.{Lacks-below, find-lacks}
 use Rattle.nm_rndv.specs.Grants.{Granted, fresh, grant_in, with_grant, with_more, with_piece}
-use Rattle.nm_receiving.specs.Kept.{IsKept}
+use Rattle.nm_receiving.specs.Kept.{ReceivingInvariant}
 use Rattle.nm_receiving.specs.Receipts.{AddsBytes, ReceivingView, SameBytes, came_of, granted_to, of_asked}
 use Rattle.nm_receiving.specs.Receipts.{of_eager, stream_of}
 use Rattle.nm_receiving.specs.Steps.{grants_after, grants_with}
@@ -174,7 +174,7 @@ after-came eager s (what.Withdraw k) bytes known right goes counted n = sym (app
 after-came eager s (what.Withdrawn k done) bytes known right goes counted n =
     sym (append-nil (eager_came s n))
 
-pub packet-came : (v w : ReceivingView) → IsKept v → (p : Packet) → p.from < v.sizes.ranks
+pub packet-came : (v w : ReceivingView) → ReceivingInvariant v → (p : Packet) → p.from < v.sizes.ranks
     → w.streams ≡ set v.streams p.from (after (stream_of v p.from) p.what p.payload)
     → ((from n : ℕ) → asked_came (granted_to w from) n ≡ asked_came (granted_to v from) n)
     → (is_eager p.what ≡ true → IsStream (stream_of v p.from))

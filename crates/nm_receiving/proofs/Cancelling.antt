@@ -11,7 +11,7 @@ use Rattle.nm_history.specs.declared.events.Event.{Event}
 use Rattle.nm_history.specs.declared.events.Happened.TheVariants.{Cancel}
 use Rattle.nm_history.specs.Happens.{happened, is_cancel, is_whole}
 use Rattle.nm_match.specs.declared.deeds.Deed.{Deed}
-use Rattle.nm_match.specs.Deeds.{Stands, deeds_after}
+use Rattle.nm_match.specs.Deeds.{Represents, deeds_after}
 use Rattle.nm_match.proofs.StandsLemmas.{stands_push}
 use Rattle.nm_receiving.specs.declared.receipts.Receive.{Receive}
 use Rattle.nm_receiving.specs.Receipts.{ReceivingView, drawn_from, pair_with}
@@ -77,7 +77,7 @@ module _ (v : ReceivingView) (h : List Event) (stood : Stood v h) (stamp number 
 
     pub stood-cancelled : Stood cancelled_view (h ++ e true ∷ [])
     stood-cancelled = record {
-      stands = subst (λ (ds : List Deed). Stands ds (h ++ e true ∷ [])) (sym done)
+      stands = subst (λ (ds : List Deed). Represents ds (h ++ e true ∷ [])) (sym done)
           (stands_push v.deeds h (e true) stood.stands);
       arrived = λ from. stood.arrived from ∙ sym (ap length (arrivals_still h (e true) refl from));
       messages = λ from n. stood.messages from n ∙ sym (message_still h (e true) refl from n);

@@ -18,7 +18,7 @@ use Rattle.nm_match.specs.declared.deeds.Deed.{Deed}
 use Rattle.nm_match.specs.Deeds.{deeds_after}
 use Rattle.nm_receiving.specs.declared.receipts.Receive.{Receive}
 use Rattle.nm_receiving.specs.Receipts.{ReceivingView}
-use Rattle.nm_receiving.specs.Received.{AreReceived, Keeps}
+use Rattle.nm_receiving.specs.Received.{AreReceived, Preserves}
 use Rattle.nm_receiving.proofs.Events.{right-one, unstamp-one}
 use Rattle.nm_receiving.proofs.Facts.{empty_more}
 use Rattle.nm_receiving.proofs.Grow.{at, happened_later}
@@ -90,7 +90,7 @@ keeps-deeds v w deeds done silent no_arrival no_receive not_whole not_cancel h e
 pub keeps-claim : (v : ReceivingView) (from n line : ℕ) (deeds : List Deed)
     → deeds ≡ deeds_after v.deeds (Claim from n line)
     → ((h : List Event) → AreReceived v h → is_free_message h (matched_pairs h) from n ≡ true)
-    → Keeps v (with_deeds v deeds) (Claim from n line ∷ [])
+    → Preserves v (with_deeds v deeds) (Claim from n line ∷ [])
 keeps-claim v from n line deeds done free h events happens received right = (
   keeps-deeds v (Claim from n line) deeds done refl refl refl (λ _ _. refl) (λ _. refl) h events happens received,
   unstamp-one (λ events. AreRight v.sizes.ranks h events) events (Claim from n line)
@@ -120,7 +120,7 @@ right_cancel v h number done received late = record {
 
 pub keeps-late : (v : ReceivingView) (number : ℕ) →
     false ≡ not (list_any (is_of_receive number) (matched_pairs (history_of v.deeds)))
-    → Keeps v v (Cancel number false ∷ [])
+    → Preserves v v (Cancel number false ∷ [])
 keeps-late v number late h events happens received right =
     unstamp-one (λ events. AreReceived v (h ++ events) × AreRight v.sizes.ranks h events) events (Cancel number false)
     (λ s. (
@@ -134,7 +134,7 @@ pub keeps-cancelled : (v : ReceivingView) (number : ℕ) (r : Receive) → slice
     (deeds : List Deed)
     → deeds ≡ deeds_after v.deeds (Cancel number true)
     → true ≡ not (list_any (is_of_receive number) (matched_pairs (history_of v.deeds)))
-    → Keeps v (record v { deeds = deeds; receives = set v.receives number (has_cancelled r) }) (Cancel number true ∷ [])
+    → Preserves v (record v { deeds = deeds; receives = set v.receives number (has_cancelled r) }) (Cancel number true ∷ [])
 keeps-cancelled v number r here deeds done late h events happens received right =
     let v' : ReceivingView = record v { deeds = deeds; receives = set v.receives number (has_cancelled r) } in
     unstamp-one (λ events. AreReceived v' (h ++ events) × AreRight v.sizes.ranks h events) events (Cancel number true)

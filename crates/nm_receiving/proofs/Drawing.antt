@@ -30,10 +30,10 @@ use Rattle.nm_receiving.specs.Pieces.{due_of_grants}
 use Rattle.nm_receiving.proofs.DueLemmas.{due-first}
 use Rattle.nm_receiving.proofs.GrantLemmas.{fits-first, joined-made}
 use Rattle.nm_receiving.specs.declared.receipts.Receipt.{Receipt}
-use Rattle.nm_receiving.specs.Kept.{AreTables, IsKept}
+use Rattle.nm_receiving.specs.Kept.{TablesAgree, ReceivingInvariant}
 use Rattle.nm_receiving.specs.Receipts.{AddsBytes, ReceivingView, drawn_from, granted_to, of_asked}
 use Rattle.nm_receiving.specs.Receipts.{receipt_of}
-use Rattle.nm_receiving.specs.Received.{AreReceived, Keeps}
+use Rattle.nm_receiving.specs.Received.{AreReceived, Preserves}
 use Rattle.nm_receiving.specs.Steps.{rows_with_whole}
 use Rattle.nm_receiving.proofs.CameLemmas.{piece-came}
 use Rattle.nm_receiving.proofs.Changing.{keeps-piece}
@@ -69,7 +69,7 @@ pub stray_makes : (from : ℕ) (o : Option Due) (p : Piece) → false ≡ option
 stray_makes from None p stray = refl
 stray_makes from (Some due) p stray = ap (λ (b : Bool). whole_if (b && due.last) from p.n) stray
 
-pub keeps-stray : (v : ReceivingView) → Keeps v v []
+pub keeps-stray : (v : ReceivingView) → Preserves v v []
 keeps-stray v h events happens received right =
     unstamp-none (λ events. AreReceived v (h ++ events) × AreRight v.sizes.ranks h events) events
     (subst (λ (k : List Event). AreReceived v k) (sym (append-nil h)) received, tt) happens
@@ -80,7 +80,7 @@ made_some true from n (Some w) is = refl
 made_some false from n None is = refl
 made_some false from n (Some w) is = absurd (let h : ⊥ = cc in h)
 
-module _ (v : ReceivingView) (kept : IsKept v) (gs : Granting) (p : Piece) (same : gs.grants ≡ v.grants)
+module _ (v : ReceivingView) (kept : ReceivingInvariant v) (gs : Granting) (p : Piece) (same : gs.grants ≡ v.grants)
     (fits : Continues gs p)
     (sender : p.from < v.sizes.ranks) (did : Joined) (event : Option Happened)
     (joins : did ≡ joined_by (due_in (grants_from gs p.from)) p.at (length p.bytes))
@@ -189,24 +189,24 @@ module _ (v : ReceivingView) (kept : IsKept v) (gs : Granting) (p : Piece) (same
     },
   )
 
-  pub keeps-draw : Keeps v drawn_view (option_to_list event)
+  pub keeps-draw : Preserves v drawn_view (option_to_list event)
   keeps-draw h events happens received right =
       keeps-marked piecing p.from p.n ends h events (happens ∙ sym event_is) (received1 h received) right
       (λ _. may_end h received)
 
-  pub kept-draw : IsKept drawn_view
+  pub kept-draw : ReceivingInvariant drawn_view
   kept-draw = by ends refl
     where
       drawn1 : List ℕ
       drawn1 = set v.drawn p.from (drawn_from v p.from + 1)
 
-      tables1 : AreTables piecing kept.history
+      tables1 : TablesAgree piecing kept.history
       tables1 = tables-piece v kept.history p.from p.n p.bytes drawn1 found.0 found.1 found.2 kept.tables inside found.3
           (names_of v kept.history kept.received) (length-set v.drawn p.from (drawn_from v p.from + 1))
 
-      by : (b : Bool) → ends ≡ b → IsKept drawn_view
+      by : (b : Bool) → ends ≡ b → ReceivingInvariant drawn_view
       by false later =
-          subst (λ (b : Bool). IsKept (marked_if b piecing p.from p.n)) (sym later)
+          subst (λ (b : Bool). ReceivingInvariant (marked_if b piecing p.from p.n)) (sym later)
           (record {
             history = kept.history;
             received = received1 kept.history kept.received;
@@ -218,7 +218,7 @@ module _ (v : ReceivingView) (kept : IsKept v) (gs : Granting) (p : Piece) (same
           })
       by true last =
           let x : Event = at 0 (Whole p.from p.n) in
-          subst (λ (b : Bool). IsKept (marked_if b piecing p.from p.n)) (sym last)
+          subst (λ (b : Bool). ReceivingInvariant (marked_if b piecing p.from p.n)) (sym last)
           (goes_on v (marked piecing p.from p.n) kept (x ∷ []) refl
           (keeps-marked piecing p.from p.n true kept.history (x ∷ []) refl (received1 kept.history kept.received)
           kept.right

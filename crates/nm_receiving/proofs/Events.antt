@@ -9,7 +9,7 @@ use Rattle.nm_history.specs.Matching.{first_receive, matched_pairs}
 use Rattle.nm_history.specs.Effects.{happenings}
 use Rattle.nm_history.specs.Rules.{AreRight, IsRightAt}
 use Rattle.nm_match.specs.declared.deeds.Deed.{Deed}
-use Rattle.nm_match.specs.Deeds.{Stands}
+use Rattle.nm_match.specs.Deeds.{Represents}
 use Rattle.nm_match.proofs.StandsLemmas.{first_receive-stands, taken-stands}
 use Rattle.nm_receiving.proofs.Grow.{at}
 
@@ -49,12 +49,12 @@ pub right-two : (ranks : ℕ) (h : List Event) (e e' : Event) → IsRightAt rank
 right-two ranks h e e' right right' = (right, (right', tt))
 
 -- histories of the same deeds agree
-pub same_receive : (deeds : List Deed) (h k : List Event) → Stands deeds h → Stands deeds k → (env : Envelope)
+pub same_receive : (deeds : List Deed) (h k : List Event) → Represents deeds h → Represents deeds k → (env : Envelope)
     → first_receive h (matched_pairs h) env ≡ first_receive k (matched_pairs k) env
 same_receive deeds h k stands stands' env = first_receive-stands deeds h stands env
     ∙ sym (first_receive-stands deeds k stands' env)
 
-pub same_taken : (deeds : List Deed) (h k : List Event) → Stands deeds h → Stands deeds k → (from n : ℕ)
+pub same_taken : (deeds : List Deed) (h k : List Event) → Represents deeds h → Represents deeds k → (from n : ℕ)
     → is_taken h from n ≡ is_taken k from n
 same_taken deeds h k stands stands' from n = taken-stands deeds h stands from n
     ∙ sym (taken-stands deeds k stands' from n)

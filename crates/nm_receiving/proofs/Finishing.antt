@@ -25,7 +25,7 @@ use Rattle.nm_rndv.specs.Grants.{without_bytes}
 use Rattle.nm_rndv.proofs.StateLemmas.{equal}
 use Rattle.nm_receiving.specs.declared.receipts.Receipt.{Receipt}
 use Rattle.nm_receiving.specs.declared.receipts.Receive.{Receive}
-use Rattle.nm_receiving.specs.Kept.{AreGrantedFor, AreTables, HasBytes, IsCleared, IsGranted, IsJoined, IsKept}
+use Rattle.nm_receiving.specs.Kept.{AreGrantedFor, TablesAgree, HasBytes, IsCleared, IsGranted, IsJoined, ReceivingInvariant}
 use Rattle.nm_receiving.specs.Receipts.{ReceivingView, SameOtherBytes, came_of}
 use Rattle.nm_receiving.specs.Receipts.{granted_to, pair_at, receipt_of, stream_of}
 use Rattle.nm_receiving.specs.Received.{AreReceived}
@@ -55,15 +55,15 @@ abbrev pub ended_view : ReceivingView → ℕ → Receive → ReceivingView
 ended_view v number r = record v { receives = set v.receives number (has_ended r) }
 
 tables-ended : (v : ReceivingView) (h : List Event) (number : ℕ) (r : Receive) →
-    slice_get v.receives number ≡ Some r → AreTables v h
-    → AreTables (ended_view v number r) h
+    slice_get v.receives number ≡ Some r → TablesAgree v h
+    → TablesAgree (ended_view v number r) h
 tables-ended v h number r here tables =
     tables-receives v h h v.deeds (set v.receives number (has_ended r)) tables (record { pairs = refl; posts = refl })
     (later_set v.receives number r (has_ended r) here
     (record { taken = refl; ended = λ live. absurd (true≢false live) }) refl)
 
-pub kept-ended : (v : ReceivingView) (kept : IsKept v) (number : ℕ) (r : Receive) →
-    slice_get v.receives number ≡ Some r → IsKept (ended_view v number r)
+pub kept-ended : (v : ReceivingView) (kept : ReceivingInvariant v) (number : ℕ) (r : Receive) →
+    slice_get v.receives number ≡ Some r → ReceivingInvariant (ended_view v number r)
 kept-ended v kept number r here = record {
   history = kept.history;
   received = keeps-ended v number r here kept.history kept.received;
@@ -122,7 +122,7 @@ without_other s n k differ =
         true_too false = refl
     by m (inr other) = ap (λ (b : Bool). b && not (m.n == n)) (unequal m.n k other) ∙ sym (unequal m.n k other)
 
-module _ (v : ReceivingView) (kept : IsKept v) (number : ℕ) (r : Receive)
+module _ (v : ReceivingView) (kept : ReceivingInvariant v) (number : ℕ) (r : Receive)
     (here : slice_get v.receives number ≡ Some r) (live : r.ended ≡ false)
     (a : Arrival) (some : r.taken ≡ Some a) (m : Receipt) (came : receipt_of v a.env.from a.n ≡ Some m)
     (whole : m.whole ≡ true) where
@@ -169,7 +169,7 @@ module _ (v : ReceivingView) (kept : IsKept v) (number : ℕ) (r : Receive)
   names1 : (i k : ℕ) (x : Receipt) → receipt_of v i k ≡ Some x → (x.arrival.env.from ≡ i) × (x.arrival.n ≡ k)
   names1 = names_of v h kept.received
 
-  tables1 : AreTables v1 h
+  tables1 : TablesAgree v1 h
   tables1 = tables-ended v h number r here kept.tables
 
   owed1 : AreGrantedFor v1 h
@@ -259,7 +259,7 @@ module _ (v : ReceivingView) (kept : IsKept v) (number : ℕ) (r : Receive)
       once = still_once;
     }
 
-    kept-asked : IsKept (record v1 { grants = grants1 })
+    kept-asked : ReceivingInvariant (record v1 { grants = grants1 })
     kept-asked = record {
       history = h;
       received = received-asked h kept.received;
@@ -320,7 +320,7 @@ module _ (v : ReceivingView) (kept : IsKept v) (number : ℕ) (r : Receive)
       once = kept.tables.once;
     }
 
-    kept-eager : IsKept (record v1 { streams = streams1 })
+    kept-eager : ReceivingInvariant (record v1 { streams = streams1 })
     kept-eager = record {
       history = h;
       received = received-eager h kept.received;
@@ -368,12 +368,12 @@ module _ (v : ReceivingView) (kept : IsKept v) (number : ℕ) (r : Receive)
     left-eager : is_ask a.env.how ≡ false → missing (without s a.n) ≡ missing s
     left-eager how = subst (λ (b : Bool). missing (if b then s else without s a.n) ≡ missing s) how left
 
-    pub kept-finished : IsKept finished_view
+    pub kept-finished : ReceivingInvariant finished_view
     kept-finished = by (is_ask a.env.how) refl
       where
-        by : (b : Bool) → is_ask a.env.how ≡ b → IsKept finished_view
-        by true how = subst (λ (x : ReceivingView). IsKept x) (view-asked how) (kept-asked how in_grants)
-        by false how = subst (λ (x : ReceivingView). IsKept x) (view-eager how) (kept-eager in_streams (left-eager how))
+        by : (b : Bool) → is_ask a.env.how ≡ b → ReceivingInvariant finished_view
+        by true how = subst (λ (x : ReceivingView). ReceivingInvariant x) (view-asked how) (kept-asked how in_grants)
+        by false how = subst (λ (x : ReceivingView). ReceivingInvariant x) (view-eager how) (kept-eager in_streams (left-eager how))
 
     pub received-finished : (k : List Event) → AreReceived v k → AreReceived finished_view k
     received-finished k received = by (is_ask a.env.how) refl
@@ -426,7 +426,7 @@ module _ (v : ReceivingView) (kept : IsKept v) (number : ℕ) (r : Receive)
             ∙ eq_true a.n b.n (sym same')
 
 -- the sender of a message that a receive took
-pub taken_from : (v : ReceivingView) (kept : IsKept v) (number : ℕ) (r : Receive) →
+pub taken_from : (v : ReceivingView) (kept : ReceivingInvariant v) (number : ℕ) (r : Receive) →
     slice_get v.receives number ≡ Some r → (a : Arrival) → r.taken ≡ Some a
     → a.env.from < v.sizes.ranks
 taken_from v kept number r here a some =

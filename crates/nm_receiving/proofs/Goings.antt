@@ -31,9 +31,9 @@ use Rattle.nm_match.proofs.StandsLemmas.{first_message-stands, is_free_message-s
 use Rattle.nm_match.proofs.StandsLemmas.{is_known_receive-stands}
 use Rattle.nm_receiving.specs.declared.receipts.Receipt.{Receipt}
 use Rattle.nm_receiving.specs.declared.receipts.Receive.{Receive}
-use Rattle.nm_receiving.specs.Kept.{AreGrantedFor, AreTables, IsKept}
+use Rattle.nm_receiving.specs.Kept.{AreGrantedFor, TablesAgree, ReceivingInvariant}
 use Rattle.nm_receiving.specs.Receipts.{ReceivingView, receipt_of, receipts_from}
-use Rattle.nm_receiving.specs.Received.{AreReceived, Keeps}
+use Rattle.nm_receiving.specs.Received.{AreReceived, Preserves}
 use Rattle.nm_receiving.proofs.Cancelling.{has_cancelled}
 use Rattle.nm_receiving.proofs.Changing.{keeps-cancelled, keeps-claim, keeps-deeds, keeps-late}
 use Rattle.nm_receiving.proofs.Coming.{newcomer}
@@ -55,10 +55,10 @@ names_of v h received i k s is =
     (sym (received.messages i k) ∙ ap (λ (o : Option Receipt). option_map (λ m. m.arrival) o) is)
 
 -- the tables afterwards, by the longer history
-pub goes_on : (v v' : ReceivingView) (kept : IsKept v) (events : List Event) → v'.sizes ≡ v.sizes
+pub goes_on : (v v' : ReceivingView) (kept : ReceivingInvariant v) (events : List Event) → v'.sizes ≡ v.sizes
     → AreReceived v' (kept.history ++ events) × AreRight v.sizes.ranks kept.history events
-    → ((from n : ℕ) → happened (is_withdraw from n false) events ≡ false) → AreTables v' (kept.history ++ events)
-    → AreGrantedFor v' (kept.history ++ events) → IsKept v'
+    → ((from n : ℕ) → happened (is_withdraw from n false) events ≡ false) → TablesAgree v' (kept.history ++ events)
+    → AreGrantedFor v' (kept.history ++ events) → ReceivingInvariant v'
 goes_on v v' kept events same keeps in_time tables owed = record {
   history = kept.history ++ events;
   received = keeps.0;
@@ -76,10 +76,10 @@ pub like-push : (h : List Event) (e : Event) → is_matching e.what ≡ false �
     IsLike h (h ++ e ∷ [])
 like-push h e silent no_post = record { pairs = matched_pairs-push_other h e silent; posts = posts_still h e no_post }
 
-pub kept-claim : (v : ReceivingView) → IsKept v → (from n : ℕ) (deeds : List Deed) →
+pub kept-claim : (v : ReceivingView) → ReceivingInvariant v → (from n : ℕ) (deeds : List Deed) →
     deeds ≡ v.deeds ++ deed.Claim from n ∷ []
     → ((h : List Event) → AreReceived v h → is_free_message h (matched_pairs h) from n ≡ true)
-    → IsKept (with_deeds v deeds)
+    → ReceivingInvariant (with_deeds v deeds)
 kept-claim v kept from n deeds done free =
     let e : Event = at 0 (Claim from n 0) in
     goes_on v (with_deeds v deeds) kept (e ∷ []) refl
@@ -109,29 +109,29 @@ module _ {E : Type 0} (v : ReceivingView) (deeds : List Deed) (from : Peer) (tag
   Oldest r =
       IfOk r (λ t. t ≡ first_message (history_of v.deeds) (matched_pairs (history_of v.deeds)) from tag ctx)
 
-  pub kept-claimed : IsKept v → (r : Result (Option Arrival) E) → Claims r → Oldest r → OnErr r (deeds ≡ v.deeds)
-      → IsKept (with_deeds v deeds)
+  pub kept-claimed : ReceivingInvariant v → (r : Result (Option Arrival) E) → Claims r → Oldest r → OnErr r (deeds ≡ v.deeds)
+      → ReceivingInvariant (with_deeds v deeds)
   kept-claimed kept (Ok None) done oldest failed =
-      subst (λ (ds : List Deed). IsKept (with_deeds v ds)) (sym done) kept
+      subst (λ (ds : List Deed). ReceivingInvariant (with_deeds v ds)) (sym done) kept
   kept-claimed kept (Ok (Some a)) done oldest failed =
       kept-claim v kept a.env.from a.n deeds done (first_free v from tag ctx a oldest)
   kept-claimed kept (Err e) done oldest failed =
-      subst (λ (ds : List Deed). IsKept (with_deeds v ds)) (sym failed) kept
+      subst (λ (ds : List Deed). ReceivingInvariant (with_deeds v ds)) (sym failed) kept
 
   pub claimed-keeps : (r : Result (Option Arrival) E) → Claims r → Oldest r
       → IfOk r (λ t. MatchOption t (with_deeds v deeds ≡ v)
-      (λ a. (line : ℕ) → Keeps v (with_deeds v deeds) (Claim a.env.from a.n line ∷ [])))
+      (λ a. (line : ℕ) → Preserves v (with_deeds v deeds) (Claim a.env.from a.n line ∷ [])))
   claimed-keeps (Ok None) done oldest = ap (λ (ds : List Deed). with_deeds v ds) done
   claimed-keeps (Ok (Some a)) done oldest =
       λ line. keeps-claim v a.env.from a.n line deeds done (first_free v from tag ctx a oldest)
   claimed-keeps (Err e) done oldest = tt
 
 -- a cancel, and one that came too late
-pub kept-cancelled : (v : ReceivingView) → IsKept v → (number : ℕ) (r : Receive) →
+pub kept-cancelled : (v : ReceivingView) → ReceivingInvariant v → (number : ℕ) (r : Receive) →
     slice_get v.receives number ≡ Some r → (deeds : List Deed)
     → deeds ≡ deeds_after v.deeds (Cancel number true) →
     true ≡ not (list_any (is_of_receive number) (matched_pairs (history_of v.deeds)))
-    → IsKept (record v { deeds = deeds; receives = set v.receives number (has_cancelled r) })
+    → ReceivingInvariant (record v { deeds = deeds; receives = set v.receives number (has_cancelled r) })
 kept-cancelled v kept number r here deeds done late =
     let e : Event = at 0 (Cancel number true) in
     let v' : ReceivingView = record v { deeds = deeds; receives = set v.receives number (has_cancelled r) } in
@@ -143,9 +143,9 @@ kept-cancelled v kept number r here deeds done late =
     (owed-still v v' kept.history (kept.history ++ e ∷ []) refl refl (like-push kept.history e refl refl) kept.owed)
 
 -- a withdrawal in time
-pub kept-withdrawn : (v : ReceivingView) → IsKept v → (from n : ℕ) → n < length (receipts_from v from)
+pub kept-withdrawn : (v : ReceivingView) → ReceivingInvariant v → (from n : ℕ) → n < length (receipts_from v from)
     → is_free_message (history_of v.deeds) (matched_pairs (history_of v.deeds)) from n ≡ true
-    → IsKept (with_deeds v (v.deeds ++ deed.Withdraw from n ∷ []))
+    → ReceivingInvariant (with_deeds v (v.deeds ++ deed.Withdraw from n ∷ []))
 kept-withdrawn v kept from n below free =
     let h : List Event = kept.history in
     let e : Event = at 0 (Withdraw from n true) in
@@ -183,17 +183,17 @@ kept-withdrawn v kept from n below free =
     late true false = refl
     late false b = refl
 
-pub kept-withdrawn_if : (v : ReceivingView) → IsKept v → (from n : ℕ) → n < length (receipts_from v from) →
+pub kept-withdrawn_if : (v : ReceivingView) → ReceivingInvariant v → (from n : ℕ) → n < length (receipts_from v from) →
     (deeds : List Deed) (done : Bool)
     → done ≡ is_free_message (history_of v.deeds) (matched_pairs (history_of v.deeds)) from n
-    → deeds ≡ (if done then v.deeds ++ deed.Withdraw from n ∷ [] else v.deeds) → IsKept (with_deeds v deeds)
+    → deeds ≡ (if done then v.deeds ++ deed.Withdraw from n ∷ [] else v.deeds) → ReceivingInvariant (with_deeds v deeds)
 kept-withdrawn_if v kept from n below deeds true free is =
-    subst (λ (ds : List Deed). IsKept (with_deeds v ds)) (sym is) (kept-withdrawn v kept from n below (sym free))
-kept-withdrawn_if v kept from n below deeds false free is = subst (λ (ds : List Deed). IsKept (with_deeds v ds))
+    subst (λ (ds : List Deed). ReceivingInvariant (with_deeds v ds)) (sym is) (kept-withdrawn v kept from n below (sym free))
+kept-withdrawn_if v kept from n below deeds false free is = subst (λ (ds : List Deed). ReceivingInvariant (with_deeds v ds))
     (sym is) kept
 
 -- what is known to the matcher
-pub receive_known : (v : ReceivingView) → IsKept v → (number : ℕ) → number < length v.receives
+pub receive_known : (v : ReceivingView) → ReceivingInvariant v → (number : ℕ) → number < length v.receives
     → is_known_receive (history_of v.deeds) number ≡ true
 receive_known v kept number below =
     let h : List Event = kept.history in
@@ -202,7 +202,7 @@ receive_known v kept number below =
     ∙ receives_numbered v.sizes.ranks h (right-numbers v.sizes.ranks h kept.right) number
     ∙ lt-ltb number (length (receives h)) (omega (arith, count, below))
 
-pub next_receive : (v : ReceivingView) → IsKept v → (number : ℕ) → number ≡ length v.receives
+pub next_receive : (v : ReceivingView) → ReceivingInvariant v → (number : ℕ) → number ≡ length v.receives
     → is_known_receive (history_of v.deeds) number ≡ false
 next_receive v kept number next =
     let h : List Event = kept.history in
@@ -211,7 +211,7 @@ next_receive v kept number next =
     ∙ receives_numbered v.sizes.ranks h (right-numbers v.sizes.ranks h kept.right) number
     ∙ le-ltb number (length (receives h)) (omega (arith, count, next))
 
-pub message_known : (v : ReceivingView) → IsKept v → (from n : ℕ) → n < length (receipts_from v from)
+pub message_known : (v : ReceivingView) → ReceivingInvariant v → (from n : ℕ) → n < length (receipts_from v from)
     → is_known_message (history_of v.deeds) from n ≡ true
 message_known v kept from n below =
     let h : List Event = kept.history in
@@ -220,7 +220,7 @@ message_known v kept from n below =
     ∙ messages_numbered v.sizes.ranks h (right-numbers v.sizes.ranks h kept.right) from n
     ∙ lt-ltb n (length (arrivals h from)) (omega (arith, arrived, below))
 
-pub next_message : (v : ReceivingView) → IsKept v → (from n : ℕ) → n ≡ length (receipts_from v from)
+pub next_message : (v : ReceivingView) → ReceivingInvariant v → (from n : ℕ) → n ≡ length (receipts_from v from)
     → is_known_message (history_of v.deeds) from n ≡ false
 next_message v kept from n next =
     let h : List Event = kept.history in
@@ -241,11 +241,11 @@ arrived_below v h received from n below =
     (sym (received.messages from n) ∙ ap (λ (o : Option Receipt). option_map (λ m. m.arrival) o) here)
 
 -- a cancel by its answer
-pub kept-cancel_done : (v : ReceivingView) → IsKept v → (number : ℕ) (r : Receive) →
+pub kept-cancel_done : (v : ReceivingView) → ReceivingInvariant v → (number : ℕ) (r : Receive) →
     slice_get v.receives number ≡ Some r → (deeds : List Deed) (done : Bool)
     → done ≡ true → done ≡ not (list_any (is_of_receive number) (matched_pairs (history_of v.deeds)))
     → deeds ≡ deeds_after v.deeds (Cancel number done) →
-    IsKept (record v { deeds = deeds; receives = set v.receives number (has_cancelled r) })
+    ReceivingInvariant (record v { deeds = deeds; receives = set v.receives number (has_cancelled r) })
 kept-cancel_done v kept number r here deeds done is late made =
     kept-cancelled v kept number r here deeds
     (subst (λ (b : Bool). deeds ≡ deeds_after v.deeds (Cancel number b)) is made) (sym is ∙ late)
@@ -254,17 +254,17 @@ pub keeps-cancel_done : (v : ReceivingView) (number : ℕ) (r : Receive) → sli
     (deeds : List Deed) (done : Bool)
     → done ≡ true → done ≡ not (list_any (is_of_receive number) (matched_pairs (history_of v.deeds)))
     → deeds ≡ deeds_after v.deeds (Cancel number done)
-    → Keeps v (record v { deeds = deeds; receives = set v.receives number (has_cancelled r) }) (Cancel number done ∷ [])
+    → Preserves v (record v { deeds = deeds; receives = set v.receives number (has_cancelled r) }) (Cancel number done ∷ [])
 keeps-cancel_done v number r here deeds done is late made =
     let v' : ReceivingView = record v { deeds = deeds; receives = set v.receives number (has_cancelled r) } in
-    subst (λ (b : Bool). Keeps v v' (Cancel number b ∷ [])) (sym is)
+    subst (λ (b : Bool). Preserves v v' (Cancel number b ∷ [])) (sym is)
     (keeps-cancelled v number r here deeds
     (subst (λ (b : Bool). deeds ≡ deeds_after v.deeds (Cancel number b)) is made) (sym is ∙ late))
 
 pub keeps-cancel_late : (v : ReceivingView) (number : ℕ) (deeds : List Deed) (done : Bool)
     → done ≡ false → done ≡ not (list_any (is_of_receive number) (matched_pairs (history_of v.deeds)))
-    → deeds ≡ deeds_after v.deeds (Cancel number done) → Keeps v (with_deeds v deeds) (Cancel number done ∷ [])
+    → deeds ≡ deeds_after v.deeds (Cancel number done) → Preserves v (with_deeds v deeds) (Cancel number done ∷ [])
 keeps-cancel_late v number deeds done is late made =
     let same : deeds ≡ v.deeds = subst (λ (b : Bool). deeds ≡ deeds_after v.deeds (Cancel number b)) is made in
-    subst (λ (ds : List Deed). Keeps v (with_deeds v ds) (Cancel number done ∷ [])) (sym same)
-    (subst (λ (b : Bool). Keeps v v (Cancel number b ∷ [])) (sym is) (keeps-late v number (sym is ∙ late)))
+    subst (λ (ds : List Deed). Preserves v (with_deeds v ds) (Cancel number done ∷ [])) (sym same)
+    (subst (λ (b : Bool). Preserves v v (Cancel number b ∷ [])) (sym is) (keeps-late v number (sym is ∙ late)))

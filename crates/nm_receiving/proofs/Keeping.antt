@@ -20,7 +20,7 @@ use Rattle.nm_match.specs.declared.deeds.Deed.{Deed}
 use Rattle.nm_match.specs.Deeds.{deeds_after}
 use Rattle.nm_receiving.specs.declared.receipts.Receipt.{Receipt}
 use Rattle.nm_receiving.specs.Receipts.{ReceivingView, is_empty_ask, receipt_of, taken_events}
-use Rattle.nm_receiving.specs.Received.{AreReceived, Keeps}
+use Rattle.nm_receiving.specs.Received.{AreReceived, Preserves}
 use Rattle.nm_receiving.specs.Steps.{rows_after, rows_with, rows_with_whole}
 use Rattle.nm_receiving.proofs.Dues.{pair}
 use Rattle.nm_receiving.proofs.Events.{right-one, right-two, unstamp-one, unstamp-two}
@@ -86,7 +86,7 @@ module _ (v : ReceivingView) (w : Happened) (d : Deed) (number cap : ℕ) (taken
 
 -- a receive that takes no message
 pub keeps-begun_none : (v : ReceivingView) (w : Happened) (d : Deed) (number cap : ℕ) → IsBegin v w d number cap None
-    → Keeps v (begun v d cap None) (w ∷ [])
+    → Preserves v (begun v d cap None) (w ∷ [])
 keeps-begun_none v w d number cap begins h events happens received right =
     unstamp-one (λ events. AreReceived (begun v d cap None) (h ++ events) × AreRight v.sizes.ranks h events) events w
     (λ s. (
@@ -159,7 +159,7 @@ module _ (v : ReceivingView) (w : Happened) (d : Deed) (number cap : ℕ) (a : A
             (λ _. taken_now h h1 (pair number cap a) pairs1)),
       )
 
-  pub keeps-begun_some : Keeps v (record w1 { receipts = rows_after v.receipts a }) (w ∷ taken_events (Some a))
+  pub keeps-begun_some : Preserves v (record w1 { receipts = rows_after v.receipts a }) (w ∷ taken_events (Some a))
   keeps-begun_some h events happens received right = by (is_empty_ask a) refl
     where
       Goal : ReceivingView → Type 0
@@ -185,7 +185,7 @@ module _ (v : ReceivingView) (w : Happened) (d : Deed) (number cap : ℕ) (a : A
 pub keeps-begun : (v : ReceivingView) (w : Happened) (d : Deed) (number cap : ℕ) (taken : Option Arrival) →
     IsBegin v w d number cap taken
     → ((a : Arrival) → taken ≡ Some a → (r : Receipt) × MayBegin v a r)
-    → Keeps v (record (begun v d cap taken) { receipts = rows_with v.receipts taken }) (w ∷ taken_events taken)
+    → Preserves v (record (begun v d cap taken) { receipts = rows_with v.receipts taken }) (w ∷ taken_events taken)
 keeps-begun v w d number cap None begins may = keeps-begun_none v w d number cap begins
 keeps-begun v w d number cap (Some a) begins may = let m = may a refl in
     keeps-begun_some v w d number cap a m.0 begins m.1

@@ -15,7 +15,7 @@ use Rattle.nm_history.specs.Sends.{is_ask, message_of}
 use Rattle.nm_rndv.specs.Grants.{Granted, expected_in, grant_in, is_open}
 use Rattle.nm_rndv.proofs.GrantLemmas.{none_expected}
 use Rattle.nm_receiving.specs.declared.receipts.Receipt.{Receipt}
-use Rattle.nm_receiving.specs.Kept.{HasOpen, IsKept}
+use Rattle.nm_receiving.specs.Kept.{HasOpen, ReceivingInvariant}
 use Rattle.nm_receiving.specs.Receipts.{ReceivingView, granted_to, is_empty_ask, receipt_of}
 use Rattle.nm_receiving.specs.Received.{AreReceived, IsOwed}
 use Rattle.nm_receiving.proofs.Events.{same_taken}
@@ -40,7 +40,7 @@ open_expected row n is = by (expected_in row) refl
         (whole.0 (subst (λ (o : Option (ℕ × ℕ)). IsNone o) (sym none) refl)) g.1 in
         absurd (true≢false (sym g.2 ∙ shut))
 
-module _ (v : ReceivingView) (kept : IsKept v) (from : ℕ) where
+module _ (v : ReceivingView) (kept : ReceivingInvariant v) (from : ℕ) where
   abbrev k : List Event
   k = kept.history
 

@@ -33,7 +33,7 @@ use Rattle.nm_eager.specs.Streams.{skipped}
 use Rattle.nm_rndv.specs.Grants.{Granted, fresh, grant_in}
 use Rattle.nm_receiving.specs.declared.receipts.Receipt.{Receipt}
 use Rattle.nm_receiving.specs.declared.receipts.Receive.{Receive}
-use Rattle.nm_receiving.specs.Kept.{AreGrantedFor, AreTables, HasBytes, IsGranted, IsJoined, IsKept}
+use Rattle.nm_receiving.specs.Kept.{AreGrantedFor, TablesAgree, HasBytes, IsGranted, IsJoined, ReceivingInvariant}
 use Rattle.nm_receiving.specs.Receipts.{ReceivingView, granted_to, receipt_of, receipts_from, stream_of}
 use Rattle.nm_receiving.specs.Received.{TakesPacket}
 use Rattle.nm_receiving.specs.Steps.{grants_with, has_taken, made_whole, rows_from, rows_with, rows_with_whole}
@@ -54,7 +54,7 @@ use Rattle.nm_receiving.proofs.Taking.{IsAtOnce, IsNext, MayEnd, keeps-came, kee
 use Rattle.nm_types.proofs.OptionLemmas.{if_each}
 
 -- the receive that takes a message is among the receives
-pub taker_inside : (v : ReceivingView) (kept : IsKept v) (a : Arrival) (taker : Option ℕ)
+pub taker_inside : (v : ReceivingView) (kept : ReceivingInvariant v) (a : Arrival) (taker : Option ℕ)
     → taker ≡ option_map (λ p. p.number) (first_receive (history_of v.deeds) (matched_pairs (history_of v.deeds)) a.env)
     → IfSome taker (λ number. number < length v.receives)
 taker_inside v kept a taker is =
@@ -80,7 +80,7 @@ taken_ended rs (Some k) a = by (slice_get rs k) refl
         (ap (λ (r : Receive). r.ended) (sym (get_or_from_slice_get rs k r r is)))
 
 -- an eager message begins
-module _ (v : ReceivingView) (kept : IsKept v) (p : Packet) (tag ctx len : ℕ) (head : p.what ≡ what.Head tag ctx len)
+module _ (v : ReceivingView) (kept : ReceivingInvariant v) (p : Packet) (tag ctx len : ℕ) (head : p.what ≡ what.Head tag ctx len)
     (sender : p.from < v.sizes.ranks)
     (goes : continues v.sizes.eager (stream_of v p.from).count (missing (stream_of v p.from)) p.what
     (length p.payload) ≡ true)
@@ -146,7 +146,7 @@ module _ (v : ReceivingView) (kept : IsKept v) (p : Packet) (tag ctx len : ℕ) 
       }
 
   pub kept-head : first_receive (history_of v.deeds) (matched_pairs (history_of v.deeds)) headed.env ≡ o →
-      IsKept head_view
+      ReceivingInvariant head_view
   kept-head oldest =
       kept-came v kept head_streams headed o next (begun_longer v headed p.payload inside counted refl finished right)
       oldest is_all at_once
@@ -200,7 +200,7 @@ module _ (v : ReceivingView) (kept : IsKept v) (p : Packet) (tag ctx len : ℕ) 
       same_grants (Some q) = refl
 
 -- a message is announced
-module _ (v : ReceivingView) (kept : IsKept v) (p : Packet) (tag ctx len : ℕ) (ask : p.what ≡ what.Ask tag ctx len)
+module _ (v : ReceivingView) (kept : ReceivingInvariant v) (p : Packet) (tag ctx len : ℕ) (ask : p.what ≡ what.Ask tag ctx len)
     (sender : p.from < v.sizes.ranks)
     (goes : continues v.sizes.eager (stream_of v p.from).count (missing (stream_of v p.from)) p.what
     (length p.payload) ≡ true)
@@ -273,7 +273,7 @@ module _ (v : ReceivingView) (kept : IsKept v) (p : Packet) (tag ctx len : ℕ) 
           ∙ grant_new (granted_to v p.from) announced.n (fresh len) (none_granted_yet v kept p.from announced.n refl)
 
   pub kept-ask : first_receive (history_of v.deeds) (matched_pairs (history_of v.deeds)) announced.env ≡ o →
-      IsKept ask_view
+      ReceivingInvariant ask_view
   kept-ask oldest =
       kept-came v kept ask_streams announced o next' (skipped_longer v announced inside' refl ask_finished) oldest
       is_done at_once'
@@ -331,7 +331,7 @@ module _ (v : ReceivingView) (kept : IsKept v) (p : Packet) (tag ctx len : ℕ) 
       same_rows (Some q) false is = rw is refl
 
 -- an eager message goes on
-module _ (v : ReceivingView) (kept : IsKept v) (p : Packet) (n : ℕ) (more : p.what ≡ what.More n)
+module _ (v : ReceivingView) (kept : ReceivingInvariant v) (p : Packet) (n : ℕ) (more : p.what ≡ what.More n)
     (sender : p.from < v.sizes.ranks)
     (goes : continues v.sizes.eager (stream_of v p.from).count (missing (stream_of v p.from)) p.what
     (length p.payload) ≡ true)
@@ -400,19 +400,19 @@ module _ (v : ReceivingView) (kept : IsKept v) (p : Packet) (n : ℕ) (more : p.
     },
   )
 
-  tables-more : AreTables carried kept.history
+  tables-more : TablesAgree carried kept.history
   tables-more = tables-carried v kept.history more_streams p.from n p.payload kept.tables are_carried right
       counted_last within
 
   owed-more : AreGrantedFor carried kept.history
   owed-more = owed-still v carried kept.history kept.history refl refl (like_itself kept.history) kept.owed
 
-  pub kept-more : IsKept more_view
+  pub kept-more : ReceivingInvariant more_view
   kept-more = by is_last refl
     where
-      by : (b : Bool) → is_last ≡ b → IsKept more_view
+      by : (b : Bool) → is_last ≡ b → ReceivingInvariant more_view
       by false later =
-          subst (λ (b : Bool). IsKept (marked_if b carried p.from n)) (sym later)
+          subst (λ (b : Bool). ReceivingInvariant (marked_if b carried p.from n)) (sym later)
           (record {
             history = kept.history;
             received = streams_apart v more_streams kept.history kept.received;
@@ -427,7 +427,7 @@ module _ (v : ReceivingView) (kept : IsKept v) (p : Packet) (n : ℕ) (more : p.
           let received1 = streams_apart v more_streams h kept.received in
           let r = the_receipt.0 in
           let name = names_of v h kept.received p.from n r the_receipt.1 in
-          subst (λ (b : Bool). IsKept (marked_if b carried p.from n)) (sym last)
+          subst (λ (b : Bool). ReceivingInvariant (marked_if b carried p.from n)) (sym last)
           (goes_on v (marked carried p.from n) kept (x ∷ []) refl
           (keeps-marked carried p.from n true h (x ∷ []) refl received1 kept.right (λ _. may_end h))
           (λ i k. refl)
@@ -466,7 +466,7 @@ module _ (v : ReceivingView) (kept : IsKept v) (p : Packet) (n : ℕ) (more : p.
   more_is last sizes streams rows last_is sizes_is streams_is rows_is = rw (sizes_is, streams_is, rows_is, last_is) refl
 
 -- an announced message that a receive takes may be granted
-module _ (v : ReceivingView) (kept : IsKept v) (b : Bool) (arrival : Arrival) (taken : Option Arrival)
+module _ (v : ReceivingView) (kept : ReceivingInvariant v) (b : Bool) (arrival : Arrival) (taken : Option Arrival)
     (is : taken ≡ then_some b arrival)
     (inside : arrival.env.from < length v.receipts) (next : arrival.n ≡ length (receipts_from v arrival.env.from)) where
   it_is : (a : Arrival) → taken ≡ Some a → arrival ≡ a

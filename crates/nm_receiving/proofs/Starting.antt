@@ -25,7 +25,7 @@ use Rattle.nm_match.proofs.StandsLemmas.{first_message-stands, is_claimed-stands
 use Rattle.nm_rndv.specs.Grants.{Granted, fresh, grant_in, is_open}
 use Rattle.nm_receiving.specs.declared.receipts.Receipt.{Receipt}
 use Rattle.nm_receiving.specs.declared.receipts.Receive.{Receive}
-use Rattle.nm_receiving.specs.Kept.{AreGrantedFor, AreTables, IsCleared, IsGranted, IsKept}
+use Rattle.nm_receiving.specs.Kept.{AreGrantedFor, TablesAgree, IsCleared, IsGranted, ReceivingInvariant}
 use Rattle.nm_receiving.specs.Receipts.{ReceivingView, granted_to, is_empty_ask, receipt_of}
 use Rattle.nm_receiving.specs.Received.{AreReceived}
 use Rattle.nm_receiving.specs.Steps.{grants_with, made_whole, rows_after, rows_with, rows_with_whole}
@@ -43,7 +43,7 @@ use Rattle.nm_receiving.proofs.TablesMark.{MayMark, owed-marked, tables-marked}
 use Rattle.nm_types.proofs.OptionLemmas.{mapped_some as mapped, some_and, if_each, some_of, one_option}
 
 -- a message that may be taken is here
-pub is_free : (v : ReceivingView) (kept : IsKept v) (a : Arrival) → IsTakeable v.sizes.ranks kept.history a →
+pub is_free : (v : ReceivingView) (kept : ReceivingInvariant v) (a : Arrival) → IsTakeable v.sizes.ranks kept.history a →
     (r : Receipt) × IsFree v kept.history a r
 is_free v kept a takeable =
     let there = mapped (λ (m : Receipt). m.arrival) (receipt_of v a.env.from a.n) a
@@ -60,7 +60,7 @@ is_free v kept a takeable =
       },
     )
 
-pub may_begin : (v : ReceivingView) (kept : IsKept v) (a : Arrival) (r : Receipt) → IsFree v kept.history a r →
+pub may_begin : (v : ReceivingView) (kept : ReceivingInvariant v) (a : Arrival) (r : Receipt) → IsFree v kept.history a r →
     MayBegin v a r
 may_begin v kept a r free = record {
   granted = free.granted;
@@ -73,7 +73,7 @@ may_begin v kept a r free = record {
 
 -- an empty message that was asked for, and that a receive takes, may be whole
 module _ (v : ReceivingView) (h h1 : List Event) (d : Deed) (number cap : ℕ) (a : Arrival) (r : Receipt)
-    (tables : AreTables v h)
+    (tables : TablesAgree v h)
     (free : IsFree v h a r) (grown1 : matched_pairs h1 ≡ matched_pairs h ++ pair number cap a ∷ [])
     (empty : is_empty_ask a ≡ true) where
   abbrev from : ℕ
@@ -138,7 +138,7 @@ pub record Posts (w : Happened) (number cap : ℕ) : Type 0 where
   pub posted : (p : post.Post) → post_of w ≡ Some p → (p.number ≡ number) × (p.cap ≡ cap)
   pub in_time : (from n : ℕ) → is_withdraw from n false w ≡ false
 
-module _ (v : ReceivingView) (kept : IsKept v) (w : Happened) (d : Deed) (number cap : ℕ) (post' : Posts w number cap)
+module _ (v : ReceivingView) (kept : ReceivingInvariant v) (w : Happened) (d : Deed) (number cap : ℕ) (post' : Posts w number cap)
   where
     abbrev h : List Event
     h = kept.history
@@ -157,7 +157,7 @@ module _ (v : ReceivingView) (kept : IsKept v) (w : Happened) (d : Deed) (number
 
     tables1 : (taken : Option Arrival) → IsBegin v w d number cap taken →
         ((a : Arrival) → taken ≡ Some a → (r : Receipt) × IsFree v h a r)
-        → AreTables (begun v d cap taken) h1
+        → TablesAgree (begun v d cap taken) h1
     tables1 taken begins free =
         tables-begun v h h1 d number cap taken kept.received kept.tables begins.next
         (grown v w d number cap taken begins h 0 kept.received kept.right)
@@ -170,7 +170,7 @@ module _ (v : ReceivingView) (kept : IsKept v) (w : Happened) (d : Deed) (number
         owed-begun v h h1 d number cap taken kept.received kept.tables begins.next
         (grown v w d number cap taken begins h 0 kept.received kept.right) free kept.owed
 
-    kept-begun_none : IsBegin v w d number cap None → IsKept (begun v d cap None)
+    kept-begun_none : IsBegin v w d number cap None → ReceivingInvariant (begun v d cap None)
     kept-begun_none begins =
         goes_on v (begun v d cap None) kept (e ∷ []) refl
         (keeps-begun v w d number cap None begins (λ a is. absurd (let h' : ⊥ = cc in h')) h (e ∷ []) refl kept.received
@@ -179,7 +179,7 @@ module _ (v : ReceivingView) (kept : IsKept v) (w : Happened) (d : Deed) (number
         (owed1 None begins (λ a is. absurd (let h' : ⊥ = cc in h')))
 
     kept-begun_some : (a : Arrival) → IsBegin v w d number cap (Some a) → IsTakeable v.sizes.ranks h a
-        → IsKept (record (begun v d cap (Some a)) { receipts = rows_after v.receipts a })
+        → ReceivingInvariant (record (begun v d cap (Some a)) { receipts = rows_after v.receipts a })
     kept-begun_some a begins takeable = by (is_empty_ask a) refl
       where
         free : (r : Receipt) × IsFree v h a r
@@ -192,13 +192,13 @@ module _ (v : ReceivingView) (kept : IsKept v) (w : Happened) (d : Deed) (number
         may_of b is = let f = free_of b is in (f.0, may_begin v kept b f.0 f.1)
 
         by : (b : Bool) → is_empty_ask a ≡ b →
-            IsKept (record (begun v d cap (Some a)) { receipts = rows_after v.receipts a })
+            ReceivingInvariant (record (begun v d cap (Some a)) { receipts = rows_after v.receipts a })
         by false bytes =
             let rows : rows_after v.receipts a ≡ v.receipts =
             ap (λ (b : Bool). cond b (rows_with_whole v.receipts a.env.from a.n) v.receipts) bytes in
             let keeps = keeps-begun v w d number cap (Some a) begins may_of h (e ∷ [])
             (ap (λ (b : Bool). w ∷ cond b (Whole a.env.from a.n ∷ []) []) (sym bytes)) kept.received kept.right in
-            subst (λ (rs : List (List Receipt)). IsKept (record (begun v d cap (Some a)) { receipts = rs })) (sym rows)
+            subst (λ (rs : List (List Receipt)). ReceivingInvariant (record (begun v d cap (Some a)) { receipts = rs })) (sym rows)
             (goes_on v (begun v d cap (Some a)) kept (e ∷ []) refl
             (subst (λ (rs : List (List Receipt)). AreReceived (record (begun v d cap (Some a)) { receipts = rs })
             (h ++ e ∷ []) × AreRight v.sizes.ranks h (e ∷ [])) rows keeps)
@@ -211,13 +211,13 @@ module _ (v : ReceivingView) (kept : IsKept v) (w : Happened) (d : Deed) (number
             (ap (λ (b : Bool). w ∷ cond b (Whole a.env.from a.n ∷ []) []) (sym empty)) kept.received kept.right in
             let stood1 = begun_stood v w d number cap (Some a) begins h 0 kept.received kept.right
             (λ b is. let m = may_of b is in m.1.granted) in
-            subst (λ (rs : List (List Receipt)). IsKept (record (begun v d cap (Some a)) { receipts = rs })) (sym rows)
+            subst (λ (rs : List (List Receipt)). ReceivingInvariant (record (begun v d cap (Some a)) { receipts = rs })) (sym rows)
             (goes_on v (marked (begun v d cap (Some a)) a.env.from a.n) kept (e ∷ x ∷ []) refl
             (subst (λ (rs : List (List Receipt)). AreReceived (record (begun v d cap (Some a)) { receipts = rs })
             (h ++ (e ∷ x ∷ []))
             × AreRight v.sizes.ranks h (e ∷ x ∷ [])) rows keeps)
             (λ from n. ap (λ (b : Bool). b || (false || false)) (post'.in_time from n))
-            (subst (λ (k : List Event). AreTables (marked (begun v d cap (Some a)) a.env.from a.n) k)
+            (subst (λ (k : List Event). TablesAgree (marked (begun v d cap (Some a)) a.env.from a.n) k)
             (append_assoc h (e ∷ []) (x ∷ []))
             (tables-marked (begun v d cap (Some a)) h1 (h1 ++ x ∷ []) stood1 a.env.from a.n free.0
             (tables1 (Some a) begins free_of)
@@ -231,7 +231,7 @@ module _ (v : ReceivingView) (kept : IsKept v) (w : Happened) (d : Deed) (number
 
     pub kept-begun : (taken : Option Arrival) → IsBegin v w d number cap taken →
         ((a : Arrival) → taken ≡ Some a → IsTakeable v.sizes.ranks h a)
-        → IsKept (record (begun v d cap taken) { receipts = rows_with v.receipts taken })
+        → ReceivingInvariant (record (begun v d cap taken) { receipts = rows_with v.receipts taken })
     kept-begun None begins takeable = kept-begun_none begins
     kept-begun (Some a) begins takeable = kept-begun_some a begins (takeable a refl)
 
@@ -271,7 +271,7 @@ is_begin_post v p line taken next oldest = record {
   };
 }
 
-pub post_takeable : (v : ReceivingView) (kept : IsKept v) (p : post.Post) (taken : Option Arrival)
+pub post_takeable : (v : ReceivingView) (kept : ReceivingInvariant v) (p : post.Post) (taken : Option Arrival)
     → taken ≡ first_message (history_of v.deeds) (matched_pairs (history_of v.deeds)) p.from p.tag p.ctx
     → (a : Arrival) → taken ≡ Some a → IsTakeable v.sizes.ranks kept.history a
 post_takeable v kept p taken oldest a is =
@@ -303,7 +303,7 @@ is_begin_match v number from n cap line taken next claimed is = record {
   };
 }
 
-pub match_takeable : (v : ReceivingView) (kept : IsKept v) (from n : ℕ) (taken : Option Arrival)
+pub match_takeable : (v : ReceivingView) (kept : ReceivingInvariant v) (from n : ℕ) (taken : Option Arrival)
     → is_claimed (history_of v.deeds) (matched_pairs (history_of v.deeds)) from n ≡ true →
     message_of (history_of v.deeds) from n ≡ taken
     → (a : Arrival) → taken ≡ Some a → IsTakeable v.sizes.ranks kept.history a
@@ -313,7 +313,7 @@ match_takeable v kept from n taken claimed there a is =
     (message_of-stands v.deeds kept.history kept.received.stands from n ∙ there ∙ is)
 
 -- what a receive takes may be granted
-module _ (v : ReceivingView) (kept : IsKept v) (taken : Option Arrival)
+module _ (v : ReceivingView) (kept : ReceivingInvariant v) (taken : Option Arrival)
     (takeable : (a : Arrival) → taken ≡ Some a → IsTakeable v.sizes.ranks kept.history a) where
   pub may_grant-sender : (grants : List (List (ℕ × Granted))) → grants ≡ v.grants →
       IfSome taken (λ a. a.env.from < length grants)
@@ -339,7 +339,7 @@ module _ (v : ReceivingView) (kept : IsKept v) (taken : Option Arrival)
   may_begin_with a is = let f = is_free v kept a (takeable a is) in (f.0, may_begin v kept a f.0 f.1)
 
 -- the claimed message is here
-pub claimed_receipt : (v : ReceivingView) (kept : IsKept v) (from n : ℕ) →
+pub claimed_receipt : (v : ReceivingView) (kept : ReceivingInvariant v) (from n : ℕ) →
     IsSome (message_of (history_of v.deeds) from n) → IsSome (receipt_of v from n)
 claimed_receipt v kept from n some =
     let there = some_of (message_of (history_of v.deeds) from n) some in
@@ -347,7 +347,7 @@ claimed_receipt v kept from n some =
     (kept.received.messages from n ∙ message_of-stands v.deeds kept.history kept.received.stands from n ∙ there.1) in
     ap (λ (o : Option Receipt). is_some o) here.1
 
-pub claimed_message : (v : ReceivingView) (kept : IsKept v) (from n : ℕ) (r : Receipt) → receipt_of v from n ≡ Some r
+pub claimed_message : (v : ReceivingView) (kept : ReceivingInvariant v) (from n : ℕ) (r : Receipt) → receipt_of v from n ≡ Some r
     → message_of (history_of v.deeds) from n ≡ Some r.arrival
 claimed_message v kept from n r here =
     sym (message_of-stands v.deeds kept.history kept.received.stands from n) ∙ sym (kept.received.messages from n)

@@ -15,7 +15,7 @@ use Rattle.nm_history.specs.Matching.{is_matching, matched_pairs}
 use Rattle.nm_history.specs.Sends.{arrivals, arrival_of, message_of, receives, receive_of}
 use Rattle.nm_history.specs.Rest.{EmptyAreHere}
 use Rattle.nm_match.specs.declared.deeds.Deed.{Deed}
-use Rattle.nm_match.specs.Deeds.{Stands, deeds_after}
+use Rattle.nm_match.specs.Deeds.{Represents, deeds_after}
 use Rattle.nm_match.proofs.StandsLemmas.{stands_push}
 use Rattle.nm_receiving.specs.Pieces.{AreDue}
 use Rattle.nm_receiving.specs.declared.receipts.Receipt.{Receipt}
@@ -38,7 +38,7 @@ abbrev pub is_cancelled_at : Option Receive → Bool
 is_cancelled_at o = option_map_or (λ r. r.cancelled) o false
 
 pub record Stood (v : ReceivingView) (h : List Event) : Type 0 where
-  pub stands : Stands v.deeds h
+  pub stands : Represents v.deeds h
   pub arrived : (from : ℕ) → length (receipts_from v from) ≡ length (arrivals h from)
   pub messages : (from n : ℕ) → option_map (λ m. m.arrival) (receipt_of v from n) ≡ message_of h from n
   pub whole : (from n : ℕ) → is_whole_at (receipt_of v from n) ≡ happened (is_whole from n) h
@@ -82,7 +82,7 @@ module _ (v : ReceivingView) (h : List Event) (e : Event) (stood : Stood v h) wh
       → arrival_of e.what ≡ None → receive_of e.what ≡ None → ((from n : ℕ) → is_whole from n e.what ≡ false)
       → ((number : ℕ) → is_cancel number e.what ≡ false) → Stood (with_deeds v deeds) (h ++ e ∷ [])
   stood-quiet deeds done silent no_arrival no_receive not_whole not_cancel = record {
-    stands = subst (λ (ds : List Deed). Stands ds (h ++ e ∷ [])) (sym done) (stands_push v.deeds h e stood.stands);
+    stands = subst (λ (ds : List Deed). Represents ds (h ++ e ∷ [])) (sym done) (stands_push v.deeds h e stood.stands);
     arrived = λ from. stood.arrived from ∙ sym (ap length (arrivals_still h e no_arrival from));
     messages = λ from n. stood.messages from n ∙ sym (message_still h e no_arrival from n);
     whole = λ from n. stood.whole from n ∙ sym (happened_still (is_whole from n) h e (not_whole from n));
@@ -150,7 +150,7 @@ module _ (v : ReceivingView) (h : List Event) (e : Event) (stood : Stood v h) (d
       → ((k : ℕ) → is_cancel k e.what ≡ false) → ((a : Arrival) → taken ≡ Some a → a.env.from < length v.grants)
       → Stood (begun v d cap taken) (h ++ e ∷ [])
   stood-begun done no_arrival some_receive not_whole not_cancel inside = record {
-    stands = subst (λ (ds : List Deed). Stands ds (h ++ e ∷ [])) (sym done) (stands_push v.deeds h e stood.stands);
+    stands = subst (λ (ds : List Deed). Represents ds (h ++ e ∷ [])) (sym done) (stands_push v.deeds h e stood.stands);
     arrived = λ from. stood.arrived from ∙ sym (ap length (arrivals_still h e no_arrival from));
     messages = λ from n. stood.messages from n ∙ sym (message_still h e no_arrival from n);
     whole = λ from n. stood.whole from n ∙ sym (happened_still (is_whole from n) h e (not_whole from n));

@@ -21,7 +21,7 @@ use Rattle.nm_eager.specs.Streams.{Incoming, message_of}
 use Rattle.nm_rndv.specs.Grants.{Granted, fresh, grant_in}
 use Rattle.nm_receiving.specs.declared.receipts.Receipt.{Receipt}
 use Rattle.nm_receiving.specs.declared.receipts.Receive.{Receive}
-use Rattle.nm_receiving.specs.Kept.{AreGrantedFor, AreTables, HasBytes, HasOpen, IsAwaited, IsCleared, IsGranted}
+use Rattle.nm_receiving.specs.Kept.{AreGrantedFor, TablesAgree, HasBytes, HasOpen, IsAwaited, IsCleared, IsGranted}
 use Rattle.nm_receiving.specs.Kept.{IsHere, IsJoined}
 use Rattle.nm_receiving.specs.Receipts.{ReceivingView, granted_to, pair_with, receipt_of, stream_of}
 use Rattle.nm_receiving.specs.Received.{AreReceived}
@@ -76,7 +76,7 @@ bytes_along v v' r s same grant join bytes = record {
 }
 
 -- a message that no receive took has no grant
-pub no_grant : (v : ReceivingView) (h : List Event) → AreTables v h → (from n : ℕ) → is_taken h from n ≡ false
+pub no_grant : (v : ReceivingView) (h : List Event) → TablesAgree v h → (from n : ℕ) → is_taken h from n ≡ false
     → grant_in (granted_to v from) n ≡ None
 no_grant v h tables from n untaken = by (grant_in (granted_to v from) n) refl
   where
@@ -109,7 +109,7 @@ pub record IsFree (v : ReceivingView) (h : List Event) (a : Arrival) (r : Receip
   pub untaken : is_taken h a.env.from a.n ≡ false
 
 module _ (v : ReceivingView) (h h' : List Event) (d : Deed) (number cap : ℕ) (taken : Option Arrival)
-    (received : AreReceived v h) (tables : AreTables v h) (next : number ≡ length v.receives)
+    (received : AreReceived v h) (tables : TablesAgree v h) (next : number ≡ length v.receives)
     (grown : matched_pairs h' ≡ matched_pairs h ++ option_to_list (option_map (pair number cap) taken))
     (free : (a : Arrival) → taken ≡ Some a → (r : Receipt) × IsFree v h a r) where
   abbrev v1 : ReceivingView
@@ -290,7 +290,7 @@ module _ (v : ReceivingView) (h h' : List Event) (d : Deed) (number cap : ℕ) (
           (open_new (granted_to v1 a.env.from) a.n a.env.len (granted_here a of.1 asked) body))
 
   pub tables-begun : (po : Option post.Post) → posts h' ≡ posts h ++ option_to_list po
-      → ((p : post.Post) → po ≡ Some p → (p.number ≡ number) × (p.cap ≡ cap)) → AreTables v1 h'
+      → ((p : post.Post) → po ≡ Some p → (p.number ≡ number) × (p.cap ≡ cap)) → TablesAgree v1 h'
   tables-begun po posted is_p = record {
     streams = tables.streams;
     grants = granted_length v.grants taken ∙ tables.grants;

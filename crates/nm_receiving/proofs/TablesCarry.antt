@@ -10,7 +10,7 @@ use Rattle.nm_history.specs.Sends.{is_ask}
 use Rattle.nm_eager.specs.Streams.{Incoming, message_of, missing}
 use Rattle.nm_rndv.specs.Grants.{Granted}
 use Rattle.nm_receiving.specs.declared.receipts.Receipt.{Receipt}
-use Rattle.nm_receiving.specs.Kept.{AreTables, HasBytes, IsCleared, IsJoined}
+use Rattle.nm_receiving.specs.Kept.{TablesAgree, HasBytes, IsCleared, IsJoined}
 use Rattle.nm_receiving.specs.Receipts.{ReceivingView, granted_to, receipt_of, stream_of}
 use Rattle.nm_receiving.proofs.Lists.{some_from}
 use Rattle.std.proofs.Common.{map, find}
@@ -81,7 +81,7 @@ pub record AreCarried (v : ReceivingView) (streams : List Stream) (from n : ℕ)
   pub here : get_or streams from nothing_came ≡ carried_on (stream_of v from) n bytes
 
 module _ (v : ReceivingView) (h : List Event) (streams : List Stream) (from n : ℕ) (bytes : List ℕ)
-    (tables : AreTables v h)
+    (tables : TablesAgree v h)
     (more : AreCarried v streams from n bytes) (right : IsStream (stream_of v from))
     (last : n + 1 ≡ (stream_of v from).count)
     (within : length bytes ≤ missing (stream_of v from)) where
@@ -143,7 +143,7 @@ module _ (v : ReceivingView) (h : List Event) (streams : List Stream) (from n : 
           subst (λ (j : ℕ). 0 < missing (stream_of v j)) (sym same) had
       by (inr other) = subst (λ (s : Stream). 0 < missing s) (more.same i other) some
 
-  pub tables-carried : AreTables v1 h
+  pub tables-carried : TablesAgree v1 h
   tables-carried = record {
     streams = more.streams' ∙ tables.streams;
     grants = tables.grants;

@@ -19,7 +19,7 @@ use Rattle.nm_eager.specs.Streams.{message_of, missing}
 use Rattle.nm_rndv.specs.Grants.{Granted, fresh, grant_in}
 use Rattle.nm_receiving.specs.declared.receipts.Receipt.{Receipt}
 use Rattle.nm_receiving.specs.declared.receipts.Receive.{Receive}
-use Rattle.nm_receiving.specs.Kept.{AreGrantedFor, AreTables, HasBytes, HasOpen, IsCleared, IsGranted, IsHere}
+use Rattle.nm_receiving.specs.Kept.{AreGrantedFor, TablesAgree, HasBytes, HasOpen, IsCleared, IsGranted, IsHere}
 use Rattle.nm_receiving.specs.Kept.{IsJoined}
 use Rattle.nm_receiving.specs.Receipts.{ReceivingView, granted_to, receipt_of, receipts_from, stream_of}
 use Rattle.nm_receiving.proofs.Grants.{Granted_now, grant_among, grant_new, grant_still, granted_cases}
@@ -53,7 +53,7 @@ pub record AreLonger (v : ReceivingView) (streams : List Stream) (a : Arrival) :
 
 module _ (v : ReceivingView) (h h' : List Event) (stood : Stood v h) (streams : List Stream) (a : Arrival)
     (taker : Option ℕ)
-    (tables : AreTables v h) (inside : a.env.from < length v.receipts) (granted : a.env.from < length v.grants)
+    (tables : TablesAgree v h) (inside : a.env.from < length v.receipts) (granted : a.env.from < length v.grants)
     (next : a.n ≡ length (receipts_from v a.env.from)) (long : AreLonger v streams a) where
   abbrev v1 : ReceivingView
   v1 = came v streams a taker
@@ -440,7 +440,7 @@ module _ (v : ReceivingView) (h h' : List Event) (stood : Stood v h) (streams : 
                 due = λ _. refl;
               })))
 
-      pub tables-came : posts h' ≡ posts h → AreTables v1 h'
+      pub tables-came : posts h' ≡ posts h → TablesAgree v1 h'
       tables-came same_posts = record {
         streams = long.length' ∙ tables.streams;
         grants = granted_length v.grants (taken_by taker a) ∙ tables.grants;

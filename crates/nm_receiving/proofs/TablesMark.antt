@@ -16,7 +16,7 @@ use Rattle.nm_eager.specs.Streams.{missing}
 use Rattle.nm_rndv.specs.Grants.{Granted, is_open}
 use Rattle.nm_receiving.specs.declared.receipts.Receipt.{Receipt}
 use Rattle.nm_receiving.specs.declared.receipts.Receive.{Receive}
-use Rattle.nm_receiving.specs.Kept.{AreGrantedFor, AreTables, HasBytes, HasOpen, IsCleared, IsGrantedFor, IsHere}
+use Rattle.nm_receiving.specs.Kept.{AreGrantedFor, TablesAgree, HasBytes, HasOpen, IsCleared, IsGrantedFor, IsHere}
 use Rattle.nm_receiving.specs.Receipts.{ReceivingView, granted_to, receipt_of, receipts_from, stream_of}
 use Rattle.nm_receiving.proofs.Lists.{some_from}
 use Rattle.std.proofs.lemmas.List.{length-set}
@@ -70,7 +70,7 @@ pub record MayMark (v : ReceivingView) (h : List Event) (from n : ℕ) (r : Rece
   pub taken : is_ask r.arrival.env.how ≡ true → is_taken h from n ≡ true
   pub closed : All (λ e. e.0 ≡ n → is_open e.1 ≡ false) (granted_to v from)
 
-module _ (v : ReceivingView) (h h' : List Event) (stood : Stood v h) (from n : ℕ) (r : Receipt) (tables : AreTables v h)
+module _ (v : ReceivingView) (h h' : List Event) (stood : Stood v h) (from n : ℕ) (r : Receipt) (tables : TablesAgree v h)
     (like : IsLike h h') (may : MayMark v h from n r) where
   abbrev v1 : ReceivingView
   v1 = marked v from n
@@ -208,7 +208,7 @@ module _ (v : ReceivingView) (h h' : List Event) (stood : Stood v h) (from n : �
           some_from (IsCleared h' i e) (receipt_of v1 i e.0) was.0 (other1 i e.0 differ ∙ was.1)
           (like_cleared h h' like i e was.0 was.2)
 
-  pub tables-marked : AreTables v1 h'
+  pub tables-marked : TablesAgree v1 h'
   tables-marked = record {
     streams = tables.streams;
     grants = tables.grants;

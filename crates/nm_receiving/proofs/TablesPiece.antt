@@ -11,7 +11,7 @@ use Rattle.nm_history.specs.declared.events.Event.{Event}
 use Rattle.nm_history.specs.Sends.{is_ask}
 use Rattle.nm_rndv.specs.Grants.{Granted, grant_in, is_open}
 use Rattle.nm_receiving.specs.declared.receipts.Receipt.{Receipt}
-use Rattle.nm_receiving.specs.Kept.{AreGrantedFor, AreTables, HasBytes, HasOpen, IsCleared, IsGranted, IsGrantedFor}
+use Rattle.nm_receiving.specs.Kept.{AreGrantedFor, TablesAgree, HasBytes, HasOpen, IsCleared, IsGranted, IsGrantedFor}
 use Rattle.nm_receiving.specs.Receipts.{ReceivingView, granted_to, receipt_of}
 use Rattle.nm_receiving.proofs.Grants.{grant_among}
 use Rattle.nm_receiving.proofs.Lists.{some_from}
@@ -58,7 +58,7 @@ pub record IsExpected (v : ReceivingView) (h : List Event) (from n : ℕ) (g : G
   pub here : receipt_of v from n ≡ Some r
   pub cleared : IsCleared h from (n, g) r
 
-pub expected_is : (v : ReceivingView) (h : List Event) (from n at' : ℕ) → AreTables v h →
+pub expected_is : (v : ReceivingView) (h : List Event) (from n at' : ℕ) → TablesAgree v h →
     expected_in (granted_to v from) ≡ Some (n, at')
     → (g : Granted) × (came : List ℕ) × (r : Receipt) × IsExpected v h from n g came r
 expected_is v h from n at' tables expected =
@@ -85,7 +85,7 @@ expected_is v h from n at' tables expected =
 
 module _ (v : ReceivingView) (h : List Event) (from n : ℕ) (bytes : List ℕ) (drawn : List ℕ) (g : Granted)
     (came : List ℕ) (r : Receipt)
-    (tables : AreTables v h) (inside : from < length v.grants) (is : IsExpected v h from n g came r) where
+    (tables : TablesAgree v h) (inside : from < length v.grants) (is : IsExpected v h from n g came r) where
   abbrev row : List (ℕ × Granted)
   row = granted_to v from
 
@@ -221,7 +221,7 @@ module _ (v : ReceivingView) (h : List Event) (from n : ℕ) (bytes : List ℕ) 
         by (inr other) = subst (λ (es : List (ℕ × Granted)). IsDistinct nat_eq (keys_of es))
             (sym (granted_other i other)) (tables.once i)
 
-    pub tables-piece : length drawn ≡ length v.drawn → AreTables pieced h
+    pub tables-piece : length drawn ≡ length v.drawn → TablesAgree pieced h
     tables-piece same_drawn = record {
       streams = tables.streams;
       grants = length-set v.grants from row1 ∙ tables.grants;

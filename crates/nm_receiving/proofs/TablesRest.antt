@@ -17,7 +17,7 @@ use Rattle.nm_eager.specs.Streams.{message_of, missing}
 use Rattle.nm_rndv.specs.Grants.{Granted, grant_in}
 use Rattle.nm_receiving.specs.declared.receipts.Receipt.{Receipt}
 use Rattle.nm_receiving.specs.declared.receipts.Receive.{Receive}
-use Rattle.nm_receiving.specs.Kept.{AreGrantedFor, AreTables, HasBytes, HasOpen, IsCleared}
+use Rattle.nm_receiving.specs.Kept.{AreGrantedFor, TablesAgree, HasBytes, HasOpen, IsCleared}
 use Rattle.nm_receiving.specs.Receipts.{ReceivingView, granted_to, receipt_of, stream_of}
 use Rattle.nm_receiving.proofs.Lists.{some_from}
 use Rattle.std.proofs.Math.ListN.{set}
@@ -40,8 +40,8 @@ pub record AreLater (rs rs' : List Receive) : Type 0 where
       (now : Receive) × (slice_get rs' k ≡ Some now) × (now.cap ≡ was.cap)
 
 pub tables-receives : (v : ReceivingView) (h h' : List Event) (deeds : List Deed) (rs : List Receive) →
-    AreTables v h → IsLike h h'
-    → AreLater v.receives rs → AreTables (record v { deeds = deeds; receives = rs }) h'
+    TablesAgree v h → IsLike h h'
+    → AreLater v.receives rs → TablesAgree (record v { deeds = deeds; receives = rs }) h'
 tables-receives v h h' deeds rs tables like later = record {
   streams = tables.streams;
   grants = tables.grants;
@@ -158,12 +158,12 @@ owed-removed v h streams grants from n m removed came whole owed i k r here awai
 
 pub tables-removed : (v : ReceivingView) (h : List Event) (streams : List Stream) (grants : List (List (ℕ × Granted)))
     (from n : ℕ)
-    → AreTables v h → AreRemoved v h streams grants from n → is_taken h from n ≡ true
+    → TablesAgree v h → AreRemoved v h streams grants from n → is_taken h from n ≡ true
     → ((k : ℕ) (receive : Receive) (a : Arrival) → slice_get v.receives k ≡ Some receive → receive.taken ≡ Some a →
     receive.ended ≡ false
     → a.env.from ≡ from → a.n ≡ n → ⊥)
     → ((i k : ℕ) (s : Receipt) → receipt_of v i k ≡ Some s → (s.arrival.env.from ≡ i) × (s.arrival.n ≡ k))
-    → AreTables (record v { streams = streams; grants = grants }) h
+    → TablesAgree (record v { streams = streams; grants = grants }) h
 tables-removed v h streams grants from n tables removed is_done ended names = record {
   streams = removed.streams' ∙ tables.streams;
   grants = removed.grants' ∙ tables.grants;

@@ -10,7 +10,7 @@ use Rattle.nm_history.specs.Known.{Known, learned}
 use Rattle.nm_eager.specs.Streams.{IsStream, Stream, after, begun, carried_on, continues, is_kept, missing}
 use Rattle.nm_eager.specs.Streams.{nothing_came}
 use Rattle.nm_receiving.specs.Receipts.{ReceivingView, stream_of}
-use Rattle.nm_receiving.specs.Received.{Follows, IsTold}
+use Rattle.nm_receiving.specs.Received.{PreservesSender, IsTold}
 
 pub tells-more : (stream : Stream) (eager : ℕ) (w : What) (bytes : List ℕ) (known : Known)
     → ((stream : Stream) (len : ℕ) (bytes : List ℕ)
@@ -55,7 +55,7 @@ pub follows : (v v' : ReceivingView) (from eager : ℕ) (w : What) (bytes : List
     → continues eager stream.count (missing stream) w (length bytes) ≡ true
     → IsTold stream known → IsTold (after stream w bytes) (learned known w (length bytes)))
     → known.count ≡ (stream_of v from).count → known.missing ≡ missing (stream_of v from)
-    → Follows v' from (learned known w (length bytes))
+    → PreservesSender v' from (learned known w (length bytes))
 follows v v' from eager w bytes known stream low one streams goes tells count lacks =
     let k = learned known w (length bytes) in
     let told : IsTold (stream_of v from) known = record { count = count; lacks = lacks } in

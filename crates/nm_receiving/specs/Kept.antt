@@ -51,7 +51,7 @@ pub record IsCleared (h : List Event) (from : ℕ) (e : ℕ × Granted) (r : Rec
 -- that was sent by asking is not whole before a receive took it; two receives took two messages; each grant is of a
 -- message that a receive took, and each once; and each
 -- posted receive has its capacity.
-pub record AreTables (v : ReceivingView) (h : List Event) : Type 0 where
+pub record TablesAgree (v : ReceivingView) (h : List Event) : Type 0 where
   pub streams : length v.streams ≡ v.sizes.ranks
   pub grants : length v.grants ≡ v.sizes.ranks
   pub receipts : length v.receipts ≡ v.sizes.ranks
@@ -103,10 +103,10 @@ AreGrantedFor v h = (from n : ℕ) → IsGrantedFor v h from n
 
 -- The tables stand for some history, in which no withdrawal came late: such a one leaves no trace. Each
 -- message whose pieces are to come has an open grant.
-pub record IsKept (v : ReceivingView) : Type 0 where
+pub record ReceivingInvariant (v : ReceivingView) : Type 0 where
   pub history : List Event
   pub received : AreReceived v history
   pub right : AreRight v.sizes.ranks [] history
   pub in_time : (from n : ℕ) → happened (is_withdraw from n false) history ≡ false
-  pub tables : AreTables v history
+  pub tables : TablesAgree v history
   pub owed : AreGrantedFor v history

@@ -16,7 +16,7 @@ use Rattle.nm_history.specs.Effects.{happenings, packet_events}
 use Rattle.nm_history.specs.Known.{Known}
 use Rattle.nm_history.specs.Rest.{EmptyAreHere}
 use Rattle.nm_history.specs.Rules.{AreRight}
-use Rattle.nm_match.specs.Deeds.{Stands}
+use Rattle.nm_match.specs.Deeds.{Represents}
 use Rattle.nm_eager.specs.Streams.{Stream, missing}
 use Rattle.nm_receiving.specs.Pieces.{AreDue}
 use Rattle.nm_receiving.specs.Receipts.{ReceivingView, receipts_from, receipt_of, granted_to, drawn_from}
@@ -26,7 +26,7 @@ use Rattle.nm_receiving.specs.Receipts.{pair_at, stream_of}
 -- what is due of a sender's grants is what the history says, behind the pieces that continued; and each
 -- message that was asked for, has no bytes and is paired is here.
 pub record AreReceived (v : ReceivingView) (h : List Event) : Type 0 where
-  pub stands : Stands v.deeds h
+  pub stands : Represents v.deeds h
   pub arrived : (from : ℕ) → length (receipts_from v from) ≡ length (arrivals h from)
   pub messages :
       (from n : ℕ) → option_map (λ m. m.arrival) (receipt_of v from n) ≡ message_of h from n
@@ -50,8 +50,8 @@ pub record IsOwed (h : List Event) (from n : ℕ) : Type 0 where
 
 -- After this happened the messages and receives are those of the longer history, and it may come after the
 -- events before it.
-abbrev pub Keeps : ReceivingView → ReceivingView → List Happened → Type 0
-Keeps old new ws =
+abbrev pub Preserves : ReceivingView → ReceivingView → List Happened → Type 0
+Preserves old new ws =
     (h events : List Event) → happenings events ≡ ws → AreReceived old h → AreRight old.sizes.ranks [] h →
     AreReceived new (h ++ events) × AreRight old.sizes.ranks h events
 
@@ -88,5 +88,5 @@ pub record IsTold (stream : Stream) (known : Known) : Type 0 where
   pub lacks : known.missing ≡ missing stream
 
 -- the same of one sender of a rank
-abbrev pub Follows : ReceivingView → ℕ → Known → Type 0
-Follows v from known = IsTold (stream_of v from) known
+abbrev pub PreservesSender : ReceivingView → ℕ → Known → Type 0
+PreservesSender v from known = IsTold (stream_of v from) known

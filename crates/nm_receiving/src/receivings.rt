@@ -26,7 +26,7 @@ ghost use Rattle.nm_receiving.specs.StreamViews.{is_done_at_once};
 ghost use Rattle.nm_receiving.specs.Receipts.{AddsBytes, SameBytes, SameOtherBytes, ShowsBytes, came_of};
 ghost use Rattle.nm_receiving.specs.Receipts.{drawn_from, of_asked, of_eager, pair_at, receipt_of};
 ghost use Rattle.nm_receiving.specs.Receipts.{receipts_from, stream_of, taken_events};
-ghost use Rattle.nm_receiving.specs.Received.{AreReceived, Follows, IsOwed, Keeps, MayBeTaken};
+ghost use Rattle.nm_receiving.specs.Received.{AreReceived, PreservesSender, IsOwed, Preserves, MayBeTaken};
 ghost use Rattle.nm_receiving.specs.Received.{TakesPacket};
 ghost use Rattle.nm_receiving.specs.Steps.{with_ended};
 
@@ -88,12 +88,12 @@ impl Model for Receiving {
 
     ghost Value = { ReceivingView };
 
-    ghost use Rattle.nm_receiving.specs.Kept.{IsKept};
+    ghost use Rattle.nm_receiving.specs.Kept.{ReceivingInvariant};
     ghost use Rattle.nm_receiving.specs.Seen.{seen};
 
     ghost view = { seen };
 
-    ghost invariant = { λ a. IsKept (seen a) };
+    ghost invariant = { λ a. ReceivingInvariant (seen a) };
 }
 
 impl Receiving {
@@ -134,7 +134,7 @@ impl Receiving {
             s.taken ≡ first_message h (matched_pairs h) from tag ctx) }
         ensures sender { IfOk result (λ s.
             IfSome s.taken (λ a. a.env.from < self.old.sizes.ranks)) }
-        ensures kept { IfOk result (λ s. (line : ℕ) → Keeps self.old self.new
+        ensures kept { IfOk result (λ s. (line : ℕ) → Preserves self.old self.new
             (event.Post
             (record { number = s.number; from = from; tag = tag; ctx = ctx; cap = cap }) line
             ∷ taken_events s.taken)) }
@@ -170,7 +170,7 @@ impl Receiving {
         ensures some { IfOk result (λ s. IsSome s.taken) }
         ensures sender { IfOk result (λ s.
             IfSome s.taken (λ a. a.env.from < self.old.sizes.ranks)) }
-        ensures kept { IfOk result (λ s. (line : ℕ) → Keeps self.old self.new
+        ensures kept { IfOk result (λ s. (line : ℕ) → Preserves self.old self.new
             (event.Match s.number from n cap line ∷ taken_events s.taken)) }
         ensures sizes { OnOk result (self.new.sizes ≡ self.old.sizes) }
         ensures streams { OnOk result (self.new.streams ≡ self.old.streams) }
@@ -197,7 +197,7 @@ impl Receiving {
             t ≡ first_message h (matched_pairs h) from tag ctx) }
         ensures kept { IfOk result (λ t. MatchOption t (self.new ≡ self.old)
             (λ a. (line : ℕ) →
-            Keeps self.old self.new (event.Claim a.env.from a.n line ∷ []))) }
+            Preserves self.old self.new (event.Claim a.env.from a.n line ∷ []))) }
         ensures same { self.new ≡ record self.old { deeds = self.new.deeds } }
         ensures err { OnErr result (self.new ≡ self.old) }
     {
@@ -225,7 +225,7 @@ impl Receiving {
         requires { number < length self.old.receives }
         ensures late { (h : List Event) → AreReceived self.old h →
             result ≡ not (list_any (is_of_receive number) (matched_pairs h)) }
-        ensures kept { Keeps self.old self.new (event.Cancel number result ∷ []) }
+        ensures kept { Preserves self.old self.new (event.Cancel number result ∷ []) }
         ensures same { self.new
             ≡ record self.old { deeds = self.new.deeds; receives = self.new.receives } }
         ensures ended { map (λ r. r.ended) self.new.receives
@@ -270,7 +270,7 @@ impl Receiving {
         ensures known { OnOk result ((known : Known) →
             known.count ≡ (stream_of self.old p.now.from).count →
             known.missing ≡ missing (stream_of self.old p.now.from) →
-            Follows self.new p.now.from
+            PreservesSender self.new p.now.from
             (learned known p.now.what (length p.now.payload))) }
         ensures bytes { OnOk result ((known : Known) →
             known.count ≡ (stream_of self.old p.now.from).count → AddsBytes
@@ -442,7 +442,7 @@ impl Receiving {
             ≡ piece_makes p.now.from
             (slice_get (due_pieces h p.now.from) (drawn_from self.old p.now.from)) p.now) }
         ensures kept { IfOk result (λ d.
-            Keeps self.old self.new (option_to_list d.event)) }
+            Preserves self.old self.new (option_to_list d.event)) }
         ensures stray { IfOk result (λ d. d.continued ≡ false → self.new ≡ self.old) }
         ensures counted { IfOk result (λ d. self.new.drawn ≡ slice_set self.old.drawn p.now.from
             (drawn_from self.old p.now.from + (if d.continued then 1 else 0))) }

@@ -15,7 +15,7 @@ use Rattle.nm_rndv.specs.declared.asked.State.TheVariants.{Asked}
 use Rattle.nm_rndv.specs.Cuts.{Cut}
 use Rattle.nm_rndv.specs.Offers.{Destined, state_in, state_at, leaves, cleared_at}
 use Rattle.nm_rndv.specs.Offers.{is_leaving, was_cleared, with_asked, with_answer}
-use Rattle.nm_rndv.specs.Kept.{waiting_in, IsKept}
+use Rattle.nm_rndv.specs.Kept.{waiting_in, OffersInvariant}
 use Rattle.nm_rndv.specs.Offers.{leaving_or_out, after_withdrawal}
 use Rattle.nm_rndv.proofs.Places.{position_or_len-append_le, position_or_len-le}
 use Rattle.nm_rndv.proofs.Places.{position_or_len-same}
@@ -28,11 +28,11 @@ use Rattle.nm_rndv.proofs.StateLemmas.{waiting-asked, cleared_now, waits_no_more
 use Rattle.nm_rndv.proofs.StateLemmas.{withdrawal_clears, withdrawal_waits}
 
 module _ (ds ds' : List Destined) (order : List (ℕ × ℕ)) (first reserved room : ℕ)
-    (kept : IsKept ds order first reserved room) where
+    (kept : OffersInvariant ds order first reserved room) where
   -- where the tests of all messages are as before, so is the rest
   pub kept_steady : ((m : ℕ × ℕ) → leaves ds' m ≡ leaves ds m) → ((m : ℕ × ℕ) → cleared_at ds' m ≡ cleared_at ds m) →
       (reserved' room' : ℕ) → sum_by waiting_in ds' ≤ reserved' → length order + reserved' ≤ room' →
-      IsKept ds' order first reserved' room'
+      OffersInvariant ds' order first reserved' room'
   kept_steady same_leaves same_cleared reserved' room' counted fits = record {
     cleared = λ k d lt. same_cleared (get_or order k d) ∙ kept.cleared k d lt;
     first_is = kept.first_is ∙ sym (position_or_len-same (leaves ds') (leaves ds) same_leaves order);
@@ -81,7 +81,7 @@ module _ (ds ds' : List Destined) (order : List (ℕ × ℕ)) (first reserved ro
           omega (arith, kept.first_is, later, position_or_len-append_le (leaves ds') order more)
 
 module _ (ds : List Destined) (order : List (ℕ × ℕ)) (first reserved room : ℕ)
-    (kept : IsKept ds order first reserved room) where
+    (kept : OffersInvariant ds order first reserved room) where
   -- where none leaves in the order, none leaves at all
   pub all_out : IsNone (slice_get order first) → (to n : ℕ) → leaves ds (to, n) ≡ false
   all_out none to n = by (leaves ds (to, n)) refl
@@ -95,10 +95,10 @@ module _ (ds : List Destined) (order : List (ℕ × ℕ)) (first reserved room :
           absurd (true≢false (sym e ∙ ap (leaves ds) (sym there.2) ∙ fails))
 
 module _ (ds : List Destined) (order : List (ℕ × ℕ)) (first reserved room : ℕ)
-    (kept : IsKept ds order first reserved room) (to : ℕ) (within : to < length ds) (d : Destined)
+    (kept : OffersInvariant ds order first reserved room) (to : ℕ) (within : to < length ds) (d : Destined)
     (at : d ≡ get_or ds to d) (d' : Destined) (n : ℕ) where
   -- a change that leaves the destination's states
-  pub kept_unchanged : d'.asked ≡ d.asked → IsKept (set ds to d') order first reserved room
+  pub kept_unchanged : d'.asked ≡ d.asked → OffersInvariant (set ds to d') order first reserved room
   kept_unchanged is =
       let same = states_same ds to within d at d' (λ q. ap (lookup (nat_eq q)) is) in
       let count : waiting_in d' ≡ waiting_in d = ap (λ es. sum_by weight (values_of es)) is in
@@ -110,7 +110,7 @@ module _ (ds : List Destined) (order : List (ℕ × ℕ)) (first reserved room :
   -- one message more that waits
   pub kept_asked : (body : Body) → state_in d n ≡ None →
       ((q : ℕ) → state_in d' q ≡ cond (nat_eq n q) (Some (Asked body)) (state_in d q)) → d' ≡ with_asked d n body →
-      (room' : ℕ) → length order + (reserved + 1) ≤ room' → IsKept (set ds to d') order first (reserved + 1) room'
+      (room' : ℕ) → length order + (reserved + 1) ≤ room' → OffersInvariant (set ds to d') order first (reserved + 1) room'
   kept_asked body was states is room' fits =
       let changes = state_changes ds to within d at d' n (Asked body) states in
       let count : waiting_in d' ≡ waiting_in d + 1 = ap waiting_in is ∙ waiting-asked d n body in
@@ -123,7 +123,7 @@ module _ (ds : List Destined) (order : List (ℕ × ℕ)) (first reserved room :
 
   -- the answer of a recall
   pub kept_answered : (done : Bool) (o : Option State) → state_in d n ≡ o → d' ≡ with_answer d n done →
-      IsKept (set ds to d') order first reserved room
+      OffersInvariant (set ds to d') order first reserved room
   kept_answered false o was is = kept_unchanged (ap (λ (x : Destined). x.asked) is)
   kept_answered true None was is =
       kept_unchanged (ap (λ (x : Destined). x.asked) is
@@ -182,7 +182,7 @@ module _ (ds : List Destined) (order : List (ℕ × ℕ)) (first reserved room :
       -- after the clearance of a message that waited
       pub kept_cleared : weight s ≡ 1 → is_leaving s ≡ false → (first' : ℕ) →
           first' ≡ position_or_len (leaves (set ds to d')) (order ++ (to, n) ∷ []) →
-          IsKept (set ds to d') (order ++ (to, n) ∷ []) first' (reserved - 1) room
+          OffersInvariant (set ds to d') (order ++ (to, n) ∷ []) first' (reserved - 1) room
       kept_cleared waits stays first' is =
           let count = waiting-set_value d d' n s (leaving_or_out o) was entries in
           let here : state_at (set ds to d') (to, n) ≡ Some (leaving_or_out o) =
@@ -212,7 +212,7 @@ module _ (ds : List Destined) (order : List (ℕ × ℕ)) (first reserved room :
 
       -- after one piece more of a message that leaves
       pub kept_popped : weight s ≡ 0 → is_leaving s ≡ true → (first' : ℕ) →
-          first' ≡ position_or_len (leaves (set ds to d')) order → IsKept (set ds to d') order first' reserved room
+          first' ≡ position_or_len (leaves (set ds to d')) order → OffersInvariant (set ds to d') order first' reserved room
       kept_popped waits left first' is =
           let count = waiting-set_value d d' n s (leaving_or_out o) was entries in
           record {

@@ -10,7 +10,7 @@ waiting_in d = count_by is_waiting (values_of d.asked)
 
 -- Every message in the order was cleared, and every one that leaves is in the order, of which the
 -- first that leaves is known. There is room in the order for each message that waits.
-pub record IsKept (ds : List Destined) (order : List (ℕ × ℕ)) (first reserved room : ℕ)
+pub record OffersInvariant (ds : List Destined) (order : List (ℕ × ℕ)) (first reserved room : ℕ)
     : Type 0 where
   pub cleared : All (λ m. cleared_at ds m ≡ true) order
   pub first_is : first ≡ position_or_len (leaves ds) order

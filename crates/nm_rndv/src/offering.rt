@@ -44,7 +44,7 @@ impl Drop for Offers {
 
 impl Model for Offers {
     ghost use Rattle.std.specs.Prelude.{vec_capacity};
-    ghost use Rattle.nm_rndv.specs.Kept.{IsKept};
+    ghost use Rattle.nm_rndv.specs.Kept.{OffersInvariant};
     ghost use Rattle.nm_rndv.specs.Offers.{Offering};
 
     ghost Value = { Offering };
@@ -52,7 +52,7 @@ impl Model for Offers {
     ghost view = { λ a. record { destinations = a.destinations.items; order = a.order.items } };
 
     ghost invariant = { λ a.
-        IsKept a.destinations.items a.order.items a.first a.reserved (vec_capacity a.order) };
+        OffersInvariant a.destinations.items a.order.items a.first a.reserved (vec_capacity a.order) };
 }
 
 /// The message at this place of the order.

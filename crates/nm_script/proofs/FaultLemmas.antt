@@ -30,7 +30,7 @@ use Rattle.nm_script.specs.Digits.{is_lower_digit}
 use Rattle.nm_script.specs.Decimal.{number_of}
 use Rattle.nm_script.specs.Faults.{◌>>=◌}
 use Rattle.nm_script.specs.Keywords.{keyword_of, keyword_text}
-use Rattle.nm_script.specs.Rules.{HasRank, IsFirstOf, Keeps}
+use Rattle.nm_script.specs.Rules.{HasRank, IsFirstOf, KeepsRule}
 use Rattle.nm_script.proofs.BodyLemmas.{body_again}
 use Rattle.nm_script.proofs.CommandLemmas.{argument_again, peer_again}
 use Rattle.nm_script.proofs.CommandTakenLemmas.{argument_taken}
@@ -372,7 +372,7 @@ one_keyword j k same =
 arguments_break : (ranks number total : ℕ) (text first name : List ℕ) (k : Keyword) (ws : List (List ℕ))
     (e : Kind)
     → name ≡ keyword_text k → Faulty ranks (arguments k) ws e
-    → IsFirstOf (Keeps ranks number total text (first ∷ name ∷ ws)) (kind.Count ∷ kind.Number
+    → IsFirstOf (KeepsRule ranks number total text (first ∷ name ∷ ws)) (kind.Count ∷ kind.Number
     ∷ kind.Body ∷ kind.BodyTotal ∷ []) e
 arguments_break ranks number total text first name k ws e word faulty =
     let every : (P : Keyword → Type 0) → P k → (j : Keyword) → name ≡ keyword_text j → P j = λ P holds j named.
@@ -413,7 +413,7 @@ rank_refused ranks first ws e few h =
 -- the first rule that the words of a line break, behind those of its bytes and its place
 pub words_fault : (ranks number total : ℕ) (text : List ℕ) (ws : List (List ℕ)) (e : Kind)
     → ranks ≤ MAX_RANKS → line_of ranks ws ≡ Err e
-    → IsFirstOf (Keeps ranks number total text ws) (kind.Rank ∷ kind.Command ∷ kind.Count
+    → IsFirstOf (KeepsRule ranks number total text ws) (kind.Rank ∷ kind.Command ∷ kind.Count
     ∷ kind.Number ∷ kind.Body ∷ kind.BodyTotal ∷ []) e
 unfolding line_of command_of
 words_fault ranks number total text [] e few h = inl (cc, λ no. no)

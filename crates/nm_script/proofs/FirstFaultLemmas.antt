@@ -15,7 +15,7 @@ use Rattle.nm_script.specs.declared.faults.ScriptFault.TheVariants as fault
 use Rattle.nm_script.specs.Faults.{at_line, GivesAt}
 use Rattle.nm_script.specs.Lines.{lines_of, text_len, words_of}
 use Rattle.nm_script.specs.Reading.{ranks_at, line_at, lines_from, script_of, read_of, parts}
-use Rattle.nm_script.specs.Rules.{line_text, ranks_text, IsLine, Keeps, FirstKeeps, first_kinds, line_kinds}
+use Rattle.nm_script.specs.Rules.{line_text, ranks_text, IsLine, KeepsRule, FirstKeeps, first_kinds, line_kinds}
 use Rattle.nm_script.specs.Rules.{IsFirstOf, first_of, IsFaultBehind, IsFaultOf, IsFirstFault, IsFault, IsRefused}
 use Rattle.nm_script.specs.Spelled.{IsTextOf}
 use Rattle.nm_script.proofs.FaultLemmas.{only_first}
@@ -48,11 +48,11 @@ record IsFaultFrom (ranks k total : ℕ) (texts : List (List ℕ)) (number : ℕ
   in_lines : k + length before ≤ MAX_LINES + 1
   in_bodies : total + sent before ≤ MAX_BODIES
   number_is : number ≡ k + length before
-  here : IsFirstOf (Keeps ranks number (total + sent before) text (words_of text)) line_kinds e
+  here : IsFirstOf (KeepsRule ranks number (total + sent before) text (words_of text)) line_kinds e
 
 fault_here : (ranks k total : ℕ) (text : List ℕ) (texts : List (List ℕ)) (number : ℕ) (e : Kind)
     → k ≤ MAX_LINES + 1 → total ≤ MAX_BODIES → number ≡ k
-    → IsFirstOf (Keeps ranks k total text (words_of text)) line_kinds e
+    → IsFirstOf (KeepsRule ranks k total text (words_of text)) line_kinds e
     → IsFaultFrom ranks k total (text ∷ texts) number e
 fault_here ranks k total text texts number e few fits is first =
     let sum : total ≡ total + sent [] = omega arith in
@@ -65,8 +65,8 @@ fault_here ranks k total text texts number e few fits is first =
       in_lines = omega arith;
       in_bodies = omega arith;
       number_is = omega (arith, is);
-      here = subst (λ n. IsFirstOf (Keeps ranks n (total + sent []) text (words_of text)) line_kinds e) (sym is)
-          (subst (λ t. IsFirstOf (Keeps ranks k t text (words_of text)) line_kinds e) sum first);
+      here = subst (λ n. IsFirstOf (KeepsRule ranks n (total + sent []) text (words_of text)) line_kinds e) (sym is)
+          (subst (λ t. IsFirstOf (KeepsRule ranks k t text (words_of text)) line_kinds e) sum first);
     }
 
 fault_later : (ranks k total : ℕ) (text : List ℕ) (texts : List (List ℕ)) (number : ℕ) (e : Kind)
@@ -89,7 +89,7 @@ fault_later ranks k total text texts number e line here rest =
       in_lines = omega (arith, rest.in_lines);
       in_bodies = omega (arith, rest.in_bodies, sum);
       number_is = omega (arith, rest.number_is);
-      here = subst (λ t. IsFirstOf (Keeps ranks number t rest.text (words_of rest.text)) line_kinds e) sum
+      here = subst (λ t. IsFirstOf (KeepsRule ranks number t rest.text (words_of rest.text)) line_kinds e) sum
           rest.here;
     }
 
@@ -131,7 +131,7 @@ behind_ranks ranks line texts number e first rest =
       few_lines = omega (arith, rest.in_lines);
       bodies_fit = omega (arith, rest.in_bodies);
       number_is = omega (arith, rest.number_is);
-      here = subst (λ t. IsFirstOf (Keeps ranks number t rest.text (words_of rest.text)) line_kinds e) sum
+      here = subst (λ t. IsFirstOf (KeepsRule ranks number t rest.text (words_of rest.text)) line_kinds e) sum
           rest.here;
     }
 
@@ -175,7 +175,7 @@ fault_found bytes number e h =
 -- ---- and what has a fault is refused with it
 
 line_refused : (ranks k total : ℕ) (text : List ℕ) (e : Kind) → ranks ≤ MAX_RANKS
-    → IsFirstOf (Keeps ranks k total text (words_of text)) line_kinds e
+    → IsFirstOf (KeepsRule ranks k total text (words_of text)) line_kinds e
     → (r : Result Line Kind) → line_at ranks k total text ≡ r → r ≡ Err e
 line_refused ranks k total text e few first (Ok line) h =
     let here = line_at_taken ranks k total text line few h in
@@ -185,10 +185,10 @@ line_refused ranks k total text e few first (Ok line) h =
       range = here.fits.range;
       bytes = here.fits.bytes;
     } in
-    absurd (none_first (Keeps ranks k total text (words_of text)) line_kinds e
+    absurd (none_first (KeepsRule ranks k total text (words_of text)) line_kinds e
     (line_kept ranks k total text line few is here.in_lines here.in_bodies) first)
 line_refused ranks k total text e few first (Err d) h =
-    ap Err (one_first (Keeps ranks k total text (words_of text)) line_kinds d e
+    ap Err (one_first (KeepsRule ranks k total text (words_of text)) line_kinds d e
     (line_fault ranks k total text d few h) first)
 
 lines_refused : (ranks k total : ℕ) (before : List Line) (text : List ℕ) (after : List (List ℕ)) (e : Kind)
@@ -236,9 +236,9 @@ later_refused : (texts : List (List ℕ)) (number : ℕ) (e : Kind) → IsFaultB
 later_refused texts number e f =
     let n : number ≡ 2 + length f.before = omega (arith, f.number_is) in
     let t : sent f.before ≡ 0 + sent f.before = omega arith in
-    let first : IsFirstOf (Keeps f.ranks (2 + length f.before) (0 + sent f.before) f.text
-    (words_of f.text)) line_kinds e = subst (λ m. IsFirstOf (Keeps f.ranks (2 + length f.before) m f.text
-    (words_of f.text)) line_kinds e) t (subst (λ m. IsFirstOf (Keeps f.ranks m (sent f.before) f.text
+    let first : IsFirstOf (KeepsRule f.ranks (2 + length f.before) (0 + sent f.before) f.text
+    (words_of f.text)) line_kinds e = subst (λ m. IsFirstOf (KeepsRule f.ranks (2 + length f.before) m f.text
+    (words_of f.text)) line_kinds e) t (subst (λ m. IsFirstOf (KeepsRule f.ranks m (sent f.before) f.text
     (words_of f.text)) line_kinds e) n f.here) in
     let here = line_refused f.ranks (2 + length f.before) (0 + sent f.before) f.text e f.few_ranks first
     (line_at f.ranks (2 + length f.before) (0 + sent f.before) f.text) refl in

@@ -3,8 +3,8 @@ use Rattle.std.proofs.Common.{◌≡◌, ℕ, ◌⊎◌, inl, inr, List, [], ◌
 use Rattle.std.proofs.Common.{string_bytes, true, false, ◌==◌, arith}
 use Rattle.std.proofs.lemmas.Bool.Decides.{Decides-eqb}
 use Rattle.nm_script.specs.ArgumentWords.{IsArgument}
-use Rattle.nm_script.specs.CommandWords.{Follows, with_argument}
-use Rattle.nm_script.specs.CommandWords.Follows.{ends, more}
+use Rattle.nm_script.specs.CommandWords.{ReadsArguments, with_argument}
+use Rattle.nm_script.specs.CommandWords.ReadsArguments.{ends, more}
 use Rattle.nm_script.specs.declared.command_line.arguments.Argument.{Argument}
 use Rattle.nm_script.specs.declared.command_line.found.Found.{Found}
 
@@ -15,10 +15,10 @@ pub record Goes (f : Found) (words : List (List ℕ)) (h : Found) : Type 0 where
   pub next : Found
   pub is : IsArgument argument words others
   pub added : with_argument f argument ≡ Some next
-  pub follows : Follows next others h
+  pub follows : ReadsArguments next others h
 
 -- there are no words and nothing more is found, or there is an argument
-pub cases : (f h : Found) (words : List (List ℕ)) → Follows f words h →
+pub cases : (f h : Found) (words : List (List ℕ)) → ReadsArguments f words h →
     ((words ≡ []) × (f ≡ h)) ⊎ Goes f words h
 cases f _ _ (ends _) = inl (refl, refl)
 cases f h words (more a _ others _ g _ is added follows) =
@@ -34,6 +34,6 @@ some_word [] h none = let e = (Decides-eqb 0 0).1 refl in let f : true ≡ false
 some_word (w ∷ ws) h none = cc
 
 -- where there are words there is an argument
-pub goes_on : (f h : Found) (words : List (List ℕ)) → (words ≡ [] → ⊥) → Follows f words h → Goes f words h
+pub goes_on : (f h : Found) (words : List (List ℕ)) → (words ≡ [] → ⊥) → ReadsArguments f words h → Goes f words h
 goes_on f h words some follows =
     elim (cases f h words follows) [ inl e ↦ absurd (some e.0) | inr goes ↦ goes ]

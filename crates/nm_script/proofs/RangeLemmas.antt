@@ -1,9 +1,9 @@
 -- What is found is in range.
 use Rattle.std.proofs.Common.{◌≡◌, ℕ, ◌≤◌, List, Option, Some, None, sym, subst, arith, unwrap_or, lit≤}
 use Rattle.nm_script.specs.ArgumentWords.{IsArgument}
-use Rattle.nm_script.specs.CommandWords.{AreNumbers, Follows, InRange, nothing, unless, with_argument}
+use Rattle.nm_script.specs.CommandWords.{AreNumbers, ReadsArguments, InRange, nothing, unless, with_argument}
 use Rattle.nm_script.specs.CommandWords.{with_cells, with_eager, with_first, with_second, with_third}
-use Rattle.nm_script.specs.CommandWords.Follows.{ends, more}
+use Rattle.nm_script.specs.CommandWords.ReadsArguments.{ends, more}
 use Rattle.nm_script.specs.declared.command_line.Mode.{Mode}
 use Rattle.nm_script.specs.declared.command_line.arguments.Argument.{Argument}
 use Rattle.nm_script.specs.declared.command_line.arguments.Argument.TheVariants.{Cells, Eager, Number}
@@ -61,7 +61,7 @@ argument_within (Eager eager) words others f g (few, is) within h =
 argument_within (Number number) words others f g is within h = number_within number f g f.first within h
 
 -- and all of them
-pub all_within : (f h : Found) (words : List (List ℕ)) → Follows f words h → AreFound f → AreFound h
+pub all_within : (f h : Found) (words : List (List ℕ)) → ReadsArguments f words h → AreFound f → AreFound h
 all_within _ _ _ (ends _) within = within
 all_within f h words (more a _ others _ g _ is added follows) within =
     all_within g h others follows (argument_within a words others f g is within added)

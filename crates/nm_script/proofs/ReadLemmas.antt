@@ -24,7 +24,7 @@ use Rattle.nm_script.specs.Lines.{is_printable, lines_of, text_len, with_feed, w
 use Rattle.nm_script.specs.Reading.{positive, ranks_of, ranks_at, fitting, line_at, lines_from, script_of}
 use Rattle.nm_script.specs.Reading.{read_of, parts}
 use Rattle.nm_script.specs.Rules.{line_text, ranks_text}
-use Rattle.nm_script.specs.Spelled.{has_bytes, IsTextOf, Takes}
+use Rattle.nm_script.specs.Spelled.{has_bytes, IsTextOf, AnswersScript}
 use Rattle.nm_script.proofs.CommandLemmas.{line_words, Fits, line_again}
 use Rattle.nm_script.proofs.CommandTakenLemmas.{line_taken}
 use Rattle.nm_script.proofs.LineLemmas.{ended_lines, is_some_line, lines_split, lines_fed, text_len-lines}
@@ -363,7 +363,7 @@ taken_from bytes (Ok s) gives = read_taken bytes s.ranks s.lines gives
 taken_from bytes (Err e) gives = tt
 
 pub takes_from : (bytes : List ℕ) (r : Result Script ScriptFault) → GivesAt parts r (read_of bytes)
-    → (ranks : ℕ) (lines : List Line) → IsTextOf bytes ranks lines → Takes r ranks lines
+    → (ranks : ℕ) (lines : List Line) → IsTextOf bytes ranks lines → AnswersScript r ranks lines
 takes_from bytes (Ok s) gives ranks lines is =
     let pair : ◌≡◌ {A = ℕ × List Line} (s.ranks, s.lines) (ranks, lines) = cc
     (read_again bytes ranks lines is, gives) in

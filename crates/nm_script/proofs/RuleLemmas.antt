@@ -26,7 +26,7 @@ use Rattle.nm_script.specs.Faults.{◌>>=◌}
 use Rattle.nm_script.specs.Keywords.{keyword_text}
 use Rattle.nm_script.specs.Lines.{is_printable, words_of}
 use Rattle.nm_script.specs.Reading.{positive, ranks_of, ranks_at, fitting, line_at}
-use Rattle.nm_script.specs.Rules.{ranks_text, IsLine, Keeps, FirstKeeps, first_kinds, line_kinds}
+use Rattle.nm_script.specs.Rules.{ranks_text, IsLine, KeepsRule, FirstKeeps, first_kinds, line_kinds}
 use Rattle.nm_script.specs.Rules.{IsFirstOf, AllKept}
 use Rattle.nm_script.specs.Spelled.{has_bytes}
 use Rattle.nm_script.proofs.CommandLemmas.{Fits, arguments_in, keyword_in, line_again, line_words}
@@ -134,7 +134,7 @@ abbrev word_kinds : List Kind
 word_kinds = kind.Rank ∷ kind.Command ∷ kind.Count ∷ kind.Number ∷ kind.Body ∷ []
 
 named_words_kept : (ranks number total : ℕ) (text : List ℕ) (line : Line) → Fits ranks line
-    → AllKept (Keeps ranks number total text ((decimal line.rank ++ codes ":")
+    → AllKept (KeepsRule ranks number total text ((decimal line.rank ++ codes ":")
     ∷ keyword_text (keyword_in line.command) ∷ arguments_in line.command)) word_kinds
 unfolding AllSpelled
 named_words_kept ranks number total text line fits =
@@ -162,10 +162,10 @@ named_words_kept ranks number total text line fits =
 
 -- the words of a line that fits keep the rules of words
 words_kept : (ranks number total : ℕ) (text : List ℕ) (ws : List (List ℕ)) (line : Line) → Fits ranks line
-    → ws ≡ line_words line.rank line.command → AllKept (Keeps ranks number total text ws) word_kinds
+    → ws ≡ line_words line.rank line.command → AllKept (KeepsRule ranks number total text ws) word_kinds
 words_kept ranks number total text ws line fits is =
     let named = is ∙ ap (λ xs. (decimal line.rank ++ codes ":") ∷ xs) (words_are line.command) in
-    subst (λ xs. AllKept (Keeps ranks number total text xs) word_kinds) (sym named)
+    subst (λ xs. AllKept (KeepsRule ranks number total text xs) word_kinds) (sym named)
     (named_words_kept ranks number total text line fits)
 
 -- ---- a command's line
@@ -203,7 +203,7 @@ one_line ranks text a b few x y =
 -- a command's line at its place keeps every rule
 pub line_kept : (ranks number total : ℕ) (text : List ℕ) (line : Line) → ranks ≤ MAX_RANKS
     → IsLine ranks text line → number ≤ MAX_LINES → total + sent_len line.command ≤ MAX_BODIES
-    → AllKept (Keeps ranks number total text (words_of text)) line_kinds
+    → AllKept (KeepsRule ranks number total text (words_of text)) line_kinds
 line_kept ranks number total text line few is in_lines in_bodies =
     let read = is_read ranks text line few is in
     let w = words_kept ranks number total text (words_of text) line read.fits read.words_are in
@@ -225,7 +225,7 @@ too_much total line e h =
 -- the bodies up to this line are too long together
 overflows : (ranks number total : ℕ) (text : List ℕ) (line : Line) (e : Kind) → ranks ≤ MAX_RANKS
     → line_of ranks (words_of text) ≡ Ok line → fitting total line ≡ Err e
-    → IsFirstOf (Keeps ranks number total text (words_of text)) (kind.Rank ∷ kind.Command
+    → IsFirstOf (KeepsRule ranks number total text (words_of text)) (kind.Rank ∷ kind.Command
     ∷ kind.Count ∷ kind.Number ∷ kind.Body ∷ kind.BodyTotal ∷ []) e
 overflows ranks number total text line e few read over =
     let t = line_taken ranks (words_of text) line (omega arith) read in
@@ -243,7 +243,7 @@ overflows ranks number total text line e few read over =
 
 pub line_fault : (ranks number total : ℕ) (text : List ℕ) (e : Kind) → ranks ≤ MAX_RANKS
     → line_at ranks number total text ≡ Err e
-    → IsFirstOf (Keeps ranks number total text (words_of text)) line_kinds e
+    → IsFirstOf (KeepsRule ranks number total text (words_of text)) line_kinds e
 unfolding line_at
 line_fault ranks number total text e few h =
     elim (chosen (is_printable text) (cond (nat_lt MAX_LINES number) (Err kind.Lines)
@@ -324,7 +324,7 @@ none_first keeps (k ∷ kinds) a all x =
 
 -- a text that keeps every rule is a command's line at its place
 pub only_lines : (ranks number total : ℕ) (text : List ℕ) → ranks ≤ MAX_RANKS
-    → AllKept (Keeps ranks number total text (words_of text)) line_kinds
+    → AllKept (KeepsRule ranks number total text (words_of text)) line_kinds
     → (r : Result Line Kind) → line_at ranks number total text ≡ r
     → (line : Line) × IsLine ranks text line × (number ≤ MAX_LINES)
     × (total + sent_len line.command ≤ MAX_BODIES)
@@ -338,5 +338,5 @@ only_lines ranks number total text few all (Ok line) h =
     } in
     (line, is, here.in_lines, here.in_bodies)
 only_lines ranks number total text few all (Err e) h = absurd
-    (none_first (Keeps ranks number total text (words_of text)) line_kinds e all
+    (none_first (KeepsRule ranks number total text (words_of text)) line_kinds e all
     (line_fault ranks number total text e few h))

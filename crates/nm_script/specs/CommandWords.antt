@@ -52,11 +52,11 @@ with_argument f (Eager eager) = unless f.eager (with_eager eager f)
 with_argument f (Number number) = with_first number f f.first
 
 -- the words are arguments, one behind the other, and give this in the end
-pub data Follows : Found → List (List ℕ) → Found → Type 0 where
-  ends : (f : Found) → Follows f [] f
+pub data ReadsArguments : Found → List (List ℕ) → Found → Type 0 where
+  ends : (f : Found) → ReadsArguments f [] f
   more :
       (a : Argument) (words others : List (List ℕ)) (f g h : Found) → IsArgument a words others →
-      with_argument f a ≡ Some g → Follows g others h → Follows f words h
+      with_argument f a ≡ Some g → ReadsArguments g others h → ReadsArguments f words h
 
 -- the first word
 abbrev pub name_of : Mode → List ℕ
@@ -95,7 +95,7 @@ pub record IsTaken (words : List (List ℕ)) (line : CommandLine) : Type 0 where
   pub others : List (List ℕ)
   pub found : Found
   pub first : words ≡ name_of line.mode ∷ others
-  pub follows : Follows nothing others found
+  pub follows : ReadsArguments nothing others found
   pub arguments : HasArguments line.mode found
   pub numbers : AreNumbers line.mode
   pub cells : line.cells ≡ unwrap_or found.cells 8

@@ -49,20 +49,20 @@ behind _ = []
 
 -- a line other than the first, with its number, the lengths of the bodies before it and its words,
 -- keeps the rule of a kind
-abbrev pub Keeps : ℕ → ℕ → ℕ → List ℕ → List (List ℕ) → Kind → Type 0
-Keeps ranks number total text ws kind.NotAscii = is_printable text ≡ true
-Keeps ranks number total text ws kind.Lines = number ≤ MAX_LINES
-Keeps ranks number total text ws kind.Rank = HasRank ranks ws
-Keeps ranks number total text ws kind.Command = (keyword : Keyword) × Names keyword ws
-Keeps ranks number total text ws kind.Count =
+abbrev pub KeepsRule : ℕ → ℕ → ℕ → List ℕ → List (List ℕ) → Kind → Type 0
+KeepsRule ranks number total text ws kind.NotAscii = is_printable text ≡ true
+KeepsRule ranks number total text ws kind.Lines = number ≤ MAX_LINES
+KeepsRule ranks number total text ws kind.Rank = HasRank ranks ws
+KeepsRule ranks number total text ws kind.Command = (keyword : Keyword) × Names keyword ws
+KeepsRule ranks number total text ws kind.Count =
     (keyword : Keyword) → Names keyword ws → length (behind ws) ≡ length (arguments keyword)
-Keeps ranks number total text ws kind.Number =
+KeepsRule ranks number total text ws kind.Number =
     (keyword : Keyword) → Names keyword ws → Each (IsSpelled ranks) (arguments keyword) (behind ws)
-Keeps ranks number total text ws kind.Body =
+KeepsRule ranks number total text ws kind.Body =
     (keyword : Keyword) → Names keyword ws → Each IsBodyThere (arguments keyword) (behind ws)
-Keeps ranks number total text ws kind.BodyTotal =
+KeepsRule ranks number total text ws kind.BodyTotal =
     (line : Line) → IsLine ranks text line → total + sent_len line.command ≤ MAX_BODIES
-Keeps ranks number total text ws _ = Unit {0}
+KeepsRule ranks number total text ws _ = Unit {0}
 
 -- the first line keeps the rule of a kind
 abbrev pub FirstKeeps : List ℕ → Kind → Type 0
@@ -113,7 +113,7 @@ pub record IsFaultBehind (texts : List (List ℕ)) (number : ℕ) (k : Kind) : T
   pub bodies_fit : sum_by (λ line. sent_len line.command) before ≤ MAX_BODIES
   pub number_is : number ≡ length before + 2
   pub here :
-      IsFirstOf (Keeps ranks number (sum_by (λ line. sent_len line.command) before) text
+      IsFirstOf (KeepsRule ranks number (sum_by (λ line. sent_len line.command) before) text
       (words_of text)) line_kinds k
 
 -- the first fault of these lines

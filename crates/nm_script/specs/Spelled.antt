@@ -30,7 +30,7 @@ abbrev pub SpellsNone : List ℕ → Type 0
 SpellsNone bytes = (ranks : ℕ) (lines : List Line) → ¬ (IsTextOf bytes ranks lines)
 
 -- the answer is this script, unless memory ran out
-abbrev pub Takes : Result Script ScriptFault → ℕ → List Line → Type 0
-Takes (Ok script) ranks lines = (script.ranks ≡ ranks) × (script.lines ≡ lines)
-Takes (Err fault.Memory) ranks lines = Unit {0}
-Takes (Err (fault.Bad line e)) ranks lines = ⊥
+abbrev pub AnswersScript : Result Script ScriptFault → ℕ → List Line → Type 0
+AnswersScript (Ok script) ranks lines = (script.ranks ≡ ranks) × (script.lines ≡ lines)
+AnswersScript (Err fault.Memory) ranks lines = Unit {0}
+AnswersScript (Err (fault.Bad line e)) ranks lines = ⊥

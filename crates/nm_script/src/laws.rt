@@ -8,7 +8,7 @@ ghost use Rattle.nm_types.specs.Limits.{IsScript, sent_len};
 ghost use Rattle.nm_types.specs.Text.{script_text};
 ghost use Rattle.nm_script.specs.Lines.{with_feed, words_of};
 ghost use Rattle.nm_script.specs.declared.faults.Kind.{Kind};
-ghost use Rattle.nm_script.specs.Rules.{AllKept, IsFirstFault, IsLine, Keeps, line_kinds};
+ghost use Rattle.nm_script.specs.Rules.{AllKept, IsFirstFault, IsLine, KeepsRule, line_kinds};
 ghost use Rattle.nm_script.specs.Spelled.{IsTextOf, has_bytes};
 
 /// Bytes spell at most one script.
@@ -36,9 +36,9 @@ pub fn lines_keep_the_rules()
     ensures kept { (ranks number total : ℕ) (text : List ℕ) (line : Line) → ranks ≤ MAX_RANKS →
         IsLine ranks text line → number ≤ MAX_LINES →
         total + sent_len line.command ≤ MAX_BODIES →
-        AllKept (Keeps ranks number total text (words_of text)) line_kinds }
+        AllKept (KeepsRule ranks number total text (words_of text)) line_kinds }
     ensures only { (ranks number total : ℕ) (text : List ℕ) → ranks ≤ MAX_RANKS →
-        AllKept (Keeps ranks number total text (words_of text)) line_kinds →
+        AllKept (KeepsRule ranks number total text (words_of text)) line_kinds →
         (line : Line) × IsLine ranks text line × (number ≤ MAX_LINES)
         × (total + sent_len line.command ≤ MAX_BODIES) }
 {}

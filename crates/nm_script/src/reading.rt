@@ -9,7 +9,7 @@ ghost use Rattle.nm_script.specs.Lines.{lines_of};
 ghost use Rattle.nm_script.specs.Reading.{ranks_of, ranks_at, line_at, lines_from, read_of, parts};
 ghost use Rattle.nm_script.specs.declared.faults.Kind.{Kind};
 ghost use Rattle.nm_script.specs.Rules.{IsFault, IsFirstFault, IsRefused};
-ghost use Rattle.nm_script.specs.Spelled.{IsTextOf, Takes};
+ghost use Rattle.nm_script.specs.Spelled.{IsTextOf, AnswersScript};
 
 use crate::commands::line_from;
 use crate::faults::{Kind, LineFault, ScriptFault};
@@ -167,7 +167,7 @@ fn read_exactly(alloc: Global, bytes: &[u8]) -> Result<Script, ScriptFault>
 pub fn read(alloc: Global, bytes: &[u8]) -> Result<Script, ScriptFault>
     ensures taken { IfOk result (λ script. IsTextOf bytes.now script.ranks script.lines) }
     ensures takes { (ranks : ℕ) (lines : List Line) →
-        IsTextOf bytes.now ranks lines → Takes result ranks lines }
+        IsTextOf bytes.now ranks lines → AnswersScript result ranks lines }
     ensures fault { IfErr result (IsFault bytes.now) }
     ensures faults { (line : ℕ) (kind : Kind) →
         IsFirstFault bytes.now line kind → IsRefused result line kind }

@@ -27,8 +27,8 @@ use Rattle.nm_rndv.specs.Offers.{after_clearance, leaving_or_out}
 use Rattle.nm_sending.specs.declared.departures.Departure.{Departure}
 use Rattle.nm_sending.specs.Departures.{SendingView, with_departure, departure_of, passes, was_undone}
 use Rattle.nm_sending.specs.Departures.{cleared_to}
-use Rattle.nm_sending.specs.Sent.{AreSent, Keeps, MayBeCleared}
-use Rattle.nm_sending.specs.Tables.{AreTables, AreApart, IsOffer, IsOfferBy, IsStateOf, allowance, allowed}
+use Rattle.nm_sending.specs.Sent.{AreSent, Preserves, MayBeCleared}
+use Rattle.nm_sending.specs.Tables.{TablesAgree, AreApart, IsOffer, IsOfferBy, IsStateOf, allowance, allowed}
 use Rattle.nm_sending.proofs.EventLemmas.{left_none, sends-same, pushed_out-same}
 use Rattle.nm_sending.proofs.LeavingLemmas.{turn-clear}
 use Rattle.nm_sending.proofs.PlaceLemmas.{eq_swap}
@@ -66,7 +66,7 @@ state_asks v to n d there asked uncleared kept (Some Out) state offer =
 state_asks v to n d there asked uncleared kept (Some Withdrawn) state offer =
     absurd (true≢false (sym offer.2 ∙ kept))
 
-pub asks : (me ranks : ℕ) (v : SendingView) → AreTables me ranks v → (to n : ℕ) → MayBeCleared v to n
+pub asks : (me ranks : ℕ) (v : SendingView) → TablesAgree me ranks v → (to n : ℕ) → MayBeCleared v to n
     → Asks v to n
 asks me ranks v tables to n may = by_there (departure_of v to n) refl where
   by_there : (o : Option Departure) → departure_of v to n ≡ o → Asks v to n
@@ -118,7 +118,7 @@ cleared_state P body false is out left =
     subst (λ (x : Bool). P (leaving_or_out (cond x None (Some (record { body = body; popped = 0 })))))
     (sym is) (left refl)
 
-module _ (me ranks : ℕ) (old : SendingView) (tables : AreTables me ranks old) (to n : ℕ) (within : to < ranks)
+module _ (me ranks : ℕ) (old : SendingView) (tables : TablesAgree me ranks old) (to n : ℕ) (within : to < ranks)
     (ask : Asks old to n) (rows : List (List Departure)) (staying : ℕ) where
   inside : to < length old.offers.destinations
   inside = omega (arith, within, tables.offers)
@@ -193,7 +193,7 @@ module _ (me ranks : ℕ) (old : SendingView) (tables : AreTables me ranks old) 
   module _ (d : Departure) (change : Change old after-clear to n ask.departure d)
       (how : d.how ≡ ask.departure.how) (recalled : d.recalled ≡ ask.departure.recalled)
       (undone : d.undone ≡ ask.departure.undone) (here : IsStateOf d true (Some next)) where
-    clear-tables : staying + weight ask.departure ≡ old.staying + weight d → AreTables me ranks after-clear
+    clear-tables : staying + weight ask.departure ≡ old.staying + weight d → TablesAgree me ranks after-clear
     clear-tables counted =
         tables-change old after-clear to n ask.departure d change me ranks tables refl refl
         (length-set old.offers.destinations to d'') refl
@@ -232,7 +232,7 @@ module _ (me ranks : ℕ) (old : SendingView) (tables : AreTables me ranks old) 
 
   -- a message with a body is going to leave in pieces
   module _ (full : (body_len ask.body == 0) ≡ false) (same : rows ≡ old.departures) where
-    pub full-tables : staying ≡ old.staying → AreTables me ranks after-clear
+    pub full-tables : staying ≡ old.staying → TablesAgree me ranks after-clear
     full-tables counted =
         clear-tables ask.departure (change-none old after-clear to n ask.departure ask.there same) refl refl
         refl
@@ -251,7 +251,7 @@ module _ (me ranks : ℕ) (old : SendingView) (tables : AreTables me ranks old) 
         has_bytes : (x len : ℕ) → x ≡ len → (x == 0) ≡ false → 1024 * 0 < len
         has_bytes x len is more = grind (arith, nat_tests)
 
-    pub full-kept : Keeps old after-clear []
+    pub full-kept : Preserves old after-clear []
     full-kept = keeps-none old after-clear (λ h was.
         sent-offers old after-clear h same (turn h h was (λ t. refl) (λ t. refl)) was)
 
@@ -271,7 +271,7 @@ module _ (me ranks : ℕ) (old : SendingView) (tables : AreTables me ranks old) 
         (record ask.departure { out = true }) empty-change me ranks tables
         ask.offer.3 refl
 
-    pub empty-tables : staying + 1 ≡ old.staying → AreTables me ranks after-clear
+    pub empty-tables : staying + 1 ≡ old.staying → TablesAgree me ranks after-clear
     empty-tables counted =
         clear-tables (record ask.departure { out = true }) empty-change refl refl refl
         (cleared_state (λ s. IsStateOf (record ask.departure { out = true }) true (Some s)) ask.body true
@@ -280,7 +280,7 @@ module _ (me ranks : ℕ) (old : SendingView) (tables : AreTables me ranks old) 
         (let in' : weight ask.departure ≡ 1 = ap (λ (b : Bool). cond (not b) 1 0) ask.offer.3 in
         omega (arith, in', counted))
 
-    pub empty-kept : Keeps old after-clear (event.Out to n ∷ [])
+    pub empty-kept : Preserves old after-clear (event.Out to n ∷ [])
     empty-kept = keeps-one old after-clear (event.Out to n) (λ h stamp was.
         let e : Event = at stamp (event.Out to n) in
         let none' : is_empty_send h to n ≡ true = sym (clear_empty h was) ∙ empty in (

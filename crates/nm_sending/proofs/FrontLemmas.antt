@@ -23,8 +23,8 @@ use Rattle.nm_sending.specs.declared.departures.Departure.{Departure}
 use Rattle.nm_sending.specs.Departures.{SendingView, row_of, with_departure, departures_to}
 use Rattle.nm_sending.specs.Departures.{departure_of, passes}
 use Rattle.nm_sending.specs.Departures.{cleared_to, ends_to}
-use Rattle.nm_sending.specs.Sent.{AreSent, Keeps}
-use Rattle.nm_sending.specs.Tables.{AreTables, IsOffer, IsOfferBy, waits, waiting_from, recall_of}
+use Rattle.nm_sending.specs.Sent.{AreSent, Preserves}
+use Rattle.nm_sending.specs.Tables.{TablesAgree, IsOffer, IsOfferBy, waits, waiting_from, recall_of}
 use Rattle.nm_sending.proofs.EventLemmas.{left_none, sends-same, pushed_out-same}
 use Rattle.nm_sending.proofs.LeavingLemmas.{turn-still}
 use Rattle.nm_sending.proofs.SentLemmas.{at, keeps-one, right-out, sent-out}
@@ -60,7 +60,7 @@ pub offer-eager : (how : How) (d d' : Departure) (c : Bool) (s : Option State) �
 offer-eager Eager d d' c s eager offer = offer
 offer-eager Ask d d' c s eager offer = absurd (true≢false eager)
 
-module _ (me ranks : ℕ) (old : SendingView) (tables : AreTables me ranks old) (letter : Letter)
+module _ (me ranks : ℕ) (old : SendingView) (tables : TablesAgree me ranks old) (letter : Letter)
     (rest : List Letter)
     (list : old.outbox.letters ≡ letter ∷ rest) where
   -- what the letters end, the first one and the rest
@@ -139,7 +139,7 @@ module _ (me ranks : ℕ) (old : SendingView) (tables : AreTables me ranks old) 
               ∙ ap (λ (b : Bool). cons_option (cond b letter.ends None) (ends_to t rest)) is'
 
       pub front-tables : outbox.me ≡ old.outbox.me → length outbox.popped ≡ length old.outbox.popped
-          → outbox.letters ≡ rest → staying + 1 ≡ old.staying → AreTables me ranks after
+          → outbox.letters ≡ rest → staying + 1 ≡ old.staying → TablesAgree me ranks after
       front-tables own letters are counted =
           tables-change old after letter.to n d d' front-change me ranks tables own letters refl refl
           (λ t. ap (λ (ls : List Letter). ends_to t ls) are ∙ gone t)
@@ -177,7 +177,7 @@ module _ (me ranks : ℕ) (old : SendingView) (tables : AreTables me ranks old) 
           out-counted old after letter.to n d (record d { out = true }) front-change me ranks tables
           (waits_in d (ended_waits d there)) refl
 
-      pub front-kept : Keeps old after (Out letter.to n ∷ [])
+      pub front-kept : Preserves old after (Out letter.to n ∷ [])
       front-kept = keeps-one old after (Out letter.to n) (λ h stamp was.
           let asked : is_asked (sends h letter.to) n ≡ false = front-eager h was in
           let e : Event = at stamp (Out letter.to n) in (

@@ -21,7 +21,7 @@ use Rattle.nm_sending.specs.declared.departures.Departure.{Departure}
 use Rattle.nm_sending.specs.Departures.{SendingView}
 use Rattle.nm_sending.specs.Departures.{departure_of}
 use Rattle.nm_sending.specs.Departures.{cleared_to}
-use Rattle.nm_sending.specs.Tables.{AreTables, IsOffer, IsOfferBy, IsStateOf, allowance, allowed}
+use Rattle.nm_sending.specs.Tables.{TablesAgree, IsOffer, IsOfferBy, IsStateOf, allowance, allowed}
 
 -- where there is a next piece, there is a message that leaves
 pub is_leading : (v : Offering) → IsSome (next_offered v) → (m : ℕ × ℕ) × (first_leaving v ≡ Some m)
@@ -63,7 +63,7 @@ offer_leads v m cut state (Some d) there offer = by_how d.how refl offer where
     offer = offer;
   }
 
-module _ (me ranks : ℕ) (old : SendingView) (tables : AreTables me ranks old) (m : ℕ × ℕ) where
+module _ (me ranks : ℕ) (old : SendingView) (tables : TablesAgree me ranks old) (m : ℕ × ℕ) where
   pub leads : leaves old.offers.destinations m ≡ true → Leads old m
   leads left =
       let cleared = leaving_is_cleared (state_of old.offers m.0 m.1) left in

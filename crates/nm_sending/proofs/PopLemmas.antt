@@ -30,8 +30,8 @@ use Rattle.nm_sending.specs.declared.departures.Departure.{Departure}
 use Rattle.nm_sending.specs.Departures.{SendingView, with_departure, departures_to}
 use Rattle.nm_sending.specs.Departures.{passes}
 use Rattle.nm_sending.specs.Departures.{cleared_to, pushed_to}
-use Rattle.nm_sending.specs.Sent.{Keeps}
-use Rattle.nm_sending.specs.Tables.{AreTables, IsStateOf, allowance, allowed, recall_of, waits}
+use Rattle.nm_sending.specs.Sent.{Preserves}
+use Rattle.nm_sending.specs.Tables.{TablesAgree, IsStateOf, allowance, allowed, recall_of, waits}
 use Rattle.nm_sending.proofs.EventLemmas.{left_some, sends-same, pushed_out-push}
 use Rattle.nm_sending.proofs.LeavingLemmas.{turn-still, turn-pop}
 use Rattle.nm_sending.proofs.OfferLemmas.{state-stepped, states-change}
@@ -86,15 +86,15 @@ pub leading_leaves : (old : SendingView) (m : ℕ × ℕ) → first_leaving old.
     → leaves old.offers.destinations m ≡ true
 leading_leaves old m first = find_passes (leaves old.offers.destinations) old.offers.order m first
 
-pub leading : (me ranks : ℕ) (old : SendingView) → AreTables me ranks old → (m : ℕ × ℕ)
+pub leading : (me ranks : ℕ) (old : SendingView) → TablesAgree me ranks old → (m : ℕ × ℕ)
     → first_leaving old.offers ≡ Some m → Leads old m
 leading me ranks old tables m first = leads me ranks old tables m (leading_leaves old m first)
 
-pub leading_within : (me ranks : ℕ) (old : SendingView) → AreTables me ranks old → (m : ℕ × ℕ)
+pub leading_within : (me ranks : ℕ) (old : SendingView) → TablesAgree me ranks old → (m : ℕ × ℕ)
     → first_leaving old.offers ≡ Some m → m.0 < ranks
 leading_within me ranks old tables m first = leads_within me ranks old tables m (leading_leaves old m first)
 
-module _ (me ranks : ℕ) (old : SendingView) (tables : AreTables me ranks old) (to n : ℕ)
+module _ (me ranks : ℕ) (old : SendingView) (tables : TablesAgree me ranks old) (to n : ℕ)
     (first : first_leaving old.offers ≡ Some (to, n)) (lead : Leads old (to, n)) (within : to < ranks) where
   inside : to < length old.offers.destinations
   inside = omega (arith, within, tables.offers)
@@ -187,7 +187,7 @@ module _ (me ranks : ℕ) (old : SendingView) (tables : AreTables me ranks old) 
         (answer : (not d.recalled && is_some d.undone)
         ≡ (not lead.departure.recalled && is_some lead.departure.undone))
         (here : IsStateOf d (has (cleared_to old to) n) (Some next)) where
-      pub pop-tables : staying + weight lead.departure ≡ old.staying + weight d → AreTables me ranks after
+      pub pop-tables : staying + weight lead.departure ≡ old.staying + weight d → TablesAgree me ranks after
       pop-tables counted =
           tables-change old after to n lead.departure d change me ranks tables refl refl
           (length-set old.offers.destinations to d'') (length-set old.pushed to (pushed_to old to + 1))
@@ -204,7 +204,7 @@ module _ (me ranks : ℕ) (old : SendingView) (tables : AreTables me ranks old) 
     -- the message has pieces left
     pub more-tables : (rest : Cut) → rest_of lead.cut ≡ Some rest → rows ≡ old.departures → staying
         ≡ old.staying
-        → AreTables me ranks after
+        → TablesAgree me ranks after
     more-tables rest is same counted =
         let more = rest_more lead.cut rest is in
         pop-tables lead.departure (change-none old after to n lead.departure lead.there same) refl refl refl
@@ -218,7 +218,7 @@ module _ (me ranks : ℕ) (old : SendingView) (tables : AreTables me ranks old) 
         ))
         (omega (arith, counted))
 
-    pub more-kept : (rest : Cut) → rest_of lead.cut ≡ Some rest → rows ≡ old.departures → Keeps old after []
+    pub more-kept : (rest : Cut) → rest_of lead.cut ≡ Some rest → rows ≡ old.departures → Preserves old after []
     more-kept rest is same = keeps-none old after (λ h was.
         sent-offers old after h same
         (turn-still old after h h (λ t. refl) was.in_turn refl (λ t. refl) still) was)
@@ -246,7 +246,7 @@ module _ (me ranks : ℕ) (old : SendingView) (tables : AreTables me ranks old) 
           lead.offer.3 refl
 
       -- the message has left
-      pub last-tables : staying + 1 ≡ old.staying → AreTables me ranks after
+      pub last-tables : staying + 1 ≡ old.staying → TablesAgree me ranks after
       last-tables counted =
           pop-tables (record lead.departure { out = true }) last-change refl refl refl
           (subst (λ (o : Option Cut). IsStateOf (record lead.departure { out = true })
@@ -255,7 +255,7 @@ module _ (me ranks : ℕ) (old : SendingView) (tables : AreTables me ranks old) 
           (let in' : weight lead.departure ≡ 1 = ap (λ (b : Bool). cond (not b) 1 0) lead.offer.3 in
           omega (arith, in', counted))
 
-      pub last-kept : Keeps old after (event.Out to n ∷ [])
+      pub last-kept : Preserves old after (event.Out to n ∷ [])
       last-kept = keeps-one old after (event.Out to n) (λ h stamp was.
           let e : Event = at stamp (event.Out to n) in
           let asked : is_asked (sends h to) n ≡ true =
@@ -299,7 +299,7 @@ pub record Goes (ranks : ℕ) (old : SendingView) : Type 0 where
   pub rest : Cut
   pub more : rest_of lead.cut ≡ Some rest
 
-module _ (me ranks : ℕ) (old : SendingView) (tables : AreTables me ranks old)
+module _ (me ranks : ℕ) (old : SendingView) (tables : TablesAgree me ranks old)
     (there : IsSome (next_offered old.offers)) (r : Option (ℕ × ℕ))
     (is : r ≡ option_and_then (out_by_piece old.offers) (first_leaving old.offers)) where
   pub last_of : (to n : ℕ) → r ≡ Some (to, n) → Last ranks old to n
@@ -395,7 +395,7 @@ popped_view P old to n rows staying offers pushed popped raised p =
     (sym raised) p)
 
 -- where there is a next piece, its number is within the limit
-pub next_pushes : (me ranks : ℕ) (old : SendingView) → AreTables me ranks old → (p : Offered)
+pub next_pushes : (me ranks : ℕ) (old : SendingView) → TablesAgree me ranks old → (p : Offered)
     → Some p ≡ next_offered old.offers → (p.to < ranks) × (pushed_to old p.to + 1 ≤ 1024 * MAX_MESSAGES)
 next_pushes me ranks old tables p next =
     let there : IsSome (next_offered old.offers) = subst (λ (x : Option Offered). IsSome x) next refl in

@@ -14,7 +14,7 @@ use Rattle.nm_types.specs.declared.packets.Packet.{Packet}
 use Rattle.nm_history.specs.Outgoing.{AreCalled, Called, IsCalled, eager_packets}
 use Rattle.nm_history.specs.Sends.{Sent}
 use Rattle.nm_history.proofs.OutgoingLemmas.{called-append}
-use Rattle.nm_eager.specs.Cutting.{Cutting, IsMessageOf, IsNext, packet_count}
+use Rattle.nm_eager.specs.Cutting.{Cutting, IsMessageOf, IsNextPacket, packet_count}
 use Rattle.nm_sending.specs.declared.outbox.letters.Letter.{Letter}
 use Rattle.nm_sending.specs.Letters.{packets_for}
 use Rattle.nm_sending.specs.Outboxes.{OutboxView, popped_to, put_to}
@@ -55,7 +55,7 @@ called_length from number (called ∷ list) (p ∷ ps) each =
     let later = called_length from (number + 1) list ps each.1 in omega (arith, later)
 
 -- a packet that is the next one is of the cutter's rank and has this number
-pub next_called : (cutting : Cutting) (s : Sent) (number : ℕ) (p : Packet) → IsNext cutting s number p
+pub next_called : (cutting : Cutting) (s : Sent) (number : ℕ) (p : Packet) → IsNextPacket cutting s number p
     → (called : Called) × (slice_get (eager_packets s cutting.body) cutting.given ≡ Some called)
     × IsCalled cutting.from number called p
 next_called cutting s number p next = by_some
@@ -81,7 +81,7 @@ sample cutting = record {
 }
 
 pub next_is : (cutting : Cutting) (stamp number : ℕ) (p : Packet)
-    → ((s : Sent) → IsMessageOf cutting s → s.stamp ≤ stamp → IsNext cutting s number p)
+    → ((s : Sent) → IsMessageOf cutting s → s.stamp ≤ stamp → IsNextPacket cutting s number p)
     → (p.from ≡ cutting.from) × (p.seq ≡ number)
 unfolding sample
 next_is cutting stamp number p next =
@@ -168,7 +168,7 @@ module _ (count : ℕ) (cutting : Cutting) (to n stamp : ℕ) (old cur : OutboxV
       (is : letter ≡ record { to = to; packet = p; ends = then_some last n })
       (own : cutting.from ≡ old.me)
       (next : (s : Sent) → IsMessageOf cutting s → s.stamp ≤ stamp
-      → IsNext (record cutting { given = count }) s (put_to cur to) p) (stamped : p.stamp ≡ stamp)
+      → IsNextPacket (record cutting { given = count }) s (put_to cur to) p) (stamped : p.stamp ≡ stamp)
       (put : new ≡ record cur { letters = cur.letters ++ letter ∷ []; spare = cur.spare - 1 }) where
     abbrev one : Letter
     one = record { to = to; packet = p; ends = then_some last n }

@@ -20,8 +20,8 @@ use Rattle.nm_sending.specs.Outboxes.{OutboxView}
 use Rattle.nm_sending.specs.declared.departures.Departure.{Departure}
 use Rattle.nm_sending.specs.Departures.{SendingView, with_departure, departure_of, passes}
 use Rattle.nm_sending.specs.Departures.{cleared_to, ends_to}
-use Rattle.nm_sending.specs.Sent.{Keeps, MayBeRecalled}
-use Rattle.nm_sending.specs.Tables.{AreTables, IsOffer, IsOfferBy, recall_of}
+use Rattle.nm_sending.specs.Sent.{Preserves, MayBeRecalled}
+use Rattle.nm_sending.specs.Tables.{TablesAgree, IsOffer, IsOfferBy, recall_of}
 use Rattle.nm_sending.proofs.EventLemmas.{sends-same, pushed_out-same}
 use Rattle.nm_sending.proofs.LeavingLemmas.{turn-still}
 use Rattle.nm_sending.proofs.OfferLemmas.{states-stay, read-change, recall-recalled, allowed-set}
@@ -58,7 +58,7 @@ offer-recalled Ask d c (Some (Cleared cut)) offer = offer
 offer-recalled Ask d c (Some Out) offer = offer
 offer-recalled Ask d c (Some Withdrawn) offer = offer
 
-module _ (me ranks : ℕ) (old : SendingView) (tables : AreTables me ranks old) (to n : ℕ) (within : to < ranks)
+module _ (me ranks : ℕ) (old : SendingView) (tables : TablesAgree me ranks old) (to n : ℕ) (within : to < ranks)
     (un : Unrecalled old to n) where
   -- it has no recall yet
   pub no_recall : recall_in (destined old.offers to) n ≡ None
@@ -106,7 +106,7 @@ module _ (me ranks : ℕ) (old : SendingView) (tables : AreTables me ranks old) 
 
     pub recall-tables : outbox.me ≡ old.outbox.me → length outbox.popped ≡ length old.outbox.popped
         → ((t : ℕ) → ends_to t outbox.letters ≡ ends_to t old.outbox.letters)
-        → AreTables me ranks after-recall
+        → TablesAgree me ranks after-recall
     recall-tables own letters ends =
         tables-change old after-recall to n un.departure d' change me ranks tables own letters
         (length-set old.offers.destinations to d'') refl
@@ -132,7 +132,7 @@ module _ (me ranks : ℕ) (old : SendingView) (tables : AreTables me ranks old) 
         let fewer = allowed-set old.offers.destinations to inside d'' (omega arith) t in omega
         (arith, few, fewer))
 
-    pub recall-kept : Keeps old after-recall (Recall to n ∷ [])
+    pub recall-kept : Preserves old after-recall (Recall to n ∷ [])
     recall-kept = keeps-one old after-recall (Recall to n) (λ h stamp was.
         let e : Event = at stamp (Recall to n) in (
           sent-recall old after-recall to n un.departure d' h stamp

@@ -19,7 +19,7 @@ use Rattle.nm_sending.specs.declared.outbox.letters.Letter.{Letter}
 use Rattle.nm_sending.specs.declared.departures.Departure.{Departure}
 use Rattle.nm_sending.specs.Departures.{SendingView, departures_to, departure_of, passes, ends_to}
 use Rattle.nm_sending.specs.Sent.{AreSent}
-use Rattle.nm_sending.specs.Tables.{AreTables, waits}
+use Rattle.nm_sending.specs.Tables.{TablesAgree, waits}
 use Rattle.nm_sending.proofs.WaitingLemmas.{none_waits}
 use Rattle.nm_types.proofs.ListLemmas.{get_behind}
 
@@ -47,7 +47,7 @@ numbered (s ∷ ss) k (suc len) is =
     let tail : map (λ s. s.n) ss ≡ range_with_len (k + 1) len = cc in
     (head, numbered ss (k + 1) len tail)
 
-module _ (me ranks : ℕ) (v : SendingView) (tables : AreTables me ranks v) (empty : v.outbox.letters ≡ [])
+module _ (me ranks : ℕ) (v : SendingView) (tables : TablesAgree me ranks v) (empty : v.outbox.letters ≡ [])
     (h : List Event) (was : AreSent v h) where
   -- a send stands among those to its rank
   at_its_place : (s : Sent) (b after : List Sent) → filter_map (λ e. sent_of e.stamp e.what) h

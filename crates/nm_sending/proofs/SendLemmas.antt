@@ -43,8 +43,8 @@ use Rattle.nm_sending.specs.declared.departures.Departure.{Departure}
 use Rattle.nm_sending.specs.Departures.{SendingView, fresh, row_of, departures_to, departure_of}
 use Rattle.nm_sending.specs.Departures.{passes, was_undone}
 use Rattle.nm_sending.specs.Departures.{cleared_to, leaving_to, pushed_to, ends_to}
-use Rattle.nm_sending.specs.Sent.{AreSent, Keeps}
-use Rattle.nm_sending.specs.Tables.{AreTables, AreApart, IsOffer, IsOfferBy, allowance, allowed}
+use Rattle.nm_sending.specs.Sent.{AreSent, Preserves}
+use Rattle.nm_sending.specs.Tables.{TablesAgree, AreApart, IsOffer, IsOfferBy, allowance, allowed}
 use Rattle.nm_sending.specs.Tables.{recall_of, waiting_from}
 use Rattle.nm_sending.proofs.OfferLemmas.{state-asked, states-change, read-stay}
 use Rattle.nm_sending.proofs.PlaceLemmas.{Steps, eq_swap, row-set, departure-push, length-departure_push}
@@ -97,7 +97,7 @@ allowed-asked d n body =
 abbrev pub offers-after : How → Offering → ℕ → ℕ → Body → Offering
 offers-after how v to n body = cond (is_ask how) (with_destined v to (with_asked (destined v to) n body)) v
 
-module _ (me ranks : ℕ) (old : SendingView) (tables : AreTables me ranks old) (to n : ℕ) (within : to < ranks)
+module _ (me ranks : ℕ) (old : SendingView) (tables : TablesAgree me ranks old) (to n : ℕ) (within : to < ranks)
     (next : n ≡ length (departures_to old to)) (few : length (departures_to old to) < MAX_MESSAGES)
     (how : How) (body : Body) (short : is_ask how ≡ true → body_len body ≤ MAX_BODY) where
   none : departure_of old to n ≡ None
@@ -250,7 +250,7 @@ module _ (me ranks : ℕ) (old : SendingView) (tables : AreTables me ranks old) 
     pub send-tables : outbox.me ≡ old.outbox.me → length outbox.popped ≡ length old.outbox.popped
         → ((t : ℕ) → ends_to t outbox.letters
         ≡ ends_to t old.outbox.letters ++ cond (to == t && not (is_ask how)) (n ∷ []) [])
-        → staying ≡ old.staying + 1 → AreTables me ranks after-send
+        → staying ≡ old.staying + 1 → TablesAgree me ranks after-send
     send-tables own letters ends counted = record {
       own = tables.own ∙ sym own;
       letters = letters ∙ tables.letters;
@@ -490,6 +490,6 @@ module _ (me ranks : ℕ) (old : SendingView) (tables : AreTables me ranks old) 
       }
 
     pub send-kept : (tag ctx line : ℕ)
-        → Keeps old after-send (Send to n tag ctx (body_len body) how line ∷ [])
+        → Preserves old after-send (Send to n tag ctx (body_len body) how line ∷ [])
     send-kept tag ctx line = keeps-one old after-send (Send to n tag ctx (body_len body) how line)
         (λ h stamp was. (sent-send tag ctx line h stamp was, right-send tag ctx line h stamp was))

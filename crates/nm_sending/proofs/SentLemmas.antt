@@ -16,7 +16,7 @@ use Rattle.nm_sending.specs.Outboxes.{OutboxView}
 use Rattle.nm_sending.specs.declared.departures.Departure.{Departure}
 use Rattle.nm_sending.specs.Departures.{SendingView, departures_to, departure_of, passes, was_undone}
 use Rattle.nm_sending.specs.Departures.{row_of}
-use Rattle.nm_sending.specs.Sent.{AreSent, Keeps}
+use Rattle.nm_sending.specs.Sent.{AreSent, Preserves}
 use Rattle.nm_sending.proofs.EventLemmas.{sends-same}
 use Rattle.nm_sending.proofs.PlaceLemmas.{Steps, passes-step, passes-more, passes-same}
 use Rattle.nm_sending.proofs.TurnLemmas.{InTurn}
@@ -30,7 +30,7 @@ at stamp what = record { stamp = stamp; what = what }
 pub keeps-one : (old new : SendingView) (w : Happened)
     → ((h : List Event) (stamp : ℕ) → AreSent old h
     → AreSent new (h ++ at stamp w ∷ []) × ((ranks : ℕ) → IsRightAt ranks h w))
-    → Keeps old new (w ∷ [])
+    → Preserves old new (w ∷ [])
 keeps-one old new w each h [] is was = absurd cc
 keeps-one old new w each h (e ∷ f ∷ events) is was = absurd cc
 keeps-one old new w each h (e ∷ []) is was =
@@ -41,7 +41,7 @@ keeps-one old new w each h (e ∷ []) is was =
     (both.0, λ ranks. (both.1 ranks, tt))
 
 pub keeps-none : (old new : SendingView) → ((h : List Event) → AreSent old h → AreSent new h)
-    → Keeps old new []
+    → Preserves old new []
 keeps-none old new each h [] is was =
     (subst (λ (k : List Event). AreSent new k) (sym (append-nil h)) (each h was), λ ranks. tt)
 keeps-none old new each h (e ∷ events) is was = absurd cc

@@ -26,7 +26,7 @@ use Rattle.nm_sending.specs.Departures.{SendingView, row_of, with_departure, dep
 use Rattle.nm_sending.specs.Departures.{departure_of, passes}
 use Rattle.nm_sending.specs.Departures.{pushed_to, cleared_to, ends_to}
 use Rattle.nm_sending.specs.Tables.{IsOfferBy, IsStateOf}
-use Rattle.nm_sending.specs.Tables.{AreTables, AreApart, IsOffer, allowed, recall_of, waiting_from, waits}
+use Rattle.nm_sending.specs.Tables.{TablesAgree, AreApart, IsOffer, allowed, recall_of, waiting_from, waits}
 use Rattle.nm_sending.proofs.PlaceLemmas.{Steps, row-set, departure-set, length-departure_set}
 use Rattle.nm_sending.proofs.WaitingLemmas.{staying_in, weight, staying-set, waiting-set}
 use Rattle.nm_types.proofs.NumberLemmas.{same_number}
@@ -142,7 +142,7 @@ module _ (old new : SendingView) (to n : ℕ) (d d' : Departure) (change : Chang
           ∙ ap (λ (x : ℕ). waiting_from 0 (row_of old.departures x)) (same_number to t is)
       by_test false is = refl
 
-  module _ (me ranks : ℕ) (tables : AreTables me ranks old) where
+  module _ (me ranks : ℕ) (tables : TablesAgree me ranks old) where
     pub tables-change : new.outbox.me ≡ old.outbox.me → length new.outbox.popped ≡ length old.outbox.popped
         → length new.offers.destinations ≡ length old.offers.destinations
         → length new.pushed ≡ length old.pushed
@@ -154,7 +154,7 @@ module _ (old new : SendingView) (to n : ℕ) (d d' : Departure) (change : Chang
         → (not d'.recalled && is_some d'.undone) ≡ false
         → new.staying + weight d ≡ old.staying + weight d'
         → ((t : ℕ) → pushed_to new t + allowed (destined new.offers t) ≤ 1024 * length (departures_to old t))
-        → AreTables me ranks new
+        → TablesAgree me ranks new
     tables-change own letters offers counts eager states once recalls asked staying pieces = record {
       own = tables.own ∙ sym own;
       letters = letters ∙ tables.letters;
@@ -190,10 +190,10 @@ module _ (old new : SendingView) (to n : ℕ) (d d' : Departure) (change : Chang
         omega (arith, one, was, more, less)
 
 -- packets that end no message may come and go
-pub tables-outbox : (me ranks : ℕ) (old : SendingView) → AreTables me ranks old → (outbox : OutboxView)
+pub tables-outbox : (me ranks : ℕ) (old : SendingView) → TablesAgree me ranks old → (outbox : OutboxView)
     → outbox.me ≡ old.outbox.me → length outbox.popped ≡ length old.outbox.popped
     → ((t : ℕ) → ends_to t outbox.letters ≡ ends_to t old.outbox.letters)
-    → AreTables me ranks (record old { outbox = outbox })
+    → TablesAgree me ranks (record old { outbox = outbox })
 tables-outbox me ranks old tables outbox own letters ends = record {
   own = tables.own ∙ sym own;
   letters = letters ∙ tables.letters;
@@ -238,7 +238,7 @@ change-none old new to n d there same = record {
 }
 
 -- recalls that stay as they are
-pub recalls-still : (me ranks : ℕ) (old new : SendingView) → AreTables me ranks old → (to n : ℕ)
+pub recalls-still : (me ranks : ℕ) (old new : SendingView) → TablesAgree me ranks old → (to n : ℕ)
     (d d' : Departure) → departure_of old to n ≡ Some d → recall_of d' ≡ recall_of d
     → ((t k : ℕ) → recall_in (destined new.offers t) k ≡ recall_in (destined old.offers t) k)
     → (t k : ℕ) → recall_in (destined new.offers t) k
@@ -249,14 +249,14 @@ recalls-still me ranks old new tables to n d d' there same each t k =
     (tables.recalls to n ∙ ap (λ (o : Option Departure). option_and_then recall_of o) there ∙ sym same)
 
 -- what a message's answer was
-pub unanswered-at : (me ranks : ℕ) (old : SendingView) → AreTables me ranks old → (to n : ℕ) (d : Departure)
+pub unanswered-at : (me ranks : ℕ) (old : SendingView) → TablesAgree me ranks old → (to n : ℕ) (d : Departure)
     → departure_of old to n ≡ Some d → (not d.recalled && is_some d.undone) ≡ false
 unanswered-at me ranks old tables to n d there =
     sym (ap (λ (o : Option Departure). passes (λ x. not x.recalled && is_some x.undone) o) there)
     ∙ tables.unanswered to n
 
 -- where the state of a message that was sent by asking changes, or what became of it
-pub asked-states : (me ranks : ℕ) (old new : SendingView) → AreTables me ranks old → (to n : ℕ)
+pub asked-states : (me ranks : ℕ) (old new : SendingView) → TablesAgree me ranks old → (to n : ℕ)
     (d d' : Departure) → Steps (departure_of old) (departure_of new) to n (Some d) d' → (x : Bool)
     → (s : State) → is_ask d'.how ≡ true
     → ((t k : ℕ) → state_of new.offers t k ≡ cond (is_at to n t k) (Some s) (state_of old.offers t k))

@@ -25,8 +25,8 @@ use Rattle.nm_rndv.proofs.StateLemmas.{withdrawal_leaves}
 use Rattle.nm_sending.specs.declared.departures.Departure.{Departure}
 use Rattle.nm_sending.specs.Departures.{SendingView, with_departure, departure_of, passes, cleared_to}
 use Rattle.nm_sending.specs.Departures.{was_undone}
-use Rattle.nm_sending.specs.Sent.{Keeps, MayBeAnswered}
-use Rattle.nm_sending.specs.Tables.{AreTables, IsOffer, IsOfferBy, allowance, allowed, recall_of}
+use Rattle.nm_sending.specs.Sent.{Preserves, MayBeAnswered}
+use Rattle.nm_sending.specs.Tables.{TablesAgree, IsOffer, IsOfferBy, allowance, allowed, recall_of}
 use Rattle.nm_sending.proofs.EventLemmas.{sends-same, pushed_out-same}
 use Rattle.nm_sending.proofs.LeavingLemmas.{turn-still}
 use Rattle.nm_sending.proofs.OfferLemmas.{state-stepped, read-change}
@@ -145,7 +145,7 @@ answer-allowed d n true (Some s) was =
     omega (arith, one, less)
 answer-allowed d n false o was = omega arith
 
-module _ (me ranks : ℕ) (old : SendingView) (tables : AreTables me ranks old) (to n : ℕ) (within : to < ranks)
+module _ (me ranks : ℕ) (old : SendingView) (tables : TablesAgree me ranks old) (to n : ℕ) (within : to < ranks)
     (done : Bool) (open' : Recalled old to n done) where
   -- its recall waits for the answer
   pub is_open : is_recalled old.offers to n ≡ true
@@ -200,7 +200,7 @@ module _ (me ranks : ℕ) (old : SendingView) (tables : AreTables me ranks old) 
     states = read-change state_in old.offers.destinations to inside d'' n next
         (answer-states (destined old.offers to) n done (state_of old.offers to n) refl)
 
-    pub undo-tables : AreTables me ranks after-undo
+    pub undo-tables : TablesAgree me ranks after-undo
     undo-tables =
         tables-change old after-undo to n open'.departure d' change me ranks tables refl refl
         (length-set old.offers.destinations to d'') refl
@@ -244,7 +244,7 @@ module _ (me ranks : ℕ) (old : SendingView) (tables : AreTables me ranks old) 
             ∙ at_place (λ t k. leaves old.offers.destinations (t, k)) to n t k is
         by_test false is = refl
 
-    pub undo-kept : Keeps old after-undo (Undone to n done ∷ [])
+    pub undo-kept : Preserves old after-undo (Undone to n done ∷ [])
     undo-kept = keeps-one old after-undo (Undone to n done) (λ h stamp was.
         let e : Event = at stamp (Undone to n done) in (
           sent-undone old after-undo to n open'.departure d' h stamp

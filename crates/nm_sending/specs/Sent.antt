@@ -44,8 +44,8 @@ pub record AreSent (v : SendingView) (h : List Event) : Type 0 where
 
 -- After this happened the messages are those of the longer history, and it may come after the events
 -- before it.
-abbrev pub Keeps : SendingView → SendingView → List Happened → Type 0
-Keeps old new ws =
+abbrev pub Preserves : SendingView → SendingView → List Happened → Type 0
+Preserves old new ws =
     (h events : List Event) → happenings events ≡ ws → AreSent old h →
     AreSent new (h ++ events) × ((ranks : ℕ) → AreRight ranks h events)
 

@@ -71,7 +71,7 @@ abbrev pub allowed : Destined → ℕ
 allowed d = sum_by allowance (values_of d.asked)
 
 -- The tables of a rank, among so many, agree with each other.
-pub record AreTables (me ranks : ℕ) (v : SendingView) : Type 0 where
+pub record TablesAgree (me ranks : ℕ) (v : SendingView) : Type 0 where
   pub own : me ≡ v.outbox.me
   pub letters : length v.outbox.popped ≡ ranks
   pub rows : length v.departures ≡ ranks

@@ -26,7 +26,7 @@ ghost use Rattle.nm_rndv.specs.Offers.{with_destined, with_popped, with_recall};
 ghost use Rattle.nm_sending.specs.Outboxes.{popped_to, put_to};
 ghost use Rattle.nm_sending.specs.declared.TheConstants.{MAX_MESSAGES};
 ghost use Rattle.nm_sending.specs.Departures.{departures_to, pushed_to, cleared_to, ended_by};
-ghost use Rattle.nm_sending.specs.Sent.{AreSent, Keeps, Puts, only_to, outs};
+ghost use Rattle.nm_sending.specs.Sent.{AreSent, Preserves, Puts, only_to, outs};
 ghost use Rattle.nm_sending.specs.Sent.{MayBeAnswered, MayBeCleared, MayBeRecalled};
 
 use crate::MAX_MESSAGES;
@@ -68,7 +68,7 @@ impl Drop for Sending {
 
 impl Model for Sending {
     ghost use Rattle.nm_sending.specs.Departures.{SendingView};
-    ghost use Rattle.nm_sending.specs.Tables.{AreTables};
+    ghost use Rattle.nm_sending.specs.Tables.{TablesAgree};
 
     ghost Value = { SendingView };
 
@@ -82,7 +82,7 @@ impl Model for Sending {
         } };
 
     ghost invariant = { λ s.
-        AreTables s.me s.ranks
+        TablesAgree s.me s.ranks
         (record {
           outbox = s.outbox;
           offers = s.offers;
@@ -201,7 +201,7 @@ impl Sending {
             (λ other. packets_by (λ s. bytes_of body) other h stamp
             (event.Send to n tag ctx (body_len body) how line))
             (if is_ask how then None else Some n) stamp self.old.outbox self.new.outbox) }
-        ensures kept { IfOk result (λ n. (line : ℕ) → Keeps self.old self.new
+        ensures kept { IfOk result (λ n. (line : ℕ) → Preserves self.old self.new
             (event.Send to n tag ctx (body_len body) how line ∷ [])) }
         ensures counted { OnOk result (self.new.staying ≡ self.old.staying + 1) }
         ensures asked { IfOk result (λ n. self.new.offers
@@ -309,7 +309,7 @@ impl Sending {
         ensures puts { OnOk result ((called : ℕ) → called ≤ stamp →
             Puts (only_to to called (what.Withdraw n)) None stamp self.old.outbox
             self.new.outbox) }
-        ensures kept { OnOk result (Keeps self.old self.new (event.Recall to n ∷ [])) }
+        ensures kept { OnOk result (Preserves self.old self.new (event.Recall to n ∷ [])) }
         ensures counted { OnOk result (self.new.staying ≡ self.old.staying) }
         ensures recalled { OnOk result (self.new.offers
             ≡ with_destined self.old.offers to (with_recall (destined self.old.offers to) n)) }
@@ -333,7 +333,7 @@ impl Sending {
         requires to { to < length self.old.outbox.popped }
         requires may { MayBeCleared self.old to n }
         ensures value { (h : List Event) → AreSent self.old h → result ≡ is_empty_send h to n }
-        ensures kept { Keeps self.old self.new (if result then event.Out to n ∷ [] else []) }
+        ensures kept { Preserves self.old self.new (if result then event.Out to n ∷ [] else []) }
         ensures cleared { self.new.offers ≡ with_clearance self.old.offers to n }
         ensures counted { self.old.staying ≡ self.new.staying + (if result then 1 else 0) }
         ensures outbox { self.new.outbox ≡ self.old.outbox }
@@ -352,7 +352,7 @@ impl Sending {
     pub fn undo(&mut self, to: u8, n: u64, done: bool)
         requires to { to < length self.old.outbox.popped }
         requires may { MayBeAnswered self.old to n done }
-        ensures kept { Keeps self.old self.new (event.Undone to n done ∷ []) }
+        ensures kept { Preserves self.old self.new (event.Undone to n done ∷ []) }
         ensures counted { self.new.staying ≡ self.old.staying }
         ensures answered { self.new.offers
             ≡ with_destined self.old.offers to (with_answer (destined self.old.offers to) n done) }
@@ -393,7 +393,7 @@ impl Sending {
                   (popped_to self.old.outbox letter.to + 1);
               spare = self.old.outbox.spare + 1;
             })) }
-        ensures kept { Keeps self.old self.new (outs result) }
+        ensures kept { Preserves self.old self.new (outs result) }
         ensures counted { self.old.staying ≡ self.new.staying + length (outs result) }
         ensures offers { self.new.offers ≡ self.old.offers }
         ensures same { self.new.pushed ≡ self.old.pushed }
@@ -441,7 +441,7 @@ impl Sending {
         ensures last { result
             ≡ option_and_then (out_by_piece self.old.offers) (first_leaving self.old.offers) }
         ensures to { IfSome result (λ m. m.0 < length self.old.outbox.popped) }
-        ensures kept { Keeps self.old self.new (outs result) }
+        ensures kept { Preserves self.old self.new (outs result) }
         ensures in_turn { IfSome result (λ m. (h : List Event) → AreSent self.old h →
             slice_get (filter (λ n. not (is_empty_send h m.0 n)) (cleared_to self.old m.0))
             (length (pushed_out h m.0)) ≡ Some m.1) }

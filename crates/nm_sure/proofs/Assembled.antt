@@ -15,7 +15,7 @@ use Rattle.nm_types.specs.Limits.{IsScript, is_in_range}
 use Rattle.nm_types.specs.Sizes.{Sizes}
 use Rattle.nm_history.specs.declared.events.Event.{Event}
 use Rattle.nm_history.specs.Answers.{can_go_on}
-use Rattle.nm_history.specs.Quiescence.{EachPair, EachRank, Ended, Packets, Stands}
+use Rattle.nm_history.specs.Quiescence.{EachPair, EachRank, Ended, Packets, IsStopped}
 use Rattle.nm_history.specs.RankRun.{IsRankRun}
 use Rattle.nm_history.specs.Run.{IsRunOf}
 use Rattle.nm_sure.specs.Agree.{ArePlain}
@@ -141,7 +141,7 @@ module _ (shape : Sizes) (lines : List Line) (ranks : List Ended) (packets : Lis
       stops r (Some d) same holds = subst (λ (c : Numbered). can_go_on (commands_of i lines) r.events c.command
           ≡ false) (same_some d c same) holds.1
 
-      by_rank : (o : Option Ended) → slice_get ranks i ≡ o → IfSome o (λ r. Stands (commands_of i lines) r) →
+      by_rank : (o : Option Ended) → slice_get ranks i ≡ o → IfSome o (λ r. IsStopped (commands_of i lines) r) →
           slice_get (commands_of i lines) (option_map_or (λ r. r.at) o 0) ≡ Some c →
           can_go_on (commands_of i lines) (option_map_or (λ r. r.events) o []) c.command ≡ false
       by_rank None none holds here =

@@ -11,7 +11,7 @@ use Rattle.nm_types.specs.Limits.{IsScript}
 use Rattle.nm_types.specs.Sizes.{Sizes}
 use Rattle.nm_history.specs.declared.events.Event.{Event}
 use Rattle.nm_history.specs.Answers.{can_go_on}
-use Rattle.nm_history.specs.Quiescence.{Ended, Stands}
+use Rattle.nm_history.specs.Quiescence.{Ended, IsStopped}
 use Rattle.nm_report.specs.declared.accounts.RankAccount.{RankAccount}
 use Rattle.nm_report.specs.declared.records.RunRecord.{RunRecord}
 use Rattle.nm_report.specs.Ends.{are_done, ends_of}
@@ -109,7 +109,7 @@ module _ (shape : Sizes) (lines : List Line) (run : RunRecord) (stand : StandAtL
   waits_same : (k : ℕ) (a : RankAccount) → slice_get run.ranks k ≡ Some a → a.waits ≡ waits_at lines F k
   waits_same k a here =
       at_place (slice_get (commands_of k lines) a.at)
-      (if_some (λ (r : Ended). Stands (commands_of k lines) r) (slice_get (ends_of run.ranks) k) (end_of a)
+      (if_some (λ (r : Ended). IsStopped (commands_of k lines) r) (slice_get (ends_of run.ranks) k) (end_of a)
       (get_map end_of run.ranks k a here) (is.lawful.quiescent.waits k))
       ∙ ap (λ (n : ℕ). option_map (λ c. c.line) (slice_get (commands_of k lines) n)) (far k a here)
     where

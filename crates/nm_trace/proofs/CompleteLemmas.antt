@@ -22,7 +22,7 @@ use Rattle.nm_trace.specs.Machine.{counting, ended, fed, feed, is_next, last_ran
 use Rattle.nm_trace.specs.Machine.{noting, telling, waits_of}
 use Rattle.nm_trace.specs.Notes.{BareIn, HasBytes, NoteIn, ToldIn, bare, bare_what, bytes_in, bytes_of_what}
 use Rattle.nm_trace.specs.Notes.{cells_words, end_word, event_text, note_words, noted, pair_words, waits_words}
-use Rattle.nm_trace.specs.Outcome.{Place, tells, tells_next}
+use Rattle.nm_trace.specs.Outcome.{AnswerPlace, tells, tells_next}
 use Rattle.nm_trace.specs.Texts.{InOrder}
 use Rattle.nm_trace.specs.Traces.{AnswerIn, CellsIn, EndIn, EventIn, PairIn, WaitsIn, WhatIn}
 use Rattle.nm_trace.proofs.EndLemmas.{cells_again, end_again, pair_again, waits_again}
@@ -261,7 +261,7 @@ tell_alike ranks notes pairs line none =
     let all : ranks - 0 ≡ ranks = omega arith in
     rw (none, all) refl
 
-module _ (p : Place) (small : length p.ends < 2 ^ 8) where
+module _ (p : AnswerPlace) (small : length p.ends < 2 ^ 8) where
   -- an event without a line
   plain_alike : (events : List Event) (e : Event) (due : List Note) (line : List ℕ) → is_due e.what ≡ false
       → feed p.ranks (tells p events (noted (length p.ends) e ∷ due)) line
@@ -362,7 +362,7 @@ rank_told : (ranks : ℕ) (pairs : List PairCount) (ends : List Ended) (e : Ende
     (flat_map (ran_lines (length ends)) e.events ++ (waits_lines (length ends) e.waits ++ lines))
     ≡ fed ranks (Telling pairs (record { ends = ends ++ e ∷ []; events = []; due = later })) lines
 rank_told ranks pairs ends e later lines some small h other f =
-    let p : Place = record { ranks = ranks; pairs = pairs; ends = ends; fewer = some } in
+    let p : AnswerPlace = record { ranks = ranks; pairs = pairs; ends = ends; fewer = some } in
     let rank = length ends in
     let ran = flat_map (ran_lines rank) e.events in
     let waits = waits_lines rank e.waits in

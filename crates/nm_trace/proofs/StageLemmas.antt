@@ -16,7 +16,7 @@ use Rattle.nm_trace.specs.Lines.{first_line}
 use Rattle.nm_trace.specs.Machine.{Trace, Noting, Counting, Telling, Closing, Over}
 use Rattle.nm_trace.specs.Machine.{cells_of, counting, end_of, ended, feed, is_next, last_rank, next_note}
 use Rattle.nm_trace.specs.Machine.{noting, settled, telling, waits_of}
-use Rattle.nm_trace.specs.Outcome.{Place, end_of_account, line_as, tells, tells_next, told}
+use Rattle.nm_trace.specs.Outcome.{AnswerPlace, end_of_account, line_as, tells, tells_next, told}
 use Rattle.nm_trace.proofs.OutcomeLemmas.{first_or_none, told_none, told_passes, told_read, told_refused}
 use Rattle.nm_trace.proofs.OutcomeLemmas.{told_same, told_stops}
 use Rattle.nm_trace.proofs.SoundLemmas.{more_ranks}
@@ -80,13 +80,13 @@ settled_due rank events note due h =
     rw (and_right (eqb note.rank rank) (not (is_due note.event.what)) waits) refl
 
 -- the ranks left at a place, one by one
-abbrev pub left : Place → ℕ
+abbrev pub left : AnswerPlace → ℕ
 left p = p.ranks - length p.ends - 1
 
-pub some_left : (p : Place) → p.ranks - length p.ends ≡ suc (left p)
+pub some_left : (p : AnswerPlace) → p.ranks - length p.ends ≡ suc (left p)
 some_left p = omega (arith, p.fewer)
 
-module _ (p : Place) (events : List Event) (bytes : List ℕ) (number : ℕ) where
+module _ (p : AnswerPlace) (events : List Event) (bytes : List ℕ) (number : ℕ) where
   -- an event that has no line behind the events
   pub event_passes : (note : Note) (due : List Note) → note.rank ≡ length p.ends
       → is_due note.event.what ≡ false

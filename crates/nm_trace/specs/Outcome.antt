@@ -41,18 +41,18 @@ line_as read bytes = do
   Some (x, cut.1)
 
 -- where the answers stand: the counts of packets, and the ranks that are whole, but not all
-pub record Place : Type 0 where
+pub record AnswerPlace : Type 0 where
   pub ranks : ℕ
   pub pairs : List PairCount
   pub ends : List Ended
   pub fewer : length ends < ranks
 
 -- the state at this place, with these events of its rank, and these notes that are left
-abbrev pub tells : Place → List Event → List Note → Stage
+abbrev pub tells : AnswerPlace → List Event → List Note → Stage
 tells p events due = Telling p.pairs (record { ends = p.ends; events = events; due = due })
 
 -- the state where the rank of this place is whole
-abbrev pub tells_next : Place → Ended → List Note → Stage
+abbrev pub tells_next : AnswerPlace → Ended → List Note → Stage
 tells_next p rank due =
     Telling p.pairs (record { ends = p.ends ++ rank ∷ []; events = []; due = due })
 

@@ -12,7 +12,7 @@ ghost use Rattle.nm_trace.specs.declared.faults.TraceFault.TheVariants.{Bad, Mem
 ghost use Rattle.nm_trace.specs.declared.notes.Note.{Note};
 ghost use Rattle.nm_trace.specs.Answers.{is_ran};
 ghost use Rattle.nm_trace.specs.Machine.{Closing, Counting, Part, Telling, is_next, start};
-ghost use Rattle.nm_trace.specs.Outcome.{Place, Stops, end_of_account, tells, tells_next, told};
+ghost use Rattle.nm_trace.specs.Outcome.{AnswerPlace, Stops, end_of_account, tells, tells_next, told};
 ghost use Rattle.nm_trace.specs.Texts.{trace_of};
 ghost use Rattle.nm_trace.specs.Traces.{IsFirstBad, IsTraceOf, Names};
 
@@ -85,11 +85,11 @@ fn read_event<'a>(
     note: Note,
     text: Text<'a>,
 ) -> Result<(Event, Text<'a>), TraceFault>
-    ensures told { IfOk result (λ read. (p : Place) (events : List Event) (due : List Note) →
+    ensures told { IfOk result (λ read. (p : AnswerPlace) (events : List Event) (due : List Note) →
         note.rank ≡ length p.ends →
         told p.ranks (tells p events (note ∷ due)) text.entry.rest.now text.entry.number
         ≡ told p.ranks (tells p (events ++ read.0 ∷ []) due) read.1.rest.now read.1.number) }
-    ensures stops { IfErr result (λ fault. (p : Place) (events : List Event) (due : List Note) →
+    ensures stops { IfErr result (λ fault. (p : AnswerPlace) (events : List Event) (due : List Note) →
         note.rank ≡ length p.ends →
         Stops (told p.ranks (tells p events (note ∷ due)) text.entry.rest.now
         text.entry.number) fault) }
@@ -119,7 +119,7 @@ fn read_events<'a>(
     mut text: Text<'a>,
 ) -> Result<(Deeds, Text<'a>), TraceFault>
     requires { length notes.old.items ≤ 67108864 }
-    ensures told { IfOk result (λ read. (p : Place) → rank ≡ length p.ends →
+    ensures told { IfOk result (λ read. (p : AnswerPlace) → rank ≡ length p.ends →
         told p.ranks (tells p [] notes.old.items) text.entry.rest.now text.entry.number
         ≡ told p.ranks (tells p read.0.events.items notes.new.items)
         read.1.rest.now read.1.number) }
@@ -127,7 +127,7 @@ fn read_events<'a>(
         read.0.at ≡ length (filter (λ event. is_ran event.what) read.0.events.items)) }
     ensures others { IfOk result (λ read. is_next rank notes.new.items ≡ false) }
     ensures fewer { IfOk result (λ read. length notes.new.items ≤ length notes.old.items) }
-    ensures stops { IfErr result (λ fault. (p : Place) → rank ≡ length p.ends →
+    ensures stops { IfErr result (λ fault. (p : AnswerPlace) → rank ≡ length p.ends →
         Stops (told p.ranks (tells p [] notes.old.items) text.entry.rest.now
         text.entry.number) fault) }
 {
@@ -152,12 +152,12 @@ fn read_rank<'a>(
     text: Text<'a>,
 ) -> Result<(RankAccount, Text<'a>), TraceFault>
     requires { length notes.old.items ≤ 67108864 }
-    ensures told { IfOk result (λ read. (p : Place) → rank ≡ length p.ends →
+    ensures told { IfOk result (λ read. (p : AnswerPlace) → rank ≡ length p.ends →
         told p.ranks (tells p [] notes.old.items) text.entry.rest.now text.entry.number
         ≡ told p.ranks (tells_next p (end_of_account read.0) notes.new.items)
         read.1.rest.now read.1.number) }
     ensures fewer { IfOk result (λ read. length notes.new.items ≤ length notes.old.items) }
-    ensures stops { IfErr result (λ fault. (p : Place) → rank ≡ length p.ends →
+    ensures stops { IfErr result (λ fault. (p : AnswerPlace) → rank ≡ length p.ends →
         Stops (told p.ranks (tells p [] notes.old.items) text.entry.rest.now
         text.entry.number) fault) }
 {

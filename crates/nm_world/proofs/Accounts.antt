@@ -15,7 +15,7 @@ use Rattle.nm_history.specs.declared.events.Event.{Event}
 use Rattle.nm_history.specs.Answers.{can_go_on}
 use Rattle.nm_history.specs.Outgoing.{outgoing}
 use Rattle.nm_history.specs.Quiescence.{Ended, Packets, packets_by_rank, packets_from, packets_of}
-use Rattle.nm_history.specs.Quiescence.{Stands as StandsAt}
+use Rattle.nm_history.specs.Quiescence.{IsStopped as StandsAt}
 use Rattle.nm_history.specs.Run.{IsRunOf}
 use Rattle.nm_history.specs.Sends.{sent_body}
 use Rattle.nm_cells.specs.declared.closed.Closed.{Closed}

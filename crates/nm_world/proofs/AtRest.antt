@@ -14,13 +14,13 @@ use Rattle.nm_cells.specs.declared.port.Port.{Port}
 use Rattle.nm_copyring.specs.declared.close.RingAccount.{RingAccount}
 use Rattle.nm_copyring.specs.declared.port.Rings.{Rings}
 use Rattle.nm_world.specs.declared.actors.Actor.{Actor}
-use Rattle.nm_world.specs.Actors.{Stands}
+use Rattle.nm_world.specs.Actors.{ActorInvariant}
 use Rattle.nm_world.specs.Rest.{EachActor, EndsAt, HasRun, IsCarried, IsClosed, IsStill}
 use Rattle.nm_world.specs.Runs.{AllAgree, AreCarried, InPlace, IsStillAt}
 use Rattle.nm_world.proofs.Runs.{in_place_at}
 use Rattle.nm_types.proofs.ListLemmas.{get_some, get_map}
 
-pub each_ends : ((lines : List Line) (f : Fabric) (r : Rings) (a : Actor) → Stands lines f r a →
+pub each_ends : ((lines : List Line) (f : Fabric) (r : Rings) (a : Actor) → ActorInvariant lines f r a →
     IsStill lines a.process → EndsAt a.process.rank.sizes lines f r a.port.rank a) →
     (shape : Sizes) (lines : List Line) (f : Fabric) (r : Rings) (actors : List Actor) →
     InPlace shape lines f r 0 actors → EachActor (λ i a. IsStillAt lines a) actors →

@@ -17,8 +17,8 @@ use Rattle.nm_copyring.specs.Rule as ring_rule
 use Rattle.nm_copyring.specs.Ports as ring
 use Rattle.nm_process.specs.Lines.{AreLines}
 use Rattle.nm_process.specs.Processes.{ProcessView}
-use Rattle.nm_global.specs.ProcessInvariant.{IsStanding, no_past}
-use Rattle.nm_world.specs.Actors.{Stands}
+use Rattle.nm_global.specs.ProcessInvariant.{ProcessInvariant, no_past}
+use Rattle.nm_world.specs.Actors.{ActorInvariant}
 use Rattle.nm_world.proofs.Steps.{stands_of}
 
 new_lane_at : (n k i : ℕ) → i < n → ring_rule.lane (ring_rule.newcomer n k) i ≡ ring_rule.new_lane
@@ -27,8 +27,8 @@ new_lane_at n k i within = get_or-replicate n i ring_rule.new_lane ring_rule.new
 pub new_stands : (shape : Sizes) (lines : List Line) (f : Fabric) (r : Rings) (v : ProcessView) (port : Port)
     (rp : RingPort) → AreLines shape.ranks lines → f.ranks ≡ shape.ranks → r.ranks ≡ shape.ranks →
     IsNew f port port.rank → ring.IsNew r rp port.rank → v.rank.sizes ≡ shape →
-    IsStanding shape lines port.rank v no_past →
-    Stands lines f r (record { process = v; port = port; ring = rp; places = tt })
+    ProcessInvariant shape lines port.rank v no_past →
+    ActorInvariant lines f r (record { process = v; port = port; ring = rp; places = tt })
 new_stands shape lines f r v port rp in_range cells rings new fresh sizes standing =
     stands_of shape lines f r (record { process = v; port = port; ring = rp; places = tt }) no_past sizes
     (record {

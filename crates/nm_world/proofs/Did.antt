@@ -32,7 +32,7 @@ use Rattle.nm_copyring.specs.Plays.{one_empty, one_full, one_pulled, one_pushed,
 use Rattle.nm_copyring.specs.Ports as ring
 use Rattle.nm_world.specs.declared.actors.Actor.{Actor}
 use Rattle.nm_world.specs.Actors.{Grew, Grows, LaneGrows, MissesGrow, PortGrows, RingGrows, did}
-use Rattle.nm_world.specs.Actors.{AllKept, Kept, SomeGrew, Stands, did_any, done_by, done_of, sum_below}
+use Rattle.nm_world.specs.Actors.{AllContinue, Continues, SomeGrew, ActorInvariant, did_any, done_by, done_of, sum_below}
 use Rattle.nm_types.specs.declared.scripts.Line.{Line}
 use Rattle.nm_types.specs.Sizes.{Sizes}
 use Rattle.nm_global.specs.ProcessInvariant.{GoesOn}
@@ -165,8 +165,8 @@ did_on n a b c p q one two = or_less (done_by n a) (done_by n b) (done_by n c) p
 
 -- one step more of a loop that tells whether something was done
 pub kept_and : (n : ℕ) (lines : List Line) (f : Fabric) (r : Rings) (a b c : Actor) (p q : Bool) →
-    Kept lines f r a b → Kept lines f r b c → p ≡ did n a b → q ≡ did n b c →
-    Kept lines f r a c × ((p || q) ≡ did n a c)
+    Continues lines f r a b → Continues lines f r b c → p ≡ did n a b → q ≡ did n b c →
+    Continues lines f r a c × ((p || q) ≡ did n a c)
 kept_and n lines f r a b c p q one two before then =
     (kept_on lines f r a b c one two, did_on n a b c p q one.grows two.grows before then)
 
@@ -180,11 +180,11 @@ or_one false q one = sym one
 
 -- a ring port that found its next place full or empty
 pub ring_missed : (lines : List Line) (f : Fabric) (r : Rings) (a : Actor) (q : RingPort)
-    (g : Lane → Lane) (j : ℕ) (s : Stands lines f r a) → ring.Owns r q → q.rank ≡ a.ring.rank →
+    (g : Lane → Lane) (j : ℕ) (s : ActorInvariant lines f r a) → ring.Owns r q → q.rank ≡ a.ring.rank →
     j < length (ring.knows a.ring).lanes → ((l : Lane) → LaneGrows l (g l)) →
     ((l : Lane) → ((g l).pushed ≡ l.pushed) × ((g l).pulled ≡ l.pulled)) →
     ring.knows q ≡ with_lane g j (ring.knows a.ring) →
-    Kept lines f r a (record a { ring = q }) × (false ≡ did f.ranks a (record a { ring = q }))
+    Continues lines f r a (record a { ring = q }) × (false ≡ did f.ranks a (record a { ring = q }))
 ring_missed lines f r a q g j s owns rank low up same knew =
     let kept = λ (k : ℕ). lane_kept (ring.knows a.ring) (ring.knows q) g j k low same knew in (
       record {
@@ -216,9 +216,9 @@ ring_missed lines f r a q g j s owns rank low up same knew =
     )
 
 -- a ring port that loaded a flag and learnt nothing
-pub ring_looked : (lines : List Line) (f : Fabric) (r : Rings) (a : Actor) (q : RingPort) (s : Stands lines f r a) →
+pub ring_looked : (lines : List Line) (f : Fabric) (r : Rings) (a : Actor) (q : RingPort) (s : ActorInvariant lines f r a) →
     ring.Owns r q → q.rank ≡ a.ring.rank → ring.knows q ≡ ring.knows a.ring →
-    Kept lines f r a (record a { ring = q }) × (false ≡ did f.ranks a (record a { ring = q }))
+    Continues lines f r a (record a { ring = q }) × (false ≡ did f.ranks a (record a { ring = q }))
 ring_looked lines f r a q s owns rank knew =
     let pushed = λ (k : ℕ). ap (λ (e : ring_entry.Entry). (lane e k).pushed) knew in
     let pulled = λ (k : ℕ). ap (λ (e : ring_entry.Entry). (lane e k).pulled) knew in (
@@ -252,7 +252,7 @@ ring_looked lines f r a q s owns rank knew =
     )
 
 -- a command that ran
-pub ran_on : (n : ℕ) {lines : List Line} {f : Fabric} {r : Rings} (a b : Actor) (s : Stands lines f r a) →
+pub ran_on : (n : ℕ) {lines : List Line} {f : Fabric} {r : Rings} (a b : Actor) (s : ActorInvariant lines f r a) →
     {sizes : Sizes} {i : ℕ} → GoesOn sizes lines i b.process.rank s.past → b.port ≡ a.port → b.ring ≡ a.ring →
     Grows a b × Grew n a b
 ran_on n a b s on port ring =
@@ -278,7 +278,7 @@ done_append n [] ys = omega arith
 done_append n (x ∷ xs) ys = let rest = done_append n xs ys in omega (arith, rest)
 
 pub all_up : (n : ℕ) (lines : List Line) (f : Fabric) (r : Rings) (xs ys : List Actor) →
-    AllKept lines f r xs ys → done_of n xs ≤ done_of n ys
+    AllContinue lines f r xs ys → done_of n xs ≤ done_of n ys
 all_up n lines f r [] [] kept = omega arith
 all_up n lines f r [] (y ∷ ys) kept = absurd kept
 all_up n lines f r (x ∷ xs) [] kept = absurd kept
@@ -298,7 +298,7 @@ or_sum x y x' y' false false up to p_is q_is =
 
 -- both halves
 pub did_halves : (n : ℕ) (lines : List Line) (f : Fabric) (r : Rings) (xs ys xs' ys' : List Actor) (p q : Bool) →
-    AllKept lines f r xs xs' → AllKept lines f r ys ys' → p ≡ did_any n xs xs' → q ≡ did_any n ys ys' →
+    AllContinue lines f r xs xs' → AllContinue lines f r ys ys' → p ≡ did_any n xs xs' → q ≡ did_any n ys ys' →
     (p || q) ≡ did_any n (xs ++ ys) (xs' ++ ys')
 did_halves n lines f r xs ys xs' ys' p q one two p_is q_is =
     subst (λ (k : ℕ). (p || q) ≡ nat_lt k (done_of n (xs' ++ ys'))) (sym (done_append n xs ys))
@@ -308,7 +308,7 @@ did_halves n lines f r xs ys xs' ys' p q one two p_is q_is =
 
 -- from one to the next, of many
 pub did_any_on : (n : ℕ) (lines : List Line) (f : Fabric) (r : Rings) (xs ys zs : List Actor) (p q : Bool) →
-    AllKept lines f r xs ys → AllKept lines f r ys zs → p ≡ did_any n xs ys → q ≡ did_any n ys zs →
+    AllContinue lines f r xs ys → AllContinue lines f r ys zs → p ≡ did_any n xs ys → q ≡ did_any n ys zs →
     (p || q) ≡ did_any n xs zs
 did_any_on n lines f r xs ys zs p q one two = or_less (done_of n xs) (done_of n ys) (done_of n zs) p q
     (all_up n lines f r xs ys one) (all_up n lines f r ys zs two)
@@ -370,7 +370,7 @@ did_iff n a b up = (
 )
 
 -- and of many
-some_grew : (n : ℕ) (lines : List Line) (f : Fabric) (r : Rings) (xs ys : List Actor) → AllKept lines f r xs ys →
+some_grew : (n : ℕ) (lines : List Line) (f : Fabric) (r : Rings) (xs ys : List Actor) → AllContinue lines f r xs ys →
     done_of n xs < done_of n ys → SomeGrew n xs ys
 some_grew n lines f r [] [] kept more = absurd (omega (arith, more))
 some_grew n lines f r [] (y ∷ ys) kept more = absurd kept
@@ -397,7 +397,7 @@ some_grew n lines f r (x ∷ xs) (y ∷ ys) kept more =
       }
 
 some_did : (n : ℕ) (lines : List Line) (f : Fabric) (r : Rings) (xs ys : List Actor) (k : ℕ) (a b : Actor) →
-    AllKept lines f r xs ys → slice_get xs k ≡ Some a → slice_get ys k ≡ Some b → Grew n a b →
+    AllContinue lines f r xs ys → slice_get xs k ≡ Some a → slice_get ys k ≡ Some b → Grew n a b →
     done_of n xs < done_of n ys
 some_did n lines f r [] [] k a b kept was is grew = cc
 some_did n lines f r [] (y ∷ ys) k a b kept was is grew = absurd kept
@@ -414,7 +414,7 @@ some_did n lines f r (x ∷ xs) (y ∷ ys) (suc k) a b kept was is grew =
     let up = done_up n x y kept.0.grows in omega (arith, rest, up)
 
 pub did_any_iff : (n : ℕ) (lines : List Line) (f : Fabric) (r : Rings) (xs ys : List Actor) →
-    AllKept lines f r xs ys → (did_any n xs ys ≡ true) ↔ SomeGrew n xs ys
+    AllContinue lines f r xs ys → (did_any n xs ys ≡ true) ↔ SomeGrew n xs ys
 did_any_iff n lines f r xs ys kept = (
   λ is. some_grew n lines f r xs ys kept (is_less (done_of n xs) (done_of n ys) (sym is)),
   λ some. sym (less_true (done_of n xs) (done_of n ys)
@@ -423,14 +423,14 @@ did_any_iff n lines f r xs ys kept = (
 
 -- and of one before which nothing was
 pub did_then : {E : Type 0} (result : Result Bool E) (n : ℕ) (lines : List Line) (f : Fabric) (r : Rings)
-    (a b c : Actor) → Kept lines f r a b → false ≡ did n a b → IfOk result (λ _. Kept lines f r b c) →
+    (a b c : Actor) → Continues lines f r a b → false ≡ did n a b → IfOk result (λ _. Continues lines f r b c) →
     IfOk result (λ moved. moved ≡ did n b c) → IfOk result (λ moved. moved ≡ did n a c)
 did_then (Err x) n lines f r a b c one none two moved = tt
 did_then (Ok m) n lines f r a b c one none two moved = did_on n a b c false m one.grows two.grows none moved
 
 -- of a call that tells whether something was done
 pub grew_where_moved : {E : Type 0} (result : Result Bool E) (n : ℕ) (lines : List Line) (f : Fabric) (r : Rings)
-    (a b : Actor) → IfOk result (λ _. Kept lines f r a b) → IfOk result (λ moved. moved ≡ did n a b) →
+    (a b : Actor) → IfOk result (λ _. Continues lines f r a b) → IfOk result (λ moved. moved ≡ did n a b) →
     IfOk result (λ moved. (moved ≡ true) ↔ Grew n a b)
 grew_where_moved (Err x) n lines f r a b kept moved = tt
 grew_where_moved (Ok m) n lines f r a b kept moved = (
@@ -439,7 +439,7 @@ grew_where_moved (Ok m) n lines f r a b kept moved = (
 )
 
 pub some_grew_where_moved : {E : Type 0} (result : Result Bool E) (n : ℕ) (lines : List Line) (f : Fabric) (r : Rings)
-    (xs ys : List Actor) → IfOk result (λ _. AllKept lines f r xs ys) →
+    (xs ys : List Actor) → IfOk result (λ _. AllContinue lines f r xs ys) →
     IfOk result (λ moved. moved ≡ did_any n xs ys) → IfOk result (λ moved. (moved ≡ true) ↔ SomeGrew n xs ys)
 some_grew_where_moved (Err x) n lines f r xs ys kept moved = tt
 some_grew_where_moved (Ok m) n lines f r xs ys kept moved = (

@@ -33,7 +33,7 @@ use Rattle.nm_copyring.specs.Plays.{one_empty, one_full, one_pulled, one_pushed,
 use Rattle.nm_copyring.specs.Ports as ring
 use Rattle.nm_world.specs.declared.actors.Actor.{Actor}
 use Rattle.nm_world.specs.Actors.{Grew, Grows, LaneGrows, MissesGrow, PortGrows, RingGrows, did}
-use Rattle.nm_world.specs.Actors.{AllKept, Kept, Stands, did_any, done_by, done_of, sum_below}
+use Rattle.nm_world.specs.Actors.{AllContinue, Continues, ActorInvariant, did_any, done_by, done_of, sum_below}
 use Rattle.nm_types.specs.declared.scripts.Line.{Line}
 use Rattle.nm_types.specs.Sizes.{Sizes}
 use Rattle.nm_global.specs.ProcessInvariant.{GoesOn}

@@ -32,7 +32,7 @@ use Rattle.nm_copyring.specs.Plays.{one_empty, one_full, one_pulled, one_pushed,
 use Rattle.nm_copyring.specs.Ports as ring
 use Rattle.nm_world.specs.declared.actors.Actor.{Actor}
 use Rattle.nm_world.specs.Actors.{Grew, Grows, LaneGrows, MissesGrow, PortGrows, RingGrows, did}
-use Rattle.nm_world.specs.Actors.{AllKept, Kept, Stands, did_any, done_by, done_of, sum_below}
+use Rattle.nm_world.specs.Actors.{AllContinue, Continues, ActorInvariant, did_any, done_by, done_of, sum_below}
 use Rattle.nm_types.specs.declared.scripts.Line.{Line}
 use Rattle.nm_types.specs.Sizes.{Sizes}
 use Rattle.nm_global.specs.ProcessInvariant.{GoesOn}
@@ -183,8 +183,8 @@ grows_on a b c one two = record {
   ring = λ k. lane_on _ _ _ (one.ring k) (two.ring k);
 }
 
-pub kept_on : (lines : List Line) (f : Fabric) (r : Rings) (a b c : Actor) → Kept lines f r a b →
-    Kept lines f r b c → Kept lines f r a c
+pub kept_on : (lines : List Line) (f : Fabric) (r : Rings) (a b c : Actor) → Continues lines f r a b →
+    Continues lines f r b c → Continues lines f r a c
 kept_on lines f r a b c one two = record {
   stands = two.stands;
   seat = two.seat ∙ one.seat;
@@ -192,6 +192,6 @@ kept_on lines f r a b c one two = record {
       grows_on a b c one.grows two.grows;
 }
 
-pub kept_same : (lines : List Line) (f : Fabric) (r : Rings) (a : Actor) → Stands lines f r a →
-    Kept lines f r a a
+pub kept_same : (lines : List Line) (f : Fabric) (r : Rings) (a : Actor) → ActorInvariant lines f r a →
+    Continues lines f r a a
 kept_same lines f r a s = record { stands = s; seat = refl; grows = grows_same a }

@@ -33,7 +33,7 @@ use Rattle.nm_process.specs.Processes.{ProcessView}
 use Rattle.nm_process.specs.Steps.{goes_on}
 use Rattle.nm_world.specs.declared.actors.Actor.{Actor}
 use Rattle.nm_world.specs.Actors.{Grows, PortGrows, RingGrows}
-use Rattle.nm_world.specs.Idle.{CameBack, GaveNone, Idle, IsDue, LetterBack, NoPiece, PieceBack, QueueMissed}
+use Rattle.nm_world.specs.Idle.{NotSent, GaveNone, Idle, IsDue, FirstNotSent, NoPiece, NextNotPushed, QueueMissed}
 use Rattle.nm_world.specs.Idle.{Rose, Stepped}
 use Rattle.nm_world.proofs.Grows.{port_same, ring_same}
 use Rattle.nm_types.proofs.TruthLemmas.{neither}
@@ -126,7 +126,7 @@ tried_queue len to e e' = by (dec_le len 64) where
   by (no h) rose = rose
 
 pub came_back : (p q : Port) (l : Letter) (len : ℕ) → len ≡ length l.packet.payload → l.to < (knows p).ranks →
-    HadMiss false (tried len l.to (knows p)) (knows q) → CameBack p q l
+    HadMiss false (tried len l.to (knows p)) (knows q) → NotSent p q l
 came_back p q l len same low miss =
     let e = knows p in
     let long = fulls_long p in
@@ -137,13 +137,13 @@ came_back p q l len same low miss =
       queue = tried_queue len l.to e (knows q) (miss_rose false (tried len l.to e) (knows q) miss);
     }
 
-pub back_within : (a a' b' b : Actor) → PortGrows a.port a'.port → a'.process ≡ a.process → LetterBack a' b' →
-    PortGrows b'.port b.port → LetterBack a b
+pub back_within : (a a' b' b : Actor) → PortGrows a.port a'.port → a'.process ≡ a.process → FirstNotSent a' b' →
+    PortGrows b'.port b.port → FirstNotSent a b
 back_within a a' b' b up same back on =
     by (slice_get a.process.rank.sending.outbox.letters 0)
-    (subst (λ (v : ProcessView). IfSome (slice_get v.rank.sending.outbox.letters 0) (CameBack a'.port b'.port)) same
+    (subst (λ (v : ProcessView). IfSome (slice_get v.rank.sending.outbox.letters 0) (NotSent a'.port b'.port)) same
     back) where
-      by : (o : Option Letter) → IfSome o (CameBack a'.port b'.port) → IfSome o (CameBack a.port b.port)
+      by : (o : Option Letter) → IfSome o (NotSent a'.port b'.port) → IfSome o (NotSent a.port b.port)
       by None back = tt
       by (Some l) back = record {
         box = ⊎_elim (λ h. inl h) (λ h. inr (rose_within _ _ _ _ (up.full l.to) h (on.full l.to))) back.box;
@@ -168,7 +168,7 @@ lane_empty e e' j low is =
 pub piece_back : (a b : Actor) (to : ℕ) (piece : Piece) →
     Some (offered (to, piece)) ≡ next_offered a.process.rank.sending.offers →
     to < length (ring.knows a.ring).lanes → ring.knows b.ring ≡ with_lane one_full to (ring.knows a.ring) →
-    PieceBack a b
+    NextNotPushed a b
 piece_back a b to piece next low full =
     subst (λ (o : Option Offered). IfSome o (λ x. full_to a.ring x.to < full_to b.ring x.to)) next
     (lane_full (ring.knows a.ring) (ring.knows b.ring) to low full)
@@ -177,7 +177,7 @@ piece_back a b to piece next low full =
 pub place_full : (a b : Actor) (to : ℕ) →
     Some to ≡ option_map (λ x. x.to) (next_offered a.process.rank.sending.offers) →
     to < length (ring.knows a.ring).lanes → ring.knows b.ring ≡ with_lane one_full to (ring.knows a.ring) →
-    PieceBack a b
+    NextNotPushed a b
 place_full a b to goes low full = by (next_offered a.process.rank.sending.offers) goes where
   same : (k : ℕ) → Some to ≡ Some k → to ≡ k
   same k e = cc
@@ -190,7 +190,7 @@ place_full a b to goes low full = by (next_offered a.process.rank.sending.offers
 
 -- and where it goes to none, there is none
 pub none_back : (a : Actor) → None ≡ option_map (λ x. x.to) (next_offered a.process.rank.sending.offers) →
-    PieceBack a a
+    NextNotPushed a a
 none_back a goes = by (next_offered a.process.rank.sending.offers) goes where
   clash : (k : ℕ) → None ≡ Some k → ⊥
   clash k e = cc
@@ -204,8 +204,8 @@ pub no_piece : (a b : Actor) (sender : ℕ) → sender < length (ring.knows a.ri
     ring.knows b.ring ≡ with_lane one_empty sender (ring.knows a.ring) → NoPiece a b sender
 no_piece a b sender low empty due = lane_empty (ring.knows a.ring) (ring.knows b.ring) sender low empty
 
-pub piece_within : (a a' b' b : Actor) → RingGrows a.ring a'.ring → a'.process ≡ a.process → PieceBack a' b' →
-    RingGrows b'.ring b.ring → PieceBack a b
+pub piece_within : (a a' b' b : Actor) → RingGrows a.ring a'.ring → a'.process ≡ a.process → NextNotPushed a' b' →
+    RingGrows b'.ring b.ring → NextNotPushed a b
 piece_within a a' b' b up same back on =
     by (next_offered a.process.rank.sending.offers)
     (subst (λ (v : ProcessView). IfSome (next_offered v.rank.sending.offers)

@@ -30,18 +30,18 @@ use Rattle.nm_copyring.specs.declared.table.Lane.{Lane}
 use Rattle.nm_copyring.specs.Rule.{lane}
 use Rattle.nm_copyring.specs.Plays.{one_pushed, with_lane}
 use Rattle.nm_copyring.specs.Ports as ring
-use Rattle.nm_global.specs.Emitted.{Left, with_packet, with_piece}
-use Rattle.nm_channels.specs.Moments.{Moment, taken_from}
+use Rattle.nm_global.specs.Emitted.{Emitted, with_packet, with_piece}
+use Rattle.nm_channels.specs.Moments.{LogEntry, taken_from}
 use Rattle.nm_channels.specs.Moments.Cause.{Acted}
 use Rattle.nm_global.specs.Moments.{pulled}
 use Rattle.nm_global.proofs.Shown.{pulled_still, taken_still}
 use Rattle.nm_process.specs.Processes.{ProcessView}
 use Rattle.nm_process.specs.Work.{IsAtWork}
 use Rattle.nm_port.specs.CarriedPackets.{HasPassed, HasSent, one_more}
-use Rattle.nm_global.specs.ProcessInvariant.{IsOf, IsStanding, with_moment, with_packet_left}
+use Rattle.nm_global.specs.ProcessInvariant.{IsOf, ProcessInvariant, with_moment, with_packet_left}
 use Rattle.nm_global.specs.ProcessInvariant.{with_piece_left}
 use Rattle.nm_world.specs.declared.actors.Actor.{Actor}
-use Rattle.nm_world.specs.Actors.{Stands}
+use Rattle.nm_world.specs.Actors.{ActorInvariant}
 use Rattle.nm_world.proofs.Steps.{SameGot, got_same, lane_else, lane_here, stands_of}
 use Rattle.nm_world.proofs.Steps.{tried_got, tried_sent}
 use Rattle.nm_types.proofs.NumberLemmas.{same_number, differ}
@@ -97,36 +97,36 @@ got_by : {e e' : Entry} {to : ℕ} {p : Packet} → SentBy e e' to p → SameGot
 got_by (a_box x y z) = z
 got_by (a_cell x y z) = z
 
-left_packets : (to j : ℕ) (p : Packet) (l : Left) → (with_packet j (to, p) l).packets ≡ one_more to j p l.packets
+left_packets : (to j : ℕ) (p : Packet) (l : Emitted) → (with_packet j (to, p) l).packets ≡ one_more to j p l.packets
 left_packets to j p l = by (to == j) where
   by : (b : Bool) → (cond b (record l { packets = l.packets ++ p ∷ [] }) l).packets ≡ cond b
       (l.packets ++ p ∷ []) l.packets
   by true = refl
   by false = refl
 
-left_pieces : (to j : ℕ) (p : Packet) (l : Left) → (with_packet j (to, p) l).pieces ≡ l.pieces
+left_pieces : (to j : ℕ) (p : Packet) (l : Emitted) → (with_packet j (to, p) l).pieces ≡ l.pieces
 left_pieces to j p l = by (to == j) where
   by : (b : Bool) → (cond b (record l { packets = l.packets ++ p ∷ [] }) l).pieces ≡ l.pieces
   by true = refl
   by false = refl
 
 pub send_on : SendCarries → (lines : List Line) (f : Fabric) (r : Rings) (a : Actor) (v : ProcessView)
-    (port : Port) (to : ℕ) (p : Packet) (events : List Event) (s : Stands lines f r a) → Owns f port →
+    (port : Port) (to : ℕ) (p : Packet) (events : List Event) (s : ActorInvariant lines f r a) → Owns f port →
     port.rank ≡ a.port.rank →
     SameTaken a.port port → port.hands ≤ a.port.hands → SentBy (knows a.port) (knows port) to p →
     p.seq ≡ sent_to to (knows a.port).put_box (knows a.port).put →
     IsAtWork a.process.rank.sizes lines v →
     IsOf a.process.rank.sizes lines a.port.rank v.rank
     (with_moment (with_packet_left s.past (to, p)) (record { cause = Acted; events = events })) →
-    Stands lines f r (record { process = v; port = port; ring = a.ring; places = tt })
+    ActorInvariant lines f r (record { process = v; port = port; ring = a.ring; places = tt })
 send_on law lines f r a v port to p events s owns rank same hands way number work on =
-    let m : Moment = record { cause = Acted; events = events } in
+    let m : LogEntry = record { cause = Acted; events = events } in
     let now = with_moment (with_packet_left s.past (to, p)) m in
     let got = got_by way in
     stands_of a.process.rank.sizes lines f r
     (record { process = v; port = port; ring = a.ring; places = tt }) now work.sizes
     (record {
-      standing = subst (λ (k : ℕ). IsStanding a.process.rank.sizes lines k v now) (sym rank)
+      standing = subst (λ (k : ℕ). ProcessInvariant a.process.rank.sizes lines k v now) (sym rank)
           (record { work = work; rank = on });
       in_range = s.is.in_range;
       cells = owns;
@@ -149,22 +149,22 @@ send_on law lines f r a v port to p events s owns rank same hands way number wor
           ∙ s.is.pulled i within;
     })
 
-piece_packets : (j : ℕ) (piece : ℕ × Piece) (l : Left) → (with_piece j piece l).packets ≡ l.packets
+piece_packets : (j : ℕ) (piece : ℕ × Piece) (l : Emitted) → (with_piece j piece l).packets ≡ l.packets
 piece_packets j piece l = by (piece.0 == j) where
   by : (b : Bool) → (cond b (record l { pieces = l.pieces ++ piece.1 ∷ [] }) l).packets ≡ l.packets
   by true = refl
   by false = refl
 
 pub push_on : (lines : List Line) (f : Fabric) (r : Rings) (a : Actor) (v : ProcessView)
-    (port : RingPort) (to : ℕ) (q : Piece) (events : List Event) (s : Stands lines f r a) →
+    (port : RingPort) (to : ℕ) (q : Piece) (events : List Event) (s : ActorInvariant lines f r a) →
     ring.Owns r port → port.rank ≡ a.ring.rank → to < r.ranks →
     ring.knows port ≡ with_lane (one_pushed q) to (ring.knows a.ring) →
     IsAtWork a.process.rank.sizes lines v →
     IsOf a.process.rank.sizes lines a.port.rank v.rank
     (with_moment (with_piece_left s.past (to, q)) (record { cause = Acted; events = events })) →
-    Stands lines f r (record { process = v; port = a.port; ring = port; places = tt })
+    ActorInvariant lines f r (record { process = v; port = a.port; ring = port; places = tt })
 push_on lines f r a v port to q events s owns rank within knew work on =
-    let m : Moment = record { cause = Acted; events = events } in
+    let m : LogEntry = record { cause = Acted; events = events } in
     let now = with_moment (with_piece_left s.past (to, q)) m in
     let wide = s.is.rings.1.2 in
     stands_of a.process.rank.sizes lines f r

@@ -24,7 +24,7 @@ use Rattle.nm_process.proofs.PlaceLemmas.{next_command, next_found}
 use Rattle.nm_types.specs.Sizes.{Sizes}
 use Rattle.nm_rank.specs.Ranks.{IsFresh}
 use Rattle.nm_world.specs.declared.actors.Actor.{Actor}
-use Rattle.nm_world.specs.Actors.{Grows, Kept, PortGrows, Seat, Stands, did}
+use Rattle.nm_world.specs.Actors.{Grows, Continues, PortGrows, Seat, ActorInvariant, did}
 use Rattle.nm_world.specs.Idle.{QueueMissed}
 use Rattle.nm_world.specs.Looks.{IsAtLast, Polled, PolledBefore, PolledUnlessWorn, is_look_at, looks_in}
 use Rattle.nm_world.specs.Looks.{looks_next, polls_of}
@@ -123,12 +123,12 @@ looks_ran sizes lines a b one two me run =
     ∙ sym (ap (λ (o : Option Numbered). cond (option_map_or (λ c. is_look c.command) o false) 1 0) next))
 
 -- one step of a loop that takes packets, and its last one
-pub ranks_same : (lines : List Line) (f : Fabric) (r : Rings) (a b : Actor) → Kept lines f r a b →
+pub ranks_same : (lines : List Line) (f : Fabric) (r : Rings) (a b : Actor) → Continues lines f r a b →
     b.process.rank.sizes.ranks ≡ a.process.rank.sizes.ranks
 ranks_same lines f r a b kept = ap (λ (s : Seat). s.sizes.ranks) kept.seat
 
 pub polled_by_step : (lines : List Line) (f : Fabric) (r : Rings) (n : ℕ) (a b d : Actor) (q : Bool) →
-    Kept lines f r a b →
+    Continues lines f r a b →
     q ≡ true → q ≡ did n b d → PolledUnlessWorn b.process.rank.sizes.ranks 1 b d →
     Polled a.process.rank.sizes.ranks 1 a.port d.port
 polled_by_step lines f r n a b d q kept is moved = ⊎_elim
@@ -153,18 +153,18 @@ polled_last lines f r n k a b d looped before up = ⊎_elim
 
 -- an actor that stands, and went on
 module _ (lines : List Line) (f : Fabric) (r : Rings) where
-  pub me_same : (a b : Actor) → Stands lines f r a → Kept lines f r a b → b.process.rank.me ≡ a.process.rank.me
+  pub me_same : (a b : Actor) → ActorInvariant lines f r a → Continues lines f r a b → b.process.rank.me ≡ a.process.rank.me
   me_same a b s kept =
       kept.stands.is.standing.rank.me ∙ ap (λ (s : Seat). s.rank) kept.seat ∙ sym s.is.standing.rank.me
 
-  answers_of : (a b : Actor) → Stands lines f r a → Kept lines f r a b →
+  answers_of : (a b : Actor) → ActorInvariant lines f r a → Continues lines f r a b →
       Answers (commands_of a.process.rank.me lines) b.process.at b.process.rank.events
   answers_of a b s kept =
       subst (λ (k : ℕ). Answers (commands_of k lines) b.process.at b.process.rank.events) (me_same a b s kept)
       kept.stands.is.standing.work.answers
 
   -- the looks of an actor that ran no command
-  pub looks_kept : (a b c : Actor) → Stands lines f r a → Kept lines f r a b → Kept lines f r b c →
+  pub looks_kept : (a b c : Actor) → ActorInvariant lines f r a → Continues lines f r a b → Continues lines f r b c →
       c.process.at ≡ b.process.at →
       looks_in (commands_of a.process.rank.me lines) c.process.rank.events
       ≡ looks_in (commands_of a.process.rank.me lines) b.process.rank.events
@@ -181,7 +181,7 @@ module _ (lines : List Line) (f : Fabric) (r : Rings) where
       ∙ looks_more (commands_of a.process.rank.me lines) a.process.rank.events g.events.0
 
   -- before a command that did not run
-  pub looked_last : (a b c : Actor) → Stands lines f r a → Kept lines f r a b → Kept lines f r b c →
+  pub looked_last : (a b c : Actor) → ActorInvariant lines f r a → Continues lines f r a b → Continues lines f r b c →
       c.process.at ≡ b.process.at → PolledBefore lines a b → PolledBefore lines a c
   looked_last a b c s one two at before looks is =
       let commands = commands_of a.process.rank.me lines in
@@ -191,7 +191,7 @@ module _ (lines : List Line) (f : Fabric) (r : Rings) where
       polled_within a.process.rank.sizes.ranks looks a.port a.port b.port c.port (port_same a.port) polled
       two.grows.port
 
-  next_same : (b m : Actor) → Stands lines f r b → Kept lines f r b m → m.process.at ≡ b.process.at →
+  next_same : (b m : Actor) → ActorInvariant lines f r b → Continues lines f r b m → m.process.at ≡ b.process.at →
       looks_next lines m.process ≡ looks_next lines b.process
   next_same b m s kept at =
       ap (λ (k : ℕ). cond (option_map_or (λ (c : Numbered). is_look c.command)
@@ -200,8 +200,8 @@ module _ (lines : List Line) (f : Fabric) (r : Rings) where
       (slice_get (commands_of b.process.rank.me lines) k) false) 1 0) at
 
   -- before one that ran
-  pub looked_more : (a b m d : Actor) → Stands lines f r a → Kept lines f r a b → Kept lines f r b m →
-      Kept lines f r m d → m.process.at ≡ b.process.at → PolledBefore lines a b →
+  pub looked_more : (a b m d : Actor) → ActorInvariant lines f r a → Continues lines f r a b → Continues lines f r b m →
+      Continues lines f r m d → m.process.at ≡ b.process.at → PolledBefore lines a b →
       PolledUnlessWorn b.process.rank.sizes.ranks (looks_next lines b.process) b m → IsFresh m.process.rank →
       HasRun lines m.process d.process → PolledBefore lines a d
   looked_more a b m d s one two three at before looked fresh run looks is =

@@ -7,7 +7,7 @@ use Rattle.nm_cells.specs.declared.port.Fabric.{Fabric}
 use Rattle.nm_copyring.specs.declared.port.Rings.{Rings}
 use Rattle.nm_rank.specs.Ranks.{IsFresh}
 use Rattle.nm_world.specs.declared.actors.Actor.{Actor}
-use Rattle.nm_world.specs.Actors.{Kept, Stands, did}
+use Rattle.nm_world.specs.Actors.{Continues, ActorInvariant, did}
 use Rattle.nm_world.specs.Idle.{Stepped}
 use Rattle.nm_world.proofs.Did.{did_on, did_same, or_none}
 use Rattle.nm_world.proofs.Grows.{kept_on, kept_same}
@@ -16,7 +16,7 @@ use Rattle.nm_types.proofs.TruthLemmas.{or_right}
 
 -- after k steps that moved something
 pub record HasLooped (n : ℕ) (lines : List Line) (f : Fabric) (r : Rings) (k : ℕ) (a b : Actor) : Type 0 where
-  pub kept : Kept lines f r a b
+  pub kept : Continues lines f r a b
   pub moved : nat_lt 0 k ≡ did n a b
   pub stepped : Stepped (nat_lt 0 k) a b
   pub first : k ≡ 0 → b ≡ a
@@ -28,7 +28,7 @@ pub is_first : (k : ℕ) → nat_lt 0 k ≡ false → k ≡ 0
 is_first k none = let low : k ≤ 0 = grind (arith, nat_tests) in omega (arith, low)
 
 module _ (n : ℕ) (lines : List Line) (f : Fabric) (r : Rings) (a : Actor) where
-  pub loop_none : Stands lines f r a → HasLooped n lines f r 0 a a
+  pub loop_none : ActorInvariant lines f r a → HasLooped n lines f r 0 a a
   loop_none s = record {
     kept = kept_same lines f r a s;
     moved = did_same n a;
@@ -37,7 +37,7 @@ module _ (n : ℕ) (lines : List Line) (f : Fabric) (r : Rings) (a : Actor) wher
   }
 
   pub loop_more : (k : ℕ) (b c : Actor) (q : Bool) → q ≡ true → HasLooped n lines f r k a b →
-      Kept lines f r b c → q ≡ did n b c → Stepped q b c → HasLooped n lines f r (k + 1) a c
+      Continues lines f r b c → q ≡ did n b c → Stepped q b c → HasLooped n lines f r (k + 1) a c
   loop_more k b c q is before kept moved stepped =
       let more : (nat_lt 0 k || q) ≡ nat_lt 0 (k + 1) = or_right (nat_lt 0 k) q is ∙ sym (some_more k) in
       record {
@@ -49,13 +49,13 @@ module _ (n : ℕ) (lines : List Line) (f : Fabric) (r : Rings) (a : Actor) wher
 
   -- with a last step that moved nothing
   pub record HasEnded (k : ℕ) (b c : Actor) : Type 0 where
-    pub kept : Kept lines f r a c
+    pub kept : Continues lines f r a c
     pub moved : nat_lt 0 k ≡ did n a c
     pub stepped : Stepped (nat_lt 0 k) a c
     pub sole : nat_lt 0 k ≡ false → b ≡ a
 
   pub loop_last : (k : ℕ) (b c : Actor) (q : Bool) → q ≡ false → HasLooped n lines f r k a b →
-      Kept lines f r b c → q ≡ did n b c → Stepped q b c → HasEnded k b c
+      Continues lines f r b c → q ≡ did n b c → Stepped q b c → HasEnded k b c
   loop_last k b c q none before kept moved stepped =
       let same : (nat_lt 0 k || q) ≡ nat_lt 0 k = sym (or_none (nat_lt 0 k) q none) in
       record {

@@ -16,7 +16,7 @@ use Rattle.nm_copyring.specs.declared.port.Rings.{Rings}
 use Rattle.nm_copyring.specs.Ports as ring
 use Rattle.nm_process.specs.Lines.{AreLines}
 use Rattle.nm_world.specs.declared.actors.Actor.{Actor}
-use Rattle.nm_world.specs.Actors.{AllKept, Seat, Stands, seat_of}
+use Rattle.nm_world.specs.Actors.{AllContinue, Seat, ActorInvariant, seat_of}
 use Rattle.nm_world.specs.Runs.{AreRanked, InPlace, NewInOrder, PairAgrees}
 use Rattle.nm_world.proofs.Chosen.{same_there}
 use Rattle.nm_world.proofs.Grows.{kept_on, kept_same}
@@ -59,15 +59,15 @@ rows_more actors n all one last before both i j a b low at to = dite (ℕ_discre
     (λ ne. before (and_both all one both).0 i j a b (omega (arith, low, ne)) at to)
 
 module _ (lines : List Line) (f : Fabric) (r : Rings) where
-  pub all_kept_same : (xs : List Actor) → All (Stands lines f r) xs → AllKept lines f r xs xs
+  pub all_kept_same : (xs : List Actor) → All (ActorInvariant lines f r) xs → AllContinue lines f r xs xs
   all_kept_same [] each = tt
   all_kept_same (x ∷ xs) each = (
     kept_same lines f r x (each 0 x (omega arith)),
     all_kept_same xs (λ k d low. each (suc k) d (omega (arith, low))),
   )
 
-  pub all_kept_on : (xs ys zs : List Actor) → AllKept lines f r xs ys → AllKept lines f r ys zs →
-      AllKept lines f r xs zs
+  pub all_kept_on : (xs ys zs : List Actor) → AllContinue lines f r xs ys → AllContinue lines f r ys zs →
+      AllContinue lines f r xs zs
   all_kept_on [] [] zs one two = two
   all_kept_on [] (y ∷ ys) zs one two = absurd one
   all_kept_on (x ∷ xs) [] zs one two = absurd one
@@ -75,31 +75,31 @@ module _ (lines : List Line) (f : Fabric) (r : Rings) where
   all_kept_on (x ∷ xs) (y ∷ ys) (z ∷ zs) one two =
       (kept_on lines f r x y z one.0 two.0, all_kept_on xs ys zs one.1 two.1)
 
-  pub kept_many : (us bs : List Actor) → AllKept lines f r us bs → length bs ≡ length us
+  pub kept_many : (us bs : List Actor) → AllContinue lines f r us bs → length bs ≡ length us
   kept_many [] [] h = refl
   kept_many [] (b ∷ bs) h = absurd h
   kept_many (a ∷ us) [] h = absurd h
   kept_many (a ∷ us) (b ∷ bs) h = ap suc (kept_many us bs h.1)
 
-  pub all_stand : (xs ys : List Actor) → AllKept lines f r xs ys → All (Stands lines f r) ys
+  pub all_stand : (xs ys : List Actor) → AllContinue lines f r xs ys → All (ActorInvariant lines f r) ys
   all_stand [] [] kept = λ i d less. absurd (omega (arith, less))
   all_stand [] (y ∷ ys) kept = absurd kept
   all_stand (x ∷ xs) [] kept = absurd kept
-  all_stand (x ∷ xs) (y ∷ ys) kept = All-cons (Stands lines f r) y ys kept.0.stands (all_stand xs ys kept.1)
+  all_stand (x ∷ xs) (y ∷ ys) kept = All-cons (ActorInvariant lines f r) y ys kept.0.stands (all_stand xs ys kept.1)
 
-  pub all_ranked : (xs : List Actor) → All (Stands lines f r) xs → AreRanked f.ranks xs
+  pub all_ranked : (xs : List Actor) → All (ActorInvariant lines f r) xs → AreRanked f.ranks xs
   all_ranked xs each k a at =
-      let s = subst (Stands lines f r) (get_or_from_slice_get xs k a a at) (each k a (place_below xs k a at)) in
+      let s = subst (ActorInvariant lines f r) (get_or_from_slice_get xs k a a at) (each k a (place_below xs k a at)) in
       (s.is.cells.2, s.is.rings.1.1 ∙ s.is.ranks.1 ∙ sym s.is.ranks.0)
 
 module _ (shape : Sizes) (lines : List Line) (f : Fabric) (r : Rings) where
   pub in_place_stands : (k : ℕ) (actors : List Actor) → InPlace shape lines f r k actors →
-      All (Stands lines f r) actors
+      All (ActorInvariant lines f r) actors
   in_place_stands k [] p = λ i d less. absurd (omega arith)
-  in_place_stands k (a ∷ actors) p = All-cons (Stands lines f r) a actors p.0 (in_place_stands (k + 1) actors p.2)
+  in_place_stands k (a ∷ actors) p = All-cons (ActorInvariant lines f r) a actors p.0 (in_place_stands (k + 1) actors p.2)
 
   pub in_place_kept : (k : ℕ) (us bs : List Actor) → InPlace shape lines f r k us →
-      AllKept lines f r us bs → InPlace shape lines f r k bs
+      AllContinue lines f r us bs → InPlace shape lines f r k bs
   in_place_kept k [] [] p h = tt
   in_place_kept k [] (b ∷ bs) p h = absurd h
   in_place_kept k (a ∷ us) [] p h = absurd h
@@ -107,20 +107,20 @@ module _ (shape : Sizes) (lines : List Line) (f : Fabric) (r : Rings) where
       (h.0.stands, h.0.seat ∙ p.1, in_place_kept (k + 1) us bs p.2 h.1)
 
   pub in_place_at : (k i : ℕ) (actors : List Actor) (a : Actor) → InPlace shape lines f r k actors →
-      slice_get actors i ≡ Some a → Stands lines f r a × (a.port.rank ≡ k + i) × (a.process.rank.sizes ≡ shape)
+      slice_get actors i ≡ Some a → ActorInvariant lines f r a × (a.port.rank ≡ k + i) × (a.process.rank.sizes ≡ shape)
   in_place_at k i [] a p at = absurd (none at) where
     none : None ≡ Some a → ⊥
     none e = cc
   in_place_at k zero (b ∷ actors) a p at =
       let e : b ≡ a = same_there b a refl at in
       let seat = p.1 in
-      subst (λ (x : Actor). Stands lines f r x × (x.port.rank ≡ k + 0) × (x.process.rank.sizes ≡ shape)) e
+      subst (λ (x : Actor). ActorInvariant lines f r x × (x.port.rank ≡ k + 0) × (x.process.rank.sizes ≡ shape)) e
       (p.0, ap (λ (s : Seat). s.rank) seat ∙ omega arith, ap (λ (s : Seat). s.sizes) seat)
   in_place_at k (suc i) (b ∷ actors) a p at =
       let h = in_place_at (k + 1) i actors a p.2 at in (h.0, h.1 ∙ omega arith, h.2)
 
   pub in_place_push : (k : ℕ) (actors : List Actor) (a : Actor) → InPlace shape lines f r k actors →
-      Stands lines f r a → seat_of a ≡ record { rank = k + length actors; sizes = shape } →
+      ActorInvariant lines f r a → seat_of a ≡ record { rank = k + length actors; sizes = shape } →
       InPlace shape lines f r k (actors ++ a ∷ [])
   in_place_push k [] a p s seat =
       (s, seat ∙ ap (λ (n : ℕ). record { rank = n; sizes = shape }) (omega arith), tt)

@@ -30,8 +30,8 @@ use Rattle.nm_copyring.specs.declared.table.Lane.{Lane}
 use Rattle.nm_copyring.specs.Rule.{lane, new_lane}
 use Rattle.nm_copyring.specs.Plays.{one_pulled, with_lane}
 use Rattle.nm_copyring.specs.Ports as ring
-use Rattle.nm_global.specs.Emitted.{Left}
-use Rattle.nm_channels.specs.Moments.{Moment, pulled_from, taken_from}
+use Rattle.nm_global.specs.Emitted.{Emitted}
+use Rattle.nm_channels.specs.Moments.{LogEntry, pulled_from, taken_from}
 use Rattle.nm_rank.specs.Calls.{taken_of}
 use Rattle.nm_rank.specs.Ranks.{RankView}
 use Rattle.nm_global.specs.Moments.{drew, pulled, took}
@@ -39,14 +39,14 @@ use Rattle.nm_global.proofs.Shown.{pulled_still, taken-push, taken_still}
 use Rattle.nm_process.specs.Processes.{ProcessView}
 use Rattle.nm_process.specs.Work.{IsAtWork}
 use Rattle.nm_port.specs.CarriedPackets.{HasPassed, HasSent, one_more}
-use Rattle.nm_global.specs.ProcessInvariant.{GoesOn, IsOf, IsStanding, Past, with_moment}
+use Rattle.nm_global.specs.ProcessInvariant.{GoesOn, IsOf, ProcessInvariant, GhostHistory, with_moment}
 use Rattle.nm_world.specs.declared.actors.Actor.{Actor}
-use Rattle.nm_world.specs.Actors.{IsActor, Seat, Stands, seat_of}
+use Rattle.nm_world.specs.Actors.{IsActor, Seat, ActorInvariant, seat_of}
 use Rattle.nm_types.proofs.NumberLemmas.{same_number, differ}
 use Rattle.nm_channels.proofs.Pulling.{pulled-push}
 
-pub stands_of : (shape : Sizes) (lines : List Line) (f : Fabric) (r : Rings) (a : Actor) (past : Past) →
-    a.process.rank.sizes ≡ shape → IsActor shape lines f r a past → Stands lines f r a
+pub stands_of : (shape : Sizes) (lines : List Line) (f : Fabric) (r : Rings) (a : Actor) (past : GhostHistory) →
+    a.process.rank.sizes ≡ shape → IsActor shape lines f r a past → ActorInvariant lines f r a
 stands_of shape lines f r a past same is =
     record { past = past; is = subst (λ (s : Sizes). IsActor s lines f r a past) (sym same) is }
 
@@ -118,17 +118,17 @@ none_got e e' miss =
     let two = missed_got true (with_all_missed e) e' miss in record { box = two.box; cell = two.cell }
 
 -- a port that passed nothing on and sent nothing
-module _ (lines : List Line) (f : Fabric) (r : Rings) (a : Actor) (port : Port) (s : Stands lines f r a)
+module _ (lines : List Line) (f : Fabric) (r : Rings) (a : Actor) (port : Port) (s : ActorInvariant lines f r a)
     (owns : Owns f port) (rank : port.rank ≡ a.port.rank) (rest : HoldsTheRest port)
     (hands : port.hands ≤ a.port.hands) (taken : taken_by port ≡ taken_by a.port) where
-  ranked : IsStanding a.process.rank.sizes lines port.rank a.process s.past
-  ranked = subst (λ (k : ℕ). IsStanding a.process.rank.sizes lines k a.process s.past) (sym rank) s.is.standing
+  ranked : ProcessInvariant a.process.rank.sizes lines port.rank a.process s.past
+  ranked = subst (λ (k : ℕ). ProcessInvariant a.process.rank.sizes lines k a.process s.past) (sym rank) s.is.standing
 
   no_hands : port.hands ≡ 0
   no_hands = let none = s.is.hands in omega (arith, hands, none)
 
   pub nothing_carried : SameSent (knows a.port) (knows port) → SameGot (knows a.port) (knows port) →
-      Stands lines f r (record a { port = port })
+      ActorInvariant lines f r (record a { port = port })
   nothing_carried sent got =
       record {
         past = s.past;
@@ -154,8 +154,8 @@ module _ (lines : List Line) (f : Fabric) (r : Rings) (a : Actor) (port : Port) 
 
 -- a command that ran
 pub run_on : (lines : List Line) (f : Fabric) (r : Rings) (a : Actor) (v : ProcessView)
-    (s : Stands lines f r a) → IsAtWork a.process.rank.sizes lines v →
-    GoesOn a.process.rank.sizes lines a.port.rank v.rank s.past → Stands lines f r (record a { process = v })
+    (s : ActorInvariant lines f r a) → IsAtWork a.process.rank.sizes lines v →
+    GoesOn a.process.rank.sizes lines a.port.rank v.rank s.past → ActorInvariant lines f r (record a { process = v })
 run_on lines f r a v s work on =
     stands_of a.process.rank.sizes lines f r (record a { process = v }) on.after work.sizes
     (record {
@@ -167,17 +167,17 @@ run_on lines f r a v s work on =
       ranks = s.is.ranks;
       hands = s.is.hands;
       rest = s.is.rest;
-      sent = λ to within. subst (λ (l : Left). HasSent (knows a.port) to l.packets)
+      sent = λ to within. subst (λ (l : Emitted). HasSent (knows a.port) to l.packets)
           (sym (on.same.left to)) (s.is.sent to within);
       taken = λ from within. subst (λ (ts : List Taken). HasPassed (knows a.port) (taken_by a.port from) from
           (map (λ t. t.packet) ts)) (sym (on.same.taken from)) (s.is.taken from within);
-      pushed = λ to within. ap (λ (l : Left). l.pieces) (on.same.left to) ∙ s.is.pushed to within;
+      pushed = λ to within. ap (λ (l : Emitted). l.pieces) (on.same.left to) ∙ s.is.pushed to within;
       pulled = λ from within. ap (map (λ (d : Pulled). d.piece)) (on.same.pulled from)
           ∙ s.is.pulled from within;
     })
 
 -- a packet that was taken
-took_list : (log : List Moment) (v : RankView) (p : Packet) (i : ℕ) →
+took_list : (log : List LogEntry) (v : RankView) (p : Packet) (i : ℕ) →
     map (λ (t : Taken). t.packet) (taken_from i (log ++ took v p ∷ []))
     ≡ one_more p.from i p (map (λ (t : Taken). t.packet) (taken_from i log))
 took_list log v p i =
@@ -189,7 +189,7 @@ took_list log v p i =
       by true = map-append (λ (t : Taken). t.packet) (taken_from i log) (taken_of v p ∷ [])
       by false = ap (map (λ (t : Taken). t.packet)) (append-nil (taken_from i log))
 
-drew_list : (log : List Moment) (v : RankView) (q : Piece) (i : ℕ) →
+drew_list : (log : List LogEntry) (v : RankView) (q : Piece) (i : ℕ) →
     map (λ (d : Pulled). d.piece) (pulled_from i (log ++ drew v q ∷ []))
     ≡ cond (q.from == i) (map (λ (d : Pulled). d.piece) (pulled_from i log) ++ q ∷ [])
     (map (λ (d : Pulled). d.piece) (pulled_from i log))
@@ -218,19 +218,19 @@ PollCarries = (e e' : Entry) (taken taken' : ℕ → ℕ) (boxes cells : List Lo
     HasPassed e (taken i) i ps → HasPassed e' (taken' i) i (one_more p.from i p ps)
 
 pub take_on : PollCarries → (lines : List Line) (f : Fabric) (r : Rings) (a : Actor) (v : ProcessView)
-    (port : Port) (p : Packet) (s : Stands lines f r a) → Owns f port → port.rank ≡ a.port.rank →
+    (port : Port) (p : Packet) (s : ActorInvariant lines f r a) → Owns f port → port.rank ≡ a.port.rank →
     HoldsTheRest port → port.hands ≤ a.port.hands → IsNext f a.port port p → IsGot port p →
     Way a.port port p → knows port ≡ polled (knows port) (knows a.port) →
     IsAtWork a.process.rank.sizes lines v →
     IsOf a.process.rank.sizes lines a.port.rank v.rank (with_moment s.past (took a.process.rank p)) →
-    Stands lines f r (record { process = v; port = port; ring = a.ring; places = tt })
+    ActorInvariant lines f r (record { process = v; port = port; ring = a.ring; places = tt })
 take_on law lines f r a v port p s owns rank rest hands next got way same work on =
     let grown = came way in
     let now = with_moment s.past (took a.process.rank p) in
     stands_of a.process.rank.sizes lines f r
     (record { process = v; port = port; ring = a.ring; places = tt }) now work.sizes
     (record {
-      standing = subst (λ (k : ℕ). IsStanding a.process.rank.sizes lines k v now) (sym rank)
+      standing = subst (λ (k : ℕ). ProcessInvariant a.process.rank.sizes lines k v now) (sym rank)
           (record { work = work; rank = on });
       in_range = s.is.in_range;
       cells = owns;
@@ -261,12 +261,12 @@ pub lane_else : (e : ring_entry.Entry) (j k : ℕ) (g : Lane → Lane) → k ≢
 lane_else e j k g ne = get_or-set_other e.lanes j k (g (lane e j)) new_lane ne
 
 pub pull_on : (lines : List Line) (f : Fabric) (r : Rings) (a : Actor) (v : ProcessView)
-    (port : RingPort) (sender : ℕ) (q : Piece) (s : Stands lines f r a) → ring.Owns r port → port.rank ≡ a.ring.rank →
+    (port : RingPort) (sender : ℕ) (q : Piece) (s : ActorInvariant lines f r a) → ring.Owns r port → port.rank ≡ a.ring.rank →
     sender < r.ranks → q.from ≡ sender →
     ring.knows port ≡ with_lane (one_pulled q) sender (ring.knows a.ring) →
     IsAtWork a.process.rank.sizes lines v →
     IsOf a.process.rank.sizes lines a.port.rank v.rank (with_moment s.past (drew a.process.rank q)) →
-    Stands lines f r (record { process = v; port = a.port; ring = port; places = tt })
+    ActorInvariant lines f r (record { process = v; port = a.port; ring = port; places = tt })
 pull_on lines f r a v port sender q s owns rank within own knew work on =
     let now = with_moment s.past (drew a.process.rank q) in
     let wide = s.is.rings.1.2 in

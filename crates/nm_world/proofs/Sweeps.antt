@@ -10,7 +10,7 @@ use Rattle.nm_copyring.specs.declared.port.Rings.{Rings}
 use Rattle.nm_rank.specs.Ranks.{IsFresh}
 use Rattle.nm_process.specs.Processes.{ProcessView}
 use Rattle.nm_world.specs.declared.actors.Actor.{Actor}
-use Rattle.nm_world.specs.Actors.{Kept, Stands, did}
+use Rattle.nm_world.specs.Actors.{Continues, ActorInvariant, did}
 use Rattle.nm_world.specs.Idle.{Idle}
 use Rattle.nm_world.specs.Sweeps.{HasSwept, StaysUnlessWorn, Swept}
 use Rattle.nm_world.proofs.Did.{did_any_on, did_halves, did_sole}
@@ -27,11 +27,11 @@ module _ (n : ℕ) (lines : List Line) (f : Fabric) (r : Rings) (all : Bool) whe
   swept_none = record { kept = tt; moved = refl; still = λ none. tt; idle = λ none every. tt }
 
   pub swept_more : (xs ys : List Actor) (a b : Actor) (p q : Bool) → Swept n lines f r all p xs ys →
-      Kept lines f r a b → q ≡ did n a b → (q ≡ false → StaysUnlessWorn a b) →
+      Continues lines f r a b → q ≡ did n a b → (q ≡ false → StaysUnlessWorn a b) →
       (q ≡ false → all ≡ true → IdleUnlessWorn lines a b) →
       Swept n lines f r all (p || q) (xs ++ a ∷ []) (ys ++ b ∷ [])
   swept_more xs ys a b p q s kept moved still idle = record {
-    kept = all_zip_append (Kept lines f r) xs (a ∷ []) ys (b ∷ []) s.kept (kept, tt);
+    kept = all_zip_append (Continues lines f r) xs (a ∷ []) ys (b ∷ []) s.kept (kept, tt);
     moved = did_halves n lines f r xs (a ∷ []) ys (b ∷ []) p q s.kept (kept, tt) s.moved (moved ∙ did_sole n a b);
     still = λ none. let both = neither p q none in
         all_zip_append StaysUnlessWorn xs (a ∷ []) ys (b ∷ []) (s.still both.0) (still both.1, tt);
@@ -50,13 +50,13 @@ module _ (n : ℕ) (lines : List Line) (f : Fabric) (r : Rings) (all : Bool) whe
   swept_start xs = record { rest = λ j d low. refl; many = refl; swept = swept_none }
 
   pub stands_there : (k : ℕ) (p : Bool) (xs ys : List Actor) (d : Actor) → SweptTo k p xs ys → k < length ys →
-      All (Stands lines f r) xs → Stands lines f r (get_or ys k d)
+      All (ActorInvariant lines f r) xs → ActorInvariant lines f r (get_or ys k d)
   stands_there k p xs ys d s low all_stand =
       let many = s.many in
-      subst (Stands lines f r) (sym (s.rest k d (omega arith))) (all_stand k d (omega (arith, low, many)))
+      subst (ActorInvariant lines f r) (sym (s.rest k d (omega arith))) (all_stand k d (omega (arith, low, many)))
 
   pub swept_step : (k : ℕ) (p q : Bool) (xs ys : List Actor) (d b : Actor) → SweptTo k p xs ys → k < length ys →
-      Kept lines f r (get_or ys k d) b → q ≡ did n (get_or ys k d) b →
+      Continues lines f r (get_or ys k d) b → q ≡ did n (get_or ys k d) b →
       (q ≡ false → StaysUnlessWorn (get_or ys k d) b) →
       (q ≡ false → all ≡ true → IdleUnlessWorn lines (get_or ys k d) b) →
       SweptTo (k + 1) (p || q) xs (set ys k b)
@@ -86,7 +86,7 @@ pub swept_first : (n : ℕ) (lines : List Line) (f : Fabric) (r : Rings) (p : Bo
 swept_first n lines f r p xs ys s = record { kept = s.kept; moved = s.moved; idle = λ none. s.idle none refl }
 
 idle_still : (lines : List Line) (f : Fabric) (r : Rings) (a b c : Actor) → IdleUnlessWorn lines a b →
-    Kept lines f r b c × StaysUnlessWorn b c → IdleUnlessWorn lines a c
+    Continues lines f r b c × StaysUnlessWorn b c → IdleUnlessWorn lines a c
 idle_still lines f r a b c idle on fresh =
     let one = idle fresh in
     idle_after lines a b c one on.0.grows
@@ -100,9 +100,9 @@ swept_on n lines f r all xs ys zs p q before one = record {
   kept = all_kept_on lines f r xs ys zs before.kept one.kept;
   moved = did_any_on n lines f r xs ys zs p q before.kept one.kept before.moved one.moved;
   idle = λ none. let both = neither p q none in
-      all_zip_on (IdleUnlessWorn lines) (λ b c. Kept lines f r b c × StaysUnlessWorn b c) (IdleUnlessWorn lines)
+      all_zip_on (IdleUnlessWorn lines) (λ b c. Continues lines f r b c × StaysUnlessWorn b c) (IdleUnlessWorn lines)
       (idle_still lines f r) xs ys zs (before.idle both.0)
-      (all_zip_both (Kept lines f r) StaysUnlessWorn ys zs one.kept (one.still both.1));
+      (all_zip_both (Continues lines f r) StaysUnlessWorn ys zs one.kept (one.still both.1));
 }
 
 -- what two crews have told of their actors holds of all of them
@@ -110,7 +110,7 @@ pub swept_halves : (n : ℕ) (lines : List Line) (f : Fabric) (r : Rings) (xs ys
     HasSwept n lines f r p xs xs' → HasSwept n lines f r q ys ys' →
     HasSwept n lines f r (p || q) (xs ++ ys) (xs' ++ ys')
 swept_halves n lines f r xs ys xs' ys' p q one two = record {
-  kept = all_zip_append (Kept lines f r) xs ys xs' ys' one.kept two.kept;
+  kept = all_zip_append (Continues lines f r) xs ys xs' ys' one.kept two.kept;
   moved = did_halves n lines f r xs ys xs' ys' p q one.kept two.kept one.moved two.moved;
   idle = λ none. let both = neither p q none in
       all_zip_append (IdleUnlessWorn lines) xs ys xs' ys' (one.idle both.0) (two.idle both.1);

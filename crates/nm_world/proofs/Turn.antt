@@ -9,37 +9,37 @@ use Rattle.nm_rank.specs.Ranks.{IsFresh}
 use Rattle.nm_process.specs.Processes.{ProcessView}
 use Rattle.nm_process.specs.Steps.{goes_on}
 use Rattle.nm_world.specs.declared.actors.Actor.{Actor}
-use Rattle.nm_world.specs.Actors.{Grows, Kept, Seat, Stands}
-use Rattle.nm_world.specs.Idle.{GaveNone, Idle, LetterBack, NoPiece, PieceBack}
+use Rattle.nm_world.specs.Actors.{Grows, Continues, Seat, ActorInvariant}
+use Rattle.nm_world.specs.Idle.{GaveNone, Idle, FirstNotSent, NoPiece, NextNotPushed}
 use Rattle.nm_world.specs.Looks.{LookedAround, Polled, PolledBefore, PolledUnlessWorn, looks_in}
 use Rattle.nm_world.proofs.Grows.{kept_on, kept_same, port_same}
 use Rattle.nm_world.proofs.Idle.{back_within, none_within, piece_within, pieces_within}
 use Rattle.nm_world.proofs.Looks.{looks_kept, looks_more, me_same, polled_on, polled_within, ranks_same}
 
 -- it sent from a to s, pushed to p, took to t, pulled to u and ran to e
-module _ (lines : List Line) (f : Fabric) (r : Rings) (a s p t u e : Actor) (sent : Kept lines f r a s)
-    (pushed : Kept lines f r s p) (took : Kept lines f r p t) (pulled : Kept lines f r t u)
-    (ran : Kept lines f r u e) where
-  to_p : Kept lines f r a p
+module _ (lines : List Line) (f : Fabric) (r : Rings) (a s p t u e : Actor) (sent : Continues lines f r a s)
+    (pushed : Continues lines f r s p) (took : Continues lines f r p t) (pulled : Continues lines f r t u)
+    (ran : Continues lines f r u e) where
+  to_p : Continues lines f r a p
   to_p = kept_on lines f r a s p sent pushed
 
-  to_t : Kept lines f r a t
+  to_t : Continues lines f r a t
   to_t = kept_on lines f r a p t to_p took
 
-  to_u : Kept lines f r a u
+  to_u : Continues lines f r a u
   to_u = kept_on lines f r a t u to_t pulled
 
-  from_t : Kept lines f r t e
+  from_t : Continues lines f r t e
   from_t = kept_on lines f r t u e pulled ran
 
-  from_p : Kept lines f r p e
+  from_p : Continues lines f r p e
   from_p = kept_on lines f r p t e took from_t
 
-  from_s : Kept lines f r s e
+  from_s : Continues lines f r s e
   from_s = kept_on lines f r s p e pushed from_p
 
   pub turn_idle : (n : ℕ) → n ≡ a.process.rank.sizes.ranks → s.process ≡ a.process → p.process ≡ s.process →
-      t.process ≡ p.process → u.process ≡ t.process → e.process ≡ u.process → LetterBack a s → PieceBack s p →
+      t.process ≡ p.process → u.process ≡ t.process → e.process ≡ u.process → FirstNotSent a s → NextNotPushed s p →
       GaveNone p.process.rank.sizes.ranks p.port t.port → ((i : ℕ) → i < n → NoPiece t u i) →
       goes_on (commands_of u.process.rank.me lines) u.process ≡ false → Idle lines a e
   turn_idle n ranks sa ps tp ut eu letter piece none pieces stuck =
@@ -57,7 +57,7 @@ module _ (lines : List Line) (f : Fabric) (r : Rings) (a s p t u e : Actor) (sen
             ran.grows.ring;
       }
 
-  pub turn_looked : Stands lines f r a → s.process.at ≡ a.process.at → p.process.at ≡ s.process.at →
+  pub turn_looked : ActorInvariant lines f r a → s.process.at ≡ a.process.at → p.process.at ≡ s.process.at →
       t.process.at ≡ p.process.at → u.process.at ≡ t.process.at →
       PolledUnlessWorn p.process.rank.sizes.ranks 1 p t → (¬ IsFresh t.process.rank → u ≡ t) →
       (¬ IsFresh u.process.rank → e ≡ u) → PolledBefore lines u e → LookedAround lines a e

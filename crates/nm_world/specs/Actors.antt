@@ -18,7 +18,7 @@ use Rattle.nm_copyring.specs.declared.table.Lane.{Lane}
 use Rattle.nm_copyring.specs.Rule.{lane}
 use Rattle.nm_copyring.specs.Ports as ring
 use Rattle.nm_port.specs.CarriedPackets.{HasPassed, HasSent}
-use Rattle.nm_global.specs.ProcessInvariant.{IsStanding, Past}
+use Rattle.nm_global.specs.ProcessInvariant.{ProcessInvariant, GhostHistory}
 use Rattle.nm_process.specs.Lines.{AreLines}
 use Rattle.nm_world.specs.declared.actors.Actor.{Actor}
 
@@ -26,8 +26,8 @@ use Rattle.nm_world.specs.declared.actors.Actor.{Actor}
 -- those that its port sent, by number, those that its port passed on are those that it took, and so
 -- it is with the pieces.
 pub record IsActor (shape : Sizes) (lines : List Line) (f : Fabric) (r : Rings) (a : Actor)
-    (past : Past) : Type 0 where
-  pub standing : IsStanding shape lines a.port.rank a.process past
+    (past : GhostHistory) : Type 0 where
+  pub standing : ProcessInvariant shape lines a.port.rank a.process past
   pub in_range : AreLines shape.ranks lines
   pub cells : Owns f a.port
   pub rings : ring.Owns r a.ring
@@ -77,8 +77,8 @@ pub record Grows (a b : Actor) : Type 0 where
   pub ring : RingGrows a.ring b.ring
 
 -- there is what was
-pub record Stands (lines : List Line) (f : Fabric) (r : Rings) (a : Actor) : Type 0 where
-  pub past : Past
+pub record ActorInvariant (lines : List Line) (f : Fabric) (r : Rings) (a : Actor) : Type 0 where
+  pub past : GhostHistory
   pub is : IsActor a.process.rank.sizes lines f r a past
 
 -- whose actor it is, and in a run of which sizes
@@ -91,20 +91,20 @@ abbrev pub seat_of : Actor → Seat
 seat_of a = record { rank = a.port.rank; sizes = a.process.rank.sizes }
 
 -- what an actor stands in: the lines, the fabric and the rings of its run
-pub record Setting : Type 0 where
+pub record Environment : Type 0 where
   pub lines : List Line
   pub fabric : Fabric
   pub rings : Rings
 
 -- it is the same actor, it stands, and it goes on from where it was
-pub record Kept (lines : List Line) (f : Fabric) (r : Rings) (a b : Actor) : Type 0 where
-  pub stands : Stands lines f r b
+pub record Continues (lines : List Line) (f : Fabric) (r : Rings) (a b : Actor) : Type 0 where
+  pub stands : ActorInvariant lines f r b
   pub seat : seat_of b ≡ seat_of a
   pub grows : Grows a b
 
 -- so it is with each of a list
-abbrev pub AllKept : List Line → Fabric → Rings → List Actor → List Actor → Type 0
-AllKept lines f r = AllZip (Kept lines f r)
+abbrev pub AllContinue : List Line → Fabric → Rings → List Actor → List Actor → Type 0
+AllContinue lines f r = AllZip (Continues lines f r)
 
 -- f 0 + f 1 + .., of the first n
 abbrev pub sum_below : ℕ → (ℕ → ℕ) → ℕ

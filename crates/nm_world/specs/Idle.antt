@@ -35,19 +35,19 @@ pub record GaveNone (n : ℕ) (p q : Port) : Type 0 where
 
 -- `send` handed a letter back: it fits no box, or the next one was found full, and the free queue had
 -- a miss.
-pub record CameBack (p q : Port) (l : Letter) : Type 0 where
+pub record NotSent (p q : Port) (l : Letter) : Type 0 where
   pub box :
       (64 < length l.packet.payload)
       ⊎ Rose (slice_index (knows p).box_full l.to) (slice_index (knows q).box_full l.to)
   pub queue : QueueMissed false p q
 
 -- `send` handed the first letter back, if there is one
-abbrev pub LetterBack : Actor → Actor → Type 0
-LetterBack a b = IfSome (slice_get a.process.rank.sending.outbox.letters 0) (CameBack a.port b.port)
+abbrev pub FirstNotSent : Actor → Actor → Type 0
+FirstNotSent a b = IfSome (slice_get a.process.rank.sending.outbox.letters 0) (NotSent a.port b.port)
 
 -- the next piece, if there is one, was not pushed: its place was found full
-abbrev pub PieceBack : Actor → Actor → Type 0
-PieceBack a b =
+abbrev pub NextNotPushed : Actor → Actor → Type 0
+NextNotPushed a b =
     IfSome (next_offered a.process.rank.sending.offers) (λ o. full_to a.ring o.to < full_to b.ring o.to)
 
 -- a piece of the rank i is due
@@ -64,8 +64,8 @@ pub record Idle (lines : List Line) (a b : Actor) : Type 0 where
   pub process : b.process ≡ a.process
   pub stuck : goes_on (commands_of a.process.rank.me lines) a.process ≡ false
   pub polled : GaveNone a.process.rank.sizes.ranks a.port b.port
-  pub letter : LetterBack a b
-  pub piece : PieceBack a b
+  pub letter : FirstNotSent a b
+  pub piece : NextNotPushed a b
   pub pieces : (i : ℕ) → i < a.process.rank.sizes.ranks → NoPiece a b i
 
 -- so it is with each of a list whose rank is not worn

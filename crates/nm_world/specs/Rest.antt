@@ -5,7 +5,7 @@ use Rattle.nm_types.specs.declared.scripts.Line.{Line}
 use Rattle.nm_types.specs.Commands.{commands_of}
 use Rattle.nm_types.specs.Sizes.{Sizes}
 use Rattle.nm_history.specs.Outgoing.{AreCalled, AreCalledPieces, outgoing, ring}
-use Rattle.nm_history.specs.Quiescence.{Ended, Stands as StandsAt, packets_of}
+use Rattle.nm_history.specs.Quiescence.{Ended, IsStopped as StandsAt, packets_of}
 use Rattle.nm_history.specs.Run.{IsRunOf}
 use Rattle.nm_history.specs.Sends.{sent_body}
 use Rattle.nm_history.specs.Clearance.{pushed_out, to_push}
@@ -29,14 +29,14 @@ use Rattle.nm_copyring.specs.AtClose.{Prefixed}
 use Rattle.nm_copyring.specs.ClosedLists as closed_ring
 use Rattle.nm_copyring.specs.Ports as ring_port
 use Rattle.nm_global.specs.Ranks.{HasNothingToSend}
-use Rattle.nm_global.specs.ProcessInvariant.{Past, rank_of}
+use Rattle.nm_global.specs.ProcessInvariant.{GhostHistory, rank_of}
 use Rattle.nm_world.specs.declared.actors.Actor.{Actor}
 use Rattle.nm_world.specs.Actors.{IsActor}
 
 -- the actor of rank i has nothing left to send, and is at its end or waits for what can't come
 pub record EndsAt (shape : Sizes) (lines : List Line) (f : Fabric) (r : Rings) (i : ℕ) (a : Actor)
     : Type 0 where
-  pub past : Past
+  pub past : GhostHistory
   pub is : IsActor shape lines f r a past
   pub me : a.port.rank ≡ i
   pub right : AreRight shape.ranks [] a.process.rank.events

@@ -19,14 +19,14 @@ use Rattle.nm_copyring.specs.declared.port.Rings.{Rings}
 use Rattle.nm_copyring.specs.Ports as ring_port
 use Rattle.nm_process.specs.Work.{IsAtWork}
 use Rattle.nm_world.specs.declared.actors.Actor.{Actor}
-use Rattle.nm_world.specs.Actors.{Stands, seat_of}
+use Rattle.nm_world.specs.Actors.{ActorInvariant, seat_of}
 use Rattle.nm_world.specs.Rest.{IsCarried, IsStill}
 
 -- the actors stand, and are those of the ranks from k on, in order
 abbrev pub InPlace : Sizes → List Line → Fabric → Rings → ℕ → List Actor → Type 0
 InPlace shape lines f r k [] = Unit {0}
 InPlace shape lines f r k (a ∷ actors) =
-    Stands lines f r a × (seat_of a ≡ record { rank = k; sizes = shape })
+    ActorInvariant lines f r a × (seat_of a ≡ record { rank = k; sizes = shape })
     × InPlace shape lines f r (k + 1) actors
 
 -- an actor that is at work is still

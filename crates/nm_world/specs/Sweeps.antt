@@ -6,7 +6,7 @@ use Rattle.nm_cells.specs.declared.port.Fabric.{Fabric}
 use Rattle.nm_copyring.specs.declared.port.Rings.{Rings}
 use Rattle.nm_rank.specs.Ranks.{IsFresh}
 use Rattle.nm_world.specs.declared.actors.Actor.{Actor}
-use Rattle.nm_world.specs.Actors.{AllKept, did_any}
+use Rattle.nm_world.specs.Actors.{AllContinue, did_any}
 use Rattle.nm_world.specs.Idle.{AllIdle}
 
 -- the process is as it was, if its rank is not worn
@@ -17,7 +17,7 @@ StaysUnlessWorn a b = IsFresh a.process.rank → b.process ≡ a.process
 -- processes are as they were, and where all made a turn, none could move.
 pub record Swept (n : ℕ) (lines : List Line) (f : Fabric) (r : Rings) (all some : Bool) (old new : List Actor)
     : Type 0 where
-  pub kept : AllKept lines f r old new
+  pub kept : AllContinue lines f r old new
   pub moved : some ≡ did_any n old new
   pub still : some ≡ false → AllZip StaysUnlessWorn old new
   pub idle : some ≡ false → all ≡ true → AllIdle lines old new
@@ -26,6 +26,6 @@ pub record Swept (n : ℕ) (lines : List Line) (f : Fabric) (r : Rings) (all som
 -- whether one did something, and where none did, none could move.
 pub record HasSwept (n : ℕ) (lines : List Line) (f : Fabric) (r : Rings) (some : Bool) (old new : List Actor)
     : Type 0 where
-  pub kept : AllKept lines f r old new
+  pub kept : AllContinue lines f r old new
   pub moved : some ≡ did_any n old new
   pub idle : some ≡ false → AllIdle lines old new

@@ -12,8 +12,8 @@ ghost use Rattle.nm_rank.specs.Ranks.{IsFresh};
 ghost use Rattle.nm_process.specs.Lines.{AreLines};
 ghost use Rattle.nm_process.specs.Steps.{HasRun, goes_on};
 ghost use Rattle.nm_process.specs.Work.{IsAtWork};
-ghost use Rattle.nm_world.specs.Actors.{Grew, Kept, Setting, Stands, did, seat_of};
-ghost use Rattle.nm_world.specs.Idle.{GaveNone, Idle, IsDue, LetterBack, NoPiece, PieceBack, Stepped};
+ghost use Rattle.nm_world.specs.Actors.{Grew, Continues, Environment, ActorInvariant, did, seat_of};
+ghost use Rattle.nm_world.specs.Idle.{GaveNone, Idle, IsDue, FirstNotSent, NoPiece, NextNotPushed, Stepped};
 ghost use Rattle.nm_world.specs.Looks.{LookedAround, PolledBefore, PolledUnlessWorn, looks_next};
 ghost use Rattle.nm_world.specs.Rest.{CanMove, IsStill};
 
@@ -65,7 +65,7 @@ impl Actor {
         ensures stands { IfOk result (λ a. (f : Fabric) (r : Rings) →
             AreLines shape.ranks lines.now → (f.ranks ≡ shape.ranks) × (r.ranks ≡ shape.ranks) →
             IsNew f port port.rank → ring_port.IsNew r ring port.rank →
-            Stands lines.now f r a) }
+            ActorInvariant lines.now f r a) }
         ensures seat { IfOk result (λ a. seat_of a ≡ record { rank = port.rank; sizes = shape }) }
         ensures ports { IfOk result (λ a. (a.port ≡ port) × (a.ring ≡ ring)) }
         ensures begins { IfOk result (λ a. (a.process.rank.me ≡ port.rank)
@@ -91,13 +91,13 @@ impl Actor {
 
     // Sends the first packet of the outbox, unless there is none or it comes back.
     fn send_next(&mut self, f: &Fabric) -> bool
-        ghost here: { Setting }
-        requires stands { Stands here.lines f.now here.rings self.old }
-        ensures kept { Kept here.lines f.now here.rings self.old self.new }
+        ghost here: { Environment }
+        requires stands { ActorInvariant here.lines f.now here.rings self.old }
+        ensures kept { Continues here.lines f.now here.rings self.old self.new }
         ensures moved { result ≡ did f.now.ranks self.old self.new }
         ensures stepped { Stepped result self.old self.new }
         ensures back { result ≡ false → IsFresh self.old.process.rank →
-            LetterBack self.old self.new }
+            FirstNotSent self.old self.new }
     {
         let rank = self.process.rank();
         if rank.is_worn() {
@@ -119,13 +119,13 @@ impl Actor {
 
     // Pushes the next piece, unless there is none or its place is full.
     fn push_next(&mut self, r: &Rings) -> Result<bool, Memory>
-        ghost here: { Setting }
-        requires stands { Stands here.lines here.fabric r.now self.old }
-        ensures kept { IfOk result (λ _. Kept here.lines here.fabric r.now self.old self.new) }
+        ghost here: { Environment }
+        requires stands { ActorInvariant here.lines here.fabric r.now self.old }
+        ensures kept { IfOk result (λ _. Continues here.lines here.fabric r.now self.old self.new) }
         ensures moved { IfOk result (λ moved. moved ≡ did here.fabric.ranks self.old self.new) }
         ensures stepped { IfOk result (λ moved. Stepped moved self.old self.new) }
         ensures back { IfOk result (λ moved. moved ≡ false → IsFresh self.old.process.rank →
-            PieceBack self.old self.new) }
+            NextNotPushed self.old self.new) }
     {
         let rank = self.process.rank();
         let Some(to) = rank.piece_to() else {
@@ -144,13 +144,13 @@ impl Actor {
     // Pushes the next piece, which is built in this box, unless there is none or its place is full. The
     // rank isn't worn.
     fn push_front(&mut self, r: &Rings, mut piece: Box<Piece>) -> bool
-        ghost here: { Setting }
-        requires stands { Stands here.lines here.fabric r.now self.old }
+        ghost here: { Environment }
+        requires stands { ActorInvariant here.lines here.fabric r.now self.old }
         requires fresh { IsFresh self.old.process.rank }
-        ensures kept { Kept here.lines here.fabric r.now self.old self.new }
+        ensures kept { Continues here.lines here.fabric r.now self.old self.new }
         ensures moved { result ≡ did here.fabric.ranks self.old self.new }
         ensures stepped { Stepped result self.old self.new }
-        ensures back { result ≡ false → PieceBack self.old self.new }
+        ensures back { result ≡ false → NextNotPushed self.old self.new }
     {
         let Some(to) = self.process.rank().front_piece(&mut piece) else {
             self.places.keep(Some(piece));
@@ -173,9 +173,9 @@ impl Actor {
 
     // Takes the next packet of a rank, if one came.
     fn take_next(&mut self, f: &Fabric) -> Result<bool, Memory>
-        ghost here: { Setting }
-        requires stands { Stands here.lines f.now here.rings self.old }
-        ensures kept { IfOk result (λ _. Kept here.lines f.now here.rings self.old self.new) }
+        ghost here: { Environment }
+        requires stands { ActorInvariant here.lines f.now here.rings self.old }
+        ensures kept { IfOk result (λ _. Continues here.lines f.now here.rings self.old self.new) }
         ensures moved { IfOk result (λ moved. moved ≡ did f.now.ranks self.old self.new) }
         ensures stepped { IfOk result (λ moved. Stepped moved self.old self.new) }
         ensures none { IfOk result (λ moved. moved ≡ false → IsFresh self.old.process.rank →
@@ -204,10 +204,10 @@ impl Actor {
 
     // Takes the next piece of a rank, if one is due and came.
     fn pull_next(&mut self, r: &Rings, sender: u8) -> Result<bool, Memory>
-        ghost here: { Setting }
-        requires stands { Stands here.lines here.fabric r.now self.old }
+        ghost here: { Environment }
+        requires stands { ActorInvariant here.lines here.fabric r.now self.old }
         requires sender { sender < r.now.ranks }
-        ensures kept { IfOk result (λ _. Kept here.lines here.fabric r.now self.old self.new) }
+        ensures kept { IfOk result (λ _. Continues here.lines here.fabric r.now self.old self.new) }
         ensures moved { IfOk result (λ moved. moved ≡ did here.fabric.ranks self.old self.new) }
         ensures stepped { IfOk result (λ moved. Stepped moved self.old self.new) }
         ensures none { IfOk result (λ moved. moved ≡ false → IsFresh self.old.process.rank →
@@ -228,12 +228,12 @@ impl Actor {
 
     // Takes the next piece of a rank, if it came. It is due, and the rank isn't worn.
     fn pull_due(&mut self, r: &Rings, sender: u8) -> Result<bool, Memory>
-        ghost here: { Setting }
-        requires stands { Stands here.lines here.fabric r.now self.old }
+        ghost here: { Environment }
+        requires stands { ActorInvariant here.lines here.fabric r.now self.old }
         requires sender { sender < r.now.ranks }
         requires due { IsDue self.old.process.rank sender }
         requires fresh { IsFresh self.old.process.rank }
-        ensures kept { IfOk result (λ _. Kept here.lines here.fabric r.now self.old self.new) }
+        ensures kept { IfOk result (λ _. Continues here.lines here.fabric r.now self.old self.new) }
         ensures moved { IfOk result (λ moved. moved ≡ did here.fabric.ranks self.old self.new) }
         ensures stepped { IfOk result (λ moved. Stepped moved self.old self.new) }
         ensures none { IfOk result (λ moved. moved ≡ false → NoPiece self.old self.new sender) }
@@ -255,10 +255,10 @@ impl Actor {
 
     // Runs the next command, if there is one that can go on.
     fn run_next(&mut self, lines: &[Line]) -> Result<bool, Memory>
-        ghost here: { Setting }
-        requires stands { Stands lines.now here.fabric here.rings self.old }
+        ghost here: { Environment }
+        requires stands { ActorInvariant lines.now here.fabric here.rings self.old }
         ensures kept { IfOk result (λ _.
-            Kept lines.now here.fabric here.rings self.old self.new) }
+            Continues lines.now here.fabric here.rings self.old self.new) }
         ensures moved { IfOk result (λ moved. moved ≡ did here.fabric.ranks self.old self.new) }
         ensures ran { IfOk result (λ ran. ran ≡ true → IsFresh self.old.process.rank
             × HasRun lines.now self.old.process self.new.process) }
@@ -281,13 +281,13 @@ impl Actor {
 
     // Sends up to so many packets. It answers whether any was sent.
     fn send_all(&mut self, f: &Fabric) -> bool
-        ghost here: { Setting }
-        requires stands { Stands here.lines f.now here.rings self.old }
-        ensures kept { Kept here.lines f.now here.rings self.old self.new }
+        ghost here: { Environment }
+        requires stands { ActorInvariant here.lines f.now here.rings self.old }
+        ensures kept { Continues here.lines f.now here.rings self.old self.new }
         ensures moved { result ≡ did f.now.ranks self.old self.new }
         ensures stepped { Stepped result self.old self.new }
         ensures back { result ≡ false → IsFresh self.old.process.rank →
-            LetterBack self.old self.new }
+            FirstNotSent self.old self.new }
     {
         for sent in 0..TURN {
             if !self.send_next(f) {
@@ -299,9 +299,9 @@ impl Actor {
 
     // Takes up to so many packets. It answers whether any was taken.
     fn take_all(&mut self, f: &Fabric) -> Result<bool, Memory>
-        ghost here: { Setting }
-        requires stands { Stands here.lines f.now here.rings self.old }
-        ensures kept { IfOk result (λ _. Kept here.lines f.now here.rings self.old self.new) }
+        ghost here: { Environment }
+        requires stands { ActorInvariant here.lines f.now here.rings self.old }
+        ensures kept { IfOk result (λ _. Continues here.lines f.now here.rings self.old self.new) }
         ensures moved { IfOk result (λ moved. moved ≡ did f.now.ranks self.old self.new) }
         ensures stepped { IfOk result (λ moved. Stepped moved self.old self.new) }
         ensures none { IfOk result (λ moved. moved ≡ false → IsFresh self.old.process.rank →
@@ -319,13 +319,13 @@ impl Actor {
 
     // Pushes up to so many pieces. It answers whether any was pushed.
     fn push_all(&mut self, r: &Rings) -> Result<bool, Memory>
-        ghost here: { Setting }
-        requires stands { Stands here.lines here.fabric r.now self.old }
-        ensures kept { IfOk result (λ _. Kept here.lines here.fabric r.now self.old self.new) }
+        ghost here: { Environment }
+        requires stands { ActorInvariant here.lines here.fabric r.now self.old }
+        ensures kept { IfOk result (λ _. Continues here.lines here.fabric r.now self.old self.new) }
         ensures moved { IfOk result (λ moved. moved ≡ did here.fabric.ranks self.old self.new) }
         ensures stepped { IfOk result (λ moved. Stepped moved self.old self.new) }
         ensures back { IfOk result (λ moved. moved ≡ false → IsFresh self.old.process.rank →
-            PieceBack self.old self.new) }
+            NextNotPushed self.old self.new) }
     {
         for pushed in 0..TURN {
             if !self.push_next(r)? {
@@ -337,10 +337,10 @@ impl Actor {
 
     // Takes up to so many pieces of a rank. It answers whether any was taken.
     fn pull_some(&mut self, r: &Rings, sender: u8) -> Result<bool, Memory>
-        ghost here: { Setting }
-        requires stands { Stands here.lines here.fabric r.now self.old }
+        ghost here: { Environment }
+        requires stands { ActorInvariant here.lines here.fabric r.now self.old }
         requires sender { sender < r.now.ranks }
-        ensures kept { IfOk result (λ _. Kept here.lines here.fabric r.now self.old self.new) }
+        ensures kept { IfOk result (λ _. Continues here.lines here.fabric r.now self.old self.new) }
         ensures moved { IfOk result (λ moved. moved ≡ did here.fabric.ranks self.old self.new) }
         ensures stepped { IfOk result (λ moved. Stepped moved self.old self.new) }
         ensures none { IfOk result (λ moved. moved ≡ false → IsFresh self.old.process.rank →
@@ -356,10 +356,10 @@ impl Actor {
 
     // Takes pieces of each rank. It answers whether any was taken.
     fn pull_all(&mut self, f: &Fabric, r: &Rings) -> Result<bool, Memory>
-        ghost here: { Setting }
+        ghost here: { Environment }
         requires ranks { f.now.ranks ≡ here.fabric.ranks }
-        requires stands { Stands here.lines here.fabric r.now self.old }
-        ensures kept { IfOk result (λ _. Kept here.lines here.fabric r.now self.old self.new) }
+        requires stands { ActorInvariant here.lines here.fabric r.now self.old }
+        ensures kept { IfOk result (λ _. Continues here.lines here.fabric r.now self.old self.new) }
         ensures moved { IfOk result (λ moved. moved ≡ did here.fabric.ranks self.old self.new) }
         ensures stepped { IfOk result (λ moved. Stepped moved self.old self.new) }
         ensures none { IfOk result (λ moved. moved ≡ false → IsFresh self.old.process.rank →
@@ -375,10 +375,10 @@ impl Actor {
 
     // Takes the next packet that came, where the next command looks at what came.
     fn look(&mut self, lines: &[Line], f: &Fabric) -> Result<bool, Memory>
-        ghost here: { Setting }
+        ghost here: { Environment }
         requires lines { lines.now ≡ here.lines }
-        requires stands { Stands here.lines f.now here.rings self.old }
-        ensures kept { IfOk result (λ _. Kept here.lines f.now here.rings self.old self.new) }
+        requires stands { ActorInvariant here.lines f.now here.rings self.old }
+        ensures kept { IfOk result (λ _. Continues here.lines f.now here.rings self.old self.new) }
         ensures moved { IfOk result (λ moved. moved ≡ did f.now.ranks self.old self.new) }
         ensures stepped { IfOk result (λ moved. Stepped moved self.old self.new) }
         ensures polled { IfOk result (λ _.
@@ -393,11 +393,11 @@ impl Actor {
 
     // Runs up to so many commands. It answers whether any ran, or anything was taken before one.
     fn run_all(&mut self, lines: &[Line], f: &Fabric) -> Result<bool, Memory>
-        ghost here: { Setting }
+        ghost here: { Environment }
         requires fabric { f.now ≡ here.fabric }
-        requires stands { Stands lines.now here.fabric here.rings self.old }
+        requires stands { ActorInvariant lines.now here.fabric here.rings self.old }
         requires lines { lines.now ≡ here.lines }
-        ensures kept { IfOk result (λ _. Kept lines.now here.fabric here.rings self.old self.new) }
+        ensures kept { IfOk result (λ _. Continues lines.now here.fabric here.rings self.old self.new) }
         ensures moved { IfOk result (λ moved. moved ≡ did here.fabric.ranks self.old self.new) }
         ensures still { IfOk result (λ moved. moved ≡ false →
             self.new.process ≡ self.old.process) }
@@ -454,8 +454,8 @@ impl Actor {
         r: &Rings,
         gate: &G,
     ) -> Result<bool, Memory>
-        requires stands { Stands lines.now f.now r.now self.old }
-        ensures kept { IfOk result (λ _. Kept lines.now f.now r.now self.old self.new) }
+        requires stands { ActorInvariant lines.now f.now r.now self.old }
+        ensures kept { IfOk result (λ _. Continues lines.now f.now r.now self.old self.new) }
         ensures moved { IfOk result (λ moved. moved ≡ did f.now.ranks self.old self.new) }
         ensures grew { IfOk result (λ moved.
             (moved ≡ true) ↔ Grew f.now.ranks self.old self.new) }
@@ -476,10 +476,10 @@ impl Actor {
         r: &Rings,
         bells: Option<&Bells>,
     ) -> Result<bool, Memory>
-        ghost here: { Setting }
+        ghost here: { Environment }
         requires here { here ≡ record { lines = lines.now; fabric = f.now; rings = r.now } }
-        requires stands { Stands lines.now f.now r.now self.old }
-        ensures kept { IfOk result (λ _. Kept lines.now f.now r.now self.old self.new) }
+        requires stands { ActorInvariant lines.now f.now r.now self.old }
+        ensures kept { IfOk result (λ _. Continues lines.now f.now r.now self.old self.new) }
         ensures moved { IfOk result (λ moved. moved ≡ did f.now.ranks self.old self.new) }
         ensures idle { IfOk result (λ moved. moved ≡ false → IsFresh self.old.process.rank →
             Idle lines.now self.old self.new) }

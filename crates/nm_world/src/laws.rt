@@ -10,7 +10,7 @@ ghost use Rattle.nm_cells.specs.declared.port.Fabric.{Fabric};
 ghost use Rattle.nm_copyring.specs.declared.close.RingAccount.{RingAccount};
 ghost use Rattle.nm_copyring.specs.declared.port.Rings.{Rings};
 ghost use Rattle.nm_world.specs.declared.actors.Actor.{Actor};
-ghost use Rattle.nm_world.specs.Actors.{AllKept, Grew, Grows, SomeGrew, Stands, did, did_any};
+ghost use Rattle.nm_world.specs.Actors.{AllContinue, Grew, Grows, SomeGrew, ActorInvariant, did, did_any};
 ghost use Rattle.nm_world.specs.Rest.{EachActor, EndsAt, HasRun, IsAllTaken, IsClosed, IsRingClosed};
 ghost use Rattle.nm_world.specs.Rest.{IsStill};
 
@@ -21,7 +21,7 @@ use nm_global::standing::laws::stands::a_process_is_a_rank;
 
 /// An actor that stands and is still is at its end, or waits for what can't come.
 pub fn a_still_actor_ends()
-    ensures { (lines : List Line) (f : Fabric) (r : Rings) (a : Actor) → Stands lines f r a →
+    ensures { (lines : List Line) (f : Fabric) (r : Rings) (a : Actor) → ActorInvariant lines f r a →
         IsStill lines a.process → EndsAt a.process.rank.sizes lines f r a.port.rank a }
 {}
 
@@ -46,5 +46,5 @@ pub fn actors_at_rest_make_a_run()
 pub fn what_was_done_grew()
     ensures one { (n : ℕ) (a b : Actor) → Grows a b → (did n a b ≡ true) ↔ Grew n a b }
     ensures any { (n : ℕ) (lines : List Line) (f : Fabric) (r : Rings) (old new : List Actor) →
-        AllKept lines f r old new → (did_any n old new ≡ true) ↔ SomeGrew n old new }
+        AllContinue lines f r old new → (did_any n old new ≡ true) ↔ SomeGrew n old new }
 {}

@@ -4,7 +4,7 @@ ghost use Rattle.std.specs.Prelude.{◌≡◌, ◌<◌, ◌↔◌, length, true,
 ghost use Rattle.std.specs.List.{All};
 ghost use Rattle.std.specs.Thread.{IsSync};
 ghost use Rattle.nm_rank.specs.Ranks.{IsFresh};
-ghost use Rattle.nm_world.specs.Actors.{AllKept, Kept, SomeGrew, Stands, did, did_any};
+ghost use Rattle.nm_world.specs.Actors.{AllContinue, Continues, SomeGrew, ActorInvariant, did, did_any};
 ghost use Rattle.nm_world.specs.Idle.{AllIdle, Idle};
 ghost use Rattle.nm_world.specs.Sweeps.{HasSwept, Swept};
 
@@ -29,8 +29,8 @@ fn visit<G: Gate>(
     gate: &G,
     bells: &Bells,
 ) -> Result<(bool, u64), Memory>
-    requires stands { Stands lines.now f.now r.now actor.old }
-    ensures kept { IfOk result (λ _. Kept lines.now f.now r.now actor.old actor.new) }
+    requires stands { ActorInvariant lines.now f.now r.now actor.old }
+    ensures kept { IfOk result (λ _. Continues lines.now f.now r.now actor.old actor.new) }
     ensures moved { IfOk result (λ x. x.0 ≡ did f.now.ranks actor.old actor.new) }
     ensures still { IfOk result (λ x. x.0 ≡ false → IsFresh actor.old.process.rank →
         actor.new.process ≡ actor.old.process) }
@@ -67,7 +67,7 @@ fn sweep<G: Gate>(
     gate: &G,
     bells: &Bells,
 ) -> Result<(bool, u64), Memory>
-    requires stands { All (Stands lines.now f.now r.now) actors.old }
+    requires stands { All (ActorInvariant lines.now f.now r.now) actors.old }
     ensures swept { IfOk result (λ x.
         Swept f.now.ranks lines.now f.now r.now all x.0 actors.old actors.new) }
 {
@@ -94,7 +94,7 @@ fn turns_of<R: Wait, G: Gate>(
     bells: &Bells,
     crew: usize,
 ) -> Result<bool, Memory>
-    requires stands { All (Stands lines.now f.now r.now) actors.old }
+    requires stands { All (ActorInvariant lines.now f.now r.now) actors.old }
     ensures swept { IfOk result (λ moved.
         HasSwept f.now.ranks lines.now f.now r.now moved actors.old actors.new) }
 {
@@ -126,7 +126,7 @@ fn halves<R: Threads + Wait + Sync, G: Gate + Sync>(
     first: usize,
     crews: usize,
 ) -> Result<bool, Memory>
-    requires stands { All (Stands lines.now f.now r.now) actors.old }
+    requires stands { All (ActorInvariant lines.now f.now r.now) actors.old }
     ensures swept { IfOk result (λ moved.
         HasSwept f.now.ranks lines.now f.now r.now moved actors.old actors.new) }
 {
@@ -141,12 +141,12 @@ fn halves<R: Threads + Wait + Sync, G: Gate + Sync>(
     let (one, other) = join_mut(
         rt,
         &mut || -> Result<bool, Memory>
-            requires { IsSync R.row × All (Stands lines.now f.now r.now) front.now }
+            requires { IsSync R.row × All (ActorInvariant lines.now f.now r.now) front.now }
             ensures swept { IfOk result (λ moved. HasSwept f.entry.now.ranks lines.entry.now f.entry.now
                 r.entry.now moved front.entry.now front.exit.now) }
         { halves(rt, front, lines, f, r, gate, turns, bells, first, low) },
         &mut || -> Result<bool, Memory>
-            requires { IsSync R.row × All (Stands lines.now f.now r.now) back.now }
+            requires { IsSync R.row × All (ActorInvariant lines.now f.now r.now) back.now }
             ensures swept { IfOk result (λ moved. HasSwept f.entry.now.ranks lines.entry.now f.entry.now
                 r.entry.now moved back.entry.now back.exit.now) }
         { halves(rt, back, lines, f, r, gate, turns, bells, second, high) },
@@ -178,9 +178,9 @@ pub fn round<R: Threads + Wait + Sync, G: Gate + Sync>(
     gate: &G,
     turns: u32,
 ) -> Result<bool, Memory>
-    requires stands { All (Stands lines.now f.now r.now) actors.old }
+    requires stands { All (ActorInvariant lines.now f.now r.now) actors.old }
     requires turns { 0 < turns }
-    ensures kept { IfOk result (λ _. AllKept lines.now f.now r.now actors.old actors.new) }
+    ensures kept { IfOk result (λ _. AllContinue lines.now f.now r.now actors.old actors.new) }
     ensures moved { IfOk result (λ moved. moved ≡ did_any f.now.ranks actors.old actors.new) }
     ensures grew { IfOk result (λ moved.
         (moved ≡ true) ↔ SomeGrew f.now.ranks actors.old actors.new) }
@@ -202,9 +202,9 @@ pub(crate) fn round_in<R: Threads + Wait + Sync, G: Gate + Sync>(
     turns: u32,
     crews: &mut usize,
 ) -> Result<bool, Memory>
-    requires stands { All (Stands lines.now f.now r.now) actors.old }
+    requires stands { All (ActorInvariant lines.now f.now r.now) actors.old }
     requires turns { 0 < turns }
-    ensures kept { IfOk result (λ _. AllKept lines.now f.now r.now actors.old actors.new) }
+    ensures kept { IfOk result (λ _. AllContinue lines.now f.now r.now actors.old actors.new) }
     ensures moved { IfOk result (λ moved. moved ≡ did_any f.now.ranks actors.old actors.new) }
     ensures idle { IfOk result (λ moved. moved ≡ false →
         AllIdle lines.now actors.old actors.new) }

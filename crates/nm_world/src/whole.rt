@@ -14,7 +14,7 @@ ghost use Rattle.nm_copyring.specs.declared.port.RingPort.{RingPort};
 ghost use Rattle.nm_copyring.specs.declared.port.Rings.{Rings};
 ghost use Rattle.nm_copyring.specs.Ports as ring_port;
 ghost use Rattle.nm_process.specs.Lines.{AreLines};
-ghost use Rattle.nm_world.specs.Actors.{AllKept, Stands, seat_of};
+ghost use Rattle.nm_world.specs.Actors.{AllContinue, ActorInvariant, seat_of};
 ghost use Rattle.nm_world.specs.Rest.{EachActor};
 ghost use Rattle.nm_world.specs.declared.actors.Actor.{Actor};
 ghost use Rattle.nm_world.specs.Runs.{AllAgree, AreRanked, InPlace};
@@ -107,9 +107,9 @@ fn settle<R: Threads + Wait + Sync, G: Gate + Sync>(
     r: &Rings,
     gate: &G,
 ) -> Result<(), Memory>
-    requires stands { All (Stands lines.now f.now r.now) actors.old }
+    requires stands { All (ActorInvariant lines.now f.now r.now) actors.old }
     requires many { length actors.old ≡ f.now.ranks }
-    ensures kept { IfOk result (λ _. AllKept lines.now f.now r.now actors.old actors.new) }
+    ensures kept { IfOk result (λ _. AllContinue lines.now f.now r.now actors.old actors.new) }
     ensures still { IfOk result (λ _. EachActor (λ i a. IsStillAt lines.now a) actors.new) }
     ensures agree { IfOk result (λ _. AllAgree actors.new) }
 {
@@ -134,10 +134,10 @@ fn settle_all<R: Threads + Wait + Sync, G: Gate + Sync>(
     r: &Rings,
     gate: &G,
 ) -> Result<(), Memory>
-    requires stands { All (Stands lines.now f.now r.now) actors.old.items }
+    requires stands { All (ActorInvariant lines.now f.now r.now) actors.old.items }
     requires many { length actors.old.items ≡ f.now.ranks }
     ensures kept { IfOk result (λ _.
-        AllKept lines.now f.now r.now actors.old.items actors.new.items) }
+        AllContinue lines.now f.now r.now actors.old.items actors.new.items) }
     ensures still { IfOk result (λ _. EachActor (λ i a. IsStillAt lines.now a) actors.new.items) }
     ensures agree { IfOk result (λ _. AllAgree actors.new.items) }
 {

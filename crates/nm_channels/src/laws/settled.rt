@@ -5,9 +5,9 @@ ghost use Rattle.nm_types.specs.declared.scripts.Line.{Line};
 ghost use Rattle.nm_types.specs.Commands.{Numbered, commands_of};
 ghost use Rattle.nm_types.specs.Limits.{IsScript};
 ghost use Rattle.nm_types.specs.Sizes.{Sizes};
-ghost use Rattle.nm_history.specs.Quiescence.{EachRank, Packets, Stands, packets_of};
+ghost use Rattle.nm_history.specs.Quiescence.{EachRank, Packets, IsStopped, packets_of};
 ghost use Rattle.nm_history.specs.Run.{IsRunOf};
-ghost use Rattle.nm_channels.specs.Moments.{Moment};
+ghost use Rattle.nm_channels.specs.Moments.{LogEntry};
 ghost use Rattle.nm_channels.specs.Ends.{AreEnds};
 ghost use Rattle.nm_channels.specs.Finished.{AreAllEnds, Finished, ended_of};
 ghost use Rattle.nm_channels.specs.Settled.{AreSettled};
@@ -17,7 +17,7 @@ ghost use Rattle.nm_channels.specs.Settled.{AreSettled};
 /// over, and nothing that the second took of the first was a stray.
 pub fn ends_are_settled()
     ensures { (shape : Sizes) (i j : ℕ) (ci cj : List Numbered) (ati atj : ℕ)
-        (li lj : List Moment) → AreEnds shape i j ci cj ati atj li lj → AreSettled i j ci cj li lj }
+        (li lj : List LogEntry) → AreEnds shape i j ci cj ati atj li lj → AreSettled i j ci cj li lj }
 {}
 
 /// Where this holds of each two ranks of a script, each rank is at its end or waits for what can't
@@ -27,7 +27,7 @@ pub fn ends_make_a_run()
     ensures { (shape : Sizes) (lines : List Line) (ranks : List Finished)
         (packets : List Packets) → IsScript shape.ranks lines → length ranks ≡ shape.ranks →
         AreAllEnds shape lines ranks →
-        EachRank (λ i rank. Stands (commands_of i lines) rank) (map ended_of ranks) →
+        EachRank (λ i rank. IsStopped (commands_of i lines) rank) (map ended_of ranks) →
         packets ≡ packets_of lines (map ended_of ranks) →
         IsRunOf shape lines (map ended_of ranks) packets }
 {}

@@ -16,7 +16,7 @@ ghost use Rattle.nm_lookups.specs.Looks.{found_by};
 ghost use Rattle.nm_lookups.specs.Deciding.{Decides};
 ghost use Rattle.nm_lookups.specs.Placed.{ArePlaces};
 ghost use Rattle.nm_check_rank.specs.Handles.{IsOfHandle, IsOfName};
-ghost use Rattle.nm_check_rank.specs.Tabled.{AreTables};
+ghost use Rattle.nm_check_rank.specs.Tabled.{AreRankTables};
 ghost use Rattle.nm_check_rank.specs.Told.{untold};
 
 use crate::paired::arrivals::arrival_claimed;
@@ -45,7 +45,7 @@ fn answer_by(
     k: usize,
 ) -> Option<Told>
     ensures { (rank : ℕ) (lines : List script_line.Line) (h : List event.Event)
-        (commands : List Numbered) (line : ℕ) → AreTables rank lines h tables.now →
+        (commands : List Numbered) (line : ℕ) → AreRankTables rank lines h tables.now →
         IsOfName commands (take k h) command.now request →
         IsOfHandle commands (take k h) command.now message →
         claimed ≡ arrival_claimed_lem (take k h) line → found ≡ found_by (take k h) command.now →
@@ -74,7 +74,7 @@ fn answer_told(
 ) -> Option<Told>
     requires { ArePlaces events.now tables.now.places }
     ensures { (rank : ℕ) (lines : List script_line.Line) (e : event.Event)
-        (answer : given_answer.Answer) → AreTables rank lines events.now tables.now →
+        (answer : given_answer.Answer) → AreRankTables rank lines events.now tables.now →
         slice_get events.now k ≡ Some e → e.what ≡ Ran line answer →
         command_at (commands_of rank lines) line ≡ Some command.now →
         option_map untold result
@@ -115,7 +115,7 @@ fn is_answer_of(
     line: u32,
     answer: &Answer,
 ) -> bool
-    requires told { AreTables rank lines.now events.now tables.now }
+    requires told { AreRankTables rank lines.now events.now tables.now }
     ensures { (e : event.Event) → slice_get events.now k ≡ Some e → e.what ≡ Ran line answer.now →
         Decides result (AnswerAt (commands_of rank lines.now) (take k events.now) e.what) }
 {
@@ -134,7 +134,7 @@ fn is_answer_right(
     k: usize,
     e: &Event,
 ) -> bool
-    requires told { AreTables rank lines.now events.now tables.now }
+    requires told { AreRankTables rank lines.now events.now tables.now }
     requires here { slice_get events.now k ≡ Some e.now }
     ensures { Decides result
         (AnswerAt (commands_of rank lines.now) (take k events.now) e.now.what) }
@@ -149,7 +149,7 @@ fn is_answer_right(
 
 /// Whether each command that ran has the answer that the events before it give.
 pub fn are_answered(rank: u8, lines: &[Line], events: &[Event], tables: &Tables) -> bool
-    requires { AreTables rank lines.now events.now tables.now }
+    requires { AreRankTables rank lines.now events.now tables.now }
     ensures { Decides result (Always (AnswerAt (commands_of rank lines.now)) events.now) }
 {
     for (k, e) in events.iter().enumerate() {
@@ -169,7 +169,7 @@ fn first_of_lines(
     tables: &Tables,
     own: &[u64],
 ) -> Option<usize>
-    requires told { AreTables rank lines.now events.now tables.now }
+    requires told { AreRankTables rank lines.now events.now tables.now }
     requires own { own.now ≡ map (λ c. c.line) (commands_of rank lines.now) }
     ensures { MatchOption result
         (KeepsAnswers (commands_of rank lines.now) events.now)
@@ -197,7 +197,7 @@ pub fn first_answer(
     events: &[Event],
     tables: &Tables,
 ) -> Result<Option<usize>, Memory>
-    requires { AreTables rank lines.now events.now tables.now }
+    requires { AreRankTables rank lines.now events.now tables.now }
     ensures { IfOk result (λ found. MatchOption found
         (KeepsAnswers (commands_of rank lines.now) events.now)
         (BreaksFirstAt (KeepsAnswers (commands_of rank lines.now)) events.now)) }

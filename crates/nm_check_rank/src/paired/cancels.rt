@@ -14,7 +14,7 @@ ghost use Rattle.nm_lookups.specs.Deciding.{Decides};
 ghost use Rattle.nm_lookups.specs.AskedFor.{meant_by};
 ghost use Rattle.nm_lookups.specs.SinceAnswer.{IsSince, of_kind};
 ghost use Rattle.nm_check_rank.specs.Kinds.{is_canceller as is_canceller_lem};
-ghost use Rattle.nm_check_rank.specs.Tabled.{AreTables};
+ghost use Rattle.nm_check_rank.specs.Tabled.{AreRankTables};
 
 use crate::paired::tables::Tables;
 use nm_lookups::asked::commands::command_of_line;
@@ -113,7 +113,7 @@ fn are_of_send(since: Since, events: &[Event], to: u8, n: u64) -> bool
 fn are_of_live(since: Since, events: &[Event], tables: &Tables, request: Request, k: usize) -> bool
     requires since { IsSince is_cancelling events.now k since }
     ensures { (rank : ℕ) (lines : List script_line.Line) (commands : List Numbered) →
-        AreTables rank lines events.now tables.now →
+        AreRankTables rank lines events.now tables.now →
         Always (CancelAt commands) (take k events.now) →
         Decides result (CancelsOf (take k events.now) (Some (meant_by request))) }
 {
@@ -139,7 +139,7 @@ fn are_of_request(
 ) -> bool
     requires since { IsSince is_cancelling events.now k since }
     ensures { (rank : ℕ) (lines : List script_line.Line) (commands : List Numbered) →
-        AreTables rank lines events.now tables.now →
+        AreRankTables rank lines events.now tables.now →
         Always (CancelAt commands) (take k events.now) →
         Decides result (CancelsOf (take k events.now) (option_map meant_by request)) }
 {
@@ -170,7 +170,7 @@ fn are_of_command(
     k: usize,
     line: u32,
 ) -> bool
-    requires told { AreTables rank lines.now events.now tables.now }
+    requires told { AreRankTables rank lines.now events.now tables.now }
     requires since { IsSince is_cancelling events.now k since }
     requires kept { Always (CancelAt (commands_of rank lines.now)) (take k events.now) }
     ensures { (e : event.Event) (answer : Answer) → slice_get events.now k ≡ Some e →
@@ -213,7 +213,7 @@ fn is_cancel_right(
     k: usize,
     e: &Event,
 ) -> bool
-    requires told { AreTables rank lines.now events.now tables.now }
+    requires told { AreRankTables rank lines.now events.now tables.now }
     requires here { slice_get events.now k ≡ Some e.now }
     requires since { IsSince is_cancelling events.now k since }
     requires kept { Always (CancelAt (commands_of rank lines.now)) (take k events.now) }
@@ -239,7 +239,7 @@ fn is_cancel_right(
 
 /// Where an answer, a cancel or a recall breaks the rule first that each cancel has its one event.
 pub fn first_cancel(rank: u8, lines: &[Line], events: &[Event], tables: &Tables) -> Option<Break>
-    requires { AreTables rank lines.now events.now tables.now }
+    requires { AreRankTables rank lines.now events.now tables.now }
     ensures { MatchOption result (CancelsHold (commands_of rank lines.now) events.now)
         (Breaks (Always (CancelAt (commands_of rank lines.now))) (λ h. cancels_since h ≡ [])
         events.now) }
@@ -257,7 +257,7 @@ pub fn first_cancel(rank: u8, lines: &[Line], events: &[Event], tables: &Tables)
 /// Whether each cancel of a live request has its event, a receive is cancelled where it is not
 /// paired and a send recalled once, and there are no others.
 pub fn cancels_hold(rank: u8, lines: &[Line], events: &[Event], tables: &Tables) -> bool
-    requires { AreTables rank lines.now events.now tables.now }
+    requires { AreRankTables rank lines.now events.now tables.now }
     ensures { Decides result (CancelsHold (commands_of rank lines.now) events.now) }
 {
     first_cancel(rank, lines, events, tables).is_none()

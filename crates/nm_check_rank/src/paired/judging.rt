@@ -9,7 +9,7 @@ ghost use Rattle.nm_lookups.specs.Deciding.{Decides};
 ghost use Rattle.nm_check_rank.specs.FirstBroken.{IsFirstBroken};
 ghost use Rattle.nm_check_rank.specs.OwnClauses.{KeepsOwn, own_order};
 ghost use Rattle.nm_check_rank.specs.declared.clauses.OwnClause.TheVariants as own;
-ghost use Rattle.nm_check_rank.specs.Tabled.{AreTables, IsJudged};
+ghost use Rattle.nm_check_rank.specs.Tabled.{AreRankTables, IsJudged};
 
 use crate::paired::answers::are_answered;
 use crate::paired::cancels::cancels_hold;
@@ -101,7 +101,7 @@ fn first_by_tables(
 ) -> Result<Option<OwnClause>, Memory>
     requires stamps { KeepsOwn shape (commands_of rank lines.now) at events.now own.Stamps }
     requires numbers { KeepsOwn shape (commands_of rank lines.now) at events.now own.Numbers }
-    requires told { AreTables rank lines.now events.now tables.now }
+    requires told { AreRankTables rank lines.now events.now tables.now }
     ensures { IfOk result (λ first. MatchOption first
         (IsRankRun shape (commands_of rank lines.now) at events.now)
         (IsFirstBroken (KeepsOwn shape (commands_of rank lines.now) at events.now) own_order)) }

@@ -15,7 +15,7 @@ ghost use Rattle.nm_history.specs.Delivery.{asked_pair, pair_of_request};
 ghost use Rattle.nm_lookups.specs.Placed.{ArePlaces};
 ghost use Rattle.nm_lookups.specs.AskedFor.{meant_by};
 ghost use Rattle.nm_check_rank.specs.Handles.{IsOfName};
-ghost use Rattle.nm_check_rank.specs.Tabled.{AreTables};
+ghost use Rattle.nm_check_rank.specs.Tabled.{AreRankTables};
 ghost use Rattle.nm_check_rank.specs.Told.{untold};
 
 use crate::paired::tables::Tables;
@@ -45,7 +45,7 @@ fn result_of_pair(places: &Places, pair: Pair, k: usize) -> Option<Told>
 /// The result of a receive before a place.
 fn result_of_receive(tables: &Tables, number: u64, k: usize) -> Option<Told>
     ensures { (rank : ℕ) (lines : List script_line.Line) (h : List event.Event) →
-        AreTables rank lines h tables.now →
+        AreRankTables rank lines h tables.now →
         option_map untold result ≡ result_of (take k h) (Receiving number) }
 {
     if is_number_before::<Cancels>(&tables.places.by_number.cancels, number, k) {
@@ -99,7 +99,7 @@ fn result_of_send(places: &Places, to: u8, n: u64, k: usize) -> Option<Told>
 /// The result of a request before a place.
 pub(crate) fn request_result(tables: &Tables, request: Request, k: usize) -> Option<Told>
     ensures { (rank : ℕ) (lines : List script_line.Line) (h : List event.Event) →
-        AreTables rank lines h tables.now →
+        AreRankTables rank lines h tables.now →
         option_map untold result ≡ result_of (take k h) (meant_by request) }
 {
     match request {
@@ -111,7 +111,7 @@ pub(crate) fn request_result(tables: &Tables, request: Request, k: usize) -> Opt
 /// The answer of a wait for a name's live request.
 pub(crate) fn wait_answer(tables: &Tables, request: Option<Request>, k: usize) -> Option<Told>
     ensures { (rank : ℕ) (lines : List script_line.Line) (h : List event.Event) →
-        AreTables rank lines h tables.now →
+        AreRankTables rank lines h tables.now →
         option_map untold result ≡ option_map_or (result_of (take k h))
         (option_map meant_by request) (Some answers.Null) }
 {
@@ -134,7 +134,7 @@ fn result_or_no(told: Option<Told>) -> Told
 /// The answer of a test of a name's live request.
 pub(crate) fn test_answer(tables: &Tables, request: Option<Request>, k: usize) -> Told
     ensures { (rank : ℕ) (lines : List script_line.Line) (h : List event.Event) →
-        AreTables rank lines h tables.now →
+        AreRankTables rank lines h tables.now →
         untold result ≡ option_map_or (λ request. unwrap_or
         (result_of (take k h) request) answers.No)
         (option_map meant_by request) answers.Null }
@@ -148,7 +148,7 @@ pub(crate) fn test_answer(tables: &Tables, request: Option<Request>, k: usize) -
 /// The answer of a cancel of a request.
 fn cancel_told(tables: &Tables, request: Request, k: usize) -> Told
     ensures { (rank : ℕ) (lines : List script_line.Line) (h : List event.Event) →
-        AreTables rank lines h tables.now →
+        AreRankTables rank lines h tables.now →
         untold result ≡ cancel_answer_lem (take k h) (meant_by request) }
 {
     match request {
@@ -166,7 +166,7 @@ fn cancel_told(tables: &Tables, request: Request, k: usize) -> Told
 /// The answer of a cancel of a name's live request.
 pub(crate) fn cancel_answer(tables: &Tables, request: Option<Request>, k: usize) -> Told
     ensures { (rank : ℕ) (lines : List script_line.Line) (h : List event.Event) →
-        AreTables rank lines h tables.now →
+        AreRankTables rank lines h tables.now →
         untold result ≡ option_map_or (cancel_answer_lem (take k h))
         (option_map meant_by request) answers.Null }
 {
@@ -189,7 +189,7 @@ fn is_there(told: Option<Told>) -> bool
 /// Whether a wait for a name's live request is over before a place.
 pub(crate) fn is_over(tables: &Tables, request: Option<Request>, k: usize) -> bool
     ensures { (rank : ℕ) (lines : List script_line.Line) (h : List event.Event) →
-        AreTables rank lines h tables.now →
+        AreRankTables rank lines h tables.now →
         result ≡ option_map_or (is_complete (take k h)) (option_map meant_by request) true }
 {
     complete_has_result();
@@ -202,7 +202,7 @@ pub(crate) fn is_over(tables: &Tables, request: Option<Request>, k: usize) -> bo
 /// The pair of a request before a place, if it is a receive.
 fn pair_of_live(tables: &Tables, request: Request, k: usize) -> Option<Pair>
     ensures { (rank : ℕ) (lines : List script_line.Line) (h : List event.Event) →
-        AreTables rank lines h tables.now →
+        AreRankTables rank lines h tables.now →
         result ≡ pair_of_request (take k h) (meant_by request) }
 {
     match request {
@@ -214,7 +214,7 @@ fn pair_of_live(tables: &Tables, request: Request, k: usize) -> Option<Pair>
 /// The pair of a name's live request before a place.
 fn pair_of_name(tables: &Tables, request: Option<Request>, k: usize) -> Option<Pair>
     ensures { (rank : ℕ) (lines : List script_line.Line) (h : List event.Event) →
-        AreTables rank lines h tables.now →
+        AreRankTables rank lines h tables.now →
         result ≡ option_and_then (pair_of_request (take k h)) (option_map meant_by request) }
 {
     match request {
@@ -231,7 +231,7 @@ pub(crate) fn pair_shown(
     k: usize,
 ) -> Option<Pair>
     ensures { (rank : ℕ) (lines : List script_line.Line) (h : List event.Event)
-        (commands : List Numbered) → AreTables rank lines h tables.now →
+        (commands : List Numbered) → AreRankTables rank lines h tables.now →
         IsOfName commands (take k h) command.now request →
         result ≡ asked_pair commands (take k h) command.now }
 {

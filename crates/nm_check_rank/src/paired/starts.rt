@@ -17,7 +17,7 @@ ghost use Rattle.nm_lookups.specs.Deciding.{Decides};
 ghost use Rattle.nm_lookups.specs.AskedFor.{message_meant};
 ghost use Rattle.nm_lookups.specs.SinceAnswer.{IsSince, of_kind};
 ghost use Rattle.nm_check_rank.specs.Handles.{IsOfHandle, IsStart};
-ghost use Rattle.nm_check_rank.specs.Tabled.{AreTables};
+ghost use Rattle.nm_check_rank.specs.Tabled.{AreRankTables};
 
 use crate::paired::tables::Tables;
 use nm_lookups::asked::commands::command_of_line;
@@ -272,7 +272,7 @@ fn are_of_command(
     k: usize,
     line: u32,
 ) -> bool
-    requires told { AreTables rank lines.now events.now tables.now }
+    requires told { AreRankTables rank lines.now events.now tables.now }
     requires since { IsSince is_start events.now k since }
     ensures { (e : event.Event) (answer : Answer) → slice_get events.now k ≡ Some e →
         e.what ≡ Ran line answer → IsTrue (is_started_lem answer) →
@@ -304,7 +304,7 @@ fn is_start_right(
     k: usize,
     e: &Event,
 ) -> bool
-    requires told { AreTables rank lines.now events.now tables.now }
+    requires told { AreRankTables rank lines.now events.now tables.now }
     requires here { slice_get events.now k ≡ Some e.now }
     requires since { IsSince is_start events.now k since }
     ensures { Decides result
@@ -336,7 +336,7 @@ pub fn first_start(
     events: &[Event],
     tables: &Tables,
 ) -> Option<Break>
-    requires { AreTables rank lines.now events.now tables.now }
+    requires { AreRankTables rank lines.now events.now tables.now }
     ensures { MatchOption result (Starts eager (commands_of rank lines.now) events.now)
         (Breaks (Always (StartAt eager (commands_of rank lines.now))) (λ h. starts_since h ≡ [])
         events.now) }
@@ -353,7 +353,7 @@ pub fn first_start(
 
 /// Whether each start that was taken has its one send or receive, and there are no others.
 pub fn starts_hold(rank: u8, lines: &[Line], eager: u16, events: &[Event], tables: &Tables) -> bool
-    requires { AreTables rank lines.now events.now tables.now }
+    requires { AreRankTables rank lines.now events.now tables.now }
     ensures { Decides result (Starts eager (commands_of rank lines.now) events.now) }
 {
     first_start(rank, lines, eager, events, tables).is_none()

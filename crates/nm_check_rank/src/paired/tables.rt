@@ -7,7 +7,7 @@ ghost use Rattle.nm_history.specs.declared.events.Event as event;
 ghost use Rattle.nm_history.specs.declared.events.Happened.TheVariants.{Ran};
 ghost use Rattle.nm_history.specs.Answers.{can_go_on};
 ghost use Rattle.nm_history.specs.Delivery.{asked_pair};
-ghost use Rattle.nm_check_rank.specs.Tabled.{AreTables};
+ghost use Rattle.nm_check_rank.specs.Tabled.{AreRankTables};
 ghost use Rattle.nm_history.specs.RankRun.{Always, NumberAt};
 
 use crate::paired::results::{is_over, pair_shown};
@@ -45,7 +45,7 @@ impl Tables {
     /// Sends, receives and arrivals must be numbered in order.
     pub fn of(alloc: Global, rank: u8, lines: &[Line], events: &[Event]) -> Result<Tables, Memory>
         requires numbered { (ranks : ℕ) × Always (NumberAt ranks) events.now }
-        ensures { IfOk result (AreTables rank lines.now events.now) }
+        ensures { IfOk result (AreRankTables rank lines.now events.now) }
     {
         let counts = counted(events);
         let places = Places::of(alloc, events)?;
@@ -63,7 +63,7 @@ impl Tables {
     /// answer at a place.
     pub fn pair_asked(&self, rank: u8, lines: &[Line], k: usize, line: u32) -> Option<Pair>
         ensures { (h : List event.Event) (e : event.Event) (answer : Answer) →
-            AreTables rank lines.now h self.now → slice_get h k ≡ Some e →
+            AreRankTables rank lines.now h self.now → slice_get h k ≡ Some e →
             e.what ≡ Ran line answer →
             result ≡ option_and_then (asked_pair (commands_of rank lines.now) (take k h))
             (command_at (commands_of rank lines.now) line) }
@@ -76,7 +76,7 @@ impl Tables {
 
     /// Whether a command can go on at the end of the history.
     pub fn can_go_on(&self, rank: u8, lines: &[Line], events: &[Event], command: &Command) -> bool
-        requires { AreTables rank lines.now events.now self.now }
+        requires { AreRankTables rank lines.now events.now self.now }
         ensures { result ≡ can_go_on (commands_of rank lines.now) events.now command.now }
     {
         match command {

@@ -3,11 +3,11 @@
 ghost use Rattle.std.specs.Prelude.{◌≡◌, ◌+◌, ◌<◌, IsSomeAnd, MatchOption, None, Some, length};
 ghost use Rattle.std.specs.Prelude.{slice_get};
 ghost use Rattle.nm_types.specs.Commands.{commands_of};
-ghost use Rattle.nm_history.specs.Quiescence.{EachRank, Stands};
+ghost use Rattle.nm_history.specs.Quiescence.{EachRank, IsStopped};
 ghost use Rattle.nm_report.specs.Ends.{ends_of};
 ghost use Rattle.nm_lookups.specs.Deciding.{Decides};
 ghost use Rattle.nm_check_ranks.specs.Tabled.{EachTabled};
-ghost use Rattle.nm_check_rank.specs.Tabled.{AreTables};
+ghost use Rattle.nm_check_rank.specs.Tabled.{AreRankTables};
 ghost use Rattle.nm_check_ranks.specs.RestBreaks.{BreaksStanding};
 
 use nm_check_rank::paired::tables::Tables;
@@ -45,8 +45,8 @@ fn is_waiting_at(waits: Option<u32>, k: usize) -> bool
 
 /// Whether a rank is at its end, or waits at its next command, which can't go on.
 fn is_standing(rank: u8, lines: &[Line], account: &RankAccount, tables: &Tables) -> bool
-    requires { AreTables rank lines.now account.now.history.events tables.now }
-    ensures { Decides result (Stands (commands_of rank lines.now)
+    requires { AreRankTables rank lines.now account.now.history.events tables.now }
+    ensures { Decides result (IsStopped (commands_of rank lines.now)
         (record {
           at = account.now.at;
           waits = account.now.waits;
@@ -71,7 +71,7 @@ pub fn first_not_standing(lines: &[Line], ranks: &[RankAccount], tables: &[Table
     requires few { length ranks.now < 256 }
     requires tabled { EachTabled lines.now (ends_of ranks.now) tables.now }
     ensures { MatchOption result
-        (EachRank (λ i rank. Stands (commands_of i lines.now) rank) (ends_of ranks.now))
+        (EachRank (λ i rank. IsStopped (commands_of i lines.now) rank) (ends_of ranks.now))
         (BreaksStanding lines.now (ends_of ranks.now)) }
 {
     for (i, rank) in ranks.iter().enumerate() {
@@ -87,7 +87,7 @@ pub fn are_standing(lines: &[Line], ranks: &[RankAccount], tables: &[Tables]) ->
     requires few { length ranks.now < 256 }
     requires tabled { EachTabled lines.now (ends_of ranks.now) tables.now }
     ensures { Decides result
-        (EachRank (λ i rank. Stands (commands_of i lines.now) rank) (ends_of ranks.now)) }
+        (EachRank (λ i rank. IsStopped (commands_of i lines.now) rank) (ends_of ranks.now)) }
 {
     first_not_standing(lines, ranks, tables).is_none()
 }

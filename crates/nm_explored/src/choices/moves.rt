@@ -10,7 +10,7 @@ ghost use Rattle.nm_outcomes.specs.declared.spots.deeds.Message as message;
 ghost use Rattle.nm_explored.specs.declared.choices.moves.Move as the_move;
 ghost use Rattle.nm_explored.specs.declared.choices.moves.Turn as the_turn;
 ghost use Rattle.nm_explored.specs.Successors.{spot_in};
-ghost use Rattle.nm_explored.specs.Lists.{AddsOnly, Has, Keeps};
+ghost use Rattle.nm_explored.specs.Lists.{AddsOnly, Has, Extends};
 ghost use Rattle.nm_explored.specs.Moves.{AreMovesOf, AreSendsShort, IsAct, IsChoiceOf, IsDeedOf};
 ghost use Rattle.nm_explored.specs.Moves.{IsNextMessage, IsRecalled, IsTurn, IsTurnOf, moved_at, no_in};
 
@@ -55,7 +55,7 @@ pub fn moved(rank: &Rank, by: Move) -> Result<Rank, Memory>
 
 /// Adds a deed, if there is one.
 fn push_deed(turns: &mut Vec<Turn>, rank: u8, deed: Option<Deed>) -> Result<(), Memory>
-    ensures kept { OnOk result (Keeps turns.old.items turns.new.items) }
+    ensures kept { OnOk result (Extends turns.old.items turns.new.items) }
     ensures added { OnOk result (IfSome deed (λ d.
         Has turns.new.items (record { rank = rank; by = Move.Act d }))) }
     ensures only { OnOk result (turns.new.items ≡ turns.old.items
@@ -103,7 +103,7 @@ fn push_command(
     command: &Command,
     turns: &mut Vec<Turn>,
 ) -> Result<(), Memory>
-    ensures kept { OnOk result (Keeps turns.old.items turns.new.items) }
+    ensures kept { OnOk result (Extends turns.old.items turns.new.items) }
     ensures added { OnOk result ((d : deed.Deed) → IsDeedOf view.entry.eager view.entry.lines.now
         (spot_in view.entry.table.now view.entry.ids.now) i rank.now line command.now d →
         Has turns.new.items (record { rank = i; by = Move.Act d })) }
@@ -129,7 +129,7 @@ fn push_command(
 /// Adds what the next command of a rank may do, and the answers that it may have.
 #[tactic(auto, using(crate::proofs::KeptLemmas::only_all))]
 pub fn push_deeds(view: View, i: u8, rank: &Rank, turns: &mut Vec<Turn>) -> Result<(), Memory>
-    ensures kept { OnOk result (Keeps turns.old.items turns.new.items) }
+    ensures kept { OnOk result (Extends turns.old.items turns.new.items) }
     ensures added { length view.entry.lines.now < 4294967293 → OnOk result ((d : deed.Deed) →
         IsAct view.entry.eager view.entry.lines.now
         (spot_in view.entry.table.now view.entry.ids.now) i rank.now d →
@@ -152,7 +152,7 @@ pub fn push_deeds(view: View, i: u8, rank: &Rank, turns: &mut Vec<Turn>) -> Resu
 
 /// Adds the arrival of a message, if there is one.
 fn push_arrival(turns: &mut Vec<Turn>, rank: u8, next: Option<Arrival>) -> Result<(), Memory>
-    ensures kept { OnOk result (Keeps turns.old.items turns.new.items) }
+    ensures kept { OnOk result (Extends turns.old.items turns.new.items) }
     ensures added { OnOk result (IfSome next (λ a.
         Has turns.new.items (record { rank = rank; by = Move.Arrive a }))) }
     ensures only { OnOk result (turns.new.items ≡ turns.old.items
@@ -170,7 +170,7 @@ fn push_arrival(turns: &mut Vec<Turn>, rank: u8, next: Option<Arrival>) -> Resul
 /// Adds the messages that may arrive at a rank.
 #[tactic(auto, using(crate::proofs::KeptLemmas::only_all))]
 fn push_arrivals(view: View, i: u8, ranks: u8, turns: &mut Vec<Turn>) -> Result<(), Memory>
-    ensures kept { OnOk result (Keeps turns.old.items turns.new.items) }
+    ensures kept { OnOk result (Extends turns.old.items turns.new.items) }
     ensures added { OnOk result ((a : arrival.Arrival) →
         IsNextMessage ranks (spot_in view.entry.table.now view.entry.ids.now) i a →
         Has turns.new.items (record { rank = i; by = Move.Arrive a })) }
@@ -192,7 +192,7 @@ fn push_withdrawal(
     message: Message,
     may: bool,
 ) -> Result<(), Memory>
-    ensures kept { OnOk result (Keeps turns.old.items turns.new.items) }
+    ensures kept { OnOk result (Extends turns.old.items turns.new.items) }
     ensures added { OnOk result (IsTrue may →
         Has turns.new.items (record { rank = rank; by = Move.Withdraw message })) }
     ensures only { OnOk result (turns.new.items ≡ turns.old.items ++ cons_option
@@ -210,7 +210,7 @@ fn push_withdrawal(
 /// Adds the messages that may be withdrawn at a rank.
 #[tactic(auto, using(crate::proofs::KeptLemmas::only_all))]
 fn push_withdrawals(view: View, i: u8, rank: &Rank, turns: &mut Vec<Turn>) -> Result<(), Memory>
-    ensures kept { OnOk result (Keeps turns.old.items turns.new.items) }
+    ensures kept { OnOk result (Extends turns.old.items turns.new.items) }
     ensures added { OnOk result ((m : message.Message) →
         IsRecalled (spot_in view.entry.table.now view.entry.ids.now) i rank.now m →
         Has turns.new.items (record { rank = i; by = Move.Withdraw m })) }
@@ -238,7 +238,7 @@ fn push_moves(
     ranks: u8,
     turns: &mut Vec<Turn>,
 ) -> Result<(), Memory>
-    ensures kept { OnOk result (Keeps turns.old.items turns.new.items) }
+    ensures kept { OnOk result (Extends turns.old.items turns.new.items) }
     ensures added { length view.entry.lines.now < 4294967293 → OnOk result ((by : the_move.Move) →
         IsChoiceOf view.entry.eager ranks view.entry.lines.now
         (spot_in view.entry.table.now view.entry.ids.now) i rank.now by →
@@ -257,7 +257,7 @@ fn push_moves(
 /// Adds the moves of a rank.
 #[tactic(auto, using(crate::proofs::KeptLemmas::only_all))]
 fn push_rank(view: View, i: u8, ranks: u8, turns: &mut Vec<Turn>) -> Result<(), Memory>
-    ensures kept { OnOk result (Keeps turns.old.items turns.new.items) }
+    ensures kept { OnOk result (Extends turns.old.items turns.new.items) }
     ensures added { length view.entry.lines.now < 4294967293 →
         OnOk result (AreMovesOf view.entry.eager ranks view.entry.lines.now
         (spot_in view.entry.table.now view.entry.ids.now) i turns.new.items) }

@@ -6,7 +6,7 @@ ghost use Rattle.nm_types.specs.Commands.{commands_of};
 ghost use Rattle.nm_types.specs.Limits.{IsScript};
 ghost use Rattle.nm_types.specs.Sizes.{Sizes};
 ghost use Rattle.nm_history.specs.Outgoing.{packets_to};
-ghost use Rattle.nm_history.specs.Quiescence.{EachRank, Packets, Stands, packets_of};
+ghost use Rattle.nm_history.specs.Quiescence.{EachRank, Packets, IsStopped, packets_of};
 ghost use Rattle.nm_history.specs.Run.{IsRunOf};
 ghost use Rattle.nm_sending.specs.Outboxes.{popped_to};
 ghost use Rattle.nm_channels.specs.Settled.{HasNoStray};
@@ -19,7 +19,7 @@ use crate::outgoing::laws::leaves::all_left;
 pub fn ranks_at_rest_make_a_run()
     ensures { (shape : Sizes) (lines : List Line) (ranks : List OneRank)
         (packets : List Packets) → IsScript shape.ranks lines → AreAtRest shape lines ranks →
-        EachRank (λ i rank. Stands (commands_of i lines) rank) (map recorded_of ranks) →
+        EachRank (λ i rank. IsStopped (commands_of i lines) rank) (map recorded_of ranks) →
         packets ≡ packets_of lines (map recorded_of ranks) →
         IsRunOf shape lines (map recorded_of ranks) packets }
 {

@@ -5,7 +5,7 @@ ghost use Rattle.nm_types.specs.declared.scripts.Line.{Line};
 ghost use Rattle.nm_types.specs.Sizes.{Sizes};
 ghost use Rattle.nm_rank.specs.New.{IsNew};
 ghost use Rattle.nm_rank.specs.Ranks.{RankView};
-ghost use Rattle.nm_global.specs.Ranks.{IsPassed, IsRankAt, new_rank};
+ghost use Rattle.nm_global.specs.Ranks.{IsPassed, RankInvariant, new_rank};
 
 use nm_history::laws::rank_run_begins;
 use crate::log::laws::moments::a_log_begins;
@@ -14,7 +14,7 @@ use crate::outgoing::laws::starts::nothing_left;
 /// A new rank stands at its place (`Rank::new`), and nothing is between any two.
 pub fn new_ranks_stand()
     ensures stands { (shape : Sizes) (lines : List Line) (i : ℕ) (v : RankView) →
-        IsNew shape i v → IsRankAt shape lines i (new_rank v) }
+        IsNew shape i v → RankInvariant shape lines i (new_rank v) }
     ensures passed { (i j : ℕ) (v w : RankView) → IsPassed i j (new_rank v) (new_rank w) }
 {
     rank_run_begins();

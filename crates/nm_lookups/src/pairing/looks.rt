@@ -4,7 +4,7 @@ ghost use Rattle.std.specs.Prelude.{◌≡◌, List};
 ghost use Rattle.nm_types.specs.Commands.{commands_of};
 ghost use Rattle.nm_history.specs.declared.events.Event as event;
 ghost use Rattle.nm_lookups.specs.Looks.{found_by, line_of_look, look_of};
-ghost use Rattle.nm_lookups.specs.Queues.{Follows};
+ghost use Rattle.nm_lookups.specs.Queues.{HasQueuesOf};
 
 use crate::asked::commands::command_of_line;
 use nm_history::Happened;
@@ -23,7 +23,7 @@ fn line_of(what: &Happened) -> Option<u32>
 
 /// The first free message that a command selects, if it is a probe, a matched one too.
 fn found(matcher: &Matcher, command: &Command) -> Option<Arrival>
-    ensures { (h : List event.Event) → Follows h matcher.now → result ≡ found_by h command.now }
+    ensures { (h : List event.Event) → HasQueuesOf h matcher.now → result ≡ found_by h command.now }
 {
     match command {
         Command::Probe { from, tag, ctx }
@@ -35,7 +35,7 @@ fn found(matcher: &Matcher, command: &Command) -> Option<Arrival>
 
 /// What the command of an event finds of the messages that wait in the matcher.
 pub(crate) fn look(rank: u8, lines: &[Line], matcher: &Matcher, what: &Happened) -> Option<Arrival>
-    ensures { (h : List event.Event) → Follows h matcher.now →
+    ensures { (h : List event.Event) → HasQueuesOf h matcher.now →
         result ≡ look_of (commands_of rank lines.now) h what.now }
 {
     let number = line_of(what)?;

@@ -13,7 +13,7 @@ ghost use Rattle.nm_history.specs.Matching.{matched_pairs, new_pair};
 ghost use Rattle.nm_history.specs.RankRun.{Always, NumberAt};
 ghost use Rattle.nm_lookups.specs.Placed.{AreTaken};
 ghost use Rattle.nm_lookups.specs.Looks.{look_of};
-ghost use Rattle.nm_lookups.specs.Pairings.{AreTables, Tells};
+ghost use Rattle.nm_lookups.specs.Pairings.{ArePairTables, Tells};
 ghost use Rattle.nm_lookups.specs.Replays.{Replays};
 
 use crate::pairing::looks::look;
@@ -69,7 +69,7 @@ fn note<K: Eq + Hash + Drop + Copy, V: Drop + Copy>(
 impl Tables {
     /// Of no event.
     fn new(alloc: Global) -> Tables
-        ensures { AreTables [] result }
+        ensures { ArePairTables [] result }
     {
         Tables {
             pairs: Vec::new(alloc),
@@ -80,9 +80,9 @@ impl Tables {
 
     /// The event at a place makes a pair.
     fn keep(&mut self, place: usize, pair: Pair) -> Result<(), Memory>
-        ensures { (h : List event.Event) (e : event.Event) → AreTables h self.old →
+        ensures { (h : List event.Event) (e : event.Event) → ArePairTables h self.old →
             place ≡ length h → Some pair ≡ new_pair h (matched_pairs h) e.what →
-            OnOk result (AreTables (h ++ e ∷ []) self.new) }
+            OnOk result (ArePairTables (h ++ e ∷ []) self.new) }
     {
         let message = Message {
             rank: pair.arrival.env.from,
@@ -106,7 +106,7 @@ fn replay_all(
 ) -> Result<(), Memory>
     requires numbered { (ranks : ℕ) × Always (NumberAt ranks) events.now }
     requires replay { Replays [] replay.old }
-    requires tables { AreTables [] tables.old }
+    requires tables { ArePairTables [] tables.old }
     requires looks { looks.old.items ≡ [] }
     ensures { OnOk result (Tells rank lines.now events.now
         (record { tables = tables.new; looks = looks.new; matcher = replay.new.matcher })) }
@@ -141,7 +141,7 @@ impl Work {
     /// Of no event.
     fn new(alloc: Global) -> Work
         ensures replay { Replays [] result.replay }
-        ensures tables { AreTables [] result.tables }
+        ensures tables { ArePairTables [] result.tables }
         ensures looks { result.looks.items ≡ [] }
     {
         Work {

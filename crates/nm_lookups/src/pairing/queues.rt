@@ -6,7 +6,7 @@ ghost use Rattle.nm_types.specs.declared.messages.Arrival as arrival;
 ghost use Rattle.nm_types.specs.declared.messages.Post as posted_receive;
 ghost use Rattle.nm_history.specs.Selection.{matches};
 ghost use Rattle.nm_match.specs.Deeds.{history_of, is_known_message, is_known_receive};
-ghost use Rattle.nm_lookups.specs.Queues.{Keeps, posted_after_arrival, posted_after_post};
+ghost use Rattle.nm_lookups.specs.Queues.{HasQueues, posted_after_arrival, posted_after_post};
 ghost use Rattle.nm_lookups.specs.Queues.{unexpected_after_arrival, unexpected_after_post};
 ghost use Rattle.nm_lookups.specs.Queues.{without_message, without_receive};
 
@@ -18,8 +18,8 @@ pub(crate) fn take(matcher: &mut Matcher, from: u8, n: u64)
     requires known { IsTrue (is_known_message (history_of matcher.old) from n) }
     ensures { (posted : List posted_receive.Post) (unexpected : List arrival.Arrival)
         (knows : ℕ → Bool) (came : ℕ → ℕ → Bool) →
-        Keeps posted unexpected knows came matcher.old →
-        Keeps posted (without_message from n unexpected) knows came matcher.new }
+        HasQueues posted unexpected knows came matcher.old →
+        HasQueues posted (without_message from n unexpected) knows came matcher.new }
 {
     matcher.withdraw(from, n);
 }
@@ -29,8 +29,8 @@ pub(crate) fn cancel(matcher: &mut Matcher, number: u64)
     requires known { IsTrue (is_known_receive (history_of matcher.old) number) }
     ensures { (posted : List posted_receive.Post) (unexpected : List arrival.Arrival)
         (knows : ℕ → Bool) (came : ℕ → ℕ → Bool) →
-        Keeps posted unexpected knows came matcher.old →
-        Keeps (without_receive number posted) unexpected knows came matcher.new }
+        HasQueues posted unexpected knows came matcher.old →
+        HasQueues (without_receive number posted) unexpected knows came matcher.new }
 {
     matcher.cancel(number);
 }
@@ -45,9 +45,9 @@ pub(crate) fn post(
     requires is_new { is_known_receive (history_of matcher.old) p.number ≡ false }
     ensures { (posted : List posted_receive.Post) (unexpected : List arrival.Arrival)
         (knows : ℕ → Bool) (came : ℕ → ℕ → Bool) →
-        Keeps posted unexpected knows came matcher.old → IfOk result (λ taken.
+        HasQueues posted unexpected knows came matcher.old → IfOk result (λ taken.
         (taken ≡ find (λ a. matches p.from p.tag p.ctx a.env) unexpected)
-        × Keeps (posted_after_post p cancelled posted taken)
+        × HasQueues (posted_after_post p cancelled posted taken)
         (unexpected_after_post unexpected taken)
         (λ number. knows number || p.number == number) came matcher.new) }
 {
@@ -67,9 +67,9 @@ pub(crate) fn arrive(matcher: &mut Matcher, a: Arrival, gone: bool) -> Result<Op
     requires is_new { is_known_message (history_of matcher.old) a.env.from a.n ≡ false }
     ensures { (posted : List posted_receive.Post) (unexpected : List arrival.Arrival)
         (knows : ℕ → Bool) (came : ℕ → ℕ → Bool) →
-        Keeps posted unexpected knows came matcher.old → IfOk result (λ taken. (taken
+        HasQueues posted unexpected knows came matcher.old → IfOk result (λ taken. (taken
         ≡ option_map (λ p. p.number) (find (λ p. matches p.from p.tag p.ctx a.env) posted))
-        × Keeps (posted_after_arrival posted taken)
+        × HasQueues (posted_after_arrival posted taken)
         (unexpected_after_arrival a gone unexpected taken) knows
         (λ from n. came from n || (a.env.from == from && a.n == n)) matcher.new) }
 {

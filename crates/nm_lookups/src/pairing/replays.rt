@@ -7,10 +7,10 @@ ghost use Rattle.nm_history.specs.declared.events.Event as event;
 ghost use Rattle.nm_history.specs.declared.events.Happened.TheVariants as happened;
 ghost use Rattle.nm_match.specs.Deeds.{is_known_message, is_known_receive};
 ghost use Rattle.nm_lookups.specs.Firsts.{same_message};
-ghost use Rattle.nm_lookups.specs.Queues.{IsNew, Keeps, free_messages, is_posted, open_receives};
+ghost use Rattle.nm_lookups.specs.Queues.{IsFirstOfItsKind, HasQueues, free_messages, is_posted, open_receives};
 ghost use Rattle.nm_lookups.specs.Queues.{without_message, without_receive};
 ghost use Rattle.nm_lookups.specs.Replays.{HasSameQueues, HasSameReceives, HasSameTables};
-ghost use Rattle.nm_lookups.specs.Replays.{Replays, Takes};
+ghost use Rattle.nm_lookups.specs.Replays.{Replays, IsNextReplay};
 
 use crate::pairing::queues::{arrive, cancel, post, take};
 use indexmap::{IndexMap, IndexSet};
@@ -97,7 +97,7 @@ impl Replay {
             × (is_known_receive h p.now.number ≡ false) }
         ensures { (h : List event.Event) (stamp line : ℕ) → Replays h self.old →
             is_known_receive h p.now.number ≡ false →
-            IfOk result (λ made. Takes h
+            IfOk result (λ made. IsNextReplay h
             (record { stamp = stamp; what = happened.Post p.now line }) made self.new) }
     {
         let cancelled = self.closed.contains(&p.number);
@@ -115,7 +115,7 @@ impl Replay {
             × (is_known_message h a.now.env.from a.now.n ≡ false) }
         ensures { (h : List event.Event) (stamp : ℕ) → Replays h self.old →
             is_known_message h a.now.env.from a.now.n ≡ false →
-            IfOk result (λ made. Takes h
+            IfOk result (λ made. IsNextReplay h
             (record { stamp = stamp; what = happened.Arrive a.now }) made self.new) }
     {
         let message = Message {
@@ -138,7 +138,7 @@ impl Replay {
     fn cancel_open(&mut self, number: u64)
         requires known { (h : List event.Event) × Replays h self.old }
         ensures queues { (h : List event.Event) → Replays h self.old →
-            Keeps (without_receive number (open_receives h)) (free_messages h) (is_posted h)
+            HasQueues (without_receive number (open_receives h)) (free_messages h) (is_posted h)
             (is_known_message h) self.new.matcher }
         ensures others { HasSameTables self.old self.new }
     {
@@ -154,7 +154,7 @@ impl Replay {
     fn cancel(&mut self, number: u64) -> Result<(), Memory>
         requires known { (h : List event.Event) × Replays h self.old }
         ensures { (h : List event.Event) (stamp : ℕ) → Replays h self.old →
-            OnOk result (Takes h
+            OnOk result (IsNextReplay h
             (record { stamp = stamp; what = happened.Cancel number true }) None self.new) }
     {
         self.cancel_open(number);
@@ -166,7 +166,7 @@ impl Replay {
     fn take_free(&mut self, message: Message)
         requires known { (h : List event.Event) × Replays h self.old }
         ensures queues { (h : List event.Event) → Replays h self.old →
-            Keeps (open_receives h) (without_message message.rank message.n (free_messages h))
+            HasQueues (open_receives h) (without_message message.rank message.n (free_messages h))
             (is_posted h) (is_known_message h) self.new.matcher }
         ensures others { HasSameTables self.old self.new }
     {
@@ -184,7 +184,7 @@ impl Replay {
         ensures gone { OnOk result
             (Updates same_message self.old.gone self.new.gone message true) }
         ensures queues { (h : List event.Event) → Replays h self.old → OnOk result
-            (Keeps (open_receives h) (without_message message.rank message.n (free_messages h))
+            (HasQueues (open_receives h) (without_message message.rank message.n (free_messages h))
             (is_posted h) (is_known_message h) self.new.matcher) }
         ensures others { OnOk result (HasSameReceives self.old self.new) }
     {
@@ -197,7 +197,7 @@ impl Replay {
     fn claim(&mut self, from: u8, n: u64) -> Result<(), Memory>
         requires known { (h : List event.Event) × Replays h self.old }
         ensures { (h : List event.Event) (stamp line : ℕ) → Replays h self.old →
-            OnOk result (Takes h
+            OnOk result (IsNextReplay h
             (record { stamp = stamp; what = happened.Claim from n line }) None self.new) }
     {
         self.let_go(Message { rank: from, n })
@@ -207,7 +207,7 @@ impl Replay {
     fn withdraw(&mut self, from: u8, n: u64) -> Result<(), Memory>
         requires known { (h : List event.Event) × Replays h self.old }
         ensures { (h : List event.Event) (stamp : ℕ) → Replays h self.old →
-            OnOk result (Takes h
+            OnOk result (IsNextReplay h
             (record { stamp = stamp; what = happened.Withdraw from n true }) None self.new) }
     {
         self.let_go(Message { rank: from, n })
@@ -219,7 +219,7 @@ impl Replay {
             × (is_known_receive h number ≡ false) }
         ensures { (h : List event.Event) (stamp line : ℕ) → Replays h self.old →
             is_known_receive h number ≡ false →
-            IfOk result (λ made. Takes h
+            IfOk result (λ made. IsNextReplay h
             (record { stamp = stamp; what = happened.Match number from n cap line }) made
             self.new) }
     {
@@ -238,9 +238,9 @@ impl Replay {
 
     /// One event more. The pair that it makes, if it makes one.
     pub fn take(&mut self, what: &Happened) -> Result<Option<Pair>, Memory>
-        requires is_new { (h : List event.Event) × Replays h self.old × IsNew h what.now }
-        ensures { (h : List event.Event) (stamp : ℕ) → Replays h self.old → IsNew h what.now →
-            IfOk result (λ made. Takes h (record { stamp = stamp; what = what.now }) made
+        requires is_new { (h : List event.Event) × Replays h self.old × IsFirstOfItsKind h what.now }
+        ensures { (h : List event.Event) (stamp : ℕ) → Replays h self.old → IsFirstOfItsKind h what.now →
+            IfOk result (λ made. IsNextReplay h (record { stamp = stamp; what = what.now }) made
             self.new) }
     {
         match what {

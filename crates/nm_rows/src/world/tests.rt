@@ -4,7 +4,7 @@ ghost use Rattle.nm_cells.specs.declared.port.Port.{Port};
 ghost use Rattle.nm_cells.specs.Ports.{IsNew};
 ghost use Rattle.nm_copyring.specs.Ports as ring_port;
 ghost use Rattle.nm_process.specs.Lines.{AreLines};
-ghost use Rattle.nm_world.specs.Actors.{Stands};
+ghost use Rattle.nm_world.specs.Actors.{ActorInvariant};
 
 use nm_copyring::{RingPort, Rings};
 use nm_history::{Event, Happened, History};
@@ -42,7 +42,7 @@ fn three_turns(
     f: &Fabric,
     r: &Rings,
 ) -> Result<[bool; 3], Memory>
-    requires { Stands lines.now f.now r.now sender.old }
+    requires { ActorInvariant lines.now f.now r.now sender.old }
 {
     let first = sender.turn(lines, f, r, &OpenGate)?;
     let second = sender.turn(lines, f, r, &OpenGate)?;
@@ -74,7 +74,7 @@ fn saw_the_last(history: &History) -> bool {
 
 // One turn of the receiver. It takes 64 packets, and polls once more before its probe.
 fn one_turn(receiver: &mut Actor, lines: &[Line], f: &Fabric, r: &Rings) -> Result<bool, Memory>
-    requires { Stands lines.now f.now r.now receiver.old }
+    requires { ActorInvariant lines.now f.now r.now receiver.old }
 {
     let moved = receiver.turn(lines, f, r, &OpenGate)?;
     Ok(moved && saw_the_last(receiver.history()))

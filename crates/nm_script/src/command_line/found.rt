@@ -1,7 +1,7 @@
 //! What was found behind the first word.
 
 ghost use Rattle.std.specs.Prelude.{◌≡◌, map, string_bytes, IfSome, Some};
-ghost use Rattle.nm_script.specs.CommandWords.{Follows, nothing, with_argument, with_first};
+ghost use Rattle.nm_script.specs.CommandWords.{ReadsArguments, nothing, with_argument, with_first};
 ghost use Rattle.nm_script.specs.declared.command_line.found.Found.{Found};
 
 use crate::command_line::arguments::{Argument, next_argument};
@@ -77,8 +77,8 @@ impl Found {
 
 /// What the words give in the end, beside what was found before them.
 pub fn rest(found: Found, words: &[String]) -> Option<Found>
-    ensures follows { IfSome result (Follows found (map string_bytes words.now)) }
-    ensures whole { (end : Found) → Follows found (map string_bytes words.now) end →
+    ensures follows { IfSome result (ReadsArguments found (map string_bytes words.now)) }
+    ensures whole { (end : Found) → ReadsArguments found (map string_bytes words.now) end →
         result ≡ Some end }
 {
     // Calls itself at most five times: there are two options, each given once, and three numbers.

@@ -3,7 +3,7 @@ use Rattle.std.proofs.lemmas.List.{length-map}
 use Rattle.nm_types.specs.Commands.{commands_of}
 use Rattle.nm_history.specs.RankRun.{IsRankRun}
 use Rattle.nm_report.specs.Ends.{ends_of}
-use Rattle.nm_check_rank.specs.Tabled.{AreTables}
+use Rattle.nm_check_rank.specs.Tabled.{AreRankTables}
 use Rattle.nm_check_rank.specs.declared.paired.tables.Tables.{Tables}
 use Rattle.nm_check_rank.specs.FirstBroken.{IsFirstBroken}
 use Rattle.nm_check_rank.specs.OwnClauses.{KeepsOwn, own_order}
@@ -41,12 +41,12 @@ pub loop-i-preserved : goal.loop-i-preserved
 loop-i-preserved c =
     let judged : IsRankRun c.args.shape (commands_of c.loop-i.i c.args.lines.now) c.index-ranks-i.result.at
     c.index-ranks-i.result.history.events
-    × AreTables c.loop-i.i c.args.lines.now c.index-ranks-i.result.history.events c.in-Runs.own =
+    × AreRankTables c.loop-i.i c.args.lines.now c.index-ranks-i.result.history.events c.in-Runs.own =
     rw c.as_slice-events.ensures at (rw c.in-Runs.is at c.in_ok-own.ensures) in
     let many : length c.loop-i.tables.items ≡ c.loop-i.i = c.loop-i.invariant.0 in
     let here : TabledAt c.args.lines.now (ends_of c.args.ranks.now) c.loop-i.i c.in-Runs.own =
     of_end c.args.ranks.now c.loop-i.i c.index-ranks-i.result
-    (λ rank. AreTables c.loop-i.i c.args.lines.now rank.events c.in-Runs.own) c.loop-i-test.true
+    (λ rank. AreRankTables c.loop-i.i c.args.lines.now rank.events c.in-Runs.own) c.loop-i-test.true
     c.index-ranks-i.is judged.1 in
     rw c.in_ok-push-in-Runs.ensures.items (
       length-append c.loop-i.tables.items (c.in-Runs.own ∷ []) ∙ ap (λ (n : ℕ). n + 1) many,

@@ -21,7 +21,7 @@ ghost use Rattle.nm_request.specs.declared.Kind.TheVariants as kind;
 ghost use Rattle.nm_request.specs.declared.Req.{Req};
 ghost use Rattle.nm_sending.specs.Sent.{outs};
 ghost use Rattle.nm_receiving.specs.Receipts.{taken_events};
-ghost use Rattle.nm_channels.specs.Moments.{Moment};
+ghost use Rattle.nm_channels.specs.Moments.{LogEntry};
 ghost use Rattle.nm_rank.specs.Calls.{Happens, Notes, Starts, TakesNone};
 ghost use Rattle.nm_rank.specs.Pops.{PopsPacket, PopsPiece, out_with_packet, out_with_piece};
 ghost use Rattle.nm_rank.specs.Ranks.{RankView, request_of};
@@ -37,7 +37,7 @@ use nm_types::laws::bodies_have_their_length;
 /// command.
 pub fn a_send_starts()
     ensures { (eager : ℕ) (bodies : Sent → List ℕ) (commands : List Numbered) (v v' : RankView)
-        (log : List Moment) (given : List ℕ) (to tag ctx line : ℕ) (body : Body) (sync : Bool)
+        (log : List LogEntry) (given : List ℕ) (to tag ctx line : ℕ) (body : Body) (sync : Bool)
         (r : Req) →
         let s = next_send v to tag ctx body sync line in let ws = event_of s ∷ [] in
         IsLogged eager bodies commands v log given → tag ≤ MAX_TAG → s.len ≤ MAX_BODY →
@@ -50,7 +50,7 @@ pub fn a_send_starts()
 /// `Rank::irecv`: the receive has the next number.
 pub fn a_receive_starts()
     ensures { (eager : ℕ) (bodies : Sent → List ℕ) (commands : List Numbered) (v v' : RankView)
-        (log : List Moment) (given : List ℕ) (from : Peer) (tag : TagPick) (ctx cap line : ℕ)
+        (log : List LogEntry) (given : List ℕ) (from : Peer) (tag : TagPick) (ctx cap line : ℕ)
         (r : Req) →
         let number = length (receives v.events) in let h = v.events in
         let ws = event.Post
@@ -64,7 +64,7 @@ pub fn a_receive_starts()
 /// `Rank::imrecv`: so has the receive of a claimed message.
 pub fn a_claimed_receive_starts()
     ensures { (eager : ℕ) (bodies : Sent → List ℕ) (commands : List Numbered) (v v' : RankView)
-        (log : List Moment) (given : List ℕ) (from n cap line : ℕ) (r : Req) →
+        (log : List LogEntry) (given : List ℕ) (from n cap line : ℕ) (r : Req) →
         let number = length (receives v.events) in
         let ws = event.Match number from n cap line ∷ taken_events (message_of v.events from n) in
         IsLogged eager bodies commands v log given →
@@ -75,7 +75,7 @@ pub fn a_claimed_receive_starts()
 /// `Rank::improbe`, where it finds a message.
 pub fn a_message_is_claimed()
     ensures { (eager : ℕ) (bodies : Sent → List ℕ) (commands : List Numbered) (v v' : RankView)
-        (log : List Moment) (given : List ℕ) (a : Arrival) (line : ℕ) →
+        (log : List LogEntry) (given : List ℕ) (a : Arrival) (line : ℕ) →
         let ws = event.Claim a.env.from a.n line ∷ [] in
         IsLogged eager bodies commands v log given → Notes ws v v' → TakesNone v v' →
         v'.requests ≡ v.requests →
@@ -85,7 +85,7 @@ pub fn a_message_is_claimed()
 /// `Rank::cancel` of a live request.
 pub fn a_request_is_cancelled()
     ensures { (eager : ℕ) (bodies : Sent → List ℕ) (commands : List Numbered) (v v' : RankView)
-        (log : List Moment) (given : List ℕ) (k : Kind) → let ws = cancel_events v.events k in
+        (log : List LogEntry) (given : List ℕ) (k : Kind) → let ws = cancel_events v.events k in
         IsLogged eager bodies commands v log given → Happens bodies v.clock ws v v' →
         TakesNone v v' → v'.requests ≡ v.requests →
         IsLogged eager bodies commands v' (log ++ acted v ws ∷ []) given }
@@ -94,7 +94,7 @@ pub fn a_request_is_cancelled()
 /// `Rank::ran`, where an answer that shows a message shows the bytes that came of it.
 pub fn an_answer_is_recorded()
     ensures { (eager : ℕ) (bodies : Sent → List ℕ) (commands : List Numbered) (v v' : RankView)
-        (log : List Moment) (given : List ℕ) (line : ℕ) (answer : Answer) →
+        (log : List LogEntry) (given : List ℕ) (line : ℕ) (answer : Answer) →
         let ws = event.Ran line answer ∷ [] in IsLogged eager bodies commands v log given →
         AnswersLogged commands log v.events line answer → Notes ws v v' → TakesNone v v' →
         v'.requests ≡ v.requests →
@@ -103,11 +103,11 @@ pub fn an_answer_is_recorded()
 
 /// The result of a request may be recorded as the answer of a wait or a test of it.
 pub fn a_result_may_be_recorded()
-    ensures wait { (commands : List Numbered) (log : List Moment) (h : List Event) (line q : ℕ)
+    ensures wait { (commands : List Numbered) (log : List LogEntry) (h : List Event) (line q : ℕ)
         (k : Kind) (answer : Answer) → command_at commands line ≡ Some (command.Wait q) →
         live commands h q ≡ Some (request_of k) → ShowsLogged log h k answer →
         AnswersLogged commands log h line answer }
-    ensures test { (commands : List Numbered) (log : List Moment) (h : List Event) (line q : ℕ)
+    ensures test { (commands : List Numbered) (log : List LogEntry) (h : List Event) (line q : ℕ)
         (k : Kind) (answer : Answer) → command_at commands line ≡ Some (command.Test q) →
         live commands h q ≡ Some (request_of k) → ShowsLogged log h k answer →
         AnswersLogged commands log h line answer }
@@ -116,7 +116,7 @@ pub fn a_result_may_be_recorded()
 /// `Rank::pop_front`: a message that leaves with a packet was not sent by asking.
 pub fn a_packet_leaves()
     ensures { (eager : ℕ) (bodies : Sent → List ℕ) (commands : List Numbered) (v v' : RankView)
-        (log : List Moment) (given : List ℕ) →
+        (log : List LogEntry) (given : List ℕ) →
         IsLogged eager bodies commands v log given → PopsPacket v v' →
         IsLogged eager bodies commands v' (log ++ acted v (outs (out_with_packet v)) ∷ []) given }
 {}
@@ -125,7 +125,7 @@ pub fn a_packet_leaves()
 /// clearances.
 pub fn a_piece_leaves()
     ensures { (eager : ℕ) (bodies : Sent → List ℕ) (commands : List Numbered) (v v' : RankView)
-        (log : List Moment) (given : List ℕ) →
+        (log : List LogEntry) (given : List ℕ) →
         IsLogged eager bodies commands v log given → PopsPiece v v' →
         IsLogged eager bodies commands v' (log ++ acted v (outs (out_with_piece v)) ∷ []) given }
 {}

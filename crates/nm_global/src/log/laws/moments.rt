@@ -14,7 +14,7 @@ ghost use Rattle.nm_request.specs.declared.Kind.{Kind};
 ghost use Rattle.nm_request.specs.declared.Kind.TheVariants as kind;
 ghost use Rattle.nm_request.specs.declared.Req.{Req};
 ghost use Rattle.nm_request.specs.Requests.{kind_of};
-ghost use Rattle.nm_channels.specs.Moments.{Moment};
+ghost use Rattle.nm_channels.specs.Moments.{LogEntry};
 ghost use Rattle.nm_rank.specs.Calls.{TakesPacket, TakesPiece};
 ghost use Rattle.nm_rank.specs.New.{IsNew};
 ghost use Rattle.nm_rank.specs.Ranks.{RankView};
@@ -32,7 +32,7 @@ pub fn a_log_begins()
 /// A packet that is taken makes one moment: it continues its stream or is a stray.
 pub fn a_packet_is_taken()
     ensures { (eager : ℕ) (bodies : Sent → List ℕ) (commands : List Numbered) (v v' : RankView)
-        (log : List Moment) (given : List ℕ) (p : Packet) →
+        (log : List LogEntry) (given : List ℕ) (p : Packet) →
         IsLogged eager bodies commands v log given → p.from < v.sizes.ranks →
         TakesPacket p v v' → IsLogged eager bodies commands v' (log ++ took v p ∷ []) given }
 {}
@@ -40,7 +40,7 @@ pub fn a_packet_is_taken()
 /// So does a piece, where one of its rank is due.
 pub fn a_piece_is_taken()
     ensures { (eager : ℕ) (bodies : Sent → List ℕ) (commands : List Numbered) (v v' : RankView)
-        (log : List Moment) (given : List ℕ) (q : Piece) →
+        (log : List LogEntry) (given : List ℕ) (q : Piece) →
         IsLogged eager bodies commands v log given → q.from < v.sizes.ranks →
         drawn_from v.receiving q.from < length (due_pieces v.events q.from) →
         TakesPiece q v v' → IsLogged eager bodies commands v' (log ++ drew v q ∷ []) given }
@@ -50,12 +50,12 @@ pub fn a_piece_is_taken()
 /// it shows the bytes of that message by the log.
 pub fn a_result_is_given()
     ensures kept { (eager : ℕ) (bodies : Sent → List ℕ) (commands : List Numbered)
-        (v v' : RankView) (log : List Moment) (given : List ℕ) (r : Req) (k : Kind)
+        (v v' : RankView) (log : List LogEntry) (given : List ℕ) (r : Req) (k : Kind)
         (answer : Answer) → IsLogged eager bodies commands v log given →
         kind_of v.requests r ≡ Some k → Finishes r answer v v' →
         IsLogged eager bodies commands v' log (given_after k given) }
     ensures shows { (eager : ℕ) (bodies : Sent → List ℕ) (commands : List Numbered)
-        (v v' : RankView) (log : List Moment) (given : List ℕ) (r : Req) (k : Kind)
+        (v v' : RankView) (log : List LogEntry) (given : List ℕ) (r : Req) (k : Kind)
         (answer : Answer) → IsLogged eager bodies commands v log given →
         AreRight v.sizes.ranks [] v.events → kind_of v.requests r ≡ Some k →
         Finishes r answer v v' → ShowsLogged log v.events k answer }

@@ -10,7 +10,7 @@ ghost use Rattle.nm_sending.specs.declared.outbox.letters.Letter.{Letter};
 ghost use Rattle.nm_sending.specs.Departures.{pushed_to};
 ghost use Rattle.nm_rank.specs.Pops.{PopsPacket, PopsPiece};
 ghost use Rattle.nm_rank.specs.Ranks.{RankView};
-ghost use Rattle.nm_global.specs.Emitted.{IsLeft, Left, with_packet, with_piece};
+ghost use Rattle.nm_global.specs.Emitted.{IsEmitted, Emitted, with_packet, with_piece};
 
 use nm_sending::outbox::laws::packets_stay_in_order;
 
@@ -18,9 +18,9 @@ use nm_sending::outbox::laws::packets_stay_in_order;
 /// and for no other rank one leaves.
 pub fn packets_leave()
     ensures { (bodies : Sent → List ℕ) (before after : RankView) (to : ℕ) (letter : Letter)
-        (left : Left) → slice_get before.sending.outbox.letters 0 ≡ Some letter →
-        PopsPacket before after → IsLeft bodies before to left →
-        IsLeft bodies after to (with_packet to (letter.to, letter.packet) left) }
+        (left : Emitted) → slice_get before.sending.outbox.letters 0 ≡ Some letter →
+        PopsPacket before after → IsEmitted bodies before to left →
+        IsEmitted bodies after to (with_packet to (letter.to, letter.packet) left) }
 {
     packets_stay_in_order();
 }
@@ -29,19 +29,19 @@ pub fn packets_leave()
 /// for its receiver, and for no other rank one leaves.
 pub fn pieces_leave()
     ensures { (bodies : Sent → List ℕ) (before after : RankView) (to : ℕ) (piece : ℕ × Piece)
-        (left : Left) → Some (offered piece) ≡ next_offered before.sending.offers →
+        (left : Emitted) → Some (offered piece) ≡ next_offered before.sending.offers →
         piece.1.from ≡ before.me → piece.1.number ≡ pushed_to before.sending piece.0 →
         PopsPiece before after →
-        IsLeft bodies before to left → IsLeft bodies after to (with_piece to piece left) }
+        IsEmitted bodies before to left → IsEmitted bodies after to (with_piece to piece left) }
 {}
 
 /// Where no packet is in the outbox and each cleared message has left, what left is all that the
 /// history calls for (`Rank::front`, `Rank::front_piece`).
 pub fn all_left()
-    ensures packets { (bodies : Sent → List ℕ) (v : RankView) (to : ℕ) (left : Left) →
-        v.sending.outbox.letters ≡ [] → IsLeft bodies v to left →
+    ensures packets { (bodies : Sent → List ℕ) (v : RankView) (to : ℕ) (left : Emitted) →
+        v.sending.outbox.letters ≡ [] → IsEmitted bodies v to left →
         AreCalled v.me 0 (outgoing bodies v.events to) left.packets }
-    ensures pieces { (bodies : Sent → List ℕ) (v : RankView) (to : ℕ) (left : Left) →
-        AllOut v.sending.offers → IsLeft bodies v to left →
+    ensures pieces { (bodies : Sent → List ℕ) (v : RankView) (to : ℕ) (left : Emitted) →
+        AllOut v.sending.offers → IsEmitted bodies v to left →
         AreCalledPieces v.me 0 (ring bodies v.events to) left.pieces }
 {}

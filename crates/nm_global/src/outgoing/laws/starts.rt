@@ -22,25 +22,25 @@ ghost use Rattle.nm_rank.specs.New.{IsNew};
 ghost use Rattle.nm_rank.specs.Ranks.{RankView};
 ghost use Rattle.nm_rank.specs.Requests.{cancel_events, offers_cancelled};
 ghost use Rattle.nm_rank.specs.Sends.{event_of, next_send, offers_sent};
-ghost use Rattle.nm_global.specs.Emitted.{IsLeft, Left, nothing};
+ghost use Rattle.nm_global.specs.Emitted.{IsEmitted, Emitted, nothing};
 
 use nm_sending::outbox::laws::packets_stay_in_order;
 
 /// From a rank at which nothing happened nothing left (`Rank::new`).
 pub fn nothing_left()
     ensures { (bodies : Sent → List ℕ) (shape : Sizes) (me to : ℕ) (v : RankView) →
-        to < shape.ranks → IsNew shape me v → IsLeft bodies v to nothing }
+        to < shape.ranks → IsNew shape me v → IsEmitted bodies v to nothing }
 {}
 
 /// By a send nothing leaves (`Rank::isend`). The history before it is right.
 pub fn sends_keep_left()
     ensures { (bodies : Sent → List ℕ) (before after : RankView) (to receiver tag ctx line : ℕ)
-        (body : Body) (sync : Bool) (r : Req) (left : Left) →
+        (body : Body) (sync : Bool) (r : Req) (left : Emitted) →
         let s = next_send before receiver tag ctx body sync line in
         AreRight before.sizes.ranks [] before.events → bodies s ≡ bytes_of body →
         Starts bodies (event_of s ∷ []) (kind.Send receiver s.n) before after r →
         after.sending.offers ≡ offers_sent before.sending.offers s body →
-        IsLeft bodies before to left → IsLeft bodies after to left }
+        IsEmitted bodies before to left → IsEmitted bodies after to left }
 {
     packets_stay_in_order();
 }
@@ -49,31 +49,31 @@ pub fn sends_keep_left()
 /// rank's own messages.
 pub fn receives_keep_left()
     ensures posted { (bodies : Sent → List ℕ) (before after : RankView) (to line : ℕ)
-        (p : post.Post) (taken : Option Arrival) (k : Kind) (r : Req) (left : Left) →
+        (p : post.Post) (taken : Option Arrival) (k : Kind) (r : Req) (left : Emitted) →
         Starts bodies (Post p line ∷ taken_events taken) k before after r →
         after.sending.offers ≡ before.sending.offers →
-        IsLeft bodies before to left → IsLeft bodies after to left }
+        IsEmitted bodies before to left → IsEmitted bodies after to left }
     ensures matched { (bodies : Sent → List ℕ) (before after : RankView)
         (to number from n cap line : ℕ) (taken : Option Arrival) (k : Kind) (r : Req)
-        (left : Left) →
+        (left : Emitted) →
         Starts bodies (Match number from n cap line ∷ taken_events taken) k before after r →
         after.sending.offers ≡ before.sending.offers →
-        IsLeft bodies before to left → IsLeft bodies after to left }
+        IsEmitted bodies before to left → IsEmitted bodies after to left }
     ensures other { (bodies : Sent → List ℕ) (before after : RankView) (to : ℕ) (ws : List Happened)
-        (k : Kind) (r : Req) (left : Left) → AllByRecursion (λ w. is_of_sending w ≡ false) ws →
+        (k : Kind) (r : Req) (left : Emitted) → AllByRecursion (λ w. is_of_sending w ≡ false) ws →
         Starts bodies ws k before after r → after.sending.offers ≡ before.sending.offers →
-        IsLeft bodies before to left → IsLeft bodies after to left }
+        IsEmitted bodies before to left → IsEmitted bodies after to left }
 {
     packets_stay_in_order();
 }
 
 /// By a cancel of a request nothing leaves (`Rank::cancel`).
 pub fn cancels_keep_left()
-    ensures { (bodies : Sent → List ℕ) (before after : RankView) (to : ℕ) (k : Kind) (left : Left) →
+    ensures { (bodies : Sent → List ℕ) (before after : RankView) (to : ℕ) (k : Kind) (left : Emitted) →
         Happens bodies before.clock (cancel_events before.events k) before after →
         after.sending.offers ≡ offers_cancelled before.events k before.sending.offers →
         TakesNone before after →
-        IsLeft bodies before to left → IsLeft bodies after to left }
+        IsEmitted bodies before to left → IsEmitted bodies after to left }
 {
     packets_stay_in_order();
 }

@@ -17,7 +17,7 @@ ghost use Rattle.nm_rank.specs.Calls.{TakesPacket, TakesPiece};
 ghost use Rattle.nm_rank.specs.Pops.{PopsPacket, PopsPiece, out_with_packet, out_with_piece};
 ghost use Rattle.nm_rank.specs.Ranks.{RankView};
 ghost use Rattle.nm_global.specs.Moments.{acted, drew, took};
-ghost use Rattle.nm_global.specs.ProcessInvariant.{IsOf, Past, with_moment, with_packet_left};
+ghost use Rattle.nm_global.specs.ProcessInvariant.{IsOf, GhostHistory, with_moment, with_packet_left};
 ghost use Rattle.nm_global.specs.ProcessInvariant.{with_piece_left};
 
 use crate::log::laws::calls::{a_packet_leaves as packet_logged, a_piece_leaves as piece_logged};
@@ -29,7 +29,7 @@ use crate::outgoing::laws::takes::{taken_packets_keep_left, taken_pieces_keep_le
 
 /// `Process::pop_front`.
 pub fn a_packet_leaves()
-    ensures { (shape : Sizes) (lines : List Line) (i : ℕ) (v v' : RankView) (past : Past)
+    ensures { (shape : Sizes) (lines : List Line) (i : ℕ) (v v' : RankView) (past : GhostHistory)
         (letter : Letter) → slice_get v.sending.outbox.letters 0 ≡ Some letter →
         PopsPacket v v' → IsOf shape lines i v past →
         IsOf shape lines i v'
@@ -42,7 +42,7 @@ pub fn a_packet_leaves()
 
 /// `Process::pop_piece`.
 pub fn a_piece_leaves()
-    ensures { (shape : Sizes) (lines : List Line) (i : ℕ) (v v' : RankView) (past : Past)
+    ensures { (shape : Sizes) (lines : List Line) (i : ℕ) (v v' : RankView) (past : GhostHistory)
         (piece : ℕ × Piece) → Some (offered piece) ≡ next_offered v.sending.offers →
         piece.1.from ≡ v.me → piece.1.number ≡ pushed_to v.sending piece.0 →
         PopsPiece v v' → IsOf shape lines i v past →
@@ -55,7 +55,7 @@ pub fn a_piece_leaves()
 
 /// `Process::take_packet`.
 pub fn a_packet_is_taken()
-    ensures { (shape : Sizes) (lines : List Line) (i : ℕ) (v v' : RankView) (past : Past)
+    ensures { (shape : Sizes) (lines : List Line) (i : ℕ) (v v' : RankView) (past : GhostHistory)
         (p : Packet) → AreRight v.sizes.ranks [] v.events → p.from < v.sizes.ranks →
         TakesPacket p v v' → IsOf shape lines i v past →
         IsOf shape lines i v' (with_moment past (took v p)) }
@@ -66,7 +66,7 @@ pub fn a_packet_is_taken()
 
 /// `Process::take_piece`, where one of its rank was due (`Rank::is_piece_due`).
 pub fn a_piece_is_taken()
-    ensures { (shape : Sizes) (lines : List Line) (i : ℕ) (v v' : RankView) (past : Past)
+    ensures { (shape : Sizes) (lines : List Line) (i : ℕ) (v v' : RankView) (past : GhostHistory)
         (q : Piece) → q.from < v.sizes.ranks →
         drawn_from v.receiving q.from < length (due_pieces v.events q.from) →
         TakesPiece q v v' → IsOf shape lines i v past →

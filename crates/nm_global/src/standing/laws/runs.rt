@@ -7,7 +7,7 @@ ghost use Rattle.nm_history.specs.Rules.{AreRight};
 ghost use Rattle.nm_process.specs.Lines.{AreLines};
 ghost use Rattle.nm_process.specs.Processes.{ProcessView};
 ghost use Rattle.nm_process.specs.Steps.{HasRun};
-ghost use Rattle.nm_global.specs.ProcessInvariant.{GoesOn, IsStanding, Past};
+ghost use Rattle.nm_global.specs.ProcessInvariant.{GoesOn, ProcessInvariant, GhostHistory};
 
 use crate::log::laws::calls::{
     a_claimed_receive_starts, a_message_is_claimed, a_receive_starts, a_request_is_cancelled,
@@ -19,9 +19,9 @@ use crate::outgoing::laws::takes::answers_keep_left;
 
 /// `Process::run_next`, where it ran a command.
 pub fn a_command_runs()
-    ensures { (shape : Sizes) (lines : List Line) (i : ℕ) (a b : ProcessView) (past : Past) →
+    ensures { (shape : Sizes) (lines : List Line) (i : ℕ) (a b : ProcessView) (past : GhostHistory) →
         AreLines a.rank.sizes.ranks lines → AreRight a.rank.sizes.ranks [] a.rank.events →
-        IsStanding shape lines i a past → HasRun lines a b →
+        ProcessInvariant shape lines i a past → HasRun lines a b →
         GoesOn shape lines i b.rank past }
 {
     a_send_starts();

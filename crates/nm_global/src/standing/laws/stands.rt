@@ -8,8 +8,8 @@ ghost use Rattle.nm_rank.specs.Journals.{IsJournal};
 ghost use Rattle.nm_rank.specs.New.{IsNew};
 ghost use Rattle.nm_process.specs.Processes.{ProcessView};
 ghost use Rattle.nm_process.specs.Work.{IsAtWork};
-ghost use Rattle.nm_global.specs.Ranks.{IsRankAt};
-ghost use Rattle.nm_global.specs.ProcessInvariant.{IsStanding, Past, no_past, rank_of};
+ghost use Rattle.nm_global.specs.Ranks.{RankInvariant};
+ghost use Rattle.nm_global.specs.ProcessInvariant.{ProcessInvariant, GhostHistory, no_past, rank_of};
 
 use crate::laws::starts::new_ranks_stand;
 use nm_process::laws::a_process_runs;
@@ -17,16 +17,16 @@ use nm_process::laws::a_process_runs;
 /// A process at its start (`Process::new`).
 pub fn a_process_begins()
     ensures { (shape : Sizes) (lines : List Line) (i : ℕ) (v : ProcessView) →
-        IsAtWork shape lines v → IsNew shape i v.rank → IsStanding shape lines i v no_past }
+        IsAtWork shape lines v → IsNew shape i v.rank → ProcessInvariant shape lines i v no_past }
 {
     new_ranks_stand();
 }
 
 /// A process at its place is a rank at its place, by what its history shows (`Rank::history`).
 pub fn a_process_is_a_rank()
-    ensures { (shape : Sizes) (lines : List Line) (i : ℕ) (v : ProcessView) (past : Past) →
-        IsStanding shape lines i v past → AreRight shape.ranks [] v.rank.events →
-        IsJournal v.rank.events v.rank.clock → IsRankAt shape lines i (rank_of v past) }
+    ensures { (shape : Sizes) (lines : List Line) (i : ℕ) (v : ProcessView) (past : GhostHistory) →
+        ProcessInvariant shape lines i v past → AreRight shape.ranks [] v.rank.events →
+        IsJournal v.rank.events v.rank.clock → RankInvariant shape lines i (rank_of v past) }
 {
     a_process_runs();
 }

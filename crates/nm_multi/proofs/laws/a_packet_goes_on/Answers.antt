@@ -8,11 +8,11 @@ use Rattle.nm_sending.specs.Sent.{outs}
 use Rattle.nm_rank.specs.Calls.{made_of}
 use Rattle.nm_rank.specs.Pops.{PopsPacket, out_with_packet}
 use Rattle.nm_rank.specs.Ranks.{IsFresh, RankView}
-use Rattle.nm_channels.specs.Moments.{Moment}
+use Rattle.nm_channels.specs.Moments.{LogEntry}
 use Rattle.nm_global.specs.Logged.{IsLogged}
 use Rattle.nm_global.specs.Moments.{acted, took}
-use Rattle.nm_global.specs.Emitted.{IsLeft, with_packet}
-use Rattle.nm_multi.specs.Standing.{AreBodies, Stands}
+use Rattle.nm_global.specs.Emitted.{IsEmitted, with_packet}
+use Rattle.nm_multi.specs.Standing.{AreBodies, DeskInvariant}
 use Rattle.nm_multi.proofs.Alone.{still_first}
 use Rattle.nm_multi.proofs.Standing.{left_more, made_none, outs_none, pulled_more, pulled_still, sent_still}
 use Rattle.nm_multi.proofs.Standing.{taken_more, taken_still}
@@ -23,7 +23,7 @@ returns c sent v v' alone m st = by m.leaves where
   p : Packet
   p = m.letter.packet
 
-  log : List Moment
+  log : List LogEntry
   log = st.past.log ++ took v m.letter.packet ∷ []
 
   logged : (bodies : Sent → List ℕ) → AreBodies bodies sent →
@@ -33,7 +33,7 @@ returns c sent v v' alone m st = by m.leaves where
       c.a_packet_is_taken.ensures st.past.eager bodies [] v m.between st.past.log st.past.given m.letter.packet
       (st.logged bodies are) (omega (arith, one, from)) m.taken
 
-  left : (bodies : Sent → List ℕ) → AreBodies bodies sent → IsLeft bodies m.between 0 st.past.left
+  left : (bodies : Sent → List ℕ) → AreBodies bodies sent → IsEmitted bodies m.between 0 st.past.left
   left bodies are =
       c.taken_packets_keep_left.ensures bodies v m.between 0 m.letter.packet st.past.left m.right m.taken
       (st.left bodies are)
@@ -44,7 +44,7 @@ returns c sent v v' alone m st = by m.leaves where
       (made_none v m.letter.packet) (m.taken.happened (λ _. [])).events
       ∙ st.many
 
-  leaves : PopsPacket m.between v' → Stands sent v'
+  leaves : PopsPacket m.between v' → DeskInvariant sent v'
   leaves pops =
       let still = still_first p m.letter v m.between m.first m.taken in
       let ws = outs (out_with_packet m.between) in
@@ -69,10 +69,10 @@ returns c sent v v' alone m st = by m.leaves where
       }
 
   by : (IsFresh m.between × PopsPacket m.between v') ⊎ (¬ (IsFresh m.between) × (v' ≡ m.between)) →
-      Stands sent v'
+      DeskInvariant sent v'
   by (inl goes) = leaves goes.1
   by (inr stays) =
-      subst (λ (u : RankView). Stands sent u) (sym stays.1) (record {
+      subst (λ (u : RankView). DeskInvariant sent u) (sym stays.1) (record {
         past = record {
           eager = st.past.eager;
           log = log;

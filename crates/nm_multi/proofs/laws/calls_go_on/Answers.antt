@@ -11,23 +11,23 @@ use Rattle.nm_multi.specs.declared.calls.Reply.TheVariants as reply
 use Rattle.nm_multi.specs.Acts.{GoesOn, body_sent}
 use Rattle.nm_multi.specs.Calls.{IsInRange}
 use Rattle.nm_multi.specs.Moves.{IsAlone, MovesFirst, MovesMany}
-use Rattle.nm_multi.specs.Standing.{Stands}
+use Rattle.nm_multi.specs.Standing.{DeskInvariant}
 use Rattle.nm_multi.proofs.Going.{Cases, by_worn, moved_many, of_each}
 use Rattle.nm_multi.proofs.laws.calls_go_on.Goals as goal
 
 -- the rank stands to the sends of one call more
 abbrev GoOn : List Body → Call → Reply → RankView → RankView → Type 0
 GoOn sent c r old new =
-    IsInRange c → AreRight old.sizes.ranks [] old.events → IsFresh old → IsAlone old → Stands sent old →
-    Stands (sent ++ cons_option (body_sent c r) []) new
+    IsInRange c → AreRight old.sizes.ranks [] old.events → IsFresh old → IsAlone old → DeskInvariant sent old →
+    DeskInvariant (sent ++ cons_option (body_sent c r) []) new
 
-same_sent : (sent : List Body) (v : RankView) → Stands sent v → Stands (sent ++ []) v
-same_sent sent v st = subst (λ (bs : List Body). Stands bs v) (sym (append-nil sent)) st
+same_sent : (sent : List Body) (v : RankView) → DeskInvariant sent v → DeskInvariant (sent ++ []) v
+same_sent sent v st = subst (λ (bs : List Body). DeskInvariant bs v) (sym (append-nil sent)) st
 
-moves_on : ((sent : List Body) (v v' : RankView) → IsAlone v → MovesFirst v v' → Stands sent v → Stands sent v') →
-    (sent : List Body) (k : ℕ) (old new : RankView) → MovesMany k old new → IsAlone old → Stands sent old →
-    Stands sent new
-moves_on one sent zero old new is alone st = subst (λ (v : RankView). Stands sent v) (sym is) st
+moves_on : ((sent : List Body) (v v' : RankView) → IsAlone v → MovesFirst v v' → DeskInvariant sent v → DeskInvariant sent v') →
+    (sent : List Body) (k : ℕ) (old new : RankView) → MovesMany k old new → IsAlone old → DeskInvariant sent old →
+    DeskInvariant sent new
+moves_on one sent zero old new is alone st = subst (λ (v : RankView). DeskInvariant sent v) (sym is) st
 moves_on one sent (suc k) old new is alone st =
     one sent is.0 new (moved_many k old is.0 alone is.1).0 is.2 (moves_on one sent k old is.0 is.1 alone st)
 
@@ -49,15 +49,15 @@ returns-clause-kept c sent v v' does has range right alone acts st = by (by_worn
         cancels = λ r a old new is range right fresh alone st.
             same_sent sent new (c.a_cancel_goes_on.ensures sent old new r a fresh is st);
         stays = λ d r old new is none range right fresh alone st.
-            subst (λ (o : Option Body). Stands (sent ++ cons_option o []) new) (sym none)
-            (same_sent sent new (subst (λ (u : RankView). Stands sent u) (sym is) st));
+            subst (λ (o : Option Body). DeskInvariant (sent ++ cons_option o []) new) (sym none)
+            (same_sent sent new (subst (λ (u : RankView). DeskInvariant sent u) (sym is) st));
       }
 
   by : ((v' ≡ v) × (body_sent does has ≡ None)) ⊎ (IsFresh v × GoesOn does has v v') →
-      Stands (sent ++ cons_option (body_sent does has) []) v'
+      DeskInvariant (sent ++ cons_option (body_sent does has) []) v'
   by (inl same) =
-      subst (λ (o : Option Body). Stands (sent ++ cons_option o []) v') (sym same.1)
-      (same_sent sent v' (subst (λ (u : RankView). Stands sent u) (sym same.0) st))
+      subst (λ (o : Option Body). DeskInvariant (sent ++ cons_option o []) v') (sym same.1)
+      (same_sent sent v' (subst (λ (u : RankView). DeskInvariant sent u) (sym same.0) st))
   by (inr goes) = of_each (GoOn sent) cases does has v v' goes.1 range right goes.0 alone st
 
 pub returns-clause-shows : goal.returns-clause-shows

@@ -3,7 +3,7 @@ use Rattle.std.proofs.Common.{ℕ, Option, ◌≡◌, ◌+◌, ◌≤◌, ◌==�
 use Rattle.std.proofs.Common.{◌∙◌, ap, subst, arith}
 use Rattle.nm_types.specs.declared.packets.Packet.{Packet}
 use Rattle.nm_history.specs.Sends.{Sent}
-use Rattle.nm_eager.specs.Cutting.{Cutting, IsMessageOf, IsNext}
+use Rattle.nm_eager.specs.Cutting.{Cutting, IsMessageOf, IsNextPacket}
 use Rattle.nm_sending.specs.Outboxes.{OutboxView}
 use Rattle.nm_sending.proofs.PutLemmas.{puts_none, puts_number, puts_more, next_is}
 use Rattle.nm_sending.proofs.putting.put_packets.Goals as goal
@@ -35,11 +35,11 @@ put-requires-clause-number c =
 next_by : (cutting cur : Cutting) (k stamp number number' : ℕ) (p : Packet) → cur
     ≡ record cutting { given = k }
     → number ≡ number'
-    → ((s : Sent) → IsMessageOf cur s → s.stamp ≤ stamp → IsNext cur s number p)
-    → (s : Sent) → IsMessageOf cutting s → s.stamp ≤ stamp → IsNext (record cutting { given = k }) s number' p
+    → ((s : Sent) → IsMessageOf cur s → s.stamp ≤ stamp → IsNextPacket cur s number p)
+    → (s : Sent) → IsMessageOf cutting s → s.stamp ≤ stamp → IsNextPacket (record cutting { given = k }) s number' p
 next_by cutting cur k stamp number number' p cut same next s message later =
-    subst (λ (x : ℕ). IsNext (record cutting { given = k }) s x p) same
-    (subst (λ (x : Cutting). IsNext x s number p) cut
+    subst (λ (x : ℕ). IsNextPacket (record cutting { given = k }) s x p) same
+    (subst (λ (x : Cutting). IsNextPacket x s number p) cut
     (next s (subst (λ (x : Cutting). IsMessageOf x s) (sym cut)
     (record { n = message.n; tag = message.tag; ctx = message.ctx; len = message.len })) later))
 

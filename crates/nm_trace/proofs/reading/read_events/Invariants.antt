@@ -1,12 +1,12 @@
 use Rattle.std.proofs.Common.{◌≡◌, ◌≤◌, ◌+◌, [], filter, length}
 use Rattle.nm_trace.specs.Answers.{is_ran}
-use Rattle.nm_trace.specs.Outcome.{Place, tells, told}
+use Rattle.nm_trace.specs.Outcome.{AnswerPlace, tells, told}
 use Rattle.nm_trace.proofs.reading.read_events.Given as goal
 
 -- what is left tells what the whole told, behind these events and with the notes that are left
 abbrev pub invariant-loop-note : goal.invariant-loop-note
 invariant-loop-note l = record {
-  told : (p : Place) → l.rank ≡ length p.ends
+  told : (p : AnswerPlace) → l.rank ≡ length p.ends
       → told p.ranks (tells p [] l.initial.notes.items) l.initial.text.rest.now l.initial.text.number
       ≡ told p.ranks (tells p l.events.items l.notes.items) l.text.rest.now l.text.number;
   at : l.at ≡ length (filter (λ event. is_ran event.what) l.events.items);

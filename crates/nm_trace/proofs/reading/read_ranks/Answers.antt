@@ -2,7 +2,7 @@ use Rattle.std.proofs.Common.{◌≡◌, ◌<◌, [], arith, length, sym, ◌∙
 use Rattle.std.proofs.lemmas.List.{length-map, length_push}
 use Rattle.std.proofs.lemmas.Result.{err_from_is_err_and}
 use Rattle.nm_report.specs.Ends.{ends_of}
-use Rattle.nm_trace.specs.Outcome.{Place, end_of_account}
+use Rattle.nm_trace.specs.Outcome.{AnswerPlace, end_of_account}
 use Rattle.nm_trace.proofs.StageLemmas.{ends_more, ranks_end}
 use Rattle.nm_trace.proofs.reading.read_ranks.Goals as goal
 
@@ -14,7 +14,7 @@ returns-in_err-account-clause-stops c =
     let long = length-map c.loop-rank.accounts end_of_account in
     let same : c.loop-rank.rank ≡ length ends = sym (long ∙ c.loop-rank.invariant.whole) in
     let fewer : length ends < c.args.ranks = omega (arith, same, c.loop-rank-test.true) in
-    let p : Place = record { ranks = c.args.ranks; pairs = pairs; ends = ends; fewer = fewer } in
+    let p : AnswerPlace = record { ranks = c.args.ranks; pairs = pairs; ends = ends; fewer = fewer } in
     rw (c.loop-rank.invariant.told pairs) (c.in_err-account.ensures.stops p same))
 
 pub loop-rank-preserved : goal.loop-rank-preserved
@@ -27,7 +27,7 @@ loop-rank-preserved c =
     let longer = length_push c.loop-rank.accounts account in
     record {
       told = λ pairs. (
-          let p : Place = record { ranks = c.args.ranks; pairs = pairs; ends = ends; fewer = fewer } in
+          let p : AnswerPlace = record { ranks = c.args.ranks; pairs = pairs; ends = ends; fewer = fewer } in
           rw (c.in_ok-push.ensures.ok, ends_more c.loop-rank.accounts account)
           (c.loop-rank.invariant.told pairs ∙ c.in_ok-account.ensures.told p same)
           );

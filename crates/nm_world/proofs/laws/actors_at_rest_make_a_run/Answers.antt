@@ -6,7 +6,7 @@ use Rattle.std.specs.List.{slice_get}
 use Rattle.nm_types.specs.declared.packets.Piece.{Piece}
 use Rattle.nm_types.specs.Commands.{commands_of}
 use Rattle.nm_history.specs.Outgoing.{AreCalled, AreCalledPieces, outgoing, ring}
-use Rattle.nm_history.specs.Quiescence.{Ended, Stands as StandsAt, packets_of}
+use Rattle.nm_history.specs.Quiescence.{Ended, IsStopped as StandsAt, packets_of}
 use Rattle.nm_history.specs.Sends.{sent_body}
 use Rattle.nm_channels.specs.Moments.{taken_from}
 use Rattle.nm_cells.specs.ClosedLists.{sent_list, taken_list}
@@ -16,8 +16,8 @@ use Rattle.nm_copyring.specs.AtClose.{entry}
 use Rattle.nm_copyring.specs.ClosedLists as closed_ring
 use Rattle.nm_copyring.specs.Ports as ring_port
 use Rattle.nm_copyring.specs.Rule.{lane}
-use Rattle.nm_global.specs.Ranks.{AreAtRest, Each, HasNothingToSend, IsPassed, IsRankAt, OneRank, recorded_of}
-use Rattle.nm_global.specs.ProcessInvariant.{IsStanding}
+use Rattle.nm_global.specs.Ranks.{AreAtRest, Each, HasNothingToSend, IsPassed, RankInvariant, OneRank, recorded_of}
+use Rattle.nm_global.specs.ProcessInvariant.{ProcessInvariant}
 use Rattle.nm_world.specs.declared.actors.Actor.{Actor}
 use Rattle.nm_world.specs.Rest.{EndsAt, HasRun, IsCarried}
 use Rattle.nm_world.proofs.Chosen.{chosen, chosen_each, chosen_length, chosen_map, each_map, for_each}
@@ -69,11 +69,11 @@ returns c shape lines f r actors closed q script many each cells rings all_taken
   below : (i : ℕ) (a : Actor) → slice_get actors i ≡ Some a → i < shape.ranks
   below i a is = let low = place_below actors i a is in omega (arith, low, many)
 
-  stands_at : (i : ℕ) (a : Actor) (p : P i a) → IsRankAt shape lines i (one i a p)
+  stands_at : (i : ℕ) (a : Actor) (p : P i a) → RankInvariant shape lines i (one i a p)
   stands_at i a p =
       let e = p.1 in
-      let standing : IsStanding shape lines i a.process e.past =
-      subst (λ (k : ℕ). IsStanding shape lines k a.process e.past) e.me e.is.standing in
+      let standing : ProcessInvariant shape lines i a.process e.past =
+      subst (λ (k : ℕ). ProcessInvariant shape lines k a.process e.past) e.me e.is.standing in
       let s = c.a_process_is_a_rank.ensures shape lines i a.process e.past standing e.right e.stamped in
       record { me = s.me; sizes = s.sizes; run = s.run; logged = s.logged; left = s.left }
 
@@ -139,7 +139,7 @@ returns c shape lines f r actors closed q script many each cells rings all_taken
   at_rest =
       record {
         many = chosen_length P one actors h ∙ many;
-        standing = chosen_each P one actors h (IsRankAt shape lines) stands_at;
+        standing = chosen_each P one actors h (RankInvariant shape lines) stands_at;
         passed = chosen_each P one actors h (λ i x. Each (λ j y. IsPassed i j x y) ones)
             (λ i a p. chosen_each P one actors h (λ j y. IsPassed i j (one i a p) y)
             (λ j b o. passed i j a b p o));

@@ -1,7 +1,7 @@
 -- Each is a lemma on one moment more.
 use Rattle.std.proofs.Common.{◌∷◌, []}
 use Rattle.std.proofs.lemmas.List.Elements.{filter_map-append}
-use Rattle.nm_channels.specs.Moments.{Moment, clock_after, pulled_of}
+use Rattle.nm_channels.specs.Moments.{LogEntry, clock_after, pulled_of}
 use Rattle.nm_channels.proofs.Logs.{sound-push}
 use Rattle.nm_channels.proofs.Arriving.{known-push}
 use Rattle.nm_channels.proofs.Delivering.{history-push}
@@ -21,4 +21,4 @@ pub returns-clause-known : goal.returns-clause-known
 returns-clause-known c = known-push
 
 pub returns-clause-pulled : goal.returns-clause-pulled
-returns-clause-pulled c log m i = filter_map-append (λ (m : Moment). pulled_of i m.cause) log (m ∷ [])
+returns-clause-pulled c log m i = filter_map-append (λ (m : LogEntry). pulled_of i m.cause) log (m ∷ [])

@@ -1,6 +1,6 @@
 use Rattle.std.specs.List.{slice_get}
 use Rattle.nm_check_ranks.specs.Over.{AskedIsOver}
-use Rattle.nm_check_rank.specs.Tabled.{AreTables}
+use Rattle.nm_check_rank.specs.Tabled.{AreRankTables}
 use Rattle.nm_check_ranks.proofs.OverLemmas.{no_send, asked_decided}
 use Rattle.nm_check_ranks.proofs.TableLemmas.{decided_at, none_asked}
 use Rattle.nm_check_ranks.proofs.rest.over.is_asked_over.Goals as goal
@@ -22,7 +22,7 @@ returns-then-j-count c = λ ranks stamp hi tabled placed. rw c.in-Send.is
 
 pub returns-else-j-count : goal.returns-else-j-count
 returns-else-j-count c = λ ranks stamp hi tabled placed. rw c.in-Send.is
-    (decided_at c.are_implied.result (λ rank. AreTables c.in-Send.to tabled.0 rank.events c.index-tables-j.result)
+    (decided_at c.are_implied.result (λ rank. AreRankTables c.in-Send.to tabled.0 rank.events c.index-tables-j.result)
     (λ rank. AskedIsOver c.args.i hi c.in-Send.to rank.events
     (record {
       stamp = stamp;

@@ -5,7 +5,7 @@ use Rattle.std.specs.List.{slice_get}
 use Rattle.nm_history.specs.Quiescence.{is_over}
 use Rattle.nm_lookups.specs.Deciding.{Decides}
 use Rattle.nm_check_ranks.specs.Over.{EagerIsOver}
-use Rattle.nm_check_rank.specs.Tabled.{AreTables}
+use Rattle.nm_check_rank.specs.Tabled.{AreRankTables}
 use Rattle.nm_check_rank.specs.declared.paired.tables.Tables.{Tables}
 use Rattle.nm_check_ranks.proofs.OverLemmas.{no_send}
 use Rattle.nm_check_ranks.proofs.TableLemmas.{decided_at, none_asked}
@@ -29,7 +29,7 @@ returns-then-j-count c = λ ranks stamp hi tabled placed. rw c.in-Send.is
 pub returns-else-j-count : goal.returns-else-j-count
 returns-else-j-count c = λ ranks stamp hi tabled placed. rw c.in-Send.is
     (decided_at c.is_implied.result
-    (λ rank. AreTables c.in-Send.to tabled.0 rank.events
+    (λ rank. AreRankTables c.in-Send.to tabled.0 rank.events
     (get_or c.args.tables.now c.in-Send.to c.index-tables-j.result))
     (λ rank. EagerIsOver c.args.i hi c.in-Send.to rank.events
     (record {

@@ -2,7 +2,7 @@ use Rattle.std.proofs.Common.{◌≡◌, ◌≤◌, length, arith}
 use Rattle.std.specs.List.{slice_get}
 use Rattle.nm_history.specs.Quiescence.{EachRank}
 use Rattle.nm_history.specs.Sends.{arrivals, sends}
-use Rattle.nm_check_rank.specs.Tabled.{AreTables}
+use Rattle.nm_check_rank.specs.Tabled.{AreRankTables}
 use Rattle.nm_check_ranks.proofs.RankLemmas.{all, next, none_yet, one_breaks}
 use Rattle.nm_check_ranks.proofs.TableLemmas.{decided_at}
 use Rattle.nm_check_ranks.proofs.rest.rest.has_all_arrived.Goals as goal
@@ -17,7 +17,7 @@ loop-i-preserved c = λ ranks tabled.
     (c.loop-i.invariant ranks tabled)
     (rw c.if-not-has_arrived_from.false at
     (decided_at c.has_arrived_from.result
-    (λ rank. AreTables c.loop-i.i tabled.0 rank.events c.index-tables-i.result)
+    (λ rank. AreRankTables c.loop-i.i tabled.0 rank.events c.index-tables-i.result)
     (λ a. EachRank (λ j b. length (arrivals b.events c.loop-i.i) ≡ length (sends a.events j)) ranks)
     (slice_get ranks c.loop-i.i)
     (tabled.1.each c.loop-i.i c.index-tables-i.result c.loop-i-test.true c.index-tables-i.is)
@@ -29,7 +29,7 @@ returns-then-not-has_arrived_from c = λ ranks tabled each.
     c.loop-i.i
     (rw c.if-not-has_arrived_from.true at
     (decided_at c.has_arrived_from.result
-    (λ rank. AreTables c.loop-i.i tabled.0 rank.events c.index-tables-i.result)
+    (λ rank. AreRankTables c.loop-i.i tabled.0 rank.events c.index-tables-i.result)
     (λ a. EachRank (λ j b. length (arrivals b.events c.loop-i.i) ≡ length (sends a.events j)) ranks)
     (slice_get ranks c.loop-i.i)
     (tabled.1.each c.loop-i.i c.index-tables-i.result c.loop-i-test.true c.index-tables-i.is)

@@ -1,7 +1,7 @@
 use Rattle.std.proofs.Common.{◌≡◌, ◌≤◌, length, arith}
 use Rattle.std.specs.List.{slice_get}
 use Rattle.nm_history.specs.Sends.{arrivals, sends}
-use Rattle.nm_check_rank.specs.Tabled.{AreTables}
+use Rattle.nm_check_rank.specs.Tabled.{AreRankTables}
 use Rattle.nm_check_ranks.proofs.RankLemmas.{all, next, none_yet, one_breaks}
 use Rattle.nm_check_ranks.proofs.TableLemmas.{decided_at}
 use Rattle.nm_check_ranks.proofs.rest.rest.has_arrived_from.Goals as goal
@@ -15,7 +15,7 @@ loop-j-preserved c = λ ranks hi tabled counted.
     next (λ j rank. length (arrivals rank.events c.args.i) ≡ length (sends hi j)) ranks c.loop-j.j
     (c.loop-j.invariant ranks hi tabled counted)
     (rw c.if-not-has_arrived.false at
-    (decided_at c.has_arrived.result (λ rank. AreTables c.loop-j.j tabled.0 rank.events c.index-tables-j.result)
+    (decided_at c.has_arrived.result (λ rank. AreRankTables c.loop-j.j tabled.0 rank.events c.index-tables-j.result)
     (λ rank. length (arrivals rank.events c.args.i) ≡ length (sends hi c.loop-j.j)) (slice_get ranks c.loop-j.j)
     (tabled.1.each c.loop-j.j c.index-tables-j.result c.loop-j-test.true c.index-tables-j.is)
     (λ rank its. c.has_arrived.ensures hi rank.events counted its.counts)))
@@ -24,7 +24,7 @@ pub returns-then-not-has_arrived : goal.returns-then-not-has_arrived
 returns-then-not-has_arrived c = λ ranks hi tabled counted each.
     one_breaks (λ j rank. length (arrivals rank.events c.args.i) ≡ length (sends hi j)) ranks c.loop-j.j
     (rw c.if-not-has_arrived.true at
-    (decided_at c.has_arrived.result (λ rank. AreTables c.loop-j.j tabled.0 rank.events c.index-tables-j.result)
+    (decided_at c.has_arrived.result (λ rank. AreRankTables c.loop-j.j tabled.0 rank.events c.index-tables-j.result)
     (λ rank. length (arrivals rank.events c.args.i) ≡ length (sends hi c.loop-j.j)) (slice_get ranks c.loop-j.j)
     (tabled.1.each c.loop-j.j c.index-tables-j.result c.loop-j-test.true c.index-tables-j.is)
     (λ rank its. c.has_arrived.ensures hi rank.events counted its.counts))) each

@@ -5,14 +5,14 @@ use Rattle.nm_types.specs.declared.messages.Arrival as arrival
 use Rattle.nm_outcomes.specs.declared.spots.deeds.Message.{Message}
 use Rattle.nm_explored.specs.declared.choices.moves.Move.TheVariants.{Withdraw}
 use Rattle.nm_explored.specs.Successors.{is_withdrawn_next, spot_in}
-use Rattle.nm_explored.specs.Lists.{AddsOnly, Has, Keeps}
+use Rattle.nm_explored.specs.Lists.{AddsOnly, Has, Extends}
 use Rattle.nm_explored.specs.Moves.{IsRecalled}
 use Rattle.nm_explored.proofs.choices.moves.push_withdrawals.Given as goal
 
 abbrev pub invariant-loop-a : goal.invariant-loop-a
 invariant-loop-a l =
     record {
-      kept : Keeps l.fn.turns.items l.turns.items;
+      kept : Extends l.fn.turns.items l.turns.items;
       added : (k : ℕ) → k < l.a-index → (a : arrival.Arrival) → slice_get l.rank.came k ≡ Some a →
           is_withdrawn_next (spot_in l.view.table.now l.view.ids.now) l.i a.env.from a.n ≡ true →
           Has l.turns.items (record { rank = l.i; by = Withdraw (record { rank = a.env.from; n = a.n }) });

@@ -3,7 +3,7 @@ use Rattle.std.proofs.Common.{◌≡◌, ◌⊎◌, List, [], ◌∷◌, ◌++�
 use Rattle.std.specs.List.{slice_get, slice_set}
 use Rattle.nm_types.proofs.OptionLemmas.{same_some}
 use Rattle.nm_outcomes.specs.RankStates.{Spot}
-use Rattle.nm_explored.specs.Lists.{Keeps}
+use Rattle.nm_explored.specs.Lists.{Extends}
 use Rattle.nm_explored.specs.Stores.{StandOnce, Store}
 use Rattle.nm_explored.proofs.MetLemmas.{made_next}
 use Rattle.nm_explored.proofs.searches.Search.follow.Goals as goal
@@ -11,8 +11,8 @@ use Rattle.nm_explored.proofs.searches.Search.follow.Goals as goal
 pub returns-clause-made : goal.returns-clause-made
 returns-clause-made c eager ranks lines made turns =
     made_next eager ranks lines c.args.self.now c.add.new.self c.args.k c.args.turn c.in_ok-id.id c.in-Some.after made
-    (subst (λ (t : List Spot). Keeps c.args.self.now.table t) (sym c.in_ok-add.ensures.table)
-    (subst (λ (t : List Spot). Keeps t c.number.new.self) (ap (λ (s : Store). s.table) c.self.view_is)
+    (subst (λ (t : List Spot). Extends c.args.self.now.table t) (sym c.in_ok-add.ensures.table)
+    (subst (λ (t : List Spot). Extends t c.number.new.self) (ap (λ (s : Store). s.table) c.self.view_is)
     c.in_ok-id.ensures.kept))
     (subst (λ (t : List Spot). StandOnce t) (sym c.in_ok-add.ensures.table) c.in_ok-id.ensures.once)
     (c.in_ok-add.ensures.once

@@ -1,6 +1,6 @@
 use Rattle.std.proofs.Common.{◌<◌, ◌≤◌, ◌++◌, ◌∷◌, [], length, take, refl, sym, subst, arith}
 use Rattle.nm_lookups.specs.declared.pairing.pairings.Tables.{Tables}
-use Rattle.nm_lookups.specs.Pairings.{AreTables}
+use Rattle.nm_lookups.specs.Pairings.{ArePairTables}
 use Rattle.nm_lookups.proofs.WalkLemmas.{new_at, pair_made, pair_place, replayed_all, replayed_more, replayed_none}
 use Rattle.nm_lookups.proofs.WalkLemmas.{tables_none_more}
 use Rattle.nm_lookups.proofs.pairing.pairings.replay_all.Goals as goal
@@ -36,13 +36,13 @@ loop-k-preserved c =
     c.in_ok-pair.field-0 c.look.result c.take.new.self c.match-branch-3.tables c.push.new.self.items takes
     (elim c.match-branch-3.branch [
       | in-Some+in_ok-keep w ↦
-          subst (λ (tables : Tables). AreTables (take c.loop-k.k events ++ e ∷ []) tables) (sym w.tables-is)
+          subst (λ (tables : Tables). ArePairTables (take c.loop-k.k events ++ e ∷ []) tables) (sym w.tables-is)
           (w.in_ok-keep.ensures (take c.loop-k.k events) e known.kept
           (pair_place c.args.rank c.args.lines.now events c.loop-k.k e inside c.index-events-k.is known)
           (pair_made c.args.rank c.args.lines.now events c.loop-k.k e inside c.index-events-k.is known
           c.in_ok-pair.field-0 c.take.new.self takes w.in-Some.pair w.in-Some.is))
       | in_default w ↦
-          subst (λ (tables : Tables). AreTables (take c.loop-k.k events ++ e ∷ []) tables) (sym w.tables-is)
+          subst (λ (tables : Tables). ArePairTables (take c.loop-k.k events ++ e ∷ []) tables) (sym w.tables-is)
           (tables_none_more c.args.rank c.args.lines.now events c.loop-k.k e inside c.index-events-k.is known
           c.in_ok-pair.field-0 c.take.new.self takes w.in_default.is)
     ])

@@ -3,7 +3,7 @@ use Rattle.std.proofs.Common.{◌<◌, ℕ, ◌+◌, sym, ap, subst, ◌∙◌, 
 use Rattle.nm_types.specs.declared.scripts.Line.{Line}
 use Rattle.nm_process.specs.declared.steps.Step.{Step}
 use Rattle.nm_process.specs.declared.steps.Step.TheVariants as step_is
-use Rattle.nm_process.specs.Places.{IsNext, IsPlaceFrom}
+use Rattle.nm_process.specs.Places.{IsNextLine, IsPlaceFrom}
 use Rattle.nm_process.specs.Processes.{ProcessView}
 use Rattle.nm_process.specs.Starts.{HasTried}
 use Rattle.nm_process.proofs.PlaceLemmas.{at_place}
@@ -18,7 +18,7 @@ returns-in-Waits-clause-waits c same fresh shape work =
     let b = c.run_command.new.self in
     let place = c.in-Some.place in
     let l : Line = c.index-lines-place.result in
-    let next : IsNext lines a.rank.me a.next place l = at_place (IsNext lines a.rank.me a.next place)
+    let next : IsNextLine lines a.rank.me a.next place l = at_place (IsNextLine lines a.rank.me a.next place)
     lines place l c.in-Some.ensures.some.0 c.index-lines-place.is c.in-Some.ensures.some.1 in
     let tried : HasTried a b l.command (place + 2) step_is.Waits =
     subst (λ (s : Step). HasTried a b l.command (place + 2) s) c.in-Waits.is
@@ -29,7 +29,7 @@ returns-in-Waits-clause-waits c same fresh shape work =
 pub overflow_add-self : goal.overflow_add-self
 overflow_add-self c =
     let next = ap (λ (v : ProcessView). v.next) c.self-2.view_is in
-    let is = at_place (IsNext c.args.lines.now c.args.self.now.rank.me c.args.self.now.next
+    let is = at_place (IsNextLine c.args.lines.now c.args.self.now.rank.me c.args.self.now.next
     c.in-Some.place) c.args.lines.now c.in-Some.place c.index-lines-place.result
     c.in-Some.ensures.some.0 c.index-lines-place.is c.in-Some.ensures.some.1 in
     let below : c.self-2.inside.at + 1 < 4294967296 =
@@ -47,7 +47,7 @@ overflow_add-self c =
 pub invariant_of-self : goal.invariant_of-self
 invariant_of-self c =
     let next = ap (λ (v : ProcessView). v.next) c.self-2.view_is in
-    let is = at_place (IsNext c.args.lines.now c.args.self.now.rank.me c.args.self.now.next
+    let is = at_place (IsNextLine c.args.lines.now c.args.self.now.rank.me c.args.self.now.next
     c.in-Some.place) c.args.lines.now c.in-Some.place c.index-lines-place.result
     c.in-Some.ensures.some.0 c.index-lines-place.is c.in-Some.ensures.some.1 in
     let i = c.self-2.invariant in (
@@ -73,7 +73,7 @@ returns-clause-stepped c =
     } in
     let place = c.in-Some.place in
     let l : Line = c.index-lines-place.result in
-    let next : IsNext lines a.rank.me a.next place l = at_place (IsNext lines a.rank.me a.next place)
+    let next : IsNextLine lines a.rank.me a.next place l = at_place (IsNextLine lines a.rank.me a.next place)
     lines place l c.in-Some.ensures.some.0 c.index-lines-place.is c.in-Some.ensures.some.1 in
     let at_same = ap (λ (v : ProcessView). v.at) c.self-2.view_is ∙ c.in_ok-step.ensures.places.1 in
     let next_same = ap (λ (v : ProcessView). v.next) c.self-2.view_is ∙ c.in_ok-step.ensures.places.0 in
@@ -104,7 +104,7 @@ returns-clause-work c shape work =
     } in
     let place = c.in-Some.place in
     let l : Line = c.index-lines-place.result in
-    let next : IsNext lines a.rank.me a.next place l = at_place (IsNext lines a.rank.me a.next place)
+    let next : IsNextLine lines a.rank.me a.next place l = at_place (IsNextLine lines a.rank.me a.next place)
     lines place l c.in-Some.ensures.some.0 c.index-lines-place.is c.in-Some.ensures.some.1 in
     let at_same = ap (λ (v : ProcessView). v.at) c.self-2.view_is ∙ c.in_ok-step.ensures.places.1 in
     let next_same = ap (λ (v : ProcessView). v.next) c.self-2.view_is ∙ c.in_ok-step.ensures.places.0 in

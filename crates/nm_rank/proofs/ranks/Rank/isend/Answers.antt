@@ -1,7 +1,7 @@
 use Rattle.std.proofs.Common.{◌≡◌, ℕ, List, ◌+◌, ◌<◌, [], ◌∷◌, length, refl, sym, ◌∙◌, ap, subst}
 use Rattle.std.specs.Prelude.{if◌then◌else◌, map}
 use Rattle.nm_history.specs.declared.events.Happened.TheVariants as event
-use Rattle.nm_sending.specs.Sent.{Keeps}
+use Rattle.nm_sending.specs.Sent.{Preserves}
 use Rattle.nm_types.specs.Bodies.{body_len, bytes_of}
 use Rattle.nm_history.specs.RankRun.{how_of}
 use Rattle.nm_history.specs.Sends.{Sent, is_ask, sends}
@@ -33,7 +33,7 @@ invariant_of-self-2 c =
     c.make_room.ensures.requests c.self.invariant in
     let within : c.args.to < a.shape.ranks =
     subst (λ (v : RankView). c.args.to < v.sizes.ranks) (sym c.self.view_is) c.requires.to in
-    let kept = subst (λ (l : ℕ). Keeps c.make_room.new.sending c.send.new.self
+    let kept = subst (λ (l : ℕ). Preserves c.make_room.new.sending c.send.new.self
     (event.Send c.args.to c.in_ok-n.n c.args.tag c.args.ctx l c.mode-how.result c.args.line ∷ []))
     (sym c.len-len.ensures) (c.in_ok-n.ensures.kept c.args.line) in
     let puts = c.in_ok-n.ensures.puts c.make_room.new.journal.events c.args.line in

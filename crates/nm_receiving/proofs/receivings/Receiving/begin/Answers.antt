@@ -14,7 +14,7 @@ use Rattle.nm_eager.specs.Senders.{Received}
 use Rattle.nm_eager.specs.Streams.{IsStream, Stream, after, continues, missing}
 use Rattle.nm_receiving.specs.declared.receipts.Receipt.{Receipt}
 use Rattle.nm_receiving.specs.declared.receipts.Receive.{Receive}
-use Rattle.nm_receiving.specs.Kept.{IsKept}
+use Rattle.nm_receiving.specs.Kept.{ReceivingInvariant}
 use Rattle.nm_receiving.specs.Receipts.{AddsBytes, ReceivingView, of_eager, receipts_from, stream_of}
 use Rattle.nm_receiving.specs.Received.{TakesPacket}
 use Rattle.nm_receiving.specs.Seen.{seen}
@@ -168,7 +168,7 @@ view_is c =
 
 pub invariant_of-self-2 : goal.invariant_of-self-2
 invariant_of-self-2 c =
-    subst (λ (w : ReceivingView). IsKept w) (view_is c)
+    subst (λ (w : ReceivingView). ReceivingInvariant w) (view_is c)
     (kept-head (seen c.self.inside) c.self.invariant c.args.p.now c.args.tag c.args.ctx c.args.len c.requires.head
     (sender_of c) (goes_of c) (right_of c)
     (taker_post c) refl)

@@ -7,7 +7,7 @@ use Rattle.nm_match.proofs.StandsLemmas.{paired-stands}
 use Rattle.std.proofs.Common.{not}
 use Rattle.nm_receiving.specs.declared.receipts.Receive.{Receive}
 use Rattle.nm_receiving.specs.Receipts.{ReceivingView}
-use Rattle.nm_receiving.specs.Received.{AreReceived, Keeps}
+use Rattle.nm_receiving.specs.Received.{AreReceived, Preserves}
 use Rattle.nm_receiving.specs.Seen.{seen}
 use Rattle.nm_receiving.proofs.Cancelling.{has_cancelled}
 use Rattle.nm_receiving.proofs.Goings.{keeps-cancel_done, keeps-cancel_late, kept-cancel_done, receive_known}
@@ -44,14 +44,14 @@ returns-then-done-clause-kept c =
       deeds = c.cancel-done.new.self;
       receives = set xs c.args.number (has_cancelled c.index_mut.result.now);
     } in
-    subst (λ (v : ReceivingView). Keeps v v' (Cancel c.args.number c.cancel-done.result ∷ [])) c.self.view_is
+    subst (λ (v : ReceivingView). Preserves v v' (Cancel c.args.number c.cancel-done.result ∷ [])) c.self.view_is
     (keeps-cancel_done (seen c.self.inside) c.args.number c.index_mut.result.now
     (slice_get_read xs (length xs) c.args.number c.index_mut.result.now refl below c.index_mut.ensures.value)
     c.cancel-done.new.self c.cancel-done.result c.if-done.true c.cancel-done.ensures.late c.cancel-done.ensures.deeds)
 
 pub returns-else-done-clause-kept : goal.returns-else-done-clause-kept
 returns-else-done-clause-kept c =
-    subst (λ (v : ReceivingView). Keeps v (record (seen c.self.inside) { deeds = c.cancel-done.new.self })
+    subst (λ (v : ReceivingView). Preserves v (record (seen c.self.inside) { deeds = c.cancel-done.new.self })
     (Cancel c.args.number c.cancel-done.result ∷ []))
     c.self.view_is
     (keeps-cancel_late (seen c.self.inside) c.args.number c.cancel-done.new.self c.cancel-done.result c.if-done.false

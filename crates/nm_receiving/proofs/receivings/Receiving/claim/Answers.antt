@@ -7,7 +7,7 @@ use Rattle.nm_history.specs.Matching.{first_message, matched_pairs}
 use Rattle.nm_match.specs.Deeds.{history_of}
 use Rattle.nm_match.proofs.StandsLemmas.{first_message-stands}
 use Rattle.nm_receiving.specs.Receipts.{ReceivingView}
-use Rattle.nm_receiving.specs.Received.{AreReceived, Keeps}
+use Rattle.nm_receiving.specs.Received.{AreReceived, Preserves}
 use Rattle.nm_receiving.specs.Seen.{seen}
 use Rattle.nm_receiving.proofs.Goings.{claimed-keeps, kept-claimed}
 use Rattle.nm_receiving.proofs.Results.{ok_along}
@@ -35,7 +35,7 @@ pub returns-clause-kept : goal.returns-clause-kept
 returns-clause-kept c =
     subst (λ (v : ReceivingView). IfOk c.claim.result
     (λ t. MatchOption t (with_deeds (seen c.self.inside) c.claim.new.self ≡ v)
-    (λ a. (line : ℕ) → Keeps v (with_deeds (seen c.self.inside) c.claim.new.self) (Claim a.env.from a.n line ∷ []))))
+    (λ a. (line : ℕ) → Preserves v (with_deeds (seen c.self.inside) c.claim.new.self) (Claim a.env.from a.n line ∷ []))))
     c.self.view_is
     (claimed-keeps (seen c.self.inside) c.claim.new.self c.args.from c.args.tag c.args.ctx c.claim.result
     c.claim.ensures.ok c.claim.ensures.oldest)

@@ -8,9 +8,9 @@ use Rattle.nm_types.specs.declared.packets.Piece.{Piece}
 use Rattle.nm_history.specs.Bytes.{pulled_bytes}
 use Rattle.nm_history.specs.Pieces.{Due, due_pieces, is_due, piece_makes}
 use Rattle.std.specs.List.{slice_get}
-use Rattle.nm_receiving.specs.Kept.{IsKept}
+use Rattle.nm_receiving.specs.Kept.{ReceivingInvariant}
 use Rattle.nm_receiving.specs.Receipts.{AddsBytes, ReceivingView, drawn_from, of_asked}
-use Rattle.nm_receiving.specs.Received.{AreReceived, Keeps}
+use Rattle.nm_receiving.specs.Received.{AreReceived, Preserves}
 use Rattle.nm_receiving.specs.Seen.{seen}
 use Rattle.nm_receiving.proofs.CameLemmas.{stray-came}
 use Rattle.nm_receiving.proofs.Drawing.{bytes-draw, continued_at, drawn_is, drawn_view, due_at, ends_is}
@@ -95,7 +95,7 @@ view_is c =
 
 pub invariant_of-self-2 : goal.invariant_of-self-2
 invariant_of-self-2 c =
-    subst (λ (w : ReceivingView). IsKept w) (view_is c)
+    subst (λ (w : ReceivingView). ReceivingInvariant w) (view_is c)
     (kept-draw (seen c.self.inside) c.self.invariant c.self.inside.grants c.args.p.now refl
     (c.fits.ensures.0 c.if-not-fits.false) (sender_of c)
     c.in_ok-joined.joined c.event-event.result c.in_ok-joined.ensures.joined
@@ -121,8 +121,8 @@ returns-clause-event c = λ h received.
 
 pub returns-clause-kept : goal.returns-clause-kept
 returns-clause-kept c =
-    subst (λ (u : ReceivingView). Keeps u (after_view c) (option_to_list c.event-event.result)) c.self.view_is
-    (subst (λ (w : ReceivingView). Keeps (seen c.self.inside) w (option_to_list c.event-event.result)) (view_is c)
+    subst (λ (u : ReceivingView). Preserves u (after_view c) (option_to_list c.event-event.result)) c.self.view_is
+    (subst (λ (w : ReceivingView). Preserves (seen c.self.inside) w (option_to_list c.event-event.result)) (view_is c)
     (keeps-draw (seen c.self.inside) c.self.invariant c.self.inside.grants c.args.p.now refl
     (c.fits.ensures.0 c.if-not-fits.false) (sender_of c)
     c.in_ok-joined.joined c.event-event.result c.in_ok-joined.ensures.joined

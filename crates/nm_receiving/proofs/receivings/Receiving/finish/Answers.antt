@@ -18,7 +18,7 @@ use Rattle.nm_eager.specs.Senders.{Received}
 use Rattle.nm_eager.specs.Streams.{Stream, missing, without}
 use Rattle.nm_receiving.specs.declared.receipts.Receipt.{Receipt}
 use Rattle.nm_receiving.specs.declared.receipts.Receive.{Receive}
-use Rattle.nm_receiving.specs.Kept.{IsKept}
+use Rattle.nm_receiving.specs.Kept.{ReceivingInvariant}
 use Rattle.nm_receiving.specs.Receipts.{ReceivingView, SameOtherBytes, ShowsBytes, granted_to, pair_at}
 use Rattle.nm_receiving.specs.Receipts.{stream_of}
 use Rattle.nm_receiving.specs.Received.{AreReceived}
@@ -182,8 +182,8 @@ module _ (c : goal.After-shown) where
     drawn = v.drawn;
   }
 
-  kept_after : IsKept (done c.index_mut-2.result.now)
-  kept_after = subst (λ (r : Receive). IsKept (done r)) again
+  kept_after : ReceivingInvariant (done c.index_mut-2.result.now)
+  kept_after = subst (λ (r : Receive). ReceivingInvariant (done r)) again
       (kept-finished v c.self.invariant number r here live a c.in_ok-a.was c.get.result c.get.ensures whole sender left
       c.take_bytes-bytes.new.joiner.sizes (streams_of c.take_bytes-bytes.new.joiner)
       c.take_bytes-bytes.new.grants.grants

@@ -5,7 +5,7 @@ use Rattle.nm_types.specs.declared.packets.Packet.{Packet}
 use Rattle.nm_types.specs.declared.packets.What.{What}
 use Rattle.nm_eager.specs.Senders.{Received}
 use Rattle.nm_eager.specs.Streams.{IsStream, Stream, after, continues, is_eager, missing}
-use Rattle.nm_receiving.specs.Kept.{IsKept}
+use Rattle.nm_receiving.specs.Kept.{ReceivingInvariant}
 use Rattle.nm_receiving.specs.Receipts.{AddsBytes, ReceivingView, of_eager, stream_of}
 use Rattle.nm_receiving.specs.Received.{TakesPacket}
 use Rattle.nm_receiving.specs.Seen.{seen}
@@ -109,7 +109,7 @@ view_is c =
 
 pub invariant_of-self-2 : goal.invariant_of-self-2
 invariant_of-self-2 c =
-    subst (λ (w : ReceivingView). IsKept w) (view_is c)
+    subst (λ (w : ReceivingView). ReceivingInvariant w) (view_is c)
     (kept-more (seen c.self.inside) c.self.invariant c.args.p.now c.args.n c.requires.more (sender_of c) (goes_of c)
     (right_of c))
 

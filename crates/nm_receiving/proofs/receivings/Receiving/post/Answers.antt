@@ -5,9 +5,9 @@ use Rattle.nm_history.specs.declared.events.Happened.TheVariants as event
 use Rattle.nm_match.specs.declared.deeds.Deed.TheVariants as deed
 use Rattle.nm_match.proofs.StandsLemmas.{first_message-stands}
 use Rattle.nm_receiving.specs.declared.receipts.Receive.{Receive}
-use Rattle.nm_receiving.specs.Kept.{IsKept}
+use Rattle.nm_receiving.specs.Kept.{ReceivingInvariant}
 use Rattle.nm_receiving.specs.Receipts.{ReceivingView, SameBytes, taken_events}
-use Rattle.nm_receiving.specs.Received.{AreReceived, Keeps}
+use Rattle.nm_receiving.specs.Received.{AreReceived, Preserves}
 use Rattle.nm_receiving.specs.Seen.{seen}
 use Rattle.nm_receiving.specs.Steps.{grants_with}
 use Rattle.nm_receiving.proofs.CameLemmas.{same-granted}
@@ -91,7 +91,7 @@ invariant_of-self-2 c =
     c.grant_taken.ensures.receipts
     (c.push_reserved.ensures.items ∙ ap (λ (rs : List Receive). rs ++ c.new.result ∷ []) c.reserve.ensures.items
     ∙ ap (λ (r : Receive). a.receives.items ++ r ∷ []) c.new.ensures) in
-    subst (λ (v : ReceivingView). IsKept v) same
+    subst (λ (v : ReceivingView). ReceivingInvariant v) same
     (kept-begun v c.self.invariant (event.Post p 0) (deed.Post p) c.len-number.result c.args.cap
     (record {
       posted = λ q is. let is_p : p ≡ q = cc in
@@ -154,8 +154,8 @@ returns-clause-kept c = λ line.
       receipts = c.grant_taken.new.receipts.rows;
       receives = c.push_reserved.new.self.items;
     } in
-    subst (λ (w : ReceivingView). Keeps w v' (event.Post p line ∷ taken_events taken)) c.self.view_is
-    (subst (λ (w : ReceivingView). Keeps v w (event.Post p line ∷ taken_events taken)) same keeps)
+    subst (λ (w : ReceivingView). Preserves w v' (event.Post p line ∷ taken_events taken)) c.self.view_is
+    (subst (λ (w : ReceivingView). Preserves v w (event.Post p line ∷ taken_events taken)) same keeps)
 
 pub returns-clause-bytes : goal.returns-clause-bytes
 returns-clause-bytes c =

@@ -6,9 +6,9 @@ use Rattle.nm_history.specs.declared.events.Happened.TheVariants as event
 use Rattle.nm_match.specs.declared.deeds.Deed.TheVariants as deed
 use Rattle.nm_match.proofs.StandsLemmas.{is_claimed-stands}
 use Rattle.nm_receiving.specs.declared.receipts.Receive.{Receive}
-use Rattle.nm_receiving.specs.Kept.{IsKept}
+use Rattle.nm_receiving.specs.Kept.{ReceivingInvariant}
 use Rattle.nm_receiving.specs.Receipts.{ReceivingView, SameBytes, taken_events}
-use Rattle.nm_receiving.specs.Received.{AreReceived, Keeps}
+use Rattle.nm_receiving.specs.Received.{AreReceived, Preserves}
 use Rattle.nm_receiving.specs.Seen.{seen}
 use Rattle.nm_receiving.specs.Steps.{grants_with}
 use Rattle.nm_receiving.proofs.CameLemmas.{same-granted}
@@ -84,7 +84,7 @@ invariant_of-self-2 c =
     c.grant_taken.ensures.receipts
     (c.push_reserved.ensures.items ∙ ap (λ (rs : List Receive). rs ++ c.new.result ∷ []) c.reserve.ensures.items
     ∙ ap (λ (r : Receive). a.receives.items ++ r ∷ []) c.new.ensures) in
-    subst (λ (v : ReceivingView). IsKept v) same
+    subst (λ (v : ReceivingView). ReceivingInvariant v) same
     (kept-begun v c.self.invariant (event.Match number c.args.from c.args.n c.args.cap 0)
     (deed.Match number c.args.from c.args.n) number c.args.cap
     (record { posted = λ q is. absurd (let h : ⊥ = cc in h); in_time = λ _ _. refl })
@@ -129,8 +129,8 @@ returns-clause-kept c = λ line.
       receipts = c.grant_taken.new.receipts.rows;
       receives = c.push_reserved.new.self.items;
     } in
-    subst (λ (u : ReceivingView). Keeps u v' (w ∷ taken_events taken)) c.self.view_is
-    (subst (λ (u : ReceivingView). Keeps v u (w ∷ taken_events taken)) same keeps)
+    subst (λ (u : ReceivingView). Preserves u v' (w ∷ taken_events taken)) c.self.view_is
+    (subst (λ (u : ReceivingView). Preserves v u (w ∷ taken_events taken)) same keeps)
 
 pub returns-clause-bytes : goal.returns-clause-bytes
 returns-clause-bytes c =

@@ -9,8 +9,8 @@ use Rattle.nm_rndv.specs.declared.asked.State.{State}
 use Rattle.nm_rndv.specs.Offers.{is_waiting}
 use Rattle.nm_sending.specs.contracts.sendings.Sending.{the_view}
 use Rattle.nm_sending.specs.Departures.{SendingView}
-use Rattle.nm_sending.specs.Sent.{AreSent, Keeps, MayBeCleared}
-use Rattle.nm_sending.specs.Tables.{AreTables}
+use Rattle.nm_sending.specs.Sent.{AreSent, Preserves, MayBeCleared}
+use Rattle.nm_sending.specs.Tables.{TablesAgree}
 use Rattle.nm_sending.proofs.ClearLemmas.{asks, after-clear, at_once, clear_empty, cleared_view}
 use Rattle.nm_sending.proofs.ClearLemmas.{full-tables, full-kept, empty-tables, empty-kept, empty-counted}
 use Rattle.nm_sending.proofs.TableLemmas.{rows_now, same_departure}
@@ -90,7 +90,7 @@ invariant_of-self c =
     (same_departure (sym c.get.ensures ∙ c.unwrap-departure.ensures) ask.there) in
     let more = empty-counted a.me a.ranks (the_view a) c.self.invariant c.args.to c.args.n
     (omega (arith, to, c.self.invariant.letters)) ask c.set.new.self.rows (a.staying - 1) empty rows in
-    cleared_view (λ (v : SendingView). AreTables a.me a.ranks v) (the_view a) c.args.to c.args.n
+    cleared_view (λ (v : SendingView). TablesAgree a.me a.ranks v) (the_view a) c.args.to c.args.n
     c.set.new.self.rows (a.staying - 1) c.cleared-is_out.new.self c.cleared-is_out.ensures.cleared
     (empty-tables a.me a.ranks (the_view a) c.self.invariant c.args.to c.args.n
     (omega (arith, to, c.self.invariant.letters)) ask c.set.new.self.rows (a.staying - 1) empty rows
@@ -107,7 +107,7 @@ invariant_of-self-else-is_out c =
     let full = at_once (the_view a) c.args.to c.args.n ask c.cleared-is_out.result
     c.cleared-is_out.ensures.empty
     ∙ c.if-is_out.false in
-    cleared_view (λ (v : SendingView). AreTables a.me a.ranks v) (the_view a) c.args.to c.args.n
+    cleared_view (λ (v : SendingView). TablesAgree a.me a.ranks v) (the_view a) c.args.to c.args.n
     a.departures.rows a.staying c.cleared-is_out.new.self c.cleared-is_out.ensures.cleared
     (full-tables a.me a.ranks (the_view a) c.self.invariant c.args.to c.args.n
     (omega (arith, to, c.self.invariant.letters)) ask a.departures.rows a.staying full refl refl)
@@ -143,10 +143,10 @@ returns-then-is_out-clause-kept c =
     let new = after-clear a.me a.ranks (the_view a) c.self.invariant c.args.to c.args.n
     (omega (arith, to, c.self.invariant.letters)) ask c.set.new.self.rows (a.staying - 1) in
     rw c.if-is_out.true
-    (cleared_view (λ (v : SendingView). Keeps c.args.self.now v (Out c.args.to c.args.n ∷ [])) (the_view a)
+    (cleared_view (λ (v : SendingView). Preserves c.args.self.now v (Out c.args.to c.args.n ∷ [])) (the_view a)
     c.args.to c.args.n c.set.new.self.rows (a.staying - 1) c.cleared-is_out.new.self
     c.cleared-is_out.ensures.cleared
-    (subst (λ (v : SendingView). Keeps v new (Out c.args.to c.args.n ∷ [])) c.self.view_is
+    (subst (λ (v : SendingView). Preserves v new (Out c.args.to c.args.n ∷ [])) c.self.view_is
     (empty-kept a.me a.ranks (the_view a) c.self.invariant c.args.to c.args.n
     (omega (arith, to, c.self.invariant.letters)) ask c.set.new.self.rows (a.staying - 1) empty rows)))
 
@@ -198,8 +198,8 @@ returns-else-is_out-clause-kept c =
     let new = after-clear a.me a.ranks (the_view a) c.self.invariant c.args.to c.args.n
     (omega (arith, to, c.self.invariant.letters)) ask a.departures.rows a.staying in
     rw c.if-is_out.false
-    (cleared_view (λ (v : SendingView). Keeps c.args.self.now v []) (the_view a)
+    (cleared_view (λ (v : SendingView). Preserves c.args.self.now v []) (the_view a)
     c.args.to c.args.n a.departures.rows a.staying c.cleared-is_out.new.self c.cleared-is_out.ensures.cleared
-    (subst (λ (v : SendingView). Keeps v new []) c.self.view_is
+    (subst (λ (v : SendingView). Preserves v new []) c.self.view_is
     (full-kept a.me a.ranks (the_view a) c.self.invariant c.args.to c.args.n
     (omega (arith, to, c.self.invariant.letters)) ask a.departures.rows a.staying full refl)))

@@ -11,7 +11,7 @@ use Rattle.nm_sending.specs.Outboxes.{OutboxView}
 use Rattle.nm_sending.specs.contracts.sendings.Sending.{the_view}
 use Rattle.nm_sending.specs.declared.departures.Departure.{Departure}
 use Rattle.nm_sending.specs.Departures.{SendingView, with_departure}
-use Rattle.nm_sending.specs.Sent.{AreSent, Keeps}
+use Rattle.nm_sending.specs.Sent.{AreSent, Preserves}
 use Rattle.nm_sending.proofs.FrontLemmas.{first, front-eager, ended_there, front-tables, front-kept, front-counted}
 use Rattle.nm_sending.proofs.SentLemmas.{keeps-none, sent-outbox}
 use Rattle.nm_sending.proofs.TableLemmas.{row_there}
@@ -22,7 +22,7 @@ returns-in_err-n-clause-kept c =
     let old = the_view c.self.inside in
     let new : SendingView = record old { outbox = c.pop_front-letter.new.self } in
     rw c.from_residual.ensures
-    (subst (λ (v : SendingView). Keeps v new []) c.self.view_is
+    (subst (λ (v : SendingView). Preserves v new []) c.self.view_is
     (keeps-none old new (λ h was. sent-outbox old c.pop_front-letter.new.self h was)))
 
 pub get-requires : goal.get-requires
@@ -87,7 +87,7 @@ returns-clause-kept c =
       departures = c.set.new.self.rows;
       staying = a.staying - 1;
     } in
-    subst (λ (v : SendingView). Keeps v new (Out c.pop_front-letter.result.to c.in_ok-n.n ∷ []))
+    subst (λ (v : SendingView). Preserves v new (Out c.pop_front-letter.result.to c.in_ok-n.n ∷ []))
     c.self.view_is
     (front-kept a.me a.ranks (the_view a) c.self.invariant c.pop_front-letter.result
     c.pop_front-letter.new.self.letters c.pop_front-letter.ensures.first c.in_ok-n.n c.in_ok-n.was

@@ -8,8 +8,8 @@ use Rattle.nm_rndv.specs.Offers.{first_leaving, next_offered, with_popped}
 use Rattle.nm_rndv.proofs.Results.{is_there}
 use Rattle.nm_sending.specs.contracts.sendings.Sending.{the_view}
 use Rattle.nm_sending.specs.Departures.{SendingView}
-use Rattle.nm_sending.specs.Sent.{Keeps}
-use Rattle.nm_sending.specs.Tables.{AreTables}
+use Rattle.nm_sending.specs.Sent.{Preserves}
+use Rattle.nm_sending.specs.Tables.{TablesAgree}
 use Rattle.nm_sending.proofs.LeavingLemmas.{turn_next}
 use Rattle.nm_sending.proofs.PopLemmas.{goes_on, last_of, message_to, count_raised, popped_view}
 use Rattle.nm_sending.proofs.PopLemmas.{more-tables, more-kept, last-tables, last-kept, last-counted}
@@ -32,7 +32,7 @@ invariant_of-self c =
     c.in_err-to.was in
     let to = message_to a.offers c.front.result c.unwrap-to.result goes.to goes.n c.unwrap-to.ensures
     c.front.ensures.first goes.first in
-    popped_view (λ (v : SendingView). AreTables a.me a.ranks v) (the_view a) goes.to goes.n a.departures.rows
+    popped_view (λ (v : SendingView). TablesAgree a.me a.ranks v) (the_view a) goes.to goes.n a.departures.rows
     a.staying c.pop_piece.new.self _ (is_there (λ m. c.pop_piece.new.self ≡ with_popped a.offers m) goes.first
     c.pop_piece.ensures.popped)
     (count_raised a.pushed.items c.unwrap-to.result.0 c.index_mut.result.now goes.to to
@@ -52,13 +52,13 @@ returns-in_err-to-clause-kept c =
     let new = after a.me a.ranks (the_view a) c.self.invariant goes.to goes.n goes.first goes.lead goes.within
     a.departures.rows a.staying in
     rw c.from_residual.ensures
-    (popped_view (λ (v : SendingView). Keeps c.args.self.now v [])
+    (popped_view (λ (v : SendingView). Preserves c.args.self.now v [])
     (the_view a) goes.to goes.n a.departures.rows
     a.staying c.pop_piece.new.self _ (is_there (λ m. c.pop_piece.new.self ≡ with_popped a.offers m) goes.first
     c.pop_piece.ensures.popped)
     (count_raised a.pushed.items c.unwrap-to.result.0 c.index_mut.result.now goes.to to
     (omega (arith, to, goes.within, c.self.invariant.counts)) c.index_mut.ensures.value)
-    (subst (λ (v : SendingView). Keeps v new []) c.self.view_is
+    (subst (λ (v : SendingView). Preserves v new []) c.self.view_is
     (more-kept a.me a.ranks (the_view a) c.self.invariant goes.to goes.n goes.first goes.lead goes.within
     a.departures.rows a.staying goes.rest goes.more refl)))
 
@@ -116,7 +116,7 @@ invariant_of-self-2 c =
     last.lead last.within c.set.new.self.rows (a.staying - 1) last.none rows in
     let to = message_to a.offers c.front.result c.unwrap-to.result c.in_ok-to.to c.in_ok-to.n
     c.unwrap-to.ensures c.front.ensures.first last.first in
-    popped_view (λ (v : SendingView). AreTables a.me a.ranks v) (the_view a) c.in_ok-to.to c.in_ok-to.n
+    popped_view (λ (v : SendingView). TablesAgree a.me a.ranks v) (the_view a) c.in_ok-to.to c.in_ok-to.n
     c.set.new.self.rows (a.staying - 1) c.pop_piece.new.self _
     (is_there (λ m. c.pop_piece.new.self ≡ with_popped a.offers m) last.first c.pop_piece.ensures.popped)
     (count_raised a.pushed.items c.unwrap-to.result.0 c.index_mut.result.now c.in_ok-to.to to
@@ -139,13 +139,13 @@ returns-clause-kept c =
     c.unwrap-to.ensures c.front.ensures.first last.first in
     let new = after a.me a.ranks (the_view a) c.self.invariant c.in_ok-to.to c.in_ok-to.n last.first last.lead
     last.within c.set.new.self.rows (a.staying - 1) in
-    popped_view (λ (v : SendingView). Keeps c.args.self.now v (Out c.in_ok-to.to c.in_ok-to.n ∷ []))
+    popped_view (λ (v : SendingView). Preserves c.args.self.now v (Out c.in_ok-to.to c.in_ok-to.n ∷ []))
     (the_view a)
     c.in_ok-to.to c.in_ok-to.n c.set.new.self.rows (a.staying - 1) c.pop_piece.new.self _
     (is_there (λ m. c.pop_piece.new.self ≡ with_popped a.offers m) last.first c.pop_piece.ensures.popped)
     (count_raised a.pushed.items c.unwrap-to.result.0 c.index_mut.result.now c.in_ok-to.to to
     (omega (arith, to, last.within, c.self.invariant.counts)) c.index_mut.ensures.value)
-    (subst (λ (v : SendingView). Keeps v new (Out c.in_ok-to.to c.in_ok-to.n ∷ [])) c.self.view_is
+    (subst (λ (v : SendingView). Preserves v new (Out c.in_ok-to.to c.in_ok-to.n ∷ [])) c.self.view_is
     (last-kept a.me a.ranks (the_view a) c.self.invariant c.in_ok-to.to c.in_ok-to.n last.first last.lead
     last.within c.set.new.self.rows (a.staying - 1) last.none rows))
 

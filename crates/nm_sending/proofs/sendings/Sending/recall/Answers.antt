@@ -9,9 +9,9 @@ use Rattle.nm_rndv.specs.Offers.{Offering, destined, with_destined, with_recall}
 use Rattle.nm_sending.specs.Outboxes.{OutboxView, put_to}
 use Rattle.nm_sending.specs.contracts.sendings.Sending.{the_view}
 use Rattle.nm_sending.specs.Departures.{SendingView, ends_to}
-use Rattle.nm_sending.specs.Sent.{Keeps, Puts, MayBeRecalled, only_to}
+use Rattle.nm_sending.specs.Sent.{Preserves, Puts, MayBeRecalled, only_to}
 use Rattle.nm_types.specs.declared.packets.What.TheVariants as what
-use Rattle.nm_sending.specs.Tables.{AreTables}
+use Rattle.nm_sending.specs.Tables.{TablesAgree}
 use Rattle.nm_sending.proofs.PutLemmas.{puts-reserved}
 use Rattle.nm_sending.proofs.RecallLemmas.{unrecalled, no_recall, after-recall}
 use Rattle.nm_sending.proofs.RecallLemmas.{recall-tables, recall-kept}
@@ -70,7 +70,7 @@ invariant_of-self-2 c =
     (same_departure (sym c.get.ensures ∙ c.unwrap-departure.ensures) un.there) in
     let puts = c.put_bare.ensures.puts 0 (omega arith) in
     let same = c.reserve.ensures.same in
-    subst (λ (o : Offering). AreTables a.me a.ranks
+    subst (λ (o : Offering). TablesAgree a.me a.ranks
     (record (the_view a) {
       outbox = c.put_bare.new.outbox;
       offers = o;
@@ -105,14 +105,14 @@ returns-clause-kept c =
     (same_departure (sym c.get.ensures ∙ c.unwrap-departure.ensures) un.there) in
     let new = after-recall a.me a.ranks (the_view a) c.self.invariant c.args.to c.args.n
     (omega (arith, to, c.self.invariant.letters)) un c.put_bare.new.outbox c.set.new.self.rows rows in
-    subst (λ (o : Offering). Keeps c.args.self.now
+    subst (λ (o : Offering). Preserves c.args.self.now
     (record (the_view a) {
       outbox = c.put_bare.new.outbox;
       offers = o;
       departures = c.set.new.self.rows;
     }) (Recall c.args.to c.args.n ∷ []))
     (sym c.in_ok-withdraw.ensures.ok)
-    (subst (λ (v : SendingView). Keeps v new (Recall c.args.to c.args.n ∷ [])) c.self.view_is
+    (subst (λ (v : SendingView). Preserves v new (Recall c.args.to c.args.n ∷ [])) c.self.view_is
     (recall-kept a.me a.ranks (the_view a) c.self.invariant c.args.to c.args.n
     (omega (arith, to, c.self.invariant.letters)) un c.put_bare.new.outbox c.set.new.self.rows rows))
 

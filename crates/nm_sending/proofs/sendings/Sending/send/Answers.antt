@@ -13,8 +13,8 @@ use Rattle.nm_sending.specs.contracts.sendings.Sending.{the_view}
 use Rattle.nm_sending.specs.declared.TheConstants.{MAX_MESSAGES}
 use Rattle.nm_sending.specs.declared.departures.Departure.{Departure}
 use Rattle.nm_sending.specs.Departures.{SendingView, departures_to, fresh, row_of}
-use Rattle.nm_sending.specs.Sent.{Keeps, Puts}
-use Rattle.nm_sending.specs.Tables.{AreTables}
+use Rattle.nm_sending.specs.Sent.{Preserves, Puts}
+use Rattle.nm_sending.specs.Tables.{TablesAgree}
 use Rattle.nm_sending.proofs.SendLemmas.{after-send, send-tables, send-kept}
 use Rattle.nm_sending.proofs.sendings.Sending.send.Goals as goal
 
@@ -42,7 +42,7 @@ invariant_of-self-2 c =
     c.args.how (body_len c.args.body) c.new.result c.reserve.ensures.rows c.push.ensures c.new.ensures
     c.len-len.ensures in
     let puts = c.in_ok-put_message.ensures.puts [] 0 in
-    subst (λ (o : Offering). AreTables a.me a.ranks
+    subst (λ (o : Offering). TablesAgree a.me a.ranks
     (record {
       outbox = c.put_message.new.outbox;
       offers = o;
@@ -85,7 +85,7 @@ returns-clause-kept c =
     λ line.
     let ws = Send c.args.to c.count-n.result c.args.tag c.args.ctx
     (body_len c.args.body) c.args.how line ∷ [] in
-    subst (λ (o : Offering). Keeps c.args.self.now
+    subst (λ (o : Offering). Preserves c.args.self.now
     (record {
       outbox = c.put_message.new.outbox;
       offers = o;
@@ -94,7 +94,7 @@ returns-clause-kept c =
       staying = a.staying + 1;
     }) ws)
     (sym c.in_ok-put_message.ensures.asked)
-    (subst (λ (v : SendingView). Keeps v new ws) c.self.view_is
+    (subst (λ (v : SendingView). Preserves v new ws) c.self.view_is
     (send-kept a.me a.ranks (the_view a) c.self.invariant c.args.to c.count-n.result
     within c.count-n.ensures few
     c.args.how c.args.body (fits (is_ask c.args.how) (body_len c.args.body) c.requires.short)

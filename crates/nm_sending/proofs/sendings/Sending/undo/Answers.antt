@@ -5,8 +5,8 @@ use Rattle.nm_history.specs.declared.events.Happened.TheVariants.{Undone}
 use Rattle.nm_rndv.specs.Offers.{Offering}
 use Rattle.nm_sending.specs.contracts.sendings.Sending.{the_view}
 use Rattle.nm_sending.specs.Departures.{SendingView}
-use Rattle.nm_sending.specs.Sent.{Keeps, MayBeAnswered}
-use Rattle.nm_sending.specs.Tables.{AreTables}
+use Rattle.nm_sending.specs.Sent.{Preserves, MayBeAnswered}
+use Rattle.nm_sending.specs.Tables.{TablesAgree}
 use Rattle.nm_sending.proofs.TableLemmas.{rows_with, same_departure}
 use Rattle.nm_sending.proofs.UndoLemmas.{is_recall_open, is_open, not_cleared, after-undo}
 use Rattle.nm_sending.proofs.UndoLemmas.{undo-tables, undo-kept}
@@ -68,7 +68,7 @@ invariant_of-self c =
     let rows = rows_with (λ x. record x { undone = Some c.args.done }) c.set.new.self.rows a.departures.rows
     c.args.to c.args.n c.unwrap-departure.result c.answered.result open'.departure c.set.ensures
     c.answered.ensures (same_departure (sym c.get.ensures ∙ c.unwrap-departure.ensures) open'.there) in
-    subst (λ (o : Offering). AreTables a.me a.ranks
+    subst (λ (o : Offering). TablesAgree a.me a.ranks
     (record (the_view a) { offers = o; departures = c.set.new.self.rows })) (sym c.withdrawn.ensures)
     (undo-tables a.me a.ranks (the_view a) c.self.invariant c.args.to c.args.n
     (omega (arith, to, c.self.invariant.letters)) c.args.done open' c.set.new.self.rows rows)
@@ -87,8 +87,8 @@ returns-clause-kept c =
     let new = after-undo a.me a.ranks (the_view a) c.self.invariant c.args.to c.args.n
     (omega (arith, to, c.self.invariant.letters)) c.args.done open' c.set.new.self.rows rows in
     let ws = Undone c.args.to c.args.n c.args.done ∷ [] in
-    subst (λ (o : Offering). Keeps c.args.self.now
+    subst (λ (o : Offering). Preserves c.args.self.now
     (record (the_view a) { offers = o; departures = c.set.new.self.rows }) ws) (sym c.withdrawn.ensures)
-    (subst (λ (v : SendingView). Keeps v new ws) c.self.view_is
+    (subst (λ (v : SendingView). Preserves v new ws) c.self.view_is
     (undo-kept a.me a.ranks (the_view a) c.self.invariant c.args.to c.args.n
     (omega (arith, to, c.self.invariant.letters)) c.args.done open' c.set.new.self.rows rows))

@@ -5,7 +5,7 @@ use Rattle.nm_cells.specs.declared.port.Fabric.{Fabric}
 use Rattle.nm_copyring.specs.declared.port.Rings.{Rings}
 use Rattle.nm_rank.specs.Ranks.{IsFresh}
 use Rattle.nm_process.specs.Processes.{ProcessView}
-use Rattle.nm_world.specs.Actors.{Kept, Setting, Stands, did}
+use Rattle.nm_world.specs.Actors.{Continues, Environment, ActorInvariant, did}
 use Rattle.nm_world.proofs.Did.{kept_and}
 use Rattle.nm_world.proofs.Turn.{turn_idle, turn_looked}
 use Rattle.nm_world.proofs.actors.Actor.move_all.Goals as goal
@@ -13,42 +13,42 @@ use Rattle.nm_types.proofs.TruthLemmas.{neither}
 
 pub send_all-sent-requires : goal.send_all-sent-requires
 send_all-sent-requires g c =
-    subst (λ (x : Setting). Stands x.lines c.args.f.now x.rings c.args.self.now) (sym c.requires.0) c.requires.1
+    subst (λ (x : Environment). ActorInvariant x.lines c.args.f.now x.rings c.args.self.now) (sym c.requires.0) c.requires.1
 
 pub push_all-requires : goal.push_all-requires
 push_all-requires g c =
     let p = c.send_all-sent.new.self in
-    subst (λ (x : Fabric). Stands g.here.lines x c.args.r.now p) (sym (ap (λ (x : Setting). x.fabric) c.requires.0))
-    (subst (λ (x : Rings). Stands g.here.lines c.args.f.now x p) (ap (λ (x : Setting). x.rings) c.requires.0)
+    subst (λ (x : Fabric). ActorInvariant g.here.lines x c.args.r.now p) (sym (ap (λ (x : Environment). x.fabric) c.requires.0))
+    (subst (λ (x : Rings). ActorInvariant g.here.lines c.args.f.now x p) (ap (λ (x : Environment). x.rings) c.requires.0)
     c.send_all-sent.ensures.kept.stands)
 
 pub take_all-requires : goal.take_all-requires
 take_all-requires g c =
     let p = c.push_all.new.self in
-    subst (λ (x : Rings). Stands g.here.lines c.args.f.now x p) (sym (ap (λ (x : Setting). x.rings) c.requires.0))
-    (subst (λ (x : Fabric). Stands g.here.lines x c.args.r.now p) (ap (λ (x : Setting). x.fabric) c.requires.0)
+    subst (λ (x : Rings). ActorInvariant g.here.lines c.args.f.now x p) (sym (ap (λ (x : Environment). x.rings) c.requires.0))
+    (subst (λ (x : Fabric). ActorInvariant g.here.lines x c.args.r.now p) (ap (λ (x : Environment). x.fabric) c.requires.0)
     c.in_ok-pushed.ensures.kept.stands)
 
 pub pull_all-requires : goal.pull_all-requires
 pull_all-requires g c =
     let p = c.take_all.new.self in
-    let fabric = sym (ap (λ (x : Setting). x.fabric) c.requires.0) in (
+    let fabric = sym (ap (λ (x : Environment). x.fabric) c.requires.0) in (
       ap (λ (x : Fabric). x.ranks) fabric,
-      subst (λ (x : Fabric). Stands g.here.lines x c.args.r.now p) fabric
-          (subst (λ (x : Rings). Stands g.here.lines c.args.f.now x p) (ap (λ (x : Setting). x.rings) c.requires.0)
+      subst (λ (x : Fabric). ActorInvariant g.here.lines x c.args.r.now p) fabric
+          (subst (λ (x : Rings). ActorInvariant g.here.lines c.args.f.now x p) (ap (λ (x : Environment). x.rings) c.requires.0)
           c.in_ok-took.ensures.kept.stands),
     )
 
 pub run_all-requires : goal.run_all-requires
 run_all-requires g c =
     let p = c.pull_all.new.self in (
-      sym (ap (λ (x : Setting). x.fabric) c.requires.0),
+      sym (ap (λ (x : Environment). x.fabric) c.requires.0),
       (
-        subst (λ (x : Rings). Stands c.args.lines.now g.here.fabric x p)
-            (sym (ap (λ (x : Setting). x.rings) c.requires.0))
-            (subst (λ (x : List Line). Stands x g.here.fabric c.args.r.now p)
-            (ap (λ (x : Setting). x.lines) c.requires.0) c.in_ok-pulled.ensures.kept.stands),
-        sym (ap (λ (x : Setting). x.lines) c.requires.0),
+        subst (λ (x : Rings). ActorInvariant c.args.lines.now g.here.fabric x p)
+            (sym (ap (λ (x : Environment). x.rings) c.requires.0))
+            (subst (λ (x : List Line). ActorInvariant x g.here.fabric c.args.r.now p)
+            (ap (λ (x : Environment). x.lines) c.requires.0) c.in_ok-pulled.ensures.kept.stands),
+        sym (ap (λ (x : Environment). x.lines) c.requires.0),
       ),
     )
 
@@ -70,14 +70,14 @@ returns g c =
     let took = c.in_ok-took.ensures in
     let pulled = c.in_ok-pulled.ensures in
     let ran = c.in_ok-ran.ensures in
-    let one = subst (λ (x : Setting). Kept x.lines f x.rings a s) here sent.kept in
-    let two = subst (λ (x : Setting). Kept x.lines x.fabric r s p) here pushed.kept in
-    let three = subst (λ (x : Setting). Kept x.lines f x.rings p t) here took.kept in
-    let four = subst (λ (x : Setting). Kept x.lines x.fabric r t u) here pulled.kept in
-    let five = subst (λ (x : Setting). Kept lines x.fabric x.rings u e) here ran.kept in
-    let push_moved = subst (λ (x : Setting). c.in_ok-pushed.pushed ≡ did x.fabric.ranks s p) here pushed.moved in
-    let pull_moved = subst (λ (x : Setting). c.in_ok-pulled.pulled ≡ did x.fabric.ranks t u) here pulled.moved in
-    let run_moved = subst (λ (x : Setting). c.in_ok-ran.ran ≡ did x.fabric.ranks u e) here ran.moved in
+    let one = subst (λ (x : Environment). Continues x.lines f x.rings a s) here sent.kept in
+    let two = subst (λ (x : Environment). Continues x.lines x.fabric r s p) here pushed.kept in
+    let three = subst (λ (x : Environment). Continues x.lines f x.rings p t) here took.kept in
+    let four = subst (λ (x : Environment). Continues x.lines x.fabric r t u) here pulled.kept in
+    let five = subst (λ (x : Environment). Continues lines x.fabric x.rings u e) here ran.kept in
+    let push_moved = subst (λ (x : Environment). c.in_ok-pushed.pushed ≡ did x.fabric.ranks s p) here pushed.moved in
+    let pull_moved = subst (λ (x : Environment). c.in_ok-pulled.pulled ≡ did x.fabric.ranks t u) here pulled.moved in
+    let run_moved = subst (λ (x : Environment). c.in_ok-ran.ran ≡ did x.fabric.ranks u e) here ran.moved in
     let sp = kept_and n lines f r a s p c.send_all-sent.result c.in_ok-pushed.pushed one two sent.moved push_moved in
     let st = kept_and n lines f r a p t _ c.in_ok-took.took sp.0 three sp.1 took.moved in
     let su = kept_and n lines f r a t u _ c.in_ok-pulled.pulled st.0 four st.1 pull_moved in

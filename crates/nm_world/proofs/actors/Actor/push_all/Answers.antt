@@ -2,7 +2,7 @@
 use Rattle.std.proofs.Common.{◌≡◌, Bool, subst, sym, ◌∙◌, arith}
 use Rattle.nm_rank.specs.Ranks.{IsFresh}
 use Rattle.nm_world.specs.declared.actors.Actor.{Actor}
-use Rattle.nm_world.specs.Idle.{PieceBack, Stepped}
+use Rattle.nm_world.specs.Idle.{NextNotPushed, Stepped}
 use Rattle.nm_world.proofs.Loops.{all_made, loop_last, loop_more, loop_none}
 use Rattle.nm_world.proofs.Results.{clash}
 use Rattle.nm_world.proofs.actors.Actor.push_all.Goals as goal
@@ -30,7 +30,7 @@ returns-then-not-branch g c =
       moved = done.moved;
       stepped = done.stepped;
       back = λ none fresh. let same = done.sole none in
-          subst (λ (x : Actor). PieceBack x d) same
+          subst (λ (x : Actor). NextNotPushed x d) same
           (e.back c.if-not-branch.true (subst (λ (x : Actor). IsFresh x.process.rank) (sym same) fresh));
     }
 

@@ -8,7 +8,7 @@ use Rattle.nm_types.specs.Commands.{commands_of}
 use Rattle.nm_world.specs.declared.actors.Actor.{Actor}
 use Rattle.nm_types.specs.declared.scripts.Line.{Line}
 use Rattle.nm_cells.specs.declared.port.Fabric.{Fabric}
-use Rattle.nm_world.specs.Actors.{Kept, Stands, did}
+use Rattle.nm_world.specs.Actors.{Continues, ActorInvariant, did}
 use Rattle.nm_world.specs.Looks.{PolledBefore}
 use Rattle.nm_world.proofs.Did.{did_same, kept_and}
 use Rattle.nm_world.proofs.Grows.{kept_same}
@@ -32,15 +32,15 @@ loop-ran-init g c =
 pub look-requires : goal.look-requires
 look-requires g c = (
   c.requires.1.1,
-  subst (λ (x : List Line). Stands x c.args.f.now g.here.rings c.loop-ran.self) c.requires.1.1
-      (subst (λ (x : Fabric). Stands c.args.lines.now x g.here.rings c.loop-ran.self) (sym c.requires.0)
+  subst (λ (x : List Line). ActorInvariant x c.args.f.now g.here.rings c.loop-ran.self) c.requires.1.1
+      (subst (λ (x : Fabric). ActorInvariant c.args.lines.now x g.here.rings c.loop-ran.self) (sym c.requires.0)
       c.loop-ran.invariant.kept.stands),
 )
 
 pub run_next-requires : goal.run_next-requires
 run_next-requires g c =
-    subst (λ (x : Fabric). Stands c.args.lines.now x g.here.rings c.look.new.self) c.requires.0
-    (subst (λ (x : List Line). Stands x c.args.f.now g.here.rings c.look.new.self) (sym c.requires.1.1)
+    subst (λ (x : Fabric). ActorInvariant c.args.lines.now x g.here.rings c.look.new.self) c.requires.0
+    (subst (λ (x : List Line). ActorInvariant x c.args.f.now g.here.rings c.look.new.self) (sym c.requires.1.1)
     c.in_ok-looked.ensures.kept.stands)
 
 pub loop-ran-preserved : goal.loop-ran-preserved
@@ -54,8 +54,8 @@ loop-ran-preserved g c =
     let d = c.run_next.new.self in
     let one = c.loop-ran.invariant in
     let two = c.in_ok-looked.ensures in
-    let two_kept = subst (λ (x : Fabric). Kept lines x r b m) c.requires.0
-    (subst (λ (x : List Line). Kept x c.args.f.now r b m) (sym c.requires.1.1) two.kept) in
+    let two_kept = subst (λ (x : Fabric). Continues lines x r b m) c.requires.0
+    (subst (λ (x : List Line). Continues x c.args.f.now r b m) (sym c.requires.1.1) two.kept) in
     let two_moved = subst (λ (x : Fabric). c.in_ok-looked.looked ≡ did x.ranks b m) c.requires.0 two.moved in
     let three = c.in_ok-run_next.ensures in
     let ran = three.ran c.if-not-branch.false in
@@ -85,8 +85,8 @@ returns-then-not-branch g c =
     let d = c.run_next.new.self in
     let one = c.loop-ran.invariant in
     let two = c.in_ok-looked.ensures in
-    let two_kept = subst (λ (x : Fabric). Kept lines x r b m) c.requires.0
-    (subst (λ (x : List Line). Kept x c.args.f.now r b m) (sym c.requires.1.1) two.kept) in
+    let two_kept = subst (λ (x : Fabric). Continues lines x r b m) c.requires.0
+    (subst (λ (x : List Line). Continues x c.args.f.now r b m) (sym c.requires.1.1) two.kept) in
     let two_moved = subst (λ (x : Fabric). c.in_ok-looked.looked ≡ did x.ranks b m) c.requires.0 two.moved in
     let three = c.in_ok-run_next.ensures in
     let rests = c.if-not-branch.true in
@@ -101,7 +101,7 @@ returns-then-not-branch g c =
     let still : (took || looked) || nat_lt 0 c.loop-ran.ran ≡ false → m.process ≡ a.process =
     λ none. two.stepped.still (before none).1 ∙ ap (λ (x : Actor). x.process) (before none).0 in
     record {
-      kept = subst (λ (x : Actor). Kept lines f r a x) (sym same) both.0;
+      kept = subst (λ (x : Actor). Continues lines f r a x) (sym same) both.0;
       moved = or_swap took looked (nat_lt 0 c.loop-ran.ran)
           ∙ subst (λ (x : Actor). ((took || nat_lt 0 c.loop-ran.ran) || looked) ≡ did f.ranks a x) (sym same) both.1;
       still = λ none. ap (λ (x : Actor). x.process) same ∙ still none;

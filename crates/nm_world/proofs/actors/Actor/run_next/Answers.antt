@@ -1,7 +1,7 @@
 -- The process stands, and the ports are as they were.
 use Rattle.std.proofs.Common.{◌≡◌, false, refl, sym, ap, ◌∙◌, subst}
 use Rattle.nm_process.specs.Processes.{ProcessView}
-use Rattle.nm_world.specs.Actors.{Kept, did}
+use Rattle.nm_world.specs.Actors.{Continues, did}
 use Rattle.nm_process.specs.declared.steps.Step.{Step}
 use Rattle.nm_process.specs.Steps.{HasStepped}
 use Rattle.nm_world.specs.declared.actors.Actor.{Actor}
@@ -33,7 +33,7 @@ returns-in-Waits g c =
     c.in_ok-run_next.ensures.stepped in
     let same : b ≡ a = ap (λ (x : ProcessView). record a { process = x }) stepped in
     record {
-      kept = subst (λ (x : Actor). Kept c.args.lines.now g.here.fabric g.here.rings a x) (sym same)
+      kept = subst (λ (x : Actor). Continues c.args.lines.now g.here.fabric g.here.rings a x) (sym same)
           (kept_same c.args.lines.now g.here.fabric g.here.rings a s);
       moved = subst (λ (x : Actor). false ≡ did g.here.fabric.ranks a x) (sym same) (did_same g.here.fabric.ranks a);
       ran = λ e. absurd (clash (sym e));

@@ -10,7 +10,7 @@ use Rattle.nm_sending.specs.Sent.{outs}
 use Rattle.std.specs.Prelude.{false, IfSome, length, slice_get}
 use Rattle.nm_sending.specs.declared.outbox.letters.Letter.{Letter}
 use Rattle.nm_process.specs.Processes.{ProcessView}
-use Rattle.nm_world.specs.Idle.{CameBack}
+use Rattle.nm_world.specs.Idle.{NotSent}
 use Rattle.nm_global.specs.ProcessInvariant.{IsOf, with_moment, with_packet_left}
 use Rattle.nm_chain.specs.Rule.{Load, sent_to}
 use Rattle.nm_world.specs.declared.actors.Actor.{Actor}
@@ -45,7 +45,7 @@ returns-in_default g c =
       moved = did_same c.args.f.now.ranks a;
       stepped = stepped_none a;
       back = λ none fresh. none_first (slice_get a.process.rank.sending.outbox.letters 0) _
-          (CameBack a.port a.port) (rw c.rank-rank.ensures at c.in_default.ensures.first);
+          (NotSent a.port a.port) (rw c.rank-rank.ensures at c.in_default.ensures.first);
     }
 
 pub returns-then-is_none : goal.returns-then-is_none
@@ -71,7 +71,7 @@ returns-then-is_none g c =
     let there = first.2 in
     record {
       stepped = stepped_fresh false a (record a { port = port }) fresh refl (λ none. refl);
-      back = λ none fresh. subst (λ (o : Option Letter). IfSome o (CameBack a.port port)) (sym first.1)
+      back = λ none fresh. subst (λ (o : Option Letter). IfSome o (NotSent a.port port)) (sym first.1)
           (came_back a.port port first.0 len (ap (λ (x : Packet). length x.payload) first.3) (omega (arith, within, ranks, wide, there))
           (subst (λ (k : ℕ). HadMiss false (tried len k (knows a.port)) (knows port)) first.2 miss));
       moved = did_none n a (record a { port = port }) refl

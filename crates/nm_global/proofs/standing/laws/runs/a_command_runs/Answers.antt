@@ -38,13 +38,13 @@ use Rattle.nm_rank.specs.declared.answers.Cancelled.{Cancelled}
 use Rattle.nm_rank.specs.declared.answers.Cancelled.TheVariants as cancelled
 use Rattle.nm_rank.specs.Calls.{Starts}
 use Rattle.nm_rank.specs.Ranks.{RankView, request_of}
-use Rattle.nm_global.specs.Emitted.{IsLeft}
+use Rattle.nm_global.specs.Emitted.{IsEmitted}
 use Rattle.nm_global.specs.Logged.{IsLogged}
 use Rattle.nm_rank.specs.Requests.{IsResult, cancel_answer, cancel_events}
 use Rattle.nm_global.specs.Calls.{AnswersLogged, ShowsLogged, given_after}
 use Rattle.nm_global.specs.Moments.{acted}
 use Rattle.nm_process.specs.declared.steps.Step.TheVariants.{Ran as Took}
-use Rattle.nm_process.specs.Places.{IsNext}
+use Rattle.nm_process.specs.Places.{IsNextLine}
 use Rattle.nm_process.specs.Processes.{ProcessView}
 use Rattle.nm_process.specs.Starts.{Ends, HasAnswered, HasAwaited, HasCancelled, HasClaimed, HasEnded}
 use Rattle.nm_process.specs.Starts.{HasFoundNone, HasMatched, HasNoResult, HasStarted, HasTried}
@@ -52,18 +52,18 @@ use Rattle.nm_process.specs.Starts.{HasTriedMprobe, HasTriedMrecv, HasTriedRecei
 use Rattle.nm_process.specs.Starts.{HasTriedTest, IsBusy, IsHandleBusy, KeepsHandles, offers_sent}
 use Rattle.nm_process.specs.Starts.{IsHandleNull, IsNull, answer_for, message_probed, sent_now}
 use Rattle.nm_process.proofs.PlaceLemmas.{all_at, next_found}
-use Rattle.nm_global.specs.ProcessInvariant.{GoesOn, IsOf, Past, Same, with_moment}
+use Rattle.nm_global.specs.ProcessInvariant.{GoesOn, IsOf, GhostHistory, Same, with_moment}
 use Rattle.nm_global.proofs.Still.{history_longer, own_same, then_on}
 use Rattle.nm_global.proofs.standing.laws.runs.a_command_runs.Goals as goal
 
 -- an answer that shows no message
-shows_cancel : (commands : List Numbered) (past : Past) (h : List Event) (line : ℕ) (x : Cancelled) →
+shows_cancel : (commands : List Numbered) (past : GhostHistory) (h : List Event) (line : ℕ) (x : Cancelled) →
     AnswersLogged commands past.log h line (answer_for x)
 shows_cancel commands past h line cancelled.Done = tt
 shows_cancel commands past h line cancelled.Late = tt
 shows_cancel commands past h line cancelled.Asked = tt
 
-shows_probe : (commands : List Numbered) (past : Past) (h : List Event) (line : ℕ) (o : Option Arrival) →
+shows_probe : (commands : List Numbered) (past : GhostHistory) (h : List Event) (line : ℕ) (o : Option Arrival) →
     AnswersLogged commands past.log h line (option_map_or seen o answer.Nothing)
 shows_probe commands past h line None = tt
 shows_probe commands past h line (Some a) = tt
@@ -101,7 +101,7 @@ returns c shape lines i a b past in_lines right standing ran =
       found : command_at commands line ≡ Some ran.line.command
       found = next_found lines me a.next ran.place ran.line ran.is
 
-      answers : (v : ProcessView) (now : Past) (x : Answer) → IsOf shape lines me v.rank now →
+      answers : (v : ProcessView) (now : GhostHistory) (x : Answer) → IsOf shape lines me v.rank now →
           AnswersLogged commands now.log v.rank.events line x → HasAnswered v b' line x →
           GoesOn shape lines me b.rank now
       answers v now x at shows answered =
@@ -129,7 +129,7 @@ returns c shape lines i a b past in_lines right standing ran =
           let events : mid.events ≡ a.rank.events = ap (λ (v : RankView). v.events) same in
           let clock : mid.clock ≡ a.rank.clock = ap (λ (v : RankView). v.clock) same in
           let own : mid.me ≡ a.rank.me = ap (λ (v : RankView). v.me) same in
-          let now : Past = record past { given = given_after e.kind past.given } in
+          let now : GhostHistory = record past { given = given_after e.kind past.given } in
           let at : IsOf shape lines me mid now =
           record {
             me = own;
@@ -161,13 +161,13 @@ returns c shape lines i a b past in_lines right standing ran =
           ((mid : RankView) (r : Req) → Starts bodies ws k a.rank mid r →
           IsLogged shape.eager bodies commands mid (past.log ++ acted a.rank ws ∷ []) past.given) →
           ((mid : RankView) (r : Req) → Starts bodies ws k a.rank mid r → mid.sending.offers ≡ offers →
-          (to : ℕ) → to < shape.ranks → IsLeft bodies mid to (past.left to)) →
+          (to : ℕ) → to < shape.ranks → IsEmitted bodies mid to (past.left to)) →
           HasStarted Fits offers ws k a b' q line → GoesOn shape lines me b.rank past
       begins Fits offers ws k q fits logged left s =
           let g = s.begun in
           let mid = s.mid in
           let starts : Starts bodies ws k a.rank mid.rank g.request = g.starts bodies fits in
-          let now : Past = with_moment past (acted a.rank ws) in
+          let now : GhostHistory = with_moment past (acted a.rank ws) in
           let at : IsOf shape lines me mid.rank now =
           record {
             me = starts.takes.me;
@@ -258,7 +258,7 @@ returns c shape lines i a b past in_lines right standing ran =
         some p =
             let mid = p.mid in
             let ws = cancel_events a.rank.events p.kind in
-            let now : Past = with_moment past (acted a.rank ws) in
+            let now : GhostHistory = with_moment past (acted a.rank ws) in
             let at : IsOf shape lines me mid.rank now =
             record {
               me = p.takes.me;
@@ -285,7 +285,7 @@ returns c shape lines i a b past in_lines right standing ran =
             let mid = p.mid in
             let x = p.message in
             let ws : List Happened = event.Claim x.env.from x.n line ∷ [] in
-            let now : Past = with_moment past (acted a.rank ws) in
+            let now : GhostHistory = with_moment past (acted a.rank ws) in
             let at : IsOf shape lines me mid.rank now =
             record {
               me = p.takes.me;
