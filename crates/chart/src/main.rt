@@ -1,8 +1,8 @@
 //! Traces on standard input, pictures on standard output.
 #![tactic(auto)]
 
-use nm_chart::{chart, chart_part};
 use nm_chart::check::chart_check;
+use nm_chart::{chart, chart_part};
 use nm_outside::{RealSink, RealSource};
 use std::io::ErrorKind;
 use std::process::ExitCode;

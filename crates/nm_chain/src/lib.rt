@@ -1,8 +1,9 @@
 //! What a queue of cells is, and what the two racing ways of a pair's packets are to each other.
 //!
 //! Nemesis (Buntinas, Mercier and Gropp 2006) gives each rank a receive queue and a free queue of
-//! cells, lock-free, with many producers and one consumer. Here are the definitions alone, over
-//! lists and functions. The shared words and slots are one crate above.
+//! cells, lock-free, with many producers and one consumer. Here are the definitions, over lists and
+//! functions. `seats` has what tables of shared words have in common, and `table` the rule of the table
+//! of cells, queues and fastboxes, with its kinds of step. The calls that make steps are one crate above.
 //!
 //! ```text
 //!   head        0      the consumer cleared it, once it had loaded cell 4

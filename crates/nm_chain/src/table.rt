@@ -14,7 +14,7 @@
 //!
 //! # What is proved
 //! - The rule holds at the start (`Linked`), and each play keeps it, as the callers of the table
-//!   show by the lemmas of this crate.
+//!   show by the lemmas in `proofs/`.
 //! - A packet in a box is its sender's and fits a box (`GoesByBox`).
 //! - What the last steps on an own queue told is kept by queue (`Looks`), and stays so whatever the
 //!   other ranks do where the tail was found elsewhere (`Rule.told`).

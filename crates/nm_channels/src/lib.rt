@@ -6,8 +6,10 @@
 //! then the messages between them are delivered and over. MPI 3.1, sections 3.4 (standard and
 //! synchronous mode), 3.5 (order) and 3.8.4 (cancel). No law speaks of threads or of a schedule.
 //!
+//! `worked` and `worked_channels` hold worked runs and logs, right and wrong, against the definitions.
+//!
 //! # What a contract sees
-//! A log is a list of moments: a cause, and the events that it made (`specs/Moments`). It stands in
+//! A log is a list of moments (`LogEntry`): a cause, and the events that it made (`specs/Moments`). It stands in
 //! no program. Each call of a rank adds one moment, and its history is the events of its log.
 //! `AreSound` says that each moment follows those before it by the protocol (`specs/Sound`).
 //! `IsEnd` says that a rank has nothing left to send, `IsChannel` that a channel is empty, and

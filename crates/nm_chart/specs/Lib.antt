@@ -1,6 +1,6 @@
 pub mod Answers
 pub mod Endings
 pub mod Findings
-pub mod PartWords
 pub mod Parts
 pub mod Widened
+pub mod PartWords

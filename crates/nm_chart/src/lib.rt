@@ -2,7 +2,8 @@
 //!
 //! `chart` is the top call. It takes the words of the command line, of which there are none, reads a
 //! trace, and writes its picture to the sink. `chart_part` is the one where there are words: it
-//! writes the picture of the part that they ask for (`nm_chart::words`).
+//! writes the picture of the part that they ask for (`words`). `check` has the call that takes a script
+//! and a trace in one text, and marks in the picture where the trace breaks a rule first.
 //!
 //! # What a contract sees
 //! Bytes as a list of numbers, the record that a trace's bytes stand for, and the text of its

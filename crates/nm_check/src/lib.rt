@@ -1,5 +1,8 @@
 //! Whether a given record is of a run of a script, and if not, the first rule that is broken.
 //!
+//! `checked` judges a script and a trace in one text. `breaks` says where a trace breaks a rule first, and
+//! `verdict` is the sentence that says so. `written` has laws: the trace of a run is read back.
+//!
 //! # What a contract sees
 //! `specs/Verdicts.antt` says what each verdict means, by the definitions of a run in `nm_history`
 //! and `nm_report`: `Judges` of the script's lines, the record and the verdict. The rules of one
@@ -26,7 +29,7 @@ mod verdicts;
 pub mod written;
 
 pub use judging::judge;
-pub use nm_check_ranks::clauses::CarriedClause;
 pub use nm_check_rank::clauses::OwnClause;
+pub use nm_check_ranks::clauses::CarriedClause;
 pub use nm_check_ranks::rest::clauses::RestClause;
 pub use verdicts::Verdict;

@@ -4,9 +4,9 @@ ghost use Rattle.std.specs.Prelude.{◌<◌, IfOk, length};
 ghost use Rattle.nm_report.specs.Ends.{ends_of};
 ghost use Rattle.nm_check.specs.Ranked.{IsRanked};
 
+use nm_check_rank::clauses::OwnClause;
 use nm_check_rank::paired::judging::{Judged, judge_rank};
 use nm_check_rank::paired::tables::Tables;
-use nm_check_rank::clauses::OwnClause;
 use nm_report::RankAccount;
 use nm_types::{Line, Memory, Shape};
 use std::alloc::Global;

@@ -1,7 +1,7 @@
 //! What can be said of a record.
 
-use nm_check_ranks::clauses::CarriedClause;
 use nm_check_rank::clauses::OwnClause;
+use nm_check_ranks::clauses::CarriedClause;
 use nm_check_ranks::rest::clauses::RestClause;
 
 /// What a record is judged to be: a run, or one that breaks a rule. The rule is the first that is

@@ -1,5 +1,7 @@
 //! Whether a rank's history keeps the rules of a rank's run, rule by rule.
 //!
+//! `paired` judges the rules that need what was paired or free.
+//!
 //! # What a contract sees
 //! Each rule has a judge of its own, whose contract is `Decides` (`specs/Deciding.antt` of
 //! `nm_lookups`) of the rule as `nm_history` defines it: it answers yes where the rule holds of the

@@ -4,7 +4,7 @@
 //! # What a contract sees
 //! `judging::judge_rank` answers what `IsJudged` says (`specs/Tabled.antt`): that the history is a
 //! run of the rank's first commands, as `nm_history` defines it, or the first rule that is broken,
-//! by `nm_check_rank`'s names and order of the rules. `AreTables` says what is looked up of a
+//! by the crate's names and order of the rules. `AreRankTables` says what is looked up of a
 //! history. Claims, starts, cancels and answers have a judge each, whose contract is `Decides` of
 //! the rule. `specs/Told.antt` has the answers without their bytes, `specs/Handles.antt` what a
 //! name and a handle stand for.

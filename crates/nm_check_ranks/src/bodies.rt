@@ -17,9 +17,9 @@ ghost use Rattle.nm_check_ranks.specs.Marked.{AreMarked, KeepsLocal, Names, hist
 ghost use Rattle.nm_check_ranks.specs.Tabled.{AreTabled};
 
 use crate::marks::{NAMES, named_unless};
-use nm_lookups::asked::commands::command_of_line;
 use nm_check_rank::paired::tables::Tables;
 use nm_history::{Event, Happened};
+use nm_lookups::asked::commands::command_of_line;
 use nm_lookups::firsts::Message;
 use nm_report::RankAccount;
 use nm_types::{Answer, Body, Command, Line};

@@ -1,5 +1,7 @@
 //! Whether the messages between each two ranks of a given record were delivered, rule by rule.
 //!
+//! `rest` judges whether all ranks are at rest.
+//!
 //! # What a contract sees
 //! `specs/CarriedClauses.antt` has the rules in their order (`KeepsCarried`, `carried_order`), by
 //! the definitions of `nm_history`. `specs/Tabled.antt` says what is looked up of each rank. The

@@ -13,11 +13,11 @@ ghost use Rattle.nm_cli.specs.Plains.{free_text as free_text_lem};
 
 use nm_check::Verdict;
 use nm_check::checked::{Checked, trace_fault_text, verdict_text};
-use nm_script::command_line::Mode;
 use nm_multi::CallLog;
 use nm_persist::{Plan, PlanKind};
 use nm_report::RunRecord;
 use nm_script::Kind;
+use nm_script::command_line::Mode;
 use nm_sure::PlainRun;
 use nm_types::Memory;
 use nm_world::Ways;

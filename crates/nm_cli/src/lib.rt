@@ -67,11 +67,11 @@ mod runs;
 
 use answers::{Response, status, text};
 use finding::find_answer;
-use nm_script::flood::laws::{floods_keep_the_limits, floods_name_their_messages};
 use nm_multi::CallLog;
 use nm_outside::{Gate, Sink, Source, write_all};
 use nm_persist::runs::receives_show_their_sends;
 use nm_report::RunRecord;
+use nm_script::flood::laws::{floods_keep_the_limits, floods_name_their_messages};
 use nm_script::laws::one_script;
 use nm_sure::plain_runs_agree;
 use nm_world::Ways;

@@ -9,9 +9,9 @@ ghost use Rattle.nm_cli.specs.Plans.{PlanRefuses};
 
 use crate::answers::Response;
 use crate::runs::run;
-use nm_script::command_line::CommandLine;
 use nm_outside::Gate;
 use nm_persist::{Plan, PlanFault};
+use nm_script::command_line::CommandLine;
 use nm_types::Memory;
 use std::alloc::Global;
 use std::sync::Wait;

@@ -10,10 +10,10 @@ ghost use Rattle.nm_cli.specs.Answers.{IsAnswerFor, IsAnswerForBytes, Refuses};
 ghost use Rattle.nm_cli.specs.Scripts.{IsRunOfScript, Reads, Runs};
 
 use crate::answers::Response;
-use nm_script::command_line::{CommandLine, Mode};
 use nm_outside::Gate;
 use nm_report::RunRecord;
 use nm_script::ScriptFault;
+use nm_script::command_line::{CommandLine, Mode};
 use nm_sure::{first_free, plain};
 use nm_types::{Memory, Script, Shape};
 use nm_world::Ways;

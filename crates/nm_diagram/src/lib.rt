@@ -3,6 +3,8 @@
 //! After Lamport, 'Time, Clocks, and the Ordering of Events', 1978. A shape has a rank and a stamp;
 //! where on a sheet that is, and what it looks like, `nm_picture` says.
 //!
+//! `pairs` tells which receive took which message of a whole history.
+//!
 //! # What a contract sees
 //! The record of a run (`nm_report`). `specs/` has the lists: the process lines of the ranks and what
 //! they wait for, a mark for each event and an arrow for each message (`Diagrams`), a link for each

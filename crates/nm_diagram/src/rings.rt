@@ -6,9 +6,9 @@ ghost use Rattle.nm_diagram.specs.Left.{are_few, has_left, is_left, is_left_at, 
 ghost use Rattle.nm_diagram.specs.Left.{some_left};
 
 use crate::frames::Span;
+use crate::pairs::{all_pairs, is_free};
 use nm_history::plain::Pair;
 use nm_history::{Event, Happened};
-use crate::pairs::{all_pairs, is_free};
 use nm_report::RankAccount;
 use std::alloc::{AllocError, Global};
 

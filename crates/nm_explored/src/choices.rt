@@ -1,7 +1,7 @@
 //! What may happen next at the ranks of a script, by the states of all of them.
 //!
 //! # What a contract sees
-//! `specs/Choices.antt` has what the next command of a rank does, which answers it can have, which message
+//! `specs/Successors.antt` has what the next command of a rank does, which answers it can have, which message
 //! comes next and which may be withdrawn; `specs/Moves.antt` has the moves that these are.
 //! # What is proved
 //! - `begin`, `answer`, `may_say_no`, `next_message` and `may_withdraw` are as defined.

@@ -16,9 +16,9 @@ ghost use Rattle.nm_explored.specs.Coming.{AreEnoughTurns, IsNamed, IsNamedTurn}
 ghost use Rattle.nm_explored.specs.Chosen.{is_cancel as is_cancel_lem};
 ghost use Rattle.nm_explored.specs.Orderly.{is_claiming as is_claiming_lem};
 
-use nm_lookups::asked::commands::command_of_line;
 use crate::choices::choices::{View, answer, line_at, next_message};
 use crate::choices::moves::{Move, Turn, push_deeds, turns};
+use nm_lookups::asked::commands::command_of_line;
 use nm_outcomes::spots::deeds::Receive;
 use nm_outcomes::spots::looks::ran;
 use nm_outcomes::spots::ranks::Rank;

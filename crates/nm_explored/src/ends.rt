@@ -15,15 +15,15 @@ ghost use Rattle.nm_explored.specs.Ends.{TellsAll, all_told, is_waiting as is_wa
 ghost use Rattle.nm_explored.specs.Ends.{told_at_end, told_in};
 ghost use Rattle.nm_explored.specs.Met.{AreTooMany, IfTooMany, IsAll};
 
-use crate::searches::{Search, Setting};
-use nm_lookups::asked::commands::command_of_line;
 use crate::choices::choices::{View, answer, line_at, may_withdraw, next_message};
 use crate::choices::moves::Move;
+use crate::searches::{Search, Setting};
 use nm_history::{Event, Happened, History};
-use nm_report::{Accounts, RankAccount};
+use nm_lookups::asked::commands::command_of_line;
 use nm_outcomes::spots::deeds::{Deed, Reply};
 use nm_outcomes::spots::looks::{is_answer, ran};
 use nm_outcomes::spots::ranks::Rank;
+use nm_report::{Accounts, RankAccount};
 use nm_types::laws::{bodies_have_their_length, commands_stand_at_their_lines};
 use nm_types::{Answer, Body, Bytes, Command, Line, Memory, Script, Shape};
 use std::alloc::Global;

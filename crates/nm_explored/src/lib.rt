@@ -1,5 +1,7 @@
 //! The search over the states that the runs of a script go through, and its ends.
 //!
+//! `choices` says what may happen next at a state.
+//!
 //! # What a contract sees
 //! `specs/Stores.antt` has the states that were found, and which of them are expanded. `specs/Ends.antt`
 //! says at which states the ranks are at rest, what they told there, and that ends tell all (`TellsAll`).

@@ -13,10 +13,10 @@ ghost use Rattle.nm_explored.specs.Met.{IsMade};
 ghost use Rattle.nm_explored.specs.Stores.{AreExpanded, Grows, IsExpanded, IsFirst, Leads};
 ghost use Rattle.nm_explored.specs.Stores.{StandOnce};
 
-use crate::chosen::enough;
-use crate::stores::{States, Table, Way};
 use crate::choices::choices::View;
 use crate::choices::moves::{Turn, moved};
+use crate::chosen::enough;
+use crate::stores::{States, Table, Way};
 use nm_outcomes::spots::ranks::Rank;
 use nm_types::{Line, Memory};
 use std::alloc::Global;

@@ -4,8 +4,8 @@ ghost use Rattle.std.specs.Prelude.{◌≡◌, ◌⊎◌, [], ◌∷◌, ◌++�
 ghost use Rattle.nm_explored.specs.Lists.{Has, Extends};
 ghost use Rattle.nm_explored.specs.Stores.{StandOnce};
 
-use indexmap::IndexSet;
 use crate::choices::moves::Move;
+use indexmap::IndexSet;
 use nm_outcomes::spots::ranks::Rank;
 use nm_types::Memory;
 use std::alloc::Global;

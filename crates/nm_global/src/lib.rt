@@ -9,7 +9,7 @@
 //!
 //! # What a contract sees
 //! `OneRank` is a rank with what no program keeps: its place among its commands, its log, the receives
-//! whose results were given, and what left it for each rank. `IsRankAt` says that it stands at its
+//! whose results were given, and what left it for each rank. `RankInvariant` says that it stands at its
 //! place, `IsPassed` that one rank took of another what left that one for it, and `HasNothingToSend`
 //! that nothing is left to send; `AreAtRest` says all of it of all ranks (`specs/Ranks`).
 //! # What is proved

@@ -1,6 +1,6 @@
 //! The log of a rank: what its calls did, one after another, as moments that are sound.
 //!
-//! The laws of `nm_channels` speak of a log, a list of moments, that stands in no program. This crate
+//! The laws of `nm_channels` speak of a log, a list of entries, that stands in no program. This module
 //! ties it to a rank (`nm_rank`). A new rank has the empty log, and each call of it adds one moment
 //! or none. So one who holds a rank, and made any calls on it, has a sound log of it, whose history
 //! and clock are those of the rank. MPI 3.1, chapter 3.

@@ -1,6 +1,6 @@
 //! What left a rank is what its history calls for.
 //!
-//! A rank stores neither the packets nor the pieces that left it. `IsLeft` (`specs/Left`) is a
+//! A rank stores neither the packets nor the pieces that left it. `IsEmitted` (`specs/Emitted`) is a
 //! relation between a rank, another one, and what left it for that one: the packets that left, and
 //! then those in its outbox, are those that its history calls for, with their bytes, and none has a
 //! stamp past its clock; the pieces that left are those that it calls for, and then the first ones of

@@ -1,5 +1,7 @@
 //! The reports of the ends of a search, in the order of a dictionary and each once.
 //!
+//! `retold` goes from the steps of ranks to a record.
+//!
 //! # What a contract sees
 //! `Texts` is a list of texts, each a list of bytes. `specs/Finding.antt` says what was found, by
 //! the definitions of `nm_outcomes`.

@@ -9,11 +9,11 @@ ghost use Rattle.nm_explored.specs.Ends.{told_at_end};
 ghost use Rattle.nm_outcomes.specs.Outcomes.{IsReportOfRun};
 ghost use Rattle.nm_listed.specs.Finding.{all_home as all_home_lem, text_of_told};
 
+use crate::retold::Retelling;
 use nm_check::{Verdict, judge};
 use nm_explored::{End, Step};
 use nm_report::laws::reports_say_what_was_told;
 use nm_report::{Accounts, Pairs, RankAccount, RunRecord, report};
-use crate::retold::Retelling;
 use nm_types::{Account, Line, Memory, Script, Shape};
 use std::alloc::Global;
 use std::mem;

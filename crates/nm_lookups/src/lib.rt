@@ -1,5 +1,8 @@
 //! Where in a history each thing happened first.
 //!
+//! `asked` has the request and the message that each command asks for, and `pairing` what was paired and
+//! free before each event, also where rules are broken.
+//!
 //! # What a contract sees
 //! `specs/Placed.antt` says what the tables hold: the first place in a history of each kind of
 //! event of each message, or of each number or line. `specs/Deciding.antt` says what it is to

@@ -1,5 +1,7 @@
 //! What the runs of a script can report: all of it. A crate of laws.
 //!
+//! `spots` is the state of a rank, with what it did and what matching has of it.
+//!
 //! # What a contract sees
 //! `specs/Logs.antt` has a run as one list of events, in an order in which they may have come, and
 //! `specs/Results.antt` what a wait or a test may show by then. `specs/Due.antt` says that what a rank

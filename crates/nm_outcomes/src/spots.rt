@@ -2,7 +2,7 @@
 //!
 //! # What a contract sees
 //! A deed stands for an event that comes of a command (`specs/Deeds.antt`), and a rank's state is what it
-//! did and what matching has of it (`specs/Spots.antt`, `Spot`). `specs/Looks.antt` has what a state says
+//! did and what matching has of it (`specs/RankStates.antt`, `Spot`). `specs/Looks.antt` has what a state says
 //! of its history.
 //! # What is proved
 //! - The state of a rank follows its history (`laws::spots_follow`): of what a rank does, of a message that

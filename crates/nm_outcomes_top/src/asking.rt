@@ -8,9 +8,9 @@ ghost use Rattle.nm_outcomes_top.specs.OptionWords.{InRange, IsQuestion, sizes_f
 
 use crate::answers::Response;
 use crate::tellings::Telling;
+use crate::words::{Asked, Question};
 use nm_explored::{End, Explored, explore};
 use nm_listed::{Found, Traced, place_of, reports, trace_of};
-use crate::words::{Asked, Question};
 use nm_types::{Memory, Script, Shape};
 use std::alloc::Global;
 

@@ -4,6 +4,8 @@
 //! for every report that a lawful run of it can have, and writes what is asked of them: all, a trace
 //! of one, or whether a given report is one of them.
 //!
+//! `words` says what the words of the command line ask for.
+//!
 //! # What a contract sees
 //! The words as lists of bytes; the bytes that the source tells, of which at most 8,388,609 are
 //! read, with `--among` 67,108,865; the bytes that the sink tells; the status. `AreOutcomes` of

@@ -20,8 +20,8 @@ ghost use Rattle.nm_outcomes_top.specs.OptionWords.{InRange, IsTaken, NotTaken};
 
 use crate::answers::{Response, status, text};
 use crate::asking::answer_script;
-use nm_check::checked::cut;
 use crate::words::{Asked, Question, read};
+use nm_check::checked::cut;
 use nm_outside::{Sink, Source, Unread, read_up_to, write_all};
 use nm_script::ScriptFault;
 use nm_script::laws::a_text_is_a_script_or_has_a_fault;

@@ -19,8 +19,8 @@ ghost use Rattle.nm_outcomes_top.specs.declared.words.Asked.{Asked};
 ghost use Rattle.nm_outcomes_top.specs.declared.words.Question.{Question as the_question};
 
 use nm_script::command_line::{CommandLine, Mode};
-use nm_types::Memory;
 use nm_script::words::number_up_to;
+use nm_types::Memory;
 use std::alloc::Global;
 
 /// What is asked of the reports that a script can have.

@@ -18,6 +18,8 @@
 //! Numbers, bodies and lines are spelled as in a script. P is at most 4,095, TAG 2,047, CTX 127,
 //! PARTS 1 to 16, and K 0 to 15.
 //!
+//! `runs` has laws: what persistent and partitioned requests promise, of each run of a plan's script.
+//!
 //! # What a contract sees
 //! The faults that a line may have behind those before it (`Table`); the limits of a plan
 //! (`Plans`); the rules of lines, one for each kind of fault, and the first fault of a text

@@ -15,8 +15,8 @@ ghost use Rattle.nm_persist.specs.Rules.{IsFault, IsFirstFault, IsRefused, IsTex
 use crate::drafts::Draft;
 use crate::plans::Plan;
 use nm_plans::{LineFault, PlanFault, PlanKind, line_from};
-use nm_types::{MAX_LINES, MAX_RANKS, MAX_TEXT};
 use nm_script::words::{is_printable, number, split_line, words};
+use nm_types::{MAX_LINES, MAX_RANKS, MAX_TEXT};
 use std::alloc::Global;
 
 /// The text is longer than a plan may be. A line feed that its last line lacks counts as a byte.

@@ -5,8 +5,8 @@ ghost use Rattle.nm_types.specs.declared.limits.TheConstants.{MAX_BODIES, MAX_LI
 ghost use Rattle.nm_types.specs.Limits.{sent_len as sent_len_lem};
 
 use nm_script::command_len;
-use nm_types::{Command, Line, MAX_BODIES, MAX_LINES, MAX_TEXT};
 use nm_script::words::decimal_len;
+use nm_types::{Command, Line, MAX_BODIES, MAX_LINES, MAX_TEXT};
 
 /// How many lines a script has behind its first, and how many bytes its bodies and its text have.
 #[derive(Clone, Copy)]

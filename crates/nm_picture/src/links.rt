@@ -6,10 +6,10 @@ ghost use Rattle.nm_picture.specs.Pictures.{bend_of, bow_text, bow_x, link_text,
 ghost use Rattle.nm_picture.specs.Pictures.{span_of};
 
 use crate::places::{gap_of, x_of, y_of};
+use nm_diagram::pairs::all_pairs;
 use nm_diagram::{Frame, Link, link_at, linked_events};
 use nm_history::Event;
 use nm_history::plain::Pair;
-use nm_diagram::pairs::all_pairs;
 use nm_report::RankAccount;
 use std::alloc::{AllocError, Global};
 

@@ -6,10 +6,10 @@ ghost use Rattle.nm_picture.specs.Pictures.{ring_tag, ring_text, ring_title};
 
 use crate::places::{x_of, y_of};
 use crate::tags::push_use;
+use nm_diagram::pairs::all_pairs;
 use nm_diagram::{Frame, Ring, is_short, ring_at};
 use nm_history::Event;
 use nm_history::plain::Pair;
-use nm_diagram::pairs::all_pairs;
 use nm_report::RankAccount;
 use std::alloc::{AllocError, Global};
 

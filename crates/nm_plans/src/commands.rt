@@ -13,8 +13,8 @@ use crate::faults::{LineFault, PlanKind};
 use crate::keywords::{PlanKeyword, keyword_from};
 use crate::limits::{MAX_CONTEXT, MAX_PARTS, MAX_REQUEST, MAX_TAG};
 use crate::lines::{PlanCommand, PlanLine};
-use nm_types::MAX_CAPACITY;
 use nm_script::words::number;
+use nm_types::MAX_CAPACITY;
 use std::alloc::Global;
 
 /// A rank and a colon.

@@ -18,6 +18,8 @@
 //! Numbers, bodies and lines are spelled as in a script. P is at most 4,095, TAG 2,047, CTX 127,
 //! PARTS 1 to 16, and K 0 to 15.
 //!
+//! `requests` has the requests that the lines of a plan make, and the commands that a line stands for.
+//!
 //! # What a contract sees
 //! The table of the commands with the ranges of their arguments (`Grammar`), the text of a plan
 //! (`Text`), what the words of a line spell (`Spelled`, `Commands`), and the kinds of faults

@@ -5,8 +5,8 @@ ghost use Rattle.nm_cells.specs.Ports.{Owns, SameTaken, Takes, knows, holding, I
 ghost use Rattle.nm_port.specs.Sends.{HadMiss};
 
 use nm_cells::{Cell, Fabric, Port, Queue};
-use nm_queue::dequeue;
 use nm_chain::seats::Steps;
+use nm_queue::dequeue;
 use std::sync::ledger::Ledger;
 
 // Takes the first cell of an own queue, or none where that one had a miss.

@@ -13,6 +13,8 @@
 //!          else that one is held, and the awaited packet of its sender is in the next box: that
 //! ```
 //!
+//! `carried` has laws: what a port carried, by the lists of its packets.
+//!
 //! # What a contract sees
 //! What the port knows before and after (`nm_cells`): what was put and taken by each way, the counts of
 //! misses, and the steps.

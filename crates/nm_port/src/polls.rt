@@ -15,9 +15,9 @@ ghost use Rattle.nm_port.specs.Polls.{IsNext, Came, Way, IsGot, polled};
 
 use crate::cells::take_cell;
 use nm_cells::{Fabric, Port, Queue, empty_box, load_box_in, take_out};
+use nm_chain::seats::Steps;
 use nm_fastbox::take;
 use nm_queue::enqueue;
-use nm_chain::seats::Steps;
 use nm_types::Packet;
 use std::sync::ledger::Ledger;
 

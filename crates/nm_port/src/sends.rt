@@ -14,9 +14,9 @@ ghost use Rattle.nm_port.specs.Sends.{tried, HadMiss, HoldSame};
 
 use crate::cells::take_cell;
 use nm_cells::{Fabric, Port, Queue, put_in};
+use nm_chain::seats::Steps;
 use nm_fastbox::put;
 use nm_queue::enqueue;
-use nm_chain::seats::Steps;
 use nm_types::{Packet, Path};
 use std::sync::ledger::Ledger;
 

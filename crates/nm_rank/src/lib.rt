@@ -4,6 +4,8 @@
 //! answers what became of its requests. It takes the packets and pieces of the other ranks, and
 //! gives those that it has for them, one by one.
 //!
+//! `journal` is a rank's history with the clock that stamps its events.
+//!
 //! # What a contract sees
 //! Its history and clock, its sending and its receiving side (`nm_sending`, `nm_receiving`), what
 //! the packets of each rank tell (`nm_history::protocol`), its live requests, and the counts of packets,

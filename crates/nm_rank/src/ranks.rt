@@ -11,12 +11,12 @@ ghost use Rattle.nm_rank.specs.Journals.{IsJournal};
 ghost use Rattle.nm_rank.specs.New.{IsNew};
 ghost use Rattle.nm_rank.specs.Ranks.{IsFresh, count_of};
 
-use nm_history::History;
 use crate::journal::Journal;
+use nm_history::History;
 use nm_receiving::Receiving;
+use nm_receiving::streams::Stream;
 use nm_request::Requests;
 use nm_sending::Sending;
-use nm_receiving::streams::Stream;
 use nm_types::{MAX_STAMP, Memory, Shape};
 use std::alloc::Global;
 use std::marker::Model;

@@ -33,11 +33,11 @@ ghost use Rattle.nm_rank.specs.Ranks.{IsFresh, request_of};
 ghost use Rattle.nm_rank.specs.Requests.{cancel_events, cancel_answer, offers_cancelled};
 ghost use Rattle.nm_rank.specs.Requests.{Finishes, WasSent, withdrawal_of};
 
+use crate::journal::Journal;
 use crate::room::make_room;
 use crate::stays::sides_stay;
 use crate::{CancelFault, Cancelled, FinishFault, Rank, State};
 use nm_history::Happened;
-use crate::journal::Journal;
 use nm_receiving::Receiving;
 use nm_request::{Kind, NoSuch, Req};
 use nm_sending::Sending;

@@ -18,10 +18,10 @@ ghost use Rattle.nm_rank.specs.Ranks.{IsFresh};
 ghost use Rattle.nm_rank.specs.Sends.{event_of, next_send, offers_sent};
 
 use crate::Rank;
+use crate::journal::Journal;
 use crate::room::make_room;
 use crate::stays::sides_stay;
 use nm_history::Happened;
-use crate::journal::Journal;
 use nm_request::{Kind, Req};
 use nm_sending::Sending;
 use nm_types::{Arrival, Body, How, Memory, Peer, Post, TagPick, What};

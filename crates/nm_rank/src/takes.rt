@@ -18,13 +18,13 @@ ghost use Rattle.nm_rank.specs.Ranks.{IsFresh, count_of};
 ghost use Rattle.nm_rank.specs.Takes.{MayBeAccepted, Accepts, reply_of};
 
 use crate::Rank;
+use crate::journal::Journal;
 use crate::room::make_room;
 use crate::stays::sides_stay;
 use nm_history::Happened;
-use crate::journal::Journal;
 use nm_receiving::Receiving;
-use nm_sending::Sending;
 use nm_receiving::streams::{Made, Stream};
+use nm_sending::Sending;
 use nm_types::{Memory, Packet, Piece, What};
 
 /// Records what happened, if something did.

@@ -5,10 +5,12 @@
 //! packets or in pieces, and for each message and each receive what became of it. It knows no history:
 //! its contracts say how it stands to one.
 //!
+//! `streams` is what a rank knows of each other rank by the packets and pieces that it took.
+//!
 //! # What a contract sees
 //! A `ReceivingView`, and the relation `AreReceived` between it and a history: the matcher's deeds, the
 //! messages and the receives are those of the history, and what is due of a sender is what the history
-//! says. A call that changes something says with which events that goes: `Keeps old new happenings` says
+//! says. A call that changes something says with which events that goes: `Preserves old new happenings` says
 //! that, whatever the history, the new view stands in the relation with the longer one, and that the
 //! events may come there.
 //! # What is proved

@@ -32,12 +32,12 @@ ghost use Rattle.nm_receiving.specs.Steps.{with_ended};
 
 use crate::bytes::{grant_taken, shown, take_bytes};
 use crate::receipts::{Receipt, Receipts, Receive, give};
+use crate::streams::pieces;
 use crate::telling::packets_tell;
 use nm_eager::Joiner;
 use nm_history::Happened;
 use nm_match::Matcher;
 use nm_rndv::Grants;
-use crate::streams::pieces;
 use nm_types::{
     Answer, Arrival, Envelope, How, Memory, Packet, Peer, Piece, Post, Shape, TagPick, What,
 };

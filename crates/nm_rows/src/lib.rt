@@ -1,5 +1,6 @@
-//! The worked rows of what one rank stands on, by calls: packets and sizes, texts, requests, matching,
-//! short messages, strays, and sources and sinks.
+//! The worked rows, by calls: of what one rank stands on (packets and sizes, texts, requests, matching,
+//! short messages, strays, and sources and sinks), between ranks, of turns and a shared desk, and of the
+//! program through its top call.
 #![tactic(auto)]
 
 #[cfg(test)]

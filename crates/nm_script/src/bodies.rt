@@ -5,9 +5,9 @@ ghost use Rattle.nm_script.specs.Faults.{Gives};
 ghost use Rattle.nm_script.specs.Bodies.{body_of, generated_of, hex_of};
 
 use crate::faults::{Kind, LineFault};
+use crate::words::{are_lower_digits, number};
 use hex::FromHexError;
 use nm_types::{Body, Bytes, MAX_BODY};
-use crate::words::{are_lower_digits, number};
 use std::alloc::Global;
 
 /// The body that hex digits spell, of the length that a body may have.

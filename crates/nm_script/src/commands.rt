@@ -10,8 +10,8 @@ ghost use Rattle.nm_script.specs.Commands.{mrecv_of, arguments_of, command_of, l
 use crate::bodies::body_from;
 use crate::faults::{Kind, LineFault};
 use crate::keywords::{Keyword, keyword_from};
-use nm_types::{Command, Line, MAX_CAPACITY, MAX_CONTEXT, MAX_NAME, MAX_TAG, Peer, TagPick};
 use crate::words::number;
+use nm_types::{Command, Line, MAX_CAPACITY, MAX_CONTEXT, MAX_NAME, MAX_TAG, Peer, TagPick};
 use std::alloc::Global;
 
 /// Which messages a command is about.

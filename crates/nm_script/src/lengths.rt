@@ -8,8 +8,8 @@ ghost use Rattle.nm_types.specs.Text.{words as words_lem};
 ghost use Rattle.nm_script.specs.Lines.{text_len};
 ghost use Rattle.nm_script.specs.Lengths.{ended_len};
 
-use nm_types::{Body, Command, Line, MAX_TEXT, Peer, TagPick};
 use crate::words::{decimal_len, is_fed};
+use nm_types::{Body, Command, Line, MAX_TEXT, Peer, TagPick};
 
 /// The text is longer than a script may be. A line feed that its last line lacks counts as a byte.
 pub fn is_too_long(bytes: &[u8]) -> bool

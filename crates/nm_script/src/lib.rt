@@ -22,9 +22,12 @@
 //! case, two a byte, or `g` and how many bytes are generated. A text that has anything else is
 //! refused, with its first fault.
 //!
+//! `words` reads and writes the lines, words, numbers and hex digits of any text, `command_line` says
+//! what the words of the command line ask for, and `flood` makes scripts of three numbers.
+//!
 //! # What a contract sees
 //! The text of a script and its limits, which `nm_types` defines (`Spelled`: `IsTextOf`). The rules
-//! of lines, one for each kind of fault, and the first fault of a text (`Rules`: `Keeps`,
+//! of lines, one for each kind of fault, and the first fault of a text (`Rules`: `KeepsRule`,
 //! `IsFirstFault`), which speak of the words of a line and not of how they are read (`Arguments`).
 //! # What is proved
 //! - What is read is spelled by the bytes, within the limits (clause `taken`).

@@ -14,8 +14,8 @@ ghost use Rattle.nm_script.specs.Spelled.{IsTextOf, AnswersScript};
 use crate::commands::line_from;
 use crate::faults::{Kind, LineFault, ScriptFault};
 use crate::lengths::is_too_long;
-use nm_types::{Command, Line, Lines, MAX_BODIES, MAX_LINES, MAX_RANKS, Script};
 use crate::words::{is_printable, number, split_line, words};
+use nm_types::{Command, Line, Lines, MAX_BODIES, MAX_LINES, MAX_RANKS, Script};
 use std::alloc::Global;
 
 /// The number of ranks, by the two words of the first line.

@@ -5,11 +5,13 @@
 //! sent by asking is announced by one packet, waits until its receiver clears it, and is then
 //! pushed in pieces. A message may be recalled (section 3.8.4).
 //!
+//! `outbox` has the packets that are still to be sent, in order.
+//!
 //! # What a contract sees
 //! The packets to be sent, the messages that were asked for and the order of their clearances, what
 //! became of each message, the counts of pieces pushed, and the number of messages that have not
 //! left. A relation, `AreSent`, says of which histories these are the messages. Each call says
-//! which events it goes with (`Keeps`), and each answer is the definition's on every history that
+//! which events it goes with (`Preserves`), and each answer is the definition's on every history that
 //! stands in the relation.
 //!
 //! # What is proved
@@ -34,8 +36,8 @@ mod putting;
 mod sendings;
 mod tables;
 
-pub use departures::Departure;
 pub use crate::outbox::Letter;
+pub use departures::Departure;
 pub use sendings::Sending;
 
 /// How many messages a rank sends to another at most.

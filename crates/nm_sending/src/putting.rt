@@ -15,8 +15,8 @@ ghost use Rattle.nm_sending.specs.Outboxes.{put_to};
 ghost use Rattle.nm_sending.specs.Departures.{ends_to};
 ghost use Rattle.nm_sending.specs.Sent.{Puts, PutsFirst, only_to};
 
-use nm_eager::Cutter;
 use crate::outbox::{Letter, Outbox};
+use nm_eager::Cutter;
 use nm_rndv::Offers;
 use nm_types::{Body, How, MAX_PAYLOAD, Memory, What};
 

@@ -31,9 +31,9 @@ ghost use Rattle.nm_sending.specs.Sent.{MayBeAnswered, MayBeCleared, MayBeRecall
 
 use crate::MAX_MESSAGES;
 use crate::departures::Departure;
+use crate::outbox::{Letter, Outbox};
 use crate::putting::{Heading, put_bare, put_message};
 use crate::tables::Table;
-use crate::outbox::{Letter, Outbox};
 use nm_rndv::Offers;
 use nm_types::{Answer, Body, How, MAX_PACKETS, Memory, Piece, What};
 use std::alloc::Global;

@@ -8,8 +8,8 @@ ghost use Rattle.nm_trace.specs.Answers.{given_answer, given};
 use crate::notes::Note;
 use nm_history::{Event, Happened};
 use nm_report::push_answer;
-use nm_types::{Answer, Bytes};
 use nm_script::words::are_lower_digits;
+use nm_types::{Answer, Bytes};
 use std::alloc::{AllocError, Global};
 
 /// A line behind the events gives this answer.

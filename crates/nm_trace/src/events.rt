@@ -12,8 +12,8 @@ use crate::numbers::{huge, large, middle, small};
 use crate::sorts::{Sort, lone_answer, sort_from};
 use nm_history::{Event, Happened};
 use nm_report::PairCount;
-use nm_types::{Answer, Arrival, Bytes, Envelope, How, Peer, Post, Seen, TagPick};
 use nm_script::words::number_up_to;
+use nm_types::{Answer, Arrival, Bytes, Envelope, How, Peer, Post, Seen, TagPick};
 use std::alloc::Global;
 
 /// The source that a receive names.

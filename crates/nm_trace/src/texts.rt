@@ -18,8 +18,8 @@ use crate::notes::Note;
 use crate::numbers::{large, small};
 use nm_history::Event;
 use nm_report::PairCount;
-use nm_types::Account;
 use nm_script::words::words;
+use nm_types::Account;
 use std::alloc::{AllocError, Global};
 
 /// What is left of the text, and the number of its first line.

@@ -20,17 +20,17 @@ ghost use Rattle.nm_world.specs.Rest.{CanMove, IsStill};
 use crate::bells::Bells;
 use crate::places::Places;
 use crate::wires::{polled, pullable, pulled, pushable, pushed, sent};
-use nm_port::carried::laws::{a_poll_carries, a_send_carries};
 use nm_copyring::{RingPort, Rings};
-use nm_history::History;
-use nm_outside::Gate;
-use nm_port::{Fabric, Port};
-use nm_process::{Process, Step};
 use nm_global::standing::laws::passing::{
     a_packet_is_taken, a_packet_leaves, a_piece_is_taken, a_piece_leaves,
 };
 use nm_global::standing::laws::runs::a_command_runs;
 use nm_global::standing::laws::stands::a_process_begins;
+use nm_history::History;
+use nm_outside::Gate;
+use nm_port::carried::laws::{a_poll_carries, a_send_carries};
+use nm_port::{Fabric, Port};
+use nm_process::{Process, Step};
 use nm_types::{Line, Memory, Piece, Shape};
 use std::alloc::Global;
 

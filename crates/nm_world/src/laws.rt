@@ -14,10 +14,10 @@ ghost use Rattle.nm_world.specs.Actors.{AllContinue, Grew, Grows, SomeGrew, Acto
 ghost use Rattle.nm_world.specs.Rest.{EachActor, EndsAt, HasRun, IsAllTaken, IsClosed, IsRingClosed};
 ghost use Rattle.nm_world.specs.Rest.{IsStill};
 
-use nm_port::carried::laws::a_close_carries;
 use nm_global::laws::rest::ranks_at_rest_make_a_run;
 use nm_global::outgoing::laws::leaves::all_left;
 use nm_global::standing::laws::stands::a_process_is_a_rank;
+use nm_port::carried::laws::a_close_carries;
 
 /// An actor that stands and is still is at its end, or waits for what can't come.
 pub fn a_still_actor_ends()

@@ -16,9 +16,9 @@ ghost use Rattle.nm_port.specs.Polls.{polled as polled_lem};
 ghost use Rattle.nm_copyring.specs.Plays.{one_empty, one_full, one_pulled, one_pushed, with_lane};
 ghost use Rattle.nm_copyring.specs.Ports as ring;
 
+use nm_chain::seats::Steps;
 use nm_copyring::{RingPort, Rings, can_pull, can_push, pull, push};
 use nm_port::{Fabric, Port, poll, send};
-use nm_chain::seats::Steps;
 use nm_types::{Packet, Path, Piece};
 use std::marker::Brand;
 use std::sync::ledger::{Blank, Ledger};

@@ -1,8 +1,8 @@
 //! Scripts and traces on standard input, verdicts on standard output.
 #![tactic(auto)]
 
-use nm_outside::{RealSink, RealSource};
 use nm_check::verdict::verdict;
+use nm_outside::{RealSink, RealSource};
 use std::io::ErrorKind;
 use std::process::ExitCode;
 use std::rt::Env;

@@ -3,10 +3,10 @@
 
 ghost use Rattle.std.specs.Prelude.{ℕ};
 
+use crate::seats::View;
 use crate::table::slots::Slot;
 use crate::table::table::Entry;
 use atomic_table::Play;
-use crate::seats::View;
 use std::marker::{Brand, PhantomData};
 
 /// Loads the head of an own queue.

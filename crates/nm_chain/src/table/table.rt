@@ -3,9 +3,9 @@
 ghost use Rattle.std.specs.Prelude.{◌≡◌};
 ghost use Rattle.nm_chain.specs.Plays.{raised, head_miss, link_miss};
 
+use crate::seats::View;
 use crate::table::slots::Slot;
 use atomic_table::{Seat, Table, TableRule};
-use crate::seats::View;
 use nm_types::{Packet, Shape};
 use std::alloc::Global;
 use std::collections::LinkedList;

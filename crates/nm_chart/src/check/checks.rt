@@ -12,12 +12,12 @@ ghost use Rattle.nm_chart.specs.Findings.{NotAsked, Says};
 
 use crate::check::findings::{Finding, status, text};
 use crate::check::places::flag_of;
-use nm_check::breaks::{Found, Place, find};
 use crate::laws::one_shape_serves_for_all;
+use nm_check::breaks::{Found, Place, find};
 use nm_check::checked::cut;
-use nm_script::command_line::{CommandLine, Mode};
 use nm_outside::{Sink, Source, Unread, read_up_to, write_all};
 use nm_report::RunRecord;
+use nm_script::command_line::{CommandLine, Mode};
 use nm_trace::{TraceFault, read_trace};
 use nm_types::{Memory, Shape};
 use std::alloc::Global;

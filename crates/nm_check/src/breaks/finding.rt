@@ -14,8 +14,8 @@ ghost use Rattle.nm_check.specs.Found.{IsFound, IsScriptFound, IsTraceFound, che
 use crate::breaks::places::Place;
 use crate::breaks::placing::trace_place;
 use crate::breaks::stops::{Stop, lines_in, stop_at};
-use crate::{Verdict, judge};
 use crate::checked::cut;
+use crate::{Verdict, judge};
 use nm_report::RunRecord;
 use nm_script::{Kind, ScriptFault};
 use nm_trace::{TraceFault, read_trace};

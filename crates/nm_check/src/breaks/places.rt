@@ -7,8 +7,8 @@ ghost use Rattle.nm_check_ranks.specs.Marked.{history_of};
 ghost use Rattle.nm_check.specs.Places as spec;
 ghost use Rattle.nm_check.specs.Places.{command_line, events_in, line_of, place_in};
 
-use nm_check_ranks::firsts::Spot;
 use nm_check_rank::breaks::Break;
+use nm_check_ranks::firsts::Spot;
 use nm_history::{Event, Happened};
 use nm_report::RankAccount;
 

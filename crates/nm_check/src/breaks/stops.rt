@@ -11,9 +11,9 @@ ghost use Rattle.nm_check.specs.Stops.{is_event_name as is_event_name_lem};
 ghost use Rattle.nm_check.specs.Stops.{is_odd_event as is_odd_event_lem};
 ghost use Rattle.nm_check.specs.Stops.{lines_in as lines_in_lem, zeroed as zeroed_lem};
 
+use nm_script::words::{split_line, words};
 use nm_trace::{TraceFault, read_trace};
 use nm_types::{Memory, Shape};
-use nm_script::words::{split_line, words};
 use std::alloc::{AllocError, Global};
 
 /// What stops a text at a line.

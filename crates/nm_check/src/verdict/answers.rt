@@ -3,9 +3,9 @@
 ghost use Rattle.std.specs.Prelude.{◌≡◌, IfOk};
 ghost use Rattle.nm_check.specs.Answers.{found_status as found_status_lem, status_of, text_of};
 
-use crate::verdict::texts::found_text;
-use crate::breaks::Found;
 use crate::Verdict;
+use crate::breaks::Found;
+use crate::verdict::texts::found_text;
 use std::alloc::{AllocError, Global};
 
 /// What there is to say.

@@ -12,8 +12,8 @@ ghost use Rattle.nm_check.specs.VerdictTexts.{pair_words as pair_words_lem};
 ghost use Rattle.nm_check.specs.VerdictTexts.{standing_words as standing_words_lem};
 ghost use Rattle.nm_check.specs.VerdictTexts.{verdict_text as verdict_text_lem};
 
-use crate::verdict::sentences::{carried_words, kind_words, own_words, rest_words, stop_words};
 use crate::breaks::{Found, Place, Stop};
+use crate::verdict::sentences::{carried_words, kind_words, own_words, rest_words, stop_words};
 use crate::{CarriedClause, OwnClause, RestClause, Verdict};
 use std::alloc::{AllocError, Global};
 

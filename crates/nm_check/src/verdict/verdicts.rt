@@ -14,10 +14,10 @@ ghost use Rattle.nm_check.specs.Endings.{IsSpoken, IsStatus, IsTold, IsWritten, 
 ghost use Rattle.nm_check.specs.Endings.{OrUnwritten};
 ghost use Rattle.nm_script.specs.declared.command_line.CommandLine as the_line;
 
-use crate::verdict::answers::{Response, status, text};
 use crate::breaks::find;
-use nm_script::command_line::{CommandLine, Mode};
+use crate::verdict::answers::{Response, status, text};
 use nm_outside::{Sink, Source, Unread, read_up_to, write_all};
+use nm_script::command_line::{CommandLine, Mode};
 use nm_types::Memory;
 use std::alloc::Global;
 

@@ -26,9 +26,9 @@ use crate::paired::tables::Tables;
 use crate::paired::told::{
     Told, await_answer, claim_answer, is_told, probe_answer, receive_answer, start_answer,
 };
+use nm_history::{Event, Happened};
 use nm_lookups::asked::commands::command_of_line;
 use nm_lookups::asked::requests::Request;
-use nm_history::{Event, Happened};
 use nm_lookups::firsts::Message;
 use nm_types::{Answer, Arrival, Command, Line, Memory};
 use std::alloc::Global;

@@ -6,8 +6,8 @@ ghost use Rattle.nm_history.specs.Answers.{arrival_claimed as arrival_claimed_le
 ghost use Rattle.nm_history.specs.Sends.{arrival_of, message_of as message_of_lem};
 ghost use Rattle.nm_lookups.specs.Placed.{ArePlaces};
 
-use nm_lookups::asked::handles::claim_at;
 use nm_history::{Event, Happened};
+use nm_lookups::asked::handles::claim_at;
 use nm_lookups::firsts::Message;
 use nm_lookups::places::Places;
 use nm_types::Arrival;

@@ -16,12 +16,12 @@ ghost use Rattle.nm_lookups.specs.SinceAnswer.{IsSince, of_kind};
 ghost use Rattle.nm_check_rank.specs.Kinds.{is_canceller as is_canceller_lem};
 ghost use Rattle.nm_check_rank.specs.Tabled.{AreRankTables};
 
+use crate::breaks::Break;
 use crate::paired::tables::Tables;
+use nm_history::{Event, Happened};
 use nm_lookups::asked::commands::command_of_line;
 use nm_lookups::asked::requests::Request;
 use nm_lookups::asked::since::{Called, Since};
-use crate::breaks::Break;
-use nm_history::{Event, Happened};
 use nm_lookups::firsts::is_before;
 use nm_lookups::kinds::{Recalls, Sends};
 use nm_types::{Command, Line};

@@ -15,11 +15,11 @@ ghost use Rattle.nm_lookups.specs.Deciding.{Decides};
 ghost use Rattle.nm_lookups.specs.SinceAnswer.{IsSince};
 ghost use Rattle.nm_check_rank.specs.Kinds.{is_claiming};
 
+use crate::breaks::Break;
+use nm_history::{Event, Happened};
 use nm_lookups::asked::commands::command_of_line;
 use nm_lookups::asked::handles::is_seen;
 use nm_lookups::asked::since::{Called, Since};
-use crate::breaks::Break;
-use nm_history::{Event, Happened};
 use nm_lookups::pairing::Pairing;
 use nm_types::{Answer, Arrival, Command, Line};
 

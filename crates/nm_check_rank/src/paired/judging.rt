@@ -11,15 +11,15 @@ ghost use Rattle.nm_check_rank.specs.OwnClauses.{KeepsOwn, own_order};
 ghost use Rattle.nm_check_rank.specs.declared.clauses.OwnClause.TheVariants as own;
 ghost use Rattle.nm_check_rank.specs.Tabled.{AreRankTables, IsJudged};
 
+use crate::clauses::OwnClause;
+use crate::ends::ends_hold;
+use crate::numbers::are_numbered;
 use crate::paired::answers::are_answered;
 use crate::paired::cancels::cancels_hold;
 use crate::paired::claims::claims_hold;
 use crate::paired::order::are_in_order;
 use crate::paired::starts::starts_hold;
 use crate::paired::tables::Tables;
-use crate::clauses::OwnClause;
-use crate::ends::ends_hold;
-use crate::numbers::are_numbered;
 use crate::stamps::stamps_rise;
 use crate::wholes::wholes_hold;
 use nm_history::Event;

@@ -20,9 +20,9 @@ ghost use Rattle.nm_check_rank.specs.Told.{untold};
 
 use crate::paired::tables::Tables;
 use crate::paired::told::{Told, shown};
-use nm_lookups::asked::requests::Request;
 use nm_history::laws::complete_has_result;
 use nm_history::plain::Pair;
+use nm_lookups::asked::requests::Request;
 use nm_lookups::firsts::{is_before, is_number_before};
 use nm_lookups::kinds::{Cancels, Late, Outs, Recalls, Undone, Wholes};
 use nm_lookups::places::Places;

@@ -19,12 +19,12 @@ ghost use Rattle.nm_lookups.specs.SinceAnswer.{IsSince, of_kind};
 ghost use Rattle.nm_check_rank.specs.Handles.{IsOfHandle, IsStart};
 ghost use Rattle.nm_check_rank.specs.Tabled.{AreRankTables};
 
+use crate::breaks::Break;
 use crate::paired::tables::Tables;
+use nm_history::{Event, Happened};
 use nm_lookups::asked::commands::command_of_line;
 use nm_lookups::asked::requests::is_started;
 use nm_lookups::asked::since::{Called, Since};
-use crate::breaks::Break;
-use nm_history::{Event, Happened};
 use nm_lookups::firsts::{Message, is_before};
 use nm_lookups::kinds::Claims;
 use nm_types::{Body, Command, How, Line, Peer, TagPick};

@@ -10,12 +10,12 @@ ghost use Rattle.nm_history.specs.Delivery.{asked_pair};
 ghost use Rattle.nm_check_rank.specs.Tabled.{AreRankTables};
 ghost use Rattle.nm_history.specs.RankRun.{Always, NumberAt};
 
-use crate::paired::results::{is_over, pair_shown};
-use nm_lookups::asked::asked::{Asked, live};
-use nm_lookups::asked::commands::command_of_line;
 use crate::numbers::{Counts, counted};
+use crate::paired::results::{is_over, pair_shown};
 use nm_history::Event;
 use nm_history::plain::Pair;
+use nm_lookups::asked::asked::{Asked, live};
+use nm_lookups::asked::commands::command_of_line;
 use nm_lookups::pairing::Pairing;
 use nm_lookups::places::Places;
 use nm_types::{Command, Line, Memory};

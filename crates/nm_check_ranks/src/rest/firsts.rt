@@ -12,9 +12,9 @@ ghost use Rattle.nm_check_ranks.specs.Tabled.{AreTabled};
 ghost use Rattle.nm_check_ranks.specs.RestBreaks.{BreaksRestAt, KeepRestAt, RestAt, rest_clause};
 ghost use Rattle.nm_check_ranks.specs.RestClauses.{KeepsRest};
 
+use crate::firsts::Spot;
 use crate::rest::over::{is_asked_over, is_eager_over};
 use crate::rest::rest::is_answered;
-use crate::firsts::Spot;
 use nm_check_rank::paired::tables::Tables;
 use nm_history::{Event, Happened};
 use nm_lookups::places::Places;

@@ -13,8 +13,8 @@ ghost use Rattle.nm_check_rank.specs.Counted.{AreCounted};
 ghost use Rattle.nm_lookups.specs.Deciding.{Decides};
 ghost use Rattle.nm_lookups.specs.Placed.{ArePlaces};
 
-use nm_check_rank::paired::tables::Tables;
 use nm_check_rank::numbers::{Counts, has_arrived};
+use nm_check_rank::paired::tables::Tables;
 use nm_history::{Event, Happened};
 use nm_lookups::firsts::is_before;
 use nm_lookups::kinds::{Late, Undone};

@@ -23,8 +23,8 @@ ghost use Rattle.nm_outcomes.specs.Looks.{claim_in, is_cancelling_by, is_claim_a
 ghost use Rattle.nm_outcomes.specs.Looks.{is_receive_by, is_send_by, is_starting_by, message_meant};
 ghost use Rattle.nm_outcomes.specs.RankStates.{free_lem};
 
-use nm_lookups::asked::requests::Request;
 use nm_history::plain::Pair;
+use nm_lookups::asked::requests::Request;
 use nm_outcomes::spots::deeds::{Deed, Message, Receive, Reply};
 use nm_outcomes::spots::looks::{
     came, claim_at, found, is_idle, is_recalled, is_unasked, live, live_message, received, send_at,

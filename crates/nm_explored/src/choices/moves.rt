@@ -14,7 +14,9 @@ ghost use Rattle.nm_explored.specs.Lists.{AddsOnly, Has, Extends};
 ghost use Rattle.nm_explored.specs.Moves.{AreMovesOf, AreSendsShort, IsAct, IsChoiceOf, IsDeedOf};
 ghost use Rattle.nm_explored.specs.Moves.{IsNextMessage, IsRecalled, IsTurn, IsTurnOf, moved_at, no_in};
 
-use crate::choices::choices::{View, answer, begin, line_at, may_say_no, may_withdraw, next_message};
+use crate::choices::choices::{
+    View, answer, begin, line_at, may_say_no, may_withdraw, next_message,
+};
 use nm_lookups::asked::commands::command_of_line;
 use nm_outcomes::spots::deeds::{Deed, Message, Reply};
 use nm_outcomes::spots::looks::ran;

@@ -7,9 +7,9 @@ ghost use Rattle.nm_rank.specs.New.{IsNew};
 ghost use Rattle.nm_rank.specs.Ranks.{RankView};
 ghost use Rattle.nm_global.specs.Ranks.{IsPassed, RankInvariant, new_rank};
 
-use nm_history::laws::rank_run_begins;
 use crate::log::laws::moments::a_log_begins;
 use crate::outgoing::laws::starts::nothing_left;
+use nm_history::laws::rank_run_begins;
 
 /// A new rank stands at its place (`Rank::new`), and nothing is between any two.
 pub fn new_ranks_stand()

@@ -15,10 +15,10 @@ ghost use Rattle.nm_lookups.specs.AskedFor.{name_asked as name_asked_lem, name_o
 use crate::asked::commands::command_of_line;
 use crate::asked::handles::messages_asked;
 use crate::asked::requests::{Change, Request, apply, change_of_name, request_at};
-use indexmap::IndexMap;
-use nm_history::{Event, Happened};
 use crate::firsts::Message;
 use crate::places::ByNumber;
+use indexmap::IndexMap;
+use nm_history::{Event, Happened};
 use nm_types::{Answer, Command, Line, Memory};
 use std::alloc::Global;
 

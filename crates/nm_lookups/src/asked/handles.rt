@@ -17,10 +17,10 @@ ghost use Rattle.nm_lookups.specs.AskedFor.{message_meant};
 
 use crate::asked::commands::command_of_line;
 use crate::asked::requests::{Change, apply, begins, ends, is_started};
-use indexmap::IndexMap;
-use nm_history::{Event, Happened};
 use crate::firsts::Message;
 use crate::places::ByNumber;
+use indexmap::IndexMap;
+use nm_history::{Event, Happened};
 use nm_types::{Answer, Command, Line, Memory};
 use std::alloc::Global;
 

@@ -13,9 +13,9 @@ ghost use Rattle.nm_lookups.specs.Firsts.{is_start_at};
 ghost use Rattle.nm_lookups.specs.Placed.{AreByNumber};
 ghost use Rattle.nm_lookups.specs.AskedFor.{meant_by, changed};
 
+use crate::places::ByNumber;
 use indexmap::IndexMap;
 use nm_history::{Event, Happened};
-use crate::places::ByNumber;
 use nm_types::{Answer, Command, Memory};
 
 /// A request: the send of message `n` to a rank, or the receive with a number.

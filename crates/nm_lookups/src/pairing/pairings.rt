@@ -16,13 +16,13 @@ ghost use Rattle.nm_lookups.specs.Looks.{look_of};
 ghost use Rattle.nm_lookups.specs.Pairings.{ArePairTables, Tells};
 ghost use Rattle.nm_lookups.specs.Replays.{Replays};
 
+use crate::firsts::Message;
 use crate::pairing::looks::look;
 use crate::pairing::replays::Replay;
 use indexmap::IndexMap;
 use nm_history::Event;
 use nm_history::plain::Pair;
 use nm_match::Matcher;
-use crate::firsts::Message;
 use nm_types::{Arrival, Line, Memory, Peer, TagPick};
 use std::alloc::Global;
 use std::hash::Hash;

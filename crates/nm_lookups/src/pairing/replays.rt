@@ -12,12 +12,12 @@ ghost use Rattle.nm_lookups.specs.Queues.{without_message, without_receive};
 ghost use Rattle.nm_lookups.specs.Replays.{HasSameQueues, HasSameReceives, HasSameTables};
 ghost use Rattle.nm_lookups.specs.Replays.{Replays, IsNextReplay};
 
+use crate::firsts::Message;
 use crate::pairing::queues::{arrive, cancel, post, take};
 use indexmap::{IndexMap, IndexSet};
 use nm_history::Happened;
 use nm_history::plain::Pair;
 use nm_match::Matcher;
-use crate::firsts::Message;
 use nm_types::{Arrival, Memory, Post};
 use std::alloc::Global;
 

@@ -22,9 +22,9 @@ ghost use Rattle.nm_outcomes.specs.Looks.{name_in, request_in};
 
 use crate::spots::deeds::{Deed, Message, Reply};
 use crate::spots::ranks::Rank;
+use nm_history::plain::selects;
 use nm_lookups::asked::commands::command_of_line;
 use nm_lookups::asked::requests::Request;
-use nm_history::plain::selects;
 use nm_types::{Arrival, Command, How, Line, Peer, TagPick};
 
 /// Whether a command starts a request of this name.

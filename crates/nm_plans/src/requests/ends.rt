@@ -5,8 +5,8 @@ ghost use Rattle.indexmap.specs.IndexMap.{get};
 ghost use Rattle.nm_plans.specs.Ends.{end_in, other_end, parts_behind, same_end};
 ghost use Rattle.nm_plans.specs.Ends.{end as end_lem, parts_in as parts_in_lem};
 
-use indexmap::IndexMap;
 use crate::{PlanCommand, PlanLine};
+use indexmap::IndexMap;
 use nm_types::Memory;
 use std::alloc::Global;
 

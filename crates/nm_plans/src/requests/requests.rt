@@ -6,8 +6,8 @@ ghost use Rattle.nm_plans.specs.PlanRequests.{changed_by, is_sending, owner_of, 
 ghost use Rattle.nm_plans.specs.PlanRequests.{request_behind, same_owner};
 ghost use Rattle.nm_plans.specs.PlanRequests.{inactive as inactive_lem, made_by as made_by_lem};
 
-use indexmap::IndexMap;
 use crate::{PlanCommand, PlanLine};
+use indexmap::IndexMap;
 use nm_types::{Body, Memory};
 use std::alloc::Global;
 

@@ -3,8 +3,8 @@
 ghost use Rattle.std.specs.Prelude.{◌≡◌};
 ghost use Rattle.nm_plans.specs.States as states;
 
-use crate::requests::requests::Request;
 use crate::PlanCommand;
+use crate::requests::requests::Request;
 
 impl Request {
     /// A request that receives in parts.

@@ -6,9 +6,9 @@ ghost use Rattle.nm_port.specs.Polls.{HoldsTheRest};
 
 use crate::fabric::ends::{both, bytes_of, closed, packet};
 use nm_cells::{Fabric, Port, Queue, take_out};
+use nm_chain::seats::Steps;
 use nm_port::{poll, send};
 use nm_queue::{dequeue, enqueue};
-use nm_chain::seats::Steps;
 use nm_types::{Account, Memory, Packet, Path, Shape};
 use std::alloc::Global;
 use std::marker::Brand;

@@ -11,8 +11,8 @@ use nm_cells::{
     Cell, Fabric, Pending, Port, Queue, clear_link, put_in, store_head, store_link, swap_tail,
     take_out,
 };
-use nm_queue::{Miss, dequeue, enqueue};
 use nm_chain::seats::Steps;
+use nm_queue::{Miss, dequeue, enqueue};
 use nm_types::{Memory, Packet, Payload, Shape, What};
 use std::alloc::Global;
 use std::marker::Brand;

@@ -3,8 +3,8 @@
 ghost use Rattle.std.specs.Prelude.{◌≡◌, ◌<◌, ◌^◌, IfOk};
 ghost use Rattle.nm_copyring.specs.Ports.{IsNew, Owns};
 
-use nm_copyring::{RingAccount, RingPort, Rings, pull, push};
 use nm_chain::seats::Steps;
+use nm_copyring::{RingAccount, RingPort, Rings, pull, push};
 use nm_types::{Chunk, Memory, Piece, Shape};
 use std::alloc::Global;
 use std::marker::Brand;

@@ -6,8 +6,8 @@ ghost use Rattle.nm_script.specs.Decimal.{number_of};
 ghost use Rattle.nm_script.specs.ArgumentWords.{IsArgument, IsOption};
 ghost use Rattle.nm_script.specs.declared.command_line.arguments.Argument.{Argument};
 
-use nm_types::{MAX_CELLS, MAX_EAGER};
 use crate::words::number_up_to;
+use nm_types::{MAX_CELLS, MAX_EAGER};
 
 /// An option with its value, or a number that stands by itself.
 #[derive(Clone, Copy)]

@@ -4,8 +4,8 @@ ghost use Rattle.std.specs.Prelude.{◌≡◌, ◌<◌, ◌++◌, ◌∷◌, [],
 ghost use Rattle.nm_copyring.specs.Ports.{IsNew, Owns, pulled_from, pushed_to};
 ghost use Rattle.uses.specs.Fronts.{IsFront, bytes_in};
 
-use nm_copyring::{RingPort, Rings, pull, push};
 use nm_chain::seats::Steps;
+use nm_copyring::{RingPort, Rings, pull, push};
 use nm_types::{Chunk, Memory, Piece, Shape};
 use std::alloc::Global;
 use std::marker::Brand;

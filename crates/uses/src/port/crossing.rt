@@ -8,9 +8,9 @@ ghost use Rattle.uses.specs.Crossings.{IsFront, Sends, Takes};
 
 use crate::port::sending::send_next;
 use crate::port::taking::take_next;
+use nm_chain::seats::Steps;
 use nm_port::carried::laws::{a_close_carries, a_new_port_carries_nothing};
 use nm_port::{Fabric, Port};
-use nm_chain::seats::Steps;
 use nm_types::{Memory, Shape};
 use std::alloc::Global;
 use std::marker::Brand;

@@ -5,9 +5,9 @@ ghost use Rattle.nm_types.specs.declared.limits.TheConstants.{MAX_PACKETS};
 ghost use Rattle.nm_cells.specs.Ports.{Owns, knows};
 ghost use Rattle.uses.specs.Crossings.{Sends};
 
+use nm_chain::seats::Steps;
 use nm_port::carried::laws::a_send_carries;
 use nm_port::{Fabric, Port, send};
-use nm_chain::seats::Steps;
 use nm_types::{Packet, Payload, What};
 use std::sync::ledger::Ledger;
 

@@ -5,8 +5,8 @@ ghost use Rattle.nm_cells.specs.Ports.{Owns, IsOwn, Takes, is_receive, knows};
 ghost use Rattle.uses.specs.QueueCrossings.{SameLists};
 
 use nm_cells::{Cell, Fabric, Port, Queue};
-use nm_queue::dequeue;
 use nm_chain::seats::Steps;
+use nm_queue::dequeue;
 use std::sync::ledger::Ledger;
 
 /// Takes the first cell of an own queue, or none where that one had a miss.

@@ -7,8 +7,8 @@ ghost use Rattle.uses.specs.QueueCrossings.{Puts};
 
 use crate::queue::first::take_first;
 use nm_cells::{Fabric, Port, Queue, put_in};
-use nm_queue::enqueue;
 use nm_chain::seats::Steps;
+use nm_queue::enqueue;
 use nm_types::{Packet, Payload, What};
 use std::sync::ledger::Ledger;
 

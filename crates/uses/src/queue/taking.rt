@@ -6,8 +6,8 @@ ghost use Rattle.uses.specs.QueueCrossings.{Gets};
 
 use crate::queue::first::take_first;
 use nm_cells::{Fabric, Port, Queue, take_out};
-use nm_queue::enqueue;
 use nm_chain::seats::Steps;
+use nm_queue::enqueue;
 use nm_types::{Memory, Packet};
 use std::sync::ledger::Ledger;
 
