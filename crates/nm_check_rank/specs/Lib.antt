@@ -1,10 +1,13 @@
 pub mod Breaks
 pub mod Counted
+pub mod Dues
 pub mod FirstBroken
 pub mod Fronts
 pub mod Handles
 pub mod Kinds
+pub mod Objections
 pub mod OwnBreaks
 pub mod OwnClauses
 pub mod Tabled
+pub mod Takes
 pub mod Told

@@ -5,6 +5,7 @@ ghost use Rattle.std.specs.Prelude.{MatchOption};
 ghost use Rattle.nm_lookups.specs.Deciding.{Decides};
 ghost use Rattle.nm_check_rank.specs.Breaks.{BreaksFirstAt};
 ghost use Rattle.nm_check_rank.specs.Counted.{AreCounted};
+ghost use Rattle.nm_check_rank.specs.Dues.{next_number};
 ghost use Rattle.nm_history.specs.declared.events.Event.{Event};
 ghost use Rattle.nm_history.specs.RankRun.{Always, NumberAt};
 ghost use Rattle.nm_history.specs.Sends.{arrivals, sends};
@@ -47,6 +48,20 @@ impl Counts {
                 a.env.from < ranks && a.n == self.arrivals[a.env.from as usize]
             }
             _ => true,
+        }
+    }
+
+    /// The next number of a send, a receive or an arrival.
+    pub fn next_number(&self, what: &Happened) -> Option<u64>
+        ensures { (before : List Event) → AreCounted before self.now →
+            result ≡ next_number before what.now }
+    {
+        match what {
+            Happened::Send { to, .. } => Some(self.sends[*to as usize]),
+            Happened::Post { .. } => Some(self.receives),
+            Happened::Match { .. } => Some(self.receives),
+            Happened::Arrive { a } => Some(self.arrivals[a.env.from as usize]),
+            _ => None,
         }
     }
 

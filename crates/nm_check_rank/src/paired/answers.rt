@@ -65,7 +65,7 @@ fn answer_by(
 }
 
 /// The answer that the events before a place give to the command of its line.
-fn answer_told(
+pub(crate) fn answer_told(
     events: &[Event],
     tables: &Tables,
     command: &Command,

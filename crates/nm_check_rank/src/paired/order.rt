@@ -23,7 +23,7 @@ fn line_ran(what: &Happened) -> Option<u64>
 }
 
 /// The lines of the commands that ran.
-fn lines_ran(alloc: Global, events: &[Event]) -> Result<Vec<u64>, Memory>
+pub(crate) fn lines_ran(alloc: Global, events: &[Event]) -> Result<Vec<u64>, Memory>
     ensures { IfOk result (λ ran. ran.items ≡ ran_lines events.now) }
 {
     let mut ran = Vec::new(alloc);

@@ -30,7 +30,7 @@ use nm_lookups::kinds::Claims;
 use nm_types::{Body, Command, How, Line, Peer, TagPick};
 
 /// A send or a receive.
-struct Starting;
+pub(crate) struct Starting;
 
 impl Called for Starting {
     ghost use Rattle.nm_history.specs.RankRun.{is_start};
@@ -87,7 +87,7 @@ fn is_same_pick(a: TagPick, b: TagPick) -> bool
 }
 
 /// The length of a body.
-fn length_of(body: &Body) -> u64
+pub(crate) fn length_of(body: &Body) -> u64
     ensures { result ≡ body_len body.now }
 {
     match body {

@@ -8,6 +8,8 @@ ghost use Rattle.nm_history.specs.declared.events.Happened.TheVariants.{Ran};
 ghost use Rattle.nm_history.specs.Answers.{can_go_on};
 ghost use Rattle.nm_history.specs.Delivery.{asked_pair};
 ghost use Rattle.nm_check_rank.specs.Tabled.{AreRankTables};
+ghost use Rattle.nm_check_rank.specs.Takes.{IsTakenAt};
+ghost use Rattle.nm_types.specs.declared.scripts.Line as script_line;
 ghost use Rattle.nm_history.specs.RankRun.{Always, NumberAt};
 
 use crate::numbers::{Counts, counted};
@@ -16,6 +18,7 @@ use nm_history::Event;
 use nm_history::plain::Pair;
 use nm_lookups::asked::asked::{Asked, live};
 use nm_lookups::asked::commands::command_of_line;
+use nm_lookups::firsts::Message;
 use nm_lookups::pairing::Pairing;
 use nm_lookups::places::Places;
 use nm_types::{Command, Line, Memory};
@@ -70,6 +73,18 @@ impl Tables {
     {
         match command_of_line(lines, rank, line) {
             Some(command) => pair_shown(self, command, self.asked.request(k), k),
+            None => None,
+        }
+    }
+
+    /// The place of the first event by which a receive has message `n` of a rank.
+    pub fn taken_at(&self, from: u8, n: u64) -> Option<usize>
+        ensures { (rank : ℕ) (lines : List script_line.Line) (h : List event.Event) →
+            AreRankTables rank lines h self.now → IsTakenAt h from n result }
+    {
+        let taken = self.pairing.taken();
+        match taken.get(&Message { rank: from, n }) {
+            Some(place) => Some(*place),
             None => None,
         }
     }

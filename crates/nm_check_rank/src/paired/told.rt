@@ -13,7 +13,7 @@ use nm_types::{Answer, Arrival};
 
 /// An answer, of whose bytes the number alone counts.
 #[derive(Clone, Copy, PartialEq)]
-pub(crate) enum Told {
+pub enum Told {
     Started,
     Busy,
     Null,

@@ -1,0 +1,11 @@
+use Rattle.std.proofs.Common.{◌∙◌}
+use Rattle.nm_check_rank.specs.Objections.{once_after}
+use Rattle.nm_check_rank.specs.declared.paired.objections.Objection.TheVariants as against
+use Rattle.nm_check_rank.proofs.paired.objections.out_objection.Goals as goal
+
+pub returns : goal.returns
+returns c = λ rank lines h told.
+    let gone = told.places.outgoing.gone in
+    c.once_after.ensures
+    ∙ (λ i. once_after (c.is_before-out.ensures h gone.outs i) (c.is_before-sent.ensures h gone.sends i)
+    against.NotSent)

@@ -1,0 +1,271 @@
+//! What is called for where a rank breaks a rule of its own run.
+
+ghost use Rattle.std.specs.Prelude.{◌≡◌, ◌<◌, IfOk, List, Some, length, option_and_then};
+ghost use Rattle.std.specs.Prelude.{option_map, slice_get, take};
+ghost use Rattle.nm_types.specs.Commands.{Numbered, command_at, commands_of};
+ghost use Rattle.nm_types.specs.Sizes.{Sizes};
+ghost use Rattle.nm_types.specs.declared.answers.Answer as given_answer;
+ghost use Rattle.nm_history.specs.declared.events.Event as event;
+ghost use Rattle.nm_history.specs.declared.events.Happened.TheVariants.{Ran};
+ghost use Rattle.nm_history.specs.Answers.{answer_of};
+ghost use Rattle.nm_history.specs.RankRun.{last_stamp as last_stamp_lem};
+ghost use Rattle.nm_lookups.specs.Deciding.{Decides};
+ghost use Rattle.nm_check_rank.specs.Counted.{AreCounted};
+ghost use Rattle.nm_check_rank.specs.Dues as spec;
+ghost use Rattle.nm_check_rank.specs.Dues.{IsDue, IsDueAt, IsOwnDue, next_line as next_line_lem};
+ghost use Rattle.nm_check_rank.specs.Tabled.{AreRankTables};
+ghost use Rattle.nm_check_rank.specs.Told.{untold};
+ghost use Rattle.nm_check_rank.specs.declared.clauses.OwnClause.TheVariants as own;
+ghost use Rattle.nm_check_rank.specs.declared.paired.dues.Due.TheVariants.{Against};
+
+use crate::clauses::OwnClause;
+use crate::numbers::{Counts, counted};
+use crate::paired::answers::answer_told;
+use crate::paired::limits::start_due;
+use crate::paired::objections::{Objection, cancel_objection, end_objection, whole_objection};
+use crate::paired::order::{lines_ran, own_lines};
+use crate::paired::tables::Tables;
+use crate::paired::told::{Told, told_of};
+use nm_history::{Event, Happened};
+use nm_lookups::asked::commands::command_of_line;
+use nm_types::{Answer, Line, Memory, Shape};
+use std::alloc::Global;
+
+/// What is called for at an event.
+#[derive(Clone, Copy)]
+pub enum Due {
+    /// The command is out of turn: the rank's next one stands in this line, or none is left.
+    Command { next: Option<u64> },
+    /// The command is the next one. It has this answer, or can't go on, and this one was found.
+    Answer { called: Option<Told>, found: Told },
+    /// The stamp is to be greater than this one, and this one was found.
+    Stamp { last: u64, found: u64 },
+    /// The number is to be this one, and this one was found.
+    Number { called: u64, found: u64 },
+    /// The message is to be of one of so many ranks, and this one was found.
+    Rank { ranks: u8, found: u8 },
+    /// By this eager limit a send of so many bytes is to ask, and does not, or the other way round.
+    Eager { limit: u16, len: u64, asks: bool },
+    /// This stands against the event.
+    Against { objection: Objection },
+}
+
+/// The line of a rank's next command after these events, if one is left.
+fn next_line(
+    alloc: Global,
+    rank: u8,
+    lines: &[Line],
+    before: &[Event],
+) -> Result<Option<u64>, Memory>
+    ensures { IfOk result (λ next.
+        next ≡ next_line_lem (commands_of rank lines.now) before.now) }
+{
+    let own = own_lines(alloc, rank, lines)?;
+    let ran = lines_ran(alloc, before)?;
+    Ok(own.get(ran.len()).copied())
+}
+
+/// The answer that the command of a line has by the events before a place, where it ran.
+fn answer_called(
+    rank: u8,
+    lines: &[Line],
+    events: &[Event],
+    tables: &Tables,
+    k: usize,
+    line: u32,
+) -> Option<Told>
+    requires told { AreRankTables rank lines.now events.now tables.now }
+    ensures { (e : event.Event) (answer : given_answer.Answer) → slice_get events.now k ≡ Some e →
+        e.what ≡ Ran line answer → option_map untold result
+        ≡ option_and_then (λ c. answer_of (commands_of rank lines.now) (take k events.now) line c)
+        (command_at (commands_of rank lines.now) line) }
+{
+    match command_of_line(lines, rank, line) {
+        Some(command) => answer_told(events, tables, command, k, line),
+        None => None,
+    }
+}
+
+/// Whether the next command is in this line.
+fn is_next(next: Option<u64>, line: u32) -> bool
+    ensures { Decides result (next ≡ Some line) }
+{
+    match next {
+        Some(next) => next == u64::from(line),
+        None => false,
+    }
+}
+
+/// What is called for at the answer to the command of a line.
+fn due_of_line(called: Option<Told>, next: Option<u64>, line: u32, answer: &Answer) -> Due
+    ensures { (commands : List Numbered) (before : List event.Event) →
+        next ≡ next_line_lem commands before →
+        option_map untold called
+        ≡ option_and_then (λ c. answer_of commands before line c) (command_at commands line) →
+        IsDue commands before line answer.now result }
+{
+    if is_next(next, line) {
+        let found = told_of(answer);
+        Due::Answer { called, found }
+    } else {
+        Due::Command { next }
+    }
+}
+
+/// What is called for at a place, if a command ran there.
+pub fn due_at(
+    alloc: Global,
+    rank: u8,
+    lines: &[Line],
+    events: &[Event],
+    tables: &Tables,
+    k: usize,
+) -> Result<Option<Due>, Memory>
+    requires told { AreRankTables rank lines.now events.now tables.now }
+    requires inside { k < length events.now }
+    ensures { (e : event.Event) → slice_get events.now k ≡ Some e → IfOk result
+        (IsDueAt (commands_of rank lines.now) (take k events.now) e.what) }
+{
+    match &events[k].what {
+        Happened::Ran { line, answer } => {
+            let next = next_line(alloc, rank, lines, &events[..k])?;
+            let called = answer_called(rank, lines, events, tables, k, *line);
+            Ok(Some(due_of_line(called, next, *line, answer)))
+        }
+        _ => Ok(None),
+    }
+}
+
+/// The stamp of the last event, 0 where there is none.
+fn last_stamp(before: &[Event]) -> u64
+    ensures { result ≡ last_stamp_lem before.now }
+{
+    let mut last = 0;
+    for e in before {
+        last = e.stamp;
+    }
+    last
+}
+
+/// What the rule on stamps calls for at a place.
+pub fn stamp_due(events: &[Event], k: usize) -> Option<Due>
+    requires inside { k < length events.now }
+    ensures { (shape : Sizes) (commands : List Numbered) (e : event.Event) →
+        slice_get events.now k ≡ Some e →
+        IsOwnDue shape commands own.Stamps (take k events.now) e result }
+{
+    Some(Due::Stamp {
+        last: last_stamp(&events[..k]),
+        found: events[k].stamp,
+    })
+}
+
+/// The number of a send, a receive or an arrival.
+fn number_of(what: &Happened) -> Option<u64>
+    ensures { result ≡ spec.number_of what.now }
+{
+    match what {
+        Happened::Send { n, .. } => Some(*n),
+        Happened::Post { post, .. } => Some(post.number),
+        Happened::Match { number, .. } => Some(*number),
+        Happened::Arrive { a } => Some(a.n),
+        _ => None,
+    }
+}
+
+/// The sender of an arrival that is none of so many ranks.
+fn stranger(ranks: u8, what: &Happened) -> Option<u8>
+    ensures { result ≡ spec.stranger ranks what.now }
+{
+    match what {
+        Happened::Arrive { a } => {
+            if a.env.from < ranks {
+                None
+            } else {
+                Some(a.env.from)
+            }
+        }
+        _ => None,
+    }
+}
+
+/// The next number, and the one that there is.
+fn numbers_due(called: Option<u64>, found: Option<u64>) -> Option<Due>
+    ensures { result ≡ spec.numbers_due called found }
+{
+    let Some(called) = called else {
+        return None;
+    };
+    match found {
+        Some(found) => Some(Due::Number { called, found }),
+        None => None,
+    }
+}
+
+/// A rank that there isn't, or the number.
+fn rank_or_number(ranks: u8, found: Option<u8>, numbers: Option<Due>) -> Option<Due>
+    ensures { result ≡ spec.number_due ranks found numbers }
+{
+    match found {
+        Some(found) => Some(Due::Rank { ranks, found }),
+        None => numbers,
+    }
+}
+
+/// What the rule on numbers calls for at an event, by the counts of those before it.
+fn counted_due(ranks: u8, counts: &Counts, what: &Happened) -> Option<Due>
+    ensures { (before : List event.Event) → AreCounted before counts.now →
+        result ≡ spec.number_due ranks (spec.stranger ranks what.now)
+        (spec.numbers_due (spec.next_number before what.now) (spec.number_of what.now)) }
+{
+    let numbers = numbers_due(counts.next_number(what), number_of(what));
+    rank_or_number(ranks, stranger(ranks, what), numbers)
+}
+
+/// What the rule on numbers calls for at a place.
+pub fn number_due(shape: Shape, events: &[Event], k: usize) -> Option<Due>
+    requires inside { k < length events.now }
+    ensures { (commands : List Numbered) (e : event.Event) → slice_get events.now k ≡ Some e →
+        IsOwnDue shape commands own.Numbers (take k events.now) e result }
+{
+    let counts = counted(&events[..k]);
+    counted_due(shape.ranks(), &counts, &events[k].what)
+}
+
+/// What stands against an event, if something does.
+fn against(objection: Option<Objection>) -> Option<Due>
+    ensures { result ≡ option_map Against objection }
+{
+    match objection {
+        Some(objection) => Some(Due::Against { objection }),
+        None => None,
+    }
+}
+
+/// What a rule calls for at a place that is judged by tables.
+pub fn due_by_tables(
+    alloc: Global,
+    shape: Shape,
+    rank: u8,
+    lines: &[Line],
+    events: &[Event],
+    tables: &Tables,
+    clause: OwnClause,
+    k: usize,
+) -> Result<Option<Due>, Memory>
+    requires told { AreRankTables rank lines.now events.now tables.now }
+    requires inside { k < length events.now }
+    requires judged { ¬ (clause ≡ own.Stamps) × ¬ (clause ≡ own.Numbers) }
+    ensures { (e : event.Event) → slice_get events.now k ≡ Some e → IfOk result
+        (IsOwnDue shape (commands_of rank lines.now) clause (take k events.now) e) }
+{
+    let what = &events[k].what;
+    match clause {
+        OwnClause::Answers => due_at(alloc, rank, lines, events, tables, k),
+        OwnClause::Starts => Ok(start_due(rank, lines, events, shape.eager(), k)),
+        OwnClause::Wholes => Ok(against(whole_objection(tables, k, what))),
+        OwnClause::Ends => Ok(against(end_objection(tables, k, what))),
+        OwnClause::Cancels => Ok(against(cancel_objection(tables, k, what))),
+        _ => Ok(None),
+    }
+}
