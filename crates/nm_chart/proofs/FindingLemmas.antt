@@ -12,6 +12,7 @@ use Rattle.nm_check.specs.Inputs.{HasNoCut, IsOnlyCut}
 use Rattle.nm_picture.specs.declared.flags.Flag.{Flag}
 use Rattle.nm_chart.specs.Endings.{read_of, widest}
 use Rattle.nm_chart.specs.Widened.{widened}
+use Rattle.nm_check.specs.declared.breaks.evidence.Evidence.{Evidence}
 use Rattle.nm_check.specs.declared.breaks.finding.Found.{Found}
 use Rattle.nm_check.specs.declared.breaks.finding.Found.TheVariants as found
 use Rattle.nm_check.specs.declared.breaks.places.Place.{Place}
@@ -21,9 +22,9 @@ use Rattle.nm_chart.specs.declared.check.findings.Finding.{Finding}
 use Rattle.nm_chart.specs.declared.check.findings.Finding.TheVariants.{Usage, Unread, NoScript, NoTrace, Drawn}
 
 -- where bytes were judged there is a trace
-pub judged_trace : (bytes : List ℕ) (before : ℕ) (verdict : Verdict) (place : Place) →
-    IsFoundIn bytes (found.Judged before verdict place) → HasTrace bytes
-judged_trace bytes before verdict place p =
+pub judged_trace : (bytes : List ℕ) (before : ℕ) (verdict : Verdict) (place : Place) (evidence : Evidence) →
+    IsFoundIn bytes (found.Judged before verdict place evidence) → HasTrace bytes
+judged_trace bytes before verdict place evidence p =
     let all = p.2 in
     let script = all.3 in
     let trace = script.3 in
@@ -68,13 +69,13 @@ no_usage : (bytes : List ℕ) (what : Found) → IsFindingOf bytes what Usage �
 no_usage bytes found.NoTrace h = cc
 no_usage bytes (found.NoScript line kind) h = cc
 no_usage bytes (found.BadTrace before line stop) h = cc
-no_usage bytes (found.Judged before verdict place) h = h
+no_usage bytes (found.Judged before verdict place evidence) h = h
 
 no_unread : (bytes : List ℕ) (what : Found) → IsFindingOf bytes what Unread → ⊥
 no_unread bytes found.NoTrace h = cc
 no_unread bytes (found.NoScript line kind) h = cc
 no_unread bytes (found.BadTrace before line stop) h = cc
-no_unread bytes (found.Judged before verdict place) h = h
+no_unread bytes (found.Judged before verdict place evidence) h = h
 
 -- what there is to say of the bytes that were read is what there is to say of those of the source
 in_all : (line : CommandLine) (input : Option (List ℕ)) (bytes : List ℕ) (finding : Finding) →

@@ -92,7 +92,7 @@ abbrev pub IsFindingOf : List ℕ → Found → Finding → Type 0
 IsFindingOf bytes found.NoTrace finding = finding ≡ NoTrace 0
 IsFindingOf bytes (found.NoScript line kind) finding = finding ≡ NoScript line
 IsFindingOf bytes (found.BadTrace before line stop) finding = finding ≡ NoTrace line
-IsFindingOf bytes (found.Judged before verdict where_broken) finding = IsFinding bytes where_broken finding
+IsFindingOf bytes (found.Judged before verdict where_broken evidence) finding = IsFinding bytes where_broken finding
 
 -- the words are those of a check
 abbrev pub IsAsked : List (List ℕ) → CommandLine → Type 0

@@ -15,7 +15,7 @@ use Rattle.nm_check.specs.declared.checked.checks.Checked.TheVariants as checked
 use Rattle.nm_check.specs.Found.{IsFound, checked_of}
 use Rattle.nm_check.specs.declared.breaks.finding.Found.{Found}
 use Rattle.nm_check.specs.declared.breaks.finding.Found.TheVariants.{NoTrace, NoScript, BadTrace, Judged}
-use Rattle.nm_check.specs.Answers.{IsAnswer, IsAsked, IsFoundIn, IsFoundOf, IsSaid, NotAsked, WasRead}
+use Rattle.nm_check.specs.Answers.{IsAnswer, IsFoundIn, IsFoundOf, IsSaid, NotAsked, WasRead}
 use Rattle.nm_check.specs.Answers.{found_status, status_of, text_of, unread, usage, verdict_status}
 use Rattle.nm_check.specs.Endings.{IsSpoken, IsStatus, IsTold, IsWritten, OrFails, OrUnwritten}
 use Rattle.nm_check.specs.declared.verdict.answers.Response.{Response}
@@ -40,7 +40,7 @@ spoken : (found : Found) (k : ℕ) → k ≡ found_status found → IsSpoken k
 spoken NoTrace k h = inr (inr (inr h))
 spoken (NoScript line kind) k h = inr (inl h)
 spoken (BadTrace before line stop) k h = inr (inr (inr h))
-spoken (Judged before verdict place) k h = judged_spoken verdict k h
+spoken (Judged before verdict place evidence) k h = judged_spoken verdict k h
 
 not_spoken : (k : ℕ) → (k ≡ 0 → ⊥) → (k ≡ 3 → ⊥) → (k ≡ 8 → ⊥) → (k ≡ 9 → ⊥) → IsSpoken k → ⊥
 not_spoken k a b c d (inl h) = a h
@@ -174,7 +174,7 @@ pub zero_of : (found : Found) → checked_of found ≡ checked.Judged Holds → 
 zero_of NoTrace h = absurd cc
 zero_of (NoScript line kind) h = absurd cc
 zero_of (BadTrace before line stop) h = absurd cc
-zero_of (Judged before verdict place) h = let same : verdict ≡ Holds = cc in ap verdict_status same
+zero_of (Judged before verdict place evidence) h = let same : verdict ≡ Holds = cc in ap verdict_status same
 
 -- a script and a trace of one of its runs that were read hold
 pub holds_for : (line : CommandLine) (input : Option (List ℕ)) (bytes : List ℕ) (found : Found) →

@@ -1,9 +1,11 @@
 pub mod CutLemmas
+mod DueLemmas
 mod EndLemmas
 mod EventLemmas
 mod ExactLemmas
 mod InputLemmas
 mod LineLemmas
+mod OtherLemmas
 mod OwnLemmas
 mod RangeLemmas
 mod RankLemmas

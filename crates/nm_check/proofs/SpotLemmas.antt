@@ -8,14 +8,16 @@ use Rattle.nm_types.specs.declared.scripts.Line.{Line}
 use Rattle.nm_types.specs.Commands.{commands_of}
 use Rattle.nm_types.specs.Sizes.{Sizes}
 use Rattle.nm_history.specs.declared.events.Event.{Event}
-use Rattle.nm_history.specs.Quiescence.{EachRank, Ended, IsStopped}
+use Rattle.nm_history.specs.Delivery.{ArriveInOrder}
+use Rattle.nm_history.specs.Quiescence.{EachPair, EachRank, Ended, IsStopped}
+use Rattle.nm_history.specs.Sends.{arrivals, sends}
 use Rattle.nm_report.specs.declared.accounts.RankAccount.{RankAccount}
 use Rattle.nm_report.specs.Ends.{ends_of}
 use Rattle.nm_types.proofs.OptionLemmas.{no_some}
 use Rattle.nm_check_rank.specs.Breaks.{BreaksFirstAt}
 use Rattle.nm_check_rank.specs.FirstBroken.{IsFirstBroken}
 use Rattle.nm_check_ranks.specs.CarriedBreaks.{BreaksBetweenAt}
-use Rattle.nm_check_ranks.specs.CarriedClauses.{KeepsCarried, carried_order}
+use Rattle.nm_check_ranks.specs.CarriedClauses.{KeepsCarried, PairDelivered, carried_order}
 use Rattle.nm_check_ranks.specs.Marked.{KeepsLocal, history_of}
 use Rattle.nm_check_ranks.specs.declared.clauses.CarriedClause.{CarriedClause}
 use Rattle.nm_check_ranks.specs.declared.firsts.Spot.{Spot}
@@ -42,6 +44,22 @@ are_local shape lines ranks each x = by_rank (slice_get ranks x) (each x)
     by_rank : (o : Option Ended) → IfSome o (RunsItsOwn shape lines x) → IfSome o (KeepsLocal x)
     by_rank None here = tt
     by_rank (Some rank) here = record { ranks = shape.ranks; numbers = here.numbers; stamps = here.stamps }
+
+-- the messages of delivered ranks arrive in order
+pub are_ordered : (lines : List Line) (ranks : List Ended) → EachPair (PairDelivered lines) ranks →
+    EachPair (λ i j hi hj. ArriveInOrder i (sends hi j) (arrivals hj i)) ranks
+are_ordered lines ranks each i = by_sender (slice_get ranks i) (each i)
+  where
+    by_receiver : (a : Ended) (j : ℕ) (o : Option Ended) → IfSome o (λ b. PairDelivered lines i j a.events b.events) →
+        IfSome o (λ b. ArriveInOrder i (sends a.events j) (arrivals b.events i))
+    by_receiver a j None here = tt
+    by_receiver a j (Some b) here = here.messages
+
+    by_sender : (o : Option Ended) →
+        IfSome o (λ a. EachRank (λ j b. PairDelivered lines i j a.events b.events) ranks) →
+        IfSome o (λ a. EachRank (λ j b. ArriveInOrder i (sends a.events j) (arrivals b.events i)) ranks)
+    by_sender None here = tt
+    by_sender (Some a) here = λ j. by_receiver a j (slice_get ranks j) (here j)
 
 -- the history of a rank, if there is one
 abbrev events_of : Option Ended → List Event
@@ -150,13 +168,15 @@ rule_of rest.Eager o is = subst (λ (o : Option EventRule). IfSome o (λ r. rest
 rule_of rest.Asked o is = subst (λ (o : Option EventRule). IfSome o (λ r. rest.Asked ≡ rest_clause r)) (sym is) refl
 rule_of rest.Recalls o is =
     subst (λ (o : Option EventRule). IfSome o (λ r. rest.Recalls ≡ rest_clause r)) (sym is) refl
-rule_of rest.Arrived o is = subst (λ (o : Option EventRule). IfSome o (λ r. rest.Arrived ≡ rest_clause r)) (sym is) tt
+rule_of rest.Arrived o is =
+    subst (λ (o : Option EventRule). IfSome o (λ r. rest.Arrived ≡ rest_clause r)) (sym is) refl
 rule_of rest.Waits o is = subst (λ (o : Option EventRule). IfSome o (λ r. rest.Waits ≡ rest_clause r)) (sym is) tt
 rule_of rest.Counts o is = subst (λ (o : Option EventRule). IfSome o (λ r. rest.Counts ≡ rest_clause r)) (sym is) tt
 
 -- its place
 pub event_placed : (lines : List Line) (ranks : List Ended) (r : EventRule) (place : Place) →
     IsEventPlace r ranks place → IsRestPlace lines ranks (rest_clause r) place
+event_placed lines ranks rule.Arrived place is = is
 event_placed lines ranks rule.Eager place is = is
 event_placed lines ranks rule.Asked place is = is
 event_placed lines ranks rule.Recalls place is = is
@@ -167,7 +187,7 @@ pub no_place : (lines : List Line) (ranks : List Ended) (c : RestClause) → eve
 no_place lines ranks rest.Eager none not = absurd (no_some _ (sym none))
 no_place lines ranks rest.Asked none not = absurd (no_some _ (sym none))
 no_place lines ranks rest.Recalls none not = absurd (no_some _ (sym none))
-no_place lines ranks rest.Arrived none not = refl
+no_place lines ranks rest.Arrived none not = absurd (no_some _ (sym none))
 no_place lines ranks rest.Waits none not = absurd (not refl)
 no_place lines ranks rest.Counts none not = refl
 

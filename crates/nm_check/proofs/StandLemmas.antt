@@ -83,11 +83,11 @@ module _ (shape : Sizes) (bytes : List ℕ) (run : RunRecord) (trace : IsTraceOf
 
   rest_stands : (lines : List Line) (c : RestClause) (place : Place) → IsRestPlace lines ends c place →
       StandsAt bytes run place
+  rest_stands lines rest.Arrived place placed = event_place_stands rule.Arrived place placed
   rest_stands lines rest.Eager place placed = event_place_stands rule.Eager place placed
   rest_stands lines rest.Asked place placed = event_place_stands rule.Asked place placed
   rest_stands lines rest.Recalls place placed = event_place_stands rule.Recalls place placed
   rest_stands lines rest.Waits place placed = subst (λ (p : Place). StandsAt bytes run p) (sym placed.2) tt
-  rest_stands lines rest.Arrived place is = subst (λ (p : Place). StandsAt bytes run p) (sym is) tt
   rest_stands lines rest.Counts place is = subst (λ (p : Place). StandsAt bytes run p) (sym is) tt
 
   -- the place of a verdict

@@ -42,7 +42,7 @@ abbrev pub found_status : Found → ℕ
 found_status NoTrace = 9
 found_status (NoScript line kind) = 3
 found_status (BadTrace before line stop) = 9
-found_status (Judged before verdict place) = verdict_status verdict
+found_status (Judged before verdict place evidence) = verdict_status verdict
 
 -- the status of an answer that was written
 abbrev pub status_of : Response → ℕ

@@ -11,6 +11,7 @@ use Rattle.nm_check.specs.Checks.{IsInput, sizes}
 use Rattle.nm_check.specs.Inputs.{HasNoCut}
 use Rattle.nm_check.specs.declared.checked.checks.Checked.{Checked}
 use Rattle.nm_check.specs.declared.checked.checks.Checked.TheVariants as checked
+use Rattle.nm_check.specs.Evidences.{IsEvidence}
 use Rattle.nm_check.specs.Lines.{StandsAt}
 use Rattle.nm_check.specs.Places.{IsTracePlace}
 use Rattle.nm_check.specs.Stops.{IsStop, lines_in}
@@ -22,15 +23,16 @@ abbrev pub checked_of : Found → Checked
 checked_of NoTrace = checked.NoTrace
 checked_of (NoScript line kind) = checked.NoScript line kind
 checked_of (BadTrace before line stop) = checked.BadTrace line
-checked_of (Judged before verdict place) = checked.Judged verdict
+checked_of (Judged before verdict place evidence) = checked.Judged verdict
 
 -- behind so many lines, the trace is judged by the script's lines, and breaks the rule there first; or it is none
 abbrev pub IsTraceFound : Sizes → List Line → ℕ → List ℕ → Found → Type 0
 IsTraceFound shape lines before rest (BadTrace front line stop) =
     (front ≡ before) × IsFirstBad shape rest line × IsStop shape rest line stop
-IsTraceFound shape lines before rest (Judged front verdict place) =
+IsTraceFound shape lines before rest (Judged front verdict place evidence) =
     (front ≡ before) × (run : RunRecord) × IsTraceOf shape rest run × Judges lines run verdict
     × IsTracePlace (lines_in rest) lines run verdict place × StandsAt rest run place
+    × IsEvidence lines run verdict place evidence
 IsTraceFound shape lines before rest _ = ⊥
 
 -- the lines before it are no script, or the trace is judged by it

@@ -65,6 +65,7 @@ IsStandPlace lines ranks place =
 
 -- the rule of rest as one that is asked of each event, if it is
 abbrev pub event_rule : RestClause → Option EventRule
+event_rule rest.Arrived = Some rule.Arrived
 event_rule rest.Eager = Some rule.Eager
 event_rule rest.Asked = Some rule.Asked
 event_rule rest.Recalls = Some rule.Recalls
@@ -72,6 +73,7 @@ event_rule _ = None
 
 -- the place of a rule of rest
 abbrev pub IsRestPlace : List Line → List Ended → RestClause → Place → Type 0
+IsRestPlace lines ranks rest.Arrived place = IsEventPlace rule.Arrived ranks place
 IsRestPlace lines ranks rest.Eager place = IsEventPlace rule.Eager ranks place
 IsRestPlace lines ranks rest.Asked place = IsEventPlace rule.Asked ranks place
 IsRestPlace lines ranks rest.Recalls place = IsEventPlace rule.Recalls ranks place

@@ -1,5 +1,5 @@
 -- The sentence of what was found.
-use Rattle.std.specs.Prelude.{ℕ, ◌+◌, List, ◌++◌, Option, Some, None, codes, decimal}
+use Rattle.std.specs.Prelude.{ℕ, ◌+◌, ◌==◌, if◌then◌else◌, List, ◌++◌, Option, Some, None, codes, decimal}
 use Rattle.nm_check.specs.declared.verdicts.Verdict.{Verdict}
 use Rattle.nm_check.specs.declared.verdicts.Verdict.TheVariants.{Holds, Own, Carried, Rest, Home, Done}
 use Rattle.nm_check_rank.specs.declared.clauses.OwnClause.{OwnClause}
@@ -7,9 +7,14 @@ use Rattle.nm_check_ranks.specs.declared.clauses.CarriedClause.{CarriedClause}
 use Rattle.nm_check_ranks.specs.declared.rest.clauses.RestClause.{RestClause}
 use Rattle.nm_check.specs.declared.breaks.finding.Found.{Found}
 use Rattle.nm_check.specs.declared.breaks.finding.Found.TheVariants.{NoTrace, NoScript, BadTrace, Judged}
+use Rattle.nm_check.specs.declared.breaks.cells.CellCount.{CellCount}
+use Rattle.nm_check.specs.declared.breaks.evidence.Evidence.{Evidence}
+use Rattle.nm_check.specs.declared.breaks.incidents.Incident.{Incident}
 use Rattle.nm_check.specs.declared.breaks.places.Place.{Place}
 use Rattle.nm_check.specs.declared.breaks.places.Place.TheVariants.{Event, Standing, LastLine}
 use Rattle.nm_check.specs.declared.breaks.stops.Stop.{Stop}
+use Rattle.nm_check.specs.VerdictDues.{due_words}
+use Rattle.nm_check.specs.VerdictIncidents.{where_words}
 use Rattle.nm_check.specs.Sentences.{carried_words, kind_words, own_words, rest_words, stop_words}
 
 -- the number of a line of the whole input, by how many stand before `---`, and of the line behind it
@@ -20,8 +25,13 @@ line_words before line =
 
 -- the command of an event, if it names one
 abbrev pub command_words : Option ℕ → List ℕ
-command_words (Some line) = codes ", of the command in line " ++ (decimal line ++ codes ",")
+command_words (Some line) = codes ", of the command in line " ++ decimal line
 command_words None = codes ""
+
+-- an event: its line, what happened, and its command
+abbrev pub event_words : ℕ → ℕ → Option ℕ → Option Incident → List ℕ
+event_words before line command incident =
+    line_words before line ++ (where_words incident ++ (command_words command ++ codes ","))
 
 -- a rank keeps a rule of its own run at each event, and breaks it in the end
 abbrev pub behind_text : OwnClause → ℕ → List ℕ
@@ -30,26 +40,30 @@ behind_text clause rank =
     ++ (codes " a rule breaks: " ++ (own_words clause ++ codes "\n")))
 
 -- where a rank breaks a rule of its own run first
-abbrev pub own_text : ℕ → OwnClause → ℕ → Place → List ℕ
-own_text before clause rank (Event r at line command) =
-    line_words before line
-    ++ (command_words command
+abbrev pub own_text : ℕ → OwnClause → ℕ → Place → Evidence → List ℕ
+own_text before clause rank (Event r at line command) evidence =
+    event_words before line command evidence.incident
     ++ (codes " is the first at which rank " ++ (decimal rank
-    ++ (codes " breaks a rule: " ++ (own_words clause ++ codes "\n")))))
-own_text before clause rank place = behind_text clause rank
+    ++ (codes " breaks a rule: " ++ (own_words clause ++ (due_words evidence.due ++ codes "\n")))))
+own_text before clause rank place evidence = behind_text clause rank
 
 -- a sender and a receiver
 abbrev pub pair_words : ℕ → ℕ → List ℕ
 pair_words from to = codes "rank " ++ (decimal from ++ (codes " to rank " ++ decimal to))
 
+-- the line of the other rank
+abbrev pub other_words : ℕ → Option ℕ → List ℕ
+other_words before (Some line) = codes "; of the other rank it is held against " ++ line_words before line
+other_words before None = codes ""
+
 -- where the messages from one rank to another break a rule first
-abbrev pub carried_text : ℕ → CarriedClause → ℕ → ℕ → Place → List ℕ
-carried_text before clause from to (Event r at line command) =
-    line_words before line
-    ++ (command_words command
+abbrev pub carried_text : ℕ → CarriedClause → ℕ → ℕ → Place → Evidence → List ℕ
+carried_text before clause from to (Event r at line command) evidence =
+    event_words before line command evidence.incident
     ++ (codes " is the first at which the messages from " ++ (pair_words from to
-    ++ (codes " break a rule: " ++ (carried_words clause ++ codes "\n")))))
-carried_text before clause from to place =
+    ++ (codes " break a rule: "
+    ++ (carried_words clause ++ (other_words before evidence.other ++ codes "\n")))))
+carried_text before clause from to place evidence =
     codes "from " ++ (pair_words from to ++ (codes " a rule breaks: " ++ (carried_words clause ++ codes "\n")))
 
 -- what a rank is said to do in the end
@@ -57,33 +71,56 @@ abbrev pub standing_words : Option ℕ → List ℕ
 standing_words (Some line) = codes "said to wait at the command in line " ++ decimal line
 standing_words None = codes "said to be at its end"
 
+-- a rule of all ranks at rest
+abbrev pub rule_words : RestClause → List ℕ
+rule_words clause = codes "a rule of all ranks in the end: " ++ rest_words clause
+
+-- the event at which the ranks at rest break a rule first
+abbrev pub left_text : ℕ → RestClause → ℕ → Option ℕ → Option Incident → List ℕ
+left_text before clause line command incident =
+    event_words before line command incident
+    ++ (codes " is the first that breaks " ++ (rule_words clause ++ codes "\n"))
+
 -- where the ranks at rest break a rule first
-abbrev pub rest_text : ℕ → RestClause → Place → List ℕ
-rest_text before clause (Event r at line command) =
-    line_words before line
-    ++ (command_words command
-    ++ (codes " is the first that breaks a rule of all ranks in the end: " ++ (rest_words clause ++ codes "\n")))
-rest_text before clause (Standing rank waits) =
+abbrev pub rest_text : ℕ → RestClause → Place → Option Incident → List ℕ
+rest_text before clause (Event r at line command) incident = left_text before clause line command incident
+rest_text before clause (Standing rank waits) incident =
     codes "rank " ++ (decimal rank ++ (codes ", " ++ (standing_words waits
     ++ (codes ", is the first that breaks a rule of all ranks in the end: " ++ (rest_words clause ++ codes "\n")))))
-rest_text before clause place = codes "the ranks in the end break a rule: " ++ (rest_words clause ++ codes "\n")
+rest_text before clause place incident = codes "the ranks in the end break a rule: " ++ (rest_words clause ++ codes "\n")
 
--- one of the last two lines breaks its rule
-abbrev pub last_text : ℕ → List ℕ → Place → List ℕ
-last_text before rule (LastLine line) =
-    line_words before line ++ (codes " breaks a rule: " ++ (rule ++ codes "\n"))
-last_text before rule place = codes "the end breaks a rule: " ++ (rule ++ codes "\n")
+-- one of the last two lines breaks its rule, with what is told of it besides
+abbrev pub last_text : ℕ → List ℕ → Place → List ℕ → List ℕ
+last_text before rule (LastLine line) more =
+    line_words before line ++ (codes " breaks a rule: " ++ (rule ++ (more ++ codes "\n")))
+last_text before rule place more = codes "the end breaks a rule: " ++ (rule ++ (more ++ codes "\n"))
+
+-- the rule of the cells
+abbrev pub home_rule : List ℕ
+home_rule = codes "as many cells as all ranks have by --cells are there, and all of them are home"
+
+-- how many cells there are to be, and are; or how many of them are home
+abbrev pub count_words : CellCount → List ℕ
+count_words cells =
+    if cells.total == cells.called
+    then codes "; " ++ (decimal cells.home ++ (codes " of " ++ (decimal cells.total ++ codes " are home")))
+    else codes "; --cells does not fit: it calls for " ++ (decimal cells.called ++ (codes " cells, and there are "
+    ++ decimal cells.total))
+
+-- .. if it is told
+abbrev pub cells_words : Option CellCount → List ℕ
+cells_words (Some cells) = count_words cells
+cells_words None = codes ""
 
 -- what is said of a verdict and its place, behind so many lines
-abbrev pub verdict_text : ℕ → Verdict → Place → List ℕ
-verdict_text before Holds place = codes "holds\n"
-verdict_text before (Own clause rank) place = own_text before clause rank place
-verdict_text before (Carried clause from to) place = carried_text before clause from to place
-verdict_text before (Rest clause) place = rest_text before clause place
-verdict_text before Home place =
-    last_text before (codes "as many cells as all ranks have by --cells are there, and all of them are home") place
-verdict_text before Done place =
-    last_text before (codes "it is `done` exactly where every rank is at its end") place
+abbrev pub verdict_text : ℕ → Verdict → Place → Evidence → List ℕ
+verdict_text before Holds place evidence = codes "holds\n"
+verdict_text before (Own clause rank) place evidence = own_text before clause rank place evidence
+verdict_text before (Carried clause from to) place evidence = carried_text before clause from to place evidence
+verdict_text before (Rest clause) place evidence = rest_text before clause place evidence.incident
+verdict_text before Home place evidence = last_text before home_rule place (cells_words evidence.cells)
+verdict_text before Done place evidence =
+    last_text before (codes "it is `done` exactly where every rank is at its end") place (codes "")
 
 -- what is said of a trace that is none, behind so many lines
 abbrev pub bad_text : ℕ → ℕ → Stop → List ℕ
@@ -97,4 +134,4 @@ found_text (NoScript line kind) =
     codes "line " ++ (decimal line ++ (codes " is no script: "
     ++ (kind_words kind ++ codes "\n")))
 found_text (BadTrace before line stop) = bad_text before line stop
-found_text (Judged before verdict place) = verdict_text before verdict place
+found_text (Judged before verdict place evidence) = verdict_text before verdict place evidence

@@ -8,11 +8,16 @@
 //! it. For a rule between two ranks it is the first event of both, as their lines are read
 //! (`BreaksCarriedAt` of `nm_check_ranks`); for a rule of rest the first event that is left
 //! unfinished, or the first rank that stands where it may not (`specs/RestBreaks.antt` of
-//! `nm_check_ranks::rest`). The cells and the end have the last two lines. Of what has not come, and of the
-//! counts of packets, no place is told. `specs/Stops.antt` says what stops a text that is no trace.
+//! `nm_check_ranks::rest`). The cells and the end have the last two lines. Of the counts of packets
+//! no place is told. `specs/Stops.antt` says what stops a text that is no trace.
 //! # What is proved
 //! - `find` tells the cases apart as `nm_check::checked::check` does, and its verdict is that of the same
 //!   definitions.
+//! - It tells what the verdict rests on there (`IsEvidence`, `specs/Evidences.antt`): of a rule of a
+//!   rank's own run what was called for and what was found (`specs/Dues.antt`), of a rule between two
+//!   ranks the line of the other rank's event that it is held against (`specs/Others.antt`), what
+//!   happened at the place (`specs/Incidents.antt`), and of the rule of the cells how many there are to
+//!   be (`specs/CellCounts.antt`).
 //! - The place is the first one, and where it is an event, the line that is told is the one on which
 //!   it stands (`StandsAt`, `specs/Lines.antt`).
 //! - Of a text that is no trace it tells the first bad line, and what stops the text there (`IsStop`):
@@ -22,12 +27,18 @@
 //! # What is only tested
 //! That `find` succeeds with ample memory.
 
+pub mod cells;
+mod dues;
+pub mod evidence;
 mod finding;
+pub mod incidents;
+mod others;
 mod own;
 mod places;
 mod placing;
 mod stops;
 
+pub use evidence::Evidence;
 pub use finding::{Found, find};
 pub use places::Place;
 pub use stops::Stop;

@@ -1,5 +1,6 @@
 mod BetweenLemmas
 mod BodyLemmas
+mod CameLemmas
 mod CountingLemmas
 mod FirstLemmas
 pub mod ItemLemmas
@@ -13,4 +14,4 @@ mod RestFirstLemmas
 mod SentLemmas
 pub mod TableLemmas
 mod WaitLemmas
-mod WasLemmas
+pub mod WasLemmas

@@ -5,6 +5,7 @@ use Rattle.std.specs.Bool.{OnTrue}
 use Rattle.nm_history.specs.declared.events.Event.{Event}
 use Rattle.nm_history.specs.declared.events.Happened.{Happened}
 use Rattle.nm_history.specs.Completion.{is_taken}
+use Rattle.nm_history.specs.Happens.{happened, is_arrival}
 use Rattle.nm_history.specs.Matching.{is_claimed, matched_pairs}
 use Rattle.nm_history.specs.Quiescence.{Ended, is_kept_back, is_over}
 use Rattle.nm_history.specs.Sends.{Sent, is_ask, sent_of}
@@ -13,6 +14,10 @@ use Rattle.nm_history.specs.Sends.{Sent, is_ask, sent_of}
 abbrev pub SendKeeps : (ℕ → List Event → Sent → Type 0) → List Ended → ℕ → Happened → Type 0
 SendKeeps P ranks stamp what =
     IfSome (sent_of stamp what) (λ s. IfSome (slice_get ranks s.to) (λ rank. P s.to rank.events s))
+
+-- a message of rank i has come
+abbrev pub HasCome : ℕ → ℕ → List Event → Sent → Type 0
+HasCome i j hj s = IsTrue (happened (is_arrival i s.n) hj)
 
 -- an eager message of rank i is over
 abbrev pub EagerIsOver : ℕ → List Event → ℕ → List Event → Sent → Type 0

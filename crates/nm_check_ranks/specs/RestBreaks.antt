@@ -5,10 +5,13 @@ use Rattle.nm_history.specs.declared.events.Happened.{Happened}
 use Rattle.nm_history.specs.AtEach.{AtEach}
 use Rattle.nm_types.specs.declared.scripts.Line.{Line}
 use Rattle.nm_types.specs.Commands.{commands_of}
-use Rattle.nm_history.specs.Quiescence.{EachRank, Ended, IsAnswered, IsStopped}
+use Rattle.nm_history.specs.Delivery.{ArriveInOrder}
+use Rattle.nm_history.specs.Quiescence.{EachPair, EachRank, Ended, IsAnswered, IsStopped}
+use Rattle.nm_history.specs.Sends.{arrivals, sends}
 use Rattle.nm_check_rank.specs.Breaks.{BreaksFirstAt}
 use Rattle.nm_check_ranks.specs.declared.firsts.Spot.{Spot}
-use Rattle.nm_check_ranks.specs.Over.{AskedIsOver, EagerIsOver, SendKeeps}
+use Rattle.nm_check_ranks.specs.Marked.{KeepsLocal}
+use Rattle.nm_check_ranks.specs.Over.{AskedIsOver, EagerIsOver, HasCome, SendKeeps}
 use Rattle.nm_check_ranks.specs.declared.rest.clauses.RestClause.{RestClause}
 use Rattle.nm_check_ranks.specs.declared.rest.clauses.RestClause.TheVariants as rest
 use Rattle.nm_check_ranks.specs.declared.rest.firsts.EventRule.{EventRule}
@@ -16,6 +19,7 @@ use Rattle.nm_check_ranks.specs.declared.rest.firsts.EventRule.TheVariants as ru
 
 -- what an event of rank x keeps of such a rule, by all that the rank did and all that the other ones did
 abbrev pub RestAt : EventRule → List Ended → ℕ → List Event → ℕ → Happened → Type 0
+RestAt rule.Arrived ranks x h stamp what = SendKeeps (HasCome x) ranks stamp what
 RestAt rule.Eager ranks x h stamp what = SendKeeps (EagerIsOver x h) ranks stamp what
 RestAt rule.Asked ranks x h stamp what = SendKeeps (AskedIsOver x h) ranks stamp what
 RestAt rule.Recalls ranks x h stamp what = IsAnswered h what
@@ -31,8 +35,14 @@ pub record BreaksRestAt (r : EventRule) (ranks : List Ended) (spot : Spot) : Typ
       IsSomeAnd (slice_get ranks spot.rank)
       (λ rank. BreaksFirstAt (KeepRestAt r ranks spot.rank rank.events) rank.events spot.at)
 
+-- the messages of these ranks are numbered and come in order
+abbrev pub AreInOrder : List Ended → Type 0
+AreInOrder ranks =
+    EachRank KeepsLocal ranks × EachPair (λ i j hi hj. ArriveInOrder i (sends hi j) (arrivals hj i)) ranks
+
 -- the rule as one of those of rest
 abbrev pub rest_clause : EventRule → RestClause
+rest_clause rule.Arrived = rest.Arrived
 rest_clause rule.Eager = rest.Eager
 rest_clause rule.Asked = rest.Asked
 rest_clause rule.Recalls = rest.Recalls

@@ -11,6 +11,7 @@ ghost use Rattle.nm_check.specs.declared.checked.checks.Checked.TheVariants as c
 ghost use Rattle.nm_check.specs.Checks.{IsChecked, IsInput, sizes};
 ghost use Rattle.nm_check.specs.Found.{IsFound, IsScriptFound, IsTraceFound, checked_of};
 
+use crate::breaks::evidence::{Evidence, evidence_of};
 use crate::breaks::places::Place;
 use crate::breaks::placing::trace_place;
 use crate::breaks::stops::{Stop, lines_in, stop_at};
@@ -42,12 +43,13 @@ pub enum Found {
         line: u32,
         stop: Stop,
     },
-    /// The verdict on the trace, and where it breaks the rule first. So many lines stand before
-    /// the line `---`.
+    /// The verdict on the trace, where it breaks the rule first, and what the verdict rests on there.
+    /// So many lines stand before the line `---`.
     Judged {
         before: u32,
         verdict: Verdict,
         place: Place,
+        evidence: Evidence,
     },
 }
 
@@ -77,10 +79,12 @@ fn find_in_trace(
             let verdict = judge(alloc, script, &run)?;
             let count = lines_in(rest);
             let place = trace_place(alloc, script, &run, verdict, count)?;
+            let evidence = evidence_of(alloc, script, &run, verdict, place)?;
             Ok(Found::Judged {
                 before,
                 verdict,
                 place,
+                evidence,
             })
         }
         Err(TraceFault::Bad { line }) => {

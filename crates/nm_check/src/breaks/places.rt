@@ -66,6 +66,17 @@ fn command_at(events: &[Event], at: usize) -> Option<u32>
     command_of(&events[at].what)
 }
 
+/// The events of a rank, and of no rank none.
+pub fn events_of(ranks: &[RankAccount], rank: u8) -> &[Event]
+    ensures { result.now ≡ history_of (ends_of ranks.now) rank }
+{
+    let i = rank as usize;
+    if i >= ranks.len() {
+        return &[];
+    }
+    ranks[i].history.as_slice()
+}
+
 /// How many events these ranks have.
 fn events_in(ranks: &[RankAccount]) -> u32
     requires { events_in (ends_of ranks.now) ≤ 67108864 }
@@ -80,7 +91,7 @@ fn events_in(ranks: &[RankAccount]) -> u32
 
 /// The line of the trace with the event of a rank at a place: those of the ranks before stand before
 /// it.
-fn line_of(ranks: &[RankAccount], rank: u8, at: usize) -> u32
+pub(crate) fn line_of(ranks: &[RankAccount], rank: u8, at: usize) -> u32
     requires known { rank < length ranks.now }
     requires short { events_in (ends_of ranks.now) ≤ 67108864 }
     requires early { at < 67108864 }

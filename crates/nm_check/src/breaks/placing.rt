@@ -7,7 +7,8 @@ ghost use Rattle.nm_report.specs.Ends.{ends_of};
 ghost use Rattle.nm_check.specs.declared.verdicts.Verdict.TheVariants.{Carried, Own, Rest};
 ghost use Rattle.nm_check.specs.Verdicts.{Judges};
 ghost use Rattle.nm_check_ranks.specs.Tabled.{AreTabled, EachTabled};
-ghost use Rattle.nm_check_ranks.specs.RestBreaks.{rest_clause};
+ghost use Rattle.nm_check_ranks.specs.RestBreaks.{AreInOrder, rest_clause};
+ghost use Rattle.nm_check_ranks.specs.declared.rest.firsts.EventRule.TheVariants as the_rule;
 ghost use Rattle.nm_check_ranks.specs.RestClauses.{KeepsRest};
 ghost use Rattle.nm_check_ranks.specs.declared.rest.clauses.RestClause.TheVariants as rest;
 ghost use Rattle.nm_check.specs.Places.{IsEventPlace, IsPlace, IsRestPlace, IsStandPlace};
@@ -77,6 +78,7 @@ fn carried_place(
 fn event_place(rule: EventRule, ranks: &[RankAccount], tables: &[Tables]) -> Place
     requires few { length ranks.now < 256 }
     requires short { events_in (ends_of ranks.now) ≤ 67108864 }
+    requires ordered { rule ≡ the_rule.Arrived → AreInOrder (ends_of ranks.now) }
     requires tabled { AreTabled (ends_of ranks.now) tables.now }
     requires broken { (lines : List script_line.Line) × (packets : List Packets)
         × (¬ KeepsRest lines (ends_of ranks.now) packets (rest_clause rule)) }
@@ -111,6 +113,7 @@ fn event_rule(clause: RestClause) -> Option<EventRule>
     ensures { result ≡ event_rule_lem clause }
 {
     match clause {
+        RestClause::Arrived => Some(EventRule::Arrived),
         RestClause::Eager => Some(EventRule::Eager),
         RestClause::Asked => Some(EventRule::Asked),
         RestClause::Recalls => Some(EventRule::Recalls),

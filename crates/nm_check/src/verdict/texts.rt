@@ -4,15 +4,24 @@ ghost use Rattle.std.specs.Prelude.{◌≡◌, IfOk, string_bytes};
 ghost use Rattle.nm_check.specs.VerdictTexts.{bad_text as bad_text_lem};
 ghost use Rattle.nm_check.specs.VerdictTexts.{behind_text as behind_text_lem};
 ghost use Rattle.nm_check.specs.VerdictTexts.{carried_text as carried_text_lem};
+ghost use Rattle.nm_check.specs.VerdictTexts.{cells_words as cells_words_lem};
+ghost use Rattle.nm_check.specs.VerdictTexts.{count_words as count_words_lem, home_rule};
 ghost use Rattle.nm_check.specs.VerdictTexts.{command_words as command_words_lem};
 ghost use Rattle.nm_check.specs.VerdictTexts.{found_text as found_text_lem, line_words as line_words_lem};
-ghost use Rattle.nm_check.specs.VerdictTexts.{last_text as last_text_lem};
+ghost use Rattle.nm_check.specs.VerdictTexts.{last_text as last_text_lem, left_text as left_text_lem};
+ghost use Rattle.nm_check.specs.VerdictTexts.{event_words as event_words_lem};
+ghost use Rattle.nm_check.specs.VerdictTexts.{other_words as other_words_lem};
 ghost use Rattle.nm_check.specs.VerdictTexts.{own_text as own_text_lem, rest_text as rest_text_lem};
 ghost use Rattle.nm_check.specs.VerdictTexts.{pair_words as pair_words_lem};
+ghost use Rattle.nm_check.specs.VerdictTexts.{rule_words as rule_words_lem};
 ghost use Rattle.nm_check.specs.VerdictTexts.{standing_words as standing_words_lem};
 ghost use Rattle.nm_check.specs.VerdictTexts.{verdict_text as verdict_text_lem};
 
-use crate::breaks::{Found, Place, Stop};
+use crate::breaks::cells::CellCount;
+use crate::breaks::incidents::Incident;
+use crate::breaks::{Evidence, Found, Place, Stop};
+use crate::verdict::dues::due_words;
+use crate::verdict::incidents::where_words;
 use crate::verdict::sentences::{carried_words, kind_words, own_words, rest_words, stop_words};
 use crate::{CarriedClause, OwnClause, RestClause, Verdict};
 use std::alloc::{AllocError, Global};
@@ -30,9 +39,26 @@ fn command_words(alloc: Global, command: Option<u32>) -> Result<String, AllocErr
     ensures { IfOk result (λ text. string_bytes text ≡ command_words_lem command) }
 {
     match command {
-        Some(line) => format!(in alloc; ", of the command in line {},", line),
+        Some(line) => format!(in alloc; ", of the command in line {}", line),
         None => format!(in alloc; ""),
     }
+}
+
+/// An event: its line, what happened, and its command.
+fn event_words(
+    alloc: Global,
+    before: u32,
+    line: u32,
+    command: Option<u32>,
+    incident: Option<Incident>,
+) -> Result<String, AllocError>
+    ensures { IfOk result (λ text.
+        string_bytes text ≡ event_words_lem before line command incident) }
+{
+    let at = line_words(alloc, before, line)?;
+    let happened = where_words(alloc, incident)?;
+    let of = command_words(alloc, command)?;
+    format!(in alloc; "{}{}{},", at, happened, of)
 }
 
 /// A rank keeps a rule of its own run at each event, and breaks it in the end.
@@ -50,17 +76,19 @@ fn own_text(
     clause: OwnClause,
     rank: u8,
     place: Place,
+    evidence: Evidence,
 ) -> Result<String, AllocError>
-    ensures { IfOk result (λ text. string_bytes text ≡ own_text_lem before clause rank place) }
+    ensures { IfOk result (λ text.
+        string_bytes text ≡ own_text_lem before clause rank place evidence) }
 {
     let words = own_words(clause);
     match place {
         Place::Event { line, command, .. } => {
-            let at = line_words(alloc, before, line)?;
-            let of = command_words(alloc, command)?;
+            let at = event_words(alloc, before, line, command, evidence.incident)?;
+            let called = due_words(alloc, evidence.due)?;
             format!(in alloc;
-                "{}{} is the first at which rank {} breaks a rule: {}\n",
-                at, of, rank, words
+                "{} is the first at which rank {} breaks a rule: {}{}\n",
+                at, rank, words, called
             )
         }
         _ => behind_text(alloc, clause, rank),
@@ -74,6 +102,19 @@ fn pair_words(alloc: Global, from: u8, to: u8) -> Result<String, AllocError>
     format!(in alloc; "rank {} to rank {}", from, to)
 }
 
+/// The line of the other rank.
+fn other_words(alloc: Global, before: u32, other: Option<u32>) -> Result<String, AllocError>
+    ensures { IfOk result (λ text. string_bytes text ≡ other_words_lem before other) }
+{
+    match other {
+        Some(line) => {
+            let at = line_words(alloc, before, line)?;
+            format!(in alloc; "; of the other rank it is held against {}", at)
+        }
+        None => format!(in alloc; ""),
+    }
+}
+
 /// Where the messages from one rank to another break a rule first.
 fn carried_text(
     alloc: Global,
@@ -82,19 +123,20 @@ fn carried_text(
     from: u8,
     to: u8,
     place: Place,
+    evidence: Evidence,
 ) -> Result<String, AllocError>
     ensures { IfOk result (λ text.
-        string_bytes text ≡ carried_text_lem before clause from to place) }
+        string_bytes text ≡ carried_text_lem before clause from to place evidence) }
 {
     let words = carried_words(clause);
     let ranks = pair_words(alloc, from, to)?;
     match place {
         Place::Event { line, command, .. } => {
-            let at = line_words(alloc, before, line)?;
-            let of = command_words(alloc, command)?;
+            let at = event_words(alloc, before, line, command, evidence.incident)?;
+            let against = other_words(alloc, before, evidence.other)?;
             format!(in alloc;
-                "{}{} is the first at which the messages from {} break a rule: {}\n",
-                at, of, ranks, words
+                "{} is the first at which the messages from {} break a rule: {}{}\n",
+                at, ranks, words, against
             )
         }
         _ => format!(in alloc; "from {} a rule breaks: {}\n", ranks, words),
@@ -111,24 +153,45 @@ fn standing_words(alloc: Global, waits: Option<u32>) -> Result<String, AllocErro
     }
 }
 
+/// A rule of all ranks at rest.
+fn rule_words(alloc: Global, clause: RestClause) -> Result<String, AllocError>
+    ensures { IfOk result (λ text. string_bytes text ≡ rule_words_lem clause) }
+{
+    format!(in alloc; "a rule of all ranks in the end: {}", rest_words(clause))
+}
+
+/// The event at which the ranks at rest break a rule first.
+fn left_text(
+    alloc: Global,
+    before: u32,
+    clause: RestClause,
+    line: u32,
+    command: Option<u32>,
+    incident: Option<Incident>,
+) -> Result<String, AllocError>
+    ensures { IfOk result (λ text.
+        string_bytes text ≡ left_text_lem before clause line command incident) }
+{
+    let event = event_words(alloc, before, line, command, incident)?;
+    let rule = rule_words(alloc, clause)?;
+    format!(in alloc; "{} is the first that breaks {}\n", event, rule)
+}
+
 /// Where the ranks at rest break a rule first.
 fn rest_text(
     alloc: Global,
     before: u32,
     clause: RestClause,
     place: Place,
+    incident: Option<Incident>,
 ) -> Result<String, AllocError>
-    ensures { IfOk result (λ text. string_bytes text ≡ rest_text_lem before clause place) }
+    ensures { IfOk result (λ text.
+        string_bytes text ≡ rest_text_lem before clause place incident) }
 {
     let words = rest_words(clause);
     match place {
         Place::Event { line, command, .. } => {
-            let at = line_words(alloc, before, line)?;
-            let of = command_words(alloc, command)?;
-            format!(in alloc;
-                "{}{} is the first that breaks a rule of all ranks in the end: {}\n",
-                at, of, words
-            )
+            left_text(alloc, before, clause, line, command, incident)
         }
         Place::Standing { rank, waits } => {
             let says = standing_words(alloc, waits)?;
@@ -147,17 +210,62 @@ const HOME: &str = "as many cells as all ranks have by --cells are there, and al
 /// The rule of the end.
 const DONE: &str = "it is `done` exactly where every rank is at its end";
 
-/// One of the last two lines breaks its rule.
-fn last_text(alloc: Global, before: u32, rule: &str, place: Place) -> Result<String, AllocError>
-    ensures { IfOk result (λ text. string_bytes text ≡ last_text_lem before rule.now place) }
+/// One of the last two lines breaks its rule, with what is told of it besides.
+fn last_text(
+    alloc: Global,
+    before: u32,
+    rule: &str,
+    place: Place,
+    more: &str,
+) -> Result<String, AllocError>
+    ensures { IfOk result (λ text.
+        string_bytes text ≡ last_text_lem before rule.now place more.now) }
 {
     match place {
         Place::LastLine { line } => {
             let at = line_words(alloc, before, line)?;
-            format!(in alloc; "{} breaks a rule: {}\n", at, rule)
+            format!(in alloc; "{} breaks a rule: {}{}\n", at, rule, more)
         }
-        _ => format!(in alloc; "the end breaks a rule: {}\n", rule),
+        _ => format!(in alloc; "the end breaks a rule: {}{}\n", rule, more),
     }
+}
+
+/// How many cells there are to be, and are; or how many of them are home.
+fn count_words(alloc: Global, cells: CellCount) -> Result<String, AllocError>
+    ensures { IfOk result (λ text. string_bytes text ≡ count_words_lem cells) }
+{
+    if cells.total == cells.called {
+        format!(in alloc; "; {} of {} are home", cells.home, cells.total)
+    } else {
+        format!(in alloc;
+            "; --cells does not fit: it calls for {} cells, and there are {}",
+            cells.called, cells.total
+        )
+    }
+}
+
+/// .. if it is told.
+fn cells_words(alloc: Global, cells: Option<CellCount>) -> Result<String, AllocError>
+    ensures { IfOk result (λ text. string_bytes text ≡ cells_words_lem cells) }
+{
+    match cells {
+        Some(cells) => count_words(alloc, cells),
+        None => format!(in alloc; ""),
+    }
+}
+
+/// The cells break their rule.
+fn home_text(
+    alloc: Global,
+    before: u32,
+    place: Place,
+    cells: Option<CellCount>,
+) -> Result<String, AllocError>
+    ensures { IfOk result (λ text.
+        string_bytes text ≡ last_text_lem before home_rule place (cells_words_lem cells)) }
+{
+    let more = cells_words(alloc, cells)?;
+    last_text(alloc, before, HOME, place, &more)
 }
 
 /// What is said of a verdict and its place, behind so many lines.
@@ -166,18 +274,20 @@ fn verdict_text(
     before: u32,
     verdict: Verdict,
     place: Place,
+    evidence: Evidence,
 ) -> Result<String, AllocError>
-    ensures { IfOk result (λ text. string_bytes text ≡ verdict_text_lem before verdict place) }
+    ensures { IfOk result (λ text.
+        string_bytes text ≡ verdict_text_lem before verdict place evidence) }
 {
     match verdict {
         Verdict::Holds => format!(in alloc; "holds\n"),
-        Verdict::Own { clause, rank } => own_text(alloc, before, clause, rank, place),
+        Verdict::Own { clause, rank } => own_text(alloc, before, clause, rank, place, evidence),
         Verdict::Carried { clause, from, to } => {
-            carried_text(alloc, before, clause, from, to, place)
+            carried_text(alloc, before, clause, from, to, place, evidence)
         }
-        Verdict::Rest { clause } => rest_text(alloc, before, clause, place),
-        Verdict::Home => last_text(alloc, before, HOME, place),
-        Verdict::Done => last_text(alloc, before, DONE, place),
+        Verdict::Rest { clause } => { rest_text(alloc, before, clause, place, evidence.incident) }
+        Verdict::Home => home_text(alloc, before, place, evidence.cells),
+        Verdict::Done => last_text(alloc, before, DONE, place, ""),
     }
 }
 
@@ -205,7 +315,8 @@ fn sentence(alloc: Global, found: Found) -> Result<String, AllocError>
             before,
             verdict,
             place,
-        } => verdict_text(alloc, before, verdict, place),
+            evidence,
+        } => verdict_text(alloc, before, verdict, place, evidence),
     }
 }
 

@@ -9,11 +9,13 @@ ghost use Rattle.nm_lookups.specs.Deciding.{Decides};
 ghost use Rattle.nm_lookups.specs.Placed.{ArePlaces};
 ghost use Rattle.nm_check_rank.specs.Breaks.{BreaksFirstAt};
 ghost use Rattle.nm_check_ranks.specs.Tabled.{AreTabled};
-ghost use Rattle.nm_check_ranks.specs.RestBreaks.{BreaksRestAt, KeepRestAt, RestAt, rest_clause};
+ghost use Rattle.nm_check_ranks.specs.RestBreaks.{AreInOrder, BreaksRestAt, KeepRestAt};
+ghost use Rattle.nm_check_ranks.specs.RestBreaks.{RestAt, rest_clause};
+ghost use Rattle.nm_check_ranks.specs.declared.rest.firsts.EventRule.TheVariants as event_rule;
 ghost use Rattle.nm_check_ranks.specs.RestClauses.{KeepsRest};
 
 use crate::firsts::Spot;
-use crate::rest::over::{is_asked_over, is_eager_over};
+use crate::rest::over::{has_come, is_asked_over, is_eager_over};
 use crate::rest::rest::is_answered;
 use nm_check_rank::paired::tables::Tables;
 use nm_history::{Event, Happened};
@@ -23,6 +25,8 @@ use nm_report::RankAccount;
 /// A rule of rest that is asked of each event.
 #[derive(Clone, Copy)]
 pub enum EventRule {
+    /// Of each send: its message has come.
+    Arrived,
     /// Of each eager send: it has left and is whole.
     Eager,
     /// Of each send by asking: where a receive took it, it has left and is whole, and where it is
@@ -46,6 +50,7 @@ fn keeps_rule(
         Decides result (RestAt rule ranks i h stamp what.now) }
 {
     match rule {
+        EventRule::Arrived => has_come(i, what, tables),
         EventRule::Eager => is_eager_over(i, what, own, tables),
         EventRule::Asked => is_asked_over(i, what, own, tables),
         EventRule::Recalls => is_answered(own, end, what),
@@ -77,6 +82,7 @@ fn first_of_rank(
 /// The first event that breaks the rule, rank by rank.
 pub fn first_rest_at(rule: EventRule, ranks: &[RankAccount], tables: &[Tables]) -> Option<Spot>
     requires few { length ranks.now < 256 }
+    requires ordered { rule ≡ event_rule.Arrived → AreInOrder (ends_of ranks.now) }
     requires tabled { AreTabled (ends_of ranks.now) tables.now }
     ensures { (lines : List script_line.Line) (packets : List Packets) → MatchOption result
         (KeepsRest lines (ends_of ranks.now) packets (rest_clause rule))

@@ -9,14 +9,14 @@ ghost use Rattle.nm_history.specs.Sends.{is_ask};
 ghost use Rattle.nm_report.specs.Ends.{ends_of};
 ghost use Rattle.nm_lookups.specs.Deciding.{Decides};
 ghost use Rattle.nm_lookups.specs.Placed.{ArePlaces};
-ghost use Rattle.nm_check_ranks.specs.Over.{AskedIsOver, EagerIsOver, SendKeeps};
+ghost use Rattle.nm_check_ranks.specs.Over.{AskedIsOver, EagerIsOver, HasCome, SendKeeps};
 ghost use Rattle.nm_check_ranks.specs.Tabled.{AreTabled};
 
 use crate::hows::{is_asked, is_eager};
 use nm_check_rank::paired::tables::Tables;
 use nm_history::{Event, Happened};
 use nm_lookups::firsts::{is_ever, is_ever_taken};
-use nm_lookups::kinds::{Claims, Outs, Wholes};
+use nm_lookups::kinds::{Arrivals, Claims, Outs, Wholes};
 use nm_lookups::places::Places;
 use nm_report::RankAccount;
 
@@ -52,6 +52,12 @@ fn is_message_kept_back(i: u8, j: u8, n: u64, sent: &Places, got: &Places) -> bo
     neither(out, whole)
 }
 
+fn is_so(holds: bool) -> bool
+    ensures { Decides result (IsTrue holds) }
+{
+    holds
+}
+
 fn is_implied(asked: bool, holds: bool) -> bool
     ensures { Decides result (OnTrue asked (IsTrue holds)) }
 {
@@ -66,6 +72,25 @@ fn are_implied(asked: bool, taken: bool, claimed: bool, over: bool, kept: bool) 
         return true;
     }
     if taken { over } else { !claimed || kept }
+}
+
+/// Whether what happened at rank i is no send to one of the ranks, or its message has come.
+pub(crate) fn has_come(i: u8, what: &Happened, tables: &[Tables]) -> bool
+    ensures { (ranks : List Ended) (stamp : ℕ) → AreTabled ranks tables.now →
+        Decides result (SendKeeps (HasCome i) ranks stamp what.now) }
+{
+    match what {
+        Happened::Send { to, n, .. } => {
+            let j = *to as usize;
+            let count = tables.len();
+            if j >= count {
+                return true;
+            }
+            let came = is_ever::<Arrivals>(&tables[j].places.incoming.came.arrivals, i, *n);
+            is_so(came)
+        }
+        _ => true,
+    }
 }
 
 /// Whether what happened at rank i is no eager send to one of the ranks, or its message is over.

@@ -7,7 +7,7 @@ use Rattle.nm_chart.proofs.check.checks.finding_of.Goals as goal
 
 pub drawn-requires : goal.drawn-requires
 drawn-requires c =
-    judged_trace c.args.bytes.now _ _ c.in-Judged.place
+    judged_trace c.args.bytes.now _ _ c.in-Judged.place _
     (subst (IsFoundIn c.args.bytes.now) c.in-Judged.is c.requires)
 
 pub returns-in-Judged-clause-finding : goal.returns-in-Judged-clause-finding

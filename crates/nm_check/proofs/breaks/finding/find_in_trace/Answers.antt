@@ -14,8 +14,14 @@ trace_place-requires-clause-short c =
     let short = c.requires.short in
     omega (arith, few, short)
 
-pub returns-in_ok-place-in-Ok-clause-found : goal.returns-in_ok-place-in-Ok-clause-found
-returns-in_ok-place-in-Ok-clause-found c =
+pub evidence_of-requires-clause-short : goal.evidence_of-requires-clause-short
+evidence_of-requires-clause-short c =
+    let few = few_events _ c.args.rest.now _ c.in-Ok.ensures.taken in
+    let short = c.requires.short in
+    omega (arith, few, short)
+
+pub returns-in_ok-evidence-in-Ok-clause-found : goal.returns-in_ok-evidence-in-Ok-clause-found
+returns-in_ok-evidence-in-Ok-clause-found c =
     let sized : c.unwrap-shape.result ≡ sizes c.args.cells c.args.eager c.args.script.now.ranks = search rules in
     let low : c.args.script.now.ranks < 256 = search rules in
     let few : c.args.script.now.ranks < 2 ^ 64 = omega (arith, low) in
@@ -32,4 +38,5 @@ returns-in_ok-place-in-Ok-clause-found c =
       stands (sizes c.args.cells c.args.eager c.args.script.now.ranks) c.args.rest.now c.in-Ok.run' trace few
           c.args.script.now.lines (lines_in c.args.rest.now) c.in_ok-verdict-in-Ok.verdict c.in_ok-place-in-Ok.place
           placed,
+      c.in_ok-evidence-in-Ok.ensures,
     )

@@ -5,7 +5,7 @@ use Rattle.nm_check_ranks.specs.RestBreaks.{rest_clause}
 use Rattle.nm_check_ranks.specs.RestClauses.{KeepsRest}
 use Rattle.nm_check_ranks.specs.declared.rest.clauses.RestClause.{RestClause}
 use Rattle.nm_check.specs.Places.{IsRestPlace}
-use Rattle.nm_check.proofs.SpotLemmas.{are_local, event_placed, rule_of}
+use Rattle.nm_check.proofs.SpotLemmas.{are_local, are_ordered, event_placed, rule_of}
 use Rattle.nm_check.proofs.breaks.placing.rest_place.Goals as goal
 
 pub tables_of-requires : goal.tables_of-requires
@@ -26,6 +26,10 @@ event_place-requires c =
     rw (c.as_slice-own.ensures.value, c.as_slice-ranks.ensures) (record {
       few = c.requires.few;
       short = c.requires.short;
+      ordered = λ arrived. (
+        are_local c.args.run.now.shape c.args.script.now.lines (ends_of c.args.run.now.ranks) judged.runs,
+        are_ordered c.args.script.now.lines (ends_of c.args.run.now.ranks) judged.delivered,
+      );
       tabled = (
         c.args.script.now.lines,
         rw (c.as_slice-ranks.ensures, c.as_slice-lines.ensures) at c.in_ok-tables.ensures,

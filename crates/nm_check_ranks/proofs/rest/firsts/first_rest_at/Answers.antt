@@ -41,6 +41,6 @@ returns-in-Some c = λ lines packets. record {
 
 pub returns : goal.returns
 returns c = λ lines packets.
-    whole_rule c.args.rule (ends_of c.args.ranks.now) lines packets
+    whole_rule c.args.rule (ends_of c.args.ranks.now) lines packets c.requires.ordered
     (all_ranks (λ x rank. KeepRestAt c.args.rule (ends_of c.args.ranks.now) x rank.events rank.events)
     c.args.ranks.now c.loop-i.i c.loop-i-test.false c.loop-i.invariant)

@@ -1,0 +1,126 @@
+-- The other line of a rule between two ranks.
+use Rattle.std.proofs.Common.{◌≡◌, ℕ, ◌<◌, ◌≤◌, Option, Some, None, Bool, List, [], refl, sym, ◌∙◌, ap, subst}
+use Rattle.std.proofs.Common.{length, arith}
+use Rattle.std.specs.Prelude.{IfSome, option_map, position, slice_get}
+use Rattle.std.specs.Option.{option_map_or}
+use Rattle.std.proofs.lemmas.Option.{slice_get_within}
+use Rattle.std.proofs.lemmas.List.Quantifiers.{position-Some}
+use Rattle.nm_types.specs.declared.answers.Answer.{Answer}
+use Rattle.nm_types.specs.declared.scripts.Line.{Line}
+use Rattle.nm_history.specs.declared.events.Event.{Event}
+use Rattle.nm_history.specs.declared.events.Happened.{Happened}
+use Rattle.nm_history.specs.declared.events.Happened.TheVariants.{Out, Ran}
+use Rattle.nm_history.specs.AtEach.{AtEach}
+use Rattle.nm_history.specs.Quiescence.{EachRank, Ended}
+use Rattle.nm_history.specs.RankRun.{Always, NumberAt}
+use Rattle.nm_report.specs.declared.accounts.RankAccount.{RankAccount}
+use Rattle.nm_report.specs.declared.records.RunRecord.{RunRecord}
+use Rattle.nm_report.specs.Ends.{ends_of}
+use Rattle.nm_check_ranks.specs.Marked.{KeepsLocal, history_of}
+use Rattle.nm_check_ranks.specs.declared.clauses.CarriedClause.{CarriedClause}
+use Rattle.nm_check.specs.declared.verdicts.Verdict.{Verdict}
+use Rattle.nm_check.specs.declared.verdicts.Verdict.TheVariants.{Holds, Own, Carried, Rest, Home, Done}
+use Rattle.nm_check.specs.CellCounts.{verdict_cells}
+use Rattle.nm_check.specs.Incidents.{place_incident}
+use Rattle.nm_check.specs.Others.{IsAgainst, IsCarriedOther, IsOther, first_line, is_mate}
+use Rattle.nm_check.specs.Places.{events_in, line_of}
+use Rattle.nm_check.specs.declared.breaks.places.Place.{Place}
+use Rattle.nm_check.specs.declared.breaks.places.Place.TheVariants.{Nowhere, Event as EventAt, Behind, Standing, LastLine}
+use Rattle.nm_check.proofs.SpotLemmas.{history_le, many_ends}
+
+-- no event has no other line
+pub none_at : (lines : List Line) (ranks : List Ended) (i j : ℕ) (place : Place) →
+    ((r at line : ℕ) (command : Option ℕ) → place ≡ EventAt r at line command → ⊥) →
+    IsCarriedOther lines ranks i j place None
+none_at lines ranks i j Nowhere not = refl
+none_at lines ranks i j (EventAt r at line command) not = absurd (not r at line command refl)
+none_at lines ranks i j (Behind r) not = refl
+none_at lines ranks i j (Standing r waits) not = refl
+none_at lines ranks i j (LastLine line) not = refl
+
+-- nor has a rule of another kind
+pub none_of : (lines : List Line) (run : RunRecord) (v : Verdict) (place : Place) →
+    ((c : CarriedClause) (from to : ℕ) → v ≡ Carried c from to → ⊥) → IsOther lines run v place None
+none_of lines run Holds place not = refl
+none_of lines run (Own c rank) place not = refl
+none_of lines run (Carried c from to) place not = absurd (not c from to refl)
+none_of lines run (Rest c) place not = refl
+none_of lines run Home place not = refl
+none_of lines run Done place not = refl
+
+-- an event of another kind is held against its mate
+pub against_mate : (lines : List Line) (ranks : List Ended) (x : ℕ) (before : List Event) (what : Happened) (y : ℕ)
+    (other : Option ℕ) → ((to n : ℕ) → what ≡ Out to n → ⊥) → ((line : ℕ) (answer : Answer) → what ≡ Ran line answer → ⊥) →
+    other ≡ first_line ranks y (is_mate x what) → IsAgainst lines ranks x before what y other
+against_mate lines ranks x before (Out to n) y other not_out not_ran is = absurd (not_out to n refl)
+against_mate lines ranks x before (Ran line answer) y other not_out not_ran is = absurd (not_ran line answer refl)
+against_mate lines ranks x before what y other not_out not_ran is = is
+
+-- nothing happened at a place that is no event
+pub no_incident : (ranks : List Ended) (place : Place) →
+    ((r at line : ℕ) (command : Option ℕ) → place ≡ EventAt r at line command → ⊥) → None ≡ place_incident ranks place
+no_incident ranks Nowhere not = refl
+no_incident ranks (EventAt r at line command) not = absurd (not r at line command refl)
+no_incident ranks (Behind r) not = refl
+no_incident ranks (Standing r waits) not = refl
+no_incident ranks (LastLine line) not = refl
+
+-- another verdict than that on them has no cells
+pub not_of_cells : (run : RunRecord) (v : Verdict) → (v ≡ Home → ⊥) → None ≡ verdict_cells run v
+not_of_cells run Holds not = refl
+not_of_cells run (Own c rank) not = refl
+not_of_cells run (Carried c from to) not = refl
+not_of_cells run (Rest c) not = refl
+not_of_cells run Home not = absurd (not refl)
+not_of_cells run Done not = refl
+
+-- a rank's messages and receives are numbered
+pub numbered_of : (ranks : List Ended) (y : ℕ) → EachRank KeepsLocal ranks →
+    (n : ℕ) × Always (NumberAt n) (history_of ranks y)
+unfolding AtEach
+numbered_of ranks y each = by_rank (slice_get ranks y) (each y)
+  where
+    by_rank : (o : Option Ended) → IfSome o (KeepsLocal y) →
+        (n : ℕ) × Always (NumberAt n) (option_map_or (λ rank. rank.events) o [])
+    by_rank None own = (0, tt)
+    by_rank (Some rank) own = (own.ranks, own.numbers)
+
+-- a rank that has an event is one of the ranks
+pub known_by : (ranks : List Ended) (y k : ℕ) → k < length (history_of ranks y) → y < length ranks
+known_by ranks y k = by_rank (slice_get ranks y) refl
+  where
+    by_rank : (o : Option Ended) → slice_get ranks y ≡ o →
+        k < length (option_map_or (λ rank. rank.events) o []) → y < length ranks
+    by_rank None is inside = absurd (omega (arith, inside))
+    by_rank (Some rank) is inside = slice_get_within ranks y rank is
+
+module _ (ranks : List RankAccount) (y : ℕ) where
+  -- a place of its history is early
+  pub early_in : (k : ℕ) → k < length (history_of (ends_of ranks) y) → events_in (ends_of ranks) ≤ 67108864 →
+      k < 67108864
+  early_in k inside short =
+      let all : length (history_of (ends_of ranks) y) ≤ events_in (ends_of ranks) = history_le (ends_of ranks) y in
+      omega (arith, inside, all, short)
+
+  -- and it is one of the ranks
+  pub known_in : (k : ℕ) → k < length (history_of (ends_of ranks) y) → y < length ranks
+  known_in k inside =
+      let low : y < length (ends_of ranks) = known_by (ends_of ranks) y k inside in
+      let many : length (ends_of ranks) ≡ length ranks = many_ends ranks in
+      omega (arith, low, many)
+
+  -- a first event is found inside
+  pub first_inside : (test : Happened → Bool) (es : List Event) (at : Option ℕ) → es ≡ history_of (ends_of ranks) y →
+      at ≡ position (λ (e : Event). test e.what) es → (k : ℕ) → at ≡ Some k → k < length (history_of (ends_of ranks) y)
+  first_inside test es at same found k is =
+      let none : Event = record { stamp = 0; what = Out 0 0 } in
+      subst (λ (h : List Event). k < length h) same
+      (position-Some (λ (e : Event). test e.what) es k none (sym found ∙ is)).0
+
+  -- and has this line
+  pub first_at : (test : Happened → Bool) (es : List Event) (at line : Option ℕ) → es ≡ history_of (ends_of ranks) y →
+      at ≡ position (λ (e : Event). test e.what) es → line ≡ option_map (line_of (ends_of ranks) y) at →
+      line ≡ first_line (ends_of ranks) y test
+  first_at test es at line same found is =
+      is ∙ ap (λ (o : Option ℕ). option_map (line_of (ends_of ranks) y) o) found
+      ∙ ap (λ (h : List Event). option_map (line_of (ends_of ranks) y) (position (λ e. test e.what) h)) same

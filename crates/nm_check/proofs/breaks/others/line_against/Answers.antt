@@ -1,0 +1,17 @@
+use Rattle.std.proofs.Common.{◌∙◌, take}
+use Rattle.nm_report.specs.Ends.{ends_of}
+use Rattle.nm_check_ranks.specs.Marked.{history_of}
+use Rattle.nm_check.proofs.OtherLemmas.{against_mate}
+use Rattle.nm_check.proofs.breaks.others.line_against.Goals as goal
+
+pub returns-in-Out : goal.returns-in-Out
+returns-in-Out c = λ e here same. rw c.in-Out.is c.taken_line.ensures
+
+pub returns-in-Ran : goal.returns-in-Ran
+returns-in-Ran c = λ e here same. rw c.in-Ran.is (c.shown_line.ensures e c.in-Ran.answer here (same ∙ c.in-Ran.is))
+
+pub returns-in_default : goal.returns-in_default
+returns-in_default c = λ e here same.
+    let ends = ends_of c.args.ranks.now in
+    against_mate c.args.lines.now ends c.args.x (take c.args.at (history_of ends c.args.x)) c.args.what.now c.args.y
+    c.mate_line.result c.in_default.not-Out c.in_default.not-Ran c.mate_line.ensures

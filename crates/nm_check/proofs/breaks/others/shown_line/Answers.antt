@@ -1,0 +1,13 @@
+use Rattle.std.proofs.Common.{Option, ◌∙◌, ap}
+use Rattle.nm_history.specs.declared.plain.Pair.{Pair}
+use Rattle.nm_report.specs.Ends.{ends_of}
+use Rattle.nm_check_ranks.specs.Marked.{history_of}
+use Rattle.nm_check.specs.Others.{sent_line}
+use Rattle.nm_check.proofs.breaks.others.shown_line.Goals as goal
+
+pub returns : goal.returns
+returns c = λ e answer here ran.
+    let ends = ends_of c.args.ranks.now in
+    c.sent_line.ensures
+    ∙ ap (λ (o : Option Pair). sent_line ends c.args.x o)
+    (c.pair_asked-pair.ensures (history_of ends c.args.x) e answer c.in_ok-tables.ensures here ran)

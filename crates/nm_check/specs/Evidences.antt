@@ -1,0 +1,21 @@
+-- What a verdict rests on at its place.
+use Rattle.std.specs.Prelude.{◌≡◌, List}
+use Rattle.nm_types.specs.declared.scripts.Line.{Line}
+use Rattle.nm_report.specs.Ends.{ends_of}
+use Rattle.nm_report.specs.declared.records.RunRecord.{RunRecord}
+use Rattle.nm_check.specs.declared.verdicts.Verdict.{Verdict}
+use Rattle.nm_check.specs.declared.breaks.evidence.Evidence.{Evidence}
+use Rattle.nm_check.specs.declared.breaks.places.Place.{Place}
+use Rattle.nm_check.specs.CellCounts.{verdict_cells}
+use Rattle.nm_check.specs.Dues.{IsPlaceDue}
+use Rattle.nm_check.specs.Incidents.{place_incident}
+use Rattle.nm_check.specs.Others.{IsOther}
+
+-- what is called for there and what was found, the line of the other rank that it is held against, what happened
+-- there, and the number of cells
+pub record IsEvidence (lines : List Line) (run : RunRecord) (verdict : Verdict) (place : Place) (e : Evidence)
+    : Type 0 where
+  pub due : IsPlaceDue lines run verdict place e.due
+  pub other : IsOther lines run verdict place e.other
+  pub incident : e.incident ≡ place_incident (ends_of run.ranks) place
+  pub cells : e.cells ≡ verdict_cells run verdict

@@ -1,0 +1,283 @@
+//! The other place of a rule between two ranks.
+
+ghost use Rattle.std.specs.Prelude.{◌≡◌, ◌<◌, ◌≤◌, ◌==◌, ℕ, if◌then◌else◌, IfOk, Some, length, slice_get};
+ghost use Rattle.std.specs.Prelude.{option_map, position, take};
+ghost use Rattle.nm_types.specs.Commands.{commands_of};
+ghost use Rattle.nm_types.specs.declared.answers.Answer as given_answer;
+ghost use Rattle.nm_report.specs.Ends.{ends_of};
+ghost use Rattle.nm_history.specs.declared.events.Event as event;
+ghost use Rattle.nm_history.specs.declared.events.Happened.TheVariants.{Ran};
+ghost use Rattle.nm_history.specs.Happens.{is_recall as is_recall_lem, is_send as is_send_lem};
+ghost use Rattle.nm_history.specs.Quiescence.{EachRank};
+ghost use Rattle.nm_check_rank.specs.Tabled.{AreRankTables};
+ghost use Rattle.nm_check_rank.specs.Takes.{IsTakenAt};
+ghost use Rattle.nm_check_ranks.specs.Marked.{KeepsLocal, history_of};
+ghost use Rattle.nm_check.specs.Others as spec;
+ghost use Rattle.nm_check.specs.Others.{IsAgainst, IsCarriedOther, IsOther, IsOtherLine, IsTakenLine};
+ghost use Rattle.nm_check.specs.Others.{is_mate as is_mate_lem, is_withdrawal as is_withdrawal_lem};
+ghost use Rattle.nm_check.specs.Others.{pair_shown};
+ghost use Rattle.nm_check.specs.Places.{events_in, line_of as line_of_lem};
+ghost use Rattle.nm_check.specs.Verdicts.{Judges};
+
+use crate::Verdict;
+use crate::breaks::places::{Place, events_of, line_of};
+use nm_check_rank::paired::tables::Tables;
+use nm_history::plain::Pair;
+use nm_history::{Event, Happened};
+use nm_report::{RankAccount, RunRecord};
+use nm_types::{Line, Memory, Script};
+use std::alloc::Global;
+
+/// Message n was sent to this rank.
+fn is_send(to: u8, n: u64, what: &Happened) -> bool
+    ensures { result ≡ is_send_lem to n what.now }
+{
+    match what {
+        Happened::Send {
+            to: rank,
+            n: number,
+            ..
+        } => *rank == to && *number == n,
+        _ => false,
+    }
+}
+
+/// The receiver was asked to withdraw message n.
+fn is_recall(to: u8, n: u64, what: &Happened) -> bool
+    ensures { result ≡ is_recall_lem to n what.now }
+{
+    match what {
+        Happened::Recall {
+            to: rank,
+            n: number,
+        } => *rank == to && *number == n,
+        _ => false,
+    }
+}
+
+/// Message n of this rank was withdrawn, done or late.
+fn is_withdrawal(from: u8, n: u64, what: &Happened) -> bool
+    ensures { result ≡ is_withdrawal_lem from n what.now }
+{
+    match what {
+        Happened::Withdraw {
+            from: rank,
+            n: number,
+            ..
+        } => *rank == from && *number == n,
+        _ => false,
+    }
+}
+
+/// Whether what happened at rank x is held against this at the other rank.
+fn is_mate(x: u8, what: &Happened, other: &Happened) -> bool
+    ensures { result ≡ is_mate_lem x what.now other.now }
+{
+    match what {
+        Happened::Arrive { a } => is_send(x, a.n, other),
+        Happened::Withdraw { n, .. } => is_recall(x, *n, other),
+        Happened::Undone { n, .. } => is_withdrawal(x, *n, other),
+        _ => false,
+    }
+}
+
+/// The line of an event of rank y, by its place.
+fn line_at(ranks: &[RankAccount], y: u8, at: Option<usize>) -> Option<u32>
+    requires short { events_in (ends_of ranks.now) ≤ 67108864 }
+    requires inside { (k : ℕ) → at ≡ Some k → k < length (history_of (ends_of ranks.now) y) }
+    ensures { result ≡ option_map (line_of_lem (ends_of ranks.now) y) at }
+{
+    match at {
+        Some(at) => Some(line_of(ranks, y, at)),
+        None => None,
+    }
+}
+
+/// The first place of these events that what happened at rank x is held against.
+fn mate_at(events: &[Event], x: u8, what: &Happened) -> Option<usize>
+    ensures { result ≡ position (λ e. is_mate_lem x what.now e.what) events.now }
+{
+    events.iter().position(|e| is_mate(x, what, &e.what))
+}
+
+/// The first place of these events at which message n was sent to rank x.
+fn send_at(events: &[Event], x: u8, n: u64) -> Option<usize>
+    ensures { result ≡ position (λ e. is_send_lem x n e.what) events.now }
+{
+    events.iter().position(|e| is_send(x, n, &e.what))
+}
+
+/// The line of the first event of rank y that what happened at rank x is held against.
+fn mate_line(ranks: &[RankAccount], x: u8, what: &Happened, y: u8) -> Option<u32>
+    requires { events_in (ends_of ranks.now) ≤ 67108864 }
+    ensures { result ≡ spec.first_line (ends_of ranks.now) y (is_mate_lem x what.now) }
+{
+    let at = mate_at(events_of(ranks, y), x, what);
+    line_at(ranks, y, at)
+}
+
+/// The line of the send of message n of rank y to rank x.
+fn send_line(ranks: &[RankAccount], x: u8, n: u64, y: u8) -> Option<u32>
+    requires { events_in (ends_of ranks.now) ≤ 67108864 }
+    ensures { result ≡ spec.first_line (ends_of ranks.now) y (is_send_lem x n) }
+{
+    let at = send_at(events_of(ranks, y), x, n);
+    line_at(ranks, y, at)
+}
+
+/// What is looked up of a rank.
+fn tables_of_rank(
+    alloc: Global,
+    lines: &[Line],
+    ranks: &[RankAccount],
+    y: u8,
+) -> Result<Tables, Memory>
+    requires { EachRank KeepsLocal (ends_of ranks.now) }
+    ensures { IfOk result (AreRankTables y lines.now (history_of (ends_of ranks.now) y)) }
+{
+    Tables::of(alloc, y, lines, events_of(ranks, y))
+}
+
+/// The line of the event by which a receive of rank y took message n of rank x.
+fn taken_line(
+    alloc: Global,
+    lines: &[Line],
+    ranks: &[RankAccount],
+    x: u8,
+    n: u64,
+    y: u8,
+) -> Result<Option<u32>, Memory>
+    requires short { events_in (ends_of ranks.now) ≤ 67108864 }
+    requires lawful { EachRank KeepsLocal (ends_of ranks.now) }
+    ensures { IfOk result (IsTakenLine (ends_of ranks.now) x n y) }
+{
+    let tables = tables_of_rank(alloc, lines, ranks, y)?;
+    let at = tables.taken_at(x, n);
+    Ok(line_at(ranks, y, at))
+}
+
+/// The line of the send of the message that a pair of rank x has.
+fn sent_line(ranks: &[RankAccount], x: u8, pair: Option<Pair>) -> Option<u32>
+    requires { events_in (ends_of ranks.now) ≤ 67108864 }
+    ensures { result ≡ spec.sent_line (ends_of ranks.now) x pair }
+{
+    match pair {
+        Some(pair) => send_line(ranks, x, pair.arrival.n, pair.arrival.env.from),
+        None => None,
+    }
+}
+
+/// The line of the send of the message that the answer to the command of a line of rank x shows.
+fn shown_line(
+    alloc: Global,
+    lines: &[Line],
+    ranks: &[RankAccount],
+    x: u8,
+    at: usize,
+    line: u32,
+) -> Result<Option<u32>, Memory>
+    requires short { events_in (ends_of ranks.now) ≤ 67108864 }
+    requires lawful { EachRank KeepsLocal (ends_of ranks.now) }
+    ensures { (e : event.Event) (answer : given_answer.Answer) →
+        slice_get (history_of (ends_of ranks.now) x) at ≡ Some e → e.what ≡ Ran line answer →
+        IfOk result (λ other. other ≡ spec.sent_line (ends_of ranks.now) x
+        (pair_shown (commands_of x lines.now) (take at (history_of (ends_of ranks.now) x))
+        (Ran line answer))) }
+{
+    let tables = tables_of_rank(alloc, lines, ranks, x)?;
+    let pair = tables.pair_asked(x, lines, at, line);
+    Ok(sent_line(ranks, x, pair))
+}
+
+/// The line of rank y that the event at a place of rank x is held against.
+fn line_against(
+    alloc: Global,
+    lines: &[Line],
+    ranks: &[RankAccount],
+    x: u8,
+    at: usize,
+    what: &Happened,
+    y: u8,
+) -> Result<Option<u32>, Memory>
+    requires short { events_in (ends_of ranks.now) ≤ 67108864 }
+    requires lawful { EachRank KeepsLocal (ends_of ranks.now) }
+    ensures { (e : event.Event) → slice_get (history_of (ends_of ranks.now) x) at ≡ Some e →
+        e.what ≡ what.now → IfOk result (IsAgainst lines.now (ends_of ranks.now) x
+        (take at (history_of (ends_of ranks.now) x)) what.now y) }
+{
+    match what {
+        Happened::Out { n, .. } => taken_line(alloc, lines, ranks, x, *n, y),
+        Happened::Ran { line, .. } => shown_line(alloc, lines, ranks, x, at, *line),
+        _ => Ok(mate_line(ranks, x, what, y)),
+    }
+}
+
+/// The other one of two ranks.
+fn other_rank(i: u8, j: u8, x: u8) -> u8
+    ensures { result ≡ (if x == i then j else i) }
+{
+    if x == i { j } else { i }
+}
+
+/// The line that the event of rank x at a place is held against, where x is rank i or rank j.
+fn other_line(
+    alloc: Global,
+    lines: &[Line],
+    ranks: &[RankAccount],
+    i: u8,
+    j: u8,
+    x: u8,
+    at: usize,
+) -> Result<Option<u32>, Memory>
+    requires short { events_in (ends_of ranks.now) ≤ 67108864 }
+    requires lawful { EachRank KeepsLocal (ends_of ranks.now) }
+    ensures { IfOk result (IsOtherLine lines.now (ends_of ranks.now) i j x at) }
+{
+    let events = events_of(ranks, x);
+    if at >= events.len() {
+        return Ok(None);
+    }
+    let y = other_rank(i, j, x);
+    line_against(alloc, lines, ranks, x, at, &events[at].what, y)
+}
+
+/// The other line of a place at which the messages from rank i to rank j break a rule.
+fn carried_other(
+    alloc: Global,
+    lines: &[Line],
+    ranks: &[RankAccount],
+    i: u8,
+    j: u8,
+    place: Place,
+) -> Result<Option<u32>, Memory>
+    requires short { events_in (ends_of ranks.now) ≤ 67108864 }
+    requires lawful { EachRank KeepsLocal (ends_of ranks.now) }
+    ensures { IfOk result (IsCarriedOther lines.now (ends_of ranks.now) i j place) }
+{
+    match place {
+        Place::Event { rank, at, .. } => other_line(alloc, lines, ranks, i, j, rank, at),
+        _ => Ok(None),
+    }
+}
+
+/// The other line of a verdict's place.
+pub fn other_of(
+    alloc: Global,
+    script: &Script,
+    run: &RunRecord,
+    verdict: Verdict,
+    place: Place,
+) -> Result<Option<u32>, Memory>
+    requires judged { Judges script.now.lines run.now verdict }
+    requires short { events_in (ends_of run.now.ranks) ≤ 67108864 }
+    ensures { IfOk result (IsOther script.now.lines run.now verdict place) }
+{
+    match verdict {
+        Verdict::Carried { from, to, .. } => {
+            let lines = script.lines.as_slice();
+            let ranks = run.ranks.as_slice();
+            carried_other(alloc, lines, ranks, from, to, place)
+        }
+        _ => Ok(None),
+    }
+}
