@@ -34,7 +34,7 @@ use Rattle.nm_cells.proofs.PortLemmas.{CarriesFor}
 use Rattle.nm_chain.specs.Update.{pick}
 
 -- the slot of a loose cell is taken
-module _ (me after : Knowing) (c : ℕ) (low : c < length (mine me).hands)
+module _ {A : Type 0} (me after : Knowing A) (c : ℕ) (low : c < length (mine me).hands)
     (was : hand (mine me) c ≡ Loose)
     (is : after ≡ (view (with_hand c Held (mine me) ∷ []), (c, None) ∷ me.1)) where
   module _ (carried : List ℕ) (room count : ℕ) (h : CarriesFor me carried room count) where
@@ -57,7 +57,7 @@ module _ (me after : Knowing) (c : ℕ) (low : c < length (mine me).hands)
 
   pub picked_boxes : HoldsBoxes (mine me) me.1
       → length (mine me).hands ≡ (mine me).ranks * (mine me).each → HoldsBoxes (mine after) after.1
-  picked_boxes h long = subst (λ (k : Knowing). HoldsBoxes (mine k) k.1) (sym is)
+  picked_boxes h long = subst (λ (k : Knowing A). HoldsBoxes (mine k) k.1) (sym is)
       (boxes_pushed (mine me) me.1 h c None (subst (λ k. c < k) long low))
 
   -- it is one more loose cell of the port's
@@ -65,7 +65,7 @@ module _ (me after : Knowing) (c : ℕ) (low : c < length (mine me).hands)
       → AreKept (record { first = a; end = c }) (mine me) me.1
       → AreKept (record { first = a; end = c + 1 }) (mine after) after.1
   picked_kept a own h = let e = mine me in let out = loose_apart _ e me.1 h c was in
-      subst (λ (m : Knowing). AreKept (record { first = a; end = c + 1 }) (mine m) m.1) (sym is)
+      subst (λ (m : Knowing A). AreKept (record { first = a; end = c + 1 }) (mine m) m.1) (sym is)
       (λ d i. dite (ℕ_discrete d c)
       (λ s. subst (λ k. (k < length (set e.hands c Held))
       × (slice_index_or (set e.hands c Held) k Away ≡ Held)
@@ -82,54 +82,60 @@ module _ (me after : Knowing) (c : ℕ) (low : c < length (mine me).hands)
 span : ℕ → ℕ → ℕ → ℕ
 span a b x = (x - a) - (x - b)
 
-module _ (each r : ℕ) (some : 0 < each) where
-  loose_sum : (c k : ℕ) → sum_by in_hand (first_hands each r c k)
+module _ (A : Type 0) (each r : ℕ) (some : 0 < each) where
+  abbrev stays : Hand A
+  stays = Loose
+
+  abbrev leaves : Hand A
+  leaves = Away
+
+  loose_sum : (c k : ℕ) → sum_by in_hand (first_hands {A = A} each r c k)
       + span (r * each) (r * each + each) c ≡ span (r * each) (r * each + each) (c + k)
   unfolding span
   loose_sum c zero = omega arith
   loose_sum c (suc k) = let s = loose_sum (suc c) k in
-      let cons = sum_by-cons in_hand (pick (ℕ_discrete (c / each) r) Loose Away)
-      (first_hands each r (suc c) k) in let low = div-mul-le_self c each in
+      let cons = sum_by-cons in_hand (pick (ℕ_discrete (c / each) r) stays leaves)
+      (first_hands {A = A} each r (suc c) k) in let low = div-mul-le_self c each in
       let high : c < c / each * each + each = lt-div-mul-add some in dite (ℕ_discrete (c / each) r)
-      (λ e. let one : in_hand (pick (ℕ_discrete (c / each) r) Loose Away) ≡ 1 =
-      ap in_hand (pick_yes (ℕ_discrete (c / each) r) Loose Away e) in
+      (λ e. let one : in_hand (pick (ℕ_discrete (c / each) r) stays leaves) ≡ 1 =
+      ap in_hand (pick_yes (ℕ_discrete (c / each) r) stays leaves e) in
       let l : r * each ≤ c = subst (λ q. q * each ≤ c) e low in
       let h : c < r * each + each = subst (λ q. c < q * each + each) e high in omega arith)
-      (λ ne. let none : in_hand (pick (ℕ_discrete (c / each) r) Loose Away) ≡ 0 =
-      ap in_hand (pick_no (ℕ_discrete (c / each) r) Loose Away ne) in
+      (λ ne. let none : in_hand (pick (ℕ_discrete (c / each) r) stays leaves) ≡ 0 =
+      ap in_hand (pick_no (ℕ_discrete (c / each) r) stays leaves ne) in
       dite (dec_le (suc (c / each)) r)
       (λ less. let m : suc (c / each) * each ≤ r * each = mul-le-mul_right each less in
       let m' : suc (c / each) * each ≡ c / each * each + each = omega arith in omega arith)
       (λ far. let m : suc r * each ≤ c / each * each = mul-le-mul_right each (omega arith) in
       let m' : suc r * each ≡ r * each + each = omega arith in omega arith))
 
-  slots_none : (c k : ℕ) → sum_by slots_with (first_hands each r c k) ≡ 0
+  slots_none : (c k : ℕ) → sum_by slots_with (first_hands {A = A} each r c k) ≡ 0
   slots_none c zero = refl
   slots_none c (suc k) = let s = slots_none (suc c) k in
-      let cons = sum_by-cons slots_with (pick (ℕ_discrete (c / each) r) Loose Away)
-      (first_hands each r (suc c) k) in
-      let none : slots_with (pick (ℕ_discrete (c / each) r) Loose Away) ≡ 0 =
+      let cons = sum_by-cons slots_with (pick (ℕ_discrete (c / each) r) stays leaves)
+      (first_hands {A = A} each r (suc c) k) in
+      let none : slots_with (pick (ℕ_discrete (c / each) r) stays leaves) ≡ 0 =
       no_slot (ℕ_discrete (c / each) r) in omega arith where
-        no_slot : (d : Dec (c / each ≡ r)) → slots_with (pick d Loose Away) ≡ 0
+        no_slot : (d : Dec (c / each ≡ r)) → slots_with (pick d stays leaves) ≡ 0
         no_slot (yes _) = refl
         no_slot (no _) = refl
 
   -- what the rank r has of the cell c at the start
-  pub begins_loose : (n c : ℕ) → c < n * each → c / each ≡ r → hand (beginner n each r) c ≡ Loose
+  pub begins_loose : (n c : ℕ) → c < n * each → c / each ≡ r → hand (beginner {A = A} n each r) c ≡ Loose
   begins_loose n c low e = let z : 0 + c ≡ c = omega arith in first_at each r 0 (n * each) c low
-      ∙ ap (λ u. pick (ℕ_discrete (u / each) r) Loose Away) z
-      ∙ pick_yes (ℕ_discrete (c / each) r) Loose Away e
+      ∙ ap (λ u. pick (ℕ_discrete (u / each) r) stays leaves) z
+      ∙ pick_yes (ℕ_discrete (c / each) r) stays leaves e
 
-  pub begins_away : (n c : ℕ) → c < n * each → c / each ≢ r → hand (beginner n each r) c ≡ Away
+  pub begins_away : (n c : ℕ) → c < n * each → c / each ≢ r → hand (beginner {A = A} n each r) c ≡ Away
   begins_away n c low ne = let z : 0 + c ≡ c = omega arith in first_at each r 0 (n * each) c low
-      ∙ ap (λ u. pick (ℕ_discrete (u / each) r) Loose Away) z
-      ∙ pick_no (ℕ_discrete (c / each) r) Loose Away ne
+      ∙ ap (λ u. pick (ℕ_discrete (u / each) r) stays leaves) z
+      ∙ pick_no (ℕ_discrete (c / each) r) stays leaves ne
 
   pub begins_carries : (n room : ℕ) → r < n → n * each + 2 * n ≤ room
-      → Carries [] (first_hands each r 0 (n * each)) (replicate n false) (replicate n None) [] room
+      → Carries [] (first_hands {A = A} each r 0 (n * each)) (replicate n false) (replicate n None) [] room
       each
   unfolding span
-  begins_carries n room low more = let nobody : Option Load = None in
+  begins_carries n room low more = let nobody : Option (Load A) = None in
       let s = loose_sum 0 (n * each) in let a = sum_by-replicate fills n false in
       let b = sum_by-replicate empties n nobody in let z = slots_none 0 (n * each) in
       let m : suc r * each ≤ n * each = mul-le-mul_right each low in
@@ -138,13 +144,13 @@ module _ (each r : ℕ) (some : 0 < each) where
       let at_none : span (r * each) (r * each + each) 0 ≡ 0 = omega arith in record {
         order = refl;
         cells = λ c lc. sym (ap slots_with (first_at each r 0 (n * each) c (let l =
-            first_long each r 0 (n * each) in omega arith)) ∙ no_slot (ℕ_discrete ((0 + c) / each) r));
+            first_long A each r 0 (n * each) in omega arith)) ∙ no_slot (ℕ_discrete ((0 + c) / each) r));
         counted = omega arith;
         handed = omega arith;
-        fits = let l = first_long each r 0 (n * each) in let f = length-replicate n false in
+        fits = let l = first_long A each r 0 (n * each) in let f = length-replicate n false in
             let g = length-replicate n nobody in omega arith;
       } where
-        no_slot : {j : ℕ} (d : Dec (j ≡ r)) → slots_with (pick d Loose Away) ≡ 0
+        no_slot : {j : ℕ} (d : Dec (j ≡ r)) → slots_with (pick d stays leaves) ≡ 0
         no_slot (yes _) = refl
         no_slot (no _) = refl
 
@@ -160,11 +166,12 @@ none_taken n d = ap (λ (p : Tally). p.taken) (same_all n d new_tally)
 pub none_unpassed : (n : ℕ) → all_unpassed (replicate n new_tally) ≡ 0
 none_unpassed n = let s = sum_by-replicate (λ (p : Tally). p.unpassed) n new_tally in omega arith
 
--- no cell is in hand
-pub all_away : (hs : List Hand) (m : ℕ) → length hs ≡ m
-    → ((c : ℕ) → c < m → slice_index_or hs c Away ≡ Away) → hs ≡ replicate m Away
-all_away hs m long away = ext_get_or Away hs (replicate m Away) (long ∙ sym (length-replicate m Away))
-    (λ c low. let l : c < m = omega arith in away c l ∙ sym (get_or-replicate m c Away Away l))
+module _ {A : Type 0} where
+  -- no cell is in hand
+  pub all_away : (hs : List (Hand A)) (m : ℕ) → length hs ≡ m
+      → ((c : ℕ) → c < m → slice_index_or hs c Away ≡ Away) → hs ≡ replicate m Away
+  all_away hs m long away = ext_get_or Away hs (replicate m Away) (long ∙ sym (length-replicate m Away))
+      (λ c low. let l : c < m = omega arith in away c l ∙ sym (get_or-replicate m c Away Away l))
 
 -- the cells of one rank
 pub row_of : (each r c : ℕ) → 0 < each → c / each ≡ r → (r * each ≤ c) × (c < r * each + each)
@@ -181,32 +188,33 @@ pub row_low : (n each r c : ℕ) → r < n → c < r * each + each → c < n * e
 row_low n each r c low h = let m : suc r * each ≤ n * each = mul-le-mul_right each low in
     let m' : suc r * each ≡ r * each + each = omega arith in omega arith
 
--- what the rank has of one of its own cells changes, and nothing else
-pub fresh_then : (f : Fabric) (old new : Port) (r c : ℕ) (h : Hand) → IsFresh f old r → Owns f new
-    → new.rank ≡ old.rank → c / f.each ≡ r
-    → knows new ≡ record (newcomer f.ranks f.each r) { hands = set (knows old).hands c h }
-    → ((i : ℕ) → taken_by new i ≡ taken_by old i) → new.held ≡ old.held
-    → unpassed_by new ≡ unpassed_by old → IsFresh f new r
-fresh_then f old new r c h fresh owns rank own is taken held unpassed = (
-  owns,
-  rank ∙ fresh.1,
-  is ∙ ap (λ hs. record (newcomer f.ranks f.each r) { hands = hs }) (sym (ap (λ e. e.hands) is)),
-  (λ d low other. ap (λ e. hand e d) is ∙ get_or-set_other (knows old).hands c d h Away
-      (λ u. other (ap (λ k. k / f.each) u ∙ own)) ∙ fresh.3 d low other),
-  (λ i. taken i ∙ fresh.4 i),
-  held ∙ fresh.5,
-  unpassed ∙ fresh.6,
-)
+module _ {A : Type 0} where
+  -- what the rank has of one of its own cells changes, and nothing else
+  pub fresh_then : (f : Fabric A) (old new : Port A) (r c : ℕ) (h : Hand A) → IsFresh f old r → Owns f new
+      → new.rank ≡ old.rank → c / f.each ≡ r
+      → knows new ≡ record (newcomer f.ranks f.each r) { hands = set (knows old).hands c h }
+      → ((i : ℕ) → taken_by new i ≡ taken_by old i) → new.held ≡ old.held
+      → unpassed_by new ≡ unpassed_by old → IsFresh f new r
+  fresh_then f old new r c h fresh owns rank own is taken held unpassed = (
+    owns,
+    rank ∙ fresh.1,
+    is ∙ ap (λ hs. record (newcomer f.ranks f.each r) { hands = hs }) (sym (ap (λ e. e.hands) is)),
+    (λ d low other. ap (λ e. hand e d) is ∙ get_or-set_other (knows old).hands c d h Away
+        (λ u. other (ap (λ k. k / f.each) u ∙ own)) ∙ fresh.3 d low other),
+    (λ i. taken i ∙ fresh.4 i),
+    held ∙ fresh.5,
+    unpassed ∙ fresh.6,
+  )
 
--- a port that has nothing in hand
-pub empty_handed : (p : Port) (n each r : ℕ) → knows p ≡ newcomer n each r → p.hands ≡ 0
-empty_handed p n each r is = let e = knows p in let h = p.carries.handed in
-    let nobody : Option Load = None in
-    let a : sum_by in_hand e.hands ≡ 0 = ap (λ (u : Entry). sum_by in_hand u.hands) is
-    ∙ sum_by-replicate in_hand (n * each) Away ∙ zeros (n * each) in
-    let b : sum_by fills e.filling ≡ 0 = ap (λ (u : Entry). sum_by fills u.filling) is
-    ∙ sum_by-replicate fills n false ∙ zeros n in
-    let d : sum_by empties e.emptying ≡ 0 = ap (λ (u : Entry). sum_by empties u.emptying) is
-    ∙ sum_by-replicate empties n nobody ∙ zeros n in omega arith where
-      zeros : (k : ℕ) → k * 0 ≡ 0
-      zeros k = omega arith
+  -- a port that has nothing in hand
+  pub empty_handed : (p : Port A) (n each r : ℕ) → knows p ≡ newcomer n each r → p.hands ≡ 0
+  empty_handed p n each r is = let e = knows p in let h = p.carries.handed in
+      let nobody : Option (Load A) = None in
+      let a : sum_by in_hand e.hands ≡ 0 = ap (λ (u : Entry A). sum_by in_hand u.hands) is
+      ∙ sum_by-replicate in_hand (n * each) Away ∙ zeros (n * each) in
+      let b : sum_by fills e.filling ≡ 0 = ap (λ (u : Entry A). sum_by fills u.filling) is
+      ∙ sum_by-replicate fills n false ∙ zeros n in
+      let d : sum_by empties e.emptying ≡ 0 = ap (λ (u : Entry A). sum_by empties u.emptying) is
+      ∙ sum_by-replicate empties n nobody ∙ zeros n in omega arith where
+        zeros : (k : ℕ) → k * 0 ≡ 0
+        zeros k = omega arith

@@ -50,7 +50,7 @@ peers_stay g j peers low taken unpassed = (
       let u = unpassed (peer_in peers j) in omega arith,
 )
 
--- one more packet of a rank came by box, and was passed on
+-- one more parcel of a rank came by box, and was passed on
 pub unboxed_taken : (j : ℕ) (peers : List Tally) → j < length peers → (i : ℕ)
     → (peer_in (with_peer one_unboxed j peers) i).taken
     ≡ update (λ k. (peer_in peers k).taken) j ((peer_in peers j).taken + 1) i
@@ -87,21 +87,22 @@ sure : {A : Type 0} → Dec A → ((¬ A) → ⊥) → A
 sure (yes a) f = a
 sure (no n) f = absurd (f n)
 
--- the slot that was brought to the front stays the fabric's
-pub brought_owns : (f : Fabric) (p q : Port) → q.seat.table_id ≡ p.seat.table_id
-    → q.seat.me.0 ≡ p.seat.me.0 → q.rank ≡ p.rank → Owns f p → Owns f q
-brought_owns f p q table v rank o = (
-  table ∙ o.0,
-  subst (λ r. r < f.ranks) (sym rank) o.1,
-  ap (λ u. (plays.sole u.entries).ranks) v ∙ o.2,
-  ap (λ u. (plays.sole u.entries).each) v ∙ o.3,
-  ap (λ u. length (plays.sole u.entries).hands) v ∙ o.4,
-  ap (λ u. length (plays.sole u.entries).filling) v ∙ o.5,
-  ap (λ u. length (plays.sole u.entries).emptying) v ∙ o.6,
-)
+module _ {A : Type 0} where
+  -- the slot that was brought to the front stays the fabric's
+  pub brought_owns : (f : Fabric A) (p q : Port A) → q.seat.table_id ≡ p.seat.table_id
+      → q.seat.me.0 ≡ p.seat.me.0 → q.rank ≡ p.rank → Owns f p → Owns f q
+  brought_owns f p q table v rank o = (
+    table ∙ o.0,
+    subst (λ r. r < f.ranks) (sym rank) o.1,
+    ap (λ u. (plays.sole u.entries).ranks) v ∙ o.2,
+    ap (λ u. (plays.sole u.entries).each) v ∙ o.3,
+    ap (λ u. length (plays.sole u.entries).hands) v ∙ o.4,
+    ap (λ u. length (plays.sole u.entries).filling) v ∙ o.5,
+    ap (λ u. length (plays.sole u.entries).emptying) v ∙ o.6,
+  )
 
-module _ (f : Fabric) (p : Port) (owns : Owns f p) (j : ℕ) (lj : j < f.ranks) where
-  abbrev e : Entry
+module _ {A : Type 0} (f : Fabric A) (p : Port A) (owns : Owns f p) (j : ℕ) (lj : j < f.ranks) where
+  abbrev e : Entry A
   e = mine p.seat.me
 
   pub few : j < e.ranks
@@ -130,7 +131,7 @@ module _ (f : Fabric) (p : Port) (owns : Owns f p) (j : ℕ) (lj : j < f.ranks) 
   in_few = let o = owns.6 in omega arith
 
   -- the port is the fabric's still
-  pub owns_then : {A : Type 0} {t u : A} → t ≡ u → (after : Knowing)
+  pub owns_then : {T : Type 0} {t u : T} → t ≡ u → (after : Knowing A)
       → (mine after).ranks ≡ e.ranks → (mine after).each ≡ e.each
       → length (mine after).hands ≡ length e.hands
       → length (mine after).filling ≡ length e.filling
@@ -162,7 +163,7 @@ module _ (f : Fabric) (p : Port) (owns : Owns f p) (j : ℕ) (lj : j < f.ranks) 
       (behind_of e b j few)
 
   -- the room for one more slot, and for one more thing in hand
-  module _ (after : Knowing) (slots : List ℕ) (hands : ℕ)
+  module _ (after : Knowing A) (slots : List ℕ) (hands : ℕ)
       (h : CarriesFor after slots (vec_capacity p.carried) hands)
       (long : length (mine after).hands ≡ length e.hands)
       (outs : length (mine after).filling ≡ length e.filling)
@@ -183,7 +184,7 @@ module _ (f : Fabric) (p : Port) (owns : Owns f p) (j : ℕ) (lj : j < f.ranks) 
       (λ n. ∥∥₁_elim p.counts (λ a b. absurd a) (λ c. n ((c.each j few).came k less)))
 
   -- the slot of a box at work is there once, with what the box holds
-  pub box_there : (b : Bool) (slot : ℕ) → slot ≡ next_box e b j → (y : Load) → work e b j ≡ Some y
+  pub box_there : (b : Bool) (slot : ℕ) → slot ≡ next_box e b j → (y : Load A) → work e b j ≡ Some y
       → (times slot (map (λ x. x.0) p.seat.me.1) ≡ 1) × (plays.load_in slot p.seat.me.1 ≡ y)
   box_there b slot at y is = (
     ap (λ k. times k (map (λ x. x.0) p.seat.me.1)) at
@@ -191,8 +192,8 @@ module _ (f : Fabric) (p : Port) (owns : Owns f p) (j : ℕ) (lj : j < f.ranks) 
     ap (λ k. plays.load_in k p.seat.me.1) at ∙ p.boxes.1.loaded b j few y is,
   )
 
-  -- there is room to count one more packet
-  pub sent_room : (y : Load) → number y ≡ sent_by p j
+  -- there is room to count one more parcel
+  pub sent_room : (y : Load A) → number y ≡ sent_by p j
       → ((peer_in p.peers.items j).sent < 1152921504606846976)
       × ((peer_in p.peers.items j).box_put < 2305843009213693952)
   sent_room y is = let s = peer_sent p j few in let small = number_small y in
@@ -200,7 +201,7 @@ module _ (f : Fabric) (p : Port) (owns : Owns f p) (j : ℕ) (lj : j < f.ranks) 
       (λ n. counted.box_put_small e.put e.got e.put_box e.got_box e.box_full e.box_miss e.filling
       e.emptying e.ranks p.peers.items p.held n j few) in (omega arith, omega arith)
 
-  pub got_room : (y : Load) → number y ≡ taken_by p j
+  pub got_room : (y : Load A) → number y ≡ taken_by p j
       → ((peer_in p.peers.items j).taken < 1152921504606846976)
       × ((peer_in p.peers.items j).box_got < 2305843009213693952)
   got_room y is = let small = number_small y in
@@ -208,13 +209,13 @@ module _ (f : Fabric) (p : Port) (owns : Owns f p) (j : ℕ) (lj : j < f.ranks) 
       (omega arith, omega arith)
 
   -- the slot of a box, which was taken last, is given back
-  module _ (after : Knowing) (slot : ℕ) (w : Load) (front : p.seat.me.1 ≡ (slot, w) ∷ rest
+  module _ (after : Knowing A) (slot : ℕ) (w : Load A) (front : p.seat.me.1 ≡ (slot, w) ∷ rest
       p.seat.me.1) where
     split : p.carried.items ≡ slot ∷ remove p.carried.items 0
     split = carried.first_removed p.carried.items slot (map (λ x. x.0) (rest p.seat.me.1))
         (sym p.carries.order ∙ ap (map (λ x. x.0)) front)
 
-    module _ (y : Load) (at : slot ≡ next_box e true j) (was : filling_of e j ≡ true)
+    module _ (y : Load A) (at : slot ≡ next_box e true j) (was : filling_of e j ≡ true)
         (is : after ≡ (
           view (with_put_box ((j, y) ∷ []) (with_filling j false e) ∷ []),
           rest p.seat.me.1,
@@ -236,13 +237,13 @@ module _ (f : Fabric) (p : Port) (owns : Owns f p) (j : ℕ) (lj : j < f.ranks) 
           (subst (λ k. length e.hands ≤ k) (sym at) (far true)) hands less)))
 
       pub filled_boxes : HoldsBoxes (mine after) after.1
-      filled_boxes = subst (λ (m : Knowing). HoldsBoxes (mine m) m.1) (sym is)
+      filled_boxes = subst (λ (m : Knowing A). HoldsBoxes (mine m) m.1) (sym is)
           (boxes.boxes_filled e (rest p.seat.me.1) j y w few out_few was
           (subst (λ k. HoldsBoxes e ((k, w) ∷ rest p.seat.me.1)) at
           (subst (HoldsBoxes e) front p.boxes)))
 
       pub filled_holds : held_in (length (mine after).hands) after.1 ≡ holding p
-      filled_holds = ap (λ (m : Knowing). held_in (length (mine m).hands) m.1) is
+      filled_holds = ap (λ (m : Knowing A). held_in (length (mine m).hands) m.1) is
           ∙ sym (ap (held_in (length e.hands)) front
           ∙ held_box (length e.hands) slot w (rest p.seat.me.1)
           (subst (λ k. length e.hands ≤ k) (sym at) (far true)))
@@ -250,12 +251,12 @@ module _ (f : Fabric) (p : Port) (owns : Owns f p) (j : ℕ) (lj : j < f.ranks) 
       pub filled_counts : (peers : List Tally) → peers ≡ with_peer one_boxed j p.peers.items
           → ∥ CountsFor (mine after) peers p.held ∥₁
       filled_counts peers same = subst (λ l. ∥ CountsFor (mine after) l p.held ∥₁) (sym same)
-          (subst (λ (m : Knowing). ∥ CountsFor (mine m) (with_peer one_boxed j p.peers.items)
+          (subst (λ (m : Knowing A). ∥ CountsFor (mine m) (with_peer one_boxed j p.peers.items)
           p.held ∥₁) (sym is)
           (∥∥₁_map p.counts (λ n. counted.packet_boxed e.put e.got e.put_box e.got_box e.box_full
           e.box_miss e.filling e.emptying e.ranks p.peers.items p.held n j y few)))
 
-    module _ (y : Load) (at : slot ≡ next_box e false j) (was : emptying_of e j ≡ Some y)
+    module _ (y : Load A) (at : slot ≡ next_box e false j) (was : emptying_of e j ≡ Some y)
         (is : after ≡ (
           view (with_got_box (y ∷ []) (with_emptying j None e) ∷ []),
           rest p.seat.me.1,
@@ -277,13 +278,13 @@ module _ (f : Fabric) (p : Port) (owns : Owns f p) (j : ℕ) (lj : j < f.ranks) 
           (subst (λ k. length e.hands ≤ k) (sym at) (far false)) hands less)))
 
       pub emptied_boxes : sender y ≡ suc j → HoldsBoxes (mine after) after.1
-      emptied_boxes whose = subst (λ (m : Knowing). HoldsBoxes (mine m) m.1) (sym is)
+      emptied_boxes whose = subst (λ (m : Knowing A). HoldsBoxes (mine m) m.1) (sym is)
           (boxes.boxes_emptied e (rest p.seat.me.1) j y y w few in_few was whose
           (subst (λ k. HoldsBoxes e ((k, w) ∷ rest p.seat.me.1)) at
           (subst (HoldsBoxes e) front p.boxes)))
 
       pub emptied_holds : held_in (length (mine after).hands) after.1 ≡ holding p
-      emptied_holds = ap (λ (m : Knowing). held_in (length (mine m).hands) m.1) is
+      emptied_holds = ap (λ (m : Knowing A). held_in (length (mine m).hands) m.1) is
           ∙ sym (ap (held_in (length e.hands)) front
           ∙ held_box (length e.hands) slot w (rest p.seat.me.1)
           (subst (λ k. length e.hands ≤ k) (sym at) (far false)))
@@ -294,12 +295,12 @@ module _ (f : Fabric) (p : Port) (owns : Owns f p) (j : ℕ) (lj : j < f.ranks) 
           → ∥ CountsFor (mine after) peers p.held ∥₁
       emptied_counts whose next new peers same =
           subst (λ l. ∥ CountsFor (mine after) l p.held ∥₁) (sym same)
-          (subst (λ (m : Knowing). ∥ CountsFor (mine m) (with_peer one_unboxed j p.peers.items)
+          (subst (λ (m : Knowing A). ∥ CountsFor (mine m) (with_peer one_unboxed j p.peers.items)
           p.held ∥₁) (sym is)
           (∥∥₁_map p.counts (λ n. counted.packet_unboxed e.put e.got e.put_box e.got_box e.box_full
           e.box_miss e.filling e.emptying e.ranks p.peers.items p.held n j y few whose next new)))
 
-  module _ (after : Knowing) (slot : ℕ) where
+  module _ (after : Knowing A) (slot : ℕ) where
     -- a free box is the port's to fill
     module _ (at : slot ≡ next_box e true j) (is : after ≡ (
       view (with_filling j true e ∷ []),
@@ -312,7 +313,7 @@ module _ (f : Fabric) (p : Port) (owns : Owns f p) (j : ℕ) (lj : j < f.ranks) 
       at_once b was = is ∙ ap (λ x. (view (with_filling j true e ∷ []), slots_to_fill x slot p.seat.me.1)) was
 
       apart_now : BoxesApart (with_filling j true e)
-      apart_now = subst (λ (m : Knowing). BoxesApart (mine m)) is apart
+      apart_now = subst (λ (m : Knowing A). BoxesApart (mine m)) is apart
 
       free_carried : (b : Bool) → filling_of e j ≡ b → CarriesFor after
           (unless b (slot ∷ p.carried.items) p.carried.items) (vec_capacity p.carried)
@@ -323,7 +324,7 @@ module _ (f : Fabric) (p : Port) (owns : Owns f p) (j : ℕ) (lj : j < f.ranks) 
           (vec_capacity p.carried) k) (let z : p.hands ≡ p.hands + 0 = omega arith in z)
           (carried.box_still_open p.seat.me.1 e.hands e.filling e.emptying p.carried.items
           (vec_capacity p.carried) p.hands p.carries j out_few was))
-      free_carried false was = let none : Load = None in
+      free_carried false was = let none : Load A = None in
           subst (λ m. CarriesFor m (slot ∷ p.carried.items)
           (vec_capacity p.carried) (p.hands + 1)) (sym (at_once false was))
           (carried.box_opened p.seat.me.1 e.hands e.filling e.emptying p.carried.items
@@ -333,10 +334,10 @@ module _ (f : Fabric) (p : Port) (owns : Owns f p) (j : ℕ) (lj : j < f.ranks) 
       pub free_room : (b : Bool) → filling_of e j ≡ b → b ≡ false
           → (vec_len p.carried < vec_capacity p.carried) × (p.hands + 1 ≤ 4294967295)
       free_room b was shut = let c = free_carried false (was ∙ shut) in let t = at_once b was in
-          let long = ap (λ (m : Knowing). length (mine m).hands) t in
-          let outs = ap (λ (m : Knowing). length (mine m).filling) t
+          let long = ap (λ (m : Knowing A). length (mine m).hands) t in
+          let outs = ap (λ (m : Knowing A). length (mine m).filling) t
           ∙ length-set e.filling j true in
-          let ins = ap (λ (m : Knowing). length (mine m).emptying) t in (
+          let ins = ap (λ (m : Knowing A). length (mine m).emptying) t in (
             (let r = room_of after (slot ∷ p.carried.items) (p.hands + 1) c long outs ins in
                 omega arith),
             hands_of after (slot ∷ p.carried.items) (p.hands + 1) c long outs ins,
@@ -355,27 +356,27 @@ module _ (f : Fabric) (p : Port) (owns : Owns f p) (j : ℕ) (lj : j < f.ranks) 
           (p.hands + opens b) more (free_carried b was)))
 
       pub free_boxes : (b : Bool) → filling_of e j ≡ b → HoldsBoxes (mine after) after.1
-      free_boxes true was = subst (λ (m : Knowing). HoldsBoxes (mine m) m.1)
+      free_boxes true was = subst (λ (m : Knowing A). HoldsBoxes (mine m) m.1)
           (sym (at_once true was))
           (boxes.boxes_still_open e p.seat.me.1 p.boxes j out_few was apart_now)
-      free_boxes false was = let none : Load = None in
-          subst (λ (m : Knowing). HoldsBoxes (mine m) m.1) (sym (at_once false was))
+      free_boxes false was = let none : Load A = None in
+          subst (λ (m : Knowing A). HoldsBoxes (mine m) m.1) (sym (at_once false was))
           (subst (λ k. HoldsBoxes (with_filling j true e) ((k, none) ∷ p.seat.me.1)) (sym at)
           (boxes.boxes_opened e p.seat.me.1 p.boxes j few out_few was apart_now))
 
       pub free_holds : (b : Bool) → filling_of e j ≡ b
           → held_in (length (mine after).hands) after.1 ≡ holding p
-      free_holds true was = ap (λ (m : Knowing). held_in (length (mine m).hands) m.1)
+      free_holds true was = ap (λ (m : Knowing A). held_in (length (mine m).hands) m.1)
           (at_once true was)
-      free_holds false was = let none : Load = None in
-          ap (λ (m : Knowing). held_in (length (mine m).hands) m.1) (at_once false was)
+      free_holds false was = let none : Load A = None in
+          ap (λ (m : Knowing A). held_in (length (mine m).hands) m.1) (at_once false was)
           ∙ held_box (length e.hands) slot none p.seat.me.1
           (subst (λ k. length e.hands ≤ k) (sym at) (far true))
 
       pub free_counts : (peers : List Tally) → peers ≡ with_peer one_opened j p.peers.items
           → ∥ CountsFor (mine after) peers p.held ∥₁
       free_counts peers same = subst (λ l. ∥ CountsFor (mine after) l p.held ∥₁) (sym same)
-          (subst (λ (m : Knowing). ∥ CountsFor (mine m) (with_peer one_opened j p.peers.items)
+          (subst (λ (m : Knowing A). ∥ CountsFor (mine m) (with_peer one_opened j p.peers.items)
           p.held ∥₁) (sym is)
           (∥∥₁_map p.counts (λ n. box_counted.box_opened e.put e.got e.put_box e.got_box e.box_full
           e.box_miss e.filling e.emptying e.ranks p.peers.items p.held n j few)))
@@ -383,23 +384,23 @@ module _ (f : Fabric) (p : Port) (owns : Owns f p) (j : ℕ) (lj : j < f.ranks) 
     -- a full box is the port's to empty
     module _ (a : ℕ) (at : slot ≡ next_box e false j)
         (told : IsToEmpty j a slot p.seat.me after) where
-      abbrev y : Load
+      abbrev y : Load A
       y = plays.box_load j (mine after)
 
-      is_some_of : (x : Option Load) → emptying_of e j ≡ x → (b : Bool)
+      is_some_of : (x : Option (Load A)) → emptying_of e j ≡ x → (b : Bool)
           → is_some (emptying_of e j) ≡ b → b ≡ is_some x
       is_some_of x is b was = sym was ∙ ap is_some is
 
-      now : (x : Option Load) → emptying_of e j ≡ x → after ≡ (
+      now : (x : Option (Load A)) → emptying_of e j ≡ x → after ≡ (
         view (with_emptying j (Some y) e ∷ []),
         slots_to_empty x slot y p.seat.me.1,
       )
       now x was = told.3 ∙ ap (λ u. (view (with_emptying j (Some y) e ∷ []), slots_to_empty u slot y p.seat.me.1)) was
 
       apart_then : BoxesApart (with_emptying j (Some y) e)
-      apart_then = subst (λ (m : Knowing). BoxesApart (mine m)) told.3 told.4
+      apart_then = subst (λ (m : Knowing A). BoxesApart (mine m)) told.3 told.4
 
-      begun_carried : (x : Option Load) → emptying_of e j ≡ x → CarriesFor after
+      begun_carried : (x : Option (Load A)) → emptying_of e j ≡ x → CarriesFor after
           (unless (is_some x) (slot ∷ p.carried.items) p.carried.items) (vec_capacity p.carried)
           (p.hands + opens (is_some x))
       begun_carried (Some z) was = subst (λ m. CarriesFor m p.carried.items
@@ -415,7 +416,7 @@ module _ (f : Fabric) (p : Port) (owns : Owns f p) (j : ℕ) (lj : j < f.ranks) 
           (vec_capacity p.carried) p.hands p.carries j slot y y in_few was
           (subst (λ k. length e.hands ≤ k) (sym at) (far false)) (p.hands + 1) refl)
 
-      none_of : (x : Option Load) → emptying_of e j ≡ x → is_some x ≡ false
+      none_of : (x : Option (Load A)) → emptying_of e j ≡ x → is_some x ≡ false
           → emptying_of e j ≡ None
       none_of None is shut = is
       none_of (Some z) is shut = absurd (let q = shut in cc)
@@ -424,9 +425,9 @@ module _ (f : Fabric) (p : Port) (owns : Owns f p) (j : ℕ) (lj : j < f.ranks) 
           → (vec_len p.carried < vec_capacity p.carried) × (p.hands + 1 ≤ 4294967295)
       begun_room b was shut =
           let c = begun_carried None (none_of (emptying_of e j) refl (was ∙ shut)) in
-          let long = ap (λ (m : Knowing). length (mine m).hands) told.3 in
-          let outs = ap (λ (m : Knowing). length (mine m).filling) told.3 in
-          let ins = ap (λ (m : Knowing). length (mine m).emptying) told.3
+          let long = ap (λ (m : Knowing A). length (mine m).hands) told.3 in
+          let outs = ap (λ (m : Knowing A). length (mine m).filling) told.3 in
+          let ins = ap (λ (m : Knowing A). length (mine m).emptying) told.3
           ∙ length-set e.emptying j (Some y) in (
             (let r = room_of after (slot ∷ p.carried.items) (p.hands + 1) c long outs ins in
                 omega arith),
@@ -450,29 +451,29 @@ module _ (f : Fabric) (p : Port) (owns : Owns f p) (j : ℕ) (lj : j < f.ranks) 
 
       pub begun_boxes : HoldsBoxes (mine after) after.1
       begun_boxes = by_work (emptying_of e j) refl where
-        by_work : (x : Option Load) → emptying_of e j ≡ x → HoldsBoxes (mine after) after.1
-        by_work (Some z) was = subst (λ (m : Knowing). HoldsBoxes (mine m) m.1)
+        by_work : (x : Option (Load A)) → emptying_of e j ≡ x → HoldsBoxes (mine after) after.1
+        by_work (Some z) was = subst (λ (m : Knowing A). HoldsBoxes (mine m) m.1)
             (sym (now (Some z) was))
             (boxes.boxes_still_begun e p.seat.me.1 p.boxes j y in_few
             (was ∙ ap Some (told.5 z was)) apart_then)
-        by_work None was = subst (λ (m : Knowing). HoldsBoxes (mine m) m.1) (sym (now None was))
+        by_work None was = subst (λ (m : Knowing A). HoldsBoxes (mine m) m.1) (sym (now None was))
             (subst (λ k. HoldsBoxes (with_emptying j (Some y) e) ((k, y) ∷ p.seat.me.1)) (sym at)
             (boxes.boxes_begun e p.seat.me.1 p.boxes j y few in_few was apart_then))
 
       pub begun_holds : held_in (length (mine after).hands) after.1 ≡ holding p
       begun_holds = by_work (emptying_of e j) refl where
-        by_work : (x : Option Load) → emptying_of e j ≡ x
+        by_work : (x : Option (Load A)) → emptying_of e j ≡ x
             → held_in (length (mine after).hands) after.1 ≡ holding p
-        by_work (Some z) was = ap (λ (m : Knowing). held_in (length (mine m).hands) m.1)
+        by_work (Some z) was = ap (λ (m : Knowing A). held_in (length (mine m).hands) m.1)
             (now (Some z) was)
-        by_work None was = ap (λ (m : Knowing). held_in (length (mine m).hands) m.1) (now None was)
+        by_work None was = ap (λ (m : Knowing A). held_in (length (mine m).hands) m.1) (now None was)
             ∙ held_box (length e.hands) slot y p.seat.me.1
             (subst (λ k. length e.hands ≤ k) (sym at) (far false))
 
       pub begun_counts : (peers : List Tally) → peers ≡ with_peer one_begun j p.peers.items
           → ∥ CountsFor (mine after) peers p.held ∥₁
       begun_counts peers same = subst (λ l. ∥ CountsFor (mine after) l p.held ∥₁) (sym same)
-          (subst (λ (m : Knowing). ∥ CountsFor (mine m) (with_peer one_begun j p.peers.items)
+          (subst (λ (m : Knowing A). ∥ CountsFor (mine m) (with_peer one_begun j p.peers.items)
           p.held ∥₁) (sym told.3)
           (∥∥₁_map p.counts (λ n. box_counted.box_begun e.put e.got e.put_box e.got_box e.box_full
           e.box_miss e.filling e.emptying e.ranks p.peers.items p.held n j y few)))
@@ -481,7 +482,7 @@ module _ (f : Fabric) (p : Port) (owns : Owns f p) (j : ℕ) (lj : j < f.ranks) 
     pub full_counts : after ≡ (view (with_box_full j e ∷ []), p.seat.me.1) → (peers : List Tally)
         → peers ≡ with_peer one_full j p.peers.items → ∥ CountsFor (mine after) peers p.held ∥₁
     full_counts is peers same = subst (λ l. ∥ CountsFor (mine after) l p.held ∥₁) (sym same)
-        (subst (λ (m : Knowing). ∥ CountsFor (mine m) (with_peer one_full j p.peers.items)
+        (subst (λ (m : Knowing A). ∥ CountsFor (mine m) (with_peer one_full j p.peers.items)
         p.held ∥₁) (sym is)
         (∥∥₁_map p.counts (λ n. box_counted.box_found_full e.put e.got e.put_box e.got_box e.box_full
         e.box_miss e.filling e.emptying e.ranks p.peers.items p.held n j few)))
@@ -489,7 +490,7 @@ module _ (f : Fabric) (p : Port) (owns : Owns f p) (j : ℕ) (lj : j < f.ranks) 
     pub miss_counts : after ≡ (view (with_box_miss j e ∷ []), p.seat.me.1) → (peers : List Tally)
         → peers ≡ with_peer one_miss j p.peers.items → ∥ CountsFor (mine after) peers p.held ∥₁
     miss_counts is peers same = subst (λ l. ∥ CountsFor (mine after) l p.held ∥₁) (sym same)
-        (subst (λ (m : Knowing). ∥ CountsFor (mine m) (with_peer one_miss j p.peers.items)
+        (subst (λ (m : Knowing A). ∥ CountsFor (mine m) (with_peer one_miss j p.peers.items)
         p.held ∥₁) (sym is)
         (∥∥₁_map p.counts (λ n. box_counted.box_missed e.put e.got e.put_box e.got_box e.box_full
         e.box_miss e.filling e.emptying e.ranks p.peers.items p.held n j few)))

@@ -5,7 +5,7 @@ use Rattle.std.proofs.Common.{set, sym, refl, ap, ◌∙◌, arith}
 use Rattle.std.proofs.Common.{length-set, get_or-set_same}
 use Rattle.std.proofs.Common.{get_or-set_other}
 use Rattle.std.specs.Prelude.{slice_index}
-use Rattle.nm_types.specs.declared.packets.Packet.{Packet}
+use Rattle.nm_chain.specs.declared.table.parcels.Parcel.{Parcel}
 use Rattle.nm_cells.specs.declared.tallies.Tally.{Tally}
 use Rattle.nm_chain.specs.Rule.{Load}
 use Rattle.nm_chain.specs.Plays.{raised}
@@ -14,9 +14,10 @@ use Rattle.nm_cells.specs.Counted.{Counts, with_peer, one_opened}
 use Rattle.nm_cells.specs.Counted.{one_begun, one_full, one_miss}
 use Rattle.nm_cells.proofs.CountedLemmas.{peers_but, in_peers, as_long, same_held}
 
-module _ (put : List (ℕ × Load)) (got : List Load) (put_box : List (ℕ × Load)) (got_box : List Load)
-    (full miss : List ℕ) (filling : List Bool) (emptying : List (Option Load)) (n : ℕ)
-    (peers : List Tally) (held : Option Packet)
+module _ {A : Type 0} (put : List (ℕ × Load A)) (got : List (Load A)) (put_box : List (ℕ × Load A))
+    (got_box : List (Load A))
+    (full miss : List ℕ) (filling : List Bool) (emptying : List (Option (Load A))) (n : ℕ)
+    (peers : List Tally) (held : Option (Parcel A))
     (c : Counts put got put_box got_box full miss filling emptying n peers held) where
   -- the next box for a rank is being filled
   pub box_opened : (j : ℕ) → j < n → Counts put got put_box got_box full miss
@@ -63,7 +64,7 @@ module _ (put : List (ℕ × Load)) (got : List Load) (put_box : List (ℕ × Lo
   }
 
   -- the next box of a rank is being emptied
-  pub box_begun : (j : ℕ) (y : Load) → j < n → Counts put got put_box got_box full miss filling
+  pub box_begun : (j : ℕ) (y : Load A) → j < n → Counts put got put_box got_box full miss filling
       (set emptying j (Some y)) n (with_peer one_begun j peers) held
   box_begun j y lj = record {
     count = as_long peers c.count one_begun j;

@@ -21,10 +21,11 @@ use Rattle.nm_cells.proofs.AtWorkLemmas as at_work
 use Rattle.nm_cells.proofs.AtWorkLemmas.{Distinct, distinct_of, behind_of}
 use Rattle.nm_types.proofs.OptionLemmas.{no_some}
 
-abbrev numbers : List (ℕ × Load) → List ℕ
-numbers l = map (λ (x : ℕ × Load). x.0) l
+module _ {A : Type 0} where
+  abbrev numbers : List (ℕ × Load A) → List ℕ
+  numbers l = map (λ (x : ℕ × Load A). x.0) l
 
-module _ (e : Entry) (hs : List (ℕ × Load)) (h : HoldsBoxes e hs) where
+module _ {A : Type 0} (e : Entry A) (hs : List (ℕ × Load A)) (h : HoldsBoxes e hs) where
   abbrev n : ℕ
   n = e.ranks
 
@@ -35,7 +36,7 @@ module _ (e : Entry) (hs : List (ℕ × Load)) (h : HoldsBoxes e hs) where
   apart = distinct_of e h.0 h.2
 
   -- the slot of a box at work is there once
-  pub box_once : (b : Bool) (j : ℕ) → j < n → (y : Load) → work e b j ≡ Some y
+  pub box_once : (b : Bool) (j : ℕ) → j < n → (y : Load A) → work e b j ≡ Some y
       → times (next_box e b j) (numbers hs) ≡ 1
   box_once b j low y is = at_work.once n m (next_box e) (work e) hs h.1 apart (behind_of e) b j low
       y is
@@ -47,7 +48,7 @@ module _ (e : Entry) (hs : List (ℕ × Load)) (h : HoldsBoxes e hs) where
     h.2,
   )
 
-  pub boxes_pushed : (c : ℕ) (y : Load) → c < m → HoldsBoxes e ((c, y) ∷ hs)
+  pub boxes_pushed : (c : ℕ) (y : Load A) → c < m → HoldsBoxes e ((c, y) ∷ hs)
   boxes_pushed c y low = (
     h.0,
     at_work.pushed n m (next_box e) (work e) hs h.1 (behind_of e) c y low,
@@ -88,7 +89,7 @@ module _ (e : Entry) (hs : List (ℕ × Load)) (h : HoldsBoxes e hs) where
     same false i l = refl
 
   -- a full box becomes the port's to empty
-  pub boxes_begun : (j : ℕ) (y : Load) → j < n → j < length e.emptying → emptying_of e j ≡ None
+  pub boxes_begun : (j : ℕ) (y : Load A) → j < n → j < length e.emptying → emptying_of e j ≡ None
       → BoxesApart (plays.with_emptying j (Some y) e)
       → HoldsBoxes (plays.with_emptying j (Some y) e) ((next_box e false j, y) ∷ hs)
   boxes_begun j y low few shut new = let f = plays.with_emptying j (Some y) e in (
@@ -102,7 +103,7 @@ module _ (e : Entry) (hs : List (ℕ × Load)) (h : HoldsBoxes e hs) where
     else true i l ne = refl
     else false i l ne = get_or-set_other e.emptying j i (Some y) None (λ z. ne (refl, z))
 
-  pub boxes_still_begun : (j : ℕ) (y : Load) → j < length e.emptying → emptying_of e j ≡ Some y
+  pub boxes_still_begun : (j : ℕ) (y : Load A) → j < length e.emptying → emptying_of e j ≡ Some y
       → BoxesApart (plays.with_emptying j (Some y) e)
       → HoldsBoxes (plays.with_emptying j (Some y) e) hs
   boxes_still_begun j y few was new = (
@@ -121,8 +122,8 @@ module _ (e : Entry) (hs : List (ℕ × Load)) (h : HoldsBoxes e hs) where
         (λ ne. get_or-set_other e.emptying j i (Some y) None ne)
 
 -- the slot that was taken last is given back
-module _ (e : Entry) (left : List (ℕ × Load)) where
-  pub boxes_popped : (c : ℕ) (y : Load) → c < e.ranks * e.each → HoldsBoxes e ((c, y) ∷ left)
+module _ {A : Type 0} (e : Entry A) (left : List (ℕ × Load A)) where
+  pub boxes_popped : (c : ℕ) (y : Load A) → c < e.ranks * e.each → HoldsBoxes e ((c, y) ∷ left)
       → HoldsBoxes e left
   boxes_popped c y low h = (
     h.0,
@@ -130,18 +131,18 @@ module _ (e : Entry) (left : List (ℕ × Load)) where
     h.2,
   )
 
-  pub boxes_exchanged : (c : ℕ) (x y : Load) → c < e.ranks * e.each → HoldsBoxes e ((c, y) ∷ left)
+  pub boxes_exchanged : (c : ℕ) (x y : Load A) → c < e.ranks * e.each → HoldsBoxes e ((c, y) ∷ left)
       → HoldsBoxes e ((c, x) ∷ left)
   boxes_exchanged c x y low h = boxes_pushed e left (boxes_popped c y low h) c x low
 
-  abbrev after_fill : ℕ → Load → Entry
+  abbrev after_fill : ℕ → Load A → Entry A
   after_fill j p = plays.with_put_box ((j, p) ∷ []) (plays.with_filling j false e)
 
-  abbrev after_empty : ℕ → Load → Entry
+  abbrev after_empty : ℕ → Load A → Entry A
   after_empty j y = plays.with_got_box (y ∷ []) (plays.with_emptying j None e)
 
   -- a box is filled
-  pub boxes_filled : (j : ℕ) (p w : Load) → j < e.ranks → j < length e.filling → filling_of e j ≡ true
+  pub boxes_filled : (j : ℕ) (p w : Load A) → j < e.ranks → j < length e.filling → filling_of e j ≡ true
       → HoldsBoxes e ((next_box e true j, w) ∷ left)
       → HoldsBoxes (plays.with_put_box ((j, p) ∷ []) (plays.with_filling j false e)) left
   boxes_filled j p w low few was h = (
@@ -169,7 +170,7 @@ module _ (e : Entry) (left : List (ℕ × Load)) where
         h.2 i k li lk y z (sym o.1 ∙ iy) kz (sym o.0 ∙ same))
 
   -- a box is emptied
-  pub boxes_emptied : (j : ℕ) (x y w : Load) → j < e.ranks → j < length e.emptying
+  pub boxes_emptied : (j : ℕ) (x y w : Load A) → j < e.ranks → j < length e.emptying
       → emptying_of e j ≡ Some x → sender y ≡ suc j
       → HoldsBoxes e ((next_box e false j, w) ∷ left)
       → HoldsBoxes (plays.with_got_box (y ∷ []) (plays.with_emptying j None e)) left
@@ -197,42 +198,46 @@ module _ (e : Entry) (left : List (ℕ × Load)) where
         (λ ne. let o = else false k (λ q. ne q.1) in λ same.
         h.2 i k li lk u z iu (sym o.1 ∙ kz) (same ∙ o.0))
 
--- the first cell of an own queue is in hand
-pub boxes_took : (me after : Knowing) (b : Bool) (c shadow : ℕ) → HoldsBoxes (mine me) me.1
-    → length (mine me).hands ≡ (mine me).ranks * (mine me).each → Took b c shadow me after
-    → HoldsBoxes (mine after) after.1
-boxes_took me after true c shadow h long t = subst (λ (k : Knowing). HoldsBoxes (mine k) k.1)
-    (sym t.after_is)
-    (boxes_pushed (mine me) me.1 h c t.load (subst (λ k. c < k) long t.low))
-boxes_took me after false c shadow h long t = subst (λ (k : Knowing). HoldsBoxes (mine k) k.1)
-    (sym t.after_is)
-    (boxes_pushed (mine me) me.1 h c t.load (subst (λ k. c < k) long t.low))
+module _ {A : Type 0} where
+  -- the first cell of an own queue is in hand
+  pub boxes_took : (me after : Knowing A) (b : Bool) (c shadow : ℕ) → HoldsBoxes (mine me) me.1
+      → length (mine me).hands ≡ (mine me).ranks * (mine me).each → Took b c shadow me after
+      → HoldsBoxes (mine after) after.1
+  boxes_took me after true c shadow h long t = subst (λ (k : Knowing A). HoldsBoxes (mine k) k.1)
+      (sym t.after_is)
+      (boxes_pushed (mine me) me.1 h c t.load (subst (λ k. c < k) long t.low))
+  boxes_took me after false c shadow h long t = subst (λ (k : Knowing A). HoldsBoxes (mine k) k.1)
+      (sym t.after_is)
+      (boxes_pushed (mine me) me.1 h c t.load (subst (λ k. c < k) long t.low))
 
--- what a consumer knows of a queue changes
-pub boxes_heads : (b : Bool) (x : Heads) (e : Entry) (hs : List (ℕ × Load)) → HoldsBoxes e hs
-    → HoldsBoxes (plays.with_heads b x e) hs
-boxes_heads true x e hs h = h
-boxes_heads false x e hs h = h
+  -- what a consumer knows of a queue changes
+  pub boxes_heads : (b : Bool) (x : Heads) (e : Entry A) (hs : List (ℕ × Load A)) → HoldsBoxes e hs
+      → HoldsBoxes (plays.with_heads b x e) hs
+  boxes_heads true x e hs h = h
+  boxes_heads false x e hs h = h
 
 -- at the start
-pub boxes_new : (n each r : ℕ) → r < n → HoldsBoxes (newcomer n each r) []
-boxes_new n each r low = (
-  low,
-  record {
-    counted = λ k far. sym
-        ((λ t. at_work.sum_none n
-        (λ j. one_at k (work (newcomer n each r) true j) (next_box (newcomer n each r) true j))
-        (λ i l. none k true i) t + at_work.sum_none n
-        (λ j. one_at k (work (newcomer n each r) false j) (next_box (newcomer n each r) false j))
-        (λ i l. none k false i) t) ∙ refl);
-    loaded = λ b j l y is. absurd (no_some y (sym (idle b j) ∙ is));
-  },
-  λ j i lj li y z jy iz. absurd (no_some y (sym (idle true j) ∙ jy)),
-) where
-  idle : (b : Bool) (j : ℕ) → work (newcomer n each r) b j ≡ None
-  idle true j = ap to_fill (lids_new false n j)
-  idle false j = let nothing : Option Load = None in lids_new nothing n j
+module _ (A : Type 0) (n each r : ℕ) where
+  abbrev fresh : Entry A
+  fresh = newcomer n each r
 
-  none : (k : ℕ) (b : Bool) (j : ℕ) → one_at k (work (newcomer n each r) b j) (next_box (newcomer n each r) b j) ≡ 0
-  none k b j = ap (λ x. one_at k x (next_box (newcomer n each r) b j)) (idle b j)
-      ∙ at_work.one_none k (next_box (newcomer n each r) b j)
+  idle : (b : Bool) (j : ℕ) → work fresh b j ≡ None
+  idle true j = ap to_fill (lids_new false n j)
+  idle false j = let nothing : Option (Load A) = None in lids_new nothing n j
+
+  none : (k : ℕ) (b : Bool) (j : ℕ) → one_at k (work fresh b j) (next_box fresh b j) ≡ 0
+  none k b j = ap (λ x. one_at k x (next_box fresh b j)) (idle b j) ∙ at_work.one_none A k (next_box fresh b j)
+
+  pub boxes_new : r < n → HoldsBoxes fresh []
+  boxes_new low = (
+    low,
+    record {
+      counted = λ k far. sym
+          ((λ t. at_work.sum_none n (λ j. one_at k (work fresh true j) (next_box fresh true j))
+          (λ i l. none k true i) t
+          + at_work.sum_none n (λ j. one_at k (work fresh false j) (next_box fresh false j))
+          (λ i l. none k false i) t) ∙ refl);
+      loaded = λ b j l y is. absurd (no_some y (sym (idle b j) ∙ is));
+    },
+    λ j i lj li y z jy iz. absurd (no_some y (sym (idle true j) ∙ jy)),
+  )

@@ -25,13 +25,14 @@ times_else c d xs ne = let one : ℕ = 1 in let none : ℕ = 0 in
     ap (λ k. k + times c xs) (pick_no one none (λ z. ne (sym z)) (ℕ_discrete d c))
     ∙ (let e : 0 + times c xs ≡ times c xs = omega arith in e)
 
--- a cell in hand has its slot there
-pub in_hand_one : (h : Hand) → InHand h → slots_with h ≡ 1
-in_hand_one Away i = absurd i
-in_hand_one Loose i = absurd i
-in_hand_one Held i = refl
-in_hand_one (Ready y) i = refl
-in_hand_one (Entering q t) i = absurd i
+module _ {A : Type 0} where
+  -- a cell in hand has its slot there
+  pub in_hand_one : (h : Hand A) → InHand h → slots_with h ≡ 1
+  in_hand_one Away i = absurd i
+  in_hand_one Loose i = absurd i
+  in_hand_one Held i = refl
+  in_hand_one (Ready y) i = refl
+  in_hand_one (Entering q t) i = absurd i
 
 sum_below : {A : Type 0} (f : A → ℕ) (xs : List A) → ((x : A) → f x ≤ 1) → sum_by f xs ≤ length xs
 sum_below f [] h = omega arith
@@ -39,76 +40,79 @@ sum_below f (x ∷ xs) h = let one = h x in let more = sum_below f xs h in
     let both = sum_by-cons f x xs in let long : length (x ∷ xs) ≡ suc (length xs) = refl in
     omega arith
 
-pub slots_one : (h : Hand) → slots_with h ≤ 1
-slots_one Away = omega arith
-slots_one Loose = omega arith
-slots_one Held = omega arith
-slots_one (Ready y) = omega arith
-slots_one (Entering q t) = omega arith
+module _ {A : Type 0} where
+  pub slots_one : (h : Hand A) → slots_with h ≤ 1
+  slots_one Away = omega arith
+  slots_one Loose = omega arith
+  slots_one Held = omega arith
+  slots_one (Ready y) = omega arith
+  slots_one (Entering q t) = omega arith
 
-hand_one : (h : Hand) → in_hand h ≤ 1
-hand_one Away = omega arith
-hand_one Loose = omega arith
-hand_one Held = omega arith
-hand_one (Ready y) = omega arith
-hand_one (Entering q t) = omega arith
+  hand_one : (h : Hand A) → in_hand h ≤ 1
+  hand_one Away = omega arith
+  hand_one Loose = omega arith
+  hand_one Held = omega arith
+  hand_one (Ready y) = omega arith
+  hand_one (Entering q t) = omega arith
 
 fills_one : (b : Bool) → fills b ≤ 1
 fills_one true = omega arith
 fills_one false = omega arith
 
-empties_one : (x : Option Load) → empties x ≤ 1
-empties_one None = omega arith
-empties_one (Some y) = omega arith
+module _ {A : Type 0} where
+  empties_one : (x : Option (Load A)) → empties x ≤ 1
+  empties_one None = omega arith
+  empties_one (Some y) = omega arith
 
 abbrev rest_of : List ℕ → List ℕ
 rest_of [] = []
 rest_of (x ∷ xs) = xs
 
-one_below : (h : Hand) → slots_with h ≤ in_hand h
-one_below Away = omega arith
-one_below Loose = omega arith
-one_below Held = omega arith
-one_below (Ready y) = omega arith
-one_below (Entering q t) = omega arith
+module _ {A : Type 0} where
+  one_below : (h : Hand A) → slots_with h ≤ in_hand h
+  one_below Away = omega arith
+  one_below Loose = omega arith
+  one_below Held = omega arith
+  one_below (Ready y) = omega arith
+  one_below (Entering q t) = omega arith
 
-slots_below_hands : (hs : List Hand) → sum_by slots_with hs ≤ sum_by in_hand hs
-slots_below_hands [] = omega arith
-slots_below_hands (x ∷ xs) = let a = sum_by-cons slots_with x xs in
-    let b = sum_by-cons in_hand x xs in let c = one_below x in let d = slots_below_hands xs in
-    omega arith
+  slots_below_hands : (hs : List (Hand A)) → sum_by slots_with hs ≤ sum_by in_hand hs
+  slots_below_hands [] = omega arith
+  slots_below_hands (x ∷ xs) = let a = sum_by-cons slots_with x xs in
+      let b = sum_by-cons in_hand x xs in let c = one_below x in let d = slots_below_hands xs in
+      omega arith
 
-away_where_none : (h : Hand) → in_hand h ≡ 0 → h ≡ Away
-away_where_none Away e = refl
-away_where_none Loose e = absurd (omega arith)
-away_where_none Held e = absurd (omega arith)
-away_where_none (Ready y) e = absurd (omega arith)
-away_where_none (Entering q t) e = absurd (omega arith)
+  away_where_none : (h : Hand A) → in_hand h ≡ 0 → h ≡ Away
+  away_where_none Away e = refl
+  away_where_none Loose e = absurd (omega arith)
+  away_where_none Held e = absurd (omega arith)
+  away_where_none (Ready y) e = absurd (omega arith)
+  away_where_none (Entering q t) e = absurd (omega arith)
 
-all_away : (hs : List Hand) → sum_by in_hand hs ≡ 0 → (c : ℕ) → c < length hs
-    → slice_index_or hs c Away ≡ Away
-all_away [] e c low = absurd (omega arith)
-all_away (x ∷ xs) e zero low = let a = sum_by-cons in_hand x xs in away_where_none x (omega arith)
-all_away (x ∷ xs) e (suc c) low = let a = sum_by-cons in_hand x xs in
-    all_away xs (omega arith) c (omega arith)
+  all_away : (hs : List (Hand A)) → sum_by in_hand hs ≡ 0 → (c : ℕ) → c < length hs
+      → slice_index_or hs c Away ≡ Away
+  all_away [] e c low = absurd (omega arith)
+  all_away (x ∷ xs) e zero low = let a = sum_by-cons in_hand x xs in away_where_none x (omega arith)
+  all_away (x ∷ xs) e (suc c) low = let a = sum_by-cons in_hand x xs in
+      all_away xs (omega arith) c (omega arith)
 
-no_slots : (xs : List (ℕ × Load)) → length xs ≡ 0 → xs ≡ []
-no_slots [] e = refl
-no_slots (x ∷ xs) e = absurd (omega arith)
+  no_slots : (xs : List (ℕ × Load A)) → length xs ≡ 0 → xs ≡ []
+  no_slots [] e = refl
+  no_slots (x ∷ xs) e = absurd (omega arith)
 
-one_of_sum : (hs : List Hand) (c : ℕ) → c < length hs
-    → in_hand (slice_index_or hs c Away) ≤ sum_by in_hand hs
-one_of_sum [] c low = absurd (omega arith)
-one_of_sum (x ∷ xs) zero low = let a = sum_by-cons in_hand x xs in omega arith
-one_of_sum (x ∷ xs) (suc c) low = let a = sum_by-cons in_hand x xs in
-    let b = one_of_sum xs c (omega arith) in omega arith
+  one_of_sum : (hs : List (Hand A)) (c : ℕ) → c < length hs
+      → in_hand (slice_index_or hs c Away) ≤ sum_by in_hand hs
+  one_of_sum [] c low = absurd (omega arith)
+  one_of_sum (x ∷ xs) zero low = let a = sum_by-cons in_hand x xs in omega arith
+  one_of_sum (x ∷ xs) (suc c) low = let a = sum_by-cons in_hand x xs in
+      let b = one_of_sum xs c (omega arith) in omega arith
 
 abbrev first_or : ℕ → List ℕ → ℕ
 first_or d [] = d
 first_or d (x ∷ xs) = x
 
-module _ (slots : List (ℕ × Load)) (hands : List Hand) (filling : List Bool)
-    (emptying : List (Option Load)) (carried : List ℕ) (room count : ℕ)
+module _ {A : Type 0} (slots : List (ℕ × Load A)) (hands : List (Hand A)) (filling : List Bool)
+    (emptying : List (Option (Load A))) (carried : List ℕ) (room count : ℕ)
     (h : Carries slots hands filling emptying carried room count) where
   -- there is room for each slot that may be taken
   pub within : length carried ≤ room
@@ -121,7 +125,7 @@ module _ (slots : List (ℕ × Load)) (hands : List Hand) (filling : List Bool)
       let b = sum_below fills filling fills_one in let d = sum_below empties emptying empties_one in
       let z = h.handed in omega arith
 
-  module _ (c : ℕ) (new : Hand) (low : c < length hands) where
+  module _ (c : ℕ) (new : Hand A) (low : c < length hands) where
     slots_set : sum_by slots_with (set hands c new) + slots_with (slice_index_or hands c Away)
         ≡ sum_by slots_with hands + slots_with new
     slots_set = sum_by-set slots_with hands c new Away low
@@ -156,7 +160,7 @@ module _ (slots : List (ℕ × Load)) (hands : List Hand) (filling : List Bool)
     }
 
     -- the slot of a cell is taken
-    pub cell_taken : (y : Load) → slice_index_or hands c Away ≡ Away → slots_with new ≡ 1
+    pub cell_taken : (y : Load A) → slice_index_or hands c Away ≡ Away → slots_with new ≡ 1
         → in_hand new ≡ 1 → (count' : ℕ) → count' ≡ count + 1
         → Carries ((c, y) ∷ slots) (set hands c new) filling emptying (c ∷ carried) room count'
     cell_taken y away one held count' counted = let was : slots_with (slice_index_or hands c Away)
@@ -171,7 +175,7 @@ module _ (slots : List (ℕ × Load)) (hands : List Hand) (filling : List Bool)
         }
 
     -- the slot of a loose cell is taken
-    pub cell_picked : (y : Load) → slice_index_or hands c Away ≡ Loose → slots_with new ≡ 1
+    pub cell_picked : (y : Load A) → slice_index_or hands c Away ≡ Loose → slots_with new ≡ 1
         → in_hand new ≡ 1
         → Carries ((c, y) ∷ slots) (set hands c new) filling emptying (c ∷ carried) room count
     cell_picked y was one held = let none : slots_with (slice_index_or hands c Away) ≡ 0 =
@@ -186,7 +190,7 @@ module _ (slots : List (ℕ × Load)) (hands : List Hand) (filling : List Bool)
         }
 
     -- the slot of a cell, which was taken last, is given back
-    pub cell_given : (y : Load) (left : List (ℕ × Load)) (carried' : List ℕ) → slots ≡ (c, y) ∷ left
+    pub cell_given : (y : Load A) (left : List (ℕ × Load A)) (carried' : List ℕ) → slots ≡ (c, y) ∷ left
         → carried ≡ c ∷ carried' → slots_with (slice_index_or hands c Away) ≡ 1 → slots_with new ≡ 0
         → in_hand new ≡ in_hand (slice_index_or hands c Away)
         → Carries left (set hands c new) filling emptying carried' room count
@@ -202,7 +206,7 @@ module _ (slots : List (ℕ × Load)) (hands : List Hand) (filling : List Bool)
         }
 
   -- a box becomes the port's to fill
-  pub box_opened : (j k : ℕ) (y : Load) → j < length filling
+  pub box_opened : (j k : ℕ) (y : Load A) → j < length filling
       → slice_index_or filling j false ≡ false → length hands ≤ k → (count' : ℕ)
       → count' ≡ count + 1 → Carries ((k, y) ∷ slots) hands (set filling j true) emptying
       (k ∷ carried) room count'
@@ -229,7 +233,7 @@ module _ (slots : List (ℕ × Load)) (hands : List Hand) (filling : List Bool)
       }
 
   -- a box, whose slot was taken last, is filled
-  pub box_filled : (j k : ℕ) (y : Load) (left : List (ℕ × Load)) (carried' : List ℕ)
+  pub box_filled : (j k : ℕ) (y : Load A) (left : List (ℕ × Load A)) (carried' : List ℕ)
       → slots ≡ (k, y) ∷ left → carried ≡ k ∷ carried' → j < length filling
       → slice_index_or filling j false ≡ true → length hands ≤ k → (count' : ℕ) → count' + 1 ≡ count
       → Carries left hands (set filling j false) emptying carried' room count'
@@ -246,7 +250,7 @@ module _ (slots : List (ℕ × Load)) (hands : List Hand) (filling : List Bool)
       }
 
   -- a box becomes the port's to empty
-  pub box_begun : (i k : ℕ) (z y : Load) → i < length emptying
+  pub box_begun : (i k : ℕ) (z y : Load A) → i < length emptying
       → slice_index_or emptying i None ≡ None → length hands ≤ k → (count' : ℕ) → count' ≡ count + 1
       → Carries ((k, y) ∷ slots) hands filling (set emptying i (Some z)) (k ∷ carried) room count'
   box_begun i k z y low shut far count' counted = let s =
@@ -259,7 +263,7 @@ module _ (slots : List (ℕ × Load)) (hands : List Hand) (filling : List Bool)
         fits = let l = length-set emptying i (Some z) in let f = h.fits in omega arith;
       }
 
-  pub box_still_begun : (i : ℕ) (z x : Load) → i < length emptying
+  pub box_still_begun : (i : ℕ) (z x : Load A) → i < length emptying
       → slice_index_or emptying i None ≡ Some x
       → Carries slots hands filling (set emptying i (Some z)) carried room count
   box_still_begun i z x low open_before = let s = sum_by-set empties emptying i (Some z) None low in
@@ -272,7 +276,7 @@ module _ (slots : List (ℕ × Load)) (hands : List Hand) (filling : List Bool)
       }
 
   -- a box, whose slot was taken last, is emptied
-  pub box_emptied : (i k : ℕ) (x y : Load) (left : List (ℕ × Load)) (carried' : List ℕ)
+  pub box_emptied : (i k : ℕ) (x y : Load A) (left : List (ℕ × Load A)) (carried' : List ℕ)
       → slots ≡ (k, y) ∷ left → carried ≡ k ∷ carried' → i < length emptying
       → slice_index_or emptying i None ≡ Some x → length hands ≤ k → (count' : ℕ)
       → count' + 1 ≡ count → Carries left hands filling (set emptying i None) carried' room count'
@@ -294,7 +298,7 @@ module _ (slots : List (ℕ × Load)) (hands : List Hand) (filling : List Bool)
   filling_below j low was = let z = h.handed in let one : fills (slice_index_or filling j false)
       ≡ 1 = ap fills was in let s = sum_by-set fills filling j false false low in omega arith
 
-  pub emptying_below : (i : ℕ) (x : Load) → i < length emptying
+  pub emptying_below : (i : ℕ) (x : Load A) → i < length emptying
       → slice_index_or emptying i None ≡ Some x → 0 < count
   emptying_below i x low was = let z = h.handed in
       let one : empties (slice_index_or emptying i None) ≡ 1 = ap empties was in
@@ -307,7 +311,7 @@ module _ (slots : List (ℕ × Load)) (hands : List Hand) (filling : List Bool)
       let o : open_boxes filling emptying ≡ 0 = omega arith in let t = slots_below_hands hands in
       let k = h.counted in (
         no_slots slots (let l = ap length h.order in
-            let m = length-map slots (λ (x : ℕ × Load). x.0) in omega arith),
+            let m = length-map slots (λ (x : ℕ × Load A). x.0) in omega arith),
         all_away hands s,
       )
 
@@ -321,17 +325,18 @@ pub first_removed : (xs : List ℕ) (c : ℕ) (ys : List ℕ) → xs ≡ c ∷ y
 first_removed [] c ys e = let z = ap length e in absurd (omega arith)
 first_removed (x ∷ xs) c ys e = ap (λ k. k ∷ xs) (ap (first_or 0) e)
 
--- with more room
-pub roomier : (slots : List (ℕ × Load)) (hands : List Hand) (filling : List Bool)
-    (emptying : List (Option Load)) (carried : List ℕ) (room room' count : ℕ) → room ≤ room'
-    → Carries slots hands filling emptying carried room count
-    → Carries slots hands filling emptying carried room' count
-roomier slots hands filling emptying carried room room' count more h =
-    record {
-      order = h.order;
-      cells = h.cells;
-      counted = h.counted;
-      handed = h.handed;
-      fits =
-          let f = h.fits in omega arith;
-    }
+module _ {A : Type 0} where
+  -- with more room
+  pub roomier : (slots : List (ℕ × Load A)) (hands : List (Hand A)) (filling : List Bool)
+      (emptying : List (Option (Load A))) (carried : List ℕ) (room room' count : ℕ) → room ≤ room'
+      → Carries slots hands filling emptying carried room count
+      → Carries slots hands filling emptying carried room' count
+  roomier slots hands filling emptying carried room room' count more h =
+      record {
+        order = h.order;
+        cells = h.cells;
+        counted = h.counted;
+        handed = h.handed;
+        fits =
+            let f = h.fits in omega arith;
+      }

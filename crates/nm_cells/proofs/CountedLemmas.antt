@@ -1,4 +1,4 @@
--- What a packet that is sent, that comes or that is passed on does to a port's counts.
+-- What a parcel that is sent, that comes or that is passed on does to a port's counts.
 use Rattle.std.proofs.Common.{◌≡◌, ◌≢◌, ℕ, zero, suc, replicate, ◌+◌, ◌<◌, ◌≤◌, Option}
 use Rattle.std.proofs.Common.{Some, None, is_some, Bool, false, List, [], ◌∷◌, ◌++◌, length}
 use Rattle.std.proofs.Common.{map, set, sym, refl, ap, ◌∙◌, inl, inr, subst, ⊎_elim, arith}
@@ -8,7 +8,7 @@ use Rattle.std.proofs.lemmas.List.{map-append, length-replicate}
 use Rattle.std.specs.Prelude.{slice_index, slice_index_or}
 use mathlib.Core.Logic.{dite}
 use native.Mathlib.Decide.{ℕ_discrete, dec_le}
-use Rattle.nm_types.specs.declared.packets.Packet.{Packet}
+use Rattle.nm_chain.specs.declared.table.parcels.Parcel.{Parcel}
 use Rattle.nm_chain.specs.Sequence.{Each, Has, Rises, Got}
 use Rattle.nm_chain.proofs.SequenceLemmas.{each_along, each_append, rises_append}
 use Rattle.nm_chain.proofs.SequenceLemmas.{has_left, has_right}
@@ -56,21 +56,23 @@ pub as_long : {n : ℕ} (peers : List Tally) → length peers ≡ n → (f : Tal
     → length (with_peer f j peers) ≡ n
 as_long peers e f j = length-set peers j (f (peer_in peers j)) ∙ e
 
--- the packet that is held stays where `taken` does
-pub same_held : (n : ℕ) (got : List Load) (peers : List Tally) (held : Option Packet) → length peers ≡ n
-    → ((p : Packet) → held ≡ Some p → IsUnpassedOf n got peers p) → (f : Tally → Tally) (j : ℕ) → j < n
-    → ((p : Tally) → (f p).taken ≡ p.taken)
-    → (p : Packet) → held ≡ Some p → IsUnpassedOf n got (with_peer f j peers) p
-same_held n got peers held count holds f j lj same p is = let h = holds p is in (
-  h.0,
-  h.1,
-  subst (λ t. t ≤ p.seq)
-      (sym (peer_same (λ (u : Tally). u.taken) f j peers (in_peers peers count j lj) same p.from)) h.2,
-)
+module _ {A : Type 0} where
+  -- the parcel that is held stays where `taken` does
+  pub same_held : (n : ℕ) (got : List (Load A)) (peers : List Tally) (held : Option (Parcel A)) → length peers ≡ n
+      → ((p : Parcel A) → held ≡ Some p → IsUnpassedOf n got peers p) → (f : Tally → Tally) (j : ℕ) → j < n
+      → ((p : Tally) → (f p).taken ≡ p.taken)
+      → (p : Parcel A) → held ≡ Some p → IsUnpassedOf n got (with_peer f j peers) p
+  same_held n got peers held count holds f j lj same p is = let h = holds p is in (
+    h.0,
+    h.1,
+    subst (λ t. t ≤ p.seq)
+        (sym (peer_same (λ (u : Tally). u.taken) f j peers (in_peers peers count j lj) same p.from)) h.2,
+  )
 
-module _ (put : List (ℕ × Load)) (got : List Load) (put_box : List (ℕ × Load)) (got_box : List Load)
-    (full miss : List ℕ) (filling : List Bool) (emptying : List (Option Load)) (n : ℕ)
-    (peers : List Tally) (held : Option Packet)
+module _ {A : Type 0} (put : List (ℕ × Load A)) (got : List (Load A)) (put_box : List (ℕ × Load A))
+    (got_box : List (Load A))
+    (full miss : List ℕ) (filling : List Bool) (emptying : List (Option (Load A))) (n : ℕ)
+    (peers : List Tally) (held : Option (Parcel A))
     (c : Counts put got put_box got_box full miss filling emptying n peers held) where
   -- the counts are in range
   pub box_put_small : (j : ℕ) → j < n → (peer_in peers j).box_put ≤ (peer_in peers j).sent
@@ -82,8 +84,8 @@ module _ (put : List (ℕ × Load)) (got : List Load) (put_box : List (ℕ × Lo
       let b = rises_short 1152921504606846976 xs o.rises (numbers_small (from i got)) in
       let e = o.unpassed in omega arith
 
-  -- a packet is sent by cell
-  pub packet_sent : (j : ℕ) (y : Load) → j < n
+  -- a parcel is sent by cell
+  pub packet_sent : (j : ℕ) (y : Load A) → j < n
       → Counts (put ++ (j, y) ∷ []) got put_box got_box full miss filling emptying n
       (with_peer one_sent j peers) held
   packet_sent j y lj = record {
@@ -130,8 +132,8 @@ module _ (put : List (ℕ × Load)) (got : List Load) (put_box : List (ℕ × Lo
     holds = same_held n got peers held c.count c.holds one_sent j lj (λ p. refl);
   }
 
-  -- a packet is sent by box
-  pub packet_boxed : (j : ℕ) (y : Load) → j < n
+  -- a parcel is sent by box
+  pub packet_boxed : (j : ℕ) (y : Load A) → j < n
       → Counts put got (put_box ++ (j, y) ∷ []) got_box full miss (set filling j false) emptying n
       (with_peer one_boxed j peers) held
   packet_boxed j y lj = record {
@@ -178,8 +180,8 @@ module _ (put : List (ℕ × Load)) (got : List Load) (put_box : List (ℕ × Lo
     holds = same_held n got peers held c.count c.holds one_boxed j lj (λ p. refl);
   }
 
-  -- a packet came by cell
-  pub packet_arrived : (i : ℕ) (y : Load) → i < n → sender y ≡ suc i
+  -- a parcel came by cell
+  pub packet_arrived : (i : ℕ) (y : Load A) → i < n → sender y ≡ suc i
       → ¬ Got (map number (from i got_box)) (map number (from i got)) (number y)
       → Each (λ k. k < number y) (map number (from i got))
       → Counts put (got ++ y ∷ []) put_box got_box full miss filling emptying n
@@ -239,8 +241,8 @@ module _ (put : List (ℕ × Load)) (got : List Load) (put_box : List (ℕ × Lo
     );
   }
 
-  -- a packet came by box, and was passed on
-  pub packet_unboxed : (i : ℕ) (y : Load) → i < n → sender y ≡ suc i
+  -- a parcel came by box, and was passed on
+  pub packet_unboxed : (i : ℕ) (y : Load A) → i < n → sender y ≡ suc i
       → number y ≡ (peer_in peers i).taken
       → ¬ Got (map number (from i got_box)) (map number (from i got)) (number y)
       → Counts put got put_box (got_box ++ y ∷ []) full miss filling (set emptying i None) n
@@ -321,8 +323,8 @@ module _ (put : List (ℕ × Load)) (got : List Load) (put_box : List (ℕ × Lo
         );
       }
 
-  -- a packet that came by cell is passed on
-  pub packet_passed : (p : Packet) → IsUnpassedOf n got peers p
+  -- a parcel that came by cell is passed on
+  pub packet_passed : (p : Parcel A) → IsUnpassedOf n got peers p
       → p.seq ≡ (peer_in peers p.from).taken → held ≢ Some p
       → Counts put got put_box got_box full miss filling emptying n
       (with_peer one_passed p.from peers) held
@@ -376,7 +378,7 @@ module _ (put : List (ℕ × Load)) (got : List Load) (put_box : List (ℕ × Lo
       }
 
   -- one is left to pass on
-  pub some_unpassed : (p : Packet) → IsUnpassedOf n got peers p
+  pub some_unpassed : (p : Parcel A) → IsUnpassedOf n got peers p
       → p.seq ≡ (peer_in peers p.from).taken → 0 < (peer_in peers p.from).unpassed
   some_unpassed p un next = let i : ℕ = p.from in let o = c.each i un.0 in
       let xs = map number (from i got) in let t : ℕ = (peer_in peers i).taken in
@@ -384,9 +386,9 @@ module _ (put : List (ℕ × Load)) (got : List Load) (put_box : List (ℕ × Lo
       (subst (λ u. Has u xs) next (one_of_has (Some p) (from i got) un.1)) in
       let a = o.unpassed in omega arith
 
-  -- another packet is held, or none
-  pub packet_held : (new : Option Packet)
-      → ((p : Packet) → new ≡ Some p → IsUnpassedOf n got peers p)
+  -- another parcel is held, or none
+  pub packet_held : (new : Option (Parcel A))
+      → ((p : Parcel A) → new ≡ Some p → IsUnpassedOf n got peers p)
       → Counts put got put_box got_box full miss filling emptying n peers new
   packet_held new is = record {
     count = c.count;
@@ -410,32 +412,39 @@ lids_new d zero i = refl
 lids_new d (suc n) zero = refl
 lids_new d (suc n) (suc i) = lids_new d n i
 
-pub counts_new : (n : ℕ) → Counts [] [] [] [] (replicate n 0) (replicate n 0) (replicate n false)
-    (replicate n None) n (replicate n new_tally) None
-counts_new n = record {
-  count = length-replicate n new_tally;
-  fulls = length-replicate n 0;
-  misses = length-replicate n 0;
-  outs = length-replicate n false;
-  ins = length-replicate n None;
-  each = λ j lj. subst (CountsOne [] [] [] [] (replicate n 0) (replicate n 0) (replicate n false)
-      (replicate n None) j) (sym (lids_new new_tally n j)) (new_one j);
-  holds = λ p is. absurd (let z = is in cc);
-} where
-  new_one : (j : ℕ) → CountsOne [] [] [] [] (replicate n 0) (replicate n 0) (replicate n false)
-      (replicate n None) j new_tally
-  new_one j = let none : Option Load = None in record {
-    sent = refl;
-    box_put = refl;
-    box_got = refl;
-    box_full = sym (zeros n j);
-    box_miss = sym (zeros n j);
-    is_filling = sym (lids_new false n j);
-    is_emptying = ap is_some (sym (lids_new none n j));
-    few = omega arith;
-    in_range = omega arith;
-    came = λ k less. absurd (let l : k < 0 = less in omega arith);
-    passed = tt;
-    rises = tt;
-    unpassed = refl;
-  }
+module _ (A : Type 0) where
+  abbrev no_put : List (ℕ × Load A)
+  no_put = []
+
+  abbrev no_got : List (Load A)
+  no_got = []
+
+  pub counts_new : (n : ℕ) → Counts no_put no_got no_put no_got (replicate n 0) (replicate n 0) (replicate n false)
+      (replicate n None) n (replicate n new_tally) None
+  counts_new n = record {
+    count = length-replicate n new_tally;
+    fulls = length-replicate n 0;
+    misses = length-replicate n 0;
+    outs = length-replicate n false;
+    ins = length-replicate n None;
+    each = λ j lj. subst (CountsOne no_put no_got no_put no_got (replicate n 0) (replicate n 0) (replicate n false)
+        (replicate n None) j) (sym (lids_new new_tally n j)) (new_one j);
+    holds = λ p is. absurd (let z = is in cc);
+  } where
+    new_one : (j : ℕ) → CountsOne no_put no_got no_put no_got (replicate n 0) (replicate n 0) (replicate n false)
+        (replicate n None) j new_tally
+    new_one j = let none : Option (Load A) = None in record {
+      sent = refl;
+      box_put = refl;
+      box_got = refl;
+      box_full = sym (zeros n j);
+      box_miss = sym (zeros n j);
+      is_filling = sym (lids_new false n j);
+      is_emptying = ap is_some (sym (lids_new none n j));
+      few = omega arith;
+      in_range = omega arith;
+      came = λ k less. absurd (let l : k < 0 = less in omega arith);
+      passed = tt;
+      rises = tt;
+      unpassed = refl;
+    }

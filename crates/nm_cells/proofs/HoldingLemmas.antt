@@ -17,94 +17,95 @@ use Rattle.nm_chain.specs.declared.table.table.Hand.TheVariants.{Away}
 use Rattle.nm_cells.specs.Carried.{times, held_in, slots_with, Carries}
 use Rattle.nm_cells.proofs.CarriedLemmas.{times_here, times_else, slots_one}
 
-abbrev numbers : List (ℕ × Load) → List ℕ
-numbers l = map (λ (x : ℕ × Load). x.0) l
+module _ {A : Type 0} where
+  abbrev numbers : List (ℕ × Load A) → List ℕ
+  numbers l = map (λ (x : ℕ × Load A). x.0) l
 
-below_yes : (m c : ℕ) (y : Load) → c < m → (d : Dec (suc c ≤ m)) → if_below d y None ≡ y
-below_yes m c y low (yes _) = refl
-below_yes m c y low (no n) = absurd (n low)
+  below_yes : (m c : ℕ) (y : Load A) → c < m → (d : Dec (suc c ≤ m)) → if_below d y None ≡ y
+  below_yes m c y low (yes _) = refl
+  below_yes m c y low (no n) = absurd (n low)
 
--- equal below m, equal
-same_held : (m : ℕ) (l k : List (ℕ × Load)) → ((c : ℕ) → c < m → load_in c l ≡ load_in c k)
-    → held_in m l ≡ held_in m k
-same_held m l k h i c = by_decision (dec_le (suc c) m) i where
-  by_decision : (d : Dec (suc c ≤ m)) → if_below d (load_in c l) None ≡ if_below d
-      (load_in c k) None
-  by_decision (yes low) = h c low
-  by_decision (no far) = refl
+  -- equal below m, equal
+  same_held : (m : ℕ) (l k : List (ℕ × Load A)) → ((c : ℕ) → c < m → load_in c l ≡ load_in c k)
+      → held_in m l ≡ held_in m k
+  same_held m l k h i c = by_decision (dec_le (suc c) m) i where
+    by_decision : (d : Dec (suc c ≤ m)) → if_below d (load_in c l) None ≡ if_below d
+        (load_in c k) None
+    by_decision (yes low) = h c low
+    by_decision (no far) = refl
 
--- equal below m but at a cell, whose load becomes this
-changed_held : (m c : ℕ) (y : Load) (l k : List (ℕ × Load)) → c < m → load_in c l ≡ y
-    → ((d : ℕ) → d ≢ c → load_in d l ≡ load_in d k) → held_in m l ≡ update (held_in m k) c y
-changed_held m c y l k low here else i d = dite (ℕ_discrete d c)
-    (λ e. subst (λ u. held_in m l u ≡ update (held_in m k) c y u) (sym e)
-    (below_yes m c (load_in c l) low (dec_le (suc c) m) ∙ here
-    ∙ sym (update_here (held_in m k) c y c refl)))
-    (λ ne. by_decision ne (dec_le (suc d) m) ∙ sym (update_else (held_in m k) c y d ne)) i where
-      by_decision : d ≢ c → (u : Dec (suc d ≤ m)) → if_below u (load_in d l) None ≡ if_below u
-          (load_in d k) None
-      by_decision ne (yes lo) = else d ne
-      by_decision ne (no far) = refl
+  -- equal below m but at a cell, whose load becomes this
+  changed_held : (m c : ℕ) (y : Load A) (l k : List (ℕ × Load A)) → c < m → load_in c l ≡ y
+      → ((d : ℕ) → d ≢ c → load_in d l ≡ load_in d k) → held_in m l ≡ update (held_in m k) c y
+  changed_held m c y l k low here else i d = dite (ℕ_discrete d c)
+      (λ e. subst (λ u. held_in m l u ≡ update (held_in m k) c y u) (sym e)
+      (below_yes m c (load_in c l) low (dec_le (suc c) m) ∙ here
+      ∙ sym (update_here (held_in m k) c y c refl)))
+      (λ ne. by_decision ne (dec_le (suc d) m) ∙ sym (update_else (held_in m k) c y d ne)) i where
+        by_decision : d ≢ c → (u : Dec (suc d ≤ m)) → if_below u (load_in d l) None ≡ if_below u
+            (load_in d k) None
+        by_decision ne (yes lo) = else d ne
+        by_decision ne (no far) = refl
 
-pub held_here : (m c : ℕ) (l : List (ℕ × Load)) → c < m → held_in m l c ≡ load_in c l
-held_here m c l low = below_yes m c (load_in c l) low (dec_le (suc c) m)
+  pub held_here : (m c : ℕ) (l : List (ℕ × Load A)) → c < m → held_in m l c ≡ load_in c l
+  held_here m c l low = below_yes m c (load_in c l) low (dec_le (suc c) m)
 
-pub load_first : (c : ℕ) (y : Load) (l : List (ℕ × Load)) → load_in c ((c, y) ∷ l) ≡ y
-load_first c y l = pick_yes y (load_in c l) refl (ℕ_discrete c c)
+  pub load_first : (c : ℕ) (y : Load A) (l : List (ℕ × Load A)) → load_in c ((c, y) ∷ l) ≡ y
+  load_first c y l = pick_yes y (load_in c l) refl (ℕ_discrete c c)
 
-pub load_behind : (c d : ℕ) (y : Load) (l : List (ℕ × Load)) → c ≢ d
-    → load_in d ((c, y) ∷ l) ≡ load_in d l
-load_behind c d y l ne = pick_no y (load_in d l) ne (ℕ_discrete c d)
+  pub load_behind : (c d : ℕ) (y : Load A) (l : List (ℕ × Load A)) → c ≢ d
+      → load_in d ((c, y) ∷ l) ≡ load_in d l
+  load_behind c d y l ne = pick_no y (load_in d l) ne (ℕ_discrete c d)
 
-load_none : (c : ℕ) (l : List (ℕ × Load)) → times c (numbers l) ≡ 0 → load_in c l ≡ None
-load_none c [] e = refl
-load_none c (x ∷ xs) e = dite (ℕ_discrete x.0 c)
-    (λ is. let t : times c (numbers (x ∷ xs)) ≡ suc (times c (numbers xs)) =
-    subst (λ k. times k (x.0 ∷ numbers xs) ≡ suc (times k (numbers xs))) is
-    (times_here x.0 (numbers xs)) in absurd (omega arith))
-    (λ ne. load_behind x.0 c x.1 xs ne
-    ∙ load_none c xs (sym (times_else c x.0 (numbers xs) (λ u. ne (sym u))) ∙ e))
+  load_none : (c : ℕ) (l : List (ℕ × Load A)) → times c (numbers l) ≡ 0 → load_in c l ≡ None
+  load_none c [] e = refl
+  load_none c (x ∷ xs) e = dite (ℕ_discrete x.0 c)
+      (λ is. let t : times c (numbers (x ∷ xs)) ≡ suc (times c (numbers xs)) =
+      subst (λ k. times k (x.0 ∷ numbers xs) ≡ suc (times k (numbers xs))) is
+      (times_here x.0 (numbers xs)) in absurd (omega arith))
+      (λ ne. load_behind x.0 c x.1 xs ne
+      ∙ load_none c xs (sym (times_else c x.0 (numbers xs) (λ u. ne (sym u))) ∙ e))
 
--- a slot is taken
-pub held_taken : (m c : ℕ) (y : Load) (l : List (ℕ × Load)) → c < m
-    → held_in m ((c, y) ∷ l) ≡ update (held_in m l) c y
-held_taken m c y l low = changed_held m c y ((c, y) ∷ l) l low (load_first c y l)
-    (λ d ne. load_behind c d y l (λ e. ne (sym e)))
+  -- a slot is taken
+  pub held_taken : (m c : ℕ) (y : Load A) (l : List (ℕ × Load A)) → c < m
+      → held_in m ((c, y) ∷ l) ≡ update (held_in m l) c y
+  held_taken m c y l low = changed_held m c y ((c, y) ∷ l) l low (load_first c y l)
+      (λ d ne. load_behind c d y l (λ e. ne (sym e)))
 
--- a box's slot is taken, or given back
-pub held_box : (m k : ℕ) (y : Load) (l : List (ℕ × Load)) → m ≤ k
-    → held_in m ((k, y) ∷ l) ≡ held_in m l
-held_box m k y l far = same_held m ((k, y) ∷ l) l (λ c low. load_behind k c y l (λ e. omega arith))
+  -- a box's slot is taken, or given back
+  pub held_box : (m k : ℕ) (y : Load A) (l : List (ℕ × Load A)) → m ≤ k
+      → held_in m ((k, y) ∷ l) ≡ held_in m l
+  held_box m k y l far = same_held m ((k, y) ∷ l) l (λ c low. load_behind k c y l (λ e. omega arith))
 
--- the slot that was taken last is given back
-pub held_given : (m c : ℕ) (y : Load) (l : List (ℕ × Load)) → c < m
-    → times c (numbers ((c, y) ∷ l)) ≡ 1 → held_in m l ≡ update (held_in m ((c, y) ∷ l)) c None
-held_given m c y l low once = changed_held m c None l ((c, y) ∷ l) low
-    (load_none c l (let t = times_here c (numbers l) in omega arith))
-    (λ d ne. sym (load_behind c d y l (λ e. ne (sym e))))
+  -- the slot that was taken last is given back
+  pub held_given : (m c : ℕ) (y : Load A) (l : List (ℕ × Load A)) → c < m
+      → times c (numbers ((c, y) ∷ l)) ≡ 1 → held_in m l ≡ update (held_in m ((c, y) ∷ l)) c None
+  held_given m c y l low once = changed_held m c None l ((c, y) ∷ l) low
+      (load_none c l (let t = times_here c (numbers l) in omega arith))
+      (λ d ne. sym (load_behind c d y l (λ e. ne (sym e))))
 
--- the load of the slot that was taken last is exchanged
-pub held_exchanged : (m c : ℕ) (x y : Load) (l : List (ℕ × Load)) → c < m
-    → held_in m ((c, x) ∷ l) ≡ update (held_in m ((c, y) ∷ l)) c x
-held_exchanged m c x y l low = changed_held m c x ((c, x) ∷ l) ((c, y) ∷ l) low (load_first c x l)
-    (λ d ne. load_behind c d x l (λ e. ne (sym e)) ∙ sym (load_behind c d y l (λ e. ne (sym e))))
+  -- the load of the slot that was taken last is exchanged
+  pub held_exchanged : (m c : ℕ) (x y : Load A) (l : List (ℕ × Load A)) → c < m
+      → held_in m ((c, x) ∷ l) ≡ update (held_in m ((c, y) ∷ l)) c x
+  held_exchanged m c x y l low = changed_held m c x ((c, x) ∷ l) ((c, y) ∷ l) low (load_first c x l)
+      (λ d ne. load_behind c d x l (λ e. ne (sym e)) ∙ sym (load_behind c d y l (λ e. ne (sym e))))
 
--- one more goes behind the others
-load_last : (c : ℕ) (x : ℕ × Load) (l : List (ℕ × Load)) → (x.0 ≡ c → times c (numbers l) ≡ 0)
-    → load_in c (l ++ x ∷ []) ≡ load_in c (x ∷ l)
-load_last c x [] h = refl
-load_last c x (y ∷ ys) h = dite (ℕ_discrete y.0 c)
-    (λ e. let away : x.0 ≢ c = λ u. let t : times c (numbers (y ∷ ys)) ≡ suc
-    (times c (numbers ys)) =
-    subst (λ k. times k (y.0 ∷ numbers ys) ≡ suc (times k (numbers ys))) e
-    (times_here y.0 (numbers ys)) in let z = h u in absurd (omega arith) in
-    pick_yes y.1 (load_in c (ys ++ x ∷ [])) e (ℕ_discrete y.0 c)
-    ∙ sym (pick_yes y.1 (load_in c ys) e (ℕ_discrete y.0 c))
-    ∙ sym (load_behind x.0 c x.1 (y ∷ ys) away))
-    (λ ne. let less : x.0 ≡ c → times c (numbers ys) ≡ 0 =
-    λ u. sym (times_else c y.0 (numbers ys) (λ z. ne (sym z))) ∙ h u in
-    load_behind y.0 c y.1 (ys ++ x ∷ []) ne ∙ load_last c x ys less
-    ∙ ap (pick (ℕ_discrete x.0 c) x.1) (sym (load_behind y.0 c y.1 ys ne)))
+  -- one more goes behind the others
+  load_last : (c : ℕ) (x : ℕ × Load A) (l : List (ℕ × Load A)) → (x.0 ≡ c → times c (numbers l) ≡ 0)
+      → load_in c (l ++ x ∷ []) ≡ load_in c (x ∷ l)
+  load_last c x [] h = refl
+  load_last c x (y ∷ ys) h = dite (ℕ_discrete y.0 c)
+      (λ e. let away : x.0 ≢ c = λ u. let t : times c (numbers (y ∷ ys)) ≡ suc
+      (times c (numbers ys)) =
+      subst (λ k. times k (y.0 ∷ numbers ys) ≡ suc (times k (numbers ys))) e
+      (times_here y.0 (numbers ys)) in let z = h u in absurd (omega arith) in
+      pick_yes y.1 (load_in c (ys ++ x ∷ [])) e (ℕ_discrete y.0 c)
+      ∙ sym (pick_yes y.1 (load_in c ys) e (ℕ_discrete y.0 c))
+      ∙ sym (load_behind x.0 c x.1 (y ∷ ys) away))
+      (λ ne. let less : x.0 ≡ c → times c (numbers ys) ≡ 0 =
+      λ u. sym (times_else c y.0 (numbers ys) (λ z. ne (sym z))) ∙ h u in
+      load_behind y.0 c y.1 (ys ++ x ∷ []) ne ∙ load_last c x ys less
+      ∙ ap (pick (ℕ_discrete x.0 c) x.1) (sym (load_behind y.0 c y.1 ys ne)))
 
 times_last : (c d : ℕ) (xs : List ℕ) → times c (xs ++ d ∷ []) ≡ times c (d ∷ xs)
 times_last c d [] = refl
@@ -113,42 +114,43 @@ times_last c d (x ∷ xs) = let z = times_last c d xs in let n : ℕ = pick (ℕ
     omega arith in
     ap (λ k. n + k) z ∙ e
 
-numbers_last : (l : List (ℕ × Load)) (x : ℕ × Load) → numbers (l ++ x ∷ []) ≡ numbers l ++ x.0 ∷ []
-numbers_last [] x = refl
-numbers_last (y ∷ ys) x = ap (λ k. y.0 ∷ k) (numbers_last ys x)
+module _ {A : Type 0} where
+  numbers_last : (l : List (ℕ × Load A)) (x : ℕ × Load A) → numbers (l ++ x ∷ []) ≡ numbers l ++ x.0 ∷ []
+  numbers_last [] x = refl
+  numbers_last (y ∷ ys) x = ap (λ k. y.0 ∷ k) (numbers_last ys x)
 
-times_turned : (c : ℕ) (l : List (ℕ × Load)) → times c (numbers (turned l)) ≡ times c (numbers l)
-times_turned c [] = refl
-times_turned c (x ∷ xs) = ap (times c) (numbers_last xs x) ∙ times_last c x.0 (numbers xs)
+  times_turned : (c : ℕ) (l : List (ℕ × Load A)) → times c (numbers (turned l)) ≡ times c (numbers l)
+  times_turned c [] = refl
+  times_turned c (x ∷ xs) = ap (times c) (numbers_last xs x) ∙ times_last c x.0 (numbers xs)
 
-load_turned : (c : ℕ) (l : List (ℕ × Load)) → times c (numbers l) ≤ 1
-    → load_in c (turned l) ≡ load_in c l
-load_turned c [] once = refl
-load_turned c (x ∷ xs) once =
-    load_last c x xs (λ e. let t : times c (numbers (x ∷ xs)) ≡ suc (times c (numbers xs)) =
-    subst (λ k. times k (x.0 ∷ numbers xs) ≡ suc (times k (numbers xs))) e
-    (times_here x.0 (numbers xs)) in omega arith)
+  load_turned : (c : ℕ) (l : List (ℕ × Load A)) → times c (numbers l) ≤ 1
+      → load_in c (turned l) ≡ load_in c l
+  load_turned c [] once = refl
+  load_turned c (x ∷ xs) once =
+      load_last c x xs (λ e. let t : times c (numbers (x ∷ xs)) ≡ suc (times c (numbers xs)) =
+      subst (λ k. times k (x.0 ∷ numbers xs) ≡ suc (times k (numbers xs))) e
+      (times_here x.0 (numbers xs)) in omega arith)
 
--- drop and take where one more element goes from the one to the other
-turn_from : (l r : List (ℕ × Load)) (i : ℕ) → i < length l
-    → turned (drop i l ++ (r ++ take i l)) ≡ drop (suc i) l ++ (r ++ take (suc i) l)
-turn_from [] r i h = absurd (omega arith)
-turn_from (x ∷ xs) r zero h = append_assoc xs (r ++ []) (x ∷ []) ∙ ap (λ u. xs ++ u)
-    (ap (λ u. u ++ x ∷ []) (append-nil r))
-turn_from (x ∷ xs) r (suc i) h = let e = turn_from xs (r ++ x ∷ []) i (omega arith) in
-    ap (λ u. turned (drop i xs ++ u)) (sym (append_assoc r (x ∷ []) (take i xs))) ∙ e
-    ∙ ap (λ u. drop (suc i) xs ++ u) (append_assoc r (x ∷ []) (take (suc i) xs))
+  -- drop and take where one more element goes from the one to the other
+  turn_from : (l r : List (ℕ × Load A)) (i : ℕ) → i < length l
+      → turned (drop i l ++ (r ++ take i l)) ≡ drop (suc i) l ++ (r ++ take (suc i) l)
+  turn_from [] r i h = absurd (omega arith)
+  turn_from (x ∷ xs) r zero h = append_assoc xs (r ++ []) (x ∷ []) ∙ ap (λ u. xs ++ u)
+      (ap (λ u. u ++ x ∷ []) (append-nil r))
+  turn_from (x ∷ xs) r (suc i) h = let e = turn_from xs (r ++ x ∷ []) i (omega arith) in
+      ap (λ u. turned (drop i xs ++ u)) (sym (append_assoc r (x ∷ []) (take i xs))) ∙ e
+      ∙ ap (λ u. drop (suc i) xs ++ u) (append_assoc r (x ∷ []) (take (suc i) xs))
 
-pub turn_on : (l : List (ℕ × Load)) (i : ℕ) → i < length l
-    → turned (drop i l ++ take i l) ≡ drop (i + 1) l ++ take (i + 1) l
-turn_on l i h = turn_from l [] i h ∙ ap (λ k. drop k l ++ take k l) (let e : suc i ≡ i + 1 =
-    omega arith in e)
+  pub turn_on : (l : List (ℕ × Load A)) (i : ℕ) → i < length l
+      → turned (drop i l ++ take i l) ≡ drop (i + 1) l ++ take (i + 1) l
+  turn_on l i h = turn_from l [] i h ∙ ap (λ k. drop k l ++ take k l) (let e : suc i ≡ i + 1 =
+      omega arith in e)
 
--- the slots after k turns
-abbrev pub turned_by : ℕ → List (ℕ × Load) → List (ℕ × Load)
-turned_by k l = drop k l ++ take k l
+  -- the slots after k turns
+  abbrev pub turned_by : ℕ → List (ℕ × Load A) → List (ℕ × Load A)
+  turned_by k l = drop k l ++ take k l
 
-module _ (l : List (ℕ × Load)) where
+module _ {A : Type 0} (l : List (ℕ × Load A)) where
   pub times_by : (c k : ℕ) → k ≤ length l → times c (numbers (turned_by k l)) ≡ times c (numbers l)
   times_by c zero h = ap (λ u. times c (numbers u)) (append-nil l)
   times_by c (suc k) h = let one : k + 1 ≡ suc k = omega arith in
@@ -175,57 +177,58 @@ found_at c (x ∷ xs) e = dite (ℕ_discrete x c) (λ is. (0, omega arith, is)) 
     found_at c xs (sym (times_else c x xs (λ u. ne (sym u))) ∙ e) in let f₁ = f.1 in
     (suc f.0, omega arith, f.2))
 
--- and what is first after so many turns
-pub first_at : (l : List (ℕ × Load)) (k c : ℕ) → k < length l → slice_index (numbers l) k ≡ c
-    → (y : Load) × (left : List (ℕ × Load)) × (turned_by k l ≡ (c, y) ∷ left)
-first_at [] k c h e = absurd (omega arith)
-first_at (x ∷ xs) zero c h e = (x.1, xs ++ [], ap (λ d. (d, x.1) ∷ (xs ++ [])) e)
-first_at (x ∷ xs) (suc k) c h e = let f = first_of xs (x ∷ []) k c (omega arith) e in f where
-  first_of : (l r : List (ℕ × Load)) (k c : ℕ) → k < length l → slice_index (numbers l) k ≡ c
-      → (y : Load) × (left : List (ℕ × Load)) × (drop k l ++ (r ++ take k l) ≡ (c, y) ∷ left)
-  first_of [] r k c h e = absurd (omega arith)
-  first_of (x ∷ xs) r zero c h e = (x.1, xs ++ (r ++ []), ap (λ d. (d, x.1) ∷ (xs ++ (r ++ []))) e)
-  first_of (x ∷ xs) r (suc k) c h e = let f = first_of xs (r ++ x ∷ []) k c (omega arith) e in
-      (f.0, f.1, ap (λ u. drop k xs ++ u) (sym (append_assoc r (x ∷ []) (take k xs))) ∙ f.2)
+module _ {A : Type 0} where
+  -- and what is first after so many turns
+  pub first_at : (l : List (ℕ × Load A)) (k c : ℕ) → k < length l → slice_index (numbers l) k ≡ c
+      → (y : Load A) × (left : List (ℕ × Load A)) × (turned_by k l ≡ (c, y) ∷ left)
+  first_at [] k c h e = absurd (omega arith)
+  first_at (x ∷ xs) zero c h e = (x.1, xs ++ [], ap (λ d. (d, x.1) ∷ (xs ++ [])) e)
+  first_at (x ∷ xs) (suc k) c h e = let f = first_of xs (x ∷ []) k c (omega arith) e in f where
+    first_of : (l r : List (ℕ × Load A)) (k c : ℕ) → k < length l → slice_index (numbers l) k ≡ c
+        → (y : Load A) × (left : List (ℕ × Load A)) × (drop k l ++ (r ++ take k l) ≡ (c, y) ∷ left)
+    first_of [] r k c h e = absurd (omega arith)
+    first_of (x ∷ xs) r zero c h e = (x.1, xs ++ (r ++ []), ap (λ d. (d, x.1) ∷ (xs ++ (r ++ []))) e)
+    first_of (x ∷ xs) r (suc k) c h e = let f = first_of xs (r ++ x ∷ []) k c (omega arith) e in
+        (f.0, f.1, ap (λ u. drop k xs ++ u) (sym (append_assoc r (x ∷ []) (take k xs))) ∙ f.2)
 
--- where it stands once, it is first with its load
-pub front_at : (l : List (ℕ × Load)) (k c : ℕ) → k < length l → slice_index (numbers l) k ≡ c
-    → times c (numbers l) ≡ 1 → (left : List (ℕ × Load)) × (turned_by k l ≡ (c, load_in c l) ∷ left)
-front_at l k c low at once = let f = first_at l k c low at in
-    let is : f.0 ≡ load_in c l = sym (load_first c f.0 f.1) ∙ ap (load_in c) (sym f.2)
-    ∙ load_by l c k (omega arith) (omega arith) in
-    (f.1, f.2 ∙ ap (λ y. (c, y) ∷ f.1) is)
+  -- where it stands once, it is first with its load
+  pub front_at : (l : List (ℕ × Load A)) (k c : ℕ) → k < length l → slice_index (numbers l) k ≡ c
+      → times c (numbers l) ≡ 1 → (left : List (ℕ × Load A)) × (turned_by k l ≡ (c, load_in c l) ∷ left)
+  front_at l k c low at once = let f = first_at l k c low at in
+      let is : f.0 ≡ load_in c l = sym (load_first c f.0 f.1) ∙ ap (load_in c) (sym f.2)
+      ∙ load_by l c k (omega arith) (omega arith) in
+      (f.1, f.2 ∙ ap (λ y. (c, y) ∷ f.1) is)
 
--- as the numbers turn with the slots
-numbers_drop : (k : ℕ) (l : List (ℕ × Load)) → numbers (drop k l) ≡ drop k (numbers l)
-numbers_drop zero l = refl
-numbers_drop (suc k) [] = refl
-numbers_drop (suc k) (x ∷ xs) = numbers_drop k xs
+  -- as the numbers turn with the slots
+  numbers_drop : (k : ℕ) (l : List (ℕ × Load A)) → numbers (drop k l) ≡ drop k (numbers l)
+  numbers_drop zero l = refl
+  numbers_drop (suc k) [] = refl
+  numbers_drop (suc k) (x ∷ xs) = numbers_drop k xs
 
-numbers_take : (k : ℕ) (l : List (ℕ × Load)) → numbers (take k l) ≡ take k (numbers l)
-numbers_take zero l = refl
-numbers_take (suc k) [] = refl
-numbers_take (suc k) (x ∷ xs) = ap (λ u. x.0 ∷ u) (numbers_take k xs)
+  numbers_take : (k : ℕ) (l : List (ℕ × Load A)) → numbers (take k l) ≡ take k (numbers l)
+  numbers_take zero l = refl
+  numbers_take (suc k) [] = refl
+  numbers_take (suc k) (x ∷ xs) = ap (λ u. x.0 ∷ u) (numbers_take k xs)
 
-numbers_append : (l k : List (ℕ × Load)) → numbers (l ++ k) ≡ numbers l ++ numbers k
-numbers_append [] k = refl
-numbers_append (x ∷ xs) k = ap (λ u. x.0 ∷ u) (numbers_append xs k)
+  numbers_append : (l k : List (ℕ × Load A)) → numbers (l ++ k) ≡ numbers l ++ numbers k
+  numbers_append [] k = refl
+  numbers_append (x ∷ xs) k = ap (λ u. x.0 ∷ u) (numbers_append xs k)
 
-pub numbers_by : (k : ℕ) (l : List (ℕ × Load)) → numbers (turned_by k l) ≡ drop k (numbers l)
-    ++ take k (numbers l)
-numbers_by k l = numbers_append (drop k l) (take k l)
-    ∙ (λ i. numbers_drop k l i ++ numbers_take k l i)
+  pub numbers_by : (k : ℕ) (l : List (ℕ × Load A)) → numbers (turned_by k l) ≡ drop k (numbers l)
+      ++ take k (numbers l)
+  numbers_by k l = numbers_append (drop k l) (take k l)
+      ∙ (λ i. numbers_drop k l i ++ numbers_take k l i)
 
 length_by : (k : ℕ) (xs : List ℕ) → length (drop k xs ++ take k xs) ≡ length xs
 length_by k xs = let a = length-append (drop k xs) (take k xs) in
     let b = length-append (take k xs) (drop k xs) in let e = ap length (take-append-drop k xs) in
     omega arith
 
-module _ (l : List (ℕ × Load)) (hands : List Hand) (filling : List Bool)
-    (emptying : List (Option Load)) (carried : List ℕ) (room count : ℕ)
+module _ {A : Type 0} (l : List (ℕ × Load A)) (hands : List (Hand A)) (filling : List Bool)
+    (emptying : List (Option (Load A))) (carried : List ℕ) (room count : ℕ)
     (h : Carries l hands filling emptying carried room count) where
   long_enough : (k : ℕ) → k < length carried → k < length l
-  long_enough k low = let e = sym (length-map l (λ (x : ℕ × Load). x.0)) ∙ ap length h.order in
+  long_enough k low = let e = sym (length-map l (λ (x : ℕ × Load A). x.0)) ∙ ap length h.order in
       omega arith
 
   once : (c : ℕ) → c < length hands → times c (numbers l) ≤ 1
@@ -249,7 +252,7 @@ module _ (l : List (ℕ × Load)) (hands : List Hand) (filling : List Bool)
 
   -- what is in front then, and that the cells hold what they held
   pub in_front : (k c : ℕ) → k < length carried → slice_index carried k ≡ c → c < length hands
-      → (left : List (ℕ × Load)) × (turned_by k l ≡ (c, held_in (length hands) l c) ∷ left)
+      → (left : List (ℕ × Load A)) × (turned_by k l ≡ (c, held_in (length hands) l c) ∷ left)
   in_front k c low at lc = let kl = long_enough k low in
       let f = first_at l k c kl (ap (λ u. slice_index u k) h.order ∙ at) in
       let is : f.0 ≡ held_in (length hands) l c = sym (load_first c f.0 f.1)
@@ -267,12 +270,12 @@ module _ (l : List (ℕ × Load)) (hands : List Hand) (filling : List Bool)
   is_carried c lc one = found_at c carried (h.cells c lc ∙ one)
 
 -- the load of the slot that was taken last is exchanged
-module _ (c : ℕ) (x y : Load) (l left : List (ℕ × Load)) (is : l ≡ (c, y) ∷ left) where
+module _ {A : Type 0} (c : ℕ) (x y : Load A) (l left : List (ℕ × Load A)) (is : l ≡ (c, y) ∷ left) where
   pub exchanged_held : (m : ℕ) → c < m → held_in m ((c, x) ∷ left) ≡ update (held_in m l) c x
   exchanged_held m low = held_exchanged m c x y left low ∙ ap (λ u. update (held_in m u) c x)
       (sym is)
 
-  pub exchanged_carries : (hands : List Hand) (filling : List Bool) (emptying : List (Option Load))
+  pub exchanged_carries : (hands : List (Hand A)) (filling : List Bool) (emptying : List (Option (Load A)))
       (carried : List ℕ) (room count : ℕ) → Carries l hands filling emptying carried room count
       → Carries ((c, x) ∷ left) hands filling emptying carried room count
   exchanged_carries hands filling emptying carried room count h =

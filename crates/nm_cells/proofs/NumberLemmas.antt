@@ -14,14 +14,15 @@ use Rattle.nm_cells.specs.Counted.{not_below, IsOneOf}
 use Rattle.nm_chain.proofs.QueueLemmas.{from_append, put_append, pick_yes, pick_no, below_yes}
 use Rattle.nm_chain.proofs.QueueLemmas.{below_no}
 
--- a number of a packet is in range
-pub number_small : (y : Load) → number y < 1152921504606846976
-number_small (Some p) = p.seq_in_range
-number_small None = omega arith
+module _ {A : Type 0} where
+  -- a number of a parcel is in range
+  pub number_small : (y : Load A) → number y < 1152921504606846976
+  number_small (Some p) = p.seq_in_range
+  number_small None = omega arith
 
-pub numbers_small : (ys : List Load) → Each (λ k. k < 1152921504606846976) (map number ys)
-numbers_small [] = tt
-numbers_small (y ∷ ys) = (number_small y, numbers_small ys)
+  pub numbers_small : (ys : List (Load A)) → Each (λ k. k < 1152921504606846976) (map number ys)
+  numbers_small [] = tt
+  numbers_small (y ∷ ys) = (number_small y, numbers_small ys)
 
 -- numbers that rise and stay below a bound are at most as many as it
 rises_from : (a b : ℕ) (xs : List ℕ) → Rises xs → Each (λ k. a ≤ k) xs → Each (λ k. k < b) xs
@@ -89,55 +90,56 @@ not_below_one t (x ∷ xs) r h = let one : ℕ = 1 in let none : ℕ = 0 in ⊎_
     omega arith)
     h
 
-pub one_of_append : (y : Load) (xs ys : List Load) → IsOneOf y xs → IsOneOf y (xs ++ ys)
-one_of_append y [] ys h = absurd h
-one_of_append y (x ∷ xs) ys h = ⊎_elim (λ e. inl e) (λ k. inr (one_of_append y xs ys k)) h
+module _ {A : Type 0} where
+  pub one_of_append : (y : Load A) (xs ys : List (Load A)) → IsOneOf y xs → IsOneOf y (xs ++ ys)
+  one_of_append y [] ys h = absurd h
+  one_of_append y (x ∷ xs) ys h = ⊎_elim (λ e. inl e) (λ k. inr (one_of_append y xs ys k)) h
 
-pub one_of_last : (y : Load) (xs : List Load) → IsOneOf y (xs ++ y ∷ [])
-one_of_last y [] = inl refl
-one_of_last y (x ∷ xs) = inr (one_of_last y xs)
+  pub one_of_last : (y : Load A) (xs : List (Load A)) → IsOneOf y (xs ++ y ∷ [])
+  one_of_last y [] = inl refl
+  one_of_last y (x ∷ xs) = inr (one_of_last y xs)
 
-pub one_of_has : (y : Load) (xs : List Load) → IsOneOf y xs → Has (number y) (map number xs)
-one_of_has y [] h = absurd h
-one_of_has y (x ∷ xs) h = ⊎_elim (λ e. inl (ap number e)) (λ k. inr (one_of_has y xs k)) h
+  pub one_of_has : (y : Load A) (xs : List (Load A)) → IsOneOf y xs → Has (number y) (map number xs)
+  one_of_has y [] h = absurd h
+  one_of_has y (x ∷ xs) h = ⊎_elim (λ e. inl (ap number e)) (λ k. inr (one_of_has y xs k)) h
 
--- two loads of a rising list with one number are one
-pub one_number : (y z : Load) (xs : List Load) → Rises (map number xs) → IsOneOf y xs → IsOneOf z xs
-    → number y ≡ number z → y ≡ z
-one_number y z [] r h k e = absurd h
-one_number y z (x ∷ xs) r h k e = ⊎_elim
-    (λ a. ⊎_elim (λ b. a ∙ sym b) (λ b. let less = each_has (λ u. number x < u) (map number xs) r.0
-    (number z) (one_of_has z xs b) in let same = ap number a in absurd (omega arith)) k)
-    (λ a. let less = each_has (λ u. number x < u) (map number xs) r.0 (number y)
-    (one_of_has y xs a) in ⊎_elim (λ b. let same = ap number b in absurd (omega arith))
-    (λ b. one_number y z xs r.1 a b e) k) h
+  -- two loads of a rising list with one number are one
+  pub one_number : (y z : Load A) (xs : List (Load A)) → Rises (map number xs) → IsOneOf y xs → IsOneOf z xs
+      → number y ≡ number z → y ≡ z
+  one_number y z [] r h k e = absurd h
+  one_number y z (x ∷ xs) r h k e = ⊎_elim
+      (λ a. ⊎_elim (λ b. a ∙ sym b) (λ b. let less = each_has (λ u. number x < u) (map number xs) r.0
+      (number z) (one_of_has z xs b) in let same = ap number a in absurd (omega arith)) k)
+      (λ a. let less = each_has (λ u. number x < u) (map number xs) r.0 (number y)
+      (one_of_has y xs a) in ⊎_elim (λ b. let same = ap number b in absurd (omega arith))
+      (λ b. one_number y z xs r.1 a b e) k) h
 
--- what was put for a rank, or is from it, after one more
-pub put_here : (j : ℕ) (y : Load) (xs : List (ℕ × Load)) → put_to j (xs ++ (j, y) ∷ []) ≡ put_to j xs
-    ++ y ∷ []
-put_here j y xs = put_append j xs ((j, y) ∷ []) ∙ ap (λ u. put_to j xs ++ u)
-    (pick_yes (ℕ_discrete j j) (y ∷ []) [] refl)
+  -- what was put for a rank, or is from it, after one more
+  pub put_here : (j : ℕ) (y : Load A) (xs : List (ℕ × Load A)) → put_to j (xs ++ (j, y) ∷ []) ≡ put_to j xs
+      ++ y ∷ []
+  put_here j y xs = put_append j xs ((j, y) ∷ []) ∙ ap (λ u. put_to j xs ++ u)
+      (pick_yes (ℕ_discrete j j) (y ∷ []) [] refl)
 
-pub put_other : (i j : ℕ) (y : Load) (xs : List (ℕ × Load)) → i ≢ j
-    → put_to i (xs ++ (j, y) ∷ []) ≡ put_to i xs
-put_other i j y xs ne = put_append i xs ((j, y) ∷ []) ∙ ap (λ u. put_to i xs ++ u)
-    (pick_no (ℕ_discrete j i) (y ∷ []) [] (λ e. ne (sym e))) ∙ append-nil (put_to i xs)
+  pub put_other : (i j : ℕ) (y : Load A) (xs : List (ℕ × Load A)) → i ≢ j
+      → put_to i (xs ++ (j, y) ∷ []) ≡ put_to i xs
+  put_other i j y xs ne = put_append i xs ((j, y) ∷ []) ∙ ap (λ u. put_to i xs ++ u)
+      (pick_no (ℕ_discrete j i) (y ∷ []) [] (λ e. ne (sym e))) ∙ append-nil (put_to i xs)
 
-pub from_here : (i : ℕ) (y : Load) (xs : List Load) → sender y ≡ suc i
-    → from i (xs ++ y ∷ []) ≡ from i xs ++ y ∷ []
-from_here i y xs is = from_append i xs (y ∷ []) ∙ ap (λ u. from i xs ++ u)
-    (pick_yes (ℕ_discrete (sender y) (suc i)) (y ∷ []) [] is)
+  pub from_here : (i : ℕ) (y : Load A) (xs : List (Load A)) → sender y ≡ suc i
+      → from i (xs ++ y ∷ []) ≡ from i xs ++ y ∷ []
+  from_here i y xs is = from_append i xs (y ∷ []) ∙ ap (λ u. from i xs ++ u)
+      (pick_yes (ℕ_discrete (sender y) (suc i)) (y ∷ []) [] is)
 
-pub from_other : (i j : ℕ) (y : Load) (xs : List Load) → sender y ≡ suc j → i ≢ j
-    → from i (xs ++ y ∷ []) ≡ from i xs
-from_other i j y xs is ne = from_append i xs (y ∷ []) ∙ ap (λ u. from i xs ++ u)
-    (pick_no (ℕ_discrete (sender y) (suc i)) (y ∷ []) [] (λ e. let same : suc j ≡ suc i =
-    sym is ∙ e in ne (omega arith))) ∙ append-nil (from i xs)
+  pub from_other : (i j : ℕ) (y : Load A) (xs : List (Load A)) → sender y ≡ suc j → i ≢ j
+      → from i (xs ++ y ∷ []) ≡ from i xs
+  from_other i j y xs is ne = from_append i xs (y ∷ []) ∙ ap (λ u. from i xs ++ u)
+      (pick_no (ℕ_discrete (sender y) (suc i)) (y ∷ []) [] (λ e. let same : suc j ≡ suc i =
+      sym is ∙ e in ne (omega arith))) ∙ append-nil (from i xs)
 
-pub got_cell_more : (i k : ℕ) (y : Load) (gb got : List Load) → sender y ≡ suc i
-    → Got (map number gb) (map number (from i got)) k
-    → Got (map number gb) (map number (from i (got ++ y ∷ []))) k
-got_cell_more i k y gb got is g =
-    ⊎_elim (λ h. inl h) (λ h. inr (subst (λ u. Has k (map number u)) (sym (from_here i y got is))
-    (subst (Has k) (sym (map-append number (from i got) (y ∷ [])))
-    (has_left (map number (from i got)) (number y ∷ []) k h)))) g
+  pub got_cell_more : (i k : ℕ) (y : Load A) (gb got : List (Load A)) → sender y ≡ suc i
+      → Got (map number gb) (map number (from i got)) k
+      → Got (map number gb) (map number (from i (got ++ y ∷ []))) k
+  got_cell_more i k y gb got is g =
+      ⊎_elim (λ h. inl h) (λ h. inr (subst (λ u. Has k (map number u)) (sym (from_here i y got is))
+      (subst (Has k) (sym (map-append number (from i got) (y ∷ [])))
+      (has_left (map number (from i got)) (number y ∷ []) k h)))) g

@@ -1,11 +1,11 @@
--- A packet that came by cell is passed on: what that does to what was passed on and what is left.
+-- A parcel that came by cell is passed on: what that does to what was passed on and what is left.
 use Rattle.std.proofs.Common.{◌≡◌, ℕ, ◌+◌, ◌<◌, ap, ◌∙◌, sym, arith}
 use Rattle.std.proofs.Math.Logic.{∥∥₁_elim}
 use Rattle.std.proofs.Props.{props}
 use Rattle.std.proofs.lemmas.List.Sums.{sum_by-set}
 use mathlib.Core.Logic.{dite}
 use native.Mathlib.Decide.{ℕ_discrete}
-use Rattle.nm_types.specs.declared.packets.Packet.{Packet}
+use Rattle.nm_chain.specs.declared.table.parcels.Parcel.{Parcel}
 use Rattle.nm_chain.specs.Update.{update}
 use Rattle.nm_chain.proofs.UpdateLemmas.{update_here, update_else}
 use Rattle.nm_cells.specs.declared.tallies.Tally.{Tally}
@@ -15,7 +15,7 @@ use Rattle.nm_cells.specs.Ports.{knows, taken_by, unpassed_by, IsUnpassed}
 use Rattle.nm_cells.proofs.CountedLemmas.{some_unpassed, peer_here, peer_else}
 use Rattle.nm_cells.proofs.PortLemmas.{peer_low}
 
-module _ (p : Port) (x : Packet) (un : IsUnpassed p x) (next : x.seq ≡ taken_by p x.from) where
+module _ {A : Type 0} (p : Port A) (x : Parcel A) (un : IsUnpassed p x) (next : x.seq ≡ taken_by p x.from) where
   -- its sender has one that isn't passed on
   pub one_left : 0 < (peer_in p.peers.items x.from).unpassed
   one_left = let e = knows p in ∥∥₁_elim p.counts (search props)

@@ -10,7 +10,7 @@ use Rattle.nm_chain.proofs.UpdateLemmas.{update_here}
 use Rattle.nm_chain.proofs.BoxLemmas.{owner_below}
 use native.Mathlib.Decide.{dec_le}
 use Rattle.atomic_table.specs.Table.{rest}
-use Rattle.nm_types.specs.declared.packets.Packet.{Packet}
+use Rattle.nm_chain.specs.declared.table.parcels.Parcel.{Parcel}
 use Rattle.nm_chain.specs.Spoken.{view}
 use Rattle.nm_chain.specs.Update.{update}
 use Rattle.nm_cells.specs.declared.tallies.Tally.{Tally}
@@ -48,22 +48,23 @@ use Rattle.nm_cells.specs.LooseCells.{IsAmong, AreKept}
 use Rattle.nm_cells.proofs.LooseLemmas.{away_apart, kept_took}
 use Rattle.nm_cells.proofs.BoxPortLemmas.{boxes_took}
 
--- what a port carries, by its seat
-abbrev pub CarriesFor : Knowing → List ℕ → ℕ → ℕ → Type 0
-CarriesFor me carried room count = Carries me.1 (mine me).hands (mine me).filling
-    (mine me).emptying carried room count
+module _ {A : Type 0} where
+  -- what a port carries, by its seat
+  abbrev pub CarriesFor : Knowing A → List ℕ → ℕ → ℕ → Type 0
+  CarriesFor me carried room count = Carries me.1 (mine me).hands (mine me).filling
+      (mine me).emptying carried room count
 
-one_in_hand : (h : Hand) → InHand h → in_hand h ≡ 1
-one_in_hand Away i = absurd i
-one_in_hand Loose i = absurd i
-one_in_hand Held i = refl
-one_in_hand (Ready y) i = refl
-one_in_hand (Entering q t) i = absurd i
+  one_in_hand : (h : Hand A) → InHand h → in_hand h ≡ 1
+  one_in_hand Away i = absurd i
+  one_in_hand Loose i = absurd i
+  one_in_hand Held i = refl
+  one_in_hand (Ready y) i = refl
+  one_in_hand (Entering q t) i = absurd i
 
-module _ (me after : Knowing) (carried : List ℕ) (room count : ℕ)
+module _ {A : Type 0} (me after : Knowing A) (carried : List ℕ) (room count : ℕ)
     (h : CarriesFor me carried room count) where
   -- the link of a cell in hand is cleared
-  pub cleared_carries : (c : ℕ) (y : Load) → after ≡ (
+  pub cleared_carries : (c : ℕ) (y : Load A) → after ≡ (
     view (with_hand c (Ready y) (mine me) ∷ []),
     me.1,
   ) → c < length (mine me).hands → InHand (hand (mine me) c)
@@ -90,7 +91,7 @@ module _ (me after : Knowing) (carried : List ℕ) (room count : ℕ)
       in_hand_below me.1 e.hands e.filling e.emptying carried room count h c low (ap in_hand was)
 
   -- a cell is in a queue
-  pub swapped_carries : (c q t : ℕ) (y z : Load) (xs : List (ℕ × Load))
+  pub swapped_carries : (c q t : ℕ) (y z : Load A) (xs : List (ℕ × Load A))
       → after ≡ (view (with_put xs (with_hand c (Entering q t) (mine me)) ∷ []), rest me.1)
       → me.1 ≡ (c, y) ∷ rest me.1 → c < length (mine me).hands → hand (mine me) c ≡ Ready z
       → CarriesFor after (remove carried 0) room count
@@ -104,7 +105,7 @@ module _ (me after : Knowing) (carried : List ℕ) (room count : ℕ)
       (sym (ap in_hand was)))
 
   -- and its slot is out no more
-  pub swapped_holds : (c q t : ℕ) (y z : Load) (xs : List (ℕ × Load))
+  pub swapped_holds : (c q t : ℕ) (y z : Load A) (xs : List (ℕ × Load A))
       → after ≡ (view (with_put xs (with_hand c (Entering q t) (mine me)) ∷ []), rest me.1)
       → me.1 ≡ (c, y) ∷ rest me.1 → c < length (mine me).hands → hand (mine me) c ≡ Ready z
       → held_in (length (mine after).hands) after.1 ≡ update
@@ -143,7 +144,7 @@ module _ (me after : Knowing) (carried : List ℕ) (room count : ℕ)
       ∙ ap (λ k. held_in k ((c, t.load) ∷ me.1)) (length-set e.hands c Held)
       ∙ held_taken (length e.hands) c t.load me.1 t.low
 
-module _ (me after : Knowing) (peers : List Tally) (held : Option Packet)
+module _ {A : Type 0} (me after : Knowing A) (peers : List Tally) (held : Option (Parcel A))
     (low : (mine me).rank < (mine me).ranks) where
   pub took_counts : (b : Bool) (c shadow i : ℕ) → i ≡ c / (mine me).each → i < (mine me).ranks
       → Took b c shadow me after → ∥ CountsFor (mine me) peers held ∥₁
@@ -166,37 +167,38 @@ module _ (me after : Knowing) (peers : List Tally) (held : Option Packet)
       (ap (λ u. e.got ++ u) (below_no (dec_le (suc (e.ranks + e.rank)) e.ranks) (y ∷ []) []
       (λ l. omega arith)) ∙ append-nil e.got)) n))
 
--- what an enqueue puts, by the queue's name
-pub posted_is : (n : ℕ) (q : cells.Queue) (y : Load) → rank_of_queue q < n
-    → posted n (queue_of n q) y ≡ posted_in q y
-posted_is n (Receive j) y low = below_yes (dec_le (suc j) n) ((j, y) ∷ []) [] low
-posted_is n (Free j) y low = below_no (dec_le (suc (n + j)) n) ((n + j, y) ∷ []) []
-    (λ l. omega arith)
+module _ {A : Type 0} where
+  -- what an enqueue puts, by the queue's name
+  pub posted_is : (n : ℕ) (q : cells.Queue) (y : Load A) → rank_of_queue q < n
+      → posted n (queue_of n q) y ≡ posted_in q y
+  posted_is n (Receive j) y low = below_yes (dec_le (suc j) n) ((j, y) ∷ []) [] low
+  posted_is n (Free j) y low = below_no (dec_le (suc (n + j)) n) ((n + j, y) ∷ []) []
+      (λ l. omega arith)
 
-pub sent_counts : (me after : Knowing) (peers : List Tally) (held : Option Packet) (q : cells.Queue)
-    (y : Load) (c : ℕ) (h : Hand) (hs : List (ℕ × Load))
-    → after ≡ (view (with_put (posted_in q y) (with_hand c h (mine me)) ∷ []), hs)
-    → rank_of_queue q < (mine me).ranks → ∥ CountsFor (mine me) peers held ∥₁
-    → ∥ CountsFor (mine after) (sent_into q peers) held ∥₁
-sent_counts me after peers held (Receive j) y c h hs is low t = let e = mine me in
-    ∥∥₁_map t (λ n. subst (λ m. CountsFor (mine m) (with_peer one_sent j peers) held) (sym is)
-    (packet_sent e.put e.got e.put_box e.got_box e.box_full e.box_miss e.filling e.emptying e.ranks
-    peers held n j y low))
-sent_counts me after peers held (Free j) y c h hs is low t = let e = mine me in
-    ∥∥₁_map t (λ n. subst (λ m. CountsFor (mine m) peers held) (sym is)
-    (subst (λ u. Counts u e.got e.put_box e.got_box e.box_full e.box_miss e.filling e.emptying
-    e.ranks peers held) (sym (append-nil e.put)) n))
+  pub sent_counts : (me after : Knowing A) (peers : List Tally) (held : Option (Parcel A)) (q : cells.Queue)
+      (y : Load A) (c : ℕ) (h : Hand A) (hs : List (ℕ × Load A))
+      → after ≡ (view (with_put (posted_in q y) (with_hand c h (mine me)) ∷ []), hs)
+      → rank_of_queue q < (mine me).ranks → ∥ CountsFor (mine me) peers held ∥₁
+      → ∥ CountsFor (mine after) (sent_into q peers) held ∥₁
+  sent_counts me after peers held (Receive j) y c h hs is low t = let e = mine me in
+      ∥∥₁_map t (λ n. subst (λ m. CountsFor (mine m) (with_peer one_sent j peers) held) (sym is)
+      (packet_sent e.put e.got e.put_box e.got_box e.box_full e.box_miss e.filling e.emptying e.ranks
+      peers held n j y low))
+  sent_counts me after peers held (Free j) y c h hs is low t = let e = mine me in
+      ∥∥₁_map t (λ n. subst (λ m. CountsFor (mine m) peers held) (sym is)
+      (subst (λ u. Counts u e.got e.put_box e.got_box e.box_full e.box_miss e.filling e.emptying
+      e.ranks peers held) (sym (append-nil e.put)) n))
 
--- there is room for a packet of the port's own
-pub room_for : (f : Fabric) (p : Port) (q : cells.Queue) (c : ℕ) (y : Load) → MayJoin f p q c y
-    → (mine p.seat.me).ranks ≡ f.ranks → ∥ CountsFor (mine p.seat.me) p.peers.items p.held ∥₁
-    → HasRoomFor q p.peers.items
-room_for f p (Receive j) c y may same t = (
-  ∥∥₁_elim t (search props) (λ n. let l = n.count in let lj = may.0 in omega arith),
-  ∥∥₁_elim t (search props) (λ n. let o = n.each j (subst (λ k. j < k) (sym same) may.0) in
-      let s = o.sent in let nx = may.3 in let small = number_small y in omega arith),
-)
-room_for f p (Free j) c y may same t = tt
+  -- there is room for a parcel of the port's own
+  pub room_for : (f : Fabric A) (p : Port A) (q : cells.Queue) (c : ℕ) (y : Load A) → MayJoin f p q c y
+      → (mine p.seat.me).ranks ≡ f.ranks → ∥ CountsFor (mine p.seat.me) p.peers.items p.held ∥₁
+      → HasRoomFor q p.peers.items
+  room_for f p (Receive j) c y may same t = (
+    ∥∥₁_elim t (search props) (λ n. let l = n.count in let lj = may.0 in omega arith),
+    ∥∥₁_elim t (search props) (λ n. let o = n.each j (subst (λ k. j < k) (sym same) may.0) in
+        let s = o.sent in let nx = may.3 in let small = number_small y in omega arith),
+  )
+  room_for f p (Free j) c y may same t = tt
 
 -- what is passed on stays
 pub sent_taken : (q : cells.Queue) (peers : List Tally) → HasRoomFor q peers
@@ -209,47 +211,48 @@ sent_taken (Receive j) peers room = (
 )
 sent_taken (Free j) peers room = ((λ i. refl), refl)
 
--- what may join a queue suits it
-pub may_suits : (f : Fabric) (p : Port) (q : cells.Queue) (c : ℕ) (y : Load) → MayJoin f p q c y
-    → Suits f.ranks f.each (queue_of f.ranks q) (item c y)
-    × (queue_of f.ranks q < f.ranks → (sender y ≡ suc p.rank)
-    × (number y ≡ sent_to (queue_of f.ranks q) (mine p.seat.me).put_box (mine p.seat.me).put))
-may_suits f p (Receive j) c y may = (
-  ((λ l. may.2 ∙ ap suc (sym may.1)), (λ far. let lj = may.0 in absurd (omega arith))),
-  (λ l. (may.2, may.3)),
-)
-may_suits f p (Free j) c y may = (
-  ((λ l. absurd (omega arith)), (λ far. (may.2, ap (λ k. f.ranks + k) may.1))),
-  (λ l. absurd (omega arith)),
-)
+module _ {A : Type 0} where
+  -- what may join a queue suits it
+  pub may_suits : (f : Fabric A) (p : Port A) (q : cells.Queue) (c : ℕ) (y : Load A) → MayJoin f p q c y
+      → Suits f.ranks f.each (queue_of f.ranks q) (item c y)
+      × (queue_of f.ranks q < f.ranks → (sender y ≡ suc p.rank)
+      × (number y ≡ sent_to (queue_of f.ranks q) (mine p.seat.me).put_box (mine p.seat.me).put))
+  may_suits f p (Receive j) c y may = (
+    ((λ l. may.2 ∙ ap suc (sym may.1)), (λ far. let lj = may.0 in absurd (omega arith))),
+    (λ l. (may.2, may.3)),
+  )
+  may_suits f p (Free j) c y may = (
+    ((λ l. absurd (omega arith)), (λ far. (may.2, ap (λ k. f.ranks + k) may.1))),
+    (λ l. absurd (omega arith)),
+  )
 
-pub may_low : (f : Fabric) (p : Port) (q : cells.Queue) (c : ℕ) (y : Load) → MayJoin f p q c y
-    → rank_of_queue q < f.ranks
-may_low f p (Receive j) c y may = may.0
-may_low f p (Free j) c y may = may.0
+  pub may_low : (f : Fabric A) (p : Port A) (q : cells.Queue) (c : ℕ) (y : Load A) → MayJoin f p q c y
+      → rank_of_queue q < f.ranks
+  may_low f p (Receive j) c y may = may.0
+  may_low f p (Free j) c y may = may.0
 
--- what a consumer loaded is a cell of the fabric, or 0
-pub end_below : (b : Bool) (p : Port)
-    → ((plays.heads_of b (mine p.seat.me)).shadow ≤ length (mine p.seat.me).hands)
-    × ((plays.heads_of b (mine p.seat.me)).seen ≤ length (mine p.seat.me).hands)
-end_below true p = subst (λ (x : Heads). (x.shadow ≤ length (mine p.seat.me).hands)
-    × (x.seen ≤ length (mine p.seat.me).hands)) (sym p.ends.0) (p.small.0, p.small.1)
-end_below false p = subst (λ (x : Heads). (x.shadow ≤ length (mine p.seat.me).hands)
-    × (x.seen ≤ length (mine p.seat.me).hands)) (sym p.ends.1) (p.small.2, p.small.3)
+  -- what a consumer loaded is a cell of the fabric, or 0
+  pub end_below : (b : Bool) (p : Port A)
+      → ((plays.heads_of b (mine p.seat.me)).shadow ≤ length (mine p.seat.me).hands)
+      × ((plays.heads_of b (mine p.seat.me)).seen ≤ length (mine p.seat.me).hands)
+  end_below true p = subst (λ (x : Heads). (x.shadow ≤ length (mine p.seat.me).hands)
+      × (x.seen ≤ length (mine p.seat.me).hands)) (sym p.ends.0) (p.small.0, p.small.1)
+  end_below false p = subst (λ (x : Heads). (x.shadow ≤ length (mine p.seat.me).hands)
+      × (x.seen ≤ length (mine p.seat.me).hands)) (sym p.ends.1) (p.small.2, p.small.3)
 
-pub shadow_below : (b : Bool) (p : Port) (x : Heads) → x ≡ plays.heads_of b (mine p.seat.me)
-    → x.shadow ≤ length (mine p.seat.me).hands
-shadow_below b p x is = subst (λ (u : Heads). u.shadow ≤ length (mine p.seat.me).hands) (sym is)
-    (end_below b p).0
+  pub shadow_below : (b : Bool) (p : Port A) (x : Heads) → x ≡ plays.heads_of b (mine p.seat.me)
+      → x.shadow ≤ length (mine p.seat.me).hands
+  shadow_below b p x is = subst (λ (u : Heads). u.shadow ≤ length (mine p.seat.me).hands) (sym is)
+      (end_below b p).0
 
--- a number that didn't come wasn't passed on
-not_before : (e : Entry) (peers : List Tally) (held : Option Packet) → CountsFor e peers held
-    → (i k : ℕ) → i < e.ranks → ¬ plays.Came e i k → (peer_in peers i).taken ≤ k
-not_before e peers held n i k li new = dite (dec_le (suc k) (peer_in peers i).taken)
-    (λ less. absurd (new ((n.each i li).came k less))) (λ far. omega arith)
+  -- a number that didn't come wasn't passed on
+  not_before : (e : Entry A) (peers : List Tally) (held : Option (Parcel A)) → CountsFor e peers held
+      → (i k : ℕ) → i < e.ranks → ¬ plays.Came e i k → (peer_in peers i).taken ≤ k
+  not_before e peers held n i k li new = dite (dec_le (suc k) (peer_in peers i).taken)
+      (λ less. absurd (new ((n.each i li).came k less))) (λ far. omega arith)
 
 -- what is known once a cell of an own queue was taken
-module _ (b : Bool) (f : Fabric) (p : Port) (d c shadow : ℕ) (after : Knowing) (owns : Owns f p)
+module _ {A : Type 0} (b : Bool) (f : Fabric A) (p : Port A) (d c shadow : ℕ) (after : Knowing A) (owns : Owns f p)
     (told : Took b d shadow p.seat.me after) (is_cell : d ≡ c) where
   abbrev t : Took b c shadow p.seat.me after
   t = subst (λ k. Took b k shadow p.seat.me after) is_cell told
@@ -363,7 +366,7 @@ module _ (b : Bool) (f : Fabric) (p : Port) (d c shadow : ℕ) (after : Knowing)
   held_now false u = ap (λ m. hand (mine m) c) u.after_is
       ∙ get_or-set_same (mine p.seat.me).hands c Held Away u.low
 
-  some_sent : (y : Load) (i : ℕ) → sender y ≡ suc i → IsSome y
+  some_sent : (y : Load A) (i : ℕ) → sender y ≡ suc i → IsSome y
   some_sent (Some x) i e = refl
   some_sent None i e = absurd (let z : 0 ≡ suc i = e in omega arith)
 
@@ -385,10 +388,10 @@ module _ (b : Bool) (f : Fabric) (p : Port) (d c shadow : ℕ) (after : Knowing)
   pub takes_own : b ≡ false → c / f.each ≡ p.rank
   takes_own r = (by_free b c t r).1
 
-  -- a packet that was taken from the receive queue is to be passed on
+  -- a parcel that was taken from the receive queue is to be passed on
   by_arrival : (k : Bool) (t : Took k c shadow p.seat.me after) → (peers : List Tally)
       → peers ≡ counted_after k (c / f.each) p.peers.items → c / f.each < length p.peers.items
-      → (x : Packet) → k ≡ true → t.load ≡ Some x
+      → (x : Parcel A) → k ≡ true → t.load ≡ Some x
       → IsUnpassedOf (mine after).ranks (mine after).got peers x
   by_arrival false u peers is low x r loaded = absurd (let z = r in cc)
   by_arrival true u peers is low x r loaded = let e = mine p.seat.me in let y = u.load in
@@ -417,7 +420,7 @@ module _ (b : Bool) (f : Fabric) (p : Port) (d c shadow : ℕ) (after : Knowing)
       )
 
   -- the cell is in hand
-  pub takes_made : (new : Port) (cell : Cell) → new.seat.me ≡ after → cell.number ≡ c
+  pub takes_made : (new : Port A) (cell : Cell) → new.seat.me ≡ after → cell.number ≡ c
       → cell.owner ≡ c / f.each → new.held ≡ p.held
       → new.peers.items ≡ counted_after b (c / f.each) p.peers.items → new.hands ≡ p.hands + 1
       → new.loose ≡ p.loose
@@ -449,7 +452,7 @@ module _ (b : Bool) (f : Fabric) (p : Port) (d c shadow : ℕ) (after : Knowing)
           ap sender here ∙ whose ∙ ap suc (sym owner),
           subst IsSome (sym here) (some_sent y (c / f.each) whose),
         );
-        arrived = λ r x held_is. subst (λ (m : Knowing). IsUnpassedOf (mine m).ranks (mine m).got
+        arrived = λ r x held_is. subst (λ (m : Knowing A). IsUnpassedOf (mine m).ranks (mine m).got
             new.peers.items x) (sym me)
             (by_arrival b t new.peers.items peers low x r (sym here ∙ held_is));
         vacant = λ r. let nothing = by_free b c t r in (here ∙ nothing.0, owner ∙ nothing.1);
@@ -465,7 +468,7 @@ module _ (b : Bool) (f : Fabric) (p : Port) (d c shadow : ℕ) (after : Knowing)
       }
 
 -- what is counted of a rank
-module _ (p : Port) (j : ℕ) (low : j < (mine p.seat.me).ranks) where
+module _ {A : Type 0} (p : Port A) (j : ℕ) (low : j < (mine p.seat.me).ranks) where
   pub peer_low : j < length p.peers.items
   peer_low = ∥∥₁_elim p.counts (search props) (λ n. let l = n.count in omega arith)
 
@@ -486,9 +489,10 @@ module _ (p : Port) (j : ℕ) (low : j < (mine p.seat.me).ranks) where
   pub peer_miss : (peer_in p.peers.items j).box_miss ≡ slice_index (mine p.seat.me).box_miss j
   peer_miss = ∥∥₁_elim p.counts (search props) (λ n. (n.each j low).box_miss)
 
--- a port with nothing in hand
-pub idle : (p : Port) → p.hands ≡ 0 → (p.seat.me.1 ≡ [])
-    × ((c : ℕ) → c < length (mine p.seat.me).hands → hand (mine p.seat.me) c ≡ Away)
-idle p zeroed = let e = mine p.seat.me in
-    none_in_hand p.seat.me.1 e.hands e.filling e.emptying p.carried.items
-    (vec_capacity p.carried) p.hands p.carries zeroed
+module _ {A : Type 0} where
+  -- a port with nothing in hand
+  pub idle : (p : Port A) → p.hands ≡ 0 → (p.seat.me.1 ≡ [])
+      × ((c : ℕ) → c < length (mine p.seat.me).hands → hand (mine p.seat.me) c ≡ Away)
+  idle p zeroed = let e = mine p.seat.me in
+      none_in_hand p.seat.me.1 e.hands e.filling e.emptying p.carried.items
+      (vec_capacity p.carried) p.hands p.carries zeroed

@@ -1,5 +1,5 @@
 -- What a step on the head of an own queue leaves of a port.
-use Rattle.std.proofs.Common.{◌≡◌, ℕ, ◌*◌, ◌<◌, Bool, true, false, [], ◌∷◌, length, ap, ◌∙◌}
+use Rattle.std.proofs.Common.{◌≡◌, ◌*◌, ◌<◌, Bool, true, false, [], ◌∷◌, length, ap, ◌∙◌}
 use Rattle.nm_chain.specs.Spoken.{view}
 use Rattle.nm_chain.specs.declared.table.table.Heads.{Heads}
 use Rattle.nm_chain.specs.declared.table.table.Misses.{Misses}
@@ -9,7 +9,7 @@ use Rattle.nm_cells.specs.declared.port.Fabric.{Fabric}
 use Rattle.nm_cells.specs.Carried.{held_in}
 use Rattle.nm_cells.specs.Ports.{Owns, holding, knows}
 
-module _ (f : Fabric) (p : Port) (owns : Owns f p) (after : Knowing) where
+module _ {A : Type 0} (f : Fabric A) (p : Port A) (owns : Owns f p) (after : Knowing A) where
   -- the port is the fabric's still
   pub heads_owns : {A : Type 0} {t u : A} → t ≡ u → (b : Bool) (x : Heads)
       → after ≡ (view (with_heads b x (knows p) ∷ []), p.seat.me.1)
@@ -39,8 +39,8 @@ module _ (f : Fabric) (p : Port) (owns : Owns f p) (after : Knowing) where
   pub heads_holds : (b : Bool) (x : Heads)
       → after ≡ (view (with_heads b x (knows p) ∷ []), p.seat.me.1)
       → held_in (length (mine after).hands) after.1 ≡ holding p
-  heads_holds true x is = ap (λ (m : Knowing). held_in (length (mine m).hands) m.1) is
-  heads_holds false x is = ap (λ (m : Knowing). held_in (length (mine m).hands) m.1) is
+  heads_holds true x is = ap (λ (m : Knowing A). held_in (length (mine m).hands) m.1) is
+  heads_holds false x is = ap (λ (m : Knowing A). held_in (length (mine m).hands) m.1) is
 
   -- the same where a miss was counted too
   pub missed_owns : {A : Type 0} {t u : A} → t ≡ u → (b : Bool) (g : Misses → Misses) (x : Heads)
@@ -70,5 +70,5 @@ module _ (f : Fabric) (p : Port) (owns : Owns f p) (after : Knowing) where
   pub missed_holds : (b : Bool) (g : Misses → Misses) (x : Heads)
       → after ≡ (view (with_missed b g (with_heads b x (knows p)) ∷ []), p.seat.me.1)
       → held_in (length (mine after).hands) after.1 ≡ holding p
-  missed_holds true g x is = ap (λ (m : Knowing). held_in (length (mine m).hands) m.1) is
-  missed_holds false g x is = ap (λ (m : Knowing). held_in (length (mine m).hands) m.1) is
+  missed_holds true g x is = ap (λ (m : Knowing A). held_in (length (mine m).hands) m.1) is
+  missed_holds false g x is = ap (λ (m : Knowing A). held_in (length (mine m).hands) m.1) is

@@ -1,5 +1,5 @@
 -- What the ports of a fabric counted is what they knew when it was closed.
-use Rattle.std.proofs.Common.{◌≡◌, ℕ, zero, suc, ◌<◌, List, [], ◌∷◌, ◌++◌, map, length, Some}
+use Rattle.std.proofs.Common.{Bool, ◌≡◌, ℕ, zero, suc, ◌<◌, List, [], ◌∷◌, ◌++◌, map, length, Some}
 use Rattle.std.proofs.Common.{sym, ap, ◌∙◌, subst, arith}
 use Rattle.std.proofs.Math.Logic.{∥∥₁_elim}
 use Rattle.std.proofs.Props.{props}
@@ -7,7 +7,7 @@ use Rattle.std.specs.Prelude.{slice_get, slice_index_or}
 use mathlib.Core.Option as maybe
 use lib.ListN.{get_elem?}
 use Rattle.nm_types.specs.Sizes.{Sizes}
-use Rattle.nm_types.specs.declared.packets.Packet.{Packet}
+use Rattle.nm_chain.specs.declared.table.parcels.Parcel.{Parcel}
 use Rattle.nm_chain.specs.Sequence.{Got, InSequence}
 use Rattle.nm_chain.specs.declared.table.table.Entry.{Entry}
 use Rattle.nm_chain.specs.Rule.{Rule, World, sender, number, from, put_to, sent_to, loads}
@@ -18,7 +18,7 @@ use Rattle.nm_cells.specs.declared.port.Port.{Port}
 use Rattle.nm_cells.specs.AtClose.{AllCame, Settled}
 use Rattle.nm_cells.specs.Counted.{peer_in}
 use Rattle.nm_cells.specs.Ports.{Owns, knows, sent_by, taken_by}
-use Rattle.nm_cells.specs.PathLists.{packets, by_number, Begins, sent_packets, taken_packets}
+use Rattle.nm_cells.specs.PathLists.{parcels, by_number, Begins, sent_parcels, taken_parcels}
 use Rattle.nm_cells.specs.PathLists.{entry_in, peers_in, sent_between, taken_between, Tallied}
 use Rattle.nm_cells.proofs.PathListLemmas.{numbers, packets_append, full_numbers, from_numbers}
 use Rattle.nm_cells.proofs.PathListLemmas.{all_sent, all_taken, taken_begin}
@@ -29,42 +29,43 @@ use Rattle.nm_types.proofs.OptionLemmas.{same_some}
 use Rattle.nm_chain.proofs.ListLemmas.{get_mapped}
 
 -- the rank i knew e at the end, and the rank j knew g
-module _ (key : Sizes) (es : List Entry) (home : ℕ) (S : Settled key es home) (i j : ℕ)
-    (e g : Entry) (li : i < key.ranks) (lj : j < key.ranks)
+module _ {A : Type 0} {boxable : A → Bool} (key : Sizes) (es : List (Entry A)) (home : ℕ)
+    (S : Settled boxable key es home) (i j : ℕ)
+    (e g : Entry A) (li : i < key.ranks) (lj : j < key.ranks)
     (at_i : get_elem? es i ≡ maybe.some e) (at_j : get_elem? es j ≡ maybe.some g) where
-  abbrev R : Rule key S.0
+  abbrev R : Rule boxable key S.0
   R = S.1.0
 
-  abbrev w : World
+  abbrev w : World A
   w = R.world
 
-  abbrev gb : List Packet
-  gb = packets (from i g.got_box)
+  abbrev gb : List (Parcel A)
+  gb = parcels (from i g.got_box)
 
-  abbrev bx : List Packet
-  bx = packets (w.waits i j)
+  abbrev bx : List (Parcel A)
+  bx = parcels (w.waits i j)
 
-  abbrev gc : List Packet
-  gc = packets (from i g.got)
+  abbrev gc : List (Parcel A)
+  gc = parcels (from i g.got)
 
-  abbrev ch : List Packet
-  ch = packets (from i (loads (w.chain j)))
+  abbrev ch : List (Parcel A)
+  ch = parcels (from i (loads (w.chain j)))
 
   put_is : w.put i ≡ e.put
-  put_is = sym (R.knows i li).put ∙ ap (λ (x : Entry). x.put) (S.1.1 i e at_i)
+  put_is = sym (R.knows i li).put ∙ ap (λ (x : Entry A). x.put) (S.1.1 i e at_i)
 
   put_box_is : w.put_box i ≡ e.put_box
-  put_box_is = sym (R.knows i li).put_box ∙ ap (λ (x : Entry). x.put_box) (S.1.1 i e at_i)
+  put_box_is = sym (R.knows i li).put_box ∙ ap (λ (x : Entry A). x.put_box) (S.1.1 i e at_i)
 
   got_is : w.got j ≡ g.got
-  got_is = sym (R.knows j lj).got ∙ ap (λ (x : Entry). x.got) (S.1.1 j g at_j)
+  got_is = sym (R.knows j lj).got ∙ ap (λ (x : Entry A). x.got) (S.1.1 j g at_j)
 
   got_box_is : w.got_box j ≡ g.got_box
-  got_box_is = sym (R.knows j lj).got_box ∙ ap (λ (x : Entry). x.got_box) (S.1.1 j g at_j)
+  got_box_is = sym (R.knows j lj).got_box ∙ ap (λ (x : Entry A). x.got_box) (S.1.1 j g at_j)
 
   waits_are : map number (w.waits i j) ≡ numbers bx
   waits_are = sym (full_numbers (w.waits i j) (λ t y at.
-      let z : sender y ≡ suc i = ((R.boxes i j li lj).full t y at).0.0 in omega arith))
+      let z : sender y ≡ suc i = ((R.boxes i j li lj).full t y at).0.sent in omega arith))
 
   turn : InSequence (sent_to j e.put_box e.put) (numbers gb) (numbers bx) (numbers gc) (numbers ch)
   turn = let b = ap (λ l. map number (from i l)) got_box_is ∙ sym (from_numbers i g.got_box) in
@@ -74,21 +75,21 @@ module _ (key : Sizes) (es : List Entry) (home : ℕ) (S : Settled key es home) 
       (λ u. (sent_to j (put_box_is u) (put_is u), b u, waits_are u, c u, h u))
       (R.turns i j li lj)
 
-  by_box : packets (put_to j e.put_box) ≡ gb ++ bx
-  by_box = ap (λ l. packets (put_to j l)) (sym put_box_is) ∙ ap packets (R.boxes i j li lj).path
+  by_box : parcels (put_to j e.put_box) ≡ gb ++ bx
+  by_box = ap (λ l. parcels (put_to j l)) (sym put_box_is) ∙ ap parcels (R.boxes i j li lj).path
       ∙ packets_append (from i (w.got_box j)) (w.waits i j)
-      ∙ ap (λ l. packets (from i l) ++ bx) got_box_is
+      ∙ ap (λ l. parcels (from i l) ++ bx) got_box_is
 
-  by_cell : packets (put_to j e.put) ≡ gc ++ ch
-  by_cell = ap (λ l. packets (put_to j l)) (sym put_is) ∙ ap packets (R.laid.paths i j li lj)
+  by_cell : parcels (put_to j e.put) ≡ gc ++ ch
+  by_cell = ap (λ l. parcels (put_to j l)) (sym put_is) ∙ ap parcels (R.laid.paths i j li lj)
       ∙ packets_append (from i (w.got j)) (from i (loads (w.chain j)))
-      ∙ ap (λ l. packets (from i l) ++ ch) got_is
+      ∙ ap (λ l. parcels (from i l) ++ ch) got_is
 
-  sent_are : sent_packets e j
+  sent_are : sent_parcels e j
       ≡ by_number (sent_to j e.put_box e.put) ((gb ++ bx) ++ (gc ++ ch))
   sent_are u = by_number (sent_to j e.put_box e.put) (by_box u ++ by_cell u)
 
-  pub sent_length : length (sent_packets e j) ≡ sent_to j e.put_box e.put
+  pub sent_length : length (sent_parcels e j) ≡ sent_to j e.put_box e.put
   sent_length = ap length sent_are ∙ all_sent (sent_to j e.put_box e.put) gb bx gc ch turn
 
   module _ (n : ℕ) (came : AllBelow g i n) where
@@ -96,11 +97,11 @@ module _ (key : Sizes) (es : List Entry) (home : ℕ) (S : Settled key es home) 
     got k less = subst (λ (x : List ℕ × List ℕ). Got x.0 x.1 k)
         (λ u. (sym (from_numbers i g.got_box) u, sym (from_numbers i g.got) u)) (came k less)
 
-    pub taken_length : length (taken_packets g n i) ≡ n
+    pub taken_length : length (taken_parcels g n i) ≡ n
     taken_length = all_taken (sent_to j e.put_box e.put) gb bx gc ch turn n got
 
-    pub taken_begins : Begins (taken_packets g n i) (sent_packets e j)
-    taken_begins = subst (λ l. Begins (taken_packets g n i) l) (sym sent_are)
+    pub taken_begins : Begins (taken_parcels g n i) (sent_parcels e j)
+    taken_begins = subst (λ l. Begins (taken_parcels g n i) l) (sym sent_are)
         (taken_begin (sent_to j e.put_box e.put) gb bx gc ch turn n got)
 
 index_mapped : {A B : Type 0} (f : A → B) (d : B) (xs : List A) (k : ℕ) (x : A)
@@ -115,51 +116,52 @@ elem_mapped f [] k x at = absurd (no_item k x at)
 elem_mapped f (y ∷ ys) zero x at = ap (λ z. maybe.some (f z)) (same_some y x at)
 elem_mapped f (y ∷ ys) (suc k) x at = elem_mapped f ys k x at
 
--- what each port counted
-abbrev pub counts_of : List Port → List (List Tally)
-counts_of items = map (λ v. v.items) (map (λ p. p.peers) items)
+module _ {A : Type 0} where
+  -- what each port counted
+  abbrev pub counts_of : List (Port A) → List (List Tally)
+  counts_of items = map (λ v. v.items) (map (λ p. p.peers) items)
 
 -- a closed fabric's ports, what they knew, and what they counted
-module _ (f : Fabric) (items : List Port) (many : length items ≡ f.ranks)
-    (ok : (k : ℕ) (p : Port) → slice_get items k ≡ Some p → Owns f p × (p.rank ≡ k)
-    × (p.hands ≡ 0)) (es : List Entry) (ps : List (List Tally)) (home : ℕ)
+module _ {A : Type 0} {boxable : A → Bool} (f : Fabric A) (items : List (Port A)) (many : length items ≡ f.ranks)
+    (ok : (k : ℕ) (p : Port A) → slice_get items k ≡ Some p → Owns f p × (p.rank ≡ k)
+    × (p.hands ≡ 0)) (es : List (Entry A)) (ps : List (List Tally)) (home : ℕ)
     (known : es ≡ map knows items) (counted : ps ≡ counts_of items)
-    (S : Settled f.board.shared.key es home) where
-  port_at : (k : ℕ) → k < f.ranks → (p : Port) × (slice_get items k ≡ Some p)
+    (S : Settled boxable f.board.shared.key es home) where
+  port_at : (k : ℕ) → k < f.ranks → (p : Port A) × (slice_get items k ≡ Some p)
   port_at k low = there items k (omega (arith, many, low))
 
   in_key : (k : ℕ) → k < f.ranks → k < f.board.shared.key.ranks
   in_key k low = subst (λ r. k < r) (sym f.shape.0) low
 
-  in_port : (p : Port) → Owns f p → (k : ℕ) → k < f.ranks → k < (knows p).ranks
+  in_port : (p : Port A) → Owns f p → (k : ℕ) → k < f.ranks → k < (knows p).ranks
   in_port p own k low = subst (λ r. k < r) (sym own.2) low
 
-  knew : (k : ℕ) (p : Port) → slice_get items k ≡ Some p
+  knew : (k : ℕ) (p : Port A) → slice_get items k ≡ Some p
       → get_elem? es k ≡ maybe.some (knows p)
   knew k p at = ap (λ l. get_elem? l k) known ∙ elem_mapped knows items k p at
 
-  entry_is : (k : ℕ) (p : Port) → slice_get items k ≡ Some p → entry_in es k ≡ knows p
+  entry_is : (k : ℕ) (p : Port A) → slice_get items k ≡ Some p → entry_in es k ≡ knows p
   entry_is k p at = ap (λ l. entry_in l k) known
       ∙ index_mapped knows no_entry items k p at
 
-  peers_are : (k : ℕ) (p : Port) → slice_get items k ≡ Some p → peers_in ps k ≡ p.peers.items
+  peers_are : (k : ℕ) (p : Port A) → slice_get items k ≡ Some p → peers_in ps k ≡ p.peers.items
   peers_are k p at = ap (λ l. peers_in l k) counted
       ∙ index_mapped (λ v. v.items) [] (map (λ q. q.peers) items) k p.peers
       (get_map (λ q. q.peers) items k p at)
 
   -- the rank i had the port p, and the rank j had the port q
-  module _ (i j : ℕ) (li : i < f.ranks) (lj : j < f.ranks) (p q : Port)
+  module _ (i j : ℕ) (li : i < f.ranks) (lj : j < f.ranks) (p q : Port A)
       (at_i : slice_get items i ≡ Some p) (at_j : slice_get items j ≡ Some q) where
     came : AllBelow (knows q) i (taken_by q i)
     came = all_below f q (ok j q at_j).0 i li
 
     sent_is : length (sent_between es i j) ≡ sent_by p j
-    sent_is = ap (λ e. length (sent_packets e j)) (entry_is i p at_i)
+    sent_is = ap (λ e. length (sent_parcels e j)) (entry_is i p at_i)
         ∙ sent_length f.board.shared.key es home S i j (knows p) (knows q) (in_key i li)
         (in_key j lj) (knew i p at_i) (knew j q at_j)
 
-    taken_are : taken_between es ps i j ≡ taken_packets (knows q) (taken_by q i) i
-    taken_are u = taken_packets (entry_is j q at_j u) (peer_in (peers_are j q at_j u) i).taken i
+    taken_are : taken_between es ps i j ≡ taken_parcels (knows q) (taken_by q i) i
+    taken_are u = taken_parcels (entry_is j q at_j u) (peer_in (peers_are j q at_j u) i).taken i
 
     taken_is : length (taken_between es ps i j) ≡ taken_by q i
     taken_is = ap length taken_are
@@ -167,8 +169,8 @@ module _ (f : Fabric) (items : List Port) (many : length items ≡ f.ranks)
         (in_key j lj) (knew i p at_i) (knew j q at_j) (taken_by q i) came
 
     begins : Begins (taken_between es ps i j) (sent_between es i j)
-    begins = subst (λ (x : List Packet × List Packet). Begins x.0 x.1)
-        (λ u. (sym taken_are u, sent_packets (sym (entry_is i p at_i) u) j))
+    begins = subst (λ (x : List (Parcel A) × List (Parcel A)). Begins x.0 x.1)
+        (λ u. (sym taken_are u, sent_parcels (sym (entry_is i p at_i) u) j))
         (taken_begins f.board.shared.key es home S i j (knows p) (knows q) (in_key i li)
         (in_key j lj) (knew i p at_i) (knew j q at_j) (taken_by q i) came)
 
@@ -176,7 +178,7 @@ module _ (f : Fabric) (items : List Port) (many : length items ≡ f.ranks)
   pub ranks_are : length es ≡ f.ranks
   ranks_are = ap length known ∙ map_length knows items ∙ many
 
-  wide : (p : Port) → Owns f p → length p.peers.items ≡ f.ranks
+  wide : (p : Port A) → Owns f p → length p.peers.items ≡ f.ranks
   wide p own = ∥∥₁_elim p.counts (search props) (λ c. c.count) ∙ own.2
 
   tallied_all : Tallied es ps f.ranks
@@ -202,7 +204,7 @@ module _ (f : Fabric) (items : List Port) (many : length items ≡ f.ranks)
   prefix i j li lj = let p = port_at i li in let q = port_at j lj in
       begins i j li lj p.0 q.0 p.1 q.1
 
-  pub counts : (k j : ℕ) (p : Port) → slice_get items k ≡ Some p → j < f.ranks
+  pub counts : (k j : ℕ) (p : Port A) → slice_get items k ≡ Some p → j < f.ranks
       → (length (sent_between es k j) ≡ sent_by p j)
       × (length (taken_between es ps j k) ≡ taken_by p j)
   counts k j p at low = let q = port_at j low in
@@ -217,7 +219,7 @@ module _ (f : Fabric) (items : List Port) (many : length items ≡ f.ranks)
       let q = get_mapped knows items j g (subst (λ l. get_elem? l j ≡ maybe.some g) known at_j) in
       let same : taken_by q.0 i ≡ sent_by p.0 j = sym (taken_is i j li lj p.0 q.0 p.1 q.1)
       ∙ even i j li lj ∙ sent_is i j li lj p.0 q.0 p.1 q.1 in
-      subst (λ (x : Entry × Entry). AllBelow x.1 i (sent_to j x.0.put_box x.0.put))
+      subst (λ (x : Entry A × Entry A). AllBelow x.1 i (sent_to j x.0.put_box x.0.put))
       (λ u. (p.2 u, q.2 u))
       (subst (AllBelow (knows q.0) i) same (all_below f q.0 (ok j q.0 q.1).0 i li))
 

@@ -1,31 +1,32 @@
 -- What a closed fabric keeps of its ports.
 use Rattle.std.specs.Prelude.{◌≡◌, ℕ, ◌<◌, List, length, map}
-use Rattle.nm_types.specs.declared.packets.Packet.{Packet}
+use Rattle.nm_chain.specs.declared.table.parcels.Parcel.{Parcel}
 use Rattle.nm_chain.specs.declared.table.table.Entry.{Entry}
 use Rattle.nm_cells.specs.declared.tallies.Tally.{Tally}
 use Rattle.nm_cells.specs.declared.closed.Closed.{Closed}
 use Rattle.nm_cells.specs.PathLists.{seen_in, sent_between, taken_between}
 
--- what each rank knew at the end, in rank order
-abbrev pub entries : Closed → List Entry
-entries c = seen_in c.badge.views
+module _ {A : Type 0} where
+  -- what each rank knew at the end, in rank order
+  abbrev pub entries : Closed A → List (Entry A)
+  entries c = seen_in c.badge.views
 
--- what each rank counted at the end, in rank order
-abbrev pub counted : Closed → List (List Tally)
-counted c = map (λ v. v.items) c.counted.items
+  -- what each rank counted at the end, in rank order
+  abbrev pub counted : Closed A → List (List Tally)
+  counted c = map (λ v. v.items) c.counted.items
 
--- how many ranks there were
-abbrev pub ranks_of : Closed → ℕ
-ranks_of c = length (entries c)
+  -- how many ranks there were
+  abbrev pub ranks_of : Closed A → ℕ
+  ranks_of c = length (entries c)
 
--- what the rank i sent to the rank j, by number
-abbrev pub sent_list : Closed → ℕ → ℕ → List Packet
-sent_list c i j = sent_between (entries c) i j
+  -- what the rank i sent to the rank j, by number
+  abbrev pub sent_list : Closed A → ℕ → ℕ → List (Parcel A)
+  sent_list c i j = sent_between (entries c) i j
 
--- what the rank j passed on of the rank i, by number
-abbrev pub taken_list : Closed → ℕ → ℕ → List Packet
-taken_list c i j = taken_between (entries c) (counted c) i j
+  -- what the rank j passed on of the rank i, by number
+  abbrev pub taken_list : Closed A → ℕ → ℕ → List (Parcel A)
+  taken_list c i j = taken_between (entries c) (counted c) i j
 
--- of each ordered pair of n ranks, as many packets were passed on as were sent
-abbrev pub AllTaken : ℕ → Closed → Type 0
-AllTaken n c = (i j : ℕ) → i < n → j < n → length (taken_list c i j) ≡ length (sent_list c i j)
+  -- of each ordered pair of n ranks, as many parcels were passed on as were sent
+  abbrev pub AllTaken : ℕ → Closed A → Type 0
+  AllTaken n c = (i j : ℕ) → i < n → j < n → length (taken_list c i j) ≡ length (sent_list c i j)

@@ -1,11 +1,11 @@
--- What a port counts of each rank, and the packet that it holds.
+-- What a port counts of each rank, and the parcel that it holds.
 use Rattle.std.specs.Prelude.{◌≡◌, ℕ, suc, ◌+◌, ◌<◌, ◌≤◌, ◌⊎◌, Option, Some, None, is_some, Bool}
 use Rattle.std.specs.Prelude.{true, false}
 use Rattle.std.specs.Prelude.{List, [], ◌∷◌, length, map}
 use Rattle.std.specs.Prelude.{slice_index, slice_index_or, slice_set, sum_by, ◌-◌}
 use native.Mathlib.Decide.{dec_le}
 use Rattle.nm_types.specs.declared.limits.TheConstants.{MAX_PACKETS}
-use Rattle.nm_types.specs.declared.packets.Packet.{Packet}
+use Rattle.nm_chain.specs.declared.table.parcels.Parcel.{Parcel}
 use Rattle.nm_chain.specs.Sequence.{Each, Rises, Got}
 use Rattle.nm_cells.specs.declared.tallies.Tally.{Tally}
 use Rattle.nm_chain.specs.declared.table.table.Entry.{Entry}
@@ -35,20 +35,22 @@ abbrev pub not_below : ℕ → List ℕ → ℕ
 not_below t [] = 0
 not_below t (k ∷ ks) = if_below (dec_le (suc k) t) 0 1 + not_below t ks
 
--- the load is one of these
-abbrev pub IsOneOf : Load → List Load → Type 0
-IsOneOf y [] = ⊥
-IsOneOf y (x ∷ xs) = (y ≡ x) ⊎ IsOneOf y xs
+module _ {A : Type 0} where
+  -- the load is one of these
+  abbrev pub IsOneOf : Load A → List (Load A) → Type 0
+  IsOneOf y [] = ⊥
+  IsOneOf y (x ∷ xs) = (y ≡ x) ⊎ IsOneOf y xs
 
--- this came by cell from its sender, of n ranks, and wasn't passed on
-abbrev pub IsUnpassedOf : ℕ → List Load → List Tally → Packet → Type 0
-IsUnpassedOf n got peers p = (p.from < n) × IsOneOf (Some p) (from p.from got)
-    × ((peer_in peers p.from).taken ≤ p.seq)
+  -- this came by cell from its sender, of n ranks, and wasn't passed on
+  abbrev pub IsUnpassedOf : ℕ → List (Load A) → List Tally → Parcel A → Type 0
+  IsUnpassedOf n got peers p = (p.from < n) × IsOneOf (Some p) (from p.from got)
+      × ((peer_in peers p.from).taken ≤ p.seq)
 
-module _ (put : List (ℕ × Load)) (got : List Load) (put_box : List (ℕ × Load)) (got_box : List Load)
+module _ {A : Type 0} (put : List (ℕ × Load A)) (got : List (Load A)) (put_box : List (ℕ × Load A))
+    (got_box : List (Load A))
     (full miss : List ℕ)
-    (filling : List Bool) (emptying : List (Option Load)) where
-  -- What is counted of the rank j is what the lists say. All its packets with numbers below `taken` came,
+    (filling : List Bool) (emptying : List (Option (Load A))) where
+  -- What is counted of the rank j is what the lists say. All its parcels with numbers below `taken` came,
   -- and those that came by box are among them
   pub record CountsOne (j : ℕ) (p : Tally) : Type 0 where
     pub sent : p.sent ≡ sent_to j put_box put
@@ -65,23 +67,24 @@ module _ (put : List (ℕ × Load)) (got : List Load) (put_box : List (ℕ × Lo
     pub rises : Rises (map number (from j got))
     pub unpassed : p.unpassed ≡ not_below p.taken (map number (from j got))
 
-  -- What is counted of all n ranks is what the lists say, and a packet that is held came by cell and was not passed on
-  pub record Counts (n : ℕ) (peers : List Tally) (held : Option Packet) : Type 0 where
+  -- What is counted of all n ranks is what the lists say, and a parcel that is held came by cell and was not passed on
+  pub record Counts (n : ℕ) (peers : List Tally) (held : Option (Parcel A)) : Type 0 where
     pub count : length peers ≡ n
     pub fulls : length full ≡ n
     pub misses : length miss ≡ n
     pub outs : length filling ≡ n
     pub ins : length emptying ≡ n
     pub each : (j : ℕ) → j < n → CountsOne j (peer_in peers j)
-    pub holds : (p : Packet) → held ≡ Some p → IsUnpassedOf n got peers p
+    pub holds : (p : Parcel A) → held ≡ Some p → IsUnpassedOf n got peers p
 
--- the same of a rank's entry
-abbrev pub CountsFor : Entry → List Tally → Option Packet → Type 0
-CountsFor e peers held =
-    Counts e.put e.got e.put_box e.got_box e.box_full e.box_miss e.filling e.emptying e.ranks peers
-    held
+module _ {A : Type 0} where
+  -- the same of a rank's entry
+  abbrev pub CountsFor : Entry A → List Tally → Option (Parcel A) → Type 0
+  CountsFor e peers held =
+      Counts e.put e.got e.put_box e.got_box e.box_full e.box_miss e.filling e.emptying e.ranks peers
+      held
 
--- the packets that came by cell and weren't passed on
+-- the parcels that came by cell and weren't passed on
 abbrev pub all_unpassed : List Tally → ℕ
 all_unpassed peers = sum_by (λ p. p.unpassed) peers
 
@@ -89,15 +92,15 @@ all_unpassed peers = sum_by (λ p. p.unpassed) peers
 abbrev pub with_peer : (Tally → Tally) → ℕ → List Tally → List Tally
 with_peer f j peers = slice_set peers j (f (peer_in peers j))
 
--- one more packet was sent to it by cell
+-- one more parcel was sent to it by cell
 abbrev pub one_sent : Tally → Tally
 one_sent p = record p { sent = p.sent + 1 }
 
--- one more packet of it came by cell
+-- one more parcel of it came by cell
 abbrev pub one_arrived : Tally → Tally
 one_arrived p = record p { unpassed = p.unpassed + 1 }
 
--- one more packet was sent to it by box
+-- one more parcel was sent to it by box
 abbrev pub one_boxed : Tally → Tally
 one_boxed p = record p { sent = p.sent + 1; box_put = p.box_put + 1; filling = false }
 
@@ -109,7 +112,7 @@ one_opened p = record p { filling = true }
 abbrev pub one_begun : Tally → Tally
 one_begun p = record p { emptying = true }
 
--- one more packet of it came by box, and was passed on
+-- one more parcel of it came by box, and was passed on
 abbrev pub one_unboxed : Tally → Tally
 one_unboxed p = record p { taken = p.taken + 1; box_got = p.box_got + 1; emptying = false }
 
@@ -121,11 +124,11 @@ one_full p = record p { box_full = raised p.box_full }
 abbrev pub one_miss : Tally → Tally
 one_miss p = record p { box_miss = raised p.box_miss }
 
--- a packet of it that came by cell was passed on
+-- a parcel of it that came by cell was passed on
 abbrev pub one_passed : Tally → Tally
 one_passed p = record p { taken = p.taken + 1; unpassed = p.unpassed - 1 }
 
--- what is counted once a cell of an own queue was taken, from the receive queue with a packet of the rank i
+-- what is counted once a cell of an own queue was taken, from the receive queue with a parcel of the rank i
 abbrev pub counted_after : Bool → ℕ → List Tally → List Tally
 counted_after true i peers = with_peer one_arrived i peers
 counted_after false i peers = peers

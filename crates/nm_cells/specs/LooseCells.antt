@@ -10,7 +10,8 @@ use Rattle.nm_cells.specs.declared.loose.LooseCells.{LooseCells}
 abbrev pub IsAmong : LooseCells → ℕ → Type 0
 IsAmong x c = (x.first ≤ c) × (c < x.end)
 
--- each of these is the rank's own, is in its seat's hand, and is empty
-abbrev pub AreKept : LooseCells → Entry → List (ℕ × Load) → Type 0
-AreKept x e slots = (c : ℕ) → IsAmong x c → (c < length e.hands) × (hand e c ≡ Held)
-    × (load_in c slots ≡ None) × (c / e.each ≡ e.rank)
+module _ {A : Type 0} where
+  -- each of these is the rank's own, is in its seat's hand, and is empty
+  abbrev pub AreKept : LooseCells → Entry A → List (ℕ × Load A) → Type 0
+  AreKept x e slots = (c : ℕ) → IsAmong x c → (c < length e.hands) × (hand e c ≡ Held)
+      × (load_in c slots ≡ None) × (c / e.each ≡ e.rank)

@@ -1,12 +1,11 @@
 //! The calls that make one step on a box's flag. There are four boxes for each ordered pair of ranks, and the
-//! k-th packet of the pair that goes by box goes into the box k mod 4.
+//! k-th parcel of the pair that goes by box goes into the box k mod 4.
 //!
 //! A step can't be told a number of its caller's by its operands alone. So each is written once for
 //! numbers that the caller picks, and called by a function that picks its arguments.
 
 ghost use Rattle.std.specs.Prelude.{◌≡◌, ℕ, ◌+◌, ◌*◌, ◌%◌, ◌<◌, ◌≤◌, ◌∷◌, [], Some, None};
 ghost use Rattle.std.specs.Prelude.{true, false, length, is_some, vec_len, vec_capacity};
-ghost use Rattle.nm_types.specs.declared.limits.TheConstants.{MAX_BOX};
 ghost use Rattle.nm_chain.specs.Update.{update};
 ghost use Rattle.nm_chain.specs.Rule.{box_slot, filling_of, emptying_of};
 ghost use Rattle.nm_chain.specs.Plays.{with_filling, with_emptying, with_box_full, with_box_miss};
@@ -20,12 +19,11 @@ use crate::tallies::{
     count_boxed, count_full, count_miss, count_unboxed, note_emptying, note_filling,
 };
 use nm_chain::seats::Steps;
-use nm_chain::table::{BoxStep, Fills, LooksIn, LooksOut, Vacates, flag_word};
-use nm_types::Packet;
+use nm_chain::table::{BoxStep, Fills, Item, LooksIn, LooksOut, Parcel, Vacates, flag_word};
 use std::marker::Brand;
 use std::sync::ledger::Ledger;
 
-impl Fabric {
+impl<I: Item> Fabric<I> {
     // The slot of the box at this place of the pair.
     fn box_at(&self, from: u8, to: u8, place: u64) -> u64
         requires { (from < self.now.ranks) × (to < self.now.ranks) }
@@ -54,9 +52,9 @@ fn take_box(carried: &mut Vec<u64>, hands: &mut u32, slot: u64, at_work: bool)
     }
 }
 
-fn look_out<T: BoxStep, L: Ledger>(
-    f: &Fabric,
-    port: &mut Port,
+fn look_out<T: BoxStep, L: Ledger, I: Item>(
+    f: &Fabric<I>,
+    port: &mut Port<I>,
     to: u8,
     steps: &mut Steps<L>,
 ) -> bool
@@ -92,7 +90,12 @@ fn look_out<T: BoxStep, L: Ledger>(
 /// Loads the flag of the port's next box for a rank, and answers whether it was 0.
 ///
 /// Then the box is the port's to fill. Else it is full, which `box_full` counts.
-pub fn load_box_out<L: Ledger>(f: &Fabric, port: &mut Port, to: u8, steps: &mut Steps<L>) -> bool
+pub fn load_box_out<L: Ledger, I: Item>(
+    f: &Fabric<I>,
+    port: &mut Port<I>,
+    to: u8,
+    steps: &mut Steps<L>,
+) -> bool
     requires owns { Owns f.now port.old }
     requires peer { to < f.now.ranks }
     ensures stays { Stays f.now port.old port.new }
@@ -104,12 +107,12 @@ pub fn load_box_out<L: Ledger>(f: &Fabric, port: &mut Port, to: u8, steps: &mut 
     ensures holding { holding port.new ≡ holding port.old }
     ensures cost { steps.new ≡ steps.old + 1 }
 {
-    look_out::<Brand, L>(f, port, to, steps)
+    look_out::<Brand, L, I>(f, port, to, steps)
 }
 
-fn look_in<T: BoxStep, L: Ledger>(
-    f: &Fabric,
-    port: &mut Port,
+fn look_in<T: BoxStep, L: Ledger, I: Item>(
+    f: &Fabric<I>,
+    port: &mut Port<I>,
     sender: u8,
     steps: &mut Steps<L>,
 ) -> bool
@@ -146,12 +149,17 @@ fn look_in<T: BoxStep, L: Ledger>(
     true
 }
 
-/// Loads the flag of the port's next box of a rank, and answers whether the box has the packet that the
+/// Loads the flag of the port's next box of a rank, and answers whether the box has the parcel that the
 /// port awaits from it.
 ///
-/// Then the packet is the port's to take. Else this is a miss, which `box_miss` counts. Where the
-/// port got a later packet of that rank and not the awaited one, the awaited one is there.
-pub fn load_box_in<L: Ledger>(f: &Fabric, port: &mut Port, sender: u8, steps: &mut Steps<L>) -> bool
+/// Then the parcel is the port's to take. Else this is a miss, which `box_miss` counts. Where the
+/// port got a later parcel of that rank and not the awaited one, the awaited one is there.
+pub fn load_box_in<L: Ledger, I: Item>(
+    f: &Fabric<I>,
+    port: &mut Port<I>,
+    sender: u8,
+    steps: &mut Steps<L>,
+) -> bool
     requires owns { Owns f.now port.old }
     requires peer { sender < f.now.ranks }
     ensures stays { Stays f.now port.old port.new }
@@ -167,25 +175,26 @@ pub fn load_box_in<L: Ledger>(f: &Fabric, port: &mut Port, sender: u8, steps: &m
     ensures holding { holding port.new ≡ holding port.old }
     ensures cost { steps.new ≡ steps.old + 1 }
 {
-    look_in::<Brand, L>(f, port, sender, steps)
+    look_in::<Brand, L, I>(f, port, sender, steps)
 }
 
-fn fill<T: BoxStep, L: Ledger>(
-    f: &Fabric,
-    port: &mut Port,
+fn fill<T: BoxStep, L: Ledger, I: Item>(
+    f: &Fabric<I>,
+    port: &mut Port<I>,
     to: u8,
-    packet: &Packet,
+    parcel: Box<Parcel<I>>,
     steps: &mut Steps<L>,
-)
+) -> Option<Box<Parcel<I>>>
     requires owns { Owns f.now port.old }
     requires peer { to < f.now.ranks }
     requires free { filling_of (knows port.old) to ≡ true }
-    requires fits { length packet.now.payload ≤ MAX_BOX }
-    requires packet { (packet.now.from ≡ port.old.rank) × (packet.now.seq ≡ sent_by port.old to) }
+    requires fits { I.boxable parcel.value.item ≡ true }
+    requires parcel { (parcel.value.from ≡ port.old.rank)
+        × (parcel.value.seq ≡ sent_by port.old to) }
     requires told { to ≡ T.peer }
     ensures stays { Stays f.now port.old port.new }
     ensures put { knows port.new
-        ≡ with_put_box ((to, Some packet.now) ∷ []) (with_filling to false (knows port.old)) }
+        ≡ with_put_box ((to, Some parcel.value) ∷ []) (with_filling to false (knows port.old)) }
     ensures hands { port.new.hands + 1 ≡ port.old.hands }
     ensures holding { holding port.new ≡ holding port.old }
     ensures cost { steps.new ≡ steps.old + 1 }
@@ -194,56 +203,58 @@ fn fill<T: BoxStep, L: Ledger>(
     let slot = f.box_at(port.rank, to, port.peer(to).box_put);
     bring_slot(port, slot);
     let word = flag_word(f.ranks, slot);
-    let flag = packet.seq + 1;
-    fill_slot(&f.board, &mut port.seat, slot as usize, packet);
+    let flag = parcel.seq + 1;
+    let spare = fill_slot(&f.board, &mut port.seat, slot as usize, parcel);
     f.board
         .shared
         .store::<Fills<T>>(&mut port.seat, word as usize, flag);
     port.carried.remove(0);
     port.hands -= 1;
     count_boxed(&mut port.peers, to as usize);
+    spare
 }
 
-/// Puts a packet into the port's next box for a rank, which was found free, and stores its number
-/// plus 1 in the flag. The packet is sent.
-pub fn fill_box<L: Ledger>(
-    f: &Fabric,
-    port: &mut Port,
+/// Puts a parcel into the port's next box for a rank, which was found free, and stores its number
+/// plus 1 in the flag. The parcel is sent. It answers the box that was kept there, if there was one.
+pub fn fill_box<L: Ledger, I: Item>(
+    f: &Fabric<I>,
+    port: &mut Port<I>,
     to: u8,
-    packet: &Packet,
+    parcel: Box<Parcel<I>>,
     steps: &mut Steps<L>,
-)
+) -> Option<Box<Parcel<I>>>
     requires owns { Owns f.now port.old }
     requires peer { to < f.now.ranks }
     requires free { filling_of (knows port.old) to ≡ true }
-    requires fits { length packet.now.payload ≤ MAX_BOX }
-    requires packet { (packet.now.from ≡ port.old.rank) × (packet.now.seq ≡ sent_by port.old to) }
+    requires fits { I.boxable parcel.value.item ≡ true }
+    requires parcel { (parcel.value.from ≡ port.old.rank)
+        × (parcel.value.seq ≡ sent_by port.old to) }
     ensures stays { Stays f.now port.old port.new }
     ensures put { knows port.new
-        ≡ with_put_box ((to, Some packet.now) ∷ []) (with_filling to false (knows port.old)) }
+        ≡ with_put_box ((to, Some parcel.value) ∷ []) (with_filling to false (knows port.old)) }
     ensures hands { port.new.hands + 1 ≡ port.old.hands }
     ensures holding { holding port.new ≡ holding port.old }
     ensures cost { steps.new ≡ steps.old + 1 }
 {
-    fill::<Brand, L>(f, port, to, packet, steps);
+    fill::<Brand, L, I>(f, port, to, parcel, steps)
 }
 
-fn empty<T: BoxStep, L: Ledger>(
-    f: &Fabric,
-    port: &mut Port,
+fn empty<T: BoxStep, L: Ledger, I: Item>(
+    f: &Fabric<I>,
+    port: &mut Port<I>,
     sender: u8,
-    into: &mut Packet,
+    spare: Option<Box<Parcel<I>>>,
     steps: &mut Steps<L>,
-)
+) -> Box<Parcel<I>>
     requires owns { Owns f.now port.old }
     requires peer { sender < f.now.ranks }
     requires taking { Empties port.old sender (taken_by port.old sender) }
     requires told { sender ≡ T.peer }
     ensures owns { Owns f.now port.new × (port.new.rank ≡ port.old.rank)
         × (port.new.loose ≡ port.old.loose) }
-    ensures packet { Some into.new ≡ box_load sender (knows port.old) }
+    ensures parcel { Some result.value ≡ box_load sender (knows port.old) }
     ensures got { knows port.new
-        ≡ with_got_box (Some into.new ∷ []) (with_emptying sender None (knows port.old)) }
+        ≡ with_got_box (Some result.value ∷ []) (with_emptying sender None (knows port.old)) }
     ensures taken { taken_by port.new
         ≡ update (taken_by port.old) sender (taken_by port.old sender + 1) }
     ensures others { (port.new.held ≡ port.old.held)
@@ -256,33 +267,35 @@ fn empty<T: BoxStep, L: Ledger>(
     let slot = f.box_at(sender, port.rank, port.peer(sender).box_got);
     bring_slot(port, slot);
     let word = flag_word(f.ranks, slot);
-    empty_slot(&f.board, &mut port.seat, slot as usize, into);
+    let parcel = empty_slot(&f.board, &mut port.seat, slot as usize, spare);
     f.board
         .shared
         .store::<Vacates<T>>(&mut port.seat, word as usize, 0);
     port.carried.remove(0);
     port.hands -= 1;
     count_unboxed(&mut port.peers, sender as usize);
+    parcel
 }
 
-/// Takes the packet that was found out of the port's next box of a rank, and stores 0 in the flag.
-/// The packet is the one that the port awaited, and it is passed on.
-pub fn empty_box<L: Ledger>(
-    f: &Fabric,
-    port: &mut Port,
+/// Takes the parcel that was found out of the port's next box of a rank, leaves a box of memory in its
+/// place, if one is given, and stores 0 in the flag. The parcel is the one that the port awaited, and it
+/// is passed on.
+pub fn empty_box<L: Ledger, I: Item>(
+    f: &Fabric<I>,
+    port: &mut Port<I>,
     sender: u8,
-    into: &mut Packet,
+    spare: Option<Box<Parcel<I>>>,
     steps: &mut Steps<L>,
-)
+) -> Box<Parcel<I>>
     requires owns { Owns f.now port.old }
     requires peer { sender < f.now.ranks }
     requires taking { Empties port.old sender (taken_by port.old sender) }
     ensures owns { Owns f.now port.new × (port.new.rank ≡ port.old.rank)
         × (port.new.loose ≡ port.old.loose) }
-    ensures packet { (Some into.new ≡ box_load sender (knows port.old))
-        × (into.new.from ≡ sender) × (into.new.seq ≡ taken_by port.old sender) }
+    ensures parcel { (Some result.value ≡ box_load sender (knows port.old))
+        × (result.value.from ≡ sender) × (result.value.seq ≡ taken_by port.old sender) }
     ensures got { knows port.new
-        ≡ with_got_box (Some into.new ∷ []) (with_emptying sender None (knows port.old)) }
+        ≡ with_got_box (Some result.value ∷ []) (with_emptying sender None (knows port.old)) }
     ensures taken { taken_by port.new
         ≡ update (taken_by port.old) sender (taken_by port.old sender + 1) }
     ensures others { (port.new.held ≡ port.old.held)
@@ -291,5 +304,5 @@ pub fn empty_box<L: Ledger>(
     ensures holding { holding port.new ≡ holding port.old }
     ensures cost { steps.new ≡ steps.old + 1 }
 {
-    empty::<Brand, L>(f, port, sender, into, steps);
+    empty::<Brand, L, I>(f, port, sender, spare, steps)
 }

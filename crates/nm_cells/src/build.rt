@@ -18,7 +18,7 @@ use crate::port::{Fabric, Port};
 use crate::produce::{clear_link, store_head, store_link, swap_tail};
 use crate::tallies::Tally;
 use nm_chain::seats::{GivesFirst, Steps};
-use nm_chain::table::{Board, BoardSeat, Heads, Misses, Slot};
+use nm_chain::table::{Board, BoardSeat, Heads, Item, Misses, Slot};
 use nm_types::{Memory, Shape};
 use std::alloc::Global;
 use std::marker::Brand;
@@ -37,7 +37,12 @@ fn new_peers(alloc: Global, ranks: u64) -> Result<Vec<Tally>, Memory>
 }
 
 // The port of the lowest rank that `rest` speaks for. No cell's slot is taken yet.
-fn port_of(alloc: Global, f: &Fabric, rest: &mut BoardSeat, rank: u8) -> Result<Port, Memory>
+fn port_of<I: Item>(
+    alloc: Global,
+    f: &Fabric<I>,
+    rest: &mut BoardSeat<I>,
+    rank: u8,
+) -> Result<Port<I>, Memory>
     requires table { (rest.old.table_id ≡ f.now.board.shared.table_id) × (rank < f.now.ranks) }
     requires lowest { rest.old.me
         ≡ (view (beginners f.now.ranks f.now.each rank (suc (f.now.ranks - suc rank))), []) }
@@ -63,13 +68,13 @@ fn port_of(alloc: Global, f: &Fabric, rest: &mut BoardSeat, rank: u8) -> Result<
         carried,
         hands: f.each as u32,
         peers,
-        held: None,
+        held: Slot::empty(),
         loose: LooseCells { first, end: first },
     })
 }
 
 // Takes the slots of all own cells, which are loose from then on.
-fn loosen(f: &Fabric, port: &mut Port)
+fn loosen<I: Item>(f: &Fabric<I>, port: &mut Port<I>)
     requires fresh { IsFresh f.now port.old port.old.rank × (port.old.hands ≡ f.now.each) }
     requires first { (port.old.loose.first ≡ port.old.rank * f.now.each)
         × (port.old.loose.end ≡ port.old.rank * f.now.each) }
@@ -83,7 +88,7 @@ fn loosen(f: &Fabric, port: &mut Port)
 }
 
 // Puts an empty cell of the port's own into its free queue.
-fn put_home<L: Ledger>(f: &Fabric, port: &mut Port, cell: Cell, blank: Blank)
+fn put_home<L: Ledger, I: Item>(f: &Fabric<I>, port: &mut Port<I>, cell: Cell, blank: Blank)
     requires blank { (blank.name ≡ L.name) × (blank.parts ≡ L.parts) × (0 < L.parts) }
     requires owns { Owns f.now port.old }
     requires in_hand { HasCell f.now port.old cell }
@@ -105,17 +110,17 @@ fn put_home<L: Ledger>(f: &Fabric, port: &mut Port, cell: Cell, blank: Blank)
 }
 
 // Puts all loose cells into the port's free queue.
-fn fill_free_queue(f: &Fabric, port: &mut Port)
+fn fill_free_queue<I: Item>(f: &Fabric<I>, port: &mut Port<I>)
     requires { IsNewLoose f.now port.old port.old.rank }
     ensures { IsNew f.now port.new port.old.rank }
 {
     while let Some(cell) = port.loose() {
-        put_home::<Brand>(f, port, cell, Blank::new(1));
+        put_home::<Brand, I>(f, port, cell, Blank::new(1));
     }
 }
 
 // Takes the slots of all own cells, and puts these into the free queue unless they are to be loose.
-fn begin(f: &Fabric, port: &mut Port, loose: bool)
+fn begin<I: Item>(f: &Fabric<I>, port: &mut Port<I>, loose: bool)
     requires fresh { IsFresh f.now port.old port.old.rank × (port.old.hands ≡ f.now.each) }
     requires first { (port.old.loose.first ≡ port.old.rank * f.now.each)
         × (port.old.loose.end ≡ port.old.rank * f.now.each) }
@@ -142,7 +147,7 @@ fn first_words(alloc: Global, ranks: u64, each: u64) -> Result<Vec<u64>, Memory>
 }
 
 // So many slots, all empty.
-fn empty_slots(alloc: Global, count: u64) -> Result<Vec<Slot>, Memory>
+fn empty_slots<I: Item>(alloc: Global, count: u64) -> Result<Vec<Slot<I>>, Memory>
     ensures { IfOk result (λ v. v.items ≡ replicate count None) }
 {
     let mut slots = Vec::with_capacity(alloc, count as usize)?;
@@ -153,7 +158,7 @@ fn empty_slots(alloc: Global, count: u64) -> Result<Vec<Slot>, Memory>
 }
 
 // The fabric, and the seat that speaks for all ranks.
-fn whole(alloc: Global, shape: &Shape) -> Result<(Fabric, BoardSeat), Memory>
+fn whole<I: Item>(alloc: Global, shape: &Shape) -> Result<(Fabric<I>, BoardSeat<I>), Memory>
     ensures { IfOk result (λ t. (t.0.ranks ≡ shape.now.ranks) × (t.0.each ≡ shape.now.cells)
         × (t.1.table_id ≡ t.0.board.shared.table_id) × (t.1.me
         ≡ (view (beginners shape.now.ranks shape.now.cells 0 shape.now.ranks), []))) }
@@ -164,7 +169,7 @@ fn whole(alloc: Global, shape: &Shape) -> Result<(Fabric, BoardSeat), Memory>
     let slots = ranks * each + 4 * (ranks * ranks);
     let counted = Vec::with_capacity(alloc, ranks as usize)?;
     let empty = empty_slots(alloc, slots)?;
-    let Ok((board, rest)) = Board::new(alloc, words.as_slice(), empty, shape) else {
+    let Ok((board, rest)) = Board::<I>::new(alloc, words.as_slice(), empty, shape) else {
         return Err(Memory);
     };
     let fabric = Fabric {
@@ -177,16 +182,16 @@ fn whole(alloc: Global, shape: &Shape) -> Result<(Fabric, BoardSeat), Memory>
 }
 
 // The ports of all ranks, whose cells are loose, or else in their free queues.
-fn ports_of(
+fn ports_of<I: Item>(
     alloc: Global,
-    f: &Fabric,
-    mut rest: BoardSeat,
+    f: &Fabric<I>,
+    mut rest: BoardSeat<I>,
     loose: bool,
-) -> Result<Vec<Port>, Memory>
+) -> Result<Vec<Port<I>>, Memory>
     requires { (rest.table_id ≡ f.now.board.shared.table_id) × (rest.me
         ≡ (view (beginners f.now.ranks f.now.each 0 f.now.ranks), [])) }
     ensures count { IfOk result (λ v. length v.items ≡ f.now.ranks) }
-    ensures ports { IfOk result (λ v. (k : ℕ) (p : Port) → slice_get v.items k ≡ Some p
+    ensures ports { IfOk result (λ v. (k : ℕ) (p : Port I) → slice_get v.items k ≡ Some p
         → Begins loose f.now p k) }
 {
     let mut ports = Vec::new(alloc);
@@ -198,14 +203,14 @@ fn ports_of(
     Ok(ports)
 }
 
-impl Fabric {
+impl<I: Item> Fabric<I> {
     /// A fabric whose cells stand in their owners' free queues, with a port for each rank, in
     /// order.
-    pub fn build(alloc: Global, shape: Shape) -> Result<(Fabric, Vec<Port>), Memory>
+    pub fn build(alloc: Global, shape: Shape) -> Result<(Fabric<I>, Vec<Port<I>>), Memory>
         ensures fabric { IfOk result (λ t. (t.0.ranks ≡ shape.ranks) × (t.0.each ≡ shape.cells)
             × (length t.1.items ≡ shape.ranks)) }
         ensures ports { IfOk result (λ t.
-            (k : ℕ) (p : Port) → slice_get t.1.items k ≡ Some p → IsNew t.0 p k) }
+            (k : ℕ) (p : Port I) → slice_get t.1.items k ≡ Some p → IsNew t.0 p k) }
     {
         let (fabric, rest) = whole(alloc, &shape)?;
         let ports = ports_of(alloc, &fabric, rest, false)?;
@@ -214,11 +219,11 @@ impl Fabric {
 
     /// A fabric whose queues are all empty and whose cells are loose, each with its owner's port.
     /// There is a port for each rank, in order.
-    pub fn build_loose(alloc: Global, shape: Shape) -> Result<(Fabric, Vec<Port>), Memory>
+    pub fn build_loose(alloc: Global, shape: Shape) -> Result<(Fabric<I>, Vec<Port<I>>), Memory>
         ensures fabric { IfOk result (λ t. (t.0.ranks ≡ shape.ranks) × (t.0.each ≡ shape.cells)
             × (length t.1.items ≡ shape.ranks)) }
         ensures ports { IfOk result (λ t.
-            (k : ℕ) (p : Port) → slice_get t.1.items k ≡ Some p → IsNewLoose t.0 p k) }
+            (k : ℕ) (p : Port I) → slice_get t.1.items k ≡ Some p → IsNewLoose t.0 p k) }
     {
         let (fabric, rest) = whole(alloc, &shape)?;
         let ports = ports_of(alloc, &fabric, rest, true)?;

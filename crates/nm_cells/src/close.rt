@@ -14,7 +14,7 @@ use crate::closed::Closed;
 use crate::port::{Fabric, Port};
 use crate::tallies::Tally;
 use nm_chain::seats::{Joins, Seals};
-use nm_chain::table::{Board, BoardSeat};
+use nm_chain::table::{Board, BoardSeat, Item};
 use nm_types::Account;
 
 // One more port's counts, before those of the others.
@@ -29,13 +29,13 @@ fn count_first(counted: &mut Vec<Vec<Tally>>, peers: Vec<Tally>)
 }
 
 // One seat that speaks for all ranks, and what each port counted, both in rank order.
-fn gather(
-    board: &Board,
-    mut ports: Vec<Port>,
+fn gather<I: Item>(
+    board: &Board<I>,
+    mut ports: Vec<Port<I>>,
     mut counted: Vec<Vec<Tally>>,
-) -> (BoardSeat, Vec<Vec<Tally>>)
+) -> (BoardSeat<I>, Vec<Vec<Tally>>)
     requires count { (0 < length ports.items) × (0 < board.now.shared.table_id.words) }
-    requires ports { (k : ℕ) (p : Port) → slice_get ports.items k ≡ Some p
+    requires ports { (k : ℕ) (p : Port I) → slice_get ports.items k ≡ Some p
         → (p.seat.table_id ≡ board.now.shared.table_id) × (p.hands ≡ 0) }
     requires room { (counted.items ≡ []) × (length ports.items ≤ vec_capacity counted) }
     ensures table { result.0.table_id ≡ board.now.shared.table_id }
@@ -56,14 +56,14 @@ fn gather(
 }
 
 // The cells of the closed table, of which those at home hold nothing.
-fn settle(board: Board, seat: BoardSeat, ranks: u64, each: u64) -> Account
+fn settle<I: Item>(board: Board<I>, seat: BoardSeat<I>, ranks: u64, each: u64) -> Account
     requires table { (seat.table_id ≡ board.shared.table_id) × (board.shared.key.ranks ≡ ranks)
         × (board.shared.key.cells ≡ each) }
     requires sizes { (board.shared.table_id.slots ≡ ranks * each + 4 * (ranks * ranks))
         × (ranks ≤ 64) × (0 < each) × (each ≤ 64) }
     requires all { Gathered ranks each seat.me.0.entries × (seat.me.0 ≡ view seat.me.0.entries) }
     ensures total { result.total ≡ ranks * each }
-    ensures settled { Settled board.shared.key seat.me.0.entries result.home }
+    ensures settled { Settled I.boxable board.shared.key seat.me.0.entries result.home }
     ensures paths { Prefixed ranks seat.me.0.entries }
     ensures home { AllCame ranks seat.me.0.entries → result.home ≡ result.total }
 {
@@ -90,21 +90,21 @@ fn settle(board: Board, seat: BoardSeat, ranks: u64, each: u64) -> Account
     }
 }
 
-impl Fabric {
+impl<I: Item> Fabric<I> {
     /// Joins all ports of a fabric, in rank order, and accounts for its cells. What each rank
-    /// passed on of another is the beginning of what that one sent to it. Where each packet that
+    /// passed on of another is the beginning of what that one sent to it. Where each parcel that
     /// was sent was passed on, every cell is in its owner's free queue.
-    pub fn close(self, ports: Vec<Port>) -> Closed
+    pub fn close(self, ports: Vec<Port<I>>) -> Closed<I>
         requires count { length ports.items ≡ self.ranks }
-        requires ports { (k : ℕ) (p : Port) → slice_get ports.items k ≡ Some p → Owns self p
+        requires ports { (k : ℕ) (p : Port I) → slice_get ports.items k ≡ Some p → Owns self p
             × (p.rank ≡ k) × (p.hands ≡ 0) }
         ensures entries { entries result ≡ map knows ports.items }
         ensures total { result.cells.total ≡ self.ranks * self.each }
-        ensures settled { Settled self.board.shared.key (entries result) result.cells.home }
+        ensures settled { Settled I.boxable self.board.shared.key (entries result) result.cells.home }
         ensures paths { Prefixed self.ranks (entries result) }
         ensures home { AllCame self.ranks (entries result) → result.cells.home
             ≡ result.cells.total }
-        ensures counts { (k j : ℕ) (p : Port) → slice_get ports.items k ≡ Some p → j < self.ranks
+        ensures counts { (k j : ℕ) (p : Port I) → slice_get ports.items k ≡ Some p → j < self.ranks
             → (length (sent_list result k j) ≡ sent_by p j)
             × (length (taken_list result j k) ≡ taken_by p j) }
         ensures prefix { (i j : ℕ) → i < self.ranks → j < self.ranks

@@ -6,14 +6,14 @@ ghost use Rattle.nm_cells.specs.PathLists.{seen_in, Tallied};
 use crate::tallies::Tally;
 use atomic_table::Badge;
 use nm_chain::seats::View;
-use nm_chain::table::Entry;
+use nm_chain::table::{Entry, Item};
 use nm_types::Account;
 
 /// A fabric that is closed. It keeps what its ports knew, of which no value is made, and what they
 /// counted.
 #[derive(Drop)]
-pub struct Closed {
-    pub(crate) badge: Badge<View<Entry>>,
+pub struct Closed<I> {
+    pub(crate) badge: Badge<View<Entry<I>>>,
     pub(crate) cells: Account,
     /// What each port counted of each rank, in rank order.
     pub(crate) counted: Vec<Vec<Tally>>,
@@ -21,7 +21,7 @@ pub struct Closed {
         (length (seen_in badge.views)) },
 }
 
-impl Closed {
+impl<I: Item> Closed<I> {
     ghost use Rattle.std.specs.Prelude.{◌≡◌, ◌<◌};
     ghost use Rattle.nm_cells.specs.Counted.{peer_in};
     ghost use Rattle.nm_cells.specs.PathLists.{peers_in};
@@ -42,7 +42,7 @@ impl Closed {
         self.counted[of as usize][with as usize]
     }
 
-    /// How many packets the rank `from` sent to the rank `to`.
+    /// How many parcels the rank `from` sent to the rank `to`.
     pub fn sent(&self, from: u8, to: u8) -> u64
         requires { (from < ranks_of self.now) × (to < ranks_of self.now) }
         ensures { result ≡ length (sent_list self.now from to) }
@@ -50,7 +50,7 @@ impl Closed {
         self.peer(from, to).sent
     }
 
-    /// How many packets of the rank `from` the rank `to` passed on.
+    /// How many parcels of the rank `from` the rank `to` passed on.
     pub fn taken(&self, from: u8, to: u8) -> u64
         requires { (from < ranks_of self.now) × (to < ranks_of self.now) }
         ensures { result ≡ length (taken_list self.now from to) }

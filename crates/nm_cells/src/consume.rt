@@ -21,11 +21,11 @@ use crate::slots::carry;
 use crate::tallies::{Tally, count_arrived};
 use nm_chain::seats::Steps;
 use nm_chain::table::{
-    ClearsHead, Drains, Heads, LoadsHead, Passes, Reloads, head_word, link_word, tail_word,
+    ClearsHead, Drains, Heads, Item, LoadsHead, Passes, Reloads, head_word, link_word, tail_word,
 };
 use std::sync::ledger::Ledger;
 
-fn own_queue<const B: bool>(f: &Fabric, port: &Port) -> u64
+fn own_queue<I: Item, const B: bool>(f: &Fabric<I>, port: &Port<I>) -> u64
     requires { port.now.rank < f.now.ranks }
     ensures own { result ≡ queue f.now.ranks port.now.rank B }
     ensures fits { result < 2 * f.now.ranks }
@@ -34,7 +34,7 @@ fn own_queue<const B: bool>(f: &Fabric, port: &Port) -> u64
     if B { rank } else { f.ranks + rank }
 }
 
-impl Port {
+impl<I: Item> Port<I> {
     fn heads<const B: bool>(&self) -> Heads
         ensures { result ≡ heads_of B (knows self.now) }
     {
@@ -42,7 +42,11 @@ impl Port {
     }
 }
 
-fn load_head_of<L: Ledger, const B: bool>(f: &Fabric, port: &mut Port, steps: &mut Steps<L>) -> bool
+fn load_head_of<L: Ledger, I: Item, const B: bool>(
+    f: &Fabric<I>,
+    port: &mut Port<I>,
+    steps: &mut Steps<L>,
+) -> bool
     requires owns { Owns f.now port.old }
     requires no_shadow { (heads_of B (knows port.old)).shadow ≡ 0 }
     ensures stays { Stays f.now port.old port.new }
@@ -56,7 +60,7 @@ fn load_head_of<L: Ledger, const B: bool>(f: &Fabric, port: &mut Port, steps: &m
     ensures cost { steps.new ≡ steps.old + 1 }
 {
     steps.tick();
-    let word = head_word(own_queue::<B>(f, port));
+    let word = head_word(own_queue::<I, B>(f, port));
     let found = f
         .board
         .shared
@@ -75,7 +79,11 @@ fn load_head_of<L: Ledger, const B: bool>(f: &Fabric, port: &mut Port, steps: &m
     found != 0
 }
 
-fn clear_head_of<L: Ledger, const B: bool>(f: &Fabric, port: &mut Port, steps: &mut Steps<L>)
+fn clear_head_of<L: Ledger, I: Item, const B: bool>(
+    f: &Fabric<I>,
+    port: &mut Port<I>,
+    steps: &mut Steps<L>,
+)
     requires owns { Owns f.now port.old }
     requires loaded { 0 < (heads_of B (knows port.old)).seen }
     ensures stays { Stays f.now port.old port.new }
@@ -85,7 +93,7 @@ fn clear_head_of<L: Ledger, const B: bool>(f: &Fabric, port: &mut Port, steps: &
     ensures cost { steps.new ≡ steps.old + 1 }
 {
     steps.tick();
-    let word = head_word(own_queue::<B>(f, port));
+    let word = head_word(own_queue::<I, B>(f, port));
     let shadow = port.heads::<B>().seen;
     f.board
         .shared
@@ -97,7 +105,7 @@ fn clear_head_of<L: Ledger, const B: bool>(f: &Fabric, port: &mut Port, steps: &
     }
 }
 
-// A packet came where the cell is of the receive queue.
+// A parcel came where the cell is of the receive queue.
 fn count_taken<const B: bool>(peers: &mut Vec<Tally>, owner: usize)
     requires { B ≡ true → (owner < length peers.old.items)
         × ((peer_in peers.old.items owner).unpassed < 2 ^ 61) }
@@ -108,7 +116,7 @@ fn count_taken<const B: bool>(peers: &mut Vec<Tally>, owner: usize)
     }
 }
 
-// The first cell of a queue is in hand, and a packet came where that is the receive queue. The
+// The first cell of a queue is in hand, and a parcel came where that is the receive queue. The
 // cells of the free queue are the port's own.
 fn first_taken<const B: bool>(
     peers: &mut Vec<Tally>,
@@ -140,9 +148,9 @@ fn first_taken<const B: bool>(
     }
 }
 
-fn load_link_of<L: Ledger, const B: bool>(
-    f: &Fabric,
-    port: &mut Port,
+fn load_link_of<L: Ledger, I: Item, const B: bool>(
+    f: &Fabric<I>,
+    port: &mut Port<I>,
     steps: &mut Steps<L>,
 ) -> Option<Cell>
     requires owns { Owns f.now port.old }
@@ -183,9 +191,9 @@ fn load_link_of<L: Ledger, const B: bool>(
     ))
 }
 
-fn reload_link_of<L: Ledger, const B: bool>(
-    f: &Fabric,
-    port: &mut Port,
+fn reload_link_of<L: Ledger, I: Item, const B: bool>(
+    f: &Fabric<I>,
+    port: &mut Port<I>,
     steps: &mut Steps<L>,
 ) -> Option<Cell>
     requires owns { Owns f.now port.old }
@@ -233,9 +241,9 @@ fn reload_link_of<L: Ledger, const B: bool>(
     ))
 }
 
-fn drop_tail_of<L: Ledger, const B: bool>(
-    f: &Fabric,
-    port: &mut Port,
+fn drop_tail_of<L: Ledger, I: Item, const B: bool>(
+    f: &Fabric<I>,
+    port: &mut Port<I>,
     steps: &mut Steps<L>,
 ) -> Option<Cell>
     requires owns { Owns f.now port.old }
@@ -251,7 +259,7 @@ fn drop_tail_of<L: Ledger, const B: bool>(
     steps.tick();
     let shadow = port.heads::<B>().shadow;
     let number = shadow - 1;
-    let word = tail_word(f.ranks, own_queue::<B>(f, port));
+    let word = tail_word(f.ranks, own_queue::<I, B>(f, port));
     let found = f
         .board
         .shared
@@ -279,7 +287,12 @@ fn drop_tail_of<L: Ledger, const B: bool>(
 ///
 /// Zero is a miss, which `head_empty` counts. A queue whose head is 0 may still have a cell, whose
 /// enqueue is pending.
-pub fn load_head<L: Ledger>(f: &Fabric, port: &mut Port, q: Queue, steps: &mut Steps<L>) -> bool
+pub fn load_head<L: Ledger, I: Item>(
+    f: &Fabric<I>,
+    port: &mut Port<I>,
+    q: Queue,
+    steps: &mut Steps<L>,
+) -> bool
     requires owns { Owns f.now port.old }
     requires own { IsOwn port.old q }
     requires no_shadow { (heads_of (is_receive q) (knows port.old)).shadow ≡ 0 }
@@ -293,13 +306,18 @@ pub fn load_head<L: Ledger>(f: &Fabric, port: &mut Port, q: Queue, steps: &mut S
     ensures cost { steps.new ≡ steps.old + 1 }
 {
     match q {
-        Queue::Receive(_) => load_head_of::<L, true>(f, port, steps),
-        Queue::Free(_) => load_head_of::<L, false>(f, port, steps),
+        Queue::Receive(_) => load_head_of::<L, I, true>(f, port, steps),
+        Queue::Free(_) => load_head_of::<L, I, false>(f, port, steps),
     }
 }
 
 /// Clears the head that was loaded. Its cell is the shadow head from then on.
-pub fn clear_head<L: Ledger>(f: &Fabric, port: &mut Port, q: Queue, steps: &mut Steps<L>)
+pub fn clear_head<L: Ledger, I: Item>(
+    f: &Fabric<I>,
+    port: &mut Port<I>,
+    q: Queue,
+    steps: &mut Steps<L>,
+)
     requires owns { Owns f.now port.old }
     requires own { IsOwn port.old q }
     requires loaded { 0 < (heads_of (is_receive q) (knows port.old)).seen }
@@ -310,16 +328,16 @@ pub fn clear_head<L: Ledger>(f: &Fabric, port: &mut Port, q: Queue, steps: &mut 
     ensures cost { steps.new ≡ steps.old + 1 }
 {
     match q {
-        Queue::Receive(_) => clear_head_of::<L, true>(f, port, steps),
-        Queue::Free(_) => clear_head_of::<L, false>(f, port, steps),
+        Queue::Receive(_) => clear_head_of::<L, I, true>(f, port, steps),
+        Queue::Free(_) => clear_head_of::<L, I, false>(f, port, steps),
     }
 }
 
 /// Loads the link of the shadow head. Where it has a cell, that one is the next shadow head, and
 /// the first cell is taken.
-pub fn load_link<L: Ledger>(
-    f: &Fabric,
-    port: &mut Port,
+pub fn load_link<L: Ledger, I: Item>(
+    f: &Fabric<I>,
+    port: &mut Port<I>,
     q: Queue,
     steps: &mut Steps<L>,
 ) -> Option<Cell>
@@ -335,17 +353,17 @@ pub fn load_link<L: Ledger>(
     ensures cost { steps.new ≡ steps.old + 1 }
 {
     match q {
-        Queue::Receive(_) => load_link_of::<L, true>(f, port, steps),
-        Queue::Free(_) => load_link_of::<L, false>(f, port, steps),
+        Queue::Receive(_) => load_link_of::<L, I, true>(f, port, steps),
+        Queue::Free(_) => load_link_of::<L, I, false>(f, port, steps),
     }
 }
 
 /// Exchanges the tail for 0 where it is the shadow head, which is then taken and was the last cell.
 ///
 /// Else another enqueue has exchanged the tail.
-pub fn drop_tail<L: Ledger>(
-    f: &Fabric,
-    port: &mut Port,
+pub fn drop_tail<L: Ledger, I: Item>(
+    f: &Fabric<I>,
+    port: &mut Port<I>,
     q: Queue,
     steps: &mut Steps<L>,
 ) -> Option<Cell>
@@ -362,17 +380,17 @@ pub fn drop_tail<L: Ledger>(
     ensures cost { steps.new ≡ steps.old + 1 }
 {
     match q {
-        Queue::Receive(_) => drop_tail_of::<L, true>(f, port, steps),
-        Queue::Free(_) => drop_tail_of::<L, false>(f, port, steps),
+        Queue::Receive(_) => drop_tail_of::<L, I, true>(f, port, steps),
+        Queue::Free(_) => drop_tail_of::<L, I, false>(f, port, steps),
     }
 }
 
 /// Loads the link of the shadow head once more, after the tail was found to be another cell.
 ///
 /// Zero is a miss, which `link_missing` counts: that enqueue has still to store the link.
-pub fn reload_link<L: Ledger>(
-    f: &Fabric,
-    port: &mut Port,
+pub fn reload_link<L: Ledger, I: Item>(
+    f: &Fabric<I>,
+    port: &mut Port<I>,
     q: Queue,
     steps: &mut Steps<L>,
 ) -> Option<Cell>
@@ -390,7 +408,7 @@ pub fn reload_link<L: Ledger>(
     ensures cost { steps.new ≡ steps.old + 1 }
 {
     match q {
-        Queue::Receive(_) => reload_link_of::<L, true>(f, port, steps),
-        Queue::Free(_) => reload_link_of::<L, false>(f, port, steps),
+        Queue::Receive(_) => reload_link_of::<L, I, true>(f, port, steps),
+        Queue::Free(_) => reload_link_of::<L, I, false>(f, port, steps),
     }
 }

@@ -1,7 +1,7 @@
 //! What a port tells of itself.
 
 ghost use Rattle.std.specs.Prelude.{◌≡◌, ◌≢◌, ◌+◌, ◌<◌, ◌↔◌, ◌^◌, IsTrue, Some, None};
-ghost use Rattle.std.specs.Prelude.{option_copied, slice_index, length};
+ghost use Rattle.std.specs.Prelude.{option_copied, slice_index, length, IfOk, IfErr};
 ghost use Rattle.nm_chain.specs.Update.{update};
 ghost use Rattle.nm_cells.specs.Counted.{peer_in};
 ghost use Rattle.nm_chain.specs.Rule.{put_to, from as from_rank};
@@ -12,9 +12,10 @@ ghost use Rattle.nm_cells.specs.Ports.{is_receive};
 use crate::cell::Queue;
 use crate::port::Port;
 use crate::tallies::{Tally, count_passed};
-use nm_types::{MAX_PACKETS, Packet};
+use nm_chain::table::{Item, Parcel};
+use nm_types::MAX_PACKETS;
 
-impl Port {
+impl<I: Item> Port<I> {
     // What is counted of a rank.
     pub(crate) fn peer(&self, rank: u8) -> Tally
         requires { rank < (knows self.now).ranks }
@@ -30,7 +31,7 @@ impl Port {
         self.rank
     }
 
-    /// How many packets were sent to a rank: the number of the next one.
+    /// How many parcels were sent to a rank: the number of the next one.
     pub fn sent(&self, to: u8) -> u64
         requires { to < (knows self.now).ranks }
         ensures { result ≡ sent_by self.now to }
@@ -38,7 +39,7 @@ impl Port {
         self.peer(to).sent
     }
 
-    /// How many packets of a rank were passed on: the number of the next one.
+    /// How many parcels of a rank were passed on: the number of the next one.
     pub fn taken(&self, from: u8) -> u64
         requires { from < (knows self.now).ranks }
         ensures { result ≡ taken_by self.now from }
@@ -46,7 +47,7 @@ impl Port {
         self.peer(from).taken
     }
 
-    /// Of the packets that were sent to a rank, how many went by box.
+    /// Of the parcels that were sent to a rank, how many went by box.
     pub fn box_put(&self, to: u8) -> u64
         requires { to < (knows self.now).ranks }
         ensures { result ≡ length (put_to to (knows self.now).put_box) }
@@ -54,7 +55,7 @@ impl Port {
         self.peer(to).box_put
     }
 
-    /// Of the packets that came from a rank, how many came by box.
+    /// Of the parcels that came from a rank, how many came by box.
     pub fn box_got(&self, from: u8) -> u64
         requires { from < (knows self.now).ranks }
         ensures { result ≡ length (from_rank from (knows self.now).got_box) }
@@ -62,7 +63,7 @@ impl Port {
         self.peer(from).box_got
     }
 
-    /// Whether one more packet may be sent to a rank: fewer than 2^60 were.
+    /// Whether one more parcel may be sent to a rank: fewer than 2^60 were.
     pub fn has_room(&self, to: u8) -> bool
         requires { to < (knows self.now).ranks }
         ensures { IsTrue result ↔ (sent_by self.now to < 2 ^ 60) }
@@ -70,7 +71,7 @@ impl Port {
         self.sent(to) < MAX_PACKETS
     }
 
-    /// How many packets the port took from its receive queue and didn't pass on. The count stands
+    /// How many parcels the port took from its receive queue and didn't pass on. The count stands
     /// still at its last value.
     pub fn unpassed(&self) -> u64
         ensures { result ≡ capped (unpassed_by self.now) }
@@ -140,48 +141,57 @@ impl Port {
         self.peer(from).box_miss
     }
 
-    /// The packet that the port holds.
-    pub fn held(&self) -> Option<&Packet>
+    /// The parcel that the port holds.
+    pub fn held(&self) -> Option<&Parcel<I>>
         ensures { option_copied result ≡ self.now.held }
     {
-        self.held.as_ref()
+        self.held.get()
     }
 
-    /// Holds a packet that came by cell and wasn't passed on. Nothing was held.
-    pub fn hold(&mut self, packet: Packet)
+    /// Holds a parcel that came by cell and wasn't passed on. Nothing was held. It answers the box of
+    /// memory that was kept for it, if there was one.
+    pub fn hold(&mut self, parcel: Box<Parcel<I>>) -> Option<Box<Parcel<I>>>
         requires nothing { self.old.held ≡ None }
-        requires unpassed { IsUnpassed self.old packet }
-        ensures held { self.new.held ≡ Some packet }
+        requires unpassed { IsUnpassed self.old parcel.value }
+        ensures held { self.new.held ≡ Some parcel.value }
         ensures same { (self.new.seat ≡ self.old.seat) × (self.new.rank ≡ self.old.rank)
             × (self.new.hands ≡ self.old.hands) × (self.new.peers ≡ self.old.peers)
             × (self.new.loose ≡ self.old.loose) }
     {
-        self.held = Some(packet);
+        self.held.fill(parcel)
     }
 
-    /// Gives the packet that was held, or `None` where nothing was.
-    pub fn unhold(&mut self) -> Option<Packet>
-        ensures value { result ≡ self.old.held }
+    /// Gives the parcel that was held, and keeps a box of memory for the next one, if it is given. That
+    /// comes back where nothing was held.
+    pub fn unhold(
+        &mut self,
+        spare: Option<Box<Parcel<I>>>,
+    ) -> Result<Box<Parcel<I>>, Option<Box<Parcel<I>>>>
+        ensures value { IfOk result (λ parcel. self.old.held ≡ Some parcel.value) }
+        ensures back { IfErr result (λ back. (back ≡ spare) × (self.old.held ≡ None)) }
         ensures nothing { self.new.held ≡ None }
         ensures same { (self.new.seat ≡ self.old.seat) × (self.new.rank ≡ self.old.rank)
             × (self.new.hands ≡ self.old.hands) × (self.new.peers ≡ self.old.peers)
             × (self.new.loose ≡ self.old.loose) }
     {
-        self.held.take()
+        if self.held.is_empty() {
+            return Err(spare);
+        }
+        Ok(self.held.take(spare))
     }
 
-    /// Passes a packet on: it came by cell, it isn't held, and it is the next one of its sender.
-    pub fn pass(&mut self, packet: &Packet)
-        requires unpassed { IsUnpassed self.old packet.now }
-        requires not_held { self.old.held ≢ Some packet.now }
-        requires next { packet.now.seq ≡ taken_by self.old packet.now.from }
-        ensures taken { taken_by self.new ≡ update (taken_by self.old) packet.now.from
-            (taken_by self.old packet.now.from + 1) }
+    /// Passes a parcel on: it came by cell, it isn't held, and it is the next one of its sender.
+    pub fn pass(&mut self, parcel: &Parcel<I>)
+        requires unpassed { IsUnpassed self.old parcel.now }
+        requires not_held { self.old.held ≢ Some parcel.now }
+        requires next { parcel.now.seq ≡ taken_by self.old parcel.now.from }
+        ensures taken { taken_by self.new ≡ update (taken_by self.old) parcel.now.from
+            (taken_by self.old parcel.now.from + 1) }
         ensures unpassed { unpassed_by self.new + 1 ≡ unpassed_by self.old }
         ensures same { (self.new.seat ≡ self.old.seat) × (self.new.rank ≡ self.old.rank)
             × (self.new.hands ≡ self.old.hands) × (self.new.held ≡ self.old.held)
             × (self.new.loose ≡ self.old.loose) }
     {
-        count_passed(&mut self.peers, packet.from as usize);
+        count_passed(&mut self.peers, parcel.from as usize);
     }
 }

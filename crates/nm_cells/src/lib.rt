@@ -15,7 +15,7 @@
 //!
 //! Each queue is a chain of cells with a head, a tail and links (`nm_chain`). Beside the cells each
 //! ordered pair of ranks has four fastboxes, of which the sender fills and the receiver empties the
-//! next one in turn; a flag is 0, or the number of the packet in its box plus 1. All words are
+//! next one in turn; a flag is 0, or the number of the parcel in its box plus 1. All words are
 //! atomic. Each call but `build`, `build_loose` and `close` makes at most one step on one word, and
 //! `steps` counts those steps.
 //!
@@ -24,7 +24,7 @@
 //! them (`Port::loose`).
 //!
 //! # What a contract sees
-//! What a port's seat knows (`knows`): the lists of packets that it put and got by cell and by box,
+//! What a port's seat knows (`knows`): the lists of parcels that it put and got by cell and by box,
 //! its shadow heads, its part in each cell, the boxes at work, its counts of misses, and what its
 //! last steps on its queues told of their first cells (`looks`). Beside that what each cell in hand
 //! holds (`holding`), which cells are loose (`IsLoose`), and what was sent (`sent_by`) and passed
@@ -40,14 +40,14 @@
 //!   in hand and what the cells in hand hold.
 //! - `loose` gives the port's lowest loose cell, empty and in hand from then on, or none exactly
 //!   where there is none. No other call touches a loose cell or changes which are loose.
-//! - A box that was found free is filled with the sender's next packet, and one that has the
-//!   awaited packet gives it. Where a packet came before one with a smaller number, the first that
+//! - A box that was found free is filled with the sender's next parcel, and one that has the
+//!   awaited parcel gives it. Where a parcel came before one with a smaller number, the first that
 //!   is missing is in the next box (`load_box_in`: `overtaken`).
 //! - After `close` what each rank got is the beginning of what was put for it, and where all came,
 //!   every cell is in its owner's free queue (clauses `paths`, `settled`, `home`). What each rank
-//!   passed on is the beginning of what was sent to it, by number, and where as many packets were
+//!   passed on is the beginning of what was sent to it, by number, and where as many parcels were
 //!   passed on as were sent, every cell is in its owner's free queue (`prefix`, `all_taken`).
-//! - A port's counts are those of its lists; a held packet is one that wasn't passed on.
+//! - A port's counts are those of its lists; a held parcel is one that wasn't passed on.
 #![tactic(auto)]
 
 mod boxes;

@@ -10,7 +10,7 @@ ghost use Rattle.nm_cells.specs.Ports.{Owns, SameTaken, knows, cells_of, IsLoose
 use crate::cell::Cell;
 use crate::port::{Fabric, Port};
 use crate::slots::carry;
-use nm_chain::table::{Picks, link_word};
+use nm_chain::table::{Item, Picks, link_word};
 
 /// The cells with numbers from `first` on and below `end`.
 #[derive(Clone, Copy)]
@@ -21,7 +21,7 @@ pub struct LooseCells {
 
 // Takes the slot of the port's next own cell, which no call has touched yet. It is loose from then
 // on.
-pub(crate) fn pick_up(f: &Fabric, port: &mut Port)
+pub(crate) fn pick_up<I: Item>(f: &Fabric<I>, port: &mut Port<I>)
     requires owns { Owns f.now port.old }
     requires low { port.old.loose.end < cells_of f.now }
     requires own { port.old.loose.end / f.now.each ≡ port.old.rank }
@@ -40,7 +40,7 @@ pub(crate) fn pick_up(f: &Fabric, port: &mut Port)
     port.loose.end += 1;
 }
 
-impl Port {
+impl<I: Item> Port<I> {
     /// Gives the port's lowest loose cell, which is empty and no longer loose, or `None` where the
     /// port has no loose cell. It makes no step on a word.
     pub fn loose(&mut self) -> Option<Cell>

@@ -9,13 +9,12 @@ ghost use Rattle.nm_cells.specs.LooseCells.{AreKept};
 
 use crate::loose::LooseCells;
 use crate::tallies::Tally;
-use nm_chain::table::{Board, BoardSeat, Heads, Misses};
-use nm_types::Packet;
+use nm_chain::table::{Board, BoardSeat, Heads, Item, Misses, Slot};
 
 /// The cells, boxes and queues that the ranks share.
 #[derive(Drop)]
-pub struct Fabric {
-    pub(crate) board: Board,
+pub struct Fabric<I: Item> {
+    pub(crate) board: Board<I>,
     pub(crate) ranks: u64,
     /// The cells of each rank.
     pub(crate) each: u64,
@@ -32,9 +31,9 @@ pub struct Fabric {
 
 /// The token of one rank. It has a seat of the fabric's table, and what its program has to remember
 /// of what the seat knows: the shadow heads, the counts, the slots in hand, the loose cells, and at
-/// most one held packet.
-pub struct Port {
-    pub(crate) seat: BoardSeat,
+/// most one held parcel.
+pub struct Port<I: Drop> {
+    pub(crate) seat: BoardSeat<I>,
     pub(crate) rank: u8,
     pub(crate) receive: Heads,
     pub(crate) free: Heads,
@@ -48,7 +47,7 @@ pub struct Port {
     pub(crate) hands: u32,
     /// What is counted of each rank.
     pub(crate) peers: Vec<Tally>,
-    pub(crate) held: Option<Packet>,
+    pub(crate) held: Slot<I>,
     pub(crate) loose: LooseCells,
     pub ghost alone: { Alone seat.me },
     pub ghost named: { (mine seat.me).rank ≡ rank },
@@ -65,7 +64,7 @@ pub struct Port {
     pub ghost kept: { AreKept loose (mine seat.me) seat.me.1 },
 }
 
-impl Drop for Port {
+impl<I: Drop> Drop for Port<I> {
     fn drop(self) {
         let Port {
             seat: _,
@@ -83,9 +82,9 @@ impl Drop for Port {
     }
 }
 
-impl Port {
+impl<I: Item> Port<I> {
     /// The seat and the counts, of a port that is spent.
-    pub(crate) fn into_parts(self) -> (BoardSeat, Vec<Tally>)
+    pub(crate) fn into_parts(self) -> (BoardSeat<I>, Vec<Tally>)
         ensures { (result.0 ≡ self.seat) × (result.1 ≡ self.peers) }
     {
         let Port {

@@ -13,10 +13,10 @@ use crate::port::{Fabric, Port};
 use crate::slots::bring_cell;
 use crate::tallies::{Tally, count_sent};
 use nm_chain::seats::Steps;
-use nm_chain::table::{Clears, Finishes, Swaps, head_word, link_word, tail_word};
+use nm_chain::table::{Clears, Finishes, Item, Swaps, head_word, link_word, tail_word};
 use std::sync::ledger::Ledger;
 
-impl Fabric {
+impl<I: Item> Fabric<I> {
     // The number of a queue: the receive queues come first.
     fn number_of(&self, q: Queue) -> u64
         requires { rank_of_queue q < self.now.ranks }
@@ -30,7 +30,7 @@ impl Fabric {
     }
 }
 
-// A packet is sent where the queue is a receive queue.
+// A parcel is sent where the queue is a receive queue.
 fn count_put(peers: &mut Vec<Tally>, q: Queue)
     requires { HasRoomFor q peers.old.items }
     ensures { peers.new.items ≡ sent_into q peers.old.items }
@@ -41,7 +41,12 @@ fn count_put(peers: &mut Vec<Tally>, q: Queue)
 }
 
 /// Stores 0 in the link of a cell in hand, which is ready from then on with what it holds.
-pub fn clear_link<L: Ledger>(f: &Fabric, port: &mut Port, cell: &Cell, steps: &mut Steps<L>)
+pub fn clear_link<L: Ledger, I: Item>(
+    f: &Fabric<I>,
+    port: &mut Port<I>,
+    cell: &Cell,
+    steps: &mut Steps<L>,
+)
     requires owns { Owns f.now port.old }
     requires in_hand { HasCell f.now port.old cell.now }
     ensures stays { Stays f.now port.old port.new }
@@ -59,10 +64,10 @@ pub fn clear_link<L: Ledger>(f: &Fabric, port: &mut Port, cell: &Cell, steps: &m
 }
 
 /// Exchanges the tail of a queue for a cell that is ready. The cell is the queue's last one from
-/// then on, and where it is a receive queue, its packet is sent.
-pub fn swap_tail<L: Ledger>(
-    f: &Fabric,
-    port: &mut Port,
+/// then on, and where it is a receive queue, its parcel is sent.
+pub fn swap_tail<L: Ledger, I: Item>(
+    f: &Fabric<I>,
+    port: &mut Port<I>,
     q: Queue,
     cell: Cell,
     steps: &mut Steps<L>,
@@ -100,7 +105,12 @@ pub fn swap_tail<L: Ledger>(
 }
 
 /// Stores the head of a queue that was empty. The enqueue is done.
-pub fn store_head<L: Ledger>(f: &Fabric, port: &mut Port, enqueue: Pending, steps: &mut Steps<L>)
+pub fn store_head<L: Ledger, I: Item>(
+    f: &Fabric<I>,
+    port: &mut Port<I>,
+    enqueue: Pending,
+    steps: &mut Steps<L>,
+)
     requires owns { Owns f.now port.old }
     requires awaits { Awaits f.now port.old enqueue × (enqueue.found ≡ 0) }
     ensures stays { Stays f.now port.old port.new }
@@ -123,7 +133,12 @@ pub fn store_head<L: Ledger>(f: &Fabric, port: &mut Port, enqueue: Pending, step
 }
 
 /// Stores the link of the cell that was at the tail. The enqueue is done.
-pub fn store_link<L: Ledger>(f: &Fabric, port: &mut Port, enqueue: Pending, steps: &mut Steps<L>)
+pub fn store_link<L: Ledger, I: Item>(
+    f: &Fabric<I>,
+    port: &mut Port<I>,
+    enqueue: Pending,
+    steps: &mut Steps<L>,
+)
     requires owns { Owns f.now port.old }
     requires awaits { Awaits f.now port.old enqueue × (0 < enqueue.found) }
     ensures stays { Stays f.now port.old port.new }

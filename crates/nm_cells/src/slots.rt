@@ -12,8 +12,7 @@ ghost use Rattle.nm_cells.specs.Ports.{Owns, Stays, HasCell, knows, slots, holdi
 
 use crate::cell::Cell;
 use crate::port::{Fabric, Port};
-use nm_chain::table::{Board, BoardSeat};
-use nm_types::Packet;
+use nm_chain::table::{Board, BoardSeat, Item, Parcel};
 
 // One more slot is in hand.
 pub(crate) fn carry(carried: &mut Vec<u64>, slot: u64)
@@ -28,7 +27,7 @@ pub(crate) fn carry(carried: &mut Vec<u64>, slot: u64)
 
 // Brings a slot that the seat has taken to the front. Where it stands there already, as the only
 // slot in hand does, nothing is done.
-fn bring(seat: &mut BoardSeat, carried: &mut Vec<u64>, slot: u64)
+fn bring<I: Item>(seat: &mut BoardSeat<I>, carried: &mut Vec<u64>, slot: u64)
     requires same { map (λ x. x.0) seat.old.me.1 ≡ carried.old.items }
     requires there { (k : ℕ) × (k < length carried.old.items) × (slice_index carried.old.items k
         ≡ slot) }
@@ -53,7 +52,7 @@ fn bring(seat: &mut BoardSeat, carried: &mut Vec<u64>, slot: u64)
 }
 
 // Brings a slot that the port has taken once to the front.
-pub(crate) fn bring_slot(port: &mut Port, slot: u64)
+pub(crate) fn bring_slot<I: Item>(port: &mut Port<I>, slot: u64)
     requires once { times slot (map (λ x. x.0) (slots port.old)) ≡ 1 }
     ensures seat { (port.new.seat.table_id ≡ port.old.seat.table_id)
         × (port.new.seat.me.0 ≡ port.old.seat.me.0) }
@@ -67,7 +66,7 @@ pub(crate) fn bring_slot(port: &mut Port, slot: u64)
 }
 
 // Brings the slot of a cell in hand to the front.
-pub(crate) fn bring_cell(port: &mut Port, number: u64)
+pub(crate) fn bring_cell<I: Item>(port: &mut Port<I>, number: u64)
     requires low { number < length (knows port.old).hands }
     requires in_hand { InHand (hand (knows port.old) number) }
     ensures seat { (port.new.seat.table_id ≡ port.old.seat.table_id)
@@ -81,54 +80,75 @@ pub(crate) fn bring_cell(port: &mut Port, number: u64)
     bring_slot(port, number);
 }
 
-// Puts a packet into the slot that was taken last, in its place there.
-pub(crate) fn fill_slot(board: &Board, seat: &mut BoardSeat, slot: usize, packet: &Packet)
+// Puts a parcel into the slot that was taken last. It answers the box that was kept there.
+pub(crate) fn fill_slot<I: Item>(
+    board: &Board<I>,
+    seat: &mut BoardSeat<I>,
+    slot: usize,
+    parcel: Box<Parcel<I>>,
+) -> Option<Box<Parcel<I>>>
     requires front { (seat.old.table_id ≡ board.now.shared.table_id)
-        × ((old : Load) × (seat.old.me.1 ≡ (slot, old) ∷ rest seat.old.me.1)) }
+        × ((old : Load I) × (seat.old.me.1 ≡ (slot, old) ∷ rest seat.old.me.1)) }
     ensures seat { (seat.new.table_id ≡ seat.old.table_id) × (seat.new.id ≡ seat.old.id) }
-    ensures filled { seat.new.me ≡ (seat.old.me.0, (slot, Some packet.now) ∷ rest seat.old.me.1) }
+    ensures filled { seat.new.me ≡ (seat.old.me.0, (slot, Some parcel.value) ∷ rest seat.old.me.1) }
 {
-    seat.slot_mut(&board.shared, slot).fill(packet);
+    seat.slot_mut(&board.shared, slot).fill(parcel)
 }
 
-// Takes the packet out of the slot that was taken last, into a place of the caller's.
-pub(crate) fn empty_slot(board: &Board, seat: &mut BoardSeat, slot: usize, into: &mut Packet)
+// Takes the parcel out of the slot that was taken last, and leaves a box there, if one is given.
+pub(crate) fn empty_slot<I: Item>(
+    board: &Board<I>,
+    seat: &mut BoardSeat<I>,
+    slot: usize,
+    spare: Option<Box<Parcel<I>>>,
+) -> Box<Parcel<I>>
     requires front { (seat.old.table_id ≡ board.now.shared.table_id)
-        × ((old : Load) × (seat.old.me.1 ≡ (slot, old) ∷ rest seat.old.me.1)) }
+        × ((old : Load I) × (seat.old.me.1 ≡ (slot, old) ∷ rest seat.old.me.1)) }
     requires full { IsSome (first_load seat.old.me.1) }
     ensures seat { (seat.new.table_id ≡ seat.old.table_id) × (seat.new.id ≡ seat.old.id) }
-    ensures packet { seat.old.me.1 ≡ (slot, Some into.new) ∷ rest seat.old.me.1 }
+    ensures parcel { seat.old.me.1 ≡ (slot, Some result.value) ∷ rest seat.old.me.1 }
     ensures emptied { seat.new.me ≡ (seat.old.me.0, (slot, None) ∷ rest seat.old.me.1) }
 {
-    seat.slot_mut(&board.shared, slot).take(into);
+    seat.slot_mut(&board.shared, slot).take(spare)
 }
 
-/// Puts a packet into an empty cell in hand.
-pub fn put_in(f: &Fabric, port: &mut Port, cell: &Cell, packet: &Packet)
+/// Puts a parcel into an empty cell in hand. It answers the box that the cell kept, if there was one.
+pub fn put_in<I: Item>(
+    f: &Fabric<I>,
+    port: &mut Port<I>,
+    cell: &Cell,
+    parcel: Box<Parcel<I>>,
+) -> Option<Box<Parcel<I>>>
     requires owns { Owns f.now port.old }
     requires in_hand { HasCell f.now port.old cell.now }
     requires empty { holding port.old cell.now.number ≡ None }
     ensures stays { Stays f.now port.old port.new × (knows port.new ≡ knows port.old) }
     ensures hands { port.new.hands ≡ port.old.hands }
     ensures filled { holding port.new
-        ≡ update (holding port.old) cell.now.number (Some packet.now) }
+        ≡ update (holding port.old) cell.now.number (Some parcel.value) }
 {
     bring_cell(port, cell.number);
     let slot = cell.number as usize;
-    fill_slot(&f.board, &mut port.seat, slot, packet);
+    fill_slot(&f.board, &mut port.seat, slot, parcel)
 }
 
-/// Takes the packet out of a cell in hand, which is empty from then on.
-pub fn take_out(f: &Fabric, port: &mut Port, cell: &Cell, into: &mut Packet)
+/// Takes the parcel out of a cell in hand, and leaves a box of memory there, if one is given. The cell is
+/// empty from then on.
+pub fn take_out<I: Item>(
+    f: &Fabric<I>,
+    port: &mut Port<I>,
+    cell: &Cell,
+    spare: Option<Box<Parcel<I>>>,
+) -> Box<Parcel<I>>
     requires owns { Owns f.now port.old }
     requires in_hand { HasCell f.now port.old cell.now }
     requires full { IsSome (holding port.old cell.now.number) }
     ensures stays { Stays f.now port.old port.new × (knows port.new ≡ knows port.old) }
-    ensures packet { holding port.old cell.now.number ≡ Some into.new }
+    ensures parcel { holding port.old cell.now.number ≡ Some result.value }
     ensures hands { port.new.hands ≡ port.old.hands }
     ensures emptied { holding port.new ≡ update (holding port.old) cell.now.number None }
 {
     bring_cell(port, cell.number);
     let slot = cell.number as usize;
-    empty_slot(&f.board, &mut port.seat, slot, into);
+    empty_slot(&f.board, &mut port.seat, slot, spare)
 }

@@ -10,9 +10,9 @@ use nm_chain::table::one_more;
 /// What a port counts of one rank, which may be its own.
 #[derive(Clone, Copy)]
 pub struct Tally {
-    /// The packets that were sent to it: the number of the next one.
+    /// The parcels that were sent to it: the number of the next one.
     pub sent: u64,
-    /// The packets of it that were passed on: the number of the next one.
+    /// The parcels of it that were passed on: the number of the next one.
     pub taken: u64,
     /// Of those that were sent to it, the ones that went by box.
     pub box_put: u64,
@@ -20,7 +20,7 @@ pub struct Tally {
     pub box_got: u64,
     /// Whether its next box was found free and isn't filled since.
     pub filling: bool,
-    /// Whether a packet was found in its next box and isn't taken since.
+    /// Whether a parcel was found in its next box and isn't taken since.
     pub emptying: bool,
     /// Those that came from it by cell and weren't passed on.
     pub unpassed: u64,
@@ -59,7 +59,7 @@ impl Tally {
     }
 }
 
-/// One more packet was sent to a rank by cell.
+/// One more parcel was sent to a rank by cell.
 pub(crate) fn count_sent(peers: &mut Vec<Tally>, to: usize)
     requires to { to < length peers.old.items }
     requires room { (peer_in peers.old.items to).sent < 2 ^ 60 }
@@ -68,7 +68,7 @@ pub(crate) fn count_sent(peers: &mut Vec<Tally>, to: usize)
     peers[to].sent += 1;
 }
 
-/// One more packet of a rank came by cell.
+/// One more parcel of a rank came by cell.
 pub(crate) fn count_arrived(peers: &mut Vec<Tally>, sender: usize)
     requires sender { sender < length peers.old.items }
     requires room { (peer_in peers.old.items sender).unpassed < 2 ^ 61 }
@@ -77,7 +77,7 @@ pub(crate) fn count_arrived(peers: &mut Vec<Tally>, sender: usize)
     peers[sender].unpassed += 1;
 }
 
-/// One more packet was sent to a rank by box.
+/// One more parcel was sent to a rank by box.
 pub(crate) fn count_boxed(peers: &mut Vec<Tally>, to: usize)
     requires to { to < length peers.old.items }
     requires room { (peer_in peers.old.items to).sent < 2 ^ 60 }
@@ -90,7 +90,7 @@ pub(crate) fn count_boxed(peers: &mut Vec<Tally>, to: usize)
     peer.filling = false;
 }
 
-/// One more packet of a rank came by box, and was passed on.
+/// One more parcel of a rank came by box, and was passed on.
 pub(crate) fn count_unboxed(peers: &mut Vec<Tally>, sender: usize)
     requires sender { sender < length peers.old.items }
     requires room { (peer_in peers.old.items sender).taken < 2 ^ 60 }
@@ -137,7 +137,7 @@ pub(crate) fn count_miss(peers: &mut Vec<Tally>, sender: usize)
     peer.box_miss = one_more(peer.box_miss);
 }
 
-/// A packet of a rank that came by cell was passed on.
+/// A parcel of a rank that came by cell was passed on.
 pub(crate) fn count_passed(peers: &mut Vec<Tally>, sender: usize)
     requires sender { sender < length peers.old.items }
     requires room { (peer_in peers.old.items sender).taken < 2 ^ 60 }

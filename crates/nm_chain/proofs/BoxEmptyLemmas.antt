@@ -1,5 +1,5 @@
 -- What a receiver's steps on a box make of the words, slots and entries, and that they keep the rule.
-use Rattle.std.proofs.Common.{◌≡◌, ◌≢◌, ℕ, suc, ◌+◌, ◌*◌, ◌%◌, ◌<◌, Option}
+use Rattle.std.proofs.Common.{Bool, ◌≡◌, ◌≢◌, ℕ, suc, ◌+◌, ◌*◌, ◌%◌, ◌<◌, Option}
 use Rattle.std.proofs.Common.{Some, None, List, [], ◌∷◌, ◌++◌, map, length, set, sym, refl, ap, ◌∙◌}
 use Rattle.std.proofs.Common.{inl, subst, arith, length-set, get_or-set_other}
 use Rattle.std.proofs.Common.{append-nil}
@@ -34,7 +34,8 @@ use Rattle.nm_chain.proofs.BoxLemmas.{slot_low, turn_along, lids_but, in_four, w
 use Rattle.nm_chain.proofs.BoxLemmas.{box_homes, box_words, box_home, box_word}
 use Rattle.nm_chain.proofs.SeatLemmas.{knows_else, own, own_told, ruled}
 
-module _ (key : Sizes) (slots id : ℕ) (e : Entry) (low : e.rank < key.ranks) (peer : ℕ)
+module _ {A : Type 0} (boxable : A → Bool) (key : Sizes) (slots id : ℕ) (e : Entry A)
+    (low : e.rank < key.ranks) (peer : ℕ)
     (few : peer < key.ranks) where
   abbrev pub n : ℕ
   n = key.ranks
@@ -46,24 +47,24 @@ module _ (key : Sizes) (slots id : ℕ) (e : Entry) (low : e.rank < key.ranks) (
   abbrev pub in_slot : ℕ
   in_slot = box_slot n m peer e.rank (length (from peer e.got_box) % 4)
 
-  module _ (s : State Load (View Entry)) (R : Rule key s)
+  module _ (s : State (Load A) (View (Entry A))) (R : Rule boxable key s)
       (at : get_elem? s.views id ≡ maybe.some (view (e ∷ []))) where
     abbrev pub k : Agrees n m R.world e.rank e
     k = own key s R id e at low
 
-    abbrev pub w : World
+    abbrev pub w : World A
     w = R.world
 
     -- the boxes from the other rank, as the entry has them
-    abbrev pub InLane : (ℕ → ℕ) → (ℕ → maybe.Option (maybe.Option Load)) → Option Load → List Load
-        → List Load → Type 0
-    InLane flag slot x gots waits = Window 4 None mark (GoesByBox peer) flag slot
+    abbrev pub InLane : (ℕ → ℕ) → (ℕ → maybe.Option (maybe.Option (Load A))) → Option (Load A) → List (Load A)
+        → List (Load A) → Type 0
+    InLane flag slot x gots waits = Window 4 None mark (GoesByBox boxable peer) flag slot
         (w.filling peer e.rank) x (put_to e.rank (w.put_box peer)) gots waits
 
     abbrev pub in_flag : ℕ → ℕ
     in_flag t = slice_index s.words (4 * n + box_slot n m peer e.rank t)
 
-    abbrev pub in_home : ℕ → maybe.Option (maybe.Option Load)
+    abbrev pub in_home : ℕ → maybe.Option (maybe.Option (Load A))
     in_home t = get_elem? s.homes (box_slot n m peer e.rank t)
 
     pub in_lane : InLane in_flag in_home (emptying_of e peer) (from peer e.got_box)
@@ -73,8 +74,8 @@ module _ (key : Sizes) (slots id : ℕ) (e : Entry) (low : e.rank < key.ranks) (
         (subst (λ u. InLane in_flag in_home (w.emptying peer e.rank) (from peer u)
         (w.waits peer e.rank)) (sym k.got_box) (R.boxes peer e.rank few low))
 
-    -- the entry with another packet that is being taken
-    pub emptying_shown : (x : Option Load) (w' : World) → w'.place ≡ w.place → w'.heads ≡ w.heads
+    -- the entry with another parcel that is being taken
+    pub emptying_shown : (x : Option (Load A)) (w' : World A) → w'.place ≡ w.place → w'.heads ≡ w.heads
         → w'.put ≡ w.put → w'.got ≡ w.got → w'.put_box ≡ w.put_box → w'.got_box ≡ w.got_box
         → w'.filling ≡ w.filling → w'.emptying peer e.rank ≡ x
         → ((l : ℕ) → l ≢ peer → w'.emptying l e.rank ≡ w.emptying l e.rank)
@@ -119,46 +120,46 @@ module _ (key : Sizes) (slots id : ℕ) (e : Entry) (low : e.rank < key.ranks) (
       emptying = k.emptying;
     }
 
-    -- the receiver finds a packet
-    pub in_starts : (a : ℕ) → in_flag (length (from peer e.got_box) % 4) ≡ suc a → (y : Load)
-        × (ys : List Load) × (w.waits peer e.rank ≡ y ∷ ys) × (number y ≡ a) × (sender y ≡ suc peer)
+    -- the receiver finds a parcel
+    pub in_starts : (a : ℕ) → in_flag (length (from peer e.got_box) % 4) ≡ suc a → (y : Load A)
+        × (ys : List (Load A)) × (w.waits peer e.rank ≡ y ∷ ys) × (number y ≡ a) × (sender y ≡ suc peer)
     in_starts a found = let some : 0 < in_flag (length (from peer e.got_box) % 4) =
         omega (arith, found) in
-        let f = windows.first_where_marked 4 None mark (GoesByBox peer)
+        let f = windows.first_where_marked 4 None mark (GoesByBox boxable peer)
         (omega arith) marked in_flag in_home (put_to e.rank (w.put_box peer))
         (from peer e.got_box) (w.waits peer e.rank) (w.filling peer e.rank)
         (emptying_of e peer) in_lane some (w.waits peer e.rank) refl in
-        let same : suc (number f.0) ≡ suc a = sym f.3 ∙ found in (f.0, f.1, f.2, omega arith, f.4.0)
+        let same : suc (number f.0) ≡ suc a = sym f.3 ∙ found in (f.0, f.1, f.2, omega arith, f.4.sent)
 
     -- what the receiver is taking is first in the boxes
-    pub in_first : (z : Load) → emptying_of e peer ≡ Some z → (ys : List Load)
+    pub in_first : (z : Load A) → emptying_of e peer ≡ Some z → (ys : List (Load A))
         × (w.waits peer e.rank ≡ z ∷ ys)
         × (in_flag (length (from peer e.got_box) % 4) ≡ suc (number z)) × (sender z ≡ suc peer)
     in_first z is = let f = in_lane.first z is in (
       f.0,
       f.1,
-      windows.first_is_marked 4 None mark (GoesByBox peer)
+      windows.first_is_marked 4 None mark (GoesByBox boxable peer)
           (omega arith) marked in_flag in_home (put_to e.rank (w.put_box peer))
           (from peer e.got_box) (w.waits peer e.rank) (w.filling peer e.rank)
           (emptying_of e peer) in_lane z f.0 f.1,
-      (in_lane.full 0 z (ap (λ l. get_elem? l 0) f.1)).0.0,
+      (in_lane.full 0 z (ap (λ l. get_elem? l 0) f.1)).0.sent,
     )
 
-    pub full_home : (y : Load) (ys : List Load) → emptying_of e peer ≡ None
+    pub full_home : (y : Load A) (ys : List (Load A)) → emptying_of e peer ≡ None
         → w.waits peer e.rank ≡ y ∷ ys → get_elem? s.homes in_slot ≡ maybe.some (maybe.some y)
-    full_home y ys shut is = windows.full_slot_is_home 4 None mark (GoesByBox peer)
+    full_home y ys shut is = windows.full_slot_is_home 4 None mark (GoesByBox boxable peer)
         (omega arith) marked in_flag in_home (put_to e.rank (w.put_box peer)) (from peer e.got_box)
         (w.waits peer e.rank) (w.filling peer e.rank)
         (subst (λ x. InLane in_flag in_home x (from peer e.got_box) (w.waits peer e.rank)) shut
         in_lane) y ys is
 
     -- the receiver takes its slot
-    abbrev after_begin : Load → World
+    abbrev after_begin : Load A → World A
     after_begin y = record w { emptying = update2 w.emptying peer e.rank (Some y) }
 
-    pub begin_ruled : (y : Load) (ys : List Load) → emptying_of e peer ≡ None
+    pub begin_ruled : (y : Load A) (ys : List (Load A)) → emptying_of e peer ≡ None
         → w.waits peer e.rank ≡ y ∷ ys
-        → Rule key record {
+        → Rule boxable key record {
           words = s.words;
           homes = set s.homes in_slot maybe.none;
           views =
@@ -169,7 +170,7 @@ module _ (key : Sizes) (slots id : ℕ) (e : Entry) (low : e.rank < key.ranks) (
         let homes' = set s.homes in_slot maybe.none in let w' = after_begin y in
         let lane = subst (λ x. InLane in_flag in_home x (from peer e.got_box) (w.waits peer e.rank))
         shut in_lane in
-        let new = windows.consumer_opens 4 None mark (GoesByBox peer)
+        let new = windows.consumer_opens 4 None mark (GoesByBox boxable peer)
         (omega arith) marked in_flag in_home (put_to e.rank (w.put_box peer))
         (from peer e.got_box) (w.waits peer e.rank) (w.filling peer e.rank) lane y ys is
         (λ u. get_elem? homes' (box_slot n m peer e.rank u))
@@ -200,7 +201,7 @@ module _ (key : Sizes) (slots id : ℕ) (e : Entry) (low : e.rank < key.ranks) (
         (λ i. update2_else w.emptying peer e.rank (Some y) i r (λ q. ne q.1)))
 
     -- the receiver empties the box, where all smaller numbers came
-    abbrev after_empty : Load → List Load → World
+    abbrev after_empty : Load A → List (Load A) → World A
     after_empty y ys = record w {
       got_box =
           update w.got_box e.rank (w.got_box e.rank ++ y ∷ []);
@@ -209,7 +210,7 @@ module _ (key : Sizes) (slots id : ℕ) (e : Entry) (low : e.rank < key.ranks) (
       waits = update2 w.waits peer e.rank ys;
     }
 
-    got_here_from : (y : Load) → sender y ≡ suc peer
+    got_here_from : (y : Load A) → sender y ≡ suc peer
         → from peer (update w.got_box e.rank (w.got_box e.rank ++ y ∷ []) e.rank) ≡ from peer
         (w.got_box e.rank) ++ y ∷ []
     got_here_from y is = ap (from peer)
@@ -217,7 +218,7 @@ module _ (key : Sizes) (slots id : ℕ) (e : Entry) (low : e.rank < key.ranks) (
         ∙ from_append peer (w.got_box e.rank) (y ∷ []) ∙ ap (λ u. from peer (w.got_box e.rank) ++ u)
         (pick_yes (ℕ_discrete (sender y) (suc peer)) (y ∷ []) [] is)
 
-    got_else_from : (y : Load) → sender y ≡ suc peer → (i j : ℕ) → ¬ ((i ≡ peer) × (j ≡ e.rank))
+    got_else_from : (y : Load A) → sender y ≡ suc peer → (i j : ℕ) → ¬ ((i ≡ peer) × (j ≡ e.rank))
         → from i (update w.got_box e.rank (w.got_box e.rank ++ y ∷ []) j) ≡ from i (w.got_box j)
     got_else_from y is i j ne = let more = w.got_box e.rank ++ y ∷ [] in dite (ℕ_discrete j e.rank)
         (λ ej. ap (from i) (update_here w.got_box e.rank more j ej)
@@ -234,7 +235,7 @@ module _ (key : Sizes) (slots id : ℕ) (e : Entry) (low : e.rank < key.ranks) (
         k.got_box (subst (λ g. Got (map number (from peer e.got_box)) (map number (from peer g)) u)
         k.got (all u less))
 
-    empty_turns : (y : Load) (ys : List Load) → w.waits peer e.rank ≡ y ∷ ys → sender y ≡ suc peer
+    empty_turns : (y : Load A) (ys : List (Load A)) → w.waits peer e.rank ≡ y ∷ ys → sender y ≡ suc peer
         → plays.AllBelow e peer (number y) → AllInSequence n (after_empty y ys)
     empty_turns y ys is from_peer all i j li lj = let old = R.turns i j li lj in
         let more = w.got_box e.rank ++ y ∷ [] in let waits' = update2 w.waits peer e.rank ys in
@@ -277,8 +278,8 @@ module _ (key : Sizes) (slots id : ℕ) (e : Entry) (low : e.rank < key.ranks) (
         (λ nj. else (λ q. nj q.1)))
         (λ ni. else (λ q. ni q.0))
 
-    pub empty_ruled : (y : Load) → emptying_of e peer ≡ Some y → plays.AllBelow e peer (number y)
-        → Rule key record {
+    pub empty_ruled : (y : Load A) → emptying_of e peer ≡ Some y → plays.AllBelow e peer (number y)
+        → Rule boxable key record {
           words = set s.words (4 * n + in_slot) 0;
           homes =
               set s.homes in_slot (maybe.some None);
@@ -294,9 +295,9 @@ module _ (key : Sizes) (slots id : ℕ) (e : Entry) (low : e.rank < key.ranks) (
         let lane = subst (λ x. InLane in_flag in_home x (from peer e.got_box)
         (w.waits peer e.rank)) at_work in_lane in
         let flag' : ℕ → ℕ = λ u. slice_index words' (4 * n + box_slot n m peer e.rank u) in
-        let home' : ℕ → maybe.Option (maybe.Option Load) =
+        let home' : ℕ → maybe.Option (maybe.Option (Load A)) =
         λ u. get_elem? homes' (box_slot n m peer e.rank u) in
-        let new = windows.consumer_empties 4 None mark (GoesByBox peer)
+        let new = windows.consumer_empties 4 None mark (GoesByBox boxable peer)
         (omega arith) marked in_flag in_home (put_to e.rank (w.put_box peer))
         (from peer e.got_box) (w.waits peer e.rank) (w.filling peer e.rank) y ys lane f.1 flag'
         home'
@@ -358,7 +359,7 @@ module _ (key : Sizes) (slots id : ℕ) (e : Entry) (low : e.rank < key.ranks) (
         (λ i. update2_else w.emptying peer e.rank None i r (λ q. ne q.1)))
 
     -- what the receiver is taking is new
-    pub not_come : (y : Load) → emptying_of e peer ≡ Some y → ¬ plays.Came e peer (number y)
+    pub not_come : (y : Load A) → emptying_of e peer ≡ Some y → ¬ plays.Came e peer (number y)
     not_come y at_work = let f = in_first y at_work in
         let st = sent_to e.rank (w.put_box peer) (w.put peer) in
         let ch = map number (from peer (loads (w.chain e.rank))) in
@@ -372,7 +373,7 @@ module _ (key : Sizes) (slots id : ℕ) (e : Entry) (low : e.rank < key.ranks) (
         (map number (from peer g)) (number y)) (sym k.got) new)
 
     -- what is overdue has come
-    pub overdue : (a : ℕ) → plays.Overdue e peer a → (xs : List Load) → w.waits peer e.rank ≡ xs
+    pub overdue : (a : ℕ) → plays.Overdue e peer a → (xs : List (Load A)) → w.waits peer e.rank ≡ xs
         → in_flag (length (from peer e.got_box) % 4) ≡ suc a
     overdue a o xs is = let turn =
         subst (λ g. InSequence (sent_to e.rank (w.put_box peer) (w.put peer))
@@ -386,7 +387,7 @@ module _ (key : Sizes) (slots id : ℕ) (e : Entry) (low : e.rank < key.ranks) (
         by_waits xs is (subst (λ u. InSequence (sent_to e.rank (w.put_box peer) (w.put peer))
         (map number (from peer e.got_box)) (map number u) (map number (from peer e.got))
         (map number (from peer (loads (w.chain e.rank))))) is turn') where
-          by_waits : (xs : List Load) → w.waits peer e.rank ≡ xs
+          by_waits : (xs : List (Load A)) → w.waits peer e.rank ≡ xs
               → InSequence (sent_to e.rank (w.put_box peer) (w.put peer))
               (map number (from peer e.got_box)) (map number xs) (map number (from peer e.got))
               (map number (from peer (loads (w.chain e.rank))))
@@ -394,7 +395,7 @@ module _ (key : Sizes) (slots id : ℕ) (e : Entry) (low : e.rank < key.ranks) (
           by_waits [] is t = absurd (missing_in_box (sent_to e.rank (w.put_box peer) (w.put peer))
               (map number (from peer e.got_box)) [] (map number (from peer e.got))
               (map number (from peer (loads (w.chain e.rank)))) t a o.1.0.0 o.1.0.1 o.1.0.2 o.1.1)
-          by_waits (y ∷ ys) is t = windows.first_is_marked 4 None mark (GoesByBox peer)
+          by_waits (y ∷ ys) is t = windows.first_is_marked 4 None mark (GoesByBox boxable peer)
               (omega arith) marked in_flag in_home (put_to e.rank (w.put_box peer))
               (from peer e.got_box) (w.waits peer e.rank) (w.filling peer e.rank)
               (emptying_of e peer) in_lane y ys is

@@ -1,5 +1,5 @@
 -- What a sender's steps on a box make of the words, slots and entries, and that they keep the rule.
-use Rattle.std.proofs.Common.{◌≡◌, ◌≢◌, ℕ, suc, ◌+◌, ◌*◌, ◌%◌, ◌<◌, ◌≤◌, Bool, true, false}
+use Rattle.std.proofs.Common.{◌≡◌, ◌≢◌, ℕ, suc, ◌+◌, ◌*◌, ◌%◌, ◌<◌, Bool, true, false}
 use Rattle.std.proofs.Common.{None, List, [], ◌∷◌, ◌++◌, map, length, set, sym, refl, ap, ◌∙◌}
 use Rattle.std.proofs.Common.{inl, subst, arith, length-set, get_or-set_other}
 use Rattle.std.proofs.Common.{append-nil, length-append}
@@ -20,8 +20,7 @@ use Rattle.nm_chain.specs.Window.{Window}
 use Rattle.nm_chain.proofs.WindowLemmas as windows
 use Rattle.nm_types.specs.Sizes.{Sizes}
 use Rattle.nm_chain.specs.declared.table.table.Entry.{Entry}
-use Rattle.nm_types.specs.declared.limits.TheConstants.{MAX_BOX}
-use Rattle.nm_chain.specs.Rule.{GoesByBox, size}
+use Rattle.nm_chain.specs.Rule.{GoesByBox, IsShort}
 use Rattle.nm_chain.specs.Rule.{Load, World, Agrees, put_to, sender, from, number, sent_to, loads}
 use Rattle.nm_chain.specs.Rule.{box_slot, filling_of, AllInSequence, Rule, mark}
 use Rattle.nm_chain.specs.Plays as plays
@@ -33,7 +32,8 @@ use Rattle.nm_chain.proofs.BoxLemmas.{slot_low, turn_along, lids_but, in_four, w
 use Rattle.nm_chain.proofs.BoxLemmas.{box_homes, box_words, box_home, box_word}
 use Rattle.nm_chain.proofs.SeatLemmas.{knows_else, own, own_told, ruled}
 
-module _ (key : Sizes) (slots id : ℕ) (e : Entry) (low : e.rank < key.ranks) (peer : ℕ)
+module _ {A : Type 0} (boxable : A → Bool) (key : Sizes) (slots id : ℕ) (e : Entry A)
+    (low : e.rank < key.ranks) (peer : ℕ)
     (few : peer < key.ranks) where
   abbrev pub n : ℕ
   n = key.ranks
@@ -45,24 +45,24 @@ module _ (key : Sizes) (slots id : ℕ) (e : Entry) (low : e.rank < key.ranks) (
   abbrev pub out_slot : ℕ
   out_slot = box_slot n m e.rank peer (length (put_to peer e.put_box) % 4)
 
-  module _ (s : State Load (View Entry)) (R : Rule key s)
+  module _ (s : State (Load A) (View (Entry A))) (R : Rule boxable key s)
       (at : get_elem? s.views id ≡ maybe.some (view (e ∷ []))) where
     abbrev pub k : Agrees n m R.world e.rank e
     k = own key s R id e at low
 
-    abbrev pub w : World
+    abbrev pub w : World A
     w = R.world
 
     -- the boxes to the other rank, as the entry has them
-    abbrev pub OutLane : (ℕ → ℕ) → (ℕ → maybe.Option (maybe.Option Load)) → Bool → List Load → List Load
+    abbrev pub OutLane : (ℕ → ℕ) → (ℕ → maybe.Option (maybe.Option (Load A))) → Bool → List (Load A) → List (Load A)
         → Type 0
-    OutLane flag slot b puts waits = Window 4 None mark (GoesByBox e.rank) flag slot b
+    OutLane flag slot b puts waits = Window 4 None mark (GoesByBox boxable e.rank) flag slot b
         (w.emptying e.rank peer) puts (from e.rank (w.got_box peer)) waits
 
     abbrev pub out_flag : ℕ → ℕ
     out_flag t = slice_index s.words (4 * n + box_slot n m e.rank peer t)
 
-    abbrev pub out_home : ℕ → maybe.Option (maybe.Option Load)
+    abbrev pub out_home : ℕ → maybe.Option (maybe.Option (Load A))
     out_home t = get_elem? s.homes (box_slot n m e.rank peer t)
 
     pub out_lane : OutLane out_flag out_home (filling_of e peer) (put_to peer e.put_box)
@@ -73,7 +73,7 @@ module _ (key : Sizes) (slots id : ℕ) (e : Entry) (low : e.rank < key.ranks) (
         (w.waits e.rank peer)) (sym k.put_box) (R.boxes e.rank peer low few))
 
     -- the entry with another lid
-    pub filling_shown : (b : Bool) (w' : World) → w'.place ≡ w.place → w'.heads ≡ w.heads → w'.put ≡ w.put
+    pub filling_shown : (b : Bool) (w' : World A) → w'.place ≡ w.place → w'.heads ≡ w.heads → w'.put ≡ w.put
         → w'.got ≡ w.got → w'.put_box ≡ w.put_box → w'.got_box ≡ w.got_box
         → w'.emptying ≡ w.emptying → w'.filling e.rank peer ≡ b
         → ((l : ℕ) → l ≢ peer → w'.filling e.rank l ≡ w.filling e.rank l)
@@ -119,11 +119,11 @@ module _ (key : Sizes) (slots id : ℕ) (e : Entry) (low : e.rank < key.ranks) (
     }
 
     -- the sender takes the slot of a free box
-    abbrev after_open : World
+    abbrev after_open : World A
     after_open = record w { filling = update2 w.filling e.rank peer true }
 
     pub open_ruled : filling_of e peer ≡ false → out_flag (length (put_to peer e.put_box) % 4) ≡ 0
-        → Rule key record {
+        → Rule boxable key record {
           words = s.words;
           homes = set s.homes out_slot maybe.none;
           views =
@@ -134,11 +134,11 @@ module _ (key : Sizes) (slots id : ℕ) (e : Entry) (low : e.rank < key.ranks) (
         let homes' = set s.homes out_slot maybe.none in
         let lane = subst (λ b. OutLane out_flag out_home b (put_to peer e.put_box)
         (w.waits e.rank peer)) shut out_lane in
-        let room = windows.room_where_free 4 None mark (GoesByBox e.rank)
+        let room = windows.room_where_free 4 None mark (GoesByBox boxable e.rank)
         (omega arith) marked out_flag out_home (put_to peer e.put_box)
         (from e.rank (w.got_box peer)) (w.waits e.rank peer) false
         (w.emptying e.rank peer) lane found in
-        let new = windows.producer_opens 4 None mark (GoesByBox e.rank)
+        let new = windows.producer_opens 4 None mark (GoesByBox boxable e.rank)
         (omega arith) marked out_flag out_home (put_to peer e.put_box)
         (from e.rank (w.got_box peer)) (w.waits e.rank peer) (w.emptying e.rank peer) lane room
         (λ u. get_elem? homes' (box_slot n m e.rank peer u))
@@ -170,16 +170,16 @@ module _ (key : Sizes) (slots id : ℕ) (e : Entry) (low : e.rank < key.ranks) (
     free_home shut found = let lane =
         subst (λ b. OutLane out_flag out_home b (put_to peer e.put_box) (w.waits e.rank peer)) shut
         out_lane in
-        windows.free_slot_is_home 4 None mark (GoesByBox e.rank)
+        windows.free_slot_is_home 4 None mark (GoesByBox boxable e.rank)
         (omega arith) marked out_flag out_home (put_to peer e.put_box)
         (from e.rank (w.got_box peer)) (w.waits e.rank peer) (w.emptying e.rank peer) lane
-        (windows.room_where_free 4 None mark (GoesByBox e.rank)
+        (windows.room_where_free 4 None mark (GoesByBox boxable e.rank)
         (omega arith) marked out_flag out_home (put_to peer e.put_box)
         (from e.rank (w.got_box peer)) (w.waits e.rank peer) false
         (w.emptying e.rank peer) lane found)
 
     -- the sender fills the box
-    abbrev after_fill : Load → World
+    abbrev after_fill : Load A → World A
     after_fill p = record w {
       put_box =
           update w.put_box e.rank (w.put_box e.rank ++ (peer, p) ∷ []);
@@ -189,7 +189,7 @@ module _ (key : Sizes) (slots id : ℕ) (e : Entry) (low : e.rank < key.ranks) (
           update2 w.waits e.rank peer (w.waits e.rank peer ++ p ∷ []);
     }
 
-    put_here_to : (p : Load)
+    put_here_to : (p : Load A)
         → put_to peer (update w.put_box e.rank (w.put_box e.rank ++ (peer, p) ∷ []) e.rank)
         ≡ put_to peer (w.put_box e.rank) ++ p ∷ []
     put_here_to p = ap (put_to peer)
@@ -198,7 +198,7 @@ module _ (key : Sizes) (slots id : ℕ) (e : Entry) (low : e.rank < key.ranks) (
         ∙ ap (λ u. put_to peer (w.put_box e.rank) ++ u)
         (pick_yes (ℕ_discrete peer peer) (p ∷ []) [] refl)
 
-    put_else_to : (p : Load) (i j : ℕ) → ¬ ((i ≡ e.rank) × (j ≡ peer))
+    put_else_to : (p : Load A) (i j : ℕ) → ¬ ((i ≡ e.rank) × (j ≡ peer))
         → put_to j (update w.put_box e.rank (w.put_box e.rank ++ (peer, p) ∷ []) i) ≡ put_to j
         (w.put_box i)
     put_else_to p i j ne = let many = w.put_box e.rank ++ (peer, p) ∷ [] in
@@ -210,7 +210,7 @@ module _ (key : Sizes) (slots id : ℕ) (e : Entry) (low : e.rank < key.ranks) (
         ∙ append-nil (put_to j (w.put_box e.rank)) ∙ ap (λ u. put_to j (w.put_box u)) (sym ei))
         (λ ni. ap (put_to j) (update_else w.put_box e.rank many i ni))
 
-    fill_turns : (p : Load) → number p ≡ sent_to peer e.put_box e.put
+    fill_turns : (p : Load A) → number p ≡ sent_to peer e.put_box e.put
         → AllInSequence n (after_fill p)
     fill_turns p is i j li lj = let old = R.turns i j li lj in
         let many = w.put_box e.rank ++ (peer, p) ∷ [] in
@@ -252,10 +252,10 @@ module _ (key : Sizes) (slots id : ℕ) (e : Entry) (low : e.rank < key.ranks) (
         (ap (map number) (update2_else w.waits e.rank peer (w.waits e.rank peer ++ p ∷ []) i j
         (λ q. ni q.0))) refl refl old)
 
-    pub fill_ruled : (p : Load) → filling_of e peer ≡ true → sender p ≡ suc e.rank
-        → size p ≤ MAX_BOX
+    pub fill_ruled : (p : Load A) → filling_of e peer ≡ true → sender p ≡ suc e.rank
+        → IsShort boxable p
         → number p ≡ sent_to peer e.put_box e.put
-        → Rule key record {
+        → Rule boxable key record {
           words = set s.words (4 * n + out_slot) (suc (number p));
           homes =
               set s.homes out_slot (maybe.some p);
@@ -271,12 +271,12 @@ module _ (key : Sizes) (slots id : ℕ) (e : Entry) (low : e.rank < key.ranks) (
         let lane = subst (λ b. OutLane out_flag out_home b (put_to peer e.put_box)
         (w.waits e.rank peer)) at_work out_lane in
         let flag' : ℕ → ℕ = λ u. slice_index words' (4 * n + box_slot n m e.rank peer u) in
-        let home' : ℕ → maybe.Option (maybe.Option Load) =
+        let home' : ℕ → maybe.Option (maybe.Option (Load A)) =
         λ u. get_elem? homes' (box_slot n m e.rank peer u) in
-        let new = windows.producer_fills 4 None mark (GoesByBox e.rank)
+        let new = windows.producer_fills 4 None mark (GoesByBox boxable e.rank)
         (omega arith) marked out_flag out_home (put_to peer e.put_box)
         (from e.rank (w.got_box peer)) (w.waits e.rank peer)
-        (w.emptying e.rank peer) lane p (from_here, short) flag' home'
+        (w.emptying e.rank peer) lane p (record { sent = from_here; short = short }) flag' home'
         (box_word n m s.words R.laid.long e.rank peer t (suc (number p)) low few lt)
         (box_home n m s.homes R.laid.slots e.rank peer t (maybe.some p) low few lt)
         (λ u lu ne. box_words n m s.words e.rank peer t (suc (number p)) u ne)

@@ -1,5 +1,5 @@
--- What each kind of step does to the boxes, and to the numbers of each pair's packets.
-use Rattle.std.proofs.Common.{◌≡◌, ◌≢◌, ℕ, suc, ◌+◌, ◌*◌, ◌/◌, ◌<◌, ◌≤◌, None, List, [], ◌∷◌, ◌++◌}
+-- What each kind of step does to the boxes, and to the numbers of each pair's parcels.
+use Rattle.std.proofs.Common.{Bool, ◌≡◌, ◌≢◌, ℕ, suc, ◌+◌, ◌*◌, ◌/◌, ◌<◌, ◌≤◌, None, List, [], ◌∷◌, ◌++◌}
 use Rattle.std.proofs.Common.{map, length, set, sym, refl, ap, ◌∙◌, subst, arith, get_or-set_other}
 use Rattle.std.proofs.Common.{append-nil, length-append, mul-le-mul_right, zero, div-mul-le_self}
 use Rattle.std.proofs.Common.{◌%◌, Some, get_or-set_same}
@@ -25,8 +25,9 @@ use Rattle.nm_chain.proofs.QueueLemmas.{from_append, put_append, loads_append, p
 use Rattle.nm_chain.proofs.QueueLemmas.{below_yes, below_no, posted_here, posted_else}
 use Rattle.nm_chain.proofs.PairLemmas.{one_pair, pair_low as inside}
 
-pub marked : (y : Load) → 0 < mark y
-marked y = omega arith
+module _ {A : Type 0} where
+  pub marked : (y : Load A) → 0 < mark y
+  marked y = omega arith
 
 -- the owner of a cell is one of the ranks
 pub owner_below : (n each c : ℕ) → c < n * each → c / each < n
@@ -64,14 +65,15 @@ pub turn_along : (s s' : ℕ) (gb gb' bx bx' gc gc' ch ch' : List ℕ) → s' �
     → gc' ≡ gc → ch' ≡ ch → InSequence s gb bx gc ch → InSequence s' gb' bx' gc' ch'
 turn_along s s' gb gb' bx bx' gc gc' ch ch' es eb ex ec eh t = rw (es, eb, ex, ec, eh) t
 
-module _ (n each : ℕ) (w : World) (words : List ℕ) (homes : List (maybe.Option Load))
-    (b : BoxesHold n each w words homes) where
+module _ {A : Type 0} {boxable : A → Bool} (n each : ℕ) (w : World A) (words : List ℕ)
+    (homes : List (maybe.Option (Load A)))
+    (b : BoxesHold boxable n each w words homes) where
   -- a step on a word or a slot of the queues
-  pub keep : (words' : List ℕ) (homes' : List (maybe.Option Load))
+  pub keep : (words' : List ℕ) (homes' : List (maybe.Option (Load A)))
       → ((k : ℕ) → 4 * n + n * each ≤ k → slice_index words' k ≡ slice_index words k)
       → ((k : ℕ) → n * each ≤ k → get_elem? homes' k ≡ get_elem? homes k)
-      → BoxesHold n each w words' homes'
-  keep words' homes' ew eh i j li lj = windows.window_elsewhere 4 None mark (GoesByBox i)
+      → BoxesHold boxable n each w words' homes'
+  keep words' homes' ew eh i j li lj = windows.window_elsewhere 4 None mark (GoesByBox boxable i)
       (omega arith) marked (λ k. slice_index words (4 * n + box_slot n each i j k))
       (λ k. get_elem? homes (box_slot n each i j k)) (put_to j (w.put_box i)) (from i (w.got_box j))
       (w.waits i j)
@@ -82,43 +84,43 @@ module _ (n each : ℕ) (w : World) (words : List ℕ) (homes : List (maybe.Opti
       let l₀ = l.0 in omega arith))
       (λ k lk. eh (box_slot n each i j k) (slot_low n each i j k li lj lk).0)
 
-  pub keep_word : (c x : ℕ) → c < 4 * n + n * each → BoxesHold n each w (set words c x) homes
+  pub keep_word : (c x : ℕ) → c < 4 * n + n * each → BoxesHold boxable n each w (set words c x) homes
   keep_word c x low = keep (set words c x) homes
       (λ k far. get_or-set_other words c k x 0 (omega arith)) (λ k far. refl)
 
-  pub keep_slot : (c : ℕ) (z : maybe.Option Load) → c < n * each
-      → BoxesHold n each w words (set homes c z)
+  pub keep_slot : (c : ℕ) (z : maybe.Option (Load A)) → c < n * each
+      → BoxesHold boxable n each w words (set homes c z)
   keep_slot c z low = keep words (set homes c z) (λ k far. refl)
       (λ k far. set_else homes c k z (omega arith))
 
-  pub keep_both : (c d x : ℕ) (z : maybe.Option Load) → c < 4 * n + n * each → d < n * each
-      → BoxesHold n each w (set words c x) (set homes d z)
+  pub keep_both : (c d x : ℕ) (z : maybe.Option (Load A)) → c < 4 * n + n * each → d < n * each
+      → BoxesHold boxable n each w (set words c x) (set homes d z)
   keep_both c d x z low low' =
       keep (set words c x) (set homes d z) (λ k far. get_or-set_other words c k x 0 (omega arith))
       (λ k far. set_else homes d k z (omega arith))
 
   -- the boxes of one pair change
   pub one_lane : (i j : ℕ) → i < n → j < n
-      → (w' : World) (words' : List ℕ) (homes' : List (maybe.Option Load))
+      → (w' : World A) (words' : List ℕ) (homes' : List (maybe.Option (Load A)))
       → ((k l : ℕ) → k < n → l < n → ¬ ((k ≡ i) × (l ≡ j)) → (w'.filling k l ≡ w.filling k l)
       × (w'.emptying k l ≡ w.emptying k l) × (put_to l (w'.put_box k) ≡ put_to l (w.put_box k))
       × (from k (w'.got_box l) ≡ from k (w.got_box l)) × (w'.waits k l ≡ w.waits k l))
       → ((c : ℕ) → ((k : ℕ) → k < 4 → c ≢ box_slot n each i j k)
       → (slice_index words' (4 * n + c) ≡ slice_index words (4 * n + c))
       × (get_elem? homes' c ≡ get_elem? homes c))
-      → Window 4 None mark (GoesByBox i)
+      → Window 4 None mark (GoesByBox boxable i)
       (λ k. slice_index words' (4 * n + box_slot n each i j k))
       (λ k. get_elem? homes' (box_slot n each i j k)) (w'.filling i j) (w'.emptying i j)
       (put_to j (w'.put_box i)) (from i (w'.got_box j)) (w'.waits i j)
-      → BoxesHold n each w' words' homes'
+      → BoxesHold boxable n each w' words' homes'
   one_lane i j li lj w' words' homes' others apart here k l lk ll =
       dite (ℕ_discrete (k * n + l) (i * n + j))
       (λ e. let p = one_pair n k l i j ll lj e in
-      subst (λ u. Window 4 None mark (GoesByBox u)
+      subst (λ u. Window 4 None mark (GoesByBox boxable u)
       (λ t. slice_index words' (4 * n + box_slot n each u l t))
       (λ t. get_elem? homes' (box_slot n each u l t)) (w'.filling u l) (w'.emptying u l)
       (put_to l (w'.put_box u)) (from u (w'.got_box l)) (w'.waits u l)) (sym p.0)
-      (subst (λ u. Window 4 None mark (GoesByBox i)
+      (subst (λ u. Window 4 None mark (GoesByBox boxable i)
       (λ t. slice_index words' (4 * n + box_slot n each i u t))
       (λ t. get_elem? homes' (box_slot n each i u t)) (w'.filling i u) (w'.emptying i u)
       (put_to u (w'.put_box i)) (from i (w'.got_box u)) (w'.waits i u)) (sym p.1) here))
@@ -128,7 +130,7 @@ module _ (n each : ℕ) (w : World) (words : List ℕ) (homes : List (maybe.Opti
       (4 * n + box_slot n each k l t))
       × (get_elem? homes' (box_slot n each k l t) ≡ get_elem? homes (box_slot n each k l t)) =
       λ t lt. apart (box_slot n each k l t) (λ u lu. λ e. ne (omega arith)) in
-      rw (o.0, o.1, o.2, o.3, o.4) (windows.window_elsewhere 4 None mark (GoesByBox k)
+      rw (o.0, o.1, o.2, o.3, o.4) (windows.window_elsewhere 4 None mark (GoesByBox boxable k)
       (omega arith) marked (λ t. slice_index words (4 * n + box_slot n each k l t))
       (λ t. get_elem? homes (box_slot n each k l t)) (put_to l (w.put_box k))
       (from k (w.got_box l)) (w.waits k l) (w.filling k l) (w.emptying k l) (b k l lk ll)
@@ -136,11 +138,11 @@ module _ (n each : ℕ) (w : World) (words : List ℕ) (homes : List (maybe.Opti
       (λ t. get_elem? homes' (box_slot n each k l t)) (λ t lt. (away t lt).0)
       (λ t lt. (away t lt).1)))
 
-module _ (n : ℕ) (w : World) (t : AllInSequence n w) where
+module _ {A : Type 0} (n : ℕ) (w : World A) (t : AllInSequence n w) where
   -- one more load of the rank r in the queue q
-  pub turns_more : (r q : ℕ) (x : Item Load)
+  pub turns_more : (r q : ℕ) (x : Item (Load A))
       → (q < n → (sender x.load ≡ suc r) × (number x.load ≡ sent_to q (w.put_box r) (w.put r)))
-      → (w' : World) → w'.put ≡ update w.put r (w.put r ++ posted n q x.load)
+      → (w' : World A) → w'.put ≡ update w.put r (w.put r ++ posted n q x.load)
       → w'.chain ≡ update w.chain q (w.chain q ++ x ∷ []) → w'.got ≡ w.got
       → w'.put_box ≡ w.put_box → w'.got_box ≡ w.got_box → w'.waits ≡ w.waits
       → AllInSequence n w'
@@ -194,8 +196,8 @@ module _ (n : ℕ) (w : World) (t : AllInSequence n w) where
       old))
 
   -- the rank r took the first load of the queue q
-  pub turns_less : (r q : ℕ) (x : Item Load) (xs : Chain) → w.chain q ≡ x ∷ xs → (q < n → q ≡ r)
-      → (w' : World) → w'.got ≡ update w.got r (w.got r ++ fetched n q x.load)
+  pub turns_less : (r q : ℕ) (x : Item (Load A)) (xs : Chain A) → w.chain q ≡ x ∷ xs → (q < n → q ≡ r)
+      → (w' : World A) → w'.got ≡ update w.got r (w.got r ++ fetched n q x.load)
       → w'.chain ≡ update w.chain q xs → w'.put ≡ w.put → w'.put_box ≡ w.put_box
       → w'.got_box ≡ w.got_box → w'.waits ≡ w.waits → AllInSequence n w'
   turns_less r q x xs is own w' eg ec ep epb egb ew i j li lj = let y = x.load in
@@ -242,9 +244,10 @@ module _ (n : ℕ) (w : World) (t : AllInSequence n w) where
       (λ nr. update_else w.got r more j nr)))
       (ap (λ u. map number (from i (loads u))) (update_else w.chain q xs j nj)) old))
 
--- one value in an option
-pub some_is : (u v : Load) → Some u ≡ Some v → u ≡ v
-some_is u v e = cc
+module _ {A : Type 0} where
+  -- one value in an option
+  pub some_is : (u v : Load A) → Some u ≡ Some v → u ≡ v
+  some_is u v e = cc
 
 -- one entry of a list of lids
 pub lids_but : {A : Type 0} (xs : List A) (j : ℕ) (x none : A) (g h : ℕ → A) → j < length xs → h j ≡ x
@@ -267,17 +270,18 @@ pub words_else : (n m : ℕ) (words : List ℕ) (i j t x c : ℕ)
 words_else n m words i j t x c ne lt = let ne' = ne t lt in
     get_or-set_other words (4 * n + box_slot n m i j t) (4 * n + c) x 0 (λ u. ne' (omega arith))
 
-pub homes_else : (n m : ℕ) (homes : List (maybe.Option Load)) (i j t : ℕ) (z : maybe.Option Load)
-    (c : ℕ) → ((u : ℕ) → u < 4 → c ≢ box_slot n m i j u) → t < 4
-    → get_elem? (set homes (box_slot n m i j t) z) c ≡ get_elem? homes c
-homes_else n m homes i j t z c ne lt = set_else homes (box_slot n m i j t) c z (ne t lt)
+module _ {A : Type 0} where
+  pub homes_else : (n m : ℕ) (homes : List (maybe.Option (Load A))) (i j t : ℕ) (z : maybe.Option (Load A))
+      (c : ℕ) → ((u : ℕ) → u < 4 → c ≢ box_slot n m i j u) → t < 4
+      → get_elem? (set homes (box_slot n m i j t) z) c ≡ get_elem? homes c
+  homes_else n m homes i j t z c ne lt = set_else homes (box_slot n m i j t) c z (ne t lt)
 
-pub box_homes : (n m : ℕ) (homes : List (maybe.Option Load)) (i j t : ℕ) (z : maybe.Option Load)
-    (u : ℕ) → u ≢ t
-    → get_elem? (set homes (box_slot n m i j t) z) (box_slot n m i j u) ≡ get_elem? homes
-    (box_slot n m i j u)
-box_homes n m homes i j t z u ne = set_else homes (box_slot n m i j t) (box_slot n m i j u) z
-    (λ q. ne (omega arith))
+  pub box_homes : (n m : ℕ) (homes : List (maybe.Option (Load A))) (i j t : ℕ) (z : maybe.Option (Load A))
+      (u : ℕ) → u ≢ t
+      → get_elem? (set homes (box_slot n m i j t) z) (box_slot n m i j u) ≡ get_elem? homes
+      (box_slot n m i j u)
+  box_homes n m homes i j t z u ne = set_else homes (box_slot n m i j t) (box_slot n m i j u) z
+      (λ q. ne (omega arith))
 
 pub box_words : (n m : ℕ) (words : List ℕ) (i j t x u : ℕ) → u ≢ t
     → slice_index (set words (4 * n + box_slot n m i j t) x) (4 * n + box_slot n m i j u)
@@ -285,11 +289,12 @@ pub box_words : (n m : ℕ) (words : List ℕ) (i j t x u : ℕ) → u ≢ t
 box_words n m words i j t x u ne = get_or-set_other words (4 * n + box_slot n m i j t)
     (4 * n + box_slot n m i j u) x 0 (λ q. ne (omega arith))
 
-pub box_home : (n m : ℕ) (homes : List (maybe.Option Load)) → length homes ≡ n * m + 4 * (n * n)
-    → (i j t : ℕ) (z : maybe.Option Load) → i < n → j < n → t < 4
-    → get_elem? (set homes (box_slot n m i j t) z) (box_slot n m i j t) ≡ maybe.some z
-box_home n m homes slots i j t z li lj lt = set_here homes (box_slot n m i j t) z
-    (let b = (slot_low n m i j t li lj lt).1 in omega arith)
+module _ {A : Type 0} where
+  pub box_home : (n m : ℕ) (homes : List (maybe.Option (Load A))) → length homes ≡ n * m + 4 * (n * n)
+      → (i j t : ℕ) (z : maybe.Option (Load A)) → i < n → j < n → t < 4
+      → get_elem? (set homes (box_slot n m i j t) z) (box_slot n m i j t) ≡ maybe.some z
+  box_home n m homes slots i j t z li lj lt = set_here homes (box_slot n m i j t) z
+      (let b = (slot_low n m i j t li lj lt).1 in omega arith)
 
 pub box_word : (n m : ℕ) (words : List ℕ) → length words ≡ 4 * n + n * m + 4 * (n * n)
     → (i j t x : ℕ) → i < n → j < n → t < 4

@@ -38,28 +38,29 @@ use Rattle.nm_chain.proofs.HeadLemmas.{knows_look, empty_here, no_shadow, told_o
 use Rattle.nm_chain.proofs.HeadLemmas.{told_heads, told_link, told_tail, told_taken, knows_missed}
 use Rattle.nm_chain.proofs.HeadLemmas.{knows_end, away_in_queue, news}
 
-module _ (key : Sizes) (slots id : ℕ) (e : Entry) (low : e.rank < key.ranks) (b : Bool) where
+module _ {A : Type 0} (boxable : A → Bool) (key : Sizes) (slots id : ℕ) (e : Entry A)
+    (low : e.rank < key.ranks) (b : Bool) where
   abbrev q : ℕ
   q = plays.queue key.ranks e.rank b
 
   -- the end of a queue changes, and nothing else
-  one_end : (s : State Load (View Entry)) (R : Rule key s)
+  one_end : (s : State (Load A) (View (Entry A))) (R : Rule boxable key s)
       → get_elem? s.views id ≡ maybe.some (view (e ∷ []))
-      → (x : Heads) (words' : List ℕ) (F : Entry → Entry)
+      → (x : Heads) (words' : List ℕ) (F : Entry A → Entry A)
       → LooksHold key.ranks s.words e.rank (F (plays.with_heads b x e))
       → ((k : ℕ) → k < 2 * key.ranks → tail key.ranks words' k ≡ tail key.ranks s.words k)
-      → ((w : World) (g : Entry) → Agrees key.ranks key.cells w e.rank g
+      → ((w : World A) (g : Entry A) → Agrees key.ranks key.cells w e.rank g
       → Agrees key.ranks key.cells w e.rank (F g))
       → QueuesHold key.ranks key.cells (record R.world { heads = update R.world.heads q x }) words'
-      s.homes → BoxesHold key.ranks key.cells R.world words' s.homes
-      → Rule key record {
+      s.homes → BoxesHold boxable key.ranks key.cells R.world words' s.homes
+      → Rule boxable key record {
         words = words';
         homes = s.homes;
         views =
             set s.views id (view (F (plays.with_heads b x e) ∷ []));
       }
   one_end s R at x words' F told same' keep laid boxes = let k = own key s R id e at low in let w = R.world in
-      let w' : World = record w { heads = update w.heads q x } in let f = plays.with_heads b x e in
+      let w' : World A = record w { heads = update w.heads q x } in let f = plays.with_heads b x e in
       let same = same_rank b x e in let boxy = same_boxes b x e in
       ruled key s R id e at low w' (F f) words' s.homes told same' R.ranked laid boxes R.turns
       (keep w' f record {
@@ -85,13 +86,13 @@ module _ (key : Sizes) (slots id : ℕ) (e : Entry) (low : e.rank < key.ranks) (
       (other_free key.ranks e.rank low w.heads x b r few ne) refl refl refl refl refl (λ _. refl))
 
   -- a load leaves the words
-  loaded : (s : State Load (View Entry)) (i : ℕ) (hs : List (maybe.Option Load))
-      (vs : List (View Entry)) → Rule key record { words = s.words; homes = hs; views = vs }
-      → Rule key record { words = set s.words i (slice_index s.words i); homes = hs; views = vs }
-  loaded s i hs vs R = subst (λ ws. Rule key record { words = ws; homes = hs; views = vs })
+  loaded : (s : State (Load A) (View (Entry A))) (i : ℕ) (hs : List (maybe.Option (Load A)))
+      (vs : List (View (Entry A))) → Rule boxable key record { words = s.words; homes = hs; views = vs }
+      → Rule boxable key record { words = set s.words i (slice_index s.words i); homes = hs; views = vs }
+  loaded s i hs vs R = subst (λ ws. Rule boxable key record { words = ws; homes = hs; views = vs })
       (sym (set-get_or s.words i 0)) R
 
-  note_kept : (hs : List (ℕ × Load)) → Allows (Rule key) slots id (view (e ∷ []), hs) q (λ k. k)
+  note_kept : (hs : List (ℕ × Load A)) → Allows (Rule boxable key) slots id (view (e ∷ []), hs) q (λ k. k)
       (plays.loaded_head b (step slots q 0 0 maybe.none) (view (e ∷ []), hs))
   note_kept hs s R long at small = let k = own key s R id e at low in let w = R.world in
       let found = slice_index s.words q in let x = plays.heads_at (plays.heads_of b e).shadow found in
@@ -138,8 +139,8 @@ module _ (key : Sizes) (slots id : ℕ) (e : Entry) (low : e.rank < key.ranks) (
         ),
       ))
 
-  hide_kept : (c : ℕ) (hs : List (ℕ × Load)) → (plays.heads_of b e).seen ≡ suc c
-      → Allows (Rule key) slots id (view (e ∷ []), hs) q (λ _. 0)
+  hide_kept : (c : ℕ) (hs : List (ℕ × Load A)) → (plays.heads_of b e).seen ≡ suc c
+      → Allows (Rule boxable key) slots id (view (e ∷ []), hs) q (λ _. 0)
       (plays.cleared_head b (step slots q 0 0 maybe.none) (view (e ∷ []), hs))
   hide_kept c hs seen s R long at small = let k = own key s R id e at low in let w = R.world in
       let x = plays.heads_at (plays.heads_of b e).seen 0 in
@@ -170,18 +171,18 @@ module _ (key : Sizes) (slots id : ℕ) (e : Entry) (low : e.rank < key.ranks) (
       )
 
   -- the first cell goes into the hand
-  one_taken : (s : State Load (View Entry)) (R : Rule key s)
+  one_taken : (s : State (Load A) (View (Entry A))) (R : Rule boxable key s)
       → get_elem? s.views id ≡ maybe.some (view (e ∷ []))
-      → (x : Item Load) (xs : Chain) (shadow : ℕ) (words' : List ℕ)
+      → (x : Item (Load A)) (xs : Chain A) (shadow : ℕ) (words' : List ℕ)
       → ((k : ℕ) → k < 2 * key.ranks → k ≢ q → tail key.ranks words' k ≡ tail key.ranks s.words k)
       → x.cell < key.ranks * key.cells
       → R.world.place x.cell ≡ queued q
       → QueuesHold key.ranks key.cells
       (dequeue.after_take key.ranks key.cells R.world s.words s.homes R.laid e.rank q x xs
       (plays.heads_at shadow 0)) words' (set s.homes x.cell maybe.none)
-      → R.world.chain q ≡ x ∷ xs → BoxesHold key.ranks key.cells R.world words'
+      → R.world.chain q ≡ x ∷ xs → BoxesHold boxable key.ranks key.cells R.world words'
       (set s.homes x.cell maybe.none)
-      → Rule key record {
+      → Rule boxable key record {
         words = words';
         homes = set s.homes x.cell maybe.none;
         views =
@@ -228,16 +229,16 @@ module _ (key : Sizes) (slots id : ℕ) (e : Entry) (low : e.rank < key.ranks) (
       (tails r (omega arith) (λ u. own_or n e.rank low w.heads z b r few' ne u))
       (tails (n + r) (omega arith) (λ u. own_or_free n e.rank low w.heads z b r few' ne u)) t)
 
-  module _ (c : ℕ) (hs : List (ℕ × Load)) (shadow : (plays.heads_of b e).shadow ≡ suc c) where
-    abbrev me : plays.Knowing
+  module _ (c : ℕ) (hs : List (ℕ × Load A)) (shadow : (plays.heads_of b e).shadow ≡ suc c) where
+    abbrev me : plays.Knowing A
     me = (view (e ∷ []), hs)
 
-    suited : {w : World} (x : Item Load) → Agrees key.ranks key.cells w e.rank e
+    suited : {w : World A} (x : Item (Load A)) → Agrees key.ranks key.cells w e.rank e
         → Suits key.ranks key.cells q x → Suits e.ranks e.each (plays.queue e.ranks e.rank b) x
     suited x k su = subst (λ u. Suits u e.each (plays.queue u e.rank b) x) (sym k.ranks)
         (subst (λ u. Suits key.ranks u q x) (sym k.per) su)
 
-    took : (x : Item Load) (found : ℕ) → x.cell ≡ c → x.cell < length e.hands
+    took : (x : Item (Load A)) (found : ℕ) → x.cell ≡ c → x.cell < length e.hands
         → found ≤ length e.hands → hand e x.cell ≡ Away
         → Suits e.ranks e.each (plays.queue e.ranks e.rank b) x → plays.HoldsNews b x.cell e x.load
         → plays.Took b c found me (
@@ -255,10 +256,10 @@ module _ (key : Sizes) (slots id : ℕ) (e : Entry) (low : e.rank < key.ranks) (
       after_is = ap (λ k. (view (plays.taken b k x.load found e ∷ []), (k, x.load) ∷ hs)) is;
     }
 
-    pass_kept : (f : Entry → Entry) → ((w : World) → Agrees key.ranks key.cells w e.rank e
+    pass_kept : (f : Entry A → Entry A) → ((w : World A) → Agrees key.ranks key.cells w e.rank e
         → Agrees key.ranks key.cells w e.rank (f e))
         → ((ws : List ℕ) → LooksHold key.ranks ws e.rank e → LooksHold key.ranks ws e.rank (f e))
-        → Allows (Rule key) slots id me (4 * key.ranks + c) (λ k. k)
+        → Allows (Rule boxable key) slots id me (4 * key.ranks + c) (λ k. k)
         (plays.passed_or f b (step slots (4 * key.ranks + c) 0 0 maybe.none) me)
     pass_kept f keep tell s R long at small = let k = own key s R id e at low in let w = R.world in
         let n = key.ranks in let z = plays.heads_at 0 0 in
@@ -310,7 +311,7 @@ module _ (key : Sizes) (slots id : ℕ) (e : Entry) (low : e.rank < key.ranks) (
           ),
         ))
 
-    drain_kept : Allows (Rule key) slots id me (2 * key.ranks + q) (λ k. either (eqb k (suc c)) 0 k)
+    drain_kept : Allows (Rule boxable key) slots id me (2 * key.ranks + q) (λ k. either (eqb k (suc c)) 0 k)
         (plays.drained b (step slots (2 * key.ranks + q) (suc c) 0 maybe.none) me)
     drain_kept s R long at small = let k = own key s R id e at low in let w = R.world in
         let n = key.ranks in let z = plays.heads_at 0 0 in
@@ -323,8 +324,8 @@ module _ (key : Sizes) (slots id : ℕ) (e : Entry) (low : e.rank < key.ranks) (
         in
         let few = dequeue.start_low n key.cells w s.words s.homes R.laid e.rank q c fit mine shade in
         exchanged found (suc c) 0
-        (λ m. (v : View Entry) × (a : Act Load) × Valid s.homes hs a
-        × Rule key (stepped s (2 * n + q) m id hs v a)
+        (λ m. (v : View (Entry A)) × (a : Act (Load A)) × Valid s.homes hs a
+        × Rule boxable key (stepped s (2 * n + q) m id hs v a)
         × plays.drained b (step slots (2 * n + q) (suc c) 0 maybe.none) me found
         (v, carried_after hs a))
         (λ last. (
@@ -368,7 +369,8 @@ module _ (key : Sizes) (slots id : ℕ) (e : Entry) (low : e.rank < key.ranks) (
         ))
 
 -- the same for any seat that speaks for one rank, of a fabric of n ranks
-module _ (key : Sizes) (n slots id : ℕ) (me : plays.Knowing) (alone : plays.Alone me)
+module _ {A : Type 0} (boxable : A → Bool) (key : Sizes) (n slots id : ℕ) (me : plays.Knowing A)
+    (alone : plays.Alone me)
     (ranks : key.ranks ≡ n) (rank : ℕ) (named : (plays.mine me).rank ≡ rank) (low : rank < n)
     (b : Bool) where
   here : (plays.mine me).rank < key.ranks
@@ -378,47 +380,47 @@ module _ (key : Sizes) (n slots id : ℕ) (me : plays.Knowing) (alone : plays.Al
   own_queue = λ i. plays.queue (sym ranks i) (sym named i) b
 
   pub note_allowed : (word : ℕ) → word ≡ plays.queue n rank b
-      → Allows (Rule key) slots id me word (λ k. k)
+      → Allows (Rule boxable key) slots id me word (λ k. k)
       (plays.loaded_head b (step slots word 0 0 maybe.none) me)
   note_allowed word is =
-      subst (λ k. Allows (Rule key) slots id me k (λ k. k)
+      subst (λ k. Allows (Rule boxable key) slots id me k (λ k. k)
       (plays.loaded_head b (step slots k 0 0 maybe.none) me)) (sym (is ∙ own_queue))
-      (subst (λ v. Allows (Rule key) slots id (v, me.1)
+      (subst (λ v. Allows (Rule boxable key) slots id (v, me.1)
       (plays.queue key.ranks (plays.mine me).rank b) (λ k. k)
       (plays.loaded_head b (step slots (plays.queue key.ranks (plays.mine me).rank b) 0 0 maybe.none)
       (v, me.1))) (sym alone)
-      (note_kept key slots id (plays.mine me) here b me.1))
+      (note_kept boxable key slots id (plays.mine me) here b me.1))
 
   pub hide_allowed : (word : ℕ) → word ≡ plays.queue n rank b
-      → 0 < (plays.heads_of b (plays.mine me)).seen → Allows (Rule key) slots id me word (λ _. 0)
+      → 0 < (plays.heads_of b (plays.mine me)).seen → Allows (Rule boxable key) slots id me word (λ _. 0)
       (plays.cleared_head b (step slots word 0 0 maybe.none) me)
   hide_allowed word is some =
-      subst (λ k. Allows (Rule key) slots id me k (λ _. 0)
+      subst (λ k. Allows (Rule boxable key) slots id me k (λ _. 0)
       (plays.cleared_head b (step slots k 0 0 maybe.none) me)) (sym (is ∙ own_queue))
-      (subst (λ v. Allows (Rule key) slots id (v, me.1)
+      (subst (λ v. Allows (Rule boxable key) slots id (v, me.1)
       (plays.queue key.ranks (plays.mine me).rank b) (λ _. 0)
       (plays.cleared_head b (step slots (plays.queue key.ranks (plays.mine me).rank b) 0 0 maybe.none)
       (v, me.1))) (sym alone)
-      (hide_kept key slots id (plays.mine me) here b ((plays.heads_of b (plays.mine me)).seen - 1)
+      (hide_kept boxable key slots id (plays.mine me) here b ((plays.heads_of b (plays.mine me)).seen - 1)
       me.1 (omega arith)))
 
-  pass_or : (f : Entry → Entry)
-      → ((w : World) → Agrees key.ranks key.cells w (plays.mine me).rank (plays.mine me)
+  pass_or : (f : Entry A → Entry A)
+      → ((w : World A) → Agrees key.ranks key.cells w (plays.mine me).rank (plays.mine me)
       → Agrees key.ranks key.cells w (plays.mine me).rank (f (plays.mine me)))
       → ((ws : List ℕ) → LooksHold key.ranks ws (plays.mine me).rank (plays.mine me)
       → LooksHold key.ranks ws (plays.mine me).rank (f (plays.mine me))) → (c : ℕ)
-      → (plays.heads_of b (plays.mine me)).shadow ≡ suc c → Allows (Rule key) slots id me (4 * n + c)
+      → (plays.heads_of b (plays.mine me)).shadow ≡ suc c → Allows (Rule boxable key) slots id me (4 * n + c)
       (λ k. k) (plays.passed_or f b (step slots (4 * n + c) 0 0 maybe.none) me)
   pass_or f keep tell c shadow =
-      subst (λ k. Allows (Rule key) slots id me (4 * k + c) (λ k. k)
+      subst (λ k. Allows (Rule boxable key) slots id me (4 * k + c) (λ k. k)
       (plays.passed_or f b (step slots (4 * k + c) 0 0 maybe.none) me)) ranks
-      (subst (λ v. Allows (Rule key) slots id (v, me.1) (4 * key.ranks + c) (λ k. k)
+      (subst (λ v. Allows (Rule boxable key) slots id (v, me.1) (4 * key.ranks + c) (λ k. k)
       (plays.passed_or f b (step slots (4 * key.ranks + c) 0 0 maybe.none) (v, me.1)))
       (sym alone)
-      (pass_kept key slots id (plays.mine me) here b c me.1 shadow f keep tell))
+      (pass_kept boxable key slots id (plays.mine me) here b c me.1 shadow f keep tell))
 
   pub pass_allowed : (c : ℕ) → (plays.heads_of b (plays.mine me)).shadow ≡ suc c
-      → Allows (Rule key) slots id me (4 * n + c) (λ k. k)
+      → Allows (Rule boxable key) slots id me (4 * n + c) (λ k. k)
       (plays.passed b (step slots (4 * n + c) 0 0 maybe.none) me)
   pass_allowed = let l = link_empty (look_in b (plays.mine me).looks) in
       pass_or (plays.with_link_empty b)
@@ -427,7 +429,7 @@ module _ (key : Sizes) (n slots id : ℕ) (me : plays.Knowing) (alone : plays.Al
       (empty_here (look_in b (plays.mine me).looks)) t)
 
   pub reload_allowed : (c : ℕ) → (plays.heads_of b (plays.mine me)).shadow ≡ suc c
-      → Allows (Rule key) slots id me (4 * n + c) (λ k. k)
+      → Allows (Rule boxable key) slots id me (4 * n + c) (λ k. k)
       (plays.reloaded b (step slots (4 * n + c) 0 0 maybe.none) me)
   reload_allowed = pass_or
       (λ e. plays.with_look b (LinkEmpty 0) (plays.with_missed b plays.link_miss e))
@@ -440,22 +442,22 @@ module _ (key : Sizes) (n slots id : ℕ) (me : plays.Knowing) (alone : plays.Al
 
   pub drain_allowed : (word old : ℕ) → word ≡ 2 * n + plays.queue n rank b
       → (plays.heads_of b (plays.mine me)).shadow ≡ old → 0 < old
-      → Allows (Rule key) slots id me word (λ k. either (eqb k old) 0 k)
+      → Allows (Rule boxable key) slots id me word (λ k. either (eqb k old) 0 k)
       (plays.drained b (step slots word old 0 maybe.none) me)
   drain_allowed word old is shadow some = let at : word ≡ 2 * key.ranks + plays.queue key.ranks
       (plays.mine me).rank b = is ∙ (λ i. 2 * sym ranks i + own_queue i) in let c : ℕ = old - 1 in
       let plus : suc (old - 1) ≡ old = omega arith in
-      subst (λ k. Allows (Rule key) slots id me k (λ k. either (eqb k old) 0 k)
+      subst (λ k. Allows (Rule boxable key) slots id me k (λ k. either (eqb k old) 0 k)
       (plays.drained b (step slots k old 0 maybe.none) me)) (sym at)
-      (subst (λ v. Allows (Rule key) slots id (v, me.1)
+      (subst (λ v. Allows (Rule boxable key) slots id (v, me.1)
       (2 * key.ranks + plays.queue key.ranks (plays.mine me).rank b)
       (λ k. either (eqb k old) 0 k)
       (plays.drained b (step slots
       (2 * key.ranks + plays.queue key.ranks (plays.mine me).rank b) old 0 maybe.none)
       (v, me.1))) (sym alone)
-      (subst (λ d. Allows (Rule key) slots id (view (plays.mine me ∷ []), me.1)
+      (subst (λ d. Allows (Rule boxable key) slots id (view (plays.mine me ∷ []), me.1)
       (2 * key.ranks + plays.queue key.ranks (plays.mine me).rank b) (λ k. either (eqb k d) 0 k)
       (plays.drained b (step slots
       (2 * key.ranks + plays.queue key.ranks (plays.mine me).rank b) d 0 maybe.none)
       (view (plays.mine me ∷ []), me.1))) plus
-      (drain_kept key slots id (plays.mine me) here b (old - 1) me.1 (shadow ∙ sym plus))))
+      (drain_kept boxable key slots id (plays.mine me) here b (old - 1) me.1 (shadow ∙ sym plus))))

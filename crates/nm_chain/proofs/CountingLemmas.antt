@@ -14,22 +14,23 @@ use Rattle.nm_chain.specs.declared.table.table.Entry.{Entry}
 use Rattle.nm_chain.specs.Rule.{Load, Place, hand, World, Below, NotOf, Shows, Agrees, Fits, Handed}
 use Rattle.nm_chain.specs.Rule.{QueuesHold}
 
--- a place in which no rank has part
-settled : (n : ℕ) (p : Place) → Below n p → ((r : ℕ) → r < n → NotOf r p) → (q : ℕ) × (p ≡ queued q)
-settled n (loose r) b f = absurd (f r b refl)
-settled n (held r) b f = absurd (f r b refl)
-settled n (ready r y) b f = absurd (f r b refl)
-settled n (entering r q t) b f = absurd (f r b refl)
-settled n (queued q) b f = (q, refl)
+module _ {A : Type 0} where
+  -- a place in which no rank has part
+  settled : (n : ℕ) (p : Place A) → Below n p → ((r : ℕ) → r < n → NotOf r p) → (q : ℕ) × (p ≡ queued q)
+  settled n (loose r) b f = absurd (f r b refl)
+  settled n (held r) b f = absurd (f r b refl)
+  settled n (ready r y) b f = absurd (f r b refl)
+  settled n (entering r q t) b f = absurd (f r b refl)
+  settled n (queued q) b f = (q, refl)
 
-fits_of : (F : Item Load → Type 0) (P : ℕ → Type 0) → ((x : Item Load) → F x → P x.cell)
-    → (xs : List (Item Load)) → Each F xs → (c : ℕ) → Has c xs → P c
-fits_of F P f [] e c h = absurd h
-fits_of F P f (x ∷ xs) e c h =
-    ⊎_elim (λ s. subst P (sym s) (f x e.0)) (λ k. fits_of F P f xs e.1 c k) h
+  fits_of : (F : Item (Load A) → Type 0) (P : ℕ → Type 0) → ((x : Item (Load A)) → F x → P x.cell)
+      → (xs : List (Item (Load A))) → Each F xs → (c : ℕ) → Has c xs → P c
+  fits_of F P f [] e c h = absurd h
+  fits_of F P f (x ∷ xs) e c h =
+      ⊎_elim (λ s. subst P (sym s) (f x e.0)) (λ k. fits_of F P f xs e.1 c k) h
 
-module _ (n each : ℕ) (some : 0 < each) (w : World) (words : List ℕ)
-    (homes : List (maybe.Option Load)) (l : QueuesHold n each w words homes) (ledger : ℕ → Entry)
+module _ {A : Type 0} (n each : ℕ) (some : 0 < each) (w : World A) (words : List ℕ)
+    (homes : List (maybe.Option (Load A))) (l : QueuesHold n each w words homes) (ledger : ℕ → Entry A)
     (knows : (r : ℕ) → r < n → Agrees n each w r (ledger r))
     (ranked : (c : ℕ) → Below n (w.place c)) (away : (r c : ℕ) → r < n → c < n * each
     → hand (ledger r) c ≡ Away) where

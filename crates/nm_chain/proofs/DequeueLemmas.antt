@@ -21,9 +21,9 @@ use Rattle.nm_chain.proofs.QueueLemmas.{from_append, below_yes, below_no, in_one
 use Rattle.nm_chain.proofs.QueueLemmas.{has_fit, head_fits, rests, spared, was_in, apart_in, cells_but}
 use Rattle.nm_chain.proofs.QueueLemmas.{low_in}
 
-module _ (n each : ℕ) (w : World) (words : List ℕ) (homes : List (maybe.Option Load))
+module _ {A : Type 0} (n each : ℕ) (w : World A) (words : List ℕ) (homes : List (maybe.Option (Load A)))
     (l : QueuesHold n each w words homes) where
-  abbrev pub with_heads : ℕ → Heads → World
+  abbrev pub with_heads : ℕ → Heads → World A
   with_heads q e = record w { heads = update w.heads q e }
 
   -- a consumer notes what it loaded from the head
@@ -92,7 +92,7 @@ module _ (n each : ℕ) (w : World) (words : List ℕ) (homes : List (maybe.Opti
       }
 
   -- the paths after the rank r took the first_cell load of the queue q
-  paths_less : (r q : ℕ) (x : Item Load) (xs : Chain) → w.chain q ≡ x ∷ xs → (q < n → q ≡ r)
+  paths_less : (r q : ℕ) (x : Item (Load A)) (xs : Chain A) → w.chain q ≡ x ∷ xs → (q < n → q ≡ r)
       → (i j : ℕ) → i < n → j < n
       → put_to j (w.put i) ≡ from i (update w.got r (w.got r ++ fetched n q x.load) j) ++ from i
       (loads (update w.chain q xs j))
@@ -119,7 +119,7 @@ module _ (n each : ℕ) (w : World) (words : List ℕ) (homes : List (maybe.Opti
       (λ nr. sym (update_else w.got r more j nr))))
 
   -- the rank r takes the first_cell cell of the queue q, whose chain is xs then
-  abbrev pub after_take : ℕ → ℕ → Item Load → Chain → Heads → World
+  abbrev pub after_take : ℕ → ℕ → Item (Load A) → Chain A → Heads → World A
   after_take r q x xs e = record w {
     place = update w.place x.cell (held r);
     chain =
@@ -129,7 +129,7 @@ module _ (n each : ℕ) (w : World) (words : List ℕ) (homes : List (maybe.Opti
         update w.got r (w.got r ++ fetched n q x.load);
   }
 
-  took : (r q tl : ℕ) (x : Item Load) (xs xs' : Chain) (e : Heads) (words' : List ℕ) → q < 2 * n
+  took : (r q tl : ℕ) (x : Item (Load A)) (xs xs' : Chain A) (e : Heads) (words' : List ℕ) → q < 2 * n
       → w.chain q ≡ x ∷ xs → (q < n → q ≡ r) → e.seen ≡ 0 → length words' ≡ length words
       → w.place x.cell ≡ queued q → x.cell < n * each → xs' ≡ xs
       → ((k : ℕ) → k < 2 * n → head n words' k ≡ head n words k)
@@ -173,7 +173,7 @@ module _ (n each : ℕ) (w : World) (words : List ℕ) (homes : List (maybe.Opti
 
   module _ (r q s : ℕ) (few : q < 2 * n) (own : q < n → q ≡ r)
       (shadow : (w.heads q).shadow ≡ suc s) where
-    abbrev pub start : (x : Item Load) × (ys : Chain) × (w.chain q ≡ x ∷ ys) × (x.cell ≡ s)
+    abbrev pub start : (x : Item (Load A)) × (ys : Chain A) × (w.chain q ≡ x ∷ ys) × (x.cell ≡ s)
         × (w.place s ≡ queued q) × (head n words q ≡ 0)
     start = first_cell (Fits n each homes q) w.place (link n words) q (head n words q)
         (tail n words q) (w.heads q).shadow (w.chain q) (l.queues q few) s shadow
@@ -184,7 +184,7 @@ module _ (n each : ℕ) (w : World) (words : List ℕ) (homes : List (maybe.Opti
         (w.heads q).shadow (head n words q) (tail n words q) (w.heads q).shadow (w.chain q)
         (start.0 ∷ start.1) refl refl refl (sym start.2) (l.queues q few)
 
-    keeps : (y : Item Load) → y.cell ≢ start.0.cell → Fits n each homes q y
+    keeps : (y : Item (Load A)) → y.cell ≢ start.0.cell → Fits n each homes q y
         → Fits n each (set homes start.0.cell maybe.none) q y
     keeps y ne f = (f.0, set_else homes start.0.cell y.cell maybe.none ne ∙ f.1, f.2)
 

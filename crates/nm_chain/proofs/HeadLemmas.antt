@@ -24,12 +24,12 @@ use Rattle.nm_chain.specs.Plays as plays
 use Rattle.nm_chain.proofs.BoxLemmas.{owner_below}
 
 module _ (n r : ℕ) (low : r < n) (ends : ℕ → Heads) (x : Heads) where
-  pub receive_of : (b : Bool) (e : Entry) → e.receive ≡ ends r
+  pub receive_of : {A : Type 0} (b : Bool) (e : Entry A) → e.receive ≡ ends r
       → (plays.with_heads b x e).receive ≡ update ends (plays.queue n r b) x r
   receive_of true e k = sym (update_here ends r x r refl)
   receive_of false e k = k ∙ sym (update_else ends (n + r) x r (λ z. omega arith))
 
-  pub free_of : (b : Bool) (e : Entry) → e.free ≡ ends (n + r)
+  pub free_of : {A : Type 0} (b : Bool) (e : Entry A) → e.free ≡ ends (n + r)
       → (plays.with_heads b x e).free ≡ update ends (plays.queue n r b) x (n + r)
   free_of true e k = k ∙ sym (update_else ends r x (n + r) (λ z. omega arith))
   free_of false e k = sym (update_here ends (n + r) x (n + r) refl)
@@ -59,40 +59,41 @@ module _ (n r : ℕ) (low : r < n) (ends : ℕ → Heads) (x : Heads) where
   own_in true h = refl
   own_in false h = absurd (omega arith)
 
--- changes of the entry that leave its other parts alone
-pub same_rank : (b : Bool) (x : Heads) (e : Entry) → ((plays.with_heads b x e).rank ≡ e.rank)
-    × ((plays.with_heads b x e).ranks ≡ e.ranks) × ((plays.with_heads b x e).hands ≡ e.hands)
-    × ((plays.with_heads b x e).put ≡ e.put) × ((plays.with_heads b x e).got ≡ e.got)
-    × ((plays.with_heads b x e).each ≡ e.each)
-same_rank true x e = (refl, refl, refl, refl, refl, refl)
-same_rank false x e = (refl, refl, refl, refl, refl, refl)
+module _ {A : Type 0} where
+  -- changes of the entry that leave its other parts alone
+  pub same_rank : (b : Bool) (x : Heads) (e : Entry A) → ((plays.with_heads b x e).rank ≡ e.rank)
+      × ((plays.with_heads b x e).ranks ≡ e.ranks) × ((plays.with_heads b x e).hands ≡ e.hands)
+      × ((plays.with_heads b x e).put ≡ e.put) × ((plays.with_heads b x e).got ≡ e.got)
+      × ((plays.with_heads b x e).each ≡ e.each)
+  same_rank true x e = (refl, refl, refl, refl, refl, refl)
+  same_rank false x e = (refl, refl, refl, refl, refl, refl)
 
-pub same_boxes : (b : Bool) (x : Heads) (e : Entry) → ((plays.with_heads b x e).put_box ≡ e.put_box)
-    × ((plays.with_heads b x e).got_box ≡ e.got_box) × ((plays.with_heads b x e).filling ≡ e.filling)
-    × ((plays.with_heads b x e).emptying ≡ e.emptying)
-same_boxes true x e = (refl, refl, refl, refl)
-same_boxes false x e = (refl, refl, refl, refl)
+  pub same_boxes : (b : Bool) (x : Heads) (e : Entry A) → ((plays.with_heads b x e).put_box ≡ e.put_box)
+      × ((plays.with_heads b x e).got_box ≡ e.got_box) × ((plays.with_heads b x e).filling ≡ e.filling)
+      × ((plays.with_heads b x e).emptying ≡ e.emptying)
+  same_boxes true x e = (refl, refl, refl, refl)
+  same_boxes false x e = (refl, refl, refl, refl)
 
--- the rule speaks of looks beside what a rank knows
-pub knows_look : (n m r : ℕ) (b : Bool) (l : Look) (w : World) (e : Entry)
-    → Agrees n m w r e → Agrees n m w r (plays.with_look b l e)
-knows_look n m r b l w e k = record {
-  rank = k.rank;
-  ranks = k.ranks;
-  per = k.per;
-  long = k.long;
-  hands = k.hands;
-  receive = k.receive;
-  free = k.free;
-  put = k.put;
-  got = k.got;
-  put_box = k.put_box;
-  got_box = k.got_box;
-  outs = k.outs;
-  ins = k.ins;
-  filling = k.filling;
-  emptying = k.emptying;
-}
+  -- the rule speaks of looks beside what a rank knows
+  pub knows_look : (n m r : ℕ) (b : Bool) (l : Look) (w : World A) (e : Entry A)
+      → Agrees n m w r e → Agrees n m w r (plays.with_look b l e)
+  knows_look n m r b l w e k = record {
+    rank = k.rank;
+    ranks = k.ranks;
+    per = k.per;
+    long = k.long;
+    hands = k.hands;
+    receive = k.receive;
+    free = k.free;
+    put = k.put;
+    got = k.got;
+    put_box = k.put_box;
+    got_box = k.got_box;
+    outs = k.outs;
+    ins = k.ins;
+    filling = k.filling;
+    emptying = k.emptying;
+  }
 
 -- a link that was loaded as 0 tells nothing of the tail
 pub empty_here : (l : Look) → link_empty l ≢ TailElsewhere
@@ -100,14 +101,15 @@ empty_here Fresh z = let z' : LinkEmpty 0 ≡ TailElsewhere = z in cc
 empty_here (LinkEmpty k) z = let z' : LinkEmpty (suc k) ≡ TailElsewhere = z in cc
 empty_here TailElsewhere z = let z' : LinkEmpty 0 ≡ TailElsewhere = z in cc
 
--- a queue whose head has a cell has no shadow head
-pub no_shadow : (place : ℕ → Place) (q hd shadow : ℕ) (xs : Chain) → Begins place q hd shadow xs
-    → 0 < hd → shadow ≡ 0
-no_shadow place q hd shadow [] b some = b.0
-no_shadow place q hd shadow (x ∷ xs) b some = ⊎_elim (λ t. let z = t.1 in absurd (omega arith))
-    (⊎_elim (λ t. t.0) (λ t. t.0)) b
+module _ {A : Type 0} where
+  -- a queue whose head has a cell has no shadow head
+  pub no_shadow : (place : ℕ → Place A) (q hd shadow : ℕ) (xs : Chain A) → Begins place q hd shadow xs
+      → 0 < hd → shadow ≡ 0
+  no_shadow place q hd shadow [] b some = b.0
+  no_shadow place q hd shadow (x ∷ xs) b some = ⊎_elim (λ t. let z = t.1 in absurd (omega arith))
+      (⊎_elim (λ t. t.0) (λ t. t.0)) b
 
-module _ (n : ℕ) (words : List ℕ) (r : ℕ) (e : Entry) where
+module _ {A : Type 0} (n : ℕ) (words : List ℕ) (r : ℕ) (e : Entry A) where
   -- what was told, by queue
   pub told_of : LooksHold n words r e → (b : Bool) → StillTold (look_in b e.looks)
       (plays.heads_of b e).shadow (tail n words (plays.queue n r b))
@@ -140,7 +142,7 @@ module _ (n : ℕ) (words : List ℕ) (r : ℕ) (e : Entry) where
   told_tail false some ne t = (t.0, (λ _. (some, ne)))
 
   -- a cell was taken, and nothing was told of the next one
-  pub told_taken : (words' : List ℕ) (b : Bool) (c : ℕ) (y : Load) (shadow : ℕ) → r < n
+  pub told_taken : (words' : List ℕ) (b : Bool) (c : ℕ) (y : Load A) (shadow : ℕ) → r < n
       → ((k : ℕ) → k < 2 * n → k ≢ plays.queue n r b → tail n words' k ≡ tail n words k)
       → LooksHold n words r e → LooksHold n words' r (plays.taken b c y shadow e)
   told_taken words' true c y shadow low same t = (
@@ -152,60 +154,61 @@ module _ (n : ℕ) (words : List ℕ) (r : ℕ) (e : Entry) where
     (λ z. absurd (let z' : Fresh ≡ TailElsewhere = z in cc)),
   )
 
--- the counts of misses are the port's own matter
-pub knows_missed : (n m r : ℕ) (b : Bool) (f : Misses → Misses) (w : World) (e : Entry)
-    → Agrees n m w r e → Agrees n m w r (plays.with_missed b f e)
-knows_missed n m r b f w e k = record {
-  rank = k.rank;
-  ranks = k.ranks;
-  per = k.per;
-  long = k.long;
-  hands = k.hands;
-  receive = k.receive;
-  free = k.free;
-  put = k.put;
-  got = k.got;
-  put_box = k.put_box;
-  got_box = k.got_box;
-  outs = k.outs;
-  ins = k.ins;
-  filling = k.filling;
-  emptying = k.emptying;
-}
+module _ {A : Type 0} where
+  -- the counts of misses are the port's own matter
+  pub knows_missed : (n m r : ℕ) (b : Bool) (f : Misses → Misses) (w : World A) (e : Entry A)
+      → Agrees n m w r e → Agrees n m w r (plays.with_missed b f e)
+  knows_missed n m r b f w e k = record {
+    rank = k.rank;
+    ranks = k.ranks;
+    per = k.per;
+    long = k.long;
+    hands = k.hands;
+    receive = k.receive;
+    free = k.free;
+    put = k.put;
+    got = k.got;
+    put_box = k.put_box;
+    got_box = k.got_box;
+    outs = k.outs;
+    ins = k.ins;
+    filling = k.filling;
+    emptying = k.emptying;
+  }
 
-pub knows_end : (n m : ℕ) (w : World) (r : ℕ) (e : Entry) → Agrees n m w r e → (b : Bool)
-    → plays.heads_of b e ≡ w.heads (plays.queue n r b)
-knows_end n m w r e k true = k.receive
-knows_end n m w r e k false = k.free
+  pub knows_end : (n m : ℕ) (w : World A) (r : ℕ) (e : Entry A) → Agrees n m w r e → (b : Bool)
+      → plays.heads_of b e ≡ w.heads (plays.queue n r b)
+  knows_end n m w r e k true = k.receive
+  knows_end n m w r e k false = k.free
 
--- a cell in a queue is in no hand
-pub away_in_queue : (r q : ℕ) (p : Place) (h : Hand) → p ≡ queued q → Shows r p h → h ≡ Away
-away_in_queue r q p Away is s = refl
-away_in_queue r q p Loose is s = let z = sym is ∙ s in cc
-away_in_queue r q p Held is s = let z = sym is ∙ s in cc
-away_in_queue r q p (Ready y) is s = let z = sym is ∙ s in cc
-away_in_queue r q p (Entering t u) is s = let z = sym is ∙ s in cc
+  -- a cell in a queue is in no hand
+  pub away_in_queue : (r q : ℕ) (p : Place A) (h : Hand A) → p ≡ queued q → Shows r p h → h ≡ Away
+  away_in_queue r q p Away is s = refl
+  away_in_queue r q p Loose is s = let z = sym is ∙ s in cc
+  away_in_queue r q p Held is s = let z = sym is ∙ s in cc
+  away_in_queue r q p (Ready y) is s = let z = sym is ∙ s in cc
+  away_in_queue r q p (Entering t u) is s = let z = sym is ∙ s in cc
 
--- the first cell of a receive queue holds a new packet
-pub news : (n m : ℕ) (w : World) (e : Entry) → e.rank < n → Agrees n m w e.rank e → AllInSequence n w
-    → (b : Bool) (x : Item Load) (xs : Chain) → x.cell < n * m
-    → w.chain (plays.queue n e.rank b) ≡ x ∷ xs → Suits n m (plays.queue n e.rank b) x
-    → plays.HoldsNews b x.cell e x.load
-news n m w e low k t false x xs few is su = tt
-news n m w e low k t true x xs few is su = let i : ℕ = x.cell / m in let y = x.load in
-    let fl = owner_below n m x.cell few in
-    let one : from i (loads (w.chain e.rank)) ≡ y ∷ from i (loads xs) =
-    ap (λ u. from i (loads u)) is ∙ pick_yes (y ∷ from i (loads xs)) (from i (loads xs))
-    (su.0 low) (ℕ_discrete (sender y) (suc i)) in
-    let new = next_by_cell_is_new (sent_to e.rank (w.put_box i) (w.put i)) (number y)
-    (map number (from i (w.got_box e.rank))) (map number (w.waits i e.rank))
-    (map number (from i (w.got e.rank))) (map number (from i (loads xs)))
-    (subst (λ u. InSequence (sent_to e.rank (w.put_box i) (w.put i))
-    (map number (from i (w.got_box e.rank))) (map number (w.waits i e.rank))
-    (map number (from i (w.got e.rank))) (map number u)) one (t i e.rank fl low)) in
-    let as_known : plays.IsNews e i (number y) =
-    subst (λ g. (¬ Got (map number (from i e.got_box)) (map number (from i g)) (number y))
-    × Each (λ j. j < number y) (map number (from i g))) (sym k.got)
-    (subst (λ g. (¬ Got (map number (from i g)) (map number (from i (w.got e.rank))) (number y))
-    × Each (λ j. j < number y) (map number (from i (w.got e.rank)))) (sym k.got_box) new) in
-    subst (λ u. plays.IsNews e (x.cell / u) (number y)) (sym k.per) as_known
+  -- the first cell of a receive queue holds a new parcel
+  pub news : (n m : ℕ) (w : World A) (e : Entry A) → e.rank < n → Agrees n m w e.rank e → AllInSequence n w
+      → (b : Bool) (x : Item (Load A)) (xs : Chain A) → x.cell < n * m
+      → w.chain (plays.queue n e.rank b) ≡ x ∷ xs → Suits n m (plays.queue n e.rank b) x
+      → plays.HoldsNews b x.cell e x.load
+  news n m w e low k t false x xs few is su = tt
+  news n m w e low k t true x xs few is su = let i : ℕ = x.cell / m in let y = x.load in
+      let fl = owner_below n m x.cell few in
+      let one : from i (loads (w.chain e.rank)) ≡ y ∷ from i (loads xs) =
+      ap (λ u. from i (loads u)) is ∙ pick_yes (y ∷ from i (loads xs)) (from i (loads xs))
+      (su.0 low) (ℕ_discrete (sender y) (suc i)) in
+      let new = next_by_cell_is_new (sent_to e.rank (w.put_box i) (w.put i)) (number y)
+      (map number (from i (w.got_box e.rank))) (map number (w.waits i e.rank))
+      (map number (from i (w.got e.rank))) (map number (from i (loads xs)))
+      (subst (λ u. InSequence (sent_to e.rank (w.put_box i) (w.put i))
+      (map number (from i (w.got_box e.rank))) (map number (w.waits i e.rank))
+      (map number (from i (w.got e.rank))) (map number u)) one (t i e.rank fl low)) in
+      let as_known : plays.IsNews e i (number y) =
+      subst (λ g. (¬ Got (map number (from i e.got_box)) (map number (from i g)) (number y))
+      × Each (λ j. j < number y) (map number (from i g))) (sym k.got)
+      (subst (λ g. (¬ Got (map number (from i g)) (map number (from i (w.got e.rank))) (number y))
+      × Each (λ j. j < number y) (map number (from i (w.got e.rank)))) (sym k.got_box) new) in
+      subst (λ u. plays.IsNews e (x.cell / u) (number y)) (sym k.per) as_known

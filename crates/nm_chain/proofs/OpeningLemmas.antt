@@ -1,5 +1,5 @@
 -- The rule holds at the start.
-use Rattle.std.proofs.Common.{true, false, ◌≡◌, ◌≢◌, ℕ, zero, suc, ◌+◌, ◌*◌, ◌/◌, ◌%◌, ◌<◌}
+use Rattle.std.proofs.Common.{Bool, true, false, ◌≡◌, ◌≢◌, ℕ, zero, suc, ◌+◌, ◌*◌, ◌/◌, ◌%◌, ◌<◌}
 use Rattle.std.proofs.Common.{◌≤◌, List, [], ◌∷◌, length, map, replicate, sym, refl, ap}
 use Rattle.std.proofs.Common.{◌∙◌, subst, arith, Some, None}
 use Rattle.std.proofs.lemmas.Nat.{mod_below}
@@ -28,10 +28,11 @@ use Rattle.nm_chain.proofs.ListLemmas.{at_replicate}
 false_true : false ≡ true → ⊥
 false_true e = cc
 
-none_some : (y : Load) → None ≡ Some y → ⊥
-none_some y e = cc
+module _ {A : Type 0} where
+  none_some : (y : Load A) → None ≡ Some y → ⊥
+  none_some y e = cc
 
--- no packet was sent
+-- no parcel was sent
 turn_none : InSequence 0 [] [] [] []
 turn_none = record {
   numbered = record {
@@ -47,11 +48,11 @@ turn_none = record {
 }
 
 -- the hands at the start, one by one
-pub first_long : (each r c k : ℕ) → length (first_hands each r c k) ≡ k
-first_long each r c zero = refl
-first_long each r c (suc k) = ap suc (first_long each r (suc c) k)
+pub first_long : (A : Type 0) (each r c k : ℕ) → length (first_hands {A = A} each r c k) ≡ k
+first_long A each r c zero = refl
+first_long A each r c (suc k) = ap suc (first_long A each r (suc c) k)
 
-pub first_at : (each r c k d : ℕ) → d < k → slice_index_or (first_hands each r c k) d Away
+pub first_at : {A : Type 0} (each r c k d : ℕ) → d < k → slice_index_or (first_hands {A = A} each r c k) d Away
     ≡ pick (ℕ_discrete ((c + d) / each) r) Loose Away
 first_at each r c zero d low = absurd (omega arith)
 first_at each r c (suc k) zero low = let e : c ≡ c + 0 = omega arith in
@@ -60,13 +61,13 @@ first_at each r c (suc k) (suc d) low = let e : suc c + d ≡ c + suc d = omega 
     first_at each r (suc c) k d (omega arith)
     ∙ ap (λ u. pick (ℕ_discrete (u / each) r) Loose Away) e
 
-module _ (n each : ℕ) (words : List ℕ) (o : Opens n each words) where
+module _ (A : Type 0) (n each : ℕ) (words : List ℕ) (o : Opens n each words) where
   -- the place of the cell c, whose owner is one of the ranks or not
-  stand : (c : ℕ) → Dec (suc (c / each) ≤ n) → Place
+  stand : (c : ℕ) → Dec (suc (c / each) ≤ n) → Place A
   stand c (yes _) = loose (c / each)
   stand c (no _) = queued (n + c / each)
 
-  place : ℕ → Place
+  place : ℕ → Place A
   place c = stand c (dec_le (suc (c / each)) n)
 
   owned : (c : ℕ) → c < n * each → place c ≡ loose (c / each)
@@ -83,7 +84,7 @@ module _ (n each : ℕ) (words : List ℕ) (o : Opens n each words) where
     by_cases (yes _) i = i
     by_cases (no far) i = let i' : q ≡ n + c / each = i in absurd (far (omega arith))
 
-  world : World
+  world : World A
   world = record {
     place = place;
     chain = λ _. [];
@@ -97,7 +98,7 @@ module _ (n each : ℕ) (words : List ℕ) (o : Opens n each words) where
     emptying = λ _ _. None;
   }
 
-  module _ (homes : List (maybe.Option Load)) (vacant : (c : ℕ) → c < n * each + 4 * (n * n)
+  module _ (homes : List (maybe.Option (Load A))) (vacant : (c : ℕ) → c < n * each + 4 * (n * n)
       → HasHome homes c None) where
     laid : length homes ≡ n * each + 4 * (n * n) → QueuesHold n each world words homes
     unfolding world
@@ -137,7 +138,7 @@ module _ (n each : ℕ) (words : List ℕ) (o : Opens n each words) where
       rank = refl;
       ranks = refl;
       per = refl;
-      long = first_long each r 0 (n * each);
+      long = first_long A each r 0 (n * each);
       hands = λ c low. let e : 0 + c ≡ c = omega arith in
           subst (Shows r (place c)) (ap (λ u. pick (ℕ_discrete (u / each) r) Loose Away) (sym e)
           ∙ sym (first_at each r 0 (n * each) c low)) (shows r c low (ℕ_discrete (c / each) r));
@@ -153,9 +154,9 @@ module _ (n each : ℕ) (words : List ℕ) (o : Opens n each words) where
       emptying = λ i low. get_or-replicate n i None None low;
     }
 
-    boxes : BoxesHold n each world words homes
+    boxes : (boxable : A → Bool) → BoxesHold boxable n each world words homes
     unfolding world
-    boxes i j li lj = record {
+    boxes boxable i j li lj = record {
       path = refl;
       few = omega arith;
       room = λ e. absurd (false_true e);
@@ -175,67 +176,68 @@ long_homes : {A : Type 0} (x : A) (k : ℕ) → length (map maybe.some (replicat
 long_homes x zero = refl
 long_homes x (suc k) = ap suc (long_homes x k)
 
-known_all : (n m r k : ℕ) → EachEntry (λ e. beginner n m (rank_of e) ≡ e) (beginners n m r k)
-known_all n m r zero = tt
-known_all n m r (suc k) = (refl, known_all n m (suc r) k)
+known_all : (A : Type 0) (n m r k : ℕ) → EachEntry (λ (e : Entry A). beginner n m (rank_of e) ≡ e) (beginners {A = A} n m r k)
+known_all A n m r zero = tt
+known_all A n m r (suc k) = (refl, known_all A n m (suc r) k)
 
-above : (n m r q k : ℕ) → r < q → EachEntry (λ e. rank_of e ≢ r) (beginners n m q k)
-above n m r q zero h = tt
-above n m r q (suc k) h = ((λ e. omega arith), above n m r (suc q) k (omega arith))
+above : (A : Type 0) (n m r q k : ℕ) → r < q → EachEntry (λ (e : Entry A). rank_of e ≢ r) (beginners {A = A} n m q k)
+above A n m r q zero h = tt
+above A n m r q (suc k) h = ((λ e. omega arith), above A n m r (suc q) k (omega arith))
 
-apart_all : (n m r k : ℕ) → Apart rank_of (beginners n m r k)
-apart_all n m r zero = tt
-apart_all n m r (suc k) = (above n m r (suc r) k (omega arith), apart_all n m (suc r) k)
+apart_all : (A : Type 0) (n m r k : ℕ) → Apart rank_of (beginners {A = A} n m r k)
+apart_all A n m r zero = tt
+apart_all A n m r (suc k) = (above A n m r (suc r) k (omega arith), apart_all A n m (suc r) k)
 
--- the rule, where each cell is loose
-pub opened : (key : Sizes) (words : List ℕ) → Opens key.ranks key.cells words
-    → Rule key (opening words (replicate (key.ranks * key.cells + 4 * (key.ranks * key.ranks)) None)
-    (first_view key))
-opened key words o = let none : Load = None in let n = key.ranks in
-    let homes : List (maybe.Option Load) =
-    map maybe.some (replicate (key.ranks * key.cells + 4 * (key.ranks * key.ranks)) None) in
-    let vacant = at_replicate none (key.ranks * key.cells + 4 * (key.ranks * key.ranks)) in record {
-      ledger = beginner key.ranks key.cells;
-      world = world key.ranks key.cells words o;
-      spoken = spoken_first rank_of (beginner key.ranks key.cells)
-          (beginners key.ranks key.cells 0 key.ranks) (known_all key.ranks key.cells 0 key.ranks)
-          (apart_all key.ranks key.cells 0 key.ranks);
-      knows = λ r low. knows key.ranks key.cells words o homes vacant r;
-      ranked = below_all key.ranks key.cells words o homes vacant;
-      laid = laid key.ranks key.cells words o homes vacant
-          (long_homes none (key.ranks * key.cells + 4 * (key.ranks * key.ranks)));
-      boxes = boxes key.ranks key.cells words o homes vacant;
-      turns = turns key.ranks key.cells words o homes vacant;
-      told = λ r low. (
-        (λ z. absurd (let z' : Fresh ≡ TailElsewhere = z in cc)),
-        (λ z. absurd (let z' : Fresh ≡ TailElsewhere = z in cc)),
-      );
-    }
+module _ {A : Type 0} {boxable : A → Bool} where
+  -- the rule, where each cell is loose
+  pub opened : (key : Sizes) (words : List ℕ) → Opens key.ranks key.cells words
+      → Rule boxable key (opening words (replicate (key.ranks * key.cells + 4 * (key.ranks * key.ranks)) None)
+      (first_view key))
+  opened key words o = let none : Load A = None in let n = key.ranks in
+      let homes : List (maybe.Option (Load A)) =
+      map maybe.some (replicate (key.ranks * key.cells + 4 * (key.ranks * key.ranks)) None) in
+      let vacant = at_replicate none (key.ranks * key.cells + 4 * (key.ranks * key.ranks)) in record {
+        ledger = beginner key.ranks key.cells;
+        world = world A key.ranks key.cells words o;
+        spoken = spoken_first rank_of (beginner key.ranks key.cells)
+            (beginners key.ranks key.cells 0 key.ranks) (known_all A key.ranks key.cells 0 key.ranks)
+            (apart_all A key.ranks key.cells 0 key.ranks);
+        knows = λ r low. knows A key.ranks key.cells words o homes vacant r;
+        ranked = below_all A key.ranks key.cells words o homes vacant;
+        laid = laid A key.ranks key.cells words o homes vacant
+            (long_homes none (key.ranks * key.cells + 4 * (key.ranks * key.ranks)));
+        boxes = boxes A key.ranks key.cells words o homes vacant boxable;
+        turns = turns A key.ranks key.cells words o homes vacant;
+        told = λ r low. (
+          (λ z. absurd (let z' : Fresh ≡ TailElsewhere = z in cc)),
+          (λ z. absurd (let z' : Fresh ≡ TailElsewhere = z in cc)),
+        );
+      }
 
--- the seat of the lowest rank is cut off
-pub parted : (key : Sizes) (id : ℕ) (v : View Entry) (e : Entry) (es : List Entry)
-    → v ≡ view (e ∷ es) → Splits (Rule key) id v (others_of v) (first_of v)
-parted key id v e es is = subst (λ u. Splits (Rule key) id u (others_of u) (first_of u)) (sym is)
-    (λ s R at. record {
-      ledger = R.ledger;
-      world = R.world;
-      spoken =
-          spoken_splits rank_of R.ledger s.views R.spoken id e es at;
-      knows = R.knows;
-      ranked =
-          R.ranked;
-      laid = R.laid;
-      boxes = R.boxes;
-      turns = R.turns;
-      told = R.told;
-    })
+  -- the seat of the lowest rank is cut off
+  pub parted : (key : Sizes) (id : ℕ) (v : View (Entry A)) (e : Entry A) (es : List (Entry A))
+      → v ≡ view (e ∷ es) → Splits (Rule boxable key) id v (others_of v) (first_of v)
+  parted key id v e es is = subst (λ u. Splits (Rule boxable key) id u (others_of u) (first_of u)) (sym is)
+      (λ s R at. record {
+        ledger = R.ledger;
+        world = R.world;
+        spoken =
+            spoken_splits rank_of R.ledger s.views R.spoken id e es at;
+        knows = R.knows;
+        ranked =
+            R.ranked;
+        laid = R.laid;
+        boxes = R.boxes;
+        turns = R.turns;
+        told = R.told;
+      })
 
 -- the same by the numbers that the program has
-pub starts : (key : Sizes) (words : List ℕ) (n each : ℕ) → n ≡ key.ranks → each ≡ key.cells
+pub starts : {A : Type 0} {boxable : A → Bool} (key : Sizes) (words : List ℕ) (n each : ℕ) → n ≡ key.ranks → each ≡ key.cells
     → Opens n each words
-    → Rule key (opening words (replicate (n * each + 4 * (n * n)) None) (first_view key))
-starts key words n each en em = subst (λ r. Opens r each words
-    → Rule key (opening words (replicate (r * each + 4 * (r * r)) None) (first_view key))) (sym en)
+    → Rule boxable key (opening words (replicate (n * each + 4 * (n * n)) None) (first_view key))
+starts {A} {boxable} key words n each en em = subst (λ r. Opens r each words
+    → Rule boxable key (opening words (replicate (r * each + 4 * (r * r)) None) (first_view key))) (sym en)
     (subst (λ m. Opens key.ranks m words
-    → Rule key (opening words (replicate (key.ranks * m + 4 * (key.ranks * key.ranks)) None)
+    → Rule boxable key (opening words (replicate (key.ranks * m + 4 * (key.ranks * key.ranks)) None)
     (first_view key))) (sym em) (opened key words))

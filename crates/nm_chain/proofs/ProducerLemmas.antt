@@ -1,5 +1,5 @@
 -- Each kind of step of a producer keeps the rule, whatever the other ranks did.
-use Rattle.std.proofs.Common.{◌≡◌, ◌≢◌, ℕ, suc, ◌+◌, ◌-◌, ◌*◌, ◌<◌, ◌≤◌, List, [], ◌∷◌, ◌++◌, None}
+use Rattle.std.proofs.Common.{Bool, ◌≡◌, ◌≢◌, ℕ, suc, ◌+◌, ◌-◌, ◌*◌, ◌<◌, ◌≤◌, List, [], ◌∷◌, ◌++◌, None}
 use Rattle.std.proofs.Common.{set, sym, refl, ap, ◌∙◌, subst, ⊎_elim, arith}
 use Rattle.std.proofs.Common.{length-set, get_or-set_same, get_or-set_other}
 use Rattle.std.proofs.lemmas.List.{set-get_or}
@@ -26,53 +26,55 @@ use Rattle.nm_chain.proofs.BoxLemmas as boxes
 use Rattle.nm_chain.proofs.SeatLemmas.{below_put, knows_else, place_but, hands_but, own, own_told}
 use Rattle.nm_chain.proofs.SeatLemmas.{ruled_by, one_hand}
 
--- what a rank that has a cell in its hand knows of the others
-not_of : (r t : ℕ) (p : Place) (h : Hand) → t ≢ r → plays.InHand h → Shows r p h → NotOf t p
-not_of r t p Away ne i s = absurd i
-not_of r t p Loose ne i s = absurd i
-not_of r t p Held ne i s = subst (NotOf t) (sym s) ne
-not_of r t p (Ready y) ne i s = subst (NotOf t) (sym s) ne
-not_of r t p (Entering q u) ne i s = absurd i
+module _ {A : Type 0} where
+  -- what a rank that has a cell in its hand knows of the others
+  not_of : (r t : ℕ) (p : Place A) (h : Hand A) → t ≢ r → plays.InHand h → Shows r p h → NotOf t p
+  not_of r t p Away ne i s = absurd i
+  not_of r t p Loose ne i s = absurd i
+  not_of r t p Held ne i s = subst (NotOf t) (sym s) ne
+  not_of r t p (Ready y) ne i s = subst (NotOf t) (sym s) ne
+  not_of r t p (Entering q u) ne i s = absurd i
 
-not_in : (r q : ℕ) (p : Place) (h : Hand) → plays.InHand h → Shows r p h → ¬ IsIn q p
-not_in r q p Away i s k = absurd i
-not_in r q p Loose i s k = absurd i
-not_in r q p Held i s k = subst (IsIn q) s k
-not_in r q p (Ready y) i s k = subst (IsIn q) s k
-not_in r q p (Entering u t) i s k = absurd i
+  not_in : (r q : ℕ) (p : Place A) (h : Hand A) → plays.InHand h → Shows r p h → ¬ IsIn q p
+  not_in r q p Away i s k = absurd i
+  not_in r q p Loose i s k = absurd i
+  not_in r q p Held i s k = subst (IsIn q) s k
+  not_in r q p (Ready y) i s k = subst (IsIn q) s k
+  not_in r q p (Entering u t) i s k = absurd i
 
-is_out : (n r c : ℕ) (words : List ℕ) (homes : List (maybe.Option Load)) (p : Place) (h : Hand)
-    → plays.InHand h → Shows r p h → Handed n words homes c p → IsOut homes c
-is_out n r c words homes p Away i s k = absurd i
-is_out n r c words homes p Loose i s k = absurd i
-is_out n r c words homes p Held i s k = subst (Handed n words homes c) s k
-is_out n r c words homes p (Ready y) i s k = (subst (Handed n words homes c) s k).0
-is_out n r c words homes p (Entering q t) i s k = absurd i
+  is_out : (n r c : ℕ) (words : List ℕ) (homes : List (maybe.Option (Load A))) (p : Place A) (h : Hand A)
+      → plays.InHand h → Shows r p h → Handed n words homes c p → IsOut homes c
+  is_out n r c words homes p Away i s k = absurd i
+  is_out n r c words homes p Loose i s k = absurd i
+  is_out n r c words homes p Held i s k = subst (Handed n words homes c) s k
+  is_out n r c words homes p (Ready y) i s k = (subst (Handed n words homes c) s k).0
+  is_out n r c words homes p (Entering q t) i s k = absurd i
 
--- the cell of a shadow head is in its queue
-shadow_in : (place : ℕ → Place) (q hd c : ℕ) (xs : Chain) → Begins place q hd (suc c) xs
-    → place c ≡ queued q
-shadow_in place q hd c [] b = let z : suc c ≡ 0 = b.0 in absurd (omega arith)
-shadow_in place q hd c (x ∷ xs) b = ⊎_elim
-    (λ t. let z : suc c ≡ suc x.cell = t.0 in let is : c ≡ x.cell = omega arith in
-    ap place is ∙ t.2)
-    (⊎_elim (λ t. let z : suc c ≡ 0 = t.0 in absurd (omega arith))
-    (λ t. let z : suc c ≡ 0 = t.0 in absurd (omega arith))) b
+  -- the cell of a shadow head is in its queue
+  shadow_in : (place : ℕ → Place A) (q hd c : ℕ) (xs : Chain A) → Begins place q hd (suc c) xs
+      → place c ≡ queued q
+  shadow_in place q hd c [] b = let z : suc c ≡ 0 = b.0 in absurd (omega arith)
+  shadow_in place q hd c (x ∷ xs) b = ⊎_elim
+      (λ t. let z : suc c ≡ suc x.cell = t.0 in let is : c ≡ x.cell = omega arith in
+      ap place is ∙ t.2)
+      (⊎_elim (λ t. let z : suc c ≡ 0 = t.0 in absurd (omega arith))
+      (λ t. let z : suc c ≡ 0 = t.0 in absurd (omega arith))) b
 
-module _ (key : Sizes) (slots id : ℕ) (e : Entry) (low : e.rank < key.ranks) (c : ℕ)
+module _ {A : Type 0} (boxable : A → Bool) (key : Sizes) (slots id : ℕ) (e : Entry A)
+    (low : e.rank < key.ranks) (c : ℕ)
     (few : c < key.ranks * key.cells) where
-  pick_kept : (hs : List (ℕ × Load)) → hand e c ≡ Loose
-      → Allows (Rule key) slots id (view (e ∷ []), hs) (4 * key.ranks + c) (λ k. k)
+  pick_kept : (hs : List (ℕ × Load A)) → hand e c ≡ Loose
+      → Allows (Rule boxable key) slots id (view (e ∷ []), hs) (4 * key.ranks + c) (λ k. k)
       (plays.picked (step slots (4 * key.ranks + c) 0 0 maybe.none) (view (e ∷ []), hs))
   pick_kept hs mine s R long at small = let k = own key s R id e at low in let w = R.world in
-      let i = 4 * key.ranks + c in let nothing : Load = None in
+      let i = 4 * key.ranks + c in let nothing : Load A = None in
       let shows : w.place c ≡ loose e.rank = subst (Shows e.rank (w.place c)) mine (k.hands c few) in
       let same : set s.words i (slice_index s.words i) ≡ s.words = set-get_or s.words i 0 in
       let is : (4 * key.ranks + c) - 4 * e.ranks ≡ c = let rs = k.ranks in omega arith in (
         view (plays.with_hand c Held e ∷ []),
         takes c nothing,
         subst (Handed key.ranks s.words s.homes c) shows (R.laid.cells c few),
-        subst (λ ws. Rule key record {
+        subst (λ ws. Rule boxable key record {
           words = ws;
           homes = set s.homes c maybe.none;
           views = set s.views id (view (plays.with_hand c Held e ∷ []));
@@ -89,8 +91,8 @@ module _ (key : Sizes) (slots id : ℕ) (e : Entry) (low : e.rank < key.ranks) (
         ),
       )
 
-  clear_kept : (hs : List (ℕ × Load)) → plays.InHand (hand e c)
-      → Allows (Rule key) slots id (view (e ∷ []), hs) (4 * key.ranks + c) (λ _. 0)
+  clear_kept : (hs : List (ℕ × Load A)) → plays.InHand (hand e c)
+      → Allows (Rule boxable key) slots id (view (e ∷ []), hs) (4 * key.ranks + c) (λ _. 0)
       (plays.cleared (step slots (4 * key.ranks + c) 0 0 maybe.none) (view (e ∷ []), hs))
   clear_kept hs inside s R long at small = let k = own key s R id e at low in
       let shows = k.hands c few in let y = plays.load_in c hs in let w = R.world in
@@ -115,8 +117,8 @@ module _ (key : Sizes) (slots id : ℕ) (e : Entry) (low : e.rank < key.ranks) (
         ),
       )
 
-  head_kept : (q : ℕ) (hs : List (ℕ × Load)) → q < 2 * key.ranks → hand e c ≡ Entering q 0
-      → Allows (Rule key) slots id (view (e ∷ []), hs) q (λ _. suc c)
+  head_kept : (q : ℕ) (hs : List (ℕ × Load A)) → q < 2 * key.ranks → hand e c ≡ Entering q 0
+      → Allows (Rule boxable key) slots id (view (e ∷ []), hs) q (λ _. suc c)
       (plays.finished (step slots q (suc c) 0 maybe.none) (view (e ∷ []), hs))
   head_kept q hs fits mine s R long at small = let k = own key s R id e at low in let w = R.world in
       let shows : w.place c ≡ entering e.rank q 0 =
@@ -135,8 +137,8 @@ module _ (key : Sizes) (slots id : ℕ) (e : Entry) (low : e.rank < key.ranks) (
         )),
       )
 
-  link_kept : (q p : ℕ) (hs : List (ℕ × Load)) → q < 2 * key.ranks → hand e c ≡ Entering q (suc p)
-      → Allows (Rule key) slots id (view (e ∷ []), hs) (4 * key.ranks + p) (λ _. suc c)
+  link_kept : (q p : ℕ) (hs : List (ℕ × Load A)) → q < 2 * key.ranks → hand e c ≡ Entering q (suc p)
+      → Allows (Rule boxable key) slots id (view (e ∷ []), hs) (4 * key.ranks + p) (λ _. suc c)
       (plays.finished (step slots (4 * key.ranks + p) (suc c) 0 maybe.none) (view (e ∷ []), hs))
   link_kept q p hs fits mine s R long at small = let k = own key s R id e at low in
       let w = R.world in let shows : w.place c ≡ entering e.rank q (suc p) =
@@ -159,8 +161,8 @@ module _ (key : Sizes) (slots id : ℕ) (e : Entry) (low : e.rank < key.ranks) (
       )
 
   -- a tail that is now a cell of the rank's own hand is no shadow head
-  swap_told : (s : State Load (View Entry)) (R : Rule key s) (q : ℕ) (y : Load) → q < 2 * key.ranks
-      → R.world.place c ≡ ready e.rank y → (r : ℕ) (g : Entry) → r < key.ranks
+  swap_told : (s : State (Load A) (View (Entry A))) (R : Rule boxable key s) (q : ℕ) (y : Load A) → q < 2 * key.ranks
+      → R.world.place c ≡ ready e.rank y → (r : ℕ) (g : Entry A) → r < key.ranks
       → Agrees key.ranks key.cells R.world r g → LooksHold key.ranks s.words r g
       → LooksHold key.ranks (set s.words (2 * key.ranks + q) (suc c)) r g
   swap_told s R q y fits shows r g low' k t = let n = key.ranks in
@@ -184,10 +186,10 @@ module _ (key : Sizes) (slots id : ℕ) (e : Entry) (low : e.rank < key.ranks) (
         (λ l. one (n + r) g.free.shadow (omega arith) (ap (λ x. x.shadow) k.free) (t.1 l)),
       )
 
-  swap_kept : (q : ℕ) (y : Load) (hs : List (ℕ × Load)) → q < 2 * key.ranks → hand e c ≡ Ready y
+  swap_kept : (q : ℕ) (y : Load A) (hs : List (ℕ × Load A)) → q < 2 * key.ranks → hand e c ≡ Ready y
       → Suits key.ranks key.cells q (item c y)
       → (q < key.ranks → (sender y ≡ suc e.rank) × (number y ≡ sent_to q e.put_box e.put))
-      → Allows (Rule key) slots id (view (e ∷ []), (c, y) ∷ hs) (2 * key.ranks + q) (λ _. suc c)
+      → Allows (Rule boxable key) slots id (view (e ∷ []), (c, y) ∷ hs) (2 * key.ranks + q) (λ _. suc c)
       (plays.swapped (step slots (2 * key.ranks + q) (suc c) 0 maybe.none) (
         view (e ∷ []),
         (c, y) ∷ hs,
@@ -197,8 +199,8 @@ module _ (key : Sizes) (slots id : ℕ) (e : Entry) (low : e.rank < key.ranks) (
       subst (Shows e.rank (w.place c)) mine (k.hands c few) in
       let t = tail key.ranks s.words q in
       let w' = queues.after_swap key.ranks key.cells w s.words s.homes R.laid e.rank q c y in
-      let p : Place = entering e.rank q t in
-      let f : Entry = plays.with_put (posted key.ranks q y) (plays.with_hand c (Entering q t) e) in (
+      let p : Place A = entering e.rank q t in
+      let f : Entry A = plays.with_put (posted key.ranks q y) (plays.with_hand c (Entering q t) e) in (
         view (f ∷ []),
         gives,
         tt,
@@ -257,7 +259,8 @@ module _ (key : Sizes) (slots id : ℕ) (e : Entry) (low : e.rank < key.ranks) (
       )
 
 -- the same for any seat that spoken_of for one rank, of a fabric of n ranks with m cells
-module _ (key : Sizes) (n each slots id : ℕ) (me : plays.Knowing) (alone : plays.Alone me)
+module _ {A : Type 0} (boxable : A → Bool) (key : Sizes) (n each slots id : ℕ) (me : plays.Knowing A)
+    (alone : plays.Alone me)
     (ranks : key.ranks ≡ n) (cells : key.cells ≡ each) (low : (plays.mine me).rank < n) (c : ℕ)
     (few : c < n * each) where
   low' : (plays.mine me).rank < key.ranks
@@ -267,66 +270,66 @@ module _ (key : Sizes) (n each slots id : ℕ) (me : plays.Knowing) (alone : pla
   few' = rw (ranks, cells) few
 
   pub pick_allowed : hand (plays.mine me) c ≡ Loose
-      → Allows (Rule key) slots id me (4 * n + c) (λ k. k)
+      → Allows (Rule boxable key) slots id me (4 * n + c) (λ k. k)
       (plays.picked (step slots (4 * n + c) 0 0 maybe.none) me)
   pick_allowed mine =
-      subst (λ k. Allows (Rule key) slots id me (4 * k + c) (λ j. j)
+      subst (λ k. Allows (Rule boxable key) slots id me (4 * k + c) (λ j. j)
       (plays.picked (step slots (4 * k + c) 0 0 maybe.none) me)) ranks
-      (subst (λ v. Allows (Rule key) slots id (v, me.1) (4 * key.ranks + c) (λ k. k)
+      (subst (λ v. Allows (Rule boxable key) slots id (v, me.1) (4 * key.ranks + c) (λ k. k)
       (plays.picked (step slots (4 * key.ranks + c) 0 0 maybe.none) (v, me.1))) (sym alone)
-      (pick_kept key slots id (plays.mine me) low' c few' me.1 mine))
+      (pick_kept boxable key slots id (plays.mine me) low' c few' me.1 mine))
 
   pub clear_allowed : plays.InHand (hand (plays.mine me) c)
-      → Allows (Rule key) slots id me (4 * n + c) (λ _. 0)
+      → Allows (Rule boxable key) slots id me (4 * n + c) (λ _. 0)
       (plays.cleared (step slots (4 * n + c) 0 0 maybe.none) me)
   clear_allowed inside =
-      subst (λ k. Allows (Rule key) slots id me (4 * k + c) (λ _. 0)
+      subst (λ k. Allows (Rule boxable key) slots id me (4 * k + c) (λ _. 0)
       (plays.cleared (step slots (4 * k + c) 0 0 maybe.none) me)) ranks
-      (subst (λ v. Allows (Rule key) slots id (v, me.1) (4 * key.ranks + c) (λ _. 0)
+      (subst (λ v. Allows (Rule boxable key) slots id (v, me.1) (4 * key.ranks + c) (λ _. 0)
       (plays.cleared (step slots (4 * key.ranks + c) 0 0 maybe.none) (v, me.1))) (sym alone)
-      (clear_kept key slots id (plays.mine me) low' c few' me.1 inside))
+      (clear_kept boxable key slots id (plays.mine me) low' c few' me.1 inside))
 
   -- the cell's number plus 1, as the program writes it
   pub head_allowed : (q : ℕ) → q < 2 * n → hand (plays.mine me) c ≡ Entering q 0
-      → Allows (Rule key) slots id me q (λ _. c + 1)
+      → Allows (Rule boxable key) slots id me q (λ _. c + 1)
       (plays.finished (step slots q (c + 1) 0 maybe.none) me)
   head_allowed q fits mine =
-      subst (λ k. Allows (Rule key) slots id me q (λ _. k)
+      subst (λ k. Allows (Rule boxable key) slots id me q (λ _. k)
       (plays.finished (step slots q k 0 maybe.none) me)) (let e : suc c ≡ c + 1 = omega arith in e)
-      (subst (λ v. Allows (Rule key) slots id (v, me.1) q (λ _. suc c)
+      (subst (λ v. Allows (Rule boxable key) slots id (v, me.1) q (λ _. suc c)
       (plays.finished (step slots q (suc c) 0 maybe.none) (v, me.1))) (sym alone)
-      (head_kept key slots id (plays.mine me) low' c few' q me.1 (rw ranks fits) mine))
+      (head_kept boxable key slots id (plays.mine me) low' c few' q me.1 (rw ranks fits) mine))
 
   pub link_allowed : (q p : ℕ) → q < 2 * n → hand (plays.mine me) c ≡ Entering q (suc p)
-      → Allows (Rule key) slots id me (4 * n + p) (λ _. c + 1)
+      → Allows (Rule boxable key) slots id me (4 * n + p) (λ _. c + 1)
       (plays.finished (step slots (4 * n + p) (c + 1) 0 maybe.none) me)
   link_allowed q p fits mine =
-      subst (λ k. Allows (Rule key) slots id me (4 * k + p) (λ _. c + 1)
+      subst (λ k. Allows (Rule boxable key) slots id me (4 * k + p) (λ _. c + 1)
       (plays.finished (step slots (4 * k + p) (c + 1) 0 maybe.none) me)) ranks
-      (subst (λ k. Allows (Rule key) slots id me (4 * key.ranks + p) (λ _. k)
+      (subst (λ k. Allows (Rule boxable key) slots id me (4 * key.ranks + p) (λ _. k)
       (plays.finished (step slots (4 * key.ranks + p) k 0 maybe.none) me))
       (let e : suc c ≡ c + 1 = omega arith in e)
-      (subst (λ v. Allows (Rule key) slots id (v, me.1) (4 * key.ranks + p) (λ _. suc c)
+      (subst (λ v. Allows (Rule boxable key) slots id (v, me.1) (4 * key.ranks + p) (λ _. suc c)
       (plays.finished (step slots (4 * key.ranks + p) (suc c) 0 maybe.none) (v, me.1)))
       (sym alone)
-      (link_kept key slots id (plays.mine me) low' c few' q p me.1 (rw ranks fits) mine)))
+      (link_kept boxable key slots id (plays.mine me) low' c few' q p me.1 (rw ranks fits) mine)))
 
-  pub swap_allowed : (q : ℕ) (y : Load) (hs : List (ℕ × Load)) → me.1 ≡ (c, y) ∷ hs → q < 2 * n
+  pub swap_allowed : (q : ℕ) (y : Load A) (hs : List (ℕ × Load A)) → me.1 ≡ (c, y) ∷ hs → q < 2 * n
       → hand (plays.mine me) c ≡ Ready y → Suits n each q (item c y)
       → (q < n → (sender y ≡ suc (plays.mine me).rank)
       × (number y ≡ sent_to q (plays.mine me).put_box (plays.mine me).put))
-      → Allows (Rule key) slots id me (2 * n + q) (λ _. c + 1)
+      → Allows (Rule boxable key) slots id me (2 * n + q) (λ _. c + 1)
       (plays.swapped (step slots (2 * n + q) (c + 1) 0 maybe.none) me)
   swap_allowed q y hs has fits mine suits from =
-      subst (λ k. Allows (Rule key) slots id me (2 * k + q) (λ _. c + 1)
+      subst (λ k. Allows (Rule boxable key) slots id me (2 * k + q) (λ _. c + 1)
       (plays.swapped (step slots (2 * k + q) (c + 1) 0 maybe.none) me)) ranks
-      (subst (λ k. Allows (Rule key) slots id me (2 * key.ranks + q) (λ _. k)
+      (subst (λ k. Allows (Rule boxable key) slots id me (2 * key.ranks + q) (λ _. k)
       (plays.swapped (step slots (2 * key.ranks + q) k 0 maybe.none) me))
       (let e : suc c ≡ c + 1 = omega arith in e)
       (let same : me ≡ (view (plays.mine me ∷ []), (c, y) ∷ hs) = λ i. (alone i, has i) in
-      subst (λ m. Allows (Rule key) slots id m (2 * key.ranks + q) (λ _. suc c)
+      subst (λ m. Allows (Rule boxable key) slots id m (2 * key.ranks + q) (λ _. suc c)
       (plays.swapped (step slots (2 * key.ranks + q) (suc c) 0 maybe.none) m)) (sym same)
-      (swap_kept key slots id (plays.mine me) low' c few' q y hs (rw ranks fits) mine
+      (swap_kept boxable key slots id (plays.mine me) low' c few' q y hs (rw ranks fits) mine
       (subst (λ k. Suits k key.cells q (item c y)) (sym ranks)
       (subst (λ k. Suits n k q (item c y)) (sym cells) suits))
       (subst (λ k. q < k → (sender y ≡ suc (plays.mine me).rank)

@@ -20,12 +20,13 @@ use Rattle.nm_chain.specs.Rule.{posted, loads, head, tail, link, IsOut, Suits}
 use Rattle.nm_chain.specs.Rule.{Fits, Handed, QueueHolds, QueuesHold}
 use Rattle.nm_chain.specs.Update.{pick}
 
-pub in_one : (q p : ℕ) (a : Place) → IsIn q a → IsIn p a → q ≡ p
-in_one q p (loose r) h k = absurd h
-in_one q p (held r) h k = absurd h
-in_one q p (ready r y) h k = absurd h
-in_one q p (entering r s t) h k = h ∙ sym k
-in_one q p (queued s) h k = h ∙ sym k
+module _ {A : Type 0} where
+  pub in_one : (q p : ℕ) (a : Place A) → IsIn q a → IsIn p a → q ≡ p
+  in_one q p (loose r) h k = absurd h
+  in_one q p (held r) h k = absurd h
+  in_one q p (ready r y) h k = absurd h
+  in_one q p (entering r s t) h k = h ∙ sym k
+  in_one q p (queued s) h k = h ∙ sym k
 
 -- lists of loads
 pick_append : {A : Type 0} {j k : ℕ} (d : Dec (j ≡ k)) (x : A) (xs ys zs : List A) → zs ≡ xs ++ ys
@@ -33,20 +34,21 @@ pick_append : {A : Type 0} {j k : ℕ} (d : Dec (j ≡ k)) (x : A) (xs ys zs : L
 pick_append (yes _) x xs ys zs e = ap (λ l. x ∷ l) e
 pick_append (no _) x xs ys zs e = e
 
-pub from_append : (i : ℕ) (xs ys : List Load) → from i (xs ++ ys) ≡ from i xs ++ from i ys
-from_append i [] ys = refl
-from_append i (x ∷ xs) ys = pick_append (ℕ_discrete (sender x) (suc i)) x (from i xs) (from i ys)
-    (from i (xs ++ ys)) (from_append i xs ys)
+module _ {A : Type 0} where
+  pub from_append : (i : ℕ) (xs ys : List (Load A)) → from i (xs ++ ys) ≡ from i xs ++ from i ys
+  from_append i [] ys = refl
+  from_append i (x ∷ xs) ys = pick_append (ℕ_discrete (sender x) (suc i)) x (from i xs) (from i ys)
+      (from i (xs ++ ys)) (from_append i xs ys)
 
-pub put_append : (j : ℕ) (xs ys : List (ℕ × Load))
-    → put_to j (xs ++ ys) ≡ put_to j xs ++ put_to j ys
-put_append j [] ys = refl
-put_append j (x ∷ xs) ys = pick_append (ℕ_discrete x.0 j) x.1 (put_to j xs) (put_to j ys)
-    (put_to j (xs ++ ys)) (put_append j xs ys)
+  pub put_append : (j : ℕ) (xs ys : List (ℕ × Load A))
+      → put_to j (xs ++ ys) ≡ put_to j xs ++ put_to j ys
+  put_append j [] ys = refl
+  put_append j (x ∷ xs) ys = pick_append (ℕ_discrete x.0 j) x.1 (put_to j xs) (put_to j ys)
+      (put_to j (xs ++ ys)) (put_append j xs ys)
 
-pub loads_append : (xs ys : Chain) → loads (xs ++ ys) ≡ loads xs ++ loads ys
-loads_append [] ys = refl
-loads_append (x ∷ xs) ys = ap (λ l. x.load ∷ l) (loads_append xs ys)
+  pub loads_append : (xs ys : Chain A) → loads (xs ++ ys) ≡ loads xs ++ loads ys
+  loads_append [] ys = refl
+  loads_append (x ∷ xs) ys = ap (λ l. x.load ∷ l) (loads_append xs ys)
 
 pub pick_yes : {A : Type 0} {j k : ℕ} (d : Dec (j ≡ k)) (x y : A) → j ≡ k → pick d x y ≡ x
 pick_yes (yes _) x y e = refl
@@ -64,80 +66,83 @@ pub below_no : {A : Type 0} {j k : ℕ} (d : Dec (j ≤ k)) (x y : A) → ¬ (j 
 below_no (yes e) x y n = absurd (n e)
 below_no (no _) x y n = refl
 
-pub posted_here : (n q : ℕ) (y : Load) → q < n → put_to q (posted n q y) ≡ y ∷ []
-posted_here n q y low = ap (put_to q) (below_yes (dec_le (suc q) n) ((q, y) ∷ []) [] low)
-    ∙ pick_yes (ℕ_discrete q q) (y ∷ []) [] refl
+module _ {A : Type 0} where
+  pub posted_here : (n q : ℕ) (y : Load A) → q < n → put_to q (posted n q y) ≡ y ∷ []
+  posted_here n q y low = ap (put_to q) (below_yes (dec_le (suc q) n) ((q, y) ∷ []) [] low)
+      ∙ pick_yes (ℕ_discrete q q) (y ∷ []) [] refl
 
-pub posted_else : (n q j : ℕ) (y : Load) → j ≢ q → put_to j (posted n q y) ≡ []
-posted_else n q j y ne =
-    dite (dec_le (suc q) n)
-    (λ low. ap (put_to j) (below_yes (dec_le (suc q) n) ((q, y) ∷ []) [] low)
-    ∙ pick_no (ℕ_discrete q j) (y ∷ []) [] (λ e. ne (sym e)))
-    (λ far. ap (put_to j) (below_no (dec_le (suc q) n) ((q, y) ∷ []) [] far))
+  pub posted_else : (n q j : ℕ) (y : Load A) → j ≢ q → put_to j (posted n q y) ≡ []
+  posted_else n q j y ne =
+      dite (dec_le (suc q) n)
+      (λ low. ap (put_to j) (below_yes (dec_le (suc q) n) ((q, y) ∷ []) [] low)
+      ∙ pick_no (ℕ_discrete q j) (y ∷ []) [] (λ e. ne (sym e)))
+      (λ far. ap (put_to j) (below_no (dec_le (suc q) n) ((q, y) ∷ []) [] far))
 
--- the same chain, its end and its words
-pub moved : (fits : Item Load → Type 0) (place : ℕ → Place) (ln : ℕ → ℕ) (q h t s h' t' s' : ℕ)
-    (xs xs' : Chain) → h' ≡ h → t' ≡ t → s' ≡ s → xs' ≡ xs → IsChain fits place ln q h t s xs
-    → IsChain fits place ln q h' t' s' xs'
-moved fits place ln q h t s h' t' s' xs xs' eh et es ex c = record {
-  once = rw ex c.once;
-  begins = rw (eh, es, ex) c.begins;
-  linked = rw ex c.linked;
-  ends = et ∙ c.ends ∙ ap tail_of (sym ex);
-  each = rw ex c.each;
-  whole = λ d k. rw ex (c.whole d k);
-}
+module _ {A : Type 0} where
+  -- the same chain, its end and its words
+  pub moved : (fits : Item (Load A) → Type 0) (place : ℕ → Place A) (ln : ℕ → ℕ) (q h t s h' t' s' : ℕ)
+      (xs xs' : Chain A) → h' ≡ h → t' ≡ t → s' ≡ s → xs' ≡ xs → IsChain fits place ln q h t s xs
+      → IsChain fits place ln q h' t' s' xs'
+  moved fits place ln q h t s h' t' s' xs xs' eh et es ex c = record {
+    once = rw ex c.once;
+    begins = rw (eh, es, ex) c.begins;
+    linked = rw ex c.linked;
+    ends = et ∙ c.ends ∙ ap tail_of (sym ex);
+    each = rw ex c.each;
+    whole = λ d k. rw ex (c.whole d k);
+  }
 
-pub handed_same : (n : ℕ) (words words' : List ℕ) (homes homes' : List (maybe.Option Load)) (c : ℕ)
-    (p : Place) → get_elem? homes' c ≡ get_elem? homes c → link n words' c ≡ link n words c
-    → Handed n words homes c p → Handed n words' homes' c p
-handed_same n words words' homes homes' c (loose r) e f h = e ∙ h
-handed_same n words words' homes homes' c (held r) e f h = e ∙ h
-handed_same n words words' homes homes' c (ready r y) e f h = (e ∙ h.0, f ∙ h.1)
-handed_same n words words' homes homes' c (entering r q t) e f h = h
-handed_same n words words' homes homes' c (queued q) e f h = h
+module _ {A : Type 0} where
+  pub handed_same : (n : ℕ) (words words' : List ℕ) (homes homes' : List (maybe.Option (Load A))) (c : ℕ)
+      (p : Place A) → get_elem? homes' c ≡ get_elem? homes c → link n words' c ≡ link n words c
+      → Handed n words homes c p → Handed n words' homes' c p
+  handed_same n words words' homes homes' c (loose r) e f h = e ∙ h
+  handed_same n words words' homes homes' c (held r) e f h = e ∙ h
+  handed_same n words words' homes homes' c (ready r y) e f h = (e ∙ h.0, f ∙ h.1)
+  handed_same n words words' homes homes' c (entering r q t) e f h = h
+  handed_same n words words' homes homes' c (queued q) e f h = h
 
-handed_in : (n : ℕ) (words words' : List ℕ) (homes homes' : List (maybe.Option Load)) (q c : ℕ)
-    (p : Place) → IsIn q p → Handed n words homes c p → Handed n words' homes' c p
-handed_in n words words' homes homes' q c (loose r) i h = absurd i
-handed_in n words words' homes homes' q c (held r) i h = absurd i
-handed_in n words words' homes homes' q c (ready r y) i h = absurd i
-handed_in n words words' homes homes' q c (entering r s t) i h = h
-handed_in n words words' homes homes' q c (queued s) i h = h
+  handed_in : (n : ℕ) (words words' : List ℕ) (homes homes' : List (maybe.Option (Load A))) (q c : ℕ)
+      (p : Place A) → IsIn q p → Handed n words homes c p → Handed n words' homes' c p
+  handed_in n words words' homes homes' q c (loose r) i h = absurd i
+  handed_in n words words' homes homes' q c (held r) i h = absurd i
+  handed_in n words words' homes homes' q c (ready r y) i h = absurd i
+  handed_in n words words' homes homes' q c (entering r s t) i h = h
+  handed_in n words words' homes homes' q c (queued s) i h = h
 
-in_range : (n : ℕ) (words : List ℕ) (homes : List (maybe.Option Load)) (q c : ℕ) (p : Place)
-    → IsIn q p → Handed n words homes c p → q < 2 * n
-in_range n words homes q c (loose r) i h = absurd i
-in_range n words homes q c (held r) i h = absurd i
-in_range n words homes q c (ready r y) i h = absurd i
-in_range n words homes q c (entering r s t) i h = subst (λ k. k < 2 * n) (sym i) h
-in_range n words homes q c (queued s) i h = subst (λ k. k < 2 * n) (sym i) h
+  in_range : (n : ℕ) (words : List ℕ) (homes : List (maybe.Option (Load A))) (q c : ℕ) (p : Place A)
+      → IsIn q p → Handed n words homes c p → q < 2 * n
+  in_range n words homes q c (loose r) i h = absurd i
+  in_range n words homes q c (held r) i h = absurd i
+  in_range n words homes q c (ready r y) i h = absurd i
+  in_range n words homes q c (entering r s t) i h = subst (λ k. k < 2 * n) (sym i) h
+  in_range n words homes q c (queued s) i h = subst (λ k. k < 2 * n) (sym i) h
 
-pub has_fit : (F : Item Load → Type 0) (P : ℕ → Type 0) → ((x : Item Load) → F x → P x.cell)
-    → (xs : Chain) → Each F xs → (c : ℕ) → Has c xs → P c
-has_fit F P f [] e c h = absurd h
-has_fit F P f (x ∷ xs) e c h =
-    ⊎_elim (λ s. subst P (sym s) (f x e.0)) (λ k. has_fit F P f xs e.1 c k) h
+  pub has_fit : (F : Item (Load A) → Type 0) (P : ℕ → Type 0) → ((x : Item (Load A)) → F x → P x.cell)
+      → (xs : Chain A) → Each F xs → (c : ℕ) → Has c xs → P c
+  has_fit F P f [] e c h = absurd h
+  has_fit F P f (x ∷ xs) e c h =
+      ⊎_elim (λ s. subst P (sym s) (f x e.0)) (λ k. has_fit F P f xs e.1 c k) h
 
-last_fits : (m c : ℕ) (xs : Chain) → c < m → ((d : ℕ) → Has d xs → d < m) → last_from c xs ≤ m
-last_fits m c [] low all = low
-last_fits m c (x ∷ xs) low all = last_fits m x.cell xs (all x.cell (inl refl))
-    (λ d k. all d (inr k))
+  last_fits : (m c : ℕ) (xs : Chain A) → c < m → ((d : ℕ) → Has d xs → d < m) → last_from c xs ≤ m
+  last_fits m c [] low all = low
+  last_fits m c (x ∷ xs) low all = last_fits m x.cell xs (all x.cell (inl refl))
+      (λ d k. all d (inr k))
 
-tail_fits : (m : ℕ) (xs : Chain) → ((d : ℕ) → Has d xs → d < m) → tail_of xs ≤ m
-tail_fits m [] all = omega arith
-tail_fits m (x ∷ xs) all = last_fits m x.cell xs (all x.cell (inl refl)) (λ d k. all d (inr k))
+  tail_fits : (m : ℕ) (xs : Chain A) → ((d : ℕ) → Has d xs → d < m) → tail_of xs ≤ m
+  tail_fits m [] all = omega arith
+  tail_fits m (x ∷ xs) all = last_fits m x.cell xs (all x.cell (inl refl)) (λ d k. all d (inr k))
 
-pub head_fits : (m : ℕ) (place : ℕ → Place) (q hd shadow : ℕ) (xs : Chain) → Begins place q hd shadow xs
-    → ((d : ℕ) → Has d xs → d < m) → hd ≤ m
-head_fits m place q hd shadow [] b all = let z = b.1 in omega arith
-head_fits m place q hd shadow (x ∷ xs) b all = let here = all x.cell (inl refl) in
-    ⊎_elim (λ s. let z = s.1 in omega arith)
-    (λ b'. ⊎_elim (λ s. let z = s.1 in omega arith) (λ s. let z = s.1 in omega arith) b') b
+  pub head_fits : (m : ℕ) (place : ℕ → Place A) (q hd shadow : ℕ) (xs : Chain A) → Begins place q hd shadow xs
+      → ((d : ℕ) → Has d xs → d < m) → hd ≤ m
+  head_fits m place q hd shadow [] b all = let z = b.1 in omega arith
+  head_fits m place q hd shadow (x ∷ xs) b all = let here = all x.cell (inl refl) in
+      ⊎_elim (λ s. let z = s.1 in omega arith)
+      (λ b'. ⊎_elim (λ s. let z = s.1 in omega arith) (λ s. let z = s.1 in omega arith) b') b
 
-module _ (n each : ℕ) where
+module _ {A : Type 0} (n each : ℕ) where
   -- a queue that a step leaves alone
-  pub rests : (w w' : World) (words words' : List ℕ) (homes homes' : List (maybe.Option Load)) (q : ℕ)
+  pub rests : (w w' : World A) (words words' : List ℕ) (homes homes' : List (maybe.Option (Load A))) (q : ℕ)
       → QueueHolds n each w words homes q
       → head n words' q ≡ head n words q → tail n words' q ≡ tail n words q
       → (w'.heads q).shadow ≡ (w.heads q).shadow → w'.chain q ≡ w.chain q
@@ -153,18 +158,18 @@ module _ (n each : ℕ) where
       (head n words q) (tail n words q) (w.heads q).shadow (w.chain q) h w'.place
       (link n words') same back (λ x i f. (f.0, keep x.cell i ∙ f.1, f.2)))
 
-  module _ (w : World) (words : List ℕ) (homes : List (maybe.Option Load))
+  module _ (w : World A) (words : List ℕ) (homes : List (maybe.Option (Load A)))
       (l : QueuesHold n each w words homes) where
-    abbrev pub with_place : (ℕ → Place) → World
+    abbrev pub with_place : (ℕ → Place A) → World A
     with_place p = record w { place = p }
 
     -- the place of a cell changes from one that is in no other queue to one that is in no other
-    pub spared : (q c : ℕ) (p : Place) → ¬ IsIn q (w.place c) → ¬ IsIn q p → (d : ℕ)
+    pub spared : (q c : ℕ) (p : Place A) → ¬ IsIn q (w.place c) → ¬ IsIn q p → (d : ℕ)
         → IsIn q (w.place d) → update w.place c p d ≡ w.place d
     spared q c p out never d k =
         update_else w.place c p d (λ e. out (subst (λ u. IsIn q (w.place u)) e k))
 
-    pub was_in : (q c : ℕ) (p : Place) → ¬ IsIn q p → (d : ℕ) → IsIn q (update w.place c p d)
+    pub was_in : (q c : ℕ) (p : Place A) → ¬ IsIn q p → (d : ℕ) → IsIn q (update w.place c p d)
         → IsIn q (w.place d)
     was_in q c p never d k =
         dite (ℕ_discrete d c) (λ e. absurd (never (subst (IsIn q) (update_here w.place c p d e) k)))
@@ -174,7 +179,7 @@ module _ (n each : ℕ) where
     apart_in q c out d k e = out (subst (λ u. IsIn q (w.place u)) e k)
 
     -- the cells but one are as they were
-    pub cells_but : (c : ℕ) (p : Place) (words' : List ℕ) (homes' : List (maybe.Option Load))
+    pub cells_but : (c : ℕ) (p : Place A) (words' : List ℕ) (homes' : List (maybe.Option (Load A)))
         → Handed n words' homes' c p → ((d : ℕ) → d ≢ c → Handed n words homes d (w.place d)
         → Handed n words' homes' d (w.place d))
         → (d : ℕ) → d < n * each → Handed n words' homes' d (update w.place c p d)
@@ -185,8 +190,8 @@ module _ (n each : ℕ) where
         (else d ne (l.cells d low)))
 
     -- a step behind the links and the cells' slots
-    pub elsewhere : (w' : World) → w'.place ≡ w.place → w'.chain ≡ w.chain → w'.heads ≡ w.heads
-        → w'.put ≡ w.put → w'.got ≡ w.got → (words' : List ℕ) (homes' : List (maybe.Option Load))
+    pub elsewhere : (w' : World A) → w'.place ≡ w.place → w'.chain ≡ w.chain → w'.heads ≡ w.heads
+        → w'.put ≡ w.put → w'.got ≡ w.got → (words' : List ℕ) (homes' : List (maybe.Option (Load A)))
         → length words' ≡ length words → length homes' ≡ length homes
         → ((k : ℕ) → k < 4 * n + n * each → slice_index words' k ≡ slice_index words k)
         → ((k : ℕ) → k < n * each → get_elem? homes' k ≡ get_elem? homes k)
@@ -199,16 +204,16 @@ module _ (n each : ℕ) where
           (l.queues q few).each c ((l.queues q few).whole c i) in
           rests w w' words words' homes homes' q (l.queues q few) (ew q (omega arith))
           (ew (2 * n + q) (omega arith)) (ap (λ (g : ℕ → Heads). (g q).shadow) ee)
-          (ap (λ (g : ℕ → Chain). g q) ec)
+          (ap (λ (g : ℕ → Chain A). g q) ec)
           (λ c i. (
             ew (4 * n + c) (let z = in_q c i in omega arith),
-            ap (λ (g : ℕ → Place). g c) ep,
-          )) (λ c i. subst (λ (g : ℕ → Place). IsIn q (g c)) ep i)
+            ap (λ (g : ℕ → Place A). g c) ep,
+          )) (λ c i. subst (λ (g : ℕ → Place A). IsIn q (g c)) ep i)
           (λ c i. eh c (in_q c i));
       seen = λ q few some. ew q (omega arith)
           ∙ l.seen q few (subst (λ (g : ℕ → Heads). 0 < (g q).seen) ee some)
           ∙ ap (λ (g : ℕ → Heads). (g q).seen) (sym ee);
-      cells = λ c low. subst (λ (g : ℕ → Place). Handed n words' homes' c (g c)) (sym ep)
+      cells = λ c low. subst (λ (g : ℕ → Place A). Handed n words' homes' c (g c)) (sym ep)
           (handed_same n words words' homes homes' c (w.place c) (eh c low)
           (ew (4 * n + c) (omega arith)) (l.cells c low));
       paths = λ i j li lj. rw (eu, eg, ec) (l.paths i j li lj);
@@ -234,7 +239,7 @@ module _ (n each : ℕ) where
         }
 
     -- the link of a cell in hand is cleared
-    pub cleared : (r c : ℕ) (y : Load) → c < n * each → IsOut homes c
+    pub cleared : (r c : ℕ) (y : Load A) → c < n * each → IsOut homes c
         → ((q : ℕ) → ¬ IsIn q (w.place c))
         → QueuesHold n each (with_place (update w.place c (ready r y)))
         (set words (4 * n + c) 0) homes
@@ -368,7 +373,7 @@ module _ (n each : ℕ) where
         }
 
     -- the paths after one more load of the rank r in the queue q
-    paths_more : (r q : ℕ) (x : Item Load) → (q < n → sender x.load ≡ suc r) → (i j : ℕ) → i < n
+    paths_more : (r q : ℕ) (x : Item (Load A)) → (q < n → sender x.load ≡ suc r) → (i j : ℕ) → i < n
         → j < n
         → put_to j (update w.put r (w.put r ++ posted n q x.load) i) ≡ from i (w.got j) ++ from i
         (loads (update w.chain q (w.chain q ++ x ∷ []) j))
@@ -405,7 +410,7 @@ module _ (n each : ℕ) where
         (λ ni. ap (put_to j) (update_else w.put r many i ni) ∙ sym right))
 
     -- a ready cell is put at the tail
-    abbrev pub after_swap : ℕ → ℕ → ℕ → Load → World
+    abbrev pub after_swap : ℕ → ℕ → ℕ → Load A → World A
     after_swap r q c y = record w {
       place =
           update w.place c (entering r q (tail n words q));
@@ -415,13 +420,13 @@ module _ (n each : ℕ) where
           update w.put r (w.put r ++ posted n q y);
     }
 
-    pub swapped : (r q c : ℕ) (y : Load) → q < 2 * n → c < n * each → w.place c ≡ ready r y
+    pub swapped : (r q c : ℕ) (y : Load A) → q < 2 * n → c < n * each → w.place c ≡ ready r y
         → Suits n each q (item c y) → (q < n → sender y ≡ suc r)
         → QueuesHold n each (after_swap r q c y) (set words (2 * n + q) (suc c))
         (set homes c (maybe.some y))
     swapped r q c y few low at suits from_r = let words' = set words (2 * n + q) (suc c) in
         let homes' = set homes c (maybe.some y) in let w' = after_swap r q c y in
-        let spot : Place = entering r q (tail n words q) in
+        let spot : Place A = entering r q (tail n words q) in
         let never : (k : ℕ) → ¬ IsIn k (w.place c) = λ k i. subst (IsIn k) at i in
         let mine = subst (Handed n words homes c) at (l.cells c low) in
         let in_words : 2 * n + q < length words = let long = l.long in omega arith in

@@ -1,5 +1,5 @@
 -- What a step of one seat leaves as it was, and the rule after it.
-use Rattle.std.proofs.Common.{◌≡◌, ◌≢◌, ℕ, ◌+◌, ◌*◌, ◌<◌, ◌⊎◌, List, [], ◌∷◌}
+use Rattle.std.proofs.Common.{Bool, ◌≡◌, ◌≢◌, ℕ, ◌+◌, ◌*◌, ◌<◌, ◌⊎◌, List, [], ◌∷◌}
 use Rattle.std.proofs.Common.{length, set, sym, refl, ap, ◌∙◌, inl, inr, subst, ⊎_elim, arith}
 use Rattle.std.proofs.Common.{length-set, get_or-set_same, get_or-set_other}
 use Rattle.std.proofs.lemmas.List.{set-get_or}
@@ -24,32 +24,33 @@ use Rattle.nm_chain.specs.Rule.{tail}
 use Rattle.nm_chain.specs.Rule.{QueuesHold, BoxesHold, AllInSequence, LooksHold, Rule}
 use Rattle.nm_chain.specs.Plays as plays
 
--- a rank sees nothing of what has no part of it
-shown_else : (r : ℕ) (p p' : Place) (h : Hand) → NotOf r p → NotOf r p' → Shows r p h → Shows r p' h
-shown_else r p p' Away n n' s = n'
-shown_else r p p' Loose n n' s = absurd (subst (NotOf r) s n refl)
-shown_else r p p' Held n n' s = absurd (subst (NotOf r) s n refl)
-shown_else r p p' (Ready y) n n' s = absurd (subst (NotOf r) s n refl)
-shown_else r p p' (Entering q t) n n' s = absurd (subst (NotOf r) s n refl)
+module _ {A : Type 0} where
+  -- a rank sees nothing of what has no part of it
+  shown_else : (r : ℕ) (p p' : Place A) (h : Hand A) → NotOf r p → NotOf r p' → Shows r p h → Shows r p' h
+  shown_else r p p' Away n n' s = n'
+  shown_else r p p' Loose n n' s = absurd (subst (NotOf r) s n refl)
+  shown_else r p p' Held n n' s = absurd (subst (NotOf r) s n refl)
+  shown_else r p p' (Ready y) n n' s = absurd (subst (NotOf r) s n refl)
+  shown_else r p p' (Entering q t) n n' s = absurd (subst (NotOf r) s n refl)
 
-pub below_put : (n : ℕ) (place : ℕ → Place) (c : ℕ) (p : Place) → Below n p
-    → ((d : ℕ) → Below n (place d)) → (d : ℕ) → Below n (update place c p d)
-below_put n place c p b all d =
-    dite (ℕ_discrete d c) (λ e. subst (Below n) (sym (update_here place c p d e)) b)
-    (λ ne. subst (Below n) (sym (update_else place c p d ne)) (all d))
+  pub below_put : (n : ℕ) (place : ℕ → Place A) (c : ℕ) (p : Place A) → Below n p
+      → ((d : ℕ) → Below n (place d)) → (d : ℕ) → Below n (update place c p d)
+  below_put n place c p b all d =
+      dite (ℕ_discrete d c) (λ e. subst (Below n) (sym (update_here place c p d e)) b)
+      (λ ne. subst (Below n) (sym (update_else place c p d ne)) (all d))
 
--- what a rank was told is still so where the tails of its queues are the same
-pub still_told : (n : ℕ) (words words' : List ℕ) (r : ℕ) (e : Entry)
-    → tail n words' r ≡ tail n words r → tail n words' (n + r) ≡ tail n words (n + r)
-    → LooksHold n words r e → LooksHold n words' r e
-still_told n words words' r e ends frees t = (
-  (λ k. let o = t.0 k in (o.0, (λ z. o.1 (sym ends ∙ z)))),
-  (λ k. let o = t.1 k in (o.0, (λ z. o.1 (sym frees ∙ z)))),
-)
+  -- what a rank was told is still so where the tails of its queues are the same
+  pub still_told : (n : ℕ) (words words' : List ℕ) (r : ℕ) (e : Entry A)
+      → tail n words' r ≡ tail n words r → tail n words' (n + r) ≡ tail n words (n + r)
+      → LooksHold n words r e → LooksHold n words' r e
+  still_told n words words' r e ends frees t = (
+    (λ k. let o = t.0 k in (o.0, (λ z. o.1 (sym ends ∙ z)))),
+    (λ k. let o = t.1 k in (o.0, (λ z. o.1 (sym frees ∙ z)))),
+  )
 
-module _ (n m : ℕ) (w : World) where
+module _ {A : Type 0} (n m : ℕ) (w : World A) where
   -- the entry of a rank of which nothing changes
-  pub knows_else : (w' : World) (r : ℕ) (e : Entry) → Agrees n m w r e
+  pub knows_else : (w' : World A) (r : ℕ) (e : Entry A) → Agrees n m w r e
       → ((c : ℕ) → (w'.place c ≡ w.place c) ⊎ (NotOf r (w.place c) × NotOf r (w'.place c)))
       → w'.heads r ≡ w.heads r → w'.heads (n + r) ≡ w.heads (n + r) → w'.put r ≡ w.put r
       → w'.got r ≡ w.got r
@@ -75,7 +76,7 @@ module _ (n m : ℕ) (w : World) where
   }
 
   -- one cell goes from a place of the rank r, or of nobody, to another
-  pub place_but : (r : ℕ) (c : ℕ) (p : Place) → NotOf r (w.place c) → NotOf r p → (d : ℕ)
+  pub place_but : (r : ℕ) (c : ℕ) (p : Place A) → NotOf r (w.place c) → NotOf r p → (d : ℕ)
       → (update w.place c p d ≡ w.place d) ⊎ (NotOf r (w.place d) × NotOf r (update w.place c p d))
   place_but r c p n n' d =
       dite (ℕ_discrete d c)
@@ -86,7 +87,7 @@ module _ (n m : ℕ) (w : World) where
       (λ ne. inl (update_else w.place c p d ne))
 
   -- the hand of a cell in the entry of its own rank
-  pub hands_but : (r c : ℕ) (p : Place) (h : Hand) (e : Entry) → Agrees n m w r e → c < n * m
+  pub hands_but : (r c : ℕ) (p : Place A) (h : Hand A) (e : Entry A) → Agrees n m w r e → c < n * m
       → Shows r p h → (d : ℕ) → d < n * m
       → Shows r (update w.place c p d) (slice_index_or (set e.hands c h) d Away)
   hands_but r c p h e k low s d few = dite (ℕ_discrete d c)
@@ -97,7 +98,8 @@ module _ (n m : ℕ) (w : World) where
       (λ ne. rw (update_else w.place c p d ne, get_or-set_other e.hands c d h Away ne)
       (k.hands d few))
 
-module _ (key : Sizes) (s : State Load (View Entry)) (R : Rule key s) (id : ℕ) (e : Entry)
+module _ {A : Type 0} {boxable : A → Bool} (key : Sizes) (s : State (Load A) (View (Entry A)))
+    (R : Rule boxable key s) (id : ℕ) (e : Entry A)
     (at : get_elem? s.views id ≡ maybe.some (view (e ∷ []))) (low : e.rank < key.ranks) where
   abbrev n : ℕ
   n = key.ranks
@@ -114,14 +116,14 @@ module _ (key : Sizes) (s : State Load (View Entry)) (R : Rule key s) (id : ℕ)
       (spoken_of rank_of R.ledger s.views R.spoken id e [] at) (R.told e.rank low)
 
   -- the rule after a step of this seat
-  pub ruled_by : (w' : World) (f : Entry) (words' : List ℕ) (homes' : List (maybe.Option Load))
+  pub ruled_by : (w' : World A) (f : Entry A) (words' : List ℕ) (homes' : List (maybe.Option (Load A)))
       → ((c : ℕ) → Below n (w'.place c)) → QueuesHold n key.cells w' words' homes'
-      → BoxesHold n key.cells w' words' homes' → AllInSequence n w' → Agrees n m w' e.rank f
-      → ((r : ℕ) (g : Entry) → r < key.ranks → r ≢ e.rank → Agrees n m R.world r g
+      → BoxesHold boxable n key.cells w' words' homes' → AllInSequence n w' → Agrees n m w' e.rank f
+      → ((r : ℕ) (g : Entry A) → r < key.ranks → r ≢ e.rank → Agrees n m R.world r g
       → Agrees n m w' r g) → LooksHold n words' e.rank f
-      → ((r : ℕ) (g : Entry) → r < key.ranks → r ≢ e.rank → Agrees n m R.world r g
+      → ((r : ℕ) (g : Entry A) → r < key.ranks → r ≢ e.rank → Agrees n m R.world r g
       → LooksHold n s.words r g → LooksHold n words' r g)
-      → Rule key record {
+      → Rule boxable key record {
         words = words';
         homes = homes';
         views =
@@ -148,13 +150,13 @@ module _ (key : Sizes) (s : State Load (View Entry)) (R : Rule key s) (id : ℕ)
   }
 
   -- the same where the tails stay
-  pub ruled : (w' : World) (f : Entry) (words' : List ℕ) (homes' : List (maybe.Option Load))
+  pub ruled : (w' : World A) (f : Entry A) (words' : List ℕ) (homes' : List (maybe.Option (Load A)))
       → LooksHold n s.words e.rank f
       → ((q : ℕ) → q < 2 * n → tail n words' q ≡ tail n s.words q)
       → ((c : ℕ) → Below n (w'.place c)) → QueuesHold n key.cells w' words' homes'
-      → BoxesHold n key.cells w' words' homes' → AllInSequence n w' → Agrees n m w' e.rank f
-      → ((r : ℕ) (g : Entry) → r < key.ranks → r ≢ e.rank → Agrees n m R.world r g
-      → Agrees n m w' r g) → Rule key record {
+      → BoxesHold boxable n key.cells w' words' homes' → AllInSequence n w' → Agrees n m w' e.rank f
+      → ((r : ℕ) (g : Entry A) → r < key.ranks → r ≢ e.rank → Agrees n m R.world r g
+      → Agrees n m w' r g) → Rule boxable key record {
         words = words';
         homes = homes';
         views =
@@ -168,14 +170,14 @@ module _ (key : Sizes) (s : State Load (View Entry)) (R : Rule key s) (id : ℕ)
       (same (n + r) (omega arith)) o)
 
   -- one cell changes hands, and nothing else
-  pub one_hand : (c : ℕ) (p : Place) (h : Hand) (words' : List ℕ)
-      (homes' : List (maybe.Option Load))
+  pub one_hand : (c : ℕ) (p : Place A) (h : Hand A) (words' : List ℕ)
+      (homes' : List (maybe.Option (Load A)))
       → ((q : ℕ) → q < 2 * n → tail n words' q ≡ tail n s.words q)
       → c < key.ranks * key.cells → Below key.ranks p
       → Shows e.rank p h → ((r : ℕ) → r ≢ e.rank → NotOf r (R.world.place c) × NotOf r p)
       → QueuesHold n key.cells (record R.world { place = update R.world.place c p }) words' homes'
-      → BoxesHold n key.cells R.world words' homes'
-      → Rule key record {
+      → BoxesHold boxable n key.cells R.world words' homes'
+      → Rule boxable key record {
         words = words';
         homes = homes';
         views =
@@ -205,13 +207,13 @@ module _ (key : Sizes) (s : State Load (View Entry)) (R : Rule key s) (id : ℕ)
       refl refl (λ _. refl))
 
   -- a load that changes the entry alone
-  pub only : (i : ℕ) (f : Entry) → Agrees n m R.world e.rank f → LooksHold n s.words e.rank f
-      → Rule key record {
+  pub only : (i : ℕ) (f : Entry A) → Agrees n m R.world e.rank f → LooksHold n s.words e.rank f
+      → Rule boxable key record {
         words = set s.words i (slice_index s.words i);
         homes = s.homes;
         views = set s.views id (view (f ∷ []));
       }
-  only i f kf told = subst (λ ws. Rule key record {
+  only i f kf told = subst (λ ws. Rule boxable key record {
     words = ws;
     homes = s.homes;
     views = set s.views id (view (f ∷ []));

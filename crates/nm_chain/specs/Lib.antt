@@ -1,4 +1,5 @@
 pub mod Chain
+pub mod Items
 pub mod Looks
 pub mod NextBox
 pub mod Plays

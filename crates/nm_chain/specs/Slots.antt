@@ -1,7 +1,9 @@
 -- What a slot holds.
 use Rattle.std.specs.Prelude.{Bool, true, false, Option, Some, None}
+use Rattle.std.specs.declared.boxed.Box.{Box}
 
--- a value where the slot is full, and none where it isn't
-abbrev pub load_of : {A : Type 0} → Bool → A → Option A
-load_of true x = Some x
-load_of false x = None
+-- the value in the box where the slot is full, and none where it isn't
+abbrev pub load_of : {A Z : Type 0} → Bool → Option (Box A Z) → Option A
+load_of true (Some b) = Some b.value
+load_of true None = None
+load_of false y = None

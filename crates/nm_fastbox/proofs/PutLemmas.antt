@@ -1,4 +1,4 @@
--- How many packets were sent to each rank, once one more was put.
+-- How many parcels were sent to each rank, once one more was put.
 use Rattle.std.proofs.Common.{◌≡◌, ℕ, ◌+◌, List, [], ◌∷◌, ◌++◌, length, sym, ap, ◌∙◌}
 use Rattle.std.proofs.Common.{arith, length-append}
 use mathlib.Core.Logic.{dite}
@@ -9,18 +9,19 @@ use Rattle.nm_chain.specs.Rule.{Load, put_to, sent_to}
 use Rattle.nm_chain.proofs.QueueLemmas.{put_append, pick_yes}
 use Rattle.nm_cells.proofs.NumberLemmas.{put_other}
 
-put_longer : (i j : ℕ) (y : Load) (xs : List (ℕ × Load)) → i ≡ j
-    → length (put_to i (xs ++ (j, y) ∷ [])) ≡ length (put_to i xs) + 1
-put_longer i j y xs e = ap length (put_append i xs ((j, y) ∷ []))
-    ∙ length-append (put_to i xs) _
-    ∙ ap (λ l. length (put_to i xs) + length l)
-    (pick_yes (ℕ_discrete j i) (y ∷ []) [] (sym e))
+module _ {A : Type 0} where
+  put_longer : (i j : ℕ) (y : Load A) (xs : List (ℕ × Load A)) → i ≡ j
+      → length (put_to i (xs ++ (j, y) ∷ [])) ≡ length (put_to i xs) + 1
+  put_longer i j y xs e = ap length (put_append i xs ((j, y) ∷ []))
+      ∙ length-append (put_to i xs) _
+      ∙ ap (λ l. length (put_to i xs) + length l)
+      (pick_yes (ℕ_discrete j i) (y ∷ []) [] (sym e))
 
-module _ (by_box by_cell : List (ℕ × Load)) (j : ℕ) (y : Load) where
+module _ {A : Type 0} (by_box by_cell : List (ℕ × Load A)) (j : ℕ) (y : Load A) where
   abbrev sent : ℕ → ℕ
   sent i = sent_to i by_box by_cell
 
-  -- one more packet was sent to the rank j, by cell or by box
+  -- one more parcel was sent to the rank j, by cell or by box
   pub sent_cell : (i : ℕ) → sent_to i by_box (by_cell ++ (j, y) ∷ [])
       ≡ update sent j (sent j + 1) i
   sent_cell i = dite (ℕ_discrete i j)

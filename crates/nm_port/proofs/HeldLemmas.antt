@@ -1,4 +1,4 @@
--- A packet that came by cell and wasn't passed on: it is held, it is passed on, or it was overtaken.
+-- A parcel that came by cell and wasn't passed on: it is held, it is passed on, or it was overtaken.
 use Rattle.std.proofs.Common.{◌≡◌, ◌≢◌, ℕ, suc, ◌+◌, ◌<◌, ◌≤◌, Option, Some, None}
 use Rattle.std.proofs.Common.{List, [], ◌∷◌, length, map, sym, refl, ap, ◌∙◌, inl, inr, subst}
 use Rattle.std.proofs.Common.{⊎_elim, arith}
@@ -7,11 +7,7 @@ use Rattle.std.proofs.Props.{props}
 use Rattle.std.proofs.lemmas.List.Sums.{sum_by-set}
 use mathlib.Core.Logic.{dite}
 use native.Mathlib.Decide.{ℕ_discrete, dec_le}
-use base.Stored.{Coded-set}
-use denote.Struct.Declared.{row}
-use Rattle.std.specs.Coded.{coded_option}
-use Rattle.nm_types.specs.contracts.packets.Packet.{the_type}
-use Rattle.nm_types.specs.declared.packets.Packet.{Packet}
+use Rattle.nm_chain.specs.declared.table.parcels.Parcel.{Parcel}
 use Rattle.nm_chain.specs.Sequence.{Has}
 use Rattle.nm_chain.proofs.SequenceLemmas.{each_has}
 use Rattle.nm_cells.specs.declared.tallies.Tally.{Tally}
@@ -26,25 +22,26 @@ use Rattle.nm_cells.proofs.NumberLemmas.{one_of_has, one_number}
 use Rattle.nm_cells.proofs.PortLemmas.{peer_low}
 use Rattle.nm_port.specs.Polls.{count_held, HoldsTheRest, NotOvertaken}
 
--- one of these loads with the number k
-abbrev WithNumber : ℕ → List Load → Type 0
-WithNumber k xs = (y : Load) × IsOneOf y xs × (number y ≡ k)
+module _ {A : Type 0} where
+  -- one of these loads with the number k
+  abbrev WithNumber : ℕ → List (Load A) → Type 0
+  WithNumber k xs = (y : Load A) × IsOneOf y xs × (number y ≡ k)
 
-with_number : (k : ℕ) (xs : List Load) → Dec (WithNumber k xs)
-with_number k [] = no (λ h. h.1)
-with_number k (x ∷ xs) = dite (ℕ_discrete (number x) k) (λ e. yes (x, inl refl, e))
-    (λ ne. behind ne (with_number k xs)) where
-      behind : number x ≢ k → Dec (WithNumber k xs) → Dec (WithNumber k (x ∷ xs))
-      behind ne (yes h) = yes (h.0, inr h.1, h.2)
-      behind ne (no n) = no (λ h. ⊎_elim (λ e. ne (ap number (sym e) ∙ h.2))
-          (λ k. n (h.0, k, h.2)) h.1)
+  with_number : (k : ℕ) (xs : List (Load A)) → Dec (WithNumber k xs)
+  with_number k [] = no (λ h. h.1)
+  with_number k (x ∷ xs) = dite (ℕ_discrete (number x) k) (λ e. yes (x, inl refl, e))
+      (λ ne. behind ne (with_number k xs)) where
+        behind : number x ≢ k → Dec (WithNumber k xs) → Dec (WithNumber k (x ∷ xs))
+        behind ne (yes h) = yes (h.0, inr h.1, h.2)
+        behind ne (no n) = no (λ h. ⊎_elim (λ e. ne (ap number (sym e) ∙ h.2))
+            (λ k. n (h.0, k, h.2)) h.1)
 
 -- two loads are equal in one way
-load_once : (y z : Load) → IsProp (y ≡ z)
-load_once = Coded-set (coded_option (row the_type).coded)
+abbrev pub Once : Type 0 → Type 0
+Once A = (y z : Load A) → IsProp (y ≡ z)
 
-module _ (p : Port) (x : Packet) (is : p.held ≡ Some x) where
-  abbrev came : List Load
+module _ {A : Type 0} (once : Once A) (p : Port A) (x : Parcel A) (is : p.held ≡ Some x) where
+  abbrev came : List (Load A)
   came = from x.from (knows p).got
 
   below : x.from < (knows p).ranks
@@ -54,12 +51,12 @@ module _ (p : Port) (x : Packet) (is : p.held ≡ Some x) where
   left = ∥∥₁_elim p.counts (search props) (λ n. (n.holds x is).2)
 
   is_one : Dec (WithNumber x.seq came) → IsOneOf (Some x) came
-  is_one (yes h) = subst (λ y. IsOneOf y came) (∥∥₁_elim p.counts (load_once h.0 (Some x))
+  is_one (yes h) = subst (λ y. IsOneOf y came) (∥∥₁_elim p.counts (once h.0 (Some x))
       (λ n. one_number h.0 (Some x) came (n.each x.from below).rises h.1 (n.holds x is).1 h.2)) h.1
   is_one (no n) = absurd (∥∥₁_elim p.counts (λ a b. absurd a)
       (λ c. n (Some x, (c.holds x is).1, refl)))
 
-  -- a packet that is held came by cell and wasn't passed on
+  -- a parcel that is held came by cell and wasn't passed on
   pub held_unpassed : IsUnpassed p x
   held_unpassed = (below, is_one (with_number x.seq came), left)
 
@@ -97,7 +94,7 @@ one_of_all : (i : ℕ) (peers : List Tally) → i < length peers
 one_of_all i peers low = let s = sum_by-set (λ (p : Tally). p.unpassed) peers i new_tally new_tally low
     in omega arith
 
-module _ (p : Port) (x : Packet) (un : IsUnpassed p x) where
+module _ {A : Type 0} (p : Port A) (x : Parcel A) (un : IsUnpassed p x) where
   -- where it is the one that is left, and not the next one of its sender, it came before that one
   pub is_overtaken : unpassed_by p ≤ 1 → x.seq ≢ taken_by p x.from
       → Overtaken (knows p) x.from (taken_by p x.from)
@@ -115,20 +112,21 @@ module _ (p : Port) (x : Packet) (un : IsUnpassed p x) where
             let is = o.unpassed in omega (arith, two, all, is, few)) came),
       )
 
--- Where no sender was overtaken, and no packet is held whose turn has come, none is held
-none_held : (p : Port) → HoldsTheRest p
-    → ((x : Packet) → p.held ≡ Some x → x.seq ≢ taken_by p x.from)
-    → ((i : ℕ) → i < (knows p).ranks → NotOvertaken p i) → p.held ≡ None
-none_held p rest later not = by_held p.held refl where
-  by_held : (h : Option Packet) → p.held ≡ h → p.held ≡ None
-  by_held None is = is
-  by_held (Some x) is = let un = held_unpassed p x is in
-      let one : unpassed_by p ≡ 1 = rest ∙ ap count_held is in
-      absurd (not x.from un.0 (is_overtaken p x un (omega arith) (later x is)))
+module _ {A : Type 0} where
+  -- Where no sender was overtaken, and no parcel is held whose turn has come, none is held
+  none_held : Once A → (p : Port A) → HoldsTheRest p
+      → ((x : Parcel A) → p.held ≡ Some x → x.seq ≢ taken_by p x.from)
+      → ((i : ℕ) → i < (knows p).ranks → NotOvertaken p i) → p.held ≡ None
+  none_held once p rest later not = by_held p.held refl where
+    by_held : (h : Option (Parcel A)) → p.held ≡ h → p.held ≡ None
+    by_held None is = is
+    by_held (Some x) is = let un = held_unpassed once p x is in
+        let one : unpassed_by p ≡ 1 = rest ∙ ap count_held is in
+        absurd (not x.from un.0 (is_overtaken p x un (omega arith) (later x is)))
 
--- the same, where the looks at the boxes began after a look at the held packet, which changed nothing
-pub none_waits : (p q : Port) → q ≡ p → HoldsTheRest p
-    → ((x : Packet) → p.held ≡ Some x → x.seq ≢ taken_by p x.from)
-    → ((i : ℕ) → i < (knows p).ranks → NotOvertaken q i) → p.held ≡ None
-none_waits p q same rest later not =
-    none_held p rest later (λ i low. subst (λ (r : Port). NotOvertaken r i) same (not i low))
+  -- the same, where the looks at the boxes began after a look at the held parcel, which changed nothing
+  pub none_waits : Once A → (p q : Port A) → q ≡ p → HoldsTheRest p
+      → ((x : Parcel A) → p.held ≡ Some x → x.seq ≢ taken_by p x.from)
+      → ((i : ℕ) → i < (knows p).ranks → NotOvertaken q i) → p.held ≡ None
+  none_waits once p q same rest later not =
+      none_held once p rest later (λ i low. subst (λ (r : Port A). NotOvertaken r i) same (not i low))

@@ -1,107 +1,137 @@
--- Lists of packets by number, and the lists of loads that they are in.
+-- Lists of parcels by number, and the lists of loads that they are in.
 use Rattle.std.proofs.Common.{◌≡◌, ◌⊎◌, inl, inr, ⊎_elim, ℕ, zero, suc, ◌<◌, ◌≤◌}
 use Rattle.std.proofs.Common.{Option, Some, None, List, [], ◌∷◌, ◌++◌, length, take}
-use Rattle.std.proofs.Common.{refl, sym, ap, ◌∙◌, subst, arith, append-nil, length-append, get_or}
+use Rattle.std.proofs.Common.{◌+◌, map, refl, sym, ap, ◌∙◌, subst, arith, append-nil, length-append, get_or}
 use Rattle.std.specs.Prelude.{IfSome}
 use Rattle.std.specs.List.{slice_get}
-use Rattle.std.proofs.lemmas.List.{take_all}
+use Rattle.std.proofs.lemmas.List.{length-map, take_all}
 use Rattle.std.proofs.lemmas.Option.{slice_get_cases}
 use mathlib.Core.Logic.{dite}
 use native.Mathlib.Decide.{ℕ_discrete}
-use Rattle.nm_types.specs.declared.packets.Packet.{Packet}
+use Rattle.nm_chain.specs.declared.table.parcels.Parcel.{Parcel}
 use Rattle.nm_chain.specs.Rule.{Load}
 use Rattle.nm_chain.proofs.QueueLemmas.{pick_no, pick_yes}
 use Rattle.nm_cells.specs.Counted.{IsOneOf}
-use Rattle.nm_cells.specs.PathLists.{Begins, by_number, numbered, packets}
-use Rattle.nm_port.specs.CarriedPackets.{AreListed}
+use Rattle.nm_cells.specs.PathLists.{Begins, by_number, numbered, parcels}
+use Rattle.nm_port.specs.CarriedPackets.{AreListed, IsListed}
 use Rattle.nm_cells.proofs.NumberLemmas.{one_of_append}
 
-one_of_back : (y : Load) (xs ys : List Load) → IsOneOf y ys → IsOneOf y (xs ++ ys)
-one_of_back y [] ys h = h
-one_of_back y (x ∷ xs) ys h = inr (one_of_back y xs ys h)
+module _ {A : Type 0} where
+  one_of_back : (y : Load A) (xs ys : List (Load A)) → IsOneOf y ys → IsOneOf y (xs ++ ys)
+  one_of_back y [] ys h = h
+  one_of_back y (x ∷ xs) ys h = inr (one_of_back y xs ys h)
 
--- the two lists grow
-pub listed_more : (boxes cells more others : List Load) (ps : List Packet) → AreListed boxes cells ps →
-    AreListed (boxes ++ more) (cells ++ others) ps
-listed_more boxes cells more others ps is = record { each = λ k. by k (slice_get ps k) (is.each k) } where
-  by : (k : ℕ) (o : Option Packet) →
-      IfSome o (λ p. (p.seq ≡ k) × (IsOneOf (Some p) boxes ⊎ IsOneOf (Some p) cells)) →
-      IfSome o (λ p. (p.seq ≡ k)
-      × (IsOneOf (Some p) (boxes ++ more) ⊎ IsOneOf (Some p) (cells ++ others)))
-  by k None h = tt
-  by k (Some p) h = (
-    h.0,
-    ⊎_elim (λ b. inl (one_of_append (Some p) boxes more b))
-        (λ c. inr (one_of_append (Some p) cells others c)) h.1,
-  )
+  -- the two lists grow
+  pub listed_more : {B : Type 0} (seen : Parcel A → B) (boxes cells more others : List (Load A)) (bs : List B) →
+      AreListed seen boxes cells bs → AreListed seen (boxes ++ more) (cells ++ others) bs
+  listed_more {B} seen boxes cells more others bs is = record { each = λ k. by k (slice_get bs k) (is.each k) } where
+    by : (k : ℕ) (o : Option B) → IfSome o (IsListed seen boxes cells k) →
+        IfSome o (IsListed seen (boxes ++ more) (cells ++ others) k)
+    by k None h = tt
+    by k (Some b) h = record {
+      parcel = h.parcel;
+      seen_as = h.seen_as;
+      number = h.number;
+      went = ⊎_elim (λ x. inl (one_of_append (Some h.parcel) boxes more x))
+          (λ c. inr (one_of_append (Some h.parcel) cells others c)) h.went;
+    }
 
 -- an element of a list with one more
-pub get_push : (ps : List Packet) (p : Packet) (R : ℕ → Packet → Type 0) (n : ℕ) → n ≡ length ps →
-    ((k : ℕ) → IfSome (slice_get ps k) (R k)) → R n p →
-    (k : ℕ) → IfSome (slice_get (ps ++ p ∷ []) k) (R k)
-get_push [] p R n is all last zero = subst (λ m. R m p) is last
-get_push [] p R n is all last (suc k) = tt
-get_push (q ∷ ps) p R n is all last zero = all zero
-get_push (q ∷ ps) p R zero is all last (suc k) = let no : zero ≡ suc (length ps) = is in absurd (omega (arith, no))
-get_push (q ∷ ps) p R (suc n) is all last (suc k) =
-    get_push ps p (λ m x. R (suc m) x) n (omega (arith, is)) (λ m. all (suc m)) last k
+get_push : {B : Type 0} (bs : List B) (b : B) (R : ℕ → B → Type 0) (n : ℕ) → n ≡ length bs →
+    ((k : ℕ) → IfSome (slice_get bs k) (R k)) → R n b →
+    (k : ℕ) → IfSome (slice_get (bs ++ b ∷ []) k) (R k)
+get_push [] b R n is all last zero = subst (λ m. R m b) is last
+get_push [] b R n is all last (suc k) = tt
+get_push (q ∷ bs) b R n is all last zero = all zero
+get_push (q ∷ bs) b R zero is all last (suc k) = let no : zero ≡ suc (length bs) = is in absurd (omega (arith, no))
+get_push (q ∷ bs) b R (suc n) is all last (suc k) =
+    get_push bs b (λ m x. R (suc m) x) n (omega (arith, is)) (λ m. all (suc m)) last k
 
-pub listed_push : (boxes cells : List Load) (ps : List Packet) (p : Packet) → p.seq ≡ length ps →
-    IsOneOf (Some p) boxes ⊎ IsOneOf (Some p) cells → AreListed boxes cells ps →
-    AreListed boxes cells (ps ++ p ∷ [])
-listed_push boxes cells ps p number there is = record {
-  each = get_push ps p (λ k x. (x.seq ≡ k) × (IsOneOf (Some x) boxes ⊎ IsOneOf (Some x) cells))
-      (length ps) refl is.each (number, there);
-}
+module _ {A : Type 0} where
+  pub listed_push : {B : Type 0} (seen : Parcel A → B) (boxes cells : List (Load A)) (bs : List B)
+      (p : Parcel A) → p.seq ≡ length bs → IsOneOf (Some p) boxes ⊎ IsOneOf (Some p) cells →
+      AreListed seen boxes cells bs → AreListed seen boxes cells (bs ++ seen p ∷ [])
+  listed_push seen boxes cells bs p number there is = record {
+    each = get_push bs (seen p) (IsListed seen boxes cells) (length bs) refl is.each
+        record { parcel = p; seen_as = refl; number = number; went = there };
+  }
 
--- the packet is one of these
-abbrev pub IsIn : Packet → List Packet → Type 0
-IsIn p [] = ⊥
-IsIn p (q ∷ ps) = (p ≡ q) ⊎ IsIn p ps
+  -- the parcels that are so seen
+  abbrev IsNumbered : List (Load A) → List (Load A) → ℕ → Parcel A → Type 0
+  IsNumbered boxes cells k p = (p.seq ≡ k) × (IsOneOf (Some p) boxes ⊎ IsOneOf (Some p) cells)
 
-in_front : (p : Packet) (ps qs : List Packet) → IsIn p ps → IsIn p (ps ++ qs)
-in_front p [] qs i = absurd i
-in_front p (x ∷ ps) qs i = ⊎_elim (λ e. inl e) (λ k. inr (in_front p ps qs k)) i
+  chosen : {B : Type 0} (seen : Parcel A → B) (boxes cells : List (Load A)) (k : ℕ) (bs : List B) →
+      ((n : ℕ) → IfSome (slice_get bs n) (IsListed seen boxes cells (k + n))) →
+      (ps : List (Parcel A)) × (map seen ps ≡ bs)
+      × ((n : ℕ) → IfSome (slice_get ps n) (IsNumbered boxes cells (k + n)))
+  chosen seen boxes cells k [] all = ([], refl, λ n. tt)
+  chosen {B} seen boxes cells k (b ∷ bs) all =
+      let first = all 0 in
+      let rest = chosen seen boxes cells (suc k) bs (λ n. on n (slice_get bs n) (all (suc n))) in (
+        first.parcel ∷ rest.0,
+        (λ i. first.seen_as i ∷ rest.1 i),
+        by first rest.0 rest.2,
+      ) where
+        on : (n : ℕ) (o : Option B) → IfSome o (IsListed seen boxes cells (k + suc n)) →
+            IfSome o (IsListed seen boxes cells (suc k + n))
+        on n o = subst (λ m. IfSome o (IsListed seen boxes cells m))
+            (let e : k + suc n ≡ suc k + n = omega arith in e)
 
-in_back : (p : Packet) (ps qs : List Packet) → IsIn p qs → IsIn p (ps ++ qs)
-in_back p [] qs i = i
-in_back p (x ∷ ps) qs i = inr (in_back p ps qs i)
+        by : (first : IsListed seen boxes cells (k + 0) b) (ps : List (Parcel A)) →
+            ((n : ℕ) → IfSome (slice_get ps n) (IsNumbered boxes cells (suc k + n))) →
+            (n : ℕ) → IfSome (slice_get (first.parcel ∷ ps) n) (IsNumbered boxes cells (k + n))
+        by first ps rest zero = (first.number, first.went)
+        by first ps rest (suc n) = subst (λ m. IfSome (slice_get ps n) (IsNumbered boxes cells m))
+            (let e : suc k + n ≡ k + suc n = omega arith in e) (rest n)
 
-is_in : (p : Packet) (ys : List Load) → IsOneOf (Some p) ys → IsIn p (packets ys)
-is_in p [] h = absurd h
-is_in p (Some q ∷ ys) h = ⊎_elim (λ e. inl (one e)) (λ k. inr (is_in p ys k)) h where
-  one : {x y : Packet} → Some x ≡ Some y → x ≡ y
-  one e = cc
-is_in p (None ∷ ys) h = ⊎_elim (λ e. absurd (not_none e)) (λ k. is_in p ys k) h where
-  not_none : {x : Packet} → Some x ≡ None → ⊥
-  not_none e = cc
+  -- the parcel is one of these
+  abbrev pub IsIn : Parcel A → List (Parcel A) → Type 0
+  IsIn p [] = ⊥
+  IsIn p (q ∷ ps) = (p ≡ q) ⊎ IsIn p ps
 
-is_numbered : (p : Packet) (k : ℕ) (ps : List Packet) → p.seq ≡ k → IsIn p ps → IsIn p (numbered k ps)
-is_numbered p k [] number i = absurd i
-is_numbered p k (q ∷ ps) number i = dite (ℕ_discrete q.seq k)
-    (λ e. subst (λ l. IsIn p l) (sym (pick_yes (ℕ_discrete q.seq k) (q ∷ numbered k ps) (numbered k ps) e))
-    (⊎_elim (λ same. inl same) (λ rest. inr (is_numbered p k ps number rest)) i))
-    (λ ne. subst (λ l. IsIn p l) (sym (pick_no (ℕ_discrete q.seq k) (q ∷ numbered k ps) (numbered k ps) ne))
-    (⊎_elim (λ same. absurd (ne (ap (λ x. x.seq) (sym same) ∙ number))) (λ rest. is_numbered p k ps number rest) i))
+  in_front : (p : Parcel A) (ps qs : List (Parcel A)) → IsIn p ps → IsIn p (ps ++ qs)
+  in_front p [] qs i = absurd i
+  in_front p (x ∷ ps) qs i = ⊎_elim (λ e. inl e) (λ k. inr (in_front p ps qs k)) i
 
-some_length : (p : Packet) (ps : List Packet) → IsIn p ps → 0 < length ps
-some_length p [] i = absurd i
-some_length p (q ∷ ps) i = omega arith
+  in_back : (p : Parcel A) (ps qs : List (Parcel A)) → IsIn p qs → IsIn p (ps ++ qs)
+  in_back p [] qs i = i
+  in_back p (x ∷ ps) qs i = inr (in_back p ps qs i)
 
-only_one : (p : Packet) (ps : List Packet) → length ps ≡ 1 → IsIn p ps → ps ≡ p ∷ []
-only_one p [] one i = absurd i
-only_one p (q ∷ []) one i = ⊎_elim (λ e. ap (λ x. x ∷ []) (sym e)) (λ k. absurd k) i
-only_one p (q ∷ r ∷ ps) one i = absurd (omega (arith, one))
+  is_in : (p : Parcel A) (ys : List (Load A)) → IsOneOf (Some p) ys → IsIn p (parcels ys)
+  is_in p [] h = absurd h
+  is_in p (Some q ∷ ys) h = ⊎_elim (λ e. inl (one e)) (λ k. inr (is_in p ys k)) h where
+    one : {x y : Parcel A} → Some x ≡ Some y → x ≡ y
+    one e = cc
+  is_in p (None ∷ ys) h = ⊎_elim (λ e. absurd (not_none e)) (λ k. is_in p ys k) h where
+    not_none : {x : Parcel A} → Some x ≡ None → ⊥
+    not_none e = cc
 
--- the first packets of a list by number are all those of the pool with these numbers, where these are
+  is_numbered : (p : Parcel A) (k : ℕ) (ps : List (Parcel A)) → p.seq ≡ k → IsIn p ps → IsIn p (numbered k ps)
+  is_numbered p k [] number i = absurd i
+  is_numbered p k (q ∷ ps) number i = dite (ℕ_discrete q.seq k)
+      (λ e. subst (λ l. IsIn p l) (sym (pick_yes (ℕ_discrete q.seq k) (q ∷ numbered k ps) (numbered k ps) e))
+      (⊎_elim (λ same. inl same) (λ rest. inr (is_numbered p k ps number rest)) i))
+      (λ ne. subst (λ l. IsIn p l) (sym (pick_no (ℕ_discrete q.seq k) (q ∷ numbered k ps) (numbered k ps) ne))
+      (⊎_elim (λ same. absurd (ne (ap (λ x. x.seq) (sym same) ∙ number))) (λ rest. is_numbered p k ps number rest) i))
+
+  some_length : (p : Parcel A) (ps : List (Parcel A)) → IsIn p ps → 0 < length ps
+  some_length p [] i = absurd i
+  some_length p (q ∷ ps) i = omega arith
+
+  only_one : (p : Parcel A) (ps : List (Parcel A)) → length ps ≡ 1 → IsIn p ps → ps ≡ p ∷ []
+  only_one p [] one i = absurd i
+  only_one p (q ∷ []) one i = ⊎_elim (λ e. ap (λ x. x ∷ []) (sym e)) (λ k. absurd k) i
+  only_one p (q ∷ r ∷ ps) one i = absurd (omega (arith, one))
+
+-- the first parcels of a list by number are all those of the pool with these numbers, where these are
 -- as many
-module _ (pool ps : List Packet)
+module _ {A : Type 0} (pool ps : List (Parcel A))
     (all : (k : ℕ) → IfSome (slice_get ps k) (λ p. (p.seq ≡ k) × IsIn p pool)) where
-  at : (k : ℕ) → k < length ps → (p : Packet) × (slice_get ps k ≡ Some p) × IsIn p (numbered k pool)
+  at : (k : ℕ) → k < length ps → (p : Parcel A) × (slice_get ps k ≡ Some p) × IsIn p (numbered k pool)
   at k low = by (slice_get_cases ps k).1 where
-    by : ((x : Packet) × (k < length ps) × (slice_get ps k ≡ Some x) × (get_or ps k x ≡ x))
+    by : ((x : Parcel A) × (k < length ps) × (slice_get ps k ≡ Some x) × (get_or ps k x ≡ x))
         ⊎ ((length ps ≤ k) × (slice_get ps k ≡ None)) →
-        (p : Packet) × (slice_get ps k ≡ Some p) × IsIn p (numbered k pool)
+        (p : Parcel A) × (slice_get ps k ≡ Some p) × IsIn p (numbered k pool)
     by (inl h) =
         let x = h.0 in
         let is = subst (λ o. IfSome o (λ p. (p.seq ≡ k) × IsIn p pool)) h.2 (all k) in
@@ -128,39 +158,56 @@ module _ (pool ps : List Packet)
       ap (λ l. l ++ numbered t pool) (by_number_is t (omega arith) rest)
       ∙ ap (λ l. take t ps ++ l) (only_one here.0 (numbered t pool) one here.2)
       ∙ sym (take_next t ps here.0 here.1) where
-        take_next : (t : ℕ) (ps : List Packet) (p : Packet) → slice_get ps t ≡ Some p →
+        take_next : (t : ℕ) (ps : List (Parcel A)) (p : Parcel A) → slice_get ps t ≡ Some p →
             take (suc t) ps ≡ take t ps ++ p ∷ []
         take_next t [] p is = absurd (no_none is) where
           no_none : None ≡ Some p → ⊥
           no_none e = cc
         take_next zero (q ∷ ps) p is = ap (λ x. x ∷ []) (one_is is) where
-          one_is : {x y : Packet} → Some x ≡ Some y → x ≡ y
+          one_is : {x y : Parcel A} → Some x ≡ Some y → x ≡ y
           one_is e = cc
         take_next (suc t) (q ∷ ps) p is = ap (λ l. q ∷ l) (take_next t ps p is)
 
--- so a list by number is the pool by number
-pub listed_is : (boxes cells : List Load) (ps : List Packet) (t : ℕ) → length ps ≡ t →
-    length (by_number t (packets boxes ++ packets cells)) ≡ t → AreListed boxes cells ps →
-    by_number t (packets boxes ++ packets cells) ≡ ps
-listed_is boxes cells ps t many counted is =
-    by_number_is (packets boxes ++ packets cells) ps (λ k. by k (slice_get ps k) (is.each k)) t
-    (omega (arith, many)) counted
-    ∙ take_all t ps (omega (arith, many)) where
-      by : (k : ℕ) (o : Option Packet) →
-          IfSome o (λ p. (p.seq ≡ k) × (IsOneOf (Some p) boxes ⊎ IsOneOf (Some p) cells)) →
-          IfSome o (λ p. (p.seq ≡ k) × IsIn p (packets boxes ++ packets cells))
-      by k None h = tt
-      by k (Some p) h = (
-        h.0,
-        ⊎_elim (λ b. in_front p (packets boxes) (packets cells) (is_in p boxes b))
-            (λ c. in_back p (packets boxes) (packets cells) (is_in p cells c)) h.1,
-      )
+module _ {A : Type 0} where
+  -- so a list by number is the pool by number
+  numbered_is : (boxes cells : List (Load A)) (ps : List (Parcel A)) (t : ℕ) → length ps ≡ t →
+      length (by_number t (parcels boxes ++ parcels cells)) ≡ t →
+      ((n : ℕ) → IfSome (slice_get ps n) (IsNumbered boxes cells n)) →
+      by_number t (parcels boxes ++ parcels cells) ≡ ps
+  numbered_is boxes cells ps t many counted is =
+      by_number_is (parcels boxes ++ parcels cells) ps (λ k. by k (slice_get ps k) (is k)) t
+      (omega (arith, many)) counted
+      ∙ take_all t ps (omega (arith, many)) where
+        by : (k : ℕ) (o : Option (Parcel A)) → IfSome o (IsNumbered boxes cells k) →
+            IfSome o (λ p. (p.seq ≡ k) × IsIn p (parcels boxes ++ parcels cells))
+        by k None h = tt
+        by k (Some p) h = (
+          h.0,
+          ⊎_elim (λ b. in_front p (parcels boxes) (parcels cells) (is_in p boxes b))
+              (λ c. in_back p (parcels boxes) (parcels cells) (is_in p cells c)) h.1,
+        )
 
--- a beginning that is as long is the whole
-pub begins_whole : (front whole : List Packet) → Begins front whole → length front ≡ length whole → front ≡ whole
-begins_whole front whole b many =
-    let sum = ap length b.1 ∙ length-append front b.0 in
-    sym (b.1 ∙ ap (λ l. front ++ l) (none b.0 (omega (arith, sum, many))) ∙ append-nil front) where
-      none : (l : List Packet) → length l ≡ 0 → l ≡ []
-      none [] e = refl
-      none (x ∷ l) e = absurd (omega (arith, e))
+  pub listed_is : {B : Type 0} (seen : Parcel A → B) (boxes cells : List (Load A)) (bs : List B) (t : ℕ) →
+      length bs ≡ t → length (by_number t (parcels boxes ++ parcels cells)) ≡ t →
+      AreListed seen boxes cells bs → map seen (by_number t (parcels boxes ++ parcels cells)) ≡ bs
+  listed_is {B} seen boxes cells bs t many counted is =
+      let c = chosen seen boxes cells 0 bs (λ n. on n (slice_get bs n) (is.each n)) in
+      let same : length c.0 ≡ length bs = sym (length-map c.0 seen) ∙ ap length c.1 in
+      ap (map seen) (numbered_is boxes cells c.0 t (same ∙ many) counted (λ n. back n (slice_get c.0 n) (c.2 n)))
+      ∙ c.1 where
+        on : (n : ℕ) (o : Option B) → IfSome o (IsListed seen boxes cells n) →
+            IfSome o (IsListed seen boxes cells (0 + n))
+        on n o = subst (λ m. IfSome o (IsListed seen boxes cells m)) (let e : n ≡ 0 + n = omega arith in e)
+
+        back : (n : ℕ) (o : Option (Parcel A)) → IfSome o (IsNumbered boxes cells (0 + n)) →
+            IfSome o (IsNumbered boxes cells n)
+        back n o = subst (λ m. IfSome o (IsNumbered boxes cells m)) (let e : 0 + n ≡ n = omega arith in e)
+
+  -- a beginning that is as long is the whole
+  pub begins_whole : (front whole : List (Parcel A)) → Begins front whole → length front ≡ length whole → front ≡ whole
+  begins_whole front whole b many =
+      let sum = ap length b.1 ∙ length-append front b.0 in
+      sym (b.1 ∙ ap (λ l. front ++ l) (none b.0 (omega (arith, sum, many))) ∙ append-nil front) where
+        none : (l : List (Parcel A)) → length l ≡ 0 → l ≡ []
+        none [] e = refl
+        none (x ∷ l) e = absurd (omega (arith, e))

@@ -7,7 +7,7 @@ use Rattle.std.proofs.Props.{props}
 use Rattle.std.specs.Prelude.{slice_index, IfSome, IfNone}
 use mathlib.Core.Logic.{dite}
 use native.Mathlib.Decide.{ℕ_discrete, dec_le}
-use Rattle.nm_types.specs.declared.packets.Packet.{Packet}
+use Rattle.nm_chain.specs.declared.table.parcels.Parcel.{Parcel}
 use Rattle.nm_chain.specs.Update.{update}
 use Rattle.nm_chain.specs.declared.table.table.Entry.{Entry}
 use Rattle.nm_chain.specs.declared.table.table.Heads.{Heads}
@@ -58,123 +58,126 @@ all_raised (suc k) [] e = refl
 all_raised zero (x ∷ xs) e = absurd (omega arith)
 all_raised (suc k) (x ∷ xs) e = ap (λ l. raised x ∷ l) (all_raised k xs (omega arith))
 
-pub misses_long : (p : Port) → length (knows p).box_miss ≡ (knows p).ranks
-misses_long p = ∥∥₁_elim p.counts (search props) (λ n. n.misses)
+module _ {A : Type 0} where
+  pub misses_long : (p : Port A) → length (knows p).box_miss ≡ (knows p).ranks
+  misses_long p = ∥∥₁_elim p.counts (search props) (λ n. n.misses)
 
-pub missed_next : (k : ℕ) (old now new : Port) → Missed k old now → k < (knows old).ranks
-    → knows new ≡ with_box_miss k (knows now) → new.rank ≡ now.rank → new.held ≡ now.held
-    → unpassed_by new ≡ unpassed_by now → holding new ≡ holding now → taken_by new ≡ taken_by now
-    → new.hands ≡ now.hands → new.loose ≡ now.loose → NotOvertaken now k → Missed (suc k) old new
-missed_next k old now new m low is rank held unpassed holds taken hands loose not =
-    let xs = (knows old).box_miss in let long = misses_long old in record {
-      rank = rank ∙ m.rank;
-      held = held ∙ m.held;
-      unpassed = unpassed ∙ m.unpassed;
-      holds = holds ∙ m.holds;
-      seen = is ∙ (λ i. with_box_miss k (m.seen i))
-          ∙ (λ i. record (knows old) { box_miss = raised_next k xs (omega arith) i });
-      taken = taken ∙ m.taken;
-      hands = hands ∙ m.hands;
-      loose = loose ∙ m.loose;
-      not = λ i less o. by_last i o less;
-    } where
-      here : ¬ Overtaken (knows old) k (taken_by old k)
-      here o = not (subst (λ e. Overtaken e k (taken_by now k)) (sym m.seen)
-          (subst (λ (t : ℕ → ℕ). Overtaken (knows old) k (t k)) (sym m.taken) o))
+  pub missed_next : (k : ℕ) (old now new : Port A) → Missed k old now → k < (knows old).ranks
+      → knows new ≡ with_box_miss k (knows now) → new.rank ≡ now.rank → new.held ≡ now.held
+      → unpassed_by new ≡ unpassed_by now → holding new ≡ holding now → taken_by new ≡ taken_by now
+      → new.hands ≡ now.hands → new.loose ≡ now.loose → NotOvertaken now k → Missed (suc k) old new
+  missed_next k old now new m low is rank held unpassed holds taken hands loose not =
+      let xs = (knows old).box_miss in let long = misses_long old in record {
+        rank = rank ∙ m.rank;
+        held = held ∙ m.held;
+        unpassed = unpassed ∙ m.unpassed;
+        holds = holds ∙ m.holds;
+        seen = is ∙ (λ i. with_box_miss k (m.seen i))
+            ∙ (λ i. record (knows old) { box_miss = raised_next k xs (omega arith) i });
+        taken = taken ∙ m.taken;
+        hands = hands ∙ m.hands;
+        loose = loose ∙ m.loose;
+        not = λ i less o. by_last i o less;
+      } where
+        here : ¬ Overtaken (knows old) k (taken_by old k)
+        here o = not (subst (λ e. Overtaken e k (taken_by now k)) (sym m.seen)
+            (subst (λ (t : ℕ → ℕ). Overtaken (knows old) k (t k)) (sym m.taken) o))
 
-      by_last : (i : ℕ) → Overtaken (knows old) i (taken_by old i) → i < suc k → ⊥
-      by_last i o less = dite (ℕ_discrete i k)
-          (λ e. here (subst (λ j. Overtaken (knows old) j (taken_by old j)) e o))
-          (λ ne. m.not i (omega arith) o)
+        by_last : (i : ℕ) → Overtaken (knows old) i (taken_by old i) → i < suc k → ⊥
+        by_last i o less = dite (ℕ_discrete i k)
+            (λ e. here (subst (λ j. Overtaken (knows old) j (taken_by old j)) e o))
+            (λ ne. m.not i (omega arith) o)
 
-pub all_missed : (k : ℕ) (old now : Port) → k ≡ (knows old).ranks → Missed k old now
-    → knows now ≡ with_all_missed (knows old)
-all_missed k old now all m = let long = misses_long old in
-    m.seen ∙ (λ i. record (knows old) {
-      box_miss = all_raised k (knows old).box_miss (omega arith) i;
-    })
+  pub all_missed : (k : ℕ) (old now : Port A) → k ≡ (knows old).ranks → Missed k old now
+      → knows now ≡ with_all_missed (knows old)
+  all_missed k old now all m = let long = misses_long old in
+      m.seen ∙ (λ i. record (knows old) {
+        box_miss = all_raised k (knows old).box_miss (omega arith) i;
+      })
 
--- the packet is the next one of its sender still, where no other was passed on
-pub still_next : (f : Fabric) (old now new : Port) (p : Packet) → taken_by now ≡ taken_by old
-    → IsNext f now new p → IsNext f old new p
-still_next f old now new p same n = record {
-  sender = n.sender;
-  number = n.number ∙ ap (λ t. t p.from) same;
-  taken = n.taken ∙ (λ i. update (same i) p.from (same i p.from + 1));
-}
+  -- the parcel is the next one of its sender still, where no other was passed on
+  pub still_next : (f : Fabric A) (old now new : Port A) (p : Parcel A) → taken_by now ≡ taken_by old
+      → IsNext f now new p → IsNext f old new p
+  still_next f old now new p same n = record {
+    sender = n.sender;
+    number = n.number ∙ ap (λ t. t p.from) same;
+    taken = n.taken ∙ (λ i. update (same i) p.from (same i p.from + 1));
+  }
 
-pub next_by : (f : Fabric) (now new : Port) (p : Packet) (s : ℕ) → s < f.ranks → p.from ≡ s
-    → p.seq ≡ taken_by now s → taken_by new ≡ update (taken_by now) s (taken_by now s + 1)
-    → IsNext f now new p
-next_by f now new p s low is number taken = record {
-  sender = subst (λ k. k < f.ranks) (sym is) low;
-  number = number ∙ ap (taken_by now) (sym is);
-  taken = taken ∙ (λ i. update (taken_by now) (sym is i) (taken_by now (sym is i) + 1));
-}
+  pub next_by : (f : Fabric A) (now new : Port A) (p : Parcel A) (s : ℕ) → s < f.ranks → p.from ≡ s
+      → p.seq ≡ taken_by now s → taken_by new ≡ update (taken_by now) s (taken_by now s + 1)
+      → IsNext f now new p
+  next_by f now new p s low is number taken = record {
+    sender = subst (λ k. k < f.ranks) (sym is) low;
+    number = number ∙ ap (taken_by now) (sym is);
+    taken = taken ∙ (λ i. update (taken_by now) (sym is i) (taken_by now (sym is i) + 1));
+  }
 
--- a poll changes these things alone
-pub polled_by : (e new then : Entry) → new ≡ then → then ≡ polled then e → new ≡ polled new e
-polled_by e new then is same = is ∙ same ∙ (λ i. polled (sym is i) e)
+  -- a poll changes these things alone
+  pub polled_by : (e new then : Entry A) → new ≡ then → then ≡ polled then e → new ≡ polled new e
+  polled_by e new then is same = is ∙ same ∙ (λ i. polled (sym is i) e)
 
-pub polled_on : (a b c : Entry) → b ≡ polled b a → c ≡ polled c b → c ≡ polled c a
-polled_on a b c first second = second ∙ (λ i. polled c (first i))
+  pub polled_on : (a b c : Entry A) → b ≡ polled b a → c ≡ polled c b → c ≡ polled c a
+  polled_on a b c first second = second ∙ (λ i. polled c (first i))
 
 -- once the box of the rank s is emptied
-module _ (now new : Port) (p : Packet) (s : ℕ)
+module _ {A : Type 0} (now new : Port A) (p : Parcel A) (s : ℕ)
     (is : knows new ≡ with_got_box (Some p ∷ []) (with_emptying s None (knows now))) where
   pub box_came : Came now new (Some p ∷ []) []
   box_came = (
-    ap (λ (e : Entry). e.got_box) is,
-    ap (λ (e : Entry). e.got) is ∙ sym (append-nil (knows now).got),
+    ap (λ (e : Entry A). e.got_box) is,
+    ap (λ (e : Entry A). e.got) is ∙ sym (append-nil (knows now).got),
   )
 
   pub box_polled : knows new ≡ polled (knows new) (knows now)
   box_polled = polled_by (knows now) (knows new) _ is refl
 
   pub box_got : IsGot new p
-  box_got = inl (subst (λ (e : Entry). IsOneOf (Some p) (from p.from e.got_box)) (sym is)
+  box_got = inl (subst (λ (e : Entry A). IsOneOf (Some p) (from p.from e.got_box)) (sym is)
       (subst (λ l. IsOneOf (Some p) l) (sym (from_here p.from (Some p) (knows now).got_box refl))
       (one_of_last (Some p) (from p.from (knows now).got_box))))
 
--- what is in hand once it is emptied
-pub emptied_hands : (now new : Port) (s : ℕ)
-    → new.hands + 1 ≡ now.hands + opens (is_some (emptying_of (knows now) s))
-    → (new.hands ≤ now.hands) × (EmptiesNone now → new.hands ≡ now.hands)
-emptied_hands now new s is =
-    let h = box_hands now.hands new.hands (is_some (emptying_of (knows now) s)) is in
-    (h.0, λ none. h.1 (ap is_some (none s)))
+module _ {A : Type 0} where
+  -- what is in hand once it is emptied
+  pub emptied_hands : (now new : Port A) (s : ℕ)
+      → new.hands + 1 ≡ now.hands + opens (is_some (emptying_of (knows now) s))
+      → (new.hands ≤ now.hands) × (EmptiesNone now → new.hands ≡ now.hands)
+  emptied_hands now new s is =
+      let h = box_hands now.hands new.hands (is_some (emptying_of (knows now) s)) is in
+      (h.0, λ none. h.1 (ap is_some (none s)))
 
 -- What came since an earlier moment at which the same was held and got
-module _ (old now new : Port) (got_box : (knows now).got_box ≡ (knows old).got_box)
+module _ {A : Type 0} (old now new : Port A) (got_box : (knows now).got_box ≡ (knows old).got_box)
     (got : (knows now).got ≡ (knows old).got) where
-  pub came_since : (xs ys : List Load) → Came now new xs ys → Came old new xs ys
+  pub came_since : (xs ys : List (Load A)) → Came now new xs ys → Came old new xs ys
   came_since xs ys c = (c.0 ∙ ap (λ l. l ++ xs) got_box, c.1 ∙ ap (λ l. l ++ ys) got)
 
-  pub way_since : (p : Packet) → now.held ≡ old.held → Way now new p → Way old new p
+  pub way_since : (p : Parcel A) → now.held ≡ old.held → Way now new p → Way old new p
   way_since p held (was_held a b c) = was_held (sym held ∙ a) b (came_since [] [] c)
   way_since p held (by_box a c) = by_box (a ∙ held) (came_since (Some p ∷ []) [] c)
   way_since p held (by_cell a b c) = by_cell (sym held ∙ a) b (came_since [] (Some p ∷ []) c)
   way_since p held (before x e a b c) =
       before x e (sym held ∙ a) b (came_since (Some p ∷ []) (Some x ∷ []) c)
 
--- it came by cell and wasn't passed on still
-pub still_unpassed : (p q : Port) (x : Packet) → (knows q).ranks ≡ (knows p).ranks
-    → (knows q).got ≡ (knows p).got → taken_by q ≡ taken_by p → IsUnpassed p x → IsUnpassed q x
-still_unpassed p q x ranks got taken u = (
-  subst (λ n. x.from < n) (sym ranks) u.0,
-  subst (λ l. IsOneOf (Some x) (from x.from l)) (sym got) u.1,
-  subst (λ (t : ℕ → ℕ). t x.from ≤ x.seq) (sym taken) u.2,
-)
+module _ {A : Type 0} where
+  -- it came by cell and wasn't passed on still
+  pub still_unpassed : (p q : Port A) (x : Parcel A) → (knows q).ranks ≡ (knows p).ranks
+      → (knows q).got ≡ (knows p).got → taken_by q ≡ taken_by p → IsUnpassed p x → IsUnpassed q x
+  still_unpassed p q x ranks got taken u = (
+    subst (λ n. x.from < n) (sym ranks) u.0,
+    subst (λ l. IsOneOf (Some x) (from x.from l)) (sym got) u.1,
+    subst (λ (t : ℕ → ℕ). t x.from ≤ x.seq) (sym taken) u.2,
+  )
 
 -- a port whose seat is the same, and its counts
-module _ (p q : Port) (seat : q.seat ≡ p.seat) where
+module _ {A : Type 0} (p q : Port A) (seat : q.seat ≡ p.seat) where
   pub seat_knows : knows q ≡ knows p
   seat_knows = ap (λ s. mine s.me) seat
 
   pub seat_holding : holding q ≡ holding p
   seat_holding = ap (λ s. held_in (length (mine s.me).hands) s.me.1) seat
 
-  pub seat_owns : (f : Fabric) → q.rank ≡ p.rank → Owns f p → Owns f q
+  pub seat_owns : (f : Fabric A) → q.rank ≡ p.rank → Owns f p → Owns f q
   seat_owns f rank o = brought_owns f p q (ap (λ s. s.table_id) seat) (ap (λ s. s.me.0) seat) rank o
 
   module _ (peers : q.peers ≡ p.peers) where
@@ -184,54 +187,55 @@ module _ (p q : Port) (seat : q.seat ≡ p.seat) where
     pub peers_unpassed : unpassed_by q ≡ unpassed_by p
     peers_unpassed = ap (λ l. all_unpassed l.items) peers
 
-    pub unpassed_there : (x : Packet) → IsUnpassed p x → IsUnpassed q x
-    unpassed_there x u = still_unpassed p q x (ap (λ (e : Entry). e.ranks) seat_knows)
-        (ap (λ (e : Entry). e.got) seat_knows) peers_taken u
+    pub unpassed_there : (x : Parcel A) → IsUnpassed p x → IsUnpassed q x
+    unpassed_there x u = still_unpassed p q x (ap (λ (e : Entry A). e.ranks) seat_knows)
+        (ap (λ (e : Entry A). e.got) seat_knows) peers_taken u
 
--- a packet that came by cell is passed on
-pub passed_next : (f : Fabric) (p q : Port) (x : Packet) → IsUnpassed p x
-    → x.seq ≡ taken_by p x.from
-    → taken_by q ≡ update (taken_by p) x.from (taken_by p x.from + 1) → (knows p).ranks ≡ f.ranks
-    → IsNext f p q x
-passed_next f p q x un next taken ranks = record {
-  sender = subst (λ n. x.from < n) ranks un.0;
-  number = next;
-  taken = taken;
-}
+module _ {A : Type 0} where
+  -- a parcel that came by cell is passed on
+  pub passed_next : (f : Fabric A) (p q : Port A) (x : Parcel A) → IsUnpassed p x
+      → x.seq ≡ taken_by p x.from
+      → taken_by q ≡ update (taken_by p) x.from (taken_by p x.from + 1) → (knows p).ranks ≡ f.ranks
+      → IsNext f p q x
+  passed_next f p q x un next taken ranks = record {
+    sender = subst (λ n. x.from < n) ranks un.0;
+    number = next;
+    taken = taken;
+  }
 
-nothing_is_some : (x : Packet) → None ≡ Some x → ⊥
-nothing_is_some x e = cc
+  nothing_is_some : (x : Parcel A) → None ≡ Some x → ⊥
+  nothing_is_some x e = cc
 
-pub one_packet : (x y : Packet) → Some x ≡ Some y → x ≡ y
-one_packet x y e = cc
+  pub one_packet : (x y : Parcel A) → Some x ≡ Some y → x ≡ y
+  one_packet x y e = cc
 
--- the packet that is held isn't the next one of its sender
-pub held_later : (p : Port) (x : Packet) → p.held ≡ Some x → x.seq ≢ taken_by p x.from
-    → (y : Packet) → p.held ≡ Some y → y.seq ≢ taken_by p y.from
-held_later p x is ne y e = subst (λ z. z.seq ≢ taken_by p z.from) (one_packet x y (sym is ∙ e)) ne
+  -- the parcel that is held isn't the next one of its sender
+  pub held_later : (p : Port A) (x : Parcel A) → p.held ≡ Some x → x.seq ≢ taken_by p x.from
+      → (y : Parcel A) → p.held ≡ Some y → y.seq ≢ taken_by p y.from
+  held_later p x is ne y e = subst (λ z. z.seq ≢ taken_by p z.from) (one_packet x y (sym is ∙ e)) ne
 
--- nothing more is held
-pub rest_none : (q : Port) → unpassed_by q ≡ 0 → q.held ≡ None → HoldsTheRest q
-rest_none q left none = left ∙ sym (ap count_held none)
+  -- nothing more is held
+  pub rest_none : (q : Port A) → unpassed_by q ≡ 0 → q.held ≡ None → HoldsTheRest q
+  rest_none q left none = left ∙ sym (ap count_held none)
 
-pub rest_one : (q : Port) (x : Packet) → unpassed_by q ≡ 1 → q.held ≡ Some x → HoldsTheRest q
-rest_one q x left one = left ∙ sym (ap count_held one)
+  pub rest_one : (q : Port A) (x : Parcel A) → unpassed_by q ≡ 1 → q.held ≡ Some x → HoldsTheRest q
+  rest_one q x left one = left ∙ sym (ap count_held one)
 
--- a packet that came last, by box or by cell
-pub last_by_box : (new : Port) (x : Packet) (xs : List Load)
-    → (knows new).got_box ≡ xs ++ Some x ∷ [] → IsGot new x
-last_by_box new x xs is = inl (subst (λ l. IsOneOf (Some x) (from x.from l)) (sym is)
-    (subst (IsOneOf (Some x)) (sym (from_here x.from (Some x) xs refl))
-    (one_of_last (Some x) (from x.from xs))))
+  -- a parcel that came last, by box or by cell
+  pub last_by_box : (new : Port A) (x : Parcel A) (xs : List (Load A))
+      → (knows new).got_box ≡ xs ++ Some x ∷ [] → IsGot new x
+  last_by_box new x xs is = inl (subst (λ l. IsOneOf (Some x) (from x.from l)) (sym is)
+      (subst (IsOneOf (Some x)) (sym (from_here x.from (Some x) xs refl))
+      (one_of_last (Some x) (from x.from xs))))
 
-pub last_by_cell : (new : Port) (x : Packet) (xs : List Load)
-    → (knows new).got ≡ xs ++ Some x ∷ [] → IsGot new x
-last_by_cell new x xs is = inr (subst (λ l. IsOneOf (Some x) (from x.from l)) (sym is)
-    (subst (IsOneOf (Some x)) (sym (from_here x.from (Some x) xs refl))
-    (one_of_last (Some x) (from x.from xs))))
+  pub last_by_cell : (new : Port A) (x : Parcel A) (xs : List (Load A))
+      → (knows new).got ≡ xs ++ Some x ∷ [] → IsGot new x
+  last_by_cell new x xs is = inr (subst (λ l. IsOneOf (Some x) (from x.from l)) (sym is)
+      (subst (IsOneOf (Some x)) (sym (from_here x.from (Some x) xs refl))
+      (one_of_last (Some x) (from x.from xs))))
 
--- A packet x came by cell, and then y is passed on: the same, or the next one of its sender by box
-module _ (old now new : Port) (x y : Packet) (end : Heads) (none : old.held ≡ None)
+-- A parcel x came by cell, and then y is passed on: the same, or the next one of its sender by box
+module _ {A : Type 0} (old now new : Port A) (x y : Parcel A) (end : Heads) (none : old.held ≡ None)
     (came : knows now ≡ with_got (Some x ∷ [])
     (with_look true Fresh (with_heads true end (knows old)))) where
   abbrev InTurn : Type 0
@@ -243,15 +247,15 @@ module _ (old now new : Port) (x y : Packet) (end : Heads) (none : old.held ≡ 
 
   in_turn_way : InTurn → Way old new y
   in_turn_way a = let is = a.2 ∙ came in by_cell none a.1 (
-    ap (λ (e : Entry). e.got_box) is ∙ sym (append-nil (knows old).got_box),
-    ap (λ (e : Entry). e.got) is ∙ (λ i. (knows old).got ++ Some (sym a.0 i) ∷ []),
+    ap (λ (e : Entry A). e.got_box) is ∙ sym (append-nil (knows old).got_box),
+    ap (λ (e : Entry A). e.got) is ∙ (λ i. (knows old).got ++ Some (sym a.0 i) ∷ []),
   )
 
   out_of_turn_way : OutOfTurn → Way old new y
   out_of_turn_way b = before x (sym b.0) none b.1 (
-    ap (λ (e : Entry). e.got_box) b.2
-        ∙ ap (λ (e : Entry). e.got_box ++ Some y ∷ []) came,
-    ap (λ (e : Entry). e.got) b.2 ∙ ap (λ (e : Entry). e.got) came,
+    ap (λ (e : Entry A). e.got_box) b.2
+        ∙ ap (λ (e : Entry A). e.got_box ++ Some y ∷ []) came,
+    ap (λ (e : Entry A). e.got) b.2 ∙ ap (λ (e : Entry A). e.got) came,
   )
 
   pub way_of : InTurn ⊎ OutOfTurn → Way old new y
@@ -266,8 +270,8 @@ module _ (old now new : Port) (x y : Packet) (end : Heads) (none : old.held ≡ 
   pub got_of : InTurn ⊎ OutOfTurn → IsGot new y
   got_of w = ⊎_elim
       (λ a. subst (λ z. IsGot new z) (sym a.0)
-      (last_by_cell new x (knows old).got (ap (λ (e : Entry). e.got) (a.2 ∙ came))))
-      (λ b. last_by_box new y (knows now).got_box (ap (λ (e : Entry). e.got_box) b.2)) w
+      (last_by_cell new x (knows old).got (ap (λ (e : Entry A). e.got) (a.2 ∙ came))))
+      (λ b. last_by_box new y (knows now).got_box (ap (λ (e : Entry A). e.got_box) b.2)) w
 
 -- no count of misses falls
 raised_up : (k : ℕ) → k ≤ raised k
@@ -282,27 +286,28 @@ first_later (suc k) [] i = omega arith
 first_later (suc k) (x ∷ xs) zero = raised_up x
 first_later (suc k) (x ∷ xs) (suc i) = first_later k xs i
 
-pub missed_later : (k i : ℕ) (e e' e'' : Entry) → e' ≡ with_first_missed k e
-    → e''.box_miss ≡ e'.box_miss → slice_index e.box_miss i ≤ slice_index e''.box_miss i
-missed_later k i e e' e'' seen same =
-    subst (λ (xs : List ℕ). slice_index e.box_miss i ≤ slice_index xs i)
-    (sym (same ∙ ap (λ (x : Entry). x.box_miss) seen)) (first_later k e.box_miss i)
+module _ {A : Type 0} where
+  pub missed_later : (k i : ℕ) (e e' e'' : Entry A) → e' ≡ with_first_missed k e
+      → e''.box_miss ≡ e'.box_miss → slice_index e.box_miss i ≤ slice_index e''.box_miss i
+  missed_later k i e e' e'' seen same =
+      subst (λ (xs : List ℕ). slice_index e.box_miss i ≤ slice_index xs i)
+      (sym (same ∙ ap (λ (x : Entry A). x.box_miss) seen)) (first_later k e.box_miss i)
 
-pub same_later : (i : ℕ) (e e' e'' : Entry)
-    → slice_index e.box_miss i ≤ slice_index e'.box_miss i → e''.box_miss ≡ e'.box_miss
-    → slice_index e.box_miss i ≤ slice_index e''.box_miss i
-same_later i e e' e'' up same =
-    subst (λ (xs : List ℕ). slice_index e.box_miss i ≤ slice_index xs i) (sym same) up
+  pub same_later : (i : ℕ) (e e' e'' : Entry A)
+      → slice_index e.box_miss i ≤ slice_index e'.box_miss i → e''.box_miss ≡ e'.box_miss
+      → slice_index e.box_miss i ≤ slice_index e''.box_miss i
+  same_later i e e' e'' up same =
+      subst (λ (xs : List ℕ). slice_index e.box_miss i ≤ slice_index xs i) (sym same) up
 
--- a miss of the receive queue is none of a box
-pub queue_misses : (e e' : Entry) → HadMiss true e e' → e'.box_miss ≡ e.box_miss
-queue_misses e e' = ⊎_elim (λ h. ap (λ (x : Entry). x.box_miss) h) (λ h. ap (λ (x : Entry). x.box_miss) h.1)
+  -- a miss of the receive queue is none of a box
+  pub queue_misses : (e e' : Entry A) → HadMiss true e e' → e'.box_miss ≡ e.box_miss
+  queue_misses e e' = ⊎_elim (λ h. ap (λ (x : Entry A). x.box_miss) h) (λ h. ap (λ (x : Entry A). x.box_miss) h.1)
 
--- nor is what came by the receive queue, or behind it by a box
-pub way_misses : (p x : Packet) (now new : Port)
-    → ((p ≡ x) × (new.held ≡ None) × (knows new ≡ knows now))
-    ⊎ ((p.from ≡ x.from) × (new.held ≡ Some x)
-    × (knows new ≡ with_got_box (Some p ∷ []) (with_emptying p.from None (knows now))))
-    → (knows new).box_miss ≡ (knows now).box_miss
-way_misses p x now new way = ⊎_elim (λ h. ap (λ (e : Entry). e.box_miss) h.2)
-    (λ h. ap (λ (e : Entry). e.box_miss) h.2) way
+  -- nor is what came by the receive queue, or behind it by a box
+  pub way_misses : (p x : Parcel A) (now new : Port A)
+      → ((p ≡ x) × (new.held ≡ None) × (knows new ≡ knows now))
+      ⊎ ((p.from ≡ x.from) × (new.held ≡ Some x)
+      × (knows new ≡ with_got_box (Some p ∷ []) (with_emptying p.from None (knows now))))
+      → (knows new).box_miss ≡ (knows now).box_miss
+  way_misses p x now new way = ⊎_elim (λ h. ap (λ (e : Entry A). e.box_miss) h.2)
+      (λ h. ap (λ (e : Entry A). e.box_miss) h.2) way

@@ -1,6 +1,6 @@
 -- What a poll gives, and what it leaves behind.
 use Rattle.std.specs.Prelude.{◌≡◌, ℕ, zero, suc, ◌+◌, ◌<◌, ◌⊎◌, Option, Some, None, List, [], ◌∷◌, ◌++◌, map}
-use Rattle.nm_types.specs.declared.packets.Packet.{Packet}
+use Rattle.nm_chain.specs.declared.table.parcels.Parcel.{Parcel}
 use Rattle.nm_chain.specs.Update.{update}
 use Rattle.nm_chain.specs.declared.table.table.Entry.{Entry}
 use Rattle.nm_cells.specs.declared.port.Port.{Port}
@@ -10,18 +10,19 @@ use Rattle.nm_chain.specs.Plays.{raised, Overtaken}
 use Rattle.nm_cells.specs.Counted.{IsOneOf}
 use Rattle.nm_cells.specs.Ports.{knows, holding, taken_by, unpassed_by}
 
--- how many packets are held
-abbrev pub count_held : Option Packet → ℕ
-count_held None = 0
-count_held (Some p) = 1
+module _ {A : Type 0} where
+  -- how many parcels are held
+  abbrev pub count_held : Option (Parcel A) → ℕ
+  count_held None = 0
+  count_held (Some p) = 1
 
--- each packet that the port took from its receive queue was passed on, but for the one that it holds
-abbrev pub HoldsTheRest : Port → Type 0
-HoldsTheRest p = unpassed_by p ≡ count_held p.held
+  -- each parcel that the port took from its receive queue was passed on, but for the one that it holds
+  abbrev pub HoldsTheRest : Port A → Type 0
+  HoldsTheRest p = unpassed_by p ≡ count_held p.held
 
--- the next box of each rank was found without the awaited number
-abbrev pub with_all_missed : Entry → Entry
-with_all_missed e = record e { box_miss = map raised e.box_miss }
+  -- the next box of each rank was found without the awaited number
+  abbrev pub with_all_missed : Entry A → Entry A
+  with_all_missed e = record e { box_miss = map raised e.box_miss }
 
 -- the first k of the ranks' boxes were found so
 abbrev pub first_raised : ℕ → List ℕ → List ℕ
@@ -29,63 +30,64 @@ first_raised zero xs = xs
 first_raised (suc k) [] = []
 first_raised (suc k) (x ∷ xs) = raised x ∷ first_raised k xs
 
--- the next boxes of the first k ranks were found so
-abbrev pub with_first_missed : ℕ → Entry → Entry
-with_first_missed k e = record e { box_miss = first_raised k e.box_miss }
+module _ {A : Type 0} where
+  -- the next boxes of the first k ranks were found so
+  abbrev pub with_first_missed : ℕ → Entry A → Entry A
+  with_first_missed k e = record e { box_miss = first_raised k e.box_miss }
 
--- of this rank no packet came before one with a smaller number
-abbrev pub NotOvertaken : Port → ℕ → Type 0
-NotOvertaken p i = ¬ Overtaken (knows p) i (taken_by p i)
+  -- of this rank no parcel came before one with a smaller number
+  abbrev pub NotOvertaken : Port A → ℕ → Type 0
+  NotOvertaken p i = ¬ Overtaken (knows p) i (taken_by p i)
 
--- The next boxes of the first k ranks were found without the awaited number
-pub record Missed (k : ℕ) (old now : Port) : Type 0 where
-  pub rank : now.rank ≡ old.rank
-  pub held : now.held ≡ old.held
-  pub unpassed : unpassed_by now ≡ unpassed_by old
-  pub holds : holding now ≡ holding old
-  pub seen : knows now ≡ with_first_missed k (knows old)
-  pub taken : taken_by now ≡ taken_by old
-  pub hands : now.hands ≡ old.hands
-  pub loose : now.loose ≡ old.loose
-  pub not : (i : ℕ) → i < k → NotOvertaken old i
+  -- The next boxes of the first k ranks were found without the awaited number
+  pub record Missed (k : ℕ) (old now : Port A) : Type 0 where
+    pub rank : now.rank ≡ old.rank
+    pub held : now.held ≡ old.held
+    pub unpassed : unpassed_by now ≡ unpassed_by old
+    pub holds : holding now ≡ holding old
+    pub seen : knows now ≡ with_first_missed k (knows old)
+    pub taken : taken_by now ≡ taken_by old
+    pub hands : now.hands ≡ old.hands
+    pub loose : now.loose ≡ old.loose
+    pub not : (i : ℕ) → i < k → NotOvertaken old i
 
--- no box is being emptied
-abbrev pub EmptiesNone : Port → Type 0
-EmptiesNone p = (i : ℕ) → emptying_of (knows p) i ≡ None
+  -- no box is being emptied
+  abbrev pub EmptiesNone : Port A → Type 0
+  EmptiesNone p = (i : ℕ) → emptying_of (knows p) i ≡ None
 
--- the packet is the next one of its sender, and is passed on
-pub record IsNext (f : Fabric) (old new : Port) (p : Packet) : Type 0 where
-  pub sender : p.from < f.ranks
-  pub number : p.seq ≡ taken_by old p.from
-  pub taken : taken_by new ≡ update (taken_by old) p.from (taken_by old p.from + 1)
+  -- the parcel is the next one of its sender, and is passed on
+  pub record IsNext (f : Fabric A) (old new : Port A) (p : Parcel A) : Type 0 where
+    pub sender : p.from < f.ranks
+    pub number : p.seq ≡ taken_by old p.from
+    pub taken : taken_by new ≡ update (taken_by old) p.from (taken_by old p.from + 1)
 
--- these came by box and by cell
-abbrev pub Came : Port → Port → List Load → List Load → Type 0
-Came old new by_box by_cell = ((knows new).got_box ≡ (knows old).got_box ++ by_box)
-    × ((knows new).got ≡ (knows old).got ++ by_cell)
+  -- these came by box and by cell
+  abbrev pub Came : Port A → Port A → List (Load A) → List (Load A) → Type 0
+  Came old new by_box by_cell = ((knows new).got_box ≡ (knows old).got_box ++ by_box)
+      × ((knows new).got ≡ (knows old).got ++ by_cell)
 
--- How the packet that is passed on came: it was held, it came by box, it came by cell, or it came by
--- box after one of the same sender that came by cell and is held from then on
-pub data Way (old new : Port) (p : Packet) : Type 0 where
-  was_held : old.held ≡ Some p → new.held ≡ None → Came old new [] [] → Way old new p
-  by_box : new.held ≡ old.held → Came old new (Some p ∷ []) [] → Way old new p
-  by_cell : old.held ≡ None → new.held ≡ None → Came old new [] (Some p ∷ []) → Way old new p
-  before : (x : Packet) → x.from ≡ p.from → old.held ≡ None → new.held ≡ Some x
-      → Came old new (Some p ∷ []) (Some x ∷ []) → Way old new p
+  -- How the parcel that is passed on came: it was held, it came by box, it came by cell, or it came by
+  -- box after one of the same sender that came by cell and is held from then on
+  pub data Way (old new : Port A) (p : Parcel A) : Type 0 where
+    was_held : old.held ≡ Some p → new.held ≡ None → Came old new [] [] → Way old new p
+    by_box : new.held ≡ old.held → Came old new (Some p ∷ []) [] → Way old new p
+    by_cell : old.held ≡ None → new.held ≡ None → Came old new [] (Some p ∷ []) → Way old new p
+    before : (x : Parcel A) → x.from ≡ p.from → old.held ≡ None → new.held ≡ Some x
+        → Came old new (Some p ∷ []) (Some x ∷ []) → Way old new p
 
--- it is one of the packets of its sender that the port got
-abbrev pub IsGot : Port → Packet → Type 0
-IsGot new p = IsOneOf (Some p) (from p.from (knows new).got_box)
-    ⊎ IsOneOf (Some p) (from p.from (knows new).got)
+  -- it is one of the parcels of its sender that the port got
+  abbrev pub IsGot : Port A → Parcel A → Type 0
+  IsGot new p = IsOneOf (Some p) (from p.from (knows new).got_box)
+      ⊎ IsOneOf (Some p) (from p.from (knows new).got)
 
--- beside what it got and counted, its shadow head, what it was told of it and the box that it emptied, a port knows
--- the same
-abbrev pub polled : Entry → Entry → Entry
-polled new old = record old {
-  receive = new.receive;
-  got = new.got;
-  got_box = new.got_box;
-  emptying = new.emptying;
-  looks = new.looks;
-  box_miss = new.box_miss;
-}
+  -- beside what it got and counted, its shadow head, what it was told of it and the box that it emptied, a port knows
+  -- the same
+  abbrev pub polled : Entry A → Entry A → Entry A
+  polled new old = record old {
+    receive = new.receive;
+    got = new.got;
+    got_box = new.got_box;
+    emptying = new.emptying;
+    looks = new.looks;
+    box_miss = new.box_miss;
+  }

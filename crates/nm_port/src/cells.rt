@@ -6,13 +6,14 @@ ghost use Rattle.nm_port.specs.Sends.{HadMiss};
 
 use nm_cells::{Cell, Fabric, Port, Queue};
 use nm_chain::seats::Steps;
+use nm_chain::table::Item;
 use nm_queue::dequeue;
 use std::sync::ledger::Ledger;
 
 // Takes the first cell of an own queue, or none where that one had a miss.
-pub(crate) fn take_cell<L: Ledger>(
-    f: &Fabric,
-    port: &mut Port,
+pub(crate) fn take_cell<L: Ledger, I: Item>(
+    f: &Fabric<I>,
+    port: &mut Port<I>,
     q: Queue,
     steps: &mut Steps<L>,
 ) -> Option<Cell>

@@ -1,16 +1,16 @@
-//! A rank's port: sending a packet by box or by cell, and polling for the next packet of any rank.
+//! A rank's port: sending a parcel by box or by cell, and polling for the next parcel of any rank.
 //!
-//! The packets of an ordered pair of ranks are numbered, and race on two ways: by box, or by cell.
-//! `poll` merges the two by number. A packet that came by cell before one with a smaller number is
+//! The parcels of an ordered pair of ranks are numbered, and race on two ways: by box, or by cell.
+//! `poll` merges the two by number. A parcel that came by cell before one with a smaller number is
 //! held; then the first one that is missing stands in the pair's next box, so the merge never
 //! stalls.
 //!
 //! ```text
-//!   send   a short packet by box; where that is full, or for a longer one, by an own cell
-//!   poll   the held packet, where its turn has come
-//!          else the awaited packet of the first rank whose next box has it
-//!          else the first packet of the receive queue, where its turn has come; its cell goes home
-//!          else that one is held, and the awaited packet of its sender is in the next box: that
+//!   send   a short parcel by box; where that is full, or for a longer one, by an own cell
+//!   poll   the held parcel, where its turn has come
+//!          else the awaited parcel of the first rank whose next box has it
+//!          else the first parcel of the receive queue, where its turn has come; its cell goes home
+//!          else that one is held, and the awaited parcel of its sender is in the next box: that
 //! ```
 //!
 //! `carried` has laws: what a port carried, by the lists of its packets.
@@ -19,10 +19,10 @@
 //! What the port knows before and after (`nm_cells`): what was put and taken by each way, the counts of
 //! misses, and the steps.
 //! # What is proved
-//! - `send` answers by which way the packet went, or none with its causes: the box was
+//! - `send` answers by which way the parcel went, or gives it back with its causes: the box was
 //!   full or too short, and the own free queue had a miss (clauses `by_box`, `by_cell`, `sent`,
 //!   `back`). It takes at most 9 word steps (clause `bound`).
-//! - `poll` gives the packet of its sender whose number is awaited and no other (clauses `next`,
+//! - `poll` gives the parcel of its sender whose number is awaited and no other (clauses `next`,
 //!   `way`). It gives none only where nothing was held and nothing is, no next box had the awaited
 //!   number and the receive queue had a miss (clause `none`). It takes at most as many word steps
 //!   as there are ranks, and 10 (clause `bound`).
@@ -38,4 +38,4 @@ mod sends;
 
 pub use nm_cells::{Closed, Fabric, Port};
 pub use polls::poll;
-pub use sends::send;
+pub use sends::{Sent, send};

@@ -18,169 +18,170 @@ use Rattle.nm_cells.specs.declared.cell.Queue as queues
 use Rattle.nm_cells.specs.declared.cell.Queue.TheVariants.{Receive, Free}
 use Rattle.nm_cells.specs.Ports.{MayJoin, sent_by}
 
--- a cell may still join the queue where it holds the same and the port sent the same
-pub may_still : (f : Fabric) (p q : Port) (k : queues.Queue) (c : ℕ) (y z : Load) → q.rank ≡ p.rank
-    → ((j : ℕ) → sent_by q j ≡ sent_by p j) → z ≡ y → MayJoin f p k c y → MayJoin f q k c z
-may_still f p q (Receive j) c y z rank sent same may = (
-  may.0,
-  may.1 ∙ sym rank,
-  ap sender same ∙ may.2 ∙ ap suc (sym rank),
-  ap number same ∙ may.3 ∙ sym (sent j),
-)
-may_still f p q (Free j) c y z rank sent same may = (may.0, may.1, same ∙ may.2)
+module _ {A : Type 0} where
+  -- a cell may still join the queue where it holds the same and the port sent the same
+  pub may_still : (f : Fabric A) (p q : Port A) (k : queues.Queue) (c : ℕ) (y z : Load A) → q.rank ≡ p.rank
+      → ((j : ℕ) → sent_by q j ≡ sent_by p j) → z ≡ y → MayJoin f p k c y → MayJoin f q k c z
+  may_still f p q (Receive j) c y z rank sent same may = (
+    may.0,
+    may.1 ∙ sym rank,
+    ap sender same ∙ may.2 ∙ ap suc (sym rank),
+    ap number same ∙ may.3 ∙ sym (sent j),
+  )
+  may_still f p q (Free j) c y z rank sent same may = (may.0, may.1, same ∙ may.2)
 
--- what a later take tells of the earlier port too: only what was told of the queue's first cell, and its heads, differ
-pub record Unmoved (b : Bool) (old mid : Port) : Type 0 where
-  pub cells : (knows mid).hands ≡ (knows old).hands
-  pub rank : mid.rank ≡ old.rank
-  pub takes : (n : ℕ) (y : Load) (s : ℕ) → taken b n y s (knows mid) ≡ taken b n y s (knows old)
-  pub holds : holding mid ≡ holding old
-  pub same : SameTaken old mid
-  pub hands : mid.hands ≡ old.hands
-  pub loose : mid.loose ≡ old.loose
-  pub first : 0 < (heads_of b (knows old)).shadow
-      → (heads_of b (knows mid)).shadow ≡ (heads_of b (knows old)).shadow
+  -- what a later take tells of the earlier port too: only what was told of the queue's first cell, and its heads, differ
+  pub record Unmoved (b : Bool) (old mid : Port A) : Type 0 where
+    pub cells : (knows mid).hands ≡ (knows old).hands
+    pub rank : mid.rank ≡ old.rank
+    pub takes : (n : ℕ) (y : Load A) (s : ℕ) → taken b n y s (knows mid) ≡ taken b n y s (knows old)
+    pub holds : holding mid ≡ holding old
+    pub same : SameTaken old mid
+    pub hands : mid.hands ≡ old.hands
+    pub loose : mid.loose ≡ old.loose
+    pub first : 0 < (heads_of b (knows old)).shadow
+        → (heads_of b (knows mid)).shadow ≡ (heads_of b (knows old)).shadow
 
-pub unmoved : (b : Bool) (p : Port) → Unmoved b p p
-unmoved b p = record {
-  cells = refl;
-  rank = refl;
-  takes = λ _ _ _. refl;
-  holds = refl;
-  same = (refl, refl, refl);
-  hands = refl;
-  loose = refl;
-  first = λ _. refl;
-}
+  pub unmoved : (b : Bool) (p : Port A) → Unmoved b p p
+  unmoved b p = record {
+    cells = refl;
+    rank = refl;
+    takes = λ _ _ _. refl;
+    holds = refl;
+    same = (refl, refl, refl);
+    hands = refl;
+    loose = refl;
+    first = λ _. refl;
+  }
 
-pub takes_since : (b : Bool) (f : Fabric) (old mid new : Port) (c : Cell) → Unmoved b old mid
-    → Takes b f mid new c → Takes b f old new c
-takes_since b f old mid new c u t = record {
-  has = t.has;
-  of_rank = t.of_rank;
-  first = λ some. let same = u.first some in t.first (subst (λ k. 0 < k) (sym same) some) ∙ same;
-  fresh = ap (λ hs. slice_index_or hs c.number Away) (sym u.cells) ∙ t.fresh;
-  full = t.full;
-  arrived = t.arrived;
-  vacant = λ e. let v = t.vacant e in (v.0, v.1 ∙ u.rank);
-  knows = t.knows ∙ u.takes c.number (holding new c.number) (heads_of b (knows new)).shadow;
-  holding = t.holding ∙ ap (λ h. update h c.number (holding new c.number)) u.holds;
-  taken = t.taken ∙ u.same.0;
-  held = t.held ∙ u.same.1;
-  unpassed = t.unpassed ∙ ap (λ k. k + arrivals b) u.same.2;
-  hands = t.hands ∙ ap (λ k. k + 1) u.hands;
-  loose = t.loose ∙ u.loose;
-}
+  pub takes_since : (b : Bool) (f : Fabric A) (old mid new : Port A) (c : Cell) → Unmoved b old mid
+      → Takes b f mid new c → Takes b f old new c
+  takes_since b f old mid new c u t = record {
+    has = t.has;
+    of_rank = t.of_rank;
+    first = λ some. let same = u.first some in t.first (subst (λ k. 0 < k) (sym same) some) ∙ same;
+    fresh = ap (λ hs. slice_index_or hs c.number Away) (sym u.cells) ∙ t.fresh;
+    full = t.full;
+    arrived = t.arrived;
+    vacant = λ e. let v = t.vacant e in (v.0, v.1 ∙ u.rank);
+    knows = t.knows ∙ u.takes c.number (holding new c.number) (heads_of b (knows new)).shadow;
+    holding = t.holding ∙ ap (λ h. update h c.number (holding new c.number)) u.holds;
+    taken = t.taken ∙ u.same.0;
+    held = t.held ∙ u.same.1;
+    unpassed = t.unpassed ∙ ap (λ k. k + arrivals b) u.same.2;
+    hands = t.hands ∙ ap (λ k. k + 1) u.hands;
+    loose = t.loose ∙ u.loose;
+  }
 
-look_lost : (b : Bool) (l : Look) (n : ℕ) (y : Load) (s : ℕ) (e : Entry)
-    → taken b n y s (with_look b l e) ≡ taken b n y s e
-look_lost true l n y s e = refl
-look_lost false l n y s e = refl
+  look_lost : (b : Bool) (l : Look) (n : ℕ) (y : Load A) (s : ℕ) (e : Entry A)
+      → taken b n y s (with_look b l e) ≡ taken b n y s e
+  look_lost true l n y s e = refl
+  look_lost false l n y s e = refl
 
-heads_lost : (b : Bool) (x : Heads) (n : ℕ) (y : Load) (s : ℕ) (e : Entry)
-    → taken b n y s (with_heads b x e) ≡ taken b n y s e
-heads_lost true x n y s e = refl
-heads_lost false x n y s e = refl
+  heads_lost : (b : Bool) (x : Heads) (n : ℕ) (y : Load A) (s : ℕ) (e : Entry A)
+      → taken b n y s (with_heads b x e) ≡ taken b n y s e
+  heads_lost true x n y s e = refl
+  heads_lost false x n y s e = refl
 
-look_heads : (b : Bool) (l : Look) (e : Entry) → heads_of b (with_look b l e) ≡ heads_of b e
-look_heads true l e = refl
-look_heads false l e = refl
+  look_heads : (b : Bool) (l : Look) (e : Entry A) → heads_of b (with_look b l e) ≡ heads_of b e
+  look_heads true l e = refl
+  look_heads false l e = refl
 
-hands_same : (b : Bool) (x : Heads) (e : Entry) → (with_heads b x e).hands ≡ e.hands
-hands_same true x e = refl
-hands_same false x e = refl
+  hands_same : (b : Bool) (x : Heads) (e : Entry A) → (with_heads b x e).hands ≡ e.hands
+  hands_same true x e = refl
+  hands_same false x e = refl
 
--- a step told something of the first cell and took none
-pub unmoved_look : (b : Bool) (l : Look) (old mid new : Port) → Unmoved b old mid
-    → knows new ≡ with_look b l (knows mid) → new.rank ≡ mid.rank → Leaves mid new
-    → Unmoved b old new
-unmoved_look b l old mid new u is rank v = record {
-  cells = ap (λ (e : Entry). e.hands) is ∙ u.cells;
-  rank = rank ∙ u.rank;
-  takes = λ n y s. ap (taken b n y s) is ∙ look_lost b l n y s (knows mid) ∙ u.takes n y s;
-  holds = v.holding ∙ u.holds;
-  same = (v.taken.0 ∙ u.same.0, v.taken.1 ∙ u.same.1, v.taken.2 ∙ u.same.2);
-  hands = v.hands ∙ u.hands;
-  loose = v.loose ∙ u.loose;
-  first = λ some. ap (λ (e : Entry). (heads_of b e).shadow) is
-      ∙ ap (λ (x : Heads). x.shadow) (look_heads b l (knows mid)) ∙ u.first some;
-}
+  -- a step told something of the first cell and took none
+  pub unmoved_look : (b : Bool) (l : Look) (old mid new : Port A) → Unmoved b old mid
+      → knows new ≡ with_look b l (knows mid) → new.rank ≡ mid.rank → Leaves mid new
+      → Unmoved b old new
+  unmoved_look b l old mid new u is rank v = record {
+    cells = ap (λ (e : Entry A). e.hands) is ∙ u.cells;
+    rank = rank ∙ u.rank;
+    takes = λ n y s. ap (taken b n y s) is ∙ look_lost b l n y s (knows mid) ∙ u.takes n y s;
+    holds = v.holding ∙ u.holds;
+    same = (v.taken.0 ∙ u.same.0, v.taken.1 ∙ u.same.1, v.taken.2 ∙ u.same.2);
+    hands = v.hands ∙ u.hands;
+    loose = v.loose ∙ u.loose;
+    first = λ some. ap (λ (e : Entry A). (heads_of b e).shadow) is
+        ∙ ap (λ (x : Heads). x.shadow) (look_heads b l (knows mid)) ∙ u.first some;
+  }
 
--- a step changed the heads, where there was no shadow head
-pub unmoved_heads : (b : Bool) (x : Heads) (f : Fabric) (old mid new : Port) → Unmoved b old mid
-    → knows new ≡ with_heads b x (knows mid) → Stays f mid new
-    → (new.hands ≡ mid.hands) × (holding new ≡ holding mid)
-    → (0 < (heads_of b (knows old)).shadow → false ≡ true) → Unmoved b old new
-unmoved_heads b x f old mid new u is st h none = record {
-  cells = ap (λ (e : Entry). e.hands) is ∙ hands_same b x (knows mid) ∙ u.cells;
-  rank = st.1 ∙ u.rank;
-  takes = λ n y s. ap (taken b n y s) is ∙ heads_lost b x n y s (knows mid) ∙ u.takes n y s;
-  holds = h.1 ∙ u.holds;
-  same = (st.2.0 ∙ u.same.0, st.2.1 ∙ u.same.1, st.2.2 ∙ u.same.2);
-  hands = h.0 ∙ u.hands;
-  loose = st.3 ∙ u.loose;
-  first = λ some. absurd (let z = none some in cc);
-}
+  -- a step changed the heads, where there was no shadow head
+  pub unmoved_heads : (b : Bool) (x : Heads) (f : Fabric A) (old mid new : Port A) → Unmoved b old mid
+      → knows new ≡ with_heads b x (knows mid) → Stays f mid new
+      → (new.hands ≡ mid.hands) × (holding new ≡ holding mid)
+      → (0 < (heads_of b (knows old)).shadow → false ≡ true) → Unmoved b old new
+  unmoved_heads b x f old mid new u is st h none = record {
+    cells = ap (λ (e : Entry A). e.hands) is ∙ hands_same b x (knows mid) ∙ u.cells;
+    rank = st.1 ∙ u.rank;
+    takes = λ n y s. ap (taken b n y s) is ∙ heads_lost b x n y s (knows mid) ∙ u.takes n y s;
+    holds = h.1 ∙ u.holds;
+    same = (st.2.0 ∙ u.same.0, st.2.1 ∙ u.same.1, st.2.2 ∙ u.same.2);
+    hands = h.0 ∙ u.hands;
+    loose = st.3 ∙ u.loose;
+    first = λ some. absurd (let z = none some in cc);
+  }
 
--- so what has no cell leaves the cells of the earlier port too
-pub leaves_since : (b : Bool) (old mid new : Port) → Unmoved b old mid → Leaves mid new
-    → Leaves old new
-leaves_since b old mid new u v = record {
-  hands = v.hands ∙ u.hands;
-  holding = v.holding ∙ u.holds;
-  taken = (v.taken.0 ∙ u.same.0, v.taken.1 ∙ u.same.1, v.taken.2 ∙ u.same.2);
-  loose = v.loose ∙ u.loose;
-}
+  -- so what has no cell leaves the cells of the earlier port too
+  pub leaves_since : (b : Bool) (old mid new : Port A) → Unmoved b old mid → Leaves mid new
+      → Leaves old new
+  leaves_since b old mid new u v = record {
+    hands = v.hands ∙ u.hands;
+    holding = v.holding ∙ u.holds;
+    taken = (v.taken.0 ∙ u.same.0, v.taken.1 ∙ u.same.1, v.taken.2 ∙ u.same.2);
+    loose = v.loose ∙ u.loose;
+  }
 
--- there is a shadow head, which is the one before where there was one
-pub record Begun (b : Bool) (old mid : Entry) : Type 0 where
-  pub heads : Heads
-  pub is : mid ≡ with_heads b heads old
-  pub some : 0 < heads.shadow
-  pub same : 0 < (heads_of b old).shadow → heads ≡ heads_of b old
+  -- there is a shadow head, which is the one before where there was one
+  pub record Begun (b : Bool) (old mid : Entry A) : Type 0 where
+    pub heads : Heads
+    pub is : mid ≡ with_heads b heads old
+    pub some : 0 < heads.shadow
+    pub same : 0 < (heads_of b old).shadow → heads ≡ heads_of b old
 
-heads_kept : (b : Bool) (e : Entry) → e ≡ with_heads b (heads_of b e) e
-heads_kept true e = refl
-heads_kept false e = refl
+  heads_kept : (b : Bool) (e : Entry A) → e ≡ with_heads b (heads_of b e) e
+  heads_kept true e = refl
+  heads_kept false e = refl
 
-heads_twice : (b : Bool) (x y : Heads) (e : Entry)
-    → with_heads b y (with_heads b x e) ≡ with_heads b y e
-heads_twice true x y e = refl
-heads_twice false x y e = refl
+  heads_twice : (b : Bool) (x y : Heads) (e : Entry A)
+      → with_heads b y (with_heads b x e) ≡ with_heads b y e
+  heads_twice true x y e = refl
+  heads_twice false x y e = refl
 
-pub begun_still : (b : Bool) (e : Entry) → 0 < (heads_of b e).shadow → Begun b e e
-begun_still b e some = record {
-  heads = heads_of b e;
-  is = heads_kept b e;
-  some = some;
-  same = λ _. refl;
-}
+  pub begun_still : (b : Bool) (e : Entry A) → 0 < (heads_of b e).shadow → Begun b e e
+  begun_still b e some = record {
+    heads = heads_of b e;
+    is = heads_kept b e;
+    some = some;
+    same = λ _. refl;
+  }
 
-pub begun_anew : (b : Bool) (x y : Heads) (old loaded new : Entry) → loaded ≡ with_heads b x old
-    → new ≡ with_heads b y loaded → 0 < y.shadow
-    → (0 < (heads_of b old).shadow → false ≡ true) → Begun b old new
-begun_anew b x y old loaded new found hidden some none = record {
-  heads = y;
-  is = hidden ∙ ap (with_heads b y) found ∙ heads_twice b x y old;
-  some = some;
-  same = λ was. absurd (let z = none was in cc);
-}
+  pub begun_anew : (b : Bool) (x y : Heads) (old loaded new : Entry A) → loaded ≡ with_heads b x old
+      → new ≡ with_heads b y loaded → 0 < y.shadow
+      → (0 < (heads_of b old).shadow → false ≡ true) → Begun b old new
+  begun_anew b x y old loaded new found hidden some none = record {
+    heads = y;
+    is = hidden ∙ ap (with_heads b y) found ∙ heads_twice b x y old;
+    some = some;
+    same = λ was. absurd (let z = none was in cc);
+  }
 
-abbrev missing : Bool → Entry → Entry
-missing b e = with_look b (LinkEmpty 0) (with_missed b link_miss e)
+  abbrev missing : Bool → Entry A → Entry A
+  missing b e = with_look b (LinkEmpty 0) (with_missed b link_miss e)
 
-missing_heads : (b : Bool) (x : Heads) (l k : Look) (e : Entry)
-    → heads_of b (missing b (with_look b k (with_look b l (with_heads b x e)))) ≡ x
-missing_heads true x l k e = refl
-missing_heads false x l k e = refl
+  missing_heads : (b : Bool) (x : Heads) (l k : Look) (e : Entry A)
+      → heads_of b (missing b (with_look b k (with_look b l (with_heads b x e)))) ≡ x
+  missing_heads true x l k e = refl
+  missing_heads false x l k e = refl
 
-missing_is : (b : Bool) (x : Heads) (l k : Look) (e : Entry)
-    → missing b (with_look b k (with_look b l (with_heads b x e))) ≡ missing b (with_heads b x e)
-missing_is true x l k e = refl
-missing_is false x l k e = refl
+  missing_is : (b : Bool) (x : Heads) (l k : Look) (e : Entry A)
+      → missing b (with_look b k (with_look b l (with_heads b x e))) ≡ missing b (with_heads b x e)
+  missing_is true x l k e = refl
+  missing_is false x l k e = refl
 
 -- the link of the first cell was 0 twice, although another cell was the tail
-module _ (b : Bool) (l k : Look) (old mid linked tailed last : Entry) (u : Begun b old mid)
+module _ {A : Type 0} (b : Bool) (l k : Look) (old mid linked tailed last : Entry A) (u : Begun b old mid)
     (look : linked ≡ with_look b l mid) (tail : tailed ≡ with_look b k linked)
     (again : last ≡ with_look b (LinkEmpty 0) (with_missed b link_miss tailed)) where
   whole : last ≡ missing b (with_look b k (with_look b l (with_heads b u.heads old)))

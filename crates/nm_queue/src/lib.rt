@@ -17,7 +17,7 @@
 //! steps.
 //!
 //! # What is proved
-//! - `enqueue` can't be refused, takes 3 steps, and puts the cell's packet (clauses `put`,
+//! - `enqueue` can't be refused, takes 3 steps, and puts the cell's parcel (clauses `put`,
 //!   `bound`).
 //! - `dequeue` takes the first cell, at most 5 steps, or has a miss whose count rose (clauses
 //!   `took`, `head_empty`, `link_missing`, `bound`).

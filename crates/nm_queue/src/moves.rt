@@ -16,6 +16,7 @@ use nm_cells::{
     reload_link, store_head, store_link, swap_tail,
 };
 use nm_chain::seats::Steps;
+use nm_chain::table::Item;
 use std::sync::ledger::Ledger;
 
 /// Why there was no cell to take. A miss is no fault.
@@ -29,7 +30,13 @@ pub enum Miss {
 }
 
 /// Puts a cell in hand at the end of a queue, in three word steps. It can't be refused.
-pub fn enqueue<L: Ledger>(f: &Fabric, port: &mut Port, q: Queue, cell: Cell, steps: &mut Steps<L>)
+pub fn enqueue<L: Ledger, I: Item>(
+    f: &Fabric<I>,
+    port: &mut Port<I>,
+    q: Queue,
+    cell: Cell,
+    steps: &mut Steps<L>,
+)
     requires owns { Owns f.now port.old }
     requires in_hand { HasCell f.now port.old cell }
     requires may { MayJoin f.now port.old q cell.number (holding port.old cell.number) }
@@ -54,9 +61,9 @@ pub fn enqueue<L: Ledger>(f: &Fabric, port: &mut Port, q: Queue, cell: Cell, ste
 /// Where there is no shadow head, two steps find it: the head is loaded and cleared. Then the last
 /// cell is taken in two more steps, and another one in one, or in three where its link was stored
 /// late.
-pub fn dequeue<L: Ledger>(
-    f: &Fabric,
-    port: &mut Port,
+pub fn dequeue<L: Ledger, I: Item>(
+    f: &Fabric<I>,
+    port: &mut Port<I>,
     q: Queue,
     steps: &mut Steps<L>,
 ) -> Result<Cell, Miss>

@@ -5,7 +5,7 @@ use Rattle.std.proofs.Common.{append_assoc}
 use Rattle.std.specs.Prelude.{IfSome, MatchOption, is_none, is_some, nat_lt, option_map}
 use Rattle.std.specs.List.{filter, range_with_len, slice_get}
 use Rattle.std.proofs.lemmas.Bool.Decides.{nat_tests}
-use Rattle.std.proofs.lemmas.List.{map-append}
+use Rattle.std.proofs.lemmas.List.{length-map, map-append}
 use Rattle.std.proofs.lemmas.List.Folds.{list_all-append}
 use Rattle.std.proofs.lemmas.List.FromFn.{filter_of_map_range_with_len_more}
 use Rattle.nm_types.specs.declared.scripts.Line.{Line}
@@ -21,6 +21,7 @@ use Rattle.nm_history.specs.Sends.{sent_body}
 use Rattle.nm_cells.specs.declared.closed.Closed.{Closed}
 use Rattle.nm_cells.specs.declared.port.Fabric.{Fabric}
 use Rattle.nm_cells.specs.declared.port.Port.{Port}
+use Rattle.nm_cells.specs.ClosedLists.{sent_list}
 use Rattle.nm_cells.specs.Ports.{sent_by}
 use Rattle.nm_copyring.specs.declared.close.RingAccount.{RingAccount}
 use Rattle.nm_copyring.specs.declared.port.Rings.{Rings}
@@ -31,14 +32,16 @@ use Rattle.nm_report.specs.Ends.{are_done, ends_of}
 use Rattle.nm_process.specs.Processes.{ProcessView}
 use Rattle.nm_world.specs.declared.actors.Actor.{Actor}
 use Rattle.nm_world.specs.Records.{AreToTell, counts_of, counts_to, ended_of}
+use Rattle.nm_world.specs.Parcels.{packet_of}
 use Rattle.nm_world.specs.Rest.{HasRun, IsCarried, IsClosed}
 use Rattle.nm_world.specs.Runs.{InPlace}
 use Rattle.nm_world.proofs.Runs.{in_place_at}
 use Rattle.nm_types.proofs.ListLemmas.{get_map, place_below}
 use Rattle.nm_sending.proofs.PutLemmas.{called_length}
+use Rattle.nm_types.specs.declared.packets.Packet.{Packet}
 
 -- the counts to one rank more
-counts_more : (to : ℕ) (p : Port) →
+counts_more : (to : ℕ) (p : Port Packet) →
     counts_to (to + 1) p ≡ counts_to to p ++ cond (nat_lt 0 (sent_by p to))
     (record { from = p.rank; to = to; count = sent_by p to } ∷ []) []
 counts_more to p =
@@ -52,7 +55,7 @@ less_false : (k : ℕ) → k ≤ 0 → nat_lt 0 k ≡ false
 less_false k none = grind (arith, nat_tests)
 
 -- the count of one more, where there are some packets, and where there are none
-pub counts_grown : (to from packets : ℕ) (p : Port) (old pairs pairs' : List PairCount) → from ≡ p.rank →
+pub counts_grown : (to from packets : ℕ) (p : Port Packet) (old pairs pairs' : List PairCount) → from ≡ p.rank →
     packets ≡ sent_by p to → 0 < packets → report.packets_of pairs ≡ report.packets_of old ++ counts_to to p →
     pairs' ≡ pairs ++ record { from = from; to = to; packets = packets } ∷ [] →
     report.packets_of pairs' ≡ report.packets_of old ++ counts_to (to + 1) p
@@ -69,7 +72,7 @@ counts_grown to from packets p old pairs pairs' mine is some so_far pushed =
     ∙ ap (λ (b : Bool). counts_to to p ++ cond b (one p.rank (sent_by p to) ∷ []) []) (sym counted)
     ∙ sym (counts_more to p))
 
-pub counts_kept : (to packets : ℕ) (p : Port) (old pairs : List PairCount) → packets ≡ sent_by p to →
+pub counts_kept : (to packets : ℕ) (p : Port Packet) (old pairs : List PairCount) → packets ≡ sent_by p to →
     packets ≤ 0 → report.packets_of pairs ≡ report.packets_of old ++ counts_to to p →
     report.packets_of pairs ≡ report.packets_of old ++ counts_to (to + 1) p
 counts_kept to packets p old pairs is none so_far =
@@ -165,7 +168,7 @@ map_below a (suc n) f g same =
     ap (λ (x : Packets). x ∷ map f (range_with_len (a + 1) n)) (same a (omega arith))
     ∙ ap (λ (xs : List Packets). g a ∷ xs) (map_below (a + 1) n f g (λ j low. same j (omega (arith, low))))
 
-row_is : (lines : List Line) (n i : ℕ) (p : Port) (h : List Event) → p.rank ≡ i →
+row_is : (lines : List Line) (n i : ℕ) (p : Port Packet) (h : List Event) → p.rank ≡ i →
     ((j : ℕ) → j < n → sent_by p j ≡ length (outgoing (sent_body (commands_of i lines)) h j)) →
     counts_to n p ≡ packets_from lines (range_with_len 0 n) i h
 row_is lines n i p h own each =
@@ -194,7 +197,7 @@ some_there : {A : Type 0} (o : Option A) (P : A → Type 0) (x : A) → o ≡ So
 some_there o P x is holds = subst (λ p. IfSome p P) is holds
 
 -- the actors of a run were told of
-pub told_run : (shape : Sizes) (lines : List Line) (f : Fabric) (r : Rings) (actors : List Actor) (c : Closed)
+pub told_run : (shape : Sizes) (lines : List Line) (f : Fabric Packet) (r : Rings) (actors : List Actor) (c : Closed Packet)
     (q : RingAccount) (ends : List Ended) (ranks : List RankAccount) (pairs : List PairCount) →
     InPlace shape lines f r 0 actors → length actors ≡ shape.ranks →
     IsClosed shape.ranks (map (λ (a : Actor). a.port) actors) c → HasRun shape lines actors c q ends →
@@ -235,13 +238,14 @@ told_run shape lines f r actors c q ends ranks pairs place many closed run told 
       let rank = (own i a at).0 in (
         rank ∙ sym here,
         λ j within. sym (closed.counts i j a.port (get_map (λ (a : Actor). a.port) actors i a at) within).0
+            ∙ sym (length-map (sent_list c i j) packet_of)
             ∙ sym (called_length i 0 _ _ (some_there (slice_get ends i) (IsCarried lines c q i j) e to
             (run.carried i j within)).packets)
             ∙ ap (λ (k : ℕ). length (outgoing (sent_body (commands_of k lines)) e.events j)) (sym here),
       ))
       ∙ ap (λ (n : ℕ). packets_by_rank lines (range_with_len 0 n) 0 ends) (sym run.run.one_each)
 
-pub to_tell : (shape : Sizes) (lines : List Line) (f : Fabric) (r : Rings) (k : ℕ) (actors : List Actor) →
+pub to_tell : (shape : Sizes) (lines : List Line) (f : Fabric Packet) (r : Rings) (k : ℕ) (actors : List Actor) →
     InPlace shape lines f r k actors → f.ranks ≡ shape.ranks → AreToTell shape.ranks lines actors
 to_tell shape lines f r k [] place ranks = tt
 to_tell shape lines f r k (a ∷ actors) place ranks = (

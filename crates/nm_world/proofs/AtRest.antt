@@ -10,7 +10,6 @@ use Rattle.nm_cells.specs.declared.closed.Closed.{Closed}
 use Rattle.nm_cells.specs.declared.port.Fabric.{Fabric}
 use Rattle.nm_cells.specs.ClosedLists.{AllTaken, ranks_of}
 use Rattle.nm_cells.specs.Ports.{knows}
-use Rattle.nm_cells.specs.declared.port.Port.{Port}
 use Rattle.nm_copyring.specs.declared.close.RingAccount.{RingAccount}
 use Rattle.nm_copyring.specs.declared.port.Rings.{Rings}
 use Rattle.nm_world.specs.declared.actors.Actor.{Actor}
@@ -19,10 +18,11 @@ use Rattle.nm_world.specs.Rest.{EachActor, EndsAt, HasRun, IsCarried, IsClosed, 
 use Rattle.nm_world.specs.Runs.{AllAgree, AreCarried, InPlace, IsStillAt}
 use Rattle.nm_world.proofs.Runs.{in_place_at}
 use Rattle.nm_types.proofs.ListLemmas.{get_some, get_map}
+use Rattle.nm_types.specs.declared.packets.Packet.{Packet}
 
-pub each_ends : ((lines : List Line) (f : Fabric) (r : Rings) (a : Actor) → ActorInvariant lines f r a →
+pub each_ends : ((lines : List Line) (f : Fabric Packet) (r : Rings) (a : Actor) → ActorInvariant lines f r a →
     IsStill lines a.process → EndsAt a.process.rank.sizes lines f r a.port.rank a) →
-    (shape : Sizes) (lines : List Line) (f : Fabric) (r : Rings) (actors : List Actor) →
+    (shape : Sizes) (lines : List Line) (f : Fabric Packet) (r : Rings) (actors : List Actor) →
     InPlace shape lines f r 0 actors → EachActor (λ i a. IsStillAt lines a) actors →
     EachActor (EndsAt shape lines f r) actors
 each_ends law shape lines f r actors place still i = by (slice_get actors i) refl (still i) where
@@ -35,7 +35,7 @@ each_ends law shape lines f r actors place still i = by (slice_get actors i) ref
       (subst (λ (z : Sizes). EndsAt z lines f r a.port.rank a) s.2
       (law lines f r a s.0 (is s.0.is.standing.work)))
 
-pub all_taken_of : (n : ℕ) (actors : List Actor) (c : Closed) → length actors ≡ n →
+pub all_taken_of : (n : ℕ) (actors : List Actor) (c : Closed Packet) → length actors ≡ n →
     IsClosed n (map (λ (a : Actor). a.port) actors) c → AllAgree actors → AllTaken n c
 all_taken_of n actors c many closed agree i j low within =
     let a = get_some actors i (omega (arith, low, many)) in
@@ -44,12 +44,12 @@ all_taken_of n actors c many closed agree i j low within =
     ∙ sym (agree.pairs i j a.0 b.0 a.1 b.1).0
     ∙ sym (closed.counts i j a.0.port (get_map (λ (a : Actor). a.port) actors i a.0 a.1) within).0
 
-pub carried_of : (shape : Sizes) (lines : List Line) (actors : List Actor) (c : Closed) (q : RingAccount)
+pub carried_of : (shape : Sizes) (lines : List Line) (actors : List Actor) (c : Closed Packet) (q : RingAccount)
     (ends : List Ended) → HasRun shape lines actors c q ends → AreCarried shape lines c q ends
 carried_of shape lines actors c q ends run i j e within at =
     subst (λ (o : Option Ended). IfSome o (IsCarried lines c q i j)) at (run.carried i j within)
 
-pub closed_many : (n : ℕ) (actors : List Actor) (c : Closed) → IsClosed n (map (λ (a : Actor). a.port) actors) c →
+pub closed_many : (n : ℕ) (actors : List Actor) (c : Closed Packet) → IsClosed n (map (λ (a : Actor). a.port) actors) c →
     length actors ≡ n → ranks_of c ≡ n
 closed_many n actors c closed many =
     let ports = map (λ (a : Actor). a.port) actors in

@@ -20,11 +20,12 @@ use Rattle.nm_process.specs.Processes.{ProcessView}
 use Rattle.nm_global.specs.ProcessInvariant.{ProcessInvariant, no_past}
 use Rattle.nm_world.specs.Actors.{ActorInvariant}
 use Rattle.nm_world.proofs.Steps.{stands_of}
+use Rattle.nm_types.specs.declared.packets.Packet.{Packet}
 
 new_lane_at : (n k i : ℕ) → i < n → ring_rule.lane (ring_rule.newcomer n k) i ≡ ring_rule.new_lane
 new_lane_at n k i within = get_or-replicate n i ring_rule.new_lane ring_rule.new_lane within
 
-pub new_stands : (shape : Sizes) (lines : List Line) (f : Fabric) (r : Rings) (v : ProcessView) (port : Port)
+pub new_stands : (shape : Sizes) (lines : List Line) (f : Fabric Packet) (r : Rings) (v : ProcessView) (port : Port Packet)
     (rp : RingPort) → AreLines shape.ranks lines → f.ranks ≡ shape.ranks → r.ranks ≡ shape.ranks →
     IsNew f port port.rank → ring.IsNew r rp port.rank → v.rank.sizes ≡ shape →
     ProcessInvariant shape lines port.rank v no_past →
@@ -42,7 +43,7 @@ new_stands shape lines f r v port rp in_range cells rings new fresh sizes standi
       rest = new.7 ∙ sym (ap count_held new.6);
       sent = λ to within. record {
         listed = record { each = λ k. tt };
-        many = sym (ap (λ (e : Entry). sent_to to e.put_box e.put) new.2 ∙ omega arith);
+        many = sym (ap (λ (e : Entry Packet). sent_to to e.put_box e.put) new.2 ∙ omega arith);
       };
       taken = λ i within. record { listed = record { each = λ k. tt }; many = sym (new.5 i) };
       pushed = λ to within. sym (ap (λ (e : ring_entry.Entry). (ring_rule.lane e to).pushed) fresh.2

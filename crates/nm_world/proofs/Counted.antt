@@ -1,6 +1,6 @@
 -- What a record counts between two ranks.
-use Rattle.std.proofs.Common.{◌≡◌, ℕ, zero, suc, ◌+◌, ◌<◌, ◌≤◌, ◌≢◌, ◌==◌, Bool, true, false, ◌&&◌, cond}
-use Rattle.std.proofs.Common.{Option, Some, None, List, [], ◌∷◌, ◌++◌, length, map, filter, find, refl, sym, ap}
+use Rattle.std.proofs.Common.{◌≡◌, ℕ, zero, suc, ◌+◌, ◌<◌, ◌≤◌, ◌==◌, Bool, true, false, ◌&&◌, cond}
+use Rattle.std.proofs.Common.{Option, Some, None, List, [], ◌∷◌, length, map, filter, find, refl, sym, ap}
 use Rattle.std.proofs.Common.{◌∙◌, arith}
 use Rattle.std.specs.Prelude.{nat_lt}
 use Rattle.std.specs.List.{range_with_len, slice_get}
@@ -11,6 +11,8 @@ use native.Mathlib.Decide.{ℕ_discrete}
 use Rattle.nm_types.specs.declared.scripts.Line.{Line}
 use Rattle.nm_types.specs.Commands.{commands_of}
 use Rattle.nm_types.specs.Sizes.{Sizes}
+use Rattle.nm_world.specs.Parcels.{packet_of}
+use Rattle.std.proofs.lemmas.List.{length-map}
 use Rattle.nm_history.specs.Outgoing.{outgoing}
 use Rattle.nm_history.specs.Quiescence.{Ended, Packets, packets_by_rank, packets_from, packets_of}
 use Rattle.nm_history.specs.Sends.{sent_body}
@@ -21,6 +23,7 @@ use Rattle.nm_world.specs.Runs.{AreCarried, count_between}
 use Rattle.nm_types.proofs.NumberLemmas.{unequal, eq_true}
 use Rattle.nm_types.proofs.ListLemmas.{get_some}
 use Rattle.nm_sending.proofs.PutLemmas.{called_length}
+use Rattle.nm_types.specs.declared.packets.Packet.{Packet}
 
 abbrev is_of : ℕ → ℕ → Packets → Bool
 is_of i j p = p.from == i && p.to == j
@@ -142,7 +145,7 @@ count_is lines n k m (suc i) j (x ∷ ends) e is at low =
     ∙ count_is lines n (k + 1) m i j ends e (omega (arith, is)) at low
 
 -- what the closed ports carried is as much as is counted
-pub carried_counts : (shape : Sizes) (lines : List Line) (c : Closed) (q : RingAccount) (ends : List Ended)
+pub carried_counts : (shape : Sizes) (lines : List Line) (c : Closed Packet) (q : RingAccount) (ends : List Ended)
     (packets : List Packets) → length ends ≡ shape.ranks → packets ≡ packets_of lines ends →
     AreCarried shape lines c q ends → (i j : ℕ) → i < shape.ranks → j < shape.ranks →
     (length (sent_list c i j) ≡ count_between packets i j) × (length (taken_list c i j) ≡ count_between packets i j)
@@ -150,8 +153,8 @@ carried_counts shape lines c q ends packets many counts carried i j low within =
     let e = get_some ends i (omega (arith, low, many)) in
     let is = carried i j e.0 within e.1 in
     let long = called_length i 0 (outgoing (sent_body (commands_of i lines)) e.0.events j)
-    (sent_list c i j) is.packets in
+    (map packet_of (sent_list c i j)) is.packets in
     let count = ap (λ (ps : List Packets). count_between ps i j) counts
     ∙ count_is lines (length ends) 0 i i j ends e.0 (omega arith) e.1 (omega (arith, within, many)) in
-    let sent : length (sent_list c i j) ≡ count_between packets i j = sym long ∙ sym count in
+    let sent : length (sent_list c i j) ≡ count_between packets i j = sym (length-map (sent_list c i j) packet_of) ∙ sym long ∙ sym count in
     (sent, ap length is.taken ∙ sent)

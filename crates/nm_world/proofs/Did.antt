@@ -1,37 +1,24 @@
 -- Whether something was done, from what grew.
-use Rattle.std.proofs.Common.{◌≡◌, ◌≢◌, ℕ, zero, suc, ◌+◌, ◌<◌, ◌≤◌, Bool, true, false, List, [], ◌∷◌, ◌++◌}
-use Rattle.std.proofs.Common.{length, length-append, append-nil, map, set, Some, refl, sym, ap, ◌∙◌, subst, arith}
-use Rattle.std.proofs.Common.{⊎_elim, ◌||◌}
-use Rattle.std.proofs.Common.{Ok, Err, Result, get_or-set_same, get_or-set_other}
-use Rattle.std.specs.Prelude.{◌↔◌, IfOk, is_err, nat_lt, slice_get, slice_index}
+use Rattle.std.proofs.Common.{◌≡◌, ℕ, zero, suc, ◌+◌, ◌<◌, ◌≤◌, Bool, true, false, List, [], ◌∷◌, ◌++◌}
+use Rattle.std.proofs.Common.{length, length-append, Some, refl, sym, ap, ◌∙◌, subst, arith}
+use Rattle.std.proofs.Common.{◌||◌}
+use Rattle.std.proofs.Common.{Ok, Err, Result}
+use Rattle.std.specs.Prelude.{◌↔◌, IfOk, nat_lt, slice_get}
 use Rattle.std.proofs.lemmas.Bool.Decides.{nat_tests}
-use Rattle.std.proofs.lemmas.List.{append_assoc}
 use native.Mathlib.Decide.{ℕ_discrete, dec_le}
 use Rattle.nm_types.specs.declared.packets.Packet.{Packet}
-use Rattle.nm_types.specs.declared.packets.Piece.{Piece}
 use Rattle.nm_history.specs.declared.events.Event.{Event}
-use Rattle.nm_chain.specs.Update.{pick, update}
 use Rattle.nm_chain.specs.declared.table.table.Entry.{Entry}
-use Rattle.nm_chain.specs.declared.table.table.Heads.{Heads}
-use Rattle.nm_chain.specs.declared.table.table.Misses.{Misses}
-use Rattle.nm_chain.specs.Rule.{Load, if_below, put_to, sent_to}
-use Rattle.nm_chain.specs.Plays.{missed_of, raised, with_box_full, with_filling, with_heads, with_put, with_put_box}
-use Rattle.nm_chain.specs.Plays.{heads_at, heads_of, head_miss, link_miss, with_look, with_missed}
-use Rattle.nm_chain.specs.declared.table.table.Look.TheVariants.{Fresh, LinkEmpty}
-use Rattle.nm_chain.proofs.QueueLemmas.{pick_yes, put_append}
-use Rattle.nm_types.specs.declared.limits.TheConstants.{MAX_BOX}
 use Rattle.nm_cells.specs.declared.port.Port.{Port}
-use Rattle.nm_cells.specs.Ports.{SameTaken, knows, sent_by, taken_by}
-use Rattle.nm_port.specs.Polls.{IsNext, polled, with_all_missed}
-use Rattle.nm_port.specs.Sends.{HadMiss, tried}
+use Rattle.nm_cells.specs.Ports.{knows, sent_by, taken_by}
 use Rattle.nm_copyring.specs.declared.port.RingPort.{RingPort}
 use Rattle.nm_copyring.specs.declared.table.Entry as ring_entry
 use Rattle.nm_copyring.specs.declared.table.Lane.{Lane}
-use Rattle.nm_copyring.specs.Rule.{lane, new_lane}
-use Rattle.nm_copyring.specs.Plays.{one_empty, one_full, one_pulled, one_pushed, with_lane}
+use Rattle.nm_copyring.specs.Rule.{lane}
+use Rattle.nm_copyring.specs.Plays.{with_lane}
 use Rattle.nm_copyring.specs.Ports as ring
 use Rattle.nm_world.specs.declared.actors.Actor.{Actor}
-use Rattle.nm_world.specs.Actors.{Grew, Grows, LaneGrows, MissesGrow, PortGrows, RingGrows, did}
+use Rattle.nm_world.specs.Actors.{Grew, Grows, LaneGrows, PortGrows, RingGrows, did}
 use Rattle.nm_world.specs.Actors.{AllContinue, Continues, SomeGrew, ActorInvariant, did_any, done_by, done_of, sum_below}
 use Rattle.nm_types.specs.declared.scripts.Line.{Line}
 use Rattle.nm_types.specs.Sizes.{Sizes}
@@ -40,8 +27,6 @@ use Rattle.nm_cells.specs.declared.port.Fabric.{Fabric}
 use Rattle.nm_copyring.specs.declared.port.Rings.{Rings}
 use Rattle.nm_world.specs.Actors.Grew.{events, sent, taken, pushed, pulled}
 use Rattle.nm_world.proofs.Grows.{grows_same, kept_on, lane_kept, port_same, ring_same, ring_up}
-use Rattle.nm_types.specs.declared.packets.Path.{Path}
-use Rattle.nm_types.specs.declared.packets.Path.TheVariants.{Box, Cell}
 
 -- sums
 pub sum_up : (n : ℕ) (f g : ℕ → ℕ) → ((i : ℕ) → f i ≤ g i) → sum_below n f ≤ sum_below n g
@@ -164,7 +149,7 @@ did_on n a b c p q one two = or_less (done_by n a) (done_by n b) (done_by n c) p
     (done_up n b c two)
 
 -- one step more of a loop that tells whether something was done
-pub kept_and : (n : ℕ) (lines : List Line) (f : Fabric) (r : Rings) (a b c : Actor) (p q : Bool) →
+pub kept_and : (n : ℕ) (lines : List Line) (f : Fabric Packet) (r : Rings) (a b c : Actor) (p q : Bool) →
     Continues lines f r a b → Continues lines f r b c → p ≡ did n a b → q ≡ did n b c →
     Continues lines f r a c × ((p || q) ≡ did n a c)
 kept_and n lines f r a b c p q one two before then =
@@ -179,7 +164,7 @@ or_one true q one = refl
 or_one false q one = sym one
 
 -- a ring port that found its next place full or empty
-pub ring_missed : (lines : List Line) (f : Fabric) (r : Rings) (a : Actor) (q : RingPort)
+pub ring_missed : (lines : List Line) (f : Fabric Packet) (r : Rings) (a : Actor) (q : RingPort)
     (g : Lane → Lane) (j : ℕ) (s : ActorInvariant lines f r a) → ring.Owns r q → q.rank ≡ a.ring.rank →
     j < length (ring.knows a.ring).lanes → ((l : Lane) → LaneGrows l (g l)) →
     ((l : Lane) → ((g l).pushed ≡ l.pushed) × ((g l).pulled ≡ l.pulled)) →
@@ -216,7 +201,7 @@ ring_missed lines f r a q g j s owns rank low up same knew =
     )
 
 -- a ring port that loaded a flag and learnt nothing
-pub ring_looked : (lines : List Line) (f : Fabric) (r : Rings) (a : Actor) (q : RingPort) (s : ActorInvariant lines f r a) →
+pub ring_looked : (lines : List Line) (f : Fabric Packet) (r : Rings) (a : Actor) (q : RingPort) (s : ActorInvariant lines f r a) →
     ring.Owns r q → q.rank ≡ a.ring.rank → ring.knows q ≡ ring.knows a.ring →
     Continues lines f r a (record a { ring = q }) × (false ≡ did f.ranks a (record a { ring = q }))
 ring_looked lines f r a q s owns rank knew =
@@ -252,7 +237,7 @@ ring_looked lines f r a q s owns rank knew =
     )
 
 -- a command that ran
-pub ran_on : (n : ℕ) {lines : List Line} {f : Fabric} {r : Rings} (a b : Actor) (s : ActorInvariant lines f r a) →
+pub ran_on : (n : ℕ) {lines : List Line} {f : Fabric Packet} {r : Rings} (a b : Actor) (s : ActorInvariant lines f r a) →
     {sizes : Sizes} {i : ℕ} → GoesOn sizes lines i b.process.rank s.past → b.port ≡ a.port → b.ring ≡ a.ring →
     Grows a b × Grew n a b
 ran_on n a b s on port ring =
@@ -266,7 +251,7 @@ ran_on n a b s on port ring =
           on.same.front.0,
           is ∙ on.same.front.1 ∙ ap (λ (h : List Event). h ++ on.same.front.0) (sym was),
         );
-        port = subst (λ (p : Port). PortGrows a.port p) (sym port) (port_same a.port);
+        port = subst (λ (p : Port Packet). PortGrows a.port p) (sym port) (port_same a.port);
         ring = subst (λ (p : RingPort). RingGrows a.ring p) (sym ring) (ring_same a.ring);
       },
       events (omega (arith, grew, old, new)),
@@ -277,7 +262,7 @@ done_append : (n : ℕ) (xs ys : List Actor) → done_of n (xs ++ ys) ≡ done_o
 done_append n [] ys = omega arith
 done_append n (x ∷ xs) ys = let rest = done_append n xs ys in omega (arith, rest)
 
-pub all_up : (n : ℕ) (lines : List Line) (f : Fabric) (r : Rings) (xs ys : List Actor) →
+pub all_up : (n : ℕ) (lines : List Line) (f : Fabric Packet) (r : Rings) (xs ys : List Actor) →
     AllContinue lines f r xs ys → done_of n xs ≤ done_of n ys
 all_up n lines f r [] [] kept = omega arith
 all_up n lines f r [] (y ∷ ys) kept = absurd kept
@@ -297,7 +282,7 @@ or_sum x y x' y' false false up to p_is q_is =
     less_false (x + y) (x' + y') (omega (arith, one, two, up, to))
 
 -- both halves
-pub did_halves : (n : ℕ) (lines : List Line) (f : Fabric) (r : Rings) (xs ys xs' ys' : List Actor) (p q : Bool) →
+pub did_halves : (n : ℕ) (lines : List Line) (f : Fabric Packet) (r : Rings) (xs ys xs' ys' : List Actor) (p q : Bool) →
     AllContinue lines f r xs xs' → AllContinue lines f r ys ys' → p ≡ did_any n xs xs' → q ≡ did_any n ys ys' →
     (p || q) ≡ did_any n (xs ++ ys) (xs' ++ ys')
 did_halves n lines f r xs ys xs' ys' p q one two p_is q_is =
@@ -307,7 +292,7 @@ did_halves n lines f r xs ys xs' ys' p q one two p_is q_is =
     (all_up n lines f r ys ys' two) p_is q_is))
 
 -- from one to the next, of many
-pub did_any_on : (n : ℕ) (lines : List Line) (f : Fabric) (r : Rings) (xs ys zs : List Actor) (p q : Bool) →
+pub did_any_on : (n : ℕ) (lines : List Line) (f : Fabric Packet) (r : Rings) (xs ys zs : List Actor) (p q : Bool) →
     AllContinue lines f r xs ys → AllContinue lines f r ys zs → p ≡ did_any n xs ys → q ≡ did_any n ys zs →
     (p || q) ≡ did_any n xs zs
 did_any_on n lines f r xs ys zs p q one two = or_less (done_of n xs) (done_of n ys) (done_of n zs) p q
@@ -370,7 +355,7 @@ did_iff n a b up = (
 )
 
 -- and of many
-some_grew : (n : ℕ) (lines : List Line) (f : Fabric) (r : Rings) (xs ys : List Actor) → AllContinue lines f r xs ys →
+some_grew : (n : ℕ) (lines : List Line) (f : Fabric Packet) (r : Rings) (xs ys : List Actor) → AllContinue lines f r xs ys →
     done_of n xs < done_of n ys → SomeGrew n xs ys
 some_grew n lines f r [] [] kept more = absurd (omega (arith, more))
 some_grew n lines f r [] (y ∷ ys) kept more = absurd kept
@@ -396,7 +381,7 @@ some_grew n lines f r (x ∷ xs) (y ∷ ys) kept more =
         grew = one.grew;
       }
 
-some_did : (n : ℕ) (lines : List Line) (f : Fabric) (r : Rings) (xs ys : List Actor) (k : ℕ) (a b : Actor) →
+some_did : (n : ℕ) (lines : List Line) (f : Fabric Packet) (r : Rings) (xs ys : List Actor) (k : ℕ) (a b : Actor) →
     AllContinue lines f r xs ys → slice_get xs k ≡ Some a → slice_get ys k ≡ Some b → Grew n a b →
     done_of n xs < done_of n ys
 some_did n lines f r [] [] k a b kept was is grew = cc
@@ -413,7 +398,7 @@ some_did n lines f r (x ∷ xs) (y ∷ ys) (suc k) a b kept was is grew =
     let rest = some_did n lines f r xs ys k a b kept.1 was is grew in
     let up = done_up n x y kept.0.grows in omega (arith, rest, up)
 
-pub did_any_iff : (n : ℕ) (lines : List Line) (f : Fabric) (r : Rings) (xs ys : List Actor) →
+pub did_any_iff : (n : ℕ) (lines : List Line) (f : Fabric Packet) (r : Rings) (xs ys : List Actor) →
     AllContinue lines f r xs ys → (did_any n xs ys ≡ true) ↔ SomeGrew n xs ys
 did_any_iff n lines f r xs ys kept = (
   λ is. some_grew n lines f r xs ys kept (is_less (done_of n xs) (done_of n ys) (sym is)),
@@ -422,14 +407,14 @@ did_any_iff n lines f r xs ys kept = (
 )
 
 -- and of one before which nothing was
-pub did_then : {E : Type 0} (result : Result Bool E) (n : ℕ) (lines : List Line) (f : Fabric) (r : Rings)
+pub did_then : {E : Type 0} (result : Result Bool E) (n : ℕ) (lines : List Line) (f : Fabric Packet) (r : Rings)
     (a b c : Actor) → Continues lines f r a b → false ≡ did n a b → IfOk result (λ _. Continues lines f r b c) →
     IfOk result (λ moved. moved ≡ did n b c) → IfOk result (λ moved. moved ≡ did n a c)
 did_then (Err x) n lines f r a b c one none two moved = tt
 did_then (Ok m) n lines f r a b c one none two moved = did_on n a b c false m one.grows two.grows none moved
 
 -- of a call that tells whether something was done
-pub grew_where_moved : {E : Type 0} (result : Result Bool E) (n : ℕ) (lines : List Line) (f : Fabric) (r : Rings)
+pub grew_where_moved : {E : Type 0} (result : Result Bool E) (n : ℕ) (lines : List Line) (f : Fabric Packet) (r : Rings)
     (a b : Actor) → IfOk result (λ _. Continues lines f r a b) → IfOk result (λ moved. moved ≡ did n a b) →
     IfOk result (λ moved. (moved ≡ true) ↔ Grew n a b)
 grew_where_moved (Err x) n lines f r a b kept moved = tt
@@ -438,7 +423,7 @@ grew_where_moved (Ok m) n lines f r a b kept moved = (
   λ grew. moved ∙ (did_iff n a b kept.grows).1 grew,
 )
 
-pub some_grew_where_moved : {E : Type 0} (result : Result Bool E) (n : ℕ) (lines : List Line) (f : Fabric) (r : Rings)
+pub some_grew_where_moved : {E : Type 0} (result : Result Bool E) (n : ℕ) (lines : List Line) (f : Fabric Packet) (r : Rings)
     (xs ys : List Actor) → IfOk result (λ _. AllContinue lines f r xs ys) →
     IfOk result (λ moved. moved ≡ did_any n xs ys) → IfOk result (λ moved. (moved ≡ true) ↔ SomeGrew n xs ys)
 some_grew_where_moved (Err x) n lines f r xs ys kept moved = tt

@@ -1,17 +1,12 @@
 -- What a port knows, from one step to the next.
 use Rattle.std.proofs.Common.{Option, None, is_some}
-use Rattle.std.proofs.Common.{◌≡◌, ◌≢◌, ℕ, zero, suc, ◌+◌, ◌<◌, ◌≤◌, Bool, true, false, List, [], ◌∷◌, ◌++◌}
-use Rattle.std.proofs.Common.{length, length-append, append-nil, map, set, Some, refl, sym, ap, ◌∙◌, subst, arith}
-use Rattle.std.proofs.Common.{⊎_elim, ◌||◌}
-use Rattle.std.proofs.Common.{get_or-set_same, get_or-set_other}
-use Rattle.std.specs.Prelude.{nat_lt, slice_index}
-use Rattle.std.proofs.lemmas.Bool.Decides.{nat_tests}
-use Rattle.std.proofs.lemmas.List.{append_assoc}
+use Rattle.std.proofs.Common.{◌≡◌, ℕ, zero, suc, ◌+◌, ◌<◌, ◌≤◌, Bool, true, false, List, [], ◌∷◌, ◌++◌}
+use Rattle.std.proofs.Common.{length, length-append, map, set, Some, refl, sym, ap, ◌∙◌, subst, arith}
+use Rattle.std.proofs.Common.{⊎_elim}
+use Rattle.std.specs.Prelude.{slice_index}
 use native.Mathlib.Decide.{ℕ_discrete, dec_le}
 use Rattle.nm_types.specs.declared.packets.Packet.{Packet}
-use Rattle.nm_types.specs.declared.packets.Piece.{Piece}
-use Rattle.nm_history.specs.declared.events.Event.{Event}
-use Rattle.nm_chain.specs.Update.{pick, update}
+use Rattle.nm_world.specs.Parcels.{parcel_of}
 use Rattle.nm_chain.specs.declared.table.table.Entry.{Entry}
 use Rattle.nm_chain.specs.declared.table.table.Heads.{Heads}
 use Rattle.nm_chain.specs.declared.table.table.Misses.{Misses}
@@ -20,32 +15,15 @@ use Rattle.nm_chain.specs.Plays.{missed_of, raised, with_box_full, with_filling,
 use Rattle.nm_chain.specs.Plays.{heads_at, heads_of, head_miss, link_miss, with_look, with_missed}
 use Rattle.nm_chain.specs.declared.table.table.Look.TheVariants.{Fresh, LinkEmpty}
 use Rattle.nm_chain.proofs.QueueLemmas.{pick_yes, put_append}
-use Rattle.nm_types.specs.declared.limits.TheConstants.{MAX_BOX}
-use Rattle.nm_cells.specs.declared.port.Port.{Port}
-use Rattle.nm_cells.specs.Ports.{SameTaken, knows, sent_by, taken_by}
-use Rattle.nm_port.specs.Polls.{IsNext, polled, with_all_missed}
+use Rattle.nm_port.specs.Polls.{polled, with_all_missed}
 use Rattle.nm_port.specs.Sends.{HadMiss, tried}
-use Rattle.nm_copyring.specs.declared.port.RingPort.{RingPort}
-use Rattle.nm_copyring.specs.declared.table.Entry as ring_entry
-use Rattle.nm_copyring.specs.declared.table.Lane.{Lane}
-use Rattle.nm_copyring.specs.Rule.{lane, new_lane}
-use Rattle.nm_copyring.specs.Plays.{one_empty, one_full, one_pulled, one_pushed, with_lane}
-use Rattle.nm_copyring.specs.Ports as ring
-use Rattle.nm_world.specs.declared.actors.Actor.{Actor}
-use Rattle.nm_world.specs.Actors.{Grew, Grows, LaneGrows, MissesGrow, PortGrows, RingGrows, did}
-use Rattle.nm_world.specs.Actors.{AllContinue, Continues, ActorInvariant, did_any, done_by, done_of, sum_below}
-use Rattle.nm_types.specs.declared.scripts.Line.{Line}
-use Rattle.nm_types.specs.Sizes.{Sizes}
-use Rattle.nm_global.specs.ProcessInvariant.{GoesOn}
-use Rattle.nm_cells.specs.declared.port.Fabric.{Fabric}
-use Rattle.nm_copyring.specs.declared.port.Rings.{Rings}
-use Rattle.nm_world.specs.Actors.Grew.{events, sent, taken, pushed, pulled}
+use Rattle.nm_world.specs.Actors.{MissesGrow}
 use Rattle.nm_world.proofs.Leaves.{SentBy, a_box, a_cell}
 use Rattle.nm_types.specs.declared.packets.Path.{Path}
 use Rattle.nm_types.specs.declared.packets.Path.TheVariants.{Box, Cell}
 
 -- What a port's seat knows grows.
-pub record EntryGrows (e e' : Entry) : Type 0 where
+pub record EntryGrows (e e' : Entry Packet) : Type 0 where
   pub sent : (j : ℕ) → sent_to j e.put_box e.put ≤ sent_to j e'.put_box e'.put
   pub full : (j : ℕ) → slice_index e.box_full j ≤ slice_index e'.box_full j
   pub missed : (i : ℕ) → slice_index e.box_miss i ≤ slice_index e'.box_miss i
@@ -60,7 +38,7 @@ misses_on x y z one two = record {
   link = let p = one.link in let q = two.link in omega (arith, p, q);
 }
 
-pub entry_same : (e : Entry) → EntryGrows e e
+pub entry_same : (e : Entry Packet) → EntryGrows e e
 entry_same e = record {
   sent = λ j. omega arith;
   full = λ j. omega arith;
@@ -68,7 +46,7 @@ entry_same e = record {
   queues = λ b. misses_same (missed_of b e);
 }
 
-pub entry_on : (a b c : Entry) → EntryGrows a b → EntryGrows b c → EntryGrows a c
+pub entry_on : (a b c : Entry Packet) → EntryGrows a b → EntryGrows b c → EntryGrows a c
 entry_on a b c one two = record {
   sent = λ j. let p = one.sent j in let q = two.sent j in omega (arith, p, q);
   full = λ j. let p = one.full j in let q = two.full j in omega (arith, p, q);
@@ -94,24 +72,22 @@ map_up [] i = omega arith
 map_up (x ∷ xs) zero = raised_up x
 map_up (x ∷ xs) (suc i) = map_up xs i
 
-by_queue : (e e' : Entry) → MissesGrow e.receive_missed e'.receive_missed →
+by_queue : (e e' : Entry Packet) → MissesGrow e.receive_missed e'.receive_missed →
     MissesGrow e.free_missed e'.free_missed → (b : Bool) → MissesGrow (missed_of b e) (missed_of b e')
 by_queue e e' one two true = one
 by_queue e e' one two false = two
 
 -- a try by box
-pub tried_up : (len to : ℕ) (e : Entry) → EntryGrows e (tried len to e)
-tried_up len to e = by (dec_le len MAX_BOX) where
-  by : (d : Dec (len ≤ MAX_BOX)) → EntryGrows e (if_below d (with_box_full to e) e)
-  by (yes h) = record {
-    sent = λ j. omega arith;
-    full = λ j. set_up e.box_full to j;
-    missed = λ i. omega arith;
-    queues = by_queue e (with_box_full to e) (misses_same e.receive_missed) (misses_same e.free_missed);
-  }
-  by (no h) = entry_same e
+pub tried_up : (fits : Bool) (to : ℕ) (e : Entry Packet) → EntryGrows e (tried fits to e)
+tried_up true to e = record {
+  sent = λ j. omega arith;
+  full = λ j. set_up e.box_full to j;
+  missed = λ i. omega arith;
+  queues = by_queue e (with_box_full to e) (misses_same e.receive_missed) (misses_same e.free_missed);
+}
+tried_up false to e = entry_same e
 
-pub all_missed_up : (e : Entry) → EntryGrows e (with_all_missed e)
+pub all_missed_up : (e : Entry Packet) → EntryGrows e (with_all_missed e)
 all_missed_up e = record {
   sent = λ j. omega arith;
   full = λ j. omega arith;
@@ -120,7 +96,7 @@ all_missed_up e = record {
 }
 
 -- a miss of an own queue
-head_up : (b : Bool) (h : Heads) (e : Entry) → EntryGrows e (with_missed b head_miss (with_heads b h e))
+head_up : (b : Bool) (h : Heads) (e : Entry Packet) → EntryGrows e (with_missed b head_miss (with_heads b h e))
 head_up true h e = record {
   sent = λ j. omega arith;
   full = λ j. omega arith;
@@ -138,7 +114,7 @@ head_up false h e = record {
       (record { head = raised_up e.free_missed.head_empty; link = omega arith });
 }
 
-link_up : (b : Bool) (h : Heads) (e : Entry) →
+link_up : (b : Bool) (h : Heads) (e : Entry Packet) →
     EntryGrows e (with_look b (LinkEmpty 0) (with_missed b link_miss (with_heads b h e)))
 link_up true h e = record {
   sent = λ j. omega arith;
@@ -157,23 +133,23 @@ link_up false h e = record {
       (record { head = omega arith; link = raised_up e.free_missed.link_missing });
 }
 
-pub miss_up : (b : Bool) (e e' : Entry) → HadMiss b e e' → EntryGrows e e'
+pub miss_up : (b : Bool) (e e' : Entry Packet) → HadMiss b e e' → EntryGrows e e'
 miss_up b e e' = ⊎_elim
-    (λ h. subst (λ (x : Entry). EntryGrows e x) (sym h) (head_up b (heads_at 0 0) e))
-    (λ h. subst (λ (x : Entry). EntryGrows e x) (sym h.1) (link_up b (heads_of b e') e))
+    (λ h. subst (λ (x : Entry Packet). EntryGrows e x) (sym h) (head_up b (heads_at 0 0) e))
+    (λ h. subst (λ (x : Entry Packet). EntryGrows e x) (sym h.1) (link_up b (heads_of b e') e))
 
 -- a packet that was put
-put_more : (j : ℕ) (xs ys : List (ℕ × Load)) → length (put_to j xs) ≤ length (put_to j (xs ++ ys))
+put_more : (j : ℕ) (xs ys : List (ℕ × Load Packet)) → length (put_to j xs) ≤ length (put_to j (xs ++ ys))
 put_more j xs ys =
     let e = ap length (put_append j xs ys) ∙ length-append (put_to j xs) (put_to j ys) in omega (arith, e)
 
-put_one : (j : ℕ) (y : Load) (xs : List (ℕ × Load)) →
+put_one : (j : ℕ) (y : Load Packet) (xs : List (ℕ × Load Packet)) →
     length (put_to j (xs ++ (j, y) ∷ [])) ≡ length (put_to j xs) + 1
 put_one j y xs =
     ap length (put_append j xs ((j, y) ∷ [])) ∙ length-append (put_to j xs) (put_to j ((j, y) ∷ []))
-    ∙ ap (λ (ys : List Load). length (put_to j xs) + length ys) (pick_yes (ℕ_discrete j j) (y ∷ []) [] refl)
+    ∙ ap (λ (ys : List (Load Packet)). length (put_to j xs) + length ys) (pick_yes (ℕ_discrete j j) (y ∷ []) [] refl)
 
-pub box_up : (to : ℕ) (xs : List (ℕ × Load)) (e : Entry) →
+pub box_up : (to : ℕ) (xs : List (ℕ × Load Packet)) (e : Entry Packet) →
     EntryGrows e (with_put_box xs (with_filling to false e))
 box_up to xs e = record {
   sent = λ j. let more = put_more j e.put_box xs in omega (arith, more);
@@ -183,7 +159,7 @@ box_up to xs e = record {
       (misses_same e.receive_missed) (misses_same e.free_missed);
 }
 
-pub cell_up : (xs : List (ℕ × Load)) (h : Heads) (e : Entry) →
+pub cell_up : (xs : List (ℕ × Load Packet)) (h : Heads) (e : Entry Packet) →
     EntryGrows e (with_put xs (with_look false Fresh (with_heads false h e)))
 cell_up xs h e = record {
   sent = λ j. let more = put_more j e.put xs in omega (arith, more);
@@ -193,41 +169,41 @@ cell_up xs h e = record {
       (misses_same e.receive_missed) (misses_same e.free_missed);
 }
 
-pub sent_more : (e e' : Entry) (to : ℕ) (p : Packet) → SentBy e e' to p →
+pub sent_more : (e e' : Entry Packet) (to : ℕ) (p : Packet) → SentBy e e' to p →
     sent_to to e.put_box e.put < sent_to to e'.put_box e'.put
 sent_more e e' to p (a_box x y z) =
-    let more = ap (λ (l : List (ℕ × Load)). length (put_to to l)) x ∙ put_one to (Some p) e.put_box in
-    let rest = ap (λ (l : List (ℕ × Load)). length (put_to to l)) y in omega (arith, more, rest)
+    let more = ap (λ (l : List (ℕ × Load Packet)). length (put_to to l)) x ∙ put_one to (Some (parcel_of p)) e.put_box in
+    let rest = ap (λ (l : List (ℕ × Load Packet)). length (put_to to l)) y in omega (arith, more, rest)
 sent_more e e' to p (a_cell x y z) =
-    let rest = ap (λ (l : List (ℕ × Load)). length (put_to to l)) x in
-    let more = ap (λ (l : List (ℕ × Load)). length (put_to to l)) y ∙ put_one to (Some p) e.put in
+    let rest = ap (λ (l : List (ℕ × Load Packet)). length (put_to to l)) x in
+    let more = ap (λ (l : List (ℕ × Load Packet)). length (put_to to l)) y ∙ put_one to (Some (parcel_of p)) e.put in
     omega (arith, more, rest)
 
-pub sent_up : (result : Option Path) (len to : ℕ) (p : Packet) (e e' : Entry) →
+pub sent_up : (result : Option Path) (fits : Bool) (to : ℕ) (p : Packet) (e e' : Entry Packet) →
     is_some result ≡ true →
-    (result ≡ Some Box → e' ≡ with_put_box ((to, Some p) ∷ []) (with_filling to false e)) →
+    (result ≡ Some Box → e' ≡ with_put_box ((to, Some (parcel_of p)) ∷ []) (with_filling to false e)) →
     (result ≡ Some Cell →
-    e' ≡ with_put ((to, Some p) ∷ []) (with_look false Fresh
-    (with_heads false (heads_of false e') (tried len to e)))) →
+    e' ≡ with_put ((to, Some (parcel_of p)) ∷ []) (with_look false Fresh
+    (with_heads false (heads_of false e') (tried fits to e)))) →
     EntryGrows e e'
-sent_up (Some Box) len to p e e' okay box cell =
-    subst (λ (x : Entry). EntryGrows e x) (sym (box refl)) (box_up to ((to, Some p) ∷ []) e)
-sent_up (Some Cell) len to p e e' okay box cell =
-    subst (λ (x : Entry). EntryGrows e x) (sym (cell refl))
-    (entry_on e (tried len to e) _ (tried_up len to e)
-    (cell_up ((to, Some p) ∷ []) (heads_of false e') (tried len to e)))
-sent_up None len to p e e' failed box cell = absurd (clash failed) where
+sent_up (Some Box) fits to p e e' okay box cell =
+    subst (λ (x : Entry Packet). EntryGrows e x) (sym (box refl)) (box_up to ((to, Some (parcel_of p)) ∷ []) e)
+sent_up (Some Cell) fits to p e e' okay box cell =
+    subst (λ (x : Entry Packet). EntryGrows e x) (sym (cell refl))
+    (entry_on e (tried fits to e) _ (tried_up fits to e)
+    (cell_up ((to, Some (parcel_of p)) ∷ []) (heads_of false e') (tried fits to e)))
+sent_up None fits to p e e' failed box cell = absurd (clash failed) where
   clash : false ≡ true → ⊥
   clash e = cc
 
 -- a poll
-pub polled_up : (e e' : Entry) → e' ≡ polled e' e →
+pub polled_up : (e e' : Entry Packet) → e' ≡ polled e' e →
     ((i : ℕ) → slice_index e.box_miss i ≤ slice_index e'.box_miss i) → EntryGrows e e'
 polled_up e e' is later = record {
-  sent = λ j. subst (λ (x : Entry). sent_to j e.put_box e.put ≤ sent_to j x.put_box x.put) (sym is) (omega arith);
-  full = λ j. subst (λ (x : Entry). slice_index e.box_full j ≤ slice_index x.box_full j) (sym is) (omega arith);
+  sent = λ j. subst (λ (x : Entry Packet). sent_to j e.put_box e.put ≤ sent_to j x.put_box x.put) (sym is) (omega arith);
+  full = λ j. subst (λ (x : Entry Packet). slice_index e.box_full j ≤ slice_index x.box_full j) (sym is) (omega arith);
   missed = later;
   queues = by_queue e e'
-      (subst (λ (x : Entry). MissesGrow e.receive_missed x.receive_missed) (sym is) (misses_same e.receive_missed))
-      (subst (λ (x : Entry). MissesGrow e.free_missed x.free_missed) (sym is) (misses_same e.free_missed));
+      (subst (λ (x : Entry Packet). MissesGrow e.receive_missed x.receive_missed) (sym is) (misses_same e.receive_missed))
+      (subst (λ (x : Entry Packet). MissesGrow e.free_missed x.free_missed) (sym is) (misses_same e.free_missed));
 }

@@ -1,29 +1,16 @@
 -- What grows of ports and of actors from one step to the next.
-use Rattle.std.proofs.Common.{◌≡◌, ◌≢◌, ℕ, zero, suc, ◌+◌, ◌<◌, ◌≤◌, Bool, true, false, List, [], ◌∷◌, ◌++◌}
-use Rattle.std.proofs.Common.{length, length-append, append-nil, map, set, Some, refl, sym, ap, ◌∙◌, subst, arith}
-use Rattle.std.proofs.Common.{⊎_elim, ◌||◌}
-use Rattle.std.proofs.Common.{Ok, Err, Result, get_or-set_same, get_or-set_other}
-use Rattle.std.specs.Prelude.{is_err, nat_lt, slice_index}
-use Rattle.std.proofs.lemmas.Bool.Decides.{nat_tests}
+use Rattle.std.proofs.Common.{◌≡◌, ℕ, ◌+◌, ◌<◌, ◌≤◌, List, [], ◌∷◌, ◌++◌}
+use Rattle.std.proofs.Common.{length, length-append, append-nil, refl, sym, ap, ◌∙◌, subst, arith}
+use Rattle.std.proofs.Common.{get_or-set_same, get_or-set_other}
 use Rattle.std.proofs.lemmas.List.{append_assoc}
-use native.Mathlib.Decide.{ℕ_discrete, dec_le}
+use native.Mathlib.Decide.{ℕ_discrete}
 use Rattle.nm_types.specs.declared.packets.Packet.{Packet}
 use Rattle.nm_types.specs.declared.packets.Piece.{Piece}
 use Rattle.nm_history.specs.declared.events.Event.{Event}
 use Rattle.nm_chain.specs.Update.{pick, update}
 use Rattle.nm_chain.specs.declared.table.table.Entry.{Entry}
-use Rattle.nm_chain.specs.declared.table.table.Heads.{Heads}
-use Rattle.nm_chain.specs.declared.table.table.Misses.{Misses}
-use Rattle.nm_chain.specs.Rule.{Load, if_below, put_to, sent_to}
-use Rattle.nm_chain.specs.Plays.{missed_of, raised, with_box_full, with_filling, with_heads, with_put, with_put_box}
-use Rattle.nm_chain.specs.Plays.{heads_at, heads_of, head_miss, link_miss, with_look, with_missed}
-use Rattle.nm_chain.specs.declared.table.table.Look.TheVariants.{Fresh, LinkEmpty}
-use Rattle.nm_chain.proofs.QueueLemmas.{pick_yes, put_append}
-use Rattle.nm_types.specs.declared.limits.TheConstants.{MAX_BOX}
 use Rattle.nm_cells.specs.declared.port.Port.{Port}
-use Rattle.nm_cells.specs.Ports.{SameTaken, knows, sent_by, taken_by}
-use Rattle.nm_port.specs.Polls.{IsNext, polled, with_all_missed}
-use Rattle.nm_port.specs.Sends.{HadMiss, tried}
+use Rattle.nm_cells.specs.Ports.{knows, taken_by}
 use Rattle.nm_copyring.specs.declared.port.RingPort.{RingPort}
 use Rattle.nm_copyring.specs.declared.table.Entry as ring_entry
 use Rattle.nm_copyring.specs.declared.table.Lane.{Lane}
@@ -31,20 +18,16 @@ use Rattle.nm_copyring.specs.Rule.{lane, new_lane}
 use Rattle.nm_copyring.specs.Plays.{one_empty, one_full, one_pulled, one_pushed, with_lane}
 use Rattle.nm_copyring.specs.Ports as ring
 use Rattle.nm_world.specs.declared.actors.Actor.{Actor}
-use Rattle.nm_world.specs.Actors.{Grew, Grows, LaneGrows, MissesGrow, PortGrows, RingGrows, did}
-use Rattle.nm_world.specs.Actors.{AllContinue, Continues, ActorInvariant, did_any, done_by, done_of, sum_below}
+use Rattle.nm_world.specs.Actors.{Grows, LaneGrows, PortGrows, RingGrows}
+use Rattle.nm_world.specs.Actors.{Continues, ActorInvariant}
 use Rattle.nm_types.specs.declared.scripts.Line.{Line}
-use Rattle.nm_types.specs.Sizes.{Sizes}
-use Rattle.nm_global.specs.ProcessInvariant.{GoesOn}
 use Rattle.nm_cells.specs.declared.port.Fabric.{Fabric}
 use Rattle.nm_copyring.specs.declared.port.Rings.{Rings}
 use Rattle.nm_world.specs.Actors.Grew.{events, sent, taken, pushed, pulled}
 use Rattle.nm_world.proofs.Entries.{EntryGrows, entry_same, misses_on}
-use Rattle.nm_types.specs.declared.packets.Path.{Path}
-use Rattle.nm_types.specs.declared.packets.Path.TheVariants.{Box, Cell}
 
 -- ports
-pub port_by : (p q : Port) → EntryGrows (knows p) (knows q) → taken_by q ≡ taken_by p → PortGrows p q
+pub port_by : (p q : Port Packet) → EntryGrows (knows p) (knows q) → taken_by q ≡ taken_by p → PortGrows p q
 port_by p q e same = record {
   sent = e.sent;
   taken = λ i. let one = ap (λ (t : ℕ → ℕ). t i) same in omega (arith, one);
@@ -53,7 +36,7 @@ port_by p q e same = record {
   queues = e.queues;
 }
 
-pub port_same : (p : Port) → PortGrows p p
+pub port_same : (p : Port Packet) → PortGrows p p
 port_same p = port_by p p (entry_same (knows p)) refl
 
 update_up : (t : ℕ → ℕ) (k i : ℕ) → t i ≤ update t k (t k + 1) i
@@ -62,7 +45,7 @@ update_up t k i = by (ℕ_discrete i k) where
   by (yes e) = let same = ap t e in omega (arith, same)
   by (no ne) = omega arith
 
-pub port_took : (p q : Port) (k : ℕ) → EntryGrows (knows p) (knows q) →
+pub port_took : (p q : Port Packet) (k : ℕ) → EntryGrows (knows p) (knows q) →
     taken_by q ≡ update (taken_by p) k (taken_by p k + 1) → PortGrows p q
 port_took p q k e next = record {
   sent = e.sent;
@@ -72,7 +55,7 @@ port_took p q k e next = record {
   queues = e.queues;
 }
 
-port_on : (p q s : Port) → PortGrows p q → PortGrows q s → PortGrows p s
+port_on : (p q s : Port Packet) → PortGrows p q → PortGrows q s → PortGrows p s
 port_on p q s one two = record {
   sent = λ j. let x = one.sent j in let y = two.sent j in omega (arith, x, y);
   taken = λ j. let x = one.taken j in let y = two.taken j in omega (arith, x, y);
@@ -183,7 +166,7 @@ grows_on a b c one two = record {
   ring = λ k. lane_on _ _ _ (one.ring k) (two.ring k);
 }
 
-pub kept_on : (lines : List Line) (f : Fabric) (r : Rings) (a b c : Actor) → Continues lines f r a b →
+pub kept_on : (lines : List Line) (f : Fabric Packet) (r : Rings) (a b c : Actor) → Continues lines f r a b →
     Continues lines f r b c → Continues lines f r a c
 kept_on lines f r a b c one two = record {
   stands = two.stands;
@@ -192,6 +175,6 @@ kept_on lines f r a b c one two = record {
       grows_on a b c one.grows two.grows;
 }
 
-pub kept_same : (lines : List Line) (f : Fabric) (r : Rings) (a : Actor) → ActorInvariant lines f r a →
+pub kept_same : (lines : List Line) (f : Fabric Packet) (r : Rings) (a : Actor) → ActorInvariant lines f r a →
     Continues lines f r a a
 kept_same lines f r a s = record { stands = s; seat = refl; grows = grows_same a }

@@ -16,12 +16,13 @@ use Rattle.nm_rank.specs.Ranks.{IsFresh}
 use Rattle.nm_chain.specs.declared.table.table.Entry.{Entry}
 use Rattle.nm_chain.specs.declared.table.table.Heads.{Heads}
 use Rattle.nm_chain.specs.Rule.{if_below}
-use Rattle.nm_chain.specs.Plays.{missed_of, raised, with_box_full, with_heads, with_missed}
+use Rattle.nm_chain.specs.Plays.{missed_of, raised, with_heads, with_missed}
 use Rattle.nm_chain.specs.Plays.{heads_at, heads_of, head_miss, link_miss, with_look}
 use Rattle.nm_chain.specs.declared.table.table.Look.TheVariants.{LinkEmpty}
 use Rattle.nm_cells.specs.declared.port.Port.{Port}
 use Rattle.nm_cells.specs.Ports.{knows}
 use Rattle.nm_port.specs.Polls.{with_all_missed}
+use Rattle.nm_chain.specs.Items.{answer, is_short}
 use Rattle.nm_port.specs.Sends.{HadMiss, tried}
 use Rattle.nm_copyring.specs.declared.table.Entry as ring_entry
 use Rattle.nm_copyring.specs.declared.table.Lane.{Lane}
@@ -38,6 +39,7 @@ use Rattle.nm_world.specs.Idle.{Rose, Stepped}
 use Rattle.nm_world.proofs.Grows.{port_same, ring_same}
 use Rattle.nm_types.proofs.TruthLemmas.{neither}
 use Rattle.nm_port.proofs.PollLemmas.{queue_misses, misses_long}
+use Rattle.nm_types.specs.declared.packets.Packet.{Packet}
 
 -- a count that rose within
 pub rose_within : (x x' y' y : ℕ) → x ≤ x' → Rose x' y' → y' ≤ y → Rose x y
@@ -62,33 +64,33 @@ map_rose (x ∷ xs) zero low = raised_rose x
 map_rose (x ∷ xs) (suc i) low = map_rose xs i (omega (arith, low))
 
 -- a miss of an own queue
-abbrev MissRose : Bool → Entry → Entry → Type 0
+abbrev MissRose : Bool → Entry Packet → Entry Packet → Type 0
 MissRose b e e' =
     Rose (missed_of b e).head_empty (missed_of b e').head_empty
     ⊎ Rose (missed_of b e).link_missing (missed_of b e').link_missing
 
-head_rose : (b : Bool) (h : Heads) (e : Entry) → MissRose b e (with_missed b head_miss (with_heads b h e))
+head_rose : (b : Bool) (h : Heads) (e : Entry Packet) → MissRose b e (with_missed b head_miss (with_heads b h e))
 head_rose true h e = inl (raised_rose e.receive_missed.head_empty)
 head_rose false h e = inl (raised_rose e.free_missed.head_empty)
 
-link_rose : (b : Bool) (h : Heads) (e : Entry) →
+link_rose : (b : Bool) (h : Heads) (e : Entry Packet) →
     MissRose b e (with_look b (LinkEmpty 0) (with_missed b link_miss (with_heads b h e)))
 link_rose true h e = inr (raised_rose e.receive_missed.link_missing)
 link_rose false h e = inr (raised_rose e.free_missed.link_missing)
 
-pub miss_rose : (b : Bool) (e e' : Entry) → HadMiss b e e' → MissRose b e e'
+pub miss_rose : (b : Bool) (e e' : Entry Packet) → HadMiss b e e' → MissRose b e e'
 miss_rose b e e' = ⊎_elim
-    (λ h. subst (λ (x : Entry). MissRose b e x) (sym h) (head_rose b (heads_at 0 0) e))
-    (λ h. subst (λ (x : Entry). MissRose b e x) (sym h.1) (link_rose b (heads_of b e') e))
+    (λ h. subst (λ (x : Entry Packet). MissRose b e x) (sym h) (head_rose b (heads_at 0 0) e))
+    (λ h. subst (λ (x : Entry Packet). MissRose b e x) (sym h.1) (link_rose b (heads_of b e') e))
 
-fulls_kept : (e e' : Entry) → HadMiss false e e' → e'.box_full ≡ e.box_full
-fulls_kept e e' = ⊎_elim (λ h. ap (λ (x : Entry). x.box_full) h) (λ h. ap (λ (x : Entry). x.box_full) h.1)
+fulls_kept : (e e' : Entry Packet) → HadMiss false e e' → e'.box_full ≡ e.box_full
+fulls_kept e e' = ⊎_elim (λ h. ap (λ (x : Entry Packet). x.box_full) h) (λ h. ap (λ (x : Entry Packet). x.box_full) h.1)
 
-fulls_long : (p : Port) → length (knows p).box_full ≡ (knows p).ranks
+fulls_long : (p : Port Packet) → length (knows p).box_full ≡ (knows p).ranks
 fulls_long p = ∥∥₁_elim p.counts (search props) (λ n. n.fulls)
 
 -- a poll that gave none
-pub gave_none : (n : ℕ) (p q : Port) → (knows p).ranks ≡ n →
+pub gave_none : (n : ℕ) (p q : Port Packet) → (knows p).ranks ≡ n →
     HadMiss true (with_all_missed (knows p)) (knows q) → GaveNone n p q
 gave_none n p q ranks miss = record {
   boxes = λ i low. let long = misses_long p in
@@ -98,43 +100,41 @@ gave_none n p q ranks miss = record {
   queue = miss_rose true (with_all_missed (knows p)) (knows q) miss;
 }
 
-queue_within : (b : Bool) (p p' q' q : Port) → PortGrows p p' → QueueMissed b p' q' → PortGrows q' q →
+queue_within : (b : Bool) (p p' q' q : Port Packet) → PortGrows p p' → QueueMissed b p' q' → PortGrows q' q →
     QueueMissed b p q
 queue_within b p p' q' q up missed on =
     ⊎_elim (λ h. inl (rose_within _ _ _ _ (up.queues b).head h (on.queues b).head))
     (λ h. inr (rose_within _ _ _ _ (up.queues b).link h (on.queues b).link)) missed
 
-pub none_within : (n : ℕ) (p p' q' q : Port) → PortGrows p p' → GaveNone n p' q' → PortGrows q' q → GaveNone n p q
+pub none_within : (n : ℕ) (p p' q' q : Port Packet) → PortGrows p p' → GaveNone n p' q' → PortGrows q' q → GaveNone n p q
 none_within n p p' q' q up none on = record {
   boxes = λ i low. rose_within _ _ _ _ (up.missed i) (none.boxes i low) (on.missed i);
   queue = queue_within true p p' q' q up none.queue on;
 }
 
 -- a letter that came back
-tried_box : (len to : ℕ) (e : Entry) → to < length e.box_full →
-    (64 < len) ⊎ Rose (slice_index e.box_full to) (slice_index (tried len to e).box_full to)
+tried_box : (len to : ℕ) (e : Entry Packet) → to < length e.box_full →
+    (64 < len) ⊎ Rose (slice_index e.box_full to) (slice_index (tried (is_short len) to e).box_full to)
 tried_box len to e low = by (dec_le len 64) where
   by : (d : Dec (len ≤ 64)) →
-      (64 < len) ⊎ Rose (slice_index e.box_full to) (slice_index (if_below d (with_box_full to e) e).box_full to)
+      (64 < len) ⊎ Rose (slice_index e.box_full to) (slice_index (tried (answer d) to e).box_full to)
   by (yes h) = inr (set_rose e.box_full to low)
   by (no h) = inl (omega (arith, h))
 
-tried_queue : (len to : ℕ) (e e' : Entry) → MissRose false (tried len to e) e' → MissRose false e e'
-tried_queue len to e e' = by (dec_le len 64) where
-  by : (d : Dec (len ≤ 64)) → MissRose false (if_below d (with_box_full to e) e) e' → MissRose false e e'
-  by (yes h) rose = rose
-  by (no h) rose = rose
+tried_queue : (fits : Bool) (to : ℕ) (e e' : Entry Packet) → MissRose false (tried fits to e) e' → MissRose false e e'
+tried_queue true to e e' rose = rose
+tried_queue false to e e' rose = rose
 
-pub came_back : (p q : Port) (l : Letter) (len : ℕ) → len ≡ length l.packet.payload → l.to < (knows p).ranks →
-    HadMiss false (tried len l.to (knows p)) (knows q) → NotSent p q l
+pub came_back : (p q : Port Packet) (l : Letter) (len : ℕ) → len ≡ length l.packet.payload → l.to < (knows p).ranks →
+    HadMiss false (tried (is_short len) l.to (knows p)) (knows q) → NotSent p q l
 came_back p q l len same low miss =
     let e = knows p in
     let long = fulls_long p in
-    let kept = fulls_kept (tried len l.to e) (knows q) miss in record {
+    let kept = fulls_kept (tried (is_short len) l.to e) (knows q) miss in record {
       box = ⊎_elim (λ h. inl (omega (arith, h, same)))
           (λ h. inr (subst (λ (xs : List ℕ). Rose (slice_index e.box_full l.to) (slice_index xs l.to)) (sym kept) h))
           (tried_box len l.to e (omega (arith, low, long)));
-      queue = tried_queue len l.to e (knows q) (miss_rose false (tried len l.to e) (knows q) miss);
+      queue = tried_queue (is_short len) l.to e (knows q) (miss_rose false (tried (is_short len) l.to e) (knows q) miss);
     }
 
 pub back_within : (a a' b' b : Actor) → PortGrows a.port a'.port → a'.process ≡ a.process → FirstNotSent a' b' →

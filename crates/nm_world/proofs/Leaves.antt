@@ -1,9 +1,8 @@
 -- What a step keeps by which a packet or a piece leaves.
 use Rattle.std.proofs.Common.{Option, None, is_some}
-use Rattle.std.proofs.Common.{◌≡◌, ◌≢◌, ◌⊎◌, ⊎_elim, ℕ, ◌+◌, ◌<◌, ◌≤◌, ◌==◌, Bool, true, false, cond}
+use Rattle.std.proofs.Common.{◌≡◌, ℕ, ◌+◌, ◌<◌, ◌≤◌, ◌==◌, Bool, true, false, cond}
 use Rattle.std.proofs.Common.{Some, List, [], ◌∷◌, ◌++◌, length, map, refl, sym, ap, ◌∙◌, subst}
 use Rattle.std.proofs.Common.{arith}
-use native.Mathlib.Decide.{dec_le}
 use Rattle.nm_types.specs.declared.packets.Packet.{Packet}
 use Rattle.nm_types.specs.declared.packets.Path.{Path}
 use Rattle.nm_types.specs.declared.packets.Path.TheVariants.{Box, Cell}
@@ -14,7 +13,7 @@ use Rattle.nm_history.specs.Known.{Taken}
 use Rattle.nm_history.specs.Pieces.{Pulled}
 use Rattle.nm_chain.specs.declared.table.table.Entry.{Entry}
 use Rattle.nm_chain.specs.declared.table.table.Heads.{Heads}
-use Rattle.nm_chain.specs.Rule.{from, sent_to}
+use Rattle.nm_chain.specs.Rule.{sent_to}
 use Rattle.nm_chain.specs.Plays.{heads_of, with_filling, with_heads, with_put, with_put_box}
 use Rattle.nm_chain.specs.Plays.{with_look}
 use Rattle.nm_chain.specs.declared.table.table.Look.TheVariants.{Fresh}
@@ -40,6 +39,8 @@ use Rattle.nm_process.specs.Work.{IsAtWork}
 use Rattle.nm_port.specs.CarriedPackets.{HasPassed, HasSent, one_more}
 use Rattle.nm_global.specs.ProcessInvariant.{IsOf, ProcessInvariant, with_moment, with_packet_left}
 use Rattle.nm_global.specs.ProcessInvariant.{with_piece_left}
+use Rattle.nm_chain.specs.declared.table.parcels.Parcel.{Parcel}
+use Rattle.nm_world.specs.Parcels.{packet_of, parcel_of}
 use Rattle.nm_world.specs.declared.actors.Actor.{Actor}
 use Rattle.nm_world.specs.Actors.{ActorInvariant}
 use Rattle.nm_world.proofs.Steps.{SameGot, got_same, lane_else, lane_here, stands_of}
@@ -47,53 +48,53 @@ use Rattle.nm_world.proofs.Steps.{tried_got, tried_sent}
 use Rattle.nm_types.proofs.NumberLemmas.{same_number, differ}
 
 -- the lists of a packet that was sent, by either way
-pub data SentBy (e e' : Entry) (to : ℕ) (p : Packet) : Type 0 where
-  a_box : e'.put_box ≡ e.put_box ++ (to, Some p) ∷ [] → e'.put ≡ e.put → SameGot e e' → SentBy e e' to p
-  a_cell : e'.put_box ≡ e.put_box → e'.put ≡ e.put ++ (to, Some p) ∷ [] → SameGot e e' → SentBy e e' to p
+pub data SentBy (e e' : Entry Packet) (to : ℕ) (p : Packet) : Type 0 where
+  a_box : e'.put_box ≡ e.put_box ++ (to, Some (parcel_of p)) ∷ [] → e'.put ≡ e.put → SameGot e e' → SentBy e e' to p
+  a_cell : e'.put_box ≡ e.put_box → e'.put ≡ e.put ++ (to, Some (parcel_of p)) ∷ [] → SameGot e e' → SentBy e e' to p
 
-cell_put : (len to : ℕ) (p : Packet) (h : Heads) (e e' : Entry) →
-    e' ≡ with_put ((to, Some p) ∷ []) (with_look false Fresh (with_heads false h (tried len to e))) → SentBy e e' to p
-cell_put len to p h e e' is =
-    let one = tried_sent len to e in
-    let two = tried_got len to e in
-    a_cell (ap (λ (x : Entry). x.put_box) is ∙ one.box)
-    (ap (λ (x : Entry). x.put) is ∙ ap (λ xs. xs ++ (to, Some p) ∷ []) one.cell)
-    (record { box = ap (λ (x : Entry). x.got_box) is ∙ two.box; cell = ap (λ (x : Entry). x.got) is ∙ two.cell })
+cell_put : (fits : Bool) (to : ℕ) (p : Packet) (h : Heads) (e e' : Entry Packet) →
+    e' ≡ with_put ((to, Some (parcel_of p)) ∷ []) (with_look false Fresh (with_heads false h (tried fits to e))) → SentBy e e' to p
+cell_put fits to p h e e' is =
+    let one = tried_sent fits to e in
+    let two = tried_got fits to e in
+    a_cell (ap (λ (x : Entry Packet). x.put_box) is ∙ one.box)
+    (ap (λ (x : Entry Packet). x.put) is ∙ ap (λ xs. xs ++ (to, Some (parcel_of p)) ∷ []) one.cell)
+    (record { box = ap (λ (x : Entry Packet). x.got_box) is ∙ two.box; cell = ap (λ (x : Entry Packet). x.got) is ∙ two.cell })
 
-box_put : (to : ℕ) (p : Packet) (e e' : Entry) →
-    e' ≡ with_put_box ((to, Some p) ∷ []) (with_filling to false e) → SentBy e e' to p
+box_put : (to : ℕ) (p : Packet) (e e' : Entry Packet) →
+    e' ≡ with_put_box ((to, Some (parcel_of p)) ∷ []) (with_filling to false e) → SentBy e e' to p
 box_put to p e e' is =
-    a_box (ap (λ (x : Entry). x.put_box) is) (ap (λ (x : Entry). x.put) is)
-    (record { box = ap (λ (x : Entry). x.got_box) is; cell = ap (λ (x : Entry). x.got) is })
+    a_box (ap (λ (x : Entry Packet). x.put_box) is) (ap (λ (x : Entry Packet). x.put) is)
+    (record { box = ap (λ (x : Entry Packet). x.got_box) is; cell = ap (λ (x : Entry Packet). x.got) is })
 
-pub sent_by_way : (result : Option Path) (len to : ℕ) (p : Packet) (e e' : Entry) →
+pub sent_by_way : (result : Option Path) (fits : Bool) (to : ℕ) (p : Packet) (e e' : Entry Packet) →
     is_some result ≡ true →
-    (result ≡ Some Box → e' ≡ with_put_box ((to, Some p) ∷ []) (with_filling to false e)) →
+    (result ≡ Some Box → e' ≡ with_put_box ((to, Some (parcel_of p)) ∷ []) (with_filling to false e)) →
     (result ≡ Some Cell →
-    e' ≡ with_put ((to, Some p) ∷ []) (with_look false Fresh
-    (with_heads false (heads_of false e') (tried len to e)))) →
+    e' ≡ with_put ((to, Some (parcel_of p)) ∷ []) (with_look false Fresh
+    (with_heads false (heads_of false e') (tried fits to e)))) →
     SentBy e e' to p
-sent_by_way (Some Box) len to p e e' okay box cell = box_put to p e e' (box refl)
-sent_by_way (Some Cell) len to p e e' okay box cell = cell_put len to p (heads_of false e') e e' (cell refl)
-sent_by_way None len to p e e' failed box cell = absurd (clash failed) where
+sent_by_way (Some Box) fits to p e e' okay box cell = box_put to p e e' (box refl)
+sent_by_way (Some Cell) fits to p e e' okay box cell = cell_put fits to p (heads_of false e') e e' (cell refl)
+sent_by_way None fits to p e e' failed box cell = absurd (clash failed) where
   clash : false ≡ true → ⊥
   clash e = cc
 
 abbrev SendCarries : Type 0
-SendCarries = (e e' : Entry) (j to : ℕ) (p : Packet) (ps : List Packet) → SentBy e e' to p →
-    p.seq ≡ sent_to to e.put_box e.put → HasSent e j ps → HasSent e' j (one_more to j p ps)
+SendCarries = (e e' : Entry Packet) (j to : ℕ) (p : Packet) (ps : List Packet) → SentBy e e' to p →
+    p.seq ≡ sent_to to e.put_box e.put → HasSent packet_of e j ps → HasSent packet_of e' j (one_more to j p ps)
 
 -- from the clauses of the law
-pub send_carries : ((e e' : Entry) (j to : ℕ) (p : Packet) (ps : List Packet) →
+pub send_carries : ((seen : Parcel Packet → Packet) (e e' : Entry Packet) (j to : ℕ) (p : Parcel Packet) (ps : List Packet) →
     e'.put_box ≡ e.put_box ++ (to, Some p) ∷ [] → e'.put ≡ e.put → p.seq ≡ sent_to to e.put_box e.put →
-    HasSent e j ps → HasSent e' j (one_more to j p ps)) →
-    ((e e' : Entry) (j to : ℕ) (p : Packet) (ps : List Packet) →
+    HasSent seen e j ps → HasSent seen e' j (one_more to j (seen p) ps)) →
+    ((seen : Parcel Packet → Packet) (e e' : Entry Packet) (j to : ℕ) (p : Parcel Packet) (ps : List Packet) →
     e'.put_box ≡ e.put_box → e'.put ≡ e.put ++ (to, Some p) ∷ [] → p.seq ≡ sent_to to e.put_box e.put →
-    HasSent e j ps → HasSent e' j (one_more to j p ps)) → SendCarries
-send_carries box cell e e' j to p ps (a_box x y z) number is = box e e' j to p ps x y number is
-send_carries box cell e e' j to p ps (a_cell x y z) number is = cell e e' j to p ps x y number is
+    HasSent seen e j ps → HasSent seen e' j (one_more to j (seen p) ps)) → SendCarries
+send_carries box cell e e' j to p ps (a_box x y z) number is = box packet_of e e' j to (parcel_of p) ps x y number is
+send_carries box cell e e' j to p ps (a_cell x y z) number is = cell packet_of e e' j to (parcel_of p) ps x y number is
 
-got_by : {e e' : Entry} {to : ℕ} {p : Packet} → SentBy e e' to p → SameGot e e'
+got_by : {e e' : Entry Packet} {to : ℕ} {p : Packet} → SentBy e e' to p → SameGot e e'
 got_by (a_box x y z) = z
 got_by (a_cell x y z) = z
 
@@ -110,8 +111,8 @@ left_pieces to j p l = by (to == j) where
   by true = refl
   by false = refl
 
-pub send_on : SendCarries → (lines : List Line) (f : Fabric) (r : Rings) (a : Actor) (v : ProcessView)
-    (port : Port) (to : ℕ) (p : Packet) (events : List Event) (s : ActorInvariant lines f r a) → Owns f port →
+pub send_on : SendCarries → (lines : List Line) (f : Fabric Packet) (r : Rings) (a : Actor) (v : ProcessView)
+    (port : Port Packet) (to : ℕ) (p : Packet) (events : List Event) (s : ActorInvariant lines f r a) → Owns f port →
     port.rank ≡ a.port.rank →
     SameTaken a.port port → port.hands ≤ a.port.hands → SentBy (knows a.port) (knows port) to p →
     p.seq ≡ sent_to to (knows a.port).put_box (knows a.port).put →
@@ -135,12 +136,12 @@ send_on law lines f r a v port to p events s owns rank same hands way number wor
       ranks = s.is.ranks;
       hands = let none = s.is.hands in omega (arith, hands, none);
       rest = same.2 ∙ s.is.rest ∙ ap count_held (sym same.1);
-      sent = λ j within. subst (λ (ps : List Packet). HasSent (knows port) j ps)
+      sent = λ j within. subst (λ (ps : List Packet). HasSent packet_of (knows port) j ps)
           (sym (left_packets to j p (s.past.left j)))
           (law (knows a.port) (knows port) j to p (s.past.left j).packets way number (s.is.sent j within));
-      taken = λ i within. subst (λ (ts : List Taken). HasPassed (knows port) (taken_by port i) i
+      taken = λ i within. subst (λ (ts : List Taken). HasPassed packet_of (knows port) (taken_by port i) i
           (map (λ t. t.packet) ts)) (sym (taken_still i s.past.log m refl))
-          (subst (λ (n : ℕ → ℕ). HasPassed (knows port) (n i) i
+          (subst (λ (n : ℕ → ℕ). HasPassed packet_of (knows port) (n i) i
           (map (λ t. t.packet) (taken_from i s.past.log))) (sym same.0)
           (got_same (knows a.port) (knows port) (taken_by a.port i) i
           (map (λ t. t.packet) (taken_from i s.past.log)) got (s.is.taken i within)));
@@ -155,7 +156,7 @@ piece_packets j piece l = by (piece.0 == j) where
   by true = refl
   by false = refl
 
-pub push_on : (lines : List Line) (f : Fabric) (r : Rings) (a : Actor) (v : ProcessView)
+pub push_on : (lines : List Line) (f : Fabric Packet) (r : Rings) (a : Actor) (v : ProcessView)
     (port : RingPort) (to : ℕ) (q : Piece) (events : List Event) (s : ActorInvariant lines f r a) →
     ring.Owns r port → port.rank ≡ a.ring.rank → to < r.ranks →
     ring.knows port ≡ with_lane (one_pushed q) to (ring.knows a.ring) →
@@ -178,9 +179,9 @@ push_on lines f r a v port to q events s owns rank within knew work on =
       ranks = s.is.ranks;
       hands = s.is.hands;
       rest = s.is.rest;
-      sent = λ j low. subst (λ (ps : List Packet). HasSent (knows a.port) j ps)
+      sent = λ j low. subst (λ (ps : List Packet). HasSent packet_of (knows a.port) j ps)
           (sym (piece_packets j (to, q) (s.past.left j))) (s.is.sent j low);
-      taken = λ i low. subst (λ (ts : List Taken). HasPassed (knows a.port) (taken_by a.port i) i
+      taken = λ i low. subst (λ (ts : List Taken). HasPassed packet_of (knows a.port) (taken_by a.port i) i
           (map (λ t. t.packet) ts)) (sym (taken_still i s.past.log m refl)) (s.is.taken i low);
       pushed = λ j low. by j low (to == j) refl;
       pulled = λ i low. ap (map (λ (d : Pulled). d.piece)) (pulled_still i s.past.log m refl)

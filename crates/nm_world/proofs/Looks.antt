@@ -33,42 +33,43 @@ use Rattle.nm_world.proofs.Grows.{kept_on, port_same}
 use Rattle.nm_world.proofs.Loops.{HasLooped}
 use Rattle.nm_world.proofs.Results.{clash}
 use Rattle.nm_types.proofs.ListLemmas.{take_more}
+use Rattle.nm_types.specs.declared.packets.Packet.{Packet}
 
 -- ports
-polls_up : (n : ℕ) (p q : Port) → PortGrows p q → polls_of n p ≤ polls_of n q
+polls_up : (n : ℕ) (p q : Port Packet) → PortGrows p q → polls_of n p ≤ polls_of n q
 polls_up n p q up =
     let x = sum_up n (λ i. taken_by p i) (λ i. taken_by q i) up.taken in
     let y = (up.queues true).head in
     let z = (up.queues true).link in omega (arith, x, y, z)
 
-last_on : (p q : Port) → PortGrows p q → IsAtLast p → IsAtLast q
+last_on : (p q : Port Packet) → PortGrows p q → IsAtLast p → IsAtLast q
 last_on p q up = ⊎_elim
     (λ h. let y = (up.queues true).head in inl (omega (arith, h, y)))
     (λ h. let z = (up.queues true).link in inr (omega (arith, h, z)))
 
-pub polled_none : (n : ℕ) (p q : Port) → PortGrows p q → Polled n 0 p q
+pub polled_none : (n : ℕ) (p q : Port Packet) → PortGrows p q → Polled n 0 p q
 polled_none n p q up = let x = polls_up n p q up in inl (omega (arith, x))
 
-pub polled_on : (n k m : ℕ) (p q s : Port) → Polled n k p q → Polled n m q s → PortGrows q s →
+pub polled_on : (n k m : ℕ) (p q s : Port Packet) → Polled n k p q → Polled n m q s → PortGrows q s →
     Polled n (k + m) p s
 polled_on n k m p q s one two up = ⊎_elim
     (λ h. ⊎_elim (λ g. inl (omega (arith, h, g))) (λ g. inr g) two)
     (λ h. inr (last_on q s up h)) one
 
-pub polled_within : (n k : ℕ) (p p' q' q : Port) → PortGrows p p' → Polled n k p' q' → PortGrows q' q →
+pub polled_within : (n k : ℕ) (p p' q' q : Port Packet) → PortGrows p p' → Polled n k p' q' → PortGrows q' q →
     Polled n k p q
 polled_within n k p p' q' q up polled on =
     let x = polls_up n p p' up in
     let y = polls_up n q' q on in
     ⊎_elim (λ h. inl (omega (arith, x, h, y))) (λ h. inr (last_on q' q on h)) polled
 
-pub polled_some : (n k : ℕ) (p q : Port) → PortGrows p q → k < n → taken_by p k < taken_by q k → Polled n 1 p q
+pub polled_some : (n k : ℕ) (p q : Port Packet) → PortGrows p q → k < n → taken_by p k < taken_by q k → Polled n 1 p q
 polled_some n k p q up low more =
     let x = sum_more n k (λ i. taken_by p i) (λ i. taken_by q i) up.taken low more in
     let y = (up.queues true).head in
     let z = (up.queues true).link in inl (omega (arith, x, y, z))
 
-pub polled_miss : (n : ℕ) (p q : Port) → PortGrows p q → QueueMissed true p q → Polled n 1 p q
+pub polled_miss : (n : ℕ) (p q : Port Packet) → PortGrows p q → QueueMissed true p q → Polled n 1 p q
 polled_miss n p q up =
     let x = sum_up n (λ i. taken_by p i) (λ i. taken_by q i) up.taken in
     let y = (up.queues true).head in
@@ -123,11 +124,11 @@ looks_ran sizes lines a b one two me run =
     ∙ sym (ap (λ (o : Option Numbered). cond (option_map_or (λ c. is_look c.command) o false) 1 0) next))
 
 -- one step of a loop that takes packets, and its last one
-pub ranks_same : (lines : List Line) (f : Fabric) (r : Rings) (a b : Actor) → Continues lines f r a b →
+pub ranks_same : (lines : List Line) (f : Fabric Packet) (r : Rings) (a b : Actor) → Continues lines f r a b →
     b.process.rank.sizes.ranks ≡ a.process.rank.sizes.ranks
 ranks_same lines f r a b kept = ap (λ (s : Seat). s.sizes.ranks) kept.seat
 
-pub polled_by_step : (lines : List Line) (f : Fabric) (r : Rings) (n : ℕ) (a b d : Actor) (q : Bool) →
+pub polled_by_step : (lines : List Line) (f : Fabric Packet) (r : Rings) (n : ℕ) (a b d : Actor) (q : Bool) →
     Continues lines f r a b →
     q ≡ true → q ≡ did n b d → PolledUnlessWorn b.process.rank.sizes.ranks 1 b d →
     Polled a.process.rank.sizes.ranks 1 a.port d.port
@@ -136,7 +137,7 @@ polled_by_step lines f r n a b d q kept is moved = ⊎_elim
     (subst (λ (k : ℕ). Polled k 1 b.port d.port) (ranks_same lines f r a b kept) polled) (port_same d.port))
     (λ worn. absurd (clash (sym is ∙ moved ∙ ap (did n b) worn.1 ∙ sym (did_same n b))))
 
-pub polled_last : (lines : List Line) (f : Fabric) (r : Rings) (n k : ℕ) (a b d : Actor) → HasLooped n lines f r k a b →
+pub polled_last : (lines : List Line) (f : Fabric Packet) (r : Rings) (n k : ℕ) (a b d : Actor) → HasLooped n lines f r k a b →
     (0 < k → Polled a.process.rank.sizes.ranks 1 a.port b.port) → Grows b d →
     PolledUnlessWorn b.process.rank.sizes.ranks 1 b d → PolledUnlessWorn a.process.rank.sizes.ranks 1 a d
 polled_last lines f r n k a b d looped before up = ⊎_elim
@@ -152,7 +153,7 @@ polled_last lines f r n k a b d looped before up = ⊎_elim
           inr (subst (λ (x : Actor). ¬ IsFresh x.process.rank) same worn.0, worn.1 ∙ same)
 
 -- an actor that stands, and went on
-module _ (lines : List Line) (f : Fabric) (r : Rings) where
+module _ (lines : List Line) (f : Fabric Packet) (r : Rings) where
   pub me_same : (a b : Actor) → ActorInvariant lines f r a → Continues lines f r a b → b.process.rank.me ≡ a.process.rank.me
   me_same a b s kept =
       kept.stands.is.standing.rank.me ∙ ap (λ (s : Seat). s.rank) kept.seat ∙ sym s.is.standing.rank.me

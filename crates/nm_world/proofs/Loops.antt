@@ -13,9 +13,10 @@ use Rattle.nm_world.proofs.Did.{did_on, did_same, or_none}
 use Rattle.nm_world.proofs.Grows.{kept_on, kept_same}
 use Rattle.nm_world.proofs.Idle.{stepped_none, stepped_on}
 use Rattle.nm_types.proofs.TruthLemmas.{or_right}
+use Rattle.nm_types.specs.declared.packets.Packet.{Packet}
 
 -- after k steps that moved something
-pub record HasLooped (n : ℕ) (lines : List Line) (f : Fabric) (r : Rings) (k : ℕ) (a b : Actor) : Type 0 where
+pub record HasLooped (n : ℕ) (lines : List Line) (f : Fabric Packet) (r : Rings) (k : ℕ) (a b : Actor) : Type 0 where
   pub kept : Continues lines f r a b
   pub moved : nat_lt 0 k ≡ did n a b
   pub stepped : Stepped (nat_lt 0 k) a b
@@ -27,7 +28,7 @@ some_more k = grind (arith, nat_tests)
 pub is_first : (k : ℕ) → nat_lt 0 k ≡ false → k ≡ 0
 is_first k none = let low : k ≤ 0 = grind (arith, nat_tests) in omega (arith, low)
 
-module _ (n : ℕ) (lines : List Line) (f : Fabric) (r : Rings) (a : Actor) where
+module _ (n : ℕ) (lines : List Line) (f : Fabric Packet) (r : Rings) (a : Actor) where
   pub loop_none : ActorInvariant lines f r a → HasLooped n lines f r 0 a a
   loop_none s = record {
     kept = kept_same lines f r a s;

@@ -21,6 +21,7 @@ use Rattle.nm_world.specs.Runs.{AreRanked, InPlace, NewInOrder, PairAgrees}
 use Rattle.nm_world.proofs.Chosen.{same_there}
 use Rattle.nm_world.proofs.Grows.{kept_on, kept_same}
 use Rattle.nm_types.proofs.ListLemmas.{place_below}
+use Rattle.nm_types.specs.declared.packets.Packet.{Packet}
 
 and_both : (p q : Bool) → (p && q) ≡ true → (p ≡ true) × (q ≡ true)
 and_both true q e = (refl, e)
@@ -58,7 +59,7 @@ rows_more actors n all one last before both i j a b low at to = dite (ℕ_discre
     (last (and_both all one both).1 j a b (subst (λ k. slice_get actors k ≡ Some a) e at) to))
     (λ ne. before (and_both all one both).0 i j a b (omega (arith, low, ne)) at to)
 
-module _ (lines : List Line) (f : Fabric) (r : Rings) where
+module _ (lines : List Line) (f : Fabric Packet) (r : Rings) where
   pub all_kept_same : (xs : List Actor) → All (ActorInvariant lines f r) xs → AllContinue lines f r xs xs
   all_kept_same [] each = tt
   all_kept_same (x ∷ xs) each = (
@@ -92,7 +93,7 @@ module _ (lines : List Line) (f : Fabric) (r : Rings) where
       let s = subst (ActorInvariant lines f r) (get_or_from_slice_get xs k a a at) (each k a (place_below xs k a at)) in
       (s.is.cells.2, s.is.rings.1.1 ∙ s.is.ranks.1 ∙ sym s.is.ranks.0)
 
-module _ (shape : Sizes) (lines : List Line) (f : Fabric) (r : Rings) where
+module _ (shape : Sizes) (lines : List Line) (f : Fabric Packet) (r : Rings) where
   pub in_place_stands : (k : ℕ) (actors : List Actor) → InPlace shape lines f r k actors →
       All (ActorInvariant lines f r) actors
   in_place_stands k [] p = λ i d less. absurd (omega arith)
@@ -131,8 +132,8 @@ module _ (shape : Sizes) (lines : List Line) (f : Fabric) (r : Rings) where
         (seat ∙ ap (λ (n : ℕ). record { rank = n; sizes = shape }) (omega arith)),
   )
 
-pub new_in_order : (f : Fabric) (r : Rings) (k : ℕ) (ps : List Port) (qs : List RingPort) → length ps ≡ length qs →
-    ((i : ℕ) (p : Port) → slice_get ps i ≡ Some p → IsNew f p (k + i)) →
+pub new_in_order : (f : Fabric Packet) (r : Rings) (k : ℕ) (ps : List (Port Packet)) (qs : List RingPort) → length ps ≡ length qs →
+    ((i : ℕ) (p : Port Packet) → slice_get ps i ≡ Some p → IsNew f p (k + i)) →
     ((i : ℕ) (q : RingPort) → slice_get qs i ≡ Some q → ring.IsNew r q (k + i)) → NewInOrder f r k ps qs
 new_in_order f r k [] [] many one other = tt
 new_in_order f r k [] (q ∷ qs) many one other = absurd (omega (arith, many))
@@ -149,11 +150,11 @@ new_in_order f r k (p ∷ ps) (q ∷ qs) many one other =
       later i = omega arith
 
 -- the actors that are cast for new ports
-pub placed_new : (shape : Sizes) (lines : List Line) (f : Fabric) (r : Rings) (ps : List Port) (qs : List RingPort)
-    (actors : List Actor) → ((f : Fabric) (r : Rings) → AreLines shape.ranks lines →
+pub placed_new : (shape : Sizes) (lines : List Line) (f : Fabric Packet) (r : Rings) (ps : List (Port Packet)) (qs : List RingPort)
+    (actors : List Actor) → ((f : Fabric Packet) (r : Rings) → AreLines shape.ranks lines →
     (f.ranks ≡ shape.ranks) × (r.ranks ≡ shape.ranks) → NewInOrder f r 0 ps qs → InPlace shape lines f r 0 actors) →
     AreLines shape.ranks lines → f.ranks ≡ shape.ranks → r.ranks ≡ shape.ranks → length ps ≡ length qs →
-    ((k : ℕ) (p : Port) → slice_get ps k ≡ Some p → IsNew f p k) →
+    ((k : ℕ) (p : Port Packet) → slice_get ps k ≡ Some p → IsNew f p k) →
     ((k : ℕ) (q : RingPort) → slice_get qs k ≡ Some q → ring.IsNew r q k) → InPlace shape lines f r 0 actors
 placed_new shape lines f r ps qs actors law in_range cells rings many new ring_new =
     let zero_more : (i : ℕ) → i ≡ 0 + i = λ i. omega arith in

@@ -4,8 +4,6 @@ use Rattle.std.proofs.Common.{Some, None, List, [], ◌∷◌, ◌++◌, length,
 use Rattle.std.proofs.Common.{arith, append-nil, get_or-set_same, get_or-set_other}
 use Rattle.std.specs.List.{cons_option}
 use Rattle.std.proofs.lemmas.List.{map-append}
-use native.Mathlib.Decide.{dec_le}
-use Rattle.nm_types.specs.declared.limits.TheConstants.{MAX_BOX}
 use Rattle.nm_types.specs.declared.packets.Packet.{Packet}
 use Rattle.nm_types.specs.declared.packets.Piece.{Piece}
 use Rattle.nm_types.specs.declared.scripts.Line.{Line}
@@ -14,8 +12,8 @@ use Rattle.nm_history.specs.Known.{Taken}
 use Rattle.nm_history.specs.Pieces.{Pulled}
 use Rattle.nm_chain.specs.Update.{update}
 use Rattle.nm_chain.specs.declared.table.table.Entry.{Entry}
-use Rattle.nm_chain.specs.Rule.{Load, if_below, from}
-use Rattle.nm_chain.specs.Plays.{with_box_full}
+use Rattle.nm_chain.specs.Rule.{Load, from}
+use Rattle.nm_chain.specs.declared.table.parcels.Parcel.{Parcel}
 use Rattle.nm_cells.specs.declared.port.Fabric.{Fabric}
 use Rattle.nm_cells.specs.declared.port.Port.{Port}
 use Rattle.nm_cells.specs.Ports.{Owns, knows, taken_by}
@@ -40,85 +38,82 @@ use Rattle.nm_process.specs.Processes.{ProcessView}
 use Rattle.nm_process.specs.Work.{IsAtWork}
 use Rattle.nm_port.specs.CarriedPackets.{HasPassed, HasSent, one_more}
 use Rattle.nm_global.specs.ProcessInvariant.{GoesOn, IsOf, ProcessInvariant, GhostHistory, with_moment}
+use Rattle.nm_world.specs.Parcels.{packet_of}
 use Rattle.nm_world.specs.declared.actors.Actor.{Actor}
 use Rattle.nm_world.specs.Actors.{IsActor, Seat, ActorInvariant, seat_of}
 use Rattle.nm_types.proofs.NumberLemmas.{same_number, differ}
 use Rattle.nm_channels.proofs.Pulling.{pulled-push}
 
-pub stands_of : (shape : Sizes) (lines : List Line) (f : Fabric) (r : Rings) (a : Actor) (past : GhostHistory) →
+pub stands_of : (shape : Sizes) (lines : List Line) (f : Fabric Packet) (r : Rings) (a : Actor) (past : GhostHistory) →
     a.process.rank.sizes ≡ shape → IsActor shape lines f r a past → ActorInvariant lines f r a
 stands_of shape lines f r a past same is =
     record { past = past; is = subst (λ (s : Sizes). IsActor s lines f r a past) (sym same) is }
 
 -- the lists that a port's seat has
-pub record SameSent (e e' : Entry) : Type 0 where
+pub record SameSent (e e' : Entry Packet) : Type 0 where
   pub box : e'.put_box ≡ e.put_box
   pub cell : e'.put ≡ e.put
 
-pub record SameGot (e e' : Entry) : Type 0 where
+pub record SameGot (e e' : Entry Packet) : Type 0 where
   pub box : e'.got_box ≡ e.got_box
   pub cell : e'.got ≡ e.got
 
-pub sent_same : (e e' : Entry) (to : ℕ) (ps : List Packet) → SameSent e e' → HasSent e to ps → HasSent e' to ps
+pub sent_same : (e e' : Entry Packet) (to : ℕ) (ps : List Packet) → SameSent e e' → HasSent packet_of e to ps → HasSent packet_of e' to ps
 sent_same e e' to ps same is =
     record { listed = rw (same.box, same.cell) is.listed; many = rw (same.box, same.cell) is.many }
 
-pub got_same : (e e' : Entry) (t from : ℕ) (ps : List Packet) → SameGot e e' → HasPassed e t from ps →
-    HasPassed e' t from ps
+pub got_same : (e e' : Entry Packet) (t from : ℕ) (ps : List Packet) → SameGot e e' → HasPassed packet_of e t from ps →
+    HasPassed packet_of e' t from ps
 got_same e e' t from ps same is =
     record { listed = rw (same.box, same.cell) is.listed; many = is.many }
 
 -- a try by box, and a miss, leave them as they were
-pub tried_sent : (len to : ℕ) (e : Entry) → SameSent e (tried len to e)
-tried_sent len to e = by (dec_le len MAX_BOX) where
-  by : (d : Dec (len ≤ MAX_BOX)) → SameSent e (if_below d (with_box_full to e) e)
-  by (yes h) = record { box = refl; cell = refl }
-  by (no h) = record { box = refl; cell = refl }
+pub tried_sent : (fits : Bool) (to : ℕ) (e : Entry Packet) → SameSent e (tried fits to e)
+tried_sent true to e = record { box = refl; cell = refl }
+tried_sent false to e = record { box = refl; cell = refl }
 
-pub tried_got : (len to : ℕ) (e : Entry) → SameGot e (tried len to e)
-tried_got len to e = by (dec_le len MAX_BOX) where
-  by : (d : Dec (len ≤ MAX_BOX)) → SameGot e (if_below d (with_box_full to e) e)
-  by (yes h) = record { box = refl; cell = refl }
-  by (no h) = record { box = refl; cell = refl }
+pub tried_got : (fits : Bool) (to : ℕ) (e : Entry Packet) → SameGot e (tried fits to e)
+tried_got true to e = record { box = refl; cell = refl }
+tried_got false to e = record { box = refl; cell = refl }
 
-missed_sent : (b : Bool) (e e' : Entry) → HadMiss b e e' → SameSent e e'
+missed_sent : (b : Bool) (e e' : Entry Packet) → HadMiss b e e' → SameSent e e'
 missed_sent true e e' miss = ⊎_elim
-    (λ h. record { box = ap (λ (x : Entry). x.put_box) h; cell = ap (λ (x : Entry). x.put) h })
-    (λ h. record { box = ap (λ (x : Entry). x.put_box) h.1; cell = ap (λ (x : Entry). x.put) h.1 }) miss
+    (λ h. record { box = ap (λ (x : Entry Packet). x.put_box) h; cell = ap (λ (x : Entry Packet). x.put) h })
+    (λ h. record { box = ap (λ (x : Entry Packet). x.put_box) h.1; cell = ap (λ (x : Entry Packet). x.put) h.1 }) miss
 missed_sent false e e' miss = ⊎_elim
-    (λ h. record { box = ap (λ (x : Entry). x.put_box) h; cell = ap (λ (x : Entry). x.put) h })
-    (λ h. record { box = ap (λ (x : Entry). x.put_box) h.1; cell = ap (λ (x : Entry). x.put) h.1 }) miss
+    (λ h. record { box = ap (λ (x : Entry Packet). x.put_box) h; cell = ap (λ (x : Entry Packet). x.put) h })
+    (λ h. record { box = ap (λ (x : Entry Packet). x.put_box) h.1; cell = ap (λ (x : Entry Packet). x.put) h.1 }) miss
 
-missed_got : (b : Bool) (e e' : Entry) → HadMiss b e e' → SameGot e e'
+missed_got : (b : Bool) (e e' : Entry Packet) → HadMiss b e e' → SameGot e e'
 missed_got true e e' miss = ⊎_elim
-    (λ h. record { box = ap (λ (x : Entry). x.got_box) h; cell = ap (λ (x : Entry). x.got) h })
-    (λ h. record { box = ap (λ (x : Entry). x.got_box) h.1; cell = ap (λ (x : Entry). x.got) h.1 }) miss
+    (λ h. record { box = ap (λ (x : Entry Packet). x.got_box) h; cell = ap (λ (x : Entry Packet). x.got) h })
+    (λ h. record { box = ap (λ (x : Entry Packet). x.got_box) h.1; cell = ap (λ (x : Entry Packet). x.got) h.1 }) miss
 missed_got false e e' miss = ⊎_elim
-    (λ h. record { box = ap (λ (x : Entry). x.got_box) h; cell = ap (λ (x : Entry). x.got) h })
-    (λ h. record { box = ap (λ (x : Entry). x.got_box) h.1; cell = ap (λ (x : Entry). x.got) h.1 }) miss
+    (λ h. record { box = ap (λ (x : Entry Packet). x.got_box) h; cell = ap (λ (x : Entry Packet). x.got) h })
+    (λ h. record { box = ap (λ (x : Entry Packet). x.got_box) h.1; cell = ap (λ (x : Entry Packet). x.got) h.1 }) miss
 
-pub back_sent : (len to : ℕ) (e e' : Entry) → HadMiss false (tried len to e) e' → SameSent e e'
-back_sent len to e e' miss =
-    let one = tried_sent len to e in
-    let two = missed_sent false (tried len to e) e' miss in
+pub back_sent : (fits : Bool) (to : ℕ) (e e' : Entry Packet) → HadMiss false (tried fits to e) e' → SameSent e e'
+back_sent fits to e e' miss =
+    let one = tried_sent fits to e in
+    let two = missed_sent false (tried fits to e) e' miss in
     record { box = two.box ∙ one.box; cell = two.cell ∙ one.cell }
 
-pub back_got : (len to : ℕ) (e e' : Entry) → HadMiss false (tried len to e) e' → SameGot e e'
-back_got len to e e' miss =
-    let one = tried_got len to e in
-    let two = missed_got false (tried len to e) e' miss in
+pub back_got : (fits : Bool) (to : ℕ) (e e' : Entry Packet) → HadMiss false (tried fits to e) e' → SameGot e e'
+back_got fits to e e' miss =
+    let one = tried_got fits to e in
+    let two = missed_got false (tried fits to e) e' miss in
     record { box = two.box ∙ one.box; cell = two.cell ∙ one.cell }
 
-pub none_sent : (e e' : Entry) → HadMiss true (with_all_missed e) e' → SameSent e e'
+pub none_sent : (e e' : Entry Packet) → HadMiss true (with_all_missed e) e' → SameSent e e'
 none_sent e e' miss =
     let two = missed_sent true (with_all_missed e) e' miss in record { box = two.box; cell = two.cell }
 
-pub none_got : (e e' : Entry) → HadMiss true (with_all_missed e) e' → SameGot e e'
+pub none_got : (e e' : Entry Packet) → HadMiss true (with_all_missed e) e' → SameGot e e'
 none_got e e' miss =
     let two = missed_got true (with_all_missed e) e' miss in record { box = two.box; cell = two.cell }
 
 -- a port that passed nothing on and sent nothing
-module _ (lines : List Line) (f : Fabric) (r : Rings) (a : Actor) (port : Port) (s : ActorInvariant lines f r a)
+module _ (lines : List Line) (f : Fabric Packet) (r : Rings) (a : Actor) (port : Port Packet) (s : ActorInvariant lines f r a)
     (owns : Owns f port) (rank : port.rank ≡ a.port.rank) (rest : HoldsTheRest port)
     (hands : port.hands ≤ a.port.hands) (taken : taken_by port ≡ taken_by a.port) where
   ranked : ProcessInvariant a.process.rank.sizes lines port.rank a.process s.past
@@ -143,7 +138,7 @@ module _ (lines : List Line) (f : Fabric) (r : Rings) (a : Actor) (port : Port) 
           rest = rest;
           sent = λ to within. sent_same (knows a.port) (knows port) to (s.past.left to).packets sent
               (s.is.sent to within);
-          taken = λ from within. subst (λ (n : ℕ → ℕ). HasPassed (knows port) (n from) from
+          taken = λ from within. subst (λ (n : ℕ → ℕ). HasPassed packet_of (knows port) (n from) from
               (map (λ t. t.packet) (taken_from from s.past.log))) (sym taken)
               (got_same (knows a.port) (knows port) (taken_by a.port from) from
               (map (λ t. t.packet) (taken_from from s.past.log)) got (s.is.taken from within));
@@ -153,7 +148,7 @@ module _ (lines : List Line) (f : Fabric) (r : Rings) (a : Actor) (port : Port) 
       }
 
 -- a command that ran
-pub run_on : (lines : List Line) (f : Fabric) (r : Rings) (a : Actor) (v : ProcessView)
+pub run_on : (lines : List Line) (f : Fabric Packet) (r : Rings) (a : Actor) (v : ProcessView)
     (s : ActorInvariant lines f r a) → IsAtWork a.process.rank.sizes lines v →
     GoesOn a.process.rank.sizes lines a.port.rank v.rank s.past → ActorInvariant lines f r (record a { process = v })
 run_on lines f r a v s work on =
@@ -167,9 +162,9 @@ run_on lines f r a v s work on =
       ranks = s.is.ranks;
       hands = s.is.hands;
       rest = s.is.rest;
-      sent = λ to within. subst (λ (l : Emitted). HasSent (knows a.port) to l.packets)
+      sent = λ to within. subst (λ (l : Emitted). HasSent packet_of (knows a.port) to l.packets)
           (sym (on.same.left to)) (s.is.sent to within);
-      taken = λ from within. subst (λ (ts : List Taken). HasPassed (knows a.port) (taken_by a.port from) from
+      taken = λ from within. subst (λ (ts : List Taken). HasPassed packet_of (knows a.port) (taken_by a.port from) from
           (map (λ t. t.packet) ts)) (sym (on.same.taken from)) (s.is.taken from within);
       pushed = λ to within. ap (λ (l : Emitted). l.pieces) (on.same.left to) ∙ s.is.pushed to within;
       pulled = λ from within. ap (map (λ (d : Pulled). d.piece)) (on.same.pulled from)
@@ -203,7 +198,7 @@ drew_list log v q i =
       by false = ap (map (λ (d : Pulled). d.piece)) (append-nil (pulled_from i log))
 
 -- the lists that grew by a poll
-came : {old new : Port} {p : Packet} → Way old new p → (boxes : List Load) × (cells : List Load)
+came : {old new : Port Packet} {p : Parcel Packet} → Way old new p → (boxes : List (Load Packet)) × (cells : List (Load Packet))
     × Came old new boxes cells
 came (was_held x y z) = ([], [], z)
 came {p = p} (by_box x z) = (Some p ∷ [], [], z)
@@ -211,22 +206,22 @@ came {p = p} (by_cell x y z) = ([], Some p ∷ [], z)
 came {p = p} (before q w x y z) = (Some p ∷ [], Some q ∷ [], z)
 
 abbrev PollCarries : Type 0
-PollCarries = (e e' : Entry) (taken taken' : ℕ → ℕ) (boxes cells : List Load) (i : ℕ) (p : Packet)
+PollCarries = (seen : Parcel Packet → Packet) (e e' : Entry Packet) (taken taken' : ℕ → ℕ) (boxes cells : List (Load Packet)) (i : ℕ) (p : Parcel Packet)
     (ps : List Packet) → e'.got_box ≡ e.got_box ++ boxes → e'.got ≡ e.got ++ cells → p.seq ≡ taken p.from →
     taken' ≡ update taken p.from (taken p.from + 1) →
     IsOneOf (Some p) (from p.from e'.got_box) ⊎ IsOneOf (Some p) (from p.from e'.got) →
-    HasPassed e (taken i) i ps → HasPassed e' (taken' i) i (one_more p.from i p ps)
+    HasPassed seen e (taken i) i ps → HasPassed seen e' (taken' i) i (one_more p.from i (seen p) ps)
 
-pub take_on : PollCarries → (lines : List Line) (f : Fabric) (r : Rings) (a : Actor) (v : ProcessView)
-    (port : Port) (p : Packet) (s : ActorInvariant lines f r a) → Owns f port → port.rank ≡ a.port.rank →
+pub take_on : PollCarries → (lines : List Line) (f : Fabric Packet) (r : Rings) (a : Actor) (v : ProcessView)
+    (port : Port Packet) (p : Parcel Packet) (s : ActorInvariant lines f r a) → Owns f port → port.rank ≡ a.port.rank →
     HoldsTheRest port → port.hands ≤ a.port.hands → IsNext f a.port port p → IsGot port p →
     Way a.port port p → knows port ≡ polled (knows port) (knows a.port) →
     IsAtWork a.process.rank.sizes lines v →
-    IsOf a.process.rank.sizes lines a.port.rank v.rank (with_moment s.past (took a.process.rank p)) →
+    IsOf a.process.rank.sizes lines a.port.rank v.rank (with_moment s.past (took a.process.rank (packet_of p))) →
     ActorInvariant lines f r (record { process = v; port = port; ring = a.ring; places = tt })
 take_on law lines f r a v port p s owns rank rest hands next got way same work on =
     let grown = came way in
-    let now = with_moment s.past (took a.process.rank p) in
+    let now = with_moment s.past (took a.process.rank (packet_of p)) in
     stands_of a.process.rank.sizes lines f r
     (record { process = v; port = port; ring = a.ring; places = tt }) now work.sizes
     (record {
@@ -240,16 +235,16 @@ take_on law lines f r a v port p s owns rank rest hands next got way same work o
       hands = let none = s.is.hands in omega (arith, hands, none);
       rest = rest;
       sent = λ to within. sent_same (knows a.port) (knows port) to (s.past.left to).packets
-          (record { box = ap (λ (e : Entry). e.put_box) same; cell = ap (λ (e : Entry). e.put) same })
+          (record { box = ap (λ (e : Entry Packet). e.put_box) same; cell = ap (λ (e : Entry Packet). e.put) same })
           (s.is.sent to within);
-      taken = λ i within. subst (λ (ps : List Packet). HasPassed (knows port) (taken_by port i) i ps)
-          (sym (took_list s.past.log a.process.rank p i))
-          (law (knows a.port) (knows port) (taken_by a.port) (taken_by port) grown.0 grown.1 i p
+      taken = λ i within. subst (λ (ps : List Packet). HasPassed packet_of (knows port) (taken_by port i) i ps)
+          (sym (took_list s.past.log a.process.rank (packet_of p) i))
+          (law packet_of (knows a.port) (knows port) (taken_by a.port) (taken_by port) grown.0 grown.1 i p
           (map (λ t. t.packet) (taken_from i s.past.log)) grown.2.0 grown.2.1 next.number next.taken got
           (s.is.taken i within));
       pushed = s.is.pushed;
       pulled = λ i within. ap (map (λ (d : Pulled). d.piece))
-          (pulled_still i s.past.log (took a.process.rank p) refl) ∙ s.is.pulled i within;
+          (pulled_still i s.past.log (took a.process.rank (packet_of p)) refl) ∙ s.is.pulled i within;
     })
 
 -- what a rank has of another one, after a change of one
@@ -260,7 +255,7 @@ lane_here e j g low = get_or-set_same e.lanes j (g (lane e j)) new_lane low
 pub lane_else : (e : ring_entry.Entry) (j k : ℕ) (g : Lane → Lane) → k ≢ j → lane (with_lane g j e) k ≡ lane e k
 lane_else e j k g ne = get_or-set_other e.lanes j k (g (lane e j)) new_lane ne
 
-pub pull_on : (lines : List Line) (f : Fabric) (r : Rings) (a : Actor) (v : ProcessView)
+pub pull_on : (lines : List Line) (f : Fabric Packet) (r : Rings) (a : Actor) (v : ProcessView)
     (port : RingPort) (sender : ℕ) (q : Piece) (s : ActorInvariant lines f r a) → ring.Owns r port → port.rank ≡ a.ring.rank →
     sender < r.ranks → q.from ≡ sender →
     ring.knows port ≡ with_lane (one_pulled q) sender (ring.knows a.ring) →
@@ -282,7 +277,7 @@ pull_on lines f r a v port sender q s owns rank within own knew work on =
       hands = s.is.hands;
       rest = s.is.rest;
       sent = s.is.sent;
-      taken = λ i low. subst (λ (ts : List Taken). HasPassed (knows a.port) (taken_by a.port i) i
+      taken = λ i low. subst (λ (ts : List Taken). HasPassed packet_of (knows a.port) (taken_by a.port i) i
           (map (λ t. t.packet) ts)) (sym (taken_still i s.past.log (drew a.process.rank q) refl))
           (s.is.taken i low);
       pushed = λ to low. s.is.pushed to low ∙ sym (ap (λ (e : ring_entry.Entry). (lane e to).pushed) knew

@@ -2,7 +2,7 @@
 use Rattle.std.proofs.Common.{◌≡◌, ◌≢◌, ℕ, ◌+◌, ◌<◌, ◌≤◌, Bool, true, false, ◌||◌, List, [], ◌∷◌, ◌++◌}
 use Rattle.std.proofs.Common.{get_or, get_or-set_other, length, length-set, set, refl, sym, ap, ◌∙◌, subst, arith}
 use Rattle.std.specs.Prelude.{take}
-use Rattle.std.specs.List.{All, AllZip}
+use Rattle.std.specs.List.{All}
 use Rattle.std.proofs.lemmas.List.{take_all, take_more, take_more_set}
 use Rattle.nm_types.specs.declared.scripts.Line.{Line}
 use Rattle.nm_cells.specs.declared.port.Fabric.{Fabric}
@@ -18,11 +18,12 @@ use Rattle.nm_world.proofs.Idle.{idle_after}
 use Rattle.nm_world.proofs.Lists.{all_zip_append, all_zip_both, all_zip_on}
 use Rattle.nm_world.proofs.Runs.{all_kept_on}
 use Rattle.nm_types.proofs.TruthLemmas.{neither}
+use Rattle.nm_types.specs.declared.packets.Packet.{Packet}
 
 abbrev IdleUnlessWorn : List Line → Actor → Actor → Type 0
 IdleUnlessWorn lines a b = IsFresh a.process.rank → Idle lines a b
 
-module _ (n : ℕ) (lines : List Line) (f : Fabric) (r : Rings) (all : Bool) where
+module _ (n : ℕ) (lines : List Line) (f : Fabric Packet) (r : Rings) (all : Bool) where
   pub swept_none : Swept n lines f r all false [] []
   swept_none = record { kept = tt; moved = refl; still = λ none. tt; idle = λ none every. tt }
 
@@ -81,11 +82,11 @@ module _ (n : ℕ) (lines : List Line) (f : Fabric) (r : Rings) (all : Bool) whe
       subst (λ (olds : List Actor). Swept n lines f r all p olds ys) (take_all k xs (omega (arith, past, many)))
       (subst (λ (news : List Actor). Swept n lines f r all p (take k xs) news) (take_all k ys past) s.swept)
 
-pub swept_first : (n : ℕ) (lines : List Line) (f : Fabric) (r : Rings) (p : Bool) (xs ys : List Actor) →
+pub swept_first : (n : ℕ) (lines : List Line) (f : Fabric Packet) (r : Rings) (p : Bool) (xs ys : List Actor) →
     Swept n lines f r true p xs ys → HasSwept n lines f r p xs ys
 swept_first n lines f r p xs ys s = record { kept = s.kept; moved = s.moved; idle = λ none. s.idle none refl }
 
-idle_still : (lines : List Line) (f : Fabric) (r : Rings) (a b c : Actor) → IdleUnlessWorn lines a b →
+idle_still : (lines : List Line) (f : Fabric Packet) (r : Rings) (a b c : Actor) → IdleUnlessWorn lines a b →
     Continues lines f r b c × StaysUnlessWorn b c → IdleUnlessWorn lines a c
 idle_still lines f r a b c idle on fresh =
     let one = idle fresh in
@@ -93,7 +94,7 @@ idle_still lines f r a b c idle on fresh =
     (on.1 (subst (λ (v : ProcessView). IsFresh v.rank) (sym one.process) fresh))
 
 -- a sweep more
-pub swept_on : (n : ℕ) (lines : List Line) (f : Fabric) (r : Rings) (all : Bool) (xs ys zs : List Actor)
+pub swept_on : (n : ℕ) (lines : List Line) (f : Fabric Packet) (r : Rings) (all : Bool) (xs ys zs : List Actor)
     (p q : Bool) → HasSwept n lines f r p xs ys → Swept n lines f r all q ys zs →
     HasSwept n lines f r (p || q) xs zs
 swept_on n lines f r all xs ys zs p q before one = record {
@@ -106,7 +107,7 @@ swept_on n lines f r all xs ys zs p q before one = record {
 }
 
 -- what two crews have told of their actors holds of all of them
-pub swept_halves : (n : ℕ) (lines : List Line) (f : Fabric) (r : Rings) (xs ys xs' ys' : List Actor) (p q : Bool) →
+pub swept_halves : (n : ℕ) (lines : List Line) (f : Fabric Packet) (r : Rings) (xs ys xs' ys' : List Actor) (p q : Bool) →
     HasSwept n lines f r p xs xs' → HasSwept n lines f r q ys ys' →
     HasSwept n lines f r (p || q) (xs ++ ys) (xs' ++ ys')
 swept_halves n lines f r xs ys xs' ys' p q one two = record {

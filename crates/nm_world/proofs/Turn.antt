@@ -1,23 +1,23 @@
 -- What a turn comes to, from its five parts.
-use Rattle.std.proofs.Common.{◌≡◌, ⊎_elim, ℕ, ◌+◌, ◌<◌, false, List, ◌++◌, refl, sym, ap, ◌∙◌, subst, arith}
+use Rattle.std.proofs.Common.{◌≡◌, ⊎_elim, ℕ, ◌+◌, ◌<◌, false, List, refl, sym, ap, ◌∙◌, subst, arith}
 use Rattle.nm_types.specs.declared.scripts.Line.{Line}
 use Rattle.nm_types.specs.Commands.{commands_of}
-use Rattle.nm_history.specs.declared.events.Event.{Event}
 use Rattle.nm_cells.specs.declared.port.Fabric.{Fabric}
 use Rattle.nm_copyring.specs.declared.port.Rings.{Rings}
 use Rattle.nm_rank.specs.Ranks.{IsFresh}
 use Rattle.nm_process.specs.Processes.{ProcessView}
 use Rattle.nm_process.specs.Steps.{goes_on}
 use Rattle.nm_world.specs.declared.actors.Actor.{Actor}
-use Rattle.nm_world.specs.Actors.{Grows, Continues, Seat, ActorInvariant}
+use Rattle.nm_world.specs.Actors.{Continues, ActorInvariant}
 use Rattle.nm_world.specs.Idle.{GaveNone, Idle, FirstNotSent, NoPiece, NextNotPushed}
 use Rattle.nm_world.specs.Looks.{LookedAround, Polled, PolledBefore, PolledUnlessWorn, looks_in}
 use Rattle.nm_world.proofs.Grows.{kept_on, kept_same, port_same}
 use Rattle.nm_world.proofs.Idle.{back_within, none_within, piece_within, pieces_within}
 use Rattle.nm_world.proofs.Looks.{looks_kept, looks_more, me_same, polled_on, polled_within, ranks_same}
+use Rattle.nm_types.specs.declared.packets.Packet.{Packet}
 
 -- it sent from a to s, pushed to p, took to t, pulled to u and ran to e
-module _ (lines : List Line) (f : Fabric) (r : Rings) (a s p t u e : Actor) (sent : Continues lines f r a s)
+module _ (lines : List Line) (f : Fabric Packet) (r : Rings) (a s p t u e : Actor) (sent : Continues lines f r a s)
     (pushed : Continues lines f r s p) (took : Continues lines f r p t) (pulled : Continues lines f r t u)
     (ran : Continues lines f r u e) where
   to_p : Continues lines f r a p

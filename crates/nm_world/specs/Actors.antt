@@ -20,12 +20,14 @@ use Rattle.nm_copyring.specs.Ports as ring
 use Rattle.nm_port.specs.CarriedPackets.{HasPassed, HasSent}
 use Rattle.nm_global.specs.ProcessInvariant.{ProcessInvariant, GhostHistory}
 use Rattle.nm_process.specs.Lines.{AreLines}
+use Rattle.nm_world.specs.Parcels.{packet_of}
 use Rattle.nm_world.specs.declared.actors.Actor.{Actor}
+use Rattle.nm_types.specs.declared.packets.Packet.{Packet}
 
 -- An actor's process stands at its place, and its ports carried what was: the packets that left are
 -- those that its port sent, by number, those that its port passed on are those that it took, and so
 -- it is with the pieces.
-pub record IsActor (shape : Sizes) (lines : List Line) (f : Fabric) (r : Rings) (a : Actor)
+pub record IsActor (shape : Sizes) (lines : List Line) (f : Fabric Packet) (r : Rings) (a : Actor)
     (past : GhostHistory) : Type 0 where
   pub standing : ProcessInvariant shape lines a.port.rank a.process past
   pub in_range : AreLines shape.ranks lines
@@ -35,10 +37,10 @@ pub record IsActor (shape : Sizes) (lines : List Line) (f : Fabric) (r : Rings) 
   pub ranks : (f.ranks ≡ shape.ranks) × (r.ranks ≡ shape.ranks)
   pub hands : a.port.hands ≡ 0
   pub rest : HoldsTheRest a.port
-  pub sent : (to : ℕ) → to < shape.ranks → HasSent (knows a.port) to (past.left to).packets
+  pub sent : (to : ℕ) → to < shape.ranks → HasSent packet_of (knows a.port) to (past.left to).packets
   pub taken :
       (from : ℕ) → from < shape.ranks →
-      HasPassed (knows a.port) (taken_by a.port from) from
+      HasPassed packet_of (knows a.port) (taken_by a.port from) from
       (map (λ t. t.packet) (taken_in from past.log))
   pub pushed :
       (to : ℕ) → to < shape.ranks → (past.left to).pieces ≡ ring.pushed_to a.ring to
@@ -52,7 +54,7 @@ pub record MissesGrow (x y : Misses) : Type 0 where
   pub link : x.link_missing ≤ y.link_missing
 
 -- What a port knows later: nothing that it sent or passed on is lost, and no count of misses falls.
-pub record PortGrows (p q : Port) : Type 0 where
+pub record PortGrows (p q : Port Packet) : Type 0 where
   pub sent : (j : ℕ) → sent_by p j ≤ sent_by q j
   pub taken : (i : ℕ) → taken_by p i ≤ taken_by q i
   pub full : (j : ℕ) → slice_index (knows p).box_full j ≤ slice_index (knows q).box_full j
@@ -77,7 +79,7 @@ pub record Grows (a b : Actor) : Type 0 where
   pub ring : RingGrows a.ring b.ring
 
 -- there is what was
-pub record ActorInvariant (lines : List Line) (f : Fabric) (r : Rings) (a : Actor) : Type 0 where
+pub record ActorInvariant (lines : List Line) (f : Fabric Packet) (r : Rings) (a : Actor) : Type 0 where
   pub past : GhostHistory
   pub is : IsActor a.process.rank.sizes lines f r a past
 
@@ -93,17 +95,17 @@ seat_of a = record { rank = a.port.rank; sizes = a.process.rank.sizes }
 -- what an actor stands in: the lines, the fabric and the rings of its run
 pub record Environment : Type 0 where
   pub lines : List Line
-  pub fabric : Fabric
+  pub fabric : Fabric Packet
   pub rings : Rings
 
 -- it is the same actor, it stands, and it goes on from where it was
-pub record Continues (lines : List Line) (f : Fabric) (r : Rings) (a b : Actor) : Type 0 where
+pub record Continues (lines : List Line) (f : Fabric Packet) (r : Rings) (a b : Actor) : Type 0 where
   pub stands : ActorInvariant lines f r b
   pub seat : seat_of b ≡ seat_of a
   pub grows : Grows a b
 
 -- so it is with each of a list
-abbrev pub AllContinue : List Line → Fabric → Rings → List Actor → List Actor → Type 0
+abbrev pub AllContinue : List Line → Fabric Packet → Rings → List Actor → List Actor → Type 0
 AllContinue lines f r = AllZip (Continues lines f r)
 
 -- f 0 + f 1 + .., of the first n

@@ -11,31 +11,31 @@ use Rattle.nm_rank.specs.Ranks.{IsFresh, RankView}
 use Rattle.nm_chain.specs.Plays.{missed_of}
 use Rattle.nm_cells.specs.declared.port.Port.{Port}
 use Rattle.nm_cells.specs.Ports.{knows}
-use Rattle.nm_copyring.specs.declared.port.RingPort.{RingPort}
 use Rattle.nm_copyring.specs.Ports.{empty_from, full_to}
 use Rattle.nm_process.specs.Steps.{goes_on}
 use Rattle.nm_world.specs.declared.actors.Actor.{Actor}
+use Rattle.nm_types.specs.declared.packets.Packet.{Packet}
 
 -- a count rose, or stands at the last number of 64 bits
 abbrev pub Rose : ℕ → ℕ → Type 0
 Rose x y = (x < y) ⊎ (18446744073709551615 ≤ y)
 
 -- the port's own receive queue (`true`) or free queue had a miss: it was empty, or a link of it was missing
-abbrev pub QueueMissed : Bool → Port → Port → Type 0
+abbrev pub QueueMissed : Bool → Port Packet → Port Packet → Type 0
 QueueMissed b p q =
     Rose (missed_of b (knows p)).head_empty (missed_of b (knows q)).head_empty
     ⊎ Rose (missed_of b (knows p)).link_missing (missed_of b (knows q)).link_missing
 
 -- `poll` gave none: of n ranks each one's next box was found without the awaited number, and the
 -- receive queue had a miss.
-pub record GaveNone (n : ℕ) (p q : Port) : Type 0 where
+pub record GaveNone (n : ℕ) (p q : Port Packet) : Type 0 where
   pub boxes :
       (i : ℕ) → i < n → Rose (slice_index (knows p).box_miss i) (slice_index (knows q).box_miss i)
   pub queue : QueueMissed true p q
 
 -- `send` handed a letter back: it fits no box, or the next one was found full, and the free queue had
 -- a miss.
-pub record NotSent (p q : Port) (l : Letter) : Type 0 where
+pub record NotSent (p q : Port Packet) (l : Letter) : Type 0 where
   pub box :
       (64 < length l.packet.payload)
       ⊎ Rose (slice_index (knows p).box_full l.to) (slice_index (knows q).box_full l.to)

@@ -5,3 +5,4 @@ pub mod Records
 pub mod Rest
 pub mod Runs
 pub mod Sweeps
+pub mod Parcels

@@ -1,5 +1,5 @@
 -- How often an actor polled before it ran a command that looks at what came.
-use Rattle.std.specs.Prelude.{◌≡◌, ◌⊎◌, ℕ, ◌+◌, ◌<◌, ◌≤◌, Bool, true, false, List, ◌++◌, count_by}
+use Rattle.std.specs.Prelude.{◌≡◌, ◌⊎◌, ℕ, ◌+◌, ◌<◌, ◌≤◌, Bool, false, List, ◌++◌, count_by}
 use Rattle.std.specs.Prelude.{if◌then◌else◌}
 use Rattle.std.specs.Option.{option_map_or}
 use Rattle.nm_types.specs.declared.scripts.Line.{Line}
@@ -13,6 +13,7 @@ use Rattle.nm_process.specs.Processes.{ProcessView}
 use Rattle.nm_process.specs.Steps.{is_look, looks_on}
 use Rattle.nm_world.specs.declared.actors.Actor.{Actor}
 use Rattle.nm_world.specs.Actors.{sum_below}
+use Rattle.nm_types.specs.declared.packets.Packet.{Packet}
 
 -- the command of a line looks at what came
 abbrev pub is_look_at : List Numbered → ℕ → Bool
@@ -24,19 +25,19 @@ looks_in commands h = count_by (is_look_at commands) (ran_lines h)
 
 -- how often a port passed a packet of n ranks on, or had a miss of its receive queue: each poll is one
 -- of these
-abbrev pub polls_of : ℕ → Port → ℕ
+abbrev pub polls_of : ℕ → Port Packet → ℕ
 polls_of n p =
     sum_below n (λ i. taken_by p i) + (knows p).receive_missed.head_empty
     + (knows p).receive_missed.link_missing
 
 -- one of the counts of these misses stands at the last number of 64 bits
-abbrev pub IsAtLast : Port → Type 0
+abbrev pub IsAtLast : Port Packet → Type 0
 IsAtLast p =
     (18446744073709551615 ≤ (knows p).receive_missed.head_empty)
     ⊎ (18446744073709551615 ≤ (knows p).receive_missed.link_missing)
 
 -- the port polled at least so often
-abbrev pub Polled : ℕ → ℕ → Port → Port → Type 0
+abbrev pub Polled : ℕ → ℕ → Port Packet → Port Packet → Type 0
 Polled n times p q = (polls_of n p + times ≤ polls_of n q) ⊎ IsAtLast q
 
 -- so it did, or its rank was worn and nothing happened

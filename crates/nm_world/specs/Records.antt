@@ -9,6 +9,7 @@ use Rattle.nm_cells.specs.Ports.{knows, sent_by}
 use Rattle.nm_process.specs.Processes.{ProcessView}
 use Rattle.nm_process.specs.Work.{IsAtWork}
 use Rattle.nm_world.specs.declared.actors.Actor.{Actor}
+use Rattle.nm_types.specs.declared.packets.Packet.{Packet}
 
 -- a process at the end of its run: the command at which it waits is its next one
 abbrev pub ended_of : List Line → ProcessView → Ended
@@ -20,7 +21,7 @@ ended_of lines v =
     }
 
 -- how many packets a port sent to each of n ranks, where there are some
-abbrev pub counts_to : ℕ → Port → List Packets
+abbrev pub counts_to : ℕ → Port Packet → List Packets
 counts_to n p =
     filter (λ x. nat_lt 0 x.count)
     (map (λ to. record { from = p.rank; to = to; count = sent_by p to }) (range_with_len 0 n))

@@ -30,11 +30,13 @@ use Rattle.nm_copyring.specs.ClosedLists as closed_ring
 use Rattle.nm_copyring.specs.Ports as ring_port
 use Rattle.nm_global.specs.Ranks.{HasNothingToSend}
 use Rattle.nm_global.specs.ProcessInvariant.{GhostHistory, rank_of}
+use Rattle.nm_world.specs.Parcels.{packet_of}
 use Rattle.nm_world.specs.declared.actors.Actor.{Actor}
 use Rattle.nm_world.specs.Actors.{IsActor}
+use Rattle.nm_types.specs.declared.packets.Packet.{Packet}
 
 -- the actor of rank i has nothing left to send, and is at its end or waits for what can't come
-pub record EndsAt (shape : Sizes) (lines : List Line) (f : Fabric) (r : Rings) (i : ℕ) (a : Actor)
+pub record EndsAt (shape : Sizes) (lines : List Line) (f : Fabric Packet) (r : Rings) (i : ℕ) (a : Actor)
     : Type 0 where
   pub past : GhostHistory
   pub is : IsActor shape lines f r a past
@@ -74,10 +76,10 @@ abbrev pub EachActor : (ℕ → Actor → Type 0) → List Actor → Type 0
 EachActor R actors = (i : ℕ) → IfSome (slice_get actors i) (R i)
 
 -- what `Fabric::close` ensures, as far as this needs it
-pub record IsClosed (n : ℕ) (ports : List Port) (c : Closed) : Type 0 where
+pub record IsClosed (n : ℕ) (ports : List (Port Packet)) (c : Closed Packet) : Type 0 where
   pub entries : entries c ≡ map knows ports
   pub counts :
-      (k j : ℕ) (p : Port) → slice_get ports k ≡ Some p → j < n →
+      (k j : ℕ) (p : Port Packet) → slice_get ports k ≡ Some p → j < n →
       (length (sent_list c k j) ≡ sent_by p j) × (length (taken_list c j k) ≡ taken_by p j)
   pub prefix :
       (i j : ℕ) → i < n → j < n → Begins (taken_list c i j) (sent_list c i j)
@@ -97,10 +99,11 @@ pub record IsAllTaken (actors : List Actor) : Type 0 where
       length (ring_port.pushed_to a.ring j) ≡ length (ring_port.pulled_from b.ring i)
 
 -- What the closed ports carried from i to j is what these events of i call for.
-pub record IsCarried (lines : List Line) (c : Closed) (q : RingAccount) (i j : ℕ) (rank : Ended)
+pub record IsCarried (lines : List Line) (c : Closed Packet) (q : RingAccount) (i j : ℕ) (rank : Ended)
     : Type 0 where
   pub packets :
-      AreCalled i 0 (outgoing (sent_body (commands_of i lines)) rank.events j) (sent_list c i j)
+      AreCalled i 0 (outgoing (sent_body (commands_of i lines)) rank.events j)
+      (map packet_of (sent_list c i j))
   pub taken : taken_list c i j ≡ sent_list c i j
   pub pieces :
       AreCalledPieces i 0 (ring (sent_body (commands_of i lines)) rank.events j)
@@ -113,7 +116,7 @@ ended a waits = record { at = a.process.at; waits = waits; events = a.process.ra
 
 -- These are the ends of the actors, they are a run of the script, and the ports carried what they call
 -- for, and all that.
-pub record HasRun (shape : Sizes) (lines : List Line) (actors : List Actor) (c : Closed)
+pub record HasRun (shape : Sizes) (lines : List Line) (actors : List Actor) (c : Closed Packet)
     (q : RingAccount) (ends : List Ended) : Type 0 where
   pub are :
       (i : ℕ) (a : Actor) → slice_get actors i ≡ Some a →

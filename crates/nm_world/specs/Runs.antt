@@ -1,5 +1,5 @@
 -- All actors of a run, in their places.
-use Rattle.std.specs.Prelude.{◌≡◌, ℕ, ◌+◌, ◌<◌, ◌==◌, ◌&&◌, List, [], ◌∷◌, length, map, slice_get}
+use Rattle.std.specs.Prelude.{◌≡◌, ℕ, ◌+◌, ◌<◌, ◌==◌, ◌&&◌, List, [], ◌∷◌, length, slice_get}
 use Rattle.std.specs.Prelude.{find, Some}
 use Rattle.std.specs.Option.{option_map_or}
 use Rattle.nm_types.specs.declared.scripts.Line.{Line}
@@ -21,9 +21,10 @@ use Rattle.nm_process.specs.Work.{IsAtWork}
 use Rattle.nm_world.specs.declared.actors.Actor.{Actor}
 use Rattle.nm_world.specs.Actors.{ActorInvariant, seat_of}
 use Rattle.nm_world.specs.Rest.{IsCarried, IsStill}
+use Rattle.nm_types.specs.declared.packets.Packet.{Packet}
 
 -- the actors stand, and are those of the ranks from k on, in order
-abbrev pub InPlace : Sizes → List Line → Fabric → Rings → ℕ → List Actor → Type 0
+abbrev pub InPlace : Sizes → List Line → Fabric Packet → Rings → ℕ → List Actor → Type 0
 InPlace shape lines f r k [] = Unit {0}
 InPlace shape lines f r k (a ∷ actors) =
     ActorInvariant lines f r a × (seat_of a ≡ record { rank = k; sizes = shape })
@@ -46,7 +47,7 @@ pub record AllAgree (actors : List Actor) : Type 0 where
       PairAgrees i j a b
 
 -- what the closed ports carried from each rank to each is what the histories call for
-abbrev pub AreCarried : Sizes → List Line → Closed → RingAccount → List Ended → Type 0
+abbrev pub AreCarried : Sizes → List Line → Closed Packet → RingAccount → List Ended → Type 0
 AreCarried shape lines c q ends =
     (i j : ℕ) (e : Ended) → j < shape.ranks → slice_get ends i ≡ Some e → IsCarried lines c q i j e
 
@@ -58,7 +59,7 @@ count_between packets i j =
 -- The closed ports carried what the record tells, and no more: they are those of all ranks, their account
 -- is the record's, from each rank to each they sent and took as many packets as it counts, and these
 -- packets, and the pieces pushed and pulled, are what its histories call for.
-pub record HasCarried (shape : Sizes) (lines : List Line) (run : RunRecord) (c : Closed)
+pub record HasCarried (shape : Sizes) (lines : List Line) (run : RunRecord) (c : Closed Packet)
     (q : RingAccount) : Type 0 where
   pub many : ranks_of c ≡ shape.ranks
   pub account : run.cells ≡ c.cells
@@ -71,7 +72,7 @@ pub record HasCarried (shape : Sizes) (lines : List Line) (run : RunRecord) (c :
   pub lists : AreCarried shape lines c q (ends_of run.ranks)
 
 -- the record tells a run of the script, and the closed ports carried what it tells
-pub record IsWhole (shape : Sizes) (lines : List Line) (run : RunRecord) (c : Closed) (q : RingAccount)
+pub record IsWhole (shape : Sizes) (lines : List Line) (run : RunRecord) (c : Closed Packet) (q : RingAccount)
     : Type 0 where
   pub lawful : IsRunOf shape lines (ends_of run.ranks) (packets_of run.pairs)
   pub carried : HasCarried shape lines run c q
@@ -83,7 +84,7 @@ AreRanked n actors =
     ((knows a.port).ranks ≡ n) × ((ring_port.knows a.ring).ranks ≡ n)
 
 -- new ports of the ranks from k on, in order
-abbrev pub NewInOrder : Fabric → Rings → ℕ → List Port → List RingPort → Type 0
+abbrev pub NewInOrder : Fabric Packet → Rings → ℕ → List (Port Packet) → List RingPort → Type 0
 NewInOrder f r k [] [] = Unit {0}
 NewInOrder f r k (p ∷ ps) (q ∷ qs) = IsNew f p k × ring_port.IsNew r q k × NewInOrder f r (k + 1) ps qs
 NewInOrder f r k _ _ = ⊥

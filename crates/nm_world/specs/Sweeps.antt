@@ -8,6 +8,7 @@ use Rattle.nm_rank.specs.Ranks.{IsFresh}
 use Rattle.nm_world.specs.declared.actors.Actor.{Actor}
 use Rattle.nm_world.specs.Actors.{AllContinue, did_any}
 use Rattle.nm_world.specs.Idle.{AllIdle}
+use Rattle.nm_types.specs.declared.packets.Packet.{Packet}
 
 -- the process is as it was, if its rank is not worn
 abbrev pub StaysUnlessWorn : Actor → Actor → Type 0
@@ -15,7 +16,7 @@ StaysUnlessWorn a b = IsFresh a.process.rank → b.process ≡ a.process
 
 -- Each of these actors was kept, and `some` tells whether one did something. Where none did, the
 -- processes are as they were, and where all made a turn, none could move.
-pub record Swept (n : ℕ) (lines : List Line) (f : Fabric) (r : Rings) (all some : Bool) (old new : List Actor)
+pub record Swept (n : ℕ) (lines : List Line) (f : Fabric Packet) (r : Rings) (all some : Bool) (old new : List Actor)
     : Type 0 where
   pub kept : AllContinue lines f r old new
   pub moved : some ≡ did_any n old new
@@ -24,7 +25,7 @@ pub record Swept (n : ℕ) (lines : List Line) (f : Fabric) (r : Rings) (all som
 
 -- What a crew, or several, have told after some sweeps over these actors: each was kept, `some` tells
 -- whether one did something, and where none did, none could move.
-pub record HasSwept (n : ℕ) (lines : List Line) (f : Fabric) (r : Rings) (some : Bool) (old new : List Actor)
+pub record HasSwept (n : ℕ) (lines : List Line) (f : Fabric Packet) (r : Rings) (some : Bool) (old new : List Actor)
     : Type 0 where
   pub kept : AllContinue lines f r old new
   pub moved : some ≡ did_any n old new

@@ -1,5 +1,6 @@
 //! One rank with its ports.
 
+ghost use Rattle.nm_types.specs.declared.packets.Packet.{Packet};
 ghost use Rattle.std.specs.Prelude.{◌≡◌, ◌<◌, ◌↔◌, ℕ, true, false, [], IfOk};
 ghost use Rattle.nm_types.specs.Commands.{commands_of};
 ghost use Rattle.nm_types.specs.Sizes.{Sizes};
@@ -18,7 +19,7 @@ ghost use Rattle.nm_world.specs.Looks.{LookedAround, PolledBefore, PolledUnlessW
 ghost use Rattle.nm_world.specs.Rest.{CanMove, IsStill};
 
 use crate::bells::Bells;
-use crate::places::Places;
+use crate::places::{Places, restore_header};
 use crate::wires::{polled, pullable, pulled, pushable, pushed, sent};
 use nm_copyring::{RingPort, Rings};
 use nm_global::standing::laws::passing::{
@@ -31,7 +32,7 @@ use nm_outside::Gate;
 use nm_port::carried::laws::{a_poll_carries, a_send_carries};
 use nm_port::{Fabric, Port};
 use nm_process::{Process, Step};
-use nm_types::{Line, Memory, Piece, Shape};
+use nm_types::{Line, Memory, Packet, Piece, Shape};
 use std::alloc::Global;
 
 /// How many packets, pieces and commands of each kind a turn has room for.
@@ -44,7 +45,7 @@ const PULLS: u32 = 4;
 #[derive(Drop)]
 pub struct Actor {
     pub process: Process,
-    pub port: Port,
+    pub port: Port<Packet>,
     pub ring: RingPort,
     pub(crate) places: Places,
 }
@@ -57,12 +58,12 @@ impl Actor {
     pub fn new(
         alloc: Global,
         shape: Shape,
-        port: Port,
+        port: Port<Packet>,
         ring: RingPort,
         lines: &[Line],
     ) -> Result<Actor, Memory>
         requires rank { port.rank < shape.ranks }
-        ensures stands { IfOk result (λ a. (f : Fabric) (r : Rings) →
+        ensures stands { IfOk result (λ a. (f : Fabric Packet) (r : Rings) →
             AreLines shape.ranks lines.now → (f.ranks ≡ shape.ranks) × (r.ranks ≡ shape.ranks) →
             IsNew f port port.rank → ring_port.IsNew r ring port.rank →
             ActorInvariant lines.now f r a) }
@@ -90,31 +91,32 @@ impl Actor {
     }
 
     // Sends the first packet of the outbox, unless there is none or it comes back.
-    fn send_next(&mut self, f: &Fabric) -> bool
+    fn send_next(&mut self, f: &Fabric<Packet>) -> Result<bool, Memory>
         ghost here: { Environment }
         requires stands { ActorInvariant here.lines f.now here.rings self.old }
-        ensures kept { Continues here.lines f.now here.rings self.old self.new }
-        ensures moved { result ≡ did f.now.ranks self.old self.new }
-        ensures stepped { Stepped result self.old self.new }
-        ensures back { result ≡ false → IsFresh self.old.process.rank →
-            FirstNotSent self.old self.new }
+        ensures kept { IfOk result (λ _. Continues here.lines f.now here.rings self.old self.new) }
+        ensures moved { IfOk result (λ moved. moved ≡ did f.now.ranks self.old self.new) }
+        ensures stepped { IfOk result (λ moved. Stepped moved self.old self.new) }
+        ensures back { IfOk result (λ moved. moved ≡ false → IsFresh self.old.process.rank →
+            FirstNotSent self.old self.new) }
     {
         let rank = self.process.rank();
         if rank.is_worn() {
-            return false;
+            return Ok(false);
         }
         let Some((to, packet)) = rank.front() else {
-            return false;
+            return Ok(false);
         };
-        if sent(f, &mut self.port, to, packet).is_none() {
-            return false;
+        let way = sent(f, &mut self.port, &mut self.places, to, packet)?;
+        if way.is_none() {
+            return Ok(false);
         }
         self.process.pop_front();
         self.places.call(to);
         // no step: the laws of a packet that leaves
-        a_send_carries();
+        a_send_carries::<Packet, Packet>();
         a_packet_leaves();
-        true
+        Ok(true)
     }
 
     // Pushes the next piece, unless there is none or its place is full.
@@ -172,7 +174,7 @@ impl Actor {
     }
 
     // Takes the next packet of a rank, if one came.
-    fn take_next(&mut self, f: &Fabric) -> Result<bool, Memory>
+    fn take_next(&mut self, f: &Fabric<Packet>) -> Result<bool, Memory>
         ghost here: { Environment }
         requires stands { ActorInvariant here.lines f.now here.rings self.old }
         ensures kept { IfOk result (λ _. Continues here.lines f.now here.rings self.old self.new) }
@@ -189,16 +191,20 @@ impl Actor {
         }
         // no step: it tells that the history keeps its rules
         rank.history();
-        let packet = self.places.packet();
-        if !polled(f, &mut self.port, packet) {
-            return Ok(false);
-        }
+        let mut letter = match polled(f, &mut self.port, self.places.letter()) {
+            Ok(letter) => letter,
+            Err(spare) => {
+                self.places.keep_letter(spare);
+                return Ok(false);
+            }
+        };
+        restore_header(&mut letter);
         // no step: the laws of a packet that comes
-        a_poll_carries();
+        a_poll_carries::<Packet, Packet>();
         a_packet_is_taken();
-        self.process.take_packet(packet)?;
-        let source = packet.from;
-        self.places.call(source);
+        self.process.take_packet(&letter.item)?;
+        self.places.call(letter.from);
+        self.places.keep_letter(Some(letter));
         Ok(true)
     }
 
@@ -280,25 +286,25 @@ impl Actor {
     }
 
     // Sends up to so many packets. It answers whether any was sent.
-    fn send_all(&mut self, f: &Fabric) -> bool
+    fn send_all(&mut self, f: &Fabric<Packet>) -> Result<bool, Memory>
         ghost here: { Environment }
         requires stands { ActorInvariant here.lines f.now here.rings self.old }
-        ensures kept { Continues here.lines f.now here.rings self.old self.new }
-        ensures moved { result ≡ did f.now.ranks self.old self.new }
-        ensures stepped { Stepped result self.old self.new }
-        ensures back { result ≡ false → IsFresh self.old.process.rank →
-            FirstNotSent self.old self.new }
+        ensures kept { IfOk result (λ _. Continues here.lines f.now here.rings self.old self.new) }
+        ensures moved { IfOk result (λ moved. moved ≡ did f.now.ranks self.old self.new) }
+        ensures stepped { IfOk result (λ moved. Stepped moved self.old self.new) }
+        ensures back { IfOk result (λ moved. moved ≡ false → IsFresh self.old.process.rank →
+            FirstNotSent self.old self.new) }
     {
         for sent in 0..TURN {
-            if !self.send_next(f) {
-                return sent > 0;
+            if !self.send_next(f)? {
+                return Ok(sent > 0);
             }
         }
-        true
+        Ok(true)
     }
 
     // Takes up to so many packets. It answers whether any was taken.
-    fn take_all(&mut self, f: &Fabric) -> Result<bool, Memory>
+    fn take_all(&mut self, f: &Fabric<Packet>) -> Result<bool, Memory>
         ghost here: { Environment }
         requires stands { ActorInvariant here.lines f.now here.rings self.old }
         ensures kept { IfOk result (λ _. Continues here.lines f.now here.rings self.old self.new) }
@@ -355,7 +361,7 @@ impl Actor {
     }
 
     // Takes pieces of each rank. It answers whether any was taken.
-    fn pull_all(&mut self, f: &Fabric, r: &Rings) -> Result<bool, Memory>
+    fn pull_all(&mut self, f: &Fabric<Packet>, r: &Rings) -> Result<bool, Memory>
         ghost here: { Environment }
         requires ranks { f.now.ranks ≡ here.fabric.ranks }
         requires stands { ActorInvariant here.lines here.fabric r.now self.old }
@@ -374,7 +380,7 @@ impl Actor {
     }
 
     // Takes the next packet that came, where the next command looks at what came.
-    fn look(&mut self, lines: &[Line], f: &Fabric) -> Result<bool, Memory>
+    fn look(&mut self, lines: &[Line], f: &Fabric<Packet>) -> Result<bool, Memory>
         ghost here: { Environment }
         requires lines { lines.now ≡ here.lines }
         requires stands { ActorInvariant here.lines f.now here.rings self.old }
@@ -392,7 +398,7 @@ impl Actor {
     }
 
     // Runs up to so many commands. It answers whether any ran, or anything was taken before one.
-    fn run_all(&mut self, lines: &[Line], f: &Fabric) -> Result<bool, Memory>
+    fn run_all(&mut self, lines: &[Line], f: &Fabric<Packet>) -> Result<bool, Memory>
         ghost here: { Environment }
         requires fabric { f.now ≡ here.fabric }
         requires stands { ActorInvariant lines.now here.fabric here.rings self.old }
@@ -450,7 +456,7 @@ impl Actor {
     pub fn turn<G: Gate>(
         &mut self,
         lines: &[Line],
-        f: &Fabric,
+        f: &Fabric<Packet>,
         r: &Rings,
         gate: &G,
     ) -> Result<bool, Memory>
@@ -472,7 +478,7 @@ impl Actor {
     pub(crate) fn move_all(
         &mut self,
         lines: &[Line],
-        f: &Fabric,
+        f: &Fabric<Packet>,
         r: &Rings,
         bells: Option<&Bells>,
     ) -> Result<bool, Memory>
@@ -486,7 +492,7 @@ impl Actor {
         ensures looked { IfOk result (λ _. LookedAround lines.now self.old self.new) }
     {
         let own = self.port.rank();
-        let sent = self.send_all(f);
+        let sent = self.send_all(f)?;
         let pushed = self.push_all(r)?;
         self.places.tell(own, bells);
         let took = self.take_all(f)?;

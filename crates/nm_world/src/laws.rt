@@ -1,5 +1,6 @@
 //! Laws of what actors do, and of the end of a run. Each is the contract of a function that does nothing.
 
+ghost use Rattle.nm_types.specs.declared.packets.Packet.{Packet};
 ghost use Rattle.std.specs.Prelude.{◌≡◌, ◌↔◌, ℕ, true, List, length, map};
 ghost use Rattle.nm_types.specs.declared.scripts.Line.{Line};
 ghost use Rattle.nm_types.specs.Limits.{IsScript};
@@ -18,24 +19,25 @@ use nm_global::laws::rest::ranks_at_rest_make_a_run;
 use nm_global::outgoing::laws::leaves::all_left;
 use nm_global::standing::laws::stands::a_process_is_a_rank;
 use nm_port::carried::laws::a_close_carries;
+use nm_types::Packet;
 
 /// An actor that stands and is still is at its end, or waits for what can't come.
 pub fn a_still_actor_ends()
-    ensures { (lines : List Line) (f : Fabric) (r : Rings) (a : Actor) → ActorInvariant lines f r a →
+    ensures { (lines : List Line) (f : Fabric Packet) (r : Rings) (a : Actor) → ActorInvariant lines f r a →
         IsStill lines a.process → EndsAt a.process.rank.sizes lines f r a.port.rank a }
 {}
 
 /// Where all actors are at rest and all was taken, their histories are a run of the script, and the
 /// closed ports carried what these call for.
 pub fn actors_at_rest_make_a_run()
-    ensures { (shape : Sizes) (lines : List Line) (f : Fabric) (r : Rings) (actors : List Actor)
-        (c : Closed) (q : RingAccount) → IsScript shape.ranks lines →
+    ensures { (shape : Sizes) (lines : List Line) (f : Fabric Packet) (r : Rings) (actors : List Actor)
+        (c : Closed Packet) (q : RingAccount) → IsScript shape.ranks lines →
         length actors ≡ shape.ranks → EachActor (EndsAt shape lines f r) actors →
         IsClosed shape.ranks (map (λ a. a.port) actors) c →
         IsRingClosed shape.ranks (map (λ a. a.ring) actors) q → IsAllTaken actors →
         (ends : List Ended) × HasRun shape lines actors c q ends }
 {
-    a_close_carries();
+    a_close_carries::<Packet, Packet>();
     all_left();
     ranks_at_rest_make_a_run();
     a_process_is_a_rank();
@@ -45,6 +47,6 @@ pub fn actors_at_rest_make_a_run()
 /// sent, passed on, pushed or pulled. So it is with many.
 pub fn what_was_done_grew()
     ensures one { (n : ℕ) (a b : Actor) → Grows a b → (did n a b ≡ true) ↔ Grew n a b }
-    ensures any { (n : ℕ) (lines : List Line) (f : Fabric) (r : Rings) (old new : List Actor) →
+    ensures any { (n : ℕ) (lines : List Line) (f : Fabric Packet) (r : Rings) (old new : List Actor) →
         AllContinue lines f r old new → (did_any n old new ≡ true) ↔ SomeGrew n old new }
 {}

@@ -1,17 +1,21 @@
 //! The places of an actor for what comes and goes.
 
+ghost use Rattle.std.specs.Prelude.{◌≡◌, IfOk};
+ghost use Rattle.nm_world.specs.Parcels.{packet_of, parcel_of};
+
 use crate::bells::{Bells, bit_of};
+use nm_chain::table::Parcel;
 use nm_types::{Memory, Packet, Piece};
 use std::alloc::Global;
 use std::marker::Model;
 
-/// A place for a packet and a box for a piece. They stay as long as their actor, so that none is made
-/// for what comes or goes: a box is made for the first piece, and again only where a place of the rings
-/// is filled for the first time. A turn in which nothing moves writes to neither. Besides which ranks
-/// something was sent or pushed to, or taken or pulled from. A contract sees nothing of what is in
-/// them.
+/// Boxes of memory for a packet and for a piece, which come and go. They stay as long as their actor: a
+/// box is made for the first packet or piece, and again only where a cell, a fastbox or a place of the
+/// rings is filled for the first time. A turn in which nothing moves writes to none. Besides which ranks
+/// something was sent or pushed to, or taken or pulled from. A contract sees nothing of what is in them.
 pub(crate) struct Places {
-    packet: Packet,
+    // for the next packet, if there is one
+    letter: Option<Box<Parcel<Packet>>>,
     // for the next piece, if there is one
     spare: Option<Box<Piece>>,
     // bit k is rank k's
@@ -24,7 +28,7 @@ pub(crate) struct Places {
 impl Drop for Places {
     fn drop(self) {
         let Places {
-            packet: _,
+            letter: _,
             spare: _,
             calls: _,
             due: _,
@@ -47,11 +51,41 @@ fn new_box(alloc: Global) -> Result<Box<Piece>, Memory> {
     }
 }
 
+// The same for a packet.
+fn new_letter(alloc: Global) -> Result<Box<Parcel<Packet>>, Memory> {
+    let blank = Parcel {
+        from: 0,
+        seq: 0,
+        item: Packet::blank(),
+    };
+    match Box::new(alloc, blank) {
+        Ok(letter) => Ok(letter),
+        Err(_) => Err(Memory),
+    }
+}
+
+// Makes it the parcel of an equal packet.
+fn address(letter: &mut Parcel<Packet>, packet: &Packet)
+    ensures { letter.new ≡ parcel_of packet.now }
+{
+    letter.from = packet.from;
+    letter.seq = packet.seq;
+    letter.item.set(packet);
+}
+
+/// Gives the packet in a parcel the parcel's header.
+pub(crate) fn restore_header(letter: &mut Parcel<Packet>)
+    ensures { letter.new.item ≡ packet_of letter.old }
+{
+    letter.item.from = letter.from;
+    letter.item.seq = letter.seq;
+}
+
 impl Places {
     /// Places with nothing of use in them.
     pub(crate) fn blank(alloc: Global) -> Places {
         Places {
-            packet: Packet::blank(),
+            letter: None,
             spare: None,
             calls: 0,
             due: 0,
@@ -59,9 +93,26 @@ impl Places {
         }
     }
 
-    /// The place for a packet.
-    pub(crate) fn packet(&mut self) -> &mut Packet {
-        &mut self.packet
+    /// The parcel that a packet goes in, in the box that is kept, or a new one.
+    pub(crate) fn parcel(&mut self, packet: &Packet) -> Result<Box<Parcel<Packet>>, Memory>
+        ensures { IfOk result (λ letter. letter.value ≡ parcel_of packet.now) }
+    {
+        let mut letter = match self.letter.take() {
+            Some(letter) => letter,
+            None => new_letter(self.alloc)?,
+        };
+        address(&mut letter, packet);
+        Ok(letter)
+    }
+
+    /// The box for a packet, if there is one.
+    pub(crate) fn letter(&mut self) -> Option<Box<Parcel<Packet>>> {
+        self.letter.take()
+    }
+
+    /// Keeps a box for the next packet.
+    pub(crate) fn keep_letter(&mut self, letter: Option<Box<Parcel<Packet>>>) {
+        self.letter = letter;
     }
 
     /// A box for a piece: the spare one, or a new one.

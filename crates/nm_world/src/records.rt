@@ -13,13 +13,13 @@ use nm_copyring::RingPort;
 use nm_port::Port;
 use nm_process::Process;
 use nm_report::{Accounts, PairCount, Pairs, RankAccount};
-use nm_types::{Line, Memory};
+use nm_types::{Line, Memory, Packet};
 use std::alloc::Global;
 
 /// The ports of the actors of a run, and what there is to tell of them.
 #[derive(Drop)]
 pub(crate) struct Parts {
-    pub ports: Vec<Port>,
+    pub ports: Vec<Port<Packet>>,
     pub rings: Vec<RingPort>,
     pub ranks: Accounts,
     pub pairs: Pairs,
@@ -42,7 +42,7 @@ fn account(process: Process, lines: &[Line]) -> RankAccount
 }
 
 // The packets that a port sent to each of so many ranks, where there are some.
-fn push_counts(pairs: &mut Pairs, ranks: u8, port: &Port) -> Result<(), Memory>
+fn push_counts(pairs: &mut Pairs, ranks: u8, port: &Port<Packet>) -> Result<(), Memory>
     requires { ranks ≤ (knows port.now).ranks }
     ensures { OnOk result (packets_of pairs.new
         ≡ packets_of pairs.old ++ counts_to ranks port.now) }

@@ -13,7 +13,7 @@ use crate::bells::{Bells, place_of};
 use nm_copyring::Rings;
 use nm_outside::Gate;
 use nm_port::Fabric;
-use nm_types::{Line, Memory};
+use nm_types::{Line, Memory, Packet};
 use std::sync::Wait;
 use std::thread::{Threads, available_parallelism, join_mut};
 
@@ -24,7 +24,7 @@ fn visit<G: Gate>(
     all: bool,
     due: u64,
     lines: &[Line],
-    f: &Fabric,
+    f: &Fabric<Packet>,
     r: &Rings,
     gate: &G,
     bells: &Bells,
@@ -62,7 +62,7 @@ fn sweep<G: Gate>(
     all: bool,
     due: u64,
     lines: &[Line],
-    f: &Fabric,
+    f: &Fabric<Packet>,
     r: &Rings,
     gate: &G,
     bells: &Bells,
@@ -87,7 +87,7 @@ fn turns_of<R: Wait, G: Gate>(
     rt: &R,
     actors: &mut [Actor],
     lines: &[Line],
-    f: &Fabric,
+    f: &Fabric<Packet>,
     r: &Rings,
     gate: &G,
     turns: u32,
@@ -118,7 +118,7 @@ fn halves<R: Threads + Wait + Sync, G: Gate + Sync>(
     rt: &R,
     actors: &mut [Actor],
     lines: &[Line],
-    f: &Fabric,
+    f: &Fabric<Packet>,
     r: &Rings,
     gate: &G,
     turns: u32,
@@ -173,7 +173,7 @@ pub fn round<R: Threads + Wait + Sync, G: Gate + Sync>(
     rt: &R,
     actors: &mut [Actor],
     lines: &[Line],
-    f: &Fabric,
+    f: &Fabric<Packet>,
     r: &Rings,
     gate: &G,
     turns: u32,
@@ -196,7 +196,7 @@ pub(crate) fn round_in<R: Threads + Wait + Sync, G: Gate + Sync>(
     rt: &R,
     actors: &mut [Actor],
     lines: &[Line],
-    f: &Fabric,
+    f: &Fabric<Packet>,
     r: &Rings,
     gate: &G,
     turns: u32,

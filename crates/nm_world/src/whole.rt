@@ -1,5 +1,6 @@
 //! A run of all ranks, to rest.
 
+ghost use Rattle.nm_types.specs.declared.packets.Packet.{Packet};
 ghost use Rattle.std.specs.Prelude.{◌≡◌, ◌<◌, ℕ, true, List, length};
 ghost use Rattle.std.specs.Prelude.{slice_get, Some, IfOk};
 ghost use Rattle.std.specs.List.{All};
@@ -28,14 +29,14 @@ use nm_copyring::{RingAccount, RingPort, Rings};
 use nm_outside::Gate;
 use nm_port::{Closed, Fabric, Port};
 use nm_report::RunRecord;
-use nm_types::{Line, Memory, Script, Shape};
+use nm_types::{Line, Memory, Packet, Script, Shape};
 use std::alloc::Global;
 use std::sync::Wait;
 use std::thread::Threads;
 
 /// What the closed fabric and the closed rings keep.
 pub struct Ways {
-    pub cells: Closed,
+    pub cells: Closed<Packet>,
     pub rings: RingAccount,
 }
 
@@ -70,7 +71,7 @@ fn pair_agrees(a: &Actor, b: &Actor, i: u8, j: u8) -> bool
 }
 
 // Whether what the actor of rank i sent to each was taken there.
-fn row_agrees(actors: &[Actor], f: &Fabric, i: u8) -> bool
+fn row_agrees(actors: &[Actor], f: &Fabric<Packet>, i: u8) -> bool
     requires many { (length actors.now ≡ f.now.ranks) × (i < f.now.ranks) }
     requires ranked { AreRanked f.now.ranks actors.now }
     ensures { result ≡ true → (j : ℕ) (a b : Actor) → slice_get actors.now i ≡ Some a →
@@ -85,7 +86,7 @@ fn row_agrees(actors: &[Actor], f: &Fabric, i: u8) -> bool
 }
 
 // Whether what each actor sent to each was taken there.
-fn all_agree(actors: &[Actor], f: &Fabric) -> bool
+fn all_agree(actors: &[Actor], f: &Fabric<Packet>) -> bool
     requires many { length actors.now ≡ f.now.ranks }
     requires ranked { AreRanked f.now.ranks actors.now }
     ensures { result ≡ true → AllAgree actors.now }
@@ -103,7 +104,7 @@ fn settle<R: Threads + Wait + Sync, G: Gate + Sync>(
     rt: &R,
     actors: &mut [Actor],
     lines: &[Line],
-    f: &Fabric,
+    f: &Fabric<Packet>,
     r: &Rings,
     gate: &G,
 ) -> Result<(), Memory>
@@ -130,7 +131,7 @@ fn settle_all<R: Threads + Wait + Sync, G: Gate + Sync>(
     rt: &R,
     actors: &mut Vec<Actor>,
     lines: &[Line],
-    f: &Fabric,
+    f: &Fabric<Packet>,
     r: &Rings,
     gate: &G,
 ) -> Result<(), Memory>
@@ -149,13 +150,13 @@ fn settle_all<R: Threads + Wait + Sync, G: Gate + Sync>(
 fn cast(
     alloc: Global,
     shape: Shape,
-    ports: Vec<Port>,
+    ports: Vec<Port<Packet>>,
     rings: Vec<RingPort>,
     lines: &[Line],
 ) -> Result<Vec<Actor>, Memory>
     requires ranks { All (λ p. p.rank < shape.ranks) ports.items }
     requires pairs { length rings.items ≡ length ports.items }
-    ensures place { IfOk result (λ v. (f : Fabric) (r : Rings) →
+    ensures place { IfOk result (λ v. (f : Fabric Packet) (r : Rings) →
         AreLines shape.ranks lines.now → (f.ranks ≡ shape.ranks) × (r.ranks ≡ shape.ranks) →
         NewInOrder f r 0 ports.items rings.items → InPlace shape lines.now f r 0 v.items) }
     ensures many { IfOk result (λ v. length v.items ≡ length ports.items) }
@@ -188,7 +189,7 @@ fn run_lines<R: Threads + Wait + Sync, G: Gate + Sync>(
     ensures account { IfOk result (λ x. x.0.cells ≡ x.1.cells.cells) }
     ensures done { IfOk result (λ x. x.0.done ≡ are_done (ends_of x.0.ranks)) }
 {
-    let (fabric, ports) = Fabric::build(alloc, shape)?;
+    let (fabric, ports) = Fabric::<Packet>::build(alloc, shape)?;
     let (rings, ring_ports) = Rings::build(alloc, shape)?;
     let mut actors = cast(alloc, shape, ports, ring_ports, lines)?;
     settle_all(rt, &mut actors, lines, &fabric, &rings, gate)?;

@@ -3,9 +3,9 @@
 ghost use Rattle.std.specs.Prelude.{◌≡◌, ◌+◌, ◌<◌, ◌≤◌, ◌∷◌, [], Some, false};
 ghost use Rattle.std.specs.Prelude.{true, IfErr, IfNone, IfOk};
 ghost use Rattle.std.specs.Prelude.{ℕ, length, slice_index};
-ghost use Rattle.nm_types.specs.declared.limits.TheConstants.{MAX_BOX};
 ghost use Rattle.nm_types.specs.declared.packets.Path.TheVariants.{Box, Cell};
-ghost use Rattle.nm_chain.specs.Update.{update};
+ghost use Rattle.nm_world.specs.Parcels.{parcel_of};
+ghost use Rattle.nm_chain.specs.Items.{is_short};
 ghost use Rattle.nm_chain.specs.Plays.{with_filling, with_put, with_put_box, heads_of, with_heads};
 ghost use Rattle.nm_chain.specs.Plays.{with_look};
 ghost use Rattle.nm_chain.specs.declared.table.table.Look.TheVariants.{Fresh};
@@ -16,93 +16,127 @@ ghost use Rattle.nm_port.specs.Polls.{polled as polled_lem};
 ghost use Rattle.nm_copyring.specs.Plays.{one_empty, one_full, one_pulled, one_pushed, with_lane};
 ghost use Rattle.nm_copyring.specs.Ports as ring;
 
+use crate::places::Places;
 use nm_chain::seats::Steps;
+use nm_chain::table::Parcel;
 use nm_copyring::{RingPort, Rings, can_pull, can_push, pull, push};
-use nm_port::{Fabric, Port, poll, send};
-use nm_types::{Packet, Path, Piece};
+use nm_port::{Fabric, Port, Sent, poll, send};
+use nm_types::{Memory, Packet, Path, Piece};
 use std::marker::Brand;
 use std::sync::ledger::{Blank, Ledger};
 
 fn sent_on<L: Ledger>(
-    f: &Fabric,
-    port: &mut Port,
+    f: &Fabric<Packet>,
+    port: &mut Port<Packet>,
+    to: u8,
+    parcel: Box<Parcel<Packet>>,
+    blank: Blank,
+) -> Result<Sent<Packet>, Box<Parcel<Packet>>>
+    requires owns { Owns f.now port.old }
+    requires peer { to < f.now.ranks }
+    requires parcel { (parcel.value.from ≡ port.old.rank)
+        × (parcel.value.seq ≡ sent_by port.old to) }
+    requires name { (blank.name ≡ L.name) × (blank.parts ≡ L.parts) × (0 < L.parts) }
+    ensures owns { Owns f.now port.new × (port.new.rank ≡ port.old.rank) }
+    ensures taken { SameTaken port.old port.new }
+    ensures by_box { IfOk result (λ sent. sent.path ≡ Box → knows port.new
+        ≡ with_put_box ((to, Some parcel.value) ∷ []) (with_filling to false (knows port.old))) }
+    ensures by_cell { IfOk result (λ sent. sent.path ≡ Cell → knows port.new
+        ≡ with_put ((to, Some parcel.value) ∷ []) (with_look false Fresh (with_heads false
+        (heads_of false (knows port.new))
+        (tried (is_short (length parcel.value.item.payload)) to (knows port.old))))) }
+    ensures back { IfErr result (λ _.
+        HadMiss false (tried (is_short (length parcel.value.item.payload)) to (knows port.old)) (knows port.new)) }
+    ensures hands { port.new.hands ≤ port.old.hands }
+{
+    let mut steps = Steps::<L>::new(blank);
+    send(f, port, to, parcel, &mut steps)
+}
+
+/// Sends a packet in a box of these places, and answers its way, or `None` where it was not sent.
+pub(crate) fn sent(
+    f: &Fabric<Packet>,
+    port: &mut Port<Packet>,
+    places: &mut Places,
     to: u8,
     packet: &Packet,
+) -> Result<Option<Path>, Memory>
+    requires owns { Owns f.now port.old }
+    requires peer { to < f.now.ranks }
+    requires packet { (packet.now.from ≡ port.old.rank) × (packet.now.seq ≡ sent_by port.old to) }
+    ensures owns { Owns f.now port.new × (port.new.rank ≡ port.old.rank) }
+    ensures taken { SameTaken port.old port.new }
+    ensures by_box { IfOk result (λ way. way ≡ Some Box → knows port.new
+        ≡ with_put_box ((to, Some (parcel_of packet.now)) ∷ []) (with_filling to false (knows port.old))) }
+    ensures by_cell { IfOk result (λ way. way ≡ Some Cell → knows port.new
+        ≡ with_put ((to, Some (parcel_of packet.now)) ∷ []) (with_look false Fresh (with_heads false
+        (heads_of false (knows port.new))
+        (tried (is_short (length packet.now.payload)) to (knows port.old))))) }
+    ensures back { IfOk result (λ way. IfNone way
+        (HadMiss false (tried (is_short (length packet.now.payload)) to (knows port.old)) (knows port.new))) }
+    ensures hands { port.new.hands ≤ port.old.hands }
+{
+    let letter = places.parcel(packet)?;
+    match sent_on::<Brand>(f, port, to, letter, Blank::new(1)) {
+        Ok(Sent { path, spare }) => {
+            places.keep_letter(spare);
+            Ok(Some(path))
+        }
+        Err(back) => {
+            places.keep_letter(Some(back));
+            Ok(None)
+        }
+    }
+}
+
+fn polled_on<L: Ledger>(
+    f: &Fabric<Packet>,
+    port: &mut Port<Packet>,
+    spare: Option<Box<Parcel<Packet>>>,
     blank: Blank,
-) -> Option<Path>
-    requires owns { Owns f.now port.old }
-    requires peer { to < f.now.ranks }
-    requires packet { (packet.now.from ≡ port.old.rank) × (packet.now.seq ≡ sent_by port.old to) }
-    requires name { (blank.name ≡ L.name) × (blank.parts ≡ L.parts) × (0 < L.parts) }
-    ensures owns { Owns f.now port.new × (port.new.rank ≡ port.old.rank) }
-    ensures taken { SameTaken port.old port.new }
-    ensures by_box { result ≡ Some Box → knows port.new
-        ≡ with_put_box ((to, Some packet.now) ∷ []) (with_filling to false (knows port.old)) }
-    ensures by_cell { result ≡ Some Cell → knows port.new
-        ≡ with_put ((to, Some packet.now) ∷ []) (with_look false Fresh (with_heads false
-        (heads_of false (knows port.new)) (tried (length packet.now.payload) to (knows port.old)))) }
-    ensures back { IfNone result
-        (HadMiss false (tried (length packet.now.payload) to (knows port.old)) (knows port.new)) }
-    ensures hands { port.new.hands ≤ port.old.hands }
-{
-    let mut steps = Steps::<L>::new(blank);
-    send(f, port, to, packet, &mut steps)
-}
-
-pub(crate) fn sent(f: &Fabric, port: &mut Port, to: u8, packet: &Packet) -> Option<Path>
-    requires owns { Owns f.now port.old }
-    requires peer { to < f.now.ranks }
-    requires packet { (packet.now.from ≡ port.old.rank) × (packet.now.seq ≡ sent_by port.old to) }
-    ensures owns { Owns f.now port.new × (port.new.rank ≡ port.old.rank) }
-    ensures taken { SameTaken port.old port.new }
-    ensures by_box { result ≡ Some Box → knows port.new
-        ≡ with_put_box ((to, Some packet.now) ∷ []) (with_filling to false (knows port.old)) }
-    ensures by_cell { result ≡ Some Cell → knows port.new
-        ≡ with_put ((to, Some packet.now) ∷ []) (with_look false Fresh (with_heads false
-        (heads_of false (knows port.new)) (tried (length packet.now.payload) to (knows port.old)))) }
-    ensures back { IfNone result
-        (HadMiss false (tried (length packet.now.payload) to (knows port.old)) (knows port.new)) }
-    ensures hands { port.new.hands ≤ port.old.hands }
-{
-    sent_on::<Brand>(f, port, to, packet, Blank::new(1))
-}
-
-fn polled_on<L: Ledger>(f: &Fabric, port: &mut Port, into: &mut Packet, blank: Blank) -> bool
+) -> Result<Box<Parcel<Packet>>, Option<Box<Parcel<Packet>>>>
     requires owns { Owns f.now port.old }
     requires rest { HoldsTheRest port.old }
     requires name { (blank.name ≡ L.name) × (blank.parts ≡ L.parts) × (0 < L.parts) }
     ensures owns { Owns f.now port.new × (port.new.rank ≡ port.old.rank) }
     ensures rest { HoldsTheRest port.new }
-    ensures next { result ≡ true → IsNext f.now port.old port.new into.new
-        × IsGot port.new into.new }
-    ensures way { result ≡ true → Way port.old port.new into.new
-        × (knows port.new ≡ polled_lem (knows port.new) (knows port.old)) }
-    ensures none { result ≡ false → HadMiss true (with_all_missed (knows port.old)) (knows port.new)
-        × (taken_by port.new ≡ taken_by port.old) }
+    ensures next { IfOk result (λ parcel. IsNext f.now port.old port.new parcel.value
+        × IsGot port.new parcel.value) }
+    ensures way { IfOk result (λ parcel. Way port.old port.new parcel.value
+        × (knows port.new ≡ polled_lem (knows port.new) (knows port.old))) }
+    ensures none { IfErr result (λ _.
+        HadMiss true (with_all_missed (knows port.old)) (knows port.new)
+        × (taken_by port.new ≡ taken_by port.old)) }
     ensures later { (i : ℕ) → slice_index (knows port.old).box_miss i
         ≤ slice_index (knows port.new).box_miss i }
     ensures hands { port.new.hands ≤ port.old.hands }
 {
     let mut steps = Steps::<L>::new(blank);
-    poll(f, port, into, &mut steps)
+    poll(f, port, spare, &mut steps)
 }
 
-pub(crate) fn polled(f: &Fabric, port: &mut Port, into: &mut Packet) -> bool
+/// Polls, and leaves this box of memory for what comes, if it is given.
+pub(crate) fn polled(
+    f: &Fabric<Packet>,
+    port: &mut Port<Packet>,
+    spare: Option<Box<Parcel<Packet>>>,
+) -> Result<Box<Parcel<Packet>>, Option<Box<Parcel<Packet>>>>
     requires owns { Owns f.now port.old }
     requires rest { HoldsTheRest port.old }
     ensures owns { Owns f.now port.new × (port.new.rank ≡ port.old.rank) }
     ensures rest { HoldsTheRest port.new }
-    ensures next { result ≡ true → IsNext f.now port.old port.new into.new
-        × IsGot port.new into.new }
-    ensures way { result ≡ true → Way port.old port.new into.new
-        × (knows port.new ≡ polled_lem (knows port.new) (knows port.old)) }
-    ensures none { result ≡ false → HadMiss true (with_all_missed (knows port.old)) (knows port.new)
-        × (taken_by port.new ≡ taken_by port.old) }
+    ensures next { IfOk result (λ parcel. IsNext f.now port.old port.new parcel.value
+        × IsGot port.new parcel.value) }
+    ensures way { IfOk result (λ parcel. Way port.old port.new parcel.value
+        × (knows port.new ≡ polled_lem (knows port.new) (knows port.old))) }
+    ensures none { IfErr result (λ _.
+        HadMiss true (with_all_missed (knows port.old)) (knows port.new)
+        × (taken_by port.new ≡ taken_by port.old)) }
     ensures later { (i : ℕ) → slice_index (knows port.old).box_miss i
         ≤ slice_index (knows port.new).box_miss i }
     ensures hands { port.new.hands ≤ port.old.hands }
 {
-    polled_on::<Brand>(f, port, into, Blank::new(1))
+    polled_on::<Brand>(f, port, spare, Blank::new(1))
 }
 
 fn pushed_on<L: Ledger>(

@@ -1,6 +1,8 @@
-//! A use of `nm_port`: one rank sends 1,000 packets of a byte each, and another takes them.
+//! A use of `nm_port`, with an item of its own: one rank sends 1,000 parcels with a byte each, and another takes
+//! them.
 
 mod crossing;
+mod letters;
 mod sending;
 mod taking;
 

@@ -3,6 +3,7 @@
 
 mod crossing;
 mod first;
+mod letters;
 mod putting;
 mod taking;
 

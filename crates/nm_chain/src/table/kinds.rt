@@ -12,7 +12,7 @@ use std::marker::{Brand, PhantomData};
 /// Loads the head of an own queue.
 pub struct LoadsHead<const B: bool>;
 
-impl<const B: bool> Play<Slot, View<Entry>> for LoadsHead<B> {
+impl<I, const B: bool> Play<Slot<I>, View<Entry<I>>> for LoadsHead<B> {
     ghost use Rattle.nm_chain.specs.Plays.{loaded_head};
 
     ghost then = { loaded_head B };
@@ -21,7 +21,7 @@ impl<const B: bool> Play<Slot, View<Entry>> for LoadsHead<B> {
 /// Stores 0 in the head of an own queue.
 pub struct ClearsHead<const B: bool>;
 
-impl<const B: bool> Play<Slot, View<Entry>> for ClearsHead<B> {
+impl<I, const B: bool> Play<Slot<I>, View<Entry<I>>> for ClearsHead<B> {
     ghost use Rattle.nm_chain.specs.Plays.{cleared_head};
 
     ghost then = { cleared_head B };
@@ -30,7 +30,7 @@ impl<const B: bool> Play<Slot, View<Entry>> for ClearsHead<B> {
 /// Loads the link of the first cell of an own queue.
 pub struct Passes<const B: bool>;
 
-impl<const B: bool> Play<Slot, View<Entry>> for Passes<B> {
+impl<I, const B: bool> Play<Slot<I>, View<Entry<I>>> for Passes<B> {
     ghost use Rattle.nm_chain.specs.Plays.{passed};
 
     ghost then = { passed B };
@@ -39,7 +39,7 @@ impl<const B: bool> Play<Slot, View<Entry>> for Passes<B> {
 /// Loads that link once more.
 pub struct Reloads<const B: bool>;
 
-impl<const B: bool> Play<Slot, View<Entry>> for Reloads<B> {
+impl<I, const B: bool> Play<Slot<I>, View<Entry<I>>> for Reloads<B> {
     ghost use Rattle.nm_chain.specs.Plays.{reloaded};
 
     ghost then = { reloaded B };
@@ -48,7 +48,7 @@ impl<const B: bool> Play<Slot, View<Entry>> for Reloads<B> {
 /// Exchanges the tail of an own queue for 0 where it is the first cell.
 pub struct Drains<const B: bool>;
 
-impl<const B: bool> Play<Slot, View<Entry>> for Drains<B> {
+impl<I, const B: bool> Play<Slot<I>, View<Entry<I>>> for Drains<B> {
     ghost use Rattle.nm_chain.specs.Plays.{drained};
 
     ghost then = { drained B };
@@ -57,7 +57,7 @@ impl<const B: bool> Play<Slot, View<Entry>> for Drains<B> {
 /// Stores 0 in the link of a cell in hand.
 pub struct Clears;
 
-impl Play<Slot, View<Entry>> for Clears {
+impl<I> Play<Slot<I>, View<Entry<I>>> for Clears {
     ghost use Rattle.nm_chain.specs.Plays.{cleared};
 
     ghost then = { cleared };
@@ -66,7 +66,7 @@ impl Play<Slot, View<Entry>> for Clears {
 /// Exchanges the tail of a queue for a cell in hand.
 pub struct Swaps;
 
-impl Play<Slot, View<Entry>> for Swaps {
+impl<I> Play<Slot<I>, View<Entry<I>>> for Swaps {
     ghost use Rattle.nm_chain.specs.Plays.{swapped};
 
     ghost then = { swapped };
@@ -75,7 +75,7 @@ impl Play<Slot, View<Entry>> for Swaps {
 /// Stores the head of a queue, or the link of the cell that was its tail.
 pub struct Finishes;
 
-impl Play<Slot, View<Entry>> for Finishes {
+impl<I> Play<Slot<I>, View<Entry<I>>> for Finishes {
     ghost use Rattle.nm_chain.specs.Plays.{finished};
 
     ghost then = { finished };
@@ -84,14 +84,14 @@ impl Play<Slot, View<Entry>> for Finishes {
 /// Loads the link of an own cell that no call has touched, to take its slot.
 pub struct Picks;
 
-impl Play<Slot, View<Entry>> for Picks {
+impl<I> Play<Slot<I>, View<Entry<I>>> for Picks {
     ghost use Rattle.nm_chain.specs.Plays.{picked};
 
     ghost then = { picked };
 }
 
 /// What a step on the flag of a box is given by its caller: the other rank, and the number of the
-/// awaited packet.
+/// awaited parcel.
 pub trait BoxStep {
     ghost peer: { ℕ };
 
@@ -109,7 +109,7 @@ pub struct LooksOut<T> {
     on: PhantomData<T>,
 }
 
-impl<T: BoxStep> Play<Slot, View<Entry>> for LooksOut<T> {
+impl<I, T: BoxStep> Play<Slot<I>, View<Entry<I>>> for LooksOut<T> {
     ghost use Rattle.nm_chain.specs.Plays.{looked_out};
 
     ghost then = { looked_out T.peer };
@@ -120,7 +120,7 @@ pub struct LooksIn<T> {
     on: PhantomData<T>,
 }
 
-impl<T: BoxStep> Play<Slot, View<Entry>> for LooksIn<T> {
+impl<I, T: BoxStep> Play<Slot<I>, View<Entry<I>>> for LooksIn<T> {
     ghost use Rattle.nm_chain.specs.Plays.{looked_in};
 
     ghost then = { looked_in T.peer T.awaited };
@@ -131,7 +131,7 @@ pub struct Fills<T> {
     on: PhantomData<T>,
 }
 
-impl<T: BoxStep> Play<Slot, View<Entry>> for Fills<T> {
+impl<I, T: BoxStep> Play<Slot<I>, View<Entry<I>>> for Fills<T> {
     ghost use Rattle.nm_chain.specs.Plays.{boxed};
 
     ghost then = { boxed T.peer };
@@ -142,7 +142,7 @@ pub struct Vacates<T> {
     on: PhantomData<T>,
 }
 
-impl<T: BoxStep> Play<Slot, View<Entry>> for Vacates<T> {
+impl<I, T: BoxStep> Play<Slot<I>, View<Entry<I>>> for Vacates<T> {
     ghost use Rattle.nm_chain.specs.Plays.{unboxed};
 
     ghost then = { unboxed T.peer };

@@ -1,37 +1,37 @@
 //! The slots.
 
-ghost use Rattle.std.specs.Prelude.{◌≡◌, Some, None, IsSome, IsTrue, ◌↔◌};
-ghost use Rattle.nm_chain.specs.Slots.{load_of};
+ghost use Rattle.std.specs.Prelude.{◌≡◌, Some, None, IsSome, IsTrue, ◌↔◌, option_copied};
 
-use nm_types::Packet;
+use crate::table::parcels::Parcel;
 use std::marker::Model;
+use std::mem::replace;
 
-/// A slot of the table: a packet, or nothing. While it is empty, the place of a packet stays, so
-/// that one is put in and taken out by its own length.
+/// A slot of the table: a parcel, or nothing. While it is empty it keeps the box that it was given for
+/// its last parcel, if there was one, for whoever fills it next.
 #[derive(Drop)]
-pub struct Slot {
+pub struct Slot<I> {
     full: bool,
-    packet: Packet,
+    place: Option<Box<Parcel<I>>>,
 }
 
-impl Model for Slot {
+impl<I> Model for Slot<I> {
     ghost use Rattle.std.specs.Prelude.{Option};
-    ghost use Rattle.nm_types.specs.declared.packets.Packet.{Packet};
+    ghost use Rattle.nm_chain.specs.declared.table.parcels.Parcel.{Parcel};
     ghost use Rattle.nm_chain.specs.Slots.{load_of};
 
-    ghost Value = { Option Packet };
+    ghost Value = { Option (Parcel I) };
 
-    ghost view = { λ s. load_of s.full s.packet };
+    ghost view = { λ s. load_of s.full s.place };
 }
 
-impl Slot {
+impl<I> Slot<I> {
     /// A slot with nothing.
-    pub fn empty() -> Slot
+    pub fn empty() -> Slot<I>
         ensures { result ≡ None }
     {
         Slot {
             full: false,
-            packet: Packet::blank(),
+            place: None,
         }
     }
 
@@ -39,24 +39,41 @@ impl Slot {
     pub fn is_empty(&self) -> bool
         ensures { IsTrue result ↔ (self.now ≡ None) }
     {
-        !self.full
+        !self.full || self.place.is_none()
     }
 
-    /// Puts a packet equal to this one in.
-    pub fn fill(&mut self, packet: &Packet)
-        ensures { self.new ≡ Some packet.now }
+    /// The parcel, if there is one.
+    pub fn get(&self) -> Option<&Parcel<I>>
+        ensures { option_copied result ≡ self.now }
     {
-        self.packet.set(packet);
-        self.full = true;
+        if !self.full {
+            return None;
+        }
+        let Some(place) = &self.place else {
+            return None;
+        };
+        let parcel: &Parcel<I> = place;
+        Some(parcel)
     }
 
-    /// Takes the packet out, into a place of the caller's.
-    pub fn take(&mut self, into: &mut Packet)
+    /// Puts a parcel in. It answers the box that was kept, if there was one.
+    pub fn fill(&mut self, parcel: Box<Parcel<I>>) -> Option<Box<Parcel<I>>>
+        ensures { self.new ≡ Some parcel.value }
+    {
+        self.full = true;
+        replace(&mut self.place, Some(parcel))
+    }
+
+    /// Takes the parcel out, and keeps this box, if there is one.
+    pub fn take(&mut self, spare: Option<Box<Parcel<I>>>) -> Box<Parcel<I>>
         requires { IsSome self.old }
-        ensures packet { self.old ≡ Some into.new }
+        ensures parcel { self.old ≡ Some result.value }
         ensures empty { self.new ≡ None }
     {
-        into.set(&self.packet);
         self.full = false;
+        let Some(parcel) = replace(&mut self.place, spare) else {
+            unreachable!()
+        };
+        parcel
     }
 }

@@ -4,20 +4,22 @@ ghost use Rattle.std.specs.Prelude.{◌≡◌};
 ghost use Rattle.nm_chain.specs.Plays.{raised, head_miss, link_miss};
 
 use crate::seats::View;
+use crate::table::items::Item;
+use crate::table::parcels::Parcel;
 use crate::table::slots::Slot;
 use atomic_table::{Seat, Table, TableRule};
-use nm_types::{Packet, Shape};
+use nm_types::Shape;
 use std::alloc::Global;
 use std::collections::LinkedList;
 
 /// What a rank has of one cell. No value of it is made.
-pub enum Hand {
+pub enum Hand<I> {
     Away,
     /// It is its owner's, stands in no queue, and its slot is at home and empty.
     Loose,
     Held,
     /// Its link was cleared when it held this.
-    Ready(Option<Packet>),
+    Ready(Option<Parcel<I>>),
     /// Its enqueue into this queue found this tail.
     Entering(u64, u64),
 }
@@ -96,23 +98,23 @@ impl Misses {
 }
 
 /// What one rank knows. No value of it is made.
-pub struct Entry {
+pub struct Entry<I> {
     pub rank: u64,
     pub ranks: u64,
     pub each: u64,
-    pub hands: LinkedList<Hand>,
+    pub hands: LinkedList<Hand<I>>,
     pub receive: Heads,
     pub free: Heads,
     /// What it put into receive queues, with the rank that each went to.
-    pub put: LinkedList<(u64, Option<Packet>)>,
-    pub got: LinkedList<Option<Packet>>,
+    pub put: LinkedList<(u64, Option<Parcel<I>>)>,
+    pub got: LinkedList<Option<Parcel<I>>>,
     /// What it put into boxes, with the rank that each went to.
-    pub put_box: LinkedList<(u64, Option<Packet>)>,
-    pub got_box: LinkedList<Option<Packet>>,
+    pub put_box: LinkedList<(u64, Option<Parcel<I>>)>,
+    pub got_box: LinkedList<Option<Parcel<I>>>,
     /// For each rank, whether its next box for it was found free and is not filled since.
     pub filling: LinkedList<bool>,
     /// For each rank, what was found in its next box and is not taken since.
-    pub emptying: LinkedList<Option<Option<Packet>>>,
+    pub emptying: LinkedList<Option<Option<Parcel<I>>>>,
     /// What its last steps on each of its queues told of the first cell.
     pub looks: Looks,
     pub receive_missed: Misses,
@@ -126,16 +128,16 @@ pub struct Entry {
 /// The rule of the linked table (`Rule`), and the view of its first seat.
 pub struct Linked;
 
-impl TableRule<Slot, View<Entry>, Shape> for Linked {
+impl<I: Item> TableRule<Slot<I>, View<Entry<I>>, Shape> for Linked {
     ghost use Rattle.nm_chain.specs.Rule.{Rule, first_view};
 
-    ghost holds = { Rule };
+    ghost holds = { Rule I.boxable };
 
     ghost first = { first_view };
 }
 
 /// The table that all ranks share.
-pub type Board = Table<Slot, View<Entry>, Shape, Linked, Global>;
+pub type Board<I> = Table<Slot<I>, View<Entry<I>>, Shape, Linked, Global>;
 
 /// A seat of it, which speaks for some of the ranks.
-pub type BoardSeat = Seat<Slot, View<Entry>>;
+pub type BoardSeat<I> = Seat<Slot<I>, View<Entry<I>>>;

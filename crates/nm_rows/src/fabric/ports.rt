@@ -4,7 +4,7 @@ ghost use Rattle.std.specs.Prelude.{◌≡◌, ◌+◌, ◌<◌, ◌≤◌, None
 ghost use Rattle.nm_cells.specs.Ports.{Owns, unpassed_by};
 ghost use Rattle.nm_port.specs.Polls.{HoldsTheRest};
 
-use crate::fabric::ends::{both, bytes_of, closed, packet};
+use crate::fabric::ends::{both, bytes_of, closed, parcel};
 use nm_cells::{Fabric, Port, Queue, take_out};
 use nm_chain::seats::Steps;
 use nm_port::{poll, send};
@@ -16,7 +16,12 @@ use std::sync::ledger::{Blank, Ledger};
 use std::test::Fail;
 
 // The way of rank 0's next packet for rank 1, or `None` where it was not sent.
-fn send_next<L: Ledger>(f: &Fabric, port: &mut Port, steps: &mut Steps<L>) -> Option<Path>
+fn send_next<L: Ledger>(
+    f: &Fabric<Packet>,
+    port: &mut Port<Packet>,
+    alloc: Global,
+    steps: &mut Steps<L>,
+) -> Option<Path>
     requires { Owns f.now port.old × (port.old.rank ≡ 0) × (port.old.hands ≡ 0)
         × (1 < f.now.ranks) }
     ensures port { Owns f.now port.new × (port.new.rank ≡ 0) × (port.new.hands ≡ 0) }
@@ -25,12 +30,19 @@ fn send_next<L: Ledger>(f: &Fabric, port: &mut Port, steps: &mut Steps<L>) -> Op
     if !port.has_room(1) {
         return None;
     }
-    let next = packet(0, port.sent(1));
-    send(f, port, 1, &next, steps)
+    let next = parcel(alloc, 0, port.sent(1))?;
+    match send(f, port, 1, next, steps) {
+        Ok(sent) => Some(sent.path),
+        Err(_) => None,
+    }
 }
 
 // The number of the packet that rank 1 polls, where it has its bytes.
-fn poll_next<L: Ledger>(f: &Fabric, port: &mut Port, steps: &mut Steps<L>) -> Option<u64>
+fn poll_next<L: Ledger>(
+    f: &Fabric<Packet>,
+    port: &mut Port<Packet>,
+    steps: &mut Steps<L>,
+) -> Option<u64>
     requires two { f.now.ranks ≡ 2 }
     requires first { Owns f.now port.old × (port.old.rank ≡ 1) × (port.old.hands ≡ 0) }
     requires rest { HoldsTheRest port.old }
@@ -38,38 +50,40 @@ fn poll_next<L: Ledger>(f: &Fabric, port: &mut Port, steps: &mut Steps<L>) -> Op
     ensures rest { HoldsTheRest port.new }
     ensures bound { steps.new ≤ steps.old + 12 }
 {
-    let mut packet = Packet::blank();
-    if !poll(f, port, &mut packet, steps) {
+    let Ok(parcel) = poll(f, port, None, steps) else {
         return None;
-    }
-    if packet.payload.as_slice() == bytes_of(packet.seq).as_slice() {
-        Some(packet.seq)
+    };
+    if parcel.item.payload.as_slice() == bytes_of(parcel.seq).as_slice() {
+        Some(parcel.seq)
     } else {
         Some(u64::MAX)
     }
 }
 
 // Rank 1 takes the first packet out of its receive queue and holds it. Its cell is sent home.
-fn hold_first<L: Ledger>(f: &Fabric, port: &mut Port, steps: &mut Steps<L>) -> Option<u64>
+fn hold_first<L: Ledger>(
+    f: &Fabric<Packet>,
+    port: &mut Port<Packet>,
+    steps: &mut Steps<L>,
+) -> Option<u64>
     requires first { Owns f.now port.old × (port.old.rank ≡ 1) × (port.old.hands ≡ 0) }
     requires nothing { (unpassed_by port.old ≡ 0) × (port.old.held ≡ None) }
     ensures first { Owns f.now port.new × (port.new.rank ≡ 1) × (port.new.hands ≡ 0) }
     ensures rest { HoldsTheRest port.new }
 {
     let cell = dequeue(f, port, Queue::Receive(1), steps).ok()?;
-    let mut packet = Packet::blank();
-    take_out(f, port, &cell, &mut packet);
+    let parcel = take_out(f, port, &cell, None);
     let owner = cell.owner();
     enqueue(f, port, Queue::Free(owner), cell, steps);
-    let number = packet.seq;
-    port.hold(packet);
+    let number = parcel.seq;
+    port.hold(parcel);
     Some(number)
 }
 
 // The same where the rank is to hold one.
 fn hold_where<L: Ledger>(
-    f: &Fabric,
-    port: &mut Port,
+    f: &Fabric<Packet>,
+    port: &mut Port<Packet>,
     holds: bool,
     steps: &mut Steps<L>,
 ) -> Option<u64>
@@ -85,7 +99,13 @@ fn hold_where<L: Ledger>(
 }
 
 // The ways of so many packets of rank 0.
-fn ways<L: Ledger>(f: &Fabric, port: &mut Port, count: usize, blank: Blank) -> [Option<Path>; 6]
+fn ways<L: Ledger>(
+    f: &Fabric<Packet>,
+    port: &mut Port<Packet>,
+    alloc: Global,
+    count: usize,
+    blank: Blank,
+) -> [Option<Path>; 6]
     requires blank { (blank.name ≡ L.name) × (blank.parts ≡ L.parts) × (0 < L.parts) }
     requires port { Owns f.now port.old × (port.old.rank ≡ 0) × (port.old.hands ≡ 0)
         × (1 < f.now.ranks) }
@@ -95,7 +115,7 @@ fn ways<L: Ledger>(f: &Fabric, port: &mut Port, count: usize, blank: Blank) -> [
     let mut steps = Steps::<L>::new(blank);
     let mut ways = [None; 6];
     for k in 0..count {
-        ways[k] = send_next(f, port, &mut steps);
+        ways[k] = send_next(f, port, alloc, &mut steps);
     }
     ways
 }
@@ -110,7 +130,12 @@ struct Taken {
 }
 
 // What rank 1 takes, where it holds the first packet of its queue, or none.
-fn take_all<L: Ledger>(f: &Fabric, port: &mut Port, holds: bool, blank: Blank) -> Taken
+fn take_all<L: Ledger>(
+    f: &Fabric<Packet>,
+    port: &mut Port<Packet>,
+    holds: bool,
+    blank: Blank,
+) -> Taken
     requires blank { (blank.name ≡ L.name) × (blank.parts ≡ L.parts) × (0 < L.parts) }
     requires two { f.now.ranks ≡ 2 }
     requires first { Owns f.now port.old × (port.old.rank ≡ 1) × (port.old.hands ≡ 0) }
@@ -145,9 +170,9 @@ fn row(alloc: Global, cells: u8, count: usize, holds: bool, more: usize) -> Resu
     requires { (1 ≤ cells) × (cells ≤ 64) × (count ≤ 6) × (more ≤ 6) }
 {
     let shape = Shape::new(2, cells, 0).unwrap();
-    let (fabric, ports) = Fabric::build(alloc, shape)?;
+    let (fabric, ports) = Fabric::<Packet>::build(alloc, shape)?;
     let (mut a, mut b) = both(&fabric, ports, false);
-    let sent = ways::<Brand>(&fabric, &mut a, count, Blank::new(1));
+    let sent = ways::<Brand>(&fabric, &mut a, alloc, count, Blank::new(1));
     let counts = [a.box_full(1), a.head_empty(Queue::Free(0)), a.sent(1)];
     let taken = take_all::<Brand>(&fabric, &mut b, holds, Blank::new(1));
     let misses = [
@@ -155,7 +180,7 @@ fn row(alloc: Global, cells: u8, count: usize, holds: bool, more: usize) -> Resu
         b.box_miss(1),
         b.head_empty(Queue::Receive(1)),
     ];
-    let again = ways::<Brand>(&fabric, &mut a, more, Blank::new(1))[0];
+    let again = ways::<Brand>(&fabric, &mut a, alloc, more, Blank::new(1))[0];
     let cells = closed(alloc, fabric, a, b)?.account();
     Ok(Seen {
         sent,

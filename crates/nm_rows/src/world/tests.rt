@@ -1,3 +1,4 @@
+ghost use Rattle.nm_types.specs.declared.packets.Packet.{Packet};
 ghost use Rattle.std.specs.Prelude.{◌≡◌, ℕ, Some, length, slice_get};
 ghost use Rattle.nm_copyring.specs.declared.port.RingPort.{RingPort};
 ghost use Rattle.nm_cells.specs.declared.port.Port.{Port};
@@ -10,7 +11,7 @@ use nm_copyring::{RingPort, Rings};
 use nm_history::{Event, Happened, History};
 use nm_outside::OpenGate;
 use nm_port::{Fabric, Port};
-use nm_types::{Answer, Line, Memory, Script, Seen, Shape};
+use nm_types::{Answer, Line, Memory, Packet, Script, Seen, Shape};
 use nm_world::Actor;
 use std::alloc::{AllocError, Global};
 use std::test::Fail;
@@ -39,7 +40,7 @@ fn both<T: Drop>(mut list: Vec<T>) -> (T, T)
 fn three_turns(
     sender: &mut Actor,
     lines: &[Line],
-    f: &Fabric,
+    f: &Fabric<Packet>,
     r: &Rings,
 ) -> Result<[bool; 3], Memory>
     requires { ActorInvariant lines.now f.now r.now sender.old }
@@ -73,7 +74,12 @@ fn saw_the_last(history: &History) -> bool {
 }
 
 // One turn of the receiver. It takes 64 packets, and polls once more before its probe.
-fn one_turn(receiver: &mut Actor, lines: &[Line], f: &Fabric, r: &Rings) -> Result<bool, Memory>
+fn one_turn(
+    receiver: &mut Actor,
+    lines: &[Line],
+    f: &Fabric<Packet>,
+    r: &Rings,
+) -> Result<bool, Memory>
     requires { ActorInvariant lines.now f.now r.now receiver.old }
 {
     let moved = receiver.turn(lines, f, r, &OpenGate)?;
@@ -85,9 +91,9 @@ fn sender_at(
     alloc: Global,
     shape: Shape,
     lines: &[Line],
-    f: &Fabric,
+    f: &Fabric<Packet>,
     r: &Rings,
-    port: Port,
+    port: Port<Packet>,
     ring: RingPort,
 ) -> Result<[bool; 3], Memory>
     requires lines { AreLines shape.ranks lines.now }
@@ -104,9 +110,9 @@ fn receiver_at(
     alloc: Global,
     shape: Shape,
     lines: &[Line],
-    f: &Fabric,
+    f: &Fabric<Packet>,
     r: &Rings,
-    port: Port,
+    port: Port<Packet>,
     ring: RingPort,
 ) -> Result<bool, Memory>
     requires lines { AreLines shape.ranks lines.now }
@@ -123,16 +129,16 @@ fn turns_at(
     alloc: Global,
     shape: Shape,
     lines: &[Line],
-    f: &Fabric,
+    f: &Fabric<Packet>,
     r: &Rings,
-    ports: Vec<Port>,
+    ports: Vec<Port<Packet>>,
     rings: Vec<RingPort>,
 ) -> Result<Turns, Memory>
     requires lines { AreLines shape.ranks lines.now }
     requires ranks { (f.now.ranks ≡ shape.ranks) × (r.now.ranks ≡ shape.ranks) }
     requires two { shape.ranks ≡ 2 }
     requires count { (length ports.items ≡ 2) × (length rings.items ≡ 2) }
-    requires ports { (k : ℕ) (p : Port) → slice_get ports.items k ≡ Some p → IsNew f.now p k }
+    requires ports { (k : ℕ) (p : Port Packet) → slice_get ports.items k ≡ Some p → IsNew f.now p k }
     requires rings { (k : ℕ) (p : RingPort) →
         slice_get rings.items k ≡ Some p → ring_port.IsNew r.now p k }
 {
@@ -151,14 +157,14 @@ fn turns_in(
     alloc: Global,
     shape: Shape,
     lines: &[Line],
-    f: &Fabric,
-    ports: Vec<Port>,
+    f: &Fabric<Packet>,
+    ports: Vec<Port<Packet>>,
 ) -> Result<Turns, Memory>
     requires lines { AreLines shape.ranks lines.now }
     requires ranks { f.now.ranks ≡ shape.ranks }
     requires two { shape.ranks ≡ 2 }
     requires count { length ports.items ≡ 2 }
-    requires ports { (k : ℕ) (p : Port) → slice_get ports.items k ≡ Some p → IsNew f.now p k }
+    requires ports { (k : ℕ) (p : Port Packet) → slice_get ports.items k ≡ Some p → IsNew f.now p k }
 {
     let (rings, ring_ports) = Rings::build(alloc, shape)?;
     turns_at(alloc, shape, lines, f, &rings, ports, ring_ports)
@@ -169,7 +175,7 @@ fn turns_of(alloc: Global, lines: &[Line]) -> Result<Turns, Memory>
     requires { AreLines 2 lines.now }
 {
     let shape = Shape::new(2, 64, 1024).unwrap();
-    let (fabric, ports) = Fabric::build(alloc, shape)?;
+    let (fabric, ports) = Fabric::<Packet>::build(alloc, shape)?;
     turns_in(alloc, shape, lines, &fabric, ports)
 }
 

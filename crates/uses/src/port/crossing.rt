@@ -1,11 +1,13 @@
-//! A text that goes from one rank to another, a byte in each packet.
+//! A text that goes from one rank to another, a byte in each parcel.
 
 ghost use Rattle.std.specs.Prelude.{◌≡◌, ℕ, ◌<◌, List, [], IfOk, OnOk, Some, length, slice_get};
 ghost use Rattle.nm_cells.specs.declared.port.Port.{Port};
 ghost use Rattle.nm_cells.specs.Ports.{Owns, IsNew, knows};
 ghost use Rattle.nm_port.specs.Polls.{HoldsTheRest};
+ghost use Rattle.uses.specs.declared.port.letters.Letter.{Letter};
 ghost use Rattle.uses.specs.Crossings.{IsFront, Sends, Takes};
 
+use crate::port::letters::Letter;
 use crate::port::sending::send_next;
 use crate::port::taking::take_next;
 use nm_chain::seats::Steps;
@@ -17,9 +19,9 @@ use std::marker::Brand;
 use std::sync::ledger::{Blank, Ledger};
 
 // The ports of two ranks.
-fn both(f: &Fabric, mut ports: Vec<Port>) -> (Port, Port)
+fn both(f: &Fabric<Letter>, mut ports: Vec<Port<Letter>>) -> (Port<Letter>, Port<Letter>)
     requires count { length ports.items ≡ 2 }
-    requires new { (k : ℕ) (p : Port) → slice_get ports.items k ≡ Some p → IsNew f.now p k }
+    requires new { (k : ℕ) (p : Port Letter) → slice_get ports.items k ≡ Some p → IsNew f.now p k }
     ensures { IsNew f.now result.0 0 × IsNew f.now result.1 1 }
 {
     let b = ports.remove(1);
@@ -28,33 +30,34 @@ fn both(f: &Fabric, mut ports: Vec<Port>) -> (Port, Port)
 }
 
 // The fabric of two ranks with eight cells each, and the port of each.
-fn two_ranks(alloc: Global) -> Result<(Fabric, Port, Port), Memory>
+fn two_ranks(alloc: Global) -> Result<(Fabric<Letter>, Port<Letter>, Port<Letter>), Memory>
     ensures { IfOk result (λ t. (t.0.ranks ≡ 2) × IsNew t.0 t.1 0 × IsNew t.0 t.2 1) }
 {
     let Ok(shape) = Shape::new(2, 8, 0) else {
         unreachable!()
     };
-    let (fabric, ports) = Fabric::build(alloc, shape)?;
+    let (fabric, ports) = Fabric::<Letter>::build(alloc, shape)?;
     let (a, b) = both(&fabric, ports);
     Ok((fabric, a, b))
 }
 
 // No step: at the start nothing was sent and nothing was taken.
-fn nothing_yet(f: &Fabric, a: &Port, b: &Port, came: &Vec<u8>)
+fn nothing_yet(f: &Fabric<Letter>, a: &Port<Letter>, b: &Port<Letter>, came: &Vec<u8>)
     requires first { IsNew f.now a.now 0 }
     requires second { IsNew f.now b.now 1 × (came.now.items ≡ []) }
     ensures sends { (text : List ℕ) → Sends (knows a.now) 1 text }
     ensures rest { HoldsTheRest b.now }
     ensures takes { Takes b.now 0 came.now.items }
 {
-    a_new_port_carries_nothing();
+    a_new_port_carries_nothing::<Letter, u64>();
 }
 
 // In so many turns as the text has bytes, rank 0 sends the next byte, and rank 1 takes what came.
 fn take_turns<L: Ledger>(
-    f: &Fabric,
-    a: &mut Port,
-    b: &mut Port,
+    f: &Fabric<Letter>,
+    a: &mut Port<Letter>,
+    b: &mut Port<Letter>,
+    alloc: Global,
     text: &[u8],
     came: &mut Vec<u8>,
     blank: Blank,
@@ -73,14 +76,19 @@ fn take_turns<L: Ledger>(
 {
     let mut steps = Steps::<L>::new(blank);
     for _turn in 0..text.len() {
-        send_next(f, a, text, &mut steps);
+        send_next(f, a, alloc, text, &mut steps)?;
         take_next(f, b, came, &mut steps)?;
     }
     Ok(())
 }
 
 // Closes the fabric: the bytes that the second port took are a front of those that the first one sent.
-fn close_both(alloc: Global, fabric: Fabric, a: Port, b: Port) -> Result<(), Memory>
+fn close_both(
+    alloc: Global,
+    fabric: Fabric<Letter>,
+    a: Port<Letter>,
+    b: Port<Letter>,
+) -> Result<(), Memory>
     requires two { fabric.ranks ≡ 2 }
     requires first { Owns fabric a × (a.rank ≡ 0) × (a.hands ≡ 0) }
     requires second { Owns fabric b × (b.rank ≡ 1) × (b.hands ≡ 0) }
@@ -91,19 +99,27 @@ fn close_both(alloc: Global, fabric: Fabric, a: Port, b: Port) -> Result<(), Mem
     ports.push(a)?;
     ports.push(b)?;
     // no step: the law of a port at its end
-    a_close_carries();
+    a_close_carries::<Letter, u64>();
     let _ = fabric.close(ports);
     Ok(())
 }
 
-/// What came of a text that rank 0 sent to rank 1, a byte in each packet: a front of it.
+/// What came of a text that rank 0 sent to rank 1, a byte in each parcel: a front of it.
 pub fn cross(alloc: Global, text: &[u8]) -> Result<Vec<u8>, Memory>
     ensures { IfOk result (λ came. IsFront came.items text.now) }
 {
     let (fabric, mut a, mut b) = two_ranks(alloc)?;
     let mut came = Vec::new(alloc);
     nothing_yet(&fabric, &a, &b, &came);
-    take_turns::<Brand>(&fabric, &mut a, &mut b, text, &mut came, Blank::new(1))?;
+    take_turns::<Brand>(
+        &fabric,
+        &mut a,
+        &mut b,
+        alloc,
+        text,
+        &mut came,
+        Blank::new(1),
+    )?;
     close_both(alloc, fabric, a, b)?;
     Ok(came)
 }

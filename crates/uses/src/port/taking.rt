@@ -1,28 +1,21 @@
-//! The taking rank: the bytes of the packets that come.
+//! The taking rank: the bytes of the parcels that come.
 
-ghost use Rattle.std.specs.Prelude.{◌≡◌, ◌++◌, OnOk};
+ghost use Rattle.std.specs.Prelude.{◌≡◌, OnOk};
 ghost use Rattle.nm_cells.specs.Ports.{Owns};
 ghost use Rattle.nm_port.specs.Polls.{HoldsTheRest};
 ghost use Rattle.uses.specs.Crossings.{Takes};
 
+use crate::port::letters::Letter;
 use nm_chain::seats::Steps;
 use nm_port::carried::laws::a_poll_carries;
 use nm_port::{Fabric, Port, poll};
-use nm_types::{Memory, Packet};
+use nm_types::Memory;
 use std::sync::ledger::Ledger;
 
-// Puts the bytes of a packet behind those that came.
-fn append(came: &mut Vec<u8>, packet: &Packet) -> Result<(), Memory>
-    ensures { OnOk result (came.new.items ≡ came.old.items ++ packet.now.payload) }
-{
-    came.extend_from_slice(packet.payload.as_slice())?;
-    Ok(())
-}
-
-/// Takes the next packet, where one came, and puts the bytes of one of rank 0 behind those that came.
+/// Takes the next parcel, where one came, and puts the byte of one of rank 0 behind those that came.
 pub fn take_next<L: Ledger>(
-    f: &Fabric,
-    port: &mut Port,
+    f: &Fabric<Letter>,
+    port: &mut Port<Letter>,
     came: &mut Vec<u8>,
     steps: &mut Steps<L>,
 ) -> Result<(), Memory>
@@ -33,15 +26,14 @@ pub fn take_next<L: Ledger>(
     ensures rest { HoldsTheRest port.new }
     ensures takes { OnOk result (Takes port.new 0 came.new.items) }
 {
-    let mut packet = Packet::blank();
-    // no step: the law of a packet that comes
-    a_poll_carries();
-    if !poll(f, port, &mut packet, steps) {
+    // no step: the law of a parcel that comes
+    a_poll_carries::<Letter, u64>();
+    let Ok(parcel) = poll(f, port, None, steps) else {
+        return Ok(());
+    };
+    if parcel.from != 0 {
         return Ok(());
     }
-    if packet.from != 0 {
-        return Ok(());
-    }
-    append(came, &packet)?;
+    came.push(parcel.item.byte)?;
     Ok(())
 }

@@ -4,6 +4,7 @@ ghost use Rattle.std.specs.Prelude.{◌≡◌, IfNone, IfSome};
 ghost use Rattle.nm_cells.specs.Ports.{Owns, IsOwn, Takes, is_receive, knows};
 ghost use Rattle.uses.specs.QueueCrossings.{SameLists};
 
+use crate::queue::letters::Letter;
 use nm_cells::{Cell, Fabric, Port, Queue};
 use nm_chain::seats::Steps;
 use nm_queue::dequeue;
@@ -11,8 +12,8 @@ use std::sync::ledger::Ledger;
 
 /// Takes the first cell of an own queue, or none where that one had a miss.
 pub fn take_first<L: Ledger>(
-    f: &Fabric,
-    port: &mut Port,
+    f: &Fabric<Letter>,
+    port: &mut Port<Letter>,
     q: Queue,
     steps: &mut Steps<L>,
 ) -> Option<Cell>

@@ -1,33 +1,40 @@
 //! The putting rank: a cell for each byte of a text.
 
-ghost use Rattle.std.specs.Prelude.{◌≡◌, ◌<◌, [], ◌∷◌};
+ghost use Rattle.std.specs.Prelude.{◌≡◌, ◌<◌};
 ghost use Rattle.nm_types.specs.declared.limits.TheConstants.{MAX_PACKETS};
 ghost use Rattle.nm_cells.specs.Ports.{Owns, knows};
 ghost use Rattle.uses.specs.QueueCrossings.{Puts};
 
 use crate::queue::first::take_first;
+use crate::queue::letters::Letter;
 use nm_cells::{Fabric, Port, Queue, put_in};
 use nm_chain::seats::Steps;
+use nm_chain::table::Parcel;
 use nm_queue::enqueue;
-use nm_types::{Packet, Payload, What};
+use nm_types::Memory;
+use std::alloc::Global;
 use std::sync::ledger::Ledger;
 
-// A packet of rank 0 with one byte.
-fn packet(seq: u64, byte: u8) -> Packet
+// A parcel of rank 0 with one byte.
+fn parcel(seq: u64, byte: u8) -> Parcel<Letter>
     requires { seq < MAX_PACKETS }
-    ensures { (result.from ≡ 0) × (result.seq ≡ seq) × (result.payload ≡ byte ∷ []) }
+    ensures { (result.from ≡ 0) × (result.seq ≡ seq) × (result.item.byte ≡ byte) }
 {
-    Packet {
+    Parcel {
         from: 0,
         seq,
-        stamp: 0,
-        what: What::More { n: 0 },
-        payload: Payload::of(&[byte]),
+        item: Letter { byte },
     }
 }
 
 /// Puts the next byte of the text into the queue of rank 1, where a cell is at home.
-pub fn put_next<L: Ledger>(f: &Fabric, port: &mut Port, text: &[u8], steps: &mut Steps<L>)
+pub fn put_next<L: Ledger>(
+    f: &Fabric<Letter>,
+    port: &mut Port<Letter>,
+    alloc: Global,
+    text: &[u8],
+    steps: &mut Steps<L>,
+) -> Result<(), Memory>
     requires owns { Owns f.now port.old × (port.old.rank ≡ 0) × (port.old.hands ≡ 0) }
     requires two { f.now.ranks ≡ 2 }
     requires puts { Puts (knows port.old) text.now }
@@ -36,12 +43,13 @@ pub fn put_next<L: Ledger>(f: &Fabric, port: &mut Port, text: &[u8], steps: &mut
 {
     let number = port.sent(1);
     if number >= text.len() as u64 || !port.has_room(1) {
-        return;
+        return Ok(());
     }
-    let next = packet(number, text[number as usize]);
+    let next = Box::new(alloc, parcel(number, text[number as usize]))?;
     let Some(cell) = take_first(f, port, Queue::Free(0), steps) else {
-        return;
+        return Ok(());
     };
-    put_in(f, port, &cell, &next);
+    put_in(f, port, &cell, next);
     enqueue(f, port, Queue::Receive(1), cell, steps);
+    Ok(())
 }

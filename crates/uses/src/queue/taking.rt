@@ -1,29 +1,22 @@
 //! The taking rank: the bytes of the cells that come.
 
-ghost use Rattle.std.specs.Prelude.{◌≡◌, ◌++◌, OnOk};
+ghost use Rattle.std.specs.Prelude.{◌≡◌, OnOk};
 ghost use Rattle.nm_cells.specs.Ports.{Owns, knows};
 ghost use Rattle.uses.specs.QueueCrossings.{Gets};
 
 use crate::queue::first::take_first;
+use crate::queue::letters::Letter;
 use nm_cells::{Fabric, Port, Queue, take_out};
 use nm_chain::seats::Steps;
 use nm_queue::enqueue;
-use nm_types::{Memory, Packet};
+use nm_types::Memory;
 use std::sync::ledger::Ledger;
 
-// Puts the bytes of a packet behind those that came.
-fn append(came: &mut Vec<u8>, packet: &Packet) -> Result<(), Memory>
-    ensures { OnOk result (came.new.items ≡ came.old.items ++ packet.now.payload) }
-{
-    came.extend_from_slice(packet.payload.as_slice())?;
-    Ok(())
-}
-
-/// Takes the first cell, where one came, sends it home, and puts the bytes of one of rank 0 behind those that
+/// Takes the first cell, where one came, sends it home, and puts the byte of one of rank 0 behind those that
 /// came.
 pub fn take_next<L: Ledger>(
-    f: &Fabric,
-    port: &mut Port,
+    f: &Fabric<Letter>,
+    port: &mut Port<Letter>,
     came: &mut Vec<u8>,
     steps: &mut Steps<L>,
 ) -> Result<(), Memory>
@@ -35,13 +28,12 @@ pub fn take_next<L: Ledger>(
     let Some(cell) = take_first(f, port, Queue::Receive(1), steps) else {
         return Ok(());
     };
-    let mut packet = Packet::blank();
-    take_out(f, port, &cell, &mut packet);
+    let parcel = take_out(f, port, &cell, None);
     let owner = cell.owner();
     enqueue(f, port, Queue::Free(owner), cell, steps);
-    if packet.from != 0 {
+    if parcel.from != 0 {
         return Ok(());
     }
-    append(came, &packet)?;
+    came.push(parcel.item.byte)?;
     Ok(())
 }

@@ -19,7 +19,7 @@ use Rattle.nm_cells.specs.LooseCells.{AreKept}
 use Rattle.nm_cells.proofs.LooseLemmas.{far_apart, kept_pop}
 use Rattle.nm_cells.proofs.boxes.empty.Goals as goal
 
-some_one : (y : Load) (j : ℕ) → sender y ≡ suc j → IsSome y
+some_one : {A : Type 0} (y : Load A) (j : ℕ) → sender y ≡ suc j → IsSome y
 some_one (Some x) j e = refl
 some_one None j e = absurd (let z : 0 ≡ suc j = e in omega arith)
 
@@ -30,7 +30,7 @@ bring_slot-requires g c =
     let place = ap (λ (u : Tally). u.box_got) c.peer.ensures ∙ peer_box_got p j
     (calls.few f p o j few) in
     let at = c.box_at-slot.ensures.at ∙ calls.in_slot_is f p o j few c.peer.result.box_got place in
-    let y : Load = plays.box_load j (knows p) in
+    let y : Load _ = plays.box_load j (knows p) in
     let there = calls.box_there f p o j few false c.box_at-slot.result at y k.0 in
     record { once = there.0 }
 
@@ -41,7 +41,7 @@ store-requires g c =
     let place = ap (λ (u : Tally). u.box_got) c.peer.ensures ∙ peer_box_got p j
     (calls.few f p o j few) in
     let at = c.box_at-slot.ensures.at ∙ calls.in_slot_is f p o j few c.peer.result.box_got place in
-    let y : Load = plays.box_load j (knows p) in
+    let y : Load _ = plays.box_load j (knows p) in
     let there = calls.box_there f p o j few false c.box_at-slot.result at y k.0 in
     let q = c.bring_slot.new.port in let b = c.bring_slot.ensures in let v = b.seat.1 in
     let o₂ = calls.brought_owns f p q b.seat.0 v b.same.0 o in
@@ -52,17 +52,17 @@ store-requires g c =
     let id = f.board.shared.table_id in let z₀ = f.sizes.0 in let low = c.box_at-slot.ensures.low in
     let is_word = c.flag_word-word.ensures in
     let word : ℕ = c.flag_word-word.result in let inside : word < id.words = omega arith in
-    let none : Load = None in
-    let me : plays.Knowing = (q.seat.me.0, (slot, none) ∷ rest q.seat.me.1) in
+    let none : Load _ = None in
+    let me : plays.Knowing _ = (q.seat.me.0, (slot, none) ∷ rest q.seat.me.1) in
     let all = subst (plays.AllBelow (knows q) j) (sym next) (calls.all_below f q o₂ j few) in (
-      c.empty_slot.ensures.seat.0 ∙ b.seat.0 ∙ o.0,
+      c.empty_slot-parcel.ensures.seat.0 ∙ b.seat.0 ∙ o.0,
       inside,
-      subst (λ m. Allows (Rule f.board.shared.key) id.slots c.empty_slot.new.seat.id m word
+      subst (λ m. Allows (Rule g.I.Item.boxable f.board.shared.key) id.slots c.empty_slot-parcel.new.seat.id m word
           (λ _. 0) (plays.unboxed g.T.BoxStep.peer (step id.slots word 0 0 maybe.none) m))
-          (sym c.empty_slot.ensures.emptied)
-          (subst (λ t. Allows (Rule f.board.shared.key) id.slots c.empty_slot.new.seat.id me word
+          (sym c.empty_slot-parcel.ensures.emptied)
+          (subst (λ t. Allows (Rule g.I.Item.boxable f.board.shared.key) id.slots c.empty_slot-parcel.new.seat.id me word
           (λ _. 0) (plays.unboxed t (step id.slots word 0 0 maybe.none) me)) c.requires.told
-          (empty_allowed f.board.shared.key f.ranks f.each id.slots c.empty_slot.new.seat.id me
+          (empty_allowed _ f.board.shared.key f.ranks f.each id.slots c.empty_slot-parcel.new.seat.id me
           q.alone f.shape.0 f.shape.1 p.rank (q.named ∙ b.same.0) o.1 j few c.peer.result.box_got
           word y (rest q.seat.me.1) (ap (λ t. (t, none) ∷ rest q.seat.me.1)
           c.box_at-slot.ensures.at)
@@ -77,7 +77,7 @@ count_unboxed-requires-clause-sender g c =
     let place = ap (λ (u : Tally). u.box_got) c.peer.ensures ∙ peer_box_got p j
     (calls.few f p o j few) in
     let at = c.box_at-slot.ensures.at ∙ calls.in_slot_is f p o j few c.peer.result.box_got place in
-    let y : Load = plays.box_load j (knows p) in
+    let y : Load _ = plays.box_load j (knows p) in
     let there = calls.box_there f p o j few false c.box_at-slot.result at y k.0 in
     let q = c.bring_slot.new.port in let b = c.bring_slot.ensures in let v = b.seat.1 in
     let o₂ = calls.brought_owns f p q b.seat.0 v b.same.0 o in
@@ -94,7 +94,7 @@ count_unboxed-requires-clause-room g c =
     let place = ap (λ (u : Tally). u.box_got) c.peer.ensures ∙ peer_box_got p j
     (calls.few f p o j few) in
     let at = c.box_at-slot.ensures.at ∙ calls.in_slot_is f p o j few c.peer.result.box_got place in
-    let y : Load = plays.box_load j (knows p) in
+    let y : Load _ = plays.box_load j (knows p) in
     let there = calls.box_there f p o j few false c.box_at-slot.result at y k.0 in
     let q = c.bring_slot.new.port in let b = c.bring_slot.ensures in let v = b.seat.1 in
     let o₂ = calls.brought_owns f p q b.seat.0 v b.same.0 o in
@@ -111,7 +111,7 @@ count_unboxed-requires-clause-box_room g c =
     let place = ap (λ (u : Tally). u.box_got) c.peer.ensures ∙ peer_box_got p j
     (calls.few f p o j few) in
     let at = c.box_at-slot.ensures.at ∙ calls.in_slot_is f p o j few c.peer.result.box_got place in
-    let y : Load = plays.box_load j (knows p) in
+    let y : Load _ = plays.box_load j (knows p) in
     let there = calls.box_there f p o j few false c.box_at-slot.result at y k.0 in
     let q = c.bring_slot.new.port in let b = c.bring_slot.ensures in let v = b.seat.1 in
     let o₂ = calls.brought_owns f p q b.seat.0 v b.same.0 o in
@@ -121,14 +121,14 @@ count_unboxed-requires-clause-box_room g c =
     in let slot = c.box_at-slot.result in let w = plays.load_in slot p.seat.me.1 in
     (calls.got_room f q o₂ j few y next).1
 
-pub empty_slot-requires-clause-full : goal.empty_slot-requires-clause-full
-empty_slot-requires-clause-full g c =
+pub empty_slot-parcel-requires-clause-full : goal.empty_slot-parcel-requires-clause-full
+empty_slot-parcel-requires-clause-full g c =
     let f = c.args.f.now in let p = c.args.port.now in let o = c.requires.owns in
     let few = c.requires.peer in let j = c.args.sender in let k = c.requires.taking in
     let place = ap (λ (u : Tally). u.box_got) c.peer.ensures ∙ peer_box_got p j
     (calls.few f p o j few) in
     let at = c.box_at-slot.ensures.at ∙ calls.in_slot_is f p o j few c.peer.result.box_got place in
-    let y : Load = plays.box_load j (knows p) in
+    let y : Load _ = plays.box_load j (knows p) in
     let there = calls.box_there f p o j few false c.box_at-slot.result at y k.0 in
     let same = ap plays.first_load c.bring_slot.ensures.front ∙ there.1 in
     subst IsSome (sym same) (some_one y j k.2)
@@ -140,7 +140,7 @@ invariant_of-port-clause-carries g c =
     let place = ap (λ (u : Tally). u.box_got) c.peer.ensures ∙ peer_box_got p j
     (calls.few f p o j few) in
     let at = c.box_at-slot.ensures.at ∙ calls.in_slot_is f p o j few c.peer.result.box_got place in
-    let y : Load = plays.box_load j (knows p) in
+    let y : Load _ = plays.box_load j (knows p) in
     let there = calls.box_there f p o j few false c.box_at-slot.result at y k.0 in
     let q = c.bring_slot.new.port in let b = c.bring_slot.ensures in let v = b.seat.1 in
     let o₂ = calls.brought_owns f p q b.seat.0 v b.same.0 o in
@@ -148,19 +148,19 @@ invariant_of-port-clause-carries g c =
     let was = ap (λ u. emptying_of (sole u.entries) j) v ∙ k.0 in
     let next : number y ≡ taken_by q j = k.1 ∙ ap (λ ps. (peer_in ps.items j).taken) (sym b.same.1)
     in let slot = c.box_at-slot.result in let w = plays.load_in slot p.seat.me.1 in
-    let then = subst (λ t. plays.got_boxed t c.empty_slot.new.seat.me c.store.new.seat.me)
+    let then = subst (λ t. plays.got_boxed t c.empty_slot-parcel.new.seat.me c.store.new.seat.me)
     (sym c.requires.told) c.store.ensures.2.1 in
-    let load : plays.box_load j (mine c.empty_slot.new.seat.me) ≡ y =
-    ap (λ m. plays.box_load j (mine m)) c.empty_slot.ensures.emptied
+    let load : plays.box_load j (mine c.empty_slot-parcel.new.seat.me) ≡ y =
+    ap (λ m. plays.box_load j (mine m)) c.empty_slot-parcel.ensures.emptied
     ∙ ap (λ u. plays.box_load j (sole u.entries)) v in
     let is = then.0 ∙ (λ i. (
       view (plays.with_got_box (load i ∷ [])
-          (plays.with_emptying j None (mine (c.empty_slot.ensures.emptied i))) ∷ []),
-      rest (c.empty_slot.ensures.emptied i).1,
+          (plays.with_emptying j None (mine (c.empty_slot-parcel.ensures.emptied i))) ∷ []),
+      rest (c.empty_slot-parcel.ensures.emptied i).1,
     )) in
-    let new = subst (λ (m : plays.Knowing). ¬ plays.Came (mine m) j (number y))
-    c.empty_slot.ensures.emptied
-    (subst (λ u. ¬ plays.Came (mine c.empty_slot.new.seat.me) j (number u)) load then.1) in
+    let new = subst (λ (m : plays.Knowing _). ¬ plays.Came (mine m) j (number y))
+    c.empty_slot-parcel.ensures.emptied
+    (subst (λ u. ¬ plays.Came (mine c.empty_slot-parcel.new.seat.me) j (number u)) load then.1) in
     let some = calls.emptied_hands f q o₂ j few c.store.new.seat.me slot w b.front y at₂ was is in
     calls.emptied_carries f q o₂ j few c.store.new.seat.me slot w b.front y at₂ was is c.remove.new.self.items
     (vec_capacity c.remove.new.self)
@@ -174,7 +174,7 @@ invariant_of-port-clause-boxes g c =
     let place = ap (λ (u : Tally). u.box_got) c.peer.ensures ∙ peer_box_got p j
     (calls.few f p o j few) in
     let at = c.box_at-slot.ensures.at ∙ calls.in_slot_is f p o j few c.peer.result.box_got place in
-    let y : Load = plays.box_load j (knows p) in
+    let y : Load _ = plays.box_load j (knows p) in
     let there = calls.box_there f p o j few false c.box_at-slot.result at y k.0 in
     let q = c.bring_slot.new.port in let b = c.bring_slot.ensures in let v = b.seat.1 in
     let o₂ = calls.brought_owns f p q b.seat.0 v b.same.0 o in
@@ -182,19 +182,19 @@ invariant_of-port-clause-boxes g c =
     let was = ap (λ u. emptying_of (sole u.entries) j) v ∙ k.0 in
     let next : number y ≡ taken_by q j = k.1 ∙ ap (λ ps. (peer_in ps.items j).taken) (sym b.same.1)
     in let slot = c.box_at-slot.result in let w = plays.load_in slot p.seat.me.1 in
-    let then = subst (λ t. plays.got_boxed t c.empty_slot.new.seat.me c.store.new.seat.me)
+    let then = subst (λ t. plays.got_boxed t c.empty_slot-parcel.new.seat.me c.store.new.seat.me)
     (sym c.requires.told) c.store.ensures.2.1 in
-    let load : plays.box_load j (mine c.empty_slot.new.seat.me) ≡ y =
-    ap (λ m. plays.box_load j (mine m)) c.empty_slot.ensures.emptied
+    let load : plays.box_load j (mine c.empty_slot-parcel.new.seat.me) ≡ y =
+    ap (λ m. plays.box_load j (mine m)) c.empty_slot-parcel.ensures.emptied
     ∙ ap (λ u. plays.box_load j (sole u.entries)) v in
     let is = then.0 ∙ (λ i. (
       view (plays.with_got_box (load i ∷ [])
-          (plays.with_emptying j None (mine (c.empty_slot.ensures.emptied i))) ∷ []),
-      rest (c.empty_slot.ensures.emptied i).1,
+          (plays.with_emptying j None (mine (c.empty_slot-parcel.ensures.emptied i))) ∷ []),
+      rest (c.empty_slot-parcel.ensures.emptied i).1,
     )) in
-    let new = subst (λ (m : plays.Knowing). ¬ plays.Came (mine m) j (number y))
-    c.empty_slot.ensures.emptied
-    (subst (λ u. ¬ plays.Came (mine c.empty_slot.new.seat.me) j (number u)) load then.1) in
+    let new = subst (λ (m : plays.Knowing _). ¬ plays.Came (mine m) j (number y))
+    c.empty_slot-parcel.ensures.emptied
+    (subst (λ u. ¬ plays.Came (mine c.empty_slot-parcel.new.seat.me) j (number u)) load then.1) in
     calls.emptied_boxes f q o₂ j few c.store.new.seat.me slot w b.front y at₂ was is k.2
 
 pub invariant_of-port-clause-counts : goal.invariant_of-port-clause-counts
@@ -204,7 +204,7 @@ invariant_of-port-clause-counts g c =
     let place = ap (λ (u : Tally). u.box_got) c.peer.ensures ∙ peer_box_got p j
     (calls.few f p o j few) in
     let at = c.box_at-slot.ensures.at ∙ calls.in_slot_is f p o j few c.peer.result.box_got place in
-    let y : Load = plays.box_load j (knows p) in
+    let y : Load _ = plays.box_load j (knows p) in
     let there = calls.box_there f p o j few false c.box_at-slot.result at y k.0 in
     let q = c.bring_slot.new.port in let b = c.bring_slot.ensures in let v = b.seat.1 in
     let o₂ = calls.brought_owns f p q b.seat.0 v b.same.0 o in
@@ -212,19 +212,19 @@ invariant_of-port-clause-counts g c =
     let was = ap (λ u. emptying_of (sole u.entries) j) v ∙ k.0 in
     let next : number y ≡ taken_by q j = k.1 ∙ ap (λ ps. (peer_in ps.items j).taken) (sym b.same.1)
     in let slot = c.box_at-slot.result in let w = plays.load_in slot p.seat.me.1 in
-    let then = subst (λ t. plays.got_boxed t c.empty_slot.new.seat.me c.store.new.seat.me)
+    let then = subst (λ t. plays.got_boxed t c.empty_slot-parcel.new.seat.me c.store.new.seat.me)
     (sym c.requires.told) c.store.ensures.2.1 in
-    let load : plays.box_load j (mine c.empty_slot.new.seat.me) ≡ y =
-    ap (λ m. plays.box_load j (mine m)) c.empty_slot.ensures.emptied
+    let load : plays.box_load j (mine c.empty_slot-parcel.new.seat.me) ≡ y =
+    ap (λ m. plays.box_load j (mine m)) c.empty_slot-parcel.ensures.emptied
     ∙ ap (λ u. plays.box_load j (sole u.entries)) v in
     let is = then.0 ∙ (λ i. (
       view (plays.with_got_box (load i ∷ [])
-          (plays.with_emptying j None (mine (c.empty_slot.ensures.emptied i))) ∷ []),
-      rest (c.empty_slot.ensures.emptied i).1,
+          (plays.with_emptying j None (mine (c.empty_slot-parcel.ensures.emptied i))) ∷ []),
+      rest (c.empty_slot-parcel.ensures.emptied i).1,
     )) in
-    let new = subst (λ (m : plays.Knowing). ¬ plays.Came (mine m) j (number y))
-    c.empty_slot.ensures.emptied
-    (subst (λ u. ¬ plays.Came (mine c.empty_slot.new.seat.me) j (number u)) load then.1) in
+    let new = subst (λ (m : plays.Knowing _). ¬ plays.Came (mine m) j (number y))
+    c.empty_slot-parcel.ensures.emptied
+    (subst (λ u. ¬ plays.Came (mine c.empty_slot-parcel.new.seat.me) j (number u)) load then.1) in
     calls.emptied_counts f q o₂ j few c.store.new.seat.me slot w b.front y at₂ was is k.2 next new
     c.count_unboxed.new.peers.items c.count_unboxed.ensures
 
@@ -235,7 +235,7 @@ returns-clause-owns g c =
     let place = ap (λ (u : Tally). u.box_got) c.peer.ensures ∙ peer_box_got p j
     (calls.few f p o j few) in
     let at = c.box_at-slot.ensures.at ∙ calls.in_slot_is f p o j few c.peer.result.box_got place in
-    let y : Load = plays.box_load j (knows p) in
+    let y : Load _ = plays.box_load j (knows p) in
     let there = calls.box_there f p o j few false c.box_at-slot.result at y k.0 in
     let q = c.bring_slot.new.port in let b = c.bring_slot.ensures in let v = b.seat.1 in
     let o₂ = calls.brought_owns f p q b.seat.0 v b.same.0 o in
@@ -243,20 +243,20 @@ returns-clause-owns g c =
     let was = ap (λ u. emptying_of (sole u.entries) j) v ∙ k.0 in
     let next : number y ≡ taken_by q j = k.1 ∙ ap (λ ps. (peer_in ps.items j).taken) (sym b.same.1)
     in let slot = c.box_at-slot.result in let w = plays.load_in slot p.seat.me.1 in
-    let then = subst (λ t. plays.got_boxed t c.empty_slot.new.seat.me c.store.new.seat.me)
+    let then = subst (λ t. plays.got_boxed t c.empty_slot-parcel.new.seat.me c.store.new.seat.me)
     (sym c.requires.told) c.store.ensures.2.1 in
-    let load : plays.box_load j (mine c.empty_slot.new.seat.me) ≡ y =
-    ap (λ m. plays.box_load j (mine m)) c.empty_slot.ensures.emptied
+    let load : plays.box_load j (mine c.empty_slot-parcel.new.seat.me) ≡ y =
+    ap (λ m. plays.box_load j (mine m)) c.empty_slot-parcel.ensures.emptied
     ∙ ap (λ u. plays.box_load j (sole u.entries)) v in
     let is = then.0 ∙ (λ i. (
       view (plays.with_got_box (load i ∷ [])
-          (plays.with_emptying j None (mine (c.empty_slot.ensures.emptied i))) ∷ []),
-      rest (c.empty_slot.ensures.emptied i).1,
+          (plays.with_emptying j None (mine (c.empty_slot-parcel.ensures.emptied i))) ∷ []),
+      rest (c.empty_slot-parcel.ensures.emptied i).1,
     )) in
-    let new = subst (λ (m : plays.Knowing). ¬ plays.Came (mine m) j (number y))
-    c.empty_slot.ensures.emptied
-    (subst (λ u. ¬ plays.Came (mine c.empty_slot.new.seat.me) j (number u)) load then.1) in (
-      calls.owns_then f q o₂ j few (c.store.ensures.0 ∙ c.empty_slot.ensures.seat.0 ∙ b.seat.0 ∙ o.0)
+    let new = subst (λ (m : plays.Knowing _). ¬ plays.Came (mine m) j (number y))
+    c.empty_slot-parcel.ensures.emptied
+    (subst (λ u. ¬ plays.Came (mine c.empty_slot-parcel.new.seat.me) j (number u)) load then.1) in (
+      calls.owns_then f q o₂ j few (c.store.ensures.0 ∙ c.empty_slot-parcel.ensures.seat.0 ∙ b.seat.0 ∙ o.0)
           c.store.new.seat.me
           (ap (λ m. (mine m).ranks) is) (ap (λ m. (mine m).each) is)
           (ap (λ m. length (mine m).hands) is)
@@ -266,16 +266,16 @@ returns-clause-owns g c =
       b.same.4,
     )
 
-pub returns-clause-packet : goal.returns-clause-packet
-returns-clause-packet g c =
+pub returns-clause-parcel : goal.returns-clause-parcel
+returns-clause-parcel g c =
     let f = c.args.f.now in let p = c.args.port.now in let o = c.requires.owns in
     let few = c.requires.peer in let j = c.args.sender in let k = c.requires.taking in
     let place = ap (λ (u : Tally). u.box_got) c.peer.ensures ∙ peer_box_got p j
     (calls.few f p o j few) in
     let at = c.box_at-slot.ensures.at ∙ calls.in_slot_is f p o j few c.peer.result.box_got place in
-    let y : Load = plays.box_load j (knows p) in
+    let y : Load _ = plays.box_load j (knows p) in
     let there = calls.box_there f p o j few false c.box_at-slot.result at y k.0 in
-    let same = ap plays.first_load (sym c.empty_slot.ensures.packet ∙ c.bring_slot.ensures.front)
+    let same = ap plays.first_load (sym c.empty_slot-parcel.ensures.parcel ∙ c.bring_slot.ensures.front)
     ∙ there.1 in same
 
 pub returns-clause-got : goal.returns-clause-got
@@ -285,7 +285,7 @@ returns-clause-got g c =
     let place = ap (λ (u : Tally). u.box_got) c.peer.ensures ∙ peer_box_got p j
     (calls.few f p o j few) in
     let at = c.box_at-slot.ensures.at ∙ calls.in_slot_is f p o j few c.peer.result.box_got place in
-    let y : Load = plays.box_load j (knows p) in
+    let y : Load _ = plays.box_load j (knows p) in
     let there = calls.box_there f p o j few false c.box_at-slot.result at y k.0 in
     let q = c.bring_slot.new.port in let b = c.bring_slot.ensures in let v = b.seat.1 in
     let o₂ = calls.brought_owns f p q b.seat.0 v b.same.0 o in
@@ -293,20 +293,20 @@ returns-clause-got g c =
     let was = ap (λ u. emptying_of (sole u.entries) j) v ∙ k.0 in
     let next : number y ≡ taken_by q j = k.1 ∙ ap (λ ps. (peer_in ps.items j).taken) (sym b.same.1)
     in let slot = c.box_at-slot.result in let w = plays.load_in slot p.seat.me.1 in
-    let then = subst (λ t. plays.got_boxed t c.empty_slot.new.seat.me c.store.new.seat.me)
+    let then = subst (λ t. plays.got_boxed t c.empty_slot-parcel.new.seat.me c.store.new.seat.me)
     (sym c.requires.told) c.store.ensures.2.1 in
-    let load : plays.box_load j (mine c.empty_slot.new.seat.me) ≡ y =
-    ap (λ m. plays.box_load j (mine m)) c.empty_slot.ensures.emptied
+    let load : plays.box_load j (mine c.empty_slot-parcel.new.seat.me) ≡ y =
+    ap (λ m. plays.box_load j (mine m)) c.empty_slot-parcel.ensures.emptied
     ∙ ap (λ u. plays.box_load j (sole u.entries)) v in
     let is = then.0 ∙ (λ i. (
       view (plays.with_got_box (load i ∷ [])
-          (plays.with_emptying j None (mine (c.empty_slot.ensures.emptied i))) ∷ []),
-      rest (c.empty_slot.ensures.emptied i).1,
+          (plays.with_emptying j None (mine (c.empty_slot-parcel.ensures.emptied i))) ∷ []),
+      rest (c.empty_slot-parcel.ensures.emptied i).1,
     )) in
-    let new = subst (λ (m : plays.Knowing). ¬ plays.Came (mine m) j (number y))
-    c.empty_slot.ensures.emptied
-    (subst (λ u. ¬ plays.Came (mine c.empty_slot.new.seat.me) j (number u)) load then.1) in
-    let same = ap plays.first_load (sym c.empty_slot.ensures.packet ∙ c.bring_slot.ensures.front)
+    let new = subst (λ (m : plays.Knowing _). ¬ plays.Came (mine m) j (number y))
+    c.empty_slot-parcel.ensures.emptied
+    (subst (λ u. ¬ plays.Came (mine c.empty_slot-parcel.new.seat.me) j (number u)) load then.1) in
+    let same = ap plays.first_load (sym c.empty_slot-parcel.ensures.parcel ∙ c.bring_slot.ensures.front)
     ∙ there.1 in let packet = same in
     ap mine is ∙ (λ i. plays.with_got_box (sym packet i ∷ [])
     (plays.with_emptying j None (sole (v i).entries)))
@@ -318,7 +318,7 @@ returns-clause-taken g c =
     let place = ap (λ (u : Tally). u.box_got) c.peer.ensures ∙ peer_box_got p j
     (calls.few f p o j few) in
     let at = c.box_at-slot.ensures.at ∙ calls.in_slot_is f p o j few c.peer.result.box_got place in
-    let y : Load = plays.box_load j (knows p) in
+    let y : Load _ = plays.box_load j (knows p) in
     let there = calls.box_there f p o j few false c.box_at-slot.result at y k.0 in
     let q = c.bring_slot.new.port in let b = c.bring_slot.ensures in let v = b.seat.1 in
     let o₂ = calls.brought_owns f p q b.seat.0 v b.same.0 o in
@@ -337,7 +337,7 @@ returns-clause-others g c =
     let place = ap (λ (u : Tally). u.box_got) c.peer.ensures ∙ peer_box_got p j
     (calls.few f p o j few) in
     let at = c.box_at-slot.ensures.at ∙ calls.in_slot_is f p o j few c.peer.result.box_got place in
-    let y : Load = plays.box_load j (knows p) in
+    let y : Load _ = plays.box_load j (knows p) in
     let there = calls.box_there f p o j few false c.box_at-slot.result at y k.0 in
     let q = c.bring_slot.new.port in let b = c.bring_slot.ensures in let v = b.seat.1 in
     let o₂ = calls.brought_owns f p q b.seat.0 v b.same.0 o in
@@ -358,7 +358,7 @@ returns-clause-holding g c =
     let place = ap (λ (u : Tally). u.box_got) c.peer.ensures ∙ peer_box_got p j
     (calls.few f p o j few) in
     let at = c.box_at-slot.ensures.at ∙ calls.in_slot_is f p o j few c.peer.result.box_got place in
-    let y : Load = plays.box_load j (knows p) in
+    let y : Load _ = plays.box_load j (knows p) in
     let there = calls.box_there f p o j few false c.box_at-slot.result at y k.0 in
     let q = c.bring_slot.new.port in let b = c.bring_slot.ensures in let v = b.seat.1 in
     let o₂ = calls.brought_owns f p q b.seat.0 v b.same.0 o in
@@ -366,19 +366,19 @@ returns-clause-holding g c =
     let was = ap (λ u. emptying_of (sole u.entries) j) v ∙ k.0 in
     let next : number y ≡ taken_by q j = k.1 ∙ ap (λ ps. (peer_in ps.items j).taken) (sym b.same.1)
     in let slot = c.box_at-slot.result in let w = plays.load_in slot p.seat.me.1 in
-    let then = subst (λ t. plays.got_boxed t c.empty_slot.new.seat.me c.store.new.seat.me)
+    let then = subst (λ t. plays.got_boxed t c.empty_slot-parcel.new.seat.me c.store.new.seat.me)
     (sym c.requires.told) c.store.ensures.2.1 in
-    let load : plays.box_load j (mine c.empty_slot.new.seat.me) ≡ y =
-    ap (λ m. plays.box_load j (mine m)) c.empty_slot.ensures.emptied
+    let load : plays.box_load j (mine c.empty_slot-parcel.new.seat.me) ≡ y =
+    ap (λ m. plays.box_load j (mine m)) c.empty_slot-parcel.ensures.emptied
     ∙ ap (λ u. plays.box_load j (sole u.entries)) v in
     let is = then.0 ∙ (λ i. (
       view (plays.with_got_box (load i ∷ [])
-          (plays.with_emptying j None (mine (c.empty_slot.ensures.emptied i))) ∷ []),
-      rest (c.empty_slot.ensures.emptied i).1,
+          (plays.with_emptying j None (mine (c.empty_slot-parcel.ensures.emptied i))) ∷ []),
+      rest (c.empty_slot-parcel.ensures.emptied i).1,
     )) in
-    let new = subst (λ (m : plays.Knowing). ¬ plays.Came (mine m) j (number y))
-    c.empty_slot.ensures.emptied
-    (subst (λ u. ¬ plays.Came (mine c.empty_slot.new.seat.me) j (number u)) load then.1) in
+    let new = subst (λ (m : plays.Knowing _). ¬ plays.Came (mine m) j (number y))
+    c.empty_slot-parcel.ensures.emptied
+    (subst (λ u. ¬ plays.Came (mine c.empty_slot-parcel.new.seat.me) j (number u)) load then.1) in
     calls.emptied_holds f q o₂ j few c.store.new.seat.me slot w b.front y at₂ was is ∙ b.holding
 
 pub invariant_of-port-clause-kept : goal.invariant_of-port-clause-kept
@@ -388,7 +388,7 @@ invariant_of-port-clause-kept g c =
     let place = ap (λ (u : Tally). u.box_got) c.peer.ensures ∙ peer_box_got p j
     (calls.few f p o j few) in
     let at = c.box_at-slot.ensures.at ∙ calls.in_slot_is f p o j few c.peer.result.box_got place in
-    let y : Load = plays.box_load j (knows p) in
+    let y : Load _ = plays.box_load j (knows p) in
     let there = calls.box_there f p o j few false c.box_at-slot.result at y k.0 in
     let q = c.bring_slot.new.port in let b = c.bring_slot.ensures in let v = b.seat.1 in
     let o₂ = calls.brought_owns f p q b.seat.0 v b.same.0 o in
@@ -396,20 +396,20 @@ invariant_of-port-clause-kept g c =
     let was = ap (λ u. emptying_of (sole u.entries) j) v ∙ k.0 in
     let next : number y ≡ taken_by q j = k.1 ∙ ap (λ ps. (peer_in ps.items j).taken) (sym b.same.1)
     in let slot = c.box_at-slot.result in let w = plays.load_in slot p.seat.me.1 in
-    let then = subst (λ t. plays.got_boxed t c.empty_slot.new.seat.me c.store.new.seat.me)
+    let then = subst (λ t. plays.got_boxed t c.empty_slot-parcel.new.seat.me c.store.new.seat.me)
     (sym c.requires.told) c.store.ensures.2.1 in
-    let load : plays.box_load j (mine c.empty_slot.new.seat.me) ≡ y =
-    ap (λ m. plays.box_load j (mine m)) c.empty_slot.ensures.emptied
+    let load : plays.box_load j (mine c.empty_slot-parcel.new.seat.me) ≡ y =
+    ap (λ m. plays.box_load j (mine m)) c.empty_slot-parcel.ensures.emptied
     ∙ ap (λ u. plays.box_load j (sole u.entries)) v in
     let is = then.0 ∙ (λ i. (
       view (plays.with_got_box (load i ∷ [])
-          (plays.with_emptying j None (mine (c.empty_slot.ensures.emptied i))) ∷ []),
-      rest (c.empty_slot.ensures.emptied i).1,
+          (plays.with_emptying j None (mine (c.empty_slot-parcel.ensures.emptied i))) ∷ []),
+      rest (c.empty_slot-parcel.ensures.emptied i).1,
     )) in
-    let new = subst (λ (m : plays.Knowing). ¬ plays.Came (mine m) j (number y))
-    c.empty_slot.ensures.emptied
-    (subst (λ u. ¬ plays.Came (mine c.empty_slot.new.seat.me) j (number u)) load then.1) in
-    subst (λ (m : plays.Knowing). AreKept q.loose (mine m) m.1) (sym is)
+    let new = subst (λ (m : plays.Knowing _). ¬ plays.Came (mine m) j (number y))
+    c.empty_slot-parcel.ensures.emptied
+    (subst (λ u. ¬ plays.Came (mine c.empty_slot-parcel.new.seat.me) j (number u)) load then.1) in
+    subst (λ (m : plays.Knowing _). AreKept q.loose (mine m) m.1) (sym is)
     (kept_pop q.loose (knows q) (rest q.seat.me.1) slot w
     (far_apart q.loose (knows q) q.seat.me.1 q.kept slot
     (subst (λ k. length (knows q).hands ≤ k) (sym at₂) (calls.far f q o₂ j few false)))
@@ -422,7 +422,7 @@ overflow_sub-port g c =
     let place = ap (λ (u : Tally). u.box_got) c.peer.ensures ∙ peer_box_got p j
     (calls.few f p o j few) in
     let at = c.box_at-slot.ensures.at ∙ calls.in_slot_is f p o j few c.peer.result.box_got place in
-    let y : Load = plays.box_load j (knows p) in
+    let y : Load _ = plays.box_load j (knows p) in
     let there = calls.box_there f p o j few false c.box_at-slot.result at y k.0 in
     let q = c.bring_slot.new.port in let b = c.bring_slot.ensures in let v = b.seat.1 in
     let o₂ = calls.brought_owns f p q b.seat.0 v b.same.0 o in
@@ -430,19 +430,19 @@ overflow_sub-port g c =
     let was = ap (λ u. emptying_of (sole u.entries) j) v ∙ k.0 in
     let next : number y ≡ taken_by q j = k.1 ∙ ap (λ ps. (peer_in ps.items j).taken) (sym b.same.1)
     in let slot = c.box_at-slot.result in let w = plays.load_in slot p.seat.me.1 in
-    let then = subst (λ t. plays.got_boxed t c.empty_slot.new.seat.me c.store.new.seat.me)
+    let then = subst (λ t. plays.got_boxed t c.empty_slot-parcel.new.seat.me c.store.new.seat.me)
     (sym c.requires.told) c.store.ensures.2.1 in
-    let load : plays.box_load j (mine c.empty_slot.new.seat.me) ≡ y =
-    ap (λ m. plays.box_load j (mine m)) c.empty_slot.ensures.emptied
+    let load : plays.box_load j (mine c.empty_slot-parcel.new.seat.me) ≡ y =
+    ap (λ m. plays.box_load j (mine m)) c.empty_slot-parcel.ensures.emptied
     ∙ ap (λ u. plays.box_load j (sole u.entries)) v in
     let is = then.0 ∙ (λ i. (
       view (plays.with_got_box (load i ∷ [])
-          (plays.with_emptying j None (mine (c.empty_slot.ensures.emptied i))) ∷ []),
-      rest (c.empty_slot.ensures.emptied i).1,
+          (plays.with_emptying j None (mine (c.empty_slot-parcel.ensures.emptied i))) ∷ []),
+      rest (c.empty_slot-parcel.ensures.emptied i).1,
     )) in
-    let new = subst (λ (m : plays.Knowing). ¬ plays.Came (mine m) j (number y))
-    c.empty_slot.ensures.emptied
-    (subst (λ u. ¬ plays.Came (mine c.empty_slot.new.seat.me) j (number u)) load then.1) in
+    let new = subst (λ (m : plays.Knowing _). ¬ plays.Came (mine m) j (number y))
+    c.empty_slot-parcel.ensures.emptied
+    (subst (λ u. ¬ plays.Came (mine c.empty_slot-parcel.new.seat.me) j (number u)) load then.1) in
     let some = calls.emptied_hands f q o₂ j few c.store.new.seat.me slot w b.front y at₂ was is in
     omega arith
 
@@ -453,7 +453,7 @@ returns-clause-hands g c =
     let place = ap (λ (u : Tally). u.box_got) c.peer.ensures ∙ peer_box_got p j
     (calls.few f p o j few) in
     let at = c.box_at-slot.ensures.at ∙ calls.in_slot_is f p o j few c.peer.result.box_got place in
-    let y : Load = plays.box_load j (knows p) in
+    let y : Load _ = plays.box_load j (knows p) in
     let there = calls.box_there f p o j few false c.box_at-slot.result at y k.0 in
     let q = c.bring_slot.new.port in let b = c.bring_slot.ensures in let v = b.seat.1 in
     let o₂ = calls.brought_owns f p q b.seat.0 v b.same.0 o in
@@ -461,78 +461,78 @@ returns-clause-hands g c =
     let was = ap (λ u. emptying_of (sole u.entries) j) v ∙ k.0 in
     let next : number y ≡ taken_by q j = k.1 ∙ ap (λ ps. (peer_in ps.items j).taken) (sym b.same.1)
     in let slot = c.box_at-slot.result in let w = plays.load_in slot p.seat.me.1 in
-    let then = subst (λ t. plays.got_boxed t c.empty_slot.new.seat.me c.store.new.seat.me)
+    let then = subst (λ t. plays.got_boxed t c.empty_slot-parcel.new.seat.me c.store.new.seat.me)
     (sym c.requires.told) c.store.ensures.2.1 in
-    let load : plays.box_load j (mine c.empty_slot.new.seat.me) ≡ y =
-    ap (λ m. plays.box_load j (mine m)) c.empty_slot.ensures.emptied
+    let load : plays.box_load j (mine c.empty_slot-parcel.new.seat.me) ≡ y =
+    ap (λ m. plays.box_load j (mine m)) c.empty_slot-parcel.ensures.emptied
     ∙ ap (λ u. plays.box_load j (sole u.entries)) v in
     let is = then.0 ∙ (λ i. (
       view (plays.with_got_box (load i ∷ [])
-          (plays.with_emptying j None (mine (c.empty_slot.ensures.emptied i))) ∷ []),
-      rest (c.empty_slot.ensures.emptied i).1,
+          (plays.with_emptying j None (mine (c.empty_slot-parcel.ensures.emptied i))) ∷ []),
+      rest (c.empty_slot-parcel.ensures.emptied i).1,
     )) in
-    let new = subst (λ (m : plays.Knowing). ¬ plays.Came (mine m) j (number y))
-    c.empty_slot.ensures.emptied
-    (subst (λ u. ¬ plays.Came (mine c.empty_slot.new.seat.me) j (number u)) load then.1) in
+    let new = subst (λ (m : plays.Knowing _). ¬ plays.Came (mine m) j (number y))
+    c.empty_slot-parcel.ensures.emptied
+    (subst (λ u. ¬ plays.Came (mine c.empty_slot-parcel.new.seat.me) j (number u)) load then.1) in
     let some = calls.emptied_hands f q o₂ j few c.store.new.seat.me slot w b.front y at₂ was is in
     let same = b.same.3 in omega arith
 
 pub invariant_of-port-clause-alone : goal.invariant_of-port-clause-alone
 invariant_of-port-clause-alone g c =
     let q = c.bring_slot.new.port in let j = c.args.sender in
-    let then = subst (λ t. plays.got_boxed t c.empty_slot.new.seat.me c.store.new.seat.me)
+    let then = subst (λ t. plays.got_boxed t c.empty_slot-parcel.new.seat.me c.store.new.seat.me)
     (sym c.requires.told) c.store.ensures.2.1 in
     let is = then.0 ∙ ap (λ m. (
       view (plays.with_got_box (plays.box_load j (mine m) ∷ [])
           (plays.with_emptying j None (mine m)) ∷ []),
       rest m.1,
-    )) c.empty_slot.ensures.emptied in
+    )) c.empty_slot-parcel.ensures.emptied in
     subst plays.Alone (sym is) refl
 
 pub invariant_of-port-clause-named : goal.invariant_of-port-clause-named
 invariant_of-port-clause-named g c =
     let q = c.bring_slot.new.port in let j = c.args.sender in
-    let then = subst (λ t. plays.got_boxed t c.empty_slot.new.seat.me c.store.new.seat.me)
+    let then = subst (λ t. plays.got_boxed t c.empty_slot-parcel.new.seat.me c.store.new.seat.me)
     (sym c.requires.told) c.store.ensures.2.1 in
     let is = then.0 ∙ ap (λ m. (
       view (plays.with_got_box (plays.box_load j (mine m) ∷ [])
           (plays.with_emptying j None (mine m)) ∷ []),
       rest m.1,
-    )) c.empty_slot.ensures.emptied in
+    )) c.empty_slot-parcel.ensures.emptied in
     ap (λ m. (mine m).rank) is ∙ q.named
 
 pub invariant_of-port-clause-ends : goal.invariant_of-port-clause-ends
 invariant_of-port-clause-ends g c =
     let q = c.bring_slot.new.port in let j = c.args.sender in
-    let then = subst (λ t. plays.got_boxed t c.empty_slot.new.seat.me c.store.new.seat.me)
+    let then = subst (λ t. plays.got_boxed t c.empty_slot-parcel.new.seat.me c.store.new.seat.me)
     (sym c.requires.told) c.store.ensures.2.1 in
     let is = then.0 ∙ ap (λ m. (
       view (plays.with_got_box (plays.box_load j (mine m) ∷ [])
           (plays.with_emptying j None (mine m)) ∷ []),
       rest m.1,
-    )) c.empty_slot.ensures.emptied in
+    )) c.empty_slot-parcel.ensures.emptied in
     (ap (λ m. (mine m).receive) is ∙ q.ends.0, ap (λ m. (mine m).free) is ∙ q.ends.1)
 
 pub invariant_of-port-clause-missed : goal.invariant_of-port-clause-missed
 invariant_of-port-clause-missed g c =
     let q = c.bring_slot.new.port in let j = c.args.sender in
-    let then = subst (λ t. plays.got_boxed t c.empty_slot.new.seat.me c.store.new.seat.me)
+    let then = subst (λ t. plays.got_boxed t c.empty_slot-parcel.new.seat.me c.store.new.seat.me)
     (sym c.requires.told) c.store.ensures.2.1 in
     let is = then.0 ∙ ap (λ m. (
       view (plays.with_got_box (plays.box_load j (mine m) ∷ [])
           (plays.with_emptying j None (mine m)) ∷ []),
       rest m.1,
-    )) c.empty_slot.ensures.emptied in
+    )) c.empty_slot-parcel.ensures.emptied in
     (ap (λ m. (mine m).receive_missed) is ∙ q.missed.0, ap (λ m. (mine m).free_missed) is ∙ q.missed.1)
 
 pub invariant_of-port-clause-small : goal.invariant_of-port-clause-small
 invariant_of-port-clause-small g c =
     let q = c.bring_slot.new.port in let j = c.args.sender in
-    let then = subst (λ t. plays.got_boxed t c.empty_slot.new.seat.me c.store.new.seat.me)
+    let then = subst (λ t. plays.got_boxed t c.empty_slot-parcel.new.seat.me c.store.new.seat.me)
     (sym c.requires.told) c.store.ensures.2.1 in
     let is = then.0 ∙ ap (λ m. (
       view (plays.with_got_box (plays.box_load j (mine m) ∷ [])
           (plays.with_emptying j None (mine m)) ∷ []),
       rest m.1,
-    )) c.empty_slot.ensures.emptied in
+    )) c.empty_slot-parcel.ensures.emptied in
     subst (λ n. (q.receive.shadow ≤ n) × (q.receive.seen ≤ n) × (q.free.shadow ≤ n) × (q.free.seen ≤ n)) (sym (ap (λ m. length (mine m).hands) is)) q.small

@@ -4,6 +4,7 @@ use Rattle.std.specs.Prelude.{vec_capacity}
 use Rattle.atomic_table.specs.Table.{Allows, step, rest}
 use mathlib.Core.Option as maybe
 use Rattle.nm_chain.specs.Spoken.{view}
+use Rattle.nm_chain.specs.declared.table.parcels.Parcel.{Parcel}
 use Rattle.nm_cells.specs.declared.tallies.Tally.{Tally}
 use Rattle.nm_chain.specs.Rule.{Load, Rule, put_to, filling_of, sent_to}
 use Rattle.nm_chain.specs.Plays as plays
@@ -25,7 +26,7 @@ bring_slot-requires g c =
     let place = ap (λ (u : Tally). u.box_put) c.peer.ensures ∙ peer_box_put p j
     (calls.few f p o j few) in
     let at = c.box_at-slot.ensures.at ∙ calls.out_slot_is f p o j few c.peer.result.box_put place in
-    let none : Load = None in
+    let none : Load _ = None in
     let there = calls.box_there f p o j few true c.box_at-slot.result at none
     (ap to_fill c.requires.free) in
     record { once = there.0 }
@@ -37,7 +38,7 @@ store-requires g c =
     let place = ap (λ (u : Tally). u.box_put) c.peer.ensures ∙ peer_box_put p j
     (calls.few f p o j few) in
     let at = c.box_at-slot.ensures.at ∙ calls.out_slot_is f p o j few c.peer.result.box_put place in
-    let none : Load = None in
+    let none : Load _ = None in
     let there = calls.box_there f p o j few true c.box_at-slot.result at none
     (ap to_fill c.requires.free) in
     let q = c.bring_slot.new.port in let b = c.bring_slot.ensures in let v = b.seat.1 in
@@ -45,24 +46,25 @@ store-requires g c =
     let at₂ = at ∙ ap (λ u. next_box (sole u.entries) true j) (sym v) in
     let was = ap (λ u. filling_of (sole u.entries) j) v ∙ c.requires.free in
     let slot = c.box_at-slot.result in let w = plays.load_in slot p.seat.me.1 in
-    let y : Load = Some c.args.packet.now in
+    let y : Load _ = Some c.args.parcel.value in
     let id = f.board.shared.table_id in let z₀ = f.sizes.0 in let low = c.box_at-slot.ensures.low in
     let is_word = c.flag_word-word.ensures in
     let word : ℕ = c.flag_word-word.result in let inside : word < id.words = omega arith in
-    let me : plays.Knowing = (q.seat.me.0, (slot, y) ∷ rest q.seat.me.1) in
-    let x : ℕ = c.args.packet.now.seq + 1 in let k = c.requires.packet in
+    let me : plays.Knowing _ = (q.seat.me.0, (slot, y) ∷ rest q.seat.me.1) in
+    let x : ℕ = c.deref.result.now.seq + 1 in let k = c.requires.parcel in
+    let same = ap (λ (u : Parcel _). u.seq) c.deref.ensures in
     let next = k.1 ∙ ap (λ u. sent_to j (sole u.entries).put_box (sole u.entries).put) (sym v) in (
-      c.fill_slot.ensures.seat.0 ∙ b.seat.0 ∙ o.0,
+      c.fill_slot-spare.ensures.seat.0 ∙ b.seat.0 ∙ o.0,
       inside,
-      subst (λ m. Allows (Rule f.board.shared.key) id.slots c.fill_slot.new.seat.id m word
+      subst (λ m. Allows (Rule g.I.Item.boxable f.board.shared.key) id.slots c.fill_slot-spare.new.seat.id m word
           (λ _. x) (plays.boxed g.T.BoxStep.peer (step id.slots word x 0 maybe.none) m))
-          (sym c.fill_slot.ensures.filled)
-          (subst (λ t. Allows (Rule f.board.shared.key) id.slots c.fill_slot.new.seat.id me word
+          (sym c.fill_slot-spare.ensures.filled)
+          (subst (λ t. Allows (Rule g.I.Item.boxable f.board.shared.key) id.slots c.fill_slot-spare.new.seat.id me word
           (λ _. x) (plays.boxed t (step id.slots word x 0 maybe.none) me)) c.requires.told
-          (fill_allowed f.board.shared.key f.ranks f.each id.slots c.fill_slot.new.seat.id me
+          (fill_allowed _ f.board.shared.key f.ranks f.each id.slots c.fill_slot-spare.new.seat.id me
           q.alone f.shape.0 f.shape.1 p.rank (q.named ∙ b.same.0) o.1 j few c.peer.result.box_put
           word y x (rest q.seat.me.1) (ap (λ t. (t, y) ∷ rest q.seat.me.1) c.box_at-slot.ensures.at)
-          (let e : c.args.packet.now.seq + 1 ≡ suc c.args.packet.now.seq = omega arith in e)
+          (let e : c.deref.result.now.seq + 1 ≡ suc c.args.parcel.value.seq = omega arith in e)
           (place ∙ ap (λ u. length (put_to j (sole u.entries).put_box)) (sym v))
           (is_word ∙ ap (λ k. 4 * f.ranks + k) c.box_at-slot.ensures.at) was (ap suc k.0) c.requires.fits next)),
     )
@@ -74,7 +76,7 @@ count_boxed-requires-clause-to g c =
     let place = ap (λ (u : Tally). u.box_put) c.peer.ensures ∙ peer_box_put p j
     (calls.few f p o j few) in
     let at = c.box_at-slot.ensures.at ∙ calls.out_slot_is f p o j few c.peer.result.box_put place in
-    let none : Load = None in
+    let none : Load _ = None in
     let there = calls.box_there f p o j few true c.box_at-slot.result at none
     (ap to_fill c.requires.free) in
     let q = c.bring_slot.new.port in let b = c.bring_slot.ensures in let v = b.seat.1 in
@@ -82,7 +84,7 @@ count_boxed-requires-clause-to g c =
     let at₂ = at ∙ ap (λ u. next_box (sole u.entries) true j) (sym v) in
     let was = ap (λ u. filling_of (sole u.entries) j) v ∙ c.requires.free in
     let slot = c.box_at-slot.result in let w = plays.load_in slot p.seat.me.1 in
-    let y : Load = Some c.args.packet.now in
+    let y : Load _ = Some c.args.parcel.value in
     peer_low q j (calls.few f q o₂ j few)
 
 pub count_boxed-requires-clause-room : goal.count_boxed-requires-clause-room
@@ -92,7 +94,7 @@ count_boxed-requires-clause-room g c =
     let place = ap (λ (u : Tally). u.box_put) c.peer.ensures ∙ peer_box_put p j
     (calls.few f p o j few) in
     let at = c.box_at-slot.ensures.at ∙ calls.out_slot_is f p o j few c.peer.result.box_put place in
-    let none : Load = None in
+    let none : Load _ = None in
     let there = calls.box_there f p o j few true c.box_at-slot.result at none
     (ap to_fill c.requires.free) in
     let q = c.bring_slot.new.port in let b = c.bring_slot.ensures in let v = b.seat.1 in
@@ -100,8 +102,8 @@ count_boxed-requires-clause-room g c =
     let at₂ = at ∙ ap (λ u. next_box (sole u.entries) true j) (sym v) in
     let was = ap (λ u. filling_of (sole u.entries) j) v ∙ c.requires.free in
     let slot = c.box_at-slot.result in let w = plays.load_in slot p.seat.me.1 in
-    let y : Load = Some c.args.packet.now in
-    (calls.sent_room f q o₂ j few y (c.requires.packet.1
+    let y : Load _ = Some c.args.parcel.value in
+    (calls.sent_room f q o₂ j few y (c.requires.parcel.1
     ∙ ap (λ u. sent_to j (sole u.entries).put_box (sole u.entries).put) (sym v))).0
 
 pub count_boxed-requires-clause-box_room : goal.count_boxed-requires-clause-box_room
@@ -111,7 +113,7 @@ count_boxed-requires-clause-box_room g c =
     let place = ap (λ (u : Tally). u.box_put) c.peer.ensures ∙ peer_box_put p j
     (calls.few f p o j few) in
     let at = c.box_at-slot.ensures.at ∙ calls.out_slot_is f p o j few c.peer.result.box_put place in
-    let none : Load = None in
+    let none : Load _ = None in
     let there = calls.box_there f p o j few true c.box_at-slot.result at none
     (ap to_fill c.requires.free) in
     let q = c.bring_slot.new.port in let b = c.bring_slot.ensures in let v = b.seat.1 in
@@ -119,8 +121,8 @@ count_boxed-requires-clause-box_room g c =
     let at₂ = at ∙ ap (λ u. next_box (sole u.entries) true j) (sym v) in
     let was = ap (λ u. filling_of (sole u.entries) j) v ∙ c.requires.free in
     let slot = c.box_at-slot.result in let w = plays.load_in slot p.seat.me.1 in
-    let y : Load = Some c.args.packet.now in
-    (calls.sent_room f q o₂ j few y (c.requires.packet.1
+    let y : Load _ = Some c.args.parcel.value in
+    (calls.sent_room f q o₂ j few y (c.requires.parcel.1
     ∙ ap (λ u. sent_to j (sole u.entries).put_box (sole u.entries).put) (sym v))).1
 
 pub invariant_of-port-clause-carries : goal.invariant_of-port-clause-carries
@@ -130,7 +132,7 @@ invariant_of-port-clause-carries g c =
     let place = ap (λ (u : Tally). u.box_put) c.peer.ensures ∙ peer_box_put p j
     (calls.few f p o j few) in
     let at = c.box_at-slot.ensures.at ∙ calls.out_slot_is f p o j few c.peer.result.box_put place in
-    let none : Load = None in
+    let none : Load _ = None in
     let there = calls.box_there f p o j few true c.box_at-slot.result at none
     (ap to_fill c.requires.free) in
     let q = c.bring_slot.new.port in let b = c.bring_slot.ensures in let v = b.seat.1 in
@@ -138,13 +140,13 @@ invariant_of-port-clause-carries g c =
     let at₂ = at ∙ ap (λ u. next_box (sole u.entries) true j) (sym v) in
     let was = ap (λ u. filling_of (sole u.entries) j) v ∙ c.requires.free in
     let slot = c.box_at-slot.result in let w = plays.load_in slot p.seat.me.1 in
-    let y : Load = Some c.args.packet.now in
-    let is = subst (λ t. plays.put_boxed t c.fill_slot.new.seat.me c.store.new.seat.me)
+    let y : Load _ = Some c.args.parcel.value in
+    let is = subst (λ t. plays.put_boxed t c.fill_slot-spare.new.seat.me c.store.new.seat.me)
     (sym c.requires.told) c.store.ensures.2.1 ∙ ap (λ m. (
       view (plays.with_put_box ((j, plays.first_load m.1) ∷ [])
           (plays.with_filling j false (mine m)) ∷ []),
       rest m.1,
-    )) c.fill_slot.ensures.filled in
+    )) c.fill_slot-spare.ensures.filled in
     let some = calls.filled_hands f q o₂ j few c.store.new.seat.me slot w b.front y at₂ was is in
     calls.filled_carries f q o₂ j few c.store.new.seat.me slot w b.front y at₂ was is c.remove.new.self.items
     (vec_capacity c.remove.new.self)
@@ -158,7 +160,7 @@ invariant_of-port-clause-boxes g c =
     let place = ap (λ (u : Tally). u.box_put) c.peer.ensures ∙ peer_box_put p j
     (calls.few f p o j few) in
     let at = c.box_at-slot.ensures.at ∙ calls.out_slot_is f p o j few c.peer.result.box_put place in
-    let none : Load = None in
+    let none : Load _ = None in
     let there = calls.box_there f p o j few true c.box_at-slot.result at none
     (ap to_fill c.requires.free) in
     let q = c.bring_slot.new.port in let b = c.bring_slot.ensures in let v = b.seat.1 in
@@ -166,13 +168,13 @@ invariant_of-port-clause-boxes g c =
     let at₂ = at ∙ ap (λ u. next_box (sole u.entries) true j) (sym v) in
     let was = ap (λ u. filling_of (sole u.entries) j) v ∙ c.requires.free in
     let slot = c.box_at-slot.result in let w = plays.load_in slot p.seat.me.1 in
-    let y : Load = Some c.args.packet.now in
-    let is = subst (λ t. plays.put_boxed t c.fill_slot.new.seat.me c.store.new.seat.me)
+    let y : Load _ = Some c.args.parcel.value in
+    let is = subst (λ t. plays.put_boxed t c.fill_slot-spare.new.seat.me c.store.new.seat.me)
     (sym c.requires.told) c.store.ensures.2.1 ∙ ap (λ m. (
       view (plays.with_put_box ((j, plays.first_load m.1) ∷ [])
           (plays.with_filling j false (mine m)) ∷ []),
       rest m.1,
-    )) c.fill_slot.ensures.filled in
+    )) c.fill_slot-spare.ensures.filled in
     calls.filled_boxes f q o₂ j few c.store.new.seat.me slot w b.front y at₂ was is
 
 pub invariant_of-port-clause-counts : goal.invariant_of-port-clause-counts
@@ -182,7 +184,7 @@ invariant_of-port-clause-counts g c =
     let place = ap (λ (u : Tally). u.box_put) c.peer.ensures ∙ peer_box_put p j
     (calls.few f p o j few) in
     let at = c.box_at-slot.ensures.at ∙ calls.out_slot_is f p o j few c.peer.result.box_put place in
-    let none : Load = None in
+    let none : Load _ = None in
     let there = calls.box_there f p o j few true c.box_at-slot.result at none
     (ap to_fill c.requires.free) in
     let q = c.bring_slot.new.port in let b = c.bring_slot.ensures in let v = b.seat.1 in
@@ -190,13 +192,13 @@ invariant_of-port-clause-counts g c =
     let at₂ = at ∙ ap (λ u. next_box (sole u.entries) true j) (sym v) in
     let was = ap (λ u. filling_of (sole u.entries) j) v ∙ c.requires.free in
     let slot = c.box_at-slot.result in let w = plays.load_in slot p.seat.me.1 in
-    let y : Load = Some c.args.packet.now in
-    let is = subst (λ t. plays.put_boxed t c.fill_slot.new.seat.me c.store.new.seat.me)
+    let y : Load _ = Some c.args.parcel.value in
+    let is = subst (λ t. plays.put_boxed t c.fill_slot-spare.new.seat.me c.store.new.seat.me)
     (sym c.requires.told) c.store.ensures.2.1 ∙ ap (λ m. (
       view (plays.with_put_box ((j, plays.first_load m.1) ∷ [])
           (plays.with_filling j false (mine m)) ∷ []),
       rest m.1,
-    )) c.fill_slot.ensures.filled in
+    )) c.fill_slot-spare.ensures.filled in
     calls.filled_counts f q o₂ j few c.store.new.seat.me slot w b.front y at₂ was is c.count_boxed.new.peers.items
     c.count_boxed.ensures
 
@@ -207,7 +209,7 @@ returns-clause-stays g c =
     let place = ap (λ (u : Tally). u.box_put) c.peer.ensures ∙ peer_box_put p j
     (calls.few f p o j few) in
     let at = c.box_at-slot.ensures.at ∙ calls.out_slot_is f p o j few c.peer.result.box_put place in
-    let none : Load = None in
+    let none : Load _ = None in
     let there = calls.box_there f p o j few true c.box_at-slot.result at none
     (ap to_fill c.requires.free) in
     let q = c.bring_slot.new.port in let b = c.bring_slot.ensures in let v = b.seat.1 in
@@ -215,16 +217,16 @@ returns-clause-stays g c =
     let at₂ = at ∙ ap (λ u. next_box (sole u.entries) true j) (sym v) in
     let was = ap (λ u. filling_of (sole u.entries) j) v ∙ c.requires.free in
     let slot = c.box_at-slot.result in let w = plays.load_in slot p.seat.me.1 in
-    let y : Load = Some c.args.packet.now in
-    let is = subst (λ t. plays.put_boxed t c.fill_slot.new.seat.me c.store.new.seat.me)
+    let y : Load _ = Some c.args.parcel.value in
+    let is = subst (λ t. plays.put_boxed t c.fill_slot-spare.new.seat.me c.store.new.seat.me)
     (sym c.requires.told) c.store.ensures.2.1 ∙ ap (λ m. (
       view (plays.with_put_box ((j, plays.first_load m.1) ∷ [])
           (plays.with_filling j false (mine m)) ∷ []),
       rest m.1,
-    )) c.fill_slot.ensures.filled in
+    )) c.fill_slot-spare.ensures.filled in
     let s = calls.peers_stay one_boxed j q.peers.items
     (peer_low q j (calls.few f q o₂ j few)) (λ u. refl) (λ u. refl) in (
-      calls.owns_then f q o₂ j few (c.store.ensures.0 ∙ c.fill_slot.ensures.seat.0 ∙ b.seat.0 ∙ o.0)
+      calls.owns_then f q o₂ j few (c.store.ensures.0 ∙ c.fill_slot-spare.ensures.seat.0 ∙ b.seat.0 ∙ o.0)
           c.store.new.seat.me
           (ap (λ m. (mine m).ranks) is) (ap (λ m. (mine m).each) is)
           (ap (λ m. length (mine m).hands) is)
@@ -247,7 +249,7 @@ returns-clause-holding g c =
     let place = ap (λ (u : Tally). u.box_put) c.peer.ensures ∙ peer_box_put p j
     (calls.few f p o j few) in
     let at = c.box_at-slot.ensures.at ∙ calls.out_slot_is f p o j few c.peer.result.box_put place in
-    let none : Load = None in
+    let none : Load _ = None in
     let there = calls.box_there f p o j few true c.box_at-slot.result at none
     (ap to_fill c.requires.free) in
     let q = c.bring_slot.new.port in let b = c.bring_slot.ensures in let v = b.seat.1 in
@@ -255,13 +257,13 @@ returns-clause-holding g c =
     let at₂ = at ∙ ap (λ u. next_box (sole u.entries) true j) (sym v) in
     let was = ap (λ u. filling_of (sole u.entries) j) v ∙ c.requires.free in
     let slot = c.box_at-slot.result in let w = plays.load_in slot p.seat.me.1 in
-    let y : Load = Some c.args.packet.now in
-    let is = subst (λ t. plays.put_boxed t c.fill_slot.new.seat.me c.store.new.seat.me)
+    let y : Load _ = Some c.args.parcel.value in
+    let is = subst (λ t. plays.put_boxed t c.fill_slot-spare.new.seat.me c.store.new.seat.me)
     (sym c.requires.told) c.store.ensures.2.1 ∙ ap (λ m. (
       view (plays.with_put_box ((j, plays.first_load m.1) ∷ [])
           (plays.with_filling j false (mine m)) ∷ []),
       rest m.1,
-    )) c.fill_slot.ensures.filled in
+    )) c.fill_slot-spare.ensures.filled in
     calls.filled_holds f q o₂ j few c.store.new.seat.me slot w b.front y at₂ was is ∙ b.holding
 
 pub invariant_of-port-clause-kept : goal.invariant_of-port-clause-kept
@@ -271,7 +273,7 @@ invariant_of-port-clause-kept g c =
     let place = ap (λ (u : Tally). u.box_put) c.peer.ensures ∙ peer_box_put p j
     (calls.few f p o j few) in
     let at = c.box_at-slot.ensures.at ∙ calls.out_slot_is f p o j few c.peer.result.box_put place in
-    let none : Load = None in
+    let none : Load _ = None in
     let there = calls.box_there f p o j few true c.box_at-slot.result at none
     (ap to_fill c.requires.free) in
     let q = c.bring_slot.new.port in let b = c.bring_slot.ensures in let v = b.seat.1 in
@@ -279,14 +281,14 @@ invariant_of-port-clause-kept g c =
     let at₂ = at ∙ ap (λ u. next_box (sole u.entries) true j) (sym v) in
     let was = ap (λ u. filling_of (sole u.entries) j) v ∙ c.requires.free in
     let slot = c.box_at-slot.result in let w = plays.load_in slot p.seat.me.1 in
-    let y : Load = Some c.args.packet.now in
-    let is = subst (λ t. plays.put_boxed t c.fill_slot.new.seat.me c.store.new.seat.me)
+    let y : Load _ = Some c.args.parcel.value in
+    let is = subst (λ t. plays.put_boxed t c.fill_slot-spare.new.seat.me c.store.new.seat.me)
     (sym c.requires.told) c.store.ensures.2.1 ∙ ap (λ m. (
       view (plays.with_put_box ((j, plays.first_load m.1) ∷ [])
           (plays.with_filling j false (mine m)) ∷ []),
       rest m.1,
-    )) c.fill_slot.ensures.filled in
-    subst (λ (m : plays.Knowing). AreKept q.loose (mine m) m.1) (sym is)
+    )) c.fill_slot-spare.ensures.filled in
+    subst (λ (m : plays.Knowing _). AreKept q.loose (mine m) m.1) (sym is)
     (kept_pop q.loose (knows q) (rest q.seat.me.1) slot w
     (far_apart q.loose (knows q) q.seat.me.1 q.kept slot
     (subst (λ k. length (knows q).hands ≤ k) (sym at₂) (calls.far f q o₂ j few true)))
@@ -299,7 +301,7 @@ overflow_sub-port g c =
     let place = ap (λ (u : Tally). u.box_put) c.peer.ensures ∙ peer_box_put p j
     (calls.few f p o j few) in
     let at = c.box_at-slot.ensures.at ∙ calls.out_slot_is f p o j few c.peer.result.box_put place in
-    let none : Load = None in
+    let none : Load _ = None in
     let there = calls.box_there f p o j few true c.box_at-slot.result at none
     (ap to_fill c.requires.free) in
     let q = c.bring_slot.new.port in let b = c.bring_slot.ensures in let v = b.seat.1 in
@@ -307,13 +309,13 @@ overflow_sub-port g c =
     let at₂ = at ∙ ap (λ u. next_box (sole u.entries) true j) (sym v) in
     let was = ap (λ u. filling_of (sole u.entries) j) v ∙ c.requires.free in
     let slot = c.box_at-slot.result in let w = plays.load_in slot p.seat.me.1 in
-    let y : Load = Some c.args.packet.now in
-    let is = subst (λ t. plays.put_boxed t c.fill_slot.new.seat.me c.store.new.seat.me)
+    let y : Load _ = Some c.args.parcel.value in
+    let is = subst (λ t. plays.put_boxed t c.fill_slot-spare.new.seat.me c.store.new.seat.me)
     (sym c.requires.told) c.store.ensures.2.1 ∙ ap (λ m. (
       view (plays.with_put_box ((j, plays.first_load m.1) ∷ [])
           (plays.with_filling j false (mine m)) ∷ []),
       rest m.1,
-    )) c.fill_slot.ensures.filled in
+    )) c.fill_slot-spare.ensures.filled in
     let some = calls.filled_hands f q o₂ j few c.store.new.seat.me slot w b.front y at₂ was is in
     omega arith
 
@@ -324,7 +326,7 @@ returns-clause-hands g c =
     let place = ap (λ (u : Tally). u.box_put) c.peer.ensures ∙ peer_box_put p j
     (calls.few f p o j few) in
     let at = c.box_at-slot.ensures.at ∙ calls.out_slot_is f p o j few c.peer.result.box_put place in
-    let none : Load = None in
+    let none : Load _ = None in
     let there = calls.box_there f p o j few true c.box_at-slot.result at none
     (ap to_fill c.requires.free) in
     let q = c.bring_slot.new.port in let b = c.bring_slot.ensures in let v = b.seat.1 in
@@ -332,13 +334,13 @@ returns-clause-hands g c =
     let at₂ = at ∙ ap (λ u. next_box (sole u.entries) true j) (sym v) in
     let was = ap (λ u. filling_of (sole u.entries) j) v ∙ c.requires.free in
     let slot = c.box_at-slot.result in let w = plays.load_in slot p.seat.me.1 in
-    let y : Load = Some c.args.packet.now in
-    let is = subst (λ t. plays.put_boxed t c.fill_slot.new.seat.me c.store.new.seat.me)
+    let y : Load _ = Some c.args.parcel.value in
+    let is = subst (λ t. plays.put_boxed t c.fill_slot-spare.new.seat.me c.store.new.seat.me)
     (sym c.requires.told) c.store.ensures.2.1 ∙ ap (λ m. (
       view (plays.with_put_box ((j, plays.first_load m.1) ∷ [])
           (plays.with_filling j false (mine m)) ∷ []),
       rest m.1,
-    )) c.fill_slot.ensures.filled in
+    )) c.fill_slot-spare.ensures.filled in
     let some = calls.filled_hands f q o₂ j few c.store.new.seat.me slot w b.front y at₂ was is in
     let same = b.same.3 in omega arith
 
@@ -349,7 +351,7 @@ returns-clause-put g c =
     let place = ap (λ (u : Tally). u.box_put) c.peer.ensures ∙ peer_box_put p j
     (calls.few f p o j few) in
     let at = c.box_at-slot.ensures.at ∙ calls.out_slot_is f p o j few c.peer.result.box_put place in
-    let none : Load = None in
+    let none : Load _ = None in
     let there = calls.box_there f p o j few true c.box_at-slot.result at none
     (ap to_fill c.requires.free) in
     let q = c.bring_slot.new.port in let b = c.bring_slot.ensures in let v = b.seat.1 in
@@ -357,66 +359,66 @@ returns-clause-put g c =
     let at₂ = at ∙ ap (λ u. next_box (sole u.entries) true j) (sym v) in
     let was = ap (λ u. filling_of (sole u.entries) j) v ∙ c.requires.free in
     let slot = c.box_at-slot.result in let w = plays.load_in slot p.seat.me.1 in
-    let y : Load = Some c.args.packet.now in
-    let is = subst (λ t. plays.put_boxed t c.fill_slot.new.seat.me c.store.new.seat.me)
+    let y : Load _ = Some c.args.parcel.value in
+    let is = subst (λ t. plays.put_boxed t c.fill_slot-spare.new.seat.me c.store.new.seat.me)
     (sym c.requires.told) c.store.ensures.2.1 ∙ ap (λ m. (
       view (plays.with_put_box ((j, plays.first_load m.1) ∷ [])
           (plays.with_filling j false (mine m)) ∷ []),
       rest m.1,
-    )) c.fill_slot.ensures.filled in
+    )) c.fill_slot-spare.ensures.filled in
     ap mine is ∙ ap (λ u. plays.with_put_box ((j, y) ∷ []) (plays.with_filling j false (sole u.entries))) v
 
 pub invariant_of-port-clause-alone : goal.invariant_of-port-clause-alone
 invariant_of-port-clause-alone g c =
     let q = c.bring_slot.new.port in let j = c.args.to in
-    let is = subst (λ t. plays.put_boxed t c.fill_slot.new.seat.me c.store.new.seat.me)
+    let is = subst (λ t. plays.put_boxed t c.fill_slot-spare.new.seat.me c.store.new.seat.me)
     (sym c.requires.told) c.store.ensures.2.1 ∙ ap (λ m. (
       view (plays.with_put_box ((j, plays.first_load m.1) ∷ [])
           (plays.with_filling j false (mine m)) ∷ []),
       rest m.1,
-    )) c.fill_slot.ensures.filled in
+    )) c.fill_slot-spare.ensures.filled in
     subst plays.Alone (sym is) refl
 
 pub invariant_of-port-clause-named : goal.invariant_of-port-clause-named
 invariant_of-port-clause-named g c =
     let q = c.bring_slot.new.port in let j = c.args.to in
-    let is = subst (λ t. plays.put_boxed t c.fill_slot.new.seat.me c.store.new.seat.me)
+    let is = subst (λ t. plays.put_boxed t c.fill_slot-spare.new.seat.me c.store.new.seat.me)
     (sym c.requires.told) c.store.ensures.2.1 ∙ ap (λ m. (
       view (plays.with_put_box ((j, plays.first_load m.1) ∷ [])
           (plays.with_filling j false (mine m)) ∷ []),
       rest m.1,
-    )) c.fill_slot.ensures.filled in
+    )) c.fill_slot-spare.ensures.filled in
     ap (λ m. (mine m).rank) is ∙ q.named
 
 pub invariant_of-port-clause-ends : goal.invariant_of-port-clause-ends
 invariant_of-port-clause-ends g c =
     let q = c.bring_slot.new.port in let j = c.args.to in
-    let is = subst (λ t. plays.put_boxed t c.fill_slot.new.seat.me c.store.new.seat.me)
+    let is = subst (λ t. plays.put_boxed t c.fill_slot-spare.new.seat.me c.store.new.seat.me)
     (sym c.requires.told) c.store.ensures.2.1 ∙ ap (λ m. (
       view (plays.with_put_box ((j, plays.first_load m.1) ∷ [])
           (plays.with_filling j false (mine m)) ∷ []),
       rest m.1,
-    )) c.fill_slot.ensures.filled in
+    )) c.fill_slot-spare.ensures.filled in
     (ap (λ m. (mine m).receive) is ∙ q.ends.0, ap (λ m. (mine m).free) is ∙ q.ends.1)
 
 pub invariant_of-port-clause-missed : goal.invariant_of-port-clause-missed
 invariant_of-port-clause-missed g c =
     let q = c.bring_slot.new.port in let j = c.args.to in
-    let is = subst (λ t. plays.put_boxed t c.fill_slot.new.seat.me c.store.new.seat.me)
+    let is = subst (λ t. plays.put_boxed t c.fill_slot-spare.new.seat.me c.store.new.seat.me)
     (sym c.requires.told) c.store.ensures.2.1 ∙ ap (λ m. (
       view (plays.with_put_box ((j, plays.first_load m.1) ∷ [])
           (plays.with_filling j false (mine m)) ∷ []),
       rest m.1,
-    )) c.fill_slot.ensures.filled in
+    )) c.fill_slot-spare.ensures.filled in
     (ap (λ m. (mine m).receive_missed) is ∙ q.missed.0, ap (λ m. (mine m).free_missed) is ∙ q.missed.1)
 
 pub invariant_of-port-clause-small : goal.invariant_of-port-clause-small
 invariant_of-port-clause-small g c =
     let q = c.bring_slot.new.port in let j = c.args.to in
-    let is = subst (λ t. plays.put_boxed t c.fill_slot.new.seat.me c.store.new.seat.me)
+    let is = subst (λ t. plays.put_boxed t c.fill_slot-spare.new.seat.me c.store.new.seat.me)
     (sym c.requires.told) c.store.ensures.2.1 ∙ ap (λ m. (
       view (plays.with_put_box ((j, plays.first_load m.1) ∷ [])
           (plays.with_filling j false (mine m)) ∷ []),
       rest m.1,
-    )) c.fill_slot.ensures.filled in
+    )) c.fill_slot-spare.ensures.filled in
     subst (λ n. (q.receive.shadow ≤ n) × (q.receive.seen ≤ n) × (q.free.shadow ≤ n) × (q.free.seen ≤ n)) (sym (ap (λ m. length (mine m).hands) is)) q.small

@@ -29,12 +29,12 @@ load-found-requires g c = let f = c.args.f.now in let p = c.args.port.now in
     (calls.few f p o j few) in (
       o.0,
       low,
-      subst (λ t. Allows (Rule f.board.shared.key) id.slots p.seat.id p.seat.me word (λ u. u)
+      subst (λ t. Allows (Rule g.I.Item.boxable f.board.shared.key) id.slots p.seat.id p.seat.me word (λ u. u)
           (plays.looked_in t g.T.BoxStep.awaited (step id.slots word 0 0 maybe.none) p.seat.me))
           c.requires.told.0
-          (subst (λ a. Allows (Rule f.board.shared.key) id.slots p.seat.id p.seat.me word (λ u. u)
+          (subst (λ a. Allows (Rule g.I.Item.boxable f.board.shared.key) id.slots p.seat.id p.seat.me word (λ u. u)
           (plays.looked_in j a (step id.slots word 0 0 maybe.none) p.seat.me)) c.requires.told.1
-          (look_in_allowed f.board.shared.key f.ranks f.each id.slots p.seat.id p.seat.me p.alone
+          (look_in_allowed _ f.board.shared.key f.ranks f.each id.slots p.seat.id p.seat.me p.alone
           f.shape.0 f.shape.1 p.rank p.named o.1 j few place word (taken_by p j) at
           (is_word ∙ ap (λ k. 4 * f.ranks + k) b.at))),
     )
@@ -80,7 +80,7 @@ invariant_of-port-clause-boxes g c =
     let other = c.if-found-peer.true in
     let is = then.1 (λ hit. other (let z : c.load-found.result ≡ c.peer-peer.result.taken + 1 =
     omega arith in z)) in
-    subst (λ (m : plays.Knowing). HoldsBoxes (mine m) m.1) (sym is) p.boxes
+    subst (λ (m : plays.Knowing _). HoldsBoxes (mine m) m.1) (sym is) p.boxes
 
 pub invariant_of-port-clause-counts : goal.invariant_of-port-clause-counts
 invariant_of-port-clause-counts g c =
@@ -307,7 +307,7 @@ invariant_of-port-clause-kept g c =
     let other = c.if-found-peer.true in
     let is = then.1 (λ hit. other (let z : c.load-found.result ≡ c.peer-peer.result.taken + 1 =
     omega arith in z)) in
-    subst (λ (m : plays.Knowing). AreKept p.loose (mine m) m.1) (sym is) p.kept
+    subst (λ (m : plays.Knowing _). AreKept p.loose (mine m) m.1) (sym is) p.kept
 
 pub invariant_of-port-2-clause-kept : goal.invariant_of-port-2-clause-kept
 invariant_of-port-2-clause-kept g c =
@@ -364,7 +364,7 @@ returns-then-found-peer-clause-holding g c =
     let other = c.if-found-peer.true in
     let is = then.1 (λ hit. other (let z : c.load-found.result ≡ c.peer-peer.result.taken + 1 =
     omega arith in z)) in
-    ap (λ (m : plays.Knowing). held_in (length (mine m).hands) m.1) is
+    ap (λ (m : plays.Knowing _). held_in (length (mine m).hands) m.1) is
 
 pub returns-clause-found : goal.returns-clause-found
 returns-clause-found g c _ =

@@ -31,9 +31,9 @@ load-found-requires g c = let f = c.args.f.now in let p = c.args.port.now in
     (calls.few f p o c.args.to few) in (
       o.0,
       low,
-      subst (λ t. Allows (Rule f.board.shared.key) id.slots p.seat.id p.seat.me word (λ u. u)
+      subst (λ t. Allows (Rule g.I.Item.boxable f.board.shared.key) id.slots p.seat.id p.seat.me word (λ u. u)
           (plays.looked_out t (step id.slots word 0 0 maybe.none) p.seat.me)) c.requires.told
-          (look_out_allowed f.board.shared.key f.ranks f.each id.slots p.seat.id p.seat.me p.alone
+          (look_out_allowed _ f.board.shared.key f.ranks f.each id.slots p.seat.id p.seat.me p.alone
           f.shape.0 f.shape.1 p.rank p.named o.1 c.args.to few place word at
           (is_word ∙ ap (λ k. 4 * f.ranks + k) b.at)),
     )
@@ -56,7 +56,7 @@ invariant_of-port-clause-boxes g c =
     c.flag_word-word.result 0 0 maybe.none) p.seat.me c.load-found.result
     c.load-found.new.seat.me) (sym c.requires.told) c.load-found.ensures.2.1 in
     let some = c.if-found-ne0.true in let is = then.1 (omega arith) in
-    subst (λ (m : plays.Knowing). HoldsBoxes (mine m) m.1) (sym is) p.boxes
+    subst (λ (m : plays.Knowing _). HoldsBoxes (mine m) m.1) (sym is) p.boxes
 
 pub invariant_of-port-clause-counts : goal.invariant_of-port-clause-counts
 invariant_of-port-clause-counts g c =
@@ -239,7 +239,7 @@ invariant_of-port-clause-kept g c =
     c.flag_word-word.result 0 0 maybe.none) p.seat.me c.load-found.result
     c.load-found.new.seat.me) (sym c.requires.told) c.load-found.ensures.2.1 in
     let some = c.if-found-ne0.true in let is = then.1 (omega arith) in
-    subst (λ (m : plays.Knowing). AreKept p.loose (mine m) m.1) (sym is) p.kept
+    subst (λ (m : plays.Knowing _). AreKept p.loose (mine m) m.1) (sym is) p.kept
 
 pub invariant_of-port-2-clause-kept : goal.invariant_of-port-2-clause-kept
 invariant_of-port-2-clause-kept g c =
@@ -283,7 +283,7 @@ returns-then-found-ne0-clause-holding g c =
     c.flag_word-word.result 0 0 maybe.none) p.seat.me c.load-found.result
     c.load-found.new.seat.me) (sym c.requires.told) c.load-found.ensures.2.1 in
     let some = c.if-found-ne0.true in let is = then.1 (omega arith) in
-    ap (λ (m : plays.Knowing). held_in (length (mine m).hands) m.1) is
+    ap (λ (m : plays.Knowing _). held_in (length (mine m).hands) m.1) is
 
 pub returns-clause-free : goal.returns-clause-free
 returns-clause-free g c _ =

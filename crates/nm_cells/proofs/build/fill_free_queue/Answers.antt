@@ -14,7 +14,7 @@ use Rattle.nm_cells.proofs.PortLemmas.{idle}
 use Rattle.nm_cells.proofs.build.fill_free_queue.Goals as goal
 
 pub loop-cell-preserved : goal.loop-cell-preserved
-loop-cell-preserved c = let f = c.args.f.now in let h = c.loop-cell.invariant in
+loop-cell-preserved g c = let f = c.args.f.now in let h = c.loop-cell.invariant in
     let p = c.loop-cell.port in let q = c.loose.new.self in let u = c.put_home.new.port in
     let free = c.in-Some.ensures.some in let same = c.loose.ensures.same in
     let e = c.put_home.ensures in let k = c.in-Some.cell.number in let r = c.args.port.now.rank in
@@ -37,7 +37,7 @@ loop-cell-preserved c = let f = c.args.f.now in let h = c.loop-cell.invariant in
     )
 
 pub returns : goal.returns
-returns c = let f = c.args.f.now in let h = c.loop-cell.invariant in let p = c.loop-cell.port in
+returns g c = let f = c.args.f.now in let h = c.loop-cell.invariant in let p = c.loop-cell.port in
     let q = c.loose.new.self in let same = c.loose.ensures.same in
     let n = f.ranks in let m = f.each in let r = c.args.port.now.rank in
     let gone = c.in_default.ensures.none.0 refl in

@@ -8,7 +8,7 @@ use Rattle.nm_cells.proofs.BeginLemmas.{row_of, in_row, row_low, fresh_then}
 use Rattle.nm_cells.proofs.build.loosen.Goals as goal
 
 pub loop-cell-init : goal.loop-cell-init
-loop-cell-init c = let q = c.requires in let e = q.first.1 in (
+loop-cell-init g c = let q = c.requires in let e = q.first.1 in (
   q.fresh.0,
   q.fresh.1,
   q.first.0,
@@ -17,26 +17,26 @@ loop-cell-init c = let q = c.requires in let e = q.first.1 in (
 )
 
 pub pick_up-requires-clause-owns : goal.pick_up-requires-clause-owns
-pick_up-requires-clause-owns c = c.loop-cell.invariant.0.0
+pick_up-requires-clause-owns g c = c.loop-cell.invariant.0.0
 
 pub pick_up-requires-clause-low : goal.pick_up-requires-clause-low
-pick_up-requires-clause-low c = let f = c.args.f.now in let h = c.loop-cell.invariant in
+pick_up-requires-clause-low g c = let f = c.args.f.now in let h = c.loop-cell.invariant in
     let e = h.3 in let t = c.loop-cell-test.true in
     row_low f.ranks f.each c.args.port.now.rank _ c.requires.fresh.0.0.1 (omega arith)
 
 pub pick_up-requires-clause-own : goal.pick_up-requires-clause-own
-pick_up-requires-clause-own c = let f = c.args.f.now in let h = c.loop-cell.invariant in
+pick_up-requires-clause-own g c = let f = c.args.f.now in let h = c.loop-cell.invariant in
     let e = h.3 in let t = c.loop-cell-test.true in
     in_row f.each c.args.port.now.rank _ (omega arith) (omega arith) ∙ sym h.0.1
 
 pub pick_up-requires-clause-untouched : goal.pick_up-requires-clause-untouched
-pick_up-requires-clause-untouched c = let f = c.args.f.now in let h = c.loop-cell.invariant in
+pick_up-requires-clause-untouched g c = let f = c.args.f.now in let h = c.loop-cell.invariant in
     let e = h.3 in let t = c.loop-cell-test.true in
     h.4 _ (row_low f.ranks f.each c.args.port.now.rank _ c.requires.fresh.0.0.1 (omega arith))
     (in_row f.each c.args.port.now.rank _ (omega arith) (omega arith)) (omega arith)
 
 pub loop-cell-preserved : goal.loop-cell-preserved
-loop-cell-preserved c = let f = c.args.f.now in let h = c.loop-cell.invariant in
+loop-cell-preserved g c = let f = c.args.f.now in let h = c.loop-cell.invariant in
     let e = h.3 in let t = c.loop-cell-test.true in let a = c.pick_up.ensures in
     let p = c.loop-cell.port in let r = c.args.port.now.rank in let k = p.loose.end in
     let own : k / f.each ≡ r = in_row f.each r k (omega arith) (omega arith) in
@@ -53,7 +53,7 @@ loop-cell-preserved c = let f = c.args.f.now in let h = c.loop-cell.invariant in
     )
 
 pub returns : goal.returns
-returns c = let f = c.args.f.now in let h = c.loop-cell.invariant in
+returns g c = let f = c.args.f.now in let h = c.loop-cell.invariant in
     let e = h.3 in let s = h.2 in let t = c.loop-cell-test.false in let some = f.small.1 in
     let r = c.args.port.now.rank in (
       h.0,

@@ -8,12 +8,12 @@ use Rattle.nm_cells.proofs.build.ports_of.Goals as goal
 use Rattle.nm_chain.proofs.ListLemmas.{get_snoc}
 
 pub port_of-requires-clause-lowest : goal.port_of-requires-clause-lowest
-port_of-requires-clause-lowest c = let f = c.args.f.now in let r = c.loop-rank.rank in
+port_of-requires-clause-lowest g c = let f = c.args.f.now in let r = c.loop-rank.rank in
     let t = c.loop-rank-test.true in let e : f.ranks - r ≡ suc (f.ranks - suc r) = omega arith in
     c.loop-rank.invariant.1 ∙ ap (λ k. (view (beginners f.ranks f.each r k), [])) e
 
 pub loop-rank-preserved : goal.loop-rank-preserved
-loop-rank-preserved c = let f = c.args.f.now in let r = c.loop-rank.rank in
+loop-rank-preserved g c = let f = c.args.f.now in let r = c.loop-rank.rank in
     let h = c.loop-rank.invariant in let p = c.in_ok-port.ensures in let e : suc r ≡ r + 1 =
     omega arith in let q = c.begin.new.port in
     let at_r = p.port.0.1 in (

@@ -7,7 +7,7 @@ use Rattle.nm_cells.specs.Ports.{Begins}
 use Rattle.nm_cells.proofs.build.ports_of.Given as goal
 
 abbrev pub invariant-loop-rank : goal.invariant-loop-rank
-invariant-loop-rank l = (l.rest.table_id ≡ l.f.board.shared.table_id)
+invariant-loop-rank g l = (l.rest.table_id ≡ l.f.board.shared.table_id)
     × (l.rest.me ≡ (view (beginners l.f.ranks l.f.each l.rank (l.f.ranks - l.rank)), []))
     × (length l.ports.items ≡ l.rank)
-    × ((k : ℕ) (p : Port) → slice_get l.ports.items k ≡ Some p → Begins l.loose l.f p k)
+    × ((k : ℕ) (p : Port _) → slice_get l.ports.items k ≡ Some p → Begins l.loose l.f p k)

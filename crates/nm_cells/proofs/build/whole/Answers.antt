@@ -5,11 +5,11 @@ use Rattle.nm_chain.proofs.OpeningLemmas.{starts}
 use Rattle.nm_cells.proofs.build.whole.Goals as goal
 
 pub new-requires : goal.new-requires
-new-requires c = let s = c.args.shape.now in let n = c.from-ranks.result in
+new-requires g c = let s = c.args.shape.now in let n = c.from-ranks.result in
     let m = c.from-each.result in
-    subst (λ (l : List Load). Rule s (opening c.as_slice.result.now l (first_view s)))
+    subst (λ (l : List (Load _)). Rule g.I.Item.boxable s (opening c.as_slice.result.now l (first_view s)))
     (sym c.in_ok-empty.ensures)
-    (subst (λ ws. Rule s (opening ws (replicate (n * m + 4 * (n * n)) None) (first_view s)))
+    (subst (λ ws. Rule g.I.Item.boxable s (opening ws (replicate (n * m + 4 * (n * n)) None) (first_view s)))
     (sym c.as_slice.ensures.value)
     (starts s c.in_ok-words.words.items n m (c.from-ranks.ensures ∙ c.ranks.ensures.value)
     (c.from-each.ensures ∙ c.cells.ensures.value) c.in_ok-words.ensures))

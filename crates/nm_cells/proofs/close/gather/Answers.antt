@@ -10,7 +10,7 @@ use Rattle.nm_cells.proofs.close.gather.Goals as goal
 use Rattle.nm_types.proofs.ListLemmas.{get_before, get_last, no_items}
 
 pub loop-port-init : goal.loop-port-init
-loop-port-init c = let p = c.in-Some.last in let left = c.pop.new.self.items in
+loop-port-init g c = let p = c.in-Some.last in let left = c.pop.new.self.items in
     let is : c.args.ports.items ≡ left ++ p ∷ [] =
     c.pop.ensures.items ∙ ap (λ r. left ++ option_to_list r) c.in-Some.is in
     let ok = c.requires.ports (length left) p
@@ -34,7 +34,7 @@ loop-port-init c = let p = c.in-Some.last in let left = c.pop.new.self.items in
     )
 
 pub join_seat-requires : goal.join_seat-requires
-join_seat-requires c = let h = c.loop-port.invariant in
+join_seat-requires g c = let h = c.loop-port.invariant in
     let p = c.in-Some-pop.port in let left = c.pop-in-loop-port.new.self.items in
     let is : c.loop-port.ports.items ≡ left ++ p ∷ [] = c.pop-in-loop-port.ensures.items
     ∙ ap (λ r. left ++ option_to_list r) c.in-Some-pop.is in
@@ -50,7 +50,7 @@ join_seat-requires c = let h = c.loop-port.invariant in
     )
 
 pub loop-port-preserved : goal.loop-port-preserved
-loop-port-preserved c = let h = c.loop-port.invariant in let p = c.in-Some-pop.port in
+loop-port-preserved g c = let h = c.loop-port.invariant in let p = c.in-Some-pop.port in
     let left = c.pop-in-loop-port.new.self.items in let old = c.loop-port.seat.me.0.entries in
     let is : c.loop-port.ports.items ≡ left ++ p ∷ [] = c.pop-in-loop-port.ensures.items
     ∙ ap (λ r. left ++ option_to_list r) c.in-Some-pop.is in let j = c.join_seat.ensures in
@@ -76,7 +76,7 @@ loop-port-preserved c = let h = c.loop-port.invariant in let p = c.in-Some-pop.p
     )
 
 pub returns-clause-all : goal.returns-clause-all
-returns-clause-all c = let h = c.loop-port.invariant in
+returns-clause-all g c = let h = c.loop-port.invariant in
     let none : length c.loop-port.ports.items ≡ 0 = search rules in
     let empty = no_items c.loop-port.ports.items none in
     let all : c.loop-port.seat.me.0.entries ≡ map knows c.args.ports.items =
@@ -84,7 +84,7 @@ returns-clause-all c = let h = c.loop-port.invariant in
     λ i. ((h.4 ∙ ap view all) i, h.1 i)
 
 pub returns-clause-counted : goal.returns-clause-counted
-returns-clause-counted c = let h = c.loop-port.invariant in
+returns-clause-counted g c = let h = c.loop-port.invariant in
     let none : length c.loop-port.ports.items ≡ 0 = search rules in
     let empty = no_items c.loop-port.ports.items none in
     sym (ap (λ l. map (λ p. p.peers) l ++ c.loop-port.counted.items) empty) ∙ h.5

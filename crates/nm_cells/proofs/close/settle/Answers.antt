@@ -6,7 +6,7 @@ use Rattle.nm_cells.proofs.ClosingLemmas.{settled, whole, prefixes}
 use Rattle.nm_cells.proofs.close.settle.Goals as goal
 
 pub returns-clause-settled : goal.returns-clause-settled
-returns-clause-settled c =
+returns-clause-settled g c =
     let f = c.close_with-closed.ensures.values in let key = c.args.board.shared.key in
     let t = c.requires.table in let es = c.args.seat.me.0.entries in
     let inv = c.loop-cell.invariant in
@@ -22,7 +22,7 @@ returns-clause-settled c =
     items f.2.4 c.loop-cell.home is
 
 pub returns-clause-paths : goal.returns-clause-paths
-returns-clause-paths c =
+returns-clause-paths g c =
     let f = c.close_with-closed.ensures.values in let key = c.args.board.shared.key in
     let t = c.requires.table in let es = c.args.seat.me.0.entries in
     let inv = c.loop-cell.invariant in
@@ -39,7 +39,7 @@ returns-clause-paths c =
     some g)
 
 pub returns-clause-home : goal.returns-clause-home
-returns-clause-home c all =
+returns-clause-home g c all =
     let f = c.close_with-closed.ensures.values in let key = c.args.board.shared.key in
     let t = c.requires.table in let es = c.args.seat.me.0.entries in
     let inv = c.loop-cell.invariant in

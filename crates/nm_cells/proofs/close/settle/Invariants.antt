@@ -4,7 +4,7 @@ use Rattle.nm_cells.specs.AtClose.{vacant}
 use Rattle.nm_cells.proofs.close.settle.Given as goal
 
 abbrev pub invariant-loop-cell : goal.invariant-loop-cell
-invariant-loop-cell l = (slots_items l.closed.slots ≡ slots_items l.initial.closed.slots)
+invariant-loop-cell g l = (slots_items l.closed.slots ≡ slots_items l.initial.closed.slots)
     × (slots_len l.closed.slots ≡ slots_len l.initial.closed.slots)
     × ((k : ℕ) → l.cell ≤ k → k < slots_len l.closed.slots
     → get_or (slots_filled l.closed.slots) k false ≡ true)
@@ -13,12 +13,12 @@ invariant-loop-cell l = (slots_items l.closed.slots ≡ slots_items l.initial.cl
     × (l.cell ≤ l.total)
 
 abbrev pub decreases-loop-cell : goal.decreases-loop-cell
-decreases-loop-cell l = l.total - l.cell
+decreases-loop-cell g l = l.total - l.cell
 
 abbrev pub invariant-loop-i : goal.invariant-loop-i
-invariant-loop-i l = ((k : ℕ) → l.i ≤ k → k < slots_len l.closed.slots
+invariant-loop-i g l = ((k : ℕ) → l.i ≤ k → k < slots_len l.closed.slots
     → get_or (slots_filled l.closed.slots) k false ≡ true)
     × ((k : ℕ) → k < l.i → get_or (slots_filled l.closed.slots) k false ≡ false)
 
 abbrev pub decreases-loop-i : goal.decreases-loop-i
-decreases-loop-i l = slots_len l.closed.slots - l.i
+decreases-loop-i g l = slots_len l.closed.slots - l.i

@@ -16,28 +16,28 @@ store-requires g c = let f = c.args.f.now in let p = c.args.port.now in let z = 
     let low : c.own_queue.result < f.board.shared.table_id.words = omega arith in rw c.head_word-word.ensures (
       c.requires.owns.0,
       low,
-      hide_allowed f.board.shared.key f.ranks f.board.shared.table_id.slots p.seat.id p.seat.me
+      hide_allowed _ f.board.shared.key f.ranks f.board.shared.table_id.slots p.seat.id p.seat.me
           p.alone f.shape.0 p.rank p.named c.requires.owns.1 _ c.own_queue.result w.own some,
     )
 
 pub invariant_of-port-clause-boxes : goal.invariant_of-port-clause-boxes
 invariant_of-port-clause-boxes g c = let p = c.args.port.now in
-    subst (λ (m : Knowing). HoldsBoxes (mine m) m.1) (sym c.store.ensures.2.1)
+    subst (λ (m : Knowing _). HoldsBoxes (mine m) m.1) (sym c.store.ensures.2.1)
     (boxes_heads _ _ (mine p.seat.me) p.seat.me.1 p.boxes)
 
 pub invariant_of-port-else-this-ne0-clause-boxes : goal.invariant_of-port-else-this-ne0-clause-boxes
 invariant_of-port-else-this-ne0-clause-boxes g c = let p = c.args.port.now in
-    subst (λ (m : Knowing). HoldsBoxes (mine m) m.1) (sym c.store.ensures.2.1)
+    subst (λ (m : Knowing _). HoldsBoxes (mine m) m.1) (sym c.store.ensures.2.1)
     (boxes_heads _ _ (mine p.seat.me) p.seat.me.1 p.boxes)
 
 pub invariant_of-port-clause-kept : goal.invariant_of-port-clause-kept
 invariant_of-port-clause-kept g c = let p = c.args.port.now in
-    subst (λ (m : Knowing). AreKept p.loose (mine m) m.1) (sym c.store.ensures.2.1)
+    subst (λ (m : Knowing _). AreKept p.loose (mine m) m.1) (sym c.store.ensures.2.1)
     (kept_heads p.loose (mine p.seat.me) p.seat.me.1 p.kept _ _)
 
 pub invariant_of-port-else-this-ne0-clause-kept : goal.invariant_of-port-else-this-ne0-clause-kept
 invariant_of-port-else-this-ne0-clause-kept g c = let p = c.args.port.now in
-    subst (λ (m : Knowing). AreKept p.loose (mine m) m.1) (sym c.store.ensures.2.1)
+    subst (λ (m : Knowing _). AreKept p.loose (mine m) m.1) (sym c.store.ensures.2.1)
     (kept_heads p.loose (mine p.seat.me) p.seat.me.1 p.kept _ _)
 
 pub returns-then-this-ne0-clause-stays : goal.returns-then-this-ne0-clause-stays

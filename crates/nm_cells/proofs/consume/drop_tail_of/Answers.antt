@@ -21,7 +21,7 @@ compare_exchange-found-requires g c = let f = c.args.f.now in let p = c.args.por
     rw c.tail_word-word.ensures (
       c.requires.owns.0,
       low,
-      drain_allowed f.board.shared.key f.ranks f.board.shared.table_id.slots p.seat.id p.seat.me
+      drain_allowed _ f.board.shared.key f.ranks f.board.shared.table_id.slots p.seat.id p.seat.me
           p.alone f.shape.0 p.rank p.named c.requires.owns.1 _
           (2 * f.ranks + c.own_queue.result) c.heads-shadow.result.shadow
           (ap (λ k. 2 * f.ranks + k) w.own) (sym is) (subst (λ k. 0 < k) (sym is) c.requires.first),
@@ -61,7 +61,7 @@ first_taken-requires-clause-few g c = let f = c.args.f.now in let p = c.args.por
 
 pub invariant_of-port-clause-boxes : goal.invariant_of-port-clause-boxes
 invariant_of-port-clause-boxes g c = let p = c.args.port.now in
-    subst (λ (m : Knowing). HoldsBoxes (mine m) m.1)
+    subst (λ (m : Knowing _). HoldsBoxes (mine m) m.1)
     (sym (c.compare_exchange-found.ensures.2.2 c.if-found-shadow.true)) p.boxes
 
 pub invariant_of-port-2-clause-carries : goal.invariant_of-port-2-clause-carries
@@ -95,7 +95,7 @@ returns-clause-some g c = let f = c.args.f.now in let p = c.args.port.now in
 
 pub invariant_of-port-clause-kept : goal.invariant_of-port-clause-kept
 invariant_of-port-clause-kept g c = let p = c.args.port.now in
-    subst (λ (m : Knowing). AreKept p.loose (mine m) m.1)
+    subst (λ (m : Knowing _). AreKept p.loose (mine m) m.1)
     (sym (c.compare_exchange-found.ensures.2.2 c.if-found-shadow.true)) p.kept
 
 pub invariant_of-port-2-clause-kept : goal.invariant_of-port-2-clause-kept
@@ -130,7 +130,7 @@ returns-then-found-shadow-clause-none g c = let is = c.compare_exchange-found.en
   ap mine is,
   record {
     hands = refl;
-    holding = ap (λ (m : Knowing). held_in (length (mine m).hands) m.1) is;
+    holding = ap (λ (m : Knowing _). held_in (length (mine m).hands) m.1) is;
     taken = (refl, refl, refl);
     loose = refl;
   },

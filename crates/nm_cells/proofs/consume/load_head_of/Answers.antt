@@ -19,53 +19,53 @@ load-found-requires g c = let f = c.args.f.now in let p = c.args.port.now in let
     let low : c.own_queue.result < f.board.shared.table_id.words = omega arith in rw c.head_word-word.ensures (
       c.requires.owns.0,
       low,
-      note_allowed f.board.shared.key f.ranks f.board.shared.table_id.slots p.seat.id p.seat.me
+      note_allowed _ f.board.shared.key f.ranks f.board.shared.table_id.slots p.seat.id p.seat.me
           p.alone f.shape.0 p.rank p.named c.requires.owns.1 _ c.own_queue.result w.own,
     )
 
 pub invariant_of-port-clause-boxes : goal.invariant_of-port-clause-boxes
 invariant_of-port-clause-boxes g c = let p = c.args.port.now in
-    subst (λ (m : Knowing). HoldsBoxes (mine m) m.1) (sym (c.load-found.ensures.2.2 c.if-found-eq0.true))
+    subst (λ (m : Knowing _). HoldsBoxes (mine m) m.1) (sym (c.load-found.ensures.2.2 c.if-found-eq0.true))
     (boxes_heads _ _ (mine p.seat.me) p.seat.me.1 p.boxes)
 
 pub invariant_of-port-else-found-eq0-clause-boxes : goal.invariant_of-port-else-found-eq0-clause-boxes
 invariant_of-port-else-found-eq0-clause-boxes g c = let p = c.args.port.now in
-    subst (λ (m : Knowing). HoldsBoxes (mine m) m.1)
+    subst (λ (m : Knowing _). HoldsBoxes (mine m) m.1)
     (sym (c.load-found.ensures.2.3 (let some = c.if-found-eq0.false in omega arith)))
     (boxes_heads _ _ (mine p.seat.me) p.seat.me.1 p.boxes)
 
 pub invariant_of-port-then-found-eq0-2-clause-boxes : goal.invariant_of-port-then-found-eq0-2-clause-boxes
 invariant_of-port-then-found-eq0-2-clause-boxes g c = let p = c.args.port.now in
-    subst (λ (m : Knowing). HoldsBoxes (mine m) m.1) (sym (c.load-found.ensures.2.2 c.if-found-eq0-2.true))
+    subst (λ (m : Knowing _). HoldsBoxes (mine m) m.1) (sym (c.load-found.ensures.2.2 c.if-found-eq0-2.true))
     (boxes_heads _ _ (mine p.seat.me) p.seat.me.1 p.boxes)
 
 pub invariant_of-port-else-found-eq0-2-clause-boxes : goal.invariant_of-port-else-found-eq0-2-clause-boxes
 invariant_of-port-else-found-eq0-2-clause-boxes g c = let p = c.args.port.now in
-    subst (λ (m : Knowing). HoldsBoxes (mine m) m.1)
+    subst (λ (m : Knowing _). HoldsBoxes (mine m) m.1)
     (sym (c.load-found.ensures.2.3 (let some = c.if-found-eq0-2.false in omega arith)))
     (boxes_heads _ _ (mine p.seat.me) p.seat.me.1 p.boxes)
 
 pub invariant_of-port-clause-kept : goal.invariant_of-port-clause-kept
 invariant_of-port-clause-kept g c = let p = c.args.port.now in
-    subst (λ (m : Knowing). AreKept p.loose (mine m) m.1)
+    subst (λ (m : Knowing _). AreKept p.loose (mine m) m.1)
     (sym (c.load-found.ensures.2.2 c.if-found-eq0.true))
     (kept_heads p.loose (mine p.seat.me) p.seat.me.1 p.kept _ _)
 
 pub invariant_of-port-else-found-eq0-clause-kept : goal.invariant_of-port-else-found-eq0-clause-kept
 invariant_of-port-else-found-eq0-clause-kept g c = let p = c.args.port.now in
-    subst (λ (m : Knowing). AreKept p.loose (mine m) m.1)
+    subst (λ (m : Knowing _). AreKept p.loose (mine m) m.1)
     (sym (c.load-found.ensures.2.3 (let some = c.if-found-eq0.false in omega arith)))
     (kept_heads p.loose (mine p.seat.me) p.seat.me.1 p.kept _ _)
 
 pub invariant_of-port-then-found-eq0-2-clause-kept : goal.invariant_of-port-then-found-eq0-2-clause-kept
 invariant_of-port-then-found-eq0-2-clause-kept g c = let p = c.args.port.now in
-    subst (λ (m : Knowing). AreKept p.loose (mine m) m.1)
+    subst (λ (m : Knowing _). AreKept p.loose (mine m) m.1)
     (sym (c.load-found.ensures.2.2 c.if-found-eq0-2.true))
     (kept_heads p.loose (mine p.seat.me) p.seat.me.1 p.kept _ _)
 
 pub invariant_of-port-else-found-eq0-2-clause-kept : goal.invariant_of-port-else-found-eq0-2-clause-kept
 invariant_of-port-else-found-eq0-2-clause-kept g c = let p = c.args.port.now in
-    subst (λ (m : Knowing). AreKept p.loose (mine m) m.1)
+    subst (λ (m : Knowing _). AreKept p.loose (mine m) m.1)
     (sym (c.load-found.ensures.2.3 (let some = c.if-found-eq0-2.false in omega arith)))
     (kept_heads p.loose (mine p.seat.me) p.seat.me.1 p.kept _ _)
 

@@ -24,7 +24,7 @@ load-found-requires g c = let f = c.args.f.now in let p = c.args.port.now in let
     omega arith in rw c.link_word-word.ensures (
       c.requires.owns.0,
       low,
-      reload_allowed f.board.shared.key f.ranks f.board.shared.table_id.slots p.seat.id p.seat.me
+      reload_allowed _ f.board.shared.key f.ranks f.board.shared.table_id.slots p.seat.id p.seat.me
           p.alone f.shape.0 p.rank p.named c.requires.owns.1 _ (c.heads-number.result.shadow - 1)
           (omega arith),
     )
@@ -79,12 +79,12 @@ first_taken-requires-clause-few g c = let f = c.args.f.now in let p = c.args.por
 
 pub invariant_of-port-clause-boxes : goal.invariant_of-port-clause-boxes
 invariant_of-port-clause-boxes g c = let p = c.args.port.now in
-    subst (λ (m : Knowing). HoldsBoxes (mine m) m.1)
+    subst (λ (m : Knowing _). HoldsBoxes (mine m) m.1)
     (sym (c.load-found.ensures.2.1 c.if-found-eq0.true)) p.boxes
 
 pub invariant_of-port-else-this-ne0-clause-boxes : goal.invariant_of-port-else-this-ne0-clause-boxes
 invariant_of-port-else-this-ne0-clause-boxes g c = let p = c.args.port.now in
-    subst (λ (m : Knowing). HoldsBoxes (mine m) m.1)
+    subst (λ (m : Knowing _). HoldsBoxes (mine m) m.1)
     (sym (c.load-found.ensures.2.1 c.if-found-eq0.true)) p.boxes
 
 pub invariant_of-port-2-clause-carries : goal.invariant_of-port-2-clause-carries
@@ -131,12 +131,12 @@ returns-clause-some g c = let f = c.args.f.now in let p = c.args.port.now in
 
 pub invariant_of-port-clause-kept : goal.invariant_of-port-clause-kept
 invariant_of-port-clause-kept g c = let p = c.args.port.now in
-    subst (λ (m : Knowing). AreKept p.loose (mine m) m.1)
+    subst (λ (m : Knowing _). AreKept p.loose (mine m) m.1)
     (sym (c.load-found.ensures.2.1 c.if-found-eq0.true)) p.kept
 
 pub invariant_of-port-else-this-ne0-clause-kept : goal.invariant_of-port-else-this-ne0-clause-kept
 invariant_of-port-else-this-ne0-clause-kept g c = let p = c.args.port.now in
-    subst (λ (m : Knowing). AreKept p.loose (mine m) m.1)
+    subst (λ (m : Knowing _). AreKept p.loose (mine m) m.1)
     (sym (c.load-found.ensures.2.1 c.if-found-eq0.true)) p.kept
 
 pub invariant_of-port-2-clause-kept : goal.invariant_of-port-2-clause-kept
@@ -179,7 +179,7 @@ returns-then-this-ne0-clause-none g c = let is = c.load-found.ensures.2.1 c.if-f
   ap mine is,
   record {
     hands = refl;
-    holding = ap (λ (m : Knowing). held_in (length (mine m).hands) m.1) is;
+    holding = ap (λ (m : Knowing _). held_in (length (mine m).hands) m.1) is;
     taken = (refl, refl, refl);
     loose = refl;
   },
@@ -205,7 +205,7 @@ returns-else-this-ne0-clause-none g c = let is = c.load-found.ensures.2.1 c.if-f
   ap mine is,
   record {
     hands = refl;
-    holding = ap (λ (m : Knowing). held_in (length (mine m).hands) m.1) is;
+    holding = ap (λ (m : Knowing _). held_in (length (mine m).hands) m.1) is;
     taken = (refl, refl, refl);
     loose = refl;
   },

@@ -10,19 +10,19 @@ use Rattle.nm_cells.proofs.PortLemmas.{CarriesFor}
 use Rattle.nm_cells.proofs.loose.pick_up.Goals as goal
 
 pub load-requires : goal.load-requires
-load-requires c = let f = c.args.f.now in let p = c.args.port.now in
+load-requires g c = let f = c.args.f.now in let p = c.args.port.now in
     let few = c.requires.low in let z = f.sizes.0 in
     let low : 4 * f.ranks + p.loose.end < f.board.shared.table_id.words = omega arith in rw c.link_word-word.ensures (
       c.requires.owns.0,
       low,
-      pick_allowed f.board.shared.key f.ranks f.each f.board.shared.table_id.slots p.seat.id
+      pick_allowed _ f.board.shared.key f.ranks f.each f.board.shared.table_id.slots p.seat.id
           p.seat.me p.alone f.shape.0 f.shape.1
           (subst (λ k. k < f.ranks) (sym p.named) c.requires.owns.1) p.loose.end few
           c.requires.untouched,
     )
 
 pub carry-requires : goal.carry-requires
-carry-requires c = let f = c.args.f.now in let p = c.args.port.now in let e = knows p in
+carry-requires g c = let f = c.args.f.now in let p = c.args.port.now in let e = knows p in
     let k = p.loose.end in let rs = c.requires.owns.2 in
     let is_word = c.link_word-word.ensures in
     let at : c.link_word-word.result - 4 * e.ranks ≡ k = omega arith in
@@ -32,7 +32,7 @@ carry-requires c = let f = c.args.f.now in let p = c.args.port.now in let e = kn
     p.carried.items (vec_capacity p.carried) p.hands p.carries in omega arith
 
 pub invariant_of-port-clause-carries : goal.invariant_of-port-clause-carries
-invariant_of-port-clause-carries c = let f = c.args.f.now in let p = c.args.port.now in
+invariant_of-port-clause-carries g c = let f = c.args.f.now in let p = c.args.port.now in
     let e = knows p in let k = p.loose.end in let rs = c.requires.owns.2 in
     let is_word = c.link_word-word.ensures in
     let at : c.link_word-word.result - 4 * e.ranks ≡ k = omega arith in
@@ -45,7 +45,7 @@ invariant_of-port-clause-carries c = let f = c.args.f.now in let p = c.args.port
     (vec_capacity c.carry.new.carried) c.carry.ensures.capacity)
 
 pub invariant_of-port-clause-boxes : goal.invariant_of-port-clause-boxes
-invariant_of-port-clause-boxes c = let f = c.args.f.now in let p = c.args.port.now in
+invariant_of-port-clause-boxes g c = let f = c.args.f.now in let p = c.args.port.now in
     let e = knows p in let k = p.loose.end in let o = c.requires.owns in let rs = o.2 in
     let is_word = c.link_word-word.ensures in
     let at : c.link_word-word.result - 4 * e.ranks ≡ k = omega arith in
@@ -55,7 +55,7 @@ invariant_of-port-clause-boxes c = let f = c.args.f.now in let p = c.args.port.n
     p.boxes (o.4 ∙ (λ t. sym o.2 t * sym o.3 t))
 
 pub invariant_of-port-clause-kept : goal.invariant_of-port-clause-kept
-invariant_of-port-clause-kept c = let f = c.args.f.now in let p = c.args.port.now in
+invariant_of-port-clause-kept g c = let f = c.args.f.now in let p = c.args.port.now in
     let e = knows p in let k = p.loose.end in let o = c.requires.owns in let rs = o.2 in
     let is_word = c.link_word-word.ensures in
     let at : c.link_word-word.result - 4 * e.ranks ≡ k = omega arith in

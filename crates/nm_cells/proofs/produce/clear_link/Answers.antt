@@ -20,7 +20,7 @@ store-requires g c = let f = c.args.f.now in let p = c.args.port.now in
     rw c.link_word-word.ensures (
       c.requires.owns.0,
       low,
-      clear_allowed f.board.shared.key f.ranks f.each f.board.shared.table_id.slots p.seat.id
+      clear_allowed _ f.board.shared.key f.ranks f.each f.board.shared.table_id.slots p.seat.id
           p.seat.me p.alone f.shape.0 f.shape.1
           (subst (λ k. k < f.ranks) (sym p.named) c.requires.owns.1) c.args.cell.now.number few
           c.requires.in_hand.2,
@@ -51,13 +51,13 @@ returns-clause-ready g c = let f = c.args.f.now in let p = c.args.port.now in
 
 pub invariant_of-port-clause-boxes : goal.invariant_of-port-clause-boxes
 invariant_of-port-clause-boxes g c = let p = c.args.port.now in
-    subst (λ (m : plays.Knowing). HoldsBoxes (plays.mine m) m.1) (sym c.store.ensures.2.1) p.boxes
+    subst (λ (m : plays.Knowing _). HoldsBoxes (plays.mine m) m.1) (sym c.store.ensures.2.1) p.boxes
 
 pub invariant_of-port-clause-kept : goal.invariant_of-port-clause-kept
 invariant_of-port-clause-kept g c = let f = c.args.f.now in let p = c.args.port.now in
     let k = c.args.cell.now.number in let rs = c.requires.owns.2 in
     let is_word = c.link_word-word.ensures in
     let is : c.link_word-word.result - 4 * (knows p).ranks ≡ k = omega arith in
-    subst (λ (m : plays.Knowing). AreKept p.loose (mine m) m.1) (sym c.store.ensures.2.1)
+    subst (λ (m : plays.Knowing _). AreKept p.loose (mine m) m.1) (sym c.store.ensures.2.1)
     (kept_hand p.loose (knows p) p.seat.me.1 p.kept (c.link_word-word.result - 4 * (knows p).ranks) _
     (subst (λ d. ¬ IsAmong p.loose d) (sym is) c.requires.in_hand.3))

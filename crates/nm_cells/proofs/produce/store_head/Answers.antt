@@ -20,7 +20,7 @@ store-requires g c = let f = c.args.f.now in let p = c.args.port.now in let e = 
     let few = a.0.1 in let low : e.queue < f.board.shared.table_id.words = omega arith in rw c.head_word-word.ensures (
       c.requires.owns.0,
       low,
-      head_allowed f.board.shared.key f.ranks f.each f.board.shared.table_id.slots p.seat.id
+      head_allowed _ f.board.shared.key f.ranks f.each f.board.shared.table_id.slots p.seat.id
           p.seat.me p.alone f.shape.0 f.shape.1
           (subst (λ k. k < f.ranks) (sym p.named) c.requires.owns.1) e.cell a.0.0 e.queue few
           (a.0.2 ∙ ap (λ t. Entering e.queue t) a.1),
@@ -40,12 +40,12 @@ invariant_of-port-clause-carries g c = let p = c.args.port.now in let e = c.args
 
 pub invariant_of-port-clause-boxes : goal.invariant_of-port-clause-boxes
 invariant_of-port-clause-boxes g c = let p = c.args.port.now in
-    subst (λ (m : plays.Knowing). HoldsBoxes (plays.mine m) m.1) (sym c.store.ensures.2.1) p.boxes
+    subst (λ (m : plays.Knowing _). HoldsBoxes (plays.mine m) m.1) (sym c.store.ensures.2.1) p.boxes
 
 pub invariant_of-port-clause-kept : goal.invariant_of-port-clause-kept
 invariant_of-port-clause-kept g c = let p = c.args.port.now in let e = c.args.enqueue in
     let one : (e.cell + 1) - 1 ≡ e.cell = omega arith in
-    subst (λ (m : plays.Knowing). AreKept p.loose (plays.mine m) m.1) (sym c.store.ensures.2.1)
+    subst (λ (m : plays.Knowing _). AreKept p.loose (plays.mine m) m.1) (sym c.store.ensures.2.1)
     (kept_hand p.loose (knows p) p.seat.me.1 p.kept ((e.cell + 1) - 1) Away
     (subst (λ d. ¬ IsAmong p.loose d) (sym one)
     (entering_apart p.loose (knows p) p.seat.me.1 p.kept e.cell e.queue e.found
@@ -83,7 +83,7 @@ returns-clause-finished g c = let p = c.args.port.now in let k = c.args.enqueue.
 
 pub returns-clause-holding : goal.returns-clause-holding
 returns-clause-holding g c = let p = c.args.port.now in
-    ap (λ (m : plays.Knowing). held_in (length (plays.mine m).hands) m.1) c.store.ensures.2.1
+    ap (λ (m : plays.Knowing _). held_in (length (plays.mine m).hands) m.1) c.store.ensures.2.1
     ∙ ap (λ n. held_in n p.seat.me.1)
     (length-set (knows p).hands ((c.args.enqueue.cell + 1) - 1) Away)
 

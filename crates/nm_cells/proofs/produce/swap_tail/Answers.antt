@@ -34,7 +34,7 @@ swap-found-requires g c = let f = c.args.f.now in let old = c.args.port.now in
     × (number y ≡ sent_to t (knows old).put_box (knows old).put)) (sym is) m.1 in rw c.tail_word-word.ensures (
       c.bring_cell.ensures.seat.0 ∙ c.requires.owns.0,
       low,
-      swap_allowed f.board.shared.key f.ranks f.each f.board.shared.table_id.slots p.seat.id
+      swap_allowed _ f.board.shared.key f.ranks f.each f.board.shared.table_id.slots p.seat.id
           p.seat.me p.alone f.shape.0 f.shape.1
           (subst (λ t. t < f.ranks) (sym own ∙ sym p.named) c.requires.owns.1) k
           c.requires.in_hand.0 q y (rest p.seat.me.1) c.bring_cell.ensures.front few
@@ -158,7 +158,7 @@ invariant_of-port-clause-boxes g c = let p = c.bring_cell.new.port in let e = kn
     let low = subst (λ x. k < x)
     ((λ t. sym o.2 t * sym o.3 t) ∙ (λ t. (sole (sym v t).entries).ranks
     * (sole (sym v t).entries).each)) c.requires.in_hand.0 in
-    subst (λ (m : Knowing). HoldsBoxes (mine m) m.1) (sym c.swap-found.ensures.2.3)
+    subst (λ (m : Knowing _). HoldsBoxes (mine m) m.1) (sym c.swap-found.ensures.2.3)
     (boxes_popped e (rest p.seat.me.1) k (holding c.args.port.now k) low
     (subst (HoldsBoxes e) c.bring_cell.ensures.front p.boxes))
 
@@ -167,7 +167,7 @@ invariant_of-port-clause-kept g c = let p = c.bring_cell.new.port in let e = kno
     let k = c.args.cell.number in let one : (k + 1) - 1 ≡ k = omega arith in
     let out : ¬ IsAmong p.loose k =
     subst (λ x. ¬ IsAmong x k) (sym c.bring_cell.ensures.same.4) c.requires.in_hand.3 in
-    subst (λ (m : Knowing). AreKept p.loose (mine m) m.1) (sym c.swap-found.ensures.2.3)
+    subst (λ (m : Knowing _). AreKept p.loose (mine m) m.1) (sym c.swap-found.ensures.2.3)
     (kept_hand p.loose e (rest p.seat.me.1)
     (kept_pop p.loose e (rest p.seat.me.1) k (holding c.args.port.now k) out
     (subst (AreKept p.loose e) c.bring_cell.ensures.front p.kept)) ((k + 1) - 1) _

@@ -5,7 +5,7 @@ use Rattle.nm_cells.proofs.HoldingLemmas.{turn_on}
 use Rattle.nm_cells.proofs.slots.bring.Goals as goal
 
 pub loop-i-preserved : goal.loop-i-preserved
-loop-i-preserved c = let h = c.loop-i.invariant in let e = c.turn.ensures in
+loop-i-preserved g c = let h = c.loop-i.invariant in let e = c.turn.ensures in
     let s = sym (length-map c.args.seat.now.me.1 (λ x. x.0)) ∙ ap length c.requires.same in
     let t = c.loop-i-test.true in let b = c.in-Some.ensures.bound in let r = c.iter.ensures.len in
     let low : c.loop-i._i < length c.args.seat.now.me.1 = omega (arith, s, t, b, r) in (

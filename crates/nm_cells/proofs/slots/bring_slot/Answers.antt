@@ -17,12 +17,12 @@ use Rattle.nm_cells.proofs.LooseLemmas.{kept_turned}
 use Rattle.nm_cells.proofs.slots.bring_slot.Goals as goal
 
 pub bring-requires-clause-there : goal.bring-requires-clause-there
-bring-requires-clause-there c = let p = c.args.port.now in
+bring-requires-clause-there g c = let p = c.args.port.now in
     found_at c.args.slot p.carried.items
     (ap (times c.args.slot) (sym p.carries.order) ∙ c.requires.once)
 
 pub invariant_of-port-clause-carries : goal.invariant_of-port-clause-carries
-invariant_of-port-clause-carries c = let p = c.args.port.now in let e = knows p in
+invariant_of-port-clause-carries g c = let p = c.args.port.now in let e = knows p in
     let t = c.bring.ensures.turned in let new = c.bring.new.carried in
     subst (λ v. Carries c.bring.new.seat.me.1 (sole v.entries).hands (sole v.entries).filling
     (sole v.entries).emptying new.items (vec_capacity new) p.hands) (sym c.bring.ensures.seat.2)
@@ -35,7 +35,7 @@ invariant_of-port-clause-carries c = let p = c.args.port.now in let e = knows p 
     c.bring.ensures.capacity in omega arith))))
 
 pub invariant_of-port-clause-boxes : goal.invariant_of-port-clause-boxes
-invariant_of-port-clause-boxes c = let p = c.args.port.now in let e = knows p in
+invariant_of-port-clause-boxes g c = let p = c.args.port.now in let e = knows p in
     let t = c.bring.ensures.turned in
     let long = sym (length-map p.seat.me.1 (λ x. x.0)) ∙ ap length p.carries.order in
     let low = t.1 in
@@ -43,12 +43,12 @@ invariant_of-port-clause-boxes c = let p = c.args.port.now in let e = knows p in
     (subst (HoldsBoxes e) (sym t.3) (boxes_turned e p.seat.me.1 p.boxes t.0 (omega arith)))
 
 pub invariant_of-port-clause-counts : goal.invariant_of-port-clause-counts
-invariant_of-port-clause-counts c = let p = c.args.port.now in
+invariant_of-port-clause-counts g c = let p = c.args.port.now in
     subst (λ v. ∥ CountsFor (sole v.entries) p.peers.items p.held ∥₁)
     (sym c.bring.ensures.seat.2) p.counts
 
 pub returns-clause-front : goal.returns-clause-front
-returns-clause-front c = let p = c.args.port.now in let t = c.bring.ensures.turned in
+returns-clause-front g c = let p = c.args.port.now in let t = c.bring.ensures.turned in
     let long = sym (length-map p.seat.me.1 (λ x. x.0)) ∙ ap length p.carries.order in
     let low = t.1 in
     let f = front_at p.seat.me.1 t.0 c.args.slot (omega arith)
@@ -57,7 +57,7 @@ returns-clause-front c = let p = c.args.port.now in let t = c.bring.ensures.turn
     is ∙ ap (λ l. (c.args.slot, load_in c.args.slot p.seat.me.1) ∷ l) (ap rest (sym is))
 
 pub returns-clause-holding : goal.returns-clause-holding
-returns-clause-holding c = let p = c.args.port.now in let e = knows p in
+returns-clause-holding g c = let p = c.args.port.now in let e = knows p in
     let t = c.bring.ensures.turned in
     ap (λ v. held_in (length (sole v.entries).hands) c.bring.new.seat.me.1) c.bring.ensures.seat.2
     ∙ ap (held_in (length e.hands)) t.3
@@ -65,7 +65,7 @@ returns-clause-holding c = let p = c.args.port.now in let e = knows p in
     (vec_capacity p.carried) p.hands p.carries t.0 t.1
 
 pub invariant_of-port-clause-kept : goal.invariant_of-port-clause-kept
-invariant_of-port-clause-kept c = let p = c.args.port.now in let e = knows p in
+invariant_of-port-clause-kept g c = let p = c.args.port.now in let e = knows p in
     let t = c.bring.ensures.turned in
     let long = sym (length-map p.seat.me.1 (λ x. x.0)) ∙ ap length p.carries.order in
     let low = t.1 in

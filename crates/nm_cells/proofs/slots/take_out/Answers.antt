@@ -14,11 +14,11 @@ use Rattle.nm_cells.proofs.LooseLemmas.{kept_pop, kept_push}
 use Rattle.nm_cells.proofs.slots.take_out.Goals as goal
 
 pub empty_slot-requires-clause-full : goal.empty_slot-requires-clause-full
-empty_slot-requires-clause-full c =
+empty_slot-requires-clause-full g c =
     subst (λ l. IsSome (first_load l)) (sym c.bring_cell.ensures.front) c.requires.full
 
 pub invariant_of-port-clause-carries : goal.invariant_of-port-clause-carries
-invariant_of-port-clause-carries c = let p = c.bring_cell.new.port in let e = knows p in
+invariant_of-port-clause-carries g c = let p = c.bring_cell.new.port in let e = knows p in
     let k = c.args.cell.now.number in
     subst (λ m. CarriesFor m p.carried.items (vec_capacity p.carried) p.hands)
     (sym c.empty_slot.ensures.emptied)
@@ -26,17 +26,17 @@ invariant_of-port-clause-carries c = let p = c.bring_cell.new.port in let e = kn
     e.filling e.emptying p.carried.items (vec_capacity p.carried) p.hands p.carries)
 
 pub invariant_of-port-clause-boxes : goal.invariant_of-port-clause-boxes
-invariant_of-port-clause-boxes c = let p = c.bring_cell.new.port in let e = knows p in
+invariant_of-port-clause-boxes g c = let p = c.bring_cell.new.port in let e = knows p in
     let k = c.args.cell.now.number in let o = c.requires.owns in
     let v = c.bring_cell.ensures.seat.1 in let left = rest p.seat.me.1 in
     let low = subst (λ x. k < x)
     ((λ t. sym o.2 t * sym o.3 t) ∙ (λ t. (sole (sym v t).entries).ranks
     * (sole (sym v t).entries).each)) c.requires.in_hand.0 in
-    subst (λ (m : Knowing). HoldsBoxes (mine m) m.1) (sym c.empty_slot.ensures.emptied)
+    subst (λ (m : Knowing _). HoldsBoxes (mine m) m.1) (sym c.empty_slot.ensures.emptied)
     (boxes_exchanged e left k (None) _ low (subst (HoldsBoxes e) c.bring_cell.ensures.front p.boxes))
 
 pub returns-clause-emptied : goal.returns-clause-emptied
-returns-clause-emptied c = let p = c.bring_cell.new.port in let k = c.args.cell.now.number in
+returns-clause-emptied g c = let p = c.bring_cell.new.port in let k = c.args.cell.now.number in
     let same = ap (λ v. length (sole v.entries).hands) c.bring_cell.ensures.seat.1
     ∙ c.requires.owns.4 in
     ap (λ m. held_in (length (mine m).hands) m.1) c.empty_slot.ensures.emptied
@@ -45,10 +45,10 @@ returns-clause-emptied c = let p = c.bring_cell.new.port in let k = c.args.cell.
     ∙ ap (λ u. update u k None) c.bring_cell.ensures.holding
 
 pub invariant_of-port-clause-kept : goal.invariant_of-port-clause-kept
-invariant_of-port-clause-kept c = let p = c.bring_cell.new.port in let e = knows p in
+invariant_of-port-clause-kept g c = let p = c.bring_cell.new.port in let e = knows p in
     let k = c.args.cell.now.number in let left = rest p.seat.me.1 in
     let out : ¬ IsAmong p.loose k =
     subst (λ x. ¬ IsAmong x k) (sym c.bring_cell.ensures.same.4) c.requires.in_hand.3 in
-    subst (λ (m : Knowing). AreKept p.loose (mine m) m.1) (sym c.empty_slot.ensures.emptied)
+    subst (λ (m : Knowing _). AreKept p.loose (mine m) m.1) (sym c.empty_slot.ensures.emptied)
     (kept_push p.loose e left (kept_pop p.loose e left k _ out
     (subst (AreKept p.loose e) c.bring_cell.ensures.front p.kept)) k None out)

@@ -7,8 +7,8 @@ use Rattle.nm_fastbox.proofs.PutLemmas.{sent_box}
 use Rattle.nm_fastbox.proofs.moves.put.Goals as goal
 
 pub returns-clause-put : goal.returns-clause-put
-returns-clause-put g c = λ _. let p = c.args.port.now in let to = c.args.to in
-    let sent : List (ℕ × Load) = (to, Some c.args.packet.now) ∷ [] in
+returns-clause-put g c = let p = c.args.port.now in let to = c.args.to in
+    let sent : List (ℕ × Load _) = (to, Some c.args.parcel.value) ∷ [] in
     let free = c.if-not-load_box_out.ensures.free refl in let b = c.fill_box.ensures in
     let first = c.load_box_out.ensures.cost in let then = b.cost in let hands = b.hands in
     let boxes = free.2 in (
@@ -21,8 +21,8 @@ returns-clause-put g c = λ _. let p = c.args.port.now in let to = c.args.to in
     )
 
 pub returns-clause-sent : goal.returns-clause-sent
-returns-clause-sent g c = λ _. let p = c.args.port.now in let to = c.args.to in
+returns-clause-sent g c = let p = c.args.port.now in let to = c.args.to in
     let free = (c.if-not-load_box_out.ensures.free refl).1 in
     λ n j. (ap (λ e. sent_to j e.put_box e.put) (c.fill_box.ensures.put
-    ∙ (λ i. with_put_box ((to, Some c.args.packet.now) ∷ []) (with_filling to false (free i))))
-    ∙ sent_box (knows p).put_box (knows p).put to (Some c.args.packet.now) j) n
+    ∙ (λ i. with_put_box ((to, Some c.args.parcel.value) ∷ []) (with_filling to false (free i))))
+    ∙ sent_box (knows p).put_box (knows p).put to (Some c.args.parcel.value) j) n

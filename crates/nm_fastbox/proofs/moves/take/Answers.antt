@@ -11,14 +11,14 @@ empty_box-requires-clause-taking g c = let s = c.args.sender in let m = c.load_b
     (c.if-not-load_box_in.ensures.found refl).0
 
 pub returns-clause-took : goal.returns-clause-took
-returns-clause-took g c = λ _. let p = c.args.port.now in let s = c.args.sender in
+returns-clause-took g c = let p = c.args.port.now in let s = c.args.sender in
     let m = c.load_box_in.new.port in let e = c.empty_box.ensures in
     let there = c.if-not-load_box_in.ensures.found refl in
     let same = c.load_box_in.ensures.stays.2.0 in
     let first = c.load_box_in.ensures.cost in let then = e.cost in
-    let came = Some c.empty_box.new.into ∷ [] in (
-      e.packet.1,
-      e.packet.2 ∙ ap (λ (t : ℕ → ℕ). t s) same,
+    let came = Some c.empty_box.result.value ∷ [] in (
+      e.parcel.1,
+      e.parcel.2 ∙ ap (λ (t : ℕ → ℕ). t s) same,
       e.got ∙ (λ i. with_got_box came (with_emptying s None (there.1 i)))
           ∙ (λ i. with_got_box came (record (knows p) {
             emptying = set-set (knows p).emptying s (Some (box_load s (knows m))) None i;

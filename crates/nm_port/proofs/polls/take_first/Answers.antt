@@ -35,12 +35,12 @@ empty_box-requires-clause-taking g c = let s = c.loop-sender.sender in
     (c.if-load_box_in.ensures.found refl).0
 
 pub returns-then-load_box_in-clause-took : goal.returns-then-load_box_in-clause-took
-returns-then-load_box_in-clause-took g c = λ _. let f = c.args.f.now in let old = c.args.port.now in
+returns-then-load_box_in-clause-took g c = let f = c.args.f.now in let old = c.args.port.now in
     let now = c.loop-sender.port in let new = c.empty_box.new.port in let k = c.loop-sender.sender in
     let m = c.loop-sender.invariant.1 in let at = c.load_box_in.new.port in
     let e = c.empty_box.ensures in let there = c.if-load_box_in.ensures.found refl in
     let kept = c.load_box_in.ensures.stays.2.0 in
-    let p = c.empty_box.new.into in let o = c.requires.owns in
+    let p = c.empty_box.result.value in let o = c.requires.owns in
     let low : k < f.ranks = search rules in
     let came_now = Some p ∷ [] in
     let seen = e.got ∙ (λ i. with_got_box came_now (with_emptying k None (there.1 i)))
@@ -48,12 +48,12 @@ returns-then-load_box_in-clause-took g c = λ _. let f = c.args.f.now in let old
       emptying = set-set (knows now).emptying k (Some (box_load k (knows at))) None i;
     })) in
     let took = e.taken ∙ (λ i. update (kept i) k (kept i k + 1)) in
-    let number = e.packet.2 ∙ ap (λ (t : ℕ → ℕ). t k) kept in
+    let number = e.parcel.2 ∙ ap (λ (t : ℕ → ℕ). t k) kept in
     let came = came_since old now new (ap (λ e. e.got_box) m.seen) (ap (λ e. e.got) m.seen)
     (Some p ∷ []) [] (box_came now new p k seen) in
     let hands = emptied_hands now new k (e.hands ∙ there.2) in let same = m.hands in
     let few = hands.0 in (
-      still_next f old now new p m.taken (next_by f now new p k low e.packet.1 number took),
+      still_next f old now new p m.taken (next_by f now new p k low e.parcel.1 number took),
       came,
       polled_on (knows old) (knows now) (knows new)
           (polled_by (knows old) (knows now) _ m.seen refl) (box_polled now new p k seen),
@@ -62,11 +62,12 @@ returns-then-load_box_in-clause-took g c = λ _. let f = c.args.f.now in let old
     )
 
 pub returns-clause-missed : goal.returns-clause-missed
-returns-clause-missed g c = λ _. let f = c.args.f.now in let old = c.args.port.now in
+returns-clause-missed g c = let f = c.args.f.now in let old = c.args.port.now in
     let now = c.loop-sender.port in let m = c.loop-sender.invariant.1 in
     let o = c.requires.owns in let k = c.loop-sender.sender in
     let end : k ≡ f.ranks = search rules in
     let steps = c.loop-sender.invariant.2 in (
+      refl,
       all_missed k old now (end ∙ sym o.2) m,
       m.taken,
       m.hands,
@@ -78,13 +79,13 @@ pub returns-then-load_box_in-clause-later : goal.returns-then-load_box_in-clause
 returns-then-load_box_in-clause-later g c = let now = c.loop-sender.port in
     let new = c.empty_box.new.port in let k = c.loop-sender.sender in
     let at = c.load_box_in.new.port in let there = c.if-load_box_in.ensures.found refl in
-    let came_now = Some c.empty_box.new.into ∷ [] in
+    let came_now = Some c.empty_box.result.value ∷ [] in
     let seen = c.empty_box.ensures.got ∙ (λ i. with_got_box came_now (with_emptying k None (there.1 i)))
     ∙ (λ i. with_got_box came_now (record (knows now) {
       emptying = set-set (knows now).emptying k (Some (box_load k (knows at))) None i;
     })) in
     λ i. missed_later k i (knows c.args.port.now) (knows now) (knows new)
-    c.loop-sender.invariant.1.seen (ap (λ (e : Entry). e.box_miss) seen)
+    c.loop-sender.invariant.1.seen (ap (λ (e : Entry _). e.box_miss) seen)
 
 pub returns-clause-later : goal.returns-clause-later
 returns-clause-later g c = let now = c.loop-sender.port in

@@ -1,7 +1,5 @@
-use Rattle.std.proofs.Common.{rules, ◌≡◌, ◌≤◌, ℕ, ◌+◌, [], ◌∷◌, Some, Bool, false, IsTrue}
-use Rattle.std.proofs.Common.{refl, sym, ap, ◌∙◌, subst, length}
-use Rattle.std.specs.Prelude.{Option}
-use Rattle.nm_port.proofs.PollLemmas.{if_none}
+use Rattle.std.proofs.Common.{rules, ◌≡◌, ◌+◌, [], ◌∷◌, Some, true, false}
+use Rattle.std.proofs.Common.{refl, sym, ap, ◌∙◌, subst}
 use Rattle.nm_types.specs.declared.packets.Path.{Path}
 use Rattle.nm_types.specs.declared.packets.Path.TheVariants.{Box, Cell}
 use Rattle.nm_chain.specs.Update.{update}
@@ -10,79 +8,86 @@ use Rattle.nm_chain.specs.Plays.{heads_of, with_heads, with_look, with_put}
 use Rattle.nm_chain.specs.declared.table.table.Look.TheVariants.{Fresh}
 use Rattle.nm_cells.specs.Ports.{knows, sent_by}
 use Rattle.nm_port.specs.Sends.{HadMiss}
-use Rattle.nm_port.proofs.SendLemmas.{box_hands, hold_since, was_tried}
+use Rattle.nm_port.proofs.SendLemmas.{box_hands, hold_since, if_err, if_ok, was_tried}
 use Rattle.nm_port.proofs.SendLemmas.{not_tried}
 use Rattle.nm_port.proofs.sends.send.Goals as goal
 
-box_no_cell : (x y : Option Path) → x ≡ Some Box → y ≡ Some Cell → x ≡ y → ⊥
-box_no_cell x y a b e = cc
-
-too_long : (n : ℕ) (b : Bool) → b ≡ false → (n ≤ 64 → IsTrue b) → n ≤ 64 → ⊥
-too_long n b not is fits = false_no (subst IsTrue not (is fits)) where
-  false_no : IsTrue false → ⊥
-  false_no t = cc
+box_no_cell : (x : Path) → x ≡ Box → x ≡ Cell → ⊥
+box_no_cell x a b = cc
 
 pub returns-then-not-fits_box-clause-by_box : goal.returns-then-not-fits_box-clause-by_box
-returns-then-not-fits_box-clause-by_box g c = λ e. absurd (c.send_by_cell.ensures.never_by_box e)
+returns-then-not-fits_box-clause-by_box g c = if_ok c.send_by_cell.result
+    (λ s h is. absurd (box_no_cell s.path is h.0)) c.send_by_cell.ensures.by_cell
 
 pub returns-then-not-fits_box-clause-by_cell : goal.returns-then-not-fits_box-clause-by_cell
-returns-then-not-fits_box-clause-by_cell g c = λ e. let x = c.args.packet.now in
+returns-then-not-fits_box-clause-by_cell g c = let x = c.args.parcel.value in
     let s = c.send_by_cell.new.port in
-    let same = not_tried (length x.payload) c.args.to (knows c.args.port.now)
-    (too_long (length x.payload) c.fits_box.result c.if-not-fits_box.true c.fits_box.ensures.1) in
-    c.send_by_cell.ensures.by_cell e
+    let long : g.I.Item.boxable x.item ≡ false = search rules in
+    let same = not_tried (g.I.Item.boxable x.item) c.args.to (knows c.args.port.now) long in
+    if_ok c.send_by_cell.result (λ _ h _. h.1
     ∙ (λ i. with_put ((c.args.to, Some x) ∷ []) (with_look false Fresh
-    (with_heads false (heads_of false (knows s)) (sym same i))))
+    (with_heads false (heads_of false (knows s)) (sym same i))))) c.send_by_cell.ensures.by_cell
 
 pub returns-then-not-fits_box-clause-back : goal.returns-then-not-fits_box-clause-back
-returns-then-not-fits_box-clause-back g c = let x = c.args.packet.now in
+returns-then-not-fits_box-clause-back g c = let x = c.args.parcel.value in
     let s = c.send_by_cell.new.port in
-    let same = not_tried (length x.payload) c.args.to (knows c.args.port.now)
-    (too_long (length x.payload) c.fits_box.result c.if-not-fits_box.true c.fits_box.ensures.1) in
-    if_none c.send_by_cell.result
-    (λ h. (h.0, subst (λ e. HadMiss false e (knows s)) (sym same) h.1)) c.send_by_cell.ensures.back
+    let long : g.I.Item.boxable x.item ≡ false = search rules in
+    let same = not_tried (g.I.Item.boxable x.item) c.args.to (knows c.args.port.now) long in
+    if_err c.send_by_cell.result
+    (λ _ h. (h.0, h.1, subst (λ e. HadMiss false e (knows s)) (sym same) h.2))
+    c.send_by_cell.ensures.back
 
-pub returns-then-put-clause-by_cell : goal.returns-then-put-clause-by_cell
-returns-then-put-clause-by_cell g c = λ e. absurd (box_no_cell _ _ refl refl e)
+pub put-requires-clause-fits : goal.put-requires-clause-fits
+put-requires-clause-fits g c = search rules
 
-pub returns-then-put-clause-hands : goal.returns-then-put-clause-hands
-returns-then-put-clause-hands g c = let p = c.args.port.now in let put = c.if-put.ensures.put refl in
+pub returns-in-Ok-clause-by_box : goal.returns-in-Ok-clause-by_box
+returns-in-Ok-clause-by_box g c = λ _.
+    let fits : g.I.Item.boxable c.args.parcel.value.item ≡ true = search rules in
+    (fits, c.in-Ok.ensures.put.0)
+
+pub returns-in-Ok-clause-by_cell : goal.returns-in-Ok-clause-by_cell
+returns-in-Ok-clause-by_cell g c = λ is. absurd (box_no_cell Box refl is)
+
+pub returns-in-Ok-clause-hands : goal.returns-in-Ok-clause-hands
+returns-in-Ok-clause-hands g c = let p = c.args.port.now in let put = c.in-Ok.ensures.put in
     box_hands p.hands c.put.new.port.hands (filling_of (knows p) c.args.to) put.1
 
-pub returns-clause-by_box : goal.returns-clause-by_box
-returns-clause-by_box g c = λ e. absurd (c.send_by_cell-2.ensures.never_by_box e)
+pub returns-in-Err-clause-by_box : goal.returns-in-Err-clause-by_box
+returns-in-Err-clause-by_box g c = if_ok c.send_by_cell-in-Err.result
+    (λ s h is. absurd (box_no_cell s.path is h.0)) c.send_by_cell-in-Err.ensures.by_cell
 
-pub returns-clause-by_cell : goal.returns-clause-by_cell
-returns-clause-by_cell g c = λ e. let p = c.args.port.now in let to = c.args.to in
-    let n = length c.args.packet.now.payload in let full = c.if-put.ensures.full refl in
-    let s = c.send_by_cell-2.new.port in
-    let tried : n ≤ 64 = search rules in
-    c.send_by_cell-2.ensures.by_cell e
-    ∙ (λ i. with_put ((to, Some c.args.packet.now) ∷ []) (with_look false Fresh (with_heads false
-    (heads_of false (knows s)) ((full.0 ∙ sym (was_tried n to (knows p) tried)) i))))
+pub returns-in-Err-clause-by_cell : goal.returns-in-Err-clause-by_cell
+returns-in-Err-clause-by_cell g c = let p = c.args.port.now in let to = c.args.to in
+    let n = g.I.Item.boxable c.args.parcel.value.item in let full = c.in-Err.ensures.full in
+    let s = c.send_by_cell-in-Err.new.port in let tried : n ≡ true = search rules in
+    if_ok c.send_by_cell-in-Err.result (λ _ h _. h.1
+    ∙ (λ i. with_put ((to, Some (full.0 i).value) ∷ []) (with_look false Fresh (with_heads false
+    (heads_of false (knows s)) ((full.1 ∙ sym (was_tried n to (knows p) tried)) i)))))
+    c.send_by_cell-in-Err.ensures.by_cell
 
-pub returns-clause-sent : goal.returns-clause-sent
-returns-clause-sent g c = let p = c.args.port.now in let q = c.put.new.port in
-    let to = c.args.to in let full = c.if-put.ensures.full refl in
-    let same : sent_by q ≡ sent_by p = λ n j. ap (λ e. sent_to j e.put_box e.put) full.0 n in
-    λ some. c.send_by_cell-2.ensures.sent some ∙ (λ i. update (same i) to (same i to + 1))
+pub returns-in-Err-clause-sent : goal.returns-in-Err-clause-sent
+returns-in-Err-clause-sent g c = let p = c.args.port.now in let q = c.put.new.port in
+    let to = c.args.to in let full = c.in-Err.ensures.full in
+    let same : sent_by q ≡ sent_by p = λ n j. ap (λ e. sent_to j e.put_box e.put) full.1 n in
+    if_ok c.send_by_cell-in-Err.result (λ _ h. h ∙ (λ i. update (same i) to (same i to + 1)))
+    c.send_by_cell-in-Err.ensures.sent
 
-pub returns-clause-back : goal.returns-clause-back
-returns-clause-back g c = let p = c.args.port.now in let to = c.args.to in
-    let n = length c.args.packet.now.payload in let full = c.if-put.ensures.full refl in
-    let s = c.send_by_cell-2.new.port in
-    let tried : n ≤ 64 = search rules in
-    if_none c.send_by_cell-2.result (λ h. (
-      h.0 ∙ (λ m j. ap (λ e. sent_to j e.put_box e.put) full.0 m),
+pub returns-in-Err-clause-back : goal.returns-in-Err-clause-back
+returns-in-Err-clause-back g c = let p = c.args.port.now in let to = c.args.to in
+    let n = g.I.Item.boxable c.args.parcel.value.item in let full = c.in-Err.ensures.full in
+    let s = c.send_by_cell-in-Err.new.port in let tried : n ≡ true = search rules in
+    if_err c.send_by_cell-in-Err.result (λ _ h. (
+      h.0 ∙ full.0,
+      h.1 ∙ (λ m j. ap (λ e. sent_to j e.put_box e.put) full.1 m),
       subst (λ e. HadMiss false e (knows s))
-          (full.0 ∙ sym (was_tried n to (knows p) tried)) h.1,
-    )) c.send_by_cell-2.ensures.back
+          (full.1 ∙ sym (was_tried n to (knows p) tried)) h.2,
+    )) c.send_by_cell-in-Err.ensures.back
 
-pub returns-clause-holding : goal.returns-clause-holding
-returns-clause-holding g c = let p = c.args.port.now in let q = c.put.new.port in
-    let s = c.send_by_cell-2.new.port in let full = c.if-put.ensures.full refl in
-    hold_since p q s (ap (λ e. e.hands) full.0) c.put.ensures.stays.1
-    c.send_by_cell-2.ensures.holding
+pub returns-in-Err-clause-holding : goal.returns-in-Err-clause-holding
+returns-in-Err-clause-holding g c = let p = c.args.port.now in let q = c.put.new.port in
+    let s = c.send_by_cell-in-Err.new.port in let full = c.in-Err.ensures.full in
+    hold_since p q s (ap (λ e. e.hands) full.1) c.put.ensures.stays.1
+    c.send_by_cell-in-Err.ensures.holding
 
-pub returns-then-put-clause-holding : goal.returns-then-put-clause-holding
-returns-then-put-clause-holding g c = λ k in_hand. ap (λ h. h k) c.put.ensures.stays.1
+pub returns-in-Ok-clause-holding : goal.returns-in-Ok-clause-holding
+returns-in-Ok-clause-holding g c = λ k in_hand. ap (λ h. h k) c.put.ensures.stays.1

@@ -12,7 +12,7 @@ use Rattle.nm_port.proofs.sends.send_by_cell.Goals as goal
 
 pub enqueue-requires-clause-in_hand : goal.enqueue-requires-clause-in_hand
 enqueue-requires-clause-in_hand g c = let t = c.in-Some.ensures.took in
-    let k = c.in-Some.cell.number in let i = c.put_in.ensures in (
+    let k = c.in-Some.cell.number in let i = c.put_in-spare.ensures in (
       t.has.0,
       t.has.1,
       subst (λ e. InHand (hand e k)) (sym i.stays.1) t.has.2,
@@ -21,51 +21,54 @@ enqueue-requires-clause-in_hand g c = let t = c.in-Some.ensures.took in
 
 pub enqueue-requires-clause-may : goal.enqueue-requires-clause-may
 enqueue-requires-clause-may g c = let p = c.args.port.now in let q = c.take_cell.new.port in
-    let t = c.in-Some.ensures.took in let k = c.in-Some.cell.number in let i = c.put_in.ensures in
-    let x = c.args.packet.now in let rank = i.stays.0.1 ∙ c.take_cell.ensures.owns.1 in
+    let t = c.in-Some.ensures.took in let k = c.in-Some.cell.number in let i = c.put_in-spare.ensures in
+    let x = c.args.parcel.value in let rank = i.stays.0.1 ∙ c.take_cell.ensures.owns.1 in
     let here = ap (λ h. h k) i.filled ∙ update_here (holding q) k (Some x) k refl in (
       c.requires.peer,
       sym t.has.1 ∙ (t.vacant refl).1 ∙ sym rank,
-      ap sender here ∙ ap suc (c.requires.packet.0 ∙ sym rank),
-      ap number here ∙ c.requires.packet.1
+      ap sender here ∙ ap suc (c.requires.parcel.0 ∙ sym rank),
+      ap number here ∙ c.requires.parcel.1
           ∙ sym (ap (λ e. sent_to c.args.to e.put_box e.put) (i.stays.1 ∙ t.knows)),
     )
 
 pub returns-clause-taken : goal.returns-clause-taken
-returns-clause-taken g c = let t = c.in-Some.ensures.took in let i = c.put_in.ensures.stays.0.2 in
+returns-clause-taken g c = let t = c.in-Some.ensures.took in let i = c.put_in-spare.ensures.stays.0.2 in
     let e = c.enqueue.ensures.stays.2 in let u = t.unpassed in let v = i.2 in let w = e.2 in
     (e.0 ∙ i.0 ∙ t.taken, e.1 ∙ i.1 ∙ t.held, omega arith)
 
 pub returns-clause-by_cell : goal.returns-clause-by_cell
-returns-clause-by_cell g c = λ _. let p = c.args.port.now in let q = c.take_cell.new.port in
+returns-clause-by_cell g c = let p = c.args.port.now in let q = c.take_cell.new.port in
     let s = c.enqueue.new.port in let t = c.in-Some.ensures.took in let k = c.in-Some.cell.number in
-    let i = c.put_in.ensures in let x = c.args.packet.now in let to = c.args.to in
-    let here = ap (λ h. h k) i.filled ∙ update_here (holding q) k (Some x) k refl in
-    cell_sent (knows p) (knows s) k (heads_of false (knows q)).shadow (holding q k) t.fresh
-    ((to, Some x) ∷ [])
-    (c.enqueue.ensures.put
-    ∙ (λ j. with_put ((to, here j) ∷ []) (with_hand k Away ((i.stays.1 ∙ t.knows) j))))
+    let i = c.put_in-spare.ensures in let x = c.args.parcel.value in let to = c.args.to in
+    let here = ap (λ h. h k) i.filled ∙ update_here (holding q) k (Some x) k refl in (
+      refl,
+      cell_sent (knows p) (knows s) k (heads_of false (knows q)).shadow (holding q k) t.fresh
+          ((to, Some x) ∷ [])
+          (c.enqueue.ensures.put
+          ∙ (λ j. with_put ((to, here j) ∷ []) (with_hand k Away ((i.stays.1 ∙ t.knows) j)))),
+    )
 
 pub returns-clause-sent : goal.returns-clause-sent
-returns-clause-sent g c = λ _. let p = c.args.port.now in let q = c.take_cell.new.port in
-    let t = c.in-Some.ensures.took in let k = c.in-Some.cell.number in let i = c.put_in.ensures in
-    let to = c.args.to in let y = holding c.put_in.new.port k in
+returns-clause-sent g c = let p = c.args.port.now in let q = c.take_cell.new.port in
+    let t = c.in-Some.ensures.took in let k = c.in-Some.cell.number in let i = c.put_in-spare.ensures in
+    let to = c.args.to in let y = holding c.put_in-spare.new.port k in
     λ n j. (ap (λ e. sent_to j e.put_box e.put) (c.enqueue.ensures.put
     ∙ (λ m. with_put ((to, y) ∷ []) (with_hand k Away ((i.stays.1 ∙ t.knows) m))))
     ∙ sent_cell (knows p).put_box (knows p).put to y j) n
 
 pub returns-clause-holding : goal.returns-clause-holding
 returns-clause-holding g c = let p = c.args.port.now in let q = c.take_cell.new.port in
-    let r = c.put_in.new.port in let s = c.enqueue.new.port in let t = c.in-Some.ensures.took in
+    let r = c.put_in-spare.new.port in let s = c.enqueue.new.port in let t = c.in-Some.ensures.took in
     let k = c.in-Some.cell.number in
-    cell_same (knows p) k (holding q k) (Some c.args.packet.now) None (holding p) (holding q) (holding r)
-    (holding s) t.fresh t.holding c.put_in.ensures.filled c.enqueue.ensures.given
+    cell_same (knows p) k (holding q k) (Some c.args.parcel.value) None (holding p) (holding q) (holding r)
+    (holding s) t.fresh t.holding c.put_in-spare.ensures.filled c.enqueue.ensures.given
 
 pub returns-in_default-clause-holding : goal.returns-in_default-clause-holding
 returns-in_default-clause-holding g c = λ k in_hand. ap (λ h. h k) c.in_default.ensures.none.3
 
 pub returns-in_default-clause-back : goal.returns-in_default-clause-back
 returns-in_default-clause-back g c = let miss = c.in_default.ensures.none.0 in (
+  refl,
   λ n j. miss_sent (knows c.args.port.now) (knows c.take_cell.new.port) miss j n,
   miss,
 )

@@ -23,6 +23,7 @@ use Rattle.nm_world.specs.Rest.{EndsAt, HasRun, IsCarried}
 use Rattle.nm_world.proofs.Chosen.{chosen, chosen_each, chosen_length, chosen_map, each_map, for_each}
 use Rattle.nm_world.proofs.Chosen.{map_twice, placed, same_there}
 use Rattle.nm_world.proofs.laws.actors_at_rest_make_a_run.Goals as goal
+use Rattle.nm_world.specs.Parcels.{packet_of}
 use Rattle.nm_types.proofs.ListLemmas.{get_some, get_map, place_below, map_length}
 
 entry_is : (ports : List RingPort) (i : ℕ) (p : RingPort) → slice_get ports i ≡ Some p →
@@ -79,19 +80,19 @@ returns c shape lines f r actors closed q script many each cells rings all_taken
 
   -- the lists of the closed ports
   sent_is : (i j : ℕ) (a : Actor) (p : P i a) → j < shape.ranks →
-      sent_list closed i j ≡ (p.1.past.left j).packets
+      map packet_of (sent_list closed i j) ≡ (p.1.past.left j).packets
   sent_is i j a p within =
-      c.a_close_carries.ensures.sent closed (map (λ a. a.port) actors) i j a.port
+      c.a_close_carries.ensures.sent packet_of closed (map (λ a. a.port) actors) i j a.port
       (p.1.past.left j).packets cells.entries (get_map (λ a. a.port) actors i a p.0)
       (cells.counts i j a.port (get_map (λ a. a.port) actors i a p.0) within).0
       (p.1.is.sent j within)
 
   taken_is : (i j : ℕ) (b : Actor) (p : P j b) → i < shape.ranks →
-      taken_list closed i j ≡ map (λ t. t.packet) (taken_from i p.1.past.log)
+      map packet_of (taken_list closed i j) ≡ map (λ t. t.packet) (taken_from i p.1.past.log)
   taken_is i j b p within =
       let many_entries = ap length cells.entries
       ∙ map_length knows (map (λ (a : Actor). a.port) actors) ∙ map_length (λ (a : Actor). a.port) actors in
-      c.a_close_carries.ensures.taken closed (map (λ a. a.port) actors) i j b.port
+      c.a_close_carries.ensures.taken packet_of closed (map (λ a. a.port) actors) i j b.port
       (map (λ t. t.packet) (taken_from i p.1.past.log)) cells.entries
       (get_map (λ a. a.port) actors j b p.0) (omega (arith, within, many_entries, many))
       (cells.counts j i b.port (get_map (λ a. a.port) actors j b p.0) within).1
@@ -128,7 +129,7 @@ returns c shape lines f r actors closed q script many each cells rings all_taken
   passed : (i j : ℕ) (a b : Actor) (p : P i a) (o : P j b) → IsPassed i j (one i a p) (one j b o)
   passed i j a b p o =
       record {
-        packets = sym (taken_is i j b o (below i a p.0)) ∙ all_sent i j a b p.0 o.0
+        packets = sym (taken_is i j b o (below i a p.0)) ∙ ap (map packet_of) (all_sent i j a b p.0 o.0)
             ∙ sent_is i j a p (below j b o.0);
         pieces = o.1.is.pulled i (below i a p.0) ∙ sym (pulled_is i j b o.0)
             ∙ all_pulled i j a b p.0 o.0 ∙ pushed_is i j a p.0

@@ -9,6 +9,7 @@ use Rattle.nm_copyring.specs.declared.port.RingPort.{RingPort}
 use Rattle.nm_copyring.specs.Ports as ring_port
 use Rattle.nm_world.specs.Runs.{InPlace, NewInOrder}
 use Rattle.nm_world.proofs.Runs.{in_place_push}
+use Rattle.nm_types.specs.declared.packets.Packet.{Packet}
 use Rattle.nm_world.proofs.whole.cast.Goals as goal
 
 pub new-requires : goal.new-requires
@@ -16,7 +17,7 @@ new-requires c =
     let rest = into_iter_items c.next.new.self in
     let split : into_iter_items c.loop-port.port-iterator ≡ c.in-Some.port ∷ rest = c.in-Some.ensures.steps.0 in
     record {
-      rank = subst (λ (ps : List Port). All (λ (p : Port). p.rank < c.args.shape.ranks) ps) split
+      rank = subst (λ (ps : List (Port Packet)). All (λ (p : Port Packet). p.rank < c.args.shape.ranks) ps) split
           c.loop-port.invariant.ranks 0 c.in-Some.port (omega arith);
     }
 
@@ -40,7 +41,7 @@ loop-port-preserved c =
     let two = ap length other in
     let pairs = before.pairs in
     let count = before.count in
-    let ranks = subst (λ (ps : List Port). All (λ (p : Port). p.rank < shape.ranks) ps) split before.ranks in
+    let ranks = subst (λ (ps : List (Port Packet)). All (λ (p : Port Packet). p.rank < shape.ranks) ps) split before.ranks in
     record {
       ranks = λ i d low. ranks (suc i) d (omega (arith, low));
       pairs = omega (arith, one, two, pairs);
@@ -49,7 +50,7 @@ loop-port-preserved c =
           let was = before.place f r in_range sizes new in
           let order : NewInOrder f r k (port ∷ rest) (ring ∷ others) =
           subst (λ (qs : List RingPort). NewInOrder f r k (port ∷ rest) qs) other
-          (subst (λ (ps : List Port). NewInOrder f r k ps (into_iter_items c.loop-port.rings)) split was.0) in
+          (subst (λ (ps : List (Port Packet)). NewInOrder f r k ps (into_iter_items c.loop-port.rings)) split was.0) in
           let own = order.0.1 in
           let stands = made.stands f r in_range sizes
           (subst (λ (n : ℕ). IsNew f port n) (sym own) order.0)

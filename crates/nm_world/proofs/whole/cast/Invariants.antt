@@ -6,13 +6,14 @@ use Rattle.nm_cells.specs.declared.port.Port.{Port}
 use Rattle.nm_copyring.specs.declared.port.Rings.{Rings}
 use Rattle.nm_process.specs.Lines.{AreLines}
 use Rattle.nm_world.specs.Runs.{InPlace, NewInOrder}
+use Rattle.nm_types.specs.declared.packets.Packet.{Packet}
 use Rattle.nm_world.proofs.whole.cast.Given as goal
 
 abbrev pub invariant-loop-port : goal.invariant-loop-port
 invariant-loop-port l = record {
-  ranks : All (λ (p : Port). p.rank < l.shape.ranks) (into_iter_items l.port-iterator);
+  ranks : All (λ (p : Port Packet). p.rank < l.shape.ranks) (into_iter_items l.port-iterator);
   pairs : length (into_iter_items l.rings) ≡ length (into_iter_items l.port-iterator);
-  place : (f : Fabric) (r : Rings) → AreLines l.shape.ranks l.lines →
+  place : (f : Fabric Packet) (r : Rings) → AreLines l.shape.ranks l.lines →
       (f.ranks ≡ l.shape.ranks) × (r.ranks ≡ l.shape.ranks) →
       NewInOrder f r 0 l.fn.ports.items l.fn.rings.items →
       NewInOrder f r (length l.actors.items) (into_iter_items l.port-iterator) (into_iter_items l.rings)

@@ -1,5 +1,5 @@
 -- From rest and both closes.
-use Rattle.std.proofs.Common.{◌≡◌, ℕ, ◌+◌, ◌*◌, Some, List, map, sym, ap, ◌∙◌, subst, arith}
+use Rattle.std.proofs.Common.{◌≡◌, ℕ, ◌*◌, Some, List, map, sym, ap, ◌∙◌, subst, arith}
 use Rattle.std.specs.Prelude.{slice_get}
 use Rattle.std.proofs.Common.{get_or}
 use Rattle.std.proofs.lemmas.Option.{slice_get-get_or}
@@ -23,6 +23,7 @@ use Rattle.nm_world.proofs.Runs.{in_place_at, in_place_kept, in_place_stands, ke
 use Rattle.nm_world.proofs.Runs.{placed_new}
 use Rattle.nm_world.proofs.whole.run_lines.Goals as goal
 use Rattle.nm_types.proofs.ListLemmas.{get_from_map}
+use Rattle.nm_types.specs.declared.packets.Packet.{Packet}
 
 -- the actors at the start, and at the end
 pub cast-requires : goal.cast-requires
@@ -70,9 +71,9 @@ close-closed-requires-clause-ports g c k p at =
     let settled = c.in_ok-settle_all.ensures in
     let at_end = in_place_kept c.args.shape lines f r 0 cast actors place settled.kept in
     let there = get_from_map (λ (a : Actor). a.port) actors k p
-    (subst (λ (ps : List Port). slice_get ps k ≡ Some p) c.in_ok-parts.ensures.ports at) in
+    (subst (λ (ps : List (Port Packet)). slice_get ps k ≡ Some p) c.in_ok-parts.ensures.ports at) in
     let s = in_place_at c.args.shape lines f r 0 k actors there.0 at_end there.1 in
-    subst (λ (x : Port). Owns c.in_ok-fabric.fabric x × (x.rank ≡ k) × (x.hands ≡ 0)) there.2
+    subst (λ (x : Port Packet). Owns c.in_ok-fabric.fabric x × (x.rank ≡ k) × (x.hands ≡ 0)) there.2
     (s.0.is.cells, s.1 ∙ omega arith, s.0.is.hands)
 
 pub close-rings-requires-clause-ports : goal.close-rings-requires-clause-ports
@@ -120,7 +121,7 @@ returns-clause-run g c =
     subst (λ (n : ℕ). IsClosed n (map (λ (a : Actor). a.port) actors) c.close-closed.result) ranks (record {
       entries = cells.entries ∙ ap (map knows) ports;
       counts = λ k j p at within. cells.counts k j p
-          (subst (λ (ps : List Port). slice_get ps k ≡ Some p) (sym ports) at) within;
+          (subst (λ (ps : List (Port Packet)). slice_get ps k ≡ Some p) (sym ports) at) within;
       prefix = cells.prefix;
     }) in
     let ring_closed : IsRingClosed c.args.shape.ranks (map (λ (a : Actor). a.ring) actors) c.close-rings.result =
@@ -172,7 +173,7 @@ returns-clause-home g c =
     record {
       entries = cells.entries ∙ ap (map knows) ports;
       counts = λ k j p at within. cells.counts k j p
-          (subst (λ (ps : List Port). slice_get ps k ≡ Some p) (sym ports) at) within;
+          (subst (λ (ps : List (Port Packet)). slice_get ps k ≡ Some p) (sym ports) at) within;
       prefix = cells.prefix;
     } in
     let home = cells.all_taken (all_taken_of c.in_ok-fabric.fabric.ranks actors c.close-closed.result many

@@ -15,7 +15,7 @@ use Rattle.nm_types.proofs.ListLemmas.{map_length}
 use Rattle.nm_chain.proofs.ListLemmas.{get_mapped}
 
 pub split_seat-requires : goal.split_seat-requires
-split_seat-requires c = let f = c.args.self in let z = f.sizes.0 in let some = f.some in
+split_seat-requires g c = let f = c.args.self in let z = f.sizes.0 in let some = f.some in
     let seat = c.gather-seat in let low : 0 < f.board.shared.table_id.words = omega arith in (
       seat.ensures.table,
       low,
@@ -23,7 +23,7 @@ split_seat-requires c = let f = c.args.self in let z = f.sizes.0 in let some = f
     )
 
 pub settle-cells-requires-clause-all : goal.settle-cells-requires-clause-all
-settle-cells-requires-clause-all c = let items = c.args.ports.items in
+settle-cells-requires-clause-all g c = let items = c.args.ports.items in
     let whole : c.split_seat.new.seat.me.0 ≡ view (map knows items) =
     ap (λ m. m.0) c.split_seat.ensures.2 ∙ ap (λ m. m.0) c.gather-seat.ensures.all in
     let is : c.split_seat.new.seat.me.0.entries ≡ map knows items = ap (λ v. v.entries) whole in (
@@ -41,18 +41,18 @@ settle-cells-requires-clause-all c = let items = c.args.ports.items in
     )
 
 pub returns-clause-settled : goal.returns-clause-settled
-returns-clause-settled c = let items = c.args.ports.items in
+returns-clause-settled g c = let items = c.args.ports.items in
     let is : c.split_seat.new.seat.me.0.entries ≡ map knows items =
     ap (λ m. m.0.entries) c.split_seat.ensures.2
     ∙ ap (λ m. m.0.entries) c.gather-seat.ensures.all in
     let listed : seen_in c.into_badge-badge.result.views ≡ map knows items =
     ap seen_in c.into_badge-badge.ensures.2 ∙ ap (λ m. m.0.seen) c.split_seat.ensures.4
     ∙ ap (λ m. m.0.entries) c.gather-seat.ensures.all in
-    subst (λ es. Settled c.args.self.board.shared.key es c.settle-cells.result.home)
+    subst (λ es. Settled g.I.Item.boxable c.args.self.board.shared.key es c.settle-cells.result.home)
     (is ∙ sym listed) c.settle-cells.ensures.settled
 
 pub returns-clause-paths : goal.returns-clause-paths
-returns-clause-paths c = let items = c.args.ports.items in
+returns-clause-paths g c = let items = c.args.ports.items in
     let is : c.split_seat.new.seat.me.0.entries ≡ map knows items =
     ap (λ m. m.0.entries) c.split_seat.ensures.2
     ∙ ap (λ m. m.0.entries) c.gather-seat.ensures.all in
@@ -62,7 +62,7 @@ returns-clause-paths c = let items = c.args.ports.items in
     subst (λ es. Prefixed c.args.self.ranks es) (is ∙ sym listed) c.settle-cells.ensures.paths
 
 pub returns-clause-home : goal.returns-clause-home
-returns-clause-home c all = let items = c.args.ports.items in
+returns-clause-home g c all = let items = c.args.ports.items in
     let is : c.split_seat.new.seat.me.0.entries ≡ map knows items =
     ap (λ m. m.0.entries) c.split_seat.ensures.2
     ∙ ap (λ m. m.0.entries) c.gather-seat.ensures.all in
@@ -72,7 +72,7 @@ returns-clause-home c all = let items = c.args.ports.items in
     c.settle-cells.ensures.home (subst (λ es. AllCame c.args.self.ranks es) (listed ∙ sym is) all)
 
 pub invariant_of-result : goal.invariant_of-result
-invariant_of-result c = let f = c.args.self in let items = c.args.ports.items in
+invariant_of-result g c = let f = c.args.self in let items = c.args.ports.items in
     let is : c.split_seat.new.seat.me.0.entries ≡ map knows items =
     ap (λ m. m.0.entries) c.split_seat.ensures.2
     ∙ ap (λ m. m.0.entries) c.gather-seat.ensures.all in
@@ -83,7 +83,7 @@ invariant_of-result c = let f = c.args.self in let items = c.args.ports.items in
     ∙ ap (λ m. m.0.entries) c.gather-seat.ensures.all in
     let counted : ps ≡ counts_of items = ap (map (λ v. v.items)) c.gather-seat.ensures.counted in
     let home = c.settle-cells.result.home in
-    let settled = subst (λ l. Settled f.board.shared.key l home)
+    let settled = subst (λ l. Settled g.I.Item.boxable f.board.shared.key l home)
     (is ∙ sym listed) c.settle-cells.ensures.settled in
     record {
       tallied = tallied f items c.requires.count c.requires.ports es ps home listed counted
@@ -91,7 +91,7 @@ invariant_of-result c = let f = c.args.self in let items = c.args.ports.items in
     }
 
 pub returns-clause-counts : goal.returns-clause-counts
-returns-clause-counts c = let f = c.args.self in let items = c.args.ports.items in
+returns-clause-counts g c = let f = c.args.self in let items = c.args.ports.items in
     let is : c.split_seat.new.seat.me.0.entries ≡ map knows items =
     ap (λ m. m.0.entries) c.split_seat.ensures.2
     ∙ ap (λ m. m.0.entries) c.gather-seat.ensures.all in
@@ -102,12 +102,12 @@ returns-clause-counts c = let f = c.args.self in let items = c.args.ports.items 
     ∙ ap (λ m. m.0.entries) c.gather-seat.ensures.all in
     let counted : ps ≡ counts_of items = ap (map (λ v. v.items)) c.gather-seat.ensures.counted in
     let home = c.settle-cells.result.home in
-    let settled = subst (λ l. Settled f.board.shared.key l home)
+    let settled = subst (λ l. Settled g.I.Item.boxable f.board.shared.key l home)
     (is ∙ sym listed) c.settle-cells.ensures.settled in
     counts f items c.requires.count c.requires.ports es ps home listed counted settled
 
 pub returns-clause-prefix : goal.returns-clause-prefix
-returns-clause-prefix c = let f = c.args.self in let items = c.args.ports.items in
+returns-clause-prefix g c = let f = c.args.self in let items = c.args.ports.items in
     let is : c.split_seat.new.seat.me.0.entries ≡ map knows items =
     ap (λ m. m.0.entries) c.split_seat.ensures.2
     ∙ ap (λ m. m.0.entries) c.gather-seat.ensures.all in
@@ -118,12 +118,12 @@ returns-clause-prefix c = let f = c.args.self in let items = c.args.ports.items 
     ∙ ap (λ m. m.0.entries) c.gather-seat.ensures.all in
     let counted : ps ≡ counts_of items = ap (map (λ v. v.items)) c.gather-seat.ensures.counted in
     let home = c.settle-cells.result.home in
-    let settled = subst (λ l. Settled f.board.shared.key l home)
+    let settled = subst (λ l. Settled g.I.Item.boxable f.board.shared.key l home)
     (is ∙ sym listed) c.settle-cells.ensures.settled in
     prefix f items c.requires.count c.requires.ports es ps home listed counted settled
 
 pub returns-clause-all_taken : goal.returns-clause-all_taken
-returns-clause-all_taken c even = let f = c.args.self in let items = c.args.ports.items in
+returns-clause-all_taken g c even = let f = c.args.self in let items = c.args.ports.items in
     let is : c.split_seat.new.seat.me.0.entries ≡ map knows items =
     ap (λ m. m.0.entries) c.split_seat.ensures.2
     ∙ ap (λ m. m.0.entries) c.gather-seat.ensures.all in
@@ -134,7 +134,7 @@ returns-clause-all_taken c even = let f = c.args.self in let items = c.args.port
     ∙ ap (λ m. m.0.entries) c.gather-seat.ensures.all in
     let counted : ps ≡ counts_of items = ap (map (λ v. v.items)) c.gather-seat.ensures.counted in
     let home = c.settle-cells.result.home in
-    let settled = subst (λ l. Settled f.board.shared.key l home)
+    let settled = subst (λ l. Settled g.I.Item.boxable f.board.shared.key l home)
     (is ∙ sym listed) c.settle-cells.ensures.settled in
     c.settle-cells.ensures.home (subst (AllCame f.ranks) (listed ∙ sym is)
     (all_came f items c.requires.count c.requires.ports es ps home listed counted settled even))

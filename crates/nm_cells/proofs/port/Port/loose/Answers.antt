@@ -5,11 +5,11 @@ use Rattle.nm_cells.proofs.HoldingLemmas.{held_here}
 use Rattle.nm_cells.proofs.port.Port.loose.Goals as goal
 
 pub invariant_of-self-clause-kept : goal.invariant_of-self-clause-kept
-invariant_of-self-clause-kept c = let p = c.args.self.now in λ d i. let low = i.0 in
+invariant_of-self-clause-kept g c = let p = c.args.self.now in λ d i. let low = i.0 in
     p.kept d (omega arith, i.1)
 
 pub returns-clause-some : goal.returns-clause-some
-returns-clause-some c = let p = c.args.self.now in let e = knows p in
+returns-clause-some g c = let p = c.args.self.now in let e = knows p in
     let some = c.if-end-first.false in let k = p.kept p.loose.first (omega arith, some) in record {
       was = (omega arith, some);
       lowest = λ d i. i.0;

@@ -8,7 +8,7 @@ more : (a b t m : ℕ) → t ≡ min a m → min (t + b) m ≡ min (a + b) m
 more a b t m is = omega arith
 
 pub loop-i-preserved : goal.loop-i-preserved
-loop-i-preserved c = let xs = c.args.self.now.peers.items in let i = c.loop-i.i in
+loop-i-preserved g c = let xs = c.args.self.now.peers.items in let i = c.loop-i.i in
     let f : Tally → ℕ = λ p. p.unpassed in let e = c.index.result.now in
     let long = c.len-i-end.ensures in let test = c.loop-i-test.true in
     let s = sum_by_more f xs i e (omega arith) in

@@ -4,5 +4,5 @@ use Rattle.nm_chain.specs.Plays.{capped}
 use Rattle.nm_cells.proofs.port.Port.unpassed.Given as goal
 
 abbrev pub invariant-loop-i : goal.invariant-loop-i
-invariant-loop-i l = l.total ≡ capped
+invariant-loop-i g l = l.total ≡ capped
     (sum_by (λ (p : Tally). p.unpassed) (take l.i l.fn.self.peers.items))

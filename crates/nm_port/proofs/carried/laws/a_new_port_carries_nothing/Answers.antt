@@ -5,10 +5,10 @@ use Rattle.nm_chain.specs.Rule.{sent_to}
 use Rattle.nm_port.proofs.carried.laws.a_new_port_carries_nothing.Goals as goal
 
 pub returns-clause-sent : goal.returns-clause-sent
-returns-clause-sent c f p k j new = record {
+returns-clause-sent g c seen f p k j new = record {
   listed = record { each = λ n. tt };
-  many = sym (ap (λ (e : Entry). sent_to j e.put_box e.put) new.2);
+  many = sym (ap (λ (e : Entry _). sent_to j e.put_box e.put) new.2);
 }
 
 pub returns-clause-passed : goal.returns-clause-passed
-returns-clause-passed c f p k i new = record { listed = record { each = λ n. tt }; many = sym (new.5 i) }
+returns-clause-passed g c seen f p k i new = record { listed = record { each = λ n. tt }; many = sym (new.5 i) }

@@ -1,9 +1,9 @@
--- The packet is one of those that came, and has the next number.
+-- The parcel is one of those that came, and has the next number.
 use Rattle.std.proofs.Common.{◌≡◌, ◌⊎◌, ℕ, ◌+◌, ◌==◌, Bool, true, false, cond, Some, List, [], ◌∷◌, ◌++◌}
 use Rattle.std.proofs.Common.{length, refl, sym, ap, ◌∙◌, subst, arith, length-append}
 use Rattle.std.proofs.lemmas.Bool.Decides.{nat_tests}
 use native.Mathlib.Decide.{ℕ_discrete}
-use Rattle.nm_types.specs.declared.packets.Packet.{Packet}
+use Rattle.nm_chain.specs.declared.table.parcels.Parcel.{Parcel}
 use Rattle.nm_chain.specs.Update.{pick, update}
 use Rattle.nm_chain.specs.declared.table.table.Entry.{Entry}
 use Rattle.nm_chain.specs.Rule.{Load, from}
@@ -13,12 +13,12 @@ use Rattle.nm_port.specs.CarriedPackets.{AreListed, HasPassed}
 use Rattle.nm_port.proofs.Listed.{listed_more, listed_push}
 use Rattle.nm_port.proofs.carried.laws.a_poll_carries.Goals as goal
 
-listed_on : (e e' : Entry) (boxes cells : List Load) (i : ℕ) (ps : List Packet) →
+listed_on : {A B : Type 0} (seen : Parcel A → B) (e e' : Entry A) (boxes cells : List (Load A)) (i : ℕ) (bs : List B) →
     e'.got_box ≡ e.got_box ++ boxes → e'.got ≡ e.got ++ cells →
-    AreListed (from i e.got_box) (from i e.got) ps → AreListed (from i e'.got_box) (from i e'.got) ps
-listed_on e e' boxes cells i ps box cell is =
+    AreListed seen (from i e.got_box) (from i e.got) bs → AreListed seen (from i e'.got_box) (from i e'.got) bs
+listed_on seen e e' boxes cells i bs box cell is =
     rw (ap (from i) box ∙ from_append i e.got_box boxes, ap (from i) cell ∙ from_append i e.got cells)
-    (listed_more (from i e.got_box) (from i e.got) (from i boxes) (from i cells) ps is)
+    (listed_more seen (from i e.got_box) (from i e.got) (from i boxes) (from i cells) bs is)
 
 updated_here : (f : ℕ → ℕ) (k j y : ℕ) → (k == j) ≡ true → update f k y j ≡ y
 updated_here f k j y same = by (ℕ_discrete j k) where
@@ -39,31 +39,31 @@ updated_else f k j y other = by (ℕ_discrete j k) where
       clash b one two = cc
 
 pub returns-clause-some : goal.returns-clause-some
-returns-clause-some c e e' taken taken' boxes cells i p ps box cell number counts there is = by (p.from == i) refl where
+returns-clause-some g c seen e e' taken taken' boxes cells i p bs box cell number counts there is = by (p.from == i) refl where
   is_from : (from i : ℕ) → (from == i) ≡ true → from ≡ i
   is_from from i same = grind (arith, nat_tests)
 
-  by : (b : Bool) → (p.from == i) ≡ b → HasPassed e' (taken' i) i (cond b (ps ++ p ∷ []) ps)
+  by : (b : Bool) → (p.from == i) ≡ b → HasPassed seen e' (taken' i) i (cond b (bs ++ seen p ∷ []) bs)
   by true equal =
       let own : p.from ≡ i = is_from p.from i equal in
       let count : taken' i ≡ taken p.from + 1 = ap (λ (f : ℕ → ℕ). f i) counts
       ∙ updated_here taken p.from i (taken p.from + 1) equal in
-      let before : length ps ≡ taken p.from = is.many ∙ ap taken (sym own) in
-      let longer = length-append ps (p ∷ []) in
+      let before : length bs ≡ taken p.from = is.many ∙ ap taken (sym own) in
+      let longer = length-append bs (seen p ∷ []) in
       record {
-        listed = listed_push (from i e'.got_box) (from i e'.got) ps p (number ∙ sym before)
+        listed = listed_push seen (from i e'.got_box) (from i e'.got) bs p (number ∙ sym before)
             (subst (λ k. IsOneOf (Some p) (from k e'.got_box) ⊎ IsOneOf (Some p) (from k e'.got)) own there)
-            (listed_on e e' boxes cells i ps box cell is.listed);
+            (listed_on seen e e' boxes cells i bs box cell is.listed);
         many = omega (arith, count, before, longer);
       }
   by false differs =
       let count : taken' i ≡ taken i = ap (λ (f : ℕ → ℕ). f i) counts
       ∙ updated_else taken p.from i (taken p.from + 1) differs in
       record {
-        listed = listed_on e e' boxes cells i ps box cell is.listed;
+        listed = listed_on seen e e' boxes cells i bs box cell is.listed;
         many = is.many ∙ sym count;
       }
 
 pub returns-clause-none : goal.returns-clause-none
-returns-clause-none c e e' t i boxes cells ps box cell is =
-    record { listed = listed_on e e' boxes cells i ps box cell is.listed; many = is.many }
+returns-clause-none g c seen e e' t i boxes cells bs box cell is =
+    record { listed = listed_on seen e e' boxes cells i bs box cell is.listed; many = is.many }

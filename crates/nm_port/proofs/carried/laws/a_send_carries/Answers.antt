@@ -1,9 +1,9 @@
--- The packet is the last one of those by its way, and has the next number.
+-- The parcel is the last one of those by its way, and has the next number.
 use Rattle.std.proofs.Common.{◌≡◌, inl, inr, ℕ, ◌==◌, Bool, true, false, cond, Some, List, [], ◌∷◌, ◌++◌}
 use Rattle.std.proofs.Common.{length, refl, sym, ap, ◌∙◌, subst, arith, append-nil, length-append}
 use Rattle.std.proofs.lemmas.Bool.Decides.{nat_tests}
 use native.Mathlib.Decide.{ℕ_discrete}
-use Rattle.nm_types.specs.declared.packets.Packet.{Packet}
+use Rattle.nm_chain.specs.declared.table.parcels.Parcel.{Parcel}
 use Rattle.nm_chain.specs.declared.table.table.Entry.{Entry}
 use Rattle.nm_chain.specs.Rule.{Load, put_to, sent_to}
 use Rattle.nm_chain.proofs.QueueLemmas.{pick_no, pick_yes, put_append}
@@ -13,14 +13,14 @@ use Rattle.nm_port.proofs.Listed.{listed_more, listed_push}
 use Rattle.nm_port.proofs.carried.laws.a_send_carries.Goals as goal
 
 -- what was put for a rank, with one more
-put_here : (j : ℕ) (xs : List (ℕ × Load)) (to : ℕ) (y : Load) → (to == j) ≡ true →
+put_here : {A : Type 0} (j : ℕ) (xs : List (ℕ × Load A)) (to : ℕ) (y : Load A) → (to == j) ≡ true →
     put_to j (xs ++ (to, y) ∷ []) ≡ put_to j xs ++ y ∷ []
 put_here j xs to y same = put_append j xs ((to, y) ∷ [])
     ∙ ap (λ l. put_to j xs ++ l) (pick_yes (ℕ_discrete to j) (y ∷ []) [] (is to j same)) where
       is : (to j : ℕ) → (to == j) ≡ true → to ≡ j
       is to j same = grind (arith, nat_tests)
 
-put_other : (j : ℕ) (xs : List (ℕ × Load)) (to : ℕ) (y : Load) → (to == j) ≡ false →
+put_other : {A : Type 0} (j : ℕ) (xs : List (ℕ × Load A)) (to : ℕ) (y : Load A) → (to == j) ≡ false →
     put_to j (xs ++ (to, y) ∷ []) ≡ put_to j xs
 put_other j xs to y other = put_append j xs ((to, y) ∷ [])
     ∙ ap (λ l. put_to j xs ++ l) (pick_no (ℕ_discrete to j) (y ∷ []) [] (isnt to j other))
@@ -31,64 +31,64 @@ put_other j xs to y other = put_append j xs ((to, y) ∷ [])
             clash : (b : Bool) → b ≡ false → b ≡ true → ⊥
             clash b one two = cc
 
-same : (e e' : Entry) (j : ℕ) (ps : List Packet) → put_to j e'.put_box ≡ put_to j e.put_box →
-    put_to j e'.put ≡ put_to j e.put → HasSent e j ps → HasSent e' j ps
-same e e' j ps box cell is =
+same : {A B : Type 0} (seen : Parcel A → B) (e e' : Entry A) (j : ℕ) (bs : List B) → put_to j e'.put_box ≡ put_to j e.put_box →
+    put_to j e'.put ≡ put_to j e.put → HasSent seen e j bs → HasSent seen e' j bs
+same seen e e' j bs box cell is =
     record {
       listed = rw (box, cell) is.listed;
       many = rw (box, cell) is.many;
     }
 
 pub returns-clause-by_box : goal.returns-clause-by_box
-returns-clause-by_box c e e' j to p ps box cell number is = by (to == j) refl where
+returns-clause-by_box g c seen e e' j to p bs box cell number is = by (to == j) refl where
   is_to : (to j : ℕ) → (to == j) ≡ true → to ≡ j
   is_to to j same = grind (arith, nat_tests)
 
-  by : (b : Bool) → (to == j) ≡ b → HasSent e' j (cond b (ps ++ p ∷ []) ps)
+  by : (b : Bool) → (to == j) ≡ b → HasSent seen e' j (cond b (bs ++ seen p ∷ []) bs)
   by true equal =
       let boxes : put_to j e'.put_box ≡ put_to j e.put_box ++ Some p ∷ [] =
       ap (put_to j) box ∙ put_here j e.put_box to (Some p) equal in
       let cells : put_to j e'.put ≡ put_to j e.put = ap (put_to j) cell in
-      let next : p.seq ≡ length ps = number ∙ ap (λ k. sent_to k e.put_box e.put) (is_to to j equal) ∙ sym is.many in
+      let next : p.seq ≡ length bs = number ∙ ap (λ k. sent_to k e.put_box e.put) (is_to to j equal) ∙ sym is.many in
       record {
-        listed = rw (boxes, cells) (listed_push (put_to j e.put_box ++ Some p ∷ []) (put_to j e.put) ps p next
+        listed = rw (boxes, cells) (listed_push seen (put_to j e.put_box ++ Some p ∷ []) (put_to j e.put) bs p next
             (inl (one_of_last (Some p) (put_to j e.put_box)))
-            (subst (λ l. AreListed (put_to j e.put_box ++ Some p ∷ []) l ps) (append-nil (put_to j e.put))
-            (listed_more (put_to j e.put_box) (put_to j e.put) (Some p ∷ []) [] ps is.listed)));
+            (subst (λ l. AreListed seen (put_to j e.put_box ++ Some p ∷ []) l bs) (append-nil (put_to j e.put))
+            (listed_more seen (put_to j e.put_box) (put_to j e.put) (Some p ∷ []) [] bs is.listed)));
         many =
             let grown = ap length boxes ∙ length-append (put_to j e.put_box) (Some p ∷ []) in
             let same_cells = ap length cells in
-            let longer = length-append ps (p ∷ []) in
+            let longer = length-append bs (seen p ∷ []) in
             omega (arith, grown, same_cells, longer, is.many);
       }
-  by false differs = same e e' j ps (ap (put_to j) box ∙ put_other j e.put_box to (Some p) differs)
+  by false differs = same seen e e' j bs (ap (put_to j) box ∙ put_other j e.put_box to (Some p) differs)
       (ap (put_to j) cell) is
 
 pub returns-clause-by_cell : goal.returns-clause-by_cell
-returns-clause-by_cell c e e' j to p ps box cell number is = by (to == j) refl where
+returns-clause-by_cell g c seen e e' j to p bs box cell number is = by (to == j) refl where
   is_to : (to j : ℕ) → (to == j) ≡ true → to ≡ j
   is_to to j same = grind (arith, nat_tests)
 
-  by : (b : Bool) → (to == j) ≡ b → HasSent e' j (cond b (ps ++ p ∷ []) ps)
+  by : (b : Bool) → (to == j) ≡ b → HasSent seen e' j (cond b (bs ++ seen p ∷ []) bs)
   by true equal =
       let cells : put_to j e'.put ≡ put_to j e.put ++ Some p ∷ [] =
       ap (put_to j) cell ∙ put_here j e.put to (Some p) equal in
       let boxes : put_to j e'.put_box ≡ put_to j e.put_box = ap (put_to j) box in
-      let next : p.seq ≡ length ps = number ∙ ap (λ k. sent_to k e.put_box e.put) (is_to to j equal) ∙ sym is.many in
+      let next : p.seq ≡ length bs = number ∙ ap (λ k. sent_to k e.put_box e.put) (is_to to j equal) ∙ sym is.many in
       record {
-        listed = rw (boxes, cells) (listed_push (put_to j e.put_box) (put_to j e.put ++ Some p ∷ []) ps p next
+        listed = rw (boxes, cells) (listed_push seen (put_to j e.put_box) (put_to j e.put ++ Some p ∷ []) bs p next
             (inr (one_of_last (Some p) (put_to j e.put)))
-            (subst (λ l. AreListed l (put_to j e.put ++ Some p ∷ []) ps) (append-nil (put_to j e.put_box))
-            (listed_more (put_to j e.put_box) (put_to j e.put) [] (Some p ∷ []) ps is.listed)));
+            (subst (λ l. AreListed seen l (put_to j e.put ++ Some p ∷ []) bs) (append-nil (put_to j e.put_box))
+            (listed_more seen (put_to j e.put_box) (put_to j e.put) [] (Some p ∷ []) bs is.listed)));
         many =
             let grown = ap length cells ∙ length-append (put_to j e.put) (Some p ∷ []) in
             let same_boxes = ap length boxes in
-            let longer = length-append ps (p ∷ []) in
+            let longer = length-append bs (seen p ∷ []) in
             omega (arith, grown, same_boxes, longer, is.many);
       }
-  by false differs = same e e' j ps (ap (put_to j) box)
+  by false differs = same seen e e' j bs (ap (put_to j) box)
       (ap (put_to j) cell ∙ put_other j e.put to (Some p) differs) is
 
 pub returns-clause-none : goal.returns-clause-none
-returns-clause-none c e e' j ps box cell is =
-    same e e' j ps (ap (put_to j) box) (ap (put_to j) cell) is
+returns-clause-none g c seen e e' j bs box cell is =
+    same seen e e' j bs (ap (put_to j) box) (ap (put_to j) cell) is

@@ -12,7 +12,7 @@ returns-clause-some g c = let f = c.args.f.now in let p = c.dequeue.new.port in
     let took : Takes _ f c.args.port.now p c.in_ok-cell.cell = search rules in
     let still = c.put_in.ensures.stays in let rank = still.0.1 ∙ c.dequeue.ensures.owns.1 in
     let here = ap (λ h. h k) c.put_in.ensures.filled
-    ∙ update_here (holding p) k (Some c.packet-next.result) k refl in
+    ∙ update_here (holding p) k (Some c.in_ok-next.next.value) k refl in
     let none = took.vacant refl in (
       (
         took.has.0,
@@ -23,8 +23,8 @@ returns-clause-some g c = let f = c.args.f.now in let p = c.dequeue.new.port in
       (
         c.requires.owns.1,
         sym took.has.1 ∙ none.1 ∙ sym rank,
-        ap sender here ∙ ap suc (c.packet-next.ensures.0 ∙ c.rank-own.ensures ∙ sym rank),
-        ap number here ∙ c.packet-next.ensures.1 ∙ c.sent.ensures
+        ap sender here ∙ ap suc (c.in_ok-next.ensures.0 ∙ c.rank-own.ensures ∙ sym rank),
+        ap number here ∙ c.in_ok-next.ensures.1 ∙ c.sent.ensures
             ∙ sym (ap (λ e. sent_to c.args.to e.put_box e.put) (still.1 ∙ took.knows)),
       ),
       c.put_in.ensures.hands ∙ took.hands,

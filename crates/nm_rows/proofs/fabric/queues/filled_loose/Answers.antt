@@ -13,7 +13,7 @@ returns-clause-some c = let f = c.args.f.now in let p = c.loose.new.self in
     let still = c.put_in.ensures.stays in let same = c.loose.ensures.same in
     let rank = still.0.1 ∙ same.1 in
     let here = ap (λ h. h k) c.put_in.ensures.filled
-    ∙ update_here (holding p) k (Some c.packet-next.result) k refl in (
+    ∙ update_here (holding p) k (Some c.in_ok-next.next.value) k refl in (
       (
         has.0,
         has.1,
@@ -23,8 +23,8 @@ returns-clause-some c = let f = c.args.f.now in let p = c.loose.new.self in
       (
         c.requires.owns.1,
         sym has.1 ∙ free.own ∙ sym rank,
-        ap sender here ∙ ap suc (c.packet-next.ensures.0 ∙ c.rank-own.ensures ∙ sym rank),
-        ap number here ∙ c.packet-next.ensures.1 ∙ c.sent.ensures
+        ap sender here ∙ ap suc (c.in_ok-next.ensures.0 ∙ c.rank-own.ensures ∙ sym rank),
+        ap number here ∙ c.in_ok-next.ensures.1 ∙ c.sent.ensures
             ∙ sym (ap (λ e. sent_to c.args.to e.put_box e.put)
             (still.1 ∙ ap (λ s. mine s.me) same.0)),
       ),

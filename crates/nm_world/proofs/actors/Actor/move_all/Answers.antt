@@ -1,6 +1,7 @@
 -- Each part goes on from the one before.
-use Rattle.std.proofs.Common.{◌≡◌, ◌||◌, List, subst, sym, ap, ◌∙◌}
+use Rattle.std.proofs.Common.{◌≡◌, ◌||◌, List, subst, sym, ap}
 use Rattle.nm_types.specs.declared.scripts.Line.{Line}
+use Rattle.nm_types.specs.declared.packets.Packet.{Packet}
 use Rattle.nm_cells.specs.declared.port.Fabric.{Fabric}
 use Rattle.nm_copyring.specs.declared.port.Rings.{Rings}
 use Rattle.nm_rank.specs.Ranks.{IsFresh}
@@ -11,30 +12,30 @@ use Rattle.nm_world.proofs.Turn.{turn_idle, turn_looked}
 use Rattle.nm_world.proofs.actors.Actor.move_all.Goals as goal
 use Rattle.nm_types.proofs.TruthLemmas.{neither}
 
-pub send_all-sent-requires : goal.send_all-sent-requires
-send_all-sent-requires g c =
+pub send_all-requires : goal.send_all-requires
+send_all-requires g c =
     subst (λ (x : Environment). ActorInvariant x.lines c.args.f.now x.rings c.args.self.now) (sym c.requires.0) c.requires.1
 
 pub push_all-requires : goal.push_all-requires
 push_all-requires g c =
-    let p = c.send_all-sent.new.self in
-    subst (λ (x : Fabric). ActorInvariant g.here.lines x c.args.r.now p) (sym (ap (λ (x : Environment). x.fabric) c.requires.0))
+    let p = c.send_all.new.self in
+    subst (λ (x : Fabric Packet). ActorInvariant g.here.lines x c.args.r.now p) (sym (ap (λ (x : Environment). x.fabric) c.requires.0))
     (subst (λ (x : Rings). ActorInvariant g.here.lines c.args.f.now x p) (ap (λ (x : Environment). x.rings) c.requires.0)
-    c.send_all-sent.ensures.kept.stands)
+    c.in_ok-sent.ensures.kept.stands)
 
 pub take_all-requires : goal.take_all-requires
 take_all-requires g c =
     let p = c.push_all.new.self in
     subst (λ (x : Rings). ActorInvariant g.here.lines c.args.f.now x p) (sym (ap (λ (x : Environment). x.rings) c.requires.0))
-    (subst (λ (x : Fabric). ActorInvariant g.here.lines x c.args.r.now p) (ap (λ (x : Environment). x.fabric) c.requires.0)
+    (subst (λ (x : Fabric Packet). ActorInvariant g.here.lines x c.args.r.now p) (ap (λ (x : Environment). x.fabric) c.requires.0)
     c.in_ok-pushed.ensures.kept.stands)
 
 pub pull_all-requires : goal.pull_all-requires
 pull_all-requires g c =
     let p = c.take_all.new.self in
     let fabric = sym (ap (λ (x : Environment). x.fabric) c.requires.0) in (
-      ap (λ (x : Fabric). x.ranks) fabric,
-      subst (λ (x : Fabric). ActorInvariant g.here.lines x c.args.r.now p) fabric
+      ap (λ (x : Fabric Packet). x.ranks) fabric,
+      subst (λ (x : Fabric Packet). ActorInvariant g.here.lines x c.args.r.now p) fabric
           (subst (λ (x : Rings). ActorInvariant g.here.lines c.args.f.now x p) (ap (λ (x : Environment). x.rings) c.requires.0)
           c.in_ok-took.ensures.kept.stands),
     )
@@ -60,12 +61,12 @@ returns g c =
     let r = c.args.r.now in
     let n = f.ranks in
     let a = c.args.self.now in
-    let s = c.send_all-sent.new.self in
+    let s = c.send_all.new.self in
     let p = c.push_all.new.self in
     let t = c.take_all.new.self in
     let u = c.pull_all.new.self in
     let e = c.run_all.new.self in
-    let sent = c.send_all-sent.ensures in
+    let sent = c.in_ok-sent.ensures in
     let pushed = c.in_ok-pushed.ensures in
     let took = c.in_ok-took.ensures in
     let pulled = c.in_ok-pulled.ensures in
@@ -78,7 +79,7 @@ returns g c =
     let push_moved = subst (λ (x : Environment). c.in_ok-pushed.pushed ≡ did x.fabric.ranks s p) here pushed.moved in
     let pull_moved = subst (λ (x : Environment). c.in_ok-pulled.pulled ≡ did x.fabric.ranks t u) here pulled.moved in
     let run_moved = subst (λ (x : Environment). c.in_ok-ran.ran ≡ did x.fabric.ranks u e) here ran.moved in
-    let sp = kept_and n lines f r a s p c.send_all-sent.result c.in_ok-pushed.pushed one two sent.moved push_moved in
+    let sp = kept_and n lines f r a s p c.in_ok-sent.sent c.in_ok-pushed.pushed one two sent.moved push_moved in
     let st = kept_and n lines f r a p t _ c.in_ok-took.took sp.0 three sp.1 took.moved in
     let su = kept_and n lines f r a t u _ c.in_ok-pulled.pulled st.0 four st.1 pull_moved in
     let se = kept_and n lines f r a u e _ c.in_ok-ran.ran su.0 five su.1 run_moved in
@@ -87,12 +88,12 @@ returns g c =
       kept = se.0;
       moved = se.1;
       idle = λ none fresh.
-          let n4 = neither (((c.send_all-sent.result || c.in_ok-pushed.pushed) || c.in_ok-took.took)
+          let n4 = neither (((c.in_ok-sent.sent || c.in_ok-pushed.pushed) || c.in_ok-took.took)
           || c.in_ok-pulled.pulled) c.in_ok-ran.ran none in
-          let n3 = neither ((c.send_all-sent.result || c.in_ok-pushed.pushed) || c.in_ok-took.took)
+          let n3 = neither ((c.in_ok-sent.sent || c.in_ok-pushed.pushed) || c.in_ok-took.took)
           c.in_ok-pulled.pulled n4.0 in
-          let n2 = neither (c.send_all-sent.result || c.in_ok-pushed.pushed) c.in_ok-took.took n3.0 in
-          let n1 = neither c.send_all-sent.result c.in_ok-pushed.pushed n2.0 in
+          let n2 = neither (c.in_ok-sent.sent || c.in_ok-pushed.pushed) c.in_ok-took.took n3.0 in
+          let n1 = neither c.in_ok-sent.sent c.in_ok-pushed.pushed n2.0 in
           let sa = sent.stepped.still n1.0 in
           let ps = pushed.stepped.still n1.1 in
           let tp = took.stepped.still n2.1 in

@@ -17,6 +17,7 @@ use Rattle.nm_world.proofs.Loops.{all_made, is_first, none_ran, or_swap, some_mo
 use Rattle.nm_world.proofs.Results.{clash}
 use Rattle.nm_world.proofs.actors.Actor.run_all.Goals as goal
 use Rattle.nm_types.proofs.TruthLemmas.{or_right, neither}
+use Rattle.nm_types.specs.declared.packets.Packet.{Packet}
 
 pub loop-ran-init : goal.loop-ran-init
 loop-ran-init g c =
@@ -33,13 +34,13 @@ pub look-requires : goal.look-requires
 look-requires g c = (
   c.requires.1.1,
   subst (λ (x : List Line). ActorInvariant x c.args.f.now g.here.rings c.loop-ran.self) c.requires.1.1
-      (subst (λ (x : Fabric). ActorInvariant c.args.lines.now x g.here.rings c.loop-ran.self) (sym c.requires.0)
+      (subst (λ (x : Fabric Packet). ActorInvariant c.args.lines.now x g.here.rings c.loop-ran.self) (sym c.requires.0)
       c.loop-ran.invariant.kept.stands),
 )
 
 pub run_next-requires : goal.run_next-requires
 run_next-requires g c =
-    subst (λ (x : Fabric). ActorInvariant c.args.lines.now x g.here.rings c.look.new.self) c.requires.0
+    subst (λ (x : Fabric Packet). ActorInvariant c.args.lines.now x g.here.rings c.look.new.self) c.requires.0
     (subst (λ (x : List Line). ActorInvariant x c.args.f.now g.here.rings c.look.new.self) (sym c.requires.1.1)
     c.in_ok-looked.ensures.kept.stands)
 
@@ -54,9 +55,9 @@ loop-ran-preserved g c =
     let d = c.run_next.new.self in
     let one = c.loop-ran.invariant in
     let two = c.in_ok-looked.ensures in
-    let two_kept = subst (λ (x : Fabric). Continues lines x r b m) c.requires.0
+    let two_kept = subst (λ (x : Fabric Packet). Continues lines x r b m) c.requires.0
     (subst (λ (x : List Line). Continues x c.args.f.now r b m) (sym c.requires.1.1) two.kept) in
-    let two_moved = subst (λ (x : Fabric). c.in_ok-looked.looked ≡ did x.ranks b m) c.requires.0 two.moved in
+    let two_moved = subst (λ (x : Fabric Packet). c.in_ok-looked.looked ≡ did x.ranks b m) c.requires.0 two.moved in
     let three = c.in_ok-run_next.ensures in
     let ran = three.ran c.if-not-branch.false in
     let both = kept_and f.ranks lines f r a b m (c.loop-ran.took || nat_lt 0 c.loop-ran.ran) c.in_ok-looked.looked
@@ -85,9 +86,9 @@ returns-then-not-branch g c =
     let d = c.run_next.new.self in
     let one = c.loop-ran.invariant in
     let two = c.in_ok-looked.ensures in
-    let two_kept = subst (λ (x : Fabric). Continues lines x r b m) c.requires.0
+    let two_kept = subst (λ (x : Fabric Packet). Continues lines x r b m) c.requires.0
     (subst (λ (x : List Line). Continues x c.args.f.now r b m) (sym c.requires.1.1) two.kept) in
-    let two_moved = subst (λ (x : Fabric). c.in_ok-looked.looked ≡ did x.ranks b m) c.requires.0 two.moved in
+    let two_moved = subst (λ (x : Fabric Packet). c.in_ok-looked.looked ≡ did x.ranks b m) c.requires.0 two.moved in
     let three = c.in_ok-run_next.ensures in
     let rests = c.if-not-branch.true in
     let took = c.loop-ran.took in

@@ -1,5 +1,5 @@
 -- Each step goes on from the one before.
-use Rattle.std.proofs.Common.{◌≡◌, Bool, subst, sym, ◌∙◌, arith}
+use Rattle.std.proofs.Common.{Bool, subst, sym, ◌∙◌, arith}
 use Rattle.nm_rank.specs.Ranks.{IsFresh}
 use Rattle.nm_world.specs.declared.actors.Actor.{Actor}
 use Rattle.nm_world.specs.Idle.{FirstNotSent, Stepped}
@@ -12,26 +12,26 @@ loop-sent-init g c = loop_none c.args.f.now.ranks g.here.lines c.args.f.now g.he
 
 pub loop-sent-preserved : goal.loop-sent-preserved
 loop-sent-preserved g c =
-    let e = c.send_next.ensures in
+    let e = c.in_ok-send_next.ensures in
     loop_more c.args.f.now.ranks g.here.lines c.args.f.now g.here.rings c.args.self.now c.loop-sent.sent
     c.loop-sent.self c.send_next.new.self
-    c.send_next.result c.if-not-send_next.false c.loop-sent.invariant e.kept e.moved e.stepped
+    c.in_ok-send_next.field-0 c.if-not-branch.false c.loop-sent.invariant e.kept e.moved e.stepped
 
-pub returns-then-not-send_next : goal.returns-then-not-send_next
-returns-then-not-send_next g c =
-    let e = c.send_next.ensures in
+pub returns-then-not-branch : goal.returns-then-not-branch
+returns-then-not-branch g c =
+    let e = c.in_ok-send_next.ensures in
     let a = c.args.self.now in
     let d = c.send_next.new.self in
     let done = loop_last c.args.f.now.ranks g.here.lines c.args.f.now g.here.rings a c.loop-sent.sent c.loop-sent.self
-    d c.send_next.result
-    c.if-not-send_next.true c.loop-sent.invariant e.kept e.moved e.stepped in
+    d c.in_ok-send_next.field-0
+    c.if-not-branch.true c.loop-sent.invariant e.kept e.moved e.stepped in
     record {
       kept = done.kept;
       moved = done.moved;
       stepped = done.stepped;
       back = λ none fresh. let same = done.sole none in
           subst (λ (x : Actor). FirstNotSent x d) same
-          (e.back c.if-not-send_next.true (subst (λ (x : Actor). IsFresh x.process.rank) (sym same) fresh));
+          (e.back c.if-not-branch.true (subst (λ (x : Actor). IsFresh x.process.rank) (sym same) fresh));
     }
 
 pub returns : goal.returns

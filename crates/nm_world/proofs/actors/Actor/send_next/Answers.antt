@@ -3,6 +3,7 @@ use Rattle.std.proofs.Common.{◌≡◌, ℕ, true, not, Option, List, sym, ap, 
 use Rattle.nm_types.specs.declared.packets.Packet.{Packet}
 use Rattle.nm_cells.specs.Ports.{knows}
 use Rattle.nm_port.specs.Polls.{count_held}
+use Rattle.nm_chain.specs.Items.{is_short}
 use Rattle.nm_port.specs.Sends.{HadMiss, tried}
 use Rattle.nm_global.specs.Moments.{acted}
 use Rattle.nm_sending.specs.Departures.{ended_by}
@@ -53,11 +54,11 @@ returns-then-is_none g c =
     let s = c.requires in
     let a = c.args.self.now in
     let port = c.sent.new.port in
-    let e = c.sent.ensures in
-    let len : ℕ = length c.in-Some.packet.now.payload in
+    let e = c.in_ok-way.ensures in
+    let len : ℕ = length c.in-Some.packet.now.payload in let fits = is_short len in
     let to = c.in-Some.to in
-    let miss : HadMiss false (tried len to (knows a.port)) (knows port) =
-    at_none c.sent.result (HadMiss false (tried len to (knows a.port)) (knows port)) e.back
+    let miss : HadMiss false (tried fits to (knows a.port)) (knows port) =
+    at_none c.in_ok-way.way (HadMiss false (tried fits to (knows a.port)) (knows port)) e.back
     (c.is_none.ensures ∙ ap not c.if-is_none.true) in
     let n = c.args.f.now.ranks in
     let fresh = (rw c.rank-rank.ensures at c.is_worn.ensures).0 c.if-is_worn.false in
@@ -73,26 +74,26 @@ returns-then-is_none g c =
       stepped = stepped_fresh false a (record a { port = port }) fresh refl (λ none. refl);
       back = λ none fresh. subst (λ (o : Option Letter). IfSome o (NotSent a.port port)) (sym first.1)
           (came_back a.port port first.0 len (ap (λ (x : Packet). length x.payload) first.3) (omega (arith, within, ranks, wide, there))
-          (subst (λ (k : ℕ). HadMiss false (tried len k (knows a.port)) (knows port)) first.2 miss));
+          (subst (λ (k : ℕ). HadMiss false (tried fits k (knows a.port)) (knows port)) first.2 miss));
       moved = did_none n a (record a { port = port }) refl
-          (λ j. ap (λ (xs : List (ℕ × Load)). sent_to j xs (knows port).put)
-          (back_sent len to (knows a.port) (knows port) miss).box
-          ∙ ap (λ (xs : List (ℕ × Load)). sent_to j (knows a.port).put_box xs)
-          (back_sent len to (knows a.port) (knows port) miss).cell)
+          (λ j. ap (λ (xs : List (ℕ × Load Packet)). sent_to j xs (knows port).put)
+          (back_sent fits to (knows a.port) (knows port) miss).box
+          ∙ ap (λ (xs : List (ℕ × Load Packet)). sent_to j (knows a.port).put_box xs)
+          (back_sent fits to (knows a.port) (knows port) miss).cell)
           e.taken.0 (λ j. (refl, refl));
       kept = record {
         grows = record {
           events = (grows_same a).events;
           ring = ring_same a.ring;
-          port = port_by a.port port (entry_on (knows a.port) (tried len to (knows a.port)) (knows port)
-              (tried_up len to (knows a.port)) (miss_up false (tried len to (knows a.port)) (knows port) miss))
+          port = port_by a.port port (entry_on (knows a.port) (tried fits to (knows a.port)) (knows port)
+              (tried_up fits to (knows a.port)) (miss_up false (tried fits to (knows a.port)) (knows port) miss))
               e.taken.0;
         };
         seat = seat_is a a.process port.rank e.owns.1 refl;
         stands = nothing_carried g.here.lines c.args.f.now g.here.rings a port s e.owns.0 e.owns.1
             (e.taken.2 ∙ s.is.rest ∙ ap count_held (sym e.taken.1)) e.hands e.taken.0
-            (back_sent len to (knows a.port) (knows port) miss)
-            (back_got len to (knows a.port) (knows port) miss);
+            (back_sent fits to (knows a.port) (knows port) miss)
+            (back_got fits to (knows a.port) (knows port) miss);
       };
     }
 
@@ -102,7 +103,7 @@ returns g c =
     let a = c.args.self.now in
     let v = c.pop_front.new.self in
     let port = c.sent.new.port in
-    let e = c.sent.ensures in
+    let e = c.in_ok-way.ensures in
     let p = c.pop_front.ensures in
     let pops = p.pops in
     let own = rw c.rank-rank.ensures at c.in-Some.ensures.own in
@@ -114,7 +115,7 @@ returns g c =
     (rw c.rank-rank.ensures at c.in-Some.ensures.first) in
     let copied : packet ≡ first.0.packet = first.3 in
     let way : SentBy (knows a.port) (knows port) to packet =
-    sent_by_way c.sent.result (length packet.payload) to packet (knows a.port) (knows port)
+    sent_by_way c.in_ok-way.way (is_short (length packet.payload)) to packet (knows a.port) (knows port)
     (c.is_none.ensures ∙ ap not c.if-is_none.false) e.by_box e.by_cell in
     let within = own.0 in
     let left = s.is.standing.rank.left to within in
@@ -135,7 +136,7 @@ returns g c =
     let b : Actor = record { process = v; port = port; ring = a.ring; places = tt } in
     let grows : Grows a b = record {
       events = (_, pops.left.events);
-      port = port_by a.port port (sent_up c.sent.result (length packet.payload) to packet (knows a.port)
+      port = port_by a.port port (sent_up c.in_ok-way.way (is_short (length packet.payload)) to packet (knows a.port)
           (knows port) (c.is_none.ensures ∙ ap not c.if-is_none.false) e.by_box e.by_cell) e.taken.0;
       ring = ring_same a.ring;
     } in

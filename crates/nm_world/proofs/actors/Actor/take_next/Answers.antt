@@ -1,11 +1,15 @@
 -- The packet comes behind the others of its sender.
-use Rattle.std.proofs.Common.{◌<◌, ℕ, ◌+◌, List, [], true, false, inl, inr, sym, ap, ◌∙◌, arith, refl}
-use Rattle.nm_rank.specs.Ranks.{IsFresh}
+use Rattle.std.proofs.Common.{◌≡◌, ◌<◌, ℕ, ◌+◌, List, [], true, false, inl, inr, sym, ap, ◌∙◌, subst, arith, refl}
+use Rattle.nm_rank.specs.Calls.{TakesPacket}
+use Rattle.std.proofs.lemmas.List.{length-map}
+use Rattle.nm_channels.specs.Moments.{taken_from}
+use Rattle.nm_rank.specs.Ranks.{IsFresh, count_of}
 use Rattle.nm_process.specs.Processes.{ProcessView}
 use Rattle.nm_chain.specs.Rule.{Load, sent_to}
 use Rattle.nm_cells.specs.Ports.{knows, taken_by}
 use Rattle.nm_port.specs.Polls.{with_all_missed}
 use Rattle.nm_chain.proofs.UpdateLemmas.{update_here}
+use Rattle.nm_world.specs.Parcels.{packet_of}
 use Rattle.nm_world.specs.declared.actors.Actor.{Actor}
 use Rattle.nm_world.specs.Actors.{Grows, PortGrows}
 use Rattle.nm_world.specs.Actors.Grew.{taken}
@@ -16,6 +20,8 @@ use Rattle.nm_world.proofs.Idle.{gave_none, stepped_fresh, stepped_none}
 use Rattle.nm_world.proofs.Looks.{polled_miss, polled_some}
 use Rattle.nm_world.proofs.Results.{clash}
 use Rattle.nm_world.proofs.Steps.{none_got, none_sent, nothing_carried, seat_is, take_on}
+use Rattle.nm_types.specs.declared.packets.Packet.{Packet}
+use Rattle.nm_chain.specs.declared.table.parcels.Parcel.{Parcel}
 use Rattle.nm_world.proofs.actors.Actor.take_next.Goals as goal
 
 pub returns-then-is_worn : goal.returns-then-is_worn
@@ -31,10 +37,10 @@ returns-then-is_worn g c =
       polled = inr (not, refl);
     }
 
-pub returns-then-not-polled : goal.returns-then-not-polled
-returns-then-not-polled g c =
+pub returns-in-Err : goal.returns-in-Err
+returns-in-Err g c =
     let n = c.args.f.now.ranks in
-    let none = c.if-not-polled.ensures.none refl in
+    let none = c.in-Err.ensures.none in
     let s = c.requires in
     let a = c.args.self.now in
     let port = c.polled.new.port in
@@ -50,8 +56,8 @@ returns-then-not-polled g c =
       none = λ none fresh. gave;
       polled = inl (polled_miss a.process.rank.sizes.ranks a.port port grows gave.queue);
       moved = did_none n a b refl
-          (λ j. ap (λ (xs : List (ℕ × Load)). sent_to j xs (knows port).put) sent.box
-          ∙ ap (λ (xs : List (ℕ × Load)). sent_to j (knows a.port).put_box xs) sent.cell)
+          (λ j. ap (λ (xs : List (ℕ × Load Packet)). sent_to j xs (knows port).put) sent.box
+          ∙ ap (λ (xs : List (ℕ × Load Packet)). sent_to j (knows a.port).put_box xs) sent.cell)
           none.1 (λ j. (refl, refl));
       kept = record {
         grows = record { events = (grows_same a).events; ring = ring_same a.ring; port = grows };
@@ -62,29 +68,55 @@ returns-then-not-polled g c =
       };
     }
 
+pub take_packet-requires-clause-sender : goal.take_packet-requires-clause-sender
+take_packet-requires-clause-sender g c =
+    let ranks = c.args.self.now.process.rank.sizes.ranks in
+    let letter_is = ap (λ (z : Parcel Packet). z.item) c.deref.ensures ∙ c.restore_header.ensures
+    ∙ ap packet_of c.deref_mut.ensures.value in
+    let low : c.in-Ok.letter.value.from < ranks = omega (arith, c.in-Ok.ensures.next.0.sender, c.requires.is.ranks.0) in
+    subst (λ (z : Packet). z.from < ranks) (sym letter_is) low
+
+pub take_packet-requires-clause-number : goal.take_packet-requires-clause-number
+take_packet-requires-clause-number g c =
+    let s = c.requires in
+    let v = c.args.self.now.process.rank in
+    let x = c.in-Ok.letter.value in
+    let next = c.in-Ok.ensures.next.0 in
+    let letter_is = ap (λ (z : Parcel Packet). z.item) c.deref.ensures ∙ c.restore_header.ensures
+    ∙ ap packet_of c.deref_mut.ensures.value in
+    let low : x.from < v.sizes.ranks = omega (arith, next.sender, s.is.ranks.0) in
+    let number : x.seq ≡ count_of v.took x.from = next.number ∙ sym (s.is.taken x.from low).many
+    ∙ length-map (taken_from x.from s.past.log) (λ t. t.packet) ∙ sym (s.is.standing.rank.logged.taken.took x.from) in
+    subst (λ (z : Packet). z.seq ≡ count_of v.took z.from) (sym letter_is) number
+
 pub returns : goal.returns
 returns g c =
     let s = c.requires in
     let v = c.take_packet.new.self in
-    let p = c.polled.new.into in
-    let came = c.if-not-polled.ensures in
-    let next = came.next refl in
-    let way = (came.way refl).0 in
+    let x = c.in-Ok.letter.value in
+    let p = packet_of x in
+    let came = c.in-Ok.ensures in
+    let next = came.next in
+    let way = came.way.0 in
     let sender = next.0.sender in
     let ranks = s.is.ranks.0 in
+    let letter_is = ap (λ (z : Parcel Packet). z.item) c.deref.ensures ∙ c.restore_header.ensures
+    ∙ ap packet_of c.deref_mut.ensures.value in
+    let took = subst (λ (z : Packet). TakesPacket z c.args.self.now.process.rank v.rank) letter_is
+    c.in_ok-take_packet.ensures.taken in
     let work = c.in_ok-take_packet.ensures.work c.args.self.now.process.rank.sizes g.here.lines s.is.standing.work in
     let on = c.a_packet_is_taken.ensures c.args.self.now.process.rank.sizes g.here.lines
     c.args.self.now.port.rank c.args.self.now.process.rank v.rank s.past p
     (rw c.rank-rank.ensures at c.history.ensures.right)
-    (omega (arith, sender, ranks)) c.in_ok-take_packet.ensures.taken s.is.standing.rank in
+    (omega (arith, sender, ranks)) took s.is.standing.rank in
     let n = c.args.f.now.ranks in
     let a = c.args.self.now in
     let port = c.polled.new.port in
     let b : Actor = record { process = v; port = port; ring = a.ring; places = tt } in
     let grows : Grows a b = record {
-      events = (_, (c.in_ok-take_packet.ensures.taken.happened (λ s. [])).events);
+      events = (_, (took.happened (λ s. [])).events);
       port = port_took a.port port p.from
-          (polled_up (knows a.port) (knows port) (came.way refl).1 c.polled.ensures.later) next.0.taken;
+          (polled_up (knows a.port) (knows port) came.way.1 c.polled.ensures.later) next.0.taken;
       ring = ring_same a.ring;
     } in
     let more = ap (λ (t : ℕ → ℕ). t p.from) next.0.taken
@@ -100,9 +132,9 @@ returns g c =
       moved = did_more n a b grows (taken p.from sender up);
       kept = record {
         grows = grows;
-        seat = seat_is a v port.rank c.polled.ensures.owns.1 c.in_ok-take_packet.ensures.taken.sizes;
+        seat = seat_is a v port.rank c.polled.ensures.owns.1 took.sizes;
         stands = take_on c.a_poll_carries.ensures.some g.here.lines c.args.f.now g.here.rings
-            a v port p s c.polled.ensures.owns.0 c.polled.ensures.owns.1
-            c.polled.ensures.rest c.polled.ensures.hands next.0 next.1 way (came.way refl).1 work on;
+            a v port x s c.polled.ensures.owns.0 c.polled.ensures.owns.1
+            c.polled.ensures.rest c.polled.ensures.hands next.0 next.1 way came.way.1 work on;
       };
     }

@@ -2,15 +2,16 @@ use Rattle.std.proofs.Common.{◌≡◌, ℕ, zero, suc, ◌<◌, List, [], ◌�
 use Rattle.std.proofs.Common.{sym, refl, ap, ◌∙◌, arith}
 use Rattle.std.specs.Prelude.{remove}
 use Rattle.nm_cells.specs.declared.port.Port.{Port}
+use Rattle.uses.specs.declared.port.letters.Letter.{Letter}
 use Rattle.uses.proofs.port.crossing.both.Goals as goal
 
-stands : (xs : List Port) (i : ℕ) (x : Port) → i < length xs → x ≡ get_or xs i x
+stands : (xs : List (Port Letter)) (i : ℕ) (x : Port Letter) → i < length xs → x ≡ get_or xs i x
     → slice_get xs i ≡ Some x
 stands [] i x low e = absurd (omega arith)
 stands (y ∷ ys) zero x low e = ap Some (sym e)
 stands (y ∷ ys) (suc i) x low e = stands ys i x (omega arith) e
 
-first_kept : (xs : List Port) (x : Port) → get_or (remove xs 1) 0 x ≡ get_or xs 0 x
+first_kept : (xs : List (Port Letter)) (x : Port Letter) → get_or (remove xs 1) 0 x ≡ get_or xs 0 x
 first_kept [] x = refl
 first_kept (y ∷ ys) x = refl
 

@@ -1,9 +1,7 @@
 -- A miss changes none of the lists.
-use Rattle.std.proofs.Common.{◌≡◌, ap, ◌∙◌}
+use Rattle.std.proofs.Common.{◌≡◌}
 use Rattle.std.specs.Prelude.{Err, Result}
-use Rattle.nm_chain.specs.declared.table.table.Entry.{Entry}
-use Rattle.nm_chain.specs.declared.table.table.Look.TheVariants.{LinkEmpty}
-use Rattle.nm_chain.specs.Plays.{head_miss, heads_at, heads_of, link_miss}
+use Rattle.nm_chain.specs.Plays.{heads_of}
 use Rattle.nm_cells.specs.Ports.{is_receive, knows}
 use Rattle.nm_queue.specs.declared.moves.Miss.{Miss}
 use Rattle.nm_queue.specs.declared.moves.Miss.TheVariants.{HeadEmpty, LinkMissing}
