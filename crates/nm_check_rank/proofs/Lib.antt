@@ -5,6 +5,7 @@ mod CancelLemmas
 mod ClaimLemmas
 pub mod CountLemmas
 mod DecideLemmas
+pub mod DifferLemmas
 mod DueLemmas
 pub mod FirstBrokenLemmas
 mod GivenLemmas

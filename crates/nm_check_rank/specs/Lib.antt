@@ -1,5 +1,6 @@
 pub mod Breaks
 pub mod Counted
+pub mod Differ
 pub mod Dues
 pub mod FirstBroken
 pub mod Fronts
