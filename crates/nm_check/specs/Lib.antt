@@ -15,6 +15,7 @@ pub mod Ranked
 pub mod Sentences
 pub mod Stops
 pub mod Texts
+pub mod VerdictCalled
 pub mod VerdictDues
 pub mod VerdictIncidents
 pub mod VerdictTexts

@@ -6,6 +6,7 @@ use Rattle.nm_check_rank.specs.declared.paired.objections.Objection.{Objection}
 use Rattle.nm_check_rank.specs.declared.paired.objections.Objection.TheVariants as against
 use Rattle.nm_check_rank.specs.declared.paired.dues.Due.{Due}
 use Rattle.nm_check_rank.specs.declared.paired.dues.Due.TheVariants as due
+use Rattle.nm_check.specs.VerdictCalled.{claim_words, many_words, named_words}
 
 -- the word of an answer
 abbrev pub told_word : Told → List ℕ
@@ -78,6 +79,9 @@ some_words (due.Number called found) = number_words (codes "; its number is to b
 some_words (due.Rank ranks found) = number_words (codes "; its rank is to be less than ") ranks found
 some_words (due.Eager limit len asks) = eager_words limit len asks
 some_words (due.Against objection) = objection_words objection
+some_words (due.Many called found) = many_words called found
+some_words (due.Claim called found) = claim_words called found
+some_words (due.Named called found) = named_words called found
 
 -- .. if it is told
 abbrev pub due_words : Option Due → List ℕ

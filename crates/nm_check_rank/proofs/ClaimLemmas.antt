@@ -28,7 +28,7 @@ use Rattle.nm_types.proofs.OptionLemmas.{one_option}
 claims_of_kind : (h : List Event) → claims_since h ≡ filter_map line_of_claim (of_kind is_claiming h)
 claims_of_kind h = sym (given_of_passed line_of_claim (since_command h))
 
-claims_length : (h : List Event) → length (claims_since h) ≡ length (of_kind is_claiming h)
+pub claims_length : (h : List Event) → length (claims_since h) ≡ length (of_kind is_claiming h)
 claims_length h = given_length line_of_claim (since_command h)
 
 -- there are claims where there are events of the kind

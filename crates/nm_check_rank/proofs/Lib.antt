@@ -3,6 +3,7 @@ mod ArrivalLemmas
 pub mod BreakLemmas
 mod CancelLemmas
 mod ClaimLemmas
+mod ClaimingLemmas
 pub mod CountLemmas
 mod DecideLemmas
 pub mod DifferLemmas
@@ -10,6 +11,7 @@ mod DueLemmas
 pub mod FirstBrokenLemmas
 mod GivenLemmas
 mod KindLemmas
+mod ManyLemmas
 mod ObjectionLemmas
 mod OrderLemmas
 mod PushLemmas

@@ -14,6 +14,7 @@ use Rattle.nm_history.specs.declared.events.Happened.TheVariants as what
 use Rattle.nm_history.specs.Answers.{answer_of, without_bytes}
 use Rattle.nm_history.specs.RankRun.{last_stamp, ran_lines, starts_since}
 use Rattle.nm_history.specs.Sends.{arrivals, is_ask, receives, sends}
+use Rattle.nm_check_rank.specs.Claimings.{claim_due}
 use Rattle.nm_check_rank.specs.Objections.{cancel_objection, end_objection, whole_objection}
 use Rattle.nm_check_rank.specs.Told.{untold}
 use Rattle.nm_check_rank.specs.declared.clauses.OwnClause.{OwnClause}
@@ -110,4 +111,4 @@ IsOwnDue shape commands own.Wholes before e called = called ≡ option_map due.A
 IsOwnDue shape commands own.Ends before e called = called ≡ option_map due.Against (end_objection before e.what)
 IsOwnDue shape commands own.Cancels before e called = called ≡ option_map due.Against (cancel_objection before e.what)
 IsOwnDue shape commands own.Starts before e called = called ≡ start_due shape.eager commands before e.what
-IsOwnDue shape commands own.Claims before e called = called ≡ None
+IsOwnDue shape commands own.Claims before e called = called ≡ claim_due commands before e.what

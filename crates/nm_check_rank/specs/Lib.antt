@@ -1,4 +1,5 @@
 pub mod Breaks
+pub mod Claimings
 pub mod Counted
 pub mod Differ
 pub mod Dues
@@ -6,6 +7,7 @@ pub mod FirstBroken
 pub mod Fronts
 pub mod Handles
 pub mod Kinds
+pub mod Manies
 pub mod Objections
 pub mod OwnBreaks
 pub mod OwnClauses

@@ -19,7 +19,7 @@ fn to_words(alloc: Global, to: u8, n: u64) -> Result<String, AllocError>
 }
 
 /// .. from a rank.
-fn from_words(alloc: Global, from: u8, n: u64) -> Result<String, AllocError>
+pub(crate) fn from_words(alloc: Global, from: u8, n: u64) -> Result<String, AllocError>
     ensures { IfOk result (λ text. string_bytes text ≡ from_words_lem from n) }
 {
     format!(in alloc; "message {} from rank {}", n, from)

@@ -24,7 +24,7 @@ use nm_lookups::pairing::Pairing;
 use nm_types::{Answer, Arrival, Command, Line};
 
 /// A claim.
-struct Claiming;
+pub(crate) struct Claiming;
 
 impl Called for Claiming {
     ghost use Rattle.nm_check_rank.specs.Kinds.{is_claiming};
@@ -49,7 +49,7 @@ fn is_mprobe(command: &Command) -> bool
 }
 
 /// Whether the command of a line is a matched probe.
-fn is_mprobe_line(rank: u8, lines: &[Line], line: u32) -> bool
+pub(crate) fn is_mprobe_line(rank: u8, lines: &[Line], line: u32) -> bool
     ensures { result
         ≡ option_map_or is_matched_probe (command_at (commands_of rank lines.now) line) false }
 {
@@ -60,7 +60,7 @@ fn is_mprobe_line(rank: u8, lines: &[Line], line: u32) -> bool
 }
 
 /// Whether an answer calls for a claim: that of a matched probe which shows a message.
-fn calls_for_claim(rank: u8, lines: &[Line], line: u32, answer: &Answer) -> bool
+pub(crate) fn calls_for_claim(rank: u8, lines: &[Line], line: u32, answer: &Answer) -> bool
     ensures { result
         ≡ (option_map_or is_matched_probe (command_at (commands_of rank lines.now) line) false
         && is_seen_lem answer.now) }
@@ -69,7 +69,7 @@ fn calls_for_claim(rank: u8, lines: &[Line], line: u32, answer: &Answer) -> bool
 }
 
 /// The line of the claim at a place.
-fn claim_line(events: &[Event], place: usize) -> Option<u32>
+pub(crate) fn claim_line(events: &[Event], place: usize) -> Option<u32>
     ensures { (e : event.Event) → slice_get events.now place ≡ Some e →
         result ≡ line_of_claim e.what }
 {

@@ -21,13 +21,16 @@ ghost use Rattle.nm_check_rank.specs.declared.paired.dues.Due.TheVariants.{Again
 use crate::clauses::OwnClause;
 use crate::numbers::{Counts, counted};
 use crate::paired::answers::answer_told;
+use crate::paired::claimings::claim_due;
 use crate::paired::limits::start_due;
+use crate::paired::manies::Many;
 use crate::paired::objections::{Objection, cancel_objection, end_objection, whole_objection};
 use crate::paired::order::{lines_ran, own_lines};
 use crate::paired::tables::Tables;
 use crate::paired::told::{Told, told_of};
 use nm_history::{Event, Happened};
 use nm_lookups::asked::commands::command_of_line;
+use nm_lookups::firsts::Message;
 use nm_types::{Answer, Line, Memory, Shape};
 use std::alloc::Global;
 
@@ -35,19 +38,54 @@ use std::alloc::Global;
 #[derive(Clone, Copy)]
 pub enum Due {
     /// The command is out of turn: the rank's next one stands in this line, or none is left.
-    Command { next: Option<u64> },
+    Command {
+        next: Option<u64>,
+    },
     /// The command is the next one. It has this answer, or can't go on, and this one was found.
-    Answer { called: Option<Told>, found: Told },
+    Answer {
+        called: Option<Told>,
+        found: Told,
+    },
     /// The stamp is to be greater than this one, and this one was found.
-    Stamp { last: u64, found: u64 },
+    Stamp {
+        last: u64,
+        found: u64,
+    },
     /// The number is to be this one, and this one was found.
-    Number { called: u64, found: u64 },
+    Number {
+        called: u64,
+        found: u64,
+    },
     /// The message is to be of one of so many ranks, and this one was found.
-    Rank { ranks: u8, found: u8 },
+    Rank {
+        ranks: u8,
+        found: u8,
+    },
     /// By this eager limit a send of so many bytes is to ask, and does not, or the other way round.
-    Eager { limit: u16, len: u64, asks: bool },
+    Eager {
+        limit: u16,
+        len: u64,
+        asks: bool,
+    },
     /// This stands against the event.
-    Against { objection: Objection },
+    Against {
+        objection: Objection,
+    },
+    /// Since the answer before so many events of the rule are called for, and so many were found.
+    Many {
+        called: Many,
+        found: Many,
+    },
+    /// This message is to be claimed, if one is, and this one was.
+    Claim {
+        called: Option<Message>,
+        found: Message,
+    },
+    /// The claim is to name this line, and names this one.
+    Named {
+        called: u32,
+        found: u32,
+    },
 }
 
 /// The line of a rank's next command after these events, if one is left.
@@ -261,6 +299,7 @@ pub fn due_by_tables(
 {
     let what = &events[k].what;
     match clause {
+        OwnClause::Claims => Ok(claim_due(rank, lines, events, tables, k)),
         OwnClause::Answers => due_at(alloc, rank, lines, events, tables, k),
         OwnClause::Starts => Ok(start_due(rank, lines, events, shape.eager(), k)),
         OwnClause::Wholes => Ok(against(whole_objection(tables, k, what))),

@@ -3,12 +3,12 @@
 ghost use Rattle.std.specs.Prelude.{◌≡◌, ◌<◌, Some, length, slice_get, take};
 ghost use Rattle.nm_types.specs.Commands.{commands_of};
 ghost use Rattle.nm_history.specs.declared.events.Event as event;
-ghost use Rattle.nm_history.specs.RankRun.{is_start, starts_since};
+ghost use Rattle.nm_history.specs.RankRun.{starts_since};
 ghost use Rattle.nm_history.specs.Sends.{is_ask};
-ghost use Rattle.nm_lookups.specs.SinceAnswer.{IsSince};
 ghost use Rattle.nm_check_rank.specs.Dues as spec;
 
 use crate::paired::dues::Due;
+use crate::paired::manies::left;
 use crate::paired::starts::{Starting, length_of};
 use nm_history::{Event, Happened};
 use nm_lookups::asked::commands::command_of_line;
@@ -73,22 +73,11 @@ fn due_there(events: &[Event], place: usize, limit: u16, command: &Command) -> O
     one_due(limit, &events[place].what, command)
 }
 
-/// The sends and receives since the last answer.
-fn starts_left(events: &[Event]) -> Since
-    ensures { IsSince is_start events.now (length events.now) result }
-{
-    let mut since = Since::Nothing;
-    for (k, e) in events.iter().enumerate() {
-        since = since.after::<Starting>(k, &e.what);
-    }
-    since
-}
-
 /// What the eager limit calls for where a command started the one send since the last answer.
 fn starts_due(before: &[Event], limit: u16, command: &Command) -> Option<Due>
     ensures { result ≡ spec.starts_due limit (starts_since before.now) command.now }
 {
-    match starts_left(before) {
+    match left::<Starting>(before) {
         Since::One(place) => due_there(before, place, limit, command),
         _ => None,
     }

@@ -9,9 +9,9 @@ pub returns-in-One : goal.returns-in-One
 returns-in-One c =
     place_due c.args.limit c.args.command.now c.args.before.now c.in-One.place c.due_there.result c.due_there.ensures
     (subst (λ (s : Since). IsSince is_start c.args.before.now (length c.args.before.now) s) c.in-One.is
-    c.starts_left.ensures)
+    c.left.ensures)
 
 pub returns-in_default : goal.returns-in_default
 returns-in_default c =
-    not_one_due c.args.limit c.args.command.now c.args.before.now c.starts_left.result c.in_default.not-One
-    c.starts_left.ensures
+    not_one_due c.args.limit c.args.command.now c.args.before.now c.left.result c.in_default.not-One
+    c.left.ensures

@@ -1,0 +1,59 @@
+//! How many events are called for since the answer before, and how many were found.
+
+ghost use Rattle.std.specs.Prelude.{◌≡◌, Bool, if◌then◌else◌, List, length};
+ghost use Rattle.nm_lookups.specs.SinceAnswer.{IsSince};
+ghost use Rattle.nm_check_rank.specs.Manies as spec;
+ghost use Rattle.nm_check_rank.specs.declared.paired.manies.Many.TheVariants.{Nothing, One};
+
+use crate::paired::dues::Due;
+use nm_history::Event;
+use nm_lookups::asked::since::{Called, Since};
+
+/// How many events of a kind there are.
+#[derive(Clone, Copy)]
+pub enum Many {
+    /// There is none.
+    Nothing,
+    /// There is one.
+    One,
+    /// There are two or more.
+    More,
+}
+
+/// The events of a kind since the last answer.
+pub(crate) fn left<T: Called>(before: &[Event]) -> Since
+    ensures { IsSince T.counts before.now (length before.now) result }
+{
+    let mut since = Since::Nothing;
+    for (k, e) in before.iter().enumerate() {
+        since = since.after::<T>(k, &e.what);
+    }
+    since
+}
+
+/// One, where it is called for.
+pub(crate) fn one_if(called: bool) -> Many
+    ensures { result ≡ (if called then One else Nothing) }
+{
+    if called { Many::One } else { Many::Nothing }
+}
+
+/// Another number is called for than was found.
+pub(crate) fn many_due(called: Many, found: Many) -> Option<Due>
+    ensures { result ≡ spec.many_due called found }
+{
+    let wrong = Some(Due::Many { called, found });
+    match called {
+        Many::Nothing => match found {
+            Many::Nothing => None,
+            Many::One => wrong,
+            Many::More => wrong,
+        },
+        Many::One => match found {
+            Many::Nothing => wrong,
+            Many::One => None,
+            Many::More => wrong,
+        },
+        Many::More => wrong,
+    }
+}
