@@ -1,6 +1,15 @@
--- What is said of what was called for at a claim.
+-- What is said of what was called for at a claim and at a start.
 use Rattle.std.specs.Prelude.{ℕ, List, ◌++◌, Option, Some, None, codes, decimal}
+use Rattle.nm_types.specs.declared.messages.Peer.{Peer}
+use Rattle.nm_types.specs.declared.messages.Peer.TheVariants as peer
+use Rattle.nm_types.specs.declared.messages.TagPick.{TagPick}
+use Rattle.nm_types.specs.declared.messages.TagPick.TheVariants as pick
 use Rattle.nm_lookups.specs.declared.firsts.Message.{Message}
+use Rattle.nm_check_rank.specs.declared.paired.arguments.Argument.{Argument}
+use Rattle.nm_check_rank.specs.declared.paired.arguments.Argument.TheVariants as arg
+use Rattle.nm_check_rank.specs.declared.paired.arguments.Mismatch.{Mismatch}
+use Rattle.nm_check_rank.specs.declared.paired.arguments.Sort.{Sort}
+use Rattle.nm_check_rank.specs.declared.paired.arguments.Sort.TheVariants as sort
 use Rattle.nm_check_rank.specs.declared.paired.manies.Many.{Many}
 use Rattle.nm_check_rank.specs.declared.paired.manies.Many.TheVariants as many
 use Rattle.nm_check.specs.VerdictIncidents.{from_words}
@@ -33,3 +42,48 @@ claim_words None found =
 abbrev pub named_words : ℕ → ℕ → List ℕ
 named_words called found =
     codes "; its claim is to name line " ++ (decimal called ++ (codes ", and names line " ++ decimal found))
+
+-- what a start is
+abbrev pub sort_word : Sort → List ℕ
+sort_word sort.Send = codes "a send"
+sort_word sort.Receive = codes "a receive"
+sort_word sort.Matched = codes "a receive of a claimed message"
+
+-- the source that a receive names
+abbrev pub source_word : Peer → List ℕ
+source_word peer.Any = codes "any"
+source_word (peer.One rank) = decimal rank
+
+-- .. and the tag
+abbrev pub tag_word : TagPick → List ℕ
+tag_word pick.Any = codes "any"
+tag_word (pick.One tag) = decimal tag
+
+-- the name of an argument
+abbrev pub name_word : Argument → List ℕ
+name_word (arg.Sort s) = codes "; it"
+name_word (arg.To to) = codes "; its destination"
+name_word (arg.From from) = codes "; its source"
+name_word (arg.Tag tag) = codes "; its tag"
+name_word (arg.Context ctx) = codes "; its context"
+name_word (arg.Length len) = codes "; its length"
+name_word (arg.Capacity cap) = codes "; its capacity"
+name_word (arg.Message message) = codes "; its message"
+name_word (arg.Line line) = codes "; its command"
+
+-- .. and its value
+abbrev pub value_words : Argument → List ℕ
+value_words (arg.Sort s) = sort_word s
+value_words (arg.To to) = decimal to
+value_words (arg.From from) = source_word from
+value_words (arg.Tag tag) = tag_word tag
+value_words (arg.Context ctx) = decimal ctx
+value_words (arg.Length len) = decimal len
+value_words (arg.Capacity cap) = decimal cap
+value_words (arg.Message message) = from_words message.rank message.n
+value_words (arg.Line line) = codes "that of line " ++ decimal line
+
+-- an argument that was called for, and another one that was found
+abbrev pub mismatch_words : Mismatch → List ℕ
+mismatch_words m =
+    name_word m.called ++ (codes " is to be " ++ (value_words m.called ++ (codes ", and is " ++ value_words m.found)))

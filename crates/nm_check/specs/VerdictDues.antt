@@ -6,7 +6,7 @@ use Rattle.nm_check_rank.specs.declared.paired.objections.Objection.{Objection}
 use Rattle.nm_check_rank.specs.declared.paired.objections.Objection.TheVariants as against
 use Rattle.nm_check_rank.specs.declared.paired.dues.Due.{Due}
 use Rattle.nm_check_rank.specs.declared.paired.dues.Due.TheVariants as due
-use Rattle.nm_check.specs.VerdictCalled.{claim_words, many_words, named_words}
+use Rattle.nm_check.specs.VerdictCalled.{claim_words, many_words, mismatch_words, named_words}
 
 -- the word of an answer
 abbrev pub told_word : Told → List ℕ
@@ -63,6 +63,10 @@ objection_words against.NotSent = codes "; its message was not sent before"
 objection_words against.NotRecalled = codes "; its message was not recalled before"
 objection_words against.Done = codes "; it is to be `done`, and is `late`"
 objection_words against.Late = codes "; it is to be `late`, and is `done`"
+objection_words against.NotClaimed = codes "; its message was not claimed before"
+objection_words against.Taken = codes "; a receive had taken its message"
+objection_words against.NoMessage = codes "; its handle has no live message"
+objection_words against.Asking = codes "; a synchronous send asks, and this one does not"
 
 -- whether a send of so many bytes asks by this limit
 abbrev pub eager_words : ℕ → ℕ → Bool → List ℕ
@@ -82,6 +86,7 @@ some_words (due.Against objection) = objection_words objection
 some_words (due.Many called found) = many_words called found
 some_words (due.Claim called found) = claim_words called found
 some_words (due.Named called found) = named_words called found
+some_words (due.Argument mismatch) = mismatch_words mismatch
 
 -- .. if it is told
 abbrev pub due_words : Option Due → List ℕ

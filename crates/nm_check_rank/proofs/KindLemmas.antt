@@ -11,7 +11,7 @@ use Rattle.nm_lookups.specs.declared.asked.since.Since.{Since}
 use Rattle.nm_lookups.specs.declared.asked.since.Since.TheVariants.{Nothing, One, More}
 use Rattle.nm_check_rank.proofs.DecideLemmas.{decides_by}
 
-same_head : {X : Type 0} {a b : X} → (a ∷ []) ≡ (b ∷ []) → a ≡ b
+pub same_head : {X : Type 0} {a b : X} → (a ∷ []) ≡ (b ∷ []) → a ≡ b
 same_head same = cc
 
 module _ (p : Happened → Bool) (h : List Event) (k : ℕ) (w : Happened) (r : Bool) where

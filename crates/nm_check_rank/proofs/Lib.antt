@@ -12,11 +12,13 @@ pub mod FirstBrokenLemmas
 mod GivenLemmas
 mod KindLemmas
 mod ManyLemmas
+mod MismatchLemmas
 mod ObjectionLemmas
 mod OrderLemmas
 mod PushLemmas
 mod ResultLemmas
 pub mod RuleLemmas
 mod StartLemmas
+mod StartingLemmas
 mod TakenLemmas
 mod ToldLemmas

@@ -2,8 +2,8 @@
 use Rattle.std.proofs.Common.{◌≡◌, ℕ, Bool, None, List, refl}
 use Rattle.nm_history.specs.declared.events.Event.{Event}
 use Rattle.nm_history.specs.declared.events.Happened.{Happened}
-use Rattle.nm_history.specs.declared.events.Happened.TheVariants.{Whole, Out, Cancel, Recall, Withdraw, Undone}
-use Rattle.nm_check_rank.specs.Objections.{cancel_objection, end_objection, whole_objection}
+use Rattle.nm_history.specs.declared.events.Happened.TheVariants.{Whole, Out, Cancel, Recall, Withdraw, Undone, Match}
+use Rattle.nm_check_rank.specs.Objections.{cancel_objection, end_objection, match_objection, whole_objection}
 
 pub no_whole : (before : List Event) (what : Happened) → ((from n : ℕ) → what ≡ Whole from n → ⊥) →
     None ≡ whole_objection before what
@@ -23,3 +23,8 @@ pub no_cancel : (before : List Event) (what : Happened) → ((number : ℕ) (don
 no_cancel before (Cancel number done) c r = absurd (c number done refl)
 no_cancel before (Recall to n) c r = absurd (r to n refl)
 no_cancel before what c r = refl
+
+pub no_receive : (before : List Event) (what : Happened) →
+    ((number from n cap line : ℕ) → what ≡ Match number from n cap line → ⊥) → None ≡ match_objection before what
+no_receive before (Match number from n cap line) not = absurd (not number from n cap line refl)
+no_receive before what not = refl

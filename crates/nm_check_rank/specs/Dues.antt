@@ -1,21 +1,18 @@
 -- What is called for where a rank breaks a rule of its own run.
-use Rattle.std.specs.Prelude.{◌≡◌, ◌≢◌, ℕ, Bool, true, false, if◌then◌else◌, nat_lt, Option, Some, None, IsSomeAnd}
-use Rattle.std.specs.Prelude.{List, [], ◌∷◌, length, map, option_and_then, option_map, slice_get}
+use Rattle.std.specs.Prelude.{◌≡◌, ◌≢◌, ℕ, if◌then◌else◌, nat_lt, Option, Some, None, IsSomeAnd}
+use Rattle.std.specs.Prelude.{List, length, map, option_and_then, option_map, slice_get}
 use Rattle.nm_types.specs.declared.answers.Answer.{Answer}
-use Rattle.nm_types.specs.declared.messages.How.{How}
-use Rattle.nm_types.specs.declared.scripts.Command.{Command}
-use Rattle.nm_types.specs.declared.scripts.Command.TheVariants as command
-use Rattle.nm_types.specs.Bodies.{body_len}
 use Rattle.nm_types.specs.Commands.{Numbered, command_at}
 use Rattle.nm_types.specs.Sizes.{Sizes}
 use Rattle.nm_history.specs.declared.events.Event.{Event}
 use Rattle.nm_history.specs.declared.events.Happened.{Happened}
 use Rattle.nm_history.specs.declared.events.Happened.TheVariants as what
 use Rattle.nm_history.specs.Answers.{answer_of, without_bytes}
-use Rattle.nm_history.specs.RankRun.{last_stamp, ran_lines, starts_since}
-use Rattle.nm_history.specs.Sends.{arrivals, is_ask, receives, sends}
+use Rattle.nm_history.specs.RankRun.{last_stamp, ran_lines}
+use Rattle.nm_history.specs.Sends.{arrivals, receives, sends}
 use Rattle.nm_check_rank.specs.Claimings.{claim_due}
 use Rattle.nm_check_rank.specs.Objections.{cancel_objection, end_objection, whole_objection}
+use Rattle.nm_check_rank.specs.Startings.{IsStartDue}
 use Rattle.nm_check_rank.specs.Told.{untold}
 use Rattle.nm_check_rank.specs.declared.clauses.OwnClause.{OwnClause}
 use Rattle.nm_check_rank.specs.declared.clauses.OwnClause.TheVariants as own
@@ -73,34 +70,6 @@ abbrev pub number_due : ℕ → Option ℕ → Option Due → Option Due
 number_due ranks (Some found) numbers = Some (due.Rank ranks found)
 number_due ranks None numbers = numbers
 
--- whether a send of so many bytes is to ask by the eager limit, and whether it asks
-abbrev pub limit_due : ℕ → ℕ → Bool → Bool → Option Due
-limit_due limit len true true = None
-limit_due limit len false false = None
-limit_due limit len called asks = Some (due.Eager limit len asks)
-
--- a standard send is to ask exactly where it is longer than the eager limit
-abbrev pub sent_due : ℕ → How → Command → Option Due
-sent_due limit how (command.Send q to tag ctx body false) =
-    limit_due limit (body_len body) (nat_lt limit (body_len body)) (is_ask how)
-sent_due limit how c = None
-
--- .. if what a command started is a send
-abbrev pub one_due : ℕ → Happened → Command → Option Due
-one_due limit (what.Send to n tag ctx len how line) c = sent_due limit how c
-one_due limit w c = None
-
--- .. and there is no other
-abbrev pub starts_due : ℕ → List Happened → Command → Option Due
-starts_due limit (w ∷ []) c = one_due limit w c
-starts_due limit starts c = None
-
--- .. since the answer before that to the command of a line
-abbrev pub start_due : ℕ → List Numbered → List Event → Happened → Option Due
-start_due limit commands before (what.Ran line answer) =
-    option_and_then (λ c. starts_due limit (starts_since before) c) (command_at commands line)
-start_due limit commands before w = None
-
 -- what a rule of a rank's run calls for at an event
 abbrev pub IsOwnDue : Sizes → List Numbered → OwnClause → List Event → Event → Option Due → Type 0
 IsOwnDue shape commands own.Answers before e called = IsDueAt commands before e.what called
@@ -110,5 +79,5 @@ IsOwnDue shape commands own.Numbers before e called =
 IsOwnDue shape commands own.Wholes before e called = called ≡ option_map due.Against (whole_objection before e.what)
 IsOwnDue shape commands own.Ends before e called = called ≡ option_map due.Against (end_objection before e.what)
 IsOwnDue shape commands own.Cancels before e called = called ≡ option_map due.Against (cancel_objection before e.what)
-IsOwnDue shape commands own.Starts before e called = called ≡ start_due shape.eager commands before e.what
+IsOwnDue shape commands own.Starts before e called = IsStartDue shape.eager commands before e.what called
 IsOwnDue shape commands own.Claims before e called = called ≡ claim_due commands before e.what

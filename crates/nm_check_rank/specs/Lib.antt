@@ -1,3 +1,4 @@
+pub mod Arguments
 pub mod Breaks
 pub mod Claimings
 pub mod Counted
@@ -11,6 +12,7 @@ pub mod Manies
 pub mod Objections
 pub mod OwnBreaks
 pub mod OwnClauses
+pub mod Startings
 pub mod Tabled
 pub mod Takes
 pub mod Told

@@ -3,9 +3,9 @@ use Rattle.std.specs.Prelude.{Bool, true, false, not, ◌&&◌, ◌||◌, if◌t
 use Rattle.std.specs.List.{list_any}
 use Rattle.nm_history.specs.declared.events.Event.{Event}
 use Rattle.nm_history.specs.declared.events.Happened.{Happened}
-use Rattle.nm_history.specs.declared.events.Happened.TheVariants.{Whole, Out, Cancel, Recall, Withdraw, Undone}
+use Rattle.nm_history.specs.declared.events.Happened.TheVariants.{Whole, Out, Cancel, Recall, Withdraw, Undone, Match}
 use Rattle.nm_history.specs.Completion.{is_taken}
-use Rattle.nm_history.specs.Happens.{happened, is_arrival, is_out, is_recall, is_send, is_undone, is_whole}
+use Rattle.nm_history.specs.Happens.{happened, is_arrival, is_claim, is_out, is_recall, is_send, is_undone, is_whole}
 use Rattle.nm_history.specs.Happens.{is_withdraw}
 use Rattle.nm_history.specs.Matching.{is_free_message, is_of_receive, matched_pairs}
 use Rattle.nm_history.specs.RankRun.{is_asking}
@@ -58,3 +58,10 @@ cancel_objection before (Cancel number done) =
 cancel_objection before (Recall to n) =
     once_after (happened (is_recall to n) before) (happened (is_send to n) before) against.NotSent
 cancel_objection before what = None
+
+-- .. against the receive of a claimed message: a receive had taken it, or it was not claimed
+abbrev pub match_objection : List Event → Happened → Option Objection
+match_objection before (Match number from n cap line) =
+    if is_taken before from n then Some against.Taken
+    else if happened (is_claim from n) before then None else Some against.NotClaimed
+match_objection before what = None

@@ -8,8 +8,9 @@
 //! history. Claims, starts, cancels and answers have a judge each, whose contract is `Decides` of
 //! the rule. `specs/Told.antt` has the answers without their bytes, `specs/Handles.antt` what a
 //! name and a handle stand for. `specs/Dues.antt` says what is called for at an event that breaks a
-//! rule (at a claim `specs/Claimings.antt`), `specs/Objections.antt` what stands against it, and
-//! `specs/Takes.antt` which event took a message.
+//! rule, by `specs/Claimings.antt` and `specs/Startings.antt` with `specs/Arguments.antt`;
+//! `specs/Objections.antt` says what stands against it, and `specs/Takes.antt` which event took a
+//! message.
 //! # What is proved
 //! - A rank's history is judged to be a run exactly where it is one, else the first rule that is
 //!   broken is named, or its judging is in want of memory.
@@ -19,13 +20,15 @@
 //! - Of a place where a rule breaks `dues` tells what was called for and what was found: of an answer
 //!   the command that was the next one, or the answer that the events before give; of a stamp and a
 //!   number those that were due; and what stands against a message that is whole or ends, or a cancel.
-//!   Of a claim it is the message, and at an answer how many claims there are to be.
+//!   Of a claim it is the message; of a start the first argument that is another one, or else whether
+//!   it asks; and at an answer how many of both there are to be.
 //!
 //! Each judge walks a history once, with look-ups for each event; that is not proved.
 //! # What is only tested
 //! Nothing.
 
 pub mod answers;
+pub mod arguments;
 mod arrivals;
 pub mod cancels;
 mod claimings;
@@ -37,6 +40,7 @@ pub mod manies;
 pub mod objections;
 mod order;
 mod results;
+mod startings;
 pub mod starts;
 pub mod tables;
 pub mod told;

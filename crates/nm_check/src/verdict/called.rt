@@ -1,11 +1,13 @@
-//! What was called for at a claim.
+//! What was called for at a claim and at a start.
 
 ghost use Rattle.std.specs.Prelude.{◌≡◌, IfOk, string_bytes};
 ghost use Rattle.nm_check.specs.VerdictCalled as spec;
 
 use crate::verdict::incidents::from_words;
+use nm_check_rank::paired::arguments::{Argument, Mismatch, Sort};
 use nm_check_rank::paired::manies::Many;
 use nm_lookups::firsts::Message;
+use nm_types::{Peer, TagPick};
 use std::alloc::{AllocError, Global};
 
 /// How many there are to be.
@@ -70,4 +72,79 @@ pub(crate) fn named_words(alloc: Global, called: u32, found: u32) -> Result<Stri
         "; its claim is to name line {}, and names line {}",
         called, found
     )
+}
+
+/// What a start is.
+fn sort_word(sort: Sort) -> &'static str
+    ensures { result.now ≡ spec.sort_word sort }
+{
+    match sort {
+        Sort::Send => "a send",
+        Sort::Receive => "a receive",
+        Sort::Matched => "a receive of a claimed message",
+    }
+}
+
+/// The source that a receive names.
+fn source_word(alloc: Global, from: Peer) -> Result<String, AllocError>
+    ensures { IfOk result (λ text. string_bytes text ≡ spec.source_word from) }
+{
+    match from {
+        Peer::Any => format!(in alloc; "any"),
+        Peer::One(rank) => format!(in alloc; "{}", rank),
+    }
+}
+
+/// .. and the tag.
+fn tag_word(alloc: Global, tag: TagPick) -> Result<String, AllocError>
+    ensures { IfOk result (λ text. string_bytes text ≡ spec.tag_word tag) }
+{
+    match tag {
+        TagPick::Any => format!(in alloc; "any"),
+        TagPick::One(tag) => format!(in alloc; "{}", tag),
+    }
+}
+
+/// The name of an argument.
+fn name_word(argument: Argument) -> &'static str
+    ensures { result.now ≡ spec.name_word argument }
+{
+    match argument {
+        Argument::Sort(_) => "; it",
+        Argument::To(_) => "; its destination",
+        Argument::From(_) => "; its source",
+        Argument::Tag(_) => "; its tag",
+        Argument::Context(_) => "; its context",
+        Argument::Length(_) => "; its length",
+        Argument::Capacity(_) => "; its capacity",
+        Argument::Message(_) => "; its message",
+        Argument::Line(_) => "; its command",
+    }
+}
+
+/// .. and its value.
+fn value_words(alloc: Global, argument: Argument) -> Result<String, AllocError>
+    ensures { IfOk result (λ text. string_bytes text ≡ spec.value_words argument) }
+{
+    match argument {
+        Argument::Sort(sort) => format!(in alloc; "{}", sort_word(sort)),
+        Argument::To(to) => format!(in alloc; "{}", to),
+        Argument::From(from) => source_word(alloc, from),
+        Argument::Tag(tag) => tag_word(alloc, tag),
+        Argument::Context(ctx) => format!(in alloc; "{}", ctx),
+        Argument::Length(len) => format!(in alloc; "{}", len),
+        Argument::Capacity(cap) => format!(in alloc; "{}", cap),
+        Argument::Message(message) => from_words(alloc, message.rank, message.n),
+        Argument::Line(line) => format!(in alloc; "that of line {}", line),
+    }
+}
+
+/// An argument that was called for, and another one that was found.
+pub(crate) fn mismatch_words(alloc: Global, mismatch: Mismatch) -> Result<String, AllocError>
+    ensures { IfOk result (λ text. string_bytes text ≡ spec.mismatch_words mismatch) }
+{
+    let called = value_words(alloc, mismatch.called)?;
+    let found = value_words(alloc, mismatch.found)?;
+    let name = name_word(mismatch.called);
+    format!(in alloc; "{} is to be {}, and is {}", name, called, found)
 }

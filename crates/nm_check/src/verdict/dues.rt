@@ -10,7 +10,7 @@ ghost use Rattle.nm_check.specs.VerdictDues.{objection_words as objection_words_
 ghost use Rattle.nm_check.specs.VerdictDues.{shown_words as shown_words_lem, told_word as told_word_lem};
 ghost use Rattle.nm_check.specs.VerdictDues.{told_words as told_words_lem};
 
-use crate::verdict::called::{claim_words, many_words, named_words};
+use crate::verdict::called::{claim_words, many_words, mismatch_words, named_words};
 use nm_check_rank::paired::dues::Due;
 use nm_check_rank::paired::objections::Objection;
 use nm_check_rank::paired::told::Told;
@@ -117,6 +117,10 @@ fn objection_words(objection: Objection) -> &'static str
         Objection::NotRecalled => "; its message was not recalled before",
         Objection::Done => "; it is to be `done`, and is `late`",
         Objection::Late => "; it is to be `late`, and is `done`",
+        Objection::NotClaimed => "; its message was not claimed before",
+        Objection::Taken => "; a receive had taken its message",
+        Objection::NoMessage => "; its handle has no live message",
+        Objection::Asking => "; a synchronous send asks, and this one does not",
     }
 }
 
@@ -160,6 +164,7 @@ fn some_words(alloc: Global, due: Due) -> Result<String, AllocError>
         Due::Many { called, found } => many_words(alloc, called, found),
         Due::Claim { called, found } => claim_words(alloc, called, found),
         Due::Named { called, found } => named_words(alloc, called, found),
+        Due::Argument { mismatch } => mismatch_words(alloc, mismatch),
     }
 }
 

@@ -21,11 +21,12 @@ ghost use Rattle.nm_check_rank.specs.declared.paired.dues.Due.TheVariants.{Again
 use crate::clauses::OwnClause;
 use crate::numbers::{Counts, counted};
 use crate::paired::answers::answer_told;
+use crate::paired::arguments::Mismatch;
 use crate::paired::claimings::claim_due;
-use crate::paired::limits::start_due;
 use crate::paired::manies::Many;
 use crate::paired::objections::{Objection, cancel_objection, end_objection, whole_objection};
 use crate::paired::order::{lines_ran, own_lines};
+use crate::paired::startings::start_due;
 use crate::paired::tables::Tables;
 use crate::paired::told::{Told, told_of};
 use nm_history::{Event, Happened};
@@ -85,6 +86,10 @@ pub enum Due {
     Named {
         called: u32,
         found: u32,
+    },
+    /// The start is to have this argument, and has this one.
+    Argument {
+        mismatch: Mismatch,
     },
 }
 
@@ -271,7 +276,7 @@ pub fn number_due(shape: Shape, events: &[Event], k: usize) -> Option<Due>
 }
 
 /// What stands against an event, if something does.
-fn against(objection: Option<Objection>) -> Option<Due>
+pub(crate) fn against(objection: Option<Objection>) -> Option<Due>
     ensures { result ≡ option_map Against objection }
 {
     match objection {
@@ -301,7 +306,7 @@ pub fn due_by_tables(
     match clause {
         OwnClause::Claims => Ok(claim_due(rank, lines, events, tables, k)),
         OwnClause::Answers => due_at(alloc, rank, lines, events, tables, k),
-        OwnClause::Starts => Ok(start_due(rank, lines, events, shape.eager(), k)),
+        OwnClause::Starts => Ok(start_due(rank, lines, events, tables, shape.eager(), k)),
         OwnClause::Wholes => Ok(against(whole_objection(tables, k, what))),
         OwnClause::Ends => Ok(against(end_objection(tables, k, what))),
         OwnClause::Cancels => Ok(against(cancel_objection(tables, k, what))),

@@ -1,7 +1,9 @@
 //! How many events are called for since the answer before, and how many were found.
 
 ghost use Rattle.std.specs.Prelude.{◌≡◌, Bool, if◌then◌else◌, List, length};
-ghost use Rattle.nm_lookups.specs.SinceAnswer.{IsSince};
+ghost use Rattle.nm_history.specs.declared.events.Event as event;
+ghost use Rattle.nm_history.specs.declared.events.Happened as occurrence;
+ghost use Rattle.nm_lookups.specs.SinceAnswer.{IsSince, of_kind};
 ghost use Rattle.nm_check_rank.specs.Manies as spec;
 ghost use Rattle.nm_check_rank.specs.declared.paired.manies.Many.TheVariants.{Nothing, One};
 
@@ -29,6 +31,18 @@ pub(crate) fn left<T: Called>(before: &[Event]) -> Since
         since = since.after::<T>(k, &e.what);
     }
     since
+}
+
+/// How many there are since the last answer.
+pub(crate) fn many_of(since: Since) -> Many
+    ensures { (p : occurrence.Happened → Bool) (h : List event.Event) →
+        IsSince p h (length h) since → result ≡ spec.many_of (of_kind p h) }
+{
+    match since {
+        Since::Nothing => Many::Nothing,
+        Since::One(_) => Many::One,
+        Since::More => Many::More,
+    }
 }
 
 /// One, where it is called for.

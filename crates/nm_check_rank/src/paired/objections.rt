@@ -32,6 +32,14 @@ pub enum Objection {
     Done,
     /// It is to be late, and is done.
     Late,
+    /// Its message was not claimed before.
+    NotClaimed,
+    /// A receive had taken its message.
+    Taken,
+    /// The handle of its command has no live message.
+    NoMessage,
+    /// It is to ask, and does not.
+    Asking,
 }
 
 /// It happened before, or something else had to be before it, and was not.
@@ -165,6 +173,38 @@ pub fn end_objection(tables: &Tables, k: usize, what: &Happened) -> Option<Objec
         Happened::Withdraw { from, n, done } => withdraw_objection(tables, k, *from, *n, *done),
         Happened::Out { to, n } => out_objection(tables, k, *to, *n),
         Happened::Undone { to, n, done } => undone_objection(tables, k, *to, *n, *done),
+        _ => None,
+    }
+}
+
+/// A receive had taken a claimed message, or it was not claimed.
+fn unclaimed(taken: bool, claimed: bool) -> Option<Objection>
+    ensures { result ≡ (if taken then Some against.Taken
+        else if claimed then None else Some against.NotClaimed) }
+{
+    if taken {
+        return Some(Objection::Taken);
+    }
+    if claimed {
+        None
+    } else {
+        Some(Objection::NotClaimed)
+    }
+}
+
+/// What stands against the receive of a claimed message at a place.
+pub fn match_objection(tables: &Tables, k: usize, what: &Happened) -> Option<Objection>
+    ensures { (rank : ℕ) (lines : List script_line.Line) (h : List event.Event) →
+        AreRankTables rank lines h tables.now →
+        result ≡ spec.match_objection (take k h) what.now }
+{
+    match what {
+        Happened::Match { from, n, .. } => {
+            let claims = &tables.places.incoming.settled.claims;
+            let claimed = is_before::<Claims>(claims, *from, *n, k);
+            let taken = tables.pairing.is_taken(*from, *n, k);
+            unclaimed(taken, claimed)
+        }
         _ => None,
     }
 }

@@ -56,7 +56,7 @@ fn is_same_how(a: How, b: How) -> bool
     }
 }
 
-fn is_same_peer(a: Peer, b: Peer) -> bool
+pub(crate) fn is_same_peer(a: Peer, b: Peer) -> bool
     ensures { Decides result (a ≡ b) }
 {
     match a {
@@ -71,7 +71,7 @@ fn is_same_peer(a: Peer, b: Peer) -> bool
     }
 }
 
-fn is_same_pick(a: TagPick, b: TagPick) -> bool
+pub(crate) fn is_same_pick(a: TagPick, b: TagPick) -> bool
     ensures { Decides result (a ≡ b) }
 {
     match a {
