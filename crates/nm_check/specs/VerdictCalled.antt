@@ -1,9 +1,11 @@
--- What is said of what was called for at a claim and at a start.
+-- What is said of what was called for at a claim, at a start and at the answer to a cancel.
 use Rattle.std.specs.Prelude.{ℕ, List, ◌++◌, Option, Some, None, codes, decimal}
 use Rattle.nm_types.specs.declared.messages.Peer.{Peer}
 use Rattle.nm_types.specs.declared.messages.Peer.TheVariants as peer
 use Rattle.nm_types.specs.declared.messages.TagPick.{TagPick}
 use Rattle.nm_types.specs.declared.messages.TagPick.TheVariants as pick
+use Rattle.nm_lookups.specs.declared.asked.requests.Request.{Request}
+use Rattle.nm_lookups.specs.declared.asked.requests.Request.TheVariants.{Sending, Receiving}
 use Rattle.nm_lookups.specs.declared.firsts.Message.{Message}
 use Rattle.nm_check_rank.specs.declared.paired.arguments.Argument.{Argument}
 use Rattle.nm_check_rank.specs.declared.paired.arguments.Argument.TheVariants as arg
@@ -12,7 +14,7 @@ use Rattle.nm_check_rank.specs.declared.paired.arguments.Sort.{Sort}
 use Rattle.nm_check_rank.specs.declared.paired.arguments.Sort.TheVariants as sort
 use Rattle.nm_check_rank.specs.declared.paired.manies.Many.{Many}
 use Rattle.nm_check_rank.specs.declared.paired.manies.Many.TheVariants as many
-use Rattle.nm_check.specs.VerdictIncidents.{from_words}
+use Rattle.nm_check.specs.VerdictIncidents.{from_words, receive_words, to_words}
 
 -- how many there are to be
 abbrev pub many_word : Many → List ℕ
@@ -42,6 +44,16 @@ claim_words None found =
 abbrev pub named_words : ℕ → ℕ → List ℕ
 named_words called found =
     codes "; its claim is to name line " ++ (decimal called ++ (codes ", and names line " ++ decimal found))
+
+-- a request
+abbrev pub request_words : Request → List ℕ
+request_words (Sending to n) = to_words to n
+request_words (Receiving number) = receive_words number
+
+-- another request is cancelled than is to be
+abbrev pub of_words : Request → Request → List ℕ
+of_words called found =
+    codes "; it is to be of " ++ (request_words called ++ (codes ", and is of " ++ request_words found))
 
 -- what a start is
 abbrev pub sort_word : Sort → List ℕ

@@ -6,7 +6,7 @@ use Rattle.nm_check_rank.specs.declared.paired.objections.Objection.{Objection}
 use Rattle.nm_check_rank.specs.declared.paired.objections.Objection.TheVariants as against
 use Rattle.nm_check_rank.specs.declared.paired.dues.Due.{Due}
 use Rattle.nm_check_rank.specs.declared.paired.dues.Due.TheVariants as due
-use Rattle.nm_check.specs.VerdictCalled.{claim_words, many_words, mismatch_words, named_words}
+use Rattle.nm_check.specs.VerdictCalled.{claim_words, many_words, mismatch_words, named_words, of_words}
 
 -- the word of an answer
 abbrev pub told_word : Told → List ℕ
@@ -87,6 +87,7 @@ some_words (due.Many called found) = many_words called found
 some_words (due.Claim called found) = claim_words called found
 some_words (due.Named called found) = named_words called found
 some_words (due.Argument mismatch) = mismatch_words mismatch
+some_words (due.Of called found) = of_words called found
 
 -- .. if it is told
 abbrev pub due_words : Option Due → List ℕ

@@ -2,6 +2,7 @@ mod AnswerLemmas
 mod ArrivalLemmas
 pub mod BreakLemmas
 mod CancelLemmas
+mod CancellingLemmas
 mod ClaimLemmas
 mod ClaimingLemmas
 pub mod CountLemmas

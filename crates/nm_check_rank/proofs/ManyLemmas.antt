@@ -69,3 +69,18 @@ module _ (p : Happened → Bool) (h : List Event) where
       one_nothing (one ∙ ap (λ (ws : List Happened). many_of ws) (none_left none))
   not_one_left (since.One t) not some one = not t refl
   not_one_left since.More not more one = one_more (one ∙ sym (many_more (of_kind p h) (more_left more)))
+
+  -- what is told by the list of them
+  pub told_none : {X : Type 0} (f : List Happened → X) (told : X) → told ≡ f [] → IsSince p h (length h) since.Nothing →
+      told ≡ f (of_kind p h)
+  told_none f told is none = is ∙ sym (ap f (none_left none))
+
+  pub told_one : {X : Type 0} (f : List Happened → X) (told : X) (t : ℕ) →
+      ((e : Event) → slice_get h t ≡ Some e → told ≡ f (e.what ∷ [])) → IsSince p h (length h) (since.One t) →
+      told ≡ f (of_kind p h)
+  told_one f told t is one = by_event (slice_get h t) is (one_left t one)
+    where
+      by_event : (o : Option Event) → ((e : Event) → o ≡ Some e → told ≡ f (e.what ∷ [])) →
+          IsSomeAnd o (λ e. of_kind p h ≡ e.what ∷ []) → told ≡ f (of_kind p h)
+      by_event None is some = absurd some
+      by_event (Some e) is some = is e refl ∙ sym (ap f some)

@@ -10,8 +10,9 @@ use Rattle.nm_history.specs.declared.events.Happened.TheVariants as what
 use Rattle.nm_history.specs.Answers.{answer_of, without_bytes}
 use Rattle.nm_history.specs.RankRun.{last_stamp, ran_lines}
 use Rattle.nm_history.specs.Sends.{arrivals, receives, sends}
+use Rattle.nm_check_rank.specs.Cancellings.{cancel_due}
 use Rattle.nm_check_rank.specs.Claimings.{claim_due}
-use Rattle.nm_check_rank.specs.Objections.{cancel_objection, end_objection, whole_objection}
+use Rattle.nm_check_rank.specs.Objections.{end_objection, whole_objection}
 use Rattle.nm_check_rank.specs.Startings.{IsStartDue}
 use Rattle.nm_check_rank.specs.Told.{untold}
 use Rattle.nm_check_rank.specs.declared.clauses.OwnClause.{OwnClause}
@@ -78,6 +79,6 @@ IsOwnDue shape commands own.Numbers before e called =
     called ≡ number_due shape.ranks (stranger shape.ranks e.what) (numbers_due (next_number before e.what) (number_of e.what))
 IsOwnDue shape commands own.Wholes before e called = called ≡ option_map due.Against (whole_objection before e.what)
 IsOwnDue shape commands own.Ends before e called = called ≡ option_map due.Against (end_objection before e.what)
-IsOwnDue shape commands own.Cancels before e called = called ≡ option_map due.Against (cancel_objection before e.what)
+IsOwnDue shape commands own.Cancels before e called = called ≡ cancel_due commands before e.what
 IsOwnDue shape commands own.Starts before e called = IsStartDue shape.eager commands before e.what called
 IsOwnDue shape commands own.Claims before e called = called ≡ claim_due commands before e.what

@@ -1,5 +1,6 @@
 pub mod Arguments
 pub mod Breaks
+pub mod Cancellings
 pub mod Claimings
 pub mod Counted
 pub mod Differ

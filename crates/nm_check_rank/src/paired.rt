@@ -8,9 +8,9 @@
 //! history. Claims, starts, cancels and answers have a judge each, whose contract is `Decides` of
 //! the rule. `specs/Told.antt` has the answers without their bytes, `specs/Handles.antt` what a
 //! name and a handle stand for. `specs/Dues.antt` says what is called for at an event that breaks a
-//! rule, by `specs/Claimings.antt` and `specs/Startings.antt` with `specs/Arguments.antt`;
-//! `specs/Objections.antt` says what stands against it, and `specs/Takes.antt` which event took a
-//! message.
+//! rule, by `specs/Claimings.antt`, `specs/Startings.antt` with `specs/Arguments.antt`, and
+//! `specs/Cancellings.antt`; `specs/Objections.antt` says what stands against it, and
+//! `specs/Takes.antt` which event took a message.
 //! # What is proved
 //! - A rank's history is judged to be a run exactly where it is one, else the first rule that is
 //!   broken is named, or its judging is in want of memory.
@@ -21,7 +21,7 @@
 //!   the command that was the next one, or the answer that the events before give; of a stamp and a
 //!   number those that were due; and what stands against a message that is whole or ends, or a cancel.
 //!   Of a claim it is the message; of a start the first argument that is another one, or else whether
-//!   it asks; and at an answer how many of both there are to be.
+//!   it asks; of a cancel the request; and at an answer how many of them there are to be.
 //!
 //! Each judge walks a history once, with look-ups for each event; that is not proved.
 //! # What is only tested
@@ -30,6 +30,7 @@
 pub mod answers;
 pub mod arguments;
 mod arrivals;
+mod cancellings;
 pub mod cancels;
 mod claimings;
 pub mod claims;

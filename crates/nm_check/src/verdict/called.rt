@@ -1,11 +1,12 @@
-//! What was called for at a claim and at a start.
+//! What was called for at a claim, at a start and at the answer to a cancel.
 
 ghost use Rattle.std.specs.Prelude.{◌≡◌, IfOk, string_bytes};
 ghost use Rattle.nm_check.specs.VerdictCalled as spec;
 
-use crate::verdict::incidents::from_words;
+use crate::verdict::incidents::{from_words, receive_words, to_words};
 use nm_check_rank::paired::arguments::{Argument, Mismatch, Sort};
 use nm_check_rank::paired::manies::Many;
+use nm_lookups::asked::requests::Request;
 use nm_lookups::firsts::Message;
 use nm_types::{Peer, TagPick};
 use std::alloc::{AllocError, Global};
@@ -72,6 +73,25 @@ pub(crate) fn named_words(alloc: Global, called: u32, found: u32) -> Result<Stri
         "; its claim is to name line {}, and names line {}",
         called, found
     )
+}
+
+/// A request.
+fn request_words(alloc: Global, request: Request) -> Result<String, AllocError>
+    ensures { IfOk result (λ text. string_bytes text ≡ spec.request_words request) }
+{
+    match request {
+        Request::Sending { to, n } => to_words(alloc, to, n),
+        Request::Receiving { number } => receive_words(alloc, number),
+    }
+}
+
+/// Another request is cancelled than is to be.
+pub(crate) fn of_words(alloc: Global, called: Request, found: Request) -> Result<String, AllocError>
+    ensures { IfOk result (λ text. string_bytes text ≡ spec.of_words called found) }
+{
+    let called = request_words(alloc, called)?;
+    let found = request_words(alloc, found)?;
+    format!(in alloc; "; it is to be of {}, and is of {}", called, found)
 }
 
 /// What a start is.

@@ -10,7 +10,7 @@ ghost use Rattle.nm_check.specs.VerdictDues.{objection_words as objection_words_
 ghost use Rattle.nm_check.specs.VerdictDues.{shown_words as shown_words_lem, told_word as told_word_lem};
 ghost use Rattle.nm_check.specs.VerdictDues.{told_words as told_words_lem};
 
-use crate::verdict::called::{claim_words, many_words, mismatch_words, named_words};
+use crate::verdict::called::{claim_words, many_words, mismatch_words, named_words, of_words};
 use nm_check_rank::paired::dues::Due;
 use nm_check_rank::paired::objections::Objection;
 use nm_check_rank::paired::told::Told;
@@ -165,6 +165,7 @@ fn some_words(alloc: Global, due: Due) -> Result<String, AllocError>
         Due::Claim { called, found } => claim_words(alloc, called, found),
         Due::Named { called, found } => named_words(alloc, called, found),
         Due::Argument { mismatch } => mismatch_words(alloc, mismatch),
+        Due::Of { called, found } => of_words(alloc, called, found),
     }
 }
 

@@ -12,7 +12,7 @@ use crate::breaks::incidents::Incident;
 use std::alloc::{AllocError, Global};
 
 /// A message to a rank.
-fn to_words(alloc: Global, to: u8, n: u64) -> Result<String, AllocError>
+pub(crate) fn to_words(alloc: Global, to: u8, n: u64) -> Result<String, AllocError>
     ensures { IfOk result (λ text. string_bytes text ≡ to_words_lem to n) }
 {
     format!(in alloc; "message {} to rank {}", n, to)
@@ -26,7 +26,7 @@ pub(crate) fn from_words(alloc: Global, from: u8, n: u64) -> Result<String, Allo
 }
 
 /// A receive.
-fn receive_words(alloc: Global, number: u64) -> Result<String, AllocError>
+pub(crate) fn receive_words(alloc: Global, number: u64) -> Result<String, AllocError>
     ensures { IfOk result (λ text. string_bytes text ≡ receive_words_lem number) }
 {
     format!(in alloc; "receive {}", number)

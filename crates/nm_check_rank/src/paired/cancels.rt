@@ -27,7 +27,7 @@ use nm_lookups::kinds::{Recalls, Sends};
 use nm_types::{Command, Line};
 
 /// A cancel or a recall.
-struct Cancelling;
+pub(crate) struct Cancelling;
 
 impl Called for Cancelling {
     ghost use Rattle.nm_history.specs.RankRun.{is_cancelling};
@@ -150,7 +150,7 @@ fn are_of_request(
 }
 
 /// Whether a command is a cancel.
-fn is_canceller(command: &Command) -> bool
+pub(crate) fn is_canceller(command: &Command) -> bool
     ensures { result ≡ is_canceller_lem command.now }
 {
     match command {

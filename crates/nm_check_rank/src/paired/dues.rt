@@ -22,15 +22,17 @@ use crate::clauses::OwnClause;
 use crate::numbers::{Counts, counted};
 use crate::paired::answers::answer_told;
 use crate::paired::arguments::Mismatch;
+use crate::paired::cancellings::cancel_due;
 use crate::paired::claimings::claim_due;
 use crate::paired::manies::Many;
-use crate::paired::objections::{Objection, cancel_objection, end_objection, whole_objection};
+use crate::paired::objections::{Objection, end_objection, whole_objection};
 use crate::paired::order::{lines_ran, own_lines};
 use crate::paired::startings::start_due;
 use crate::paired::tables::Tables;
 use crate::paired::told::{Told, told_of};
 use nm_history::{Event, Happened};
 use nm_lookups::asked::commands::command_of_line;
+use nm_lookups::asked::requests::Request;
 use nm_lookups::firsts::Message;
 use nm_types::{Answer, Line, Memory, Shape};
 use std::alloc::Global;
@@ -90,6 +92,11 @@ pub enum Due {
     /// The start is to have this argument, and has this one.
     Argument {
         mismatch: Mismatch,
+    },
+    /// The cancel is to be of this request, and is of this one.
+    Of {
+        called: Request,
+        found: Request,
     },
 }
 
@@ -309,7 +316,7 @@ pub fn due_by_tables(
         OwnClause::Starts => Ok(start_due(rank, lines, events, tables, shape.eager(), k)),
         OwnClause::Wholes => Ok(against(whole_objection(tables, k, what))),
         OwnClause::Ends => Ok(against(end_objection(tables, k, what))),
-        OwnClause::Cancels => Ok(against(cancel_objection(tables, k, what))),
+        OwnClause::Cancels => Ok(cancel_due(rank, lines, events, tables, k)),
         _ => Ok(None),
     }
 }

@@ -1,7 +1,7 @@
 use Rattle.std.proofs.Common.{◌≡◌, get_or, Option, ◌∙◌, ap, take}
 use Rattle.std.specs.Prelude.{option_map}
 use Rattle.nm_history.specs.declared.events.Event.{Event}
-use Rattle.nm_check_rank.specs.Objections.{cancel_objection, end_objection, whole_objection}
+use Rattle.nm_check_rank.specs.Objections.{end_objection, whole_objection}
 use Rattle.nm_check_rank.specs.declared.paired.dues.Due.TheVariants.{Against}
 use Rattle.nm_check_rank.specs.declared.paired.objections.Objection.{Objection}
 use Rattle.nm_check_rank.proofs.DueLemmas.{same_event}
@@ -28,14 +28,3 @@ returns-in-Ends c = λ e here.
     ∙ ap (λ (o : Option Objection). option_map Against o)
     (c.end_objection.ensures c.args.rank c.args.lines.now h c.requires.told
     ∙ ap (λ (x : Event). end_objection (take c.args.k h) x.what) same))
-
-pub returns-in-Cancels : goal.returns-in-Cancels
-returns-in-Cancels c = λ e here.
-    let h = c.args.events.now in
-    let same : get_or h c.args.k c.index-events-k.result ≡ e =
-    same_event h c.args.k c.index-events-k.result e c.requires.inside c.index-events-k.is here in
-    rw c.in-Cancels.is
-    (c.against-in-Cancels.ensures
-    ∙ ap (λ (o : Option Objection). option_map Against o)
-    (c.cancel_objection.ensures c.args.rank c.args.lines.now h c.requires.told
-    ∙ ap (λ (x : Event). cancel_objection (take c.args.k h) x.what) same))
