@@ -31,7 +31,7 @@ module _ (commands : List Numbered) (to n : ℕ) where
   abbrev Is : Happened → Type 0
   Is x = x ≡ happening.Recall to n
 
-  is_that_recall : is_recall to n (happening.Recall to n) ≡ true
+  pub is_that_recall : is_recall to n (happening.Recall to n) ≡ true
   is_that_recall = rw (eqb_self to, eqb_self n) refl
 
   -- recalls of a message, of which there was none before: there are none
@@ -52,7 +52,7 @@ module _ (commands : List Numbered) (to n : ℕ) where
   or_last true b last = refl
   or_last false b last = last
 
-  some_of_kind : (q p : Happened → Bool) (xs : List Happened) → list_any q (filter p xs) ≡ true → list_any q xs ≡ true
+  pub some_of_kind : (q p : Happened → Bool) (xs : List Happened) → list_any q (filter p xs) ≡ true → list_any q xs ≡ true
   some_of_kind q p [] some = some
   some_of_kind q p (x ∷ xs) some = by_kind (p x) some (some_of_kind q p xs)
     where

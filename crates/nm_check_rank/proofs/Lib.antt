@@ -1,6 +1,7 @@
 mod AnswerLemmas
 mod ArrivalLemmas
 pub mod BreakLemmas
+mod BrokenLemmas
 mod CancelLemmas
 mod CancellingLemmas
 mod ClaimLemmas
@@ -22,4 +23,5 @@ pub mod RuleLemmas
 mod StartLemmas
 mod StartingLemmas
 mod TakenLemmas
+mod ToldDueLemmas
 mod ToldLemmas

@@ -22,6 +22,7 @@
 //!   number those that were due; and what stands against a message that is whole or ends, or a cancel.
 //!   Of a claim it is the message; of a start the first argument that is another one, or else whether
 //!   it asks; of a cancel the request; and at an answer how many of them there are to be.
+//!   Wherever an event is the first that breaks a rule, something is told (`laws`).
 //!
 //! Each judge walks a history once, with look-ups for each event; that is not proved.
 //! # What is only tested
@@ -36,6 +37,7 @@ mod claimings;
 pub mod claims;
 pub mod dues;
 pub mod judging;
+pub mod laws;
 mod limits;
 pub mod manies;
 pub mod objections;
