@@ -3,7 +3,10 @@ mod DueLemmas
 mod EndLemmas
 mod EventLemmas
 mod ExactLemmas
+mod FedLemmas
+mod HeldLemmas
 mod InputLemmas
+mod LastLemmas
 mod LineLemmas
 mod OtherLemmas
 mod OwnLemmas

@@ -73,7 +73,7 @@ lines_from_are rank (a ∷ accounts) rest few within =
     ∙ sym (append_assoc (map (event_text rank) a.history.events) (lines_from (rank + 1) accounts) (lines_of rest))
 
 -- an item of the second of two lists
-there_too : {X : Type 0} (xs ys : List X) (k : ℕ) (x : X) → slice_get ys k ≡ Some x →
+pub there_too : {X : Type 0} (xs ys : List X) (k : ℕ) (x : X) → slice_get ys k ≡ Some x →
     slice_get (xs ++ ys) (length xs + k) ≡ Some x
 there_too xs ys k x here =
     let low : k < length ys = slice_get_within ys k x here in

@@ -51,7 +51,7 @@ module _ (shape : Sizes) (bytes : List ℕ) (run : RunRecord) (trace : IsTraceOf
       × (slice_get (lines_of bytes) before ≡ Some (event_text i e)))) (sym same)
       (events_in (take i ends) + k, refl, event_stands shape bytes run i k a e trace few here is)
 
-  spot_stands : (i k : ℕ) (command : Option ℕ) → k < length (history_of ends i) →
+  pub spot_stands : (i k : ℕ) (command : Option ℕ) → k < length (history_of ends i) →
       StandsAt bytes run (EventAt i k (line_of ends i k) command)
   spot_stands i k command inside = by_rank (slice_get ends i) refl inside
     where

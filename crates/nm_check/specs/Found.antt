@@ -12,7 +12,7 @@ use Rattle.nm_check.specs.Inputs.{HasNoCut}
 use Rattle.nm_check.specs.declared.checked.checks.Checked.{Checked}
 use Rattle.nm_check.specs.declared.checked.checks.Checked.TheVariants as checked
 use Rattle.nm_check.specs.Evidences.{IsEvidence}
-use Rattle.nm_check.specs.Lines.{StandsAt}
+use Rattle.nm_check.specs.Lines.{Stands}
 use Rattle.nm_check.specs.Places.{IsTracePlace}
 use Rattle.nm_check.specs.Stops.{IsStop, lines_in}
 use Rattle.nm_check.specs.declared.breaks.finding.Found.{Found}
@@ -31,7 +31,7 @@ IsTraceFound shape lines before rest (BadTrace front line stop) =
     (front ≡ before) × IsFirstBad shape rest line × IsStop shape rest line stop
 IsTraceFound shape lines before rest (Judged front verdict place evidence) =
     (front ≡ before) × (run : RunRecord) × IsTraceOf shape rest run × Judges lines run verdict
-    × IsTracePlace (lines_in rest) lines run verdict place × StandsAt rest run place
+    × IsTracePlace (lines_in rest) lines run verdict place × Stands rest run verdict place evidence
     × IsEvidence lines run verdict place evidence
 IsTraceFound shape lines before rest _ = ⊥
 

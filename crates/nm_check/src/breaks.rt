@@ -18,8 +18,8 @@
 //!   ranks the line of the other rank's event that it is held against (`specs/Others.antt`), what
 //!   happened at the place (`specs/Incidents.antt`), and of the rule of the cells how many there are to
 //!   be (`specs/CellCounts.antt`).
-//! - The place is the first one, and where it is an event, the line that is told is the one on which
-//!   it stands (`StandsAt`, `specs/Lines.antt`).
+//! - The place is the first one, and each line that is told, of an event, of the other rank's event,
+//!   of the cells and of the end, is the one on which it stands (`Stands`, `specs/Lines.antt`).
 //! - Of a text that is no trace it tells the first bad line, and what stops the text there (`IsStop`):
 //!   that there is no such line, that its line feed is missing, that it begins some trace but stands
 //!   behind lines which it can't follow, that it begins one with other numbers, that it names an event

@@ -5,7 +5,7 @@ use Rattle.nm_check.specs.Checks.{sizes}
 use Rattle.nm_check.specs.Stops.{lines_in}
 use Rattle.nm_check.specs.Places.{IsTracePlace}
 use Rattle.nm_check.proofs.EventLemmas.{few_events}
-use Rattle.nm_check.proofs.StandLemmas.{stands}
+use Rattle.nm_check.proofs.HeldLemmas.{all_stand}
 use Rattle.nm_check.proofs.breaks.finding.find_in_trace.Goals as goal
 
 pub trace_place-requires-clause-short : goal.trace_place-requires-clause-short
@@ -35,8 +35,8 @@ returns-in_ok-evidence-in-Ok-clause-found c =
       trace,
       c.in_ok-verdict-in-Ok.ensures.first,
       placed,
-      stands (sizes c.args.cells c.args.eager c.args.script.now.ranks) c.args.rest.now c.in-Ok.run' trace few
-          c.args.script.now.lines (lines_in c.args.rest.now) c.in_ok-verdict-in-Ok.verdict c.in_ok-place-in-Ok.place
-          placed,
+      all_stand (sizes c.args.cells c.args.eager c.args.script.now.ranks) c.args.rest.now c.in-Ok.run' trace few
+          c.args.script.now.lines c.in_ok-verdict-in-Ok.verdict c.in_ok-place-in-Ok.place
+          c.in_ok-evidence-in-Ok.evidence placed c.in_ok-evidence-in-Ok.ensures,
       c.in_ok-evidence-in-Ok.ensures,
     )
