@@ -8,7 +8,8 @@ use Rattle.nm_check.specs.declared.verdicts.Verdict.{Verdict}
 use Rattle.nm_check.specs.declared.verdicts.Verdict.TheVariants.{Holds, Own, Carried, Rest, Home, Done}
 use Rattle.nm_check.specs.Dues.{IsPlaceDue}
 use Rattle.nm_check.specs.declared.breaks.places.Place.{Place}
-use Rattle.nm_check.specs.declared.breaks.places.Place.TheVariants.{Nowhere, Event as EventAt, Behind, Standing, LastLine}
+use Rattle.nm_check.specs.declared.breaks.places.Place.TheVariants.{Nowhere, Event as EventAt, Behind, Standing}
+use Rattle.nm_check.specs.declared.breaks.places.Place.TheVariants.{Count, LastLine}
 
 -- no event
 pub other_place : (lines : List Line) (run : RunRecord) (c : OwnClause) (rank : ℕ) (place : Place) →
@@ -18,6 +19,7 @@ other_place lines run c rank Nowhere not = refl
 other_place lines run c rank (EventAt r at line command) not = absurd (not r at line command refl)
 other_place lines run c rank (Behind r) not = refl
 other_place lines run c rank (Standing r waits) not = refl
+other_place lines run c rank (Count at line) not = refl
 other_place lines run c rank (LastLine line) not = refl
 
 -- a rule of another kind

@@ -1,4 +1,4 @@
--- A trace has a line for each event, so it has no more events than bytes.
+-- A trace has a line for each event and for each count of packets, so it has no more of them than bytes.
 use Rattle.std.proofs.Common.{◌≡◌, ℕ, zero, suc, ◌+◌, ◌≤◌, ◌<◌, true, Some, List, [], ◌∷◌, ◌++◌, length, map, take, get_or}
 use Rattle.std.proofs.Common.{sym, ◌∙◌, ap, arith}
 use Rattle.std.specs.Prelude.{codes, decimal, flat_map, slice_get}
@@ -14,6 +14,7 @@ use Rattle.nm_types.specs.Sizes.{Sizes}
 use Rattle.nm_history.specs.declared.events.Event.{Event}
 use Rattle.nm_history.specs.Quiescence.{Ended}
 use Rattle.nm_report.specs.declared.accounts.RankAccount.{RankAccount}
+use Rattle.nm_report.specs.declared.pairs.PairCount.{PairCount}
 use Rattle.nm_report.specs.declared.records.RunRecord.{RunRecord}
 use Rattle.nm_report.specs.Ends.{ends_of}
 use Rattle.nm_report.specs.Events.{event_line, event_lines, event_words, pair_line}
@@ -50,20 +51,32 @@ many_from rank (account ∷ ranks) =
     (record { at = account.at; waits = account.waits; events = account.history.events }) (ends_of ranks) in
     omega (arith, more, here, split, sum)
 
+-- .. and each count of packets
+many_counts : (pairs : List PairCount) → length pairs ≤ length (flat_map pair_line pairs)
+many_counts [] = omega arith
+many_counts (pair ∷ pairs) =
+    let more = many_counts pairs in
+    let split : length (flat_map pair_line (pair ∷ pairs)) ≡ length (pair_line pair) + length (flat_map pair_line pairs) =
+    ap length (flat_map-cons pair_line pair pairs) ∙ length-append (pair_line pair) (flat_map pair_line pairs) in
+    let some : 1 ≤ length (pair_line pair) =
+    one_byte (join_with_byte 32 (codes "pair" ∷ decimal pair.from ∷ decimal pair.to ∷ decimal pair.packets ∷ [])) in
+    omega (arith, more, split, some)
+
 front_le : (xs ys : List ℕ) → length xs ≤ length (xs ++ ys)
 front_le xs ys = let long = length-append xs ys in omega (arith, long)
 
--- the events of a trace are no more than its bytes
-pub few_events : (shape : Sizes) (bytes : List ℕ) (run : RunRecord) → IsTraceOf shape bytes run →
-    events_in (ends_of run.ranks) ≤ length bytes
-few_events shape bytes run trace =
+-- the events and the counts of a trace are no more than its bytes
+pub few_lines : (shape : Sizes) (bytes : List ℕ) (run : RunRecord) → IsTraceOf shape bytes run →
+    events_in (ends_of run.ranks) + length run.pairs ≤ length bytes
+few_lines shape bytes run trace =
     let rest = by_rank answer_lines run.ranks ⧺ cells_line run.cells ⧺ end_line run.done in
     let many : events_in (ends_of run.ranks) ≤ length (by_rank event_lines run.ranks) = many_from 0 run.ranks in
-    let first : length (by_rank event_lines run.ranks) ≤ length (trace_text run) =
-    front_le (by_rank event_lines run.ranks) (flat_map pair_line run.pairs) in
+    let counts : length run.pairs ≤ length (flat_map pair_line run.pairs) = many_counts run.pairs in
+    let first : length (trace_text run) ≡ length (by_rank event_lines run.ranks) + length (flat_map pair_line run.pairs) =
+    length-append (by_rank event_lines run.ranks) (flat_map pair_line run.pairs) in
     let second : length (trace_text run) ≤ length (report_text true run) = front_le (trace_text run) rest in
     let all : length bytes ≡ length (report_text true run) = ap length trace.spelled in
-    omega (arith, many, first, second, all)
+    omega (arith, many, counts, first, second, all)
 
 -- one rank has no more events than all
 pub rank_le : (ranks : List Ended) (i : ℕ) (e : Ended) → slice_get ranks i ≡ Some e → length e.events ≤ events_in ranks

@@ -1,6 +1,7 @@
 -- Each line that is told of a trace is one of its lines.
-use Rattle.std.proofs.Common.{◌≡◌, ◌==◌, ℕ, ◌<◌, ◌^◌, Bool, Option, Some, None, List, length, refl, sym, subst}
+use Rattle.std.proofs.Common.{◌≡◌, ◌==◌, ℕ, ◌+◌, ◌<◌, ◌^◌, Bool, Option, Some, None, List, length, refl, sym, subst}
 use Rattle.std.specs.Prelude.{IfSome, MatchOption, if◌then◌else◌, option_map, position, slice_get, take}
+use Rattle.std.specs.List.{join_with_byte}
 use Rattle.std.proofs.lemmas.List.Quantifiers.{position-Some}
 use Rattle.nm_types.specs.declared.scripts.Line.{Line}
 use Rattle.nm_types.specs.Commands.{commands_of}
@@ -12,22 +13,28 @@ use Rattle.nm_history.specs.declared.plain.Pair.{Pair}
 use Rattle.nm_history.specs.Happens.{is_send}
 use Rattle.nm_history.specs.Quiescence.{Ended}
 use Rattle.nm_report.specs.declared.records.RunRecord.{RunRecord}
-use Rattle.nm_report.specs.Ends.{ends_of}
+use Rattle.nm_report.specs.declared.pairs.PairCount.{PairCount}
+use Rattle.nm_report.specs.Ends.{ends_of, packets_of}
+use Rattle.nm_trace.specs.Notes.{pair_words}
 use Rattle.nm_trace.specs.Traces.{IsTraceOf}
 use Rattle.nm_check_rank.specs.Takes.{IsTakenAt}
 use Rattle.nm_check_ranks.specs.Marked.{history_of}
+use Rattle.nm_check_ranks.specs.declared.rest.clauses.RestClause.{RestClause}
+use Rattle.nm_check_ranks.specs.declared.rest.clauses.RestClause.TheVariants as rest
 use Rattle.nm_check.specs.declared.verdicts.Verdict.{Verdict}
 use Rattle.nm_check.specs.declared.verdicts.Verdict.TheVariants.{Holds, Own, Carried, Rest, Home, Done}
 use Rattle.nm_check.specs.Evidences.{IsEvidence}
-use Rattle.nm_check.specs.Lines.{IsEventLine, LineStands, Stands}
+use Rattle.nm_check.specs.Lines.{IsEventLine, IsLineAt, LineStands, Stands}
 use Rattle.nm_check.specs.Others.{IsAgainst, IsCarriedOther, IsOther, IsOtherLine, IsTakenLine, first_line, is_mate}
 use Rattle.nm_check.specs.Others.{pair_shown, sent_line}
-use Rattle.nm_check.specs.Places.{IsTracePlace, line_of}
+use Rattle.nm_check.specs.Places.{IsCountPlace, IsRestPlace, IsTracePlace, events_in, line_of}
 use Rattle.nm_check.specs.Stops.{lines_in}
 use Rattle.nm_check.specs.declared.breaks.evidence.Evidence.{Evidence}
 use Rattle.nm_check.specs.declared.breaks.places.Place.{Place}
-use Rattle.nm_check.specs.declared.breaks.places.Place.TheVariants.{Nowhere, Event as EventAt, Behind, Standing, LastLine}
+use Rattle.nm_check.specs.declared.breaks.places.Place.TheVariants.{Nowhere, Event as EventAt, Behind, Standing}
+use Rattle.nm_check.specs.declared.breaks.places.Place.TheVariants.{Count, LastLine}
 use Rattle.nm_check.proofs.LastLemmas.{cells_stand, end_stands, last_two}
+use Rattle.nm_check.proofs.LineLemmas.{count_stands}
 use Rattle.nm_check.proofs.StandLemmas.{spot_stands, stands}
 
 module _ (shape : Sizes) (bytes : List ℕ) (run : RunRecord) (trace : IsTraceOf shape bytes run)
@@ -84,6 +91,7 @@ module _ (shape : Sizes) (bytes : List ℕ) (run : RunRecord) (trace : IsTraceOf
   carried_told lines i j Nowhere other is = subst Told (sym is) tt
   carried_told lines i j (Behind r) other is = subst Told (sym is) tt
   carried_told lines i j (Standing r waits) other is = subst Told (sym is) tt
+  carried_told lines i j (Count at line) other is = subst Told (sym is) tt
   carried_told lines i j (LastLine line) other is = subst Told (sym is) tt
 
   told : (lines : List Line) (verdict : Verdict) (place : Place) (other : Option ℕ) →
@@ -95,7 +103,27 @@ module _ (shape : Sizes) (bytes : List ℕ) (run : RunRecord) (trace : IsTraceOf
   told lines Home place other is = subst Told (sym is) tt
   told lines Done place other is = subst Told (sym is) tt
 
-  -- the line of the cells or of the end
+  -- the line of a count
+  count_line : (lines : List Line) (place : Place) → IsCountPlace lines ends (packets_of run.pairs) place →
+      LineStands bytes run (Rest rest.Counts) place
+  count_line lines place (k, differ, is) =
+      subst (LineStands bytes run (Rest rest.Counts)) (sym is) (by_count (slice_get run.pairs k) refl)
+    where
+      by_count : (o : Option PairCount) → slice_get run.pairs k ≡ o →
+          IfSome o (λ pair. IsLineAt bytes (events_in ends + k + 1) (join_with_byte 32 (pair_words pair)))
+      by_count None here = tt
+      by_count (Some pair) here = (events_in ends + k, refl, count_stands shape bytes run k pair trace few here)
+
+  rest_line : (lines : List Line) (c : RestClause) (place : Place) →
+      IsRestPlace lines ends (packets_of run.pairs) c place → LineStands bytes run (Rest c) place
+  rest_line lines rest.Counts place placed = count_line lines place placed
+  rest_line lines rest.Arrived place placed = tt
+  rest_line lines rest.Eager place placed = tt
+  rest_line lines rest.Asked place placed = tt
+  rest_line lines rest.Recalls place placed = tt
+  rest_line lines rest.Waits place placed = tt
+
+  -- .. of the cells or of the end
   last_stands : (lines : List Line) (verdict : Verdict) (place : Place) →
       IsTracePlace (lines_in bytes) lines run verdict place → LineStands bytes run verdict place
   last_stands lines Home place is =
@@ -106,7 +134,7 @@ module _ (shape : Sizes) (bytes : List ℕ) (run : RunRecord) (trace : IsTraceOf
   last_stands lines Holds place is = tt
   last_stands lines (Own c rank) place is = tt
   last_stands lines (Carried c i j) place is = tt
-  last_stands lines (Rest c) place is = tt
+  last_stands lines (Rest c) place is = rest_line lines c place is
 
   -- the lines of a verdict
   pub all_stand : (lines : List Line) (verdict : Verdict) (place : Place) (e : Evidence) →

@@ -8,6 +8,7 @@ mod HeldLemmas
 mod InputLemmas
 mod LastLemmas
 mod LineLemmas
+mod MiscountLemmas
 mod OtherLemmas
 mod OwnLemmas
 mod RangeLemmas

@@ -1,4 +1,4 @@
--- The lines of a trace, event by event.
+-- The lines of a trace, event by event and then count by count.
 use Rattle.std.proofs.Common.{◌≡◌, ℕ, zero, suc, ◌+◌, ◌<◌, ◌^◌, ◌==◌, true, false, ◌&&◌, Some, List, [], ◌∷◌, ◌++◌}
 use Rattle.std.proofs.Common.{length, map, nat_le, refl, sym, ◌∙◌, ap, subst, arith, append_assoc}
 use Rattle.std.specs.Prelude.{codes, decimal, flat_map, slice_get, take}
@@ -16,13 +16,16 @@ use Rattle.nm_types.specs.Text.{text_line}
 use Rattle.nm_history.specs.declared.events.Event.{Event}
 use Rattle.nm_history.specs.Quiescence.{Ended}
 use Rattle.nm_report.specs.declared.accounts.RankAccount.{RankAccount}
+use Rattle.nm_report.specs.declared.pairs.PairCount.{PairCount}
 use Rattle.nm_report.specs.declared.records.RunRecord.{RunRecord}
 use Rattle.nm_report.specs.Ends.{ends_of}
 use Rattle.nm_report.specs.Events.{event_line, event_lines, event_words, pair_line}
 use Rattle.nm_report.specs.Layout.{◌⧺◌, by_rank, from_rank}
 use Rattle.nm_report.specs.Report.{answer_lines, cells_line, end_line}
 use Rattle.nm_script.specs.Lines.{is_printable, lines_of}
-use Rattle.nm_trace.specs.Traces.{EndIn, EventIn, IsTraceOf}
+use Rattle.nm_script.proofs.WordLemmas.{decimal_solid, joined_printable}
+use Rattle.nm_trace.specs.Notes.{pair_words}
+use Rattle.nm_trace.specs.Traces.{EndIn, EventIn, IsTraceOf, PairIn}
 use Rattle.nm_check.specs.Lines.{event_text}
 use Rattle.nm_check.specs.Places.{events_in}
 use Rattle.nm_check.proofs.EventLemmas.{end_of}
@@ -112,6 +115,19 @@ event_there rank (r ∷ accounts) (suc i) k a e more here there =
     (event_text ((rank + 1) + i) e) (event_there (rank + 1) accounts i k a e more here there)
     ∙ ap (λ (n : ℕ). Some (event_text n e)) same
 
+-- the lines of a trace are those of its events, and then the others
+lines_are : (shape : Sizes) (bytes : List ℕ) (run : RunRecord) → IsTraceOf shape bytes run → shape.ranks < 2 ^ 64 →
+    (rest : List ℕ) → rest ≡ by_rank answer_lines run.ranks ⧺ cells_line run.cells ⧺ end_line run.done →
+    lines_of bytes ≡ lines_from 0 run.ranks ++ lines_of (flat_map pair_line run.pairs ++ rest)
+lines_are shape bytes run trace few rest is =
+    let pairs = flat_map pair_line run.pairs in
+    let whole : length run.ranks ≡ shape.ranks = trace.whole in
+    let less : 0 + length run.ranks < 2 ^ 64 = omega (arith, whole, few) in
+    ap lines_of (trace.spelled
+    ∙ ap (λ (xs : List ℕ). (by_rank event_lines run.ranks ++ pairs) ++ xs) (sym is)
+    ∙ append_assoc (by_rank event_lines run.ranks) pairs rest)
+    ∙ lines_from_are 0 run.ranks (pairs ++ rest) less trace.ends
+
 -- the event of a rank at a place stands in the line of the trace that is counted for it
 pub event_stands : (shape : Sizes) (bytes : List ℕ) (run : RunRecord) (i k : ℕ) (a : Ended) (e : Event) →
     IsTraceOf shape bytes run → shape.ranks < 2 ^ 64 →
@@ -120,12 +136,64 @@ pub event_stands : (shape : Sizes) (bytes : List ℕ) (run : RunRecord) (i k : �
 event_stands shape bytes run i k a e trace few here there =
     let rest = by_rank answer_lines run.ranks ⧺ cells_line run.cells ⧺ end_line run.done in
     let pairs = flat_map pair_line run.pairs in
-    let whole : length run.ranks ≡ shape.ranks = trace.whole in
-    let less : 0 + length run.ranks < 2 ^ 64 = omega (arith, whole, few) in
     let same : 0 + i ≡ i = omega arith in
-    let lines : lines_of bytes ≡ lines_from 0 run.ranks ++ lines_of (pairs ++ rest) =
-    ap lines_of (trace.spelled ∙ append_assoc (by_rank event_lines run.ranks) pairs rest)
-    ∙ lines_from_are 0 run.ranks (pairs ++ rest) less trace.ends in
-    ap (λ (ls : List (List ℕ)). slice_get ls (events_in (take i (ends_of run.ranks)) + k)) lines
+    ap (λ (ls : List (List ℕ)). slice_get ls (events_in (take i (ends_of run.ranks)) + k))
+    (lines_are shape bytes run trace few rest refl)
     ∙ event_there 0 run.ranks i k a e (lines_of (pairs ++ rest)) here there
     ∙ ap (λ (n : ℕ). Some (event_text n e)) same
+
+-- a line for each event
+many_from : (rank : ℕ) (accounts : List RankAccount) → length (lines_from rank accounts) ≡ events_in (ends_of accounts)
+many_from rank [] = refl
+many_from rank (a ∷ accounts) =
+    let texts = map (event_text rank) a.history.events in
+    let both : length (lines_from rank (a ∷ accounts)) ≡ length texts + length (lines_from (rank + 1) accounts) =
+    length-append texts (lines_from (rank + 1) accounts) in
+    let long : length texts ≡ length a.history.events = length-map a.history.events (event_text rank) in
+    let sum : events_in (ends_of (a ∷ accounts)) ≡ length a.history.events + events_in (ends_of accounts) =
+    sum_by-cons (λ (e : Ended). length e.events) (end_of a) (ends_of accounts) in
+    let more = many_from (rank + 1) accounts in
+    omega (arith, both, long, sum, more)
+
+-- the line of a count of packets
+abbrev pair_text : PairCount → List ℕ
+pair_text pair = join_with_byte 32 (pair_words pair)
+
+pair_printable : (pair : PairCount) → PairIn pair → is_printable (pair_text pair) ≡ true
+pair_printable pair within =
+    joined_printable (codes "pair") (decimal pair.from ∷ decimal pair.to ∷ decimal pair.packets ∷ []) (
+      refl,
+      (
+        decimal_solid pair.from (omega (arith, within.0)),
+        (
+          decimal_solid pair.to (omega (arith, within.1)),
+          (decimal_solid pair.packets (omega (arith, within.2)), tt),
+        ),
+      ),
+    )
+
+pair_lines_are : (pairs : List PairCount) (rest : List ℕ) → AllByRecursion PairIn pairs →
+    lines_of (flat_map pair_line pairs ++ rest) ≡ map pair_text pairs ++ lines_of rest
+pair_lines_are [] rest within = refl
+pair_lines_are (pair ∷ pairs) rest within =
+    ap (λ (xs : List ℕ). lines_of (xs ++ rest)) (flat_map-cons pair_line pair pairs)
+    ∙ ap lines_of (append_assoc (pair_line pair) (flat_map pair_line pairs) rest)
+    ∙ one_line (pair_words pair) (flat_map pair_line pairs ++ rest) (pair_printable pair within.0)
+    ∙ ap (λ (ls : List (List ℕ)). pair_text pair ∷ ls) (pair_lines_are pairs rest within.1)
+
+-- a count of packets stands behind the events, in its place
+pub count_stands : (shape : Sizes) (bytes : List ℕ) (run : RunRecord) (k : ℕ) (pair : PairCount) →
+    IsTraceOf shape bytes run → shape.ranks < 2 ^ 64 → slice_get run.pairs k ≡ Some pair →
+    slice_get (lines_of bytes) (events_in (ends_of run.ranks) + k) ≡ Some (join_with_byte 32 (pair_words pair))
+count_stands shape bytes run k pair trace few here =
+    let rest = by_rank answer_lines run.ranks ⧺ cells_line run.cells ⧺ end_line run.done in
+    let texts = map pair_text run.pairs ++ lines_of rest in
+    let events = lines_from 0 run.ranks in
+    let many : length events ≡ events_in (ends_of run.ranks) = many_from 0 run.ranks in
+    let place : events_in (ends_of run.ranks) + k ≡ length events + k = omega (arith, many) in
+    ap (λ (n : ℕ). slice_get (lines_of bytes) n) place
+    ∙ ap (λ (ls : List (List ℕ)). slice_get ls (length events + k))
+    (lines_are shape bytes run trace few rest refl
+    ∙ ap (λ (ls : List (List ℕ)). events ++ ls) (pair_lines_are run.pairs rest trace.pairs))
+    ∙ there_too events texts k (pair_text pair)
+    (get_before (map pair_text run.pairs) (lines_of rest) k (pair_text pair) (get_map pair_text run.pairs k pair here))

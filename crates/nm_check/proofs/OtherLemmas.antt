@@ -25,7 +25,8 @@ use Rattle.nm_check.specs.Incidents.{place_incident}
 use Rattle.nm_check.specs.Others.{IsAgainst, IsCarriedOther, IsOther, first_line, is_mate}
 use Rattle.nm_check.specs.Places.{events_in, line_of}
 use Rattle.nm_check.specs.declared.breaks.places.Place.{Place}
-use Rattle.nm_check.specs.declared.breaks.places.Place.TheVariants.{Nowhere, Event as EventAt, Behind, Standing, LastLine}
+use Rattle.nm_check.specs.declared.breaks.places.Place.TheVariants.{Nowhere, Event as EventAt, Behind, Standing}
+use Rattle.nm_check.specs.declared.breaks.places.Place.TheVariants.{Count, LastLine}
 use Rattle.nm_check.proofs.SpotLemmas.{history_le, many_ends}
 
 -- no event has no other line
@@ -36,6 +37,7 @@ none_at lines ranks i j Nowhere not = refl
 none_at lines ranks i j (EventAt r at line command) not = absurd (not r at line command refl)
 none_at lines ranks i j (Behind r) not = refl
 none_at lines ranks i j (Standing r waits) not = refl
+none_at lines ranks i j (Count at line) not = refl
 none_at lines ranks i j (LastLine line) not = refl
 
 -- nor has a rule of another kind
@@ -63,6 +65,7 @@ no_incident ranks Nowhere not = refl
 no_incident ranks (EventAt r at line command) not = absurd (not r at line command refl)
 no_incident ranks (Behind r) not = refl
 no_incident ranks (Standing r waits) not = refl
+no_incident ranks (Count at line) not = refl
 no_incident ranks (LastLine line) not = refl
 
 -- another verdict than that on them has no cells

@@ -9,7 +9,7 @@ use Rattle.nm_types.specs.Commands.{commands_of}
 use Rattle.nm_types.specs.Sizes.{Sizes}
 use Rattle.nm_history.specs.declared.events.Event.{Event}
 use Rattle.nm_history.specs.Delivery.{ArriveInOrder}
-use Rattle.nm_history.specs.Quiescence.{EachPair, EachRank, Ended, IsStopped}
+use Rattle.nm_history.specs.Quiescence.{EachPair, EachRank, Ended, IsStopped, Packets}
 use Rattle.nm_history.specs.Sends.{arrivals, sends}
 use Rattle.nm_report.specs.declared.accounts.RankAccount.{RankAccount}
 use Rattle.nm_report.specs.Ends.{ends_of}
@@ -33,7 +33,6 @@ use Rattle.nm_report.specs.declared.records.RunRecord.{RunRecord}
 use Rattle.nm_types.specs.declared.lists.Memory.{Memory}
 use Rattle.nm_check.specs.Places.{IsEventPlace, IsPlace, IsRestPlace, IsTracePlace, event_rule, events_in}
 use Rattle.nm_check.specs.declared.breaks.places.Place.{Place}
-use Rattle.nm_check.specs.declared.breaks.places.Place.TheVariants.{Nowhere}
 use Rattle.nm_check.proofs.EventLemmas.{end_of, rank_le}
 
 -- ranks that run their own commands are numbered, and their stamps rise
@@ -114,6 +113,14 @@ history_le ranks i = by_rank (slice_get ranks i) refl
     by_rank None is = omega arith
     by_rank (Some e) is = rank_le ranks i e is
 
+-- .. and each has no more than as many
+pub each_short : (ranks : List Ended) (n : ℕ) → events_in ranks ≤ n → EachRank (λ i rank. length rank.events ≤ n) ranks
+each_short ranks n few i = by_rank (slice_get ranks i) refl
+  where
+    by_rank : (o : Option Ended) → slice_get ranks i ≡ o → IfSome o (λ rank. length rank.events ≤ n)
+    by_rank None is = tt
+    by_rank (Some rank) is = let all = rank_le ranks i rank is in omega (arith, all, few)
+
 -- the two ranks of a rule that breaks between them
 pub carried_ranks : (shape : Sizes) (lines : List Line) (ranks : List Ended) (c : CarriedClause) (i j : ℕ) →
     BreaksCarried shape lines ranks c i j → (i < length ranks) × (j < length ranks)
@@ -174,22 +181,21 @@ rule_of rest.Waits o is = subst (λ (o : Option EventRule). IfSome o (λ r. rest
 rule_of rest.Counts o is = subst (λ (o : Option EventRule). IfSome o (λ r. rest.Counts ≡ rest_clause r)) (sym is) tt
 
 -- its place
-pub event_placed : (lines : List Line) (ranks : List Ended) (r : EventRule) (place : Place) →
-    IsEventPlace r ranks place → IsRestPlace lines ranks (rest_clause r) place
-event_placed lines ranks rule.Arrived place is = is
-event_placed lines ranks rule.Eager place is = is
-event_placed lines ranks rule.Asked place is = is
-event_placed lines ranks rule.Recalls place is = is
+pub event_placed : (lines : List Line) (ranks : List Ended) (packets : List Packets) (r : EventRule) (place : Place) →
+    IsEventPlace r ranks place → IsRestPlace lines ranks packets (rest_clause r) place
+event_placed lines ranks packets rule.Arrived place is = is
+event_placed lines ranks packets rule.Eager place is = is
+event_placed lines ranks packets rule.Asked place is = is
+event_placed lines ranks packets rule.Recalls place is = is
 
--- any other rule but that on waiting has none
-pub no_place : (lines : List Line) (ranks : List Ended) (c : RestClause) → event_rule c ≡ None →
-    (c ≡ rest.Waits → ⊥) → IsRestPlace lines ranks c Nowhere
-no_place lines ranks rest.Eager none not = absurd (no_some _ (sym none))
-no_place lines ranks rest.Asked none not = absurd (no_some _ (sym none))
-no_place lines ranks rest.Recalls none not = absurd (no_some _ (sym none))
-no_place lines ranks rest.Arrived none not = absurd (no_some _ (sym none))
-no_place lines ranks rest.Waits none not = absurd (not refl)
-no_place lines ranks rest.Counts none not = refl
+-- there is no other rule but those on waiting and on counts
+pub no_place : (c : RestClause) → event_rule c ≡ None → (c ≡ rest.Waits → ⊥) → (c ≡ rest.Counts → ⊥) → ⊥
+no_place rest.Eager none not_waits not_counts = no_some _ (sym none)
+no_place rest.Asked none not_waits not_counts = no_some _ (sym none)
+no_place rest.Recalls none not_waits not_counts = no_some _ (sym none)
+no_place rest.Arrived none not_waits not_counts = no_some _ (sym none)
+no_place rest.Waits none not_waits not_counts = not_waits refl
+no_place rest.Counts none not_waits not_counts = not_counts refl
 
 -- the place of a verdict but for those on the last lines
 pub inside_trace : (count : ℕ) (lines : List Line) (run : RunRecord) (verdict : Verdict)

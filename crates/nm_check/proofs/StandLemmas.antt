@@ -10,7 +10,7 @@ use Rattle.nm_history.specs.declared.events.Event.{Event}
 use Rattle.nm_history.specs.declared.events.Happened.TheVariants.{Out}
 use Rattle.nm_history.specs.Quiescence.{Ended}
 use Rattle.nm_report.specs.declared.records.RunRecord.{RunRecord}
-use Rattle.nm_report.specs.Ends.{ends_of}
+use Rattle.nm_report.specs.Ends.{ends_of, packets_of}
 use Rattle.nm_script.specs.Lines.{lines_of}
 use Rattle.nm_trace.specs.Traces.{IsTraceOf}
 use Rattle.nm_check_rank.specs.OwnBreaks.{BreaksOwnAt}
@@ -81,14 +81,14 @@ module _ (shape : Sizes) (bytes : List ℕ) (run : RunRecord) (trace : IsTraceOf
   event_place_stands r place placed =
       place_stands placed.0 place (rest_inside r ends placed.0 placed.1) placed.2
 
-  rest_stands : (lines : List Line) (c : RestClause) (place : Place) → IsRestPlace lines ends c place →
-      StandsAt bytes run place
+  rest_stands : (lines : List Line) (c : RestClause) (place : Place) →
+      IsRestPlace lines ends (packets_of run.pairs) c place → StandsAt bytes run place
   rest_stands lines rest.Arrived place placed = event_place_stands rule.Arrived place placed
   rest_stands lines rest.Eager place placed = event_place_stands rule.Eager place placed
   rest_stands lines rest.Asked place placed = event_place_stands rule.Asked place placed
   rest_stands lines rest.Recalls place placed = event_place_stands rule.Recalls place placed
   rest_stands lines rest.Waits place placed = subst (λ (p : Place). StandsAt bytes run p) (sym placed.2) tt
-  rest_stands lines rest.Counts place is = subst (λ (p : Place). StandsAt bytes run p) (sym is) tt
+  rest_stands lines rest.Counts place placed = subst (λ (p : Place). StandsAt bytes run p) (sym placed.2) tt
 
   -- the place of a verdict
   pub stands : (lines : List Line) (count : ℕ) (verdict : Verdict) (place : Place) →

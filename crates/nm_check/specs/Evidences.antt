@@ -9,13 +9,15 @@ use Rattle.nm_check.specs.declared.breaks.places.Place.{Place}
 use Rattle.nm_check.specs.CellCounts.{verdict_cells}
 use Rattle.nm_check.specs.Dues.{IsPlaceDue}
 use Rattle.nm_check.specs.Incidents.{place_incident}
+use Rattle.nm_check.specs.Miscounts.{IsMiscount}
 use Rattle.nm_check.specs.Others.{IsOther}
 
 -- what is called for there and what was found, the line of the other rank that it is held against, what happened
--- there, and the number of cells
+-- there, the number of cells, and the count of packets
 pub record IsEvidence (lines : List Line) (run : RunRecord) (verdict : Verdict) (place : Place) (e : Evidence)
     : Type 0 where
   pub due : IsPlaceDue lines run verdict place e.due
   pub other : IsOther lines run verdict place e.other
   pub incident : e.incident ≡ place_incident (ends_of run.ranks) place
   pub cells : e.cells ≡ verdict_cells run verdict
+  pub counts : IsMiscount lines run verdict place e.counts

@@ -8,6 +8,7 @@ pub mod Found
 pub mod Incidents
 pub mod Inputs
 pub mod Lines
+pub mod Miscounts
 pub mod Others
 pub mod Places
 pub mod Ranges
@@ -16,6 +17,7 @@ pub mod Sentences
 pub mod Stops
 pub mod Texts
 pub mod VerdictCalled
+pub mod VerdictCounts
 pub mod VerdictDues
 pub mod VerdictIncidents
 pub mod VerdictTexts

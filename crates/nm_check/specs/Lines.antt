@@ -6,13 +6,14 @@ use Rattle.nm_history.specs.declared.events.Event.{Event}
 use Rattle.nm_report.specs.declared.records.RunRecord.{RunRecord}
 use Rattle.nm_report.specs.Ends.{ends_of}
 use Rattle.nm_report.specs.Events.{event_words}
-use Rattle.nm_trace.specs.Notes.{cells_words, end_word}
+use Rattle.nm_trace.specs.Notes.{cells_words, end_word, pair_words}
 use Rattle.nm_check_ranks.specs.Marked.{history_of}
+use Rattle.nm_check_ranks.specs.declared.rest.clauses.RestClause.TheVariants as rest
 use Rattle.nm_check.specs.declared.verdicts.Verdict.{Verdict}
-use Rattle.nm_check.specs.declared.verdicts.Verdict.TheVariants.{Home, Done}
+use Rattle.nm_check.specs.declared.verdicts.Verdict.TheVariants.{Rest, Home, Done}
 use Rattle.nm_check.specs.declared.breaks.evidence.Evidence.{Evidence}
 use Rattle.nm_check.specs.declared.breaks.places.Place.{Place}
-use Rattle.nm_check.specs.declared.breaks.places.Place.TheVariants.{Event as EventAt, LastLine}
+use Rattle.nm_check.specs.declared.breaks.places.Place.TheVariants.{Event as EventAt, Count, LastLine}
 
 -- the line of an event, without its line feed
 abbrev pub event_text : ℕ → Event → List ℕ
@@ -35,8 +36,11 @@ IsEventLine bytes run line =
     (y : ℕ) × (k : ℕ) × IsSomeAnd (slice_get (history_of (ends_of run.ranks) y) k)
     (λ e. IsLineAt bytes line (event_text y e))
 
--- the line that is told of the cells is the one on which they stand, and that of the end the one on which it does
+-- The line that is told of a count of packets is the one on which it stands, if there is one; that of the cells the
+-- one on which they stand, and that of the end the one on which it does.
 abbrev pub LineStands : List ℕ → RunRecord → Verdict → Place → Type 0
+LineStands bytes run (Rest rest.Counts) (Count k line) =
+    IfSome (slice_get run.pairs k) (λ pair. IsLineAt bytes line (join_with_byte 32 (pair_words pair)))
 LineStands bytes run Home (LastLine line) = IsLineAt bytes line (join_with_byte 32 (cells_words run.cells))
 LineStands bytes run Done (LastLine line) = IsLineAt bytes line (end_word run.done)
 LineStands bytes run verdict place = Unit {0}

@@ -6,9 +6,9 @@ use Rattle.nm_types.specs.Commands.{commands_of}
 use Rattle.nm_history.specs.declared.events.Event.{Event}
 use Rattle.nm_history.specs.declared.events.Happened.{Happened}
 use Rattle.nm_history.specs.declared.events.Happened.TheVariants.{Send, Post, Claim, Match, Ran}
-use Rattle.nm_history.specs.Quiescence.{Ended}
+use Rattle.nm_history.specs.Quiescence.{Ended, Packets, packets_of as packets_due}
 use Rattle.nm_report.specs.declared.records.RunRecord.{RunRecord}
-use Rattle.nm_report.specs.Ends.{ends_of}
+use Rattle.nm_report.specs.Ends.{ends_of, packets_of}
 use Rattle.nm_check_ranks.specs.CarriedBreaks.{BreaksBetweenAt}
 use Rattle.nm_check_ranks.specs.Marked.{history_of}
 use Rattle.nm_check_ranks.specs.declared.firsts.Spot.{Spot}
@@ -17,13 +17,15 @@ use Rattle.nm_check_ranks.specs.declared.rest.clauses.RestClause.{RestClause}
 use Rattle.nm_check_ranks.specs.declared.rest.clauses.RestClause.TheVariants as rest
 use Rattle.nm_check_ranks.specs.declared.rest.firsts.EventRule.{EventRule}
 use Rattle.nm_check_ranks.specs.declared.rest.firsts.EventRule.TheVariants as rule
+use Rattle.nm_check_rank.specs.Differ.{DifferFirstAt}
 use Rattle.nm_check_rank.specs.OwnBreaks.{BreaksOwnAt}
 use Rattle.nm_check_rank.specs.declared.breaks.Break.{Break}
 use Rattle.nm_check_rank.specs.declared.breaks.Break.TheVariants.{At, Behind as BehindAll}
 use Rattle.nm_check.specs.declared.verdicts.Verdict.{Verdict}
 use Rattle.nm_check.specs.declared.verdicts.Verdict.TheVariants.{Own, Carried, Rest, Home, Done}
 use Rattle.nm_check.specs.declared.breaks.places.Place.{Place}
-use Rattle.nm_check.specs.declared.breaks.places.Place.TheVariants.{Nowhere, Event as EventAt, Behind, Standing, LastLine}
+use Rattle.nm_check.specs.declared.breaks.places.Place.TheVariants.{Nowhere, Event as EventAt, Behind, Standing}
+use Rattle.nm_check.specs.declared.breaks.places.Place.TheVariants.{Count, LastLine}
 
 -- the line of the command that an event names
 abbrev pub command_line : Happened → Option ℕ
@@ -63,6 +65,12 @@ IsStandPlace lines ranks place =
     (i : ℕ) × BreaksStanding lines ranks i
     × (place ≡ Standing i (option_and_then (λ e. e.waits) (slice_get ranks i)))
 
+-- It is the first count of packets that is not the one called for; a line for each event stands before it, and one
+-- for each count before it.
+abbrev pub IsCountPlace : List Line → List Ended → List Packets → Place → Type 0
+IsCountPlace lines ranks packets place =
+    (k : ℕ) × DifferFirstAt packets (packets_due lines ranks) k × (place ≡ Count k (events_in ranks + k + 1))
+
 -- the rule of rest as one that is asked of each event, if it is
 abbrev pub event_rule : RestClause → Option EventRule
 event_rule rest.Arrived = Some rule.Arrived
@@ -72,13 +80,13 @@ event_rule rest.Recalls = Some rule.Recalls
 event_rule _ = None
 
 -- the place of a rule of rest
-abbrev pub IsRestPlace : List Line → List Ended → RestClause → Place → Type 0
-IsRestPlace lines ranks rest.Arrived place = IsEventPlace rule.Arrived ranks place
-IsRestPlace lines ranks rest.Eager place = IsEventPlace rule.Eager ranks place
-IsRestPlace lines ranks rest.Asked place = IsEventPlace rule.Asked ranks place
-IsRestPlace lines ranks rest.Recalls place = IsEventPlace rule.Recalls ranks place
-IsRestPlace lines ranks rest.Waits place = IsStandPlace lines ranks place
-IsRestPlace lines ranks _ place = place ≡ Nowhere
+abbrev pub IsRestPlace : List Line → List Ended → List Packets → RestClause → Place → Type 0
+IsRestPlace lines ranks packets rest.Arrived place = IsEventPlace rule.Arrived ranks place
+IsRestPlace lines ranks packets rest.Eager place = IsEventPlace rule.Eager ranks place
+IsRestPlace lines ranks packets rest.Asked place = IsEventPlace rule.Asked ranks place
+IsRestPlace lines ranks packets rest.Recalls place = IsEventPlace rule.Recalls ranks place
+IsRestPlace lines ranks packets rest.Waits place = IsStandPlace lines ranks place
+IsRestPlace lines ranks packets rest.Counts place = IsCountPlace lines ranks packets place
 
 -- the place of what the verdict says
 abbrev pub IsPlace : List Line → RunRecord → Verdict → Place → Type 0
@@ -89,7 +97,7 @@ IsPlace lines run (Own clause rank) place =
 IsPlace lines run (Carried clause from to) place =
     (spot : Spot) × BreaksBetweenAt lines (ends_of run.ranks) from to clause spot
     × (place ≡ place_of_spot (ends_of run.ranks) spot)
-IsPlace lines run (Rest clause) place = IsRestPlace lines (ends_of run.ranks) clause place
+IsPlace lines run (Rest clause) place = IsRestPlace lines (ends_of run.ranks) (packets_of run.pairs) clause place
 IsPlace lines run verdict place = place ≡ Nowhere
 
 -- .. in a trace of so many lines, of which the last but one has the cells, and the last the end

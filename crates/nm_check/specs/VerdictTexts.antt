@@ -8,11 +8,13 @@ use Rattle.nm_check_ranks.specs.declared.rest.clauses.RestClause.{RestClause}
 use Rattle.nm_check.specs.declared.breaks.finding.Found.{Found}
 use Rattle.nm_check.specs.declared.breaks.finding.Found.TheVariants.{NoTrace, NoScript, BadTrace, Judged}
 use Rattle.nm_check.specs.declared.breaks.cells.CellCount.{CellCount}
+use Rattle.nm_check.specs.declared.breaks.counts.Miscount.{Miscount}
 use Rattle.nm_check.specs.declared.breaks.evidence.Evidence.{Evidence}
 use Rattle.nm_check.specs.declared.breaks.incidents.Incident.{Incident}
 use Rattle.nm_check.specs.declared.breaks.places.Place.{Place}
-use Rattle.nm_check.specs.declared.breaks.places.Place.TheVariants.{Event, Standing, LastLine}
+use Rattle.nm_check.specs.declared.breaks.places.Place.TheVariants.{Event, Standing, Count, LastLine}
 use Rattle.nm_check.specs.declared.breaks.stops.Stop.{Stop}
+use Rattle.nm_check.specs.VerdictCounts.{miscount_words}
 use Rattle.nm_check.specs.VerdictDues.{due_words}
 use Rattle.nm_check.specs.VerdictIncidents.{where_words}
 use Rattle.nm_check.specs.Sentences.{carried_words, kind_words, own_words, rest_words, stop_words}
@@ -81,18 +83,24 @@ left_text before clause line command incident =
     event_words before line command incident
     ++ (codes " is the first that breaks " ++ (rule_words clause ++ codes "\n"))
 
+-- the count of packets at which they do
+abbrev pub count_text : ℕ → RestClause → ℕ → Option Miscount → List ℕ
+count_text before clause line counts =
+    line_words before line ++ (codes ", breaks " ++ (rule_words clause ++ (miscount_words counts ++ codes "\n")))
+
 -- where the ranks at rest break a rule first
-abbrev pub rest_text : ℕ → RestClause → Place → Option Incident → List ℕ
-rest_text before clause (Event r at line command) incident = left_text before clause line command incident
-rest_text before clause (Standing rank waits) incident =
+abbrev pub rest_text : ℕ → RestClause → Place → Evidence → List ℕ
+rest_text before clause (Event r at line command) evidence = left_text before clause line command evidence.incident
+rest_text before clause (Count at line) evidence = count_text before clause line evidence.counts
+rest_text before clause (Standing rank waits) evidence =
     codes "rank " ++ (decimal rank ++ (codes ", " ++ (standing_words waits
     ++ (codes ", is the first that breaks a rule of all ranks in the end: " ++ (rest_words clause ++ codes "\n")))))
-rest_text before clause place incident = codes "the ranks in the end break a rule: " ++ (rest_words clause ++ codes "\n")
+rest_text before clause place evidence = codes "the ranks in the end break a rule: " ++ (rest_words clause ++ codes "\n")
 
 -- one of the last two lines breaks its rule, with what is told of it besides
 abbrev pub last_text : ℕ → List ℕ → Place → List ℕ → List ℕ
 last_text before rule (LastLine line) more =
-    line_words before line ++ (codes " breaks a rule: " ++ (rule ++ (more ++ codes "\n")))
+    line_words before line ++ (codes ", breaks a rule: " ++ (rule ++ (more ++ codes "\n")))
 last_text before rule place more = codes "the end breaks a rule: " ++ (rule ++ (more ++ codes "\n"))
 
 -- the rule of the cells
@@ -117,7 +125,7 @@ abbrev pub verdict_text : ℕ → Verdict → Place → Evidence → List ℕ
 verdict_text before Holds place evidence = codes "holds\n"
 verdict_text before (Own clause rank) place evidence = own_text before clause rank place evidence
 verdict_text before (Carried clause from to) place evidence = carried_text before clause from to place evidence
-verdict_text before (Rest clause) place evidence = rest_text before clause place evidence.incident
+verdict_text before (Rest clause) place evidence = rest_text before clause place evidence
 verdict_text before Home place evidence = last_text before home_rule place (cells_words evidence.cells)
 verdict_text before Done place evidence =
     last_text before (codes "it is `done` exactly where every rank is at its end") place (codes "")

@@ -8,18 +8,19 @@
 //! it. For a rule between two ranks it is the first event of both, as their lines are read
 //! (`BreaksCarriedAt` of `nm_check_ranks`); for a rule of rest the first event that is left
 //! unfinished, or the first rank that stands where it may not (`specs/RestBreaks.antt` of
-//! `nm_check_ranks::rest`). The cells and the end have the last two lines. Of the counts of packets
-//! no place is told. `specs/Stops.antt` says what stops a text that is no trace.
+//! `nm_check_ranks::rest`), or the first count of packets that is not the one called for. The cells
+//! and the end have the last two lines. `specs/Stops.antt` says what stops a text that is no trace.
 //! # What is proved
 //! - `find` tells the cases apart as `nm_check::checked::check` does, and its verdict is that of the same
 //!   definitions.
 //! - It tells what the verdict rests on there (`IsEvidence`, `specs/Evidences.antt`): of a rule of a
 //!   rank's own run what was called for and what was found (`specs/Dues.antt`), of a rule between two
 //!   ranks the line of the other rank's event that it is held against (`specs/Others.antt`), what
-//!   happened at the place (`specs/Incidents.antt`), and of the rule of the cells how many there are to
-//!   be (`specs/CellCounts.antt`).
-//! - The place is the first one, and each line that is told, of an event, of the other rank's event,
-//!   of the cells and of the end, is the one on which it stands (`Stands`, `specs/Lines.antt`).
+//!   happened at the place (`specs/Incidents.antt`), of the counts of packets the one that is called
+//!   for and the one that stands there (`specs/Miscounts.antt`), and of the rule of the cells how many
+//!   there are to be (`specs/CellCounts.antt`).
+//! - The place is the first one, and each line that is told, of an event, of the other rank's event, of
+//!   a count, of the cells and of the end, is the one on which it stands (`Stands`, `specs/Lines.antt`).
 //! - Of a text that is no trace it tells the first bad line, and what stops the text there (`IsStop`):
 //!   that there is no such line, that its line feed is missing, that it begins some trace but stands
 //!   behind lines which it can't follow, that it begins one with other numbers, that it names an event
@@ -28,6 +29,7 @@
 //! That `find` succeeds with ample memory.
 
 pub mod cells;
+pub mod counts;
 mod dues;
 pub mod evidence;
 mod finding;

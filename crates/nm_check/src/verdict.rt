@@ -6,7 +6,9 @@
 //! # What a contract sees
 //! Bytes as a list of numbers. `nm_check::breaks` says what is found of them; `specs/VerdictTexts.antt` has the
 //! sentence of each finding, `specs/Sentences.antt` the words of each rule, `specs/VerdictDues.antt`
-//! those of what was called for (`specs/VerdictCalled.antt` at claims, starts and cancels), and `specs/VerdictIncidents.antt` those of what happened.
+//! those of what was called for (`specs/VerdictCalled.antt` at claims, starts and cancels),
+//! `specs/VerdictCounts.antt` those of counts of packets, and `specs/VerdictIncidents.antt` those of
+//! what happened.
 //! # What is proved
 //! - The program says `holds` exactly where `nm_check::checked::check` does, the rule that it names is the
 //!   same, and the place is the one of `nm_check::breaks`. The statuses are those of `check`: 0 where the
@@ -20,6 +22,7 @@
 
 mod answers;
 mod called;
+mod counts;
 mod dues;
 mod incidents;
 mod sentences;

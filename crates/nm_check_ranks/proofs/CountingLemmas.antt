@@ -172,16 +172,18 @@ module _ (from : ℕ) (due : ℕ → ℕ) where
       by_count false is = cc
 
 -- the events and the pairs together
+pub in_all : (h : List Event) (pairs : List Pair) (to : ℕ) → pairs ≡ matched_pairs h →
+    packets_of_events to h + count_by (is_clear to) pairs ≡ packets_to h to
+in_all h pairs to are =
+    let same : count_by (is_clear to) pairs ≡ count_by (is_clear to) (matched_pairs h) =
+    ap (λ (ps : List Pair). count_by (is_clear to) ps) are in
+    omega (arith, same, events_counted to h)
+
 pub all_counted : (h : List Event) (pairs : List Pair) (counts : List ℕ) → pairs ≡ matched_pairs h →
     AreDue counts (λ to. packets_of_events to h + count_by (is_clear to) pairs) → AreDue counts (packets_to h)
 all_counted h pairs counts are due =
-    due_same counts (λ to. packets_of_events to h + count_by (is_clear to) pairs) (packets_to h) (λ to. in_all to) due
-  where
-    in_all : (to : ℕ) → packets_of_events to h + count_by (is_clear to) pairs ≡ packets_to h to
-    in_all to =
-        let same : count_by (is_clear to) pairs ≡ count_by (is_clear to) (matched_pairs h) =
-        ap (λ (ps : List Pair). count_by (is_clear to) ps) are in
-        omega (arith, same, events_counted to h)
+    due_same counts (λ to. packets_of_events to h + count_by (is_clear to) pairs) (packets_to h)
+    (λ to. in_all h pairs to are) due
 
 -- .. behind the counts so far
 module _ (from : ℕ) (due : ℕ → ℕ) (to ranks : ℕ) (low : to < ranks) where

@@ -6,6 +6,7 @@ mod FirstLemmas
 pub mod ItemLemmas
 mod MarkLemmas
 mod MarkedLemmas
+mod MiscountLemmas
 mod OverLemmas
 mod PairLemmas
 pub mod RankLemmas

@@ -10,6 +10,8 @@
 //! - The first rule that is broken is named, by what was decided of each (`resting`).
 //! - The first event is found that breaks a rule of rest which is asked of events, and the first
 //!   rank that stands where it may not (`firsts` and `waits`, by `specs/RestBreaks.antt`).
+//! - The counts that the histories call for are made as a list, and the place is found at which the
+//!   given ones differ from them first (`miscounts`).
 //!
 //! Each judge walks a history once, with look-ups for each event; that is not proved.
 //! # What is only tested
@@ -18,6 +20,7 @@
 pub mod clauses;
 pub mod counts;
 pub mod firsts;
+pub mod miscounts;
 pub mod over;
 pub mod rest;
 pub mod resting;

@@ -41,6 +41,7 @@ pub fn flag_of(ranks: &[RankAccount], place: Place) -> Option<Flag>
         Place::Behind { rank } => Some(Flag::Behind { rank }),
         Place::Standing { rank, .. } => Some(Flag::Behind { rank }),
         Place::Nowhere => None,
+        Place::Count { .. } => None,
         Place::LastLine { .. } => None,
     }
 }

@@ -1,6 +1,6 @@
 //! What a verdict rests on at its place.
 
-ghost use Rattle.std.specs.Prelude.{◌≤◌, IfOk};
+ghost use Rattle.std.specs.Prelude.{◌<◌, ◌≤◌, IfOk, length};
 ghost use Rattle.nm_report.specs.Ends.{ends_of};
 ghost use Rattle.nm_check.specs.Evidences.{IsEvidence};
 ghost use Rattle.nm_check.specs.Places.{events_in};
@@ -8,6 +8,7 @@ ghost use Rattle.nm_check.specs.Verdicts.{Judges};
 
 use crate::Verdict;
 use crate::breaks::cells::{CellCount, verdict_cells};
+use crate::breaks::counts::{Miscount, miscount_of};
 use crate::breaks::dues::place_due;
 use crate::breaks::incidents::{Incident, place_incident};
 use crate::breaks::others::other_of;
@@ -29,6 +30,8 @@ pub struct Evidence {
     pub incident: Option<Incident>,
     /// Of the rule of the cells how many there are to be, and are.
     pub cells: Option<CellCount>,
+    /// Of the rule of the counts of packets the one that is called for there, and the one that is.
+    pub counts: Option<Miscount>,
 }
 
 /// What a verdict rests on at its place.
@@ -40,15 +43,18 @@ pub fn evidence_of(
     place: Place,
 ) -> Result<Evidence, Memory>
     requires judged { Judges script.now.lines run.now verdict }
+    requires few { length run.now.ranks < 256 }
     requires short { events_in (ends_of run.now.ranks) ≤ 67108864 }
     ensures { IfOk result (IsEvidence script.now.lines run.now verdict place) }
 {
     let due = place_due(alloc, script, run, verdict, place)?;
     let other = other_of(alloc, script, run, verdict, place)?;
+    let counts = miscount_of(alloc, script, run, verdict, place)?;
     Ok(Evidence {
         due,
         other,
         incident: place_incident(run, place),
         cells: verdict_cells(run, verdict),
+        counts,
     })
 }

@@ -1,6 +1,6 @@
 //! Places at which rules break.
 
-ghost use Rattle.std.specs.Prelude.{◌≡◌, ◌<◌, ◌≤◌, ℕ, length, option_and_then, slice_get};
+ghost use Rattle.std.specs.Prelude.{◌≡◌, ◌+◌, ◌<◌, ◌≤◌, ℕ, length, option_and_then, slice_get};
 ghost use Rattle.nm_check_rank.specs.declared.breaks.Break.TheVariants.{At};
 ghost use Rattle.nm_report.specs.Ends.{ends_of};
 ghost use Rattle.nm_check_ranks.specs.Marked.{history_of};
@@ -35,6 +35,12 @@ pub enum Place {
     Standing {
         rank: u8,
         waits: Option<u32>,
+    },
+    /// At the count of packets of this place, counted from 0, among those of the trace. It stands in
+    /// this line of the trace, counted from 1, or is missing there.
+    Count {
+        at: usize,
+        line: u32,
     },
     /// In this line of the trace, counted from 1, which is one of the last two.
     LastLine {
@@ -98,6 +104,14 @@ pub(crate) fn line_of(ranks: &[RankAccount], rank: u8, at: usize) -> u32
     ensures { result ≡ line_of (ends_of ranks.now) rank at }
 {
     events_in(&ranks[..rank as usize]) + at as u32 + 1
+}
+
+/// The line of the trace with the count of packets at a place: those of the events stand before it.
+pub(crate) fn count_line(ranks: &[RankAccount], at: usize) -> u32
+    requires { events_in (ends_of ranks.now) + at ≤ 67108864 }
+    ensures { result ≡ events_in (ends_of ranks.now) + at + 1 }
+{
+    events_in(ranks) + at as u32 + 1
 }
 
 /// The place in the history of a rank.

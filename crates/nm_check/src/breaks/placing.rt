@@ -1,9 +1,9 @@
 //! Where a record breaks the rule of its verdict.
 
-ghost use Rattle.std.specs.Prelude.{◌≡◌, ◌<◌, ◌≤◌, ℕ, IfOk, List, None, length};
+ghost use Rattle.std.specs.Prelude.{◌≡◌, ◌+◌, ◌<◌, ◌≤◌, ℕ, IfOk, List, None, length};
 ghost use Rattle.nm_types.specs.declared.scripts.Line as script_line;
 ghost use Rattle.nm_history.specs.Quiescence.{Packets};
-ghost use Rattle.nm_report.specs.Ends.{ends_of};
+ghost use Rattle.nm_report.specs.Ends.{ends_of, packets_of};
 ghost use Rattle.nm_check.specs.declared.verdicts.Verdict.TheVariants.{Carried, Own, Rest};
 ghost use Rattle.nm_check.specs.Verdicts.{Judges};
 ghost use Rattle.nm_check_ranks.specs.Tabled.{AreTabled, EachTabled};
@@ -11,19 +11,20 @@ ghost use Rattle.nm_check_ranks.specs.RestBreaks.{AreInOrder, rest_clause};
 ghost use Rattle.nm_check_ranks.specs.declared.rest.firsts.EventRule.TheVariants as the_rule;
 ghost use Rattle.nm_check_ranks.specs.RestClauses.{KeepsRest};
 ghost use Rattle.nm_check_ranks.specs.declared.rest.clauses.RestClause.TheVariants as rest;
-ghost use Rattle.nm_check.specs.Places.{IsEventPlace, IsPlace, IsRestPlace, IsStandPlace};
+ghost use Rattle.nm_check.specs.Places.{IsCountPlace, IsEventPlace, IsPlace, IsRestPlace, IsStandPlace};
 ghost use Rattle.nm_check.specs.Places.{IsTracePlace, events_in};
 ghost use Rattle.nm_check.specs.Places.{event_rule as event_rule_lem};
 
 use crate::breaks::own::own_break;
-use crate::breaks::places::{Place, place_in, place_of_spot};
+use crate::breaks::places::{Place, count_line, place_in, place_of_spot};
 use crate::{CarriedClause, OwnClause, RestClause, Verdict};
 use nm_check_rank::paired::tables::Tables;
 use nm_check_ranks::firsts::first_between_at;
 use nm_check_ranks::rest::firsts::{EventRule, first_rest_at};
+use nm_check_ranks::rest::miscounts::{counts_due, first_miscount};
 use nm_check_ranks::rest::waits::first_not_standing;
 use nm_check_ranks::tabling::tables_of;
-use nm_report::{RankAccount, RunRecord};
+use nm_report::{PairCount, RankAccount, RunRecord};
 use nm_types::{Line, Memory, Script};
 use std::alloc::Global;
 
@@ -121,23 +122,53 @@ fn event_rule(clause: RestClause) -> Option<EventRule>
     }
 }
 
+/// The first count of packets that is not the one called for.
+fn count_place(
+    alloc: Global,
+    ranks: &[RankAccount],
+    pairs: &[PairCount],
+    tables: &[Tables],
+) -> Result<Place, Memory>
+    requires few { length ranks.now < 256 }
+    requires short { events_in (ends_of ranks.now) + length pairs.now ≤ 67108864 }
+    requires tabled { AreTabled (ends_of ranks.now) tables.now }
+    requires broken { (lines : List script_line.Line)
+        × (¬ KeepsRest lines (ends_of ranks.now) (packets_of pairs.now) rest.Counts) }
+    ensures { (lines : List script_line.Line) →
+        IfOk result (IsCountPlace lines (ends_of ranks.now) (packets_of pairs.now)) }
+{
+    let due = counts_due(alloc, ranks, tables)?;
+    let called = due.as_slice();
+    match first_miscount(pairs, called) {
+        Some(at) => {
+            let line = count_line(ranks, at);
+            Ok(Place::Count { at, line })
+        }
+        None => Ok(Place::Nowhere),
+    }
+}
+
 /// Where a rule of rest breaks that is not asked of events.
 fn other_place(
+    alloc: Global,
     clause: RestClause,
     lines: &[Line],
     ranks: &[RankAccount],
+    pairs: &[PairCount],
     tables: &[Tables],
-) -> Place
+) -> Result<Place, Memory>
     requires few { length ranks.now < 256 }
+    requires short { events_in (ends_of ranks.now) + length pairs.now ≤ 67108864 }
     requires tabled { EachTabled lines.now (ends_of ranks.now) tables.now }
     requires other { event_rule_lem clause ≡ None }
-    requires broken { (packets : List Packets)
-        × (¬ KeepsRest lines.now (ends_of ranks.now) packets clause) }
-    ensures { IsRestPlace lines.now (ends_of ranks.now) clause result }
+    requires broken { ¬ KeepsRest lines.now (ends_of ranks.now) (packets_of pairs.now) clause }
+    ensures { IfOk result
+        (IsRestPlace lines.now (ends_of ranks.now) (packets_of pairs.now) clause) }
 {
     match clause {
-        RestClause::Waits => stand_place(lines, ranks, tables),
-        _ => Place::Nowhere,
+        RestClause::Waits => Ok(stand_place(lines, ranks, tables)),
+        RestClause::Counts => count_place(alloc, ranks, pairs, tables),
+        _ => Ok(Place::Nowhere),
     }
 }
 
@@ -150,16 +181,17 @@ fn rest_place(
 ) -> Result<Place, Memory>
     requires judged { Judges script.now.lines run.now (Rest clause) }
     requires few { length run.now.ranks < 256 }
-    requires short { events_in (ends_of run.now.ranks) ≤ 67108864 }
+    requires short { events_in (ends_of run.now.ranks) + length run.now.pairs ≤ 67108864 }
     ensures { IfOk result (IsPlace script.now.lines run.now (Rest clause)) }
 {
     let ranks = run.ranks.as_slice();
+    let pairs = run.pairs.as_slice();
     let lines = script.lines.as_slice();
     let tables = tables_of(alloc, lines, ranks)?;
     let own = tables.as_slice();
     match event_rule(clause) {
         Some(rule) => Ok(event_place(rule, ranks, own)),
-        None => Ok(other_place(clause, lines, ranks, own)),
+        None => other_place(alloc, clause, lines, ranks, pairs, own),
     }
 }
 
@@ -172,7 +204,7 @@ fn place_of(
 ) -> Result<Place, Memory>
     requires judged { Judges script.now.lines run.now verdict }
     requires few { length run.now.ranks < 256 }
-    requires short { events_in (ends_of run.now.ranks) ≤ 67108864 }
+    requires short { events_in (ends_of run.now.ranks) + length run.now.pairs ≤ 67108864 }
     ensures { IfOk result (IsPlace script.now.lines run.now verdict) }
 {
     match verdict {
@@ -196,7 +228,7 @@ pub fn trace_place(
 ) -> Result<Place, Memory>
     requires judged { Judges script.now.lines run.now verdict }
     requires few { length run.now.ranks < 256 }
-    requires short { events_in (ends_of run.now.ranks) ≤ 67108864 }
+    requires short { events_in (ends_of run.now.ranks) + length run.now.pairs ≤ 67108864 }
     ensures { IfOk result (IsTracePlace count script.now.lines run.now verdict) }
 {
     match verdict {

@@ -5,6 +5,7 @@ ghost use Rattle.nm_check.specs.VerdictTexts.{bad_text as bad_text_lem};
 ghost use Rattle.nm_check.specs.VerdictTexts.{behind_text as behind_text_lem};
 ghost use Rattle.nm_check.specs.VerdictTexts.{carried_text as carried_text_lem};
 ghost use Rattle.nm_check.specs.VerdictTexts.{cells_words as cells_words_lem};
+ghost use Rattle.nm_check.specs.VerdictTexts.{count_text as count_text_lem};
 ghost use Rattle.nm_check.specs.VerdictTexts.{count_words as count_words_lem, home_rule};
 ghost use Rattle.nm_check.specs.VerdictTexts.{command_words as command_words_lem};
 ghost use Rattle.nm_check.specs.VerdictTexts.{found_text as found_text_lem, line_words as line_words_lem};
@@ -18,8 +19,10 @@ ghost use Rattle.nm_check.specs.VerdictTexts.{standing_words as standing_words_l
 ghost use Rattle.nm_check.specs.VerdictTexts.{verdict_text as verdict_text_lem};
 
 use crate::breaks::cells::CellCount;
+use crate::breaks::counts::Miscount;
 use crate::breaks::incidents::Incident;
 use crate::breaks::{Evidence, Found, Place, Stop};
+use crate::verdict::counts::miscount_words;
 use crate::verdict::dues::due_words;
 use crate::verdict::incidents::where_words;
 use crate::verdict::sentences::{carried_words, kind_words, own_words, rest_words, stop_words};
@@ -177,22 +180,40 @@ fn left_text(
     format!(in alloc; "{} is the first that breaks {}\n", event, rule)
 }
 
+/// The count of packets at which they do.
+fn count_text(
+    alloc: Global,
+    before: u32,
+    clause: RestClause,
+    line: u32,
+    counts: Option<Miscount>,
+) -> Result<String, AllocError>
+    ensures { IfOk result (λ text.
+        string_bytes text ≡ count_text_lem before clause line counts) }
+{
+    let at = line_words(alloc, before, line)?;
+    let rule = rule_words(alloc, clause)?;
+    let told = miscount_words(alloc, counts)?;
+    format!(in alloc; "{}, breaks {}{}\n", at, rule, told)
+}
+
 /// Where the ranks at rest break a rule first.
 fn rest_text(
     alloc: Global,
     before: u32,
     clause: RestClause,
     place: Place,
-    incident: Option<Incident>,
+    evidence: Evidence,
 ) -> Result<String, AllocError>
     ensures { IfOk result (λ text.
-        string_bytes text ≡ rest_text_lem before clause place incident) }
+        string_bytes text ≡ rest_text_lem before clause place evidence) }
 {
     let words = rest_words(clause);
     match place {
         Place::Event { line, command, .. } => {
-            left_text(alloc, before, clause, line, command, incident)
+            left_text(alloc, before, clause, line, command, evidence.incident)
         }
+        Place::Count { line, .. } => count_text(alloc, before, clause, line, evidence.counts),
         Place::Standing { rank, waits } => {
             let says = standing_words(alloc, waits)?;
             format!(in alloc;
@@ -224,7 +245,7 @@ fn last_text(
     match place {
         Place::LastLine { line } => {
             let at = line_words(alloc, before, line)?;
-            format!(in alloc; "{} breaks a rule: {}{}\n", at, rule, more)
+            format!(in alloc; "{}, breaks a rule: {}{}\n", at, rule, more)
         }
         _ => format!(in alloc; "the end breaks a rule: {}{}\n", rule, more),
     }
@@ -285,7 +306,7 @@ fn verdict_text(
         Verdict::Carried { clause, from, to } => {
             carried_text(alloc, before, clause, from, to, place, evidence)
         }
-        Verdict::Rest { clause } => { rest_text(alloc, before, clause, place, evidence.incident) }
+        Verdict::Rest { clause } => rest_text(alloc, before, clause, place, evidence),
         Verdict::Home => home_text(alloc, before, place, evidence.cells),
         Verdict::Done => last_text(alloc, before, DONE, place, ""),
     }

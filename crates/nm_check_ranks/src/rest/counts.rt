@@ -1,7 +1,7 @@
 //! Whether the counts of packets are those that the histories call for.
 
-ghost use Rattle.std.specs.Prelude.{◌≡◌, ◌+◌, ◌<◌, ◌++◌, ◌∷◌, ℕ, if◌then◌else◌, List, MatchOption};
-ghost use Rattle.std.specs.Prelude.{count_by, length};
+ghost use Rattle.std.specs.Prelude.{◌≡◌, ◌+◌, ◌*◌, ◌<◌, ◌≤◌, ◌++◌, ◌∷◌, ℕ, if◌then◌else◌, List};
+ghost use Rattle.std.specs.Prelude.{count_by, length, IfSome, MatchOption};
 ghost use Rattle.nm_types.specs.declared.scripts.Line as script_line;
 ghost use Rattle.nm_history.specs.Matching.{matched_pairs};
 ghost use Rattle.nm_history.specs.Outgoing.{further_packets, is_clear, packets_to};
@@ -20,7 +20,7 @@ use nm_report::{PairCount, RankAccount};
 use nm_types::How;
 
 /// How many ranks a number of 8 bits can name.
-const NAMES: usize = 256;
+pub(crate) const NAMES: usize = 256;
 
 /// Packets to a rank.
 #[derive(Clone, Copy)]
@@ -31,7 +31,8 @@ struct Load {
 
 /// How many packets a send calls for.
 fn packets_of_send(how: How, len: u32) -> u32
-    ensures { result ≡ (if is_ask how then 1 else 1 + further_packets len) }
+    ensures exact { result ≡ (if is_ask how then 1 else 1 + further_packets len) }
+    ensures few { result ≤ 4294967295 }
 {
     match how {
         How::Ask => 1,
@@ -41,7 +42,8 @@ fn packets_of_send(how: How, len: u32) -> u32
 
 /// The packets that an event calls for, but for the message that it pairs.
 fn load_of_event(what: &Happened) -> Option<Load>
-    ensures { (to : ℕ) → load_to to result ≡ packets_of_event to what.now }
+    ensures exact { (to : ℕ) → load_to to result ≡ packets_of_event to what.now }
+    ensures few { IfSome result (λ load. load.packets ≤ 4294967295) }
 {
     match what {
         Happened::Send { to, len, how, .. } => Some(Load {
@@ -86,7 +88,8 @@ fn add(counts: &mut [u128; NAMES], load: Option<Load>)
 
 /// How many packets to each rank the events call for, but for the messages that they pair.
 fn counts_of_events(events: &[Event]) -> [u128; NAMES]
-    ensures { AreDue result (λ to. packets_of_events to events.now) }
+    ensures exact { AreDue result (λ to. packets_of_events to events.now) }
+    ensures few { (to : ℕ) → packets_of_events to events.now ≤ length events.now * 4294967295 }
 {
     let mut counts = [0; NAMES];
     for e in events {
@@ -107,7 +110,7 @@ fn with_pairs(mut counts: [u128; NAMES], pairs: &[Pair]) -> [u128; NAMES]
 }
 
 /// Whether a count is of these ranks, and so many.
-fn is_pair(pair: &PairCount, from: u8, to: u8, count: u128) -> bool
+pub(crate) fn is_pair(pair: &PairCount, from: u8, to: u8, count: u128) -> bool
     ensures { (n : ℕ) → count ≡ at_most n →
         Decides result (counted_pair pair.now ≡ record { from = from; to = to; count = n }) }
 {
@@ -155,8 +158,10 @@ fn behind_row<'a>(
 }
 
 /// How many packets to each rank a history calls for.
-fn counts_of(events: &[Event], pairs: &[Pair]) -> [u128; NAMES]
-    ensures { pairs.now ≡ matched_pairs events.now → AreDue result (packets_to events.now) }
+pub(crate) fn counts_of(events: &[Event], pairs: &[Pair]) -> [u128; NAMES]
+    ensures exact { pairs.now ≡ matched_pairs events.now → AreDue result (packets_to events.now) }
+    ensures few { pairs.now ≡ matched_pairs events.now → (to : ℕ) →
+        packets_to events.now to ≤ length events.now * 4294967296 }
 {
     with_pairs(counts_of_events(events), pairs)
 }

@@ -4,19 +4,19 @@ use Rattle.nm_trace.specs.Traces.{IsTraceOf}
 use Rattle.nm_check.specs.Checks.{sizes}
 use Rattle.nm_check.specs.Stops.{lines_in}
 use Rattle.nm_check.specs.Places.{IsTracePlace}
-use Rattle.nm_check.proofs.EventLemmas.{few_events}
+use Rattle.nm_check.proofs.EventLemmas.{few_lines}
 use Rattle.nm_check.proofs.HeldLemmas.{all_stand}
 use Rattle.nm_check.proofs.breaks.finding.find_in_trace.Goals as goal
 
 pub trace_place-requires-clause-short : goal.trace_place-requires-clause-short
 trace_place-requires-clause-short c =
-    let few = few_events _ c.args.rest.now _ c.in-Ok.ensures.taken in
+    let few = few_lines _ c.args.rest.now _ c.in-Ok.ensures.taken in
     let short = c.requires.short in
     omega (arith, few, short)
 
 pub evidence_of-requires-clause-short : goal.evidence_of-requires-clause-short
 evidence_of-requires-clause-short c =
-    let few = few_events _ c.args.rest.now _ c.in-Ok.ensures.taken in
+    let few = few_lines _ c.args.rest.now _ c.in-Ok.ensures.taken in
     let short = c.requires.short in
     omega (arith, few, short)
 

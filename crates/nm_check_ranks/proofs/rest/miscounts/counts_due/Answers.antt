@@ -1,0 +1,68 @@
+use Rattle.std.proofs.Common.{◌≡◌, ◌≤◌, ◌*◌, List, get_or, length, sym, ◌∙◌, ap, arith}
+use Rattle.std.specs.List.{range_with_len}
+use Rattle.std.proofs.lemmas.List.{length-map, take_all}
+use Rattle.nm_history.specs.declared.events.Event.{Event}
+use Rattle.nm_history.specs.Matching.{matched_pairs}
+use Rattle.nm_history.specs.Outgoing.{packets_to}
+use Rattle.nm_history.specs.Quiescence.{Ended, packets_by_rank}
+use Rattle.nm_report.specs.Ends.{ends_of, packets_of}
+use Rattle.nm_check_rank.specs.declared.paired.tables.Tables.{Tables}
+use Rattle.nm_check_ranks.specs.Counting.{AreDue}
+use Rattle.nm_check_ranks.proofs.MiscountLemmas.{rows_pushed}
+use Rattle.nm_check_ranks.proofs.RankLemmas.{ended, of_rank}
+use Rattle.nm_check_ranks.proofs.TableLemmas.{table_inside, tables_at}
+use Rattle.nm_check_ranks.proofs.rest.miscounts.counts_due.Goals as goal
+
+pub bounds-tables-i : goal.bounds-tables-i
+bounds-tables-i c = table_inside c.args.ranks.now c.args.tables.now c.loop-i.i c.requires.tabled c.loop-i-test.true
+
+-- what is counted is due, and few
+pub push_row-requires : goal.push_row-requires
+push_row-requires c = λ to low.
+    let h : List Event = c.index-ranks-i.result.history.events in
+    let pairs : c.pairs.result.now ≡ matched_pairs h =
+    c.pairs.ensures c.loop-i.i c.requires.tabled.0 h
+    (tables_at c.args.ranks.now c.args.tables.now c.loop-i.i c.index-ranks-i.result
+    (get_or c.args.tables.now c.loop-i.i c.index-tables-i.result) c.requires.tabled
+    c.loop-i-test.true c.index-ranks-i.is
+    (ap (λ (t : Tables). get_or c.args.tables.now c.loop-i.i t) c.index-tables-i.is)).tells in
+    let given = pairs ∙ ap (λ (g : List Event). matched_pairs g) (sym c.as_slice-events.ensures) in
+    let due : AreDue c.counts_of-counts.result (packets_to h) =
+    rw c.as_slice-events.ensures at (c.counts_of-counts.ensures.exact given) in
+    let few : packets_to h to ≤ length h * 4294967296 =
+    rw c.as_slice-events.ensures at (c.counts_of-counts.ensures.few given to) in
+    let short : length h ≤ 67108864 =
+    of_rank (λ i rank. length rank.events ≤ 67108864) c.args.ranks.now c.loop-i.i c.index-ranks-i.result
+    c.loop-i-test.true c.index-ranks-i.is c.requires.short in
+    omega (arith, due to low, few, short)
+
+pub loop-i-preserved : goal.loop-i-preserved
+loop-i-preserved c = λ lines.
+    let h : List Event = c.index-ranks-i.result.history.events in
+    let pairs : c.pairs.result.now ≡ matched_pairs h =
+    c.pairs.ensures c.loop-i.i c.requires.tabled.0 h
+    (tables_at c.args.ranks.now c.args.tables.now c.loop-i.i c.index-ranks-i.result
+    (get_or c.args.tables.now c.loop-i.i c.index-tables-i.result) c.requires.tabled
+    c.loop-i-test.true c.index-ranks-i.is
+    (ap (λ (t : Tables). get_or c.args.tables.now c.loop-i.i t) c.index-tables-i.is)).tells in
+    let given = pairs ∙ ap (λ (g : List Event). matched_pairs g) (sym c.as_slice-events.ensures) in
+    let due : AreDue c.counts_of-counts.result (packets_to h) =
+    rw c.as_slice-events.ensures at (c.counts_of-counts.ensures.exact given) in
+    let short : length h ≤ 67108864 =
+    of_rank (λ i rank. length rank.events ≤ 67108864) c.args.ranks.now c.loop-i.i c.index-ranks-i.result
+    c.loop-i-test.true c.index-ranks-i.is c.requires.short in
+    rows_pushed lines c.args.ranks.now c.loop-i.i c.index-ranks-i.result c.loop-i-test.true c.index-ranks-i.is
+    (packets_of c.loop-i.due.items) (packets_of c.push_row.new.due.items) (c.loop-i.invariant lines)
+    (c.in_ok-push_row.ensures (packets_to h) due (λ to.
+    let few : packets_to h to ≤ length h * 4294967296 =
+    rw c.as_slice-events.ensures at (c.counts_of-counts.ensures.few given to) in
+    omega (arith, few, short)))
+
+pub returns : goal.returns
+returns c = λ lines.
+    let ends : List Ended = ends_of c.args.ranks.now in
+    let many : length ends ≡ length c.args.ranks.now = length-map c.args.ranks.now ended in
+    let over : length ends ≤ c.loop-i.i = omega (arith, many, c.loop-i-test.false) in
+    c.loop-i.invariant lines
+    ∙ ap (λ (es : List Ended). packets_by_rank lines (range_with_len 0 (length ends)) 0 es)
+    (take_all c.loop-i.i ends over)
