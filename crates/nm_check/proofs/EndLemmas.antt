@@ -15,9 +15,10 @@ use Rattle.nm_check.specs.declared.checked.checks.Checked.TheVariants as checked
 use Rattle.nm_check.specs.Found.{IsFound, checked_of}
 use Rattle.nm_check.specs.declared.breaks.finding.Found.{Found}
 use Rattle.nm_check.specs.declared.breaks.finding.Found.TheVariants.{NoTrace, NoScript, BadTrace, Judged}
-use Rattle.nm_check.specs.Answers.{IsAnswer, IsFoundIn, IsFoundOf, IsSaid, NotAsked, WasRead}
+use Rattle.nm_check.specs.Answers.{IsAnswer, IsFoundIn, IsFoundOf, IsQuoteOf, IsSaid, NotAsked, WasRead}
 use Rattle.nm_check.specs.Answers.{found_status, status_of, text_of, unread, usage, verdict_status}
 use Rattle.nm_check.specs.Endings.{IsSpoken, IsStatus, IsTold, IsWritten, OrFails, OrUnwritten}
+use Rattle.nm_check.specs.Quotes.{quote_of}
 use Rattle.nm_check.specs.declared.verdict.answers.Response.{Response}
 use Rattle.nm_check.specs.declared.verdict.answers.Response.TheVariants.{Usage, Unread, Told}
 
@@ -70,7 +71,7 @@ whole answer status k before after fails h other (inr p) = absurd (other (sym h 
 no_five : (answer : Response) → 5 ≡ status_of answer → ⊥
 no_five Usage h = cc
 no_five Unread h = cc
-no_five (Told found) h = five (spoken found 5 h)
+no_five (Told found quote) h = five (spoken found 5 h)
 
 module _ {words : List (List ℕ)} {input before after : Option (List ℕ)} {old new : ℕ} {fails : Type 0} where
   pub usage_is : (answer : Response) (status : ℕ) → Ends words input old new before after fails answer status →
@@ -78,14 +79,14 @@ module _ {words : List (List ℕ)} {input before after : Option (List ℕ)} {old
   usage_is Usage status e h = (e.right, (whole Usage status 2 before after fails h (λ f. cc) e.said).1)
   usage_is Unread status e h =
       absurd (let w = (whole Unread status 2 before after fails h (λ f. cc) e.said).0 in cc)
-  usage_is (Told found) status e h =
-      absurd (two (spoken found 2 (whole (Told found) status 2 before after fails h (λ f. cc) e.said).0))
+  usage_is (Told found quote) status e h =
+      absurd (two (spoken found 2 (whole (Told found quote) status 2 before after fails h (λ f. cc) e.said).0))
 
   pub not_taken_is : (answer : Response) (status : ℕ) → Ends words input old new before after fails answer status →
       NotAsked words → OrUnwritten (status ≡ 2) status
   not_taken_is Usage status e none = elim e.said [ inl p ↦ inl p.0 | inr p ↦ inr (inl p.0) ]
   not_taken_is Unread status e none = absurd (none e.right.0.0 e.right.0.1)
-  not_taken_is (Told found) status e none = absurd (none e.right.0 e.right.1)
+  not_taken_is (Told found quote) status e none = absurd (none e.right.0 e.right.1)
 
   pub told_is : (answer : Response) (status : ℕ) → Ends words input old new before after fails answer status →
       IsSpoken status → IsTold words input status before after
@@ -99,13 +100,15 @@ module _ {words : List (List ℕ)} {input before after : Option (List ℕ)} {old
         | inl p ↦ four (subst IsSpoken p.0 s)
         | inr p ↦ five (subst IsSpoken p.0 s)
       ])
-  told_is (Told found) status e s =
+  told_is (Told found quote) status e s =
       elim e.said [
         | inl p ↦ record {
           line = e.right.0;
           asked = e.right.1;
           found = found;
           right = e.right.2;
+          quote = quote;
+          quoted = e.right.3;
           ended = p.0;
           said = p.1;
         }
@@ -117,8 +120,8 @@ module _ {words : List (List ℕ)} {input before after : Option (List ℕ)} {old
   unread_is Usage status e h =
       absurd (let w = (whole Usage status 4 before after fails h (λ f. cc) e.said).0 in cc)
   unread_is Unread status e h = (e.right.1, (whole Unread status 4 before after fails h (λ f. cc) e.said).1)
-  unread_is (Told found) status e h =
-      absurd (four (spoken found 4 (whole (Told found) status 4 before after fails h (λ f. cc) e.said).0))
+  unread_is (Told found quote) status e h =
+      absurd (four (spoken found 4 (whole (Told found quote) status 4 before after fails h (λ f. cc) e.said).0))
 
   pub unwritten_is : (answer : Response) (status : ℕ) → Ends words input old new before after fails answer status →
       status ≡ 5 → fails × (answer : Response) × IsAnswer words input old new answer
@@ -134,15 +137,15 @@ module _ {words : List (List ℕ)} {input before after : Option (List ℕ)} {old
       Ends words input old new before after fails answer status → (WasRead answer → P) → OrFails P status
   unless_unread Unread status e make = elim e.said [ inl p ↦ inr (inl p.0) | inr p ↦ inr (inr (inl p.0)) ]
   unless_unread Usage status e make = inl (make tt)
-  unless_unread (Told found) status e make = inl (make tt)
+  unless_unread (Told found quote) status e make = inl (make tt)
 
   -- a status is never 6 where something was said
   pub not_six : (answer : Response) (status : ℕ) → Ends words input old new before after fails answer status →
       status ≡ 6 → ⊥
   not_six Usage status e h = let w = (whole Usage status 6 before after fails h (λ f. cc) e.said).0 in cc
   not_six Unread status e h = let w = (whole Unread status 6 before after fails h (λ f. cc) e.said).0 in cc
-  not_six (Told found) status e h =
-      six (spoken found 6 (whole (Told found) status 6 before after fails h (λ f. cc) e.said).0)
+  not_six (Told found quote) status e h =
+      six (spoken found 6 (whole (Told found quote) status 6 before after fails h (λ f. cc) e.said).0)
 
   pub holds_is : (answer : Response) (status : ℕ) → Ends words input old new before after fails answer status →
       OrFails (status_of answer ≡ 0) (status_of answer) → OrFails (status ≡ 0) status
@@ -158,7 +161,7 @@ module _ {words : List (List ℕ)} {input before after : Option (List ℕ)} {old
       elim e.said [ inl p ↦ inr (inl p.0) | inr p ↦ inr (inr (inr (inl p.0))) ]
   status_is Unread status e =
       elim e.said [ inl p ↦ inr (inr (inl p.0)) | inr p ↦ inr (inr (inr (inl p.0))) ]
-  status_is (Told found) status e =
+  status_is (Told found quote) status e =
       elim e.said [ inl p ↦ inl (spoken found status p.0) | inr p ↦ inr (inr (inr (inl p.0))) ]
 
 -- what was found of the bytes that were read is so of those of the source
@@ -168,6 +171,12 @@ pub found_of : (line : CommandLine) (input : Option (List ℕ)) (bytes : List �
 found_of line None bytes found read checked placed = tt
 found_of line (Some all) bytes found read checked placed =
     subst (λ b. IsFoundIn line found b) read (record { checked = checked; placed = placed })
+
+-- the line that was read is that of the source
+pub quote_read : (input : Option (List ℕ)) (bytes : List ℕ) (found : Found) (quote : Option (List ℕ)) →
+    IfSome input (λ all. bytes ≡ take 67108865 all) → quote ≡ quote_of bytes found → IsQuoteOf input found quote
+quote_read None bytes found quote read is = tt
+quote_read (Some all) bytes found quote read is = is ∙ ap (λ (b : List ℕ). quote_of b found) read
 
 -- what holds is said so
 pub zero_of : (found : Found) → checked_of found ≡ checked.Judged Holds → found_status found ≡ 0

@@ -29,13 +29,14 @@ cells_printable cells within =
       ),
     )
 
-cells_is : (a b end : List ℕ) → codes "cells" ++ 32 ∷ (a ++ 32 ∷ (codes "home" ++ 32 ∷ (b ++ end)))
-    ≡ (codes "cells" ++ 32 ∷ (a ++ 32 ∷ (codes "home" ++ 32 ∷ b))) ++ end
-cells_is a b end = simp append_assoc
+-- what stands behind four words stands behind the last one
+four_words : (a b c d end : List ℕ) → a ++ 32 ∷ (b ++ 32 ∷ (c ++ 32 ∷ (d ++ end)))
+    ≡ (a ++ 32 ∷ (b ++ 32 ∷ (c ++ 32 ∷ d))) ++ end
+four_words a b c d end = simp append_assoc
 
 -- the line of the cells is that of its words
 cells_text : (cells : Account) → cells_line cells ≡ text_line (cells_words cells)
-cells_text cells = cells_is (decimal cells.total) (decimal cells.home) (10 ∷ [])
+cells_text cells = four_words (codes "cells") (decimal cells.total) (codes "home") (decimal cells.home) (10 ∷ [])
 
 end_feeds : (done : Bool) → Feeds (end_line done)
 end_feeds true = feeds_last (codes "done")

@@ -18,4 +18,5 @@ mod SpotLemmas
 mod StandLemmas
 mod StopLemmas
 mod TextLemmas
+mod WholeLemmas
 mod WrittenLemmas

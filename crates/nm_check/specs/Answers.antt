@@ -10,6 +10,7 @@ use Rattle.nm_check.specs.Checks.{IsChecked}
 use Rattle.nm_check.specs.Found.{IsFound, checked_of}
 use Rattle.nm_check.specs.declared.breaks.finding.Found.{Found}
 use Rattle.nm_check.specs.declared.breaks.finding.Found.TheVariants.{NoTrace, NoScript, BadTrace, Judged}
+use Rattle.nm_check.specs.Quotes.{quote_of}
 use Rattle.nm_check.specs.VerdictTexts.{found_text}
 use Rattle.nm_check.specs.declared.verdict.answers.Response.{Response}
 use Rattle.nm_check.specs.declared.verdict.answers.Response.TheVariants.{Usage, Unread, Told}
@@ -30,7 +31,7 @@ unread = codes "fault read\n"
 abbrev pub text_of : Response → List ℕ
 text_of Usage = usage
 text_of Unread = unread
-text_of (Told found) = found_text found
+text_of (Told found quote) = found_text found quote
 
 -- the status of a verdict: whether the trace holds
 abbrev pub verdict_status : Verdict → ℕ
@@ -48,7 +49,7 @@ found_status (Judged before verdict place evidence) = verdict_status verdict
 abbrev pub status_of : Response → ℕ
 status_of Usage = 2
 status_of Unread = 4
-status_of (Told found) = found_status found
+status_of (Told found quote) = found_status found
 
 -- the words ask for a verdict: they are those of a check
 abbrev pub IsAsked : List (List ℕ) → CommandLine → Type 0
@@ -68,11 +69,16 @@ pub record IsFoundIn (line : CommandLine) (found : Found) (bytes : List ℕ) : T
 abbrev pub IsFoundOf : CommandLine → Option (List ℕ) → Found → Type 0
 IsFoundOf line input found = IfSome input (λ bytes. IsFoundIn line found (read_of bytes))
 
+-- .. and this is the line that is told, as it stands in them, if it is told
+abbrev pub IsQuoteOf : Option (List ℕ) → Found → Option (List ℕ) → Type 0
+IsQuoteOf input found quote = IfSome input (λ bytes. quote ≡ quote_of (read_of bytes) found)
+
 -- an answer is right: by the words, by the bytes of the source, and by its count of faults before and after
 abbrev pub IsAnswer : List (List ℕ) → Option (List ℕ) → ℕ → ℕ → Response → Type 0
 IsAnswer words input old new Usage = NotAsked words
 IsAnswer words input old new Unread = ((line : CommandLine) × IsAsked words line) × Rose old new
-IsAnswer words input old new (Told found) = (line : CommandLine) × IsAsked words line × IsFoundOf line input found
+IsAnswer words input old new (Told found quote) =
+    (line : CommandLine) × IsAsked words line × IsFoundOf line input found × IsQuoteOf input found quote
 
 -- the source was read
 abbrev pub WasRead : Response → Type 0

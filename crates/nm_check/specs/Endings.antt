@@ -9,18 +9,20 @@ use Rattle.nm_report.specs.declared.records.RunRecord.{RunRecord}
 use Rattle.nm_trace.specs.Traces.{IsTraceOf}
 use Rattle.nm_check.specs.Checks.{IsInput, sizes}
 use Rattle.nm_check.specs.declared.breaks.finding.Found.{Found}
-use Rattle.nm_check.specs.Answers.{IsAsked, IsFoundOf, found_status, read_of}
+use Rattle.nm_check.specs.Answers.{IsAsked, IsFoundOf, IsQuoteOf, found_status, read_of}
 use Rattle.nm_check.specs.VerdictTexts.{found_text}
 
--- The words ask for a verdict, and it was said of the bytes what they are.
+-- The words ask for a verdict, and it was said of the bytes what they are, with the line that is told.
 pub record IsTold (words : List (List ℕ)) (input : Option (List ℕ)) (status : ℕ)
     (old new : Option (List ℕ)) : Type 0 where
   pub line : CommandLine
   pub asked : IsAsked words line
   pub found : Found
   pub right : IsFoundOf line input found
+  pub quote : Option (List ℕ)
+  pub quoted : IsQuoteOf input found quote
   pub ended : status ≡ found_status found
-  pub said : Appends old new (found_text found)
+  pub said : Appends old new (found_text found quote)
 
 -- the bytes are a script and the trace of one of its runs
 pub record IsWritten (line : CommandLine) (bytes : List ℕ) : Type 0 where

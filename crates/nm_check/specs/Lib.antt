@@ -11,6 +11,7 @@ pub mod Lines
 pub mod Miscounts
 pub mod Others
 pub mod Places
+pub mod Quotes
 pub mod Ranges
 pub mod Ranked
 pub mod Sentences

@@ -38,7 +38,7 @@ mod others;
 mod own;
 mod places;
 mod placing;
-mod stops;
+pub(crate) mod stops;
 
 pub use evidence::Evidence;
 pub use finding::{Found, find};

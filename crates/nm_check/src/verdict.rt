@@ -4,11 +4,11 @@
 //! and writes one line.
 //!
 //! # What a contract sees
-//! Bytes as a list of numbers. `nm_check::breaks` says what is found of them; `specs/VerdictTexts.antt` has the
-//! sentence of each finding, `specs/Sentences.antt` the words of each rule, `specs/VerdictDues.antt`
-//! those of what was called for (`specs/VerdictCalled.antt` at claims, starts and cancels),
-//! `specs/VerdictCounts.antt` those of counts of packets, and `specs/VerdictIncidents.antt` those of
-//! what happened.
+//! Bytes as a list of numbers. `nm_check::breaks` says what is found of them, and `specs/Quotes.antt` which
+//! line of them is told. `specs/VerdictTexts.antt` has the sentence of each finding, `specs/Sentences.antt`
+//! the words of each rule, `specs/VerdictDues.antt` those of what was called for
+//! (`specs/VerdictCalled.antt` at claims, starts and cancels), `specs/VerdictCounts.antt` those of counts
+//! of packets, and `specs/VerdictIncidents.antt` those of what happened.
 //! # What is proved
 //! - The program says `holds` exactly where `nm_check::checked::check` does, the rule that it names is the
 //!   same, and the place is the one of `nm_check::breaks`. The statuses are those of `check`: 0 where the
@@ -25,6 +25,7 @@ mod called;
 mod counts;
 mod dues;
 mod incidents;
+mod quotes;
 mod sentences;
 mod texts;
 mod verdicts;

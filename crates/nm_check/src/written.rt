@@ -9,12 +9,16 @@
 //!   (`ranges`).
 //! - A text that has a script, a line `---` and a trace is cut into these two, and in no other way
 //!   (`scripts_are_cut_off`).
+//! - A line of a trace is the one of the whole text that stands so far behind the script and the line
+//!   `---` (`traces_stand_behind_scripts`).
 //! # What is only tested
 //! Nothing.
 
 mod inputs;
+mod lines;
 mod ranges;
 mod written;
 
 pub use inputs::scripts_are_cut_off;
+pub use lines::traces_stand_behind_scripts;
 pub use written::traces_are_read;

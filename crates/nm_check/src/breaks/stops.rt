@@ -52,7 +52,7 @@ fn first_of(bytes: &[u8]) -> Option<&[u8]>
 }
 
 /// A line, counted from 0, if there are so many.
-fn line_at(bytes: &[u8], at: u32) -> Option<&[u8]>
+pub(crate) fn line_at(bytes: &[u8], at: u64) -> Option<&[u8]>
     ensures { option_map (λ line. line.now) result ≡ slice_get (lines_of bytes.now) at }
 {
     let mut rest = bytes;
@@ -160,7 +160,7 @@ pub(crate) fn stop_at(alloc: Global, shape: Shape, bytes: &[u8], line: u32) -> R
     requires { length bytes.now < 67108864 }
     ensures { IfOk result (IsStop shape bytes.now line) }
 {
-    let Some(text) = line_at(bytes, line.saturating_sub(1)) else {
+    let Some(text) = line_at(bytes, u64::from(line.saturating_sub(1))) else {
         return Ok(Stop::Short);
     };
     if line > lines_in(bytes) {

@@ -6,17 +6,18 @@ ghost use Rattle.nm_check.specs.Answers.{found_status as found_status_lem, statu
 use crate::Verdict;
 use crate::breaks::Found;
 use crate::verdict::texts::found_text;
+use nm_types::Bytes;
 use std::alloc::{AllocError, Global};
 
 /// What there is to say.
-#[derive(Clone, Copy)]
+#[derive(Drop)]
 pub enum Response {
     /// The words are not taken.
     Usage,
     /// The source failed.
     Unread,
-    /// What was found of the bytes.
-    Told { found: Found },
+    /// What was found of the bytes, and those of the line that is told, if they are told.
+    Told { found: Found, quote: Option<Bytes> },
 }
 
 /// What is said of words that are not taken.
@@ -31,13 +32,13 @@ fn line(alloc: Global, text: &str) -> Result<Vec<u8>, AllocError>
 }
 
 /// The text of an answer, whole and in memory.
-pub fn text(alloc: Global, answer: Response) -> Result<Vec<u8>, AllocError>
-    ensures { IfOk result (λ text. text.items ≡ text_of answer) }
+pub fn text(alloc: Global, answer: &Response) -> Result<Vec<u8>, AllocError>
+    ensures { IfOk result (λ text. text.items ≡ text_of answer.now) }
 {
     match answer {
         Response::Usage => line(alloc, USAGE),
         Response::Unread => line(alloc, "fault read\n"),
-        Response::Told { found } => found_text(alloc, found),
+        Response::Told { found, quote } => found_text(alloc, *found, quote),
     }
 }
 
@@ -57,12 +58,12 @@ fn found_status(found: Found) -> u8
 }
 
 /// The status of an answer that was written.
-pub fn status(answer: Response) -> u8
-    ensures { result ≡ status_of answer }
+pub fn status(answer: &Response) -> u8
+    ensures { result ≡ status_of answer.now }
 {
     match answer {
         Response::Usage => 2,
         Response::Unread => 4,
-        Response::Told { found } => found_status(found),
+        Response::Told { found, .. } => found_status(*found),
     }
 }

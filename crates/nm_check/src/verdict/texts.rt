@@ -1,6 +1,6 @@
 //! The sentence of what was found.
 
-ghost use Rattle.std.specs.Prelude.{◌≡◌, IfOk, string_bytes};
+ghost use Rattle.std.specs.Prelude.{◌≡◌, ◌++◌, IfOk, OnOk, string_bytes};
 ghost use Rattle.nm_check.specs.VerdictTexts.{bad_text as bad_text_lem};
 ghost use Rattle.nm_check.specs.VerdictTexts.{behind_text as behind_text_lem};
 ghost use Rattle.nm_check.specs.VerdictTexts.{carried_text as carried_text_lem};
@@ -8,14 +8,17 @@ ghost use Rattle.nm_check.specs.VerdictTexts.{cells_words as cells_words_lem};
 ghost use Rattle.nm_check.specs.VerdictTexts.{count_text as count_text_lem};
 ghost use Rattle.nm_check.specs.VerdictTexts.{count_words as count_words_lem, home_rule};
 ghost use Rattle.nm_check.specs.VerdictTexts.{command_words as command_words_lem};
-ghost use Rattle.nm_check.specs.VerdictTexts.{found_text as found_text_lem, line_words as line_words_lem};
+ghost use Rattle.nm_check.specs.VerdictTexts.{found_text as found_text_lem, head_words as head_words_lem};
+ghost use Rattle.nm_check.specs.VerdictTexts.{line_words as line_words_lem};
 ghost use Rattle.nm_check.specs.VerdictTexts.{last_text as last_text_lem, left_text as left_text_lem};
 ghost use Rattle.nm_check.specs.VerdictTexts.{event_words as event_words_lem};
 ghost use Rattle.nm_check.specs.VerdictTexts.{other_words as other_words_lem};
 ghost use Rattle.nm_check.specs.VerdictTexts.{own_text as own_text_lem, rest_text as rest_text_lem};
 ghost use Rattle.nm_check.specs.VerdictTexts.{pair_words as pair_words_lem};
+ghost use Rattle.nm_check.specs.VerdictTexts.{place_words as place_words_lem, quote_words};
 ghost use Rattle.nm_check.specs.VerdictTexts.{rule_words as rule_words_lem};
 ghost use Rattle.nm_check.specs.VerdictTexts.{standing_words as standing_words_lem};
+ghost use Rattle.nm_check.specs.VerdictTexts.{tail_text as tail_text_lem};
 ghost use Rattle.nm_check.specs.VerdictTexts.{verdict_text as verdict_text_lem};
 
 use crate::breaks::cells::CellCount;
@@ -25,8 +28,10 @@ use crate::breaks::{Evidence, Found, Place, Stop};
 use crate::verdict::counts::miscount_words;
 use crate::verdict::dues::due_words;
 use crate::verdict::incidents::where_words;
+use crate::verdict::quotes::place_line;
 use crate::verdict::sentences::{carried_words, kind_words, own_words, rest_words, stop_words};
 use crate::{CarriedClause, OwnClause, RestClause, Verdict};
+use nm_types::Bytes;
 use std::alloc::{AllocError, Global};
 
 /// The number of a line of the whole input, and of the line behind `---`.
@@ -47,21 +52,27 @@ fn command_words(alloc: Global, command: Option<u32>) -> Result<String, AllocErr
     }
 }
 
-/// An event: its line, what happened, and its command.
+/// The line that a place tells, if it tells one.
+fn place_words(alloc: Global, before: u32, line: Option<u32>) -> Result<String, AllocError>
+    ensures { IfOk result (λ text. string_bytes text ≡ place_words_lem before line) }
+{
+    match line {
+        Some(line) => line_words(alloc, before, line),
+        None => format!(in alloc; ""),
+    }
+}
+
+/// An event: what happened, and its command.
 fn event_words(
     alloc: Global,
-    before: u32,
-    line: u32,
     command: Option<u32>,
     incident: Option<Incident>,
 ) -> Result<String, AllocError>
-    ensures { IfOk result (λ text.
-        string_bytes text ≡ event_words_lem before line command incident) }
+    ensures { IfOk result (λ text. string_bytes text ≡ event_words_lem command incident) }
 {
-    let at = line_words(alloc, before, line)?;
     let happened = where_words(alloc, incident)?;
     let of = command_words(alloc, command)?;
-    format!(in alloc; "{}{}{},", at, happened, of)
+    format!(in alloc; "{}{},", happened, of)
 }
 
 /// A rank keeps a rule of its own run at each event, and breaks it in the end.
@@ -75,19 +86,18 @@ fn behind_text(alloc: Global, clause: OwnClause, rank: u8) -> Result<String, All
 /// Where a rank breaks a rule of its own run first.
 fn own_text(
     alloc: Global,
-    before: u32,
     clause: OwnClause,
     rank: u8,
     place: Place,
     evidence: Evidence,
 ) -> Result<String, AllocError>
     ensures { IfOk result (λ text.
-        string_bytes text ≡ own_text_lem before clause rank place evidence) }
+        string_bytes text ≡ own_text_lem clause rank place evidence) }
 {
     let words = own_words(clause);
     match place {
-        Place::Event { line, command, .. } => {
-            let at = event_words(alloc, before, line, command, evidence.incident)?;
+        Place::Event { command, .. } => {
+            let at = event_words(alloc, command, evidence.incident)?;
             let called = due_words(alloc, evidence.due)?;
             format!(in alloc;
                 "{} is the first at which rank {} breaks a rule: {}{}\n",
@@ -134,8 +144,8 @@ fn carried_text(
     let words = carried_words(clause);
     let ranks = pair_words(alloc, from, to)?;
     match place {
-        Place::Event { line, command, .. } => {
-            let at = event_words(alloc, before, line, command, evidence.incident)?;
+        Place::Event { command, .. } => {
+            let at = event_words(alloc, command, evidence.incident)?;
             let against = other_words(alloc, before, evidence.other)?;
             format!(in alloc;
                 "{} is the first at which the messages from {} break a rule: {}{}\n",
@@ -166,16 +176,14 @@ fn rule_words(alloc: Global, clause: RestClause) -> Result<String, AllocError>
 /// The event at which the ranks at rest break a rule first.
 fn left_text(
     alloc: Global,
-    before: u32,
     clause: RestClause,
-    line: u32,
     command: Option<u32>,
     incident: Option<Incident>,
 ) -> Result<String, AllocError>
     ensures { IfOk result (λ text.
-        string_bytes text ≡ left_text_lem before clause line command incident) }
+        string_bytes text ≡ left_text_lem clause command incident) }
 {
-    let event = event_words(alloc, before, line, command, incident)?;
+    let event = event_words(alloc, command, incident)?;
     let rule = rule_words(alloc, clause)?;
     format!(in alloc; "{} is the first that breaks {}\n", event, rule)
 }
@@ -183,37 +191,29 @@ fn left_text(
 /// The count of packets at which they do.
 fn count_text(
     alloc: Global,
-    before: u32,
     clause: RestClause,
-    line: u32,
     counts: Option<Miscount>,
 ) -> Result<String, AllocError>
-    ensures { IfOk result (λ text.
-        string_bytes text ≡ count_text_lem before clause line counts) }
+    ensures { IfOk result (λ text. string_bytes text ≡ count_text_lem clause counts) }
 {
-    let at = line_words(alloc, before, line)?;
     let rule = rule_words(alloc, clause)?;
     let told = miscount_words(alloc, counts)?;
-    format!(in alloc; "{}, breaks {}{}\n", at, rule, told)
+    format!(in alloc; ", breaks {}{}\n", rule, told)
 }
 
 /// Where the ranks at rest break a rule first.
 fn rest_text(
     alloc: Global,
-    before: u32,
     clause: RestClause,
     place: Place,
     evidence: Evidence,
 ) -> Result<String, AllocError>
-    ensures { IfOk result (λ text.
-        string_bytes text ≡ rest_text_lem before clause place evidence) }
+    ensures { IfOk result (λ text. string_bytes text ≡ rest_text_lem clause place evidence) }
 {
     let words = rest_words(clause);
     match place {
-        Place::Event { line, command, .. } => {
-            left_text(alloc, before, clause, line, command, evidence.incident)
-        }
-        Place::Count { line, .. } => count_text(alloc, before, clause, line, evidence.counts),
+        Place::Event { command, .. } => left_text(alloc, clause, command, evidence.incident),
+        Place::Count { .. } => count_text(alloc, clause, evidence.counts),
         Place::Standing { rank, waits } => {
             let says = standing_words(alloc, waits)?;
             format!(in alloc;
@@ -232,21 +232,11 @@ const HOME: &str = "as many cells as all ranks have by --cells are there, and al
 const DONE: &str = "it is `done` exactly where every rank is at its end";
 
 /// One of the last two lines breaks its rule, with what is told of it besides.
-fn last_text(
-    alloc: Global,
-    before: u32,
-    rule: &str,
-    place: Place,
-    more: &str,
-) -> Result<String, AllocError>
-    ensures { IfOk result (λ text.
-        string_bytes text ≡ last_text_lem before rule.now place more.now) }
+fn last_text(alloc: Global, rule: &str, place: Place, more: &str) -> Result<String, AllocError>
+    ensures { IfOk result (λ text. string_bytes text ≡ last_text_lem rule.now place more.now) }
 {
     match place {
-        Place::LastLine { line } => {
-            let at = line_words(alloc, before, line)?;
-            format!(in alloc; "{}, breaks a rule: {}{}\n", at, rule, more)
-        }
+        Place::LastLine { .. } => format!(in alloc; ", breaks a rule: {}{}\n", rule, more),
         _ => format!(in alloc; "the end breaks a rule: {}{}\n", rule, more),
     }
 }
@@ -276,20 +266,15 @@ fn cells_words(alloc: Global, cells: Option<CellCount>) -> Result<String, AllocE
 }
 
 /// The cells break their rule.
-fn home_text(
-    alloc: Global,
-    before: u32,
-    place: Place,
-    cells: Option<CellCount>,
-) -> Result<String, AllocError>
+fn home_text(alloc: Global, place: Place, cells: Option<CellCount>) -> Result<String, AllocError>
     ensures { IfOk result (λ text.
-        string_bytes text ≡ last_text_lem before home_rule place (cells_words_lem cells)) }
+        string_bytes text ≡ last_text_lem home_rule place (cells_words_lem cells)) }
 {
     let more = cells_words(alloc, cells)?;
-    last_text(alloc, before, HOME, place, &more)
+    last_text(alloc, HOME, place, &more)
 }
 
-/// What is said of a verdict and its place, behind so many lines.
+/// What is said of a verdict and its place behind the line that the place tells.
 fn verdict_text(
     alloc: Global,
     before: u32,
@@ -302,13 +287,13 @@ fn verdict_text(
 {
     match verdict {
         Verdict::Holds => format!(in alloc; "holds\n"),
-        Verdict::Own { clause, rank } => own_text(alloc, before, clause, rank, place, evidence),
+        Verdict::Own { clause, rank } => own_text(alloc, clause, rank, place, evidence),
         Verdict::Carried { clause, from, to } => {
             carried_text(alloc, before, clause, from, to, place, evidence)
         }
-        Verdict::Rest { clause } => rest_text(alloc, before, clause, place, evidence),
-        Verdict::Home => home_text(alloc, before, place, evidence.cells),
-        Verdict::Done => last_text(alloc, before, DONE, place, ""),
+        Verdict::Rest { clause } => rest_text(alloc, clause, place, evidence),
+        Verdict::Home => home_text(alloc, place, evidence.cells),
+        Verdict::Done => last_text(alloc, DONE, place, ""),
     }
 }
 
@@ -320,9 +305,21 @@ fn bad_text(alloc: Global, before: u32, line: u32, stop: Stop) -> Result<String,
     format!(in alloc; "{}: {}\n", at, stop_words(stop))
 }
 
-/// The sentence of what was found.
-fn sentence(alloc: Global, found: Found) -> Result<String, AllocError>
-    ensures { IfOk result (λ text. string_bytes text ≡ found_text_lem found) }
+/// The line of a trace that is told, if one is.
+fn head_words(alloc: Global, found: Found) -> Result<String, AllocError>
+    ensures { IfOk result (λ text. string_bytes text ≡ head_words_lem found) }
+{
+    match found {
+        Found::Judged { before, place, .. } => place_words(alloc, before, place_line(place)),
+        Found::NoTrace => format!(in alloc; ""),
+        Found::NoScript { .. } => format!(in alloc; ""),
+        Found::BadTrace { .. } => format!(in alloc; ""),
+    }
+}
+
+/// .. and what is said behind it.
+fn tail_text(alloc: Global, found: Found) -> Result<String, AllocError>
+    ensures { IfOk result (λ text. string_bytes text ≡ tail_text_lem found) }
 {
     match found {
         Found::NoTrace => format!(in alloc;
@@ -341,10 +338,29 @@ fn sentence(alloc: Global, found: Found) -> Result<String, AllocError>
     }
 }
 
-/// What is said of what was found.
-pub fn found_text(alloc: Global, found: Found) -> Result<Vec<u8>, AllocError>
-    ensures { IfOk result (λ bytes. bytes.items ≡ found_text_lem found) }
+/// Puts the bytes of a line behind a text, if they are told.
+fn push_quote(text: &mut Vec<u8>, quote: &Option<Bytes>) -> Result<(), AllocError>
+    ensures { OnOk result (text.new.items ≡ text.old.items ++ quote_words quote.now) }
 {
-    let text = sentence(alloc, found)?;
-    Ok(text.into_bytes())
+    match quote {
+        Some(bytes) => {
+            text.extend_from_slice(b", `".as_slice())?;
+            text.extend_from_slice(bytes.as_slice())?;
+            text.push(b'`')?;
+            Ok(())
+        }
+        None => Ok(()),
+    }
+}
+
+/// What is said of what was found, with the bytes of the line that is told.
+pub fn found_text(alloc: Global, found: Found, quote: &Option<Bytes>) -> Result<Vec<u8>, AllocError>
+    ensures { IfOk result (λ bytes. bytes.items ≡ found_text_lem found quote.now) }
+{
+    let head = head_words(alloc, found)?;
+    let tail = tail_text(alloc, found)?;
+    let mut text = head.into_bytes();
+    push_quote(&mut text, quote)?;
+    text.extend_from_slice(tail.as_bytes())?;
+    Ok(text)
 }

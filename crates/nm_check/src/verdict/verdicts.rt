@@ -16,6 +16,7 @@ ghost use Rattle.nm_script.specs.declared.command_line.CommandLine as the_line;
 
 use crate::breaks::find;
 use crate::verdict::answers::{Response, status, text};
+use crate::verdict::quotes::quoted;
 use nm_outside::{Sink, Source, Unread, read_up_to, write_all};
 use nm_script::command_line::{CommandLine, Mode};
 use nm_types::Memory;
@@ -69,7 +70,8 @@ fn find_answer<S: Source>(
     match read_up_to(alloc, source, MAX_READ) {
         Ok(bytes) => {
             let found = find(alloc, &bytes, line.cells, line.eager)?;
-            Ok(Response::Told { found })
+            let quote = quoted(alloc, &bytes, found)?;
+            Ok(Response::Told { found, quote })
         }
         Err(Unread::Failed) => Ok(Response::Unread),
         Err(Unread::Memory) => Err(Memory),
@@ -77,9 +79,9 @@ fn find_answer<S: Source>(
 }
 
 /// Writes what is due to the sink, and answers the status.
-fn deliver<K: Sink>(sink: &mut K, due: &[u8], answer: Response) -> u8
-    requires { due.now ≡ text_of answer }
-    ensures said { IsSaid answer result (K.taken sink.old) (K.taken sink.new)
+fn deliver<K: Sink>(sink: &mut K, due: &[u8], answer: &Response) -> u8
+    requires { due.now ≡ text_of answer.now }
+    ensures said { IsSaid answer.now result (K.taken sink.old) (K.taken sink.new)
         (Rose (K.faults sink.old) (K.faults sink.new)) }
     ensures quiet { (result ≡ 5) ⊎ (K.faults sink.new ≡ K.faults sink.old) }
 {
@@ -142,8 +144,8 @@ pub fn verdict<S: Source, K: Sink>(
     let Ok(answer) = find_answer(alloc, words, source) else {
         return WANT_OF_MEMORY;
     };
-    let Ok(due) = text(alloc, answer) else {
+    let Ok(due) = text(alloc, &answer) else {
         return WANT_OF_MEMORY;
     };
-    deliver(sink, &due, answer)
+    deliver(sink, &due, &answer)
 }

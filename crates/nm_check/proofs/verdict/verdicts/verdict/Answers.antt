@@ -5,11 +5,11 @@ use Rattle.nm_outside.specs.Told.{Rose}
 use Rattle.nm_check.proofs.EndLemmas.{Ends, holds_is, not_six, not_taken_is, status_is, told_is, unless_unread}
 use Rattle.nm_check.proofs.EndLemmas.{unread_is, unwritten_is, usage_is}
 use Rattle.nm_check.proofs.verdict.verdicts.verdict.Goals as goal
-use Rattle.nm_check.proofs.verdict.verdicts.verdict.Goals.{After-drop-due}
+use Rattle.nm_check.proofs.verdict.verdicts.verdict.Goals.{Joined-answer-3}
 use Rattle.nm_check.proofs.verdict.verdicts.verdict.Given.{Over}
 
 -- what is known where all was written, or the sink failed
-known : (g : Over) (c : After-drop-due g) →
+known : (g : Over) (c : Joined-answer-3 g) →
     Ends (map string_bytes c.args.words.now) (g.S.Source.left c.args.source.now)
     (g.S.Source.faults c.args.source.now) (g.S.Source.faults c.find_answer.new.source)
     (g.K.Sink.taken c.args.sink.now) (g.K.Sink.taken c.deliver.new.sink)
