@@ -11,6 +11,7 @@ pub mod MetLemmas
 mod OrderlyLemmas
 pub mod PlacedLemmas
 mod PostLemmas
+mod RestedLemmas
 pub mod RestLemmas
 pub mod ResultLemmas
 mod SeenLemmas

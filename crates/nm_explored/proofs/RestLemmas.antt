@@ -61,12 +61,12 @@ and_false true = refl
 and_false false = refl
 
 -- what a list of deeds tells
-told_map : (g : Deed → Happened) (ds : List Deed) →
+pub told_map : (g : Deed → Happened) (ds : List Deed) →
     filter_map (λ d. told_by (g d)) ds ≡ filter_map told_by (map g ds)
 told_map g [] = refl
 told_map g (d ∷ ds) = ap (λ (ts : List Told). cons_option (told_by (g d)) ts) (told_map g ds)
 
-no_told : (what : Happened) → is_of_packet what ≡ true → told_by what ≡ None
+pub no_told : (what : Happened) → is_of_packet what ≡ true → told_by what ≡ None
 no_told (event.Ran line a) packet = absurd (false≢true packet)
 no_told what packet = refl
 

@@ -60,7 +60,7 @@ module _ (lines : List Line) (h : List Event) (spot : Spot) (is : IsSpotOf lines
         ∙ (next lines h spot is stamp what fine).withdrawn from n;
   }
 
-  quiet_spot : (what : Happened) → is_quiet what ≡ true →
+  pub quiet_spot : (what : Happened) → is_quiet what ≡ true →
       IsSpotOf lines (h ++ record { stamp = stamp; what = what } ∷ []) spot
   quiet_spot (event.Whole from n) quiet =
       still (event.Whole from n) tt refl refl refl (λ i m. refl)

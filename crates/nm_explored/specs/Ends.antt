@@ -20,6 +20,7 @@ use Rattle.nm_explored.specs.Lines.{line_in}
 use Rattle.nm_explored.specs.declared.ends.End.{End}
 use Rattle.nm_explored.specs.declared.ends.Explored.{Explored}
 use Rattle.nm_explored.specs.declared.ends.Explored.TheVariants.{All, TooMany}
+use Rattle.nm_explored.specs.Met.{IsMet}
 use Rattle.nm_explored.specs.Stores.{Store}
 
 -- a command that can be held up
@@ -68,6 +69,28 @@ AreEnds ranks lines store ends =
     AreAtRest ranks lines (spot_in store.table ids) →
     Has (map told_at_end ends) (all_told lines (spot_in store.table ids) ranks)
 
+-- this is told where the ranks are in these states, and none has a move left
+abbrev pub IsToldIn : ℕ → List Line → (ℕ → Option Spot) → List RankTold → Type 0
+IsToldIn ranks lines v told = AreAtRest ranks lines v × (told ≡ all_told lines v ranks)
+
+-- so it is with one of the states of a store
+abbrev pub IsToldAmong : ℕ → List Line → Store → List RankTold → Type 0
+IsToldAmong ranks lines store told =
+    (k : ℕ) × (ids : List ℕ) × (slice_get store.states k ≡ Some ids)
+    × IsToldIn ranks lines (spot_in store.table ids) told
+
+-- these ends tell nothing else
+abbrev pub AreOnlyEnds : ℕ → List Line → Store → List End → Type 0
+AreOnlyEnds ranks lines store ends =
+    (told : List RankTold) → Has (map told_at_end ends) told → IsToldAmong ranks lines store told
+
+-- this is told at a state that moves lead to, at which no rank has a move left
+pub record IsToldAtRest (eager ranks : ℕ) (lines : List Line) (told : List RankTold) : Type 0 where
+  pub state : List Spot
+  pub met : IsMet eager ranks lines state
+  pub rest : AreAtRest ranks lines (λ i. slice_get state i)
+  pub told_is : told ≡ all_told lines (λ i. slice_get state i) ranks
+
 -- what a script sends at once is short, and so is the script
 pub record AreShort (lines : List Line) : Type 0 where
   pub sends : (i line : ℕ) (c : Command) → command_at (commands_of i lines) line ≡ Some c → sent_len c < 4294967296
@@ -77,6 +100,11 @@ pub record AreShort (lines : List Line) : Type 0 where
 abbrev pub TellsAll : Sizes → List Line → List End → Type 0
 TellsAll shape lines ends =
     (run : RunRecord) → IsRunIn shape lines run → Contains (map told_at_end ends) (told_of run)
+
+-- what each of these ends tells is told at rest
+abbrev pub TellsOnly : Sizes → List Line → List End → Type 0
+TellsOnly shape lines ends =
+    (told : List RankTold) → Has (map told_at_end ends) told → IsToldAtRest shape.eager shape.ranks lines told
 
 -- what holds of all ends, if there are not too many states
 abbrev pub IfAll : (List End → Type 0) → Explored → Type 0

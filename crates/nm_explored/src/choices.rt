@@ -10,8 +10,7 @@
 //! - What may come next in a run, and is not quiet, is a move of the ranks' states
 //!   (`laws::events_are_choices`).
 //!
-//! That each of these moves is one of a run is not claimed: it is the judge's to say whether a way is a
-//! run's.
+//! That what is told at the end of a way is told by a run is a law of its own (`nm_listed::lawful`).
 
 pub mod choices;
 pub mod laws;

@@ -9,7 +9,8 @@ ghost use Rattle.nm_report.specs.Told.{told_by, told_of_rank};
 ghost use Rattle.nm_outcomes.specs.Deeds.{answer_meant, happening as happening_lem};
 ghost use Rattle.nm_outcomes.specs.Deeds.{bytes_at as bytes_at_lem};
 ghost use Rattle.nm_explored.specs.Successors.{is_withdrawn_next, message_next, spot_in};
-ghost use Rattle.nm_explored.specs.Lists.{Has, Extends};
+ghost use Rattle.nm_explored.specs.Lists.{AddsOnly, Has, Extends};
+ghost use Rattle.nm_explored.specs.Ends.{AreOnlyEnds, IsToldAmong, IsToldIn, TellsOnly};
 ghost use Rattle.nm_explored.specs.Ends.{AreAtRest, AreEnds, AreShort, IfAll, IsAtRest, IsHeldUp};
 ghost use Rattle.nm_explored.specs.Ends.{TellsAll, all_told, is_waiting as is_waiting_lem};
 ghost use Rattle.nm_explored.specs.Ends.{told_at_end, told_in};
@@ -65,7 +66,9 @@ impl Drop for End {
 
 impl End {
     /// What the ranks told, and the way.
-    pub fn into_parts(self) -> (Accounts, Vec<Step>) {
+    pub fn into_parts(self) -> (Accounts, Vec<Step>)
+        ensures { result ≡ (self.told, self.path) }
+    {
         let End { told, path } = self;
         (told, path)
     }
@@ -276,8 +279,10 @@ fn is_waiting(command: &Command) -> bool
 /// Whether the next command of a rank has no answer, if there is one.
 fn is_held_up(view: View, i: u8, rank: &Rank) -> bool
     requires { AreShort view.lines.now }
-    ensures { IsHeldUp view.entry.lines.now (spot_in view.entry.table.now view.entry.ids.now) i
+    ensures held { IsHeldUp view.entry.lines.now (spot_in view.entry.table.now view.entry.ids.now) i
         rank.now → IsTrue result }
+    ensures only { IsTrue result → IsHeldUp view.entry.lines.now
+        (spot_in view.entry.table.now view.entry.ids.now) i rank.now }
 {
     let Some(line) = line_at(view.lines, i, ran(rank.deeds())) else {
         return true;
@@ -290,9 +295,11 @@ fn is_held_up(view: View, i: u8, rank: &Rank) -> bool
 
 /// Whether no message is under way to a rank.
 fn has_no_message(view: View, i: u8, ranks: u8) -> bool
-    ensures { ((from : ℕ) → from < ranks →
+    ensures none { ((from : ℕ) → from < ranks →
         message_next (spot_in view.entry.table.now view.entry.ids.now) i from ≡ None) →
         IsTrue result }
+    ensures only { IsTrue result → (from : ℕ) → from < ranks →
+        message_next (spot_in view.entry.table.now view.entry.ids.now) i from ≡ None }
 {
     for from in 0..ranks {
         if next_message(view, i, from).is_some() {
@@ -304,8 +311,11 @@ fn has_no_message(view: View, i: u8, ranks: u8) -> bool
 
 /// Whether no message of a rank may be withdrawn.
 fn has_no_withdrawal(view: View, i: u8, rank: &Rank) -> bool
-    ensures { ((from n : ℕ) → is_withdrawn_next
+    ensures none { ((from n : ℕ) → is_withdrawn_next
         (spot_in view.entry.table.now view.entry.ids.now) i from n ≡ false) → IsTrue result }
+    ensures only { IsTrue result →
+        spot_in view.entry.table.now view.entry.ids.now i ≡ Some rank.now → (from n : ℕ) →
+        is_withdrawn_next (spot_in view.entry.table.now view.entry.ids.now) i from n ≡ false }
 {
     for a in rank.came() {
         if may_withdraw(view, i, a.env.from, a.n) {
@@ -318,8 +328,10 @@ fn has_no_withdrawal(view: View, i: u8, rank: &Rank) -> bool
 /// Whether a rank has no move left, and is at its end or held up.
 fn is_at_rest(view: View, i: u8, ranks: u8) -> bool
     requires { AreShort view.lines.now }
-    ensures { IsAtRest ranks view.entry.lines.now
+    ensures rests { IsAtRest ranks view.entry.lines.now
         (spot_in view.entry.table.now view.entry.ids.now) i → IsTrue result }
+    ensures only { IsTrue result → IsAtRest ranks view.entry.lines.now
+        (spot_in view.entry.table.now view.entry.ids.now) i }
 {
     match view.rank(i) {
         Some(rank) => {
@@ -334,8 +346,10 @@ fn is_at_rest(view: View, i: u8, ranks: u8) -> bool
 /// Whether no rank has a move left.
 fn is_end(view: View, ranks: u8) -> bool
     requires { AreShort view.lines.now }
-    ensures { AreAtRest ranks view.entry.lines.now
+    ensures rest { AreAtRest ranks view.entry.lines.now
         (spot_in view.entry.table.now view.entry.ids.now) → IsTrue result }
+    ensures only { IsTrue result → AreAtRest ranks view.entry.lines.now
+        (spot_in view.entry.table.now view.entry.ids.now) }
 {
     for i in 0..ranks {
         if !is_at_rest(view, i, ranks) {
@@ -387,6 +401,9 @@ fn push_end(
     ensures added { OnOk result (AreAtRest ranks view.entry.lines.now
         (spot_in view.entry.table.now view.entry.ids.now) → Has (map told_at_end ends.new.items)
         (all_told view.entry.lines.now (spot_in view.entry.table.now view.entry.ids.now) ranks)) }
+    ensures only { OnOk result (AddsOnly (IsToldIn ranks view.entry.lines.now
+        (spot_in view.entry.table.now view.entry.ids.now)) (map told_at_end ends.old.items)
+        (map told_at_end ends.new.items)) }
 {
     if is_end(view, ranks) {
         ends.push(end_at(alloc, search, k, view, ranks)?)?;
@@ -408,6 +425,8 @@ fn push_state(
         AreAtRest of.entry.ranks of.entry.lines.now (spot_in search.now.table ids) →
         Has (map told_at_end ends.new.items)
         (all_told of.entry.lines.now (spot_in search.now.table ids) of.entry.ranks)) }
+    ensures only { OnOk result (AddsOnly (IsToldAmong of.entry.ranks of.entry.lines.now search.now)
+        (map told_at_end ends.old.items) (map told_at_end ends.new.items)) }
 {
     match search.states.as_slice().get(k) {
         Some(state) => {
@@ -426,8 +445,10 @@ fn push_state(
 /// All ends of a search.
 fn ends_of(alloc: Global, search: &Search, of: Setting) -> Result<Vec<End>, Memory>
     requires { AreShort of.lines.now }
-    ensures { IfOk result (λ ends.
+    ensures all { IfOk result (λ ends.
         AreEnds of.entry.ranks of.entry.lines.now search.now ends.items) }
+    ensures only { IfOk result (λ ends.
+        AreOnlyEnds of.entry.ranks of.entry.lines.now search.now ends.items) }
 {
     let mut ends = Vec::new(alloc);
     for k in 0..search.states.as_slice().len() {
@@ -486,13 +507,16 @@ fn all_ends(alloc: Global, search: &Search, of: Setting) -> Result<Explored, Mem
     requires { AreShort of.lines.now }
     ensures all { IfOk result
         (IfAll (AreEnds of.entry.ranks of.entry.lines.now search.now)) }
+    ensures only { IfOk result
+        (IfAll (AreOnlyEnds of.entry.ranks of.entry.lines.now search.now)) }
     ensures found { IfOk result IsAll }
 {
     let items = ends_of(alloc, search, of)?;
     Ok(Explored::All(Ends { items }))
 }
 
-/// The ends of a script: all that its ranks can tell, and a way to each. Where its ranks come into more
+/// The ends of a script: all that its ranks can tell, and a way to each. What an end tells is told at a
+/// state that moves lead to, at which no rank has a move left. Where its ranks come into more
 /// than so many states, it answers that they are too many, and only there.
 pub fn explore(
     alloc: Global,
@@ -502,6 +526,7 @@ pub fn explore(
 ) -> Result<Explored, Memory>
     requires { shape.ranks ≡ script.now.ranks }
     ensures all { IfOk result (IfAll (TellsAll shape script.now.lines)) }
+    ensures only { IfOk result (IfAll (TellsOnly shape script.now.lines)) }
     ensures many { IfOk result
         (IfTooMany (AreTooMany shape.eager shape.ranks script.now.lines states)) }
 {

@@ -19,7 +19,11 @@
 //!   to a receive that names its sender, in a script without all of these. Each other move may as well come
 //!   behind them, and leads to the same state.
 //!
-//! Nothing is claimed of the way to an end: it is the judge's to say whether it is a run's.
+//! - Each end is told at a state that moves lead to, at which no rank has a move left (`TellsOnly`). That
+//!   such an end is a run's is said by `nm_listed::lawful`.
+//!
+//! Nothing is claimed of the way that goes with an end: it is the judge's to say whether the record that is
+//! made of it is a run's.
 #![tactic(auto)]
 
 pub mod choices;

@@ -2,9 +2,10 @@
 use Rattle.std.proofs.Common.{List, ℕ, sym, subst}
 use Rattle.nm_types.specs.declared.scripts.Line.{Line}
 use Rattle.nm_types.specs.Limits.{IsScript}
-use Rattle.nm_explored.specs.Ends.{AreEnds, AreShort, IfAll, TellsAll}
+use Rattle.nm_explored.specs.Ends.{AreEnds, AreOnlyEnds, AreShort, IfAll, TellsAll, TellsOnly}
 use Rattle.nm_explored.specs.Met.{AreTooMany, IfTooMany, IsAll}
 use Rattle.nm_explored.proofs.MetLemmas.{all_not_many, too_many_of}
+use Rattle.nm_explored.proofs.RestedLemmas.{tells_only}
 use Rattle.nm_explored.proofs.ExpandLemmas.{explored_by}
 use Rattle.nm_explored.proofs.TellLemmas.{all_weaker, explore_tells, ok_weaker, script_short}
 use Rattle.nm_explored.proofs.ends.explore.Goals as goal
@@ -32,6 +33,22 @@ returns-then-all-clause-all c =
     c.eager.result c.ranks.result c.as_slice.result.now c.run.new.self c.eager.ensures.value c.ranks.ensures.value
     c.as_slice.ensures explored ends are))
     c.all_ends.result c.all_ends.ensures.all
+
+-- .. and nothing but what is told at rest
+pub returns-then-all-clause-only : goal.returns-then-all-clause-only
+returns-then-all-clause-only c =
+    let short : AreShort c.as_slice.result.now =
+    subst (λ (ls : List Line). AreShort ls) (sym c.as_slice.ensures)
+    (script_short c.args.script.now.ranks c.args.script.now.lines c.args.script.now.limits) in
+    ok_weaker (IfAll (AreOnlyEnds c.ranks.result c.as_slice.result.now c.run.new.self))
+    (IfAll (TellsOnly c.args.shape c.args.script.now.lines))
+    (all_weaker (AreOnlyEnds c.ranks.result c.as_slice.result.now c.run.new.self)
+    (TellsOnly c.args.shape c.args.script.now.lines)
+    (tells_only c.args.shape c.args.script.now.lines c.eager.result c.ranks.result c.as_slice.result.now c.run.new.self
+    c.eager.ensures.value c.ranks.ensures.value c.as_slice.ensures
+    (c.in_ok-all.ensures.made short.count short.sends
+    (c.in_ok-search.ensures.made c.eager.result c.as_slice.result.now))))
+    c.all_ends.result c.all_ends.ensures.only
 
 -- .. and one that gave up met too many states
 pub returns-clause-many : goal.returns-clause-many

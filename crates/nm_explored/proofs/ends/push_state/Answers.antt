@@ -6,8 +6,10 @@ use Rattle.nm_types.proofs.ListLemmas.{place_below}
 use Rattle.nm_outcomes.specs.RankStates.{Spot}
 use Rattle.nm_explored.specs.Successors.{spot_in}
 use Rattle.nm_explored.specs.Lists.{Has}
-use Rattle.nm_explored.specs.Ends.{AreAtRest, all_told, told_at_end}
+use Rattle.nm_explored.specs.Ends.{AreAtRest, IsToldAmong, IsToldIn, all_told, told_at_end}
+use Rattle.nm_explored.proofs.KeptLemmas.{only_weaker}
 use Rattle.nm_explored.specs.Stores.{Store}
+use Rattle.nm_explored.proofs.RestedLemmas.{state_there}
 use Rattle.nm_explored.proofs.StoreLemmas.{looked_up}
 use Rattle.nm_explored.proofs.ends.push_state.Goals as goal
 
@@ -43,3 +45,28 @@ returns-in-None-clause-added c ids here rest =
     let below = place_below c.as_slice.result.now c.args.k ids
     (ap (λ (ss : List (List ℕ)). slice_get ss c.args.k) states ∙ here) in
     absurd (omega (arith, past, below))
+
+pub returns-in-Some-clause-only : goal.returns-in-Some-clause-only
+returns-in-Some-clause-only c =
+    on_ok
+    (only_weaker
+    (IsToldIn c.args.of.ranks c.args.of.lines.now
+    (spot_in c.as_slice-in-Some.result.now c.as_slice-in-Some-2.result.now))
+    (IsToldAmong c.args.of.ranks c.args.of.lines.now c.args.search.now)
+    (map told_at_end c.args.ends.now.items) (map told_at_end c.push_end.new.ends.items)
+    (λ told is.
+    let table : c.as_slice-in-Some.result.now ≡ c.args.search.now.table =
+    c.as_slice-in-Some.ensures ∙ ap (λ (s : Store). s.table) c.search.view_is in
+    let states : c.as_slice.result.now ≡ c.args.search.now.states =
+    c.as_slice.ensures ∙ ap (λ (s : Store). s.states) c.search.view_is in
+    let own : c.as_slice-in-Some-2.result.now ≡ c.in-Some.state.now =
+    c.as_slice-in-Some-2.ensures in (
+      c.args.k,
+      c.in-Some.state.now,
+      state_there c.as_slice.result.now c.args.search.now.states c.args.k c.in-Some.state.now states
+          c.in-Some.ensures.lookup.3.0 c.in-Some.ensures.lookup.3.1,
+      subst (λ (x : List Spot). IsToldIn c.args.of.ranks c.args.of.lines.now (spot_in x c.in-Some.state.now) told) table
+          (subst (λ (y : List ℕ). IsToldIn c.args.of.ranks c.args.of.lines.now
+          (spot_in c.as_slice-in-Some.result.now y) told) own is),
+    )))
+    c.push_end.result c.push_end.ensures.only
