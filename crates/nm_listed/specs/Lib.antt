@@ -1,3 +1,4 @@
+pub mod Ends
 pub mod Finding
 pub mod Places
 pub mod Texts

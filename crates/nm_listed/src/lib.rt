@@ -1,6 +1,7 @@
 //! The reports of the ends of a search, in the order of a dictionary and each once.
 //!
-//! `retold` goes from the steps of ranks to a record.
+//! `retold` goes from the steps of ranks to a record, and `lawful` has the law that some record tells what an end
+//! tells.
 //!
 //! # What a contract sees
 //! `Texts` is a list of texts, each a list of bytes. `specs/Finding.antt` says what was found, by
@@ -23,6 +24,7 @@
 #![tactic(auto)]
 
 mod finding;
+pub mod lawful;
 mod places;
 mod records;
 pub mod retold;

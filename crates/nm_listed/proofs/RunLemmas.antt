@@ -1,0 +1,669 @@
+-- The record of a log behind which nothing is left is of a run.
+use Rattle.std.proofs.Common.{◌≡◌, ◌⊎◌, inl, inr, ℕ, zero, suc, ◌+◌, ◌*◌, ◌<◌, ◌==◌, ◌&&◌, ◌||◌, not, Bool}
+use Rattle.std.proofs.Common.{true, false, cond}
+use Rattle.std.proofs.Common.{Option, Some, None, List, [], ◌∷◌, ◌++◌, length, map, refl, sym, ◌∙◌, ap, subst}
+use Rattle.std.proofs.Common.{arith, append_assoc}
+use Rattle.std.specs.Prelude.{if◌then◌else◌, IsTrue, MatchOption, count_by, filter_map, is_some}
+use Rattle.std.specs.Prelude.{option_and_then, option_map}
+use Rattle.std.specs.List.{AllByRecursion, cons_option, find, list_any, range_with_len, slice_get}
+use Rattle.std.specs.Bool.{OnTrue}
+use Rattle.std.specs.Option.{option_map_or}
+use Rattle.std.proofs.lemmas.Bool.{false≢true}
+use Rattle.std.proofs.lemmas.List.Folds.{list_any-append}
+use Rattle.nm_types.specs.declared.answers.Answer.TheVariants as answer
+use Rattle.nm_types.specs.declared.messages.Arrival.{Arrival}
+use Rattle.nm_types.specs.declared.messages.Envelope.{Envelope}
+use Rattle.nm_types.specs.declared.scripts.Command.{Command}
+use Rattle.nm_types.specs.declared.scripts.Command.TheVariants as command
+use Rattle.nm_types.specs.declared.scripts.Line.{Line}
+use Rattle.nm_types.specs.Commands.{Numbered, commands_of}
+use Rattle.nm_types.specs.Limits.{IsScript}
+use Rattle.nm_types.specs.Sizes.{Sizes}
+use Rattle.nm_types.proofs.ListLemmas.{get_from_map, map_length, place_below}
+use Rattle.nm_types.proofs.NumberLemmas.{same_number}
+use Rattle.nm_types.proofs.OptionLemmas.{if_each, mapped_none, no_some, same_some}
+use Rattle.nm_types.proofs.TruthLemmas.{and_left, and_right, both, not_true, or_left, or_right}
+use Rattle.nm_history.specs.declared.events.Event.{Event}
+use Rattle.nm_history.specs.declared.events.Happened.{Happened}
+use Rattle.nm_history.specs.declared.events.Happened.TheVariants as event
+use Rattle.nm_history.specs.declared.plain.Pair.{Pair}
+use Rattle.nm_history.specs.Answers.{can_go_on, live, request_at}
+use Rattle.nm_history.specs.AtEach.{AtEach}
+use Rattle.nm_history.specs.Completion.{Request, is_complete, is_here, is_taken, pair_of_receive, result_of}
+use Rattle.nm_history.specs.Completion.Request.{Receiving, Sending}
+use Rattle.nm_history.specs.Delivery.{AreDelivered, ArriveInOrder, OutAfterPair, earlier_than, is_asked}
+use Rattle.nm_history.specs.Happens.{happened, is_arrival, is_cancel, is_claim, is_out, is_recall, is_send}
+use Rattle.nm_history.specs.Happens.{is_undone, is_whole}
+use Rattle.nm_history.specs.Matching.{is_claimed, is_of_message, is_of_receive, matched_pairs}
+use Rattle.nm_history.specs.Quiescence.{AskedOver, EachPair, EachRank, EagerOver, Ended}
+use Rattle.nm_history.specs.Quiescence.{IsAnswered, IsStopped}
+use Rattle.nm_history.specs.Quiescence.{Packets, RecallsAnswered, is_kept_back, is_over, packets_of}
+use Rattle.nm_history.specs.RankRun.{EndAt, IsRankRun, NumberAt, WholeAt, is_asking, ran_lines}
+use Rattle.nm_history.specs.Sends.{Arrived, Sent, arrivals, is_ask, sends}
+use Rattle.nm_history.specs.Underway.{MayFollow, is_of_packet}
+use Rattle.nm_history.proofs.AppendLemmas.{arrivals-append, sends-append}
+use Rattle.nm_history.proofs.AtEachLemmas.{AtEach-split}
+use Rattle.nm_history.proofs.Basic.{on_test}
+use Rattle.nm_history.proofs.EarlierLemmas.{earlier_is_front}
+use Rattle.nm_history.proofs.Lasting.{by_splits}
+use Rattle.nm_history.proofs.MatchingLemmas.{matched_pairs-append}
+use Rattle.nm_history.proofs.OnceLemmas.{eqb_self}
+use Rattle.nm_history.proofs.RankRunLemmas.{rank_run-from_splits}
+use Rattle.nm_report.specs.declared.accounts.RankAccount.{RankAccount}
+use Rattle.nm_report.specs.declared.records.RunRecord.{RunRecord}
+use Rattle.nm_report.specs.Ends.{are_done, ends_of}
+use Rattle.nm_report.specs.Lawful.{IsRunIn}
+use Rattle.nm_report.specs.Told.{RankTold, Told, told_by, told_of, told_of_rank}
+use Rattle.nm_outcomes.specs.Logs.{Step, history_in}
+use Rattle.nm_outcomes.specs.Paths.{AreCommands}
+use Rattle.nm_outcomes.specs.RankStates.{Spot, free_lem, is_that}
+use Rattle.nm_outcomes.specs.Results.{is_past_recall, is_unasked, may_end_with, may_have_left}
+use Rattle.nm_outcomes.specs.declared.spots.deeds.Deed.{Deed}
+use Rattle.nm_outcomes.specs.declared.spots.deeds.Reply.TheVariants as reply
+use Rattle.nm_outcomes.specs.Deeds.{happening}
+use Rattle.nm_outcomes.specs.Looks.{IsSaid, is_answer_by, is_recall_by}
+use Rattle.nm_outcomes.proofs.EndLemmas.{all_follow, all_rising, results_may_come}
+use Rattle.nm_outcomes.proofs.FoundLemmas.{StandAtLines, script_commands}
+use Rattle.nm_outcomes.proofs.HappenedLemmas.{sent_so, split_any}
+use Rattle.nm_outcomes.proofs.LogLemmas.{all_delivered}
+use Rattle.nm_outcomes.proofs.SaidLemmas.{first_own, said}
+use Rattle.nm_outcomes.proofs.SentLemmas.{sends_numbered, sent_place}
+use Rattle.nm_outcomes.proofs.SpotLemmas.{off_is}
+use Rattle.nm_match.specs.Deeds.{is_message}
+use Rattle.nm_explored.specs.Successors.{answer_in, result_in, seen_at, sent_at, shown_at}
+use Rattle.nm_explored.specs.Ends.{AreAtRest, all_told, is_waiting, told_in}
+use Rattle.nm_explored.specs.Lines.{line_in}
+use Rattle.nm_explored.specs.Settings.{IsAt}
+use Rattle.nm_explored.proofs.PlacedLemmas.{first_said, numbers_in}
+use Rattle.nm_explored.proofs.RestLemmas.{no_told, told_each, told_map}
+use Rattle.nm_listed.specs.Ends.{EndsAreRuns}
+use Rattle.nm_listed.proofs.AnswerLemmas.{shows_some}
+use Rattle.nm_listed.proofs.BeginLemmas.{of_line}
+use Rattle.nm_listed.proofs.FinishLemmas.{AllEnded, all_came, end_all, sends_still, spot_at}
+use Rattle.nm_listed.proofs.HushLemmas.{recall_sent}
+use Rattle.nm_listed.proofs.QuietLemmas.{asked_or_not, sent_as}
+use Rattle.nm_listed.proofs.ReachLemmas.{is_at}
+use Rattle.nm_listed.proofs.ResultLemmas.{left_said, past_said, recall_said, withdrawn_said}
+use Rattle.nm_listed.proofs.SteadyLemmas.{Begins, IsBegun, IsIdle}
+use Rattle.nm_listed.proofs.TellLemmas.{IsTold}
+use Rattle.nm_listed.proofs.WayLemmas.{way_reached}
+
+-- what holds at each place holds of all
+all_from : {X : Type 0} (P : X → Type 0) (xs : List X) → ((k : ℕ) (x : X) → slice_get xs k ≡ Some x → P x) →
+    AllByRecursion P xs
+all_from P [] each = tt
+all_from P (x ∷ xs) each = (each 0 x refl, all_from P xs (λ k y here. each (suc k) y here))
+
+-- the numbers of a range
+range_long : (a n : ℕ) → length (range_with_len a n) ≡ n
+range_long a zero = refl
+range_long a (suc n) = ap suc (range_long (a + 1) n)
+
+range_at : (a n k x : ℕ) → slice_get (range_with_len a n) k ≡ Some x → (x ≡ a + k) × (k < n)
+range_at a zero k x here = absurd (no_some x here)
+range_at a (suc n) zero x here = (let same : a ≡ x = same_some a x here in omega (arith, same), omega arith)
+range_at a (suc n) (suc k) x here =
+    let more = range_at (a + 1) n k x here in
+    let one = more.0 in
+    let two = more.1 in
+    (omega (arith, one), omega (arith, two))
+
+map_twice : {X Y Z : Type 0} (f : X → Y) (g : Y → Z) (xs : List X) → map g (map f xs) ≡ map (λ x. g (f x)) xs
+map_twice f g [] = refl
+map_twice {X} {Y} {Z} f g (x ∷ xs) = ap (λ (zs : List Z). g (f x) ∷ zs) (map_twice f g xs)
+
+map_same : {X : Type 0} (f : X → X) → ((x : X) → f x ≡ x) → (xs : List X) → map f xs ≡ xs
+map_same f same [] = refl
+map_same {X} f same (x ∷ xs) =
+    ap (λ (y : X). y ∷ map f xs) (same x) ∙ ap (λ (ys : List X). x ∷ ys) (map_same f same xs)
+
+unasked_here : (ss : List Sent) (k : ℕ) (s : Sent) → slice_get ss k ≡ Some s → is_ask s.how ≡ false →
+    is_unasked ss s.n ≡ true
+unasked_here [] k s here plain = absurd (no_some s here)
+unasked_here (x ∷ ss) zero s here plain =
+    or_left (x.n == s.n && not (is_ask x.how)) _
+    (ap (λ (x : Sent). x.n == s.n && not (is_ask x.how)) (same_some x s here)
+    ∙ both (s.n == s.n) (not (is_ask s.how)) (eqb_self s.n) (ap not plain))
+unasked_here (x ∷ ss) (suc k) s here plain =
+    or_right (x.n == s.n && not (is_ask x.how)) _ (unasked_here ss k s here plain)
+
+asked_here : (ss : List Sent) (k : ℕ) (s : Sent) → slice_get ss k ≡ Some s → is_ask s.how ≡ true →
+    is_asked ss s.n ≡ true
+asked_here [] k s here ask = absurd (no_some s here)
+asked_here (x ∷ ss) zero s here ask =
+    or_left (x.n == s.n && is_ask x.how) _
+    (ap (λ (x : Sent). x.n == s.n && is_ask x.how) (same_some x s here)
+    ∙ both (s.n == s.n) (is_ask s.how) (eqb_self s.n) ask)
+asked_here (x ∷ ss) (suc k) s here ask = or_right (x.n == s.n && is_ask x.how) _ (asked_here ss k s here ask)
+
+module _ (shape : Sizes) (lines : List Line) (commands : AreCommands shape.ranks lines)
+    (script : IsScript shape.ranks lines) (states : List Spot)
+    (rest : AreAtRest shape.ranks lines (λ k. slice_get states k)) (log : List Step)
+    (told : IsTold shape lines log states)
+    (ended : (i : ℕ) → i < shape.ranks → (j : ℕ) → j < shape.ranks →
+    AllEnded shape lines commands script states rest i j (length (sends (history_in log i) j)) log) where
+  abbrev hist : ℕ → List Event
+  hist i = history_in log i
+
+  abbrev mine : ℕ → List Numbered
+  mine i = commands_of i lines
+
+  follows : (i : ℕ) → AtEach (λ b e. MayFollow shape (mine i) b e) (hist i)
+  follows = all_follow shape lines log told.is_log
+
+  numbers : (i : ℕ) → AtEach (λ b e. NumberAt shape.ranks b e.what) (hist i)
+  numbers = numbers_in shape lines log told.is_log
+
+  carried : (i j : ℕ) → i < shape.ranks → j < shape.ranks → AreDelivered i j (mine i) (mine j) (hist i) (hist j)
+  carried i j low below = all_delivered shape lines log told.is_log i j low below
+
+  -- the message with this number is over, as far as it can be
+  over_at : (i j : ℕ) → i < shape.ranks → j < shape.ranks → (k : ℕ) (s : Sent) →
+      slice_get (sends (hist i) j) k ≡ Some s →
+      may_have_left (hist i) (hist j) i j s.n ≡ true → is_over i j (hist i) (hist j) s.n ≡ true
+  over_at i j low below k s here left =
+      let x = spot_at shape lines commands script states rest log told i low in
+      let y = spot_at shape lines commands script states rest log told j below in
+      let inside : s.n < length (sends (hist i) j) =
+      (let small = place_below (sends (hist i) j) k s here in
+      let number = sends_numbered shape.ranks (hist i) (numbers i) j k s here in
+      omega (arith, small, number)) in
+      let end = (ended i low j below low below x.0 y.0 x.1 y.1 s.n inside).left left in
+      both (happened (is_out j s.n) (hist i)) (happened (is_whole i s.n) (hist j)) end.0 end.1
+
+  eager_over : (i j : ℕ) → i < shape.ranks → j < shape.ranks → EagerOver i j (hist i) (hist j)
+  eager_over i j low below =
+      all_from (λ (s : Sent). OnTrue (not (is_ask s.how)) (IsTrue (is_over i j (hist i) (hist j) s.n)))
+      (sends (hist i) j)
+      (λ k s here. on_test (not (is_ask s.how))
+      (λ plain. over_at i j low below k s here
+      (or_left (is_unasked (sends (hist i) j) s.n) _
+      (unasked_here (sends (hist i) j) k s here (not_ask (is_ask s.how) plain)))))
+    where
+      not_ask : (b : Bool) → not b ≡ true → b ≡ false
+      not_ask false is = refl
+      not_ask true is = absurd (false≢true is)
+
+  -- a message that was asked for has left only where a receive has it
+  taken_by_now : (i j n stamp : ℕ) → is_taken (earlier_than stamp (hist j)) i n ≡ true → is_taken (hist j) i n ≡ true
+  taken_by_now i j n stamp was =
+      let front = earlier_is_front stamp (hist j) (all_rising shape lines log told.is_log j) in
+      let more = matched_pairs-append (earlier_than stamp (hist j)) front.0 in
+      ap (λ (h : List Event). list_any (is_of_message i n) (matched_pairs h)) front.1
+      ∙ ap (λ (ps : List Pair). list_any (is_of_message i n) ps) more.1
+      ∙ list_any-append (is_of_message i n) (matched_pairs (earlier_than stamp (hist j))) more.0
+      ∙ or_left (is_taken (earlier_than stamp (hist j)) i n) (list_any (is_of_message i n) more.0) was
+
+  out_taken : (i j : ℕ) → i < shape.ranks → j < shape.ranks → (n : ℕ) → is_asked (sends (hist i) j) n ≡ true →
+      happened (is_out j n) (hist i) ≡ true → is_taken (hist j) i n ≡ true
+  out_taken i j low below n asked out =
+      let at = split_any (is_out j n) (hist i) out in
+      by_event at.1.what at.1.stamp at.0 at.2 at.3 at.4
+      (AtEach-split (λ b e. OutAfterPair i j (hist j) b e.stamp e.what) at.0 at.1 at.2
+      (subst (λ (h : List Event). AtEach (λ b e. OutAfterPair i j (hist j) b e.stamp e.what) h) at.3
+      (carried i j low below).outs))
+      (AtEach-split (λ b e. MayFollow shape (mine i) b e) at.0 at.1 at.2
+      (subst (λ (h : List Event). AtEach (λ b e. MayFollow shape (mine i) b e) h) at.3 (follows i))).ends
+    where
+      by_event : (what : Happened) (stamp : ℕ) (before after : List Event) →
+          hist i ≡ before ++ record { stamp = stamp; what = what } ∷ after → is_out j n what ≡ true →
+          OutAfterPair i j (hist j) before stamp what → EndAt before what → is_taken (hist j) i n ≡ true
+      by_event (event.Out to m) stamp before after split is right ends =
+          let one : to ≡ j = same_number to j (and_left (to == j) (m == n) is) in
+          let two : m ≡ n = same_number m n (and_right (to == j) (m == n) is) in
+          let sent : happened (is_send j n) before ≡ true =
+          subst (λ (k : ℕ). happened (is_send k n) before ≡ true) one
+          (subst (λ (k : ℕ). happened (is_send to k) before ≡ true) two ends.1) in
+          by_how (sent_so j n before sent)
+          (subst (λ (k : ℕ). OnTrue (to == j && is_asked (sends before j) k)
+          (IsTrue (is_taken (earlier_than stamp (hist j)) i k))) two right) (and_left (to == j) (m == n) is)
+        where
+          by_how : (is_asked (sends before j) n ≡ true) ⊎ (is_unasked (sends before j) n ≡ true) →
+              OnTrue (to == j && is_asked (sends before j) n) (IsTrue (is_taken (earlier_than stamp (hist j)) i n)) →
+              (to == j) ≡ true → is_taken (hist j) i n ≡ true
+          by_how (inl asked') right same =
+              taken_by_now i j n stamp
+              (subst (λ (b : Bool). OnTrue b (IsTrue (is_taken (earlier_than stamp (hist j)) i n)))
+              (both (to == j) (is_asked (sends before j) n) same asked') right)
+          by_how (inr plain) right same =
+              absurd (asked_or_not (hist i) j n (sends_numbered shape.ranks (hist i) (numbers i)) asked
+              (ap (λ (h : List Event). is_unasked (sends h j) n) split
+              ∙ ap (λ (ss : List Sent). is_unasked ss n)
+              (sends-append before (record { stamp = stamp; what = event.Out to m } ∷ after) j)
+              ∙ list_any-append (λ (s : Sent). s.n == n && not (is_ask s.how)) (sends before j) _
+              ∙ or_left (is_unasked (sends before j) n) _ plain))
+      by_event what stamp before after split is right ends = absurd (false≢true is)
+
+  -- .. and is whole only there
+  came_asking : (i j : ℕ) → i < shape.ranks → j < shape.ranks → (n k : ℕ) (s : Sent) →
+      slice_get (sends (hist i) j) k ≡ Some s → s.n ≡ n → is_ask s.how ≡ true → (before after : List Event) →
+      hist j ≡ before ++ after → happened (is_arrival i n) before ≡ true → happened (is_asking i n) before ≡ true
+  came_asking i j low below n k s here number ask before after split came =
+      let at = split_any (is_arrival i n) before came in
+      by_event at.1.what at.1.stamp at.0 at.2 at.3 at.4
+    where
+      whole : (b rest : List Event) (stamp : ℕ) (what : Happened) →
+          before ≡ b ++ record { stamp = stamp; what = what } ∷ rest →
+          hist j ≡ b ++ record { stamp = stamp; what = what } ∷ (rest ++ after)
+      whole b rest stamp what is =
+          split ∙ ap (λ (h : List Event). h ++ after) is
+          ∙ append_assoc b (record { stamp = stamp; what = what } ∷ rest) after
+
+      by_event : (what : Happened) (stamp : ℕ) (b rest : List Event) →
+          before ≡ b ++ record { stamp = stamp; what = what } ∷ rest → is_arrival i n what ≡ true →
+          happened (is_asking i n) before ≡ true
+      by_event (event.Arrive a) stamp b rest is so =
+          let from : (a.env.from == i) ≡ true = and_left (a.env.from == i) (a.n == n) so in
+          let same : a.n ≡ n = same_number a.n n (and_right (a.env.from == i) (a.n == n) so) in
+          let at : hist j ≡ b ++ record { stamp = stamp; what = event.Arrive a } ∷ (rest ++ after) =
+          whole b rest stamp (event.Arrive a) is in
+          let counted : NumberAt shape.ranks b (event.Arrive a) =
+          AtEach-split (λ b e. NumberAt shape.ranks b e.what) b (record { stamp = stamp; what = event.Arrive a })
+          (rest ++ after)
+          (subst (λ (h : List Event). AtEach (λ b e. NumberAt shape.ranks b e.what) h) at (numbers j)) in
+          let place : length (arrivals b i) ≡ n =
+          ap (λ (x : ℕ). length (arrivals b x)) (sym (same_number a.env.from i from)) ∙ sym counted.1 ∙ same in
+          let order : arrivals (hist j) i
+          ≡ arrivals b i ++ record { stamp = stamp; arrival = a } ∷ arrivals (rest ++ after) i =
+          ap (λ (h : List Event). arrivals h i) at
+          ∙ arrivals-append b (record { stamp = stamp; what = event.Arrive a } ∷ (rest ++ after)) i
+          ∙ ap (λ (c : Bool). arrivals b i ++ cond c
+          (record { stamp = stamp; arrival = a } ∷ arrivals (rest ++ after) i)
+          (arrivals (rest ++ after) i)) from in
+          let sent = sent_as i (sends (hist i) j) (arrivals b i) (record { stamp = stamp; arrival = a })
+          (arrivals (rest ++ after) i)
+          (subst (λ (as' : List Arrived). ArriveInOrder i (sends (hist i) j) as') order
+          (carried i j low below).messages) in
+          let spot : k ≡ length (arrivals b i) =
+          sym (sends_numbered shape.ranks (hist i) (numbers i) j k s here) ∙ number ∙ sym place in
+          let one : s ≡ sent.0 =
+          same_some s sent.0 (sym here ∙ ap (λ (x : ℕ). slice_get (sends (hist i) j) x) spot ∙ sent.1) in
+          ap (λ (h : List Event). happened (is_asking i n) h) is
+          ∙ list_any-append (λ (e : Event). is_asking i n e.what) b
+          (record { stamp = stamp; what = event.Arrive a } ∷ rest)
+          ∙ or_right (happened (is_asking i n) b) _
+          (or_left (a.env.from == i && a.n == n && is_ask a.env.how) _
+          (both (a.env.from == i && a.n == n) (is_ask a.env.how) so
+          (ap (λ (e : Envelope). is_ask e.how) sent.2 ∙ ap (λ (x : Sent). is_ask x.how) (sym one) ∙ ask)))
+      by_event what stamp b rest is so = absurd (false≢true so)
+
+  whole_taken : (i j : ℕ) → i < shape.ranks → j < shape.ranks → (k : ℕ) (s : Sent) →
+      slice_get (sends (hist i) j) k ≡ Some s → is_ask s.how ≡ true → happened (is_whole i s.n) (hist j) ≡ true →
+      is_taken (hist j) i s.n ≡ true
+  whole_taken i j low below k s here ask whole =
+      let at = split_any (is_whole i s.n) (hist j) whole in
+      by_event at.1.what at.1.stamp at.0 at.2 at.3 at.4
+      (AtEach-split (λ b e. MayFollow shape (mine j) b e) at.0 at.1 at.2
+      (subst (λ (h : List Event). AtEach (λ b e. MayFollow shape (mine j) b e) h) at.3 (follows j))).wholes
+    where
+      by_event : (what : Happened) (stamp : ℕ) (before after : List Event) →
+          hist j ≡ before ++ record { stamp = stamp; what = what } ∷ after → is_whole i s.n what ≡ true →
+          WholeAt before what → is_taken (hist j) i s.n ≡ true
+      by_event (event.Whole from m) stamp before after split is right =
+          let one : from ≡ i = same_number from i (and_left (from == i) (m == s.n) is) in
+          let two : m ≡ s.n = same_number m s.n (and_right (from == i) (m == s.n) is) in
+          let right2 : WholeAt before (event.Whole i s.n) =
+          subst (λ (x : ℕ). WholeAt before (event.Whole x s.n)) one
+          (subst (λ (y : ℕ). WholeAt before (event.Whole from y)) two right) in
+          let asking = came_asking i j low below s.n k s here refl ask before
+          (record { stamp = stamp; what = event.Whole from m } ∷ after) split right2.1 in
+          let taken : is_taken before i s.n ≡ true =
+          subst (λ (b : Bool). OnTrue b (IsTrue (is_taken before i s.n))) asking right2.2 in
+          let more = matched_pairs-append before (record { stamp = stamp; what = event.Whole from m } ∷ after) in
+          ap (λ (h : List Event). list_any (is_of_message i s.n) (matched_pairs h)) split
+          ∙ ap (λ (ps : List Pair). list_any (is_of_message i s.n) ps) more.1
+          ∙ list_any-append (is_of_message i s.n) (matched_pairs before) more.0
+          ∙ or_left (is_taken before i s.n) _ taken
+      by_event what stamp before after split is right = absurd (false≢true is)
+
+  asked_over : (i j : ℕ) → i < shape.ranks → j < shape.ranks → AskedOver i j (hist i) (hist j)
+  asked_over i j low below =
+      all_from (λ (s : Sent).
+      OnTrue (is_ask s.how && is_taken (hist j) i s.n) (IsTrue (is_over i j (hist i) (hist j) s.n))
+      × OnTrue (is_ask s.how && is_claimed (hist j) (matched_pairs (hist j)) i s.n)
+      (IsTrue (is_kept_back i j (hist i) (hist j) s.n))) (sends (hist i) j)
+      (λ k s here. (
+        on_test (is_ask s.how && is_taken (hist j) i s.n)
+            (λ is. over_at i j low below k s here
+            (or_right (is_unasked (sends (hist i) j) s.n) _ (and_right (is_ask s.how) (is_taken (hist j) i s.n) is))),
+        on_test (is_ask s.how && is_claimed (hist j) (matched_pairs (hist j)) i s.n)
+            (λ is. kept k s here (and_left (is_ask s.how) _ is)
+            (not_taken (is_taken (hist j) i s.n) (and_right (happened (is_claim i s.n) (hist j)) _
+            (and_right (is_ask s.how) _ is)))),
+      ))
+    where
+      not_taken : (b : Bool) → not b ≡ true → b ≡ false
+      not_taken false is = refl
+      not_taken true is = absurd (false≢true is)
+
+      kept : (k : ℕ) (s : Sent) → slice_get (sends (hist i) j) k ≡ Some s → is_ask s.how ≡ true →
+          is_taken (hist j) i s.n ≡ false → is_kept_back i j (hist i) (hist j) s.n ≡ true
+      kept k s here ask open' =
+          both (not (happened (is_out j s.n) (hist i))) (not (happened (is_whole i s.n) (hist j)))
+          (ap not (not_true _ (λ out.
+          false≢true (sym open' ∙ out_taken i j low below s.n (asked_here (sends (hist i) j) k s here ask) out))))
+          (ap not (not_true _ (λ whole. false≢true (sym open' ∙ whole_taken i j low below k s here ask whole))))
+
+  recalls_answered : (i : ℕ) → i < shape.ranks → RecallsAnswered (hist i)
+  recalls_answered i low =
+      by_splits (λ e. IsAnswered (hist i) e.what) (hist i) [] (hist i) refl
+      (λ b e after split. by_event e.what e.stamp b after split)
+    where
+      by_event : (what : Happened) (stamp : ℕ) (b after : List Event) →
+          hist i ≡ b ++ record { stamp = stamp; what = what } ∷ after → IsAnswered (hist i) what
+      by_event (event.Recall to n) stamp b after split =
+          let recalled : happened (is_recall to n) (hist i) ≡ true =
+          ap (λ (h : List Event). happened (is_recall to n) h) split
+          ∙ list_any-append (λ (e : Event). is_recall to n e.what) b
+          (record { stamp = stamp; what = event.Recall to n } ∷ after)
+          ∙ or_right (happened (is_recall to n) b) _
+          (or_left (to == to && n == n) _ (both (to == to) (n == n) (eqb_self to) (eqb_self n))) in
+          let sent = recall_sent shape (mine i) (hist i) (follows i) to n recalled in
+          let place = sent_place (hist i) to n sent in
+          let below : to < shape.ranks = ((told.steady i).sent to place.0 place.1 place.2).3 in
+          let inside : n < length (sends (hist i) to) =
+          (let small = place_below (sends (hist i) to) place.0 place.1 place.2 in
+          let number = sends_numbered shape.ranks (hist i) (numbers i) to place.0 place.1 place.2 in
+          let same = same_number place.1.n n place.3 in
+          omega (arith, small, number, same)) in
+          let x = spot_at shape lines commands script states rest log told i low in
+          let y = spot_at shape lines commands script states rest log told to below in
+          (ended i low to below low below x.0 y.0 x.1 y.1 n inside).recalls recalled
+      by_event what stamp b after split = tt
+
+  -- one rank
+  module _ (i : ℕ) (low : i < shape.ranks) where
+    abbrev spot : Spot
+    spot = (spot_at shape lines commands script states rest log told i low).0
+
+    here : slice_get states i ≡ Some spot
+    here = (spot_at shape lines commands script states rest log told i low).1
+
+    at : IsAt shape lines log (λ k. slice_get states k) i spot
+    at = is_at shape lines commands script log states told i low spot here
+
+    say : IsSaid lines (hist i) spot
+    say = said lines (hist i) spot at.is
+
+    -- the next command is held up
+    held : (x : Numbered) → slice_get (mine i) (length (ran_lines (hist i))) ≡ Some x →
+        (is_waiting x.command ≡ true) × (answer_in (λ k. slice_get states k) lines i spot x.line x.command ≡ None)
+    held x next =
+        (rest i low).held spot here x.line x.command
+        (ap (λ (k : ℕ). line_in lines i k) say.ran ∙ ap (λ (o : Option Numbered). option_map (λ c. c.line) o) next)
+        (commands.stand i (length (ran_lines (hist i))) x next)
+
+    idle_end : IsIdle (hist i)
+    idle_end = by_stage (told.steady i).stage
+      where
+        never : (c : Command) (line : ℕ) (last : Happened) → is_waiting c ≡ true →
+            Begins shape.eager (mine i) (hist i) line c last → ⊥
+        never (command.Wait q) line last waits begun = begun
+        never (command.Await from tag ctx) line last waits begun = begun
+        never (command.Send q to tag ctx body sync) line last waits begun = false≢true waits
+        never (command.Recv q from tag ctx cap) line last waits begun = false≢true waits
+        never (command.Test q) line last waits begun = begun
+        never (command.Probe from tag ctx) line last waits begun = begun
+        never (command.Cancel q) line last waits begun = false≢true waits
+        never (command.Mprobe m from tag ctx) line last waits begun = false≢true waits
+        never (command.Mrecv q m cap) line last waits begun = false≢true waits
+
+        by_stage : IsIdle (hist i) ⊎ IsBegun shape.eager (mine i) (hist i) → IsIdle (hist i)
+        by_stage (inl idle) = idle
+        by_stage (inr b) =
+            absurd (never b.command.command b.command.line b.last (held b.command b.next).0 b.begun)
+
+    -- a request that can't end is not complete
+    not_complete : (q : ℕ) (request : Request) → live (mine i) (hist i) q ≡ Some request →
+        result_in (λ k. slice_get states k) i spot request ≡ None → is_complete (hist i) request ≡ false
+    not_complete q (Receiving number) live_is none =
+        by_off (happened (is_cancel number) (hist i)) (pair_of_receive (hist i) number) refl
+        (sym (ap (λ (b : Bool). if b then Some reply.Cancelled
+        else option_and_then (shown_at (λ k. slice_get states k) i) (find (is_of_receive number) spot.pairs))
+        (off_is lines (hist i) spot at.is number)
+        ∙ ap (λ (o : Option Pair). if happened (is_cancel number) (hist i) then Some reply.Cancelled
+        else option_and_then (shown_at (λ k. slice_get states k) i) o) (at.is.paired number)) ∙ none)
+      where
+        some_none : {X : Type 0} (x : X) → Some x ≡ None → ⊥
+        some_none x is = no_some x (sym is)
+
+        by_off : (b : Bool) (o : Option Pair) → pair_of_receive (hist i) number ≡ o →
+            (if b then Some reply.Cancelled else option_and_then (shown_at (λ k. slice_get states k) i) o) ≡ None →
+            (b || option_map_or (is_here (hist i)) o false) ≡ false
+        by_off true o found none = absurd (some_none reply.Cancelled none)
+        by_off false None found none = refl
+        by_off false (Some pair) found none =
+            let shows = shows_some shape lines commands script states i low spot here log told number pair found in
+            absurd (some_none shows.0 (sym shows.1 ∙ none))
+    not_complete q (Sending to n) live_is none = not_true _ (λ complete. by_result complete)
+      where
+        line : (line : ℕ) × (request_at (hist i) line ≡ Some (Sending to n))
+        line = of_line (request_at (hist i)) _ (Sending to n) live_is
+
+        below : to < shape.ranks
+        below = at.within line.0 to n line.1
+
+        other : (x : Spot) × (slice_get states to ≡ Some x)
+        other = spot_at shape lines commands script states rest log told to below
+
+        some_none : {X : Type 0} (x : X) → Some x ≡ None → ⊥
+        some_none x is = no_some x (sym is)
+
+        may : may_end_with (history_in log) i (Sending to n) ≡ None
+        may =
+            ap (λ (b : Bool). if b then Some answer.Cancelled
+            else if may_have_left (hist i) (hist to) i to n
+            && (not (happened (is_recall to n) (hist i)) || is_past_recall (hist to) i n)
+            then Some answer.Sent else None)
+            (sym (withdrawn_said shape lines commands script states i low spot here to n below other.0 other.1 log
+            told))
+            ∙ by_flags (list_any (is_that i n) other.0.withdrawn)
+            (may_have_left (hist i) (hist to) i to n
+            && (not (happened (is_recall to n) (hist i)) || is_past_recall (hist to) i n))
+            (sym (ap (λ (o : Option Spot). option_and_then (λ other. sent_at spot other i to n) o) other.1
+            ∙ ap (λ (b : Bool). if list_any (is_that i n) other.0.withdrawn then Some reply.Cancelled
+            else if b && (not (list_any (is_recall_by to n) spot.deeds)
+            || (list_any (is_message i n) other.0.came && not (free_lem other.0 i n)))
+            then Some reply.Sent else None)
+            (left_said shape lines commands script states i low spot here to n below other.0 other.1 log told)
+            ∙ ap (λ (b : Bool). if list_any (is_that i n) other.0.withdrawn then Some reply.Cancelled
+            else if may_have_left (hist i) (hist to) i to n && (not b
+            || (list_any (is_message i n) other.0.came && not (free_lem other.0 i n)))
+            then Some reply.Sent else None)
+            (recall_said shape lines commands script states i low spot here to n below other.0 other.1 log told)
+            ∙ ap (λ (b : Bool). if list_any (is_that i n) other.0.withdrawn then Some reply.Cancelled
+            else if may_have_left (hist i) (hist to) i to n && (not (happened (is_recall to n) (hist i)) || b)
+            then Some reply.Sent else None)
+            (past_said shape lines commands script states i low spot here to n below other.0 other.1 log told)) ∙ none)
+          where
+            by_flags : (w c : Bool) →
+                (if w then Some reply.Cancelled else if c then Some reply.Sent else None) ≡ None →
+                (if w then Some answer.Cancelled else if c then Some answer.Sent else None) ≡ None
+            by_flags true c none = absurd (some_none reply.Cancelled none)
+            by_flags false true none = absurd (some_none reply.Sent none)
+            by_flags false false none = refl
+
+        by_result : is_complete (hist i) (Sending to n) ≡ true → ⊥
+        by_result complete =
+            let u : Bool = happened (is_undone to n true) (hist i) in
+            let result : result_of (hist i) (Sending to n) ≡ Some (if u then answer.Cancelled else answer.Sent) =
+            ap (λ (b : Bool). if b then Some (if u then answer.Cancelled else answer.Sent) else None) complete in
+            no_some _
+            (sym may
+            ∙ results_may_come shape lines log told.is_log i low (Sending to n) below
+            (if u then answer.Cancelled else answer.Sent) result)
+
+    stopped : IsStopped (mine i) (record {
+      at = length (ran_lines (hist i));
+      waits = option_map (λ c. c.line) (slice_get (mine i) (length (ran_lines (hist i))));
+      events = hist i;
+    })
+    stopped = by_next (slice_get (mine i) (length (ran_lines (hist i)))) refl
+      where
+        some_none : {X : Type 0} (x : X) → Some x ≡ None → ⊥
+        some_none x is = no_some x (sym is)
+
+        waits_on : (c : Command) (line : ℕ) → is_waiting c ≡ true →
+            answer_in (λ k. slice_get states k) lines i spot line c ≡ None → can_go_on (mine i) (hist i) c ≡ false
+        waits_on (command.Wait q) line waits none =
+            by_live (live (mine i) (hist i) q) refl
+            (sym (ap (λ (o : Option Request). option_map_or (result_in (λ k. slice_get states k) i spot) o
+            (Some reply.Null)) (say.live i q)) ∙ none)
+          where
+            by_live : (o : Option Request) → live (mine i) (hist i) q ≡ o →
+                option_map_or (result_in (λ k. slice_get states k) i spot) o (Some reply.Null) ≡ None →
+                option_map_or (is_complete (hist i)) o true ≡ false
+            by_live None live_is none = absurd (some_none reply.Null none)
+            by_live (Some request) live_is none = not_complete q request live_is none
+        waits_on (command.Await from tag ctx) line waits none =
+            ap (λ (o : Option Arrival). is_some o)
+            (sym (first_said lines (hist i) spot at.is from tag ctx) ∙ mapped_none seen_at _ none)
+        waits_on (command.Send q to tag ctx body sync) line waits none = absurd (false≢true waits)
+        waits_on (command.Recv q from tag ctx cap) line waits none = absurd (false≢true waits)
+        waits_on (command.Test q) line waits none = absurd (false≢true waits)
+        waits_on (command.Probe from tag ctx) line waits none = absurd (false≢true waits)
+        waits_on (command.Cancel q) line waits none = absurd (false≢true waits)
+        waits_on (command.Mprobe m from tag ctx) line waits none = absurd (false≢true waits)
+        waits_on (command.Mrecv q m cap) line waits none = absurd (false≢true waits)
+
+        by_next : (o : Option Numbered) → slice_get (mine i) (length (ran_lines (hist i))) ≡ o →
+            MatchOption o (option_map (λ (c : Numbered). c.line) o ≡ None)
+            (λ c. (option_map (λ (c : Numbered). c.line) o ≡ Some c.line)
+            × (can_go_on (mine i) (hist i) c.command ≡ false))
+        by_next None next = refl
+        by_next (Some x) next = let up = held x next in (refl, waits_on x.command x.line up.0 up.1)
+
+    own_run : IsRankRun shape (mine i) (length (ran_lines (hist i))) (hist i)
+    own_run =
+        rank_run-from_splits shape (mine i) (length (ran_lines (hist i))) (hist i)
+        (λ before e after split.
+        AtEach-split (λ b e. MayFollow shape (mine i) b e) before e after
+        (subst (λ (h : List Event). AtEach (λ b e. MayFollow shape (mine i) b e) h) split (follows i)))
+        (told.steady i).few (told.steady i).order idle_end.starts idle_end.cancels idle_end.claims
+
+    told_here : told_in lines i spot
+        ≡ record {
+          answers = filter_map (λ (e : Event). told_by e.what) (hist i);
+          waits = option_map (λ (c : Numbered). c.line) (slice_get (mine i) (length (ran_lines (hist i))));
+        }
+    told_here =
+        ap (λ (ts : List Told). record { answers = ts; waits = line_in lines i (count_by is_answer_by spot.deeds) })
+        (told_map (happening lines) spot.deeds ∙ ap (λ (ws : List Happened). filter_map told_by ws) at.is.deeds
+        ∙ sym (first_own told_by no_told (hist i)))
+        ∙ ap (λ (k : ℕ). record {
+          answers = filter_map (λ (e : Event). told_by e.what) (hist i);
+          waits = line_in lines i k;
+        }) say.ran
+
+  -- the record
+  abbrev account : ℕ → RankAccount
+  account i = record {
+    history = record { events = hist i; spare = 0 };
+    at = length (ran_lines (hist i));
+    waits = option_map (λ c. c.line) (slice_get (mine i) (length (ran_lines (hist i))));
+  }
+
+  abbrev end_at : ℕ → Ended
+  end_at i = record {
+    at = length (ran_lines (hist i));
+    waits = option_map (λ c. c.line) (slice_get (mine i) (length (ran_lines (hist i))));
+    events = hist i;
+  }
+
+  abbrev accounts : List RankAccount
+  accounts = map account (range_with_len 0 shape.ranks)
+
+  each_made : (R : ℕ → Ended → Type 0) → ((i : ℕ) → i < shape.ranks → R i (end_at i)) → EachRank R (ends_of accounts)
+  each_made R each i =
+      if_each (R i) (slice_get (ends_of accounts) i)
+      (λ e here.
+      let a = get_from_map (λ (rank : RankAccount). record {
+        at = rank.at;
+        waits = rank.waits;
+        events = rank.history.events;
+      }) accounts i e here in
+      let k = get_from_map account (range_with_len 0 shape.ranks) i a.0 a.1 in
+      let place = range_at 0 shape.ranks i k.0 k.1 in
+      let number : i ≡ k.0 = (let p = place.0 in omega (arith, p)) in
+      let same : end_at i ≡ e =
+      ap (λ (x : ℕ). end_at x) number
+      ∙ ap (λ (rank : RankAccount). record {
+        at = rank.at;
+        waits = rank.waits;
+        events = rank.history.events;
+      }) k.2 ∙ a.2 in
+      subst (λ (e : Ended). R i e) same (each i place.1))
+
+  each_two : (R : ℕ → ℕ → List Event → List Event → Type 0) →
+      ((i j : ℕ) → i < shape.ranks → j < shape.ranks → R i j (hist i) (hist j)) → EachPair R (ends_of accounts)
+  each_two R each =
+      each_made (λ i a. EachRank (λ j b. R i j a.events b.events) (ends_of accounts))
+      (λ i low. each_made (λ j b. R i j (hist i) b.events) (λ j below. each i j low below))
+
+  abbrev run : RunRecord
+  run = record {
+    shape = shape;
+    ranks = accounts;
+    pairs = map (λ (p : Packets). record { from = p.from; to = p.to; packets = p.count })
+        (packets_of lines (ends_of accounts));
+    cells = record { total = shape.ranks * shape.cells; home = shape.ranks * shape.cells };
+    done = are_done (ends_of accounts);
+  }
+
+  pub is_run : IsRunIn shape lines run
+  is_run = record {
+    shaped = refl;
+    lawful = record {
+      one_each = map_length _ accounts ∙ map_length account (range_with_len 0 shape.ranks) ∙ range_long 0 shape.ranks;
+      rank_runs = each_made (λ i rank. IsRankRun shape (mine i) rank.at rank.events) (λ i low. own_run i low);
+      delivered = each_two (λ i j hi hj. AreDelivered i j (mine i) (mine j) hi hj) carried;
+      quiescent = record {
+        arrived = each_two (λ i j hi hj. length (arrivals hj i) ≡ length (sends hi j))
+            (λ i j low below.
+            let x = spot_at shape lines commands script states rest log told i low in
+            let y = spot_at shape lines commands script states rest log told j below in
+            all_came shape lines commands script states rest i j low below x.0 y.0 x.1 y.1 log told);
+        eager = each_two EagerOver eager_over;
+        asked = each_two AskedOver asked_over;
+        recalls = each_made (λ i rank. RecallsAnswered rank.events) recalls_answered;
+        waits = each_made (λ i rank. IsStopped (mine i) rank) stopped;
+        counts = map_twice _ _ (packets_of lines (ends_of accounts))
+            ∙ map_same _ (λ p. refl) (packets_of lines (ends_of accounts));
+      };
+    };
+    home = record { all = refl; home = refl };
+    ended = refl;
+  }
+
+  pub is_told : told_of run ≡ all_told lines (λ k. slice_get states k) shape.ranks
+  is_told =
+      map_twice account told_of_rank (range_with_len 0 shape.ranks)
+      ∙ sym (told_each (λ i. option_map (told_in lines i) (slice_get states i)) (λ i. told_of_rank (account i)) 0
+      shape.ranks
+      (λ i first last.
+      let inside : i < shape.ranks = omega (arith, last) in
+      ap (λ (o : Option Spot). option_map (told_in lines i) o) (here i inside)
+      ∙ ap (λ (t : RankTold). Some t) (told_here i inside)))
+
+-- each end is that of a run
+pub ends_are_runs : StandAtLines → EndsAreRuns
+ends_are_runs stand shape lines state script met rest =
+    let commands = script_commands shape.ranks lines stand script in
+    let reached = way_reached shape lines commands script met.0 state met.1 in
+    let told = reached.1.told in
+    let final = end_all shape lines commands script state rest reached.0 told in
+    let count : (i j : ℕ) → i < shape.ranks → j < shape.ranks →
+    length (sends (history_in reached.0 i) j) ≡ length (sends (history_in final.0 i) j) =
+    λ i j low below.
+    let x = spot_at shape lines commands script state rest reached.0 told i low in
+    let y = spot_at shape lines commands script state rest reached.0 told j below in
+    sends_still shape lines commands script state rest i j low below x.0 y.0 x.1 y.1 0 reached.0 final.0 told final.2 in
+    let ended : (i : ℕ) → i < shape.ranks → (j : ℕ) → j < shape.ranks →
+    AllEnded shape lines commands script state rest i j (length (sends (history_in final.0 i) j)) final.0 =
+    λ i low j below low' below' spot other here there n inside.
+    final.3 i low j below low' below' spot other here there n
+    (let same = count i j low below in omega (arith, inside, same)) in (
+      run shape lines commands script state rest final.0 final.2 ended,
+      is_run shape lines commands script state rest final.0 final.2 ended,
+      is_told shape lines commands script state rest final.0 final.2 ended,
+    )
