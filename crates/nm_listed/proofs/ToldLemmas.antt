@@ -1,13 +1,15 @@
 -- What is told decides the report of a run.
-use Rattle.std.proofs.Common.{◌≡◌, ℕ, ◌*◌, ◌≤◌, ◌<◌, Bool, true, false, ◌&&◌, refl, sym, ◌∙◌, ap, subst, slice_index_or}
-use Rattle.std.specs.Prelude.{◌↔◌, ◌++◌, IsTrue, List, [], ◌∷◌, Contains, is_none, map}
-use Rattle.std.specs.List.{All, list_all}
+use Rattle.std.proofs.Common.{◌≡◌, ℕ, zero, suc, ◌*◌, ◌≤◌, ◌<◌, Bool, true, false, ◌&&◌, refl, sym, ◌∙◌, ap}
+use Rattle.std.proofs.Common.{subst, slice_index_or, arith}
+use Rattle.std.specs.Prelude.{◌↔◌, ◌++◌, IsTrue, List, [], ◌∷◌, Contains, Some, is_none, length, map}
+use Rattle.std.specs.List.{All, list_all, slice_get}
 use Rattle.std.proofs.lemmas.List.{map-append}
-use Rattle.std.proofs.lemmas.List.Elements.{All-append, All-cons, All-contains, All-nil, Contains-get_or}
+use Rattle.std.proofs.lemmas.List.Elements.{All-contains, All-map, All-same, Contains-get_or}
 use Rattle.std.proofs.lemmas.Simd.{map-map}
 use Rattle.std.proofs.Math.Nat.{lt_of_not-le}
 use Rattle.nm_types.specs.declared.answers.Account.{Account}
 use Rattle.nm_types.specs.declared.scripts.Line.{Line}
+use Rattle.nm_types.specs.Limits.{IsScript}
 use Rattle.nm_types.specs.Sizes.{Sizes}
 use Rattle.nm_report.specs.declared.accounts.RankAccount.{RankAccount}
 use Rattle.nm_report.specs.declared.records.RunRecord.{RunRecord}
@@ -17,7 +19,9 @@ use Rattle.nm_report.specs.Report.{report_text}
 use Rattle.nm_report.specs.Told.{told_of, told_of_rank, told_text}
 use Rattle.nm_explored.specs.declared.ends.End.{End}
 use Rattle.nm_outcomes.specs.Outcomes.{AreOutcomes, AreRising, IsReportOfRun}
-use Rattle.nm_explored.specs.Ends.{TellsAll, told_at_end}
+use Rattle.nm_explored.specs.Lists.{Has}
+use Rattle.nm_explored.specs.Ends.{TellsAll, TellsOnly, told_at_end}
+use Rattle.nm_listed.specs.Ends.{EndsAreRuns}
 use Rattle.nm_listed.specs.Finding.{all_home, text_of_told}
 use Rattle.nm_listed.specs.Texts.{SameTexts}
 use Rattle.nm_listed.proofs.OrderLemmas.{image_is_there}
@@ -108,17 +112,37 @@ pub not_within : (b : Bool) (n m : ℕ) → (IsTrue b ↔ (n ≤ m)) → b ≡ f
 not_within b n m tests is = lt_of_not-le (λ within. let yes : b ≡ true = tests.1 within in cc)
 
 -- the text of one end more
-pub texts_more : (shape : Sizes) (lines : List Line) (texts new : List (List ℕ)) (ends : List End) (end : End)
-    (text : List ℕ) → texts ≡ map (λ end. text_of_told shape (told_at_end end)) ends →
-    All (IsReportOfRun shape lines) texts → new ≡ texts ++ text ∷ [] →
-    text ≡ text_of_told shape (told_at_end end) → IsReportOfRun shape lines text →
-    (new ≡ map (λ end. text_of_told shape (told_at_end end)) (ends ++ end ∷ []))
-    × All (IsReportOfRun shape lines) new
-texts_more shape lines texts new ends end text told lawful more is one = (
-  more ∙ ap (λ (ts : List (List ℕ)). ts ++ text ∷ []) told
-      ∙ ap (λ (t : List ℕ). map (λ end. text_of_told shape (told_at_end end)) ends ++ t ∷ []) is
-      ∙ sym (map-append (λ (end : End). text_of_told shape (told_at_end end)) ends (end ∷ [])),
-  subst (All (IsReportOfRun shape lines)) (sym more)
-      (All-append (IsReportOfRun shape lines) texts (text ∷ []) lawful
-      (All-cons (IsReportOfRun shape lines) text [] one (All-nil (IsReportOfRun shape lines)))),
-)
+pub texts_more : (shape : Sizes) (texts new : List (List ℕ)) (ends : List End) (end : End) (text : List ℕ) →
+    texts ≡ map (λ end. text_of_told shape (told_at_end end)) ends → new ≡ texts ++ text ∷ [] →
+    text ≡ text_of_told shape (told_at_end end) →
+    new ≡ map (λ end. text_of_told shape (told_at_end end)) (ends ++ end ∷ [])
+texts_more shape texts new ends end text told more is =
+    more ∙ ap (λ (ts : List (List ℕ)). ts ++ text ∷ []) told
+    ∙ ap (λ (t : List ℕ). map (λ end. text_of_told shape (told_at_end end)) ends ++ t ∷ []) is
+    ∙ sym (map-append (λ (end : End). text_of_told shape (told_at_end end)) ends (end ∷ []))
+
+-- what is told at rest is a run's, and so is its text
+pub texts_lawful : EndsAreRuns → SayWhatWasTold → (shape : Sizes) (ranks : ℕ) (lines : List Line) (ends : List End)
+    (texts : List (List ℕ)) → shape.ranks ≡ ranks → IsScript ranks lines → TellsOnly shape lines ends →
+    texts ≡ map (λ end. text_of_told shape (told_at_end end)) ends → All (IsReportOfRun shape lines) texts
+texts_lawful runs law shape ranks lines ends texts equal script only are =
+    All-same (IsReportOfRun shape lines) texts (map (λ end. text_of_told shape (told_at_end end)) ends) are
+    (All-map (IsReportOfRun shape lines) (λ end. text_of_told shape (told_at_end end)) ends
+    (λ k d below. of_end (slice_index_or ends k d) (k, at_place ends k d below)))
+  where
+    at_place : (es : List End) (k : ℕ) (d : End) → k < length es →
+        slice_get (map told_at_end es) k ≡ Some (told_at_end (slice_index_or es k d))
+    at_place [] k d below = absurd (omega (arith, below))
+    at_place (e ∷ es) zero d below = refl
+    at_place (e ∷ es) (suc k) d below = at_place es k d (omega (arith, below))
+
+    of_end : (end : End) → Has (map told_at_end ends) (told_at_end end) →
+        IsReportOfRun shape lines (text_of_told shape (told_at_end end))
+    of_end end has =
+        let rest = only (told_at_end end) has in
+        let run = runs shape lines rest.state (subst (λ (n : ℕ). IsScript n lines) (sym equal) script) rest.met
+        rest.rest in (
+          run.0,
+          run.1,
+          report_by_told law shape lines run.0 run.1 ∙ ap (text_of_told shape) (run.2 ∙ sym rest.told_is),
+        )

@@ -32,7 +32,6 @@ AreTooLong shape lines =
 abbrev pub IsFound : Sizes → List Line → Found → Type 0
 IsFound shape lines (found.All texts) = AreOutcomes shape lines texts × (total_length texts ≤ 134217728)
 IsFound shape lines found.TooLong = AreTooLong shape lines
-IsFound shape lines found.Unlawful = Unit {0}
 
 -- These bytes are the trace of a lawful run, and its report has this number, 1 for the first, among all reports that
 -- the script can have.

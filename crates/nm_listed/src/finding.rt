@@ -1,10 +1,10 @@
 //! The reports of the ends of a search.
 
-ghost use Rattle.std.specs.Prelude.{◌≡◌, All, IfOk, IfSome, map};
-ghost use Rattle.nm_explored.specs.Ends.{TellsAll, told_at_end};
-ghost use Rattle.nm_outcomes.specs.Outcomes.{IsReportOfRun};
+ghost use Rattle.std.specs.Prelude.{◌≡◌, IfOk, map};
+ghost use Rattle.nm_explored.specs.Ends.{TellsAll, TellsOnly, told_at_end};
 ghost use Rattle.nm_listed.specs.Finding.{IsFound, text_of_told};
 
+use crate::lawful::ends_are_runs;
 use crate::records::end_text;
 use crate::texts::Texts;
 use nm_explored::End;
@@ -19,38 +19,25 @@ pub enum Found {
     All(Texts),
     /// They have more than 134,217,728 bytes.
     TooLong,
-    /// The record of a way to one of the ends does not hold before the judge.
-    Unlawful,
 }
 
 /// The most bytes of all reports together.
 pub(crate) const MAX_REPORTS: usize = 134217728;
 
-/// The reports of these ends, where each is that of a run.
-fn end_texts(
-    alloc: Global,
-    script: &Script,
-    shape: Shape,
-    ends: Vec<End>,
-) -> Result<Option<Texts>, Memory>
-    requires { shape.ranks ≡ script.now.ranks }
-    ensures told { IfOk result (λ found. IfSome found (λ texts.
-        texts ≡ map (λ end. text_of_told shape (told_at_end end)) ends.items)) }
-    ensures lawful { IfOk result (λ found. IfSome found
-        (All (IsReportOfRun shape script.now.lines))) }
+/// The reports of these ends.
+fn end_texts(alloc: Global, shape: Shape, ends: Vec<End>) -> Result<Texts, Memory>
+    ensures { IfOk result (λ texts.
+        texts ≡ map (λ end. text_of_told shape (told_at_end end)) ends.items) }
 {
     let mut texts = Texts::new(alloc);
     for end in ends {
-        match end_text(alloc, script, shape, end)? {
-            Some(text) => texts.push(text)?,
-            None => return Ok(None),
-        }
+        texts.push(end_text(alloc, shape, end)?)?;
     }
-    Ok(Some(texts))
+    Ok(texts)
 }
 
-/// The reports of ends that tell all that the runs of the script can tell, each once: all reports that
-/// the script can have. It gives up where the record of a way to one of them does not hold.
+/// The reports of ends that tell all that the runs of the script can tell, and tell it at rest, each once:
+/// all reports that the script can have.
 pub fn reports(
     alloc: Global,
     script: &Script,
@@ -59,12 +46,12 @@ pub fn reports(
 ) -> Result<Found, Memory>
     requires equal { shape.ranks ≡ script.now.ranks }
     requires tells { TellsAll shape script.now.lines ends.items }
+    requires only { TellsOnly shape script.now.lines ends.items }
     ensures found { IfOk result (IsFound shape script.now.lines) }
 {
     reports_say_what_was_told();
-    let Some(mut texts) = end_texts(alloc, script, shape, ends)? else {
-        return Ok(Found::Unlawful);
-    };
+    ends_are_runs();
+    let mut texts = end_texts(alloc, shape, ends)?;
     texts.put_in_order()?;
     if texts.is_within(MAX_REPORTS) {
         Ok(Found::All(texts))

@@ -7,19 +7,20 @@
 //! `Texts` is a list of texts, each a list of bytes. `specs/Finding.antt` says what was found, by
 //! the definitions of `nm_outcomes`.
 //! # What is proved
-//! - `reports` is given ends that tell all that runs of the script can tell (`TellsAll`), and gives all
-//!   reports that the script can have in these sizes, each once, in the order of a dictionary
-//!   (`AreOutcomes`).
+//! - `reports` is given ends that tell all that runs of the script can tell (`TellsAll`), each of them
+//!   where moves lead to rest (`TellsOnly`), and gives all reports that the script can have in these sizes,
+//!   each once, in the order of a dictionary (`AreOutcomes`): what is told at rest is what a run tells
+//!   (`lawful`).
 //! - It says of reports that they have more than 134,217,728 bytes where they have.
 //! - `trace_of` is given such ends and a number, and gives the trace of a lawful run whose report is the
 //!   one with this number among them (`IsOutcomeTrace`), or says how many they are where they are fewer.
 //! - `place_of` finds a text among others; of one that is none of them it tells the first line such
 //!   that none of them begins with it and the lines before it (`IsFirstNew`).
 //!
-//! `reports` and `trace_of` give up where the record that is built of a way to an end does not hold
-//! before the judge. No clause says how often that is.
+//! `trace_of` gives up where the record that is built of a way to an end does not hold before the judge.
+//! No clause says how often that is.
 //! # What is only tested
-//! That they never give up on the ends of `nm_explored`, and that they succeed with ample memory
+//! That it never gives up on the ends of `nm_explored`, and that both succeed with ample memory
 //! (`.ci/outcomes`).
 #![tactic(auto)]
 

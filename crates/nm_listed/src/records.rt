@@ -92,14 +92,6 @@ impl Drop for Witness {
 }
 
 impl Witness {
-    /// The report alone.
-    fn into_text(self) -> Vec<u8>
-        ensures { result ≡ self.text }
-    {
-        let Witness { text, run: _ } = self;
-        text
-    }
-
     /// The report, and the run.
     pub fn into_parts(self) -> (Vec<u8>, RunRecord)
         ensures { result ≡ (self.text, self.run) }
@@ -135,21 +127,11 @@ pub(crate) fn end_run(
     Ok(Some(Witness { text, run }))
 }
 
-/// The report of an end, where the record of its path is of a run that has this report.
-pub(crate) fn end_text(
-    alloc: Global,
-    script: &Script,
-    shape: Shape,
-    end: End,
-) -> Result<Option<Vec<u8>>, Memory>
-    requires { shape.ranks ≡ script.now.ranks }
-    ensures told { IfOk result (λ found. IfSome found (λ text.
-        text.items ≡ text_of_told shape (told_at_end end))) }
-    ensures lawful { IfOk result (λ found. IfSome found (λ text.
-        IsReportOfRun shape script.now.lines text.items)) }
+/// The report of an end.
+pub(crate) fn end_text(alloc: Global, shape: Shape, end: End) -> Result<Vec<u8>, Memory>
+    ensures { IfOk result (λ text. text.items ≡ text_of_told shape (told_at_end end)) }
 {
-    match end_run(alloc, script, shape, end)? {
-        Some(witness) => Ok(Some(witness.into_text())),
-        None => Ok(None),
-    }
+    let mut end = end;
+    let told = mem::replace(&mut end.told, Accounts::new(alloc));
+    text_of(alloc, shape, told)
 }

@@ -169,7 +169,7 @@ module _ {words : List (List ℕ)} {input before after : Option (List ℕ)} {old
       (asked : Asked) → IfSome input (λ bytes. IsAnswerTo asked (read_of asked.question bytes) (Told t)) →
       IfSome input (λ bytes. (script report : List ℕ) (ranks : ℕ) (lines : List Line) →
       IsInputOf asked.question (read_of asked.question bytes) script report → IsTextOf script ranks lines →
-      OrFails (Speaks asked.question status ⊎ GivesUp status) status)
+      OrFails (Speaks asked.question status ⊎ GivesUp asked.question status) status)
   told_speaks t status e asked right =
       weaker input _ _ (λ bytes p script report ranks lines parts spelled.
       to_fails status (or_fails e (λ h. inl (subst (Speaks asked.question) (sym h)
@@ -179,7 +179,7 @@ module _ {words : List (List ℕ)} {input before after : Option (List ℕ)} {old
       Ends words input old new before after fails answer status → (asked : Asked) → IsTaken words asked →
       IfSome input (λ bytes. (script report : List ℕ) (ranks : ℕ) (lines : List Line) →
       IsInputOf asked.question (read_of asked.question bytes) script report → IsTextOf script ranks lines →
-      OrFails (Speaks asked.question status ⊎ GivesUp status) status)
+      OrFails (Speaks asked.question status ⊎ GivesUp asked.question status) status)
   tells_is law Usage status e asked taken = absurd (e.right asked taken)
   tells_is law Unread status e asked taken =
       always input _ (λ bytes script report ranks lines parts spelled. unread_fails e)
@@ -196,8 +196,9 @@ module _ {words : List (List ℕ)} {input before after : Option (List ℕ)} {old
   tells_is law (Outgrown s) status e asked taken =
       always input _ (λ bytes script report ranks lines parts spelled. to_fails status (or_fails e (λ h. inr (inl h))))
   tells_is law Unlawful status e asked taken =
-      always input _ (λ bytes script report ranks lines parts spelled.
-      to_fails status (or_fails e (λ h. inr (inr h))))
+      weaker input _ _ (λ bytes p script report ranks lines parts spelled.
+      to_fails status (or_fails e (λ h. inr (inr (h, p.right.right)))))
+      (right_of {answer = Unlawful} e asked taken e.right.asked e.right.taken e.right.right)
   tells_is law (Told t) status e asked taken =
       told_speaks t status e asked
       (right_of {answer = Told t} e asked taken e.right.asked e.right.taken e.right.right)
@@ -300,6 +301,7 @@ module _ {words : List (List ℕ)} {input before after : Option (List ℕ)} {old
               lines = p.right.lines;
               spelled = p.right.spelled;
             };
+        asks = p.right.right;
         said = w.1;
       }) (right_of {answer = Unlawful} e asked taken e.right.asked e.right.taken e.right.right)
   unlawful_is (Told t) status e asked taken h =

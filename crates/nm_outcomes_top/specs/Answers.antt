@@ -93,26 +93,31 @@ IsTelling Among shape lines report (Placed place) =
     (texts : List (List ℕ)) × AreOutcomes shape lines texts × IsPlace texts report place
 IsTelling question shape lines report telling = ⊥
 
--- What was found out is right: what is told, or that the reports that the script can have have too many bytes. Nothing
--- is said where the record of a way to an end does not hold.
+-- a trace is asked for
+abbrev pub AsksTrace : Question → Type 0
+AsksTrace (Trace number) = Unit {0}
+AsksTrace question = ⊥
+
+-- What was found out is right: what is told, or that the reports that the script can have have too many bytes. That the
+-- record of a way to an end does not hold is found out only where a trace is asked for.
 abbrev pub IsFinding : Question → Sizes → List Line → List ℕ → Finding → Type 0
 IsFinding question shape lines report (finding.Told telling) = IsTelling question shape lines report telling
 IsFinding question shape lines report finding.TooLong = AreTooLong shape lines
-IsFinding question shape lines report finding.Unlawful = Unit {0}
+IsFinding question shape lines report finding.Unlawful = AsksTrace question
 
 -- the ranks come into more states than the words allow, or all reports that the script can have have too many bytes
 abbrev pub IsOutgrowing : Asked → Sizes → List Line → Type 0
 IsOutgrowing asked shape lines =
     AreTooMany shape.eager shape.ranks lines asked.states ⊎ AreTooLong shape lines
 
--- An answer for a script is right: what is asked of its reports, or that there are too many states or bytes. Nothing
--- is said where the record of a way to an end does not hold.
+-- An answer for a script is right: what is asked of its reports, or that there are too many states or bytes. That the
+-- record of a way to an end does not hold is an answer only where a trace is asked for.
 abbrev pub IsAnswerFor : Asked → ℕ → List Line → List ℕ → Response → Type 0
 IsAnswerFor asked ranks lines report (Told telling) =
     IsTelling asked.question (sizes_for asked ranks) lines report telling
 IsAnswerFor asked ranks lines report (Outgrown states) =
     (states ≡ asked.states) × IsOutgrowing asked (sizes_for asked ranks) lines
-IsAnswerFor asked ranks lines report Unlawful = Unit {0}
+IsAnswerFor asked ranks lines report Unlawful = AsksTrace asked.question
 IsAnswerFor asked ranks lines report _ = ⊥
 
 -- the text of a script has this answer, with the given report

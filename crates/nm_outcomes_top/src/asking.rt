@@ -1,7 +1,7 @@
 //! What is asked of the reports of a script.
 
 ghost use Rattle.std.specs.Prelude.{◌≡◌, ◌≤◌, ℕ, List, IfOk};
-ghost use Rattle.nm_explored.specs.Ends.{TellsAll};
+ghost use Rattle.nm_explored.specs.Ends.{TellsAll, TellsOnly};
 ghost use Rattle.nm_outcomes_top.specs.Answers.{IsAnswerFor, IsFinding};
 ghost use Rattle.nm_outcomes_top.specs.declared.words.Question.TheVariants as question;
 ghost use Rattle.nm_outcomes_top.specs.OptionWords.{InRange, IsQuestion, sizes_for};
@@ -21,7 +21,7 @@ pub enum Finding {
     Told { telling: Telling },
     /// They have more than 134,217,728 bytes.
     TooLong,
-    /// The record of a way to one of the ends does not hold before the judge.
+    /// The record of a way to one of the ends does not hold before the judge: a trace was asked for.
     Unlawful,
 }
 
@@ -29,6 +29,7 @@ pub enum Finding {
 fn tell_all(alloc: Global, script: &Script, shape: Shape, ends: Vec<End>) -> Result<Finding, Memory>
     requires equal { shape.ranks ≡ script.now.ranks }
     requires tells { TellsAll shape script.now.lines ends.items }
+    requires only { TellsOnly shape script.now.lines ends.items }
     ensures { (report : List ℕ) → IfOk result
         (IsFinding question.All shape script.now.lines report) }
 {
@@ -37,7 +38,6 @@ fn tell_all(alloc: Global, script: &Script, shape: Shape, ends: Vec<End>) -> Res
             telling: Telling::Listed { texts },
         }),
         Found::TooLong => Ok(Finding::TooLong),
-        Found::Unlawful => Ok(Finding::Unlawful),
     }
 }
 
@@ -77,6 +77,7 @@ fn tell_place(
 ) -> Result<Finding, Memory>
     requires equal { shape.ranks ≡ script.now.ranks }
     requires tells { TellsAll shape script.now.lines ends.items }
+    requires only { TellsOnly shape script.now.lines ends.items }
     ensures { IfOk result (IsFinding question.Among shape script.now.lines report.now) }
 {
     match reports(alloc, script, shape, ends)? {
@@ -86,7 +87,6 @@ fn tell_place(
             },
         }),
         Found::TooLong => Ok(Finding::TooLong),
-        Found::Unlawful => Ok(Finding::Unlawful),
     }
 }
 
@@ -101,6 +101,7 @@ fn tell(
 ) -> Result<Finding, Memory>
     requires equal { shape.ranks ≡ script.now.ranks }
     requires tells { TellsAll shape script.now.lines ends.items }
+    requires only { TellsOnly shape script.now.lines ends.items }
     requires number { IsQuestion question }
     ensures { IfOk result (IsFinding question shape script.now.lines report.now) }
 {
@@ -124,6 +125,7 @@ fn answer_ends(
     requires range { InRange asked }
     requires sizes { shape ≡ sizes_for asked script.now.ranks }
     requires tells { TellsAll shape script.now.lines ends.items }
+    requires only { TellsOnly shape script.now.lines ends.items }
     ensures { IfOk result (IsAnswerFor asked script.now.ranks script.now.lines report.now) }
 {
     match tell(alloc, asked.question, script, shape, ends, report)? {

@@ -149,9 +149,9 @@ fn deliver<K: Sink>(sink: &mut K, due: &[u8], answer: &Response) -> u8
 /// words are not taken, 3 where the bytes spell no script, 4 where a read failed, 5 where a write
 /// failed, 6 for want of memory, 7 where there are fewer than K reports, 8 where the given report is
 /// none of them, 9 where there is no line `---` or the source has more than 67,108,864 bytes, 10
-/// where the search met more states or the reports have more than 134,217,728 bytes, and 11 where the
-/// record of a way to an end does not hold before the judge, of which no case is known. The whole
-/// text is in memory before the first write.
+/// where the search met more states or the reports have more than 134,217,728 bytes, and 11, behind
+/// `--trace K` alone, where the record of a way to an end does not hold before the judge, of which no
+/// case is known. The whole text is in memory before the first write.
 pub fn outcomes<S: Source, K: Sink>(
     alloc: Global,
     words: &[String],
@@ -180,7 +180,7 @@ pub fn outcomes<S: Source, K: Sink>(
         (lines : List script_line.Line) →
         IsInputOf asked.question (read_of asked.question bytes) script report →
         IsTextOf script ranks lines →
-        OrFails (Speaks asked.question result ⊎ GivesUp result) result) }
+        OrFails (Speaks asked.question result ⊎ GivesUp asked.question result) result) }
     ensures listed { (asked : Asked) → IsTaken (map string_bytes words.now) asked →
         asked.question ≡ question.All → (result ≡ 0) ⊎ (result ≡ 1) → IfSome (S.left source.old)
         (IsListed asked result (K.taken sink.old) (K.taken sink.new)) }

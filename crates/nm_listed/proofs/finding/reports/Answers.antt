@@ -1,10 +1,6 @@
 -- The texts of ends that tell all, in order and each once, are all reports.
-use Rattle.std.proofs.Common.{◌≡◌, map, subst}
-use Rattle.std.specs.Prelude.{All, IfSome}
-use Rattle.nm_explored.specs.Ends.{told_at_end}
-use Rattle.nm_outcomes.specs.Outcomes.{AreOutcomes, IsReportOfRun}
-use Rattle.nm_listed.specs.Finding.{text_of_told}
-use Rattle.nm_listed.proofs.ToldLemmas.{are_outcomes, not_within}
+use Rattle.nm_outcomes.specs.Outcomes.{AreOutcomes}
+use Rattle.nm_listed.proofs.ToldLemmas.{are_outcomes, not_within, texts_lawful}
 use Rattle.nm_listed.proofs.finding.reports.Goals as goal
 use Rattle.nm_listed.proofs.finding.reports.Goals.{After-is_within}
 
@@ -12,14 +8,11 @@ use Rattle.nm_listed.proofs.finding.reports.Goals.{After-is_within}
 found : (c : After-is_within) →
     AreOutcomes c.args.shape c.args.script.now.lines c.put_in_order.new.self
 found c =
-    let shape = c.args.shape in
-    are_outcomes c.reports_say_what_was_told.ensures shape c.args.script.now.lines c.args.ends.items
-    c.in-Some.texts c.put_in_order.new.self
-    (subst (λ found. IfSome found (λ texts.
-    texts ≡ map (λ end. text_of_told shape (told_at_end end)) c.args.ends.items)) c.in-Some.is
-    c.in_ok-texts.ensures.told)
-    (subst (λ found. IfSome found (All (IsReportOfRun shape c.args.script.now.lines))) c.in-Some.is
-    c.in_ok-texts.ensures.lawful)
+    are_outcomes c.reports_say_what_was_told.ensures c.args.shape c.args.script.now.lines c.args.ends.items
+    c.in_ok-texts.texts c.put_in_order.new.self c.in_ok-texts.ensures
+    (texts_lawful c.ends_are_runs.ensures c.reports_say_what_was_told.ensures c.args.shape
+    c.args.script.now.ranks c.args.script.now.lines c.args.ends.items c.in_ok-texts.texts c.requires.equal
+    c.args.script.now.limits c.requires.only c.in_ok-texts.ensures)
     c.in_ok-put_in_order.ensures.rising c.in_ok-put_in_order.ensures.same c.requires.tells
 
 pub returns-then-is_within : goal.returns-then-is_within
