@@ -1,4 +1,5 @@
 pub mod AnswerLemmas
+mod BackLemmas
 mod BehindLemmas
 mod CalmLemmas
 pub mod ChoiceLemmas

@@ -168,7 +168,7 @@ low_alike table zero id below j x here = absurd (no_item j x here)
 low_alike table (suc n) id below zero x here = subst (λ (k : ℕ). k < length table) (same_some id x here) below
 low_alike table (suc n) id below (suc j) x here = low_alike table n id below j x here
 
-states_alike : (table : List Spot) (n id : ℕ) → slice_get table id ≡ Some first_spot →
+pub states_alike : (table : List Spot) (n id : ℕ) → slice_get table id ≡ Some first_spot →
     states_in table (replicate n id) ≡ replicate n first_spot
 states_alike table zero id here = refl
 states_alike table (suc n) id here =

@@ -19,8 +19,9 @@ use Rattle.nm_sure.proofs.Lists.{any_at}
 use Rattle.nm_outcomes.specs.Looks.{is_recall_by, is_send_by}
 use Rattle.nm_outcomes.specs.RankStates.{Spot, free_lem}
 use Rattle.nm_explored.specs.declared.ends.End.{End}
-use Rattle.nm_explored.specs.Ends.{AreAtRest, AreOnlyEnds, IsAtRest, IsToldAtRest, TellsOnly, all_told}
-use Rattle.nm_explored.specs.Met.{IsMade}
+use Rattle.nm_explored.specs.Ends.{AreAtRest, AreEndsAmong, AreEndsByWay, AreOnlyEnds, IsAtRest, IsToldAtRest}
+use Rattle.nm_explored.specs.Ends.{TellsOnly, all_told, told_at_end}
+use Rattle.nm_explored.specs.Met.{AreBack, IsMade, IsWay}
 use Rattle.nm_explored.specs.Stores.{Store, states_in}
 use Rattle.nm_explored.specs.Successors.{arrival_by, is_withdrawn_next, spot_in}
 use Rattle.nm_explored.proofs.MetLemmas.{state_at}
@@ -97,3 +98,27 @@ tells_only shape lines eager ranks own store a b c made ends are told has =
       rest = subst (λ (v : ℕ → Option Spot). AreAtRest ranks own v) (λ k i. same i k) at.3.0;
       told_is = at.3.1 ∙ ap (λ (v : ℕ → Option Spot). all_told own v ranks) (λ k i. same i k);
     })))
+
+-- the moves of ends among the states of a store lead to rest
+pub ends_by_way : (shape : Sizes) (lines : List Line) (eager ranks : ℕ) (own : List Line) (store : Store) →
+    eager ≡ shape.eager → ranks ≡ shape.ranks → own ≡ lines → IsMade eager ranks own store →
+    AreBack eager ranks own store → (ends : List End) → AreEndsAmong eager ranks own store ends →
+    AreEndsByWay shape lines ends
+ends_by_way shape lines eager ranks own store a b c made back ends are end has =
+    let at = are end has in
+    let low = (made.sound at.number at.ids at.here).low in
+    let same : (i : ℕ) → spot_in store.table at.ids i ≡ slice_get (states_in store.table at.ids) i =
+    λ i. sym (state_at store.table at.ids low i) in
+    record {
+      state = states_in store.table at.ids;
+      way = subst (λ (x : ℕ). IsWay x shape.ranks lines end.path.items (states_in store.table at.ids)) a
+          (subst (λ (x : ℕ). IsWay eager x lines end.path.items (states_in store.table at.ids)) b
+          (subst (λ (x : List Line). IsWay eager ranks x end.path.items (states_in store.table at.ids)) c
+          (at.way back)));
+      rest = subst (λ (x : ℕ). AreAtRest x lines (λ i. slice_get (states_in store.table at.ids) i)) b
+          (subst (λ (x : List Line). AreAtRest ranks x (λ i. slice_get (states_in store.table at.ids) i)) c
+          (subst (λ (v : ℕ → Option Spot). AreAtRest ranks own v) (λ k i. same i k) at.told.0));
+      told = at.told.1 ∙ ap (λ (v : ℕ → Option Spot). all_told own v ranks) (λ k i. same i k)
+          ∙ ap (λ (x : List Line). all_told x (λ i. slice_get (states_in store.table at.ids) i) ranks) c
+          ∙ ap (λ (x : ℕ). all_told lines (λ i. slice_get (states_in store.table at.ids) i) x) b;
+    }

@@ -1,8 +1,8 @@
 -- Sets of states.
-use Rattle.std.proofs.Common.{◌≡◌, ◌⊎◌, ℕ, Bool, true, Some, List, [], ◌∷◌, ◌++◌, sym, ◌∙◌, ap}
-use Rattle.std.specs.Prelude.{nat_eq}
+use Rattle.std.proofs.Common.{◌≡◌, ◌⊎◌, inl, inr, ℕ, Bool, true, false, not, Some, List, [], ◌∷◌, ◌++◌, refl, sym, ◌∙◌, ap}
+use Rattle.std.specs.Prelude.{if◌then◌else◌, nat_eq}
 use Rattle.std.specs.Cmp.Lexicographic.{pointwise}
-use Rattle.std.specs.List.{IsDistinct, slice_get}
+use Rattle.std.specs.List.{IsDistinct, list_any, slice_get}
 use Rattle.std.proofs.lemmas.Cmp.{nat_list_eq_equiv}
 use Rattle.indexmap.specs.IndexSet.{insert_key}
 use Rattle.nm_types.proofs.NumberLemmas.{same_number}
@@ -30,6 +30,26 @@ ids_once xs distinct = once_in (pointwise nat_eq) nat_list_eq_equiv.refl xs dist
 pub ids_added : (xs ys : List (List ℕ)) (x : List ℕ) → ys ≡ insert_key (pointwise nat_eq) xs x →
     (ys ≡ xs) ⊎ (ys ≡ xs ++ x ∷ [])
 ids_added xs ys x is = inserted (pointwise nat_eq) xs ys x is
+
+pub ids_new : (xs ys : List (List ℕ)) (x : List ℕ) (new : Bool) → ys ≡ insert_key (pointwise nat_eq) xs x →
+    new ≡ not (list_any (pointwise nat_eq x) xs) → ys ≡ (if new then xs ++ x ∷ [] else xs)
+ids_new xs ys x new is fresh = is ∙ by_test (list_any (pointwise nat_eq x) xs) new fresh
+  where
+    by_test : (b new : Bool) → new ≡ not b → (if b then xs else xs ++ x ∷ []) ≡ (if new then xs ++ x ∷ [] else xs)
+    by_test true new fresh = rw fresh refl
+    by_test false new fresh = rw fresh refl
+
+-- what was added, by whether it is new
+pub by_new : {X : Type 0} (xs ys : List X) (x : X) (new : Bool) → ys ≡ (if new then xs ++ x ∷ [] else xs) →
+    (ys ≡ xs) ⊎ (ys ≡ xs ++ x ∷ [])
+by_new xs ys x true is = inr is
+by_new xs ys x false is = inl is
+
+pub both_new : {X Y : Type 0} (xs xs' : List X) (x : X) (ys ys' : List Y) (y : Y) (new : Bool) →
+    xs' ≡ (if new then xs ++ x ∷ [] else xs) → ys' ≡ (if new then ys ++ y ∷ [] else ys) →
+    ((xs' ≡ xs) × (ys' ≡ ys)) ⊎ ((xs' ≡ xs ++ x ∷ []) × (ys' ≡ ys ++ y ∷ []))
+both_new xs xs' x ys ys' y true one two = inr (one, two)
+both_new xs xs' x ys ys' y false one two = inl (one, two)
 
 pub ids_keep : (xs ys : List (List ℕ)) (x : List ℕ) → ys ≡ insert_key (pointwise nat_eq) xs x → Extends xs ys
 ids_keep xs ys x is = kept_in xs ys x (ids_added xs ys x is)

@@ -20,8 +20,8 @@ use Rattle.nm_explored.specs.Lines.{line_in}
 use Rattle.nm_explored.specs.declared.ends.End.{End}
 use Rattle.nm_explored.specs.declared.ends.Explored.{Explored}
 use Rattle.nm_explored.specs.declared.ends.Explored.TheVariants.{All, TooMany}
-use Rattle.nm_explored.specs.Met.{IsMet}
-use Rattle.nm_explored.specs.Stores.{Store}
+use Rattle.nm_explored.specs.Met.{AreBack, IsMet, IsWay}
+use Rattle.nm_explored.specs.Stores.{Store, states_in}
 
 -- a command that can be held up
 abbrev pub is_waiting : Command → Bool
@@ -83,6 +83,29 @@ IsToldAmong ranks lines store told =
 abbrev pub AreOnlyEnds : ℕ → List Line → Store → List End → Type 0
 AreOnlyEnds ranks lines store ends =
     (told : List RankTold) → Has (map told_at_end ends) told → IsToldAmong ranks lines store told
+
+-- an end tells what is told at one of the states of a store at which no rank has a move left, and its moves lead there
+pub record IsEndAmong (eager ranks : ℕ) (lines : List Line) (store : Store) (end : End) : Type 0 where
+  pub number : ℕ
+  pub ids : List ℕ
+  pub here : slice_get store.states number ≡ Some ids
+  pub told : IsToldIn ranks lines (spot_in store.table ids) (told_at_end end)
+  pub way : AreBack eager ranks lines store → IsWay eager ranks lines end.path.items (states_in store.table ids)
+
+-- so do all of these ends
+abbrev pub AreEndsAmong : ℕ → ℕ → List Line → Store → List End → Type 0
+AreEndsAmong eager ranks lines store ends = (end : End) → Has ends end → IsEndAmong eager ranks lines store end
+
+-- the moves of an end lead to a state at which no rank has a move left, and it tells what is told there
+pub record IsEndByWay (shape : Sizes) (lines : List Line) (end : End) : Type 0 where
+  pub state : List Spot
+  pub way : IsWay shape.eager shape.ranks lines end.path.items state
+  pub rest : AreAtRest shape.ranks lines (λ i. slice_get state i)
+  pub told : told_at_end end ≡ all_told lines (λ i. slice_get state i) shape.ranks
+
+-- so do those of all ends
+abbrev pub AreEndsByWay : Sizes → List Line → List End → Type 0
+AreEndsByWay shape lines ends = (end : End) → Has ends end → IsEndByWay shape lines end
 
 -- this is told at a state that moves lead to, at which no rank has a move left
 pub record IsToldAtRest (eager ranks : ℕ) (lines : List Line) (told : List RankTold) : Type 0 where

@@ -1,9 +1,10 @@
 -- States that the ranks of a script come into, and how many there are.
-use Rattle.std.specs.Prelude.{◌≡◌, ℕ, ◌<◌, Some, List, [], ◌∷◌, length, replicate}
+use Rattle.std.specs.Prelude.{◌≡◌, ℕ, ◌<◌, Option, Some, None, List, [], ◌∷◌, length, replicate}
 use Rattle.std.specs.List.{slice_get, slice_set}
 use Rattle.nm_types.specs.declared.scripts.Line.{Line}
 use Rattle.nm_outcomes.specs.RankStates.{Spot, first_spot}
 use Rattle.nm_explored.specs.declared.choices.moves.Turn.{Turn}
+use Rattle.nm_explored.specs.declared.stores.Way.{Way}
 use Rattle.nm_explored.specs.Moves.{IsTurn, moved_at}
 use Rattle.nm_explored.specs.declared.ends.Explored.{Explored}
 use Rattle.nm_explored.specs.declared.ends.Explored.TheVariants.{All, TooMany}
@@ -42,6 +43,28 @@ IsAll TooMany = ⊥
 pub record IsSound (eager ranks : ℕ) (lines : List Line) (table : List Spot) (ids : List ℕ) : Type 0 where
   pub low : AreLow table ids
   pub met : IsMet eager ranks lines (states_in table ids)
+
+-- the state with number k comes of one with a smaller number by the move that the store has
+pub record IsStep (eager ranks : ℕ) (lines : List Line) (store : Store) (k : ℕ) (ids : List ℕ) (way : Way) : Type 0 where
+  pub before : List ℕ
+  pub here : slice_get store.states way.before ≡ Some before
+  pub low : way.before < k
+  pub turn : IsTurn eager ranks lines (λ i. slice_get (states_in store.table before) i)
+      (record { rank = way.rank; by = way.by })
+  pub state :
+      states_in store.table ids
+      ≡ slice_set (states_in store.table before) way.rank (moved_at turn.spot way.by)
+
+-- .. or is the first one
+abbrev pub IsBack : ℕ → ℕ → List Line → Store → ℕ → List ℕ → Option Way → Type 0
+IsBack eager ranks lines store k ids None = states_in store.table ids ≡ replicate ranks first_spot
+IsBack eager ranks lines store k ids (Some way) = IsStep eager ranks lines store k ids way
+
+-- the store has how each of its states was found
+pub record AreBack (eager ranks : ℕ) (lines : List Line) (store : Store) : Type 0 where
+  pub as_many : length store.ways ≡ length store.states
+  pub back : (k : ℕ) (ids : List ℕ) (way : Option Way) → slice_get store.states k ≡ Some ids →
+      slice_get store.ways k ≡ Some way → IsBack eager ranks lines store k ids way
 
 -- each state is there once, and moves lead to it
 pub record IsMade (eager ranks : ℕ) (lines : List Line) (store : Store) : Type 0 where

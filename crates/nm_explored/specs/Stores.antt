@@ -1,9 +1,10 @@
 -- The states that a search has found.
-use Rattle.std.specs.Prelude.{◌≡◌, ℕ, ◌<◌, Some, List, [], ◌∷◌, length, map}
+use Rattle.std.specs.Prelude.{◌≡◌, ℕ, ◌<◌, Option, Some, List, [], ◌∷◌, length, map}
 use Rattle.std.specs.List.{slice_get, slice_index_or, slice_set}
 use Rattle.nm_types.specs.declared.scripts.Line.{Line}
 use Rattle.nm_outcomes.specs.Searches as searches
 use Rattle.nm_outcomes.specs.RankStates.{Spot, first_spot}
+use Rattle.nm_explored.specs.declared.stores.Way.{Way}
 use Rattle.nm_explored.specs.Successors.{spot_in}
 use Rattle.nm_explored.specs.Lists.{Has, Extends}
 use Rattle.nm_explored.specs.Chosen.{Goes}
@@ -13,10 +14,11 @@ use Rattle.nm_explored.specs.Coming.{AreEnoughAt, Makes}
 abbrev pub StandOnce : {X : Type 0} → List X → Type 0
 StandOnce {X} xs = (j k : ℕ) (x : X) → slice_get xs j ≡ Some x → slice_get xs k ≡ Some x → j ≡ k
 
--- the states of single ranks, by number, and the states of all ranks: the numbers of theirs
+-- the states of single ranks, by number, and the states of all ranks: the numbers of theirs, and how each was found
 pub record Store : Type 0 where
   pub table : List Spot
   pub states : List (List ℕ)
+  pub ways : List (Option Way)
 
 -- what one store has, the other one has too, under the same numbers
 pub record Grows (old new : Store) : Type 0 where

@@ -10,14 +10,17 @@ ghost use Rattle.nm_outcomes.specs.Deeds.{answer_meant, happening as happening_l
 ghost use Rattle.nm_outcomes.specs.Deeds.{bytes_at as bytes_at_lem};
 ghost use Rattle.nm_explored.specs.Successors.{is_withdrawn_next, message_next, spot_in};
 ghost use Rattle.nm_explored.specs.Lists.{AddsOnly, Has, Extends};
-ghost use Rattle.nm_explored.specs.Ends.{AreOnlyEnds, IsToldAmong, IsToldIn, TellsOnly};
+ghost use Rattle.nm_explored.specs.Ends.{AreEndsAmong, AreEndsByWay, AreOnlyEnds, IsEndAmong};
+ghost use Rattle.nm_explored.specs.Ends.{IsToldAmong, IsToldIn, TellsOnly};
 ghost use Rattle.nm_explored.specs.Ends.{AreAtRest, AreEnds, AreShort, IfAll, IsAtRest, IsHeldUp};
 ghost use Rattle.nm_explored.specs.Ends.{TellsAll, all_told, is_waiting as is_waiting_lem};
 ghost use Rattle.nm_explored.specs.Ends.{told_at_end, told_in};
-ghost use Rattle.nm_explored.specs.Met.{AreTooMany, IfTooMany, IsAll};
+ghost use Rattle.nm_explored.specs.Met.{AreBack, AreTooMany, IfTooMany, IsAll, IsWay};
+ghost use Rattle.nm_explored.specs.Stores.{states_in};
+ghost use Rattle.nm_types.specs.declared.scripts.Line as script_line;
 
 use crate::choices::choices::{View, answer, line_at, may_withdraw, next_message};
-use crate::choices::moves::Move;
+use crate::choices::moves::Turn;
 use crate::searches::{Search, Setting};
 use nm_history::{Event, Happened, History};
 use nm_lookups::asked::commands::command_of_line;
@@ -30,32 +33,12 @@ use nm_types::{Answer, Body, Bytes, Command, Line, Memory, Script, Shape};
 use std::alloc::Global;
 use std::marker::Model;
 
-/// What happens at a rank on the way to an end.
-pub struct Step {
-    pub rank: u8,
-    pub what: Happened,
-}
-
-impl Drop for Step {
-    fn drop(self) {
-        let Step { rank: _, what: _ } = self;
-    }
-}
-
-impl Step {
-    /// Its rank, and what happens.
-    pub fn into_parts(self) -> (u8, Happened) {
-        let Step { rank, what } = self;
-        (rank, what)
-    }
-}
-
 /// An end of a script, with a way to it.
 pub struct End {
     /// What the ranks told: the answers of each, and the line that it waits at.
     pub told: Accounts,
-    /// What happened, the oldest first.
-    pub path: Vec<Step>,
+    /// The moves that lead to it, the newest first.
+    pub path: Vec<Turn>,
 }
 
 impl Drop for End {
@@ -66,7 +49,7 @@ impl Drop for End {
 
 impl End {
     /// What the ranks told, and the way.
-    pub fn into_parts(self) -> (Accounts, Vec<Step>)
+    pub fn into_parts(self) -> (Accounts, Vec<Turn>)
         ensures { result ≡ (self.told, self.path) }
     {
         let End { told, path } = self;
@@ -125,7 +108,7 @@ fn answer_of(alloc: Global, lines: &[Line], reply: Reply) -> Result<Answer, Memo
 }
 
 /// What a deed stands for.
-fn happening(alloc: Global, lines: &[Line], deed: Deed) -> Result<Happened, Memory>
+pub fn happening(alloc: Global, lines: &[Line], deed: Deed) -> Result<Happened, Memory>
     requires { AreShort lines.now }
     ensures { IfOk result (λ what. what ≡ happening_lem lines.now deed) }
 {
@@ -172,22 +155,6 @@ fn happening(alloc: Global, lines: &[Line], deed: Deed) -> Result<Happened, Memo
             answer: answer_of(alloc, lines, reply)?,
         },
     })
-}
-
-/// What a move stands for.
-fn step_of(alloc: Global, lines: &[Line], rank: u8, by: Move) -> Result<Step, Memory>
-    requires { AreShort lines.now }
-{
-    let what = match by {
-        Move::Act(deed) => happening(alloc, lines, deed)?,
-        Move::Arrive(a) => Happened::Arrive { a },
-        Move::Withdraw(message) => Happened::Withdraw {
-            from: message.rank,
-            n: message.n,
-            done: true,
-        },
-    };
-    Ok(Step { rank, what })
 }
 
 /// Adds an event for a deed, if it is an answer.
@@ -359,30 +326,38 @@ fn is_end(view: View, ranks: u8) -> bool
     true
 }
 
-/// The way to a state, the last step first.
-fn way_back(alloc: Global, search: &Search, lines: &[Line], end: usize) -> Result<Vec<Step>, Memory>
-    requires { AreShort lines.now }
+/// The moves that lead to the state with a number, the newest first.
+fn way_back(alloc: Global, search: &Search, end: usize) -> Result<Vec<Turn>, Memory>
+    ensures { (eager ranks : ℕ) (lines : List script_line.Line) → AreBack eager ranks lines search.now →
+        (ids : List ℕ) → slice_get search.now.states end ≡ Some ids →
+        IfOk result (λ turns. IsWay eager ranks lines turns.items (states_in search.now.table ids)) }
 {
-    let mut steps = Vec::new(alloc);
+    let mut turns = Vec::new(alloc);
     let mut k = end;
-    for _ in 0..end {
-        let Some(way) = search.states.way(k) else {
-            break;
+    for _turn in 0..end {
+        let way = match search.way(k) {
+            Some(way) => way,
+            None => return Ok(turns),
         };
-        steps.push(step_of(alloc, lines, way.rank, way.by)?)?;
+        turns.push(Turn {
+            rank: way.rank,
+            by: way.by,
+        })?;
         k = way.before;
     }
-    Ok(steps)
+    Ok(turns)
 }
 
 /// The end that a state is, with the way to it.
 fn end_at(alloc: Global, search: &Search, k: usize, view: View, ranks: u8) -> Result<End, Memory>
     requires { AreShort view.lines.now }
-    ensures { IfOk result (λ end. told_at_end end ≡ all_told view.entry.lines.now
+    ensures told { IfOk result (λ end. told_at_end end ≡ all_told view.entry.lines.now
         (spot_in view.entry.table.now view.entry.ids.now) ranks) }
+    ensures way { (eager ranks : ℕ) (lines : List script_line.Line) → AreBack eager ranks lines search.now →
+        (ids : List ℕ) → slice_get search.now.states k ≡ Some ids →
+        IfOk result (λ end. IsWay eager ranks lines end.path.items (states_in search.now.table ids)) }
 {
-    let mut path = way_back(alloc, search, view.lines, k)?;
-    path.reverse();
+    let path = way_back(alloc, search, k)?;
     let told = told(alloc, view, ranks)?;
     Ok(End { told, path })
 }
@@ -404,6 +379,12 @@ fn push_end(
     ensures only { OnOk result (AddsOnly (IsToldIn ranks view.entry.lines.now
         (spot_in view.entry.table.now view.entry.ids.now)) (map told_at_end ends.old.items)
         (map told_at_end ends.new.items)) }
+    ensures ways { OnOk result (AddsOnly (λ end. IsToldIn ranks view.entry.lines.now
+        (spot_in view.entry.table.now view.entry.ids.now) (told_at_end end)
+        × ((eager : ℕ) (lines : List script_line.Line) → AreBack eager ranks lines search.now →
+        (ids : List ℕ) → slice_get search.now.states k ≡ Some ids →
+        IsWay eager ranks lines end.path.items (states_in search.now.table ids)))
+        ends.old.items ends.new.items) }
 {
     if is_end(view, ranks) {
         ends.push(end_at(alloc, search, k, view, ranks)?)?;
@@ -427,6 +408,9 @@ fn push_state(
         (all_told of.entry.lines.now (spot_in search.now.table ids) of.entry.ranks)) }
     ensures only { OnOk result (AddsOnly (IsToldAmong of.entry.ranks of.entry.lines.now search.now)
         (map told_at_end ends.old.items) (map told_at_end ends.new.items)) }
+    ensures ways { OnOk result (AddsOnly
+        (IsEndAmong of.entry.eager of.entry.ranks of.entry.lines.now search.now)
+        ends.old.items ends.new.items) }
 {
     match search.states.as_slice().get(k) {
         Some(state) => {
@@ -449,6 +433,8 @@ fn ends_of(alloc: Global, search: &Search, of: Setting) -> Result<Vec<End>, Memo
         AreEnds of.entry.ranks of.entry.lines.now search.now ends.items) }
     ensures only { IfOk result (λ ends.
         AreOnlyEnds of.entry.ranks of.entry.lines.now search.now ends.items) }
+    ensures ways { IfOk result (λ ends.
+        AreEndsAmong of.entry.eager of.entry.ranks of.entry.lines.now search.now ends.items) }
 {
     let mut ends = Vec::new(alloc);
     for k in 0..search.states.as_slice().len() {
@@ -509,6 +495,8 @@ fn all_ends(alloc: Global, search: &Search, of: Setting) -> Result<Explored, Mem
         (IfAll (AreEnds of.entry.ranks of.entry.lines.now search.now)) }
     ensures only { IfOk result
         (IfAll (AreOnlyEnds of.entry.ranks of.entry.lines.now search.now)) }
+    ensures ways { IfOk result
+        (IfAll (AreEndsAmong of.entry.eager of.entry.ranks of.entry.lines.now search.now)) }
     ensures found { IfOk result IsAll }
 {
     let items = ends_of(alloc, search, of)?;
@@ -527,6 +515,7 @@ pub fn explore(
     requires { shape.ranks ≡ script.now.ranks }
     ensures all { IfOk result (IfAll (TellsAll shape script.now.lines)) }
     ensures only { IfOk result (IfAll (TellsOnly shape script.now.lines)) }
+    ensures ways { IfOk result (IfAll (AreEndsByWay shape script.now.lines)) }
     ensures many { IfOk result
         (IfTooMany (AreTooMany shape.eager shape.ranks script.now.lines states)) }
 {

@@ -22,8 +22,7 @@
 //! - Each end is told at a state that moves lead to, at which no rank has a move left (`TellsOnly`). That
 //!   such an end is a run's is said by `nm_listed::lawful`.
 //!
-//! Nothing is claimed of the way that goes with an end: it is the judge's to say whether the record that is
-//! made of it is a run's.
+//! - The moves that go with an end lead there (`AreEndsByWay`).
 #![tactic(auto)]
 
 pub mod choices;
@@ -32,4 +31,4 @@ mod ends;
 mod searches;
 mod stores;
 
-pub use ends::{End, Ends, Explored, Step, explore};
+pub use ends::{End, Ends, Explored, explore, happening};

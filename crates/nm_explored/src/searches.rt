@@ -1,7 +1,7 @@
 //! The search over the states of a script.
 
 ghost use Rattle.std.specs.Prelude.{◌≡◌, ◌⊎◌, ℕ, ◌<◌, ◌++◌, ◌∷◌, [], IfOk, IsFalse, IsTrue, List, OnOk, Some};
-ghost use Rattle.std.specs.Prelude.{length, option_copied, slice_get, slice_set};
+ghost use Rattle.std.specs.Prelude.{if◌then◌else◌, length, option_and_then, option_copied, slice_get, slice_set};
 ghost use Rattle.nm_types.specs.declared.scripts.Line as script_line;
 ghost use Rattle.nm_outcomes.specs.RankStates as spots;
 ghost use Rattle.nm_explored.specs.Successors.{spot_in};
@@ -9,7 +9,7 @@ ghost use Rattle.nm_explored.specs.Lists.{Has, Extends};
 ghost use Rattle.nm_explored.specs.declared.choices.moves.Turn as the_turn;
 ghost use Rattle.nm_explored.specs.Moves.{AreSendsShort, IsTurn, moved_at};
 ghost use Rattle.nm_explored.specs.Coming.{AreEnoughTurns};
-ghost use Rattle.nm_explored.specs.Met.{IsMade};
+ghost use Rattle.nm_explored.specs.Met.{AreBack, IsMade};
 ghost use Rattle.nm_explored.specs.Stores.{AreExpanded, Grows, IsExpanded, IsFirst, Leads};
 ghost use Rattle.nm_explored.specs.Stores.{StandOnce};
 
@@ -34,6 +34,8 @@ pub struct Setting<'a> {
 pub struct Search {
     pub table: Table,
     pub states: States,
+    /// How each state was found, by number. The first one was not.
+    pub ways: Vec<Option<Way>>,
 }
 
 impl Drop for Search {
@@ -41,6 +43,7 @@ impl Drop for Search {
         let Search {
             table: _,
             states: _,
+            ways: _,
         } = self;
     }
 }
@@ -50,7 +53,7 @@ impl Model for Search {
 
     ghost Value = { Store };
 
-    ghost view = { λ a. record { table = a.table; states = a.states } };
+    ghost view = { λ a. record { table = a.table; states = a.states; ways = a.ways.items } };
 }
 
 /// The numbers of a state after one of its ranks came into another one.
@@ -64,19 +67,38 @@ fn with_id(alloc: Global, ids: &[usize], i: u8, id: usize) -> Result<Vec<usize>,
     Ok(new)
 }
 
+/// Adds how a state was found, if it is new.
+fn note(ways: &mut Vec<Option<Way>>, new: bool, way: Way) -> Result<(), Memory>
+    ensures { OnOk result (ways.new.items
+        ≡ (if new then ways.old.items ++ Some way ∷ [] else ways.old.items)) }
+{
+    if new {
+        ways.push(Some(way))?;
+    }
+    Ok(())
+}
+
 impl Search {
     /// The first state alone: no rank did anything.
     pub fn new(alloc: Global, ranks: u8) -> Result<Search, Memory>
         ensures first { IfOk result (IsFirst ranks) }
         ensures made { IfOk result (λ search. (eager : ℕ) (lines : List script_line.Line) →
             IsMade eager ranks lines search) }
+        ensures back { IfOk result (λ search. (eager : ℕ) (lines : List script_line.Line) →
+            AreBack eager ranks lines search) }
     {
         let mut table = Table::new(alloc);
         let mut states = States::new(alloc);
         let id = table.number(Rank::new(alloc))?;
         let ids = vec![in alloc; id; ranks as usize]?;
-        states.add(ids, None)?;
-        Ok(Search { table, states })
+        states.add(ids)?;
+        let mut ways = Vec::new(alloc);
+        ways.push(None)?;
+        Ok(Search {
+            table,
+            states,
+            ways,
+        })
     }
 
     /// Moves that are enough at the state with a number.
@@ -113,6 +135,16 @@ impl Search {
         self.table.as_slice().get(*id)
     }
 
+    /// How the state with a number was found. The first one was not.
+    pub fn way(&self, k: usize) -> Option<Way>
+        ensures { result ≡ option_and_then (λ way. way) (slice_get self.now.ways k) }
+    {
+        match self.ways.get(k) {
+            Some(way) => *way,
+            None => None,
+        }
+    }
+
     /// The state of a rank after a move.
     fn after(&self, k: usize, turn: Turn) -> Result<Option<Rank>, Memory>
         ensures { IfOk result (λ after. (ids : List ℕ) (spot : spots.Spot) →
@@ -135,6 +167,11 @@ impl Search {
         ensures only { OnOk result ((self.new.states ≡ self.old.states)
             ⊎ ((ids : List ℕ) × (slice_get self.old.states k ≡ Some ids)
             × (self.new.states ≡ self.old.states ++ slice_set ids turn.rank id ∷ []))) }
+        ensures ways { OnOk result (((self.new.states ≡ self.old.states) × (self.new.ways ≡ self.old.ways))
+            ⊎ ((ids : List ℕ) × (slice_get self.old.states k ≡ Some ids)
+            × (self.new.states ≡ self.old.states ++ slice_set ids turn.rank id ∷ [])
+            × (self.new.ways ≡ self.old.ways
+            ++ Some (record { before = k; rank = turn.rank; by = turn.by }) ∷ []))) }
         ensures once { StandOnce self.old.states → OnOk result (StandOnce self.new.states) }
     {
         let ids = match self.states.as_slice().get(k) {
@@ -146,7 +183,8 @@ impl Search {
             rank: turn.rank,
             by: turn.by,
         };
-        self.states.add(ids, Some(way))?;
+        let new = self.states.add(ids)?;
+        note(&mut self.ways, new, way)?;
         Ok(())
     }
 
@@ -162,6 +200,11 @@ impl Search {
             slice_get self.old.states k ≡ Some ids →
             IsTurn eager ranks lines (spot_in self.old.table ids) turn) →
             OnOk result (IsMade eager ranks lines self.new) }
+        ensures back { (eager ranks : ℕ) (lines : List script_line.Line) →
+            IsMade eager ranks lines self.old → AreBack eager ranks lines self.old → ((ids : List ℕ) →
+            slice_get self.old.states k ≡ Some ids →
+            IsTurn eager ranks lines (spot_in self.old.table ids) turn) →
+            OnOk result (AreBack eager ranks lines self.new) }
     {
         let Some(after) = self.after(k, turn)? else {
             return Ok(());
@@ -181,6 +224,10 @@ impl Search {
         ensures made { length of.entry.lines.now < 4294967293 → AreSendsShort of.entry.lines.now →
             k < length self.old.states → IsMade of.entry.eager of.entry.ranks of.entry.lines.now self.old →
             OnOk result (IsMade of.entry.eager of.entry.ranks of.entry.lines.now self.new) }
+        ensures back { length of.entry.lines.now < 4294967293 → AreSendsShort of.entry.lines.now →
+            k < length self.old.states → IsMade of.entry.eager of.entry.ranks of.entry.lines.now self.old →
+            AreBack of.entry.eager of.entry.ranks of.entry.lines.now self.old →
+            OnOk result (AreBack of.entry.eager of.entry.ranks of.entry.lines.now self.new) }
     {
         let turns = self.turns_at(alloc, of, k)?;
         for turn in turns.iter() {
@@ -200,6 +247,10 @@ impl Search {
         ensures made { length of.entry.lines.now < 4294967293 → AreSendsShort of.entry.lines.now →
             IsMade of.entry.eager of.entry.ranks of.entry.lines.now self.old →
             OnOk result (IsMade of.entry.eager of.entry.ranks of.entry.lines.now self.new) }
+        ensures back { length of.entry.lines.now < 4294967293 → AreSendsShort of.entry.lines.now →
+            IsMade of.entry.eager of.entry.ranks of.entry.lines.now self.old →
+            AreBack of.entry.eager of.entry.ranks of.entry.lines.now self.old →
+            OnOk result (AreBack of.entry.eager of.entry.ranks of.entry.lines.now self.new) }
         ensures over { IfOk result (λ all. IsFalse all → limit < length self.new.states) }
     {
         for k in 0..limit as usize {

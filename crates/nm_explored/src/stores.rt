@@ -1,6 +1,6 @@
 //! States, each of them once.
 
-ghost use Rattle.std.specs.Prelude.{◌≡◌, ◌⊎◌, [], ◌∷◌, ◌++◌, IfOk, OnOk, Some, slice_get};
+ghost use Rattle.std.specs.Prelude.{◌≡◌, [], ◌∷◌, ◌++◌, if◌then◌else◌, IfOk, OnOk, Some, slice_get};
 ghost use Rattle.nm_explored.specs.Lists.{Has, Extends};
 ghost use Rattle.nm_explored.specs.Stores.{StandOnce};
 
@@ -133,15 +133,14 @@ impl State {
     }
 }
 
-/// The states of all ranks that were found, each once, and how each was found.
+/// The states of all ranks that were found, each once.
 pub struct States {
     items: IndexSet<State>,
-    ways: Vec<Option<Way>>,
 }
 
 impl Drop for States {
     fn drop(self) {
-        let States { items: _, ways: _ } = self;
+        let States { items: _ } = self;
     }
 }
 
@@ -160,7 +159,6 @@ impl States {
     {
         States {
             items: IndexSet::new(alloc),
-            ways: Vec::new(alloc),
         }
     }
 
@@ -171,26 +169,16 @@ impl States {
         self.items.as_slice()
     }
 
-    /// How the state with a number was found. The first one was not.
-    pub fn way(&self, k: usize) -> Option<Way> {
-        match self.ways.get(k) {
-            Some(way) => *way,
-            None => None,
-        }
-    }
-
-    /// Adds a state, unless it is there.
-    #[tactic(auto, using(crate::proofs::SetLemmas::ids_once, crate::proofs::SetLemmas::ids_added, crate::proofs::SetLemmas::ids_keep, crate::proofs::SetLemmas::ids_there))]
-    pub fn add(&mut self, ids: Vec<usize>, way: Option<Way>) -> Result<(), Memory>
+    /// Adds a state, unless it is there, and answers whether it is new.
+    #[tactic(auto, using(crate::proofs::SetLemmas::ids_once, crate::proofs::SetLemmas::ids_new, crate::proofs::SetLemmas::ids_keep, crate::proofs::SetLemmas::ids_there))]
+    pub fn add(&mut self, ids: Vec<usize>) -> Result<bool, Memory>
         ensures there { OnOk result (Has self.new ids.items) }
         ensures kept { OnOk result (Extends self.old self.new) }
-        ensures added { OnOk result ((self.new ≡ self.old) ⊎ (self.new ≡ self.old ++ ids.items ∷ [])) }
+        ensures added { IfOk result (λ new.
+            self.new ≡ (if new then self.old ++ ids.items ∷ [] else self.old)) }
         ensures once { OnOk result (StandOnce self.new) }
     {
         let (_, new) = self.items.insert_full(State { ids })?;
-        if new {
-            self.ways.push(way)?;
-        }
-        Ok(())
+        Ok(new)
     }
 }

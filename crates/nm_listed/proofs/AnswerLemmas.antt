@@ -68,7 +68,8 @@ use Rattle.nm_explored.proofs.SinceLemmas.{idle as is_idle}
 use Rattle.nm_listed.proofs.ArrivedLemmas.{sent_of_pair}
 use Rattle.nm_listed.proofs.BeginLemmas.{last_deed, kind_cancel, kind_claim, kind_start}
 use Rattle.nm_listed.proofs.HushLemmas.{AreHushed, hushed_answer}
-use Rattle.nm_listed.proofs.ReachLemmas.{IsReached, Reached, is_at, next_log}
+use Rattle.nm_listed.specs.Tellings.{clock, pushed}
+use Rattle.nm_listed.proofs.ReachLemmas.{IsReached, is_at, next_log}
 use Rattle.nm_listed.proofs.LineLemmas.{lines_apart}
 use Rattle.nm_listed.proofs.SteadyLemmas.{HasCancelled, HasClaimed, HasMatched, HasRecalled, IsBegun, IsIdle}
 use Rattle.nm_listed.proofs.SteadyLemmas.{IsPast, IsSteady, is_claim_event}
@@ -121,8 +122,10 @@ module _ (shape : Sizes) (lines : List Line) (commands : AreCommands shape.ranks
   mine = commands_of i lines
 
   -- after the answer of a line
-  abbrev pub Goal : ℕ → Reply → Type 0
-  Goal line r = Reached shape lines (slice_set states i (spot_after spot (deed.Ran line r)))
+  abbrev pub Goal : List Step → ℕ → Reply → Type 0
+  Goal log line r =
+      IsReached shape lines (pushed log i (event.Ran line (answer_meant lines r)))
+      (slice_set states i (spot_after spot (deed.Ran line r)))
 
   -- the answer of the next command is right
   pub record IsRight (log : List Step) (line : ℕ) (c : Command) (a : Answer) : Type 0 where
@@ -172,12 +175,12 @@ module _ (shape : Sizes) (lines : List Line) (commands : AreCommands shape.ranks
       ((j : ℕ) → AreHushed (commands_of j lines) (history_in log j) (cond (i == j) spare None)) → (x : Numbered) →
       slice_get mine (length (ran_lines (history_in log i))) ≡ Some x → (r : Reply) →
       IsRight log x.line x.command (answer_meant lines r) →
-      Ends (history_in log i) spare x.command (answer_meant lines r) → Goal x.line r
+      Ends (history_in log i) spare x.command (answer_meant lines r) → Goal log x.line r
   ran_now log told spare hushed x next r right ends =
-      (log ++ step_at i t what ∷ [], record { told = told1; hushed = hushed1 })
+      record { told = told1; hushed = hushed1 }
     where
       t : ℕ
-      t = told.clock
+      t = clock log
 
       h : List Event
       h = history_in log i
@@ -231,7 +234,7 @@ module _ (shape : Sizes) (lines : List Line) (commands : AreCommands shape.ranks
     steady : IsSteady shape mine h
     steady = reached.told.steady i
 
-    pub plain_now : (r : Reply) → IsRight log x.line x.command (answer_meant lines r) → Goal x.line r
+    pub plain_now : (r : Reply) → IsRight log x.line x.command (answer_meant lines r) → Goal log x.line r
     plain_now r right =
         ran_now log reached.told None (λ j. by_rank j (i == j)) x next r right (λ req is. absurd (no_some req is))
       where
@@ -269,16 +272,16 @@ module _ (shape : Sizes) (lines : List Line) (commands : AreCommands shape.ranks
         IsIdle h ⊎ ((is_idle_at spot ≡ false)
         × (map without_number (starts_since h) ≡ start_of shape.eager mine h x.line c) × (cancels_since h ≡ [])
         × (claims_since h ≡ [])) → (r : Reply) →
-        started_at (is_idle_at spot) (live_in lines i spot.deeds q) ≡ Some r → Goal x.line r
+        started_at (is_idle_at spot) (live_in lines i spot.deeds q) ≡ Some r → Goal log x.line r
     started q c is answers cancels_by no_probe (inl idle) r so =
         by_live (live mine h q) refl
         (sym (ap (λ (b : Bool). started_at b (live_in lines i spot.deeds q)) (idle_at idle)
         ∙ ap (λ (o : Option Request). started_at true o) (say.live i q)) ∙ so)
       where
-        by_live : (o : Option Request) → live mine h q ≡ o → started_at true o ≡ Some r → Goal x.line r
+        by_live : (o : Option Request) → live mine h q ≡ o → started_at true o ≡ Some r → Goal log x.line r
         by_live None live_is so = absurd (no_some r so)
         by_live (Some request) live_is so =
-            subst (λ (r : Reply). Goal x.line r) (same_some reply.Busy r so)
+            subst (λ (r : Reply). Goal log x.line r) (same_some reply.Busy r so)
             (plain_now reply.Busy
             (subst (λ (c : Command). IsRight log x.line c answer.Busy) (sym is) (record {
               right = answers h
@@ -293,10 +296,10 @@ module _ (shape : Sizes) (lines : List Line) (commands : AreCommands shape.ranks
         (sym (ap (λ (b : Bool). started_at b (live_in lines i spot.deeds q)) begun.0
         ∙ ap (λ (o : Option Request). started_at false o) (say.live i q)) ∙ so)
       where
-        by_live : (o : Option Request) → live mine h q ≡ o → started_at false o ≡ Some r → Goal x.line r
+        by_live : (o : Option Request) → live mine h q ≡ o → started_at false o ≡ Some r → Goal log x.line r
         by_live (Some request) live_is so = absurd (no_some r so)
         by_live None live_is so =
-            subst (λ (r : Reply). Goal x.line r) (same_some reply.Started r so)
+            subst (λ (r : Reply). Goal log x.line r) (same_some reply.Started r so)
             (plain_now reply.Started
             (subst (λ (c : Command). IsRight log x.line c answer.Started) (sym is) (record {
               right = answers h
@@ -311,7 +314,7 @@ module _ (shape : Sizes) (lines : List Line) (commands : AreCommands shape.ranks
     pub received : (q m cap : ℕ) → x.command ≡ command.Mrecv q m cap → IsIdle h ⊎ IsBegun shape.eager mine h →
         ((b : IsBegun shape.eager mine h) → HasMatched mine h x.line m cap b.last) → (r : Reply) →
         received_at (is_idle_at spot) (live_in lines i spot.deeds q) (message_in lines i spot.deeds m) ≡ Some r →
-        Goal x.line r
+        Goal log x.line r
     received q m cap is stage begun_so r so =
         by_stage stage
         (sym (ap (λ (o : Option Request). received_at (is_idle_at spot) o (message_in lines i spot.deeds m))
@@ -328,9 +331,9 @@ module _ (shape : Sizes) (lines : List Line) (commands : AreCommands shape.ranks
             else if is_some p then answer.Started else answer.Null)) two
 
         by_idle : IsIdle h → (o : Option Request) → live mine h q ≡ o → (p : Option Message) →
-            live_message mine h m ≡ p → received_at true o p ≡ Some r → Goal x.line r
+            live_message mine h m ≡ p → received_at true o p ≡ Some r → Goal log x.line r
         by_idle idle (Some request) one p two so =
-            subst (λ (r : Reply). Goal x.line r) (same_some reply.Busy r so)
+            subst (λ (r : Reply). Goal log x.line r) (same_some reply.Busy r so)
             (plain_now reply.Busy
             (subst (λ (c : Command). IsRight log x.line c answer.Busy) (sym is) (record {
               right = the_answer (Some request) p one two;
@@ -341,7 +344,7 @@ module _ (shape : Sizes) (lines : List Line) (commands : AreCommands shape.ranks
             })))
         by_idle idle None one (Some msg) two so = absurd (no_some r so)
         by_idle idle None one None two so =
-            subst (λ (r : Reply). Goal x.line r) (same_some reply.Null r so)
+            subst (λ (r : Reply). Goal log x.line r) (same_some reply.Null r so)
             (plain_now reply.Null
             (subst (λ (c : Command). IsRight log x.line c answer.Null) (sym is) (record {
               right = the_answer None None one two;
@@ -352,11 +355,11 @@ module _ (shape : Sizes) (lines : List Line) (commands : AreCommands shape.ranks
             })))
 
         by_begun : (last : Happened) → HasMatched mine h x.line m cap last → (o : Option Request) → live mine h q ≡ o →
-            (p : Option Message) → live_message mine h m ≡ p → received_at false o p ≡ Some r → Goal x.line r
+            (p : Option Message) → live_message mine h m ≡ p → received_at false o p ≡ Some r → Goal log x.line r
         by_begun last begun (Some request) one p two so = absurd (no_some r so)
         by_begun last begun None one None two so = absurd (no_some begun.message (sym two ∙ begun.message_is))
         by_begun last begun None one (Some msg) two so =
-            subst (λ (r : Reply). Goal x.line r) (same_some reply.Started r so)
+            subst (λ (r : Reply). Goal log x.line r) (same_some reply.Started r so)
             (plain_now reply.Started
             (subst (λ (c : Command). IsRight log x.line c answer.Started) (sym is) (record {
               right = the_answer None (Some msg) one two;
@@ -369,7 +372,7 @@ module _ (shape : Sizes) (lines : List Line) (commands : AreCommands shape.ranks
             })))
 
         by_stage : IsIdle h ⊎ IsBegun shape.eager mine h →
-            received_at (is_idle_at spot) (live mine h q) (live_message mine h m) ≡ Some r → Goal x.line r
+            received_at (is_idle_at spot) (live mine h q) (live_message mine h m) ≡ Some r → Goal log x.line r
         by_stage (inl idle) so =
             by_idle idle (live mine h q) refl (live_message mine h m) refl
             (sym (ap (λ (b : Bool). received_at b (live mine h q) (live_message mine h m)) (idle_at idle)) ∙ so)
@@ -382,7 +385,7 @@ module _ (shape : Sizes) (lines : List Line) (commands : AreCommands shape.ranks
     pub cancelled : (q : ℕ) → x.command ≡ command.Cancel q → IsIdle h ⊎ IsBegun shape.eager mine h →
         ((b : IsBegun shape.eager mine h) → (starts_since h ≡ []) × (claims_since h ≡ [])
         × (HasCancelled mine h q b.last ⊎ HasRecalled mine h q)) → (r : Reply) →
-        cancelled_at (is_idle_at spot) spot (live_in lines i spot.deeds q) ≡ Some r → Goal x.line r
+        cancelled_at (is_idle_at spot) spot (live_in lines i spot.deeds q) ≡ Some r → Goal log x.line r
     cancelled q is stage begun_so r so =
         by_stage stage (sym (ap (λ (o : Option Request). cancelled_at (is_idle_at spot) spot o) (say.live i q)) ∙ so)
       where
@@ -392,9 +395,9 @@ module _ (shape : Sizes) (lines : List Line) (commands : AreCommands shape.ranks
             is_started (answer_meant lines s) ≡ false →
             ((k : ℕ) → k < shape.ranks → BodyAt k (commands_of k lines) (sends (history_in log k) i) mine h
             (event.Ran x.line (answer_meant lines s))) →
-            starts_since h ≡ [] → claims_since h ≡ [] → CancelsOf h o → s ≡ r → Goal x.line r
+            starts_since h ≡ [] → claims_since h ≡ [] → CancelsOf h o → s ≡ r → Goal log x.line r
         right_now o live_is s says no_start body starts claims cancels same =
-            subst (λ (r : Reply). Goal x.line r) same
+            subst (λ (r : Reply). Goal log x.line r) same
             (plain_now s
             (subst (λ (c : Command). IsRight log x.line c (answer_meant lines s)) (sym is) (record {
               right = ap (λ (o : Option Request). Some (option_map_or (cancel_answer h) o answer.Null)) live_is ∙ says;
@@ -408,14 +411,14 @@ module _ (shape : Sizes) (lines : List Line) (commands : AreCommands shape.ranks
         by_recalled : (to n : ℕ) → live mine h q ≡ Some (Sending to n) → starts_since h ≡ [] → claims_since h ≡ [] →
             All (λ (w : Happened). w ≡ event.Recall to n) (cancels_since h) → (b : Bool) →
             list_any (is_recall_by to n) spot.deeds ≡ b → (if b then Some reply.Asked else None) ≡ Some r →
-            Goal x.line r
+            Goal log x.line r
         by_recalled to n live_is starts claims all false recall so = absurd (no_some r so)
         by_recalled to n live_is starts claims all true recall so =
             right_now (Some (Sending to n)) live_is reply.Asked refl refl (λ k low. tt) starts claims
             (sym (say.recalled to n) ∙ recall, all) (same_some reply.Asked r so)
 
         by_idle : IsIdle h → (o : Option Request) → live mine h q ≡ o → cancelled_at true spot o ≡ Some r →
-            Goal x.line r
+            Goal log x.line r
         by_idle idle None live_is so =
             right_now None live_is reply.Null refl refl (λ k low. tt) idle.starts idle.claims idle.cancels
             (same_some reply.Null r so)
@@ -429,7 +432,7 @@ module _ (shape : Sizes) (lines : List Line) (commands : AreCommands shape.ranks
             claims_since h ≡ [] →
             cancels_since h ≡ event.Cancel number (not (list_any (is_of_receive number) (matched_pairs h))) ∷ [] →
             (b : Bool) → list_any (is_of_receive number) (matched_pairs h) ≡ b →
-            Some (if b then reply.Late else reply.Done) ≡ Some r → Goal x.line r
+            Some (if b then reply.Late else reply.Done) ≡ Some r → Goal log x.line r
         by_paired number live_is starts claims cancels true paired so =
             right_now (Some (Receiving number)) live_is reply.Late
             (ap (λ (b : Bool). Some (if b then answer.Late else answer.Done)) paired) refl (λ k low. tt) starts claims
@@ -441,7 +444,7 @@ module _ (shape : Sizes) (lines : List Line) (commands : AreCommands shape.ranks
 
         by_begun : (b : IsBegun shape.eager mine h) → starts_since h ≡ [] → claims_since h ≡ [] →
             HasCancelled mine h q b.last ⊎ HasRecalled mine h q →
-            cancelled_at (is_idle_at spot) spot (live mine h q) ≡ Some r → Goal x.line r
+            cancelled_at (is_idle_at spot) spot (live mine h q) ≡ Some r → Goal log x.line r
         by_begun b starts claims (inl c) so =
             by_paired c.number c.live_is starts claims
             (c.cancels ∙ ap (λ (d : Bool). event.Cancel c.number d ∷ []) c.paired)
@@ -457,7 +460,7 @@ module _ (shape : Sizes) (lines : List Line) (commands : AreCommands shape.ranks
             (sym (ap (λ (o : Option Request). cancelled_at (is_idle_at spot) spot o) c.live_is) ∙ so)
 
         by_stage : IsIdle h ⊎ IsBegun shape.eager mine h →
-            cancelled_at (is_idle_at spot) spot (live mine h q) ≡ Some r → Goal x.line r
+            cancelled_at (is_idle_at spot) spot (live mine h q) ≡ Some r → Goal log x.line r
         by_stage (inl idle) so =
             by_idle idle (live mine h q) refl
             (sym (ap (λ (b : Bool). cancelled_at b spot (live mine h q)) (idle_at idle)) ∙ so)
@@ -469,9 +472,9 @@ module _ (shape : Sizes) (lines : List Line) (commands : AreCommands shape.ranks
         answer_of mine h x.line c ≡ Some (without_bytes (answer_meant lines s)) →
         is_started (answer_meant lines s) ≡ false →
         ((k : ℕ) → k < shape.ranks → BodyAt k (commands_of k lines) (sends (history_in log k) i) mine h
-        (event.Ran x.line (answer_meant lines s))) → s ≡ r → Goal x.line r
+        (event.Ran x.line (answer_meant lines s))) → s ≡ r → Goal log x.line r
     looked c is idle no_probe cancels_by s r says no_start body same =
-        subst (λ (r : Reply). Goal x.line r) same
+        subst (λ (r : Reply). Goal log x.line r) same
         (plain_now s
         (subst (λ (c : Command). IsRight log x.line c (answer_meant lines s)) (sym is) (record {
           right = says;
@@ -492,14 +495,14 @@ module _ (shape : Sizes) (lines : List Line) (commands : AreCommands shape.ranks
 
     pub probed : (peer : Peer) (tag : TagPick) (ctx : ℕ) → x.command ≡ command.Probe peer tag ctx → IsIdle h →
         (r : Reply) →
-        Some (option_map_or seen_at (found_at spot peer tag ctx) reply.Nothing) ≡ Some r → Goal x.line r
+        Some (option_map_or seen_at (found_at spot peer tag ctx) reply.Nothing) ≡ Some r → Goal log x.line r
     probed peer tag ctx is idle r so =
         by_found (first_message h (matched_pairs h) peer tag ctx) refl
         (sym (ap (λ (o : Option Arrival). Some (option_map_or seen_at o reply.Nothing))
         (first_said lines h spot at.is peer tag ctx)) ∙ so)
       where
         by_found : (o : Option Arrival) → first_message h (matched_pairs h) peer tag ctx ≡ o →
-            Some (option_map_or seen_at o reply.Nothing) ≡ Some r → Goal x.line r
+            Some (option_map_or seen_at o reply.Nothing) ≡ Some r → Goal log x.line r
         by_found None found so =
             looked (command.Probe peer tag ctx) is idle refl (λ none. none) reply.Nothing r
             (ap (λ (o : Option Arrival). Some (option_map_or seen o answer.Nothing)) found) refl (λ k low. tt)
@@ -511,7 +514,7 @@ module _ (shape : Sizes) (lines : List Line) (commands : AreCommands shape.ranks
 
     pub awaited : (peer : Peer) (tag : TagPick) (ctx : ℕ) → x.command ≡ command.Await peer tag ctx → IsIdle h →
         (r : Reply) →
-        option_map seen_at (found_at spot peer tag ctx) ≡ Some r → Goal x.line r
+        option_map seen_at (found_at spot peer tag ctx) ≡ Some r → Goal log x.line r
     awaited peer tag ctx is idle r so =
         let a = mapped_some seen_at (first_message h (matched_pairs h) peer tag ctx) r
         (sym (ap (λ (o : Option Arrival). option_map seen_at o) (first_said lines h spot at.is peer tag ctx)) ∙ so) in
@@ -524,7 +527,7 @@ module _ (shape : Sizes) (lines : List Line) (commands : AreCommands shape.ranks
         (r : Reply) →
         probed_at (is_idle_at spot) spot x.line (found_at spot peer tag ctx) (message_in lines i spot.deeds m) ≡ Some
         r →
-        Goal x.line r
+        Goal log x.line r
     claimed m peer tag ctx is stage begun_so r so =
         by_stage stage
         (sym (ap (λ (o : Option Arrival). probed_at (is_idle_at spot) spot x.line o (message_in lines i spot.deeds m))
@@ -572,9 +575,9 @@ module _ (shape : Sizes) (lines : List Line) (commands : AreCommands shape.ranks
         idle_now : IsIdle h → (s : Reply) → answer_of mine h x.line c ≡ Some (without_bytes (answer_meant lines s)) →
             is_started (answer_meant lines s) ≡ false → is_seen (answer_meant lines s) ≡ false →
             ((k : ℕ) → k < shape.ranks → BodyAt k (commands_of k lines) (sends (history_in log k) i) mine h
-            (event.Ran x.line (answer_meant lines s))) → s ≡ r → Goal x.line r
+            (event.Ran x.line (answer_meant lines s))) → s ≡ r → Goal log x.line r
         idle_now idle s says no_start no_seen body same =
-            subst (λ (r : Reply). Goal x.line r) same
+            subst (λ (r : Reply). Goal log x.line r) same
             (plain_now s
             (subst (λ (c : Command). IsRight log x.line c (answer_meant lines s)) (sym is) (record {
               right = says;
@@ -586,7 +589,7 @@ module _ (shape : Sizes) (lines : List Line) (commands : AreCommands shape.ranks
             })))
 
         by_idle : IsIdle h → (p : Option Message) → live_message mine h m ≡ p → (o : Option Arrival) → found ≡ o →
-            probed_at true spot x.line o p ≡ Some r → Goal x.line r
+            probed_at true spot x.line o p ≡ Some r → Goal log x.line r
         by_idle idle (Some held) one o first so =
             idle_now idle reply.Busy (the_answer (Some held) (arrival_claimed h x.line) one refl) refl refl
             (λ k low. tt)
@@ -601,14 +604,14 @@ module _ (shape : Sizes) (lines : List Line) (commands : AreCommands shape.ranks
             (same_some reply.Nothing r so)
 
         by_begun : (last : Happened) → HasClaimed h x.line last → (p : Option Message) → live_message mine h m ≡ p →
-            probed_at false spot x.line found p ≡ Some r → Goal x.line r
+            probed_at false spot x.line found p ≡ Some r → Goal log x.line r
         by_begun last begun (Some held) one so = absurd (no_some r so)
         by_begun last begun None one so =
             let a = mapped_some seen_at
             (option_and_then (λ (m : Message). find (is_message m.from m.n) spot.came) (claim_in spot.deeds x.line)) r
             so in
             let came : arrival_claimed h x.line ≡ Some a.0 = sym (arrival_said lines h spot at.is x.line) ∙ a.1 in
-            subst (λ (r : Reply). Goal x.line r) a.2
+            subst (λ (r : Reply). Goal log x.line r) a.2
             (plain_now (seen_at a.0)
             (subst (λ (c : Command). IsRight log x.line c (answer_meant lines (seen_at a.0))) (sym is) (record {
               right = the_answer None (Some a.0) one came;
@@ -619,7 +622,7 @@ module _ (shape : Sizes) (lines : List Line) (commands : AreCommands shape.ranks
             })))
 
         by_stage : IsIdle h ⊎ IsBegun shape.eager mine h →
-            probed_at (is_idle_at spot) spot x.line found (live_message mine h m) ≡ Some r → Goal x.line r
+            probed_at (is_idle_at spot) spot x.line found (live_message mine h m) ≡ Some r → Goal log x.line r
         by_stage (inl idle) so =
             by_idle idle (live_message mine h m) refl found refl
             (sym (ap (λ (b : Bool). probed_at b spot x.line found (live_message mine h m)) (idle_at idle)) ∙ so)

@@ -58,7 +58,9 @@ use Rattle.nm_outcomes.proofs.SentLemmas.{get_more, request_sent}
 use Rattle.nm_explored.specs.Successors.{begun_in, cancel_at, is_held_by, match_at, may_begin, start_in}
 use Rattle.nm_explored.specs.Settings.{IsAt}
 use Rattle.nm_explored.proofs.PlacedLemmas.{first_said, in_pairs}
-use Rattle.nm_listed.proofs.ReachLemmas.{IsReached, Reached, acts_now, is_at, is_proper}
+use Rattle.nm_explored.specs.declared.choices.moves.Move.TheVariants as move
+use Rattle.nm_listed.specs.Tellings.{after_move, clock}
+use Rattle.nm_listed.proofs.ReachLemmas.{IsReached, acts_now, is_at, is_proper}
 use Rattle.nm_listed.proofs.SteadyLemmas.{AreClaimed, AreOfCommands, Begins, HasCancelled}
 use Rattle.nm_listed.proofs.SteadyLemmas.{HasRecalled}
 use Rattle.nm_listed.proofs.SteadyLemmas.{IsBegun, IsIdle, IsPast, IsSteady, cancels_more, cancels_same}
@@ -139,7 +141,7 @@ module _ (shape : Sizes) (lines : List Line) (commands : AreCommands shape.ranks
   mine = commands_of i lines
 
   abbrev t : ℕ
-  t = reached.told.clock
+  t = clock log
 
   at : IsAt shape lines log (λ k. slice_get states k) i spot
   at = is_at shape lines commands script log states reached.told i low spot here
@@ -151,7 +153,8 @@ module _ (shape : Sizes) (lines : List Line) (commands : AreCommands shape.ranks
   steady = reached.told.steady i
 
   abbrev Later : Deed → Type 0
-  Later d = Reached shape lines (slice_set states i (spot_after spot d))
+  Later d =
+      IsReached shape lines (after_move lines log i spot (move.Act d)) (slice_set states i (spot_after spot d))
 
   abbrev after : Happened → List Event
   after what = h ++ now t what ∷ []

@@ -48,7 +48,8 @@ use Rattle.nm_explored.specs.Settings.{IsAt}
 use Rattle.nm_explored.specs.Moves.{IsNextMessage, IsRecalled}
 use Rattle.nm_explored.proofs.PlacedLemmas.{came_said, free_said, numbers_in}
 use Rattle.nm_explored.proofs.SendLemmas.{sent_deed, sent_many}
-use Rattle.nm_listed.proofs.ReachLemmas.{IsReached, Reached, is_at, is_proper, reached_push}
+use Rattle.nm_listed.specs.Tellings.{clock, pushed}
+use Rattle.nm_listed.proofs.ReachLemmas.{IsReached, is_at, is_proper, reached_on}
 use Rattle.nm_listed.proofs.SteadyLemmas.{steady_packet}
 use Rattle.nm_listed.proofs.TellLemmas.{AreEarly, MayBe, early_all, moved_spots, step_at}
 
@@ -92,7 +93,7 @@ module _ (shape : Sizes) (lines : List Line) (commands : AreCommands shape.ranks
   h = history_in log i
 
   abbrev t : ℕ
-  t = reached.told.clock
+  t = clock log
 
   at : IsAt shape lines log (λ k. slice_get states k) i spot
   at = is_at shape lines commands script log states reached.told i low spot here
@@ -100,10 +101,11 @@ module _ (shape : Sizes) (lines : List Line) (commands : AreCommands shape.ranks
   -- the next message of a rank
   arrive_so : (from : ℕ) → from < shape.ranks → (s : Sent) →
       slice_get (sends (history_in log from) i) (length (arrivals h from)) ≡ Some s →
-      Reached shape lines
+      IsReached shape lines
+      (pushed log i (event.Arrive (record { n = length (arrivals h from); env = envelope from s })))
       (slice_set states i (arrived_at spot (record { n = length (arrivals h from); env = envelope from s })))
   arrive_so from inside s sent =
-      reached_push shape lines commands script log states (slice_set states i (arrived_at spot a)) reached i
+      reached_on shape lines commands script log states (slice_set states i (arrived_at spot a)) reached i
       (event.Arrive a)
       low may refl refl
       (moved_spots shape lines log (step_at i t (event.Arrive a)) states (arrived_at spot a) low reached.told.stands
@@ -140,7 +142,7 @@ module _ (shape : Sizes) (lines : List Line) (commands : AreCommands shape.ranks
       }
 
   pub comes_now : (a : Arrival) → IsNextMessage shape.ranks (λ k. slice_get states k) i a →
-      Reached shape lines (slice_set states i (arrived_at spot a))
+      IsReached shape lines (pushed log i (event.Arrive a)) (slice_set states i (arrived_at spot a))
   comes_now a is = by_place (ltb n (length (sends (history_in log from) i))) refl
     where
       from : ℕ
@@ -169,7 +171,7 @@ module _ (shape : Sizes) (lines : List Line) (commands : AreCommands shape.ranks
           ∙ is.next
 
       by_place : (b : Bool) → ltb n (length (sends (history_in log from) i)) ≡ b →
-          Reached shape lines (slice_set states i (arrived_at spot a))
+          IsReached shape lines (pushed log i (event.Arrive a)) (slice_set states i (arrived_at spot a))
       by_place true below =
           let inside : n < length (sends (history_in log from) i) = grind (arith, nat_tests) in
           let s = get_some (sends (history_in log from) i) n inside in
@@ -177,7 +179,7 @@ module _ (shape : Sizes) (lines : List Line) (commands : AreCommands shape.ranks
           same_some _ a
           (sym (ap (λ (o : Option Deed). option_and_then (arrival_by from n) o)
           (sent_deed lines (history_in log from) other.0 other.2 i n s.0 s.1)) ∙ next) in
-          subst (λ (a : Arrival). Reached shape lines (slice_set states i (arrived_at spot a))) same
+          subst (λ (a : Arrival). IsReached shape lines (pushed log i (event.Arrive a)) (slice_set states i (arrived_at spot a))) same
           (arrive_so from is.within s.0 s.1)
       by_place false above =
           let high : length (sends (history_in log from) i) ≤ n = grind (arith, nat_tests) in
@@ -200,9 +202,9 @@ module _ (shape : Sizes) (lines : List Line) (commands : AreCommands shape.ranks
   goes_so : (from n : ℕ) (other : Spot) → slice_get states from ≡ Some other →
       list_any (is_message from n) spot.came ≡ true → free_lem spot from n ≡ true →
       list_any (is_recall_by i n) other.deeds ≡ true →
-      Reached shape lines (slice_set states i (withdrawn_at spot from n))
+      IsReached shape lines (pushed log i (event.Withdraw from n true)) (slice_set states i (withdrawn_at spot from n))
   goes_so from n other there came free recall =
-      reached_push shape lines commands script log states (slice_set states i (withdrawn_at spot from n)) reached i what
+      reached_on shape lines commands script log states (slice_set states i (withdrawn_at spot from n)) reached i what
       low may refl refl
       (moved_spots shape lines log (step_at i t what) states (withdrawn_at spot from n) low reached.told.stands
       (withdraws lines h spot at.is t from n))
@@ -268,9 +270,10 @@ module _ (shape : Sizes) (lines : List Line) (commands : AreCommands shape.ranks
       }
 
   pub goes_now : (m : message.Message) → IsRecalled (λ k. slice_get states k) i spot m →
-      Reached shape lines (slice_set states i (withdrawn_at spot m.rank m.n))
+      IsReached shape lines (pushed log i (event.Withdraw m.rank m.n true)) (slice_set states i (withdrawn_at spot m.rank m.n))
   goes_now m is =
-      subst (λ (m : message.Message). Reached shape lines (slice_set states i (withdrawn_at spot m.rank m.n)))
+      subst (λ (m : message.Message). IsReached shape lines (pushed log i (event.Withdraw m.rank m.n true))
+      (slice_set states i (withdrawn_at spot m.rank m.n)))
       is.message
       (by_other (slice_get states is.arrival.env.from) refl
       (sym (ap (λ (o : Option Spot). option_map_or (λ (spot : Spot). option_map_or (λ (other : Spot).
@@ -282,7 +285,9 @@ module _ (shape : Sizes) (lines : List Line) (commands : AreCommands shape.ranks
           option_map_or (λ (other : Spot). list_any (is_message is.arrival.env.from is.arrival.n) spot.came
           && (free_lem spot is.arrival.env.from is.arrival.n && list_any (is_recall_by i is.arrival.n) other.deeds)) o
           false
-          ≡ true → Reached shape lines (slice_set states i (withdrawn_at spot is.arrival.env.from is.arrival.n))
+          ≡ true →
+          IsReached shape lines (pushed log i (event.Withdraw is.arrival.env.from is.arrival.n true))
+          (slice_set states i (withdrawn_at spot is.arrival.env.from is.arrival.n))
       by_other None there free = absurd (false≢true free)
       by_other (Some other) there free =
           let rest = and_right (list_any (is_message is.arrival.env.from is.arrival.n) spot.came) _ free in

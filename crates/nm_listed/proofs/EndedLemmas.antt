@@ -43,6 +43,7 @@ use Rattle.nm_outcomes.proofs.SaidLemmas.{said}
 use Rattle.nm_outcomes.proofs.SpotLemmas.{off_is}
 use Rattle.nm_explored.specs.Successors.{may_be_open, result_in, sent_at, shown_at}
 use Rattle.nm_explored.specs.Settings.{IsAt}
+use Rattle.nm_listed.specs.Tellings.{before_answer, before_result, before_sent, name_asked, request_asked, with_whole}
 use Rattle.nm_listed.proofs.AnswerLemmas.{Goal, IsRight, plain_now, ran_now, shown_right}
 use Rattle.nm_listed.proofs.HushLemmas.{IsHushed}
 use Rattle.nm_listed.proofs.ReachLemmas.{IsReached, is_at}
@@ -68,8 +69,9 @@ module _ (shape : Sizes) (lines : List Line) (commands : AreCommands shape.ranks
   abbrev mine : List Numbered
   mine = commands_of i lines
 
-  abbrev After : ℕ → Reply → Type 0
-  After line r = Goal shape lines commands script states i low spot here line r
+  abbrev After : List Step → ℕ → Reply → Type 0
+  After log line r =
+      Goal shape lines commands script states i low spot here (before_answer lines log i spot line r) line r
 
   abbrev Right : List Step → ℕ → Command → Answer → Type 0
   Right log line c a = IsRight shape lines commands script states i low spot here log line c a
@@ -189,12 +191,34 @@ module _ (shape : Sizes) (lines : List Line) (commands : AreCommands shape.ranks
       body = body;
     }
 
-    finish : (later : List Step) (request : Request) (r : Reply) → live mine h q ≡ Some request →
-        Ready later request (Some (without_bytes (answer_meant lines r))) →
+    -- the command asks for the live request
+    asked_is : request_asked lines i spot x.line ≡ live mine h q
+    asked_is =
+        ap (λ (o : Option Command). option_and_then (λ c. option_and_then (live_in lines i spot.deeds) (name_asked c)) o)
+        (commands.stand i (length (ran_lines h)) x next)
+        ∙ by_command asks ∙ (say_log log reached.told).live i q
+      where
+        by_command : Asks q x.command →
+            option_and_then (live_in lines i spot.deeds) (name_asked x.command) ≡ live_in lines i spot.deeds q
+        by_command (inl is) =
+            ap (λ (c : Command). option_and_then (live_in lines i spot.deeds) (name_asked c)) is
+        by_command (inr is) =
+            ap (λ (c : Command). option_and_then (live_in lines i spot.deeds) (name_asked c)) is
+
+    before_is : (request : Request) (r : Reply) → live mine h q ≡ Some request →
+        is_result (answer_meant lines r) ≡ true →
+        before_answer lines log i spot x.line r ≡ before_result log i spot request
+    before_is request r live_is result =
+        ap (λ (b : Bool). if b
+        then option_map_or (before_result log i spot) (request_asked lines i spot x.line) log else log) result
+        ∙ ap (λ (o : Option Request). option_map_or (before_result log i spot) o log) (asked_is ∙ live_is)
+
+    finish : (later : List Step) (request : Request) (r : Reply) → later ≡ before_result log i spot request →
+        live mine h q ≡ Some request → Ready later request (Some (without_bytes (answer_meant lines r))) →
         ((told : IsTold shape lines later states) → (k : ℕ) → k < shape.ranks → BodyAt k (commands_of k lines)
         (sends (history_in later k) i) mine (history_in later i) (event.Ran x.line (answer_meant lines r))) →
-        After x.line r
-    finish later request r live_is ready body =
+        After log x.line r
+    finish later request r later_is live_is ready body =
         let told = ready.told in
         let next2 : slice_get mine (length (ran_lines (history_in later i))) ≡ Some x =
         ap (λ (k : ℕ). slice_get mine k) (next_at log later reached.told told) ∙ next in
@@ -202,7 +226,12 @@ module _ (shape : Sizes) (lines : List Line) (commands : AreCommands shape.ranks
         live_at log later reached.told told q ∙ live_is in
         let name = named_line (request_at (history_in later i)) (line_of_name mine (history_in later i) q) request
         live2 in
-        ran_now shape lines commands script states i low spot here later told (Some request) ready.hushed x next2 r
+        let is_one : is_result (answer_meant lines r) ≡ true =
+        sym (bytes_no_matter (answer_meant lines r))
+        ∙ result_is_result (history_in later i) request (without_bytes (answer_meant lines r)) ready.result in
+        subst (λ (l : List Step). Goal shape lines commands script states i low spot here l x.line r)
+        (later_is ∙ sym (before_is request r live_is is_one))
+        (ran_now shape lines commands script states i low spot here later told (Some request) ready.hushed x next2 r
         (right_at later told (answer_meant lines r) (idle_of later told x next2 q asks)
         (result_right (history_in later i) request (without_bytes (answer_meant lines r)) live2 ready.result)
         (body told))
@@ -211,10 +240,8 @@ module _ (shape : Sizes) (lines : List Line) (commands : AreCommands shape.ranks
           name.0,
           name.1,
           name.2 ∙ ap (λ (r : Request). Some r) (same_some request other same),
-          both (is_question_of q x.command) (is_result (answer_meant lines r)) is_question
-              (sym (bytes_no_matter (answer_meant lines r))
-              ∙ result_is_result (history_in later i) request (without_bytes (answer_meant lines r)) ready.result),
-        ))
+          both (is_question_of q x.command) (is_result (answer_meant lines r)) is_question is_one,
+        )))
 
     -- nothing was marked of a request that is live
     hushed_at : (later : List Step) → IsReached shape lines later states → (request : Request) →
@@ -225,51 +252,71 @@ module _ (shape : Sizes) (lines : List Line) (commands : AreCommands shape.ranks
         (reached2.hushed i).requests name.0 (inl (q, name.1)) request name.2 (λ is. no_some request is)
 
     receive_ends : (number : ℕ) → live mine h q ≡ Some (Receiving number) → (r : Reply) →
-        result_in (λ k. slice_get states k) i spot (Receiving number) ≡ Some r → After x.line r
+        result_in (λ k. slice_get states k) i spot (Receiving number) ≡ Some r → After log x.line r
     receive_ends number live_is r so =
         by_off (list_any (is_cancel_by number) spot.deeds) (off_is lines h spot (at_log log reached.told).is number) so
       where
         by_pair : happened (is_cancel number) h ≡ false → (o : Option Pair) →
             find (is_of_receive number) spot.pairs ≡ o →
-            option_and_then (shown_at (λ k. slice_get states k) i) o ≡ Some r → After x.line r
+            option_and_then (shown_at (λ k. slice_get states k) i) o ≡ Some r → After log x.line r
         by_pair kept None found so = absurd (no_some r so)
         by_pair kept (Some pair) found so =
             let was : pair_of_receive h number ≡ Some pair =
             sym ((at_log log reached.told).is.paired number) ∙ found in
             let ready = receive_whole shape lines commands script states i low spot here log reached number pair was
             (hushed_at log reached (Receiving number) live_is pair was) kept in
-            let told2 = ready.1.told in
-            let found2 : pair_of_receive (history_in ready.0 i) number ≡ Some pair =
-            sym ((at_log ready.0 told2).is.paired number) ∙ found in
-            let right = shown_right shape lines commands script states i low spot here ready.0 told2 number pair
+            let later : List Step = with_whole log i pair.arrival.env.from pair.arrival.n in
+            let told2 = ready.told in
+            let found2 : pair_of_receive (history_in later i) number ≡ Some pair =
+            sym ((at_log later told2).is.paired number) ∙ found in
+            let right = shown_right shape lines commands script states i low spot here later told2 number pair
             found2 r so in
-            let live2 : live mine (history_in ready.0 i) q ≡ Some (Receiving number) =
-            live_at log ready.0 reached.told told2 q ∙ live_is in
-            finish ready.0 (Receiving number) r live_is
+            let live2 : live mine (history_in later i) q ≡ Some (Receiving number) =
+            live_at log later reached.told told2 q ∙ live_is in
+            finish later (Receiving number) r
+            (sym (got_is (list_any (is_cancel_by number) spot.deeds)
+            (off_is lines h spot (at_log log reached.told).is number ∙ kept) (find (is_of_receive number) spot.pairs)
+            found))
+            live_is
             (record {
               told = told2;
-              hushed = ready.1.hushed;
-              result = ready.1.result ∙ ap (λ (a : Answer). Some a) right.0;
+              hushed = ready.hushed;
+              result = ready.result ∙ ap (λ (a : Answer). Some a) right.0;
             })
             (λ told.
             right.1 x.line x.command
             (commands.stand i (length (ran_lines h)) x next)
-            (asked_right (history_in ready.0 i) (Receiving number) live2 ∙ found2))
+            (asked_right (history_in later i) (Receiving number) live2 ∙ found2))
+          where
+            got_is : (b : Bool) → b ≡ false → (o : Option Pair) → o ≡ Some pair →
+                (if b then log
+                else option_map_or (λ (pair : Pair). with_whole log i pair.arrival.env.from pair.arrival.n) o log)
+                ≡ with_whole log i pair.arrival.env.from pair.arrival.n
+            got_is b off o found = rw (off, found) refl
+
+        off_log : (b : Bool) → b ≡ true →
+            (if b then log
+            else option_map_or (λ (pair : Pair). with_whole log i pair.arrival.env.from pair.arrival.n)
+            (find (is_of_receive number) spot.pairs) log) ≡ log
+        off_log b off = rw off refl
 
         by_off : (b : Bool) → b ≡ happened (is_cancel number) h →
             (if b then Some reply.Cancelled
             else option_and_then (shown_at (λ k. slice_get states k) i) (find (is_of_receive number) spot.pairs))
             ≡ Some r →
-            After x.line r
+            After log x.line r
         by_off true off so =
-            let ready = receive_cancelled shape lines commands script states i low spot here log reached number
-            (sym off) in
-            subst (λ (r : Reply). After x.line r) (same_some reply.Cancelled r so)
-            (finish ready.0 (Receiving number) reply.Cancelled live_is ready.1 (λ told k low. tt))
+            subst (λ (r : Reply). After log x.line r) (same_some reply.Cancelled r so)
+            (finish log (Receiving number) reply.Cancelled
+            (sym (off_log (list_any (is_cancel_by number) spot.deeds)
+            (off_is lines h spot (at_log log reached.told).is number ∙ sym off)))
+            live_is
+            (receive_cancelled shape lines commands script states i low spot here log reached number (sym off))
+            (λ told k low. tt))
         by_off false off so = by_pair (sym off) (find (is_of_receive number) spot.pairs) refl so
 
     send_ends : (to n : ℕ) → live mine h q ≡ Some (Sending to n) → (r : Reply) →
-        result_in (λ k. slice_get states k) i spot (Sending to n) ≡ Some r → After x.line r
+        result_in (λ k. slice_get states k) i spot (Sending to n) ≡ Some r → After log x.line r
     send_ends to n live_is r so =
         by_flags (list_any (is_that i n) other.0.withdrawn) refl
         (list_any (is_unasked_by to n) spot.deeds || list_any (is_of_message i n) other.0.pairs) refl
@@ -294,24 +341,24 @@ module _ (shape : Sizes) (lines : List Line) (commands : AreCommands shape.ranks
             list_any (is_recall_by to n) spot.deeds ≡ c → (p : Bool) →
             (list_any (is_message i n) other.0.came && not (free_lem other.0 i n)) ≡ p →
             (if w then Some reply.Cancelled else if l && (not c || p) then Some reply.Sent else None) ≡ Some r →
-            After x.line r
+            After log x.line r
         by_flags true gone l left c recall p past so =
             let ready = send_withdrawn shape lines commands script states i low spot here to n below other.0 other.1 log
             reached hush gone in
-            subst (λ (r : Reply). After x.line r) (same_some reply.Cancelled r so)
-            (finish ready.0 (Sending to n) reply.Cancelled live_is ready.1 (λ told k low. tt))
+            subst (λ (r : Reply). After log x.line r) (same_some reply.Cancelled r so)
+            (finish (before_sent log i to n) (Sending to n) reply.Cancelled refl live_is ready (λ told k low. tt))
         by_flags false gone true left false recall p past so =
             let ready = send_left shape lines commands script states i low spot here to n below other.0 other.1 log
             reached
-            name.0 name.2 hush left recall in
-            subst (λ (r : Reply). After x.line r) (same_some reply.Sent r so)
-            (finish ready.0 (Sending to n) reply.Sent live_is ready.1 (λ told k low. tt))
+            name.0 name.2 hush left recall gone in
+            subst (λ (r : Reply). After log x.line r) (same_some reply.Sent r so)
+            (finish (before_sent log i to n) (Sending to n) reply.Sent refl live_is ready (λ told k low. tt))
         by_flags false gone true left true recall true past so =
             let ready = send_recalled shape lines commands script states i low spot here to n below other.0 other.1 log
             reached q live_is (λ later reached2 live2. hushed_at later reached2 (Sending to n) live2) left recall gone
             past in
-            subst (λ (r : Reply). After x.line r) (same_some reply.Sent r so)
-            (finish ready.0 (Sending to n) reply.Sent live_is ready.1 (λ told k low. tt))
+            subst (λ (r : Reply). After log x.line r) (same_some reply.Sent r so)
+            (finish (before_sent log i to n) (Sending to n) reply.Sent refl live_is ready (λ told k low. tt))
         by_flags false gone true left true recall false past so = absurd (no_some r so)
         by_flags false gone false left c recall p past so = absurd (no_some r so)
 
@@ -319,7 +366,7 @@ module _ (shape : Sizes) (lines : List Line) (commands : AreCommands shape.ranks
     pub asked_now : (r : Reply) →
         option_map_or (result_in (λ k. slice_get states k) i spot) (live_in lines i spot.deeds q) (Some reply.Null)
         ≡ Some r →
-        After x.line r
+        After log x.line r
     asked_now r so =
         by_live (live mine h q) refl
         (sym (ap (λ (o : Option Request). option_map_or (result_in (λ k. slice_get states k) i spot) o
@@ -335,9 +382,9 @@ module _ (shape : Sizes) (lines : List Line) (commands : AreCommands shape.ranks
             (λ request. unwrap_or (result_of h request) answer.No) o answer.Null)) live_is
 
         by_live : (o : Option Request) → live mine h q ≡ o →
-            option_map_or (result_in (λ k. slice_get states k) i spot) o (Some reply.Null) ≡ Some r → After x.line r
+            option_map_or (result_in (λ k. slice_get states k) i spot) o (Some reply.Null) ≡ Some r → After log x.line r
         by_live None live_is so =
-            subst (λ (r : Reply). After x.line r) (same_some reply.Null r so)
+            subst (λ (r : Reply). After log x.line r) (same_some reply.Null r so)
             (plain_now shape lines commands script states i low spot here log reached x next reply.Null
             (right_at log reached.told answer.Null (idle_of log reached.told x next q asks) (null_right live_is asks)
             (λ k low. tt)))
@@ -369,14 +416,14 @@ module _ (shape : Sizes) (lines : List Line) (commands : AreCommands shape.ranks
         by_pair (Some pair) found = ap (λ (b : Bool). if b then Some (shown pair) else None) (hush pair found)
 
     pub no_now : x.command ≡ command.Test q →
-        option_map_or (may_be_open spot) (live_in lines i spot.deeds q) false ≡ true → After x.line reply.No
+        option_map_or (may_be_open spot) (live_in lines i spot.deeds q) false ≡ true → After log x.line reply.No
     no_now is open' =
         by_live (live mine h q) refl
         (sym (ap (λ (o : Option Request). option_map_or (may_be_open spot) o false)
         ((say_log log reached.told).live i q)) ∙ open')
       where
         by_live : (o : Option Request) → live mine h q ≡ o → option_map_or (may_be_open spot) o false ≡ true →
-            After x.line reply.No
+            After log x.line reply.No
         by_live None live_is open' = absurd (false≢true open')
         by_live (Some request) live_is open' =
             plain_now shape lines commands script states i low spot here log reached x next reply.No

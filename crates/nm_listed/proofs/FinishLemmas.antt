@@ -2,7 +2,7 @@
 use Rattle.std.proofs.Common.{◌≡◌, ℕ, zero, suc, ◌<◌, ◌≤◌, ◌==◌, ◌&&◌, ◌||◌, not, Bool}
 use Rattle.std.proofs.Common.{true, false, cond}
 use Rattle.std.proofs.Common.{ltb, Option, Some, None, List, [], ◌∷◌, ◌++◌, length, refl, sym, ◌∙◌, ap, subst, arith}
-use Rattle.std.specs.Prelude.{count_by, option_and_then}
+use Rattle.std.specs.Prelude.{if◌then◌else◌, count_by, option_and_then}
 use Rattle.std.specs.List.{filter, list_any, slice_get}
 use Rattle.std.specs.Option.{option_map_or}
 use Rattle.std.proofs.lemmas.Bool.{false≢true}
@@ -41,6 +41,9 @@ use Rattle.nm_explored.specs.Ends.{AreAtRest}
 use Rattle.nm_explored.specs.Settings.{IsAt}
 use Rattle.nm_explored.proofs.PlacedLemmas.{came_said, numbers_in}
 use Rattle.nm_explored.proofs.SendLemmas.{sent_deed, sent_many}
+use Rattle.nm_outcomes.proofs.SaidLemmas.{said}
+use Rattle.nm_listed.specs.Tellings.{all_over, answered, clock, each_below, may_leave, over, over_pair, over_rank}
+use Rattle.nm_listed.specs.Tellings.{pushed, with_answer, with_late, with_out, with_undone, with_whole}
 use Rattle.nm_listed.proofs.QuietLemmas.{late_may, out_may, undone_may, whole_may, whole_plain}
 use Rattle.nm_listed.proofs.ReachLemmas.{is_at}
 use Rattle.nm_listed.proofs.ResultLemmas.{left_said, past_said, recall_said}
@@ -92,25 +95,26 @@ sent_happened (e ∷ h) to k s here = by_event e.what e.stamp k here (λ k here.
 module _ (shape : Sizes) (lines : List Line) (commands : AreCommands shape.ranks lines)
     (script : IsScript shape.ranks lines) (states : List Spot)
     (rest : AreAtRest shape.ranks lines (λ k. slice_get states k)) where
-  -- the log goes on quietly to one of which this holds
-  abbrev pub More : List Step → (List Step → Type 0) → Type 0
-  More log P = (later : List Step) × GoesOn log later × IsTold shape lines later states × P later
+  -- the log goes on quietly to this one, of which this holds
+  abbrev pub Then : List Step → List Step → (List Step → Type 0) → Type 0
+  Then log later P = GoesOn log later × IsTold shape lines later states × P later
 
   -- so for all numbers below one
   pub all_below : (Q : ℕ → List Step → Type 0) →
       ((k : ℕ) (a b : List Step) → IsTold shape lines a states → IsTold shape lines b states → GoesOn a b → Q k a →
       Q k b) →
-      (bound : ℕ) →
-      ((k : ℕ) → k < bound → (log : List Step) → IsTold shape lines log states → More log (Q k)) → (log : List Step) →
-      IsTold shape lines log states → More log (λ later. (k : ℕ) → k < bound → Q k later)
-  all_below Q keep zero each log told = (log, goes_nowhere log, told, λ k low. absurd (omega (arith, low)))
-  all_below Q keep (suc b) each log told =
-      let first = all_below Q keep b (λ k low. each k (omega (arith, low))) log told in
-      let last = each b (omega arith) first.0 first.2 in (
-        last.0,
-        goes_both log first.0 last.0 first.1 last.1,
-        last.2,
-        λ k low. by_last k low (k == b) refl first.0 last.0 first.2 last.2 last.1 first.3 last.3,
+      (f : ℕ → List Step → List Step) (bound : ℕ) →
+      ((k : ℕ) → k < bound → (log : List Step) → IsTold shape lines log states → Then log (f k log) (Q k)) →
+      (log : List Step) → IsTold shape lines log states →
+      Then log (each_below f bound log) (λ later. (k : ℕ) → k < bound → Q k later)
+  all_below Q keep f zero each log told = (goes_nowhere log, told, λ k low. absurd (omega (arith, low)))
+  all_below Q keep f (suc b) each log told =
+      let first = all_below Q keep f b (λ k low. each k (omega (arith, low))) log told in
+      let mid : List Step = each_below f b log in
+      let last = each b (omega arith) mid first.1 in (
+        goes_both log mid (f b mid) first.0 last.0,
+        last.1,
+        λ k low. by_last k low (k == b) refl mid (f b mid) first.1 last.1 last.0 first.2 last.2,
       )
     where
       by_last : (k : ℕ) → k < suc b → (c : Bool) → (k == b) ≡ c → (one two : List Step) →
@@ -213,34 +217,67 @@ module _ (shape : Sizes) (lines : List Line) (commands : AreCommands shape.ranks
 
       -- a quiet step of a rank, which makes this happen
       one_more : (log : List Step) (told : IsTold shape lines log states) (k : ℕ) → k < shape.ranks →
-          (what : Happened) → is_quiet what ≡ true → MayBe shape lines log told.clock k what →
-          (test : Happened → Bool) → test what ≡ true → More log (λ later. happened test (history_in later k) ≡ true)
+          (what : Happened) → is_quiet what ≡ true → MayBe shape lines log (clock log) k what →
+          (test : Happened → Bool) → test what ≡ true →
+          Then log (pushed log k what) (λ later. happened test (history_in later k) ≡ true)
       one_more log told k inside what quiet may test is = (
-        log ++ step_at k told.clock what ∷ [],
-        goes_one log (step_at k told.clock what) quiet,
+        goes_one log (step_at k (clock log) what) quiet,
         told_quiet shape lines log states told k what quiet inside may,
-        ap (λ (h : List Event). happened test h) (grown_here log (step_at k told.clock what))
-            ∙ happened-push test (history_in log k) (now told.clock what)
+        ap (λ (h : List Event). happened test h) (grown_here log (step_at k (clock log) what))
+            ∙ happened-push test (history_in log k) (now (clock log) what)
             ∙ or_right (happened test (history_in log k)) (test what) is,
       )
+
+      -- .. or is not taken where that has happened
+      unless : (log push : List Step) (b : Bool) (P : List Step → Type 0) → (b ≡ true → Then log log P) →
+          (b ≡ false → Then log push P) → Then log (if b then log else push) P
+      unless log push true P there not_yet = there refl
+      unless log push false P there not_yet = not_yet refl
 
       two_self : (a b : ℕ) → (a == a && b == b) ≡ true
       two_self a b = both (a == a) (b == b) (eqb_self a) (eqb_self b)
 
-      undone_at : (log : List Step) (told : IsTold shape lines log states) (done : Bool) →
-          happened (is_undone j n true) (history_in log i) ≡ false →
-          happened (is_undone j n false) (history_in log i) ≡ false →
+      -- the answer of a recall came back
+      abbrev IsBack : List Step → Type 0
+      IsBack later =
+          (happened (is_undone j n true) (history_in later i) || happened (is_undone j n false) (history_in later i))
+          ≡ true
+
+      undone_then : (log : List Step) (told : IsTold shape lines log states) (done : Bool) →
           happened (is_recall j n) (history_in log i) ≡ true →
-          happened (is_withdraw i n done) (history_in log j) ≡ true →
-          More log (λ later. happened (is_undone j n done) (history_in later i) ≡ true)
-      undone_at log told done never none recalled withdrawn =
-          one_more log told i low (event.Undone j n done) refl
-          (undone_may shape lines log told.is_log told.clock told.early i j n done never none recalled withdrawn)
-          (is_undone j n done) (both (j == j && n == n) _ (two_self j n) (same_done done))
+          happened (is_withdraw i n done) (history_in log j) ≡ true → Then log (with_undone log i j n done) IsBack
+      undone_then log told done recalled withdrawn =
+          unless log (pushed log i (event.Undone j n done))
+          (happened (is_undone j n true) (history_in log i) || happened (is_undone j n false) (history_in log i)) IsBack
+          (λ back. (goes_nowhere log, told, back))
+          (λ none. not_yet (no_left (happened (is_undone j n true) (history_in log i)) _ none)
+          (no_right (happened (is_undone j n true) (history_in log i)) _ none))
         where
+          no_left : (a b : Bool) → (a || b) ≡ false → a ≡ false
+          no_left false b none = refl
+          no_left true b none = none
+
+          no_right : (a b : Bool) → (a || b) ≡ false → b ≡ false
+          no_right false b none = none
+          no_right true b none = absurd (false≢true (sym none))
+
           same_done : (d : Bool) → is_same d d ≡ true
           same_done true = refl
           same_done false = refl
+
+          is_back : (later : List Step) (d : Bool) → happened (is_undone j n d) (history_in later i) ≡ true →
+              IsBack later
+          is_back later true is = or_left (happened (is_undone j n true) (history_in later i)) _ is
+          is_back later false is = or_right (happened (is_undone j n true) (history_in later i)) _ is
+
+          not_yet : happened (is_undone j n true) (history_in log i) ≡ false →
+              happened (is_undone j n false) (history_in log i) ≡ false →
+              Then log (pushed log i (event.Undone j n done)) IsBack
+          not_yet never none =
+              let more = one_more log told i low (event.Undone j n done) refl
+              (undone_may shape lines log told.is_log (clock log) told.early i j n done never none recalled withdrawn)
+              (is_undone j n done) (both (j == j && n == n) _ (two_self j n) (same_done done)) in
+              (more.0, more.1, is_back (pushed log i (event.Undone j n done)) done more.2)
 
       -- a message that was recalled came, and is not free
       is_past : (log : List Step) → IsTold shape lines log states → n < length (sends (history_in log i) j) →
@@ -282,90 +319,68 @@ module _ (shape : Sizes) (lines : List Line) (commands : AreCommands shape.ranks
           not_free false none recall = refl
           not_free true none recall = absurd (false≢true (sym none ∙ recall))
 
+      late_then : (log : List Step) (told : IsTold shape lines log states) →
+          happened (is_recall j n) (history_in log i) ≡ true → is_past_recall (history_in log j) i n ≡ true →
+          happened (is_withdraw i n true) (history_in log j) ≡ false →
+          Then log (with_late log i j n) (λ later. happened (is_withdraw i n false) (history_in later j) ≡ true)
+      late_then log told recalled past gone =
+          unless log (pushed log j (event.Withdraw i n false)) (happened (is_withdraw i n false) (history_in log j))
+          (λ later. happened (is_withdraw i n false) (history_in later j) ≡ true)
+          (λ late. (goes_nowhere log, told, late))
+          (λ late.
+          one_more log told j below (event.Withdraw i n false) refl
+          (late_may shape lines log told.is_log (clock log) told.early i j n recalled past gone late)
+          (is_withdraw i n false) (both (i == i && n == n) true (two_self i n) refl))
+
+      abbrev Answered : List Step → List Step → Type 0
+      Answered log later = happened (is_recall j n) (history_in log i) ≡ true → IsBack later
+
       answer_recall : (log : List Step) → IsTold shape lines log states → n < length (sends (history_in log i) j) →
-          More log (λ later. happened (is_recall j n) (history_in log i) ≡ true →
-          (happened (is_undone j n true) (history_in later i) || happened (is_undone j n false) (history_in later i))
-          ≡ true)
-      answer_recall log told inside =
-          by_flags (happened (is_recall j n) (history_in log i)) refl
-          (happened (is_undone j n true) (history_in log i)) refl
-          (happened (is_undone j n false) (history_in log i)) refl
-          (happened (is_withdraw i n true) (history_in log j)) refl
-          (happened (is_withdraw i n false) (history_in log j)) refl
+          Then log (answered log i j n) (Answered log)
+      answer_recall log told inside = by_recall (happened (is_recall j n) (history_in log i)) refl
         where
-          Answered : List Step → Type 0
-          Answered later =
-              happened (is_recall j n) (history_in log i) ≡ true →
-              (happened (is_undone j n true) (history_in later i) || happened (is_undone j n false)
-              (history_in later i))
-              ≡ true
+          by_withdrawal : happened (is_recall j n) (history_in log i) ≡ true → (w : Bool) →
+              happened (is_withdraw i n true) (history_in log j) ≡ w →
+              Then log (if w then with_undone log i j n true else with_undone (with_late log i j n) i j n false) IsBack
+          by_withdrawal recalled true gone = undone_then log told true recalled gone
+          by_withdrawal recalled false gone =
+              let late : List Step = with_late log i j n in
+              let first = late_then log told recalled (is_past log told inside recalled) gone in
+              let last = undone_then late first.1 false (happened_on (is_recall j n) log late first.0 i recalled)
+              first.2 in
+              (goes_both log late (with_undone late i j n false) first.0 last.0, last.1, last.2)
 
-          done_so : (later : List Step) → happened (is_undone j n true) (history_in later i) ≡ true → Answered later
-          done_so later is recalled = or_left (happened (is_undone j n true) (history_in later i)) _ is
-
-          late_so : (later : List Step) → happened (is_undone j n false) (history_in later i) ≡ true → Answered later
-          late_so later is recalled = or_right (happened (is_undone j n true) (history_in later i)) _ is
-
-          by_late : happened (is_undone j n true) (history_in log i) ≡ false →
-              happened (is_undone j n false) (history_in log i) ≡ false →
-              happened (is_recall j n) (history_in log i) ≡ true →
-              happened (is_withdraw i n false) (history_in log j) ≡ true → More log Answered
-          by_late never none recalled late =
-              let more = undone_at log told false never none recalled late in
-              (more.0, more.1, more.2, late_so more.0 more.3)
-
-          by_undone : (later : List Step) → IsTold shape lines later states → GoesOn log later →
-              happened (is_recall j n) (history_in log i) ≡ true →
-              happened (is_withdraw i n false) (history_in later j) ≡ true → (u : Bool) →
-              happened (is_undone j n true) (history_in later i) ≡ u → (l : Bool) →
-              happened (is_undone j n false) (history_in later i) ≡ l → More log Answered
-          by_undone later told2 on recalled late true is l so = (later, on, told2, done_so later is)
-          by_undone later told2 on recalled late false is true so = (later, on, told2, late_so later so)
-          by_undone later told2 on recalled late false is false so =
-              let more = undone_at later told2 false is so
-              (happened_on (is_recall j n) log later on i recalled) late in
-              (more.0, goes_both log later more.0 on more.1, more.2, late_so more.0 more.3)
-
-          by_flags : (r : Bool) → happened (is_recall j n) (history_in log i) ≡ r → (u : Bool) →
-              happened (is_undone j n true) (history_in log i) ≡ u → (l : Bool) →
-              happened (is_undone j n false) (history_in log i) ≡ l → (w : Bool) →
-              happened (is_withdraw i n true) (history_in log j) ≡ w → (x : Bool) →
-              happened (is_withdraw i n false) (history_in log j) ≡ x → More log Answered
-          by_flags false recall u undone l late w gone x past =
-              (log, goes_nowhere log, told, λ recalled. absurd (false≢true (sym recall ∙ recalled)))
-          by_flags true recall true undone l late w gone x past =
-              (log, goes_nowhere log, told, done_so log undone)
-          by_flags true recall false undone true late w gone x past =
-              (log, goes_nowhere log, told, late_so log late)
-          by_flags true recall false undone false late true gone x past =
-              let more = undone_at log told true undone late recall gone in
-              (more.0, more.1, more.2, done_so more.0 more.3)
-          by_flags true recall false undone false late false gone true past = by_late undone late recall past
-          by_flags true recall false undone false late false gone false past =
-              let more = one_more log told j below (event.Withdraw i n false) refl
-              (late_may shape lines log told.is_log told.clock told.early i j n recall
-              (is_past log told inside recall) gone
-              past) (is_withdraw i n false) (both (i == i && n == n) true (two_self i n) refl) in
-              by_undone more.0 more.2 more.1 recall more.3 (happened (is_undone j n true) (history_in more.0 i)) refl
-              (happened (is_undone j n false) (history_in more.0 i)) refl
+          by_recall : (r : Bool) → happened (is_recall j n) (history_in log i) ≡ r →
+              Then log (if r then with_answer log i j n else log) (Answered log)
+          by_recall false recall = (goes_nowhere log, told, λ recalled. absurd (false≢true (sym recall ∙ recalled)))
+          by_recall true recall =
+              let more = by_withdrawal recall (happened (is_withdraw i n true) (history_in log j)) refl in
+              (more.0, more.1, λ recalled. more.2)
 
       leave : (log : List Step) → IsTold shape lines log states →
           happened (is_send j n) (history_in log i) ≡ true →
           may_have_left (history_in log i) (history_in log j) i j n ≡ true →
-          More log (λ later. happened (is_out j n) (history_in later i) ≡ true)
-      leave log told sent left = by_out (happened (is_out j n) (history_in log i)) refl
-        where
-          by_out : (b : Bool) → happened (is_out j n) (history_in log i) ≡ b →
-              More log (λ later. happened (is_out j n) (history_in later i) ≡ true)
-          by_out true is = (log, goes_nowhere log, told, is)
-          by_out false is =
-              one_more log told i low (event.Out j n) refl
-              (out_may shape lines log told.is_log told.clock told.early i j n is sent left) (is_out j n) (two_self j n)
+          Then log (with_out log i j n) (λ later. happened (is_out j n) (history_in later i) ≡ true)
+      leave log told sent left =
+          unless log (pushed log i (event.Out j n)) (happened (is_out j n) (history_in log i))
+          (λ later. happened (is_out j n) (history_in later i) ≡ true)
+          (λ is. (goes_nowhere log, told, is))
+          (λ is.
+          one_more log told i low (event.Out j n) refl
+          (out_may shape lines log told.is_log (clock log) told.early i j n is sent left) (is_out j n) (two_self j n))
 
       become_whole : (log : List Step) → IsTold shape lines log states → n < length (sends (history_in log i) j) →
           may_have_left (history_in log i) (history_in log j) i j n ≡ true →
-          More log (λ later. happened (is_whole i n) (history_in later j) ≡ true)
-      become_whole log told inside left = by_whole (happened (is_whole i n) (history_in log j)) refl
+          Then log (with_whole log j i n) (λ later. happened (is_whole i n) (history_in later j) ≡ true)
+      become_whole log told inside left =
+          unless log (pushed log j (event.Whole i n)) (happened (is_whole i n) (history_in log j))
+          (λ later. happened (is_whole i n) (history_in later j) ≡ true)
+          (λ is. (goes_nowhere log, told, is))
+          (λ is.
+          one_more log told j below (event.Whole i n) refl
+          (whole_may shape lines log told.is_log (clock log) told.early i j n is came
+          (whole_plain shape lines log told.is_log (clock log) told.early i j n low below left))
+          (is_whole i n) (two_self i n))
         where
           came : happened (is_arrival i n) (history_in log j) ≡ true
           came =
@@ -374,15 +389,6 @@ module _ (shape : Sizes) (lines : List Line) (commands : AreCommands shape.ranks
               ∙ (let count = all_came log told in
               let small : n < length (arrivals (history_in log j) i) = omega (arith, inside, count) in
               grind (arith, nat_tests))
-
-          by_whole : (b : Bool) → happened (is_whole i n) (history_in log j) ≡ b →
-              More log (λ later. happened (is_whole i n) (history_in later j) ≡ true)
-          by_whole true is = (log, goes_nowhere log, told, is)
-          by_whole false is =
-              one_more log told j below (event.Whole i n) refl
-              (whole_may shape lines log told.is_log told.clock told.early i j n is came
-              (whole_plain shape lines log told.is_log told.clock told.early i j n low below left))
-              (is_whole i n) (two_self i n)
 
       -- how many messages there are does not change
       pub sends_still : (a b : List Step) → IsTold shape lines a states → IsTold shape lines b states →
@@ -393,67 +399,69 @@ module _ (shape : Sizes) (lines : List Line) (commands : AreCommands shape.ranks
           ∙ sent_many lines (history_in b i) spot (is_at shape lines commands script b states two i low spot here).is j
 
       pub end_message : (log : List Step) → IsTold shape lines log states → n < length (sends (history_in log i) j) →
-          More log IsEnded
-      end_message log told inside =
-          by_left (may_have_left (history_in log i) (history_in log j) i j n) refl
+          Then log (over spot other i j n log) IsEnded
+      end_message log told inside = by_left (may_leave spot other i j n) refl
         where
-          first : More log (λ later. happened (is_recall j n) (history_in log i) ≡ true →
-              (happened (is_undone j n true) (history_in later i) || happened (is_undone j n false)
-              (history_in later i))
-              ≡ true)
+          one : List Step
+          one = answered log i j n
+
+          two : List Step
+          two = with_out one i j n
+
+          three : List Step
+          three = with_whole two j i n
+
+          first : Then log (answered log i j n) (Answered log)
           first = answer_recall log told inside
 
-          recalls_so : (later : List Step) → IsTold shape lines later states → GoesOn first.0 later →
-              happened (is_recall j n) (history_in later i) ≡ true →
-              (happened (is_undone j n true) (history_in later i) || happened (is_undone j n false)
-              (history_in later i))
-              ≡ true
+          recalls_so : (later : List Step) → IsTold shape lines later states → GoesOn one later →
+              happened (is_recall j n) (history_in later i) ≡ true → IsBack later
           recalls_so later told2 on recalled =
-              by_either (happened (is_undone j n true) (history_in first.0 i)) refl
-              (first.3 (recall_same log later told told2 ∙ recalled))
+              by_either (happened (is_undone j n true) (history_in one i)) refl
+              (first.2 (recall_same log later told told2 ∙ recalled))
             where
-              by_either : (c : Bool) → happened (is_undone j n true) (history_in first.0 i) ≡ c →
-                  (c || happened (is_undone j n false) (history_in first.0 i)) ≡ true →
-                  (happened (is_undone j n true) (history_in later i)
-                  || happened (is_undone j n false) (history_in later i)) ≡ true
+              by_either : (c : Bool) → happened (is_undone j n true) (history_in one i) ≡ c →
+                  (c || happened (is_undone j n false) (history_in one i)) ≡ true → IsBack later
               by_either true is some =
                   or_left (happened (is_undone j n true) (history_in later i)) _
-                  (happened_on (is_undone j n true) first.0 later on i is)
+                  (happened_on (is_undone j n true) one later on i is)
               by_either false is some =
                   or_right (happened (is_undone j n true) (history_in later i)) _
-                  (happened_on (is_undone j n false) first.0 later on i some)
+                  (happened_on (is_undone j n false) one later on i some)
 
-          by_left : (b : Bool) → may_have_left (history_in log i) (history_in log j) i j n ≡ b → More log IsEnded
+          said_left : (later : List Step) → IsTold shape lines later states →
+              may_leave spot other i j n ≡ may_have_left (history_in later i) (history_in later j) i j n
+          said_left later told2 = left_said shape lines commands script states i low spot here j n below other there later
+              told2
+
+          by_left : (b : Bool) → may_leave spot other i j n ≡ b → Then log (if b then three else one) IsEnded
           by_left false is = (
             first.0,
             first.1,
-            first.2,
             record {
-              recalls = recalls_so first.0 first.2 (goes_nowhere first.0);
-              left = λ so. absurd (false≢true (sym is ∙ left_same log first.0 told first.2 ∙ so));
+              recalls = recalls_so one first.1 (goes_nowhere one);
+              left = λ so. absurd (false≢true (sym is ∙ said_left one first.1 ∙ so));
             },
           )
           by_left true is =
-              let left1 = sym (left_same log first.0 told first.2) ∙ is in
-              let inside1 : n < length (sends (history_in first.0 i) j) =
-              (let many = sends_still log first.0 told first.2 in omega (arith, inside, many)) in
-              let s = get_some (sends (history_in first.0 i) j) n inside1 in
-              let sent : happened (is_send j n) (history_in first.0 i) ≡ true =
-              subst (λ (k : ℕ). happened (is_send j k) (history_in first.0 i) ≡ true)
-              (sends_numbered shape.ranks (history_in first.0 i) (numbers_in shape lines first.0 first.2.is_log i) j n
+              let left1 = sym (said_left one first.1) ∙ is in
+              let inside1 : n < length (sends (history_in one i) j) =
+              (let many = sends_still log one told first.1 in omega (arith, inside, many)) in
+              let s = get_some (sends (history_in one i) j) n inside1 in
+              let sent : happened (is_send j n) (history_in one i) ≡ true =
+              subst (λ (k : ℕ). happened (is_send j k) (history_in one i) ≡ true)
+              (sends_numbered shape.ranks (history_in one i) (numbers_in shape lines one first.1.is_log i) j n
               s.0
-              s.1) (sent_happened (history_in first.0 i) j n s.0 s.1) in
-              let second = leave first.0 first.2 sent left1 in
-              let inside2 : n < length (sends (history_in second.0 i) j) =
-              (let many = sends_still log second.0 told second.2 in omega (arith, inside, many)) in
-              let third = become_whole second.0 second.2 inside2
-              (sym (left_same log second.0 told second.2) ∙ is) in (
-                third.0,
-                goes_both log second.0 third.0 (goes_both log first.0 second.0 first.1 second.1) third.1,
-                third.2,
+              s.1) (sent_happened (history_in one i) j n s.0 s.1) in
+              let second = leave one first.1 sent left1 in
+              let inside2 : n < length (sends (history_in two i) j) =
+              (let many = sends_still log two told second.1 in omega (arith, inside, many)) in
+              let third = become_whole two second.1 inside2 (sym (said_left two second.1) ∙ is) in (
+                goes_both log two three (goes_both log one two first.0 second.0) third.0,
+                third.1,
                 record {
-                  recalls = recalls_so third.0 third.2 (goes_both first.0 second.0 third.0 second.1 third.1);
-                  left = λ so. (happened_on (is_out j n) second.0 third.0 third.1 i second.3, third.3);
+                  recalls = recalls_so three third.1 (goes_both one two three second.0 third.0);
+                  left = λ so. (happened_on (is_out j n) two three third.0 i second.2, third.2);
                 },
               )
 
@@ -470,14 +478,15 @@ module _ (shape : Sizes) (lines : List Line) (commands : AreCommands shape.ranks
 
   -- of all ranks
   pub end_all : (log : List Step) → IsTold shape lines log states →
-      More log (λ later. (i : ℕ) → i < shape.ranks → (j : ℕ) → j < shape.ranks →
-      AllEnded i j (length (sends (history_in log i) j)) later)
+      Then log (all_over shape.ranks (record { log = log; states = states })) (λ later. (i : ℕ) → i < shape.ranks →
+      (j : ℕ) → j < shape.ranks → AllEnded i j (length (sends (history_in log i) j)) later)
   end_all log told =
       all_below (λ i later. (j : ℕ) → j < shape.ranks → AllEnded i j (length (sends (history_in log i) j)) later)
-      (λ i a b one two on was j below. still i j a b one two on (was j below)) shape.ranks
+      (λ i a b one two on was j below. still i j a b one two on (was j below))
+      (λ i log. over_rank shape.ranks states i log) shape.ranks
       (λ i low start told1.
       all_below (λ j later. AllEnded i j (length (sends (history_in log i) j)) later)
-      (λ j a b one two on was. still i j a b one two on was) shape.ranks
+      (λ j a b one two on was. still i j a b one two on was) (λ j log. over_pair states i j log) shape.ranks
       (λ j below start2 told2. of_pair i j low below start2 told2) start told1) log told
     where
       still : (i j : ℕ) (a b : List Step) → IsTold shape lines a states → IsTold shape lines b states → GoesOn a b →
@@ -497,21 +506,38 @@ module _ (shape : Sizes) (lines : List Line) (commands : AreCommands shape.ranks
         left = was.left;
       }
 
+      pair_is : (i j : ℕ) (spot other : Spot) → slice_get states i ≡ Some spot → slice_get states j ≡ Some other →
+          (start : List Step) →
+          over_pair states i j start
+          ≡ each_below (λ n log. over spot other i j n log) (count_by (is_send_by j) spot.deeds) start
+      pair_is i j spot other here there start =
+          ap (λ (o : Option Spot). option_map_or (λ (spot : Spot). option_map_or (λ (other : Spot).
+          each_below (λ n log. over spot other i j n log) (count_by (is_send_by j) spot.deeds) start)
+          (slice_get states j) start) o start) here
+          ∙ ap (λ (o : Option Spot). option_map_or (λ (other : Spot).
+          each_below (λ n log. over spot other i j n log) (count_by (is_send_by j) spot.deeds) start) o start) there
+
       of_pair : (i j : ℕ) → i < shape.ranks → j < shape.ranks → (start : List Step) → IsTold shape lines start states →
-          More start (AllEnded i j (length (sends (history_in log i) j)))
+          Then start (over_pair states i j start) (AllEnded i j (length (sends (history_in log i) j)))
       of_pair i j low below start told1 =
           let x = spot_at log told i low in
           let y = spot_at log told j below in
+          let many : count_by (is_send_by j) x.0.deeds ≡ length (sends (history_in log i) j) =
+          (said lines (history_in log i) x.0 (is_at shape lines commands script log states told i low x.0 x.1).is).sent
+          j in
           let all = all_below (λ n later. IsEnded i j low below x.0 y.0 x.1 y.1 n later)
           (λ n a b one two on was. ended_still i j low below x.0 y.0 x.1 y.1 n a b one two on was)
-          (length (sends (history_in log i) j))
+          (λ n log. over x.0 y.0 i j n log) (count_by (is_send_by j) x.0.deeds)
           (λ n inside start2 told2.
           end_message i j low below x.0 y.0 x.1 y.1 n start2 told2
-          (let many = sends_still i j low below x.0 y.0 x.1 y.1 n log start2 told told2 in
-          omega (arith, inside, many))) start told1 in (
+          (let same = sends_still i j low below x.0 y.0 x.1 y.1 n log start2 told told2 in
+          omega (arith, inside, same, many))) start told1 in
+          subst (λ (later : List Step). Then start later (AllEnded i j (length (sends (history_in log i) j))))
+          (sym (pair_is i j x.0 y.0 x.1 y.1 start)) (
             all.0,
             all.1,
-            all.2,
             λ low' below' spot other here there n inside.
-                same_ended i j low low' below below' x.0 spot y.0 other x.1 here y.1 there n all.0 (all.3 n inside),
+                same_ended i j low low' below below' x.0 spot y.0 other x.1 here y.1 there n
+                (each_below (λ n log. over x.0 y.0 i j n log) (count_by (is_send_by j) x.0.deeds) start)
+                (all.2 n (omega (arith, inside, many))),
           )

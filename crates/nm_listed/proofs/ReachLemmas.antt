@@ -26,18 +26,15 @@ use Rattle.nm_outcomes.proofs.SentLemmas.{request_sent, sent_place}
 use Rattle.nm_outcomes.proofs.StepLemmas.{acts}
 use Rattle.nm_explored.specs.Moves.{AreSpots}
 use Rattle.nm_explored.specs.Settings.{IsAt}
+use Rattle.nm_listed.specs.Tellings.{clock, pushed}
 use Rattle.nm_listed.proofs.HushLemmas.{AreHushed, hushed_event, is_mark}
 use Rattle.nm_listed.proofs.SteadyLemmas.{AreOfCommands, IsSteady}
-use Rattle.nm_listed.proofs.TellLemmas.{IsTold, MayBe, each_rank, may_come, moved_spots, now, step_at, told_push}
+use Rattle.nm_listed.proofs.TellLemmas.{IsTold, MayBe, clock_some, each_rank, may_come, moved_spots, now, step_at, told_push}
 
 -- a log tells how the ranks came into these states, and nothing was marked of their open requests
 pub record IsReached (shape : Sizes) (lines : List Line) (log : List Step) (states : List Spot) : Type 0 where
   pub told : IsTold shape lines log states
   pub hushed : (j : ℕ) → AreHushed (commands_of j lines) (history_in log j) None
-
--- some log did
-abbrev pub Reached : Sizes → List Line → List Spot → Type 0
-Reached shape lines states = (log : List Step) × IsReached shape lines log states
 
 -- what a rank sends is for ranks of the run
 pub sent_inside : (ranks : ℕ) (commands : List Numbered) (h : List Event) → AreOfCommands ranks commands h →
@@ -65,32 +62,32 @@ module _ (shape : Sizes) (lines : List Line) (commands : AreCommands shape.ranks
   -- the log with a step more
   pub next_log : (log : List Step) (states : List Spot) (told : IsTold shape lines log states) (i : ℕ)
       (what : Happened) →
-      i < shape.ranks → MayBe shape lines log told.clock i what →
-      AtEach (λ b e. MayFollow shape (commands_of i lines) b e) (history_in log i ++ now told.clock what ∷ [])
+      i < shape.ranks → MayBe shape lines log (clock log) i what →
+      AtEach (λ b e. MayFollow shape (commands_of i lines) b e) (history_in log i ++ now (clock log) what ∷ [])
   next_log log states told i what low may =
       subst (λ (h : List Event). AtEach (λ b e. MayFollow shape (commands_of i lines) b e) h)
-      (grown_here log (step_at i told.clock what))
-      (all_follow shape lines (log ++ step_at i told.clock what ∷ [])
-      (log-push shape lines [] log (step_at i told.clock what) told.is_log
-      (may_come shape lines log told.clock i what low told.some (told.early i) may)) i)
+      (grown_here log (step_at i (clock log) what))
+      (all_follow shape lines (log ++ step_at i (clock log) what ∷ [])
+      (log-push shape lines [] log (step_at i (clock log) what) told.is_log
+      (may_come shape lines log (clock log) i what low (clock_some log) (told.early i) may)) i)
 
   pub is_proper : (log : List Step) (states : List Spot) (told : IsTold shape lines log states) (i : ℕ)
-      (what : Happened) → i < shape.ranks → MayBe shape lines log told.clock i what → IsProper (history_in log i) what
+      (what : Happened) → i < shape.ranks → MayBe shape lines log (clock log) i what → IsProper (history_in log i) what
   is_proper log states told i what low may =
-      let next = may_come shape lines log told.clock i what low told.some (told.early i) may in
-      proper shape (commands_of i lines) (history_in log i) told.clock what (all_follow shape lines log told.is_log i)
+      let next = may_come shape lines log (clock log) i what low (clock_some log) (told.early i) may in
+      proper shape (commands_of i lines) (history_in log i) (clock log) what (all_follow shape lines log told.is_log i)
       next.own
 
   -- a step that is no answer and marks nothing
   pub reached_on : (log : List Step) (states new : List Spot) (reached : IsReached shape lines log states) (i : ℕ)
-      (what : Happened) → i < shape.ranks → MayBe shape lines log reached.told.clock i what →
+      (what : Happened) → i < shape.ranks → MayBe shape lines log (clock log) i what →
       is_answer what ≡ false → is_mark what ≡ false →
-      AreSpots shape.ranks lines (log ++ step_at i reached.told.clock what ∷ []) (λ j. slice_get new j) →
-      IsSteady shape (commands_of i lines) (history_in log i ++ now reached.told.clock what ∷ []) →
-      IsReached shape lines (log ++ step_at i reached.told.clock what ∷ []) new
+      AreSpots shape.ranks lines (log ++ step_at i (clock log) what ∷ []) (λ j. slice_get new j) →
+      IsSteady shape (commands_of i lines) (history_in log i ++ now (clock log) what ∷ []) →
+      IsReached shape lines (log ++ step_at i (clock log) what ∷ []) new
   reached_on log states new reached i what low may quiet unmarked stands steady =
       let told = reached.told in
-      let t : ℕ = told.clock in
+      let t : ℕ = clock log in
       record {
         told = told_push shape lines log states new told i what low may stands steady;
         hushed = each_rank shape lines (λ j h. AreHushed (commands_of j lines) h None) log (step_at i t what)
@@ -99,30 +96,19 @@ module _ (shape : Sizes) (lines : List Line) (commands : AreCommands shape.ranks
             reached.hushed;
       }
 
-  pub reached_push : (log : List Step) (states new : List Spot) (reached : IsReached shape lines log states) (i : ℕ)
-      (what : Happened) → i < shape.ranks → MayBe shape lines log reached.told.clock i what →
-      is_answer what ≡ false → is_mark what ≡ false →
-      AreSpots shape.ranks lines (log ++ step_at i reached.told.clock what ∷ []) (λ j. slice_get new j) →
-      IsSteady shape (commands_of i lines) (history_in log i ++ now reached.told.clock what ∷ []) →
-      Reached shape lines new
-  reached_push log states new reached i what low may quiet unmarked stands steady = (
-    log ++ step_at i reached.told.clock what ∷ [],
-    reached_on log states new reached i what low may quiet unmarked stands steady,
-  )
-
   -- what a rank does before an answer
   pub acts_now : (log : List Step) (states : List Spot) (reached : IsReached shape lines log states) (i : ℕ)
       (low : i < shape.ranks) (spot : Spot) → slice_get states i ≡ Some spot → (d : Deed) →
       is_answer (happening lines d) ≡ false → is_mark (happening lines d) ≡ false →
-      MayBe shape lines log reached.told.clock i (happening lines d) →
-      IsSteady shape (commands_of i lines) (history_in log i ++ now reached.told.clock (happening lines d) ∷ []) →
-      Reached shape lines (slice_set states i (spot_after spot d))
+      MayBe shape lines log (clock log) i (happening lines d) →
+      IsSteady shape (commands_of i lines) (history_in log i ++ now (clock log) (happening lines d) ∷ []) →
+      IsReached shape lines (pushed log i (happening lines d)) (slice_set states i (spot_after spot d))
   acts_now log states reached i low spot here d quiet unmarked may steady =
       let told = reached.told in
       let at = is_at log states told i low spot here in
-      reached_push log states (slice_set states i (spot_after spot d)) reached i (happening lines d) low may quiet
+      reached_on log states (slice_set states i (spot_after spot d)) reached i (happening lines d) low may quiet
       unmarked
-      (moved_spots shape lines log (step_at i told.clock (happening lines d)) states (spot_after spot d) low told.stands
-      (acts lines (history_in log i) spot at.is told.clock d
+      (moved_spots shape lines log (step_at i (clock log) (happening lines d)) states (spot_after spot d) low told.stands
+      (acts lines (history_in log i) spot at.is (clock log) d
       (is_proper log states told i (happening lines d) low may)))
       steady

@@ -49,6 +49,7 @@ use Rattle.nm_outcomes.proofs.LogLemmas.{all_delivered, grown_here}
 use Rattle.nm_outcomes.proofs.SaidLemmas.{said}
 use Rattle.nm_outcomes.proofs.SentLemmas.{request_sent, taken_of}
 use Rattle.nm_explored.proofs.PlacedLemmas.{came_said, free_said}
+use Rattle.nm_listed.specs.Tellings.{before_sent, clock, pushed, with_late, with_out, with_undone, with_whole}
 use Rattle.nm_listed.proofs.BeginLemmas.{of_line}
 use Rattle.nm_listed.proofs.LineLemmas.{request_push}
 use Rattle.nm_listed.proofs.HushLemmas.{AreHushed, IsHushed, hushed_mark, index_is, pairs_apart}
@@ -171,17 +172,17 @@ module _ (shape : Sizes) (lines : List Line) (commands : AreCommands shape.ranks
   -- a mark of the request of rank i
   marked : (log : List Step) (told : IsTold shape lines log states) (r0 : Request) (what : Happened) →
       is_quiet what ≡ true → is_answer what ≡ false → is_start what ≡ false → is_matching what ≡ false →
-      MayBe shape lines log told.clock i what →
+      MayBe shape lines log (clock log) i what →
       ((r : Request) → (Some r0 ≡ Some r → ⊥) → IsHushed (history_in log i) r →
-      IsHushed (history_in log i ++ now told.clock what ∷ []) r) →
+      IsHushed (history_in log i ++ now (clock log) what ∷ []) r) →
       ((from n : ℕ) → is_whole from n what ≡ true → is_taken (history_in log i) from n ≡ true) →
-      AreHushedBut lines log i r0 → AreHushedBut lines (log ++ step_at i told.clock what ∷ []) i r0
+      AreHushedBut lines log i r0 → AreHushedBut lines (log ++ step_at i (clock log) what ∷ []) i r0
   marked log told r0 what quiet no_answer no_start no_pair may others whole hushed =
       each_rank shape lines (λ j h. AreHushed (commands_of j lines) h (cond (i == j) (Some r0) None)) log
-      (step_at i told.clock what)
-      (subst (λ (b : Bool). AreHushed mine (history_in log i ++ now told.clock what ∷ []) (cond b (Some r0) None))
+      (step_at i (clock log) what)
+      (subst (λ (b : Bool). AreHushed mine (history_in log i ++ now (clock log) what ∷ []) (cond b (Some r0) None))
       (sym (eqb_self i))
-      (hushed_mark shape mine (history_in log i) told.clock what no_answer no_start no_pair (Some r0) r0
+      (hushed_mark shape mine (history_in log i) (clock log) what no_answer no_start no_pair (Some r0) r0
       (subst (λ (b : Bool). AreHushed mine (history_in log i) (cond b (Some r0) None)) (eqb_self i) (hushed i))
       (λ r is. sym (same_some r0 r is)) others whole))
       hushed
@@ -224,32 +225,32 @@ module _ (shape : Sizes) (lines : List Line) (commands : AreCommands shape.ranks
     undone_next : (log : List Step) (told : IsTold shape lines log states) (done : Bool) →
         IsHushed (history_in log i) (Sending to n) → list_any (is_recall_by to n) spot.deeds ≡ true →
         happened (is_withdraw i n done) (history_in log to) ≡ true →
-        MayBe shape lines log told.clock i (event.Undone to n done)
+        MayBe shape lines log (clock log) i (event.Undone to n done)
     undone_next log told done hushed recall withdrawn =
-        undone_may shape lines log told.is_log told.clock told.early i to n done hushed.1 hushed.2
+        undone_may shape lines log told.is_log (clock log) told.early i to n done hushed.1 hushed.2
         (sym (recall_said log told) ∙ recall) withdrawn
 
     hushed_undone : (log : List Step) (told : IsTold shape lines log states) (done : Bool) →
-        MayBe shape lines log told.clock i (event.Undone to n done) → AreHushedBut lines log i (Sending to n) →
-        AreHushedBut lines (log ++ step_at i told.clock (event.Undone to n done) ∷ []) i (Sending to n)
+        MayBe shape lines log (clock log) i (event.Undone to n done) → AreHushedBut lines log i (Sending to n) →
+        AreHushedBut lines (log ++ step_at i (clock log) (event.Undone to n done) ∷ []) i (Sending to n)
     hushed_undone log told done may hushed =
         marked log told (Sending to n) (event.Undone to n done) refl refl refl refl may
-        (marks_send (history_in log i) told.clock to n (event.Undone to n done) refl (λ from m. refl)
+        (marks_send (history_in log i) (clock log) to n (event.Undone to n done) refl (λ from m. refl)
         (λ to' m is. absurd (false≢true is))
         (λ to' m d is. two_sends to n to' m (and_left (to == to' && n == m) _ is)))
         (λ from m is. absurd (false≢true is)) hushed
 
     hushed_out : (log : List Step) (told : IsTold shape lines log states) →
-        MayBe shape lines log told.clock i (event.Out to n) → AreHushedBut lines log i (Sending to n) →
-        AreHushedBut lines (log ++ step_at i told.clock (event.Out to n) ∷ []) i (Sending to n)
+        MayBe shape lines log (clock log) i (event.Out to n) → AreHushedBut lines log i (Sending to n) →
+        AreHushedBut lines (log ++ step_at i (clock log) (event.Out to n) ∷ []) i (Sending to n)
     hushed_out log told may hushed =
         marked log told (Sending to n) (event.Out to n) refl refl refl refl may
-        (marks_send (history_in log i) told.clock to n (event.Out to n) refl (λ from m. refl)
+        (marks_send (history_in log i) (clock log) to n (event.Out to n) refl (λ from m. refl)
         (λ to' m is. two_sends to n to' m is) (λ to' m d is. absurd (false≢true is)))
         (λ from m is. absurd (false≢true is)) hushed
 
     told_more : (log : List Step) (told : IsTold shape lines log states) (what : Happened) → is_quiet what ≡ true →
-        MayBe shape lines log told.clock i what → IsTold shape lines (log ++ step_at i told.clock what ∷ []) states
+        MayBe shape lines log (clock log) i what → IsTold shape lines (log ++ step_at i (clock log) what ∷ []) states
     told_more log told what quiet may = told_quiet shape lines log states told i what quiet low may
 
     -- what is so after a step of rank i
@@ -263,61 +264,88 @@ module _ (shape : Sizes) (lines : List Line) (commands : AreCommands shape.ranks
     same_send : (to == to && n == n) ≡ true
     same_send = both (to == to) (n == n) (eqb_self to) (eqb_self n)
 
+    -- what the result needs is one event, if the request is hushed
+    withdrawn_log : (log : List Step) → happened (is_withdraw i n true) (history_in log to) ≡ true →
+        happened (is_recall to n) (history_in log i) ≡ true →
+        happened (is_undone to n true) (history_in log i) ≡ false →
+        happened (is_undone to n false) (history_in log i) ≡ false →
+        before_sent log i to n ≡ pushed log i (event.Undone to n true)
+    withdrawn_log log withdrawn recall never none = rw (withdrawn, recall, never, none) refl
+
+    left_log : (log : List Step) → happened (is_withdraw i n true) (history_in log to) ≡ false →
+        happened (is_recall to n) (history_in log i) ≡ false → happened (is_out to n) (history_in log i) ≡ false →
+        before_sent log i to n ≡ pushed log i (event.Out to n)
+    left_log log never recall none = rw (never, recall, none) refl
+
+    late_log : (log : List Step) → happened (is_withdraw i n true) (history_in log to) ≡ false →
+        happened (is_recall to n) (history_in log i) ≡ true →
+        before_sent log i to n ≡ with_out (with_undone (with_late log i to n) i to n false) i to n
+    late_log log never recall = rw (never, recall) refl
+
+    undone_log : (log : List Step) → happened (is_undone to n true) (history_in log i) ≡ false →
+        happened (is_undone to n false) (history_in log i) ≡ false →
+        with_undone log i to n false ≡ pushed log i (event.Undone to n false)
+    undone_log log never none = rw (never, none) refl
+
+    out_log : (log : List Step) → happened (is_out to n) (history_in log i) ≡ false →
+        with_out log i to n ≡ pushed log i (event.Out to n)
+    out_log log none = rw none refl
+
     pub send_withdrawn : (log : List Step) (reached : IsReached shape lines log states) →
         IsHushed (history_in log i) (Sending to n) → list_any (is_that i n) other.withdrawn ≡ true →
-        (later : List Step) × IsReady later (Sending to n) (Some answer.Cancelled)
+        IsReady (before_sent log i to n) (Sending to n) (Some answer.Cancelled)
     send_withdrawn log reached hushed gone =
         let told = reached.told in
-        let t : ℕ = told.clock in
+        let t : ℕ = clock log in
         let withdrawn : happened (is_withdraw i n true) (history_in log to) ≡ true =
         sym (withdrawn_said log told) ∙ gone in
         let recall : happened (is_recall to n) (history_in log i) ≡ true =
         recalled shape lines i to (history_in log i) (history_in log to) (all_follow shape lines log told.is_log i)
         (all_follow shape lines log told.is_log to) (all_delivered shape lines log told.is_log i to low below) n true
         withdrawn in
-        let may = undone_next log told true hushed (recall_said log told ∙ recall) withdrawn in (
-          log ++ step_at i t (event.Undone to n true) ∷ [],
-          record {
-            told = told_more log told (event.Undone to n true) refl may;
-            hushed = hushed_undone log told true may (all_but log (Sending to n) reached.hushed);
-            result = send_cancelled (history_in (log ++ step_at i t (event.Undone to n true) ∷ []) i) to n
-                (after_step (is_recall to n) log t (event.Undone to n true)
-                ∙ or_left (happened (is_recall to n) (history_in log i)) false recall)
-                (after_step (is_undone to n true) log t (event.Undone to n true)
-                ∙ or_right (happened (is_undone to n true) (history_in log i)) _
-                (both (to == to && n == n) true same_send refl));
-          },
-        )
+        let may = undone_next log told true hushed (recall_said log told ∙ recall) withdrawn in
+        subst (λ (later : List Step). IsReady later (Sending to n) (Some answer.Cancelled))
+        (sym (withdrawn_log log withdrawn recall hushed.1 hushed.2))
+        (record {
+          told = told_more log told (event.Undone to n true) refl may;
+          hushed = hushed_undone log told true may (all_but log (Sending to n) reached.hushed);
+          result = send_cancelled (history_in (log ++ step_at i t (event.Undone to n true) ∷ []) i) to n
+              (after_step (is_recall to n) log t (event.Undone to n true)
+              ∙ or_left (happened (is_recall to n) (history_in log i)) false recall)
+              (after_step (is_undone to n true) log t (event.Undone to n true)
+              ∙ or_right (happened (is_undone to n true) (history_in log i)) _
+              (both (to == to && n == n) true same_send refl));
+        })
 
     out_next : (log : List Step) (told : IsTold shape lines log states) → (line : ℕ) →
         request_at (history_in log i) line ≡ Some (Sending to n) → happened (is_out to n) (history_in log i) ≡ false →
         (list_any (is_unasked_by to n) spot.deeds || list_any (is_of_message i n) other.pairs) ≡ true →
-        MayBe shape lines log told.clock i (event.Out to n)
+        MayBe shape lines log (clock log) i (event.Out to n)
     out_next log told line asked none left =
-        out_may shape lines log told.is_log told.clock told.early i to n none
+        out_may shape lines log told.is_log (clock log) told.early i to n none
         (request_sent (history_in log i) line to n asked) (sym (left_said log told) ∙ left)
 
     pub send_left : (log : List Step) (reached : IsReached shape lines log states) (line : ℕ) →
         request_at (history_in log i) line ≡ Some (Sending to n) → IsHushed (history_in log i) (Sending to n) →
         (list_any (is_unasked_by to n) spot.deeds || list_any (is_of_message i n) other.pairs) ≡ true →
-        list_any (is_recall_by to n) spot.deeds ≡ false →
-        (later : List Step) × IsReady later (Sending to n) (Some answer.Sent)
-    send_left log reached line asked hushed left recall =
+        list_any (is_recall_by to n) spot.deeds ≡ false → list_any (is_that i n) other.withdrawn ≡ false →
+        IsReady (before_sent log i to n) (Sending to n) (Some answer.Sent)
+    send_left log reached line asked hushed left recall never =
         let told = reached.told in
-        let t : ℕ = told.clock in
-        let may = out_next log told line asked hushed.0 left in (
-          log ++ step_at i t (event.Out to n) ∷ [],
-          record {
-            told = told_more log told (event.Out to n) refl may;
-            hushed = hushed_out log told may (all_but log (Sending to n) reached.hushed);
-            result = send_sent (history_in (log ++ step_at i t (event.Out to n) ∷ []) i) to n
-                (after_step (is_recall to n) log t (event.Out to n)
-                ∙ ap (λ (b : Bool). b || false) (sym (recall_said log told) ∙ recall))
-                (after_step (is_undone to n true) log t (event.Out to n) ∙ ap (λ (b : Bool). b || false) hushed.1)
-                (after_step (is_out to n) log t (event.Out to n)
-                ∙ or_right (happened (is_out to n) (history_in log i)) _ same_send);
-          },
-        )
+        let t : ℕ = clock log in
+        let may = out_next log told line asked hushed.0 left in
+        subst (λ (later : List Step). IsReady later (Sending to n) (Some answer.Sent))
+        (sym (left_log log (sym (withdrawn_said log told) ∙ never) (sym (recall_said log told) ∙ recall) hushed.0))
+        (record {
+          told = told_more log told (event.Out to n) refl may;
+          hushed = hushed_out log told may (all_but log (Sending to n) reached.hushed);
+          result = send_sent (history_in (log ++ step_at i t (event.Out to n) ∷ []) i) to n
+              (after_step (is_recall to n) log t (event.Out to n)
+              ∙ ap (λ (b : Bool). b || false) (sym (recall_said log told) ∙ recall))
+              (after_step (is_undone to n true) log t (event.Out to n) ∙ ap (λ (b : Bool). b || false) hushed.1)
+              (after_step (is_out to n) log t (event.Out to n)
+              ∙ or_right (happened (is_out to n) (history_in log i)) _ same_send);
+        })
 
     -- behind a late withdrawal
     send_past : (log : List Step) (reached : IsReached shape lines log states) (line : ℕ) →
@@ -325,46 +353,46 @@ module _ (shape : Sizes) (lines : List Line) (commands : AreCommands shape.ranks
         (list_any (is_unasked_by to n) spot.deeds || list_any (is_of_message i n) other.pairs) ≡ true →
         list_any (is_recall_by to n) spot.deeds ≡ true →
         happened (is_withdraw i n false) (history_in log to) ≡ true →
-        (later : List Step) × IsReady later (Sending to n) (Some answer.Sent)
+        IsReady (with_out (with_undone log i to n false) i to n) (Sending to n) (Some answer.Sent)
     send_past log reached line asked hushed left recall late =
         let told = reached.told in
-        let t : ℕ = told.clock in
+        let t : ℕ = clock log in
         let undone : Happened = event.Undone to n false in
         let out : Happened = event.Out to n in
         let may = undone_next log told false hushed recall late in
         let log1 : List Step = log ++ step_at i t undone ∷ [] in
         let told1 = told_more log told undone refl may in
-        let t1 : ℕ = told1.clock in
+        let t1 : ℕ = clock log1 in
         let none : happened (is_out to n) (history_in log1 i) ≡ false =
         after_step (is_out to n) log t undone ∙ ap (λ (b : Bool). b || false) hushed.0 in
         let asked1 : request_at (history_in log1 i) line ≡ Some (Sending to n) =
         ap (λ (h : List Event). request_at h line) (grown_here log (step_at i t undone))
         ∙ request_push (history_in log i) (now t undone) line ∙ still_asked (request_at (history_in log i) line)
         asked in
-        let may1 = out_next log1 told1 line asked1 none left in (
-          log1 ++ step_at i t1 out ∷ [],
-          record {
-            told = told_more log1 told1 out refl may1;
-            hushed = hushed_out log1 told1 may1
-                (hushed_undone log told false may (all_but log (Sending to n) reached.hushed));
-            result = send_late (history_in (log1 ++ step_at i t1 out ∷ []) i) to n
-                (after_step (is_recall to n) log1 t1 out
-                ∙ or_left (happened (is_recall to n) (history_in log1 i)) false
-                (sym (recall_said log1 told1) ∙ recall))
-                (after_step (is_undone to n true) log1 t1 out
-                ∙ ap (λ (b : Bool). b || false)
-                (after_step (is_undone to n true) log t undone
-                ∙ ap (λ (b : Bool). b || ((to == to && n == n) && false)) hushed.1
-                ∙ and_none (to == to && n == n)))
-                (after_step (is_undone to n false) log1 t1 out
-                ∙ or_left (happened (is_undone to n false) (history_in log1 i)) false
-                (after_step (is_undone to n false) log t undone
-                ∙ or_right (happened (is_undone to n false) (history_in log i)) _
-                (both (to == to && n == n) true same_send refl)))
-                (after_step (is_out to n) log1 t1 out
-                ∙ or_right (happened (is_out to n) (history_in log1 i)) _ same_send);
-          },
-        )
+        let may1 = out_next log1 told1 line asked1 none left in
+        subst (λ (later : List Step). IsReady later (Sending to n) (Some answer.Sent))
+        (sym (ap (λ (l : List Step). with_out l i to n) (undone_log log hushed.1 hushed.2) ∙ out_log log1 none))
+        (record {
+          told = told_more log1 told1 out refl may1;
+          hushed = hushed_out log1 told1 may1
+              (hushed_undone log told false may (all_but log (Sending to n) reached.hushed));
+          result = send_late (history_in (log1 ++ step_at i t1 out ∷ []) i) to n
+              (after_step (is_recall to n) log1 t1 out
+              ∙ or_left (happened (is_recall to n) (history_in log1 i)) false
+              (sym (recall_said log1 told1) ∙ recall))
+              (after_step (is_undone to n true) log1 t1 out
+              ∙ ap (λ (b : Bool). b || false)
+              (after_step (is_undone to n true) log t undone
+              ∙ ap (λ (b : Bool). b || ((to == to && n == n) && false)) hushed.1
+              ∙ and_none (to == to && n == n)))
+              (after_step (is_undone to n false) log1 t1 out
+              ∙ or_left (happened (is_undone to n false) (history_in log1 i)) false
+              (after_step (is_undone to n false) log t undone
+              ∙ or_right (happened (is_undone to n false) (history_in log i)) _
+              (both (to == to && n == n) true same_send refl)))
+              (after_step (is_out to n) log1 t1 out
+              ∙ or_right (happened (is_out to n) (history_in log1 i)) _ same_send);
+        })
       where
         and_none : (b : Bool) → (b && false) ≡ false
         and_none true = refl
@@ -382,24 +410,34 @@ module _ (shape : Sizes) (lines : List Line) (commands : AreCommands shape.ranks
         (list_any (is_unasked_by to n) spot.deeds || list_any (is_of_message i n) other.pairs) ≡ true →
         list_any (is_recall_by to n) spot.deeds ≡ true → list_any (is_that i n) other.withdrawn ≡ false →
         (list_any (is_message i n) other.came && not (free_lem other i n)) ≡ true →
-        (later : List Step) × IsReady later (Sending to n) (Some answer.Sent)
+        IsReady (before_sent log i to n) (Sending to n) (Some answer.Sent)
     send_recalled log reached q live_is hush left recall never past =
-        by_late (happened (is_withdraw i n false) (history_in log to)) refl
+        subst (λ (later : List Step). IsReady later (Sending to n) (Some answer.Sent))
+        (sym (late_log log (sym (withdrawn_said log told) ∙ never) (sym (recall_said log told) ∙ recall)))
+        (by_late (happened (is_withdraw i n false) (history_in log to)) refl)
       where
         told : IsTold shape lines log states
         told = reached.told
 
         t : ℕ
-        t = told.clock
+        t = clock log
 
         late : Happened
         late = event.Withdraw i n false
 
+        behind : List Step → List Step
+        behind l = with_out (with_undone l i to n false) i to n
+
+        late_is : (b : Bool) → happened (is_withdraw i n false) (history_in log to) ≡ b →
+            with_late log i to n ≡ (if b then log else pushed log to late)
+        late_is b is = rw is refl
+
         by_late : (b : Bool) → happened (is_withdraw i n false) (history_in log to) ≡ b →
-            (later : List Step) × IsReady later (Sending to n) (Some answer.Sent)
+            IsReady (behind (with_late log i to n)) (Sending to n) (Some answer.Sent)
         by_late true is =
             let line = of_line (request_at (history_in log i)) _ (Sending to n) live_is in
-            send_past log reached line.0 line.1 (hush log reached live_is) left recall is
+            subst (λ (l : List Step). IsReady (behind l) (Sending to n) (Some answer.Sent)) (sym (late_is true is))
+            (send_past log reached line.0 line.1 (hush log reached live_is) left recall is)
         by_late false is =
             let may = late_may shape lines log told.is_log t told.early i to n (sym (recall_said log told) ∙ recall)
             (sym (past_said log told) ∙ past) (sym (withdrawn_said log told) ∙ never) is in
@@ -412,25 +450,32 @@ module _ (shape : Sizes) (lines : List Line) (commands : AreCommands shape.ranks
             sym ((said lines (history_in log1 i) spot (own_is log1 reached1.told)).live i q)
             ∙ (said lines (history_in log i) spot (own_is log told)).live i q ∙ live_is in
             let line = of_line (request_at (history_in log1 i)) _ (Sending to n) live1 in
-            send_past log1 reached1 line.0 line.1 (hush log1 reached1 live1) left recall
+            subst (λ (l : List Step). IsReady (behind l) (Sending to n) (Some answer.Sent)) (sym (late_is false is))
+            (send_past log1 reached1 line.0 line.1 (hush log1 reached1 live1) left recall
             (ap (λ (h : List Event). happened (is_withdraw i n false) h) (grown_here log (step_at to t late))
             ∙ happened-push (is_withdraw i n false) (history_in log to) (now t late)
             ∙ or_right (happened (is_withdraw i n false) (history_in log to)) _
-            (both (i == i && n == n) true (both (i == i) (n == n) (eqb_self i) (eqb_self n)) refl))
+            (both (i == i && n == n) true (both (i == i) (n == n) (eqb_self i) (eqb_self n)) refl)))
 
   -- a receive whose message came
   pub receive_whole : (log : List Step) (reached : IsReached shape lines log states) (number : ℕ) (pair : Pair) →
       pair_of_receive (history_in log i) number ≡ Some pair → is_here (history_in log i) pair ≡ false →
       happened (is_cancel number) (history_in log i) ≡ false →
-      (later : List Step) × IsReady later (Receiving number) (Some (shown pair))
+      IsReady (with_whole log i pair.arrival.env.from pair.arrival.n) (Receiving number) (Some (shown pair))
   receive_whole log reached number pair found gone kept =
-      (log ++ step_at i t what ∷ [], record { told = told1; hushed = hushed1; result = result })
+      subst (λ (later : List Step). IsReady later (Receiving number) (Some (shown pair)))
+      (sym (whole_log gone)) (record { told = told1; hushed = hushed1; result = result })
     where
+      whole_log : happened (is_whole pair.arrival.env.from pair.arrival.n) (history_in log i) ≡ false →
+          with_whole log i pair.arrival.env.from pair.arrival.n
+          ≡ pushed log i (event.Whole pair.arrival.env.from pair.arrival.n)
+      whole_log none = rw none refl
+
       told : IsTold shape lines log states
       told = reached.told
 
       t : ℕ
-      t = told.clock
+      t = clock log
 
       h : List Event
       h = history_in log i
@@ -524,14 +569,11 @@ module _ (shape : Sizes) (lines : List Line) (commands : AreCommands shape.ranks
   -- a receive that was cancelled
   pub receive_cancelled : (log : List Step) (reached : IsReached shape lines log states) (number : ℕ) →
       happened (is_cancel number) (history_in log i) ≡ true →
-      (later : List Step) × IsReady later (Receiving number) (Some answer.Cancelled)
-  receive_cancelled log reached number off = (
-    log,
-    record {
-      told = reached.told;
-      hushed = all_but log (Receiving number) reached.hushed;
-      result = ap (λ (b : Bool). if b then Some answer.Cancelled
-          else option_and_then (λ pair. if is_here (history_in log i) pair then Some (shown pair) else None)
-          (pair_of_receive (history_in log i) number)) off;
-    },
-  )
+      IsReady log (Receiving number) (Some answer.Cancelled)
+  receive_cancelled log reached number off = record {
+    told = reached.told;
+    hushed = all_but log (Receiving number) reached.hushed;
+    result = ap (λ (b : Bool). if b then Some answer.Cancelled
+        else option_and_then (λ pair. if is_here (history_in log i) pair then Some (shown pair) else None)
+        (pair_of_receive (history_in log i) number)) off;
+  }

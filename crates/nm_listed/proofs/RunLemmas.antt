@@ -1,5 +1,5 @@
 -- The record of a log behind which nothing is left is of a run.
-use Rattle.std.proofs.Common.{◌≡◌, ◌⊎◌, inl, inr, ℕ, zero, suc, ◌+◌, ◌*◌, ◌<◌, ◌==◌, ◌&&◌, ◌||◌, not, Bool}
+use Rattle.std.proofs.Common.{◌≡◌, ◌⊎◌, inl, inr, ℕ, zero, suc, ◌+◌, ◌*◌, ◌<◌, ◌≤◌, ◌==◌, ◌&&◌, ◌||◌, not, Bool}
 use Rattle.std.proofs.Common.{true, false, cond}
 use Rattle.std.proofs.Common.{Option, Some, None, List, [], ◌∷◌, ◌++◌, length, map, refl, sym, ◌∙◌, ap, subst}
 use Rattle.std.proofs.Common.{arith, append_assoc}
@@ -10,14 +10,17 @@ use Rattle.std.specs.Bool.{OnTrue}
 use Rattle.std.specs.Option.{option_map_or}
 use Rattle.std.proofs.lemmas.Bool.{false≢true}
 use Rattle.std.proofs.lemmas.List.Folds.{list_any-append}
+use Rattle.nm_types.specs.declared.answers.Account.{Account}
 use Rattle.nm_types.specs.declared.answers.Answer.TheVariants as answer
 use Rattle.nm_types.specs.declared.messages.Arrival.{Arrival}
 use Rattle.nm_types.specs.declared.messages.Envelope.{Envelope}
+use Rattle.nm_types.specs.declared.scripts.Body.{Body}
+use Rattle.nm_types.specs.Bodies.{body_len, bytes_of}
 use Rattle.nm_types.specs.declared.scripts.Command.{Command}
 use Rattle.nm_types.specs.declared.scripts.Command.TheVariants as command
 use Rattle.nm_types.specs.declared.scripts.Line.{Line}
-use Rattle.nm_types.specs.Commands.{Numbered, commands_of}
-use Rattle.nm_types.specs.Limits.{IsScript}
+use Rattle.nm_types.specs.Commands.{Numbered, commands_from, commands_of}
+use Rattle.nm_types.specs.Limits.{IsScript, sent_len}
 use Rattle.nm_types.specs.Sizes.{Sizes}
 use Rattle.nm_types.proofs.ListLemmas.{get_from_map, map_length, place_below}
 use Rattle.nm_types.proofs.NumberLemmas.{same_number}
@@ -37,9 +40,10 @@ use Rattle.nm_history.specs.Happens.{is_undone, is_whole}
 use Rattle.nm_history.specs.Matching.{is_claimed, is_of_message, is_of_receive, matched_pairs}
 use Rattle.nm_history.specs.Quiescence.{AskedOver, EachPair, EachRank, EagerOver, Ended}
 use Rattle.nm_history.specs.Quiescence.{IsAnswered, IsStopped}
-use Rattle.nm_history.specs.Quiescence.{Packets, RecallsAnswered, is_kept_back, is_over, packets_of}
+use Rattle.nm_history.specs.Quiescence.{Packets, RecallsAnswered, is_kept_back, is_over, packets_of as packets_due}
+use Rattle.nm_history.specs.Run.{IsRunOf}
 use Rattle.nm_history.specs.RankRun.{EndAt, IsRankRun, NumberAt, WholeAt, is_asking, ran_lines}
-use Rattle.nm_history.specs.Sends.{Arrived, Sent, arrivals, is_ask, sends}
+use Rattle.nm_history.specs.Sends.{Arrived, Sent, arrivals, is_ask, sends, sent_bytes}
 use Rattle.nm_history.specs.Underway.{MayFollow, is_of_packet}
 use Rattle.nm_history.proofs.AppendLemmas.{arrivals-append, sends-append}
 use Rattle.nm_history.proofs.AtEachLemmas.{AtEach-split}
@@ -50,10 +54,11 @@ use Rattle.nm_history.proofs.MatchingLemmas.{matched_pairs-append}
 use Rattle.nm_history.proofs.OnceLemmas.{eqb_self}
 use Rattle.nm_history.proofs.RankRunLemmas.{rank_run-from_splits}
 use Rattle.nm_report.specs.declared.accounts.RankAccount.{RankAccount}
+use Rattle.nm_report.specs.declared.pairs.PairCount.{PairCount}
 use Rattle.nm_report.specs.declared.records.RunRecord.{RunRecord}
 use Rattle.nm_report.specs.Ends.{are_done, ends_of}
 use Rattle.nm_report.specs.Lawful.{IsRunIn}
-use Rattle.nm_report.specs.Told.{RankTold, Told, told_by, told_of, told_of_rank}
+use Rattle.nm_report.specs.Told.{RankTold, Told, told_by, told_of}
 use Rattle.nm_outcomes.specs.Logs.{Step, history_in}
 use Rattle.nm_outcomes.specs.Paths.{AreCommands}
 use Rattle.nm_outcomes.specs.RankStates.{Spot, free_lem, is_that}
@@ -71,51 +76,33 @@ use Rattle.nm_outcomes.proofs.SentLemmas.{sends_numbered, sent_place}
 use Rattle.nm_outcomes.proofs.SpotLemmas.{off_is}
 use Rattle.nm_match.specs.Deeds.{is_message}
 use Rattle.nm_explored.specs.Successors.{answer_in, result_in, seen_at, sent_at, shown_at}
+use Rattle.nm_explored.specs.declared.choices.moves.Turn.{Turn}
+use Rattle.nm_explored.specs.Met.{IsWay}
+use Rattle.nm_explored.proofs.TellLemmas.{script_short}
 use Rattle.nm_explored.specs.Ends.{AreAtRest, all_told, is_waiting, told_in}
 use Rattle.nm_explored.specs.Lines.{line_in}
 use Rattle.nm_explored.specs.Settings.{IsAt}
 use Rattle.nm_explored.proofs.PlacedLemmas.{first_said, numbers_in}
-use Rattle.nm_explored.proofs.RestLemmas.{no_told, told_each, told_map}
-use Rattle.nm_listed.specs.Ends.{EndsAreRuns}
+use Rattle.nm_explored.proofs.RestLemmas.{no_told, told_map}
+use Rattle.nm_listed.specs.Ends.{EndsAreRuns, RecordsAreCountable, RecordsAreRuns}
+use Rattle.nm_listed.specs.Records.{IsCountable, IsRecordOf, all_ended, ended_as}
+use Rattle.nm_listed.specs.Tellings.{Telling, all_over, finished, told_way}
 use Rattle.nm_listed.proofs.AnswerLemmas.{shows_some}
 use Rattle.nm_listed.proofs.BeginLemmas.{of_line}
-use Rattle.nm_listed.proofs.FinishLemmas.{AllEnded, all_came, end_all, sends_still, spot_at}
+use Rattle.nm_listed.proofs.CountLemmas.{few_packets, few_starts, sends_few, sum_few}
+use Rattle.nm_listed.proofs.FinishLemmas.{AllEnded, Then, all_came, end_all, sends_still, spot_at}
 use Rattle.nm_listed.proofs.HushLemmas.{recall_sent}
 use Rattle.nm_listed.proofs.QuietLemmas.{asked_or_not, sent_as}
-use Rattle.nm_listed.proofs.ReachLemmas.{is_at}
+use Rattle.nm_listed.proofs.RangeLemmas.{all_from, each_there, map_same, map_twice, range_at, range_long}
+use Rattle.nm_listed.proofs.ReachLemmas.{IsReached, is_at}
 use Rattle.nm_listed.proofs.ResultLemmas.{left_said, past_said, recall_said, withdrawn_said}
 use Rattle.nm_listed.proofs.SteadyLemmas.{Begins, IsBegun, IsIdle}
 use Rattle.nm_listed.proofs.TellLemmas.{IsTold}
 use Rattle.nm_listed.proofs.WayLemmas.{way_reached}
 
--- what holds at each place holds of all
-all_from : {X : Type 0} (P : X → Type 0) (xs : List X) → ((k : ℕ) (x : X) → slice_get xs k ≡ Some x → P x) →
-    AllByRecursion P xs
-all_from P [] each = tt
-all_from P (x ∷ xs) each = (each 0 x refl, all_from P xs (λ k y here. each (suc k) y here))
-
--- the numbers of a range
-range_long : (a n : ℕ) → length (range_with_len a n) ≡ n
-range_long a zero = refl
-range_long a (suc n) = ap suc (range_long (a + 1) n)
-
-range_at : (a n k x : ℕ) → slice_get (range_with_len a n) k ≡ Some x → (x ≡ a + k) × (k < n)
-range_at a zero k x here = absurd (no_some x here)
-range_at a (suc n) zero x here = (let same : a ≡ x = same_some a x here in omega (arith, same), omega arith)
-range_at a (suc n) (suc k) x here =
-    let more = range_at (a + 1) n k x here in
-    let one = more.0 in
-    let two = more.1 in
-    (omega (arith, one), omega (arith, two))
-
-map_twice : {X Y Z : Type 0} (f : X → Y) (g : Y → Z) (xs : List X) → map g (map f xs) ≡ map (λ x. g (f x)) xs
-map_twice f g [] = refl
-map_twice {X} {Y} {Z} f g (x ∷ xs) = ap (λ (zs : List Z). g (f x) ∷ zs) (map_twice f g xs)
-
-map_same : {X : Type 0} (f : X → X) → ((x : X) → f x ≡ x) → (xs : List X) → map f xs ≡ xs
-map_same f same [] = refl
-map_same {X} f same (x ∷ xs) =
-    ap (λ (y : X). y ∷ map f xs) (same x) ∙ ap (λ (ys : List X). x ∷ ys) (map_same f same xs)
+-- the law of bodies
+abbrev pub HaveTheirLength : Type 0
+HaveTheirLength = (body : Body) → length (bytes_of body) ≡ body_len body
 
 unasked_here : (ss : List Sent) (k : ℕ) (s : Sent) → slice_get ss k ≡ Some s → is_ask s.how ≡ false →
     is_unasked ss s.n ≡ true
@@ -555,14 +542,18 @@ module _ (shape : Sizes) (lines : List Line) (commands : AreCommands shape.ranks
           waits = line_in lines i k;
         }) say.ran
 
-  -- the record
-  abbrev account : ℕ → RankAccount
-  account i = record {
-    history = record { events = hist i; spare = 0 };
-    at = length (ran_lines (hist i));
-    waits = option_map (λ c. c.line) (slice_get (mine i) (length (ran_lines (hist i))));
-  }
+    -- what became of the rank, by its state
+    ended_here : option_map (ended_as lines log i) (slice_get states i)
+        ≡ Some (record {
+          at = length (ran_lines (hist i));
+          waits = option_map (λ c. c.line) (slice_get (mine i) (length (ran_lines (hist i))));
+          events = hist i;
+        })
+    ended_here =
+        ap (λ (o : Option Spot). option_map (ended_as lines log i) o) here
+        ∙ ap (λ (k : ℕ). Some (record { at = k; waits = line_in lines i k; events = hist i })) say.ran
 
+  -- what became of the ranks
   abbrev end_at : ℕ → Ended
   end_at i = record {
     at = length (ran_lines (hist i));
@@ -570,100 +561,223 @@ module _ (shape : Sizes) (lines : List Line) (commands : AreCommands shape.ranks
     events = hist i;
   }
 
-  abbrev accounts : List RankAccount
-  accounts = map account (range_with_len 0 shape.ranks)
+  abbrev pub all_ends : List Ended
+  all_ends = map end_at (range_with_len 0 shape.ranks)
 
-  each_made : (R : ℕ → Ended → Type 0) → ((i : ℕ) → i < shape.ranks → R i (end_at i)) → EachRank R (ends_of accounts)
+  each_made : (R : ℕ → Ended → Type 0) → ((i : ℕ) → i < shape.ranks → R i (end_at i)) → EachRank R all_ends
   each_made R each i =
-      if_each (R i) (slice_get (ends_of accounts) i)
+      if_each (R i) (slice_get all_ends i)
       (λ e here.
-      let a = get_from_map (λ (rank : RankAccount). record {
-        at = rank.at;
-        waits = rank.waits;
-        events = rank.history.events;
-      }) accounts i e here in
-      let k = get_from_map account (range_with_len 0 shape.ranks) i a.0 a.1 in
+      let k = get_from_map end_at (range_with_len 0 shape.ranks) i e here in
       let place = range_at 0 shape.ranks i k.0 k.1 in
       let number : i ≡ k.0 = (let p = place.0 in omega (arith, p)) in
-      let same : end_at i ≡ e =
-      ap (λ (x : ℕ). end_at x) number
-      ∙ ap (λ (rank : RankAccount). record {
-        at = rank.at;
-        waits = rank.waits;
-        events = rank.history.events;
-      }) k.2 ∙ a.2 in
-      subst (λ (e : Ended). R i e) same (each i place.1))
+      subst (λ (e : Ended). R i e) (ap (λ (x : ℕ). end_at x) number ∙ k.2) (each i place.1))
 
   each_two : (R : ℕ → ℕ → List Event → List Event → Type 0) →
-      ((i j : ℕ) → i < shape.ranks → j < shape.ranks → R i j (hist i) (hist j)) → EachPair R (ends_of accounts)
+      ((i j : ℕ) → i < shape.ranks → j < shape.ranks → R i j (hist i) (hist j)) → EachPair R all_ends
   each_two R each =
-      each_made (λ i a. EachRank (λ j b. R i j a.events b.events) (ends_of accounts))
+      each_made (λ i a. EachRank (λ j b. R i j a.events b.events) all_ends)
       (λ i low. each_made (λ j b. R i j (hist i) b.events) (λ j below. each i j low below))
 
-  abbrev run : RunRecord
-  run = record {
-    shape = shape;
-    ranks = accounts;
-    pairs = map (λ (p : Packets). record { from = p.from; to = p.to; packets = p.count })
-        (packets_of lines (ends_of accounts));
-    cells = record { total = shape.ranks * shape.cells; home = shape.ranks * shape.cells };
-    done = are_done (ends_of accounts);
-  }
-
-  pub is_run : IsRunIn shape lines run
-  is_run = record {
-    shaped = refl;
-    lawful = record {
-      one_each = map_length _ accounts ∙ map_length account (range_with_len 0 shape.ranks) ∙ range_long 0 shape.ranks;
-      rank_runs = each_made (λ i rank. IsRankRun shape (mine i) rank.at rank.events) (λ i low. own_run i low);
-      delivered = each_two (λ i j hi hj. AreDelivered i j (mine i) (mine j) hi hj) carried;
-      quiescent = record {
-        arrived = each_two (λ i j hi hj. length (arrivals hj i) ≡ length (sends hi j))
-            (λ i j low below.
-            let x = spot_at shape lines commands script states rest log told i low in
-            let y = spot_at shape lines commands script states rest log told j below in
-            all_came shape lines commands script states rest i j low below x.0 y.0 x.1 y.1 log told);
-        eager = each_two EagerOver eager_over;
-        asked = each_two AskedOver asked_over;
-        recalls = each_made (λ i rank. RecallsAnswered rank.events) recalls_answered;
-        waits = each_made (λ i rank. IsStopped (mine i) rank) stopped;
-        counts = map_twice _ _ (packets_of lines (ends_of accounts))
-            ∙ map_same _ (λ p. refl) (packets_of lines (ends_of accounts));
-      };
+  -- they are those of a run
+  run_of : IsRunOf shape lines all_ends (packets_due lines all_ends)
+  run_of = record {
+    one_each = map_length end_at (range_with_len 0 shape.ranks) ∙ range_long 0 shape.ranks;
+    rank_runs = each_made (λ i rank. IsRankRun shape (mine i) rank.at rank.events) (λ i low. own_run i low);
+    delivered = each_two (λ i j hi hj. AreDelivered i j (mine i) (mine j) hi hj) carried;
+    quiescent = record {
+      arrived = each_two (λ i j hi hj. length (arrivals hj i) ≡ length (sends hi j))
+          (λ i j low below.
+          let x = spot_at shape lines commands script states rest log told i low in
+          let y = spot_at shape lines commands script states rest log told j below in
+          all_came shape lines commands script states rest i j low below x.0 y.0 x.1 y.1 log told);
+      eager = each_two EagerOver eager_over;
+      asked = each_two AskedOver asked_over;
+      recalls = each_made (λ i rank. RecallsAnswered rank.events) recalls_answered;
+      waits = each_made (λ i rank. IsStopped (mine i) rank) stopped;
+      counts = refl;
     };
-    home = record { all = refl; home = refl };
-    ended = refl;
   }
 
-  pub is_told : told_of run ≡ all_told lines (λ k. slice_get states k) shape.ranks
-  is_told =
-      map_twice account told_of_rank (range_with_len 0 shape.ranks)
-      ∙ sym (told_each (λ i. option_map (told_in lines i) (slice_get states i)) (λ i. told_of_rank (account i)) 0
-      shape.ranks
-      (λ i first last.
-      let inside : i < shape.ranks = omega (arith, last) in
-      ap (λ (o : Option Spot). option_map (told_in lines i) o) (here i inside)
-      ∙ ap (λ (t : RankTold). Some t) (told_here i inside)))
+  ends_are : all_ended lines (record { log = log; states = states }) shape.ranks ≡ all_ends
+  ends_are =
+      each_there (λ i. option_map (ended_as lines log i) (slice_get states i)) end_at 0 shape.ranks
+      (λ i first last. let inside : i < shape.ranks = omega (arith, last) in ended_here i inside)
+
+  -- what a rank told, by what became of it
+  abbrev told_as : Ended → RankTold
+  told_as end = record { answers = filter_map (λ (e : Event). told_by e.what) end.events; waits = end.waits }
+
+  -- a record of the log is of a run that tells what is told in the states
+  pub is_run : (run : RunRecord) → IsRecordOf shape lines (record { log = log; states = states }) run →
+      IsRunIn shape lines run × (told_of run ≡ all_told lines (λ k. slice_get states k) shape.ranks)
+  is_run run is = (
+    record {
+      shaped = is.shaped;
+      lawful = subst (λ (ps : List Packets). IsRunOf shape lines (ends_of run.ranks) ps) (sym is.pairs)
+          (subst (λ (es : List Ended). IsRunOf shape lines es (packets_due lines es)) (sym ends_are_all) run_of);
+      home = record {
+        all = ap (λ (c : Account). c.total) is.cells
+            ∙ ap (λ (s : Sizes). s.ranks * s.cells) (sym is.shaped);
+        home = ap (λ (c : Account). c.home) is.cells ∙ sym (ap (λ (c : Account). c.total) is.cells);
+      };
+      ended = is.done;
+    },
+    sym (map_twice (λ (rank : RankAccount). record {
+      at = rank.at;
+      waits = rank.waits;
+      events = rank.history.events;
+    }) told_as run.ranks)
+        ∙ ap (λ (es : List Ended). map told_as es) ends_are_all
+        ∙ map_twice end_at told_as (range_with_len 0 shape.ranks)
+        ∙ sym (each_there (λ i. option_map (told_in lines i) (slice_get states i)) (λ i. told_as (end_at i)) 0
+        shape.ranks
+        (λ i first last.
+        let inside : i < shape.ranks = omega (arith, last) in
+        ap (λ (o : Option Spot). option_map (told_in lines i) o) (here i inside)
+        ∙ ap (λ (t : RankTold). Some t) (told_here i inside))),
+  )
+    where
+      ends_are_all : ends_of run.ranks ≡ all_ends
+      ends_are_all = is.ranks ∙ ends_are
+
+  -- a send is short
+  send_short : HaveTheirLength → (i to k : ℕ) (s : Sent) → slice_get (sends (hist i) to) k ≡ Some s →
+      s.len < 4294967296
+  send_short lengths i to k s here =
+      let command = (told.steady i).sent to k s here in
+      let short = (script_short shape.ranks lines script).sends i s.line command.0 command.1 in
+      let same = command.2 in
+      let long = sent_long command.0 in
+      omega (arith, short, same, long)
+    where
+      sent_long : (c : Command) → length (sent_bytes c) ≡ sent_len c
+      sent_long (command.Send q to tag ctx body sync) = lengths body
+      sent_long c = refl
+
+  -- what became of the ranks can be counted
+  pub countable : HaveTheirLength → IsCountable shape (record { log = log; states = states })
+  countable lengths = record {
+    some = (let few : shape.ranks ≤ 64 = script.few_ranks in omega (arith, few));
+    there = λ i low. spot_at shape lines commands script states rest log told i low;
+    numbered = λ i low. numbers i;
+    few = λ i spot' low here'.
+        let same : spot i low ≡ spot' = same_some (spot i low) spot' (sym (here i low) ∙ here') in
+        let ran = ap (λ (x : Spot). count_by is_answer_by x.deeds) (sym same) ∙ (say i low).ran in
+        let few = ran_few i in
+        omega (arith, ran, few);
+    packets = λ i to low.
+        let all = few_packets shape (mine i) to (hist i) (follows i) in
+        let sent = sum_few (sends (hist i) to) (λ k s here. send_short lengths i to k s here) in
+        let starts = sends_few (hist i) to in
+        let many = few_starts shape (mine i) (hist i) (follows i) in
+        let none = ap (λ (ws : List Happened). length ws) (idle_end i low).starts in
+        let few = ran_few i in
+        omega (arith, all, sent, starts, many, none, few);
+  }
+    where
+      few_commands : (rank number : ℕ) (lines : List Line) → length (commands_from rank number lines) ≤ length lines
+      few_commands rank number [] = omega arith
+      few_commands rank number (l ∷ lines) = by_rank (l.rank == rank) (few_commands rank (number + 1) lines)
+        where
+          by_rank : (b : Bool) → length (commands_from rank (number + 1) lines) ≤ length lines →
+              length (cond b (record { line = number; command = l.command } ∷ commands_from rank (number + 1) lines)
+              (commands_from rank (number + 1) lines))
+              ≤ length (l ∷ lines)
+          by_rank true fewer = omega (arith, fewer)
+          by_rank false fewer = omega (arith, fewer)
+
+      ran_few : (i : ℕ) → length (ran_lines (hist i)) < 65536
+      ran_few i =
+          let ran = (told.steady i).few in
+          let own = few_commands i 2 lines in
+          let few : length lines < 65536 = script.few_lines in
+          omega (arith, ran, own, few)
+
+-- a record of what became of ranks
+abbrev account_of : Ended → RankAccount
+account_of end = record { history = record { events = end.events; spare = 0 }; at = end.at; waits = end.waits }
+
+abbrev record_of_ends : Sizes → List Line → List Ended → RunRecord
+record_of_ends shape lines ends = record {
+  shape = shape;
+  ranks = map account_of ends;
+  pairs = map (λ (p : Packets). record { from = p.from; to = p.to; packets = p.count }) (packets_due lines ends);
+  cells = record { total = shape.ranks * shape.cells; home = shape.ranks * shape.cells };
+  done = are_done ends;
+}
+
+-- the log that is made of a way to an end, with all that is left behind it
+module _ (stand : StandAtLines) (shape : Sizes) (lines : List Line) (ts : List Turn) (state : List Spot)
+    (script : IsScript shape.ranks lines) (way : IsWay shape.eager shape.ranks lines ts state)
+    (rest : AreAtRest shape.ranks lines (λ i. slice_get state i)) where
+  abbrev made_commands : AreCommands shape.ranks lines
+  made_commands = script_commands shape.ranks lines stand script
+
+  abbrev made : List Step
+  made = (told_way lines shape.ranks ts).log
+
+  made_reached : IsReached shape lines made state × ((told_way lines shape.ranks ts).states ≡ state)
+  made_reached = way_reached shape lines made_commands script ts state way
+
+  abbrev made_last : List Step
+  made_last = all_over shape.ranks (record { log = made; states = state })
+
+  made_over : Then shape lines made_commands script state rest made made_last (λ later. (i : ℕ) → i < shape.ranks →
+      (j : ℕ) → j < shape.ranks →
+      AllEnded shape lines made_commands script state rest i j (length (sends (history_in made i) j)) later)
+  made_over = end_all shape lines made_commands script state rest made made_reached.0.told
+
+  made_ended : (i : ℕ) → i < shape.ranks → (j : ℕ) → j < shape.ranks →
+      AllEnded shape lines made_commands script state rest i j (length (sends (history_in made_last i) j)) made_last
+  made_ended i low j below low' below' spot other here there n inside =
+      let x = spot_at shape lines made_commands script state rest made made_reached.0.told i low in
+      let y = spot_at shape lines made_commands script state rest made made_reached.0.told j below in
+      let same = sends_still shape lines made_commands script state rest i j low below x.0 y.0 x.1 y.1 0 made made_last
+      made_reached.0.told made_over.1 in
+      made_over.2 i low j below low' below' spot other here there n (omega (arith, inside, same))
+
+  made_is : finished shape.ranks (told_way lines shape.ranks ts) ≡ record { log = made_last; states = state }
+  made_is = ap (λ (s : List Spot). record {
+    log = all_over shape.ranks (record { log = made; states = s });
+    states = s;
+  }) made_reached.1
+
+-- the record of the log that is made of a way to an end is of a run that tells what is told there
+pub records_are_runs : StandAtLines → RecordsAreRuns
+records_are_runs stand shape lines ts state run script way rest is =
+    is_run shape lines (made_commands stand shape lines ts state script way rest) script state rest
+    (made_last stand shape lines ts state script way rest) (made_over stand shape lines ts state script way rest).1
+    (made_ended stand shape lines ts state script way rest) run
+    (subst (λ (t : Telling). IsRecordOf shape lines t run) (made_is stand shape lines ts state script way rest) is)
+
+-- .. and what becomes of the ranks by it can be counted
+pub records_are_countable : StandAtLines → HaveTheirLength → RecordsAreCountable
+records_are_countable stand lengths shape lines ts state script way rest =
+    subst (λ (t : Telling). IsCountable shape t) (sym (made_is stand shape lines ts state script way rest))
+    (countable shape lines (made_commands stand shape lines ts state script way rest) script state rest
+    (made_last stand shape lines ts state script way rest) (made_over stand shape lines ts state script way rest).1
+    (made_ended stand shape lines ts state script way rest) lengths)
 
 -- each end is that of a run
 pub ends_are_runs : StandAtLines → EndsAreRuns
 ends_are_runs stand shape lines state script met rest =
-    let commands = script_commands shape.ranks lines stand script in
-    let reached = way_reached shape lines commands script met.0 state met.1 in
-    let told = reached.1.told in
-    let final = end_all shape lines commands script state rest reached.0 told in
-    let count : (i j : ℕ) → i < shape.ranks → j < shape.ranks →
-    length (sends (history_in reached.0 i) j) ≡ length (sends (history_in final.0 i) j) =
-    λ i j low below.
-    let x = spot_at shape lines commands script state rest reached.0 told i low in
-    let y = spot_at shape lines commands script state rest reached.0 told j below in
-    sends_still shape lines commands script state rest i j low below x.0 y.0 x.1 y.1 0 reached.0 final.0 told final.2 in
-    let ended : (i : ℕ) → i < shape.ranks → (j : ℕ) → j < shape.ranks →
-    AllEnded shape lines commands script state rest i j (length (sends (history_in final.0 i) j)) final.0 =
-    λ i low j below low' below' spot other here there n inside.
-    final.3 i low j below low' below' spot other here there n
-    (let same = count i j low below in omega (arith, inside, same)) in (
-      run shape lines commands script state rest final.0 final.2 ended,
-      is_run shape lines commands script state rest final.0 final.2 ended,
-      is_told shape lines commands script state rest final.0 final.2 ended,
-    )
+    let ends : List Ended =
+    all_ended lines (finished shape.ranks (told_way lines shape.ranks met.0)) shape.ranks in
+    let same : ends_of (map account_of ends) ≡ ends = map_twice account_of (λ (rank : RankAccount). record {
+      at = rank.at;
+      waits = rank.waits;
+      events = rank.history.events;
+    }) ends ∙ map_same (λ (e : Ended). e) (λ e. refl) ends in
+    let run : RunRecord = record_of_ends shape lines ends in
+    let right = records_are_runs stand shape lines met.0 state run script met.1 rest (record {
+      shaped = refl;
+      ranks = same;
+      pairs = map_twice (λ (p : Packets). record { from = p.from; to = p.to; packets = p.count })
+          (λ (pair : PairCount). record { from = pair.from; to = pair.to; count = pair.packets }) (packets_due lines ends)
+          ∙ map_same (λ (p : Packets). p) (λ p. refl) (packets_due lines ends)
+          ∙ ap (λ (es : List Ended). packets_due lines es) (sym same);
+      cells = refl;
+      done = ap (λ (es : List Ended). are_done es) (sym same);
+    }) in
+    (run, right.0, right.1)

@@ -2,7 +2,7 @@
 use Rattle.std.proofs.Common.{◌≡◌, ℕ, ◌+◌, ◌<◌, ◌==◌, Bool, true, false}
 use Rattle.std.proofs.Common.{Some}
 use Rattle.std.proofs.Common.{List, [], ◌∷◌, ◌++◌, refl, sym, ◌∙◌, ap, subst, arith, append-nil}
-use Rattle.std.proofs.Common.{append_assoc}
+use Rattle.std.proofs.Common.{append_assoc, length-append}
 use Rattle.std.specs.Prelude.{fold}
 use Rattle.std.specs.List.{AllByRecursion, slice_get, slice_set}
 use Rattle.std.proofs.lemmas.Bool.{false≢true}
@@ -30,6 +30,7 @@ use Rattle.nm_outcomes.proofs.LogLemmas.{grown_here, grown_other, log-push}
 use Rattle.nm_outcomes.proofs.PathLemmas.{history_split}
 use Rattle.nm_explored.specs.Moves.{AreSpots}
 use Rattle.nm_explored.proofs.WalkLemmas.{quiet_spot}
+use Rattle.nm_listed.specs.Tellings.{clock, pushed}
 use Rattle.nm_listed.proofs.SteadyLemmas.{IsSteady, steady_packet}
 
 -- all events are earlier than a clock
@@ -65,6 +66,13 @@ now t what = record { stamp = t; what = what }
 
 abbrev pub step_at : ℕ → ℕ → Happened → Step
 step_at i t what = record { rank = i; event = now t what }
+
+-- the clock of a log
+pub clock_some : (log : List Step) → 0 < clock log
+clock_some log = omega arith
+
+clock_next : (log : List Step) (s : Step) → clock (log ++ s ∷ []) ≡ (clock log) + 1
+clock_next log s = ap (λ (n : ℕ). n + 1) (length-append log (s ∷ []))
 
 module _ (shape : Sizes) (lines : List Line) where
   -- the parts of what may come next at rank i
@@ -105,9 +113,7 @@ module _ (shape : Sizes) (lines : List Line) where
   pub record IsTold (log : List Step) (states : List Spot) : Type 0 where
     pub is_log : IsLog shape lines log
     pub stands : AreSpots shape.ranks lines log (λ i. slice_get states i)
-    pub clock : ℕ
-    pub some : 0 < clock
-    pub early : (j : ℕ) → AreEarly clock (history_in log j)
+    pub early : (j : ℕ) → AreEarly (clock log) (history_in log j)
     pub steady : (i : ℕ) → IsSteady shape (commands_of i lines) (history_in log i)
 
   -- what holds of each rank's history lasts with a step, where it holds of that of the rank
@@ -128,21 +134,22 @@ module _ (shape : Sizes) (lines : List Line) where
   each_rank P log s here each = each_but P log s here (λ j other. each j)
 
   pub told_push : (log : List Step) (states new : List Spot) (told : IsTold log states) (i : ℕ) (what : Happened) →
-      i < shape.ranks → MayBe log told.clock i what →
-      AreSpots shape.ranks lines (log ++ step_at i told.clock what ∷ []) (λ j. slice_get new j) →
-      IsSteady shape (commands_of i lines) (history_in log i ++ now told.clock what ∷ []) →
-      IsTold (log ++ step_at i told.clock what ∷ []) new
+      i < shape.ranks → MayBe log (clock log) i what →
+      AreSpots shape.ranks lines (log ++ step_at i (clock log) what ∷ []) (λ j. slice_get new j) →
+      IsSteady shape (commands_of i lines) (history_in log i ++ now (clock log) what ∷ []) →
+      IsTold (log ++ step_at i (clock log) what ∷ []) new
   told_push log states new told i what inside may stands steady =
-      let t : ℕ = told.clock in record {
+      let t : ℕ = clock log in record {
         is_log = log-push shape lines [] log (step_at i t what) told.is_log
-            (may_come log t i what inside told.some (told.early i) may);
+            (may_come log t i what inside (clock_some log) (told.early i) may);
         stands = stands;
-        clock = t + 1;
-        some = omega arith;
-        early = each_rank (λ j h. AreEarly (t + 1) h) log (step_at i t what)
+        early = λ j.
+            subst (λ (u : ℕ). AreEarly u (history_in (log ++ step_at i t what ∷ []) j))
+            (sym (clock_next log (step_at i t what)))
+            (each_rank (λ j h. AreEarly (t + 1) h) log (step_at i t what)
             (all_push (λ (e : Event). e.stamp < t + 1) (history_in log i) (now t what)
             (later t (history_in log i) (told.early i)) (omega arith))
-            (λ j. later t (history_in log j) (told.early j));
+            (λ j. later t (history_in log j) (told.early j)) j);
         steady = each_rank (λ j h. IsSteady shape (commands_of j lines) h) log (step_at i t what) steady told.steady;
       }
     where
@@ -201,12 +208,12 @@ module _ (shape : Sizes) (lines : List Line) where
 
   -- a quiet event more
   pub told_quiet : (log : List Step) (states : List Spot) (told : IsTold log states) (i : ℕ) (what : Happened) →
-      is_quiet what ≡ true → i < shape.ranks → MayBe log told.clock i what →
-      IsTold (log ++ step_at i told.clock what ∷ []) states
+      is_quiet what ≡ true → i < shape.ranks → MayBe log (clock log) i what →
+      IsTold (log ++ step_at i (clock log) what ∷ []) states
   told_quiet log states told i what quiet inside may =
       told_push log states states told i what inside may
-      (quiet_spots log (step_at i told.clock what) states quiet told.stands)
-      (steady_packet shape (commands_of i lines) (history_in log i) told.clock what (quiet_packet what quiet)
+      (quiet_spots log (step_at i (clock log) what) states quiet told.stands)
+      (steady_packet shape (commands_of i lines) (history_in log i) (clock log) what (quiet_packet what quiet)
       (told.steady i))
 
 -- quiet steps alone stand behind a log

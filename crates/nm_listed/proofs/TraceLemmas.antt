@@ -20,7 +20,7 @@ use Rattle.nm_listed.specs.Finding.{IsTraced, text_of_told}
 use Rattle.nm_listed.specs.Texts.{SameTexts}
 use Rattle.nm_listed.specs.Tracing.{IsChosen, IsChosenTrace}
 use Rattle.nm_listed.specs.declared.tracing.Traced.{Traced}
-use Rattle.nm_listed.specs.declared.tracing.Traced.TheVariants.{Trace, Fewer, TooLong, Unlawful}
+use Rattle.nm_listed.specs.declared.tracing.Traced.TheVariants.{Trace, Fewer, TooLong}
 use Rattle.nm_listed.proofs.ToldLemmas.{SayWhatWasTold, are_outcomes}
 
 -- one end more, with a run
@@ -83,7 +83,6 @@ traced shape lines list runs number (Trace trace) lawful all chosen =
 traced shape lines list runs number (Fewer count) lawful all chosen =
     record { texts = list; outcomes = all; many = chosen.0; fewer = chosen.1 }
 traced shape lines list runs number TooLong lawful all chosen = absurd chosen
-traced shape lines list runs number Unlawful lawful all chosen = absurd chosen
 
 -- the reports of runs at ends that tell all, in order and each once, are all reports
 pub runs_outcomes : SayWhatWasTold → (shape : Sizes) (lines : List Line) (ends : List End)

@@ -55,4 +55,3 @@ abbrev pub IsTraced : Sizes → List Line → ℕ → Traced → Type 0
 IsTraced shape lines number (traced.Trace trace) = IsOutcomeTrace shape lines number trace.items
 IsTraced shape lines number (traced.Fewer count) = HasFewer shape lines number count
 IsTraced shape lines number traced.TooLong = AreTooLong shape lines
-IsTraced shape lines number traced.Unlawful = Unit {0}

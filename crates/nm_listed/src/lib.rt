@@ -17,11 +17,9 @@
 //! - `place_of` finds a text among others; of one that is none of them it tells the first line such
 //!   that none of them begins with it and the lines before it (`IsFirstNew`).
 //!
-//! `trace_of` gives up where the record that is built of a way to an end does not hold before the judge.
-//! No clause says how often that is.
+//! The record of an end is that of the moves that lead there (`retold`): it is of a run (`lawful`).
 //! # What is only tested
-//! That it never gives up on the ends of `nm_explored`, and that both succeed with ample memory
-//! (`.ci/outcomes`).
+//! That both succeed with ample memory (`.ci/outcomes`).
 #![tactic(auto)]
 
 mod finding;

@@ -1,22 +1,24 @@
-//! From the steps of a run to a record of it.
+//! From a way of moves to the record of a run.
 //!
-//! Steps are what ranks did, in one order over all ranks. Four kinds of event may be left out of
-//! them: that a message is whole, that it has left, that a withdrawal came too late, and that the
-//! answer to a recall came back. A `Retelling` takes the steps one by one and puts each of these
-//! just before the answer that needs it, and those that no answer needs at the end. It numbers all
-//! events 1, 2, 3 and so on, pairs receives and messages as they come, and counts the packets.
+//! A `Telling` takes the moves one by one. Each stands in its log as its event. Four kinds of event are no move: that
+//! a message is whole, that it has left, that a withdrawal came too late, and that the answer to a recall came back.
+//! Each of these stands just before the result that needs it, and those that no result needs stand at the end. All
+//! events are numbered 1, 2, 3 and so on.
 //!
 //! # What a contract sees
-//! The record alone (`nm_report`).
+//! `specs/Tellings.antt` has the log that is made of moves, and `specs/Records.antt` the record of a log.
 //! # What is proved
-//! It ends, it is safe for any steps whatever, and all cells of the record are home.
-//!
-//! Nothing is proved of the events: whoever needs a record to be of a run asks `nm_check::judge`.
+//! - The log of a way is this one, and the record has the log's histories, and the packets that they call for.
+//! - Where the way leads to a state at which no rank has a move left, the record is of a run that tells what is told
+//!   there (`retold`, by `lawful`).
 //! # What is only tested
-//! That the records of steps of runs hold before the judge (`.ci/outcomes`).
+//! Nothing.
 
-mod fates;
-mod retellings;
+mod events;
+mod logs;
+mod marks;
+mod packets;
+mod records;
 mod tellings;
 
-pub use retellings::Retelling;
+pub use records::retold;

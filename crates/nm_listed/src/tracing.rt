@@ -1,7 +1,7 @@
 //! A trace of one of the reports that a script can have.
 
-ghost use Rattle.std.specs.Prelude.{◌≡◌, ◌<◌, ◌≤◌, All, IfOk, IfSome, Some, false, length, map, slice_get, true};
-ghost use Rattle.nm_explored.specs.Ends.{TellsAll, told_at_end};
+ghost use Rattle.std.specs.Prelude.{◌≡◌, ◌<◌, ◌≤◌, All, IfOk, Some, false, length, map, slice_get, true};
+ghost use Rattle.nm_explored.specs.Ends.{AreEndsByWay, TellsAll, told_at_end};
 ghost use Rattle.nm_report.specs.declared.records.RunRecord as record_of_run;
 ghost use Rattle.nm_report.specs.Lawful.{IsRunIn};
 ghost use Rattle.nm_report.specs.Report.{report_text};
@@ -27,8 +27,6 @@ pub enum Traced {
     Fewer { count: usize },
     /// The reports have more than 134,217,728 bytes.
     TooLong,
-    /// The record of a way to one of the ends does not hold before the judge.
-    Unlawful,
 }
 
 /// The reports of ends, and of each a run that has it, in the same order.
@@ -52,32 +50,28 @@ impl Witnesses {
     }
 }
 
-/// The reports of these ends and runs that have them, where there are such runs.
+/// The reports of these ends, and runs that have them.
 fn end_runs(
     alloc: Global,
     script: &Script,
     shape: Shape,
     ends: Vec<End>,
-) -> Result<Option<Witnesses>, Memory>
-    requires { shape.ranks ≡ script.now.ranks }
-    ensures told { IfOk result (λ found. IfSome found (λ w.
-        w.texts ≡ map (λ end. text_of_told shape (told_at_end end)) ends.items)) }
-    ensures lawful { IfOk result (λ found. IfSome found (λ w.
-        All (IsRunIn shape script.now.lines) w.runs.items)) }
-    ensures reports { IfOk result (λ found. IfSome found (λ w.
-        w.texts ≡ map (report_text false) w.runs.items)) }
+) -> Result<Witnesses, Memory>
+    requires equal { shape.ranks ≡ script.now.ranks }
+    requires ways { AreEndsByWay shape script.now.lines ends.items }
+    ensures told { IfOk result (λ w.
+        w.texts ≡ map (λ end. text_of_told shape (told_at_end end)) ends.items) }
+    ensures lawful { IfOk result (λ w. All (IsRunIn shape script.now.lines) w.runs.items) }
+    ensures reports { IfOk result (λ w. w.texts ≡ map (report_text false) w.runs.items) }
 {
     let mut texts = Texts::new(alloc);
     let mut runs = Vec::new(alloc);
     for end in ends {
-        let Some(witness) = end_run(alloc, script, shape, end)? else {
-            return Ok(None);
-        };
-        let (text, run) = witness.into_parts();
+        let (text, run) = end_run(alloc, script, shape, end)?.into_parts();
         texts.push(text)?;
         runs.push(run)?;
     }
-    Ok(Some(Witnesses { texts, runs }))
+    Ok(Witnesses { texts, runs })
 }
 
 /// The trace of the run at this place.
@@ -112,8 +106,7 @@ fn chosen(
 }
 
 /// Of ends that tell all that the runs of the script can tell, a trace of a run whose report is the one
-/// with this number, 1 for the first, in the list of all reports that the script can have. It gives up
-/// where the record of a way to one of the ends does not hold.
+/// with this number, 1 for the first, in the list of all reports that the script can have.
 pub fn trace_of(
     alloc: Global,
     script: &Script,
@@ -123,14 +116,12 @@ pub fn trace_of(
 ) -> Result<Traced, Memory>
     requires equal { shape.ranks ≡ script.now.ranks }
     requires tells { TellsAll shape script.now.lines ends.items }
+    requires ways { AreEndsByWay shape script.now.lines ends.items }
     requires some { 1 ≤ number }
     ensures { IfOk result (IsTraced shape script.now.lines number) }
 {
     reports_say_what_was_told();
-    let Some(found) = end_runs(alloc, script, shape, ends)? else {
-        return Ok(Traced::Unlawful);
-    };
-    let (texts, runs) = found.into_parts();
+    let (texts, runs) = end_runs(alloc, script, shape, ends)?.into_parts();
     let mut list = texts.copy(alloc)?;
     list.put_in_order()?;
     if list.is_within(MAX_REPORTS) {

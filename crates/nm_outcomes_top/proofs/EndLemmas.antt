@@ -12,11 +12,11 @@ use Rattle.nm_outcomes_top.specs.declared.words.Question.TheVariants as question
 use Rattle.nm_outcomes_top.specs.Answers.{HasNoReport, IsAnswer, IsAnswerOf, IsAnswerTo}
 use Rattle.nm_outcomes_top.specs.Answers.{IsInputOf, IsSaid}
 use Rattle.nm_outcomes_top.specs.Answers.{read_of, status_of, text_of}
-use Rattle.nm_outcomes_top.specs.Endings.{GivesUp, IsOutgrown, IsRefused, IsSpoken, IsStatus, IsUnlawful, OrFails, OrUnwritten}
+use Rattle.nm_outcomes_top.specs.Endings.{IsOutgrown, IsRefused, IsSpoken, IsStatus, OrFails, OrUnwritten}
 use Rattle.nm_outcomes_top.specs.Endings.{Speaks}
 use Rattle.nm_outcomes_top.specs.Texts.{no_report, outgrown_text, unread, usage}
 use Rattle.nm_outcomes_top.specs.declared.answers.Response.{Response}
-use Rattle.nm_outcomes_top.specs.declared.answers.Response.TheVariants.{NoReport, Outgrown, Refused, Told, Unlawful, Unread, Usage}
+use Rattle.nm_outcomes_top.specs.declared.answers.Response.TheVariants.{NoReport, Outgrown, Refused, Told, Unread, Usage}
 use Rattle.nm_outcomes_top.specs.declared.tellings.Telling.{Telling}
 use Rattle.nm_outcomes_top.proofs.InputLemmas.{no_input, one_input}
 use Rattle.nm_outcomes_top.proofs.TellingLemmas.{IsTold, not_told, speaks_of, spoken, telling_spoken}
@@ -50,8 +50,7 @@ status_of_answer Usage status h = inr (inl h)
 status_of_answer Unread status h = inr (inr (inr (inl h)))
 status_of_answer NoReport status h = inr (inr (inr (inr (inr (inr (inl h))))))
 status_of_answer (Refused n k) status h = inr (inr (inl h))
-status_of_answer (Outgrown s) status h = inr (inr (inr (inr (inr (inr (inr (inl h)))))))
-status_of_answer Unlawful status h = inr (inr (inr (inr (inr (inr (inr (inr h)))))))
+status_of_answer (Outgrown s) status h = inr (inr (inr (inr (inr (inr (inr h))))))
 status_of_answer (Told t) status h = inl (subst IsSpoken (sym h) (telling_spoken t))
 
 -- no answer has status 5
@@ -61,7 +60,6 @@ no_five Unread h = cc
 no_five NoReport h = cc
 no_five (Refused n k) h = cc
 no_five (Outgrown s) h = cc
-no_five Unlawful h = cc
 no_five (Told t) h = not_told t 5 (inl (omega arith, omega arith)) h
 
 module _ {words : List (List ℕ)} {input before after : Option (List ℕ)} {old new : ℕ} {fails : Type 0} where
@@ -83,7 +81,6 @@ module _ {words : List (List ℕ)} {input before after : Option (List ℕ)} {old
   usage_is NoReport status e h = absurd (omega (arith, (whole e 2 h (λ f. cc)).0))
   usage_is (Refused n k) status e h = absurd (omega (arith, (whole e 2 h (λ f. cc)).0))
   usage_is (Outgrown s) status e h = absurd (omega (arith, (whole e 2 h (λ f. cc)).0))
-  usage_is Unlawful status e h = absurd (omega (arith, (whole e 2 h (λ f. cc)).0))
   usage_is (Told t) status e h = absurd (not_told t 2 (inl (omega arith, omega arith)) (whole e 2 h (λ f. cc)).0)
 
   pub not_taken_is : (answer : Response) (status : ℕ) → Ends words input old new before after fails answer status →
@@ -93,7 +90,6 @@ module _ {words : List (List ℕ)} {input before after : Option (List ℕ)} {old
   not_taken_is NoReport status e none = absurd (none e.right.asked e.right.taken)
   not_taken_is (Refused n k) status e none = absurd (none e.right.asked e.right.taken)
   not_taken_is (Outgrown s) status e none = absurd (none e.right.asked e.right.taken)
-  not_taken_is Unlawful status e none = absurd (none e.right.asked e.right.taken)
   not_taken_is (Told t) status e none = absurd (none e.right.asked e.right.taken)
 
   pub refused_is : (answer : Response) (status : ℕ) → Ends words input old new before after fails answer status →
@@ -115,7 +111,6 @@ module _ {words : List (List ℕ)} {input before after : Option (List ℕ)} {old
         said = said;
       }) e.right.right)
   refused_is (Outgrown s) status e asked taken h = absurd (omega (arith, (whole e 3 h (λ f. cc)).0))
-  refused_is Unlawful status e asked taken h = absurd (omega (arith, (whole e 3 h (λ f. cc)).0))
   refused_is (Told t) status e asked taken h =
       absurd (not_told t 3 (inl (omega arith, omega arith)) (whole e 3 h (λ f. cc)).0)
 
@@ -151,12 +146,6 @@ module _ {words : List (List ℕ)} {input before after : Option (List ℕ)} {old
       (subst (λ (text : List ℕ). IsTextOf text p.right.ranks p.right.lines)
       (one_input asked.question _ p.script p.report script report p.input parts).0 p.right.spelled) first))
       (right_of {answer = Outgrown s} e asked taken e.right.asked e.right.taken e.right.right)
-  refuses_is law Unlawful status e asked taken =
-      weaker input _ _ (λ bytes p script report line kind parts first.
-      absurd (law script p.right.ranks line p.right.lines kind
-      (subst (λ (text : List ℕ). IsTextOf text p.right.ranks p.right.lines)
-      (one_input asked.question _ p.script p.report script report p.input parts).0 p.right.spelled) first))
-      (right_of {answer = Unlawful} e asked taken e.right.asked e.right.taken e.right.right)
   refuses_is law (Told t) status e asked taken =
       weaker input _ _ (λ bytes p script report line kind parts first.
       absurd (law script p.right.ranks line p.right.lines kind
@@ -169,7 +158,7 @@ module _ {words : List (List ℕ)} {input before after : Option (List ℕ)} {old
       (asked : Asked) → IfSome input (λ bytes. IsAnswerTo asked (read_of asked.question bytes) (Told t)) →
       IfSome input (λ bytes. (script report : List ℕ) (ranks : ℕ) (lines : List Line) →
       IsInputOf asked.question (read_of asked.question bytes) script report → IsTextOf script ranks lines →
-      OrFails (Speaks asked.question status ⊎ GivesUp asked.question status) status)
+      OrFails (Speaks asked.question status ⊎ (status ≡ 10)) status)
   told_speaks t status e asked right =
       weaker input _ _ (λ bytes p script report ranks lines parts spelled.
       to_fails status (or_fails e (λ h. inl (subst (Speaks asked.question) (sym h)
@@ -179,7 +168,7 @@ module _ {words : List (List ℕ)} {input before after : Option (List ℕ)} {old
       Ends words input old new before after fails answer status → (asked : Asked) → IsTaken words asked →
       IfSome input (λ bytes. (script report : List ℕ) (ranks : ℕ) (lines : List Line) →
       IsInputOf asked.question (read_of asked.question bytes) script report → IsTextOf script ranks lines →
-      OrFails (Speaks asked.question status ⊎ GivesUp asked.question status) status)
+      OrFails (Speaks asked.question status ⊎ (status ≡ 10)) status)
   tells_is law Usage status e asked taken = absurd (e.right asked taken)
   tells_is law Unread status e asked taken =
       always input _ (λ bytes script report ranks lines parts spelled. unread_fails e)
@@ -194,11 +183,7 @@ module _ {words : List (List ℕ)} {input before after : Option (List ℕ)} {old
       (one_input asked.question _ p.script p.report script report p.input parts).0 p.right)))
       (right_of {answer = Refused n k} e asked taken e.right.asked e.right.taken e.right.right)
   tells_is law (Outgrown s) status e asked taken =
-      always input _ (λ bytes script report ranks lines parts spelled. to_fails status (or_fails e (λ h. inr (inl h))))
-  tells_is law Unlawful status e asked taken =
-      weaker input _ _ (λ bytes p script report ranks lines parts spelled.
-      to_fails status (or_fails e (λ h. inr (inr (h, p.right.right)))))
-      (right_of {answer = Unlawful} e asked taken e.right.asked e.right.taken e.right.right)
+      always input _ (λ bytes script report ranks lines parts spelled. to_fails status (or_fails e (λ h. inr h)))
   tells_is law (Told t) status e asked taken =
       told_speaks t status e asked
       (right_of {answer = Told t} e asked taken e.right.asked e.right.taken e.right.right)
@@ -222,7 +207,6 @@ module _ {words : List (List ℕ)} {input before after : Option (List ℕ)} {old
   told_is NoReport status e asked taken h = absurd (no_other e h (inr (omega arith)))
   told_is (Refused n k) status e asked taken h = absurd (no_other e h (inl (omega arith, omega arith)))
   told_is (Outgrown s) status e asked taken h = absurd (no_other e h (inr (omega arith)))
-  told_is Unlawful status e asked taken h = absurd (no_other e h (inr (omega arith)))
   told_is (Told t) status e asked taken h =
       let w = whole_spoken e h in
       weaker input _ _ (λ bytes p. record {
@@ -253,7 +237,6 @@ module _ {words : List (List ℕ)} {input before after : Option (List ℕ)} {old
   )
   no_report_is (Refused n k) status e asked taken h = absurd (omega (arith, (whole e 9 h (λ f. cc)).0))
   no_report_is (Outgrown s) status e asked taken h = absurd (omega (arith, (whole e 9 h (λ f. cc)).0))
-  no_report_is Unlawful status e asked taken h = absurd (omega (arith, (whole e 9 h (λ f. cc)).0))
   no_report_is (Told t) status e asked taken h =
       absurd (not_told t 9 (inr (omega arith)) (whole e 9 h (λ f. cc)).0)
 
@@ -278,34 +261,8 @@ module _ {words : List (List ℕ)} {input before after : Option (List ℕ)} {old
         cause = p.right.right.1;
         said = subst (λ (n : ℕ). Appends before after (outgrown_text n)) p.right.right.0 w.1;
       }) (right_of {answer = Outgrown s} e asked taken e.right.asked e.right.taken e.right.right)
-  outgrown_is Unlawful status e asked taken h = absurd (omega (arith, (whole e 10 h (λ f. cc)).0))
   outgrown_is (Told t) status e asked taken h =
       absurd (not_told t 10 (inr (omega arith)) (whole e 10 h (λ f. cc)).0)
-
-  pub unlawful_is : (answer : Response) (status : ℕ) → Ends words input old new before after fails answer status →
-      (asked : Asked) → IsTaken words asked → status ≡ 11 → IfSome input (IsUnlawful asked before after)
-  unlawful_is Usage status e asked taken h = absurd (omega (arith, (whole e 11 h (λ f. cc)).0))
-  unlawful_is Unread status e asked taken h = absurd (omega (arith, (whole e 11 h (λ f. cc)).0))
-  unlawful_is NoReport status e asked taken h = absurd (omega (arith, (whole e 11 h (λ f. cc)).0))
-  unlawful_is (Refused n k) status e asked taken h = absurd (omega (arith, (whole e 11 h (λ f. cc)).0))
-  unlawful_is (Outgrown s) status e asked taken h = absurd (omega (arith, (whole e 11 h (λ f. cc)).0))
-  unlawful_is Unlawful status e asked taken h =
-      let w = whole e 11 h (λ f. cc) in
-      weaker input _ _ (λ bytes p. record {
-        given =
-            record {
-              script = p.script;
-              report = p.report;
-              input = p.input;
-              ranks = p.right.ranks;
-              lines = p.right.lines;
-              spelled = p.right.spelled;
-            };
-        asks = p.right.right;
-        said = w.1;
-      }) (right_of {answer = Unlawful} e asked taken e.right.asked e.right.taken e.right.right)
-  unlawful_is (Told t) status e asked taken h =
-      absurd (not_told t 11 (inr (omega arith)) (whole e 11 h (λ f. cc)).0)
 
   pub unread_is : (answer : Response) (status : ℕ) → Ends words input old new before after fails answer status →
       status ≡ 4 → Rose old new × Appends before after unread
@@ -314,7 +271,6 @@ module _ {words : List (List ℕ)} {input before after : Option (List ℕ)} {old
   unread_is NoReport status e h = absurd (omega (arith, (whole e 4 h (λ f. cc)).0))
   unread_is (Refused n k) status e h = absurd (omega (arith, (whole e 4 h (λ f. cc)).0))
   unread_is (Outgrown s) status e h = absurd (omega (arith, (whole e 4 h (λ f. cc)).0))
-  unread_is Unlawful status e h = absurd (omega (arith, (whole e 4 h (λ f. cc)).0))
   unread_is (Told t) status e h =
       absurd (not_told t 4 (inl (omega arith, omega arith)) (whole e 4 h (λ f. cc)).0)
 
@@ -335,7 +291,6 @@ module _ {words : List (List ℕ)} {input before after : Option (List ℕ)} {old
   not_six NoReport status e h = omega (arith, (whole e 6 h (λ f. cc)).0)
   not_six (Refused n k) status e h = omega (arith, (whole e 6 h (λ f. cc)).0)
   not_six (Outgrown s) status e h = omega (arith, (whole e 6 h (λ f. cc)).0)
-  not_six Unlawful status e h = omega (arith, (whole e 6 h (λ f. cc)).0)
   not_six (Told t) status e h = not_told t 6 (inl (omega arith, omega arith)) (whole e 6 h (λ f. cc)).0
 
   -- what was said has one of the statuses

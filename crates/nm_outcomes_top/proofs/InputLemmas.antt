@@ -16,7 +16,7 @@ use Rattle.nm_outcomes_top.specs.declared.words.Question.TheVariants.{All, Trace
 use Rattle.nm_outcomes_top.specs.Answers.{HasNoReport, IsAnswer, IsAnswerFor, IsAnswerIn, IsAnswerOf, IsAnswerTo}
 use Rattle.nm_outcomes_top.specs.Answers.{IsInputOf, read_of}
 use Rattle.nm_outcomes_top.specs.declared.answers.Response.{Response}
-use Rattle.nm_outcomes_top.specs.declared.answers.Response.TheVariants.{NoReport, Outgrown, Refused, Told, Unlawful, Unread, Usage}
+use Rattle.nm_outcomes_top.specs.declared.answers.Response.TheVariants.{NoReport, Outgrown, Refused, Told, Unread, Usage}
 
 -- the bytes have one script and one report
 pub one_input : (question : Question) (bytes script report s r : List ℕ) → IsInputOf question bytes script report →
@@ -52,9 +52,6 @@ answered asked (Some all) old new bytes read (Refused n k) h =
 answered asked None old new bytes read (Outgrown s) h = tt
 answered asked (Some all) old new bytes read (Outgrown s) h =
     subst (λ (b : List ℕ). IsAnswerTo asked b (Outgrown s)) read h
-answered asked None old new bytes read Unlawful h = tt
-answered asked (Some all) old new bytes read Unlawful h =
-    subst (λ (b : List ℕ). IsAnswerTo asked b Unlawful) read h
 answered asked None old new bytes read (Told t) h = tt
 answered asked (Some all) old new bytes read (Told t) h =
     subst (λ (b : List ℕ). IsAnswerTo asked b (Told t)) read h
@@ -69,8 +66,6 @@ answered_in asked script report ranks lines spelled NoReport h = absurd h
 answered_in asked script report ranks lines spelled (Refused n k) h = absurd h
 answered_in asked script report ranks lines spelled (Outgrown s) h =
     record { ranks = ranks; lines = lines; spelled = spelled; right = h }
-answered_in asked script report ranks lines spelled Unlawful h =
-    record { ranks = ranks; lines = lines; spelled = spelled; right = h }
 answered_in asked script report ranks lines spelled (Told t) h =
     record { ranks = ranks; lines = lines; spelled = spelled; right = h }
 
@@ -83,8 +78,6 @@ answered_to asked bytes script report parts NoReport h = absurd h
 answered_to asked bytes script report parts (Refused n k) h =
     record { script = script; report = report; input = parts; right = h }
 answered_to asked bytes script report parts (Outgrown s) h =
-    record { script = script; report = report; input = parts; right = h }
-answered_to asked bytes script report parts Unlawful h =
     record { script = script; report = report; input = parts; right = h }
 answered_to asked bytes script report parts (Told t) h =
     record { script = script; report = report; input = parts; right = h }
@@ -105,8 +98,6 @@ answered_words words input old new asked taken NoReport h = record { asked = ask
 answered_words words input old new asked taken (Refused n k) h =
     record { asked = asked; taken = taken; right = h }
 answered_words words input old new asked taken (Outgrown s) h =
-    record { asked = asked; taken = taken; right = h }
-answered_words words input old new asked taken Unlawful h =
     record { asked = asked; taken = taken; right = h }
 answered_words words input old new asked taken (Told t) h =
     record { asked = asked; taken = taken; right = h }

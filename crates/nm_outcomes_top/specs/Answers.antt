@@ -14,7 +14,7 @@ use Rattle.nm_listed.specs.Places.{IsPlace}
 use Rattle.nm_listed.specs.declared.places.Place.{Place}
 use Rattle.nm_listed.specs.declared.places.Place.TheVariants.{At, Not}
 use Rattle.nm_outcomes_top.specs.declared.answers.Response.{Response}
-use Rattle.nm_outcomes_top.specs.declared.answers.Response.TheVariants.{NoReport, Outgrown, Refused, Told, Unlawful, Unread, Usage}
+use Rattle.nm_outcomes_top.specs.declared.answers.Response.TheVariants.{NoReport, Outgrown, Refused, Told, Unread, Usage}
 use Rattle.nm_outcomes_top.specs.declared.asking.Finding.{Finding}
 use Rattle.nm_outcomes_top.specs.declared.asking.Finding.TheVariants as finding
 use Rattle.nm_outcomes_top.specs.declared.tellings.Telling.{Telling}
@@ -23,7 +23,7 @@ use Rattle.nm_outcomes_top.specs.declared.words.Asked.{Asked}
 use Rattle.nm_outcomes_top.specs.declared.words.Question.{Question}
 use Rattle.nm_outcomes_top.specs.declared.words.Question.TheVariants.{All, Trace, Among}
 use Rattle.nm_outcomes_top.specs.Texts.{fault_text, fewer_text, is_stuck, no_report, outcomes_text, outgrown_text}
-use Rattle.nm_outcomes_top.specs.Texts.{place_text, stuck_count, unlawful, unread, usage}
+use Rattle.nm_outcomes_top.specs.Texts.{place_text, stuck_count, unread, usage}
 use Rattle.nm_outcomes_top.specs.OptionWords.{IsTaken, NotTaken, sizes_for}
 
 -- how many bytes are read at most: one more than a script's text may have, or than a script and a report may
@@ -49,7 +49,6 @@ text_of Unread = unread
 text_of NoReport = no_report
 text_of (Refused line kind) = fault_text line kind
 text_of (Outgrown states) = outgrown_text states
-text_of Unlawful = unlawful
 text_of (Told telling) = telling_text telling
 
 -- the status of reports that were listed: whether one of them is stuck
@@ -79,7 +78,6 @@ status_of Unread = 4
 status_of NoReport = 9
 status_of (Refused line kind) = 3
 status_of (Outgrown states) = 10
-status_of Unlawful = 11
 status_of (Told telling) = telling_status telling
 
 -- What is told is right, by what is asked of the reports that the script can have in these sizes: all of them; a trace
@@ -93,31 +91,22 @@ IsTelling Among shape lines report (Placed place) =
     (texts : List (List ℕ)) × AreOutcomes shape lines texts × IsPlace texts report place
 IsTelling question shape lines report telling = ⊥
 
--- a trace is asked for
-abbrev pub AsksTrace : Question → Type 0
-AsksTrace (Trace number) = Unit {0}
-AsksTrace question = ⊥
-
--- What was found out is right: what is told, or that the reports that the script can have have too many bytes. That the
--- record of a way to an end does not hold is found out only where a trace is asked for.
+-- what was found out is right: what is told, or that the reports that the script can have have too many bytes
 abbrev pub IsFinding : Question → Sizes → List Line → List ℕ → Finding → Type 0
 IsFinding question shape lines report (finding.Told telling) = IsTelling question shape lines report telling
 IsFinding question shape lines report finding.TooLong = AreTooLong shape lines
-IsFinding question shape lines report finding.Unlawful = AsksTrace question
 
 -- the ranks come into more states than the words allow, or all reports that the script can have have too many bytes
 abbrev pub IsOutgrowing : Asked → Sizes → List Line → Type 0
 IsOutgrowing asked shape lines =
     AreTooMany shape.eager shape.ranks lines asked.states ⊎ AreTooLong shape lines
 
--- An answer for a script is right: what is asked of its reports, or that there are too many states or bytes. That the
--- record of a way to an end does not hold is an answer only where a trace is asked for.
+-- an answer for a script is right: what is asked of its reports, or that there are too many states or bytes
 abbrev pub IsAnswerFor : Asked → ℕ → List Line → List ℕ → Response → Type 0
 IsAnswerFor asked ranks lines report (Told telling) =
     IsTelling asked.question (sizes_for asked ranks) lines report telling
 IsAnswerFor asked ranks lines report (Outgrown states) =
     (states ≡ asked.states) × IsOutgrowing asked (sizes_for asked ranks) lines
-IsAnswerFor asked ranks lines report Unlawful = AsksTrace asked.question
 IsAnswerFor asked ranks lines report _ = ⊥
 
 -- the text of a script has this answer, with the given report

@@ -12,8 +12,8 @@ use Rattle.nm_listed.specs.declared.places.Place.TheVariants.{At, Not}
 use Rattle.nm_outcomes_top.specs.declared.words.Asked.{Asked}
 use Rattle.nm_outcomes_top.specs.declared.words.Question.{Question}
 use Rattle.nm_outcomes_top.specs.declared.words.Question.TheVariants.{All, Trace, Among}
-use Rattle.nm_outcomes_top.specs.Answers.{AsksTrace, IsInputOf, IsOutgrowing, listed_status, read_of, traced_status}
-use Rattle.nm_outcomes_top.specs.Texts.{fault_text, fewer_text, outcomes_text, outgrown_text, place_text, unlawful}
+use Rattle.nm_outcomes_top.specs.Answers.{IsInputOf, IsOutgrowing, listed_status, read_of, traced_status}
+use Rattle.nm_outcomes_top.specs.Texts.{fault_text, fewer_text, outcomes_text, outgrown_text, place_text}
 use Rattle.nm_outcomes_top.specs.OptionWords.{sizes_for}
 
 -- the bytes spell no script, and their first fault was said
@@ -41,13 +41,6 @@ pub record IsOutgrown (asked : Asked) (old new : Option (List ℕ)) (bytes : Lis
   pub given : IsGiven asked bytes
   pub cause : IsOutgrowing asked (sizes_for asked given.ranks) given.lines
   pub said : Appends old new (outgrown_text asked.states)
-
--- The bytes spell a script, a trace of it was asked for, and it was said that the record of a way to one of its ends
--- does not hold.
-pub record IsUnlawful (asked : Asked) (old new : Option (List ℕ)) (bytes : List ℕ) : Type 0 where
-  pub given : IsGiven asked bytes
-  pub asks : AsksTrace asked.question
-  pub said : Appends old new unlawful
 
 -- The bytes spell a script, and all reports that its runs in these sizes can have were written, each once. The
 -- status is 1 exactly where one of them is stuck.
@@ -106,16 +99,11 @@ Speaks Among status = (status ≡ 0) ⊎ (status ≡ 8)
 abbrev pub IsSpoken : ℕ → Type 0
 IsSpoken status = (status ≡ 0) ⊎ ((status ≡ 1) ⊎ ((status ≡ 7) ⊎ (status ≡ 8)))
 
--- the statuses at which nothing is said of a script but that the search gave up; the second one is only a trace's
-abbrev pub GivesUp : Question → ℕ → Type 0
-GivesUp question status = (status ≡ 10) ⊎ ((status ≡ 11) × AsksTrace question)
-
 -- the statuses that there are
 abbrev pub IsStatus : ℕ → Type 0
 IsStatus status =
     IsSpoken status ⊎ ((status ≡ 2) ⊎ ((status ≡ 3) ⊎ ((status ≡ 4)
-    ⊎ ((status ≡ 5) ⊎ ((status ≡ 6) ⊎ ((status ≡ 9) ⊎ ((status ≡ 10)
-    ⊎ (status ≡ 11))))))))
+    ⊎ ((status ≡ 5) ⊎ ((status ≡ 6) ⊎ ((status ≡ 9) ⊎ (status ≡ 10)))))))
 
 -- it is so, or a write failed, or memory ran out
 abbrev pub OrUnwritten : Type 0 → ℕ → Type 0

@@ -50,10 +50,6 @@ no_report = codes "fault report\n"
 abbrev pub outgrown_text : ℕ → List ℕ
 outgrown_text states = codes "fault outcomes " ++ (decimal states ++ codes "\n")
 
--- what is said where the record of a way to an end does not hold before the judge
-abbrev pub unlawful : List ℕ
-unlawful = codes "fault record\n"
-
 -- what is said of words that are not taken
 abbrev pub usage : List ℕ
 usage =

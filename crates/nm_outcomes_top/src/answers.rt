@@ -22,8 +22,6 @@ pub enum Response {
     Refused { line: u32, kind: Kind },
     /// The search met too many states, or the reports are too long.
     Outgrown { states: u32 },
-    /// The record of a way to one of the ends does not hold before the judge.
-    Unlawful,
     /// What was asked of the reports of the script.
     Told { telling: Telling },
 }
@@ -85,7 +83,6 @@ pub fn text(alloc: Global, answer: &Response) -> Result<Vec<u8>, Memory>
         Response::NoReport => Ok(line(alloc, "fault report\n")?),
         Response::Refused { line, kind } => Ok(fault(alloc, *line, *kind)?),
         Response::Outgrown { states } => Ok(outgrown(alloc, *states)?),
-        Response::Unlawful => Ok(line(alloc, "fault record\n")?),
         Response::Told { telling } => telling_text(alloc, telling),
     }
 }
@@ -101,6 +98,5 @@ pub fn status(answer: &Response) -> u8
         Response::Unread => 4,
         Response::NoReport => 9,
         Response::Outgrown { .. } => 10,
-        Response::Unlawful => 11,
     }
 }

@@ -1,7 +1,7 @@
 //! What is asked of the reports of a script.
 
 ghost use Rattle.std.specs.Prelude.{◌≡◌, ◌≤◌, ℕ, List, IfOk};
-ghost use Rattle.nm_explored.specs.Ends.{TellsAll, TellsOnly};
+ghost use Rattle.nm_explored.specs.Ends.{AreEndsByWay, TellsAll, TellsOnly};
 ghost use Rattle.nm_outcomes_top.specs.Answers.{IsAnswerFor, IsFinding};
 ghost use Rattle.nm_outcomes_top.specs.declared.words.Question.TheVariants as question;
 ghost use Rattle.nm_outcomes_top.specs.OptionWords.{InRange, IsQuestion, sizes_for};
@@ -21,8 +21,6 @@ pub enum Finding {
     Told { telling: Telling },
     /// They have more than 134,217,728 bytes.
     TooLong,
-    /// The record of a way to one of the ends does not hold before the judge: a trace was asked for.
-    Unlawful,
 }
 
 // All reports of a script whose search found these ends.
@@ -51,6 +49,7 @@ fn tell_trace(
 ) -> Result<Finding, Memory>
     requires equal { shape.ranks ≡ script.now.ranks }
     requires tells { TellsAll shape script.now.lines ends.items }
+    requires ways { AreEndsByWay shape script.now.lines ends.items }
     requires some { 1 ≤ number }
     ensures { (report : List ℕ) → IfOk result
         (IsFinding (question.Trace number) shape script.now.lines report) }
@@ -63,7 +62,6 @@ fn tell_trace(
             telling: Telling::Fewer { number, count },
         }),
         Traced::TooLong => Ok(Finding::TooLong),
-        Traced::Unlawful => Ok(Finding::Unlawful),
     }
 }
 
@@ -102,6 +100,7 @@ fn tell(
     requires equal { shape.ranks ≡ script.now.ranks }
     requires tells { TellsAll shape script.now.lines ends.items }
     requires only { TellsOnly shape script.now.lines ends.items }
+    requires ways { AreEndsByWay shape script.now.lines ends.items }
     requires number { IsQuestion question }
     ensures { IfOk result (IsFinding question shape script.now.lines report.now) }
 {
@@ -126,6 +125,7 @@ fn answer_ends(
     requires sizes { shape ≡ sizes_for asked script.now.ranks }
     requires tells { TellsAll shape script.now.lines ends.items }
     requires only { TellsOnly shape script.now.lines ends.items }
+    requires ways { AreEndsByWay shape script.now.lines ends.items }
     ensures { IfOk result (IsAnswerFor asked script.now.ranks script.now.lines report.now) }
 {
     match tell(alloc, asked.question, script, shape, ends, report)? {
@@ -133,7 +133,6 @@ fn answer_ends(
         Finding::TooLong => Ok(Response::Outgrown {
             states: asked.states,
         }),
-        Finding::Unlawful => Ok(Response::Unlawful),
     }
 }
 

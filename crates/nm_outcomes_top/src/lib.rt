@@ -24,14 +24,14 @@
 //!   Status 9 only where there is no line `---` or the input is too long.
 //! - Status 2 exactly where the words are not taken, and then nothing was read; 3 exactly where the
 //!   bytes spell no script, with the first fault. They yield to 5 and 6, and 3 to 4.
-//! - Where the bytes spell a script the status is one of these, 10 or with `--trace K` 11, or a read, a
-//!   write or memory failed; 10 and 11 come only there, and then nothing was written of the reports.
+//! - Where the bytes spell a script the status is one of these, or 10, or a read, a write or memory
+//!   failed; 10 comes only there, and then nothing was written of the reports.
 //! - Status 10 only where moves lead from the first state to more states than the words allow, or all
 //!   reports that the script can have have more than 134,217,728 bytes.
 //! - Status 4 and 5 only where the count of faults of the source or the sink rose, and at 5 the
 //!   sink took a front of the text that was due. At 6 nothing was written.
 //! # What is only tested
-//! That 11 never comes with `--trace K`, and that it succeeds with ample memory (`.ci/outcomes`).
+//! That it succeeds with ample memory (`.ci/outcomes`).
 #![tactic(auto)]
 
 mod answers;

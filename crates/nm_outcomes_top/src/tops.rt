@@ -12,8 +12,8 @@ ghost use Rattle.nm_outcomes_top.specs.declared.words.Question.TheVariants as qu
 ghost use Rattle.nm_outcomes_top.specs.Answers.{HasNoReport, IsAnswer, IsAnswerFor, IsAnswerIn};
 ghost use Rattle.nm_outcomes_top.specs.Answers.{IsAnswerOf, IsAnswerTo, IsInputOf, IsSaid};
 ghost use Rattle.nm_outcomes_top.specs.Answers.{limit_of, read_of, text_of};
-ghost use Rattle.nm_outcomes_top.specs.Endings.{GivesUp, IsAmong, IsFewerSaid, IsListed, IsNotAmong};
-ghost use Rattle.nm_outcomes_top.specs.Endings.{IsOutgrown, IsRefused, IsStatus, IsTraceSaid, IsUnlawful};
+ghost use Rattle.nm_outcomes_top.specs.Endings.{IsAmong, IsFewerSaid, IsListed, IsNotAmong};
+ghost use Rattle.nm_outcomes_top.specs.Endings.{IsOutgrown, IsRefused, IsStatus, IsTraceSaid};
 ghost use Rattle.nm_outcomes_top.specs.Endings.{OrFails, OrUnwritten, Speaks};
 ghost use Rattle.nm_outcomes_top.specs.Texts.{no_report, unread, usage};
 ghost use Rattle.nm_outcomes_top.specs.OptionWords.{InRange, IsTaken, NotTaken};
@@ -148,10 +148,9 @@ fn deliver<K: Sink>(sink: &mut K, due: &[u8], answer: &Response) -> u8
 /// The status is 0 where that was written and no report of it is stuck, 1 where one is, 2 where the
 /// words are not taken, 3 where the bytes spell no script, 4 where a read failed, 5 where a write
 /// failed, 6 for want of memory, 7 where there are fewer than K reports, 8 where the given report is
-/// none of them, 9 where there is no line `---` or the source has more than 67,108,864 bytes, 10
-/// where the search met more states or the reports have more than 134,217,728 bytes, and 11, behind
-/// `--trace K` alone, where the record of a way to an end does not hold before the judge, of which no
-/// case is known. The whole text is in memory before the first write.
+/// none of them, 9 where there is no line `---` or the source has more than 67,108,864 bytes, and 10
+/// where the search met more states or the reports have more than 134,217,728 bytes. The whole text is
+/// in memory before the first write.
 pub fn outcomes<S: Source, K: Sink>(
     alloc: Global,
     words: &[String],
@@ -180,7 +179,7 @@ pub fn outcomes<S: Source, K: Sink>(
         (lines : List script_line.Line) →
         IsInputOf asked.question (read_of asked.question bytes) script report →
         IsTextOf script ranks lines →
-        OrFails (Speaks asked.question result ⊎ GivesUp asked.question result) result) }
+        OrFails (Speaks asked.question result ⊎ (result ≡ 10)) result) }
     ensures listed { (asked : Asked) → IsTaken (map string_bytes words.now) asked →
         asked.question ≡ question.All → (result ≡ 0) ⊎ (result ≡ 1) → IfSome (S.left source.old)
         (IsListed asked result (K.taken sink.old) (K.taken sink.new)) }
@@ -210,9 +209,6 @@ pub fn outcomes<S: Source, K: Sink>(
     ensures outgrown { (asked : Asked) → IsTaken (map string_bytes words.now) asked →
         result ≡ 10 → IfSome (S.left source.old)
         (IsOutgrown asked (K.taken sink.old) (K.taken sink.new)) }
-    ensures unlawful { (asked : Asked) → IsTaken (map string_bytes words.now) asked →
-        result ≡ 11 → IfSome (S.left source.old)
-        (IsUnlawful asked (K.taken sink.old) (K.taken sink.new)) }
 
     // The source failed.
     ensures unread { result ≡ 4 → Rose (S.faults source.old) (S.faults source.new)

@@ -1,155 +1,169 @@
-//! What was told of one rank.
+//! The log of moves, with the states of the ranks beside it.
 
-use nm_history::plain::selects;
-use nm_history::{Event, Happened, History};
-use nm_types::{Arrival, Memory, Post};
+ghost use Rattle.std.specs.Prelude.{◌≡◌, ◌<◌, ◌-◌, IfOk, OnOk, Some, length, replicate, slice_get};
+ghost use Rattle.nm_outcomes.specs.RankStates.{first_spot};
+ghost use Rattle.nm_explored.specs.Moves.{moved_at};
+ghost use Rattle.nm_explored.specs.Ends.{AreShort};
+ghost use Rattle.nm_listed.specs.Tellings.{after_move, each_below, finished, first_told, over_pair};
+ghost use Rattle.nm_listed.specs.Tellings.{over_rank, told_next, told_way};
+
+use crate::retold::events::event_of_move;
+use crate::retold::logs::Log;
+use nm_explored::choices::moves::{Turn, moved};
+use nm_outcomes::spots::ranks::Rank;
+use nm_types::{Line, Memory};
 use std::alloc::Global;
-use std::collections::BTreeMap;
+use std::marker::Model;
 
-/// A request: a send of message `n`, or a receive by its number.
-#[derive(Clone, Copy)]
-pub(crate) enum Request {
-    Sending { to: u8, n: u64 },
-    Receiving { number: u64 },
-}
-
-/// A message by its sender and its number.
-#[derive(Clone, Copy)]
-pub(crate) struct Message {
-    pub from: u8,
-    pub n: u64,
-}
-
-/// What was told of a rank, and what the next step needs of it.
-pub(crate) struct Telling {
-    events: Vec<Event>,
-    ran: u32,
-    /// The open receives and the free messages, oldest first.
-    open: Vec<Post>,
-    free: Vec<Arrival>,
-    /// The message of each receive that has one.
-    taken: BTreeMap<u64, Message>,
-    /// What the next command has started, and the last request of each name.
-    begun: Option<Request>,
-    names: BTreeMap<u16, Request>,
+/// A log, and the states of the ranks after it.
+pub struct Telling {
+    log: Log,
+    states: Vec<Rank>,
 }
 
 impl Drop for Telling {
     fn drop(self) {
-        let Telling {
-            events: _,
-            ran: _,
-            open: _,
-            free: _,
-            taken: _,
-            begun: _,
-            names: _,
-        } = self;
+        let Telling { log: _, states: _ } = self;
     }
 }
 
+impl Model for Telling {
+    ghost use Rattle.nm_listed.specs.Tellings.{Telling};
+
+    ghost Value = { Telling };
+
+    ghost view = { λ a. record { log = a.log; states = a.states.items } };
+}
+
+/// The turn at a place, 0 for the last one.
+fn turn_at(path: &[Turn], k: usize) -> Turn
+    requires { k < length path.now }
+    ensures { slice_get path.now (length path.now - 1 - k) ≡ Some result }
+{
+    path[path.len() - 1 - k]
+}
+
+/// So many ranks that did nothing.
+fn idle(alloc: Global, ranks: u8) -> Result<Vec<Rank>, Memory>
+    ensures { IfOk result (λ states. states.items ≡ replicate ranks first_spot) }
+{
+    let mut states = Vec::new(alloc);
+    for _rank in 0..ranks {
+        states.push(Rank::new(alloc))?;
+    }
+    Ok(states)
+}
+
+/// A move of a rank: what it needs, and its event.
+fn tell(alloc: Global, lines: &[Line], log: &mut Log, rank: &Rank, turn: Turn) -> Result<(), Memory>
+    requires { AreShort lines.now }
+    ensures { OnOk result (log.new ≡ after_move lines.now log.old turn.rank rank.now turn.by) }
+{
+    log.before_move(lines, turn.rank, rank, turn.by)?;
+    let what = event_of_move(alloc, lines, turn.by)?;
+    log.push(turn.rank, what)
+}
+
+/// .. and the state of the rank after it.
+fn tell_at(
+    alloc: Global,
+    lines: &[Line],
+    log: &mut Log,
+    rank: &Rank,
+    turn: Turn,
+) -> Result<Rank, Memory>
+    requires { AreShort lines.now }
+    ensures { IfOk result (λ after. (log.new ≡ after_move lines.now log.old turn.rank rank.now turn.by)
+        × (after ≡ moved_at rank.now turn.by)) }
+{
+    tell(alloc, lines, log, rank, turn)?;
+    moved(rank, turn.by)
+}
+
+/// What is left of the messages of rank i to rank j, if both are there.
+fn pair_over(log: &mut Log, states: &[Rank], i: u8, j: u8) -> Result<(), Memory>
+    ensures { OnOk result (log.new ≡ over_pair states.now i j log.old) }
+{
+    match states.get(usize::from(i)) {
+        Some(rank) => match states.get(usize::from(j)) {
+            Some(other) => log.all_over(rank, other, i, j),
+            None => Ok(()),
+        },
+        None => Ok(()),
+    }
+}
+
+/// .. of rank i to all ranks.
+fn rank_over(log: &mut Log, states: &[Rank], ranks: u8, i: u8) -> Result<(), Memory>
+    ensures { OnOk result (log.new ≡ over_rank ranks states.now i log.old) }
+{
+    for j in 0..ranks {
+        pair_over(log, states, i, j)?;
+    }
+    Ok(())
+}
+
+/// .. of all ranks.
+fn ranks_over(log: &mut Log, states: &[Rank], ranks: u8) -> Result<(), Memory>
+    ensures { OnOk result (log.new ≡ each_below (λ i log. over_rank ranks states.now i log) ranks log.old) }
+{
+    for i in 0..ranks {
+        rank_over(log, states, ranks, i)?;
+    }
+    Ok(())
+}
+
 impl Telling {
-    pub fn new(alloc: Global) -> Telling {
-        Telling {
-            events: Vec::new(alloc),
-            ran: 0,
-            open: Vec::new(alloc),
-            free: Vec::new(alloc),
-            taken: BTreeMap::new(alloc),
-            begun: None,
-            names: BTreeMap::new(alloc),
-        }
+    /// Nothing was told.
+    pub fn new(alloc: Global, ranks: u8) -> Result<Telling, Memory>
+        ensures { IfOk result (λ telling. telling ≡ first_told ranks) }
+    {
+        let states = idle(alloc, ranks)?;
+        Ok(Telling {
+            log: Log::new(alloc),
+            states,
+        })
     }
 
-    /// An event more.
-    pub fn push(&mut self, stamp: u64, what: Happened) -> Result<(), Memory> {
-        self.events.push(Event { stamp, what })?;
+    /// A turn more.
+    pub fn add(&mut self, alloc: Global, lines: &[Line], turn: Turn) -> Result<(), Memory>
+        requires { AreShort lines.now }
+        ensures { OnOk result (self.new ≡ told_next lines.now self.old turn) }
+    {
+        let at = usize::from(turn.rank);
+        let after = match self.states.get(at) {
+            Some(rank) => tell_at(alloc, lines, &mut self.log, rank, turn)?,
+            None => return Ok(()),
+        };
+        self.states[at] = after;
         Ok(())
     }
 
-    /// The next command has started this.
-    pub fn begin(&mut self, request: Request) {
-        self.begun = Some(request);
-    }
-
-    /// What the command has started has this name.
-    pub fn name(&mut self, name: u16) -> Result<(), Memory> {
-        if let Some(request) = self.begun {
-            self.names.insert(name, request)?;
+    /// The turns of a way, the newest first.
+    pub fn of(alloc: Global, lines: &[Line], ranks: u8, path: &[Turn]) -> Result<Telling, Memory>
+        requires { AreShort lines.now }
+        ensures { IfOk result (λ telling. telling ≡ told_way lines.now ranks path.now) }
+    {
+        let mut telling = Telling::new(alloc, ranks)?;
+        for k in 0..path.len() {
+            telling.add(alloc, lines, turn_at(path, k))?;
         }
-        Ok(())
+        Ok(telling)
     }
 
-    /// A command more gave its answer.
-    pub fn answered(&mut self) {
-        self.ran = self.ran.saturating_add(1);
+    /// All that is left of the messages.
+    pub fn finish(&mut self, ranks: u8) -> Result<(), Memory>
+        ensures { OnOk result (self.new ≡ finished ranks self.old) }
+    {
+        ranks_over(&mut self.log, self.states.as_slice(), ranks)
     }
 
-    /// The last request of a name.
-    pub fn request(&self, name: u16) -> Option<Request> {
-        self.names.get(&name).copied()
-    }
-
-    /// The message of a receive.
-    pub fn message(&self, number: u64) -> Option<Message> {
-        self.taken.get(&number).copied()
-    }
-
-    /// A receive has this message.
-    pub fn take(&mut self, number: u64, from: u8, n: u64) -> Result<(), Memory> {
-        self.forget_message(from, n);
-        self.forget_receive(number);
-        self.taken.insert(number, Message { from, n })?;
-        Ok(())
-    }
-
-    /// A message is free no more.
-    pub fn forget_message(&mut self, from: u8, n: u64) {
-        self.free.retain(|a| a.env.from != from || a.n != n);
-    }
-
-    /// A receive is open no more.
-    pub fn forget_receive(&mut self, number: u64) {
-        self.open.retain(|p| p.number != number);
-    }
-
-    /// The oldest free message that a receive selects; where there is none it is open.
-    pub fn post(&mut self, post: Post) -> Result<Option<Arrival>, Memory> {
-        let found = self
-            .free
-            .iter()
-            .copied()
-            .find(|a| selects(post.from, post.tag, post.ctx, &a.env));
-        if found.is_none() {
-            self.open.push(post)?;
-        }
-        Ok(found)
-    }
-
-    /// The oldest open receive that selects a message; where there is none it is free.
-    pub fn arrive(&mut self, a: Arrival) -> Result<Option<Post>, Memory> {
-        let found = self
-            .open
-            .iter()
-            .copied()
-            .find(|p| selects(p.from, p.tag, p.ctx, &a.env));
-        if found.is_none() {
-            self.free.push(a)?;
-        }
-        Ok(found)
-    }
-
-    /// The events, and how many commands ran.
-    pub fn into_history(self) -> (History, u32) {
-        let Telling {
-            events,
-            ran,
-            open: _,
-            free: _,
-            taken: _,
-            begun: _,
-            names: _,
-        } = self;
-        (History::from_vec(events), ran)
+    /// The log and the states.
+    pub fn into_parts(self) -> (Log, Vec<Rank>)
+        ensures log { result.0 ≡ self.log }
+        ensures states { result.1.items ≡ self.states }
+    {
+        let Telling { log, states } = self;
+        (log, states)
     }
 }

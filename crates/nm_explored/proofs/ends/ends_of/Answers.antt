@@ -5,7 +5,7 @@ use Rattle.nm_types.proofs.ListLemmas.{place_below}
 use Rattle.nm_explored.specs.Successors.{spot_in}
 use Rattle.nm_explored.specs.Lists.{Has}
 use Rattle.nm_explored.proofs.KeptLemmas.{each_next, has_kept, or_more}
-use Rattle.nm_explored.specs.Ends.{AreAtRest, IsToldAmong, all_told, told_at_end}
+use Rattle.nm_explored.specs.Ends.{AreAtRest, IsEndAmong, IsToldAmong, all_told, told_at_end}
 use Rattle.nm_explored.specs.Stores.{Store}
 use Rattle.nm_explored.proofs.ends.ends_of.Goals as goal
 
@@ -24,4 +24,6 @@ loop-k-preserved c =
       only = or_more (IsToldAmong c.args.of.ranks c.args.of.lines.now c.args.search.now)
           (map told_at_end c.loop-k.ends.items) (map told_at_end c.push_state.new.ends.items)
           c.loop-k.invariant.only c.in_ok-push_state.ensures.only;
+      ways = or_more (IsEndAmong c.args.of.eager c.args.of.ranks c.args.of.lines.now c.args.search.now)
+          c.loop-k.ends.items c.push_state.new.ends.items c.loop-k.invariant.ways c.in_ok-push_state.ensures.ways;
     }

@@ -2,10 +2,10 @@
 use Rattle.std.proofs.Common.{List, ℕ, sym, subst}
 use Rattle.nm_types.specs.declared.scripts.Line.{Line}
 use Rattle.nm_types.specs.Limits.{IsScript}
-use Rattle.nm_explored.specs.Ends.{AreEnds, AreOnlyEnds, AreShort, IfAll, TellsAll, TellsOnly}
+use Rattle.nm_explored.specs.Ends.{AreEndsAmong, AreEndsByWay, AreEnds, AreOnlyEnds, AreShort, IfAll, TellsAll, TellsOnly}
 use Rattle.nm_explored.specs.Met.{AreTooMany, IfTooMany, IsAll}
 use Rattle.nm_explored.proofs.MetLemmas.{all_not_many, too_many_of}
-use Rattle.nm_explored.proofs.RestedLemmas.{tells_only}
+use Rattle.nm_explored.proofs.RestedLemmas.{ends_by_way, tells_only}
 use Rattle.nm_explored.proofs.ExpandLemmas.{explored_by}
 use Rattle.nm_explored.proofs.TellLemmas.{all_weaker, explore_tells, ok_weaker, script_short}
 use Rattle.nm_explored.proofs.ends.explore.Goals as goal
@@ -68,3 +68,22 @@ returns-then-all-clause-many c =
     (IfTooMany (AreTooMany c.args.shape.eager c.args.shape.ranks c.args.script.now.lines c.args.states))
     (all_not_many (AreTooMany c.args.shape.eager c.args.shape.ranks c.args.script.now.lines c.args.states))
     c.all_ends.result c.all_ends.ensures.found
+
+-- .. with the moves that lead to each
+pub returns-then-all-clause-ways : goal.returns-then-all-clause-ways
+returns-then-all-clause-ways c =
+    let short : AreShort c.as_slice.result.now =
+    subst (λ (ls : List Line). AreShort ls) (sym c.as_slice.ensures)
+    (script_short c.args.script.now.ranks c.args.script.now.lines c.args.script.now.limits) in
+    ok_weaker (IfAll (AreEndsAmong c.eager.result c.ranks.result c.as_slice.result.now c.run.new.self))
+    (IfAll (AreEndsByWay c.args.shape c.args.script.now.lines))
+    (all_weaker (AreEndsAmong c.eager.result c.ranks.result c.as_slice.result.now c.run.new.self)
+    (AreEndsByWay c.args.shape c.args.script.now.lines)
+    (ends_by_way c.args.shape c.args.script.now.lines c.eager.result c.ranks.result c.as_slice.result.now
+    c.run.new.self c.eager.ensures.value c.ranks.ensures.value c.as_slice.ensures
+    (c.in_ok-all.ensures.made short.count short.sends
+    (c.in_ok-search.ensures.made c.eager.result c.as_slice.result.now))
+    (c.in_ok-all.ensures.back short.count short.sends
+    (c.in_ok-search.ensures.made c.eager.result c.as_slice.result.now)
+    (c.in_ok-search.ensures.back c.eager.result c.as_slice.result.now))))
+    c.all_ends.result c.all_ends.ensures.ways

@@ -6,7 +6,7 @@ use Rattle.nm_types.proofs.ListLemmas.{place_below}
 use Rattle.nm_outcomes.specs.RankStates.{Spot}
 use Rattle.nm_explored.specs.Successors.{spot_in}
 use Rattle.nm_explored.specs.Lists.{Has}
-use Rattle.nm_explored.specs.Ends.{AreAtRest, IsToldAmong, IsToldIn, all_told, told_at_end}
+use Rattle.nm_explored.specs.Ends.{AreAtRest, IsEndAmong, IsToldAmong, IsToldIn, all_told, told_at_end}
 use Rattle.nm_explored.proofs.KeptLemmas.{only_weaker}
 use Rattle.nm_explored.specs.Stores.{Store}
 use Rattle.nm_explored.proofs.RestedLemmas.{state_there}
@@ -70,3 +70,29 @@ returns-in-Some-clause-only c =
           (spot_in c.as_slice-in-Some.result.now y) told) own is),
     )))
     c.push_end.result c.push_end.ensures.only
+
+pub returns-in-Some-clause-ways : goal.returns-in-Some-clause-ways
+returns-in-Some-clause-ways c =
+    on_ok
+    (only_weaker _ (IsEndAmong c.args.of.eager c.args.of.ranks c.args.of.lines.now c.args.search.now)
+    c.args.ends.now.items c.push_end.new.ends.items
+    (λ end is.
+    let table : c.as_slice-in-Some.result.now ≡ c.args.search.now.table =
+    c.as_slice-in-Some.ensures ∙ ap (λ (s : Store). s.table) c.search.view_is in
+    let states : c.as_slice.result.now ≡ c.args.search.now.states =
+    c.as_slice.ensures ∙ ap (λ (s : Store). s.states) c.search.view_is in
+    let own : c.as_slice-in-Some-2.result.now ≡ c.in-Some.state.now =
+    c.as_slice-in-Some-2.ensures in
+    let there = state_there c.as_slice.result.now c.args.search.now.states c.args.k c.in-Some.state.now states
+    c.in-Some.ensures.lookup.3.0 c.in-Some.ensures.lookup.3.1 in
+    record {
+      number = c.args.k;
+      ids = c.in-Some.state.now;
+      here = there;
+      told = subst (λ (x : List Spot). IsToldIn c.args.of.ranks c.args.of.lines.now (spot_in x c.in-Some.state.now)
+          (told_at_end end)) table
+          (subst (λ (y : List ℕ). IsToldIn c.args.of.ranks c.args.of.lines.now
+          (spot_in c.as_slice-in-Some.result.now y) (told_at_end end)) own is.0);
+      way = λ back. is.1 c.args.of.eager c.args.of.lines.now back c.in-Some.state.now there;
+    }))
+    c.push_end.result c.push_end.ensures.ways

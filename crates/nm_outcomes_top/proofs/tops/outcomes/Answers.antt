@@ -3,7 +3,7 @@ use Rattle.std.proofs.Common.{inl, inr, map, string_bytes}
 use Rattle.nm_outside.specs.Told.{Rose}
 use Rattle.nm_outcomes_top.proofs.EndLemmas.{Ends, no_report_is, not_six, not_taken_is, outgrown_is}
 use Rattle.nm_outcomes_top.proofs.EndLemmas.{refused_is, refuses_is, status_is, tells_is, told_is}
-use Rattle.nm_outcomes_top.proofs.EndLemmas.{unlawful_is, unread_is, unwritten_is, usage_is, weaker}
+use Rattle.nm_outcomes_top.proofs.EndLemmas.{unread_is, unwritten_is, usage_is, weaker}
 use Rattle.nm_outcomes_top.proofs.TellingLemmas.{among_of, fewer_of, listed_of, not_among_of, traced_of}
 use Rattle.nm_outcomes_top.proofs.tops.outcomes.Goals as goal
 use Rattle.nm_outcomes_top.proofs.tops.outcomes.Goals.{Joined-answer-3}
@@ -69,9 +69,6 @@ returns-clause-no_report g c = no_report_is c.in-Ok.answer c.deliver.result (kno
 
 pub returns-clause-outgrown : goal.returns-clause-outgrown
 returns-clause-outgrown g c = outgrown_is c.in-Ok.answer c.deliver.result (known g c)
-
-pub returns-clause-unlawful : goal.returns-clause-unlawful
-returns-clause-unlawful g c = unlawful_is c.in-Ok.answer c.deliver.result (known g c)
 
 pub returns-clause-unread : goal.returns-clause-unread
 returns-clause-unread g c = unread_is c.in-Ok.answer c.deliver.result (known g c)

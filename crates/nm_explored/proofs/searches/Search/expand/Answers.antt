@@ -41,6 +41,15 @@ loop-turn-preserved c =
           c.in_ok-turns.ensures.only few short ids here _
           (got_has c.deref-turn-items.result.now c.in_ok-turns.turns.items c.loop-turn.turn-index _
           c.deref-turn-items.ensures.value c.loop-turn-test.true)));
+      back = λ few short inside made back.
+          c.in_ok-follow.ensures.back c.args.of.eager c.args.of.ranks c.args.of.lines.now
+          (c.loop-turn.invariant.made few short inside made) (c.loop-turn.invariant.back few short inside made back)
+          (turn_here c.args.of.eager c.args.of.ranks c.args.of.lines.now c.args.self.now c.loop-turn.self c.args.k _
+          c.loop-turn.invariant.grows made inside
+          (λ ids here.
+          c.in_ok-turns.ensures.only few short ids here _
+          (got_has c.deref-turn-items.result.now c.in_ok-turns.turns.items c.loop-turn.turn-index _
+          c.deref-turn-items.ensures.value c.loop-turn-test.true)));
     }
 
 pub returns-clause-expanded : goal.returns-clause-expanded

@@ -5,7 +5,7 @@ use Rattle.nm_outcomes.specs.RankStates.{Spot}
 use Rattle.nm_explored.specs.declared.choices.moves.Turn.{Turn}
 use Rattle.nm_explored.specs.Successors.{spot_in}
 use Rattle.nm_explored.specs.Moves.{AreSendsShort, moved_at}
-use Rattle.nm_explored.specs.Met.{IsMade}
+use Rattle.nm_explored.specs.Met.{AreBack, IsMade}
 use Rattle.nm_explored.specs.Stores.{Grows, Leads}
 use Rattle.nm_explored.proofs.searches.Search.expand.Given as goal
 
@@ -18,4 +18,7 @@ invariant-loop-turn l =
           Leads l.self ids t.rank (moved_at spot t.by);
       made : length l.of.lines.now < 4294967293 → AreSendsShort l.of.lines.now →
           l.k < length l.fn.self.states → IsMade l.of.eager l.of.ranks l.of.lines.now l.fn.self → IsMade l.of.eager l.of.ranks l.of.lines.now l.self;
+      back : length l.of.lines.now < 4294967293 → AreSendsShort l.of.lines.now →
+          l.k < length l.fn.self.states → IsMade l.of.eager l.of.ranks l.of.lines.now l.fn.self →
+          AreBack l.of.eager l.of.ranks l.of.lines.now l.fn.self → AreBack l.of.eager l.of.ranks l.of.lines.now l.self;
     }

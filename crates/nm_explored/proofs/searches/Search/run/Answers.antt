@@ -19,6 +19,8 @@ loop-k-preserved c =
           c.expand.new.self c.loop-k.k c.in_ok-expand.ensures.grows below (c.loop-k.invariant.all few short made)
           (c.in_ok-expand.ensures.expanded few (c.loop-k.invariant.made few short made));
       made = λ few short made. c.in_ok-expand.ensures.made few short below (c.loop-k.invariant.made few short made);
+      back = λ few short made back. c.in_ok-expand.ensures.back few short below (c.loop-k.invariant.made few short made)
+          (c.loop-k.invariant.back few short made back);
     }
 
 pub returns-then-k-as_slice-clause-all : goal.returns-then-k-as_slice-clause-all

@@ -1,7 +1,7 @@
 -- The first states are expanded.
 use Rattle.std.proofs.Common.{ℕ, ◌<◌, length}
 use Rattle.nm_explored.specs.Moves.{AreSendsShort}
-use Rattle.nm_explored.specs.Met.{IsMade}
+use Rattle.nm_explored.specs.Met.{AreBack, IsMade}
 use Rattle.nm_explored.specs.Stores.{AreExpanded, Grows}
 use Rattle.nm_explored.proofs.searches.Search.run.Given as goal
 
@@ -13,4 +13,7 @@ invariant-loop-k l =
           IsMade l.of.eager l.of.ranks l.of.lines.now l.fn.self → AreExpanded l.of.eager l.of.ranks l.of.lines.now l.self l.k;
       made : length l.of.lines.now < 4294967293 → AreSendsShort l.of.lines.now →
           IsMade l.of.eager l.of.ranks l.of.lines.now l.fn.self → IsMade l.of.eager l.of.ranks l.of.lines.now l.self;
+      back : length l.of.lines.now < 4294967293 → AreSendsShort l.of.lines.now →
+          IsMade l.of.eager l.of.ranks l.of.lines.now l.fn.self →
+          AreBack l.of.eager l.of.ranks l.of.lines.now l.fn.self → AreBack l.of.eager l.of.ranks l.of.lines.now l.self;
     }

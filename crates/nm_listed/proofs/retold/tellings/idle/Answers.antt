@@ -1,0 +1,7 @@
+-- One rank more.
+use Rattle.std.proofs.Common.{◌≡◌, ◌+◌, replicate, arith}
+use Rattle.nm_listed.proofs.TurnLemmas.{replicate_next}
+use Rattle.nm_listed.proofs.retold.tellings.idle.Goals as goal
+
+pub loop-rank-preserved : goal.loop-rank-preserved
+loop-rank-preserved c = grind (arith, replicate_next)
