@@ -36,6 +36,8 @@ pub mod Probed
 pub mod RanOutOfOrder
 pub mod RecallUnanswered
 pub mod ReceivedThoughClaimed
+pub mod RightEnds
+pub mod RightRuns
 pub mod SelfEmpty
 pub mod Settled
 pub mod Small
@@ -58,3 +60,5 @@ pub mod WholeUntaken
 pub mod WithdrawnThoughClaimed
 pub mod WithdrawnThoughTaken
 pub mod WithdrawnUnasked
+pub mod WrongEnds
+pub mod WrongRuns

@@ -5,7 +5,7 @@ use Rattle.std.proofs.Math.Bool.{and-false, or-false}
 use Rattle.std.specs.Prelude.{fold}
 use Rattle.std.specs.List.{find, list_any}
 use Rattle.std.specs.Option.{option_map, option_to_list}
-use Rattle.std.proofs.lemmas.Bool.{eqb-true, false≢true}
+use Rattle.std.proofs.lemmas.Bool.{eqb-true}
 use Rattle.std.proofs.lemmas.List.Sums.{fold-append}
 use Rattle.std.proofs.lemmas.List.Folds.{list_any-append}
 use Rattle.nm_types.specs.declared.messages.Arrival.{Arrival}
@@ -29,7 +29,7 @@ use Rattle.nm_history.proofs.OnceLemmas.{messages-push, posts-push, receives-pus
 use Rattle.nm_match.specs.declared.deeds.Deed.{Deed}
 use Rattle.nm_match.specs.declared.deeds.Deed.TheVariants as deed
 use Rattle.nm_match.specs.Deeds.{Represents, deeds_after, deeds_of, event_of, history_of, is_known_message}
-use Rattle.nm_match.specs.Deeds.{is_known_receive, is_message, is_of_matching}
+use Rattle.nm_match.specs.Deeds.{is_known_receive, is_message}
 use Rattle.nm_match.proofs.DeedLemmas.{history_of-push}
 use Rattle.nm_types.proofs.ListLemmas.{find_agree}
 use Rattle.nm_types.proofs.TruthLemmas.{and_left}
@@ -296,20 +296,6 @@ deeds_of-push h e = fold-append (λ (deeds : List Deed) (e : Event). deeds_after
 pub stands_push : (deeds : List Deed) (h : List Event) (e : Event) → Represents deeds h →
     Represents (deeds_after deeds e.what) (h ++ e ∷ [])
 stands_push deeds h e stands = ap (λ (ds : List Deed). deeds_after ds e.what) stands ∙ sym (deeds_of-push h e)
-
-no_deed : (deeds : List Deed) (what : Happened) → is_of_matching what ≡ false → deeds_after deeds what ≡ deeds
-no_deed deeds (Post p line) none = absurd (false≢true (sym none))
-no_deed deeds (Arrive a) none = absurd (false≢true (sym none))
-no_deed deeds (Cancel number done) none = absurd (false≢true (sym none))
-no_deed deeds (Withdraw from n done) none = absurd (false≢true (sym none))
-no_deed deeds (Claim from n line) none = absurd (false≢true (sym none))
-no_deed deeds (Match number from n cap line) none = absurd (false≢true (sym none))
-no_deed deeds what none = refl
-
--- an event that takes no part in matching
-pub stands_other : (deeds : List Deed) (h : List Event) (e : Event) → is_of_matching e.what ≡ false →
-    Represents deeds h → Represents deeds (h ++ e ∷ [])
-stands_other deeds h e none stands = sym (no_deed deeds e.what none) ∙ stands_push deeds h e stands
 
 module _ (deeds : List Deed) (h : List Event) (stands : Represents deeds h) where
   alike_stands : AlikeOf h deeds

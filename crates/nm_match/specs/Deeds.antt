@@ -68,16 +68,6 @@ deeds_after deeds (event.Claim from n line) = deeds ++ Claim from n ∷ []
 deeds_after deeds (event.Match number from n cap line) = deeds ++ Match number from n ∷ []
 deeds_after deeds _ = deeds
 
--- an event that takes part in matching
-abbrev pub is_of_matching : Happened → Bool
-is_of_matching (event.Post p line) = true
-is_of_matching (event.Arrive a) = true
-is_of_matching (event.Cancel number done) = true
-is_of_matching (event.Withdraw from n done) = true
-is_of_matching (event.Claim from n line) = true
-is_of_matching (event.Match number from n cap line) = true
-is_of_matching _ = false
-
 -- the deeds of a history, whatever its stamps, its lines and its capacities of matched receives
 unfoldable pub deeds_of : List Event → List Deed
 deeds_of h = fold (λ deeds e. deeds_after deeds e.what) [] h

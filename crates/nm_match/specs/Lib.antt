@@ -6,3 +6,4 @@ pub mod Picks
 pub mod Queues
 pub mod Seen
 pub mod InTurn
+pub mod SameMatching

@@ -2,7 +2,6 @@ pub mod Held
 pub mod Ways
 pub mod Placed
 pub mod Planned
-pub mod Rows
 pub mod Names
 pub mod Channels
 pub mod Plain

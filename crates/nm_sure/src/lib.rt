@@ -22,11 +22,7 @@
 //! most once.
 #![tactic(auto)]
 
-ghost use Rattle.std.specs.Prelude.{◌≡◌, ◌++◌, codes, Some};
-ghost use Rattle.nm_sure.specs.Plain as spec;
-ghost use Rattle.nm_sure.specs.PlainText.{plain_text};
 ghost use Rattle.nm_sure.specs.Agree.{PlainRunsAgree, PlainRunsTell};
-ghost use Rattle.nm_sure.specs.Rows.{ring, cut, held_up, crossed, sizes, wild};
 
 mod names;
 mod partners;
@@ -52,18 +48,3 @@ pub fn plain_runs_agree()
     rank_run_begins();
     reports_say_what_was_told();
 }
-
-/// Worked plain runs, and a script that is not plain.
-pub fn plain_rows()
-    ensures wild { spec.first_free wild ≡ Some 6 }
-    ensures ring { plain_text (sizes 3 8 1024) ring
-        ≡ codes "0 4 sent\n0 5 got 2 1 1 x02\n1 8 sent\n1 9 got 0 1 1 x00\n"
-        ++ codes "2 12 sent\n2 13 got 1 1 1 x01\ncells 24 home 24\ndone\n" }
-    ensures cut { plain_text (sizes 2 8 1024) cut
-        ≡ codes "0 3 sent\n1 5 cut 0 7 4\ncells 16 home 16\ndone\n" }
-    ensures held_up { plain_text (sizes 2 8 3) held_up
-        ≡ codes "0 3 waits\ncells 16 home 16\nstuck\n" }
-    ensures crossed { plain_text (sizes 2 8 1024) crossed
-        ≡ codes "0 4 busy\n0 5 sent\n0 6 null\n1 8 got 0 7 1 x01\n1 10 waits\n"
-        ++ codes "cells 16 home 16\nstuck\n" }
-{}

@@ -1,28 +1,17 @@
 //! What two ends owe one another, and what follows of all ranks.
 
-ghost use Rattle.std.specs.Prelude.{◌≡◌, ℕ, List, length, map};
+ghost use Rattle.std.specs.Prelude.{◌≡◌, List, length, map};
 ghost use Rattle.nm_types.specs.declared.scripts.Line.{Line};
-ghost use Rattle.nm_types.specs.Commands.{Numbered, commands_of};
+ghost use Rattle.nm_types.specs.Commands.{commands_of};
 ghost use Rattle.nm_types.specs.Limits.{IsScript};
 ghost use Rattle.nm_types.specs.Sizes.{Sizes};
 ghost use Rattle.nm_history.specs.Quiescence.{EachRank, Packets, IsStopped, packets_of};
 ghost use Rattle.nm_history.specs.Run.{IsRunOf};
-ghost use Rattle.nm_channels.specs.Moments.{LogEntry};
-ghost use Rattle.nm_channels.specs.Ends.{AreEnds};
 ghost use Rattle.nm_channels.specs.Finished.{AreAllEnds, Finished, ended_of};
-ghost use Rattle.nm_channels.specs.Settled.{AreSettled};
 
-/// Where two ranks, which may be the same, have nothing left to send, and each took of the other
-/// what the other's history calls for, the messages from the first to the second are delivered and
-/// over, and nothing that the second took of the first was a stray.
-pub fn ends_are_settled()
-    ensures { (shape : Sizes) (i j : ℕ) (ci cj : List Numbered) (ati atj : ℕ)
-        (li lj : List LogEntry) → AreEnds shape i j ci cj ati atj li lj → AreSettled i j ci cj li lj }
-{}
-
-/// Where this holds of each two ranks of a script, each rank is at its end or waits for what can't
-/// come, and the counts of packets are those that the histories call for, the histories are a run
-/// of the script.
+/// Where each two ranks of a script, which may be the same, have nothing left to send and took of each
+/// other what the histories call for, each rank is at its end or waits for what can't come, and the
+/// counts of packets are those that the histories call for, the histories are a run of the script.
 pub fn ends_make_a_run()
     ensures { (shape : Sizes) (lines : List Line) (ranks : List Finished)
         (packets : List Packets) → IsScript shape.ranks lines → length ranks ≡ shape.ranks →

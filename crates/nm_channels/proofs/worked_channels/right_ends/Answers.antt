@@ -4,19 +4,12 @@ use Rattle.nm_channels.proofs.ClaimedAloneLogs as claimed_alone
 use Rattle.nm_channels.proofs.LongMessage as long_message
 use Rattle.nm_channels.proofs.Stray as stray
 use Rattle.nm_channels.proofs.ToOneself as to_oneself
+use Rattle.nm_channels.specs.RightEnds.RightEnds.{CancelledSend, ClaimedAlone, LongMessage, Stray, ToOneself}
 use Rattle.nm_channels.proofs.worked_channels.right_ends.Goals as goal
 
-pub returns-clause-is_long_message : goal.returns-clause-is_long_message
-returns-clause-is_long_message c = long_message.ends
-
-pub returns-clause-is_cancelled_send : goal.returns-clause-is_cancelled_send
-returns-clause-is_cancelled_send c = cancelled_send.ends
-
-pub returns-clause-is_claimed_alone : goal.returns-clause-is_claimed_alone
-returns-clause-is_claimed_alone c = claimed_alone.ends
-
-pub returns-clause-is_to_oneself : goal.returns-clause-is_to_oneself
-returns-clause-is_to_oneself c = to_oneself.ends
-
-pub returns-clause-is_stray : goal.returns-clause-is_stray
-returns-clause-is_stray c = stray.sound
+pub returns : goal.returns
+returns c LongMessage = long_message.ends
+returns c CancelledSend = cancelled_send.ends
+returns c ClaimedAlone = claimed_alone.ends
+returns c ToOneself = to_oneself.ends
+returns c Stray = stray.sound
