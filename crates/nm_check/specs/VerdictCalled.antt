@@ -6,7 +6,7 @@ use Rattle.nm_types.specs.declared.messages.TagPick.{TagPick}
 use Rattle.nm_types.specs.declared.messages.TagPick.TheVariants as pick
 use Rattle.nm_lookups.specs.declared.asked.requests.Request.{Request}
 use Rattle.nm_lookups.specs.declared.asked.requests.Request.TheVariants.{Sending, Receiving}
-use Rattle.nm_lookups.specs.declared.firsts.Message.{Message}
+use Rattle.nm_match.specs.declared.names.Message.{Message}
 use Rattle.nm_check_rank.specs.declared.paired.arguments.Argument.{Argument}
 use Rattle.nm_check_rank.specs.declared.paired.arguments.Argument.TheVariants as arg
 use Rattle.nm_check_rank.specs.declared.paired.arguments.Mismatch.{Mismatch}

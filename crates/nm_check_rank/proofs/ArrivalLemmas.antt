@@ -13,7 +13,7 @@ use Rattle.nm_history.specs.declared.events.Happened.TheVariants as happening
 use Rattle.nm_history.specs.Answers.{Message as Claimed}
 use Rattle.nm_history.specs.Happens.{is_arrival}
 use Rattle.nm_history.specs.Sends.{arrival_of, message_of}
-use Rattle.nm_lookups.specs.declared.firsts.Message.{Message}
+use Rattle.nm_match.specs.declared.names.Message.{Message}
 use Rattle.nm_lookups.specs.AskedFor.{message_meant}
 use Rattle.nm_lookups.proofs.GivenLemmas.{given_before, given_later, given_never}
 use Rattle.nm_lookups.proofs.RequestLemmas.{an_event}

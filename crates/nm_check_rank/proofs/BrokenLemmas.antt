@@ -36,7 +36,7 @@ use Rattle.nm_lookups.specs.AskedFor.{name_of}
 use Rattle.nm_lookups.specs.Deciding.{Decides}
 use Rattle.nm_lookups.specs.Looks.{found_by}
 use Rattle.nm_lookups.specs.declared.asked.requests.Request.TheVariants.{Sending, Receiving}
-use Rattle.nm_lookups.specs.declared.firsts.Message.{Message}
+use Rattle.nm_match.specs.declared.names.Message.{Message}
 use Rattle.nm_check_rank.specs.Arguments.{IsFirstMismatch, arguments}
 use Rattle.nm_check_rank.specs.Cancellings.{cancel_due, cancels_due, receive_cancels, receive_due, send_cancels, send_due}
 use Rattle.nm_check_rank.specs.Claimings.{claim_due, claims_due, message_due, named}

@@ -16,7 +16,7 @@ use Rattle.nm_history.specs.declared.events.Happened.TheVariants as happening
 use Rattle.nm_history.specs.Answers.{Message as Claimed, is_started, live_message}
 use Rattle.nm_history.specs.RankRun.{StartAt, is_start, lacks_message, start_of, starts_since, without_number}
 use Rattle.nm_lookups.specs.Deciding.{Decides}
-use Rattle.nm_lookups.specs.declared.firsts.Message.{Message}
+use Rattle.nm_match.specs.declared.names.Message.{Message}
 use Rattle.nm_lookups.specs.AskedFor.{asked_message, handle_of, message_meant}
 use Rattle.nm_lookups.specs.SinceAnswer.{IsSince, of_kind}
 use Rattle.nm_lookups.specs.declared.asked.since.Since.TheVariants.{One}

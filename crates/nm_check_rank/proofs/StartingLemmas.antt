@@ -19,7 +19,7 @@ use Rattle.nm_history.specs.RankRun.{is_start, lacks_message, since_command, sta
 use Rattle.nm_lookups.specs.AskedFor.{message_meant}
 use Rattle.nm_lookups.specs.SinceAnswer.{IsSince, of_kind}
 use Rattle.nm_lookups.specs.declared.asked.since.Since.TheVariants as since
-use Rattle.nm_lookups.specs.declared.firsts.Message.{Message}
+use Rattle.nm_match.specs.declared.names.Message.{Message}
 use Rattle.nm_check_rank.specs.Arguments.{IsFirstMismatch, arguments}
 use Rattle.nm_check_rank.specs.Manies.{many_due, many_of}
 use Rattle.nm_check_rank.specs.Objections.{match_objection}

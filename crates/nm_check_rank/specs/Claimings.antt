@@ -10,8 +10,8 @@ use Rattle.nm_history.specs.declared.events.Happened.{Happened}
 use Rattle.nm_history.specs.declared.events.Happened.TheVariants.{Claim, Ran}
 use Rattle.nm_history.specs.Answers.{is_seen}
 use Rattle.nm_history.specs.RankRun.{claims_since, is_matched_probe}
-use Rattle.nm_lookups.specs.declared.firsts.Message.{Message}
-use Rattle.nm_lookups.specs.Firsts.{same_message}
+use Rattle.nm_match.specs.declared.names.Message.{Message}
+use Rattle.nm_match.specs.Names.{same_message}
 use Rattle.nm_lookups.specs.Looks.{found_by}
 use Rattle.nm_check_rank.specs.Manies.{many_due, many_of}
 use Rattle.nm_check_rank.specs.declared.paired.dues.Due.{Due}

@@ -6,7 +6,7 @@ use Rattle.nm_history.specs.declared.events.Event.{Event}
 use Rattle.nm_history.specs.declared.events.Happened.{Happened}
 use Rattle.nm_history.specs.Answers.{live, live_message}
 use Rattle.nm_history.specs.RankRun.{lacks_message, start_of}
-use Rattle.nm_lookups.specs.declared.firsts.Message.{Message}
+use Rattle.nm_match.specs.declared.names.Message.{Message}
 use Rattle.nm_lookups.specs.AskedFor.{handle_of, meant_by, message_meant, name_of}
 use Rattle.nm_lookups.specs.declared.asked.requests.Request.{Request}
 

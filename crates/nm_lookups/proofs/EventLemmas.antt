@@ -28,9 +28,9 @@ use Rattle.nm_match.specs.declared.deeds.Deed.{Deed}
 use Rattle.nm_match.specs.Deeds.{is_known_message, is_known_receive, is_message}
 use Rattle.nm_match.proofs.PushLemmas.{closes, is_known_message-push, takes}
 use Rattle.nm_match.proofs.TurnLemmas.{others_number}
-use Rattle.nm_lookups.specs.declared.firsts.Message.{Message}
+use Rattle.nm_match.specs.declared.names.Message.{Message}
 use Rattle.nm_lookups.specs.declared.pairing.replays.Replay.{Replay}
-use Rattle.nm_lookups.specs.Firsts.{same_message}
+use Rattle.nm_match.specs.Names.{id_of_arrival, same_message}
 use Rattle.nm_lookups.specs.Queues.{HasQueues, free_messages, is_closed, is_gone, is_posted, open_receives}
 use Rattle.nm_lookups.specs.Queues.{posted_after_arrival, posted_after_post, unexpected_after_arrival}
 use Rattle.nm_lookups.specs.Queues.{unexpected_after_post, without_message, without_receive}
@@ -331,10 +331,6 @@ module _ {h : List Event} {old : Replay} (replays : Replays h old) (new : Replay
       find_among (λ q. get ◌==◌ old.posts q.number ≡ Some q)
       (λ q. matches q.from q.tag q.ctx a.env && is_open h (matched_pairs h) q) (posts h) p replays.kept first
 
--- the name of a message
-abbrev pub name_of : Arrival → Message
-name_of a = record { rank = a.env.from; n = a.n }
-
 module _ {h : List Event} {old : Replay} (replays : Replays h old) where
   -- what a matcher answers to a receive that is posted, and what it has then
   abbrev PostTold : post.Post → Bool → Option Arrival → List Deed → Type 0
@@ -349,7 +345,7 @@ module _ {h : List Event} {old : Replay} (replays : Replays h old) where
       cancelled ≡ contains ◌==◌ old.closed p.number → PostTold p cancelled taken between.matcher → taken ≡ Some a →
       Updates ◌==◌ old.posts between.posts p.number (Some p) → between.messages ≡ old.messages →
       HasSameQueues between new → set.Updates ◌==◌ old.closed new.closed p.number true →
-      set.Updates same_message old.gone new.gone (name_of a) true → pair ≡ pair_of p a →
+      set.Updates same_message old.gone new.gone (id_of_arrival a) true → pair ≡ pair_of p a →
       IsNextReplay h (record { stamp = stamp; what = Post p line }) (Some pair) new
   post_some_takes stamp line p cancelled taken a between new pair is_new closed_before told is table messages
       same closed gone made =
@@ -407,11 +403,11 @@ module _ {h : List Event} {old : Replay} (replays : Replays h old) where
   pub arrival_some_takes : (stamp : ℕ) (a : Arrival) (gone_before : Bool) (taken : Option ℕ) (number : ℕ)
       (p : post.Post)
       (between new : Replay) (pair : Pair) → is_known_message h a.env.from a.n ≡ false →
-      gone_before ≡ contains same_message old.gone (name_of a) → ArrivalTold a gone_before taken between.matcher →
+      gone_before ≡ contains same_message old.gone (id_of_arrival a) → ArrivalTold a gone_before taken between.matcher →
       taken ≡ Some number → get ◌==◌ old.posts number ≡ Some p →
-      Updates same_message old.messages between.messages (name_of a) (Some a) → between.posts ≡ old.posts →
+      Updates same_message old.messages between.messages (id_of_arrival a) (Some a) → between.posts ≡ old.posts →
       HasSameQueues between new → set.Updates ◌==◌ old.closed new.closed number true →
-      set.Updates same_message old.gone new.gone (name_of a) true →
+      set.Updates same_message old.gone new.gone (id_of_arrival a) true →
       pair ≡ pair_of_claimed number p.cap a → IsNextReplay h (record { stamp = stamp; what = Arrive a }) (Some pair) new
   arrival_some_takes stamp a gone_before taken number p between new pair is_new before told is look table
       posts same closed gone made =
@@ -423,7 +419,7 @@ module _ {h : List Event} {old : Replay} (replays : Replays h old) where
       let of_pair : pair_of q a ≡ pair =
       ap (λ (r : post.Post). pair_of r a) (sym one) ∙ ap (λ m. pair_of_claimed m p.cap a) numbers ∙ sym made in
       subst (λ (pair : Pair). IsNextReplay h (record { stamp = stamp; what = Arrive a }) (Some pair) new) of_pair
-      (arrival_takes replays new stamp a (Some q) gone_before is_new first.1 (before ∙ replays.gone (name_of a))
+      (arrival_takes replays new stamp a (Some q) gone_before is_new first.1 (before ∙ replays.gone (id_of_arrival a))
       (rw (← same.messages) at table) (same.posts ∙ posts)
       (λ m. closed_more replays new number closed m
       ∙ ap (λ b. is_closed h m || b) (ap (λ n. n == m) (sym of_number) ∙ sym (or-false _ ∙ or-false (q.number == m))))
@@ -437,16 +433,16 @@ module _ {h : List Event} {old : Replay} (replays : Replays h old) where
 
   -- .. and goes to none
   pub arrival_none_takes : (stamp : ℕ) (a : Arrival) (gone_before : Bool) (taken : Option ℕ) (new : Replay) →
-      is_known_message h a.env.from a.n ≡ false → gone_before ≡ contains same_message old.gone (name_of a) →
+      is_known_message h a.env.from a.n ≡ false → gone_before ≡ contains same_message old.gone (id_of_arrival a) →
       ArrivalTold a gone_before taken new.matcher → taken ≡ None →
-      Updates same_message old.messages new.messages (name_of a) (Some a) → new.posts ≡ old.posts →
+      Updates same_message old.messages new.messages (id_of_arrival a) (Some a) → new.posts ≡ old.posts →
       new.closed ≡ old.closed → new.gone ≡ old.gone →
       IsNextReplay h (record { stamp = stamp; what = Arrive a }) None new
   arrival_none_takes stamp a gone_before taken new is_new before told is table posts closed gone =
       arrival_takes replays new stamp a None gone_before is_new
       (sym (first_open h a.env) ∙ mapped_none (λ (p : post.Post). p.number)
       (find (λ p. matches p.from p.tag p.ctx a.env) (open_receives h)) (sym told.0 ∙ is))
-      (before ∙ replays.gone (name_of a)) table posts (closed_same replays new closed) (gone_same replays new gone)
+      (before ∙ replays.gone (id_of_arrival a)) table posts (closed_same replays new closed) (gone_same replays new gone)
       (subst (λ (o : Option ℕ). HasQueues (posted_after_arrival (open_receives h) o)
       (unexpected_after_arrival a gone_before (free_messages h) o) (is_posted h)
       (λ from n. is_known_message h from n || (a.env.from == from && a.n == n)) new.matcher) is told.1)

@@ -13,11 +13,11 @@ use Rattle.nm_history.specs.declared.events.Event.{Event}
 use Rattle.nm_history.specs.declared.events.Happened.{Happened}
 use Rattle.nm_history.specs.Completion.{is_taken}
 use Rattle.nm_history.specs.Happens.{happened}
-use Rattle.nm_lookups.specs.Firsts.{same_message}
-use Rattle.nm_lookups.specs.declared.firsts.Message.{Message}
+use Rattle.nm_match.specs.Names.{same_message}
+use Rattle.nm_match.proofs.NameLemmas.{same_message-true}
+use Rattle.nm_match.specs.declared.names.Message.{Message}
 use Rattle.nm_types.proofs.NumberLemmas.{lt_false, same_number}
 use Rattle.nm_types.proofs.ListLemmas.{take_next}
-use Rattle.nm_types.proofs.TruthLemmas.{and_left, and_right}
 
 is_below : (i k : ℕ) → nat_lt i (i + suc k) ≡ true
 is_below i k = let low : i < i + suc k = omega arith in grind (arith, nat_tests)
@@ -131,14 +131,6 @@ module _ {K X S : Type 0} (eq : K → K → Bool) (p : K → X → Bool) where
       by_old (Some o) is same = subst (λ (m : IndexMap K ℕ S). get eq m q ≡ option_or (get eq old q)
           (cond (eq key q) (Some (length xs)) None)) (sym same) (known o (eq key q) refl is)
 
-pub message_same : (a b : Message) → same_message a b ≡ true → a ≡ b
-message_same a b same =
-    let ranks : (a.rank == b.rank) ≡ true = and_left (a.rank == b.rank) (a.n == b.n) same in
-    let ns : (a.n == b.n) ≡ true = and_right (a.rank == b.rank) (a.n == b.n) same in
-    let rank : a.rank ≡ b.rank = grind (arith, nat_tests) in
-    let n : a.n ≡ b.n = grind (arith, nat_tests) in
-    λ i. record { rank = rank i; n = n i }
-
 module _ {S : Type 0} (is_of : ℕ → ℕ → Happened → Bool) (h : List Event) (k : ℕ) (e : Event) (inside : k < length h)
     (is : e ≡ get_or h k e) where
   -- the first places of messages, with one event more of a message
@@ -151,8 +143,8 @@ module _ {S : Type 0} (is_of : ℕ → ℕ → Happened → Bool) (h : List Even
       let front : length (take k h) ≡ k = length-take-le k h (omega (arith, inside)) in
       subst (λ (g : List Event). get same_message new m ≡ position (λ e. is_of m.rank m.n e.what) g)
       (sym (take_next h k e inside is))
-      (noted same_message (λ (q : Message) (e : Event). is_of q.rank q.n e.what) old new (take k h) e key message_same
-      of
+      (noted same_message (λ (q : Message) (e : Event). is_of q.rank q.n e.what) old new (take k h) e key
+      same_message-true of
       (subst (λ (n : ℕ). MatchOption (get same_message old key) (Updates same_message old new key (Some n))
       (λ _. new ≡ old)) (sym front) update)
       firsts m)

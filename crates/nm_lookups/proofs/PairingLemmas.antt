@@ -17,14 +17,14 @@ use Rattle.nm_history.specs.declared.plain.Pair.{Pair}
 use Rattle.nm_history.specs.Completion.{is_taken, pair_of_receive}
 use Rattle.nm_history.specs.Matching.{is_of_message, is_of_receive, matched_pairs, new_pair}
 use Rattle.nm_history.proofs.MatchingLemmas.{matched_pairs-push}
-use Rattle.nm_lookups.specs.declared.firsts.Message.{Message}
+use Rattle.nm_match.specs.declared.names.Message.{Message}
 use Rattle.nm_lookups.specs.declared.pairing.pairings.Paired.{Paired}
 use Rattle.nm_lookups.specs.declared.pairing.pairings.Tables.{Tables}
-use Rattle.nm_lookups.specs.Firsts.{same_message}
+use Rattle.nm_match.specs.Names.{same_message}
+use Rattle.nm_match.proofs.NameLemmas.{same_message-true}
 use Rattle.nm_lookups.specs.Pairings.{ArePaired, ArePairTables, pair_before}
 use Rattle.nm_lookups.specs.Placed.{AreTaken}
 use Rattle.nm_types.proofs.NumberLemmas.{lt_false}
-use Rattle.nm_lookups.proofs.FirstLemmas.{message_same}
 
 -- what stands before a place is the same with one event more, or is all of it
 places : (h : List Event) (e : Event) (k : ℕ) →
@@ -141,7 +141,7 @@ module _ {S : Type 0} (h : List Event) (e : Event) where
           (b : Bool) → same_message (message_paired pair) m ≡ b → (k : ℕ) →
           is_before k (cond b (Some (length h)) (get same_message old m)) ≡ taken_of m (take k (h ++ e ∷ []))
       by_name update none true same =
-          let is : (message_paired pair) ≡ m = message_same (message_paired pair) m same in
+          let is : (message_paired pair) ≡ m = same_message-true (message_paired pair) m same in
           let absent : get same_message old m ≡ None = subst (λ q. get same_message old q ≡ None) is none in
           entry_new is_before (taken_of m) h e (get same_message old m) (length h) absent
           (λ k within. lt_false (length h) k within)
@@ -160,7 +160,7 @@ module _ {S : Type 0} (h : List Event) (e : Event) where
           ap (λ (table : IndexMap Message ℕ S). is_before k (get same_message table m)) same
           ∙ entry_same is_before (taken_of m) h e (get same_message old m)
           (stays (same_message (message_paired pair) m) refl (λ named.
-          let is : (message_paired pair) ≡ m = message_same (message_paired pair) m named in
+          let is : (message_paired pair) ≡ m = same_message-true (message_paired pair) m named in
           let place = t + 1 + length h in
           let found : get same_message old m ≡ Some t = subst (λ q. get same_message old q ≡ Some t) is there in
           ap (taken_of m) (sym (take_all place h (far_behind t (length h)))) ∙ sym (told m place)

@@ -27,9 +27,9 @@ use Rattle.nm_match.proofs.DeedLemmas.{first_message-queue, queues-none}
 use Rattle.nm_match.proofs.ListLemmas.{filter_none, find-filter}
 use Rattle.nm_match.proofs.PushLemmas.{closes, is_known_message-push, messages_known, takes}
 use Rattle.nm_match.proofs.TurnLemmas.{others_number}
-use Rattle.nm_lookups.specs.declared.firsts.Message.{Message}
+use Rattle.nm_match.specs.declared.names.Message.{Message}
 use Rattle.nm_lookups.specs.declared.pairing.replays.Replay.{Replay}
-use Rattle.nm_lookups.specs.Firsts.{same_message}
+use Rattle.nm_match.specs.Names.{same_message}
 use Rattle.nm_lookups.specs.Queues.{HasQueuesOf, HasQueues, free_messages, is_closed, is_gone, is_posted, open_receives}
 use Rattle.nm_lookups.specs.Queues.{without_message, without_receive}
 use Rattle.nm_lookups.specs.Replays.{Replays}

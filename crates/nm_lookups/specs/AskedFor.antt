@@ -12,7 +12,7 @@ use Rattle.nm_history.specs.Answers.{line_of_handle, line_of_name, live, live_me
 use Rattle.nm_history.specs.Answers.{Message as Claimed}
 use Rattle.nm_history.specs.Completion.{Request as Meant}
 use Rattle.nm_history.specs.Completion.Request.{Sending as sending, Receiving as receiving}
-use Rattle.nm_lookups.specs.declared.firsts.Message.{Message}
+use Rattle.nm_match.specs.declared.names.Message.{Message}
 use Rattle.nm_lookups.specs.declared.asked.asked.Asked.{Asked}
 use Rattle.nm_lookups.specs.declared.asked.requests.Change.{Change}
 use Rattle.nm_lookups.specs.declared.asked.requests.Change.TheVariants.{Begins, Ends, Keeps}

@@ -5,11 +5,8 @@ use Rattle.nm_history.specs.declared.events.Happened.{Happened}
 use Rattle.nm_history.specs.declared.events.Happened.TheVariants.{Send}
 use Rattle.nm_history.specs.Answers.{message_claimed, request_of}
 use Rattle.nm_history.specs.Sends.{is_ask}
-use Rattle.nm_lookups.specs.declared.firsts.Message.{Message}
-
--- two messages are the same
-abbrev pub same_message : Message → Message → Bool
-same_message a b = a.rank == b.rank && a.n == b.n
+use Rattle.nm_match.specs.declared.names.Message.{Message}
+use Rattle.nm_match.specs.Names.{same_message}
 
 -- a message is named, and it is this one
 abbrev pub is_named : Message → Option Message → Bool

@@ -8,8 +8,9 @@ use Rattle.nm_history.specs.Happens.{is_send, is_arrival, is_whole, is_out, is_r
 use Rattle.nm_history.specs.Happens.{is_undone, is_claim, is_cancel}
 use Rattle.nm_history.specs.RankRun.{is_asking}
 use Rattle.nm_history.specs.Completion.{is_taken}
-use Rattle.nm_lookups.specs.Firsts.{same_message, is_asked_send, is_claim_at, is_start_at}
-use Rattle.nm_lookups.specs.declared.firsts.Message.{Message}
+use Rattle.nm_match.specs.Names.{same_message}
+use Rattle.nm_lookups.specs.Firsts.{is_asked_send, is_claim_at, is_start_at}
+use Rattle.nm_match.specs.declared.names.Message.{Message}
 use Rattle.nm_lookups.specs.declared.places.ByNumber.{ByNumber}
 use Rattle.nm_lookups.specs.declared.places.Came.{Came}
 use Rattle.nm_lookups.specs.declared.places.Gone.{Gone}

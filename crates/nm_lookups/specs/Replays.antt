@@ -8,9 +8,9 @@ use Rattle.nm_history.specs.declared.events.Event.{Event}
 use Rattle.nm_history.specs.declared.plain.Pair.{Pair}
 use Rattle.nm_history.specs.Matching.{matched_pairs, new_pair}
 use Rattle.nm_history.specs.Sends.{message_of, posts as posted_receives}
-use Rattle.nm_lookups.specs.declared.firsts.Message.{Message}
+use Rattle.nm_match.specs.declared.names.Message.{Message}
 use Rattle.nm_lookups.specs.declared.pairing.replays.Replay.{Replay}
-use Rattle.nm_lookups.specs.Firsts.{same_message}
+use Rattle.nm_match.specs.Names.{same_message}
 use Rattle.nm_lookups.specs.Queues.{HasQueuesOf, is_closed, is_gone, is_posted}
 
 -- The replay has the queues of this history, its receives and its messages by their numbers, and

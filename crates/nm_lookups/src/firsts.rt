@@ -3,6 +3,7 @@
 ghost use Rattle.std.specs.Prelude.{◌≡◌, ◌≤◌, ℕ, Bool, false, IfOk, List, MatchOption, OnOk, Some};
 ghost use Rattle.std.specs.Prelude.{length, nat_lt, slice_get, take};
 ghost use Rattle.indexmap.specs.IndexMap.{get, Updates};
+ghost use Rattle.nm_match.specs.declared.names.Message as message;
 ghost use Rattle.nm_lookups.specs.Firsts.{is_named, is_numbered};
 ghost use Rattle.nm_history.specs.declared.events.Event as event;
 ghost use Rattle.nm_history.specs.declared.events.Happened as occurrence;
@@ -12,34 +13,13 @@ ghost use Rattle.nm_history.specs.Delivery.{earlier_than};
 ghost use Rattle.nm_history.specs.Happens.{happened};
 ghost use Rattle.nm_history.specs.RankRun.{StampAt};
 ghost use Rattle.nm_lookups.specs.Placed.{AreFirsts, AreNumberedFirsts, AreTaken};
-ghost use Rattle.nm_lookups.specs.declared.firsts.Message as message;
 
 use indexmap::IndexMap;
 use nm_history::{Event, Happened};
+pub use nm_match::Message;
 use nm_types::Memory;
 use std::alloc::Global;
 use std::hash::Hash;
-
-/// A message, by the other rank of it and its number among those of the two.
-#[derive(Clone, Copy, Eq, Hash)]
-pub struct Message {
-    pub rank: u8,
-    pub n: u64,
-}
-
-impl PartialEq for Message {
-    ghost use Rattle.std.proofs.Common.{rules};
-    ghost use Rattle.std.specs.Cmp.Rules.{comparing};
-    ghost use Rattle.nm_lookups.specs.Firsts.{same_message};
-
-    ghost eq = { λ a b. same_message a b };
-
-    ghost laws = { Prim.search (comparing, rules) };
-
-    fn eq(&self, other: &Message) -> bool {
-        self.rank == other.rank && self.n == other.n
-    }
-}
 
 /// Keeps the first place of a key.
 pub fn note<K: Eq + Hash + Drop + Copy>(

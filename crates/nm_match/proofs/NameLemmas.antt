@@ -14,7 +14,7 @@ use Rattle.std.proofs.lemmas.List.Elements.{All-filter}
 use Rattle.std.proofs.lemmas.List.Folds.{find-append, list_any-append}
 use Rattle.indexmap.specs.IndexMap.{IndexMap, get}
 use Rattle.nm_types.specs.declared.messages.Arrival.{Arrival}
-use Rattle.nm_match.specs.declared.names.MessageId.{MessageId}
+use Rattle.nm_match.specs.declared.names.Message.{Message}
 use Rattle.nm_match.specs.declared.names.Standing.{Standing}
 use Rattle.nm_match.specs.declared.names.Standing.TheVariants.{Waits, Aside}
 use Rattle.nm_match.specs.declared.picks.Picks.{Picks}
@@ -329,17 +329,17 @@ pub any_other : {X : Type 0} (test : X → Bool) (xs : List X) (x : X) → test 
 any_other test xs x fails = list_any-append test xs (x ∷ []) ∙ rw fails (or-false (list_any test xs))
 
 -- two messages that are the same by their names are equal
-pub same_message-true : (a b : MessageId) → same_message a b ≡ true → a ≡ b
+pub same_message-true : (a b : Message) → same_message a b ≡ true → a ≡ b
 same_message-true a b same =
-    let from : a.from ≡ b.from = eqb-true a.from b.from (and_left (a.from == b.from) (a.n == b.n) same) in
-    let n : a.n ≡ b.n = eqb-true a.n b.n (and_right (a.from == b.from) (a.n == b.n) same) in
-    λ i. record { from = from i; n = n i }
+    let rank : a.rank ≡ b.rank = eqb-true a.rank b.rank (and_left (a.rank == b.rank) (a.n == b.n) same) in
+    let n : a.n ≡ b.n = eqb-true a.n b.n (and_right (a.rank == b.rank) (a.n == b.n) same) in
+    λ i. record { rank = rank i; n = n i }
 
 -- each message is itself
-pub message_itself : (id : MessageId) → same_message id id ≡ true
+pub message_itself : (id : Message) → same_message id id ≡ true
 message_itself id =
-    let from : (id.from == id.from) ≡ true = grind (arith, nat_tests) in
-    let n : (id.n == id.n) ≡ true = grind (arith, nat_tests) in rw (from, n) refl
+    let rank : (id.rank == id.rank) ≡ true = grind (arith, nat_tests) in
+    let n : (id.n == id.n) ≡ true = grind (arith, nat_tests) in rw (rank, n) refl
 
 -- two numbers that are the same are equal
 pub same_number-true : (a b : ℕ) → nat_eq a b ≡ true → a ≡ b
@@ -359,21 +359,21 @@ any_never test [] never = refl
 any_never test (x ∷ xs) never = rw (never x) (any_never test xs never)
 
 -- a message that left the others is not among them
-pub left_gone : (id : MessageId) (xs : List Arrival) →
-    has_one (filter (λ a. not (is_message id.from id.n a)) xs) id ≡ false
-left_gone id xs = list_any-filter (is_message id.from id.n) (λ (a : Arrival). not (is_message id.from id.n a)) xs
-    ∙ any_never _ xs (λ a. never_both (is_message id.from id.n a))
+pub left_gone : (id : Message) (xs : List Arrival) →
+    has_one (filter (λ a. not (is_message id.rank id.n a)) xs) id ≡ false
+left_gone id xs = list_any-filter (is_message id.rank id.n) (λ (a : Arrival). not (is_message id.rank id.n a)) xs
+    ∙ any_never _ xs (λ a. never_both (is_message id.rank id.n a))
 
 -- and each other one is where it was
-pub left_other : (id other : MessageId) (xs : List Arrival) → same_message id other ≡ false →
-    has_one (filter (λ a. not (is_message id.from id.n a)) xs) other ≡ has_one xs other
+pub left_other : (id other : Message) (xs : List Arrival) → same_message id other ≡ false →
+    has_one (filter (λ a. not (is_message id.rank id.n a)) xs) other ≡ has_one xs other
 left_other id other xs apart =
-    list_any-filter (is_message other.from other.n) (λ (a : Arrival). not (is_message id.from id.n a)) xs
-    ∙ list_any_agree (λ (a : Arrival). not (is_message id.from id.n a) && is_message other.from other.n a)
-    (is_message other.from other.n)
-    (λ a. other_at (is_message id.from id.n a) (is_message other.from other.n a)
-    (λ of_other. false_from_ne_true (is_message id.from id.n a)
-    (λ of_id. false≢true (sym apart ∙ subst (λ (m : MessageId). same_message id m ≡ true)
+    list_any-filter (is_message other.rank other.n) (λ (a : Arrival). not (is_message id.rank id.n a)) xs
+    ∙ list_any_agree (λ (a : Arrival). not (is_message id.rank id.n a) && is_message other.rank other.n a)
+    (is_message other.rank other.n)
+    (λ a. other_at (is_message id.rank id.n a) (is_message other.rank other.n a)
+    (λ of_other. false_from_ne_true (is_message id.rank id.n a)
+    (λ of_id. false≢true (sym apart ∙ subst (λ (m : Message). same_message id m ≡ true)
     (sym (same_message-true (id_of_arrival a) id of_id) ∙ same_message-true (id_of_arrival a) other of_other)
     (message_itself id))))) xs
 

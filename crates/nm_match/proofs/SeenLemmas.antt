@@ -15,7 +15,7 @@ use Rattle.nm_history.specs.Sends.{messages, posts, post_of, arrival_of}
 use Rattle.nm_history.proofs.OnceLemmas.{posts-push, messages-push}
 use Rattle.nm_match.specs.declared.deeds.Deed.{Deed}
 use Rattle.nm_match.specs.declared.deeds.Deed.TheVariants as deed
-use Rattle.nm_match.specs.declared.names.MessageId.{MessageId}
+use Rattle.nm_match.specs.declared.names.Message.{Message}
 use Rattle.nm_match.specs.declared.seen.Seen.{Seen}
 use Rattle.nm_match.specs.Deeds.{event_of, happened_by, history_of, is_deed_of_message, is_deed_of_receive}
 use Rattle.nm_match.specs.Names.{id_of_arrival, id_of_receive, same_message}
@@ -48,33 +48,33 @@ any_deed test deeds d before same =
     ∙ sym (list_any-append test deeds (d ∷ []) ∙ ap (λ b. list_any test deeds || b) (or-false (test d)))
 
 -- nothing is taken where nothing was done
-pub names_none : (r m : Seen) → ((i : MessageId) → has_seen r i ≡ false) → ((i : MessageId) → has_seen m i ≡ false) →
+pub names_none : (r m : Seen) → ((i : Message) → has_seen r i ≡ false) → ((i : Message) → has_seen m i ≡ false) →
     AreNames [] 0 r m
 unfolding history_of
 names_none r m no_receive no_message = record {
   receives = λ number. no_receive (id_of_receive number);
-  messages = λ from n. no_message (record { from = from; n = n });
+  messages = λ from n. no_message (record { rank = from; n = n });
   counted = omega arith;
   small_receives = All-nil IsSmallPost;
   small_messages = All-nil IsSmallMessage;
 }
 
 -- one name more, where room was made before
-pub seen_more : (r r1 r2 : Seen) {id id' : MessageId} → id ≡ id' →
-    ((i : MessageId) → has_seen r1 i ≡ has_seen r i) →
-    ((i : MessageId) → has_seen r2 i ≡ (has_seen r1 i || same_message id i)) → (i : MessageId) →
+pub seen_more : (r r1 r2 : Seen) {id id' : Message} → id ≡ id' →
+    ((i : Message) → has_seen r1 i ≡ has_seen r i) →
+    ((i : Message) → has_seen r2 i ≡ (has_seen r1 i || same_message id i)) → (i : Message) →
     has_seen r2 i ≡ (has_seen r i || same_message id' i)
 seen_more r r1 r2 {id} {id'} same room add i =
     add i ∙ ap (λ b. b || same_message id i) (room i)
-    ∙ ap (λ (m : MessageId). has_seen r i || same_message m i) same
+    ∙ ap (λ (m : Message). has_seen r i || same_message m i) same
 
 module _ (deeds : List Deed) {next : ℕ} {r m : Seen} (names : AreNames deeds next r m) where
   -- room that was made takes no name
-  pub names_kept : (r' m' : Seen) → ((i : MessageId) → has_seen r' i ≡ has_seen r i) →
-      ((i : MessageId) → has_seen m' i ≡ has_seen m i) → AreNames deeds next r' m'
+  pub names_kept : (r' m' : Seen) → ((i : Message) → has_seen r' i ≡ has_seen r i) →
+      ((i : Message) → has_seen m' i ≡ has_seen m i) → AreNames deeds next r' m'
   names_kept r' m' same_r same_m = record {
     receives = λ number. same_r (id_of_receive number) ∙ names.receives number;
-    messages = λ from n. same_m (record { from = from; n = n }) ∙ names.messages from n;
+    messages = λ from n. same_m (record { rank = from; n = n }) ∙ names.messages from n;
     counted = names.counted;
     small_receives = names.small_receives;
     small_messages = names.small_messages;
@@ -87,14 +87,14 @@ module _ (deeds : List Deed) {next : ℕ} {r m : Seen} (names : AreNames deeds n
       All IsSmallMessage (cons_option (arrival_of (happened_by d)) []) →
       ((number : ℕ) → has_seen r' (id_of_receive number)
       ≡ (has_seen r (id_of_receive number) || is_deed_of_receive number d)) →
-      ((from n : ℕ) → has_seen m' (record { from = from; n = n })
-      ≡ (has_seen m (record { from = from; n = n }) || is_deed_of_message from n d)) →
+      ((from n : ℕ) → has_seen m' (record { rank = from; n = n })
+      ≡ (has_seen m (record { rank = from; n = n }) || is_deed_of_message from n d)) →
       AreNames (deeds ++ d ∷ []) later r' m'
   names_push d later r' m' few small_post small_message seen_r seen_m = record {
     receives = λ number. seen_r number
         ∙ any_deed (is_deed_of_receive number) deeds d (has_seen r (id_of_receive number)) (names.receives number);
     messages = λ from n. seen_m from n
-        ∙ any_deed (is_deed_of_message from n) deeds d (has_seen m (record { from = from; n = n }))
+        ∙ any_deed (is_deed_of_message from n) deeds d (has_seen m (record { rank = from; n = n }))
         (names.messages from n);
     counted =
         let ps = length-append (posts (history_of deeds)) (cons_option (post_of (happened_by d)) []) in
@@ -109,7 +109,7 @@ module _ (deeds : List Deed) {next : ℕ} {r m : Seen} (names : AreNames deeds n
 
   -- after a receive was posted
   pub names_post : (p : post.Post) (later : ℕ) (r' : Seen) → p.number < 2 ^ 64 → later ≤ next + 1 →
-      ((i : MessageId) → has_seen r' i ≡ (has_seen r i || same_message (id_of_receive p.number) i)) →
+      ((i : Message) → has_seen r' i ≡ (has_seen r i || same_message (id_of_receive p.number) i)) →
       AreNames (deeds ++ deed.Post p ∷ []) later r' m
   names_post p later r' small few seen =
       names_push (deed.Post p) later r' m (omega (arith, few))
@@ -118,16 +118,16 @@ module _ (deeds : List Deed) {next : ℕ} {r m : Seen} (names : AreNames deeds n
 
   -- after a message came
   pub names_arrive : (a : Arrival) (later : ℕ) (m' : Seen) → a.env.from < 2 ^ 8 → a.n < 2 ^ 64 → later ≤ next + 1 →
-      ((i : MessageId) → has_seen m' i ≡ (has_seen m i || same_message (id_of_arrival a) i)) →
+      ((i : Message) → has_seen m' i ≡ (has_seen m i || same_message (id_of_arrival a) i)) →
       AreNames (deeds ++ deed.Arrive a ∷ []) later r m'
   names_arrive a later m' small_from small_n few seen =
       names_push (deed.Arrive a) later r m' (omega (arith, few)) (All-nil IsSmallPost)
       (All-cons IsSmallMessage a [] (small_from, small_n) (All-nil IsSmallMessage))
-      (λ number. sym (or-false _)) (λ from n. seen (record { from = from; n = n }))
+      (λ number. sym (or-false _)) (λ from n. seen (record { rank = from; n = n }))
 
   -- after a claimed message was received
   pub names_matched : (number from n : ℕ) (r' : Seen) →
-      ((i : MessageId) → has_seen r' i ≡ (has_seen r i || same_message (id_of_receive number) i)) →
+      ((i : Message) → has_seen r' i ≡ (has_seen r i || same_message (id_of_receive number) i)) →
       AreNames (deeds ++ deed.Match number from n ∷ []) next r' m
   names_matched number from n r' seen =
       names_push (deed.Match number from n) next r' m (omega arith) (All-nil IsSmallPost) (All-nil IsSmallMessage)

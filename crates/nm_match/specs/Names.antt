@@ -7,7 +7,7 @@ use Rattle.std.specs.BTreeMap.{BTreeMap}
 use Rattle.indexmap.specs.IndexMap.{IndexMap, get}
 use Rattle.nm_types.specs.declared.messages.Arrival.{Arrival}
 use Rattle.nm_types.specs.declared.messages.Post as post
-use Rattle.nm_match.specs.declared.names.MessageId.{MessageId}
+use Rattle.nm_match.specs.declared.names.Message.{Message}
 use Rattle.nm_match.specs.declared.names.Standing.{Standing}
 use Rattle.nm_match.specs.declared.names.Standing.TheVariants.{Waits, Aside}
 use Rattle.nm_match.specs.declared.picks.Picks.{Picks}
@@ -18,32 +18,32 @@ use Rattle.nm_match.specs.Deeds.{is_message}
 use Rattle.nm_match.specs.Picks.{picks_of_arrival, picks_of_post}
 
 -- the same message of the same rank
-abbrev pub same_message : MessageId → MessageId → Bool
-same_message a b = a.from == b.from && a.n == b.n
+abbrev pub same_message : Message → Message → Bool
+same_message a b = a.rank == b.rank && a.n == b.n
 
 -- what a message is known by
-abbrev pub id_of_arrival : Arrival → MessageId
-id_of_arrival a = record { from = a.env.from; n = a.n }
+abbrev pub id_of_arrival : Arrival → Message
+id_of_arrival a = record { rank = a.env.from; n = a.n }
 
 -- what a receive is known by: all receives are one group
-abbrev pub id_of_receive : ℕ → MessageId
-id_of_receive number = record { from = 0; n = number }
+abbrev pub id_of_receive : ℕ → Message
+id_of_receive number = record { rank = 0; n = number }
 
 -- the receive has this number
 abbrev pub has_number : post.Post → ℕ → Bool
 has_number p number = p.number == number
 
 -- the message is known by this
-abbrev pub has_id : Arrival → MessageId → Bool
-has_id a id = is_message id.from id.n a
+abbrev pub has_id : Arrival → Message → Bool
+has_id a id = is_message id.rank id.n a
 
 -- the number is one of these
 abbrev pub is_one_of : List ℕ → ℕ → Bool
 is_one_of numbers number = list_any (λ m. m == number) numbers
 
 -- one of these is known by this
-abbrev pub has_one : List Arrival → MessageId → Bool
-has_one arrivals id = list_any (is_message id.from id.n) arrivals
+abbrev pub has_one : List Arrival → Message → Bool
+has_one arrivals id = list_any (is_message id.rank id.n) arrivals
 
 -- it waits no more
 abbrev pub is_aside : Standing → Bool

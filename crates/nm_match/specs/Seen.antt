@@ -4,7 +4,7 @@ use Rattle.std.specs.List.{All, list_any}
 use Rattle.indexmap.specs.IndexSet.{contains, spare}
 use Rattle.nm_history.specs.Sends.{messages as messages_of, posts}
 use Rattle.nm_match.specs.declared.deeds.Deed.{Deed}
-use Rattle.nm_match.specs.declared.names.MessageId.{MessageId}
+use Rattle.nm_match.specs.declared.names.Message.{Message}
 use Rattle.nm_match.specs.declared.seen.Seen.{Seen}
 use Rattle.nm_match.specs.Deeds.{history_of, is_deed_of_message, is_deed_of_receive}
 use Rattle.nm_match.specs.Names.{id_of_receive, same_message}
@@ -14,12 +14,12 @@ abbrev pub next_of : Seen → ℕ → ℕ
 next_of s group = get_or s.next.items group 0
 
 -- a name is taken: it is below the next of its group, or stands apart
-abbrev pub has_seen : Seen → MessageId → Bool
-has_seen s id = nat_lt id.n (next_of s id.from) || contains same_message s.apart id
+abbrev pub has_seen : Seen → Message → Bool
+has_seen s id = nat_lt id.n (next_of s id.rank) || contains same_message s.apart id
 
 -- there is room for a name
-abbrev pub HasRoom : Seen → MessageId → Type 0
-HasRoom s id = (id.from < length s.next.items) × (0 < spare s.apart)
+abbrev pub HasRoom : Seen → Message → Type 0
+HasRoom s id = (id.rank < length s.next.items) × (0 < spare s.apart)
 
 -- The names of these deeds are taken, and no others. Numbers are below 2^64, and ranks below 2^8; so
 -- the order number of the next that waits, which counts some of them, is below 2^73.
@@ -27,7 +27,7 @@ pub record AreNames (deeds : List Deed) (next : ℕ) (r m : Seen) : Type 0 where
   pub receives :
       (number : ℕ) → has_seen r (id_of_receive number) ≡ list_any (is_deed_of_receive number) deeds
   pub messages :
-      (from n : ℕ) → has_seen m (record { from = from; n = n })
+      (from n : ℕ) → has_seen m (record { rank = from; n = n })
       ≡ list_any (is_deed_of_message from n) deeds
   pub counted : next ≤ length (posts (history_of deeds)) + length (messages_of (history_of deeds))
   pub small_receives : All (λ p. p.number < 2 ^ 64) (posts (history_of deeds))

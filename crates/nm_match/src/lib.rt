@@ -48,3 +48,4 @@ mod unexpected;
 
 pub use deeds::Deed;
 pub use matching::Matcher;
+pub use names::Message;

@@ -13,7 +13,7 @@ ghost use Rattle.nm_match.specs.Deeds.{history_of, is_known_message, is_known_re
 
 use crate::deeds::Deed;
 use crate::done::Done;
-use crate::names::{MessageId, message_id, receive_id};
+use crate::names::{Message, message_id, receive_id};
 use crate::posted::Posted;
 use crate::seen::Seen;
 use crate::unexpected::Unexpected;
@@ -177,7 +177,7 @@ impl Matcher {
         ensures deeds { self.new
             ≡ (if result then self.old ++ deed.Withdraw from n ∷ [] else self.old) }
     {
-        let was_free = self.unexpected.withdraw(MessageId { from, n });
+        let was_free = self.unexpected.withdraw(Message { rank: from, n });
         if was_free {
             self.done = self.done.then(&Deed::Withdraw { from, n });
         }
@@ -220,7 +220,7 @@ impl Matcher {
             result ≡ is_claimed_lem h (matched_pairs h) from n }
         ensures came { IsTrue result → IsSome (message_of (history_of self.now) from n) }
     {
-        self.unexpected.is_claimed(MessageId { from, n })
+        self.unexpected.is_claimed(Message { rank: from, n })
     }
 
     /// The matched receive of a claimed message (MPI 3.1, section 3.8.3), under a new number.
@@ -234,7 +234,7 @@ impl Matcher {
     {
         let id = receive_id(number);
         self.receives.make_room(id)?;
-        self.unexpected.take_claimed(MessageId { from, n });
+        self.unexpected.take_claimed(Message { rank: from, n });
         self.receives.add(id);
         self.done = self.done.then(&Deed::Match { number, from, n });
         Ok(())
@@ -251,6 +251,6 @@ impl Matcher {
     pub fn knows_arrival(&self, from: u8, n: u64) -> bool
         ensures { result ≡ is_known_message (history_of self.now) from n }
     {
-        self.messages.contains(MessageId { from, n })
+        self.messages.contains(Message { rank: from, n })
     }
 }

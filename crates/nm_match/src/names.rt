@@ -6,14 +6,14 @@ ghost use Rattle.nm_match.specs.Names.{id_of_arrival, id_of_receive, is_aside as
 use crate::picks::Picks;
 use nm_types::Arrival;
 
-/// A message: its sender, and its place among the messages of that sender.
+/// A message, by the other rank of it and its number among those of the two.
 #[derive(Clone, Copy, Eq, Hash)]
-pub struct MessageId {
-    pub from: u8,
+pub struct Message {
+    pub rank: u8,
     pub n: u64,
 }
 
-impl PartialEq for MessageId {
+impl PartialEq for Message {
     ghost use Rattle.std.proofs.Common.{rules};
     ghost use Rattle.std.specs.Cmp.Rules.{comparing};
     ghost use Rattle.nm_match.specs.Names.{same_message};
@@ -22,8 +22,8 @@ impl PartialEq for MessageId {
 
     ghost laws = { Prim.search (comparing, rules) };
 
-    fn eq(&self, other: &MessageId) -> bool {
-        self.from == other.from && self.n == other.n
+    fn eq(&self, other: &Message) -> bool {
+        self.rank == other.rank && self.n == other.n
     }
 }
 
@@ -46,27 +46,27 @@ impl Standing {
 }
 
 /// What a message is known by.
-pub(crate) fn id_of(a: &Arrival) -> MessageId
+pub(crate) fn id_of(a: &Arrival) -> Message
     ensures { result ≡ id_of_arrival a.now }
 {
-    MessageId {
-        from: a.env.from,
+    Message {
+        rank: a.env.from,
         n: a.n,
     }
 }
 
 /// Message `n` of a rank.
-pub(crate) fn message_id(from: u8, n: u64) -> MessageId
-    ensures id { result ≡ record { from = from; n = n } }
+pub(crate) fn message_id(from: u8, n: u64) -> Message
+    ensures id { result ≡ record { rank = from; n = n } }
     ensures small { (from < 2 ^ 8) × (n < 2 ^ 64) }
 {
-    MessageId { from, n }
+    Message { rank: from, n }
 }
 
 /// What a receive is known by: the receives of a rank are one group.
-pub(crate) fn receive_id(number: u64) -> MessageId
+pub(crate) fn receive_id(number: u64) -> Message
     ensures id { result ≡ id_of_receive number }
     ensures small { number < 2 ^ 64 }
 {
-    MessageId { from: 0, n: number }
+    Message { rank: 0, n: number }
 }

@@ -2,11 +2,11 @@
 
 ghost use Rattle.std.specs.Prelude.{◌≡◌, ℕ, ◌+◌, ◌<◌, ◌&&◌, ◌||◌, ◌==◌, false, length};
 ghost use Rattle.std.specs.Prelude.{if◌then◌else◌, IsTrue, OnOk};
-ghost use Rattle.nm_match.specs.declared.names.MessageId as message;
+ghost use Rattle.nm_match.specs.declared.names.Message as message;
 ghost use Rattle.nm_match.specs.Names.{same_message};
 ghost use Rattle.nm_match.specs.Seen.{HasRoom, has_seen, next_of};
 
-use crate::names::MessageId;
+use crate::names::Message;
 use indexmap::IndexSet;
 use nm_types::Memory;
 use std::alloc::Global;
@@ -19,7 +19,7 @@ use std::alloc::Global;
 /// come.
 pub struct Seen {
     pub next: Vec<u64>,
-    pub apart: IndexSet<MessageId>,
+    pub apart: IndexSet<Message>,
 }
 
 impl Drop for Seen {
@@ -31,7 +31,7 @@ impl Drop for Seen {
 impl Seen {
     /// No name is taken.
     pub(crate) fn new(alloc: Global) -> Self
-        ensures { (id : message.MessageId) → has_seen result id ≡ false }
+        ensures { (id : message.Message) → has_seen result id ≡ false }
     {
         Seen {
             next: Vec::new(alloc),
@@ -50,18 +50,18 @@ impl Seen {
     }
 
     /// Whether a name is taken.
-    pub(crate) fn contains(&self, id: MessageId) -> bool
+    pub(crate) fn contains(&self, id: Message) -> bool
         ensures { result ≡ has_seen self.now id }
     {
-        id.n < self.next_of(id.from) || self.apart.contains(&id)
+        id.n < self.next_of(id.rank) || self.apart.contains(&id)
     }
 
     /// Makes room for a name.
-    pub(crate) fn make_room(&mut self, id: MessageId) -> Result<(), Memory>
-        ensures same { (i : message.MessageId) → has_seen self.new i ≡ has_seen self.old i }
+    pub(crate) fn make_room(&mut self, id: Message) -> Result<(), Memory>
+        ensures same { (i : message.Message) → has_seen self.new i ≡ has_seen self.old i }
         ensures room { OnOk result (HasRoom self.new id) }
     {
-        let groups = id.from as usize + 1;
+        let groups = id.rank as usize + 1;
         if self.next.len() < groups {
             self.next.resize(groups, 0)?;
         }
@@ -71,30 +71,30 @@ impl Seen {
 
     /// Counts a name where it is the next of its group and not the last number that there is, and
     /// answers whether it did.
-    fn count(&mut self, id: MessageId) -> bool
-        requires { id.from < length self.old.next.items }
-        ensures counted { IsTrue result → id.n ≡ next_of self.old id.from }
+    fn count(&mut self, id: Message) -> bool
+        requires { id.rank < length self.old.next.items }
+        ensures counted { IsTrue result → id.n ≡ next_of self.old id.rank }
         ensures next { (group : ℕ) → next_of self.new group
-            ≡ (if result && id.from == group then id.n + 1 else next_of self.old group) }
+            ≡ (if result && id.rank == group then id.n + 1 else next_of self.old group) }
         ensures apart { self.new.apart ≡ self.old.apart }
         ensures len { length self.new.next.items ≡ length self.old.next.items }
     {
-        let next = self.next_of(id.from);
+        let next = self.next_of(id.rank);
         if id.n != next || next == u64::MAX {
             return false;
         }
-        self.next[id.from as usize] = next + 1;
+        self.next[id.rank as usize] = next + 1;
         true
     }
 
     /// Counts the name that stands apart and is the next of its group, if there is one.
     fn absorb(&mut self, group: u8)
         requires { group < length self.old.next.items }
-        ensures same { (i : message.MessageId) → has_seen self.new i ≡ has_seen self.old i }
+        ensures same { (i : message.Message) → has_seen self.new i ≡ has_seen self.old i }
         ensures len { length self.new.next.items ≡ length self.old.next.items }
     {
-        let next = MessageId {
-            from: group,
+        let next = Message {
+            rank: group,
             n: self.next_of(group),
         };
         if self.apart.contains(&next) && self.count(next) {
@@ -104,15 +104,15 @@ impl Seen {
 
     /// Takes a name. Of those that stand apart up to two are counted, so that they are the fewer
     /// the more names come.
-    pub(crate) fn add(&mut self, id: MessageId)
+    pub(crate) fn add(&mut self, id: Message)
         requires room { HasRoom self.old id }
-        ensures { (i : message.MessageId) →
+        ensures { (i : message.Message) →
             has_seen self.new i ≡ (has_seen self.old i || same_message id i) }
     {
         if !self.count(id) {
             self.apart.insert(id).unwrap();
         }
-        self.absorb(id.from);
-        self.absorb(id.from);
+        self.absorb(id.rank);
+        self.absorb(id.rank);
     }
 }

@@ -7,7 +7,7 @@ ghost use Rattle.std.specs.Prelude.{find, is_some, not, option_map};
 ghost use Rattle.indexmap.specs.IndexMap.{get};
 ghost use Rattle.nm_types.specs.declared.messages.Arrival as arrival;
 ghost use Rattle.nm_history.specs.Selection.{matches};
-ghost use Rattle.nm_match.specs.declared.names.MessageId as message;
+ghost use Rattle.nm_match.specs.declared.names.Message as message;
 ghost use Rattle.nm_match.specs.declared.names.Standing.TheVariants as standing;
 ghost use Rattle.nm_match.specs.Buckets.{AreBuckets, fitting_at};
 ghost use Rattle.nm_match.specs.Deeds.{is_message};
@@ -16,7 +16,7 @@ ghost use Rattle.nm_match.specs.Picks.{fits_picks, names_both, picks_of_arrival}
 ghost use Rattle.nm_match.specs.Queues.{TwoMessages, without_first};
 
 use crate::buckets::{Buckets, earlier, first};
-use crate::names::{MessageId, Standing, id_of};
+use crate::names::{Message, Standing, id_of};
 use crate::picks::{Picks, of_arrival};
 use indexmap::IndexMap;
 use nm_types::{Arrival, Memory, Peer, TagPick};
@@ -26,7 +26,7 @@ use std::alloc::Global;
 pub struct Unexpected {
     pub waiting: Buckets<Arrival>,
     /// Where each of them stands.
-    pub standings: IndexMap<MessageId, Standing>,
+    pub standings: IndexMap<Message, Standing>,
 }
 
 impl Drop for Unexpected {
@@ -93,10 +93,10 @@ fn selected(waiting: &Buckets<Arrival>, wanted: Picks) -> Option<(u128, Arrival)
 }
 
 /// Sets aside a message, if it waits.
-fn set_aside(standings: &mut IndexMap<MessageId, Standing>, id: MessageId)
+fn set_aside(standings: &mut IndexMap<Message, Standing>, id: Message)
     ensures own { get same_message standings.new id
         ≡ option_map (λ s. standing.Aside) (get same_message standings.old id) }
-    ensures others { (i : message.MessageId) → same_message id i ≡ false →
+    ensures others { (i : message.Message) → same_message id i ≡ false →
         get same_message standings.new i ≡ get same_message standings.old i }
 {
     if let Some(standing) = standings.get_mut(&id) {
@@ -179,7 +179,7 @@ impl Unexpected {
     }
 
     /// The key of the bucket where a message waits, and its order number there.
-    fn place(&self, id: MessageId) -> Option<(Picks, u128)>
+    fn place(&self, id: Message) -> Option<(Picks, u128)>
         ensures some { IfSome result (λ r.
             get same_message self.now.standings id ≡ Some (standing.Waits r.0 r.1)) }
         ensures none { result ≡ None → get same_message self.now.standings id
@@ -192,14 +192,14 @@ impl Unexpected {
     }
 
     /// Takes a message if it waits, and answers whether it did. The others keep their order.
-    pub(crate) fn withdraw(&mut self, id: MessageId) -> bool
+    pub(crate) fn withdraw(&mut self, id: Message) -> bool
         ensures found { (arrivals claimed : List arrival.Arrival) (next : ℕ) →
             AreUnexpected arrivals claimed next self.old →
-            result ≡ is_some (find (is_message id.from id.n) arrivals) }
+            result ≡ is_some (find (is_message id.rank id.n) arrivals) }
         ensures others { IsTrue result →
             (arrivals claimed : List arrival.Arrival) (next : ℕ) → AllPairs TwoMessages arrivals →
             AreUnexpected arrivals claimed next self.old → has_one claimed id ≡ false →
-            AreUnexpected (without_first (is_message id.from id.n) arrivals) claimed next self.new }
+            AreUnexpected (without_first (is_message id.rank id.n) arrivals) claimed next self.new }
         ensures same { result ≡ false → self.new ≡ self.old }
     {
         match self.place(id) {
@@ -213,13 +213,13 @@ impl Unexpected {
     }
 
     /// Whether a message, which does not wait, is claimed.
-    pub(crate) fn is_claimed(&self, id: MessageId) -> bool
+    pub(crate) fn is_claimed(&self, id: Message) -> bool
         ensures none { (arrivals claimed : List arrival.Arrival) (next : ℕ) →
             AreUnexpected arrivals claimed next self.now →
-            find (is_message id.from id.n) arrivals ≡ None → result ≡ has_one claimed id }
+            find (is_message id.rank id.n) arrivals ≡ None → result ≡ has_one claimed id }
         ensures some { (arrivals claimed : List arrival.Arrival) (next : ℕ) →
             AreUnexpected arrivals claimed next self.now →
-            IsTrue (is_some (find (is_message id.from id.n) arrivals)) → result ≡ false }
+            IsTrue (is_some (find (is_message id.rank id.n) arrivals)) → result ≡ false }
     {
         match self.standings.get(&id) {
             Some(standing) => standing.is_aside(),
@@ -228,11 +228,11 @@ impl Unexpected {
     }
 
     /// Lets a claimed message go.
-    pub(crate) fn take_claimed(&mut self, id: MessageId)
+    pub(crate) fn take_claimed(&mut self, id: Message)
         ensures left { (arrivals claimed : List arrival.Arrival) (next : ℕ) →
             AreUnexpected arrivals claimed next self.old →
-            find (is_message id.from id.n) arrivals ≡ None → AreUnexpected arrivals
-            (filter (λ a. not (is_message id.from id.n a)) claimed) next self.new }
+            find (is_message id.rank id.n) arrivals ≡ None → AreUnexpected arrivals
+            (filter (λ a. not (is_message id.rank id.n a)) claimed) next self.new }
     {
         let _ = self.standings.swap_remove(&id);
     }

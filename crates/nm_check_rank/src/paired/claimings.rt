@@ -6,7 +6,7 @@ ghost use Rattle.nm_types.specs.Commands.{commands_of};
 ghost use Rattle.nm_history.specs.declared.events.Event as event;
 ghost use Rattle.nm_history.specs.declared.events.Happened.TheVariants.{Claim};
 ghost use Rattle.nm_history.specs.RankRun.{claims_since};
-ghost use Rattle.nm_lookups.specs.Firsts.{same_message};
+ghost use Rattle.nm_match.specs.Names.{same_message};
 ghost use Rattle.nm_lookups.specs.Pairings.{Tells};
 ghost use Rattle.nm_check_rank.specs.Claimings as spec;
 ghost use Rattle.nm_check_rank.specs.Tabled.{AreRankTables};

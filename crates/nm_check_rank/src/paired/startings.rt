@@ -9,7 +9,7 @@ ghost use Rattle.nm_history.specs.declared.events.Happened as occurrence;
 ghost use Rattle.nm_history.specs.declared.events.Happened.TheVariants as happening;
 ghost use Rattle.nm_history.specs.RankRun.{is_start, lacks_message, start_of, starts_since};
 ghost use Rattle.nm_lookups.specs.AskedFor.{asked_message, message_meant};
-ghost use Rattle.nm_lookups.specs.declared.firsts.Message as message_lem;
+ghost use Rattle.nm_match.specs.declared.names.Message as message_lem;
 ghost use Rattle.nm_check_rank.specs.Arguments.{IsFirstMismatch, arguments};
 ghost use Rattle.nm_check_rank.specs.Handles.{IsOfHandle};
 ghost use Rattle.nm_check_rank.specs.Manies.{many_due as many_due_lem, many_of as many_of_lem};

@@ -6,7 +6,7 @@ ghost use Rattle.nm_history.specs.Matching.{pair_of_claimed};
 ghost use Rattle.nm_history.specs.declared.events.Event as event;
 ghost use Rattle.nm_history.specs.declared.events.Happened.TheVariants as happened;
 ghost use Rattle.nm_match.specs.Deeds.{is_known_message, is_known_receive};
-ghost use Rattle.nm_lookups.specs.Firsts.{same_message};
+ghost use Rattle.nm_match.specs.Names.{same_message};
 ghost use Rattle.nm_lookups.specs.Queues.{IsFirstOfItsKind, HasQueues, free_messages, is_posted, open_receives};
 ghost use Rattle.nm_lookups.specs.Queues.{without_message, without_receive};
 ghost use Rattle.nm_lookups.specs.Replays.{HasSameQueues, HasSameReceives, HasSameTables};

@@ -5,7 +5,7 @@ use Rattle.nm_history.specs.declared.events.Event.{Event}
 use Rattle.nm_history.specs.Sends.{envelope, sends}
 use Rattle.indexmap.specs.IndexMap.{get}
 use Rattle.nm_lookups.specs.Deciding.{Decides}
-use Rattle.nm_lookups.specs.Firsts.{same_message}
+use Rattle.nm_match.specs.Names.{same_message}
 use Rattle.nm_check_rank.specs.declared.paired.tables.Tables.{Tables}
 use Rattle.nm_check_ranks.proofs.TableLemmas.{table_inside, tables_at}
 use Rattle.nm_check_ranks.proofs.WasLemmas.{never_decided, of_history, rank_keeps, send_decided}

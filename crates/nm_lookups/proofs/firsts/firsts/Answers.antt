@@ -3,7 +3,7 @@ use Rattle.std.proofs.lemmas.List.{take_all}
 use Rattle.std.specs.Prelude.{List, position}
 use Rattle.indexmap.specs.IndexMap.{get}
 use Rattle.nm_history.specs.declared.events.Event.{Event}
-use Rattle.nm_lookups.specs.Firsts.{same_message}
+use Rattle.nm_match.specs.Names.{same_message}
 use Rattle.nm_lookups.proofs.FirstLemmas.{message_noted, message_unnoted}
 use Rattle.nm_lookups.proofs.firsts.firsts.Goals as goal
 use Rattle.nm_lookups.proofs.firsts.firsts.Goals.{in-Some+in_ok-note, in_default}

@@ -1,8 +1,8 @@
 use Rattle.std.proofs.Common.{◌≡◌, take}
 use Rattle.std.specs.Prelude.{position}
 use Rattle.indexmap.specs.IndexMap.{get}
-use Rattle.nm_lookups.specs.Firsts.{same_message}
-use Rattle.nm_lookups.specs.declared.firsts.Message.{Message}
+use Rattle.nm_match.specs.Names.{same_message}
+use Rattle.nm_match.specs.declared.names.Message.{Message}
 use Rattle.nm_lookups.proofs.firsts.firsts.Given as goal
 
 -- the first places among the events so far

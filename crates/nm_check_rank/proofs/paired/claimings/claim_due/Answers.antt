@@ -4,7 +4,7 @@ use Rattle.nm_history.specs.declared.events.Event.{Event}
 use Rattle.nm_history.specs.declared.events.Happened.{Happened}
 use Rattle.nm_history.specs.declared.events.Happened.TheVariants.{Claim, Ran}
 use Rattle.nm_history.specs.RankRun.{claims_since}
-use Rattle.nm_lookups.specs.declared.firsts.Message.{Message}
+use Rattle.nm_match.specs.declared.names.Message.{Message}
 use Rattle.nm_check_rank.specs.Claimings.{claim_due, claims_due, message_due}
 use Rattle.nm_check_rank.proofs.ClaimingLemmas.{no_claim_due}
 use Rattle.nm_check_rank.proofs.DueLemmas.{same_event}

@@ -3,7 +3,7 @@ use Rattle.std.specs.Prelude.{option_map}
 use Rattle.std.proofs.lemmas.Option.{slice_get_read}
 use Rattle.nm_types.specs.Commands.{commands_of}
 use Rattle.nm_history.specs.declared.events.Event.{Event}
-use Rattle.nm_lookups.specs.declared.firsts.Message.{Message}
+use Rattle.nm_match.specs.declared.names.Message.{Message}
 use Rattle.nm_lookups.specs.AskedFor.{AreHandles, asked_message, message_meant}
 use Rattle.nm_lookups.proofs.UpToLemmas.{UpTo, up_to_all, up_to_next}
 use Rattle.nm_lookups.proofs.asked.handles.messages_asked.Goals as goal

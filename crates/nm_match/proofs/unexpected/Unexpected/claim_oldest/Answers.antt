@@ -3,7 +3,7 @@ use Rattle.std.proofs.Common.{◌∙◌, ℕ, ◌++◌, ◌∷◌, [], Option, S
 use Rattle.std.specs.Option.{option_map}
 use Rattle.nm_types.specs.declared.messages.Arrival.{Arrival}
 use Rattle.nm_history.specs.Selection.{matches}
-use Rattle.nm_match.specs.declared.names.MessageId.{MessageId}
+use Rattle.nm_match.specs.declared.names.Message.{Message}
 use Rattle.nm_match.specs.declared.names.Standing.{Standing}
 use Rattle.nm_match.specs.declared.names.Standing.TheVariants.{Aside}
 use Rattle.nm_match.specs.Deeds.{is_message}
@@ -29,20 +29,20 @@ pub returns-clause-others : goal.returns-clause-others
 returns-clause-others c = λ arrivals claimed next two is.
     let own = rw c.of_arrival.ensures at c.take.ensures.own in
     let others = rw c.of_arrival.ensures at c.take.ensures.others in
-    let id : MessageId = id_of_arrival c.in_ok-order.a in
+    let id : Message = id_of_arrival c.in_ok-order.a in
     let found = sym (c.in_ok-order.ensures is.is.queue next is.is.are) in
-    let waits = waits_by_name is TwoMessages two (λ a b id. messages_apart id.from id.n a b)
+    let waits = waits_by_name is TwoMessages two (λ a b id. messages_apart id.rank id.n a b)
     (λ (x : ℕ × Arrival). fits_picks (record { from = c.args.from; tag = c.args.tag; ctx = c.args.ctx })
     (picks_of_arrival x.1)) (c.in_ok-order.order, c.in_ok-order.a) found id (message_itself id) in
     named_taken is c.take.new.self.map c.set_aside.new.standings c.take.ensures.full TwoMessages two
-    (λ a b id. messages_apart id.from id.n a b) (λ (a : Arrival). matches c.args.from c.args.tag c.args.ctx a.env)
+    (λ a b id. messages_apart id.rank id.n a b) (λ (a : Arrival). matches c.args.from c.args.tag c.args.ctx a.env)
     (c.in_ok-order.order, c.in_ok-order.a)
     (selected_found is.is.queue c.args.from c.args.tag c.args.ctx (c.in_ok-order.order, c.in_ok-order.a) found)
     id (λ id. refl) own others (has_one (claimed ++ c.in_ok-order.a ∷ []))
-    (λ other apart. any_other (is_message other.from other.n) claimed c.in_ok-order.a apart)
+    (λ other apart. any_other (is_message other.rank other.n) claimed c.in_ok-order.a apart)
     (there_at same_message-true (has_one (claimed ++ c.in_ok-order.a ∷ [])) c.set_aside.new.standings id
     ((rw c.id_of.ensures at c.set_aside.ensures.own)
     ∙ ap (λ (o : Option Standing). option_map (λ s. Aside) o) waits
     ∙ sym (ap (λ b. cond b (Some Aside) None)
-    (any_more (is_message id.from id.n) claimed c.in_ok-order.a (message_itself id)))))
+    (any_more (is_message id.rank id.n) claimed c.in_ok-order.a (message_itself id)))))
     (rw c.id_of.ensures at c.set_aside.ensures.others)

@@ -1,7 +1,7 @@
 -- Nothing waits, and nothing is claimed.
 use Rattle.std.proofs.Common.{List, ap, refl}
 use Rattle.std.specs.Map.{lookup}
-use Rattle.nm_match.specs.declared.names.MessageId.{MessageId}
+use Rattle.nm_match.specs.declared.names.Message.{Message}
 use Rattle.nm_match.specs.declared.names.Standing.{Standing}
 use Rattle.nm_match.specs.Names.{same_message}
 use Rattle.nm_match.proofs.NameLemmas.{named_none}
@@ -10,6 +10,6 @@ use Rattle.nm_match.proofs.unexpected.Unexpected.new.Goals as goal
 pub returns : goal.returns
 returns c = record {
   none = λ next. named_none c.new.ensures.none c.new.ensures.full
-      (λ name. ap (λ (es : List (MessageId × Standing)). lookup (same_message name) es) c.new-2.ensures.empty)
+      (λ name. ap (λ (es : List (Message × Standing)). lookup (same_message name) es) c.new-2.ensures.empty)
       (λ name. refl);
 }

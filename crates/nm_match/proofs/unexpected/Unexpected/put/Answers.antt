@@ -2,7 +2,7 @@
 use Rattle.std.proofs.Common.{◌≡◌, ◌∙◌, List, None, ap, refl, subst}
 use Rattle.std.specs.List.{find}
 use Rattle.std.specs.Map.{lookup}
-use Rattle.nm_match.specs.declared.names.MessageId.{MessageId}
+use Rattle.nm_match.specs.declared.names.Message.{Message}
 use Rattle.nm_match.specs.declared.names.Standing.{Standing}
 use Rattle.nm_match.specs.Deeds.{is_message}
 use Rattle.nm_match.specs.Names.{id_of_arrival, same_message}
@@ -14,14 +14,14 @@ pub returns-in_err-reserve-clause-err : goal.returns-in_err-reserve-clause-err
 returns-in_err-reserve-clause-err c = on_err c.from_residual.result (λ arrivals claimed next is.
     named_kept is c.args.self.now.waiting.map c.reserve.new.self (λ full. full)
     (λ k. refl)
-    (λ id. ap (λ (es : List (MessageId × Standing)). lookup (same_message id) es) c.reserve.ensures.entries))
+    (λ id. ap (λ (es : List (Message × Standing)). lookup (same_message id) es) c.reserve.ensures.entries))
 
 pub returns-in_err-put-clause-err : goal.returns-in_err-put-clause-err
 returns-in_err-put-clause-err c = on_err c.from_residual-in_err-put.result (λ arrivals claimed next is.
     named_kept is c.put.new.self.map c.reserve.new.self c.in_err-put.ensures.full
     (all_same c.args.self.now.waiting.map c.put.new.self.map c.of_arrival-key.result c.in_err-put.ensures.err
     c.in_err-put.ensures.others)
-    (λ id. ap (λ (es : List (MessageId × Standing)). lookup (same_message id) es) c.reserve.ensures.entries))
+    (λ id. ap (λ (es : List (Message × Standing)). lookup (same_message id) es) c.reserve.ensures.entries))
 
 pub returns-clause-ok : goal.returns-clause-ok
 returns-clause-ok c = λ arrivals claimed is none.
@@ -31,8 +31,8 @@ returns-clause-ok c = λ arrivals claimed is none.
     (rw c.unwrap.ensures at c.insert.ensures.updates).0 in
     named_put is c.put.new.self.map c.insert.new.self c.in_ok-put.ensures.full
     c.args.a (id_of_arrival c.args.a) (λ id. refl)
-    (λ id here. subst (λ (m : MessageId). find (is_message m.from m.n) arrivals ≡ None)
+    (λ id here. subst (λ (m : Message). find (is_message m.rank m.n) arrivals ≡ None)
     (same_message-true (id_of_arrival c.args.a) id here) none) own others
     (λ id here. updates id ∙ rw here refl)
     (λ id other. updates id
-    ∙ rw other (ap (λ (es : List (MessageId × Standing)). lookup (same_message id) es) c.reserve.ensures.entries))
+    ∙ rw other (ap (λ (es : List (Message × Standing)). lookup (same_message id) es) c.reserve.ensures.entries))

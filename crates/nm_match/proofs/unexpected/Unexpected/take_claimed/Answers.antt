@@ -14,10 +14,10 @@ returns c = record {
       named_freed is c.args.self.now.waiting.map c.swap_remove.new.self (λ full. full)
       same_message-true
       c.args.id none (λ k. refl)
-      (has_one (filter (λ (a : Arrival). not (is_message c.args.id.from c.args.id.n a)) claimed))
+      (has_one (filter (λ (a : Arrival). not (is_message c.args.id.rank c.args.id.n a)) claimed))
       (λ id apart. left_other c.args.id id claimed apart)
       (there_at same_message-true
-      (has_one (filter (λ (a : Arrival). not (is_message c.args.id.from c.args.id.n a)) claimed))
+      (has_one (filter (λ (a : Arrival). not (is_message c.args.id.rank c.args.id.n a)) claimed))
       c.swap_remove.new.self c.args.id
       (updates c.args.id ∙ rw (message_itself c.args.id, left_gone c.args.id claimed) refl))
       (λ id other. updates id ∙ rw other refl);

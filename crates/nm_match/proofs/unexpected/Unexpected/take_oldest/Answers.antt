@@ -25,7 +25,7 @@ returns-clause-others c = λ arrivals claimed next two is stays.
     let others = rw c.of_arrival.ensures at c.take.ensures.others in
     let updates = rw c.id_of.ensures at c.swap_remove.ensures.updates.0 in
     named_taken is c.take.new.self.map c.swap_remove.new.self c.take.ensures.full TwoMessages two
-    (λ a b id. messages_apart id.from id.n a b) (λ (a : Arrival). matches c.args.from c.args.tag c.args.ctx a.env)
+    (λ a b id. messages_apart id.rank id.n a b) (λ (a : Arrival). matches c.args.from c.args.tag c.args.ctx a.env)
     (c.in_ok-order.order, c.in_ok-order.a)
     (selected_found is.is.queue c.args.from c.args.tag c.args.ctx (c.in_ok-order.order, c.in_ok-order.a)
     (sym (c.in_ok-order.ensures is.is.queue next is.is.are)))

@@ -14,7 +14,7 @@ pub returns-in-Some-clause-others : goal.returns-in-Some-clause-others
 returns-in-Some-clause-others c = λ yes arrivals claimed next two is stays.
     let updates = c.swap_remove.ensures.updates.0 in
     place_taken is c.take.new.self.map c.swap_remove.new.self c.take.ensures.full TwoMessages two
-    (λ a b id. messages_apart id.from id.n a b) c.args.id c.in-Some.key c.in-Some.order c.in-Some.ensures.some
+    (λ a b id. messages_apart id.rank id.n a b) c.args.id c.in-Some.key c.in-Some.order c.in-Some.ensures.some
     (λ a here id. ap (λ m. same_message m id) (same_message-true (id_of_arrival a) c.args.id here))
     c.take.ensures.own c.take.ensures.others (has_one claimed) (λ id other. refl)
     (there_at same_message-true (has_one claimed) c.swap_remove.new.self c.args.id
