@@ -5,7 +5,7 @@ use Rattle.std.proofs.Common.{subst, append-nil, append_assoc, length-append, ar
 use Rattle.std.specs.Prelude.{fold, nat_lt}
 use Rattle.std.specs.Bool.{OnTrue}
 use Rattle.std.specs.Option.{option_map_or}
-use Rattle.std.specs.List.{AllByRecursion, filter, cons_option, list_any, slice_get, range_with_len}
+use Rattle.std.specs.List.{AllByRecursion, cons_option, list_any, slice_get, range_with_len}
 use Rattle.std.proofs.lemmas.List.{take-append-drop, drop-drop, drop_all}
 use Rattle.std.proofs.Math.Nat.{lt-mul-div-succ}
 use Rattle.nm_types.specs.declared.limits.TheConstants.{MAX_PAYLOAD}
@@ -18,7 +18,7 @@ use Rattle.nm_history.specs.declared.events.Happened.{Happened}
 use Rattle.nm_history.specs.declared.events.Happened.TheVariants.{Send, Recall, Withdraw, Post, Arrive, Match}
 use Rattle.nm_history.specs.declared.plain.Pair.{Pair}
 use Rattle.nm_history.specs.AtEach.{AtEach, AtEachAfter, in_turn, in_turn_after}
-use Rattle.nm_history.specs.Sends.{Sent, sends, sent_of, is_ask}
+use Rattle.nm_history.specs.Sends.{Sent, sends, is_ask}
 use Rattle.nm_history.specs.Matching.{matched_pairs, new_pair}
 use Rattle.nm_history.specs.Outgoing.{Called, outgoing, packets_by, send_packets, eager_packets, clear_packets}
 use Rattle.nm_history.specs.Outgoing.{is_clear, bare, part_at, further_packets}
@@ -31,7 +31,7 @@ use Rattle.nm_channels.proofs.Streaming.{Carries, InTime}
 use Rattle.nm_history.specs.Continues.{WORN_STAMP, continues_stream, is_of_stream}
 use Rattle.std.proofs.lemmas.Bool.Decides.{nat_tests}
 use Rattle.std.proofs.lemmas.List.Folds.{list_any-append}
-use Rattle.nm_history.proofs.Sent.{sends-cons, NumberedFrom}
+use Rattle.nm_history.proofs.Sent.{NumberedFrom, new_sends, sends-cons}
 use Rattle.nm_types.proofs.NumberLemmas.{eq_true, same_number, eq_less, eq_false}
 use Rattle.nm_types.proofs.ListLemmas.{all_split}
 use Rattle.nm_types.proofs.TruthLemmas.{and_left, and_right}
@@ -201,10 +201,6 @@ same_count : (n count : ℕ) (rest : List Called) → called_bytes n count rest 
 same_count n count rest = ap (λ (k : ℕ). called_bytes n k rest) (plus_none count) where
   plus_none : (k : ℕ) → k ≡ k + 0
   plus_none k = omega arith
-
--- the sends of an event
-abbrev new_sends : ℕ → ℕ → Happened → List Sent
-new_sends j stamp w = filter (λ s. s.to == j) (cons_option (sent_of stamp w) [])
 
 event_bytes : (eager n j stamp : ℕ) (bodies : Sent → List ℕ) (b : List Event) (w : Happened) (rest : List Called) →
     SenderAt eager bodies b stamp w →

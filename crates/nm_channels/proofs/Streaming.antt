@@ -3,7 +3,7 @@ use Rattle.std.proofs.Common.{◌≡◌, ℕ, zero, suc, ◌+◌, ◌-◌, ◌*�
 use Rattle.std.proofs.Common.{◌||◌, cond, Option, Some, None, List, [], ◌∷◌, ◌++◌, length, map, drop, refl, sym, ◌∙◌}
 use Rattle.std.proofs.Common.{ap, subst, arith}
 use Rattle.std.specs.Prelude.{nat_lt}
-use Rattle.std.specs.List.{AllZip, AllByRecursion, filter, cons_option, list_any, range_with_len}
+use Rattle.std.specs.List.{AllZip, AllByRecursion, cons_option, list_any, range_with_len}
 use Rattle.std.specs.Bool.{OnTrue}
 use Rattle.std.proofs.lemmas.List.{length-take, length-drop}
 use Rattle.std.proofs.lemmas.List.Folds.{list_any-append}
@@ -16,7 +16,7 @@ use Rattle.nm_types.specs.declared.packets.What.TheVariants as what
 use Rattle.nm_history.specs.declared.events.Event.{Event}
 use Rattle.nm_history.specs.declared.events.Happened.{Happened}
 use Rattle.nm_history.specs.declared.events.Happened.TheVariants.{Send, Recall, Withdraw, Post, Arrive, Match}
-use Rattle.nm_history.specs.Sends.{Sent, sends, sent_of, envelope, is_ask}
+use Rattle.nm_history.specs.Sends.{Sent, sends, envelope, is_ask}
 use Rattle.nm_history.specs.Happens.{happened, is_recall}
 use Rattle.nm_history.specs.Outgoing.{Called, AreCalled, IsCalled, part_at, further_packets, bare, send_packets}
 use Rattle.nm_history.specs.Outgoing.{eager_packets, packets_by, clear_packets, is_clear}
@@ -28,6 +28,7 @@ use Rattle.nm_channels.proofs.Streams.{completed, Announces, StreamGoes, SenderA
 use Rattle.nm_history.specs.Continues.{continues_stream, is_of_stream, WORN_STAMP}
 use Rattle.nm_history.specs.Known.{Known, Taken, known_after, learned}
 use Rattle.nm_history.proofs.Basic.{lt_true, le_true, at_true, or_false}
+use Rattle.nm_history.proofs.Sent.{new_sends}
 use Rattle.nm_types.proofs.NumberLemmas.{eq_true, same_number, eq_false}
 
 -- no packet has a stamp past the last
@@ -290,10 +291,6 @@ answer_goes eager i num count c rest ss ns withdrawn known (t ∷ ts) other betw
 numbers_of : (b : Bool) (s : Sent) (ns : List ℕ) → cond b (s.n ∷ ns) ns ≡ map (λ s. s.n) (cond b (s ∷ []) []) ++ ns
 numbers_of true s ns = refl
 numbers_of false s ns = refl
-
--- the sends of an event
-abbrev new_sends : ℕ → ℕ → Happened → List Sent
-new_sends j stamp w = filter (λ s. s.to == j) (cons_option (sent_of stamp w) [])
 
 -- the withdrawals are the recalls
 abbrev Agree : ℕ → List Event → List ℕ → Type 0

@@ -11,7 +11,8 @@ use Rattle.nm_history.specs.declared.events.Happened.TheVariants.{Send, Arrive, 
 use Rattle.nm_history.specs.declared.events.Happened.TheVariants.{Withdraw, Undone, Ran}
 use Rattle.nm_channels.specs.Moments.{LogEntry}
 use Rattle.nm_channels.specs.Finished.{Finished, AreAllEnds}
-use Rattle.nm_channels.specs.SmallLogs.{at, run_on, rank_line, packet, acts, takes}
+use Rattle.nm_channels.specs.Small.{at, rank_line}
+use Rattle.nm_channels.specs.SmallLogs.{run_on, packet, acts, takes}
 
 -- the script
 abbrev pub script : List Line

@@ -4,25 +4,14 @@ use Rattle.nm_types.specs.declared.limits.TheConstants.{MAX_PACKETS, MAX_STAMP}
 use Rattle.nm_types.specs.declared.packets.Packet.{Packet}
 use Rattle.nm_types.specs.declared.packets.Piece.{Piece}
 use Rattle.nm_types.specs.declared.packets.What.{What}
-use Rattle.nm_types.specs.declared.scripts.Command.{Command}
-use Rattle.nm_types.specs.declared.scripts.Line.{Line}
 use Rattle.nm_types.specs.Sizes.{Sizes}
 use Rattle.nm_history.specs.declared.events.Event.{Event}
-use Rattle.nm_history.specs.declared.events.Happened.{Happened}
 use Rattle.nm_channels.specs.Moments.{LogEntry}
 use Rattle.nm_channels.specs.Moments.Cause.{Acted, Took, Drew}
-
--- what happened, with its stamp
-abbrev pub at : ℕ → Happened → Event
-at stamp what = record { stamp = stamp; what = what }
 
 -- a run on this many ranks, with eight cells each and an eager limit of 8 bytes
 abbrev pub run_on : ℕ → Sizes
 run_on ranks = record { ranks = ranks; cells = 8; eager = 8 }
-
--- a command of a rank
-abbrev pub rank_line : ℕ → Command → Line
-rank_line rank command = record { rank = rank; command = command }
 
 -- a packet of rank 0 or 1, with its number, its stamp and its payload
 abbrev pub packet :

@@ -10,7 +10,8 @@ use Rattle.nm_types.specs.declared.answers.Answer.TheVariants as answer
 use Rattle.nm_channels.specs.Moments.{LogEntry}
 use Rattle.nm_channels.specs.Moments.Cause.{Took}
 use Rattle.nm_channels.specs.Sound.{AreSound}
-use Rattle.nm_channels.specs.SmallLogs.{at, packet, acts, takes}
+use Rattle.nm_channels.specs.Small.{at}
+use Rattle.nm_channels.specs.SmallLogs.{packet, acts, takes}
 
 -- a packet that doesn't continue its stream
 abbrev pub strays : Packet → List Event → LogEntry

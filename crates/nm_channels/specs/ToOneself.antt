@@ -13,7 +13,8 @@ use Rattle.nm_history.specs.declared.events.Happened.TheVariants.{Send, Post, Ar
 use Rattle.nm_history.specs.declared.events.Happened.TheVariants.{Ran}
 use Rattle.nm_channels.specs.Moments.{LogEntry}
 use Rattle.nm_channels.specs.Finished.{Finished, AreAllEnds}
-use Rattle.nm_channels.specs.SmallLogs.{at, run_on, rank_line, packet, piece, acts, takes, draws}
+use Rattle.nm_channels.specs.Small.{at, rank_line}
+use Rattle.nm_channels.specs.SmallLogs.{run_on, packet, piece, acts, takes, draws}
 
 -- the script
 abbrev pub script : List Line

@@ -6,7 +6,7 @@ use Rattle.std.specs.List.{AllByRecursion}
 use Rattle.std.proofs.Math.Seq.{take-append_seam}
 use Rattle.std.proofs.lemmas.List.{drop_all}
 use Rattle.std.proofs.lemmas.List.Concat.{flat_map-append, flat_map-cons}
-use Rattle.nm_trace.specs.Lines.{ended_lines}
+use Rattle.nm_script.specs.Lines.{ended_lines}
 use Rattle.nm_check.specs.Inputs.{IsDivider, HasNoCut, IsBefore, IsCut, IsOnlyCut}
 
 abbrev pub HasNoFeed : List ℕ → Type 0

@@ -7,12 +7,12 @@ use Rattle.std.proofs.lemmas.List.Folds.{flat_map-map}
 use Rattle.nm_types.specs.declared.limits.TheConstants.{MAX_RANKS}
 use Rattle.nm_types.specs.declared.scripts.Line.{Line}
 use Rattle.nm_types.specs.Text.{script_text, words}
-use Rattle.nm_script.specs.Lines.{is_printable}
+use Rattle.nm_script.specs.Lines.{ended_lines, is_printable}
 use Rattle.nm_script.proofs.WordLemmas.{joined_printable}
 use Rattle.nm_script.specs.Rules.{line_text, ranks_text}
 use Rattle.nm_script.proofs.CommandLemmas.{Fits, line_again}
 use Rattle.nm_script.proofs.ReadLemmas.{AllFit, first_fits, first_solid, script_lines}
-use Rattle.nm_trace.specs.Lines.{ended_lines, first_line}
+use Rattle.nm_trace.specs.Lines.{first_line}
 use Rattle.nm_check.proofs.CutLemmas.{first_line_of}
 use Rattle.nm_check.specs.Inputs.{IsDivider, IsBefore, IsOnlyCut}
 

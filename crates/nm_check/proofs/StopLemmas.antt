@@ -12,9 +12,9 @@ use Rattle.nm_types.proofs.ListLemmas.{no_item}
 use Rattle.nm_types.proofs.OptionLemmas.{same_some}
 use Rattle.nm_types.specs.Sizes.{Sizes}
 use Rattle.nm_lookups.specs.Deciding.{Decides}
-use Rattle.nm_script.specs.Lines.{is_fed, lines_of, text_len}
-use Rattle.nm_script.proofs.LineLemmas.{ended_lines as ended, text_len-lines}
-use Rattle.nm_trace.specs.Lines.{cut_lines, ended_lines, onto_lines, whole_lines}
+use Rattle.nm_script.specs.Lines.{ended_lines, is_fed, lines_of, text_len}
+use Rattle.nm_script.proofs.LineLemmas.{text_len-lines}
+use Rattle.nm_trace.specs.Lines.{cut_lines, onto_lines, whole_lines}
 use Rattle.nm_trace.specs.Traces.{Begins, IsFirstBad, IsTraceOf}
 use Rattle.nm_check.specs.Inputs.{IsDivider, IsCut}
 use Rattle.nm_check.specs.Stops.{IsLineStop, IsStop, lines_in, zeroed}
@@ -107,16 +107,16 @@ starts_decided shape text n m (line, is) bad same = by_test (nat_lt m n) refl
 
 -- a line is shorter than its text
 item_less : (lines : List (List ℕ)) (k : ℕ) (text : List ℕ) → slice_get lines k ≡ Some text →
-    length text + 1 ≤ length (ended lines)
+    length text + 1 ≤ length (ended_lines lines)
 item_less [] k text here = absurd (no_item k text here)
 item_less (line ∷ lines) zero text here =
     let same : length line ≡ length text = ap (λ (xs : List ℕ). length xs) (same_some line text here) in
-    let long = length-append (line ++ 10 ∷ []) (ended lines) in
+    let long = length-append (line ++ 10 ∷ []) (ended_lines lines) in
     let one = length-append line (10 ∷ []) in
     omega (arith, same, long, one)
 item_less (line ∷ lines) (suc k) text here =
     let less = item_less lines k text here in
-    let long = length-append (line ++ 10 ∷ []) (ended lines) in
+    let long = length-append (line ++ 10 ∷ []) (ended_lines lines) in
     omega (arith, less, long)
 
 length_le : (fed : Bool) (n : ℕ) → cond fed n (n + 1) ≤ n + 1
@@ -128,7 +128,7 @@ pub line_less : (bytes : List ℕ) (k : ℕ) (text : List ℕ) → slice_get (li
 line_less [] k text here = absurd (no_item k text here)
 line_less (b ∷ bytes) k text here =
     let item = item_less (lines_of (b ∷ bytes)) k text here in
-    let all : length (ended (lines_of (b ∷ bytes))) ≡ text_len (b ∷ bytes) =
+    let all : length (ended_lines (lines_of (b ∷ bytes))) ≡ text_len (b ∷ bytes) =
     text_len-lines (b ∷ bytes) (omega arith) in
     let few : text_len (b ∷ bytes) ≤ length (b ∷ bytes) + 1 = length_le (is_fed (b ∷ bytes)) (length (b ∷ bytes)) in
     omega (arith, item, all, few)

@@ -1,7 +1,7 @@
 -- A script and a trace in one text, with a line `---` between them.
 use Rattle.std.specs.Prelude.{◌≡◌, ◌≢◌, ℕ, ◌⊎◌, List, [], ◌++◌, codes}
 use Rattle.std.specs.List.{AllByRecursion}
-use Rattle.nm_trace.specs.Lines.{ended_lines}
+use Rattle.nm_script.specs.Lines.{ended_lines}
 
 -- a line, without its line feed, that is not the one between
 pub record IsBefore (line : List ℕ) : Type 0 where

@@ -7,6 +7,7 @@ use Rattle.std.specs.BTreeMap.{BTreeMap}
 use Rattle.indexmap.specs.IndexMap.{IndexMap, get}
 use Rattle.nm_types.specs.declared.messages.Arrival.{Arrival}
 use Rattle.nm_types.specs.declared.messages.Post as post
+use Rattle.nm_history.specs.Continues.{has}
 use Rattle.nm_match.specs.declared.names.Message.{Message}
 use Rattle.nm_match.specs.declared.names.Standing.{Standing}
 use Rattle.nm_match.specs.declared.names.Standing.TheVariants.{Waits, Aside}
@@ -37,10 +38,6 @@ has_number p number = p.number == number
 abbrev pub has_id : Arrival → Message → Bool
 has_id a id = is_message id.rank id.n a
 
--- the number is one of these
-abbrev pub is_one_of : List ℕ → ℕ → Bool
-is_one_of numbers number = list_any (λ m. m == number) numbers
-
 -- one of these is known by this
 abbrev pub has_one : List Arrival → Message → Bool
 has_one arrivals id = list_any (is_message id.rank id.n) arrivals
@@ -68,7 +65,7 @@ pub record IsNamedQueue {X K S T : Type 0} (same : K → K → Bool) (known : X 
 -- these receives wait, and these numbers are of cancelled ones
 abbrev pub ArePosted : List post.Post → List ℕ → ℕ → Posted → Type 0
 ArePosted posts cancelled next p =
-    IsNamedQueue nat_eq has_number picks_of_post posts (is_one_of cancelled) next p.waiting.map
+    IsNamedQueue nat_eq has_number picks_of_post posts (has cancelled) next p.waiting.map
     p.standings
 
 -- these messages wait, and these are claimed

@@ -8,7 +8,8 @@ ghost use Rattle.nm_types.specs.declared.messages.Post as post;
 ghost use Rattle.nm_history.specs.Selection.{matches};
 ghost use Rattle.nm_match.specs.declared.names.Standing.TheVariants as standing;
 ghost use Rattle.nm_match.specs.Buckets.{front_of, oldest_of};
-ghost use Rattle.nm_match.specs.Names.{ArePosted, is_one_of};
+ghost use Rattle.nm_history.specs.Continues.{has};
+ghost use Rattle.nm_match.specs.Names.{ArePosted};
 ghost use Rattle.nm_match.specs.Queues.{TwoReceives, without_first};
 
 use crate::buckets::{Buckets, earlier};
@@ -108,7 +109,7 @@ impl Posted {
         ensures others { (posts : List post.Post) (cancelled : List ℕ) (next : ℕ) →
             AllPairs TwoReceives posts → ArePosted posts cancelled next self.old →
             MatchOption result (ArePosted posts cancelled next self.new)
-            (λ p. is_one_of cancelled p.number ≡ false → ArePosted
+            (λ p. has cancelled p.number ≡ false → ArePosted
             (without_first (λ q. matches q.from q.tag q.ctx env.now) posts) cancelled next
             self.new) }
     {
@@ -158,7 +159,7 @@ impl Posted {
     pub(crate) fn is_cancelled(&self, number: u64) -> bool
         ensures { (posts : List post.Post) (cancelled : List ℕ) (next : ℕ) →
             ArePosted posts cancelled next self.now →
-            find (λ p. p.number == number) posts ≡ None → result ≡ is_one_of cancelled number }
+            find (λ p. p.number == number) posts ≡ None → result ≡ has cancelled number }
     {
         match self.standings.get(&number) {
             Some(standing) => standing.is_aside(),

@@ -6,9 +6,6 @@ use Rattle.std.proofs.lemmas.List.Folds.{list_any-append}
 use Rattle.std.specs.Prelude.{IsTrue}
 use Rattle.std.specs.List.{AllByRecursion, list_any, slice_get}
 use Rattle.std.proofs.lemmas.Bool.{false≢true}
-use Rattle.nm_types.specs.declared.messages.Peer.TheVariants as peer
-use Rattle.nm_types.specs.declared.messages.Post as post
-use Rattle.nm_types.specs.declared.messages.TagPick.TheVariants as pick
 use Rattle.nm_types.specs.declared.scripts.Command.{Command}
 use Rattle.nm_types.specs.declared.scripts.Command.TheVariants as command
 use Rattle.nm_types.specs.Commands.{Numbered, command_at}
@@ -21,7 +18,7 @@ use Rattle.nm_history.specs.Delivery.{AreDelivered, WithdrawAfterRecall, earlier
 use Rattle.nm_history.specs.Happens.{happened, is_arrival, is_recall}
 use Rattle.nm_history.specs.RankRun.{EndAt, IsRankRun, NumberAt}
 use Rattle.nm_history.proofs.OnceLemmas.{eqb_self}
-use Rattle.nm_match.specs.InTurn.{ArePlainEvents, are_named, is_plain_event}
+use Rattle.nm_match.specs.InTurn.{ArePlainEvents, is_plain_event}
 use Rattle.nm_sure.proofs.Fitting.{EachFits, Fits}
 use Rattle.nm_sure.proofs.Worlds.{IsWithin, fits_early, no_recall, on_true}
 use Rattle.nm_persist.proofs.Fitting.{AreNamedLines, run_fits}
@@ -36,11 +33,6 @@ pub record NamedRun (shape : Sizes) (cs : ℕ → List Numbered) (at : ℕ → �
   pub named : (i : ℕ) → AreNamedLines (cs i)
   pub stand : (i k : ℕ) (c : Numbered) → slice_get (cs i) k ≡ Some c → command_at (cs i) c.line ≡ Some c.command
   pub peers : (i l : ℕ) (c : Command) → command_at (cs i) l ≡ Some c → IsWithin shape.ranks c
-
--- what comes first, if it is a receive, names its source and its tag
-abbrev is_first_named : List Happened → Bool
-is_first_named (event.Post p line ∷ ws) = are_named p.from p.tag
-is_first_named _ = true
 
 module _ (shape : Sizes) (cs : ℕ → List Numbered) (at : ℕ → ℕ) (hist : ℕ → List Event)
     (run : NamedRun shape cs at hist) where

@@ -9,8 +9,8 @@ use Rattle.std.proofs.lemmas.Bool.{and_from, and_parts, ltb-true, ltb-false, lt-
 use Rattle.std.proofs.lemmas.List.{append-nil}
 use Rattle.std.proofs.lemmas.List.Folds.{flat_map-map}
 use Rattle.nm_types.specs.declared.limits.TheConstants.{MAX_RANKS, MAX_LINES, MAX_TEXT}
-use Rattle.nm_script.specs.Lines.{is_printable, lines_of, text_len, words_of}
-use Rattle.nm_script.proofs.LineLemmas.{ended_lines, is_some_line, lines_split, lines_fed, text_len-lines}
+use Rattle.nm_script.specs.Lines.{ended_lines, is_printable, lines_of, text_len, words_of}
+use Rattle.nm_script.proofs.LineLemmas.{is_some_line, lines_split, lines_fed, text_len-lines}
 use Rattle.nm_script.proofs.LineLemmas.{joined_either}
 use Rattle.nm_script.proofs.WordsStepLemmas.{bind_ok, chosen}
 use Rattle.nm_script.proofs.WordLemmas.{Solid, joined_printable}

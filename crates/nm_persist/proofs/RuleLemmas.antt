@@ -30,7 +30,8 @@ use Rattle.nm_plans.specs.Grammar.{arguments, keyword_in, keyword_of, keyword_te
 use Rattle.nm_persist.specs.Reading.{line_at, ranks_at, unless}
 use Rattle.nm_persist.specs.Rules.{FirstKeeps}
 use Rattle.nm_plans.specs.Faults.{AllKept, IsFirstOf}
-use Rattle.nm_plans.specs.Spelled.{Each, IsBodyThere, IsLine, IsNumberThere}
+use Rattle.nm_script.specs.Arguments.{Each}
+use Rattle.nm_plans.specs.Spelled.{IsBodyThere, IsLine, IsNumberThere}
 use Rattle.nm_persist.specs.Rules.{KeepsRule, first_kinds, line_kinds}
 use Rattle.nm_persist.specs.Table.{fault_in, has_other_parts, is_out_of_order, is_past, is_taken}
 use Rattle.nm_plans.specs.Text.{line_words, words}

@@ -14,7 +14,8 @@ use Rattle.nm_persist.specs.declared.plans.Plan.{Plan}
 use Rattle.nm_plans.specs.declared.lines.PlanLine.{PlanLine}
 use Rattle.nm_plans.specs.Faults.{IsFirstOf}
 use Rattle.nm_plans.specs.Grammar.{arguments, is_in_range}
-use Rattle.nm_plans.specs.Spelled.{Each, IsBodyThere, IsLine, IsNumberThere, Names}
+use Rattle.nm_script.specs.Arguments.{Each}
+use Rattle.nm_plans.specs.Spelled.{IsBodyThere, IsLine, IsNumberThere, Names}
 use Rattle.nm_persist.specs.Plans.{IsPlan}
 use Rattle.nm_persist.specs.Table.{are_sound, has_other_parts, is_out_of_order, is_past, is_taken}
 use Rattle.nm_plans.specs.Text.{SpellsPlan, line_text}

@@ -29,7 +29,8 @@ use Rattle.nm_plans.specs.Faults.{or_kind}
 use Rattle.nm_plans.specs.Grammar.{Argument, Value, are_values, arguments, is_in_range, is_value}
 use Rattle.nm_plans.specs.Grammar.{keyword_in, keyword_of, keyword_text, value_word, values}
 use Rattle.nm_plans.specs.Grammar.Argument.{Request, Peer, Tag, Context, Parts, Part, Capacity, Contents}
-use Rattle.nm_plans.specs.Spelled.{Each, IsBodyThere, IsNumberThere, IsSpelled}
+use Rattle.nm_script.specs.Arguments.{Each}
+use Rattle.nm_plans.specs.Spelled.{IsBodyThere, IsNumberThere, IsSpelled}
 use Rattle.nm_plans.specs.Faults.{IsFirstOf}
 use Rattle.nm_plans.specs.Text.{line_words}
 use Rattle.nm_plans.proofs.GrammarLemmas.{keyword_taken, keyword_again, keyword_solid, ok_some, or_ok}

@@ -32,7 +32,8 @@ use Rattle.nm_plans.specs.Grammar.{Argument, Value, are_values, arguments, is_nu
 use Rattle.nm_plans.specs.Grammar.{keyword_in, value_word, values}
 use Rattle.nm_plans.specs.Grammar.Argument.{Request, Peer, Tag, Context, Parts, Part, Capacity, Contents}
 use Rattle.nm_plans.specs.Grammar.Value.{Number, Bytes}
-use Rattle.nm_plans.specs.Spelled.{Each, IsBodyThere, IsNumberThere, IsSpelled}
+use Rattle.nm_script.specs.Arguments.{Each}
+use Rattle.nm_plans.specs.Spelled.{IsBodyThere, IsNumberThere, IsSpelled}
 use Rattle.nm_plans.proofs.GrammarLemmas.{or_ok, or_err, argument_again, argument_taken, argument_kind, most_again}
 use Rattle.nm_plans.proofs.GrammarLemmas.{most_taken}
 

@@ -20,11 +20,6 @@ abbrev pub IsBodyThere : ℕ → Argument → List ℕ → Type 0
 IsBodyThere ranks Contents word = IsSpelled ranks Contents word
 IsBodyThere ranks _ word = Unit {0}
 
--- it is so of each argument and its word
-abbrev pub Each : (Argument → List ℕ → Type 0) → List Argument → List (List ℕ) → Type 0
-Each is (sort ∷ sorts) (word ∷ words) = is sort word × Each is sorts words
-Each is _ _ = Unit {0}
-
 -- the text is the line's, which is in range
 pub record IsLine (ranks : ℕ) (text : List ℕ) (line : PlanLine) : Type 0 where
   pub text_is : text ≡ line_text line

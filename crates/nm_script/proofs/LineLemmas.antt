@@ -2,7 +2,7 @@
 use Rattle.std.proofs.Common.{◌≡◌, ℕ, zero, suc, ◌+◌, ◌-◌, ◌<◌, ◌≤◌, ◌⊎◌, inl, inr, Bool, true, false}
 use Rattle.std.proofs.Common.{◌&&◌, List, [], ◌∷◌, ◌++◌, length, get_or, take, drop, cond, nat_lt, Some, None}
 use Rattle.std.proofs.Common.{refl, sym}
-use Rattle.std.proofs.Common.{ap, ◌∙◌, arith, eqb, leb, add-one, append_assoc, flat_map, length-append}
+use Rattle.std.proofs.Common.{ap, ◌∙◌, arith, eqb, leb, add-one, append_assoc, length-append}
 use Rattle.std.proofs.Common.{length-drop}
 use Rattle.std.specs.List.{onto_first, list_all, position, position_or_len}
 use Rattle.std.proofs.lemmas.Bool.{and_parts, false≢true, eq-eqb, ne_eqb, eqb-true, lt-ltb}
@@ -11,7 +11,7 @@ use Rattle.std.proofs.lemmas.List.{take_all}
 use Rattle.std.proofs.lemmas.List.Folds.{list_all-append}
 use Rattle.std.proofs.lemmas.List.Quantifiers.{position-Some}
 use Rattle.std.proofs.lemmas.List.Sums.{fails_before_first}
-use Rattle.nm_script.specs.Lines.{is_fed, is_printable, lines_of, text_len}
+use Rattle.nm_script.specs.Lines.{ended_lines, is_fed, is_printable, lines_of, text_len}
 use Rattle.nm_script.proofs.WordsStepLemmas.{chosen}
 
 -- a line that a line feed ends
@@ -60,10 +60,6 @@ lines_whole bs some none =
 -- the range of the code is what is left
 pub rest_is : (n : ℕ) (bs : List ℕ) → take (length bs - n) (drop n bs) ≡ drop n bs
 rest_is n bs = take_all _ _ (omega (arith, length-drop n bs))
-
--- the lines, each ended
-abbrev pub ended_lines : List (List ℕ) → List ℕ
-ended_lines lines = flat_map (λ line. line ++ 10 ∷ []) lines
 
 printable_no_feed : (b : ℕ) → (leb 32 b && leb b 126) ≡ true → eqb b 10 ≡ false
 printable_no_feed b h = grind (arith, nat_tests)

@@ -20,14 +20,14 @@ use Rattle.nm_script.specs.declared.faults.ScriptFault.TheVariants as fault
 use Rattle.nm_script.specs.Commands.{line_of}
 use Rattle.nm_script.specs.Decimal.{number_of}
 use Rattle.nm_script.specs.Faults.{◌>>=◌, at_line, GivesAt}
-use Rattle.nm_script.specs.Lines.{is_printable, lines_of, text_len, with_feed, words_of}
+use Rattle.nm_script.specs.Lines.{ended_lines, is_printable, lines_of, text_len, with_feed, words_of}
 use Rattle.nm_script.specs.Reading.{positive, ranks_of, ranks_at, fitting, line_at, lines_from, script_of}
 use Rattle.nm_script.specs.Reading.{read_of, parts}
 use Rattle.nm_script.specs.Rules.{line_text, ranks_text}
 use Rattle.nm_script.specs.Spelled.{has_bytes, IsTextOf, AnswersScript}
 use Rattle.nm_script.proofs.CommandLemmas.{line_words, Fits, line_again}
 use Rattle.nm_script.proofs.CommandTakenLemmas.{line_taken}
-use Rattle.nm_script.proofs.LineLemmas.{ended_lines, is_some_line, lines_split, lines_fed, text_len-lines}
+use Rattle.nm_script.proofs.LineLemmas.{is_some_line, lines_split, lines_fed, text_len-lines}
 use Rattle.nm_script.proofs.LineLemmas.{joined, joined_either}
 use Rattle.nm_script.proofs.NumberLemmas.{number_taken, number_again}
 use Rattle.nm_script.proofs.StepLemmas.{guard_ok, unless_ok, at_line_ok}

@@ -66,6 +66,6 @@ IsBodyThere Contents word = IsBody word
 IsBodyThere _ word = Unit {0}
 
 -- it is so of each argument and its word
-abbrev pub Each : (Argument → List ℕ → Type 0) → List Argument → List (List ℕ) → Type 0
+abbrev pub Each : {A : Type 0} → (A → List ℕ → Type 0) → List A → List (List ℕ) → Type 0
 Each is (sort ∷ sorts) (word ∷ words) = is sort word × Each is sorts words
 Each is _ _ = Unit {0}

@@ -1,12 +1,16 @@
 -- Lines and their words.
 use Rattle.std.specs.Prelude.{ℕ, ◌+◌, ◌-◌, Bool, ◌&&◌, ◌==◌, List, [], ◌∷◌, ◌++◌, length, slice_index}
-use Rattle.std.specs.Prelude.{nat_lt, nat_le, if◌then◌else◌}
+use Rattle.std.specs.Prelude.{nat_lt, nat_le, if◌then◌else◌, flat_map}
 use Rattle.std.specs.List.{slice_split, onto_first, list_all}
 
 -- the bytes up to each line feed; nothing stands behind the last one
 abbrev pub lines_of : List ℕ → List (List ℕ)
 lines_of [] = []
 lines_of (b ∷ bs) = if b == 10 then [] ∷ lines_of bs else onto_first b (lines_of bs)
+
+-- the text of lines, each ended by a line feed
+abbrev pub ended_lines : List (List ℕ) → List ℕ
+ended_lines lines = flat_map (λ line. line ++ 10 ∷ []) lines
 
 -- the words of a line, with one space between each two
 abbrev pub words_of : List ℕ → List (List ℕ)

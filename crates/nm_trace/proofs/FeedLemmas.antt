@@ -10,13 +10,12 @@ use Rattle.nm_history.specs.Quiescence.{Ended}
 use Rattle.nm_report.specs.declared.pairs.PairCount.{PairCount}
 use Rattle.nm_report.specs.Events.{pair_line}
 use Rattle.nm_report.specs.Report.{cells_line, end_line}
-use Rattle.nm_script.specs.Lines.{words_of}
+use Rattle.nm_script.specs.Lines.{ended_lines, words_of}
 use Rattle.nm_script.proofs.WordsStepLemmas.{chosen}
 use Rattle.nm_script.proofs.WordLemmas.{line_is}
 use Rattle.nm_trace.specs.declared.notes.Note.{Note}
 use Rattle.nm_trace.specs.Answers.{is_due, given}
 use Rattle.nm_trace.specs.Events.{note_of, pair_of}
-use Rattle.nm_trace.specs.Lines.{ended_lines}
 use Rattle.nm_trace.specs.Machine.{Stage, Noting, Counting, Telling, Closing, Over}
 use Rattle.nm_trace.specs.Machine.{ended, settled, is_next, with_given, telling, waits_of}
 use Rattle.nm_trace.specs.Machine.{cells_of, end_of, last_rank, may_follow, next_note, counting, noting}

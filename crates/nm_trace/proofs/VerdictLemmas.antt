@@ -12,10 +12,10 @@ use Rattle.nm_types.specs.Sizes.{Sizes}
 use Rattle.nm_report.specs.declared.records.RunRecord.{RunRecord}
 use Rattle.nm_report.specs.Ends.{ends_of}
 use Rattle.nm_report.specs.Lawful.{SameRun}
-use Rattle.nm_script.specs.Lines.{is_printable}
+use Rattle.nm_script.specs.Lines.{ended_lines, is_printable}
 use Rattle.nm_trace.specs.declared.faults.TraceFault.{TraceFault}
 use Rattle.nm_trace.specs.declared.faults.TraceFault.TheVariants as fault
-use Rattle.nm_trace.specs.Lines.{cut_lines, ended_lines, onto_lines, whole_lines}
+use Rattle.nm_trace.specs.Lines.{cut_lines, onto_lines, whole_lines}
 use Rattle.nm_trace.specs.Machine.{Trace, Stage, Noting, Counting, Telling, Closing, Over, fed, feed, start}
 use Rattle.nm_trace.specs.Outcome.{Stops, at_end, outcome, told}
 use Rattle.nm_trace.specs.Texts.{trace_of}

@@ -1,6 +1,6 @@
 -- Lines, each ended by its line feed, and the bytes behind the last line feed.
-use Rattle.std.specs.Prelude.{ℕ, List, [], ◌∷◌, ◌++◌, Option, Some, None}
-use Rattle.std.specs.Prelude.{◌==◌, if◌then◌else◌, flat_map}
+use Rattle.std.specs.Prelude.{ℕ, List, [], ◌∷◌, Option, Some, None}
+use Rattle.std.specs.Prelude.{◌==◌, if◌then◌else◌}
 use Rattle.std.specs.Option.{option_map}
 
 -- the bytes up to the first line feed, and those behind it
@@ -25,7 +25,3 @@ cut_lines (b ∷ bytes) =
 -- the lines that a line feed ends
 abbrev pub whole_lines : List ℕ → List (List ℕ)
 whole_lines bytes = (cut_lines bytes).0
-
--- the text of lines, each ended by a line feed
-abbrev pub ended_lines : List (List ℕ) → List ℕ
-ended_lines lines = flat_map (λ line. line ++ 10 ∷ []) lines

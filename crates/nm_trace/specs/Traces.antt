@@ -21,7 +21,8 @@ use Rattle.nm_report.specs.Report.{report_text}
 use Rattle.nm_trace.specs.declared.faults.TraceFault.{TraceFault}
 use Rattle.nm_trace.specs.declared.faults.TraceFault.TheVariants as fault
 use Rattle.nm_trace.specs.Answers.{is_ran}
-use Rattle.nm_trace.specs.Lines.{ended_lines, whole_lines}
+use Rattle.nm_script.specs.Lines.{ended_lines}
+use Rattle.nm_trace.specs.Lines.{whole_lines}
 
 -- a source within its type, or any
 abbrev pub PeerIn : Peer → Type 0

@@ -4,7 +4,7 @@ use Rattle.std.specs.Option.{option_map}
 use Rattle.std.specs.Prelude.{nat_eq}
 use Rattle.nm_match.specs.declared.names.Standing.{Standing}
 use Rattle.nm_match.specs.declared.names.Standing.TheVariants.{Aside}
-use Rattle.nm_match.specs.Names.{is_one_of}
+use Rattle.nm_history.specs.Continues.{has}
 use Rattle.nm_match.specs.Queues.{TwoReceives}
 use Rattle.nm_match.proofs.NameLemmas.{any_more, any_other, no_place, number_itself, place_found, place_taken}
 use Rattle.nm_match.proofs.NameLemmas.{same_number-true, there_at}
@@ -20,9 +20,9 @@ returns-in-Some-clause-others c = λ yes posts cancelled next two is.
     place_taken is c.take.new.self.map c.set_aside.new.standings c.take.ensures.full TwoReceives two
     (λ p q number. posts_apart number p q) c.args.number c.in-Some.key c.in-Some.order c.in-Some.ensures.some
     (λ p here number. ap (λ n. nat_eq n number) (same_number-true p.number c.args.number here))
-    c.take.ensures.own c.take.ensures.others (is_one_of (cancelled ++ c.args.number ∷ []))
+    c.take.ensures.own c.take.ensures.others (has (cancelled ++ c.args.number ∷ []))
     (λ number other. any_other (λ m. m == number) cancelled c.args.number other)
-    (there_at same_number-true (is_one_of (cancelled ++ c.args.number ∷ [])) c.set_aside.new.standings c.args.number
+    (there_at same_number-true (has (cancelled ++ c.args.number ∷ [])) c.set_aside.new.standings c.args.number
     (c.set_aside.ensures.own ∙ ap (λ (o : Option Standing). option_map (λ s. Aside) o) c.in-Some.ensures.some
     ∙ sym (ap (λ b. cond b (Some Aside) None)
     (any_more (λ m. m == c.args.number) cancelled c.args.number (number_itself c.args.number)))))

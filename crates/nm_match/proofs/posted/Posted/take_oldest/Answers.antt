@@ -2,7 +2,7 @@
 use Rattle.std.proofs.Common.{◌∙◌, Some, None, refl, sym}
 use Rattle.nm_types.specs.declared.messages.Post.{Post}
 use Rattle.nm_history.specs.Selection.{matches}
-use Rattle.nm_match.specs.Names.{is_one_of}
+use Rattle.nm_history.specs.Continues.{has}
 use Rattle.nm_match.specs.Queues.{TwoReceives}
 use Rattle.nm_match.proofs.NameLemmas.{named_taken, number_itself, same_number-true, there_at}
 use Rattle.nm_match.proofs.OldestLemmas.{oldest_found, posted_found, posts_apart}
@@ -24,7 +24,7 @@ returns-clause-others c = λ posts cancelled next two is stays.
     named_taken is c.take.new.self.map c.swap_remove.new.self c.take.ensures.full TwoReceives two
     (λ p q number. posts_apart number p q) (λ (p : Post). matches p.from p.tag p.ctx c.args.env.now)
     (c.in_ok-order.order, c.in_ok-order.p) (sym (c.in_ok-order.ensures ∙ oldest_found is.is.are c.args.env.now))
-    c.in_ok-order.p.number (λ number. refl) own others (is_one_of cancelled) (λ number other. refl)
-    (there_at same_number-true (is_one_of cancelled) c.swap_remove.new.self c.in_ok-order.p.number
+    c.in_ok-order.p.number (λ number. refl) own others (has cancelled) (λ number other. refl)
+    (there_at same_number-true (has cancelled) c.swap_remove.new.self c.in_ok-order.p.number
     (updates c.in_ok-order.p.number ∙ rw (number_itself c.in_ok-order.p.number, stays) refl))
     (λ number other. updates number ∙ rw other refl)
