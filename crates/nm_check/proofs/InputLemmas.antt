@@ -9,9 +9,12 @@ use Rattle.nm_types.specs.declared.scripts.Line.{Line}
 use Rattle.nm_types.specs.Text.{script_text, words}
 use Rattle.nm_script.specs.Lines.{ended_lines, is_printable}
 use Rattle.nm_script.proofs.WordLemmas.{joined_printable}
-use Rattle.nm_script.specs.Rules.{line_text, ranks_text}
+use Rattle.nm_script.specs.Rules.{line_text}
+use Rattle.nm_script.specs.TextRules.{ranks_text}
 use Rattle.nm_script.proofs.CommandLemmas.{Fits, line_again}
-use Rattle.nm_script.proofs.ReadLemmas.{AllFit, first_fits, first_solid, script_lines}
+use Rattle.nm_script.proofs.FirstLineLemmas.{ranks_solid}
+use Rattle.nm_script.proofs.LineAtLemmas.{AllFit, first_fits}
+use Rattle.nm_script.proofs.ReadLemmas.{script_lines}
 use Rattle.nm_trace.specs.Lines.{first_line}
 use Rattle.nm_check.proofs.CutLemmas.{first_line_of}
 use Rattle.nm_check.specs.Inputs.{IsDivider, IsBefore, IsOnlyCut}
@@ -132,7 +135,7 @@ first_byte (b ∷ bytes) = b
 
 ranks_before : (ranks : ℕ) → ranks ≤ MAX_RANKS → IsBefore (ranks_text ranks)
 ranks_before ranks few = record {
-  one = printed_one (ranks_text ranks) (joined_printable (codes "ranks") (decimal ranks ∷ []) (first_solid ranks few));
+  one = printed_one (ranks_text ranks) (joined_printable (codes "ranks") (decimal ranks ∷ []) (ranks_solid ranks few));
   other = λ same. let first : ◌≡◌ {A = ℕ} 114 45 = ap first_byte same in omega (arith, first);
 }
 

@@ -6,7 +6,7 @@ use Rattle.nm_script.specs.CommandWords.{IsTaken}
 use Rattle.nm_script.specs.declared.command_line.CommandLine.{CommandLine}
 use Rattle.nm_script.specs.declared.command_line.Mode.TheVariants.{Plain, Check, Parts, Multi}
 use Rattle.nm_persist.specs.Promises.{ReceivesShowTheirSends}
-use Rattle.nm_plans.specs.declared.faults.PlanFault.TheVariants as plan_fault
+use Rattle.nm_script.specs.declared.faults.TextFault.TheVariants as plan_fault
 use Rattle.nm_plans.specs.declared.faults.PlanKind.{PlanKind}
 use Rattle.nm_cli.specs.Endings.{IsPlanEnded, IsPlanRefused, OrFails}
 use Rattle.nm_cli.specs.Plans.{PlanRefuses, plan_fault_text}

@@ -9,7 +9,7 @@ use Rattle.nm_script.specs.declared.command_line.Mode.{Mode}
 use Rattle.nm_script.specs.declared.command_line.Mode.TheVariants as mode
 use Rattle.nm_script.specs.Spelled.{IsTextOf, SpellsNone}
 use Rattle.nm_script.specs.declared.faults.Kind.{Kind}
-use Rattle.nm_script.specs.declared.faults.ScriptFault.TheVariants as fault
+use Rattle.nm_script.specs.declared.faults.TextFault.TheVariants as fault
 use Rattle.nm_report.specs.declared.records.RunRecord.{RunRecord}
 use Rattle.nm_world.specs.declared.whole.Ways.{Ways}
 use Rattle.nm_cli.specs.Answers.{Refuses, end_status, run_text}

@@ -11,8 +11,10 @@ use Rattle.nm_script.specs.declared.command_line.Mode.TheVariants.{Run, Trace, P
 use Rattle.nm_script.specs.FloodScripts.{flood_lines}
 use Rattle.nm_outside.specs.Told.{LosesAtMost}
 use Rattle.nm_script.specs.Spelled.{IsTextOf}
-use Rattle.nm_script.specs.declared.faults.ScriptFault.{ScriptFault}
-use Rattle.nm_script.specs.declared.faults.ScriptFault.TheVariants as fault
+use Rattle.nm_script.specs.declared.faults.Kind.{Kind}
+use Rattle.nm_script.specs.declared.faults.TextFault.{TextFault}
+use Rattle.nm_plans.specs.declared.faults.PlanKind.{PlanKind}
+use Rattle.nm_script.specs.declared.faults.TextFault.TheVariants as fault
 use Rattle.nm_report.specs.Cells.{AllCellsFree}
 use Rattle.nm_report.specs.Ends.{are_done, ends_of}
 use Rattle.nm_report.specs.Lawful.{IsRunIn}
@@ -26,8 +28,6 @@ use Rattle.nm_sure.specs.Plain.{first_free}
 use Rattle.nm_sure.specs.PlainText.{plain_done, plain_text}
 use Rattle.nm_plans.specs.Expansion.{expand}
 use Rattle.nm_persist.specs.Rules.{IsTextOf as IsPlanText}
-use Rattle.nm_plans.specs.declared.faults.PlanFault.{PlanFault}
-use Rattle.nm_plans.specs.declared.faults.PlanFault.TheVariants as plan_fault
 use Rattle.nm_plans.specs.declared.lines.PlanLine.{PlanLine}
 use Rattle.nm_cli.specs.Answers.{CanBeTold, IsAnswer, IsAnswerFor, IsAnswerForPlan, IsAnswerTo, Refuses}
 use Rattle.nm_cli.specs.Plains.{IsNotPlain, IsPlain}
@@ -117,7 +117,7 @@ plan_spelled None read ranks lines is text = tt
 plan_spelled (Some bytes) read ranks lines is text = subst (λ bytes. IsPlanText bytes ranks lines) is text
 
 -- what was read is refused
-plan_refused : (input : Option (List ℕ)) (read : List ℕ) (e : PlanFault) →
+plan_refused : (input : Option (List ℕ)) (read : List ℕ) (e : TextFault PlanKind) →
     IfSome input (λ bytes. read ≡ take 8388609 bytes) → PlanRefuses read e →
     IfSome input (λ bytes. PlanRefuses (read_of bytes) e)
 plan_refused None read e is refuses = tt
@@ -131,7 +131,7 @@ spelled None read ranks lines is text = tt
 spelled (Some bytes) read ranks lines is text = subst (λ bytes. IsTextOf bytes ranks lines) is text
 
 -- what was read is no script
-refused : (input : Option (List ℕ)) (read : List ℕ) (e : ScriptFault) →
+refused : (input : Option (List ℕ)) (read : List ℕ) (e : TextFault Kind) →
     IfSome input (λ bytes. read ≡ take 8388609 bytes) → Refuses read e →
     IfSome input (λ bytes. Refuses (read_of bytes) e)
 refused None read e is refuses = tt
@@ -175,7 +175,7 @@ module _ (line : CommandLine) (input : Option (List ℕ)) (old new : ℕ) (read 
       (h.0, refused input read (fault.Bad n k) (script_read h.0) h.1)
   bytes_answered (answer.Checked checked) h = (h.0, checked_as line input read checked is h.1)
   bytes_answered (answer.NoPlan n k) h =
-      (h.0, plan_refused input read (plan_fault.Bad n k) (plan_read h.0) h.1)
+      (h.0, plan_refused input read (fault.Bad n k) (plan_read h.0) h.1)
   bytes_answered (answer.Planned plan run ways) h =
       let of_plan : IsRunOfPlan line input plan.lines run ways = record {
         ranks = h.1;

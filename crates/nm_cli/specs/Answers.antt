@@ -9,8 +9,8 @@ use Rattle.nm_script.specs.declared.command_line.Mode.TheVariants as mode
 use Rattle.nm_script.specs.Rules.{IsFirstFault}
 use Rattle.nm_script.specs.Spelled.{IsTextOf, SpellsNone}
 use Rattle.nm_script.specs.declared.faults.Kind.{Kind}
-use Rattle.nm_script.specs.declared.faults.ScriptFault.{ScriptFault}
-use Rattle.nm_script.specs.declared.faults.ScriptFault.TheVariants as fault
+use Rattle.nm_script.specs.declared.faults.TextFault.{TextFault}
+use Rattle.nm_script.specs.declared.faults.TextFault.TheVariants as fault
 use Rattle.nm_report.specs.Report.{report_text}
 use Rattle.nm_report.specs.Summary.{CountsFit, summary_text}
 use Rattle.nm_report.specs.Told.{told_of}
@@ -28,7 +28,6 @@ use Rattle.nm_sure.specs.Agree.{ArePlain}
 use Rattle.nm_sure.specs.Plain.{first_free}
 use Rattle.nm_sure.specs.PlainText.{plain_done, plain_text}
 use Rattle.nm_plans.specs.Expansion.{expand}
-use Rattle.nm_plans.specs.declared.faults.PlanFault.TheVariants as plan_fault
 use Rattle.nm_plans.specs.declared.lines.PlanLine.{PlanLine}
 use Rattle.nm_persist.specs.Report.{run_text as plan_run_text}
 use Rattle.nm_persist.specs.Rules.{IsTextOf as IsPlanText}
@@ -169,7 +168,7 @@ unfoldable pub IsTold : List ℕ → ℕ → Kind → Type 0
 IsTold bytes line kind = IsFirstFault bytes line kind
 
 -- a refusal says the first fault of the bytes, which spell no script; want of memory says nothing
-abbrev pub Refuses : List ℕ → ScriptFault → Type 0
+abbrev pub Refuses : List ℕ → TextFault Kind → Type 0
 Refuses bytes (fault.Bad line kind) = IsTold bytes line kind × SpellsNone bytes
 Refuses bytes fault.Memory = Unit {0}
 
@@ -180,7 +179,7 @@ IsAnswerForBytes line bytes (Refused number kind) = Reads line.mode × Refuses b
 IsAnswerForBytes line bytes (Checked checked) =
     (line.mode ≡ mode.Check) × IsChecked line.cells line.eager bytes checked
 IsAnswerForBytes line bytes (NoPlan number kind) =
-    (line.mode ≡ mode.Parts) × PlanRefuses bytes (plan_fault.Bad number kind)
+    (line.mode ≡ mode.Parts) × PlanRefuses bytes (fault.Bad number kind)
 IsAnswerForBytes line bytes (Planned plan run ways) =
     (line.mode ≡ mode.Parts) × (ranks : ℕ) × IsPlanText bytes ranks plan.lines
     × IsRunOfScript line ranks (expand plan.lines) run ways
@@ -203,7 +202,7 @@ IsAnswerTo line input old new (Determinate run) =
 IsAnswerTo line input old new (Checked checked) =
     (line.mode ≡ mode.Check) × IfSome input (IsCheckedAs line checked)
 IsAnswerTo line input old new (NoPlan number kind) =
-    (line.mode ≡ mode.Parts) × IfSome input (λ bytes. PlanRefuses (read_of bytes) (plan_fault.Bad number kind))
+    (line.mode ≡ mode.Parts) × IfSome input (λ bytes. PlanRefuses (read_of bytes) (fault.Bad number kind))
 IsAnswerTo line input old new (Planned plan run ways) =
     (line.mode ≡ mode.Parts) × IsRunOfPlan line input plan.lines run ways
 IsAnswerTo line input old new (Logged threads rounds log) =

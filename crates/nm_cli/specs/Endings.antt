@@ -3,7 +3,7 @@ use Rattle.std.specs.Prelude.{◌≡◌, ℕ, ◌⊎◌, Bool, List, Option, Som
 use Rattle.nm_outside.specs.Told.{Appends, AppendsPart}
 use Rattle.nm_script.specs.declared.command_line.CommandLine.{CommandLine}
 use Rattle.nm_script.specs.declared.faults.Kind.{Kind}
-use Rattle.nm_script.specs.declared.faults.ScriptFault.TheVariants as fault
+use Rattle.nm_script.specs.declared.faults.TextFault.TheVariants as fault
 use Rattle.nm_report.specs.declared.records.RunRecord.{RunRecord}
 use Rattle.nm_world.specs.declared.whole.Ways.{Ways}
 use Rattle.nm_multi.specs.Calls.{Logged as Log}
@@ -12,7 +12,6 @@ use Rattle.nm_multi.specs.Text.{log_text}
 use Rattle.nm_cli.specs.Answers.{Refuses, end_status, run_text, status_of, text_of}
 use Rattle.nm_cli.specs.Faults.{fault_text}
 use Rattle.nm_persist.specs.Report.{run_text as plan_run_text}
-use Rattle.nm_plans.specs.declared.faults.PlanFault.TheVariants as plan_fault
 use Rattle.nm_plans.specs.declared.faults.PlanKind.{PlanKind}
 use Rattle.nm_plans.specs.declared.lines.PlanLine.{PlanLine}
 use Rattle.nm_cli.specs.Plans.{IsRunOfPlan, KeepsPromises, PlanRefuses, plan_fault_text}
@@ -70,7 +69,7 @@ IsWorkedOut line input status old new =
 pub record IsPlanRefused (old new : Option (List ℕ)) (bytes : List ℕ) : Type 0 where
   pub line : ℕ
   pub kind : PlanKind
-  pub told : PlanRefuses (read_of bytes) (plan_fault.Bad line kind)
+  pub told : PlanRefuses (read_of bytes) (fault.Bad line kind)
   pub said : Appends old new (plan_fault_text line kind)
 
 -- a run of a plan was reported, and its record and what its ports kept are handed out

@@ -6,8 +6,8 @@ use Rattle.nm_plans.specs.Expansion.{expand}
 use Rattle.nm_persist.specs.Plans.{IsPlan}
 use Rattle.nm_persist.specs.Rules.{IsFirstFault, IsTextOf}
 use Rattle.nm_persist.specs.Promises.{KeepsPromise, shown_of}
-use Rattle.nm_plans.specs.declared.faults.PlanFault.{PlanFault}
-use Rattle.nm_plans.specs.declared.faults.PlanFault.TheVariants as fault
+use Rattle.nm_script.specs.declared.faults.TextFault.{TextFault}
+use Rattle.nm_script.specs.declared.faults.TextFault.TheVariants as fault
 use Rattle.nm_plans.specs.declared.faults.PlanKind.{PlanKind}
 use Rattle.nm_plans.specs.declared.faults.PlanKind.TheVariants as kind
 use Rattle.nm_plans.specs.declared.lines.PlanLine.{PlanLine}
@@ -38,7 +38,7 @@ plan_fault_text line kind =
     codes "fault parts " ++ (decimal line ++ (codes " " ++ (plan_kind_text kind ++ codes "\n")))
 
 -- a refusal says the first fault of the bytes, which spell no plan; want of memory says nothing
-abbrev pub PlanRefuses : List ℕ → PlanFault → Type 0
+abbrev pub PlanRefuses : List ℕ → TextFault PlanKind → Type 0
 PlanRefuses bytes (fault.Bad line kind) =
     IsFirstFault bytes line kind × ((ranks : ℕ) (lines : List PlanLine) → ¬ (IsTextOf bytes ranks lines))
 PlanRefuses bytes fault.Memory = Unit {0}

@@ -1,5 +1,5 @@
 -- The rules of lines: which a command's line keeps, and which a line breaks that is refused.
-use Rattle.std.proofs.Common.{◌≡◌, ℕ, ◌+◌, ◌≤◌, ◌<◌, inl, inr, Bool, true, false}
+use Rattle.std.proofs.Common.{◌≡◌, ℕ, ◌+◌, ◌≤◌, inl, inr, Bool, true, false}
 use Rattle.std.proofs.Common.{List, [], ◌∷◌, ◌++◌, length, map, Option, Some, None, Result, Ok, Err, nat_lt}
 use Rattle.std.proofs.Common.{refl, sym, ap, ◌∙◌, arith, codes, decimal, subst, cond}
 use Rattle.std.specs.List.{join_with_byte}
@@ -10,15 +10,11 @@ use Rattle.nm_types.specs.declared.limits.TheConstants.{MAX_RANKS, MAX_LINES}
 use Rattle.nm_script.specs.Lines.{is_printable, words_of}
 use Rattle.nm_script.proofs.WordsStepLemmas.{bind_ok, chosen}
 use Rattle.nm_script.proofs.WordLemmas.{line_is, joined_printable, words_again}
-use Rattle.nm_script.specs.declared.faults.Kind.TheVariants as script
 use Rattle.nm_script.specs.Commands.{rank_of}
 use Rattle.nm_script.specs.Faults.{◌>>=◌}
-use Rattle.nm_script.specs.Reading.{ranks_of, ranks_at as script_ranks_at}
-use Rattle.nm_script.specs.Rules.{HasRank, ranks_text}
+use Rattle.nm_script.specs.Rules.{HasRank}
 use Rattle.nm_script.proofs.CommandLemmas.{rank_again}
 use Rattle.nm_script.proofs.CommandTakenLemmas.{rank_taken}
-use Rattle.nm_script.proofs.ReadLemmas.{first_solid, ranks_again as script_ranks_again}
-use Rattle.nm_script.proofs.ReadLemmas.{ranks_taken as script_ranks_taken}
 use Rattle.nm_script.proofs.StepLemmas.{bind_err, guard_ok, unless_ok}
 use Rattle.nm_plans.specs.declared.faults.PlanKind.{PlanKind}
 use Rattle.nm_plans.specs.declared.faults.PlanKind.TheVariants as kind
@@ -27,12 +23,11 @@ use Rattle.nm_plans.specs.declared.lines.PlanLine.{PlanLine}
 use Rattle.nm_plans.specs.Commands.{command_of, line_of}
 use Rattle.nm_plans.specs.Faults.{or_kind}
 use Rattle.nm_plans.specs.Grammar.{arguments, keyword_in, keyword_of, keyword_text, value_word, values}
-use Rattle.nm_persist.specs.Reading.{line_at, ranks_at, unless}
-use Rattle.nm_persist.specs.Rules.{FirstKeeps}
-use Rattle.nm_plans.specs.Faults.{AllKept, IsFirstOf}
+use Rattle.nm_persist.specs.Reading.{line_at, unless}
+use Rattle.nm_script.specs.TextRules.{AllKept, IsFirstOf}
 use Rattle.nm_script.specs.Arguments.{Each}
 use Rattle.nm_plans.specs.Spelled.{IsBodyThere, IsLine, IsNumberThere}
-use Rattle.nm_persist.specs.Rules.{KeepsRule, first_kinds, line_kinds}
+use Rattle.nm_persist.specs.Rules.{KeepsRule, line_kinds}
 use Rattle.nm_persist.specs.Table.{fault_in, has_other_parts, is_out_of_order, is_past, is_taken}
 use Rattle.nm_plans.specs.Text.{line_words, words}
 use Rattle.nm_plans.proofs.GrammarLemmas.{err_none, keyword_again, keyword_taken}
@@ -40,23 +35,6 @@ use Rattle.nm_plans.proofs.MakeLemmas.{arguments_fault, line_again}
 use Rattle.nm_plans.proofs.GrammarLemmas.{ok_some, one_keyword, or_err, or_ok}
 use Rattle.nm_plans.proofs.MakeLemmas.{line_taken, Kept}
 use Rattle.nm_plans.proofs.MakeLemmas.{each_body, each_counts, each_number}
-
--- ---- the first of the rules that are broken is one
-
-pub one_first : (keeps : PlanKind → Type 0) (kinds : List PlanKind) (a b : PlanKind) → IsFirstOf keeps kinds a
-    → IsFirstOf keeps kinds b → a ≡ b
-one_first keeps [] a b x y = absurd x
-one_first keeps (k ∷ kinds) a b x y =
-    elim x [
-      | inl p ↦ elim y [ inl q ↦ p.0 ∙ sym q.0 | inr q ↦ absurd (p.1 q.0) ]
-      | inr p ↦ elim y [ inl q ↦ absurd (q.1 p.0) | inr q ↦ one_first keeps kinds a b p.1 q.1 ]
-    ]
-
-pub none_first : (keeps : PlanKind → Type 0) (kinds : List PlanKind) (a : PlanKind) → AllKept keeps kinds
-    → IsFirstOf keeps kinds a → ⊥
-none_first keeps [] a all x = x
-none_first keeps (k ∷ kinds) a all x =
-    elim x [ inl p ↦ p.1 all.0 | inr p ↦ none_first keeps kinds a all.1 p.1 ]
 
 -- ---- a command's line
 
@@ -401,43 +379,3 @@ module _ (ranks : ℕ) (few : ranks ≤ MAX_RANKS) where
       let read = is_read text line here.is in
       rw (read.printable, le-ltb MAX_LINES (length before + 2) here.in_lines)
       (rw read.gives (rw here.sound refl))
-
--- ---- the first line
-
-first_read : (line : List ℕ) (n : ℕ) → ranks_at line ≡ Ok n → script_ranks_at line ≡ Ok n
-unfolding ranks_at script_ranks_at
-first_read line n h =
-    let p = guard_ok (is_printable line) (or_kind (ranks_of (words_of line)) kind.First) kind.NotAscii n h in
-    rw p.0 (or_ok (ranks_of (words_of line)) kind.First n p.1)
-
-pub ranks_taken : (line : List ℕ) (n : ℕ) → ranks_at line ≡ Ok n
-    → (line ≡ ranks_text n) × (0 < n) × (n ≤ MAX_RANKS)
-ranks_taken line n h = script_ranks_taken line n (first_read line n h)
-
-pub ranks_again : (n : ℕ) → 0 < n → n ≤ MAX_RANKS → ranks_at (ranks_text n) ≡ Ok n
-unfolding ranks_at script_ranks_at
-ranks_again n some few =
-    let printable : is_printable (ranks_text n) ≡ true =
-    joined_printable (codes "ranks") (decimal n ∷ []) (first_solid n few) in
-    let read = guard_ok (is_printable (ranks_text n)) (ranks_of (words_of (ranks_text n))) script.NotAscii n
-    (script_ranks_again n some few) in
-    rw printable (ap (λ r. or_kind r kind.First) read.1)
-
-pub ranks_fault : (text : List ℕ) (e : PlanKind) → ranks_at text ≡ Err e
-    → IsFirstOf (FirstKeeps text) first_kinds e
-unfolding ranks_at
-ranks_fault text e h =
-    let never : ¬ (FirstKeeps text kind.First) = λ is.
-    let same : ranks_at text ≡ Ok is.0 = ap ranks_at is.3 ∙ ranks_again is.0 is.1 is.2 in cc (same, h) in
-    elim (chosen (is_printable text) (or_kind (ranks_of (words_of text)) kind.First) (Err kind.NotAscii) (Err e) h) [
-      | inl p ↦ inr (p.0, inl (or_err (ranks_of (words_of text)) kind.First e p.1, never))
-      | inr p ↦ inl (cc (p.1), λ yes. cc (p.0, yes))
-    ]
-
-pub ranks_kept : (text : List ℕ) (ranks : ℕ)
-    → (text ≡ ranks_text ranks) × (0 < ranks) × (ranks ≤ MAX_RANKS)
-    → AllKept (FirstKeeps text) first_kinds
-ranks_kept text ranks h = (
-  ap is_printable h.0 ∙ joined_printable (codes "ranks") (decimal ranks ∷ []) (first_solid ranks h.2),
-  ((ranks, h.1, h.2, h.0), tt),
-)

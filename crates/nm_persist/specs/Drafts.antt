@@ -5,10 +5,10 @@ use Rattle.std.specs.List.{list_all}
 use Rattle.indexmap.specs.IndexMap.{IndexMap, get}
 use Rattle.nm_persist.specs.declared.drafts.Draft.{Draft}
 use Rattle.nm_plans.specs.declared.requests.ends.End.{End}
-use Rattle.nm_plans.specs.declared.faults.LineFault.{LineFault}
-use Rattle.nm_plans.specs.declared.faults.LineFault.TheVariants as fault
-use Rattle.nm_plans.specs.declared.faults.PlanFault.{PlanFault}
-use Rattle.nm_plans.specs.declared.faults.PlanFault.TheVariants as plan
+use Rattle.nm_script.specs.declared.faults.LineFault.{LineFault}
+use Rattle.nm_script.specs.declared.faults.LineFault.TheVariants as fault
+use Rattle.nm_script.specs.declared.faults.TextFault.{TextFault}
+use Rattle.nm_script.specs.Faults.{Fails, at_line}
 use Rattle.nm_plans.specs.declared.faults.PlanKind.{PlanKind}
 use Rattle.nm_plans.specs.declared.lines.PlanLine.{PlanLine}
 use Rattle.nm_plans.specs.Ends.{parts_at, same_end}
@@ -32,15 +32,14 @@ pub record IsDraft (d : Draft) : Type 0 where
   pub size : IsSizeOf d.size d.ranks (expand d.lines)
 
 -- a line was read and put behind the others, or there is this fault, unless memory ran out
-abbrev pub Adds : Result (Unit {0}) LineFault → List PlanLine → List PlanLine → Result PlanLine PlanKind
+abbrev pub Adds : Result (Unit {0}) (LineFault PlanKind) → List PlanLine → List PlanLine → Result PlanLine PlanKind
     → Type 0
 Adds (Ok done) old new read = (line : PlanLine) × (read ≡ Ok line) × (new ≡ old ++ line ∷ [])
 Adds (Err (fault.Bad e)) old new read = read ≡ Err e
 Adds (Err fault.Memory) old new read = Unit {0}
 
 -- the same, with the number of the line at a fault
-abbrev pub AddsAt : ℕ → Result (Unit {0}) PlanFault → List PlanLine → List PlanLine → Result PlanLine PlanKind
-    → Type 0
+abbrev pub AddsAt : ℕ → Result (Unit {0}) (TextFault PlanKind) → List PlanLine → List PlanLine
+    → Result PlanLine PlanKind → Type 0
 AddsAt number (Ok done) old new read = (line : PlanLine) × (read ≡ Ok line) × (new ≡ old ++ line ∷ [])
-AddsAt number (Err (plan.Bad k e)) old new read = (k ≡ number) × (read ≡ Err e)
-AddsAt number (Err plan.Memory) old new read = Unit {0}
+AddsAt number (Err f) old new read = Fails f (at_line number read)

@@ -12,7 +12,8 @@ ghost use Rattle.nm_persist.specs.Table as table;
 
 use crate::sizes::Size;
 use nm_plans::requests::{End, Ends, Requests, parts_in, push_lines_for};
-use nm_plans::{LineFault, PlanKind, PlanLine, PlanLines};
+use nm_plans::{PlanKind, PlanLine, PlanLines};
+use nm_script::LineFault;
 use nm_types::Memory;
 use std::alloc::Global;
 
@@ -98,7 +99,7 @@ impl Draft {
     }
 
     /// Puts a line behind the others, unless it has a fault.
-    pub fn add(&mut self, alloc: Global, line: PlanLine) -> Result<(), LineFault>
+    pub fn add(&mut self, alloc: Global, line: PlanLine) -> Result<(), LineFault<PlanKind>>
         requires draft { IsDraft self.old }
         requires in_range { (nat_lt line.rank self.old.ranks
             && is_in_range self.old.ranks line.command) ≡ true }

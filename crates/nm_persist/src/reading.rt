@@ -1,76 +1,29 @@
 //! The whole text: its length, its first line, and one line after the other.
 
-ghost use Rattle.std.specs.Prelude.{◌≡◌, ◌≤◌, ◌+◌, ◌<◌, ◌^◌, ℕ, List, [], length, map, nat_lt};
+ghost use Rattle.std.specs.Prelude.{◌≡◌, ◌≤◌, ◌+◌, ◌<◌, ℕ, List, [], length};
 ghost use Rattle.std.specs.Prelude.{IfErr, IfOk, OnOk};
-ghost use Rattle.nm_script.specs.Lines.{lines_of, text_len};
-ghost use Rattle.nm_script.specs.Reading.{ranks_of};
+ghost use Rattle.nm_script.specs.Faults.{GivesAt};
+ghost use Rattle.nm_script.specs.Lines.{lines_of};
+ghost use Rattle.nm_script.specs.TextReading.{AnswersText, IsRefused, lines_from};
+ghost use Rattle.nm_script.specs.TextRules.{IsFaultIn};
 ghost use Rattle.nm_plans.specs.declared.faults.PlanKind as kinds;
-ghost use Rattle.nm_plans.specs.declared.faults.PlanKind.TheVariants as kind;
 ghost use Rattle.nm_plans.specs.declared.lines.PlanLine as plan_line;
 ghost use Rattle.nm_persist.specs.Drafts.{Adds, AddsAt, IsDraft};
-ghost use Rattle.nm_plans.specs.Faults.{Gives, GivesAt, at_line, or_kind};
-ghost use Rattle.nm_persist.specs.Reading.{line_at, lines_from, parts, ranks_at, read_of};
-ghost use Rattle.nm_persist.specs.Rules.{IsFault, IsFirstFault, IsRefused, IsTextOf, AnswersPlan};
+ghost use Rattle.nm_persist.specs.Reading.{line_at, parts, plan_reader, read_of};
+ghost use Rattle.nm_persist.specs.Rules.{IsFirstFault, IsTextOf, plans};
 
 use crate::drafts::Draft;
 use crate::plans::Plan;
-use nm_plans::{LineFault, PlanFault, PlanKind, line_from};
-use nm_script::words::{is_printable, number, split_line, words};
-use nm_types::{MAX_LINES, MAX_RANKS, MAX_TEXT};
+use nm_plans::{PlanFault, PlanKind, line_from};
+use nm_script::texts::first_line;
+use nm_script::words::{is_printable, split_line, words};
+use nm_script::{LineFault, is_too_long};
+use nm_types::{MAX_LINES, MAX_RANKS};
 use std::alloc::Global;
-
-/// The text is longer than a plan may be. A line feed that its last line lacks counts as a byte.
-fn is_too_long(bytes: &[u8]) -> bool
-    ensures { result ≡ nat_lt MAX_TEXT (text_len bytes.now) }
-{
-    match bytes {
-        [.., b'\n'] => bytes.len() > MAX_TEXT as usize,
-        _ => bytes.len() >= MAX_TEXT as usize,
-    }
-}
-
-/// The number of ranks, by the words of the first line.
-#[tactic(auto, unfolding(nm_script::specs::Reading::ranks_of))]
-fn ranks_from(words: &[&[u8]]) -> Result<u8, PlanKind>
-    ensures { result ≡ or_kind (ranks_of (map (λ word. word.now) words.now)) kind.First }
-{
-    match words {
-        [name, count] => {
-            if *name == b"ranks".as_slice() {
-                match number(count, u64::from(MAX_RANKS) + 1) {
-                    None | Some(0) => Err(PlanKind::First),
-                    Some(ranks) => Ok(ranks as u8),
-                }
-            } else {
-                Err(PlanKind::First)
-            }
-        }
-        _ => Err(PlanKind::First),
-    }
-}
-
-/// The number of ranks that the first line says.
-#[tactic(auto, unfolding(crate::specs::Reading::ranks_at))]
-fn ranks_in(alloc: Global, line: &[u8]) -> Result<u8, LineFault>
-    ensures { Gives result (ranks_at line.now) }
-{
-    if !is_printable(line) {
-        return Err(LineFault::Bad(PlanKind::NotAscii));
-    }
-    let words = words(alloc, line)?;
-    Ok(ranks_from(&words)?)
-}
-
-/// The first line, with its number at a fault.
-fn first_line(alloc: Global, line: &[u8]) -> Result<u8, PlanFault>
-    ensures { GivesAt (λ n. n) result (at_line 1 (ranks_at line.now)) }
-{
-    ranks_in(alloc, line).map_err(|fault| fault.at(1))
-}
 
 /// Reads a line that isn't the first, and puts it behind the others.
 #[tactic(auto, unfolding(crate::specs::Reading::line_at))]
-fn line_in(alloc: Global, draft: &mut Draft, line: &[u8]) -> Result<(), LineFault>
+fn line_in(alloc: Global, draft: &mut Draft, line: &[u8]) -> Result<(), LineFault<PlanKind>>
     requires draft { IsDraft draft.old }
     requires few { length draft.old.lines < MAX_LINES }
     requires ranks { draft.old.ranks ≤ MAX_RANKS }
@@ -113,7 +66,7 @@ fn other_line(alloc: Global, draft: &mut Draft, line: &[u8]) -> Result<(), PlanF
 fn other_lines(alloc: Global, ranks: u8, bytes: &[u8]) -> Result<Draft, PlanFault>
     requires { ranks ≤ MAX_RANKS }
     ensures exact { GivesAt (λ draft. draft.lines) result
-        (lines_from ranks [] (lines_of bytes.now)) }
+        (lines_from plan_reader ranks [] (lines_of bytes.now)) }
     ensures draft { IfOk result IsDraft }
     ensures ranks { IfOk result (λ draft. draft.ranks ≡ ranks) }
     ensures few { IfOk result (λ draft. length draft.lines < MAX_LINES) }
@@ -146,7 +99,7 @@ fn read_exactly(alloc: Global, bytes: &[u8]) -> Result<Plan, PlanFault>
         });
     }
     let (line, rest) = split_line(bytes);
-    let ranks = first_line(alloc, line)?;
+    let ranks = first_line(alloc, line, PlanKind::NotAscii, PlanKind::First)?;
     let draft = other_lines(alloc, ranks, rest)?;
     Ok(Plan {
         ranks,
@@ -161,8 +114,8 @@ fn read_exactly(alloc: Global, bytes: &[u8]) -> Result<Plan, PlanFault>
 pub fn read(alloc: Global, bytes: &[u8]) -> Result<Plan, PlanFault>
     ensures taken { IfOk result (λ plan. IsTextOf bytes.now plan.ranks plan.lines) }
     ensures takes { (ranks : ℕ) (lines : List plan_line.PlanLine) →
-        IsTextOf bytes.now ranks lines → AnswersPlan result ranks lines }
-    ensures fault { IfErr result (IsFault bytes.now) }
+        IsTextOf bytes.now ranks lines → AnswersText parts result ranks lines }
+    ensures fault { IfErr result (IsFaultIn plans bytes.now) }
     ensures faults { (line : ℕ) (e : kinds.PlanKind) →
         IsFirstFault bytes.now line e → IsRefused result line e }
 {

@@ -31,7 +31,7 @@ use Rattle.nm_plans.specs.Grammar.{keyword_in, keyword_of, keyword_text, value_w
 use Rattle.nm_plans.specs.Grammar.Argument.{Request, Peer, Tag, Context, Parts, Part, Capacity, Contents}
 use Rattle.nm_script.specs.Arguments.{Each}
 use Rattle.nm_plans.specs.Spelled.{IsBodyThere, IsNumberThere, IsSpelled}
-use Rattle.nm_plans.specs.Faults.{IsFirstOf}
+use Rattle.nm_script.specs.TextRules.{IsFirstOf}
 use Rattle.nm_plans.specs.Text.{line_words}
 use Rattle.nm_plans.proofs.GrammarLemmas.{keyword_taken, keyword_again, keyword_solid, ok_some, or_ok}
 use Rattle.nm_plans.proofs.ValueLemmas.{body_last, values_again, values_taken, there_number, BreaksOne, values_fault}

@@ -2,17 +2,19 @@
 
 ghost use Rattle.std.specs.Prelude.{◌≡◌, ◌<◌, ◌≤◌, [], ◌∷◌, map, IfOk};
 ghost use Rattle.nm_script.specs.Commands.{rank_of};
+ghost use Rattle.nm_script.specs.Faults.{Gives};
 ghost use Rattle.nm_plans.specs.declared.faults.PlanKind.TheVariants as kind;
 ghost use Rattle.nm_plans.specs.declared.keywords.PlanKeyword.TheVariants as key;
 ghost use Rattle.nm_plans.specs.Commands.{plan_argument, parts_of};
 ghost use Rattle.nm_plans.specs.Commands.{arguments_of, command_of, line_of};
-ghost use Rattle.nm_plans.specs.Faults.{Gives, or_kind};
+ghost use Rattle.nm_plans.specs.Faults.{or_kind};
 
 use crate::bodies::body_from;
-use crate::faults::{LineFault, PlanKind};
+use crate::faults::PlanKind;
 use crate::keywords::{PlanKeyword, keyword_from};
 use crate::limits::{MAX_CONTEXT, MAX_PARTS, MAX_REQUEST, MAX_TAG};
 use crate::lines::{PlanCommand, PlanLine};
+use nm_script::LineFault;
 use nm_script::words::number;
 use nm_types::MAX_CAPACITY;
 use std::alloc::Global;
@@ -99,7 +101,7 @@ fn send_with(
     tag: &[u8],
     ctx: &[u8],
     body: &[u8],
-) -> Result<PlanCommand, LineFault>
+) -> Result<PlanCommand, LineFault<PlanKind>>
     ensures { Gives result (arguments_of ranks key.SendInit
         (p.now ∷ to.now ∷ tag.now ∷ ctx.now ∷ body.now ∷ [])) }
 {
@@ -113,7 +115,11 @@ fn send_with(
 }
 
 /// A request that sends, by its arguments.
-fn send_init(alloc: Global, ranks: u8, arguments: &[&[u8]]) -> Result<PlanCommand, LineFault>
+fn send_init(
+    alloc: Global,
+    ranks: u8,
+    arguments: &[&[u8]],
+) -> Result<PlanCommand, LineFault<PlanKind>>
     ensures { Gives result
         (arguments_of ranks key.SendInit (map (λ word. word.now) arguments.now)) }
 {
@@ -166,7 +172,7 @@ fn psend_with(
     ctx: &[u8],
     parts: &[u8],
     body: &[u8],
-) -> Result<PlanCommand, LineFault>
+) -> Result<PlanCommand, LineFault<PlanKind>>
     ensures { Gives result (arguments_of ranks key.PsendInit
         (p.now ∷ to.now ∷ tag.now ∷ ctx.now ∷ parts.now ∷ body.now ∷ [])) }
 {
@@ -181,7 +187,11 @@ fn psend_with(
 }
 
 /// A request that sends in parts.
-fn psend_init(alloc: Global, ranks: u8, arguments: &[&[u8]]) -> Result<PlanCommand, LineFault>
+fn psend_init(
+    alloc: Global,
+    ranks: u8,
+    arguments: &[&[u8]],
+) -> Result<PlanCommand, LineFault<PlanKind>>
     ensures { Gives result
         (arguments_of ranks key.PsendInit (map (λ word. word.now) arguments.now)) }
 {
@@ -227,7 +237,7 @@ fn precv_init(ranks: u8, arguments: &[&[u8]]) -> Result<PlanCommand, PlanKind>
 
 /// Another body.
 #[tactic(auto, unfolding(crate::specs::Commands::arguments_of))]
-fn fill(alloc: Global, ranks: u8, arguments: &[&[u8]]) -> Result<PlanCommand, LineFault>
+fn fill(alloc: Global, ranks: u8, arguments: &[&[u8]]) -> Result<PlanCommand, LineFault<PlanKind>>
     ensures { Gives result (arguments_of ranks key.Fill (map (λ word. word.now) arguments.now)) }
 {
     match arguments {
@@ -299,7 +309,7 @@ fn arguments_from(
     ranks: u8,
     keyword: PlanKeyword,
     arguments: &[&[u8]],
-) -> Result<PlanCommand, LineFault>
+) -> Result<PlanCommand, LineFault<PlanKind>>
     ensures { Gives result (arguments_of ranks keyword (map (λ word. word.now) arguments.now)) }
 {
     match keyword {
@@ -322,7 +332,7 @@ fn command_from(
     ranks: u8,
     name: &[u8],
     arguments: &[&[u8]],
-) -> Result<PlanCommand, LineFault>
+) -> Result<PlanCommand, LineFault<PlanKind>>
     ensures { Gives result (command_of ranks name.now (map (λ word. word.now) arguments.now)) }
 {
     match keyword_from(name) {
@@ -339,7 +349,7 @@ fn line_with(
     first: &[u8],
     name: &[u8],
     arguments: &[&[u8]],
-) -> Result<PlanLine, LineFault>
+) -> Result<PlanLine, LineFault<PlanKind>>
     ensures { Gives result
         (line_of ranks (first.now ∷ name.now ∷ map (λ word. word.now) arguments.now)) }
 {
@@ -350,7 +360,7 @@ fn line_with(
 
 /// A line that isn't the first, by its words.
 #[tactic(auto, unfolding(crate::specs::Commands::line_of))]
-pub fn line_from(alloc: Global, ranks: u8, words: &[&[u8]]) -> Result<PlanLine, LineFault>
+pub fn line_from(alloc: Global, ranks: u8, words: &[&[u8]]) -> Result<PlanLine, LineFault<PlanKind>>
     ensures { Gives result (line_of ranks (map (λ word. word.now) words.now)) }
 {
     match words {

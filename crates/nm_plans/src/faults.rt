@@ -1,7 +1,6 @@
 //! Why bytes are refused.
 
-use nm_types::Memory;
-use std::alloc::AllocError;
+use nm_script::{LineFault, TextFault};
 
 /// What is wrong with a plan's text. The first line with a fault has the first of these kinds.
 #[derive(Clone, Copy, Debug, PartialEq)]
@@ -36,76 +35,15 @@ pub enum PlanKind {
 }
 
 /// Why no plan was read.
-#[derive(Clone, Copy, Debug, PartialEq)]
-pub enum PlanFault {
-    /// The bytes spell no plan: the fault of a line, counted from 1, or of the whole text at 0.
-    Bad { line: u32, kind: PlanKind },
-    /// Want of memory. It says nothing of the bytes.
-    Memory,
-}
+pub type PlanFault = TextFault<PlanKind>;
 
-/// Why a line can't be read, before its number is known.
-#[derive(Clone, Copy)]
-pub enum LineFault {
-    Bad(PlanKind),
-    Memory,
-}
-
-impl LineFault {
+impl From<PlanKind> for LineFault<PlanKind> {
     ghost use Rattle.std.specs.Prelude.{◌≡◌};
-    ghost use Rattle.nm_plans.specs.Faults.{fault_at};
-
-    /// The fault with the number of its line.
-    pub fn at(self, line: u32) -> PlanFault
-        ensures { result ≡ fault_at line self }
-    {
-        match self {
-            LineFault::Bad(kind) => PlanFault::Bad { line, kind },
-            LineFault::Memory => PlanFault::Memory,
-        }
-    }
-}
-
-impl From<PlanKind> for LineFault {
-    ghost use Rattle.std.specs.Prelude.{◌≡◌};
-    ghost use Rattle.nm_plans.specs.declared.faults.LineFault.TheVariants.{Bad};
+    ghost use Rattle.nm_script.specs.declared.faults.LineFault.TheVariants.{Bad};
 
     ghost from_gives = { λ kind fault. fault ≡ Bad kind };
 
-    fn from(kind: PlanKind) -> LineFault {
+    fn from(kind: PlanKind) -> LineFault<PlanKind> {
         LineFault::Bad(kind)
-    }
-}
-
-impl From<AllocError> for LineFault {
-    ghost use Rattle.std.specs.Prelude.{◌≡◌};
-    ghost use Rattle.nm_plans.specs.declared.faults.LineFault.TheVariants as fault;
-
-    ghost from_gives = { λ _ e. e ≡ fault.Memory };
-
-    fn from(_e: AllocError) -> LineFault {
-        LineFault::Memory
-    }
-}
-
-impl From<Memory> for LineFault {
-    ghost use Rattle.std.specs.Prelude.{◌≡◌};
-    ghost use Rattle.nm_plans.specs.declared.faults.LineFault.TheVariants as fault;
-
-    ghost from_gives = { λ _ e. e ≡ fault.Memory };
-
-    fn from(_e: Memory) -> LineFault {
-        LineFault::Memory
-    }
-}
-
-impl From<Memory> for PlanFault {
-    ghost use Rattle.std.specs.Prelude.{◌≡◌};
-    ghost use Rattle.nm_plans.specs.declared.faults.PlanFault.TheVariants as fault;
-
-    ghost from_gives = { λ _ e. e ≡ fault.Memory };
-
-    fn from(_e: Memory) -> PlanFault {
-        PlanFault::Memory
     }
 }

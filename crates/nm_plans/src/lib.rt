@@ -40,6 +40,6 @@ mod lines;
 pub mod requests;
 
 pub use commands::line_from;
-pub use faults::{LineFault, PlanFault, PlanKind};
+pub use faults::{PlanFault, PlanKind};
 pub use limits::{MAX_CONTEXT, MAX_PARTS, MAX_REQUEST, MAX_TAG};
 pub use lines::{PlanCommand, PlanLine, PlanLines};

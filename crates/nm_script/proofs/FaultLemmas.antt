@@ -28,16 +28,16 @@ use Rattle.nm_script.specs.Commands.{mprobe_with, mprobe_of, mrecv_with, mrecv_o
 use Rattle.nm_script.specs.Commands.{command_of, line_of}
 use Rattle.nm_script.specs.Digits.{is_lower_digit}
 use Rattle.nm_script.specs.Decimal.{number_of}
-use Rattle.nm_script.specs.Faults.{◌>>=◌}
 use Rattle.nm_script.specs.Keywords.{keyword_of, keyword_text}
-use Rattle.nm_script.specs.Rules.{HasRank, IsFirstOf, KeepsRule}
+use Rattle.nm_script.specs.Rules.{HasRank, KeepsRule}
+use Rattle.nm_script.specs.TextRules.{IsFirstOf}
 use Rattle.nm_script.proofs.BodyLemmas.{body_again}
 use Rattle.nm_script.proofs.CommandLemmas.{argument_again, peer_again}
 use Rattle.nm_script.proofs.CommandTakenLemmas.{argument_taken}
 use Rattle.nm_script.proofs.CommandLemmas.{pick_again, rank_again}
 use Rattle.nm_script.proofs.CommandTakenLemmas.{peer_taken, pick_taken, rank_taken}
 use Rattle.nm_script.proofs.KeywordLemmas.{keyword_taken, keyword_again}
-use Rattle.nm_script.proofs.StepLemmas.{bind_err, err_or, found_in}
+use Rattle.nm_script.proofs.StepLemmas.{bind_err, err_or, found_in, only_first}
 use Rattle.nm_script.proofs.WordsStepLemmas.{bind_ok, chosen}
 
 -- ---- words that are refused
@@ -333,12 +333,6 @@ mrecv_fault ranks (name ∷ handle ∷ cap ∷ []) e h =
       ]
     ]
 mrecv_fault ranks (name ∷ handle ∷ cap ∷ x ∷ more) e h = inl (cc, λ n. omega (arith, n))
-
--- the first step failed, since the second never does
-pub only_first : {E A B : Type 0} (r : Result A E) (make : A → B) (e : E)
-    → (r >>= λ x. Ok (make x)) ≡ Err e → r ≡ Err e
-only_first (Ok x) make e h = cc
-only_first (Err d) make e h = let is : d ≡ e = cc in ap Err is
 
 arguments_fault : (ranks : ℕ) (k : Keyword) (ws : List (List ℕ)) (e : Kind) → ranks ≤ MAX_RANKS
     → arguments_of ranks k ws ≡ Err e → Faulty ranks (arguments k) ws e

@@ -4,7 +4,7 @@ use Rattle.std.proofs.Common.{◌&&◌, List, [], ◌∷◌, ◌++◌, length, g
 use Rattle.std.proofs.Common.{refl, sym}
 use Rattle.std.proofs.Common.{ap, ◌∙◌, arith, eqb, leb, add-one, append_assoc, length-append}
 use Rattle.std.proofs.Common.{length-drop}
-use Rattle.std.specs.List.{onto_first, list_all, position, position_or_len}
+use Rattle.std.specs.List.{join_with_byte, onto_first, list_all, position, position_or_len}
 use Rattle.std.proofs.lemmas.Bool.{and_parts, false≢true, eq-eqb, ne_eqb, eqb-true, lt-ltb}
 use Rattle.std.proofs.lemmas.Bool.Decides.{nat_tests}
 use Rattle.std.proofs.lemmas.List.{take_all}
@@ -183,3 +183,11 @@ lines_fed bs lines h printable some e =
 pub lines_split : (bs : List ℕ) (lines : List (List ℕ)) → list_all is_printable lines ≡ true
     → bs ≡ ended_lines lines → lines_of bs ≡ lines
 lines_split bs lines printable e = ap lines_of e ∙ lines_again lines printable
+
+-- a line that begins with a word is not empty
+pub some_joined : (word : List ℕ) (ws : List (List ℕ)) → 0 < length word
+    → is_some_line (join_with_byte 32 (word ∷ ws)) ≡ true
+some_joined word [] h = lt-ltb 0 (length word) h
+some_joined word (next ∷ ws) h =
+    let rest = 32 ∷ join_with_byte 32 (next ∷ ws) in
+    lt-ltb 0 (length (word ++ rest)) (omega (arith, length-append word rest))

@@ -1,9 +1,8 @@
 -- The rules of lines: which a command's line keeps, and which a line breaks that is refused.
-use Rattle.std.proofs.Common.{◌≡◌, ℕ, zero, suc, ◌+◌, ◌≤◌, ◌<◌, inl, inr, true, false, ◌&&◌}
-use Rattle.std.proofs.Common.{List, [], ◌∷◌, ◌++◌, length, Option, Some, None, Result, Ok, Err, nat_le, nat_lt}
+use Rattle.std.proofs.Common.{◌≡◌, ℕ, ◌+◌, ◌≤◌, ◌<◌, inl, inr, true, false, ◌&&◌}
+use Rattle.std.proofs.Common.{List, [], ◌∷◌, ◌++◌, length, Result, Ok, Err, nat_le, nat_lt}
 use Rattle.std.proofs.Common.{refl, sym, ap, ◌∙◌, arith, codes, decimal, subst, cond}
 use Rattle.std.specs.List.{join_with_byte}
-use Rattle.std.specs.Str.{bytes_eq}
 use Rattle.std.proofs.lemmas.Bool.{leb-true, ltb-true, ltb-false}
 use Rattle.nm_types.specs.declared.limits.TheConstants.{MAX_RANKS, MAX_NAME, MAX_TAG, MAX_CONTEXT}
 use Rattle.nm_types.specs.declared.limits.TheConstants.{MAX_CAPACITY, MAX_BODY, MAX_LINES, MAX_BODIES}
@@ -21,19 +20,19 @@ use Rattle.nm_script.specs.declared.faults.Kind.TheVariants as kind
 use Rattle.nm_script.specs.declared.keywords.Keyword.{Keyword}
 use Rattle.nm_script.specs.Arguments.{arguments, Each, IsBodyThere, IsSpelled, IsUpTo}
 use Rattle.nm_script.specs.Commands.{line_of}
-use Rattle.nm_script.specs.Decimal.{number_of}
 use Rattle.nm_script.specs.Faults.{◌>>=◌}
 use Rattle.nm_script.specs.Keywords.{keyword_text}
 use Rattle.nm_script.specs.Lines.{is_printable, words_of}
-use Rattle.nm_script.specs.Reading.{positive, ranks_of, ranks_at, fitting, line_at}
-use Rattle.nm_script.specs.Rules.{ranks_text, IsLine, KeepsRule, FirstKeeps, first_kinds, line_kinds}
-use Rattle.nm_script.specs.Rules.{IsFirstOf, AllKept}
+use Rattle.nm_script.specs.Reading.{fitting, line_at}
+use Rattle.nm_script.specs.Rules.{IsLine, KeepsRule, line_kinds}
+use Rattle.nm_script.specs.TextRules.{AllKept, IsFirstOf}
 use Rattle.nm_script.specs.Spelled.{has_bytes}
 use Rattle.nm_script.proofs.CommandLemmas.{Fits, arguments_in, keyword_in, line_again, line_words}
 use Rattle.nm_script.proofs.CommandTakenLemmas.{line_taken}
 use Rattle.nm_script.proofs.CommandLemmas.{words_are}
 use Rattle.nm_script.proofs.FaultLemmas.{one_keyword, words_fault}
-use Rattle.nm_script.proofs.ReadLemmas.{first_solid, line_at_taken, ranks_again}
+use Rattle.nm_script.proofs.FirstLineLemmas.{none_first}
+use Rattle.nm_script.proofs.LineAtLemmas.{line_at_taken}
 use Rattle.nm_script.proofs.StepLemmas.{bind_err, four_parts, five_parts}
 use Rattle.nm_script.proofs.WordsStepLemmas.{chosen}
 use Rattle.nm_script.proofs.WordLemmas.{line_is, joined_printable, words_again}
@@ -266,61 +265,6 @@ line_fault ranks number total text e few h =
       )
       | inr p ↦ inl (cc (p.1), λ yes. cc (p.0, yes))
     ]
-
--- ---- the first line
-
-positive_kind : (o : Option ℕ) (e : Kind) → positive o ≡ Err e → e ≡ kind.First
-positive_kind None e h = cc
-positive_kind (Some zero) e h = cc
-positive_kind (Some (suc n)) e h = cc
-
-ranks_kind : (ws : List (List ℕ)) (e : Kind) → ranks_of ws ≡ Err e → e ≡ kind.First
-unfolding ranks_of
-ranks_kind [] e h = cc
-ranks_kind (name ∷ []) e h = cc
-ranks_kind (name ∷ count ∷ []) e h =
-    elim (chosen (bytes_eq name (codes "ranks")) (positive (number_of (MAX_RANKS + 1) count))
-    (Err kind.First) (Err e) h) [
-      | inl p ↦ positive_kind (number_of (MAX_RANKS + 1) count) e p.1
-      | inr p ↦ cc (p.1)
-    ]
-ranks_kind (name ∷ count ∷ x ∷ more) e h = cc
-
-pub ranks_fault : (text : List ℕ) (e : Kind) → ranks_at text ≡ Err e
-    → IsFirstOf (FirstKeeps text) first_kinds e
-unfolding ranks_at
-ranks_fault text e h =
-    let no : ¬ (FirstKeeps text kind.First) = λ is.
-    let same : ranks_at text ≡ Ok is.0 = ap ranks_at is.3 ∙ ranks_again is.0 is.1 is.2 in cc (same, h) in
-    elim (chosen (is_printable text) (ranks_of (words_of text)) (Err kind.NotAscii) (Err e) h) [
-      | inl p ↦ inr (p.0, inl (ranks_kind (words_of text) e p.1, no))
-      | inr p ↦ inl (cc (p.1), λ yes. cc (p.0, yes))
-    ]
-
-pub ranks_kept : (text : List ℕ) (ranks : ℕ)
-    → (text ≡ ranks_text ranks) × (0 < ranks) × (ranks ≤ MAX_RANKS)
-    → AllKept (FirstKeeps text) first_kinds
-ranks_kept text ranks h = (
-  ap is_printable h.0 ∙ joined_printable (codes "ranks") (decimal ranks ∷ []) (first_solid ranks h.2),
-  ((ranks, h.1, h.2, h.0), tt),
-)
-
--- ---- the first of the rules that are broken is one
-
-pub one_first : (keeps : Kind → Type 0) (kinds : List Kind) (a b : Kind) → IsFirstOf keeps kinds a
-    → IsFirstOf keeps kinds b → a ≡ b
-one_first keeps [] a b x y = absurd x
-one_first keeps (k ∷ kinds) a b x y =
-    elim x [
-      | inl p ↦ elim y [ inl q ↦ p.0 ∙ sym q.0 | inr q ↦ absurd (p.1 q.0) ]
-      | inr p ↦ elim y [ inl q ↦ absurd (q.1 p.0) | inr q ↦ one_first keeps kinds a b p.1 q.1 ]
-    ]
-
-pub none_first : (keeps : Kind → Type 0) (kinds : List Kind) (a : Kind) → AllKept keeps kinds
-    → IsFirstOf keeps kinds a → ⊥
-none_first keeps [] a all x = x
-none_first keeps (k ∷ kinds) a all x =
-    elim x [ inl p ↦ p.1 all.0 | inr p ↦ none_first keeps kinds a all.1 p.1 ]
 
 -- a text that keeps every rule is a command's line at its place
 pub only_lines : (ranks number total : ℕ) (text : List ℕ) → ranks ≤ MAX_RANKS

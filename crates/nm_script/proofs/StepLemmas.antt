@@ -1,6 +1,6 @@
 -- Steps that may fail, tests and choices, taken apart.
 use Rattle.std.proofs.Common.{◌≡◌, ℕ, ◌⊎◌, inl, inr, Bool, true, false, ◌&&◌, cond}
-use Rattle.std.proofs.Common.{Option, Some, None, Result, Ok, Err, refl, ap}
+use Rattle.std.proofs.Common.{Option, Some, None, Result, Ok, Err, refl, ap, sym}
 use Rattle.std.specs.Option.{ok_or}
 use Rattle.std.proofs.lemmas.Bool.{and_from, and_parts}
 use Rattle.nm_script.specs.declared.faults.Kind.{Kind}
@@ -14,7 +14,7 @@ bind_err (Ok x) f e h = inr (x, refl, h)
 bind_err (Err d) f e h = inl (let is : d ≡ e = cc in ap Err is)
 
 -- where there is nothing, this is the fault
-pub err_or : {A : Type 0} (o : Option A) (d e : Kind) → ok_or o d ≡ Err e → (o ≡ None) × (e ≡ d)
+pub err_or : {A K : Type 0} (o : Option A) (d e : K) → ok_or o d ≡ Err e → (o ≡ None) × (e ≡ d)
 err_or (Some x) d e h = cc
 err_or None d e h = (refl, cc)
 
@@ -22,6 +22,11 @@ pub guard_ok : {A E : Type 0} (b : Bool) (x : Result A E) (e : E) (y : A) → co
     → (b ≡ true) × (x ≡ Ok y)
 guard_ok true x e y h = (refl, h)
 guard_ok false x e y h = cc
+
+pub guard_some : {A : Type 0} (b : Bool) (o : Option A) (y : A) → cond b o None ≡ Some y
+    → (b ≡ true) × (o ≡ Some y)
+guard_some true o y h = (refl, h)
+guard_some false o y h = cc
 
 pub unless_ok : {A E : Type 0} (b : Bool) (x : Result A E) (e : E) (y : A) → cond b (Err e) x ≡ Ok y
     → (b ≡ false) × (x ≡ Ok y)
@@ -32,13 +37,26 @@ pub found : (o : Option ℕ) (e : Kind) (n : ℕ) → ok_or o e ≡ Ok n → o �
 found (Some m) e n h = cc
 found None e n h = cc
 
-pub found_in : {A : Type 0} (o : Option A) (e : Kind) (x : A) → ok_or o e ≡ Ok x → o ≡ Some x
+pub found_in : {A K : Type 0} (o : Option A) (e : K) (x : A) → ok_or o e ≡ Ok x → o ≡ Some x
 found_in (Some y) e x h = cc
 found_in None e x h = cc
 
-pub at_line_ok : {A : Type 0} (k : ℕ) (r : Result A Kind) (x : A) → at_line k r ≡ Ok x → r ≡ Ok x
+pub at_line_ok : {A K : Type 0} (k : ℕ) (r : Result A K) (x : A) → at_line k r ≡ Ok x → r ≡ Ok x
 at_line_ok k (Ok y) x h = cc
 at_line_ok k (Err e) x h = cc
+
+pub at_line_err : {A K : Type 0} (k n : ℕ) (r : Result A K) (e : K) → at_line k r ≡ Err (n, e)
+    → (n ≡ k) × (r ≡ Err e)
+at_line_err k n (Ok x) e h = cc
+at_line_err {A} {K} k n (Err d) e h =
+    let is : ◌≡◌ {A = ℕ × K} (k, d) (n, e) = cc (h) in
+    (sym (ap (λ (x : ℕ × K). x.0) is), ap Err (ap (λ (x : ℕ × K). x.1) is))
+
+-- the first step failed, since the second never does
+pub only_first : {E A B : Type 0} (r : Result A E) (make : A → B) (e : E)
+    → (r >>= λ x. Ok (make x)) ≡ Err e → r ≡ Err e
+only_first (Ok x) make e h = cc
+only_first (Err d) make e h = let is : d ≡ e = cc in ap Err is
 
 pub three_from : (a b c : Bool) → a ≡ true → b ≡ true → c ≡ true → (a && b && c) ≡ true
 three_from a b c x y z = and_from (a && b) c (and_from a b x y) z

@@ -13,3 +13,5 @@ pub mod Lines
 pub mod Reading
 pub mod Rules
 pub mod Spelled
+pub mod TextReading
+pub mod TextRules

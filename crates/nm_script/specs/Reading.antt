@@ -1,8 +1,9 @@
--- Reading a script, line by line: what it gives, or the first fault.
-use Rattle.std.specs.Prelude.{ℕ, zero, suc, ◌+◌, List, [], ◌∷◌, Option, Some, None}
-use Rattle.std.specs.Prelude.{Result, Ok, Err, nat_lt, if◌then◌else◌, codes}
+-- Reading a script: what a line gives, or its fault.
+use Rattle.std.specs.Prelude.{ℕ, zero, suc, ◌+◌, List, [], ◌∷◌, Option, Some, None, length}
+use Rattle.std.specs.Prelude.{Result, Ok, Err, nat_lt, if◌then◌else◌, codes, sum_by}
+use Rattle.std.specs.Option.{ok_or}
 use Rattle.std.specs.Str.{bytes_eq}
-use Rattle.nm_types.specs.declared.limits.TheConstants.{MAX_RANKS, MAX_LINES, MAX_BODIES, MAX_TEXT}
+use Rattle.nm_types.specs.declared.limits.TheConstants.{MAX_RANKS, MAX_LINES, MAX_BODIES}
 use Rattle.nm_types.specs.declared.scripts.Line.{Line}
 use Rattle.nm_types.specs.declared.scripts.Script.{Script}
 use Rattle.nm_types.specs.Limits.{sent_len}
@@ -10,25 +11,26 @@ use Rattle.nm_script.specs.declared.faults.Kind.{Kind}
 use Rattle.nm_script.specs.declared.faults.Kind.TheVariants as kind
 use Rattle.nm_script.specs.Commands.{line_of}
 use Rattle.nm_script.specs.Decimal.{number_of}
-use Rattle.nm_script.specs.Faults.{◌>>=◌, at_line}
-use Rattle.nm_script.specs.Lines.{is_printable, lines_of, text_len, words_of}
+use Rattle.nm_script.specs.Faults.{◌>>=◌}
+use Rattle.nm_script.specs.Lines.{is_printable, words_of}
+use Rattle.nm_script.specs.TextReading.{Reader, read_in}
 
 -- one rank or more
-abbrev pub positive : Option ℕ → Result ℕ Kind
-positive (Some (suc n)) = Ok (suc n)
-positive (Some zero) = Err kind.First
-positive None = Err kind.First
+abbrev pub positive : Option ℕ → Option ℕ
+positive (Some (suc n)) = Some (suc n)
+positive (Some zero) = None
+positive None = None
 
 -- the number of ranks, by the words of the first line
-unfoldable pub ranks_of : List (List ℕ) → Result ℕ Kind
+unfoldable pub ranks_of : List (List ℕ) → Option ℕ
 ranks_of (name ∷ count ∷ []) =
-    if bytes_eq name (codes "ranks") then positive (number_of (MAX_RANKS + 1) count)
-    else Err kind.First
-ranks_of _ = Err kind.First
+    if bytes_eq name (codes "ranks") then positive (number_of (MAX_RANKS + 1) count) else None
+ranks_of _ = None
 
--- the first line
-unfoldable pub ranks_at : List ℕ → Result ℕ Kind
-ranks_at line = if is_printable line then ranks_of (words_of line) else Err kind.NotAscii
+-- the first line, with these faults where a byte is not printable, and where it says no number of ranks
+unfoldable pub ranks_at : {K : Type 0} → K → K → List ℕ → Result ℕ K
+ranks_at odd none line =
+    if is_printable line then ok_or (ranks_of (words_of line)) none else Err odd
 
 -- the line, if its body fits behind those before it
 abbrev pub fitting : ℕ → Line → Result Line Kind
@@ -43,26 +45,22 @@ line_at ranks k total line =
     else line_of ranks (words_of line) >>= fitting total)
     else Err kind.NotAscii
 
--- the lines from line k on
-unfoldable pub lines_from : ℕ → ℕ → ℕ → List (List ℕ) → Result (List Line) (ℕ × Kind)
-lines_from ranks k total [] = Ok []
-lines_from ranks k total (line ∷ lines) = do
-  first ← at_line k (line_at ranks k total line)
-  others ← lines_from ranks (k + 1) (total + sent_len first.command) lines
-  Ok (first ∷ others)
+-- how long the bodies of lines are together
+abbrev pub bodies_len : List Line → ℕ
+bodies_len lines = sum_by (λ line. sent_len line.command) lines
 
--- a text without bytes has one empty line
-abbrev pub script_of : List (List ℕ) → Result (ℕ × List Line) (ℕ × Kind)
-script_of [] = Err (1, kind.First)
-script_of (first ∷ others) = do
-  ranks ← at_line 1 (ranks_at first)
-  lines ← lines_from ranks 2 0 others
-  Ok (ranks, lines)
+-- how scripts are read
+abbrev pub script_reader : Reader Line Kind
+script_reader = record {
+  first_at = ranks_at kind.NotAscii kind.First;
+  line_at = λ ranks before text. line_at ranks (length before + 2) (bodies_len before) text;
+  too_long = kind.TooLong;
+  no_first = kind.First;
+}
 
 -- the whole text
 unfoldable pub read_of : List ℕ → Result (ℕ × List Line) (ℕ × Kind)
-read_of bytes =
-    if nat_lt MAX_TEXT (text_len bytes) then Err (0, kind.TooLong) else script_of (lines_of bytes)
+read_of bytes = read_in script_reader bytes
 
 -- a script without where it lies in memory
 abbrev pub parts : Script → ℕ × List Line

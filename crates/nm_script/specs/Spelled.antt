@@ -1,15 +1,12 @@
 -- The script that bytes spell, and what reading promises.
-use Rattle.std.specs.Prelude.{◌≡◌, ℕ, Bool, true, List, Result, Ok, Err, nat_lt}
+use Rattle.std.specs.Prelude.{ℕ, Bool, true, List, nat_lt}
 use Rattle.std.specs.List.{list_all}
 use Rattle.nm_types.specs.declared.scripts.Body.{Body}
 use Rattle.nm_types.specs.declared.scripts.Body.TheVariants.{Hex, Gen}
 use Rattle.nm_types.specs.declared.scripts.Command.{Command}
 use Rattle.nm_types.specs.declared.scripts.Command.TheVariants.{Send}
 use Rattle.nm_types.specs.declared.scripts.Line.{Line}
-use Rattle.nm_types.specs.declared.scripts.Script.{Script}
 use Rattle.nm_types.specs.Limits.{IsScriptOf}
-use Rattle.nm_script.specs.declared.faults.ScriptFault.{ScriptFault}
-use Rattle.nm_script.specs.declared.faults.ScriptFault.TheVariants as fault
 
 -- a body that is written out has bytes, which are numbers below 256
 abbrev pub are_bytes : Body → Bool
@@ -28,9 +25,3 @@ IsTextOf bytes ranks lines = IsScriptOf has_bytes bytes ranks lines
 -- the bytes spell no script
 abbrev pub SpellsNone : List ℕ → Type 0
 SpellsNone bytes = (ranks : ℕ) (lines : List Line) → ¬ (IsTextOf bytes ranks lines)
-
--- the answer is this script, unless memory ran out
-abbrev pub AnswersScript : Result Script ScriptFault → ℕ → List Line → Type 0
-AnswersScript (Ok script) ranks lines = (script.ranks ≡ ranks) × (script.lines ≡ lines)
-AnswersScript (Err fault.Memory) ranks lines = Unit {0}
-AnswersScript (Err (fault.Bad line e)) ranks lines = ⊥

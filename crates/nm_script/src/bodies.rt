@@ -12,7 +12,7 @@ use std::alloc::Global;
 
 /// The body that hex digits spell, of the length that a body may have.
 #[tactic(auto, unfolding(crate::specs::Bodies::hex_of))]
-fn hex_from(alloc: Global, digits: &[u8]) -> Result<Body, LineFault>
+fn hex_from(alloc: Global, digits: &[u8]) -> Result<Body, LineFault<Kind>>
     ensures { Gives result (hex_of digits.now) }
 {
     if digits.len() > 2 * MAX_BODY as usize || !are_lower_digits(digits) {
@@ -37,7 +37,7 @@ fn generated(digits: &[u8]) -> Result<Body, Kind>
 
 /// The body that a word spells.
 #[tactic(auto, unfolding(crate::specs::Bodies::body_of))]
-pub fn body_from(alloc: Global, word: &[u8]) -> Result<Body, LineFault>
+pub fn body_from(alloc: Global, word: &[u8]) -> Result<Body, LineFault<Kind>>
     ensures { Gives result (body_of word.now) }
 {
     match word {

@@ -99,7 +99,7 @@ fn send_with(
     tag: &[u8],
     ctx: &[u8],
     body: &[u8],
-) -> Result<Command, LineFault>
+) -> Result<Command, LineFault<Kind>>
     ensures { Gives result (send_with ranks sync name.now to.now tag.now ctx.now body.now) }
 {
     let q = name_from(name)?;
@@ -123,7 +123,7 @@ fn send_from(
     ranks: u8,
     sync: bool,
     arguments: &[&[u8]],
-) -> Result<Command, LineFault>
+) -> Result<Command, LineFault<Kind>>
     ensures { Gives result (send_of ranks sync (map (λ word. word.now) arguments.now)) }
 {
     match arguments {
@@ -236,7 +236,7 @@ fn arguments_from(
     ranks: u8,
     keyword: Keyword,
     arguments: &[&[u8]],
-) -> Result<Command, LineFault>
+) -> Result<Command, LineFault<Kind>>
     ensures { Gives result (arguments_of ranks keyword (map (λ word. word.now) arguments.now)) }
 {
     match keyword {
@@ -272,7 +272,7 @@ fn command_from(
     ranks: u8,
     name: &[u8],
     arguments: &[&[u8]],
-) -> Result<Command, LineFault>
+) -> Result<Command, LineFault<Kind>>
     ensures { Gives result (command_of ranks name.now (map (λ word. word.now) arguments.now)) }
 {
     match keyword_from(name) {
@@ -289,7 +289,7 @@ fn line_with(
     first: &[u8],
     name: &[u8],
     arguments: &[&[u8]],
-) -> Result<Line, LineFault>
+) -> Result<Line, LineFault<Kind>>
     ensures { Gives result
         (line_of ranks (first.now ∷ name.now ∷ map (λ word. word.now) arguments.now)) }
 {
@@ -300,7 +300,7 @@ fn line_with(
 
 /// A line that isn't the first, by its words.
 #[tactic(auto, unfolding(crate::specs::Commands::line_of))]
-pub fn line_from(alloc: Global, ranks: u8, words: &[&[u8]]) -> Result<Line, LineFault>
+pub fn line_from(alloc: Global, ranks: u8, words: &[&[u8]]) -> Result<Line, LineFault<Kind>>
     ensures { Gives result (line_of ranks (map (λ word. word.now) words.now)) }
 {
     match words {

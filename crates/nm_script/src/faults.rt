@@ -28,66 +28,80 @@ pub enum Kind {
     BodyTotal,
 }
 
-/// Why no script was read.
+/// Why no text was read, whose lines can have faults of these kinds.
 #[derive(Clone, Copy, Debug, PartialEq)]
-pub enum ScriptFault {
-    /// The bytes spell no script: the fault of a line, counted from 1, or of the whole text at 0.
-    Bad { line: u32, kind: Kind },
+pub enum TextFault<K> {
+    /// The bytes are no such text: the fault of a line, counted from 1, or of the whole text at 0.
+    Bad { line: u32, kind: K },
     /// Want of memory. It says nothing of the bytes.
     Memory,
 }
 
+/// Why no script was read.
+pub type ScriptFault = TextFault<Kind>;
+
 /// Why a line can't be read, before its number is known.
 #[derive(Clone, Copy)]
-pub enum LineFault {
-    Bad(Kind),
+pub enum LineFault<K> {
+    Bad(K),
     Memory,
 }
 
-impl LineFault {
+impl<K: Copy> LineFault<K> {
     ghost use Rattle.std.specs.Prelude.{◌≡◌};
     ghost use Rattle.nm_script.specs.Faults.{fault_at};
 
     /// The fault with the number of its line.
-    pub fn at(self, line: u32) -> ScriptFault
+    pub fn at(self, line: u32) -> TextFault<K>
         ensures { result ≡ fault_at line self }
     {
         match self {
-            LineFault::Bad(kind) => ScriptFault::Bad { line, kind },
-            LineFault::Memory => ScriptFault::Memory,
+            LineFault::Bad(kind) => TextFault::Bad { line, kind },
+            LineFault::Memory => TextFault::Memory,
         }
     }
 }
 
-impl From<Kind> for LineFault {
+impl From<Kind> for LineFault<Kind> {
     ghost use Rattle.std.specs.Prelude.{◌≡◌};
     ghost use Rattle.nm_script.specs.declared.faults.LineFault.TheVariants.{Bad};
 
     ghost from_gives = { λ kind fault. fault ≡ Bad kind };
 
-    fn from(kind: Kind) -> LineFault {
+    fn from(kind: Kind) -> LineFault<Kind> {
         LineFault::Bad(kind)
     }
 }
 
-impl From<AllocError> for LineFault {
+impl<K: Copy> From<AllocError> for LineFault<K> {
     ghost use Rattle.std.specs.Prelude.{◌≡◌};
     ghost use Rattle.nm_script.specs.declared.faults.LineFault.TheVariants as fault;
 
     ghost from_gives = { λ _ e. e ≡ fault.Memory };
 
-    fn from(_e: AllocError) -> LineFault {
+    fn from(_e: AllocError) -> LineFault<K> {
         LineFault::Memory
     }
 }
 
-impl From<Memory> for ScriptFault {
+impl<K: Copy> From<Memory> for LineFault<K> {
     ghost use Rattle.std.specs.Prelude.{◌≡◌};
-    ghost use Rattle.nm_script.specs.declared.faults.ScriptFault.TheVariants as fault;
+    ghost use Rattle.nm_script.specs.declared.faults.LineFault.TheVariants as fault;
 
     ghost from_gives = { λ _ e. e ≡ fault.Memory };
 
-    fn from(_e: Memory) -> ScriptFault {
-        ScriptFault::Memory
+    fn from(_e: Memory) -> LineFault<K> {
+        LineFault::Memory
+    }
+}
+
+impl<K: Copy> From<Memory> for TextFault<K> {
+    ghost use Rattle.std.specs.Prelude.{◌≡◌};
+    ghost use Rattle.nm_script.specs.declared.faults.TextFault.TheVariants as fault;
+
+    ghost from_gives = { λ _ e. e ≡ fault.Memory };
+
+    fn from(_e: Memory) -> TextFault<K> {
+        TextFault::Memory
     }
 }

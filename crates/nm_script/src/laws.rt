@@ -8,7 +8,8 @@ ghost use Rattle.nm_types.specs.Limits.{IsScript, sent_len};
 ghost use Rattle.nm_types.specs.Text.{script_text};
 ghost use Rattle.nm_script.specs.Lines.{with_feed, words_of};
 ghost use Rattle.nm_script.specs.declared.faults.Kind.{Kind};
-ghost use Rattle.nm_script.specs.Rules.{AllKept, IsFirstFault, IsLine, KeepsRule, line_kinds};
+ghost use Rattle.nm_script.specs.Rules.{IsFirstFault, IsLine, KeepsRule, line_kinds};
+ghost use Rattle.nm_script.specs.TextRules.{AllKept};
 ghost use Rattle.nm_script.specs.Spelled.{IsTextOf, has_bytes};
 
 /// Bytes spell at most one script.

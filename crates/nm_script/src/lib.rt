@@ -22,8 +22,10 @@
 //! case, two a byte, or `g` and how many bytes are generated. A text that has anything else is
 //! refused, with its first fault.
 //!
-//! `words` reads and writes the lines, words, numbers and hex digits of any text, `command_line` says
-//! what the words of the command line ask for, and `flood` makes scripts of three numbers.
+//! `texts` has what scripts and plans share: their first line, the rules of texts of lines, and how
+//! such a text is read. `words` reads and writes the lines, words, numbers and hex digits of any text,
+//! `command_line` says what the words of the command line ask for, and `flood` makes scripts of three
+//! numbers.
 //!
 //! # What a contract sees
 //! The text of a script and its limits, which `nm_types` defines (`Spelled`: `IsTextOf`). The rules
@@ -52,12 +54,13 @@ mod keywords;
 pub mod laws;
 mod lengths;
 mod reading;
+pub mod texts;
 pub mod words;
 mod writing;
 
 pub use bodies::body_from;
 pub use commands::rank_from;
-pub use faults::{Kind, LineFault, ScriptFault};
+pub use faults::{Kind, LineFault, ScriptFault, TextFault};
 pub use lengths::{command_len, is_too_long};
 pub use reading::read;
 pub use writing::write;

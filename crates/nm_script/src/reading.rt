@@ -1,66 +1,25 @@
 //! The whole text: its length, its first line, and one line after the other.
 
-ghost use Rattle.std.specs.Prelude.{◌≡◌, ◌<◌, ◌^◌, ◌≤◌, ◌+◌, ℕ, List, [], ◌∷◌, map};
+ghost use Rattle.std.specs.Prelude.{◌≡◌, ◌<◌, ◌^◌, ◌≤◌, ◌+◌, ℕ, List, []};
 ghost use Rattle.std.specs.Prelude.{IfErr, IfOk, OnOk};
 ghost use Rattle.nm_types.specs.declared.scripts.Line.{Line};
 ghost use Rattle.nm_types.specs.Limits.{sent_len};
 ghost use Rattle.nm_script.specs.Faults.{Gives, GivesAt, at_line};
 ghost use Rattle.nm_script.specs.Lines.{lines_of};
-ghost use Rattle.nm_script.specs.Reading.{ranks_of, ranks_at, line_at, lines_from, read_of, parts};
+ghost use Rattle.nm_script.specs.Reading.{line_at, parts, read_of, script_reader};
 ghost use Rattle.nm_script.specs.declared.faults.Kind.{Kind};
-ghost use Rattle.nm_script.specs.Rules.{IsFault, IsFirstFault, IsRefused};
-ghost use Rattle.nm_script.specs.Spelled.{IsTextOf, AnswersScript};
+ghost use Rattle.nm_script.specs.Rules.{IsFirstFault, scripts};
+ghost use Rattle.nm_script.specs.Spelled.{IsTextOf};
+ghost use Rattle.nm_script.specs.TextReading.{AnswersText, IsRefused, lines_from};
+ghost use Rattle.nm_script.specs.TextRules.{IsFaultIn};
 
 use crate::commands::line_from;
 use crate::faults::{Kind, LineFault, ScriptFault};
 use crate::lengths::is_too_long;
-use crate::words::{is_printable, number, split_line, words};
-use nm_types::{Command, Line, Lines, MAX_BODIES, MAX_LINES, MAX_RANKS, Script};
+use crate::texts::first_line;
+use crate::words::{is_printable, split_line, words};
+use nm_types::{Command, Line, Lines, MAX_BODIES, MAX_LINES, Script};
 use std::alloc::Global;
-
-/// The number of ranks, by the two words of the first line.
-#[tactic(auto, unfolding(crate::specs::Reading::ranks_of))]
-fn ranks_with(name: &[u8], count: &[u8]) -> Result<u8, Kind>
-    ensures { result ≡ ranks_of (name.now ∷ count.now ∷ []) }
-{
-    if name != b"ranks".as_slice() {
-        return Err(Kind::First);
-    }
-    match number(count, u64::from(MAX_RANKS) + 1) {
-        None | Some(0) => Err(Kind::First),
-        Some(ranks) => Ok(ranks as u8),
-    }
-}
-
-/// The number of ranks, by the words of the first line.
-#[tactic(auto, unfolding(crate::specs::Reading::ranks_of))]
-fn ranks_from(words: &[&[u8]]) -> Result<u8, Kind>
-    ensures { result ≡ ranks_of (map (λ word. word.now) words.now) }
-{
-    match words {
-        [name, count] => ranks_with(name, count),
-        _ => Err(Kind::First),
-    }
-}
-
-/// The number of ranks that the first line says.
-#[tactic(auto, unfolding(crate::specs::Reading::ranks_at))]
-fn ranks_in(alloc: Global, line: &[u8]) -> Result<u8, LineFault>
-    ensures { Gives result (ranks_at line.now) }
-{
-    if !is_printable(line) {
-        return Err(LineFault::Bad(Kind::NotAscii));
-    }
-    let words = words(alloc, line)?;
-    Ok(ranks_from(&words)?)
-}
-
-/// The first line, with its number at a fault.
-fn first_line(alloc: Global, line: &[u8]) -> Result<u8, ScriptFault>
-    ensures { GivesAt (λ n. n) result (at_line 1 (ranks_at line.now)) }
-{
-    ranks_in(alloc, line).map_err(|fault| fault.at(1))
-}
 
 /// How many bytes a command sends.
 fn sent_len(command: &Command) -> u32
@@ -81,7 +40,7 @@ fn line_in(
     number: u32,
     total: u32,
     line: &[u8],
-) -> Result<Line, LineFault>
+) -> Result<Line, LineFault<Kind>>
     requires { total ≤ MAX_BODIES }
     ensures exact { Gives result (line_at ranks number total line.now) }
     ensures in_lines { OnOk result (number ≤ MAX_LINES) }
@@ -120,7 +79,7 @@ fn other_line(
 
 /// The lines from the second on.
 fn other_lines(alloc: Global, ranks: u8, bytes: &[u8]) -> Result<Lines, ScriptFault>
-    ensures { GivesAt (λ lines. lines) result (lines_from ranks 2 0 (lines_of bytes.now)) }
+    ensures { GivesAt (λ lines. lines) result (lines_from script_reader ranks [] (lines_of bytes.now)) }
 {
     let mut lines = Lines::new(alloc);
     let mut rest = bytes;
@@ -155,7 +114,7 @@ fn read_exactly(alloc: Global, bytes: &[u8]) -> Result<Script, ScriptFault>
         });
     }
     let (line, rest) = split_line(bytes);
-    let ranks = first_line(alloc, line)?;
+    let ranks = first_line(alloc, line, Kind::NotAscii, Kind::First)?;
     let lines = other_lines(alloc, ranks, rest)?;
     Ok(Script { ranks, lines })
 }
@@ -167,8 +126,8 @@ fn read_exactly(alloc: Global, bytes: &[u8]) -> Result<Script, ScriptFault>
 pub fn read(alloc: Global, bytes: &[u8]) -> Result<Script, ScriptFault>
     ensures taken { IfOk result (λ script. IsTextOf bytes.now script.ranks script.lines) }
     ensures takes { (ranks : ℕ) (lines : List Line) →
-        IsTextOf bytes.now ranks lines → AnswersScript result ranks lines }
-    ensures fault { IfErr result (IsFault bytes.now) }
+        IsTextOf bytes.now ranks lines → AnswersText parts result ranks lines }
+    ensures fault { IfErr result (IsFaultIn scripts bytes.now) }
     ensures faults { (line : ℕ) (kind : Kind) →
         IsFirstFault bytes.now line kind → IsRefused result line kind }
 {

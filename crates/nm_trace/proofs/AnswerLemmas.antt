@@ -11,7 +11,8 @@ use Rattle.nm_script.proofs.WordsStepLemmas.{chosen}
 use Rattle.nm_trace.specs.Events.{answer_of, lone_of, showing_of}
 use Rattle.nm_trace.specs.Sorts.{lone_answer, lone_answers, lone_text}
 use Rattle.nm_trace.specs.Notes.{spoken_words, BareIn}
-use Rattle.nm_trace.proofs.FieldLemmas.{bind_some, guard_some, same_bytes, small_again, middle_again}
+use Rattle.nm_script.proofs.StepLemmas.{guard_some}
+use Rattle.nm_trace.proofs.FieldLemmas.{bind_some, same_bytes, small_again, middle_again}
 use Rattle.nm_trace.proofs.FieldLemmas.{large_again, long_again, small_taken, middle_taken}
 use Rattle.nm_trace.proofs.FieldLemmas.{large_taken, long_taken}
 

@@ -11,7 +11,8 @@ use Rattle.nm_trace.specs.Events.{pair_of}
 use Rattle.nm_trace.specs.Machine.{waits_of, cells_of, cells_with, end_of}
 use Rattle.nm_trace.specs.Notes.{pair_words, waits_words, cells_words, end_word}
 use Rattle.nm_trace.specs.Traces.{PairIn, CellsIn}
-use Rattle.nm_trace.proofs.FieldLemmas.{bind_some, guard_some, same_bytes, small_again, large_again}
+use Rattle.nm_script.proofs.StepLemmas.{guard_some}
+use Rattle.nm_trace.proofs.FieldLemmas.{bind_some, same_bytes, small_again, large_again}
 use Rattle.nm_trace.proofs.FieldLemmas.{huge_again, small_taken, large_taken, huge_taken}
 
 pub pair_again : (p : PairCount) → PairIn p → pair_of (pair_words p) ≡ Some p

@@ -24,7 +24,8 @@ use Rattle.nm_trace.specs.Notes.{NoteIn, note_line, note_words, pair_words, end_
 use Rattle.nm_trace.specs.Steps.{◌>>=◌}
 use Rattle.nm_trace.specs.Texts.{InOrder, Right, state_text, closing_text}
 use Rattle.nm_trace.proofs.EndLemmas.{pair_taken, end_taken}
-use Rattle.nm_trace.proofs.FieldLemmas.{bind_some, guard_some}
+use Rattle.nm_script.proofs.StepLemmas.{guard_some}
+use Rattle.nm_trace.proofs.FieldLemmas.{bind_some}
 use Rattle.nm_trace.proofs.NoteLemmas.{note_taken}
 use Rattle.nm_trace.proofs.SoundLemmas.{or_cases, settle_same, raised, more_ranks, telling_sound}
 use Rattle.nm_trace.proofs.TextLemmas.{one_more}

@@ -1,6 +1,6 @@
 -- Words of a line, both ways: numbers of each width, sources, tags, and choices of two words.
 use Rattle.std.proofs.Common.{◌≡◌, ℕ, ◌<◌, ◌^◌, inl, inr, Bool, true, false, List}
-use Rattle.std.proofs.Common.{Option, Some, None, cond, refl, arith, codes, decimal}
+use Rattle.std.proofs.Common.{Option, Some, None, refl, arith, codes, decimal}
 use Rattle.std.specs.Str.{bytes_eq}
 use Rattle.std.proofs.lemmas.Bool.{false_from_ne_true}
 use Rattle.std.proofs.lemmas.Slice.Eq.{bytes_eq-Decides}
@@ -15,6 +15,7 @@ use Rattle.nm_report.specs.Events.{how_word, done_word}
 use Rattle.nm_script.specs.Decimal.{number_of}
 use Rattle.nm_script.proofs.NumberLemmas.{number_taken, number_again}
 use Rattle.nm_script.proofs.WordsStepLemmas.{chosen}
+use Rattle.nm_script.proofs.StepLemmas.{guard_some}
 use Rattle.nm_trace.specs.Events.{peer_of, pick_of, how_of, done_of}
 use Rattle.nm_trace.specs.Steps.{◌>>=◌}
 use Rattle.nm_trace.specs.Traces.{PeerIn, PickIn}
@@ -24,12 +25,6 @@ pub bind_some : {A B : Type 0} (o : Option A) (f : A → Option B) (y : B) → (
     → (x : A) × (o ≡ Some x) × (f x ≡ Some y)
 bind_some (Some x) f y h = (x, refl, h)
 bind_some None f y h = cc
-
--- the test passed
-pub guard_some : {A : Type 0} (b : Bool) (o : Option A) (y : A) → cond b o None ≡ Some y
-    → (b ≡ true) × (o ≡ Some y)
-guard_some true o y h = (refl, h)
-guard_some false o y h = cc
 
 pub same_bytes : (a b : List ℕ) → bytes_eq a b ≡ true → a ≡ b
 same_bytes a b h = (bytes_eq-Decides a b).0 h

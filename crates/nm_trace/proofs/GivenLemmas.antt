@@ -21,7 +21,8 @@ use Rattle.nm_script.proofs.DigitLemmas.{all_lower, lower_pairs}
 use Rattle.nm_trace.specs.Answers.{has_line, start_words, answer_start, behind, decoded}
 use Rattle.nm_trace.specs.Answers.{bytes_of, given_answer, given_what}
 use Rattle.nm_trace.specs.Notes.{BareIn, bare, bytes_in, answer_text, IsGiven, HasBytes}
-use Rattle.nm_trace.proofs.FieldLemmas.{bind_some, guard_some, same_bytes}
+use Rattle.nm_script.proofs.StepLemmas.{guard_some}
+use Rattle.nm_trace.proofs.FieldLemmas.{bind_some, same_bytes}
 
 -- one word more
 join_last : (word : List ℕ) (words : List (List ℕ)) (last : List ℕ)

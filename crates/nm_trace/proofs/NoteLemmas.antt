@@ -16,7 +16,8 @@ use Rattle.nm_trace.specs.Steps.{◌>>=◌}
 use Rattle.nm_trace.specs.Traces.{WhatIn}
 use Rattle.nm_trace.proofs.AnswerLemmas.{answer_again, answer_taken, found_all}
 use Rattle.nm_trace.proofs.EventLemmas.{sort_is, rest_words, plain_again, plain_taken}
-use Rattle.nm_trace.proofs.FieldLemmas.{bind_some, guard_some, same_bytes, small_again, huge_again}
+use Rattle.nm_script.proofs.StepLemmas.{guard_some}
+use Rattle.nm_trace.proofs.FieldLemmas.{bind_some, same_bytes, small_again, huge_again}
 use Rattle.nm_trace.proofs.FieldLemmas.{large_again, small_taken, large_taken, huge_taken}
 
 pub sort_again : (s : Sort) → sort_of (sort_text s) ≡ Some s

@@ -23,7 +23,8 @@ use Rattle.nm_trace.specs.Notes.{ToldIn, waits_words, cells_words}
 use Rattle.nm_trace.specs.Steps.{◌>>=◌}
 use Rattle.nm_trace.specs.Texts.{InOrder, state_text, telling_text, events_from, answers_from}
 use Rattle.nm_trace.proofs.EndLemmas.{waits_taken, cells_taken}
-use Rattle.nm_trace.proofs.FieldLemmas.{bind_some, guard_some}
+use Rattle.nm_script.proofs.StepLemmas.{guard_some}
+use Rattle.nm_trace.proofs.FieldLemmas.{bind_some}
 use Rattle.nm_trace.proofs.TextLemmas.{event_more, rank_more, plain_line, IsGivenEvent, ran_given}
 
 pub true_or_false : (b : Bool) → (b ≡ true) ⊎ (b ≡ false)

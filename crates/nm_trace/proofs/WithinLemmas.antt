@@ -25,7 +25,8 @@ use Rattle.nm_trace.specs.Texts.{InOrder, Right}
 use Rattle.nm_trace.specs.Traces.{AnswerIn, CellsIn, EndIn, EventIn, PairIn, WaitsIn, WhatIn}
 use Rattle.nm_trace.proofs.EndLemmas.{cells_taken, pair_taken, waits_taken}
 use Rattle.nm_trace.proofs.FeedLemmas.{feed_next}
-use Rattle.nm_trace.proofs.FieldLemmas.{bind_some, guard_some}
+use Rattle.nm_script.proofs.StepLemmas.{guard_some}
+use Rattle.nm_trace.proofs.FieldLemmas.{bind_some}
 use Rattle.nm_trace.proofs.GivenLemmas.{line_taken}
 use Rattle.nm_trace.proofs.SoundLemmas.{more_ranks, or_cases, raised, settle_same}
 use Rattle.nm_trace.proofs.SoundLemmas.{true_or_false}

@@ -1,7 +1,7 @@
 -- Reading gives a script or a fault, and it gives one.
 use Rattle.std.proofs.Common.{refl}
 use Rattle.nm_script.specs.Reading.{read_of}
-use Rattle.nm_script.proofs.FirstFaultLemmas.{either_is, not_both, one_fault}
+use Rattle.nm_script.proofs.ReadLemmas.{either_is, not_both, one_fault}
 use Rattle.nm_script.proofs.laws.a_text_is_a_script_or_has_a_fault.Goals as goal
 
 pub returns-clause-either : goal.returns-clause-either
