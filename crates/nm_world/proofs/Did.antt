@@ -8,9 +8,8 @@ use Rattle.std.proofs.lemmas.Bool.Decides.{nat_tests}
 use native.Mathlib.Decide.{ℕ_discrete, dec_le}
 use Rattle.nm_types.specs.declared.packets.Packet.{Packet}
 use Rattle.nm_history.specs.declared.events.Event.{Event}
-use Rattle.nm_chain.specs.declared.table.table.Entry.{Entry}
 use Rattle.nm_cells.specs.declared.port.Port.{Port}
-use Rattle.nm_cells.specs.Ports.{knows, sent_by, taken_by}
+use Rattle.nm_cells.specs.Ports.{sent_by, taken_by}
 use Rattle.nm_copyring.specs.declared.port.RingPort.{RingPort}
 use Rattle.nm_copyring.specs.declared.table.Entry as ring_entry
 use Rattle.nm_copyring.specs.declared.table.Lane.{Lane}

@@ -1,5 +1,4 @@
 -- What a port knows, from one step to the next.
-use Rattle.std.proofs.Common.{Option, None, is_some}
 use Rattle.std.proofs.Common.{◌≡◌, ℕ, zero, suc, ◌+◌, ◌<◌, ◌≤◌, Bool, true, false, List, [], ◌∷◌, ◌++◌}
 use Rattle.std.proofs.Common.{length, length-append, map, set, Some, refl, sym, ap, ◌∙◌, subst, arith}
 use Rattle.std.proofs.Common.{⊎_elim}
@@ -8,6 +7,8 @@ use native.Mathlib.Decide.{ℕ_discrete, dec_le}
 use Rattle.nm_types.specs.declared.packets.Packet.{Packet}
 use Rattle.nm_world.specs.Parcels.{parcel_of}
 use Rattle.nm_chain.specs.declared.table.table.Entry.{Entry}
+use Rattle.nm_chain.specs.Items.{is_short}
+use Rattle.nm_chain.specs.declared.table.parcels.Parcel.{Parcel}
 use Rattle.nm_chain.specs.declared.table.table.Heads.{Heads}
 use Rattle.nm_chain.specs.declared.table.table.Misses.{Misses}
 use Rattle.nm_chain.specs.Rule.{Load, if_below, put_to, sent_to}
@@ -18,7 +19,7 @@ use Rattle.nm_chain.proofs.QueueLemmas.{pick_yes, put_append}
 use Rattle.nm_port.specs.Polls.{polled, with_all_missed}
 use Rattle.nm_port.specs.Sends.{HadMiss, tried}
 use Rattle.nm_world.specs.Actors.{MissesGrow}
-use Rattle.nm_world.proofs.Leaves.{SentBy, a_box, a_cell}
+use Rattle.nm_world.proofs.Leaves.{SentBy, a_box, a_cell, box_put, cell_put}
 use Rattle.nm_types.specs.declared.packets.Path.{Path}
 use Rattle.nm_types.specs.declared.packets.Path.TheVariants.{Box, Cell}
 
@@ -179,22 +180,26 @@ sent_more e e' to p (a_cell x y z) =
     let more = ap (λ (l : List (ℕ × Load Packet)). length (put_to to l)) y ∙ put_one to (Some (parcel_of p)) e.put in
     omega (arith, more, rest)
 
-pub sent_up : (result : Option Path) (fits : Bool) (to : ℕ) (p : Packet) (e e' : Entry Packet) →
-    is_some result ≡ true →
-    (result ≡ Some Box → e' ≡ with_put_box ((to, Some (parcel_of p)) ∷ []) (with_filling to false e)) →
-    (result ≡ Some Cell →
-    e' ≡ with_put ((to, Some (parcel_of p)) ∷ []) (with_look false Fresh
-    (with_heads false (heads_of false e') (tried fits to e)))) →
-    EntryGrows e e'
-sent_up (Some Box) fits to p e e' okay box cell =
-    subst (λ (x : Entry Packet). EntryGrows e x) (sym (box refl)) (box_up to ((to, Some (parcel_of p)) ∷ []) e)
-sent_up (Some Cell) fits to p e e' okay box cell =
-    subst (λ (x : Entry Packet). EntryGrows e x) (sym (cell refl))
-    (entry_on e (tried fits to e) _ (tried_up fits to e)
-    (cell_up ((to, Some (parcel_of p)) ∷ []) (heads_of false e') (tried fits to e)))
-sent_up None fits to p e e' failed box cell = absurd (clash failed) where
-  clash : false ≡ true → ⊥
-  clash e = cc
+-- a packet that was sent in a parcel, by either way
+pub sent_by_way : (way : Path) (to : ℕ) (p : Packet) (x : Parcel Packet) → x ≡ parcel_of p → (e e' : Entry Packet) →
+    (way ≡ Box → e' ≡ with_put_box ((to, Some x) ∷ []) (with_filling to false e)) →
+    (way ≡ Cell → e' ≡ with_put ((to, Some x) ∷ []) (with_look false Fresh
+    (with_heads false (heads_of false e') (tried (is_short (length x.item.payload)) to e)))) →
+    SentBy e e' to p × EntryGrows e e'
+sent_by_way Box to p x made e e' box cell =
+    let is = subst (λ (z : Parcel Packet). e' ≡ with_put_box ((to, Some z) ∷ []) (with_filling to false e)) made
+    (box refl) in (
+      box_put to p e e' is,
+      subst (λ (z : Entry Packet). EntryGrows e z) (sym is) (box_up to ((to, Some (parcel_of p)) ∷ []) e),
+    )
+sent_by_way Cell to p x made e e' box cell =
+    let fits = is_short (length p.payload) in
+    let is = subst (λ (z : Parcel Packet). e' ≡ with_put ((to, Some z) ∷ []) (with_look false Fresh
+    (with_heads false (heads_of false e') (tried (is_short (length z.item.payload)) to e)))) made (cell refl) in (
+      cell_put fits to p (heads_of false e') e e' is,
+      subst (λ (z : Entry Packet). EntryGrows e z) (sym is) (entry_on e (tried fits to e) _ (tried_up fits to e)
+          (cell_up ((to, Some (parcel_of p)) ∷ []) (heads_of false e') (tried fits to e))),
+    )
 
 -- a poll
 pub polled_up : (e e' : Entry Packet) → e' ≡ polled e' e →

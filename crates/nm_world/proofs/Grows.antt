@@ -8,7 +8,6 @@ use Rattle.nm_types.specs.declared.packets.Packet.{Packet}
 use Rattle.nm_types.specs.declared.packets.Piece.{Piece}
 use Rattle.nm_history.specs.declared.events.Event.{Event}
 use Rattle.nm_chain.specs.Update.{pick, update}
-use Rattle.nm_chain.specs.declared.table.table.Entry.{Entry}
 use Rattle.nm_cells.specs.declared.port.Port.{Port}
 use Rattle.nm_cells.specs.Ports.{knows, taken_by}
 use Rattle.nm_copyring.specs.declared.port.RingPort.{RingPort}
@@ -23,7 +22,6 @@ use Rattle.nm_world.specs.Actors.{Continues, ActorInvariant}
 use Rattle.nm_types.specs.declared.scripts.Line.{Line}
 use Rattle.nm_cells.specs.declared.port.Fabric.{Fabric}
 use Rattle.nm_copyring.specs.declared.port.Rings.{Rings}
-use Rattle.nm_world.specs.Actors.Grew.{events, sent, taken, pushed, pulled}
 use Rattle.nm_world.proofs.Entries.{EntryGrows, entry_same, misses_on}
 
 -- ports

@@ -1,11 +1,8 @@
 -- What a step keeps by which a packet or a piece leaves.
-use Rattle.std.proofs.Common.{Option, None, is_some}
-use Rattle.std.proofs.Common.{◌≡◌, ℕ, ◌+◌, ◌<◌, ◌≤◌, ◌==◌, Bool, true, false, cond}
+use Rattle.std.proofs.Common.{◌≡◌, ℕ, ◌<◌, ◌≤◌, ◌==◌, Bool, true, false, cond}
 use Rattle.std.proofs.Common.{Some, List, [], ◌∷◌, ◌++◌, length, map, refl, sym, ap, ◌∙◌, subst}
 use Rattle.std.proofs.Common.{arith}
 use Rattle.nm_types.specs.declared.packets.Packet.{Packet}
-use Rattle.nm_types.specs.declared.packets.Path.{Path}
-use Rattle.nm_types.specs.declared.packets.Path.TheVariants.{Box, Cell}
 use Rattle.nm_types.specs.declared.packets.Piece.{Piece}
 use Rattle.nm_types.specs.declared.scripts.Line.{Line}
 use Rattle.nm_history.specs.declared.events.Event.{Event}
@@ -14,7 +11,7 @@ use Rattle.nm_history.specs.Pieces.{Pulled}
 use Rattle.nm_chain.specs.declared.table.table.Entry.{Entry}
 use Rattle.nm_chain.specs.declared.table.table.Heads.{Heads}
 use Rattle.nm_chain.specs.Rule.{sent_to}
-use Rattle.nm_chain.specs.Plays.{heads_of, with_filling, with_heads, with_put, with_put_box}
+use Rattle.nm_chain.specs.Plays.{with_filling, with_heads, with_put, with_put_box}
 use Rattle.nm_chain.specs.Plays.{with_look}
 use Rattle.nm_chain.specs.declared.table.table.Look.TheVariants.{Fresh}
 use Rattle.nm_cells.specs.declared.port.Fabric.{Fabric}
@@ -32,7 +29,6 @@ use Rattle.nm_copyring.specs.Ports as ring
 use Rattle.nm_global.specs.Emitted.{Emitted, with_packet, with_piece}
 use Rattle.nm_channels.specs.Moments.{LogEntry, taken_from}
 use Rattle.nm_channels.specs.Moments.Cause.{Acted}
-use Rattle.nm_global.specs.Moments.{pulled}
 use Rattle.nm_global.proofs.Shown.{pulled_still, taken_still}
 use Rattle.nm_process.specs.Processes.{ProcessView}
 use Rattle.nm_process.specs.Work.{IsAtWork}
@@ -52,7 +48,7 @@ pub data SentBy (e e' : Entry Packet) (to : ℕ) (p : Packet) : Type 0 where
   a_box : e'.put_box ≡ e.put_box ++ (to, Some (parcel_of p)) ∷ [] → e'.put ≡ e.put → SameGot e e' → SentBy e e' to p
   a_cell : e'.put_box ≡ e.put_box → e'.put ≡ e.put ++ (to, Some (parcel_of p)) ∷ [] → SameGot e e' → SentBy e e' to p
 
-cell_put : (fits : Bool) (to : ℕ) (p : Packet) (h : Heads) (e e' : Entry Packet) →
+pub cell_put : (fits : Bool) (to : ℕ) (p : Packet) (h : Heads) (e e' : Entry Packet) →
     e' ≡ with_put ((to, Some (parcel_of p)) ∷ []) (with_look false Fresh (with_heads false h (tried fits to e))) → SentBy e e' to p
 cell_put fits to p h e e' is =
     let one = tried_sent fits to e in
@@ -61,24 +57,11 @@ cell_put fits to p h e e' is =
     (ap (λ (x : Entry Packet). x.put) is ∙ ap (λ xs. xs ++ (to, Some (parcel_of p)) ∷ []) one.cell)
     (record { box = ap (λ (x : Entry Packet). x.got_box) is ∙ two.box; cell = ap (λ (x : Entry Packet). x.got) is ∙ two.cell })
 
-box_put : (to : ℕ) (p : Packet) (e e' : Entry Packet) →
+pub box_put : (to : ℕ) (p : Packet) (e e' : Entry Packet) →
     e' ≡ with_put_box ((to, Some (parcel_of p)) ∷ []) (with_filling to false e) → SentBy e e' to p
 box_put to p e e' is =
     a_box (ap (λ (x : Entry Packet). x.put_box) is) (ap (λ (x : Entry Packet). x.put) is)
     (record { box = ap (λ (x : Entry Packet). x.got_box) is; cell = ap (λ (x : Entry Packet). x.got) is })
-
-pub sent_by_way : (result : Option Path) (fits : Bool) (to : ℕ) (p : Packet) (e e' : Entry Packet) →
-    is_some result ≡ true →
-    (result ≡ Some Box → e' ≡ with_put_box ((to, Some (parcel_of p)) ∷ []) (with_filling to false e)) →
-    (result ≡ Some Cell →
-    e' ≡ with_put ((to, Some (parcel_of p)) ∷ []) (with_look false Fresh
-    (with_heads false (heads_of false e') (tried fits to e)))) →
-    SentBy e e' to p
-sent_by_way (Some Box) fits to p e e' okay box cell = box_put to p e e' (box refl)
-sent_by_way (Some Cell) fits to p e e' okay box cell = cell_put fits to p (heads_of false e') e e' (cell refl)
-sent_by_way None fits to p e e' failed box cell = absurd (clash failed) where
-  clash : false ≡ true → ⊥
-  clash e = cc
 
 abbrev SendCarries : Type 0
 SendCarries = (e e' : Entry Packet) (j to : ℕ) (p : Packet) (ps : List Packet) → SentBy e e' to p →

@@ -1,7 +1,8 @@
 -- A loop over steps of one kind, that ends with the first one that moves nothing.
-use Rattle.std.proofs.Common.{◌≡◌, ℕ, ◌+◌, ◌<◌, ◌≤◌, Bool, true, false, ◌||◌, List, refl, sym, ◌∙◌, subst, arith}
+use Rattle.std.proofs.Common.{◌≡◌, ℕ, ◌+◌, ◌*◌, ◌<◌, ◌≤◌, Bool, true, false, ◌||◌, List, refl, sym, ◌∙◌, subst, arith}
 use Rattle.std.specs.Prelude.{nat_lt}
 use Rattle.std.proofs.lemmas.Bool.Decides.{nat_tests}
+use Rattle.std.proofs.Math.Nat.{add-mul, mul-le-mul_right}
 use Rattle.nm_types.specs.declared.scripts.Line.{Line}
 use Rattle.nm_cells.specs.declared.port.Fabric.{Fabric}
 use Rattle.nm_copyring.specs.declared.port.Rings.{Rings}
@@ -65,6 +66,17 @@ module _ (n : ℕ) (lines : List Line) (f : Fabric Packet) (r : Rings) (a : Acto
         stepped = subst (λ (p : Bool). Stepped p a c) same (stepped_on (nat_lt 0 k) q a b c before.stepped stepped);
         sole = λ none. before.first (is_first k none);
       }
+
+-- how far a count is: x at first, y after k steps that add at most m each, z after one more
+pub spent_more : (k m x y z : ℕ) → y ≤ x + k * m → z ≤ y + m → z ≤ x + (k + 1) * m
+spent_more k m x y z before one = let e = add-mul k 1 m in omega (arith, e, before, one)
+
+pub spent_all : (k n m x y : ℕ) → k ≤ n → y ≤ x + k * m → y ≤ x + n * m
+spent_all k n m x y few before = let e = mul-le-mul_right m few in omega (arith, e, before)
+
+pub spent_last : (k n m x y z : ℕ) → k < n → y ≤ x + k * m → z ≤ y + m → z ≤ x + n * m
+spent_last k n m x y z few before one =
+    spent_all (k + 1) n m x z (omega (arith, few)) (spent_more k m x y z before one)
 
 -- a loop that made all its steps
 pub some_made : (k n : ℕ) → n ≤ k → 0 < n → 0 < k

@@ -1,7 +1,7 @@
 //! One rank with its ports.
 
 ghost use Rattle.nm_types.specs.declared.packets.Packet.{Packet};
-ghost use Rattle.std.specs.Prelude.{◌≡◌, ◌<◌, ◌↔◌, ℕ, true, false, [], IfOk};
+ghost use Rattle.std.specs.Prelude.{◌≡◌, ◌+◌, ◌*◌, ◌<◌, ◌≤◌, ◌↔◌, ℕ, true, false, [], IfOk};
 ghost use Rattle.nm_types.specs.Commands.{commands_of};
 ghost use Rattle.nm_types.specs.Sizes.{Sizes};
 ghost use Rattle.nm_types.specs.declared.scripts.Line.{Line};
@@ -20,8 +20,8 @@ ghost use Rattle.nm_world.specs.Rest.{CanMove, IsStill};
 
 use crate::bells::Bells;
 use crate::places::{Places, restore_header};
-use crate::wires::{polled, pullable, pulled, pushable, pushed, sent};
-use nm_copyring::{RingPort, Rings};
+use nm_chain::seats::Steps;
+use nm_copyring::{RingPort, Rings, can_pull, can_push, pull, push};
 use nm_global::standing::laws::passing::{
     a_packet_is_taken, a_packet_leaves, a_piece_is_taken, a_piece_leaves,
 };
@@ -30,10 +30,11 @@ use nm_global::standing::laws::stands::a_process_begins;
 use nm_history::History;
 use nm_outside::Gate;
 use nm_port::carried::laws::{a_poll_carries, a_send_carries};
-use nm_port::{Fabric, Port};
+use nm_port::{Fabric, Port, Sent, poll, send};
 use nm_process::{Process, Step};
 use nm_types::{Line, Memory, Packet, Piece, Shape};
 use std::alloc::Global;
+use std::sync::ledger::Ledger;
 
 /// How many packets, pieces and commands of each kind a turn has room for.
 const TURN: u32 = 64;
@@ -91,7 +92,11 @@ impl Actor {
     }
 
     // Sends the first packet of the outbox, unless there is none or it comes back.
-    fn send_next(&mut self, f: &Fabric<Packet>) -> Result<bool, Memory>
+    fn send_next<L: Ledger>(
+        &mut self,
+        f: &Fabric<Packet>,
+        steps: &mut Steps<L>,
+    ) -> Result<bool, Memory>
         ghost here: { Environment }
         requires stands { ActorInvariant here.lines f.now here.rings self.old }
         ensures kept { IfOk result (λ _. Continues here.lines f.now here.rings self.old self.new) }
@@ -99,6 +104,7 @@ impl Actor {
         ensures stepped { IfOk result (λ moved. Stepped moved self.old self.new) }
         ensures back { IfOk result (λ moved. moved ≡ false → IsFresh self.old.process.rank →
             FirstNotSent self.old self.new) }
+        ensures bound { steps.new ≤ steps.old + 9 }
     {
         let rank = self.process.rank();
         if rank.is_worn() {
@@ -107,10 +113,15 @@ impl Actor {
         let Some((to, packet)) = rank.front() else {
             return Ok(false);
         };
-        let way = sent(f, &mut self.port, &mut self.places, to, packet)?;
-        if way.is_none() {
-            return Ok(false);
-        }
+        let parcel = self.places.parcel(packet)?;
+        let Sent { path: _, spare } = match send(f, &mut self.port, to, parcel, steps) {
+            Ok(sent) => sent,
+            Err(back) => {
+                self.places.keep_letter(Some(back));
+                return Ok(false);
+            }
+        };
+        self.places.keep_letter(spare);
         self.process.pop_front();
         self.places.call(to);
         // no step: the laws of a packet that leaves
@@ -120,7 +131,7 @@ impl Actor {
     }
 
     // Pushes the next piece, unless there is none or its place is full.
-    fn push_next(&mut self, r: &Rings) -> Result<bool, Memory>
+    fn push_next<L: Ledger>(&mut self, r: &Rings, steps: &mut Steps<L>) -> Result<bool, Memory>
         ghost here: { Environment }
         requires stands { ActorInvariant here.lines here.fabric r.now self.old }
         ensures kept { IfOk result (λ _. Continues here.lines here.fabric r.now self.old self.new) }
@@ -128,6 +139,7 @@ impl Actor {
         ensures stepped { IfOk result (λ moved. Stepped moved self.old self.new) }
         ensures back { IfOk result (λ moved. moved ≡ false → IsFresh self.old.process.rank →
             NextNotPushed self.old self.new) }
+        ensures bound { steps.new ≤ steps.old + 3 }
     {
         let rank = self.process.rank();
         let Some(to) = rank.piece_to() else {
@@ -136,16 +148,21 @@ impl Actor {
         if rank.is_worn() {
             return Ok(false);
         }
-        if !pushable(r, &mut self.ring, to) {
+        if !can_push(r, &mut self.ring, to, steps) {
             return Ok(false);
         }
         let place = self.places.piece()?;
-        Ok(self.push_front(r, place))
+        Ok(self.push_front(r, place, steps))
     }
 
     // Pushes the next piece, which is built in this box, unless there is none or its place is full. The
     // rank isn't worn.
-    fn push_front(&mut self, r: &Rings, mut piece: Box<Piece>) -> bool
+    fn push_front<L: Ledger>(
+        &mut self,
+        r: &Rings,
+        mut piece: Box<Piece>,
+        steps: &mut Steps<L>,
+    ) -> bool
         ghost here: { Environment }
         requires stands { ActorInvariant here.lines here.fabric r.now self.old }
         requires fresh { IsFresh self.old.process.rank }
@@ -153,12 +170,13 @@ impl Actor {
         ensures moved { result ≡ did here.fabric.ranks self.old self.new }
         ensures stepped { Stepped result self.old self.new }
         ensures back { result ≡ false → NextNotPushed self.old self.new }
+        ensures bound { steps.new ≤ steps.old + 2 }
     {
         let Some(to) = self.process.rank().front_piece(&mut piece) else {
             self.places.keep(Some(piece));
             return false;
         };
-        let spare = match pushed(r, &mut self.ring, to, piece) {
+        let spare = match push(r, &mut self.ring, to, piece, steps) {
             Ok(spare) => spare,
             Err(back) => {
                 self.places.keep(Some(back));
@@ -174,7 +192,11 @@ impl Actor {
     }
 
     // Takes the next packet of a rank, if one came.
-    fn take_next(&mut self, f: &Fabric<Packet>) -> Result<bool, Memory>
+    fn take_next<L: Ledger>(
+        &mut self,
+        f: &Fabric<Packet>,
+        steps: &mut Steps<L>,
+    ) -> Result<bool, Memory>
         ghost here: { Environment }
         requires stands { ActorInvariant here.lines f.now here.rings self.old }
         ensures kept { IfOk result (λ _. Continues here.lines f.now here.rings self.old self.new) }
@@ -184,6 +206,7 @@ impl Actor {
             GaveNone self.old.process.rank.sizes.ranks self.old.port self.new.port) }
         ensures polled { IfOk result (λ _.
             PolledUnlessWorn self.old.process.rank.sizes.ranks 1 self.old self.new) }
+        ensures bound { steps.new ≤ steps.old + (f.now.ranks + 10) }
     {
         let rank = self.process.rank();
         if rank.is_worn() {
@@ -191,7 +214,7 @@ impl Actor {
         }
         // no step: it tells that the history keeps its rules
         rank.history();
-        let mut letter = match polled(f, &mut self.port, self.places.letter()) {
+        let mut letter = match poll(f, &mut self.port, self.places.letter(), steps) {
             Ok(letter) => letter,
             Err(spare) => {
                 self.places.keep_letter(spare);
@@ -209,7 +232,12 @@ impl Actor {
     }
 
     // Takes the next piece of a rank, if one is due and came.
-    fn pull_next(&mut self, r: &Rings, sender: u8) -> Result<bool, Memory>
+    fn pull_next<L: Ledger>(
+        &mut self,
+        r: &Rings,
+        sender: u8,
+        steps: &mut Steps<L>,
+    ) -> Result<bool, Memory>
         ghost here: { Environment }
         requires stands { ActorInvariant here.lines here.fabric r.now self.old }
         requires sender { sender < r.now.ranks }
@@ -218,6 +246,7 @@ impl Actor {
         ensures stepped { IfOk result (λ moved. Stepped moved self.old self.new) }
         ensures none { IfOk result (λ moved. moved ≡ false → IsFresh self.old.process.rank →
             NoPiece self.old self.new sender) }
+        ensures bound { steps.new ≤ steps.old + 3 }
     {
         let rank = self.process.rank();
         if !rank.is_piece_due(sender) {
@@ -226,14 +255,19 @@ impl Actor {
         if rank.is_worn() {
             return Ok(false);
         }
-        if !pullable(r, &mut self.ring, sender) {
+        if !can_pull(r, &mut self.ring, sender, steps) {
             return Ok(false);
         }
-        self.pull_due(r, sender)
+        self.pull_due(r, sender, steps)
     }
 
     // Takes the next piece of a rank, if it came. It is due, and the rank isn't worn.
-    fn pull_due(&mut self, r: &Rings, sender: u8) -> Result<bool, Memory>
+    fn pull_due<L: Ledger>(
+        &mut self,
+        r: &Rings,
+        sender: u8,
+        steps: &mut Steps<L>,
+    ) -> Result<bool, Memory>
         ghost here: { Environment }
         requires stands { ActorInvariant here.lines here.fabric r.now self.old }
         requires sender { sender < r.now.ranks }
@@ -243,8 +277,9 @@ impl Actor {
         ensures moved { IfOk result (λ moved. moved ≡ did here.fabric.ranks self.old self.new) }
         ensures stepped { IfOk result (λ moved. Stepped moved self.old self.new) }
         ensures none { IfOk result (λ moved. moved ≡ false → NoPiece self.old self.new sender) }
+        ensures bound { steps.new ≤ steps.old + 2 }
     {
-        let piece = match pulled(r, &mut self.ring, sender, self.places.spare()) {
+        let piece = match pull(r, &mut self.ring, sender, self.places.spare(), steps) {
             Ok(piece) => piece,
             Err(spare) => {
                 self.places.keep(spare);
@@ -286,7 +321,11 @@ impl Actor {
     }
 
     // Sends up to so many packets. It answers whether any was sent.
-    fn send_all(&mut self, f: &Fabric<Packet>) -> Result<bool, Memory>
+    fn send_all<L: Ledger>(
+        &mut self,
+        f: &Fabric<Packet>,
+        steps: &mut Steps<L>,
+    ) -> Result<bool, Memory>
         ghost here: { Environment }
         requires stands { ActorInvariant here.lines f.now here.rings self.old }
         ensures kept { IfOk result (λ _. Continues here.lines f.now here.rings self.old self.new) }
@@ -294,9 +333,10 @@ impl Actor {
         ensures stepped { IfOk result (λ moved. Stepped moved self.old self.new) }
         ensures back { IfOk result (λ moved. moved ≡ false → IsFresh self.old.process.rank →
             FirstNotSent self.old self.new) }
+        ensures bound { steps.new ≤ steps.old + 64 * 9 }
     {
         for sent in 0..TURN {
-            if !self.send_next(f)? {
+            if !self.send_next(f, steps)? {
                 return Ok(sent > 0);
             }
         }
@@ -304,7 +344,11 @@ impl Actor {
     }
 
     // Takes up to so many packets. It answers whether any was taken.
-    fn take_all(&mut self, f: &Fabric<Packet>) -> Result<bool, Memory>
+    fn take_all<L: Ledger>(
+        &mut self,
+        f: &Fabric<Packet>,
+        steps: &mut Steps<L>,
+    ) -> Result<bool, Memory>
         ghost here: { Environment }
         requires stands { ActorInvariant here.lines f.now here.rings self.old }
         ensures kept { IfOk result (λ _. Continues here.lines f.now here.rings self.old self.new) }
@@ -314,9 +358,10 @@ impl Actor {
             GaveNone self.old.process.rank.sizes.ranks self.old.port self.new.port) }
         ensures polled { IfOk result (λ _.
             PolledUnlessWorn self.old.process.rank.sizes.ranks 1 self.old self.new) }
+        ensures bound { steps.new ≤ steps.old + 64 * (f.now.ranks + 10) }
     {
         for took in 0..TURN {
-            if !self.take_next(f)? {
+            if !self.take_next(f, steps)? {
                 return Ok(took > 0);
             }
         }
@@ -324,7 +369,7 @@ impl Actor {
     }
 
     // Pushes up to so many pieces. It answers whether any was pushed.
-    fn push_all(&mut self, r: &Rings) -> Result<bool, Memory>
+    fn push_all<L: Ledger>(&mut self, r: &Rings, steps: &mut Steps<L>) -> Result<bool, Memory>
         ghost here: { Environment }
         requires stands { ActorInvariant here.lines here.fabric r.now self.old }
         ensures kept { IfOk result (λ _. Continues here.lines here.fabric r.now self.old self.new) }
@@ -332,9 +377,10 @@ impl Actor {
         ensures stepped { IfOk result (λ moved. Stepped moved self.old self.new) }
         ensures back { IfOk result (λ moved. moved ≡ false → IsFresh self.old.process.rank →
             NextNotPushed self.old self.new) }
+        ensures bound { steps.new ≤ steps.old + 64 * 3 }
     {
         for pushed in 0..TURN {
-            if !self.push_next(r)? {
+            if !self.push_next(r, steps)? {
                 return Ok(pushed > 0);
             }
         }
@@ -342,7 +388,12 @@ impl Actor {
     }
 
     // Takes up to so many pieces of a rank. It answers whether any was taken.
-    fn pull_some(&mut self, r: &Rings, sender: u8) -> Result<bool, Memory>
+    fn pull_some<L: Ledger>(
+        &mut self,
+        r: &Rings,
+        sender: u8,
+        steps: &mut Steps<L>,
+    ) -> Result<bool, Memory>
         ghost here: { Environment }
         requires stands { ActorInvariant here.lines here.fabric r.now self.old }
         requires sender { sender < r.now.ranks }
@@ -351,9 +402,10 @@ impl Actor {
         ensures stepped { IfOk result (λ moved. Stepped moved self.old self.new) }
         ensures none { IfOk result (λ moved. moved ≡ false → IsFresh self.old.process.rank →
             NoPiece self.old self.new sender) }
+        ensures bound { steps.new ≤ steps.old + 4 * 3 }
     {
         for pulled in 0..PULLS {
-            if !self.pull_next(r, sender)? {
+            if !self.pull_next(r, sender, steps)? {
                 return Ok(pulled > 0);
             }
         }
@@ -361,7 +413,12 @@ impl Actor {
     }
 
     // Takes pieces of each rank. It answers whether any was taken.
-    fn pull_all(&mut self, f: &Fabric<Packet>, r: &Rings) -> Result<bool, Memory>
+    fn pull_all<L: Ledger>(
+        &mut self,
+        f: &Fabric<Packet>,
+        r: &Rings,
+        steps: &mut Steps<L>,
+    ) -> Result<bool, Memory>
         ghost here: { Environment }
         requires ranks { f.now.ranks ≡ here.fabric.ranks }
         requires stands { ActorInvariant here.lines here.fabric r.now self.old }
@@ -370,17 +427,23 @@ impl Actor {
         ensures stepped { IfOk result (λ moved. Stepped moved self.old self.new) }
         ensures none { IfOk result (λ moved. moved ≡ false → IsFresh self.old.process.rank →
             (i : ℕ) → i < f.now.ranks → NoPiece self.old self.new i) }
+        ensures bound { steps.new ≤ steps.old + f.now.ranks * 12 }
     {
         let mut moved = false;
         for sender in 0..f.ranks() {
-            let one = self.pull_some(r, sender)?;
+            let one = self.pull_some(r, sender, steps)?;
             moved = moved | one;
         }
         Ok(moved)
     }
 
     // Takes the next packet that came, where the next command looks at what came.
-    fn look(&mut self, lines: &[Line], f: &Fabric<Packet>) -> Result<bool, Memory>
+    fn look<L: Ledger>(
+        &mut self,
+        lines: &[Line],
+        f: &Fabric<Packet>,
+        steps: &mut Steps<L>,
+    ) -> Result<bool, Memory>
         ghost here: { Environment }
         requires lines { lines.now ≡ here.lines }
         requires stands { ActorInvariant here.lines f.now here.rings self.old }
@@ -390,15 +453,21 @@ impl Actor {
         ensures polled { IfOk result (λ _.
             PolledUnlessWorn self.old.process.rank.sizes.ranks
             (looks_next lines.now self.old.process) self.old self.new) }
+        ensures bound { steps.new ≤ steps.old + (f.now.ranks + 10) }
     {
         if !self.process.next_looks(lines) {
             return Ok(false);
         }
-        self.take_next(f)
+        self.take_next(f, steps)
     }
 
     // Runs up to so many commands. It answers whether any ran, or anything was taken before one.
-    fn run_all(&mut self, lines: &[Line], f: &Fabric<Packet>) -> Result<bool, Memory>
+    fn run_all<L: Ledger>(
+        &mut self,
+        lines: &[Line],
+        f: &Fabric<Packet>,
+        steps: &mut Steps<L>,
+    ) -> Result<bool, Memory>
         ghost here: { Environment }
         requires fabric { f.now ≡ here.fabric }
         requires stands { ActorInvariant lines.now here.fabric here.rings self.old }
@@ -412,10 +481,11 @@ impl Actor {
         ensures polled { IfOk result (λ _. PolledBefore lines.now self.old self.new) }
         ensures worn { IfOk result (λ _. ¬ IsFresh self.old.process.rank →
             self.new ≡ self.old) }
+        ensures bound { steps.new ≤ steps.old + 64 * (f.now.ranks + 10) }
     {
         let mut took = false;
         for ran in 0..TURN {
-            let looked = self.look(lines, f)?;
+            let looked = self.look(lines, f, steps)?;
             took = took | looked;
             if !self.run_next(lines)? {
                 return Ok(took | (ran > 0));
@@ -453,12 +523,17 @@ impl Actor {
     ///
     /// Before each test, probe, await and matched probe (MPI 3.1, 3.7.3 and 3.8) it polls once. It
     /// moves nothing only where the rank is worn or nothing could move.
-    pub fn turn<G: Gate>(
+    ///
+    /// It takes at most 140 word steps for each rank, and 2,048: 64 sends of 9 and 64 pushes of 3, the
+    /// look beforehand among them, 64 polls and one before each of 64 commands, each of as many as there
+    /// are ranks and 10, and of each rank 4 pulls of 3.
+    pub fn turn<G: Gate, L: Ledger>(
         &mut self,
         lines: &[Line],
         f: &Fabric<Packet>,
         r: &Rings,
         gate: &G,
+        steps: &mut Steps<L>,
     ) -> Result<bool, Memory>
         requires stands { ActorInvariant lines.now f.now r.now self.old }
         ensures kept { IfOk result (λ _. Continues lines.now f.now r.now self.old self.new) }
@@ -468,19 +543,21 @@ impl Actor {
         ensures idle { IfOk result (λ moved. moved ≡ false → IsFresh self.old.process.rank →
             Idle lines.now self.old self.new) }
         ensures looked { IfOk result (λ _. LookedAround lines.now self.old self.new) }
+        ensures bound { steps.new ≤ steps.old + (140 * f.now.ranks + 2048) }
     {
         gate.turn(self.process.me());
-        self.move_all(lines, f, r, None)
+        self.move_all(lines, f, r, None, steps)
     }
 
     /// What a turn sends, pushes, takes, pulls and runs. It answers whether that is anything. Bells ring
     /// at once for the ranks that something was sent or pushed to, or taken or pulled from.
-    pub(crate) fn move_all(
+    pub(crate) fn move_all<L: Ledger>(
         &mut self,
         lines: &[Line],
         f: &Fabric<Packet>,
         r: &Rings,
         bells: Option<&Bells>,
+        steps: &mut Steps<L>,
     ) -> Result<bool, Memory>
         ghost here: { Environment }
         requires here { here ≡ record { lines = lines.now; fabric = f.now; rings = r.now } }
@@ -490,15 +567,16 @@ impl Actor {
         ensures idle { IfOk result (λ moved. moved ≡ false → IsFresh self.old.process.rank →
             Idle lines.now self.old self.new) }
         ensures looked { IfOk result (λ _. LookedAround lines.now self.old self.new) }
+        ensures bound { steps.new ≤ steps.old + (140 * f.now.ranks + 2048) }
     {
         let own = self.port.rank();
-        let sent = self.send_all(f)?;
-        let pushed = self.push_all(r)?;
+        let sent = self.send_all(f, steps)?;
+        let pushed = self.push_all(r, steps)?;
         self.places.tell(own, bells);
-        let took = self.take_all(f)?;
-        let pulled = self.pull_all(f, r)?;
+        let took = self.take_all(f, steps)?;
+        let pulled = self.pull_all(f, r, steps)?;
         self.places.tell(own, bells);
-        let ran = self.run_all(lines, f)?;
+        let ran = self.run_all(lines, f, steps)?;
         self.places.tell(own, bells);
         Ok(sent | pushed | took | pulled | ran)
     }

@@ -12,6 +12,8 @@
 //!   where something was sent, taken or run, and `false` only where nothing could be (`moved`, `grew`,
 //!   `idle`); so it is with a round and all actors.
 //! - A port polls before each command that looks at what came (`turn`: `looked`).
+//! - A turn takes at most 140 word steps for each rank, and 2,048, whatever the others do (`turn`:
+//!   `bound`).
 //! - `run` answers the record of a run of the script, and what the closed ports carried is what its
 //!   histories call for (`run`: `run`, `home`, `done`).
 //! # What is only tested
@@ -27,7 +29,6 @@ mod places;
 mod records;
 mod rounds;
 mod whole;
-mod wires;
 
 pub use actors::Actor;
 pub use rounds::round;

@@ -10,16 +10,19 @@ ghost use Rattle.nm_world.specs.Sweeps.{HasSwept, Swept};
 
 use crate::Actor;
 use crate::bells::{Bells, place_of};
+use nm_chain::seats::Steps;
 use nm_copyring::Rings;
 use nm_outside::Gate;
 use nm_port::Fabric;
 use nm_types::{Line, Memory, Packet};
+use std::marker::Brand;
 use std::sync::Wait;
+use std::sync::ledger::{Blank, Ledger};
 use std::thread::{Threads, available_parallelism, join_mut};
 
 // A turn of an actor, if its place is due or all make one. It answers whether that moved anything, and
 // which places of its crew are due then.
-fn visit<G: Gate>(
+fn visit<G: Gate, L: Ledger>(
     actor: &mut Actor,
     all: bool,
     due: u64,
@@ -28,6 +31,7 @@ fn visit<G: Gate>(
     r: &Rings,
     gate: &G,
     bells: &Bells,
+    steps: &mut Steps<L>,
 ) -> Result<(bool, u64), Memory>
     requires stands { ActorInvariant lines.now f.now r.now actor.old }
     ensures kept { IfOk result (λ _. Continues lines.now f.now r.now actor.old actor.new) }
@@ -42,7 +46,7 @@ fn visit<G: Gate>(
         return Ok((false, 0));
     }
     gate.turn(actor.process.me());
-    let moved = match actor.move_all(lines, f, r, Some(bells)) {
+    let moved = match actor.move_all(lines, f, r, Some(bells), steps) {
         Ok(moved) => moved,
         Err(Memory) => {
             bells.end();
@@ -53,6 +57,34 @@ fn visit<G: Gate>(
         return Ok((false, 0));
     }
     Ok((true, place | actor.places.take_due()))
+}
+
+// A turn of each actor of a crew whose place is due, or of all, with a count of their word steps.
+fn sweep_on<G: Gate, L: Ledger>(
+    actors: &mut [Actor],
+    all: bool,
+    due: u64,
+    lines: &[Line],
+    f: &Fabric<Packet>,
+    r: &Rings,
+    gate: &G,
+    bells: &Bells,
+    blank: Blank,
+) -> Result<(bool, u64), Memory>
+    requires stands { All (ActorInvariant lines.now f.now r.now) actors.old }
+    requires name { (blank.name ≡ L.name) × (blank.parts ≡ L.parts) × (0 < L.parts) }
+    ensures swept { IfOk result (λ x.
+        Swept f.now.ranks lines.now f.now r.now all x.0 actors.old actors.new) }
+{
+    let mut steps = Steps::<L>::new(blank);
+    let mut moved = false;
+    let mut next = 0;
+    for actor in actors.iter_mut() {
+        let (one, then) = visit(actor, all, due, lines, f, r, gate, bells, &mut steps)?;
+        moved = moved | one;
+        next = next | then;
+    }
+    Ok((moved, next))
 }
 
 // A turn of each actor of a crew whose place is due, or of all. It answers whether that moved anything,
@@ -71,14 +103,7 @@ fn sweep<G: Gate>(
     ensures swept { IfOk result (λ x.
         Swept f.now.ranks lines.now f.now r.now all x.0 actors.old actors.new) }
 {
-    let mut moved = false;
-    let mut next = 0;
-    for actor in actors.iter_mut() {
-        let (one, then) = visit(actor, all, due, lines, f, r, gate, bells)?;
-        moved = moved | one;
-        next = next | then;
-    }
-    Ok((moved, next))
+    sweep_on::<G, Brand>(actors, all, due, lines, f, r, gate, bells, Blank::new(1))
 }
 
 // Turns of the actors of a crew, of each at least one and at most so many, until no actor of the round

@@ -1,5 +1,5 @@
 ghost use Rattle.nm_types.specs.declared.packets.Packet.{Packet};
-ghost use Rattle.std.specs.Prelude.{◌≡◌, ℕ, Some, length, slice_get};
+ghost use Rattle.std.specs.Prelude.{◌≡◌, ◌<◌, ℕ, Some, length, slice_get};
 ghost use Rattle.nm_copyring.specs.declared.port.RingPort.{RingPort};
 ghost use Rattle.nm_cells.specs.declared.port.Port.{Port};
 ghost use Rattle.nm_cells.specs.Ports.{IsNew};
@@ -7,6 +7,7 @@ ghost use Rattle.nm_copyring.specs.Ports as ring_port;
 ghost use Rattle.nm_process.specs.Lines.{AreLines};
 ghost use Rattle.nm_world.specs.Actors.{ActorInvariant};
 
+use nm_chain::seats::Steps;
 use nm_copyring::{RingPort, Rings};
 use nm_history::{Event, Happened, History};
 use nm_outside::OpenGate;
@@ -14,6 +15,8 @@ use nm_port::{Fabric, Port};
 use nm_types::{Answer, Line, Memory, Packet, Script, Seen, Shape};
 use nm_world::Actor;
 use std::alloc::{AllocError, Global};
+use std::marker::Brand;
+use std::sync::ledger::{Blank, Ledger};
 use std::test::Fail;
 
 // What the turns of two ranks answer: whether each of the sender's moved something, and whether the
@@ -37,17 +40,20 @@ fn both<T: Drop>(mut list: Vec<T>) -> (T, T)
 
 // Three turns of the sender. It runs 64 commands, sends 64 packets and runs the last command, and
 // sends the last packet.
-fn three_turns(
+fn three_turns<L: Ledger>(
     sender: &mut Actor,
     lines: &[Line],
     f: &Fabric<Packet>,
     r: &Rings,
+    blank: Blank,
 ) -> Result<[bool; 3], Memory>
-    requires { ActorInvariant lines.now f.now r.now sender.old }
+    requires blank { (blank.name ≡ L.name) × (blank.parts ≡ L.parts) × (0 < L.parts) }
+    requires stands { ActorInvariant lines.now f.now r.now sender.old }
 {
-    let first = sender.turn(lines, f, r, &OpenGate)?;
-    let second = sender.turn(lines, f, r, &OpenGate)?;
-    let third = sender.turn(lines, f, r, &OpenGate)?;
+    let mut steps = Steps::<L>::new(blank);
+    let first = sender.turn(lines, f, r, &OpenGate, &mut steps)?;
+    let second = sender.turn(lines, f, r, &OpenGate, &mut steps)?;
+    let third = sender.turn(lines, f, r, &OpenGate, &mut steps)?;
     Ok([first, second, third])
 }
 
@@ -74,15 +80,18 @@ fn saw_the_last(history: &History) -> bool {
 }
 
 // One turn of the receiver. It takes 64 packets, and polls once more before its probe.
-fn one_turn(
+fn one_turn<L: Ledger>(
     receiver: &mut Actor,
     lines: &[Line],
     f: &Fabric<Packet>,
     r: &Rings,
+    blank: Blank,
 ) -> Result<bool, Memory>
-    requires { ActorInvariant lines.now f.now r.now receiver.old }
+    requires blank { (blank.name ≡ L.name) × (blank.parts ≡ L.parts) × (0 < L.parts) }
+    requires stands { ActorInvariant lines.now f.now r.now receiver.old }
 {
-    let moved = receiver.turn(lines, f, r, &OpenGate)?;
+    let mut steps = Steps::<L>::new(blank);
+    let moved = receiver.turn(lines, f, r, &OpenGate, &mut steps)?;
     Ok(moved && saw_the_last(receiver.history()))
 }
 
@@ -102,7 +111,7 @@ fn sender_at(
     requires new { IsNew f.now port 0 × ring_port.IsNew r.now ring 0 }
 {
     let mut sender = Actor::new(alloc, shape, port, ring, lines)?;
-    three_turns(&mut sender, lines, f, r)
+    three_turns::<Brand>(&mut sender, lines, f, r, Blank::new(1))
 }
 
 // The turn of a receiver at these ports.
@@ -121,7 +130,7 @@ fn receiver_at(
     requires new { IsNew f.now port 1 × ring_port.IsNew r.now ring 1 }
 {
     let mut receiver = Actor::new(alloc, shape, port, ring, lines)?;
-    one_turn(&mut receiver, lines, f, r)
+    one_turn::<Brand>(&mut receiver, lines, f, r, Blank::new(1))
 }
 
 // The turns of both ranks at these ports, the sender's before the receiver's.

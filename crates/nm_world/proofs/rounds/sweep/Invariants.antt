@@ -1,6 +1,4 @@
-use Rattle.nm_world.proofs.Sweeps.{SweptTo}
 use Rattle.nm_world.proofs.rounds.sweep.Given as goal
 
-abbrev pub invariant-loop-actor : goal.invariant-loop-actor
-invariant-loop-actor g l =
-    SweptTo l.f.ranks l.lines l.f l.r l.all l.actor-index l.moved l.initial.actors l.actors
+abbrev pub ghosts-sweep_on : goal.ghosts-sweep_on
+ghosts-sweep_on g a = record { name = a.blank.name; parts = a.blank.parts }

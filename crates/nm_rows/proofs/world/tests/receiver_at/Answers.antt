@@ -4,8 +4,8 @@ use Rattle.nm_cells.specs.Ports.{IsNew}
 use Rattle.nm_copyring.specs.Ports as ring_port
 use Rattle.nm_rows.proofs.world.tests.receiver_at.Goals as goal
 
-pub one_turn-requires : goal.one_turn-requires
-one_turn-requires c =
+pub one_turn-requires-clause-stands : goal.one_turn-requires-clause-stands
+one_turn-requires-clause-stands c =
     let own = sym c.requires.new.0.1 in
     c.in_ok-receiver.ensures.stands c.args.f.now c.args.r.now c.requires.lines c.requires.ranks
     (subst (λ (n : ℕ). IsNew c.args.f.now c.args.port n) own c.requires.new.0)

@@ -4,8 +4,8 @@ use Rattle.nm_cells.specs.Ports.{IsNew}
 use Rattle.nm_copyring.specs.Ports as ring_port
 use Rattle.nm_rows.proofs.world.tests.sender_at.Goals as goal
 
-pub three_turns-requires : goal.three_turns-requires
-three_turns-requires c =
+pub three_turns-requires-clause-stands : goal.three_turns-requires-clause-stands
+three_turns-requires-clause-stands c =
     let own = sym c.requires.new.0.1 in
     c.in_ok-sender.ensures.stands c.args.f.now c.args.r.now c.requires.lines c.requires.ranks
     (subst (λ (n : ℕ). IsNew c.args.f.now c.args.port n) own c.requires.new.0)

@@ -1,5 +1,5 @@
 -- Where the next command looks at what came, a packet is taken first.
-use Rattle.std.proofs.Common.{◌≡◌, ℕ, Bool, false, List, cond, inl, sym, ap, ◌∙◌, subst}
+use Rattle.std.proofs.Common.{◌≡◌, ℕ, Bool, List, cond, inl, sym, ap, ◌∙◌, subst, arith}
 use Rattle.nm_types.specs.declared.scripts.Line.{Line}
 use Rattle.nm_process.specs.Work.{IsAtWork}
 use Rattle.std.specs.Prelude.{IfOk}
@@ -13,14 +13,15 @@ use Rattle.nm_world.proofs.actors.Actor.look.Goals as goal
 pub returns-then-not-next_looks : goal.returns-then-not-next_looks
 returns-then-not-next_looks g c =
     let a = c.args.self.now in
-    let s = c.requires.1 in
+    let s = c.requires.1.1 in
     let lines = c.args.lines.now in
-    let work = subst (λ (x : List Line). IsAtWork a.process.rank.sizes x a.process) (sym c.requires.0)
+    let work = subst (λ (x : List Line). IsAtWork a.process.rank.sizes x a.process) (sym c.requires.1.0)
     s.is.standing.work in
     let n = a.process.rank.sizes.ranks in
     let found = c.next_looks.ensures a.process.rank.sizes work in
     let next : 0 ≡ looks_next lines a.process = ap (λ (b : Bool). cond b 1 0) (sym c.if-not-next_looks.true ∙ found) in
     record {
+      bound = omega arith;
       kept = kept_same g.here.lines c.args.f.now g.here.rings a s;
       moved = did_same c.args.f.now.ranks a;
       stepped = stepped_none a;
@@ -28,18 +29,19 @@ returns-then-not-next_looks g c =
     }
 
 pub take_next-requires : goal.take_next-requires
-take_next-requires g c = c.requires.1
+take_next-requires g c lifetimes outlive = (outlive, c.requires.1.1)
 
 pub returns : goal.returns
 returns g c =
     let a = c.args.self.now in
-    let s = c.requires.1 in
+    let s = c.requires.1.1 in
     let lines = c.args.lines.now in
-    let work = subst (λ (x : List Line). IsAtWork a.process.rank.sizes x a.process) (sym c.requires.0)
+    let work = subst (λ (x : List Line). IsAtWork a.process.rank.sizes x a.process) (sym c.requires.1.0)
     s.is.standing.work in
     let found = c.next_looks.ensures a.process.rank.sizes work in
     let next : 1 ≡ looks_next lines a.process = ap (λ (b : Bool). cond b 1 0) (sym c.if-not-next_looks.false ∙ found) in
     record {
+      bound = c.take_next.ensures.bound;
       kept = c.take_next.ensures.kept;
       moved = c.take_next.ensures.moved;
       stepped = c.take_next.ensures.stepped;

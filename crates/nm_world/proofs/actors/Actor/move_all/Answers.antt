@@ -1,5 +1,5 @@
 -- Each part goes on from the one before.
-use Rattle.std.proofs.Common.{◌≡◌, ◌||◌, List, subst, sym, ap}
+use Rattle.std.proofs.Common.{◌≡◌, ◌||◌, List, subst, sym, ap, arith}
 use Rattle.nm_types.specs.declared.scripts.Line.{Line}
 use Rattle.nm_types.specs.declared.packets.Packet.{Packet}
 use Rattle.nm_cells.specs.declared.port.Fabric.{Fabric}
@@ -13,49 +13,64 @@ use Rattle.nm_world.proofs.actors.Actor.move_all.Goals as goal
 use Rattle.nm_types.proofs.TruthLemmas.{neither}
 
 pub send_all-requires : goal.send_all-requires
-send_all-requires g c =
-    subst (λ (x : Environment). ActorInvariant x.lines c.args.f.now x.rings c.args.self.now) (sym c.requires.0) c.requires.1
+send_all-requires g c lifetimes outlive = (
+  outlive,
+  subst (λ (x : Environment). ActorInvariant x.lines c.args.f.now x.rings c.args.self.now) (sym c.requires.1.0)
+      c.requires.1.1,
+)
 
 pub push_all-requires : goal.push_all-requires
-push_all-requires g c =
-    let p = c.send_all.new.self in
-    subst (λ (x : Fabric Packet). ActorInvariant g.here.lines x c.args.r.now p) (sym (ap (λ (x : Environment). x.fabric) c.requires.0))
-    (subst (λ (x : Rings). ActorInvariant g.here.lines c.args.f.now x p) (ap (λ (x : Environment). x.rings) c.requires.0)
-    c.in_ok-sent.ensures.kept.stands)
+push_all-requires g c lifetimes outlive =
+    let p = c.send_all.new.self in (
+      outlive,
+      subst (λ (x : Fabric Packet). ActorInvariant g.here.lines x c.args.r.now p)
+          (sym (ap (λ (x : Environment). x.fabric) c.requires.1.0))
+          (subst (λ (x : Rings). ActorInvariant g.here.lines c.args.f.now x p)
+          (ap (λ (x : Environment). x.rings) c.requires.1.0) c.in_ok-sent.ensures.kept.stands),
+    )
 
 pub take_all-requires : goal.take_all-requires
-take_all-requires g c =
-    let p = c.push_all.new.self in
-    subst (λ (x : Rings). ActorInvariant g.here.lines c.args.f.now x p) (sym (ap (λ (x : Environment). x.rings) c.requires.0))
-    (subst (λ (x : Fabric Packet). ActorInvariant g.here.lines x c.args.r.now p) (ap (λ (x : Environment). x.fabric) c.requires.0)
-    c.in_ok-pushed.ensures.kept.stands)
+take_all-requires g c lifetimes outlive =
+    let p = c.push_all.new.self in (
+      outlive,
+      subst (λ (x : Rings). ActorInvariant g.here.lines c.args.f.now x p)
+          (sym (ap (λ (x : Environment). x.rings) c.requires.1.0))
+          (subst (λ (x : Fabric Packet). ActorInvariant g.here.lines x c.args.r.now p)
+          (ap (λ (x : Environment). x.fabric) c.requires.1.0) c.in_ok-pushed.ensures.kept.stands),
+    )
 
 pub pull_all-requires : goal.pull_all-requires
-pull_all-requires g c =
+pull_all-requires g c lifetimes outlive =
     let p = c.take_all.new.self in
-    let fabric = sym (ap (λ (x : Environment). x.fabric) c.requires.0) in (
-      ap (λ (x : Fabric Packet). x.ranks) fabric,
-      subst (λ (x : Fabric Packet). ActorInvariant g.here.lines x c.args.r.now p) fabric
-          (subst (λ (x : Rings). ActorInvariant g.here.lines c.args.f.now x p) (ap (λ (x : Environment). x.rings) c.requires.0)
-          c.in_ok-took.ensures.kept.stands),
+    let fabric = sym (ap (λ (x : Environment). x.fabric) c.requires.1.0) in (
+      outlive,
+      (
+        ap (λ (x : Fabric Packet). x.ranks) fabric,
+        subst (λ (x : Fabric Packet). ActorInvariant g.here.lines x c.args.r.now p) fabric
+            (subst (λ (x : Rings). ActorInvariant g.here.lines c.args.f.now x p)
+            (ap (λ (x : Environment). x.rings) c.requires.1.0) c.in_ok-took.ensures.kept.stands),
+      ),
     )
 
 pub run_all-requires : goal.run_all-requires
-run_all-requires g c =
+run_all-requires g c lifetimes outlive =
     let p = c.pull_all.new.self in (
-      sym (ap (λ (x : Environment). x.fabric) c.requires.0),
+      outlive,
       (
-        subst (λ (x : Rings). ActorInvariant c.args.lines.now g.here.fabric x p)
-            (sym (ap (λ (x : Environment). x.rings) c.requires.0))
-            (subst (λ (x : List Line). ActorInvariant x g.here.fabric c.args.r.now p)
-            (ap (λ (x : Environment). x.lines) c.requires.0) c.in_ok-pulled.ensures.kept.stands),
-        sym (ap (λ (x : Environment). x.lines) c.requires.0),
+        sym (ap (λ (x : Environment). x.fabric) c.requires.1.0),
+        (
+          subst (λ (x : Rings). ActorInvariant c.args.lines.now g.here.fabric x p)
+              (sym (ap (λ (x : Environment). x.rings) c.requires.1.0))
+              (subst (λ (x : List Line). ActorInvariant x g.here.fabric c.args.r.now p)
+              (ap (λ (x : Environment). x.lines) c.requires.1.0) c.in_ok-pulled.ensures.kept.stands),
+          sym (ap (λ (x : Environment). x.lines) c.requires.1.0),
+        ),
       ),
     )
 
 pub returns : goal.returns
 returns g c =
-    let here = c.requires.0 in
+    let here = c.requires.1.0 in
     let lines = c.args.lines.now in
     let f = c.args.f.now in
     let r = c.args.r.now in
@@ -83,7 +98,12 @@ returns g c =
     let st = kept_and n lines f r a p t _ c.in_ok-took.took sp.0 three sp.1 took.moved in
     let su = kept_and n lines f r a t u _ c.in_ok-pulled.pulled st.0 four st.1 pull_moved in
     let se = kept_and n lines f r a u e _ c.in_ok-ran.ran su.0 five su.1 run_moved in
-    let stands = c.requires.1 in
+    let stands = c.requires.1.1 in
+    let to_s = sent.bound in
+    let to_p = pushed.bound in
+    let to_t = took.bound in
+    let to_u = pulled.bound in
+    let to_e = ran.bound in
     record {
       kept = se.0;
       moved = se.1;
@@ -107,4 +127,5 @@ returns g c =
           (pulled.none n3.1 fresh_t) (ran.stuck n4.1 fresh_u);
       looked = turn_looked lines f r a s p t u e one two three four five stands sent.stepped.at pushed.stepped.at
           took.stepped.at pulled.stepped.at took.polled pulled.stepped.worn ran.worn ran.polled;
+      bound = omega (arith, to_s, to_p, to_t, to_u, to_e);
     }

@@ -1,32 +1,33 @@
 -- Each rank's pieces go on from those of the one before.
-use Rattle.std.proofs.Common.{◌≡◌, ◌<◌, ◌≤◌, ◌∙◌, subst, sym, arith}
-use native.Mathlib.Decide.{ℕ_discrete}
+use Rattle.std.proofs.Common.{subst, sym, arith}
 use Rattle.nm_rank.specs.Ranks.{IsFresh}
 use Rattle.nm_process.specs.Processes.{ProcessView}
 use Rattle.nm_world.proofs.Did.{did_on, did_same}
 use Rattle.nm_world.proofs.Grows.{kept_on, kept_same}
 use Rattle.nm_world.proofs.Idle.{more_none, stepped_none, stepped_on}
+use Rattle.nm_world.proofs.Loops.{spent_all, spent_last, spent_more}
 use Rattle.nm_world.proofs.actors.Actor.pull_all.Goals as goal
 use Rattle.nm_types.proofs.TruthLemmas.{neither}
 
 pub loop-sender-init : goal.loop-sender-init
 loop-sender-init g c = record {
-  kept = kept_same g.here.lines g.here.fabric c.args.r.now c.args.self.now c.requires.1;
+  kept = kept_same g.here.lines g.here.fabric c.args.r.now c.args.self.now c.requires.1.1;
   moved = did_same g.here.fabric.ranks c.args.self.now;
   stepped = stepped_none c.args.self.now;
   none = λ none fresh i low. absurd (omega (arith, low));
   end = c.ranks-sender-end.ensures;
+  bound = omega arith;
 }
 
 pub pull_some-requires : goal.pull_some-requires
-pull_some-requires g c =
+pull_some-requires g c lifetimes outlive =
     let s = c.loop-sender.invariant.kept.stands in
     let low = c.loop-sender-test.true in
     let end = c.loop-sender.invariant.end in
-    let ranks = c.requires.0 in
+    let ranks = c.requires.1.0 in
     let cells = s.is.ranks.0 in
     let rings = s.is.ranks.1 in
-    (s, omega (arith, low, end, ranks, cells, rings))
+    (outlive, (s, omega (arith, low, end, ranks, cells, rings)))
 
 pub loop-sender-preserved : goal.loop-sender-preserved
 loop-sender-preserved g c =
@@ -47,6 +48,8 @@ loop-sender-preserved g c =
           more_none a b d c.loop-sender.sender i one.kept.grows two.kept.grows same low
           (λ below. one.none both.0 fresh i below) (two.none both.1 fresh_too);
       end = one.end;
+      bound = spent_more c.loop-sender.sender 12 c.args.steps.now c.loop-sender.steps c.pull_some.new.steps
+          one.bound two.bound;
     }
 
 pub returns : goal.returns
@@ -59,4 +62,14 @@ returns g c =
       moved = i.moved;
       stepped = i.stepped;
       none = λ none fresh k low. i.none none fresh k (omega (arith, low, end, past));
+      bound = spent_all c.loop-sender.sender c.args.f.now.ranks 12 c.args.steps.now c.loop-sender.steps
+          (omega (arith, end)) i.bound;
     }
+
+pub returns-in_err-one-clause-bound : goal.returns-in_err-one-clause-bound
+returns-in_err-one-clause-bound g c =
+    let i = c.loop-sender.invariant in
+    let end = i.end in
+    let low = c.loop-sender-test.true in
+    spent_last c.loop-sender.sender c.args.f.now.ranks 12 c.args.steps.now c.loop-sender.steps
+    c.pull_some.new.steps (omega (arith, low, end)) i.bound c.in_err-one.ensures.bound

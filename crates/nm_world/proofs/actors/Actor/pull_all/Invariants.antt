@@ -1,4 +1,4 @@
-use Rattle.std.proofs.Common.{◌≡◌, ◌<◌, ℕ, false}
+use Rattle.std.proofs.Common.{◌≡◌, ◌<◌, ◌≤◌, ◌+◌, ◌*◌, ℕ, false}
 use Rattle.nm_rank.specs.Ranks.{IsFresh}
 use Rattle.nm_world.specs.Actors.{Continues, did}
 use Rattle.nm_world.specs.Idle.{NoPiece, Stepped}
@@ -15,4 +15,5 @@ invariant-loop-sender g l = record {
   none : l.moved ≡ false → IsFresh l.initial.self.process.rank → (i : ℕ) → i < l.sender →
       NoPiece l.initial.self l.self i;
   end : l.sender-end ≡ l.f.ranks;
+  bound : l.steps ≤ l.initial.steps + l.sender * 12;
 }

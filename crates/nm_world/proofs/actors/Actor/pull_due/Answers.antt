@@ -19,18 +19,18 @@ use Rattle.nm_world.proofs.actors.Actor.pull_due.Goals as goal
 
 pub returns : goal.returns
 returns g c =
-    let s = c.requires.0 in
+    let s = c.requires.1.0 in
     let a = c.args.self.now in
     let v = c.take_piece.new.self in
     let q = c.in-Ok.piece.value in
     let next = c.in-Ok.ensures.next in
     let knew = c.in-Ok.ensures.pulled in
     let shape = a.process.rank.sizes in
-    let sender = c.requires.1.0 in
+    let sender = c.requires.1.1.0 in
     let ranks = s.is.ranks.1 in
     let own = next.0 in
     let work = c.in_ok-take_piece.ensures.work shape g.here.lines s.is.standing.work in
-    let due = c.requires.1.1.0 in
+    let due = c.requires.1.1.1.0 in
     let taken = subst (λ (p : Piece). TakesPiece p a.process.rank v.rank) c.deref.ensures
     c.in_ok-take_piece.ensures.taken in
     let on = c.a_piece_is_taken.ensures shape g.here.lines a.port.rank a.process.rank v.rank s.past q
@@ -41,7 +41,7 @@ returns g c =
     let n = g.here.fabric.ranks in
     let wide = s.is.rings.1.2 in
     let cells = s.is.ranks.0 in
-    let port = c.pulled.new.port in
+    let port = c.pull.new.port in
     let b : Actor = record { process = v; port = a.port; ring = port; places = tt } in
     let low : c.args.sender < length (ring.knows a.ring).lanes = omega (arith, sender, wide) in
     let grows : Grows a b = record {
@@ -49,8 +49,9 @@ returns g c =
       port = port_same a.port;
       ring = ring_up a.ring port (one_pulled q) c.args.sender low (pulled_up q) knew;
     } in
-    let fresh = c.requires.1.1.1 in
+    let fresh = c.requires.1.1.1.1 in
     record {
+      bound = c.pull.ensures.bound;
       stepped = stepped_fresh true a b fresh (ap (λ (x : ProcessView). x.at) c.in_ok-take_piece.ensures.others)
           (λ none. absurd (clash none));
       none = λ none. absurd (clash none);
@@ -60,23 +61,24 @@ returns g c =
         grows = grows;
         seat = seat_is a v a.port.rank refl taken.sizes;
         stands = pull_on g.here.lines g.here.fabric c.args.r.now a v port c.args.sender q s
-            c.pulled.ensures.owns.0 c.pulled.ensures.owns.1 sender own knew work on;
+            c.pull.ensures.owns.0 c.pull.ensures.owns.1 sender own knew work on;
       };
     }
 
 pub returns-in-Err : goal.returns-in-Err
 returns-in-Err g c =
-    let s = c.requires.0 in
+    let s = c.requires.1.0 in
     let a = c.args.self.now in
-    let sender = c.requires.1.0 in
+    let sender = c.requires.1.1.0 in
     let wide = s.is.rings.1.2 in
     let missed = c.in-Err.ensures.missed in
-    let done = ring_missed g.here.lines g.here.fabric c.args.r.now a c.pulled.new.port one_empty c.args.sender s
-    c.pulled.ensures.owns.0 c.pulled.ensures.owns.1 (omega (arith, sender, wide)) empty_up (λ l. (refl, refl))
+    let done = ring_missed g.here.lines g.here.fabric c.args.r.now a c.pull.new.port one_empty c.args.sender s
+    c.pull.ensures.owns.0 c.pull.ensures.owns.1 (omega (arith, sender, wide)) empty_up (λ l. (refl, refl))
     missed in
-    let fresh = c.requires.1.1.1 in
-    let b : Actor = record a { ring = c.pulled.new.port } in
+    let fresh = c.requires.1.1.1.1 in
+    let b : Actor = record a { ring = c.pull.new.port } in
     record {
+      bound = c.pull.ensures.bound;
       kept = done.0;
       moved = done.1;
       stepped = stepped_fresh false a b fresh refl (λ none. refl);

@@ -1,3 +1,4 @@
+use Rattle.std.proofs.Common.{◌≤◌, ◌+◌, ◌*◌}
 use Rattle.nm_world.proofs.Loops.{HasLooped}
 use Rattle.nm_world.proofs.actors.Actor.pull_some.Given as goal
 
@@ -5,5 +6,7 @@ abbrev pub ghost-pull_next : goal.ghost-pull_next
 ghost-pull_next g a = g.here
 
 abbrev pub invariant-loop-pulled : goal.invariant-loop-pulled
-invariant-loop-pulled g l =
-    HasLooped g.here.fabric.ranks g.here.lines g.here.fabric l.r l.pulled l.initial.self l.self
+invariant-loop-pulled g l = record {
+  looped : HasLooped g.here.fabric.ranks g.here.lines g.here.fabric l.r l.pulled l.initial.self l.self;
+  bound : l.steps ≤ l.initial.steps + l.pulled * 3;
+}

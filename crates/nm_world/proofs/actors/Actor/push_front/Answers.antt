@@ -19,7 +19,7 @@ use Rattle.nm_world.proofs.actors.Actor.push_front.Goals as goal
 
 pub returns : goal.returns
 returns g c =
-    let s = c.requires.0 in
+    let s = c.requires.1.0 in
     let a = c.args.self.now in
     let v = c.pop_piece.new.self in
     let next = rw c.rank.ensures at c.in-Some.ensures.next in
@@ -38,26 +38,27 @@ returns g c =
     let n = g.here.fabric.ranks in
     let low : to < c.args.r.now.ranks = omega (arith, within, ranks) in
     let wide = s.is.rings.1.2 in
-    let b : Actor = record { process = v; port = a.port; ring = c.pushed.new.port; places = tt } in
+    let b : Actor = record { process = v; port = a.port; ring = c.push.new.port; places = tt } in
     let grows : Grows a b = record {
       events = (_, pops.left.events);
       port = port_same a.port;
-      ring = ring_up a.ring c.pushed.new.port (one_pushed q) to (omega (arith, low, wide))
+      ring = ring_up a.ring c.push.new.port (one_pushed q) to (omega (arith, low, wide))
           (pushed_up q) knew;
     } in
     let cells = s.is.ranks.0 in
-    let fresh = c.requires.1 in
+    let fresh = c.requires.1.1 in
     record {
+      bound = c.push.ensures.bound;
       stepped = stepped_fresh true a b fresh (ap (λ (x : ProcessView). x.at) p.others) (λ none. absurd (clash none));
       back = λ none. absurd (clash none);
       moved = did_more n a b grows (pushed to (omega (arith, within, cells))
-          (pushed_more (ring.knows a.ring) (ring.knows c.pushed.new.port) to q
+          (pushed_more (ring.knows a.ring) (ring.knows c.push.new.port) to q
           (omega (arith, low, wide)) knew));
       kept = record {
         grows = grows;
         seat = seat_is a v a.port.rank refl pops.takes.sizes;
-        stands = push_on g.here.lines g.here.fabric c.args.r.now a v c.pushed.new.port to
-            q _ s c.pushed.ensures.owns.0 c.pushed.ensures.owns.1 low knew work on;
+        stands = push_on g.here.lines g.here.fabric c.args.r.now a v c.push.new.port to
+            q _ s c.push.ensures.owns.0 c.push.ensures.owns.1 low knew work on;
       };
     }
 
@@ -65,7 +66,8 @@ pub returns-in_default : goal.returns-in_default
 returns-in_default g c =
     let a = c.args.self.now in
     record {
-      kept = kept_same g.here.lines g.here.fabric c.args.r.now a c.requires.0;
+      bound = omega arith;
+      kept = kept_same g.here.lines g.here.fabric c.args.r.now a c.requires.1.0;
       moved = did_same g.here.fabric.ranks a;
       stepped = stepped_none a;
       back = λ none. subst (λ (o : Option Offered). IfSome o (λ o. full_to a.ring o.to < full_to a.ring o.to))
@@ -74,7 +76,7 @@ returns-in_default g c =
 
 pub returns-in-Err : goal.returns-in-Err
 returns-in-Err g c =
-    let s = c.requires.0 in
+    let s = c.requires.1.0 in
     let a = c.args.self.now in
     let to = c.in-Some.to in
     let own = rw c.rank.ensures at c.in-Some.ensures.own in
@@ -82,12 +84,13 @@ returns-in-Err g c =
     let ranks = s.is.ranks.1 in
     let wide = s.is.rings.1.2 in
     let low : to < length (ring.knows a.ring).lanes = omega (arith, within, ranks, wide) in
-    let knew = c.in-Err.ensures.refused in
-    let done = ring_missed g.here.lines g.here.fabric c.args.r.now a c.pushed.new.port one_full to s
-    c.pushed.ensures.owns.0 c.pushed.ensures.owns.1 low full_up (λ l. (refl, refl)) knew in
-    let fresh = c.requires.1 in
-    let b : Actor = record a { ring = c.pushed.new.port } in
+    let knew = c.in-Err.ensures.refused.1 in
+    let done = ring_missed g.here.lines g.here.fabric c.args.r.now a c.push.new.port one_full to s
+    c.push.ensures.owns.0 c.push.ensures.owns.1 low full_up (λ l. (refl, refl)) knew in
+    let fresh = c.requires.1.1 in
+    let b : Actor = record a { ring = c.push.new.port } in
     record {
+      bound = c.push.ensures.bound;
       kept = done.0;
       moved = done.1;
       stepped = stepped_fresh false a b fresh refl (λ none. refl);

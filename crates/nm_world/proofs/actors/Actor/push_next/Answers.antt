@@ -17,7 +17,8 @@ pub returns-in_default : goal.returns-in_default
 returns-in_default g c =
     let a = c.args.self.now in
     record {
-      kept = kept_same g.here.lines g.here.fabric c.args.r.now a c.requires;
+      bound = omega arith;
+      kept = kept_same g.here.lines g.here.fabric c.args.r.now a c.requires.1;
       moved = did_same g.here.fabric.ranks a;
       stepped = stepped_none a;
       back = λ none fresh. none_back a (rw c.rank-rank.ensures at c.in_default.ensures.to);
@@ -27,28 +28,30 @@ pub returns-then-is_worn : goal.returns-then-is_worn
 returns-then-is_worn g c =
     let a = c.args.self.now in
     record {
-      kept = kept_same g.here.lines g.here.fabric c.args.r.now a c.requires;
+      bound = omega arith;
+      kept = kept_same g.here.lines g.here.fabric c.args.r.now a c.requires.1;
       moved = did_same g.here.fabric.ranks a;
       stepped = stepped_none a;
       back = λ none fresh. absurd (clash (sym c.if-is_worn.true
           ∙ (rw c.rank-rank.ensures at c.is_worn.ensures).1 fresh));
     }
 
-pub returns-then-not-pushable : goal.returns-then-not-pushable
-returns-then-not-pushable g c =
-    let s = c.requires in
+pub returns-then-not-can_push : goal.returns-then-not-can_push
+returns-then-not-can_push g c =
+    let s = c.requires.1 in
     let a = c.args.self.now in
     let to = c.in-Some.to in
     let within = rw c.rank-rank.ensures at c.in-Some.ensures.in_range in
     let ranks = s.is.ranks.1 in
     let wide = s.is.rings.1.2 in
     let low : to < length (ring.knows a.ring).lanes = omega (arith, within, ranks, wide) in
-    let knew = c.pushable.ensures.full c.if-not-pushable.true in
-    let done = ring_missed g.here.lines g.here.fabric c.args.r.now a c.pushable.new.port one_full to s
-    c.pushable.ensures.owns.0 c.pushable.ensures.owns.1 low full_up (λ l. (refl, refl)) knew in
+    let knew = c.can_push.ensures.full c.if-not-can_push.true in
+    let done = ring_missed g.here.lines g.here.fabric c.args.r.now a c.can_push.new.port one_full to s
+    c.can_push.ensures.owns.0 c.can_push.ensures.owns.1 low full_up (λ l. (refl, refl)) knew in
     let fresh = (rw c.rank-rank.ensures at c.is_worn.ensures).0 c.if-is_worn.false in
-    let b : Actor = record a { ring = c.pushable.new.port } in
+    let b : Actor = record a { ring = c.can_push.new.port } in
     record {
+      bound = let cost = c.can_push.ensures.cost in omega (arith, cost);
       kept = done.0;
       moved = done.1;
       stepped = stepped_fresh false a b fresh refl (λ none. refl);
@@ -56,24 +59,25 @@ returns-then-not-pushable g c =
     }
 
 pub push_front-requires : goal.push_front-requires
-push_front-requires g c =
+push_front-requires g c lifetimes outlive =
     let a = c.args.self.now in
-    let looked = ring_looked g.here.lines g.here.fabric c.args.r.now a c.pushable.new.port c.requires
-    c.pushable.ensures.owns.0 c.pushable.ensures.owns.1 (c.pushable.ensures.free c.if-not-pushable.false) in
-    (looked.0.stands, (rw c.rank-rank.ensures at c.is_worn.ensures).0 c.if-is_worn.false)
+    let looked = ring_looked g.here.lines g.here.fabric c.args.r.now a c.can_push.new.port c.requires.1
+    c.can_push.ensures.owns.0 c.can_push.ensures.owns.1 (c.can_push.ensures.free c.if-not-can_push.false) in
+    (outlive, (looked.0.stands, (rw c.rank-rank.ensures at c.is_worn.ensures).0 c.if-is_worn.false))
 
 pub returns : goal.returns
 returns g c =
     let a = c.args.self.now in
-    let port = c.pushable.new.port in
-    let knew = c.pushable.ensures.free c.if-not-pushable.false in
-    let looked = ring_looked g.here.lines g.here.fabric c.args.r.now a port c.requires
-    c.pushable.ensures.owns.0 c.pushable.ensures.owns.1 knew in
+    let port = c.can_push.new.port in
+    let knew = c.can_push.ensures.free c.if-not-can_push.false in
+    let looked = ring_looked g.here.lines g.here.fabric c.args.r.now a port c.requires.1
+    c.can_push.ensures.owns.0 c.can_push.ensures.owns.1 knew in
     let b : Actor = record a { ring = port } in
     let d = c.push_front.new.self in
     let e = c.push_front.ensures in
     let fresh = (rw c.rank-rank.ensures at c.is_worn.ensures).0 c.if-is_worn.false in
     record {
+      bound = let cost = c.can_push.ensures.cost in let more = e.bound in omega (arith, cost, more);
       kept = kept_on g.here.lines g.here.fabric c.args.r.now a b d looked.0 e.kept;
       moved = did_on g.here.fabric.ranks a b d false c.push_front.result looked.0.grows e.kept.grows looked.1 e.moved;
       stepped = stepped_fresh c.push_front.result a d fresh e.stepped.at e.stepped.still;

@@ -1,5 +1,5 @@
 -- Each command goes on from the one before.
-use Rattle.std.proofs.Common.{◌≡◌, ◌+◌, ◌||◌, List, true, false, refl, sym, ap, ◌∙◌, subst, arith}
+use Rattle.std.proofs.Common.{◌≡◌, ◌+◌, ◌||◌, List, false, refl, sym, ap, ◌∙◌, subst, arith}
 use Rattle.std.specs.Prelude.{nat_lt}
 use Rattle.nm_rank.specs.Ranks.{IsFresh}
 use Rattle.nm_process.specs.Processes.{ProcessView}
@@ -13,7 +13,7 @@ use Rattle.nm_world.specs.Looks.{PolledBefore}
 use Rattle.nm_world.proofs.Did.{did_same, kept_and}
 use Rattle.nm_world.proofs.Grows.{kept_same}
 use Rattle.nm_world.proofs.Looks.{looked_last, looked_more, looked_none}
-use Rattle.nm_world.proofs.Loops.{all_made, is_first, none_ran, or_swap, some_more, stays_worn}
+use Rattle.nm_world.proofs.Loops.{all_made, is_first, none_ran, or_swap, some_more, spent_all, spent_last, spent_more, stays_worn}
 use Rattle.nm_world.proofs.Results.{clash}
 use Rattle.nm_world.proofs.actors.Actor.run_all.Goals as goal
 use Rattle.nm_types.proofs.TruthLemmas.{or_right, neither}
@@ -23,25 +23,29 @@ pub loop-ran-init : goal.loop-ran-init
 loop-ran-init g c =
     let a = c.args.self.now in
     record {
-      kept = kept_same c.args.lines.now g.here.fabric g.here.rings a c.requires.1.0;
+      kept = kept_same c.args.lines.now g.here.fabric g.here.rings a c.requires.1.1.0;
       moved = did_same g.here.fabric.ranks a;
       first = λ e. refl;
       polled = looked_none c.args.lines.now a;
       worn = λ worn. refl;
+      bound = omega arith;
     }
 
 pub look-requires : goal.look-requires
-look-requires g c = (
-  c.requires.1.1,
-  subst (λ (x : List Line). ActorInvariant x c.args.f.now g.here.rings c.loop-ran.self) c.requires.1.1
-      (subst (λ (x : Fabric Packet). ActorInvariant c.args.lines.now x g.here.rings c.loop-ran.self) (sym c.requires.0)
-      c.loop-ran.invariant.kept.stands),
+look-requires g c lifetimes outlive = (
+  outlive,
+  (
+    c.requires.1.1.1,
+    subst (λ (x : List Line). ActorInvariant x c.args.f.now g.here.rings c.loop-ran.self) c.requires.1.1.1
+        (subst (λ (x : Fabric Packet). ActorInvariant c.args.lines.now x g.here.rings c.loop-ran.self)
+        (sym c.requires.1.0) c.loop-ran.invariant.kept.stands),
+  ),
 )
 
 pub run_next-requires : goal.run_next-requires
 run_next-requires g c =
-    subst (λ (x : Fabric Packet). ActorInvariant c.args.lines.now x g.here.rings c.look.new.self) c.requires.0
-    (subst (λ (x : List Line). ActorInvariant x c.args.f.now g.here.rings c.look.new.self) (sym c.requires.1.1)
+    subst (λ (x : Fabric Packet). ActorInvariant c.args.lines.now x g.here.rings c.look.new.self) c.requires.1.0
+    (subst (λ (x : List Line). ActorInvariant x c.args.f.now g.here.rings c.look.new.self) (sym c.requires.1.1.1)
     c.in_ok-looked.ensures.kept.stands)
 
 pub loop-ran-preserved : goal.loop-ran-preserved
@@ -55,9 +59,9 @@ loop-ran-preserved g c =
     let d = c.run_next.new.self in
     let one = c.loop-ran.invariant in
     let two = c.in_ok-looked.ensures in
-    let two_kept = subst (λ (x : Fabric Packet). Continues lines x r b m) c.requires.0
-    (subst (λ (x : List Line). Continues x c.args.f.now r b m) (sym c.requires.1.1) two.kept) in
-    let two_moved = subst (λ (x : Fabric Packet). c.in_ok-looked.looked ≡ did x.ranks b m) c.requires.0 two.moved in
+    let two_kept = subst (λ (x : Fabric Packet). Continues lines x r b m) c.requires.1.0
+    (subst (λ (x : List Line). Continues x c.args.f.now r b m) (sym c.requires.1.1.1) two.kept) in
+    let two_moved = subst (λ (x : Fabric Packet). c.in_ok-looked.looked ≡ did x.ranks b m) c.requires.1.0 two.moved in
     let three = c.in_ok-run_next.ensures in
     let ran = three.ran c.if-not-branch.false in
     let both = kept_and f.ranks lines f r a b m (c.loop-ran.took || nat_lt 0 c.loop-ran.ran) c.in_ok-looked.looked
@@ -70,9 +74,11 @@ loop-ran-preserved g c =
           ∙ sym (or_right ((c.loop-ran.took || nat_lt 0 c.loop-ran.ran) || c.in_ok-looked.looked)
           c.in_ok-run_next.field-0 c.if-not-branch.false) ∙ all.1;
       first = λ e. absurd (omega (arith, e));
-      polled = looked_more lines f r a b m d c.requires.1.0 one.kept two_kept three.kept two.stepped.at one.polled
+      polled = looked_more lines f r a b m d c.requires.1.1.0 one.kept two_kept three.kept two.stepped.at one.polled
           two.polled ran.0 ran.1;
       worn = λ worn. absurd (none_ran a b m one.worn two.stepped.worn worn ran.0);
+      bound = spent_more c.loop-ran.ran (c.args.f.now.ranks + 10)
+          c.args.steps.now c.loop-ran.steps c.look.new.steps one.bound two.bound;
     }
 
 pub returns-then-not-branch : goal.returns-then-not-branch
@@ -86,9 +92,9 @@ returns-then-not-branch g c =
     let d = c.run_next.new.self in
     let one = c.loop-ran.invariant in
     let two = c.in_ok-looked.ensures in
-    let two_kept = subst (λ (x : Fabric Packet). Continues lines x r b m) c.requires.0
-    (subst (λ (x : List Line). Continues x c.args.f.now r b m) (sym c.requires.1.1) two.kept) in
-    let two_moved = subst (λ (x : Fabric Packet). c.in_ok-looked.looked ≡ did x.ranks b m) c.requires.0 two.moved in
+    let two_kept = subst (λ (x : Fabric Packet). Continues lines x r b m) c.requires.1.0
+    (subst (λ (x : List Line). Continues x c.args.f.now r b m) (sym c.requires.1.1.1) two.kept) in
+    let two_moved = subst (λ (x : Fabric Packet). c.in_ok-looked.looked ≡ did x.ranks b m) c.requires.1.0 two.moved in
     let three = c.in_ok-run_next.ensures in
     let rests = c.if-not-branch.true in
     let took = c.loop-ran.took in
@@ -109,9 +115,22 @@ returns-then-not-branch g c =
       stuck = λ none fresh. subst (λ (v : ProcessView). goes_on (commands_of v.rank.me lines) v ≡ false) (still none)
           (three.stuck rests (subst (λ (v : ProcessView). IsFresh v.rank) (sym (still none)) fresh));
       polled = subst (λ (x : Actor). PolledBefore lines a x) (sym same)
-          (looked_last lines f r a b m c.requires.1.0 one.kept two_kept two.stepped.at one.polled);
+          (looked_last lines f r a b m c.requires.1.1.0 one.kept two_kept two.stepped.at one.polled);
       worn = λ worn. same ∙ stays_worn a b m one.worn two.stepped.worn worn;
+      bound = spent_last c.loop-ran.ran 64 (c.args.f.now.ranks + 10)
+          c.args.steps.now c.loop-ran.steps c.look.new.steps
+          c.loop-ran-test.true one.bound two.bound;
     }
+
+pub returns-in_err-looked-clause-bound : goal.returns-in_err-looked-clause-bound
+returns-in_err-looked-clause-bound g c =
+    spent_last c.loop-ran.ran 64 (c.args.f.now.ranks + 10) c.args.steps.now c.loop-ran.steps c.look.new.steps
+    c.loop-ran-test.true c.loop-ran.invariant.bound c.in_err-looked.ensures.bound
+
+pub returns-in_err-run_next-clause-bound : goal.returns-in_err-run_next-clause-bound
+returns-in_err-run_next-clause-bound g c =
+    spent_last c.loop-ran.ran 64 (c.args.f.now.ranks + 10) c.args.steps.now c.loop-ran.steps c.look.new.steps
+    c.loop-ran-test.true c.loop-ran.invariant.bound c.in_ok-looked.ensures.bound
 
 pub returns : goal.returns
 returns g c =
@@ -124,4 +143,6 @@ returns g c =
       stuck = λ none fresh. absurd (clash none);
       polled = i.polled;
       worn = i.worn;
+      bound = spent_all c.loop-ran.ran 64 (c.args.f.now.ranks + 10)
+          c.args.steps.now c.loop-ran.steps (omega arith) i.bound;
     }

@@ -1,4 +1,4 @@
-use Rattle.std.proofs.Common.{◌≡◌, ◌||◌}
+use Rattle.std.proofs.Common.{◌≡◌, ◌≤◌, ◌+◌, ◌*◌, ◌||◌}
 use Rattle.std.specs.Prelude.{nat_lt}
 use Rattle.nm_rank.specs.Ranks.{IsFresh}
 use Rattle.nm_world.specs.Actors.{Continues, did}
@@ -18,4 +18,5 @@ invariant-loop-ran g l = record {
   first : l.ran ≡ 0 → l.self ≡ l.initial.self;
   polled : PolledBefore l.lines l.initial.self l.self;
   worn : ¬ IsFresh l.initial.self.process.rank → l.self ≡ l.initial.self;
+  bound : l.steps ≤ l.initial.steps + l.ran * (l.f.ranks + 10);
 }

@@ -1,5 +1,5 @@
 -- The packet comes behind the others for its receiver.
-use Rattle.std.proofs.Common.{◌≡◌, ℕ, true, not, Option, List, sym, ap, subst, ◌∙◌, arith, refl}
+use Rattle.std.proofs.Common.{◌≡◌, ℕ, true, Option, List, sym, ap, subst, ◌∙◌, arith, refl}
 use Rattle.nm_types.specs.declared.packets.Packet.{Packet}
 use Rattle.nm_cells.specs.Ports.{knows}
 use Rattle.nm_port.specs.Polls.{count_held}
@@ -13,16 +13,17 @@ use Rattle.nm_sending.specs.declared.outbox.letters.Letter.{Letter}
 use Rattle.nm_process.specs.Processes.{ProcessView}
 use Rattle.nm_world.specs.Idle.{NotSent}
 use Rattle.nm_global.specs.ProcessInvariant.{IsOf, with_moment, with_packet_left}
+use Rattle.nm_chain.specs.declared.table.parcels.Parcel.{Parcel}
 use Rattle.nm_chain.specs.Rule.{Load, sent_to}
 use Rattle.nm_world.specs.declared.actors.Actor.{Actor}
 use Rattle.nm_world.specs.Actors.{Grows}
 use Rattle.nm_world.specs.Actors.Grew.{sent}
 use Rattle.nm_world.proofs.Did.{did_more, did_none, did_same}
-use Rattle.nm_world.proofs.Entries.{entry_on, miss_up, sent_more, sent_up, tried_up}
+use Rattle.nm_world.proofs.Entries.{entry_on, miss_up, sent_by_way, sent_more, tried_up}
 use Rattle.nm_world.proofs.Grows.{grows_same, kept_same, port_by, ring_same}
 use Rattle.nm_world.proofs.Idle.{came_back, stepped_fresh, stepped_none}
-use Rattle.nm_world.proofs.Leaves.{SentBy, send_carries, send_on, sent_by_way}
-use Rattle.nm_world.proofs.Results.{at_none, clash, none_first}
+use Rattle.nm_world.proofs.Leaves.{send_carries, send_on}
+use Rattle.nm_world.proofs.Results.{clash, none_first}
 use Rattle.nm_world.proofs.Steps.{back_got, back_sent, nothing_carried, seat_is}
 use Rattle.nm_world.proofs.actors.Actor.send_next.Goals as goal
 use Rattle.nm_sending.proofs.LetterLemmas.{first_letter}
@@ -31,7 +32,8 @@ pub returns-then-is_worn : goal.returns-then-is_worn
 returns-then-is_worn g c =
     let a = c.args.self.now in
     record {
-      kept = kept_same g.here.lines c.args.f.now g.here.rings a c.requires;
+      bound = omega arith;
+      kept = kept_same g.here.lines c.args.f.now g.here.rings a c.requires.1;
       moved = did_same c.args.f.now.ranks a;
       stepped = stepped_none a;
       back = λ none fresh. absurd
@@ -42,24 +44,38 @@ pub returns-in_default : goal.returns-in_default
 returns-in_default g c =
     let a = c.args.self.now in
     record {
-      kept = kept_same g.here.lines c.args.f.now g.here.rings a c.requires;
+      bound = omega arith;
+      kept = kept_same g.here.lines c.args.f.now g.here.rings a c.requires.1;
       moved = did_same c.args.f.now.ranks a;
       stepped = stepped_none a;
       back = λ none fresh. none_first (slice_get a.process.rank.sending.outbox.letters 0) _
           (NotSent a.port a.port) (rw c.rank-rank.ensures at c.in_default.ensures.first);
     }
 
-pub returns-then-is_none : goal.returns-then-is_none
-returns-then-is_none g c =
-    let s = c.requires in
-    let a = c.args.self.now in
-    let port = c.sent.new.port in
-    let e = c.in_ok-way.ensures in
-    let len : ℕ = length c.in-Some.packet.now.payload in let fits = is_short len in
+-- the parcel that is sent is the packet's
+pub send-requires-clause-parcel : goal.send-requires-clause-parcel
+send-requires-clause-parcel g c =
+    let made = c.in_ok-parcel.ensures in
+    let s = c.requires.1 in
+    let own = rw c.rank-rank.ensures at c.in-Some.ensures.own in
     let to = c.in-Some.to in
-    let miss : HadMiss false (tried fits to (knows a.port)) (knows port) =
-    at_none c.in_ok-way.way (HadMiss false (tried fits to (knows a.port)) (knows port)) e.back
-    (c.is_none.ensures ∙ ap not c.if-is_none.true) in
+    let number = own.2 ∙ sym (s.is.standing.rank.left to own.0).packets.popped ∙ (s.is.sent to own.0).many in (
+      ap (λ (x : Parcel Packet). x.from) made ∙ own.1 ∙ s.is.standing.rank.me,
+      ap (λ (x : Parcel Packet). x.seq) made ∙ number,
+    )
+
+pub returns-in-Err : goal.returns-in-Err
+returns-in-Err g c =
+    let s = c.requires.1 in
+    let a = c.args.self.now in
+    let port = c.send.new.port in
+    let e = c.send.ensures in
+    let len : ℕ = length c.in-Some.packet.now.payload in
+    let fits = is_short len in
+    let to = c.in-Some.to in
+    let miss = subst (λ (x : Parcel Packet). HadMiss false
+    (tried (is_short (length x.item.payload)) to (knows a.port)) (knows port)) c.in_ok-parcel.ensures
+    c.in-Err.ensures.back.2 in
     let n = c.args.f.now.ranks in
     let fresh = (rw c.rank-rank.ensures at c.is_worn.ensures).0 c.if-is_worn.false in
     let letters = a.process.rank.sending.outbox.letters in
@@ -91,19 +107,20 @@ returns-then-is_none g c =
         };
         seat = seat_is a a.process port.rank e.owns.1 refl;
         stands = nothing_carried g.here.lines c.args.f.now g.here.rings a port s e.owns.0 e.owns.1
-            (e.taken.2 ∙ s.is.rest ∙ ap count_held (sym e.taken.1)) e.hands e.taken.0
+            (e.taken.2 ∙ s.is.rest ∙ ap count_held (sym e.taken.1)) e.hands.0 e.taken.0
             (back_sent fits to (knows a.port) (knows port) miss)
             (back_got fits to (knows a.port) (knows port) miss);
       };
+      bound = e.bound;
     }
 
 pub returns : goal.returns
 returns g c =
-    let s = c.requires in
+    let s = c.requires.1 in
     let a = c.args.self.now in
     let v = c.pop_front.new.self in
-    let port = c.sent.new.port in
-    let e = c.in_ok-way.ensures in
+    let port = c.send.new.port in
+    let e = c.send.ensures in
     let p = c.pop_front.ensures in
     let pops = p.pops in
     let own = rw c.rank-rank.ensures at c.in-Some.ensures.own in
@@ -114,9 +131,8 @@ returns g c =
     let first = first_letter (slice_get letters 0) _ to c.in-Some.packet.now (λ none. cc)
     (rw c.rank-rank.ensures at c.in-Some.ensures.first) in
     let copied : packet ≡ first.0.packet = first.3 in
-    let way : SentBy (knows a.port) (knows port) to packet =
-    sent_by_way c.in_ok-way.way (is_short (length packet.payload)) to packet (knows a.port) (knows port)
-    (c.is_none.ensures ∙ ap not c.if-is_none.false) e.by_box e.by_cell in
+    let way = sent_by_way c.in-Ok.sent.path to packet c.in_ok-parcel.parcel.value c.in_ok-parcel.ensures (knows a.port) (knows port)
+    (λ is. (c.in-Ok.ensures.by_box is).1) c.in-Ok.ensures.by_cell in
     let within = own.0 in
     let left = s.is.standing.rank.left to within in
     let number = own.2 ∙ sym left.packets.popped
@@ -136,8 +152,7 @@ returns g c =
     let b : Actor = record { process = v; port = port; ring = a.ring; places = tt } in
     let grows : Grows a b = record {
       events = (_, pops.left.events);
-      port = port_by a.port port (sent_up c.in_ok-way.way (is_short (length packet.payload)) to packet (knows a.port)
-          (knows port) (c.is_none.ensures ∙ ap not c.if-is_none.false) e.by_box e.by_cell) e.taken.0;
+      port = port_by a.port port way.1 e.taken.0;
       ring = ring_same a.ring;
     } in
     let fresh = (rw c.rank-rank.ensures at c.is_worn.ensures).0 c.if-is_worn.false in
@@ -145,12 +160,13 @@ returns g c =
       stepped = stepped_fresh true a b fresh (ap (λ (x : ProcessView). x.at) p.others) (λ none. absurd (clash none));
       back = λ none fresh. absurd (clash none);
       moved = did_more n a b grows
-          (sent to (omega (arith, within, ranks)) (sent_more (knows a.port) (knows port) to packet way));
+          (sent to (omega (arith, within, ranks)) (sent_more (knows a.port) (knows port) to packet way.0));
       kept = record {
         grows = grows;
         seat = seat_is a v port.rank e.owns.1 pops.takes.sizes;
         stands = send_on (send_carries c.a_send_carries.ensures.by_box c.a_send_carries.ensures.by_cell)
             g.here.lines c.args.f.now g.here.rings a v port to packet _ s e.owns.0 e.owns.1 e.taken
-            e.hands way number work here;
+            e.hands.0 way.0 number work here;
       };
+      bound = e.bound;
     }

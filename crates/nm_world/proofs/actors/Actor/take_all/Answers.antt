@@ -1,17 +1,18 @@
 -- Each step goes on from the one before.
-use Rattle.std.proofs.Common.{◌≡◌, ◌⊎◌, Bool, subst, sym, ◌∙◌, arith, inl, inr, ⊎_elim}
+use Rattle.std.proofs.Common.{◌+◌, Bool, subst, sym, ◌∙◌, arith, inl}
 use Rattle.nm_rank.specs.Ranks.{IsFresh}
 use Rattle.nm_world.specs.declared.actors.Actor.{Actor}
 use Rattle.nm_world.specs.Idle.{GaveNone, Stepped}
 use Rattle.nm_world.proofs.Looks.{polled_by_step, polled_last}
-use Rattle.nm_world.proofs.Loops.{all_made, loop_last, loop_more, loop_none, some_made}
+use Rattle.nm_world.proofs.Loops.{all_made, loop_last, loop_more, loop_none, some_made, spent_all, spent_last, spent_more}
 use Rattle.nm_world.proofs.Results.{clash}
 use Rattle.nm_world.proofs.actors.Actor.take_all.Goals as goal
 
 pub loop-took-init : goal.loop-took-init
 loop-took-init g c = record {
-  looped = loop_none c.args.f.now.ranks g.here.lines c.args.f.now g.here.rings c.args.self.now c.requires;
+  looped = loop_none c.args.f.now.ranks g.here.lines c.args.f.now g.here.rings c.args.self.now c.requires.1;
   polled = λ some. absurd (omega (arith, some));
+  bound = omega arith;
 }
 
 pub loop-took-preserved : goal.loop-took-preserved
@@ -29,6 +30,8 @@ loop-took-preserved g c =
       polled = λ some. polled_by_step g.here.lines c.args.f.now g.here.rings c.args.f.now.ranks a b d
           c.in_ok-take_next.field-0 c.loop-took.invariant.looped.kept
           c.if-not-branch.false e.moved e.polled;
+      bound = spent_more c.loop-took.took (c.args.f.now.ranks + 10) c.args.steps.now c.loop-took.steps
+          c.take_next.new.steps c.loop-took.invariant.bound e.bound;
     }
 
 pub returns-then-not-branch : goal.returns-then-not-branch
@@ -49,7 +52,14 @@ returns-then-not-branch g c =
           (e.none c.if-not-branch.true (subst (λ (x : Actor). IsFresh x.process.rank) (sym same) fresh));
       polled = polled_last g.here.lines c.args.f.now g.here.rings c.args.f.now.ranks c.loop-took.took a b d
           c.loop-took.invariant.looped c.loop-took.invariant.polled e.kept.grows e.polled;
+      bound = spent_last c.loop-took.took 64 (c.args.f.now.ranks + 10) c.args.steps.now c.loop-took.steps
+          c.take_next.new.steps c.loop-took-test.true c.loop-took.invariant.bound e.bound;
     }
+
+pub returns-in_err-take_next-clause-bound : goal.returns-in_err-take_next-clause-bound
+returns-in_err-take_next-clause-bound g c =
+    spent_last c.loop-took.took 64 (c.args.f.now.ranks + 10) c.args.steps.now c.loop-took.steps
+    c.take_next.new.steps c.loop-took-test.true c.loop-took.invariant.bound c.in_err-take_next.ensures.bound
 
 pub returns : goal.returns
 returns g c =
@@ -61,4 +71,6 @@ returns g c =
       stepped = subst (λ (p : Bool). Stepped p c.args.self.now c.loop-took.self) some i.stepped;
       none = λ none fresh. absurd (clash none);
       polled = inl (c.loop-took.invariant.polled (some_made c.loop-took.took 64 c.loop-took-test.false (omega arith)));
+      bound = spent_all c.loop-took.took 64 (c.args.f.now.ranks + 10) c.args.steps.now c.loop-took.steps (omega arith)
+          c.loop-took.invariant.bound;
     }

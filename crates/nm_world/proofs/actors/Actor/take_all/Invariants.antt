@@ -1,4 +1,4 @@
-use Rattle.std.proofs.Common.{◌<◌}
+use Rattle.std.proofs.Common.{◌<◌, ◌≤◌, ◌+◌, ◌*◌}
 use Rattle.nm_world.specs.Looks.{Polled}
 use Rattle.nm_world.proofs.Loops.{HasLooped}
 use Rattle.nm_world.proofs.actors.Actor.take_all.Given as goal
@@ -11,4 +11,5 @@ invariant-loop-took g l = record {
   looped : HasLooped l.f.ranks g.here.lines l.f g.here.rings l.took l.initial.self l.self;
   polled : 0 < l.took →
       Polled l.initial.self.process.rank.sizes.ranks 1 l.initial.self.port l.self.port;
+  bound : l.steps ≤ l.initial.steps + l.took * (l.f.ranks + 10);
 }

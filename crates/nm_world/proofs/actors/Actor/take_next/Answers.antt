@@ -30,7 +30,8 @@ returns-then-is_worn g c =
     let not : ¬ IsFresh a.process.rank = λ fresh. clash
     (sym c.if-is_worn.true ∙ (rw c.rank-rank.ensures at c.is_worn.ensures).1 fresh) in
     record {
-      kept = kept_same g.here.lines c.args.f.now g.here.rings a c.requires;
+      bound = omega arith;
+      kept = kept_same g.here.lines c.args.f.now g.here.rings a c.requires.1;
       moved = did_same c.args.f.now.ranks a;
       stepped = stepped_none a;
       none = λ none fresh. absurd (not fresh);
@@ -40,31 +41,32 @@ returns-then-is_worn g c =
 pub returns-in-Err : goal.returns-in-Err
 returns-in-Err g c =
     let n = c.args.f.now.ranks in
-    let none = c.in-Err.ensures.none in
-    let s = c.requires in
+    let gave_back = c.in-Err.ensures.none in
+    let s = c.requires.1 in
     let a = c.args.self.now in
-    let port = c.polled.new.port in
+    let port = c.poll.new.port in
     let b : Actor = record a { port = port } in
-    let sent = none_sent (knows a.port) (knows port) none.0 in
+    let sent = none_sent (knows a.port) (knows port) gave_back.3 in
     let fresh = (rw c.rank-rank.ensures at c.is_worn.ensures).0 c.if-is_worn.false in
-    let gave = gave_none a.process.rank.sizes.ranks a.port port (s.is.cells.2 ∙ s.is.ranks.0) none.0 in
+    let gave = gave_none a.process.rank.sizes.ranks a.port port (s.is.cells.2 ∙ s.is.ranks.0) gave_back.3 in
     let grows : PortGrows a.port port = port_by a.port port (entry_on (knows a.port)
     (with_all_missed (knows a.port)) (knows port) (all_missed_up (knows a.port))
-    (miss_up true (with_all_missed (knows a.port)) (knows port) none.0)) none.1 in
+    (miss_up true (with_all_missed (knows a.port)) (knows port) gave_back.3)) gave_back.4 in
     record {
+      bound = c.poll.ensures.bound;
       stepped = stepped_fresh false a b fresh refl (λ none. refl);
       none = λ none fresh. gave;
       polled = inl (polled_miss a.process.rank.sizes.ranks a.port port grows gave.queue);
       moved = did_none n a b refl
           (λ j. ap (λ (xs : List (ℕ × Load Packet)). sent_to j xs (knows port).put) sent.box
           ∙ ap (λ (xs : List (ℕ × Load Packet)). sent_to j (knows a.port).put_box xs) sent.cell)
-          none.1 (λ j. (refl, refl));
+          gave_back.4 (λ j. (refl, refl));
       kept = record {
         grows = record { events = (grows_same a).events; ring = ring_same a.ring; port = grows };
-        seat = seat_is a a.process port.rank c.polled.ensures.owns.1 refl;
-        stands = nothing_carried g.here.lines c.args.f.now g.here.rings a port s c.polled.ensures.owns.0
-            c.polled.ensures.owns.1 c.polled.ensures.rest c.polled.ensures.hands none.1 sent
-            (none_got (knows a.port) (knows port) none.0);
+        seat = seat_is a a.process port.rank c.poll.ensures.owns.1 refl;
+        stands = nothing_carried g.here.lines c.args.f.now g.here.rings a port s c.poll.ensures.owns.0
+            c.poll.ensures.owns.1 c.poll.ensures.rest c.poll.ensures.hands.0 gave_back.4 sent
+            (none_got (knows a.port) (knows port) gave_back.3);
       };
     }
 
@@ -73,12 +75,12 @@ take_packet-requires-clause-sender g c =
     let ranks = c.args.self.now.process.rank.sizes.ranks in
     let letter_is = ap (λ (z : Parcel Packet). z.item) c.deref.ensures ∙ c.restore_header.ensures
     ∙ ap packet_of c.deref_mut.ensures.value in
-    let low : c.in-Ok.letter.value.from < ranks = omega (arith, c.in-Ok.ensures.next.0.sender, c.requires.is.ranks.0) in
+    let low : c.in-Ok.letter.value.from < ranks = omega (arith, c.in-Ok.ensures.next.0.sender, c.requires.1.is.ranks.0) in
     subst (λ (z : Packet). z.from < ranks) (sym letter_is) low
 
 pub take_packet-requires-clause-number : goal.take_packet-requires-clause-number
 take_packet-requires-clause-number g c =
-    let s = c.requires in
+    let s = c.requires.1 in
     let v = c.args.self.now.process.rank in
     let x = c.in-Ok.letter.value in
     let next = c.in-Ok.ensures.next.0 in
@@ -91,7 +93,7 @@ take_packet-requires-clause-number g c =
 
 pub returns : goal.returns
 returns g c =
-    let s = c.requires in
+    let s = c.requires.1 in
     let v = c.take_packet.new.self in
     let x = c.in-Ok.letter.value in
     let p = packet_of x in
@@ -111,12 +113,12 @@ returns g c =
     (omega (arith, sender, ranks)) took s.is.standing.rank in
     let n = c.args.f.now.ranks in
     let a = c.args.self.now in
-    let port = c.polled.new.port in
+    let port = c.poll.new.port in
     let b : Actor = record { process = v; port = port; ring = a.ring; places = tt } in
     let grows : Grows a b = record {
       events = (_, (took.happened (λ s. [])).events);
       port = port_took a.port port p.from
-          (polled_up (knows a.port) (knows port) came.way.1 c.polled.ensures.later) next.0.taken;
+          (polled_up (knows a.port) (knows port) came.way.1 c.poll.ensures.later) next.0.taken;
       ring = ring_same a.ring;
     } in
     let more = ap (λ (t : ℕ → ℕ). t p.from) next.0.taken
@@ -124,6 +126,7 @@ returns g c =
     let fresh = (rw c.rank-rank.ensures at c.is_worn.ensures).0 c.if-is_worn.false in
     let up : taken_by a.port p.from < taken_by port p.from = omega (arith, more) in
     record {
+      bound = c.poll.ensures.bound;
       stepped = stepped_fresh true a b fresh (ap (λ (x : ProcessView). x.at) c.in_ok-take_packet.ensures.others)
           (λ none. absurd (clash none));
       none = λ none fresh. absurd (clash none);
@@ -132,9 +135,9 @@ returns g c =
       moved = did_more n a b grows (taken p.from sender up);
       kept = record {
         grows = grows;
-        seat = seat_is a v port.rank c.polled.ensures.owns.1 took.sizes;
+        seat = seat_is a v port.rank c.poll.ensures.owns.1 took.sizes;
         stands = take_on c.a_poll_carries.ensures.some g.here.lines c.args.f.now g.here.rings
-            a v port x s c.polled.ensures.owns.0 c.polled.ensures.owns.1
-            c.polled.ensures.rest c.polled.ensures.hands next.0 next.1 way came.way.1 work on;
+            a v port x s c.poll.ensures.owns.0 c.poll.ensures.owns.1
+            c.poll.ensures.rest c.poll.ensures.hands.0 next.0 next.1 way came.way.1 work on;
       };
     }

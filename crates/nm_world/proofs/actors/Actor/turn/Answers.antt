@@ -1,5 +1,4 @@
 -- What was moved is what grew.
-use Rattle.std.specs.Prelude.{IfOk}
 use Rattle.nm_world.proofs.Did.{grew_where_moved}
 use Rattle.nm_world.proofs.actors.Actor.turn.Goals as goal
 
@@ -7,6 +6,7 @@ pub returns : goal.returns
 returns g c =
     let e = c.move_all.ensures in
     record {
+      bound = e.bound;
       kept = e.kept;
       moved = e.moved;
       grew = grew_where_moved c.move_all.result c.args.f.now.ranks c.args.lines.now c.args.f.now c.args.r.now

@@ -1,7 +1,7 @@
 -- One actor more.
-use Rattle.std.proofs.Common.{◌<◌, ◌≤◌, length, arith}
+use Rattle.std.proofs.Common.{arith}
 use Rattle.nm_world.proofs.Sweeps.{stands_there, swept_end, swept_start, swept_step}
-use Rattle.nm_world.proofs.rounds.sweep.Goals as goal
+use Rattle.nm_world.proofs.rounds.sweep_on.Goals as goal
 
 pub loop-actor-init : goal.loop-actor-init
 loop-actor-init g c =
