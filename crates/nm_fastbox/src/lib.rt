@@ -14,12 +14,11 @@
 //!
 //! # What is proved
 //! - `put` sends the parcel by box, or gives it back exactly where the next box was found full,
-//!   which `box_full` counts (clauses `put`, `sent`, `full`).
+//!   which `box_full` counts (clauses `puts`, `full`).
 //! - `take` gives the parcel with the awaited number, or nothing exactly where another number was
-//!   found, which `box_miss` counts (clauses `took`, `missed`).
-//! - Where a later parcel came and the awaited one didn't, `take` gives that one (clause
-//!   `overtaken`).
-//! - Each takes at most 2 word steps (clause `bound`), and 1 where nothing went or came.
+//!   found, which `box_miss` counts, and never where a later parcel came and the awaited one didn't
+//!   (clauses `took`, `missed`).
+//! - Each takes 2 word steps where a parcel went or came, and else 1 (clauses `cost`, `bound`).
 #![tactic(auto)]
 
 mod moves;

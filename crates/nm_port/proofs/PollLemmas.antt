@@ -4,7 +4,7 @@ use Rattle.std.proofs.Common.{true, is_some, List, [], ◌∷◌, ◌++◌, leng
 use Rattle.std.proofs.Common.{sym, refl, ap, ◌∙◌, inl, inr, subst, arith, set, append-nil, ⊎_elim}
 use Rattle.std.proofs.Math.Logic.{∥∥₁_elim}
 use Rattle.std.proofs.Props.{props}
-use Rattle.std.specs.Prelude.{slice_index, IfSome, IfNone}
+use Rattle.std.specs.Prelude.{slice_index}
 use mathlib.Core.Logic.{dite}
 use native.Mathlib.Decide.{ℕ_discrete, dec_le}
 use Rattle.nm_chain.specs.declared.table.parcels.Parcel.{Parcel}
@@ -23,26 +23,13 @@ use Rattle.nm_cells.specs.Ports.{Owns, knows, holding, taken_by, unpassed_by, Is
 use Rattle.nm_cells.proofs.BoxCallLemmas.{brought_owns}
 use Rattle.nm_cells.proofs.NumberLemmas.{one_of_last, from_here}
 use Rattle.nm_port.proofs.SendLemmas.{box_hands}
-use Rattle.nm_port.specs.Polls.{count_held, HoldsTheRest}
+use Rattle.nm_fastbox.specs.Boxes.{KeepsCells}
+use Rattle.nm_port.specs.Keeps.{KeepsPort}
+use Rattle.nm_port.specs.Polls.{count_held, HoldsTheRest, Polls}
 use Rattle.nm_port.specs.Polls.{first_raised, polled, with_all_missed, with_first_missed, Missed}
 use Rattle.nm_port.specs.Sends.{HadMiss}
 use Rattle.nm_port.specs.Polls.{NotOvertaken, EmptiesNone, IsNext, Came, Way, was_held, by_box}
 use Rattle.nm_port.specs.Polls.{by_cell, before, IsGot}
-
--- facts of what a call answered
-pub if_some : {A : Type 0} {P Q : A → Type 0} (o : Option A) → ((x : A) → P x → Q x) → IfSome o P
-    → IfSome o Q
-if_some (Some x) f h = f x h
-if_some None f h = tt
-
-pub if_none : {A P Q : Type 0} (o : Option A) → (P → Q) → IfNone o P → IfNone o Q
-if_none (Some x) f h = tt
-if_none None f h = f h
-
-pub if_both : {A : Type 0} {P Q R : A → Type 0} (o : Option A) → ((x : A) → P x → Q x → R x)
-    → IfSome o P → IfSome o Q → IfSome o R
-if_both (Some x) f h k = f x h k
-if_both None f h k = tt
 
 -- one more of the ranks' boxes was found without the awaited number
 raised_next : (k : ℕ) (xs : List ℕ) → k < length xs
@@ -209,11 +196,6 @@ module _ {A : Type 0} where
   pub one_packet : (x y : Parcel A) → Some x ≡ Some y → x ≡ y
   one_packet x y e = cc
 
-  -- the parcel that is held isn't the next one of its sender
-  pub held_later : (p : Port A) (x : Parcel A) → p.held ≡ Some x → x.seq ≢ taken_by p x.from
-      → (y : Parcel A) → p.held ≡ Some y → y.seq ≢ taken_by p y.from
-  held_later p x is ne y e = subst (λ z. z.seq ≢ taken_by p z.from) (one_packet x y (sym is ∙ e)) ne
-
   -- nothing more is held
   pub rest_none : (q : Port A) → unpassed_by q ≡ 0 → q.held ≡ None → HoldsTheRest q
   rest_none q left none = left ∙ sym (ap count_held none)
@@ -286,18 +268,17 @@ first_later (suc k) [] i = omega arith
 first_later (suc k) (x ∷ xs) zero = raised_up x
 first_later (suc k) (x ∷ xs) (suc i) = first_later k xs i
 
+map_later : (xs : List ℕ) (i : ℕ) → slice_index xs i ≤ slice_index (map raised xs) i
+map_later [] i = omega arith
+map_later (x ∷ xs) zero = raised_up x
+map_later (x ∷ xs) (suc i) = map_later xs i
+
 module _ {A : Type 0} where
   pub missed_later : (k i : ℕ) (e e' e'' : Entry A) → e' ≡ with_first_missed k e
       → e''.box_miss ≡ e'.box_miss → slice_index e.box_miss i ≤ slice_index e''.box_miss i
   missed_later k i e e' e'' seen same =
       subst (λ (xs : List ℕ). slice_index e.box_miss i ≤ slice_index xs i)
       (sym (same ∙ ap (λ (x : Entry A). x.box_miss) seen)) (first_later k e.box_miss i)
-
-  pub same_later : (i : ℕ) (e e' e'' : Entry A)
-      → slice_index e.box_miss i ≤ slice_index e'.box_miss i → e''.box_miss ≡ e'.box_miss
-      → slice_index e.box_miss i ≤ slice_index e''.box_miss i
-  same_later i e e' e'' up same =
-      subst (λ (xs : List ℕ). slice_index e.box_miss i ≤ slice_index xs i) (sym same) up
 
   -- a miss of the receive queue is none of a box
   pub queue_misses : (e e' : Entry A) → HadMiss true e e' → e'.box_miss ≡ e.box_miss
@@ -311,3 +292,30 @@ module _ {A : Type 0} where
       → (knows new).box_miss ≡ (knows now).box_miss
   way_misses p x now new way = ⊎_elim (λ h. ap (λ (e : Entry A). e.box_miss) h.2)
       (λ h. ap (λ (e : Entry A). e.box_miss) h.2) way
+
+module _ {A : Type 0} where
+  -- a poll by the receive queue, after the next boxes were found without the awaited numbers
+  pub polls_since : (f : Fabric A) (old now new : Port A) (p : Parcel A) → now.held ≡ old.held
+      → taken_by now ≡ taken_by old → knows now ≡ with_all_missed (knows old) → Polls f now new p
+      → Polls f old new p
+  polls_since f old now new p held taken seen n = record {
+    next = still_next f old now new p taken n.next;
+    got = n.got;
+    way = way_since old now new (ap (λ (e : Entry A). e.got_box) seen) (ap (λ (e : Entry A). e.got) seen) p held n.way;
+    same = polled_on (knows old) (knows now) (knows new) (polled_by (knows old) (knows now) _ seen refl) n.same;
+    later = λ i. let first = subst (λ (e : Entry A). slice_index (knows old).box_miss i ≤ slice_index e.box_miss i)
+        (sym seen) (map_later (knows old).box_miss i) in
+        let then = n.later i in omega (arith, first, then);
+  }
+
+  -- what a call keeps that touches no cell
+  pub keeps_cells : (f : Fabric A) (old new : Port A) → KeepsCells f old new
+      → (new.hands ≤ old.hands) × (EmptiesNone old → new.hands ≡ old.hands) → KeepsPort f (EmptiesNone old) old new
+  keeps_cells f old new k hands = record {
+    owns = k.owns;
+    rank = k.rank;
+    loose = k.loose;
+    holds = λ c in_hand. ap (λ h. h c) k.holds;
+    few = hands.0;
+    hands = hands.1;
+  }

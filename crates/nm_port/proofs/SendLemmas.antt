@@ -1,7 +1,7 @@
 -- What stays and what changes where a cell is taken, filled or emptied, and put into a queue again.
 use Rattle.std.proofs.Common.{◌≡◌, ℕ, suc, ◌+◌, ◌<◌, ◌≤◌, Bool, true, false}
 use Rattle.std.proofs.Common.{List, [], ◌∷◌, sym, refl, ap, ◌∙◌, subst}
-use Rattle.std.proofs.Common.{arith, set, get_or, append-nil, ⊎_elim}
+use Rattle.std.proofs.Common.{arith, set, get_or, append-nil, inl, inr, ⊎_elim}
 use Rattle.std.proofs.lemmas.List.{set-set, set-get_or}
 use native.Mathlib.Decide.{dec_le}
 use Rattle.nm_chain.specs.Update.{update}
@@ -14,10 +14,17 @@ use Rattle.nm_chain.specs.declared.table.table.Heads.{Heads}
 use Rattle.nm_chain.specs.Plays.{InHand, with_hand, heads_of, with_heads, heads_at, with_got, with_put}
 use Rattle.nm_chain.specs.Plays.{taken, queue, with_box_full, with_look}
 use Rattle.nm_chain.specs.declared.table.table.Look.TheVariants.{Fresh}
+use Rattle.nm_chain.specs.declared.table.parcels.Parcel.{Parcel}
+use Rattle.nm_cells.specs.declared.cell.Cell.{Cell}
+use Rattle.nm_cells.specs.declared.cell.Queue.{Queue}
+use Rattle.nm_cells.specs.declared.port.Fabric.{Fabric}
 use Rattle.nm_cells.specs.declared.port.Port.{Port}
-use Rattle.nm_cells.specs.Ports.{knows, holding, opens}
-use Rattle.nm_port.specs.Sends.{tried, HadMiss, HoldSame}
-use Rattle.std.specs.Prelude.{Result, Ok, Err, IfOk, IfErr}
+use Rattle.nm_cells.specs.Ports.{knows, holding, is_receive, opens, sent_by, Leaves, Owns}
+use Rattle.nm_fastbox.specs.Boxes.{FindsFull}
+use Rattle.nm_port.specs.Keeps.{HoldSame, KeepsPort}
+use Rattle.nm_port.specs.Sends.{tried, HadMiss, HasNoWay, SendsByCell}
+use Rattle.std.specs.Prelude.{Result, Ok, Err, IfOk, IfErr, Some, ⊤}
+use Rattle.nm_queue.specs.Moves.{Misses}
 use Rattle.nm_queue.specs.declared.moves.Miss.{Miss}
 use Rattle.nm_queue.specs.declared.moves.Miss.TheVariants.{HeadEmpty, LinkMissing}
 use Rattle.nm_chain.proofs.QueueLemmas.{below_yes, below_no}
@@ -90,22 +97,21 @@ module _ {A : Type 0} (e new : Entry A) (k shadow : ℕ) (y : Load A) (away : ha
       ∙ (λ i. with_put [] (with_got (same i ∷ []) then))
       ∙ nothing_put (with_got (z ∷ []) then) in h ∙ (λ i. at (heads_of true (sym h i)))
 
--- where a queue gave no cell, it had one of two misses
-pub by_error : {C A : Type 0} (r : Result C Miss) (m : Miss) → r ≡ Err m
-    → (r ≡ Err HeadEmpty → A) → (r ≡ Err LinkMissing → A) → A
-by_error r HeadEmpty is head link = head is
-by_error r LinkMissing is head link = link is
+module _ {A : Type 0} where
+  -- where a queue gave no cell, it had one of two misses
+  pub had_miss : (q : Queue) (old new : Port A) (r : Result Cell Miss) (m : Miss) → r ≡ Err m
+      → IfErr r (λ why. Misses q why old new)
+      → HadMiss (is_receive q) (knows old) (knows new) × Leaves old new
+  had_miss q old new r m is miss = by m (subst (λ x. IfErr x (λ why. Misses q why old new)) is miss) where
+    by : (m : Miss) → Misses q m old new → HadMiss (is_receive q) (knows old) (knows new) × Leaves old new
+    by HeadEmpty h = (inl h.knows, h.leaves)
+    by LinkMissing h = (inr (h.some, h.knows), h.leaves)
 
 -- facts of what a call answered
 pub if_ok : {A B : Type 0} {P Q : A → Type 0} (r : Result A B) → ((x : A) → P x → Q x)
     → IfOk r P → IfOk r Q
 if_ok (Ok x) f h = f x h
 if_ok (Err y) f h = tt
-
-pub both_ok : {A B : Type 0} {P Q R : A → Type 0} (r : Result A B) → ((x : A) → P x → Q x → R x)
-    → IfOk r P → IfOk r Q → IfOk r R
-both_ok (Ok x) f h k = f x h k
-both_ok (Err y) f h k = tt
 
 pub if_err : {A B : Type 0} {P Q : B → Type 0} (r : Result A B) → ((y : B) → P y → Q y)
     → IfErr r P → IfErr r Q
@@ -120,11 +126,40 @@ module _ {A : Type 0} where
       (else_same e k y old now then away b
       (else_same e k x old old now away a (λ c in_hand. refl)))
 
-  -- the cells in hand hold the same since an earlier moment at which they held the same
-  pub hold_since : (old now new : Port A) → (knows now).hands ≡ (knows old).hands
-      → holding now ≡ holding old → HoldSame now new → HoldSame old new
-  hold_since old now new hands holds same c in_hand =
-      same c (subst (λ l. InHand (get_or l c Away)) (sym hands) in_hand) ∙ ap (λ h. h c) holds
+  -- what two calls keep, one after the other
+  pub keeps_on : (f : Fabric A) (i j : Type 0) (old now new : Port A) → (knows now).hands ≡ (knows old).hands
+      → (i → j) → KeepsPort f i old now → KeepsPort f j now new → KeepsPort f i old new
+  keeps_on f i j old now new hands idle a b = let x = a.few in let y = b.few in record {
+    owns = b.owns;
+    rank = b.rank ∙ a.rank;
+    loose = b.loose ∙ a.loose;
+    holds = λ c in_hand. b.holds c (subst (λ l. InHand (get_or l c Away)) (sym hands) in_hand)
+        ∙ a.holds c in_hand;
+    few = omega arith;
+    hands = λ none. b.hands (idle none) ∙ a.hands none;
+  }
+
+  -- a call that leaves all in hand as it is
+  pub keeps_all : (f : Fabric A) (i : Type 0) (old new : Port A) → Owns f new → new.rank ≡ old.rank
+      → new.loose ≡ old.loose → holding new ≡ holding old → new.hands ≡ old.hands → KeepsPort f i old new
+  keeps_all f i old new owns rank loose holds hands = record {
+    owns = owns;
+    rank = rank;
+    loose = loose;
+    holds = λ c in_hand. ap (λ h. h c) holds;
+    few = omega (arith, hands);
+    hands = λ _. hands;
+  }
+
+  pub keeps_if : (f : Fabric A) (i : Type 0) (old new : Port A) → KeepsPort f ⊤ old new → KeepsPort f i old new
+  keeps_if f i old new a = record {
+    owns = a.owns;
+    rank = a.rank;
+    loose = a.loose;
+    holds = a.holds;
+    few = a.few;
+    hands = λ _. a.hands tt;
+  }
 
 opens_few : (b : Bool) → opens b ≤ 1
 opens_few true = omega arith
@@ -139,14 +174,24 @@ box_hands hands left b is = let few = opens_few b in (
 )
 
 module _ {A : Type 0} where
-  -- an item that fits a box, and one that doesn't
-  pub was_tried : (b : Bool) (j : ℕ) (e : Entry A) → b ≡ true → tried b j e ≡ with_box_full j e
-  was_tried true j e is = refl
-  was_tried false j e is = absurd (let z = is in cc)
+  -- what a send by cell did, after the next box was found full
+  full_sent : (to : ℕ) (old mid : Port A) → FindsFull to old mid → sent_by mid ≡ sent_by old
+  full_sent to old mid full = λ n j. ap (λ (e : Entry A). sent_to j e.put_box e.put) full.counted n
 
-  pub not_tried : (b : Bool) (j : ℕ) (e : Entry A) → b ≡ false → tried b j e ≡ e
-  not_tried true j e is = absurd (let z = is in cc)
-  not_tried false j e is = refl
+  pub cell_after_full : (to : ℕ) (x : Parcel A) (old mid new : Port A) → FindsFull to old mid
+      → SendsByCell false to x mid new → SendsByCell true to x old new
+  cell_after_full to x old mid new full s = let same = full_sent to old mid full in record {
+    put = s.put ∙ (λ i. with_put ((to, Some x) ∷ [])
+        (with_look false Fresh (with_heads false (heads_of false (knows new)) (full.counted i))));
+    sent = s.sent ∙ (λ i. update (same i) to (same i to + 1));
+  }
+
+  pub no_way_after_full : (to : ℕ) (old mid new : Port A) → FindsFull to old mid
+      → HasNoWay false to mid new → HasNoWay true to old new
+  no_way_after_full to old mid new full s = record {
+    sent = s.sent ∙ full_sent to old mid full;
+    miss = subst (λ e. HadMiss false e (knows new)) full.counted s.miss;
+  }
 
   -- no parcel was sent where the own free queue had a miss
   pub miss_sent : (e new : Entry A) → HadMiss false e new

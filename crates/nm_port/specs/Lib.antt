@@ -1,3 +1,4 @@
 pub mod CarriedPackets
+pub mod Keeps
 pub mod Polls
 pub mod Sends

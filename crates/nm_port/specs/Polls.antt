@@ -1,14 +1,17 @@
 -- What a poll gives, and what it leaves behind.
-use Rattle.std.specs.Prelude.{◌≡◌, ℕ, zero, suc, ◌+◌, ◌<◌, ◌⊎◌, Option, Some, None, List, [], ◌∷◌, ◌++◌, map}
+use Rattle.std.specs.Prelude.{◌≡◌, ◌≢◌, ℕ, zero, suc, ◌+◌, ◌<◌, ◌≤◌, ◌⊎◌, Option, Some, None, true}
+use Rattle.std.specs.Prelude.{List, [], ◌∷◌, ◌++◌, map, slice_index}
 use Rattle.nm_chain.specs.declared.table.parcels.Parcel.{Parcel}
 use Rattle.nm_chain.specs.Update.{update}
 use Rattle.nm_chain.specs.declared.table.table.Entry.{Entry}
 use Rattle.nm_cells.specs.declared.port.Port.{Port}
 use Rattle.nm_cells.specs.declared.port.Fabric.{Fabric}
 use Rattle.nm_chain.specs.Rule.{Load, from, emptying_of}
-use Rattle.nm_chain.specs.Plays.{raised, Overtaken}
+use Rattle.nm_chain.specs.Plays.{raised, heads_of, with_got, with_heads, with_look, Overtaken}
+use Rattle.nm_chain.specs.declared.table.table.Look.TheVariants.{Fresh}
 use Rattle.nm_cells.specs.Counted.{IsOneOf}
-use Rattle.nm_cells.specs.Ports.{knows, holding, taken_by, unpassed_by}
+use Rattle.nm_cells.specs.Ports.{knows, holding, taken_by, unpassed_by, IsUnpassed}
+use Rattle.nm_port.specs.Sends.{HadMiss}
 
 module _ {A : Type 0} where
   -- how many parcels are held
@@ -91,3 +94,42 @@ module _ {A : Type 0} where
     looks = new.looks;
     box_miss = new.box_miss;
   }
+
+  -- What a poll did that gave a parcel: it is the next one of its sender, came by one of the ways and is among those
+  -- that the port got. No count of misses fell
+  pub record Polls (f : Fabric A) (old new : Port A) (p : Parcel A) : Type 0 where
+    pub next : IsNext f old new p
+    pub got : IsGot new p
+    pub way : Way old new p
+    pub same : knows new ≡ polled (knows new) (knows old)
+    pub later : (i : ℕ) → slice_index (knows old).box_miss i ≤ slice_index (knows new).box_miss i
+
+  -- What a poll found that gave none: nothing was held, the next box of each rank was found without the awaited number,
+  -- and the receive queue had a miss
+  pub record PollsNone (old new : Port A) : Type 0 where
+    pub nothing : old.held ≡ None
+    pub held : new.held ≡ None
+    pub miss : HadMiss true (with_all_missed (knows old)) (knows new)
+    pub taken : taken_by new ≡ taken_by old
+
+  -- no parcel is held whose turn has come
+  abbrev pub HoldsOutOfTurn : Port A → Type 0
+  HoldsOutOfTurn port = (p : Parcel A) → port.held ≡ Some p → p.seq ≢ taken_by port p.from
+
+  -- The next boxes of all ranks were found without the awaited number
+  pub record MissesAll (f : Fabric A) (old new : Port A) : Type 0 where
+    pub seen : knows new ≡ with_all_missed (knows old)
+    pub taken : taken_by new ≡ taken_by old
+    pub not : (i : ℕ) → i < f.ranks → NotOvertaken old i
+
+  -- A parcel came by cell, and is still to be passed on
+  pub record Receives (p : Parcel A) (old new : Port A) : Type 0 where
+    pub unpassed : IsUnpassed new p
+    pub one_more : unpassed_by new ≡ unpassed_by old + 1
+    pub got : knows new ≡ with_got (Some p ∷ [])
+        (with_look true Fresh (with_heads true (heads_of true (knows new)) (knows old)))
+
+  -- The receive queue had a miss, and no parcel came
+  pub record ReceivesNone (old new : Port A) : Type 0 where
+    pub miss : HadMiss true (knows old) (knows new)
+    pub unpassed : unpassed_by new ≡ unpassed_by old

@@ -1,12 +1,16 @@
--- What a port knows after a try by box, and after a miss of an own queue.
-use Rattle.std.specs.Prelude.{◌≡◌, ℕ, ◌<◌, ◌⊎◌, Bool, true, false}
+-- What a send did: by which way the parcel went, or why it came back.
+use Rattle.std.specs.Prelude.{◌≡◌, ℕ, ◌+◌, ◌<◌, ◌⊎◌, Bool, true, false, [], ◌∷◌, Some}
+use Rattle.nm_types.specs.declared.packets.Path.{Path}
+use Rattle.nm_types.specs.declared.packets.Path.TheVariants.{Box, Cell}
+use Rattle.nm_chain.specs.Update.{update}
+use Rattle.nm_chain.specs.declared.table.parcels.Parcel.{Parcel}
 use Rattle.nm_chain.specs.declared.table.table.Entry.{Entry}
 use Rattle.nm_cells.specs.declared.port.Port.{Port}
-use Rattle.nm_chain.specs.Rule.{hand}
-use Rattle.nm_chain.specs.Plays.{InHand, with_box_full, heads_of, with_heads, heads_at, with_missed}
-use Rattle.nm_chain.specs.Plays.{head_miss, link_miss, with_look}
-use Rattle.nm_chain.specs.declared.table.table.Look.TheVariants.{LinkEmpty}
-use Rattle.nm_cells.specs.Ports.{knows, holding}
+use Rattle.nm_chain.specs.Plays.{with_box_full, heads_of, with_heads, heads_at, with_missed}
+use Rattle.nm_chain.specs.Plays.{head_miss, link_miss, with_look, with_put}
+use Rattle.nm_chain.specs.declared.table.table.Look.TheVariants.{Fresh, LinkEmpty}
+use Rattle.nm_cells.specs.Ports.{knows, sent_by}
+use Rattle.nm_fastbox.specs.Boxes.{PutsInBox}
 
 module _ {A : Type 0} where
   -- an item was to go to the rank j: where it fits a box, the next one was found full
@@ -21,6 +25,25 @@ module _ {A : Type 0} where
       ⊎ ((0 < (heads_of b new).shadow)
       × (new ≡ with_look b (LinkEmpty 0) (with_missed b link_miss (with_heads b (heads_of b new) old))))
 
-  -- the cells in the port's hand hold the same
-  abbrev pub HoldSame : Port A → Port A → Type 0
-  HoldSame old new = (c : ℕ) → InHand (hand (knows old) c) → holding new c ≡ holding old c
+  -- The parcel went to the rank `to` by the next box, which its item fits
+  pub record SendsByBox (fits : Bool) (to : ℕ) (x : Parcel A) (old new : Port A) : Type 0 where
+    pub short : fits ≡ true
+    pub puts : PutsInBox to x old new
+
+  -- The parcel went to the rank `to` by a cell of the own free queue, after the next box was found full where its
+  -- item fits one
+  pub record SendsByCell (fits : Bool) (to : ℕ) (x : Parcel A) (old new : Port A) : Type 0 where
+    pub put : knows new ≡ with_put ((to, Some x) ∷ [])
+        (with_look false Fresh (with_heads false (heads_of false (knows new)) (tried fits to (knows old))))
+    pub sent : sent_by new ≡ update (sent_by old) to (sent_by old to + 1)
+
+  -- the parcel went by this way
+  abbrev pub SendsBy : Path → Bool → ℕ → Parcel A → Port A → Port A → Type 0
+  SendsBy Box fits to x old new = SendsByBox fits to x old new
+  SendsBy Cell fits to x old new = SendsByCell fits to x old new
+
+  -- No parcel went to the rank `to`: the item fits no box or the next one was found full, and the own free queue had
+  -- a miss
+  pub record HasNoWay (fits : Bool) (to : ℕ) (old new : Port A) : Type 0 where
+    pub sent : sent_by new ≡ sent_by old
+    pub miss : HadMiss false (tried fits to (knows old)) (knows new)

@@ -1,7 +1,8 @@
 //! The first cell of an own queue.
 
 ghost use Rattle.std.specs.Prelude.{◌≡◌, ◌+◌, ◌≤◌, IfSome, IfNone};
-ghost use Rattle.nm_cells.specs.Ports.{Owns, SameTaken, Takes, knows, holding, IsOwn, is_receive};
+ghost use Rattle.nm_cells.specs.Ports.{Owns, Leaves, knows, IsOwn, is_receive};
+ghost use Rattle.nm_queue.specs.Moves.{TakesFirst};
 ghost use Rattle.nm_port.specs.Sends.{HadMiss};
 
 use nm_cells::{Cell, Fabric, Port, Queue};
@@ -20,10 +21,9 @@ pub(crate) fn take_cell<L: Ledger, I: Item>(
     requires owns { Owns f.now port.old }
     requires own { IsOwn port.old q }
     ensures owns { Owns f.now port.new × (port.new.rank ≡ port.old.rank) }
-    ensures took { IfSome result (Takes (is_receive q) f.now port.old port.new) }
+    ensures took { IfSome result (TakesFirst q f.now port.old port.new) }
     ensures none { IfNone result (HadMiss (is_receive q) (knows port.old) (knows port.new)
-        × SameTaken port.old port.new × (port.new.hands ≡ port.old.hands)
-        × (holding port.new ≡ holding port.old) × (port.new.loose ≡ port.old.loose)) }
+        × Leaves port.old port.new) }
     ensures bound { steps.new ≤ steps.old + 5 }
 {
     match dequeue(f, port, q, steps) {

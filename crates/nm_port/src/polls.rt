@@ -1,17 +1,12 @@
 //! Polling for the next parcel of any rank.
 
-ghost use Rattle.std.specs.Prelude.{◌≡◌, ◌≢◌, ℕ, ◌+◌, ◌<◌, ◌≤◌, ◌⊎◌, ◌∷◌, [], Some, None};
-ghost use Rattle.std.specs.Prelude.{slice_index, IfOk, IfErr, true};
-ghost use Rattle.nm_chain.specs.declared.table.parcels.Parcel.{Parcel};
-ghost use Rattle.nm_chain.specs.Update.{update};
-ghost use Rattle.nm_chain.specs.Rule.{emptying_of};
-ghost use Rattle.nm_chain.specs.Plays.{with_emptying, with_got, with_got_box, heads_of, with_heads};
-ghost use Rattle.nm_chain.specs.Plays.{with_look};
-ghost use Rattle.nm_chain.specs.declared.table.table.Look.TheVariants.{Fresh};
-ghost use Rattle.nm_cells.specs.Ports.{Owns, knows, taken_by, unpassed_by, IsUnpassed, holding};
-ghost use Rattle.nm_port.specs.Sends.{HadMiss, HoldSame};
-ghost use Rattle.nm_port.specs.Polls.{HoldsTheRest, with_all_missed, NotOvertaken, EmptiesNone};
-ghost use Rattle.nm_port.specs.Polls.{IsNext, Came, Way, IsGot, polled};
+ghost use Rattle.std.specs.Prelude.{◌≡◌, ◌+◌, ◌≤◌, ◌⊎◌, ◌∷◌, [], Some, None, IfOk, IfErr, ⊤};
+ghost use Rattle.nm_chain.specs.Plays.{with_emptying, with_got_box};
+ghost use Rattle.nm_cells.specs.Ports.{Owns, knows, taken_by, unpassed_by, IsUnpassed};
+ghost use Rattle.nm_fastbox.specs.Boxes.{KeepsCells};
+ghost use Rattle.nm_port.specs.Keeps.{KeepsPort};
+ghost use Rattle.nm_port.specs.Polls.{HoldsTheRest, EmptiesNone, IsNext, Polls, PollsNone};
+ghost use Rattle.nm_port.specs.Polls.{HoldsOutOfTurn, MissesAll, Receives, ReceivesNone};
 
 use crate::cells::take_cell;
 use nm_cells::{Fabric, Port, Queue, empty_box, load_box_in, take_out};
@@ -29,13 +24,11 @@ fn pass_held<I: Item>(
 ) -> Result<Box<Parcel<I>>, Option<Box<Parcel<I>>>>
     requires owns { Owns f.now port.old }
     requires rest { HoldsTheRest port.old }
-    ensures same { (port.new.seat ≡ port.old.seat) × (port.new.rank ≡ port.old.rank)
-        × (port.new.hands ≡ port.old.hands) × (port.new.loose ≡ port.old.loose) }
-    ensures passed { IfOk result (λ parcel. (port.old.held ≡ Some parcel.value)
-        × (port.new.held ≡ None) × IsUnpassed port.old parcel.value
-        × IsNext f.now port.old port.new parcel.value × (unpassed_by port.new ≡ 0)) }
-    ensures kept { IfErr result (λ back. (back ≡ spare) × (port.new ≡ port.old) × ((p : Parcel I)
-        → port.old.held ≡ Some p → p.seq ≢ taken_by port.old p.from)) }
+    ensures keeps { KeepsPort f.now ⊤ port.old port.new }
+    ensures polls { IfOk result (λ parcel. Polls f.now port.old port.new parcel.value) }
+    ensures rest { HoldsTheRest port.new }
+    ensures kept { IfErr result (λ back. (back ≡ spare) × (port.new ≡ port.old)
+        × HoldsOutOfTurn port.old) }
 {
     let Some(held) = port.held() else {
         return Err(spare);
@@ -58,22 +51,12 @@ fn take_first<L: Ledger, I: Item>(
     steps: &mut Steps<L>,
 ) -> Result<Box<Parcel<I>>, Option<Box<Parcel<I>>>>
     requires owns { Owns f.now port.old }
-    ensures owns { Owns f.now port.new × (port.new.rank ≡ port.old.rank) }
-    ensures loose { port.new.loose ≡ port.old.loose }
-    ensures held { (port.new.held ≡ port.old.held)
-        × (unpassed_by port.new ≡ unpassed_by port.old) × (holding port.new ≡ holding port.old) }
-    ensures took { IfOk result (λ parcel. IsNext f.now port.old port.new parcel.value
-        × Came port.old port.new (Some parcel.value ∷ []) []
-        × (knows port.new ≡ polled (knows port.new) (knows port.old))
-        × (port.new.hands ≤ port.old.hands)
-        × (EmptiesNone port.old → port.new.hands ≡ port.old.hands)) }
-    ensures missed { IfErr result (λ back. (back ≡ spare)
-        × (knows port.new ≡ with_all_missed (knows port.old))
-        × (taken_by port.new ≡ taken_by port.old) × (port.new.hands ≡ port.old.hands)
-        × (steps.new ≡ steps.old + f.now.ranks)
-        × ((i : ℕ) → i < f.now.ranks → NotOvertaken port.old i)) }
-    ensures later { (i : ℕ) → slice_index (knows port.old).box_miss i
-        ≤ slice_index (knows port.new).box_miss i }
+    ensures keeps { KeepsCells f.now port.old port.new }
+    ensures hands { (port.new.hands ≤ port.old.hands)
+        × (EmptiesNone port.old → port.new.hands ≡ port.old.hands) }
+    ensures polls { IfOk result (λ parcel. Polls f.now port.old port.new parcel.value) }
+    ensures missed { IfErr result (λ back. (back ≡ spare) × MissesAll f.now port.old port.new
+        × (steps.new ≡ steps.old + f.now.ranks)) }
     ensures bound { steps.new ≤ steps.old + (f.now.ranks + 1) }
 {
     for sender in 0..f.ranks() {
@@ -92,18 +75,10 @@ fn receive<L: Ledger, I: Item>(
     steps: &mut Steps<L>,
 ) -> Result<Box<Parcel<I>>, Option<Box<Parcel<I>>>>
     requires owns { Owns f.now port.old }
-    ensures owns { Owns f.now port.new × (port.new.rank ≡ port.old.rank) }
-    ensures loose { port.new.loose ≡ port.old.loose }
-    ensures held { (port.new.held ≡ port.old.held) × (taken_by port.new ≡ taken_by port.old)
-        × (port.new.hands ≡ port.old.hands) }
-    ensures came { IfOk result (λ parcel. IsUnpassed port.new parcel.value
-        × (unpassed_by port.new ≡ unpassed_by port.old + 1)
-        × (knows port.new ≡ with_got (Some parcel.value ∷ []) (with_look true Fresh (with_heads true
-        (heads_of true (knows port.new)) (knows port.old))))) }
-    ensures none { IfErr result (λ back. (back ≡ spare)
-        × HadMiss true (knows port.old) (knows port.new)
-        × (unpassed_by port.new ≡ unpassed_by port.old)) }
-    ensures holding { HoldSame port.old port.new }
+    ensures keeps { KeepsPort f.now ⊤ port.old port.new }
+    ensures held { (port.new.held ≡ port.old.held) × (taken_by port.new ≡ taken_by port.old) }
+    ensures came { IfOk result (λ parcel. Receives parcel.value port.old port.new) }
+    ensures none { IfErr result (λ back. (back ≡ spare) × ReceivesNone port.old port.new) }
     ensures bound { steps.new ≤ steps.old + 8 }
 {
     let own = port.rank();
@@ -127,8 +102,7 @@ fn pass_or_hold<L: Ledger, I: Item>(
     requires owns { Owns f.now port.old }
     requires parcel { IsUnpassed port.old parcel.value }
     requires alone { (unpassed_by port.old ≡ 1) × (port.old.held ≡ None) }
-    ensures owns { Owns f.now port.new × (port.new.rank ≡ port.old.rank) }
-    ensures loose { port.new.loose ≡ port.old.loose }
+    ensures keeps { KeepsPort f.now (EmptiesNone port.old) port.old port.new }
     ensures rest { HoldsTheRest port.new }
     ensures next { IsNext f.now port.old port.new result.value }
     ensures way { ((result.value ≡ parcel.value) × (port.new.held ≡ None)
@@ -136,9 +110,6 @@ fn pass_or_hold<L: Ledger, I: Item>(
         ⊎ ((result.value.from ≡ parcel.value.from) × (port.new.held ≡ Some parcel.value)
         × (knows port.new ≡ with_got_box (Some result.value ∷ [])
         (with_emptying result.value.from None (knows port.old)))) }
-    ensures hands { (port.new.hands ≤ port.old.hands)
-        × (EmptiesNone port.old → port.new.hands ≡ port.old.hands) }
-    ensures holding { holding port.new ≡ holding port.old }
     ensures bound { steps.new ≤ steps.old + 2 }
 {
     let source = parcel.from;
@@ -162,20 +133,11 @@ fn receive_next<L: Ledger, I: Item>(
 ) -> Result<Box<Parcel<I>>, Option<Box<Parcel<I>>>>
     requires owns { Owns f.now port.old }
     requires nothing { (unpassed_by port.old ≡ 0) × (port.old.held ≡ None) }
-    ensures owns { Owns f.now port.new × (port.new.rank ≡ port.old.rank) }
-    ensures loose { port.new.loose ≡ port.old.loose }
+    ensures keeps { KeepsPort f.now (EmptiesNone port.old) port.old port.new }
     ensures rest { HoldsTheRest port.new }
-    ensures next { IfOk result (λ parcel. IsNext f.now port.old port.new parcel.value
-        × Way port.old port.new parcel.value
-        × (knows port.new ≡ polled (knows port.new) (knows port.old))) }
-    ensures got { IfOk result (λ parcel. IsGot port.new parcel.value) }
-    ensures none { IfErr result (λ back. (back ≡ spare)
-        × HadMiss true (knows port.old) (knows port.new)
+    ensures polls { IfOk result (λ parcel. Polls f.now port.old port.new parcel.value) }
+    ensures none { IfErr result (λ back. (back ≡ spare) × ReceivesNone port.old port.new
         × (port.new.held ≡ None) × (taken_by port.new ≡ taken_by port.old)) }
-    ensures hands { (port.new.hands ≤ port.old.hands)
-        × (EmptiesNone port.old → port.new.hands ≡ port.old.hands) }
-    ensures holding { HoldSame port.old port.new }
-    ensures misses { (knows port.new).box_miss ≡ (knows port.old).box_miss }
     ensures bound { steps.new ≤ steps.old + 10 }
 {
     match receive(f, port, spare, steps) {
@@ -198,22 +160,10 @@ pub fn poll<L: Ledger, I: Item>(
 ) -> Result<Box<Parcel<I>>, Option<Box<Parcel<I>>>>
     requires owns { Owns f.now port.old }
     requires rest { HoldsTheRest port.old }
-    ensures owns { Owns f.now port.new × (port.new.rank ≡ port.old.rank) }
-    ensures loose { port.new.loose ≡ port.old.loose }
+    ensures keeps { KeepsPort f.now (EmptiesNone port.old) port.old port.new }
     ensures rest { HoldsTheRest port.new }
-    ensures next { IfOk result (λ parcel. IsNext f.now port.old port.new parcel.value
-        × IsGot port.new parcel.value) }
-    ensures way { IfOk result (λ parcel. Way port.old port.new parcel.value
-        × (knows port.new ≡ polled (knows port.new) (knows port.old))) }
-    ensures none { IfErr result (λ back. (back ≡ spare) × (port.old.held ≡ None)
-        × (port.new.held ≡ None)
-        × HadMiss true (with_all_missed (knows port.old)) (knows port.new)
-        × (taken_by port.new ≡ taken_by port.old)) }
-    ensures hands { (port.new.hands ≤ port.old.hands)
-        × (EmptiesNone port.old → port.new.hands ≡ port.old.hands) }
-    ensures holding { HoldSame port.old port.new }
-    ensures later { (i : ℕ) → slice_index (knows port.old).box_miss i
-        ≤ slice_index (knows port.new).box_miss i }
+    ensures polls { IfOk result (λ parcel. Polls f.now port.old port.new parcel.value) }
+    ensures none { IfErr result (λ back. (back ≡ spare) × PollsNone port.old port.new) }
     ensures bound { steps.new ≤ steps.old + (f.now.ranks + 10) }
 {
     match pass_held(f, port, spare) {

@@ -1,15 +1,12 @@
 //! Sending a parcel.
 
-ghost use Rattle.std.specs.Prelude.{◌≡◌, ◌+◌, ◌<◌, ◌≤◌, ◌∷◌, [], Some, IfOk, IfErr};
-ghost use Rattle.std.specs.Prelude.{true, false};
-ghost use Rattle.nm_types.specs.declared.packets.Path.TheVariants.{Box, Cell};
-ghost use Rattle.nm_chain.specs.Update.{update};
+ghost use Rattle.std.specs.Prelude.{◌≡◌, ◌+◌, ◌<◌, ◌≤◌, IfOk, IfErr, false, ⊤};
+ghost use Rattle.nm_types.specs.declared.packets.Path.TheVariants.{Cell};
 ghost use Rattle.nm_chain.specs.Rule.{filling_of};
-ghost use Rattle.nm_chain.specs.Plays.{with_filling, with_put, with_put_box, heads_of, with_heads};
-ghost use Rattle.nm_chain.specs.Plays.{with_look};
-ghost use Rattle.nm_chain.specs.declared.table.table.Look.TheVariants.{Fresh};
-ghost use Rattle.nm_cells.specs.Ports.{Owns, SameTaken, knows, sent_by};
-ghost use Rattle.nm_port.specs.Sends.{tried, HadMiss, HoldSame};
+ghost use Rattle.nm_cells.specs.Ports.{Owns, SameTaken, knows};
+ghost use Rattle.nm_fastbox.specs.Boxes.{IsNextFor};
+ghost use Rattle.nm_port.specs.Keeps.{KeepsPort};
+ghost use Rattle.nm_port.specs.Sends.{HasNoWay, SendsBy, SendsByCell};
 
 use crate::cells::take_cell;
 use nm_cells::{Fabric, Port, Queue, put_in};
@@ -38,20 +35,12 @@ fn send_by_cell<L: Ledger, I: Item>(
 ) -> Result<Sent<I>, Box<Parcel<I>>>
     requires owns { Owns f.now port.old }
     requires peer { to < f.now.ranks }
-    requires parcel { (parcel.value.from ≡ port.old.rank)
-        × (parcel.value.seq ≡ sent_by port.old to) }
-    ensures owns { Owns f.now port.new × (port.new.rank ≡ port.old.rank) }
+    requires parcel { IsNextFor to parcel.value port.old }
+    ensures sends { IfOk result (λ sent. (sent.path ≡ Cell)
+        × SendsByCell false to parcel.value port.old port.new) }
+    ensures back { IfErr result (λ back. (back ≡ parcel) × HasNoWay false to port.old port.new) }
+    ensures keeps { KeepsPort f.now ⊤ port.old port.new }
     ensures taken { SameTaken port.old port.new }
-    ensures loose { port.new.loose ≡ port.old.loose }
-    ensures by_cell { IfOk result (λ sent. (sent.path ≡ Cell) × (knows port.new
-        ≡ with_put ((to, Some parcel.value) ∷ []) (with_look false Fresh (with_heads false
-        (heads_of false (knows port.new)) (knows port.old))))) }
-    ensures sent { IfOk result (λ _. sent_by port.new
-        ≡ update (sent_by port.old) to (sent_by port.old to + 1)) }
-    ensures back { IfErr result (λ back. (back ≡ parcel) × (sent_by port.new ≡ sent_by port.old)
-        × HadMiss false (knows port.old) (knows port.new)) }
-    ensures hands { port.new.hands ≡ port.old.hands }
-    ensures holding { HoldSame port.old port.new }
     ensures bound { steps.new ≤ steps.old + 8 }
 {
     let own = port.rank();
@@ -80,26 +69,13 @@ pub fn send<L: Ledger, I: Item>(
 ) -> Result<Sent<I>, Box<Parcel<I>>>
     requires owns { Owns f.now port.old }
     requires peer { to < f.now.ranks }
-    requires parcel { (parcel.value.from ≡ port.old.rank)
-        × (parcel.value.seq ≡ sent_by port.old to) }
-    ensures owns { Owns f.now port.new × (port.new.rank ≡ port.old.rank) }
+    requires parcel { IsNextFor to parcel.value port.old }
+    ensures sends { IfOk result (λ sent.
+        SendsBy sent.path (I.boxable parcel.value.item) to parcel.value port.old port.new) }
+    ensures back { IfErr result (λ back. (back ≡ parcel)
+        × HasNoWay (I.boxable parcel.value.item) to port.old port.new) }
+    ensures keeps { KeepsPort f.now (filling_of (knows port.old) to ≡ false) port.old port.new }
     ensures taken { SameTaken port.old port.new }
-    ensures loose { port.new.loose ≡ port.old.loose }
-    ensures by_box { IfOk result (λ sent. sent.path ≡ Box → (I.boxable parcel.value.item ≡ true)
-        × (knows port.new
-        ≡ with_put_box ((to, Some parcel.value) ∷ []) (with_filling to false (knows port.old)))) }
-    ensures by_cell { IfOk result (λ sent. sent.path ≡ Cell → knows port.new
-        ≡ with_put ((to, Some parcel.value) ∷ []) (with_look false Fresh (with_heads false
-        (heads_of false (knows port.new))
-        (tried (I.boxable parcel.value.item) to (knows port.old))))) }
-    ensures sent { IfOk result (λ _. sent_by port.new
-        ≡ update (sent_by port.old) to (sent_by port.old to + 1)) }
-    ensures back { IfErr result (λ back. (back ≡ parcel) × (sent_by port.new ≡ sent_by port.old)
-        × HadMiss false (tried (I.boxable parcel.value.item) to (knows port.old))
-        (knows port.new)) }
-    ensures hands { (port.new.hands ≤ port.old.hands)
-        × (filling_of (knows port.old) to ≡ false → port.new.hands ≡ port.old.hands) }
-    ensures holding { HoldSame port.old port.new }
     ensures bound { steps.new ≤ steps.old + 9 }
 {
     if !parcel.item.fits_box() {

@@ -1,22 +1,26 @@
 -- What stays of a port's conditions between the steps of a move.
-use Rattle.std.proofs.Common.{◌≡◌, ℕ, suc, ◌+◌, Bool, true, false, sym, refl}
-use Rattle.std.proofs.Common.{ap, ◌∙◌, ◌<◌, subst}
-use Rattle.std.specs.Prelude.{slice_index_or}
+use Rattle.std.proofs.Common.{◌≡◌, ℕ, zero, suc, ◌+◌, Bool, true, false, sym, refl}
+use Rattle.std.proofs.Common.{ap, ◌∙◌, ◌<◌, ◌≤◌, ◌⊎◌, set, subst, arith}
+use Rattle.std.specs.Prelude.{slice_index_or, None, Ok}
+use Rattle.nm_types.proofs.ListLemmas.{set_twice}
 use Rattle.nm_chain.specs.Update.{update}
 use Rattle.nm_chain.specs.declared.table.table.Entry.{Entry}
-use Rattle.nm_chain.specs.declared.table.table.Hand.TheVariants.{Away}
+use Rattle.nm_chain.specs.declared.table.table.Hand.{Hand}
+use Rattle.nm_chain.specs.declared.table.table.Hand.TheVariants.{Away, Ready}
 use Rattle.nm_chain.specs.declared.table.table.Heads.{Heads}
 use Rattle.nm_chain.specs.declared.table.table.Look.{Look}
 use Rattle.nm_chain.specs.declared.table.table.Look.TheVariants.{LinkEmpty}
 use Rattle.nm_chain.specs.Plays.{taken, heads_of, with_heads, with_look, with_missed, link_miss}
+use Rattle.nm_chain.specs.Plays.{with_hand, with_put}
 use Rattle.nm_cells.specs.declared.cell.Cell.{Cell}
-use Rattle.nm_cells.specs.Ports.{knows, holding, SameTaken, Stays, Leaves, Takes, arrivals}
+use Rattle.nm_cells.specs.Ports.{knows, holding, SameTaken, Leaves, Takes, arrivals, is_receive}
 use Rattle.nm_chain.specs.Rule.{Load, sender, number}
 use Rattle.nm_cells.specs.declared.port.Port.{Port}
 use Rattle.nm_cells.specs.declared.port.Fabric.{Fabric}
 use Rattle.nm_cells.specs.declared.cell.Queue as queues
 use Rattle.nm_cells.specs.declared.cell.Queue.TheVariants.{Receive, Free}
-use Rattle.nm_cells.specs.Ports.{MayJoin, sent_by}
+use Rattle.nm_cells.specs.Ports.{MayJoin, Stays, posted_in, sent_by}
+use Rattle.nm_queue.specs.Moves.{Costs, Enqueues, FindsFirst, finding}
 
 module _ {A : Type 0} where
   -- a cell may still join the queue where it holds the same and the port sent the same
@@ -30,6 +34,33 @@ module _ {A : Type 0} where
   )
   may_still f p q (Free j) c y z rank sent same may = (may.0, may.1, same ∙ may.2)
 
+  -- the three steps of an enqueue: the link is cleared, the tail exchanged, and a word stored that ends it
+  pub enqueued_by : (f : Fabric A) (q : queues.Queue) (k : ℕ) (to : Hand A) (old cleared swapped new : Port A)
+      → Stays f old cleared → knows cleared ≡ with_hand k (Ready (holding old k)) (knows old)
+      → holding cleared ≡ holding old → cleared.hands ≡ old.hands
+      → Stays f cleared swapped
+      → knows swapped ≡ with_put (posted_in q (holding cleared k)) (with_hand k to (knows cleared))
+      → holding swapped ≡ update (holding cleared) k None → swapped.hands ≡ cleared.hands
+      → Stays f swapped new → knows new ≡ with_hand k Away (knows swapped)
+      → holding new ≡ holding swapped → new.hands + 1 ≡ swapped.hands → Enqueues q k f old new
+  enqueued_by f q k to old cleared swapped new sa ready ha na sb put hb nb sd ends hd nd =
+      let xs = posted_in q (holding old k) in record {
+        stays = (
+          sd.0,
+          sd.1 ∙ sb.1 ∙ sa.1,
+          (sd.2.0 ∙ sb.2.0 ∙ sa.2.0, sd.2.1 ∙ sb.2.1 ∙ sa.2.1, sd.2.2 ∙ sb.2.2 ∙ sa.2.2),
+          sd.3 ∙ sb.3 ∙ sa.3,
+        );
+        put = ends ∙ (λ i. with_hand k Away (put i))
+            ∙ (λ i. with_hand k Away (with_put (posted_in q (ha i k)) (with_hand k to (ready i))))
+            ∙ (λ i. with_put xs (record (knows old) {
+              hands = (set_twice (set (knows old).hands k (Ready (holding old k))) k to Away
+                  ∙ set_twice (knows old).hands k (Ready (holding old k)) Away) i;
+            }));
+        hands = omega (arith, na, nb, nd);
+        given = hd ∙ hb ∙ (λ i. update (ha i) k None);
+      }
+
   -- what a later take tells of the earlier port too: only what was told of the queue's first cell, and its heads, differ
   pub record Unmoved (b : Bool) (old mid : Port A) : Type 0 where
     pub cells : (knows mid).hands ≡ (knows old).hands
@@ -41,18 +72,6 @@ module _ {A : Type 0} where
     pub loose : mid.loose ≡ old.loose
     pub first : 0 < (heads_of b (knows old)).shadow
         → (heads_of b (knows mid)).shadow ≡ (heads_of b (knows old)).shadow
-
-  pub unmoved : (b : Bool) (p : Port A) → Unmoved b p p
-  unmoved b p = record {
-    cells = refl;
-    rank = refl;
-    takes = λ _ _ _. refl;
-    holds = refl;
-    same = (refl, refl, refl);
-    hands = refl;
-    loose = refl;
-    first = λ _. refl;
-  }
 
   pub takes_since : (b : Bool) (f : Fabric A) (old mid new : Port A) (c : Cell) → Unmoved b old mid
       → Takes b f mid new c → Takes b f old new c
@@ -107,20 +126,18 @@ module _ {A : Type 0} where
         ∙ ap (λ (x : Heads). x.shadow) (look_heads b l (knows mid)) ∙ u.first some;
   }
 
-  -- a step changed the heads, where there was no shadow head
-  pub unmoved_heads : (b : Bool) (x : Heads) (f : Fabric A) (old mid new : Port A) → Unmoved b old mid
-      → knows new ≡ with_heads b x (knows mid) → Stays f mid new
-      → (new.hands ≡ mid.hands) × (holding new ≡ holding mid)
-      → (0 < (heads_of b (knows old)).shadow → false ≡ true) → Unmoved b old new
-  unmoved_heads b x f old mid new u is st h none = record {
-    cells = ap (λ (e : Entry A). e.hands) is ∙ hands_same b x (knows mid) ∙ u.cells;
-    rank = st.1 ∙ u.rank;
-    takes = λ n y s. ap (taken b n y s) is ∙ heads_lost b x n y s (knows mid) ∙ u.takes n y s;
-    holds = h.1 ∙ u.holds;
-    same = (st.2.0 ∙ u.same.0, st.2.1 ∙ u.same.1, st.2.2 ∙ u.same.2);
-    hands = h.0 ∙ u.hands;
-    loose = st.3 ∙ u.loose;
-    first = λ some. absurd (let z = none some in cc);
+  -- the first cell was found, and none was taken
+  pub unmoved_first : (q : queues.Queue) (old mid : Port A) → mid.rank ≡ old.rank → FindsFirst q old mid
+      → Unmoved (is_receive q) old mid
+  unmoved_first q old mid rank u = let b = is_receive q in let x = heads_of b (knows mid) in record {
+    cells = ap (λ (e : Entry A). e.hands) u.knows ∙ hands_same b x (knows old);
+    rank = rank;
+    takes = λ n y s. ap (taken b n y s) u.knows ∙ heads_lost b x n y s (knows old);
+    holds = u.leaves.holding;
+    same = u.leaves.taken;
+    hands = u.leaves.hands;
+    loose = u.leaves.loose;
+    first = λ some. ap (λ (x : Heads). x.shadow) (u.same some);
   }
 
   -- so what has no cell leaves the cells of the earlier port too
@@ -133,14 +150,8 @@ module _ {A : Type 0} where
     loose = v.loose ∙ u.loose;
   }
 
-  -- there is a shadow head, which is the one before where there was one
-  pub record Begun (b : Bool) (old mid : Entry A) : Type 0 where
-    pub heads : Heads
-    pub is : mid ≡ with_heads b heads old
-    pub some : 0 < heads.shadow
-    pub same : 0 < (heads_of b old).shadow → heads ≡ heads_of b old
-
-  heads_kept : (b : Bool) (e : Entry A) → e ≡ with_heads b (heads_of b e) e
+  -- the heads of a queue once they changed, and changed twice
+  pub heads_kept : (b : Bool) (e : Entry A) → e ≡ with_heads b (heads_of b e) e
   heads_kept true e = refl
   heads_kept false e = refl
 
@@ -149,23 +160,19 @@ module _ {A : Type 0} where
   heads_twice true x y e = refl
   heads_twice false x y e = refl
 
-  pub begun_still : (b : Bool) (e : Entry A) → 0 < (heads_of b e).shadow → Begun b e e
-  begun_still b e some = record {
-    heads = heads_of b e;
-    is = heads_kept b e;
-    some = some;
-    same = λ _. refl;
-  }
+  heads_there : (b : Bool) (x : Heads) (e : Entry A) → heads_of b (with_heads b x e) ≡ x
+  heads_there true x e = refl
+  heads_there false x e = refl
 
-  pub begun_anew : (b : Bool) (x y : Heads) (old loaded new : Entry A) → loaded ≡ with_heads b x old
-      → new ≡ with_heads b y loaded → 0 < y.shadow
-      → (0 < (heads_of b old).shadow → false ≡ true) → Begun b old new
-  begun_anew b x y old loaded new found hidden some none = record {
-    heads = y;
-    is = hidden ∙ ap (with_heads b y) found ∙ heads_twice b x y old;
-    some = some;
-    same = λ was. absurd (let z = none was in cc);
-  }
+  pub heads_changed : (b : Bool) (x : Heads) (old new : Entry A) → new ≡ with_heads b x old
+      → heads_of b new ≡ x
+  heads_changed b x old new is = ap (heads_of b) is ∙ heads_there b x old
+
+  pub heads_anew : (b : Bool) (x y : Heads) (old loaded new : Entry A) → loaded ≡ with_heads b x old
+      → new ≡ with_heads b y loaded → new ≡ with_heads b (heads_of b new) old
+  heads_anew b x y old loaded new found hidden =
+      let is = hidden ∙ ap (with_heads b y) found ∙ heads_twice b x y old in
+      is ∙ ap (λ z. with_heads b z old) (sym (heads_changed b y loaded new hidden))
 
   abbrev missing : Bool → Entry A → Entry A
   missing b e = with_look b (LinkEmpty 0) (with_missed b link_miss e)
@@ -181,17 +188,43 @@ module _ {A : Type 0} where
   missing_is false x l k e = refl
 
 -- the link of the first cell was 0 twice, although another cell was the tail
-module _ {A : Type 0} (b : Bool) (l k : Look) (old mid linked tailed last : Entry A) (u : Begun b old mid)
+module _ {A : Type 0} (b : Bool) (l k : Look) (heads : Heads) (old mid linked tailed last : Entry A)
+    (found : mid ≡ with_heads b heads old)
     (look : linked ≡ with_look b l mid) (tail : tailed ≡ with_look b k linked)
     (again : last ≡ with_look b (LinkEmpty 0) (with_missed b link_miss tailed)) where
-  whole : last ≡ missing b (with_look b k (with_look b l (with_heads b u.heads old)))
+  whole : last ≡ missing b (with_look b k (with_look b l (with_heads b heads old)))
   whole = again ∙ ap (λ e. missing b e)
-      (tail ∙ ap (with_look b k) (look ∙ ap (with_look b l) u.is))
+      (tail ∙ ap (with_look b k) (look ∙ ap (with_look b l) found))
 
-  pub heads_stand : heads_of b last ≡ u.heads
-  heads_stand = ap (heads_of b) whole ∙ missing_heads b u.heads l k old
+  pub heads_stand : heads_of b last ≡ heads
+  heads_stand = ap (heads_of b) whole ∙ missing_heads b heads l k old
 
   pub missed_since : last ≡ with_look b (LinkEmpty 0)
       (with_missed b link_miss (with_heads b (heads_of b last) old))
-  missed_since = whole ∙ missing_is b u.heads l k old
+  missed_since = whole ∙ missing_is b heads l k old
       ∙ ap (λ x. missing b (with_heads b x old)) (sym heads_stand)
+
+-- what it costs to find the first cell
+pub finding_none : (shadow : ℕ) → shadow ≡ 0 → finding shadow ≡ 2
+finding_none zero is = refl
+finding_none (suc cell) is = absurd (omega (arith, is))
+
+pub finding_some : (shadow : ℕ) → 0 < shadow → finding shadow ≡ 0
+finding_some zero some = absurd (omega (arith, some))
+finding_some (suc cell) some = refl
+
+pub finding_few : (shadow : ℕ) → finding shadow ≤ 2
+finding_few zero = omega arith
+finding_few (suc cell) = omega arith
+
+-- the last cell was taken, and another one
+pub cost_last : (c : Cell) (before after start end : ℕ) → after ≡ 0 → end ≡ start + (finding before + 2)
+    → Costs (Ok c) before after start end
+cost_last c before zero start end none is = is
+cost_last c before (suc next) start end none is = absurd (omega (arith, none))
+
+pub cost_other : (c : Cell) (before after start end : ℕ) → 0 < after
+    → (end ≡ start + (finding before + 1)) ⊎ (end ≡ start + (finding before + 3))
+    → Costs (Ok c) before after start end
+cost_other c before zero start end some is = absurd (omega (arith, some))
+cost_other c before (suc next) start end some is = is

@@ -17,10 +17,10 @@
 //! steps.
 //!
 //! # What is proved
-//! - `enqueue` can't be refused, takes 3 steps, and puts the cell's parcel (clauses `put`,
+//! - `enqueue` can't be refused, takes 3 steps, and puts the cell's parcel (clauses `enqueued`,
 //!   `bound`).
-//! - `dequeue` takes the first cell, at most 5 steps, or has a miss whose count rose (clauses
-//!   `took`, `head_empty`, `link_missing`, `bound`).
+//! - `dequeue` takes the first cell, or has a miss that names its cause and whose count rose (clauses
+//!   `took`, `missed`), in the steps of a table, at most 5 (clauses `cost`, `bound`).
 #![tactic(auto)]
 
 mod moves;

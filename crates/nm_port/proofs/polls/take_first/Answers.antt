@@ -8,8 +8,8 @@ use Rattle.nm_chain.specs.Plays.{with_emptying, with_got_box, box_load}
 use Rattle.nm_cells.specs.Ports.{Empties}
 use Rattle.nm_chain.specs.Rule.{emptying_of}
 use Rattle.nm_cells.specs.Ports.{knows}
-use Rattle.nm_port.specs.Polls.{Missed}
-use Rattle.nm_port.proofs.PollLemmas.{missed_later, missed_next, all_missed, still_next, next_by}
+use Rattle.nm_port.specs.Polls.{by_box, Missed}
+use Rattle.nm_port.proofs.PollLemmas.{missed_later, missed_next, all_missed, still_next, next_by, last_by_box}
 use Rattle.nm_port.proofs.PollLemmas.{box_came}
 use Rattle.nm_chain.specs.declared.table.table.Entry.{Entry}
 use Rattle.nm_port.proofs.PollLemmas.{box_polled, polled_by, polled_on, emptied_hands, came_since}
@@ -34,30 +34,49 @@ empty_box-requires-clause-taking g c = let s = c.loop-sender.sender in
     subst (λ (t : ℕ → ℕ). Empties m s (t s)) (sym c.load_box_in.ensures.stays.2.0)
     (c.if-load_box_in.ensures.found refl).0
 
-pub returns-then-load_box_in-clause-took : goal.returns-then-load_box_in-clause-took
-returns-then-load_box_in-clause-took g c = let f = c.args.f.now in let old = c.args.port.now in
+pub returns-then-load_box_in-clause-polls : goal.returns-then-load_box_in-clause-polls
+returns-then-load_box_in-clause-polls g c = let f = c.args.f.now in let old = c.args.port.now in
     let now = c.loop-sender.port in let new = c.empty_box.new.port in let k = c.loop-sender.sender in
     let m = c.loop-sender.invariant.1 in let at = c.load_box_in.new.port in
     let e = c.empty_box.ensures in let there = c.if-load_box_in.ensures.found refl in
-    let kept = c.load_box_in.ensures.stays.2.0 in
-    let p = c.empty_box.result.value in let o = c.requires.owns in
+    let stays = c.load_box_in.ensures.stays in
+    let p = c.empty_box.result.value in
     let low : k < f.ranks = search rules in
     let came_now = Some p ∷ [] in
     let seen = e.got ∙ (λ i. with_got_box came_now (with_emptying k None (there.1 i)))
     ∙ (λ i. with_got_box came_now (record (knows now) {
       emptying = set-set (knows now).emptying k (Some (box_load k (knows at))) None i;
     })) in
-    let took = e.taken ∙ (λ i. update (kept i) k (kept i k + 1)) in
-    let number = e.parcel.2 ∙ ap (λ (t : ℕ → ℕ). t k) kept in
+    let took = e.taken ∙ (λ i. update (stays.2.0 i) k (stays.2.0 i k + 1)) in
+    let number = e.parcel.2 ∙ ap (λ (t : ℕ → ℕ). t k) stays.2.0 in
     let came = came_since old now new (ap (λ e. e.got_box) m.seen) (ap (λ e. e.got) m.seen)
-    (Some p ∷ []) [] (box_came now new p k seen) in
-    let hands = emptied_hands now new k (e.hands ∙ there.2) in let same = m.hands in
-    let few = hands.0 in (
-      still_next f old now new p m.taken (next_by f now new p k low e.parcel.1 number took),
-      came,
-      polled_on (knows old) (knows now) (knows new)
-          (polled_by (knows old) (knows now) _ m.seen refl) (box_polled now new p k seen),
-      omega arith,
+    (Some p ∷ []) [] (box_came now new p k seen) in record {
+      next = still_next f old now new p m.taken (next_by f now new p k low e.parcel.1 number took);
+      got = last_by_box new p (knows old).got_box came.0;
+      way = by_box (e.others.0 ∙ stays.2.1 ∙ m.held) came;
+      same = polled_on (knows old) (knows now) (knows new)
+          (polled_by (knows old) (knows now) _ m.seen refl) (box_polled now new p k seen);
+      later = λ i. missed_later k i (knows old) (knows now) (knows new) m.seen
+          (ap (λ (e : Entry _). e.box_miss) seen);
+    }
+
+pub returns-then-load_box_in-clause-keeps : goal.returns-then-load_box_in-clause-keeps
+returns-then-load_box_in-clause-keeps g c = let m = c.loop-sender.invariant.1 in
+    let a = c.load_box_in.ensures in let e = c.empty_box.ensures in record {
+      owns = e.owns.0;
+      rank = e.owns.1 ∙ a.stays.1 ∙ m.rank;
+      loose = e.owns.2 ∙ a.stays.3 ∙ m.loose;
+      holds = e.holding ∙ a.holding ∙ m.holds;
+      held = e.others.0 ∙ a.stays.2.1 ∙ m.held;
+      unpassed = e.others.1 ∙ a.stays.2.2 ∙ m.unpassed;
+    }
+
+pub returns-then-load_box_in-clause-hands : goal.returns-then-load_box_in-clause-hands
+returns-then-load_box_in-clause-hands g c = let now = c.loop-sender.port in let m = c.loop-sender.invariant.1 in
+    let there = c.if-load_box_in.ensures.found refl in
+    let hands = emptied_hands now c.empty_box.new.port c.loop-sender.sender (c.empty_box.ensures.hands ∙ there.2) in
+    let few = hands.0 in let same = m.hands in (
+      omega (arith, few, same),
       λ none. hands.1 (λ i. ap (λ e. emptying_of e i) m.seen ∙ none i) ∙ same,
     )
 
@@ -68,26 +87,20 @@ returns-clause-missed g c = let f = c.args.f.now in let old = c.args.port.now in
     let end : k ≡ f.ranks = search rules in
     let steps = c.loop-sender.invariant.2 in (
       refl,
-      all_missed k old now (end ∙ sym o.2) m,
-      m.taken,
-      m.hands,
+      record {
+        seen = all_missed k old now (end ∙ sym o.2) m;
+        taken = m.taken;
+        not = λ i less. m.not i (subst (λ n. i < n) (sym end) less);
+      },
       omega arith,
-      λ i less. m.not i (subst (λ n. i < n) (sym end) less),
     )
 
-pub returns-then-load_box_in-clause-later : goal.returns-then-load_box_in-clause-later
-returns-then-load_box_in-clause-later g c = let now = c.loop-sender.port in
-    let new = c.empty_box.new.port in let k = c.loop-sender.sender in
-    let at = c.load_box_in.new.port in let there = c.if-load_box_in.ensures.found refl in
-    let came_now = Some c.empty_box.result.value ∷ [] in
-    let seen = c.empty_box.ensures.got ∙ (λ i. with_got_box came_now (with_emptying k None (there.1 i)))
-    ∙ (λ i. with_got_box came_now (record (knows now) {
-      emptying = set-set (knows now).emptying k (Some (box_load k (knows at))) None i;
-    })) in
-    λ i. missed_later k i (knows c.args.port.now) (knows now) (knows new)
-    c.loop-sender.invariant.1.seen (ap (λ (e : Entry _). e.box_miss) seen)
-
-pub returns-clause-later : goal.returns-clause-later
-returns-clause-later g c = let now = c.loop-sender.port in
-    λ i. missed_later c.loop-sender.sender i (knows c.args.port.now) (knows now) (knows now)
-    c.loop-sender.invariant.1.seen refl
+pub returns-clause-keeps : goal.returns-clause-keeps
+returns-clause-keeps g c = let m = c.loop-sender.invariant.1 in record {
+  owns = c.loop-sender.invariant.0;
+  rank = m.rank;
+  loose = m.loose;
+  holds = m.holds;
+  held = m.held;
+  unpassed = m.unpassed;
+}

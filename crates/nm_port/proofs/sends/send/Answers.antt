@@ -1,93 +1,79 @@
-use Rattle.std.proofs.Common.{rules, ◌≡◌, ◌+◌, [], ◌∷◌, Some, true, false}
-use Rattle.std.proofs.Common.{refl, sym, ap, ◌∙◌, subst}
+use Rattle.std.proofs.Common.{rules, ◌≡◌, true, false, refl, sym, ap, ◌∙◌, subst}
 use Rattle.nm_types.specs.declared.packets.Path.{Path}
-use Rattle.nm_types.specs.declared.packets.Path.TheVariants.{Box, Cell}
-use Rattle.nm_chain.specs.Update.{update}
-use Rattle.nm_chain.specs.Rule.{sent_to, filling_of}
-use Rattle.nm_chain.specs.Plays.{heads_of, with_heads, with_look, with_put}
-use Rattle.nm_chain.specs.declared.table.table.Look.TheVariants.{Fresh}
-use Rattle.nm_cells.specs.Ports.{knows, sent_by}
-use Rattle.nm_port.specs.Sends.{HadMiss}
-use Rattle.nm_port.proofs.SendLemmas.{box_hands, hold_since, if_err, if_ok, was_tried}
-use Rattle.nm_port.proofs.SendLemmas.{not_tried}
+use Rattle.nm_chain.specs.declared.table.parcels.Parcel.{Parcel}
+use Rattle.nm_chain.specs.Rule.{filling_of}
+use Rattle.nm_cells.specs.Ports.{knows}
+use Rattle.nm_port.specs.Sends.{HasNoWay, SendsBy, SendsByCell}
+use Rattle.nm_port.proofs.SendLemmas.{box_hands, cell_after_full, if_err, if_ok, keeps_all, keeps_if, keeps_on}
+use Rattle.nm_port.proofs.SendLemmas.{no_way_after_full}
 use Rattle.nm_port.proofs.sends.send.Goals as goal
 
-box_no_cell : (x : Path) → x ≡ Box → x ≡ Cell → ⊥
-box_no_cell x a b = cc
-
-pub returns-then-not-fits_box-clause-by_box : goal.returns-then-not-fits_box-clause-by_box
-returns-then-not-fits_box-clause-by_box g c = if_ok c.send_by_cell.result
-    (λ s h is. absurd (box_no_cell s.path is h.0)) c.send_by_cell.ensures.by_cell
-
-pub returns-then-not-fits_box-clause-by_cell : goal.returns-then-not-fits_box-clause-by_cell
-returns-then-not-fits_box-clause-by_cell g c = let x = c.args.parcel.value in
-    let s = c.send_by_cell.new.port in
+-- its item fits no box
+pub returns-then-not-fits_box-clause-sends : goal.returns-then-not-fits_box-clause-sends
+returns-then-not-fits_box-clause-sends g c = let x = c.args.parcel.value in let to = c.args.to in
+    let p = c.args.port.now in let new = c.send_by_cell.new.port in
     let long : g.I.Item.boxable x.item ≡ false = search rules in
-    let same = not_tried (g.I.Item.boxable x.item) c.args.to (knows c.args.port.now) long in
-    if_ok c.send_by_cell.result (λ _ h _. h.1
-    ∙ (λ i. with_put ((c.args.to, Some x) ∷ []) (with_look false Fresh
-    (with_heads false (heads_of false (knows s)) (sym same i))))) c.send_by_cell.ensures.by_cell
+    if_ok c.send_by_cell.result
+    (λ s h. subst (λ (way : Path). SendsBy way (g.I.Item.boxable x.item) to x p new) (sym h.0)
+    (subst (λ fits. SendsByCell fits to x p new) (sym long) h.1)) c.send_by_cell.ensures.sends
 
 pub returns-then-not-fits_box-clause-back : goal.returns-then-not-fits_box-clause-back
 returns-then-not-fits_box-clause-back g c = let x = c.args.parcel.value in
-    let s = c.send_by_cell.new.port in
     let long : g.I.Item.boxable x.item ≡ false = search rules in
-    let same = not_tried (g.I.Item.boxable x.item) c.args.to (knows c.args.port.now) long in
     if_err c.send_by_cell.result
-    (λ _ h. (h.0, h.1, subst (λ e. HadMiss false e (knows s)) (sym same) h.2))
+    (λ _ h. (h.0, subst (λ fits. HasNoWay fits c.args.to c.args.port.now c.send_by_cell.new.port) (sym long) h.1))
     c.send_by_cell.ensures.back
+
+pub returns-then-not-fits_box-clause-keeps : goal.returns-then-not-fits_box-clause-keeps
+returns-then-not-fits_box-clause-keeps g c =
+    keeps_if c.args.f.now _ c.args.port.now c.send_by_cell.new.port c.send_by_cell.ensures.keeps
 
 pub put-requires-clause-fits : goal.put-requires-clause-fits
 put-requires-clause-fits g c = search rules
 
-pub returns-in-Ok-clause-by_box : goal.returns-in-Ok-clause-by_box
-returns-in-Ok-clause-by_box g c = λ _.
+-- it went by box
+pub returns-in-Ok-clause-sends : goal.returns-in-Ok-clause-sends
+returns-in-Ok-clause-sends g c =
     let fits : g.I.Item.boxable c.args.parcel.value.item ≡ true = search rules in
-    (fits, c.in-Ok.ensures.put.0)
+    record { short = fits; puts = c.in-Ok.ensures.puts }
 
-pub returns-in-Ok-clause-by_cell : goal.returns-in-Ok-clause-by_cell
-returns-in-Ok-clause-by_cell g c = λ is. absurd (box_no_cell Box refl is)
+pub returns-in-Ok-clause-keeps : goal.returns-in-Ok-clause-keeps
+returns-in-Ok-clause-keeps g c = let p = c.args.port.now in let stays = c.put.ensures.stays in
+    let hands = box_hands p.hands c.put.new.port.hands (filling_of (knows p) c.args.to) c.in-Ok.ensures.puts.hands in
+    record {
+      owns = stays.0.0;
+      rank = stays.0.1;
+      loose = stays.0.3;
+      holds = λ k in_hand. ap (λ h. h k) stays.1;
+      few = hands.0;
+      hands = hands.1;
+    }
 
-pub returns-in-Ok-clause-hands : goal.returns-in-Ok-clause-hands
-returns-in-Ok-clause-hands g c = let p = c.args.port.now in let put = c.in-Ok.ensures.put in
-    box_hands p.hands c.put.new.port.hands (filling_of (knows p) c.args.to) put.1
-
-pub returns-in-Err-clause-by_box : goal.returns-in-Err-clause-by_box
-returns-in-Err-clause-by_box g c = if_ok c.send_by_cell-in-Err.result
-    (λ s h is. absurd (box_no_cell s.path is h.0)) c.send_by_cell-in-Err.ensures.by_cell
-
-pub returns-in-Err-clause-by_cell : goal.returns-in-Err-clause-by_cell
-returns-in-Err-clause-by_cell g c = let p = c.args.port.now in let to = c.args.to in
-    let n = g.I.Item.boxable c.args.parcel.value.item in let full = c.in-Err.ensures.full in
-    let s = c.send_by_cell-in-Err.new.port in let tried : n ≡ true = search rules in
-    if_ok c.send_by_cell-in-Err.result (λ _ h _. h.1
-    ∙ (λ i. with_put ((to, Some (full.0 i).value) ∷ []) (with_look false Fresh (with_heads false
-    (heads_of false (knows s)) ((full.1 ∙ sym (was_tried n to (knows p) tried)) i)))))
-    c.send_by_cell-in-Err.ensures.by_cell
-
-pub returns-in-Err-clause-sent : goal.returns-in-Err-clause-sent
-returns-in-Err-clause-sent g c = let p = c.args.port.now in let q = c.put.new.port in
-    let to = c.args.to in let full = c.in-Err.ensures.full in
-    let same : sent_by q ≡ sent_by p = λ n j. ap (λ e. sent_to j e.put_box e.put) full.1 n in
-    if_ok c.send_by_cell-in-Err.result (λ _ h. h ∙ (λ i. update (same i) to (same i to + 1)))
-    c.send_by_cell-in-Err.ensures.sent
+-- the box was full
+pub returns-in-Err-clause-sends : goal.returns-in-Err-clause-sends
+returns-in-Err-clause-sends g c = let x = c.args.parcel.value in let to = c.args.to in
+    let p = c.args.port.now in let q = c.put.new.port in let new = c.send_by_cell-in-Err.new.port in
+    let full = c.in-Err.ensures.full in
+    let fits : g.I.Item.boxable x.item ≡ true = search rules in
+    if_ok c.send_by_cell-in-Err.result
+    (λ s h. subst (λ (way : Path). SendsBy way (g.I.Item.boxable x.item) to x p new) (sym h.0)
+    (subst (λ b. SendsByCell b to x p new) (sym fits)
+    (cell_after_full to x p q new full.1
+    (subst (λ (z : Parcel _). SendsByCell false to z q new) (λ i. (full.0 i).value) h.1))))
+    c.send_by_cell-in-Err.ensures.sends
 
 pub returns-in-Err-clause-back : goal.returns-in-Err-clause-back
-returns-in-Err-clause-back g c = let p = c.args.port.now in let to = c.args.to in
-    let n = g.I.Item.boxable c.args.parcel.value.item in let full = c.in-Err.ensures.full in
-    let s = c.send_by_cell-in-Err.new.port in let tried : n ≡ true = search rules in
-    if_err c.send_by_cell-in-Err.result (λ _ h. (
-      h.0 ∙ full.0,
-      h.1 ∙ (λ m j. ap (λ e. sent_to j e.put_box e.put) full.1 m),
-      subst (λ e. HadMiss false e (knows s))
-          (full.1 ∙ sym (was_tried n to (knows p) tried)) h.2,
-    )) c.send_by_cell-in-Err.ensures.back
+returns-in-Err-clause-back g c = let x = c.args.parcel.value in let to = c.args.to in
+    let p = c.args.port.now in let q = c.put.new.port in let new = c.send_by_cell-in-Err.new.port in
+    let full = c.in-Err.ensures.full in
+    let fits : g.I.Item.boxable x.item ≡ true = search rules in
+    if_err c.send_by_cell-in-Err.result
+    (λ _ h. (h.0 ∙ full.0, subst (λ b. HasNoWay b to p new) (sym fits) (no_way_after_full to p q new full.1 h.1)))
+    c.send_by_cell-in-Err.ensures.back
 
-pub returns-in-Err-clause-holding : goal.returns-in-Err-clause-holding
-returns-in-Err-clause-holding g c = let p = c.args.port.now in let q = c.put.new.port in
-    let s = c.send_by_cell-in-Err.new.port in let full = c.in-Err.ensures.full in
-    hold_since p q s (ap (λ e. e.hands) full.1) c.put.ensures.stays.1
-    c.send_by_cell-in-Err.ensures.holding
-
-pub returns-in-Ok-clause-holding : goal.returns-in-Ok-clause-holding
-returns-in-Ok-clause-holding g c = λ k in_hand. ap (λ h. h k) c.put.ensures.stays.1
+pub returns-in-Err-clause-keeps : goal.returns-in-Err-clause-keeps
+returns-in-Err-clause-keeps g c = let f = c.args.f.now in let p = c.args.port.now in let q = c.put.new.port in
+    let new = c.send_by_cell-in-Err.new.port in let stays = c.put.ensures.stays in
+    let full = c.in-Err.ensures.full.1 in
+    keeps_if f _ p new (keeps_on f _ _ p q new (ap (λ e. e.hands) full.counted) (λ u. u)
+    (keeps_all f _ p q stays.0.0 stays.0.1 stays.0.3 stays.1 full.hands) c.send_by_cell-in-Err.ensures.keeps)

@@ -1,11 +1,10 @@
-use Rattle.std.proofs.Common.{◌<◌, set, sym, ap, ◌∙◌, subst, get_or-set_same}
+use Rattle.std.proofs.Common.{◌<◌, sym, ap, ◌∙◌, subst, get_or-set_same}
 use Rattle.nm_chain.specs.declared.table.table.Hand.TheVariants.{Away, Ready, Entering}
 use Rattle.nm_chain.specs.Rule.{hand, sent_to}
-use Rattle.nm_chain.specs.Plays.{with_hand, with_put}
-use Rattle.nm_cells.specs.Ports.{knows, holding, posted_in, queue_of}
-use Rattle.nm_queue.proofs.MoveLemmas.{may_still}
+use Rattle.nm_chain.specs.Plays.{with_hand}
+use Rattle.nm_cells.specs.Ports.{knows, holding, queue_of}
+use Rattle.nm_queue.proofs.MoveLemmas.{enqueued_by, may_still}
 use Rattle.nm_queue.proofs.moves.enqueue.Goals as goal
-use Rattle.nm_types.proofs.ListLemmas.{set_twice}
 
 pub swap_tail-pending-requires-clause-ready : goal.swap_tail-pending-requires-clause-ready
 swap_tail-pending-requires-clause-ready g c = let p = c.args.port.now in
@@ -22,30 +21,18 @@ swap_tail-pending-requires-clause-may g c = let e = c.clear_link.ensures in
     (λ j. ap (λ u. sent_to j u.put_box u.put) e.ready)
     (ap (λ h. h c.args.cell.number) e.holding) c.requires.may
 
-pub returns-then-is_first-clause-put : goal.returns-then-is_first-clause-put
-returns-then-is_first-clause-put g c = let p = c.args.port.now in
-    let k = c.args.cell.number in let a = c.clear_link.ensures in
-    let b = c.swap_tail-pending.ensures in let d = c.store_head.ensures in
-    let xs = posted_in c.args.q (holding p k) in
-    let to = Entering (queue_of c.args.f.now.ranks c.args.q) c.swap_tail-pending.result.found in
-    d.finished ∙ (λ i. with_hand (b.pending.0 i) Away (b.put i))
-    ∙ (λ i. with_hand k Away (with_put (posted_in c.args.q (a.holding i k))
-    (with_hand k to (a.ready i))))
-    ∙ (λ i. with_put xs (record (knows p) {
-      hands = (set_twice (set (knows p).hands k (Ready (holding p k))) k to Away
-          ∙ set_twice (knows p).hands k (Ready (holding p k)) Away) i;
-    }))
+pub returns-then-is_first-clause-enqueued : goal.returns-then-is_first-clause-enqueued
+returns-then-is_first-clause-enqueued g c = let k = c.args.cell.number in let a = c.clear_link.ensures in
+    let b = c.swap_tail-pending.ensures in let d = c.store_head.ensures in let swapped = c.swap_tail-pending.new.port in
+    enqueued_by c.args.f.now c.args.q k (Entering (queue_of c.args.f.now.ranks c.args.q) c.swap_tail-pending.result.found)
+    c.args.port.now c.clear_link.new.port swapped c.store_head.new.port a.stays a.ready a.holding a.hands
+    b.stays b.put b.given b.hands d.stays (d.finished ∙ (λ i. with_hand (b.pending.0 i) Away (knows swapped)))
+    d.holding d.hands
 
-pub returns-else-is_first-clause-put : goal.returns-else-is_first-clause-put
-returns-else-is_first-clause-put g c = let p = c.args.port.now in
-    let k = c.args.cell.number in let a = c.clear_link.ensures in
-    let b = c.swap_tail-pending.ensures in let d = c.store_link.ensures in
-    let xs = posted_in c.args.q (holding p k) in
-    let to = Entering (queue_of c.args.f.now.ranks c.args.q) c.swap_tail-pending.result.found in
-    d.finished ∙ (λ i. with_hand (b.pending.0 i) Away (b.put i))
-    ∙ (λ i. with_hand k Away (with_put (posted_in c.args.q (a.holding i k))
-    (with_hand k to (a.ready i))))
-    ∙ (λ i. with_put xs (record (knows p) {
-      hands = (set_twice (set (knows p).hands k (Ready (holding p k))) k to Away
-          ∙ set_twice (knows p).hands k (Ready (holding p k)) Away) i;
-    }))
+pub returns-else-is_first-clause-enqueued : goal.returns-else-is_first-clause-enqueued
+returns-else-is_first-clause-enqueued g c = let k = c.args.cell.number in let a = c.clear_link.ensures in
+    let b = c.swap_tail-pending.ensures in let d = c.store_link.ensures in let swapped = c.swap_tail-pending.new.port in
+    enqueued_by c.args.f.now c.args.q k (Entering (queue_of c.args.f.now.ranks c.args.q) c.swap_tail-pending.result.found)
+    c.args.port.now c.clear_link.new.port swapped c.store_link.new.port a.stays a.ready a.holding a.hands
+    b.stays b.put b.given b.hands d.stays (d.finished ∙ (λ i. with_hand (b.pending.0 i) Away (knows swapped)))
+    d.holding d.hands

@@ -1,6 +1,6 @@
 -- The parcel is one of those that came, and has the next number.
 use Rattle.std.proofs.Common.{◌≡◌, ◌⊎◌, ℕ, ◌+◌, ◌==◌, Bool, true, false, cond, Some, List, [], ◌∷◌, ◌++◌}
-use Rattle.std.proofs.Common.{length, refl, sym, ap, ◌∙◌, subst, arith, length-append}
+use Rattle.std.proofs.Common.{length, refl, sym, ap, ◌∙◌, subst, arith, append-nil, length-append, ⊎_elim}
 use Rattle.std.proofs.lemmas.Bool.Decides.{nat_tests}
 use native.Mathlib.Decide.{ℕ_discrete}
 use Rattle.nm_chain.specs.declared.table.parcels.Parcel.{Parcel}
@@ -9,7 +9,10 @@ use Rattle.nm_chain.specs.declared.table.table.Entry.{Entry}
 use Rattle.nm_chain.specs.Rule.{Load, from}
 use Rattle.nm_chain.proofs.QueueLemmas.{from_append}
 use Rattle.nm_cells.specs.Counted.{IsOneOf}
-use Rattle.nm_port.specs.CarriedPackets.{AreListed, HasPassed}
+use Rattle.nm_cells.specs.declared.port.Port.{Port}
+use Rattle.nm_cells.specs.Ports.{knows, taken_by}
+use Rattle.nm_port.specs.CarriedPackets.{AreListed, HasPassed, one_more}
+use Rattle.nm_port.specs.Polls.{Came, Way, before, by_box, by_cell, was_held}
 use Rattle.nm_port.proofs.Listed.{listed_more, listed_push}
 use Rattle.nm_port.proofs.carried.laws.a_poll_carries.Goals as goal
 
@@ -38,8 +41,12 @@ updated_else f k j y other = by (ℕ_discrete j k) where
       clash : (b : Bool) → b ≡ false → b ≡ true → ⊥
       clash b one two = cc
 
-pub returns-clause-some : goal.returns-clause-some
-returns-clause-some g c seen e e' taken taken' boxes cells i p bs box cell number counts there is = by (p.from == i) refl where
+passed : {A B : Type 0} (seen : Parcel A → B) (e e' : Entry A) (taken taken' : ℕ → ℕ) (boxes cells : List (Load A))
+    (i : ℕ) (p : Parcel A) (bs : List B) → e'.got_box ≡ e.got_box ++ boxes → e'.got ≡ e.got ++ cells →
+    p.seq ≡ taken p.from → taken' ≡ update taken p.from (taken p.from + 1) →
+    IsOneOf (Some p) (from p.from e'.got_box) ⊎ IsOneOf (Some p) (from p.from e'.got) →
+    HasPassed seen e (taken i) i bs → HasPassed seen e' (taken' i) i (one_more p.from i (seen p) bs)
+passed seen e e' taken taken' boxes cells i p bs box cell number counts there is = by (p.from == i) refl where
   is_from : (from i : ℕ) → (from == i) ≡ true → from ≡ i
   is_from from i same = grind (arith, nat_tests)
 
@@ -64,6 +71,27 @@ returns-clause-some g c seen e e' taken taken' boxes cells i p bs box cell numbe
         many = is.many ∙ sym count;
       }
 
+-- the lists that grew
+came : {A : Type 0} {old new : Port A} {p : Parcel A} → Way old new p
+    → (boxes : List (Load A)) × (cells : List (Load A)) × Came old new boxes cells
+came (was_held x y z) = ([], [], z)
+came {p = p} (by_box x z) = (Some p ∷ [], [], z)
+came {p = p} (by_cell x y z) = ([], Some p ∷ [], z)
+came {p = p} (before q w x y z) = (Some p ∷ [], Some q ∷ [], z)
+
+pub returns-clause-some : goal.returns-clause-some
+returns-clause-some g c seen f old new p i bs polls is = let grown = came polls.way in
+    passed seen (knows old) (knows new) (taken_by old) (taken_by new) grown.0 grown.1 i p bs grown.2.0 grown.2.1
+    polls.next.number polls.next.taken polls.got is
+
 pub returns-clause-none : goal.returns-clause-none
-returns-clause-none g c seen e e' t i boxes cells bs box cell is =
-    record { listed = listed_on seen e e' boxes cells i bs box cell is.listed; many = is.many }
+returns-clause-none g c seen old new i bs none is =
+    let box : (knows new).got_box ≡ (knows old).got_box = ⊎_elim (λ h. ap (λ (e : Entry _). e.got_box) h)
+    (λ h. ap (λ (e : Entry _). e.got_box) h.1) none.miss in
+    let cell : (knows new).got ≡ (knows old).got = ⊎_elim (λ h. ap (λ (e : Entry _). e.got) h)
+    (λ h. ap (λ (e : Entry _). e.got) h.1) none.miss in
+    record {
+      listed = listed_on seen (knows old) (knows new) [] [] i bs (box ∙ sym (append-nil (knows old).got_box))
+          (cell ∙ sym (append-nil (knows old).got)) is.listed;
+      many = is.many ∙ sym (ap (λ (t : ℕ → ℕ). t i) none.taken);
+    }

@@ -1,5 +1,5 @@
 -- The parcel is the last one of those by its way, and has the next number.
-use Rattle.std.proofs.Common.{◌≡◌, inl, inr, ℕ, ◌==◌, Bool, true, false, cond, Some, List, [], ◌∷◌, ◌++◌}
+use Rattle.std.proofs.Common.{◌≡◌, inl, inr, ⊎_elim, ℕ, ◌==◌, Bool, true, false, cond, Some, List, [], ◌∷◌, ◌++◌}
 use Rattle.std.proofs.Common.{length, refl, sym, ap, ◌∙◌, subst, arith, append-nil, length-append}
 use Rattle.std.proofs.lemmas.Bool.Decides.{nat_tests}
 use native.Mathlib.Decide.{ℕ_discrete}
@@ -8,7 +8,10 @@ use Rattle.nm_chain.specs.declared.table.table.Entry.{Entry}
 use Rattle.nm_chain.specs.Rule.{Load, put_to, sent_to}
 use Rattle.nm_chain.proofs.QueueLemmas.{pick_no, pick_yes, put_append}
 use Rattle.nm_cells.proofs.NumberLemmas.{one_of_last}
-use Rattle.nm_port.specs.CarriedPackets.{AreListed, HasSent}
+use Rattle.nm_types.specs.declared.packets.Path.TheVariants.{Box, Cell}
+use Rattle.nm_cells.specs.Ports.{knows}
+use Rattle.nm_port.specs.CarriedPackets.{AreListed, HasSent, one_more}
+use Rattle.nm_port.specs.Sends.{tried}
 use Rattle.nm_port.proofs.Listed.{listed_more, listed_push}
 use Rattle.nm_port.proofs.carried.laws.a_send_carries.Goals as goal
 
@@ -39,8 +42,10 @@ same seen e e' j bs box cell is =
       many = rw (box, cell) is.many;
     }
 
-pub returns-clause-by_box : goal.returns-clause-by_box
-returns-clause-by_box g c seen e e' j to p bs box cell number is = by (to == j) refl where
+boxed : {A B : Type 0} (seen : Parcel A → B) (e e' : Entry A) (j to : ℕ) (p : Parcel A) (bs : List B) →
+    e'.put_box ≡ e.put_box ++ (to, Some p) ∷ [] → e'.put ≡ e.put → p.seq ≡ sent_to to e.put_box e.put →
+    HasSent seen e j bs → HasSent seen e' j (one_more to j (seen p) bs)
+boxed seen e e' j to p bs box cell number is = by (to == j) refl where
   is_to : (to j : ℕ) → (to == j) ≡ true → to ≡ j
   is_to to j same = grind (arith, nat_tests)
 
@@ -64,8 +69,10 @@ returns-clause-by_box g c seen e e' j to p bs box cell number is = by (to == j) 
   by false differs = same seen e e' j bs (ap (put_to j) box ∙ put_other j e.put_box to (Some p) differs)
       (ap (put_to j) cell) is
 
-pub returns-clause-by_cell : goal.returns-clause-by_cell
-returns-clause-by_cell g c seen e e' j to p bs box cell number is = by (to == j) refl where
+celled : {A B : Type 0} (seen : Parcel A → B) (e e' : Entry A) (j to : ℕ) (p : Parcel A) (bs : List B) →
+    e'.put_box ≡ e.put_box → e'.put ≡ e.put ++ (to, Some p) ∷ [] → p.seq ≡ sent_to to e.put_box e.put →
+    HasSent seen e j bs → HasSent seen e' j (one_more to j (seen p) bs)
+celled seen e e' j to p bs box cell number is = by (to == j) refl where
   is_to : (to j : ℕ) → (to == j) ≡ true → to ≡ j
   is_to to j same = grind (arith, nat_tests)
 
@@ -89,6 +96,30 @@ returns-clause-by_cell g c seen e e' j to p bs box cell number is = by (to == j)
   by false differs = same seen e e' j bs (ap (put_to j) box)
       (ap (put_to j) cell ∙ put_other j e.put to (Some p) differs) is
 
+-- a try by box leaves the lists as they were
+tried_box : {A : Type 0} (fits : Bool) (to : ℕ) (e : Entry A) → (tried fits to e).put_box ≡ e.put_box
+tried_box true to e = refl
+tried_box false to e = refl
+
+tried_cell : {A : Type 0} (fits : Bool) (to : ℕ) (e : Entry A) → (tried fits to e).put ≡ e.put
+tried_cell true to e = refl
+tried_cell false to e = refl
+
+pub returns-clause-some : goal.returns-clause-some
+returns-clause-some g c seen Box fits to p old new j bs sends number is =
+    let put = sends.puts.put in boxed seen (knows old) (knows new) j to p bs (ap (λ (e : Entry _). e.put_box) put)
+    (ap (λ (e : Entry _). e.put) put) number is
+returns-clause-some g c seen Cell fits to p old new j bs sends number is =
+    celled seen (knows old) (knows new) j to p bs
+    (ap (λ (e : Entry _). e.put_box) sends.put ∙ tried_box fits to (knows old))
+    (ap (λ (e : Entry _). e.put) sends.put ∙ ap (λ l. l ++ (to, Some p) ∷ []) (tried_cell fits to (knows old))) number is
+
 pub returns-clause-none : goal.returns-clause-none
-returns-clause-none g c seen e e' j bs box cell is =
-    same seen e e' j bs (ap (put_to j) box) (ap (put_to j) cell) is
+returns-clause-none g c seen fits to old new j bs none is =
+    let then = tried fits to (knows old) in
+    let box : (knows new).put_box ≡ then.put_box = ⊎_elim (λ h. ap (λ (e : Entry _). e.put_box) h)
+    (λ h. ap (λ (e : Entry _). e.put_box) h.1) none.miss in
+    let cell : (knows new).put ≡ then.put = ⊎_elim (λ h. ap (λ (e : Entry _). e.put) h)
+    (λ h. ap (λ (e : Entry _). e.put) h.1) none.miss in
+    same seen (knows old) (knows new) j bs (ap (put_to j) (box ∙ tried_box fits to (knows old)))
+    (ap (put_to j) (cell ∙ tried_cell fits to (knows old))) is
