@@ -25,8 +25,8 @@ module _ {A : Type 0} where
     pub counted : knows new ≡ with_box_full to (knows old)
     pub hands : new.hands ≡ old.hands
 
-  -- The fabric's port of the same rank, with the same loose cells. The cells in hand hold the same, and of the parcels that
-  -- came by cell the same one is held, and as many were not passed on
+  -- The fabric's port of the same rank, with the same loose cells. The cells in hand hold the same, and of the parcels
+  -- that came by cell the same one is held, and as many were not passed on
   pub record KeepsCells (f : Fabric A) (old new : Port A) : Type 0 where
     pub owns : Owns f new
     pub rank : new.rank ≡ old.rank

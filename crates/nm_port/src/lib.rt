@@ -20,15 +20,14 @@
 //! misses, and the steps.
 //! # What is proved
 //! - `send` answers by which way the parcel went, or gives it back with its causes: the box was
-//!   full or too short, and the own free queue had a miss (clauses `by_box`, `by_cell`, `sent`,
-//!   `back`). It takes at most 9 word steps (clause `bound`).
-//! - `poll` gives the parcel of its sender whose number is awaited and no other (clauses `next`,
-//!   `way`). It gives none only where nothing was held and nothing is, no next box had the awaited
-//!   number and the receive queue had a miss (clause `none`). It takes at most as many word steps
-//!   as there are ranks, and 10 (clause `bound`).
-//! - Neither takes memory or waits. The cells in hand stay, with what they hold (clause `holding`),
-//!   and so does the number of things in hand, but for a box that the caller had at work (clause
-//!   `hands`).
+//!   full or too short, and the own free queue had a miss (clauses `sends`, `back`). It takes at
+//!   most 9 word steps (clause `bound`).
+//! - `poll` gives the parcel of its sender whose number is awaited and no other (clause `polls`).
+//!   It gives none only where nothing was held and nothing is, no next box had the awaited number
+//!   and the receive queue had a miss (clause `none`). It takes at most as many word steps as there
+//!   are ranks, and 10 (clause `bound`).
+//! - Neither takes memory or waits. The cells in hand stay, with what they hold, and so does the
+//!   number of things in hand, but for a box that the caller had at work (clause `keeps`).
 #![tactic(auto)]
 
 pub mod carried;

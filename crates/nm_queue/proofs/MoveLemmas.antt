@@ -61,7 +61,7 @@ module _ {A : Type 0} where
         given = hd ∙ hb ∙ (λ i. update (ha i) k None);
       }
 
-  -- what a later take tells of the earlier port too: only what was told of the queue's first cell, and its heads, differ
+  -- what a later take tells of the earlier port too: only what was told of the queue's first cell and its heads differ
   pub record Unmoved (b : Bool) (old mid : Port A) : Type 0 where
     pub cells : (knows mid).hands ≡ (knows old).hands
     pub rank : mid.rank ≡ old.rank

@@ -1,17 +1,16 @@
 -- The bytes of the packets that were sent and taken.
-use Rattle.std.proofs.Common.{◌≡◌, ◌≢◌, ◌⊎◌, ⊎_elim, drop, append-nil, ℕ, ◌+◌, ◌<◌, ◌==◌, true, false, cond, Some, List, [], ◌∷◌, ◌++◌}
+use Rattle.std.proofs.Common.{◌≡◌, ◌≢◌, drop, ℕ, ◌+◌, ◌<◌, ◌==◌, Bool, false, cond, Some, List, [], ◌∷◌, ◌++◌}
 use Rattle.std.proofs.Common.{length, take, get_or, map, refl, sym, ap, ◌∙◌, subst, arith, append_assoc, length-append}
 use Rattle.std.specs.List.{slice_get}
+use Rattle.std.specs.Prelude.{Result, Ok, Err, IfOk, IfErr}
 use Rattle.std.proofs.lemmas.List.{map-append, take_more, take-append-drop}
 use Rattle.std.proofs.lemmas.Bool.Decides.{nat_tests}
 use Rattle.nm_chain.specs.declared.table.parcels.Parcel.{Parcel}
-use Rattle.nm_chain.specs.declared.table.table.Entry.{Entry}
-use Rattle.nm_chain.specs.Rule.{Load, from, sent_to}
-use Rattle.nm_chain.specs.Update.{update}
-use Rattle.nm_cells.specs.Counted.{IsOneOf}
 use Rattle.nm_cells.specs.declared.port.Fabric.{Fabric}
-use Rattle.nm_port.specs.Polls.{Came, IsGot, IsNext, Way, before, by_box, by_cell, was_held, with_all_missed}
-use Rattle.nm_port.specs.Sends.{HadMiss}
+use Rattle.nm_types.specs.declared.packets.Path.{Path}
+use Rattle.nm_port.specs.Polls.{Polls, PollsNone}
+use Rattle.nm_port.specs.Sends.{HasNoWay, SendsBy}
+use Rattle.nm_port.specs.declared.sends.Sent.{Sent}
 use Rattle.nm_cells.specs.declared.port.Port.{Port}
 use Rattle.nm_cells.specs.declared.closed.Closed.{Closed}
 use Rattle.nm_cells.specs.PathLists.{Begins}
@@ -19,25 +18,20 @@ use Rattle.nm_cells.specs.Ports.{knows, sent_by, taken_by}
 use Rattle.nm_cells.specs.ClosedLists.{entries, ranks_of, sent_list, taken_list}
 use Rattle.nm_port.specs.CarriedPackets.{HasPassed, HasSent, one_more}
 use Rattle.uses.specs.Crossings.{IsFront, Sends, Takes, byte_of}
-use Rattle.uses.proofs.Ways.{Went, boxed, celled, stayed}
 use Rattle.uses.specs.declared.port.letters.Letter.{Letter}
 
 abbrev pub Seen : Type 0
 Seen = Parcel Letter → ℕ
 
-abbrev pub ByBox : Type 0
-ByBox = (seen : Seen) (e e' : Entry Letter) (j to : ℕ) (p : Parcel Letter) (bs : List ℕ) →
-    e'.put_box ≡ e.put_box ++ (to, Some p) ∷ [] → e'.put ≡ e.put →
-    p.seq ≡ sent_to to e.put_box e.put → HasSent seen e j bs → HasSent seen e' j (one_more to j (seen p) bs)
-
-abbrev pub ByCell : Type 0
-ByCell = (seen : Seen) (e e' : Entry Letter) (j to : ℕ) (p : Parcel Letter) (bs : List ℕ) →
-    e'.put_box ≡ e.put_box → e'.put ≡ e.put ++ (to, Some p) ∷ [] →
-    p.seq ≡ sent_to to e.put_box e.put → HasSent seen e j bs → HasSent seen e' j (one_more to j (seen p) bs)
+-- what the laws of a send say
+abbrev pub BySend : Type 0
+BySend = (seen : Seen) (way : Path) (fits : Bool) (to : ℕ) (p : Parcel Letter) (old new : Port Letter) (j : ℕ)
+    (bs : List ℕ) → SendsBy way fits to p old new → p.seq ≡ sent_by old to → HasSent seen (knows old) j bs →
+    HasSent seen (knows new) j (one_more to j (seen p) bs)
 
 abbrev pub ByNone : Type 0
-ByNone = (seen : Seen) (e e' : Entry Letter) (j : ℕ) (bs : List ℕ) → e'.put_box ≡ e.put_box → e'.put ≡ e.put →
-    HasSent seen e j bs → HasSent seen e' j bs
+ByNone = (seen : Seen) (fits : Bool) (to : ℕ) (old new : Port Letter) (j : ℕ) (bs : List ℕ) →
+    HasNoWay fits to old new → HasSent seen (knows old) j bs → HasSent seen (knows new) j bs
 
 -- one more parcel carries the next byte
 grown : (bs text : List ℕ) (byte : ℕ) → bs ≡ take (length bs) text → length bs < length text →
@@ -48,87 +42,52 @@ grown bs text byte is low at =
     ∙ sym (take_more text (length bs) 0 low)
     ∙ ap (λ n. take n text) (sym (length-append bs (byte ∷ [])))
 
-pub sends_on : ByBox → ByCell → ByNone → (e e' : Entry Letter) (p : Parcel Letter) (text : List ℕ) →
-    Went e e' 1 p → p.seq ≡ sent_to 1 e.put_box e.put → sent_to 1 e.put_box e.put < length text →
-    byte_of p ≡ get_or text (sent_to 1 e.put_box e.put) 0 → Sends e 1 text → Sends e' 1 text
-sends_on box cell none e e' p text (boxed b c) number low at s = record {
+pub sends_on : BySend → ByNone → {E : Type 0} (fits : Bool) (old new : Port Letter) (p : Parcel Letter)
+    (text : List ℕ) (back : E) (result : Result (Sent Letter) E) →
+    IfOk result (λ s. SendsBy s.path fits 1 p old new) → IfErr result (λ y. (y ≡ back) × HasNoWay fits 1 old new) →
+    p.seq ≡ sent_by old 1 → sent_by old 1 < length text → byte_of p ≡ get_or text (sent_by old 1) 0 →
+    Sends (knows old) 1 text → Sends (knows new) 1 text
+sends_on some none fits old new p text back (Ok it) sends no_way number low at s = record {
   bytes = s.bytes ++ byte_of p ∷ [];
-  sent = box byte_of e e' 1 1 p s.bytes b c number s.sent;
+  sent = some byte_of it.path fits 1 p old new 1 s.bytes sends number s.sent;
   front = grown s.bytes text (byte_of p) s.front (subst (λ n. n < length text) (sym s.sent.many) low)
       (at ∙ ap (λ n. get_or text n 0) (sym s.sent.many));
 }
-sends_on box cell none e e' p text (celled b c) number low at s = record {
-  bytes = s.bytes ++ byte_of p ∷ [];
-  sent = cell byte_of e e' 1 1 p s.bytes b c number s.sent;
-  front = grown s.bytes text (byte_of p) s.front (subst (λ n. n < length text) (sym s.sent.many) low)
-      (at ∙ ap (λ n. get_or text n 0) (sym s.sent.many));
-}
-sends_on box cell none e e' p text (stayed b c) number low at s = record {
+sends_on some none fits old new p text back (Err y) sends no_way number low at s = record {
   bytes = s.bytes;
-  sent = none byte_of e e' 1 s.bytes b c s.sent;
+  sent = none byte_of fits 1 old new 1 s.bytes no_way.1 s.sent;
   front = s.front;
 }
 
+-- what the laws of a poll say
 abbrev pub ByPoll : Type 0
-ByPoll = (seen : Seen) (e e' : Entry Letter) (taken taken' : ℕ → ℕ) (boxes cells : List (Load Letter)) (i : ℕ)
-    (p : Parcel Letter) (bs : List ℕ) → e'.got_box ≡ e.got_box ++ boxes →
-    e'.got ≡ e.got ++ cells → p.seq ≡ taken p.from →
-    taken' ≡ update taken p.from (taken p.from + 1) →
-    IsOneOf (Some p) (from p.from e'.got_box) ⊎ IsOneOf (Some p) (from p.from e'.got) →
-    HasPassed seen e (taken i) i bs → HasPassed seen e' (taken' i) i (one_more p.from i (seen p) bs)
+ByPoll = (seen : Seen) (f : Fabric Letter) (old new : Port Letter) (p : Parcel Letter) (i : ℕ) (bs : List ℕ) →
+    Polls f old new p → HasPassed seen (knows old) (taken_by old i) i bs →
+    HasPassed seen (knows new) (taken_by new i) i (one_more p.from i (seen p) bs)
 
 abbrev pub ByNothing : Type 0
-ByNothing = (seen : Seen) (e e' : Entry Letter) (t i : ℕ) (boxes cells : List (Load Letter)) (bs : List ℕ) →
-    e'.got_box ≡ e.got_box ++ boxes → e'.got ≡ e.got ++ cells →
-    HasPassed seen e t i bs → HasPassed seen e' t i bs
-
--- what came by each way
-record CameBy (old new : Port Letter) : Type 0 where
-  boxes : List (Load Letter)
-  cells : List (Load Letter)
-  came : Came old new boxes cells
-
-came_by : (old new : Port Letter) (p : Parcel Letter) → Way old new p → CameBy old new
-came_by old new p (was_held a b c) = record { boxes = []; cells = []; came = c }
-came_by old new p (by_box a c) = record { boxes = Some p ∷ []; cells = []; came = c }
-came_by old new p (by_cell a b c) = record { boxes = []; cells = Some p ∷ []; came = c }
-came_by old new p (before x a b d c) = record { boxes = Some p ∷ []; cells = Some x ∷ []; came = c }
-
-passed_on : ByPoll → (f : Fabric Letter) (old new : Port Letter) (p : Parcel Letter) (bs : List ℕ) →
-    IsNext f old new p → IsGot new p → Way old new p → Takes old 0 bs →
-    Takes new 0 (one_more p.from 0 (byte_of p) bs)
-passed_on law f old new p bs next got way is = let c = came_by old new p way in
-    law byte_of (knows old) (knows new) (taken_by old) (taken_by new) c.boxes c.cells 0 p bs c.came.0 c.came.1
-    next.number next.taken got is
+ByNothing = (seen : Seen) (old new : Port Letter) (i : ℕ) (bs : List ℕ) → PollsNone old new →
+    HasPassed seen (knows old) (taken_by old i) i bs → HasPassed seen (knows new) (taken_by new i) i bs
 
 -- the parcel of the rank 0 that a poll gave comes behind the others
 pub takes_more : ByPoll → (f : Fabric Letter) (old new : Port Letter) (p : Parcel Letter) (bs : List ℕ) →
-    IsNext f old new p → IsGot new p → Way old new p → p.from ≡ 0 → Takes old 0 bs →
-    Takes new 0 (bs ++ byte_of p ∷ [])
-takes_more law f old new p bs next got way own t =
-    subst (λ k. Takes new 0 (one_more k 0 (byte_of p) bs)) own (passed_on law f old new p bs next got way t)
+    Polls f old new p → p.from ≡ 0 → Takes old 0 bs → Takes new 0 (bs ++ byte_of p ∷ [])
+takes_more law f old new p bs polls own t =
+    subst (λ k. Takes new 0 (one_more k 0 (byte_of p) bs)) own (law byte_of f old new p 0 bs polls t)
 
 -- one of another rank does not
 pub takes_other : ByPoll → (f : Fabric Letter) (old new : Port Letter) (p : Parcel Letter) (bs : List ℕ) →
-    IsNext f old new p → IsGot new p → Way old new p → p.from ≢ 0 → Takes old 0 bs → Takes new 0 bs
-takes_other law f old new p bs next got way other t =
+    Polls f old new p → p.from ≢ 0 → Takes old 0 bs → Takes new 0 bs
+takes_other law f old new p bs polls other t =
     subst (λ b. Takes new 0 (cond b (bs ++ byte_of p ∷ []) bs)) (not_first p.from other)
-    (passed_on law f old new p bs next got way t) where
+    (law byte_of f old new p 0 bs polls t) where
       not_first : (k : ℕ) → k ≢ 0 → (k == 0) ≡ false
       not_first k ne = grind (arith, nat_tests)
 
 -- and a poll that gave none leaves all as it was
-pub takes_none : ByNothing → (old new : Port Letter) (bs : List ℕ) →
-    HadMiss true (with_all_missed (knows old)) (knows new) → taken_by new ≡ taken_by old →
-    Takes old 0 bs → Takes new 0 bs
-takes_none law old new bs miss same t =
-    let box : (knows new).got_box ≡ (knows old).got_box =
-    ⊎_elim (λ h. ap (λ (x : Entry Letter). x.got_box) h) (λ h. ap (λ (x : Entry Letter). x.got_box) h.1) miss in
-    let cell : (knows new).got ≡ (knows old).got =
-    ⊎_elim (λ h. ap (λ (x : Entry Letter). x.got) h) (λ h. ap (λ (x : Entry Letter). x.got) h.1) miss in
-    subst (λ (h : ℕ → ℕ). HasPassed byte_of (knows new) (h 0) 0 bs) (sym same)
-    (law byte_of (knows old) (knows new) (taken_by old 0) 0 [] [] bs
-    (box ∙ sym (append-nil (knows old).got_box)) (cell ∙ sym (append-nil (knows old).got)) t)
+pub takes_none : ByNothing → (old new : Port Letter) (bs : List ℕ) → PollsNone old new → Takes old 0 bs →
+    Takes new 0 bs
+takes_none law old new bs none t = law byte_of old new 0 bs none t
 
 -- what was taken is a front of what was sent
 pub crossed : (c : Closed Letter) (a b : Port Letter) (text bytes : List ℕ) → entries c ≡ map knows (a ∷ b ∷ []) →

@@ -4,4 +4,3 @@ mod QueueFronts
 mod StandingLemmas
 mod StepLemmas
 mod StoryLemmas
-mod Ways

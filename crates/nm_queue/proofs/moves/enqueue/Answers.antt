@@ -24,15 +24,15 @@ swap_tail-pending-requires-clause-may g c = let e = c.clear_link.ensures in
 pub returns-then-is_first-clause-enqueued : goal.returns-then-is_first-clause-enqueued
 returns-then-is_first-clause-enqueued g c = let k = c.args.cell.number in let a = c.clear_link.ensures in
     let b = c.swap_tail-pending.ensures in let d = c.store_head.ensures in let swapped = c.swap_tail-pending.new.port in
-    enqueued_by c.args.f.now c.args.q k (Entering (queue_of c.args.f.now.ranks c.args.q) c.swap_tail-pending.result.found)
-    c.args.port.now c.clear_link.new.port swapped c.store_head.new.port a.stays a.ready a.holding a.hands
-    b.stays b.put b.given b.hands d.stays (d.finished ∙ (λ i. with_hand (b.pending.0 i) Away (knows swapped)))
+    let to = Entering (queue_of c.args.f.now.ranks c.args.q) c.swap_tail-pending.result.found in
+    enqueued_by c.args.f.now c.args.q k to c.args.port.now c.clear_link.new.port swapped c.store_head.new.port
+    a.stays a.ready a.holding a.hands b.stays b.put b.given b.hands d.stays (d.finished ∙ (λ i. with_hand (b.pending.0 i) Away (knows swapped)))
     d.holding d.hands
 
 pub returns-else-is_first-clause-enqueued : goal.returns-else-is_first-clause-enqueued
 returns-else-is_first-clause-enqueued g c = let k = c.args.cell.number in let a = c.clear_link.ensures in
     let b = c.swap_tail-pending.ensures in let d = c.store_link.ensures in let swapped = c.swap_tail-pending.new.port in
-    enqueued_by c.args.f.now c.args.q k (Entering (queue_of c.args.f.now.ranks c.args.q) c.swap_tail-pending.result.found)
-    c.args.port.now c.clear_link.new.port swapped c.store_link.new.port a.stays a.ready a.holding a.hands
-    b.stays b.put b.given b.hands d.stays (d.finished ∙ (λ i. with_hand (b.pending.0 i) Away (knows swapped)))
+    let to = Entering (queue_of c.args.f.now.ranks c.args.q) c.swap_tail-pending.result.found in
+    enqueued_by c.args.f.now c.args.q k to c.args.port.now c.clear_link.new.port swapped c.store_link.new.port
+    a.stays a.ready a.holding a.hands b.stays b.put b.given b.hands d.stays (d.finished ∙ (λ i. with_hand (b.pending.0 i) Away (knows swapped)))
     d.holding d.hands

@@ -112,7 +112,8 @@ returns-clause-some g c seen Box fits to p old new j bs sends number is =
 returns-clause-some g c seen Cell fits to p old new j bs sends number is =
     celled seen (knows old) (knows new) j to p bs
     (ap (λ (e : Entry _). e.put_box) sends.put ∙ tried_box fits to (knows old))
-    (ap (λ (e : Entry _). e.put) sends.put ∙ ap (λ l. l ++ (to, Some p) ∷ []) (tried_cell fits to (knows old))) number is
+    (ap (λ (e : Entry _). e.put) sends.put
+    ∙ ap (λ l. l ++ (to, Some p) ∷ []) (tried_cell fits to (knows old))) number is
 
 pub returns-clause-none : goal.returns-clause-none
 returns-clause-none g c seen fits to old new j bs none is =

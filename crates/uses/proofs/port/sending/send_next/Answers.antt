@@ -6,7 +6,6 @@ use Rattle.nm_cells.specs.Ports.{knows}
 use Rattle.uses.specs.declared.port.letters.Letter.{Letter}
 use Rattle.uses.specs.Crossings.{byte_of}
 use Rattle.uses.proofs.Fronts.{sends_on}
-use Rattle.uses.proofs.Ways.{went}
 use Rattle.uses.proofs.port.sending.send_next.Goals as goal
 
 pub returns-clause-sends : goal.returns-clause-sends
@@ -15,11 +14,10 @@ returns-clause-sends g c =
     let e = c.send.ensures in
     let text = c.args.text.now in
     let x = c.in_ok-next.next.value in
-    let new = knows c.send.new.port in
     let number = c.sent-number.ensures in let made = c.in_ok-next.ensures.ok in
     let low : sent_to 1 (knows p).put_box (knows p).put < length text = omega arith in
-    sends_on c.a_send_carries.ensures.by_box c.a_send_carries.ensures.by_cell c.a_send_carries.ensures.none
-    (knows p) new x text (went _ _ true (knows p) new 1 x c.send.result e.by_box e.by_cell e.back)
+    sends_on c.a_send_carries.ensures.some c.a_send_carries.ensures.none true p c.send.new.port x text _ c.send.result
+    e.sends e.back
     (ap (λ (z : Parcel Letter). z.seq) made ∙ c.parcel.ensures.1 ∙ number) low
     (ap byte_of made ∙ c.parcel.ensures.2 ∙ ap (λ n. get_or text n 0) number)
     c.requires.sends

@@ -1,22 +1,29 @@
 -- A miss changes none of the lists.
-use Rattle.std.proofs.Common.{◌≡◌}
-use Rattle.std.specs.Prelude.{Err, Result}
+use Rattle.std.proofs.Common.{◌≡◌, subst}
+use Rattle.std.specs.Prelude.{Err, IfErr, Result}
 use Rattle.nm_chain.specs.Plays.{heads_of}
+use Rattle.nm_cells.specs.declared.cell.Cell.{Cell}
+use Rattle.nm_cells.specs.declared.cell.Queue.{Queue}
+use Rattle.nm_cells.specs.declared.port.Port.{Port}
 use Rattle.nm_cells.specs.Ports.{is_receive, knows}
+use Rattle.nm_queue.specs.Moves.{Misses}
 use Rattle.nm_queue.specs.declared.moves.Miss.{Miss}
 use Rattle.nm_queue.specs.declared.moves.Miss.TheVariants.{HeadEmpty, LinkMissing}
+use Rattle.uses.specs.QueueCrossings.{SameLists}
+use Rattle.uses.specs.declared.queue.letters.Letter.{Letter}
 use Rattle.uses.proofs.QueueFronts.{lists_missed, lists_late}
 use Rattle.uses.proofs.queue.first.take_first.Goals as goal
 
--- a queue that gave no cell had one of two misses
-by_error : {C A : Type 0} (r : Result C Miss) (m : Miss) → r ≡ Err m
-    → (r ≡ Err HeadEmpty → A) → (r ≡ Err LinkMissing → A) → A
-by_error r HeadEmpty is head link = head is
-by_error r LinkMissing is head link = link is
+lists_same : (q : Queue) (old new : Port Letter) (r : Result Cell Miss) (m : Miss) → r ≡ Err m
+    → IfErr r (λ why. Misses q why old new) → SameLists (knows old) (knows new) × (new.hands ≡ old.hands)
+lists_same q old new r m is miss = by m (subst (λ x. IfErr x (λ why. Misses q why old new)) is miss) where
+  by : (m : Miss) → Misses q m old new → SameLists (knows old) (knows new) × (new.hands ≡ old.hands)
+  by HeadEmpty h = (lists_missed (is_receive q) (knows old) (knows new) h.knows, h.leaves.hands)
+  by LinkMissing h = (
+    lists_late (is_receive q) (heads_of (is_receive q) (knows new)) (knows old) (knows new) h.knows,
+    h.leaves.hands,
+  )
 
 pub returns-in-Err-clause-none : goal.returns-in-Err-clause-none
-returns-in-Err-clause-none g c = let d = c.dequeue.ensures in let b = is_receive c.args.q in
-    let e = knows c.args.port.now in let e' = knows c.dequeue.new.port in
-    by_error _ _ c.in-Err.is
-    (λ r. let h = d.head_empty r in (lists_missed b e e' h.0, h.2))
-    (λ r. let h = d.link_missing r in (lists_late b (heads_of b e') e e' h.0, h.2.hands))
+returns-in-Err-clause-none g c =
+    lists_same c.args.q c.args.port.now c.dequeue.new.port _ _ c.in-Err.is c.dequeue.ensures.missed

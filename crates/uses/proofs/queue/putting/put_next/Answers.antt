@@ -44,7 +44,7 @@ returns-clause-puts g c = let p = c.args.port.now in let k = c.in-Some.cell.numb
     let before = c.put_in.ensures.stays.1 ∙ took.knows in
     let here = ap (λ h. h k) c.put_in.ensures.filled
     ∙ update_here (holding c.take_first.new.port) k (Some x) k refl in
-    let put = c.enqueue.ensures.put in let puts = c.requires.puts in
+    let put = c.enqueue.ensures.enqueued.put in let puts = c.requires.puts in
     let number = c.sent-number.ensures in let none = ap length puts.no_box in
     let many : length (put_to 1 e.put) ≡ c.sent-number.result = omega arith in
     let low : length (put_to 1 e.put) < length text = omega arith in

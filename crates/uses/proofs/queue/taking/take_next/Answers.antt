@@ -44,7 +44,7 @@ returns-then-deref-ne0-clause-gets g c = let f = c.args.f.now in let p = c.args.
     subst (λ n. (knows p).rank < n) (sym own.2) (subst (λ r. r < f.ranks) (sym p.named) own.1) in
     gets_other (knows p) (knows s) x c.args.came.now.items
     (got_next (knows p) (knows s) (holding q k) x
-    (ap (λ (e : Entry Letter). e.got) c.enqueue.ensures.put ∙ ap (λ (e : Entry Letter). e.got) o.stays.1
+    (ap (λ (e : Entry Letter). e.got) c.enqueue.ensures.enqueued.put ∙ ap (λ (e : Entry Letter). e.got) o.stays.1
     ∙ ap (λ (e : Entry Letter). e.got) t.knows) low o.parcel)
     (λ zero. c.if-deref-ne0.true (ap (λ (z : Parcel Letter). z.from) c.deref.ensures ∙ zero)) c.requires.gets
 
@@ -57,7 +57,7 @@ returns-clause-gets g c = let f = c.args.f.now in let p = c.args.port.now in
     subst (λ n. (knows p).rank < n) (sym own.2) (subst (λ r. r < f.ranks) (sym p.named) own.1) in
     let more = gets_more (knows p) (knows s) x c.args.came.now.items
     (got_next (knows p) (knows s) (holding q k) x
-    (ap (λ (e : Entry Letter). e.got) c.enqueue.ensures.put ∙ ap (λ (e : Entry Letter). e.got) o.stays.1
+    (ap (λ (e : Entry Letter). e.got) c.enqueue.ensures.enqueued.put ∙ ap (λ (e : Entry Letter). e.got) o.stays.1
     ∙ ap (λ (e : Entry Letter). e.got) t.knows) low o.parcel)
     (ap (λ (z : Parcel Letter). z.from) (sym c.deref.ensures) ∙ c.if-deref-ne0.false) c.requires.gets in
     c.in_ok-push.ensures.items
